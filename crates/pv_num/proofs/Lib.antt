@@ -1,0 +1,4 @@
+pub mod Bits
+pub mod Congruence
+pub mod Members
+pub mod Products

@@ -1,0 +1,88 @@
+-- Integer kinds: their widths, their members, and conversion to them.
+use Rattle.std.specs.Prelude.{◌≡◌, ◌↔◌, ℕ, zero, ◌-◌, ◌/◌, ◌^◌, Bool, true, false, ◌&&◌, if◌then◌else◌, nat_le, ℤ, pos, neg_ℤ, ◌-ℤ◌, ◌+ℤ◌, ◌*ℤ◌, ◌≤ℤ◌, unsigned_abs, int_le}
+use Rattle.std.specs.Int.{int_rem_euclid}
+use Rattle.pv_num.specs.declared.kinds.IntKind.{IntKind}
+use Rattle.pv_num.specs.declared.kinds.IntKind.TheVariants.{Bool as BoolKind, Char, SChar, UChar, Short, UShort, Int, UInt, Long, ULong, LLong, ULLong}
+
+-- 5.2.4.2.1 and 6.2.6.2p6: the number of bits, the sign's included; this target's choice
+abbrev pub width : IntKind → ℕ
+width BoolKind = 8
+width Char = 8
+width SChar = 8
+width UChar = 8
+width Short = 16
+width UShort = 16
+width Int = 32
+width UInt = 32
+width Long = 64
+width ULong = 64
+width LLong = 64
+width ULLong = 64
+
+-- 6.2.5p4 and p6: the signed and the unsigned kinds; 6.2.5p15: `char` is signed on this target
+abbrev pub is_signed : IntKind → Bool
+is_signed BoolKind = false
+is_signed Char = true
+is_signed SChar = true
+is_signed UChar = false
+is_signed Short = true
+is_signed UShort = false
+is_signed Int = true
+is_signed UInt = false
+is_signed Long = true
+is_signed ULong = false
+is_signed LLong = true
+is_signed ULLong = false
+
+-- 2 to the width
+abbrev pub modulus_of : IntKind → ℕ
+modulus_of k = 2 ^ width k
+
+-- 6.2.6.2p2: two's complement; the least member of a kind
+abbrev pub least : IntKind → ℤ
+least k = if is_signed k then neg_ℤ (pos (modulus_of k / 2)) else pos 0
+
+-- its greatest member; 6.2.5p2: the members of `_Bool` are 0 and 1
+abbrev pub greatest : IntKind → ℤ
+greatest BoolKind = pos 1
+greatest k = if is_signed k then pos (modulus_of k / 2 - 1) else pos (modulus_of k - 1)
+
+-- 6.2.5: n is a member of the kind
+abbrev pub Fits : IntKind → ℤ → Type 0
+Fits k n = (least k ≤ℤ n) × (n ≤ℤ greatest k)
+
+-- the same as a test
+abbrev pub fits_of : IntKind → ℤ → Bool
+fits_of k n = int_le (least k) n && int_le n (greatest k)
+
+-- 6.2.6.2p2: n modulo 2 ^ width, which is the two's complement bits of n as a number
+abbrev pub bits_of : IntKind → ℤ → ℕ
+bits_of k n = unsigned_abs (int_rem_euclid n (pos (modulus_of k)))
+
+-- 6.2.6.2p2: the member of the kind with these bits; at a signed kind the upper half is negative
+abbrev pub from_bits_of : IntKind → ℕ → ℤ
+from_bits_of k r = if is_signed k && nat_le (modulus_of k / 2) r then pos r -ℤ pos (modulus_of k) else pos r
+
+-- 6.3.1.2: 0 of 0, and 1 of every other number
+abbrev pub truth_of : ℤ → ℤ
+truth_of (pos zero) = pos 0
+truth_of _ = pos 1
+
+-- 6.3.1.2 and 6.3.1.3: conversion, computed; 6.3.1.3p3: at a signed kind it wraps on this target
+abbrev pub convert_of : IntKind → ℤ → ℤ
+convert_of BoolKind n = truth_of n
+convert_of k n = from_bits_of k (bits_of k n)
+
+-- m and n differ by a multiple of d
+abbrev pub IsCongruent : ℕ → ℤ → ℤ → Type 0
+IsCongruent d m n = (q : ℤ) × (m ≡ n +ℤ q *ℤ pos d)
+
+-- 6.3.1.2 and 6.3.1.3: what a member of the kind has to be in order to be n converted: at `_Bool` zero exactly
+-- for zero, else congruent to n modulo 2 ^ width
+abbrev pub IsConversion : IntKind → ℤ → ℤ → Type 0
+IsConversion BoolKind n m = (m ≡ pos 0) ↔ (n ≡ pos 0)
+IsConversion k n m = IsCongruent (modulus_of k) n m
+
+-- the numbers that may be converted, which every operand and every difference of two addresses is among
+abbrev pub IsConvertible : ℤ → Type 0
+IsConvertible n = (neg_ℤ (pos (2 ^ 64)) ≤ℤ n) × (n ≤ℤ pos (2 ^ 64))

@@ -1,0 +1,149 @@
+// Integer kinds: what fits them, and conversion to them.
+ghost use Rattle.std.specs.Prelude.{◌≡◌, ◌↔◌, ◌<◌, pos, IsTrue};
+ghost use Rattle.pv_num.specs.Kinds.{Fits, fits_of, convert_of, modulus_of, is_signed, width, bits_of, from_bits_of, IsConversion, IsConvertible};
+
+/// An integer type of the target (6.2.5), without its qualifiers.
+///
+/// A byte has 8 bits, `short` 16, `int` 32, `long` and `long long` 64. `char` is signed, and signed kinds are
+/// two's complement.
+#[derive(Clone, Copy, Debug, PartialEq, Eq)]
+pub enum IntKind {
+    /// `_Bool`: its members are 0 and 1.
+    Bool,
+    /// `char`, which is signed here and a kind of its own (6.2.5p15).
+    Char,
+    /// `signed char`.
+    SChar,
+    /// `unsigned char`.
+    UChar,
+    /// `short`.
+    Short,
+    /// `unsigned short`.
+    UShort,
+    /// `int`, and every enumerated type.
+    Int,
+    /// `unsigned int`.
+    UInt,
+    /// `long`.
+    Long,
+    /// `unsigned long`.
+    ULong,
+    /// `long long`.
+    LLong,
+    /// `unsigned long long`.
+    ULLong,
+}
+
+/// The number of bits of the kind.
+pub(crate) fn bit_count(kind: IntKind) -> i128
+    ensures { result ≡ pos (width kind) }
+{
+    match kind {
+        IntKind::Bool | IntKind::Char | IntKind::SChar | IntKind::UChar => 8,
+        IntKind::Short | IntKind::UShort => 16,
+        IntKind::Int | IntKind::UInt => 32,
+        IntKind::Long | IntKind::ULong | IntKind::LLong | IntKind::ULLong => 64,
+    }
+}
+
+/// Two to the number of bits of the kind.
+pub(crate) fn modulus(kind: IntKind) -> i128
+    ensures { result ≡ pos (modulus_of kind) }
+{
+    match kind {
+        IntKind::Bool | IntKind::Char | IntKind::SChar | IntKind::UChar => 0x100,
+        IntKind::Short | IntKind::UShort => 0x1_0000,
+        IntKind::Int | IntKind::UInt => 0x1_0000_0000,
+        IntKind::Long | IntKind::ULong | IntKind::LLong | IntKind::ULLong =>
+            0x1_0000_0000_0000_0000,
+    }
+}
+
+/// Whether the kind has negative members.
+pub(crate) fn is_signed(kind: IntKind) -> bool
+    ensures { result ≡ is_signed kind }
+{
+    match kind {
+        IntKind::Char
+        | IntKind::SChar
+        | IntKind::Short
+        | IntKind::Int
+        | IntKind::Long
+        | IntKind::LLong => true,
+        IntKind::Bool
+        | IntKind::UChar
+        | IntKind::UShort
+        | IntKind::UInt
+        | IntKind::ULong
+        | IntKind::ULLong => false,
+    }
+}
+
+/// The two's complement bits of `n`, as a number.
+pub(crate) fn bits(kind: IntKind, n: i128) -> u64
+    ensures value { result ≡ bits_of kind n }
+    ensures bound { result < modulus_of kind }
+{
+    n.rem_euclid(modulus(kind)) as u64
+}
+
+/// The member of the kind with these bits.
+pub(crate) fn from_bits(kind: IntKind, bits: u64) -> i128
+    requires { bits < modulus_of kind }
+    ensures { result ≡ from_bits_of kind bits }
+{
+    let modulus = modulus(kind);
+    let rest = bits as i128;
+    if is_signed(kind) && modulus / 2 <= rest {
+        rest - modulus
+    } else {
+        rest
+    }
+}
+
+/// Whether `n` is a member of the kind (6.2.5).
+///
+/// The members of `_Bool` are 0 and 1; a signed kind of w bits has those from -2^(w-1) to 2^(w-1) - 1, and an
+/// unsigned one those from 0 to 2^w - 1.
+pub fn fits(kind: IntKind, n: i128) -> bool
+    ensures members { IsTrue result ↔ Fits kind n }
+    ensures value { result ≡ fits_of kind n }
+{
+    match kind {
+        IntKind::Bool => 0 <= n && n <= 1,
+        IntKind::Char | IntKind::SChar => -0x80 <= n && n <= 0x7f,
+        IntKind::UChar => 0 <= n && n <= 0xff,
+        IntKind::Short => -0x8000 <= n && n <= 0x7fff,
+        IntKind::UShort => 0 <= n && n <= 0xffff,
+        IntKind::Int => -0x8000_0000 <= n && n <= 0x7fff_ffff,
+        IntKind::UInt => 0 <= n && n <= 0xffff_ffff,
+        IntKind::Long | IntKind::LLong => {
+            -0x8000_0000_0000_0000 <= n && n <= 0x7fff_ffff_ffff_ffff
+        }
+        IntKind::ULong | IntKind::ULLong => 0 <= n && n <= 0xffff_ffff_ffff_ffff,
+    }
+}
+
+/// The member of the kind to which `n` is converted (6.3.1.2, 6.3.1.3).
+///
+/// At `_Bool` 0 of 0 and else 1; at every other kind the member that differs from `n` by a multiple of 2^w, w
+/// the kind's width in bits. Conversion to a signed kind out of range wraps: the target's choice (6.3.1.3p3).
+#[tactic(auto, using(crate::proofs::Congruence::convert_fits))]
+pub fn convert(kind: IntKind, n: i128) -> i128
+    requires convertible { IsConvertible n }
+    ensures value { result ≡ convert_of kind n }
+    ensures member { Fits kind result }
+    ensures congruent { IsConversion kind n result }
+{
+    converted(kind, n)
+}
+
+/// `n` converted, by the computation alone: a truth value at `_Bool`, else the kind's low bits of `n`.
+fn converted(kind: IntKind, n: i128) -> i128
+    ensures { result ≡ convert_of kind n }
+{
+    if kind == IntKind::Bool {
+        return if n == 0 { 0 } else { 1 };
+    }
+    from_bits(kind, bits(kind, n))
+}
