@@ -1,0 +1,15 @@
+pub mod Runs
+pub mod Rows
+pub mod Values
+pub mod Joining
+pub mod Closing
+pub mod Growing
+pub mod Cutting
+pub mod Moving
+pub mod Telling
+pub mod Fitting
+pub mod Taking
+pub mod TakingTokens
+pub mod TakingLines
+pub mod Wholes
+pub mod Exactly

@@ -1,0 +1,15 @@
+pub mod Bytes
+pub mod Tables
+pub mod Pieces
+pub mod Words
+pub mod Constants
+pub mod Characters
+pub mod Comments
+pub mod Markers
+pub mod Marks
+pub mod Stands
+pub mod Rows
+pub mod Spellings
+pub mod Views
+pub mod Lexes
+pub mod Faults

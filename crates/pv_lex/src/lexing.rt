@@ -1,0 +1,110 @@
+//! From the bytes of a source to its tokens.
+ghost use Rattle.std.specs.Prelude.{◌≡◌, ◌++◌, Bool, ◌≤◌, ◌<◌, ◌^◌, length, IfOk, IfErr, List, ℕ, ◌⊎◌, true, false, Some, slice_get, slice_index, nat_eq};
+ghost use Rattle.pv_lex.specs.Rows.{Place, Row, start, bytes_of_row, line_behind, fresh_behind};
+ghost use Rattle.pv_lex.specs.Lexes.{Lexes, Table, KnowsAll};
+ghost use Rattle.pv_lex.specs.Faults.{LexFault, LiesWithin, FaultAt, error_of};
+ghost use Rattle.pv_lex.specs.Views.{what_of};
+ghost use Rattle.pv_lex.specs.declared.pieces.Fault.{Fault as FaultKind};
+ghost use Rattle.pv_lex.specs.declared.pieces.Fault.TheVariants as fault;
+ghost use Rattle.pv_lex.specs.Pieces.{Piece, Here, Bad};
+ghost use Rattle.pv_lex.specs.Stands.{stands};
+ghost use Rattle.pv_lex.specs.Spellings.{IsSpelling, IsLongest};
+
+use crate::bytes::{Class, is_in};
+use crate::error::LexError;
+use crate::pieces::{Fault, Found, Standing};
+use crate::standing::stand;
+use crate::token_table::Tokens;
+use std::alloc::Global;
+
+/// The error that reports a fault at this place.
+fn error_at(fault: Fault, at: u32) -> LexError
+    ensures { result ≡ error_of fault at }
+{
+    match fault {
+        Fault::BadByte => LexError::BadByte { at },
+        Fault::BadToken => LexError::BadToken { at },
+        Fault::Profile(word) => LexError::Profile { at, word },
+    }
+}
+
+/// The number of the line behind a piece (C17 6.10.4p2 and p3).
+fn line_behind(found: &Found<'_>, line: u32) -> u32
+    requires { line_behind (what_of found.now) line < 2 ^ 32 }
+    ensures { result ≡ line_behind (what_of found.now) line }
+{
+    match found {
+        Found::White(b) => if *b == b'\n' { line + 1 } else { line },
+        Found::Comment(lines) => line + *lines,
+        Found::Marker(number) => *number,
+        Found::Spelling(_) => line,
+    }
+}
+
+/// Do only spaces and tabs stand before the place behind a piece, on its line?
+fn fresh_behind(found: &Found<'_>, fresh: bool) -> bool
+    ensures { result ≡ fresh_behind (what_of found.now) fresh }
+{
+    match found {
+        Found::White(b) => *b == b'\n' || (fresh && is_in(Class::Blank, *b)),
+        Found::Comment(_) => false,
+        Found::Marker(_) => true,
+        Found::Spelling(_) => false,
+    }
+}
+
+/// The tokens of a source, or its first fault. A source is cut from its first byte on into pieces,
+/// each the longest that begins where the one before it ends (C17 6.4p4).
+///
+/// A source has exactly one of the two (`exactly_one`), and one table of tokens at most, so that
+/// the answer is the source's, unless memory runs out.
+pub fn tokens(alloc: Global, bytes: &[u8]) -> Result<Tokens, LexError>
+    requires { length bytes.now ≤ 2 ^ 20 }
+    ensures whole { IfOk result (λ t. Lexes bytes.now t) }
+    ensures fault { IfErr result (λ e. LexFault bytes.now e) }
+
+    // A caller may cut the word of a fault out of the source without a test.
+    ensures within { IfErr result (λ e. LiesWithin bytes.now e) }
+
+    // A token's number may be given to `name` or `text`, and there are no more tokens than bytes.
+    ensures known { IfOk result KnowsAll }
+    ensures count { IfOk result (λ t. length t.tokens ≤ length bytes.now) }
+{
+    let mut out = Tokens::new(alloc);
+    let mut rest = bytes;
+    let mut line = 1u32;
+    let mut fresh = true;
+    'pieces: loop {
+        let at = (bytes.len() - rest.len()) as u32;
+        match stand(alloc, fresh, rest)? {
+            Standing::End => return Ok(out),
+            Standing::Bad(fault) => return Err(error_at(fault, at)),
+            Standing::Here(found, after) => {
+                let next_line = line_behind(&found, line);
+                let next_fresh = fresh_behind(&found, fresh);
+                out.add(alloc, found, at, line)?;
+                line = next_line;
+                fresh = next_fresh;
+                rest = after;
+            }
+        }
+    }
+}
+
+/// A law, and no work: each source has tokens or a fault and never both, one table of tokens at
+/// most, and one fault at most.
+pub fn exactly_one()
+    ensures either_one { (source : List ℕ) → ((t : Table) × Lexes source t) ⊎ ((f : FaultKind) × (at : ℕ) × FaultAt source f at) }
+    ensures not_both { (source : List ℕ) (t : Table) (f : FaultKind) (at : ℕ) → Lexes source t → FaultAt source f at → ⊥ }
+    ensures one_table { (source : List ℕ) (t u : Table) → Lexes source t → Lexes source u → t ≡ u }
+    ensures one_fault { (source : List ℕ) (f g : FaultKind) (at bt : ℕ) → FaultAt source f at → FaultAt source g bt → (f ≡ g) × (at ≡ bt) }
+{}
+
+/// A law, and no work: the pieces of a cut make up the source byte for byte, each is the longest
+/// spelling of any kind that begins at its place (C17 6.4p4), and where a byte is bad no spelling
+/// begins.
+pub fn longest()
+    ensures pieces { (fresh : Bool) (text : List ℕ) (x : Piece) → stands fresh text ≡ Here x → IsLongest fresh text x }
+    ensures whole { (source : List ℕ) (xs : List Piece) (q : Place) → Row (start source) xs q → bytes_of_row source xs ++ q.text ≡ source }
+    ensures bad_byte { (fresh : Bool) (text : List ℕ) → stands fresh text ≡ Bad fault.BadByte → (bytes rest : List ℕ) → text ≡ bytes ++ rest → IsSpelling fresh bytes → ⊥ }
+{}

@@ -1,0 +1,29 @@
+//! The tokens of a preprocessed C source: C17 6.4 but for the preprocessor's own.
+//!
+//! `tokens` cuts a source into white space, comments, line markers and tokens, and gives the
+//! tokens or the first fault.
+#![tactic(auto)]
+
+mod bytes;
+mod comments;
+mod error;
+mod escapes;
+mod lexing;
+mod literals;
+mod marks;
+mod numbers;
+mod pieces;
+mod standing;
+mod suffixes;
+mod tables;
+mod token_table;
+mod words;
+
+pub use error::{LexError, NoMemory};
+pub use lexing::{exactly_one, longest, tokens};
+pub use marks::Mark;
+pub use token_table::{Token, TokenKind, Tokens};
+pub use words::Word;
+
+#[cfg(test)]
+mod tests;

@@ -1,0 +1,116 @@
+//! What stands at a place of the source.
+ghost use Rattle.std.specs.Prelude.{◌≡◌, ◌≤◌, ◌<◌, ◌^◌, ◌&&◌, length, drop, slice_index, nat_eq, IfOk};
+ghost use Rattle.std.specs.Option.{option_map};
+ghost use Rattle.std.specs.Char.{is_ascii_digit};
+ghost use Rattle.pv_lex.specs.Bytes.{begins};
+ghost use Rattle.pv_lex.specs.Pieces.{or_bad, token, Character, Text, Marker, Comment};
+ghost use Rattle.pv_lex.specs.Characters.{as_char};
+ghost use Rattle.pv_lex.specs.Stands.{stands};
+ghost use Rattle.pv_lex.specs.Views.{stand_of, said_of};
+
+use crate::bytes::{Class, behind, is_letter, is_white, run};
+use crate::comments::{block_comment, marker};
+use crate::error::NoMemory;
+use crate::literals::{character_constant, string_literal};
+use crate::numbers::number;
+use crate::pieces::{Fault, Found, Kind, Standing, mark, word};
+use std::alloc::Global;
+
+/// What stands where `text` is left. `fresh`: only spaces and tabs stand before it on its line.
+#[tactic(auto, unfolding(crate::specs::Stands::stands))]
+pub(crate) fn stand(alloc: Global, fresh: bool, text: &[u8]) -> Result<Standing<'_>, NoMemory>
+    requires { length text.now ≤ 2 ^ 20 }
+    ensures { IfOk result (λ s. stand_of s ≡ stands fresh text.now) }
+{
+    if text.is_empty() {
+        return Ok(Standing::End);
+    }
+    let b = text[0];
+    let rest = behind(text, 1);
+    if is_white(b) {
+        return Ok(Standing::Here(Found::White(b), rest));
+    }
+    if is_letter(b) {
+        return Ok(word(text));
+    }
+    if b.is_ascii_digit() {
+        return Ok(constant_or_bad(number(text)));
+    }
+    if b == b'\'' {
+        return Ok(character_or_bad(character_constant(rest)));
+    }
+    if b == b'"' {
+        return Ok(text_or_bad(string_literal(alloc, rest)?));
+    }
+    if b == b'#' {
+        return Ok(marker_or_bad(if fresh { marker(rest) } else { None }));
+    }
+    if text.starts_with(b"//") {
+        return Ok(Standing::Here(Found::Comment(0), behind(rest, run(Class::InLine, rest))));
+    }
+    if text.starts_with(b"/*") {
+        return Ok(comment_or_bad(block_comment(behind(rest, 1))));
+    }
+    if begins_fraction(text) || text.starts_with(b"%:") {
+        return Ok(Standing::Bad(Fault::BadToken));
+    }
+    Ok(mark(text))
+}
+
+/// A dot before a digit, with which a floating constant begins (C17 6.4.4.2p1).
+fn begins_fraction(text: &[u8]) -> bool
+    requires { 0 < length text.now }
+    ensures { result ≡ (nat_eq (slice_index text.now 0) 46 && begins is_ascii_digit (drop 1 text.now)) }
+{
+    text[0] == b'.' && text.len() > 1 && text[1].is_ascii_digit()
+}
+
+/// An integer constant, or the fault that none stands here.
+fn constant_or_bad<'a>(found: Option<(Kind<'static>, &'a [u8])>) -> Standing<'a>
+    ensures { stand_of result ≡ or_bad (option_map (λ r. token (said_of r.0) r.1.now) found.entry) }
+{
+    match found {
+        None => Standing::Bad(Fault::BadToken),
+        Some((kind, after)) => Standing::Here(Found::Spelling(kind), after),
+    }
+}
+
+/// A character constant, or the fault that none stands here.
+fn character_or_bad<'a>(found: Option<(u8, &'a [u8])>) -> Standing<'a>
+    ensures { stand_of result ≡ or_bad (option_map (λ r. token (Character (as_char r.0)) r.1.now) found.entry) }
+{
+    match found {
+        None => Standing::Bad(Fault::BadToken),
+        Some((value, after)) => Standing::Here(Found::Spelling(Kind::Character(value)), after),
+    }
+}
+
+/// A string literal, or the fault that none stands here.
+fn text_or_bad<'a>(found: Option<(Vec<u8>, &'a [u8])>) -> Standing<'a>
+    ensures { stand_of result ≡ or_bad (option_map (λ r. token (Text r.0.items) r.1.now) found.entry) }
+{
+    match found {
+        None => Standing::Bad(Fault::BadToken),
+        Some((bytes, after)) => Standing::Here(Found::Spelling(Kind::Text(bytes)), after),
+    }
+}
+
+/// A line marker, or the fault that none stands here.
+fn marker_or_bad<'a>(found: Option<(u32, &'a [u8])>) -> Standing<'a>
+    ensures { stand_of result ≡ or_bad (option_map (λ r. record { what = Marker r.0; after = r.1.now }) found.entry) }
+{
+    match found {
+        None => Standing::Bad(Fault::BadToken),
+        Some((line, after)) => Standing::Here(Found::Marker(line), after),
+    }
+}
+
+/// A comment, or the fault that it has no end.
+fn comment_or_bad<'a>(found: Option<(u32, &'a [u8])>) -> Standing<'a>
+    ensures { stand_of result ≡ or_bad (option_map (λ r. record { what = Comment r.0; after = r.1.now }) found.entry) }
+{
+    match found {
+        None => Standing::Bad(Fault::BadToken),
+        Some((lines, after)) => Standing::Here(Found::Comment(lines), after),
+    }
+}

@@ -1,0 +1,43 @@
+//! Looking up what stands in the tables.
+ghost use Rattle.std.specs.Prelude.{◌≡◌, ◌≤◌, length, map, IfSome};
+ghost use Rattle.std.specs.Option.{option_map};
+ghost use Rattle.pv_lex.specs.Tables.{first_row, row_of};
+
+/// A spelling, and what it stands for.
+#[derive(Clone, Copy)]
+pub(crate) struct Row<T: Copy> {
+    pub text: &'static [u8],
+    pub value: T,
+}
+
+/// The first row whose spelling stands at the front of the text: the spelling's length, and what
+/// it stands for.
+pub(crate) fn first_row<T: Copy>(rows: &[Row<T>], text: &[u8]) -> Option<(usize, T)>
+    ensures row { result ≡ option_map (λ r. (length r.0, r.1)) (first_row (map (λ r. (r.text.now, r.value)) rows.now) text.now) }
+    ensures within { IfSome result (λ r. r.0 ≤ length text.now) }
+{
+    let mut i = 0;
+    while i < rows.len() {
+        let row = &rows[i];
+        if text.starts_with(row.text) {
+            return Some((row.text.len(), row.value));
+        }
+        i += 1;
+    }
+    None
+}
+
+/// What the row whose spelling is the whole text stands for.
+pub(crate) fn row_of<T: Copy>(rows: &[Row<T>], text: &[u8]) -> Option<T>
+    ensures { result ≡ row_of (map (λ r. (r.text.now, r.value)) rows.now) text.now }
+{
+    let mut i = 0;
+    while i < rows.len() {
+        let row = &rows[i];
+        if text == row.text {
+            return Some(row.value);
+        }
+        i += 1;
+    }
+    None
+}

@@ -1,0 +1,228 @@
+//! The tokens of a source, with their names and literals.
+ghost use Rattle.std.specs.Prelude.{◌≡◌, ◌≤◌, ◌<◌, ◌+◌, ◌^◌, List, [], ◌∷◌, ◌++◌, length, map, Some, slice_get, slice_index, IfOk, OnOk};
+ghost use Rattle.pv_lex.specs.Characters.{as_char};
+ghost use Rattle.pv_lex.specs.Rows.{Spelt, spelt_here};
+ghost use Rattle.pv_lex.specs.Lexes.{Table, HasRoom, Adds, with_name};
+ghost use Rattle.pv_lex.specs.Views.{said_of, what_of};
+
+use crate::error::NoMemory;
+use crate::marks::Mark;
+use crate::pieces::{Found, Kind};
+use crate::words::Word;
+use indexmap::IndexSet;
+use std::alloc::Global;
+use std::marker::Model;
+
+/// What a token is (C17 6.4p1).
+#[derive(Clone, Copy, Debug, PartialEq, Eq)]
+pub enum TokenKind {
+    /// A keyword (C17 6.4.1).
+    Word(Word),
+    /// An identifier (C17 6.4.2), by the number of its name: equal identifiers have one number,
+    /// from 0 in the order of their first places.
+    Name(u32),
+    /// An integer constant (C17 6.4.4.1): its value, and what its type depends on. `decimal`:
+    /// its base is 10. `unsigned`: it has a suffix `u` or `U`. `longs`: 1 with a suffix `l` or
+    /// `L`, 2 with `ll` or `LL`, else 0.
+    Number {
+        value: u64,
+        decimal: bool,
+        unsigned: bool,
+        longs: u8,
+    },
+    /// A character constant (C17 6.4.4.4), by its value of type `int`, from -128 to 127.
+    Character(i32),
+    /// A string literal (C17 6.4.5), by its number: each has one of its own, from 0 in order.
+    Text(u32),
+    /// A punctuator (C17 6.4.6). A digraph is its twin.
+    Mark(Mark),
+}
+
+/// A token of the source.
+#[derive(Clone, Copy, Debug, PartialEq, Eq)]
+pub struct Token {
+    pub kind: TokenKind,
+    /// The place of its first byte, in bytes from 0.
+    pub start: u32,
+    /// The number of the line of its first byte, from 1, as line markers set it (C17 6.10.4).
+    pub line: u32,
+}
+
+/// The tokens of a source, with the names and the string literals that they stand for.
+#[derive(Drop)]
+pub struct Tokens {
+    tokens: Vec<Token>,
+    names: IndexSet<Vec<u8>>,
+    texts: Vec<Vec<u8>>,
+}
+
+impl Model for Tokens {
+    ghost Value = { Table };
+
+    ghost invariant = { λ t. (length t.tokens.items < 2 ^ 32) × (length t.names.keys < 2 ^ 32) × (length t.texts.items < 2 ^ 32) };
+
+    ghost view = { λ t. record { tokens = t.tokens.items; names = map (λ v. v.items) t.names.keys; texts = map (λ v. v.items) t.texts.items } };
+}
+
+/// The number of a name: that of an equal one, or the next. A name that is known takes no memory.
+fn intern(alloc: Global, names: &mut IndexSet<Vec<u8>>, text: &[u8]) -> Result<u32, NoMemory>
+    requires { length names.old.keys + 1 < 2 ^ 32 }
+    ensures keys { OnOk result (map (λ v. v.items) names.new.keys ≡ with_name (map (λ v. v.items) names.old.keys) text.now) }
+    ensures number { IfOk result (λ n. slice_get (map (λ v. v.items) names.new.keys) n ≡ Some text.now) }
+    ensures room { length names.new.keys ≤ length names.old.keys + 1 }
+{
+    if let Some(index) = names.get_index_of(text) {
+        return Ok(index as u32);
+    }
+    let name = Vec::from_slice(alloc, text)?;
+    let (index, _) = names.insert_full(name)?;
+    Ok(index as u32)
+}
+
+/// Keeps the bytes of a string literal, under the next number.
+fn keep_text(texts: &mut Vec<Vec<u8>>, bytes: Vec<u8>) -> Result<u32, NoMemory>
+    requires { length texts.old.items + 1 < 2 ^ 32 }
+    ensures items { OnOk result (map (λ v. v.items) texts.new.items ≡ map (λ v. v.items) texts.old.items ++ bytes.items ∷ []) }
+    ensures number { IfOk result (λ n. n ≡ length (map (λ v. v.items) texts.old.items)) }
+    ensures room { length texts.new.items ≤ length texts.old.items + 1 }
+{
+    let index = texts.len();
+    texts.push(bytes)?;
+    Ok(index as u32)
+}
+
+/// A byte taken as a `char`, which is signed here, in the type of a character constant
+/// (C17 6.4.4.4p10).
+fn as_char(b: u8) -> i32
+    ensures { result ≡ as_char b }
+{
+    if b < 128 { b as i32 } else { b as i32 - 256 }
+}
+
+impl Tokens {
+    /// No tokens, which take no memory.
+    pub(crate) fn new(alloc: Global) -> Tokens
+        ensures { result ≡ record { tokens = []; names = []; texts = [] } }
+    {
+        Tokens {
+            tokens: Vec::new(alloc),
+            names: IndexSet::new(alloc),
+            texts: Vec::new(alloc),
+        }
+    }
+
+    /// Takes a piece in: a token is kept, and any other piece is not.
+    pub(crate) fn add(
+        &mut self,
+        alloc: Global,
+        found: Found<'_>,
+        start: u32,
+        line: u32,
+    ) -> Result<(), NoMemory>
+        requires { HasRoom self.old }
+        ensures { OnOk result (Adds self.old self.new (spelt_here start line (what_of found.entry))) }
+    {
+        match found {
+            Found::White(_) => Ok(()),
+            Found::Comment(_) => Ok(()),
+            Found::Marker(_) => Ok(()),
+            Found::Spelling(kind) => self.add_token(alloc, kind, start, line),
+        }
+    }
+
+    /// Keeps a token, and the name or the string literal that it stands for.
+    fn add_token(
+        &mut self,
+        alloc: Global,
+        kind: Kind<'_>,
+        start: u32,
+        line: u32,
+    ) -> Result<(), NoMemory>
+        requires { HasRoom self.old }
+        ensures { OnOk result (Adds self.old self.new (record { said = said_of kind.entry; start = start; line = line } ∷ [])) }
+    {
+        match kind {
+            Kind::Keyword(w) => self.push(TokenKind::Word(w), start, line),
+            Kind::Punctuator(m) => self.push(TokenKind::Mark(m), start, line),
+            Kind::Character(b) => self.push(TokenKind::Character(as_char(b)), start, line),
+            Kind::Number {
+                value,
+                decimal,
+                unsigned,
+                longs,
+            } => self.push(
+                TokenKind::Number {
+                    value,
+                    decimal,
+                    unsigned,
+                    longs,
+                },
+                start,
+                line,
+            ),
+            Kind::Name(text) => {
+                let n = intern(alloc, &mut self.names, text)?;
+                self.push(TokenKind::Name(n), start, line)
+            }
+            Kind::Text(bytes) => {
+                let n = keep_text(&mut self.texts, bytes)?;
+                self.push(TokenKind::Text(n), start, line)
+            }
+        }
+    }
+
+    /// Keeps a token behind the others.
+    fn push(&mut self, kind: TokenKind, start: u32, line: u32) -> Result<(), NoMemory>
+        requires { length self.old.tokens + 1 < 2 ^ 32 }
+        ensures { OnOk result (self.new ≡ record self.old { tokens = self.old.tokens ++ record { kind = kind; start = start; line = line } ∷ [] }) }
+    {
+        self.tokens.push(Token { kind, start, line })?;
+        Ok(())
+    }
+
+    /// How many tokens there are (C17 6.4p1).
+    pub fn len(&self) -> u32
+        ensures { result ≡ length self.now.tokens }
+    {
+        self.tokens.len() as u32
+    }
+
+    /// Token number `i`, from 0 in the order of the source (C17 6.4p1).
+    pub fn at(&self, i: u32) -> Token
+        requires { i < length self.now.tokens }
+        ensures { slice_get self.now.tokens i ≡ Some result }
+    {
+        self.tokens[i as usize]
+    }
+
+    /// How many names there are: names have the numbers below it.
+    pub fn names_len(&self) -> u32
+        ensures { result ≡ length self.now.names }
+    {
+        self.names.len() as u32
+    }
+
+    /// The bytes of name number `n` (C17 6.4.2.1).
+    pub fn name(&self, n: u32) -> &[u8]
+        requires { n < length self.now.names }
+        ensures { slice_get self.now.names n ≡ Some result.now }
+    {
+        self.names.get_index(n as usize).unwrap().as_slice()
+    }
+
+    /// How many string literals there are: they have the numbers below it.
+    pub fn texts_len(&self) -> u32
+        ensures { result ≡ length self.now.texts }
+    {
+        self.texts.len() as u32
+    }
+
+    /// The bytes of string literal number `n`, its escapes decoded, without the zero behind them
+    /// (C17 6.4.5p6).
+    pub fn text(&self, n: u32) -> &[u8]
+        requires { n < length self.now.texts }
+        ensures { slice_get self.now.texts n ≡ Some result.now }
+    {
+        self.texts[n as usize].as_slice()
+    }
+}
