@@ -1,0 +1,7 @@
+pub mod GainsLemmas
+pub mod ReadingLemmas
+pub mod WordsLemmas
+pub mod ComesLemmas
+pub mod JudgedLemmas
+pub mod CausesLemmas
+pub mod ReportLemmas

@@ -1,0 +1,10 @@
+pub mod Outside
+pub mod Words
+pub mod Verdicts
+pub mod Comes
+pub mod Judged
+pub mod Report
+pub mod Answer
+pub mod Causes
+pub mod Memory
+pub mod Disk

@@ -1,0 +1,58 @@
+//! Runs one C source as the words of the command line ask.
+//!
+//! `main` makes the real files and the real output and calls [`serve`], which does all the rest over whatever files
+//! and sinks it is handed: it reads the words, reads the source, judges it, and reports.
+#![tactic(auto)]
+
+mod calm;
+mod disk;
+mod judging;
+mod memory;
+mod outside;
+mod reading;
+mod report;
+mod serving;
+mod words;
+mod writing;
+
+pub use calm::{CalmFiles, CalmSink};
+pub use disk::{DiskFiles, Printed};
+pub use memory::{MemFiles, MemSink};
+pub use outside::{Failed, Files, NoMemory, Sink};
+pub use serving::{serve, serve_calmly};
+use std::alloc::{AllocError, Global};
+use std::process::ExitCode;
+use std::rt::Env;
+use std::{env, io};
+
+fn main(rt: HostRuntime) -> ExitCode {
+    let alloc = rt.alloc();
+    let mut files = DiskFiles::new(&rt);
+    let mut out = Printed::new(io::writer(&rt));
+    let mut report = Printed::new(io::writer(&rt));
+    match words_asked(&rt, alloc) {
+        Err(_) => ExitCode::from(serving::NO_MEMORY),
+        Ok(words) => ExitCode::from(serve(
+            alloc,
+            words.as_slice(),
+            &mut files,
+            &mut out,
+            &mut report,
+        )),
+    }
+}
+
+// The words behind the program's name. Arguments that are no text are no words.
+fn words_asked(rt: &(impl Env + AllocGlobal), alloc: Global) -> Result<Vec<String>, AllocError> {
+    let mut words = Vec::new(alloc);
+    let Ok(arguments) = env::args(rt) else {
+        return Ok(words);
+    };
+    for word in arguments.skip(1) {
+        words.push(word)?;
+    }
+    Ok(words)
+}
+
+#[cfg(test)]
+mod tests;
