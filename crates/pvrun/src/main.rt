@@ -20,7 +20,7 @@ pub use disk::{DiskFiles, Printed};
 pub use memory::{MemFiles, MemSink};
 pub use outside::{Failed, Files, NoMemory, Sink};
 pub use serving::{serve, serve_calmly};
-use std::alloc::{AllocError, Global};
+use std::alloc::Global;
 use std::process::ExitCode;
 use std::rt::Env;
 use std::{env, io};
@@ -42,14 +42,20 @@ fn main(rt: HostRuntime) -> ExitCode {
     }
 }
 
-// The words behind the program's name. Arguments that are no text are no words.
-fn words_asked(rt: &(impl Env + AllocGlobal), alloc: Global) -> Result<Vec<String>, AllocError> {
+// The words behind the program's name. Arguments that are no text are no words; the only error is want of memory.
+fn words_asked(rt: &(impl Env + AllocGlobal), alloc: Global) -> Result<Vec<String>, NoMemory> {
     let mut words = Vec::new(alloc);
-    let Ok(arguments) = env::args(rt) else {
-        return Ok(words);
-    };
-    for word in arguments.skip(1) {
-        words.push(word)?;
+    match env::args(rt) {
+        Ok(arguments) => {
+            for word in arguments.skip(1) {
+                words.push(word)?;
+            }
+        }
+        Err(error) => {
+            if error.kind() == io::ErrorKind::OutOfMemory {
+                return Err(NoMemory);
+            }
+        }
     }
     Ok(words)
 }

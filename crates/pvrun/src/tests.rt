@@ -3,6 +3,8 @@ use std::fmt::Write;
 use std::process::Abort;
 use std::test::*;
 
+mod long;
+mod pointers;
 mod rows;
 
 /// A source, the words behind the file's name, the line that is told without its end, and the status.
@@ -370,9 +372,9 @@ fn each_row_is_told(rt: HostRuntime) -> Result<(), Fail> {
     compare(alloc, &rows::TURNS, &mut failed)?;
     compare(alloc, &rows::SUMS, &mut failed)?;
     compare(alloc, &rows::NAMES, &mut failed)?;
-    compare(alloc, &rows::POINTERS, &mut failed)?;
-    compare(alloc, &rows::LINES, &mut failed)?;
-    compare(alloc, &rows::FAULTS, &mut failed)?;
+    compare(alloc, &pointers::POINTERS, &mut failed)?;
+    compare(alloc, &pointers::LINES, &mut failed)?;
+    compare(alloc, &pointers::FAULTS, &mut failed)?;
     assert_eq!(rt; failed.as_str(), "");
     Ok(())
 }
@@ -402,7 +404,7 @@ fn compare_long(alloc: Global, rows: &[Long], failed: &mut String) -> Result<(),
 fn long_sources_are_told(rt: HostRuntime) -> Result<(), Fail> {
     let alloc = rt.alloc();
     let mut failed = String::new(alloc);
-    compare_long(alloc, &rows::LONG, &mut failed)?;
+    compare_long(alloc, &long::LONG, &mut failed)?;
     assert_eq!(rt; failed.as_str(), "");
     Ok(())
 }
@@ -412,7 +414,7 @@ fn long_sources_are_told(rt: HostRuntime) -> Result<(), Fail> {
 fn a_run_has_a_million_turns(rt: HostRuntime) -> Result<(), Fail> {
     let alloc = rt.alloc();
     let mut failed = String::new(alloc);
-    compare_long(alloc, &rows::LONGEST, &mut failed)?;
+    compare_long(alloc, &long::LONGEST, &mut failed)?;
     assert_eq!(rt; failed.as_str(), "");
     Ok(())
 }

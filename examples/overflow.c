@@ -1,0 +1,7 @@
+int most = 2147483647;
+
+int main(void) {
+  int one = 1;
+  return most
+    + one;
+}
