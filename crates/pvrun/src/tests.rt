@@ -3,8 +3,8 @@ use std::fmt::Write;
 use std::process::Abort;
 use std::test::*;
 
-mod long;
-mod pointers;
+mod long_rows;
+mod pointer_rows;
 mod rows;
 
 /// A source, the words behind the file's name, the line that is told without its end, and the status.
@@ -372,9 +372,9 @@ fn each_row_is_told(rt: HostRuntime) -> Result<(), Fail> {
     compare(alloc, &rows::TURNS, &mut failed)?;
     compare(alloc, &rows::SUMS, &mut failed)?;
     compare(alloc, &rows::NAMES, &mut failed)?;
-    compare(alloc, &pointers::POINTERS, &mut failed)?;
-    compare(alloc, &pointers::LINES, &mut failed)?;
-    compare(alloc, &pointers::FAULTS, &mut failed)?;
+    compare(alloc, &pointer_rows::POINTERS, &mut failed)?;
+    compare(alloc, &pointer_rows::LINES, &mut failed)?;
+    compare(alloc, &pointer_rows::FAULTS, &mut failed)?;
     assert_eq!(rt; failed.as_str(), "");
     Ok(())
 }
@@ -404,7 +404,7 @@ fn compare_long(alloc: Global, rows: &[Long], failed: &mut String) -> Result<(),
 fn long_sources_are_told(rt: HostRuntime) -> Result<(), Fail> {
     let alloc = rt.alloc();
     let mut failed = String::new(alloc);
-    compare_long(alloc, &long::LONG, &mut failed)?;
+    compare_long(alloc, &long_rows::LONG, &mut failed)?;
     assert_eq!(rt; failed.as_str(), "");
     Ok(())
 }
@@ -414,7 +414,7 @@ fn long_sources_are_told(rt: HostRuntime) -> Result<(), Fail> {
 fn a_run_has_a_million_turns(rt: HostRuntime) -> Result<(), Fail> {
     let alloc = rt.alloc();
     let mut failed = String::new(alloc);
-    compare_long(alloc, &long::LONGEST, &mut failed)?;
+    compare_long(alloc, &long_rows::LONGEST, &mut failed)?;
     assert_eq!(rt; failed.as_str(), "");
     Ok(())
 }
