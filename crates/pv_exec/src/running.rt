@@ -12,7 +12,7 @@ use pv_num::Fault;
 use pv_object::Memory;
 use std::alloc::Global;
 
-/// How a run ended.
+/// How a run ended. Lines are counted from 1, as line markers set them.
 #[derive(Clone, Copy, Debug, PartialEq, Eq)]
 pub enum Outcome {
     /// `main` returned this status (C17 5.1.2.2.3).
@@ -25,14 +25,18 @@ pub enum Outcome {
     Turns,
 }
 
-/// A run that ended, with the number of turns that it took.
+/// A run that ended.
 #[derive(Clone, Copy, Debug, PartialEq, Eq)]
 pub struct Ran {
     pub outcome: Outcome,
+    /// How many turns were taken: one for each node that was evaluated and each statement that was executed.
     pub turns: u64,
 }
 
-/// Runs a program, with at most `bound` turns. Nothing is printed by a program of the starter language.
+/// Runs a program (C17 5.1.2.2), with at most `bound` turns. The only error is want of memory.
+///
+/// Objects of static storage duration get their values, without turns, before `main` is called (5.1.2p1). Nothing is
+/// printed by a program of the starter language.
 pub fn run(alloc: Global, program: &Program, bound: u64) -> Result<Ran, NoMemory>
     ensures ran { IfOk result (λ r. r ≡ ran_of (program_tree program.now) bound) }
     ensures silent { OnOk result (output_of (program_tree program.now) bound ≡ []) }

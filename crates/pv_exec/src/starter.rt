@@ -16,7 +16,8 @@ use std::alloc::Global;
 use terms::Program;
 
 /// The program of the starter language that the tokens are: a unit that spells them, with names declared once and
-/// before use, and each expression of type `int` or `int *`. `None` exactly where they are no such program.
+/// before use, and each expression of type `int` or `int *`. `None` exactly where they are no such program. The only
+/// error is want of memory.
 pub fn program(alloc: Global, tokens: &Tokens) -> Result<Option<Program>, NoMemory>
     ensures { IfOk result (FindsProgram tokens.now) }
 {
@@ -27,7 +28,7 @@ pub fn program(alloc: Global, tokens: &Tokens) -> Result<Option<Program>, NoMemo
     }
 }
 
-/// The tokens are one program, or none. This call does nothing: it tells a caller's proof.
+/// A law, and no work: the tokens are one program, or none.
 pub fn one_program()
     ensures either { (table : Table) → ((p : ProgramTree) × IsProgram table p) ⊎ ((p : ProgramTree) → IsProgram table p → ⊥) }
     ensures one { (table : Table) (p q : ProgramTree) → IsProgram table p → IsProgram table q → p ≡ q }

@@ -1,4 +1,5 @@
-//! Typed programs of the starter language.
+//! Typed programs of the starter language. A line is that of an expression's first token, counted from 1; an object has
+//! a number, from 0, those of file scope first.
 
 /// The type of an object (C17 6.2.5).
 #[derive(Clone, Copy, Debug, PartialEq, Eq)]
@@ -80,11 +81,13 @@ pub enum TypedStatement {
     },
 }
 
-/// A typed program: its file-scope objects, and `main`. Objects are numbered from 0, those of
-/// file scope first.
+/// A typed program (C17 6.9).
 #[derive(Drop)]
 pub struct Program {
+    /// The file-scope objects, in the order of their declarations.
     pub objects: Vec<StaticObject>,
+    /// The objects of the block of `main`, in the order of their declarations.
     pub locals: Vec<TypedLocal>,
+    /// The statements of that block.
     pub statements: Vec<TypedStatement>,
 }
