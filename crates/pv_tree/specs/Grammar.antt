@@ -1,0 +1,99 @@
+-- Which expressions stand at a place (6.5), and what it is for one to spell a run of tokens.
+use Rattle.std.specs.Prelude.{◌≡◌, ◌≤◌, ◌+◌, ℕ, suc, Bool, true, false, Option, Some, List, [], ◌∷◌, length, drop, map, slice_range}
+use Rattle.pv_lex.specs.declared.token_table.Token.{Token}
+use Rattle.pv_lex.specs.declared.token_table.TokenKind.{TokenKind}
+use Rattle.pv_lex.specs.declared.token_table.TokenKind.TheVariants as kind
+use Rattle.pv_lex.specs.declared.words.Word.{Word}
+use Rattle.pv_lex.specs.declared.words.Word.TheVariants as word
+use Rattle.pv_tree.specs.Syntax.{ExpressionTree, Name, Number, Character, Text, Paren, Index, Call, Member, Arrow, PostIncrement, PostDecrement, PreIncrement, PreDecrement, Unary, SizeofExpr, SizeofType, Cast, Binary, Conditional, Assign, Comma, ArgumentTrees, NoArguments, Argument, DeclarationTree}
+use Rattle.pv_tree.specs.Measures.{expression_depth, arguments_depth}
+use Rattle.pv_tree.specs.Levels.{binary_rank, rank}
+use Rattle.pv_tree.specs.Spelling.{expression_tokens, arguments_tokens, declaration_tokens, before_argument}
+
+-- what is known of names: which are typedef names (6.7.8), and which type name begins where some tokens are left, with the tokens behind it
+pub record Names : Type 0 where
+  pub is_type : ℕ → Bool
+  pub type_at : List Token → Option (DeclarationTree × List Token)
+
+-- a keyword that begins specifiers (6.7p1)
+abbrev pub begins_specifiers : Word → Bool
+begins_specifiers word.Typedef = true
+begins_specifiers word.Extern = true
+begins_specifiers word.Static = true
+begins_specifiers word.Const = true
+begins_specifiers word.Void = true
+begins_specifiers word.Char = true
+begins_specifiers word.Short = true
+begins_specifiers word.Int = true
+begins_specifiers word.Long = true
+begins_specifiers word.Signed = true
+begins_specifiers word.Unsigned = true
+begins_specifiers word.Bool = true
+begins_specifiers word.Struct = true
+begins_specifiers word.Union = true
+begins_specifiers word.Enum = true
+begins_specifiers _ = false
+
+abbrev pub kind_begins_type : Names → TokenKind → Bool
+kind_begins_type names (kind.Name n) = names.is_type n
+kind_begins_type names (kind.Word w) = begins_specifiers w
+kind_begins_type names _ = false
+
+-- a token that begins a type name begins one: what stands in parentheses is then no expression (6.5.3p1, 6.5.4p1)
+abbrev pub begins_type : Names → List Token → Bool
+begins_type names [] = false
+begins_type names (t ∷ ts) = kind_begins_type names t.kind
+
+-- the line of the first token
+abbrev pub line_here : List Token → ℕ
+line_here [] = 0
+line_here (t ∷ ts) = t.line
+
+-- what is left behind an expression and so many tokens more
+abbrev pub behind : ExpressionTree → (more : ℕ) → List Token → List Token
+behind a more here = drop (length (expression_tokens a) + more) here
+
+-- the type name is the one that begins here
+pub record IsTypeName (names : Names) (type : DeclarationTree) (here : List Token) : Type 0 where
+  pub begins : begins_type names here ≡ true
+  pub is : names.type_at here ≡ Some (type, drop (length (declaration_tokens type)) here)
+
+-- each operand has a level that its place allows, no name is a typedef name, each type name is the one that begins at its place, and each line is
+-- that of the first token. `here` are the tokens from the first one on, to the end of the source
+abbrev mutual
+  pub Fits : Names → ExpressionTree → (here : List Token) → Type 0
+  Fits names (Name line n) here = (line ≡ line_here here) × (names.is_type n ≡ false)
+  Fits names (Number line value decimal unsigned longs) here = line ≡ line_here here
+  Fits names (Character line value) here = line ≡ line_here here
+  Fits names (Text line first more) here = line ≡ line_here here
+  Fits names (Paren line a) here = (line ≡ line_here here) × (1 ≤ rank a) × Fits names a (drop 1 here)
+  Fits names (Index line a i) here = (line ≡ line_here here) × (16 ≤ rank a) × (1 ≤ rank i) × Fits names a here × Fits names i (behind a 1 here)
+  Fits names (Call line callee arguments) here = (line ≡ line_here here) × (16 ≤ rank callee) × Fits names callee here × FitsArguments names arguments (behind callee 1 here)
+  Fits names (Member line a n) here = (line ≡ line_here here) × (16 ≤ rank a) × (names.is_type n ≡ false) × Fits names a here
+  Fits names (Arrow line a n) here = (line ≡ line_here here) × (16 ≤ rank a) × (names.is_type n ≡ false) × Fits names a here
+  Fits names (PostIncrement line a) here = (line ≡ line_here here) × (16 ≤ rank a) × Fits names a here
+  Fits names (PostDecrement line a) here = (line ≡ line_here here) × (16 ≤ rank a) × Fits names a here
+  Fits names (PreIncrement line a) here = (line ≡ line_here here) × (15 ≤ rank a) × Fits names a (drop 1 here)
+  Fits names (PreDecrement line a) here = (line ≡ line_here here) × (15 ≤ rank a) × Fits names a (drop 1 here)
+  Fits names (Unary line op a) here = (line ≡ line_here here) × (14 ≤ rank a) × Fits names a (drop 1 here)
+  Fits names (SizeofExpr line a) here = (line ≡ line_here here) × (15 ≤ rank a) × Fits names a (drop 1 here)
+  Fits names (SizeofType line type) here = (line ≡ line_here here) × IsTypeName names type (drop 2 here)
+  Fits names (Cast line type a) here = (line ≡ line_here here) × IsTypeName names type (drop 1 here) × (14 ≤ rank a) × Fits names a (drop (length (declaration_tokens type) + 2) here)
+  Fits names (Binary line op a b) here = (line ≡ line_here here) × (binary_rank op ≤ rank a) × (suc (binary_rank op) ≤ rank b) × Fits names a here × Fits names b (behind a 1 here)
+  Fits names (Conditional line a b c) here = (line ≡ line_here here) × (4 ≤ rank a) × (1 ≤ rank b) × (3 ≤ rank c) × Fits names a here × Fits names b (behind a 1 here) × Fits names c (behind b 1 (behind a 1 here))
+  Fits names (Assign line op a b) here = (line ≡ line_here here) × (15 ≤ rank a) × (2 ≤ rank b) × Fits names a here × Fits names b (behind a 1 here)
+  Fits names (Comma line a b) here = (line ≡ line_here here) × (1 ≤ rank a) × (2 ≤ rank b) × Fits names a here × Fits names b (behind a 1 here)
+
+  pub FitsArguments : Names → ArgumentTrees → (here : List Token) → Type 0
+  FitsArguments names NoArguments here = Unit {0}
+  FitsArguments names (Argument before last) here = FitsArguments names before here × (2 ≤ rank last) × Fits names last (drop (length (before_argument before (arguments_tokens before))) here)
+
+abbrev pub kinds : List Token → List TokenKind
+kinds tokens = map (λ t. t.kind) tokens
+
+-- an expression of a level and of at most so much depth, that spells the tokens from at to before end
+pub record Spells (names : Names) (level deep : ℕ) (tokens : List Token) (at end : ℕ) (a : ExpressionTree) : Type 0 where
+  pub fits : Fits names a (drop at tokens)
+  pub tight : level ≤ rank a
+  pub shallow : expression_depth a ≤ deep
+  pub is : expression_tokens a ≡ kinds (slice_range tokens at end)

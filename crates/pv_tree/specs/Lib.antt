@@ -1,0 +1,9 @@
+pub mod Syntax
+pub mod Measures
+pub mod Tables
+pub mod Nodes
+pub mod Rows
+pub mod Levels
+pub mod Spelling
+pub mod Grammar
+pub mod TypeNames

@@ -1,0 +1,277 @@
+//! The tables of a translation unit.
+ghost use Rattle.std.specs.Prelude.{◌≡◌, ◌<◌, ◌≤◌, ◌+◌, ◌^◌, length, Some, slice_get, IfOk, OnOk, OnErr};
+ghost use Rattle.pv_tree.specs.Tables.{Forest, Tables, no_tables, with_tree, with_list, with_external, tree_at, list_at, is_expression, is_declaration, is_declarator, is_specifier, is_initializer, is_statement, is_external, Has, HasOptional, HasList, Is};
+ghost use Rattle.pv_tree.specs.Rows.{tables, nothing};
+ghost use Rattle.pv_tree.specs.Nodes.{tree_of, expression_of, declaration_of, declarator_of, specifier_of, initializer_of, statement_of, HasChildren, HasExprChildren, HasDeclChildren, HasDeclaratorChildren, HasSpecChildren, HasInitChildren, HasStmtChildren};
+ghost use Rattle.pv_tree.specs.Measures.{tree_depth, tree_line};
+ghost use Rattle.pv_tree.specs.Syntax.{OfExpression, OfDeclaration, OfDeclarator, OfSpecifier, OfInitializer, OfStatement};
+
+use crate::nodes::{Decl, Declarator, Expr, Init, ListId, Node, NodeId, Spec, Stmt};
+use pv_lex::NoMemory;
+use std::alloc::Global;
+use std::marker::Model;
+
+/// A table numbered by `u32` has room for so many entries.
+const LIMIT: usize = 0xffff_ffff;
+
+/// A node, the line of its first token and the depth of its tree.
+#[derive(Clone, Copy, Debug)]
+struct Row {
+    node: Node,
+    line: u32,
+    depth: u32,
+}
+
+/// The nodes of a translation unit (C17 6.9), the lists of their children, and its external
+/// declarations.
+#[derive(Drop)]
+pub struct Unit {
+    alloc: Global,
+    rows: Vec<Row>,
+    lists: Vec<Vec<NodeId>>,
+    externals: Vec<NodeId>,
+}
+
+impl Model for Unit {
+    ghost use Rattle.std.specs.Prelude.{map};
+    ghost use Rattle.pv_tree.specs.Rows.{Stored, tables, IsFormed};
+
+    ghost Value = { Stored };
+
+    ghost view = { λ u. record { rows = u.rows.items; lists = map (λ l. l.items) u.lists.items; externals = u.externals.items } };
+
+    ghost invariant = { λ u. IsFormed (tables (record { rows = u.rows.items; lists = map (λ l. l.items) u.lists.items; externals = u.externals.items })) u.rows.items };
+}
+
+impl Unit {
+    /// A unit without nodes, which takes no memory.
+    pub fn new(alloc: Global) -> Unit
+        ensures { result ≡ nothing }
+    {
+        Unit {
+            alloc,
+            rows: Vec::new(alloc),
+            lists: Vec::new(alloc),
+            externals: Vec::new(alloc),
+        }
+    }
+
+    /// Keeps a list of nodes, and gives its number.
+    pub fn add_list(&mut self, l: &[NodeId]) -> Result<ListId, NoMemory>
+        ensures made { IfOk result (λ i. ((tables self.new) ≡ with_list (tables self.old) l.now) × (i.0 ≡ length (tables self.old).forest.lists)) }
+        ensures unchanged { OnErr result (self.new ≡ self.old) }
+    {
+        let index = self.lists.len();
+        if index >= LIMIT {
+            return Err(NoMemory);
+        }
+        let list = Vec::from_slice(self.alloc, l)?;
+        self.lists.push(list)?;
+        Ok(ListId(index as u32))
+    }
+
+    /// The nodes of a list, in order.
+    pub fn list(&self, l: ListId) -> &[NodeId]
+        requires { l.0 < length (tables self.now).forest.lists }
+        ensures { result.now ≡ list_at (tables self.now).forest l }
+    {
+        self.lists[l.0 as usize].as_slice()
+    }
+
+    // The node of a number, and what its children are.
+    fn node(&self, n: NodeId) -> Node
+        requires { n.0 < length (tables self.now).forest.trees }
+        ensures tree { tree_at (tables self.now).forest n ≡ tree_of (tables self.now).forest (tree_line (tree_at (tables self.now).forest n)) result }
+        ensures children { HasChildren (tables self.now).forest n.0 result }
+    {
+        self.rows[n.0 as usize].node
+    }
+
+    /// The depth of the tree that a node stands for: one more than its deepest child's, and that of
+    /// its deepest child where it is a part that is no node of its own.
+    pub fn depth(&self, n: NodeId) -> u32
+        requires { n.0 < length (tables self.now).forest.trees }
+        ensures value { result ≡ tree_depth (tree_at (tables self.now).forest n) }
+        ensures bounded { result ≤ n.0 + 1 }
+    {
+        self.rows[n.0 as usize].depth
+    }
+
+    /// The line that was given when the node was added.
+    pub fn line(&self, n: NodeId) -> u32
+        requires { n.0 < length (tables self.now).forest.trees }
+        ensures { result ≡ tree_line (tree_at (tables self.now).forest n) }
+    {
+        self.rows[n.0 as usize].line
+    }
+
+    // Adds a node of any kind.
+    fn add(&mut self, node: Node, line: u32) -> Result<NodeId, NoMemory>
+        requires { HasChildren (tables self.old).forest (length (tables self.old).forest.trees) node }
+        ensures made { IfOk result (λ n. ((tables self.new) ≡ with_tree (tables self.old) (tree_of (tables self.old).forest line node)) × (n.0 ≡ length (tables self.old).forest.trees)) }
+        ensures unchanged { OnErr result (self.new ≡ self.old) }
+    {
+        let count = self.rows.len();
+        if count >= LIMIT {
+            return Err(NoMemory);
+        }
+        let depth = self.depth_of(node);
+        self.rows.push(Row { node, line, depth })?;
+        Ok(NodeId(count as u32))
+    }
+
+    /// Adds an expression (C17 6.5), whose first token stands on `line`.
+    pub fn add_expr(&mut self, e: Expr, line: u32) -> Result<NodeId, NoMemory>
+        requires { HasExprChildren (tables self.old).forest (length (tables self.old).forest.trees) e }
+        ensures made { IfOk result (λ n. ((tables self.new) ≡ with_tree (tables self.old) (OfExpression (expression_of (tables self.old).forest line e))) × (n.0 ≡ length (tables self.old).forest.trees)) }
+        ensures unchanged { OnErr result (self.new ≡ self.old) }
+    {
+        self.add(Node::Expr(e), line)
+    }
+
+    /// Adds a declaration, or a part of one (C17 6.7, 6.9), whose first token stands on `line`.
+    pub fn add_decl(&mut self, d: Decl, line: u32) -> Result<NodeId, NoMemory>
+        requires { HasDeclChildren (tables self.old).forest (length (tables self.old).forest.trees) d }
+        ensures made { IfOk result (λ n. ((tables self.new) ≡ with_tree (tables self.old) (OfDeclaration (declaration_of (tables self.old).forest line d))) × (n.0 ≡ length (tables self.old).forest.trees)) }
+        ensures unchanged { OnErr result (self.new ≡ self.old) }
+    {
+        self.add(Node::Decl(d), line)
+    }
+
+    /// Adds a declarator (C17 6.7.6, 6.7.7), whose first token stands on `line`.
+    pub fn add_declarator(&mut self, d: Declarator, line: u32) -> Result<NodeId, NoMemory>
+        requires { HasDeclaratorChildren (tables self.old).forest (length (tables self.old).forest.trees) d }
+        ensures made { IfOk result (λ n. ((tables self.new) ≡ with_tree (tables self.old) (OfDeclarator (declarator_of (tables self.old).forest line d))) × (n.0 ≡ length (tables self.old).forest.trees)) }
+        ensures unchanged { OnErr result (self.new ≡ self.old) }
+    {
+        self.add(Node::Declarator(d), line)
+    }
+
+    /// Adds a specifier (C17 6.7p1), whose first token stands on `line`.
+    pub fn add_spec(&mut self, s: Spec, line: u32) -> Result<NodeId, NoMemory>
+        requires { HasSpecChildren (tables self.old).forest (length (tables self.old).forest.trees) s }
+        ensures made { IfOk result (λ n. ((tables self.new) ≡ with_tree (tables self.old) (OfSpecifier (specifier_of (tables self.old).forest line s))) × (n.0 ≡ length (tables self.old).forest.trees)) }
+        ensures unchanged { OnErr result (self.new ≡ self.old) }
+    {
+        self.add(Node::Spec(s), line)
+    }
+
+    /// Adds an initializer (C17 6.7.9), whose first token stands on `line`.
+    pub fn add_init(&mut self, i: Init, line: u32) -> Result<NodeId, NoMemory>
+        requires { HasInitChildren (tables self.old).forest (length (tables self.old).forest.trees) i }
+        ensures made { IfOk result (λ n. ((tables self.new) ≡ with_tree (tables self.old) (OfInitializer (initializer_of (tables self.old).forest line i))) × (n.0 ≡ length (tables self.old).forest.trees)) }
+        ensures unchanged { OnErr result (self.new ≡ self.old) }
+    {
+        self.add(Node::Init(i), line)
+    }
+
+    /// Adds a statement, a block or a label (C17 6.8), whose first token stands on `line`.
+    pub fn add_stmt(&mut self, s: Stmt, line: u32) -> Result<NodeId, NoMemory>
+        requires { HasStmtChildren (tables self.old).forest (length (tables self.old).forest.trees) s }
+        ensures made { IfOk result (λ n. ((tables self.new) ≡ with_tree (tables self.old) (OfStatement (statement_of (tables self.old).forest line s))) × (n.0 ≡ length (tables self.old).forest.trees)) }
+        ensures unchanged { OnErr result (self.new ≡ self.old) }
+    {
+        self.add(Node::Stmt(s), line)
+    }
+
+    /// The node of an expression (C17 6.5).
+    pub fn expr(&self, n: NodeId) -> Expr
+        requires { Is (tables self.now) is_expression n }
+        ensures tree { tree_at (tables self.now).forest n ≡ OfExpression (expression_of (tables self.now).forest (tree_line (tree_at (tables self.now).forest n)) result) }
+        ensures children { HasExprChildren (tables self.now).forest n.0 result }
+    {
+        match self.node(n) {
+            Node::Expr(e) => e,
+            _ => unreachable!(),
+        }
+    }
+
+    /// The node of a declaration, or a part of one (C17 6.7, 6.9).
+    pub fn decl(&self, n: NodeId) -> Decl
+        requires { Is (tables self.now) is_declaration n }
+        ensures tree { tree_at (tables self.now).forest n ≡ OfDeclaration (declaration_of (tables self.now).forest (tree_line (tree_at (tables self.now).forest n)) result) }
+        ensures children { HasDeclChildren (tables self.now).forest n.0 result }
+    {
+        match self.node(n) {
+            Node::Decl(d) => d,
+            _ => unreachable!(),
+        }
+    }
+
+    /// The node of a declarator (C17 6.7.6, 6.7.7).
+    pub fn declarator(&self, n: NodeId) -> Declarator
+        requires { Is (tables self.now) is_declarator n }
+        ensures tree { tree_at (tables self.now).forest n ≡ OfDeclarator (declarator_of (tables self.now).forest (tree_line (tree_at (tables self.now).forest n)) result) }
+        ensures children { HasDeclaratorChildren (tables self.now).forest n.0 result }
+    {
+        match self.node(n) {
+            Node::Declarator(d) => d,
+            _ => unreachable!(),
+        }
+    }
+
+    /// The node of a specifier (C17 6.7p1).
+    pub fn spec(&self, n: NodeId) -> Spec
+        requires { Is (tables self.now) is_specifier n }
+        ensures tree { tree_at (tables self.now).forest n ≡ OfSpecifier (specifier_of (tables self.now).forest (tree_line (tree_at (tables self.now).forest n)) result) }
+        ensures children { HasSpecChildren (tables self.now).forest n.0 result }
+    {
+        match self.node(n) {
+            Node::Spec(s) => s,
+            _ => unreachable!(),
+        }
+    }
+
+    /// The node of an initializer (C17 6.7.9).
+    pub fn init(&self, n: NodeId) -> Init
+        requires { Is (tables self.now) is_initializer n }
+        ensures tree { tree_at (tables self.now).forest n ≡ OfInitializer (initializer_of (tables self.now).forest (tree_line (tree_at (tables self.now).forest n)) result) }
+        ensures children { HasInitChildren (tables self.now).forest n.0 result }
+    {
+        match self.node(n) {
+            Node::Init(i) => i,
+            _ => unreachable!(),
+        }
+    }
+
+    /// The node of a statement, a block or a label (C17 6.8).
+    pub fn stmt(&self, n: NodeId) -> Stmt
+        requires { Is (tables self.now) is_statement n }
+        ensures tree { tree_at (tables self.now).forest n ≡ OfStatement (statement_of (tables self.now).forest (tree_line (tree_at (tables self.now).forest n)) result) }
+        ensures children { HasStmtChildren (tables self.now).forest n.0 result }
+    {
+        match self.node(n) {
+            Node::Stmt(s) => s,
+            _ => unreachable!(),
+        }
+    }
+
+    /// How many external declarations there are (C17 6.9p1).
+    pub fn count(&self) -> u32
+        ensures { result ≡ length (tables self.now).externals }
+    {
+        self.externals.len() as u32
+    }
+
+    /// External declaration number `i`, from 0 in the order in which they were added.
+    pub fn external(&self, i: u32) -> NodeId
+        requires { i < length (tables self.now).externals }
+        ensures number { slice_get (tables self.now).externals i ≡ Some result }
+        ensures kind { Is (tables self.now) is_external result }
+    {
+        self.externals[i as usize]
+    }
+
+    /// Makes a function definition or a declaration the next external declaration (C17 6.9p1).
+    pub fn add_external(&mut self, n: NodeId) -> Result<(), NoMemory>
+        requires { Is (tables self.old) is_external n }
+        ensures made { OnOk result ((tables self.new) ≡ with_external (tables self.old) n) }
+        ensures unchanged { OnErr result (self.new ≡ self.old) }
+    {
+        if self.externals.len() >= LIMIT {
+            return Err(NoMemory);
+        }
+        self.externals.push(n)?;
+        Ok(())
+    }
+}
