@@ -1,5 +1,5 @@
 -- A node's tree depends on its children alone.
-use Rattle.std.proofs.Common.{◌≡◌, ◌<◌, ◌≤◌, ℕ, Bool, true, List, [], ◌∷◌, Option, Some, None, length, All, refl, sym, ap, subst, ◌∙◌, arith, suc}
+use Rattle.std.proofs.Common.{◌≡◌, ◌<◌, ◌≤◌, ℕ, Bool, List, [], ◌∷◌, Option, Some, None, length, All, refl, sym, ap, subst, ◌∙◌, arith, suc}
 use Rattle.std.specs.List.{fold}
 use Rattle.pv_tree.specs.declared.nodes.Expr.{Expr}
 use Rattle.pv_tree.specs.declared.nodes.Expr.TheVariants as expr
@@ -18,7 +18,7 @@ use Rattle.pv_tree.specs.declared.nodes.Node.TheVariants as node
 use Rattle.pv_tree.specs.declared.nodes.NodeId.{NodeId}
 use Rattle.pv_tree.specs.declared.nodes.ListId.{ListId}
 use Rattle.pv_tree.specs.Syntax.{Tree, OfExpression, OfDeclaration, OfDeclarator, OfSpecifier, OfInitializer, OfStatement, Trees, NoTrees, Then, ArgumentTrees, NoArguments, Argument, Present}
-use Rattle.pv_tree.specs.Tables.{Forest, tree_at, list_at, expression_at, declaration_at, declarator_at, statement_at, trees_of, arguments_of, trees_at, arguments_at, optional_at, as_expression, as_declaration, as_declarator, as_statement, is_expression, is_declaration, is_declarator, is_specifier, is_initializer, is_statement, is_item, Has, HasOptional, HasList}
+use Rattle.pv_tree.specs.Tables.{Forest, tree_at, list_at, expression_at, trees_at, arguments_at, optional_at, is_expression, is_declaration, is_declarator, is_specifier, is_initializer, is_statement, is_item, Has, HasOptional, HasList}
 use Rattle.pv_tree.specs.Nodes.{expression_of, declaration_of, declarator_of, specifier_of, initializer_of, statement_of, tree_of, HasExprChildren, HasDeclChildren, HasDeclaratorChildren, HasSpecChildren, HasInitChildren, HasStmtChildren, HasChildren}
 
 -- two forests that have the same trees below count, and g has the lists of f

@@ -1,12 +1,12 @@
 -- The depth of a node's tree, by the depths of its children.
-use Rattle.std.proofs.Common.{◌≡◌, ◌<◌, ◌≤◌, ◌+◌, ℕ, suc, max, Bool, true, Option, Some, None, List, [], ◌∷◌, ◌++◌, All, length, take, slice_index_or, refl, sym, ap, ◌∙◌, arith}
+use Rattle.std.proofs.Common.{◌≡◌, ◌<◌, ◌+◌, ℕ, suc, max, Bool, true, Option, Some, None, List, [], ◌∷◌, ◌++◌, All, length, take, slice_index_or, refl, sym, ap, ◌∙◌, arith}
 use Rattle.std.specs.List.{fold}
-use Rattle.std.proofs.lemmas.List.{take_more, take_all}
+use Rattle.std.proofs.lemmas.List.{take_more}
 use Rattle.pv_tree.specs.declared.nodes.NodeId.{NodeId}
 use Rattle.pv_tree.specs.declared.nodes.ListId.{ListId}
 use Rattle.pv_tree.specs.Syntax.{Tree, OfExpression, OfDeclaration, OfDeclarator, OfStatement, Trees, NoTrees, Then, ArgumentTrees, NoArguments, Argument}
 use Rattle.pv_tree.specs.Measures.{expression_depth, declaration_depth, declarator_depth, statement_depth, arguments_depth, trees_depth, tree_depth}
-use Rattle.pv_tree.specs.Tables.{Forest, tree_at, list_at, expression_at, as_expression, as_declaration, as_declarator, as_statement, trees_of, arguments_of, trees_at, arguments_at, is_expression, is_declaration, is_declarator, is_statement, Has, HasOptional, HasList, IsThere, AreThere}
+use Rattle.pv_tree.specs.Tables.{Forest, tree_at, list_at, expression_at, as_expression, as_declaration, as_declarator, as_statement, trees_of, trees_at, arguments_at, is_expression, is_declaration, is_declarator, is_statement, Has, HasOptional, HasList, IsThere, AreThere}
 use Rattle.pv_tree.proofs.Forming.{fold_push}
 
 pub expression_deep : (t : Tree) → is_expression t ≡ true → tree_depth t ≡ expression_depth (as_expression t)

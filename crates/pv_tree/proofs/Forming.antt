@@ -1,15 +1,14 @@
 -- What a new row, a new list and a new external declaration leave as it was.
-use Rattle.std.proofs.Common.{◌≡◌, ◌<◌, ◌≤◌, ◌+◌, ◌^◌, ℕ, zero, suc, true, List, [], ◌∷◌, ◌++◌, All, length, take, drop, slice_index_or, refl, sym, ap, subst, ◌∙◌, arith, inl, inr}
+use Rattle.std.proofs.Common.{◌≡◌, ◌<◌, ◌≤◌, ◌+◌, ◌^◌, ℕ, suc, List, [], ◌∷◌, ◌++◌, All, length, take, slice_index_or, refl, sym, ap, subst, ◌∙◌, arith, inl, inr}
 use Rattle.std.specs.List.{fold}
 use Rattle.std.proofs.lemmas.Bool.{cases_lt}
 use Rattle.std.proofs.lemmas.List.{length-append, get_or_append_left, get_or_push, get_or-take, take_all, take_more}
-use Rattle.pv_tree.specs.declared.nodes.Node.{Node}
 use Rattle.pv_tree.specs.declared.nodes.NodeId.{NodeId}
 use Rattle.pv_tree.specs.declared.nodes.ListId.{ListId}
 use Rattle.pv_tree.specs.declared.unit.Row.{Row}
 use Rattle.pv_tree.specs.Syntax.{Tree, OfExpression, Name}
 use Rattle.pv_tree.specs.Measures.{tree_depth}
-use Rattle.pv_tree.specs.Tables.{Forest, Tables, with_tree, with_list, tree_at, list_at, is_external, Has}
+use Rattle.pv_tree.specs.Tables.{Forest, list_at, is_external, Has}
 use Rattle.pv_tree.specs.Nodes.{tree_of, HasChildren}
 use Rattle.pv_tree.specs.Rows.{with_row, trees_of_rows, forest_of, IsRow, IsFormed}
 use Rattle.pv_tree.proofs.Agreeing.{Agree, tree_agrees, children_kept}

@@ -15,8 +15,8 @@ use Rattle.pv_tree.specs.declared.nodes.Stmt.{Stmt}
 use Rattle.pv_tree.specs.declared.nodes.Stmt.TheVariants as stmt
 use Rattle.pv_tree.specs.declared.nodes.Node.{Node}
 use Rattle.pv_tree.specs.declared.nodes.Node.TheVariants as node
-use Rattle.pv_tree.specs.Syntax.{ExpressionTree, Name, Number, Character, Text, Paren, Index, Call, Member, Arrow, PostIncrement, PostDecrement, PreIncrement, PreDecrement, Unary, SizeofExpr, SizeofType, Cast, Binary, Conditional, Assign, Comma, ArgumentTrees, NoArguments, Argument, DeclarationTree, Function, Declaration, InitDeclarator, MemberDeclaration, Enumerator, Parameter, TypeName, DeclaratorTree, DeclaredName, ParenDeclarator, Pointer, Array, FunctionDeclarator, AbstractParen, AbstractPointer, AbstractArray, AbstractFunction, SpecifierTree, Keyword, Composite, Enumeration, Tag, TypedefName, InitializerTree, Initial, Braces, StatementTree, Block, ExpressionStatement, If, IfElse, While, DoWhile, For, ForDeclaration, Switch, SwitchBlock, Labelled, Case, Default, Break, Continue, Return, Tree, OfExpression, OfDeclaration, OfDeclarator, OfSpecifier, OfInitializer, OfStatement, Trees, NoTrees, Then, OptionalTree, Absent, Present}
-use Rattle.pv_tree.specs.Tables.{Forest, tree_at, expression_at, declaration_at, declarator_at, statement_at, trees_at, arguments_at, optional_at, is_expression, is_declaration, is_declarator, is_specifier, is_initializer, is_statement, is_item, Has, HasOptional, HasList}
+use Rattle.pv_tree.specs.Syntax.{ExpressionTree, Name, Number, Character, Text, Paren, Index, Call, Member, Arrow, PostIncrement, PostDecrement, PreIncrement, PreDecrement, Unary, SizeofExpr, SizeofType, Cast, Binary, Conditional, Assign, Comma, DeclarationTree, Function, Declaration, InitDeclarator, MemberDeclaration, Enumerator, Parameter, TypeName, DeclaratorTree, DeclaredName, ParenDeclarator, Pointer, Array, FunctionDeclarator, AbstractParen, AbstractPointer, AbstractArray, AbstractFunction, SpecifierTree, Keyword, Composite, Enumeration, Tag, TypedefName, InitializerTree, Initial, Braces, StatementTree, Block, ExpressionStatement, If, IfElse, While, DoWhile, For, ForDeclaration, Switch, SwitchBlock, Labelled, Case, Default, Break, Continue, Return, Tree, OfExpression, OfDeclaration, OfDeclarator, OfSpecifier, OfInitializer, OfStatement}
+use Rattle.pv_tree.specs.Tables.{Forest, expression_at, declaration_at, declarator_at, statement_at, trees_at, arguments_at, optional_at, is_expression, is_declaration, is_declarator, is_specifier, is_initializer, is_statement, is_item, Has, HasOptional, HasList}
 
 abbrev pub expression_of : Forest → (line : ℕ) → Expr → ExpressionTree
 expression_of f line (expr.Name n) = Name line n

@@ -5,7 +5,7 @@ use Rattle.pv_tree.specs.declared.nodes.NodeId.{NodeId}
 use Rattle.pv_tree.specs.declared.unit.Row.{Row}
 use Rattle.pv_tree.specs.Syntax.{Tree}
 use Rattle.pv_tree.specs.Measures.{tree_depth}
-use Rattle.pv_tree.specs.Tables.{Forest, Tables, tree_at, is_external, Has}
+use Rattle.pv_tree.specs.Tables.{Forest, Tables, is_external, Has}
 use Rattle.pv_tree.specs.Nodes.{tree_of, HasChildren}
 
 -- each tree is made of those before it

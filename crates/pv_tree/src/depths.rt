@@ -1,5 +1,5 @@
 //! The depth that the tree of a new node has.
-ghost use Rattle.std.specs.Prelude.{◌≡◌, ◌<◌, ◌≤◌, ◌+◌, ◌-◌, ◌^◌, length, ℕ};
+ghost use Rattle.std.specs.Prelude.{◌≡◌, ◌<◌, ◌≤◌, ◌+◌, ◌-◌, ◌^◌, length, max, ℕ};
 ghost use Rattle.pv_tree.specs.Tables.{trees_at, arguments_at, optional_at, expression_at, declaration_at, declarator_at, statement_at, list_at, is_expression, is_declaration, is_declarator, is_statement, Is, Has, HasList, IsThere, AreThere};
 ghost use Rattle.pv_tree.specs.Rows.{tables};
 ghost use Rattle.pv_tree.specs.Syntax.{Tree};
@@ -226,6 +226,18 @@ impl Unit {
         }
     }
 
+    // The depth of the deepest of the condition, the step and the body of a `for`.
+    fn loop_depth(&self, condition: Option<NodeId>, step: Option<NodeId>, body: NodeId) -> u32
+        requires condition { IsThere (tables self.now).forest condition }
+        requires step { IsThere (tables self.now).forest step }
+        requires body { Is (tables self.now) is_statement body }
+        ensures value { result ≡ max (optional_depth (optional_at (tables self.now).forest condition)) (max (optional_depth (optional_at (tables self.now).forest step)) (statement_depth (statement_at (tables self.now).forest body))) }
+        ensures bounded { result ≤ length (tables self.now).forest.trees }
+    {
+        self.optional_at(condition)
+            .max(self.optional_at(step).max(self.statement_at(body)))
+    }
+
     #[tactic(auto, using(crate::proofs::Deepening::list_there, crate::proofs::Deepening::optional_there))]
     fn stmt_depth(&self, s: Stmt) -> u32
         requires children { HasStmtChildren (tables self.now).forest (length (tables self.now).forest.trees) s }
@@ -250,19 +262,20 @@ impl Unit {
                 condition,
                 step,
                 body,
-            } => self.optional_at(first).max(
-                self.optional_at(condition)
-                    .max(self.optional_at(step).max(self.statement_at(body))),
-            ) + 1,
+            } => self
+                .optional_at(first)
+                .max(self.loop_depth(condition, step, body))
+                + 1,
             Stmt::ForDeclaration {
                 declaration,
                 condition,
                 step,
                 body,
-            } => self.declaration_at(declaration).max(
-                self.optional_at(condition)
-                    .max(self.optional_at(step).max(self.statement_at(body))),
-            ) + 1,
+            } => {
+                self.declaration_at(declaration)
+                    .max(self.loop_depth(condition, step, body))
+                    + 1
+            }
             Stmt::Labelled { labels, statement } => self
                 .list_at(labels)
                 .max(self.statement_at(statement)),
