@@ -6,7 +6,7 @@ use Rattle.pv_lex.specs.declared.token_table.TokenKind.TheVariants as kind
 use Rattle.pv_lex.specs.declared.words.Word.{Word}
 use Rattle.pv_lex.specs.declared.words.Word.TheVariants as word
 use Rattle.pv_tree.specs.Syntax.{ExpressionTree, Name, Number, Character, Text, Paren, Index, Call, Member, Arrow, PostIncrement, PostDecrement, PreIncrement, PreDecrement, Unary, SizeofExpr, SizeofType, Cast, Binary, Conditional, Assign, Comma, ArgumentTrees, NoArguments, Argument, DeclarationTree}
-use Rattle.pv_tree.specs.Measures.{expression_depth}
+use Rattle.pv_tree.specs.Depths.{expression_depth}
 use Rattle.pv_tree.specs.Levels.{binary_rank, rank}
 use Rattle.pv_tree.specs.Spelling.{expression_tokens, arguments_tokens, declaration_tokens, before_argument}
 

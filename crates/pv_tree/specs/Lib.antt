@@ -1,7 +1,9 @@
 pub mod Syntax
-pub mod Measures
+pub mod Depths
+pub mod Lines
 pub mod Tables
 pub mod Nodes
+pub mod Children
 pub mod Rows
 pub mod Levels
 pub mod Spelling

@@ -1,4 +1,4 @@
--- What a node stands for, by what its children stand for, and which children it may have.
+-- What a node stands for, by what its children stand for.
 use Rattle.std.specs.Prelude.{ℕ}
 use Rattle.pv_lex.specs.declared.words.Word.TheVariants as word
 use Rattle.pv_tree.specs.declared.nodes.Expr.{Expr}
@@ -16,7 +16,7 @@ use Rattle.pv_tree.specs.declared.nodes.Stmt.TheVariants as stmt
 use Rattle.pv_tree.specs.declared.nodes.Node.{Node}
 use Rattle.pv_tree.specs.declared.nodes.Node.TheVariants as node
 use Rattle.pv_tree.specs.Syntax.{ExpressionTree, Name, Number, Character, Text, Paren, Index, Call, Member, Arrow, PostIncrement, PostDecrement, PreIncrement, PreDecrement, Unary, SizeofExpr, SizeofType, Cast, Binary, Conditional, Assign, Comma, DeclarationTree, Function, Declaration, InitDeclarator, MemberDeclaration, Enumerator, Parameter, TypeName, DeclaratorTree, DeclaredName, ParenDeclarator, Pointer, Array, FunctionDeclarator, AbstractParen, AbstractPointer, AbstractArray, AbstractFunction, SpecifierTree, Keyword, Composite, Enumeration, Tag, TypedefName, InitializerTree, Initial, Braces, StatementTree, Block, ExpressionStatement, If, IfElse, While, DoWhile, For, ForDeclaration, Switch, SwitchBlock, Labelled, Case, Default, Break, Continue, Return, Tree, OfExpression, OfDeclaration, OfDeclarator, OfSpecifier, OfInitializer, OfStatement}
-use Rattle.pv_tree.specs.Tables.{Forest, expression_at, declaration_at, declarator_at, statement_at, trees_at, arguments_at, optional_at, is_expression, is_declaration, is_declarator, is_specifier, is_initializer, is_statement, is_item, Has, HasOptional, HasList}
+use Rattle.pv_tree.specs.Tables.{Forest, expression_at, declaration_at, declarator_at, statement_at, trees_at, arguments_at, optional_at}
 
 abbrev pub expression_of : Forest → (line : ℕ) → Expr → ExpressionTree
 expression_of f line (expr.Name n) = Name line n
@@ -112,99 +112,3 @@ tree_of f line (node.Declarator x) = OfDeclarator (declarator_of f line x)
 tree_of f line (node.Spec x) = OfSpecifier (specifier_of f line x)
 tree_of f line (node.Init x) = OfInitializer (initializer_of f line x)
 tree_of f line (node.Stmt x) = OfStatement (statement_of f line x)
-
--- the children are numbers below count, of the kinds that their places have
-
-abbrev pub HasExprChildren : Forest → (count : ℕ) → Expr → Type 0
-HasExprChildren f count (expr.Name n) = Unit {0}
-HasExprChildren f count (expr.Number value decimal unsigned longs) = Unit {0}
-HasExprChildren f count (expr.Character value) = Unit {0}
-HasExprChildren f count (expr.Text first more) = Unit {0}
-HasExprChildren f count (expr.Paren a) = Has f count is_expression a
-HasExprChildren f count (expr.Index a i) = (Has f count is_expression a) × (Has f count is_expression i)
-HasExprChildren f count (expr.Call callee arguments) = (Has f count is_expression callee) × (HasList f count is_expression arguments)
-HasExprChildren f count (expr.Member a n) = Has f count is_expression a
-HasExprChildren f count (expr.Arrow a n) = Has f count is_expression a
-HasExprChildren f count (expr.PostIncrement a) = Has f count is_expression a
-HasExprChildren f count (expr.PostDecrement a) = Has f count is_expression a
-HasExprChildren f count (expr.PreIncrement a) = Has f count is_expression a
-HasExprChildren f count (expr.PreDecrement a) = Has f count is_expression a
-HasExprChildren f count (expr.Unary op a) = Has f count is_expression a
-HasExprChildren f count (expr.SizeofExpr a) = Has f count is_expression a
-HasExprChildren f count (expr.SizeofType type) = Has f count is_declaration type
-HasExprChildren f count (expr.Cast type a) = (Has f count is_declaration type) × (Has f count is_expression a)
-HasExprChildren f count (expr.Binary op a b) = (Has f count is_expression a) × (Has f count is_expression b)
-HasExprChildren f count (expr.Conditional a b c) = (Has f count is_expression a) × (Has f count is_expression b) × (Has f count is_expression c)
-HasExprChildren f count (expr.Assign op a b) = (Has f count is_expression a) × (Has f count is_expression b)
-HasExprChildren f count (expr.Comma a b) = (Has f count is_expression a) × (Has f count is_expression b)
-
-abbrev pub HasDeclChildren : Forest → (count : ℕ) → Decl → Type 0
-HasDeclChildren f count (decl.Function specs declarator block) = (HasList f count is_specifier specs) × (Has f count is_declarator declarator) × (Has f count is_statement block)
-HasDeclChildren f count (decl.Declaration specs declared) = (HasList f count is_specifier specs) × (HasList f count is_declaration declared)
-HasDeclChildren f count (decl.InitDeclarator declarator init) = (Has f count is_declarator declarator) × (HasOptional f count is_initializer init)
-HasDeclChildren f count (decl.Member specs declarators) = (HasList f count is_specifier specs) × (HasList f count is_declarator declarators)
-HasDeclChildren f count (decl.Enumerator n value) = HasOptional f count is_expression value
-HasDeclChildren f count (decl.Parameter specs declarator) = (HasList f count is_specifier specs) × (HasOptional f count is_declarator declarator)
-HasDeclChildren f count (decl.TypeName specs declarator) = (HasList f count is_specifier specs) × (HasOptional f count is_declarator declarator)
-
-abbrev pub HasDeclaratorChildren : Forest → (count : ℕ) → Declarator → Type 0
-HasDeclaratorChildren f count (declarator_node.Name n) = Unit {0}
-HasDeclaratorChildren f count (declarator_node.Paren d) = Has f count is_declarator d
-HasDeclaratorChildren f count (declarator_node.Pointer consts d) = Has f count is_declarator d
-HasDeclaratorChildren f count (declarator_node.Array d size) = (Has f count is_declarator d) × (HasOptional f count is_expression size)
-HasDeclaratorChildren f count (declarator_node.Function d parameters variadic) = (Has f count is_declarator d) × (HasList f count is_declaration parameters)
-HasDeclaratorChildren f count (declarator_node.AbstractParen d) = Has f count is_declarator d
-HasDeclaratorChildren f count (declarator_node.AbstractPointer consts d) = HasOptional f count is_declarator d
-HasDeclaratorChildren f count (declarator_node.AbstractArray d size) = (HasOptional f count is_declarator d) × (HasOptional f count is_expression size)
-HasDeclaratorChildren f count (declarator_node.AbstractFunction d parameters variadic) = (HasOptional f count is_declarator d) × (HasList f count is_declaration parameters)
-
-abbrev pub HasSpecChildren : Forest → (count : ℕ) → Spec → Type 0
-HasSpecChildren f count spec.Typedef = Unit {0}
-HasSpecChildren f count spec.Extern = Unit {0}
-HasSpecChildren f count spec.Static = Unit {0}
-HasSpecChildren f count spec.Const = Unit {0}
-HasSpecChildren f count spec.Void = Unit {0}
-HasSpecChildren f count spec.Char = Unit {0}
-HasSpecChildren f count spec.Short = Unit {0}
-HasSpecChildren f count spec.Int = Unit {0}
-HasSpecChildren f count spec.Long = Unit {0}
-HasSpecChildren f count spec.Signed = Unit {0}
-HasSpecChildren f count spec.Unsigned = Unit {0}
-HasSpecChildren f count spec.Bool = Unit {0}
-HasSpecChildren f count (spec.Struct tag members) = HasList f count is_declaration members
-HasSpecChildren f count (spec.StructTag n) = Unit {0}
-HasSpecChildren f count (spec.Union tag members) = HasList f count is_declaration members
-HasSpecChildren f count (spec.UnionTag n) = Unit {0}
-HasSpecChildren f count (spec.Enum tag enumerators comma) = HasList f count is_declaration enumerators
-HasSpecChildren f count (spec.EnumTag n) = Unit {0}
-HasSpecChildren f count (spec.TypedefName n) = Unit {0}
-
-abbrev pub HasInitChildren : Forest → (count : ℕ) → Init → Type 0
-HasInitChildren f count (init_node.Expr a) = Has f count is_expression a
-HasInitChildren f count (init_node.Braces inits comma) = HasList f count is_initializer inits
-
-abbrev pub HasStmtChildren : Forest → (count : ℕ) → Stmt → Type 0
-HasStmtChildren f count (stmt.Block items) = HasList f count is_item items
-HasStmtChildren f count (stmt.Expr a) = HasOptional f count is_expression a
-HasStmtChildren f count (stmt.If a body) = (Has f count is_expression a) × (Has f count is_statement body)
-HasStmtChildren f count (stmt.IfElse a body other) = (Has f count is_expression a) × (Has f count is_statement body) × (Has f count is_statement other)
-HasStmtChildren f count (stmt.While a body) = (Has f count is_expression a) × (Has f count is_statement body)
-HasStmtChildren f count (stmt.DoWhile body a) = (Has f count is_statement body) × (Has f count is_expression a)
-HasStmtChildren f count (stmt.For first condition step body) = (HasOptional f count is_expression first) × (HasOptional f count is_expression condition) × (HasOptional f count is_expression step) × (Has f count is_statement body)
-HasStmtChildren f count (stmt.ForDeclaration declaration condition step body) = (Has f count is_declaration declaration) × (HasOptional f count is_expression condition) × (HasOptional f count is_expression step) × (Has f count is_statement body)
-HasStmtChildren f count (stmt.Switch a block) = (Has f count is_expression a) × (Has f count is_statement block)
-HasStmtChildren f count (stmt.SwitchBlock items) = HasList f count is_item items
-HasStmtChildren f count (stmt.Labelled labels statement) = (HasList f count is_statement labels) × (Has f count is_statement statement)
-HasStmtChildren f count (stmt.Case a) = Has f count is_expression a
-HasStmtChildren f count stmt.Default = Unit {0}
-HasStmtChildren f count stmt.Break = Unit {0}
-HasStmtChildren f count stmt.Continue = Unit {0}
-HasStmtChildren f count (stmt.Return a) = HasOptional f count is_expression a
-
-abbrev pub HasChildren : Forest → (count : ℕ) → Node → Type 0
-HasChildren f count (node.Expr x) = HasExprChildren f count x
-HasChildren f count (node.Decl x) = HasDeclChildren f count x
-HasChildren f count (node.Declarator x) = HasDeclaratorChildren f count x
-HasChildren f count (node.Spec x) = HasSpecChildren f count x
-HasChildren f count (node.Init x) = HasInitChildren f count x
-HasChildren f count (node.Stmt x) = HasStmtChildren f count x
