@@ -3,6 +3,7 @@ int y = 2;
 
 int main(void) {
   int *p = &x;
-  *p = 5;
+  int *q = p + 0;
+  *q = 5;
   return x + y;
 }
