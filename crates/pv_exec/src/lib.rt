@@ -4,8 +4,6 @@
 mod machine;
 mod running;
 mod starter;
-#[cfg(test)]
-mod tests;
 
 pub use running::{Outcome, Ran, run};
 pub use starter::terms::{ObjectType, Program, StaticObject, Term, TypedLocal, TypedStatement};

@@ -24,6 +24,3 @@ pub use lexing::{exactly_one, longest, tokens};
 pub use marks::Mark;
 pub use token_table::{Token, TokenKind, Tokens};
 pub use words::Word;
-
-#[cfg(test)]
-mod tests;

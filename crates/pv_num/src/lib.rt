@@ -6,8 +6,6 @@
 mod faults;
 mod kinds;
 mod operators;
-#[cfg(test)]
-mod tests;
 
 pub use faults::{Clause, Fault, Reason};
 pub use kinds::{IntKind, convert, fits};

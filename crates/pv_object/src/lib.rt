@@ -4,8 +4,6 @@
 mod encoding;
 mod instance;
 mod memory;
-#[cfg(test)]
-mod tests;
 mod values;
 
 pub use memory::Memory;

@@ -15,6 +15,3 @@ pub use operators::{AssignOperator, BinaryOperator, UnaryOperator};
 pub use pv_lex::NoMemory;
 pub use reader::{NoTypes, TypeReader};
 pub use unit::Unit;
-
-#[cfg(test)]
-mod tests;

@@ -1,5 +1,3 @@
-pub mod GainsLemmas
-pub mod ReadingLemmas
 pub mod WordsLemmas
 pub mod ComesLemmas
 pub mod JudgedLemmas

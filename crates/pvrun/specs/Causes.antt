@@ -1,7 +1,7 @@
 -- What one call of the program owes to whoever looks at its files, its output and its report: which status comes when,
 -- what was written then, and what may have failed. C17 leaves the outside of a program to its implementation (5.1.2.3p7).
 use Rattle.std.specs.Prelude.{◌≡◌, ◌≢◌, ◌⊎◌, ℕ, List, [], Option, Some, None, IsSome, IsNone, Any}
-use Rattle.pvrun.specs.Outside.{Rose, Gains, GainsPrefix}
+use Rattle.pv_script.specs.Outside.{Rose, Gains, GainsPrefix}
 use Rattle.pvrun.specs.Words.{Job, job, files_of}
 use Rattle.pvrun.specs.Report.{fault_line}
 use Rattle.pvrun.specs.Answer.{Answer, SomeAnswer, EachAnswer}

@@ -1,4 +1,3 @@
-pub mod Outside
 pub mod Words
 pub mod Verdicts
 pub mod Comes
@@ -6,5 +5,3 @@ pub mod Judged
 pub mod Report
 pub mod Answer
 pub mod Causes
-pub mod Memory
-pub mod Disk

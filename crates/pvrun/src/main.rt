@@ -4,21 +4,14 @@
 //! and sinks it is handed: it reads the words, reads the source, judges it, and reports.
 #![tactic(auto)]
 
-mod calm;
-mod disk;
+mod error;
 mod judging;
-mod memory;
-mod outside;
-mod reading;
 mod report;
 mod serving;
 mod words;
-mod writing;
 
-pub use calm::{CalmFiles, CalmSink};
-pub use disk::{DiskFiles, Printed};
-pub use memory::{MemFiles, MemSink};
-pub use outside::{Failed, Files, NoMemory, Sink};
+pub use error::NoMemory;
+use pv_script::{DiskFiles, Printed};
 pub use serving::{serve, serve_calmly};
 use std::alloc::Global;
 use std::process::ExitCode;

@@ -1,17 +1,15 @@
 // The top call: what one call of the program does from its words to its status.
 ghost use Rattle.std.specs.Prelude.{◌≡◌, ◌≢◌, ◌⊎◌, ◌≤◌, ◌<◌, ℕ, [], List, Some, IsNone};
-ghost use Rattle.pvrun.specs.Outside.{Rose, Gains, GainsPrefix};
+ghost use Rattle.pv_script.specs.Outside.{Rose, Gains, GainsPrefix};
 ghost use Rattle.pvrun.specs.Words.{texts, job as job_of};
 ghost use Rattle.pvrun.specs.Answer.{SomeVerdict, SomeAnswer};
 ghost use Rattle.pvrun.specs.Causes.{Call, Sunk, Served, IsAnswer};
-ghost use Rattle.pvrun.specs.Memory.{calm_held, calm_written};
+ghost use Rattle.pv_script.specs.Memory.{calm_held, calm_written};
 
 use crate::judging::{SOURCE_LIMIT, judge};
-use crate::reading::{ReadError, read_all};
 use crate::report::{line, status};
 use crate::words::job;
-use crate::writing::write_all;
-use crate::{CalmFiles, CalmSink, Files, Sink};
+use pv_script::{CalmFiles, CalmSink, Files, ReadError, Sink, read_all, write_all};
 use std::alloc::Global;
 
 const NO_JOB: u8 = 10;

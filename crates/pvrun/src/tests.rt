@@ -1,4 +1,5 @@
 use super::*;
+use pv_script::{CalmFiles, CalmSink, MemFiles, MemSink};
 use std::fmt::Write;
 use std::process::Abort;
 use std::test::*;
@@ -302,33 +303,6 @@ fn padded(alloc: Global, spaces: usize) -> Result<Vec<u8>, NoMemory> {
     let padding = vec![in alloc; b' '; spaces]?;
     source.extend_from_slice(padding.as_slice())?;
     Ok(source)
-}
-
-#[test]
-fn a_calm_sink_keeps_its_room(rt: HostRuntime) -> Result<(), Fail> {
-    let mut sink = CalmSink::new(rt.alloc(), 3)?;
-    assert_eq!(rt; sink.write(b"ab")?, 2);
-    assert_eq!(rt; sink.write(b"cd")?, 2);
-    assert_eq!(rt; sink.bytes(), b"abc".as_slice());
-    Ok(())
-}
-
-#[test]
-fn real_files_are_read(rt: HostRuntime) -> Result<(), Fail> {
-    std::fs::write(&rt, "a.c", "abc")?;
-    let mut files = DiskFiles::new(&rt);
-    let mut into = [0u8; 8];
-    assert_eq!(rt; files.read("a.c", 1, &mut into)?, 2);
-    assert_eq!(rt; into[0], b'b');
-    assert_eq!(rt; files.read("b.c", 0, &mut into), Err(Failed));
-    Ok(())
-}
-
-#[test]
-fn real_output_is_written(rt: HostRuntime) -> Result<(), Fail> {
-    let mut out = Printed::new(io::writer(&rt));
-    assert_eq!(rt; out.write(b"words\n")?, 6);
-    Ok(())
 }
 
 // The status and the report, over files and sinks that do not fail.

@@ -1,5 +1,5 @@
 use Rattle.std.proofs.Common.{inl, inr}
-use Rattle.pvrun.proofs.GainsLemmas.{gains_nothing, prefix_nothing}
+use Rattle.pv_script.proofs.GainsLemmas.{gains_nothing, prefix_nothing}
 use Rattle.pvrun.proofs.CausesLemmas.{is_read, served_by_run}
 use Rattle.pvrun.proofs.serving.serve.Goals as goal
 

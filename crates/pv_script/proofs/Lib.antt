@@ -1,0 +1,2 @@
+pub mod GainsLemmas
+pub mod ReadingLemmas
