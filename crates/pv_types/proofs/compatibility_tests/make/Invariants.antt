@@ -1,0 +1,10 @@
+use Rattle.std.proofs.Common.{◌≡◌, ◌<◌, ◌≤◌, length}
+use Rattle.pv_types.proofs.compatibility_tests.make.Given as goal
+
+abbrev pub invariant-loop-step : goal.invariant-loop-step
+invariant-loop-step l =
+    (l.made.t.0 < length l.types.terms)
+    × (l.made.first.0 < length l.types.terms)
+    × (l.made.second.0 < length l.types.terms)
+    × (l.types.tags ≡ l.fn.types.tags)
+    × (length l.fn.types.terms ≤ length l.types.terms)
