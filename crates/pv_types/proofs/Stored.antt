@@ -36,7 +36,7 @@ members_step : (b : Bool) (m n : ℕ) (xs ys : List Member) → (m == n) ≡ b �
 members_step true m n xs ys e ne h = absurd (ne (eqb-true m n e))
 members_step false m n xs ys e ne h = h
 
-none_in : (tags : List Stored) (done : List ℕ) (n : ℕ) → AreStored tags done → length tags ≤ n → members_in (map (done_of tags) done) n ≡ []
+pub none_in : (tags : List Stored) (done : List ℕ) (n : ℕ) → AreStored tags done → length tags ≤ n → members_in (map (done_of tags) done) n ≡ []
 none_in tags [] n h le = refl
 none_in tags (k ∷ done) n h le =
     let here : k < length tags = h.0 in

@@ -1,9 +1,10 @@
 use Rattle.std.proofs.Common.{◌<◌, ◌-◌, ◌^◌, [], ◌∷◌, ◌++◌, List, length, sym, ap, subst, arith, map, ◌∙◌}
 use Rattle.std.proofs.lemmas.List.{length-map}
 use Rattle.pv_types.specs.declared.terms.TypeId.{TypeId}
-use Rattle.pv_types.specs.Known.{Known, AllBelow, IsNoList, tree}
+use Rattle.pv_types.specs.Kept.{kept_of, AreMeasured}
+use Rattle.pv_types.specs.Known.{Known, AllBelow, IsNoList, tree, env}
 use Rattle.pv_types.specs.Shown.{shown}
-use Rattle.pv_types.proofs.Built.{built_list}
+use Rattle.pv_types.proofs.Built.{built_list, env-list}
 use Rattle.pv_types.proofs.Equal.{items_of}
 use Rattle.pv_types.proofs.Grown.{tree-list}
 use Rattle.pv_types.proofs.types.Types.params.Goals as goal
@@ -16,7 +17,9 @@ invariant_of-self-2 c =
     let Q : List TypeId → Type 0 = λ l. IsNoList (map items_of c.self.inside.lists.keys) l in
     let absent : Q c.args.list.items = subst Q c.as_slice.ensures.value c.in_default.ensures in
     let few : length (map items_of c.self.inside.lists.keys) < 2 ^ 32 - 1 = omega (arith, length-map c.self.inside.lists.keys items_of) in
-    (rw c.in_ok-add_list.ensures.keys (built_list m c.args.list.items c.self.invariant.0 all absent few), c.self.invariant.1)
+    let same = env-list m c.args.list.items c.self.invariant.0 in
+    let measured : AreMeasured (env (record m { lists = m.lists ++ (c.args.list.items ∷ []) })) (map kept_of c.self.inside.tags.items) = rw same c.self.invariant.2 in
+    (rw c.in_ok-add_list.ensures.keys (built_list m c.args.list.items c.self.invariant.0 all absent few), c.self.invariant.1, rw c.in_ok-add_list.ensures.keys measured)
 
 pub returns-clause-extends : goal.returns-clause-extends
 returns-clause-extends c =
