@@ -1,0 +1,93 @@
+use Rattle.std.proofs.Common.{◌≡◌, ◌<◌, ◌≤◌, ◌^◌, ◌*◌, ◌∙◌, ◌||◌, IsTrue, is_some, true, false, refl, sym, ap, length, arith, get_or}
+use Rattle.pv_types.specs.Known.{tree, env, named}
+use Rattle.pv_types.specs.Layouts.{layout_in, look, or_none, union_parts}
+use Rattle.pv_types.proofs.Made.{flag, made}
+use Rattle.pv_types.proofs.Peeling.{whole_array}
+use Rattle.pv_layout.specs.Parts.{some_at}
+use Rattle.pv_layout.specs.Searches.{passes}
+use Rattle.pv_layout.proofs.Ahead.{nobody}
+use Rattle.pv_layout.proofs.Below.{one_of, struct_whole, union_whole, around_start, around_next, around_hit, around_miss, around_same, inside_at, union_found}
+use Rattle.pv_layout.proofs.leaves.+found.Goals as goal
+use Rattle.pv_layout.proofs.leaves.+found.Goals.{found_in_others-then-m-main+else-found, found_in_others-else-m-main}
+
+pub below-in_array-requires-clause-small : goal.below-in_array-requires-clause-small
+below-in_array-requires-clause-small t c =
+    let m = c.args.types.now in
+    let is = rw c.in-Array-default-Some.field-1-is at c.in-Array-default-Some.ensures.tree in
+    let e = c.in-Array-default-Some.element.0 in
+    let n = c.in-Array-default-Some.n in
+    let whole = whole_array m c.args.t.0 e n c.requires.complete is in
+    let size : n * (layout_in (env m) (tree m e)).size ≤ 2 ^ 32 = rw is at c.requires.small in
+    one_of n (layout_in (env m) (tree m e)).size whole.0 size
+
+pub below-in_structure-requires-clause-structure : goal.below-in_structure-requires-clause-structure
+below-in_structure-requires-clause-structure t c =
+    let there : IsTrue (is_some (look (env c.args.types.now) c.in-Struct.tag)) = rw c.in-Struct.ensures.tree at c.requires.complete in
+    flag c.args.types.now c.in-Struct.tag c.in-Struct.ensures.built there ∙ c.in-Struct.ensures.tagged.1
+
+pub below-in_union-requires : goal.below-in_union-requires
+below-in_union-requires t c =
+    let m = c.args.types.now in
+    let is = c.in-Union.ensures.tree in
+    let there : IsTrue (is_some (look (env m) c.in-Union.tag)) = rw is at c.requires.complete in
+    let deep : (layout_in (env m) (tree m c.args.t.0)).height ≡ (or_none (look (env m) c.in-Union.tag)).height = ap (λ x. (layout_in (env m) x).height) is in
+    let small : (or_none (look (env m) c.in-Union.tag)).size ≤ 2 ^ 32 = rw is at c.requires.small in
+    (omega (arith, deep), (c.in-Union.ensures.tagged.0, (c.requires.wanted, (there, (flag m c.in-Union.tag c.in-Union.ensures.built there ∙ c.in-Union.ensures.tagged.1, small)))))
+
+pub below-returns-in-Struct-clause-value : goal.below-returns-in-Struct-clause-value
+below-returns-in-Struct-clause-value t c =
+    let m = c.args.types.now in
+    let f = passes m c.args.sought in
+    let there : IsTrue (is_some (look (env m) c.in-Struct.tag)) = rw c.in-Struct.ensures.tree at c.requires.complete in
+    let structure = flag m c.in-Struct.tag c.in-Struct.ensures.built there ∙ c.in-Struct.ensures.tagged.1 in
+    struct_whole m c.args.t.0 c.in-Struct.tag c.args.offset f _ c.in-Struct.ensures.built there structure c.in-Struct.ensures.tree (c.in_structure.ensures.value f)
+
+pub below-returns-in-Union-clause-value : goal.below-returns-in-Union-clause-value
+below-returns-in-Union-clause-value t c =
+    let m = c.args.types.now in
+    let f = passes m c.args.sought in
+    let there : IsTrue (is_some (look (env m) c.in-Union.tag)) = rw c.in-Union.ensures.tree at c.requires.complete in
+    let union = flag m c.in-Union.tag c.in-Union.ensures.built there ∙ c.in-Union.ensures.tagged.1 in
+    union_whole m c.args.t.0 c.in-Union.tag c.args.offset f _ c.in-Union.ensures.built there union c.in-Union.ensures.tree c.in_union.ensures.value
+
+pub found_in_others-loop-m-init : goal.found_in_others-loop-m-init
+found_in_others-loop-m-init t c = rw c.members-m-items.ensures.value (around_start c.args.types.now (passes c.args.types.now c.args.sought) c.args.tag c.args.main.0 c.args.offset c.members-m-items.ensures.built c.requires.complete c.requires.union c.requires.small)
+
+pub found_in_others-returns-then-found : goal.found_in_others-returns-then-found
+found_in_others-returns-then-found t c =
+    let lt : c.loop-m.m-index < length c.members-m-items.result.now = omega arith in
+    around_hit c.args.types.now (passes c.args.types.now c.args.sought) c.args.tag c.args.main.0 c.args.offset c.loop-m.m-index c.members-m-items.result.now nobody lt c.loop-m.invariant (sym c.found.ensures ∙ c.if-found.true)
+
+pub found_in_others-loop-m-preserved : goal.found_in_others-loop-m-preserved
+found_in_others-loop-m-preserved t c =
+    let lt : c.loop-m.m-index < length c.members-m-items.result.now = omega arith in
+    elim c.if-m-main.branch [
+      | found_in_others-then-m-main+else-found w ↦ around_miss c.args.types.now (passes c.args.types.now c.args.sought) c.args.tag c.args.main.0 c.args.offset c.loop-m.m-index c.members-m-items.result.now nobody lt c.loop-m.invariant (sym w.found.ensures ∙ w.if-found.false)
+      | found_in_others-else-m-main w ↦ around_same c.args.types.now (passes c.args.types.now c.args.sought) c.args.tag c.args.main.0 c.args.offset c.loop-m.m-index c.members-m-items.result.now nobody lt c.loop-m.invariant w.if-m-main.false
+    ]
+
+pub in_union-last_deep-requires-clause-known : goal.in_union-last_deep-requires-clause-known
+in_union-last_deep-requires-clause-known t c = rw c.members-members.ensures.value (made c.args.types.now c.args.tag c.members-members.ensures.built c.requires.complete).known
+
+pub in_union-returns-then-found_in_others-clause-value : goal.in_union-returns-then-found_in_others-clause-value
+in_union-returns-then-found_in_others-clause-value t c =
+    let m = c.args.types.now in
+    let f = passes m c.args.sought in
+    let main = (get_or c.members-members.result.now c.last_deep.result nobody).t.0 in
+    union_found m f c.args.tag c.args.offset c.last_deep.result c.members-members.result.now nobody main true c.last_deep.ensures c.members-members.ensures.value refl
+    (ap (λ b. b || some_at f c.args.offset (layout_in (env m) (tree m main)).parts) (sym c.if-found_in_others.true) ∙ c.found_in_others.ensures)
+
+pub in_union-returns-else-found_in_others-clause-value : goal.in_union-returns-else-found_in_others-clause-value
+in_union-returns-else-found_in_others-clause-value t c =
+    let m = c.args.types.now in
+    let f = passes m c.args.sought in
+    let main = (get_or c.members-members.result.now c.last_deep.result nobody).t.0 in
+    union_found m f c.args.tag c.args.offset c.last_deep.result c.members-members.result.now nobody main false c.last_deep.ensures c.members-members.ensures.value refl
+    (ap (λ b. b || some_at f c.args.offset (layout_in (env m) (tree m main)).parts) (sym c.if-found_in_others.false) ∙ c.found_in_others.ensures)
+
+pub in_union-returns-else-found_in_others-clause-below : goal.in_union-returns-else-found_in_others-clause-below
+in_union-returns-else-found_in_others-clause-below t c =
+    let m = c.args.types.now in
+    let all = around_start m (passes m c.args.sought) c.args.tag 0 c.args.offset c.members-members.ensures.built c.requires.complete c.requires.union c.requires.small in
+    let n = inside_at m (passes m c.args.sought) c.args.tag 0 c.args.offset c.last_deep.result c.members-members.result.now nobody c.last_deep.ensures (rw c.members-members.ensures.value all) in
+    (n.known, n.complete, n.small, n.lower)

@@ -1,0 +1,27 @@
+use Rattle.std.proofs.Common.{◌+◌, ◌*◌, drop}
+use Rattle.pv_types.specs.Known.{tree, env}
+use Rattle.pv_types.specs.Layouts.{layout_in, look, or_none}
+use Rattle.pv_layout.specs.Searches.{passes}
+use Rattle.pv_layout.proofs.Below.{Around, Descent}
+use Rattle.pv_layout.proofs.leaves.+found.Given as goal
+
+abbrev pub decreases-found : goal.decreases-found
+decreases-found l = (layout_in (env l.types.now) (tree l.types.now l.t.0)).height * 4 + 3
+
+abbrev pub decreases-below : goal.decreases-below
+decreases-below l = (layout_in (env l.types.now) (tree l.types.now l.t.0)).height * 4 + 2
+
+abbrev pub decreases-in_union : goal.decreases-in_union
+decreases-in_union l = (or_none (look (env l.types.now) l.tag)).height * 4 + 1
+
+abbrev pub decreases-found_in_others : goal.decreases-found_in_others
+decreases-found_in_others l = (or_none (look (env l.types.now) l.tag)).height * 4
+
+abbrev pub invariant-found-loop-sought : goal.invariant-found-loop-sought
+invariant-found-loop-sought l = Descent l.types (passes l.types l.sought) l.fn.t.0 l.fn.offset l.at.0 l.rest
+
+abbrev pub decreases-found-loop-sought : goal.decreases-found-loop-sought
+decreases-found-loop-sought l = (layout_in (env l.types) (tree l.types l.at.0)).height
+
+abbrev pub invariant-found_in_others-loop-m : goal.invariant-found_in_others-loop-m
+invariant-found_in_others-loop-m l = Around l.types (passes l.types l.sought) l.tag l.main.0 l.offset (drop l.m-index l.m-items)
