@@ -1,3 +1,5 @@
 pub mod Ahead
 pub mod Below
+pub mod Fresh
 pub mod PartLaws
+pub mod Suits

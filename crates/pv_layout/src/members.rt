@@ -44,6 +44,7 @@ pub(crate) fn next_place(types: &Types, end: u64, t: TypeId) -> Place
 pub(crate) fn bare(types: &Types, t: TypeId) -> TypeId
     requires { t.0 < length types.now.terms }
     ensures known { result.0 < length types.now.terms }
+    ensures earlier { result.0 ≤ t.0 }
     ensures tree { tree types.now result.0 ≡ bare (tree types.now t.0) }
     ensures built { IsBuilt types.now }
 {

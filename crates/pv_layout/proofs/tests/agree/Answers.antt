@@ -1,0 +1,11 @@
+use Rattle.std.proofs.Common.{length}
+use Rattle.pv_layout.proofs.Fresh.{below_more, below_push}
+use Rattle.pv_layout.proofs.tests.agree.Goals as goal
+
+pub compare_members-requires-clause-ids : goal.compare_members-requires-clause-ids
+compare_members-requires-clause-ids g c =
+    rw c.as_slice-in-loop-row.ensures.value (below_more (length c.loop-row.types.terms) (length c.add.new.types.terms) c.loop-row.ids.items c.loop-row.invariant c.in_ok-t.ensures.more)
+
+pub loop-row-preserved : goal.loop-row-preserved
+loop-row-preserved g c =
+    rw c.in_ok-push.ensures.items (below_push (length c.loop-row.types.terms) (length c.add.new.types.terms) c.loop-row.ids.items c.in_ok-t.t c.loop-row.invariant c.in_ok-t.ensures.more c.in_ok-t.ensures.known)
