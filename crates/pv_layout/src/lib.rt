@@ -6,8 +6,6 @@
 mod leaves;
 mod members;
 mod sizes;
-#[cfg(test)]
-mod tests;
 mod wanted;
 
 pub use leaves::{leaf_at, part_at};

@@ -1,6 +1,6 @@
 use Rattle.std.proofs.Common.{length}
 use Rattle.pv_types.specs.Known.{AllBelow}
-use Rattle.pv_layout.proofs.tests.agree.Given as goal
+use Rattle.pv_types_tests.proofs.layouts.agree.Given as goal
 
 abbrev pub invariant-loop-row : goal.invariant-loop-row
 invariant-loop-row g l = AllBelow (length l.types.terms) l.ids.items

@@ -1,7 +1,7 @@
 // Sizes, alignments and offsets are what gcc gives for x86-64 (`sizeof`, `_Alignof`, `offsetof`). What stands where comes
 // from a slow reader of types in another language, which lists all parts.
-use crate::tests::Made::{Array, Const, Int, Pointer, Structure, Union};
-use crate::tests::{Question, Row};
+use crate::layouts::Made::{Array, Const, Int, Pointer, Structure, Union};
+use crate::layouts::{Question, Row};
 use pv_num::IntKind;
 
 /// Types, each made of earlier ones, with their sizes and alignments.

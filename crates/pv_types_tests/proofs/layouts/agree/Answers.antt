@@ -1,6 +1,6 @@
 use Rattle.std.proofs.Common.{length}
-use Rattle.pv_layout.proofs.Fresh.{below_more, below_push}
-use Rattle.pv_layout.proofs.tests.agree.Goals as goal
+use Rattle.pv_types_tests.proofs.Fresh.{below_more, below_push}
+use Rattle.pv_types_tests.proofs.layouts.agree.Goals as goal
 
 pub compare_members-requires-clause-ids : goal.compare_members-requires-clause-ids
 compare_members-requires-clause-ids g c =

@@ -4,7 +4,7 @@ ghost use Rattle.std.specs.Prelude.{◌≡◌, ◌<◌, ◌≤◌, ◌∷◌, []
 ghost use Rattle.pv_types.specs.Known.{AllBelow, MembersBelow, NamesDiffer, named_in, trees, tree, env};
 ghost use Rattle.pv_types.specs.Layouts.{AreComplete, is_complete_in};
 
-use crate::{align, leaf_at, measure, member, part_at, size};
+use pv_layout::{align, leaf_at, measure, member, part_at, size};
 use pv_num::IntKind;
 use pv_types::{Member, Term, TypeId, Types};
 use std::alloc::Global;
@@ -142,7 +142,10 @@ fn compare_members(rt: &impl Abort, types: &Types, ids: &[TypeId], t: TypeId, ma
     assert!(rt; types.is_complete(t) && measure(types, t).is_some());
     for i in 0..placed.len() {
         let (of, offset) = placed[i];
-        assert_eq!(rt; member(types, t, i as u32), Some((offset, at(rt, types, ids, of))));
+        assert_eq!(rt;
+            member(types, t, i as u32),
+            Some((offset, at(rt, types, ids, of)))
+        );
     }
     assert_eq!(rt; member(types, t, 100), None);
 }
@@ -164,17 +167,20 @@ fn ask(rt: &impl Abort, types: &Types, ids: &[TypeId], question: Question)
     let t = at(rt, types, ids, question.0);
     let want = at(rt, types, ids, question.2);
     assert!(rt; types.is_complete(t) && measure(types, t).is_some());
-    assert_eq!(rt; leaf_at(types, t, question.1, want), question.3, "{question:?}");
-    assert_eq!(rt; part_at(types, t, question.1, want), question.4, "{question:?}");
+    assert_eq!(rt;
+        leaf_at(types, t, question.1, want),
+        question.3,
+        "{question:?}"
+    );
+    assert_eq!(rt;
+        part_at(types, t, question.1, want),
+        question.4,
+        "{question:?}"
+    );
 }
 
 /// Makes the types of the rows, and asks the questions of them.
-fn agree(
-    rt: &impl Abort,
-    alloc: Global,
-    rows: &[Row],
-    questions: &[Question],
-) -> Result<(), Fail> {
+fn agree(rt: &impl Abort, alloc: Global, rows: &[Row], questions: &[Question]) -> Result<(), Fail> {
     let mut types = Types::new(alloc)?;
     let mut ids = Vec::new(alloc);
     for row in rows {

@@ -1,9 +1,8 @@
 // Pairs of types, with what C17 6.2.7, 6.7.3 and 6.7.6 say of them.
 ghost use Rattle.std.specs.Prelude.{◌≡◌, ◌<◌, ◌≤◌, ◌∷◌, [], false, true, None, length, IfOk, OnOk};
 
-use crate::terms::{NoMemory, Term, TypeId};
-use crate::types::Types;
 use pv_num::IntKind;
+use pv_types::{NoMemory, Term, TypeId, Types};
 use std::alloc::Global;
 use std::test::Fail;
 

@@ -1,0 +1,7 @@
+//! What no clause says of trees: that the grammar is that of other readers of C.
+//!
+//! Each public call of the table of nodes and of the reader of expressions runs here once at least.
+#![tactic(auto)]
+
+#[cfg(test)]
+mod nodes;
