@@ -1,13 +1,11 @@
 -- The members of a structure that lie ahead, from where the one before them ends.
-use Rattle.std.proofs.Common.{◌≡◌, ◌≢◌, ℕ, suc, ◌+◌, ◌<◌, ◌≤◌, ◌^◌, max, Bool, true, false, IsTrue, List, [], ◌∷◌, Some, None, length, drop, drop-cons, get_or, add-one, refl, sym, ◌∙◌, ap, subst, arith, is_some}
-use Rattle.std.proofs.Math.ListN.{drop_of_length-le}
-use Rattle.std.specs.declared.option.Option.{Option}
+use Rattle.std.proofs.Common.{◌≡◌, ◌≢◌, ℕ, suc, ◌+◌, ◌<◌, ◌≤◌, ◌^◌, max, false, IsTrue, List, [], ◌∷◌, length, drop, drop-cons, get_or, add-one, refl, ◌∙◌, ap, subst, arith, is_some}
 use Rattle.std.specs.Int.{next_multiple_of}
 use Rattle.pv_types.specs.declared.terms.Member.{Member}
 use Rattle.pv_types.specs.declared.terms.Term.{Term}
 use Rattle.pv_types.specs.declared.terms.Term.TheVariants.{Void, Int, Pointer, Array, Struct, Union, Function, Const}
 use Rattle.pv_types.specs.Ty.{Ty, VoidTy, IntTy, PointerTo, ArrayOf, StructTag, UnionTag, FunctionTy, ConstOf}
-use Rattle.pv_types.specs.Layouts.{Entry, Named, look, or_none, layout_in, layout_of, is_complete_in, struct_end, union_end, greatest_align, greatest_height, AreComplete}
+use Rattle.pv_types.specs.Layouts.{Entry, Named, look, or_none, layout_in, layout_of, is_complete_in, struct_end, greatest_align, greatest_height, AreComplete}
 use Rattle.pv_types.specs.Known.{Known, tree, trees, tree_in, env, named, named_in, members_in, is_union_in, MembersBelow, IsBuilt}
 use Rattle.pv_types.proofs.Fills.{struct_end-ge}
 use Rattle.pv_types.proofs.Made.{made}

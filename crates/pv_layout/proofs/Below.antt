@@ -1,17 +1,17 @@
 -- What is below a structure or union, as a search goes through the members.
-use Rattle.std.proofs.Common.{◌≡◌, ◌≢◌, ℕ, zero, suc, max, ◌+◌, ◌-◌, ◌*◌, ◌/◌, ◌%◌, ◌<◌, ◌≤◌, ◌^◌, Bool, true, false, ◌&&◌, ◌||◌, ◌==◌, nat_lt, IsTrue, List, [], ◌∷◌, Some, None, length, drop, drop-cons, get_or, add-one, refl, sym, ◌∙◌, ap, subst, arith, is_some}
+use Rattle.std.proofs.Common.{◌≡◌, ℕ, zero, suc, max, ◌+◌, ◌-◌, ◌*◌, ◌/◌, ◌%◌, ◌<◌, ◌≤◌, ◌^◌, Bool, true, false, ◌&&◌, ◌||◌, ◌==◌, IsTrue, List, [], ◌∷◌, Some, None, length, drop, drop-cons, get_or, add-one, refl, sym, ◌∙◌, ap, subst, arith, is_some}
 use Rattle.std.proofs.Math.ListN.{drop_of_length-le}
 use Rattle.std.specs.Int.{next_multiple_of}
 use Rattle.pv_types.specs.declared.terms.Member.{Member}
 use Rattle.pv_types.specs.declared.terms.Term.{Term}
 use Rattle.pv_types.specs.declared.terms.Term.TheVariants.{Void, Int, Pointer, Array, Struct, Union, Function, Const}
-use Rattle.pv_types.specs.Ty.{Ty, VoidTy, IntTy, PointerTo, ArrayOf, StructTag, UnionTag, FunctionTy, ConstOf}
-use Rattle.pv_types.specs.Layouts.{Part, Entry, Named, look, or_none, layout_in, layout_of, is_complete_in, AreComplete, union_end, greatest_align, struct_parts, union_parts, repeated, tag_type, shifted, AreWithin}
+use Rattle.pv_types.specs.Ty.{Ty, ArrayOf, StructTag, UnionTag}
+use Rattle.pv_types.specs.Layouts.{Entry, Named, look, or_none, layout_in, layout_of, is_complete_in, AreComplete, union_end, greatest_align, struct_parts, union_parts, repeated, shifted, AreWithin}
 use Rattle.pv_types.specs.Known.{Known, tree, trees, tree_in, term_at, IsTagged, env, named, named_in, members_in, is_union_in, MembersBelow, IsBuilt}
 use Rattle.pv_types.proofs.Fills.{layout_fills, union_end-ge}
 use Rattle.pv_types.proofs.Made.{made, flag}
 use Rattle.pv_layout.specs.Parts.{some_at}
-use Rattle.pv_layout.proofs.Ahead.{Ahead, ahead_start, ahead_next, next_at, nobody, AreLower, lower_from}
+use Rattle.pv_layout.proofs.Ahead.{Ahead, ahead_start, ahead_next, next_at, AreLower, lower_from}
 use Rattle.pv_layout.proofs.PartLaws.{at_repeated, lt_test, ge_test, some_at-append, some_at-shifted, some_at-before, some_at-past}
 
 -- an array: the element that holds the offset
@@ -34,8 +34,10 @@ nothing_before : (env : List Entry) (ms : List Named) (p o : ℕ) (f : Ty → Bo
 nothing_before env [] p o f lt = refl
 nothing_before env (x ∷ ms) p o f lt =
     some_at-append f o (shifted (next_multiple_of p (layout_in env x.t).align) (layout_in env x.t).parts) _
-    ∙ rw (some_at-before f (next_multiple_of p (layout_in env x.t).align) o (layout_in env x.t).parts (omega (arith, lt)),
-        nothing_before env ms (next_multiple_of p (layout_in env x.t).align + (layout_in env x.t).size) o f (omega (arith, lt))) refl
+    ∙ rw (
+      some_at-before f (next_multiple_of p (layout_in env x.t).align) o (layout_in env x.t).parts (omega (arith, lt)),
+      nothing_before env ms (next_multiple_of p (layout_in env x.t).align + (layout_in env x.t).size) o f (omega (arith, lt)),
+    ) refl
 
 or_false : (b : Bool) → (b || false) ≡ b
 or_false true = refl
@@ -46,23 +48,29 @@ member_hit : (env : List Entry) (x : Named) (ms : List Named) (p o : ℕ) (f : T
     → some_at f o (struct_parts env (x ∷ ms) p) ≡ some_at f (o - next_multiple_of p (layout_in env x.t).align) (layout_in env x.t).parts
 member_hit env x ms p o f ge lt =
     some_at-append f o (shifted (next_multiple_of p (layout_in env x.t).align) (layout_in env x.t).parts) _
-    ∙ rw (some_at-shifted f (next_multiple_of p (layout_in env x.t).align) o (layout_in env x.t).parts ge,
-        nothing_before env ms (next_multiple_of p (layout_in env x.t).align + (layout_in env x.t).size) o f lt) (or_false _)
+    ∙ rw (
+      some_at-shifted f (next_multiple_of p (layout_in env x.t).align) o (layout_in env x.t).parts ge,
+      nothing_before env ms (next_multiple_of p (layout_in env x.t).align + (layout_in env x.t).size) o f lt,
+    ) (or_false _)
 
 -- the next member ends before the offset
 member_past : (env : List Entry) (x : Named) (ms : List Named) (p o : ℕ) (f : Ty → Bool) → AreWithin (layout_in env x.t).size (layout_in env x.t).parts → next_multiple_of p (layout_in env x.t).align + (layout_in env x.t).size ≤ o
     → some_at f o (struct_parts env (x ∷ ms) p) ≡ some_at f o (struct_parts env ms (next_multiple_of p (layout_in env x.t).align + (layout_in env x.t).size))
 member_past env x ms p o f within ge =
     some_at-append f o (shifted (next_multiple_of p (layout_in env x.t).align) (layout_in env x.t).parts) _
-    ∙ rw (some_at-shifted f (next_multiple_of p (layout_in env x.t).align) o (layout_in env x.t).parts (omega (arith, ge)),
-        some_at-past f (layout_in env x.t).size (o - next_multiple_of p (layout_in env x.t).align) (layout_in env x.t).parts within (omega (arith, ge))) refl
+    ∙ rw (
+      some_at-shifted f (next_multiple_of p (layout_in env x.t).align) o (layout_in env x.t).parts (omega (arith, ge)),
+      some_at-past f (layout_in env x.t).size (o - next_multiple_of p (layout_in env x.t).align) (layout_in env x.t).parts within (omega (arith, ge)),
+    ) refl
 
 -- the next member begins behind the offset
 member_before : (env : List Entry) (x : Named) (ms : List Named) (p o : ℕ) (f : Ty → Bool) → o < next_multiple_of p (layout_in env x.t).align → some_at f o (struct_parts env (x ∷ ms) p) ≡ false
 member_before env x ms p o f lt =
     some_at-append f o (shifted (next_multiple_of p (layout_in env x.t).align) (layout_in env x.t).parts) _
-    ∙ rw (some_at-before f (next_multiple_of p (layout_in env x.t).align) o (layout_in env x.t).parts lt,
-        nothing_before env ms (next_multiple_of p (layout_in env x.t).align + (layout_in env x.t).size) o f (omega (arith, lt))) refl
+    ∙ rw (
+      some_at-before f (next_multiple_of p (layout_in env x.t).align) o (layout_in env x.t).parts lt,
+      nothing_before env ms (next_multiple_of p (layout_in env x.t).align + (layout_in env x.t).size) o f (omega (arith, lt)),
+    ) refl
 
 -- what the whole structure has at the offset is what the members ahead have
 pub record Held (m : Known) (tag p o : ℕ) (ms : List Member) : Type 0 where
@@ -78,7 +86,6 @@ front m tag p o i items d lt h = subst (λ (ms : List Member). Held m tag p o ms
 module _ (m : Known) (tag p o i start end : ℕ) (items : List Member) (d : Member) (lt : i < length items) (h : Held m tag p o (drop i items))
     (begins : start ≡ next_multiple_of p (layout_in (env m) (tree m (get_or items i d).t.0)).align)
     (ends : end ≡ start + (layout_in (env m) (tree m (get_or items i d).t.0)).size) where
-
   abbrev here : Named
   here = record { name = (get_or items i d).name; t = tree m (get_or items i d).t.0 }
 

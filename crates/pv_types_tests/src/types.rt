@@ -1,6 +1,6 @@
 // Each public call once, with values that follow from the rules of C17 6.2.5.
 use pv_num::IntKind;
-use pv_types::{Member, NoMemory, Term, TypeId, Types};
+use pv_types::{Extent, Member, NoMemory, Term, TypeId, Types};
 use std::test::Fail;
 
 #[test]
@@ -48,6 +48,11 @@ fn a_tag_is_completed_once(rt: HostRuntime) -> Result<(), Fail> {
     assert_eq!(rt; types.members(tag), [member].as_slice());
     let structure = types.intern(Term::Struct(tag))?;
     assert!(rt; types.is_complete(structure));
+    let extent = Extent {
+        size: Some(4),
+        align: 4,
+    };
+    assert_eq!(rt; types.extent(structure), extent);
     Ok(())
 }
 

@@ -1,12 +1,12 @@
 use Rattle.std.proofs.Common.{◌≡◌, ◌<◌, ◌≤◌, ◌^◌, ◌*◌, ◌∙◌, ◌||◌, IsTrue, is_some, true, false, refl, sym, ap, length, arith, get_or}
-use Rattle.pv_types.specs.Known.{tree, env, named}
-use Rattle.pv_types.specs.Layouts.{layout_in, look, or_none, union_parts}
+use Rattle.pv_types.specs.Known.{tree, env}
+use Rattle.pv_types.specs.Layouts.{layout_in, look, or_none}
 use Rattle.pv_types.proofs.Made.{flag, made}
 use Rattle.pv_types.proofs.Peeling.{whole_array}
 use Rattle.pv_layout.specs.Parts.{some_at}
 use Rattle.pv_layout.specs.Searches.{passes}
 use Rattle.pv_layout.proofs.Ahead.{nobody}
-use Rattle.pv_layout.proofs.Below.{one_of, struct_whole, union_whole, around_start, around_next, around_hit, around_miss, around_same, inside_at, union_found}
+use Rattle.pv_layout.proofs.Below.{one_of, struct_whole, union_whole, around_start, around_hit, around_miss, around_same, inside_at, union_found}
 use Rattle.pv_layout.proofs.leaves.+found.Goals as goal
 use Rattle.pv_layout.proofs.leaves.+found.Goals.{found_in_others-then-m-main+else-found, found_in_others-else-m-main}
 

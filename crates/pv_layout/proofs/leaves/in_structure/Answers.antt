@@ -1,4 +1,4 @@
-use Rattle.std.proofs.Common.{◌≡◌, ◌<◌, ◌≤◌, length, arith}
+use Rattle.std.proofs.Common.{◌<◌, length, arith}
 use Rattle.pv_layout.proofs.Ahead.{nobody, next_at}
 use Rattle.pv_layout.proofs.Below.{held_start, held_before, held_in, held_next}
 use Rattle.pv_layout.proofs.leaves.in_structure.Goals as goal

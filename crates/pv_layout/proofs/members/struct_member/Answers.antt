@@ -1,5 +1,4 @@
-use Rattle.std.proofs.Common.{◌≡◌, ◌<◌, length, refl, arith}
-use Rattle.pv_types.specs.declared.terms.Member.{Member}
+use Rattle.std.proofs.Common.{◌<◌, length, refl, arith}
 use Rattle.pv_layout.proofs.Ahead.{nobody, ahead_start, next_at}
 use Rattle.pv_layout.proofs.members.struct_member.Goals as goal
 
