@@ -58,35 +58,42 @@ pub record IsTypeName (names : Names) (type : DeclarationTree) (here : List Toke
   pub begins : begins_type names here ≡ true
   pub is : names.type_at here ≡ Some (type, drop (length (declaration_tokens type)) here)
 
--- each operand has a level that its place allows, no name is a typedef name, each type name is the one that begins at its place, and each line is
--- that of the first token. `here` are the tokens from the first one on, to the end of the source
+-- each operand has a level that its place allows, no name is a typedef name, each type name fits, and each line is that of the first token.
+-- `here` are the tokens from the first one on, to the end of the source
 abbrev mutual
-  pub Fits : Names → ExpressionTree → (here : List Token) → Type 0
-  Fits names (Name line n) here = (line ≡ line_here here) × (names.is_type n ≡ false)
-  Fits names (Number line value decimal unsigned longs) here = line ≡ line_here here
-  Fits names (Character line value) here = line ≡ line_here here
-  Fits names (Text line first more) here = line ≡ line_here here
-  Fits names (Paren line a) here = (line ≡ line_here here) × (1 ≤ rank a) × Fits names a (drop 1 here)
-  Fits names (Index line a i) here = (line ≡ line_here here) × (16 ≤ rank a) × (1 ≤ rank i) × Fits names a here × Fits names i (behind a 1 here)
-  Fits names (Call line callee arguments) here = (line ≡ line_here here) × (16 ≤ rank callee) × Fits names callee here × FitsArguments names arguments (behind callee 1 here)
-  Fits names (Member line a n) here = (line ≡ line_here here) × (16 ≤ rank a) × (names.is_type n ≡ false) × Fits names a here
-  Fits names (Arrow line a n) here = (line ≡ line_here here) × (16 ≤ rank a) × (names.is_type n ≡ false) × Fits names a here
-  Fits names (PostIncrement line a) here = (line ≡ line_here here) × (16 ≤ rank a) × Fits names a here
-  Fits names (PostDecrement line a) here = (line ≡ line_here here) × (16 ≤ rank a) × Fits names a here
-  Fits names (PreIncrement line a) here = (line ≡ line_here here) × (15 ≤ rank a) × Fits names a (drop 1 here)
-  Fits names (PreDecrement line a) here = (line ≡ line_here here) × (15 ≤ rank a) × Fits names a (drop 1 here)
-  Fits names (Unary line op a) here = (line ≡ line_here here) × (14 ≤ rank a) × Fits names a (drop 1 here)
-  Fits names (SizeofExpr line a) here = (line ≡ line_here here) × (15 ≤ rank a) × Fits names a (drop 1 here)
-  Fits names (SizeofType line type) here = (line ≡ line_here here) × IsTypeName names type (drop 2 here)
-  Fits names (Cast line type a) here = (line ≡ line_here here) × IsTypeName names type (drop 1 here) × (14 ≤ rank a) × Fits names a (drop (length (declaration_tokens type) + 2) here)
-  Fits names (Binary line op a b) here = (line ≡ line_here here) × (binary_rank op ≤ rank a) × (suc (binary_rank op) ≤ rank b) × Fits names a here × Fits names b (behind a 1 here)
-  Fits names (Conditional line a b c) here = (line ≡ line_here here) × (4 ≤ rank a) × (1 ≤ rank b) × (3 ≤ rank c) × Fits names a here × Fits names b (behind a 1 here) × Fits names c (behind b 1 (behind a 1 here))
-  Fits names (Assign line op a b) here = (line ≡ line_here here) × (15 ≤ rank a) × (2 ≤ rank b) × Fits names a here × Fits names b (behind a 1 here)
-  Fits names (Comma line a b) here = (line ≡ line_here here) × (1 ≤ rank a) × (2 ≤ rank b) × Fits names a here × Fits names b (behind a 1 here)
+  pub FitsBy : (is_type : ℕ → Bool) → (IsType : DeclarationTree → List Token → Type 0) → ExpressionTree → (here : List Token) → Type 0
+  FitsBy is_type IsType (Name line n) here = (line ≡ line_here here) × (is_type n ≡ false)
+  FitsBy is_type IsType (Number line value decimal unsigned longs) here = line ≡ line_here here
+  FitsBy is_type IsType (Character line value) here = line ≡ line_here here
+  FitsBy is_type IsType (Text line first more) here = line ≡ line_here here
+  FitsBy is_type IsType (Paren line a) here = (line ≡ line_here here) × (1 ≤ rank a) × FitsBy is_type IsType a (drop 1 here)
+  FitsBy is_type IsType (Index line a i) here = (line ≡ line_here here) × (16 ≤ rank a) × (1 ≤ rank i) × FitsBy is_type IsType a here × FitsBy is_type IsType i (behind a 1 here)
+  FitsBy is_type IsType (Call line callee arguments) here = (line ≡ line_here here) × (16 ≤ rank callee) × FitsBy is_type IsType callee here × ArgumentsFitBy is_type IsType arguments (behind callee 1 here)
+  FitsBy is_type IsType (Member line a n) here = (line ≡ line_here here) × (16 ≤ rank a) × (is_type n ≡ false) × FitsBy is_type IsType a here
+  FitsBy is_type IsType (Arrow line a n) here = (line ≡ line_here here) × (16 ≤ rank a) × (is_type n ≡ false) × FitsBy is_type IsType a here
+  FitsBy is_type IsType (PostIncrement line a) here = (line ≡ line_here here) × (16 ≤ rank a) × FitsBy is_type IsType a here
+  FitsBy is_type IsType (PostDecrement line a) here = (line ≡ line_here here) × (16 ≤ rank a) × FitsBy is_type IsType a here
+  FitsBy is_type IsType (PreIncrement line a) here = (line ≡ line_here here) × (15 ≤ rank a) × FitsBy is_type IsType a (drop 1 here)
+  FitsBy is_type IsType (PreDecrement line a) here = (line ≡ line_here here) × (15 ≤ rank a) × FitsBy is_type IsType a (drop 1 here)
+  FitsBy is_type IsType (Unary line op a) here = (line ≡ line_here here) × (14 ≤ rank a) × FitsBy is_type IsType a (drop 1 here)
+  FitsBy is_type IsType (SizeofExpr line a) here = (line ≡ line_here here) × (15 ≤ rank a) × FitsBy is_type IsType a (drop 1 here)
+  FitsBy is_type IsType (SizeofType line type) here = (line ≡ line_here here) × IsType type (drop 2 here)
+  FitsBy is_type IsType (Cast line type a) here = (line ≡ line_here here) × IsType type (drop 1 here) × (14 ≤ rank a) × FitsBy is_type IsType a (drop (length (declaration_tokens type) + 2) here)
+  FitsBy is_type IsType (Binary line op a b) here = (line ≡ line_here here) × (binary_rank op ≤ rank a) × (suc (binary_rank op) ≤ rank b) × FitsBy is_type IsType a here × FitsBy is_type IsType b (behind a 1 here)
+  FitsBy is_type IsType (Conditional line a b c) here = (line ≡ line_here here) × (4 ≤ rank a) × (1 ≤ rank b) × (3 ≤ rank c) × FitsBy is_type IsType a here × FitsBy is_type IsType b (behind a 1 here) × FitsBy is_type IsType c (behind b 1 (behind a 1 here))
+  FitsBy is_type IsType (Assign line op a b) here = (line ≡ line_here here) × (15 ≤ rank a) × (2 ≤ rank b) × FitsBy is_type IsType a here × FitsBy is_type IsType b (behind a 1 here)
+  FitsBy is_type IsType (Comma line a b) here = (line ≡ line_here here) × (1 ≤ rank a) × (2 ≤ rank b) × FitsBy is_type IsType a here × FitsBy is_type IsType b (behind a 1 here)
 
-  pub FitsArguments : Names → ArgumentTrees → (here : List Token) → Type 0
-  FitsArguments names NoArguments here = Unit {0}
-  FitsArguments names (Argument before last) here = FitsArguments names before here × (2 ≤ rank last) × Fits names last (drop (length (before_argument before (arguments_tokens before))) here)
+  pub ArgumentsFitBy : (is_type : ℕ → Bool) → (IsType : DeclarationTree → List Token → Type 0) → ArgumentTrees → (here : List Token) → Type 0
+  ArgumentsFitBy is_type IsType NoArguments here = Unit {0}
+  ArgumentsFitBy is_type IsType (Argument before last) here = ArgumentsFitBy is_type IsType before here × (2 ≤ rank last) × FitsBy is_type IsType last (drop (length (before_argument before (arguments_tokens before))) here)
+
+-- the same, where each type name is the one that begins at its place
+abbrev pub Fits : Names → ExpressionTree → (here : List Token) → Type 0
+Fits names a here = FitsBy names.is_type (IsTypeName names) a here
+
+abbrev pub FitsArguments : Names → ArgumentTrees → (here : List Token) → Type 0
+FitsArguments names arguments here = ArgumentsFitBy names.is_type (IsTypeName names) arguments here
 
 abbrev pub kinds : List Token → List TokenKind
 kinds tokens = map (λ t. t.kind) tokens
