@@ -1,0 +1,200 @@
+use Rattle.std.proofs.Common.{◌∙◌, ◌+◌, ◌≤◌, sym, drop, length, arith, rules, refl}
+use Rattle.pv_tree.specs.Rows.{tables}
+use Rattle.pv_tree.specs.Tables.{expression_at, is_expression}
+use Rattle.pv_tree.proofs.Kept.{extends_same, extends_then, is_kept}
+use Rattle.pv_expr.specs.Known.{names_in}
+use Rattle.pv_expr.specs.Reader.{read, grown}
+use Rattle.pv_expr.proofs.Answered.{moved, got, got_none, read_none, read_some, grew, grew_out}
+use Rattle.pv_expr.proofs.Calls.{call_none, call_there, call_forward, call_nodes, call_kept, call_end, call_stop, call_next, call_last}
+use Rattle.pv_expr.proofs.Firsts.{head_open, head_front}
+use Rattle.pv_expr.proofs.Listing.{called_close, no_items, start_with}
+use Rattle.pv_expr.proofs.Naming.{tied_kept}
+use Rattle.pv_expr.proofs.Readings.{nothing, head_end, head_first, leaf_first, measure_first, longer_in, deeper_none, deeper_low, deeper_on, grown_in, cast_none, cast_nothing, cast_done, paren_nothing, paren_done, dot_is, arrow_is, ask_is}
+use Rattle.pv_expr.proofs.Steps.{grown_on, longer_goes}
+use Rattle.pv_expr.proofs.source.Source.+reading.Goals as goal
+
+-- ---- nothing changed
+
+pub ask-returns-in_default-clause-keeps : goal.ask-returns-in_default-clause-keeps
+ask-returns-in_default-clause-keeps g t c = extends_same _
+
+pub extend-returns-then-depth_of-below-clause-keeps : goal.extend-returns-then-depth_of-below-clause-keeps
+extend-returns-then-depth_of-below-clause-keeps g t c = extends_same _
+
+pub extend-returns-in_default-clause-keeps : goal.extend-returns-in_default-clause-keeps
+extend-returns-in_default-clause-keeps g t c = extends_same _
+
+pub extend-returns-in_default-follow_of-clause-keeps : goal.extend-returns-in_default-follow_of-clause-keeps
+extend-returns-in_default-follow_of-clause-keeps g t c = extends_same _
+
+pub extend-returns-then-rank-level-clause-keeps : goal.extend-returns-then-rank-level-clause-keeps
+extend-returns-then-rank-level-clause-keeps g t c = extends_same _
+
+pub open-returns-in_default-clause-keeps : goal.open-returns-in_default-clause-keeps
+open-returns-in_default-clause-keeps g t c = extends_same _
+
+pub read_head-returns-in_default-clause-keeps : goal.read_head-returns-in_default-clause-keeps
+read_head-returns-in_default-clause-keeps g t c = extends_same _
+
+pub read_tree-returns-then-depth-eq0-clause-keeps : goal.read_tree-returns-then-depth-eq0-clause-keeps
+read_tree-returns-then-depth-eq0-clause-keeps g t c = extends_same _
+
+-- ---- read_tree and read_deeper
+
+pub read_tree-returns-then-depth-eq0-clause-ok : goal.read_tree-returns-then-depth-eq0-clause-ok
+read_tree-returns-then-depth-eq0-clause-ok g t c = nothing _ _ _ (read_none _ _ _ _ c.if-depth-eq0.true)
+
+pub read_tree-returns-clause-ok : goal.read_tree-returns-clause-ok
+read_tree-returns-clause-ok g t c = moved _ _ _ _ _ (read_some _ c.args.depth _ _ (omega arith)) c.read_deeper.ensures.ok
+
+pub read_deeper-returns-in-None-clause-ok : goal.read_deeper-returns-in-None-clause-ok
+read_deeper-returns-in-None-clause-ok g t c = nothing _ _ _ (deeper_none _ _ _ _ _ (got_none (tables c.read_head.new.into) c.args.self.now.tokens.now.tokens _ _ c.in_ok-read_head.ensures.ok c.in-None.is))
+
+pub read_deeper-returns-then-rank_of-level-clause-ok : goal.read_deeper-returns-then-rank_of-level-clause-ok
+read_deeper-returns-then-rank_of-level-clause-ok g t c =
+    let h = got (tables c.read_head.new.into) c.args.self.now.tokens.now.tokens c.in_ok-read_head.field-0 _ c.in-Some.first c.in-Some.next c.in_ok-read_head.ensures.ok c.in-Some.is in
+    nothing _ _ _ (deeper_low _ _ _ _ _ _ _ h.0 (omega arith))
+
+pub read_deeper-returns-else-rank_of-level-clause-ok : goal.read_deeper-returns-else-rank_of-level-clause-ok
+read_deeper-returns-else-rank_of-level-clause-ok g t c =
+    let h = got (tables c.read_head.new.into) c.args.self.now.tokens.now.tokens c.in_ok-read_head.field-0 _ c.in-Some.first c.in-Some.next c.in_ok-read_head.ensures.ok c.in-Some.is in
+    moved _ _ _ _ _ (grown_in c.args.self.now.typedefs.now (g.R.TypeReader.types c.args.self.now.reader.now) (tables c.args.into.now) (tables c.read_head.new.into) c.args.self.now.tokens.now.tokens c.requires.tied c.read_head.ensures.keeps _ _ _ _ ∙ deeper_on _ _ _ _ _ _ _ h.0 (omega arith)) c.grow.ensures.ok
+
+pub read_deeper-grow-requires : goal.read_deeper-grow-requires
+read_deeper-grow-requires g t c =
+    let h = got (tables c.read_head.new.into) c.args.self.now.tokens.now.tokens c.in_ok-read_head.field-0 _ c.in-Some.first c.in-Some.next c.in_ok-read_head.ensures.ok c.in-Some.is in
+    let tied = tied_kept (g.R.TypeReader.types c.args.self.now.reader.now) (tables c.args.into.now) (tables c.read_head.new.into) c.args.self.now.tokens.now.tokens c.requires.tied c.read_head.ensures.keeps in
+    let number = h.1.0 in
+    let kind = h.1.1 in
+    let place = h.2 in
+    search rules
+
+-- ---- read_head
+
+pub read_head-returns-in_default-clause-ok : goal.read_head-returns-in_default-clause-ok
+read_head-returns-in_default-clause-ok g t c = nothing _ _ _ (head_end _ _ _ _ c.in_default.ensures)
+
+pub read_head-returns-then-is_open-clause-ok : goal.read_head-returns-then-is_open-clause-ok
+read_head-returns-then-is_open-clause-ok g t c = moved _ _ _ _ _ (head_first _ _ _ c.in-Some.token _ _ _ c.in-Some.ensures.0 (head_open _ _ _ _ _ _ (sym c.is_open.ensures ∙ c.if-is_open.true))) c.open.ensures.ok
+
+pub read_head-returns-then-measures_type-clause-ok : goal.read_head-returns-then-measures_type-clause-ok
+read_head-returns-then-measures_type-clause-ok g t c = moved _ _ _ _ _ (head_first _ _ _ c.in-Some.token _ _ _ c.in-Some.ensures.0 (measure_first _ _ _ _ _ c.args.self.now.tokens.now.tokens (c.args.at + 1) (sym (c.measures_type.ensures.is (g.R.TypeReader.types c.args.self.now.reader.now) (tables c.args.into.now)) ∙ c.if-measures_type.true))) c.measure.ensures.ok
+
+pub read_head-returns-in-Some-prefix_of-clause-ok : goal.read_head-returns-in-Some-prefix_of-clause-ok
+read_head-returns-in-Some-prefix_of-clause-ok g t c = moved _ _ _ _ _ (head_first _ _ _ c.in-Some.token _ _ _ c.in-Some.ensures.0 (head_front _ _ _ _ _ _ c.in-Some-prefix_of.op (sym c.is_open.ensures ∙ c.if-is_open.false) (sym (c.measures_type.ensures.is (g.R.TypeReader.types c.args.self.now.reader.now) (tables c.args.into.now)) ∙ c.if-measures_type.false) (sym c.in-Some-prefix_of.ensures))) c.front.ensures.ok
+
+pub read_head-returns-in-None-clause-ok : goal.read_head-returns-in-None-clause-ok
+read_head-returns-in-None-clause-ok g t c = moved _ _ _ _ _ (head_first _ _ _ c.in-Some.token _ _ _ c.in-Some.ensures.0 (leaf_first c.args.self.now.typedefs.now (g.R.TypeReader.types c.args.self.now.reader.now) (tables c.args.into.now) c.args.self.now.tokens.now.tokens _ _ _ _ _ (sym c.is_open.ensures ∙ c.if-is_open.false) (sym c.in-None.ensures))) c.leaf.ensures.ok
+
+-- ---- open
+
+pub open-returns-in_default-clause-ok : goal.open-returns-in_default-clause-ok
+open-returns-in_default-clause-ok g t c = nothing _ _ _ (cast_none _ _ _ _ (tables c.args.into.now) (tables c.args.into.now) c.args.self.now.tokens.now.tokens c.args.at (sym (c.begins_type.ensures (g.R.TypeReader.types c.args.self.now.reader.now) (tables c.args.into.now)) ∙ c.if-begins_type.true) c.in_default.ensures)
+
+pub open-returns-in-Some-2-clause-ok : goal.open-returns-in-Some-2-clause-ok
+open-returns-in-Some-2-clause-ok g t c = moved _ _ _ _ _ (cast_done _ _ _ _ (tables c.args.into.now) (tables c.read_tree.new.into) c.args.self.now.tokens.now.tokens c.args.at (sym (c.begins_type.ensures (g.R.TypeReader.types c.args.self.now.reader.now) (tables c.args.into.now)) ∙ c.if-begins_type.true) c.in-Some.name c.in-Some.next c.in-Some.ensures.0 c.in_ok-operand.field-0 c.in_ok-operand.ensures.ok c.in-Some-2.operand c.in-Some-2.end c.in-Some-2.is c.read_tree.ensures.keeps c.in-Some.ensures.1) c.found.ensures.ok
+
+pub open-returns-in-None-clause-ok : goal.open-returns-in-None-clause-ok
+open-returns-in-None-clause-ok g t c = nothing _ _ _ (cast_nothing _ _ _ _ (tables c.args.into.now) (tables c.read_tree.new.into) c.args.self.now.tokens.now.tokens c.args.at (sym (c.begins_type.ensures (g.R.TypeReader.types c.args.self.now.reader.now) (tables c.args.into.now)) ∙ c.if-begins_type.true) c.in-Some.name c.in-Some.next c.in-Some.ensures.0 c.in_ok-operand.field-0 c.in_ok-operand.ensures.ok c.in-None.is)
+
+pub open-returns-in-Some-3-clause-ok : goal.open-returns-in-Some-3-clause-ok
+open-returns-in-Some-3-clause-ok g t c = moved _ _ _ _ _ (paren_done _ _ _ _ (tables c.args.into.now) (tables c.read_tree-else-begins_type.new.into) c.args.self.now.tokens.now.tokens c.args.at (sym (c.begins_type.ensures (g.R.TypeReader.types c.args.self.now.reader.now) (tables c.args.into.now)) ∙ c.if-begins_type.false) c.in_ok-inside.field-0 c.in_ok-inside.ensures.ok c.in-Some-3.inside c.in-Some-3.next c.in-Some-3.is) c.close.ensures.ok
+
+pub open-returns-in-None-2-clause-ok : goal.open-returns-in-None-2-clause-ok
+open-returns-in-None-2-clause-ok g t c = nothing _ _ _ (paren_nothing _ _ _ _ (tables c.args.into.now) (tables c.read_tree-else-begins_type.new.into) c.args.self.now.tokens.now.tokens c.args.at (sym (c.begins_type.ensures (g.R.TypeReader.types c.args.self.now.reader.now) (tables c.args.into.now)) ∙ c.if-begins_type.false) c.in_ok-inside.field-0 c.in_ok-inside.ensures.ok c.in-None-2.is)
+
+-- ---- grow
+
+pub grow-loop-longer-init : goal.grow-loop-longer-init
+grow-loop-longer-init g t c = record { node = c.requires.node; place = c.requires.place; keeps = extends_same _; tied = c.requires.tied; same = refl }
+
+pub grow-loop-longer-smaller : goal.grow-loop-longer-smaller
+grow-loop-longer-smaller g t c =
+    let e = grew (names_in c.args.self.now.typedefs.now (g.R.TypeReader.types c.args.self.now.reader.now) (tables c.loop-longer.into) c.args.self.now.tokens.now.tokens) (read (names_in c.args.self.now.typedefs.now (g.R.TypeReader.types c.args.self.now.reader.now) (tables c.loop-longer.into) c.args.self.now.tokens.now.tokens) c.args.below) c.args.level c.args.below (tables c.loop-longer.into) (tables c.extend.new.into) c.args.self.now.tokens.now.tokens c.loop-longer.left c.loop-longer.next c.in_ok-longer.field-0 c.in_ok-longer.ensures.ok c.in-Some.longer c.in-Some.end c.in-Some.is in
+    let s = longer_goes (names_in c.args.self.now.typedefs.now (g.R.TypeReader.types c.args.self.now.reader.now) (tables c.loop-longer.into) c.args.self.now.tokens.now.tokens) (read (names_in c.args.self.now.typedefs.now (g.R.TypeReader.types c.args.self.now.reader.now) (tables c.loop-longer.into) c.args.self.now.tokens.now.tokens) c.args.below) c.args.level c.args.below (expression_at (tables c.loop-longer.into).forest c.loop-longer.left) (drop c.loop-longer.next c.args.self.now.tokens.now.tokens) (expression_at (tables c.extend.new.into).forest c.in-Some.longer) (drop c.in-Some.end c.args.self.now.tokens.now.tokens) e in
+    omega (arith, s.grows, s.was_shallow)
+
+pub grow-loop-longer-preserved : goal.grow-loop-longer-preserved
+grow-loop-longer-preserved g t c =
+    let a = longer_in c.args.self.now.typedefs.now (g.R.TypeReader.types c.args.self.now.reader.now) (tables c.args.into.now) (tables c.loop-longer.into) (tables c.extend.new.into) c.args.self.now.tokens.now.tokens c.requires.tied c.loop-longer.invariant.keeps c.args.level c.args.below (expression_at (tables c.loop-longer.into).forest c.loop-longer.left) (drop c.loop-longer.next c.args.self.now.tokens.now.tokens) c.in_ok-longer.field-0 c.in_ok-longer.ensures.ok in
+    let h = got (tables c.extend.new.into) c.args.self.now.tokens.now.tokens c.in_ok-longer.field-0 _ c.in-Some.longer c.in-Some.end a c.in-Some.is in
+    let e = grew (names_in c.args.self.now.typedefs.now (g.R.TypeReader.types c.args.self.now.reader.now) (tables c.args.into.now) c.args.self.now.tokens.now.tokens) (read (names_in c.args.self.now.typedefs.now (g.R.TypeReader.types c.args.self.now.reader.now) (tables c.args.into.now) c.args.self.now.tokens.now.tokens) c.args.below) c.args.level c.args.below (tables c.loop-longer.into) (tables c.extend.new.into) c.args.self.now.tokens.now.tokens c.loop-longer.left c.loop-longer.next c.in_ok-longer.field-0 a c.in-Some.longer c.in-Some.end c.in-Some.is in
+    let keeps = extends_then (tables c.args.into.now) (tables c.loop-longer.into) (tables c.extend.new.into) c.loop-longer.invariant.keeps c.extend.ensures.keeps in
+    record {
+      node = h.1;
+      place = h.2;
+      keeps = keeps;
+      tied = tied_kept (g.R.TypeReader.types c.args.self.now.reader.now) (tables c.args.into.now) (tables c.extend.new.into) c.args.self.now.tokens.now.tokens c.requires.tied keeps;
+      same = sym (grown_on (names_in c.args.self.now.typedefs.now (g.R.TypeReader.types c.args.self.now.reader.now) (tables c.args.into.now) c.args.self.now.tokens.now.tokens) (read (names_in c.args.self.now.typedefs.now (g.R.TypeReader.types c.args.self.now.reader.now) (tables c.args.into.now) c.args.self.now.tokens.now.tokens) c.args.below) c.args.level c.args.below (expression_at (tables c.loop-longer.into).forest c.loop-longer.left) (drop c.loop-longer.next c.args.self.now.tokens.now.tokens) (expression_at (tables c.extend.new.into).forest c.in-Some.longer) (drop c.in-Some.end c.args.self.now.tokens.now.tokens) e) ∙ c.loop-longer.invariant.same;
+    }
+
+pub grow-returns-in-None-clause-ok : goal.grow-returns-in-None-clause-ok
+grow-returns-in-None-clause-ok g t c =
+    let a = longer_in c.args.self.now.typedefs.now (g.R.TypeReader.types c.args.self.now.reader.now) (tables c.args.into.now) (tables c.loop-longer.into) (tables c.extend.new.into) c.args.self.now.tokens.now.tokens c.requires.tied c.loop-longer.invariant.keeps c.args.level c.args.below (expression_at (tables c.loop-longer.into).forest c.loop-longer.left) (drop c.loop-longer.next c.args.self.now.tokens.now.tokens) c.in_ok-longer.field-0 c.in_ok-longer.ensures.ok in
+    grew_out (names_in c.args.self.now.typedefs.now (g.R.TypeReader.types c.args.self.now.reader.now) (tables c.args.into.now) c.args.self.now.tokens.now.tokens) (read (names_in c.args.self.now.typedefs.now (g.R.TypeReader.types c.args.self.now.reader.now) (tables c.args.into.now) c.args.self.now.tokens.now.tokens) c.args.below) c.args.level c.args.below (tables c.loop-longer.into) (tables c.extend.new.into) c.args.self.now.tokens.now.tokens c.loop-longer.left c.loop-longer.next c.in_ok-longer.field-0 a
+    (grown (names_in c.args.self.now.typedefs.now (g.R.TypeReader.types c.args.self.now.reader.now) (tables c.args.into.now) c.args.self.now.tokens.now.tokens) (read (names_in c.args.self.now.typedefs.now (g.R.TypeReader.types c.args.self.now.reader.now) (tables c.args.into.now) c.args.self.now.tokens.now.tokens) c.args.below) c.args.level c.args.below (expression_at (tables c.args.into.now).forest c.args.first) (drop c.args.at c.args.self.now.tokens.now.tokens))
+    c.in-None.is c.extend.ensures.keeps c.loop-longer.invariant.node c.loop-longer.invariant.place c.loop-longer.invariant.same
+
+-- ---- go_on
+
+pub go_on-ask-requires : goal.go_on-ask-requires
+go_on-ask-requires g t c =
+    let h = got (tables c.read_tree-in-Ask.new.into) c.args.self.now.tokens.now.tokens c.in_ok-yes-in-Ask.field-0 _ c.in-Some-2.yes c.in-Some-2.next c.in_ok-yes-in-Ask.ensures.ok c.in-Some-2.is in
+    let tied = tied_kept (g.R.TypeReader.types c.args.self.now.reader.now) (tables c.args.into.now) (tables c.read_tree-in-Ask.new.into) c.args.self.now.tokens.now.tokens c.requires.tied c.read_tree-in-Ask.ensures.keeps in
+    let condition = is_kept (tables c.args.into.now) (tables c.read_tree-in-Ask.new.into) is_expression c.args.left c.read_tree-in-Ask.ensures.keeps c.requires.node in
+    let condition_number = condition.0 in
+    let condition_kind = condition.1 in
+    let number = h.1.0 in
+    let kind = h.1.1 in
+    let place = h.2 in
+    search rules
+
+pub go_on-returns-in-Some-2-clause-ok : goal.go_on-returns-in-Some-2-clause-ok
+go_on-returns-in-Some-2-clause-ok g t c = moved _ _ _ _ _ (ask_is c.args.self.now.typedefs.now (g.R.TypeReader.types c.args.self.now.reader.now) (tables c.args.into.now) (tables c.read_tree-in-Ask.new.into) c.args.self.now.tokens.now.tokens c.requires.tied c.read_tree-in-Ask.ensures.keeps c.args.below c.args.at c.args.left c.requires.node c.in_ok-yes-in-Ask.field-0 c.in_ok-yes-in-Ask.ensures.ok c.in-Some-2.yes c.in-Some-2.next c.in-Some-2.is c.args.follow c.in-Ask.is) c.ask.ensures.ok
+
+pub go_on-returns-in-Dot-clause-ok : goal.go_on-returns-in-Dot-clause-ok
+go_on-returns-in-Dot-clause-ok g t c = moved _ _ _ _ _ (dot_is c.args.self.now.typedefs.now (g.R.TypeReader.types c.args.self.now.reader.now) (tables c.args.into.now) c.args.self.now.tokens.now.tokens _ _ _ c.args.follow c.in-Dot.is) c.member.ensures.ok
+
+pub go_on-returns-in-Arrow-clause-ok : goal.go_on-returns-in-Arrow-clause-ok
+go_on-returns-in-Arrow-clause-ok g t c = moved _ _ _ _ _ (arrow_is c.args.self.now.typedefs.now (g.R.TypeReader.types c.args.self.now.reader.now) (tables c.args.into.now) c.args.self.now.tokens.now.tokens _ _ _ c.args.follow c.in-Arrow.is) c.arrow.ensures.ok
+
+-- ---- arguments
+
+pub arguments-returns-in-Some-clause-ok : goal.arguments-returns-in-Some-clause-ok
+arguments-returns-in-Some-clause-ok g t c = moved _ _ _ _ _ (called_close _ _ _ _ c.in-Some.ensures.0) c.call.ensures.ok
+
+pub arguments-loop-list-init : goal.arguments-loop-list-init
+arguments-loop-list-init g t c = record { nodes = no_items (tables c.args.into.now) _ c.new-list.ensures.items; place = c.requires.place; keeps = extends_same _; tied = c.requires.tied; same = start_with _ (tables c.args.into.now) _ _ c.new-list.ensures.items }
+
+pub arguments-returns-in_default-2-clause-ok : goal.arguments-returns-in_default-2-clause-ok
+arguments-returns-in_default-2-clause-ok g t c = call_none c.args.self.now.typedefs.now (g.R.TypeReader.types c.args.self.now.reader.now) (tables c.args.into.now) (tables c.loop-list.into) (tables c.read_tree.new.into) c.args.self.now.tokens.now.tokens c.args.at c.args.below c.args.callee c.loop-list.list.items c.loop-list.next c.requires.tied c.loop-list.invariant.keeps c.loop-list.invariant.nodes c.loop-list.invariant.place c.in_default.ensures c.loop-list.invariant.same c.read_tree.ensures.keeps c.in_ok-argument.field-0 c.in_ok-argument.ensures.ok c.in_default-2.is
+
+pub arguments-returns-in_default-peek-clause-ok : goal.arguments-returns-in_default-peek-clause-ok
+arguments-returns-in_default-peek-clause-ok g t c = call_end c.args.self.now.typedefs.now (g.R.TypeReader.types c.args.self.now.reader.now) (tables c.args.into.now) (tables c.loop-list.into) (tables c.read_tree.new.into) c.args.self.now.tokens.now.tokens c.args.at c.args.below c.args.callee c.loop-list.list.items c.loop-list.next c.requires.tied c.loop-list.invariant.keeps c.loop-list.invariant.nodes c.loop-list.invariant.place c.in_default.ensures c.loop-list.invariant.same c.read_tree.ensures.keeps c.in_ok-argument.field-0 c.in_ok-argument.ensures.ok c.in-Some-2.argument c.in-Some-2.end c.in-Some-2.is c.in_default-peek.ensures
+
+pub arguments-loop-list-smaller : goal.arguments-loop-list-smaller
+arguments-loop-list-smaller g t c =
+    let far = call_forward c.args.self.now.typedefs.now (g.R.TypeReader.types c.args.self.now.reader.now) (tables c.args.into.now) (tables c.loop-list.into) (tables c.read_tree.new.into) c.args.self.now.tokens.now.tokens c.args.at c.args.below c.args.callee c.loop-list.list.items c.loop-list.next c.requires.tied c.loop-list.invariant.keeps c.loop-list.invariant.nodes c.loop-list.invariant.place c.in_default.ensures c.loop-list.invariant.same c.read_tree.ensures.keeps c.in_ok-argument.field-0 c.in_ok-argument.ensures.ok c.in-Some-2.argument c.in-Some-2.end c.in-Some-2.is in
+    let there = call_there c.args.self.now.typedefs.now (g.R.TypeReader.types c.args.self.now.reader.now) (tables c.args.into.now) (tables c.loop-list.into) (tables c.read_tree.new.into) c.args.self.now.tokens.now.tokens c.args.at c.args.below c.args.callee c.loop-list.list.items c.loop-list.next c.requires.tied c.loop-list.invariant.keeps c.loop-list.invariant.nodes c.loop-list.invariant.place c.in_default.ensures c.loop-list.invariant.same c.read_tree.ensures.keeps c.in_ok-argument.field-0 c.in_ok-argument.ensures.ok c.in-Some-2.argument c.in-Some-2.end c.in-Some-2.is in
+    let place : c.in-Some-2.end ≤ length c.args.self.now.tokens.now.tokens = there.1 in
+    omega (arith, far, place)
+
+pub arguments-loop-list-preserved : goal.arguments-loop-list-preserved
+arguments-loop-list-preserved g t c =
+    let keeps = call_kept c.args.self.now.typedefs.now (g.R.TypeReader.types c.args.self.now.reader.now) (tables c.args.into.now) (tables c.loop-list.into) (tables c.read_tree.new.into) c.args.self.now.tokens.now.tokens c.args.at c.args.below c.args.callee c.loop-list.list.items c.loop-list.next c.requires.tied c.loop-list.invariant.keeps c.loop-list.invariant.nodes c.loop-list.invariant.place c.in_default.ensures c.loop-list.invariant.same c.read_tree.ensures.keeps c.in_ok-argument.field-0 c.in_ok-argument.ensures.ok c.in-Some-2.argument c.in-Some-2.end c.in-Some-2.is in
+    record {
+      nodes = call_nodes c.args.self.now.typedefs.now (g.R.TypeReader.types c.args.self.now.reader.now) (tables c.args.into.now) (tables c.loop-list.into) (tables c.read_tree.new.into) c.args.self.now.tokens.now.tokens c.args.at c.args.below c.args.callee c.loop-list.list.items c.loop-list.next c.requires.tied c.loop-list.invariant.keeps c.loop-list.invariant.nodes c.loop-list.invariant.place c.in_default.ensures c.loop-list.invariant.same c.read_tree.ensures.keeps c.in_ok-argument.field-0 c.in_ok-argument.ensures.ok c.in-Some-2.argument c.in-Some-2.end c.in-Some-2.is c.push.new.self.items c.in_ok-push.ensures.items;
+      place = omega (arith, c.in-Some-peek.ensures.1);
+      keeps = keeps;
+      tied = tied_kept (g.R.TypeReader.types c.args.self.now.reader.now) (tables c.args.into.now) (tables c.read_tree.new.into) c.args.self.now.tokens.now.tokens c.requires.tied keeps;
+      same = call_next c.args.self.now.typedefs.now (g.R.TypeReader.types c.args.self.now.reader.now) (tables c.args.into.now) (tables c.loop-list.into) (tables c.read_tree.new.into) c.args.self.now.tokens.now.tokens c.args.at c.args.below c.args.callee c.loop-list.list.items c.loop-list.next c.requires.tied c.loop-list.invariant.keeps c.loop-list.invariant.nodes c.loop-list.invariant.place c.in_default.ensures c.loop-list.invariant.same c.read_tree.ensures.keeps c.in_ok-argument.field-0 c.in_ok-argument.ensures.ok c.in-Some-2.argument c.in-Some-2.end c.in-Some-2.is c.in-Some-peek.token (drop (c.in-Some-2.end + 1) c.args.self.now.tokens.now.tokens) c.in-Some-peek.ensures.0 c.push.new.self.items c.in_ok-push.ensures.items (sym c.is_comma.ensures ∙ c.if-is_comma.true);
+    }
+
+pub arguments-call-requires-then-is_close-clause-arguments : goal.arguments-call-requires-then-is_close-clause-arguments
+arguments-call-requires-then-is_close-clause-arguments g t c = call_nodes c.args.self.now.typedefs.now (g.R.TypeReader.types c.args.self.now.reader.now) (tables c.args.into.now) (tables c.loop-list.into) (tables c.read_tree.new.into) c.args.self.now.tokens.now.tokens c.args.at c.args.below c.args.callee c.loop-list.list.items c.loop-list.next c.requires.tied c.loop-list.invariant.keeps c.loop-list.invariant.nodes c.loop-list.invariant.place c.in_default.ensures c.loop-list.invariant.same c.read_tree.ensures.keeps c.in_ok-argument.field-0 c.in_ok-argument.ensures.ok c.in-Some-2.argument c.in-Some-2.end c.in-Some-2.is c.deref.result.now (c.deref.ensures.value ∙ c.in_ok-push.ensures.items)
+
+pub arguments-returns-then-is_close-clause-ok : goal.arguments-returns-then-is_close-clause-ok
+arguments-returns-then-is_close-clause-ok g t c = moved _ _ _ _ _ (call_last c.args.self.now.typedefs.now (g.R.TypeReader.types c.args.self.now.reader.now) (tables c.args.into.now) (tables c.loop-list.into) (tables c.read_tree.new.into) c.args.self.now.tokens.now.tokens c.args.at c.args.below c.args.callee c.loop-list.list.items c.loop-list.next c.requires.tied c.loop-list.invariant.keeps c.loop-list.invariant.nodes c.loop-list.invariant.place c.in_default.ensures c.loop-list.invariant.same c.read_tree.ensures.keeps c.in_ok-argument.field-0 c.in_ok-argument.ensures.ok c.in-Some-2.argument c.in-Some-2.end c.in-Some-2.is c.in-Some-peek.token (drop (c.in-Some-2.end + 1) c.args.self.now.tokens.now.tokens) c.in-Some-peek.ensures.0 c.deref.result.now (c.deref.ensures.value ∙ c.in_ok-push.ensures.items) (sym c.is_comma.ensures ∙ c.if-is_comma.false) (sym c.is_close.ensures ∙ c.if-is_close.true) c.requires.node) c.call-then-is_close.ensures.ok
+
+pub arguments-returns-in-loop-list-clause-ok : goal.arguments-returns-in-loop-list-clause-ok
+arguments-returns-in-loop-list-clause-ok g t c = call_stop c.args.self.now.typedefs.now (g.R.TypeReader.types c.args.self.now.reader.now) (tables c.args.into.now) (tables c.loop-list.into) (tables c.read_tree.new.into) c.args.self.now.tokens.now.tokens c.args.at c.args.below c.args.callee c.loop-list.list.items c.loop-list.next c.requires.tied c.loop-list.invariant.keeps c.loop-list.invariant.nodes c.loop-list.invariant.place c.in_default.ensures c.loop-list.invariant.same c.read_tree.ensures.keeps c.in_ok-argument.field-0 c.in_ok-argument.ensures.ok c.in-Some-2.argument c.in-Some-2.end c.in-Some-2.is c.in-Some-peek.token (drop (c.in-Some-2.end + 1) c.args.self.now.tokens.now.tokens) c.in-Some-peek.ensures.0 (sym c.is_comma.ensures ∙ c.if-is_comma.false) (sym c.is_close.ensures ∙ c.if-is_close.false)

@@ -1,0 +1,69 @@
+use Rattle.std.proofs.Common.{◌≡◌, ◌≤◌, ◌+◌, ◌-◌, ◌*◌, All, length, drop}
+use Rattle.pv_tree.specs.Depths.{expression_depth}
+use Rattle.pv_tree.specs.Rows.{tables}
+use Rattle.pv_tree.specs.Syntax.{NoArguments}
+use Rattle.pv_tree.specs.Tables.{expression_at, arguments_of, is_expression, Is, Extends}
+use Rattle.pv_tree.specs.TypeNames.{AreTied}
+use Rattle.pv_expr.specs.Reader.{read, grown, arguments}
+use Rattle.pv_expr.specs.Known.{names_in}
+use Rattle.pv_expr.proofs.source.Source.+reading.Given as goal
+
+abbrev pub decreases-read_tree : goal.decreases-read_tree
+decreases-read_tree g l = 6 * l.depth
+
+abbrev pub decreases-read_deeper : goal.decreases-read_deeper
+decreases-read_deeper g l = 6 * l.below + 5
+
+abbrev pub decreases-read_head : goal.decreases-read_head
+decreases-read_head g l = 6 * l.below + 3
+
+abbrev pub decreases-open : goal.decreases-open
+decreases-open g l = 6 * l.below + 2
+
+abbrev pub decreases-front : goal.decreases-front
+decreases-front g l = 6 * l.below + 1
+
+abbrev pub decreases-grow : goal.decreases-grow
+decreases-grow g l = 6 * l.below + 4
+
+abbrev pub decreases-extend : goal.decreases-extend
+decreases-extend g l = 6 * l.below + 3
+
+abbrev pub decreases-go_on : goal.decreases-go_on
+decreases-go_on g l = 6 * l.below + 2
+
+abbrev pub decreases-ask : goal.decreases-ask
+decreases-ask g l = 6 * l.below + 1
+
+abbrev pub decreases-arguments : goal.decreases-arguments
+decreases-arguments g l = 6 * l.below + 1
+
+abbrev pub invariant-grow-loop-longer : goal.invariant-grow-loop-longer
+invariant-grow-loop-longer g l =
+    let tokens = l.self.tokens.now.tokens in
+    let names = names_in l.self.typedefs.now (g.R.TypeReader.types l.self.reader.now) (tables l.fn.into) tokens in
+    record {
+      node : Is (tables l.into) is_expression l.left;
+      place : l.next ≤ length tokens;
+      keeps : Extends (tables l.fn.into) (tables l.into);
+      tied : AreTied (g.R.TypeReader.types l.self.reader.now) (tables l.into) tokens;
+      same : grown names (read names l.below) l.level l.below (expression_at (tables l.into).forest l.left) (drop l.next tokens) ≡ grown names (read names l.below) l.level l.below (expression_at (tables l.fn.into).forest l.fn.first) (drop l.fn.at tokens);
+    }
+
+abbrev pub decreases-grow-loop-longer : goal.decreases-grow-loop-longer
+decreases-grow-loop-longer g l = l.below + 1 - expression_depth (expression_at (tables l.into).forest l.left)
+
+abbrev pub invariant-arguments-loop-list : goal.invariant-arguments-loop-list
+invariant-arguments-loop-list g l =
+    let tokens = l.self.tokens.now.tokens in
+    let names = names_in l.self.typedefs.now (g.R.TypeReader.types l.self.reader.now) (tables l.fn.into) tokens in
+    record {
+      nodes : All (λ n. Is (tables l.into) is_expression n) l.list.items;
+      place : l.next ≤ length tokens;
+      keeps : Extends (tables l.fn.into) (tables l.into);
+      tied : AreTied (g.R.TypeReader.types l.self.reader.now) (tables l.into) tokens;
+      same : arguments (read names l.below) (arguments_of (tables l.into).forest l.list.items) (drop l.next tokens) ≡ arguments (read names l.below) NoArguments (drop l.fn.at tokens);
+    }
+
+abbrev pub decreases-arguments-loop-list : goal.decreases-arguments-loop-list
+decreases-arguments-loop-list g l = length l.self.tokens.now.tokens - l.next

@@ -1,0 +1,6 @@
+pub mod Follows
+pub mod Reader
+pub mod Known
+pub mod Numbers
+pub mod Parts
+pub mod Answers

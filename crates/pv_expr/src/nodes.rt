@@ -1,0 +1,274 @@
+//! The finished trees of a unit, and new ones made of them.
+ghost use Rattle.std.specs.Prelude.{◌≡◌, ◌≤◌, All, length, drop, Some, IfOk, nat_eq};
+ghost use Rattle.indexmap.specs.IndexSet.{contains};
+ghost use Rattle.pv_tree.specs.Children.{HasExprChildren};
+ghost use Rattle.pv_tree.specs.Depths.{expression_depth, declaration_depth};
+ghost use Rattle.pv_tree.specs.Levels.{rank};
+ghost use Rattle.pv_tree.specs.Lines.{expression_line};
+ghost use Rattle.pv_tree.specs.Nodes.{expression_of};
+ghost use Rattle.pv_tree.specs.Rows.{tables};
+ghost use Rattle.pv_tree.specs.Syntax.{Call, Member, Arrow};
+ghost use Rattle.pv_tree.specs.Tables.{expression_at, declaration_at, arguments_of, is_expression, is_declaration, Is, Extends};
+ghost use Rattle.pv_expr.specs.Answers.{Answers};
+ghost use Rattle.pv_expr.specs.Follows.{joined, prefixed};
+ghost use Rattle.pv_expr.specs.Parts.{leaf_of, named};
+ghost use Rattle.pv_expr.specs.Reader.{closed, indexed};
+
+use crate::follows::{Join, Prefix};
+use crate::source::{after_bracket, after_close, is_type, name_next, texts_in_row};
+use indexmap::IndexSet;
+use pv_lex::{NoMemory, Token, TokenKind, Tokens};
+use pv_tree::{Expr, NodeId, Unit};
+
+/// The tightest level that an expression belongs to.
+pub(crate) fn rank_of(unit: &Unit, n: NodeId) -> u8
+    requires { Is (tables unit.now) is_expression n }
+    ensures { result ≡ rank (expression_at (tables unit.now).forest n) }
+{
+    crate::levels::rank(unit.expr(n))
+}
+
+/// The depth of an expression.
+pub(crate) fn depth_of(unit: &Unit, n: NodeId) -> u32
+    requires { Is (tables unit.now) is_expression n }
+    ensures { result ≡ expression_depth (expression_at (tables unit.now).forest n) }
+{
+    unit.depth(n)
+}
+
+/// The depth of a type name.
+pub(crate) fn type_depth(unit: &Unit, n: NodeId) -> u32
+    requires { Is (tables unit.now) is_declaration n }
+    ensures { result ≡ declaration_depth (declaration_at (tables unit.now).forest n) }
+{
+    unit.depth(n)
+}
+
+/// The line of the first token of an expression.
+pub(crate) fn line_of(unit: &Unit, n: NodeId) -> u32
+    requires { Is (tables unit.now) is_expression n }
+    ensures { result ≡ expression_line (expression_at (tables unit.now).forest n) }
+{
+    unit.line(n)
+}
+
+/// A new expression that ends at a place.
+pub(crate) fn found(
+    tokens: &Tokens,
+    next: u32,
+    expr: Expr,
+    line: u32,
+    into: &mut Unit,
+) -> Result<Option<(NodeId, u32)>, NoMemory>
+    requires place { next ≤ length tokens.now.tokens }
+    requires children { HasExprChildren (tables into.old).forest (length (tables into.old).forest.trees) expr }
+    ensures keeps { Extends (tables into.old) (tables into.new) }
+    ensures ok { IfOk result (λ r. Answers (tables into.new) tokens.now.tokens r (Some (expression_of (tables into.old).forest line expr, drop next tokens.now.tokens))) }
+{
+    Ok(Some((into.add_expr(expr, line)?, next)))
+}
+
+/// A name, a constant or string literals in a row, whose first token ends at a place
+/// (C17 6.5.1p1).
+#[tactic(auto, using(pv_tree::proofs::Kept::extends_same), unfolding(crate::specs::Parts::leaf_of))]
+pub(crate) fn leaf(
+    tokens: &Tokens,
+    typedefs: &IndexSet<u32>,
+    at: u32,
+    token: Token,
+    into: &mut Unit,
+) -> Result<Option<(NodeId, u32)>, NoMemory>
+    requires { at ≤ length tokens.now.tokens }
+    ensures keeps { Extends (tables into.old) (tables into.new) }
+    ensures ok { IfOk result (λ r. Answers (tables into.new) tokens.now.tokens r (leaf_of (contains nat_eq typedefs.now) token.line token.kind (drop at tokens.now.tokens))) }
+{
+    let line = token.line;
+    match token.kind {
+        TokenKind::Name(name) => {
+            if is_type(typedefs, name) {
+                return Ok(None);
+            }
+            found(tokens, at, Expr::Name(name), line, into)
+        }
+        TokenKind::Number {
+            value,
+            decimal,
+            unsigned,
+            longs,
+        } => found(
+            tokens,
+            at,
+            Expr::Number {
+                value,
+                decimal,
+                unsigned,
+                longs,
+            },
+            line,
+            into,
+        ),
+        TokenKind::Character(value) => found(tokens, at, Expr::Character(value), line, into),
+        TokenKind::Text(first) => {
+            let (more, next) = texts_in_row(tokens, at, first);
+            found(tokens, next, Expr::Text { first, more }, line, into)
+        }
+        TokenKind::Word(_) | TokenKind::Mark(_) => Ok(None),
+    }
+}
+
+/// What stands in parentheses, whose inside ends at a place (C17 6.5.1p5).
+#[tactic(auto, using(pv_tree::proofs::Kept::extends_same), unfolding(crate::specs::Reader::closed))]
+pub(crate) fn close(
+    tokens: &Tokens,
+    at: u32,
+    inside: NodeId,
+    line: u32,
+    into: &mut Unit,
+) -> Result<Option<(NodeId, u32)>, NoMemory>
+    requires place { at ≤ length tokens.now.tokens }
+    requires inside { Is (tables into.old) is_expression inside }
+    ensures keeps { Extends (tables into.old) (tables into.new) }
+    ensures ok { IfOk result (λ r. Answers (tables into.new) tokens.now.tokens r (closed line (expression_at (tables into.old).forest inside) (drop at tokens.now.tokens))) }
+{
+    match after_close(tokens, at) {
+        Some(next) => found(tokens, next, Expr::Paren(inside), line, into),
+        None => Ok(None),
+    }
+}
+
+/// An element, whose index ends at a place (C17 6.5.2.1).
+#[tactic(auto, using(pv_tree::proofs::Kept::extends_same), unfolding(crate::specs::Reader::indexed))]
+pub(crate) fn index(
+    tokens: &Tokens,
+    at: u32,
+    array: NodeId,
+    index: NodeId,
+    into: &mut Unit,
+) -> Result<Option<(NodeId, u32)>, NoMemory>
+    requires place { at ≤ length tokens.now.tokens }
+    requires array { Is (tables into.old) is_expression array }
+    requires index { Is (tables into.old) is_expression index }
+    ensures keeps { Extends (tables into.old) (tables into.new) }
+    ensures ok { IfOk result (λ r. Answers (tables into.new) tokens.now.tokens r (indexed (expression_at (tables into.old).forest array) (expression_at (tables into.old).forest index) (drop at tokens.now.tokens))) }
+{
+    match after_bracket(tokens, at) {
+        Some(next) => {
+            let line = line_of(into, array);
+            found(tokens, next, Expr::Index(array, index), line, into)
+        }
+        None => Ok(None),
+    }
+}
+
+/// A member, whose name stands at a place (C17 6.5.2.3p1).
+#[tactic(auto, using(pv_tree::proofs::Kept::extends_same), unfolding(crate::specs::Parts::named))]
+pub(crate) fn member(
+    tokens: &Tokens,
+    typedefs: &IndexSet<u32>,
+    at: u32,
+    whole: NodeId,
+    into: &mut Unit,
+) -> Result<Option<(NodeId, u32)>, NoMemory>
+    requires place { at ≤ length tokens.now.tokens }
+    requires whole { Is (tables into.old) is_expression whole }
+    ensures keeps { Extends (tables into.old) (tables into.new) }
+    ensures ok { IfOk result (λ r. Answers (tables into.new) tokens.now.tokens r (named (contains nat_eq typedefs.now) (Member (expression_line (expression_at (tables into.old).forest whole)) (expression_at (tables into.old).forest whole)) (drop at tokens.now.tokens))) }
+{
+    match name_next(tokens, typedefs, at) {
+        Some((name, next)) => {
+            let line = line_of(into, whole);
+            found(tokens, next, Expr::Member(whole, name), line, into)
+        }
+        None => Ok(None),
+    }
+}
+
+/// A member behind a pointer, whose name stands at a place (C17 6.5.2.3p2).
+#[tactic(auto, using(pv_tree::proofs::Kept::extends_same), unfolding(crate::specs::Parts::named))]
+pub(crate) fn arrow(
+    tokens: &Tokens,
+    typedefs: &IndexSet<u32>,
+    at: u32,
+    pointer: NodeId,
+    into: &mut Unit,
+) -> Result<Option<(NodeId, u32)>, NoMemory>
+    requires place { at ≤ length tokens.now.tokens }
+    requires pointer { Is (tables into.old) is_expression pointer }
+    ensures keeps { Extends (tables into.old) (tables into.new) }
+    ensures ok { IfOk result (λ r. Answers (tables into.new) tokens.now.tokens r (named (contains nat_eq typedefs.now) (Arrow (expression_line (expression_at (tables into.old).forest pointer)) (expression_at (tables into.old).forest pointer)) (drop at tokens.now.tokens))) }
+{
+    match name_next(tokens, typedefs, at) {
+        Some((name, next)) => {
+            let line = line_of(into, pointer);
+            found(tokens, next, Expr::Arrow(pointer, name), line, into)
+        }
+        None => Ok(None),
+    }
+}
+
+/// An operator before its operand, which ends at a place (C17 6.5.3).
+pub(crate) fn prefixed(
+    tokens: &Tokens,
+    at: u32,
+    op: Prefix,
+    operand: NodeId,
+    line: u32,
+    into: &mut Unit,
+) -> Result<Option<(NodeId, u32)>, NoMemory>
+    requires place { at ≤ length tokens.now.tokens }
+    requires operand { Is (tables into.old) is_expression operand }
+    ensures keeps { Extends (tables into.old) (tables into.new) }
+    ensures ok { IfOk result (λ r. Answers (tables into.new) tokens.now.tokens r (Some (prefixed line op (expression_at (tables into.old).forest operand), drop at tokens.now.tokens))) }
+{
+    let expr = match op {
+        Prefix::Increment => Expr::PreIncrement(operand),
+        Prefix::Decrement => Expr::PreDecrement(operand),
+        Prefix::Sizeof => Expr::SizeofExpr(operand),
+        Prefix::Unary(unary) => Expr::Unary(unary, operand),
+    };
+    found(tokens, at, expr, line, into)
+}
+
+/// An operator between two operands, of which the right one ends at a place (C17 6.5.5 to 6.5.14,
+/// 6.5.16, 6.5.17).
+pub(crate) fn joined(
+    tokens: &Tokens,
+    at: u32,
+    op: Join,
+    left: NodeId,
+    right: NodeId,
+    into: &mut Unit,
+) -> Result<Option<(NodeId, u32)>, NoMemory>
+    requires place { at ≤ length tokens.now.tokens }
+    requires left { Is (tables into.old) is_expression left }
+    requires right { Is (tables into.old) is_expression right }
+    ensures keeps { Extends (tables into.old) (tables into.new) }
+    ensures ok { IfOk result (λ r. Answers (tables into.new) tokens.now.tokens r (Some (joined op (expression_at (tables into.old).forest left) (expression_at (tables into.old).forest right), drop at tokens.now.tokens))) }
+{
+    let line = line_of(into, left);
+    let expr = match op {
+        Join::Binary(binary) => Expr::Binary(binary, left, right),
+        Join::Assign(assign) => Expr::Assign(assign, left, right),
+        Join::Comma => Expr::Comma(left, right),
+    };
+    found(tokens, at, expr, line, into)
+}
+
+/// A call, whose arguments end at a place (C17 6.5.2.2).
+pub(crate) fn call(
+    tokens: &Tokens,
+    at: u32,
+    callee: NodeId,
+    arguments: &[NodeId],
+    into: &mut Unit,
+) -> Result<Option<(NodeId, u32)>, NoMemory>
+    requires place { at ≤ length tokens.now.tokens }
+    requires callee { Is (tables into.old) is_expression callee }
+    requires arguments { All (λ n. Is (tables into.old) is_expression n) arguments.now }
+    ensures keeps { Extends (tables into.old) (tables into.new) }
+    ensures ok { IfOk result (λ r. Answers (tables into.new) tokens.now.tokens r (Some (Call (expression_line (expression_at (tables into.old).forest callee)) (expression_at (tables into.old).forest callee) (arguments_of (tables into.old).forest arguments.now), drop at tokens.now.tokens))) }
+{
+    let line = line_of(into, callee);
+    let list = into.add_list(arguments)?;
+    found(tokens, at, Expr::Call(callee, list), line, into)
+}

@@ -1,0 +1,349 @@
+//! Reading an expression from the left, by the levels of its operators.
+ghost use Rattle.std.specs.Prelude.{◌≡◌, ◌≤◌, length, drop, Some, IfOk, option_and_then};
+ghost use Rattle.pv_tree.specs.Rows.{tables};
+ghost use Rattle.pv_tree.specs.Tables.{expression_at, is_expression, Is, Extends};
+ghost use Rattle.pv_tree.specs.TypeNames.{AreTied};
+ghost use Rattle.pv_expr.specs.Answers.{Answers};
+ghost use Rattle.pv_expr.specs.Known.{names_in};
+ghost use Rattle.pv_expr.specs.Reader.{read, deeper, head, opened, fronted, grown, longer, goes_on, asked, called, measured};
+
+use crate::follows::{Follow, Prefix, follow_of, prefix_of};
+use crate::nodes::{
+    arrow, call, close, depth_of, found, index, joined, leaf, line_of, member, prefixed, rank_of,
+};
+use crate::source::{
+    Source, after_close, after_colon, begins_type, is_close, is_comma, is_open, measures_type, peek,
+};
+use pv_lex::NoMemory;
+use pv_tree::{Expr, NodeId, TypeReader, Unit};
+
+impl<R: TypeReader> Source<'_, R> {
+    /// The longest tree of a level and of at most so much depth that begins at a place, and the
+    /// place behind it.
+    #[cycle(reading)]
+    pub(crate) fn read_tree(
+        &self,
+        at: u32,
+        level: u8,
+        depth: u32,
+        into: &mut Unit,
+    ) -> Result<Option<(NodeId, u32)>, NoMemory>
+        requires place { at ≤ length self.now.tokens.now.tokens }
+        requires tied { AreTied (R.types self.now.reader.now) (tables into.old) self.now.tokens.now.tokens }
+        ensures keeps { Extends (tables into.old) (tables into.new) }
+        ensures ok { IfOk result (λ r. Answers (tables into.new) self.now.tokens.now.tokens r (read (names_in self.now.typedefs.now (R.types self.now.reader.now) (tables into.old) self.now.tokens.now.tokens) depth level (drop at self.now.tokens.now.tokens))) }
+    {
+        if depth == 0 {
+            return Ok(None);
+        }
+        self.read_deeper(at, level, depth - 1, into)
+    }
+
+    // The same, where its parts have at most so much depth.
+    #[cycle(reading)]
+    fn read_deeper(
+        &self,
+        at: u32,
+        level: u8,
+        below: u32,
+        into: &mut Unit,
+    ) -> Result<Option<(NodeId, u32)>, NoMemory>
+        requires place { at ≤ length self.now.tokens.now.tokens }
+        requires tied { AreTied (R.types self.now.reader.now) (tables into.old) self.now.tokens.now.tokens }
+        ensures keeps { Extends (tables into.old) (tables into.new) }
+        ensures ok { IfOk result (λ r. Answers (tables into.new) self.now.tokens.now.tokens r (deeper (names_in self.now.typedefs.now (R.types self.now.reader.now) (tables into.old) self.now.tokens.now.tokens) (read (names_in self.now.typedefs.now (R.types self.now.reader.now) (tables into.old) self.now.tokens.now.tokens) below) below level (drop at self.now.tokens.now.tokens))) }
+    {
+        match self.read_head(at, below, into)? {
+            None => Ok(None),
+            Some((first, next)) => {
+                if rank_of(into, first) < level {
+                    return Ok(None);
+                }
+                self.grow(next, first, level, below, into)
+            }
+        }
+    }
+
+    // A tree that nothing went on from yet (C17 6.5.1, 6.5.3, 6.5.4).
+    #[cycle(reading)]
+    fn read_head(
+        &self,
+        at: u32,
+        below: u32,
+        into: &mut Unit,
+    ) -> Result<Option<(NodeId, u32)>, NoMemory>
+        requires place { at ≤ length self.now.tokens.now.tokens }
+        requires tied { AreTied (R.types self.now.reader.now) (tables into.old) self.now.tokens.now.tokens }
+        ensures keeps { Extends (tables into.old) (tables into.new) }
+        ensures ok { IfOk result (λ r. Answers (tables into.new) self.now.tokens.now.tokens r (head (names_in self.now.typedefs.now (R.types self.now.reader.now) (tables into.old) self.now.tokens.now.tokens) (read (names_in self.now.typedefs.now (R.types self.now.reader.now) (tables into.old) self.now.tokens.now.tokens) below) below (drop at self.now.tokens.now.tokens))) }
+    {
+        let Some(token) = peek(self.tokens, at) else {
+            return Ok(None);
+        };
+        let next = at + 1;
+        if is_open(token.kind) {
+            return self.open(next, token.line, below, into);
+        }
+        if measures_type(self.tokens, self.typedefs, token.kind, next) {
+            return self.measure(next + 1, token.line, below, into);
+        }
+        match prefix_of(token.kind) {
+            Some(op) => self.front(next, token.line, op, below, into),
+            None => leaf(self.tokens, self.typedefs, next, token, into),
+        }
+    }
+
+    // An operator and its operand (C17 6.5.3).
+    #[cycle(reading)]
+    #[tactic(auto, unfolding(crate::specs::Reader::fronted))]
+    fn front(
+        &self,
+        at: u32,
+        line: u32,
+        op: Prefix,
+        below: u32,
+        into: &mut Unit,
+    ) -> Result<Option<(NodeId, u32)>, NoMemory>
+        requires place { at ≤ length self.now.tokens.now.tokens }
+        requires tied { AreTied (R.types self.now.reader.now) (tables into.old) self.now.tokens.now.tokens }
+        ensures keeps { Extends (tables into.old) (tables into.new) }
+        ensures ok { IfOk result (λ r. Answers (tables into.new) self.now.tokens.now.tokens r (fronted (read (names_in self.now.typedefs.now (R.types self.now.reader.now) (tables into.old) self.now.tokens.now.tokens) below) line (Some op) (drop at self.now.tokens.now.tokens))) }
+    {
+        match self.read_tree(at, op.operand(), below, into)? {
+            Some((operand, next)) => prefixed(self.tokens, next, op, operand, line, into),
+            None => Ok(None),
+        }
+    }
+
+    // What follows an opening parenthesis: a cast (C17 6.5.4) or what stands in parentheses.
+    #[cycle(reading)]
+    fn open(
+        &self,
+        at: u32,
+        line: u32,
+        below: u32,
+        into: &mut Unit,
+    ) -> Result<Option<(NodeId, u32)>, NoMemory>
+        requires place { at ≤ length self.now.tokens.now.tokens }
+        requires tied { AreTied (R.types self.now.reader.now) (tables into.old) self.now.tokens.now.tokens }
+        ensures keeps { Extends (tables into.old) (tables into.new) }
+        ensures ok { IfOk result (λ r. Answers (tables into.new) self.now.tokens.now.tokens r (opened (names_in self.now.typedefs.now (R.types self.now.reader.now) (tables into.old) self.now.tokens.now.tokens) (read (names_in self.now.typedefs.now (R.types self.now.reader.now) (tables into.old) self.now.tokens.now.tokens) below) below line (drop at self.now.tokens.now.tokens))) }
+    {
+        if begins_type(self.tokens, self.typedefs, at) {
+            let Some((name, next)) = self.type_closed(at, below, into) else {
+                return Ok(None);
+            };
+            match self.read_tree(next, 14, below, into)? {
+                Some((operand, end)) => {
+                    found(self.tokens, end, Expr::Cast(name, operand), line, into)
+                }
+                None => Ok(None),
+            }
+        } else {
+            match self.read_tree(at, 1, below, into)? {
+                Some((inside, next)) => close(self.tokens, next, inside, line, into),
+                None => Ok(None),
+            }
+        }
+    }
+
+    // The size of a type, whose name is behind the parenthesis (C17 6.5.3.4).
+    #[tactic(auto, using(pv_tree::proofs::Kept::extends_same))]
+    fn measure(
+        &self,
+        at: u32,
+        line: u32,
+        below: u32,
+        into: &mut Unit,
+    ) -> Result<Option<(NodeId, u32)>, NoMemory>
+        requires place { at ≤ length self.now.tokens.now.tokens }
+        requires tied { AreTied (R.types self.now.reader.now) (tables into.old) self.now.tokens.now.tokens }
+        ensures keeps { Extends (tables into.old) (tables into.new) }
+        ensures ok { IfOk result (λ r. Answers (tables into.new) self.now.tokens.now.tokens r (option_and_then (λ x. measured below line x.0 x.1) ((names_in self.now.typedefs.now (R.types self.now.reader.now) (tables into.old) self.now.tokens.now.tokens).type_at (drop at self.now.tokens.now.tokens)))) }
+    {
+        match self.type_closed(at, below, into) {
+            Some((name, next)) => { found(self.tokens, next, Expr::SizeofType(name), line, into) }
+            None => Ok(None),
+        }
+    }
+
+    // The longest tree of a level that begins with a tree.
+    #[cycle(reading)]
+    fn grow(
+        &self,
+        at: u32,
+        first: NodeId,
+        level: u8,
+        below: u32,
+        into: &mut Unit,
+    ) -> Result<Option<(NodeId, u32)>, NoMemory>
+        requires place { at ≤ length self.now.tokens.now.tokens }
+        requires tied { AreTied (R.types self.now.reader.now) (tables into.old) self.now.tokens.now.tokens }
+        requires node { Is (tables into.old) is_expression first }
+        ensures keeps { Extends (tables into.old) (tables into.new) }
+        ensures ok { IfOk result (λ r. Answers (tables into.new) self.now.tokens.now.tokens r (Some (grown (names_in self.now.typedefs.now (R.types self.now.reader.now) (tables into.old) self.now.tokens.now.tokens) (read (names_in self.now.typedefs.now (R.types self.now.reader.now) (tables into.old) self.now.tokens.now.tokens) below) level below (expression_at (tables into.old).forest first) (drop at self.now.tokens.now.tokens)))) }
+    {
+        let mut left = first;
+        let mut next = at;
+        loop {
+            match self.extend(next, left, level, below, into)? {
+                Some((longer, end)) => {
+                    left = longer;
+                    next = end;
+                }
+                None => return Ok(Some((left, next))),
+            }
+        }
+    }
+
+    // The next longer tree of a level that begins with a tree.
+    #[cycle(reading)]
+    #[tactic(auto, unfolding(crate::specs::Reader::longer, crate::specs::Reader::tried))]
+    fn extend(
+        &self,
+        at: u32,
+        left: NodeId,
+        level: u8,
+        below: u32,
+        into: &mut Unit,
+    ) -> Result<Option<(NodeId, u32)>, NoMemory>
+        requires place { at ≤ length self.now.tokens.now.tokens }
+        requires tied { AreTied (R.types self.now.reader.now) (tables into.old) self.now.tokens.now.tokens }
+        requires node { Is (tables into.old) is_expression left }
+        ensures keeps { Extends (tables into.old) (tables into.new) }
+        ensures ok { IfOk result (λ r. Answers (tables into.new) self.now.tokens.now.tokens r (longer (names_in self.now.typedefs.now (R.types self.now.reader.now) (tables into.old) self.now.tokens.now.tokens) (read (names_in self.now.typedefs.now (R.types self.now.reader.now) (tables into.old) self.now.tokens.now.tokens) below) level below (expression_at (tables into.old).forest left) (drop at self.now.tokens.now.tokens))) }
+    {
+        if depth_of(into, left) > below {
+            return Ok(None);
+        }
+        let Some(token) = peek(self.tokens, at) else {
+            return Ok(None);
+        };
+        let Some(follow) = follow_of(token.kind) else {
+            return Ok(None);
+        };
+        if follow.rank() < level || rank_of(into, left) < follow.left() {
+            return Ok(None);
+        }
+        self.go_on(at + 1, left, follow, below, into)
+    }
+
+    // The tree that goes on from a tree so (C17 6.5.2, 6.5.5 to 6.5.17).
+    #[cycle(reading)]
+    #[tactic(auto, unfolding(crate::specs::Reader::goes_on))]
+    fn go_on(
+        &self,
+        at: u32,
+        left: NodeId,
+        follow: Follow,
+        below: u32,
+        into: &mut Unit,
+    ) -> Result<Option<(NodeId, u32)>, NoMemory>
+        requires place { at ≤ length self.now.tokens.now.tokens }
+        requires tied { AreTied (R.types self.now.reader.now) (tables into.old) self.now.tokens.now.tokens }
+        requires node { Is (tables into.old) is_expression left }
+        ensures keeps { Extends (tables into.old) (tables into.new) }
+        ensures ok { IfOk result (λ r. Answers (tables into.new) self.now.tokens.now.tokens r (goes_on (names_in self.now.typedefs.now (R.types self.now.reader.now) (tables into.old) self.now.tokens.now.tokens) (read (names_in self.now.typedefs.now (R.types self.now.reader.now) (tables into.old) self.now.tokens.now.tokens) below) (expression_at (tables into.old).forest left) follow (drop at self.now.tokens.now.tokens))) }
+    {
+        match follow {
+            Follow::Join(op) => match self.read_tree(at, op.right(), below, into)? {
+                Some((right, next)) => joined(self.tokens, next, op, left, right, into),
+                None => Ok(None),
+            },
+            Follow::Ask => match self.read_tree(at, 1, below, into)? {
+                Some((yes, next)) => self.ask(next, left, yes, below, into),
+                None => Ok(None),
+            },
+            Follow::Index => match self.read_tree(at, 1, below, into)? {
+                Some((subscript, next)) => index(self.tokens, next, left, subscript, into),
+                None => Ok(None),
+            },
+            Follow::Call => self.arguments(at, left, below, into),
+            Follow::Dot => member(self.tokens, self.typedefs, at, left, into),
+            Follow::Arrow => arrow(self.tokens, self.typedefs, at, left, into),
+            Follow::Increment => {
+                let line = line_of(into, left);
+                found(self.tokens, at, Expr::PostIncrement(left), line, into)
+            }
+            Follow::Decrement => {
+                let line = line_of(into, left);
+                found(self.tokens, at, Expr::PostDecrement(left), line, into)
+            }
+        }
+    }
+
+    // A conditional expression, whose middle operand ends at the place (C17 6.5.15).
+    #[cycle(reading)]
+    #[tactic(auto, unfolding(crate::specs::Reader::asked))]
+    fn ask(
+        &self,
+        at: u32,
+        condition: NodeId,
+        yes: NodeId,
+        below: u32,
+        into: &mut Unit,
+    ) -> Result<Option<(NodeId, u32)>, NoMemory>
+        requires place { at ≤ length self.now.tokens.now.tokens }
+        requires tied { AreTied (R.types self.now.reader.now) (tables into.old) self.now.tokens.now.tokens }
+        requires condition { Is (tables into.old) is_expression condition }
+        requires yes { Is (tables into.old) is_expression yes }
+        ensures keeps { Extends (tables into.old) (tables into.new) }
+        ensures ok { IfOk result (λ r. Answers (tables into.new) self.now.tokens.now.tokens r (asked (read (names_in self.now.typedefs.now (R.types self.now.reader.now) (tables into.old) self.now.tokens.now.tokens) below) (expression_at (tables into.old).forest condition) (expression_at (tables into.old).forest yes) (drop at self.now.tokens.now.tokens))) }
+    {
+        let Some(next) = after_colon(self.tokens, at) else {
+            return Ok(None);
+        };
+        match self.read_tree(next, 3, below, into)? {
+            Some((no, end)) => {
+                let line = line_of(into, condition);
+                found(
+                    self.tokens,
+                    end,
+                    Expr::Conditional(condition, yes, no),
+                    line,
+                    into,
+                )
+            }
+            None => Ok(None),
+        }
+    }
+
+    // A call, whose arguments begin at the place (C17 6.5.2.2).
+    #[cycle(reading)]
+    fn arguments(
+        &self,
+        at: u32,
+        callee: NodeId,
+        below: u32,
+        into: &mut Unit,
+    ) -> Result<Option<(NodeId, u32)>, NoMemory>
+        requires place { at ≤ length self.now.tokens.now.tokens }
+        requires tied { AreTied (R.types self.now.reader.now) (tables into.old) self.now.tokens.now.tokens }
+        requires node { Is (tables into.old) is_expression callee }
+        ensures keeps { Extends (tables into.old) (tables into.new) }
+        ensures ok { IfOk result (λ r. Answers (tables into.new) self.now.tokens.now.tokens r (called (read (names_in self.now.typedefs.now (R.types self.now.reader.now) (tables into.old) self.now.tokens.now.tokens) below) (expression_at (tables into.old).forest callee) (drop at self.now.tokens.now.tokens))) }
+    {
+        if let Some(next) = after_close(self.tokens, at) {
+            return call(self.tokens, next, callee, &[], into);
+        }
+        let mut list = Vec::new(*self.typedefs.allocator());
+        let mut next = at;
+        loop {
+            let Some((argument, end)) = self.read_tree(next, 2, below, into)? else {
+                return Ok(None);
+            };
+            list.push(argument)?;
+            let Some(token) = peek(self.tokens, end) else {
+                return Ok(None);
+            };
+            if is_comma(token.kind) {
+                next = end + 1;
+                continue;
+            }
+            if is_close(token.kind) {
+                return call(self.tokens, end + 1, callee, &list, into);
+            }
+            return Ok(None);
+        }
+    }
+}
