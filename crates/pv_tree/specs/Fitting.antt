@@ -3,9 +3,9 @@
 use Rattle.std.specs.Prelude.{◌≡◌, ◌≤◌, ℕ, zero, suc, Bool, true, false, List, length, drop}
 use Rattle.pv_lex.specs.declared.token_table.Token.{Token}
 use Rattle.pv_lex.specs.declared.token_table.TokenKind.{TokenKind}
-use Rattle.pv_tree.specs.Syntax.{ExpressionTree, Name, Number, Character, Text, Paren, Index, Call, Member, Arrow, PostIncrement, PostDecrement, PreIncrement, PreDecrement, Unary, SizeofExpr, SizeofType, Cast, Binary, Conditional, Assign, Comma, ArgumentTrees, NoArguments, Argument, DeclarationTree, Function, Declaration, InitDeclarator, MemberDeclaration, Enumerator, Parameter, TypeName, DeclaratorTree, DeclaredName, ParenDeclarator, Pointer, Array, FunctionDeclarator, AbstractParen, AbstractPointer, AbstractArray, AbstractFunction, SpecifierTree, Keyword, Composite, Enumeration, Tag, TypedefName, InitializerTree, Initial, Braces, StatementTree, Block, ExpressionStatement, If, IfElse, While, DoWhile, For, ForDeclaration, Switch, SwitchBlock, Labelled, Case, Default, Break, Continue, Return, Tree, OfExpression, OfDeclaration, OfDeclarator, OfSpecifier, OfInitializer, OfStatement, Trees, NoTrees, Then, OptionalTree, Absent, Present}
+use Rattle.pv_tree.specs.Syntax.{ExpressionTree, DeclarationTree, Function, Declaration, InitDeclarator, MemberDeclaration, Enumerator, Parameter, TypeName, DeclaratorTree, DeclaredName, ParenDeclarator, Pointer, Array, FunctionDeclarator, AbstractParen, AbstractPointer, AbstractArray, AbstractFunction, SpecifierTree, Keyword, Composite, Enumeration, Tag, TypedefName, InitializerTree, Initial, Braces, StatementTree, Block, ExpressionStatement, If, IfElse, While, DoWhile, For, ForDeclaration, Switch, SwitchBlock, Labelled, Case, Default, Break, Continue, Return, Tree, OfExpression, OfDeclaration, OfDeclarator, OfSpecifier, OfInitializer, OfStatement, Trees, NoTrees, Then, OptionalTree, Absent, Present}
 use Rattle.pv_tree.specs.Levels.{rank}
-use Rattle.pv_tree.specs.Spelling.{expression_tokens, arguments_tokens, before_argument, before_member, declaration_tokens, declarator_tokens, statement_tokens, trees_tokens, listed_tokens, optional_tokens, tag_tokens}
+use Rattle.pv_tree.specs.Spelling.{expression_tokens, before_member, declaration_tokens, declarator_tokens, statement_tokens, trees_tokens, listed_tokens, optional_tokens, tag_tokens}
 use Rattle.pv_tree.specs.Grammar.{line_here, FitsBy}
 use Rattle.pv_tree.specs.Places.{Place, Specifiers, InitDeclarators, Members, MemberDeclarators, Enumerators, Parameters, Initializers, Constants, Expressions, AbstractDeclarators, DirectAbstract, ParameterDeclarators, BlockItems, SwitchItems, Labels, stands, is_named, is_abstract, is_direct, is_type_name, is_block, is_switch_block, is_whole_statement, is_declaration_tree, ends_open, is_plain_word, is_composite_word, is_tag_word, some, may_be_variadic}
 

@@ -1,8 +1,8 @@
 -- The places of the grammar at which a tree stands, or several (6.5 to 6.9).
-use Rattle.std.specs.Prelude.{ℕ, Bool, true, false, ◌&&◌, ◌||◌, nat_le}
+use Rattle.std.specs.Prelude.{Bool, true, false, ◌&&◌, nat_le}
 use Rattle.pv_lex.specs.declared.words.Word.{Word}
 use Rattle.pv_lex.specs.declared.words.Word.TheVariants as word
-use Rattle.pv_tree.specs.Syntax.{DeclarationTree, Function, Declaration, InitDeclarator, MemberDeclaration, Enumerator, Parameter, TypeName, DeclaratorTree, DeclaredName, ParenDeclarator, Pointer, Array, FunctionDeclarator, AbstractParen, AbstractPointer, AbstractArray, AbstractFunction, StatementTree, Block, If, IfElse, While, For, ForDeclaration, SwitchBlock, Labelled, Case, Default, Tree, OfExpression, OfDeclaration, OfDeclarator, OfSpecifier, OfInitializer, OfStatement, Trees, NoTrees, Then}
+use Rattle.pv_tree.specs.Syntax.{DeclarationTree, Declaration, InitDeclarator, MemberDeclaration, Enumerator, Parameter, TypeName, DeclaratorTree, DeclaredName, ParenDeclarator, Pointer, Array, FunctionDeclarator, AbstractParen, AbstractPointer, AbstractArray, AbstractFunction, StatementTree, Block, If, IfElse, While, For, ForDeclaration, SwitchBlock, Labelled, Case, Default, Tree, OfExpression, OfDeclaration, OfDeclarator, OfSpecifier, OfInitializer, OfStatement, Trees, NoTrees, Then}
 use Rattle.pv_tree.specs.Levels.{rank}
 
 pub data Place : Type 0 where

@@ -1,7 +1,6 @@
 -- Translation units (6.9): external declarations in a row, each of which may add typedef names.
-use Rattle.std.specs.Prelude.{◌≡◌, ◌≤◌, ◌<◌, ℕ, Bool, true, false, ◌||◌, ◌&&◌, ◌==◌, List, [], ◌∷◌, ◌++◌, length, drop}
+use Rattle.std.specs.Prelude.{◌≡◌, ◌≤◌, ℕ, Bool, true, false, ◌||◌, ◌&&◌, ◌==◌, List, [], ◌∷◌, ◌++◌, length}
 use Rattle.pv_lex.specs.declared.token_table.Token.{Token}
-use Rattle.pv_lex.specs.declared.words.Word.{Word}
 use Rattle.pv_lex.specs.declared.words.Word.TheVariants as word
 use Rattle.pv_tree.specs.Syntax.{DeclarationTree, Function, Declaration, InitDeclarator, DeclaratorTree, DeclaredName, ParenDeclarator, Pointer, Array, FunctionDeclarator, Keyword, Tree, OfDeclaration, OfSpecifier, Trees, NoTrees, Then}
 use Rattle.pv_tree.specs.Depths.{declaration_depth}
