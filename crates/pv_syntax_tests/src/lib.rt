@@ -4,4 +4,6 @@
 #![tactic(auto)]
 
 #[cfg(test)]
+mod expressions;
+#[cfg(test)]
 mod nodes;

@@ -1,0 +1,62 @@
+-- For the tests: such a reader's type names are tied to the tokens.
+use Rattle.std.proofs.Common.{◌≡◌, ◌==◌, ◌≤◌, ◌+◌, ℕ, Bool, true, false, cond, List, [], ◌∷◌, ◌++◌, length, drop, Option, Some, None, slice_get, refl, sym, ap, ◌∙◌, arith}
+use Rattle.std.specs.Prelude.{option_map, option_and_then}
+use Rattle.std.proofs.lemmas.Bool.{eqb-true}
+use Rattle.std.proofs.lemmas.Option.{slice_get_within, slice_get_past}
+use Rattle.pv_lex.specs.declared.token_table.Token.{Token}
+use Rattle.pv_lex.specs.declared.token_table.TokenKind.{TokenKind}
+use Rattle.pv_lex.specs.declared.token_table.TokenKind.TheVariants as kind
+use Rattle.pv_lex.specs.declared.words.Word.TheVariants as word
+use Rattle.pv_tree.specs.declared.nodes.NodeId.{NodeId}
+use Rattle.pv_tree.specs.Spelling.{declaration_tokens}
+use Rattle.pv_tree.specs.Tables.{Tables, declaration_at, is_declaration, Is}
+use Rattle.pv_tree.specs.Grammar.{kinds}
+use Rattle.pv_tree.specs.TypeNames.{IsTied, AreTied}
+use Rattle.pv_syntax_tests.specs.OneWord.{word_of, at_token, one_word}
+use Rattle.pv_expr.proofs.Places.{peeked}
+
+-- ---- what the reader answers
+
+pub word_past : (int : NodeId) (name : ℕ) (named : NodeId) (tokens : List Token) (at : ℕ) → length tokens ≤ at → None ≡ one_word int name named tokens at
+word_past int name named tokens at h = ap (option_and_then (at_token int name named at)) (sym (slice_get_past tokens at h))
+
+pub word_here : (int : NodeId) (name : ℕ) (named : NodeId) (tokens : List Token) (at : ℕ) (t : Token) (o : Option NodeId) → slice_get tokens at ≡ Some t → o ≡ word_of int name named t.kind → option_map (λ n. (n, at + 1)) o ≡ one_word int name named tokens at
+word_here int name named tokens at t o e w =
+    ap (option_map (λ (n : NodeId). let x : NodeId × ℕ = (n, at + 1) in x)) w ∙ ap (option_and_then (at_token int name named at)) (sym e)
+
+-- ---- such type names are tied
+
+module _ (u : Tables) (tokens : List Token) (int : NodeId) (name : ℕ) (named : NodeId) (int_there : Is u is_declaration int) (named_there : Is u is_declaration named)
+    (int_tokens : declaration_tokens (declaration_at u.forest int) ≡ kind.Word word.Int ∷ []) (named_tokens : declaration_tokens (declaration_at u.forest named) ≡ kind.Name name ∷ []) where
+  tied_by : (at : ℕ) (t : Token) (n : NodeId) (x : NodeId × ℕ) → slice_get tokens at ≡ Some t → Is u is_declaration n → declaration_tokens (declaration_at u.forest n) ≡ t.kind ∷ [] → n ≡ x.0 → at + 1 ≡ x.1 → IsTied u tokens at x
+  tied_by at t n x e there is a b = rw (← a, ← b) (record {
+    node = there;
+    place = omega (arith, slice_get_within tokens at t e);
+    spells = ap kinds (peeked tokens at t e) ∙ ap (λ ks. ks ++ kinds (drop (at + 1) tokens)) (sym is);
+  })
+
+  same_number : (b : Bool) (n : NodeId) → cond b (Some named) None ≡ Some n → (b ≡ true) × (named ≡ n)
+  same_number true n e = (refl, cc)
+  same_number false n e = absurd cc
+
+  tied_kind : (at : ℕ) (t : Token) (k : TokenKind) (n : NodeId) → t.kind ≡ k → word_of int name named k ≡ Some n → Is u is_declaration n × (declaration_tokens (declaration_at u.forest n) ≡ t.kind ∷ [])
+  tied_kind at t (kind.Word word.Int) n e w = let same : int ≡ n = cc in (rw (← same) int_there, rw (← same) (int_tokens ∙ ap (λ k. k ∷ []) (sym e)))
+  tied_kind at t (kind.Name m) n e w =
+      let g = same_number (m == name) n w in
+      let number : m ≡ name = omega (arith, eqb-true m name g.0) in
+      (rw (← g.1) named_there, rw (← g.1) (named_tokens ∙ ap (λ k. kind.Name k ∷ []) (sym number) ∙ ap (λ k. k ∷ []) (sym e)))
+  tied_kind at t _ n e w = absurd cc
+
+  tied_token : (at : ℕ) (x : NodeId × ℕ) (t : Token) (o : Option NodeId) → slice_get tokens at ≡ Some t → word_of int name named t.kind ≡ o → option_map (λ n. (n, at + 1)) o ≡ Some x → IsTied u tokens at x
+  tied_token at x t None e w is = absurd cc
+  tied_token at x t (Some n) e w is =
+      let p : ◌≡◌ {A = NodeId × ℕ} (n, at + 1) x = cc in
+      let k = tied_kind at t t.kind n refl w in
+      tied_by at t n x e k.0 k.1 (ap (λ (y : NodeId × ℕ). y.0) p) (ap (λ (y : NodeId × ℕ). y.1) p)
+
+  tied_at : (at : ℕ) (x : NodeId × ℕ) (o : Option Token) → slice_get tokens at ≡ o → option_and_then (at_token int name named at) o ≡ Some x → IsTied u tokens at x
+  tied_at at x None e is = absurd cc
+  tied_at at x (Some t) e is = tied_token at x t (word_of int name named t.kind) e refl is
+
+  pub words_tied : AreTied (one_word int name named tokens) u tokens
+  words_tied at x is = tied_at at x (slice_get tokens at) refl is

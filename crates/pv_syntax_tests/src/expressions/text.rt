@@ -1,0 +1,213 @@
+//! A tree as text: each node in parentheses, its operator first.
+ghost use Rattle.std.specs.Prelude.{◌≡◌, ◌<◌, length, slice_index_or, IfSome, ℕ};
+ghost use Rattle.pv_tree.specs.Children.{HasExprChildren};
+ghost use Rattle.pv_tree.specs.Rows.{tables};
+ghost use Rattle.pv_tree.specs.Tables.{Forest, HasOptional, HasList, is_expression, is_declaration, Is};
+
+use pv_lex::Tokens;
+use pv_tree::{Decl, Expr, ListId, NodeId, Spec, Unit};
+use std::fmt::Write;
+use std::test::Fail;
+
+/// What the text is made from.
+#[derive(Drop)]
+pub(super) struct Printer<'a> {
+    pub(super) tokens: &'a Tokens,
+    pub(super) unit: &'a Unit,
+    /// Whether each node's line is printed, too.
+    pub(super) lines: bool,
+}
+
+/// The type name within an expression.
+fn type_in(e: Expr) -> Option<NodeId>
+    ensures { (f : Forest) (count : ℕ) → HasExprChildren f count e → HasOptional f count is_declaration result }
+{
+    match e {
+        Expr::SizeofType(name) | Expr::Cast(name, _) => Some(name),
+        _ => None,
+    }
+}
+
+/// The arguments of a call.
+fn arguments_in(e: Expr) -> Option<ListId>
+    ensures { (f : Forest) (count : ℕ) → HasExprChildren f count e → IfSome result (λ l. HasList f count is_expression l) }
+{
+    match e {
+        Expr::Call(_, arguments) => Some(arguments),
+        _ => None,
+    }
+}
+
+/// The first operand.
+fn first_in(e: Expr) -> Option<NodeId>
+    ensures { (f : Forest) (count : ℕ) → HasExprChildren f count e → HasOptional f count is_expression result }
+{
+    match e {
+        Expr::Paren(a) => Some(a),
+        Expr::Index(a, _) => Some(a),
+        Expr::Call(a, _) => Some(a),
+        Expr::Member(a, _) => Some(a),
+        Expr::Arrow(a, _) => Some(a),
+        Expr::PostIncrement(a) => Some(a),
+        Expr::PostDecrement(a) => Some(a),
+        Expr::PreIncrement(a) => Some(a),
+        Expr::PreDecrement(a) => Some(a),
+        Expr::Unary(_, a) => Some(a),
+        Expr::SizeofExpr(a) => Some(a),
+        Expr::Cast(_, a) => Some(a),
+        Expr::Binary(_, a, _) => Some(a),
+        Expr::Conditional(a, _, _) => Some(a),
+        Expr::Assign(_, a, _) => Some(a),
+        Expr::Comma(a, _) => Some(a),
+        _ => None,
+    }
+}
+
+/// The second operand.
+fn second_in(e: Expr) -> Option<NodeId>
+    ensures { (f : Forest) (count : ℕ) → HasExprChildren f count e → HasOptional f count is_expression result }
+{
+    match e {
+        Expr::Index(_, b) => Some(b),
+        Expr::Binary(_, _, b) => Some(b),
+        Expr::Conditional(_, b, _) => Some(b),
+        Expr::Assign(_, _, b) => Some(b),
+        Expr::Comma(_, b) => Some(b),
+        _ => None,
+    }
+}
+
+/// The third operand.
+fn third_in(e: Expr) -> Option<NodeId>
+    ensures { (f : Forest) (count : ℕ) → HasExprChildren f count e → HasOptional f count is_expression result }
+{
+    match e {
+        Expr::Conditional(_, _, c) => Some(c),
+        _ => None,
+    }
+}
+
+/// A member of a list.
+fn nth(list: &[NodeId], i: usize) -> NodeId
+    requires { i < length list.now }
+    ensures { slice_index_or list.now i result ≡ result }
+{
+    list[i]
+}
+
+impl Printer<'_> {
+    fn name(&self, n: u32, out: &mut String) -> Result<(), Fail> {
+        if n < self.tokens.names_len() {
+            for b in self.tokens.name(n) {
+                out.push(*b as char)?;
+            }
+        }
+        Ok(())
+    }
+
+    fn number(
+        value: u64,
+        decimal: bool,
+        unsigned: bool,
+        longs: u8,
+        out: &mut String,
+    ) -> Result<(), Fail> {
+        write!(out, "{value}")?;
+        if !decimal {
+            out.push_str("o")?;
+        }
+        if unsigned {
+            out.push_str("u")?;
+        }
+        for _ in 0..longs {
+            out.push_str("l")?;
+        }
+        Ok(())
+    }
+
+    fn type_name(&self, n: NodeId, out: &mut String) -> Result<(), Fail>
+        requires { Is (tables self.now.unit.now) is_declaration n }
+    {
+        if let Decl::TypeName { specs, .. } = self.unit.decl(n) {
+            let specs = self.unit.list(specs);
+            for i in 0..specs.len() {
+                out.push_str(" ")?;
+                match self.unit.spec(nth(specs, i)) {
+                    Spec::TypedefName(name) => self.name(name, out)?,
+                    _ => out.push_str("int")?,
+                }
+            }
+        }
+        Ok(())
+    }
+
+    fn operator(&self, e: Expr, out: &mut String) -> Result<(), Fail> {
+        match e {
+            Expr::Name(n) => self.name(n, out)?,
+            Expr::Number {
+                value,
+                decimal,
+                unsigned,
+                longs,
+            } => Printer::number(value, decimal, unsigned, longs, out)?,
+            Expr::Character(value) => write!(out, "'{value}")?,
+            Expr::Text { more, .. } => write!(out, "\"{}", more as u64 + 1)?,
+            Expr::Paren(_) => out.push_str("()")?,
+            Expr::Index(_, _) => out.push_str("[]")?,
+            Expr::Call(_, _) => out.push_str("call")?,
+            Expr::Member(_, n) => {
+                out.push_str(".")?;
+                self.name(n, out)?;
+            }
+            Expr::Arrow(_, n) => {
+                out.push_str("->")?;
+                self.name(n, out)?;
+            }
+            Expr::PostIncrement(_) => out.push_str("Increment")?,
+            Expr::PostDecrement(_) => out.push_str("Decrement")?,
+            Expr::PreIncrement(_) => out.push_str("++")?,
+            Expr::PreDecrement(_) => out.push_str("--")?,
+            Expr::Unary(op, _) => write!(out, "{op:?}")?,
+            Expr::SizeofExpr(_) => out.push_str("sizeof")?,
+            Expr::SizeofType(_) => out.push_str("sizeof")?,
+            Expr::Cast(_, _) => out.push_str("cast")?,
+            Expr::Binary(op, _, _) => write!(out, "{op:?}")?,
+            Expr::Conditional(_, _, _) => out.push_str("?")?,
+            Expr::Assign(op, _, _) => write!(out, "={op:?}")?,
+            Expr::Comma(_, _) => out.push_str(",")?,
+        }
+        Ok(())
+    }
+
+    /// A space and the text of an expression.
+    pub(super) fn print(&self, n: NodeId, out: &mut String) -> Result<(), Fail>
+        requires { Is (tables self.now.unit.now) is_expression n }
+    {
+        let e = self.unit.expr(n);
+        out.push_str(" (")?;
+        self.operator(e, out)?;
+        if self.lines {
+            write!(out, "@{}", self.unit.line(n))?;
+        }
+        if let Some(name) = type_in(e) {
+            self.type_name(name, out)?;
+        }
+        if let Some(operand) = first_in(e) {
+            self.print(operand, out)?;
+        }
+        if let Some(operand) = second_in(e) {
+            self.print(operand, out)?;
+        }
+        if let Some(operand) = third_in(e) {
+            self.print(operand, out)?;
+        }
+        if let Some(list) = arguments_in(e) {
+            let arguments = self.unit.list(list);
+            for i in 0..arguments.len() {
+                self.print(nth(arguments, i), out)?;
+            }
+        }
+        out.push_str(")")?;
+        Ok(())
+    }
+}
