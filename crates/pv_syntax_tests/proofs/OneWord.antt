@@ -2,7 +2,7 @@
 use Rattle.std.proofs.Common.{◌≡◌, ◌==◌, ◌≤◌, ◌+◌, ℕ, Bool, true, false, cond, List, [], ◌∷◌, ◌++◌, length, drop, Option, Some, None, slice_get, refl, sym, ap, ◌∙◌, arith}
 use Rattle.std.specs.Prelude.{option_map, option_and_then}
 use Rattle.std.proofs.lemmas.Bool.{eqb-true}
-use Rattle.std.proofs.lemmas.Option.{slice_get_within, slice_get_past}
+use Rattle.std.proofs.lemmas.Option.{slice_get_within}
 use Rattle.pv_lex.specs.declared.token_table.Token.{Token}
 use Rattle.pv_lex.specs.declared.token_table.TokenKind.{TokenKind}
 use Rattle.pv_lex.specs.declared.token_table.TokenKind.TheVariants as kind
@@ -14,17 +14,6 @@ use Rattle.pv_tree.specs.Grammar.{kinds}
 use Rattle.pv_tree.specs.TypeNames.{IsTied, AreTied}
 use Rattle.pv_syntax_tests.specs.OneWord.{word_of, at_token, one_word}
 use Rattle.pv_expr.proofs.Places.{peeked}
-
--- ---- what the reader answers
-
-pub word_past : (int : NodeId) (name : ℕ) (named : NodeId) (tokens : List Token) (at : ℕ) → length tokens ≤ at → None ≡ one_word int name named tokens at
-word_past int name named tokens at h = ap (option_and_then (at_token int name named at)) (sym (slice_get_past tokens at h))
-
-pub word_here : (int : NodeId) (name : ℕ) (named : NodeId) (tokens : List Token) (at : ℕ) (t : Token) (o : Option NodeId) → slice_get tokens at ≡ Some t → o ≡ word_of int name named t.kind → option_map (λ n. (n, at + 1)) o ≡ one_word int name named tokens at
-word_here int name named tokens at t o e w =
-    ap (option_map (λ (n : NodeId). let x : NodeId × ℕ = (n, at + 1) in x)) w ∙ ap (option_and_then (at_token int name named at)) (sym e)
-
--- ---- such type names are tied
 
 module _ (u : Tables) (tokens : List Token) (int : NodeId) (name : ℕ) (named : NodeId) (int_there : Is u is_declaration int) (named_there : Is u is_declaration named)
     (int_tokens : declaration_tokens (declaration_at u.forest int) ≡ kind.Word word.Int ∷ []) (named_tokens : declaration_tokens (declaration_at u.forest named) ≡ kind.Name name ∷ []) where
