@@ -1,6 +1,7 @@
 -- The arguments of a call, read one after another.
-use Rattle.std.proofs.Common.{◌≡◌, ℕ, zero, suc, Bool, true, false, cond, List, [], ◌∷◌, ◌++◌, All, Option, Some, None, option_map, refl, sym, ap, ◌∙◌, arith}
+use Rattle.std.proofs.Common.{◌≡◌, ◌≤◌, length, drop, ℕ, zero, suc, Bool, true, false, cond, List, [], ◌∷◌, ◌++◌, All, Option, Some, None, option_map, refl, sym, ap, ◌∙◌, arith}
 use Rattle.std.specs.List.{fold}
+use Rattle.std.proofs.lemmas.List.{drop_all}
 use Rattle.std.proofs.lemmas.List.Elements.{All-push}
 use Rattle.pv_lex.specs.declared.token_table.Token.{Token}
 use Rattle.pv_tree.specs.declared.nodes.NodeId.{NodeId}
@@ -46,6 +47,10 @@ read_nothing : (names : Names) (below level : ℕ) → read names below level []
 unfolding read deeper head
 read_nothing names zero level = refl
 read_nothing names (suc below) level = refl
+
+-- where no token is left
+pub read_end : (names : Names) (below level at : ℕ) (tokens : List Token) → length tokens ≤ at → None ≡ read names below level (drop at tokens)
+read_end names below level at tokens h = rw (drop_all at tokens h) (sym (read_nothing names below level))
 
 not_guarded : {A : Type 0} (b : Bool) (x : A) → cond b (Some x) None ≡ None → b ≡ false
 not_guarded true x e = absurd cc
