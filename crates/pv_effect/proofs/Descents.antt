@@ -1,0 +1,140 @@
+-- A search on its way down to the scalars that a byte lies in.
+use Rattle.std.proofs.Common.{◌≡◌, ℕ, suc, ◌+◌, ◌-◌, ◌<◌, ◌≤◌, ◌^◌, Bool, true, false, ◌&&◌, ◌||◌, nat_le, nat_lt, IsTrue, List, [], ◌∷◌, Some, length, drop, drop-cons, get_or, add-one, refl, sym, ◌∙◌, ap, subst, arith, is_some}
+use Rattle.std.proofs.Math.ListN.{drop_of_length-le}
+use Rattle.std.proofs.lemmas.Bool.Decides.{nat_tests}
+use Rattle.pv_num.specs.declared.kinds.IntKind.{IntKind}
+use Rattle.pv_types.specs.declared.terms.Member.{Member}
+use Rattle.pv_types.specs.Ty.{Ty, VoidTy, IntTy, PointerTo, ArrayOf, StructTag, UnionTag, FunctionTy, ConstOf}
+use Rattle.pv_types.specs.Layouts.{look, or_none, layout_in, layout_of, is_complete_in, struct_parts, union_parts, repeated}
+use Rattle.pv_types.specs.Known.{Known, tree, trees, env, named, named_in, members_in, is_union_in, IsBuilt}
+use Rattle.pv_types.proofs.Made.{made}
+use Rattle.pv_layout.specs.Parts.{is_scalar}
+use Rattle.pv_layout.proofs.Below.{Inside, around_start, inside_at}
+use Rattle.pv_effect.specs.declared.bytes.Sought.{Sought}
+use Rattle.pv_effect.specs.declared.bytes.Sought.TheVariants.{Any, Accepting}
+use Rattle.pv_effect.specs.EffectiveType.{covers, some_over}
+use Rattle.pv_effect.specs.Searches.{is_sought, passes}
+use Rattle.pv_effect.proofs.Over.{some_over-append}
+
+-- what the whole covers the byte with, what is left covers the rest with
+pub record Descent (m : Known) (s : Sought) (t o left rest : ℕ) : Type 0 where
+  pub known : left < length m.terms
+  pub complete : IsTrue (is_complete_in (env m) (tree m left))
+  pub small : (layout_in (env m) (tree m left)).size ≤ 2 ^ 32
+  pub lower : (layout_in (env m) (tree m left)).height ≤ (layout_in (env m) (tree m t)).height
+  pub same : some_over (env m) (passes m s) o (layout_in (env m) (tree m t)).parts ≡ some_over (env m) (passes m s) rest (layout_in (env m) (tree m left)).parts
+
+-- a part that is no scalar doesn't count
+no_head : (c r : Bool) → ((c && false) || r) ≡ r
+no_head true r = refl
+no_head false r = refl
+
+pub struct_whole : (m : Known) (t tag o : ℕ) (s : Sought) (b : Bool) → IsBuilt m → IsTrue (is_some (look (env m) tag)) → is_union_in m.done tag ≡ false → tree m t ≡ StructTag tag
+    → b ≡ some_over (env m) (passes m s) o (struct_parts (env m) (named m tag) 0) → b ≡ some_over (env m) (passes m s) o (layout_in (env m) (tree m t)).parts
+struct_whole m t tag o s b built there flag is e =
+    let whole : or_none (look (env m) tag) ≡ layout_of (env m) tag false (named m tag) = ap or_none (made m tag built there).laid ∙ ap (λ u. layout_of (env m) tag u (named m tag)) flag in
+    e ∙ sym (ap (λ u. some_over (env m) (passes m s) o (layout_in (env m) u).parts) is
+    ∙ ap (λ l. some_over (env m) (passes m s) o l.parts) whole
+    ∙ no_head (covers (env m) o (record { offset = 0; t = StructTag tag })) (some_over (env m) (passes m s) o (struct_parts (env m) (named m tag) 0)))
+
+pub union_whole : (m : Known) (t tag o : ℕ) (s : Sought) (b : Bool) → IsBuilt m → IsTrue (is_some (look (env m) tag)) → is_union_in m.done tag ≡ true → tree m t ≡ UnionTag tag
+    → b ≡ some_over (env m) (passes m s) o (union_parts (env m) (named m tag)) → b ≡ some_over (env m) (passes m s) o (layout_in (env m) (tree m t)).parts
+union_whole m t tag o s b built there flag is e =
+    let whole : or_none (look (env m) tag) ≡ layout_of (env m) tag true (named m tag) = ap or_none (made m tag built there).laid ∙ ap (λ u. layout_of (env m) tag u (named m tag)) flag in
+    e ∙ sym (ap (λ u. some_over (env m) (passes m s) o (layout_in (env m) u).parts) is
+    ∙ ap (λ l. some_over (env m) (passes m s) o l.parts) whole
+    ∙ no_head (covers (env m) o (record { offset = 0; t = UnionTag tag })) (some_over (env m) (passes m s) o (union_parts (env m) (named m tag))))
+
+pub array_whole : (m : Known) (t e n o : ℕ) (s : Sought) (b : Bool) → tree m t ≡ ArrayOf (tree m e) (Some n)
+    → b ≡ some_over (env m) (passes m s) o (repeated n (layout_in (env m) (tree m e)).size (layout_in (env m) (tree m e)).parts) → b ≡ some_over (env m) (passes m s) o (layout_in (env m) (tree m t)).parts
+array_whole m t e n o s b is same =
+    same ∙ sym (ap (λ u. some_over (env m) (passes m s) o (layout_in (env m) u).parts) is
+    ∙ no_head (covers (env m) o (record { offset = 0; t = ArrayOf (tree m e) (Some n) })) (some_over (env m) (passes m s) o (repeated n (layout_in (env m) (tree m e)).size (layout_in (env m) (tree m e)).parts)))
+
+-- qualifiers change nothing of what is sought
+sought_const : (m : Known) (s : Sought) (j : ℕ) (t : Ty) → is_sought m s j (ConstOf t) ≡ is_sought m s j t
+sought_const m Any j t = refl
+sought_const m (Accepting u k) j t = refl
+
+twice : (a r : Bool) → (a || r) ≡ (a || (a || r))
+twice true r = refl
+twice false r = refl
+
+-- the part that is the whole type
+abbrev first : Known → Sought → ℕ → Ty → Bool
+first m s o t = covers (env m) o (record { offset = 0; t = t }) && passes m s (o - 0) t
+
+first_const : (m : Known) (s : Sought) (o : ℕ) (t : Ty) → first m s o (ConstOf t) ≡ first m s o t
+first_const m s o t = ap (λ b. covers (env m) o (record { offset = 0; t = t }) && (is_scalar t && b)) (sought_const m s (o - 0) t)
+
+const_same : (m : Known) (s : Sought) (o : ℕ) (t : Ty) → some_over (env m) (passes m s) o (layout_in (env m) t).parts ≡ (first m s o (ConstOf t) || some_over (env m) (passes m s) o (layout_in (env m) t).parts)
+const_same m s o (IntTy k) = rw (first_const m s o (IntTy k)) (twice (first m s o (IntTy k)) false)
+const_same m s o (PointerTo t) = rw (first_const m s o (PointerTo t)) (twice (first m s o (PointerTo t)) false)
+const_same m s o (ConstOf t) = rw (first_const m s o (ConstOf t)) (twice (first m s o (ConstOf t)) (some_over (env m) (passes m s) o (layout_in (env m) t).parts))
+const_same m s o (ArrayOf t n) = sym (no_head (covers (env m) o (record { offset = 0; t = ConstOf (ArrayOf t n) })) _)
+const_same m s o (StructTag n) = sym (no_head (covers (env m) o (record { offset = 0; t = ConstOf (StructTag n) })) _)
+const_same m s o (UnionTag n) = sym (no_head (covers (env m) o (record { offset = 0; t = ConstOf (UnionTag n) })) _)
+const_same m s o VoidTy = sym (no_head (covers (env m) o (record { offset = 0; t = ConstOf VoidTy })) _)
+const_same m s o (FunctionTy t ts v) = sym (no_head (covers (env m) o (record { offset = 0; t = ConstOf (FunctionTy t ts v) })) _)
+
+pub const_whole : (m : Known) (t e o : ℕ) (s : Sought) → tree m t ≡ ConstOf (tree m e) → some_over (env m) (passes m s) o (layout_in (env m) (tree m e)).parts ≡ some_over (env m) (passes m s) o (layout_in (env m) (tree m t)).parts
+const_whole m t e o s is = const_same m s o (tree m e) ∙ sym (ap (λ u. some_over (env m) (passes m s) o (layout_in (env m) u).parts) is)
+
+-- a byte from the beginning on
+from_zero : (o n : ℕ) (g : ℕ → Bool) → (((nat_le 0 o && nat_lt o (0 + n)) && g (o - 0)) || false) ≡ (nat_lt o n && g o)
+from_zero o n g =
+    let begins : nat_le 0 o ≡ true = grind (arith, nat_tests) in
+    let ends : 0 + n ≡ n = omega arith in
+    let same : o - 0 ≡ o = omega arith in
+    rw (begins, ends, same) (last (nat_lt o n && g o))
+  where
+    last : (b : Bool) → (b || false) ≡ b
+    last true = refl
+    last false = refl
+
+pub int_whole : (m : Known) (t o : ℕ) (s : Sought) (k : IntKind) → tree m t ≡ IntTy k
+    → (nat_lt o (layout_in (env m) (tree m t)).size && is_sought m s o (tree m t)) ≡ some_over (env m) (passes m s) o (layout_in (env m) (tree m t)).parts
+int_whole m t o s k is = rw is (sym (from_zero o (layout_in (env m) (IntTy k)).size (λ j. is_sought m s j (IntTy k))))
+
+pub pointer_whole : (m : Known) (t o e : ℕ) (s : Sought) → tree m t ≡ PointerTo (tree m e)
+    → (nat_lt o (layout_in (env m) (tree m t)).size && is_sought m s o (tree m t)) ≡ some_over (env m) (passes m s) o (layout_in (env m) (tree m t)).parts
+pointer_whole m t o e s is = rw is (sym (from_zero o 8 (λ j. is_sought m s j (PointerTo (tree m e)))))
+
+-- no scalar at all
+nothing : Ty → Bool
+nothing t = false
+
+-- a member of a union may be searched
+pub member_inside : (m : Known) (tag i : ℕ) (items : List Member) (d : Member) → IsBuilt m → IsTrue (is_some (look (env m) tag)) → is_union_in m.done tag ≡ true → (or_none (look (env m) tag)).size ≤ 2 ^ 32
+    → items ≡ members_in m.done tag → i < length items → Inside m tag (get_or items i d).t.0
+member_inside m tag i items d built there flag small is lt =
+    inside_at m nothing tag 0 0 i items d lt (rw is (around_start m nothing tag 0 0 built there flag small))
+
+-- what covers the byte in the union is in the members ahead
+abbrev pub Among : Known → Sought → ℕ → ℕ → List Member → Type 0
+Among m s tag o ms = some_over (env m) (passes m s) o (union_parts (env m) (named m tag)) ≡ some_over (env m) (passes m s) o (union_parts (env m) (named_in (trees m) ms))
+
+module _ (m : Known) (s : Sought) (tag o i : ℕ) (items : List Member) (d : Member) (lt : i < length items) (h : Among m s tag o (drop i items)) where
+  abbrev member_has : Bool
+  member_has = some_over (env m) (passes m s) o (layout_in (env m) (tree m (get_or items i d).t.0)).parts
+
+  abbrev others_have : Bool
+  others_have = some_over (env m) (passes m s) o (union_parts (env m) (named_in (trees m) (drop (suc i) items)))
+
+  split : some_over (env m) (passes m s) o (union_parts (env m) (named m tag)) ≡ (member_has || others_have)
+  split =
+      let front : Among m s tag o (get_or items i d ∷ drop (suc i) items) = subst (λ (ms : List Member). Among m s tag o ms) (drop-cons items i d lt) h in
+      front ∙ some_over-append (env m) (passes m s) o (layout_in (env m) (tree m (get_or items i d).t.0)).parts _
+
+  pub among_hit : member_has ≡ true → true ≡ some_over (env m) (passes m s) o (union_parts (env m) (named m tag))
+  among_hit e = sym (split ∙ ap (λ b. b || others_have) e)
+
+  pub among_miss : member_has ≡ false → Among m s tag o (drop (i + 1) items)
+  among_miss e = rw add-one (split ∙ ap (λ b. b || others_have) e)
+
+-- no member is left
+pub among_none : (m : Known) (s : Sought) (tag o i : ℕ) (items : List Member) → length items ≤ i → Among m s tag o (drop i items)
+    → false ≡ some_over (env m) (passes m s) o (union_parts (env m) (named m tag))
+among_none m s tag o i items ge h =
+    let empty : Among m s tag o [] = subst (λ (ms : List Member). Among m s tag o ms) (drop_of_length-le items ge) h in
+    sym empty

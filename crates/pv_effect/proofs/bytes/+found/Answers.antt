@@ -1,0 +1,68 @@
+use Rattle.std.proofs.Common.{◌≡◌, ◌<◌, ◌≤◌, ◌^◌, ◌*◌, ◌∙◌, IsTrue, is_some, length, sym, ap, arith}
+use Rattle.pv_types.specs.Known.{tree, env}
+use Rattle.pv_types.specs.Layouts.{layout_in, look, or_none}
+use Rattle.pv_types.proofs.Made.{flag}
+use Rattle.pv_types.proofs.Peeling.{whole_array}
+use Rattle.pv_layout.proofs.Ahead.{nobody}
+use Rattle.pv_layout.proofs.Below.{one_of}
+use Rattle.pv_effect.specs.Searches.{passes}
+use Rattle.pv_effect.proofs.Descents.{struct_whole, union_whole, const_whole, member_inside, among_hit, among_miss}
+use Rattle.pv_effect.proofs.bytes.+found.Goals as goal
+
+pub below-in_array-requires-clause-small : goal.below-in_array-requires-clause-small
+below-in_array-requires-clause-small t c =
+    let m = c.args.types.now in
+    let is = rw c.in-Array-default-Some.field-1-is at c.in-Array-default-Some.ensures.tree in
+    let e = c.in-Array-default-Some.element.0 in
+    let n = c.in-Array-default-Some.n in
+    let whole = whole_array m c.args.t.0 e n c.requires.complete is in
+    let size : n * (layout_in (env m) (tree m e)).size ≤ 2 ^ 32 = rw is at c.requires.small in
+    one_of n (layout_in (env m) (tree m e)).size whole.0 size
+
+pub below-in_structure-requires-clause-structure : goal.below-in_structure-requires-clause-structure
+below-in_structure-requires-clause-structure t c =
+    let there : IsTrue (is_some (look (env c.args.types.now) c.in-Struct.tag)) = rw c.in-Struct.ensures.tree at c.requires.complete in
+    flag c.args.types.now c.in-Struct.tag c.in-Struct.ensures.built there ∙ c.in-Struct.ensures.tagged.1
+
+pub below-in_union-requires : goal.below-in_union-requires
+below-in_union-requires t c =
+    let m = c.args.types.now in
+    let is = c.in-Union.ensures.tree in
+    let there : IsTrue (is_some (look (env m) c.in-Union.tag)) = rw is at c.requires.complete in
+    let deep : (layout_in (env m) (tree m c.args.t.0)).height ≡ (or_none (look (env m) c.in-Union.tag)).height = ap (λ x. (layout_in (env m) x).height) is in
+    let small : (or_none (look (env m) c.in-Union.tag)).size ≤ 2 ^ 32 = rw is at c.requires.small in
+    (omega (arith, deep), (c.in-Union.ensures.tagged.0, (there, (flag m c.in-Union.tag c.in-Union.ensures.built there ∙ c.in-Union.ensures.tagged.1, small))))
+
+pub below-returns-in-Const-clause-value : goal.below-returns-in-Const-clause-value
+below-returns-in-Const-clause-value t c = const_whole c.args.types.now c.args.t.0 c.in-Const.inner.0 c.args.offset c.args.sought c.in-Const.ensures.tree
+
+pub below-returns-in-Struct-clause-value : goal.below-returns-in-Struct-clause-value
+below-returns-in-Struct-clause-value t c =
+    let m = c.args.types.now in
+    let there : IsTrue (is_some (look (env m) c.in-Struct.tag)) = rw c.in-Struct.ensures.tree at c.requires.complete in
+    let structure = flag m c.in-Struct.tag c.in-Struct.ensures.built there ∙ c.in-Struct.ensures.tagged.1 in
+    struct_whole m c.args.t.0 c.in-Struct.tag c.args.offset c.args.sought _ c.in-Struct.ensures.built there structure c.in-Struct.ensures.tree (c.in_structure.ensures.value (passes m c.args.sought))
+
+pub below-returns-in-Union-clause-value : goal.below-returns-in-Union-clause-value
+below-returns-in-Union-clause-value t c =
+    let m = c.args.types.now in
+    let there : IsTrue (is_some (look (env m) c.in-Union.tag)) = rw c.in-Union.ensures.tree at c.requires.complete in
+    let union = flag m c.in-Union.tag c.in-Union.ensures.built there ∙ c.in-Union.ensures.tagged.1 in
+    union_whole m c.args.t.0 c.in-Union.tag c.args.offset c.args.sought _ c.in-Union.ensures.built there union c.in-Union.ensures.tree c.in_union.ensures
+
+pub in_union-found-requires : goal.in_union-found-requires
+in_union-found-requires t c =
+    let lt : c.loop-m.m-index < length c.members-m-items.result.now = omega arith in
+    let n = member_inside c.args.types.now c.args.tag c.loop-m.m-index c.members-m-items.result.now nobody c.members-m-items.ensures.built c.requires.complete c.requires.union c.requires.small c.members-m-items.ensures.value lt in
+    let lower = n.lower in
+    (omega (arith, lower), (n.known, (n.complete, n.small)))
+
+pub in_union-returns-then-found : goal.in_union-returns-then-found
+in_union-returns-then-found t c =
+    let lt : c.loop-m.m-index < length c.members-m-items.result.now = omega arith in
+    among_hit c.args.types.now c.args.sought c.args.tag c.args.offset c.loop-m.m-index c.members-m-items.result.now nobody lt c.loop-m.invariant (sym c.found.ensures ∙ c.if-found.true)
+
+pub in_union-loop-m-preserved : goal.in_union-loop-m-preserved
+in_union-loop-m-preserved t c =
+    let lt : c.loop-m.m-index < length c.members-m-items.result.now = omega arith in
+    among_miss c.args.types.now c.args.sought c.args.tag c.args.offset c.loop-m.m-index c.members-m-items.result.now nobody lt c.loop-m.invariant (sym c.found.ensures ∙ c.if-found.false)

@@ -1,0 +1,101 @@
+-- Through which types an object may be accessed (C17 6.5p6, 6.5p7).
+use Rattle.std.specs.Prelude.{ℕ, suc, ◌+◌, ◌-◌, Bool, true, false, not, ◌&&◌, ◌||◌, ◌==◌, nat_le, nat_lt, if◌then◌else◌, Some, None, List, [], ◌∷◌, length}
+use Rattle.std.specs.Bool.{beq}
+use Rattle.std.specs.declared.option.Option.{Option}
+use Rattle.pv_num.specs.declared.kinds.IntKind.{IntKind}
+use Rattle.pv_num.specs.declared.kinds.IntKind.TheVariants.{Char, SChar, UChar}
+use Rattle.pv_types.specs.Ty.{Ty, Tys, VoidTy, IntTy, PointerTo, ArrayOf, StructTag, UnionTag, FunctionTy, ConstOf, NoTys, MoreTys}
+use Rattle.pv_types.specs.Compatible.{same_kind}
+use Rattle.pv_types.specs.Layouts.{Part, Entry, layout_in}
+use Rattle.pv_types.specs.Known.{Known, tree, env}
+use Rattle.pv_layout.specs.Places.{bare}
+use Rattle.pv_layout.specs.Parts.{some_at, leaves, agrees, suits, are_counterparts}
+
+-- 6.2.5p15: `char`, `signed char` and `unsigned char`
+abbrev pub is_character_kind : IntKind → Bool
+is_character_kind Char = true
+is_character_kind SChar = true
+is_character_kind UChar = true
+is_character_kind _ = false
+
+-- the same of a type, qualifiers aside
+abbrev pub is_character : Ty → Bool
+is_character (IntTy k) = is_character_kind k
+is_character (ConstOf t) = is_character t
+is_character _ = false
+
+-- a structure or union, qualifiers aside
+abbrev pub is_composite : Ty → Bool
+is_composite (StructTag n) = true
+is_composite (UnionTag n) = true
+is_composite (ConstOf t) = is_composite t
+is_composite _ = false
+
+-- 6.5p7: at this offset of a declared object, whose type has these parts, the type may be accessed. A structure or union
+-- asks for a part that is one; a scalar for a scalar part; an array, through which nothing is accessed (6.3.2.1p3), finds none
+abbrev pub permits_declared : List Part → ℕ → Ty → Bool
+permits_declared parts o want =
+    if is_character want then true
+    else if is_composite want then some_at (suits want) o parts
+    else some_at (agrees want) o (leaves parts)
+
+abbrev pub same_size : Option ℕ → Option ℕ → Bool
+same_size None None = true
+same_size (Some m) (Some n) = m == n
+same_size _ _ = false
+
+-- equal types
+abbrev mutual
+  pub same_type : Ty → Ty → Bool
+  same_type VoidTy VoidTy = true
+  same_type (IntTy k) (IntTy l) = same_kind k l
+  same_type (PointerTo t) (PointerTo u) = same_type t u
+  same_type (ArrayOf t m) (ArrayOf u n) = same_size m n && same_type t u
+  same_type (StructTag m) (StructTag n) = m == n
+  same_type (UnionTag m) (UnionTag n) = m == n
+  same_type (FunctionTy t ts v) (FunctionTy u us w) = beq v w && (same_types ts us && same_type t u)
+  same_type (ConstOf t) (ConstOf u) = same_type t u
+  same_type _ _ = false
+
+  pub same_types : Tys → Tys → Bool
+  same_types NoTys NoTys = true
+  same_types (MoreTys t ts) (MoreTys u us) = same_type t u && same_types ts us
+  same_types _ _ = false
+
+-- qualifiers aside, the type or its signed or unsigned counterpart
+abbrev pub same_or_counterpart : Ty → Ty → Bool
+same_or_counterpart t u = same_type (bare t) (bare u) || are_counterparts (bare t) (bare u)
+
+-- 6.5p6: a byte of an object without a declared type is marked by its last store: the number of the type that was stored, and
+-- which of that type's bytes it is. 6.5p7: a scalar of type t accepts the mark on its byte j where that byte of the type was
+-- stored; a character accepts every mark. A number of no type is accepted by characters alone
+abbrev pub accepts : Known → ℕ × ℕ → ℕ → Ty → Bool
+accepts m (u, k) j t = is_character t || (nat_lt u (length m.terms) && ((k == j) && same_or_counterpart t (tree m u)))
+
+-- every mark, and none
+abbrev pub anything : ℕ → Ty → Bool
+anything j t = true
+
+-- a part covers as many bytes as its type has (6.2.6.1p2), from where it begins on
+abbrev pub covers : List Entry → ℕ → Part → Bool
+covers env b p = nat_le p.offset b && nat_lt b (p.offset + (layout_in env p.t).size)
+
+-- some part covers the byte, and passes with the number that the byte has in it
+abbrev pub some_over : List Entry → (ℕ → Ty → Bool) → ℕ → List Part → Bool
+some_over env f b [] = false
+some_over env f b (p ∷ ps) = (covers env b p && f (b - p.offset) p.t) || some_over env f b ps
+
+-- a byte may be read as one of an object with these scalar parts where it has no mark, where it lies in none of them
+-- (6.2.6.1p6: padding), or where one that it lies in accepts the mark
+abbrev pub permits_byte : Known → List Part → ℕ → Option (ℕ × ℕ) → Bool
+permits_byte m scalars b None = true
+permits_byte m scalars b (Some mark) = some_over (env m) (accepts m mark) b scalars || not (some_over (env m) anything b scalars)
+
+abbrev pub permits_bytes : Known → List Part → ℕ → List (Option (ℕ × ℕ)) → Bool
+permits_bytes m scalars b [] = true
+permits_bytes m scalars b (x ∷ xs) = permits_byte m scalars b x && permits_bytes m scalars (suc b) xs
+
+-- an object without a declared type, whose bytes have these marks, may be read at the type that has these parts; a scalar
+-- is its own one scalar part
+abbrev pub permits_marks : Known → List Part → List (Option (ℕ × ℕ)) → Bool
+permits_marks m parts marks = permits_bytes m (leaves parts) 0 marks

@@ -1,0 +1,2 @@
+pub mod EffectiveType
+pub mod Searches

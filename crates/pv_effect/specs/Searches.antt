@@ -1,0 +1,30 @@
+-- What a search for the scalars that a byte lies in asks, and what it comes to.
+use Rattle.std.specs.Prelude.{ℕ, ◌<◌, ◌≤◌, ◌^◌, ◌&&◌, Bool, true, IsTrue, length}
+use Rattle.pv_types.specs.Ty.{Ty}
+use Rattle.pv_types.specs.Layouts.{layout_in, is_complete_in}
+use Rattle.pv_types.specs.Known.{Known, tree, env}
+use Rattle.pv_layout.specs.Parts.{is_scalar}
+use Rattle.pv_effect.specs.EffectiveType.{accepts, some_over}
+use Rattle.pv_effect.specs.declared.bytes.Sought.{Sought}
+use Rattle.pv_effect.specs.declared.bytes.Sought.TheVariants.{Any, Accepting}
+use Rattle.pv_effect.specs.declared.bytes.Search.{Search}
+use Rattle.pv_effect.specs.declared.bytes.Search.TheVariants.{Settled, In}
+
+-- whether a scalar whose byte j is asked about is what is sought
+abbrev pub is_sought : Known → Sought → ℕ → Ty → Bool
+is_sought m Any j t = true
+is_sought m (Accepting u k) j t = accepts m (u, k) j t
+
+-- the same of a part that need not be a scalar
+abbrev pub passes : Known → Sought → ℕ → Ty → Bool
+passes m s j t = is_scalar t && is_sought m s j t
+
+-- what a search comes to, once what it goes on in is searched
+abbrev pub comes_to : (ℕ → Ty → Bool) → Known → Search → Bool
+comes_to f m (Settled b) = b
+comes_to f m (In t offset) = some_over (env m) f offset (layout_in (env m) (tree m t.0)).parts
+
+-- what it goes on in may be searched, and its definition goes less deep
+abbrev pub IsBelow : Known → ℕ → Search → Type 0
+IsBelow m h (Settled b) = Unit {0}
+IsBelow m h (In t offset) = (t.0 < length m.terms) × IsTrue (is_complete_in (env m) (tree m t.0)) × ((layout_in (env m) (tree m t.0)).size ≤ 2 ^ 32) × ((layout_in (env m) (tree m t.0)).height < h)

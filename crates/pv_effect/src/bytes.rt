@@ -1,0 +1,172 @@
+// The scalars of a type that one byte lies in.
+ghost use Rattle.std.specs.Prelude.{◌≡◌, ◌<◌, ◌≤◌, ◌^◌, ◌+◌, ◌&&◌, nat_lt, ℕ, Bool, length, IsTrue, is_some, false, true};
+ghost use Rattle.pv_types.specs.Ty.{Ty};
+ghost use Rattle.pv_types.specs.Known.{tree, env, named, is_union_in, IsBuilt};
+ghost use Rattle.pv_types.specs.Layouts.{layout_in, is_complete_in, look, or_none, repeated, struct_parts, union_parts};
+ghost use Rattle.pv_layout.specs.Parts.{leaves, is_scalar};
+ghost use Rattle.pv_effect.specs.EffectiveType.{some_over, accepts};
+ghost use Rattle.pv_effect.specs.Searches.{is_sought, passes, comes_to, IsBelow};
+
+use crate::kinds::{is_character, same_or_counterpart};
+use pv_layout::{align, size};
+use pv_types::{Term, TypeId, Types};
+
+/// Which scalar a byte has to lie in.
+#[derive(Clone, Copy)]
+pub(crate) enum Sought {
+    /// One of any type.
+    Any,
+    /// One that accepts the mark: the number of the type that was stored, and which of its bytes the byte is.
+    Accepting { stored: u32, place: u8 },
+}
+
+/// What a search comes to, or what it goes on in.
+#[derive(Clone, Copy)]
+enum Search {
+    Settled(bool),
+    In { t: TypeId, offset: u64 },
+}
+
+/// Whether the byte lies in a scalar part that is what is sought. The members of a union all count.
+pub(crate) fn lies_in(types: &Types, t: TypeId, offset: u64, sought: Sought) -> bool
+    requires known { t.0 < length types.now.terms }
+    requires complete { IsTrue (is_complete_in (env types.now) (tree types.now t.0)) }
+    requires small { (layout_in (env types.now) (tree types.now t.0)).size ≤ 2 ^ 32 }
+    ensures { result ≡ some_over (env types.now) (is_sought types.now sought) offset (leaves (layout_in (env types.now) (tree types.now t.0)).parts) }
+{
+    found(types, t, offset, sought)
+}
+
+/// The same: a loop down to the scalar, so that a deep type needs no deep stack.
+#[cycle(found)]
+fn found(types: &Types, t: TypeId, offset: u64, sought: Sought) -> bool
+    requires known { t.0 < length types.now.terms }
+    requires complete { IsTrue (is_complete_in (env types.now) (tree types.now t.0)) }
+    requires small { (layout_in (env types.now) (tree types.now t.0)).size ≤ 2 ^ 32 }
+    ensures { result ≡ some_over (env types.now) (passes types.now sought) offset (layout_in (env types.now) (tree types.now t.0)).parts }
+{
+    let mut at = t;
+    let mut rest = offset;
+    loop {
+        match below(types, at, rest, sought) {
+            Search::Settled(answer) => return answer,
+            Search::In { t, offset } => {
+                at = t;
+                rest = offset;
+            }
+        }
+    }
+}
+
+/// Where in the type to look for the byte.
+#[cycle(found)]
+fn below(types: &Types, t: TypeId, offset: u64, sought: Sought) -> Search
+    requires known { t.0 < length types.now.terms }
+    requires complete { IsTrue (is_complete_in (env types.now) (tree types.now t.0)) }
+    requires small { (layout_in (env types.now) (tree types.now t.0)).size ≤ 2 ^ 32 }
+    ensures value { comes_to (passes types.now sought) types.now result ≡ some_over (env types.now) (passes types.now sought) offset (layout_in (env types.now) (tree types.now t.0)).parts }
+    ensures below { IsBelow types.now (layout_in (env types.now) (tree types.now t.0)).height result }
+{
+    match types.view(t) {
+        Term::Array(element, Some(n)) => in_array(types, element, n, offset),
+        Term::Const(inner) => Search::In { t: inner, offset },
+        Term::Struct(tag) => in_structure(types, tag, offset),
+        Term::Union(tag) => Search::Settled(in_union(types, tag, offset, sought)),
+        Term::Int(_) | Term::Pointer(_) => Search::Settled(in_scalar(types, t, offset, sought)),
+        Term::Void | Term::Array(_, None) | Term::Function { .. } => Search::Settled(false),
+    }
+}
+
+/// Whether the scalar has such a byte, and is what is sought.
+fn in_scalar(types: &Types, t: TypeId, offset: u64, sought: Sought) -> bool
+    requires known { t.0 < length types.now.terms }
+    requires complete { IsTrue (is_complete_in (env types.now) (tree types.now t.0)) }
+    requires small { (layout_in (env types.now) (tree types.now t.0)).size ≤ 2 ^ 32 }
+    ensures { result ≡ (nat_lt offset (layout_in (env types.now) (tree types.now t.0)).size && is_sought types.now sought offset (tree types.now t.0)) }
+{
+    if offset >= size(types, t) {
+        return false;
+    }
+    match sought {
+        Sought::Any => true,
+        Sought::Accepting { stored, place } => accepts(types, t, offset, stored, place),
+    }
+}
+
+/// Whether a scalar accepts the mark on one of its bytes (C17 6.5p7).
+fn accepts(types: &Types, t: TypeId, byte: u64, stored: u32, place: u8) -> bool
+    requires { t.0 < length types.now.terms }
+    ensures { result ≡ accepts types.now (stored, place) byte (tree types.now t.0) }
+{
+    if is_character(types, t) {
+        return true;
+    }
+    let stored = TypeId(stored);
+    if !types.has(stored) {
+        return false;
+    }
+    u64::from(place) == byte && same_or_counterpart(types, t, stored)
+}
+
+/// The element that holds the byte (C17 6.5.2.1p2).
+fn in_array(types: &Types, element: TypeId, n: u64, offset: u64) -> Search
+    requires built { IsBuilt types.now }
+    requires known { element.0 < length types.now.terms }
+    requires complete { IsTrue (is_complete_in (env types.now) (tree types.now element.0)) }
+    requires small { (layout_in (env types.now) (tree types.now element.0)).size ≤ 2 ^ 32 }
+    ensures value { (f : ℕ → Ty → Bool) → comes_to f types.now result ≡ some_over (env types.now) f offset (repeated n (layout_in (env types.now) (tree types.now element.0)).size (layout_in (env types.now) (tree types.now element.0)).parts) }
+    ensures below { IsBelow types.now ((layout_in (env types.now) (tree types.now element.0)).height + 1) result }
+{
+    let size = size(types, element);
+    if offset / size < n {
+        Search::In {
+            t: element,
+            offset: offset % size,
+        }
+    } else {
+        Search::Settled(false)
+    }
+}
+
+/// The member that holds the byte: the members of a structure don't overlap (C17 6.7.2.1p15).
+fn in_structure(types: &Types, tag: u32, offset: u64) -> Search
+    requires made { tag < length types.now.tags }
+    requires complete { IsTrue (is_some (look (env types.now) tag)) }
+    requires structure { is_union_in types.now.done tag ≡ false }
+    requires small { (or_none (look (env types.now) tag)).size ≤ 2 ^ 32 }
+    ensures value { (f : ℕ → Ty → Bool) → comes_to f types.now result ≡ some_over (env types.now) f offset (struct_parts (env types.now) (named types.now tag) 0) }
+    ensures below { IsBelow types.now (or_none (look (env types.now) tag)).height result }
+{
+    let mut end: u64 = 0;
+    for m in types.members(tag) {
+        let start = end.next_multiple_of(align(types, m.t));
+        if offset < start {
+            return Search::Settled(false);
+        }
+        end = start + size(types, m.t);
+        if offset < end {
+            return Search::In {
+                t: m.t,
+                offset: offset - start,
+            };
+        }
+    }
+    Search::Settled(false)
+}
+
+/// Whether a member has it: all begin where the union does (C17 6.7.2.1p16).
+#[cycle(found)]
+fn in_union(types: &Types, tag: u32, offset: u64, sought: Sought) -> bool
+    requires made { tag < length types.now.tags }
+    requires complete { IsTrue (is_some (look (env types.now) tag)) }
+    requires union { is_union_in types.now.done tag ≡ true }
+    requires small { (or_none (look (env types.now) tag)).size ≤ 2 ^ 32 }
+    ensures { result ≡ some_over (env types.now) (passes types.now sought) offset (union_parts (env types.now) (named types.now tag)) }
+{
+    for m in types.members(tag) {
+        if found(types, m.t, offset, sought) {
+            return true;
+        }
+    }
+    false
+}

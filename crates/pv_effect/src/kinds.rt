@@ -1,0 +1,75 @@
+// What kind of type it is, qualifiers aside.
+ghost use Rattle.std.specs.Prelude.{◌≡◌, ◌<◌, ◌||◌, length};
+ghost use Rattle.pv_types.specs.Known.{tree, IsBuilt};
+ghost use Rattle.pv_layout.specs.Places.{bare};
+ghost use Rattle.pv_effect.specs.EffectiveType.{is_character, is_character_kind, is_composite, same_or_counterpart};
+
+use pv_layout::leaf_at;
+use pv_num::IntKind;
+use pv_types::{Term, TypeId, Types};
+
+/// The type without the qualifiers around it.
+fn bare(types: &Types, t: TypeId) -> TypeId
+    requires { t.0 < length types.now.terms }
+    ensures known { result.0 < length types.now.terms }
+    ensures tree { tree types.now result.0 ≡ bare (tree types.now t.0) }
+    ensures built { IsBuilt types.now }
+{
+    let mut at = t;
+    while let Term::Const(inner) = types.view(at) {
+        at = inner;
+    }
+    at
+}
+
+/// Whether the integer type is a character type (C17 6.2.5p15).
+fn is_character_kind(kind: IntKind) -> bool
+    ensures { result ≡ is_character_kind kind }
+{
+    matches!(kind, IntKind::Char | IntKind::SChar | IntKind::UChar)
+}
+
+/// Whether it is a character type (C17 6.2.5p15).
+pub(crate) fn is_character(types: &Types, t: TypeId) -> bool
+    requires { t.0 < length types.now.terms }
+    ensures { result ≡ is_character (tree types.now t.0) }
+{
+    let mut at = t;
+    loop {
+        match types.view(at) {
+            Term::Int(kind) => return is_character_kind(kind),
+            Term::Const(inner) => at = inner,
+            _ => return false,
+        }
+    }
+}
+
+/// Whether it is a structure or union.
+pub(crate) fn is_composite(types: &Types, t: TypeId) -> bool
+    requires { t.0 < length types.now.terms }
+    ensures { result ≡ is_composite (tree types.now t.0) }
+{
+    let mut at = t;
+    loop {
+        match types.view(at) {
+            Term::Struct(_) | Term::Union(_) => return true,
+            Term::Const(inner) => at = inner,
+            _ => return false,
+        }
+    }
+}
+
+/// Whether one of two types is the other or its signed or unsigned counterpart (C17 6.2.5p6).
+///
+/// Of integer types only equal ones are compatible, so for these `leaf_at` tells it.
+pub(crate) fn same_or_counterpart(types: &Types, t: TypeId, u: TypeId) -> bool
+    requires left { t.0 < length types.now.terms }
+    requires right { u.0 < length types.now.terms }
+    ensures { result ≡ same_or_counterpart (tree types.now t.0) (tree types.now u.0) }
+{
+    let one = bare(types, t);
+    match types.view(one) {
+        Term::Int(_) => leaf_at(types, one, 0, u),
+        _ => one.0 == bare(types, u).0,
+    }
+}
