@@ -1,0 +1,31 @@
+use Rattle.std.proofs.Common.{arith}
+use Rattle.std.proofs.lemmas.Result.{MatchResult-weaker}
+use Rattle.pv_tree.specs.Rows.{tables}
+use Rattle.pv_tree.proofs.Kept.{extends_same}
+use Rattle.pv_expr.specs.Known.{names_in}
+use Rattle.pv_decl.proofs.Answered.{nothing}
+use Rattle.pv_decl.proofs.Outer.{declaration_end, found, longest, only, none}
+use Rattle.pv_decl.proofs.parser.declaration.Goals as goal
+
+pub returns-then-at-len-clause-keeps : goal.returns-then-at-len-clause-keeps
+returns-then-at-len-clause-keeps g c = extends_same _
+
+pub returns-then-at-len-clause-reads : goal.returns-then-at-len-clause-reads
+returns-then-at-len-clause-reads g c =
+    nothing _ _ _ _ (declaration_end (names_in c.args.types.now (g.R.TypeReader.types c.args.reader.now) (tables c.args.into.now) c.args.t.now.tokens) c.args.depth c.args.at c.args.t.now.tokens (omega arith))
+
+pub returns-clause-found : goal.returns-clause-found
+returns-clause-found g c =
+    MatchResult-weaker c.declaration.result c.declaration.ensures.ok (λ r a. found c.args.types.now (g.R.TypeReader.types c.args.reader.now) (tables c.args.into.now) (tables c.declaration.new.into) c.args.t.now.tokens c.args.at c.args.depth c.requires (omega arith) r a) (λ e h. h)
+
+pub returns-clause-longest : goal.returns-clause-longest
+returns-clause-longest g c =
+    MatchResult-weaker c.declaration.result c.declaration.ensures.ok (λ r a. longest c.args.types.now (g.R.TypeReader.types c.args.reader.now) (tables c.args.into.now) (tables c.declaration.new.into) c.args.t.now.tokens c.args.at c.args.depth c.requires (omega arith) r a) (λ e h. h)
+
+pub returns-clause-only : goal.returns-clause-only
+returns-clause-only g c =
+    MatchResult-weaker c.declaration.result c.declaration.ensures.ok (λ r a. only c.args.types.now (g.R.TypeReader.types c.args.reader.now) (tables c.args.into.now) (tables c.declaration.new.into) c.args.t.now.tokens c.args.at c.args.depth c.requires (omega arith) r a) (λ e h. h)
+
+pub returns-clause-none : goal.returns-clause-none
+returns-clause-none g c =
+    MatchResult-weaker c.declaration.result c.declaration.ensures.ok (λ r a. none c.args.types.now (g.R.TypeReader.types c.args.reader.now) (tables c.args.into.now) (tables c.declaration.new.into) c.args.t.now.tokens c.args.at c.args.depth c.requires (omega arith) r a) (λ e h. h)

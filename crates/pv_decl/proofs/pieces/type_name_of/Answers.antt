@@ -1,0 +1,7 @@
+use Rattle.std.proofs.Common.{ap}
+use Rattle.pv_tree.specs.Rows.{tables}
+use Rattle.pv_expr.proofs.Answered.{kept_same}
+use Rattle.pv_decl.proofs.pieces.type_name_of.Goals as goal
+
+pub returns-in_err-specs-clause-keeps : goal.returns-in_err-specs-clause-keeps
+returns-in_err-specs-clause-keeps c = kept_same (tables c.args.into.now) (tables c.add_list.new.self) (ap tables c.in_err-specs.ensures.unchanged)

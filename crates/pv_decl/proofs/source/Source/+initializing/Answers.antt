@@ -1,0 +1,76 @@
+use Rattle.std.proofs.Common.{◌∙◌, ◌≤◌, ap, drop, length, arith, ℕ, List, Some}
+use Rattle.pv_lex.specs.declared.token_table.Token.{Token}
+use Rattle.pv_tree.specs.declared.nodes.NodeId.{NodeId}
+use Rattle.pv_tree.specs.Rows.{tables}
+use Rattle.pv_tree.specs.Places.{Initializers}
+use Rattle.pv_tree.specs.Syntax.{Initial, Braces, Tree, Trees, OfInitializer}
+use Rattle.pv_tree.specs.Tables.{expression_at, trees_of, is_initializer}
+use Rattle.pv_tree.proofs.Kept.{extends_same, extends_then}
+use Rattle.pv_expr.specs.Known.{names_in}
+use Rattle.pv_expr.proofs.Naming.{tied_kept}
+use Rattle.pv_decl.specs.Pieces.{listed}
+use Rattle.pv_decl.specs.Reader.{listed_in_braces, readers}
+use Rattle.pv_decl.proofs.Answered.{moved, nothing}
+use Rattle.pv_decl.proofs.Initials.{initializer_zero, initializer_braced, initializer_some, initializer_none}
+use Rattle.pv_decl.proofs.Loops.{parts_shorten, commas_shorten, at_start, no_parts, start_list, goes_forward, part_there, parts_there, list_ends, list_stops, list_goes, comma_forward}
+use Rattle.pv_decl.proofs.source.Source.+initializing.Goals as goal
+
+pub initializer-returns-then-depth-eq0-clause-ok : goal.initializer-returns-then-depth-eq0-clause-ok
+initializer-returns-then-depth-eq0-clause-ok g t c = nothing _ _ _ _ (initializer_zero _ _ _ c.if-depth-eq0.true)
+
+pub initializer-returns-in-Some-clause-ok : goal.initializer-returns-in-Some-clause-ok
+initializer-returns-in-Some-clause-ok g t c =
+    let tokens = c.args.self.now.tokens.now.tokens in
+    let here = drop c.args.at tokens in
+    let v = tables c.initializers.new.into in
+    let parts = ap (λ (ns : List NodeId). let x : Trees × List Token = (trees_of v.forest ns, drop c.in_ok-parts.end tokens) in x) c.deref.ensures.value ∙ c.in_ok-parts.ensures.ok.is in
+    moved _ _ _ _ _ _
+    (ap (λ (l : ℕ). listed_in_braces (λ inits comma. OfInitializer (Braces l inits comma)) (trees_of v.forest c.deref.result.now, drop c.in_ok-parts.end tokens)) c.line_at-line.ensures
+    ∙ initializer_braced (names_in c.args.self.now.typedefs.now (g.R.TypeReader.types c.args.self.now.reader.now) (tables c.args.into.now) c.args.self.now.tokens.now.tokens) c.args.depth here (drop c.in-Some.inside tokens) (trees_of v.forest c.deref.result.now, drop c.in_ok-parts.end tokens) (omega arith) c.in-Some.ensures.0 parts) c.braces_of.ensures.ok
+
+pub initializer-returns-in-Some-2-clause-ok : goal.initializer-returns-in-Some-2-clause-ok
+initializer-returns-in-Some-2-clause-ok g t c =
+    let tokens = c.args.self.now.tokens.now.tokens in
+    let v = tables c.assigned.new.into in
+    moved _ _ _ _ _ _
+    (ap (λ (l : ℕ). let x : Tree × List Token = (OfInitializer (Initial l (expression_at v.forest c.in-Some-2.value)), drop c.in-Some-2.end tokens) in Some x) c.line_at-line.ensures
+    ∙ initializer_some (names_in c.args.self.now.typedefs.now (g.R.TypeReader.types c.args.self.now.reader.now) (tables c.args.into.now) c.args.self.now.tokens.now.tokens) c.args.depth (drop c.args.at tokens) (omega arith) c.in_default.ensures v tokens c.in_ok-value.field-0 c.in_ok-value.ensures.ok c.in-Some-2.value c.in-Some-2.end c.in-Some-2.is) c.found_initializer.ensures.ok
+
+pub initializer-returns-in-None-clause-ok : goal.initializer-returns-in-None-clause-ok
+initializer-returns-in-None-clause-ok g t c = nothing _ _ _ _ (initializer_none (names_in c.args.self.now.typedefs.now (g.R.TypeReader.types c.args.self.now.reader.now) (tables c.args.into.now) c.args.self.now.tokens.now.tokens) c.args.depth (drop c.args.at c.args.self.now.tokens.now.tokens) (omega arith) c.in_default.ensures (tables c.assigned.new.into) c.args.self.now.tokens.now.tokens c.in_ok-value.field-0 c.in_ok-value.ensures.ok c.in-None.is)
+
+pub initializers-loop-parts-init : goal.initializers-loop-parts-init
+initializers-loop-parts-init g t c = record {
+  nodes = no_parts is_initializer (tables c.args.into.now) _ c.new-parts.ensures.items;
+  place = c.requires.place;
+  where_behind = c.requires.place;
+  keeps = extends_same _;
+  tied = c.requires.tied;
+  same = start_list _ (tables c.args.into.now) _ _ c.new-parts.ensures.items;
+}
+
+pub initializers-returns-in_default-clause-ok : goal.initializers-returns-in_default-clause-ok
+initializers-returns-in_default-clause-ok g t c = list_ends is_initializer (tables c.loop-parts.into) (tables c.initializer.new.into) c.initializer.ensures.keeps c.args.self.now.tokens.now.tokens (readers (names_in c.args.self.now.typedefs.now (g.R.TypeReader.types c.args.self.now.reader.now) (tables c.args.into.now) c.args.self.now.tokens.now.tokens) c.args.depth Initializers) c.loop-parts.parts.items c.loop-parts.invariant.nodes c.loop-parts.next c.loop-parts.invariant.place c.in_ok-found.field-0 (at_start c.args.self.now.typedefs.now (g.R.TypeReader.types c.args.self.now.reader.now) (tables c.args.into.now) (tables c.loop-parts.into) (tables c.initializer.new.into) c.args.self.now.tokens.now.tokens c.requires.tied c.loop-parts.invariant.keeps is_initializer c.in_ok-found.field-0 (λ n. readers n c.args.depth Initializers (drop c.loop-parts.next c.args.self.now.tokens.now.tokens)) c.in_ok-found.ensures.ok) (commas_shorten c.args.self.now.typedefs.now (g.R.TypeReader.types c.args.self.now.reader.now) (tables c.args.into.now) c.args.self.now.tokens.now.tokens c.requires.tied c.args.depth Initializers) c.loop-parts.behind c.loop-parts.invariant.where_behind (listed (readers (names_in c.args.self.now.typedefs.now (g.R.TypeReader.types c.args.self.now.reader.now) (tables c.args.into.now) c.args.self.now.tokens.now.tokens) c.args.depth Initializers) (drop c.args.at c.args.self.now.tokens.now.tokens)) c.loop-parts.invariant.same c.in_default.is
+
+pub initializers-loop-parts-smaller : goal.initializers-loop-parts-smaller
+initializers-loop-parts-smaller g t c =
+    let far = goes_forward is_initializer (tables c.loop-parts.into) (tables c.initializer.new.into) c.initializer.ensures.keeps c.args.self.now.tokens.now.tokens (readers (names_in c.args.self.now.typedefs.now (g.R.TypeReader.types c.args.self.now.reader.now) (tables c.args.into.now) c.args.self.now.tokens.now.tokens) c.args.depth Initializers) c.loop-parts.parts.items c.loop-parts.invariant.nodes c.loop-parts.next c.loop-parts.invariant.place c.in_ok-found.field-0 (at_start c.args.self.now.typedefs.now (g.R.TypeReader.types c.args.self.now.reader.now) (tables c.args.into.now) (tables c.loop-parts.into) (tables c.initializer.new.into) c.args.self.now.tokens.now.tokens c.requires.tied c.loop-parts.invariant.keeps is_initializer c.in_ok-found.field-0 (λ n. readers n c.args.depth Initializers (drop c.loop-parts.next c.args.self.now.tokens.now.tokens)) c.in_ok-found.ensures.ok) (parts_shorten c.args.self.now.typedefs.now (g.R.TypeReader.types c.args.self.now.reader.now) (tables c.args.into.now) c.args.self.now.tokens.now.tokens c.requires.tied c.args.depth Initializers) c.in-Some.found c.in-Some.end c.in-Some.is in
+    let there = part_there is_initializer (tables c.loop-parts.into) (tables c.initializer.new.into) c.initializer.ensures.keeps c.args.self.now.tokens.now.tokens (readers (names_in c.args.self.now.typedefs.now (g.R.TypeReader.types c.args.self.now.reader.now) (tables c.args.into.now) c.args.self.now.tokens.now.tokens) c.args.depth Initializers) c.loop-parts.parts.items c.loop-parts.invariant.nodes c.loop-parts.next c.loop-parts.invariant.place c.in_ok-found.field-0 (at_start c.args.self.now.typedefs.now (g.R.TypeReader.types c.args.self.now.reader.now) (tables c.args.into.now) (tables c.loop-parts.into) (tables c.initializer.new.into) c.args.self.now.tokens.now.tokens c.requires.tied c.loop-parts.invariant.keeps is_initializer c.in_ok-found.field-0 (λ n. readers n c.args.depth Initializers (drop c.loop-parts.next c.args.self.now.tokens.now.tokens)) c.in_ok-found.ensures.ok) c.in-Some.found c.in-Some.end c.in-Some.is in
+    let end : c.in-Some.end ≤ length c.args.self.now.tokens.now.tokens = there.1 in
+    let more = comma_forward c.args.self.now.tokens.now.tokens c.in-Some.end c.in-Some-after.following end c.in-Some-after.ensures.1 c.in-Some-after.ensures.0 in
+    omega (arith, far, end, more, c.in-Some-after.ensures.1)
+
+pub initializers-loop-parts-preserved : goal.initializers-loop-parts-preserved
+initializers-loop-parts-preserved g t c =
+    let keeps = extends_then (tables c.args.into.now) (tables c.loop-parts.into) (tables c.initializer.new.into) c.loop-parts.invariant.keeps c.initializer.ensures.keeps in
+    record {
+      nodes = parts_there is_initializer (tables c.loop-parts.into) (tables c.initializer.new.into) c.initializer.ensures.keeps c.args.self.now.tokens.now.tokens (readers (names_in c.args.self.now.typedefs.now (g.R.TypeReader.types c.args.self.now.reader.now) (tables c.args.into.now) c.args.self.now.tokens.now.tokens) c.args.depth Initializers) c.loop-parts.parts.items c.loop-parts.invariant.nodes c.loop-parts.next c.loop-parts.invariant.place c.in_ok-found.field-0 (at_start c.args.self.now.typedefs.now (g.R.TypeReader.types c.args.self.now.reader.now) (tables c.args.into.now) (tables c.loop-parts.into) (tables c.initializer.new.into) c.args.self.now.tokens.now.tokens c.requires.tied c.loop-parts.invariant.keeps is_initializer c.in_ok-found.field-0 (λ n. readers n c.args.depth Initializers (drop c.loop-parts.next c.args.self.now.tokens.now.tokens)) c.in_ok-found.ensures.ok) c.in-Some.found c.in-Some.end c.in-Some.is c.push.new.self.items c.in_ok-push.ensures.items;
+      place = c.in-Some-after.ensures.1;
+      where_behind = (part_there is_initializer (tables c.loop-parts.into) (tables c.initializer.new.into) c.initializer.ensures.keeps c.args.self.now.tokens.now.tokens (readers (names_in c.args.self.now.typedefs.now (g.R.TypeReader.types c.args.self.now.reader.now) (tables c.args.into.now) c.args.self.now.tokens.now.tokens) c.args.depth Initializers) c.loop-parts.parts.items c.loop-parts.invariant.nodes c.loop-parts.next c.loop-parts.invariant.place c.in_ok-found.field-0 (at_start c.args.self.now.typedefs.now (g.R.TypeReader.types c.args.self.now.reader.now) (tables c.args.into.now) (tables c.loop-parts.into) (tables c.initializer.new.into) c.args.self.now.tokens.now.tokens c.requires.tied c.loop-parts.invariant.keeps is_initializer c.in_ok-found.field-0 (λ n. readers n c.args.depth Initializers (drop c.loop-parts.next c.args.self.now.tokens.now.tokens)) c.in_ok-found.ensures.ok) c.in-Some.found c.in-Some.end c.in-Some.is).1;
+      keeps = keeps;
+      tied = tied_kept (g.R.TypeReader.types c.args.self.now.reader.now) (tables c.args.into.now) (tables c.initializer.new.into) c.args.self.now.tokens.now.tokens c.requires.tied keeps;
+      same = list_goes is_initializer (tables c.loop-parts.into) (tables c.initializer.new.into) c.initializer.ensures.keeps c.args.self.now.tokens.now.tokens (readers (names_in c.args.self.now.typedefs.now (g.R.TypeReader.types c.args.self.now.reader.now) (tables c.args.into.now) c.args.self.now.tokens.now.tokens) c.args.depth Initializers) c.loop-parts.parts.items c.loop-parts.invariant.nodes c.loop-parts.next c.loop-parts.invariant.place c.in_ok-found.field-0 (at_start c.args.self.now.typedefs.now (g.R.TypeReader.types c.args.self.now.reader.now) (tables c.args.into.now) (tables c.loop-parts.into) (tables c.initializer.new.into) c.args.self.now.tokens.now.tokens c.requires.tied c.loop-parts.invariant.keeps is_initializer c.in_ok-found.field-0 (λ n. readers n c.args.depth Initializers (drop c.loop-parts.next c.args.self.now.tokens.now.tokens)) c.in_ok-found.ensures.ok) (commas_shorten c.args.self.now.typedefs.now (g.R.TypeReader.types c.args.self.now.reader.now) (tables c.args.into.now) c.args.self.now.tokens.now.tokens c.requires.tied c.args.depth Initializers) c.loop-parts.behind c.loop-parts.invariant.where_behind (listed (readers (names_in c.args.self.now.typedefs.now (g.R.TypeReader.types c.args.self.now.reader.now) (tables c.args.into.now) c.args.self.now.tokens.now.tokens) c.args.depth Initializers) (drop c.args.at c.args.self.now.tokens.now.tokens)) c.loop-parts.invariant.same c.in-Some.found c.in-Some.end c.in-Some.is c.push.new.self.items c.in_ok-push.ensures.items c.in-Some-after.following c.in-Some-after.ensures.0;
+    }
+
+pub initializers-returns-in-None-clause-ok : goal.initializers-returns-in-None-clause-ok
+initializers-returns-in-None-clause-ok g t c = list_stops is_initializer (tables c.loop-parts.into) (tables c.initializer.new.into) c.initializer.ensures.keeps c.args.self.now.tokens.now.tokens (readers (names_in c.args.self.now.typedefs.now (g.R.TypeReader.types c.args.self.now.reader.now) (tables c.args.into.now) c.args.self.now.tokens.now.tokens) c.args.depth Initializers) c.loop-parts.parts.items c.loop-parts.invariant.nodes c.loop-parts.next c.loop-parts.invariant.place c.in_ok-found.field-0 (at_start c.args.self.now.typedefs.now (g.R.TypeReader.types c.args.self.now.reader.now) (tables c.args.into.now) (tables c.loop-parts.into) (tables c.initializer.new.into) c.args.self.now.tokens.now.tokens c.requires.tied c.loop-parts.invariant.keeps is_initializer c.in_ok-found.field-0 (λ n. readers n c.args.depth Initializers (drop c.loop-parts.next c.args.self.now.tokens.now.tokens)) c.in_ok-found.ensures.ok) (commas_shorten c.args.self.now.typedefs.now (g.R.TypeReader.types c.args.self.now.reader.now) (tables c.args.into.now) c.args.self.now.tokens.now.tokens c.requires.tied c.args.depth Initializers) c.loop-parts.behind c.loop-parts.invariant.where_behind (listed (readers (names_in c.args.self.now.typedefs.now (g.R.TypeReader.types c.args.self.now.reader.now) (tables c.args.into.now) c.args.self.now.tokens.now.tokens) c.args.depth Initializers) (drop c.args.at c.args.self.now.tokens.now.tokens)) c.loop-parts.invariant.same c.in-Some.found c.in-Some.end c.in-Some.is c.push.new.self.items c.in_ok-push.ensures.items c.in-None.ensures

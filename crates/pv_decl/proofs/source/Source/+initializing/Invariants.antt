@@ -1,0 +1,31 @@
+use Rattle.std.proofs.Common.{◌≡◌, ◌≤◌, ◌+◌, ◌-◌, ◌*◌, All, length, drop}
+use Rattle.pv_tree.specs.Rows.{tables}
+use Rattle.pv_tree.specs.Places.{Initializers}
+use Rattle.pv_tree.specs.Tables.{trees_of, is_initializer, Is, Extends}
+use Rattle.pv_tree.specs.TypeNames.{AreTied}
+use Rattle.pv_expr.specs.Known.{names_in}
+use Rattle.pv_decl.specs.Pieces.{row_on, row, after_comma, listed}
+use Rattle.pv_decl.specs.Reader.{readers}
+use Rattle.pv_decl.proofs.source.Source.+initializing.Given as goal
+
+abbrev pub decreases-initializer : goal.decreases-initializer
+decreases-initializer g l = 2 * l.depth
+
+abbrev pub decreases-initializers : goal.decreases-initializers
+decreases-initializers g l = 2 * l.depth + 1
+
+abbrev pub invariant-initializers-loop-parts : goal.invariant-initializers-loop-parts
+invariant-initializers-loop-parts g l =
+    let tokens = l.self.tokens.now.tokens in
+    let part = readers (names_in l.self.typedefs.now (g.R.TypeReader.types l.self.reader.now) (tables l.fn.into) tokens) l.depth Initializers in
+    record {
+      nodes : All (λ n. Is (tables l.into) is_initializer n) l.parts.items;
+      place : l.next ≤ length tokens;
+      where_behind : l.behind ≤ length tokens;
+      keeps : Extends (tables l.fn.into) (tables l.into);
+      tied : AreTied (g.R.TypeReader.types l.self.reader.now) (tables l.into) tokens;
+      same : row_on (row (after_comma part)) (trees_of (tables l.into).forest l.parts.items) (drop l.behind tokens) (part (drop l.next tokens)) ≡ listed part (drop l.fn.at tokens);
+    }
+
+abbrev pub decreases-initializers-loop-parts : goal.decreases-initializers-loop-parts
+decreases-initializers-loop-parts g l = length l.self.tokens.now.tokens - l.next

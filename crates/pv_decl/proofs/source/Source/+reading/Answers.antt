@@ -1,0 +1,343 @@
+use Rattle.std.proofs.Common.{◌≡◌, ◌∙◌, ◌+◌, ◌≤◌, ℕ, Option, Result, List, IfOk, sym, ap, drop, length, arith, refl, rules, subst}
+use Rattle.pv_lex.specs.declared.token_table.Token.{Token}
+use Rattle.pv_tree.specs.declared.nodes.NodeId.{NodeId}
+use Rattle.pv_tree.specs.Rows.{tables}
+use Rattle.pv_tree.specs.Places.{Place}
+use Rattle.pv_tree.specs.Syntax.{Composite, Enumeration, OfSpecifier, Trees, NoTrees}
+use Rattle.pv_tree.specs.Tables.{Tables, trees_of, tree_at, is_declaration, is_declarator, is_specifier}
+use Rattle.pv_tree.proofs.Kept.{extends_same, extends_then}
+use Rattle.pv_expr.specs.Known.{names_in}
+use Rattle.pv_expr.proofs.Naming.{tied_kept}
+use Rattle.pv_decl.specs.declared.forms.Part.{Part}
+use Rattle.pv_decl.specs.declared.forms.Part.TheVariants as part
+use Rattle.pv_decl.specs.Answers.{Answers}
+use Rattle.pv_decl.specs.Declarators.{grown, longer}
+use Rattle.pv_decl.specs.Parts.{kind_of_part, place_of_part, word_of_composite, word_of_tag, within}
+use Rattle.pv_decl.specs.Pieces.{Piece, row, listed}
+use Rattle.pv_decl.specs.Reader.{listed_in_braces, row_in_braces, readers}
+use Rattle.pv_decl.proofs.Answered.{moved, nothing, got}
+use Rattle.pv_decl.proofs.Bracing.{specifier_end, specifier_plain, specifier_tagged, tagged_braced, tagged_alone, no_brace, no_depth, enumerators_in, members_in}
+use Rattle.pv_decl.proofs.Growing.{head_end, head_other, head_named, head_star, head_paren, head_bracket, named_in, pointer_is, opened_function, opened_not, opened_within, longer_not, longer_end, longer_none, longer_other, longer_bracket, longer_paren, some_kept, all_as, parametrized_is, grew, grew_out, no_declarators, declarator_none, declarator_some}
+use Rattle.pv_decl.proofs.Loops.{parts_shorten, commas_shorten, at_start, no_parts, start_row, start_list, goes_forward, part_there, parts_there, row_ends, row_goes, list_ends, list_stops, list_goes, comma_forward, all_kept}
+use Rattle.pv_decl.proofs.Members.{counted, no_parameters, member_ends, member_goes, parameter_ends, parameter_goes}
+use Rattle.pv_decl.proofs.Steps.{longer_goes, grown_next}
+use Rattle.pv_decl.proofs.source.Source.+reading.Goals as goal
+use Rattle.pv_decl.proofs.source.Source.+reading.Invariants.{height}
+
+-- ---- a part
+
+as_part : {E : Type 0} (p q : Part) → p ≡ q → (result : Result (Option (NodeId × ℕ)) E) (u : Tables) (tokens : List Token) (reading : Place → Piece)
+    → IfOk result (λ r. Answers u (kind_of_part q) tokens r (reading (place_of_part q))) → IfOk result (λ r. Answers u (kind_of_part p) tokens r (reading (place_of_part p)))
+as_part p q e result u tokens reading h = subst (λ (x : Part). IfOk result (λ r. Answers u (kind_of_part x) tokens r (reading (place_of_part x)))) (sym e) h
+
+pub read-returns-in-Specifier-clause-ok : goal.read-returns-in-Specifier-clause-ok
+read-returns-in-Specifier-clause-ok g t c = as_part c.args.part part.Specifier c.in-Specifier.is _ (tables c.specifier.new.into) c.args.self.now.tokens.now.tokens (λ place. readers (names_in c.args.self.now.typedefs.now (g.R.TypeReader.types c.args.self.now.reader.now) (tables c.args.into.now) c.args.self.now.tokens.now.tokens) c.args.depth place (drop c.args.at c.args.self.now.tokens.now.tokens)) c.specifier.ensures.ok
+
+pub read-specifier-requires : goal.read-specifier-requires
+read-specifier-requires g t c =
+    let tall : height c.args.part ≡ 4 = ap height c.in-Specifier.is in
+    let place = c.requires.place in
+    let tied = c.requires.tied in
+    search rules
+
+pub read-returns-in-Member-clause-ok : goal.read-returns-in-Member-clause-ok
+read-returns-in-Member-clause-ok g t c = as_part c.args.part part.Member c.in-Member.is _ (tables c.member.new.into) c.args.self.now.tokens.now.tokens (λ place. readers (names_in c.args.self.now.typedefs.now (g.R.TypeReader.types c.args.self.now.reader.now) (tables c.args.into.now) c.args.self.now.tokens.now.tokens) c.args.depth place (drop c.args.at c.args.self.now.tokens.now.tokens)) c.member.ensures.ok
+
+pub read-member-requires : goal.read-member-requires
+read-member-requires g t c =
+    let tall : height c.args.part ≡ 8 = ap height c.in-Member.is in
+    let place = c.requires.place in
+    let tied = c.requires.tied in
+    search rules
+
+pub read-returns-in-Enumerator-clause-ok : goal.read-returns-in-Enumerator-clause-ok
+read-returns-in-Enumerator-clause-ok g t c = as_part c.args.part part.Enumerator c.in-Enumerator.is _ (tables c.enumerator.new.into) c.args.self.now.tokens.now.tokens (λ place. readers (names_in c.args.self.now.typedefs.now (g.R.TypeReader.types c.args.self.now.reader.now) (tables c.args.into.now) c.args.self.now.tokens.now.tokens) c.args.depth place (drop c.args.at c.args.self.now.tokens.now.tokens)) c.enumerator.ensures.ok
+
+pub read-returns-in-Parameter-clause-ok : goal.read-returns-in-Parameter-clause-ok
+read-returns-in-Parameter-clause-ok g t c = as_part c.args.part part.Parameter c.in-Parameter.is _ (tables c.parameter.new.into) c.args.self.now.tokens.now.tokens (λ place. readers (names_in c.args.self.now.typedefs.now (g.R.TypeReader.types c.args.self.now.reader.now) (tables c.args.into.now) c.args.self.now.tokens.now.tokens) c.args.depth place (drop c.args.at c.args.self.now.tokens.now.tokens)) c.parameter.ensures.ok
+
+pub read-parameter-requires : goal.read-parameter-requires
+read-parameter-requires g t c =
+    let tall : height c.args.part ≡ 4 = ap height c.in-Parameter.is in
+    let place = c.requires.place in
+    let tied = c.requires.tied in
+    search rules
+
+pub read-returns-in-Declarator-clause-ok : goal.read-returns-in-Declarator-clause-ok
+read-returns-in-Declarator-clause-ok g t c = as_part c.args.part (part.Declarator c.in-Declarator.form) c.in-Declarator.is _ (tables c.declarator.new.into) c.args.self.now.tokens.now.tokens (λ place. readers (names_in c.args.self.now.typedefs.now (g.R.TypeReader.types c.args.self.now.reader.now) (tables c.args.into.now) c.args.self.now.tokens.now.tokens) c.args.depth place (drop c.args.at c.args.self.now.tokens.now.tokens)) c.declarator.ensures.ok
+
+pub read-declarator-requires : goal.read-declarator-requires
+read-declarator-requires g t c =
+    let tall : height c.args.part ≡ 4 = ap height c.in-Declarator.is in
+    let place = c.requires.place in
+    let tied = c.requires.tied in
+    search rules
+
+-- ---- parts in a row
+
+pub row-loop-parts-init : goal.row-loop-parts-init
+row-loop-parts-init g t c = record {
+  nodes = no_parts (kind_of_part c.args.part) (tables c.args.into.now) _ c.new-parts.ensures.items;
+  place = c.requires.place;
+  keeps = extends_same _;
+  tied = c.requires.tied;
+  same = start_row _ (tables c.args.into.now) _ _ c.new-parts.ensures.items;
+}
+
+pub row-returns-in_default-clause-ok : goal.row-returns-in_default-clause-ok
+row-returns-in_default-clause-ok g t c = row_ends (kind_of_part c.args.part) (tables c.loop-parts.into) (tables c.read.new.into) c.read.ensures.keeps c.args.self.now.tokens.now.tokens (readers (names_in c.args.self.now.typedefs.now (g.R.TypeReader.types c.args.self.now.reader.now) (tables c.args.into.now) c.args.self.now.tokens.now.tokens) c.args.depth (place_of_part c.args.part)) c.loop-parts.parts.items c.loop-parts.invariant.nodes c.loop-parts.next c.loop-parts.invariant.place c.in_ok-found.field-0 (at_start c.args.self.now.typedefs.now (g.R.TypeReader.types c.args.self.now.reader.now) (tables c.args.into.now) (tables c.loop-parts.into) (tables c.read.new.into) c.args.self.now.tokens.now.tokens c.requires.tied c.loop-parts.invariant.keeps (kind_of_part c.args.part) c.in_ok-found.field-0 (λ n. readers n c.args.depth (place_of_part c.args.part) (drop c.loop-parts.next c.args.self.now.tokens.now.tokens)) c.in_ok-found.ensures.ok) (parts_shorten c.args.self.now.typedefs.now (g.R.TypeReader.types c.args.self.now.reader.now) (tables c.args.into.now) c.args.self.now.tokens.now.tokens c.requires.tied c.args.depth (place_of_part c.args.part)) (row (readers (names_in c.args.self.now.typedefs.now (g.R.TypeReader.types c.args.self.now.reader.now) (tables c.args.into.now) c.args.self.now.tokens.now.tokens) c.args.depth (place_of_part c.args.part)) NoTrees (drop c.args.at c.args.self.now.tokens.now.tokens)) c.loop-parts.invariant.same c.in_default.is
+
+pub row-loop-parts-smaller : goal.row-loop-parts-smaller
+row-loop-parts-smaller g t c =
+    let far = goes_forward (kind_of_part c.args.part) (tables c.loop-parts.into) (tables c.read.new.into) c.read.ensures.keeps c.args.self.now.tokens.now.tokens (readers (names_in c.args.self.now.typedefs.now (g.R.TypeReader.types c.args.self.now.reader.now) (tables c.args.into.now) c.args.self.now.tokens.now.tokens) c.args.depth (place_of_part c.args.part)) c.loop-parts.parts.items c.loop-parts.invariant.nodes c.loop-parts.next c.loop-parts.invariant.place c.in_ok-found.field-0 (at_start c.args.self.now.typedefs.now (g.R.TypeReader.types c.args.self.now.reader.now) (tables c.args.into.now) (tables c.loop-parts.into) (tables c.read.new.into) c.args.self.now.tokens.now.tokens c.requires.tied c.loop-parts.invariant.keeps (kind_of_part c.args.part) c.in_ok-found.field-0 (λ n. readers n c.args.depth (place_of_part c.args.part) (drop c.loop-parts.next c.args.self.now.tokens.now.tokens)) c.in_ok-found.ensures.ok) (parts_shorten c.args.self.now.typedefs.now (g.R.TypeReader.types c.args.self.now.reader.now) (tables c.args.into.now) c.args.self.now.tokens.now.tokens c.requires.tied c.args.depth (place_of_part c.args.part)) c.in-Some.found c.in-Some.end c.in-Some.is in
+    let there = part_there (kind_of_part c.args.part) (tables c.loop-parts.into) (tables c.read.new.into) c.read.ensures.keeps c.args.self.now.tokens.now.tokens (readers (names_in c.args.self.now.typedefs.now (g.R.TypeReader.types c.args.self.now.reader.now) (tables c.args.into.now) c.args.self.now.tokens.now.tokens) c.args.depth (place_of_part c.args.part)) c.loop-parts.parts.items c.loop-parts.invariant.nodes c.loop-parts.next c.loop-parts.invariant.place c.in_ok-found.field-0 (at_start c.args.self.now.typedefs.now (g.R.TypeReader.types c.args.self.now.reader.now) (tables c.args.into.now) (tables c.loop-parts.into) (tables c.read.new.into) c.args.self.now.tokens.now.tokens c.requires.tied c.loop-parts.invariant.keeps (kind_of_part c.args.part) c.in_ok-found.field-0 (λ n. readers n c.args.depth (place_of_part c.args.part) (drop c.loop-parts.next c.args.self.now.tokens.now.tokens)) c.in_ok-found.ensures.ok) c.in-Some.found c.in-Some.end c.in-Some.is in
+    let end : c.in-Some.end ≤ length c.args.self.now.tokens.now.tokens = there.1 in
+    omega (arith, far, end)
+
+pub row-loop-parts-preserved : goal.row-loop-parts-preserved
+row-loop-parts-preserved g t c =
+    let keeps = extends_then (tables c.args.into.now) (tables c.loop-parts.into) (tables c.read.new.into) c.loop-parts.invariant.keeps c.read.ensures.keeps in
+    record {
+      nodes = parts_there (kind_of_part c.args.part) (tables c.loop-parts.into) (tables c.read.new.into) c.read.ensures.keeps c.args.self.now.tokens.now.tokens (readers (names_in c.args.self.now.typedefs.now (g.R.TypeReader.types c.args.self.now.reader.now) (tables c.args.into.now) c.args.self.now.tokens.now.tokens) c.args.depth (place_of_part c.args.part)) c.loop-parts.parts.items c.loop-parts.invariant.nodes c.loop-parts.next c.loop-parts.invariant.place c.in_ok-found.field-0 (at_start c.args.self.now.typedefs.now (g.R.TypeReader.types c.args.self.now.reader.now) (tables c.args.into.now) (tables c.loop-parts.into) (tables c.read.new.into) c.args.self.now.tokens.now.tokens c.requires.tied c.loop-parts.invariant.keeps (kind_of_part c.args.part) c.in_ok-found.field-0 (λ n. readers n c.args.depth (place_of_part c.args.part) (drop c.loop-parts.next c.args.self.now.tokens.now.tokens)) c.in_ok-found.ensures.ok) c.in-Some.found c.in-Some.end c.in-Some.is c.push.new.self.items c.in_ok-push.ensures.items;
+      place = (part_there (kind_of_part c.args.part) (tables c.loop-parts.into) (tables c.read.new.into) c.read.ensures.keeps c.args.self.now.tokens.now.tokens (readers (names_in c.args.self.now.typedefs.now (g.R.TypeReader.types c.args.self.now.reader.now) (tables c.args.into.now) c.args.self.now.tokens.now.tokens) c.args.depth (place_of_part c.args.part)) c.loop-parts.parts.items c.loop-parts.invariant.nodes c.loop-parts.next c.loop-parts.invariant.place c.in_ok-found.field-0 (at_start c.args.self.now.typedefs.now (g.R.TypeReader.types c.args.self.now.reader.now) (tables c.args.into.now) (tables c.loop-parts.into) (tables c.read.new.into) c.args.self.now.tokens.now.tokens c.requires.tied c.loop-parts.invariant.keeps (kind_of_part c.args.part) c.in_ok-found.field-0 (λ n. readers n c.args.depth (place_of_part c.args.part) (drop c.loop-parts.next c.args.self.now.tokens.now.tokens)) c.in_ok-found.ensures.ok) c.in-Some.found c.in-Some.end c.in-Some.is).1;
+      keeps = keeps;
+      tied = tied_kept (g.R.TypeReader.types c.args.self.now.reader.now) (tables c.args.into.now) (tables c.read.new.into) c.args.self.now.tokens.now.tokens c.requires.tied keeps;
+      same = row_goes (kind_of_part c.args.part) (tables c.loop-parts.into) (tables c.read.new.into) c.read.ensures.keeps c.args.self.now.tokens.now.tokens (readers (names_in c.args.self.now.typedefs.now (g.R.TypeReader.types c.args.self.now.reader.now) (tables c.args.into.now) c.args.self.now.tokens.now.tokens) c.args.depth (place_of_part c.args.part)) c.loop-parts.parts.items c.loop-parts.invariant.nodes c.loop-parts.next c.loop-parts.invariant.place c.in_ok-found.field-0 (at_start c.args.self.now.typedefs.now (g.R.TypeReader.types c.args.self.now.reader.now) (tables c.args.into.now) (tables c.loop-parts.into) (tables c.read.new.into) c.args.self.now.tokens.now.tokens c.requires.tied c.loop-parts.invariant.keeps (kind_of_part c.args.part) c.in_ok-found.field-0 (λ n. readers n c.args.depth (place_of_part c.args.part) (drop c.loop-parts.next c.args.self.now.tokens.now.tokens)) c.in_ok-found.ensures.ok) (parts_shorten c.args.self.now.typedefs.now (g.R.TypeReader.types c.args.self.now.reader.now) (tables c.args.into.now) c.args.self.now.tokens.now.tokens c.requires.tied c.args.depth (place_of_part c.args.part)) (row (readers (names_in c.args.self.now.typedefs.now (g.R.TypeReader.types c.args.self.now.reader.now) (tables c.args.into.now) c.args.self.now.tokens.now.tokens) c.args.depth (place_of_part c.args.part)) NoTrees (drop c.args.at c.args.self.now.tokens.now.tokens)) c.loop-parts.invariant.same c.in-Some.found c.in-Some.end c.in-Some.is c.push.new.self.items c.in_ok-push.ensures.items;
+    }
+
+-- ---- parts with commas between
+
+pub listed-loop-parts-init : goal.listed-loop-parts-init
+listed-loop-parts-init g t c = record {
+  nodes = no_parts (kind_of_part c.args.part) (tables c.args.into.now) _ c.new-parts.ensures.items;
+  place = c.requires.place;
+  where_behind = c.requires.place;
+  keeps = extends_same _;
+  tied = c.requires.tied;
+  same = start_list _ (tables c.args.into.now) _ _ c.new-parts.ensures.items;
+}
+
+pub listed-returns-in_default-clause-ok : goal.listed-returns-in_default-clause-ok
+listed-returns-in_default-clause-ok g t c = list_ends (kind_of_part c.args.part) (tables c.loop-parts.into) (tables c.read.new.into) c.read.ensures.keeps c.args.self.now.tokens.now.tokens (readers (names_in c.args.self.now.typedefs.now (g.R.TypeReader.types c.args.self.now.reader.now) (tables c.args.into.now) c.args.self.now.tokens.now.tokens) c.args.depth (place_of_part c.args.part)) c.loop-parts.parts.items c.loop-parts.invariant.nodes c.loop-parts.next c.loop-parts.invariant.place c.in_ok-found.field-0 (at_start c.args.self.now.typedefs.now (g.R.TypeReader.types c.args.self.now.reader.now) (tables c.args.into.now) (tables c.loop-parts.into) (tables c.read.new.into) c.args.self.now.tokens.now.tokens c.requires.tied c.loop-parts.invariant.keeps (kind_of_part c.args.part) c.in_ok-found.field-0 (λ n. readers n c.args.depth (place_of_part c.args.part) (drop c.loop-parts.next c.args.self.now.tokens.now.tokens)) c.in_ok-found.ensures.ok) (commas_shorten c.args.self.now.typedefs.now (g.R.TypeReader.types c.args.self.now.reader.now) (tables c.args.into.now) c.args.self.now.tokens.now.tokens c.requires.tied c.args.depth (place_of_part c.args.part)) c.loop-parts.behind c.loop-parts.invariant.where_behind (listed (readers (names_in c.args.self.now.typedefs.now (g.R.TypeReader.types c.args.self.now.reader.now) (tables c.args.into.now) c.args.self.now.tokens.now.tokens) c.args.depth (place_of_part c.args.part)) (drop c.args.at c.args.self.now.tokens.now.tokens)) c.loop-parts.invariant.same c.in_default.is
+
+pub listed-loop-parts-smaller : goal.listed-loop-parts-smaller
+listed-loop-parts-smaller g t c =
+    let far = goes_forward (kind_of_part c.args.part) (tables c.loop-parts.into) (tables c.read.new.into) c.read.ensures.keeps c.args.self.now.tokens.now.tokens (readers (names_in c.args.self.now.typedefs.now (g.R.TypeReader.types c.args.self.now.reader.now) (tables c.args.into.now) c.args.self.now.tokens.now.tokens) c.args.depth (place_of_part c.args.part)) c.loop-parts.parts.items c.loop-parts.invariant.nodes c.loop-parts.next c.loop-parts.invariant.place c.in_ok-found.field-0 (at_start c.args.self.now.typedefs.now (g.R.TypeReader.types c.args.self.now.reader.now) (tables c.args.into.now) (tables c.loop-parts.into) (tables c.read.new.into) c.args.self.now.tokens.now.tokens c.requires.tied c.loop-parts.invariant.keeps (kind_of_part c.args.part) c.in_ok-found.field-0 (λ n. readers n c.args.depth (place_of_part c.args.part) (drop c.loop-parts.next c.args.self.now.tokens.now.tokens)) c.in_ok-found.ensures.ok) (parts_shorten c.args.self.now.typedefs.now (g.R.TypeReader.types c.args.self.now.reader.now) (tables c.args.into.now) c.args.self.now.tokens.now.tokens c.requires.tied c.args.depth (place_of_part c.args.part)) c.in-Some.found c.in-Some.end c.in-Some.is in
+    let there = part_there (kind_of_part c.args.part) (tables c.loop-parts.into) (tables c.read.new.into) c.read.ensures.keeps c.args.self.now.tokens.now.tokens (readers (names_in c.args.self.now.typedefs.now (g.R.TypeReader.types c.args.self.now.reader.now) (tables c.args.into.now) c.args.self.now.tokens.now.tokens) c.args.depth (place_of_part c.args.part)) c.loop-parts.parts.items c.loop-parts.invariant.nodes c.loop-parts.next c.loop-parts.invariant.place c.in_ok-found.field-0 (at_start c.args.self.now.typedefs.now (g.R.TypeReader.types c.args.self.now.reader.now) (tables c.args.into.now) (tables c.loop-parts.into) (tables c.read.new.into) c.args.self.now.tokens.now.tokens c.requires.tied c.loop-parts.invariant.keeps (kind_of_part c.args.part) c.in_ok-found.field-0 (λ n. readers n c.args.depth (place_of_part c.args.part) (drop c.loop-parts.next c.args.self.now.tokens.now.tokens)) c.in_ok-found.ensures.ok) c.in-Some.found c.in-Some.end c.in-Some.is in
+    let end : c.in-Some.end ≤ length c.args.self.now.tokens.now.tokens = there.1 in
+    let more = comma_forward c.args.self.now.tokens.now.tokens c.in-Some.end c.in-Some-after.following end c.in-Some-after.ensures.1 c.in-Some-after.ensures.0 in
+    omega (arith, far, end, more, c.in-Some-after.ensures.1)
+
+pub listed-loop-parts-preserved : goal.listed-loop-parts-preserved
+listed-loop-parts-preserved g t c =
+    let keeps = extends_then (tables c.args.into.now) (tables c.loop-parts.into) (tables c.read.new.into) c.loop-parts.invariant.keeps c.read.ensures.keeps in
+    record {
+      nodes = parts_there (kind_of_part c.args.part) (tables c.loop-parts.into) (tables c.read.new.into) c.read.ensures.keeps c.args.self.now.tokens.now.tokens (readers (names_in c.args.self.now.typedefs.now (g.R.TypeReader.types c.args.self.now.reader.now) (tables c.args.into.now) c.args.self.now.tokens.now.tokens) c.args.depth (place_of_part c.args.part)) c.loop-parts.parts.items c.loop-parts.invariant.nodes c.loop-parts.next c.loop-parts.invariant.place c.in_ok-found.field-0 (at_start c.args.self.now.typedefs.now (g.R.TypeReader.types c.args.self.now.reader.now) (tables c.args.into.now) (tables c.loop-parts.into) (tables c.read.new.into) c.args.self.now.tokens.now.tokens c.requires.tied c.loop-parts.invariant.keeps (kind_of_part c.args.part) c.in_ok-found.field-0 (λ n. readers n c.args.depth (place_of_part c.args.part) (drop c.loop-parts.next c.args.self.now.tokens.now.tokens)) c.in_ok-found.ensures.ok) c.in-Some.found c.in-Some.end c.in-Some.is c.push.new.self.items c.in_ok-push.ensures.items;
+      place = c.in-Some-after.ensures.1;
+      where_behind = (part_there (kind_of_part c.args.part) (tables c.loop-parts.into) (tables c.read.new.into) c.read.ensures.keeps c.args.self.now.tokens.now.tokens (readers (names_in c.args.self.now.typedefs.now (g.R.TypeReader.types c.args.self.now.reader.now) (tables c.args.into.now) c.args.self.now.tokens.now.tokens) c.args.depth (place_of_part c.args.part)) c.loop-parts.parts.items c.loop-parts.invariant.nodes c.loop-parts.next c.loop-parts.invariant.place c.in_ok-found.field-0 (at_start c.args.self.now.typedefs.now (g.R.TypeReader.types c.args.self.now.reader.now) (tables c.args.into.now) (tables c.loop-parts.into) (tables c.read.new.into) c.args.self.now.tokens.now.tokens c.requires.tied c.loop-parts.invariant.keeps (kind_of_part c.args.part) c.in_ok-found.field-0 (λ n. readers n c.args.depth (place_of_part c.args.part) (drop c.loop-parts.next c.args.self.now.tokens.now.tokens)) c.in_ok-found.ensures.ok) c.in-Some.found c.in-Some.end c.in-Some.is).1;
+      keeps = keeps;
+      tied = tied_kept (g.R.TypeReader.types c.args.self.now.reader.now) (tables c.args.into.now) (tables c.read.new.into) c.args.self.now.tokens.now.tokens c.requires.tied keeps;
+      same = list_goes (kind_of_part c.args.part) (tables c.loop-parts.into) (tables c.read.new.into) c.read.ensures.keeps c.args.self.now.tokens.now.tokens (readers (names_in c.args.self.now.typedefs.now (g.R.TypeReader.types c.args.self.now.reader.now) (tables c.args.into.now) c.args.self.now.tokens.now.tokens) c.args.depth (place_of_part c.args.part)) c.loop-parts.parts.items c.loop-parts.invariant.nodes c.loop-parts.next c.loop-parts.invariant.place c.in_ok-found.field-0 (at_start c.args.self.now.typedefs.now (g.R.TypeReader.types c.args.self.now.reader.now) (tables c.args.into.now) (tables c.loop-parts.into) (tables c.read.new.into) c.args.self.now.tokens.now.tokens c.requires.tied c.loop-parts.invariant.keeps (kind_of_part c.args.part) c.in_ok-found.field-0 (λ n. readers n c.args.depth (place_of_part c.args.part) (drop c.loop-parts.next c.args.self.now.tokens.now.tokens)) c.in_ok-found.ensures.ok) (commas_shorten c.args.self.now.typedefs.now (g.R.TypeReader.types c.args.self.now.reader.now) (tables c.args.into.now) c.args.self.now.tokens.now.tokens c.requires.tied c.args.depth (place_of_part c.args.part)) c.loop-parts.behind c.loop-parts.invariant.where_behind (listed (readers (names_in c.args.self.now.typedefs.now (g.R.TypeReader.types c.args.self.now.reader.now) (tables c.args.into.now) c.args.self.now.tokens.now.tokens) c.args.depth (place_of_part c.args.part)) (drop c.args.at c.args.self.now.tokens.now.tokens)) c.loop-parts.invariant.same c.in-Some.found c.in-Some.end c.in-Some.is c.push.new.self.items c.in_ok-push.ensures.items c.in-Some-after.following c.in-Some-after.ensures.0;
+    }
+
+pub listed-returns-in-None-clause-ok : goal.listed-returns-in-None-clause-ok
+listed-returns-in-None-clause-ok g t c = list_stops (kind_of_part c.args.part) (tables c.loop-parts.into) (tables c.read.new.into) c.read.ensures.keeps c.args.self.now.tokens.now.tokens (readers (names_in c.args.self.now.typedefs.now (g.R.TypeReader.types c.args.self.now.reader.now) (tables c.args.into.now) c.args.self.now.tokens.now.tokens) c.args.depth (place_of_part c.args.part)) c.loop-parts.parts.items c.loop-parts.invariant.nodes c.loop-parts.next c.loop-parts.invariant.place c.in_ok-found.field-0 (at_start c.args.self.now.typedefs.now (g.R.TypeReader.types c.args.self.now.reader.now) (tables c.args.into.now) (tables c.loop-parts.into) (tables c.read.new.into) c.args.self.now.tokens.now.tokens c.requires.tied c.loop-parts.invariant.keeps (kind_of_part c.args.part) c.in_ok-found.field-0 (λ n. readers n c.args.depth (place_of_part c.args.part) (drop c.loop-parts.next c.args.self.now.tokens.now.tokens)) c.in_ok-found.ensures.ok) (commas_shorten c.args.self.now.typedefs.now (g.R.TypeReader.types c.args.self.now.reader.now) (tables c.args.into.now) c.args.self.now.tokens.now.tokens c.requires.tied c.args.depth (place_of_part c.args.part)) c.loop-parts.behind c.loop-parts.invariant.where_behind (listed (readers (names_in c.args.self.now.typedefs.now (g.R.TypeReader.types c.args.self.now.reader.now) (tables c.args.into.now) c.args.self.now.tokens.now.tokens) c.args.depth (place_of_part c.args.part)) (drop c.args.at c.args.self.now.tokens.now.tokens)) c.loop-parts.invariant.same c.in-Some.found c.in-Some.end c.in-Some.is c.push.new.self.items c.in_ok-push.ensures.items c.in-None.ensures
+
+-- ---- specifiers
+
+pub specifier-returns-in_default-clause-ok : goal.specifier-returns-in_default-clause-ok
+specifier-returns-in_default-clause-ok g t c = nothing _ _ _ _ (specifier_end (names_in c.args.self.now.typedefs.now (g.R.TypeReader.types c.args.self.now.reader.now) (tables c.args.into.now) c.args.self.now.tokens.now.tokens) c.args.depth _ c.in_default.ensures)
+
+pub specifier-returns-in_default-tag_word-clause-ok : goal.specifier-returns-in_default-tag_word-clause-ok
+specifier-returns-in_default-tag_word-clause-ok g t c = moved _ _ _ _ _ _ (specifier_plain c.args.self.now.typedefs.now (g.R.TypeReader.types c.args.self.now.reader.now) (tables c.args.into.now) c.args.self.now.tokens.now.tokens c.args.depth _ c.in-Some.token _ c.in-Some.ensures.0 (sym c.in_default-tag_word.ensures)) c.plain.ensures.ok
+
+pub specifier-returns-clause-ok : goal.specifier-returns-clause-ok
+specifier-returns-clause-ok g t c = moved _ _ _ _ _ _ (specifier_tagged (names_in c.args.self.now.typedefs.now (g.R.TypeReader.types c.args.self.now.reader.now) (tables c.args.into.now) c.args.self.now.tokens.now.tokens) c.args.depth _ c.in-Some.token _ c.in-Some.ensures.0 c.in-Some-tag_word.word (sym c.in-Some-tag_word.ensures)) c.tagged.ensures.ok
+
+pub tagged-returns-in-Some-clause-ok : goal.tagged-returns-in-Some-clause-ok
+tagged-returns-in-Some-clause-ok g t c = tagged_braced (tables c.braced.new.into) c.args.self.now.tokens.now.tokens (within (names_in c.args.self.now.typedefs.now (g.R.TypeReader.types c.args.self.now.reader.now) (tables c.args.into.now) c.args.self.now.tokens.now.tokens) c.args.depth) c.args.line (word_of_tag c.args.word) (drop c.args.at c.args.self.now.tokens.now.tokens) c.tag_at-tag.result.0 (drop c.tag_at-tag.result.1 c.args.self.now.tokens.now.tokens) c.tag_at-tag.ensures.is c.in_ok-found.field-0 c.in_ok-found.ensures.ok c.in-Some.found c.in-Some.is
+
+pub tagged-returns-in-None-clause-ok : goal.tagged-returns-in-None-clause-ok
+tagged-returns-in-None-clause-ok g t c = moved _ _ _ _ _ _ (tagged_alone (tables c.braced.new.into) c.args.self.now.tokens.now.tokens (within (names_in c.args.self.now.typedefs.now (g.R.TypeReader.types c.args.self.now.reader.now) (tables c.args.into.now) c.args.self.now.tokens.now.tokens) c.args.depth) c.args.line (word_of_tag c.args.word) (drop c.args.at c.args.self.now.tokens.now.tokens) c.tag_at-tag.result.0 (drop c.tag_at-tag.result.1 c.args.self.now.tokens.now.tokens) c.tag_at-tag.ensures.is c.in_ok-found.field-0 c.in_ok-found.ensures.ok c.in-None.is) c.tag_alone.ensures.ok
+
+pub braced-returns-in_default-clause-ok : goal.braced-returns-in_default-clause-ok
+braced-returns-in_default-clause-ok g t c = nothing _ _ _ _ (no_brace (names_in c.args.self.now.typedefs.now (g.R.TypeReader.types c.args.self.now.reader.now) (tables c.args.into.now) c.args.self.now.tokens.now.tokens) c.args.depth c.args.line c.args.word c.args.tag (drop c.args.at c.args.self.now.tokens.now.tokens) c.in_default.ensures)
+
+pub braced-returns-then-depth-eq0-clause-ok : goal.braced-returns-then-depth-eq0-clause-ok
+braced-returns-then-depth-eq0-clause-ok g t c = nothing _ _ _ _ (no_depth (names_in c.args.self.now.typedefs.now (g.R.TypeReader.types c.args.self.now.reader.now) (tables c.args.into.now) c.args.self.now.tokens.now.tokens) c.args.depth c.args.line c.args.word c.args.tag (drop c.args.at c.args.self.now.tokens.now.tokens) (drop c.in-Some.inside c.args.self.now.tokens.now.tokens) c.in-Some.ensures.0 c.if-depth-eq0.true)
+
+pub braced-returns-in-Enum-clause-ok : goal.braced-returns-in-Enum-clause-ok
+braced-returns-in-Enum-clause-ok g t c = moved _ _ _ _ _ _ (enumerators_in (names_in c.args.self.now.typedefs.now (g.R.TypeReader.types c.args.self.now.reader.now) (tables c.args.into.now) c.args.self.now.tokens.now.tokens) c.args.depth c.args.line c.args.word c.args.tag (drop c.args.at c.args.self.now.tokens.now.tokens) (drop c.in-Some.inside c.args.self.now.tokens.now.tokens) c.in-Some.ensures.0 (omega arith) c.in-Enum.is) c.enumerators.ensures.ok
+
+pub braced-returns-in-Composite-clause-ok : goal.braced-returns-in-Composite-clause-ok
+braced-returns-in-Composite-clause-ok g t c = moved _ _ _ _ _ _ (members_in (names_in c.args.self.now.typedefs.now (g.R.TypeReader.types c.args.self.now.reader.now) (tables c.args.into.now) c.args.self.now.tokens.now.tokens) c.args.depth c.args.line c.args.word c.args.tag (drop c.args.at c.args.self.now.tokens.now.tokens) (drop c.in-Some.inside c.args.self.now.tokens.now.tokens) c.in-Some.ensures.0 (omega arith) c.in-Composite.composite_word c.in-Composite.is) c.members.ensures.ok
+
+pub enumerators-returns-clause-ok : goal.enumerators-returns-clause-ok
+enumerators-returns-clause-ok g t c = moved _ _ _ _ _ _ (ap (listed_in_braces (λ trees comma. OfSpecifier (Enumeration c.args.line c.args.tag trees comma))) (ap (λ (ns : List NodeId). let x : Trees × List Token = (trees_of (tables c.listed.new.into).forest ns, drop c.in_ok-parts.end c.args.self.now.tokens.now.tokens) in x) c.deref.ensures.value ∙ c.in_ok-parts.ensures.ok.is)) c.enumeration.ensures.ok
+
+pub enumerators-enumeration-requires-clause-enumerators : goal.enumerators-enumeration-requires-clause-enumerators
+enumerators-enumeration-requires-clause-enumerators g t c = all_as (tables c.listed.new.into) is_declaration _ _ c.deref.ensures.value c.in_ok-parts.ensures.ok.there
+
+pub members-returns-clause-ok : goal.members-returns-clause-ok
+members-returns-clause-ok g t c = moved _ _ _ _ _ _ (ap (row_in_braces (λ trees. OfSpecifier (Composite c.args.line (word_of_composite c.args.composite_word) c.args.tag trees))) (ap (λ (ns : List NodeId). let x : Trees × List Token = (trees_of (tables c.row.new.into).forest ns, drop c.in_ok-parts.end c.args.self.now.tokens.now.tokens) in x) c.deref.ensures.value ∙ c.in_ok-parts.ensures.ok.is)) c.composite.ensures.ok
+
+pub members-composite-requires-clause-members : goal.members-composite-requires-clause-members
+members-composite-requires-clause-members g t c = all_as (tables c.row.new.into) is_declaration _ _ c.deref.ensures.value c.in_ok-parts.ensures.ok.there
+
+-- ---- members and parameters
+
+pub member-returns-then-is_empty-clause-ok : goal.member-returns-then-is_empty-clause-ok
+member-returns-then-is_empty-clause-ok g t c = nothing _ _ _ _ (member_ends c.args.self.now.typedefs.now (g.R.TypeReader.types c.args.self.now.reader.now) (tables c.args.into.now) (tables c.row.new.into) c.args.self.now.tokens.now.tokens c.requires.tied c.row.ensures.keeps c.args.depth c.args.at c.in_ok-specs.specs.items c.in_ok-specs.next c.in_ok-specs.ensures.ok (counted _ _ _ _ c.in_ok-specs.specs.ok.0 c.is_empty.ensures c.if-is_empty.true))
+
+pub member-listed-requires : goal.member-listed-requires
+member-listed-requires g t c =
+    let tied = tied_kept (g.R.TypeReader.types c.args.self.now.reader.now) (tables c.args.into.now) (tables c.row.new.into) c.args.self.now.tokens.now.tokens c.requires.tied c.row.ensures.keeps in
+    let place = c.in_ok-specs.ensures.ok.place in
+    search rules
+
+pub member-returns-clause-ok : goal.member-returns-clause-ok
+member-returns-clause-ok g t c = moved _ _ _ _ _ _ (member_goes c.args.self.now.typedefs.now (g.R.TypeReader.types c.args.self.now.reader.now) (tables c.args.into.now) (tables c.row.new.into) c.args.self.now.tokens.now.tokens c.requires.tied c.row.ensures.keeps c.args.depth c.args.at c.in_ok-specs.specs.items c.in_ok-specs.next c.in_ok-specs.ensures.ok (counted _ _ _ _ c.in_ok-specs.specs.ok.0 c.is_empty.ensures c.if-is_empty.false) (tables c.listed.new.into) c.listed.ensures.keeps c.line_at-line.result c.line_at-line.ensures c.in_ok-declarators.declarators.items c.in_ok-declarators.end c.in_ok-declarators.ensures.ok c.deref.result.now c.deref-2.result.now c.deref.ensures.value c.deref-2.ensures.value) c.member_of.ensures.ok
+
+pub member-member_of-requires-clause-specs : goal.member-member_of-requires-clause-specs
+member-member_of-requires-clause-specs g t c = all_as (tables c.listed.new.into) is_specifier _ _ c.deref.ensures.value (all_kept is_specifier (tables c.row.new.into) (tables c.listed.new.into) c.listed.ensures.keeps _ c.in_ok-specs.ensures.ok.there)
+
+pub member-member_of-requires-clause-declarators : goal.member-member_of-requires-clause-declarators
+member-member_of-requires-clause-declarators g t c = all_as (tables c.listed.new.into) is_declarator _ _ c.deref-2.ensures.value c.in_ok-declarators.ensures.ok.there
+
+pub parameter-returns-then-depth-eq0-clause-ok : goal.parameter-returns-then-depth-eq0-clause-ok
+parameter-returns-then-depth-eq0-clause-ok g t c = nothing _ _ _ _ (no_parameters (names_in c.args.self.now.typedefs.now (g.R.TypeReader.types c.args.self.now.reader.now) (tables c.args.into.now) c.args.self.now.tokens.now.tokens) c.args.depth (drop c.args.at c.args.self.now.tokens.now.tokens) c.if-depth-eq0.true)
+
+pub parameter-returns-then-is_empty-clause-ok : goal.parameter-returns-then-is_empty-clause-ok
+parameter-returns-then-is_empty-clause-ok g t c = nothing _ _ _ _ (parameter_ends c.args.self.now.typedefs.now (g.R.TypeReader.types c.args.self.now.reader.now) (tables c.args.into.now) (tables c.row.new.into) c.args.self.now.tokens.now.tokens c.requires.tied c.row.ensures.keeps c.args.depth c.args.at c.in_ok-specs.specs.items c.in_ok-specs.next (omega arith) c.in_ok-specs.ensures.ok (counted _ _ _ _ c.in_ok-specs.specs.ok.0 c.is_empty.ensures c.if-is_empty.true))
+
+pub parameter-read-requires : goal.parameter-read-requires
+parameter-read-requires g t c =
+    let tied = tied_kept (g.R.TypeReader.types c.args.self.now.reader.now) (tables c.args.into.now) (tables c.row.new.into) c.args.self.now.tokens.now.tokens c.requires.tied c.row.ensures.keeps in
+    let place = c.in_ok-specs.ensures.ok.place in
+    search rules
+
+pub parameter-returns-clause-ok : goal.parameter-returns-clause-ok
+parameter-returns-clause-ok g t c = moved _ _ _ _ _ _ (parameter_goes c.args.self.now.typedefs.now (g.R.TypeReader.types c.args.self.now.reader.now) (tables c.args.into.now) (tables c.row.new.into) c.args.self.now.tokens.now.tokens c.requires.tied c.row.ensures.keeps c.args.depth c.args.at c.in_ok-specs.specs.items c.in_ok-specs.next (omega arith) c.in_ok-specs.ensures.ok (counted _ _ _ _ c.in_ok-specs.specs.ok.0 c.is_empty.ensures c.if-is_empty.false) (tables c.read.new.into) c.read.ensures.keeps c.line_at-line.result c.line_at-line.ensures c.in_ok-declarator.declarator c.in_ok-declarator.ensures.ok c.deref.result.now c.deref.ensures.value) c.parameter_of.ensures.ok
+
+pub parameter-parameter_of-requires-clause-specs : goal.parameter-parameter_of-requires-clause-specs
+parameter-parameter_of-requires-clause-specs g t c = all_as (tables c.read.new.into) is_specifier _ _ c.deref.ensures.value (all_kept is_specifier (tables c.row.new.into) (tables c.read.new.into) c.read.ensures.keeps _ c.in_ok-specs.ensures.ok.there)
+
+pub parameter-parameter_of-requires-clause-declarator : goal.parameter-parameter_of-requires-clause-declarator
+parameter-parameter_of-requires-clause-declarator g t c = c.in_ok-declarator.ensures.ok.there
+
+-- ---- declarators
+
+pub declarator-returns-then-depth-eq0-clause-ok : goal.declarator-returns-then-depth-eq0-clause-ok
+declarator-returns-then-depth-eq0-clause-ok g t c = nothing _ _ _ _ (no_declarators (names_in c.args.self.now.typedefs.now (g.R.TypeReader.types c.args.self.now.reader.now) (tables c.args.into.now) c.args.self.now.tokens.now.tokens) c.args.depth c.args.form (drop c.args.at c.args.self.now.tokens.now.tokens) c.if-depth-eq0.true)
+
+pub declarator-returns-in-None-clause-ok : goal.declarator-returns-in-None-clause-ok
+declarator-returns-in-None-clause-ok g t c = nothing _ _ _ _ (declarator_none c.args.self.now.typedefs.now (g.R.TypeReader.types c.args.self.now.reader.now) (tables c.args.into.now) (tables c.head.new.into) c.args.self.now.tokens.now.tokens c.requires.tied c.head.ensures.keeps c.args.depth c.args.at c.args.form (omega arith) c.in_ok-first.field-0 c.in_ok-first.ensures.ok c.in-None.is)
+
+pub declarator-returns-in-Some-clause-ok : goal.declarator-returns-in-Some-clause-ok
+declarator-returns-in-Some-clause-ok g t c = moved _ _ _ _ _ _ (declarator_some c.args.self.now.typedefs.now (g.R.TypeReader.types c.args.self.now.reader.now) (tables c.args.into.now) (tables c.head.new.into) c.args.self.now.tokens.now.tokens c.requires.tied c.head.ensures.keeps c.args.depth c.args.at c.args.form (omega arith) c.in_ok-first.field-0 c.in_ok-first.ensures.ok c.in-Some.first c.in-Some.next c.line_at-line.result c.in-Some.is c.line_at-line.ensures) c.grow.ensures.ok
+
+pub declarator-grow-requires : goal.declarator-grow-requires
+declarator-grow-requires g t c =
+    let h = got (tables c.head.new.into) is_declarator c.args.self.now.tokens.now.tokens c.in_ok-first.field-0 _ c.in-Some.first c.in-Some.next c.in_ok-first.ensures.ok c.in-Some.is in
+    let tied = tied_kept (g.R.TypeReader.types c.args.self.now.reader.now) (tables c.args.into.now) (tables c.head.new.into) c.args.self.now.tokens.now.tokens c.requires.tied c.head.ensures.keeps in
+    let number = h.1.0 in
+    let kind = h.1.1 in
+    let place = h.2 in
+    search rules
+
+-- ---- growth
+
+pub grow-loop-longer-init : goal.grow-loop-longer-init
+grow-loop-longer-init g t c = record { node = c.requires.node; place = c.requires.place; keeps = extends_same _; tied = c.requires.tied; same = refl }
+
+pub grow-loop-longer-smaller : goal.grow-loop-longer-smaller
+grow-loop-longer-smaller g t c =
+    let e = grew (readers (names_in c.args.self.now.typedefs.now (g.R.TypeReader.types c.args.self.now.reader.now) (tables c.loop-longer.into) c.args.self.now.tokens.now.tokens) c.args.below) c.args.below c.args.line (tables c.loop-longer.into) (tables c.extend.new.into) c.args.self.now.tokens.now.tokens c.loop-longer.left c.loop-longer.next c.in_ok-longer.field-0 c.in_ok-longer.ensures.ok c.in-Some.longer c.in-Some.end c.in-Some.is in
+    let s = longer_goes (readers (names_in c.args.self.now.typedefs.now (g.R.TypeReader.types c.args.self.now.reader.now) (tables c.loop-longer.into) c.args.self.now.tokens.now.tokens) c.args.below) c.args.below c.args.line (tree_at (tables c.loop-longer.into).forest c.loop-longer.left) (drop c.loop-longer.next c.args.self.now.tokens.now.tokens) (tree_at (tables c.extend.new.into).forest c.in-Some.longer) (drop c.in-Some.end c.args.self.now.tokens.now.tokens) e in
+    omega (arith, s.grows, s.was_shallow)
+
+pub grow-loop-longer-preserved : goal.grow-loop-longer-preserved
+grow-loop-longer-preserved g t c =
+    let a = at_start c.args.self.now.typedefs.now (g.R.TypeReader.types c.args.self.now.reader.now) (tables c.args.into.now) (tables c.loop-longer.into) (tables c.extend.new.into) c.args.self.now.tokens.now.tokens c.requires.tied c.loop-longer.invariant.keeps is_declarator c.in_ok-longer.field-0 (λ n. longer (readers n c.args.below) c.args.below c.args.line (tree_at (tables c.loop-longer.into).forest c.loop-longer.left) (drop c.loop-longer.next c.args.self.now.tokens.now.tokens)) c.in_ok-longer.ensures.ok in
+    let h = got (tables c.extend.new.into) is_declarator c.args.self.now.tokens.now.tokens c.in_ok-longer.field-0 _ c.in-Some.longer c.in-Some.end a c.in-Some.is in
+    let e = grew (readers (names_in c.args.self.now.typedefs.now (g.R.TypeReader.types c.args.self.now.reader.now) (tables c.args.into.now) c.args.self.now.tokens.now.tokens) c.args.below) c.args.below c.args.line (tables c.loop-longer.into) (tables c.extend.new.into) c.args.self.now.tokens.now.tokens c.loop-longer.left c.loop-longer.next c.in_ok-longer.field-0 a c.in-Some.longer c.in-Some.end c.in-Some.is in
+    let keeps = extends_then (tables c.args.into.now) (tables c.loop-longer.into) (tables c.extend.new.into) c.loop-longer.invariant.keeps c.extend.ensures.keeps in
+    record {
+      node = h.1;
+      place = h.2;
+      keeps = keeps;
+      tied = tied_kept (g.R.TypeReader.types c.args.self.now.reader.now) (tables c.args.into.now) (tables c.extend.new.into) c.args.self.now.tokens.now.tokens c.requires.tied keeps;
+      same = sym (grown_next (readers (names_in c.args.self.now.typedefs.now (g.R.TypeReader.types c.args.self.now.reader.now) (tables c.args.into.now) c.args.self.now.tokens.now.tokens) c.args.below) c.args.below c.args.line (tree_at (tables c.loop-longer.into).forest c.loop-longer.left) (drop c.loop-longer.next c.args.self.now.tokens.now.tokens) (tree_at (tables c.extend.new.into).forest c.in-Some.longer) (drop c.in-Some.end c.args.self.now.tokens.now.tokens) e) ∙ c.loop-longer.invariant.same;
+    }
+
+pub grow-returns-in-None-clause-ok : goal.grow-returns-in-None-clause-ok
+grow-returns-in-None-clause-ok g t c =
+    let a = at_start c.args.self.now.typedefs.now (g.R.TypeReader.types c.args.self.now.reader.now) (tables c.args.into.now) (tables c.loop-longer.into) (tables c.extend.new.into) c.args.self.now.tokens.now.tokens c.requires.tied c.loop-longer.invariant.keeps is_declarator c.in_ok-longer.field-0 (λ n. longer (readers n c.args.below) c.args.below c.args.line (tree_at (tables c.loop-longer.into).forest c.loop-longer.left) (drop c.loop-longer.next c.args.self.now.tokens.now.tokens)) c.in_ok-longer.ensures.ok in
+    grew_out (readers (names_in c.args.self.now.typedefs.now (g.R.TypeReader.types c.args.self.now.reader.now) (tables c.args.into.now) c.args.self.now.tokens.now.tokens) c.args.below) c.args.below c.args.line (tables c.loop-longer.into) (tables c.extend.new.into) c.args.self.now.tokens.now.tokens c.loop-longer.left c.loop-longer.next c.in_ok-longer.field-0 a
+    (grown (readers (names_in c.args.self.now.typedefs.now (g.R.TypeReader.types c.args.self.now.reader.now) (tables c.args.into.now) c.args.self.now.tokens.now.tokens) c.args.below) c.args.below c.args.line (tree_at (tables c.args.into.now).forest c.args.first) (drop c.args.at c.args.self.now.tokens.now.tokens))
+    c.in-None.is c.extend.ensures.keeps c.loop-longer.invariant.node c.loop-longer.invariant.place c.loop-longer.invariant.same
+
+pub extend-returns-then-not-may_go_on-clause-ok : goal.extend-returns-then-not-may_go_on-clause-ok
+extend-returns-then-not-may_go_on-clause-ok g t c = nothing _ _ _ _ (longer_not (readers (names_in c.args.self.now.typedefs.now (g.R.TypeReader.types c.args.self.now.reader.now) (tables c.args.into.now) c.args.self.now.tokens.now.tokens) c.args.below) c.args.below c.args.line (tree_at (tables c.args.into.now).forest c.args.left) (drop c.args.at c.args.self.now.tokens.now.tokens) (sym c.may_go_on.ensures ∙ c.if-not-may_go_on.true))
+
+pub extend-returns-in_default-clause-ok : goal.extend-returns-in_default-clause-ok
+extend-returns-in_default-clause-ok g t c = nothing _ _ _ _ (longer_end (readers (names_in c.args.self.now.typedefs.now (g.R.TypeReader.types c.args.self.now.reader.now) (tables c.args.into.now) c.args.self.now.tokens.now.tokens) c.args.below) c.args.below c.args.line (tree_at (tables c.args.into.now).forest c.args.left) (drop c.args.at c.args.self.now.tokens.now.tokens) c.in_default.ensures)
+
+pub extend-returns-in_default-opening_of-clause-ok : goal.extend-returns-in_default-opening_of-clause-ok
+extend-returns-in_default-opening_of-clause-ok g t c = nothing _ _ _ _ (longer_none (readers (names_in c.args.self.now.typedefs.now (g.R.TypeReader.types c.args.self.now.reader.now) (tables c.args.into.now) c.args.self.now.tokens.now.tokens) c.args.below) c.args.below c.args.line (tree_at (tables c.args.into.now).forest c.args.left) (sym c.may_go_on.ensures ∙ c.if-not-may_go_on.false) (drop c.args.at c.args.self.now.tokens.now.tokens) c.in-Some.token (drop (c.args.at + 1) c.args.self.now.tokens.now.tokens) c.in-Some.ensures.0 (sym c.in_default-opening_of.ensures))
+
+pub extend-returns-in-Bracket-clause-ok : goal.extend-returns-in-Bracket-clause-ok
+extend-returns-in-Bracket-clause-ok g t c = moved _ _ _ _ _ _ (longer_bracket (readers (names_in c.args.self.now.typedefs.now (g.R.TypeReader.types c.args.self.now.reader.now) (tables c.args.into.now) c.args.self.now.tokens.now.tokens) c.args.below) c.args.below c.args.line (tree_at (tables c.args.into.now).forest c.args.left) (sym c.may_go_on.ensures ∙ c.if-not-may_go_on.false) (drop c.args.at c.args.self.now.tokens.now.tokens) c.in-Some.token (drop (c.args.at + 1) c.args.self.now.tokens.now.tokens) c.in-Some.ensures.0 c.in-Some-opening_of.opening (sym c.in-Some-opening_of.ensures) c.in-Bracket.is) c.array.ensures.ok
+
+pub extend-returns-in-Paren-clause-ok : goal.extend-returns-in-Paren-clause-ok
+extend-returns-in-Paren-clause-ok g t c = moved _ _ _ _ _ _ (longer_paren (readers (names_in c.args.self.now.typedefs.now (g.R.TypeReader.types c.args.self.now.reader.now) (tables c.args.into.now) c.args.self.now.tokens.now.tokens) c.args.below) c.args.below c.args.line (tree_at (tables c.args.into.now).forest c.args.left) (sym c.may_go_on.ensures ∙ c.if-not-may_go_on.false) (drop c.args.at c.args.self.now.tokens.now.tokens) c.in-Some.token (drop (c.args.at + 1) c.args.self.now.tokens.now.tokens) c.in-Some.ensures.0 c.in-Some-opening_of.opening (sym c.in-Some-opening_of.ensures) c.in-Paren.is) c.parameters.ensures.ok
+
+pub extend-returns-in_default-opening-clause-ok : goal.extend-returns-in_default-opening-clause-ok
+extend-returns-in_default-opening-clause-ok g t c = nothing _ _ _ _ (longer_other (readers (names_in c.args.self.now.typedefs.now (g.R.TypeReader.types c.args.self.now.reader.now) (tables c.args.into.now) c.args.self.now.tokens.now.tokens) c.args.below) c.args.below c.args.line (tree_at (tables c.args.into.now).forest c.args.left) (sym c.may_go_on.ensures ∙ c.if-not-may_go_on.false) (drop c.args.at c.args.self.now.tokens.now.tokens) c.in-Some.token (drop (c.args.at + 1) c.args.self.now.tokens.now.tokens) c.in-Some.ensures.0 c.in-Some-opening_of.opening (sym c.in-Some-opening_of.ensures) c.in_default-opening.not-Bracket c.in_default-opening.not-Paren)
+
+pub parameters-returns-clause-ok : goal.parameters-returns-clause-ok
+parameters-returns-clause-ok g t c = moved _ _ _ _ _ _ (parametrized_is (tables c.args.into.now) (tables c.listed.new.into) c.args.self.now.tokens.now.tokens c.args.line c.args.at (readers (names_in c.args.self.now.typedefs.now (g.R.TypeReader.types c.args.self.now.reader.now) (tables c.args.into.now) c.args.self.now.tokens.now.tokens) c.args.below) c.args.left c.listed.ensures.keeps c.requires.left c.in_ok-parts.parts.items c.deref.result.now c.in_ok-parts.end c.deref.ensures.value c.in_ok-parts.ensures.ok) c.function_of.ensures.ok
+
+pub parameters-function_of-requires-clause-left : goal.parameters-function_of-requires-clause-left
+parameters-function_of-requires-clause-left g t c = some_kept (tables c.args.into.now) (tables c.listed.new.into) is_declarator c.args.left c.listed.ensures.keeps c.requires.left
+
+pub parameters-function_of-requires-clause-parameters : goal.parameters-function_of-requires-clause-parameters
+parameters-function_of-requires-clause-parameters g t c = all_as (tables c.listed.new.into) is_declaration _ _ c.deref.ensures.value c.in_ok-parts.ensures.ok.there
+
+-- ---- how one begins
+
+pub head-returns-in_default-clause-ok : goal.head-returns-in_default-clause-ok
+head-returns-in_default-clause-ok g t c = nothing _ _ _ _ (head_end (names_in c.args.self.now.typedefs.now (g.R.TypeReader.types c.args.self.now.reader.now) (tables c.args.into.now) c.args.self.now.tokens.now.tokens) (readers (names_in c.args.self.now.typedefs.now (g.R.TypeReader.types c.args.self.now.reader.now) (tables c.args.into.now) c.args.self.now.tokens.now.tokens) c.args.below) c.args.form (drop c.args.at c.args.self.now.tokens.now.tokens) c.in_default.ensures)
+
+pub head-returns-in_default-opening_of-clause-ok : goal.head-returns-in_default-opening_of-clause-ok
+head-returns-in_default-opening_of-clause-ok g t c = nothing _ _ _ _ (head_other (names_in c.args.self.now.typedefs.now (g.R.TypeReader.types c.args.self.now.reader.now) (tables c.args.into.now) c.args.self.now.tokens.now.tokens) (readers (names_in c.args.self.now.typedefs.now (g.R.TypeReader.types c.args.self.now.reader.now) (tables c.args.into.now) c.args.self.now.tokens.now.tokens) c.args.below) c.args.form (drop c.args.at c.args.self.now.tokens.now.tokens) c.in-Some.token (drop (c.args.at + 1) c.args.self.now.tokens.now.tokens) c.in-Some.ensures.0 (sym c.in_default-opening_of.ensures))
+
+pub head-returns-in-Name-clause-ok : goal.head-returns-in-Name-clause-ok
+head-returns-in-Name-clause-ok g t c = moved _ _ _ _ _ _ (named_in c.args.self.now.typedefs.now (g.R.TypeReader.types c.args.self.now.reader.now) (tables c.args.into.now) c.args.self.now.tokens.now.tokens c.args.form c.in-Some.token.line c.in-Name.name (drop (c.args.at + 1) c.args.self.now.tokens.now.tokens) ∙ head_named (names_in c.args.self.now.typedefs.now (g.R.TypeReader.types c.args.self.now.reader.now) (tables c.args.into.now) c.args.self.now.tokens.now.tokens) (readers (names_in c.args.self.now.typedefs.now (g.R.TypeReader.types c.args.self.now.reader.now) (tables c.args.into.now) c.args.self.now.tokens.now.tokens) c.args.below) c.args.form (drop c.args.at c.args.self.now.tokens.now.tokens) c.in-Some.token (drop (c.args.at + 1) c.args.self.now.tokens.now.tokens) c.in-Some.ensures.0 c.in-Some-opening_of.opening (sym c.in-Some-opening_of.ensures) c.in-Name.name c.in-Name.is) c.named.ensures.ok
+
+pub head-returns-in-Star-clause-ok : goal.head-returns-in-Star-clause-ok
+head-returns-in-Star-clause-ok g t c = moved _ _ _ _ _ _ (head_star (names_in c.args.self.now.typedefs.now (g.R.TypeReader.types c.args.self.now.reader.now) (tables c.args.into.now) c.args.self.now.tokens.now.tokens) (readers (names_in c.args.self.now.typedefs.now (g.R.TypeReader.types c.args.self.now.reader.now) (tables c.args.into.now) c.args.self.now.tokens.now.tokens) c.args.below) c.args.form (drop c.args.at c.args.self.now.tokens.now.tokens) c.in-Some.token (drop (c.args.at + 1) c.args.self.now.tokens.now.tokens) c.in-Some.ensures.0 c.in-Some-opening_of.opening (sym c.in-Some-opening_of.ensures) c.in-Star.is) c.pointer.ensures.ok
+
+pub head-returns-in-Paren-clause-ok : goal.head-returns-in-Paren-clause-ok
+head-returns-in-Paren-clause-ok g t c = moved _ _ _ _ _ _ (head_paren (names_in c.args.self.now.typedefs.now (g.R.TypeReader.types c.args.self.now.reader.now) (tables c.args.into.now) c.args.self.now.tokens.now.tokens) (readers (names_in c.args.self.now.typedefs.now (g.R.TypeReader.types c.args.self.now.reader.now) (tables c.args.into.now) c.args.self.now.tokens.now.tokens) c.args.below) c.args.form (drop c.args.at c.args.self.now.tokens.now.tokens) c.in-Some.token (drop (c.args.at + 1) c.args.self.now.tokens.now.tokens) c.in-Some.ensures.0 c.in-Some-opening_of.opening (sym c.in-Some-opening_of.ensures) c.in-Paren.is) c.opened.ensures.ok
+
+pub head-returns-in-Bracket-clause-ok : goal.head-returns-in-Bracket-clause-ok
+head-returns-in-Bracket-clause-ok g t c = moved _ _ _ _ _ _ (head_bracket (names_in c.args.self.now.typedefs.now (g.R.TypeReader.types c.args.self.now.reader.now) (tables c.args.into.now) c.args.self.now.tokens.now.tokens) (readers (names_in c.args.self.now.typedefs.now (g.R.TypeReader.types c.args.self.now.reader.now) (tables c.args.into.now) c.args.self.now.tokens.now.tokens) c.args.below) c.args.form (drop c.args.at c.args.self.now.tokens.now.tokens) c.in-Some.token (drop (c.args.at + 1) c.args.self.now.tokens.now.tokens) c.in-Some.ensures.0 c.in-Some-opening_of.opening (sym c.in-Some-opening_of.ensures) c.in-Bracket.is) c.abstract_array.ensures.ok
+
+pub pointer-returns-clause-ok : goal.pointer-returns-clause-ok
+pointer-returns-clause-ok g t c = moved _ _ _ _ _ _ (pointer_is (readers (names_in c.args.self.now.typedefs.now (g.R.TypeReader.types c.args.self.now.reader.now) (tables c.args.into.now) c.args.self.now.tokens.now.tokens) c.args.below) c.args.form c.args.line c.consts_in_row-consts.result.0 (drop c.args.at c.args.self.now.tokens.now.tokens) (drop c.consts_in_row-consts.result.1 c.args.self.now.tokens.now.tokens) _ c.consts_in_row-consts.ensures.count c.consts_in_row-consts.ensures.behind c.in_ok-inner.ensures.ok.is) c.pointed.ensures.ok
+
+pub pointer-pointed-requires-clause-within : goal.pointer-pointed-requires-clause-within
+pointer-pointed-requires-clause-within g t c = c.in_ok-inner.ensures.ok.there
+
+pub opened-returns-then-allows_abstract-clause-ok : goal.opened-returns-then-allows_abstract-clause-ok
+opened-returns-then-allows_abstract-clause-ok g t c = moved _ _ _ _ _ _ (opened_function (names_in c.args.self.now.typedefs.now (g.R.TypeReader.types c.args.self.now.reader.now) (tables c.args.into.now) c.args.self.now.tokens.now.tokens) (readers (names_in c.args.self.now.typedefs.now (g.R.TypeReader.types c.args.self.now.reader.now) (tables c.args.into.now) c.args.self.now.tokens.now.tokens) c.args.below) c.args.form c.args.line (drop c.args.at c.args.self.now.tokens.now.tokens) (sym (c.opens_parameters.ensures (g.R.TypeReader.types c.args.self.now.reader.now) (tables c.args.into.now)) ∙ c.if-opens_parameters.true) (sym c.allows_abstract.ensures ∙ c.if-allows_abstract.true)) c.parameters.ensures.ok
+
+pub opened-returns-else-allows_abstract-clause-ok : goal.opened-returns-else-allows_abstract-clause-ok
+opened-returns-else-allows_abstract-clause-ok g t c = nothing _ _ _ _ (opened_not (names_in c.args.self.now.typedefs.now (g.R.TypeReader.types c.args.self.now.reader.now) (tables c.args.into.now) c.args.self.now.tokens.now.tokens) (readers (names_in c.args.self.now.typedefs.now (g.R.TypeReader.types c.args.self.now.reader.now) (tables c.args.into.now) c.args.self.now.tokens.now.tokens) c.args.below) c.args.form c.args.line (drop c.args.at c.args.self.now.tokens.now.tokens) (sym (c.opens_parameters.ensures (g.R.TypeReader.types c.args.self.now.reader.now) (tables c.args.into.now)) ∙ c.if-opens_parameters.true) (sym c.allows_abstract.ensures ∙ c.if-allows_abstract.false))
+
+pub opened-returns-in_ok-inner-clause-ok : goal.opened-returns-in_ok-inner-clause-ok
+opened-returns-in_ok-inner-clause-ok g t c = moved _ _ _ _ _ _ (opened_within (names_in c.args.self.now.typedefs.now (g.R.TypeReader.types c.args.self.now.reader.now) (tables c.args.into.now) c.args.self.now.tokens.now.tokens) (readers (names_in c.args.self.now.typedefs.now (g.R.TypeReader.types c.args.self.now.reader.now) (tables c.args.into.now) c.args.self.now.tokens.now.tokens) c.args.below) c.args.form c.args.line (drop c.args.at c.args.self.now.tokens.now.tokens) (sym (c.opens_parameters.ensures (g.R.TypeReader.types c.args.self.now.reader.now) (tables c.args.into.now)) ∙ c.if-opens_parameters.false) _ c.in_ok-inner.ensures.ok.is) c.parenthesized.ensures.ok
+
+pub opened-parenthesized-requires : goal.opened-parenthesized-requires
+opened-parenthesized-requires g t c = c.in_ok-inner.ensures.ok.there

@@ -1,0 +1,25 @@
+use Rattle.std.proofs.Common.{◌≡◌, ◌≤◌, ◌-◌, All, length, drop}
+use Rattle.pv_tree.specs.Places.{InitDeclarators}
+use Rattle.pv_tree.specs.Rows.{tables}
+use Rattle.pv_tree.specs.Syntax.{NoTrees, Then}
+use Rattle.pv_tree.specs.Tables.{tree_at, trees_of, is_declaration, Is, Extends}
+use Rattle.pv_tree.specs.TypeNames.{AreTied}
+use Rattle.pv_expr.specs.Known.{names_in}
+use Rattle.pv_decl.specs.Pieces.{row, after_comma}
+use Rattle.pv_decl.specs.Reader.{readers}
+use Rattle.pv_decl.proofs.source.Source.declared.Given as goal
+
+abbrev pub invariant-loop-next : goal.invariant-loop-next
+invariant-loop-next g l =
+    let tokens = l.self.tokens.now.tokens in
+    let part = after_comma (readers (names_in l.self.typedefs.now (g.R.TypeReader.types l.self.reader.now) (tables l.fn.into) tokens) l.below InitDeclarators) in
+    record {
+      nodes : All (λ n. Is (tables l.into) is_declaration n) l.declared.items;
+      place : l.behind ≤ length tokens;
+      keeps : Extends (tables l.fn.into) (tables l.into);
+      tied : AreTied (g.R.TypeReader.types l.self.reader.now) (tables l.into) tokens;
+      same : row part (trees_of (tables l.into).forest l.declared.items) (drop l.behind tokens) ≡ row part (Then NoTrees (tree_at (tables l.fn.into).forest l.fn.first)) (drop l.fn.at tokens);
+    }
+
+abbrev pub decreases-loop-next : goal.decreases-loop-next
+decreases-loop-next g l = length l.self.tokens.now.tokens - l.behind

@@ -1,0 +1,86 @@
+use Rattle.std.proofs.Common.{ℕ, List, ap, sym, ◌∙◌, drop, Some}
+use Rattle.pv_tree.specs.declared.nodes.NodeId.{NodeId}
+use Rattle.pv_tree.specs.Places.{InitDeclarators}
+use Rattle.pv_tree.specs.Rows.{tables}
+use Rattle.pv_tree.specs.Syntax.{Declaration, NoTrees, Then}
+use Rattle.pv_tree.specs.Tables.{tree_at, trees_of, is_declaration, is_specifier}
+use Rattle.pv_tree.proofs.Kept.{extends_then}
+use Rattle.pv_expr.specs.Known.{names_in}
+use Rattle.pv_expr.proofs.Naming.{tied_kept}
+use Rattle.pv_decl.specs.Pieces.{Piece, row, after_comma}
+use Rattle.pv_decl.specs.Reader.{ended, initialized, readers}
+use Rattle.pv_decl.proofs.Answered.{moved, nothing, got}
+use Rattle.pv_decl.proofs.Loops.{at_start, all_kept}
+use Rattle.pv_decl.proofs.Outer.{are_at_start, semicolon_there, no_semicolon, ends_here, specified_none, specified_head, specified_list}
+use Rattle.pv_decl.proofs.source.Source.specified.Goals as goal
+
+pub returns-then-is_some-clause-ok : goal.returns-then-is_some-clause-ok
+returns-then-is_some-clause-ok g c =
+    let tokens = c.args.self.now.tokens.now.tokens in
+    let u = tables c.args.into.now in
+    let r = readers (names_in c.args.self.now.typedefs.now (g.R.TypeReader.types c.args.self.now.reader.now) u tokens) c.args.below in
+    let s = semicolon_there tokens (drop c.args.at tokens) c.after.result c.after.ensures (sym c.is_some.ensures ∙ c.if-is_some.true) in
+    moved _ _ _ _ _ _ (ends_here r c.args.line (trees_of u.forest c.args.specs.now) (drop c.args.at tokens) s.0 s.1) c.declaration_of.ensures.ok
+
+pub returns-in_default-clause-ok : goal.returns-in_default-clause-ok
+returns-in_default-clause-ok g c =
+    let tokens = c.args.self.now.tokens.now.tokens in
+    let u = tables c.args.into.now in
+    let r = readers (names_in c.args.self.now.typedefs.now (g.R.TypeReader.types c.args.self.now.reader.now) u tokens) c.args.below in
+    let no = no_semicolon tokens (drop c.args.at tokens) c.after.result c.after.ensures (sym c.is_some.ensures ∙ c.if-is_some.false) in
+    nothing _ _ _ _ (specified_none u (tables c.read.new.into) tokens r c.args.line c.args.at c.args.specs.now c.requires.specs c.read.ensures.keeps no c.in_ok-declarator.field-0 c.in_ok-declarator.ensures.ok c.in_default.is)
+
+pub parameter_of-requires-clause-specs : goal.parameter_of-requires-clause-specs
+parameter_of-requires-clause-specs g c = all_kept is_specifier (tables c.args.into.now) (tables c.read.new.into) c.read.ensures.keeps c.args.specs.now c.requires.specs
+
+pub returns-then-opens_block-clause-ok : goal.returns-then-opens_block-clause-ok
+returns-then-opens_block-clause-ok g c =
+    let tokens = c.args.self.now.tokens.now.tokens in
+    let u = tables c.args.into.now in
+    let r = readers (names_in c.args.self.now.typedefs.now (g.R.TypeReader.types c.args.self.now.reader.now) u tokens) c.args.below in
+    let no = no_semicolon tokens (drop c.args.at tokens) c.after.result c.after.ensures (sym c.is_some.ensures ∙ c.if-is_some.false) in
+    moved _ _ _ _ _ _
+    (specified_head u (tables c.read.new.into) tokens r c.args.line c.args.at c.args.specs.now c.requires.specs c.read.ensures.keeps no c.in_ok-declarator.field-0 c.in_ok-declarator.ensures.ok
+    c.in-Some.declarator c.in-Some.end c.in-Some.is (sym c.opens_block.ensures ∙ c.if-opens_block.true)) c.parameter_of.ensures.ok
+
+pub initialized-requires-clause-tied : goal.initialized-requires-clause-tied
+initialized-requires-clause-tied g c =
+    tied_kept (g.R.TypeReader.types c.args.self.now.reader.now) (tables c.args.into.now) (tables c.read.new.into) c.args.self.now.tokens.now.tokens c.requires.tied c.read.ensures.keeps
+
+pub declared-requires-clause-tied : goal.declared-requires-clause-tied
+declared-requires-clause-tied g c =
+    let u = tables c.args.into.now in
+    let w = tables c.initialized.new.into in
+    tied_kept (g.R.TypeReader.types c.args.self.now.reader.now) u w c.args.self.now.tokens.now.tokens c.requires.tied (extends_then u (tables c.read.new.into) w c.read.ensures.keeps c.initialized.ensures.keeps)
+
+pub declaration_of-requires-2-clause-specs : goal.declaration_of-requires-2-clause-specs
+declaration_of-requires-2-clause-specs g c =
+    let u = tables c.args.into.now in
+    let w = tables c.initialized.new.into in
+    let x = tables c.declared.new.into in
+    let grows = extends_then u w x (extends_then u (tables c.read.new.into) w c.read.ensures.keeps c.initialized.ensures.keeps) c.declared.ensures.keeps in
+    all_kept is_specifier u x grows c.args.specs.now c.requires.specs
+
+pub returns-clause-ok : goal.returns-clause-ok
+returns-clause-ok g c =
+    let tokens = c.args.self.now.tokens.now.tokens in
+    let types = g.R.TypeReader.types c.args.self.now.reader.now in
+    let typedefs = c.args.self.now.typedefs.now in
+    let u = tables c.args.into.now in
+    let v = tables c.read.new.into in
+    let w = tables c.initialized.new.into in
+    let x = tables c.declared.new.into in
+    let r = readers (names_in typedefs types u tokens) c.args.below in
+    let no = no_semicolon tokens (drop c.args.at tokens) c.after.result c.after.ensures (sym c.is_some.ensures ∙ c.if-is_some.false) in
+    let on = extends_then u v w c.read.ensures.keeps c.initialized.ensures.keeps in
+    let a = at_start typedefs types u v w tokens c.requires.tied c.read.ensures.keeps is_declaration c.in_ok-first.field-0
+    (λ n. Some (initialized (readers n c.args.below) c.line_at-here.result (tree_at v.forest c.in-Some.declarator) (drop c.in-Some.end tokens))) c.in_ok-first.ensures.ok in
+    let one = (got w is_declaration tokens c.in_ok-first.field-0 _ c.in-Some-2.first c.in-Some-2.behind a c.in-Some-2.is).0
+    ∙ ap (λ (l : ℕ). let y : Piece = Some (initialized r l (tree_at v.forest c.in-Some.declarator) (drop c.in-Some.end tokens)) in y) c.line_at-here.ensures in
+    let all = are_at_start typedefs types u w x tokens c.requires.tied on is_declaration c.in_ok-declared.declared.items c.in_ok-declared.last
+    (λ n. row (after_comma (readers n c.args.below InitDeclarators)) (Then NoTrees (tree_at w.forest c.in-Some-2.first)) (drop c.in-Some-2.behind tokens)) c.in_ok-declared.ensures.ok in
+    moved _ _ _ _ _ _
+    (ap (λ (ns : List NodeId). ended (Declaration c.args.line (trees_of x.forest c.args.specs.now) (trees_of x.forest ns)) (drop c.in_ok-declared.last tokens)) c.deref.ensures.value
+    ∙ specified_list u v tokens r c.args.line c.args.at c.args.specs.now c.requires.specs c.read.ensures.keeps no c.in_ok-declarator.field-0 c.in_ok-declarator.ensures.ok
+    c.in-Some.declarator c.in-Some.end c.in-Some.is (sym c.opens_block.ensures ∙ c.if-opens_block.false) w c.in-Some-2.first c.in-Some-2.behind one
+    x (extends_then u w x on c.declared.ensures.keeps) c.in_ok-declared.declared.items c.in_ok-declared.last all) c.declaration_of-2.ensures.ok

@@ -1,0 +1,21 @@
+use Rattle.std.proofs.Common.{◌≡◌, ◌≤◌, ◌⊎◌, length, nat_eq}
+use Rattle.std.specs.Prelude.{min}
+use Rattle.indexmap.specs.IndexSet.{contains}
+use Rattle.pv_tree.specs.Rows.{tables}
+use Rattle.pv_tree.specs.Tables.{Extends}
+use Rattle.pv_tree.specs.Units.{depth_limit}
+use Rattle.pv_decl.proofs.Filling.{IsFilled}
+use Rattle.pv_decl.proofs.type_table.type_names.Given as goal
+
+abbrev pub invariant-loop-at : goal.invariant-loop-at
+invariant-loop-at l =
+    let tokens = l.t.tokens in
+    record {
+      filled : IsFilled (contains nat_eq l.types) (tables l.into) tokens depth_limit l.names.to l.names.found.items l.at;
+      keeps : Extends (tables l.fn.into) (tables l.into);
+      low : (l.from ≤ l.at) ⊎ (l.names.to ≤ l.at);
+      cut : l.names.to ≡ min l.fn.to (length tokens);
+    }
+
+abbrev pub decreases-loop-at : goal.decreases-loop-at
+decreases-loop-at l = l.at

@@ -1,0 +1,32 @@
+-- The type names that a table holds, and what it holds at a place.
+use Rattle.std.specs.Prelude.{ℕ, zero, suc, ◌-◌, nat_le, Bool, false, List, [], ◌∷◌, drop, Option, None, if◌then◌else◌, slice_index_or}
+use Rattle.pv_lex.specs.declared.token_table.Token.{Token}
+use Rattle.pv_tree.specs.declared.nodes.NodeId.{NodeId}
+use Rattle.pv_tree.specs.Grammar.{Names}
+use Rattle.pv_tree.specs.TypeNames.{TypeMap}
+use Rattle.pv_expr.specs.Reader.{is_open}
+use Rattle.pv_decl.specs.declared.type_table.TypeNames.{TypeNames}
+use Rattle.pv_decl.specs.Pieces.{Piece}
+use Rattle.pv_decl.specs.Reader.{type_name}
+
+-- what is found at each place before one, where the list begins with the last
+abbrev pub filled : (to : ℕ) → List (Option (NodeId × ℕ)) → TypeMap
+filled to found at = if nat_le to at then None else slice_index_or found (to - 1 - at) None
+
+-- what a table has at each place
+abbrev pub type_map : TypeNames → TypeMap
+type_map names at = filled names.to names.found.items at
+
+-- `(` is the next token
+abbrev pub opens : List Token → Bool
+opens [] = false
+opens (t ∷ ts) = is_open t.kind
+
+-- `(` is the token before a place
+abbrev pub is_behind_open : List Token → (at : ℕ) → Bool
+is_behind_open tokens zero = false
+is_behind_open tokens (suc at) = opens (drop at tokens)
+
+-- the type name at a place, if `(` is before it
+unfoldable pub entry : Names → (depth : ℕ) → List Token → (at : ℕ) → Piece
+entry names depth tokens at = if is_behind_open tokens at then type_name names depth (drop at tokens) else None

@@ -1,0 +1,149 @@
+//! Initializers (C17 6.7.9), and declarators with them.
+ghost use Rattle.std.specs.Prelude.{◌≡◌, ◌≤◌, length, drop, Some, IfOk};
+ghost use Rattle.pv_tree.specs.Rows.{tables};
+ghost use Rattle.pv_tree.specs.Tables.{tree_at, is_declaration, is_declarator, is_expression, is_initializer, Is, Extends};
+ghost use Rattle.pv_tree.specs.TypeNames.{AreTied};
+ghost use Rattle.pv_tree.specs.Places.{Initializers};
+ghost use Rattle.pv_expr.specs.Known.{names_in};
+ghost use Rattle.pv_decl.specs.Answers.{Answers};
+ghost use Rattle.pv_decl.specs.Rows.{AreAnswered, MayBeAnswered};
+ghost use Rattle.pv_decl.specs.Parts.{assigned};
+ghost use Rattle.pv_decl.specs.Pieces.{value, listed};
+ghost use Rattle.pv_decl.specs.Reader.{readers, initialized};
+
+use crate::nodes::{found_declaration, found_initializer};
+use crate::pieces::braces_of;
+use crate::source::{Sign, Source, after, line_at};
+use pv_expr::{Level, expression};
+use pv_lex::NoMemory;
+use pv_tree::{Decl, Init, NodeId, TypeReader, Unit};
+
+impl<R: TypeReader> Source<'_, R> {
+    /// An initializer, and the place behind it.
+    #[cycle(initializing)]
+    #[tactic(auto, using(pv_tree::proofs::Kept::extends_same))]
+    fn initializer(
+        &self,
+        at: u32,
+        depth: u32,
+        into: &mut Unit,
+    ) -> Result<Option<(NodeId, u32)>, NoMemory>
+        requires place { at ≤ length self.now.tokens.now.tokens }
+        requires tied { AreTied (R.types self.now.reader.now) (tables into.old) self.now.tokens.now.tokens }
+        ensures keeps { Extends (tables into.old) (tables into.new) }
+        ensures ok { IfOk result (λ r. Answers (tables into.new) is_initializer self.now.tokens.now.tokens r (readers (names_in self.now.typedefs.now (R.types self.now.reader.now) (tables into.old) self.now.tokens.now.tokens) depth Initializers (drop at self.now.tokens.now.tokens))) }
+    {
+        if depth == 0 {
+            return Ok(None);
+        }
+        let line = line_at(self.tokens, at);
+        if let Some(inside) = after(self.tokens, at, Sign::OpenBrace) {
+            let (parts, end) = self.initializers(inside, depth - 1, into)?;
+            return braces_of(self.tokens, end, &parts, line, into);
+        }
+        match self.assigned(at, depth - 1, into)? {
+            Some((value, end)) => found_initializer(
+                self.tokens,
+                end,
+                Init::Expr(value),
+                line,
+                into,
+            ),
+            None => Ok(None),
+        }
+    }
+
+    // The assignment expression at a place, and the place behind it.
+    fn assigned(
+        &self,
+        at: u32,
+        depth: u32,
+        into: &mut Unit,
+    ) -> Result<Option<(NodeId, u32)>, NoMemory>
+        requires place { at ≤ length self.now.tokens.now.tokens }
+        requires tied { AreTied (R.types self.now.reader.now) (tables into.old) self.now.tokens.now.tokens }
+        ensures keeps { Extends (tables into.old) (tables into.new) }
+        ensures ok { IfOk result (λ r. Answers (tables into.new) is_expression self.now.tokens.now.tokens r (assigned (names_in self.now.typedefs.now (R.types self.now.reader.now) (tables into.old) self.now.tokens.now.tokens) depth (drop at self.now.tokens.now.tokens))) }
+    {
+        expression(
+            self.tokens,
+            at,
+            Level::Assignment,
+            depth,
+            self.typedefs,
+            into,
+            self.reader,
+        )
+    }
+
+    // The initializers with commas between them from a place on, and the place behind them.
+    #[cycle(initializing)]
+    fn initializers(
+        &self,
+        at: u32,
+        depth: u32,
+        into: &mut Unit,
+    ) -> Result<(Vec<NodeId>, u32), NoMemory>
+        requires place { at ≤ length self.now.tokens.now.tokens }
+        requires tied { AreTied (R.types self.now.reader.now) (tables into.old) self.now.tokens.now.tokens }
+        ensures keeps { Extends (tables into.old) (tables into.new) }
+        ensures ok { IfOk result (λ r. AreAnswered (tables into.new) is_initializer self.now.tokens.now.tokens r.0.items r.1 (listed (readers (names_in self.now.typedefs.now (R.types self.now.reader.now) (tables into.old) self.now.tokens.now.tokens) depth Initializers) (drop at self.now.tokens.now.tokens))) }
+    {
+        let mut parts = Vec::new(*self.typedefs.allocator());
+        let mut behind = at;
+        let mut next = at;
+        loop {
+            let Some((found, end)) = self.initializer(next, depth, into)? else {
+                return Ok((parts, behind));
+            };
+            parts.push(found)?;
+            behind = end;
+            match after(self.tokens, end, Sign::Comma) {
+                Some(following) => next = following,
+                None => return Ok((parts, behind)),
+            }
+        }
+    }
+
+    // The initializer behind a `=` at a place, if both can be read, and the place behind it.
+    #[tactic(auto, using(pv_tree::proofs::Kept::extends_same), unfolding(crate::specs::Pieces::value))]
+    fn initial_value(
+        &self,
+        at: u32,
+        depth: u32,
+        into: &mut Unit,
+    ) -> Result<(Option<NodeId>, u32), NoMemory>
+        requires place { at ≤ length self.now.tokens.now.tokens }
+        requires tied { AreTied (R.types self.now.reader.now) (tables into.old) self.now.tokens.now.tokens }
+        ensures keeps { Extends (tables into.old) (tables into.new) }
+        ensures ok { IfOk result (λ r. MayBeAnswered (tables into.new) is_initializer self.now.tokens.now.tokens r.0 r.1 (value (readers (names_in self.now.typedefs.now (R.types self.now.reader.now) (tables into.old) self.now.tokens.now.tokens) depth Initializers) (drop at self.now.tokens.now.tokens))) }
+    {
+        let Some(behind) = after(self.tokens, at, Sign::Equals) else {
+            return Ok((None, at));
+        };
+        match self.initializer(behind, depth, into)? {
+            Some((value, end)) => Ok((Some(value), end)),
+            None => Ok((None, at)),
+        }
+    }
+
+    /// An init-declarator, whose declarator ends at a place, and the place behind it (C17 6.7p1).
+    pub(crate) fn initialized(
+        &self,
+        at: u32,
+        declarator: NodeId,
+        line: u32,
+        depth: u32,
+        into: &mut Unit,
+    ) -> Result<Option<(NodeId, u32)>, NoMemory>
+        requires place { at ≤ length self.now.tokens.now.tokens }
+        requires tied { AreTied (R.types self.now.reader.now) (tables into.old) self.now.tokens.now.tokens }
+        requires declarator { Is (tables into.old) is_declarator declarator }
+        ensures keeps { Extends (tables into.old) (tables into.new) }
+        ensures ok { IfOk result (λ r. Answers (tables into.new) is_declaration self.now.tokens.now.tokens r (Some (initialized (readers (names_in self.now.typedefs.now (R.types self.now.reader.now) (tables into.old) self.now.tokens.now.tokens) depth) line (tree_at (tables into.old).forest declarator) (drop at self.now.tokens.now.tokens)))) }
+    {
+        let (init, end) = self.initial_value(at, depth, into)?;
+        let declared = Decl::InitDeclarator { declarator, init };
+        found_declaration(self.tokens, end, declared, line, into)
+    }
+}

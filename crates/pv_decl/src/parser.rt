@@ -1,0 +1,197 @@
+//! Declarations, and the heads of functions.
+ghost use Rattle.std.specs.Prelude.{◌≡◌, ◌≤◌, ℕ, All, length, drop, None, IfOk, IfSome};
+ghost use Rattle.pv_tree.specs.Places.{InitDeclarators};
+ghost use Rattle.pv_tree.specs.Rows.{tables};
+ghost use Rattle.pv_tree.specs.Syntax.{DeclarationTree, NoTrees, Then};
+ghost use Rattle.pv_tree.specs.Tables.{tree_at, trees_of, declaration_at, is_declaration, is_specifier, Is, Extends};
+ghost use Rattle.pv_tree.specs.TypeNames.{AreTied};
+ghost use Rattle.pv_expr.specs.Known.{names_in};
+ghost use Rattle.pv_decl.specs.Answers.{Answers};
+ghost use Rattle.pv_decl.specs.Grammar.{SpellsDeclaration};
+ghost use Rattle.pv_decl.specs.Pieces.{row, after_comma};
+ghost use Rattle.pv_decl.specs.Reader.{readers, after_specifiers, declaration, type_name};
+ghost use Rattle.pv_decl.specs.Rows.{AreAnswered};
+
+use crate::forms::{Form, Part};
+use crate::pieces::{declaration_of, parameter_of, type_name_of};
+use crate::source::{Sign, Source, after, line_at, opens_block};
+use indexmap::IndexSet;
+use pv_lex::{NoMemory, Tokens};
+use pv_tree::{NodeId, TypeReader, Unit};
+
+impl<R: TypeReader> Source<'_, R> {
+    // A declaration, or the head of a function, whose specifiers end at a place (C17 6.7p1, 6.9.1p1).
+    fn specified(
+        &self,
+        at: u32,
+        specs: &[NodeId],
+        line: u32,
+        below: u32,
+        into: &mut Unit,
+    ) -> Result<Option<(NodeId, u32)>, NoMemory>
+        requires place { at ≤ length self.now.tokens.now.tokens }
+        requires tied { AreTied (R.types self.now.reader.now) (tables into.old) self.now.tokens.now.tokens }
+        requires specs { All (λ n. Is (tables into.old) is_specifier n) specs.now }
+        ensures keeps { Extends (tables into.old) (tables into.new) }
+        ensures ok { IfOk result (λ r. Answers (tables into.new) is_declaration self.now.tokens.now.tokens r (after_specifiers (readers (names_in self.now.typedefs.now (R.types self.now.reader.now) (tables into.old) self.now.tokens.now.tokens) below) line (trees_of (tables into.old).forest specs.now) (drop at self.now.tokens.now.tokens))) }
+    {
+        if after(self.tokens, at, Sign::Semicolon).is_some() {
+            return declaration_of(self.tokens, at, specs, &[], line, into);
+        }
+        let Some((declarator, end)) = self.read(Part::Declarator(Form::Named), at, below, into)?
+        else {
+            return Ok(None);
+        };
+        if opens_block(self.tokens, end) {
+            return parameter_of(self.tokens, at, specs, Some((declarator, end)), line, into);
+        }
+        let here = line_at(self.tokens, at);
+        let Some((first, behind)) = self.initialized(end, declarator, here, below, into)? else {
+            return Ok(None);
+        };
+        let (declared, last) = self.declared(behind, first, below, into)?;
+        declaration_of(self.tokens, last, specs, &declared, line, into)
+    }
+
+    // An init-declarator, and the place behind it (C17 6.7p1).
+    fn init_declarator(
+        &self,
+        at: u32,
+        depth: u32,
+        into: &mut Unit,
+    ) -> Result<Option<(NodeId, u32)>, NoMemory>
+        requires place { at ≤ length self.now.tokens.now.tokens }
+        requires tied { AreTied (R.types self.now.reader.now) (tables into.old) self.now.tokens.now.tokens }
+        ensures keeps { Extends (tables into.old) (tables into.new) }
+        ensures ok { IfOk result (λ r. Answers (tables into.new) is_declaration self.now.tokens.now.tokens r (readers (names_in self.now.typedefs.now (R.types self.now.reader.now) (tables into.old) self.now.tokens.now.tokens) depth InitDeclarators (drop at self.now.tokens.now.tokens))) }
+    {
+        let line = line_at(self.tokens, at);
+        match self.read(Part::Declarator(Form::Named), at, depth, into)? {
+            Some((declarator, end)) => self.initialized(end, declarator, line, depth, into),
+            None => Ok(None),
+        }
+    }
+
+    // The init-declarators from the first on, which ends at a place, and the place behind them.
+    fn declared(
+        &self,
+        at: u32,
+        first: NodeId,
+        below: u32,
+        into: &mut Unit,
+    ) -> Result<(Vec<NodeId>, u32), NoMemory>
+        requires place { at ≤ length self.now.tokens.now.tokens }
+        requires tied { AreTied (R.types self.now.reader.now) (tables into.old) self.now.tokens.now.tokens }
+        requires first { Is (tables into.old) is_declaration first }
+        ensures keeps { Extends (tables into.old) (tables into.new) }
+        ensures ok { IfOk result (λ r. AreAnswered (tables into.new) is_declaration self.now.tokens.now.tokens r.0.items r.1 (row (after_comma (readers (names_in self.now.typedefs.now (R.types self.now.reader.now) (tables into.old) self.now.tokens.now.tokens) below InitDeclarators)) (Then NoTrees (tree_at (tables into.old).forest first)) (drop at self.now.tokens.now.tokens))) }
+    {
+        let mut declared = Vec::new(*self.typedefs.allocator());
+        declared.push(first)?;
+        let mut behind = at;
+        loop {
+            let Some(next) = after(self.tokens, behind, Sign::Comma) else {
+                return Ok((declared, behind));
+            };
+            let Some((found, end)) = self.init_declarator(next, below, into)? else {
+                return Ok((declared, behind));
+            };
+            declared.push(found)?;
+            behind = end;
+        }
+    }
+
+    fn declaration(
+        &self,
+        at: u32,
+        depth: u32,
+        into: &mut Unit,
+    ) -> Result<Option<(NodeId, u32)>, NoMemory>
+        requires place { at ≤ length self.now.tokens.now.tokens }
+        requires tied { AreTied (R.types self.now.reader.now) (tables into.old) self.now.tokens.now.tokens }
+        ensures keeps { Extends (tables into.old) (tables into.new) }
+        ensures ok { IfOk result (λ r. Answers (tables into.new) is_declaration self.now.tokens.now.tokens r (declaration (names_in self.now.typedefs.now (R.types self.now.reader.now) (tables into.old) self.now.tokens.now.tokens) depth (drop at self.now.tokens.now.tokens))) }
+    {
+        if depth == 0 {
+            return Ok(None);
+        }
+        let line = line_at(self.tokens, at);
+        let (specs, next) = self.row(Part::Specifier, at, depth - 1, into)?;
+        if specs.is_empty() {
+            return Ok(None);
+        }
+        self.specified(next, &specs, line, depth - 1, into)
+    }
+
+    /// The type name at a place, and the place behind it (C17 6.7.7).
+    pub(crate) fn type_name(
+        &self,
+        at: u32,
+        depth: u32,
+        into: &mut Unit,
+    ) -> Result<Option<(NodeId, u32)>, NoMemory>
+        requires place { at ≤ length self.now.tokens.now.tokens }
+        requires tied { AreTied (R.types self.now.reader.now) (tables into.old) self.now.tokens.now.tokens }
+        ensures keeps { Extends (tables into.old) (tables into.new) }
+        ensures ok { IfOk result (λ r. Answers (tables into.new) is_declaration self.now.tokens.now.tokens r (type_name (names_in self.now.typedefs.now (R.types self.now.reader.now) (tables into.old) self.now.tokens.now.tokens) depth (drop at self.now.tokens.now.tokens))) }
+    {
+        let line = line_at(self.tokens, at);
+        let (specs, next) = self.row(Part::Specifier, at, depth, into)?;
+        if specs.is_empty() {
+            return Ok(None);
+        }
+        let declarator = self.read(Part::Declarator(Form::Abstract), next, depth, into)?;
+        type_name_of(self.tokens, next, &specs, declarator, line, into)
+    }
+}
+
+/// The declaration that begins at token number `at`, to its `;` (C17 6.7), and the number of the
+/// token behind it. Directly before a `{`, it is the specifiers and the declarator of a function
+/// (C17 6.9.1), as a `Decl::Parameter`.
+///
+/// Of the trees of at most `depth` levels of nesting that spell a run of the tokens from there, it
+/// is the one with the longest run, and the only one that spells that run. `None` comes exactly
+/// where there is no such tree. `types` are the numbers of the typedef names, and `reader` has the
+/// type names, as nodes of `into`. The new nodes are added to `into`, also those that turn out to
+/// be part of no answer. The error is want of memory, or that `into` is full.
+pub fn declaration<R: TypeReader>(
+    t: &Tokens,
+    at: u32,
+    depth: u32,
+    types: &IndexSet<u32>,
+    into: &mut Unit,
+    reader: &R,
+) -> Result<Option<(NodeId, u32)>, NoMemory>
+    requires { AreTied (R.types reader.now) (tables into.old) t.now.tokens }
+    // Older nodes stay, also on a refusal.
+    ensures keeps { Extends (tables into.old) (tables into.new) }
+    // What is found spells the tokens up to the place.
+    ensures found { let names = names_in types.now (R.types reader.now) (tables into.old) t.now.tokens in
+        IfOk result (λ r. IfSome r (λ x. Is (tables into.new) is_declaration x.0 × (at ≤ x.1) × (x.1 ≤ length t.now.tokens)
+        × SpellsDeclaration names depth t.now.tokens at x.1 (declaration_at (tables into.new).forest x.0))) }
+    // No tree spells more.
+    ensures longest { let names = names_in types.now (R.types reader.now) (tables into.old) t.now.tokens in
+        IfOk result (λ r. IfSome r (λ x. (d : DeclarationTree) (end : ℕ) → at ≤ end → end ≤ length t.now.tokens
+        → SpellsDeclaration names depth t.now.tokens at end d → end ≤ x.1)) }
+    // No other tree spells the same.
+    ensures only { let names = names_in types.now (R.types reader.now) (tables into.old) t.now.tokens in
+        IfOk result (λ r. IfSome r (λ x. (d : DeclarationTree) → SpellsDeclaration names depth t.now.tokens at x.1 d
+        → d ≡ declaration_at (tables into.new).forest x.0)) }
+    // Where nothing is found, no tree spells anything.
+    ensures none { let names = names_in types.now (R.types reader.now) (tables into.old) t.now.tokens in
+        IfOk result (λ r. r ≡ None → (d : DeclarationTree) (end : ℕ) → at ≤ end → end ≤ length t.now.tokens
+        → SpellsDeclaration names depth t.now.tokens at end d → ⊥) }
+    // It is what reading from the left gives.
+    ensures reads { let names = names_in types.now (R.types reader.now) (tables into.old) t.now.tokens in
+        IfOk result (λ r. Answers (tables into.new) is_declaration t.now.tokens r (declaration names depth (drop at t.now.tokens))) }
+{
+    if at > t.len() {
+        return Ok(None);
+    }
+    let source = Source {
+        tokens: t,
+        typedefs: types,
+        reader,
+    };
+    source.declaration(at, depth, into)
+}

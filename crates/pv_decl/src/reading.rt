@@ -1,0 +1,471 @@
+//! Reading the parts of declarations from the left, each with the parts within it.
+ghost use Rattle.std.specs.Prelude.{◌≡◌, ◌≤◌, length, drop, Some, IfOk, IfSome, option_and_then};
+ghost use Rattle.pv_tree.specs.Places.{Specifiers, Members, Enumerators, Parameters};
+ghost use Rattle.pv_tree.specs.Rows.{tables};
+ghost use Rattle.pv_tree.specs.Syntax.{Composite, Enumeration, OfSpecifier, NoTrees};
+ghost use Rattle.pv_tree.specs.Tables.{tree_at, optional_at, is_declaration, is_declarator, is_specifier, Is, Extends};
+ghost use Rattle.pv_tree.specs.TypeNames.{AreTied};
+ghost use Rattle.pv_expr.specs.Known.{names_in};
+ghost use Rattle.pv_expr.specs.Reader.{after};
+ghost use Rattle.pv_decl.specs.Answers.{Answers};
+ghost use Rattle.pv_decl.specs.Rows.{AreAnswered};
+ghost use Rattle.pv_decl.specs.declared.forms.Part.TheVariants as part;
+ghost use Rattle.pv_decl.specs.Declarators.{consts_in_row, grown, head, longer, opened, parametrized, pointer};
+ghost use Rattle.pv_decl.specs.Parts.{kind_of_part, place_of_part, word_of_composite, word_of_tag, within, function_of};
+ghost use Rattle.pv_decl.specs.Pieces.{is_open_brace, row, listed};
+ghost use Rattle.pv_decl.specs.Reader.{readers, braced, listed_in_braces, row_in_braces, tag_at, with_tag};
+
+use crate::forms::{CompositeWord, Form, Opening, Part, TagWord};
+use crate::nodes::may_go_on;
+use crate::pieces::{
+    composite, enumeration, function_of, member_of, named, parameter_of, parenthesized, plain,
+    pointed, tag_alone,
+};
+use crate::source::{
+    Sign, Source, after, consts_in_row, line_at, opening_of, opens_parameters, peek, tag_at,
+    tag_word,
+};
+use pv_lex::NoMemory;
+use pv_tree::{NodeId, TypeReader, Unit};
+
+impl<R: TypeReader> Source<'_, R> {
+    /// The longest part of at most so much depth that begins at a place, and the place behind it.
+    #[cycle(reading)]
+    pub(crate) fn read(
+        &self,
+        part: Part,
+        at: u32,
+        depth: u32,
+        into: &mut Unit,
+    ) -> Result<Option<(NodeId, u32)>, NoMemory>
+        requires place { at ≤ length self.now.tokens.now.tokens }
+        requires tied { AreTied (R.types self.now.reader.now) (tables into.old) self.now.tokens.now.tokens }
+        ensures keeps { Extends (tables into.old) (tables into.new) }
+        ensures ok { IfOk result (λ r. Answers (tables into.new) (kind_of_part part) self.now.tokens.now.tokens r (readers (names_in self.now.typedefs.now (R.types self.now.reader.now) (tables into.old) self.now.tokens.now.tokens) depth (place_of_part part) (drop at self.now.tokens.now.tokens))) }
+    {
+        match part {
+            Part::Specifier => self.specifier(at, depth, into),
+            Part::Member => self.member(at, depth, into),
+            Part::Enumerator => self.enumerator(at, depth, into),
+            Part::Parameter => self.parameter(at, depth, into),
+            Part::Declarator(form) => self.declarator(at, form, depth, into),
+        }
+    }
+
+    /// The parts in a row from a place on, before what can't be read, and the place behind them.
+    #[cycle(reading)]
+    pub(crate) fn row(
+        &self,
+        part: Part,
+        at: u32,
+        depth: u32,
+        into: &mut Unit,
+    ) -> Result<(Vec<NodeId>, u32), NoMemory>
+        requires place { at ≤ length self.now.tokens.now.tokens }
+        requires tied { AreTied (R.types self.now.reader.now) (tables into.old) self.now.tokens.now.tokens }
+        ensures keeps { Extends (tables into.old) (tables into.new) }
+        ensures ok { IfOk result (λ r. AreAnswered (tables into.new) (kind_of_part part) self.now.tokens.now.tokens r.0.items r.1 (row (readers (names_in self.now.typedefs.now (R.types self.now.reader.now) (tables into.old) self.now.tokens.now.tokens) depth (place_of_part part)) NoTrees (drop at self.now.tokens.now.tokens))) }
+    {
+        let mut parts = Vec::new(*self.typedefs.allocator());
+        let mut next = at;
+        loop {
+            let Some((found, end)) = self.read(part, next, depth, into)? else {
+                return Ok((parts, next));
+            };
+            parts.push(found)?;
+            next = end;
+        }
+    }
+
+    /// The parts with commas between them from a place on, and the place behind them.
+    #[cycle(reading)]
+    pub(crate) fn listed(
+        &self,
+        part: Part,
+        at: u32,
+        depth: u32,
+        into: &mut Unit,
+    ) -> Result<(Vec<NodeId>, u32), NoMemory>
+        requires place { at ≤ length self.now.tokens.now.tokens }
+        requires tied { AreTied (R.types self.now.reader.now) (tables into.old) self.now.tokens.now.tokens }
+        ensures keeps { Extends (tables into.old) (tables into.new) }
+        ensures ok { IfOk result (λ r. AreAnswered (tables into.new) (kind_of_part part) self.now.tokens.now.tokens r.0.items r.1 (listed (readers (names_in self.now.typedefs.now (R.types self.now.reader.now) (tables into.old) self.now.tokens.now.tokens) depth (place_of_part part)) (drop at self.now.tokens.now.tokens))) }
+    {
+        let mut parts = Vec::new(*self.typedefs.allocator());
+        let mut behind = at;
+        let mut next = at;
+        loop {
+            let Some((found, end)) = self.read(part, next, depth, into)? else {
+                return Ok((parts, behind));
+            };
+            parts.push(found)?;
+            behind = end;
+            match after(self.tokens, end, Sign::Comma) {
+                Some(following) => next = following,
+                None => return Ok((parts, behind)),
+            }
+        }
+    }
+
+    // A specifier (C17 6.7p1).
+    #[cycle(reading)]
+    #[tactic(auto, using(pv_tree::proofs::Kept::extends_same))]
+    fn specifier(
+        &self,
+        at: u32,
+        depth: u32,
+        into: &mut Unit,
+    ) -> Result<Option<(NodeId, u32)>, NoMemory>
+        requires place { at ≤ length self.now.tokens.now.tokens }
+        requires tied { AreTied (R.types self.now.reader.now) (tables into.old) self.now.tokens.now.tokens }
+        ensures keeps { Extends (tables into.old) (tables into.new) }
+        ensures ok { IfOk result (λ r. Answers (tables into.new) is_specifier self.now.tokens.now.tokens r (readers (names_in self.now.typedefs.now (R.types self.now.reader.now) (tables into.old) self.now.tokens.now.tokens) depth Specifiers (drop at self.now.tokens.now.tokens))) }
+    {
+        let Some(token) = peek(self.tokens, at) else {
+            return Ok(None);
+        };
+        let Some(word) = tag_word(token.kind) else {
+            return plain(self.tokens, self.typedefs, at + 1, token, into);
+        };
+        self.tagged(at + 1, word, token.line, depth, into)
+    }
+
+    // What stands behind `struct`, `union` or `enum`: where its braces can't be read, the tag alone
+    // (C17 6.7.2.1 to 6.7.2.3).
+    #[cycle(reading)]
+    #[tactic(auto, using(pv_tree::proofs::Kept::extends_same))]
+    fn tagged(
+        &self,
+        at: u32,
+        word: TagWord,
+        line: u32,
+        depth: u32,
+        into: &mut Unit,
+    ) -> Result<Option<(NodeId, u32)>, NoMemory>
+        requires place { at ≤ length self.now.tokens.now.tokens }
+        requires tied { AreTied (R.types self.now.reader.now) (tables into.old) self.now.tokens.now.tokens }
+        ensures keeps { Extends (tables into.old) (tables into.new) }
+        ensures ok { IfOk result (λ r. Answers (tables into.new) is_specifier self.now.tokens.now.tokens r (with_tag (within (names_in self.now.typedefs.now (R.types self.now.reader.now) (tables into.old) self.now.tokens.now.tokens) depth) line (word_of_tag word) (tag_at (drop at self.now.tokens.now.tokens)))) }
+    {
+        let (tag, next) = tag_at(self.tokens, at);
+        match self.braced(next, word, tag, line, depth, into)? {
+            Some(found) => Ok(Some(found)),
+            None => tag_alone(self.tokens, next, word, tag, line, into),
+        }
+    }
+
+    // The braces of a structure, union or enumeration at a place, if they can be read
+    // (C17 6.7.2.1, 6.7.2.2).
+    #[cycle(reading)]
+    #[tactic(auto, using(pv_tree::proofs::Kept::extends_same))]
+    fn braced(
+        &self,
+        at: u32,
+        word: TagWord,
+        tag: Option<u32>,
+        line: u32,
+        depth: u32,
+        into: &mut Unit,
+    ) -> Result<Option<(NodeId, u32)>, NoMemory>
+        requires place { at ≤ length self.now.tokens.now.tokens }
+        requires tied { AreTied (R.types self.now.reader.now) (tables into.old) self.now.tokens.now.tokens }
+        ensures keeps { Extends (tables into.old) (tables into.new) }
+        ensures ok { IfOk result (λ r. Answers (tables into.new) is_specifier self.now.tokens.now.tokens r (option_and_then (braced (within (names_in self.now.typedefs.now (R.types self.now.reader.now) (tables into.old) self.now.tokens.now.tokens) depth) line (word_of_tag word) tag) (after is_open_brace (drop at self.now.tokens.now.tokens)))) }
+    {
+        let Some(inside) = after(self.tokens, at, Sign::OpenBrace) else {
+            return Ok(None);
+        };
+        if depth == 0 {
+            return Ok(None);
+        }
+        match word {
+            TagWord::Enum => self.enumerators(inside, tag, line, depth - 1, into),
+            TagWord::Composite(composite_word) => {
+                self.members(inside, composite_word, tag, line, depth - 1, into)
+            }
+        }
+    }
+
+    // An enumeration, from behind its `{` on (C17 6.7.2.2p1).
+    #[cycle(reading)]
+    #[tactic(auto, using(pv_tree::proofs::Kept::extends_same))]
+    fn enumerators(
+        &self,
+        at: u32,
+        tag: Option<u32>,
+        line: u32,
+        below: u32,
+        into: &mut Unit,
+    ) -> Result<Option<(NodeId, u32)>, NoMemory>
+        requires place { at ≤ length self.now.tokens.now.tokens }
+        requires tied { AreTied (R.types self.now.reader.now) (tables into.old) self.now.tokens.now.tokens }
+        ensures keeps { Extends (tables into.old) (tables into.new) }
+        ensures ok { IfOk result (λ r. Answers (tables into.new) is_specifier self.now.tokens.now.tokens r (listed_in_braces (λ trees comma. OfSpecifier (Enumeration line tag trees comma)) (listed (readers (names_in self.now.typedefs.now (R.types self.now.reader.now) (tables into.old) self.now.tokens.now.tokens) below Enumerators) (drop at self.now.tokens.now.tokens)))) }
+    {
+        let (parts, end) = self.listed(Part::Enumerator, at, below, into)?;
+        enumeration(self.tokens, end, tag, &parts, line, into)
+    }
+
+    // A structure or union, from behind its `{` on (C17 6.7.2.1p1).
+    #[cycle(reading)]
+    #[tactic(auto, using(pv_tree::proofs::Kept::extends_same))]
+    fn members(
+        &self,
+        at: u32,
+        composite_word: CompositeWord,
+        tag: Option<u32>,
+        line: u32,
+        below: u32,
+        into: &mut Unit,
+    ) -> Result<Option<(NodeId, u32)>, NoMemory>
+        requires place { at ≤ length self.now.tokens.now.tokens }
+        requires tied { AreTied (R.types self.now.reader.now) (tables into.old) self.now.tokens.now.tokens }
+        ensures keeps { Extends (tables into.old) (tables into.new) }
+        ensures ok { IfOk result (λ r. Answers (tables into.new) is_specifier self.now.tokens.now.tokens r (row_in_braces (λ trees. OfSpecifier (Composite line (word_of_composite composite_word) tag trees)) (row (readers (names_in self.now.typedefs.now (R.types self.now.reader.now) (tables into.old) self.now.tokens.now.tokens) below Members) NoTrees (drop at self.now.tokens.now.tokens)))) }
+    {
+        let (parts, end) = self.row(Part::Member, at, below, into)?;
+        composite(self.tokens, end, composite_word, tag, &parts, line, into)
+    }
+
+    // A member declaration, to behind its `;` (C17 6.7.2.1p1).
+    #[cycle(reading)]
+    #[tactic(auto, using(pv_tree::proofs::Kept::extends_same))]
+    fn member(
+        &self,
+        at: u32,
+        depth: u32,
+        into: &mut Unit,
+    ) -> Result<Option<(NodeId, u32)>, NoMemory>
+        requires place { at ≤ length self.now.tokens.now.tokens }
+        requires tied { AreTied (R.types self.now.reader.now) (tables into.old) self.now.tokens.now.tokens }
+        ensures keeps { Extends (tables into.old) (tables into.new) }
+        ensures ok { IfOk result (λ r. Answers (tables into.new) is_declaration self.now.tokens.now.tokens r (readers (names_in self.now.typedefs.now (R.types self.now.reader.now) (tables into.old) self.now.tokens.now.tokens) depth Members (drop at self.now.tokens.now.tokens))) }
+    {
+        let line = line_at(self.tokens, at);
+        let (specs, next) = self.row(Part::Specifier, at, depth, into)?;
+        if specs.is_empty() {
+            return Ok(None);
+        }
+        let (declarators, end) = self.listed(Part::Declarator(Form::Named), next, depth, into)?;
+        member_of(self.tokens, end, &specs, &declarators, line, into)
+    }
+
+    // A parameter (C17 6.7.6p1).
+    #[cycle(reading)]
+    #[tactic(auto, using(pv_tree::proofs::Kept::extends_same))]
+    fn parameter(
+        &self,
+        at: u32,
+        depth: u32,
+        into: &mut Unit,
+    ) -> Result<Option<(NodeId, u32)>, NoMemory>
+        requires place { at ≤ length self.now.tokens.now.tokens }
+        requires tied { AreTied (R.types self.now.reader.now) (tables into.old) self.now.tokens.now.tokens }
+        ensures keeps { Extends (tables into.old) (tables into.new) }
+        ensures ok { IfOk result (λ r. Answers (tables into.new) is_declaration self.now.tokens.now.tokens r (readers (names_in self.now.typedefs.now (R.types self.now.reader.now) (tables into.old) self.now.tokens.now.tokens) depth Parameters (drop at self.now.tokens.now.tokens))) }
+    {
+        if depth == 0 {
+            return Ok(None);
+        }
+        let line = line_at(self.tokens, at);
+        let (specs, next) = self.row(Part::Specifier, at, depth - 1, into)?;
+        if specs.is_empty() {
+            return Ok(None);
+        }
+        let declarator = self.read(Part::Declarator(Form::Either), next, depth - 1, into)?;
+        parameter_of(self.tokens, next, &specs, declarator, line, into)
+    }
+
+    // A declarator, or an abstract one (C17 6.7.6, 6.7.7).
+    #[cycle(reading)]
+    #[tactic(auto, using(pv_tree::proofs::Kept::extends_same))]
+    fn declarator(
+        &self,
+        at: u32,
+        form: Form,
+        depth: u32,
+        into: &mut Unit,
+    ) -> Result<Option<(NodeId, u32)>, NoMemory>
+        requires place { at ≤ length self.now.tokens.now.tokens }
+        requires tied { AreTied (R.types self.now.reader.now) (tables into.old) self.now.tokens.now.tokens }
+        ensures keeps { Extends (tables into.old) (tables into.new) }
+        ensures ok { IfOk result (λ r. Answers (tables into.new) is_declarator self.now.tokens.now.tokens r (readers (names_in self.now.typedefs.now (R.types self.now.reader.now) (tables into.old) self.now.tokens.now.tokens) depth (place_of_part (part.Declarator form)) (drop at self.now.tokens.now.tokens))) }
+    {
+        if depth == 0 {
+            return Ok(None);
+        }
+        let line = line_at(self.tokens, at);
+        match self.head(at, form, depth - 1, into)? {
+            Some((first, next)) => self.grow(next, first, line, depth - 1, into),
+            None => Ok(None),
+        }
+    }
+
+    // The longest declarator that begins with one.
+    #[cycle(reading)]
+    #[tactic(auto, using(pv_tree::proofs::Kept::extends_same))]
+    fn grow(
+        &self,
+        at: u32,
+        first: NodeId,
+        line: u32,
+        below: u32,
+        into: &mut Unit,
+    ) -> Result<Option<(NodeId, u32)>, NoMemory>
+        requires place { at ≤ length self.now.tokens.now.tokens }
+        requires tied { AreTied (R.types self.now.reader.now) (tables into.old) self.now.tokens.now.tokens }
+        requires node { Is (tables into.old) is_declarator first }
+        ensures keeps { Extends (tables into.old) (tables into.new) }
+        ensures ok { IfOk result (λ r. Answers (tables into.new) is_declarator self.now.tokens.now.tokens r (Some (grown (readers (names_in self.now.typedefs.now (R.types self.now.reader.now) (tables into.old) self.now.tokens.now.tokens) below) below line (tree_at (tables into.old).forest first) (drop at self.now.tokens.now.tokens)))) }
+    {
+        let mut left = first;
+        let mut next = at;
+        loop {
+            match self.extend(next, left, line, below, into)? {
+                Some((longer, end)) => {
+                    left = longer;
+                    next = end;
+                }
+                None => return Ok(Some((left, next))),
+            }
+        }
+    }
+
+    // The next longer declarator that begins with one: brackets or parameters behind it
+    // (C17 6.7.6.2, 6.7.6.3).
+    #[cycle(reading)]
+    #[tactic(auto, using(pv_tree::proofs::Kept::extends_same))]
+    fn extend(
+        &self,
+        at: u32,
+        left: NodeId,
+        line: u32,
+        below: u32,
+        into: &mut Unit,
+    ) -> Result<Option<(NodeId, u32)>, NoMemory>
+        requires place { at ≤ length self.now.tokens.now.tokens }
+        requires tied { AreTied (R.types self.now.reader.now) (tables into.old) self.now.tokens.now.tokens }
+        requires node { Is (tables into.old) is_declarator left }
+        ensures keeps { Extends (tables into.old) (tables into.new) }
+        ensures ok { IfOk result (λ r. Answers (tables into.new) is_declarator self.now.tokens.now.tokens r (longer (readers (names_in self.now.typedefs.now (R.types self.now.reader.now) (tables into.old) self.now.tokens.now.tokens) below) below line (tree_at (tables into.old).forest left) (drop at self.now.tokens.now.tokens))) }
+    {
+        if !may_go_on(into, left, below) {
+            return Ok(None);
+        }
+        let Some(token) = peek(self.tokens, at) else {
+            return Ok(None);
+        };
+        let Some(opening) = opening_of(token.kind) else {
+            return Ok(None);
+        };
+        match opening {
+            Opening::Bracket => self.array(at + 1, Some(left), line, below, into),
+            Opening::Paren => self.parameters(at + 1, Some(left), line, below, into),
+            _ => Ok(None),
+        }
+    }
+
+    // Parameters behind a declarator that may be left out, from behind the `(` on (C17 6.7.6.3).
+    #[cycle(reading)]
+    #[tactic(auto, using(pv_tree::proofs::Kept::extends_same))]
+    fn parameters(
+        &self,
+        at: u32,
+        left: Option<NodeId>,
+        line: u32,
+        below: u32,
+        into: &mut Unit,
+    ) -> Result<Option<(NodeId, u32)>, NoMemory>
+        requires place { at ≤ length self.now.tokens.now.tokens }
+        requires tied { AreTied (R.types self.now.reader.now) (tables into.old) self.now.tokens.now.tokens }
+        requires left { IfSome left (λ n. Is (tables into.old) is_declarator n) }
+        ensures keeps { Extends (tables into.old) (tables into.new) }
+        ensures ok { IfOk result (λ r. Answers (tables into.new) is_declarator self.now.tokens.now.tokens r (parametrized (function_of line (optional_at (tables into.old).forest left)) (readers (names_in self.now.typedefs.now (R.types self.now.reader.now) (tables into.old) self.now.tokens.now.tokens) below) (drop at self.now.tokens.now.tokens))) }
+    {
+        let (parts, end) = self.listed(Part::Parameter, at, below, into)?;
+        function_of(self.tokens, end, left, &parts, line, into)
+    }
+
+    // A declarator that nothing went on from yet.
+    #[cycle(reading)]
+    #[tactic(auto, using(pv_tree::proofs::Kept::extends_same))]
+    fn head(
+        &self,
+        at: u32,
+        form: Form,
+        below: u32,
+        into: &mut Unit,
+    ) -> Result<Option<(NodeId, u32)>, NoMemory>
+        requires place { at ≤ length self.now.tokens.now.tokens }
+        requires tied { AreTied (R.types self.now.reader.now) (tables into.old) self.now.tokens.now.tokens }
+        ensures keeps { Extends (tables into.old) (tables into.new) }
+        ensures ok { IfOk result (λ r. Answers (tables into.new) is_declarator self.now.tokens.now.tokens r (head (names_in self.now.typedefs.now (R.types self.now.reader.now) (tables into.old) self.now.tokens.now.tokens) (readers (names_in self.now.typedefs.now (R.types self.now.reader.now) (tables into.old) self.now.tokens.now.tokens) below) form (drop at self.now.tokens.now.tokens))) }
+    {
+        let Some(token) = peek(self.tokens, at) else {
+            return Ok(None);
+        };
+        let Some(opening) = opening_of(token.kind) else {
+            return Ok(None);
+        };
+        let next = at + 1;
+        let line = token.line;
+        match opening {
+            Opening::Name(name) => {
+                named(self.tokens, self.typedefs, next, form, name, line, into)
+            }
+            Opening::Star => self.pointer(next, form, line, below, into),
+            Opening::Paren => self.opened(next, form, line, below, into),
+            Opening::Bracket => self.abstract_array(next, form, line, below, into),
+        }
+    }
+
+    // A pointer, from behind its `*` on (C17 6.7.6.1).
+    #[cycle(reading)]
+    #[tactic(auto, using(pv_tree::proofs::Kept::extends_same))]
+    fn pointer(
+        &self,
+        at: u32,
+        form: Form,
+        line: u32,
+        below: u32,
+        into: &mut Unit,
+    ) -> Result<Option<(NodeId, u32)>, NoMemory>
+        requires place { at ≤ length self.now.tokens.now.tokens }
+        requires tied { AreTied (R.types self.now.reader.now) (tables into.old) self.now.tokens.now.tokens }
+        ensures keeps { Extends (tables into.old) (tables into.new) }
+        ensures ok { IfOk result (λ r. Answers (tables into.new) is_declarator self.now.tokens.now.tokens r (pointer (readers (names_in self.now.typedefs.now (R.types self.now.reader.now) (tables into.old) self.now.tokens.now.tokens) below) form line (consts_in_row (drop at self.now.tokens.now.tokens)) (drop (consts_in_row (drop at self.now.tokens.now.tokens)) (drop at self.now.tokens.now.tokens)))) }
+    {
+        let (consts, behind) = consts_in_row(self.tokens, at);
+        let inner = self.read(Part::Declarator(form), behind, below, into)?;
+        pointed(self.tokens, behind, form, consts, inner, line, into)
+    }
+
+    // What stands behind the `(` that a declarator begins with: parameters, or another declarator
+    // (C17 6.7.6p6, 6.7.6.3, 6.7.7).
+    #[cycle(reading)]
+    #[tactic(auto, using(pv_tree::proofs::Kept::extends_same))]
+    fn opened(
+        &self,
+        at: u32,
+        form: Form,
+        line: u32,
+        below: u32,
+        into: &mut Unit,
+    ) -> Result<Option<(NodeId, u32)>, NoMemory>
+        requires place { at ≤ length self.now.tokens.now.tokens }
+        requires tied { AreTied (R.types self.now.reader.now) (tables into.old) self.now.tokens.now.tokens }
+        ensures keeps { Extends (tables into.old) (tables into.new) }
+        ensures ok { IfOk result (λ r. Answers (tables into.new) is_declarator self.now.tokens.now.tokens r (opened (names_in self.now.typedefs.now (R.types self.now.reader.now) (tables into.old) self.now.tokens.now.tokens) (readers (names_in self.now.typedefs.now (R.types self.now.reader.now) (tables into.old) self.now.tokens.now.tokens) below) form line (drop at self.now.tokens.now.tokens))) }
+    {
+        if opens_parameters(self.tokens, self.typedefs, at) {
+            if form.allows_abstract() {
+                self.parameters(at, None, line, below, into)
+            } else {
+                Ok(None)
+            }
+        } else {
+            let inner = self.read(Part::Declarator(form), at, below, into)?;
+            parenthesized(self.tokens, inner, line, into)
+        }
+    }
+}

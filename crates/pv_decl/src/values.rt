@@ -1,0 +1,141 @@
+//! Parts of declarations that expressions stand in.
+ghost use Rattle.std.specs.Prelude.{◌≡◌, ◌≤◌, IfSome, length, drop, Some, None, IfOk, if◌then◌else◌};
+ghost use Rattle.pv_tree.specs.Rows.{tables};
+ghost use Rattle.pv_tree.specs.Syntax.{Absent};
+ghost use Rattle.pv_tree.specs.Tables.{optional_at, is_declaration, is_declarator, is_expression, Is, Extends};
+ghost use Rattle.pv_tree.specs.TypeNames.{AreTied};
+ghost use Rattle.pv_tree.specs.Places.{Constants, Enumerators};
+ghost use Rattle.pv_expr.specs.Known.{names_in};
+ghost use Rattle.pv_decl.specs.Answers.{Answers};
+ghost use Rattle.pv_decl.specs.Rows.{MayBeAnswered};
+ghost use Rattle.pv_decl.specs.Declarators.{allows_abstract, sized};
+ghost use Rattle.pv_decl.specs.Parts.{array_of};
+ghost use Rattle.pv_decl.specs.Pieces.{optional, value};
+ghost use Rattle.pv_decl.specs.Reader.{readers};
+
+use crate::forms::Form;
+use crate::nodes::found_declaration;
+use crate::pieces::array_of;
+use crate::source::{Sign, Source, after, is_type, name_of, peek};
+use pv_expr::{Level, expression};
+use pv_lex::NoMemory;
+use pv_tree::{Decl, NodeId, TypeReader, Unit};
+
+impl<R: TypeReader> Source<'_, R> {
+    /// The conditional expression at a place, as which constant expressions are written
+    /// (C17 6.6p1), and the place behind it.
+    fn constant(
+        &self,
+        at: u32,
+        depth: u32,
+        into: &mut Unit,
+    ) -> Result<Option<(NodeId, u32)>, NoMemory>
+        requires place { at ≤ length self.now.tokens.now.tokens }
+        requires tied { AreTied (R.types self.now.reader.now) (tables into.old) self.now.tokens.now.tokens }
+        ensures keeps { Extends (tables into.old) (tables into.new) }
+        ensures ok { IfOk result (λ r. Answers (tables into.new) is_expression self.now.tokens.now.tokens r (readers (names_in self.now.typedefs.now (R.types self.now.reader.now) (tables into.old) self.now.tokens.now.tokens) depth Constants (drop at self.now.tokens.now.tokens))) }
+    {
+        expression(
+            self.tokens,
+            at,
+            Level::Conditional,
+            depth,
+            self.typedefs,
+            into,
+            self.reader,
+        )
+    }
+
+    /// The size in brackets behind a declarator that may be left out, from behind the `[` on
+    /// (C17 6.7.6.2).
+    pub(crate) fn array(
+        &self,
+        at: u32,
+        left: Option<NodeId>,
+        line: u32,
+        below: u32,
+        into: &mut Unit,
+    ) -> Result<Option<(NodeId, u32)>, NoMemory>
+        requires place { at ≤ length self.now.tokens.now.tokens }
+        requires tied { AreTied (R.types self.now.reader.now) (tables into.old) self.now.tokens.now.tokens }
+        requires left { IfSome left (λ n. Is (tables into.old) is_declarator n) }
+        ensures keeps { Extends (tables into.old) (tables into.new) }
+        ensures ok { IfOk result (λ r. Answers (tables into.new) is_declarator self.now.tokens.now.tokens r (sized (array_of line (optional_at (tables into.old).forest left)) (readers (names_in self.now.typedefs.now (R.types self.now.reader.now) (tables into.old) self.now.tokens.now.tokens) below) (drop at self.now.tokens.now.tokens))) }
+    {
+        match self.constant(at, below, into)? {
+            Some((size, end)) => array_of(self.tokens, end, left, Some(size), line, into),
+            None => array_of(self.tokens, at, left, None, line, into),
+        }
+    }
+
+    /// The same behind no declarator, where an abstract one may stand (C17 6.7.7p1).
+    #[tactic(auto, using(pv_tree::proofs::Kept::extends_same))]
+    pub(crate) fn abstract_array(
+        &self,
+        at: u32,
+        form: Form,
+        line: u32,
+        below: u32,
+        into: &mut Unit,
+    ) -> Result<Option<(NodeId, u32)>, NoMemory>
+        requires place { at ≤ length self.now.tokens.now.tokens }
+        requires tied { AreTied (R.types self.now.reader.now) (tables into.old) self.now.tokens.now.tokens }
+        ensures keeps { Extends (tables into.old) (tables into.new) }
+        ensures ok { IfOk result (λ r. Answers (tables into.new) is_declarator self.now.tokens.now.tokens r (if allows_abstract form then sized (array_of line Absent) (readers (names_in self.now.typedefs.now (R.types self.now.reader.now) (tables into.old) self.now.tokens.now.tokens) below) (drop at self.now.tokens.now.tokens) else None)) }
+    {
+        if form.allows_abstract() {
+            self.array(at, None, line, below, into)
+        } else {
+            Ok(None)
+        }
+    }
+
+    /// The value behind a `=` at a place, if both can be read, and the place behind it.
+    #[tactic(auto, using(pv_tree::proofs::Kept::extends_same), unfolding(crate::specs::Pieces::value))]
+    fn constant_value(
+        &self,
+        at: u32,
+        depth: u32,
+        into: &mut Unit,
+    ) -> Result<(Option<NodeId>, u32), NoMemory>
+        requires place { at ≤ length self.now.tokens.now.tokens }
+        requires tied { AreTied (R.types self.now.reader.now) (tables into.old) self.now.tokens.now.tokens }
+        ensures keeps { Extends (tables into.old) (tables into.new) }
+        ensures ok { IfOk result (λ r. MayBeAnswered (tables into.new) is_expression self.now.tokens.now.tokens r.0 r.1 (value (readers (names_in self.now.typedefs.now (R.types self.now.reader.now) (tables into.old) self.now.tokens.now.tokens) depth Constants) (drop at self.now.tokens.now.tokens))) }
+    {
+        let Some(behind) = after(self.tokens, at, Sign::Equals) else {
+            return Ok((None, at));
+        };
+        match self.constant(behind, depth, into)? {
+            Some((value, end)) => Ok((Some(value), end)),
+            None => Ok((None, at)),
+        }
+    }
+
+    /// An enumerator, and the place behind it (C17 6.7.2.2p1).
+    #[tactic(auto, using(pv_tree::proofs::Kept::extends_same))]
+    pub(crate) fn enumerator(
+        &self,
+        at: u32,
+        depth: u32,
+        into: &mut Unit,
+    ) -> Result<Option<(NodeId, u32)>, NoMemory>
+        requires place { at ≤ length self.now.tokens.now.tokens }
+        requires tied { AreTied (R.types self.now.reader.now) (tables into.old) self.now.tokens.now.tokens }
+        ensures keeps { Extends (tables into.old) (tables into.new) }
+        ensures ok { IfOk result (λ r. Answers (tables into.new) is_declaration self.now.tokens.now.tokens r (readers (names_in self.now.typedefs.now (R.types self.now.reader.now) (tables into.old) self.now.tokens.now.tokens) depth Enumerators (drop at self.now.tokens.now.tokens))) }
+    {
+        let Some(token) = peek(self.tokens, at) else {
+            return Ok(None);
+        };
+        let Some(name) = name_of(token.kind) else {
+            return Ok(None);
+        };
+        if is_type(self.typedefs, name) {
+            return Ok(None);
+        }
+        let (value, end) = self.constant_value(at + 1, depth, into)?;
+        let enumerator = Decl::Enumerator { name, value };
+        found_declaration(self.tokens, end, enumerator, token.line, into)
+    }
+}
