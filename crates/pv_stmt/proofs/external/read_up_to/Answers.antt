@@ -1,0 +1,13 @@
+use Rattle.std.proofs.lemmas.Result.{MatchResult-weaker}
+use Rattle.pv_tree.specs.Rows.{tables}
+use Rattle.pv_decl.specs.Filled.{type_map}
+use Rattle.pv_stmt.proofs.OuterSteps.{part_found, part_none}
+use Rattle.pv_stmt.proofs.external.read_up_to.Goals as goal
+
+pub returns-clause-found : goal.returns-clause-found
+returns-clause-found c =
+    MatchResult-weaker c.external.result c.external.ensures.ok (λ r a. part_found c.args.types.now (type_map c.in_ok-names.names) (tables c.type_names.new.into) (tables c.external.new.into) c.args.t.now.tokens c.args.at c.args.to c.in_ok-names.ensures.tied c.in_ok-names.ensures.reads c.requires r a) (λ e h. h)
+
+pub returns-clause-none : goal.returns-clause-none
+returns-clause-none c = λ all.
+    MatchResult-weaker c.external.result c.external.ensures.ok (λ r a. part_none c.args.types.now (type_map c.in_ok-names.names) (tables c.type_names.new.into) (tables c.external.new.into) c.args.t.now.tokens c.args.at c.args.to c.in_ok-names.ensures.tied c.in_ok-names.ensures.reads c.requires all r a) (λ e h. h)

@@ -1,0 +1,23 @@
+use Rattle.std.proofs.Common.{◌∙◌, sym, drop}
+use Rattle.pv_tree.specs.Rows.{tables}
+use Rattle.pv_tree.specs.Tables.{tree_at, is_declaration}
+use Rattle.pv_expr.specs.Known.{names_in}
+use Rattle.pv_decl.specs.Reader.{declaration}
+use Rattle.pv_decl.proofs.Answered.{nothing}
+use Rattle.pv_stmt.proofs.Chains.{first_some, first_none, there_of, declared_none, declared_other, declared_so}
+use Rattle.pv_stmt.proofs.source.Source.declared.Goals as goal
+
+pub returns-in_default-clause-ok : goal.returns-in_default-clause-ok
+returns-in_default-clause-ok g c = nothing _ _ _ _ (declared_none (declaration (names_in c.args.self.now.typedefs.now (g.R.TypeReader.types c.args.self.now.reader.now) (tables c.args.into.now) c.args.self.now.tokens.now.tokens) c.args.depth (drop c.args.at c.args.self.now.tokens.now.tokens)) (first_none (tables c.declaration.new.into) is_declaration c.args.self.now.tokens.now.tokens c.in_ok-node.field-0 (declaration (names_in c.args.self.now.typedefs.now (g.R.TypeReader.types c.args.self.now.reader.now) (tables c.args.into.now) c.args.self.now.tokens.now.tokens) c.args.depth (drop c.args.at c.args.self.now.tokens.now.tokens)) c.in_ok-node.ensures.reads c.in_default.is))
+
+pub returns-then-is_declaration-clause-ok : goal.returns-then-is_declaration-clause-ok
+returns-then-is_declaration-clause-ok g c = record {
+  is = declared_so (declaration (names_in c.args.self.now.typedefs.now (g.R.TypeReader.types c.args.self.now.reader.now) (tables c.args.into.now) c.args.self.now.tokens.now.tokens) c.args.depth (drop c.args.at c.args.self.now.tokens.now.tokens)) (tree_at (tables c.declaration.new.into).forest c.in-Some.node, drop c.in-Some.end c.args.self.now.tokens.now.tokens) (first_some (tables c.declaration.new.into) is_declaration c.args.self.now.tokens.now.tokens c.in_ok-node.field-0 (declaration (names_in c.args.self.now.typedefs.now (g.R.TypeReader.types c.args.self.now.reader.now) (tables c.args.into.now) c.args.self.now.tokens.now.tokens) c.args.depth (drop c.args.at c.args.self.now.tokens.now.tokens)) c.in_ok-node.ensures.reads c.in-Some.node c.in-Some.end c.in-Some.is) (sym c.is_declaration.ensures ∙ c.if-is_declaration.true);
+  there = there_of (tables c.declaration.new.into) is_declaration c.args.self.now.tokens.now.tokens c.in_ok-node.field-0 (declaration (names_in c.args.self.now.typedefs.now (g.R.TypeReader.types c.args.self.now.reader.now) (tables c.args.into.now) c.args.self.now.tokens.now.tokens) c.args.depth (drop c.args.at c.args.self.now.tokens.now.tokens)) c.in_ok-node.ensures.reads c.in-Some.node c.in-Some.end c.in-Some.is;
+}
+
+pub returns-else-is_declaration-clause-ok : goal.returns-else-is_declaration-clause-ok
+returns-else-is_declaration-clause-ok g c = nothing _ _ _ _ (declared_other (declaration (names_in c.args.self.now.typedefs.now (g.R.TypeReader.types c.args.self.now.reader.now) (tables c.args.into.now) c.args.self.now.tokens.now.tokens) c.args.depth (drop c.args.at c.args.self.now.tokens.now.tokens)) (tree_at (tables c.declaration.new.into).forest c.in-Some.node, drop c.in-Some.end c.args.self.now.tokens.now.tokens) (first_some (tables c.declaration.new.into) is_declaration c.args.self.now.tokens.now.tokens c.in_ok-node.field-0 (declaration (names_in c.args.self.now.typedefs.now (g.R.TypeReader.types c.args.self.now.reader.now) (tables c.args.into.now) c.args.self.now.tokens.now.tokens) c.args.depth (drop c.args.at c.args.self.now.tokens.now.tokens)) c.in_ok-node.ensures.reads c.in-Some.node c.in-Some.end c.in-Some.is) (sym c.is_declaration.ensures ∙ c.if-is_declaration.false))
+
+pub is_declaration-requires : goal.is_declaration-requires
+is_declaration-requires g c = (there_of (tables c.declaration.new.into) is_declaration c.args.self.now.tokens.now.tokens c.in_ok-node.field-0 (declaration (names_in c.args.self.now.typedefs.now (g.R.TypeReader.types c.args.self.now.reader.now) (tables c.args.into.now) c.args.self.now.tokens.now.tokens) c.args.depth (drop c.args.at c.args.self.now.tokens.now.tokens)) c.in_ok-node.ensures.reads c.in-Some.node c.in-Some.end c.in-Some.is).0

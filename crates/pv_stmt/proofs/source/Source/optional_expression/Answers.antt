@@ -1,0 +1,12 @@
+use Rattle.std.proofs.Common.{drop}
+use Rattle.pv_tree.specs.Rows.{tables}
+use Rattle.pv_expr.specs.Known.{names_in}
+use Rattle.pv_stmt.specs.Statements.{expression}
+use Rattle.pv_stmt.proofs.Chains.{optional_some, optional_none}
+use Rattle.pv_stmt.proofs.source.Source.optional_expression.Goals as goal
+
+pub returns-in-Some-clause-ok : goal.returns-in-Some-clause-ok
+returns-in-Some-clause-ok g c = optional_some (tables c.expression.new.into) c.args.self.now.tokens.now.tokens c.args.at c.requires.place c.in_ok-value.field-0 (expression (names_in c.args.self.now.typedefs.now (g.R.TypeReader.types c.args.self.now.reader.now) (tables c.args.into.now) c.args.self.now.tokens.now.tokens) c.args.depth 1 (drop c.args.at c.args.self.now.tokens.now.tokens)) c.in_ok-value.ensures.ok c.in-Some.value c.in-Some.end c.in-Some.is
+
+pub returns-in-None-clause-ok : goal.returns-in-None-clause-ok
+returns-in-None-clause-ok g c = optional_none (tables c.expression.new.into) c.args.self.now.tokens.now.tokens c.args.at c.requires.place c.in_ok-value.field-0 (expression (names_in c.args.self.now.typedefs.now (g.R.TypeReader.types c.args.self.now.reader.now) (tables c.args.into.now) c.args.self.now.tokens.now.tokens) c.args.depth 1 (drop c.args.at c.args.self.now.tokens.now.tokens)) c.in_ok-value.ensures.ok c.in-None.is

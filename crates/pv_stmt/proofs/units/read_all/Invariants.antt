@@ -1,0 +1,11 @@
+use Rattle.std.proofs.Common.{◌-◌, length, nat_eq}
+use Rattle.indexmap.specs.IndexSet.{contains}
+use Rattle.pv_tree.specs.Rows.{tables}
+use Rattle.pv_stmt.proofs.OuterSteps.{ReadSoFar}
+use Rattle.pv_stmt.proofs.units.read_all.Given as goal
+
+abbrev pub invariant-loop-types : goal.invariant-loop-types
+invariant-loop-types l = ReadSoFar (tables l.into) (contains nat_eq l.types) l.t.tokens l.at
+
+abbrev pub decreases-loop-types : goal.decreases-loop-types
+decreases-loop-types l = length l.t.tokens - l.at

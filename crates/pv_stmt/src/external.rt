@@ -1,0 +1,133 @@
+//! One external declaration: a declaration or a function definition (C17 6.9).
+ghost use Rattle.std.specs.Prelude.{◌≡◌, ◌≤◌, length, drop, Some, None, IfOk, IfSome, nat_eq};
+ghost use Rattle.indexmap.specs.IndexSet.{contains};
+ghost use Rattle.pv_tree.specs.Rows.{tables};
+ghost use Rattle.pv_tree.specs.Tables.{trees_at, declarator_at, declaration_at, is_specifier, is_declarator, is_external, Is, HasList, Extends};
+ghost use Rattle.pv_tree.specs.TypeNames.{AreTied};
+ghost use Rattle.pv_tree.specs.Units.{depth_limit};
+ghost use Rattle.pv_expr.specs.Known.{names_in};
+ghost use Rattle.pv_decl.specs.Answers.{Answers};
+ghost use Rattle.pv_stmt.specs.Statements.{statement};
+ghost use Rattle.pv_stmt.specs.Externals.{external, external_at};
+ghost use Rattle.pv_stmt.specs.Found.{function_with, IsExternalAt};
+
+use crate::regions::region_end;
+use crate::source::Source;
+use indexmap::IndexSet;
+use pv_decl::{declaration, type_names};
+use pv_lex::{NoMemory, Tokens};
+use pv_tree::{Decl, ListId, NodeId, TypeReader, Unit};
+use std::alloc::Global;
+
+/// How deep an external declaration may be (C17 5.2.4.1).
+const DEPTH_LIMIT: u32 = 500;
+
+impl<R: TypeReader> Source<'_, R> {
+    /// The longest external declaration at a place, and the place behind it (C17 6.9p1).
+    #[tactic(auto, using(pv_expr::proofs::Naming::tied_kept))]
+    fn external(&self, at: u32, into: &mut Unit) -> Result<Option<(NodeId, u32)>, NoMemory>
+        requires place { at ≤ length self.now.tokens.now.tokens }
+        requires tied { AreTied (R.types self.now.reader.now) (tables into.old) self.now.tokens.now.tokens }
+        ensures keeps { Extends (tables into.old) (tables into.new) }
+        ensures ok { IfOk result (λ r. Answers (tables into.new) is_external self.now.tokens.now.tokens r (external (names_in self.now.typedefs.now (R.types self.now.reader.now) (tables into.old) self.now.tokens.now.tokens) depth_limit (drop at self.now.tokens.now.tokens))) }
+    {
+        let tokens = self.tokens;
+        let Some((head, next)) = declaration(
+            tokens,
+            at,
+            DEPTH_LIMIT,
+            self.typedefs,
+            into,
+            self.reader,
+        )?
+        else {
+            return Ok(None);
+        };
+        match into.decl(head) {
+            Decl::Declaration { .. } => Ok(Some((head, next))),
+            Decl::Parameter { specs, declarator } => {
+                let Some(declarator) = declarator else {
+                    return Ok(None);
+                };
+                let line = into.line(head);
+                self.function(next, specs, declarator, line, into)
+            }
+            _ => Ok(None),
+        }
+    }
+
+    /// The function definition whose specifiers and declarator are nodes, and whose block begins at
+    /// a place (C17 6.9.1p1), and the place behind it.
+    fn function(
+        &self,
+        at: u32,
+        specs: ListId,
+        declarator: NodeId,
+        line: u32,
+        into: &mut Unit,
+    ) -> Result<Option<(NodeId, u32)>, NoMemory>
+        requires place { at ≤ length self.now.tokens.now.tokens }
+        requires tied { AreTied (R.types self.now.reader.now) (tables into.old) self.now.tokens.now.tokens }
+        requires specs { HasList (tables into.old).forest (length (tables into.old).forest.trees) is_specifier specs }
+        requires declarator { Is (tables into.old) is_declarator declarator }
+        ensures keeps { Extends (tables into.old) (tables into.new) }
+        ensures ok { IfOk result (λ r. Answers (tables into.new) is_external self.now.tokens.now.tokens r (function_with line (trees_at (tables into.old).forest specs) (declarator_at (tables into.old).forest declarator) (statement (names_in self.now.typedefs.now (R.types self.now.reader.now) (tables into.old) self.now.tokens.now.tokens) 499 (drop at self.now.tokens.now.tokens)))) }
+    {
+        let Some((block, end)) = self.statement(at, DEPTH_LIMIT - 1, into)? else {
+            return Ok(None);
+        };
+        let function = Decl::Function {
+            specs,
+            declarator,
+            block,
+        };
+        Ok(Some((into.add_decl(function, line)?, end)))
+    }
+}
+
+/// The external declaration at a place and the place behind it, where type names are known up to
+/// another place: what is read is right, and so is that nothing is where they all are known.
+fn read_up_to(
+    alloc: Global,
+    t: &Tokens,
+    at: u32,
+    to: u32,
+    types: &IndexSet<u32>,
+    into: &mut Unit,
+) -> Result<Option<(NodeId, u32)>, NoMemory>
+    requires { at ≤ length t.now.tokens }
+    ensures keeps { Extends (tables into.old) (tables into.new) }
+    ensures found { IfOk result (λ r. IfSome r (λ x. IsExternalAt (tables into.new) (contains nat_eq types.now) t.now.tokens at (Some x))) }
+    ensures none { length t.now.tokens ≤ to → IfOk result (λ r. r ≡ None → IsExternalAt (tables into.new) (contains nat_eq types.now) t.now.tokens at None) }
+{
+    let names = type_names(alloc, t, at, to, types, into)?;
+    let source = Source {
+        tokens: t,
+        typedefs: types,
+        reader: &names,
+    };
+    source.external(at, into)
+}
+
+/// The external declaration at a place, and the place behind it (C17 6.9p1).
+///
+/// The type names are looked for in the region that it seems to have, which takes no longer than
+/// reading it. Only where nothing is read with these, all tokens are searched.
+pub(crate) fn external(
+    alloc: Global,
+    t: &Tokens,
+    at: u32,
+    types: &IndexSet<u32>,
+    into: &mut Unit,
+) -> Result<Option<(NodeId, u32)>, NoMemory>
+    requires { at ≤ length t.now.tokens }
+    ensures keeps { Extends (tables into.old) (tables into.new) }
+    ensures ok { IfOk result (λ r. IsExternalAt (tables into.new) (contains nat_eq types.now) t.now.tokens at r) }
+{
+    let to = region_end(t, at);
+    let found = read_up_to(alloc, t, at, to, types, into)?;
+    if found.is_some() || to == t.len() {
+        return Ok(found);
+    }
+    read_up_to(alloc, t, at, t.len(), types, into)
+}

@@ -1,0 +1,341 @@
+//! Parts of statements that no statement stands in.
+ghost use Rattle.std.specs.Prelude.{◌≡◌, ◌≤◌, length, drop, IfOk};
+ghost use Rattle.pv_tree.specs.Rows.{tables};
+ghost use Rattle.pv_tree.specs.Syntax.{NoTrees};
+ghost use Rattle.pv_tree.specs.Tables.{tree_at, is_declaration, is_expression, is_statement, Is, Extends};
+ghost use Rattle.pv_tree.specs.TypeNames.{AreTied};
+ghost use Rattle.pv_expr.specs.Known.{names_in};
+ghost use Rattle.pv_expr.specs.Numbers.{level_number};
+ghost use Rattle.pv_decl.specs.Answers.{Answers};
+ghost use Rattle.pv_decl.specs.Rows.{AreAnswered, MayBeAnswered};
+ghost use Rattle.pv_decl.specs.Pieces.{optional, row};
+ghost use Rattle.pv_decl.specs.Reader.{declaration};
+ghost use Rattle.pv_stmt.specs.Parts.{test_of, case_label, PartAnswers, FirstAnswers, HeadAnswers};
+ghost use Rattle.pv_stmt.specs.Statements.{expression, condition, expression_before, simple, returned, do_end, declared, label};
+
+use crate::forms::{First, ForHead, LabelWord, Sign, label_word};
+use crate::nodes::{found_before, found_statement, is_declaration};
+use crate::source::{Source, after, begins_type, peek};
+use pv_decl::declaration;
+use pv_expr::{Level, expression};
+use pv_lex::NoMemory;
+use pv_tree::{NodeId, Stmt, TypeReader, Unit};
+
+impl<R: TypeReader> Source<'_, R> {
+    /// The expression of a level at a place, and the place behind it (C17 6.5).
+    fn expression(
+        &self,
+        at: u32,
+        level: Level,
+        depth: u32,
+        into: &mut Unit,
+    ) -> Result<Option<(NodeId, u32)>, NoMemory>
+        requires place { at ≤ length self.now.tokens.now.tokens }
+        requires tied { AreTied (R.types self.now.reader.now) (tables into.old) self.now.tokens.now.tokens }
+        ensures keeps { Extends (tables into.old) (tables into.new) }
+        ensures ok { IfOk result (λ r. Answers (tables into.new) is_expression self.now.tokens.now.tokens r (expression (names_in self.now.typedefs.now (R.types self.now.reader.now) (tables into.old) self.now.tokens.now.tokens) depth (level_number level) (drop at self.now.tokens.now.tokens))) }
+    {
+        expression(
+            self.tokens,
+            at,
+            level,
+            depth,
+            self.typedefs,
+            into,
+            self.reader,
+        )
+    }
+
+    /// The expression in parentheses at a place, and the place behind them (C17 6.8.4, 6.8.5).
+    #[tactic(auto, using(pv_tree::proofs::Kept::extends_same))]
+    pub(crate) fn condition(
+        &self,
+        at: u32,
+        depth: u32,
+        into: &mut Unit,
+    ) -> Result<Option<(NodeId, u32)>, NoMemory>
+        requires place { at ≤ length self.now.tokens.now.tokens }
+        requires tied { AreTied (R.types self.now.reader.now) (tables into.old) self.now.tokens.now.tokens }
+        ensures keeps { Extends (tables into.old) (tables into.new) }
+        ensures ok { IfOk result (λ r. Answers (tables into.new) is_expression self.now.tokens.now.tokens r (condition (names_in self.now.typedefs.now (R.types self.now.reader.now) (tables into.old) self.now.tokens.now.tokens) depth (drop at self.now.tokens.now.tokens))) }
+    {
+        let Some(inside) = after(self.tokens, at, Sign::OpenParen) else {
+            return Ok(None);
+        };
+        let Some((value, end)) = self.expression(inside, Level::Comma, depth, into)? else {
+            return Ok(None);
+        };
+        match after(self.tokens, end, Sign::CloseParen) {
+            Some(next) => Ok(Some((value, next))),
+            None => Ok(None),
+        }
+    }
+
+    // The expression at a place, if there is one, and the place behind it.
+    fn optional_expression(
+        &self,
+        at: u32,
+        depth: u32,
+        into: &mut Unit,
+    ) -> Result<(Option<NodeId>, u32), NoMemory>
+        requires place { at ≤ length self.now.tokens.now.tokens }
+        requires tied { AreTied (R.types self.now.reader.now) (tables into.old) self.now.tokens.now.tokens }
+        ensures keeps { Extends (tables into.old) (tables into.new) }
+        ensures ok { IfOk result (λ r. MayBeAnswered (tables into.new) is_expression self.now.tokens.now.tokens r.0 r.1 (optional (drop at self.now.tokens.now.tokens) (expression (names_in self.now.typedefs.now (R.types self.now.reader.now) (tables into.old) self.now.tokens.now.tokens) depth 1 (drop at self.now.tokens.now.tokens)))) }
+    {
+        match self.expression(at, Level::Comma, depth, into)? {
+            Some((value, end)) => Ok((Some(value), end)),
+            None => Ok((None, at)),
+        }
+    }
+
+    // The expression at a place, if there is one, and the place behind the sign behind it.
+    fn expression_before(
+        &self,
+        at: u32,
+        sign: Sign,
+        depth: u32,
+        into: &mut Unit,
+    ) -> Result<Option<(Option<NodeId>, u32)>, NoMemory>
+        requires place { at ≤ length self.now.tokens.now.tokens }
+        requires tied { AreTied (R.types self.now.reader.now) (tables into.old) self.now.tokens.now.tokens }
+        ensures keeps { Extends (tables into.old) (tables into.new) }
+        ensures ok { IfOk result (λ r. PartAnswers (tables into.new) self.now.tokens.now.tokens r (expression_before (names_in self.now.typedefs.now (R.types self.now.reader.now) (tables into.old) self.now.tokens.now.tokens) depth (test_of sign) (drop at self.now.tokens.now.tokens))) }
+    {
+        let (value, end) = self.optional_expression(at, depth, into)?;
+        match after(self.tokens, end, sign) {
+            Some(next) => Ok(Some((value, next))),
+            None => Ok(None),
+        }
+    }
+
+    /// An expression statement, or `;` alone (C17 6.8.3).
+    pub(crate) fn plain(
+        &self,
+        at: u32,
+        line: u32,
+        depth: u32,
+        into: &mut Unit,
+    ) -> Result<Option<(NodeId, u32)>, NoMemory>
+        requires place { at ≤ length self.now.tokens.now.tokens }
+        requires tied { AreTied (R.types self.now.reader.now) (tables into.old) self.now.tokens.now.tokens }
+        ensures keeps { Extends (tables into.old) (tables into.new) }
+        ensures ok { IfOk result (λ r. Answers (tables into.new) is_statement self.now.tokens.now.tokens r (simple (names_in self.now.typedefs.now (R.types self.now.reader.now) (tables into.old) self.now.tokens.now.tokens) depth line (drop at self.now.tokens.now.tokens))) }
+    {
+        match self.expression_before(at, Sign::Semicolon, depth, into)? {
+            Some((value, end)) => {
+                found_statement(self.tokens, end, Stmt::Expr(value), line, into)
+            }
+            None => Ok(None),
+        }
+    }
+
+    /// A `return`, from behind its keyword on (C17 6.8.6.4).
+    pub(crate) fn returned(
+        &self,
+        at: u32,
+        line: u32,
+        depth: u32,
+        into: &mut Unit,
+    ) -> Result<Option<(NodeId, u32)>, NoMemory>
+        requires place { at ≤ length self.now.tokens.now.tokens }
+        requires tied { AreTied (R.types self.now.reader.now) (tables into.old) self.now.tokens.now.tokens }
+        ensures keeps { Extends (tables into.old) (tables into.new) }
+        ensures ok { IfOk result (λ r. Answers (tables into.new) is_statement self.now.tokens.now.tokens r (returned (names_in self.now.typedefs.now (R.types self.now.reader.now) (tables into.old) self.now.tokens.now.tokens) depth line (drop at self.now.tokens.now.tokens))) }
+    {
+        match self.expression_before(at, Sign::Semicolon, depth, into)? {
+            Some((value, end)) => {
+                found_statement(self.tokens, end, Stmt::Return(value), line, into)
+            }
+            None => Ok(None),
+        }
+    }
+
+    /// What follows the body of a `do` (C17 6.8.5.2).
+    #[tactic(auto, using(pv_tree::proofs::Kept::extends_same))]
+    pub(crate) fn do_end(
+        &self,
+        at: u32,
+        body: NodeId,
+        line: u32,
+        depth: u32,
+        into: &mut Unit,
+    ) -> Result<Option<(NodeId, u32)>, NoMemory>
+        requires place { at ≤ length self.now.tokens.now.tokens }
+        requires tied { AreTied (R.types self.now.reader.now) (tables into.old) self.now.tokens.now.tokens }
+        requires body { Is (tables into.old) is_statement body }
+        ensures keeps { Extends (tables into.old) (tables into.new) }
+        ensures ok { IfOk result (λ r. Answers (tables into.new) is_statement self.now.tokens.now.tokens r (do_end (names_in self.now.typedefs.now (R.types self.now.reader.now) (tables into.old) self.now.tokens.now.tokens) depth line (tree_at (tables into.old).forest body) (drop at self.now.tokens.now.tokens))) }
+    {
+        let Some(next) = after(self.tokens, at, Sign::While) else {
+            return Ok(None);
+        };
+        match self.condition(next, depth, into)? {
+            Some((value, end)) => {
+                let statement = Stmt::DoWhile(body, value);
+                found_before(self.tokens, end, Sign::Semicolon, statement, line, into)
+            }
+            None => Ok(None),
+        }
+    }
+
+    /// The declaration at a place, and the place behind it (C17 6.7).
+    pub(crate) fn declared(
+        &self,
+        at: u32,
+        depth: u32,
+        into: &mut Unit,
+    ) -> Result<Option<(NodeId, u32)>, NoMemory>
+        requires place { at ≤ length self.now.tokens.now.tokens }
+        requires tied { AreTied (R.types self.now.reader.now) (tables into.old) self.now.tokens.now.tokens }
+        ensures keeps { Extends (tables into.old) (tables into.new) }
+        ensures ok { IfOk result (λ r. Answers (tables into.new) is_declaration self.now.tokens.now.tokens r (declared (declaration (names_in self.now.typedefs.now (R.types self.now.reader.now) (tables into.old) self.now.tokens.now.tokens) depth (drop at self.now.tokens.now.tokens)))) }
+    {
+        let Some((node, end)) = declaration(
+            self.tokens,
+            at,
+            depth,
+            self.typedefs,
+            into,
+            self.reader,
+        )?
+        else {
+            return Ok(None);
+        };
+        if is_declaration(into, node) {
+            Ok(Some((node, end)))
+        } else {
+            Ok(None)
+        }
+    }
+
+    // The first part of a `for`, from behind its `(` on (C17 6.8.5p1).
+    fn for_first(
+        &self,
+        at: u32,
+        depth: u32,
+        into: &mut Unit,
+    ) -> Result<Option<(First, u32)>, NoMemory>
+        requires place { at ≤ length self.now.tokens.now.tokens }
+        requires tied { AreTied (R.types self.now.reader.now) (tables into.old) self.now.tokens.now.tokens }
+        ensures keeps { Extends (tables into.old) (tables into.new) }
+        ensures ok { IfOk result (λ r. FirstAnswers (tables into.new) (names_in self.now.typedefs.now (R.types self.now.reader.now) (tables into.old) self.now.tokens.now.tokens) depth self.now.tokens.now.tokens r (drop at self.now.tokens.now.tokens)) }
+    {
+        if begins_type(self.tokens, self.typedefs, at) {
+            match self.declared(at, depth, into)? {
+                Some((declaration, end)) => Ok(Some((First::Declaration(declaration), end))),
+                None => Ok(None),
+            }
+        } else {
+            match self.expression_before(at, Sign::Semicolon, depth, into)? {
+                Some((first, end)) => Ok(Some((First::Expression(first), end))),
+                None => Ok(None),
+            }
+        }
+    }
+
+    /// What stands before the body of a `for`, from behind its keyword on (C17 6.8.5p1).
+    #[tactic(auto, using(pv_tree::proofs::Kept::extends_same))]
+    pub(crate) fn for_head(
+        &self,
+        at: u32,
+        depth: u32,
+        into: &mut Unit,
+    ) -> Result<Option<(ForHead, u32)>, NoMemory>
+        requires place { at ≤ length self.now.tokens.now.tokens }
+        requires tied { AreTied (R.types self.now.reader.now) (tables into.old) self.now.tokens.now.tokens }
+        ensures keeps { Extends (tables into.old) (tables into.new) }
+        ensures ok { IfOk result (λ r. HeadAnswers (tables into.new) (names_in self.now.typedefs.now (R.types self.now.reader.now) (tables into.old) self.now.tokens.now.tokens) depth self.now.tokens.now.tokens r (drop at self.now.tokens.now.tokens)) }
+    {
+        let Some(inside) = after(self.tokens, at, Sign::OpenParen) else {
+            return Ok(None);
+        };
+        let Some((first, next)) = self.for_first(inside, depth, into)? else {
+            return Ok(None);
+        };
+        let Some((condition, behind)) = self.expression_before(next, Sign::Semicolon, depth, into)?
+        else {
+            return Ok(None);
+        };
+        match self.expression_before(behind, Sign::CloseParen, depth, into)? {
+            Some((step, end)) => Ok(Some((
+                ForHead {
+                    first,
+                    condition,
+                    step,
+                },
+                end,
+            ))),
+            None => Ok(None),
+        }
+    }
+
+    // A `case`, from behind its keyword on (C17 6.8.1).
+    fn case_label(
+        &self,
+        at: u32,
+        line: u32,
+        depth: u32,
+        into: &mut Unit,
+    ) -> Result<Option<(NodeId, u32)>, NoMemory>
+        requires place { at ≤ length self.now.tokens.now.tokens }
+        requires tied { AreTied (R.types self.now.reader.now) (tables into.old) self.now.tokens.now.tokens }
+        ensures keeps { Extends (tables into.old) (tables into.new) }
+        ensures ok { IfOk result (λ r. Answers (tables into.new) is_statement self.now.tokens.now.tokens r (case_label (names_in self.now.typedefs.now (R.types self.now.reader.now) (tables into.old) self.now.tokens.now.tokens) depth line (drop at self.now.tokens.now.tokens))) }
+    {
+        match self.expression(at, Level::Conditional, depth, into)? {
+            Some((value, end)) => {
+                let label = Stmt::Case(value);
+                found_before(self.tokens, end, Sign::Colon, label, line, into)
+            }
+            None => Ok(None),
+        }
+    }
+
+    // A label at a place, and the place behind it (C17 6.8.1).
+    #[tactic(auto, using(pv_tree::proofs::Kept::extends_same))]
+    fn label(&self, at: u32, depth: u32, into: &mut Unit) -> Result<Option<(NodeId, u32)>, NoMemory>
+        requires place { at ≤ length self.now.tokens.now.tokens }
+        requires tied { AreTied (R.types self.now.reader.now) (tables into.old) self.now.tokens.now.tokens }
+        ensures keeps { Extends (tables into.old) (tables into.new) }
+        ensures ok { IfOk result (λ r. Answers (tables into.new) is_statement self.now.tokens.now.tokens r (label (names_in self.now.typedefs.now (R.types self.now.reader.now) (tables into.old) self.now.tokens.now.tokens) depth (drop at self.now.tokens.now.tokens))) }
+    {
+        let Some(token) = peek(self.tokens, at) else {
+            return Ok(None);
+        };
+        let Some(word) = label_word(token.kind) else {
+            return Ok(None);
+        };
+        let next = at + 1;
+        match word {
+            LabelWord::Case => self.case_label(next, token.line, depth, into),
+            LabelWord::Default => {
+                let label = Stmt::Default;
+                found_before(self.tokens, next, Sign::Colon, label, token.line, into)
+            }
+        }
+    }
+
+    /// The labels in a row at a place, and the place behind them (C17 6.8.1).
+    pub(crate) fn labels(
+        &self,
+        at: u32,
+        depth: u32,
+        into: &mut Unit,
+    ) -> Result<(Vec<NodeId>, u32), NoMemory>
+        requires place { at ≤ length self.now.tokens.now.tokens }
+        requires tied { AreTied (R.types self.now.reader.now) (tables into.old) self.now.tokens.now.tokens }
+        ensures keeps { Extends (tables into.old) (tables into.new) }
+        ensures ok { IfOk result (λ r. AreAnswered (tables into.new) is_statement self.now.tokens.now.tokens r.0.items r.1 (row (label (names_in self.now.typedefs.now (R.types self.now.reader.now) (tables into.old) self.now.tokens.now.tokens) depth) NoTrees (drop at self.now.tokens.now.tokens))) }
+    {
+        let mut labels = Vec::new(*self.typedefs.allocator());
+        let mut next = at;
+        loop {
+            let Some((found, end)) = self.label(next, depth, into)? else {
+                return Ok((labels, next));
+            };
+            labels.push(found)?;
+            next = end;
+        }
+    }
+}

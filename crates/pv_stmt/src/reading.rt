@@ -1,0 +1,333 @@
+//! Reading a statement from the left, with the statements within it.
+ghost use Rattle.std.specs.Prelude.{◌≡◌, ◌≤◌, length, drop, IfOk};
+ghost use Rattle.pv_tree.specs.Rows.{tables};
+ghost use Rattle.pv_tree.specs.Syntax.{NoTrees};
+ghost use Rattle.pv_tree.specs.Tables.{tree_at, is_expression, is_item, is_statement, Is, Extends};
+ghost use Rattle.pv_tree.specs.TypeNames.{AreTied};
+ghost use Rattle.pv_expr.specs.Known.{names_in};
+ghost use Rattle.pv_decl.specs.Answers.{Answers};
+ghost use Rattle.pv_decl.specs.Rows.{AreAnswered};
+ghost use Rattle.pv_decl.specs.Pieces.{row};
+ghost use Rattle.pv_stmt.specs.Parts.{item_in, braced};
+ghost use Rattle.pv_stmt.specs.Statements.{statement, selection, chosen, loop, do_loop, for_loop, switch, labelled, Statements, SwitchBlocks, readers};
+
+use crate::forms::{Sign, StatementForm, Within, form_of};
+use crate::nodes::{block_of, ends_open, for_node, found_before, found_statement, labelled_of};
+use crate::source::{Source, after, begins_type, line_at, peek};
+use pv_lex::NoMemory;
+use pv_tree::{NodeId, Stmt, TypeReader, Unit};
+
+impl<R: TypeReader> Source<'_, R> {
+    /// The longest statement of at most so much depth that begins at a place, and the place behind
+    /// it (C17 6.8).
+    #[cycle(reading)]
+    pub(crate) fn statement(
+        &self,
+        at: u32,
+        depth: u32,
+        into: &mut Unit,
+    ) -> Result<Option<(NodeId, u32)>, NoMemory>
+        requires place { at ≤ length self.now.tokens.now.tokens }
+        requires tied { AreTied (R.types self.now.reader.now) (tables into.old) self.now.tokens.now.tokens }
+        ensures keeps { Extends (tables into.old) (tables into.new) }
+        ensures ok { IfOk result (λ r. Answers (tables into.new) is_statement self.now.tokens.now.tokens r (statement (names_in self.now.typedefs.now (R.types self.now.reader.now) (tables into.old) self.now.tokens.now.tokens) depth (drop at self.now.tokens.now.tokens))) }
+    {
+        if depth == 0 {
+            return Ok(None);
+        }
+        let Some(token) = peek(self.tokens, at) else {
+            return Ok(None);
+        };
+        let (next, line, below) = (at + 1, token.line, depth - 1);
+        match form_of(token.kind) {
+            StatementForm::Braces => self.braced(next, Within::Block, line, below, into),
+            StatementForm::If => self.selection(next, line, below, into),
+            StatementForm::While => self.while_loop(next, line, below, into),
+            StatementForm::Do => self.do_loop(next, line, below, into),
+            StatementForm::For => self.for_loop(next, line, below, into),
+            StatementForm::Switch => self.switch(next, line, below, into),
+            StatementForm::Break => {
+                found_before(self.tokens, next, Sign::Semicolon, Stmt::Break, line, into)
+            }
+            StatementForm::Continue => {
+                found_before(
+                    self.tokens,
+                    next,
+                    Sign::Semicolon,
+                    Stmt::Continue,
+                    line,
+                    into,
+                )
+            }
+            StatementForm::Return => self.returned(next, line, below, into),
+            StatementForm::Plain => self.plain(at, line, below, into),
+        }
+    }
+
+    // An `if`, from behind its keyword on (C17 6.8.4.1).
+    #[cycle(reading)]
+    fn selection(
+        &self,
+        at: u32,
+        line: u32,
+        below: u32,
+        into: &mut Unit,
+    ) -> Result<Option<(NodeId, u32)>, NoMemory>
+        requires place { at ≤ length self.now.tokens.now.tokens }
+        requires tied { AreTied (R.types self.now.reader.now) (tables into.old) self.now.tokens.now.tokens }
+        ensures keeps { Extends (tables into.old) (tables into.new) }
+        ensures ok { IfOk result (λ r. Answers (tables into.new) is_statement self.now.tokens.now.tokens r (selection (names_in self.now.typedefs.now (R.types self.now.reader.now) (tables into.old) self.now.tokens.now.tokens) below (readers (names_in self.now.typedefs.now (R.types self.now.reader.now) (tables into.old) self.now.tokens.now.tokens) below Statements) line (drop at self.now.tokens.now.tokens))) }
+    {
+        let Some((condition, next)) = self.condition(at, below, into)? else {
+            return Ok(None);
+        };
+        match self.statement(next, below, into)? {
+            Some((body, end)) => self.chosen(end, condition, body, line, below, into),
+            None => Ok(None),
+        }
+    }
+
+    // An `if`, once its first statement is read. One that ends with an `if` without `else` is
+    // followed by no `else`: what stands there was too deep for that `if` (C17 6.8.4.1p3).
+    #[cycle(reading)]
+    fn chosen(
+        &self,
+        at: u32,
+        condition: NodeId,
+        body: NodeId,
+        line: u32,
+        below: u32,
+        into: &mut Unit,
+    ) -> Result<Option<(NodeId, u32)>, NoMemory>
+        requires place { at ≤ length self.now.tokens.now.tokens }
+        requires tied { AreTied (R.types self.now.reader.now) (tables into.old) self.now.tokens.now.tokens }
+        requires condition { Is (tables into.old) is_expression condition }
+        requires body { Is (tables into.old) is_statement body }
+        ensures keeps { Extends (tables into.old) (tables into.new) }
+        ensures ok { IfOk result (λ r. Answers (tables into.new) is_statement self.now.tokens.now.tokens r (chosen (readers (names_in self.now.typedefs.now (R.types self.now.reader.now) (tables into.old) self.now.tokens.now.tokens) below Statements) line (tree_at (tables into.old).forest condition) (tree_at (tables into.old).forest body) (drop at self.now.tokens.now.tokens))) }
+    {
+        let alone = Stmt::If(condition, body);
+        let Some(next) = after(self.tokens, at, Sign::Else) else {
+            return found_statement(self.tokens, at, alone, line, into);
+        };
+        if ends_open(into, body) {
+            return found_statement(self.tokens, at, alone, line, into);
+        }
+        match self.statement(next, below, into)? {
+            Some((other, end)) => {
+                let both = Stmt::IfElse(condition, body, other);
+                found_statement(self.tokens, end, both, line, into)
+            }
+            None => found_statement(self.tokens, at, alone, line, into),
+        }
+    }
+
+    // A `while`, from behind its keyword on (C17 6.8.5.1).
+    #[cycle(reading)]
+    fn while_loop(
+        &self,
+        at: u32,
+        line: u32,
+        below: u32,
+        into: &mut Unit,
+    ) -> Result<Option<(NodeId, u32)>, NoMemory>
+        requires place { at ≤ length self.now.tokens.now.tokens }
+        requires tied { AreTied (R.types self.now.reader.now) (tables into.old) self.now.tokens.now.tokens }
+        ensures keeps { Extends (tables into.old) (tables into.new) }
+        ensures ok { IfOk result (λ r. Answers (tables into.new) is_statement self.now.tokens.now.tokens r (loop (names_in self.now.typedefs.now (R.types self.now.reader.now) (tables into.old) self.now.tokens.now.tokens) below (readers (names_in self.now.typedefs.now (R.types self.now.reader.now) (tables into.old) self.now.tokens.now.tokens) below Statements) line (drop at self.now.tokens.now.tokens))) }
+    {
+        let Some((condition, next)) = self.condition(at, below, into)? else {
+            return Ok(None);
+        };
+        match self.statement(next, below, into)? {
+            Some((body, end)) => {
+                found_statement(self.tokens, end, Stmt::While(condition, body), line, into)
+            }
+            None => Ok(None),
+        }
+    }
+
+    // A `do`, from behind its keyword on (C17 6.8.5.2).
+    #[cycle(reading)]
+    fn do_loop(
+        &self,
+        at: u32,
+        line: u32,
+        below: u32,
+        into: &mut Unit,
+    ) -> Result<Option<(NodeId, u32)>, NoMemory>
+        requires place { at ≤ length self.now.tokens.now.tokens }
+        requires tied { AreTied (R.types self.now.reader.now) (tables into.old) self.now.tokens.now.tokens }
+        ensures keeps { Extends (tables into.old) (tables into.new) }
+        ensures ok { IfOk result (λ r. Answers (tables into.new) is_statement self.now.tokens.now.tokens r (do_loop (names_in self.now.typedefs.now (R.types self.now.reader.now) (tables into.old) self.now.tokens.now.tokens) below (readers (names_in self.now.typedefs.now (R.types self.now.reader.now) (tables into.old) self.now.tokens.now.tokens) below Statements) line (drop at self.now.tokens.now.tokens))) }
+    {
+        match self.statement(at, below, into)? {
+            Some((body, next)) => self.do_end(next, body, line, below, into),
+            None => Ok(None),
+        }
+    }
+
+    // A `for`, from behind its keyword on (C17 6.8.5.3).
+    #[cycle(reading)]
+    fn for_loop(
+        &self,
+        at: u32,
+        line: u32,
+        below: u32,
+        into: &mut Unit,
+    ) -> Result<Option<(NodeId, u32)>, NoMemory>
+        requires place { at ≤ length self.now.tokens.now.tokens }
+        requires tied { AreTied (R.types self.now.reader.now) (tables into.old) self.now.tokens.now.tokens }
+        ensures keeps { Extends (tables into.old) (tables into.new) }
+        ensures ok { IfOk result (λ r. Answers (tables into.new) is_statement self.now.tokens.now.tokens r (for_loop (names_in self.now.typedefs.now (R.types self.now.reader.now) (tables into.old) self.now.tokens.now.tokens) below (readers (names_in self.now.typedefs.now (R.types self.now.reader.now) (tables into.old) self.now.tokens.now.tokens) below Statements) line (drop at self.now.tokens.now.tokens))) }
+    {
+        let Some((head, next)) = self.for_head(at, below, into)? else {
+            return Ok(None);
+        };
+        match self.statement(next, below, into)? {
+            Some((body, end)) => {
+                found_statement(self.tokens, end, for_node(head, body), line, into)
+            }
+            None => Ok(None),
+        }
+    }
+
+    // A `switch`, from behind its keyword on (C17 6.8.4.2).
+    #[cycle(reading)]
+    fn switch(
+        &self,
+        at: u32,
+        line: u32,
+        below: u32,
+        into: &mut Unit,
+    ) -> Result<Option<(NodeId, u32)>, NoMemory>
+        requires place { at ≤ length self.now.tokens.now.tokens }
+        requires tied { AreTied (R.types self.now.reader.now) (tables into.old) self.now.tokens.now.tokens }
+        ensures keeps { Extends (tables into.old) (tables into.new) }
+        ensures ok { IfOk result (λ r. Answers (tables into.new) is_statement self.now.tokens.now.tokens r (switch (names_in self.now.typedefs.now (R.types self.now.reader.now) (tables into.old) self.now.tokens.now.tokens) below (readers (names_in self.now.typedefs.now (R.types self.now.reader.now) (tables into.old) self.now.tokens.now.tokens) below SwitchBlocks) line (drop at self.now.tokens.now.tokens))) }
+    {
+        let Some((value, next)) = self.condition(at, below, into)? else {
+            return Ok(None);
+        };
+        match self.switch_block(next, below, into)? {
+            Some((block, end)) => {
+                found_statement(self.tokens, end, Stmt::Switch(value, block), line, into)
+            }
+            None => Ok(None),
+        }
+    }
+
+    // The block of a `switch`, of at most so much depth (C17 6.8.4.2).
+    #[cycle(reading)]
+    fn switch_block(
+        &self,
+        at: u32,
+        depth: u32,
+        into: &mut Unit,
+    ) -> Result<Option<(NodeId, u32)>, NoMemory>
+        requires place { at ≤ length self.now.tokens.now.tokens }
+        requires tied { AreTied (R.types self.now.reader.now) (tables into.old) self.now.tokens.now.tokens }
+        ensures keeps { Extends (tables into.old) (tables into.new) }
+        ensures ok { IfOk result (λ r. Answers (tables into.new) is_statement self.now.tokens.now.tokens r (readers (names_in self.now.typedefs.now (R.types self.now.reader.now) (tables into.old) self.now.tokens.now.tokens) depth SwitchBlocks (drop at self.now.tokens.now.tokens))) }
+    {
+        if depth == 0 {
+            return Ok(None);
+        }
+        let line = line_at(self.tokens, at);
+        match after(self.tokens, at, Sign::OpenBrace) {
+            Some(inside) => self.braced(inside, Within::Switch, line, depth - 1, into),
+            None => Ok(None),
+        }
+    }
+
+    // What braces enclose, from behind `{` on, with the `}` behind it (C17 6.8.2, 6.8.4.2).
+    #[cycle(reading)]
+    fn braced(
+        &self,
+        at: u32,
+        within: Within,
+        line: u32,
+        below: u32,
+        into: &mut Unit,
+    ) -> Result<Option<(NodeId, u32)>, NoMemory>
+        requires place { at ≤ length self.now.tokens.now.tokens }
+        requires tied { AreTied (R.types self.now.reader.now) (tables into.old) self.now.tokens.now.tokens }
+        ensures keeps { Extends (tables into.old) (tables into.new) }
+        ensures ok { IfOk result (λ r. Answers (tables into.new) is_statement self.now.tokens.now.tokens r (braced within (names_in self.now.typedefs.now (R.types self.now.reader.now) (tables into.old) self.now.tokens.now.tokens) below line (drop at self.now.tokens.now.tokens))) }
+    {
+        let (items, end) = self.items(at, within, below, into)?;
+        block_of(self.tokens, end, within, &items, line, into)
+    }
+
+    // The items in a row at a place, and the place behind them (C17 6.8.2p1).
+    #[cycle(reading)]
+    fn items(
+        &self,
+        at: u32,
+        within: Within,
+        depth: u32,
+        into: &mut Unit,
+    ) -> Result<(Vec<NodeId>, u32), NoMemory>
+        requires place { at ≤ length self.now.tokens.now.tokens }
+        requires tied { AreTied (R.types self.now.reader.now) (tables into.old) self.now.tokens.now.tokens }
+        ensures keeps { Extends (tables into.old) (tables into.new) }
+        ensures ok { IfOk result (λ r. AreAnswered (tables into.new) is_item self.now.tokens.now.tokens r.0.items r.1 (row (item_in within (names_in self.now.typedefs.now (R.types self.now.reader.now) (tables into.old) self.now.tokens.now.tokens) depth) NoTrees (drop at self.now.tokens.now.tokens))) }
+    {
+        let mut items = Vec::new(*self.typedefs.allocator());
+        let mut next = at;
+        loop {
+            let Some((found, end)) = self.item(next, within, depth, into)? else {
+                return Ok((items, next));
+            };
+            items.push(found)?;
+            next = end;
+        }
+    }
+
+    // A declaration, wherever a token that begins one stands (C17 6.7p1), or a statement.
+    #[cycle(reading)]
+    fn item(
+        &self,
+        at: u32,
+        within: Within,
+        depth: u32,
+        into: &mut Unit,
+    ) -> Result<Option<(NodeId, u32)>, NoMemory>
+        requires place { at ≤ length self.now.tokens.now.tokens }
+        requires tied { AreTied (R.types self.now.reader.now) (tables into.old) self.now.tokens.now.tokens }
+        ensures keeps { Extends (tables into.old) (tables into.new) }
+        ensures ok { IfOk result (λ r. Answers (tables into.new) is_item self.now.tokens.now.tokens r (item_in within (names_in self.now.typedefs.now (R.types self.now.reader.now) (tables into.old) self.now.tokens.now.tokens) depth (drop at self.now.tokens.now.tokens))) }
+    {
+        if begins_type(self.tokens, self.typedefs, at) {
+            return self.declared(at, depth, into);
+        }
+        match within {
+            Within::Block => self.statement(at, depth, into),
+            Within::Switch => self.labelled(at, depth, into),
+        }
+    }
+
+    // A statement, which labels may stand before (C17 6.8.1).
+    #[cycle(reading)]
+    fn labelled(
+        &self,
+        at: u32,
+        depth: u32,
+        into: &mut Unit,
+    ) -> Result<Option<(NodeId, u32)>, NoMemory>
+        requires place { at ≤ length self.now.tokens.now.tokens }
+        requires tied { AreTied (R.types self.now.reader.now) (tables into.old) self.now.tokens.now.tokens }
+        ensures keeps { Extends (tables into.old) (tables into.new) }
+        ensures ok { IfOk result (λ r. Answers (tables into.new) is_statement self.now.tokens.now.tokens r (labelled (names_in self.now.typedefs.now (R.types self.now.reader.now) (tables into.old) self.now.tokens.now.tokens) depth (readers (names_in self.now.typedefs.now (R.types self.now.reader.now) (tables into.old) self.now.tokens.now.tokens) depth Statements) (drop at self.now.tokens.now.tokens))) }
+    {
+        let line = line_at(self.tokens, at);
+        let (labels, next) = self.labels(at, depth, into)?;
+        let Some((statement, end)) = self.statement(next, depth, into)? else {
+            return Ok(None);
+        };
+        if labels.is_empty() {
+            return Ok(Some((statement, end)));
+        }
+        labelled_of(self.tokens, end, &labels, statement, line, into)
+    }
+}
