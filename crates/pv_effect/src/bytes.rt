@@ -8,7 +8,7 @@ ghost use Rattle.pv_effect.specs.EffectiveType.{some_over, accepts};
 ghost use Rattle.pv_effect.specs.Searches.{is_sought, passes, comes_to, IsBelow};
 
 use crate::kinds::{is_character, same_or_counterpart};
-use pv_layout::{align, size};
+use pv_layout::size;
 use pv_types::{Term, TypeId, Types};
 
 /// Which scalar a byte has to lie in.
@@ -137,21 +137,13 @@ fn in_structure(types: &Types, tag: u32, offset: u64) -> Search
     ensures value { (f : ℕ → Ty → Bool) → comes_to f types.now result ≡ some_over (env types.now) f offset (struct_parts (env types.now) (named types.now tag) 0) }
     ensures below { IsBelow types.now (or_none (look (env types.now) tag)).height result }
 {
-    let mut end: u64 = 0;
-    for m in types.members(tag) {
-        let start = end.next_multiple_of(align(types, m.t));
-        if offset < start {
-            return Search::Settled(false);
-        }
-        end = start + size(types, m.t);
-        if offset < end {
-            return Search::In {
-                t: m.t,
-                offset: offset - start,
-            };
-        }
+    match types.member_over(tag, offset) {
+        Some((start, t)) => Search::In {
+            t,
+            offset: offset - start,
+        },
+        None => Search::Settled(false),
     }
-    Search::Settled(false)
 }
 
 /// Whether a member has it: all begin where the union does (C17 6.7.2.1p16).

@@ -9,7 +9,10 @@ use Rattle.pv_types.specs.Ty.{Ty, ArrayOf, StructTag, UnionTag}
 use Rattle.pv_types.specs.Layouts.{Entry, Named, look, or_none, layout_in, layout_of, is_complete_in, AreComplete, union_end, greatest_align, struct_parts, union_parts, repeated, shifted, AreWithin}
 use Rattle.pv_types.specs.Known.{Known, tree, trees, tree_in, term_at, IsTagged, env, named, named_in, members_in, is_union_in, MembersBelow, IsBuilt}
 use Rattle.pv_types.proofs.Fills.{layout_fills, union_end-ge}
+use Rattle.pv_types.specs.declared.terms.TypeId.{TypeId}
+use Rattle.pv_types.specs.Spans.{spans, holder}
 use Rattle.pv_types.proofs.Made.{made, flag}
+use Rattle.pv_types.proofs.Walks.{begin_of, stop_of, walk_hit, walk_miss}
 use Rattle.pv_layout.specs.Parts.{some_at}
 use Rattle.pv_layout.proofs.Ahead.{Ahead, ahead_start, ahead_next, next_at, AreLower, lower_from}
 use Rattle.pv_layout.proofs.PartLaws.{at_repeated, lt_test, ge_test, some_at-append, some_at-shifted, some_at-before, some_at-past}
@@ -120,6 +123,47 @@ pub held_none : (m : Known) (tag p o i : ℕ) (items : List Member) → length i
 held_none m tag p o i items ge h f =
     let empty : Held m tag p o [] = subst (λ (ms : List Member). Held m tag p o ms) (drop_of_length-le items ge) h in
     sym (empty.rest f)
+
+-- what the search goes on in, where a member of a structure holds the offset
+pub record Landed (m : Known) (tag o start : ℕ) (t : TypeId) : Type 0 where
+  pub begins : start ≤ o
+  pub known : t.0 < length m.terms
+  pub complete : IsTrue (is_complete_in (env m) (tree m t.0))
+  pub small : (layout_in (env m) (tree m t.0)).size ≤ 2 ^ 32
+  pub lower : (layout_in (env m) (tree m t.0)).height < (or_none (look (env m) tag)).height
+  pub same : (f : Ty → Bool) → some_at f (o - start) (layout_in (env m) (tree m t.0)).parts ≡ some_at f o (struct_parts (env m) (named m tag) 0)
+
+module _ (m : Known) (tag o : ℕ) (built : IsBuilt m) (there : IsTrue (is_some (look (env m) tag))) (flag : is_union_in m.done tag ≡ false) (size : (or_none (look (env m) tag)).size ≤ 2 ^ 32) where
+  abbrev HeldAt : ℕ → List Member → Type 0
+  HeldAt p ms = Held m tag p o ms
+
+  next : (p : ℕ) (x : Member) (ms : List Member) → HeldAt p (x ∷ ms) → stop_of m p x ≤ o → HeldAt (stop_of m p x) ms
+  next p x ms h ge = held_next m tag p o 0 (begin_of m p x) (stop_of m p x) (x ∷ ms) x (omega arith) h refl refl ge
+
+  landed : (p : ℕ) (x : Member) (ms : List Member) → HeldAt p (x ∷ ms) → begin_of m p x ≤ o → o < stop_of m p x → Landed m tag o (begin_of m p x) x.t
+  landed p x ms h ge lt =
+      let n = next_at m tag p 0 (x ∷ ms) x (omega arith) h.ahead in
+      let small = n.small in
+      record {
+        begins = ge;
+        known = n.known;
+        complete = n.complete;
+        small = omega (arith, small);
+        lower = n.lower;
+        same = held_in m tag p o 0 (begin_of m p x) (stop_of m p x) (x ∷ ms) x (omega arith) h refl refl ge lt;
+      }
+
+  pub held_some : (start : ℕ) (t : TypeId) → Some (start, t) ≡ holder o (spans m (members_in m.done tag) 0) → Landed m tag o start t
+  held_some start t e =
+      walk_hit m HeldAt o next (Landed m tag o start t) start t (λ p x ms h begins is ge lt. rw (begins, is) (landed p x ms h ge lt))
+      (members_in m.done tag) 0 (held_start m tag o built there flag size) e
+
+  pub held_nowhere : None ≡ holder o (spans m (members_in m.done tag) 0) → (f : Ty → Bool) → false ≡ some_at f o (struct_parts (env m) (named m tag) 0)
+  held_nowhere e =
+      walk_miss m HeldAt o next ((f : Ty → Bool) → false ≡ some_at f o (struct_parts (env m) (named m tag) 0))
+      (λ p h. held_none m tag p o 0 [] (omega arith) h)
+      (λ p x ms h lt. held_before m tag p o 0 (begin_of m p x) (stop_of m p x) (x ∷ ms) x (omega arith) h refl refl lt)
+      (members_in m.done tag) 0 (held_start m tag o built there flag size) e
 
 -- every member is small enough
 abbrev pub AllSmall : List Entry → List Named → Type 0

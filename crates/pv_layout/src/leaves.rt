@@ -6,7 +6,6 @@ ghost use Rattle.pv_types.specs.Layouts.{layout_in, is_complete_in, look, or_non
 ghost use Rattle.pv_layout.specs.Parts.{some_at, leaves, agrees, suits, is_deep};
 ghost use Rattle.pv_layout.specs.Searches.{IsWanted, passes, comes_to, IsBelow};
 
-use crate::members::next_place;
 use crate::sizes::size;
 use crate::wanted::{Sought, passes};
 use pv_types::{Member, Term, TypeId, Types};
@@ -132,21 +131,13 @@ fn in_structure(types: &Types, tag: u32, offset: u64) -> Search
     ensures value { (f : Ty → Bool) → comes_to f types.now result ≡ some_at f offset (struct_parts (env types.now) (named types.now tag) 0) }
     ensures below { IsBelow types.now (or_none (look (env types.now) tag)).height result }
 {
-    let mut end = 0;
-    for m in types.members(tag) {
-        let place = next_place(types, end, m.t);
-        if offset < place.start {
-            return Search::Missed;
-        }
-        if offset < place.end {
-            return Search::In {
-                t: m.t,
-                offset: offset - place.start,
-            };
-        }
-        end = place.end;
+    match types.member_over(tag, offset) {
+        Some((start, t)) => Search::In {
+            t,
+            offset: offset - start,
+        },
+        None => Search::Missed,
     }
-    Search::Missed
 }
 
 /// One of the members, where no member of another type has what is sought: all begin where the union does
