@@ -104,6 +104,7 @@ fn members_are_found_before_their_places_are_kept(rt: HostRuntime) -> Result<(),
     let a = Member { name: 0, t: char };
     let b = Member { name: 1, t: int };
     let c = Member { name: 2, t: char };
+    assert!(rt; types.is_complete(int) && types.is_complete(char));
     types.complete(tag, vec![in rt.alloc(); a, b, c]?);
     check_members(&rt, &types, whole, int, char);
     let pointer = types.intern(Term::Pointer(whole))?;
