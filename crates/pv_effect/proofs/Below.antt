@@ -1,12 +1,15 @@
 -- What is below an array, a structure or a union, as a search for a byte goes through it.
-use Rattle.std.proofs.Common.{◌≡◌, ℕ, suc, ◌+◌, ◌-◌, ◌/◌, ◌%◌, ◌<◌, ◌≤◌, ◌^◌, Bool, false, IsTrue, List, [], ◌∷◌, length, drop, drop-cons, get_or, add-one, refl, sym, ◌∙◌, ap, subst, arith, is_some}
+use Rattle.std.proofs.Common.{◌≡◌, ℕ, suc, ◌+◌, ◌-◌, ◌/◌, ◌%◌, ◌<◌, ◌≤◌, ◌^◌, Bool, false, IsTrue, List, [], ◌∷◌, Some, None, length, drop, drop-cons, get_or, add-one, refl, sym, ◌∙◌, ap, subst, arith, is_some}
 use Rattle.std.proofs.Math.ListN.{drop_of_length-le}
 use Rattle.std.specs.Int.{next_multiple_of}
 use Rattle.pv_types.specs.declared.terms.Member.{Member}
 use Rattle.pv_types.specs.Ty.{Ty}
 use Rattle.pv_types.specs.Layouts.{Entry, Named, look, or_none, layout_in, is_complete_in, struct_parts, repeated, shifted}
 use Rattle.pv_types.specs.Known.{Known, tree, trees, env, named, named_in, members_in, is_union_in, IsBuilt}
+use Rattle.pv_types.specs.declared.terms.TypeId.{TypeId}
+use Rattle.pv_types.specs.Spans.{spans, holder}
 use Rattle.pv_types.proofs.Peeling.{positive_size}
+use Rattle.pv_types.proofs.Walks.{begin_of, stop_of, walk_hit, walk_miss}
 use Rattle.pv_layout.proofs.Ahead.{Ahead, ahead_start, ahead_next, next_at}
 use Rattle.pv_layout.proofs.PartLaws.{lt_test, ge_test}
 use Rattle.pv_effect.specs.EffectiveType.{some_over}
@@ -114,3 +117,44 @@ pub held_none : (m : Known) (tag p o i : ℕ) (items : List Member) → length i
 held_none m tag p o i items ge h f =
     let empty : Held m tag p o [] = subst (λ (ms : List Member). Held m tag p o ms) (drop_of_length-le items ge) h in
     sym (empty.rest f)
+
+-- what the search goes on in, where a member of a structure holds the byte
+pub record Landed (m : Known) (tag o start : ℕ) (t : TypeId) : Type 0 where
+  pub begins : start ≤ o
+  pub known : t.0 < length m.terms
+  pub complete : IsTrue (is_complete_in (env m) (tree m t.0))
+  pub small : (layout_in (env m) (tree m t.0)).size ≤ 2 ^ 32
+  pub lower : (layout_in (env m) (tree m t.0)).height < (or_none (look (env m) tag)).height
+  pub same : (f : ℕ → Ty → Bool) → some_over (env m) f (o - start) (layout_in (env m) (tree m t.0)).parts ≡ some_over (env m) f o (struct_parts (env m) (named m tag) 0)
+
+module _ (m : Known) (tag o : ℕ) (built : IsBuilt m) (there : IsTrue (is_some (look (env m) tag))) (flag : is_union_in m.done tag ≡ false) (size : (or_none (look (env m) tag)).size ≤ 2 ^ 32) where
+  abbrev HeldAt : ℕ → List Member → Type 0
+  HeldAt p ms = Held m tag p o ms
+
+  next : (p : ℕ) (x : Member) (ms : List Member) → HeldAt p (x ∷ ms) → stop_of m p x ≤ o → HeldAt (stop_of m p x) ms
+  next p x ms h ge = held_next m tag p o 0 (begin_of m p x) (stop_of m p x) (x ∷ ms) x (omega arith) h refl refl ge
+
+  landed : (p : ℕ) (x : Member) (ms : List Member) → HeldAt p (x ∷ ms) → begin_of m p x ≤ o → o < stop_of m p x → Landed m tag o (begin_of m p x) x.t
+  landed p x ms h ge lt =
+      let n = next_at m tag p 0 (x ∷ ms) x (omega arith) h.ahead in
+      let small = n.small in
+      record {
+        begins = ge;
+        known = n.known;
+        complete = n.complete;
+        small = omega (arith, small);
+        lower = n.lower;
+        same = held_in m tag p o 0 (begin_of m p x) (stop_of m p x) (x ∷ ms) x (omega arith) h refl refl ge lt;
+      }
+
+  pub held_some : (start : ℕ) (t : TypeId) → Some (start, t) ≡ holder o (spans m (members_in m.done tag) 0) → Landed m tag o start t
+  held_some start t e =
+      walk_hit m HeldAt o next (Landed m tag o start t) start t (λ p x ms h begins is ge lt. rw (begins, is) (landed p x ms h ge lt))
+      (members_in m.done tag) 0 (held_start m tag o built there flag size) e
+
+  pub held_nowhere : None ≡ holder o (spans m (members_in m.done tag) 0) → (f : ℕ → Ty → Bool) → false ≡ some_over (env m) f o (struct_parts (env m) (named m tag) 0)
+  held_nowhere e =
+      walk_miss m HeldAt o next ((f : ℕ → Ty → Bool) → false ≡ some_over (env m) f o (struct_parts (env m) (named m tag) 0))
+      (λ p h. held_none m tag p o 0 [] (omega arith) h)
+      (λ p x ms h lt. held_before m tag p o 0 (begin_of m p x) 0 (x ∷ ms) x (omega arith) h refl lt)
+      (members_in m.done tag) 0 (held_start m tag o built there flag size) e

@@ -1,15 +1,13 @@
 -- A search on its way down to the scalars that a byte lies in.
-use Rattle.std.proofs.Common.{◌≡◌, ℕ, suc, ◌+◌, ◌-◌, ◌<◌, ◌≤◌, ◌^◌, Bool, true, false, ◌&&◌, ◌||◌, nat_le, nat_lt, IsTrue, List, [], ◌∷◌, Some, length, drop, drop-cons, get_or, add-one, refl, sym, ◌∙◌, ap, subst, arith, is_some}
-use Rattle.std.proofs.Math.ListN.{drop_of_length-le}
+use Rattle.std.proofs.Common.{◌≡◌, ℕ, ◌+◌, ◌-◌, ◌<◌, ◌≤◌, ◌^◌, Bool, true, false, ◌&&◌, ◌||◌, nat_le, nat_lt, IsTrue, List, Some, length, refl, sym, ◌∙◌, ap, arith, is_some}
 use Rattle.std.proofs.lemmas.Bool.Decides.{nat_tests}
 use Rattle.pv_num.specs.declared.kinds.IntKind.{IntKind}
-use Rattle.pv_types.specs.declared.terms.Member.{Member}
 use Rattle.pv_types.specs.Ty.{Ty, VoidTy, IntTy, PointerTo, ArrayOf, StructTag, UnionTag, FunctionTy, ConstOf}
-use Rattle.pv_types.specs.Layouts.{look, or_none, layout_in, layout_of, is_complete_in, struct_parts, union_parts, repeated}
-use Rattle.pv_types.specs.Known.{Known, tree, trees, env, named, named_in, members_in, is_union_in, IsBuilt}
+use Rattle.pv_types.specs.Layouts.{Entry, look, or_none, layout_in, layout_of, is_complete_in, struct_parts, union_parts, repeated}
+use Rattle.pv_types.specs.Known.{Known, tree, env, named, is_union_in, IsBuilt}
 use Rattle.pv_types.proofs.Made.{made}
 use Rattle.pv_layout.specs.Parts.{is_scalar}
-use Rattle.pv_layout.proofs.Below.{Inside, around_start, inside_at}
+use Rattle.pv_layout.proofs.Unions.{Joins}
 use Rattle.pv_effect.specs.declared.bytes.Sought.{Sought}
 use Rattle.pv_effect.specs.declared.bytes.Sought.TheVariants.{Any, Accepting}
 use Rattle.pv_effect.specs.EffectiveType.{covers, some_over}
@@ -100,41 +98,5 @@ pub pointer_whole : (m : Known) (t o e : ℕ) (s : Sought) → tree m t ≡ Poin
     → (nat_lt o (layout_in (env m) (tree m t)).size && is_sought m s o (tree m t)) ≡ some_over (env m) (passes m s) o (layout_in (env m) (tree m t)).parts
 pointer_whole m t o e s is = rw is (sym (from_zero o 8 (λ j. is_sought m s j (PointerTo (tree m e)))))
 
--- no scalar at all
-nothing : Ty → Bool
-nothing t = false
-
--- a member of a union may be searched
-pub member_inside : (m : Known) (tag i : ℕ) (items : List Member) (d : Member) → IsBuilt m → IsTrue (is_some (look (env m) tag)) → is_union_in m.done tag ≡ true → (or_none (look (env m) tag)).size ≤ 2 ^ 32
-    → items ≡ members_in m.done tag → i < length items → Inside m tag (get_or items i d).t.0
-member_inside m tag i items d built there flag small is lt =
-    inside_at m nothing tag 0 0 i items d lt (rw is (around_start m nothing tag 0 0 built there flag small))
-
--- what covers the byte in the union is in the members ahead
-abbrev pub Among : Known → Sought → ℕ → ℕ → List Member → Type 0
-Among m s tag o ms = some_over (env m) (passes m s) o (union_parts (env m) (named m tag)) ≡ some_over (env m) (passes m s) o (union_parts (env m) (named_in (trees m) ms))
-
-module _ (m : Known) (s : Sought) (tag o i : ℕ) (items : List Member) (d : Member) (lt : i < length items) (h : Among m s tag o (drop i items)) where
-  abbrev member_has : Bool
-  member_has = some_over (env m) (passes m s) o (layout_in (env m) (tree m (get_or items i d).t.0)).parts
-
-  abbrev others_have : Bool
-  others_have = some_over (env m) (passes m s) o (union_parts (env m) (named_in (trees m) (drop (suc i) items)))
-
-  split : some_over (env m) (passes m s) o (union_parts (env m) (named m tag)) ≡ (member_has || others_have)
-  split =
-      let front : Among m s tag o (get_or items i d ∷ drop (suc i) items) = subst (λ (ms : List Member). Among m s tag o ms) (drop-cons items i d lt) h in
-      front ∙ some_over-append (env m) (passes m s) o (layout_in (env m) (tree m (get_or items i d).t.0)).parts _
-
-  pub among_hit : member_has ≡ true → true ≡ some_over (env m) (passes m s) o (union_parts (env m) (named m tag))
-  among_hit e = sym (split ∙ ap (λ b. b || others_have) e)
-
-  pub among_miss : member_has ≡ false → Among m s tag o (drop (i + 1) items)
-  among_miss e = rw add-one (split ∙ ap (λ b. b || others_have) e)
-
--- no member is left
-pub among_none : (m : Known) (s : Sought) (tag o i : ℕ) (items : List Member) → length items ≤ i → Among m s tag o (drop i items)
-    → false ≡ some_over (env m) (passes m s) o (union_parts (env m) (named m tag))
-among_none m s tag o i items ge h =
-    let empty : Among m s tag o [] = subst (λ (ms : List Member). Among m s tag o ms) (drop_of_length-le items ge) h in
-    sym empty
+pub joins_over : (env : List Entry) (f : ℕ → Ty → Bool) (o : ℕ) → Joins (some_over env f o)
+joins_over env f o = record { none = refl; both = λ xs ys. some_over-append env f o xs ys }

@@ -1,5 +1,5 @@
 // The scalars of a type that one byte lies in.
-ghost use Rattle.std.specs.Prelude.{◌≡◌, ◌<◌, ◌≤◌, ◌^◌, ◌+◌, ◌&&◌, nat_lt, ℕ, Bool, length, IsTrue, is_some, false, true};
+ghost use Rattle.std.specs.Prelude.{◌≡◌, ◌<◌, ◌≤◌, ◌^◌, ◌+◌, ◌&&◌, ◌||◌, nat_lt, ℕ, Bool, length, IsTrue, is_some, false, true};
 ghost use Rattle.pv_types.specs.Ty.{Ty};
 ghost use Rattle.pv_types.specs.Known.{tree, env, named, is_union_in, IsBuilt};
 ghost use Rattle.pv_types.specs.Layouts.{layout_in, is_complete_in, look, or_none, repeated, struct_parts, union_parts};
@@ -8,7 +8,7 @@ ghost use Rattle.pv_effect.specs.EffectiveType.{some_over, accepts};
 ghost use Rattle.pv_effect.specs.Searches.{is_sought, passes, comes_to, IsBelow};
 
 use crate::kinds::{is_character, same_or_counterpart};
-use pv_layout::{align, size};
+use pv_layout::{last_deep, size};
 use pv_types::{Term, TypeId, Types};
 
 /// Which scalar a byte has to lie in.
@@ -71,7 +71,7 @@ fn below(types: &Types, t: TypeId, offset: u64, sought: Sought) -> Search
         Term::Array(element, Some(n)) => in_array(types, element, n, offset),
         Term::Const(inner) => Search::In { t: inner, offset },
         Term::Struct(tag) => in_structure(types, tag, offset),
-        Term::Union(tag) => Search::Settled(in_union(types, tag, offset, sought)),
+        Term::Union(tag) => in_union(types, tag, offset, sought),
         Term::Int(_) | Term::Pointer(_) => Search::Settled(in_scalar(types, t, offset, sought)),
         Term::Void | Term::Array(_, None) | Term::Function { .. } => Search::Settled(false),
     }
@@ -137,35 +137,48 @@ fn in_structure(types: &Types, tag: u32, offset: u64) -> Search
     ensures value { (f : ℕ → Ty → Bool) → comes_to f types.now result ≡ some_over (env types.now) f offset (struct_parts (env types.now) (named types.now tag) 0) }
     ensures below { IsBelow types.now (or_none (look (env types.now) tag)).height result }
 {
-    let mut end: u64 = 0;
-    for m in types.members(tag) {
-        let start = end.next_multiple_of(align(types, m.t));
-        if offset < start {
-            return Search::Settled(false);
-        }
-        end = start + size(types, m.t);
-        if offset < end {
-            return Search::In {
-                t: m.t,
-                offset: offset - start,
-            };
-        }
+    match types.member_over(tag, offset) {
+        Some((start, t)) => Search::In {
+            t,
+            offset: offset - start,
+        },
+        None => Search::Settled(false),
     }
-    Search::Settled(false)
 }
 
-/// Whether a member has it: all begin where the union does (C17 6.7.2.1p16).
+/// One of the members, where no member of another type has it: all begin where the union does (C17 6.7.2.1p16).
 #[cycle(found)]
-fn in_union(types: &Types, tag: u32, offset: u64, sought: Sought) -> bool
+fn in_union(types: &Types, tag: u32, offset: u64, sought: Sought) -> Search
     requires made { tag < length types.now.tags }
     requires complete { IsTrue (is_some (look (env types.now) tag)) }
     requires union { is_union_in types.now.done tag ≡ true }
     requires small { (or_none (look (env types.now) tag)).size ≤ 2 ^ 32 }
-    ensures { result ≡ some_over (env types.now) (passes types.now sought) offset (union_parts (env types.now) (named types.now tag)) }
+    ensures value { comes_to (passes types.now sought) types.now result ≡ some_over (env types.now) (passes types.now sought) offset (union_parts (env types.now) (named types.now tag)) }
+    ensures below { IsBelow types.now (or_none (look (env types.now) tag)).height result }
+{
+    let members = types.members(tag);
+    let main = members[last_deep(types, members)].t;
+    if found_in_others(types, tag, main, offset, sought) {
+        Search::Settled(true)
+    } else {
+        Search::In { t: main, offset }
+    }
+}
+
+/// Whether a member of another type than the one left out has it.
+#[cycle(found)]
+fn found_in_others(types: &Types, tag: u32, main: TypeId, offset: u64, sought: Sought) -> bool
+    requires made { tag < length types.now.tags }
+    requires complete { IsTrue (is_some (look (env types.now) tag)) }
+    requires union { is_union_in types.now.done tag ≡ true }
+    requires small { (or_none (look (env types.now) tag)).size ≤ 2 ^ 32 }
+    ensures { (result || some_over (env types.now) (passes types.now sought) offset (layout_in (env types.now) (tree types.now main.0)).parts) ≡ (some_over (env types.now) (passes types.now sought) offset (union_parts (env types.now) (named types.now tag)) || some_over (env types.now) (passes types.now sought) offset (layout_in (env types.now) (tree types.now main.0)).parts) }
 {
     for m in types.members(tag) {
-        if found(types, m.t, offset, sought) {
-            return true;
+        if m.t.0 != main.0 {
+            if found(types, m.t, offset, sought) {
+                return true;
+            }
         }
     }
     false

@@ -1,5 +1,5 @@
 -- Where the members of structures and unions stand.
-use Rattle.std.specs.Prelude.{ℕ, ◌+◌, ◌==◌, if◌then◌else◌, Some, None, List, [], ◌∷◌}
+use Rattle.std.specs.Prelude.{ℕ, ◌+◌, ◌==◌, if◌then◌else◌, Some, None, List, [], ◌∷◌, slice_index_or}
 use Rattle.std.specs.declared.option.Option.{Option}
 use Rattle.std.specs.Int.{next_multiple_of}
 use Rattle.pv_types.specs.declared.terms.Member.{Member}
@@ -42,3 +42,7 @@ place_of name (p ∷ ps) = if p.name == name then Some (p.offset, p.t) else plac
 abbrev pub bare : Ty → Ty
 bare (ConstOf t) = bare t
 bare t = t
+
+-- the member at a place of a list
+abbrev pub member_at : List Member → ℕ → Member
+member_at ms i = slice_index_or ms i (record { name = 0; t = record { 0 = 0 } })

@@ -8,6 +8,6 @@ mod members;
 mod sizes;
 mod wanted;
 
-pub use leaves::{leaf_at, part_at};
+pub use leaves::{last_deep, leaf_at, part_at};
 pub use members::member;
 pub use sizes::{align, measure, size};

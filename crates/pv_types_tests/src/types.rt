@@ -1,6 +1,10 @@
 // Each public call once, with values that follow from the rules of C17 6.2.5.
+ghost use Rattle.std.specs.Prelude.{◌<◌, length};
+
+use pv_layout::{leaf_at, measure};
 use pv_num::IntKind;
 use pv_types::{Extent, Member, NoMemory, Term, TypeId, Types};
+use std::process::Abort;
 use std::test::Fail;
 
 #[test]
@@ -70,5 +74,41 @@ fn what_is_incomplete(rt: HostRuntime) -> Result<(), Fail> {
     assert!(rt; !types.is_complete(array));
     assert!(rt; !types.is_complete(void));
     assert!(rt; !types.is_complete(open));
+    Ok(())
+}
+
+/// Looks for the members of `struct { char a; int b; char c; }` in each of its bytes.
+fn check_members(rt: &impl Abort, types: &Types, whole: TypeId, int: TypeId, char: TypeId)
+    requires whole { whole.0 < length types.now.terms }
+    requires int { int.0 < length types.now.terms }
+    requires char { char.0 < length types.now.terms }
+{
+    assert!(rt; types.is_complete(whole) && measure(types, whole).is_some());
+    for offset in 0..14_u64 {
+        assert_eq!(rt; leaf_at(types, whole, offset, int), offset == 4, "{offset}");
+        assert_eq!(rt;
+            leaf_at(types, whole, offset, char),
+            offset == 0 || offset == 8,
+            "{offset}"
+        );
+    }
+}
+
+#[test]
+fn members_are_found_before_their_places_are_kept(rt: HostRuntime) -> Result<(), Fail> {
+    let mut types = Types::new(rt.alloc())?;
+    let int = types.intern(Term::Int(IntKind::Int))?;
+    let char = types.intern(Term::Int(IntKind::Char))?;
+    let tag = types.tag(None, false)?;
+    let whole = types.intern(Term::Struct(tag))?;
+    let a = Member { name: 0, t: char };
+    let b = Member { name: 1, t: int };
+    let c = Member { name: 2, t: char };
+    assert!(rt; types.is_complete(int) && types.is_complete(char));
+    types.complete(tag, vec![in rt.alloc(); a, b, c]?);
+    check_members(&rt, &types, whole, int, char);
+    let pointer = types.intern(Term::Pointer(whole))?;
+    assert!(rt; types.is_complete(pointer));
+    check_members(&rt, &types, whole, int, char);
     Ok(())
 }

@@ -1,13 +1,16 @@
-use Rattle.std.proofs.Common.{◌≡◌, ◌<◌, ◌≤◌, ◌^◌, ◌*◌, ◌∙◌, IsTrue, is_some, length, sym, ap, arith}
+use Rattle.std.proofs.Common.{◌≡◌, ◌<◌, ◌≤◌, ◌^◌, ◌*◌, ◌∙◌, IsTrue, is_some, ◌||◌, true, false, refl, get_or, length, sym, ap, arith}
 use Rattle.pv_types.specs.Known.{tree, env}
 use Rattle.pv_types.specs.Layouts.{layout_in, look, or_none}
-use Rattle.pv_types.proofs.Made.{flag}
+use Rattle.pv_types.proofs.Made.{flag, made}
 use Rattle.pv_types.proofs.Peeling.{whole_array}
 use Rattle.pv_layout.proofs.Ahead.{nobody}
 use Rattle.pv_layout.proofs.Below.{one_of}
+use Rattle.pv_layout.proofs.Unions.{around_start, around_hit, around_miss, around_same, inside_at, union_found}
+use Rattle.pv_effect.specs.EffectiveType.{some_over}
 use Rattle.pv_effect.specs.Searches.{passes}
-use Rattle.pv_effect.proofs.Descents.{struct_whole, union_whole, const_whole, member_inside, among_hit, among_miss}
+use Rattle.pv_effect.proofs.Descents.{joins_over, struct_whole, union_whole, const_whole}
 use Rattle.pv_effect.proofs.bytes.+found.Goals as goal
+use Rattle.pv_effect.proofs.bytes.+found.Goals.{found_in_others-then-m-main+else-found, found_in_others-else-m-main}
 
 pub below-in_array-requires-clause-small : goal.below-in_array-requires-clause-small
 below-in_array-requires-clause-small t c =
@@ -48,21 +51,46 @@ below-returns-in-Union-clause-value t c =
     let m = c.args.types.now in
     let there : IsTrue (is_some (look (env m) c.in-Union.tag)) = rw c.in-Union.ensures.tree at c.requires.complete in
     let union = flag m c.in-Union.tag c.in-Union.ensures.built there ∙ c.in-Union.ensures.tagged.1 in
-    union_whole m c.args.t.0 c.in-Union.tag c.args.offset c.args.sought _ c.in-Union.ensures.built there union c.in-Union.ensures.tree c.in_union.ensures
+    union_whole m c.args.t.0 c.in-Union.tag c.args.offset c.args.sought _ c.in-Union.ensures.built there union c.in-Union.ensures.tree c.in_union.ensures.value
 
-pub in_union-found-requires : goal.in_union-found-requires
-in_union-found-requires t c =
-    let lt : c.loop-m.m-index < length c.members-m-items.result.now = omega arith in
-    let n = member_inside c.args.types.now c.args.tag c.loop-m.m-index c.members-m-items.result.now nobody c.members-m-items.ensures.built c.requires.complete c.requires.union c.requires.small c.members-m-items.ensures.value lt in
-    let lower = n.lower in
-    (omega (arith, lower), (n.known, (n.complete, n.small)))
+pub found_in_others-loop-m-init : goal.found_in_others-loop-m-init
+found_in_others-loop-m-init t c = rw c.members-m-items.ensures.value (around_start c.args.types.now (some_over (env c.args.types.now) (passes c.args.types.now c.args.sought) c.args.offset) c.args.tag c.args.main.0 c.members-m-items.ensures.built c.requires.complete c.requires.union c.requires.small)
 
-pub in_union-returns-then-found : goal.in_union-returns-then-found
-in_union-returns-then-found t c =
+pub found_in_others-returns-then-found : goal.found_in_others-returns-then-found
+found_in_others-returns-then-found t c =
     let lt : c.loop-m.m-index < length c.members-m-items.result.now = omega arith in
-    among_hit c.args.types.now c.args.sought c.args.tag c.args.offset c.loop-m.m-index c.members-m-items.result.now nobody lt c.loop-m.invariant (sym c.found.ensures ∙ c.if-found.true)
+    around_hit c.args.types.now (some_over (env c.args.types.now) (passes c.args.types.now c.args.sought) c.args.offset) (joins_over (env c.args.types.now) (passes c.args.types.now c.args.sought) c.args.offset) c.args.tag c.args.main.0 c.loop-m.m-index c.members-m-items.result.now nobody lt c.loop-m.invariant (sym c.found.ensures ∙ c.if-found.true)
 
-pub in_union-loop-m-preserved : goal.in_union-loop-m-preserved
-in_union-loop-m-preserved t c =
+pub found_in_others-loop-m-preserved : goal.found_in_others-loop-m-preserved
+found_in_others-loop-m-preserved t c =
     let lt : c.loop-m.m-index < length c.members-m-items.result.now = omega arith in
-    among_miss c.args.types.now c.args.sought c.args.tag c.args.offset c.loop-m.m-index c.members-m-items.result.now nobody lt c.loop-m.invariant (sym c.found.ensures ∙ c.if-found.false)
+    elim c.if-m-main.branch [
+      | found_in_others-then-m-main+else-found w ↦ around_miss c.args.types.now (some_over (env c.args.types.now) (passes c.args.types.now c.args.sought) c.args.offset) (joins_over (env c.args.types.now) (passes c.args.types.now c.args.sought) c.args.offset) c.args.tag c.args.main.0 c.loop-m.m-index c.members-m-items.result.now nobody lt c.loop-m.invariant (sym w.found.ensures ∙ w.if-found.false)
+      | found_in_others-else-m-main w ↦ around_same c.args.types.now (some_over (env c.args.types.now) (passes c.args.types.now c.args.sought) c.args.offset) (joins_over (env c.args.types.now) (passes c.args.types.now c.args.sought) c.args.offset) c.args.tag c.args.main.0 c.loop-m.m-index c.members-m-items.result.now nobody lt c.loop-m.invariant w.if-m-main.false
+    ]
+
+pub in_union-last_deep-requires-clause-known : goal.in_union-last_deep-requires-clause-known
+in_union-last_deep-requires-clause-known t c = rw c.members-members.ensures.value (made c.args.types.now c.args.tag c.members-members.ensures.built c.requires.complete).known
+
+pub in_union-returns-then-found_in_others-clause-value : goal.in_union-returns-then-found_in_others-clause-value
+in_union-returns-then-found_in_others-clause-value t c =
+    let m = c.args.types.now in
+    let has = some_over (env m) (passes m c.args.sought) c.args.offset in
+    let main = (get_or c.members-members.result.now c.last_deep.result nobody).t.0 in
+    union_found m (some_over (env c.args.types.now) (passes c.args.types.now c.args.sought) c.args.offset) (joins_over (env c.args.types.now) (passes c.args.types.now c.args.sought) c.args.offset) c.args.tag c.last_deep.result c.members-members.result.now nobody main true c.last_deep.ensures.in_range c.members-members.ensures.value refl
+    (ap (λ b. b || has (layout_in (env m) (tree m main)).parts) (sym c.if-found_in_others.true) ∙ c.found_in_others.ensures)
+
+pub in_union-returns-else-found_in_others-clause-value : goal.in_union-returns-else-found_in_others-clause-value
+in_union-returns-else-found_in_others-clause-value t c =
+    let m = c.args.types.now in
+    let has = some_over (env m) (passes m c.args.sought) c.args.offset in
+    let main = (get_or c.members-members.result.now c.last_deep.result nobody).t.0 in
+    union_found m (some_over (env c.args.types.now) (passes c.args.types.now c.args.sought) c.args.offset) (joins_over (env c.args.types.now) (passes c.args.types.now c.args.sought) c.args.offset) c.args.tag c.last_deep.result c.members-members.result.now nobody main false c.last_deep.ensures.in_range c.members-members.ensures.value refl
+    (ap (λ b. b || has (layout_in (env m) (tree m main)).parts) (sym c.if-found_in_others.false) ∙ c.found_in_others.ensures)
+
+pub in_union-returns-else-found_in_others-clause-below : goal.in_union-returns-else-found_in_others-clause-below
+in_union-returns-else-found_in_others-clause-below t c =
+    let m = c.args.types.now in
+    let all = around_start m (some_over (env c.args.types.now) (passes c.args.types.now c.args.sought) c.args.offset) c.args.tag 0 c.members-members.ensures.built c.requires.complete c.requires.union c.requires.small in
+    let n = inside_at m (some_over (env c.args.types.now) (passes c.args.types.now c.args.sought) c.args.offset) c.args.tag 0 c.last_deep.result c.members-members.result.now nobody c.last_deep.ensures.in_range (rw c.members-members.ensures.value all) in
+    (n.known, n.complete, n.small, n.lower)

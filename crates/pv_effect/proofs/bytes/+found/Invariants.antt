@@ -1,17 +1,23 @@
 use Rattle.std.proofs.Common.{◌+◌, ◌*◌, drop}
 use Rattle.pv_types.specs.Known.{tree, env}
 use Rattle.pv_types.specs.Layouts.{layout_in, look, or_none}
-use Rattle.pv_effect.proofs.Descents.{Descent, Among}
+use Rattle.pv_layout.proofs.Unions.{Around}
+use Rattle.pv_effect.specs.EffectiveType.{some_over}
+use Rattle.pv_effect.specs.Searches.{passes}
+use Rattle.pv_effect.proofs.Descents.{Descent}
 use Rattle.pv_effect.proofs.bytes.+found.Given as goal
 
 abbrev pub decreases-found : goal.decreases-found
-decreases-found l = (layout_in (env l.types.now) (tree l.types.now l.t.0)).height * 3 + 2
+decreases-found l = (layout_in (env l.types.now) (tree l.types.now l.t.0)).height * 4 + 3
 
 abbrev pub decreases-below : goal.decreases-below
-decreases-below l = (layout_in (env l.types.now) (tree l.types.now l.t.0)).height * 3 + 1
+decreases-below l = (layout_in (env l.types.now) (tree l.types.now l.t.0)).height * 4 + 2
 
 abbrev pub decreases-in_union : goal.decreases-in_union
-decreases-in_union l = (or_none (look (env l.types.now) l.tag)).height * 3
+decreases-in_union l = (or_none (look (env l.types.now) l.tag)).height * 4 + 1
+
+abbrev pub decreases-found_in_others : goal.decreases-found_in_others
+decreases-found_in_others l = (or_none (look (env l.types.now) l.tag)).height * 4
 
 abbrev pub invariant-found-loop-answer : goal.invariant-found-loop-answer
 invariant-found-loop-answer l = Descent l.types l.sought l.fn.t.0 l.fn.offset l.at.0 l.rest
@@ -19,5 +25,5 @@ invariant-found-loop-answer l = Descent l.types l.sought l.fn.t.0 l.fn.offset l.
 abbrev pub decreases-found-loop-answer : goal.decreases-found-loop-answer
 decreases-found-loop-answer l = (layout_in (env l.types) (tree l.types l.at.0)).height
 
-abbrev pub invariant-in_union-loop-m : goal.invariant-in_union-loop-m
-invariant-in_union-loop-m l = Among l.types l.sought l.tag l.offset (drop l.m-index l.m-items)
+abbrev pub invariant-found_in_others-loop-m : goal.invariant-found_in_others-loop-m
+invariant-found_in_others-loop-m l = Around l.types (some_over (env l.types) (passes l.types l.sought) l.offset) l.tag l.main.0 (drop l.m-index l.m-items)

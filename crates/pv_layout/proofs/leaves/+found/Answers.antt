@@ -6,7 +6,8 @@ use Rattle.pv_types.proofs.Peeling.{whole_array}
 use Rattle.pv_layout.specs.Parts.{some_at}
 use Rattle.pv_layout.specs.Searches.{passes}
 use Rattle.pv_layout.proofs.Ahead.{nobody}
-use Rattle.pv_layout.proofs.Below.{one_of, struct_whole, union_whole, around_start, around_hit, around_miss, around_same, inside_at, union_found}
+use Rattle.pv_layout.proofs.Below.{joins_at, one_of, struct_whole, union_whole}
+use Rattle.pv_layout.proofs.Unions.{around_start, around_hit, around_miss, around_same, inside_at, union_found}
 use Rattle.pv_layout.proofs.leaves.+found.Goals as goal
 use Rattle.pv_layout.proofs.leaves.+found.Goals.{found_in_others-then-m-main+else-found, found_in_others-else-m-main}
 
@@ -51,19 +52,19 @@ below-returns-in-Union-clause-value t c =
     union_whole m c.args.t.0 c.in-Union.tag c.args.offset f _ c.in-Union.ensures.built there union c.in-Union.ensures.tree c.in_union.ensures.value
 
 pub found_in_others-loop-m-init : goal.found_in_others-loop-m-init
-found_in_others-loop-m-init t c = rw c.members-m-items.ensures.value (around_start c.args.types.now (passes c.args.types.now c.args.sought) c.args.tag c.args.main.0 c.args.offset c.members-m-items.ensures.built c.requires.complete c.requires.union c.requires.small)
+found_in_others-loop-m-init t c = rw c.members-m-items.ensures.value (around_start c.args.types.now (some_at (passes c.args.types.now c.args.sought) c.args.offset) c.args.tag c.args.main.0 c.members-m-items.ensures.built c.requires.complete c.requires.union c.requires.small)
 
 pub found_in_others-returns-then-found : goal.found_in_others-returns-then-found
 found_in_others-returns-then-found t c =
     let lt : c.loop-m.m-index < length c.members-m-items.result.now = omega arith in
-    around_hit c.args.types.now (passes c.args.types.now c.args.sought) c.args.tag c.args.main.0 c.args.offset c.loop-m.m-index c.members-m-items.result.now nobody lt c.loop-m.invariant (sym c.found.ensures ∙ c.if-found.true)
+    around_hit c.args.types.now (some_at (passes c.args.types.now c.args.sought) c.args.offset) (joins_at (passes c.args.types.now c.args.sought) c.args.offset) c.args.tag c.args.main.0 c.loop-m.m-index c.members-m-items.result.now nobody lt c.loop-m.invariant (sym c.found.ensures ∙ c.if-found.true)
 
 pub found_in_others-loop-m-preserved : goal.found_in_others-loop-m-preserved
 found_in_others-loop-m-preserved t c =
     let lt : c.loop-m.m-index < length c.members-m-items.result.now = omega arith in
     elim c.if-m-main.branch [
-      | found_in_others-then-m-main+else-found w ↦ around_miss c.args.types.now (passes c.args.types.now c.args.sought) c.args.tag c.args.main.0 c.args.offset c.loop-m.m-index c.members-m-items.result.now nobody lt c.loop-m.invariant (sym w.found.ensures ∙ w.if-found.false)
-      | found_in_others-else-m-main w ↦ around_same c.args.types.now (passes c.args.types.now c.args.sought) c.args.tag c.args.main.0 c.args.offset c.loop-m.m-index c.members-m-items.result.now nobody lt c.loop-m.invariant w.if-m-main.false
+      | found_in_others-then-m-main+else-found w ↦ around_miss c.args.types.now (some_at (passes c.args.types.now c.args.sought) c.args.offset) (joins_at (passes c.args.types.now c.args.sought) c.args.offset) c.args.tag c.args.main.0 c.loop-m.m-index c.members-m-items.result.now nobody lt c.loop-m.invariant (sym w.found.ensures ∙ w.if-found.false)
+      | found_in_others-else-m-main w ↦ around_same c.args.types.now (some_at (passes c.args.types.now c.args.sought) c.args.offset) (joins_at (passes c.args.types.now c.args.sought) c.args.offset) c.args.tag c.args.main.0 c.loop-m.m-index c.members-m-items.result.now nobody lt c.loop-m.invariant w.if-m-main.false
     ]
 
 pub in_union-last_deep-requires-clause-known : goal.in_union-last_deep-requires-clause-known
@@ -74,7 +75,7 @@ in_union-returns-then-found_in_others-clause-value t c =
     let m = c.args.types.now in
     let f = passes m c.args.sought in
     let main = (get_or c.members-members.result.now c.last_deep.result nobody).t.0 in
-    union_found m f c.args.tag c.args.offset c.last_deep.result c.members-members.result.now nobody main true c.last_deep.ensures c.members-members.ensures.value refl
+    union_found m (some_at f c.args.offset) (joins_at f c.args.offset) c.args.tag c.last_deep.result c.members-members.result.now nobody main true c.last_deep.ensures.in_range c.members-members.ensures.value refl
     (ap (λ b. b || some_at f c.args.offset (layout_in (env m) (tree m main)).parts) (sym c.if-found_in_others.true) ∙ c.found_in_others.ensures)
 
 pub in_union-returns-else-found_in_others-clause-value : goal.in_union-returns-else-found_in_others-clause-value
@@ -82,12 +83,12 @@ in_union-returns-else-found_in_others-clause-value t c =
     let m = c.args.types.now in
     let f = passes m c.args.sought in
     let main = (get_or c.members-members.result.now c.last_deep.result nobody).t.0 in
-    union_found m f c.args.tag c.args.offset c.last_deep.result c.members-members.result.now nobody main false c.last_deep.ensures c.members-members.ensures.value refl
+    union_found m (some_at f c.args.offset) (joins_at f c.args.offset) c.args.tag c.last_deep.result c.members-members.result.now nobody main false c.last_deep.ensures.in_range c.members-members.ensures.value refl
     (ap (λ b. b || some_at f c.args.offset (layout_in (env m) (tree m main)).parts) (sym c.if-found_in_others.false) ∙ c.found_in_others.ensures)
 
 pub in_union-returns-else-found_in_others-clause-below : goal.in_union-returns-else-found_in_others-clause-below
 in_union-returns-else-found_in_others-clause-below t c =
     let m = c.args.types.now in
-    let all = around_start m (passes m c.args.sought) c.args.tag 0 c.args.offset c.members-members.ensures.built c.requires.complete c.requires.union c.requires.small in
-    let n = inside_at m (passes m c.args.sought) c.args.tag 0 c.args.offset c.last_deep.result c.members-members.result.now nobody c.last_deep.ensures (rw c.members-members.ensures.value all) in
+    let all = around_start m (some_at (passes m c.args.sought) c.args.offset) c.args.tag 0 c.members-members.ensures.built c.requires.complete c.requires.union c.requires.small in
+    let n = inside_at m (some_at (passes m c.args.sought) c.args.offset) c.args.tag 0 c.last_deep.result c.members-members.result.now nobody c.last_deep.ensures.in_range (rw c.members-members.ensures.value all) in
     (n.known, n.complete, n.small, n.lower)

@@ -6,6 +6,7 @@ use Rattle.pv_types.specs.Known.{Known, AllBelow, IsNoList, tree, env}
 use Rattle.pv_types.specs.Shown.{shown}
 use Rattle.pv_types.proofs.Built.{built_list, env-list}
 use Rattle.pv_types.proofs.Equal.{items_of}
+use Rattle.pv_types.proofs.Indexed.{indexed_list}
 use Rattle.pv_types.proofs.Grown.{tree-list}
 use Rattle.pv_types.proofs.types.Types.params.Goals as goal
 
@@ -19,7 +20,7 @@ invariant_of-self-2 c =
     let few : length (map items_of c.self.inside.lists.keys) < 2 ^ 32 - 1 = omega (arith, length-map c.self.inside.lists.keys items_of) in
     let same = env-list m c.args.list.items c.self.invariant.0 in
     let measured : AreMeasured (env (record m { lists = m.lists ++ (c.args.list.items ∷ []) })) (map kept_of c.self.inside.tags.items) = rw same c.self.invariant.2 in
-    (rw c.in_ok-add_list.ensures.keys (built_list m c.args.list.items c.self.invariant.0 all absent few), c.self.invariant.1, rw c.in_ok-add_list.ensures.keys measured)
+    (rw c.in_ok-add_list.ensures.keys (built_list m c.args.list.items c.self.invariant.0 all absent few), c.self.invariant.1, rw c.in_ok-add_list.ensures.keys measured, rw c.in_ok-add_list.ensures.keys (indexed_list m c.args.list.items _ c.self.invariant.0 c.self.invariant.3))
 
 pub returns-clause-extends : goal.returns-clause-extends
 returns-clause-extends c =

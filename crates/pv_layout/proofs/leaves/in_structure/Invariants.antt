@@ -1,6 +1,0 @@
-use Rattle.std.proofs.Common.{drop}
-use Rattle.pv_layout.proofs.Below.{Held}
-use Rattle.pv_layout.proofs.leaves.in_structure.Given as goal
-
-abbrev pub invariant-loop-m : goal.invariant-loop-m
-invariant-loop-m l = Held l.types l.tag l.end l.offset (drop l.m-index l.m-items)
