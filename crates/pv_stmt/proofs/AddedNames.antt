@@ -1,11 +1,11 @@
 -- The typedef names that an external declaration adds, node by node (6.7.8p3).
-use Rattle.std.proofs.Common.{◌≡◌, ◌<◌, ◌≤◌, ◌+◌, ◌||◌, ◌&&◌, ◌==◌, ℕ, Bool, true, false, cond, List, [], ◌∷◌, length, drop, get_or, Option, Some, None, refl, sym, ap, ◌∙◌}
+use Rattle.std.proofs.Common.{◌≡◌, ◌<◌, ◌≤◌, ◌+◌, ◌||◌, ℕ, Bool, true, false, List, [], ◌∷◌, length, drop, get_or, refl, sym, ap, ◌∙◌}
 use Rattle.std.specs.List.{fold}
 use Rattle.std.proofs.lemmas.List.{drop_more, drop_all}
 use Rattle.pv_tree.specs.declared.nodes.NodeId.{NodeId}
 use Rattle.pv_tree.specs.Syntax.{InitDeclarator, Tree, OfDeclaration, Trees, NoTrees, Then}
 use Rattle.pv_tree.specs.Tables.{Forest, tree_at, trees_of}
-use Rattle.pv_tree.specs.Units.{declares, is_typedef, has_typedef, any_declares}
+use Rattle.pv_tree.specs.Units.{is_typedef, has_typedef, any_declares}
 use Rattle.pv_stmt.specs.Names.{declares_one}
 
 or_assoc : (a b c : Bool) → ((a || b) || c) ≡ (a || (b || c))

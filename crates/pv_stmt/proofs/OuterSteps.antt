@@ -1,6 +1,6 @@
 -- External declarations: what the code reads is what reading on lists gives (6.9).
-use Rattle.std.proofs.Common.{◌≡◌, ◌≤◌, ◌<◌, ◌+◌, ℕ, suc, Bool, true, false, List, [], ◌∷◌, ◌++◌, All, length, drop, map, get_or, Option, Some, None, option_map, option_and_then, Result, refl, sym, ap, subst, ◌∙◌, arith, nat_eq}
-use Rattle.std.specs.Prelude.{IfOk, IfSome}
+use Rattle.std.proofs.Common.{◌≡◌, ◌≤◌, ◌<◌, ◌+◌, ℕ, suc, Bool, true, false, List, [], ◌∷◌, ◌++◌, All, length, drop, map, get_or, Option, Some, None, option_and_then, refl, sym, ap, subst, ◌∙◌, arith, nat_eq}
+use Rattle.std.specs.Prelude.{IfSome}
 use Rattle.std.proofs.lemmas.List.{length-drop, length-map, append_assoc, append-nil, map-append, drop_all, drop_more}
 use Rattle.std.proofs.lemmas.List.Elements.{All-push}
 use Rattle.indexmap.specs.IndexSet.{IndexSet, contains}
@@ -9,16 +9,16 @@ use Rattle.pv_tree.specs.declared.nodes.NodeId.{NodeId}
 use Rattle.pv_tree.specs.declared.nodes.ListId.{ListId}
 use Rattle.pv_tree.specs.declared.nodes.Decl.{Decl}
 use Rattle.pv_tree.specs.declared.nodes.Decl.TheVariants as decl
-use Rattle.pv_tree.specs.Syntax.{DeclarationTree, Function, Declaration, Parameter, DeclaratorTree, Tree, OfDeclaration, OfDeclarator, OfStatement, Trees, Present}
-use Rattle.pv_tree.specs.Tables.{Forest, Tables, no_tables, with_tree, with_external, as_declaration, as_declarator, as_statement, tree_at, trees_of, trees_at, declaration_at, declarator_at, statement_at, is_declaration, is_declarator, is_specifier, is_statement, is_external, Has, HasOptional, HasList, Is, Extends}
+use Rattle.pv_tree.specs.Syntax.{DeclarationTree, Function, Declaration, Parameter, DeclaratorTree, Tree, OfDeclaration, OfDeclarator, Trees, Present}
+use Rattle.pv_tree.specs.Tables.{Forest, Tables, with_tree, with_external, as_declaration, as_declarator, tree_at, trees_of, trees_at, declaration_at, declarator_at, statement_at, is_declaration, is_declarator, is_specifier, is_statement, is_external, Has, HasOptional, HasList, Is, Extends}
 use Rattle.pv_tree.specs.Nodes.{declaration_of}
 use Rattle.pv_tree.specs.Grammar.{Names}
 use Rattle.pv_tree.specs.TypeNames.{TypeMap, names_of, type_seen, AreTied}
 use Rattle.pv_tree.specs.Units.{depth_limit, no_types, with_types, SpellUnit, IsWhole}
-use Rattle.pv_tree.proofs.Kept.{tree_kept, list_kept, is_kept, is_new, tree_new, has_list_kept, extends_then, extends_tree}
+use Rattle.pv_tree.proofs.Kept.{tree_kept, list_kept, is_kept}
 use Rattle.pv_expr.specs.Known.{names_in}
 use Rattle.pv_expr.proofs.Naming.{names_kept}
-use Rattle.pv_decl.specs.Answers.{seen, IsThere, Answers}
+use Rattle.pv_decl.specs.Answers.{IsThere, Answers}
 use Rattle.pv_decl.specs.Pieces.{Piece}
 use Rattle.pv_decl.specs.Reader.{declaration}
 use Rattle.pv_decl.specs.TypeNames.{AreTypeNames}
@@ -35,13 +35,6 @@ use Rattle.pv_stmt.proofs.OuterParts.{found_by_part, none_by_all, external_less,
 pub declarator_is : (t : Tree) → is_declarator t ≡ true → t ≡ OfDeclarator (as_declarator t)
 declarator_is (OfDeclarator d) e = refl
 declarator_is _ e = absurd cc
-
--- more nodes
-pub has_more : (f : Forest) (a b : ℕ) (kind : Tree → Bool) (n : NodeId) → a ≤ b → Has f a kind n → Has f b kind n
-has_more f a b kind n le h = (omega (arith, h.0, le), h.1)
-
-pub has_list_more : (f : Forest) (a b : ℕ) (kind : Tree → Bool) (l : ListId) → a ≤ b → HasList f a kind l → HasList f b kind l
-has_list_more f a b kind l le h = (h.0, λ k d lt. has_more f a b kind _ le (h.1 k d lt))
 
 pub list_trees_kept : (u v : Tables) (kind : Tree → Bool) (l : ListId) → Extends u v → HasList u.forest (length u.forest.trees) kind l → trees_at v.forest l ≡ trees_at u.forest l
 list_trees_kept u v kind l e h = ap (trees_of v.forest) (list_kept u v l e h.0) ∙ trees_kept kind u v e _ h.1
@@ -147,9 +140,6 @@ module _ {S : Type 0} (typedefs : IndexSet ℕ S) (types : TypeMap) (u v : Table
 module _ (u v w : Tables) (tokens : List Token) (line : ℕ) (specs : ListId) (declarator block function : NodeId) (end : ℕ) (keeps : Extends u v)
     (has_specs : HasList u.forest (length u.forest.trees) is_specifier specs) (has_declarator : Is u is_declarator declarator)
     (answer : Option (NodeId × ℕ)) (reading : Piece) (a : Answers v is_statement tokens answer reading) (is : answer ≡ Some (block, end)) where
-  pub function_children : HasList v.forest (length v.forest.trees) is_specifier specs × Has v.forest (length v.forest.trees) is_declarator declarator × Has v.forest (length v.forest.trees) is_statement block
-  function_children = (has_list_kept u v is_specifier specs keeps has_specs, is_kept u v is_declarator declarator keeps has_declarator, (got v is_statement tokens answer reading block end a is).1)
-
   pub function_made : w ≡ with_tree v (OfDeclaration (declaration_of v.forest line (decl.Function specs declarator block))) → function.0 ≡ length v.forest.trees
       → Answers w is_external tokens (Some (function, end)) (function_with line (trees_at u.forest specs) (declarator_at u.forest declarator) reading)
   function_made made at =
@@ -165,12 +155,6 @@ module _ (u v w : Tables) (tokens : List Token) (line : ℕ) (specs : ListId) (d
             ∙ ap (function_with line (trees_at u.forest specs) (declarator_at u.forest declarator)) g.0;
         there = new.there;
       }
-
-  pub function_keeps : w ≡ with_tree v (OfDeclaration (declaration_of v.forest line (decl.Function specs declarator block))) → Extends u w
-  function_keeps made = extends_then u v w keeps (rw made (extends_tree v _))
-
-pub no_function : (line : ℕ) (specs : Trees) (d : DeclaratorTree) (reading : Piece) → None ≡ reading → None ≡ function_with line specs d reading
-no_function line specs d reading e = ap (function_with line specs d) e
 
 -- ---- with the type names of a part of the tokens
 
@@ -216,16 +200,6 @@ pub record ReadSoFar (u : Tables) (is_type : ℕ → Bool) (tokens : List Token)
   pub place : at ≤ length tokens
   pub there : All (λ n. Is u is_external n) u.externals
   pub same : ◌≡◌ {A = List DeclarationTree × List Token} (externals_of u ++ (units is_type (drop at tokens)).0, (units is_type (drop at tokens)).1) (units no_types tokens)
-
-pub read_start : (u : Tables) (is_type : ℕ → Bool) (tokens : List Token) → u ≡ no_tables → ((m : ℕ) → is_type m ≡ false) → ReadSoFar u is_type tokens 0
-read_start u is_type tokens e none =
-    let types : is_type ≡ no_types = λ i m. none m i in
-    record {
-      place = omega arith;
-      there = rw e (λ k d lt. absurd (omega (arith, lt)));
-      same = ap (λ (x : Tables). let y : List DeclarationTree × List Token = (externals_of x ++ (units is_type tokens).0, (units is_type tokens).1) in y) e
-          ∙ ap (λ (p : ℕ → Bool). units p tokens) types;
-    }
 
 module _ (u v : Tables) (is_type : ℕ → Bool) (tokens : List Token) (at : ℕ) (s : ReadSoFar u is_type tokens at) (keeps : Extends u v)
     (answer : Option (NodeId × ℕ)) (a : IsExternalAt v is_type tokens at answer) where

@@ -4,6 +4,12 @@ use Rattle.pv_lex.specs.declared.error.LexError.{LexError}
 use Rattle.pv_lex.specs.declared.error.LexError.TheVariants as error
 use Rattle.pv_lex.specs.Lexes.{Table, Lexes}
 use Rattle.pv_lex.specs.Faults.{LexFault}
+use Rattle.pv_lex.specs.declared.token_table.Token.{Token as LexToken}
+use Rattle.pv_tree.specs.Syntax.{DeclarationTree}
+use Rattle.pv_tree.specs.Units.{SpellUnit, IsWhole}
+use Rattle.pv_stmt.specs.declared.units.SynError.{SynError}
+use Rattle.pv_stmt.specs.declared.units.SynError.TheVariants as syn
+use Rattle.pvrun.proofs.UnitLemmas.{either_unit}
 use Rattle.pv_lex.proofs.Exactly.{either_error, one_table, one_error, no_error}
 use Rattle.pv_exec.specs.Terms.{ProgramTree}
 use Rattle.pv_exec.specs.Starter.{FindsProgram}
@@ -14,14 +20,26 @@ use Rattle.pv_exec.proofs.Programs.{one_program, either_program}
 use Rattle.std.specs.Prelude.{Result, Ok, Err, IfOk, Option, Some}
 use Rattle.pv_exec.specs.declared.running.Ran.{Ran}
 use Rattle.pvrun.specs.declared.judging.Judgement.{Judgement}
-use Rattle.pvrun.specs.Verdicts.{Verdict, Ended, Refused, Byte, Token, Profile, Unbuilt, verdict_of}
-use Rattle.pvrun.specs.Comes.{TokensCome, NoProgram, Runs, Comes, BadByte, BadToken, LeftOut, Lexed}
+use Rattle.pvrun.specs.Verdicts.{Verdict, Ended, Refused, Byte, Token, Profile, Syntax, Unbuilt, verdict_of}
+use Rattle.pvrun.specs.Comes.{ProgramComes, NoProgram, Runs, TokensCome, NoUnit, Spelled, Comes, BadByte, BadToken, LeftOut, Lexed}
+
+program_comes_to_one : (tokens : Table) (bound : ℕ) (v w : Verdict) → ProgramComes tokens bound v → ProgramComes tokens bound w → v ≡ w
+program_comes_to_one tokens bound v w (NoProgram n e) (NoProgram m f) = e ∙ sym f
+program_comes_to_one tokens bound v w (NoProgram n e) (Runs q k f) = absurd (n q k)
+program_comes_to_one tokens bound v w (Runs p h e) (NoProgram m f) = absurd (m p h)
+program_comes_to_one tokens bound v w (Runs p h e) (Runs q k f) = e ∙ ap (λ (x : ProgramTree). Ended (ran_of x bound)) (one_program tokens p q h k) ∙ sym f
+
+one_count : (tokens : List LexToken) (m n : ℕ) → IsWhole tokens m → IsWhole tokens n → m ≡ n
+one_count tokens m n a b =
+    let up = b.greatest a.externals a.left a.spelled in
+    let down = a.greatest b.externals b.left b.spelled in
+    omega (arith, up, down, a.count, b.count)
 
 tokens_come_to_one : (tokens : Table) (bound : ℕ) (v w : Verdict) → TokensCome tokens bound v → TokensCome tokens bound w → v ≡ w
-tokens_come_to_one tokens bound v w (NoProgram n e) (NoProgram m f) = e ∙ sym f
-tokens_come_to_one tokens bound v w (NoProgram n e) (Runs q k f) = absurd (n q k)
-tokens_come_to_one tokens bound v w (Runs p h e) (NoProgram m f) = absurd (m p h)
-tokens_come_to_one tokens bound v w (Runs p h e) (Runs q k f) = e ∙ ap (λ (x : ProgramTree). Ended (ran_of x bound)) (one_program tokens p q h k) ∙ sym f
+tokens_come_to_one tokens bound v w (NoUnit m none a e) (NoUnit n other b f) = e ∙ ap (λ (k : ℕ). Refused (Syntax k)) (one_count tokens.tokens m n a b) ∙ sym f
+tokens_come_to_one tokens bound v w (NoUnit m none a e) (Spelled ds s c) = absurd (none ds s)
+tokens_come_to_one tokens bound v w (Spelled ds s c) (NoUnit n none b f) = absurd (none ds s)
+tokens_come_to_one tokens bound v w (Spelled ds s c) (Spelled es t d) = program_comes_to_one tokens bound v w c d
 
 -- the verdict of an error
 abbrev verdict_of_error : List ℕ → LexError → Verdict
@@ -52,10 +70,16 @@ comes_to_one source bound v w c d = ways_meet source bound v w (way source bound
 
 -- ---- a source comes to some verdict
 
-tokens_come : (tokens : Table) (bound : ℕ) → (v : Verdict) × TokensCome tokens bound v
-tokens_come tokens bound = elim (either_program tokens) as (λ _. (v : Verdict) × TokensCome tokens bound v) [
+program_comes : (tokens : Table) (bound : ℕ) → (v : Verdict) × ProgramComes tokens bound v
+program_comes tokens bound = elim (either_program tokens) as (λ _. (v : Verdict) × ProgramComes tokens bound v) [
   | inl p ↦ (Ended (ran_of p.0 bound), Runs p.0 p.1 refl)
   | inr n ↦ (Refused Unbuilt, NoProgram n refl)
+]
+
+tokens_come : (tokens : Table) (bound : ℕ) → (v : Verdict) × TokensCome tokens bound v
+tokens_come tokens bound = elim (either_unit tokens.tokens) as (λ _. (v : Verdict) × TokensCome tokens bound v) [
+  | inl u ↦ let c = program_comes tokens bound in (c.0, Spelled u.0 u.1 c.1)
+  | inr n ↦ (Refused (Syntax n.0), NoUnit n.0 n.1 n.2 refl)
 ]
 
 error_comes : (source : List ℕ) (bound : ℕ) (e : LexError) → (e ≡ error.NoMemory → ⊥) → LexFault source e → (v : Verdict) × Comes source bound v
@@ -78,7 +102,7 @@ lexed_if source bound t (Ok j) whole comes = Lexed t whole comes
 lexed_if source bound t (Err e) whole comes = tt
 
 pub runs : (tokens : Table) (bound : ℕ) (o : Option Program) (code : Program) (r : Ran) → FindsProgram tokens o → o ≡ Some code
-    → r ≡ ran_of (program_tree code) bound → TokensCome tokens bound (Ended r)
+    → r ≡ ran_of (program_tree code) bound → ProgramComes tokens bound (Ended r)
 runs tokens bound o code r found is e =
     Runs (program_tree code) (subst (λ (x : Option Program). FindsProgram tokens x) is found) (ap (λ (x : Ran). Ended x) e)
 
@@ -97,3 +121,16 @@ left_out source bound e at word bytes fault is same =
     let length_is : (at + word) - at ≡ word = omega arith in
     let bytes_are = same ∙ ap (λ (n : ℕ). take n (drop at source)) length_is in
     LeftOut at word (fault_of source e (error.Profile at word) fault is) (ap (λ (b : List ℕ). Refused (Profile at b)) bytes_are)
+
+-- the tokens of a unit decide
+pub spelled_if : {E : Type 0} (tokens : Table) (bound : ℕ) (ds : List DeclarationTree) (r : Result Judgement E) → SpellUnit tokens.tokens ds
+    → IfOk r (λ j. ProgramComes tokens bound (verdict_of j)) → IfOk r (λ j. TokensCome tokens bound (verdict_of j))
+spelled_if tokens bound ds (Ok j) spelled comes = Spelled ds spelled comes
+spelled_if tokens bound ds (Err e) spelled comes = tt
+
+pub no_unit : {A : Type 0} (tokens : Table) (bound : ℕ) (e : SynError) (whole : ℕ)
+    → ((n : ℕ) → ◌≡◌ {A = Result A SynError} (Err e) (Err (syn.Syntax n)) → ((ds : List DeclarationTree) → SpellUnit tokens.tokens ds → ⊥) × IsWhole tokens.tokens n)
+    → e ≡ syn.Syntax whole → TokensCome tokens bound (Refused (Syntax whole))
+no_unit tokens bound e whole says is =
+    let s = says whole (ap (λ (x : SynError). Err x) is) in
+    NoUnit whole s.0 s.1 refl

@@ -1,3 +1,4 @@
+pub mod UnitLemmas
 pub mod WordsLemmas
 pub mod ComesLemmas
 pub mod JudgedLemmas

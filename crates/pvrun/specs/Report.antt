@@ -5,7 +5,7 @@ use Rattle.pv_num.specs.declared.faults.Fault.{Fault}
 use Rattle.pv_num.specs.Texts.{clause_text, reason_text}
 use Rattle.pv_exec.specs.declared.running.Outcome.{Outcome}
 use Rattle.pv_exec.specs.declared.running.Outcome.TheVariants.{Exit, Undefined, Indeterminate, Turns}
-use Rattle.pvrun.specs.Verdicts.{Verdict, Ended, Refused, Refusal, Size, Byte, Token, Profile, Unbuilt}
+use Rattle.pvrun.specs.Verdicts.{Verdict, Ended, Refused, Refusal, Size, Byte, Token, Profile, Syntax, Unbuilt}
 
 -- A line ends with a line feed (5.2.2).
 abbrev pub line_feed : List ℕ
@@ -36,12 +36,14 @@ outcome_line Turns turns bound = codes "turns bound=" ++ decimal bound ++ line_f
 abbrev pub profile_line : (place : ℕ) (word : List ℕ) → List ℕ
 profile_line place word = codes "refused reason=profile at=" ++ decimal place ++ codes " word=" ++ word ++ line_feed
 
--- A refusal: by size (5.2.4.1), by a byte (5.2.1), a token (6.4) or a word at its place from 0, or unbuilt.
+-- A refusal: by size (5.2.4.1), by a byte (5.2.1), a token (6.4) or a word at its place from 0, by the grammar (6.9) behind so many whole
+-- external declarations, or unbuilt.
 abbrev pub refusal_line : Refusal → List ℕ
 refusal_line Size = codes "refused reason=size" ++ line_feed
 refusal_line (Byte place) = codes "refused reason=byte at=" ++ decimal place ++ line_feed
 refusal_line (Token place) = codes "refused reason=token at=" ++ decimal place ++ line_feed
 refusal_line (Profile place word) = profile_line place word
+refusal_line (Syntax whole) = codes "refused reason=syntax whole=" ++ decimal whole ++ line_feed
 refusal_line Unbuilt = codes "refused reason=unbuilt" ++ line_feed
 
 abbrev pub report_line : Verdict → (bound : ℕ) → List ℕ

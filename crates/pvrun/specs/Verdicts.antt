@@ -7,12 +7,14 @@ use Rattle.pvrun.specs.declared.judging.Refused.TheVariants as refused
 use Rattle.pvrun.specs.declared.judging.Refused as declared
 
 -- Why a source has no run: its size (5.2.4.1), its least lexical fault, which is a byte (5.2.1), a token (6.4) or a
--- word of C17 that is not of the language that is run (6.4.1), each at its place from 0; or it is no program of that language.
+-- word of C17 that is not of the language that is run (6.4.1), each at its place from 0; or its tokens are no translation unit
+-- (6.9), with the greatest number of external declarations that they begin with; or it is no program that is run so far.
 pub data Refusal : Type 0 where
   Size : Refusal
   Byte : (place : ℕ) → Refusal
   Token : (place : ℕ) → Refusal
   Profile : (place : ℕ) (word : List ℕ) → Refusal
+  Syntax : (whole : ℕ) → Refusal
   Unbuilt : Refusal
 
 -- What a source comes to: a run that ended (5.1.2.2.3, 3.4.3, 3.19.2, or its turns), or a refusal.
@@ -26,6 +28,7 @@ refusal_of refused.Size = Size
 refusal_of (refused.Byte place) = Byte place
 refusal_of (refused.Token place) = Token place
 refusal_of (refused.Profile place word) = Profile place word.items
+refusal_of (refused.Syntax whole) = Syntax whole
 refusal_of refused.Unbuilt = Unbuilt
 
 abbrev pub verdict_of : Judgement → Verdict

@@ -1,12 +1,13 @@
 //! What a source comes to: its tokens, the program that they are, and the run of that program.
 ghost use Rattle.std.specs.Prelude.{◌^◌, ◌≡◌, ◌+◌, ◌<◌, ◌≤◌, ℕ, List, length, take, IfOk};
 ghost use Rattle.pvrun.specs.Verdicts.{Verdict, verdict_of};
-ghost use Rattle.pvrun.specs.Comes.{Comes, TokensCome};
+ghost use Rattle.pvrun.specs.Comes.{Comes, TokensCome, ProgramComes};
 ghost use Rattle.pvrun.specs.Judged.{Judged, source_limit};
 
 use crate::NoMemory;
 use pv_exec::{Ran, program, run};
 use pv_lex::{LexError, Tokens, tokens};
+use pv_stmt::{SynError, unit};
 use std::alloc::Global;
 
 /// The most bytes that a source may have.
@@ -23,7 +24,10 @@ pub enum Refused {
     Token { at: u32 },
     /// The word at this place is of C17, but not of the language that is run (C17 6.4.1, 6.4.4, 6.4.5).
     Profile { at: u32, word: Vec<u8> },
-    /// It is made of tokens, and is not of the language that is run so far.
+    /// Its tokens are no translation unit (C17 6.9). So many external declarations, and no more,
+    /// are spelled by the first of them.
+    Syntax { whole: u32 },
+    /// It is a translation unit, and is not of the language that is run so far.
     Unbuilt,
 }
 
@@ -67,6 +71,17 @@ fn within(alloc: Global, source: &[u8], bound: u64) -> Result<Judgement, NoMemor
 // Judges the tokens of a source.
 fn judge_tokens(alloc: Global, tokens: &Tokens, bound: u64) -> Result<Judgement, NoMemory>
     ensures { IfOk result (λ j. TokensCome tokens.now bound (verdict_of j)) }
+{
+    match unit(alloc, tokens) {
+        Ok(_unit) => judge_unit(alloc, tokens, bound),
+        Err(SynError::Syntax { whole }) => Ok(Judgement::Source(Refused::Syntax { whole })),
+        Err(SynError::NoMemory) => Err(NoMemory),
+    }
+}
+
+// Judges the tokens of a translation unit.
+fn judge_unit(alloc: Global, tokens: &Tokens, bound: u64) -> Result<Judgement, NoMemory>
+    ensures { IfOk result (λ j. ProgramComes tokens.now bound (verdict_of j)) }
 {
     match program(alloc, tokens)? {
         Some(program) => Ok(Judgement::Ran(run(alloc, &program, bound)?)),

@@ -79,6 +79,7 @@ fn refusal_line(alloc: Global, refused: &Refused) -> Result<Vec<u8>, NoMemory>
         Refused::Byte { at } => format!(in alloc; "refused reason=byte at={at}\n")?,
         Refused::Token { at } => format!(in alloc; "refused reason=token at={at}\n")?,
         Refused::Profile { at, word } => return profile_line(alloc, *at, word.as_slice()),
+        Refused::Syntax { whole } => format!(in alloc; "refused reason=syntax whole={whole}\n")?,
         Refused::Unbuilt => format!(in alloc; "refused reason=unbuilt\n")?,
     };
     Ok(text.into_bytes())

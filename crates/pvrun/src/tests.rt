@@ -383,6 +383,45 @@ fn long_sources_are_told(rt: HostRuntime) -> Result<(), Fail> {
     Ok(())
 }
 
+// A function whose block has no end is no function (C17 6.9.1), wherever the source is cut off.
+#[test]
+fn a_part_of_a_unit_is_none(rt: HostRuntime) -> Result<(), Fail> {
+    let alloc = rt.alloc();
+    for length in 1usize..25 {
+        let mut source = String::new(alloc);
+        for byte in &b"int main(void){return 0;}"[..length] {
+            source.push(char::from(*byte))?;
+        }
+        let got = told(alloc, source.as_str(), "")?;
+        assert_eq!(rt; got.as_str(), "8 refused reason=syntax whole=0\n", "at {length}");
+    }
+    Ok(())
+}
+
+// Parentheses to the most depth that a unit may have, and one level beyond.
+#[test]
+fn parentheses_nest_to_the_limit(rt: HostRuntime) -> Result<(), Fail> {
+    let alloc = rt.alloc();
+    let cases = [
+        (496usize, "8 refused reason=unbuilt\n"),
+        (497, "8 refused reason=syntax whole=0\n"),
+    ];
+    for (pairs, line) in cases {
+        let mut source = String::from_str(alloc, "int main(void){return ")?;
+        for _ in 0..pairs {
+            source.push('(')?;
+        }
+        source.push('0')?;
+        for _ in 0..pairs {
+            source.push(')')?;
+        }
+        source.push_str(";}")?;
+        let got = told(alloc, source.as_str(), "")?;
+        assert_eq!(rt; got.as_str(), line, "at {pairs}");
+    }
+    Ok(())
+}
+
 // Under a second as it is built, and minutes with the checks of a trial.
 #[test]
 fn a_run_has_a_million_turns(rt: HostRuntime) -> Result<(), Fail> {

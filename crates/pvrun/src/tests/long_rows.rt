@@ -16,7 +16,7 @@ pub(super) static LONG: [Long; 21] = [
         part: " + 0",
         times: 497,
         after: ";}",
-        line: "refused reason=unbuilt",
+        line: "refused reason=syntax whole=0",
         status: 8,
     },
     Long {
@@ -32,7 +32,7 @@ pub(super) static LONG: [Long; 21] = [
         part: " + 0",
         times: 496,
         after: "; return a;}",
-        line: "refused reason=unbuilt",
+        line: "refused reason=syntax whole=0",
         status: 8,
     },
     Long {
@@ -48,7 +48,7 @@ pub(super) static LONG: [Long; 21] = [
         part: " + 0",
         times: 496,
         after: "; return x;}",
-        line: "refused reason=unbuilt",
+        line: "refused reason=syntax whole=1",
         status: 8,
     },
     Long {
@@ -64,7 +64,7 @@ pub(super) static LONG: [Long; 21] = [
         part: "*&",
         times: 249,
         after: "x;}",
-        line: "refused reason=unbuilt",
+        line: "refused reason=syntax whole=1",
         status: 8,
     },
     Long {
@@ -80,7 +80,7 @@ pub(super) static LONG: [Long; 21] = [
         part: "*&",
         times: 248,
         after: "x;}",
-        line: "refused reason=unbuilt",
+        line: "refused reason=syntax whole=1",
         status: 8,
     },
     Long {
@@ -96,7 +96,7 @@ pub(super) static LONG: [Long; 21] = [
         part: "&*",
         times: 248,
         after: "p;}",
-        line: "refused reason=unbuilt",
+        line: "refused reason=syntax whole=1",
         status: 8,
     },
     Long {
@@ -112,7 +112,7 @@ pub(super) static LONG: [Long; 21] = [
         part: "*&",
         times: 248,
         after: "x; return *p;}",
-        line: "refused reason=unbuilt",
+        line: "refused reason=syntax whole=1",
         status: 8,
     },
     Long {
@@ -128,7 +128,7 @@ pub(super) static LONG: [Long; 21] = [
         part: "*&",
         times: 248,
         after: "x = 6; return x;}",
-        line: "refused reason=unbuilt",
+        line: "refused reason=syntax whole=1",
         status: 8,
     },
     Long {
@@ -144,7 +144,7 @@ pub(super) static LONG: [Long; 21] = [
         part: "&*",
         times: 248,
         after: "p = 6; return x;}",
-        line: "refused reason=unbuilt",
+        line: "refused reason=syntax whole=1",
         status: 8,
     },
     Long {

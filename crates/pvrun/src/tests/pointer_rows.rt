@@ -360,13 +360,13 @@ pub(super) static POINTERS: [Row; 65] = [
     (
         "int x; int main(void){x + 1 = 1; return 0;}",
         "",
-        "refused reason=unbuilt",
+        "refused reason=syntax whole=1",
         8,
     ),
     (
         "int x; int main(void){&&x; return 0;}",
         "",
-        "refused reason=unbuilt",
+        "refused reason=syntax whole=1",
         8,
     ),
     (

@@ -282,7 +282,7 @@ pub(super) static SUMS: [Row; 33] = [
         "refused reason=unbuilt",
         8,
     ),
-    ("int main(void){return 0}", "", "refused reason=unbuilt", 8),
+    ("int main(void){return 0}", "", "refused reason=syntax whole=0", 8),
     ("int main(void){return;}", "", "refused reason=unbuilt", 8),
     (
         "int main(void){return 1; return 2;}",
@@ -299,13 +299,13 @@ pub(super) static SUMS: [Row; 33] = [
     (
         "int main(void){return 1 +;}",
         "",
-        "refused reason=unbuilt",
+        "refused reason=syntax whole=0",
         8,
     ),
     (
         "int main(void){return 1 ++ 1;}",
         "",
-        "refused reason=unbuilt",
+        "refused reason=syntax whole=0",
         8,
     ),
     (
@@ -490,13 +490,13 @@ pub(super) static NAMES: [Row; 42] = [
     (
         "int while; int main(void){return 0;}",
         "",
-        "refused reason=unbuilt",
+        "refused reason=syntax whole=0",
         8,
     ),
     (
         "int sizeof; int main(void){return 0;}",
         "",
-        "refused reason=unbuilt",
+        "refused reason=syntax whole=0",
         8,
     ),
     (
@@ -553,7 +553,7 @@ pub(super) static NAMES: [Row; 42] = [
     (
         "int main(void){return 0;};",
         "",
-        "refused reason=unbuilt",
+        "refused reason=syntax whole=1",
         8,
     ),
     ("int main(void){;}", "", "refused reason=unbuilt", 8),
@@ -563,5 +563,5 @@ pub(super) static NAMES: [Row; 42] = [
         "refused reason=unbuilt",
         8,
     ),
-    ("int main(void){return 0;", "", "refused reason=unbuilt", 8),
+    ("int main(void){return 0;", "", "refused reason=syntax whole=0", 8),
 ];

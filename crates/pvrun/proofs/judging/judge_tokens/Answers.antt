@@ -1,5 +1,8 @@
-use Rattle.pvrun.proofs.ComesLemmas.{runs}
+use Rattle.pvrun.proofs.ComesLemmas.{spelled_if, no_unit}
 use Rattle.pvrun.proofs.judging.judge_tokens.Goals as goal
 
-pub returns-in_ok-run-in-Some : goal.returns-in_ok-run-in-Some
-returns-in_ok-run-in-Some c = runs _ _ _ _ _ c.in_ok-program.ensures c.in-Some.is c.in_ok-run-in-Some.ensures.ran
+pub returns-in-Ok : goal.returns-in-Ok
+returns-in-Ok c = spelled_if _ _ _ _ c.in-Ok.ensures.spelled c.judge_unit.ensures
+
+pub returns-in-Err-Syntax : goal.returns-in-Err-Syntax
+returns-in-Err-Syntax c = no_unit _ _ _ _ c.in-Err-Syntax.ensures.syntax c.in-Err-Syntax.field-0-is
