@@ -6,7 +6,9 @@ use std::fmt::Write;
 use std::process::Abort;
 use std::test::*;
 
-mod cases;
+mod externals;
+mod nests;
+mod statements;
 
 /// A source, and what becomes of it: so many external declarations, or why there is no unit.
 type Case = (&'static str, &'static str);
@@ -47,16 +49,16 @@ fn agree(rt: &impl Abort, alloc: Global, cases: &[Case]) -> Result<(), Fail> {
 #[test]
 fn units_are_as_the_grammar_says(rt: HostRuntime) -> Result<(), Fail> {
     let alloc = rt.alloc();
-    agree(&rt, alloc, &cases::EXTERNALS)?;
-    agree(&rt, alloc, &cases::PREFIXES)?;
-    agree(&rt, alloc, &cases::FUNCTIONS)?;
-    agree(&rt, alloc, &cases::TYPEDEF_NAMES)?;
-    agree(&rt, alloc, &cases::STRUCTURES)?;
-    agree(&rt, alloc, &cases::DECLARATORS)?;
-    agree(&rt, alloc, &cases::STATEMENTS)?;
-    agree(&rt, alloc, &cases::SWITCHES)?;
-    agree(&rt, alloc, &cases::EXPRESSIONS)?;
-    agree(&rt, alloc, &cases::SAMPLES)
+    agree(&rt, alloc, &externals::EXTERNALS)?;
+    agree(&rt, alloc, &externals::PREFIXES)?;
+    agree(&rt, alloc, &externals::FUNCTIONS)?;
+    agree(&rt, alloc, &externals::TYPEDEF_NAMES)?;
+    agree(&rt, alloc, &externals::STRUCTURES)?;
+    agree(&rt, alloc, &externals::DECLARATORS)?;
+    agree(&rt, alloc, &statements::STATEMENTS)?;
+    agree(&rt, alloc, &statements::SWITCHES)?;
+    agree(&rt, alloc, &statements::EXPRESSIONS)?;
+    agree(&rt, alloc, &statements::SAMPLES)
 }
 
 /// A head, a core with so many times what stands before it and behind it, and a tail.
@@ -92,5 +94,5 @@ fn agree_nested(rt: &impl Abort, alloc: Global, nests: &[Nest]) -> Result<(), Fa
 #[test]
 fn units_are_as_deep_as_the_limit(rt: HostRuntime) -> Result<(), Fail> {
     let alloc = rt.alloc();
-    agree_nested(&rt, alloc, &cases::NESTS)
+    agree_nested(&rt, alloc, &nests::NESTS)
 }
