@@ -393,7 +393,11 @@ fn a_part_of_a_unit_is_none(rt: HostRuntime) -> Result<(), Fail> {
             source.push(char::from(*byte))?;
         }
         let got = told(alloc, source.as_str(), "")?;
-        assert_eq!(rt; got.as_str(), "8 refused reason=syntax whole=0\n", "at {length}");
+        assert_eq!(rt;
+            got.as_str(),
+            "8 refused reason=syntax whole=0\n",
+            "at {length}"
+        );
     }
     Ok(())
 }

@@ -282,7 +282,12 @@ pub(super) static SUMS: [Row; 33] = [
         "refused reason=unbuilt",
         8,
     ),
-    ("int main(void){return 0}", "", "refused reason=syntax whole=0", 8),
+    (
+        "int main(void){return 0}",
+        "",
+        "refused reason=syntax whole=0",
+        8,
+    ),
     ("int main(void){return;}", "", "refused reason=unbuilt", 8),
     (
         "int main(void){return 1; return 2;}",
@@ -563,5 +568,10 @@ pub(super) static NAMES: [Row; 42] = [
         "refused reason=unbuilt",
         8,
     ),
-    ("int main(void){return 0;", "", "refused reason=syntax whole=0", 8),
+    (
+        "int main(void){return 0;",
+        "",
+        "refused reason=syntax whole=0",
+        8,
+    ),
 ];
