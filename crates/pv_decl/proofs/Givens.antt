@@ -24,7 +24,7 @@ use Rattle.pv_expr.proofs.Naming.{tied_kept, names_kept}
 use Rattle.pv_expr.proofs.Runs.{Takes}
 use Rattle.pv_expr.proofs.Spans.{IsEnd, names_spelled, at_end}
 use Rattle.pv_decl.specs.Answers.{Answers}
-use Rattle.pv_decl.specs.Givens.{IsKnown, AreGiven, ends_parameter}
+use Rattle.pv_decl.specs.Givens.{AreGiven, ends_parameter}
 use Rattle.pv_decl.specs.Pieces.{Piece}
 use Rattle.pv_decl.specs.Reader.{readers, type_name}
 use Rattle.pv_decl.proofs.Everywhere.{readers_exact}

@@ -1,4 +1,4 @@
-use Rattle.std.proofs.Common.{◌≡◌, ◌<◌, ◌∙◌, ℕ, Some, ap, arith, drop, sym}
+use Rattle.std.proofs.Common.{◌<◌, ◌∙◌, ℕ, Some, ap, arith, drop, sym}
 use Rattle.pv_tree.specs.Depths.{declaration_depth, tree_depth}
 use Rattle.pv_tree.specs.Rows.{tables}
 use Rattle.pv_tree.specs.Syntax.{Parameter, TypeName, OfDeclaration}
