@@ -1,10 +1,11 @@
 -- A table of type names is filled from the last place back to the first.
-use Rattle.std.proofs.Common.{◌≡◌, ◌≤◌, ◌<◌, ◌+◌, ◌-◌, ◌⊎◌, ℕ, suc, Bool, true, false, cond, List, [], ◌∷◌, ◌++◌, length, drop, Option, Some, None, refl, sym, ap, subst, ◌∙◌, arith, inl, inr}
+use Rattle.std.proofs.Common.{◌≡◌, ◌≤◌, ◌<◌, ◌+◌, ◌-◌, ◌⊎◌, ℕ, suc, Bool, true, false, cond, List, [], ◌∷◌, ◌++◌, length, drop, Option, Some, None, refl, sym, ap, subst, ◌∙◌, arith, inl, inr, nat_eq}
 use Rattle.std.specs.Prelude.{min, slice_index_or}
 use Rattle.std.proofs.Math.Nat.{min-eq_left, min-eq_right}
 use Rattle.std.proofs.lemmas.Bool.{le-leb}
 use Rattle.std.proofs.lemmas.Bool.Decides.{leb_tells}
 use Rattle.std.proofs.lemmas.List.{length-append, length-drop, drop-drop, get_or_push, get_or_append_left, get_or_past, drop_all}
+use Rattle.indexmap.specs.IndexSet.{IndexSet, contains}
 use Rattle.pv_lex.specs.declared.token_table.Token.{Token}
 use Rattle.pv_lex.specs.declared.token_table.TokenKind.{TokenKind}
 use Rattle.pv_lex.specs.declared.token_table.TokenKind.TheVariants as kind
@@ -17,6 +18,7 @@ use Rattle.pv_tree.specs.Tables.{Tables, tree_at, as_declaration, is_declaration
 use Rattle.pv_tree.specs.TypeNames.{TypeMap, type_seen, names_of, IsTied, AreTied}
 use Rattle.pv_tree.specs.Units.{depth_limit}
 use Rattle.pv_tree.proofs.Kept.{tree_kept, is_kept}
+use Rattle.pv_expr.specs.Known.{names_in}
 use Rattle.pv_expr.specs.Reader.{is_open}
 use Rattle.pv_expr.proofs.Naming.{leb_not}
 use Rattle.pv_expr.proofs.Runs.{Takes}
@@ -25,6 +27,7 @@ use Rattle.pv_decl.specs.Pieces.{Piece, row, row_for}
 use Rattle.pv_decl.specs.Reader.{specified, type_name}
 use Rattle.pv_decl.specs.Answers.{seen, Answers}
 use Rattle.pv_decl.specs.Filled.{filled, opens, is_behind_open, entry}
+use Rattle.pv_decl.specs.Givens.{IsKnown, AreGiven}
 use Rattle.pv_decl.specs.TypeNames.{AreTypeNames}
 use Rattle.pv_decl.proofs.Naming.{type_name_good}
 use Rattle.pv_decl.proofs.Nested.{IsWithin, type_name_agrees}
@@ -248,6 +251,35 @@ pub filled_step : (is_type : ℕ → Bool) (u v : Tables) (tokens : List Token) 
 filled_step is_type u v tokens deep last found at some before keeps r a items e =
     let here : at ≡ suc (at - 1) = omega arith in
     filled_more is_type u v tokens deep last found (at - 1) (subst (λ (k : ℕ). IsFilled is_type u tokens deep last found k) here before) keeps r a items e
+
+-- ---- each is what reading gives
+
+module _ {S : Type 0} (typedefs : IndexSet ℕ S) (u : Tables) (tokens : List Token) (last : ℕ) (found : List (Option (NodeId × ℕ))) (at : ℕ)
+    (filled_so : IsFilled (contains nat_eq typedefs) u tokens depth_limit last found at) where
+  read_there : (p : ℕ) (x : NodeId × ℕ) (b : Bool) (o : Piece) → ◌≡◌ {A = Piece} (Some (tree_at u.forest x.0, drop x.1 tokens)) (cond b o None)
+      → o ≡ Some (tree_at u.forest x.0, drop x.1 tokens)
+  read_there p x true o e = sym e
+  read_there p x false o e = absurd cc
+
+  known_by : (p : ℕ) (x : NodeId × ℕ) → filled last found p ≡ Some x → (last ≤ p) ⊎ (p < last) → (p < at) ⊎ (at ≤ p)
+      → IsKnown (names_in typedefs (filled last found) u tokens) u tokens p x
+  unfolding names_in entry
+  known_by p x e (inl l) m = let no : None ≡ Some x = sym (filled_beyond last found p l) ∙ e in absurd cc
+  known_by p x e (inr l) (inl m) = let no : None ≡ Some x = sym (filled_before last found p (omega (arith, filled_so.count))) ∙ e in absurd cc
+  known_by p x e (inr l) (inr m) =
+      let k = filled_so.tied p x e in
+      record {
+        node = k.node;
+        place = k.place;
+        is = read_there p x (is_behind_open tokens p) (type_name (names_in typedefs (filled last found) u tokens) depth_limit (drop p tokens))
+            (ap (seen u.forest tokens) (sym e) ∙ filled_so.has p m l);
+      }
+
+  pub filled_given : AreGiven (filled last found) typedefs (filled last found) u tokens
+  filled_given = record {
+    tied = filled_so.tied;
+    read = λ p x e. known_by p x e (elim (leb_tells last p) [ inl l ↦ inl l.1 | inr l ↦ inr l.1 ]) (elim (leb_tells at p) [ inl l ↦ inr l.1 | inr l ↦ inl l.1 ]);
+  }
 
 -- ---- the whole table
 

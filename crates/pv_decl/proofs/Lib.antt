@@ -35,3 +35,4 @@ pub mod Growing
 pub mod Filling
 pub mod Tabled
 pub mod Outer
+pub mod Givens

@@ -5,6 +5,7 @@
 
 mod forms;
 mod initializers;
+mod known;
 mod nodes;
 mod parser;
 mod pieces;

@@ -9,6 +9,7 @@ ghost use Rattle.pv_tree.specs.Units.{depth_limit};
 ghost use Rattle.pv_expr.specs.Known.{names_in};
 ghost use Rattle.pv_decl.specs.Answers.{Answers};
 ghost use Rattle.pv_decl.specs.Filled.{type_map, is_behind_open, entry};
+ghost use Rattle.pv_decl.specs.Givens.{AreGiven};
 ghost use Rattle.pv_decl.specs.Grammar.{SpellsTypeName};
 ghost use Rattle.pv_decl.specs.TypeNames.{AreTypeNames};
 
@@ -28,6 +29,18 @@ pub struct TypeNames {
     to: u32,
     /// What begins at each place, from the last back to the first.
     found: Vec<Option<(NodeId, u32)>>,
+}
+
+impl TypeNames {
+    /// A table without type names.
+    pub(crate) fn none(alloc: Global) -> TypeNames
+        ensures { (at : ℕ) → type_map result at ≡ None }
+    {
+        TypeNames {
+            to: 0,
+            found: Vec::new(alloc),
+        }
+    }
 }
 
 impl TypeReader for TypeNames {
@@ -71,7 +84,7 @@ fn entry(
     into: &mut Unit,
 ) -> Result<Option<(NodeId, u32)>, NoMemory>
     requires place { at ≤ length t.now.tokens }
-    requires tied { AreTied (type_map names.now) (tables into.old) t.now.tokens }
+    requires tied { AreGiven (type_map names.now) types.now (type_map names.now) (tables into.old) t.now.tokens }
     ensures keeps { Extends (tables into.old) (tables into.new) }
     ensures ok { IfOk result (λ r. Answers (tables into.new) is_declaration t.now.tokens r (entry (names_in types.now (type_map names.now) (tables into.old) t.now.tokens) depth_limit t.now.tokens at)) }
 {
@@ -82,6 +95,7 @@ fn entry(
         tokens: t,
         typedefs: types,
         reader: names,
+        known: names,
     };
     source.type_name(at, DEPTH_LIMIT, into)
 }

@@ -6,7 +6,7 @@ use Rattle.pv_tree.specs.Units.{depth_limit}
 use Rattle.pv_tree.proofs.Kept.{extends_same, extends_then}
 use Rattle.pv_expr.specs.Known.{names_in}
 use Rattle.pv_decl.specs.Filled.{type_map}
-use Rattle.pv_decl.proofs.Filling.{cut_by, filled_none, filled_step, filled_outside, filled_elsewhere, filled_whole}
+use Rattle.pv_decl.proofs.Filling.{cut_by, filled_none, filled_step, filled_given, filled_outside, filled_elsewhere, filled_whole}
 use Rattle.pv_decl.proofs.Tabled.{table_found, table_longest, table_only, table_none}
 use Rattle.pv_decl.proofs.type_table.type_names.Goals as goal
 
@@ -27,7 +27,7 @@ pub entry-requires-clause-place : goal.entry-requires-clause-place
 entry-requires-clause-place c = omega (arith, c.loop-at.invariant.filled.inside, c.loop-at.invariant.filled.count)
 
 pub entry-requires-clause-tied : goal.entry-requires-clause-tied
-entry-requires-clause-tied c = c.loop-at.invariant.filled.tied
+entry-requires-clause-tied c = filled_given c.args.types.now (tables c.loop-at.into) c.args.t.now.tokens c.loop-at.names.to c.loop-at.names.found.items c.loop-at.at c.loop-at.invariant.filled
 
 pub loop-at-preserved : goal.loop-at-preserved
 unfolding names_in

@@ -3,7 +3,6 @@ use Rattle.pv_tree.specs.Depths.{declarator_depth}
 use Rattle.pv_tree.specs.Rows.{tables}
 use Rattle.pv_tree.specs.Syntax.{NoTrees}
 use Rattle.pv_tree.specs.Tables.{tree_at, declarator_at, trees_of, is_declarator, Is, Extends}
-use Rattle.pv_tree.specs.TypeNames.{AreTied}
 use Rattle.pv_expr.specs.Known.{names_in}
 use Rattle.pv_decl.specs.declared.forms.Part.{Part}
 use Rattle.pv_decl.specs.declared.forms.Part.TheVariants as part
@@ -11,6 +10,8 @@ use Rattle.pv_decl.specs.Declarators.{grown}
 use Rattle.pv_decl.specs.Parts.{kind_of_part, place_of_part}
 use Rattle.pv_decl.specs.Pieces.{row_on, row, after_comma, listed}
 use Rattle.pv_decl.specs.Reader.{readers}
+use Rattle.pv_decl.specs.Filled.{type_map}
+use Rattle.pv_decl.specs.Givens.{AreGiven}
 use Rattle.pv_decl.proofs.source.Source.+reading.Given as goal
 
 -- a member is read by its specifiers and declarators, at its own depth
@@ -46,7 +47,10 @@ abbrev pub decreases-member : goal.decreases-member
 decreases-member g l = 12 * l.depth + 7
 
 abbrev pub decreases-parameter : goal.decreases-parameter
-decreases-parameter g l = 12 * l.depth
+decreases-parameter g l = 12 * l.depth + 1
+
+abbrev pub decreases-unknown_parameter : goal.decreases-unknown_parameter
+decreases-unknown_parameter g l = 12 * l.depth
 
 abbrev pub decreases-declarator : goal.decreases-declarator
 decreases-declarator g l = 12 * l.depth
@@ -77,7 +81,7 @@ invariant-row-loop-parts g l =
       nodes : All (λ n. Is (tables l.into) (kind_of_part l.part) n) l.parts.items;
       place : l.next ≤ length tokens;
       keeps : Extends (tables l.fn.into) (tables l.into);
-      tied : AreTied (g.R.TypeReader.types l.self.reader.now) (tables l.into) tokens;
+      tied : AreGiven (type_map l.self.known.now) l.self.typedefs.now (g.R.TypeReader.types l.self.reader.now) (tables l.into) tokens;
       same : row part (trees_of (tables l.into).forest l.parts.items) (drop l.next tokens) ≡ row part NoTrees (drop l.fn.at tokens);
     }
 
@@ -93,7 +97,7 @@ invariant-listed-loop-parts g l =
       place : l.next ≤ length tokens;
       where_behind : l.behind ≤ length tokens;
       keeps : Extends (tables l.fn.into) (tables l.into);
-      tied : AreTied (g.R.TypeReader.types l.self.reader.now) (tables l.into) tokens;
+      tied : AreGiven (type_map l.self.known.now) l.self.typedefs.now (g.R.TypeReader.types l.self.reader.now) (tables l.into) tokens;
       same : row_on (row (after_comma part)) (trees_of (tables l.into).forest l.parts.items) (drop l.behind tokens) (part (drop l.next tokens)) ≡ listed part (drop l.fn.at tokens);
     }
 
@@ -108,7 +112,7 @@ invariant-grow-loop-longer g l =
       node : Is (tables l.into) is_declarator l.left;
       place : l.next ≤ length tokens;
       keeps : Extends (tables l.fn.into) (tables l.into);
-      tied : AreTied (g.R.TypeReader.types l.self.reader.now) (tables l.into) tokens;
+      tied : AreGiven (type_map l.self.known.now) l.self.typedefs.now (g.R.TypeReader.types l.self.reader.now) (tables l.into) tokens;
       same : grown below l.below l.line (tree_at (tables l.into).forest l.left) (drop l.next tokens) ≡ grown below l.below l.line (tree_at (tables l.fn.into).forest l.fn.first) (drop l.fn.at tokens);
     }
 

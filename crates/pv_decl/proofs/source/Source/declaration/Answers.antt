@@ -6,10 +6,11 @@ use Rattle.pv_tree.specs.Rows.{tables}
 use Rattle.pv_tree.specs.Tables.{trees_of, is_declaration}
 use Rattle.pv_tree.proofs.Kept.{extends_same}
 use Rattle.pv_expr.specs.Known.{names_in}
-use Rattle.pv_expr.proofs.Naming.{tied_kept}
 use Rattle.pv_decl.specs.Reader.{readers, after_specifiers}
 use Rattle.pv_decl.proofs.Answered.{moved, nothing}
 use Rattle.pv_decl.proofs.Outer.{moved_at_start, same_count, declaration_zero, declaration_none_by, declaration_some_by}
+use Rattle.pv_decl.specs.Filled.{type_map}
+use Rattle.pv_decl.proofs.Givens.{given_kept}
 use Rattle.pv_decl.proofs.source.Source.declaration.Goals as goal
 
 pub returns-then-depth-eq0-clause-keeps : goal.returns-then-depth-eq0-clause-keeps
@@ -27,7 +28,7 @@ returns-then-is_empty-clause-ok g c =
 
 pub specified-requires-clause-tied : goal.specified-requires-clause-tied
 specified-requires-clause-tied g c =
-    tied_kept (g.R.TypeReader.types c.args.self.now.reader.now) (tables c.args.into.now) (tables c.row.new.into) c.args.self.now.tokens.now.tokens c.requires.tied c.row.ensures.keeps
+    given_kept (type_map c.args.self.now.known.now) c.args.self.now.typedefs.now (g.R.TypeReader.types c.args.self.now.reader.now) (tables c.args.into.now) (tables c.row.new.into) c.args.self.now.tokens.now.tokens c.requires.tied c.row.ensures.keeps
 
 pub returns-clause-ok : goal.returns-clause-ok
 returns-clause-ok g c =
@@ -42,5 +43,5 @@ returns-clause-ok g c =
     ∙ ap (λ (ns : List NodeId). after_specifiers (readers names (c.args.depth - 1)) (line_here (drop c.args.at tokens)) (trees_of v.forest ns) (drop c.in_ok-specs.next tokens)) c.deref.ensures.value
     ∙ declaration_some_by names c.args.depth (drop c.args.at tokens) (omega arith) v tokens c.in_ok-specs.specs.items c.in_ok-specs.next c.in_ok-specs.ensures.ok
     (same_count (vec_len c.in_ok-specs.specs) (length c.in_ok-specs.specs.items) false (omega (arith, c.in_ok-specs.specs.ok.0)) (sym c.is_empty.ensures ∙ c.if-is_empty.false)))
-    (moved_at_start typedefs types u v (tables c.specified.new.into) tokens c.requires.tied c.row.ensures.keeps is_declaration c.specified.result
+    (moved_at_start typedefs types u v (tables c.specified.new.into) tokens c.requires.tied.tied c.row.ensures.keeps is_declaration c.specified.result
     (λ n. after_specifiers (readers n (c.args.depth - 1)) c.line_at-line.result (trees_of v.forest c.deref.result.now) (drop c.in_ok-specs.next tokens)) c.specified.ensures.ok)

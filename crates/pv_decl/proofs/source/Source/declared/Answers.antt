@@ -5,11 +5,12 @@ use Rattle.pv_tree.specs.Syntax.{NoTrees, Then}
 use Rattle.pv_tree.specs.Tables.{tree_at, is_declaration}
 use Rattle.pv_tree.proofs.Kept.{extends_same, extends_then}
 use Rattle.pv_expr.specs.Known.{names_in}
-use Rattle.pv_expr.proofs.Naming.{tied_kept}
 use Rattle.pv_decl.specs.Pieces.{row, after_comma}
 use Rattle.pv_decl.specs.Reader.{readers}
 use Rattle.pv_decl.proofs.Loops.{commas_shorten, at_start, goes_forward, part_there, parts_there, row_ends, row_goes}
 use Rattle.pv_decl.proofs.Outer.{comma_none, comma_some, one_part, start_one}
+use Rattle.pv_decl.specs.Filled.{type_map}
+use Rattle.pv_decl.proofs.Givens.{given_kept}
 use Rattle.pv_decl.proofs.source.Source.declared.Goals as goal
 
 pub returns-in_err-push-clause-keeps : goal.returns-in_err-push-clause-keeps
@@ -38,7 +39,7 @@ returns-in_default-clause-ok g c =
     let part = after_comma (readers (names_in c.args.self.now.typedefs.now types u tokens) c.args.below InitDeclarators) in
     row_ends is_declaration v v (extends_same v) tokens part c.loop-next.declared.items c.loop-next.invariant.nodes c.loop-next.behind c.loop-next.invariant.place None
     (comma_none v is_declaration tokens (readers (names_in c.args.self.now.typedefs.now types u tokens) c.args.below InitDeclarators) c.loop-next.behind c.in_default.ensures)
-    (commas_shorten c.args.self.now.typedefs.now types u tokens c.requires.tied c.args.below InitDeclarators)
+    (commas_shorten c.args.self.now.typedefs.now types u tokens c.requires.tied.tied c.args.below InitDeclarators)
     (row part (Then NoTrees (tree_at u.forest c.args.first)) (drop c.args.at tokens)) c.loop-next.invariant.same refl
 
 -- nothing that can be read behind a comma
@@ -52,8 +53,8 @@ returns-in_default-2-clause-ok g c =
     let read = readers (names_in c.args.self.now.typedefs.now types u tokens) c.args.below InitDeclarators in
     row_ends is_declaration v w c.init_declarator.ensures.keeps tokens (after_comma read) c.loop-next.declared.items c.loop-next.invariant.nodes c.loop-next.behind c.loop-next.invariant.place c.in_ok-found.field-0
     (comma_some w is_declaration tokens read c.loop-next.behind c.in-Some.next c.in_ok-found.field-0 c.in-Some.ensures.0
-    (at_start c.args.self.now.typedefs.now types u v w tokens c.requires.tied c.loop-next.invariant.keeps is_declaration c.in_ok-found.field-0 (λ n. readers n c.args.below InitDeclarators (drop c.in-Some.next tokens)) c.in_ok-found.ensures.ok))
-    (commas_shorten c.args.self.now.typedefs.now types u tokens c.requires.tied c.args.below InitDeclarators)
+    (at_start c.args.self.now.typedefs.now types u v w tokens c.requires.tied.tied c.loop-next.invariant.keeps is_declaration c.in_ok-found.field-0 (λ n. readers n c.args.below InitDeclarators (drop c.in-Some.next tokens)) c.in_ok-found.ensures.ok))
+    (commas_shorten c.args.self.now.typedefs.now types u tokens c.requires.tied.tied c.args.below InitDeclarators)
     (row (after_comma read) (Then NoTrees (tree_at u.forest c.args.first)) (drop c.args.at tokens)) c.loop-next.invariant.same c.in_default-2.is
 
 pub loop-next-smaller : goal.loop-next-smaller
@@ -65,9 +66,9 @@ loop-next-smaller g c =
     let w = tables c.init_declarator.new.into in
     let read = readers (names_in c.args.self.now.typedefs.now types u tokens) c.args.below InitDeclarators in
     let a = comma_some w is_declaration tokens read c.loop-next.behind c.in-Some.next c.in_ok-found.field-0 c.in-Some.ensures.0
-    (at_start c.args.self.now.typedefs.now types u v w tokens c.requires.tied c.loop-next.invariant.keeps is_declaration c.in_ok-found.field-0 (λ n. readers n c.args.below InitDeclarators (drop c.in-Some.next tokens)) c.in_ok-found.ensures.ok) in
+    (at_start c.args.self.now.typedefs.now types u v w tokens c.requires.tied.tied c.loop-next.invariant.keeps is_declaration c.in_ok-found.field-0 (λ n. readers n c.args.below InitDeclarators (drop c.in-Some.next tokens)) c.in_ok-found.ensures.ok) in
     let far : c.loop-next.behind < c.in-Some-2.end = goes_forward is_declaration v w c.init_declarator.ensures.keeps tokens (after_comma read) c.loop-next.declared.items c.loop-next.invariant.nodes c.loop-next.behind c.loop-next.invariant.place c.in_ok-found.field-0 a
-    (commas_shorten c.args.self.now.typedefs.now types u tokens c.requires.tied c.args.below InitDeclarators) c.in-Some-2.found c.in-Some-2.end c.in-Some-2.is in
+    (commas_shorten c.args.self.now.typedefs.now types u tokens c.requires.tied.tied c.args.below InitDeclarators) c.in-Some-2.found c.in-Some-2.end c.in-Some-2.is in
     let end : c.in-Some-2.end ≤ length tokens = (part_there is_declaration v w c.init_declarator.ensures.keeps tokens (after_comma read) c.loop-next.declared.items c.loop-next.invariant.nodes c.loop-next.behind c.loop-next.invariant.place c.in_ok-found.field-0 a c.in-Some-2.found c.in-Some-2.end c.in-Some-2.is).1 in
     omega (arith, far, end)
 
@@ -80,14 +81,14 @@ loop-next-preserved g c =
     let w = tables c.init_declarator.new.into in
     let read = readers (names_in c.args.self.now.typedefs.now types u tokens) c.args.below InitDeclarators in
     let a = comma_some w is_declaration tokens read c.loop-next.behind c.in-Some.next c.in_ok-found.field-0 c.in-Some.ensures.0
-    (at_start c.args.self.now.typedefs.now types u v w tokens c.requires.tied c.loop-next.invariant.keeps is_declaration c.in_ok-found.field-0 (λ n. readers n c.args.below InitDeclarators (drop c.in-Some.next tokens)) c.in_ok-found.ensures.ok) in
+    (at_start c.args.self.now.typedefs.now types u v w tokens c.requires.tied.tied c.loop-next.invariant.keeps is_declaration c.in_ok-found.field-0 (λ n. readers n c.args.below InitDeclarators (drop c.in-Some.next tokens)) c.in_ok-found.ensures.ok) in
     let keeps = extends_then u v w c.loop-next.invariant.keeps c.init_declarator.ensures.keeps in
     record {
       nodes = parts_there is_declaration v w c.init_declarator.ensures.keeps tokens (after_comma read) c.loop-next.declared.items c.loop-next.invariant.nodes c.loop-next.behind c.loop-next.invariant.place c.in_ok-found.field-0 a c.in-Some-2.found c.in-Some-2.end c.in-Some-2.is c.push-in-loop-next.new.self.items c.in_ok-push-2.ensures.items;
       place = (part_there is_declaration v w c.init_declarator.ensures.keeps tokens (after_comma read) c.loop-next.declared.items c.loop-next.invariant.nodes c.loop-next.behind c.loop-next.invariant.place c.in_ok-found.field-0 a c.in-Some-2.found c.in-Some-2.end c.in-Some-2.is).1;
       keeps = keeps;
-      tied = tied_kept types u w tokens c.requires.tied keeps;
+      tied = given_kept (type_map c.args.self.now.known.now) c.args.self.now.typedefs.now types u w tokens c.requires.tied keeps;
       same = row_goes is_declaration v w c.init_declarator.ensures.keeps tokens (after_comma read) c.loop-next.declared.items c.loop-next.invariant.nodes c.loop-next.behind c.loop-next.invariant.place c.in_ok-found.field-0 a
-          (commas_shorten c.args.self.now.typedefs.now types u tokens c.requires.tied c.args.below InitDeclarators)
+          (commas_shorten c.args.self.now.typedefs.now types u tokens c.requires.tied.tied c.args.below InitDeclarators)
           (row (after_comma read) (Then NoTrees (tree_at u.forest c.args.first)) (drop c.args.at tokens)) c.loop-next.invariant.same c.in-Some-2.found c.in-Some-2.end c.in-Some-2.is c.push-in-loop-next.new.self.items c.in_ok-push-2.ensures.items;
     }

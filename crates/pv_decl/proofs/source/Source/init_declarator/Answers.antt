@@ -2,16 +2,17 @@ use Rattle.std.proofs.Common.{ap, ◌∙◌, drop, Some, ℕ}
 use Rattle.pv_tree.specs.Rows.{tables}
 use Rattle.pv_tree.specs.Tables.{tree_at}
 use Rattle.pv_expr.specs.Known.{names_in}
-use Rattle.pv_expr.proofs.Naming.{tied_kept}
 use Rattle.pv_decl.specs.Pieces.{Piece}
 use Rattle.pv_decl.specs.Reader.{initialized, readers}
 use Rattle.pv_decl.proofs.Answered.{moved, nothing}
 use Rattle.pv_decl.proofs.Outer.{init_none, init_some, moved_at_start}
+use Rattle.pv_decl.specs.Filled.{type_map}
+use Rattle.pv_decl.proofs.Givens.{given_kept}
 use Rattle.pv_decl.proofs.source.Source.init_declarator.Goals as goal
 
 pub initialized-requires-clause-tied : goal.initialized-requires-clause-tied
 initialized-requires-clause-tied g c =
-    tied_kept (g.R.TypeReader.types c.args.self.now.reader.now) (tables c.args.into.now) (tables c.read.new.into) c.args.self.now.tokens.now.tokens c.requires.tied c.read.ensures.keeps
+    given_kept (type_map c.args.self.now.known.now) c.args.self.now.typedefs.now (g.R.TypeReader.types c.args.self.now.reader.now) (tables c.args.into.now) (tables c.read.new.into) c.args.self.now.tokens.now.tokens c.requires.tied c.read.ensures.keeps
 
 pub returns-in-None-clause-ok : goal.returns-in-None-clause-ok
 returns-in-None-clause-ok g c =
@@ -28,5 +29,5 @@ returns-in-Some-clause-ok g c =
     moved _ _ _ _ _ _
     (ap (λ (l : ℕ). let x : Piece = Some (initialized (readers names c.args.depth) l (tree_at v.forest c.in-Some.declarator) (drop c.in-Some.end tokens)) in x) c.line_at-line.ensures
     ∙ init_some names c.args.depth (drop c.args.at tokens) v tokens c.in_ok-declarator.field-0 c.in_ok-declarator.ensures.ok c.in-Some.declarator c.in-Some.end c.in-Some.is)
-    (moved_at_start c.args.self.now.typedefs.now types (tables c.args.into.now) v (tables c.initialized.new.into) tokens c.requires.tied c.read.ensures.keeps _ c.initialized.result
+    (moved_at_start c.args.self.now.typedefs.now types (tables c.args.into.now) v (tables c.initialized.new.into) tokens c.requires.tied.tied c.read.ensures.keeps _ c.initialized.result
     (λ n. Some (initialized (readers n c.args.depth) c.line_at-line.result (tree_at v.forest c.in-Some.declarator) (drop c.in-Some.end tokens))) c.initialized.ensures.ok)

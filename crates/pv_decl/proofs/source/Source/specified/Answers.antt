@@ -6,12 +6,13 @@ use Rattle.pv_tree.specs.Syntax.{Declaration, NoTrees, Then}
 use Rattle.pv_tree.specs.Tables.{tree_at, trees_of, is_declaration, is_specifier}
 use Rattle.pv_tree.proofs.Kept.{extends_then}
 use Rattle.pv_expr.specs.Known.{names_in}
-use Rattle.pv_expr.proofs.Naming.{tied_kept}
 use Rattle.pv_decl.specs.Pieces.{Piece, row, after_comma}
 use Rattle.pv_decl.specs.Reader.{ended, initialized, readers}
 use Rattle.pv_decl.proofs.Answered.{moved, nothing, got}
 use Rattle.pv_decl.proofs.Loops.{at_start, all_kept}
 use Rattle.pv_decl.proofs.Outer.{are_at_start, semicolon_there, no_semicolon, ends_here, specified_none, specified_head, specified_list}
+use Rattle.pv_decl.specs.Filled.{type_map}
+use Rattle.pv_decl.proofs.Givens.{given_kept}
 use Rattle.pv_decl.proofs.source.Source.specified.Goals as goal
 
 pub returns-then-is_some-clause-ok : goal.returns-then-is_some-clause-ok
@@ -45,13 +46,13 @@ returns-then-opens_block-clause-ok g c =
 
 pub initialized-requires-clause-tied : goal.initialized-requires-clause-tied
 initialized-requires-clause-tied g c =
-    tied_kept (g.R.TypeReader.types c.args.self.now.reader.now) (tables c.args.into.now) (tables c.read.new.into) c.args.self.now.tokens.now.tokens c.requires.tied c.read.ensures.keeps
+    given_kept (type_map c.args.self.now.known.now) c.args.self.now.typedefs.now (g.R.TypeReader.types c.args.self.now.reader.now) (tables c.args.into.now) (tables c.read.new.into) c.args.self.now.tokens.now.tokens c.requires.tied c.read.ensures.keeps
 
 pub declared-requires-clause-tied : goal.declared-requires-clause-tied
 declared-requires-clause-tied g c =
     let u = tables c.args.into.now in
     let w = tables c.initialized.new.into in
-    tied_kept (g.R.TypeReader.types c.args.self.now.reader.now) u w c.args.self.now.tokens.now.tokens c.requires.tied (extends_then u (tables c.read.new.into) w c.read.ensures.keeps c.initialized.ensures.keeps)
+    given_kept (type_map c.args.self.now.known.now) c.args.self.now.typedefs.now (g.R.TypeReader.types c.args.self.now.reader.now) u w c.args.self.now.tokens.now.tokens c.requires.tied (extends_then u (tables c.read.new.into) w c.read.ensures.keeps c.initialized.ensures.keeps)
 
 pub declaration_of-requires-2-clause-specs : goal.declaration_of-requires-2-clause-specs
 declaration_of-requires-2-clause-specs g c =
@@ -73,11 +74,11 @@ returns-clause-ok g c =
     let r = readers (names_in typedefs types u tokens) c.args.below in
     let no = no_semicolon tokens (drop c.args.at tokens) c.after.result c.after.ensures (sym c.is_some.ensures ∙ c.if-is_some.false) in
     let on = extends_then u v w c.read.ensures.keeps c.initialized.ensures.keeps in
-    let a = at_start typedefs types u v w tokens c.requires.tied c.read.ensures.keeps is_declaration c.in_ok-first.field-0
+    let a = at_start typedefs types u v w tokens c.requires.tied.tied c.read.ensures.keeps is_declaration c.in_ok-first.field-0
     (λ n. Some (initialized (readers n c.args.below) c.line_at-here.result (tree_at v.forest c.in-Some.declarator) (drop c.in-Some.end tokens))) c.in_ok-first.ensures.ok in
     let one = (got w is_declaration tokens c.in_ok-first.field-0 _ c.in-Some-2.first c.in-Some-2.behind a c.in-Some-2.is).0
     ∙ ap (λ (l : ℕ). let y : Piece = Some (initialized r l (tree_at v.forest c.in-Some.declarator) (drop c.in-Some.end tokens)) in y) c.line_at-here.ensures in
-    let all = are_at_start typedefs types u w x tokens c.requires.tied on is_declaration c.in_ok-declared.declared.items c.in_ok-declared.last
+    let all = are_at_start typedefs types u w x tokens c.requires.tied.tied on is_declaration c.in_ok-declared.declared.items c.in_ok-declared.last
     (λ n. row (after_comma (readers n c.args.below InitDeclarators)) (Then NoTrees (tree_at w.forest c.in-Some-2.first)) (drop c.in-Some-2.behind tokens)) c.in_ok-declared.ensures.ok in
     moved _ _ _ _ _ _
     (ap (λ (ns : List NodeId). ended (Declaration c.args.line (trees_of x.forest c.args.specs.now) (trees_of x.forest ns)) (drop c.in_ok-declared.last tokens)) c.deref.ensures.value

@@ -7,13 +7,14 @@ use Rattle.pv_tree.specs.Rows.{tables}
 use Rattle.pv_tree.specs.Syntax.{TypeName}
 use Rattle.pv_tree.specs.Tables.{trees_of, is_declarator, is_specifier}
 use Rattle.pv_expr.specs.Known.{names_in}
-use Rattle.pv_expr.proofs.Naming.{tied_kept}
 use Rattle.pv_decl.specs.Pieces.{optional}
 use Rattle.pv_decl.specs.Answers.{seen}
 use Rattle.pv_decl.specs.Reader.{made_of, readers}
 use Rattle.pv_decl.proofs.Answered.{moved, nothing}
 use Rattle.pv_decl.proofs.Loops.{at_start, all_kept}
 use Rattle.pv_decl.proofs.Outer.{same_count, type_name_none_by, type_name_some_by}
+use Rattle.pv_decl.specs.Filled.{type_map}
+use Rattle.pv_decl.proofs.Givens.{given_kept}
 use Rattle.pv_decl.proofs.source.Source.type_name.Goals as goal
 
 pub returns-then-is_empty-clause-ok : goal.returns-then-is_empty-clause-ok
@@ -24,7 +25,7 @@ returns-then-is_empty-clause-ok g c =
 
 pub read-requires-clause-tied : goal.read-requires-clause-tied
 read-requires-clause-tied g c =
-    tied_kept (g.R.TypeReader.types c.args.self.now.reader.now) (tables c.args.into.now) (tables c.row.new.into) c.args.self.now.tokens.now.tokens c.requires.tied c.row.ensures.keeps
+    given_kept (type_map c.args.self.now.known.now) c.args.self.now.typedefs.now (g.R.TypeReader.types c.args.self.now.reader.now) (tables c.args.into.now) (tables c.row.new.into) c.args.self.now.tokens.now.tokens c.requires.tied c.row.ensures.keeps
 
 pub type_name_of-requires-clause-specs : goal.type_name_of-requires-clause-specs
 type_name_of-requires-clause-specs g c =
@@ -39,7 +40,7 @@ returns-clause-ok g c =
     let w = tables c.read.new.into in
     let names = names_in c.args.self.now.typedefs.now types u tokens in
     let answer = c.in_ok-declarator.declarator in
-    let b = at_start c.args.self.now.typedefs.now types u v w tokens c.requires.tied c.row.ensures.keeps is_declarator answer
+    let b = at_start c.args.self.now.typedefs.now types u v w tokens c.requires.tied.tied c.row.ensures.keeps is_declarator answer
     (λ n. readers n c.args.depth AbstractDeclarators (drop c.in_ok-specs.next tokens)) c.in_ok-declarator.ensures.ok in
     moved _ _ _ _ _ _
     (ap (λ (l : ℕ). made_of (TypeName l) (trees_of w.forest c.deref.result.now) (optional (drop c.in_ok-specs.next tokens) (seen w.forest tokens answer))) c.line_at-line.ensures
