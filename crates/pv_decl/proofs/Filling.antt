@@ -1,59 +1,38 @@
 -- A table of type names is filled from the last place back to the first.
 use Rattle.std.proofs.Common.{◌≡◌, ◌≤◌, ◌<◌, ◌+◌, ◌-◌, ◌⊎◌, ℕ, suc, Bool, true, false, cond, List, [], ◌∷◌, ◌++◌, length, drop, Option, Some, None, refl, sym, ap, subst, ◌∙◌, arith, inl, inr, nat_eq}
-use Rattle.std.specs.Prelude.{min, slice_index_or}
+use Rattle.std.specs.Prelude.{min, IfSome}
 use Rattle.std.proofs.Math.Nat.{min-eq_left, min-eq_right}
-use Rattle.std.proofs.lemmas.Bool.{le-leb}
 use Rattle.std.proofs.lemmas.Bool.Decides.{leb_tells}
-use Rattle.std.proofs.lemmas.List.{length-append, length-drop, drop-drop, get_or_push, get_or_append_left, get_or_past, drop_all}
+use Rattle.std.proofs.lemmas.List.{length-append, length-drop, drop-drop, drop_all}
 use Rattle.indexmap.specs.IndexSet.{IndexSet, contains}
 use Rattle.pv_lex.specs.declared.token_table.Token.{Token}
 use Rattle.pv_lex.specs.declared.token_table.TokenKind.{TokenKind}
 use Rattle.pv_lex.specs.declared.token_table.TokenKind.TheVariants as kind
 use Rattle.pv_lex.specs.declared.marks.Mark.TheVariants as mark
 use Rattle.pv_tree.specs.declared.nodes.NodeId.{NodeId}
-use Rattle.pv_tree.specs.Syntax.{DeclarationTree, Tree}
+use Rattle.pv_tree.specs.Syntax.{DeclarationTree, Tree, Absent}
 use Rattle.pv_tree.specs.Spelling.{declaration_tokens}
 use Rattle.pv_tree.specs.Grammar.{Names, kinds}
-use Rattle.pv_tree.specs.Tables.{Tables, tree_at, as_declaration, is_declaration, Extends}
+use Rattle.pv_tree.specs.Tables.{Tables, tree_at, as_declaration, is_declaration, is_declarator, Extends}
 use Rattle.pv_tree.specs.TypeNames.{TypeMap, type_seen, names_of, IsTied, AreTied}
 use Rattle.pv_tree.specs.Units.{depth_limit}
 use Rattle.pv_tree.proofs.Kept.{tree_kept, is_kept}
 use Rattle.pv_expr.specs.Known.{names_in}
 use Rattle.pv_expr.specs.Reader.{is_open}
-use Rattle.pv_expr.proofs.Naming.{leb_not}
+use Rattle.pv_expr.proofs.Naming.{tied_kept, names_kept}
 use Rattle.pv_expr.proofs.Runs.{Takes}
 use Rattle.pv_expr.proofs.Spans.{IsEnd, names_spelled, at_end}
+use Rattle.pv_decl.specs.Parts.{function_of}
 use Rattle.pv_decl.specs.Pieces.{Piece, row, row_for}
 use Rattle.pv_decl.specs.Reader.{specified, type_name}
 use Rattle.pv_decl.specs.Answers.{seen, Answers}
 use Rattle.pv_decl.specs.Filled.{filled, opens, is_behind_open, entry}
-use Rattle.pv_decl.specs.Givens.{IsKnown, AreGiven}
+use Rattle.pv_decl.specs.Givens.{AreGiven, parameter_list}
 use Rattle.pv_decl.specs.TypeNames.{AreTypeNames}
 use Rattle.pv_decl.proofs.Naming.{type_name_good}
-use Rattle.pv_decl.proofs.Nested.{IsWithin, type_name_agrees}
-
--- ---- what a table has at a place
-
-module _ (last : ℕ) (found : List (Option (NodeId × ℕ))) (p : ℕ) where
-  pub filled_beyond : last ≤ p → filled last found p ≡ None
-  filled_beyond h = rw (le-leb last p h) refl
-
-  filled_at : p < last → filled last found p ≡ slice_index_or found (last - 1 - p) None
-  filled_at h = rw (leb_not last p h) refl
-
-  pub filled_before : p + length found < last → filled last found p ≡ None
-  filled_before h = filled_at (omega arith) ∙ get_or_past found (last - 1 - p) None (omega arith)
-
-  pub filled_new : (r : Option (NodeId × ℕ)) → suc (p + length found) ≡ last → filled last (found ++ (r ∷ [])) p ≡ r
-  filled_new r h =
-      let lt : p < last = omega arith in
-      let there : length found ≡ last - 1 - p = omega arith in
-      rw (leb_not last p lt) (get_or_push found r None (last - 1 - p) there)
-
-  pub filled_old : (r : Option (NodeId × ℕ)) → p < last → last ≤ p + length found → filled last (found ++ (r ∷ [])) p ≡ filled last found p
-  filled_old r lt h =
-      let there : last - 1 - p < length found = omega arith in
-      rw (leb_not last p lt) (get_or_append_left found (r ∷ []) None (last - 1 - p) there)
+use Rattle.pv_decl.proofs.Nested.{IsWithin, type_name_agrees, list_agrees}
+use Rattle.pv_decl.proofs.Held.{filled_beyond, filled_before, filled_new, filled_old}
+use Rattle.pv_decl.proofs.Givens.{answer_kept, given_kept}
 
 -- the place behind the last one is cut to that of the last token
 pub cut_by : (last to count : ℕ) → last ≡ min to count → (last ≤ to) × (last ≤ count) × ((last ≡ to) ⊎ (last ≡ count))
@@ -61,6 +40,9 @@ cut_by last to count e = elim (leb_tells to count) [
   | inl h ↦ let is : last ≡ to = e ∙ min-eq_left h.1 in (omega (arith, is), omega (arith, is, h.1), inl is)
   | inr h ↦ let is : last ≡ count = e ∙ min-eq_right (omega (arith, h.1)) in (omega (arith, is, h.1), omega (arith, is), inr is)
 ]
+
+sides : (a b : ℕ) → (a < b) ⊎ (b ≤ a)
+sides a b = elim (leb_tells b a) [ inl l ↦ inr l.1 | inr l ↦ inl l.1 ]
 
 -- ---- places and the tokens before them
 
@@ -122,6 +104,26 @@ filled_none is_type u tokens deep last found at inside here e = rw e (record {
   has = λ p low high. absurd (omega (arith, here));
 })
 
+-- what stands in a unit that grows
+seen_there : (u v : Tables) (tokens : List Token) (types : TypeMap) → AreTied types u tokens → Extends u v → (p : ℕ) (o : Option (NodeId × ℕ)) → types p ≡ o
+    → seen v.forest tokens o ≡ seen u.forest tokens o
+seen_there u v tokens types tied e p None is = refl
+seen_there u v tokens types tied e p (Some x) is = ap (λ (t : Tree). let y : Piece = Some (t, drop x.1 tokens) in y) (tree_kept u v x.0 e (tied p x is).node.0)
+
+types_there : (u v : Tables) (tokens : List Token) (types : TypeMap) → AreTied types u tokens → Extends u v → (p : ℕ) (o : Option (NodeId × ℕ)) → types p ≡ o
+    → type_seen v.forest tokens o ≡ type_seen u.forest tokens o
+types_there u v tokens types tied e p None is = refl
+types_there u v tokens types tied e p (Some x) is =
+    ap (λ (t : Tree). let y : DeclarationTree × List Token = (as_declaration t, drop x.1 tokens) in Some y) (tree_kept u v x.0 e (tied p x is).node.0)
+
+names_stay : (is_type : ℕ → Bool) (types : TypeMap) (u v : Tables) (tokens : List Token) → AreTied types u tokens → Extends u v
+    → names_of is_type types v.forest tokens ≡ names_of is_type types u.forest tokens
+unfolding names_of
+names_stay is_type types u v tokens tied e =
+    let same : (ts : List Token) → type_seen v.forest tokens (types (length tokens - length ts)) ≡ type_seen u.forest tokens (types (length tokens - length ts)) =
+    λ ts. types_there u v tokens types tied e (length tokens - length ts) (types (length tokens - length ts)) refl in
+    λ i. record { is_type = is_type; type_at = λ ts. same ts i }
+
 -- ---- one place more
 
 module _ (is_type : ℕ → Bool) (u v : Tables) (tokens : List Token) (deep last : ℕ) (found : List (Option (NodeId × ℕ))) (at : ℕ)
@@ -181,8 +183,8 @@ module _ (is_type : ℕ → Bool) (u v : Tables) (tokens : List Token) (deep las
       tied_found x (omega (arith, before.inside, before.count)) (is_behind_open tokens at)
       (subst (λ (o : Option (NodeId × ℕ)). Answers v is_declaration tokens o (entry old_names deep tokens at)) e a)
 
-  tied_kept : (p : ℕ) (x : NodeId × ℕ) → old p ≡ Some x → IsTied v tokens p x
-  tied_kept p x e =
+  older_tied : (p : ℕ) (x : NodeId × ℕ) → old p ≡ Some x → IsTied v tokens p x
+  older_tied p x e =
       let k = before.tied p x e in
       record {
         node = is_kept u v is_declaration x.0 keeps k.node;
@@ -192,14 +194,11 @@ module _ (is_type : ℕ → Bool) (u v : Tables) (tokens : List Token) (deep las
 
   tied_by : (p : ℕ) (x : NodeId × ℕ) → new p ≡ Some x → (p < at) ⊎ (at ≤ p) → (at < p) ⊎ (p ≤ at) → IsTied v tokens p x
   tied_by p x e (inl l) m = let no : None ≡ Some x = sym (new_below p l) ∙ e in absurd cc
-  tied_by p x e (inr l) (inl m) = tied_kept p x (sym (new_above p m) ∙ e)
+  tied_by p x e (inr l) (inl m) = older_tied p x (sym (new_above p m) ∙ e)
   tied_by p x e (inr l) (inr m) =
       let same : at ≡ p = omega arith in
       let here : r ≡ Some x = sym new_here ∙ ap new same ∙ e in
       subst (λ (q : ℕ). IsTied v tokens q x) same (tied_here x here)
-
-  sides : (a b : ℕ) → (a < b) ⊎ (b ≤ a)
-  sides a b = elim (leb_tells b a) [ inl l ↦ inr l.1 | inr l ↦ inl l.1 ]
 
   new_tied : AreTied new v tokens
   new_tied p x e = tied_by p x e (sides p at) (sides at p)
@@ -223,6 +222,12 @@ module _ (is_type : ℕ → Bool) (u v : Tables) (tokens : List Token) (deep las
   name_same p low place =
       type_name_agrees is_type (IsEnd tokens) deep (drop p tokens) (at_end tokens p place) old_names.type_at new_names.type_at
       (names_spelled is_type old u tokens before.tied) (names_spelled is_type new v tokens new_tied) (λ o us w k. agree p low o us w)
+
+  pub list_same : (p : ℕ) → at ≤ p → p ≤ length tokens → (depth : ℕ) → parameter_list old_names depth (drop p tokens) ≡ parameter_list new_names depth (drop p tokens)
+  unfolding names_of
+  list_same p low place depth =
+      list_agrees is_type (IsEnd tokens) depth (drop p tokens) (at_end tokens p place) old_names.type_at new_names.type_at
+      (names_spelled is_type old u tokens before.tied) (names_spelled is_type new v tokens new_tied) (λ o us w k. agree p low o us w) (function_of 0 Absent)
 
   entry_same : (p : ℕ) → at ≤ p → p ≤ length tokens → entry old_names deep tokens p ≡ entry new_names deep tokens p
   unfolding entry
@@ -252,34 +257,91 @@ filled_step is_type u v tokens deep last found at some before keeps r a items e 
     let here : at ≡ suc (at - 1) = omega arith in
     filled_more is_type u v tokens deep last found (at - 1) (subst (λ (k : ℕ). IsFilled is_type u tokens deep last found k) here before) keeps r a items e
 
--- ---- each is what reading gives
+-- a unit that grows keeps the table
+pub filled_kept : (is_type : ℕ → Bool) (u v : Tables) (tokens : List Token) (deep last : ℕ) (found : List (Option (NodeId × ℕ))) (at : ℕ)
+    → IsFilled is_type u tokens deep last found at → Extends u v → IsFilled is_type v tokens deep last found at
+filled_kept is_type u v tokens deep last found at k e = record {
+  inside = k.inside;
+  count = k.count;
+  tied = tied_kept (filled last found) u v tokens k.tied e;
+  has = λ p low high.
+      seen_there u v tokens (filled last found) k.tied e p (filled last found p) refl ∙ k.has p low high
+      ∙ ap (λ (n : Names). entry n deep tokens p) (sym (names_stay is_type (filled last found) u v tokens k.tied e));
+}
 
-module _ {S : Type 0} (typedefs : IndexSet ℕ S) (u : Tables) (tokens : List Token) (last : ℕ) (found : List (Option (NodeId × ℕ))) (at : ℕ)
-    (filled_so : IsFilled (contains nat_eq typedefs) u tokens depth_limit last found at) where
-  read_there : (p : ℕ) (x : NodeId × ℕ) (b : Bool) (o : Piece) → ◌≡◌ {A = Piece} (Some (tree_at u.forest x.0, drop x.1 tokens)) (cond b o None)
-      → o ≡ Some (tree_at u.forest x.0, drop x.1 tokens)
-  read_there p x true o e = sym e
-  read_there p x false o e = absurd cc
+-- ---- the lists of parameters
 
-  known_by : (p : ℕ) (x : NodeId × ℕ) → filled last found p ≡ Some x → (last ≤ p) ⊎ (p < last) → (p < at) ⊎ (at ≤ p)
-      → IsKnown (names_in typedefs (filled last found) u tokens) u tokens p x
-  unfolding names_in entry
-  known_by p x e (inl l) m = let no : None ≡ Some x = sym (filled_beyond last found p l) ∙ e in absurd cc
-  known_by p x e (inr l) (inl m) = let no : None ≡ Some x = sym (filled_before last found p (omega (arith, filled_so.count))) ∙ e in absurd cc
-  known_by p x e (inr l) (inr m) =
-      let k = filled_so.tied p x e in
-      record {
-        node = k.node;
-        place = k.place;
-        is = read_there p x (is_behind_open tokens p) (type_name (names_in typedefs (filled last found) u tokens) depth_limit (drop p tokens))
-            (ap (seen u.forest tokens) (sym e) ∙ filled_so.has p m l);
-      }
+-- the lists that are known behind a place, as one type name more is found there
+module _ {S : Type 0} (typedefs : IndexSet ℕ S) (u v : Tables) (tokens : List Token) (deep last : ℕ) (found : List (Option (NodeId × ℕ))) (at : ℕ)
+    (before : IsFilled (contains nat_eq typedefs) u tokens deep last found (suc at)) (keeps : Extends u v) (r : Option (NodeId × ℕ))
+    (a : Answers v is_declaration tokens r (entry (names_of (contains nat_eq typedefs) (filled last found) u.forest tokens) deep tokens at))
+    (lists : List (Option (Option (NodeId × ℕ)))) (count : suc at + length lists ≡ last)
+    (given : AreGiven (filled last lists) typedefs (filled last found) u tokens) where
+  list_behind : (p : ℕ) (o : Option (NodeId × ℕ)) → filled last lists p ≡ Some o → (last ≤ p) ⊎ (p < last) → (at < p) ⊎ (p ≤ at)
+      → Answers v is_declarator tokens o (parameter_list (names_in typedefs (filled last (found ++ (r ∷ []))) v tokens) depth_limit (drop p tokens))
+  unfolding names_in
+  list_behind p o e (inl l) m = let no : None ≡ Some o = sym (filled_beyond last lists p l) ∙ e in absurd cc
+  list_behind p o e (inr l) (inr m) = let no : None ≡ Some o = sym (filled_before last lists p (omega (arith, count))) ∙ e in absurd cc
+  list_behind p o e (inr l) (inl m) =
+      answer_kept u v tokens o (parameter_list (names_in typedefs (filled last found) u tokens) depth_limit (drop p tokens))
+      (parameter_list (names_in typedefs (filled last (found ++ (r ∷ []))) v tokens) depth_limit (drop p tokens)) keeps
+      (list_same (contains nat_eq typedefs) u v tokens deep last found at before keeps r a p (omega arith) (omega (arith, before.inside)) depth_limit) (given.read p o e)
 
-  pub filled_given : AreGiven (filled last found) typedefs (filled last found) u tokens
-  filled_given = record {
-    tied = filled_so.tied;
-    read = λ p x e. known_by p x e (elim (leb_tells last p) [ inl l ↦ inl l.1 | inr l ↦ inr l.1 ]) (elim (leb_tells at p) [ inl l ↦ inr l.1 | inr l ↦ inl l.1 ]);
-  }
+  pub given_names : (items : List (Option (NodeId × ℕ))) → items ≡ found ++ (r ∷ []) → AreGiven (filled last lists) typedefs (filled last items) v tokens
+  given_names items e = rw e (record {
+    tied = new_tied (contains nat_eq typedefs) u v tokens deep last found at before keeps r a;
+    read = λ p o is. list_behind p o is (elim (leb_tells last p) [ inl l ↦ inl l.1 | inr l ↦ inr l.1 ]) (sides at p);
+  })
+
+-- one place more
+module _ {S : Type 0} (typedefs : IndexSet ℕ S) (types : TypeMap) (u v : Tables) (tokens : List Token) (last : ℕ) (lists : List (Option (Option (NodeId × ℕ)))) (at : ℕ)
+    (count : suc at + length lists ≡ last) (given : AreGiven (filled last lists) typedefs types u tokens) (keeps : Extends u v) (x : Option (Option (NodeId × ℕ)))
+    (a : IfSome x (λ o. Answers v is_declarator tokens o (parameter_list (names_in typedefs types u tokens) depth_limit (drop at tokens)))) where
+  older : AreGiven (filled last lists) typedefs types v tokens
+  older = given_kept (filled last lists) typedefs types u v tokens given keeps
+
+  list_here : (o : Option (NodeId × ℕ)) → x ≡ Some o
+      → Answers v is_declarator tokens o (parameter_list (names_in typedefs types v tokens) depth_limit (drop at tokens))
+  list_here o e =
+      let k : Answers v is_declarator tokens o (parameter_list (names_in typedefs types u tokens) depth_limit (drop at tokens)) =
+      subst (λ (y : Option (Option (NodeId × ℕ))). IfSome y (λ z. Answers v is_declarator tokens z (parameter_list (names_in typedefs types u tokens) depth_limit (drop at tokens)))) e a in
+      subst (λ (n : Names). Answers v is_declarator tokens o (parameter_list n depth_limit (drop at tokens))) (sym (names_kept typedefs types u v tokens given.tied keeps)) k
+
+  list_at : (p : ℕ) (o : Option (NodeId × ℕ)) → filled last (lists ++ (x ∷ [])) p ≡ Some o → (last ≤ p) ⊎ (p < last) → (at < p) ⊎ (p ≤ at) → (p < at) ⊎ (at ≤ p)
+      → Answers v is_declarator tokens o (parameter_list (names_in typedefs types v tokens) depth_limit (drop p tokens))
+  list_at p o e (inl l) m n = let no : None ≡ Some o = sym (filled_beyond last (lists ++ (x ∷ [])) p l) ∙ e in absurd cc
+  list_at p o e (inr l) (inl m) n = older.read p o (sym (filled_old last lists p x l (omega (arith, count))) ∙ e)
+  list_at p o e (inr l) (inr m) (inl n) =
+      let no : None ≡ Some o = sym (filled_before last (lists ++ (x ∷ [])) p (omega (arith, count, length-append lists (x ∷ [])))) ∙ e in absurd cc
+  list_at p o e (inr l) (inr m) (inr n) =
+      let same : at ≡ p = omega arith in
+      let here : x ≡ Some o = sym (filled_new last lists at x (omega (arith, count))) ∙ ap (filled last (lists ++ (x ∷ []))) same ∙ e in
+      subst (λ (q : ℕ). Answers v is_declarator tokens o (parameter_list (names_in typedefs types v tokens) depth_limit (drop q tokens))) same (list_here o here)
+
+  pub given_lists : (items : List (Option (Option (NodeId × ℕ)))) → items ≡ lists ++ (x ∷ []) → AreGiven (filled last items) typedefs types v tokens
+  given_lists items e = rw e (record {
+    tied = older.tied;
+    read = λ p o is. list_at p o is (elim (leb_tells last p) [ inl l ↦ inl l.1 | inr l ↦ inr l.1 ]) (sides at p) (sides p at);
+  })
+
+pub names_step : {S : Type 0} (typedefs : IndexSet ℕ S) (u v : Tables) (tokens : List Token) (deep last : ℕ) (found : List (Option (NodeId × ℕ))) (at : ℕ) → 0 < at
+    → IsFilled (contains nat_eq typedefs) u tokens deep last found at → Extends u v → (r : Option (NodeId × ℕ))
+    → Answers v is_declaration tokens r (entry (names_of (contains nat_eq typedefs) (filled last found) u.forest tokens) deep tokens (at - 1))
+    → (to : ℕ) (lists : List (Option (Option (NodeId × ℕ)))) → to ≡ last → at + length lists ≡ to
+    → AreGiven (filled to lists) typedefs (filled last found) u tokens
+    → (items : List (Option (NodeId × ℕ))) → items ≡ found ++ (r ∷ []) → AreGiven (filled to lists) typedefs (filled last items) v tokens
+names_step typedefs u v tokens deep last found at some before keeps r a to lists same count given items e =
+    let here : at ≡ suc (at - 1) = omega arith in
+    let now = given_names typedefs u v tokens deep last found (at - 1) (subst (λ (k : ℕ). IsFilled (contains nat_eq typedefs) u tokens deep last found k) here before) keeps r a lists
+    (omega (arith, count, same)) (subst (λ (n : ℕ). AreGiven (filled n lists) typedefs (filled last found) u tokens) same given) items e in
+    subst (λ (n : ℕ). AreGiven (filled n lists) typedefs (filled last items) v tokens) (sym same) now
+
+pub lists_step : {S : Type 0} (typedefs : IndexSet ℕ S) (types : TypeMap) (u v : Tables) (tokens : List Token) (to : ℕ) (lists : List (Option (Option (NodeId × ℕ)))) (at : ℕ) → 0 < at
+    → at + length lists ≡ to → AreGiven (filled to lists) typedefs types u tokens → Extends u v → (x : Option (Option (NodeId × ℕ)))
+    → IfSome x (λ o. Answers v is_declarator tokens o (parameter_list (names_in typedefs types u tokens) depth_limit (drop (at - 1) tokens)))
+    → (items : List (Option (Option (NodeId × ℕ)))) → items ≡ lists ++ (x ∷ []) → AreGiven (filled to items) typedefs types v tokens
+lists_step typedefs types u v tokens to lists at some count given keeps x a items e =
+    given_lists typedefs types u v tokens to lists (at - 1) (omega (arith, count, some)) given keeps x a items e
 
 -- ---- the whole table
 

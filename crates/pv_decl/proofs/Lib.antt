@@ -36,3 +36,4 @@ pub mod Filling
 pub mod Tabled
 pub mod Outer
 pub mod Givens
+pub mod Held

@@ -330,7 +330,7 @@ module _ (types : ℕ → Bool) (F G : ExpressionTree → List Token → Type 0)
           tree_lifted last (drop n here) (known n here k) (past_run (trees_tokens before) _ here s) (omega (arith, d)) f.2,
         )
 
-    list_lifted : (place : Place) (parts : Trees) (here : List Token) → K here → Stand (listed_tokens parts) here → trees_depth parts ≤ deep
+    pub list_lifted : (place : Place) (parts : Trees) (here : List Token) → K here → Stand (listed_tokens parts) here → trees_depth parts ≤ deep
         → ListFits types F place parts here → ListFits types G place parts here
     list_lifted place NoTrees here k s d f = tt
     list_lifted place (Then before last) here k s d f =

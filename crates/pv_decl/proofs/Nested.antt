@@ -5,28 +5,32 @@ use Rattle.pv_lex.specs.declared.token_table.Token.{Token}
 use Rattle.pv_lex.specs.declared.token_table.TokenKind.{TokenKind}
 use Rattle.pv_lex.specs.declared.token_table.TokenKind.TheVariants as kind
 use Rattle.pv_lex.specs.declared.marks.Mark.TheVariants as mark
-use Rattle.pv_tree.specs.Syntax.{ExpressionTree, DeclarationTree, TypeName, Tree, OfDeclaration}
+use Rattle.pv_tree.specs.Syntax.{ExpressionTree, DeclarationTree, TypeName, Tree, Trees, OfDeclaration}
 use Rattle.pv_tree.specs.Depths.{expression_depth, declaration_depth}
-use Rattle.pv_tree.specs.Spelling.{expression_tokens, declaration_tokens, trees_tokens, optional_tokens}
+use Rattle.pv_tree.specs.Spelling.{expression_tokens, declaration_tokens, trees_tokens, listed_tokens, variadic_tokens, optional_tokens}
 use Rattle.pv_tree.specs.Grammar.{Names, kind_begins_type, begins_type, line_here, IsTypeName, FitsBy, Fits}
 use Rattle.pv_tree.specs.Tables.{as_declaration}
-use Rattle.pv_tree.specs.Places.{is_type_name}
+use Rattle.pv_tree.specs.Places.{Parameters, is_type_name}
 use Rattle.pv_tree.specs.Fitting.{DeclarationFits, TypeNameFits}
 use Rattle.pv_expr.proofs.Runs.{Takes, takes_parts, takes_rest, parts_at}
 use Rattle.pv_expr.proofs.Steps.{some_is}
 use Rattle.pv_expr.proofs.Heads.{IsSpelled}
 use Rattle.pv_decl.specs.declared.forms.Form.TheVariants as form
+use Rattle.pv_decl.specs.Declarators.{parametrized}
 use Rattle.pv_decl.specs.Pieces.{Piece}
 use Rattle.pv_decl.specs.Reader.{readers, type_name, as_type_name, HasTypeNames}
 use Rattle.pv_decl.proofs.Stops.{Closes, closes_on}
 use Rattle.pv_decl.proofs.Beginnings.{first_specifiers}
 use Rattle.pv_decl.proofs.Wholes.{on_line}
 use Rattle.pv_decl.proofs.Specified.{specified_exact}
+use Rattle.pv_decl.proofs.Closings.{parametrized_exact}
 use Rattle.pv_decl.proofs.Everywhere.{readers_exact}
+use Rattle.pv_decl.proofs.Goods.{parametrized_good, comma_shortens}
+use Rattle.pv_decl.proofs.Sound.{readers_sound}
 use Rattle.pv_decl.proofs.Longest.{Within, Reaches}
 use Rattle.pv_decl.proofs.Naming.{type_name_good, type_name_longest}
-use Rattle.pv_decl.proofs.Lifting.{Stand, fits_changed}
-use Rattle.pv_decl.proofs.Lifted.{declaration_lifted}
+use Rattle.pv_decl.proofs.Lifting.{Stand, front, fits_changed}
+use Rattle.pv_decl.proofs.Lifted.{declaration_lifted, list_lifted}
 
 -- ---- a type name that something closes
 
@@ -204,3 +208,34 @@ module _ (is_type : ℕ → Bool) (K : List Token → Type 0) (deep : ℕ) (here
       → ((o : Token) (ts : List Token) → IsWithin here (o ∷ ts) → o.kind ≡ kind.Mark mark.OpenParen → f ts ≡ g ts)
       → type_name (names_at f) deep here ≡ type_name (names_at g) deep here
   type_name_agrees f g sf sg agree = agreed_by f g sf sg agree (λ o ts w k. sym (agree o ts w k)) (type_name (names_at f) deep here) refl
+
+  -- ---- and so does a list of parameters
+
+  other_list : (f g : List Token → Option (DeclarationTree × List Token)) → IsSpelled (names_at f) K → IsSpelled (names_at g) K → Agree f g
+      → (make : Trees → Bool → Tree) (x : Tree × List Token)
+      → parametrized make (readers (names_at f) deep) here ≡ Some x → parametrized make (readers (names_at g) deep) here ≡ Some x
+  other_list f g sf sg agree make x e =
+      let t = parametrized_good (names_at f) K sf deep (readers (names_at f) deep) (readers_sound (names_at f) K sf deep) make here x.0 x.1 known e in
+      let run = front (listed_tokens t.parameters) (variadic_tokens t.variadic) here (front (listed_tokens t.parameters ++ variadic_tokens t.variadic) (kind.Mark mark.CloseParen ∷ []) here (x.1, t.takes)) in
+      let fits = list_lifted is_type (Fits (names_at f)) (Fits (names_at g)) (IsWithin here) (within_tail here) deep
+      (λ a ts w s d h. fits_changed is_type (IsTypeName (names_at f)) (IsTypeName (names_at g)) (IsWithin here) (within_tail here) deep
+      (λ type o us v k st l n. same_type f g type us (agree o us v k) n) a ts w s d h)
+      Parameters t.parameters here (0, refl) run t.shallow t.fits in
+      let r = readers_exact (names_at g) K sg deep in
+      parametrized_exact (names_at g) K sg deep (readers (names_at g) deep) (r.exact Parameters refl) (r.shut Parameters) (comma_shortens (names_at g) K sg deep (readers (names_at g) deep) r.sound Parameters)
+      make t.parameters t.variadic here x.1 known t.may fits t.shallow t.takes
+      ∙ ap (λ (y : Tree). let z : Piece = Some (y, x.1) in z) t.is
+
+  list_by : (f g : List Token → Option (DeclarationTree × List Token)) → IsSpelled (names_at f) K → IsSpelled (names_at g) K → Agree f g → Agree g f
+      → (make : Trees → Bool → Tree) (o p : Piece)
+      → parametrized make (readers (names_at f) deep) here ≡ o → parametrized make (readers (names_at g) deep) here ≡ p → o ≡ p
+  list_by f g sf sg fg gf make (Some x) p e q = sym (other_list f g sf sg fg make x e) ∙ q
+  list_by f g sf sg fg gf make None None e q = refl
+  list_by f g sf sg fg gf make None (Some y) e q = let clash : ◌≡◌ {A = Piece} None (Some y) = sym e ∙ other_list g f sg sf gf make y q in absurd cc
+
+  pub list_agrees : (f g : List Token → Option (DeclarationTree × List Token)) → IsSpelled (names_at f) K → IsSpelled (names_at g) K
+      → ((o : Token) (ts : List Token) → IsWithin here (o ∷ ts) → o.kind ≡ kind.Mark mark.OpenParen → f ts ≡ g ts)
+      → (make : Trees → Bool → Tree)
+      → parametrized make (readers (names_at f) deep) here ≡ parametrized make (readers (names_at g) deep) here
+  list_agrees f g sf sg agree make =
+      list_by f g sf sg agree (λ o ts w k. sym (agree o ts w k)) make (parametrized make (readers (names_at f) deep) here) (parametrized make (readers (names_at g) deep) here) refl refl

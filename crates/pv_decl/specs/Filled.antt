@@ -5,17 +5,22 @@ use Rattle.pv_tree.specs.declared.nodes.NodeId.{NodeId}
 use Rattle.pv_tree.specs.Grammar.{Names}
 use Rattle.pv_tree.specs.TypeNames.{TypeMap}
 use Rattle.pv_expr.specs.Reader.{is_open}
+use Rattle.pv_decl.specs.declared.lists.ParameterLists.{ParameterLists}
 use Rattle.pv_decl.specs.declared.type_table.TypeNames.{TypeNames}
 use Rattle.pv_decl.specs.Pieces.{Piece}
 use Rattle.pv_decl.specs.Reader.{type_name}
 
 -- what is found at each place before one, where the list begins with the last
-abbrev pub filled : (to : ℕ) → List (Option (NodeId × ℕ)) → TypeMap
+abbrev pub filled : {A : Type 0} (to : ℕ) → List (Option A) → ℕ → Option A
 filled to found at = if nat_le to at then None else slice_index_or found (to - 1 - at) None
 
 -- what a table has at each place
 abbrev pub type_map : TypeNames → TypeMap
 type_map names at = filled names.to names.found.items at
+
+-- what is known of the list of parameters at each place
+abbrev pub list_map : ParameterLists → ℕ → Option (Option (NodeId × ℕ))
+list_map lists at = filled lists.to lists.found.items at
 
 -- `(` is the next token
 abbrev pub opens : List Token → Bool

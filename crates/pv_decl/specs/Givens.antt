@@ -1,28 +1,26 @@
--- What is given where a part of a declaration is read: the type names that a reader has, and those that are known to be what reading gives.
-use Rattle.std.specs.Prelude.{◌≡◌, ◌≤◌, ◌||◌, ℕ, Bool, false, Some, List, [], ◌∷◌, length, drop}
+-- What is given where a part of a declaration is read: the type names that a reader has, and the lists of parameters that are known.
+use Rattle.std.specs.Prelude.{◌≡◌, ℕ, Option, Some, List, drop}
 use Rattle.indexmap.specs.IndexSet.{IndexSet}
 use Rattle.pv_lex.specs.declared.token_table.Token.{Token}
 use Rattle.pv_tree.specs.declared.nodes.NodeId.{NodeId}
 use Rattle.pv_tree.specs.Grammar.{Names}
-use Rattle.pv_tree.specs.Tables.{Tables, tree_at, is_declaration, Is}
+use Rattle.pv_tree.specs.Syntax.{Absent}
+use Rattle.pv_tree.specs.Tables.{Tables, is_declarator}
 use Rattle.pv_tree.specs.TypeNames.{TypeMap, AreTied}
 use Rattle.pv_tree.specs.Units.{depth_limit}
 use Rattle.pv_expr.specs.Known.{names_in}
-use Rattle.pv_expr.specs.Reader.{is_comma, is_close}
-use Rattle.pv_decl.specs.Reader.{type_name}
+use Rattle.pv_decl.specs.Answers.{Answers}
+use Rattle.pv_decl.specs.Declarators.{parametrized}
+use Rattle.pv_decl.specs.Parts.{function_of}
+use Rattle.pv_decl.specs.Pieces.{Piece}
+use Rattle.pv_decl.specs.Reader.{readers}
 
--- a node is the type name that reading from a place gives (6.7.7)
-pub record IsKnown (names : Names) (u : Tables) (tokens : List Token) (at : ℕ) (x : NodeId × ℕ) : Type 0 where
-  pub node : Is u is_declaration x.0
-  pub place : x.1 ≤ length tokens
-  pub is : type_name names depth_limit (drop at tokens) ≡ Some (tree_at u.forest x.0, drop x.1 tokens)
+-- a list of parameters from behind its `(` on, as an abstract declarator (6.7.6.3)
+abbrev pub parameter_list : Names → (depth : ℕ) → List Token → Piece
+parameter_list names depth ts = parametrized (function_of 0 Absent) (readers names depth) ts
 
--- those of a reader are tied to a unit, and each that is known is what reading with them gives
-pub record AreGiven {S : Type 0} (known : TypeMap) (typedefs : IndexSet ℕ S) (types : TypeMap) (u : Tables) (tokens : List Token) : Type 0 where
+-- the type names are tied to a unit, and each list that is known, or that there is none, is what reading gives
+pub record AreGiven {S : Type 0} (lists : ℕ → Option (Option (NodeId × ℕ))) (typedefs : IndexSet ℕ S) (types : TypeMap) (u : Tables) (tokens : List Token) : Type 0 where
   pub tied : AreTied types u tokens
-  pub read : (at : ℕ) (x : NodeId × ℕ) → known at ≡ Some x → IsKnown (names_in typedefs types u tokens) u tokens at x
-
--- `,` or `)` is the next token, as behind each parameter (6.7.6p1)
-abbrev pub ends_parameter : List Token → Bool
-ends_parameter [] = false
-ends_parameter (t ∷ ts) = is_comma t.kind || is_close t.kind
+  pub read : (at : ℕ) (o : Option (NodeId × ℕ)) → lists at ≡ Some o
+      → Answers u is_declarator tokens o (parameter_list (names_in typedefs types u tokens) depth_limit (drop at tokens))

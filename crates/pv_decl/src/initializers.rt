@@ -5,7 +5,7 @@ ghost use Rattle.pv_tree.specs.Tables.{tree_at, is_declaration, is_declarator, i
 ghost use Rattle.pv_tree.specs.Places.{Initializers};
 ghost use Rattle.pv_expr.specs.Known.{names_in};
 ghost use Rattle.pv_decl.specs.Answers.{Answers};
-ghost use Rattle.pv_decl.specs.Filled.{type_map};
+ghost use Rattle.pv_decl.specs.Filled.{list_map};
 ghost use Rattle.pv_decl.specs.Givens.{AreGiven};
 ghost use Rattle.pv_decl.specs.Rows.{AreAnswered, MayBeAnswered};
 ghost use Rattle.pv_decl.specs.Parts.{assigned};
@@ -30,7 +30,7 @@ impl<R: TypeReader> Source<'_, R> {
         into: &mut Unit,
     ) -> Result<Option<(NodeId, u32)>, NoMemory>
         requires place { at ≤ length self.now.tokens.now.tokens }
-        requires tied { AreGiven (type_map self.now.known.now) self.now.typedefs.now (R.types self.now.reader.now) (tables into.old) self.now.tokens.now.tokens }
+        requires tied { AreGiven (list_map self.now.lists.now) self.now.typedefs.now (R.types self.now.reader.now) (tables into.old) self.now.tokens.now.tokens }
         ensures keeps { Extends (tables into.old) (tables into.new) }
         ensures ok { IfOk result (λ r. Answers (tables into.new) is_initializer self.now.tokens.now.tokens r (readers (names_in self.now.typedefs.now (R.types self.now.reader.now) (tables into.old) self.now.tokens.now.tokens) depth Initializers (drop at self.now.tokens.now.tokens))) }
     {
@@ -62,7 +62,7 @@ impl<R: TypeReader> Source<'_, R> {
         into: &mut Unit,
     ) -> Result<Option<(NodeId, u32)>, NoMemory>
         requires place { at ≤ length self.now.tokens.now.tokens }
-        requires tied { AreGiven (type_map self.now.known.now) self.now.typedefs.now (R.types self.now.reader.now) (tables into.old) self.now.tokens.now.tokens }
+        requires tied { AreGiven (list_map self.now.lists.now) self.now.typedefs.now (R.types self.now.reader.now) (tables into.old) self.now.tokens.now.tokens }
         ensures keeps { Extends (tables into.old) (tables into.new) }
         ensures ok { IfOk result (λ r. Answers (tables into.new) is_expression self.now.tokens.now.tokens r (assigned (names_in self.now.typedefs.now (R.types self.now.reader.now) (tables into.old) self.now.tokens.now.tokens) depth (drop at self.now.tokens.now.tokens))) }
     {
@@ -86,7 +86,7 @@ impl<R: TypeReader> Source<'_, R> {
         into: &mut Unit,
     ) -> Result<(Vec<NodeId>, u32), NoMemory>
         requires place { at ≤ length self.now.tokens.now.tokens }
-        requires tied { AreGiven (type_map self.now.known.now) self.now.typedefs.now (R.types self.now.reader.now) (tables into.old) self.now.tokens.now.tokens }
+        requires tied { AreGiven (list_map self.now.lists.now) self.now.typedefs.now (R.types self.now.reader.now) (tables into.old) self.now.tokens.now.tokens }
         ensures keeps { Extends (tables into.old) (tables into.new) }
         ensures ok { IfOk result (λ r. AreAnswered (tables into.new) is_initializer self.now.tokens.now.tokens r.0.items r.1 (listed (readers (names_in self.now.typedefs.now (R.types self.now.reader.now) (tables into.old) self.now.tokens.now.tokens) depth Initializers) (drop at self.now.tokens.now.tokens))) }
     {
@@ -115,7 +115,7 @@ impl<R: TypeReader> Source<'_, R> {
         into: &mut Unit,
     ) -> Result<(Option<NodeId>, u32), NoMemory>
         requires place { at ≤ length self.now.tokens.now.tokens }
-        requires tied { AreGiven (type_map self.now.known.now) self.now.typedefs.now (R.types self.now.reader.now) (tables into.old) self.now.tokens.now.tokens }
+        requires tied { AreGiven (list_map self.now.lists.now) self.now.typedefs.now (R.types self.now.reader.now) (tables into.old) self.now.tokens.now.tokens }
         ensures keeps { Extends (tables into.old) (tables into.new) }
         ensures ok { IfOk result (λ r. MayBeAnswered (tables into.new) is_initializer self.now.tokens.now.tokens r.0 r.1 (value (readers (names_in self.now.typedefs.now (R.types self.now.reader.now) (tables into.old) self.now.tokens.now.tokens) depth Initializers) (drop at self.now.tokens.now.tokens))) }
     {
@@ -138,7 +138,7 @@ impl<R: TypeReader> Source<'_, R> {
         into: &mut Unit,
     ) -> Result<Option<(NodeId, u32)>, NoMemory>
         requires place { at ≤ length self.now.tokens.now.tokens }
-        requires tied { AreGiven (type_map self.now.known.now) self.now.typedefs.now (R.types self.now.reader.now) (tables into.old) self.now.tokens.now.tokens }
+        requires tied { AreGiven (list_map self.now.lists.now) self.now.typedefs.now (R.types self.now.reader.now) (tables into.old) self.now.tokens.now.tokens }
         requires declarator { Is (tables into.old) is_declarator declarator }
         ensures keeps { Extends (tables into.old) (tables into.new) }
         ensures ok { IfOk result (λ r. Answers (tables into.new) is_declaration self.now.tokens.now.tokens r (Some (initialized (readers (names_in self.now.typedefs.now (R.types self.now.reader.now) (tables into.old) self.now.tokens.now.tokens) depth) line (tree_at (tables into.old).forest declarator) (drop at self.now.tokens.now.tokens)))) }

@@ -5,7 +5,7 @@
 
 mod forms;
 mod initializers;
-mod known;
+mod lists;
 mod nodes;
 mod parser;
 mod pieces;

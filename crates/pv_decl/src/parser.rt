@@ -7,7 +7,7 @@ ghost use Rattle.pv_tree.specs.Tables.{tree_at, trees_of, declaration_at, is_dec
 ghost use Rattle.pv_tree.specs.TypeNames.{AreTied};
 ghost use Rattle.pv_expr.specs.Known.{names_in};
 ghost use Rattle.pv_decl.specs.Answers.{Answers};
-ghost use Rattle.pv_decl.specs.Filled.{type_map};
+ghost use Rattle.pv_decl.specs.Filled.{list_map};
 ghost use Rattle.pv_decl.specs.Givens.{AreGiven};
 ghost use Rattle.pv_decl.specs.Grammar.{SpellsDeclaration};
 ghost use Rattle.pv_decl.specs.Pieces.{row, after_comma};
@@ -15,9 +15,9 @@ ghost use Rattle.pv_decl.specs.Reader.{readers, after_specifiers, declaration, t
 ghost use Rattle.pv_decl.specs.Rows.{AreAnswered};
 
 use crate::forms::{Form, Part};
+use crate::lists::ParameterLists;
 use crate::pieces::{declaration_of, parameter_of, type_name_of};
 use crate::source::{Sign, Source, after, line_at, opens_block};
-use crate::type_table::TypeNames;
 use indexmap::IndexSet;
 use pv_lex::{NoMemory, Tokens};
 use pv_tree::{NodeId, TypeReader, Unit};
@@ -33,7 +33,7 @@ impl<R: TypeReader> Source<'_, R> {
         into: &mut Unit,
     ) -> Result<Option<(NodeId, u32)>, NoMemory>
         requires place { at ≤ length self.now.tokens.now.tokens }
-        requires tied { AreGiven (type_map self.now.known.now) self.now.typedefs.now (R.types self.now.reader.now) (tables into.old) self.now.tokens.now.tokens }
+        requires tied { AreGiven (list_map self.now.lists.now) self.now.typedefs.now (R.types self.now.reader.now) (tables into.old) self.now.tokens.now.tokens }
         requires specs { All (λ n. Is (tables into.old) is_specifier n) specs.now }
         ensures keeps { Extends (tables into.old) (tables into.new) }
         ensures ok { IfOk result (λ r. Answers (tables into.new) is_declaration self.now.tokens.now.tokens r (after_specifiers (readers (names_in self.now.typedefs.now (R.types self.now.reader.now) (tables into.old) self.now.tokens.now.tokens) below) line (trees_of (tables into.old).forest specs.now) (drop at self.now.tokens.now.tokens))) }
@@ -64,7 +64,7 @@ impl<R: TypeReader> Source<'_, R> {
         into: &mut Unit,
     ) -> Result<Option<(NodeId, u32)>, NoMemory>
         requires place { at ≤ length self.now.tokens.now.tokens }
-        requires tied { AreGiven (type_map self.now.known.now) self.now.typedefs.now (R.types self.now.reader.now) (tables into.old) self.now.tokens.now.tokens }
+        requires tied { AreGiven (list_map self.now.lists.now) self.now.typedefs.now (R.types self.now.reader.now) (tables into.old) self.now.tokens.now.tokens }
         ensures keeps { Extends (tables into.old) (tables into.new) }
         ensures ok { IfOk result (λ r. Answers (tables into.new) is_declaration self.now.tokens.now.tokens r (readers (names_in self.now.typedefs.now (R.types self.now.reader.now) (tables into.old) self.now.tokens.now.tokens) depth InitDeclarators (drop at self.now.tokens.now.tokens))) }
     {
@@ -84,7 +84,7 @@ impl<R: TypeReader> Source<'_, R> {
         into: &mut Unit,
     ) -> Result<(Vec<NodeId>, u32), NoMemory>
         requires place { at ≤ length self.now.tokens.now.tokens }
-        requires tied { AreGiven (type_map self.now.known.now) self.now.typedefs.now (R.types self.now.reader.now) (tables into.old) self.now.tokens.now.tokens }
+        requires tied { AreGiven (list_map self.now.lists.now) self.now.typedefs.now (R.types self.now.reader.now) (tables into.old) self.now.tokens.now.tokens }
         requires first { Is (tables into.old) is_declaration first }
         ensures keeps { Extends (tables into.old) (tables into.new) }
         ensures ok { IfOk result (λ r. AreAnswered (tables into.new) is_declaration self.now.tokens.now.tokens r.0.items r.1 (row (after_comma (readers (names_in self.now.typedefs.now (R.types self.now.reader.now) (tables into.old) self.now.tokens.now.tokens) below InitDeclarators)) (Then NoTrees (tree_at (tables into.old).forest first)) (drop at self.now.tokens.now.tokens))) }
@@ -111,7 +111,7 @@ impl<R: TypeReader> Source<'_, R> {
         into: &mut Unit,
     ) -> Result<Option<(NodeId, u32)>, NoMemory>
         requires place { at ≤ length self.now.tokens.now.tokens }
-        requires tied { AreGiven (type_map self.now.known.now) self.now.typedefs.now (R.types self.now.reader.now) (tables into.old) self.now.tokens.now.tokens }
+        requires tied { AreGiven (list_map self.now.lists.now) self.now.typedefs.now (R.types self.now.reader.now) (tables into.old) self.now.tokens.now.tokens }
         ensures keeps { Extends (tables into.old) (tables into.new) }
         ensures ok { IfOk result (λ r. Answers (tables into.new) is_declaration self.now.tokens.now.tokens r (declaration (names_in self.now.typedefs.now (R.types self.now.reader.now) (tables into.old) self.now.tokens.now.tokens) depth (drop at self.now.tokens.now.tokens))) }
     {
@@ -134,7 +134,7 @@ impl<R: TypeReader> Source<'_, R> {
         into: &mut Unit,
     ) -> Result<Option<(NodeId, u32)>, NoMemory>
         requires place { at ≤ length self.now.tokens.now.tokens }
-        requires tied { AreGiven (type_map self.now.known.now) self.now.typedefs.now (R.types self.now.reader.now) (tables into.old) self.now.tokens.now.tokens }
+        requires tied { AreGiven (list_map self.now.lists.now) self.now.typedefs.now (R.types self.now.reader.now) (tables into.old) self.now.tokens.now.tokens }
         ensures keeps { Extends (tables into.old) (tables into.new) }
         ensures ok { IfOk result (λ r. Answers (tables into.new) is_declaration self.now.tokens.now.tokens r (type_name (names_in self.now.typedefs.now (R.types self.now.reader.now) (tables into.old) self.now.tokens.now.tokens) depth (drop at self.now.tokens.now.tokens))) }
     {
@@ -191,12 +191,12 @@ pub fn declaration<R: TypeReader>(
     if at > t.len() {
         return Ok(None);
     }
-    let known = TypeNames::none(*types.allocator());
+    let lists = ParameterLists::new(*types.allocator(), 0);
     let source = Source {
         tokens: t,
         typedefs: types,
         reader,
-        known: &known,
+        lists: &lists,
     };
     source.declaration(at, depth, into)
 }

@@ -295,8 +295,8 @@ fn variadic_at(tokens: &Tokens, at: u32, parameters: &[NodeId]) -> (bool, u32)
     ellipsis_at(tokens, at)
 }
 
-// The node of a function behind a declarator that may be left out.
-fn function_node(
+/// The node of a function behind a declarator that may be left out.
+pub(crate) fn function_node(
     unit: &Unit,
     left: Option<NodeId>,
     parameters: ListId,

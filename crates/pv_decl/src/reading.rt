@@ -7,7 +7,7 @@ ghost use Rattle.pv_tree.specs.Tables.{tree_at, optional_at, is_declaration, is_
 ghost use Rattle.pv_expr.specs.Known.{names_in};
 ghost use Rattle.pv_expr.specs.Reader.{after};
 ghost use Rattle.pv_decl.specs.Answers.{Answers};
-ghost use Rattle.pv_decl.specs.Filled.{type_map};
+ghost use Rattle.pv_decl.specs.Filled.{list_map};
 ghost use Rattle.pv_decl.specs.Givens.{AreGiven};
 ghost use Rattle.pv_decl.specs.Rows.{AreAnswered};
 ghost use Rattle.pv_decl.specs.declared.forms.Part.TheVariants as part;
@@ -17,6 +17,7 @@ ghost use Rattle.pv_decl.specs.Pieces.{is_open_brace, row, listed};
 ghost use Rattle.pv_decl.specs.Reader.{readers, braced, listed_in_braces, row_in_braces, tag_at, with_tag};
 
 use crate::forms::{CompositeWord, Form, Opening, Part, TagWord};
+use crate::lists::DEPTH_LIMIT;
 use crate::nodes::may_go_on;
 use crate::pieces::{
     composite, enumeration, function_of, member_of, named, parameter_of, parenthesized, plain,
@@ -40,7 +41,7 @@ impl<R: TypeReader> Source<'_, R> {
         into: &mut Unit,
     ) -> Result<Option<(NodeId, u32)>, NoMemory>
         requires place { at ≤ length self.now.tokens.now.tokens }
-        requires tied { AreGiven (type_map self.now.known.now) self.now.typedefs.now (R.types self.now.reader.now) (tables into.old) self.now.tokens.now.tokens }
+        requires tied { AreGiven (list_map self.now.lists.now) self.now.typedefs.now (R.types self.now.reader.now) (tables into.old) self.now.tokens.now.tokens }
         ensures keeps { Extends (tables into.old) (tables into.new) }
         ensures ok { IfOk result (λ r. Answers (tables into.new) (kind_of_part part) self.now.tokens.now.tokens r (readers (names_in self.now.typedefs.now (R.types self.now.reader.now) (tables into.old) self.now.tokens.now.tokens) depth (place_of_part part) (drop at self.now.tokens.now.tokens))) }
     {
@@ -63,7 +64,7 @@ impl<R: TypeReader> Source<'_, R> {
         into: &mut Unit,
     ) -> Result<(Vec<NodeId>, u32), NoMemory>
         requires place { at ≤ length self.now.tokens.now.tokens }
-        requires tied { AreGiven (type_map self.now.known.now) self.now.typedefs.now (R.types self.now.reader.now) (tables into.old) self.now.tokens.now.tokens }
+        requires tied { AreGiven (list_map self.now.lists.now) self.now.typedefs.now (R.types self.now.reader.now) (tables into.old) self.now.tokens.now.tokens }
         ensures keeps { Extends (tables into.old) (tables into.new) }
         ensures ok { IfOk result (λ r. AreAnswered (tables into.new) (kind_of_part part) self.now.tokens.now.tokens r.0.items r.1 (row (readers (names_in self.now.typedefs.now (R.types self.now.reader.now) (tables into.old) self.now.tokens.now.tokens) depth (place_of_part part)) NoTrees (drop at self.now.tokens.now.tokens))) }
     {
@@ -88,7 +89,7 @@ impl<R: TypeReader> Source<'_, R> {
         into: &mut Unit,
     ) -> Result<(Vec<NodeId>, u32), NoMemory>
         requires place { at ≤ length self.now.tokens.now.tokens }
-        requires tied { AreGiven (type_map self.now.known.now) self.now.typedefs.now (R.types self.now.reader.now) (tables into.old) self.now.tokens.now.tokens }
+        requires tied { AreGiven (list_map self.now.lists.now) self.now.typedefs.now (R.types self.now.reader.now) (tables into.old) self.now.tokens.now.tokens }
         ensures keeps { Extends (tables into.old) (tables into.new) }
         ensures ok { IfOk result (λ r. AreAnswered (tables into.new) (kind_of_part part) self.now.tokens.now.tokens r.0.items r.1 (listed (readers (names_in self.now.typedefs.now (R.types self.now.reader.now) (tables into.old) self.now.tokens.now.tokens) depth (place_of_part part)) (drop at self.now.tokens.now.tokens))) }
     {
@@ -118,7 +119,7 @@ impl<R: TypeReader> Source<'_, R> {
         into: &mut Unit,
     ) -> Result<Option<(NodeId, u32)>, NoMemory>
         requires place { at ≤ length self.now.tokens.now.tokens }
-        requires tied { AreGiven (type_map self.now.known.now) self.now.typedefs.now (R.types self.now.reader.now) (tables into.old) self.now.tokens.now.tokens }
+        requires tied { AreGiven (list_map self.now.lists.now) self.now.typedefs.now (R.types self.now.reader.now) (tables into.old) self.now.tokens.now.tokens }
         ensures keeps { Extends (tables into.old) (tables into.new) }
         ensures ok { IfOk result (λ r. Answers (tables into.new) is_specifier self.now.tokens.now.tokens r (readers (names_in self.now.typedefs.now (R.types self.now.reader.now) (tables into.old) self.now.tokens.now.tokens) depth Specifiers (drop at self.now.tokens.now.tokens))) }
     {
@@ -144,7 +145,7 @@ impl<R: TypeReader> Source<'_, R> {
         into: &mut Unit,
     ) -> Result<Option<(NodeId, u32)>, NoMemory>
         requires place { at ≤ length self.now.tokens.now.tokens }
-        requires tied { AreGiven (type_map self.now.known.now) self.now.typedefs.now (R.types self.now.reader.now) (tables into.old) self.now.tokens.now.tokens }
+        requires tied { AreGiven (list_map self.now.lists.now) self.now.typedefs.now (R.types self.now.reader.now) (tables into.old) self.now.tokens.now.tokens }
         ensures keeps { Extends (tables into.old) (tables into.new) }
         ensures ok { IfOk result (λ r. Answers (tables into.new) is_specifier self.now.tokens.now.tokens r (with_tag (within (names_in self.now.typedefs.now (R.types self.now.reader.now) (tables into.old) self.now.tokens.now.tokens) depth) line (word_of_tag word) (tag_at (drop at self.now.tokens.now.tokens)))) }
     {
@@ -169,7 +170,7 @@ impl<R: TypeReader> Source<'_, R> {
         into: &mut Unit,
     ) -> Result<Option<(NodeId, u32)>, NoMemory>
         requires place { at ≤ length self.now.tokens.now.tokens }
-        requires tied { AreGiven (type_map self.now.known.now) self.now.typedefs.now (R.types self.now.reader.now) (tables into.old) self.now.tokens.now.tokens }
+        requires tied { AreGiven (list_map self.now.lists.now) self.now.typedefs.now (R.types self.now.reader.now) (tables into.old) self.now.tokens.now.tokens }
         ensures keeps { Extends (tables into.old) (tables into.new) }
         ensures ok { IfOk result (λ r. Answers (tables into.new) is_specifier self.now.tokens.now.tokens r (option_and_then (braced (within (names_in self.now.typedefs.now (R.types self.now.reader.now) (tables into.old) self.now.tokens.now.tokens) depth) line (word_of_tag word) tag) (after is_open_brace (drop at self.now.tokens.now.tokens)))) }
     {
@@ -199,7 +200,7 @@ impl<R: TypeReader> Source<'_, R> {
         into: &mut Unit,
     ) -> Result<Option<(NodeId, u32)>, NoMemory>
         requires place { at ≤ length self.now.tokens.now.tokens }
-        requires tied { AreGiven (type_map self.now.known.now) self.now.typedefs.now (R.types self.now.reader.now) (tables into.old) self.now.tokens.now.tokens }
+        requires tied { AreGiven (list_map self.now.lists.now) self.now.typedefs.now (R.types self.now.reader.now) (tables into.old) self.now.tokens.now.tokens }
         ensures keeps { Extends (tables into.old) (tables into.new) }
         ensures ok { IfOk result (λ r. Answers (tables into.new) is_specifier self.now.tokens.now.tokens r (listed_in_braces (λ trees comma. OfSpecifier (Enumeration line tag trees comma)) (listed (readers (names_in self.now.typedefs.now (R.types self.now.reader.now) (tables into.old) self.now.tokens.now.tokens) below Enumerators) (drop at self.now.tokens.now.tokens)))) }
     {
@@ -220,7 +221,7 @@ impl<R: TypeReader> Source<'_, R> {
         into: &mut Unit,
     ) -> Result<Option<(NodeId, u32)>, NoMemory>
         requires place { at ≤ length self.now.tokens.now.tokens }
-        requires tied { AreGiven (type_map self.now.known.now) self.now.typedefs.now (R.types self.now.reader.now) (tables into.old) self.now.tokens.now.tokens }
+        requires tied { AreGiven (list_map self.now.lists.now) self.now.typedefs.now (R.types self.now.reader.now) (tables into.old) self.now.tokens.now.tokens }
         ensures keeps { Extends (tables into.old) (tables into.new) }
         ensures ok { IfOk result (λ r. Answers (tables into.new) is_specifier self.now.tokens.now.tokens r (row_in_braces (λ trees. OfSpecifier (Composite line (word_of_composite composite_word) tag trees)) (row (readers (names_in self.now.typedefs.now (R.types self.now.reader.now) (tables into.old) self.now.tokens.now.tokens) below Members) NoTrees (drop at self.now.tokens.now.tokens)))) }
     {
@@ -238,7 +239,7 @@ impl<R: TypeReader> Source<'_, R> {
         into: &mut Unit,
     ) -> Result<Option<(NodeId, u32)>, NoMemory>
         requires place { at ≤ length self.now.tokens.now.tokens }
-        requires tied { AreGiven (type_map self.now.known.now) self.now.typedefs.now (R.types self.now.reader.now) (tables into.old) self.now.tokens.now.tokens }
+        requires tied { AreGiven (list_map self.now.lists.now) self.now.typedefs.now (R.types self.now.reader.now) (tables into.old) self.now.tokens.now.tokens }
         ensures keeps { Extends (tables into.old) (tables into.new) }
         ensures ok { IfOk result (λ r. Answers (tables into.new) is_declaration self.now.tokens.now.tokens r (readers (names_in self.now.typedefs.now (R.types self.now.reader.now) (tables into.old) self.now.tokens.now.tokens) depth Members (drop at self.now.tokens.now.tokens))) }
     {
@@ -261,27 +262,7 @@ impl<R: TypeReader> Source<'_, R> {
         into: &mut Unit,
     ) -> Result<Option<(NodeId, u32)>, NoMemory>
         requires place { at ≤ length self.now.tokens.now.tokens }
-        requires tied { AreGiven (type_map self.now.known.now) self.now.typedefs.now (R.types self.now.reader.now) (tables into.old) self.now.tokens.now.tokens }
-        ensures keeps { Extends (tables into.old) (tables into.new) }
-        ensures ok { IfOk result (λ r. Answers (tables into.new) is_declaration self.now.tokens.now.tokens r (readers (names_in self.now.typedefs.now (R.types self.now.reader.now) (tables into.old) self.now.tokens.now.tokens) depth Parameters (drop at self.now.tokens.now.tokens))) }
-    {
-        match self.known_parameter(at, depth, into)? {
-            Some(found) => Ok(Some(found)),
-            None => self.unknown_parameter(at, depth, into),
-        }
-    }
-
-    // A parameter that is not known, so that it has to be read (C17 6.7.6p1).
-    #[cycle(reading)]
-    #[tactic(auto, using(pv_tree::proofs::Kept::extends_same))]
-    fn unknown_parameter(
-        &self,
-        at: u32,
-        depth: u32,
-        into: &mut Unit,
-    ) -> Result<Option<(NodeId, u32)>, NoMemory>
-        requires place { at ≤ length self.now.tokens.now.tokens }
-        requires tied { AreGiven (type_map self.now.known.now) self.now.typedefs.now (R.types self.now.reader.now) (tables into.old) self.now.tokens.now.tokens }
+        requires tied { AreGiven (list_map self.now.lists.now) self.now.typedefs.now (R.types self.now.reader.now) (tables into.old) self.now.tokens.now.tokens }
         ensures keeps { Extends (tables into.old) (tables into.new) }
         ensures ok { IfOk result (λ r. Answers (tables into.new) is_declaration self.now.tokens.now.tokens r (readers (names_in self.now.typedefs.now (R.types self.now.reader.now) (tables into.old) self.now.tokens.now.tokens) depth Parameters (drop at self.now.tokens.now.tokens))) }
     {
@@ -308,7 +289,7 @@ impl<R: TypeReader> Source<'_, R> {
         into: &mut Unit,
     ) -> Result<Option<(NodeId, u32)>, NoMemory>
         requires place { at ≤ length self.now.tokens.now.tokens }
-        requires tied { AreGiven (type_map self.now.known.now) self.now.typedefs.now (R.types self.now.reader.now) (tables into.old) self.now.tokens.now.tokens }
+        requires tied { AreGiven (list_map self.now.lists.now) self.now.typedefs.now (R.types self.now.reader.now) (tables into.old) self.now.tokens.now.tokens }
         ensures keeps { Extends (tables into.old) (tables into.new) }
         ensures ok { IfOk result (λ r. Answers (tables into.new) is_declarator self.now.tokens.now.tokens r (readers (names_in self.now.typedefs.now (R.types self.now.reader.now) (tables into.old) self.now.tokens.now.tokens) depth (place_of_part (part.Declarator form)) (drop at self.now.tokens.now.tokens))) }
     {
@@ -334,7 +315,7 @@ impl<R: TypeReader> Source<'_, R> {
         into: &mut Unit,
     ) -> Result<Option<(NodeId, u32)>, NoMemory>
         requires place { at ≤ length self.now.tokens.now.tokens }
-        requires tied { AreGiven (type_map self.now.known.now) self.now.typedefs.now (R.types self.now.reader.now) (tables into.old) self.now.tokens.now.tokens }
+        requires tied { AreGiven (list_map self.now.lists.now) self.now.typedefs.now (R.types self.now.reader.now) (tables into.old) self.now.tokens.now.tokens }
         requires node { Is (tables into.old) is_declarator first }
         ensures keeps { Extends (tables into.old) (tables into.new) }
         ensures ok { IfOk result (λ r. Answers (tables into.new) is_declarator self.now.tokens.now.tokens r (Some (grown (readers (names_in self.now.typedefs.now (R.types self.now.reader.now) (tables into.old) self.now.tokens.now.tokens) below) below line (tree_at (tables into.old).forest first) (drop at self.now.tokens.now.tokens)))) }
@@ -365,7 +346,7 @@ impl<R: TypeReader> Source<'_, R> {
         into: &mut Unit,
     ) -> Result<Option<(NodeId, u32)>, NoMemory>
         requires place { at ≤ length self.now.tokens.now.tokens }
-        requires tied { AreGiven (type_map self.now.known.now) self.now.typedefs.now (R.types self.now.reader.now) (tables into.old) self.now.tokens.now.tokens }
+        requires tied { AreGiven (list_map self.now.lists.now) self.now.typedefs.now (R.types self.now.reader.now) (tables into.old) self.now.tokens.now.tokens }
         requires node { Is (tables into.old) is_declarator left }
         ensures keeps { Extends (tables into.old) (tables into.new) }
         ensures ok { IfOk result (λ r. Answers (tables into.new) is_declarator self.now.tokens.now.tokens r (longer (readers (names_in self.now.typedefs.now (R.types self.now.reader.now) (tables into.old) self.now.tokens.now.tokens) below) below line (tree_at (tables into.old).forest left) (drop at self.now.tokens.now.tokens))) }
@@ -386,10 +367,10 @@ impl<R: TypeReader> Source<'_, R> {
         }
     }
 
-    // Parameters behind a declarator that may be left out, from behind the `(` on (C17 6.7.6.3).
+    /// Parameters behind a declarator that may be left out, from behind the `(` on (C17 6.7.6.3).
     #[cycle(reading)]
     #[tactic(auto, using(pv_tree::proofs::Kept::extends_same))]
-    fn parameters(
+    pub(crate) fn parameters(
         &self,
         at: u32,
         left: Option<NodeId>,
@@ -398,7 +379,32 @@ impl<R: TypeReader> Source<'_, R> {
         into: &mut Unit,
     ) -> Result<Option<(NodeId, u32)>, NoMemory>
         requires place { at ≤ length self.now.tokens.now.tokens }
-        requires tied { AreGiven (type_map self.now.known.now) self.now.typedefs.now (R.types self.now.reader.now) (tables into.old) self.now.tokens.now.tokens }
+        requires tied { AreGiven (list_map self.now.lists.now) self.now.typedefs.now (R.types self.now.reader.now) (tables into.old) self.now.tokens.now.tokens }
+        requires left { IfSome left (λ n. Is (tables into.old) is_declarator n) }
+        ensures keeps { Extends (tables into.old) (tables into.new) }
+        ensures ok { IfOk result (λ r. Answers (tables into.new) is_declarator self.now.tokens.now.tokens r (parametrized (function_of line (optional_at (tables into.old).forest left)) (readers (names_in self.now.typedefs.now (R.types self.now.reader.now) (tables into.old) self.now.tokens.now.tokens) below) (drop at self.now.tokens.now.tokens))) }
+    {
+        if below <= DEPTH_LIMIT {
+            if let Some(list) = self.lists.at(at) {
+                return self.known_parameters(at, list, left, line, below, into);
+            }
+        }
+        self.unknown_parameters(at, left, line, below, into)
+    }
+
+    // The same, where it is not known which they are.
+    #[cycle(reading)]
+    #[tactic(auto, using(pv_tree::proofs::Kept::extends_same))]
+    fn unknown_parameters(
+        &self,
+        at: u32,
+        left: Option<NodeId>,
+        line: u32,
+        below: u32,
+        into: &mut Unit,
+    ) -> Result<Option<(NodeId, u32)>, NoMemory>
+        requires place { at ≤ length self.now.tokens.now.tokens }
+        requires tied { AreGiven (list_map self.now.lists.now) self.now.typedefs.now (R.types self.now.reader.now) (tables into.old) self.now.tokens.now.tokens }
         requires left { IfSome left (λ n. Is (tables into.old) is_declarator n) }
         ensures keeps { Extends (tables into.old) (tables into.new) }
         ensures ok { IfOk result (λ r. Answers (tables into.new) is_declarator self.now.tokens.now.tokens r (parametrized (function_of line (optional_at (tables into.old).forest left)) (readers (names_in self.now.typedefs.now (R.types self.now.reader.now) (tables into.old) self.now.tokens.now.tokens) below) (drop at self.now.tokens.now.tokens))) }
@@ -418,7 +424,7 @@ impl<R: TypeReader> Source<'_, R> {
         into: &mut Unit,
     ) -> Result<Option<(NodeId, u32)>, NoMemory>
         requires place { at ≤ length self.now.tokens.now.tokens }
-        requires tied { AreGiven (type_map self.now.known.now) self.now.typedefs.now (R.types self.now.reader.now) (tables into.old) self.now.tokens.now.tokens }
+        requires tied { AreGiven (list_map self.now.lists.now) self.now.typedefs.now (R.types self.now.reader.now) (tables into.old) self.now.tokens.now.tokens }
         ensures keeps { Extends (tables into.old) (tables into.new) }
         ensures ok { IfOk result (λ r. Answers (tables into.new) is_declarator self.now.tokens.now.tokens r (head (names_in self.now.typedefs.now (R.types self.now.reader.now) (tables into.old) self.now.tokens.now.tokens) (readers (names_in self.now.typedefs.now (R.types self.now.reader.now) (tables into.old) self.now.tokens.now.tokens) below) form (drop at self.now.tokens.now.tokens))) }
     {
@@ -452,7 +458,7 @@ impl<R: TypeReader> Source<'_, R> {
         into: &mut Unit,
     ) -> Result<Option<(NodeId, u32)>, NoMemory>
         requires place { at ≤ length self.now.tokens.now.tokens }
-        requires tied { AreGiven (type_map self.now.known.now) self.now.typedefs.now (R.types self.now.reader.now) (tables into.old) self.now.tokens.now.tokens }
+        requires tied { AreGiven (list_map self.now.lists.now) self.now.typedefs.now (R.types self.now.reader.now) (tables into.old) self.now.tokens.now.tokens }
         ensures keeps { Extends (tables into.old) (tables into.new) }
         ensures ok { IfOk result (λ r. Answers (tables into.new) is_declarator self.now.tokens.now.tokens r (pointer (readers (names_in self.now.typedefs.now (R.types self.now.reader.now) (tables into.old) self.now.tokens.now.tokens) below) form line (consts_in_row (drop at self.now.tokens.now.tokens)) (drop (consts_in_row (drop at self.now.tokens.now.tokens)) (drop at self.now.tokens.now.tokens)))) }
     {
@@ -474,7 +480,7 @@ impl<R: TypeReader> Source<'_, R> {
         into: &mut Unit,
     ) -> Result<Option<(NodeId, u32)>, NoMemory>
         requires place { at ≤ length self.now.tokens.now.tokens }
-        requires tied { AreGiven (type_map self.now.known.now) self.now.typedefs.now (R.types self.now.reader.now) (tables into.old) self.now.tokens.now.tokens }
+        requires tied { AreGiven (list_map self.now.lists.now) self.now.typedefs.now (R.types self.now.reader.now) (tables into.old) self.now.tokens.now.tokens }
         ensures keeps { Extends (tables into.old) (tables into.new) }
         ensures ok { IfOk result (λ r. Answers (tables into.new) is_declarator self.now.tokens.now.tokens r (opened (names_in self.now.typedefs.now (R.types self.now.reader.now) (tables into.old) self.now.tokens.now.tokens) (readers (names_in self.now.typedefs.now (R.types self.now.reader.now) (tables into.old) self.now.tokens.now.tokens) below) form line (drop at self.now.tokens.now.tokens))) }
     {

@@ -8,14 +8,13 @@ ghost use Rattle.pv_tree.specs.Tables.{Tables};
 ghost use Rattle.pv_tree.specs.TypeNames.{TypeMap};
 ghost use Rattle.pv_expr.specs.Known.{names_in};
 ghost use Rattle.pv_decl.specs.Declarators.{consts_in_row, opens_parameters};
-ghost use Rattle.pv_decl.specs.Givens.{ends_parameter};
 ghost use Rattle.pv_decl.specs.Parts.{test_of, is_const_next, tag_word_of, opening_of};
 ghost use Rattle.pv_decl.specs.Pieces.{is_ellipsis, found_in};
 ghost use Rattle.pv_decl.specs.Reader.{name_of, tag_at};
 ghost use Rattle.pv_decl.specs.Grammar.{opens_block};
 
 use crate::forms::{CompositeWord, Opening, TagWord};
-use crate::type_table::TypeNames;
+use crate::lists::ParameterLists;
 use indexmap::IndexSet;
 use pv_lex::{Mark, Token, TokenKind, Tokens, Word};
 
@@ -26,9 +25,8 @@ pub(crate) struct Source<'a, R> {
     /// The typedef names.
     pub(crate) typedefs: &'a IndexSet<u32>,
     pub(crate) reader: &'a R,
-    /// Type names that reading with the reader's gives, so that what begins with one is not read
-    /// once more.
-    pub(crate) known: &'a TypeNames,
+    /// The lists of parameters that are known, so that they are not read once more.
+    pub(crate) lists: &'a ParameterLists,
 }
 
 /// A mark that a part of a declaration ends with or goes on with.
@@ -245,17 +243,6 @@ pub(crate) fn opens_block(tokens: &Tokens, at: u32) -> bool
 {
     match peek(tokens, at) {
         Some(token) => Sign::OpenBrace.is(token.kind),
-        None => false,
-    }
-}
-
-/// Whether a `,` or a `)` stands at a place, as behind each parameter (C17 6.7.6p1).
-pub(crate) fn ends_parameter(tokens: &Tokens, at: u32) -> bool
-    requires { at ≤ length tokens.now.tokens }
-    ensures { result ≡ ends_parameter (drop at tokens.now.tokens) }
-{
-    match peek(tokens, at) {
-        Some(token) => Sign::Comma.is(token.kind) || Sign::CloseParen.is(token.kind),
         None => false,
     }
 }

@@ -1,26 +1,24 @@
 //! The type names that stand in parentheses.
-ghost use Rattle.std.specs.Prelude.{◌≡◌, ◌<◌, ◌≤◌, ◌⊎◌, ℕ, true, false, length, None, nat_eq, IfOk, IfSome};
+ghost use Rattle.std.specs.Prelude.{◌≡◌, ◌<◌, ◌≤◌, ◌⊎◌, ℕ, true, false, length, drop, None, nat_eq, IfOk, IfSome};
 ghost use Rattle.indexmap.specs.IndexSet.{contains};
 ghost use Rattle.pv_tree.specs.Rows.{tables};
 ghost use Rattle.pv_tree.specs.Syntax.{DeclarationTree};
-ghost use Rattle.pv_tree.specs.Tables.{declaration_at, is_declaration, Is, Extends};
+ghost use Rattle.pv_tree.specs.Tables.{declaration_at, is_declaration, is_declarator, Is, Extends};
 ghost use Rattle.pv_tree.specs.TypeNames.{AreTied};
 ghost use Rattle.pv_tree.specs.Units.{depth_limit};
 ghost use Rattle.pv_expr.specs.Known.{names_in};
 ghost use Rattle.pv_decl.specs.Answers.{Answers};
-ghost use Rattle.pv_decl.specs.Filled.{type_map, is_behind_open, entry};
-ghost use Rattle.pv_decl.specs.Givens.{AreGiven};
+ghost use Rattle.pv_decl.specs.Filled.{type_map, list_map, is_behind_open, entry};
+ghost use Rattle.pv_decl.specs.Givens.{AreGiven, parameter_list};
 ghost use Rattle.pv_decl.specs.Grammar.{SpellsTypeName};
 ghost use Rattle.pv_decl.specs.TypeNames.{AreTypeNames};
 
+use crate::lists::{DEPTH_LIMIT, ParameterLists};
 use crate::source::{Source, is_open, peek};
 use indexmap::IndexSet;
 use pv_lex::{NoMemory, Tokens};
 use pv_tree::{NodeId, TypeReader, Unit};
 use std::alloc::Global;
-
-/// How deep an external declaration may be, and so a type name within (C17 5.2.4.1).
-const DEPTH_LIMIT: u32 = 500;
 
 /// The type names that begin at places behind a `(` (C17 6.7.7).
 #[derive(Drop)]
@@ -29,18 +27,6 @@ pub struct TypeNames {
     to: u32,
     /// What begins at each place, from the last back to the first.
     found: Vec<Option<(NodeId, u32)>>,
-}
-
-impl TypeNames {
-    /// A table without type names.
-    pub(crate) fn none(alloc: Global) -> TypeNames
-        ensures { (at : ℕ) → type_map result at ≡ None }
-    {
-        TypeNames {
-            to: 0,
-            found: Vec::new(alloc),
-        }
-    }
 }
 
 impl TypeReader for TypeNames {
@@ -81,10 +67,11 @@ fn entry(
     at: u32,
     types: &IndexSet<u32>,
     names: &TypeNames,
+    lists: &ParameterLists,
     into: &mut Unit,
 ) -> Result<Option<(NodeId, u32)>, NoMemory>
     requires place { at ≤ length t.now.tokens }
-    requires tied { AreGiven (type_map names.now) types.now (type_map names.now) (tables into.old) t.now.tokens }
+    requires tied { AreGiven (list_map lists.now) types.now (type_map names.now) (tables into.old) t.now.tokens }
     ensures keeps { Extends (tables into.old) (tables into.new) }
     ensures ok { IfOk result (λ r. Answers (tables into.new) is_declaration t.now.tokens r (entry (names_in types.now (type_map names.now) (tables into.old) t.now.tokens) depth_limit t.now.tokens at)) }
 {
@@ -95,16 +82,43 @@ fn entry(
         tokens: t,
         typedefs: types,
         reader: names,
-        known: names,
+        lists,
     };
     source.type_name(at, DEPTH_LIMIT, into)
+}
+
+// The list of parameters at a place, if `(` is before it, as an abstract declarator.
+fn list_entry(
+    t: &Tokens,
+    at: u32,
+    types: &IndexSet<u32>,
+    names: &TypeNames,
+    lists: &ParameterLists,
+    into: &mut Unit,
+) -> Result<Option<Option<(NodeId, u32)>>, NoMemory>
+    requires place { at ≤ length t.now.tokens }
+    requires tied { AreGiven (list_map lists.now) types.now (type_map names.now) (tables into.old) t.now.tokens }
+    ensures keeps { Extends (tables into.old) (tables into.new) }
+    ensures ok { IfOk result (λ r. IfSome r (λ o. Answers (tables into.new) is_declarator t.now.tokens o (parameter_list (names_in types.now (type_map names.now) (tables into.old) t.now.tokens) depth_limit (drop at t.now.tokens)))) }
+{
+    if !is_behind_open(t, at) {
+        return Ok(None);
+    }
+    let source = Source {
+        tokens: t,
+        typedefs: types,
+        reader: names,
+        lists,
+    };
+    Ok(Some(source.parameters(at, None, 0, DEPTH_LIMIT, into)?))
 }
 
 /// The longest type name of at most 500 levels of nesting that begins at each place from `from` to
 /// before `to` whose token before is a `(`.
 ///
 /// They are filled from the last place to the first, since a type name within another begins
-/// later. `types` are the numbers of the typedef names. The nodes are added to `into`, also those
+/// later. So are the lists of parameters, and a list within another is not read once more: else
+/// what stands in many of them would be read as often. `types` are the numbers of the typedef names. The nodes are added to `into`, also those
 /// that turn out to be part of no type name. The error is want of memory, or that `into` is full.
 pub fn type_names(
     alloc: Global,
@@ -148,11 +162,14 @@ pub fn type_names(
         to: to.min(t.len()),
         found: Vec::new(alloc),
     };
+    let mut lists = ParameterLists::new(alloc, names.to);
     let mut at = names.to;
     while at > from {
         at -= 1;
-        let found = entry(t, at, types, &names, into)?;
+        let found = entry(t, at, types, &names, &lists, into)?;
         names.found.push(found)?;
+        let list = list_entry(t, at, types, &names, &lists, into)?;
+        lists.found.push(list)?;
     }
     Ok(names)
 }

@@ -6,7 +6,7 @@ ghost use Rattle.pv_tree.specs.Tables.{optional_at, is_declaration, is_declarato
 ghost use Rattle.pv_tree.specs.Places.{Constants, Enumerators};
 ghost use Rattle.pv_expr.specs.Known.{names_in};
 ghost use Rattle.pv_decl.specs.Answers.{Answers};
-ghost use Rattle.pv_decl.specs.Filled.{type_map};
+ghost use Rattle.pv_decl.specs.Filled.{list_map};
 ghost use Rattle.pv_decl.specs.Givens.{AreGiven};
 ghost use Rattle.pv_decl.specs.Rows.{MayBeAnswered};
 ghost use Rattle.pv_decl.specs.Declarators.{allows_abstract, sized};
@@ -32,7 +32,7 @@ impl<R: TypeReader> Source<'_, R> {
         into: &mut Unit,
     ) -> Result<Option<(NodeId, u32)>, NoMemory>
         requires place { at ≤ length self.now.tokens.now.tokens }
-        requires tied { AreGiven (type_map self.now.known.now) self.now.typedefs.now (R.types self.now.reader.now) (tables into.old) self.now.tokens.now.tokens }
+        requires tied { AreGiven (list_map self.now.lists.now) self.now.typedefs.now (R.types self.now.reader.now) (tables into.old) self.now.tokens.now.tokens }
         ensures keeps { Extends (tables into.old) (tables into.new) }
         ensures ok { IfOk result (λ r. Answers (tables into.new) is_expression self.now.tokens.now.tokens r (readers (names_in self.now.typedefs.now (R.types self.now.reader.now) (tables into.old) self.now.tokens.now.tokens) depth Constants (drop at self.now.tokens.now.tokens))) }
     {
@@ -58,7 +58,7 @@ impl<R: TypeReader> Source<'_, R> {
         into: &mut Unit,
     ) -> Result<Option<(NodeId, u32)>, NoMemory>
         requires place { at ≤ length self.now.tokens.now.tokens }
-        requires tied { AreGiven (type_map self.now.known.now) self.now.typedefs.now (R.types self.now.reader.now) (tables into.old) self.now.tokens.now.tokens }
+        requires tied { AreGiven (list_map self.now.lists.now) self.now.typedefs.now (R.types self.now.reader.now) (tables into.old) self.now.tokens.now.tokens }
         requires left { IfSome left (λ n. Is (tables into.old) is_declarator n) }
         ensures keeps { Extends (tables into.old) (tables into.new) }
         ensures ok { IfOk result (λ r. Answers (tables into.new) is_declarator self.now.tokens.now.tokens r (sized (array_of line (optional_at (tables into.old).forest left)) (readers (names_in self.now.typedefs.now (R.types self.now.reader.now) (tables into.old) self.now.tokens.now.tokens) below) (drop at self.now.tokens.now.tokens))) }
@@ -80,7 +80,7 @@ impl<R: TypeReader> Source<'_, R> {
         into: &mut Unit,
     ) -> Result<Option<(NodeId, u32)>, NoMemory>
         requires place { at ≤ length self.now.tokens.now.tokens }
-        requires tied { AreGiven (type_map self.now.known.now) self.now.typedefs.now (R.types self.now.reader.now) (tables into.old) self.now.tokens.now.tokens }
+        requires tied { AreGiven (list_map self.now.lists.now) self.now.typedefs.now (R.types self.now.reader.now) (tables into.old) self.now.tokens.now.tokens }
         ensures keeps { Extends (tables into.old) (tables into.new) }
         ensures ok { IfOk result (λ r. Answers (tables into.new) is_declarator self.now.tokens.now.tokens r (if allows_abstract form then sized (array_of line Absent) (readers (names_in self.now.typedefs.now (R.types self.now.reader.now) (tables into.old) self.now.tokens.now.tokens) below) (drop at self.now.tokens.now.tokens) else None)) }
     {
@@ -100,7 +100,7 @@ impl<R: TypeReader> Source<'_, R> {
         into: &mut Unit,
     ) -> Result<(Option<NodeId>, u32), NoMemory>
         requires place { at ≤ length self.now.tokens.now.tokens }
-        requires tied { AreGiven (type_map self.now.known.now) self.now.typedefs.now (R.types self.now.reader.now) (tables into.old) self.now.tokens.now.tokens }
+        requires tied { AreGiven (list_map self.now.lists.now) self.now.typedefs.now (R.types self.now.reader.now) (tables into.old) self.now.tokens.now.tokens }
         ensures keeps { Extends (tables into.old) (tables into.new) }
         ensures ok { IfOk result (λ r. MayBeAnswered (tables into.new) is_expression self.now.tokens.now.tokens r.0 r.1 (value (readers (names_in self.now.typedefs.now (R.types self.now.reader.now) (tables into.old) self.now.tokens.now.tokens) depth Constants) (drop at self.now.tokens.now.tokens))) }
     {
@@ -122,7 +122,7 @@ impl<R: TypeReader> Source<'_, R> {
         into: &mut Unit,
     ) -> Result<Option<(NodeId, u32)>, NoMemory>
         requires place { at ≤ length self.now.tokens.now.tokens }
-        requires tied { AreGiven (type_map self.now.known.now) self.now.typedefs.now (R.types self.now.reader.now) (tables into.old) self.now.tokens.now.tokens }
+        requires tied { AreGiven (list_map self.now.lists.now) self.now.typedefs.now (R.types self.now.reader.now) (tables into.old) self.now.tokens.now.tokens }
         ensures keeps { Extends (tables into.old) (tables into.new) }
         ensures ok { IfOk result (λ r. Answers (tables into.new) is_declaration self.now.tokens.now.tokens r (readers (names_in self.now.typedefs.now (R.types self.now.reader.now) (tables into.old) self.now.tokens.now.tokens) depth Enumerators (drop at self.now.tokens.now.tokens))) }
     {

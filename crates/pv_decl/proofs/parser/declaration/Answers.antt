@@ -3,9 +3,9 @@ use Rattle.std.proofs.lemmas.Result.{MatchResult-weaker}
 use Rattle.pv_tree.specs.Rows.{tables}
 use Rattle.pv_tree.proofs.Kept.{extends_same}
 use Rattle.pv_expr.specs.Known.{names_in}
-use Rattle.pv_decl.specs.Filled.{type_map}
+use Rattle.pv_decl.specs.Filled.{list_map}
 use Rattle.pv_decl.proofs.Answered.{nothing}
-use Rattle.pv_decl.proofs.Givens.{given_tied}
+use Rattle.pv_decl.proofs.Givens.{given_tied, no_lists}
 use Rattle.pv_decl.proofs.Outer.{declaration_end, found, longest, only, none}
 use Rattle.pv_decl.proofs.parser.declaration.Goals as goal
 
@@ -33,4 +33,4 @@ returns-clause-none g c =
     MatchResult-weaker c.declaration.result c.declaration.ensures.ok (λ r a. none c.args.types.now (g.R.TypeReader.types c.args.reader.now) (tables c.args.into.now) (tables c.declaration.new.into) c.args.t.now.tokens c.args.at c.args.depth c.requires (omega arith) r a) (λ e h. h)
 
 pub declaration-requires-clause-tied : goal.declaration-requires-clause-tied
-declaration-requires-clause-tied g c = given_tied (type_map c.none-known.result) c.args.types.now (g.R.TypeReader.types c.args.reader.now) (tables c.args.into.now) c.args.t.now.tokens c.none-known.ensures c.requires
+declaration-requires-clause-tied g c = given_tied (list_map c.new-lists.result) c.args.types.now (g.R.TypeReader.types c.args.reader.now) (tables c.args.into.now) c.args.t.now.tokens (no_lists c.new-lists.result c.new-lists.ensures.items) c.requires

@@ -1,12 +1,14 @@
-use Rattle.std.proofs.Common.{ap, ◌∙◌, ◌<◌, ◌≤◌, ◌-◌, length, nat_eq, arith, refl, inl, inr}
+use Rattle.std.proofs.Common.{ap, ◌∙◌, ◌<◌, ◌≤◌, ◌-◌, [], ◌∷◌, length, nat_eq, arith, refl, inl, inr}
 use Rattle.std.specs.Prelude.{min}
+use Rattle.std.proofs.lemmas.List.{length-append}
 use Rattle.indexmap.specs.IndexSet.{contains}
 use Rattle.pv_tree.specs.Rows.{tables}
 use Rattle.pv_tree.specs.Units.{depth_limit}
 use Rattle.pv_tree.proofs.Kept.{extends_same, extends_then}
 use Rattle.pv_expr.specs.Known.{names_in}
-use Rattle.pv_decl.specs.Filled.{type_map}
-use Rattle.pv_decl.proofs.Filling.{cut_by, filled_none, filled_step, filled_given, filled_outside, filled_elsewhere, filled_whole}
+use Rattle.pv_decl.specs.Filled.{type_map, list_map}
+use Rattle.pv_decl.proofs.Filling.{cut_by, filled_none, filled_step, filled_kept, names_step, lists_step, filled_outside, filled_elsewhere, filled_whole}
+use Rattle.pv_decl.proofs.Givens.{given_tied, no_lists}
 use Rattle.pv_decl.proofs.Tabled.{table_found, table_longest, table_only, table_none}
 use Rattle.pv_decl.proofs.type_table.type_names.Goals as goal
 
@@ -18,6 +20,10 @@ loop-at-init c =
     let cut = c.min.ensures ∙ ap (min c.args.to) c.len.ensures in
     record {
       filled = filled_none (contains nat_eq c.args.types.now) (tables c.args.into.now) tokens depth_limit c.min.result c.new.result.items c.min.result (cut_by c.min.result c.args.to (length tokens) cut).1 refl c.new.ensures.items;
+      given = given_tied (list_map c.new-lists.result) c.args.types.now (type_map (record { to = c.min.result; found = c.new.result })) (tables c.args.into.now) tokens (no_lists c.new-lists.result c.new-lists.ensures.items)
+          (filled_none (contains nat_eq c.args.types.now) (tables c.args.into.now) tokens depth_limit c.min.result c.new.result.items c.min.result (cut_by c.min.result c.args.to (length tokens) cut).1 refl c.new.ensures.items).tied;
+      count = omega (arith, c.new-lists.ensures.to, ap length c.new-lists.ensures.items);
+      same = c.new-lists.ensures.to;
       keeps = extends_same _;
       low = inr (omega arith);
       cut = cut;
@@ -27,18 +33,37 @@ pub entry-requires-clause-place : goal.entry-requires-clause-place
 entry-requires-clause-place c = omega (arith, c.loop-at.invariant.filled.inside, c.loop-at.invariant.filled.count)
 
 pub entry-requires-clause-tied : goal.entry-requires-clause-tied
-entry-requires-clause-tied c = filled_given c.args.types.now (tables c.loop-at.into) c.args.t.now.tokens c.loop-at.names.to c.loop-at.names.found.items c.loop-at.at c.loop-at.invariant.filled
+entry-requires-clause-tied c = c.loop-at.invariant.given
+
+pub list_entry-requires-clause-place : goal.list_entry-requires-clause-place
+list_entry-requires-clause-place c = omega (arith, c.loop-at.invariant.filled.inside, c.loop-at.invariant.filled.count)
+
+pub list_entry-requires-clause-tied : goal.list_entry-requires-clause-tied
+unfolding names_in
+list_entry-requires-clause-tied c =
+    names_step c.args.types.now (tables c.loop-at.into) (tables c.entry.new.into) c.args.t.now.tokens depth_limit c.loop-at.names.to c.loop-at.names.found.items c.loop-at.at
+    (omega (arith, c.loop-at-test.true)) c.loop-at.invariant.filled c.entry.ensures.keeps c.in_ok-found.found c.in_ok-found.ensures.ok
+    c.loop-at.lists.to c.loop-at.lists.found.items c.loop-at.invariant.same c.loop-at.invariant.count c.loop-at.invariant.given c.push.new.self.items c.in_ok-push.ensures.items
 
 pub loop-at-preserved : goal.loop-at-preserved
 unfolding names_in
 loop-at-preserved c =
     let u = tables c.loop-at.into in
     let v = tables c.entry.new.into in
+    let w = tables c.list_entry.new.into in
+    let on = extends_then u v w c.entry.ensures.keeps c.list_entry.ensures.keeps in
     let some : 0 < c.loop-at.at = omega (arith, c.loop-at-test.true) in
     let low : c.args.from ≤ c.loop-at.at - 1 = omega (arith, c.loop-at-test.true) in
+    let filled = filled_step (contains nat_eq c.args.types.now) u v c.args.t.now.tokens depth_limit c.loop-at.names.to c.loop-at.names.found.items c.loop-at.at some c.loop-at.invariant.filled c.entry.ensures.keeps c.in_ok-found.found c.in_ok-found.ensures.ok c.push.new.self.items c.in_ok-push.ensures.items in
+    let given = names_step c.args.types.now u v c.args.t.now.tokens depth_limit c.loop-at.names.to c.loop-at.names.found.items c.loop-at.at some c.loop-at.invariant.filled c.entry.ensures.keeps c.in_ok-found.found c.in_ok-found.ensures.ok
+    c.loop-at.lists.to c.loop-at.lists.found.items c.loop-at.invariant.same c.loop-at.invariant.count c.loop-at.invariant.given c.push.new.self.items c.in_ok-push.ensures.items in
     record {
-      filled = filled_step (contains nat_eq c.args.types.now) u v c.args.t.now.tokens depth_limit c.loop-at.names.to c.loop-at.names.found.items c.loop-at.at some c.loop-at.invariant.filled c.entry.ensures.keeps c.in_ok-found.found c.in_ok-found.ensures.ok c.push.new.self.items c.in_ok-push.ensures.items;
-      keeps = extends_then (tables c.args.into.now) u v c.loop-at.invariant.keeps c.entry.ensures.keeps;
+      filled = filled_kept (contains nat_eq c.args.types.now) v w c.args.t.now.tokens depth_limit c.loop-at.names.to c.push.new.self.items (c.loop-at.at - 1) filled c.list_entry.ensures.keeps;
+      given = lists_step c.args.types.now (type_map (record { to = c.loop-at.names.to; found = c.push.new.self })) v w c.args.t.now.tokens c.loop-at.lists.to c.loop-at.lists.found.items c.loop-at.at some c.loop-at.invariant.count
+          given c.list_entry.ensures.keeps c.in_ok-list.list c.in_ok-list.ensures.ok c.push-in-loop-at.new.self.items c.in_ok-push-2.ensures.items;
+      count = omega (arith, some, c.loop-at.invariant.count, ap length c.in_ok-push-2.ensures.items, length-append c.loop-at.lists.found.items (c.in_ok-list.list ∷ []));
+      same = c.loop-at.invariant.same;
+      keeps = extends_then (tables c.args.into.now) u w c.loop-at.invariant.keeps on;
       low = inl low;
       cut = c.loop-at.invariant.cut;
     }
@@ -50,6 +75,14 @@ returns-in_err-found-clause-keeps c = extends_then (tables c.args.into.now) (tab
 
 pub returns-in_err-push-clause-keeps : goal.returns-in_err-push-clause-keeps
 returns-in_err-push-clause-keeps c = extends_then (tables c.args.into.now) (tables c.loop-at.into) (tables c.entry.new.into) c.loop-at.invariant.keeps c.entry.ensures.keeps
+
+pub returns-in_err-list-clause-keeps : goal.returns-in_err-list-clause-keeps
+returns-in_err-list-clause-keeps c =
+    extends_then (tables c.args.into.now) (tables c.loop-at.into) (tables c.list_entry.new.into) c.loop-at.invariant.keeps (extends_then (tables c.loop-at.into) (tables c.entry.new.into) (tables c.list_entry.new.into) c.entry.ensures.keeps c.list_entry.ensures.keeps)
+
+pub returns-in_err-push-2-clause-keeps : goal.returns-in_err-push-2-clause-keeps
+returns-in_err-push-2-clause-keeps c =
+    extends_then (tables c.args.into.now) (tables c.loop-at.into) (tables c.list_entry.new.into) c.loop-at.invariant.keeps (extends_then (tables c.loop-at.into) (tables c.entry.new.into) (tables c.list_entry.new.into) c.entry.ensures.keeps c.list_entry.ensures.keeps)
 
 pub returns-clause-keeps : goal.returns-clause-keeps
 returns-clause-keeps c = c.loop-at.invariant.keeps

@@ -12,7 +12,7 @@ use Rattle.pv_decl.specs.Reader.{listed_in_braces, readers}
 use Rattle.pv_decl.proofs.Answered.{moved, nothing}
 use Rattle.pv_decl.proofs.Initials.{initializer_zero, initializer_braced, initializer_some, initializer_none}
 use Rattle.pv_decl.proofs.Loops.{parts_shorten, commas_shorten, at_start, no_parts, start_list, goes_forward, part_there, parts_there, list_ends, list_stops, list_goes, comma_forward}
-use Rattle.pv_decl.specs.Filled.{type_map}
+use Rattle.pv_decl.specs.Filled.{list_map}
 use Rattle.pv_decl.proofs.Givens.{given_kept}
 use Rattle.pv_decl.proofs.source.Source.+initializing.Goals as goal
 
@@ -69,7 +69,7 @@ initializers-loop-parts-preserved g t c =
       place = c.in-Some-after.ensures.1;
       where_behind = (part_there is_initializer (tables c.loop-parts.into) (tables c.initializer.new.into) c.initializer.ensures.keeps c.args.self.now.tokens.now.tokens (readers (names_in c.args.self.now.typedefs.now (g.R.TypeReader.types c.args.self.now.reader.now) (tables c.args.into.now) c.args.self.now.tokens.now.tokens) c.args.depth Initializers) c.loop-parts.parts.items c.loop-parts.invariant.nodes c.loop-parts.next c.loop-parts.invariant.place c.in_ok-found.field-0 (at_start c.args.self.now.typedefs.now (g.R.TypeReader.types c.args.self.now.reader.now) (tables c.args.into.now) (tables c.loop-parts.into) (tables c.initializer.new.into) c.args.self.now.tokens.now.tokens c.requires.tied.tied c.loop-parts.invariant.keeps is_initializer c.in_ok-found.field-0 (λ n. readers n c.args.depth Initializers (drop c.loop-parts.next c.args.self.now.tokens.now.tokens)) c.in_ok-found.ensures.ok) c.in-Some.found c.in-Some.end c.in-Some.is).1;
       keeps = keeps;
-      tied = given_kept (type_map c.args.self.now.known.now) c.args.self.now.typedefs.now (g.R.TypeReader.types c.args.self.now.reader.now) (tables c.args.into.now) (tables c.initializer.new.into) c.args.self.now.tokens.now.tokens c.requires.tied keeps;
+      tied = given_kept (list_map c.args.self.now.lists.now) c.args.self.now.typedefs.now (g.R.TypeReader.types c.args.self.now.reader.now) (tables c.args.into.now) (tables c.initializer.new.into) c.args.self.now.tokens.now.tokens c.requires.tied keeps;
       same = list_goes is_initializer (tables c.loop-parts.into) (tables c.initializer.new.into) c.initializer.ensures.keeps c.args.self.now.tokens.now.tokens (readers (names_in c.args.self.now.typedefs.now (g.R.TypeReader.types c.args.self.now.reader.now) (tables c.args.into.now) c.args.self.now.tokens.now.tokens) c.args.depth Initializers) c.loop-parts.parts.items c.loop-parts.invariant.nodes c.loop-parts.next c.loop-parts.invariant.place c.in_ok-found.field-0 (at_start c.args.self.now.typedefs.now (g.R.TypeReader.types c.args.self.now.reader.now) (tables c.args.into.now) (tables c.loop-parts.into) (tables c.initializer.new.into) c.args.self.now.tokens.now.tokens c.requires.tied.tied c.loop-parts.invariant.keeps is_initializer c.in_ok-found.field-0 (λ n. readers n c.args.depth Initializers (drop c.loop-parts.next c.args.self.now.tokens.now.tokens)) c.in_ok-found.ensures.ok) (commas_shorten c.args.self.now.typedefs.now (g.R.TypeReader.types c.args.self.now.reader.now) (tables c.args.into.now) c.args.self.now.tokens.now.tokens c.requires.tied.tied c.args.depth Initializers) c.loop-parts.behind c.loop-parts.invariant.where_behind (listed (readers (names_in c.args.self.now.typedefs.now (g.R.TypeReader.types c.args.self.now.reader.now) (tables c.args.into.now) c.args.self.now.tokens.now.tokens) c.args.depth Initializers) (drop c.args.at c.args.self.now.tokens.now.tokens)) c.loop-parts.invariant.same c.in-Some.found c.in-Some.end c.in-Some.is c.push.new.self.items c.in_ok-push.ensures.items c.in-Some-after.following c.in-Some-after.ensures.0;
     }
 

@@ -5,7 +5,7 @@ use Rattle.pv_tree.specs.Tables.{trees_of, is_initializer, Is, Extends}
 use Rattle.pv_expr.specs.Known.{names_in}
 use Rattle.pv_decl.specs.Pieces.{row_on, row, after_comma, listed}
 use Rattle.pv_decl.specs.Reader.{readers}
-use Rattle.pv_decl.specs.Filled.{type_map}
+use Rattle.pv_decl.specs.Filled.{list_map}
 use Rattle.pv_decl.specs.Givens.{AreGiven}
 use Rattle.pv_decl.proofs.source.Source.+initializing.Given as goal
 
@@ -24,7 +24,7 @@ invariant-initializers-loop-parts g l =
       place : l.next ≤ length tokens;
       where_behind : l.behind ≤ length tokens;
       keeps : Extends (tables l.fn.into) (tables l.into);
-      tied : AreGiven (type_map l.self.known.now) l.self.typedefs.now (g.R.TypeReader.types l.self.reader.now) (tables l.into) tokens;
+      tied : AreGiven (list_map l.self.lists.now) l.self.typedefs.now (g.R.TypeReader.types l.self.reader.now) (tables l.into) tokens;
       same : row_on (row (after_comma part)) (trees_of (tables l.into).forest l.parts.items) (drop l.behind tokens) (part (drop l.next tokens)) ≡ listed part (drop l.fn.at tokens);
     }
 

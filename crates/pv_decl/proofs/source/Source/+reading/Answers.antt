@@ -2,13 +2,11 @@ use Rattle.std.proofs.Common.{◌≡◌, ◌∙◌, ◌+◌, ◌≤◌, ℕ, Opt
 use Rattle.pv_lex.specs.declared.token_table.Token.{Token}
 use Rattle.pv_tree.specs.declared.nodes.NodeId.{NodeId}
 use Rattle.pv_tree.specs.Rows.{tables}
-use Rattle.pv_tree.specs.Grammar.{Names}
-use Rattle.pv_tree.specs.Places.{Place, Parameters}
+use Rattle.pv_tree.specs.Places.{Place}
 use Rattle.pv_tree.specs.Syntax.{Composite, Enumeration, OfSpecifier, Trees, NoTrees}
 use Rattle.pv_tree.specs.Tables.{Tables, trees_of, tree_at, is_declaration, is_declarator, is_specifier}
 use Rattle.pv_tree.proofs.Kept.{extends_same, extends_then}
 use Rattle.pv_expr.specs.Known.{names_in}
-use Rattle.pv_expr.proofs.Naming.{names_kept}
 use Rattle.pv_decl.specs.declared.forms.Part.{Part}
 use Rattle.pv_decl.specs.declared.forms.Part.TheVariants as part
 use Rattle.pv_decl.specs.Answers.{Answers}
@@ -22,8 +20,8 @@ use Rattle.pv_decl.proofs.Growing.{head_end, head_other, head_named, head_star, 
 use Rattle.pv_decl.proofs.Loops.{parts_shorten, commas_shorten, at_start, no_parts, start_row, start_list, goes_forward, part_there, parts_there, row_ends, row_goes, list_ends, list_stops, list_goes, comma_forward, all_kept}
 use Rattle.pv_decl.proofs.Members.{counted, no_parameters, member_ends, member_goes, parameter_ends, parameter_goes}
 use Rattle.pv_decl.proofs.Steps.{longer_goes, grown_next}
-use Rattle.pv_decl.specs.Filled.{type_map}
-use Rattle.pv_decl.proofs.Givens.{given_kept, so_known}
+use Rattle.pv_decl.specs.Filled.{list_map}
+use Rattle.pv_decl.proofs.Givens.{given_kept}
 use Rattle.pv_decl.proofs.source.Source.+reading.Goals as goal
 use Rattle.pv_decl.proofs.source.Source.+reading.Invariants.{height}
 
@@ -104,7 +102,7 @@ row-loop-parts-preserved g t c =
       nodes = parts_there (kind_of_part c.args.part) (tables c.loop-parts.into) (tables c.read.new.into) c.read.ensures.keeps c.args.self.now.tokens.now.tokens (readers (names_in c.args.self.now.typedefs.now (g.R.TypeReader.types c.args.self.now.reader.now) (tables c.args.into.now) c.args.self.now.tokens.now.tokens) c.args.depth (place_of_part c.args.part)) c.loop-parts.parts.items c.loop-parts.invariant.nodes c.loop-parts.next c.loop-parts.invariant.place c.in_ok-found.field-0 (at_start c.args.self.now.typedefs.now (g.R.TypeReader.types c.args.self.now.reader.now) (tables c.args.into.now) (tables c.loop-parts.into) (tables c.read.new.into) c.args.self.now.tokens.now.tokens c.requires.tied.tied c.loop-parts.invariant.keeps (kind_of_part c.args.part) c.in_ok-found.field-0 (λ n. readers n c.args.depth (place_of_part c.args.part) (drop c.loop-parts.next c.args.self.now.tokens.now.tokens)) c.in_ok-found.ensures.ok) c.in-Some.found c.in-Some.end c.in-Some.is c.push.new.self.items c.in_ok-push.ensures.items;
       place = (part_there (kind_of_part c.args.part) (tables c.loop-parts.into) (tables c.read.new.into) c.read.ensures.keeps c.args.self.now.tokens.now.tokens (readers (names_in c.args.self.now.typedefs.now (g.R.TypeReader.types c.args.self.now.reader.now) (tables c.args.into.now) c.args.self.now.tokens.now.tokens) c.args.depth (place_of_part c.args.part)) c.loop-parts.parts.items c.loop-parts.invariant.nodes c.loop-parts.next c.loop-parts.invariant.place c.in_ok-found.field-0 (at_start c.args.self.now.typedefs.now (g.R.TypeReader.types c.args.self.now.reader.now) (tables c.args.into.now) (tables c.loop-parts.into) (tables c.read.new.into) c.args.self.now.tokens.now.tokens c.requires.tied.tied c.loop-parts.invariant.keeps (kind_of_part c.args.part) c.in_ok-found.field-0 (λ n. readers n c.args.depth (place_of_part c.args.part) (drop c.loop-parts.next c.args.self.now.tokens.now.tokens)) c.in_ok-found.ensures.ok) c.in-Some.found c.in-Some.end c.in-Some.is).1;
       keeps = keeps;
-      tied = given_kept (type_map c.args.self.now.known.now) c.args.self.now.typedefs.now (g.R.TypeReader.types c.args.self.now.reader.now) (tables c.args.into.now) (tables c.read.new.into) c.args.self.now.tokens.now.tokens c.requires.tied keeps;
+      tied = given_kept (list_map c.args.self.now.lists.now) c.args.self.now.typedefs.now (g.R.TypeReader.types c.args.self.now.reader.now) (tables c.args.into.now) (tables c.read.new.into) c.args.self.now.tokens.now.tokens c.requires.tied keeps;
       same = row_goes (kind_of_part c.args.part) (tables c.loop-parts.into) (tables c.read.new.into) c.read.ensures.keeps c.args.self.now.tokens.now.tokens (readers (names_in c.args.self.now.typedefs.now (g.R.TypeReader.types c.args.self.now.reader.now) (tables c.args.into.now) c.args.self.now.tokens.now.tokens) c.args.depth (place_of_part c.args.part)) c.loop-parts.parts.items c.loop-parts.invariant.nodes c.loop-parts.next c.loop-parts.invariant.place c.in_ok-found.field-0 (at_start c.args.self.now.typedefs.now (g.R.TypeReader.types c.args.self.now.reader.now) (tables c.args.into.now) (tables c.loop-parts.into) (tables c.read.new.into) c.args.self.now.tokens.now.tokens c.requires.tied.tied c.loop-parts.invariant.keeps (kind_of_part c.args.part) c.in_ok-found.field-0 (λ n. readers n c.args.depth (place_of_part c.args.part) (drop c.loop-parts.next c.args.self.now.tokens.now.tokens)) c.in_ok-found.ensures.ok) (parts_shorten c.args.self.now.typedefs.now (g.R.TypeReader.types c.args.self.now.reader.now) (tables c.args.into.now) c.args.self.now.tokens.now.tokens c.requires.tied.tied c.args.depth (place_of_part c.args.part)) (row (readers (names_in c.args.self.now.typedefs.now (g.R.TypeReader.types c.args.self.now.reader.now) (tables c.args.into.now) c.args.self.now.tokens.now.tokens) c.args.depth (place_of_part c.args.part)) NoTrees (drop c.args.at c.args.self.now.tokens.now.tokens)) c.loop-parts.invariant.same c.in-Some.found c.in-Some.end c.in-Some.is c.push.new.self.items c.in_ok-push.ensures.items;
     }
 
@@ -139,7 +137,7 @@ listed-loop-parts-preserved g t c =
       place = c.in-Some-after.ensures.1;
       where_behind = (part_there (kind_of_part c.args.part) (tables c.loop-parts.into) (tables c.read.new.into) c.read.ensures.keeps c.args.self.now.tokens.now.tokens (readers (names_in c.args.self.now.typedefs.now (g.R.TypeReader.types c.args.self.now.reader.now) (tables c.args.into.now) c.args.self.now.tokens.now.tokens) c.args.depth (place_of_part c.args.part)) c.loop-parts.parts.items c.loop-parts.invariant.nodes c.loop-parts.next c.loop-parts.invariant.place c.in_ok-found.field-0 (at_start c.args.self.now.typedefs.now (g.R.TypeReader.types c.args.self.now.reader.now) (tables c.args.into.now) (tables c.loop-parts.into) (tables c.read.new.into) c.args.self.now.tokens.now.tokens c.requires.tied.tied c.loop-parts.invariant.keeps (kind_of_part c.args.part) c.in_ok-found.field-0 (λ n. readers n c.args.depth (place_of_part c.args.part) (drop c.loop-parts.next c.args.self.now.tokens.now.tokens)) c.in_ok-found.ensures.ok) c.in-Some.found c.in-Some.end c.in-Some.is).1;
       keeps = keeps;
-      tied = given_kept (type_map c.args.self.now.known.now) c.args.self.now.typedefs.now (g.R.TypeReader.types c.args.self.now.reader.now) (tables c.args.into.now) (tables c.read.new.into) c.args.self.now.tokens.now.tokens c.requires.tied keeps;
+      tied = given_kept (list_map c.args.self.now.lists.now) c.args.self.now.typedefs.now (g.R.TypeReader.types c.args.self.now.reader.now) (tables c.args.into.now) (tables c.read.new.into) c.args.self.now.tokens.now.tokens c.requires.tied keeps;
       same = list_goes (kind_of_part c.args.part) (tables c.loop-parts.into) (tables c.read.new.into) c.read.ensures.keeps c.args.self.now.tokens.now.tokens (readers (names_in c.args.self.now.typedefs.now (g.R.TypeReader.types c.args.self.now.reader.now) (tables c.args.into.now) c.args.self.now.tokens.now.tokens) c.args.depth (place_of_part c.args.part)) c.loop-parts.parts.items c.loop-parts.invariant.nodes c.loop-parts.next c.loop-parts.invariant.place c.in_ok-found.field-0 (at_start c.args.self.now.typedefs.now (g.R.TypeReader.types c.args.self.now.reader.now) (tables c.args.into.now) (tables c.loop-parts.into) (tables c.read.new.into) c.args.self.now.tokens.now.tokens c.requires.tied.tied c.loop-parts.invariant.keeps (kind_of_part c.args.part) c.in_ok-found.field-0 (λ n. readers n c.args.depth (place_of_part c.args.part) (drop c.loop-parts.next c.args.self.now.tokens.now.tokens)) c.in_ok-found.ensures.ok) (commas_shorten c.args.self.now.typedefs.now (g.R.TypeReader.types c.args.self.now.reader.now) (tables c.args.into.now) c.args.self.now.tokens.now.tokens c.requires.tied.tied c.args.depth (place_of_part c.args.part)) c.loop-parts.behind c.loop-parts.invariant.where_behind (listed (readers (names_in c.args.self.now.typedefs.now (g.R.TypeReader.types c.args.self.now.reader.now) (tables c.args.into.now) c.args.self.now.tokens.now.tokens) c.args.depth (place_of_part c.args.part)) (drop c.args.at c.args.self.now.tokens.now.tokens)) c.loop-parts.invariant.same c.in-Some.found c.in-Some.end c.in-Some.is c.push.new.self.items c.in_ok-push.ensures.items c.in-Some-after.following c.in-Some-after.ensures.0;
     }
 
@@ -194,7 +192,7 @@ member-returns-then-is_empty-clause-ok g t c = nothing _ _ _ _ (member_ends c.ar
 
 pub member-listed-requires : goal.member-listed-requires
 member-listed-requires g t c =
-    let tied = given_kept (type_map c.args.self.now.known.now) c.args.self.now.typedefs.now (g.R.TypeReader.types c.args.self.now.reader.now) (tables c.args.into.now) (tables c.row.new.into) c.args.self.now.tokens.now.tokens c.requires.tied c.row.ensures.keeps in
+    let tied = given_kept (list_map c.args.self.now.lists.now) c.args.self.now.typedefs.now (g.R.TypeReader.types c.args.self.now.reader.now) (tables c.args.into.now) (tables c.row.new.into) c.args.self.now.tokens.now.tokens c.requires.tied c.row.ensures.keeps in
     let place = c.in_ok-specs.ensures.ok.place in
     search rules
 
@@ -207,38 +205,26 @@ member-member_of-requires-clause-specs g t c = all_as (tables c.listed.new.into)
 pub member-member_of-requires-clause-declarators : goal.member-member_of-requires-clause-declarators
 member-member_of-requires-clause-declarators g t c = all_as (tables c.listed.new.into) is_declarator _ _ c.deref-2.ensures.value c.in_ok-declarators.ensures.ok.there
 
-pub parameter-returns-in-Some-clause-ok : goal.parameter-returns-in-Some-clause-ok
-parameter-returns-in-Some-clause-ok g t c = so_known _ c.in_ok-found.field-0 c.in-Some.found c.in_ok-found.ensures.ok c.in-Some.is
+pub parameter-returns-then-depth-eq0-clause-ok : goal.parameter-returns-then-depth-eq0-clause-ok
+parameter-returns-then-depth-eq0-clause-ok g t c = nothing _ _ _ _ (no_parameters (names_in c.args.self.now.typedefs.now (g.R.TypeReader.types c.args.self.now.reader.now) (tables c.args.into.now) c.args.self.now.tokens.now.tokens) c.args.depth (drop c.args.at c.args.self.now.tokens.now.tokens) c.if-depth-eq0.true)
 
-pub parameter-unknown_parameter-requires : goal.parameter-unknown_parameter-requires
-parameter-unknown_parameter-requires g t c =
-    let tied = given_kept (type_map c.args.self.now.known.now) c.args.self.now.typedefs.now (g.R.TypeReader.types c.args.self.now.reader.now) (tables c.args.into.now) (tables c.known_parameter.new.into) c.args.self.now.tokens.now.tokens c.requires.tied c.known_parameter.ensures.keeps in
-    let place = c.requires.place in
-    search rules
+pub parameter-returns-then-is_empty-clause-ok : goal.parameter-returns-then-is_empty-clause-ok
+parameter-returns-then-is_empty-clause-ok g t c = nothing _ _ _ _ (parameter_ends c.args.self.now.typedefs.now (g.R.TypeReader.types c.args.self.now.reader.now) (tables c.args.into.now) (tables c.row.new.into) c.args.self.now.tokens.now.tokens c.requires.tied.tied c.row.ensures.keeps c.args.depth c.args.at c.in_ok-specs.specs.items c.in_ok-specs.next (omega arith) c.in_ok-specs.ensures.ok (counted _ _ _ _ c.in_ok-specs.specs.ok.0 c.is_empty.ensures c.if-is_empty.true))
 
-pub parameter-returns-in-None-clause-ok : goal.parameter-returns-in-None-clause-ok
-parameter-returns-in-None-clause-ok g t c = moved _ _ _ _ _ _ (ap (λ (n : Names). readers n c.args.depth Parameters (drop c.args.at c.args.self.now.tokens.now.tokens)) (names_kept c.args.self.now.typedefs.now (g.R.TypeReader.types c.args.self.now.reader.now) (tables c.args.into.now) (tables c.known_parameter.new.into) c.args.self.now.tokens.now.tokens c.requires.tied.tied c.known_parameter.ensures.keeps)) c.unknown_parameter.ensures.ok
-
-pub unknown_parameter-returns-then-depth-eq0-clause-ok : goal.unknown_parameter-returns-then-depth-eq0-clause-ok
-unknown_parameter-returns-then-depth-eq0-clause-ok g t c = nothing _ _ _ _ (no_parameters (names_in c.args.self.now.typedefs.now (g.R.TypeReader.types c.args.self.now.reader.now) (tables c.args.into.now) c.args.self.now.tokens.now.tokens) c.args.depth (drop c.args.at c.args.self.now.tokens.now.tokens) c.if-depth-eq0.true)
-
-pub unknown_parameter-returns-then-is_empty-clause-ok : goal.unknown_parameter-returns-then-is_empty-clause-ok
-unknown_parameter-returns-then-is_empty-clause-ok g t c = nothing _ _ _ _ (parameter_ends c.args.self.now.typedefs.now (g.R.TypeReader.types c.args.self.now.reader.now) (tables c.args.into.now) (tables c.row.new.into) c.args.self.now.tokens.now.tokens c.requires.tied.tied c.row.ensures.keeps c.args.depth c.args.at c.in_ok-specs.specs.items c.in_ok-specs.next (omega arith) c.in_ok-specs.ensures.ok (counted _ _ _ _ c.in_ok-specs.specs.ok.0 c.is_empty.ensures c.if-is_empty.true))
-
-pub unknown_parameter-read-requires : goal.unknown_parameter-read-requires
-unknown_parameter-read-requires g t c =
-    let tied = given_kept (type_map c.args.self.now.known.now) c.args.self.now.typedefs.now (g.R.TypeReader.types c.args.self.now.reader.now) (tables c.args.into.now) (tables c.row.new.into) c.args.self.now.tokens.now.tokens c.requires.tied c.row.ensures.keeps in
+pub parameter-read-requires : goal.parameter-read-requires
+parameter-read-requires g t c =
+    let tied = given_kept (list_map c.args.self.now.lists.now) c.args.self.now.typedefs.now (g.R.TypeReader.types c.args.self.now.reader.now) (tables c.args.into.now) (tables c.row.new.into) c.args.self.now.tokens.now.tokens c.requires.tied c.row.ensures.keeps in
     let place = c.in_ok-specs.ensures.ok.place in
     search rules
 
-pub unknown_parameter-returns-clause-ok : goal.unknown_parameter-returns-clause-ok
-unknown_parameter-returns-clause-ok g t c = moved _ _ _ _ _ _ (parameter_goes c.args.self.now.typedefs.now (g.R.TypeReader.types c.args.self.now.reader.now) (tables c.args.into.now) (tables c.row.new.into) c.args.self.now.tokens.now.tokens c.requires.tied.tied c.row.ensures.keeps c.args.depth c.args.at c.in_ok-specs.specs.items c.in_ok-specs.next (omega arith) c.in_ok-specs.ensures.ok (counted _ _ _ _ c.in_ok-specs.specs.ok.0 c.is_empty.ensures c.if-is_empty.false) (tables c.read.new.into) c.read.ensures.keeps c.line_at-line.result c.line_at-line.ensures c.in_ok-declarator.declarator c.in_ok-declarator.ensures.ok c.deref.result.now c.deref.ensures.value) c.parameter_of.ensures.ok
+pub parameter-returns-clause-ok : goal.parameter-returns-clause-ok
+parameter-returns-clause-ok g t c = moved _ _ _ _ _ _ (parameter_goes c.args.self.now.typedefs.now (g.R.TypeReader.types c.args.self.now.reader.now) (tables c.args.into.now) (tables c.row.new.into) c.args.self.now.tokens.now.tokens c.requires.tied.tied c.row.ensures.keeps c.args.depth c.args.at c.in_ok-specs.specs.items c.in_ok-specs.next (omega arith) c.in_ok-specs.ensures.ok (counted _ _ _ _ c.in_ok-specs.specs.ok.0 c.is_empty.ensures c.if-is_empty.false) (tables c.read.new.into) c.read.ensures.keeps c.line_at-line.result c.line_at-line.ensures c.in_ok-declarator.declarator c.in_ok-declarator.ensures.ok c.deref.result.now c.deref.ensures.value) c.parameter_of.ensures.ok
 
-pub unknown_parameter-parameter_of-requires-clause-specs : goal.unknown_parameter-parameter_of-requires-clause-specs
-unknown_parameter-parameter_of-requires-clause-specs g t c = all_as (tables c.read.new.into) is_specifier _ _ c.deref.ensures.value (all_kept is_specifier (tables c.row.new.into) (tables c.read.new.into) c.read.ensures.keeps _ c.in_ok-specs.ensures.ok.there)
+pub parameter-parameter_of-requires-clause-specs : goal.parameter-parameter_of-requires-clause-specs
+parameter-parameter_of-requires-clause-specs g t c = all_as (tables c.read.new.into) is_specifier _ _ c.deref.ensures.value (all_kept is_specifier (tables c.row.new.into) (tables c.read.new.into) c.read.ensures.keeps _ c.in_ok-specs.ensures.ok.there)
 
-pub unknown_parameter-parameter_of-requires-clause-declarator : goal.unknown_parameter-parameter_of-requires-clause-declarator
-unknown_parameter-parameter_of-requires-clause-declarator g t c = c.in_ok-declarator.ensures.ok.there
+pub parameter-parameter_of-requires-clause-declarator : goal.parameter-parameter_of-requires-clause-declarator
+parameter-parameter_of-requires-clause-declarator g t c = c.in_ok-declarator.ensures.ok.there
 
 -- ---- declarators
 
@@ -254,7 +240,7 @@ declarator-returns-in-Some-clause-ok g t c = moved _ _ _ _ _ _ (declarator_some 
 pub declarator-grow-requires : goal.declarator-grow-requires
 declarator-grow-requires g t c =
     let h = got (tables c.head.new.into) is_declarator c.args.self.now.tokens.now.tokens c.in_ok-first.field-0 _ c.in-Some.first c.in-Some.next c.in_ok-first.ensures.ok c.in-Some.is in
-    let tied = given_kept (type_map c.args.self.now.known.now) c.args.self.now.typedefs.now (g.R.TypeReader.types c.args.self.now.reader.now) (tables c.args.into.now) (tables c.head.new.into) c.args.self.now.tokens.now.tokens c.requires.tied c.head.ensures.keeps in
+    let tied = given_kept (list_map c.args.self.now.lists.now) c.args.self.now.typedefs.now (g.R.TypeReader.types c.args.self.now.reader.now) (tables c.args.into.now) (tables c.head.new.into) c.args.self.now.tokens.now.tokens c.requires.tied c.head.ensures.keeps in
     let number = h.1.0 in
     let kind = h.1.1 in
     let place = h.2 in
@@ -281,7 +267,7 @@ grow-loop-longer-preserved g t c =
       node = h.1;
       place = h.2;
       keeps = keeps;
-      tied = given_kept (type_map c.args.self.now.known.now) c.args.self.now.typedefs.now (g.R.TypeReader.types c.args.self.now.reader.now) (tables c.args.into.now) (tables c.extend.new.into) c.args.self.now.tokens.now.tokens c.requires.tied keeps;
+      tied = given_kept (list_map c.args.self.now.lists.now) c.args.self.now.typedefs.now (g.R.TypeReader.types c.args.self.now.reader.now) (tables c.args.into.now) (tables c.extend.new.into) c.args.self.now.tokens.now.tokens c.requires.tied keeps;
       same = sym (grown_next (readers (names_in c.args.self.now.typedefs.now (g.R.TypeReader.types c.args.self.now.reader.now) (tables c.args.into.now) c.args.self.now.tokens.now.tokens) c.args.below) c.args.below c.args.line (tree_at (tables c.loop-longer.into).forest c.loop-longer.left) (drop c.loop-longer.next c.args.self.now.tokens.now.tokens) (tree_at (tables c.extend.new.into).forest c.in-Some.longer) (drop c.in-Some.end c.args.self.now.tokens.now.tokens) e) ∙ c.loop-longer.invariant.same;
     }
 
@@ -310,14 +296,14 @@ extend-returns-in-Paren-clause-ok g t c = moved _ _ _ _ _ _ (longer_paren (reade
 pub extend-returns-in_default-opening-clause-ok : goal.extend-returns-in_default-opening-clause-ok
 extend-returns-in_default-opening-clause-ok g t c = nothing _ _ _ _ (longer_other (readers (names_in c.args.self.now.typedefs.now (g.R.TypeReader.types c.args.self.now.reader.now) (tables c.args.into.now) c.args.self.now.tokens.now.tokens) c.args.below) c.args.below c.args.line (tree_at (tables c.args.into.now).forest c.args.left) (sym c.may_go_on.ensures ∙ c.if-not-may_go_on.false) (drop c.args.at c.args.self.now.tokens.now.tokens) c.in-Some.token (drop (c.args.at + 1) c.args.self.now.tokens.now.tokens) c.in-Some.ensures.0 c.in-Some-opening_of.opening (sym c.in-Some-opening_of.ensures) c.in_default-opening.not-Bracket c.in_default-opening.not-Paren)
 
-pub parameters-returns-clause-ok : goal.parameters-returns-clause-ok
-parameters-returns-clause-ok g t c = moved _ _ _ _ _ _ (parametrized_is (tables c.args.into.now) (tables c.listed.new.into) c.args.self.now.tokens.now.tokens c.args.line c.args.at (readers (names_in c.args.self.now.typedefs.now (g.R.TypeReader.types c.args.self.now.reader.now) (tables c.args.into.now) c.args.self.now.tokens.now.tokens) c.args.below) c.args.left c.listed.ensures.keeps c.requires.left c.in_ok-parts.parts.items c.deref.result.now c.in_ok-parts.end c.deref.ensures.value c.in_ok-parts.ensures.ok) c.function_of.ensures.ok
+pub unknown_parameters-returns-clause-ok : goal.unknown_parameters-returns-clause-ok
+unknown_parameters-returns-clause-ok g t c = moved _ _ _ _ _ _ (parametrized_is (tables c.args.into.now) (tables c.listed.new.into) c.args.self.now.tokens.now.tokens c.args.line c.args.at (readers (names_in c.args.self.now.typedefs.now (g.R.TypeReader.types c.args.self.now.reader.now) (tables c.args.into.now) c.args.self.now.tokens.now.tokens) c.args.below) c.args.left c.listed.ensures.keeps c.requires.left c.in_ok-parts.parts.items c.deref.result.now c.in_ok-parts.end c.deref.ensures.value c.in_ok-parts.ensures.ok) c.function_of.ensures.ok
 
-pub parameters-function_of-requires-clause-left : goal.parameters-function_of-requires-clause-left
-parameters-function_of-requires-clause-left g t c = some_kept (tables c.args.into.now) (tables c.listed.new.into) is_declarator c.args.left c.listed.ensures.keeps c.requires.left
+pub unknown_parameters-function_of-requires-clause-left : goal.unknown_parameters-function_of-requires-clause-left
+unknown_parameters-function_of-requires-clause-left g t c = some_kept (tables c.args.into.now) (tables c.listed.new.into) is_declarator c.args.left c.listed.ensures.keeps c.requires.left
 
-pub parameters-function_of-requires-clause-parameters : goal.parameters-function_of-requires-clause-parameters
-parameters-function_of-requires-clause-parameters g t c = all_as (tables c.listed.new.into) is_declaration _ _ c.deref.ensures.value c.in_ok-parts.ensures.ok.there
+pub unknown_parameters-function_of-requires-clause-parameters : goal.unknown_parameters-function_of-requires-clause-parameters
+unknown_parameters-function_of-requires-clause-parameters g t c = all_as (tables c.listed.new.into) is_declaration _ _ c.deref.ensures.value c.in_ok-parts.ensures.ok.there
 
 -- ---- how one begins
 

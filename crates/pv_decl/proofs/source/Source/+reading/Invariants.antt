@@ -10,7 +10,7 @@ use Rattle.pv_decl.specs.Declarators.{grown}
 use Rattle.pv_decl.specs.Parts.{kind_of_part, place_of_part}
 use Rattle.pv_decl.specs.Pieces.{row_on, row, after_comma, listed}
 use Rattle.pv_decl.specs.Reader.{readers}
-use Rattle.pv_decl.specs.Filled.{type_map}
+use Rattle.pv_decl.specs.Filled.{list_map}
 use Rattle.pv_decl.specs.Givens.{AreGiven}
 use Rattle.pv_decl.proofs.source.Source.+reading.Given as goal
 
@@ -47,10 +47,7 @@ abbrev pub decreases-member : goal.decreases-member
 decreases-member g l = 12 * l.depth + 7
 
 abbrev pub decreases-parameter : goal.decreases-parameter
-decreases-parameter g l = 12 * l.depth + 1
-
-abbrev pub decreases-unknown_parameter : goal.decreases-unknown_parameter
-decreases-unknown_parameter g l = 12 * l.depth
+decreases-parameter g l = 12 * l.depth
 
 abbrev pub decreases-declarator : goal.decreases-declarator
 decreases-declarator g l = 12 * l.depth
@@ -62,16 +59,19 @@ abbrev pub decreases-extend : goal.decreases-extend
 decreases-extend g l = 12 * l.below + 8
 
 abbrev pub decreases-parameters : goal.decreases-parameters
-decreases-parameters g l = 12 * l.below + 6
+decreases-parameters g l = 12 * l.below + 7
+
+abbrev pub decreases-unknown_parameters : goal.decreases-unknown_parameters
+decreases-unknown_parameters g l = 12 * l.below + 6
 
 abbrev pub decreases-head : goal.decreases-head
-decreases-head g l = 12 * l.below + 8
+decreases-head g l = 12 * l.below + 9
 
 abbrev pub decreases-pointer : goal.decreases-pointer
 decreases-pointer g l = 12 * l.below + 5
 
 abbrev pub decreases-opened : goal.decreases-opened
-decreases-opened g l = 12 * l.below + 7
+decreases-opened g l = 12 * l.below + 8
 
 abbrev pub invariant-row-loop-parts : goal.invariant-row-loop-parts
 invariant-row-loop-parts g l =
@@ -81,7 +81,7 @@ invariant-row-loop-parts g l =
       nodes : All (λ n. Is (tables l.into) (kind_of_part l.part) n) l.parts.items;
       place : l.next ≤ length tokens;
       keeps : Extends (tables l.fn.into) (tables l.into);
-      tied : AreGiven (type_map l.self.known.now) l.self.typedefs.now (g.R.TypeReader.types l.self.reader.now) (tables l.into) tokens;
+      tied : AreGiven (list_map l.self.lists.now) l.self.typedefs.now (g.R.TypeReader.types l.self.reader.now) (tables l.into) tokens;
       same : row part (trees_of (tables l.into).forest l.parts.items) (drop l.next tokens) ≡ row part NoTrees (drop l.fn.at tokens);
     }
 
@@ -97,7 +97,7 @@ invariant-listed-loop-parts g l =
       place : l.next ≤ length tokens;
       where_behind : l.behind ≤ length tokens;
       keeps : Extends (tables l.fn.into) (tables l.into);
-      tied : AreGiven (type_map l.self.known.now) l.self.typedefs.now (g.R.TypeReader.types l.self.reader.now) (tables l.into) tokens;
+      tied : AreGiven (list_map l.self.lists.now) l.self.typedefs.now (g.R.TypeReader.types l.self.reader.now) (tables l.into) tokens;
       same : row_on (row (after_comma part)) (trees_of (tables l.into).forest l.parts.items) (drop l.behind tokens) (part (drop l.next tokens)) ≡ listed part (drop l.fn.at tokens);
     }
 
@@ -112,7 +112,7 @@ invariant-grow-loop-longer g l =
       node : Is (tables l.into) is_declarator l.left;
       place : l.next ≤ length tokens;
       keeps : Extends (tables l.fn.into) (tables l.into);
-      tied : AreGiven (type_map l.self.known.now) l.self.typedefs.now (g.R.TypeReader.types l.self.reader.now) (tables l.into) tokens;
+      tied : AreGiven (list_map l.self.lists.now) l.self.typedefs.now (g.R.TypeReader.types l.self.reader.now) (tables l.into) tokens;
       same : grown below l.below l.line (tree_at (tables l.into).forest l.left) (drop l.next tokens) ≡ grown below l.below l.line (tree_at (tables l.fn.into).forest l.fn.first) (drop l.fn.at tokens);
     }
 

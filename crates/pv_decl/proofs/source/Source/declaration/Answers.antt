@@ -9,7 +9,7 @@ use Rattle.pv_expr.specs.Known.{names_in}
 use Rattle.pv_decl.specs.Reader.{readers, after_specifiers}
 use Rattle.pv_decl.proofs.Answered.{moved, nothing}
 use Rattle.pv_decl.proofs.Outer.{moved_at_start, same_count, declaration_zero, declaration_none_by, declaration_some_by}
-use Rattle.pv_decl.specs.Filled.{type_map}
+use Rattle.pv_decl.specs.Filled.{list_map}
 use Rattle.pv_decl.proofs.Givens.{given_kept}
 use Rattle.pv_decl.proofs.source.Source.declaration.Goals as goal
 
@@ -28,7 +28,7 @@ returns-then-is_empty-clause-ok g c =
 
 pub specified-requires-clause-tied : goal.specified-requires-clause-tied
 specified-requires-clause-tied g c =
-    given_kept (type_map c.args.self.now.known.now) c.args.self.now.typedefs.now (g.R.TypeReader.types c.args.self.now.reader.now) (tables c.args.into.now) (tables c.row.new.into) c.args.self.now.tokens.now.tokens c.requires.tied c.row.ensures.keeps
+    given_kept (list_map c.args.self.now.lists.now) c.args.self.now.typedefs.now (g.R.TypeReader.types c.args.self.now.reader.now) (tables c.args.into.now) (tables c.row.new.into) c.args.self.now.tokens.now.tokens c.requires.tied c.row.ensures.keeps
 
 pub returns-clause-ok : goal.returns-clause-ok
 returns-clause-ok g c =

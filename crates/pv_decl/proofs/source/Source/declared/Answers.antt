@@ -9,7 +9,7 @@ use Rattle.pv_decl.specs.Pieces.{row, after_comma}
 use Rattle.pv_decl.specs.Reader.{readers}
 use Rattle.pv_decl.proofs.Loops.{commas_shorten, at_start, goes_forward, part_there, parts_there, row_ends, row_goes}
 use Rattle.pv_decl.proofs.Outer.{comma_none, comma_some, one_part, start_one}
-use Rattle.pv_decl.specs.Filled.{type_map}
+use Rattle.pv_decl.specs.Filled.{list_map}
 use Rattle.pv_decl.proofs.Givens.{given_kept}
 use Rattle.pv_decl.proofs.source.Source.declared.Goals as goal
 
@@ -87,7 +87,7 @@ loop-next-preserved g c =
       nodes = parts_there is_declaration v w c.init_declarator.ensures.keeps tokens (after_comma read) c.loop-next.declared.items c.loop-next.invariant.nodes c.loop-next.behind c.loop-next.invariant.place c.in_ok-found.field-0 a c.in-Some-2.found c.in-Some-2.end c.in-Some-2.is c.push-in-loop-next.new.self.items c.in_ok-push-2.ensures.items;
       place = (part_there is_declaration v w c.init_declarator.ensures.keeps tokens (after_comma read) c.loop-next.declared.items c.loop-next.invariant.nodes c.loop-next.behind c.loop-next.invariant.place c.in_ok-found.field-0 a c.in-Some-2.found c.in-Some-2.end c.in-Some-2.is).1;
       keeps = keeps;
-      tied = given_kept (type_map c.args.self.now.known.now) c.args.self.now.typedefs.now types u w tokens c.requires.tied keeps;
+      tied = given_kept (list_map c.args.self.now.lists.now) c.args.self.now.typedefs.now types u w tokens c.requires.tied keeps;
       same = row_goes is_declaration v w c.init_declarator.ensures.keeps tokens (after_comma read) c.loop-next.declared.items c.loop-next.invariant.nodes c.loop-next.behind c.loop-next.invariant.place c.in_ok-found.field-0 a
           (commas_shorten c.args.self.now.typedefs.now types u tokens c.requires.tied.tied c.args.below InitDeclarators)
           (row (after_comma read) (Then NoTrees (tree_at u.forest c.args.first)) (drop c.args.at tokens)) c.loop-next.invariant.same c.in-Some-2.found c.in-Some-2.end c.in-Some-2.is c.push-in-loop-next.new.self.items c.in_ok-push-2.ensures.items;

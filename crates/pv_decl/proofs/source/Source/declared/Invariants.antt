@@ -6,7 +6,7 @@ use Rattle.pv_tree.specs.Tables.{tree_at, trees_of, is_declaration, Is, Extends}
 use Rattle.pv_expr.specs.Known.{names_in}
 use Rattle.pv_decl.specs.Pieces.{row, after_comma}
 use Rattle.pv_decl.specs.Reader.{readers}
-use Rattle.pv_decl.specs.Filled.{type_map}
+use Rattle.pv_decl.specs.Filled.{list_map}
 use Rattle.pv_decl.specs.Givens.{AreGiven}
 use Rattle.pv_decl.proofs.source.Source.declared.Given as goal
 
@@ -18,7 +18,7 @@ invariant-loop-next g l =
       nodes : All (λ n. Is (tables l.into) is_declaration n) l.declared.items;
       place : l.behind ≤ length tokens;
       keeps : Extends (tables l.fn.into) (tables l.into);
-      tied : AreGiven (type_map l.self.known.now) l.self.typedefs.now (g.R.TypeReader.types l.self.reader.now) (tables l.into) tokens;
+      tied : AreGiven (list_map l.self.lists.now) l.self.typedefs.now (g.R.TypeReader.types l.self.reader.now) (tables l.into) tokens;
       same : row part (trees_of (tables l.into).forest l.declared.items) (drop l.behind tokens) ≡ row part (Then NoTrees (tree_at (tables l.fn.into).forest l.fn.first)) (drop l.fn.at tokens);
     }
 

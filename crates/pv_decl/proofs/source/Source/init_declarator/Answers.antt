@@ -6,13 +6,13 @@ use Rattle.pv_decl.specs.Pieces.{Piece}
 use Rattle.pv_decl.specs.Reader.{initialized, readers}
 use Rattle.pv_decl.proofs.Answered.{moved, nothing}
 use Rattle.pv_decl.proofs.Outer.{init_none, init_some, moved_at_start}
-use Rattle.pv_decl.specs.Filled.{type_map}
+use Rattle.pv_decl.specs.Filled.{list_map}
 use Rattle.pv_decl.proofs.Givens.{given_kept}
 use Rattle.pv_decl.proofs.source.Source.init_declarator.Goals as goal
 
 pub initialized-requires-clause-tied : goal.initialized-requires-clause-tied
 initialized-requires-clause-tied g c =
-    given_kept (type_map c.args.self.now.known.now) c.args.self.now.typedefs.now (g.R.TypeReader.types c.args.self.now.reader.now) (tables c.args.into.now) (tables c.read.new.into) c.args.self.now.tokens.now.tokens c.requires.tied c.read.ensures.keeps
+    given_kept (list_map c.args.self.now.lists.now) c.args.self.now.typedefs.now (g.R.TypeReader.types c.args.self.now.reader.now) (tables c.args.into.now) (tables c.read.new.into) c.args.self.now.tokens.now.tokens c.requires.tied c.read.ensures.keeps
 
 pub returns-in-None-clause-ok : goal.returns-in-None-clause-ok
 returns-in-None-clause-ok g c =

@@ -11,7 +11,7 @@ use Rattle.pv_decl.specs.Reader.{ended, initialized, readers}
 use Rattle.pv_decl.proofs.Answered.{moved, nothing, got}
 use Rattle.pv_decl.proofs.Loops.{at_start, all_kept}
 use Rattle.pv_decl.proofs.Outer.{are_at_start, semicolon_there, no_semicolon, ends_here, specified_none, specified_head, specified_list}
-use Rattle.pv_decl.specs.Filled.{type_map}
+use Rattle.pv_decl.specs.Filled.{list_map}
 use Rattle.pv_decl.proofs.Givens.{given_kept}
 use Rattle.pv_decl.proofs.source.Source.specified.Goals as goal
 
@@ -46,13 +46,13 @@ returns-then-opens_block-clause-ok g c =
 
 pub initialized-requires-clause-tied : goal.initialized-requires-clause-tied
 initialized-requires-clause-tied g c =
-    given_kept (type_map c.args.self.now.known.now) c.args.self.now.typedefs.now (g.R.TypeReader.types c.args.self.now.reader.now) (tables c.args.into.now) (tables c.read.new.into) c.args.self.now.tokens.now.tokens c.requires.tied c.read.ensures.keeps
+    given_kept (list_map c.args.self.now.lists.now) c.args.self.now.typedefs.now (g.R.TypeReader.types c.args.self.now.reader.now) (tables c.args.into.now) (tables c.read.new.into) c.args.self.now.tokens.now.tokens c.requires.tied c.read.ensures.keeps
 
 pub declared-requires-clause-tied : goal.declared-requires-clause-tied
 declared-requires-clause-tied g c =
     let u = tables c.args.into.now in
     let w = tables c.initialized.new.into in
-    given_kept (type_map c.args.self.now.known.now) c.args.self.now.typedefs.now (g.R.TypeReader.types c.args.self.now.reader.now) u w c.args.self.now.tokens.now.tokens c.requires.tied (extends_then u (tables c.read.new.into) w c.read.ensures.keeps c.initialized.ensures.keeps)
+    given_kept (list_map c.args.self.now.lists.now) c.args.self.now.typedefs.now (g.R.TypeReader.types c.args.self.now.reader.now) u w c.args.self.now.tokens.now.tokens c.requires.tied (extends_then u (tables c.read.new.into) w c.read.ensures.keeps c.initialized.ensures.keeps)
 
 pub declaration_of-requires-2-clause-specs : goal.declaration_of-requires-2-clause-specs
 declaration_of-requires-2-clause-specs g c =

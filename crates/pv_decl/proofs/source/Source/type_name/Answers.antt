@@ -13,7 +13,7 @@ use Rattle.pv_decl.specs.Reader.{made_of, readers}
 use Rattle.pv_decl.proofs.Answered.{moved, nothing}
 use Rattle.pv_decl.proofs.Loops.{at_start, all_kept}
 use Rattle.pv_decl.proofs.Outer.{same_count, type_name_none_by, type_name_some_by}
-use Rattle.pv_decl.specs.Filled.{type_map}
+use Rattle.pv_decl.specs.Filled.{list_map}
 use Rattle.pv_decl.proofs.Givens.{given_kept}
 use Rattle.pv_decl.proofs.source.Source.type_name.Goals as goal
 
@@ -25,7 +25,7 @@ returns-then-is_empty-clause-ok g c =
 
 pub read-requires-clause-tied : goal.read-requires-clause-tied
 read-requires-clause-tied g c =
-    given_kept (type_map c.args.self.now.known.now) c.args.self.now.typedefs.now (g.R.TypeReader.types c.args.self.now.reader.now) (tables c.args.into.now) (tables c.row.new.into) c.args.self.now.tokens.now.tokens c.requires.tied c.row.ensures.keeps
+    given_kept (list_map c.args.self.now.lists.now) c.args.self.now.typedefs.now (g.R.TypeReader.types c.args.self.now.reader.now) (tables c.args.into.now) (tables c.row.new.into) c.args.self.now.tokens.now.tokens c.requires.tied c.row.ensures.keeps
 
 pub type_name_of-requires-clause-specs : goal.type_name_of-requires-clause-specs
 type_name_of-requires-clause-specs g c =

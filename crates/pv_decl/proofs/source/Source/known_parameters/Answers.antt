@@ -1,0 +1,57 @@
+use Rattle.std.proofs.Common.{sym, ap, ◌∙◌, arith, drop, Some}
+use Rattle.pv_tree.specs.Rows.{tables}
+use Rattle.pv_tree.specs.Syntax.{Tree}
+use Rattle.pv_tree.specs.Tables.{optional_at}
+use Rattle.pv_decl.specs.Filled.{list_map}
+use Rattle.pv_decl.specs.Parts.{function_of}
+use Rattle.pv_decl.specs.Pieces.{Piece}
+use Rattle.pv_decl.proofs.Answered.{moved, nothing}
+use Rattle.pv_decl.proofs.Givens.{parts_of, varies, is_function, known_there, known_none, known_deep, known_shallow, known_function}
+use Rattle.pv_decl.proofs.source.Source.known_parameters.Goals as goal
+
+pub returns-in_default-clause-ok : goal.returns-in_default-clause-ok
+returns-in_default-clause-ok g c =
+    nothing _ _ _ _ (known_none (list_map c.args.self.now.lists.now) c.args.self.now.typedefs.now (g.R.TypeReader.types c.args.self.now.reader.now) (tables c.args.into.now) c.args.self.now.tokens.now.tokens
+    c.requires.tied c.args.at c.requires.place c.args.list c.requires.list (function_of c.args.line (optional_at (tables c.args.into.now).forest c.args.left)) c.args.below c.requires.shallow c.in_default.is)
+
+pub depth-requires : goal.depth-requires
+depth-requires g c =
+    (known_there (list_map c.args.self.now.lists.now) c.args.self.now.typedefs.now (g.R.TypeReader.types c.args.self.now.reader.now) (tables c.args.into.now) c.args.self.now.tokens.now.tokens
+    c.requires.tied c.args.at c.requires.place c.args.list c.requires.list c.in-Some.known c.in-Some.end c.in-Some.is).1.0
+
+pub declarator-requires : goal.declarator-requires
+declarator-requires g c =
+    (known_there (list_map c.args.self.now.lists.now) c.args.self.now.typedefs.now (g.R.TypeReader.types c.args.self.now.reader.now) (tables c.args.into.now) c.args.self.now.tokens.now.tokens
+    c.requires.tied c.args.at c.requires.place c.args.list c.requires.list c.in-Some.known c.in-Some.end c.in-Some.is).1
+
+pub found_declarator-requires-clause-place : goal.found_declarator-requires-clause-place
+found_declarator-requires-clause-place g c =
+    (known_there (list_map c.args.self.now.lists.now) c.args.self.now.typedefs.now (g.R.TypeReader.types c.args.self.now.reader.now) (tables c.args.into.now) c.args.self.now.tokens.now.tokens
+    c.requires.tied c.args.at c.requires.place c.args.list c.requires.list c.in-Some.known c.in-Some.end c.in-Some.is).2
+
+pub returns-then-depth-below-clause-ok : goal.returns-then-depth-below-clause-ok
+returns-then-depth-below-clause-ok g c =
+    nothing _ _ _ _ (known_deep (list_map c.args.self.now.lists.now) c.args.self.now.typedefs.now (g.R.TypeReader.types c.args.self.now.reader.now) (tables c.args.into.now) c.args.self.now.tokens.now.tokens
+    c.requires.tied c.args.at c.requires.place c.args.list c.requires.list (function_of c.args.line (optional_at (tables c.args.into.now).forest c.args.left)) c.args.below c.requires.shallow
+    c.in-Some.known c.in-Some.end c.in-Some.is (omega (arith, c.depth.ensures.value, c.if-depth-below.true)))
+
+pub returns-in_default-declarator : goal.returns-in_default-declarator
+returns-in_default-declarator g c =
+    let f = known_function (list_map c.args.self.now.lists.now) c.args.self.now.typedefs.now (g.R.TypeReader.types c.args.self.now.reader.now) (tables c.args.into.now) c.args.self.now.tokens.now.tokens
+    c.requires.tied c.args.at c.requires.place c.args.list c.requires.list c.in-Some.known c.in-Some.end c.in-Some.is in
+    let n = is_function (tables c.args.into.now).forest _ c.declarator.result f.0 f.1 (sym c.declarator.ensures.tree ∙ f.2) in
+    absurd (c.in_default-declarator.not-AbstractFunction n.0 n.1 n.2 n.3)
+
+pub returns-clause-ok : goal.returns-clause-ok
+returns-clause-ok g c =
+    let u = tables c.args.into.now in
+    let make = function_of c.args.line (optional_at u.forest c.args.left) in
+    let end = drop c.in-Some.end c.args.self.now.tokens.now.tokens in
+    let tree = c.in-AbstractFunction.ensures.tree in
+    moved _ _ _ _ _ _
+    (ap (λ (t : Tree). let y : Piece = Some (t, end) in y) (c.function_node-function.ensures.is c.args.line)
+    ∙ ap (λ (t : Tree). let y : Piece = Some (make (parts_of t) (varies t), end) in y) (sym tree)
+    ∙ known_shallow (list_map c.args.self.now.lists.now) c.args.self.now.typedefs.now (g.R.TypeReader.types c.args.self.now.reader.now) u c.args.self.now.tokens.now.tokens
+    c.requires.tied c.args.at c.requires.place c.args.list c.requires.list make c.args.below c.requires.shallow
+    c.in-Some.known c.in-Some.end c.in-Some.is (omega (arith, c.depth.ensures.value, c.if-depth-below.false)))
+    c.found_declarator.ensures.ok

@@ -1,0 +1,101 @@
+//! Lists of parameters that are known before they are read.
+ghost use Rattle.std.specs.Prelude.{◌≡◌, ◌≤◌, [], IfOk, IfSome, Some, drop, length};
+ghost use Rattle.pv_tree.specs.Rows.{tables};
+ghost use Rattle.pv_tree.specs.Tables.{optional_at, is_declarator, Is, Extends};
+ghost use Rattle.pv_expr.specs.Known.{names_in};
+ghost use Rattle.pv_decl.specs.Answers.{Answers};
+ghost use Rattle.pv_decl.specs.Declarators.{parametrized};
+ghost use Rattle.pv_decl.specs.Filled.{list_map};
+ghost use Rattle.pv_decl.specs.Givens.{AreGiven};
+ghost use Rattle.pv_decl.specs.Parts.{function_of};
+ghost use Rattle.pv_decl.specs.Reader.{readers};
+
+use crate::nodes::found_declarator;
+use crate::pieces::function_node;
+use crate::source::Source;
+use pv_lex::NoMemory;
+use pv_tree::{Declarator, NodeId, TypeReader, Unit};
+use std::alloc::Global;
+
+/// How deep an external declaration may be, and so what stands within (C17 5.2.4.1).
+pub(crate) const DEPTH_LIMIT: u32 = 500;
+
+/// The lists of parameters that begin at places behind a `(` (C17 6.7.6.3).
+#[derive(Drop)]
+pub(crate) struct ParameterLists {
+    /// The place behind the last one.
+    pub(crate) to: u32,
+    /// What is known of each place, from the last back to the first: the longest list of at most
+    /// 500 levels of nesting that begins there, as an abstract declarator, or that none does.
+    pub(crate) found: Vec<Option<Option<(NodeId, u32)>>>,
+}
+
+impl ParameterLists {
+    /// Nothing, before a place.
+    pub(crate) fn new(alloc: Global, to: u32) -> ParameterLists
+        ensures to { result.to ≡ to }
+        ensures items { result.found.items ≡ [] }
+    {
+        ParameterLists {
+            to,
+            found: Vec::new(alloc),
+        }
+    }
+
+    /// What is known of a place.
+    pub(crate) fn at(&self, at: u32) -> Option<Option<(NodeId, u32)>>
+        ensures { result ≡ list_map self.now at }
+    {
+        if at >= self.to {
+            return None;
+        }
+        let back = (self.to - 1 - at) as usize;
+        if back < self.found.len() {
+            self.found[back]
+        } else {
+            None
+        }
+    }
+}
+
+impl<R: TypeReader> Source<'_, R> {
+    /// Parameters behind a declarator that may be left out, from behind the `(` on, where it is
+    /// known which list of them begins there, if any (C17 6.7.6.3).
+    ///
+    /// The list is known for the greatest depth: where it is too deep here, no other one fits.
+    #[tactic(auto, using(pv_tree::proofs::Kept::extends_same))]
+    pub(crate) fn known_parameters(
+        &self,
+        at: u32,
+        list: Option<(NodeId, u32)>,
+        left: Option<NodeId>,
+        line: u32,
+        below: u32,
+        into: &mut Unit,
+    ) -> Result<Option<(NodeId, u32)>, NoMemory>
+        requires place { at ≤ length self.now.tokens.now.tokens }
+        requires tied { AreGiven (list_map self.now.lists.now) self.now.typedefs.now (R.types self.now.reader.now) (tables into.old) self.now.tokens.now.tokens }
+        requires list { list_map self.now.lists.now at ≡ Some list }
+        requires left { IfSome left (λ n. Is (tables into.old) is_declarator n) }
+        requires shallow { below ≤ 500 }
+        ensures keeps { Extends (tables into.old) (tables into.new) }
+        ensures ok { IfOk result (λ r. Answers (tables into.new) is_declarator self.now.tokens.now.tokens r (parametrized (function_of line (optional_at (tables into.old).forest left)) (readers (names_in self.now.typedefs.now (R.types self.now.reader.now) (tables into.old) self.now.tokens.now.tokens) below) (drop at self.now.tokens.now.tokens))) }
+    {
+        let Some((known, end)) = list else {
+            return Ok(None);
+        };
+        if into.depth(known) > below + 1 {
+            return Ok(None);
+        }
+        let Declarator::AbstractFunction {
+            parameters,
+            variadic,
+            ..
+        } = into.declarator(known)
+        else {
+            return Ok(None);
+        };
+        let function = function_node(into, left, parameters, variadic);
+        found_declarator(self.tokens, end, function, line, into)
+    }
+}
