@@ -128,9 +128,9 @@ pub spelled_if : {E : Type 0} (tokens : Table) (bound : ℕ) (ds : List Declarat
 spelled_if tokens bound ds (Ok j) spelled comes = Spelled ds spelled comes
 spelled_if tokens bound ds (Err e) spelled comes = tt
 
-pub no_unit : {A : Type 0} (tokens : Table) (bound : ℕ) (e : SynError) (whole : ℕ)
+pub no_unit : {A : Type 0} (tokens : Table) (bound : ℕ) (e : SynError) (whole shown : ℕ)
     → ((n : ℕ) → ◌≡◌ {A = Result A SynError} (Err e) (Err (syn.Syntax n)) → ((ds : List DeclarationTree) → SpellUnit tokens.tokens ds → ⊥) × IsWhole tokens.tokens n)
-    → e ≡ syn.Syntax whole → TokensCome tokens bound (Refused (Syntax whole))
-no_unit tokens bound e whole says is =
+    → e ≡ syn.Syntax whole → shown ≡ whole → TokensCome tokens bound (Refused (Syntax shown))
+no_unit tokens bound e whole shown says is same =
     let s = says whole (ap (λ (x : SynError). Err x) is) in
-    NoUnit whole s.0 s.1 refl
+    NoUnit whole s.0 s.1 (ap (λ (n : ℕ). Refused (Syntax n)) same)
