@@ -27,7 +27,7 @@ use Rattle.pv_expr.proofs.Runs.{Takes}
 use Rattle.pv_expr.proofs.Spans.{IsEnd, names_spelled, at_end}
 use Rattle.pv_expr.proofs.Steps.{some_is}
 use Rattle.pv_decl.specs.declared.lists.ParameterLists.{ParameterLists}
-use Rattle.pv_decl.specs.Answers.{IsThere, Answers}
+use Rattle.pv_decl.specs.Answers.{Answers}
 use Rattle.pv_decl.specs.Declarators.{parametrized}
 use Rattle.pv_decl.specs.Filled.{list_map}
 use Rattle.pv_decl.specs.Givens.{AreGiven, parameter_list}
