@@ -1,0 +1,6 @@
+int x = 1;
+int y = x +;
+
+int main(void) {
+  return x;
+}
