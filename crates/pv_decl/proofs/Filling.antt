@@ -17,20 +17,20 @@ use Rattle.pv_tree.specs.Tables.{Tables, tree_at, as_declaration, is_declaration
 use Rattle.pv_tree.specs.TypeNames.{TypeMap, type_seen, names_of, IsTied, AreTied}
 use Rattle.pv_tree.specs.Units.{depth_limit}
 use Rattle.pv_tree.proofs.Kept.{tree_kept, is_kept}
-use Rattle.pv_expr.specs.Known.{names_in}
-use Rattle.pv_expr.specs.Reader.{is_open}
-use Rattle.pv_expr.proofs.Naming.{tied_kept, names_kept}
-use Rattle.pv_expr.proofs.Runs.{Takes}
-use Rattle.pv_expr.proofs.Spans.{IsEnd, names_spelled, at_end}
-use Rattle.pv_decl.specs.Parts.{function_of}
-use Rattle.pv_decl.specs.Pieces.{Piece, row, row_for}
-use Rattle.pv_decl.specs.Reader.{specified, type_name}
-use Rattle.pv_decl.specs.Answers.{seen, Answers}
+use Rattle.pv_expr_forms.specs.Known.{names_in}
+use Rattle.pv_expr_forms.specs.Reader.{is_open}
+use Rattle.pv_expr_forms.proofs.Naming.{tied_kept, names_kept}
+use Rattle.pv_expr_forms.proofs.Runs.{Takes}
+use Rattle.pv_expr_forms.proofs.Spans.{IsEnd, names_spelled, at_end}
+use Rattle.pv_decl_forms.specs.Parts.{function_of}
+use Rattle.pv_decl_forms.specs.Pieces.{Piece, row, row_for}
+use Rattle.pv_decl_forms.specs.Reader.{specified, type_name}
+use Rattle.pv_decl_forms.specs.Answers.{seen, Answers}
 use Rattle.pv_decl.specs.Filled.{filled, opens, is_behind_open, entry}
-use Rattle.pv_decl.specs.Givens.{AreGiven, parameter_list}
-use Rattle.pv_decl.specs.TypeNames.{AreTypeNames}
-use Rattle.pv_decl.proofs.Naming.{type_name_good}
-use Rattle.pv_decl.proofs.Nested.{IsWithin, type_name_agrees, list_agrees}
+use Rattle.pv_decl_forms.specs.Givens.{AreGiven, parameter_list}
+use Rattle.pv_decl_forms.specs.TypeNames.{AreTypeNames}
+use Rattle.pv_decl_forms.proofs.Naming.{type_name_good}
+use Rattle.pv_decl_forms.proofs.Nested.{IsWithin, type_name_agrees, list_agrees}
 use Rattle.pv_decl.proofs.Held.{filled_beyond, filled_before, filled_new, filled_old}
 use Rattle.pv_decl.proofs.Givens.{answer_kept, given_kept}
 

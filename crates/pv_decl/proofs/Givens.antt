@@ -20,26 +20,26 @@ use Rattle.pv_tree.specs.Tables.{Forest, Tables, tree_at, is_declarator, Extends
 use Rattle.pv_tree.specs.TypeNames.{TypeMap, AreTied}
 use Rattle.pv_tree.specs.Units.{depth_limit}
 use Rattle.pv_tree.proofs.Kept.{tree_kept, is_kept}
-use Rattle.pv_expr.specs.Known.{names_in}
-use Rattle.pv_expr.proofs.Naming.{tied_kept, names_kept}
-use Rattle.pv_expr.proofs.Heads.{IsSpelled}
-use Rattle.pv_expr.proofs.Runs.{Takes}
-use Rattle.pv_expr.proofs.Spans.{IsEnd, names_spelled, at_end}
-use Rattle.pv_expr.proofs.Steps.{some_is}
+use Rattle.pv_expr_forms.specs.Known.{names_in}
+use Rattle.pv_expr_forms.proofs.Naming.{tied_kept, names_kept}
+use Rattle.pv_expr_forms.proofs.Heads.{IsSpelled}
+use Rattle.pv_expr_forms.proofs.Runs.{Takes}
+use Rattle.pv_expr_forms.proofs.Spans.{IsEnd, names_spelled, at_end}
+use Rattle.pv_expr_forms.proofs.Steps.{some_is}
 use Rattle.pv_decl.specs.declared.lists.ParameterLists.{ParameterLists}
-use Rattle.pv_decl.specs.Answers.{Answers}
-use Rattle.pv_decl.specs.Declarators.{parametrized}
+use Rattle.pv_decl_forms.specs.Answers.{Answers}
+use Rattle.pv_decl_forms.specs.Declarators.{parametrized}
 use Rattle.pv_decl.specs.Filled.{list_map}
-use Rattle.pv_decl.specs.Givens.{AreGiven, parameter_list}
-use Rattle.pv_decl.specs.Parts.{function_of}
-use Rattle.pv_decl.specs.Pieces.{Piece}
-use Rattle.pv_decl.specs.Reader.{readers}
-use Rattle.pv_decl.proofs.Answered.{got, got_none}
-use Rattle.pv_decl.proofs.Closings.{parametrized_exact}
-use Rattle.pv_decl.proofs.Everywhere.{readers_exact}
+use Rattle.pv_decl_forms.specs.Givens.{AreGiven, parameter_list}
+use Rattle.pv_decl_forms.specs.Parts.{function_of}
+use Rattle.pv_decl_forms.specs.Pieces.{Piece}
+use Rattle.pv_decl_forms.specs.Reader.{readers}
+use Rattle.pv_decl_forms.proofs.Answered.{got, got_none}
+use Rattle.pv_decl_forms.proofs.Closings.{parametrized_exact}
+use Rattle.pv_decl_forms.proofs.Everywhere.{readers_exact}
 use Rattle.pv_decl.proofs.Held.{filled_beyond, filled_before}
-use Rattle.pv_decl.proofs.Goods.{Parametered, parametrized_good, comma_shortens}
-use Rattle.pv_decl.proofs.Sound.{readers_sound}
+use Rattle.pv_decl_forms.proofs.Goods.{Parametered, parametrized_good, comma_shortens}
+use Rattle.pv_decl_forms.proofs.Sound.{readers_sound}
 
 -- ---- what is given
 

@@ -7,15 +7,15 @@ use Rattle.pv_tree.specs.declared.nodes.NodeId.{NodeId}
 use Rattle.pv_tree.specs.Syntax.{DeclarationTree}
 use Rattle.pv_tree.specs.Tables.{Tables, declaration_at, is_declaration, Is}
 use Rattle.pv_tree.specs.TypeNames.{TypeMap, AreTied}
-use Rattle.pv_expr.specs.Known.{names_in}
-use Rattle.pv_expr.proofs.Marks.{open_is}
-use Rattle.pv_decl.specs.Answers.{IsThere, Answers}
+use Rattle.pv_expr_forms.specs.Known.{names_in}
+use Rattle.pv_expr_forms.proofs.Marks.{open_is}
+use Rattle.pv_decl_forms.specs.Answers.{IsThere, Answers}
 use Rattle.pv_decl.specs.Filled.{opens, is_behind_open}
-use Rattle.pv_decl.specs.Grammar.{SpellsTypeName}
-use Rattle.pv_decl.specs.Reader.{type_name}
-use Rattle.pv_decl.specs.TypeNames.{AreTypeNames}
+use Rattle.pv_decl_forms.specs.Grammar.{SpellsTypeName}
+use Rattle.pv_decl_forms.specs.Reader.{type_name}
+use Rattle.pv_decl_forms.specs.TypeNames.{AreTypeNames}
 use Rattle.pv_decl.proofs.Filling.{behind_it}
-use Rattle.pv_decl.proofs.Promises.{type_name_found, type_name_most, type_name_only, type_name_none}
+use Rattle.pv_decl_forms.proofs.Promises.{type_name_found, type_name_most, type_name_only, type_name_none}
 
 -- a place, and what a table has there
 record IsAnswered {S : Type 0} (typedefs : IndexSet ℕ S) (types : TypeMap) (u : Tables) (tokens : List Token) (deep at : ℕ) : Type 0 where

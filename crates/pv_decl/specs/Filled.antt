@@ -4,11 +4,11 @@ use Rattle.pv_lex.specs.declared.token_table.Token.{Token}
 use Rattle.pv_tree.specs.declared.nodes.NodeId.{NodeId}
 use Rattle.pv_tree.specs.Grammar.{Names}
 use Rattle.pv_tree.specs.TypeNames.{TypeMap}
-use Rattle.pv_expr.specs.Reader.{is_open}
+use Rattle.pv_expr_forms.specs.Reader.{is_open}
 use Rattle.pv_decl.specs.declared.lists.ParameterLists.{ParameterLists}
 use Rattle.pv_decl.specs.declared.type_table.TypeNames.{TypeNames}
-use Rattle.pv_decl.specs.Pieces.{Piece}
-use Rattle.pv_decl.specs.Reader.{type_name}
+use Rattle.pv_decl_forms.specs.Pieces.{Piece}
+use Rattle.pv_decl_forms.specs.Reader.{type_name}
 
 -- what is found at each place before one, where the list begins with the last
 abbrev pub filled : {A : Type 0} (to : ℕ) → List (Option A) → ℕ → Option A

@@ -1,10 +1,1 @@
-pub mod Pieces
-pub mod Declarators
-pub mod Grammar
-pub mod Reader
-pub mod TypeNames
-pub mod Answers
-pub mod Parts
-pub mod Rows
 pub mod Filled
-pub mod Givens

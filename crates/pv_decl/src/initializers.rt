@@ -3,18 +3,19 @@ ghost use Rattle.std.specs.Prelude.{◌≡◌, ◌≤◌, length, drop, Some, If
 ghost use Rattle.pv_tree.specs.Rows.{tables};
 ghost use Rattle.pv_tree.specs.Tables.{tree_at, is_declaration, is_declarator, is_expression, is_initializer, Is, Extends};
 ghost use Rattle.pv_tree.specs.Places.{Initializers};
-ghost use Rattle.pv_expr.specs.Known.{names_in};
-ghost use Rattle.pv_decl.specs.Answers.{Answers};
+ghost use Rattle.pv_expr_forms.specs.Known.{names_in};
+ghost use Rattle.pv_decl_forms.specs.Answers.{Answers};
 ghost use Rattle.pv_decl.specs.Filled.{list_map};
-ghost use Rattle.pv_decl.specs.Givens.{AreGiven};
-ghost use Rattle.pv_decl.specs.Rows.{AreAnswered, MayBeAnswered};
-ghost use Rattle.pv_decl.specs.Parts.{assigned};
-ghost use Rattle.pv_decl.specs.Pieces.{value, listed};
-ghost use Rattle.pv_decl.specs.Reader.{readers, initialized};
+ghost use Rattle.pv_decl_forms.specs.Givens.{AreGiven};
+ghost use Rattle.pv_decl_forms.specs.Rows.{AreAnswered, MayBeAnswered};
+ghost use Rattle.pv_decl_forms.specs.Parts.{assigned};
+ghost use Rattle.pv_decl_forms.specs.Pieces.{value, listed};
+ghost use Rattle.pv_decl_forms.specs.Reader.{readers, initialized};
 
 use crate::nodes::{found_declaration, found_initializer};
 use crate::pieces::braces_of;
-use crate::source::{Sign, Source, after, line_at};
+use crate::source::Source;
+use pv_decl_forms::{Sign, after, line_at};
 use pv_expr::{Level, expression};
 use pv_lex::NoMemory;
 use pv_tree::{Decl, Init, NodeId, TypeReader, Unit};
@@ -107,7 +108,7 @@ impl<R: TypeReader> Source<'_, R> {
     }
 
     // The initializer behind a `=` at a place, if both can be read, and the place behind it.
-    #[tactic(auto, using(pv_tree::proofs::Kept::extends_same), unfolding(crate::specs::Pieces::value))]
+    #[tactic(auto, using(pv_tree::proofs::Kept::extends_same), unfolding(pv_decl_forms::specs::Pieces::value))]
     fn initial_value(
         &self,
         at: u32,

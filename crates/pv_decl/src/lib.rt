@@ -3,7 +3,6 @@
 //! Of the trees that spell tokens from a place, each reader gives the one with the longest run.
 #![tactic(auto)]
 
-mod forms;
 mod initializers;
 mod lists;
 mod nodes;

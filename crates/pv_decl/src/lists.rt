@@ -2,13 +2,13 @@
 ghost use Rattle.std.specs.Prelude.{◌≡◌, ◌≤◌, [], IfOk, IfSome, Some, drop, length};
 ghost use Rattle.pv_tree.specs.Rows.{tables};
 ghost use Rattle.pv_tree.specs.Tables.{optional_at, is_declarator, Is, Extends};
-ghost use Rattle.pv_expr.specs.Known.{names_in};
-ghost use Rattle.pv_decl.specs.Answers.{Answers};
-ghost use Rattle.pv_decl.specs.Declarators.{parametrized};
+ghost use Rattle.pv_expr_forms.specs.Known.{names_in};
+ghost use Rattle.pv_decl_forms.specs.Answers.{Answers};
+ghost use Rattle.pv_decl_forms.specs.Declarators.{parametrized};
 ghost use Rattle.pv_decl.specs.Filled.{list_map};
-ghost use Rattle.pv_decl.specs.Givens.{AreGiven};
-ghost use Rattle.pv_decl.specs.Parts.{function_of};
-ghost use Rattle.pv_decl.specs.Reader.{readers};
+ghost use Rattle.pv_decl_forms.specs.Givens.{AreGiven};
+ghost use Rattle.pv_decl_forms.specs.Parts.{function_of};
+ghost use Rattle.pv_decl_forms.specs.Reader.{readers};
 
 use crate::nodes::found_declarator;
 use crate::pieces::function_node;

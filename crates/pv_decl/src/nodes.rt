@@ -7,10 +7,10 @@ ghost use Rattle.pv_tree.specs.Places.{is_named, is_direct};
 ghost use Rattle.pv_tree.specs.Rows.{tables};
 ghost use Rattle.pv_tree.specs.Syntax.{DeclaredName, OfDeclaration, OfDeclarator, OfSpecifier, OfInitializer};
 ghost use Rattle.pv_tree.specs.Tables.{declarator_at, is_declaration, is_declarator, is_specifier, is_initializer, Is, Extends};
-ghost use Rattle.pv_decl.specs.Answers.{Answers};
-ghost use Rattle.pv_decl.specs.Declarators.{allows_name};
+ghost use Rattle.pv_decl_forms.specs.Answers.{Answers};
+ghost use Rattle.pv_decl_forms.specs.Declarators.{allows_name};
 
-use crate::forms::Form;
+use pv_decl_forms::Form;
 use pv_lex::{NoMemory, Tokens};
 use pv_tree::{Decl, Declarator, Init, NodeId, Spec, Unit};
 

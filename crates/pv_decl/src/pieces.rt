@@ -7,18 +7,17 @@ ghost use Rattle.pv_tree.specs.Nodes.{specifier_of, declarator_of};
 ghost use Rattle.pv_tree.specs.Rows.{tables};
 ghost use Rattle.pv_tree.specs.Syntax.{OfDeclarator, Declaration, MemberDeclaration, Parameter, TypeName, Composite, Enumeration, Braces, OfSpecifier, OfInitializer};
 ghost use Rattle.pv_tree.specs.Tables.{Forest, HasList, trees_of, trees_at, optional_at, is_declaration, is_declarator, is_expression, is_initializer, is_specifier, Is, Extends};
-ghost use Rattle.pv_decl.specs.Answers.{seen, IsThere, Answers};
-ghost use Rattle.pv_decl.specs.Declarators.{bracketed, variadic_at, with_parameters, pointed, in_parentheses};
-ghost use Rattle.pv_decl.specs.Parts.{word_of_composite, word_of_tag, keyword_of, plain_of, named_of, array_of, function_of};
-ghost use Rattle.pv_decl.specs.Pieces.{optional};
-ghost use Rattle.pv_decl.specs.Reader.{listed_in_braces, row_in_braces, tag_alone, made_of, ended, with_members};
+ghost use Rattle.pv_decl_forms.specs.Answers.{seen, IsThere, Answers};
+ghost use Rattle.pv_decl_forms.specs.Declarators.{bracketed, variadic_at, with_parameters, pointed, in_parentheses};
+ghost use Rattle.pv_decl_forms.specs.Parts.{word_of_composite, word_of_tag, keyword_of, plain_of, named_of, array_of, function_of};
+ghost use Rattle.pv_decl_forms.specs.Pieces.{optional};
+ghost use Rattle.pv_decl_forms.specs.Reader.{listed_in_braces, row_in_braces, tag_alone, made_of, ended, with_members};
 
-use crate::forms::{CompositeWord, Form, TagWord};
 use crate::nodes::{
     found_declaration, found_declarator, found_initializer, found_specifier, is_named,
 };
-use crate::source::{Sign, after, comma_at, ellipsis_at, is_type};
 use indexmap::IndexSet;
+use pv_decl_forms::{CompositeWord, Form, Sign, TagWord, after, comma_at, ellipsis_at, is_type};
 use pv_lex::{NoMemory, Token, TokenKind, Tokens, Word};
 use pv_tree::{Decl, Declarator, Init, ListId, NodeId, Spec, Unit};
 
@@ -46,7 +45,7 @@ fn keyword(word: Word) -> Option<Spec>
 }
 
 /// A keyword or a typedef name, whose token ends at a place (C17 6.7.1 to 6.7.3, 6.7.8).
-#[tactic(auto, using(pv_tree::proofs::Kept::extends_same), unfolding(crate::specs::Parts::plain_of))]
+#[tactic(auto, using(pv_tree::proofs::Kept::extends_same), unfolding(pv_decl_forms::specs::Parts::plain_of))]
 pub(crate) fn plain(
     tokens: &Tokens,
     typedefs: &IndexSet<u32>,
@@ -99,7 +98,7 @@ pub(crate) fn tag_alone(
 }
 
 /// An enumeration, whose enumerators end at a place (C17 6.7.2.2).
-#[tactic(auto, using(pv_tree::proofs::Kept::extends_same), unfolding(crate::specs::Reader::listed_in_braces, crate::specs::Reader::brace_closed))]
+#[tactic(auto, using(pv_tree::proofs::Kept::extends_same), unfolding(pv_decl_forms::specs::Reader::listed_in_braces, pv_decl_forms::specs::Reader::brace_closed))]
 pub(crate) fn enumeration(
     tokens: &Tokens,
     at: u32,
@@ -141,7 +140,7 @@ fn composite_node(word: CompositeWord, tag: Option<u32>, members: ListId) -> Spe
 }
 
 /// A structure or union, whose members end at a place (C17 6.7.2.1).
-#[tactic(auto, using(pv_tree::proofs::Kept::extends_same), unfolding(crate::specs::Reader::row_in_braces))]
+#[tactic(auto, using(pv_tree::proofs::Kept::extends_same), unfolding(pv_decl_forms::specs::Reader::row_in_braces))]
 pub(crate) fn composite(
     tokens: &Tokens,
     at: u32,
@@ -169,7 +168,7 @@ pub(crate) fn composite(
 // ---- declarators
 
 /// The name of a declarator, which ends at a place (C17 6.7.6p1).
-#[tactic(auto, using(pv_tree::proofs::Kept::extends_same), unfolding(crate::specs::Parts::named_of))]
+#[tactic(auto, using(pv_tree::proofs::Kept::extends_same), unfolding(pv_decl_forms::specs::Parts::named_of))]
 pub(crate) fn named(
     tokens: &Tokens,
     typedefs: &IndexSet<u32>,
@@ -191,7 +190,7 @@ pub(crate) fn named(
 
 /// A pointer, whose `*` and words `const` end at a place, and what it stands before, if that can be
 /// read (C17 6.7.6.1).
-#[tactic(auto, using(pv_tree::proofs::Kept::extends_same), unfolding(crate::specs::Declarators::pointed))]
+#[tactic(auto, using(pv_tree::proofs::Kept::extends_same), unfolding(pv_decl_forms::specs::Declarators::pointed))]
 pub(crate) fn pointed(
     tokens: &Tokens,
     at: u32,
@@ -231,7 +230,7 @@ pub(crate) fn pointed(
 }
 
 /// A declarator in parentheses, if it can be read (C17 6.7.6p6).
-#[tactic(auto, using(pv_tree::proofs::Kept::extends_same), unfolding(crate::specs::Declarators::in_parentheses))]
+#[tactic(auto, using(pv_tree::proofs::Kept::extends_same), unfolding(pv_decl_forms::specs::Declarators::in_parentheses))]
 pub(crate) fn parenthesized(
     tokens: &Tokens,
     within: Option<(NodeId, u32)>,
@@ -257,7 +256,7 @@ pub(crate) fn parenthesized(
 }
 
 /// An array, whose size ends at a place, behind a declarator that may be left out (C17 6.7.6.2).
-#[tactic(auto, using(pv_tree::proofs::Kept::extends_same), unfolding(crate::specs::Declarators::bracketed))]
+#[tactic(auto, using(pv_tree::proofs::Kept::extends_same), unfolding(pv_decl_forms::specs::Declarators::bracketed))]
 pub(crate) fn array_of(
     tokens: &Tokens,
     at: u32,
@@ -283,7 +282,7 @@ pub(crate) fn array_of(
 }
 
 // Whether `, ...` stands at a place behind some parameters, and the place behind it if so.
-#[tactic(auto, unfolding(crate::specs::Declarators::variadic_at))]
+#[tactic(auto, unfolding(pv_decl_forms::specs::Declarators::variadic_at))]
 fn variadic_at(tokens: &Tokens, at: u32, parameters: &[NodeId]) -> (bool, u32)
     requires { at ≤ length tokens.now.tokens }
     ensures is { (f : Forest) → ◌≡◌ {A = Bool × List Token} (result.0, drop result.1 tokens.now.tokens) (variadic_at (trees_of f parameters.now) (drop at tokens.now.tokens)) }
@@ -322,7 +321,7 @@ pub(crate) fn function_node(
 
 /// A function, whose parameters end at a place, behind a declarator that may be left out
 /// (C17 6.7.6.3).
-#[tactic(auto, using(pv_tree::proofs::Kept::extends_same), unfolding(crate::specs::Declarators::with_parameters, crate::specs::Declarators::closed))]
+#[tactic(auto, using(pv_tree::proofs::Kept::extends_same), unfolding(pv_decl_forms::specs::Declarators::with_parameters, pv_decl_forms::specs::Declarators::closed))]
 pub(crate) fn function_of(
     tokens: &Tokens,
     at: u32,
@@ -349,7 +348,7 @@ pub(crate) fn function_of(
 // ---- declarations
 
 /// A member declaration, whose declarators end at a place (C17 6.7.2.1p1).
-#[tactic(auto, using(pv_tree::proofs::Kept::extends_same), unfolding(crate::specs::Reader::with_members, crate::specs::Reader::ended))]
+#[tactic(auto, using(pv_tree::proofs::Kept::extends_same), unfolding(pv_decl_forms::specs::Reader::with_members, pv_decl_forms::specs::Reader::ended))]
 pub(crate) fn member_of(
     tokens: &Tokens,
     at: u32,
@@ -427,7 +426,7 @@ pub(crate) fn type_name_of(
 }
 
 /// A declaration, whose init-declarators end at a place (C17 6.7p1).
-#[tactic(auto, using(pv_tree::proofs::Kept::extends_same), unfolding(crate::specs::Reader::ended))]
+#[tactic(auto, using(pv_tree::proofs::Kept::extends_same), unfolding(pv_decl_forms::specs::Reader::ended))]
 pub(crate) fn declaration_of(
     tokens: &Tokens,
     at: u32,
@@ -452,7 +451,7 @@ pub(crate) fn declaration_of(
 }
 
 /// Initializers in braces, which end at a place (C17 6.7.9p1).
-#[tactic(auto, using(pv_tree::proofs::Kept::extends_same), unfolding(crate::specs::Reader::listed_in_braces, crate::specs::Reader::brace_closed))]
+#[tactic(auto, using(pv_tree::proofs::Kept::extends_same), unfolding(pv_decl_forms::specs::Reader::listed_in_braces, pv_decl_forms::specs::Reader::brace_closed))]
 pub(crate) fn braces_of(
     tokens: &Tokens,
     at: u32,

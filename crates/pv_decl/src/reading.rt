@@ -4,28 +4,28 @@ ghost use Rattle.pv_tree.specs.Places.{Specifiers, Members, Enumerators, Paramet
 ghost use Rattle.pv_tree.specs.Rows.{tables};
 ghost use Rattle.pv_tree.specs.Syntax.{Composite, Enumeration, OfSpecifier, NoTrees};
 ghost use Rattle.pv_tree.specs.Tables.{tree_at, optional_at, is_declaration, is_declarator, is_specifier, Is, Extends};
-ghost use Rattle.pv_expr.specs.Known.{names_in};
-ghost use Rattle.pv_expr.specs.Reader.{after};
-ghost use Rattle.pv_decl.specs.Answers.{Answers};
+ghost use Rattle.pv_expr_forms.specs.Known.{names_in};
+ghost use Rattle.pv_expr_forms.specs.Reader.{after};
+ghost use Rattle.pv_decl_forms.specs.Answers.{Answers};
 ghost use Rattle.pv_decl.specs.Filled.{list_map};
-ghost use Rattle.pv_decl.specs.Givens.{AreGiven};
-ghost use Rattle.pv_decl.specs.Rows.{AreAnswered};
-ghost use Rattle.pv_decl.specs.declared.forms.Part.TheVariants as part;
-ghost use Rattle.pv_decl.specs.Declarators.{consts_in_row, grown, head, longer, opened, parametrized, pointer};
-ghost use Rattle.pv_decl.specs.Parts.{kind_of_part, place_of_part, word_of_composite, word_of_tag, within, function_of};
-ghost use Rattle.pv_decl.specs.Pieces.{is_open_brace, row, listed};
-ghost use Rattle.pv_decl.specs.Reader.{readers, braced, listed_in_braces, row_in_braces, tag_at, with_tag};
+ghost use Rattle.pv_decl_forms.specs.Givens.{AreGiven};
+ghost use Rattle.pv_decl_forms.specs.Rows.{AreAnswered};
+ghost use Rattle.pv_decl_forms.specs.declared.forms.Part.TheVariants as part;
+ghost use Rattle.pv_decl_forms.specs.Declarators.{consts_in_row, grown, head, longer, opened, parametrized, pointer};
+ghost use Rattle.pv_decl_forms.specs.Parts.{kind_of_part, place_of_part, word_of_composite, word_of_tag, within, function_of};
+ghost use Rattle.pv_decl_forms.specs.Pieces.{is_open_brace, row, listed};
+ghost use Rattle.pv_decl_forms.specs.Reader.{readers, braced, listed_in_braces, row_in_braces, tag_at, with_tag};
 
-use crate::forms::{CompositeWord, Form, Opening, Part, TagWord};
 use crate::lists::DEPTH_LIMIT;
 use crate::nodes::may_go_on;
 use crate::pieces::{
     composite, enumeration, function_of, member_of, named, parameter_of, parenthesized, plain,
     pointed, tag_alone,
 };
-use crate::source::{
-    Sign, Source, after, consts_in_row, line_at, opening_of, opens_parameters, peek, tag_at,
-    tag_word,
+use crate::source::Source;
+use pv_decl_forms::{
+    CompositeWord, Form, Opening, Part, Sign, TagWord, after, consts_in_row, line_at, opening_of,
+    opens_parameters, peek, tag_at, tag_word,
 };
 use pv_lex::NoMemory;
 use pv_tree::{NodeId, TypeReader, Unit};

@@ -4,20 +4,20 @@ ghost use Rattle.pv_tree.specs.Rows.{tables};
 ghost use Rattle.pv_tree.specs.Syntax.{Absent};
 ghost use Rattle.pv_tree.specs.Tables.{optional_at, is_declaration, is_declarator, is_expression, Is, Extends};
 ghost use Rattle.pv_tree.specs.Places.{Constants, Enumerators};
-ghost use Rattle.pv_expr.specs.Known.{names_in};
-ghost use Rattle.pv_decl.specs.Answers.{Answers};
+ghost use Rattle.pv_expr_forms.specs.Known.{names_in};
+ghost use Rattle.pv_decl_forms.specs.Answers.{Answers};
 ghost use Rattle.pv_decl.specs.Filled.{list_map};
-ghost use Rattle.pv_decl.specs.Givens.{AreGiven};
-ghost use Rattle.pv_decl.specs.Rows.{MayBeAnswered};
-ghost use Rattle.pv_decl.specs.Declarators.{allows_abstract, sized};
-ghost use Rattle.pv_decl.specs.Parts.{array_of};
-ghost use Rattle.pv_decl.specs.Pieces.{optional, value};
-ghost use Rattle.pv_decl.specs.Reader.{readers};
+ghost use Rattle.pv_decl_forms.specs.Givens.{AreGiven};
+ghost use Rattle.pv_decl_forms.specs.Rows.{MayBeAnswered};
+ghost use Rattle.pv_decl_forms.specs.Declarators.{allows_abstract, sized};
+ghost use Rattle.pv_decl_forms.specs.Parts.{array_of};
+ghost use Rattle.pv_decl_forms.specs.Pieces.{optional, value};
+ghost use Rattle.pv_decl_forms.specs.Reader.{readers};
 
-use crate::forms::Form;
 use crate::nodes::found_declaration;
 use crate::pieces::array_of;
-use crate::source::{Sign, Source, after, is_type, name_of, peek};
+use crate::source::Source;
+use pv_decl_forms::{Form, Sign, after, is_type, name_of, peek};
 use pv_expr::{Level, expression};
 use pv_lex::NoMemory;
 use pv_tree::{Decl, NodeId, TypeReader, Unit};
@@ -92,7 +92,7 @@ impl<R: TypeReader> Source<'_, R> {
     }
 
     /// The value behind a `=` at a place, if both can be read, and the place behind it.
-    #[tactic(auto, using(pv_tree::proofs::Kept::extends_same), unfolding(crate::specs::Pieces::value))]
+    #[tactic(auto, using(pv_tree::proofs::Kept::extends_same), unfolding(pv_decl_forms::specs::Pieces::value))]
     fn constant_value(
         &self,
         at: u32,

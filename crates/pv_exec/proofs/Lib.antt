@@ -1,13 +1,2 @@
-pub mod Lists
 pub mod Runs
-pub mod Typed
-pub mod Steps
-pub mod Shortens
-pub mod Answered
-pub mod Depths
-pub mod Exact
-pub mod Forms
-pub mod Declarators
-pub mod Units
-pub mod Spelling
-pub mod Programs
+pub mod Sizes

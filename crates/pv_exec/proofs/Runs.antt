@@ -4,7 +4,7 @@ use Rattle.pv_object.specs.declared.values.Value.{Value}
 use Rattle.pv_exec.specs.declared.machine.Flow.{Flow}
 use Rattle.pv_exec.specs.declared.machine.Flow.TheVariants.{Falls}
 use Rattle.pv_exec.specs.declared.machine.Why.{Why}
-use Rattle.pv_exec.specs.Terms.{LocalTerm, StatementTerm}
+use Rattle.pv_starter.specs.Terms.{LocalTerm, StatementTerm}
 use Rattle.pv_exec.specs.States.{Setting, State, Res, Gives, Stops, then_do, act}
 use Rattle.pv_exec.specs.Operations.{makes}
 use Rattle.pv_exec.specs.Execution.{falls, ex, exs, initialise, initialise_all, make_all, make_static, make_statics}
@@ -13,12 +13,12 @@ use Rattle.std.proofs.lemmas.List.{drop_all}
 use Rattle.std.proofs.Common.{suc, add-one, drop-cons, subst, Result, Ok, Err}
 use Rattle.std.specs.Prelude.{slice_get, Some}
 use Rattle.std.proofs.lemmas.Option.{slice_get_within, get_or_from_slice_get}
-use Rattle.pv_exec.specs.declared.starter.terms.StaticObject.{StaticObject}
+use Rattle.pv_starter.specs.declared.terms.StaticObject.{StaticObject}
 use Rattle.pv_exec.specs.declared.running.Outcome.{Outcome}
 use Rattle.pv_exec.specs.declared.running.Ran.{Ran}
 use Rattle.pv_exec.specs.Run.{outcome_of, ended}
 use Rattle.pv_exec.specs.Machines.{Ends, res_of}
-use Rattle.pv_exec.proofs.Lists.{dropped}
+use Rattle.pv_starter.proofs.Lists.{dropped}
 
 pub exs_none : (b : Setting) (s : State) → exs b [] s ≡ Gives Falls s
 unfolding exs

@@ -2,7 +2,7 @@
 -- lvalue takes none of its own. Operands are evaluated from left to right.
 use Rattle.std.specs.Prelude.{ℕ, Bool, true, false}
 use Rattle.pv_object.specs.declared.values.Value.{Value}
-use Rattle.pv_exec.specs.Terms.{TermTree, Constant, Place, Follow, Read, Take, Add, Move}
+use Rattle.pv_starter.specs.Terms.{TermTree, Constant, Place, Follow, Read, Take, Add, Move}
 use Rattle.pv_exec.specs.States.{Setting, State, Res, Gives, then_do, tick, act}
 use Rattle.pv_exec.specs.Operations.{constant, places, loads, adds, moves}
 

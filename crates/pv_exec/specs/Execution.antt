@@ -1,12 +1,12 @@
 -- Execution of statements (6.8), and of `main` with its objects.
 use Rattle.std.specs.Prelude.{ℕ, ◌+◌, List, [], ◌∷◌, length, Option, None, Some}
 use Rattle.pv_object.specs.declared.values.Value.{Value}
-use Rattle.pv_exec.specs.declared.starter.terms.ObjectType.{ObjectType}
-use Rattle.pv_exec.specs.declared.starter.terms.ObjectType.TheVariants as object_type
-use Rattle.pv_exec.specs.declared.starter.terms.StaticObject.{StaticObject}
+use Rattle.pv_starter.specs.declared.terms.ObjectType.{ObjectType}
+use Rattle.pv_starter.specs.declared.terms.ObjectType.TheVariants as object_type
+use Rattle.pv_starter.specs.declared.terms.StaticObject.{StaticObject}
 use Rattle.pv_exec.specs.declared.machine.Flow.{Flow}
 use Rattle.pv_exec.specs.declared.machine.Flow.TheVariants.{Falls, Returns}
-use Rattle.pv_exec.specs.Terms.{TermTree, LocalTerm, StatementTerm, Put, Answer, ProgramTree}
+use Rattle.pv_starter.specs.Terms.{TermTree, LocalTerm, StatementTerm, Put, Answer, ProgramTree}
 use Rattle.pv_exec.specs.States.{Setting, State, Res, Gives, then_do, tick, act}
 use Rattle.pv_exec.specs.Operations.{constant, places, stores, makes}
 use Rattle.pv_exec.specs.Evaluation.{in_order, ev}

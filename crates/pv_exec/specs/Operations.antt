@@ -19,8 +19,8 @@ use Rattle.pv_object.specs.Placement.{placed}
 use Rattle.pv_object.specs.Encoding.{size_of}
 use Rattle.pv_object.specs.Access.{reached, loaded, stored}
 use Rattle.pv_object.specs.Pointers.{shifted}
-use Rattle.pv_exec.specs.declared.starter.terms.ObjectType.{ObjectType}
-use Rattle.pv_exec.specs.declared.starter.terms.ObjectType.TheVariants as object_type
+use Rattle.pv_starter.specs.declared.terms.ObjectType.{ObjectType}
+use Rattle.pv_starter.specs.declared.terms.ObjectType.TheVariants as object_type
 use Rattle.pv_exec.specs.declared.machine.Why.{Why}
 use Rattle.pv_exec.specs.declared.machine.Why.TheVariants.{Undefined, Indeterminate}
 use Rattle.pv_exec.specs.States.{World, Done, Answers, Fails}

@@ -7,7 +7,7 @@ use Rattle.pv_exec.specs.declared.machine.Why.TheVariants as why
 use Rattle.pv_exec.specs.declared.running.Outcome.{Outcome}
 use Rattle.pv_exec.specs.declared.running.Outcome.TheVariants.{Exit, Undefined, Indeterminate, Turns}
 use Rattle.pv_exec.specs.declared.running.Ran.{Ran}
-use Rattle.pv_exec.specs.Terms.{ProgramTree}
+use Rattle.pv_starter.specs.Terms.{ProgramTree}
 use Rattle.pv_exec.specs.States.{Setting, State, Res, Gives, Stops, then_do}
 use Rattle.pv_exec.specs.Operations.{int_of}
 use Rattle.pv_exec.specs.Execution.{make_statics, main_body}

@@ -1,24 +1,23 @@
 //! A run in progress: the machine that evaluates expressions and executes statements.
 ghost use Rattle.std.specs.Prelude.{◌≡◌, ◌<◌, ◌≤◌, ◌+◌, ◌^◌, ◌++◌, [], ◌∷◌, pos, neg_ℤ, ◌*ℤ◌, ◌≤ℤ◌, true, false, List, length, drop, map, nat_lt, slice_index, IfOk, IfErr, OnOk, OnErr, MatchResult, slice_get, Some};
 ghost use Rattle.pv_num.specs.Kinds.{Fits};
-ghost use Rattle.pv_exec.specs.TermViews.{term_tree, local_term, statement_term, program_tree};
+ghost use Rattle.pv_starter.specs.TermViews.{term_tree, local_term, statement_term, program_tree};
 ghost use Rattle.pv_object.specs.Encoding.{size_of as size_in_bytes};
-ghost use Rattle.pv_exec.specs.States.{State, spend, act, Gives};
+ghost use Rattle.pv_exec.specs.States.{State, spend, tick, then_do, act, Gives};
 ghost use Rattle.pv_exec.specs.Operations as operation;
-ghost use Rattle.pv_exec.specs.Evaluation.{ev, moved};
-ghost use Rattle.pv_exec.specs.Execution.{ex, exs, begins, initialise, initialise_all, make_all, make_static, make_statics, main_body};
+ghost use Rattle.pv_exec.specs.Evaluation.{ev, in_order, moved};
+ghost use Rattle.pv_exec.specs.Execution.{ex, exs, dropped, begins, initialise, initialise_all, make_all, make_static, make_statics, main_body};
 ghost use Rattle.pv_exec.specs.Run.{start, run_of};
 ghost use Rattle.pv_object.specs.Values.{IsOf};
 ghost use Rattle.pv_exec.specs.Machines.{setting_of, state_of, Ends, EndsBy, FitsValue, FitsFlow};
 
-use crate::NoMemory;
-use crate::starter::terms::{ObjectType, Program, StaticObject, Term, TypedLocal, TypedStatement};
 use pv_num::{BinOp, Fault, IntKind, binary, convert};
 use pv_object::{Memory, Pointer, Prov, Scalar, Stop, Value};
+use pv_starter::{NoMemory, ObjectType, Program, StaticObject, Term, TypedLocal, TypedStatement};
 use std::alloc::Global;
 
 /// Why a run stops before its end.
-#[derive(Clone, Copy, Debug, PartialEq, Eq)]
+#[derive(Clone, Copy)]
 pub enum Why {
     /// Another turn is due, and the bound's turns were taken.
     Turns,
@@ -29,7 +28,7 @@ pub enum Why {
 }
 
 /// How a statement is left (C17 6.8.6).
-#[derive(Clone, Copy, Debug, PartialEq, Eq)]
+#[derive(Clone, Copy)]
 pub enum Flow {
     Falls,
     Returns(Value),
@@ -174,20 +173,15 @@ impl Machine {
     }
 
     // What an expression gives.
+    #[cycle(evaluation)]
     fn evaluate(&mut self, term: &Term) -> Result<Value, Why>
         ensures run { Ends (ev (setting_of self.old) (term_tree term.now) (state_of self.old)) result (state_of self.new) }
         ensures fits { IfOk result FitsValue }
         ensures bound { self.new.bound ≡ self.old.bound }
     {
         match term {
-            Term::Constant { value } => {
-                self.tick()?;
-                Ok(constant(*value))
-            }
-            Term::Place { object } => {
-                self.tick()?;
-                Ok(self.place_of(*object as usize))
-            }
+            Term::Constant { value } => self.constant_term(*value),
+            Term::Place { object } => self.place_term(*object as usize),
             Term::Follow { pointer } => {
                 self.tick()?;
                 self.evaluate(pointer)
@@ -206,8 +200,7 @@ impl Machine {
             }
             Term::Add { line, left, right } => {
                 self.tick()?;
-                let left = self.evaluate(left)?;
-                let right = self.evaluate(right)?;
+                let (left, right) = self.operands(left, right)?;
                 self.add(*line, left, right)
             }
             Term::Move {
@@ -217,11 +210,42 @@ impl Machine {
                 right,
             } => {
                 self.tick()?;
-                let left = self.evaluate(left)?;
-                let right = self.evaluate(right)?;
+                let (left, right) = self.operands(left, right)?;
                 self.shift_by(*line, *pointer_first, left, right)
             }
         }
+    }
+
+    // What two expressions give, from left to right.
+    #[cycle(evaluation)]
+    fn operands(&mut self, left: &Term, right: &Term) -> Result<(Value, Value), Why>
+        ensures run { Ends (in_order (ev (setting_of self.old) (term_tree left.now)) (ev (setting_of self.old) (term_tree right.now)) (state_of self.old)) result (state_of self.new) }
+        ensures fits { IfOk result (λ p. FitsValue p.0 × FitsValue p.1) }
+        ensures bound { self.new.bound ≡ self.old.bound }
+    {
+        let left = self.evaluate(left)?;
+        let right = self.evaluate(right)?;
+        Ok((left, right))
+    }
+
+    // A constant takes a turn.
+    fn constant_term(&mut self, number: u32) -> Result<Value, Why>
+        ensures run { Ends (tick (setting_of self.old) (state_of self.old) (λ s. Gives (operation.constant number) s)) result (state_of self.new) }
+        ensures fits { IfOk result FitsValue }
+        ensures bound { self.new.bound ≡ self.old.bound }
+    {
+        self.tick()?;
+        Ok(constant(number))
+    }
+
+    // So does the name of an object.
+    fn place_term(&mut self, object: usize) -> Result<Value, Why>
+        ensures run { Ends (tick (setting_of self.old) (state_of self.old) (λ s. act (operation.places object) s)) result (state_of self.new) }
+        ensures fits { IfOk result FitsValue }
+        ensures bound { self.new.bound ≡ self.old.bound }
+    {
+        self.tick()?;
+        Ok(self.place_of(object))
     }
 
     // The sum of a pointer and an integer, in either order.
@@ -299,11 +323,7 @@ impl Machine {
                 value,
             } => {
                 self.tick()?;
-                self.tick()?;
-                let place = self.evaluate(place)?;
-                let value = self.evaluate(value)?;
-                self.store(*object_type, *line, place, value)?;
-                Ok(Flow::Falls)
+                self.assign(*object_type, *line, place, value)
             }
             TypedStatement::Answer { value } => {
                 self.tick()?;
@@ -311,6 +331,24 @@ impl Machine {
                 Ok(Flow::Returns(value))
             }
         }
+    }
+
+    // An assignment, and the turn that it takes.
+    fn assign(
+        &mut self,
+        object_type: ObjectType,
+        line: u32,
+        place: &Term,
+        value: &Term,
+    ) -> Result<Flow, Why>
+        ensures run { Ends (tick (setting_of self.old) (state_of self.old) (λ s. then_do (in_order (ev (setting_of self.old) (term_tree place.now)) (ev (setting_of self.old) (term_tree value.now)) s) (λ p s. dropped (act (operation.stores object_type line p.0 p.1) s)))) result (state_of self.new) }
+        ensures falls { IfOk result (λ r. r ≡ Flow.Falls) }
+        ensures bound { self.new.bound ≡ self.old.bound }
+    {
+        self.tick()?;
+        let (place, value) = self.operands(place, value)?;
+        self.store(object_type, line, place, value)?;
+        Ok(Flow::Falls)
     }
 
     // Statements, until one returns.
@@ -347,7 +385,9 @@ impl Machine {
         ensures made { OnOk result (act (operation.makes object_type) (state_of self.old) ≡ Gives (Value.Int (pos 0)) (state_of self.new)) }
         ensures bound { self.new.bound ≡ self.old.bound }
     {
-        let instance = self.memory.create(size_of(object_type))?;
+        let Ok(instance) = self.memory.create(size_of(object_type)) else {
+            return Err(NoMemory);
+        };
         self.objects.push(instance)?;
         Ok(())
     }

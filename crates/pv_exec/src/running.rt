@@ -1,19 +1,18 @@
 //! The run of a typed program, and how it ends.
 ghost use Rattle.std.specs.Prelude.{◌≡◌, [], IfOk, OnOk};
-ghost use Rattle.pv_exec.specs.TermViews.{program_tree};
+ghost use Rattle.pv_starter.specs.TermViews.{program_tree};
 ghost use Rattle.pv_exec.specs.States.{State};
 ghost use Rattle.pv_exec.specs.Run.{outcome_of, ran_of, output_of};
 ghost use Rattle.pv_exec.specs.Machines.{FitsFlow, res_of};
 
-use crate::NoMemory;
 use crate::machine::{Flow, Machine, Why, int_of};
-use crate::starter::terms::Program;
 use pv_num::Fault;
 use pv_object::Memory;
+use pv_starter::{NoMemory, Program};
 use std::alloc::Global;
 
 /// How a run ended. Lines are counted from 1, as line markers set them.
-#[derive(Clone, Copy, Debug, PartialEq, Eq)]
+#[derive(Clone, Copy, Debug)]
 pub enum Outcome {
     /// `main` returned this status (C17 5.1.2.2.3).
     Exit { status: i32 },
@@ -26,7 +25,7 @@ pub enum Outcome {
 }
 
 /// A run that ended.
-#[derive(Clone, Copy, Debug, PartialEq, Eq)]
+#[derive(Clone, Copy, Debug)]
 pub struct Ran {
     pub outcome: Outcome,
     /// How many turns were taken: one for each node that was evaluated and each statement that was executed.

@@ -4,12 +4,11 @@
 //! longest run.
 #![tactic(auto)]
 
-mod follows;
-mod levels;
 mod nodes;
 mod parser;
 mod reading;
 mod source;
 
-pub use parser::{Level, expression};
+pub use parser::expression;
+pub use pv_expr_forms::Level;
 pub use pv_tree::NoMemory;

@@ -9,14 +9,15 @@ ghost use Rattle.pv_tree.specs.Nodes.{expression_of};
 ghost use Rattle.pv_tree.specs.Rows.{tables};
 ghost use Rattle.pv_tree.specs.Syntax.{Call, Member, Arrow};
 ghost use Rattle.pv_tree.specs.Tables.{expression_at, declaration_at, arguments_of, is_expression, is_declaration, Is, Extends};
-ghost use Rattle.pv_expr.specs.Answers.{Answers};
-ghost use Rattle.pv_expr.specs.Follows.{joined, prefixed};
-ghost use Rattle.pv_expr.specs.Parts.{leaf_of, named};
-ghost use Rattle.pv_expr.specs.Reader.{closed, indexed};
+ghost use Rattle.pv_expr_forms.specs.Answers.{Answers};
+ghost use Rattle.pv_expr_forms.specs.Follows.{joined, prefixed};
+ghost use Rattle.pv_expr_forms.specs.Parts.{leaf_of, named};
+ghost use Rattle.pv_expr_forms.specs.Reader.{closed, indexed};
 
-use crate::follows::{Join, Prefix};
-use crate::source::{after_bracket, after_close, is_type, name_next, texts_in_row};
 use indexmap::IndexSet;
+use pv_expr_forms::{
+    Join, Prefix, after_bracket, after_close, is_type, name_next, rank, texts_in_row,
+};
 use pv_lex::{NoMemory, Token, TokenKind, Tokens};
 use pv_tree::{Expr, NodeId, Unit};
 
@@ -25,7 +26,7 @@ pub(crate) fn rank_of(unit: &Unit, n: NodeId) -> u8
     requires { Is (tables unit.now) is_expression n }
     ensures { result ≡ rank (expression_at (tables unit.now).forest n) }
 {
-    crate::levels::rank(unit.expr(n))
+    rank(unit.expr(n))
 }
 
 /// The depth of an expression.
@@ -70,7 +71,7 @@ pub(crate) fn found(
 
 /// A name, a constant or string literals in a row, whose first token ends at a place
 /// (C17 6.5.1p1).
-#[tactic(auto, using(pv_tree::proofs::Kept::extends_same), unfolding(crate::specs::Parts::leaf_of))]
+#[tactic(auto, using(pv_tree::proofs::Kept::extends_same), unfolding(pv_expr_forms::specs::Parts::leaf_of))]
 pub(crate) fn leaf(
     tokens: &Tokens,
     typedefs: &IndexSet<u32>,
@@ -117,7 +118,7 @@ pub(crate) fn leaf(
 }
 
 /// What stands in parentheses, whose inside ends at a place (C17 6.5.1p5).
-#[tactic(auto, using(pv_tree::proofs::Kept::extends_same), unfolding(crate::specs::Reader::closed))]
+#[tactic(auto, using(pv_tree::proofs::Kept::extends_same), unfolding(pv_expr_forms::specs::Reader::closed))]
 pub(crate) fn close(
     tokens: &Tokens,
     at: u32,
@@ -137,7 +138,7 @@ pub(crate) fn close(
 }
 
 /// An element, whose index ends at a place (C17 6.5.2.1).
-#[tactic(auto, using(pv_tree::proofs::Kept::extends_same), unfolding(crate::specs::Reader::indexed))]
+#[tactic(auto, using(pv_tree::proofs::Kept::extends_same), unfolding(pv_expr_forms::specs::Reader::indexed))]
 pub(crate) fn index(
     tokens: &Tokens,
     at: u32,
@@ -161,7 +162,7 @@ pub(crate) fn index(
 }
 
 /// A member, whose name stands at a place (C17 6.5.2.3p1).
-#[tactic(auto, using(pv_tree::proofs::Kept::extends_same), unfolding(crate::specs::Parts::named))]
+#[tactic(auto, using(pv_tree::proofs::Kept::extends_same), unfolding(pv_expr_forms::specs::Parts::named))]
 pub(crate) fn member(
     tokens: &Tokens,
     typedefs: &IndexSet<u32>,
@@ -184,7 +185,7 @@ pub(crate) fn member(
 }
 
 /// A member behind a pointer, whose name stands at a place (C17 6.5.2.3p2).
-#[tactic(auto, using(pv_tree::proofs::Kept::extends_same), unfolding(crate::specs::Parts::named))]
+#[tactic(auto, using(pv_tree::proofs::Kept::extends_same), unfolding(pv_expr_forms::specs::Parts::named))]
 pub(crate) fn arrow(
     tokens: &Tokens,
     typedefs: &IndexSet<u32>,

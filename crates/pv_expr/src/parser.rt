@@ -5,39 +5,16 @@ ghost use Rattle.pv_tree.specs.Rows.{tables};
 ghost use Rattle.pv_tree.specs.Syntax.{ExpressionTree};
 ghost use Rattle.pv_tree.specs.Tables.{expression_at, is_expression, Is, Extends};
 ghost use Rattle.pv_tree.specs.TypeNames.{AreTied};
-ghost use Rattle.pv_expr.specs.Answers.{Answers};
-ghost use Rattle.pv_expr.specs.Known.{names_in};
-ghost use Rattle.pv_expr.specs.Numbers.{level_number};
-ghost use Rattle.pv_expr.specs.Reader.{read};
+ghost use Rattle.pv_expr_forms.specs.Answers.{Answers};
+ghost use Rattle.pv_expr_forms.specs.Known.{names_in};
+ghost use Rattle.pv_expr_forms.specs.Numbers.{level_number};
+ghost use Rattle.pv_expr_forms.specs.Reader.{read};
 
 use crate::source::Source;
 use indexmap::IndexSet;
+use pv_expr_forms::Level;
 use pv_lex::{NoMemory, Tokens};
 use pv_tree::{NodeId, TypeReader, Unit};
-
-/// The levels of expressions that other parts of the grammar have.
-#[derive(Clone, Copy, Debug, PartialEq, Eq)]
-pub enum Level {
-    /// An expression (C17 6.5.17p1).
-    Comma,
-    /// An assignment expression (C17 6.5.16p1).
-    Assignment,
-    /// A conditional expression (C17 6.5.15p1), as which constant expressions are written
-    /// (C17 6.6p1).
-    Conditional,
-}
-
-impl Level {
-    fn number(self) -> u8
-        ensures { result ≡ level_number self }
-    {
-        match self {
-            Level::Comma => 1,
-            Level::Assignment => 2,
-            Level::Conditional => 3,
-        }
-    }
-}
 
 /// The longest expression of a level that begins at token number `at`, and the number of the token
 /// behind it.

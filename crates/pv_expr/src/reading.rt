@@ -3,16 +3,17 @@ ghost use Rattle.std.specs.Prelude.{◌≡◌, ◌≤◌, length, drop, Some, If
 ghost use Rattle.pv_tree.specs.Rows.{tables};
 ghost use Rattle.pv_tree.specs.Tables.{expression_at, is_expression, Is, Extends};
 ghost use Rattle.pv_tree.specs.TypeNames.{AreTied};
-ghost use Rattle.pv_expr.specs.Answers.{Answers};
-ghost use Rattle.pv_expr.specs.Known.{names_in};
-ghost use Rattle.pv_expr.specs.Reader.{read, deeper, head, opened, fronted, grown, longer, goes_on, asked, called, measured};
+ghost use Rattle.pv_expr_forms.specs.Answers.{Answers};
+ghost use Rattle.pv_expr_forms.specs.Known.{names_in};
+ghost use Rattle.pv_expr_forms.specs.Reader.{read, deeper, head, opened, fronted, grown, longer, goes_on, asked, called, measured};
 
-use crate::follows::{Follow, Prefix, follow_of, prefix_of};
 use crate::nodes::{
     arrow, call, close, depth_of, found, index, joined, leaf, line_of, member, prefixed, rank_of,
 };
-use crate::source::{
-    Source, after_close, after_colon, begins_type, is_close, is_comma, is_open, measures_type, peek,
+use crate::source::Source;
+use pv_expr_forms::{
+    Follow, Prefix, after_close, after_colon, begins_type, follow_of, is_close, is_comma, is_open,
+    measures_type, peek, prefix_of,
 };
 use pv_lex::NoMemory;
 use pv_tree::{Expr, NodeId, TypeReader, Unit};
@@ -95,7 +96,7 @@ impl<R: TypeReader> Source<'_, R> {
 
     // An operator and its operand (C17 6.5.3).
     #[cycle(reading)]
-    #[tactic(auto, unfolding(crate::specs::Reader::fronted))]
+    #[tactic(auto, unfolding(pv_expr_forms::specs::Reader::fronted))]
     fn front(
         &self,
         at: u32,
@@ -198,7 +199,7 @@ impl<R: TypeReader> Source<'_, R> {
 
     // The next longer tree of a level that begins with a tree.
     #[cycle(reading)]
-    #[tactic(auto, unfolding(crate::specs::Reader::longer, crate::specs::Reader::tried))]
+    #[tactic(auto, unfolding(pv_expr_forms::specs::Reader::longer, pv_expr_forms::specs::Reader::tried))]
     fn extend(
         &self,
         at: u32,
@@ -230,7 +231,7 @@ impl<R: TypeReader> Source<'_, R> {
 
     // The tree that goes on from a tree so (C17 6.5.2, 6.5.5 to 6.5.17).
     #[cycle(reading)]
-    #[tactic(auto, unfolding(crate::specs::Reader::goes_on))]
+    #[tactic(auto, unfolding(pv_expr_forms::specs::Reader::goes_on))]
     fn go_on(
         &self,
         at: u32,
@@ -274,7 +275,7 @@ impl<R: TypeReader> Source<'_, R> {
 
     // A conditional expression, whose middle operand ends at the place (C17 6.5.15).
     #[cycle(reading)]
-    #[tactic(auto, unfolding(crate::specs::Reader::asked))]
+    #[tactic(auto, unfolding(pv_expr_forms::specs::Reader::asked))]
     fn ask(
         &self,
         at: u32,

@@ -3,7 +3,7 @@ ghost use Rattle.std.specs.Prelude.{◌≡◌, ◌≤◌, length, drop};
 ghost use Rattle.pv_lex.specs.Bytes.{is_white, is_letter, is_in, run};
 
 /// A class of bytes.
-#[derive(Clone, Copy, Debug, PartialEq, Eq)]
+#[derive(Clone, Copy)]
 pub(crate) enum Class {
     /// Letters, digits and `_`, which make up an identifier (C17 6.4.2.1p1).
     Word,

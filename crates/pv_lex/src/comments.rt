@@ -103,7 +103,7 @@ fn behind_line_feed(text: &[u8]) -> Option<&[u8]>
     }
 }
 
-/// Spaces or tabs, and a number: a flag of a marker.
+/// Spaces or tabs, and a number: a flag of a marker, or the number of its line.
 fn group(text: &[u8]) -> Option<(&[u8], &[u8])>
     ensures value { option_map (λ r. (r.0.now, r.1.now)) result ≡ group_at text.now }
     ensures shorter { IfSome result (λ r. length r.1.now < length text.now) }
@@ -140,8 +140,7 @@ fn marker_piece<'a>(digits: &[u8], after: &'a [u8]) -> Option<(u32, &'a [u8])>
 pub(crate) fn marker(text: &[u8]) -> Option<(u32, &[u8])>
     ensures { option_map (λ r. record { what = Marker r.0; after = r.1.now }) result ≡ marker text.now }
 {
-    let (_, number) = some_of(Class::Blank, text)?;
-    let (digits, blanks) = some_of(Class::Digit, number)?;
+    let (digits, blanks) = group(text)?;
     let (_, name) = some_of(Class::Blank, blanks)?;
     let rest = quoted(name)?;
     let after = groups(rest)?;

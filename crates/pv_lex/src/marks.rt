@@ -3,7 +3,7 @@ use crate::tables::Row;
 
 /// A punctuator (C17 6.4.6p1) but for those of the preprocessor. A digraph is its twin
 /// (C17 6.4.6p3).
-#[derive(Clone, Copy, Debug, PartialEq, Eq)]
+#[derive(Clone, Copy, Debug)]
 pub enum Mark {
     /// `...`
     Ellipsis,

@@ -14,7 +14,7 @@ use crate::tables::{first_row, row_of};
 use crate::words::{WORDS, Word};
 
 /// Why no piece begins at a place. A word of the profile has its length.
-#[derive(Clone, Copy, Debug, PartialEq, Eq)]
+#[derive(Clone, Copy)]
 pub(crate) enum Fault {
     BadByte,
     BadToken,

@@ -1,8 +1,8 @@
 //! What stands at a place of the source.
-ghost use Rattle.std.specs.Prelude.{◌≡◌, ◌≤◌, ◌<◌, ◌^◌, ◌&&◌, length, drop, slice_index, nat_eq, IfOk};
+ghost use Rattle.std.specs.Prelude.{IsFalse, ◌≡◌, ◌≤◌, ◌<◌, ◌^◌, ◌&&◌, length, drop, slice_index, nat_eq, IfOk};
 ghost use Rattle.std.specs.Option.{option_map};
 ghost use Rattle.std.specs.Char.{is_ascii_digit};
-ghost use Rattle.pv_lex.specs.Bytes.{begins};
+ghost use Rattle.pv_lex.specs.Bytes.{begins, is_white, is_letter};
 ghost use Rattle.pv_lex.specs.Pieces.{or_bad, token, Character, Text, Marker, Comment};
 ghost use Rattle.pv_lex.specs.Characters.{as_char};
 ghost use Rattle.pv_lex.specs.Stands.{stands};
@@ -36,25 +36,41 @@ pub(crate) fn stand(alloc: Global, fresh: bool, text: &[u8]) -> Result<Standing<
     if b.is_ascii_digit() {
         return Ok(constant_or_bad(number(text)));
     }
-    if b == b'\'' {
-        return Ok(character_or_bad(character_constant(rest)));
-    }
     if b == b'"' {
         return Ok(text_or_bad(string_literal(alloc, rest)?));
     }
+    Ok(marked(fresh, text))
+}
+
+/// What stands where a mark begins `text`: no white space, no letter, no digit and no double quote.
+#[tactic(auto, unfolding(crate::specs::Stands::stands))]
+fn marked(fresh: bool, text: &[u8]) -> Standing<'_>
+    requires some { 0 < length text.now }
+    requires short { length text.now ≤ 2 ^ 20 }
+    requires not_white { IsFalse (is_white (slice_index text.now 0)) }
+    requires not_letter { IsFalse (is_letter (slice_index text.now 0)) }
+    requires not_digit { IsFalse (is_ascii_digit (slice_index text.now 0)) }
+    requires not_quote { IsFalse (nat_eq (slice_index text.now 0) 34) }
+    ensures { stand_of result ≡ stands fresh text.now }
+{
+    let b = text[0];
+    let rest = behind(text, 1);
+    if b == b'\'' {
+        return character_or_bad(character_constant(rest));
+    }
     if b == b'#' {
-        return Ok(marker_or_bad(if fresh { marker(rest) } else { None }));
+        return marker_or_bad(if fresh { marker(rest) } else { None });
     }
     if text.starts_with(b"//") {
-        return Ok(Standing::Here(Found::Comment(0), behind(rest, run(Class::InLine, rest))));
+        return Standing::Here(Found::Comment(0), behind(rest, run(Class::InLine, rest)));
     }
     if text.starts_with(b"/*") {
-        return Ok(comment_or_bad(block_comment(behind(rest, 1))));
+        return comment_or_bad(block_comment(behind(rest, 1)));
     }
     if begins_fraction(text) || text.starts_with(b"%:") {
-        return Ok(Standing::Bad(Fault::BadToken));
+        return Standing::Bad(Fault::BadToken);
     }
-    Ok(mark(text))
+    mark(text)
 }
 
 /// A dot before a digit, with which a floating constant begins (C17 6.4.4.2p1).

@@ -3,7 +3,7 @@ use crate::tables::Row;
 
 /// What a suffix says: is the constant unsigned, and how many times does `long` stand in its least
 /// type.
-#[derive(Clone, Copy, Debug, PartialEq, Eq)]
+#[derive(Clone, Copy)]
 pub(crate) struct Suffix {
     pub unsigned: bool,
     pub longs: u8,

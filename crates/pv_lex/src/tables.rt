@@ -4,7 +4,6 @@ ghost use Rattle.std.specs.Option.{option_map};
 ghost use Rattle.pv_lex.specs.Tables.{first_row, row_of};
 
 /// A spelling, and what it stands for.
-#[derive(Clone, Copy)]
 pub(crate) struct Row<T: Copy> {
     pub text: &'static [u8],
     pub value: T,

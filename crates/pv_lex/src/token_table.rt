@@ -14,7 +14,7 @@ use std::alloc::Global;
 use std::marker::Model;
 
 /// What a token is (C17 6.4p1).
-#[derive(Clone, Copy, Debug, PartialEq, Eq)]
+#[derive(Clone, Copy, Debug)]
 pub enum TokenKind {
     /// A keyword (C17 6.4.1).
     Word(Word),
@@ -39,7 +39,7 @@ pub enum TokenKind {
 }
 
 /// A token of the source.
-#[derive(Clone, Copy, Debug, PartialEq, Eq)]
+#[derive(Clone, Copy)]
 pub struct Token {
     pub kind: TokenKind,
     /// The place of its first byte, in bytes from 0.

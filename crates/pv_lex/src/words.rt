@@ -2,7 +2,7 @@
 use crate::tables::Row;
 
 /// A keyword (C17 6.4.1p1) of the profile, spelled as its variant in lower case, `Bool` as `_Bool`.
-#[derive(Clone, Copy, Debug, PartialEq, Eq)]
+#[derive(Clone, Copy, Debug)]
 pub enum Word {
     Break,
     Case,

@@ -120,25 +120,6 @@ or_member k a b p = from_bits_fits k _ p (or_fits k a b)
 xor_member : (k : IntKind) (a b : ℤ) → IsPromoted k → Fits k (bitwise_of bit_xor k a b)
 xor_member k a b p = from_bits_fits k _ p (xor_fits k a b)
 
--- the same of an arm's answer, as the code names it
-yields : (op at : BinOp) (k : IntKind) (m n : ℤ) → op ≡ at → m ≡ n → Fits (yielded_kind at k) n → Fits (yielded_kind op k) m
-yields op at k m n is e h = subst (λ x. Fits (yielded_kind x k) m) (sym is) (subst (Fits (yielded_kind at k)) (sym e) h)
-
-pub and_yields : (op : BinOp) (k : IntKind) (m a b : ℤ) → op ≡ And → IsPromoted k → m ≡ bitwise_of bit_and k a b → Fits (yielded_kind op k) m
-and_yields op k m a b is p e = yields op And k m _ is e (and_member k a b p)
-
-pub or_yields : (op : BinOp) (k : IntKind) (m a b : ℤ) → op ≡ Or → IsPromoted k → m ≡ bitwise_of bit_or k a b → Fits (yielded_kind op k) m
-or_yields op k m a b is p e = yields op Or k m _ is e (or_member k a b p)
-
-pub xor_yields : (op : BinOp) (k : IntKind) (m a b : ℤ) → op ≡ Xor → IsPromoted k → m ≡ bitwise_of bit_xor k a b → Fits (yielded_kind op k) m
-xor_yields op k m a b is p e = yields op Xor k m _ is e (xor_member k a b p)
-
-pub remainder_yields : (op : BinOp) (k : IntKind) (r : Result ℤ Fault) (a a' b : ℤ) → op ≡ Rem → a' ≡ a → Fits k a → r ≡ remainder_of k a' b → IfOk r (λ n. Fits (yielded_kind op k) n)
-remainder_yields op k r a a' b is same h e =
-    let dividend : Fits k a' = subst (Fits k) (sym same) h in
-    let answer : IfOk r (Fits k) = subst (λ x. IfOk x (Fits k)) (sym e) (remainder_fits k a' b dividend) in
-    subst (λ x. IfOk r (λ n. Fits (yielded_kind x k) n)) (sym is) answer
-
 pub binary_fits : (op : BinOp) (k : IntKind) (a b : ℤ) → IsPromoted k → Fits k a → IfOk (binary_of op k a b) (Fits (yielded_kind op k))
 binary_fits Add k a b p h = exact_fits k _ p
 binary_fits Sub k a b p h = exact_fits k _ p
@@ -156,6 +137,11 @@ binary_fits Le k a b p h = one_if_fits _
 binary_fits Ge k a b p h = one_if_fits _
 binary_fits Eq k a b p h = one_if_fits _
 binary_fits Ne k a b p h = one_if_fits _
+
+-- the same of an answer, as the code names the operand
+pub binary_yields : (op : BinOp) (k : IntKind) (r : Result ℤ Fault) (a a' b : ℤ) → a' ≡ a → IsPromoted k → Fits k a → r ≡ binary_of op k a' b → IfOk r (λ n. Fits (yielded_kind op k) n)
+binary_yields op k r a a' b same p h e =
+    subst (λ x. IfOk x (λ n. Fits (yielded_kind op k) n)) (sym e) (binary_fits op k a' b p (subst (Fits k) (sym same) h))
 
 pub unary_fits : (op : UnOp) (k : IntKind) (a : ℤ) → IsPromoted k → Fits k a → IfOk (unary_of op k a) (Fits k)
 unary_fits Plus k a p h = h

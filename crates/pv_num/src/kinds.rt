@@ -1,6 +1,6 @@
 // Integer kinds: what fits them, and conversion to them.
 ghost use Rattle.std.specs.Prelude.{◌≡◌, ◌↔◌, ◌<◌, pos, IsTrue};
-ghost use Rattle.pv_num.specs.Kinds.{Fits, fits_of, convert_of, modulus_of, is_signed, width, bits_of, from_bits_of, IsConversion, IsConvertible};
+ghost use Rattle.pv_num.specs.Kinds.{least, greatest, Fits, fits_of, convert_of, modulus_of, is_signed, width, bits_of, from_bits_of, IsConversion, IsConvertible};
 
 /// An integer type of the target (6.2.5), without its qualifiers.
 ///
@@ -101,6 +101,41 @@ pub(crate) fn from_bits(kind: IntKind, bits: u64) -> i128
     }
 }
 
+/// The least member of the kind.
+fn least(kind: IntKind) -> i128
+    ensures { result ≡ least kind }
+{
+    match kind {
+        IntKind::Bool
+        | IntKind::UChar
+        | IntKind::UShort
+        | IntKind::UInt
+        | IntKind::ULong
+        | IntKind::ULLong => 0,
+        IntKind::Char | IntKind::SChar => -0x80,
+        IntKind::Short => -0x8000,
+        IntKind::Int => -0x8000_0000,
+        IntKind::Long | IntKind::LLong => -0x8000_0000_0000_0000,
+    }
+}
+
+/// The greatest member of the kind.
+fn greatest(kind: IntKind) -> i128
+    ensures { result ≡ greatest kind }
+{
+    match kind {
+        IntKind::Bool => 1,
+        IntKind::Char | IntKind::SChar => 0x7f,
+        IntKind::UChar => 0xff,
+        IntKind::Short => 0x7fff,
+        IntKind::UShort => 0xffff,
+        IntKind::Int => 0x7fff_ffff,
+        IntKind::UInt => 0xffff_ffff,
+        IntKind::Long | IntKind::LLong => 0x7fff_ffff_ffff_ffff,
+        IntKind::ULong | IntKind::ULLong => 0xffff_ffff_ffff_ffff,
+    }
+}
+
 /// Whether `n` is a member of the kind (6.2.5).
 ///
 /// The members of `_Bool` are 0 and 1; a signed kind of w bits has those from -2^(w-1) to 2^(w-1) - 1, and an
@@ -109,19 +144,7 @@ pub fn fits(kind: IntKind, n: i128) -> bool
     ensures members { IsTrue result ↔ Fits kind n }
     ensures value { result ≡ fits_of kind n }
 {
-    match kind {
-        IntKind::Bool => 0 <= n && n <= 1,
-        IntKind::Char | IntKind::SChar => -0x80 <= n && n <= 0x7f,
-        IntKind::UChar => 0 <= n && n <= 0xff,
-        IntKind::Short => -0x8000 <= n && n <= 0x7fff,
-        IntKind::UShort => 0 <= n && n <= 0xffff,
-        IntKind::Int => -0x8000_0000 <= n && n <= 0x7fff_ffff,
-        IntKind::UInt => 0 <= n && n <= 0xffff_ffff,
-        IntKind::Long | IntKind::LLong => {
-            -0x8000_0000_0000_0000 <= n && n <= 0x7fff_ffff_ffff_ffff
-        }
-        IntKind::ULong | IntKind::ULLong => 0 <= n && n <= 0xffff_ffff_ffff_ffff,
-    }
+    least(kind) <= n && n <= greatest(kind)
 }
 
 /// The member of the kind to which `n` is converted (6.3.1.2, 6.3.1.3).

@@ -7,7 +7,7 @@ use crate::faults::{Clause, Fault, Reason};
 use crate::kinds::{IntKind, bit_count, bits, fits, from_bits, is_signed, modulus};
 
 /// The binary operators on integers (6.5.5 to 6.5.12).
-#[derive(Clone, Copy, Debug, PartialEq, Eq)]
+#[derive(Clone, Copy, Debug)]
 pub enum BinOp {
     /// `+`
     Add,
@@ -44,7 +44,7 @@ pub enum BinOp {
 }
 
 /// The unary operators on integers (6.5.3.3), but `!`.
-#[derive(Clone, Copy, Debug, PartialEq, Eq)]
+#[derive(Clone, Copy, Debug)]
 pub enum UnOp {
     /// `+`
     Plus,
@@ -66,13 +66,21 @@ pub enum UnOp {
 /// - 6.5.5p5 `divide`: `/` or `%` by 0; 6.5.5p6 `quotient`: the quotient does not fit.
 /// - 6.5.7p3 `count`: a shift's count is negative or at least the width; else
 ///   6.5.7p4 `shift`: `<<` of a negative number, or the shifted number does not fit its signed kind.
-#[tactic(auto, using(crate::proofs::Members::binary_fits))]
 pub fn binary(op: BinOp, kind: IntKind, a: i128, b: i128) -> Result<i128, Fault>
     requires promoted { IsPromoted kind }
     requires left { Fits kind a }
     requires right { IsOperand op kind b }
     ensures value { result ≡ binary_of op kind a b }
     ensures member { IfOk result (λ n. Fits (yielded_kind op kind) n) }
+{
+    computed(op, kind, a, b)
+}
+
+/// The result of a binary operator, by the computation alone.
+fn computed(op: BinOp, kind: IntKind, a: i128, b: i128) -> Result<i128, Fault>
+    requires left { Fits kind a }
+    requires right { IsOperand op kind b }
+    ensures { result ≡ binary_of op kind a b }
 {
     match op {
         BinOp::Add => add(kind, a, b),

@@ -10,7 +10,7 @@ use std::alloc::Global;
 use std::marker::Model;
 
 /// A storage instance (the region of storage of an object, 3.15), seen as `Storage`.
-#[derive(Debug, Drop)]
+#[derive(Drop)]
 pub(crate) struct Instance {
     base: u64,
     bytes: Vec<Byte>,

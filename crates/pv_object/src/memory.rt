@@ -28,7 +28,7 @@ const LARGEST: u64 = 0x100_0000;
 /// The storage instances of a run and their bytes, seen as `Mem`.
 ///
 /// An instance is never taken away, and its place and size never change.
-#[derive(Debug, Drop)]
+#[derive(Drop)]
 pub struct Memory {
     alloc: Global,
     cursor: u64,

@@ -31,7 +31,7 @@ pub struct Pointer {
 }
 
 /// A scalar type (6.2.5p21), as a load or a store looks at bytes.
-#[derive(Clone, Copy, Debug, PartialEq, Eq)]
+#[derive(Clone, Copy)]
 pub enum Scalar {
     /// An integer type, of 1, 2, 4 or 8 bytes.
     Int(IntKind),
@@ -49,7 +49,7 @@ pub enum Value {
 }
 
 /// An abstract byte (6.2.6.1): what it holds, and of which pointer it is a part.
-#[derive(Clone, Copy, Debug, PartialEq, Eq)]
+#[derive(Clone, Copy)]
 pub struct Byte {
     /// The eight bits; none in an object that was not written to since it was made (6.7.9p10).
     pub value: Option<u8>,

@@ -5,17 +5,17 @@ ghost use Rattle.pv_tree.specs.Rows.{tables};
 ghost use Rattle.pv_tree.specs.Tables.{trees_at, declarator_at, declaration_at, is_specifier, is_declarator, is_external, Is, HasList, Extends};
 ghost use Rattle.pv_tree.specs.TypeNames.{AreTied};
 ghost use Rattle.pv_tree.specs.Units.{depth_limit};
-ghost use Rattle.pv_expr.specs.Known.{names_in};
-ghost use Rattle.pv_decl.specs.Answers.{Answers};
-ghost use Rattle.pv_stmt.specs.Statements.{statement};
-ghost use Rattle.pv_stmt.specs.Externals.{external, external_at};
-ghost use Rattle.pv_stmt.specs.Found.{function_with, IsExternalAt};
+ghost use Rattle.pv_expr_forms.specs.Known.{names_in};
+ghost use Rattle.pv_decl_forms.specs.Answers.{Answers};
+ghost use Rattle.pv_stmt_forms.specs.Statements.{statement};
+ghost use Rattle.pv_stmt_forms.specs.Externals.{external, external_at};
+ghost use Rattle.pv_stmt_forms.specs.Found.{function_with, IsExternalAt};
 
-use crate::regions::region_end;
 use crate::source::Source;
 use indexmap::IndexSet;
 use pv_decl::{declaration, type_names};
 use pv_lex::{NoMemory, Tokens};
+use pv_stmt_forms::region_end;
 use pv_tree::{Decl, ListId, NodeId, TypeReader, Unit};
 use std::alloc::Global;
 
@@ -24,7 +24,7 @@ const DEPTH_LIMIT: u32 = 500;
 
 impl<R: TypeReader> Source<'_, R> {
     /// The longest external declaration at a place, and the place behind it (C17 6.9p1).
-    #[tactic(auto, using(pv_expr::proofs::Naming::tied_kept))]
+    #[tactic(auto, using(pv_expr_forms::proofs::Naming::tied_kept))]
     fn external(&self, at: u32, into: &mut Unit) -> Result<Option<(NodeId, u32)>, NoMemory>
         requires place { at ≤ length self.now.tokens.now.tokens }
         requires tied { AreTied (R.types self.now.reader.now) (tables into.old) self.now.tokens.now.tokens }

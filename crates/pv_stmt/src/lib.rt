@@ -5,11 +5,9 @@
 #![tactic(auto)]
 
 mod external;
-mod forms;
 mod nodes;
 mod parts;
 mod reading;
-mod regions;
 mod source;
 mod typedefs;
 mod units;

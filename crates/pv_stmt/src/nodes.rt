@@ -1,28 +1,15 @@
-//! The finished trees of a unit, and statements made of them.
-ghost use Rattle.std.specs.Prelude.{◌≡◌, ◌≤◌, ℕ, All, length, drop, Some, IfOk, option_map};
+//! The finished statements of a unit, and the node of a `for`.
+ghost use Rattle.std.specs.Prelude.{◌≡◌, ℕ};
 ghost use Rattle.pv_tree.specs.Children.{HasStmtChildren};
 ghost use Rattle.pv_tree.specs.Nodes.{statement_of};
-ghost use Rattle.pv_tree.specs.Places.{is_declaration_tree, ends_open};
+ghost use Rattle.pv_tree.specs.Places.{ends_open};
 ghost use Rattle.pv_tree.specs.Rows.{tables};
-ghost use Rattle.pv_tree.specs.Syntax.{Labelled, OfStatement};
-ghost use Rattle.pv_tree.specs.Tables.{Forest, Has, HasList, tree_at, declaration_at, statement_at, trees_of, trees_at, is_declaration, is_statement, is_item, Is, Extends};
-ghost use Rattle.pv_decl.specs.Answers.{Answers};
-ghost use Rattle.pv_expr.specs.Reader.{after};
-ghost use Rattle.pv_stmt.specs.Parts.{test_of, enclosed, HasHead, for_by};
-ghost use Rattle.pv_stmt.specs.Statements.{block_end};
+ghost use Rattle.pv_tree.specs.Syntax.{OfStatement};
+ghost use Rattle.pv_tree.specs.Tables.{Forest, Has, tree_at, statement_at, is_statement, Is};
+ghost use Rattle.pv_stmt_forms.specs.Parts.{HasHead, for_by};
 
-use crate::forms::{First, ForHead, Sign, Within};
-use crate::source::after;
-use pv_lex::{NoMemory, Tokens};
-use pv_tree::{Decl, ListId, NodeId, Stmt, Unit};
-
-/// Whether a node is a whole declaration, and no part or head of one.
-pub(crate) fn is_declaration(unit: &Unit, n: NodeId) -> bool
-    requires { Is (tables unit.now) is_declaration n }
-    ensures { result ≡ is_declaration_tree (declaration_at (tables unit.now).forest n) }
-{
-    matches!(unit.decl(n), Decl::Declaration { .. })
-}
+use pv_stmt_forms::{First, ForHead};
+use pv_tree::{NodeId, Stmt, Unit};
 
 /// Whether a statement ends with an `if` that has no `else` (C17 6.8.4.1p3).
 pub(crate) fn ends_open(unit: &Unit, n: NodeId) -> bool
@@ -35,96 +22,6 @@ pub(crate) fn ends_open(unit: &Unit, n: NodeId) -> bool
         Stmt::For { body, .. } | Stmt::ForDeclaration { body, .. } => ends_open(unit, body),
         _ => false,
     }
-}
-
-/// A new statement that ends at a place.
-pub(crate) fn found_statement(
-    tokens: &Tokens,
-    next: u32,
-    statement: Stmt,
-    line: u32,
-    into: &mut Unit,
-) -> Result<Option<(NodeId, u32)>, NoMemory>
-    requires place { next ≤ length tokens.now.tokens }
-    requires children { HasStmtChildren (tables into.old).forest (length (tables into.old).forest.trees) statement }
-    ensures keeps { Extends (tables into.old) (tables into.new) }
-    ensures ok { IfOk result (λ r. Answers (tables into.new) is_statement tokens.now.tokens r (Some (OfStatement (statement_of (tables into.old).forest line statement), drop next tokens.now.tokens))) }
-{
-    Ok(Some((into.add_stmt(statement, line)?, next)))
-}
-
-/// A new statement that ends behind a sign, if that stands at a place.
-#[tactic(auto, using(pv_tree::proofs::Kept::extends_same))]
-pub(crate) fn found_before(
-    tokens: &Tokens,
-    at: u32,
-    sign: Sign,
-    statement: Stmt,
-    line: u32,
-    into: &mut Unit,
-) -> Result<Option<(NodeId, u32)>, NoMemory>
-    requires place { at ≤ length tokens.now.tokens }
-    requires children { HasStmtChildren (tables into.old).forest (length (tables into.old).forest.trees) statement }
-    ensures keeps { Extends (tables into.old) (tables into.new) }
-    ensures ok { IfOk result (λ r. Answers (tables into.new) is_statement tokens.now.tokens r (option_map (λ rest. (OfStatement (statement_of (tables into.old).forest line statement), rest)) (after (test_of sign) (drop at tokens.now.tokens)))) }
-{
-    match after(tokens, at, sign) {
-        Some(next) => found_statement(tokens, next, statement, line, into),
-        None => Ok(None),
-    }
-}
-
-// The node of braces.
-fn block_node(within: Within, items: ListId) -> Stmt
-    ensures is { (f : Forest) (line : ℕ) → OfStatement (statement_of f line result) ≡ enclosed within line (trees_at f items) }
-    ensures children { (f : Forest) (count : ℕ) → HasList f count is_item items → HasStmtChildren f count result }
-{
-    match within {
-        Within::Block => Stmt::Block(items),
-        Within::Switch => Stmt::SwitchBlock(items),
-    }
-}
-
-/// Braces, whose items end at a place (C17 6.8.2, 6.8.4.2).
-#[tactic(auto, using(pv_tree::proofs::Kept::extends_same), unfolding(crate::specs::Statements::block_end))]
-pub(crate) fn block_of(
-    tokens: &Tokens,
-    at: u32,
-    within: Within,
-    items: &[NodeId],
-    line: u32,
-    into: &mut Unit,
-) -> Result<Option<(NodeId, u32)>, NoMemory>
-    requires place { at ≤ length tokens.now.tokens }
-    requires items { All (λ n. Is (tables into.old) is_item n) items.now }
-    ensures keeps { Extends (tables into.old) (tables into.new) }
-    ensures ok { IfOk result (λ r. Answers (tables into.new) is_statement tokens.now.tokens r (block_end (enclosed within line) (trees_of (tables into.old).forest items.now, drop at tokens.now.tokens))) }
-{
-    let Some(end) = after(tokens, at, Sign::CloseBrace) else {
-        return Ok(None);
-    };
-    let items = into.add_list(items)?;
-    found_statement(tokens, end, block_node(within, items), line, into)
-}
-
-/// A statement with labels before it, which ends at a place (C17 6.8.1).
-pub(crate) fn labelled_of(
-    tokens: &Tokens,
-    end: u32,
-    labels: &[NodeId],
-    statement: NodeId,
-    line: u32,
-    into: &mut Unit,
-) -> Result<Option<(NodeId, u32)>, NoMemory>
-    requires place { end ≤ length tokens.now.tokens }
-    requires labels { All (λ n. Is (tables into.old) is_statement n) labels.now }
-    requires statement { Is (tables into.old) is_statement statement }
-    ensures keeps { Extends (tables into.old) (tables into.new) }
-    ensures ok { IfOk result (λ r. Answers (tables into.new) is_statement tokens.now.tokens r (Some (OfStatement (Labelled line (trees_of (tables into.old).forest labels.now) (statement_at (tables into.old).forest statement)), drop end tokens.now.tokens))) }
-{
-    let labels = into.add_list(labels)?;
-    let labelled = Stmt::Labelled { labels, statement };
-    found_statement(tokens, end, labelled, line, into)
 }
 
 /// The node of a `for` (C17 6.8.5.3).

@@ -4,21 +4,23 @@ ghost use Rattle.pv_tree.specs.Rows.{tables};
 ghost use Rattle.pv_tree.specs.Syntax.{NoTrees};
 ghost use Rattle.pv_tree.specs.Tables.{tree_at, is_declaration, is_expression, is_statement, Is, Extends};
 ghost use Rattle.pv_tree.specs.TypeNames.{AreTied};
-ghost use Rattle.pv_expr.specs.Known.{names_in};
-ghost use Rattle.pv_expr.specs.Numbers.{level_number};
-ghost use Rattle.pv_decl.specs.Answers.{Answers};
-ghost use Rattle.pv_decl.specs.Rows.{AreAnswered, MayBeAnswered};
-ghost use Rattle.pv_decl.specs.Pieces.{optional, row};
-ghost use Rattle.pv_decl.specs.Reader.{declaration};
-ghost use Rattle.pv_stmt.specs.Parts.{test_of, case_label, PartAnswers, FirstAnswers, HeadAnswers};
-ghost use Rattle.pv_stmt.specs.Statements.{expression, condition, expression_before, simple, returned, do_end, declared, label};
+ghost use Rattle.pv_expr_forms.specs.Known.{names_in};
+ghost use Rattle.pv_expr_forms.specs.Numbers.{level_number};
+ghost use Rattle.pv_decl_forms.specs.Answers.{Answers};
+ghost use Rattle.pv_decl_forms.specs.Rows.{AreAnswered, MayBeAnswered};
+ghost use Rattle.pv_decl_forms.specs.Pieces.{optional, row};
+ghost use Rattle.pv_decl_forms.specs.Reader.{declaration};
+ghost use Rattle.pv_stmt_forms.specs.Parts.{test_of, case_label, PartAnswers, FirstAnswers, HeadAnswers};
+ghost use Rattle.pv_stmt_forms.specs.Statements.{expression, condition, expression_before, simple, returned, do_end, declared, label};
 
-use crate::forms::{First, ForHead, LabelWord, Sign, label_word};
-use crate::nodes::{found_before, found_statement, is_declaration};
-use crate::source::{Source, after, begins_type, peek};
+use crate::source::Source;
 use pv_decl::declaration;
 use pv_expr::{Level, expression};
 use pv_lex::NoMemory;
+use pv_stmt_forms::{
+    First, ForHead, LabelWord, Sign, after, begins_type, found_before, found_statement,
+    is_declaration, label_word, peek,
+};
 use pv_tree::{NodeId, Stmt, TypeReader, Unit};
 
 impl<R: TypeReader> Source<'_, R> {

@@ -4,17 +4,20 @@ ghost use Rattle.pv_tree.specs.Rows.{tables};
 ghost use Rattle.pv_tree.specs.Syntax.{NoTrees};
 ghost use Rattle.pv_tree.specs.Tables.{tree_at, is_expression, is_item, is_statement, Is, Extends};
 ghost use Rattle.pv_tree.specs.TypeNames.{AreTied};
-ghost use Rattle.pv_expr.specs.Known.{names_in};
-ghost use Rattle.pv_decl.specs.Answers.{Answers};
-ghost use Rattle.pv_decl.specs.Rows.{AreAnswered};
-ghost use Rattle.pv_decl.specs.Pieces.{row};
-ghost use Rattle.pv_stmt.specs.Parts.{item_in, braced};
-ghost use Rattle.pv_stmt.specs.Statements.{statement, selection, chosen, loop, do_loop, for_loop, switch, labelled, Statements, SwitchBlocks, readers};
+ghost use Rattle.pv_expr_forms.specs.Known.{names_in};
+ghost use Rattle.pv_decl_forms.specs.Answers.{Answers};
+ghost use Rattle.pv_decl_forms.specs.Rows.{AreAnswered};
+ghost use Rattle.pv_decl_forms.specs.Pieces.{row};
+ghost use Rattle.pv_stmt_forms.specs.Parts.{item_in, braced};
+ghost use Rattle.pv_stmt_forms.specs.Statements.{statement, selection, chosen, loop, do_loop, for_loop, switch, labelled, Statements, SwitchBlocks, readers};
 
-use crate::forms::{Sign, StatementForm, Within, form_of};
-use crate::nodes::{block_of, ends_open, for_node, found_before, found_statement, labelled_of};
-use crate::source::{Source, after, begins_type, line_at, peek};
+use crate::nodes::{ends_open, for_node};
+use crate::source::Source;
 use pv_lex::NoMemory;
+use pv_stmt_forms::{
+    Sign, StatementForm, Within, after, begins_type, block_of, form_of, found_before,
+    found_statement, labelled_of, line_at, peek,
+};
 use pv_tree::{NodeId, Stmt, TypeReader, Unit};
 
 impl<R: TypeReader> Source<'_, R> {

@@ -5,8 +5,8 @@ ghost use Rattle.pv_tree.specs.Rows.{tables};
 ghost use Rattle.pv_tree.specs.Syntax.{DeclarationTree};
 ghost use Rattle.pv_tree.specs.Tables.{no_tables};
 ghost use Rattle.pv_tree.specs.Units.{no_types, SpellUnit, IsWhole};
-ghost use Rattle.pv_stmt.specs.Externals.{units};
-ghost use Rattle.pv_stmt.specs.Units.{externals_of};
+ghost use Rattle.pv_stmt_forms.specs.Externals.{units};
+ghost use Rattle.pv_stmt_forms.specs.Units.{externals_of};
 ghost use Rattle.pv_stmt.specs.declared.units.SynError.TheVariants.{NoMemory as OutOfMemory};
 
 use crate::external::external;
@@ -18,7 +18,7 @@ use std::alloc::Global;
 use thiserror::Error;
 
 /// Why tokens have no translation unit.
-#[derive(Clone, Copy, Debug, PartialEq, Eq, Error)]
+#[derive(Clone, Copy, Debug, Error)]
 pub enum SynError {
     /// No row of external declarations spells the tokens. At most `whole` of them spell their
     /// beginning: what stands behind these is none.

@@ -1,139 +1,151 @@
 //! What no clause says: that the grammar of the definitions is C's.
+use crate::rows::{agrees, bytes_of, source_of};
 use indexmap::IndexSet;
 use pv_decl::{declaration, type_names};
-use pv_lex::tokens;
+use pv_lex::{NoMemory, Tokens, tokens};
 use pv_tree::Unit;
 use std::alloc::Global;
-use std::fmt::Write;
-use std::process::Abort;
-use std::test::*;
+
+// The expected numbers come from an independent reader of the grammar.
 
 /// A source, and the number of the token behind the declaration that begins it, behind the first
 /// token, with that declaration's depth. The first name, `t`, is a typedef name.
-type Case = (&'static str, &'static str);
+static CASES: &str = "\
+t t; => 3 1
+t int; => 3 1
+t int a; => 4 2
+t int a, b; => 6 2
+t int *p; => 5 3
+t int * const * const q; => 8 4
+t int a = b; => 6 3
+t int a = b, c = d + e; => 12 4
+t int a[3]; => 7 3
+t int a[]; => 6 3
+t int a[2][3], *b[4]; => 16 4
+t int (*p)[3]; => 10 5
+t int f(void); => 7 3
+t int f(); => 6 3
+t int f(int a, int b); => 11 4
+t int f(int, int *); => 10 4
+t int f(int a, ...); => 10 4
+t int f(...); => none
+t int f(int (*g)(int), t); => 16 7
+t int f(int (t)); => 10 5
+t int f(int (a)); => 10 5
+t int f(int ()); => 9 4
+t int f(int (*)(t)); => 13 6
+t int f(t t); => 8 3
+t int f(int *[3]); => 11 6
+t int f(int [3]); => 10 5
+t int (*f(int))(int); => 13 6
+t int (*(*f)(void))[3]; => 16 8
+t int f(int a) { return a; } => 7 4
+t int *f(void) { => 7 4
+t int a, f(void) { => none
+t int a = b { => none
+t struct s; => 4 1
+t struct s x; => 5 2
+t struct s { int a; } x; => 10 3
+t struct { int a; int *b, c[3]; }; => 17 4
+t struct { }; => none
+t struct { int; }; => none
+t struct { int a }; => none
+t struct s { struct u { int a; } b; }; => 15 4
+t struct s { t a; }; => 9 3
+t struct t { int a; }; => 9 3
+t struct; => none
+t union u { int a; char b; } *p; => 14 3
+t enum e; => 4 1
+t enum e { a, b = 3, c }; => 13 3
+t enum { a, b, }; => 9 2
+t enum { }; => none
+t enum { t }; => none
+t enum { a = (t)3 }; => 11 4
+t typedef int u, *v; => 8 3
+t static const unsigned long int a; => 8 2
+t extern t a; => 5 2
+t t t; => 4 1
+t int t; => 4 1
+t a; => none
+t int a = { b }; => 8 4
+t int a[] = { b, c, }; => 13 4
+t int a[] = { { b, c }, { d } }; => 18 5
+t int a[] = { }; => none
+t int a = { , }; => none
+t int a = ; => none
+t int a = b, ; => none
+t int a b; => none
+t int a => none
+t int (a; => none
+t int (a); => 6 3
+t int ((((a)))); => 12 6
+t int a = (t)b; => 9 4
+t int a = (int *)b; => 10 4
+t int a = sizeof(struct s { int a; }); => 15 5
+t int a = sizeof(int (*)(t)) + (int)(b); => 22 7
+t int a = (int (*)(int))b; => 15 6
+t int a[sizeof(int[3])]; => 13 5
+t int a[b = c]; => none
+t int a[b ? c : d]; => 11 4
+t int a = b = c; => 8 4
+t int a = b, c; => 8 3
+t int *const a, *b = c; => 11 3
+t int f(int a[const 3]); => none
+t int a : 3; => none
+t const; => 3 1
+t int f(struct s { int a; } b); => 14 5
+t int f(int, ); => none
+t int f(int a = 3); => none
+t int a = ((t))b; => none
+t int *; => none
+t int a[3; => none
+t int f(int (*)[3], int (*[3])(int)); => 24 8
+t int f(int (*(a))); => 13 7
+t int f(int (*(*))); => 13 7
+";
 
-// The expected numbers come from an independent reader of the grammar.
-static CASES: [Case; 91] = [
-    ("t t;", "3 1"),
-    ("t int;", "3 1"),
-    ("t int a;", "4 2"),
-    ("t int a, b;", "6 2"),
-    ("t int *p;", "5 3"),
-    ("t int * const * const q;", "8 4"),
-    ("t int a = b;", "6 3"),
-    ("t int a = b, c = d + e;", "12 4"),
-    ("t int a[3];", "7 3"),
-    ("t int a[];", "6 3"),
-    ("t int a[2][3], *b[4];", "16 4"),
-    ("t int (*p)[3];", "10 5"),
-    ("t int f(void);", "7 3"),
-    ("t int f();", "6 3"),
-    ("t int f(int a, int b);", "11 4"),
-    ("t int f(int, int *);", "10 4"),
-    ("t int f(int a, ...);", "10 4"),
-    ("t int f(...);", "none"),
-    ("t int f(int (*g)(int), t);", "16 7"),
-    ("t int f(int (t));", "10 5"),
-    ("t int f(int (a));", "10 5"),
-    ("t int f(int ());", "9 4"),
-    ("t int f(int (*)(t));", "13 6"),
-    ("t int f(t t);", "8 3"),
-    ("t int f(int *[3]);", "11 6"),
-    ("t int f(int [3]);", "10 5"),
-    ("t int (*f(int))(int);", "13 6"),
-    ("t int (*(*f)(void))[3];", "16 8"),
-    ("t int f(int a) { return a; }", "7 4"),
-    ("t int *f(void) {", "7 4"),
-    ("t int a, f(void) {", "none"),
-    ("t int a = b {", "none"),
-    ("t struct s;", "4 1"),
-    ("t struct s x;", "5 2"),
-    ("t struct s { int a; } x;", "10 3"),
-    ("t struct { int a; int *b, c[3]; };", "17 4"),
-    ("t struct { };", "none"),
-    ("t struct { int; };", "none"),
-    ("t struct { int a };", "none"),
-    ("t struct s { struct u { int a; } b; };", "15 4"),
-    ("t struct s { t a; };", "9 3"),
-    ("t struct t { int a; };", "9 3"),
-    ("t struct;", "none"),
-    ("t union u { int a; char b; } *p;", "14 3"),
-    ("t enum e;", "4 1"),
-    ("t enum e { a, b = 3, c };", "13 3"),
-    ("t enum { a, b, };", "9 2"),
-    ("t enum { };", "none"),
-    ("t enum { t };", "none"),
-    ("t enum { a = (t)3 };", "11 4"),
-    ("t typedef int u, *v;", "8 3"),
-    ("t static const unsigned long int a;", "8 2"),
-    ("t extern t a;", "5 2"),
-    ("t t t;", "4 1"),
-    ("t int t;", "4 1"),
-    ("t a;", "none"),
-    ("t int a = { b };", "8 4"),
-    ("t int a[] = { b, c, };", "13 4"),
-    ("t int a[] = { { b, c }, { d } };", "18 5"),
-    ("t int a[] = { };", "none"),
-    ("t int a = { , };", "none"),
-    ("t int a = ;", "none"),
-    ("t int a = b, ;", "none"),
-    ("t int a b;", "none"),
-    ("t int a", "none"),
-    ("t int (a;", "none"),
-    ("t int (a);", "6 3"),
-    ("t int ((((a))));", "12 6"),
-    ("t int a = (t)b;", "9 4"),
-    ("t int a = (int *)b;", "10 4"),
-    ("t int a = sizeof(struct s { int a; });", "15 5"),
-    ("t int a = sizeof(int (*)(t)) + (int)(b);", "22 7"),
-    ("t int a = (int (*)(int))b;", "15 6"),
-    ("t int a[sizeof(int[3])];", "13 5"),
-    ("t int a[b = c];", "none"),
-    ("t int a[b ? c : d];", "11 4"),
-    ("t int a = b = c;", "8 4"),
-    ("t int a = b, c;", "8 3"),
-    ("t int *const a, *b = c;", "11 3"),
-    ("t int f(int a[const 3]);", "none"),
-    ("t int a : 3;", "none"),
-    ("t const;", "3 1"),
-    ("t int f(struct s { int a; } b);", "14 5"),
-    ("t int f(int, );", "none"),
-    ("t int f(int a = 3);", "none"),
-    ("t int a = ((t))b;", "none"),
-    ("t int *;", "none"),
-    ("t int a[3;", "none"),
-    ("t int f(int (*)[3], int (*[3])(int));", "24 8"),
-    ("t int f(int (*(a)));", "13 7"),
-    ("t int f(int (*(*)));", "13 7"),
-];
-
-fn told(alloc: Global, source: &[u8]) -> Result<String, Fail> {
-    let mut out = String::new(alloc);
-    if source.len() > 1000 {
-        return Ok(out);
-    }
-    let tokens = tokens(alloc, source)?;
-    let mut unit = Unit::new(alloc);
+/// The token behind the declaration that stands behind the first token, and its depth.
+fn read(alloc: Global, tokens: &Tokens) -> Result<Option<(u32, u32)>, NoMemory> {
     let mut types = IndexSet::new(alloc);
     types.insert(0)?;
-    let reader = type_names(alloc, &tokens, 1, tokens.len(), &types, &mut unit)?;
-    match declaration(&tokens, 1, 500, &types, &mut unit, &reader)? {
-        Some((n, end)) => write!(out, "{end} {}", unit.depth(n))?,
-        None => out.push_str("none")?,
-    }
-    Ok(out)
+    let mut unit = Unit::new(alloc);
+    read_with(alloc, tokens, &types, &mut unit)
 }
 
-fn agree(rt: &impl Abort, alloc: Global, cases: &[Case]) -> Result<(), Fail> {
-    for (source, want) in cases {
-        let got = told(alloc, source.as_bytes())?;
-        assert_eq!(rt; got.as_str(), *want, "the source {source:?}");
+fn read_with(
+    alloc: Global,
+    tokens: &Tokens,
+    types: &IndexSet<u32>,
+    unit: &mut Unit,
+) -> Result<Option<(u32, u32)>, NoMemory> {
+    let reader = type_names(alloc, tokens, 1, tokens.len(), types, unit)?;
+    match declaration(tokens, 1, 500, types, unit, &reader)? {
+        Some((n, end)) => Ok(Some((end, unit.depth(n)))),
+        None => Ok(None),
     }
-    Ok(())
+}
+
+/// That token's number and that depth as text.
+fn listing(alloc: Global, tokens: &Tokens) -> Result<String, NoMemory> {
+    match read(alloc, tokens)? {
+        Some((end, depth)) => Ok(format!(in alloc; "{end} {depth}")?),
+        None => Ok(String::from_str(alloc, "none")?),
+    }
+}
+
+fn told(alloc: Global, source: &str) -> Result<String, NoMemory> {
+    match tokens(alloc, bytes_of(source)) {
+        Ok(tokens) => listing(alloc, &tokens),
+        Err(fault) => Ok(format!(in alloc; "{fault:?}")?),
+    }
 }
 
 #[test]
-fn declares_as_the_grammar_says(rt: HostRuntime) -> Result<(), Fail> {
+fn declares_as_the_grammar_says(rt: HostRuntime) -> Result<(), NoMemory> {
     let alloc = rt.alloc();
-    agree(&rt, alloc, &CASES)
+    for row in CASES.lines() {
+        let told = told(alloc, source_of(row))?;
+        agrees(&rt, row, told.as_str());
+    }
+    Ok(())
 }

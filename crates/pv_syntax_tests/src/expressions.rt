@@ -1,12 +1,15 @@
 //! What no clause says: that the grammar of the definitions is C's.
+ghost use Rattle.std.specs.Prelude.{IfOk, IfSome};
+ghost use Rattle.pv_tree.specs.Rows.{tables};
+ghost use Rattle.pv_tree.specs.Tables.{is_expression, Is};
+
+use crate::rows::{agrees, bytes_of, repeated, source_of};
 use indexmap::IndexSet;
 use pv_expr::{Level, expression};
-use pv_lex::tokens;
-use pv_tree::Unit;
+use pv_lex::{NoMemory, Tokens, tokens};
+use pv_tree::{NodeId, Unit};
 use std::alloc::Global;
-use std::fmt::Write;
 use std::process::Abort;
-use std::test::*;
 use text::Printer;
 use words::one_word;
 
@@ -14,120 +17,129 @@ mod cases;
 mod text;
 mod words;
 
-/// A source, and the number of the token behind the expression that it begins with, with that
-/// expression as text. The name `t` is a typedef name.
-type Case = (&'static str, &'static str);
-
-fn told(alloc: Global, source: &[u8], level: Level, lines: bool) -> Result<String, Fail> {
-    let mut out = String::new(alloc);
-    if source.len() > 1000 {
-        return Ok(out);
-    }
-    let tokens = tokens(alloc, source)?;
-    let mut unit = Unit::new(alloc);
-    let reader = one_word(&tokens, &mut unit)?;
+/// The expression of a level that the tokens begin with, and the token behind it.
+fn read(
+    alloc: Global,
+    tokens: &Tokens,
+    level: Level,
+    unit: &mut Unit,
+) -> Result<Option<(NodeId, u32)>, NoMemory>
+    ensures { IfOk result (λ r. IfSome r (λ x. Is (tables unit.new) is_expression x.0)) }
+{
+    let reader = one_word(tokens, unit)?;
     let mut types = IndexSet::new(alloc);
     types.insert(reader.name)?;
-    match expression(&tokens, 0, level, 500, &types, &mut unit, &reader)? {
-        Some((n, end)) => {
-            write!(out, "{end}")?;
-            let printer = Printer {
-                tokens: &tokens,
-                unit: &unit,
-                lines,
-            };
-            printer.print(n, &mut out)?;
-        }
-        None => out.push_str("none")?,
+    expression(tokens, 0, level, 500, &types, unit, &reader)
+}
+
+/// How an expression is read, and what is told of it beside the token behind it.
+#[derive(Clone, Copy)]
+struct Reading {
+    level: Level,
+    tree: bool,
+    /// Whether each node's line is told, too.
+    lines: bool,
+}
+
+/// The token behind the expression that the tokens begin with, and that expression as text.
+fn listing(alloc: Global, tokens: &Tokens, reading: Reading) -> Result<String, NoMemory> {
+    let mut unit = Unit::new(alloc);
+    let Some((n, end)) = read(alloc, tokens, reading.level, &mut unit)? else {
+        return Ok(String::from_str(alloc, "none")?);
+    };
+    let mut out = format!(in alloc; "{end}")?;
+    if reading.tree {
+        let printer = Printer {
+            tokens,
+            unit: &unit,
+            lines: reading.lines,
+        };
+        printer.print(n, &mut out)?;
     }
     Ok(out)
 }
 
-fn agree(
-    rt: &impl Abort,
-    alloc: Global,
-    level: Level,
-    lines: bool,
-    cases: &[Case],
-) -> Result<(), Fail> {
-    for (source, want) in cases {
-        let got = told(alloc, source.as_bytes(), level, lines)?;
-        assert_eq!(rt; got.as_str(), *want, "the source {source:?}");
+fn told(alloc: Global, source: &str, reading: Reading) -> Result<String, NoMemory> {
+    match tokens(alloc, bytes_of(source)) {
+        Ok(tokens) => listing(alloc, &tokens, reading),
+        Err(fault) => Ok(format!(in alloc; "{fault:?}")?),
+    }
+}
+
+fn agree(rt: &impl Abort, alloc: Global, row: &str, reading: Reading) -> Result<(), NoMemory> {
+    let told = told(alloc, source_of(row), reading)?;
+    agrees(rt, row, told.as_str());
+    Ok(())
+}
+
+fn agree_all(rt: &impl Abort, alloc: Global, table: &str, level: Level) -> Result<(), NoMemory> {
+    let reading = Reading {
+        level,
+        tree: true,
+        lines: false,
+    };
+    for row in table.lines() {
+        agree(rt, alloc, row, reading)?;
     }
     Ok(())
 }
 
 #[test]
-fn reads_as_the_grammar_says(rt: HostRuntime) -> Result<(), Fail> {
+fn reads_as_the_grammar_says(rt: HostRuntime) -> Result<(), NoMemory> {
     let alloc = rt.alloc();
-    agree(&rt, alloc, Level::Comma, false, &cases::LEVELS)?;
-    agree(&rt, alloc, Level::Comma, false, &cases::ALIKE)?;
-    agree(&rt, alloc, Level::Comma, false, &cases::ASSIGNMENTS)?;
-    agree(&rt, alloc, Level::Comma, false, &cases::CONDITIONALS)?;
-    agree(&rt, alloc, Level::Comma, false, &cases::UNARY)?;
-    agree(&rt, alloc, Level::Comma, false, &cases::TYPE_NAMES)?;
-    agree(&rt, alloc, Level::Comma, false, &cases::POSTFIX)?;
-    agree(&rt, alloc, Level::Comma, false, &cases::LEAVES)?;
-    agree(
-        &rt,
-        alloc,
-        Level::Assignment,
-        false,
-        &cases::ASSIGNMENT_LEVEL,
-    )?;
-    agree(
-        &rt,
-        alloc,
-        Level::Conditional,
-        false,
-        &cases::CONDITIONAL_LEVEL,
-    )?;
-    agree(&rt, alloc, Level::Comma, true, &cases::LINES)
+    let tables = [
+        cases::LEVELS,
+        cases::ALIKE,
+        cases::ASSIGNMENTS,
+        cases::CONDITIONALS,
+        cases::UNARY,
+        cases::TYPE_NAMES,
+        cases::POSTFIX,
+        cases::LEAVES,
+    ];
+    for table in &tables {
+        agree_all(&rt, alloc, table, Level::Comma)?;
+    }
+    agree_all(&rt, alloc, cases::ASSIGNMENT_LEVEL, Level::Assignment)?;
+    agree_all(&rt, alloc, cases::CONDITIONAL_LEVEL, Level::Conditional)
 }
 
-/// The number of the token behind the expression that a source begins with, 0 where there is none.
-fn end_of(alloc: Global, source: &[u8]) -> Result<u32, Fail> {
-    if source.len() > 100000 {
-        return Ok(0);
+#[test]
+fn each_node_has_its_line(rt: HostRuntime) -> Result<(), NoMemory> {
+    let reading = Reading {
+        level: Level::Comma,
+        tree: true,
+        lines: true,
+    };
+    for row in &cases::LINES {
+        agree(&rt, rt.alloc(), row, reading)?;
     }
-    let tokens = tokens(alloc, source)?;
-    let mut unit = Unit::new(alloc);
-    let reader = one_word(&tokens, &mut unit)?;
-    let types = IndexSet::new(alloc);
-    match expression(&tokens, 0, Level::Comma, 500, &types, &mut unit, &reader)? {
-        Some((_, end)) => Ok(end),
-        None => Ok(0),
-    }
+    Ok(())
 }
 
-/// A core with so many times what stands before it and behind it.
-fn nested(
-    alloc: Global,
-    before: &str,
-    core: &str,
-    after: &str,
-    times: u32,
-) -> Result<String, Fail> {
+/// Where the form's expression ends with its parts 498, 499 and 500 times.
+fn ends(alloc: Global, form: &str) -> Result<String, NoMemory> {
     let mut out = String::new(alloc);
-    for _ in 0..times {
-        out.push_str(before)?;
-    }
-    out.push_str(core)?;
-    for _ in 0..times {
-        out.push_str(after)?;
+    let reading = Reading {
+        level: Level::Comma,
+        tree: false,
+        lines: false,
+    };
+    for times in 498..501 {
+        let source = repeated(alloc, form, times)?;
+        let end = told(alloc, source.as_str(), reading)?;
+        out.push_str(end.as_str())?;
+        out.push(' ')?;
     }
     Ok(out)
 }
 
 #[test]
-fn reads_as_deep_as_asked(rt: HostRuntime) -> Result<(), Fail> {
+fn reads_as_deep_as_asked(rt: HostRuntime) -> Result<(), NoMemory> {
     let alloc = rt.alloc();
-    for (before, core, after, ends) in &cases::NESTS {
-        for (times, want) in [(498, ends[0]), (499, ends[1]), (500, ends[2])] {
-            let source = nested(alloc, before, core, after, times)?;
-            let end = end_of(alloc, source.as_bytes())?;
-            assert_eq!(rt; end, want, "{before:?} {times} times");
-        }
+    for row in cases::NESTS.lines() {
+        let ends = ends(alloc, source_of(row))?;
+        agrees(&rt, row, ends.as_str().trim_end());
     }
     Ok(())
 }

@@ -1,7 +1,8 @@
 //! What no clause says of trees: that the grammar is that of other readers of C.
 //!
 //! Each public call of the table of nodes and of the readers of expressions, declarations and units
-//! runs here once at least.
+//! runs here once at least. A table of sources has one row a line: a source, ` => ` and what is told
+//! of it.
 #![tactic(auto)]
 
 #[cfg(test)]
@@ -10,5 +11,7 @@ mod declarations;
 mod expressions;
 #[cfg(test)]
 mod nodes;
+#[cfg(test)]
+mod rows;
 #[cfg(test)]
 mod units;

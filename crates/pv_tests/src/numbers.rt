@@ -603,23 +603,23 @@ fn answer(rt: &impl Abort, call: Call) -> Result<i128, Fault> {
 #[test]
 fn gives_what_c_gives(rt: HostRuntime) {
     for &Case(call, want) in CASES.iter() {
-        assert_eq!(rt; answer(&rt, call), want, "{call:?}");
+        assert!(rt; answer(&rt, call) == want, "{call:?}");
     }
 }
 
-/// Faults as reports print them.
-static NAMED: [(Fault, &str, &str); 5] = [
-    (OVERFLOW, "6.5p5", "overflow"),
-    (DIVIDE, "6.5.5p5", "divide"),
-    (QUOTIENT, "6.5.5p6", "quotient"),
-    (COUNT, "6.5.7p3", "count"),
-    (SHIFT, "6.5.7p4", "shift"),
-];
+/// Compares a fault with what reports print of it.
+fn prints(rt: &impl Abort, fault: Fault, clause: &str, reason: &str) {
+    assert!(rt;
+        fault.clause.text() == clause && fault.reason.text() == reason,
+        "{clause}"
+    );
+}
 
 #[test]
 fn names_faults(rt: HostRuntime) {
-    for &(fault, clause, reason) in NAMED.iter() {
-        assert_eq!(rt; fault.clause.text(), clause);
-        assert_eq!(rt; fault.reason.text(), reason);
-    }
+    prints(&rt, OVERFLOW, "6.5p5", "overflow");
+    prints(&rt, DIVIDE, "6.5.5p5", "divide");
+    prints(&rt, QUOTIENT, "6.5.5p6", "quotient");
+    prints(&rt, COUNT, "6.5.7p3", "count");
+    prints(&rt, SHIFT, "6.5.7p4", "shift");
 }

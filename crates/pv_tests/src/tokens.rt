@@ -3,53 +3,62 @@ use pv_lex::{Tokens, tokens};
 use std::alloc::Global;
 use std::fmt::Write;
 use std::process::Abort;
-use std::test::*;
 
 mod cases;
 
-/// A source, and its tokens, names and literals, or its fault, as text.
-type Case = (&'static str, &'static str);
-
 /// The tokens with their places, and then the bytes of the names and of the literals.
-fn listing(alloc: Global, t: &Tokens) -> Result<String, Fail> {
+fn listing(rt: &impl Abort, alloc: Global, t: &Tokens) -> String {
     let mut out = String::new(alloc);
     for i in 0..t.len() {
         let token = t.at(i);
-        write!(out, "{:?}@{}:{} ", token.kind, token.start, token.line)?;
+        write!(out, "{:?}@{}:{} ", token.kind, token.start, token.line).expect(rt, "no memory");
     }
     for n in 0..t.names_len() {
-        write!(out, "{:?} ", t.name(n))?;
+        write!(out, "{:?} ", t.name(n)).expect(rt, "no memory");
     }
     for n in 0..t.texts_len() {
-        write!(out, "{:?} ", t.text(n))?;
+        write!(out, "{:?} ", t.text(n)).expect(rt, "no memory");
     }
-    Ok(out)
+    out
 }
 
-fn told(alloc: Global, source: &[u8]) -> Result<String, Fail> {
-    if source.len() > 1000 {
-        return Ok(String::new(alloc));
+/// A source as the rows write it: `¶`, which is the bytes c2 and b6, is the end of a line.
+fn unfold(rt: &impl Abort, alloc: Global, text: &str) -> Vec<u8> {
+    let mut source = Vec::new(alloc);
+    for byte in text.as_bytes() {
+        match *byte {
+            0xc2 => {}
+            0xb6 => source.push(b'\n').expect(rt, "no memory"),
+            other => source.push(other).expect(rt, "no memory"),
+        }
     }
+    source
+}
+
+fn told(rt: &impl Abort, alloc: Global, source: &[u8]) -> String {
+    assert!(rt; source.len() <= 1000);
     match tokens(alloc, source) {
-        Ok(t) => listing(alloc, &t),
-        Err(e) => Ok(format!(in alloc; "{e:?}")?),
+        Ok(t) => listing(rt, alloc, &t),
+        Err(e) => format!(in alloc; "{e:?}").expect(rt, "no memory"),
     }
 }
 
-fn agree(rt: &impl Abort, alloc: Global, cases: &[Case]) -> Result<(), Fail> {
-    for (source, want) in cases {
-        let got = told(alloc, source.as_bytes())?;
-        assert_eq!(rt; got.as_str(), *want, "the source {source:?}");
+/// Compares each row, a source and behind ` =>` its tokens, names and literals, or its fault.
+fn agree(rt: &impl Abort, alloc: Global, rows: &str) {
+    for row in rows.lines() {
+        let (text, want) = row.split_once(" =>").expect(rt, "no arrow");
+        let source = unfold(rt, alloc, text);
+        let got = told(rt, alloc, source.as_slice());
+        assert!(rt; got.trim() == want.trim(), "{row}, but {got}");
     }
-    Ok(())
 }
 
 #[test]
-fn tokens_and_faults(rt: HostRuntime) -> Result<(), Fail> {
-    agree(&rt, rt.alloc(), &cases::MARKS)?;
-    agree(&rt, rt.alloc(), &cases::NUMBERS)?;
-    agree(&rt, rt.alloc(), &cases::LITERALS)?;
-    agree(&rt, rt.alloc(), &cases::WORDS)?;
-    agree(&rt, rt.alloc(), &cases::COMMENTS)?;
-    agree(&rt, rt.alloc(), &cases::MARKERS)
+fn tokens_and_faults(rt: HostRuntime) {
+    agree(&rt, rt.alloc(), cases::MARKS);
+    agree(&rt, rt.alloc(), cases::NUMBERS);
+    agree(&rt, rt.alloc(), cases::LITERALS);
+    agree(&rt, rt.alloc(), cases::WORDS);
+    agree(&rt, rt.alloc(), cases::COMMENTS);
+    agree(&rt, rt.alloc(), cases::MARKERS);
 }

@@ -9,11 +9,11 @@ use crate::operators::{AssignOperator, BinaryOperator, UnaryOperator};
 pub struct NodeId(pub u32);
 
 /// The number of a list of nodes of a `Unit`, from 0 in the order in which they were added.
-#[derive(Clone, Copy, Debug, PartialEq, Eq)]
+#[derive(Clone, Copy, PartialEq, Eq)]
 pub struct ListId(pub u32);
 
 /// An expression (C17 6.5).
-#[derive(Clone, Copy, Debug, PartialEq, Eq)]
+#[derive(Clone, Copy)]
 pub enum Expr {
     /// An identifier, by the number of its name (C17 6.5.1p2).
     Name(u32),
@@ -69,7 +69,7 @@ pub enum Expr {
 }
 
 /// A declaration, or a part of one that has specifiers or a name of its own (C17 6.7, 6.9).
-#[derive(Clone, Copy, Debug, PartialEq, Eq)]
+#[derive(Clone, Copy)]
 pub enum Decl {
     /// `specifiers declarator block` (C17 6.9.1).
     Function {
@@ -110,7 +110,7 @@ pub enum Decl {
 }
 
 /// A declarator, or an abstract one (C17 6.7.6, 6.7.7).
-#[derive(Clone, Copy, Debug, PartialEq, Eq)]
+#[derive(Clone, Copy)]
 pub enum Declarator {
     /// An identifier, by the number of its name.
     Name(u32),
@@ -153,7 +153,7 @@ pub enum Declarator {
 }
 
 /// A declaration specifier (C17 6.7p1).
-#[derive(Clone, Copy, Debug, PartialEq, Eq)]
+#[derive(Clone, Copy)]
 pub enum Spec {
     /// `typedef` (C17 6.7.1)
     Typedef,
@@ -206,7 +206,7 @@ pub enum Spec {
 }
 
 /// An initializer (C17 6.7.9).
-#[derive(Clone, Copy, Debug, PartialEq, Eq)]
+#[derive(Clone, Copy)]
 pub enum Init {
     /// An assignment expression.
     Expr(NodeId),
@@ -215,7 +215,7 @@ pub enum Init {
 }
 
 /// A statement, a block or a label (C17 6.8).
-#[derive(Clone, Copy, Debug, PartialEq, Eq)]
+#[derive(Clone, Copy)]
 pub enum Stmt {
     /// `{ declarations and statements }` (C17 6.8.2).
     Block(ListId),
@@ -265,7 +265,7 @@ pub enum Stmt {
 }
 
 /// A node of any of the six kinds.
-#[derive(Clone, Copy, Debug, PartialEq, Eq)]
+#[derive(Clone, Copy)]
 pub enum Node {
     Expr(Expr),
     Decl(Decl),

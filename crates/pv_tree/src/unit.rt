@@ -17,7 +17,7 @@ use std::marker::Model;
 const LIMIT: usize = 0xffff_ffff;
 
 /// A node, the line of its first token and the depth of its tree.
-#[derive(Clone, Copy, Debug)]
+#[derive(Clone, Copy)]
 struct Row {
     node: Node,
     line: u32,

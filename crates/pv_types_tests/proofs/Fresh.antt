@@ -1,9 +1,9 @@
--- Members whose names are their places, and types that were all made.
-use Rattle.std.proofs.Common.{◌≡◌, ℕ, zero, suc, ◌+◌, ◌<◌, ◌≤◌, IsTrue, List, [], ◌∷◌, ◌++◌, length, get_or, arith}
+-- Members whose names are their places.
+use Rattle.std.proofs.Common.{◌≡◌, ℕ, zero, suc, ◌+◌, ◌<◌, ◌≤◌, IsTrue, List, [], ◌∷◌, ◌++◌, length, arith}
 use Rattle.pv_types.specs.declared.terms.Member.{Member}
 use Rattle.pv_types.specs.declared.terms.TypeId.{TypeId}
 use Rattle.pv_types.specs.Layouts.{is_complete_in, AreComplete}
-use Rattle.pv_types.specs.Known.{Known, tree, trees, env, named_in, AllBelow, MembersBelow, IsNewName, NamesDiffer}
+use Rattle.pv_types.specs.Known.{Known, tree, trees, env, named_in, MembersBelow, IsNewName, NamesDiffer}
 
 -- every name is below k
 abbrev pub NamesBelow : ℕ → List Member → Type 0
@@ -47,16 +47,3 @@ fresh_push m k ms x h lt c e = record {
   differ = differ_more k ms x h.below h.differ e;
   below = names_more k ms x h.below e;
 }
-
-pub below_push : (n k : ℕ) (ids : List TypeId) (t : TypeId) → AllBelow n ids → n ≤ k → t.0 < k → AllBelow k (ids ++ (t ∷ []))
-below_push n k [] t h le lt = (lt, tt)
-below_push n k (x ∷ ids) t h le lt = let here = h.0 in (omega (arith, here, le), below_push n k ids t h.1 le lt)
-
-pub below_more : (n k : ℕ) (ids : List TypeId) → AllBelow n ids → n ≤ k → AllBelow k ids
-below_more n k [] h le = tt
-below_more n k (x ∷ ids) h le = let here = h.0 in (omega (arith, here, le), below_more n k ids h.1 le)
-
-pub one_below : (n i : ℕ) (ids : List TypeId) (d : TypeId) → i < length ids → AllBelow n ids → (get_or ids i d).0 < n
-one_below n i [] d lt h = absurd (omega arith)
-one_below n zero (x ∷ ids) d lt h = h.0
-one_below n (suc i) (x ∷ ids) d lt h = one_below n i ids d (omega arith) h.1

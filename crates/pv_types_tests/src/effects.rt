@@ -1,273 +1,194 @@
-// What no clause says: that another reader of types permits the same accesses.
-ghost use Rattle.std.specs.Prelude.{◌≡◌, ◌<◌, ◌≤◌, ◌^◌, ◌∷◌, [], length, IfOk, OnOk, IsTrue};
-ghost use Rattle.pv_types.specs.Known.{AllBelow, MembersBelow, NamesDiffer, named_in, trees, tree, env};
-ghost use Rattle.pv_types.specs.Layouts.{AreComplete, is_complete_in, layout_in};
-
-use pv_effect::{permits_declared, permits_marks};
-use pv_layout::{measure, size};
-use pv_num::IntKind;
-use pv_types::{Member, Term, TypeId, Types};
-use std::alloc::Global;
-use std::process::Abort;
+// What no clause says: that another reader of types permits the same accesses. It is slow and in another language, and
+// lists all parts and looks at each of them.
+use crate::lines::check;
 use std::test::Fail;
 
-mod cases;
+/// Structures and unions, laid out as gcc does for x86-64.
+static TYPES: &str = "layout 24 8: X0 = struct {char@0, long@8, short@16}
+layout 4 4: X1 = union {int@0, [2]short@0}
+layout 12 4: X2 = struct {short@0, X1@4, char@8}
+layout 8 4: X3 = union {[5]char@0, int@0}
+layout 24 8: X4 = struct {*const int@0, uint@8, X3@12}
+layout 72 8: X5 = struct {X0@0, const X0@24, [2]X2@48}
+layout 4 2: X6 = struct {short@0, short@2}
+layout 4 4: X7 = union {X6@0, uint@0}
+layout 4 4: X8 = struct {int@0}
+layout 8 4: X9 = struct {uint@0, uint@4}";
 
-/// How a type is made of earlier ones of the table: of a structure or union, its first member and how many there are.
-#[derive(Clone, Copy, Debug)]
-enum Made {
-    Int(IntKind),
-    Pointer(usize),
-    Array(usize, u64),
-    Open(usize),
-    Const(usize),
-    Structure(usize, usize),
-    Union(usize, usize),
-}
+/// Accesses of each of some types through each of them, at the first byte.
+static ALL_PAIRS: &str =
+    "ask {_Bool, char, schar, uchar, short, ushort, int, uint, long, ulong, llong, ullong, *int, *char, const int, const *int, *const int, [3]int}
+declared _Bool {_Bool, char, schar, uchar}
+declared char {char, schar, uchar}
+declared schar {char, schar, uchar}
+declared uchar {char, schar, uchar}
+declared short {char, schar, uchar, short, ushort}
+declared ushort {char, schar, uchar, short, ushort}
+declared int {char, schar, uchar, int, uint, const int}
+declared uint {char, schar, uchar, int, uint, const int}
+declared long {char, schar, uchar, long, ulong}
+declared ulong {char, schar, uchar, long, ulong}
+declared llong {char, schar, uchar, llong, ullong}
+declared ullong {char, schar, uchar, llong, ullong}
+declared *int {char, schar, uchar, *int, const *int}
+declared *char {char, schar, uchar, *char}
+declared const int {char, schar, uchar, int, uint, const int}
+declared const *int {char, schar, uchar, *int, const *int}
+declared *const int {char, schar, uchar, *const int}
+declared [3]int {char, schar, uchar, int, uint, const int}
+stored _Bool {_Bool, char, schar, uchar}
+stored char {char, schar, uchar}
+stored schar {char, schar, uchar}
+stored uchar {char, schar, uchar}
+stored short {char, schar, uchar, short, ushort}
+stored ushort {char, schar, uchar, short, ushort}
+stored int {char, schar, uchar, int, uint, const int, [3]int}
+stored uint {char, schar, uchar, int, uint, const int, [3]int}
+stored long {char, schar, uchar, long, ulong}
+stored ulong {char, schar, uchar, long, ulong}
+stored llong {char, schar, uchar, llong, ullong}
+stored ullong {char, schar, uchar, llong, ullong}
+stored *int {char, schar, uchar, *int, const *int}
+stored *char {char, schar, uchar, *char}
+stored const int {char, schar, uchar, int, uint, const int, [3]int}
+stored const *int {char, schar, uchar, *int, const *int}
+stored *const int {char, schar, uchar, *const int}
+stored [3]int {char, schar, uchar}";
 
-/// A declared type, an offset, a wanted type, and whether the access is permitted.
-#[derive(Clone, Copy, Debug)]
-struct Access(usize, u64, usize, bool);
+/// Accesses to declared objects.
+static ACCESSES: &str = "access yes: [2]X2 + 4, int
+access yes: [2]X2 + 16, int
+access no: [2]X2 + 28, int
+access yes: [2]X2 + 4, short
+access yes: [2]X2 + 6, short
+access no: [2]X2 + 5, short
+access yes: [2]X2 + 18, short
+access no: [2]X2 + 20, short
+access yes: [2]X2 + 16, uint
+access no: [2]X2 + 16, long
+access yes: [2]X2 + 16, ushort
+access yes: [2]X2 + 12, X2
+access yes: [2]X2 + 12, const X2
+access no: [2]X2 + 4, X2
+access yes: [2]X2 + 16, X1
+access no: [2]X2 + 0, X1
+access no: [2]X2 + 24, X2
+access no: [2]X2 + 0, [2]X2
+access yes: [2]X2 + 20, char
+access yes: [2]X2 + 3, char
+access no: long + 1, long
+access no: long + 4, int
+access no: long + 8, long
+access yes: long + 8, uchar
+access yes: [3]int + 8, int
+access no: [3]int + 12, int
+access no: [3]int + 10, short
+access no: [3]int + 0, [3]int
+access yes: [3]int + 4, const int
+access yes: X0 + 1, char
+access no: X0 + 8, ullong
+access yes: X0 + 8, ulong
+access yes: X0 + 16, ushort
+access no: X0 + 18, short
+access no: X0 + 0, _Bool
+access yes: X0 + 0, X0
+access yes: X0 + 0, const X0
+access yes: const X0 + 0, X0
+access yes: const X0 + 8, long
+access yes: X4 + 0, *const int
+access no: X4 + 0, *int
+access no: X4 + 0, const *int
+access yes: X4 + 12, int
+access yes: X4 + 12, X3
+access no: X4 + 12, X4
+access yes: X4 + 16, schar
+access yes: X4 + 8, int
+access yes: X5 + 24, X0
+access yes: X5 + 24, const X0
+access yes: X5 + 32, long
+access yes: X5 + 48, X2
+access yes: X5 + 60, const X2
+access yes: X5 + 52, X1
+access no: X5 + 12, X0
+access yes: *[3]int + 0, *[]int
+access yes: *[]int + 0, *[3]int
+access no: *int + 0, *[3]int
+access yes: X7 + 0, short
+access yes: X7 + 2, ushort
+access yes: X7 + 0, int
+access yes: X7 + 0, X6
+access yes: X8 + 0, int
+access yes: X8 + 0, X8
+access no: int + 0, X8
+access no: X1 + 0, X7";
 
-/// Bytes without marks, or whose marks are of this type, from this byte of it on, and how many there are.
-#[derive(Clone, Copy)]
-struct Run(Option<(u32, u8)>, u8);
-
-/// A wanted type, the first run of its bytes, how many runs there are, and whether the read is permitted.
-#[derive(Clone, Copy, Debug)]
-struct Read(usize, usize, usize, bool);
-
-/// The type of a place of the table.
-fn at(rt: &impl Abort, types: &Types, ids: &[TypeId], i: usize) -> TypeId
-    requires { AllBelow (length types.now.terms) ids.now }
-    ensures { result.0 < length types.now.terms }
-{
-    if i < ids.len() {
-        return ids[i];
-    }
-    panic!(rt; "no row {i}")
-}
-
-/// The places of the types of a structure's or union's members.
-fn members_from(rt: &impl Abort, first: usize, count: usize) -> &'static [usize]
-    ensures { length result.now < 100 }
-{
-    let all = cases::MEMBERS.as_slice();
-    assert!(rt; first <= all.len() && count <= all.len() - first && count < 100);
-    &all[first..first + count]
-}
-
-/// Members of these types, whose names are their places.
-fn members_of(
-    rt: &impl Abort,
-    alloc: Global,
-    types: &Types,
-    ids: &[TypeId],
-    places: &[usize],
-) -> Result<Vec<Member>, Fail>
-    requires ids { AllBelow (length types.now.terms) ids.now }
-    requires few { length places.now < 100 }
-    ensures known { IfOk result (λ v. MembersBelow (length types.now.terms) v.items) }
-    ensures differ { IfOk result (λ v. NamesDiffer v.items) }
-    ensures complete { IfOk result (λ v. AreComplete (env types.now) (named_in (trees types.now) v.items)) }
-{
-    let mut members = Vec::new(alloc);
-    for i in 0..places.len() {
-        let t = at(rt, types, ids, places[i]);
-        if !types.is_complete(t) {
-            panic!(rt; "an incomplete member");
-        }
-        members.push(Member { name: i as u32, t })?;
-    }
-    Ok(members)
-}
-
-/// A new structure or union.
-fn composite(
-    rt: &impl Abort,
-    types: &mut Types,
-    union: bool,
-    members: Vec<Member>,
-) -> Result<TypeId, Fail>
-    requires known { MembersBelow (length types.old.terms) members.items }
-    requires differ { NamesDiffer members.items }
-    requires complete { AreComplete (env types.old) (named_in (trees types.old) members.items) }
-    ensures made { IfOk result (λ t. t.0 < length types.new.terms) }
-    ensures more { OnOk result (length types.old.terms ≤ length types.new.terms) }
-{
-    let tag = types.tag(None, union)?;
-    assert!(rt; types.members(tag).is_empty() && !members.is_empty());
-    types.complete(tag, members);
-    let t = types.intern(if union {
-        Term::Union(tag)
-    } else {
-        Term::Struct(tag)
-    })?;
-    Ok(t)
-}
-
-/// The next type of the table.
-fn add(
-    rt: &impl Abort,
-    alloc: Global,
-    types: &mut Types,
-    ids: &[TypeId],
-    made: Made,
-) -> Result<TypeId, Fail>
-    requires { AllBelow (length types.old.terms) ids.now }
-    ensures known { IfOk result (λ t. t.0 < length types.new.terms) }
-    ensures more { OnOk result (length types.old.terms ≤ length types.new.terms) }
-{
-    let t = match made {
-        Made::Int(kind) => types.intern(Term::Int(kind))?,
-        Made::Pointer(i) => types.intern(Term::Pointer(at(rt, types, ids, i)))?,
-        Made::Array(i, n) => types.intern(Term::Array(at(rt, types, ids, i), Some(n)))?,
-        Made::Open(i) => types.intern(Term::Array(at(rt, types, ids, i), None))?,
-        Made::Const(i) => types.intern(Term::Const(at(rt, types, ids, i)))?,
-        Made::Structure(first, count) => {
-            let members = members_of(rt, alloc, types, ids, members_from(rt, first, count))?;
-            composite(rt, types, false, members)?
-        }
-        Made::Union(first, count) => {
-            let members = members_of(rt, alloc, types, ids, members_from(rt, first, count))?;
-            composite(rt, types, true, members)?
-        }
-    };
-    Ok(t)
-}
-
-/// A type of the table that an object may have.
-fn object_type(rt: &impl Abort, types: &Types, ids: &[TypeId], i: usize) -> TypeId
-    requires { AllBelow (length types.now.terms) ids.now }
-    ensures known { result.0 < length types.now.terms }
-    ensures complete { IsTrue (is_complete_in (env types.now) (tree types.now result.0)) }
-    ensures small { (layout_in (env types.now) (tree types.now result.0)).size ≤ 2 ^ 32 }
-{
-    let t = at(rt, types, ids, i);
-    assert!(rt; types.is_complete(t) && measure(types, t).is_some());
-    t
-}
-
-/// Makes an access to a declared object.
-fn check_access(rt: &impl Abort, types: &Types, ids: &[TypeId], row: Access)
-    requires { AllBelow (length types.now.terms) ids.now }
-{
-    let whole = object_type(rt, types, ids, row.0);
-    let want = object_type(rt, types, ids, row.2);
-    assert_eq!(rt;
-        permits_declared(types, whole, row.1, want),
-        row.3,
-        "{row:?}"
-    );
-}
-
-/// Reads bytes with these marks.
-fn is_read(
-    rt: &impl Abort,
-    types: &Types,
-    ids: &[TypeId],
-    want: usize,
-    marks: &[Option<(u32, u8)>],
-) -> bool
-    requires { AllBelow (length types.now.terms) ids.now }
-{
-    let want = object_type(rt, types, ids, want);
-    assert_eq!(rt; marks.len() as u64, size(types, want));
-    permits_marks(types, marks, want)
-}
-
-/// The marks of these runs. Types are by their places, and what is no place is no type.
-fn marks_of(
-    rt: &impl Abort,
-    alloc: Global,
-    ids: &[TypeId],
-    first: usize,
-    count: usize,
-) -> Result<Vec<Option<(u32, u8)>>, Fail> {
-    let mut marks = Vec::new(alloc);
-    for i in first..first.saturating_add(count) {
-        assert!(rt; i < cases::RUNS.len());
-        let Run(mark, n) = cases::RUNS[i];
-        for j in 0..n {
-            marks.push(match mark {
-                None => None,
-                Some((t, byte)) => Some((number(ids, t), byte.saturating_add(j))),
-            })?;
-        }
-    }
-    Ok(marks)
-}
-
-/// The number of the type of a place, or else the number itself.
-fn number(ids: &[TypeId], place: u32) -> u32 {
-    if (place as usize) < ids.len() {
-        ids[place as usize].0
-    } else {
-        place
-    }
-}
-
-/// The marks of n bytes in which a type of this size was stored, over and over.
-fn marks_over(alloc: Global, t: TypeId, size: u64, n: u64) -> Result<Vec<Option<(u32, u8)>>, Fail> {
-    let mut marks = Vec::new(alloc);
-    let mut byte: u8 = 0;
-    for _ in 0..n {
-        marks.push(Some((t.0, byte)))?;
-        byte = byte.wrapping_add(1);
-        if u64::from(byte) == size {
-            byte = 0;
-        }
-    }
-    Ok(marks)
-}
-
-/// Accesses each of the first types through each of them, declared and stored.
-fn check_pairs(rt: &impl Abort, alloc: Global, types: &Types, ids: &[TypeId]) -> Result<(), Fail>
-    requires { AllBelow (length types.now.terms) ids.now }
-{
-    for i in 0..cases::DECLARED.len() {
-        for j in 0..18_u32 {
-            let want = j as usize;
-            let row = Access(i, 0, want, (cases::DECLARED[i] >> j) & 1 == 1);
-            check_access(rt, types, ids, row);
-            let t = object_type(rt, types, ids, i);
-            let n = size(types, object_type(rt, types, ids, want));
-            let marks = marks_over(alloc, t, size(types, t), n)?;
-            let answer = is_read(rt, types, ids, want, marks.as_slice());
-            assert_eq!(rt; answer, (cases::STORED[i] >> j) & 1 == 1, "{i} {j}");
-        }
-    }
-    Ok(())
-}
-
-/// Compares the accesses and reads of the rows.
-fn check_rows(rt: &impl Abort, alloc: Global, types: &Types, ids: &[TypeId]) -> Result<(), Fail>
-    requires { AllBelow (length types.now.terms) ids.now }
-{
-    for row in cases::ACCESSES.as_slice() {
-        check_access(rt, types, ids, *row);
-    }
-    for row in cases::READS.as_slice() {
-        let marks = marks_of(rt, alloc, ids, row.1, row.2)?;
-        let answer = is_read(rt, types, ids, row.0, marks.as_slice());
-        assert_eq!(rt; answer, row.3, "{row:?}");
-    }
-    Ok(())
-}
-
-/// Makes the types, and compares all accesses with their rows.
-fn check_all(rt: &impl Abort, alloc: Global, rows: &[Made]) -> Result<(), Fail> {
-    let mut types = Types::new(alloc)?;
-    let mut ids = Vec::new(alloc);
-    for row in rows {
-        let t = add(rt, alloc, &mut types, ids.as_slice(), *row)?;
-        ids.push(t)?;
-    }
-    check_rows(rt, alloc, &types, ids.as_slice())?;
-    check_pairs(rt, alloc, &types, ids.as_slice())
-}
+/// Reads of marked bytes. 1000 is the number of no type.
+static READS: &str = "read yes: uint {int 0 4}
+read no: short {int 0 2}
+read yes: int {none 0 4}
+read yes: int {int 0 2, none 0 2}
+read yes: int {none 0 3, uint 3 1}
+read no: int {int 1 1, int 0 1, int 2 2}
+read no: int {short 0 2, none 0 2}
+read no: int {short 0 2, short 0 2}
+read no: int {int 1 4}
+read yes: int {const int 0 4}
+read yes: const int {uint 0 2, int 2 2}
+read no: long {llong 0 8}
+read yes: long {ulong 0 8}
+read no: long {int 0 4, int 0 4}
+read no: int {long 0 4}
+read no: int {long 4 4}
+read yes: char {long 5 1}
+read yes: const uchar {*int 7 1}
+read yes: schar {1000 0 1}
+read no: _Bool {char 0 1}
+read yes: _Bool {_Bool 0 1}
+read no: int {1000 0 4}
+read no: *int {1000 0 8}
+read no: int {X0 0 4}
+read no: *const int {*int 0 8}
+read yes: *int {*int 0 8}
+read yes: const *int {*int 0 8}
+read yes: *int {const *int 0 8}
+read no: *[3]int {*[]int 0 8}
+read yes: *[]int {*[]int 0 8}
+read no: *int {long 0 8}
+read yes: X0 {int 2 1, short 0 7, long 0 8, ushort 0 2, 1000 9 6}
+read yes: X0 {none 0 8, ulong 0 8, none 0 8}
+read no: X0 {none 0 8, llong 0 8, none 0 8}
+read no: X0 {none 0 16, short 1 2, none 0 6}
+read yes: X0 {none 0 24}
+read yes: const X0 {none 0 15, long 7 1, none 0 8}
+read no: const X0 {none 0 15, long 6 1, none 0 8}
+read yes: X1 {int 0 4}
+read yes: X1 {short 0 2, short 0 2}
+read yes: X1 {int 0 2, short 0 2}
+read no: X1 {short 0 4}
+read no: X1 {long 0 4}
+read yes: X3 {long 0 4, 1000 1 4}
+read yes: X3 {long 3 8}
+read yes: X7 {ushort 0 2, int 2 2}
+read no: X7 {ushort 0 2, int 0 2}
+read yes: [2]X2 {short 0 2, 1000 0 2, int 0 4, long 0 4, none 0 4, short 0 2, ushort 0 2, none 0 4}
+read no: [2]X2 {none 0 16, short 0 2, ushort 1 1, none 0 5}
+read yes: const X2 {none 0 4, uint 0 4, *int 3 1, *int 3 3}
+read no: X2 {uint 0 4, none 0 8}
+read no: X2 {none 0 2, uint 2 6, none 0 4}
+read yes: X4 {*const int 0 8, int 0 4, long 0 8, 1000 0 4}
+read no: X4 {*int 0 8, none 0 16}
+read yes: [3]int {int 0 4, uint 0 4, none 0 4}
+read no: [3]int {int 0 12}
+read yes: X8 {int 0 4}
+read yes: X9 {int 0 4, int 0 4}
+read no: X9 {int 0 8}
+read no: X6 {int 0 4}";
 
 #[test]
 fn accesses(rt: HostRuntime) -> Result<(), Fail> {
-    check_all(&rt, rt.alloc(), &cases::TYPES)
+    check(
+        &rt,
+        rt.alloc(),
+        &[(1, TYPES), (1, ALL_PAIRS), (1, ACCESSES), (1, READS)],
+    )
 }

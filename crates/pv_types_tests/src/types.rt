@@ -1,114 +1,72 @@
-// Each public call once, with values that follow from the rules of C17 6.2.5.
-ghost use Rattle.std.specs.Prelude.{◌<◌, length};
-
-use pv_layout::{leaf_at, measure};
-use pv_num::IntKind;
-use pv_types::{Extent, Member, NoMemory, Term, TypeId, Types};
-use std::process::Abort;
+// Types and their numbers, with what follows from the rules of C17 6.2.5.
+use crate::lines::check;
 use std::test::Fail;
 
-#[test]
-fn equal_terms_have_equal_numbers(rt: HostRuntime) -> Result<(), Fail> {
-    let mut types = Types::new(rt.alloc())?;
-    let int = types.intern(Term::Int(IntKind::Int))?;
-    let pointer = types.intern(Term::Pointer(int))?;
-    let again = types.intern(Term::Pointer(int))?;
-    let other = types.intern(Term::Const(pointer))?;
-    assert_eq!(rt; again, pointer);
-    assert!(rt; other != pointer);
-    assert_eq!(rt; types.view(other), Term::Const(pointer));
-    assert!(rt; types.is_complete(other));
-    Ok(())
-}
+/// Types that are made more than once.
+static NUMBERS: &str = "same yes: *int, *int
+same no: *int, const *int
+complete yes: const *int
+same yes: (int, int) int, (int, int) int
+same no: (int, int) int, () int
+complete no: (int, int) int";
+
+/// A structure, a union whose members are not known, and types that are made of it.
+static COMPLETENESS: &str = "layout 4 4: X0 = struct {int@0}
+complete yes: X0
+type X1 = union {}
+complete no: X1
+complete yes: *X1
+complete no: [4]X1
+complete no: void
+complete no: []*X1";
 
 #[test]
-fn equal_lists_have_equal_numbers(rt: HostRuntime) -> Result<(), Fail> {
-    let mut types = Types::new(rt.alloc())?;
-    let int = types.intern(Term::Int(IntKind::Int))?;
-    let list = types.params(vec![in rt.alloc(); int, int]?)?;
-    let again = types.params(vec![in rt.alloc(); int, int]?)?;
-    let none = types.params(Vec::new(rt.alloc()))?;
-    assert_eq!(rt; again, list);
-    assert!(rt; none != list);
-    assert_eq!(rt; types.param_list(list), [int, int].as_slice());
-    let function = types.intern(Term::Function {
-        result: int,
-        params: list,
-        variadic: false,
-    })?;
-    assert!(rt; !types.is_complete(function));
-    Ok(())
+fn numbers_and_completeness(rt: HostRuntime) -> Result<(), Fail> {
+    check(&rt, rt.alloc(), &[(1, NUMBERS), (1, COMPLETENESS)])
 }
 
-#[test]
-fn a_tag_is_completed_once(rt: HostRuntime) -> Result<(), Fail> {
-    let mut types = Types::new(rt.alloc())?;
-    let int = types.intern(Term::Int(IntKind::Int))?;
-    let tag = types.tag(Some(7), false)?;
-    assert_eq!(rt; tag, 0);
-    assert!(rt; types.members(tag).is_empty());
-    let member = Member { name: 3, t: int };
-    types.complete(tag, vec![in rt.alloc(); member]?);
-    assert_eq!(rt; types.members(tag), [member].as_slice());
-    let structure = types.intern(Term::Struct(tag))?;
-    assert!(rt; types.is_complete(structure));
-    let extent = Extent {
-        size: Some(4),
-        align: 4,
-    };
-    assert_eq!(rt; types.extent(structure), extent);
-    Ok(())
-}
+/// A structure with its members. Where they begin is kept from the time that the next type is made.
+static MEMBERS: &str = "type X0 = int
+type X1 = char
+type X2 = struct {X1@0, X0@4, X1@8}";
 
-#[test]
-fn what_is_incomplete(rt: HostRuntime) -> Result<(), Fail> {
-    let mut types = Types::new(rt.alloc())?;
-    let tag = types.tag(None, true)?;
-    let union = types.intern(Term::Union(tag))?;
-    let pointer = types.intern(Term::Pointer(union))?;
-    let array = types.intern(Term::Array(union, Some(4)))?;
-    let void = types.intern(Term::Void)?;
-    let open = types.intern(Term::Array(pointer, None))?;
-    assert!(rt; !types.is_complete(union));
-    assert!(rt; types.is_complete(pointer));
-    assert!(rt; !types.is_complete(array));
-    assert!(rt; !types.is_complete(void));
-    assert!(rt; !types.is_complete(open));
-    Ok(())
-}
+/// What stands in each of its bytes. No line makes a type.
+static BYTES: &str = "suits no, no: X2 + 0, X0
+suits yes, yes: X2 + 0, X1
+suits no, no: X2 + 1, X0
+suits no, no: X2 + 1, X1
+suits no, no: X2 + 2, X0
+suits no, no: X2 + 2, X1
+suits no, no: X2 + 3, X0
+suits no, no: X2 + 3, X1
+suits yes, yes: X2 + 4, X0
+suits no, no: X2 + 4, X1
+suits no, no: X2 + 5, X0
+suits no, no: X2 + 5, X1
+suits no, no: X2 + 6, X0
+suits no, no: X2 + 6, X1
+suits no, no: X2 + 7, X0
+suits no, no: X2 + 7, X1
+suits no, no: X2 + 8, X0
+suits yes, yes: X2 + 8, X1
+suits no, no: X2 + 9, X0
+suits no, no: X2 + 9, X1
+suits no, no: X2 + 10, X0
+suits no, no: X2 + 10, X1
+suits no, no: X2 + 11, X0
+suits no, no: X2 + 11, X1
+suits no, no: X2 + 12, X0
+suits no, no: X2 + 12, X1
+suits no, no: X2 + 13, X0
+suits no, no: X2 + 13, X1";
 
-/// Looks for the members of `struct { char a; int b; char c; }` in each of its bytes.
-fn check_members(rt: &impl Abort, types: &Types, whole: TypeId, int: TypeId, char: TypeId)
-    requires whole { whole.0 < length types.now.terms }
-    requires int { int.0 < length types.now.terms }
-    requires char { char.0 < length types.now.terms }
-{
-    assert!(rt; types.is_complete(whole) && measure(types, whole).is_some());
-    for offset in 0..14_u64 {
-        assert_eq!(rt; leaf_at(types, whole, offset, int), offset == 4, "{offset}");
-        assert_eq!(rt;
-            leaf_at(types, whole, offset, char),
-            offset == 0 || offset == 8,
-            "{offset}"
-        );
-    }
-}
+static ONE_MORE: &str = "complete yes: *X2";
 
 #[test]
 fn members_are_found_before_their_places_are_kept(rt: HostRuntime) -> Result<(), Fail> {
-    let mut types = Types::new(rt.alloc())?;
-    let int = types.intern(Term::Int(IntKind::Int))?;
-    let char = types.intern(Term::Int(IntKind::Char))?;
-    let tag = types.tag(None, false)?;
-    let whole = types.intern(Term::Struct(tag))?;
-    let a = Member { name: 0, t: char };
-    let b = Member { name: 1, t: int };
-    let c = Member { name: 2, t: char };
-    assert!(rt; types.is_complete(int) && types.is_complete(char));
-    types.complete(tag, vec![in rt.alloc(); a, b, c]?);
-    check_members(&rt, &types, whole, int, char);
-    let pointer = types.intern(Term::Pointer(whole))?;
-    assert!(rt; types.is_complete(pointer));
-    check_members(&rt, &types, whole, int, char);
-    Ok(())
+    check(
+        &rt,
+        rt.alloc(),
+        &[(1, MEMBERS), (1, BYTES), (1, ONE_MORE), (1, BYTES)],
+    )
 }

@@ -11,12 +11,12 @@ use Rattle.pv_stmt.specs.declared.units.SynError.{SynError}
 use Rattle.pv_stmt.specs.declared.units.SynError.TheVariants as syn
 use Rattle.pvrun.proofs.UnitLemmas.{either_unit}
 use Rattle.pv_lex.proofs.Exactly.{either_error, one_table, one_error, no_error}
-use Rattle.pv_exec.specs.Terms.{ProgramTree}
-use Rattle.pv_exec.specs.Starter.{FindsProgram}
-use Rattle.pv_exec.specs.TermViews.{program_tree}
-use Rattle.pv_exec.specs.declared.starter.terms.Program.{Program}
+use Rattle.pv_starter.specs.Terms.{ProgramTree}
+use Rattle.pv_starter.specs.Starter.{FindsProgram}
+use Rattle.pv_starter.specs.TermViews.{program_tree}
+use Rattle.pv_starter.specs.declared.terms.Program.{Program}
 use Rattle.pv_exec.specs.Run.{ran_of}
-use Rattle.pv_exec.proofs.Programs.{one_program, either_program}
+use Rattle.pv_starter.proofs.Programs.{one_program, either_program}
 use Rattle.std.specs.Prelude.{Result, Ok, Err, IfOk, Option, Some}
 use Rattle.pv_exec.specs.declared.running.Ran.{Ran}
 use Rattle.pvrun.specs.declared.judging.Judgement.{Judgement}

@@ -3,8 +3,8 @@ use Rattle.std.proofs.Common.{◌≡◌, ◌⊎◌, inl, inr, ℕ, List, [], ◌
 use Rattle.pv_lex.specs.declared.token_table.Token.{Token}
 use Rattle.pv_tree.specs.Syntax.{DeclarationTree}
 use Rattle.pv_tree.specs.Units.{no_types, SpellUnit, IsWhole}
-use Rattle.pv_stmt.specs.Externals.{units}
-use Rattle.pv_stmt.proofs.OuterParts.{unit_spelled, unit_none, unit_whole}
+use Rattle.pv_stmt_forms.specs.Externals.{units}
+use Rattle.pv_stmt_forms.proofs.OuterParts.{unit_spelled, unit_none, unit_whole}
 
 abbrev pub IsUnit : List Token → Type 0
 IsUnit tokens = (ds : List DeclarationTree) × SpellUnit tokens ds

@@ -5,8 +5,8 @@ use Rattle.pv_lex.specs.Lexes.{Table, Lexes}
 use Rattle.pv_lex.specs.Faults.{LexFault}
 use Rattle.pv_tree.specs.Syntax.{DeclarationTree}
 use Rattle.pv_tree.specs.Units.{SpellUnit, IsWhole}
-use Rattle.pv_exec.specs.Terms.{ProgramTree}
-use Rattle.pv_exec.specs.Starter.{IsProgram}
+use Rattle.pv_starter.specs.Terms.{ProgramTree}
+use Rattle.pv_starter.specs.Starter.{IsProgram}
 use Rattle.pv_exec.specs.Run.{ran_of}
 use Rattle.pvrun.specs.Verdicts.{Verdict, Ended, Refused, Byte, Token, Profile, Syntax, Unbuilt}
 

@@ -14,7 +14,7 @@ use std::alloc::Global;
 pub const SOURCE_LIMIT: usize = 1_048_576;
 
 /// Why a source has no run.
-#[derive(Debug, Drop)]
+#[derive(Drop)]
 pub enum Refused {
     /// It is longer than 1048576 bytes (C17 5.2.4.1 leaves such limits to an implementation).
     Size,
@@ -32,7 +32,7 @@ pub enum Refused {
 }
 
 /// What a source comes to.
-#[derive(Debug, Drop)]
+#[derive(Drop)]
 pub enum Judgement {
     Ran(Ran),
     Source(Refused),

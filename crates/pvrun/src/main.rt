@@ -39,8 +39,9 @@ fn main(rt: HostRuntime) -> ExitCode {
 fn words_asked(rt: &(impl Env + AllocGlobal), alloc: Global) -> Result<Vec<String>, NoMemory> {
     let mut words = Vec::new(alloc);
     match env::args(rt) {
-        Ok(arguments) => {
-            for word in arguments.skip(1) {
+        Ok(mut arguments) => {
+            let _program = arguments.next();
+            for word in arguments {
                 words.push(word)?;
             }
         }

@@ -1,5 +1,6 @@
 // The words of the command line (C17 5.1.2.2.1).
-ghost use Rattle.std.specs.Prelude.{◌≡◌, ◌<◌, ◌≤◌, Some, None, MatchOption, IfSome, string_bytes};
+ghost use Rattle.std.specs.Prelude.{◌≡◌, ◌<◌, ◌≤◌, ◌&&◌, nat_lt, length, codes, Some, None, MatchOption, IfSome, string_bytes};
+ghost use Rattle.std.specs.Str.{bytes_eq};
 ghost use Rattle.pvrun.specs.Words as specified;
 
 // The largest value of `--turns`.
@@ -26,7 +27,7 @@ pub fn job(words: &[String]) -> Option<RunWords<'_>>
 {
     match words {
         [mode, file] => {
-            if mode.as_str() == "run" && !file.is_empty() {
+            if is_run(mode.as_str(), file.as_str()) {
                 Some(RunWords {
                     file: file.as_str(),
                     turns: DEFAULT_TURNS,
@@ -36,7 +37,7 @@ pub fn job(words: &[String]) -> Option<RunWords<'_>>
             }
         }
         [mode, file, option, value] => {
-            if mode.as_str() == "run" && !file.is_empty() && option.as_str() == "--turns" {
+            if is_run(mode.as_str(), file.as_str()) && option.as_str() == "--turns" {
                 let turns = turns_of(value.as_str())?;
                 Some(RunWords {
                     file: file.as_str(),
@@ -48,6 +49,13 @@ pub fn job(words: &[String]) -> Option<RunWords<'_>>
         }
         _ => None,
     }
+}
+
+// Whether a job begins with these words.
+fn is_run(mode: &str, file: &str) -> bool
+    ensures { result ≡ (bytes_eq mode.now (codes "run") && nat_lt 0 (length file.now)) }
+{
+    mode == "run" && !file.is_empty()
 }
 
 /// The value of `--turns`: decimal, without a leading zero, from 1 to 100000000.

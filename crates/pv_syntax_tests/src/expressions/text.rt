@@ -6,8 +6,7 @@ ghost use Rattle.pv_tree.specs.Tables.{Forest, HasOptional, HasList, is_expressi
 
 use pv_lex::Tokens;
 use pv_tree::{Decl, Expr, ListId, NodeId, Spec, Unit};
-use std::fmt::Write;
-use std::test::Fail;
+use std::alloc::AllocError;
 
 /// What the text is made from.
 #[derive(Drop)]
@@ -87,6 +86,29 @@ fn third_in(e: Expr) -> Option<NodeId>
     }
 }
 
+/// What an operator's text begins with.
+fn word(e: Expr) -> &'static str {
+    match e {
+        Expr::Character(_) => "'",
+        Expr::Text { .. } => "\"",
+        Expr::Paren(_) => "()",
+        Expr::Index(_, _) => "[]",
+        Expr::Call(_, _) => "call",
+        Expr::Member(_, _) => ".",
+        Expr::Arrow(_, _) => "->",
+        Expr::PostIncrement(_) => "Increment",
+        Expr::PostDecrement(_) => "Decrement",
+        Expr::PreIncrement(_) => "++",
+        Expr::PreDecrement(_) => "--",
+        Expr::SizeofExpr(_) | Expr::SizeofType(_) => "sizeof",
+        Expr::Cast(_, _) => "cast",
+        Expr::Conditional(_, _, _) => "?",
+        Expr::Assign(_, _, _) => "=",
+        Expr::Comma(_, _) => ",",
+        _ => "",
+    }
+}
+
 /// A member of a list.
 fn nth(list: &[NodeId], i: usize) -> NodeId
     requires { i < length list.now }
@@ -96,7 +118,7 @@ fn nth(list: &[NodeId], i: usize) -> NodeId
 }
 
 impl Printer<'_> {
-    fn name(&self, n: u32, out: &mut String) -> Result<(), Fail> {
+    fn name(&self, n: u32, out: &mut String) -> Result<(), AllocError> {
         if n < self.tokens.names_len() {
             for b in self.tokens.name(n) {
                 out.push(*b as char)?;
@@ -111,7 +133,7 @@ impl Printer<'_> {
         unsigned: bool,
         longs: u8,
         out: &mut String,
-    ) -> Result<(), Fail> {
+    ) -> Result<(), AllocError> {
         write!(out, "{value}")?;
         if !decimal {
             out.push_str("o")?;
@@ -125,7 +147,7 @@ impl Printer<'_> {
         Ok(())
     }
 
-    fn type_name(&self, n: NodeId, out: &mut String) -> Result<(), Fail>
+    fn type_name(&self, n: NodeId, out: &mut String) -> Result<(), AllocError>
         requires { Is (tables self.now.unit.now) is_declaration n }
     {
         if let Decl::TypeName { specs, .. } = self.unit.decl(n) {
@@ -141,46 +163,27 @@ impl Printer<'_> {
         Ok(())
     }
 
-    fn operator(&self, e: Expr, out: &mut String) -> Result<(), Fail> {
+    fn operator(&self, e: Expr, out: &mut String) -> Result<(), AllocError> {
+        out.push_str(word(e))?;
         match e {
-            Expr::Name(n) => self.name(n, out)?,
+            Expr::Name(n) | Expr::Member(_, n) | Expr::Arrow(_, n) => self.name(n, out),
             Expr::Number {
                 value,
                 decimal,
                 unsigned,
                 longs,
-            } => Printer::number(value, decimal, unsigned, longs, out)?,
-            Expr::Character(value) => write!(out, "'{value}")?,
-            Expr::Text { more, .. } => write!(out, "\"{}", more as u64 + 1)?,
-            Expr::Paren(_) => out.push_str("()")?,
-            Expr::Index(_, _) => out.push_str("[]")?,
-            Expr::Call(_, _) => out.push_str("call")?,
-            Expr::Member(_, n) => {
-                out.push_str(".")?;
-                self.name(n, out)?;
-            }
-            Expr::Arrow(_, n) => {
-                out.push_str("->")?;
-                self.name(n, out)?;
-            }
-            Expr::PostIncrement(_) => out.push_str("Increment")?,
-            Expr::PostDecrement(_) => out.push_str("Decrement")?,
-            Expr::PreIncrement(_) => out.push_str("++")?,
-            Expr::PreDecrement(_) => out.push_str("--")?,
-            Expr::Unary(op, _) => write!(out, "{op:?}")?,
-            Expr::SizeofExpr(_) => out.push_str("sizeof")?,
-            Expr::SizeofType(_) => out.push_str("sizeof")?,
-            Expr::Cast(_, _) => out.push_str("cast")?,
-            Expr::Binary(op, _, _) => write!(out, "{op:?}")?,
-            Expr::Conditional(_, _, _) => out.push_str("?")?,
-            Expr::Assign(op, _, _) => write!(out, "={op:?}")?,
-            Expr::Comma(_, _) => out.push_str(",")?,
+            } => Printer::number(value, decimal, unsigned, longs, out),
+            Expr::Character(value) => write!(out, "{value}"),
+            Expr::Text { more, .. } => write!(out, "{}", more as u64 + 1),
+            Expr::Unary(op, _) => write!(out, "{op:?}"),
+            Expr::Binary(op, _, _) => write!(out, "{op:?}"),
+            Expr::Assign(op, _, _) => write!(out, "{op:?}"),
+            _ => Ok(()),
         }
-        Ok(())
     }
 
     /// A space and the text of an expression.
-    pub(super) fn print(&self, n: NodeId, out: &mut String) -> Result<(), Fail>
+    pub(super) fn print(&self, n: NodeId, out: &mut String) -> Result<(), AllocError>
         requires { Is (tables self.now.unit.now) is_expression n }
     {
         let e = self.unit.expr(n);
@@ -207,7 +210,6 @@ impl Printer<'_> {
                 self.print(nth(arguments, i), out)?;
             }
         }
-        out.push_str(")")?;
-        Ok(())
+        out.push_str(")")
     }
 }

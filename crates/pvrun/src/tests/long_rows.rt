@@ -1,198 +1,85 @@
 //! Long sources, and what an independent executor of the same rules reports of them.
-use super::Long;
 
-/// Sources with a part that stands many times: at the most depth and one beyond, and with many statements.
-pub(super) static LONG: [Long; 21] = [
-    Long {
-        before: "int main(void){return 0",
-        part: " + 0",
-        times: 496,
-        after: ";}",
-        line: "exit status=0 turn=995",
-        status: 0,
-    },
-    Long {
-        before: "int main(void){return 0",
-        part: " + 0",
-        times: 497,
-        after: ";}",
-        line: "refused reason=syntax whole=0",
-        status: 8,
-    },
-    Long {
-        before: "int main(void){int a = 0",
-        part: " + 0",
-        times: 495,
-        after: "; return a;}",
-        line: "exit status=0 turn=995",
-        status: 0,
-    },
-    Long {
-        before: "int main(void){int a = 0",
-        part: " + 0",
-        times: 496,
-        after: "; return a;}",
-        line: "refused reason=syntax whole=0",
-        status: 8,
-    },
-    Long {
-        before: "int x; int main(void){x = 0",
-        part: " + 0",
-        times: 495,
-        after: "; return x;}",
-        line: "exit status=0 turn=997",
-        status: 0,
-    },
-    Long {
-        before: "int x; int main(void){x = 0",
-        part: " + 0",
-        times: 496,
-        after: "; return x;}",
-        line: "refused reason=syntax whole=1",
-        status: 8,
-    },
-    Long {
-        before: "int x = 4; int main(void){return ",
-        part: "*&",
-        times: 248,
-        after: "x;}",
-        line: "exit status=4 turn=252",
-        status: 0,
-    },
-    Long {
-        before: "int x = 4; int main(void){return ",
-        part: "*&",
-        times: 249,
-        after: "x;}",
-        line: "refused reason=syntax whole=1",
-        status: 8,
-    },
-    Long {
-        before: "int x = 4; int main(void){return 1 + ",
-        part: "*&",
-        times: 247,
-        after: "x;}",
-        line: "exit status=5 turn=253",
-        status: 0,
-    },
-    Long {
-        before: "int x = 4; int main(void){return 1 + ",
-        part: "*&",
-        times: 248,
-        after: "x;}",
-        line: "refused reason=syntax whole=1",
-        status: 8,
-    },
-    Long {
-        before: "int x = 4; int main(void){int *p = &x; return *",
-        part: "&*",
-        times: 247,
-        after: "p;}",
-        line: "exit status=4 turn=254",
-        status: 0,
-    },
-    Long {
-        before: "int x = 4; int main(void){int *p = &x; return *",
-        part: "&*",
-        times: 248,
-        after: "p;}",
-        line: "refused reason=syntax whole=1",
-        status: 8,
-    },
-    Long {
-        before: "int x = 4; int main(void){int *p = &",
-        part: "*&",
-        times: 247,
-        after: "x; return *p;}",
-        line: "exit status=4 turn=254",
-        status: 0,
-    },
-    Long {
-        before: "int x = 4; int main(void){int *p = &",
-        part: "*&",
-        times: 248,
-        after: "x; return *p;}",
-        line: "refused reason=syntax whole=1",
-        status: 8,
-    },
-    Long {
-        before: "int x = 4; int main(void){",
-        part: "*&",
-        times: 247,
-        after: "x = 6; return x;}",
-        line: "exit status=6 turn=255",
-        status: 0,
-    },
-    Long {
-        before: "int x = 4; int main(void){",
-        part: "*&",
-        times: 248,
-        after: "x = 6; return x;}",
-        line: "refused reason=syntax whole=1",
-        status: 8,
-    },
-    Long {
-        before: "int x = 4; int main(void){int *p = &x; *",
-        part: "&*",
-        times: 247,
-        after: "p = 6; return x;}",
-        line: "exit status=6 turn=258",
-        status: 0,
-    },
-    Long {
-        before: "int x = 4; int main(void){int *p = &x; *",
-        part: "&*",
-        times: 248,
-        after: "p = 6; return x;}",
-        line: "refused reason=syntax whole=1",
-        status: 8,
-    },
-    Long {
-        before: "int x; int main(void){",
-        part: "x = x + 1; ",
-        times: 600,
-        after: "return x;}",
-        line: "exit status=600 turn=3603",
-        status: 0,
-    },
-    Long {
-        before: "int x = 2147483000; int main(void){",
-        part: "x = x + 1;\n",
-        times: 700,
-        after: "return x;}",
-        line: "undefined clause=6.5p5 reason=overflow line=648 turn=3889",
-        status: 1,
-    },
-    Long {
-        before: "int x; int main(void){int *p = &x; *p = 1; ",
-        part: "*p = *p + x; ",
-        times: 31,
-        after: "return x;}",
-        line: "undefined clause=6.5p5 reason=overflow line=1 turn=257",
-        status: 1,
-    },
+/// Sources with parts that stand many times, each between two backticks: at the most depth and one beyond,
+/// and with many statements.
+pub(super) static LONG: &str = r#"
+int main(void){return 0` + 0`;}
+496 times => 0 exit status=0 turn=995
+
+int main(void){return 0` + 0`;}
+497 times => 8 refused reason=syntax whole=0
+
+int main(void){int a = 0` + 0`; return a;}
+495 times => 0 exit status=0 turn=995
+
+int main(void){int a = 0` + 0`; return a;}
+496 times => 8 refused reason=syntax whole=0
+
+int x; int main(void){x = 0` + 0`; return x;}
+495 times => 0 exit status=0 turn=997
+
+int x; int main(void){x = 0` + 0`; return x;}
+496 times => 8 refused reason=syntax whole=1
+
+int x = 4; int main(void){return `*&`x;}
+248 times => 0 exit status=4 turn=252
+
+int x = 4; int main(void){return `*&`x;}
+249 times => 8 refused reason=syntax whole=1
+
+int x = 4; int main(void){return 1 + `*&`x;}
+247 times => 0 exit status=5 turn=253
+
+int x = 4; int main(void){return 1 + `*&`x;}
+248 times => 8 refused reason=syntax whole=1
+
+int x = 4; int main(void){int *p = &x; return *`&*`p;}
+247 times => 0 exit status=4 turn=254
+
+int x = 4; int main(void){int *p = &x; return *`&*`p;}
+248 times => 8 refused reason=syntax whole=1
+
+int x = 4; int main(void){int *p = &`*&`x; return *p;}
+247 times => 0 exit status=4 turn=254
+
+int x = 4; int main(void){int *p = &`*&`x; return *p;}
+248 times => 8 refused reason=syntax whole=1
+
+int x = 4; int main(void){`*&`x = 6; return x;}
+247 times => 0 exit status=6 turn=255
+
+int x = 4; int main(void){`*&`x = 6; return x;}
+248 times => 8 refused reason=syntax whole=1
+
+int x = 4; int main(void){int *p = &x; *`&*`p = 6; return x;}
+247 times => 0 exit status=6 turn=258
+
+int x = 4; int main(void){int *p = &x; *`&*`p = 6; return x;}
+248 times => 8 refused reason=syntax whole=1
+
+int x; int main(void){`x = x + 1; `return x;}
+600 times => 0 exit status=600 turn=3603
+
+int x = 2147483000; int main(void){`x = x + 1;
+`return x;}
+700 times => 1 undefined clause=6.5p5 reason=overflow line=648 turn=3889
+
+int x; int main(void){int *p = &x; *p = 1; `*p = *p + x; `return x;}
+31 times => 1 undefined clause=6.5p5 reason=overflow line=1 turn=257
+
+int main(void){return `(`0`)`;}
+496 times => 8 refused reason=unbuilt
+
+int main(void){return `(`0`)`;}
+497 times => 8 refused reason=syntax whole=0
+"#;
+
+/// At the most turns that a run has unless its words say otherwise, and one statement beyond. A statement is
+/// [`STATEMENT`], with its part 495 times.
+pub(super) static LONGEST: [(usize, &str); 2] = [
+    (1006, "0 exit status=0 turn=999965"),
+    (1007, "6 turns bound=1000000"),
 ];
 
-/// At the most turns that a run has unless its words say otherwise, and one statement beyond.
-pub(super) static LONGEST: [Long; 2] = [
-    Long {
-        before: "int x;int main(void){",
-        part: STATEMENT,
-        times: 1006,
-        after: "}",
-        line: "exit status=0 turn=999965",
-        status: 0,
-    },
-    Long {
-        before: "int x;int main(void){",
-        part: STATEMENT,
-        times: 1007,
-        after: "}",
-        line: "turns bound=1000000",
-        status: 6,
-    },
-];
-
-// An assignment of 994 bytes, which takes as many turns.
-const STATEMENT: &str =
-    "x=0+0+0+0+0+0+0+0+0+0+0+0+0+0+0+0+0+0+0+0+0+0+0+0+0+0+0+0+0+0+0+0+0+0+0+0+0+0+0+0+0+0+0+0+0+0+0+0+0+0+0+0+0+0+0+0+0+0+0+0+0+0+0+0+0+0+0+0+0+0+0+0+0+0+0+0+0+0+0+0+0+0+0+0+0+0+0+0+0+0+0+0+0+0+0+0+0+0+0+0+0+0+0+0+0+0+0+0+0+0+0+0+0+0+0+0+0+0+0+0+0+0+0+0+0+0+0+0+0+0+0+0+0+0+0+0+0+0+0+0+0+0+0+0+0+0+0+0+0+0+0+0+0+0+0+0+0+0+0+0+0+0+0+0+0+0+0+0+0+0+0+0+0+0+0+0+0+0+0+0+0+0+0+0+0+0+0+0+0+0+0+0+0+0+0+0+0+0+0+0+0+0+0+0+0+0+0+0+0+0+0+0+0+0+0+0+0+0+0+0+0+0+0+0+0+0+0+0+0+0+0+0+0+0+0+0+0+0+0+0+0+0+0+0+0+0+0+0+0+0+0+0+0+0+0+0+0+0+0+0+0+0+0+0+0+0+0+0+0+0+0+0+0+0+0+0+0+0+0+0+0+0+0+0+0+0+0+0+0+0+0+0+0+0+0+0+0+0+0+0+0+0+0+0+0+0+0+0+0+0+0+0+0+0+0+0+0+0+0+0+0+0+0+0+0+0+0+0+0+0+0+0+0+0+0+0+0+0+0+0+0+0+0+0+0+0+0+0+0+0+0+0+0+0+0+0+0+0+0+0+0+0+0+0+0+0+0+0+0+0+0+0+0+0+0+0+0+0+0+0+0+0+0+0+0+0+0+0+0+0+0+0+0+0+0+0+0+0+0+0+0+0+0+0+0+0+0+0+0+0+0+0+0+0+0+0+0+0+0+0+0+0+0+0+0+0+0+0+0+0+0+0+0+0+0+0+0+0+0+0+0+0+0+0+0+0+0+0+0+0+0+0+0+0+0+0+0+0+0+0+0+0+0+0+0+0+0+0+0+0+0+0+0+0+0+0+0+0+0+0+0+0+0+0+0+0+0+0+0+0+0+0+0+0+0+0;";
+/// An assignment of 994 bytes, which takes as many turns.
+pub(super) static STATEMENT: &str = "x=0`+0`;";

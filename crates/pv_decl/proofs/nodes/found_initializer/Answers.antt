@@ -3,8 +3,8 @@ use Rattle.pv_tree.specs.Nodes.{initializer_of}
 use Rattle.pv_tree.specs.Rows.{tables}
 use Rattle.pv_tree.specs.Syntax.{OfInitializer}
 use Rattle.pv_tree.specs.Tables.{is_initializer}
-use Rattle.pv_expr.proofs.Answered.{kept_same, kept_tree}
-use Rattle.pv_decl.proofs.Answered.{added}
+use Rattle.pv_expr_forms.proofs.Answered.{kept_same, kept_tree}
+use Rattle.pv_decl_forms.proofs.Answered.{added}
 use Rattle.pv_decl.proofs.nodes.found_initializer.Goals as goal
 
 pub returns-in_err-add_init-clause-keeps : goal.returns-in_err-add_init-clause-keeps

@@ -2,11 +2,11 @@ use Rattle.std.proofs.Common.{arith}
 use Rattle.std.proofs.lemmas.Result.{MatchResult-weaker}
 use Rattle.pv_tree.specs.Rows.{tables}
 use Rattle.pv_tree.proofs.Kept.{extends_same}
-use Rattle.pv_expr.specs.Known.{names_in}
+use Rattle.pv_expr_forms.specs.Known.{names_in}
+use Rattle.pv_decl_forms.proofs.Answered.{nothing}
+use Rattle.pv_decl_forms.proofs.Outer.{declaration_end, found, longest, only, none}
 use Rattle.pv_decl.specs.Filled.{list_map}
-use Rattle.pv_decl.proofs.Answered.{nothing}
 use Rattle.pv_decl.proofs.Givens.{given_tied, no_lists}
-use Rattle.pv_decl.proofs.Outer.{declaration_end, found, longest, only, none}
 use Rattle.pv_decl.proofs.parser.declaration.Goals as goal
 
 pub returns-then-at-len-clause-keeps : goal.returns-then-at-len-clause-keeps

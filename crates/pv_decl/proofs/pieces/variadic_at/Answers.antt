@@ -1,5 +1,5 @@
 use Rattle.std.proofs.Common.{◌∙◌, sym}
-use Rattle.pv_decl.proofs.Listing.{variadic_so}
+use Rattle.pv_decl_forms.proofs.Listing.{variadic_so}
 use Rattle.pv_decl.proofs.pieces.variadic_at.Goals as goal
 
 pub returns-clause-is : goal.returns-clause-is

@@ -1,9 +1,9 @@
 use Rattle.std.proofs.Common.{sym, ◌∙◌}
 use Rattle.pv_tree.specs.Rows.{tables}
 use Rattle.pv_tree.proofs.Kept.{extends_same}
-use Rattle.pv_expr.specs.Known.{names_in}
+use Rattle.pv_expr_forms.specs.Known.{names_in}
+use Rattle.pv_decl_forms.proofs.Answered.{moved, nothing}
 use Rattle.pv_decl.specs.Filled.{type_map}
-use Rattle.pv_decl.proofs.Answered.{moved, nothing}
 use Rattle.pv_decl.proofs.Filling.{entry_not, entry_so}
 use Rattle.pv_decl.proofs.type_table.entry.Goals as goal
 

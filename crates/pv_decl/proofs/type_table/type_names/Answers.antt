@@ -5,7 +5,7 @@ use Rattle.indexmap.specs.IndexSet.{contains}
 use Rattle.pv_tree.specs.Rows.{tables}
 use Rattle.pv_tree.specs.Units.{depth_limit}
 use Rattle.pv_tree.proofs.Kept.{extends_same, extends_then}
-use Rattle.pv_expr.specs.Known.{names_in}
+use Rattle.pv_expr_forms.specs.Known.{names_in}
 use Rattle.pv_decl.specs.Filled.{type_map, list_map}
 use Rattle.pv_decl.proofs.Filling.{cut_by, filled_none, filled_step, filled_kept, names_step, lists_step, filled_outside, filled_elsewhere, filled_whole}
 use Rattle.pv_decl.proofs.Givens.{given_tied, no_lists}

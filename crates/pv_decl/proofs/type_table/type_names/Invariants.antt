@@ -5,7 +5,7 @@ use Rattle.pv_tree.specs.Rows.{tables}
 use Rattle.pv_tree.specs.Tables.{Extends}
 use Rattle.pv_tree.specs.Units.{depth_limit}
 use Rattle.pv_decl.specs.Filled.{type_map, list_map}
-use Rattle.pv_decl.specs.Givens.{AreGiven}
+use Rattle.pv_decl_forms.specs.Givens.{AreGiven}
 use Rattle.pv_decl.proofs.Filling.{IsFilled}
 use Rattle.pv_decl.proofs.type_table.type_names.Given as goal
 

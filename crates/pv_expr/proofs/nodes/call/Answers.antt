@@ -1,6 +1,6 @@
 use Rattle.std.proofs.Common.{ap}
 use Rattle.pv_tree.specs.Rows.{tables}
-use Rattle.pv_expr.proofs.Answered.{kept_same}
+use Rattle.pv_expr_forms.proofs.Answered.{kept_same}
 use Rattle.pv_expr.proofs.nodes.call.Goals as goal
 
 pub returns-in_err-list-clause-keeps : goal.returns-in_err-list-clause-keeps

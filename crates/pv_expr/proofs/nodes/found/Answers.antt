@@ -2,7 +2,7 @@ use Rattle.std.proofs.Common.{ap}
 use Rattle.pv_tree.specs.Nodes.{expression_of}
 use Rattle.pv_tree.specs.Rows.{tables}
 use Rattle.pv_tree.specs.Syntax.{OfExpression}
-use Rattle.pv_expr.proofs.Answered.{kept_same, kept_tree, added}
+use Rattle.pv_expr_forms.proofs.Answered.{kept_same, kept_tree, added}
 use Rattle.pv_expr.proofs.nodes.found.Goals as goal
 
 pub returns-in_err-add_expr-clause-keeps : goal.returns-in_err-add_expr-clause-keeps

@@ -2,13 +2,13 @@ use Rattle.std.proofs.Common.{ℕ, ap, arith, drop}
 use Rattle.std.proofs.lemmas.Result.{MatchResult-weaker}
 use Rattle.pv_tree.specs.Rows.{tables}
 use Rattle.pv_tree.proofs.Kept.{extends_same}
-use Rattle.pv_expr.specs.Known.{names_in}
-use Rattle.pv_expr.specs.Numbers.{level_number}
-use Rattle.pv_expr.specs.Reader.{read}
-use Rattle.pv_expr.proofs.Answered.{moved}
-use Rattle.pv_expr.proofs.Listing.{read_end}
-use Rattle.pv_expr.proofs.Parsed.{found, longest, only, none}
-use Rattle.pv_expr.proofs.Readings.{nothing}
+use Rattle.pv_expr_forms.specs.Known.{names_in}
+use Rattle.pv_expr_forms.specs.Numbers.{level_number}
+use Rattle.pv_expr_forms.specs.Reader.{read}
+use Rattle.pv_expr_forms.proofs.Answered.{moved}
+use Rattle.pv_expr_forms.proofs.Listing.{read_end}
+use Rattle.pv_expr_forms.proofs.Parsed.{found, longest, only, none}
+use Rattle.pv_expr_forms.proofs.Readings.{nothing}
 use Rattle.pv_expr.proofs.parser.expression.Goals as goal
 
 pub returns-then-at-len-clause-keeps : goal.returns-then-at-len-clause-keeps

@@ -3,7 +3,7 @@ use Rattle.pv_lex.specs.Pieces.{Here}
 use Rattle.pv_lex.specs.Stands.{stands}
 use Rattle.pv_lex.specs.Views.{stand_of, what_of}
 use Rattle.pv_lex.proofs.Moving.{moves_stands}
-use Rattle.pv_lex.proofs.Cutting.{cut_goes_on}
+use Rattle.pv_lex.proofs.Cutting.{cut_goes_on, cut_ends, cut_faults}
 use Rattle.pv_lex.proofs.Telling.{tells_known}
 use Rattle.pv_lex.proofs.Fitting.{cut_count, cut_room, cut_fault_lies}
 use Rattle.pv_lex.proofs.lexing.tokens.Goals as goal
@@ -30,6 +30,12 @@ pieces-preserved c =
       lines = omega (arith, line, c.line_behind-next_line.ensures, c.pieces.invariant.lines, c.pieces.invariant.room);
       cut = rw (c.line_behind-next_line.ensures, c.fresh_behind-next_fresh.ensures) (cut_goes_on c.args.bytes.now c.pieces.out c.add.new.self (record { text = c.pieces.rest.now; line = c.pieces.line; fresh = c.pieces.fresh }) (record { what = what_of c.in-Here.found; after = c.in-Here.after.now }) _ c.pieces.invariant.cut here refl c.in_ok-add-in-Here.ensures);
     }
+
+pub returns-in-End-clause-whole : goal.returns-in-End-clause-whole
+returns-in-End-clause-whole c = cut_ends c.args.bytes.now c.pieces.out (record { text = c.pieces.rest.now; line = c.pieces.line; fresh = c.pieces.fresh }) c.pieces.invariant.cut (sym c.in_ok-stand.ensures ∙ ap stand_of c.in-End.is)
+
+pub returns-in-Bad-clause-fault : goal.returns-in-Bad-clause-fault
+returns-in-Bad-clause-fault c = rw c.error_at.ensures (cut_faults c.args.bytes.now c.pieces.out (record { text = c.pieces.rest.now; line = c.pieces.line; fresh = c.pieces.fresh }) c.in-Bad.fault _ c.pieces.invariant.cut (sym c.in_ok-stand.ensures ∙ ap stand_of c.in-Bad.is) refl)
 
 pub returns-in-End-clause-count : goal.returns-in-End-clause-count
 returns-in-End-clause-count c = omega (arith, cut_count c.args.bytes.now c.pieces.out _ c.pieces.invariant.cut)

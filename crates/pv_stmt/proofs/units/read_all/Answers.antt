@@ -1,7 +1,7 @@
 use Rattle.std.proofs.Common.{arith, nat_eq}
 use Rattle.indexmap.specs.IndexSet.{contains}
 use Rattle.pv_tree.specs.Rows.{tables}
-use Rattle.pv_stmt.proofs.OuterSteps.{read_ends, read_forward, read_goes, one_there}
+use Rattle.pv_stmt_forms.proofs.OuterSteps.{read_ends, read_forward, read_goes, one_there}
 use Rattle.pv_stmt.proofs.units.read_all.Goals as goal
 
 pub loop-types-smaller : goal.loop-types-smaller

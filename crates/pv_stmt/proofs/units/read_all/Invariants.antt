@@ -1,7 +1,7 @@
 use Rattle.std.proofs.Common.{◌-◌, length, nat_eq}
 use Rattle.indexmap.specs.IndexSet.{contains}
 use Rattle.pv_tree.specs.Rows.{tables}
-use Rattle.pv_stmt.proofs.OuterSteps.{ReadSoFar}
+use Rattle.pv_stmt_forms.proofs.OuterSteps.{ReadSoFar}
 use Rattle.pv_stmt.proofs.units.read_all.Given as goal
 
 abbrev pub invariant-loop-types : goal.invariant-loop-types

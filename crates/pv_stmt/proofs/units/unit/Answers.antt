@@ -1,6 +1,6 @@
 use Rattle.std.proofs.Common.{arith}
 use Rattle.pv_tree.specs.Rows.{tables}
-use Rattle.pv_stmt.proofs.OuterSteps.{spelled_by, only_by, refused_by}
+use Rattle.pv_stmt_forms.proofs.OuterSteps.{spelled_by, only_by, refused_by}
 use Rattle.pv_stmt.proofs.units.unit.Goals as goal
 
 pub returns-clause-spelled : goal.returns-clause-spelled

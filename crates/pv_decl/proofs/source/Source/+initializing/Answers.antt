@@ -1,4 +1,5 @@
 use Rattle.std.proofs.Common.{◌∙◌, ◌≤◌, ap, drop, length, arith, ℕ, List, Some}
+use Rattle.std.proofs.lemmas.Result.{IfOk-from_err}
 use Rattle.pv_lex.specs.declared.token_table.Token.{Token}
 use Rattle.pv_tree.specs.declared.nodes.NodeId.{NodeId}
 use Rattle.pv_tree.specs.Rows.{tables}
@@ -6,12 +7,13 @@ use Rattle.pv_tree.specs.Places.{Initializers}
 use Rattle.pv_tree.specs.Syntax.{Initial, Braces, Tree, Trees, OfInitializer}
 use Rattle.pv_tree.specs.Tables.{expression_at, trees_of, is_initializer}
 use Rattle.pv_tree.proofs.Kept.{extends_same, extends_then}
-use Rattle.pv_expr.specs.Known.{names_in}
-use Rattle.pv_decl.specs.Pieces.{listed}
-use Rattle.pv_decl.specs.Reader.{listed_in_braces, readers}
-use Rattle.pv_decl.proofs.Answered.{moved, nothing}
-use Rattle.pv_decl.proofs.Initials.{initializer_zero, initializer_braced, initializer_some, initializer_none}
-use Rattle.pv_decl.proofs.Loops.{parts_shorten, commas_shorten, at_start, no_parts, start_list, goes_forward, part_there, parts_there, list_ends, list_stops, list_goes, comma_forward}
+use Rattle.pv_expr_forms.specs.Known.{names_in}
+use Rattle.pv_decl_forms.specs.Pieces.{listed}
+use Rattle.pv_decl_forms.specs.Reader.{listed_in_braces, readers}
+use Rattle.pv_decl_forms.proofs.Growing.{all_as}
+use Rattle.pv_decl_forms.proofs.Answered.{moved, nothing}
+use Rattle.pv_decl_forms.proofs.Initials.{initializer_zero, initializer_braced, initializer_some, initializer_none}
+use Rattle.pv_decl_forms.proofs.Loops.{parts_shorten, commas_shorten, at_start, no_parts, start_list, goes_forward, part_there, parts_there, list_ends, list_stops, list_goes, comma_forward}
 use Rattle.pv_decl.specs.Filled.{list_map}
 use Rattle.pv_decl.proofs.Givens.{given_kept}
 use Rattle.pv_decl.proofs.source.Source.+initializing.Goals as goal
@@ -75,3 +77,63 @@ initializers-loop-parts-preserved g t c =
 
 pub initializers-returns-in-None-clause-ok : goal.initializers-returns-in-None-clause-ok
 initializers-returns-in-None-clause-ok g t c = list_stops is_initializer (tables c.loop-parts.into) (tables c.initializer.new.into) c.initializer.ensures.keeps c.args.self.now.tokens.now.tokens (readers (names_in c.args.self.now.typedefs.now (g.R.TypeReader.types c.args.self.now.reader.now) (tables c.args.into.now) c.args.self.now.tokens.now.tokens) c.args.depth Initializers) c.loop-parts.parts.items c.loop-parts.invariant.nodes c.loop-parts.next c.loop-parts.invariant.place c.in_ok-found.field-0 (at_start c.args.self.now.typedefs.now (g.R.TypeReader.types c.args.self.now.reader.now) (tables c.args.into.now) (tables c.loop-parts.into) (tables c.initializer.new.into) c.args.self.now.tokens.now.tokens c.requires.tied.tied c.loop-parts.invariant.keeps is_initializer c.in_ok-found.field-0 (λ n. readers n c.args.depth Initializers (drop c.loop-parts.next c.args.self.now.tokens.now.tokens)) c.in_ok-found.ensures.ok) (commas_shorten c.args.self.now.typedefs.now (g.R.TypeReader.types c.args.self.now.reader.now) (tables c.args.into.now) c.args.self.now.tokens.now.tokens c.requires.tied.tied c.args.depth Initializers) c.loop-parts.behind c.loop-parts.invariant.where_behind (listed (readers (names_in c.args.self.now.typedefs.now (g.R.TypeReader.types c.args.self.now.reader.now) (tables c.args.into.now) c.args.self.now.tokens.now.tokens) c.args.depth Initializers) (drop c.args.at c.args.self.now.tokens.now.tokens)) c.loop-parts.invariant.same c.in-Some.found c.in-Some.end c.in-Some.is c.push.new.self.items c.in_ok-push.ensures.items c.in-None.ensures
+
+pub initializer-returns-then-depth-eq0-clause-keeps : goal.initializer-returns-then-depth-eq0-clause-keeps
+initializer-returns-then-depth-eq0-clause-keeps g t c = extends_same _
+
+pub initializer-line_at-line-requires : goal.initializer-line_at-line-requires
+initializer-line_at-line-requires g t c = c.requires.place
+
+pub initializer-after-requires : goal.initializer-after-requires
+initializer-after-requires g t c = c.requires.place
+
+pub initializer-returns-in_err-parts-clause-keeps : goal.initializer-returns-in_err-parts-clause-keeps
+initializer-returns-in_err-parts-clause-keeps g t c = c.initializers.ensures.keeps
+
+pub initializer-braces_of-requires-clause-place : goal.initializer-braces_of-requires-clause-place
+initializer-braces_of-requires-clause-place g t c = c.in_ok-parts.ensures.ok.place
+
+pub initializer-braces_of-requires-clause-inits : goal.initializer-braces_of-requires-clause-inits
+initializer-braces_of-requires-clause-inits g t c = all_as (tables c.initializers.new.into) is_initializer _ _ c.deref.ensures.value c.in_ok-parts.ensures.ok.there
+
+pub initializer-returns-in-Some-clause-keeps : goal.initializer-returns-in-Some-clause-keeps
+initializer-returns-in-Some-clause-keeps g t c = extends_then _ _ _ c.initializers.ensures.keeps c.braces_of.ensures.keeps
+
+pub initializer-assigned-requires-clause-place : goal.initializer-assigned-requires-clause-place
+initializer-assigned-requires-clause-place g t c = c.requires.place
+
+pub initializer-assigned-requires-clause-tied : goal.initializer-assigned-requires-clause-tied
+initializer-assigned-requires-clause-tied g t c = c.requires.tied
+
+pub initializer-returns-in_err-value-clause-keeps : goal.initializer-returns-in_err-value-clause-keeps
+initializer-returns-in_err-value-clause-keeps g t c = c.assigned.ensures.keeps
+
+pub initializer-returns-in-Some-2-clause-keeps : goal.initializer-returns-in-Some-2-clause-keeps
+initializer-returns-in-Some-2-clause-keeps g t c = extends_then _ _ _ c.assigned.ensures.keeps c.found_initializer.ensures.keeps
+
+pub initializer-returns-in-None-clause-keeps : goal.initializer-returns-in-None-clause-keeps
+initializer-returns-in-None-clause-keeps g t c = c.assigned.ensures.keeps
+
+pub initializers-returns-in_err-found-clause-keeps : goal.initializers-returns-in_err-found-clause-keeps
+initializers-returns-in_err-found-clause-keeps g t c = extends_then _ _ _ c.loop-parts.invariant.keeps c.initializer.ensures.keeps
+
+pub initializers-returns-in_default-clause-keeps : goal.initializers-returns-in_default-clause-keeps
+initializers-returns-in_default-clause-keeps g t c = extends_then _ _ _ c.loop-parts.invariant.keeps c.initializer.ensures.keeps
+
+pub initializers-returns-in_err-push-clause-keeps : goal.initializers-returns-in_err-push-clause-keeps
+initializers-returns-in_err-push-clause-keeps g t c = extends_then _ _ _ c.loop-parts.invariant.keeps c.initializer.ensures.keeps
+
+pub initializers-returns-in-None-clause-keeps : goal.initializers-returns-in-None-clause-keeps
+initializers-returns-in-None-clause-keeps g t c = extends_then _ _ _ c.loop-parts.invariant.keeps c.initializer.ensures.keeps
+
+pub initializer-returns-in_err-parts-clause-ok : goal.initializer-returns-in_err-parts-clause-ok
+initializer-returns-in_err-parts-clause-ok g t c = IfOk-from_err _ _ c.from_residual.ensures.0
+
+pub initializer-returns-in_err-value-clause-ok : goal.initializer-returns-in_err-value-clause-ok
+initializer-returns-in_err-value-clause-ok g t c = IfOk-from_err _ _ c.from_residual-in_err-value.ensures.0
+
+pub initializers-returns-in_err-found-clause-ok : goal.initializers-returns-in_err-found-clause-ok
+initializers-returns-in_err-found-clause-ok g t c = IfOk-from_err _ _ c.from_residual.ensures.0
+
+pub initializers-returns-in_err-push-clause-ok : goal.initializers-returns-in_err-push-clause-ok
+initializers-returns-in_err-push-clause-ok g t c = IfOk-from_err _ _ c.from_residual-in_err-push.ensures.0

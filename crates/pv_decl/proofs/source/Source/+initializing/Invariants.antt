@@ -2,11 +2,11 @@ use Rattle.std.proofs.Common.{◌≡◌, ◌≤◌, ◌+◌, ◌-◌, ◌*◌, A
 use Rattle.pv_tree.specs.Rows.{tables}
 use Rattle.pv_tree.specs.Places.{Initializers}
 use Rattle.pv_tree.specs.Tables.{trees_of, is_initializer, Is, Extends}
-use Rattle.pv_expr.specs.Known.{names_in}
-use Rattle.pv_decl.specs.Pieces.{row_on, row, after_comma, listed}
-use Rattle.pv_decl.specs.Reader.{readers}
+use Rattle.pv_expr_forms.specs.Known.{names_in}
+use Rattle.pv_decl_forms.specs.Pieces.{row_on, row, after_comma, listed}
+use Rattle.pv_decl_forms.specs.Reader.{readers}
 use Rattle.pv_decl.specs.Filled.{list_map}
-use Rattle.pv_decl.specs.Givens.{AreGiven}
+use Rattle.pv_decl_forms.specs.Givens.{AreGiven}
 use Rattle.pv_decl.proofs.source.Source.+initializing.Given as goal
 
 abbrev pub decreases-initializer : goal.decreases-initializer

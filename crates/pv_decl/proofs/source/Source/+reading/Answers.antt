@@ -1,4 +1,5 @@
 use Rattle.std.proofs.Common.{◌≡◌, ◌∙◌, ◌+◌, ◌≤◌, ℕ, Option, Result, List, IfOk, sym, ap, drop, length, arith, refl, rules, subst}
+use Rattle.std.proofs.lemmas.Result.{IfOk-from_err}
 use Rattle.pv_lex.specs.declared.token_table.Token.{Token}
 use Rattle.pv_tree.specs.declared.nodes.NodeId.{NodeId}
 use Rattle.pv_tree.specs.Rows.{tables}
@@ -6,24 +7,24 @@ use Rattle.pv_tree.specs.Places.{Place}
 use Rattle.pv_tree.specs.Syntax.{Composite, Enumeration, OfSpecifier, Trees, NoTrees}
 use Rattle.pv_tree.specs.Tables.{Tables, trees_of, tree_at, is_declaration, is_declarator, is_specifier}
 use Rattle.pv_tree.proofs.Kept.{extends_same, extends_then}
-use Rattle.pv_expr.specs.Known.{names_in}
-use Rattle.pv_decl.specs.declared.forms.Part.{Part}
-use Rattle.pv_decl.specs.declared.forms.Part.TheVariants as part
-use Rattle.pv_decl.specs.Answers.{Answers}
-use Rattle.pv_decl.specs.Declarators.{grown, longer}
-use Rattle.pv_decl.specs.Parts.{kind_of_part, place_of_part, word_of_composite, word_of_tag, within}
-use Rattle.pv_decl.specs.Pieces.{Piece, row, listed}
-use Rattle.pv_decl.specs.Reader.{listed_in_braces, row_in_braces, readers}
-use Rattle.pv_decl.proofs.Answered.{moved, nothing, got}
-use Rattle.pv_decl.proofs.Bracing.{specifier_end, specifier_plain, specifier_tagged, tagged_braced, tagged_alone, no_brace, no_depth, enumerators_in, members_in}
-use Rattle.pv_decl.proofs.Growing.{head_end, head_other, head_named, head_star, head_paren, head_bracket, named_in, pointer_is, opened_function, opened_not, opened_within, longer_not, longer_end, longer_none, longer_other, longer_bracket, longer_paren, some_kept, all_as, parametrized_is, grew, grew_out, no_declarators, declarator_none, declarator_some}
-use Rattle.pv_decl.proofs.Loops.{parts_shorten, commas_shorten, at_start, no_parts, start_row, start_list, goes_forward, part_there, parts_there, row_ends, row_goes, list_ends, list_stops, list_goes, comma_forward, all_kept}
-use Rattle.pv_decl.proofs.Members.{counted, no_parameters, member_ends, member_goes, parameter_ends, parameter_goes}
-use Rattle.pv_decl.proofs.Steps.{longer_goes, grown_next}
+use Rattle.pv_expr_forms.specs.Known.{names_in}
+use Rattle.pv_decl_forms.specs.declared.forms.Part.{Part}
+use Rattle.pv_decl_forms.specs.declared.forms.Part.TheVariants as part
+use Rattle.pv_decl_forms.specs.Answers.{Answers}
+use Rattle.pv_decl_forms.specs.Declarators.{grown, longer}
+use Rattle.pv_decl_forms.specs.Parts.{kind_of_part, place_of_part, word_of_composite, word_of_tag, within}
+use Rattle.pv_decl_forms.specs.Pieces.{Piece, row, listed}
+use Rattle.pv_decl_forms.specs.Reader.{listed_in_braces, row_in_braces, readers}
+use Rattle.pv_decl_forms.proofs.Answered.{moved, nothing, got}
+use Rattle.pv_decl_forms.proofs.Bracing.{specifier_end, specifier_plain, specifier_tagged, tagged_braced, tagged_alone, no_brace, no_depth, enumerators_in, members_in}
+use Rattle.pv_decl_forms.proofs.Growing.{head_end, head_other, head_named, head_star, head_paren, head_bracket, named_in, pointer_is, opened_function, opened_not, opened_within, longer_not, longer_end, longer_none, longer_other, longer_bracket, longer_paren, some_kept, all_as, parametrized_is, grew, grew_out, no_declarators, declarator_none, declarator_some}
+use Rattle.pv_decl_forms.proofs.Loops.{parts_shorten, commas_shorten, at_start, no_parts, start_row, start_list, goes_forward, part_there, parts_there, row_ends, row_goes, list_ends, list_stops, list_goes, comma_forward, all_kept}
+use Rattle.pv_decl_forms.proofs.Members.{counted, no_parameters, member_ends, member_goes, parameter_ends, parameter_goes}
+use Rattle.pv_decl_forms.proofs.Steps.{longer_goes, grown_next}
 use Rattle.pv_decl.specs.Filled.{list_map}
 use Rattle.pv_decl.proofs.Givens.{given_kept}
-use Rattle.pv_decl.proofs.source.Source.+reading.Goals as goal
 use Rattle.pv_decl.proofs.source.Source.+reading.Invariants.{height}
+use Rattle.pv_decl.proofs.source.Source.+reading.Goals as goal
 
 -- ---- a part
 
@@ -342,3 +343,335 @@ opened-returns-in_ok-inner-clause-ok g t c = moved _ _ _ _ _ _ (opened_within (n
 
 pub opened-parenthesized-requires : goal.opened-parenthesized-requires
 opened-parenthesized-requires g t c = c.in_ok-inner.ensures.ok.there
+
+-- ---- what older nodes are kept, and where the parts are
+
+pub braced-after-requires : goal.braced-after-requires
+braced-after-requires g t c = c.requires.place
+
+pub braced-returns-in_default-clause-keeps : goal.braced-returns-in_default-clause-keeps
+braced-returns-in_default-clause-keeps g t c = extends_same _
+
+pub braced-returns-then-depth-eq0-clause-keeps : goal.braced-returns-then-depth-eq0-clause-keeps
+braced-returns-then-depth-eq0-clause-keeps g t c = extends_same _
+
+pub braced-returns-in-Enum-clause-keeps : goal.braced-returns-in-Enum-clause-keeps
+braced-returns-in-Enum-clause-keeps g t c = c.enumerators.ensures.keeps
+
+pub braced-returns-in-Composite-clause-keeps : goal.braced-returns-in-Composite-clause-keeps
+braced-returns-in-Composite-clause-keeps g t c = c.members.ensures.keeps
+
+pub declarator-returns-then-depth-eq0-clause-keeps : goal.declarator-returns-then-depth-eq0-clause-keeps
+declarator-returns-then-depth-eq0-clause-keeps g t c = extends_same _
+
+pub declarator-line_at-line-requires : goal.declarator-line_at-line-requires
+declarator-line_at-line-requires g t c = c.requires.place
+
+pub declarator-returns-in_err-first-clause-keeps : goal.declarator-returns-in_err-first-clause-keeps
+declarator-returns-in_err-first-clause-keeps g t c = c.head.ensures.keeps
+
+pub declarator-returns-in-Some-clause-keeps : goal.declarator-returns-in-Some-clause-keeps
+declarator-returns-in-Some-clause-keeps g t c = extends_then _ _ _ c.head.ensures.keeps c.grow.ensures.keeps
+
+pub declarator-returns-in-None-clause-keeps : goal.declarator-returns-in-None-clause-keeps
+declarator-returns-in-None-clause-keeps g t c = c.head.ensures.keeps
+
+pub enumerators-returns-in_err-parts-clause-keeps : goal.enumerators-returns-in_err-parts-clause-keeps
+enumerators-returns-in_err-parts-clause-keeps g t c = c.listed.ensures.keeps
+
+pub enumerators-enumeration-requires-clause-place : goal.enumerators-enumeration-requires-clause-place
+enumerators-enumeration-requires-clause-place g t c = c.in_ok-parts.ensures.ok.place
+
+pub enumerators-returns-clause-keeps : goal.enumerators-returns-clause-keeps
+enumerators-returns-clause-keeps g t c = extends_then _ _ _ c.listed.ensures.keeps c.enumeration.ensures.keeps
+
+pub extend-may_go_on-requires : goal.extend-may_go_on-requires
+extend-may_go_on-requires g t c = c.requires.node
+
+pub extend-returns-then-not-may_go_on-clause-keeps : goal.extend-returns-then-not-may_go_on-clause-keeps
+extend-returns-then-not-may_go_on-clause-keeps g t c = extends_same _
+
+pub extend-peek-requires : goal.extend-peek-requires
+extend-peek-requires g t c = c.requires.place
+
+pub extend-returns-in_default-clause-keeps : goal.extend-returns-in_default-clause-keeps
+extend-returns-in_default-clause-keeps g t c = extends_same _
+
+pub extend-returns-in_default-opening_of-clause-keeps : goal.extend-returns-in_default-opening_of-clause-keeps
+extend-returns-in_default-opening_of-clause-keeps g t c = extends_same _
+
+pub extend-array-requires-clause-place : goal.extend-array-requires-clause-place
+extend-array-requires-clause-place g t c = omega (arith, c.in-Some.ensures.1)
+
+pub extend-array-requires-clause-tied : goal.extend-array-requires-clause-tied
+extend-array-requires-clause-tied g t c = c.requires.tied
+
+pub extend-array-requires-clause-left : goal.extend-array-requires-clause-left
+extend-array-requires-clause-left g t c = c.requires.node
+
+pub extend-returns-in-Bracket-clause-keeps : goal.extend-returns-in-Bracket-clause-keeps
+extend-returns-in-Bracket-clause-keeps g t c = c.array.ensures.keeps
+
+pub extend-returns-in-Paren-clause-keeps : goal.extend-returns-in-Paren-clause-keeps
+extend-returns-in-Paren-clause-keeps g t c = c.parameters.ensures.keeps
+
+pub extend-returns-in_default-opening-clause-keeps : goal.extend-returns-in_default-opening-clause-keeps
+extend-returns-in_default-opening-clause-keeps g t c = extends_same _
+
+pub grow-returns-in_err-longer-clause-keeps : goal.grow-returns-in_err-longer-clause-keeps
+grow-returns-in_err-longer-clause-keeps g t c = extends_then _ _ _ c.loop-longer.invariant.keeps c.extend.ensures.keeps
+
+pub grow-returns-in-None-clause-keeps : goal.grow-returns-in-None-clause-keeps
+grow-returns-in-None-clause-keeps g t c = extends_then _ _ _ c.loop-longer.invariant.keeps c.extend.ensures.keeps
+
+pub head-peek-requires : goal.head-peek-requires
+head-peek-requires g t c = c.requires.place
+
+pub head-returns-in_default-clause-keeps : goal.head-returns-in_default-clause-keeps
+head-returns-in_default-clause-keeps g t c = extends_same _
+
+pub head-returns-in_default-opening_of-clause-keeps : goal.head-returns-in_default-opening_of-clause-keeps
+head-returns-in_default-opening_of-clause-keeps g t c = extends_same _
+
+pub head-named-requires : goal.head-named-requires
+head-named-requires g t c = omega (arith, c.in-Some.ensures.1)
+
+pub head-abstract_array-requires-clause-place : goal.head-abstract_array-requires-clause-place
+head-abstract_array-requires-clause-place g t c = omega (arith, c.in-Some.ensures.1)
+
+pub head-abstract_array-requires-clause-tied : goal.head-abstract_array-requires-clause-tied
+head-abstract_array-requires-clause-tied g t c = c.requires.tied
+
+pub head-returns-in-Name-clause-keeps : goal.head-returns-in-Name-clause-keeps
+head-returns-in-Name-clause-keeps g t c = c.named.ensures.keeps
+
+pub head-returns-in-Star-clause-keeps : goal.head-returns-in-Star-clause-keeps
+head-returns-in-Star-clause-keeps g t c = c.pointer.ensures.keeps
+
+pub head-returns-in-Paren-clause-keeps : goal.head-returns-in-Paren-clause-keeps
+head-returns-in-Paren-clause-keeps g t c = c.opened.ensures.keeps
+
+pub head-returns-in-Bracket-clause-keeps : goal.head-returns-in-Bracket-clause-keeps
+head-returns-in-Bracket-clause-keeps g t c = c.abstract_array.ensures.keeps
+
+pub listed-returns-in_err-found-clause-keeps : goal.listed-returns-in_err-found-clause-keeps
+listed-returns-in_err-found-clause-keeps g t c = extends_then _ _ _ c.loop-parts.invariant.keeps c.read.ensures.keeps
+
+pub listed-returns-in_default-clause-keeps : goal.listed-returns-in_default-clause-keeps
+listed-returns-in_default-clause-keeps g t c = extends_then _ _ _ c.loop-parts.invariant.keeps c.read.ensures.keeps
+
+pub listed-returns-in_err-push-clause-keeps : goal.listed-returns-in_err-push-clause-keeps
+listed-returns-in_err-push-clause-keeps g t c = extends_then _ _ _ c.loop-parts.invariant.keeps c.read.ensures.keeps
+
+pub listed-returns-in-None-clause-keeps : goal.listed-returns-in-None-clause-keeps
+listed-returns-in-None-clause-keeps g t c = extends_then _ _ _ c.loop-parts.invariant.keeps c.read.ensures.keeps
+
+pub member-line_at-line-requires : goal.member-line_at-line-requires
+member-line_at-line-requires g t c = c.requires.place
+
+pub member-returns-in_err-specs-clause-keeps : goal.member-returns-in_err-specs-clause-keeps
+member-returns-in_err-specs-clause-keeps g t c = c.row.ensures.keeps
+
+pub member-returns-then-is_empty-clause-keeps : goal.member-returns-then-is_empty-clause-keeps
+member-returns-then-is_empty-clause-keeps g t c = c.row.ensures.keeps
+
+pub member-returns-in_err-declarators-clause-keeps : goal.member-returns-in_err-declarators-clause-keeps
+member-returns-in_err-declarators-clause-keeps g t c = extends_then _ _ _ c.row.ensures.keeps c.listed.ensures.keeps
+
+pub member-member_of-requires-clause-place : goal.member-member_of-requires-clause-place
+member-member_of-requires-clause-place g t c = c.in_ok-declarators.ensures.ok.place
+
+pub member-returns-clause-keeps : goal.member-returns-clause-keeps
+member-returns-clause-keeps g t c = extends_then _ _ _ (extends_then _ _ _ c.row.ensures.keeps c.listed.ensures.keeps) c.member_of.ensures.keeps
+
+pub members-returns-in_err-parts-clause-keeps : goal.members-returns-in_err-parts-clause-keeps
+members-returns-in_err-parts-clause-keeps g t c = c.row.ensures.keeps
+
+pub members-composite-requires-clause-place : goal.members-composite-requires-clause-place
+members-composite-requires-clause-place g t c = c.in_ok-parts.ensures.ok.place
+
+pub members-returns-clause-keeps : goal.members-returns-clause-keeps
+members-returns-clause-keeps g t c = extends_then _ _ _ c.row.ensures.keeps c.composite.ensures.keeps
+
+pub opened-opens_parameters-requires : goal.opened-opens_parameters-requires
+opened-opens_parameters-requires g t c = c.requires.place
+
+pub opened-returns-in_err-inner-clause-keeps : goal.opened-returns-in_err-inner-clause-keeps
+opened-returns-in_err-inner-clause-keeps g t c = c.read.ensures.keeps
+
+pub opened-returns-then-allows_abstract-clause-keeps : goal.opened-returns-then-allows_abstract-clause-keeps
+opened-returns-then-allows_abstract-clause-keeps g t c = c.parameters.ensures.keeps
+
+pub opened-returns-else-allows_abstract-clause-keeps : goal.opened-returns-else-allows_abstract-clause-keeps
+opened-returns-else-allows_abstract-clause-keeps g t c = extends_same _
+
+pub opened-returns-in_ok-inner-clause-keeps : goal.opened-returns-in_ok-inner-clause-keeps
+opened-returns-in_ok-inner-clause-keeps g t c = extends_then _ _ _ c.read.ensures.keeps c.parenthesized.ensures.keeps
+
+pub parameter-returns-then-depth-eq0-clause-keeps : goal.parameter-returns-then-depth-eq0-clause-keeps
+parameter-returns-then-depth-eq0-clause-keeps g t c = extends_same _
+
+pub parameter-line_at-line-requires : goal.parameter-line_at-line-requires
+parameter-line_at-line-requires g t c = c.requires.place
+
+pub parameter-returns-in_err-specs-clause-keeps : goal.parameter-returns-in_err-specs-clause-keeps
+parameter-returns-in_err-specs-clause-keeps g t c = c.row.ensures.keeps
+
+pub parameter-returns-then-is_empty-clause-keeps : goal.parameter-returns-then-is_empty-clause-keeps
+parameter-returns-then-is_empty-clause-keeps g t c = c.row.ensures.keeps
+
+pub parameter-returns-in_err-declarator-clause-keeps : goal.parameter-returns-in_err-declarator-clause-keeps
+parameter-returns-in_err-declarator-clause-keeps g t c = extends_then _ _ _ c.row.ensures.keeps c.read.ensures.keeps
+
+pub parameter-parameter_of-requires-clause-place : goal.parameter-parameter_of-requires-clause-place
+parameter-parameter_of-requires-clause-place g t c = c.in_ok-specs.ensures.ok.place
+
+pub parameter-returns-clause-keeps : goal.parameter-returns-clause-keeps
+parameter-returns-clause-keeps g t c = extends_then _ _ _ (extends_then _ _ _ c.row.ensures.keeps c.read.ensures.keeps) c.parameter_of.ensures.keeps
+
+pub parameters-known_parameters-requires-clause-place : goal.parameters-known_parameters-requires-clause-place
+parameters-known_parameters-requires-clause-place g t c = c.requires.place
+
+pub parameters-known_parameters-requires-clause-tied : goal.parameters-known_parameters-requires-clause-tied
+parameters-known_parameters-requires-clause-tied g t c = c.requires.tied
+
+pub parameters-known_parameters-requires-clause-left : goal.parameters-known_parameters-requires-clause-left
+parameters-known_parameters-requires-clause-left g t c = c.requires.left
+
+pub parameters-returns-in-Some-clause-keeps : goal.parameters-returns-in-Some-clause-keeps
+parameters-returns-in-Some-clause-keeps g t c = c.known_parameters.ensures.keeps
+
+pub parameters-returns-in-Some-clause-ok : goal.parameters-returns-in-Some-clause-ok
+parameters-returns-in-Some-clause-ok g t c = c.known_parameters.ensures.ok
+
+pub parameters-returns-clause-keeps : goal.parameters-returns-clause-keeps
+parameters-returns-clause-keeps g t c = c.unknown_parameters.ensures.keeps
+
+pub parameters-returns-clause-ok : goal.parameters-returns-clause-ok
+parameters-returns-clause-ok g t c = c.unknown_parameters.ensures.ok
+
+pub pointer-consts_in_row-consts-requires : goal.pointer-consts_in_row-consts-requires
+pointer-consts_in_row-consts-requires g t c = c.requires.place
+
+pub pointer-returns-in_err-inner-clause-keeps : goal.pointer-returns-in_err-inner-clause-keeps
+pointer-returns-in_err-inner-clause-keeps g t c = c.read.ensures.keeps
+
+pub pointer-pointed-requires-clause-place : goal.pointer-pointed-requires-clause-place
+pointer-pointed-requires-clause-place g t c = c.consts_in_row-consts.ensures.place
+
+pub pointer-returns-clause-keeps : goal.pointer-returns-clause-keeps
+pointer-returns-clause-keeps g t c = extends_then _ _ _ c.read.ensures.keeps c.pointed.ensures.keeps
+
+pub read-enumerator-requires-clause-place : goal.read-enumerator-requires-clause-place
+read-enumerator-requires-clause-place g t c = c.requires.place
+
+pub read-enumerator-requires-clause-tied : goal.read-enumerator-requires-clause-tied
+read-enumerator-requires-clause-tied g t c = c.requires.tied
+
+pub read-returns-in-Specifier-clause-keeps : goal.read-returns-in-Specifier-clause-keeps
+read-returns-in-Specifier-clause-keeps g t c = c.specifier.ensures.keeps
+
+pub read-returns-in-Member-clause-keeps : goal.read-returns-in-Member-clause-keeps
+read-returns-in-Member-clause-keeps g t c = c.member.ensures.keeps
+
+pub read-returns-in-Enumerator-clause-keeps : goal.read-returns-in-Enumerator-clause-keeps
+read-returns-in-Enumerator-clause-keeps g t c = c.enumerator.ensures.keeps
+
+pub read-returns-in-Parameter-clause-keeps : goal.read-returns-in-Parameter-clause-keeps
+read-returns-in-Parameter-clause-keeps g t c = c.parameter.ensures.keeps
+
+pub read-returns-in-Declarator-clause-keeps : goal.read-returns-in-Declarator-clause-keeps
+read-returns-in-Declarator-clause-keeps g t c = c.declarator.ensures.keeps
+
+pub row-returns-in_err-found-clause-keeps : goal.row-returns-in_err-found-clause-keeps
+row-returns-in_err-found-clause-keeps g t c = extends_then _ _ _ c.loop-parts.invariant.keeps c.read.ensures.keeps
+
+pub row-returns-in_default-clause-keeps : goal.row-returns-in_default-clause-keeps
+row-returns-in_default-clause-keeps g t c = extends_then _ _ _ c.loop-parts.invariant.keeps c.read.ensures.keeps
+
+pub row-returns-in_err-push-clause-keeps : goal.row-returns-in_err-push-clause-keeps
+row-returns-in_err-push-clause-keeps g t c = extends_then _ _ _ c.loop-parts.invariant.keeps c.read.ensures.keeps
+
+pub specifier-peek-requires : goal.specifier-peek-requires
+specifier-peek-requires g t c = c.requires.place
+
+pub specifier-returns-in_default-clause-keeps : goal.specifier-returns-in_default-clause-keeps
+specifier-returns-in_default-clause-keeps g t c = extends_same _
+
+pub specifier-returns-in_default-tag_word-clause-keeps : goal.specifier-returns-in_default-tag_word-clause-keeps
+specifier-returns-in_default-tag_word-clause-keeps g t c = c.plain.ensures.keeps
+
+pub specifier-returns-clause-keeps : goal.specifier-returns-clause-keeps
+specifier-returns-clause-keeps g t c = c.tagged.ensures.keeps
+
+pub tagged-tag_at-tag-requires : goal.tagged-tag_at-tag-requires
+tagged-tag_at-tag-requires g t c = c.requires.place
+
+pub tagged-returns-in_err-found-clause-keeps : goal.tagged-returns-in_err-found-clause-keeps
+tagged-returns-in_err-found-clause-keeps g t c = c.braced.ensures.keeps
+
+pub tagged-tag_alone-requires : goal.tagged-tag_alone-requires
+tagged-tag_alone-requires g t c = c.tag_at-tag.ensures.place
+
+pub tagged-returns-in-Some-clause-keeps : goal.tagged-returns-in-Some-clause-keeps
+tagged-returns-in-Some-clause-keeps g t c = c.braced.ensures.keeps
+
+pub tagged-returns-in-None-clause-keeps : goal.tagged-returns-in-None-clause-keeps
+tagged-returns-in-None-clause-keeps g t c = extends_then _ _ _ c.braced.ensures.keeps c.tag_alone.ensures.keeps
+
+pub unknown_parameters-returns-in_err-parts-clause-keeps : goal.unknown_parameters-returns-in_err-parts-clause-keeps
+unknown_parameters-returns-in_err-parts-clause-keeps g t c = c.listed.ensures.keeps
+
+pub unknown_parameters-function_of-requires-clause-place : goal.unknown_parameters-function_of-requires-clause-place
+unknown_parameters-function_of-requires-clause-place g t c = c.in_ok-parts.ensures.ok.place
+
+pub unknown_parameters-returns-clause-keeps : goal.unknown_parameters-returns-clause-keeps
+unknown_parameters-returns-clause-keeps g t c = extends_then _ _ _ c.listed.ensures.keeps c.function_of.ensures.keeps
+
+pub declarator-returns-in_err-first-clause-ok : goal.declarator-returns-in_err-first-clause-ok
+declarator-returns-in_err-first-clause-ok g t c = IfOk-from_err _ _ c.from_residual.ensures.0
+
+pub enumerators-returns-in_err-parts-clause-ok : goal.enumerators-returns-in_err-parts-clause-ok
+enumerators-returns-in_err-parts-clause-ok g t c = IfOk-from_err _ _ c.from_residual.ensures.0
+
+pub grow-returns-in_err-longer-clause-ok : goal.grow-returns-in_err-longer-clause-ok
+grow-returns-in_err-longer-clause-ok g t c = IfOk-from_err _ _ c.from_residual.ensures.0
+
+pub listed-returns-in_err-found-clause-ok : goal.listed-returns-in_err-found-clause-ok
+listed-returns-in_err-found-clause-ok g t c = IfOk-from_err _ _ c.from_residual.ensures.0
+
+pub listed-returns-in_err-push-clause-ok : goal.listed-returns-in_err-push-clause-ok
+listed-returns-in_err-push-clause-ok g t c = IfOk-from_err _ _ c.before.from_residual-in_err-push.ensures.0
+
+pub member-returns-in_err-specs-clause-ok : goal.member-returns-in_err-specs-clause-ok
+member-returns-in_err-specs-clause-ok g t c = IfOk-from_err _ _ c.from_residual.ensures.0
+
+pub member-returns-in_err-declarators-clause-ok : goal.member-returns-in_err-declarators-clause-ok
+member-returns-in_err-declarators-clause-ok g t c = IfOk-from_err _ _ c.from_residual-in_err-declarators.ensures.0
+
+pub members-returns-in_err-parts-clause-ok : goal.members-returns-in_err-parts-clause-ok
+members-returns-in_err-parts-clause-ok g t c = IfOk-from_err _ _ c.from_residual.ensures.0
+
+pub opened-returns-in_err-inner-clause-ok : goal.opened-returns-in_err-inner-clause-ok
+opened-returns-in_err-inner-clause-ok g t c = IfOk-from_err _ _ c.from_residual.ensures.0
+
+pub parameter-returns-in_err-specs-clause-ok : goal.parameter-returns-in_err-specs-clause-ok
+parameter-returns-in_err-specs-clause-ok g t c = IfOk-from_err _ _ c.from_residual.ensures.0
+
+pub parameter-returns-in_err-declarator-clause-ok : goal.parameter-returns-in_err-declarator-clause-ok
+parameter-returns-in_err-declarator-clause-ok g t c = IfOk-from_err _ _ c.from_residual-in_err-declarator.ensures.0
+
+pub pointer-returns-in_err-inner-clause-ok : goal.pointer-returns-in_err-inner-clause-ok
+pointer-returns-in_err-inner-clause-ok g t c = IfOk-from_err _ _ c.from_residual.ensures.0
+
+pub row-returns-in_err-found-clause-ok : goal.row-returns-in_err-found-clause-ok
+row-returns-in_err-found-clause-ok g t c = IfOk-from_err _ _ c.from_residual.ensures.0
+
+pub row-returns-in_err-push-clause-ok : goal.row-returns-in_err-push-clause-ok
+row-returns-in_err-push-clause-ok g t c = IfOk-from_err _ _ c.before.from_residual-in_err-push.ensures.0
+
+pub tagged-returns-in_err-found-clause-ok : goal.tagged-returns-in_err-found-clause-ok
+tagged-returns-in_err-found-clause-ok g t c = IfOk-from_err _ _ c.from_residual.ensures.0
+
+pub unknown_parameters-returns-in_err-parts-clause-ok : goal.unknown_parameters-returns-in_err-parts-clause-ok
+unknown_parameters-returns-in_err-parts-clause-ok g t c = IfOk-from_err _ _ c.from_residual.ensures.0

@@ -3,15 +3,15 @@ use Rattle.pv_tree.specs.Depths.{declarator_depth}
 use Rattle.pv_tree.specs.Rows.{tables}
 use Rattle.pv_tree.specs.Syntax.{NoTrees}
 use Rattle.pv_tree.specs.Tables.{tree_at, declarator_at, trees_of, is_declarator, Is, Extends}
-use Rattle.pv_expr.specs.Known.{names_in}
-use Rattle.pv_decl.specs.declared.forms.Part.{Part}
-use Rattle.pv_decl.specs.declared.forms.Part.TheVariants as part
-use Rattle.pv_decl.specs.Declarators.{grown}
-use Rattle.pv_decl.specs.Parts.{kind_of_part, place_of_part}
-use Rattle.pv_decl.specs.Pieces.{row_on, row, after_comma, listed}
-use Rattle.pv_decl.specs.Reader.{readers}
+use Rattle.pv_expr_forms.specs.Known.{names_in}
+use Rattle.pv_decl_forms.specs.declared.forms.Part.{Part}
+use Rattle.pv_decl_forms.specs.declared.forms.Part.TheVariants as part
+use Rattle.pv_decl_forms.specs.Declarators.{grown}
+use Rattle.pv_decl_forms.specs.Parts.{kind_of_part, place_of_part}
+use Rattle.pv_decl_forms.specs.Pieces.{row_on, row, after_comma, listed}
+use Rattle.pv_decl_forms.specs.Reader.{readers}
 use Rattle.pv_decl.specs.Filled.{list_map}
-use Rattle.pv_decl.specs.Givens.{AreGiven}
+use Rattle.pv_decl_forms.specs.Givens.{AreGiven}
 use Rattle.pv_decl.proofs.source.Source.+reading.Given as goal
 
 -- a member is read by its specifiers and declarators, at its own depth

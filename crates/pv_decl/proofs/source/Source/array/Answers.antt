@@ -1,8 +1,12 @@
+use Rattle.std.proofs.lemmas.Result.{IfOk-from_err}
+use Rattle.pv_tree.specs.Tables.{is_declarator}
 use Rattle.pv_tree.specs.Rows.{tables}
-use Rattle.pv_expr.specs.Known.{names_in}
-use Rattle.pv_decl.specs.Reader.{readers}
-use Rattle.pv_decl.proofs.Answered.{moved}
-use Rattle.pv_decl.proofs.Constants.{array_some, array_none}
+use Rattle.pv_tree.proofs.Kept.{extends_then}
+use Rattle.pv_expr_forms.specs.Known.{names_in}
+use Rattle.pv_decl_forms.specs.Reader.{readers}
+use Rattle.pv_decl_forms.proofs.Growing.{some_kept}
+use Rattle.pv_decl_forms.proofs.Answered.{moved}
+use Rattle.pv_decl_forms.proofs.Constants.{array_some, array_none}
 use Rattle.pv_decl.proofs.source.Source.array.Goals as goal
 
 pub returns-in-Some-clause-ok : goal.returns-in-Some-clause-ok
@@ -10,3 +14,33 @@ returns-in-Some-clause-ok g c = moved _ _ _ _ _ _ (array_some (tables c.args.int
 
 pub returns-in-None-clause-ok : goal.returns-in-None-clause-ok
 returns-in-None-clause-ok g c = moved _ _ _ _ _ _ (array_none (tables c.args.into.now) (tables c.constant.new.into) c.args.self.now.tokens.now.tokens c.args.at c.args.line (readers (names_in c.args.self.now.typedefs.now (g.R.TypeReader.types c.args.self.now.reader.now) (tables c.args.into.now) c.args.self.now.tokens.now.tokens) c.args.below) c.args.left c.constant.ensures.keeps c.requires.left c.in_ok-size.field-0 c.in_ok-size.ensures.ok c.in-None.is) c.array_of-in-None.ensures.ok
+
+pub constant-requires-clause-place : goal.constant-requires-clause-place
+constant-requires-clause-place g c = c.requires.place
+
+pub constant-requires-clause-tied : goal.constant-requires-clause-tied
+constant-requires-clause-tied g c = c.requires.tied
+
+pub returns-in_err-size-clause-keeps : goal.returns-in_err-size-clause-keeps
+returns-in_err-size-clause-keeps g c = c.constant.ensures.keeps
+
+pub array_of-requires-clause-left : goal.array_of-requires-clause-left
+array_of-requires-clause-left g c = some_kept (tables c.args.into.now) (tables c.constant.new.into) is_declarator c.args.left c.constant.ensures.keeps c.requires.left
+
+pub array_of-requires-in-None-clause-place : goal.array_of-requires-in-None-clause-place
+array_of-requires-in-None-clause-place g c = c.requires.place
+
+pub array_of-requires-in-None-clause-left : goal.array_of-requires-in-None-clause-left
+array_of-requires-in-None-clause-left g c = some_kept (tables c.args.into.now) (tables c.constant.new.into) is_declarator c.args.left c.constant.ensures.keeps c.requires.left
+
+pub array_of-requires-in-None-clause-size : goal.array_of-requires-in-None-clause-size
+array_of-requires-in-None-clause-size g c = tt
+
+pub returns-in-Some-clause-keeps : goal.returns-in-Some-clause-keeps
+returns-in-Some-clause-keeps g c = extends_then _ _ _ c.constant.ensures.keeps c.array_of.ensures.keeps
+
+pub returns-in-None-clause-keeps : goal.returns-in-None-clause-keeps
+returns-in-None-clause-keeps g c = extends_then _ _ _ c.constant.ensures.keeps c.array_of-in-None.ensures.keeps
+
+pub returns-in_err-size-clause-ok : goal.returns-in_err-size-clause-ok
+returns-in_err-size-clause-ok g c = IfOk-from_err _ _ c.from_residual.ensures.0

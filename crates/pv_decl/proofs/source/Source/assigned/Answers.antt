@@ -1,8 +1,8 @@
 use Rattle.std.proofs.Common.{drop}
 use Rattle.std.proofs.lemmas.Result.{MatchResult-weaker}
 use Rattle.pv_tree.specs.Rows.{tables}
-use Rattle.pv_expr.specs.Known.{names_in}
-use Rattle.pv_decl.proofs.Initials.{assigned_answers}
+use Rattle.pv_expr_forms.specs.Known.{names_in}
+use Rattle.pv_decl_forms.proofs.Initials.{assigned_answers}
 use Rattle.pv_decl.proofs.source.Source.assigned.Goals as goal
 
 pub returns-clause-ok : goal.returns-clause-ok

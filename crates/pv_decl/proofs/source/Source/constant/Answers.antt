@@ -1,8 +1,8 @@
 use Rattle.std.proofs.Common.{drop}
 use Rattle.std.proofs.lemmas.Result.{MatchResult-weaker}
 use Rattle.pv_tree.specs.Rows.{tables}
-use Rattle.pv_expr.specs.Known.{names_in}
-use Rattle.pv_decl.proofs.Constants.{constant_answers}
+use Rattle.pv_expr_forms.specs.Known.{names_in}
+use Rattle.pv_decl_forms.proofs.Constants.{constant_answers}
 use Rattle.pv_decl.proofs.source.Source.constant.Goals as goal
 
 pub returns-clause-ok : goal.returns-clause-ok

@@ -1,14 +1,15 @@
 use Rattle.std.proofs.Common.{◌≤◌, ◌<◌, drop, length, arith, refl, None}
+use Rattle.std.proofs.lemmas.Result.{IfOk-from_err}
 use Rattle.pv_tree.specs.Places.{InitDeclarators}
 use Rattle.pv_tree.specs.Rows.{tables}
 use Rattle.pv_tree.specs.Syntax.{NoTrees, Then}
 use Rattle.pv_tree.specs.Tables.{tree_at, is_declaration}
 use Rattle.pv_tree.proofs.Kept.{extends_same, extends_then}
-use Rattle.pv_expr.specs.Known.{names_in}
-use Rattle.pv_decl.specs.Pieces.{row, after_comma}
-use Rattle.pv_decl.specs.Reader.{readers}
-use Rattle.pv_decl.proofs.Loops.{commas_shorten, at_start, goes_forward, part_there, parts_there, row_ends, row_goes}
-use Rattle.pv_decl.proofs.Outer.{comma_none, comma_some, one_part, start_one}
+use Rattle.pv_expr_forms.specs.Known.{names_in}
+use Rattle.pv_decl_forms.specs.Pieces.{row, after_comma}
+use Rattle.pv_decl_forms.specs.Reader.{readers}
+use Rattle.pv_decl_forms.proofs.Loops.{commas_shorten, at_start, goes_forward, part_there, parts_there, row_ends, row_goes}
+use Rattle.pv_decl_forms.proofs.Outer.{comma_none, comma_some, one_part, start_one}
 use Rattle.pv_decl.specs.Filled.{list_map}
 use Rattle.pv_decl.proofs.Givens.{given_kept}
 use Rattle.pv_decl.proofs.source.Source.declared.Goals as goal
@@ -92,3 +93,33 @@ loop-next-preserved g c =
           (commas_shorten c.args.self.now.typedefs.now types u tokens c.requires.tied.tied c.args.below InitDeclarators)
           (row (after_comma read) (Then NoTrees (tree_at u.forest c.args.first)) (drop c.args.at tokens)) c.loop-next.invariant.same c.in-Some-2.found c.in-Some-2.end c.in-Some-2.is c.push-in-loop-next.new.self.items c.in_ok-push-2.ensures.items;
     }
+
+pub after-requires : goal.after-requires
+after-requires g c = c.loop-next.invariant.place
+
+pub returns-in_default-clause-keeps : goal.returns-in_default-clause-keeps
+returns-in_default-clause-keeps g c = c.loop-next.invariant.keeps
+
+pub init_declarator-requires-clause-place : goal.init_declarator-requires-clause-place
+init_declarator-requires-clause-place g c = c.in-Some.ensures.1
+
+pub init_declarator-requires-clause-tied : goal.init_declarator-requires-clause-tied
+init_declarator-requires-clause-tied g c = c.loop-next.invariant.tied
+
+pub returns-in_err-found-clause-keeps : goal.returns-in_err-found-clause-keeps
+returns-in_err-found-clause-keeps g c = extends_then _ _ _ c.loop-next.invariant.keeps c.init_declarator.ensures.keeps
+
+pub returns-in_default-2-clause-keeps : goal.returns-in_default-2-clause-keeps
+returns-in_default-2-clause-keeps g c = extends_then _ _ _ c.loop-next.invariant.keeps c.init_declarator.ensures.keeps
+
+pub returns-in_err-push-2-clause-keeps : goal.returns-in_err-push-2-clause-keeps
+returns-in_err-push-2-clause-keeps g c = extends_then _ _ _ c.loop-next.invariant.keeps c.init_declarator.ensures.keeps
+
+pub returns-in_err-push-clause-ok : goal.returns-in_err-push-clause-ok
+returns-in_err-push-clause-ok g c = IfOk-from_err _ _ c.from_residual.ensures.0
+
+pub returns-in_err-found-clause-ok : goal.returns-in_err-found-clause-ok
+returns-in_err-found-clause-ok g c = IfOk-from_err _ _ c.from_residual-in_err-found.ensures.0
+
+pub returns-in_err-push-2-clause-ok : goal.returns-in_err-push-2-clause-ok
+returns-in_err-push-2-clause-ok g c = IfOk-from_err _ _ c.before.from_residual-in_err-push-2.ensures.0

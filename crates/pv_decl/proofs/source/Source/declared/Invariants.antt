@@ -3,11 +3,11 @@ use Rattle.pv_tree.specs.Places.{InitDeclarators}
 use Rattle.pv_tree.specs.Rows.{tables}
 use Rattle.pv_tree.specs.Syntax.{NoTrees, Then}
 use Rattle.pv_tree.specs.Tables.{tree_at, trees_of, is_declaration, Is, Extends}
-use Rattle.pv_expr.specs.Known.{names_in}
-use Rattle.pv_decl.specs.Pieces.{row, after_comma}
-use Rattle.pv_decl.specs.Reader.{readers}
+use Rattle.pv_expr_forms.specs.Known.{names_in}
+use Rattle.pv_decl_forms.specs.Pieces.{row, after_comma}
+use Rattle.pv_decl_forms.specs.Reader.{readers}
 use Rattle.pv_decl.specs.Filled.{list_map}
-use Rattle.pv_decl.specs.Givens.{AreGiven}
+use Rattle.pv_decl_forms.specs.Givens.{AreGiven}
 use Rattle.pv_decl.proofs.source.Source.declared.Given as goal
 
 abbrev pub invariant-loop-next : goal.invariant-loop-next

@@ -1,11 +1,13 @@
 use Rattle.std.proofs.Common.{ap, ◌∙◌, drop, Some, ℕ}
+use Rattle.std.proofs.lemmas.Result.{IfOk-from_err}
 use Rattle.pv_tree.specs.Rows.{tables}
 use Rattle.pv_tree.specs.Tables.{tree_at}
-use Rattle.pv_expr.specs.Known.{names_in}
-use Rattle.pv_decl.specs.Pieces.{Piece}
-use Rattle.pv_decl.specs.Reader.{initialized, readers}
-use Rattle.pv_decl.proofs.Answered.{moved, nothing}
-use Rattle.pv_decl.proofs.Outer.{init_none, init_some, moved_at_start}
+use Rattle.pv_tree.proofs.Kept.{extends_then}
+use Rattle.pv_expr_forms.specs.Known.{names_in}
+use Rattle.pv_decl_forms.specs.Pieces.{Piece}
+use Rattle.pv_decl_forms.specs.Reader.{initialized, readers}
+use Rattle.pv_decl_forms.proofs.Answered.{moved, nothing}
+use Rattle.pv_decl_forms.proofs.Outer.{init_none, init_some, moved_at_start}
 use Rattle.pv_decl.specs.Filled.{list_map}
 use Rattle.pv_decl.proofs.Givens.{given_kept}
 use Rattle.pv_decl.proofs.source.Source.init_declarator.Goals as goal
@@ -31,3 +33,24 @@ returns-in-Some-clause-ok g c =
     ∙ init_some names c.args.depth (drop c.args.at tokens) v tokens c.in_ok-declarator.field-0 c.in_ok-declarator.ensures.ok c.in-Some.declarator c.in-Some.end c.in-Some.is)
     (moved_at_start c.args.self.now.typedefs.now types (tables c.args.into.now) v (tables c.initialized.new.into) tokens c.requires.tied.tied c.read.ensures.keeps _ c.initialized.result
     (λ n. Some (initialized (readers n c.args.depth) c.line_at-line.result (tree_at v.forest c.in-Some.declarator) (drop c.in-Some.end tokens))) c.initialized.ensures.ok)
+
+pub line_at-line-requires : goal.line_at-line-requires
+line_at-line-requires g c = c.requires.place
+
+pub read-requires-clause-place : goal.read-requires-clause-place
+read-requires-clause-place g c = c.requires.place
+
+pub read-requires-clause-tied : goal.read-requires-clause-tied
+read-requires-clause-tied g c = c.requires.tied
+
+pub returns-in_err-declarator-clause-keeps : goal.returns-in_err-declarator-clause-keeps
+returns-in_err-declarator-clause-keeps g c = c.read.ensures.keeps
+
+pub returns-in-Some-clause-keeps : goal.returns-in-Some-clause-keeps
+returns-in-Some-clause-keeps g c = extends_then _ _ _ c.read.ensures.keeps c.initialized.ensures.keeps
+
+pub returns-in-None-clause-keeps : goal.returns-in-None-clause-keeps
+returns-in-None-clause-keeps g c = c.read.ensures.keeps
+
+pub returns-in_err-declarator-clause-ok : goal.returns-in_err-declarator-clause-ok
+returns-in_err-declarator-clause-ok g c = IfOk-from_err _ _ c.from_residual.ensures.0

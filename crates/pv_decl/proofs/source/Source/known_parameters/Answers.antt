@@ -2,10 +2,11 @@ use Rattle.std.proofs.Common.{sym, ap, ◌∙◌, arith, drop, Some}
 use Rattle.pv_tree.specs.Rows.{tables}
 use Rattle.pv_tree.specs.Syntax.{Tree}
 use Rattle.pv_tree.specs.Tables.{optional_at}
+use Rattle.pv_tree.proofs.Kept.{extends_same}
+use Rattle.pv_decl_forms.specs.Parts.{function_of}
+use Rattle.pv_decl_forms.specs.Pieces.{Piece}
+use Rattle.pv_decl_forms.proofs.Answered.{moved, nothing}
 use Rattle.pv_decl.specs.Filled.{list_map}
-use Rattle.pv_decl.specs.Parts.{function_of}
-use Rattle.pv_decl.specs.Pieces.{Piece}
-use Rattle.pv_decl.proofs.Answered.{moved, nothing}
 use Rattle.pv_decl.proofs.Givens.{parts_of, varies, is_function, known_there, known_none, known_deep, known_shallow, known_function}
 use Rattle.pv_decl.proofs.source.Source.known_parameters.Goals as goal
 
@@ -55,3 +56,15 @@ returns-clause-ok g c =
     c.requires.tied c.args.at c.requires.place c.args.list c.requires.list make c.args.below c.requires.shallow
     c.in-Some.known c.in-Some.end c.in-Some.is (omega (arith, c.depth.ensures.value, c.if-depth-below.false)))
     c.found_declarator.ensures.ok
+
+pub returns-in_default-clause-keeps : goal.returns-in_default-clause-keeps
+returns-in_default-clause-keeps g c = extends_same _
+
+pub returns-then-depth-below-clause-keeps : goal.returns-then-depth-below-clause-keeps
+returns-then-depth-below-clause-keeps g c = extends_same _
+
+pub function_node-function-requires : goal.function_node-function-requires
+function_node-function-requires g c = c.requires.left
+
+pub returns-clause-keeps : goal.returns-clause-keeps
+returns-clause-keeps g c = c.found_declarator.ensures.keeps

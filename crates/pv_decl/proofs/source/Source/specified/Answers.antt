@@ -1,16 +1,18 @@
 use Rattle.std.proofs.Common.{ℕ, List, ap, sym, ◌∙◌, drop, Some}
+use Rattle.std.proofs.lemmas.Result.{IfOk-from_err}
 use Rattle.pv_tree.specs.declared.nodes.NodeId.{NodeId}
 use Rattle.pv_tree.specs.Places.{InitDeclarators}
 use Rattle.pv_tree.specs.Rows.{tables}
 use Rattle.pv_tree.specs.Syntax.{Declaration, NoTrees, Then}
 use Rattle.pv_tree.specs.Tables.{tree_at, trees_of, is_declaration, is_specifier}
 use Rattle.pv_tree.proofs.Kept.{extends_then}
-use Rattle.pv_expr.specs.Known.{names_in}
-use Rattle.pv_decl.specs.Pieces.{Piece, row, after_comma}
-use Rattle.pv_decl.specs.Reader.{ended, initialized, readers}
-use Rattle.pv_decl.proofs.Answered.{moved, nothing, got}
-use Rattle.pv_decl.proofs.Loops.{at_start, all_kept}
-use Rattle.pv_decl.proofs.Outer.{are_at_start, semicolon_there, no_semicolon, ends_here, specified_none, specified_head, specified_list}
+use Rattle.pv_expr_forms.specs.Known.{names_in}
+use Rattle.pv_decl_forms.specs.Pieces.{Piece, row, after_comma}
+use Rattle.pv_decl_forms.specs.Reader.{ended, initialized, readers}
+use Rattle.pv_decl_forms.proofs.Growing.{all_as}
+use Rattle.pv_decl_forms.proofs.Answered.{moved, nothing, got}
+use Rattle.pv_decl_forms.proofs.Loops.{at_start, all_kept}
+use Rattle.pv_decl_forms.proofs.Outer.{are_at_start, semicolon_there, no_semicolon, ends_here, specified_none, specified_head, specified_list}
 use Rattle.pv_decl.specs.Filled.{list_map}
 use Rattle.pv_decl.proofs.Givens.{given_kept}
 use Rattle.pv_decl.proofs.source.Source.specified.Goals as goal
@@ -85,3 +87,60 @@ returns-clause-ok g c =
     ∙ specified_list u v tokens r c.args.line c.args.at c.args.specs.now c.requires.specs c.read.ensures.keeps no c.in_ok-declarator.field-0 c.in_ok-declarator.ensures.ok
     c.in-Some.declarator c.in-Some.end c.in-Some.is (sym c.opens_block.ensures ∙ c.if-opens_block.false) w c.in-Some-2.first c.in-Some-2.behind one
     x (extends_then u w x on c.declared.ensures.keeps) c.in_ok-declared.declared.items c.in_ok-declared.last all) c.declaration_of-2.ensures.ok
+
+pub after-requires : goal.after-requires
+after-requires g c = c.requires.place
+
+pub declaration_of-requires-clause-place : goal.declaration_of-requires-clause-place
+declaration_of-requires-clause-place g c = c.requires.place
+
+pub declaration_of-requires-clause-specs : goal.declaration_of-requires-clause-specs
+declaration_of-requires-clause-specs g c = c.requires.specs
+
+pub returns-then-is_some-clause-keeps : goal.returns-then-is_some-clause-keeps
+returns-then-is_some-clause-keeps g c = c.declaration_of.ensures.keeps
+
+pub read-requires-clause-place : goal.read-requires-clause-place
+read-requires-clause-place g c = c.requires.place
+
+pub read-requires-clause-tied : goal.read-requires-clause-tied
+read-requires-clause-tied g c = c.requires.tied
+
+pub returns-in_err-declarator-clause-keeps : goal.returns-in_err-declarator-clause-keeps
+returns-in_err-declarator-clause-keeps g c = c.read.ensures.keeps
+
+pub returns-in_default-clause-keeps : goal.returns-in_default-clause-keeps
+returns-in_default-clause-keeps g c = c.read.ensures.keeps
+
+pub parameter_of-requires-clause-place : goal.parameter_of-requires-clause-place
+parameter_of-requires-clause-place g c = c.requires.place
+
+pub returns-then-opens_block-clause-keeps : goal.returns-then-opens_block-clause-keeps
+returns-then-opens_block-clause-keeps g c = extends_then _ _ _ c.read.ensures.keeps c.parameter_of.ensures.keeps
+
+pub returns-in_err-first-clause-keeps : goal.returns-in_err-first-clause-keeps
+returns-in_err-first-clause-keeps g c = extends_then _ _ _ c.read.ensures.keeps c.initialized.ensures.keeps
+
+pub returns-in_default-2-clause-keeps : goal.returns-in_default-2-clause-keeps
+returns-in_default-2-clause-keeps g c = extends_then _ _ _ c.read.ensures.keeps c.initialized.ensures.keeps
+
+pub returns-in_err-declared-clause-keeps : goal.returns-in_err-declared-clause-keeps
+returns-in_err-declared-clause-keeps g c = extends_then _ _ _ (extends_then _ _ _ c.read.ensures.keeps c.initialized.ensures.keeps) c.declared.ensures.keeps
+
+pub declaration_of-requires-2-clause-place : goal.declaration_of-requires-2-clause-place
+declaration_of-requires-2-clause-place g c = c.in_ok-declared.ensures.ok.place
+
+pub declaration_of-requires-2-clause-declared : goal.declaration_of-requires-2-clause-declared
+declaration_of-requires-2-clause-declared g c = all_as (tables c.declared.new.into) is_declaration _ _ c.deref.ensures.value c.in_ok-declared.ensures.ok.there
+
+pub returns-clause-keeps : goal.returns-clause-keeps
+returns-clause-keeps g c = extends_then _ _ _ (extends_then _ _ _ (extends_then _ _ _ c.read.ensures.keeps c.initialized.ensures.keeps) c.declared.ensures.keeps) c.declaration_of-2.ensures.keeps
+
+pub returns-in_err-declarator-clause-ok : goal.returns-in_err-declarator-clause-ok
+returns-in_err-declarator-clause-ok g c = IfOk-from_err _ _ c.from_residual.ensures.0
+
+pub returns-in_err-first-clause-ok : goal.returns-in_err-first-clause-ok
+returns-in_err-first-clause-ok g c = IfOk-from_err _ _ c.from_residual-in_err-first.ensures.0
+
+pub returns-in_err-declared-clause-ok : goal.returns-in_err-declared-clause-ok
+returns-in_err-declared-clause-ok g c = IfOk-from_err _ _ c.from_residual-in_err-declared.ensures.0

@@ -2,7 +2,7 @@ use Rattle.std.proofs.Common.{◌∙◌, sym, ap}
 use Rattle.std.proofs.lemmas.Result.{err_from_is_err_and}
 use Rattle.pv_exec.specs.declared.machine.Flow.{Flow}
 use Rattle.pv_exec.specs.States.{Gives}
-use Rattle.pv_exec.specs.TermViews.{statement_term}
+use Rattle.pv_starter.specs.TermViews.{statement_term}
 use Rattle.pv_exec.specs.Machines.{setting_of, state_of}
 use Rattle.pv_exec.proofs.Runs.{exs_at, exs_past, ex_bound}
 use Rattle.pv_exec.proofs.machine.Machine.execute_all.Goals as goal

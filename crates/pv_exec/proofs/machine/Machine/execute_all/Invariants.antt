@@ -1,5 +1,5 @@
 use Rattle.std.proofs.Common.{◌≡◌, map, drop}
-use Rattle.pv_exec.specs.TermViews.{statement_term}
+use Rattle.pv_starter.specs.TermViews.{statement_term}
 use Rattle.pv_exec.specs.Execution.{exs}
 use Rattle.pv_exec.specs.Machines.{setting_of, state_of}
 use Rattle.pv_exec.proofs.machine.Machine.execute_all.Given as goal

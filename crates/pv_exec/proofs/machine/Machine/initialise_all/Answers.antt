@@ -1,6 +1,6 @@
 use Rattle.std.proofs.Common.{◌∙◌, ◌+◌, ◌≡◌, ℕ, sym, ap, arith, map, drop}
 use Rattle.std.proofs.lemmas.Result.{err_from_is_err_and}
-use Rattle.pv_exec.specs.TermViews.{local_term}
+use Rattle.pv_starter.specs.TermViews.{local_term}
 use Rattle.pv_exec.specs.Execution.{initialise_all}
 use Rattle.pv_exec.specs.Machines.{setting_of, state_of}
 use Rattle.pv_exec.proofs.Runs.{inits_at, inits_past, init_bound}

@@ -1,5 +1,5 @@
 use Rattle.std.proofs.Common.{◌≡◌, map, drop}
-use Rattle.pv_exec.specs.TermViews.{local_term}
+use Rattle.pv_starter.specs.TermViews.{local_term}
 use Rattle.pv_exec.specs.Execution.{make_all}
 use Rattle.pv_exec.specs.Machines.{state_of}
 use Rattle.pv_exec.proofs.machine.Machine.make_all.Given as goal

@@ -2,15 +2,16 @@ use Rattle.std.proofs.Common.{◌∙◌, ◌+◌, ◌≤◌, sym, drop, length, 
 use Rattle.pv_tree.specs.Rows.{tables}
 use Rattle.pv_tree.specs.Tables.{expression_at, is_expression}
 use Rattle.pv_tree.proofs.Kept.{extends_same, extends_then, is_kept}
-use Rattle.pv_expr.specs.Known.{names_in}
-use Rattle.pv_expr.specs.Reader.{read, grown}
-use Rattle.pv_expr.proofs.Answered.{moved, got, got_none, read_none, read_some, grew, grew_out}
-use Rattle.pv_expr.proofs.Calls.{call_none, call_there, call_forward, call_nodes, call_kept, call_end, call_stop, call_next, call_last}
-use Rattle.pv_expr.proofs.Firsts.{head_open, head_front}
-use Rattle.pv_expr.proofs.Listing.{called_close, no_items, start_with}
-use Rattle.pv_expr.proofs.Naming.{tied_kept}
-use Rattle.pv_expr.proofs.Readings.{nothing, head_end, head_first, leaf_first, measure_first, longer_in, deeper_none, deeper_low, deeper_on, grown_in, cast_none, cast_nothing, cast_done, paren_nothing, paren_done, dot_is, arrow_is, ask_is}
-use Rattle.pv_expr.proofs.Steps.{grown_on, longer_goes}
+use Rattle.pv_expr_forms.specs.Known.{names_in}
+use Rattle.pv_expr_forms.specs.Reader.{read, grown}
+use Rattle.pv_expr_forms.proofs.Answered.{moved, got, got_none, read_none, read_some, grew, grew_out}
+use Rattle.pv_expr_forms.proofs.Calls.{call_none, call_there, call_forward, call_nodes, call_kept, call_end, call_stop, call_next, call_last}
+use Rattle.pv_expr_forms.proofs.Firsts.{head_open, head_front}
+use Rattle.pv_expr_forms.proofs.Listing.{called_close, no_items, start_with}
+use Rattle.pv_expr_forms.proofs.Naming.{tied_kept}
+use Rattle.pv_expr_forms.proofs.Readings.{nothing, head_end, head_first, leaf_first, measure_first, longer_in, deeper_none, deeper_low, deeper_on, grown_in, cast_none, cast_nothing, cast_done, paren_nothing, paren_done, dot_is, arrow_is, ask_is}
+use Rattle.pv_expr_forms.proofs.Operands.{call_is, increment_is, decrement_is, join_nothing, join_done, ask_nothing, index_nothing, index_done, front_nothing, front_done, asked_none, asked_nothing, asked_done}
+use Rattle.pv_expr_forms.proofs.Steps.{grown_on, longer_goes}
 use Rattle.pv_expr.proofs.source.Source.+reading.Goals as goal
 
 -- ---- nothing changed
@@ -61,13 +62,10 @@ read_deeper-returns-else-rank_of-level-clause-ok g t c =
     moved _ _ _ _ _ (grown_in c.args.self.now.typedefs.now (g.R.TypeReader.types c.args.self.now.reader.now) (tables c.args.into.now) (tables c.read_head.new.into) c.args.self.now.tokens.now.tokens c.requires.tied c.read_head.ensures.keeps _ _ _ _ ∙ deeper_on _ _ _ _ _ _ _ h.0 (omega arith)) c.grow.ensures.ok
 
 pub read_deeper-grow-requires : goal.read_deeper-grow-requires
-read_deeper-grow-requires g t c =
+read_deeper-grow-requires g t c κs within =
     let h = got (tables c.read_head.new.into) c.args.self.now.tokens.now.tokens c.in_ok-read_head.field-0 _ c.in-Some.first c.in-Some.next c.in_ok-read_head.ensures.ok c.in-Some.is in
     let tied = tied_kept (g.R.TypeReader.types c.args.self.now.reader.now) (tables c.args.into.now) (tables c.read_head.new.into) c.args.self.now.tokens.now.tokens c.requires.tied c.read_head.ensures.keeps in
-    let number = h.1.0 in
-    let kind = h.1.1 in
-    let place = h.2 in
-    search rules
+    (omega arith, (within, (h.2, (tied, h.1))))
 
 -- ---- read_head
 
@@ -138,16 +136,11 @@ grow-returns-in-None-clause-ok g t c =
 -- ---- go_on
 
 pub go_on-ask-requires : goal.go_on-ask-requires
-go_on-ask-requires g t c =
+go_on-ask-requires g t c κs within =
     let h = got (tables c.read_tree-in-Ask.new.into) c.args.self.now.tokens.now.tokens c.in_ok-yes-in-Ask.field-0 _ c.in-Some-2.yes c.in-Some-2.next c.in_ok-yes-in-Ask.ensures.ok c.in-Some-2.is in
     let tied = tied_kept (g.R.TypeReader.types c.args.self.now.reader.now) (tables c.args.into.now) (tables c.read_tree-in-Ask.new.into) c.args.self.now.tokens.now.tokens c.requires.tied c.read_tree-in-Ask.ensures.keeps in
     let condition = is_kept (tables c.args.into.now) (tables c.read_tree-in-Ask.new.into) is_expression c.args.left c.read_tree-in-Ask.ensures.keeps c.requires.node in
-    let condition_number = condition.0 in
-    let condition_kind = condition.1 in
-    let number = h.1.0 in
-    let kind = h.1.1 in
-    let place = h.2 in
-    search rules
+    (omega arith, (within, (h.2, (tied, (condition, h.1)))))
 
 pub go_on-returns-in-Some-2-clause-ok : goal.go_on-returns-in-Some-2-clause-ok
 go_on-returns-in-Some-2-clause-ok g t c = moved _ _ _ _ _ (ask_is c.args.self.now.typedefs.now (g.R.TypeReader.types c.args.self.now.reader.now) (tables c.args.into.now) (tables c.read_tree-in-Ask.new.into) c.args.self.now.tokens.now.tokens c.requires.tied c.read_tree-in-Ask.ensures.keeps c.args.below c.args.at c.args.left c.requires.node c.in_ok-yes-in-Ask.field-0 c.in_ok-yes-in-Ask.ensures.ok c.in-Some-2.yes c.in-Some-2.next c.in-Some-2.is c.args.follow c.in-Ask.is) c.ask.ensures.ok
@@ -198,3 +191,294 @@ arguments-returns-then-is_close-clause-ok g t c = moved _ _ _ _ _ (call_last c.a
 
 pub arguments-returns-in-loop-list-clause-ok : goal.arguments-returns-in-loop-list-clause-ok
 arguments-returns-in-loop-list-clause-ok g t c = call_stop c.args.self.now.typedefs.now (g.R.TypeReader.types c.args.self.now.reader.now) (tables c.args.into.now) (tables c.loop-list.into) (tables c.read_tree.new.into) c.args.self.now.tokens.now.tokens c.args.at c.args.below c.args.callee c.loop-list.list.items c.loop-list.next c.requires.tied c.loop-list.invariant.keeps c.loop-list.invariant.nodes c.loop-list.invariant.place c.in_default.ensures c.loop-list.invariant.same c.read_tree.ensures.keeps c.in_ok-argument.field-0 c.in_ok-argument.ensures.ok c.in-Some-2.argument c.in-Some-2.end c.in-Some-2.is c.in-Some-peek.token (drop (c.in-Some-2.end + 1) c.args.self.now.tokens.now.tokens) c.in-Some-peek.ensures.0 (sym c.is_comma.ensures ∙ c.if-is_comma.false) (sym c.is_close.ensures ∙ c.if-is_close.false)
+
+-- ---- what an operand added stays, also on a refusal
+
+pub read_tree-returns-clause-keeps : goal.read_tree-returns-clause-keeps
+read_tree-returns-clause-keeps g t c = c.read_deeper.ensures.keeps
+
+pub read_deeper-returns-in-None-clause-keeps : goal.read_deeper-returns-in-None-clause-keeps
+read_deeper-returns-in-None-clause-keeps g t c = c.read_head.ensures.keeps
+
+pub read_deeper-returns-in_err-read_head-clause-keeps : goal.read_deeper-returns-in_err-read_head-clause-keeps
+read_deeper-returns-in_err-read_head-clause-keeps g t c = c.read_head.ensures.keeps
+
+pub read_deeper-returns-then-rank_of-level-clause-keeps : goal.read_deeper-returns-then-rank_of-level-clause-keeps
+read_deeper-returns-then-rank_of-level-clause-keeps g t c = c.read_head.ensures.keeps
+
+pub read_head-returns-then-is_open-clause-keeps : goal.read_head-returns-then-is_open-clause-keeps
+read_head-returns-then-is_open-clause-keeps g t c = c.open.ensures.keeps
+
+pub read_head-returns-then-measures_type-clause-keeps : goal.read_head-returns-then-measures_type-clause-keeps
+read_head-returns-then-measures_type-clause-keeps g t c = c.measure.ensures.keeps
+
+pub read_head-returns-in-Some-prefix_of-clause-keeps : goal.read_head-returns-in-Some-prefix_of-clause-keeps
+read_head-returns-in-Some-prefix_of-clause-keeps g t c = c.front.ensures.keeps
+
+pub read_head-returns-in-None-clause-keeps : goal.read_head-returns-in-None-clause-keeps
+read_head-returns-in-None-clause-keeps g t c = c.leaf.ensures.keeps
+
+pub front-returns-in-None-clause-keeps : goal.front-returns-in-None-clause-keeps
+front-returns-in-None-clause-keeps g t c = c.read_tree.ensures.keeps
+
+pub front-returns-in_err-operand-clause-keeps : goal.front-returns-in_err-operand-clause-keeps
+front-returns-in_err-operand-clause-keeps g t c = c.read_tree.ensures.keeps
+
+pub open-returns-in-None-clause-keeps : goal.open-returns-in-None-clause-keeps
+open-returns-in-None-clause-keeps g t c = c.read_tree.ensures.keeps
+
+pub open-returns-in_err-operand-clause-keeps : goal.open-returns-in_err-operand-clause-keeps
+open-returns-in_err-operand-clause-keeps g t c = c.read_tree.ensures.keeps
+
+pub open-returns-in-None-2-clause-keeps : goal.open-returns-in-None-2-clause-keeps
+open-returns-in-None-2-clause-keeps g t c = c.read_tree-else-begins_type.ensures.keeps
+
+pub open-returns-in_err-inside-clause-keeps : goal.open-returns-in_err-inside-clause-keeps
+open-returns-in_err-inside-clause-keeps g t c = c.read_tree-else-begins_type.ensures.keeps
+
+pub extend-returns-clause-keeps : goal.extend-returns-clause-keeps
+extend-returns-clause-keeps g t c = c.go_on.ensures.keeps
+
+pub go_on-returns-in-None-clause-keeps : goal.go_on-returns-in-None-clause-keeps
+go_on-returns-in-None-clause-keeps g t c = c.read_tree.ensures.keeps
+
+pub go_on-returns-in_err-right-in-Join-clause-keeps : goal.go_on-returns-in_err-right-in-Join-clause-keeps
+go_on-returns-in_err-right-in-Join-clause-keeps g t c = c.read_tree.ensures.keeps
+
+pub go_on-returns-in-None-2-clause-keeps : goal.go_on-returns-in-None-2-clause-keeps
+go_on-returns-in-None-2-clause-keeps g t c = c.read_tree-in-Ask.ensures.keeps
+
+pub go_on-returns-in_err-yes-in-Ask-clause-keeps : goal.go_on-returns-in_err-yes-in-Ask-clause-keeps
+go_on-returns-in_err-yes-in-Ask-clause-keeps g t c = c.read_tree-in-Ask.ensures.keeps
+
+pub go_on-returns-in-None-3-clause-keeps : goal.go_on-returns-in-None-3-clause-keeps
+go_on-returns-in-None-3-clause-keeps g t c = c.read_tree-in-Index.ensures.keeps
+
+pub go_on-returns-in_err-subscript-in-Index-clause-keeps : goal.go_on-returns-in_err-subscript-in-Index-clause-keeps
+go_on-returns-in_err-subscript-in-Index-clause-keeps g t c = c.read_tree-in-Index.ensures.keeps
+
+pub go_on-returns-in-Call-clause-keeps : goal.go_on-returns-in-Call-clause-keeps
+go_on-returns-in-Call-clause-keeps g t c = c.arguments.ensures.keeps
+
+pub go_on-returns-in-Dot-clause-keeps : goal.go_on-returns-in-Dot-clause-keeps
+go_on-returns-in-Dot-clause-keeps g t c = c.member.ensures.keeps
+
+pub go_on-returns-in-Arrow-clause-keeps : goal.go_on-returns-in-Arrow-clause-keeps
+go_on-returns-in-Arrow-clause-keeps g t c = c.arrow.ensures.keeps
+
+pub go_on-returns-in-Increment-clause-keeps : goal.go_on-returns-in-Increment-clause-keeps
+go_on-returns-in-Increment-clause-keeps g t c = c.found.ensures.keeps
+
+pub go_on-returns-in-Decrement-clause-keeps : goal.go_on-returns-in-Decrement-clause-keeps
+go_on-returns-in-Decrement-clause-keeps g t c = c.found-in-Decrement.ensures.keeps
+
+pub ask-returns-in-None-clause-keeps : goal.ask-returns-in-None-clause-keeps
+ask-returns-in-None-clause-keeps g t c = c.read_tree.ensures.keeps
+
+pub ask-returns-in_err-no-clause-keeps : goal.ask-returns-in_err-no-clause-keeps
+ask-returns-in_err-no-clause-keeps g t c = c.read_tree.ensures.keeps
+
+pub arguments-returns-in-Some-clause-keeps : goal.arguments-returns-in-Some-clause-keeps
+arguments-returns-in-Some-clause-keeps g t c = c.call.ensures.keeps
+
+pub read_deeper-returns-else-rank_of-level-clause-keeps : goal.read_deeper-returns-else-rank_of-level-clause-keeps
+read_deeper-returns-else-rank_of-level-clause-keeps g t c = extends_then (tables c.args.into.now) (tables c.read_head.new.into) (tables c.grow.new.into) c.read_head.ensures.keeps c.grow.ensures.keeps
+
+pub front-returns-in-Some-clause-keeps : goal.front-returns-in-Some-clause-keeps
+front-returns-in-Some-clause-keeps g t c = extends_then (tables c.args.into.now) (tables c.read_tree.new.into) (tables c.prefixed.new.into) c.read_tree.ensures.keeps c.prefixed.ensures.keeps
+
+pub open-returns-in-Some-2-clause-keeps : goal.open-returns-in-Some-2-clause-keeps
+open-returns-in-Some-2-clause-keeps g t c = extends_then (tables c.args.into.now) (tables c.read_tree.new.into) (tables c.found.new.into) c.read_tree.ensures.keeps c.found.ensures.keeps
+
+pub open-returns-in-Some-3-clause-keeps : goal.open-returns-in-Some-3-clause-keeps
+open-returns-in-Some-3-clause-keeps g t c = extends_then (tables c.args.into.now) (tables c.read_tree-else-begins_type.new.into) (tables c.close.new.into) c.read_tree-else-begins_type.ensures.keeps c.close.ensures.keeps
+
+pub go_on-returns-in-Some-clause-keeps : goal.go_on-returns-in-Some-clause-keeps
+go_on-returns-in-Some-clause-keeps g t c = extends_then (tables c.args.into.now) (tables c.read_tree.new.into) (tables c.joined.new.into) c.read_tree.ensures.keeps c.joined.ensures.keeps
+
+pub go_on-returns-in-Some-2-clause-keeps : goal.go_on-returns-in-Some-2-clause-keeps
+go_on-returns-in-Some-2-clause-keeps g t c = extends_then (tables c.args.into.now) (tables c.read_tree-in-Ask.new.into) (tables c.ask.new.into) c.read_tree-in-Ask.ensures.keeps c.ask.ensures.keeps
+
+pub go_on-returns-in-Some-3-clause-keeps : goal.go_on-returns-in-Some-3-clause-keeps
+go_on-returns-in-Some-3-clause-keeps g t c = extends_then (tables c.args.into.now) (tables c.read_tree-in-Index.new.into) (tables c.index.new.into) c.read_tree-in-Index.ensures.keeps c.index.ensures.keeps
+
+pub ask-returns-in-Some-2-clause-keeps : goal.ask-returns-in-Some-2-clause-keeps
+ask-returns-in-Some-2-clause-keeps g t c = extends_then (tables c.args.into.now) (tables c.read_tree.new.into) (tables c.found.new.into) c.read_tree.ensures.keeps c.found.ensures.keeps
+
+pub grow-returns-in-None-clause-keeps : goal.grow-returns-in-None-clause-keeps
+grow-returns-in-None-clause-keeps g t c = extends_then (tables c.args.into.now) (tables c.loop-longer.into) (tables c.extend.new.into) c.loop-longer.invariant.keeps c.extend.ensures.keeps
+
+pub grow-returns-in_err-longer-clause-keeps : goal.grow-returns-in_err-longer-clause-keeps
+grow-returns-in_err-longer-clause-keeps g t c = extends_then (tables c.args.into.now) (tables c.loop-longer.into) (tables c.extend.new.into) c.loop-longer.invariant.keeps c.extend.ensures.keeps
+
+pub arguments-returns-in_err-argument-clause-keeps : goal.arguments-returns-in_err-argument-clause-keeps
+arguments-returns-in_err-argument-clause-keeps g t c = extends_then (tables c.args.into.now) (tables c.loop-list.into) (tables c.read_tree.new.into) c.loop-list.invariant.keeps c.read_tree.ensures.keeps
+
+pub arguments-returns-in_default-2-clause-keeps : goal.arguments-returns-in_default-2-clause-keeps
+arguments-returns-in_default-2-clause-keeps g t c = extends_then (tables c.args.into.now) (tables c.loop-list.into) (tables c.read_tree.new.into) c.loop-list.invariant.keeps c.read_tree.ensures.keeps
+
+pub arguments-returns-in_err-push-clause-keeps : goal.arguments-returns-in_err-push-clause-keeps
+arguments-returns-in_err-push-clause-keeps g t c = extends_then (tables c.args.into.now) (tables c.loop-list.into) (tables c.read_tree.new.into) c.loop-list.invariant.keeps c.read_tree.ensures.keeps
+
+pub arguments-returns-in_default-peek-clause-keeps : goal.arguments-returns-in_default-peek-clause-keeps
+arguments-returns-in_default-peek-clause-keeps g t c = extends_then (tables c.args.into.now) (tables c.loop-list.into) (tables c.read_tree.new.into) c.loop-list.invariant.keeps c.read_tree.ensures.keeps
+
+pub arguments-returns-in-loop-list-clause-keeps : goal.arguments-returns-in-loop-list-clause-keeps
+arguments-returns-in-loop-list-clause-keeps g t c = extends_then (tables c.args.into.now) (tables c.loop-list.into) (tables c.read_tree.new.into) c.loop-list.invariant.keeps c.read_tree.ensures.keeps
+
+pub arguments-returns-then-is_close-clause-keeps : goal.arguments-returns-then-is_close-clause-keeps
+arguments-returns-then-is_close-clause-keeps g t c = extends_then (tables c.args.into.now) (tables c.read_tree.new.into) (tables c.call-then-is_close.new.into) (extends_then (tables c.args.into.now) (tables c.loop-list.into) (tables c.read_tree.new.into) c.loop-list.invariant.keeps c.read_tree.ensures.keeps) c.call-then-is_close.ensures.keeps
+
+-- ---- front, once its operand is read
+
+pub front-returns-in-None-clause-ok : goal.front-returns-in-None-clause-ok
+front-returns-in-None-clause-ok g t c = nothing _ _ _ (front_nothing (read (names_in c.args.self.now.typedefs.now (g.R.TypeReader.types c.args.self.now.reader.now) (tables c.args.into.now) c.args.self.now.tokens.now.tokens) c.args.below) c.args.line c.args.op (drop c.args.at c.args.self.now.tokens.now.tokens) c.operand.result c.operand.ensures (got_none (tables c.read_tree.new.into) c.args.self.now.tokens.now.tokens c.in_ok-operand.field-0 _ c.in_ok-operand.ensures.ok c.in-None.is))
+
+pub front-returns-in-Some-clause-ok : goal.front-returns-in-Some-clause-ok
+front-returns-in-Some-clause-ok g t c = moved _ _ _ _ _ (front_done (read (names_in c.args.self.now.typedefs.now (g.R.TypeReader.types c.args.self.now.reader.now) (tables c.args.into.now) c.args.self.now.tokens.now.tokens) c.args.below) c.args.line c.args.op (drop c.args.at c.args.self.now.tokens.now.tokens) c.operand.result c.operand.ensures (expression_at (tables c.read_tree.new.into).forest c.in-Some.operand) (drop c.in-Some.next c.args.self.now.tokens.now.tokens) (got (tables c.read_tree.new.into) c.args.self.now.tokens.now.tokens c.in_ok-operand.field-0 _ c.in-Some.operand c.in-Some.next c.in_ok-operand.ensures.ok c.in-Some.is).0) c.prefixed.ensures.ok
+
+-- ---- go_on, once its operand is read
+
+pub go_on-returns-in-None-clause-ok : goal.go_on-returns-in-None-clause-ok
+go_on-returns-in-None-clause-ok g t c = nothing _ _ _ (join_nothing (names_in c.args.self.now.typedefs.now (g.R.TypeReader.types c.args.self.now.reader.now) (tables c.args.into.now) c.args.self.now.tokens.now.tokens) (read (names_in c.args.self.now.typedefs.now (g.R.TypeReader.types c.args.self.now.reader.now) (tables c.args.into.now) c.args.self.now.tokens.now.tokens) c.args.below) (expression_at (tables c.args.into.now).forest c.args.left) (drop c.args.at c.args.self.now.tokens.now.tokens) c.args.follow c.in-Join.op c.in-Join.is c.right.result c.right.ensures (got_none (tables c.read_tree.new.into) c.args.self.now.tokens.now.tokens c.in_ok-right-in-Join.field-0 _ c.in_ok-right-in-Join.ensures.ok c.in-None.is))
+
+pub go_on-returns-in-Some-clause-ok : goal.go_on-returns-in-Some-clause-ok
+go_on-returns-in-Some-clause-ok g t c = moved _ _ _ _ _ (join_done (tables c.args.into.now) (tables c.read_tree.new.into) c.args.self.now.tokens.now.tokens c.read_tree.ensures.keeps (names_in c.args.self.now.typedefs.now (g.R.TypeReader.types c.args.self.now.reader.now) (tables c.args.into.now) c.args.self.now.tokens.now.tokens) (read (names_in c.args.self.now.typedefs.now (g.R.TypeReader.types c.args.self.now.reader.now) (tables c.args.into.now) c.args.self.now.tokens.now.tokens) c.args.below) c.args.at c.args.left c.requires.node c.args.follow c.in_ok-right-in-Join.field-0 c.in-Some.right c.in-Some.next c.in-Some.is c.in-Join.op c.in-Join.is c.right.result c.right.ensures c.in_ok-right-in-Join.ensures.ok) c.joined.ensures.ok
+
+pub go_on-returns-in-Increment-clause-ok : goal.go_on-returns-in-Increment-clause-ok
+go_on-returns-in-Increment-clause-ok g t c = moved _ _ _ _ _ (increment_is (names_in c.args.self.now.typedefs.now (g.R.TypeReader.types c.args.self.now.reader.now) (tables c.args.into.now) c.args.self.now.tokens.now.tokens) (read (names_in c.args.self.now.typedefs.now (g.R.TypeReader.types c.args.self.now.reader.now) (tables c.args.into.now) c.args.self.now.tokens.now.tokens) c.args.below) (expression_at (tables c.args.into.now).forest c.args.left) (drop c.args.at c.args.self.now.tokens.now.tokens) c.args.follow c.in-Increment.is c.line_of-line.result c.line_of-line.ensures) c.found.ensures.ok
+
+pub go_on-returns-in-Decrement-clause-ok : goal.go_on-returns-in-Decrement-clause-ok
+go_on-returns-in-Decrement-clause-ok g t c = moved _ _ _ _ _ (decrement_is (names_in c.args.self.now.typedefs.now (g.R.TypeReader.types c.args.self.now.reader.now) (tables c.args.into.now) c.args.self.now.tokens.now.tokens) (read (names_in c.args.self.now.typedefs.now (g.R.TypeReader.types c.args.self.now.reader.now) (tables c.args.into.now) c.args.self.now.tokens.now.tokens) c.args.below) (expression_at (tables c.args.into.now).forest c.args.left) (drop c.args.at c.args.self.now.tokens.now.tokens) c.args.follow c.in-Decrement.is c.line_of-line-in-Decrement.result c.line_of-line-in-Decrement.ensures) c.found-in-Decrement.ensures.ok
+
+pub go_on-returns-in-Call-clause-ok : goal.go_on-returns-in-Call-clause-ok
+go_on-returns-in-Call-clause-ok g t c = moved _ _ _ _ _ (call_is (names_in c.args.self.now.typedefs.now (g.R.TypeReader.types c.args.self.now.reader.now) (tables c.args.into.now) c.args.self.now.tokens.now.tokens) (read (names_in c.args.self.now.typedefs.now (g.R.TypeReader.types c.args.self.now.reader.now) (tables c.args.into.now) c.args.self.now.tokens.now.tokens) c.args.below) (expression_at (tables c.args.into.now).forest c.args.left) (drop c.args.at c.args.self.now.tokens.now.tokens) c.args.follow c.in-Call.is) c.arguments.ensures.ok
+
+pub go_on-returns-in-None-2-clause-ok : goal.go_on-returns-in-None-2-clause-ok
+go_on-returns-in-None-2-clause-ok g t c = nothing _ _ _ (ask_nothing (names_in c.args.self.now.typedefs.now (g.R.TypeReader.types c.args.self.now.reader.now) (tables c.args.into.now) c.args.self.now.tokens.now.tokens) (read (names_in c.args.self.now.typedefs.now (g.R.TypeReader.types c.args.self.now.reader.now) (tables c.args.into.now) c.args.self.now.tokens.now.tokens) c.args.below) (expression_at (tables c.args.into.now).forest c.args.left) (drop c.args.at c.args.self.now.tokens.now.tokens) c.args.follow c.in-Ask.is (got_none (tables c.read_tree-in-Ask.new.into) c.args.self.now.tokens.now.tokens c.in_ok-yes-in-Ask.field-0 _ c.in_ok-yes-in-Ask.ensures.ok c.in-None-2.is))
+
+pub go_on-returns-in-None-3-clause-ok : goal.go_on-returns-in-None-3-clause-ok
+go_on-returns-in-None-3-clause-ok g t c = nothing _ _ _ (index_nothing (names_in c.args.self.now.typedefs.now (g.R.TypeReader.types c.args.self.now.reader.now) (tables c.args.into.now) c.args.self.now.tokens.now.tokens) (read (names_in c.args.self.now.typedefs.now (g.R.TypeReader.types c.args.self.now.reader.now) (tables c.args.into.now) c.args.self.now.tokens.now.tokens) c.args.below) (expression_at (tables c.args.into.now).forest c.args.left) (drop c.args.at c.args.self.now.tokens.now.tokens) c.args.follow c.in-Index.is (got_none (tables c.read_tree-in-Index.new.into) c.args.self.now.tokens.now.tokens c.in_ok-subscript-in-Index.field-0 _ c.in_ok-subscript-in-Index.ensures.ok c.in-None-3.is))
+
+pub go_on-returns-in-Some-3-clause-ok : goal.go_on-returns-in-Some-3-clause-ok
+go_on-returns-in-Some-3-clause-ok g t c = moved _ _ _ _ _ (index_done (tables c.args.into.now) (tables c.read_tree-in-Index.new.into) c.args.self.now.tokens.now.tokens c.read_tree-in-Index.ensures.keeps (names_in c.args.self.now.typedefs.now (g.R.TypeReader.types c.args.self.now.reader.now) (tables c.args.into.now) c.args.self.now.tokens.now.tokens) (read (names_in c.args.self.now.typedefs.now (g.R.TypeReader.types c.args.self.now.reader.now) (tables c.args.into.now) c.args.self.now.tokens.now.tokens) c.args.below) c.args.at c.args.left c.requires.node c.args.follow c.in_ok-subscript-in-Index.field-0 c.in-Some-3.subscript c.in-Some-3.next c.in-Some-3.is c.in-Index.is c.in_ok-subscript-in-Index.ensures.ok) c.index.ensures.ok
+
+-- ---- ask, once its operand is read
+
+pub ask-returns-in_default-clause-ok : goal.ask-returns-in_default-clause-ok
+ask-returns-in_default-clause-ok g t c = nothing _ _ _ (asked_none (read (names_in c.args.self.now.typedefs.now (g.R.TypeReader.types c.args.self.now.reader.now) (tables c.args.into.now) c.args.self.now.tokens.now.tokens) c.args.below) (expression_at (tables c.args.into.now).forest c.args.condition) (expression_at (tables c.args.into.now).forest c.args.yes) (drop c.args.at c.args.self.now.tokens.now.tokens) c.in_default.ensures)
+
+pub ask-returns-in-None-clause-ok : goal.ask-returns-in-None-clause-ok
+ask-returns-in-None-clause-ok g t c = nothing _ _ _ (asked_nothing (read (names_in c.args.self.now.typedefs.now (g.R.TypeReader.types c.args.self.now.reader.now) (tables c.args.into.now) c.args.self.now.tokens.now.tokens) c.args.below) (expression_at (tables c.args.into.now).forest c.args.condition) (expression_at (tables c.args.into.now).forest c.args.yes) (drop c.args.at c.args.self.now.tokens.now.tokens) (drop c.in-Some.next c.args.self.now.tokens.now.tokens) c.in-Some.ensures.0 (got_none (tables c.read_tree.new.into) c.args.self.now.tokens.now.tokens c.in_ok-no.field-0 _ c.in_ok-no.ensures.ok c.in-None.is))
+
+pub ask-returns-in-Some-2-clause-ok : goal.ask-returns-in-Some-2-clause-ok
+ask-returns-in-Some-2-clause-ok g t c = moved _ _ _ _ _ (asked_done (tables c.args.into.now) (tables c.read_tree.new.into) c.args.self.now.tokens.now.tokens c.read_tree.ensures.keeps (read (names_in c.args.self.now.typedefs.now (g.R.TypeReader.types c.args.self.now.reader.now) (tables c.args.into.now) c.args.self.now.tokens.now.tokens) c.args.below) c.args.at c.args.condition c.args.yes c.requires.condition c.requires.yes c.in-Some.next c.in-Some.ensures.0 c.in_ok-no.field-0 c.in_ok-no.ensures.ok c.in-Some-2.no c.in-Some-2.end c.in-Some-2.is c.line_of-line.result c.line_of-line.ensures) c.found.ensures.ok
+
+-- ---- what a node's parts have to be
+
+pub front-prefixed-requires-clause-place : goal.front-prefixed-requires-clause-place
+front-prefixed-requires-clause-place g t c = (got (tables c.read_tree.new.into) c.args.self.now.tokens.now.tokens c.in_ok-operand.field-0 _ c.in-Some.operand c.in-Some.next c.in_ok-operand.ensures.ok c.in-Some.is).2
+
+pub front-prefixed-requires-clause-operand : goal.front-prefixed-requires-clause-operand
+front-prefixed-requires-clause-operand g t c = (got (tables c.read_tree.new.into) c.args.self.now.tokens.now.tokens c.in_ok-operand.field-0 _ c.in-Some.operand c.in-Some.next c.in_ok-operand.ensures.ok c.in-Some.is).1
+
+pub go_on-joined-requires-clause-place : goal.go_on-joined-requires-clause-place
+go_on-joined-requires-clause-place g t c = (got (tables c.read_tree.new.into) c.args.self.now.tokens.now.tokens c.in_ok-right-in-Join.field-0 _ c.in-Some.right c.in-Some.next c.in_ok-right-in-Join.ensures.ok c.in-Some.is).2
+
+pub go_on-joined-requires-clause-left : goal.go_on-joined-requires-clause-left
+go_on-joined-requires-clause-left g t c = is_kept (tables c.args.into.now) (tables c.read_tree.new.into) is_expression c.args.left c.read_tree.ensures.keeps c.requires.node
+
+pub go_on-joined-requires-clause-right : goal.go_on-joined-requires-clause-right
+go_on-joined-requires-clause-right g t c = (got (tables c.read_tree.new.into) c.args.self.now.tokens.now.tokens c.in_ok-right-in-Join.field-0 _ c.in-Some.right c.in-Some.next c.in_ok-right-in-Join.ensures.ok c.in-Some.is).1
+
+pub go_on-index-requires-clause-place : goal.go_on-index-requires-clause-place
+go_on-index-requires-clause-place g t c = (got (tables c.read_tree-in-Index.new.into) c.args.self.now.tokens.now.tokens c.in_ok-subscript-in-Index.field-0 _ c.in-Some-3.subscript c.in-Some-3.next c.in_ok-subscript-in-Index.ensures.ok c.in-Some-3.is).2
+
+pub go_on-index-requires-clause-array : goal.go_on-index-requires-clause-array
+go_on-index-requires-clause-array g t c = is_kept (tables c.args.into.now) (tables c.read_tree-in-Index.new.into) is_expression c.args.left c.read_tree-in-Index.ensures.keeps c.requires.node
+
+pub go_on-index-requires-clause-index : goal.go_on-index-requires-clause-index
+go_on-index-requires-clause-index g t c = (got (tables c.read_tree-in-Index.new.into) c.args.self.now.tokens.now.tokens c.in_ok-subscript-in-Index.field-0 _ c.in-Some-3.subscript c.in-Some-3.next c.in_ok-subscript-in-Index.ensures.ok c.in-Some-3.is).1
+
+pub go_on-member-requires-clause-place : goal.go_on-member-requires-clause-place
+go_on-member-requires-clause-place g t c = c.requires.place
+
+pub go_on-arrow-requires-clause-place : goal.go_on-arrow-requires-clause-place
+go_on-arrow-requires-clause-place g t c = c.requires.place
+
+pub go_on-found-requires-clause-place : goal.go_on-found-requires-clause-place
+go_on-found-requires-clause-place g t c = c.requires.place
+
+pub go_on-member-requires-clause-whole : goal.go_on-member-requires-clause-whole
+go_on-member-requires-clause-whole g t c = c.requires.node
+
+pub go_on-arrow-requires-clause-pointer : goal.go_on-arrow-requires-clause-pointer
+go_on-arrow-requires-clause-pointer g t c = c.requires.node
+
+pub open-type_closed-requires-clause-place : goal.open-type_closed-requires-clause-place
+open-type_closed-requires-clause-place g t c = c.requires.place
+
+pub open-type_closed-requires-clause-tied : goal.open-type_closed-requires-clause-tied
+open-type_closed-requires-clause-tied g t c = c.requires.tied
+
+pub open-found-requires-clause-place : goal.open-found-requires-clause-place
+open-found-requires-clause-place g t c = (got (tables c.read_tree.new.into) c.args.self.now.tokens.now.tokens c.in_ok-operand.field-0 _ c.in-Some-2.operand c.in-Some-2.end c.in_ok-operand.ensures.ok c.in-Some-2.is).2
+
+pub open-close-requires-clause-place : goal.open-close-requires-clause-place
+open-close-requires-clause-place g t c = (got (tables c.read_tree-else-begins_type.new.into) c.args.self.now.tokens.now.tokens c.in_ok-inside.field-0 _ c.in-Some-3.inside c.in-Some-3.next c.in_ok-inside.ensures.ok c.in-Some-3.is).2
+
+pub open-close-requires-clause-inside : goal.open-close-requires-clause-inside
+open-close-requires-clause-inside g t c = (got (tables c.read_tree-else-begins_type.new.into) c.args.self.now.tokens.now.tokens c.in_ok-inside.field-0 _ c.in-Some-3.inside c.in-Some-3.next c.in_ok-inside.ensures.ok c.in-Some-3.is).1
+
+pub ask-found-requires-clause-place : goal.ask-found-requires-clause-place
+ask-found-requires-clause-place g t c = (got (tables c.read_tree.new.into) c.args.self.now.tokens.now.tokens c.in_ok-no.field-0 _ c.in-Some-2.no c.in-Some-2.end c.in_ok-no.ensures.ok c.in-Some-2.is).2
+
+pub ask-line_of-line-requires : goal.ask-line_of-line-requires
+ask-line_of-line-requires g t c = is_kept (tables c.args.into.now) (tables c.read_tree.new.into) is_expression c.args.condition c.read_tree.ensures.keeps c.requires.condition
+
+pub read_head-measure-requires-clause-tied : goal.read_head-measure-requires-clause-tied
+read_head-measure-requires-clause-tied g t c = c.requires.tied
+
+pub arguments-call-requires-clause-place : goal.arguments-call-requires-clause-place
+arguments-call-requires-clause-place g t c = c.in-Some.ensures.1
+
+pub arguments-call-requires-clause-callee : goal.arguments-call-requires-clause-callee
+arguments-call-requires-clause-callee g t c = c.requires.node
+
+-- ---- where a tree is read
+
+pub read_tree-read_deeper-requires : goal.read_tree-read_deeper-requires
+read_tree-read_deeper-requires g t c κs within = (omega arith, (within, (c.requires.place, c.requires.tied)))
+
+pub read_deeper-read_head-requires : goal.read_deeper-read_head-requires
+read_deeper-read_head-requires g t c κs within = (omega arith, (within, (c.requires.place, c.requires.tied)))
+
+pub front-read_tree-requires : goal.front-read_tree-requires
+front-read_tree-requires g t c κs within = (omega arith, (within, (c.requires.place, c.requires.tied)))
+
+pub go_on-read_tree-requires : goal.go_on-read_tree-requires
+go_on-read_tree-requires g t c κs within = (omega arith, (within, (c.requires.place, c.requires.tied)))
+
+pub go_on-read_tree-requires-in-Ask : goal.go_on-read_tree-requires-in-Ask
+go_on-read_tree-requires-in-Ask g t c κs within = (omega arith, (within, (c.requires.place, c.requires.tied)))
+
+pub go_on-read_tree-requires-in-Index : goal.go_on-read_tree-requires-in-Index
+go_on-read_tree-requires-in-Index g t c κs within = (omega arith, (within, (c.requires.place, c.requires.tied)))
+
+pub open-read_tree-requires-else-begins_type : goal.open-read_tree-requires-else-begins_type
+open-read_tree-requires-else-begins_type g t c κs within = (omega arith, (within, (c.requires.place, c.requires.tied)))
+
+pub go_on-arguments-requires : goal.go_on-arguments-requires
+go_on-arguments-requires g t c κs within = (omega arith, (within, (c.requires.place, (c.requires.tied, c.requires.node))))
+
+pub open-read_tree-requires : goal.open-read_tree-requires
+open-read_tree-requires g t c κs within = (omega arith, (within, (c.in-Some.ensures.2, c.requires.tied)))
+
+pub ask-read_tree-requires : goal.ask-read_tree-requires
+ask-read_tree-requires g t c κs within = (omega arith, (within, (c.in-Some.ensures.1, c.requires.tied)))
+
+pub arguments-read_tree-requires : goal.arguments-read_tree-requires
+arguments-read_tree-requires g t c κs within = (omega arith, (within, (c.loop-list.invariant.place, c.loop-list.invariant.tied)))
+
+pub grow-extend-requires : goal.grow-extend-requires
+grow-extend-requires g t c κs within = (omega arith, (within, (c.loop-longer.invariant.place, (c.loop-longer.invariant.tied, c.loop-longer.invariant.node))))

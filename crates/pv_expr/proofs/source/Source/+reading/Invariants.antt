@@ -4,8 +4,8 @@ use Rattle.pv_tree.specs.Rows.{tables}
 use Rattle.pv_tree.specs.Syntax.{NoArguments}
 use Rattle.pv_tree.specs.Tables.{expression_at, arguments_of, is_expression, Is, Extends}
 use Rattle.pv_tree.specs.TypeNames.{AreTied}
-use Rattle.pv_expr.specs.Reader.{read, grown, arguments}
-use Rattle.pv_expr.specs.Known.{names_in}
+use Rattle.pv_expr_forms.specs.Reader.{read, grown, arguments}
+use Rattle.pv_expr_forms.specs.Known.{names_in}
 use Rattle.pv_expr.proofs.source.Source.+reading.Given as goal
 
 abbrev pub decreases-read_tree : goal.decreases-read_tree

@@ -1,6 +1,6 @@
 use Rattle.std.proofs.Common.{None}
-use Rattle.pv_expr.proofs.Answered.{moved}
-use Rattle.pv_expr.proofs.Firsts.{measured_is}
+use Rattle.pv_expr_forms.proofs.Answered.{moved}
+use Rattle.pv_expr_forms.proofs.Firsts.{measured_is}
 use Rattle.pv_expr.proofs.source.Source.measure.Goals as goal
 
 pub returns-in-Some-clause-ok : goal.returns-in-Some-clause-ok

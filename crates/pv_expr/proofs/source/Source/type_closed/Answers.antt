@@ -1,5 +1,5 @@
 use Rattle.std.proofs.Common.{arith}
-use Rattle.pv_expr.proofs.Naming.{closed_without, closed_deep, closed_is}
+use Rattle.pv_expr_forms.proofs.Naming.{closed_without, closed_deep, closed_is}
 use Rattle.pv_expr.proofs.source.Source.type_closed.Goals as goal
 
 pub returns-in_default : goal.returns-in_default

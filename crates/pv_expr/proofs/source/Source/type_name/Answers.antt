@@ -1,5 +1,5 @@
 use Rattle.pv_tree.specs.Rows.{tables}
-use Rattle.pv_expr.proofs.Naming.{type_is}
+use Rattle.pv_expr_forms.proofs.Naming.{type_is}
 use Rattle.pv_expr.proofs.source.Source.type_name.Goals as goal
 
 pub returns : goal.returns

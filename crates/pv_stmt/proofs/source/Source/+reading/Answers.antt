@@ -4,23 +4,23 @@ use Rattle.pv_tree.specs.Rows.{tables}
 use Rattle.pv_tree.specs.Syntax.{Tree, Trees, OfStatement, While, NoTrees, Switch, Labelled}
 use Rattle.pv_tree.specs.Tables.{tree_at, as_expression, statement_at, is_expression, is_declaration, is_statement, is_item, trees_of, Is}
 use Rattle.pv_tree.proofs.Kept.{extends_same, extends_then, tree_kept, is_kept}
-use Rattle.pv_expr.specs.Known.{names_in}
-use Rattle.pv_expr.proofs.Naming.{tied_kept, names_kept}
-use Rattle.pv_decl.specs.Pieces.{row}
-use Rattle.pv_decl.specs.Reader.{declaration}
-use Rattle.pv_decl.proofs.Answered.{moved, nothing}
-use Rattle.pv_decl.proofs.Loops.{at_start, no_parts, start_row, goes_forward, part_there, parts_there, row_ends, row_goes, trees_kept, all_kept}
-use Rattle.pv_stmt.specs.Parts.{item_in, braced, enclosed}
-use Rattle.pv_stmt.specs.Statements.{condition, declared, labelled, chosen, do_end, Statements, SwitchBlocks, readers, block_end}
-use Rattle.pv_stmt.proofs.Shorter.{items_shorten}
-use Rattle.pv_stmt.proofs.Chains.{first_some, first_none, there_of, later_some, later_none, as_items, statement_item, declaration_item, labelled_none, labelled_bare, labelled_so, selection_shut, selection_none, selection_so, loop_shut, loop_none, loop_so, switch_shut, switch_none, switch_so, do_none, do_on, chosen_plain, chosen_open, chosen_unread, chosen_both, alone_kept, both_kept}
-use Rattle.pv_stmt.proofs.Begun.{statement_zero, switch_zero, statement_end, begun, switch_begun, switch_not, item_declared, item_stated, item_labelled}
-use Rattle.pv_stmt.proofs.Heading.{for_shut, for_none, for_so, for_children, head_there}
-use Rattle.pv_decl.proofs.Listing.{some_of, none_of}
+use Rattle.pv_expr_forms.specs.Known.{names_in}
+use Rattle.pv_expr_forms.proofs.Naming.{tied_kept, names_kept}
+use Rattle.pv_decl_forms.specs.Pieces.{row}
+use Rattle.pv_decl_forms.specs.Reader.{declaration}
+use Rattle.pv_decl_forms.proofs.Answered.{moved, nothing}
+use Rattle.pv_decl_forms.proofs.Loops.{at_start, no_parts, start_row, goes_forward, part_there, parts_there, row_ends, row_goes, trees_kept, all_kept}
+use Rattle.pv_stmt_forms.specs.Parts.{item_in, braced, enclosed}
+use Rattle.pv_stmt_forms.specs.Statements.{condition, declared, labelled, chosen, do_end, Statements, SwitchBlocks, readers, block_end}
+use Rattle.pv_stmt_forms.proofs.Shorter.{items_shorten}
+use Rattle.pv_stmt_forms.proofs.Chains.{first_some, first_none, there_of, later_some, later_none, as_items, statement_item, declaration_item, labelled_none, labelled_bare, labelled_so, selection_shut, selection_none, selection_so, loop_shut, loop_none, loop_so, switch_shut, switch_none, switch_so, do_none, do_on, chosen_plain, chosen_open, chosen_unread, chosen_both, alone_kept, both_kept}
+use Rattle.pv_stmt_forms.proofs.Begun.{statement_zero, switch_zero, statement_end, begun, switch_begun, switch_not, item_declared, item_stated, item_labelled}
+use Rattle.pv_stmt_forms.proofs.Heading.{for_shut, for_none, for_so, for_children, head_there}
+use Rattle.pv_decl_forms.proofs.Listing.{some_of, none_of}
 use Rattle.pv_tree.specs.Grammar.{Names, line_here}
 use Rattle.pv_tree.specs.declared.nodes.NodeId.{NodeId}
-use Rattle.pv_stmt.specs.declared.forms.StatementForm.TheVariants as form
-use Rattle.pv_stmt.specs.declared.forms.Within.TheVariants as within
+use Rattle.pv_stmt_forms.specs.declared.forms.StatementForm.TheVariants as form
+use Rattle.pv_stmt_forms.specs.declared.forms.Within.TheVariants as within
 use Rattle.pv_stmt.proofs.source.Source.+reading.Goals as goal
 
 pub statement-returns-then-depth-eq0-clause-keeps : goal.statement-returns-then-depth-eq0-clause-keeps
@@ -289,3 +289,249 @@ labelled-labelled_of-requires-clause-labels g t c = subst (λ (ns : List NodeId)
 
 pub labelled-labelled_of-requires-clause-statement : goal.labelled-labelled_of-requires-clause-statement
 labelled-labelled_of-requires-clause-statement g t c = (there_of (tables c.statement.new.into) is_statement c.args.self.now.tokens.now.tokens c.in_ok-statement.field-0 (readers (names_in c.args.self.now.typedefs.now (g.R.TypeReader.types c.args.self.now.reader.now) (tables c.labels.new.into) c.args.self.now.tokens.now.tokens) c.args.depth Statements (drop c.in_ok-labels.next c.args.self.now.tokens.now.tokens)) c.in_ok-statement.ensures.ok c.in-Some.statement c.in-Some.end c.in-Some.is).0
+
+pub braced-returns-in_err-items-clause-keeps : goal.braced-returns-in_err-items-clause-keeps
+braced-returns-in_err-items-clause-keeps g t c = c.items.ensures.keeps
+
+pub braced-returns-clause-keeps : goal.braced-returns-clause-keeps
+braced-returns-clause-keeps g t c = extends_then (tables c.args.into.now) (tables c.items.new.into) (tables c.block_of.new.into) c.items.ensures.keeps c.block_of.ensures.keeps
+
+pub chosen-after-requires : goal.chosen-after-requires
+chosen-after-requires g t c = c.requires.place
+
+pub chosen-found_statement-requires-clause-place : goal.chosen-found_statement-requires-clause-place
+chosen-found_statement-requires-clause-place g t c = c.requires.place
+
+pub chosen-found_statement-requires-clause-children : goal.chosen-found_statement-requires-clause-children
+chosen-found_statement-requires-clause-children g t c = (c.requires.condition, c.requires.body)
+
+pub chosen-returns-in_default-clause-keeps : goal.chosen-returns-in_default-clause-keeps
+chosen-returns-in_default-clause-keeps g t c = c.found_statement.ensures.keeps
+
+pub chosen-ends_open-requires : goal.chosen-ends_open-requires
+chosen-ends_open-requires g t c = c.requires.body
+
+pub chosen-found_statement-requires-then-ends_open-clause-place : goal.chosen-found_statement-requires-then-ends_open-clause-place
+chosen-found_statement-requires-then-ends_open-clause-place g t c = c.requires.place
+
+pub chosen-found_statement-requires-then-ends_open-clause-children : goal.chosen-found_statement-requires-then-ends_open-clause-children
+chosen-found_statement-requires-then-ends_open-clause-children g t c = (c.requires.condition, c.requires.body)
+
+pub chosen-returns-then-ends_open-clause-keeps : goal.chosen-returns-then-ends_open-clause-keeps
+chosen-returns-then-ends_open-clause-keeps g t c = c.found_statement-then-ends_open.ensures.keeps
+
+pub chosen-returns-in_err-other-clause-keeps : goal.chosen-returns-in_err-other-clause-keeps
+chosen-returns-in_err-other-clause-keeps g t c = c.statement.ensures.keeps
+
+pub chosen-found_statement-requires-in-None-clause-place : goal.chosen-found_statement-requires-in-None-clause-place
+chosen-found_statement-requires-in-None-clause-place g t c = c.requires.place
+
+pub do_loop-returns-in_err-body-clause-keeps : goal.do_loop-returns-in_err-body-clause-keeps
+do_loop-returns-in_err-body-clause-keeps g t c = c.statement.ensures.keeps
+
+pub do_loop-returns-in-Some-clause-keeps : goal.do_loop-returns-in-Some-clause-keeps
+do_loop-returns-in-Some-clause-keeps g t c = extends_then (tables c.args.into.now) (tables c.statement.new.into) (tables c.do_end.new.into) c.statement.ensures.keeps c.do_end.ensures.keeps
+
+pub do_loop-returns-in-None-clause-keeps : goal.do_loop-returns-in-None-clause-keeps
+do_loop-returns-in-None-clause-keeps g t c = c.statement.ensures.keeps
+
+pub for_loop-for_head-requires-clause-place : goal.for_loop-for_head-requires-clause-place
+for_loop-for_head-requires-clause-place g t c = c.requires.place
+
+pub for_loop-for_head-requires-clause-tied : goal.for_loop-for_head-requires-clause-tied
+for_loop-for_head-requires-clause-tied g t c = c.requires.tied
+
+pub for_loop-returns-in_err-head-clause-keeps : goal.for_loop-returns-in_err-head-clause-keeps
+for_loop-returns-in_err-head-clause-keeps g t c = c.for_head.ensures.keeps
+
+pub for_loop-returns-in_default-clause-keeps : goal.for_loop-returns-in_default-clause-keeps
+for_loop-returns-in_default-clause-keeps g t c = c.for_head.ensures.keeps
+
+pub for_loop-returns-in_err-body-clause-keeps : goal.for_loop-returns-in_err-body-clause-keeps
+for_loop-returns-in_err-body-clause-keeps g t c = extends_then (tables c.args.into.now) (tables c.for_head.new.into) (tables c.statement.new.into) c.for_head.ensures.keeps c.statement.ensures.keeps
+
+pub for_loop-returns-in-None-clause-keeps : goal.for_loop-returns-in-None-clause-keeps
+for_loop-returns-in-None-clause-keeps g t c = extends_then (tables c.args.into.now) (tables c.for_head.new.into) (tables c.statement.new.into) c.for_head.ensures.keeps c.statement.ensures.keeps
+
+pub for_loop-returns-in-Some-2-clause-keeps : goal.for_loop-returns-in-Some-2-clause-keeps
+for_loop-returns-in-Some-2-clause-keeps g t c = extends_then (tables c.args.into.now) (tables c.statement.new.into) (tables c.found_statement.new.into) (extends_then (tables c.args.into.now) (tables c.for_head.new.into) (tables c.statement.new.into) c.for_head.ensures.keeps c.statement.ensures.keeps) c.found_statement.ensures.keeps
+
+pub while_loop-returns-in_err-body-clause-keeps : goal.while_loop-returns-in_err-body-clause-keeps
+while_loop-returns-in_err-body-clause-keeps g t c = extends_then (tables c.args.into.now) (tables c.condition.new.into) (tables c.statement.new.into) c.condition.ensures.keeps c.statement.ensures.keeps
+
+pub while_loop-returns-in-None-clause-keeps : goal.while_loop-returns-in-None-clause-keeps
+while_loop-returns-in-None-clause-keeps g t c = extends_then (tables c.args.into.now) (tables c.condition.new.into) (tables c.statement.new.into) c.condition.ensures.keeps c.statement.ensures.keeps
+
+pub while_loop-returns-in-Some-2-clause-keeps : goal.while_loop-returns-in-Some-2-clause-keeps
+while_loop-returns-in-Some-2-clause-keeps g t c = extends_then (tables c.args.into.now) (tables c.statement.new.into) (tables c.found_statement.new.into) (extends_then (tables c.args.into.now) (tables c.condition.new.into) (tables c.statement.new.into) c.condition.ensures.keeps c.statement.ensures.keeps) c.found_statement.ensures.keeps
+
+pub selection-returns-in_err-body-clause-keeps : goal.selection-returns-in_err-body-clause-keeps
+selection-returns-in_err-body-clause-keeps g t c = extends_then (tables c.args.into.now) (tables c.condition.new.into) (tables c.statement.new.into) c.condition.ensures.keeps c.statement.ensures.keeps
+
+pub selection-returns-in-None-clause-keeps : goal.selection-returns-in-None-clause-keeps
+selection-returns-in-None-clause-keeps g t c = extends_then (tables c.args.into.now) (tables c.condition.new.into) (tables c.statement.new.into) c.condition.ensures.keeps c.statement.ensures.keeps
+
+pub selection-returns-in-Some-2-clause-keeps : goal.selection-returns-in-Some-2-clause-keeps
+selection-returns-in-Some-2-clause-keeps g t c = extends_then (tables c.args.into.now) (tables c.statement.new.into) (tables c.chosen.new.into) (extends_then (tables c.args.into.now) (tables c.condition.new.into) (tables c.statement.new.into) c.condition.ensures.keeps c.statement.ensures.keeps) c.chosen.ensures.keeps
+
+pub selection-condition-requires-clause-place : goal.selection-condition-requires-clause-place
+selection-condition-requires-clause-place g t c = c.requires.place
+
+pub selection-condition-requires-clause-tied : goal.selection-condition-requires-clause-tied
+selection-condition-requires-clause-tied g t c = c.requires.tied
+
+pub selection-returns-in_err-condition-clause-keeps : goal.selection-returns-in_err-condition-clause-keeps
+selection-returns-in_err-condition-clause-keeps g t c = c.condition.ensures.keeps
+
+pub selection-returns-in_default-clause-keeps : goal.selection-returns-in_default-clause-keeps
+selection-returns-in_default-clause-keeps g t c = c.condition.ensures.keeps
+
+pub switch-condition-requires-clause-place : goal.switch-condition-requires-clause-place
+switch-condition-requires-clause-place g t c = c.requires.place
+
+pub switch-condition-requires-clause-tied : goal.switch-condition-requires-clause-tied
+switch-condition-requires-clause-tied g t c = c.requires.tied
+
+pub switch-returns-in_err-value-clause-keeps : goal.switch-returns-in_err-value-clause-keeps
+switch-returns-in_err-value-clause-keeps g t c = c.condition.ensures.keeps
+
+pub switch-returns-in_default-clause-keeps : goal.switch-returns-in_default-clause-keeps
+switch-returns-in_default-clause-keeps g t c = c.condition.ensures.keeps
+
+pub while_loop-condition-requires-clause-place : goal.while_loop-condition-requires-clause-place
+while_loop-condition-requires-clause-place g t c = c.requires.place
+
+pub while_loop-condition-requires-clause-tied : goal.while_loop-condition-requires-clause-tied
+while_loop-condition-requires-clause-tied g t c = c.requires.tied
+
+pub while_loop-returns-in_err-condition-clause-keeps : goal.while_loop-returns-in_err-condition-clause-keeps
+while_loop-returns-in_err-condition-clause-keeps g t c = c.condition.ensures.keeps
+
+pub while_loop-returns-in_default-clause-keeps : goal.while_loop-returns-in_default-clause-keeps
+while_loop-returns-in_default-clause-keeps g t c = c.condition.ensures.keeps
+
+pub switch-returns-in_err-block-clause-keeps : goal.switch-returns-in_err-block-clause-keeps
+switch-returns-in_err-block-clause-keeps g t c = extends_then (tables c.args.into.now) (tables c.condition.new.into) (tables c.switch_block.new.into) c.condition.ensures.keeps c.switch_block.ensures.keeps
+
+pub switch-returns-in-None-clause-keeps : goal.switch-returns-in-None-clause-keeps
+switch-returns-in-None-clause-keeps g t c = extends_then (tables c.args.into.now) (tables c.condition.new.into) (tables c.switch_block.new.into) c.condition.ensures.keeps c.switch_block.ensures.keeps
+
+pub switch-returns-in-Some-2-clause-keeps : goal.switch-returns-in-Some-2-clause-keeps
+switch-returns-in-Some-2-clause-keeps g t c = extends_then (tables c.args.into.now) (tables c.switch_block.new.into) (tables c.found_statement.new.into) (extends_then (tables c.args.into.now) (tables c.condition.new.into) (tables c.switch_block.new.into) c.condition.ensures.keeps c.switch_block.ensures.keeps) c.found_statement.ensures.keeps
+
+pub item-begins_type-requires : goal.item-begins_type-requires
+item-begins_type-requires g t c = c.requires.place
+
+pub item-declared-requires-clause-place : goal.item-declared-requires-clause-place
+item-declared-requires-clause-place g t c = c.requires.place
+
+pub item-declared-requires-clause-tied : goal.item-declared-requires-clause-tied
+item-declared-requires-clause-tied g t c = c.requires.tied
+
+pub item-returns-then-begins_type-clause-keeps : goal.item-returns-then-begins_type-clause-keeps
+item-returns-then-begins_type-clause-keeps g t c = c.declared.ensures.keeps
+
+pub item-returns-in-Block-clause-keeps : goal.item-returns-in-Block-clause-keeps
+item-returns-in-Block-clause-keeps g t c = c.statement.ensures.keeps
+
+pub item-returns-in-Switch-clause-keeps : goal.item-returns-in-Switch-clause-keeps
+item-returns-in-Switch-clause-keeps g t c = c.labelled.ensures.keeps
+
+pub items-returns-in_err-found-clause-keeps : goal.items-returns-in_err-found-clause-keeps
+items-returns-in_err-found-clause-keeps g t c = extends_then (tables c.args.into.now) (tables c.loop-items.into) (tables c.item.new.into) c.loop-items.invariant.keeps c.item.ensures.keeps
+
+pub items-returns-in_default-clause-keeps : goal.items-returns-in_default-clause-keeps
+items-returns-in_default-clause-keeps g t c = extends_then (tables c.args.into.now) (tables c.loop-items.into) (tables c.item.new.into) c.loop-items.invariant.keeps c.item.ensures.keeps
+
+pub items-returns-in_err-push-clause-keeps : goal.items-returns-in_err-push-clause-keeps
+items-returns-in_err-push-clause-keeps g t c = extends_then (tables c.args.into.now) (tables c.loop-items.into) (tables c.item.new.into) c.loop-items.invariant.keeps c.item.ensures.keeps
+
+pub labelled-line_at-line-requires : goal.labelled-line_at-line-requires
+labelled-line_at-line-requires g t c = c.requires.place
+
+pub labelled-labels-requires-clause-place : goal.labelled-labels-requires-clause-place
+labelled-labels-requires-clause-place g t c = c.requires.place
+
+pub labelled-labels-requires-clause-tied : goal.labelled-labels-requires-clause-tied
+labelled-labels-requires-clause-tied g t c = c.requires.tied
+
+pub labelled-returns-in_err-labels-clause-keeps : goal.labelled-returns-in_err-labels-clause-keeps
+labelled-returns-in_err-labels-clause-keeps g t c = c.labels.ensures.keeps
+
+pub labelled-returns-in_err-statement-clause-keeps : goal.labelled-returns-in_err-statement-clause-keeps
+labelled-returns-in_err-statement-clause-keeps g t c = extends_then (tables c.args.into.now) (tables c.labels.new.into) (tables c.statement.new.into) c.labels.ensures.keeps c.statement.ensures.keeps
+
+pub labelled-returns-in_default-clause-keeps : goal.labelled-returns-in_default-clause-keeps
+labelled-returns-in_default-clause-keeps g t c = extends_then (tables c.args.into.now) (tables c.labels.new.into) (tables c.statement.new.into) c.labels.ensures.keeps c.statement.ensures.keeps
+
+pub labelled-returns-then-is_empty-clause-keeps : goal.labelled-returns-then-is_empty-clause-keeps
+labelled-returns-then-is_empty-clause-keeps g t c = extends_then (tables c.args.into.now) (tables c.labels.new.into) (tables c.statement.new.into) c.labels.ensures.keeps c.statement.ensures.keeps
+
+pub labelled-returns-clause-keeps : goal.labelled-returns-clause-keeps
+labelled-returns-clause-keeps g t c = extends_then (tables c.args.into.now) (tables c.statement.new.into) (tables c.labelled_of.new.into) (extends_then (tables c.args.into.now) (tables c.labels.new.into) (tables c.statement.new.into) c.labels.ensures.keeps c.statement.ensures.keeps) c.labelled_of.ensures.keeps
+
+pub statement-peek-requires : goal.statement-peek-requires
+statement-peek-requires g t c = c.requires.place
+
+pub statement-returns-in-Braces-clause-keeps : goal.statement-returns-in-Braces-clause-keeps
+statement-returns-in-Braces-clause-keeps g t c = c.braced.ensures.keeps
+
+pub statement-returns-in-If-clause-keeps : goal.statement-returns-in-If-clause-keeps
+statement-returns-in-If-clause-keeps g t c = c.selection.ensures.keeps
+
+pub statement-returns-in-While-clause-keeps : goal.statement-returns-in-While-clause-keeps
+statement-returns-in-While-clause-keeps g t c = c.while_loop.ensures.keeps
+
+pub statement-returns-in-Do-clause-keeps : goal.statement-returns-in-Do-clause-keeps
+statement-returns-in-Do-clause-keeps g t c = c.do_loop.ensures.keeps
+
+pub statement-returns-in-For-clause-keeps : goal.statement-returns-in-For-clause-keeps
+statement-returns-in-For-clause-keeps g t c = c.for_loop.ensures.keeps
+
+pub statement-returns-in-Switch-clause-keeps : goal.statement-returns-in-Switch-clause-keeps
+statement-returns-in-Switch-clause-keeps g t c = c.switch.ensures.keeps
+
+pub statement-returns-in-Break-clause-keeps : goal.statement-returns-in-Break-clause-keeps
+statement-returns-in-Break-clause-keeps g t c = c.found_before.ensures.keeps
+
+pub statement-returns-in-Continue-clause-keeps : goal.statement-returns-in-Continue-clause-keeps
+statement-returns-in-Continue-clause-keeps g t c = c.found_before-in-Continue.ensures.keeps
+
+pub statement-returns-in-Return-clause-keeps : goal.statement-returns-in-Return-clause-keeps
+statement-returns-in-Return-clause-keeps g t c = c.returned.ensures.keeps
+
+pub statement-returns-in-Plain-clause-keeps : goal.statement-returns-in-Plain-clause-keeps
+statement-returns-in-Plain-clause-keeps g t c = c.plain.ensures.keeps
+
+pub statement-found_before-requires-clause-children : goal.statement-found_before-requires-clause-children
+statement-found_before-requires-clause-children g t c = tt
+
+pub statement-found_before-requires-in-Continue-clause-children : goal.statement-found_before-requires-in-Continue-clause-children
+statement-found_before-requires-in-Continue-clause-children g t c = tt
+
+pub statement-returned-requires-clause-tied : goal.statement-returned-requires-clause-tied
+statement-returned-requires-clause-tied g t c = c.requires.tied
+
+pub statement-plain-requires-clause-place : goal.statement-plain-requires-clause-place
+statement-plain-requires-clause-place g t c = c.requires.place
+
+pub statement-plain-requires-clause-tied : goal.statement-plain-requires-clause-tied
+statement-plain-requires-clause-tied g t c = c.requires.tied
+
+pub statement-found_before-requires-clause-place : goal.statement-found_before-requires-clause-place
+statement-found_before-requires-clause-place g t c = omega (arith, c.in-Some.ensures.1)
+
+pub statement-found_before-requires-in-Continue-clause-place : goal.statement-found_before-requires-in-Continue-clause-place
+statement-found_before-requires-in-Continue-clause-place g t c = omega (arith, c.in-Some.ensures.1)
+
+pub statement-returned-requires-clause-place : goal.statement-returned-requires-clause-place
+statement-returned-requires-clause-place g t c = omega (arith, c.in-Some.ensures.1)
+
+pub switch_block-line_at-line-requires : goal.switch_block-line_at-line-requires
+switch_block-line_at-line-requires g t c = c.requires.place
+
+pub switch_block-after-requires : goal.switch_block-after-requires
+switch_block-after-requires g t c = c.requires.place
+
+pub switch_block-returns-in-Some-clause-keeps : goal.switch_block-returns-in-Some-clause-keeps
+switch_block-returns-in-Some-clause-keeps g t c = c.braced.ensures.keeps

@@ -3,9 +3,9 @@ use Rattle.pv_tree.specs.Rows.{tables}
 use Rattle.pv_tree.specs.Syntax.{NoTrees}
 use Rattle.pv_tree.specs.Tables.{trees_of, is_item, Is, Extends}
 use Rattle.pv_tree.specs.TypeNames.{AreTied}
-use Rattle.pv_expr.specs.Known.{names_in}
-use Rattle.pv_decl.specs.Pieces.{row}
-use Rattle.pv_stmt.specs.Parts.{item_in}
+use Rattle.pv_expr_forms.specs.Known.{names_in}
+use Rattle.pv_decl_forms.specs.Pieces.{row}
+use Rattle.pv_stmt_forms.specs.Parts.{item_in}
 use Rattle.pv_stmt.proofs.source.Source.+reading.Given as goal
 
 abbrev pub decreases-statement : goal.decreases-statement

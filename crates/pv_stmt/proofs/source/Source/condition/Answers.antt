@@ -1,10 +1,11 @@
 use Rattle.std.proofs.Common.{drop, Some, None}
 use Rattle.pv_tree.specs.Rows.{tables}
 use Rattle.pv_tree.specs.Tables.{tree_at, is_expression}
-use Rattle.pv_expr.specs.Known.{names_in}
-use Rattle.pv_decl.proofs.Answered.{nothing}
-use Rattle.pv_stmt.specs.Statements.{expression}
-use Rattle.pv_stmt.proofs.Chains.{first_some, first_none, there_of, condition_shut, condition_unread, condition_behind}
+use Rattle.pv_tree.proofs.Kept.{extends_same}
+use Rattle.pv_expr_forms.specs.Known.{names_in}
+use Rattle.pv_decl_forms.proofs.Answered.{nothing}
+use Rattle.pv_stmt_forms.specs.Statements.{expression}
+use Rattle.pv_stmt_forms.proofs.Chains.{first_some, first_none, there_of, condition_shut, condition_unread, condition_behind}
 use Rattle.pv_stmt.proofs.source.Source.condition.Goals as goal
 
 pub returns-in_default-clause-ok : goal.returns-in_default-clause-ok
@@ -21,3 +22,27 @@ returns-in-Some-after-clause-ok g c = record {
 
 pub returns-in-None-clause-ok : goal.returns-in-None-clause-ok
 returns-in-None-clause-ok g c = nothing _ _ _ _ (condition_behind (names_in c.args.self.now.typedefs.now (g.R.TypeReader.types c.args.self.now.reader.now) (tables c.args.into.now) c.args.self.now.tokens.now.tokens) c.args.depth (drop c.args.at c.args.self.now.tokens.now.tokens) (drop c.in-Some.inside c.args.self.now.tokens.now.tokens) c.in-Some.ensures.0 (tree_at (tables c.expression.new.into).forest c.in-Some-2.value, drop c.in-Some-2.end c.args.self.now.tokens.now.tokens) None (first_some (tables c.expression.new.into) is_expression c.args.self.now.tokens.now.tokens c.in_ok-value.field-0 (expression (names_in c.args.self.now.typedefs.now (g.R.TypeReader.types c.args.self.now.reader.now) (tables c.args.into.now) c.args.self.now.tokens.now.tokens) c.args.depth 1 (drop c.in-Some.inside c.args.self.now.tokens.now.tokens)) c.in_ok-value.ensures.ok c.in-Some-2.value c.in-Some-2.end c.in-Some-2.is) c.in-None.ensures)
+
+pub after-requires : goal.after-requires
+after-requires g c = c.requires.place
+
+pub returns-in_default-clause-keeps : goal.returns-in_default-clause-keeps
+returns-in_default-clause-keeps g c = extends_same _
+
+pub expression-requires-clause-place : goal.expression-requires-clause-place
+expression-requires-clause-place g c = c.in-Some.ensures.1
+
+pub expression-requires-clause-tied : goal.expression-requires-clause-tied
+expression-requires-clause-tied g c = c.requires.tied
+
+pub returns-in_err-value-clause-keeps : goal.returns-in_err-value-clause-keeps
+returns-in_err-value-clause-keeps g c = c.expression.ensures.keeps
+
+pub returns-in_default-2-clause-keeps : goal.returns-in_default-2-clause-keeps
+returns-in_default-2-clause-keeps g c = c.expression.ensures.keeps
+
+pub returns-in-Some-after-clause-keeps : goal.returns-in-Some-after-clause-keeps
+returns-in-Some-after-clause-keeps g c = c.expression.ensures.keeps
+
+pub returns-in-None-clause-keeps : goal.returns-in-None-clause-keeps
+returns-in-None-clause-keeps g c = c.expression.ensures.keeps

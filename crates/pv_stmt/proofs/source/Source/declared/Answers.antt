@@ -1,10 +1,10 @@
 use Rattle.std.proofs.Common.{◌∙◌, sym, drop}
 use Rattle.pv_tree.specs.Rows.{tables}
 use Rattle.pv_tree.specs.Tables.{tree_at, is_declaration}
-use Rattle.pv_expr.specs.Known.{names_in}
-use Rattle.pv_decl.specs.Reader.{declaration}
-use Rattle.pv_decl.proofs.Answered.{nothing}
-use Rattle.pv_stmt.proofs.Chains.{first_some, first_none, there_of, declared_none, declared_other, declared_so}
+use Rattle.pv_expr_forms.specs.Known.{names_in}
+use Rattle.pv_decl_forms.specs.Reader.{declaration}
+use Rattle.pv_decl_forms.proofs.Answered.{nothing}
+use Rattle.pv_stmt_forms.proofs.Chains.{first_some, first_none, there_of, declared_none, declared_other, declared_so}
 use Rattle.pv_stmt.proofs.source.Source.declared.Goals as goal
 
 pub returns-in_default-clause-ok : goal.returns-in_default-clause-ok
@@ -21,3 +21,18 @@ returns-else-is_declaration-clause-ok g c = nothing _ _ _ _ (declared_other (dec
 
 pub is_declaration-requires : goal.is_declaration-requires
 is_declaration-requires g c = (there_of (tables c.declaration.new.into) is_declaration c.args.self.now.tokens.now.tokens c.in_ok-node.field-0 (declaration (names_in c.args.self.now.typedefs.now (g.R.TypeReader.types c.args.self.now.reader.now) (tables c.args.into.now) c.args.self.now.tokens.now.tokens) c.args.depth (drop c.args.at c.args.self.now.tokens.now.tokens)) c.in_ok-node.ensures.reads c.in-Some.node c.in-Some.end c.in-Some.is).0
+
+pub declaration-requires : goal.declaration-requires
+declaration-requires g c = c.requires.tied
+
+pub returns-in_err-node-clause-keeps : goal.returns-in_err-node-clause-keeps
+returns-in_err-node-clause-keeps g c = c.declaration.ensures.keeps
+
+pub returns-in_default-clause-keeps : goal.returns-in_default-clause-keeps
+returns-in_default-clause-keeps g c = c.declaration.ensures.keeps
+
+pub returns-then-is_declaration-clause-keeps : goal.returns-then-is_declaration-clause-keeps
+returns-then-is_declaration-clause-keeps g c = c.declaration.ensures.keeps
+
+pub returns-else-is_declaration-clause-keeps : goal.returns-else-is_declaration-clause-keeps
+returns-else-is_declaration-clause-keeps g c = c.declaration.ensures.keeps

@@ -3,13 +3,13 @@ use Rattle.pv_lex.specs.declared.token_table.Token.{Token}
 use Rattle.pv_tree.specs.Rows.{tables}
 use Rattle.pv_tree.specs.Syntax.{Tree, OfStatement, DoWhile}
 use Rattle.pv_tree.specs.Tables.{tree_at, as_statement, as_expression, is_expression, is_statement}
-use Rattle.pv_tree.proofs.Kept.{tree_kept, is_kept}
-use Rattle.pv_expr.specs.Known.{names_in}
-use Rattle.pv_expr.specs.Reader.{after}
-use Rattle.pv_decl.specs.Pieces.{is_semicolon}
-use Rattle.pv_decl.proofs.Answered.{moved, nothing}
-use Rattle.pv_stmt.specs.Statements.{condition}
-use Rattle.pv_stmt.proofs.Chains.{first_some, first_none, there_of, do_shut, do_unread, do_so}
+use Rattle.pv_tree.proofs.Kept.{tree_kept, is_kept, extends_same, extends_then}
+use Rattle.pv_expr_forms.specs.Known.{names_in}
+use Rattle.pv_expr_forms.specs.Reader.{after}
+use Rattle.pv_decl_forms.specs.Pieces.{is_semicolon}
+use Rattle.pv_decl_forms.proofs.Answered.{moved, nothing}
+use Rattle.pv_stmt_forms.specs.Statements.{condition}
+use Rattle.pv_stmt_forms.proofs.Chains.{first_some, first_none, there_of, do_shut, do_unread, do_so}
 use Rattle.pv_stmt.proofs.source.Source.do_end.Goals as goal
 
 pub found_before-requires-clause-place : goal.found_before-requires-clause-place
@@ -28,3 +28,24 @@ returns-in-Some-2-clause-ok g c = moved _ _ _ _ _ _
 
 pub returns-in-None-clause-ok : goal.returns-in-None-clause-ok
 returns-in-None-clause-ok g c = nothing _ _ _ _ (do_unread (names_in c.args.self.now.typedefs.now (g.R.TypeReader.types c.args.self.now.reader.now) (tables c.args.into.now) c.args.self.now.tokens.now.tokens) c.args.depth c.args.line (tree_at (tables c.args.into.now).forest c.args.body) (drop c.args.at c.args.self.now.tokens.now.tokens) (drop c.in-Some.next c.args.self.now.tokens.now.tokens) c.in-Some.ensures.0 (first_none (tables c.condition.new.into) is_expression c.args.self.now.tokens.now.tokens c.in_ok-value.field-0 (condition (names_in c.args.self.now.typedefs.now (g.R.TypeReader.types c.args.self.now.reader.now) (tables c.args.into.now) c.args.self.now.tokens.now.tokens) c.args.depth (drop c.in-Some.next c.args.self.now.tokens.now.tokens)) c.in_ok-value.ensures.ok c.in-None.is))
+
+pub after-requires : goal.after-requires
+after-requires g c = c.requires.place
+
+pub returns-in_default-clause-keeps : goal.returns-in_default-clause-keeps
+returns-in_default-clause-keeps g c = extends_same _
+
+pub condition-requires-clause-place : goal.condition-requires-clause-place
+condition-requires-clause-place g c = c.in-Some.ensures.1
+
+pub condition-requires-clause-tied : goal.condition-requires-clause-tied
+condition-requires-clause-tied g c = c.requires.tied
+
+pub returns-in_err-value-clause-keeps : goal.returns-in_err-value-clause-keeps
+returns-in_err-value-clause-keeps g c = c.condition.ensures.keeps
+
+pub returns-in-Some-2-clause-keeps : goal.returns-in-Some-2-clause-keeps
+returns-in-Some-2-clause-keeps g c = extends_then (tables c.args.into.now) (tables c.condition.new.into) (tables c.found_before.new.into) c.condition.ensures.keeps c.found_before.ensures.keeps
+
+pub returns-in-None-clause-keeps : goal.returns-in-None-clause-keeps
+returns-in-None-clause-keeps g c = c.condition.ensures.keeps

@@ -1,9 +1,9 @@
 use Rattle.std.proofs.Common.{drop}
 use Rattle.std.proofs.lemmas.Result.{MatchResult-weaker}
 use Rattle.pv_tree.specs.Rows.{tables}
-use Rattle.pv_expr.specs.Known.{names_in}
-use Rattle.pv_expr.specs.Numbers.{level_number}
-use Rattle.pv_stmt.proofs.Chains.{expression_answers}
+use Rattle.pv_expr_forms.specs.Known.{names_in}
+use Rattle.pv_expr_forms.specs.Numbers.{level_number}
+use Rattle.pv_stmt_forms.proofs.Chains.{expression_answers}
 use Rattle.pv_stmt.proofs.source.Source.expression.Goals as goal
 
 pub returns-clause-ok : goal.returns-clause-ok

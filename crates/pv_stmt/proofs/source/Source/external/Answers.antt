@@ -1,7 +1,10 @@
 use Rattle.pv_tree.specs.Rows.{tables}
-use Rattle.pv_expr.proofs.Naming.{tied_kept}
-use Rattle.pv_decl.proofs.Answered.{moved}
-use Rattle.pv_stmt.proofs.OuterSteps.{head_none, head_declared, head_reads, head_abstract, head_other, not_outer}
+use Rattle.pv_tree.proofs.Kept.{extends_then}
+use Rattle.pv_tree.specs.Tables.{is_declaration}
+use Rattle.pv_stmt_forms.proofs.Chains.{there_of}
+use Rattle.pv_expr_forms.proofs.Naming.{tied_kept}
+use Rattle.pv_decl_forms.proofs.Answered.{moved}
+use Rattle.pv_stmt_forms.proofs.OuterSteps.{head_none, head_declared, head_reads, head_abstract, head_other, not_outer}
 use Rattle.pv_stmt.proofs.source.Source.external.Goals as goal
 
 pub returns-in_default-clause-ok : goal.returns-in_default-clause-ok
@@ -37,3 +40,27 @@ returns-in_default-decl g c = record {
 pub function-requires-clause-tied : goal.function-requires-clause-tied
 function-requires-clause-tied g c =
     tied_kept (g.R.TypeReader.types c.args.self.now.reader.now) (tables c.args.into.now) (tables c.declaration.new.into) c.args.self.now.tokens.now.tokens c.requires.tied c.declaration.ensures.keeps
+
+pub declaration-requires : goal.declaration-requires
+declaration-requires g c = c.requires.tied
+
+pub returns-in_err-head-clause-keeps : goal.returns-in_err-head-clause-keeps
+returns-in_err-head-clause-keeps g c = c.declaration.ensures.keeps
+
+pub returns-in_default-clause-keeps : goal.returns-in_default-clause-keeps
+returns-in_default-clause-keeps g c = c.declaration.ensures.keeps
+
+pub decl-requires : goal.decl-requires
+decl-requires g c = (there_of (tables c.declaration.new.into) is_declaration c.args.self.now.tokens.now.tokens c.in_ok-head.field-0 _ c.in_ok-head.ensures.reads c.in-Some.head c.in-Some.next c.in-Some.is).0
+
+pub returns-in_default-declarator-clause-keeps : goal.returns-in_default-declarator-clause-keeps
+returns-in_default-declarator-clause-keeps g c = c.declaration.ensures.keeps
+
+pub function-requires-clause-place : goal.function-requires-clause-place
+function-requires-clause-place g c = (there_of (tables c.declaration.new.into) is_declaration c.args.self.now.tokens.now.tokens c.in_ok-head.field-0 _ c.in_ok-head.ensures.reads c.in-Some.head c.in-Some.next c.in-Some.is).1
+
+pub returns-in-Declaration-clause-keeps : goal.returns-in-Declaration-clause-keeps
+returns-in-Declaration-clause-keeps g c = c.declaration.ensures.keeps
+
+pub returns-in-Some-declarator-clause-keeps : goal.returns-in-Some-declarator-clause-keeps
+returns-in-Some-declarator-clause-keeps g c = extends_then (tables c.args.into.now) (tables c.declaration.new.into) (tables c.function.new.into) c.declaration.ensures.keeps c.function.ensures.keeps

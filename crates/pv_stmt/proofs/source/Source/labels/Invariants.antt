@@ -3,9 +3,9 @@ use Rattle.pv_tree.specs.Rows.{tables}
 use Rattle.pv_tree.specs.Syntax.{NoTrees}
 use Rattle.pv_tree.specs.Tables.{trees_of, is_statement, Is, Extends}
 use Rattle.pv_tree.specs.TypeNames.{AreTied}
-use Rattle.pv_expr.specs.Known.{names_in}
-use Rattle.pv_decl.specs.Pieces.{row}
-use Rattle.pv_stmt.specs.Statements.{label}
+use Rattle.pv_expr_forms.specs.Known.{names_in}
+use Rattle.pv_decl_forms.specs.Pieces.{row}
+use Rattle.pv_stmt_forms.specs.Statements.{label}
 use Rattle.pv_stmt.proofs.source.Source.labels.Given as goal
 
 abbrev pub invariant-loop-labels : goal.invariant-loop-labels

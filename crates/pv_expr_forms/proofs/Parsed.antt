@@ -1,0 +1,32 @@
+-- What `expression` promises, under the names as its clauses have them.
+use Rattle.std.proofs.Common.{◌≡◌, ◌≤◌, ℕ, List, length, drop, Option, None, nat_eq}
+use Rattle.std.specs.Prelude.{IfSome}
+use Rattle.indexmap.specs.IndexSet.{IndexSet, contains}
+use Rattle.pv_lex.specs.declared.token_table.Token.{Token}
+use Rattle.pv_tree.specs.declared.nodes.NodeId.{NodeId}
+use Rattle.pv_tree.specs.Syntax.{ExpressionTree}
+use Rattle.pv_tree.specs.Tables.{Tables, expression_at, is_expression, Is}
+use Rattle.pv_tree.specs.Grammar.{Spells}
+use Rattle.pv_tree.specs.TypeNames.{TypeMap, AreTied}
+use Rattle.pv_expr_forms.specs.Answers.{Answers}
+use Rattle.pv_expr_forms.specs.Known.{names_in}
+use Rattle.pv_expr_forms.specs.Reader.{read}
+use Rattle.pv_expr_forms.proofs.Promises.{expression_found, expression_longest, expression_only, expression_none}
+
+module _ {S : Type 0} (typedefs : IndexSet ℕ S) (types : TypeMap) (u v : Tables) (tokens : List Token) (at level deep : ℕ) (tied : AreTied types u tokens) (place : at ≤ length tokens)
+    (r : Option (NodeId × ℕ)) (a : Answers v tokens r (read (names_in typedefs types u tokens) deep level (drop at tokens))) where
+  pub found : IfSome r (λ x. Is v is_expression x.0 × (at ≤ x.1) × (x.1 ≤ length tokens) × Spells (names_in typedefs types u tokens) level deep tokens at x.1 (expression_at v.forest x.0))
+  unfolding names_in
+  found = expression_found (contains nat_eq typedefs) types u v tokens at level deep tied place r a
+
+  pub longest : IfSome r (λ x. (e : ExpressionTree) (end : ℕ) → at ≤ end → end ≤ length tokens → Spells (names_in typedefs types u tokens) level deep tokens at end e → end ≤ x.1)
+  unfolding names_in
+  longest = expression_longest (contains nat_eq typedefs) types u v tokens at level deep tied place r a
+
+  pub only : IfSome r (λ x. (e : ExpressionTree) → Spells (names_in typedefs types u tokens) level deep tokens at x.1 e → e ≡ expression_at v.forest x.0)
+  unfolding names_in
+  only = expression_only (contains nat_eq typedefs) types u v tokens at level deep tied place r a
+
+  pub none : r ≡ None → (e : ExpressionTree) (end : ℕ) → at ≤ end → end ≤ length tokens → Spells (names_in typedefs types u tokens) level deep tokens at end e → ⊥
+  unfolding names_in
+  none = expression_none (contains nat_eq typedefs) types u v tokens at level deep tied place r a

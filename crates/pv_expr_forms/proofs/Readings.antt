@@ -1,0 +1,128 @@
+-- What a reading gives, from what its parts give.
+use Rattle.std.proofs.Common.{◌≡◌, ◌≤◌, ◌<◌, ◌+◌, ℕ, true, false, List, [], ◌∷◌, drop, Option, Some, None, option_map, option_and_then, refl, sym, ap, ◌∙◌, nat_eq}
+use Rattle.std.proofs.lemmas.Bool.{le-leb}
+use Rattle.std.proofs.lemmas.List.{drop-drop}
+use Rattle.indexmap.specs.IndexSet.{IndexSet, contains}
+use Rattle.pv_lex.specs.declared.token_table.Token.{Token}
+use Rattle.pv_lex.specs.declared.token_table.TokenKind.{TokenKind}
+use Rattle.pv_tree.specs.declared.nodes.NodeId.{NodeId}
+use Rattle.pv_tree.specs.Syntax.{ExpressionTree, Member, Arrow, Cast, Tree}
+use Rattle.pv_tree.specs.Levels.{rank}
+use Rattle.pv_tree.specs.Lines.{expression_line}
+use Rattle.pv_tree.specs.Grammar.{Names, begins_type}
+use Rattle.pv_tree.specs.Tables.{Tables, as_declaration, expression_at, declaration_at, is_expression, is_declaration, Is, Extends}
+use Rattle.pv_tree.specs.TypeNames.{TypeMap, names_of, AreTied}
+use Rattle.pv_tree.proofs.Kept.{tree_kept}
+use Rattle.pv_expr_forms.specs.declared.follows.Follow.{Follow}
+use Rattle.pv_expr_forms.specs.declared.follows.Follow.TheVariants as follow
+use Rattle.pv_expr_forms.specs.Follows.{prefix_of}
+use Rattle.pv_expr_forms.specs.Reader.{Read, Reads, read, deeper, head, head_of, opened, closed, measured, grown, longer, goes_on, asked, is_open}
+use Rattle.pv_expr_forms.specs.Known.{names_in}
+use Rattle.pv_expr_forms.specs.Parts.{leaf_of, measures_type, type_closed, named}
+use Rattle.pv_expr_forms.specs.Answers.{Answers}
+use Rattle.pv_expr_forms.proofs.Answered.{got, got_none}
+use Rattle.pv_expr_forms.proofs.Firsts.{head_leaf, head_measure, opened_cast, opened_paren, named_is}
+use Rattle.pv_expr_forms.proofs.Listing.{expression_kept}
+use Rattle.pv_expr_forms.proofs.Naming.{leb_not, names_kept}
+
+-- nothing was read
+pub nothing : (u : Tables) (tokens : List Token) (reading : Read) → None ≡ reading → Answers u tokens None reading
+nothing u tokens reading e = record { is = e; there = tt }
+
+-- ---- by the first token
+
+pub head_end : (names : Names) (r : Reads) (below : ℕ) (ts : List Token) → ts ≡ [] → None ≡ head names r below ts
+unfolding head
+head_end names r below ts e = rw e refl
+
+pub head_first : (names : Names) (r : Reads) (below : ℕ) (t : Token) (ts rest : List Token) (o : Read) → ts ≡ t ∷ rest → o ≡ head_of names r below t.line t.kind rest → o ≡ head names r below ts
+unfolding head
+head_first names r below t ts rest o e h = rw e h
+
+pub leaf_first : {S : Type 0} (typedefs : IndexSet ℕ S) (types : TypeMap) (u : Tables) (tokens : List Token) (r : Reads) (below line : ℕ) (k : TokenKind) (ts : List Token) → is_open k ≡ false → prefix_of k ≡ None
+    → leaf_of (contains nat_eq typedefs) line k ts ≡ head_of (names_in typedefs types u tokens) r below line k ts
+unfolding names_in names_of
+leaf_first typedefs types u tokens r below line k ts o e = head_leaf (names_in typedefs types u tokens) r below line k ts o e
+
+pub measure_first : (names : Names) (r : Reads) (below line : ℕ) (k : TokenKind) (tokens : List Token) (at : ℕ) → measures_type names k (drop at tokens) ≡ true
+    → option_and_then (λ x. measured below line x.0 x.1) (names.type_at (drop (at + 1) tokens)) ≡ head_of names r below line k (drop at tokens)
+measure_first names r below line k tokens at e =
+    ap (λ (ts : List Token). option_and_then (λ x. measured below line x.0 x.1) (names.type_at ts)) (sym (drop-drop 1 at tokens))
+    ∙ head_measure names r below line k (drop at tokens) e
+
+-- ---- one level of depth more
+
+module _ (names : Names) (r : Reads) (level below : ℕ) (ts : List Token) where
+  pub deeper_none : None ≡ head names r below ts → None ≡ deeper names r below level ts
+  unfolding deeper
+  deeper_none e = rw (← e) refl
+
+  pub deeper_low : (a : ExpressionTree) (rest : List Token) → Some (a, rest) ≡ head names r below ts → rank a < level → None ≡ deeper names r below level ts
+  unfolding deeper
+  deeper_low a rest e h = rw (← e, leb_not level (rank a) h) refl
+
+  pub deeper_on : (a : ExpressionTree) (rest : List Token) → Some (a, rest) ≡ head names r below ts → level ≤ rank a → Some (grown names r level below a rest) ≡ deeper names r below level ts
+  unfolding deeper
+  deeper_on a rest e h = rw (← e, le-leb level (rank a) h) refl
+
+-- what goes on in a unit that has grown is what goes on under the names at the start
+pub grown_in : {S : Type 0} (typedefs : IndexSet ℕ S) (types : TypeMap) (u v : Tables) (tokens : List Token) → AreTied types u tokens → Extends u v → (level below : ℕ) (a : ExpressionTree) (ts : List Token)
+    → Some (grown (names_in typedefs types v tokens) (read (names_in typedefs types v tokens) below) level below a ts) ≡ Some (grown (names_in typedefs types u tokens) (read (names_in typedefs types u tokens) below) level below a ts)
+grown_in typedefs types u v tokens tied keeps level below a ts = ap (λ (n : Names). Some (grown n (read n below) level below a ts)) (names_kept typedefs types u v tokens tied keeps)
+
+pub longer_in : {S : Type 0} (typedefs : IndexSet ℕ S) (types : TypeMap) (u v w : Tables) (tokens : List Token) → AreTied types u tokens → Extends u v → (level below : ℕ) (left : ExpressionTree) (ts : List Token) (answer : Option (NodeId × ℕ))
+    → Answers w tokens answer (longer (names_in typedefs types v tokens) (read (names_in typedefs types v tokens) below) level below left ts) → Answers w tokens answer (longer (names_in typedefs types u tokens) (read (names_in typedefs types u tokens) below) level below left ts)
+longer_in typedefs types u v w tokens tied keeps level below left ts answer a = record { is = a.is ∙ ap (λ (n : Names). longer n (read n below) level below left ts) (names_kept typedefs types u v tokens tied keeps); there = a.there }
+
+-- ---- behind an opening parenthesis
+
+module _ (names : Names) (r : Reads) (below line : ℕ) (u v : Tables) (tokens : List Token) (at : ℕ) where
+  pub cast_none : begins_type names (drop at tokens) ≡ true → type_closed names below (drop at tokens) ≡ None → None ≡ opened names r below line (drop at tokens)
+  cast_none b e = opened_cast names r below line (drop at tokens) None b e
+
+  module _ (b : begins_type names (drop at tokens) ≡ true) (type : NodeId) (next : ℕ) (e : type_closed names below (drop at tokens) ≡ Some (declaration_at u.forest type, drop next tokens))
+      (answer : Option (NodeId × ℕ)) (a : Answers v tokens answer (r 14 (drop next tokens))) where
+    casts : (o : Read) → o ≡ r 14 (drop next tokens) → option_map (λ x. (Cast line (declaration_at u.forest type) x.0, x.1)) o ≡ opened names r below line (drop at tokens)
+    casts o h =
+        ap (option_map (λ (x : ExpressionTree × List Token). let y : ExpressionTree × List Token = (Cast line (declaration_at u.forest type) x.0, x.1) in y)) h
+        ∙ opened_cast names r below line (drop at tokens) (Some (declaration_at u.forest type, drop next tokens)) b e
+
+    pub cast_nothing : answer ≡ None → None ≡ opened names r below line (drop at tokens)
+    cast_nothing h = casts None (got_none v tokens answer _ a h)
+
+    pub cast_done : (n : NodeId) (end : ℕ) → answer ≡ Some (n, end) → Extends u v → Is u is_declaration type → Some (Cast line (declaration_at v.forest type) (expression_at v.forest n), drop end tokens) ≡ opened names r below line (drop at tokens)
+    cast_done n end h k d =
+        ap (λ (t : Tree). Some (Cast line (as_declaration t) (expression_at v.forest n), drop end tokens)) (tree_kept u v type k d.0)
+        ∙ casts (Some (expression_at v.forest n, drop end tokens)) (got v tokens answer _ n end a h).0
+
+  module _ (b : begins_type names (drop at tokens) ≡ false) (answer : Option (NodeId × ℕ)) (a : Answers v tokens answer (r 1 (drop at tokens))) where
+    parens : (o : Read) → o ≡ r 1 (drop at tokens) → option_and_then (λ x. closed line x.0 x.1) o ≡ opened names r below line (drop at tokens)
+    parens o h = ap (option_and_then (λ (x : ExpressionTree × List Token). closed line x.0 x.1)) h ∙ opened_paren names r below line (drop at tokens) b
+
+    pub paren_nothing : answer ≡ None → None ≡ opened names r below line (drop at tokens)
+    paren_nothing h = parens None (got_none v tokens answer _ a h)
+
+    pub paren_done : (n : NodeId) (end : ℕ) → answer ≡ Some (n, end) → closed line (expression_at v.forest n) (drop end tokens) ≡ opened names r below line (drop at tokens)
+    paren_done n end h = parens (Some (expression_at v.forest n, drop end tokens)) (got v tokens answer _ n end a h).0
+
+-- ---- behind an operand
+
+module _ {S : Type 0} (typedefs : IndexSet ℕ S) (types : TypeMap) (u : Tables) (tokens : List Token) (r : Reads) (left : ExpressionTree) (ts : List Token) (f : Follow) where
+  pub dot_is : f ≡ follow.Dot → named (contains nat_eq typedefs) (Member (expression_line left) left) ts ≡ goes_on (names_in typedefs types u tokens) r left f ts
+  unfolding goes_on names_in names_of
+  dot_is e = rw e (named_is (names_in typedefs types u tokens) (Member (expression_line left) left) ts)
+
+  pub arrow_is : f ≡ follow.Arrow → named (contains nat_eq typedefs) (Arrow (expression_line left) left) ts ≡ goes_on (names_in typedefs types u tokens) r left f ts
+  unfolding goes_on names_in names_of
+  arrow_is e = rw e (named_is (names_in typedefs types u tokens) (Arrow (expression_line left) left) ts)
+
+-- a condition, whose middle operand is read
+pub ask_is : {S : Type 0} (typedefs : IndexSet ℕ S) (types : TypeMap) (u v : Tables) (tokens : List Token) → AreTied types u tokens → Extends u v → (below at : ℕ) (left : NodeId) → Is u is_expression left
+    → (answer : Option (NodeId × ℕ)) → Answers v tokens answer (read (names_in typedefs types u tokens) below 1 (drop at tokens)) → (n : NodeId) (next : ℕ) → answer ≡ Some (n, next) → (f : Follow) → f ≡ follow.Ask
+    → asked (read (names_in typedefs types v tokens) below) (expression_at v.forest left) (expression_at v.forest n) (drop next tokens)
+    ≡ goes_on (names_in typedefs types u tokens) (read (names_in typedefs types u tokens) below) (expression_at u.forest left) f (drop at tokens)
+unfolding goes_on
+ask_is typedefs types u v tokens tied keeps below at left h answer a n next e f is = rw is (
+    ap (λ (m : Names). asked (read m below) (expression_at v.forest left) (expression_at v.forest n) (drop next tokens)) (names_kept typedefs types u v tokens tied keeps)
+    ∙ ap (λ (x : ExpressionTree). asked (read (names_in typedefs types u tokens) below) x (expression_at v.forest n) (drop next tokens)) (expression_kept u v left keeps h)
+    ∙ ap (option_and_then (λ (x : ExpressionTree × List Token). asked (read (names_in typedefs types u tokens) below) (expression_at u.forest left) x.0 x.1)) (got v tokens answer _ n next a e).0)

@@ -1,0 +1,203 @@
+-- Reading an expression from the left, on lists: the longest of a level and of at most so much depth (6.5).
+use Rattle.std.specs.Prelude.{ℕ, zero, suc, Bool, true, false, ◌&&◌, ◌==◌, nat_le, List, [], ◌∷◌, length, drop, Option, Some, None, option_map, option_and_then, if◌then◌else◌}
+use Rattle.pv_lex.specs.declared.token_table.Token.{Token}
+use Rattle.pv_lex.specs.declared.token_table.TokenKind.{TokenKind}
+use Rattle.pv_lex.specs.declared.token_table.TokenKind.TheVariants as kind
+use Rattle.pv_lex.specs.declared.words.Word.TheVariants as word
+use Rattle.pv_lex.specs.declared.marks.Mark.TheVariants as mark
+use Rattle.pv_tree.specs.Syntax.{ExpressionTree, Name, Number, Character, Text, Paren, Index, Call, Member, Arrow, PostIncrement, PostDecrement, SizeofType, Cast, Conditional, ArgumentTrees, NoArguments, Argument, DeclarationTree}
+use Rattle.pv_tree.specs.Depths.{expression_depth, declaration_depth}
+use Rattle.pv_tree.specs.Lines.{expression_line}
+use Rattle.pv_tree.specs.Levels.{rank}
+use Rattle.pv_tree.specs.Grammar.{Names, begins_type}
+use Rattle.pv_expr_forms.specs.declared.follows.Prefix.{Prefix}
+use Rattle.pv_expr_forms.specs.declared.follows.Prefix.TheVariants as prefix
+use Rattle.pv_expr_forms.specs.declared.follows.Follow.{Follow}
+use Rattle.pv_expr_forms.specs.declared.follows.Follow.TheVariants as follow
+use Rattle.pv_expr_forms.specs.Follows.{prefix_of, prefix_operand, prefixed, join_right, joined, follow_of, follow_rank, follow_left}
+
+-- a tree, and the tokens behind it
+abbrev pub Read : Type 0
+Read = Option (ExpressionTree × List Token)
+
+-- reads a tree of a level
+abbrev pub Reads : Type 0
+Reads = ℕ → List Token → Read
+
+-- ---- tokens that a form ends with or goes on with
+
+abbrev pub is_open : TokenKind → Bool
+is_open (kind.Mark mark.OpenParen) = true
+is_open _ = false
+
+abbrev pub is_close : TokenKind → Bool
+is_close (kind.Mark mark.CloseParen) = true
+is_close _ = false
+
+abbrev pub is_bracket : TokenKind → Bool
+is_bracket (kind.Mark mark.CloseBracket) = true
+is_bracket _ = false
+
+abbrev pub is_colon : TokenKind → Bool
+is_colon (kind.Mark mark.Colon) = true
+is_colon _ = false
+
+abbrev pub is_comma : TokenKind → Bool
+is_comma (kind.Mark mark.Comma) = true
+is_comma _ = false
+
+-- the string literal of a number
+abbrev pub is_text : (n : ℕ) → TokenKind → Bool
+is_text n (kind.Text m) = m == n
+is_text n _ = false
+
+-- the tokens behind the first, where it is one of a kind
+abbrev pub after : (TokenKind → Bool) → List Token → Option (List Token)
+after test [] = None
+after test (t ∷ ts) = if test t.kind then Some ts else None
+
+-- ---- forms that begin with a token of their own
+
+-- how many string literals stand in a row, from a number on (6.4.5p5)
+abbrev pub texts_in_row : (next : ℕ) → List Token → ℕ
+texts_in_row next [] = 0
+texts_in_row next (t ∷ ts) = if is_text next t.kind then suc (texts_in_row (suc next) ts) else 0
+
+-- what stands in parentheses, once it is read
+unfoldable pub closed : (line : ℕ) → ExpressionTree → List Token → Read
+closed line a ts = option_map (λ rest. (Paren line a, rest)) (after is_close ts)
+
+-- a cast, once its type name is read (6.5.4)
+unfoldable pub cast_to : Reads → (below line : ℕ) → DeclarationTree → List Token → Read
+cast_to read below line type ts =
+    if nat_le (declaration_depth type) below
+    then option_and_then (λ rest. option_map (λ x. (Cast line type x.0, x.1)) (read 14 rest)) (after is_close ts)
+    else None
+
+-- behind an opening parenthesis
+unfoldable pub opened : Names → Reads → (below line : ℕ) → List Token → Read
+opened names read below line ts =
+    if begins_type names ts
+    then option_and_then (λ x. cast_to read below line x.0 x.1) (names.type_at ts)
+    else option_and_then (λ x. closed line x.0 x.1) (read 1 ts)
+
+unfoldable pub fronted : Reads → (line : ℕ) → Option Prefix → List Token → Read
+fronted read line None ts = None
+fronted read line (Some op) ts = option_map (λ x. (prefixed line op x.0, x.1)) (read (prefix_operand op) ts)
+
+-- the size of a type, once its name is read (6.5.3.4)
+unfoldable pub measured : (below line : ℕ) → DeclarationTree → List Token → Read
+measured below line type ts =
+    if nat_le (declaration_depth type) below then option_map (λ rest. (SizeofType line type, rest)) (after is_close ts) else None
+
+-- a parenthesis opens, and a type name begins behind it
+abbrev pub opens_type : Names → List Token → Bool
+opens_type names [] = false
+opens_type names (t ∷ ts) = is_open t.kind && begins_type names ts
+
+-- behind `sizeof`
+unfoldable pub sized : Names → Reads → (below line : ℕ) → List Token → Read
+sized names read below line ts =
+    if opens_type names ts
+    then option_and_then (λ x. measured below line x.0 x.1) (names.type_at (drop 1 ts))
+    else fronted read line (Some prefix.Sizeof) ts
+
+unfoldable pub head_of : Names → Reads → (below line : ℕ) → TokenKind → List Token → Read
+head_of names read below line (kind.Name n) ts = if names.is_type n then None else Some (Name line n, ts)
+head_of names read below line (kind.Number value decimal unsigned longs) ts = Some (Number line value decimal unsigned longs, ts)
+head_of names read below line (kind.Character value) ts = Some (Character line value, ts)
+head_of names read below line (kind.Text n) ts = Some (Text line n (texts_in_row (suc n) ts), drop (texts_in_row (suc n) ts) ts)
+head_of names read below line (kind.Word word.Sizeof) ts = sized names read below line ts
+head_of names read below line (kind.Mark mark.OpenParen) ts = opened names read below line ts
+head_of names read below line k ts = fronted read line (prefix_of k) ts
+
+-- a tree that nothing went on from yet
+unfoldable pub head : Names → Reads → (below : ℕ) → List Token → Read
+head names read below [] = None
+head names read below (t ∷ ts) = head_of names read below t.line t.kind ts
+
+-- ---- forms that go on from a tree
+
+unfoldable pub indexed : (left i : ExpressionTree) → List Token → Read
+indexed left i ts = option_map (λ rest. (Index (expression_line left) left i, rest)) (after is_bracket ts)
+
+unfoldable pub asked : Reads → (left b : ExpressionTree) → List Token → Read
+asked read left b ts = option_and_then (λ rest. option_map (λ x. (Conditional (expression_line left) left b x.0, x.1)) (read 3 rest)) (after is_colon ts)
+
+-- the arguments from one on, to the closing parenthesis, behind those before it (6.5.2p1)
+unfoldable pub further : (ArgumentTrees → List Token → Option (ArgumentTrees × List Token)) → ArgumentTrees → List Token → Option (ArgumentTrees × List Token)
+further go before [] = None
+further go before (t ∷ ts) = if is_comma t.kind then go before ts else if is_close t.kind then Some (before, ts) else None
+
+unfoldable pub arguments_for : (steps : ℕ) → Reads → ArgumentTrees → List Token → Option (ArgumentTrees × List Token)
+arguments_for zero read before ts = None
+arguments_for (suc steps) read before ts = option_and_then (λ x. further (arguments_for steps read) (Argument before x.0) x.1) (read 2 ts)
+
+unfoldable pub arguments : Reads → ArgumentTrees → List Token → Option (ArgumentTrees × List Token)
+arguments read before ts = arguments_for (suc (length ts)) read before ts
+
+-- behind the parenthesis that opens a call's arguments
+unfoldable pub called : Reads → (left : ExpressionTree) → List Token → Read
+called read left [] = None
+called read left (t ∷ ts) =
+    if is_close t.kind
+    then Some (Call (expression_line left) left NoArguments, ts)
+    else option_map (λ x. (Call (expression_line left) left x.0, x.1)) (arguments read NoArguments (t ∷ ts))
+
+-- behind `.` and `->`
+unfoldable pub selected_by : Names → (ℕ → ExpressionTree) → TokenKind → List Token → Read
+selected_by names make (kind.Name n) ts = if names.is_type n then None else Some (make n, ts)
+selected_by names make _ ts = None
+
+unfoldable pub selected : Names → (ℕ → ExpressionTree) → List Token → Read
+selected names make [] = None
+selected names make (t ∷ ts) = selected_by names make t.kind ts
+
+-- the tree that goes on from left so
+unfoldable pub goes_on : Names → Reads → (left : ExpressionTree) → Follow → List Token → Read
+goes_on names read left (follow.Join op) ts = option_map (λ x. (joined op left x.0, x.1)) (read (join_right op) ts)
+goes_on names read left follow.Ask ts = option_and_then (λ x. asked read left x.0 x.1) (read 1 ts)
+goes_on names read left follow.Index ts = option_and_then (λ x. indexed left x.0 x.1) (read 1 ts)
+goes_on names read left follow.Call ts = called read left ts
+goes_on names read left follow.Dot ts = selected names (Member (expression_line left) left) ts
+goes_on names read left follow.Arrow ts = selected names (Arrow (expression_line left) left) ts
+goes_on names read left follow.Increment ts = Some (PostIncrement (expression_line left) left, ts)
+goes_on names read left follow.Decrement ts = Some (PostDecrement (expression_line left) left, ts)
+
+unfoldable pub tried : Names → Reads → (level : ℕ) → (left : ExpressionTree) → Option Follow → List Token → Read
+tried names read level left None ts = None
+tried names read level left (Some f) ts =
+    if nat_le level (follow_rank f) && nat_le (follow_left f) (rank left) then goes_on names read left f ts else None
+
+-- the next longer tree that begins with left
+unfoldable pub longer : Names → Reads → (level below : ℕ) → (left : ExpressionTree) → List Token → Read
+longer names read level below left [] = None
+longer names read level below left (t ∷ ts) =
+    if nat_le (expression_depth left) below then tried names read level left (follow_of t.kind) ts else None
+
+-- goes on with what was read, if anything was
+abbrev pub carried : {A : Type 0} → (ExpressionTree → List Token → A) → A → Read → A
+carried go stop None = stop
+carried go stop (Some x) = go x.0 x.1
+
+-- the longest tree that begins with left, in so many steps at most
+unfoldable pub grown_for : (steps : ℕ) → Names → Reads → (level below : ℕ) → (left : ExpressionTree) → List Token → ExpressionTree × List Token
+grown_for zero names read level below left ts = (left, ts)
+grown_for (suc steps) names read level below left ts =
+    carried (grown_for steps names read level below) (left, ts) (longer names read level below left ts)
+
+-- the longest tree that begins with left
+unfoldable pub grown : Names → Reads → (level below : ℕ) → (left : ExpressionTree) → List Token → ExpressionTree × List Token
+grown names read level below left ts = grown_for (suc below) names read level below left ts
+
+-- ---- all of it
+
+-- one level of depth more
+unfoldable pub deeper : Names → Reads → (below : ℕ) → Reads
+deeper names read below level ts =
+    option_and_then (λ x. if nat_le level (rank x.0) then Some (grown names read level below x.0 x.1) else None) (head names read below ts)
+
+-- the longest tree of a level, of at most so much depth
+unfoldable pub read : Names → (depth : ℕ) → Reads
+read names zero level ts = None
+read names (suc below) level ts = deeper names (read names below) below level ts

@@ -1,0 +1,12 @@
+pub mod Lists
+pub mod Typed
+pub mod Steps
+pub mod Shortens
+pub mod Answered
+pub mod Depths
+pub mod Exact
+pub mod Forms
+pub mod Declarators
+pub mod Units
+pub mod Spelling
+pub mod Programs

@@ -1,0 +1,25 @@
+use Rattle.std.proofs.Common.{◌∙◌, ◌++◌, ◌∷◌, [], ap}
+use Rattle.std.specs.List.{flat_map}
+use Rattle.pv_starter.specs.Syntax.{members}
+use Rattle.pv_starter.specs.Reading.{declaration, local}
+use Rattle.pv_starter.specs.Views.{local_listed}
+use Rattle.pv_starter.proofs.Shortens.{declaration_shortens, local_shortens}
+use Rattle.pv_starter.proofs.Answered.{grew_by, over_by, went_on, there_at, flat_grew}
+use Rattle.pv_starter.proofs.reading.local_declarations.Goals as goal
+
+pub declarations-smaller : goal.declarations-smaller
+declarations-smaller c =
+    went_on local_listed (declaration local) (declaration_shortens local local_shortens) c.args.lexemes.now c.declarations.next c.in-Some.after c.in-Some.found c.in_ok-found.field-0 c.in_ok-found.ensures c.in-Some.is c.declarations.invariant.place
+
+pub declarations-preserved : goal.declarations-preserved
+declarations-preserved c = record {
+  got = c.declarations.invariant.got ++ local_listed c.in-Some.found ∷ [];
+  flat = flat_grew c.declarations.invariant.got (local_listed c.in-Some.found) _ _ c.declarations.invariant.flat c.in_ok-add_locals-in-Some.ensures;
+  place = there_at c.args.lexemes.now c.in_ok-found.field-0 c.in-Some.found c.in-Some.after c.in_ok-found.ensures.there c.in-Some.is;
+  same = grew_by local_listed (declaration local) (declaration_shortens local local_shortens) c.args.lexemes.now c.declarations.invariant.got c.declarations.next c.in-Some.after c.in-Some.found c.in_ok-found.field-0 _ c.in_ok-found.ensures c.in-Some.is c.declarations.invariant.same;
+}
+
+pub returns-in-None : goal.returns-in-None
+returns-in-None c =
+    let whole = over_by local_listed (declaration local) (declaration_shortens local local_shortens) c.args.lexemes.now c.declarations.invariant.got c.declarations.next c.in_ok-found.field-0 _ c.in_ok-found.ensures c.in-None.is c.declarations.invariant.same in
+    (record { flat = c.declarations.invariant.flat ∙ ap (λ y. flat_map members y.0) whole; rest = ap (λ y. y.1) whole }, c.declarations.invariant.place)

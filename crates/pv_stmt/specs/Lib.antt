@@ -1,6 +1,0 @@
-pub mod Statements
-pub mod Parts
-pub mod Externals
-pub mod Units
-pub mod Names
-pub mod Found

@@ -1,0 +1,19 @@
+-- What the readers of external declarations answer, as what reading on lists gives (6.9).
+use Rattle.std.specs.Prelude.{◌≡◌, ℕ, Bool, List, Option, drop, option_map}
+use Rattle.pv_lex.specs.declared.token_table.Token.{Token}
+use Rattle.pv_tree.specs.declared.nodes.NodeId.{NodeId}
+use Rattle.pv_tree.specs.Syntax.{DeclaratorTree, Function, OfDeclaration, Trees}
+use Rattle.pv_tree.specs.Tables.{Tables, as_statement, is_external}
+use Rattle.pv_tree.specs.TypeNames.{type_seen}
+use Rattle.pv_decl_forms.specs.Answers.{IsThere}
+use Rattle.pv_decl_forms.specs.Pieces.{Piece}
+use Rattle.pv_stmt_forms.specs.Externals.{external_at}
+
+-- a function definition, once its block is read (6.9.1)
+abbrev pub function_with : (line : ℕ) → (specs : Trees) → DeclaratorTree → Piece → Piece
+function_with line specs d block = option_map (λ x. (OfDeclaration (Function line specs d (as_statement x.0)), x.1)) block
+
+-- the external declaration at a place of some tokens, or that there is none
+pub record IsExternalAt (u : Tables) (is_type : ℕ → Bool) (tokens : List Token) (at : ℕ) (answer : Option (NodeId × ℕ)) : Type 0 where
+  pub is : type_seen u.forest tokens answer ≡ external_at is_type (drop at tokens)
+  pub there : IsThere u is_external tokens answer

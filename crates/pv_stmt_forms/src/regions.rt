@@ -1,0 +1,91 @@
+//! How far an external declaration reaches, as far as its braces and semicolons tell.
+ghost use Rattle.std.specs.Prelude.{◌≡◌, ◌<◌, ◌≤◌, ◌+◌, ◌^◌, length};
+
+use pv_lex::{Mark, TokenKind, Tokens, Word};
+
+/// What stands directly before a token, as far as it tells what a `{` there opens.
+#[derive(Clone, Copy)]
+enum Before {
+    /// `struct`, `union` or `enum`.
+    TagWord,
+    /// A name directly behind one of these words.
+    Tag,
+    /// `=`.
+    Equals,
+    /// Anything else: a `{` outside braces opens the body of a function.
+    Other,
+}
+
+impl Before {
+    /// What stands before the next token, behind a token of a kind.
+    fn then(self, kind: TokenKind) -> Before {
+        match kind {
+            TokenKind::Word(Word::Struct | Word::Union | Word::Enum) => Before::TagWord,
+            TokenKind::Name(_) if matches!(self, Before::TagWord) => Before::Tag,
+            TokenKind::Mark(Mark::Assign) => Before::Equals,
+            _ => Before::Other,
+        }
+    }
+}
+
+/// What is known of an external declaration behind its first tokens.
+#[derive(Drop)]
+struct Scan {
+    before: Before,
+    /// How many braces are open.
+    braces: u32,
+    /// Whether a function's body has begun (C17 6.9.1p1).
+    in_body: bool,
+}
+
+impl Scan {
+    fn new() -> Scan
+        ensures { result.braces ≡ 0 }
+    {
+        Scan {
+            before: Before::Other,
+            braces: 0,
+            in_body: false,
+        }
+    }
+
+    /// Takes a further token, and says whether an external declaration ends with it.
+    fn ends_with(&mut self, kind: TokenKind) -> bool
+        requires { self.old.braces + 1 < 2 ^ 32 }
+        ensures { self.new.braces ≤ self.old.braces + 1 }
+    {
+        let before = self.before;
+        self.before = before.then(kind);
+        match kind {
+            TokenKind::Mark(Mark::OpenBrace) => {
+                self.in_body = self.in_body
+                    || (self.braces == 0 && matches!(before, Before::Other));
+                self.braces += 1;
+                false
+            }
+            TokenKind::Mark(Mark::CloseBrace) => {
+                self.braces = self.braces.saturating_sub(1);
+                self.in_body && self.braces == 0
+            }
+            TokenKind::Mark(Mark::Semicolon) => self.braces == 0,
+            _ => false,
+        }
+    }
+}
+
+/// The place behind the external declaration that begins at a place, by its braces and semicolons
+/// alone: behind the first `;` outside braces, or behind the `}` of a function's body.
+///
+/// An external declaration that can be read ends there or before.
+pub fn region_end(tokens: &Tokens, from: u32) -> u32
+    requires { from ≤ length tokens.now.tokens }
+    ensures { result ≤ length tokens.now.tokens }
+{
+    let mut scan = Scan::new();
+    for at in from..tokens.len() {
+        if scan.ends_with(tokens.at(at).kind) {
+            return at + 1;
+        }
+    }
+    tokens.len()
+}

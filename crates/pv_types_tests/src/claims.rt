@@ -1,0 +1,197 @@
+// What the lines claim. The values of a line are taken from its first word on.
+ghost use Rattle.std.specs.Prelude.{◌≡◌, ◌<◌, ◌≤◌, ◌^◌, length, IsTrue};
+ghost use Rattle.pv_types.specs.Known.{tree, env};
+ghost use Rattle.pv_types.specs.Layouts.{is_complete_in, layout_in};
+
+use crate::lines::{Desk, NONE, object, pop, pop_list, pop_object, pop_type};
+use pv_effect::{permits_declared, permits_marks};
+use pv_layout::{align, leaf_at, measure, member, part_at, size};
+use pv_types::{TypeId, Types};
+use std::process::Abort;
+
+/// A line's first word.
+#[derive(Clone, Copy)]
+pub(crate) enum Claim {
+    /// `type TYPE` makes it.
+    Type,
+    /// `same ANSWER: TYPE, TYPE`: whether they have one number.
+    Same,
+    /// `compatible ANSWER: TYPE, TYPE`.
+    Compatible,
+    /// `complete ANSWER: TYPE`.
+    Complete,
+    /// `layout SIZE ALIGNMENT: TYPE`, where members stand with their offsets, as `struct {char@0, int@4}`.
+    Layout,
+    /// `suits LEAF, PART: WHOLE + OFFSET, TYPE`: whether a leaf and whether a part of the whole there suits the type.
+    Suits,
+    /// `access ANSWER: DECLARED + OFFSET, TYPE`: whether an access to a declared object is permitted.
+    Access,
+    /// `read ANSWER: TYPE {RUN, ..}`: whether a read of bytes with these marks is. A run `int 1 2` is two bytes of an
+    /// `int`, from the byte 1 on, and `none 0 2` two without marks.
+    Read,
+    /// `ask {TYPE, ..}`: the types that the next two are about.
+    Ask,
+    /// `declared TYPE {TYPE, ..}`: through which of them a declared object may be accessed, and through no other.
+    Declared,
+    /// `stored TYPE {TYPE, ..}`: the same where objects of the type were stored one after the other.
+    Stored,
+}
+
+/// Whether it is so.
+pub(crate) fn is_so(rt: &impl Abort, types: &Types, desk: &mut Desk, claim: Claim) -> bool {
+    match claim {
+        Claim::Type => types.has(pop_type(rt, types, desk)),
+        Claim::Same => same(rt, types, desk),
+        Claim::Compatible => compatible(rt, types, desk),
+        Claim::Complete => complete(rt, types, desk),
+        Claim::Layout => layout(rt, types, desk),
+        Claim::Suits => suits(rt, types, desk),
+        Claim::Access => access(rt, types, desk),
+        Claim::Read => read(rt, types, desk),
+        Claim::Ask => ask(rt, desk),
+        Claim::Declared => declared(rt, types, desk),
+        Claim::Stored => stored(rt, types, desk),
+    }
+}
+
+fn same(rt: &impl Abort, types: &Types, desk: &mut Desk) -> bool {
+    let want = pop(rt, desk) == 1;
+    let a = pop_type(rt, types, desk);
+    let b = pop_type(rt, types, desk);
+    (a == b) == want
+}
+
+fn compatible(rt: &impl Abort, types: &Types, desk: &mut Desk) -> bool {
+    let want = pop(rt, desk) == 1;
+    let a = pop_type(rt, types, desk);
+    let b = pop_type(rt, types, desk);
+    types.compatible(a, b) == want && types.compatible(b, a) == want
+}
+
+fn complete(rt: &impl Abort, types: &Types, desk: &mut Desk) -> bool {
+    let want = pop(rt, desk) == 1;
+    let t = pop_type(rt, types, desk);
+    types.is_complete(t) == want
+}
+
+fn layout(rt: &impl Abort, types: &Types, desk: &mut Desk) -> bool {
+    let bytes = u64::from(pop(rt, desk));
+    let alignment = u64::from(pop(rt, desk));
+    let t = pop_object(rt, types, desk);
+    types.extent(t).size == Some(bytes)
+        && types.extent(t).align == alignment
+        && measure(types, t) == Some(bytes)
+        && size(types, t) == bytes
+        && align(types, t) == alignment
+        && has_members(types, t, &desk.list)
+}
+
+/// Whether the members are these types at these offsets, named by their places.
+fn has_members(types: &Types, whole: TypeId, list: &[u32]) -> bool
+    requires known { whole.0 < length types.now.terms }
+    requires complete { IsTrue (is_complete_in (env types.now) (tree types.now whole.0)) }
+    requires small { (layout_in (env types.now) (tree types.now whole.0)).size ≤ 2 ^ 32 }
+{
+    if list.len() >= 100 {
+        return false;
+    }
+    for i in 0..list.len() / 2 {
+        let place = (u64::from(list[2 * i + 1]), TypeId(list[2 * i]));
+        if member(types, whole, i as u32) != Some(place) {
+            return false;
+        }
+    }
+    member(types, whole, 100).is_none()
+}
+
+fn suits(rt: &impl Abort, types: &Types, desk: &mut Desk) -> bool {
+    let leaf = pop(rt, desk) == 1;
+    let part = pop(rt, desk) == 1;
+    let whole = pop_object(rt, types, desk);
+    let offset = u64::from(pop(rt, desk));
+    let want = pop_type(rt, types, desk);
+    leaf_at(types, whole, offset, want) == leaf && part_at(types, whole, offset, want) == part
+}
+
+fn access(rt: &impl Abort, types: &Types, desk: &mut Desk) -> bool {
+    let permitted = pop(rt, desk) == 1;
+    let whole = pop_object(rt, types, desk);
+    let offset = u64::from(pop(rt, desk));
+    let want = pop_object(rt, types, desk);
+    permits_declared(types, whole, offset, want) == permitted
+}
+
+fn read(rt: &impl Abort, types: &Types, desk: &mut Desk) -> bool {
+    let permitted = pop(rt, desk) == 1;
+    let want = pop_object(rt, types, desk);
+    pop_list(rt, desk);
+    desk.marks.clear();
+    for i in 0..desk.list.len() / 3 {
+        mark_run(rt, desk, 3 * i);
+    }
+    desk.marks.len() as u64 == size(types, want) && is_read(types, want, &desk.marks) == permitted
+}
+
+/// Adds the marks of the run that begins at this place of the list.
+fn mark_run(rt: &impl Abort, desk: &mut Desk, place: usize) {
+    assert!(rt; desk.list.len() > 2 && place < desk.list.len() - 2);
+    let t = desk.list[place];
+    let first = u64::from(desk.list[place + 1]);
+    let count = u64::from(desk.list[place + 2]);
+    mark(rt, desk, t, first, count);
+}
+
+/// Adds the marks of bytes of a type.
+fn mark(rt: &impl Abort, desk: &mut Desk, t: u32, first: u64, count: u64) {
+    for byte in 0..255_u8 {
+        let place = u64::from(byte);
+        if first <= place && place < first.saturating_add(count) {
+            let mark = if t == NONE { None } else { Some((t, byte)) };
+            desk.marks.push(mark).expect(rt, "no memory");
+        }
+    }
+}
+
+/// Whether the first bytes, as many as the type has, may be read through it.
+fn is_read(types: &Types, want: TypeId, marks: &[Option<(u32, u8)>]) -> bool
+    requires known { want.0 < length types.now.terms }
+    requires complete { IsTrue (is_complete_in (env types.now) (tree types.now want.0)) }
+    requires small { (layout_in (env types.now) (tree types.now want.0)).size ≤ 2 ^ 32 }
+{
+    let bytes = size(types, want) as usize;
+    bytes <= marks.len() && permits_marks(types, &marks[..bytes], want)
+}
+
+fn ask(rt: &impl Abort, desk: &mut Desk) -> bool {
+    pop_list(rt, desk);
+    std::mem::swap(&mut desk.asked, &mut desk.list);
+    true
+}
+
+fn declared(rt: &impl Abort, types: &Types, desk: &mut Desk) -> bool {
+    let whole = pop_object(rt, types, desk);
+    pop_list(rt, desk);
+    for asked in &desk.asked {
+        let want = object(rt, types, *asked);
+        if permits_declared(types, whole, 0, want) != desk.list.contains(asked) {
+            return false;
+        }
+    }
+    true
+}
+
+fn stored(rt: &impl Abort, types: &Types, desk: &mut Desk) -> bool {
+    let t = pop_object(rt, types, desk);
+    pop_list(rt, desk);
+    desk.marks.clear();
+    for _ in 0..16 {
+        mark(rt, desk, t.0, 0, size(types, t));
+    }
+    for asked in &desk.asked {
+        let want = object(rt, types, *asked);
+        if is_read(types, want, &desk.marks) != desk.list.contains(asked) {
+            return false;
+        }
+    }
+    true
+}
