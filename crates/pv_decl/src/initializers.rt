@@ -12,10 +12,8 @@ ghost use Rattle.pv_decl_forms.specs.Parts.{assigned};
 ghost use Rattle.pv_decl_forms.specs.Pieces.{value, listed};
 ghost use Rattle.pv_decl_forms.specs.Reader.{readers, initialized};
 
-use crate::nodes::{found_declaration, found_initializer};
-use crate::pieces::braces_of;
 use crate::source::Source;
-use pv_decl_forms::{Sign, after, line_at};
+use pv_decl_forms::{Sign, after, braces_of, found_declaration, found_initializer, line_at};
 use pv_expr::{Level, expression};
 use pv_lex::NoMemory;
 use pv_tree::{Decl, Init, NodeId, TypeReader, Unit};

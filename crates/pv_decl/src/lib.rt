@@ -5,9 +5,7 @@
 
 mod initializers;
 mod lists;
-mod nodes;
 mod parser;
-mod pieces;
 mod reading;
 mod source;
 mod type_table;

@@ -10,9 +10,8 @@ ghost use Rattle.pv_decl_forms.specs.Givens.{AreGiven};
 ghost use Rattle.pv_decl_forms.specs.Parts.{function_of};
 ghost use Rattle.pv_decl_forms.specs.Reader.{readers};
 
-use crate::nodes::found_declarator;
-use crate::pieces::function_node;
 use crate::source::Source;
+use pv_decl_forms::{found_declarator, function_node};
 use pv_lex::NoMemory;
 use pv_tree::{Declarator, NodeId, TypeReader, Unit};
 use std::alloc::Global;

@@ -15,10 +15,11 @@ ghost use Rattle.pv_decl_forms.specs.Reader.{readers, after_specifiers, declarat
 ghost use Rattle.pv_decl_forms.specs.Rows.{AreAnswered};
 
 use crate::lists::ParameterLists;
-use crate::pieces::{declaration_of, parameter_of, type_name_of};
 use crate::source::Source;
 use indexmap::IndexSet;
-use pv_decl_forms::{Form, Part, Sign, after, line_at, opens_block};
+use pv_decl_forms::{
+    Form, Part, Sign, after, declaration_of, line_at, opens_block, parameter_of, type_name_of,
+};
 use pv_lex::{NoMemory, Tokens};
 use pv_tree::{NodeId, TypeReader, Unit};
 

@@ -17,15 +17,11 @@ ghost use Rattle.pv_decl_forms.specs.Pieces.{is_open_brace, row, listed};
 ghost use Rattle.pv_decl_forms.specs.Reader.{readers, braced, listed_in_braces, row_in_braces, tag_at, with_tag};
 
 use crate::lists::DEPTH_LIMIT;
-use crate::nodes::may_go_on;
-use crate::pieces::{
-    composite, enumeration, function_of, member_of, named, parameter_of, parenthesized, plain,
-    pointed, tag_alone,
-};
 use crate::source::Source;
 use pv_decl_forms::{
-    CompositeWord, Form, Opening, Part, Sign, TagWord, after, consts_in_row, line_at, opening_of,
-    opens_parameters, peek, tag_at, tag_word,
+    CompositeWord, Form, Opening, Part, Sign, TagWord, after, composite, consts_in_row,
+    enumeration, function_of, line_at, may_go_on, member_of, named, opening_of, opens_parameters,
+    parameter_of, parenthesized, peek, plain, pointed, tag_alone, tag_at, tag_word,
 };
 use pv_lex::NoMemory;
 use pv_tree::{NodeId, TypeReader, Unit};

@@ -14,10 +14,8 @@ ghost use Rattle.pv_decl_forms.specs.Parts.{array_of};
 ghost use Rattle.pv_decl_forms.specs.Pieces.{optional, value};
 ghost use Rattle.pv_decl_forms.specs.Reader.{readers};
 
-use crate::nodes::found_declaration;
-use crate::pieces::array_of;
 use crate::source::Source;
-use pv_decl_forms::{Form, Sign, after, is_type, name_of, peek};
+use pv_decl_forms::{Form, Sign, after, array_of, found_declaration, is_type, name_of, peek};
 use pv_expr::{Level, expression};
 use pv_lex::NoMemory;
 use pv_tree::{Decl, NodeId, TypeReader, Unit};

@@ -1,10 +1,11 @@
 //! What no clause says: that the grammar of the definitions is C's.
-use crate::rows::{agrees, bytes_of, source_of};
+use crate::rows::{Asked, check};
 use indexmap::IndexSet;
 use pv_decl::{declaration, type_names};
-use pv_lex::{NoMemory, Tokens, tokens};
+use pv_lex::Tokens;
 use pv_tree::Unit;
 use std::alloc::Global;
+use std::process::Abort;
 
 // The expected numbers come from an independent reader of the grammar.
 
@@ -105,47 +106,23 @@ t int f(int (*(*))); => 13 7
 ";
 
 /// The token behind the declaration that stands behind the first token, and its depth.
-fn read(alloc: Global, tokens: &Tokens) -> Result<Option<(u32, u32)>, NoMemory> {
+pub(crate) fn told(rt: &impl Abort, alloc: Global, tokens: &Tokens) -> String {
     let mut types = IndexSet::new(alloc);
-    types.insert(0)?;
+    types.insert(0).expect(rt, "no memory");
     let mut unit = Unit::new(alloc);
-    read_with(alloc, tokens, &types, &mut unit)
-}
-
-fn read_with(
-    alloc: Global,
-    tokens: &Tokens,
-    types: &IndexSet<u32>,
-    unit: &mut Unit,
-) -> Result<Option<(u32, u32)>, NoMemory> {
-    let reader = type_names(alloc, tokens, 1, tokens.len(), types, unit)?;
-    match declaration(tokens, 1, 500, types, unit, &reader)? {
-        Some((n, end)) => Ok(Some((end, unit.depth(n)))),
-        None => Ok(None),
-    }
-}
-
-/// That token's number and that depth as text.
-fn listing(alloc: Global, tokens: &Tokens) -> Result<String, NoMemory> {
-    match read(alloc, tokens)? {
-        Some((end, depth)) => Ok(format!(in alloc; "{end} {depth}")?),
-        None => Ok(String::from_str(alloc, "none")?),
-    }
-}
-
-fn told(alloc: Global, source: &str) -> Result<String, NoMemory> {
-    match tokens(alloc, bytes_of(source)) {
-        Ok(tokens) => listing(alloc, &tokens),
-        Err(fault) => Ok(format!(in alloc; "{fault:?}")?),
-    }
+    let reader = type_names(alloc, tokens, 1, tokens.len(), &types, &mut unit).expect(
+        rt,
+        "no memory",
+    );
+    let found = declaration(tokens, 1, 500, &types, &mut unit, &reader).expect(rt, "no memory");
+    let text = match found {
+        Some((n, end)) => format!(in alloc; "{end} {}", unit.depth(n)),
+        None => String::from_str(alloc, "none"),
+    };
+    text.expect(rt, "no memory")
 }
 
 #[test]
-fn declares_as_the_grammar_says(rt: HostRuntime) -> Result<(), NoMemory> {
-    let alloc = rt.alloc();
-    for row in CASES.lines() {
-        let told = told(alloc, source_of(row))?;
-        agrees(&rt, row, told.as_str());
-    }
-    Ok(())
+fn declares_as_the_grammar_says(rt: HostRuntime) {
+    check(&rt, rt.alloc(), Asked::Declaration, CASES);
 }

@@ -1,8 +1,10 @@
 //! What no clause says of trees: that the grammar is that of other readers of C.
 //!
 //! Each public call of the table of nodes and of the readers of expressions, declarations and units
-//! runs here once at least. A table of sources has one row a line: a source, ` => ` and what is told
-//! of it.
+//! runs here once at least. A table of sources has one row a line: `rows` says how it is read.
+//!
+//! Every function of a crate is proved, those of its tests too. These have as few ways out as they can:
+//! want of memory ends a test where it occurs.
 #![tactic(auto)]
 
 #[cfg(test)]

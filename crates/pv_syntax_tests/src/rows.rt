@@ -1,42 +1,64 @@
-//! Rows of tables: a source, ` => ` and what is told of it.
-ghost use Rattle.std.specs.Prelude.{◌≤◌, length};
-
-use std::alloc::{AllocError, Global};
+//! Tables of sources. A row is a source, ` => ` and what is told of it.
+//!
+//! A source with ` times ` and a number behind it has what stands between two backticks so many times.
+use crate::{declarations, expressions, units};
+use pv_expr::Level;
+use pv_lex::tokens;
+use std::alloc::Global;
 use std::process::Abort;
 
-/// The source of a row, and what is to be told of it.
-fn parts(row: &str) -> (&str, &str) {
-    row.split_once(" => ").unwrap_or((row, ""))
+/// What a table tells of its sources.
+#[derive(Clone, Copy)]
+pub(crate) enum Asked {
+    /// How many external declarations the source is, or why it is no unit.
+    Unit,
+    /// The token behind the declaration that stands behind the first token, and its depth.
+    Declaration,
+    /// The token behind the longest expression that the source begins with.
+    End,
+    /// That token, and the expression of this level as text.
+    Tree(Level),
+    /// The same with the line of each node.
+    Lines,
 }
 
-/// The source of a row.
-pub(crate) fn source_of(row: &str) -> &str {
-    parts(row).0
-}
-
-/// The bytes of a source: all of them, since those of tables are short.
-pub(crate) fn bytes_of(source: &str) -> &[u8]
-    ensures { length result.now ≤ 100000 }
-{
-    let bytes = source.as_bytes();
-    &bytes[..bytes.len().min(100000)]
+/// Asserts that each row of a table is so.
+pub(crate) fn check(rt: &impl Abort, alloc: Global, asked: Asked, table: &str) {
+    for row in table.lines() {
+        check_row(rt, alloc, asked, row);
+    }
 }
 
 /// Asserts that what is told of its source is what the row says.
-pub(crate) fn agrees(rt: &impl Abort, row: &str, told: &str) {
-    let (_, wanted) = parts(row);
-    assert!(rt; told == wanted, "the row {row:?}: {told:?}");
+pub(crate) fn check_row(rt: &impl Abort, alloc: Global, asked: Asked, row: &str) {
+    let (left, wanted) = row.split_once(" => ").unwrap_or((row, ""));
+    let (form, times) = left.rsplit_once(" times ").unwrap_or((left, "1"));
+    let source = repeated(rt, alloc, form, times.parse::<usize>().unwrap_or(0));
+    let told = told(rt, alloc, asked, source.as_str());
+    assert!(rt; told.as_str() == wanted, "the row {row:?}: {told:?}");
 }
 
 /// A form as a source, with what stands between two backticks so many times.
-pub(crate) fn repeated(alloc: Global, form: &str, times: usize) -> Result<String, AllocError> {
+fn repeated(rt: &impl Abort, alloc: Global, form: &str, times: usize) -> String {
     let mut source = String::new(alloc);
     let mut count = 1;
     for part in form.split('`') {
         for _ in 0..count {
-            source.push_str(part)?;
+            source.push_str(part).expect(rt, "no memory");
         }
         count = if count == 1 { times } else { 1 };
     }
-    Ok(source)
+    source
+}
+
+/// What is told of a source.
+fn told(rt: &impl Abort, alloc: Global, asked: Asked, source: &str) -> String {
+    let bytes = source.as_bytes();
+    assert!(rt; bytes.len() <= 100000);
+    let tokens = tokens(alloc, bytes).expect(rt, "no tokens");
+    match asked {
+        Asked::Unit => units::told(rt, alloc, &tokens),
+        Asked::Declaration => declarations::told(rt, alloc, &tokens),
+        _ => expressions::told(rt, alloc, &tokens, asked),
+    }
 }

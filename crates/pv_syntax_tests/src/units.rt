@@ -1,8 +1,8 @@
 //! What no clause says: that the grammar of units is C's.
-use crate::rows::{agrees, bytes_of, repeated, source_of};
-use pv_lex::{Tokens, tokens};
+use crate::rows::{Asked, check, check_row};
+use pv_lex::Tokens;
 use pv_stmt::{SynError, unit};
-use std::alloc::{AllocError, Global};
+use std::alloc::Global;
 use std::process::Abort;
 
 mod externals;
@@ -10,76 +10,34 @@ mod nests;
 mod statements;
 
 /// What becomes of tokens: so many external declarations, or why there is no unit.
-fn judged(alloc: Global, tokens: &Tokens) -> Result<String, AllocError> {
-    match unit(alloc, tokens) {
+pub(crate) fn told(rt: &impl Abort, alloc: Global, tokens: &Tokens) -> String {
+    let text = match unit(alloc, tokens) {
         Ok(unit) => format!(in alloc; "unit {}", unit.count()),
         Err(SynError::Syntax { whole }) => format!(in alloc; "syntax whole={whole}"),
-        Err(SynError::NoMemory) => Err(AllocError),
-    }
-}
-
-fn told(alloc: Global, source: &str) -> Result<String, AllocError> {
-    match tokens(alloc, bytes_of(source)) {
-        Ok(tokens) => judged(alloc, &tokens),
-        Err(fault) => format!(in alloc; "{fault:?}"),
-    }
-}
-
-fn agree(rt: &impl Abort, alloc: Global, row: &str) -> Result<(), AllocError> {
-    let told = told(alloc, source_of(row))?;
-    agrees(rt, row, told.as_str());
-    Ok(())
-}
-
-fn agree_all(rt: &impl Abort, alloc: Global, table: &str) -> Result<(), AllocError> {
-    for row in table.lines() {
-        agree(rt, alloc, row)?;
-    }
-    Ok(())
+        Err(SynError::NoMemory) => panic!(rt; "no memory"),
+    };
+    text.expect(rt, "no memory")
 }
 
 #[test]
-fn units_are_as_the_grammar_says(rt: HostRuntime) -> Result<(), AllocError> {
+fn units_are_as_the_grammar_says(rt: HostRuntime) {
     let alloc = rt.alloc();
-    let tables = [
-        externals::EXTERNALS,
-        externals::PREFIXES,
-        externals::FUNCTIONS,
-        externals::TYPEDEF_NAMES,
-        externals::STRUCTURES,
-        externals::DECLARATORS,
-        statements::STATEMENTS,
-        statements::SWITCHES,
-        statements::EXPRESSIONS,
-        statements::SAMPLES,
-    ];
-    for table in &tables {
-        agree_all(&rt, alloc, table)?;
-    }
-    Ok(())
-}
-
-#[test]
-fn white_space_tells_nothing(rt: HostRuntime) -> Result<(), AllocError> {
+    check(&rt, alloc, Asked::Unit, externals::EXTERNALS);
+    check(&rt, alloc, Asked::Unit, externals::PREFIXES);
+    check(&rt, alloc, Asked::Unit, externals::FUNCTIONS);
+    check(&rt, alloc, Asked::Unit, externals::TYPEDEF_NAMES);
+    check(&rt, alloc, Asked::Unit, externals::STRUCTURES);
+    check(&rt, alloc, Asked::Unit, externals::DECLARATORS);
+    check(&rt, alloc, Asked::Unit, statements::STATEMENTS);
+    check(&rt, alloc, Asked::Unit, statements::SWITCHES);
+    check(&rt, alloc, Asked::Unit, statements::EXPRESSIONS);
+    check(&rt, alloc, Asked::Unit, statements::SAMPLES);
     for row in &statements::SPACED {
-        agree(&rt, rt.alloc(), row)?;
+        check_row(&rt, alloc, Asked::Unit, row);
     }
-    Ok(())
-}
-
-/// The source of a form, ` * ` and the times that its parts stand.
-fn many(alloc: Global, form: &str) -> Result<String, AllocError> {
-    let (form, times) = form.rsplit_once(" * ").unwrap_or((form, ""));
-    repeated(alloc, form, times.parse::<usize>().unwrap_or(0))
 }
 
 #[test]
-fn units_are_as_deep_as_the_limit(rt: HostRuntime) -> Result<(), AllocError> {
-    let alloc = rt.alloc();
-    for row in nests::NESTS.lines() {
-        let source = many(alloc, source_of(row))?;
-        let told = told(alloc, source.as_str())?;
-        agrees(&rt, row, told.as_str());
-    }
-    Ok(())
+fn units_are_as_deep_as_the_limit(rt: HostRuntime) {
+    check(&rt, rt.alloc(), Asked::Unit, nests::NESTS);
 }

@@ -265,26 +265,64 @@ pub(super) static LINES: [&str; 8] = [
     "(t)\na\n,'b' => 6 (,@1 (cast@1 t (a@2)) ('98@3))",
 ];
 
-/// A form, with what stands in backticks so many times, and the number of the token behind the longest
-/// expression that it begins with where that is 498, 499 and 500 times.
+/// Forms about the limit of 500 levels, and the number of the token behind the longest expression that
+/// each begins with.
 pub(super) static NESTS: &str = "\
-`(`x`)` => 997 999 none
-`!`x => 499 500 none
-`++`x => 499 500 none
-` sizeof `x => 499 500 none
-`(int)`x => 1495 1498 none
-x`+x` => 997 999 999
-x`*x` => 997 999 999
-x`[i]` => 1495 1498 1498
-`x[`x`]` => 1495 1498 1
-f`()` => 997 999 999
-`f(`x`)` => 1495 1498 1
-`f(x,`x`)` => 2491 2496 1
-`a=`x => 997 999 999
-`a?b:`x => 1993 1997 1997
-`a?`x`:c` => 1993 1997 1
-x`,x` => 997 999 999
-x`.m` => 997 999 999
-x`->m` => 997 999 999
-x`--` => 499 500 500
+`(`x`)` times 498 => 997
+`(`x`)` times 499 => 999
+`(`x`)` times 500 => none
+`!`x times 498 => 499
+`!`x times 499 => 500
+`!`x times 500 => none
+`++`x times 498 => 499
+`++`x times 499 => 500
+`++`x times 500 => none
+` sizeof `x times 498 => 499
+` sizeof `x times 499 => 500
+` sizeof `x times 500 => none
+`(int)`x times 498 => 1495
+`(int)`x times 499 => 1498
+`(int)`x times 500 => none
+x`+x` times 498 => 997
+x`+x` times 499 => 999
+x`+x` times 500 => 999
+x`*x` times 498 => 997
+x`*x` times 499 => 999
+x`*x` times 500 => 999
+x`[i]` times 498 => 1495
+x`[i]` times 499 => 1498
+x`[i]` times 500 => 1498
+`x[`x`]` times 498 => 1495
+`x[`x`]` times 499 => 1498
+`x[`x`]` times 500 => 1
+f`()` times 498 => 997
+f`()` times 499 => 999
+f`()` times 500 => 999
+`f(`x`)` times 498 => 1495
+`f(`x`)` times 499 => 1498
+`f(`x`)` times 500 => 1
+`f(x,`x`)` times 498 => 2491
+`f(x,`x`)` times 499 => 2496
+`f(x,`x`)` times 500 => 1
+`a=`x times 498 => 997
+`a=`x times 499 => 999
+`a=`x times 500 => 999
+`a?b:`x times 498 => 1993
+`a?b:`x times 499 => 1997
+`a?b:`x times 500 => 1997
+`a?`x`:c` times 498 => 1993
+`a?`x`:c` times 499 => 1997
+`a?`x`:c` times 500 => 1
+x`,x` times 498 => 997
+x`,x` times 499 => 999
+x`,x` times 500 => 999
+x`.m` times 498 => 997
+x`.m` times 499 => 999
+x`.m` times 500 => 999
+x`->m` times 498 => 997
+x`->m` times 499 => 999
+x`->m` times 500 => 999
+x`--` times 498 => 499
+x`--` times 499 => 500
+x`--` times 500 => 500
 ";

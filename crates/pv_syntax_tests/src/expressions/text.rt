@@ -6,7 +6,7 @@ ghost use Rattle.pv_tree.specs.Tables.{Forest, HasOptional, HasList, is_expressi
 
 use pv_lex::Tokens;
 use pv_tree::{Decl, Expr, ListId, NodeId, Spec, Unit};
-use std::alloc::AllocError;
+use std::process::Abort;
 
 /// What the text is made from.
 #[derive(Drop)]
@@ -109,6 +109,25 @@ fn word(e: Expr) -> &'static str {
     }
 }
 
+/// What stands behind a number: an `o` where it was not decimal, and its suffixes.
+fn suffix(decimal: bool, unsigned: bool, longs: u8) -> &'static str {
+    match (decimal, unsigned, longs) {
+        (true, false, 0) => "",
+        (true, false, 1) => "l",
+        (true, false, 2) => "ll",
+        (true, true, 0) => "u",
+        (true, true, 1) => "ul",
+        (true, true, 2) => "ull",
+        (false, false, 0) => "o",
+        (false, false, 1) => "ol",
+        (false, false, 2) => "oll",
+        (false, true, 0) => "ou",
+        (false, true, 1) => "oul",
+        (false, true, 2) => "oull",
+        _ => "?",
+    }
+}
+
 /// A member of a list.
 fn nth(list: &[NodeId], i: usize) -> NodeId
     requires { i < length list.now }
@@ -117,99 +136,86 @@ fn nth(list: &[NodeId], i: usize) -> NodeId
     list[i]
 }
 
+/// Adds a text.
+pub(super) fn put(rt: &impl Abort, out: &mut String, text: &str) {
+    out.push_str(text).expect(rt, "no memory");
+}
+
 impl Printer<'_> {
-    fn name(&self, n: u32, out: &mut String) -> Result<(), AllocError> {
+    fn name(&self, rt: &impl Abort, n: u32, out: &mut String) {
         if n < self.tokens.names_len() {
             for b in self.tokens.name(n) {
-                out.push(*b as char)?;
+                out.push(*b as char).expect(rt, "no memory");
             }
         }
-        Ok(())
     }
 
-    fn number(
-        value: u64,
-        decimal: bool,
-        unsigned: bool,
-        longs: u8,
-        out: &mut String,
-    ) -> Result<(), AllocError> {
-        write!(out, "{value}")?;
-        if !decimal {
-            out.push_str("o")?;
-        }
-        if unsigned {
-            out.push_str("u")?;
-        }
-        for _ in 0..longs {
-            out.push_str("l")?;
-        }
-        Ok(())
-    }
-
-    fn type_name(&self, n: NodeId, out: &mut String) -> Result<(), AllocError>
+    fn type_name(&self, rt: &impl Abort, n: NodeId, out: &mut String)
         requires { Is (tables self.now.unit.now) is_declaration n }
     {
         if let Decl::TypeName { specs, .. } = self.unit.decl(n) {
             let specs = self.unit.list(specs);
             for i in 0..specs.len() {
-                out.push_str(" ")?;
+                put(rt, out, " ");
                 match self.unit.spec(nth(specs, i)) {
-                    Spec::TypedefName(name) => self.name(name, out)?,
-                    _ => out.push_str("int")?,
+                    Spec::TypedefName(name) => self.name(rt, name, out),
+                    _ => put(rt, out, "int"),
                 }
             }
         }
-        Ok(())
     }
 
-    fn operator(&self, e: Expr, out: &mut String) -> Result<(), AllocError> {
-        out.push_str(word(e))?;
-        match e {
-            Expr::Name(n) | Expr::Member(_, n) | Expr::Arrow(_, n) => self.name(n, out),
+    fn operator(&self, rt: &impl Abort, e: Expr, out: &mut String) {
+        put(rt, out, word(e));
+        let written = match e {
+            Expr::Name(n) | Expr::Member(_, n) | Expr::Arrow(_, n) => {
+                self.name(rt, n, out);
+                Ok(())
+            }
             Expr::Number {
                 value,
                 decimal,
                 unsigned,
                 longs,
-            } => Printer::number(value, decimal, unsigned, longs, out),
+            } => write!(out, "{value}{}", suffix(decimal, unsigned, longs)),
             Expr::Character(value) => write!(out, "{value}"),
             Expr::Text { more, .. } => write!(out, "{}", more as u64 + 1),
             Expr::Unary(op, _) => write!(out, "{op:?}"),
             Expr::Binary(op, _, _) => write!(out, "{op:?}"),
             Expr::Assign(op, _, _) => write!(out, "{op:?}"),
             _ => Ok(()),
-        }
+        };
+        written.expect(rt, "no memory");
     }
 
     /// A space and the text of an expression.
-    pub(super) fn print(&self, n: NodeId, out: &mut String) -> Result<(), AllocError>
+    pub(super) fn print(&self, rt: &impl Abort, n: NodeId, out: &mut String)
         requires { Is (tables self.now.unit.now) is_expression n }
     {
         let e = self.unit.expr(n);
-        out.push_str(" (")?;
-        self.operator(e, out)?;
+        put(rt, out, " (");
+        self.operator(rt, e, out);
         if self.lines {
-            write!(out, "@{}", self.unit.line(n))?;
+            write!(out, "@{}", self.unit.line(n)).expect(rt, "no memory");
         }
         if let Some(name) = type_in(e) {
-            self.type_name(name, out)?;
+            self.type_name(rt, name, out);
         }
         if let Some(operand) = first_in(e) {
-            self.print(operand, out)?;
+            self.print(rt, operand, out);
         }
         if let Some(operand) = second_in(e) {
-            self.print(operand, out)?;
+            self.print(rt, operand, out);
         }
         if let Some(operand) = third_in(e) {
-            self.print(operand, out)?;
+            self.print(rt, operand, out);
         }
         if let Some(list) = arguments_in(e) {
             let arguments = self.unit.list(list);
             for i in 0..arguments.len() {
-                self.print(nth(arguments, i), out)?;
+                self.print(rt, nth(arguments, i), out);
             }
         }
-        out.push_str(")")
+        put(rt, out, ")");
     }
 }
