@@ -1,6 +1,6 @@
 -- The type names that a table holds, and what it holds at a place.
 use Rattle.std.specs.Prelude.{ℕ, zero, suc, ◌-◌, nat_le, Bool, false, List, [], ◌∷◌, drop, Option, None, if◌then◌else◌, slice_index_or}
-use Rattle.pv_lex.specs.declared.token_table.Token.{Token}
+use Rattle.pv_token.specs.declared.token_table.Token.{Token}
 use Rattle.pv_tree.specs.declared.nodes.NodeId.{NodeId}
 use Rattle.pv_tree.specs.Grammar.{Names}
 use Rattle.pv_tree.specs.TypeNames.{TypeMap}

@@ -15,7 +15,7 @@ ghost use Rattle.pv_decl_forms.specs.Reader.{readers, initialized};
 use crate::source::Source;
 use pv_decl_forms::{Sign, after, braces_of, found_declaration, found_initializer, line_at};
 use pv_expr::{Level, expression};
-use pv_lex::NoMemory;
+use pv_token::NoMemory;
 use pv_tree::{Decl, Init, NodeId, TypeReader, Unit};
 
 impl<R: TypeReader> Source<'_, R> {

@@ -12,7 +12,7 @@ ghost use Rattle.pv_decl_forms.specs.Reader.{readers};
 
 use crate::source::Source;
 use pv_decl_forms::{found_declarator, function_node};
-use pv_lex::NoMemory;
+use pv_token::NoMemory;
 use pv_tree::{Declarator, NodeId, TypeReader, Unit};
 use std::alloc::Global;
 

@@ -20,7 +20,7 @@ use indexmap::IndexSet;
 use pv_decl_forms::{
     Form, Part, Sign, after, declaration_of, line_at, opens_block, parameter_of, type_name_of,
 };
-use pv_lex::{NoMemory, Tokens};
+use pv_token::{NoMemory, Tokens};
 use pv_tree::{NodeId, TypeReader, Unit};
 
 impl<R: TypeReader> Source<'_, R> {

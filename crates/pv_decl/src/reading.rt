@@ -23,7 +23,7 @@ use pv_decl_forms::{
     enumeration, function_of, line_at, may_go_on, member_of, named, opening_of, opens_parameters,
     parameter_of, parenthesized, peek, plain, pointed, tag_alone, tag_at, tag_word,
 };
-use pv_lex::NoMemory;
+use pv_token::NoMemory;
 use pv_tree::{NodeId, TypeReader, Unit};
 
 impl<R: TypeReader> Source<'_, R> {

@@ -2,7 +2,7 @@
 
 use crate::lists::ParameterLists;
 use indexmap::IndexSet;
-use pv_lex::Tokens;
+use pv_token::Tokens;
 
 /// The tokens, and what is known of the names and type names among them.
 #[derive(Drop)]

@@ -17,7 +17,7 @@ use crate::lists::{DEPTH_LIMIT, ParameterLists};
 use crate::source::Source;
 use indexmap::IndexSet;
 use pv_decl_forms::{is_open, peek};
-use pv_lex::{NoMemory, Tokens};
+use pv_token::{NoMemory, Tokens};
 use pv_tree::{NodeId, TypeReader, Unit};
 use std::alloc::Global;
 

@@ -17,7 +17,7 @@ ghost use Rattle.pv_decl_forms.specs.Reader.{readers};
 use crate::source::Source;
 use pv_decl_forms::{Form, Sign, after, array_of, found_declaration, is_type, name_of, peek};
 use pv_expr::{Level, expression};
-use pv_lex::NoMemory;
+use pv_token::NoMemory;
 use pv_tree::{Decl, NodeId, TypeReader, Unit};
 
 impl<R: TypeReader> Source<'_, R> {

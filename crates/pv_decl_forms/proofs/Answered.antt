@@ -1,7 +1,7 @@
 -- What the functions that read answer.
 use Rattle.std.proofs.Common.{◌≡◌, ◌≤◌, ℕ, Bool, true, List, length, drop, Option, Some, None, Result, sym, ap, subst, ◌∙◌}
 use Rattle.std.specs.Prelude.{IfOk}
-use Rattle.pv_lex.specs.declared.token_table.Token.{Token}
+use Rattle.pv_token.specs.declared.token_table.Token.{Token}
 use Rattle.pv_tree.specs.declared.nodes.NodeId.{NodeId}
 use Rattle.pv_tree.specs.Syntax.{Tree}
 use Rattle.pv_tree.specs.Tables.{Tables, tree_at, with_tree, Is}

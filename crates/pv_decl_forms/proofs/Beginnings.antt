@@ -1,12 +1,12 @@
 -- The first token of a declarator, of specifiers and of parameters.
 use Rattle.std.proofs.Common.{◌≡◌, ◌||◌, Bool, true, false, List, [], ◌∷◌, ◌++◌, refl, ap, ◌∙◌}
 use Rattle.std.proofs.lemmas.Bool.{false≢true}
-use Rattle.pv_lex.specs.declared.token_table.Token.{Token}
-use Rattle.pv_lex.specs.declared.token_table.TokenKind.{TokenKind}
-use Rattle.pv_lex.specs.declared.token_table.TokenKind.TheVariants as kind
-use Rattle.pv_lex.specs.declared.words.Word.{Word}
-use Rattle.pv_lex.specs.declared.words.Word.TheVariants as word
-use Rattle.pv_lex.specs.declared.marks.Mark.TheVariants as mark
+use Rattle.pv_token.specs.declared.token_table.Token.{Token}
+use Rattle.pv_token.specs.declared.token_table.TokenKind.{TokenKind}
+use Rattle.pv_token.specs.declared.token_table.TokenKind.TheVariants as kind
+use Rattle.pv_token.specs.declared.words.Word.{Word}
+use Rattle.pv_token.specs.declared.words.Word.TheVariants as word
+use Rattle.pv_token.specs.declared.marks.Mark.TheVariants as mark
 use Rattle.pv_tree.specs.Syntax.{InitDeclarator, Parameter, DeclaratorTree, DeclaredName, ParenDeclarator, Pointer, Array, FunctionDeclarator, AbstractParen, AbstractPointer, AbstractArray, AbstractFunction, SpecifierTree, Keyword, Composite, Enumeration, Tag, TypedefName, OfDeclaration, OfDeclarator, OfSpecifier, Trees, NoTrees, Then, Absent, Present}
 use Rattle.pv_tree.specs.Spelling.{declarator_tokens, specifier_tokens, trees_tokens, listed_tokens, variadic_tokens, optional_tokens, value_tokens}
 use Rattle.pv_tree.specs.Grammar.{Names, begins_specifiers, kind_begins_type, begins_type, Fits}

@@ -1,8 +1,8 @@
 -- What is spelled so is read: parameters to their parenthesis, and lists in braces.
 use Rattle.std.proofs.Common.{◌≡◌, ◌≤◌, ℕ, Bool, true, false, List, [], ◌∷◌, ◌++◌, Option, Some, None, refl, sym, ap, subst, ◌∙◌}
-use Rattle.pv_lex.specs.declared.token_table.Token.{Token}
-use Rattle.pv_lex.specs.declared.token_table.TokenKind.TheVariants as kind
-use Rattle.pv_lex.specs.declared.marks.Mark.TheVariants as mark
+use Rattle.pv_token.specs.declared.token_table.Token.{Token}
+use Rattle.pv_token.specs.declared.token_table.TokenKind.TheVariants as kind
+use Rattle.pv_token.specs.declared.marks.Mark.TheVariants as mark
 use Rattle.pv_tree.specs.Syntax.{Tree, Trees, NoTrees}
 use Rattle.pv_tree.specs.Depths.{trees_depth}
 use Rattle.pv_tree.specs.Spelling.{trees_tokens, listed_tokens, comma_tokens, variadic_tokens}

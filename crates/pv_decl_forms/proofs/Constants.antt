@@ -2,7 +2,7 @@
 use Rattle.std.proofs.Common.{◌≡◌, ◌≤◌, ℕ, zero, suc, Bool, true, false, List, [], ◌∷◌, length, drop, Option, Some, None, option_map, refl, sym, ap, ◌∙◌, nat_eq}
 use Rattle.std.specs.Prelude.{IfSome}
 use Rattle.indexmap.specs.IndexSet.{IndexSet, contains}
-use Rattle.pv_lex.specs.declared.token_table.Token.{Token}
+use Rattle.pv_token.specs.declared.token_table.Token.{Token}
 use Rattle.pv_tree.specs.declared.nodes.NodeId.{NodeId}
 use Rattle.pv_tree.specs.Syntax.{ExpressionTree, Enumerator, Tree, OfExpression, OfDeclaration, OptionalTree, Absent, Present}
 use Rattle.pv_tree.specs.Tables.{Tables, tree_at, as_expression, optional_at, is_expression, is_declarator, Is, Extends}

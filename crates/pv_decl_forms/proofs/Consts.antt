@@ -1,6 +1,6 @@
 -- Words `const` in a row, by places.
 use Rattle.std.proofs.Common.{◌≡◌, ◌<◌, ◌+◌, ℕ, suc, true, false, List, [], ◌∷◌, length, drop, refl, sym, arith}
-use Rattle.pv_lex.specs.declared.token_table.Token.{Token}
+use Rattle.pv_token.specs.declared.token_table.Token.{Token}
 use Rattle.pv_expr_forms.proofs.Places.{behind_first}
 use Rattle.pv_decl_forms.specs.Declarators.{consts_in_row}
 use Rattle.pv_decl_forms.specs.Parts.{is_const_next}

@@ -1,8 +1,8 @@
 -- A declaration, and the head of a function: what is read is spelled so.
 use Rattle.std.proofs.Common.{◌≡◌, ◌≤◌, ◌<◌, ℕ, zero, suc, Bool, true, false, cond, List, [], ◌∷◌, ◌++◌, length, Some, option_and_then, refl, sym, ap, subst, ◌∙◌, arith, inl, inr}
-use Rattle.pv_lex.specs.declared.token_table.Token.{Token}
-use Rattle.pv_lex.specs.declared.token_table.TokenKind.TheVariants as kind
-use Rattle.pv_lex.specs.declared.marks.Mark.TheVariants as mark
+use Rattle.pv_token.specs.declared.token_table.Token.{Token}
+use Rattle.pv_token.specs.declared.token_table.TokenKind.TheVariants as kind
+use Rattle.pv_token.specs.declared.marks.Mark.TheVariants as mark
 use Rattle.pv_tree.specs.Syntax.{DeclarationTree, Declaration, Parameter, DeclaratorTree, Tree, OfDeclaration, OfDeclarator, Trees, NoTrees, Then, Present}
 use Rattle.pv_tree.specs.Depths.{declaration_depth}
 use Rattle.pv_tree.specs.Spelling.{declaration_tokens, tree_tokens, trees_tokens, listed_tokens}

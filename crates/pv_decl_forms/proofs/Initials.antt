@@ -1,6 +1,6 @@
 -- Initializers.
 use Rattle.std.proofs.Common.{◌≡◌, ◌<◌, ◌-◌, ℕ, zero, suc, Bool, true, false, cond, List, [], ◌∷◌, drop, Option, Some, None, option_map, refl, sym, ap, ◌∙◌, arith, sub-one}
-use Rattle.pv_lex.specs.declared.token_table.Token.{Token}
+use Rattle.pv_token.specs.declared.token_table.Token.{Token}
 use Rattle.pv_tree.specs.declared.nodes.NodeId.{NodeId}
 use Rattle.pv_tree.specs.Syntax.{InitDeclarator, Initial, Braces, Tree, OfExpression, OfDeclaration, OfInitializer, Trees, OptionalTree}
 use Rattle.pv_tree.specs.Tables.{Tables, tree_at, as_expression, as_declarator, expression_at, declarator_at, optional_at, is_expression, is_declarator, is_initializer, Is, Extends}

@@ -1,9 +1,9 @@
 -- Where type names that fit one way fit another, so do the expressions that they stand in.
 use Rattle.std.proofs.Common.{◌≡◌, ◌≤◌, ◌+◌, ℕ, zero, suc, Bool, List, [], ◌∷◌, ◌++◌, length, drop, sym, ap, subst, ◌∙◌, arith}
-use Rattle.pv_lex.specs.declared.token_table.Token.{Token}
-use Rattle.pv_lex.specs.declared.token_table.TokenKind.{TokenKind}
-use Rattle.pv_lex.specs.declared.token_table.TokenKind.TheVariants as kind
-use Rattle.pv_lex.specs.declared.marks.Mark.TheVariants as mark
+use Rattle.pv_token.specs.declared.token_table.Token.{Token}
+use Rattle.pv_token.specs.declared.token_table.TokenKind.{TokenKind}
+use Rattle.pv_token.specs.declared.token_table.TokenKind.TheVariants as kind
+use Rattle.pv_token.specs.declared.marks.Mark.TheVariants as mark
 use Rattle.pv_tree.specs.Syntax.{ExpressionTree, Name, Number, Character, Text, Paren, Index, Call, Member, Arrow, PostIncrement, PostDecrement, PreIncrement, PreDecrement, Unary, SizeofExpr, SizeofType, Cast, Binary, Conditional, Assign, Comma, ArgumentTrees, NoArguments, Argument, DeclarationTree}
 use Rattle.pv_tree.specs.Depths.{expression_depth, arguments_depth, declaration_depth}
 use Rattle.pv_tree.specs.Spelling.{expression_tokens, arguments_tokens, before_argument, declaration_tokens}

@@ -1,7 +1,7 @@
 -- What is read at a part's place, once its specifiers are read.
 use Rattle.std.proofs.Common.{◌≡◌, ◌<◌, ◌-◌, ◌==◌, ℕ, zero, suc, Bool, true, false, if◌then◌else◌, List, length, drop, Option, None, refl, sym, ap, ◌∙◌, arith, sub-one}
 use Rattle.indexmap.specs.IndexSet.{IndexSet}
-use Rattle.pv_lex.specs.declared.token_table.Token.{Token}
+use Rattle.pv_token.specs.declared.token_table.Token.{Token}
 use Rattle.pv_tree.specs.declared.nodes.NodeId.{NodeId}
 use Rattle.pv_tree.specs.Syntax.{Parameter, Tree, Trees, NoTrees}
 use Rattle.pv_tree.specs.Grammar.{Names, line_here}

@@ -1,8 +1,8 @@
 -- What is read as a part that is no node of its own is spelled so.
 use Rattle.std.proofs.Common.{◌≡◌, ◌≤◌, ◌<◌, ◌⊎◌, ℕ, max, Bool, true, List, [], ◌∷◌, ◌++◌, length, drop, Option, Some, None, option_map, refl, sym, ap, subst, arith, inl, inr}
-use Rattle.pv_lex.specs.declared.token_table.Token.{Token}
-use Rattle.pv_lex.specs.declared.token_table.TokenKind.TheVariants as kind
-use Rattle.pv_lex.specs.declared.marks.Mark.TheVariants as mark
+use Rattle.pv_token.specs.declared.token_table.Token.{Token}
+use Rattle.pv_token.specs.declared.token_table.TokenKind.TheVariants as kind
+use Rattle.pv_token.specs.declared.marks.Mark.TheVariants as mark
 use Rattle.pv_tree.specs.Syntax.{DeclarationTree, MemberDeclaration, Enumerator, DeclaratorTree, Tree, OfDeclaration, OfDeclarator, Trees, NoTrees, OptionalTree}
 use Rattle.pv_tree.specs.Depths.{trees_depth, optional_depth}
 use Rattle.pv_tree.specs.Spelling.{tree_tokens, trees_tokens, listed_tokens, optional_tokens, value_tokens, declarator_tokens, comma_tokens}

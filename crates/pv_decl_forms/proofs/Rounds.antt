@@ -1,7 +1,7 @@
 -- The readers by what they read, and one step of reading at a place of one token list.
 use Rattle.std.proofs.Common.{◌≡◌, ◌≤◌, ◌<◌, ℕ, zero, suc, List, length, drop, Some, None, option_map, refl, arith}
 use Rattle.std.proofs.lemmas.List.{length-drop}
-use Rattle.pv_lex.specs.declared.token_table.Token.{Token}
+use Rattle.pv_token.specs.declared.token_table.Token.{Token}
 use Rattle.pv_tree.specs.Syntax.{Tree, OfExpression, Trees}
 use Rattle.pv_tree.specs.Grammar.{Names}
 use Rattle.pv_tree.specs.Places.{Place, Specifiers, Members, Enumerators, Parameters, Initializers, Constants}

@@ -1,10 +1,10 @@
 -- The reader of declarations on rows worked by hand.
 use Rattle.std.proofs.Common.{List, ◌≡◌, ℕ, false, [], ◌∷◌, Some, None, refl}
-use Rattle.pv_lex.specs.declared.token_table.Token.{Token}
-use Rattle.pv_lex.specs.declared.token_table.TokenKind.{TokenKind}
-use Rattle.pv_lex.specs.declared.token_table.TokenKind.TheVariants as kind
-use Rattle.pv_lex.specs.declared.words.Word.TheVariants as word
-use Rattle.pv_lex.specs.declared.marks.Mark.TheVariants as mark
+use Rattle.pv_token.specs.declared.token_table.Token.{Token}
+use Rattle.pv_token.specs.declared.token_table.TokenKind.{TokenKind}
+use Rattle.pv_token.specs.declared.token_table.TokenKind.TheVariants as kind
+use Rattle.pv_token.specs.declared.words.Word.TheVariants as word
+use Rattle.pv_token.specs.declared.marks.Mark.TheVariants as mark
 use Rattle.pv_tree.specs.Syntax.{Name, Declaration, InitDeclarator, MemberDeclaration, Parameter, TypeName, DeclaredName, FunctionDeclarator, AbstractParen, AbstractPointer, AbstractFunction, Keyword, Composite, Initial, OfDeclaration, OfDeclarator, OfSpecifier, OfInitializer, Trees, NoTrees, Then, Absent, Present}
 use Rattle.pv_tree.specs.Grammar.{Names}
 use Rattle.pv_expr_forms.specs.Reader.{read, deeper, head, head_of, grown, grown_for, longer, tried}

@@ -1,6 +1,6 @@
 -- What it is for a declaration, for the head of a function and for a type name to spell a run of tokens.
 use Rattle.std.specs.Prelude.{◌≡◌, ◌≤◌, ℕ, Bool, true, false, ◌&&◌, List, [], ◌∷◌, drop, slice_range}
-use Rattle.pv_lex.specs.declared.token_table.Token.{Token}
+use Rattle.pv_token.specs.declared.token_table.Token.{Token}
 use Rattle.pv_tree.specs.Syntax.{DeclarationTree, Declaration, Parameter, OfDeclarator, Present}
 use Rattle.pv_tree.specs.Depths.{declaration_depth}
 use Rattle.pv_tree.specs.Spelling.{declaration_tokens}

@@ -1,6 +1,6 @@
 -- What a function that reads several parts, or one that may be left out, answers, as what reading on lists gives.
 use Rattle.std.specs.Prelude.{◌≡◌, ◌≤◌, ℕ, Bool, List, All, length, drop, Option, IfSome}
-use Rattle.pv_lex.specs.declared.token_table.Token.{Token}
+use Rattle.pv_token.specs.declared.token_table.Token.{Token}
 use Rattle.pv_tree.specs.declared.nodes.NodeId.{NodeId}
 use Rattle.pv_tree.specs.Syntax.{Tree, Trees, OptionalTree}
 use Rattle.pv_tree.specs.Tables.{Tables, trees_of, optional_at, Is}

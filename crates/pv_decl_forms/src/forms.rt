@@ -3,7 +3,7 @@ ghost use Rattle.std.specs.Prelude.{◌≡◌};
 ghost use Rattle.pv_decl_forms.specs.Declarators.{allows_name, allows_abstract};
 ghost use Rattle.pv_decl_forms.specs.Parts.{test_of};
 
-use pv_lex::{Mark, TokenKind};
+use pv_token::{Mark, TokenKind};
 
 /// Whether a declarator has a name (C17 6.7.6, 6.7.7).
 #[derive(Clone, Copy)]

@@ -9,7 +9,7 @@ ghost use Rattle.pv_tree.specs.Syntax.{DeclaredName, OfDeclaration, OfDeclarator
 ghost use Rattle.pv_tree.specs.Tables.{declarator_at, is_declaration, is_declarator, is_specifier, is_initializer, Is, Extends};
 ghost use Rattle.pv_decl_forms.specs.Answers.{Answers};
 
-use pv_lex::{NoMemory, Tokens};
+use pv_token::{NoMemory, Tokens};
 use pv_tree::{Decl, Declarator, Init, NodeId, Spec, Unit};
 
 /// Whether a declarator has a name.

@@ -1,6 +1,6 @@
 //! Parts of declarations, made once the parts within them are read.
 ghost use Rattle.std.specs.Prelude.{◌≡◌, ℕ, Bool, List, ◌≤◌, IfSome, All, length, drop, Some, None, IfOk, nat_eq, option_and_then};
-ghost use Rattle.pv_lex.specs.declared.token_table.Token.{Token};
+ghost use Rattle.pv_token.specs.declared.token_table.Token.{Token};
 ghost use Rattle.indexmap.specs.IndexSet.{contains};
 ghost use Rattle.pv_tree.specs.Children.{HasSpecChildren, HasDeclaratorChildren};
 ghost use Rattle.pv_tree.specs.Nodes.{specifier_of, declarator_of};
@@ -19,7 +19,7 @@ use crate::nodes::{
 };
 use crate::tokens::{after, comma_at, ellipsis_at, is_type};
 use indexmap::IndexSet;
-use pv_lex::{NoMemory, Token, TokenKind, Tokens, Word};
+use pv_token::{NoMemory, Token, TokenKind, Tokens, Word};
 use pv_tree::{Decl, Declarator, Init, ListId, NodeId, Spec, Unit};
 
 // ---- specifiers

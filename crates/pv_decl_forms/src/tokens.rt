@@ -1,6 +1,6 @@
 //! What the tokens from a place are, as far as that takes no part of a declaration to be read.
 ghost use Rattle.std.specs.Prelude.{◌≡◌, ◌<◌, ◌≤◌, ◌+◌, ◌^◌, Bool, Option, ℕ, List, [], ◌∷◌, length, drop, Some, None, MatchOption, true, nat_eq, option_and_then};
-ghost use Rattle.pv_lex.specs.declared.token_table.Token.{Token};
+ghost use Rattle.pv_token.specs.declared.token_table.Token.{Token};
 ghost use Rattle.indexmap.specs.IndexSet.{contains};
 ghost use Rattle.pv_tree.specs.Grammar.{begins_specifiers, line_here};
 ghost use Rattle.pv_expr_forms.specs.Reader.{after, is_comma, is_open};
@@ -15,7 +15,7 @@ ghost use Rattle.pv_decl_forms.specs.Grammar.{opens_block};
 
 use crate::forms::{CompositeWord, Opening, Sign, TagWord};
 use indexmap::IndexSet;
-use pv_lex::{Mark, Token, TokenKind, Tokens, Word};
+use pv_token::{Mark, Token, TokenKind, Tokens, Word};
 
 /// The token at a place, unless the tokens end there.
 pub fn peek(tokens: &Tokens, at: u32) -> Option<Token>

@@ -18,7 +18,7 @@ use indexmap::IndexSet;
 use pv_expr_forms::{
     Join, Prefix, after_bracket, after_close, is_type, name_next, rank, texts_in_row,
 };
-use pv_lex::{NoMemory, Token, TokenKind, Tokens};
+use pv_token::{NoMemory, Token, TokenKind, Tokens};
 use pv_tree::{Expr, NodeId, Unit};
 
 /// The tightest level that an expression belongs to.

@@ -13,7 +13,7 @@ ghost use Rattle.pv_expr_forms.specs.Reader.{read};
 use crate::source::Source;
 use indexmap::IndexSet;
 use pv_expr_forms::Level;
-use pv_lex::{NoMemory, Tokens};
+use pv_token::{NoMemory, Tokens};
 use pv_tree::{NodeId, TypeReader, Unit};
 
 /// The longest expression of a level that begins at token number `at`, and the number of the token

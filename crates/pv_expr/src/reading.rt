@@ -15,7 +15,7 @@ use pv_expr_forms::{
     Follow, Prefix, after_close, after_colon, begins_type, follow_of, is_close, is_comma, is_open,
     measures_type, peek, prefix_of,
 };
-use pv_lex::NoMemory;
+use pv_token::NoMemory;
 use pv_tree::{Expr, NodeId, TypeReader, Unit};
 
 impl<R: TypeReader> Source<'_, R> {

@@ -9,7 +9,7 @@ ghost use Rattle.pv_expr_forms.specs.Parts.{type_closed};
 use crate::nodes::type_depth;
 use indexmap::IndexSet;
 use pv_expr_forms::after_close;
-use pv_lex::Tokens;
+use pv_token::Tokens;
 use pv_tree::{NodeId, TypeReader, Unit};
 
 /// The tokens, and what is known of the names and type names among them.

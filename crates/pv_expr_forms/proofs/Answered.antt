@@ -2,7 +2,7 @@
 use Rattle.std.proofs.Common.{◌≡◌, ◌≤◌, ◌<◌, ◌-◌, ℕ, zero, suc, List, [], length, drop, Option, Some, None, Result, refl, sym, ap, subst, ◌∙◌, arith, sub-one}
 use Rattle.std.specs.Prelude.{IfOk}
 use Rattle.std.proofs.lemmas.List.{get_or_push}
-use Rattle.pv_lex.specs.declared.token_table.Token.{Token}
+use Rattle.pv_token.specs.declared.token_table.Token.{Token}
 use Rattle.pv_tree.specs.declared.nodes.Expr.{Expr}
 use Rattle.pv_tree.specs.declared.nodes.Expr.TheVariants as expr
 use Rattle.pv_tree.specs.declared.nodes.NodeId.{NodeId}

@@ -1,7 +1,7 @@
 -- One more argument of a call: what the loop over them keeps, and what it answers.
 use Rattle.std.proofs.Common.{◌≡◌, ◌≤◌, ◌<◌, ℕ, true, false, List, [], ◌∷◌, ◌++◌, All, length, drop, Option, Some, None, option_map, option_and_then, refl, sym, ap, ◌∙◌, nat_eq}
 use Rattle.indexmap.specs.IndexSet.{IndexSet, contains}
-use Rattle.pv_lex.specs.declared.token_table.Token.{Token}
+use Rattle.pv_token.specs.declared.token_table.Token.{Token}
 use Rattle.pv_tree.specs.declared.nodes.NodeId.{NodeId}
 use Rattle.pv_tree.specs.Syntax.{ExpressionTree, ArgumentTrees, NoArguments, Argument, Call}
 use Rattle.pv_tree.specs.Lines.{expression_line}

@@ -1,11 +1,11 @@
 -- What reading gives where a form stands.
 use Rattle.std.proofs.Common.{◌≡◌, ◌≤◌, ℕ, ℤ, suc, Bool, true, false, cond, List, ◌∷◌, length, drop, Some, None, refl, sym, ap, ◌∙◌}
 use Rattle.std.proofs.lemmas.Bool.{le-leb}
-use Rattle.pv_lex.specs.declared.token_table.Token.{Token}
-use Rattle.pv_lex.specs.declared.token_table.TokenKind.{TokenKind}
-use Rattle.pv_lex.specs.declared.token_table.TokenKind.TheVariants as kind
-use Rattle.pv_lex.specs.declared.words.Word.TheVariants as word
-use Rattle.pv_lex.specs.declared.marks.Mark.TheVariants as mark
+use Rattle.pv_token.specs.declared.token_table.Token.{Token}
+use Rattle.pv_token.specs.declared.token_table.TokenKind.{TokenKind}
+use Rattle.pv_token.specs.declared.token_table.TokenKind.TheVariants as kind
+use Rattle.pv_token.specs.declared.words.Word.TheVariants as word
+use Rattle.pv_token.specs.declared.marks.Mark.TheVariants as mark
 use Rattle.pv_tree.specs.declared.operators.UnaryOperator.TheVariants as unary
 use Rattle.pv_tree.specs.Syntax.{ExpressionTree, Name, Number, Character, Text, Paren, Index, Call, Member, Arrow, PostIncrement, PostDecrement, SizeofType, Cast, Conditional, ArgumentTrees, NoArguments, Argument, DeclarationTree}
 use Rattle.pv_tree.specs.Depths.{expression_depth, declaration_depth}

@@ -1,10 +1,10 @@
 -- What an expression goes on to is spelled so.
 use Rattle.std.proofs.Common.{◌≡◌, ◌≤◌, ◌<◌, ◌⊎◌, ℕ, zero, suc, Bool, true, false, cond, List, [], ◌∷◌, ◌++◌, length, drop, Option, Some, None, option_map, refl, sym, ap, subst, ◌∙◌, arith, leb, inl, inr}
 use Rattle.std.proofs.lemmas.Bool.{leb-true, and_parts}
-use Rattle.pv_lex.specs.declared.token_table.Token.{Token}
-use Rattle.pv_lex.specs.declared.token_table.TokenKind.{TokenKind}
-use Rattle.pv_lex.specs.declared.token_table.TokenKind.TheVariants as kind
-use Rattle.pv_lex.specs.declared.marks.Mark.TheVariants as mark
+use Rattle.pv_token.specs.declared.token_table.Token.{Token}
+use Rattle.pv_token.specs.declared.token_table.TokenKind.{TokenKind}
+use Rattle.pv_token.specs.declared.token_table.TokenKind.TheVariants as kind
+use Rattle.pv_token.specs.declared.marks.Mark.TheVariants as mark
 use Rattle.pv_tree.specs.Syntax.{ExpressionTree, Index, Call, Member, Arrow, PostIncrement, PostDecrement, Conditional, ArgumentTrees, NoArguments, Argument}
 use Rattle.pv_tree.specs.Depths.{expression_depth, arguments_depth}
 use Rattle.pv_tree.specs.Lines.{expression_line}

@@ -1,6 +1,6 @@
 -- What goes on from an operand, and what stands before one, from what its parts give.
 use Rattle.std.proofs.Common.{◌≡◌, ℕ, List, drop, Option, Some, None, option_map, option_and_then, refl, ap, ◌∙◌}
-use Rattle.pv_lex.specs.declared.token_table.Token.{Token}
+use Rattle.pv_token.specs.declared.token_table.Token.{Token}
 use Rattle.pv_tree.specs.declared.nodes.NodeId.{NodeId}
 use Rattle.pv_tree.specs.Syntax.{ExpressionTree, PostIncrement, PostDecrement, Conditional}
 use Rattle.pv_tree.specs.Lines.{expression_line}

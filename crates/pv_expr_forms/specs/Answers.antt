@@ -1,6 +1,6 @@
 -- What a function of the reader answers, as what reading on lists gives.
 use Rattle.std.specs.Prelude.{◌≡◌, ◌≤◌, ℕ, List, length, drop, Option, Some, None}
-use Rattle.pv_lex.specs.declared.token_table.Token.{Token}
+use Rattle.pv_token.specs.declared.token_table.Token.{Token}
 use Rattle.pv_tree.specs.declared.nodes.NodeId.{NodeId}
 use Rattle.pv_tree.specs.Tables.{Forest, Tables, expression_at, is_expression, Is}
 use Rattle.pv_expr_forms.specs.Reader.{Read}

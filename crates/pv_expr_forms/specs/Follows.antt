@@ -1,10 +1,10 @@
 -- The operators by their tokens: the level of the whole and the loosest levels of its operands (6.5.2 to 6.5.17).
 use Rattle.std.specs.Prelude.{ℕ, suc, Option, Some, None, option_map}
-use Rattle.pv_lex.specs.declared.token_table.TokenKind.{TokenKind}
-use Rattle.pv_lex.specs.declared.token_table.TokenKind.TheVariants as kind
-use Rattle.pv_lex.specs.declared.words.Word.TheVariants as word
-use Rattle.pv_lex.specs.declared.marks.Mark.{Mark}
-use Rattle.pv_lex.specs.declared.marks.Mark.TheVariants as mark
+use Rattle.pv_token.specs.declared.token_table.TokenKind.{TokenKind}
+use Rattle.pv_token.specs.declared.token_table.TokenKind.TheVariants as kind
+use Rattle.pv_token.specs.declared.words.Word.TheVariants as word
+use Rattle.pv_token.specs.declared.marks.Mark.{Mark}
+use Rattle.pv_token.specs.declared.marks.Mark.TheVariants as mark
 use Rattle.pv_tree.specs.declared.operators.UnaryOperator.TheVariants as unary
 use Rattle.pv_tree.specs.declared.operators.BinaryOperator.{BinaryOperator}
 use Rattle.pv_tree.specs.declared.operators.BinaryOperator.TheVariants as binary

@@ -1,7 +1,7 @@
 -- What is known of names where an expression is read.
 use Rattle.std.specs.Prelude.{ℕ, List, nat_eq}
 use Rattle.indexmap.specs.IndexSet.{IndexSet, contains}
-use Rattle.pv_lex.specs.declared.token_table.Token.{Token}
+use Rattle.pv_token.specs.declared.token_table.Token.{Token}
 use Rattle.pv_tree.specs.Tables.{Tables}
 use Rattle.pv_tree.specs.Grammar.{Names}
 use Rattle.pv_tree.specs.TypeNames.{TypeMap, names_of}

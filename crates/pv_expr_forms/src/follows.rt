@@ -2,7 +2,7 @@
 ghost use Rattle.std.specs.Prelude.{◌≡◌};
 ghost use Rattle.pv_expr_forms.specs.Follows.{prefix_of, prefix_operand, binary_of, assign_of, other_of, follow_of, follow_rank, follow_left, join_right};
 
-use pv_lex::{Mark, TokenKind, Word};
+use pv_token::{Mark, TokenKind, Word};
 use pv_tree::{AssignOperator, BinaryOperator, UnaryOperator};
 
 /// What stands before one operand (C17 6.5.3p1).

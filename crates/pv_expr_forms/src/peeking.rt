@@ -9,7 +9,7 @@ ghost use Rattle.pv_expr_forms.specs.Known.{names_in};
 ghost use Rattle.pv_expr_forms.specs.Parts.{is_text_next, measures_type, name_next, name_of_kind};
 
 use indexmap::IndexSet;
-use pv_lex::{Mark, Token, TokenKind, Tokens, Word};
+use pv_token::{Mark, Token, TokenKind, Tokens, Word};
 
 /// The token at a place, unless the tokens end there.
 pub fn peek(tokens: &Tokens, at: u32) -> Option<Token>

@@ -6,7 +6,8 @@ use Rattle.pv_lex.specs.declared.pieces.Fault.TheVariants as fault
 use Rattle.pv_lex.specs.Pieces.{Piece, End, Bad, Here}
 use Rattle.pv_lex.specs.Stands.{stands}
 use Rattle.pv_lex.specs.Rows.{Place, start, behind_piece, Row, spelt, spelt_here}
-use Rattle.pv_lex.specs.Lexes.{Table, Tells, Adds, Lexes}
+use Rattle.pv_token.specs.Table.{Table, Tells, Adds}
+use Rattle.pv_lex.specs.Lexes.{Lexes}
 use Rattle.pv_lex.specs.Faults.{LexFault, error_of}
 
 row_more : (p q : Place) (xs : List Piece) (x : Piece) → Row p xs q → stands q.fresh q.text ≡ Here x → Row p (xs ++ x ∷ []) (behind_piece x q)

@@ -4,13 +4,14 @@ use Rattle.pv_lex.specs.declared.pieces.Fault.{Fault}
 use Rattle.pv_lex.specs.Pieces.{Piece, Stand, End, Bad, Here}
 use Rattle.pv_lex.specs.Stands.{stands}
 use Rattle.pv_lex.specs.Rows.{Place, start, behind_piece, Row, spelt}
-use Rattle.pv_lex.specs.Lexes.{Table, Tells, Lexes}
+use Rattle.pv_token.specs.Table.{Table, Tells}
+use Rattle.pv_lex.specs.Lexes.{Lexes}
 use Rattle.pv_lex.specs.Faults.{FaultAt, LexFault, error_of}
 use Rattle.pv_lex.specs.declared.pieces.Fault.TheVariants as fault
 use Rattle.pv_lex.specs.declared.error.LexError.{LexError}
 use Rattle.pv_lex.specs.declared.error.LexError.TheVariants as error
 use Rattle.pv_lex.proofs.Moving.{moves_stands}
-use Rattle.pv_lex.proofs.Telling.{table_exists, tells_same}
+use Rattle.pv_token.proofs.Telling.{table_exists, tells_same}
 
 abbrev Stops : Place → Type 0
 Stops q = (x : Piece) → stands q.fresh q.text ≡ Here x → ⊥

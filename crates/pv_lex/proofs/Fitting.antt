@@ -6,10 +6,11 @@ use Rattle.std.specs.Cmp.Lexicographic.{pointwise}
 use Rattle.std.proofs.lemmas.List.{length-map}
 use Rattle.pv_lex.specs.declared.pieces.Fault.{Fault}
 use Rattle.pv_lex.specs.declared.pieces.Fault.TheVariants as fault
-use Rattle.pv_lex.specs.Pieces.{Said, Keyword, Name, Number, Character, Text, Punctuator, What, White, Comment, Marker, Spelling, Piece, Bad}
+use Rattle.pv_token.specs.Said.{Said, Keyword, Name, Number, Character, Text, Punctuator, Spelt}
+use Rattle.pv_lex.specs.Pieces.{What, White, Comment, Marker, Spelling, Piece, Bad}
 use Rattle.pv_lex.specs.Stands.{stands}
-use Rattle.pv_lex.specs.Rows.{Place, start, behind_piece, Row, Spelt, spelt, spelt_here}
-use Rattle.pv_lex.specs.Lexes.{Table, HasRoom, Tells, spelt_of, with_name, names_with, names_from, text_of, texts_of}
+use Rattle.pv_lex.specs.Rows.{Place, start, behind_piece, Row, spelt, spelt_here}
+use Rattle.pv_token.specs.Table.{Table, HasRoom, Tells, spelt_of, with_name, names_with, names_from, text_of, texts_of}
 use Rattle.pv_lex.specs.Faults.{error_of, LiesWithin}
 use Rattle.pv_lex.proofs.Moving.{Within, moves_stands}
 use Rattle.pv_lex.proofs.Cutting.{Cut}

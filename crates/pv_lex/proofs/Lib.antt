@@ -3,10 +3,8 @@ pub mod Rows
 pub mod Values
 pub mod Joining
 pub mod Closing
-pub mod Growing
 pub mod Cutting
 pub mod Moving
-pub mod Telling
 pub mod Fitting
 pub mod Taking
 pub mod TakingTokens

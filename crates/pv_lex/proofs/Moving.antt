@@ -10,11 +10,12 @@ use Rattle.pv_lex.specs.declared.bytes.Class.{Class}
 use Rattle.pv_lex.specs.declared.bytes.Class.TheVariants as class
 use Rattle.pv_lex.specs.declared.pieces.Fault.{Fault}
 use Rattle.pv_lex.specs.declared.pieces.Fault.TheVariants as fault
-use Rattle.pv_lex.specs.declared.words.Word.{Word}
-use Rattle.pv_lex.specs.declared.marks.Mark.{Mark}
+use Rattle.pv_token.specs.declared.words.Word.{Word}
+use Rattle.pv_token.specs.declared.marks.Mark.{Mark}
 use Rattle.pv_lex.specs.Bytes.{is_letter, is_white, is_in, run, behind, front, begins, line_feeds}
 use Rattle.pv_lex.specs.Tables.{first_row, row_of}
-use Rattle.pv_lex.specs.Pieces.{Said, Comment, Piece, Stand, Bad, Here, ◌>>=◌, or_bad, token, Text}
+use Rattle.pv_token.specs.Said.{Said, Text}
+use Rattle.pv_lex.specs.Pieces.{Comment, Piece, Stand, Bad, Here, ◌>>=◌, or_bad, token}
 use Rattle.pv_lex.specs.Words.{words, is_wide, is_quote, keyword_or_name, word_at}
 use Rattle.pv_lex.specs.Constants.{constant_of, number_at, value_from}
 use Rattle.pv_lex.specs.Characters.{escapes, numbered, escape_at, character_at, closed_character, character_constant, characters, string_literal}

@@ -7,10 +7,11 @@ use Rattle.std.proofs.Math.Seq.{drop-append_seam}
 use Rattle.std.proofs.lemmas.List.{drop-append-le}
 use Rattle.pv_lex.specs.declared.bytes.Class.{Class}
 use Rattle.pv_lex.specs.declared.bytes.Class.TheVariants as class
-use Rattle.pv_lex.specs.declared.marks.Mark.{Mark}
+use Rattle.pv_token.specs.declared.marks.Mark.{Mark}
 use Rattle.pv_lex.specs.Bytes.{is_in, run, front, behind, begins, line_feeds}
 use Rattle.pv_lex.specs.Tables.{first_row}
-use Rattle.pv_lex.specs.Pieces.{Text, Comment, Marker, Punctuator, What, Piece, Here, token}
+use Rattle.pv_token.specs.Said.{Text, Punctuator}
+use Rattle.pv_lex.specs.Pieces.{Comment, Marker, What, Piece, Here, token}
 use Rattle.pv_lex.specs.Constants.{value_from}
 use Rattle.pv_lex.specs.Characters.{character_at, characters, string_literal}
 use Rattle.pv_lex.specs.Comments.{behind_close, block_comment}

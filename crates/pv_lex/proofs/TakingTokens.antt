@@ -6,13 +6,14 @@ use Rattle.std.proofs.Math.Seq.{take-append_seam, drop-append_seam}
 use Rattle.pv_lex.specs.declared.bytes.Class.{Class}
 use Rattle.pv_lex.specs.declared.bytes.Class.TheVariants as class
 use Rattle.pv_lex.specs.declared.pieces.Fault.TheVariants as fault
-use Rattle.pv_lex.specs.declared.words.Word.{Word}
+use Rattle.pv_token.specs.declared.words.Word.{Word}
 use Rattle.pv_lex.specs.Bytes.{is_in, run, front, behind, begins}
 use Rattle.pv_lex.specs.Tables.{row_of}
-use Rattle.pv_lex.specs.Pieces.{Said, Character, What, Spelling, Piece, Stand, Bad, Here, token}
+use Rattle.pv_token.specs.Said.{Said, Character, as_char}
+use Rattle.pv_lex.specs.Pieces.{What, Spelling, Piece, Stand, Bad, Here, token}
 use Rattle.pv_lex.specs.Words.{words, is_wide, is_quote, keyword_or_name, word_at}
 use Rattle.pv_lex.specs.Constants.{constant_of, number_at, value_from}
-use Rattle.pv_lex.specs.Characters.{escapes, numbered, escape_at, character_at, as_char, closed_character, character_constant, characters}
+use Rattle.pv_lex.specs.Characters.{escapes, numbered, escape_at, character_at, closed_character, character_constant, characters}
 use Rattle.pv_lex.proofs.Runs.{run_within}
 use Rattle.pv_lex.proofs.Taking.{Takes, takes_then, takes_as, takes_byte, takes_none, split, pick, pass, and_cut, begins_cut, bound, mapped, IsRun, takes_run, run_cut, run_part}
 

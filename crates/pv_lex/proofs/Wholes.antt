@@ -10,8 +10,8 @@ use Rattle.std.proofs.lemmas.Bool.Decides.{nat_tests}
 use Rattle.pv_lex.specs.declared.bytes.Class.TheVariants as class
 use Rattle.pv_lex.specs.declared.pieces.Fault.{Fault}
 use Rattle.pv_lex.specs.declared.pieces.Fault.TheVariants as fault
-use Rattle.pv_lex.specs.declared.words.Word.{Word}
-use Rattle.pv_lex.specs.declared.marks.Mark.{Mark}
+use Rattle.pv_token.specs.declared.words.Word.{Word}
+use Rattle.pv_token.specs.declared.marks.Mark.{Mark}
 use Rattle.pv_lex.specs.Bytes.{is_white, is_letter, is_in, run, front, behind, begins}
 use Rattle.pv_lex.specs.Tables.{first_row, row_of}
 use Rattle.pv_lex.specs.Pieces.{White, Comment, Piece, Stand, End, Bad, Here, or_bad}

@@ -1,10 +1,11 @@
 -- Character constants and string literals.
-use Rattle.std.specs.Prelude.{ℕ, zero, suc, ◌||◌, if◌then◌else◌, List, [], ◌∷◌, length, take, drop, min, Option, Some, None, option_map, nat_eq, nat_lt, ℤ, pos, ◌-ℤ◌, codes}
+use Rattle.std.specs.Prelude.{ℕ, zero, suc, ◌||◌, if◌then◌else◌, List, [], ◌∷◌, length, take, drop, min, Option, Some, None, option_map, nat_eq, nat_lt, codes}
 use Rattle.pv_lex.specs.declared.bytes.Class.TheVariants as class
 use Rattle.pv_lex.specs.Bytes.{is_in, run, front, behind, begins, line_feed, single_quote, double_quote, backslash}
 use Rattle.pv_lex.specs.Tables.{row_of}
 use Rattle.pv_lex.specs.Constants.{value_from}
-use Rattle.pv_lex.specs.Pieces.{Character, Text, Piece, ◌>>=◌, token}
+use Rattle.pv_token.specs.Said.{Character, Text, as_char}
+use Rattle.pv_lex.specs.Pieces.{Piece, ◌>>=◌, token}
 
 -- The simple escapes (6.4.4.4p1): the byte behind the backslash, and the byte that it stands for (6.4.4.4p3, 5.2.2p2). The first four stand for themselves.
 unfoldable pub escapes : List (List ℕ × ℕ)
@@ -40,10 +41,6 @@ character_at q [] = None
 character_at q (b ∷ bs) =
     if nat_eq b backslash then escape_at bs
     else (if nat_eq b line_feed || nat_eq b q then None else Some (b, bs))
-
--- The value of a character constant is its byte as a `char`, which is signed here, as an `int` (6.4.4.4p10).
-abbrev pub as_char : ℕ → ℤ
-as_char b = if nat_lt b 128 then pos b else (pos b -ℤ pos 256)
 
 -- The closing quote of a character constant (6.4.4.4p1).
 abbrev pub closed_character : ℕ × List ℕ → Option Piece

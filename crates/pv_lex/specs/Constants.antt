@@ -5,7 +5,8 @@ use Rattle.pv_lex.specs.declared.bytes.Class.TheVariants as class
 use Rattle.pv_lex.specs.declared.suffixes.Suffix.{Suffix}
 use Rattle.pv_lex.specs.Bytes.{front, behind, begins, zero_digit, full_stop}
 use Rattle.pv_lex.specs.Tables.{row_of}
-use Rattle.pv_lex.specs.Pieces.{Said, Number, Piece, ◌>>=◌, token}
+use Rattle.pv_token.specs.Said.{Said, Number}
+use Rattle.pv_lex.specs.Pieces.{Piece, ◌>>=◌, token}
 
 -- The suffixes (6.4.4.1p1): is the constant unsigned, and how many times does `long` stand in its least type.
 unfoldable pub suffixes : List (List ℕ × Suffix)

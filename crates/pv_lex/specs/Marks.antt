@@ -1,10 +1,11 @@
 -- Punctuators.
 use Rattle.std.specs.Prelude.{ℕ, List, [], ◌∷◌, Option, Some, None, length, drop, codes}
-use Rattle.pv_lex.specs.declared.marks.Mark.{Mark}
-use Rattle.pv_lex.specs.declared.marks.Mark.TheVariants as mark
+use Rattle.pv_token.specs.declared.marks.Mark.{Mark}
+use Rattle.pv_token.specs.declared.marks.Mark.TheVariants as mark
 use Rattle.pv_lex.specs.declared.pieces.Fault.TheVariants as fault
 use Rattle.pv_lex.specs.Tables.{first_row}
-use Rattle.pv_lex.specs.Pieces.{Punctuator, Stand, Bad, Here, token}
+use Rattle.pv_token.specs.Said.{Punctuator}
+use Rattle.pv_lex.specs.Pieces.{Stand, Bad, Here, token}
 
 -- The punctuators (6.4.6p1), longer ones first, and the digraphs with the meaning of their twins (6.4.6p3). Those of the preprocessor alone, `#` and `##` and their digraphs, are none of them.
 unfoldable pub marks : List (List ℕ × Mark)

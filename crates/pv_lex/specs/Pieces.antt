@@ -1,18 +1,8 @@
 -- What may stand at a place of a source.
-use Rattle.std.specs.Prelude.{ℕ, Bool, List, Option, Some, None, option_and_then, ℤ}
-use Rattle.pv_lex.specs.declared.words.Word.{Word}
-use Rattle.pv_lex.specs.declared.marks.Mark.{Mark}
+use Rattle.std.specs.Prelude.{ℕ, List, Option, Some, None, option_and_then}
+use Rattle.pv_token.specs.Said.{Said}
 use Rattle.pv_lex.specs.declared.pieces.Fault.{Fault}
 use Rattle.pv_lex.specs.declared.pieces.Fault.TheVariants as fault
-
--- What a token says (6.4p1): a keyword, an identifier, a constant, the decoded bytes of a string literal, a punctuator.
-pub data Said : Type 0 where
-  Keyword : (w : Word) → Said
-  Name : (text : List ℕ) → Said
-  Number : (value : ℕ) (decimal unsigned : Bool) (longs : ℕ) → Said
-  Character : (value : ℤ) → Said
-  Text : (bytes : List ℕ) → Said
-  Punctuator : (m : Mark) → Said
 
 -- What a piece of the source is: a byte of white space (6.4p3), a comment with so many line feeds in it (6.4.9), a marker that numbers the next line (6.10.4p3), a token (6.4p1).
 pub data What : Type 0 where

@@ -2,7 +2,8 @@
 use Rattle.std.specs.Prelude.{◌≡◌, ℕ, ◌+◌, ◌-◌, Bool, true, false, cond, ◌&&◌, ◌||◌, List, [], ◌∷◌, ◌++◌, length, take, nat_eq}
 use Rattle.pv_lex.specs.declared.bytes.Class.TheVariants as class
 use Rattle.pv_lex.specs.Bytes.{is_in, line_feed}
-use Rattle.pv_lex.specs.Pieces.{Said, What, White, Comment, Marker, Spelling, Piece, Here}
+use Rattle.pv_token.specs.Said.{Spelt}
+use Rattle.pv_lex.specs.Pieces.{What, White, Comment, Marker, Spelling, Piece, Here}
 use Rattle.pv_lex.specs.Stands.{stands}
 
 -- A place: what is left of the source, the number of its line (6.10.4p2), and whether only spaces and tabs stand before it on the line (6.10p2).
@@ -46,12 +47,6 @@ bytes_of text x = take (length text - length x.after) text
 abbrev pub bytes_of_row : List ℕ → List Piece → List ℕ
 bytes_of_row text [] = []
 bytes_of_row text (x ∷ xs) = bytes_of text x ++ bytes_of_row x.after xs
-
--- A token of the source (6.4p1): what it says, the place of its first byte, and the line of that byte (6.10.4p2).
-pub record Spelt : Type 0 where
-  pub said : Said
-  pub start : ℕ
-  pub line : ℕ
 
 -- The token that a piece is, if it is one (6.4p1 and p3): white space, comments and markers are none.
 abbrev pub spelt_here : (start line : ℕ) → What → List Spelt

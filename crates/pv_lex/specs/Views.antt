@@ -1,21 +1,10 @@
 -- What the code's pieces stand for in the definitions.
-use Rattle.pv_lex.specs.declared.pieces.Kind.{Kind}
-use Rattle.pv_lex.specs.declared.pieces.Kind.TheVariants as kind
 use Rattle.pv_lex.specs.declared.pieces.Found.{Found}
 use Rattle.pv_lex.specs.declared.pieces.Found.TheVariants as found
 use Rattle.pv_lex.specs.declared.pieces.Standing.{Standing}
 use Rattle.pv_lex.specs.declared.pieces.Standing.TheVariants as standing
-use Rattle.pv_lex.specs.Pieces.{Said, Name, Text, Keyword, Number, Character, Punctuator, What, White, Comment, Marker, Spelling, Stand, End, Bad, Here}
-use Rattle.pv_lex.specs.Characters.{as_char}
-
--- What a token says (6.4p1), as the code has it: a character constant by its byte.
-abbrev pub said_of : Kind → Said
-said_of (kind.Keyword w) = Keyword w
-said_of (kind.Name text) = Name text.now
-said_of (kind.Number value decimal unsigned longs) = Number value decimal unsigned longs
-said_of (kind.Character b) = Character (as_char b)
-said_of (kind.Text bytes) = Text bytes.items
-said_of (kind.Punctuator m) = Punctuator m
+use Rattle.pv_token.specs.Said.{said_of}
+use Rattle.pv_lex.specs.Pieces.{What, White, Comment, Marker, Spelling, Stand, End, Bad, Here}
 
 -- What a piece is (6.4p1 and p3).
 abbrev pub what_of : Found → What

@@ -2,12 +2,13 @@
 use Rattle.std.specs.Prelude.{ℕ, Bool, ◌&&◌, ◌||◌, if◌then◌else◌, List, [], ◌∷◌, length, Option, Some, None, nat_eq, codes}
 use Rattle.std.specs.Cmp.Lexicographic.{pointwise}
 use Rattle.pv_lex.specs.declared.bytes.Class.TheVariants as class
-use Rattle.pv_lex.specs.declared.words.Word.{Word}
-use Rattle.pv_lex.specs.declared.words.Word.TheVariants as word
+use Rattle.pv_token.specs.declared.words.Word.{Word}
+use Rattle.pv_token.specs.declared.words.Word.TheVariants as word
 use Rattle.pv_lex.specs.declared.pieces.Fault.TheVariants as fault
 use Rattle.pv_lex.specs.Bytes.{run, front, behind, begins, single_quote, double_quote}
 use Rattle.pv_lex.specs.Tables.{row_of}
-use Rattle.pv_lex.specs.Pieces.{Name, Keyword, Stand, Here, Bad, token}
+use Rattle.pv_token.specs.Said.{Name, Keyword}
+use Rattle.pv_lex.specs.Pieces.{Stand, Here, Bad, token}
 
 -- The keywords (6.4.1p1): those of the profile, and those that it leaves out.
 unfoldable pub words : List (List ℕ × Option Word)

@@ -2,25 +2,8 @@
 ghost use Rattle.std.specs.Prelude.{◌≡◌};
 ghost use Rattle.pv_lex.specs.declared.error.LexError.TheVariants.{NoMemory as OutOfMemory};
 
-use std::alloc::{AllocError, AllocFailed};
+use pv_token::NoMemory;
 use thiserror::Error;
-
-/// Memory ran out. This is the one error of the calls that fail in no other way.
-#[derive(Clone, Copy, Debug, Error)]
-#[error("out of memory")]
-pub struct NoMemory;
-
-impl From<AllocError> for NoMemory {
-    fn from(_e: AllocError) -> NoMemory {
-        NoMemory
-    }
-}
-
-impl<T: Drop> From<AllocFailed<T>> for NoMemory {
-    fn from(_e: AllocFailed<T>) -> NoMemory {
-        NoMemory
-    }
-}
 
 /// The first fault of a source, with its place in bytes from 0, or that memory ran out.
 #[derive(Clone, Copy, Debug, Error)]

@@ -1,7 +1,8 @@
 //! From the bytes of a source to its tokens.
-ghost use Rattle.std.specs.Prelude.{◌≡◌, ◌++◌, Bool, ◌≤◌, ◌<◌, ◌^◌, length, IfOk, IfErr, List, ℕ, ◌⊎◌, true, false, Some, slice_get, slice_index, nat_eq};
-ghost use Rattle.pv_lex.specs.Rows.{Place, Row, start, bytes_of_row, line_behind, fresh_behind};
-ghost use Rattle.pv_lex.specs.Lexes.{Lexes, Table, KnowsAll};
+ghost use Rattle.std.specs.Prelude.{◌≡◌, ◌++◌, Bool, ◌≤◌, ◌<◌, ◌^◌, length, IfOk, OnOk, IfErr, List, ℕ, ◌⊎◌, true, false, Some, slice_get, slice_index, nat_eq};
+ghost use Rattle.pv_lex.specs.Rows.{Place, Row, start, bytes_of_row, line_behind, fresh_behind, spelt_here};
+ghost use Rattle.pv_token.specs.Table.{Table, HasRoom, KnowsAll, Adds};
+ghost use Rattle.pv_lex.specs.Lexes.{Lexes};
 ghost use Rattle.pv_lex.specs.Faults.{LexFault, LiesWithin, FaultAt, error_of};
 ghost use Rattle.pv_lex.specs.Views.{what_of};
 ghost use Rattle.pv_lex.specs.declared.pieces.Fault.{Fault as FaultKind};
@@ -14,7 +15,7 @@ use crate::bytes::{Class, is_in};
 use crate::error::LexError;
 use crate::pieces::{Fault, Found, Standing};
 use crate::standing::stand;
-use crate::token_table::Tokens;
+use pv_token::{NoMemory, Tokens};
 use std::alloc::Global;
 
 /// The error that reports a fault at this place.
@@ -53,6 +54,25 @@ fn fresh_behind(found: &Found<'_>, fresh: bool) -> bool
     }
 }
 
+/// Takes a piece in: a token is kept, and any other piece is not.
+fn add(
+    tokens: &mut Tokens,
+    alloc: Global,
+    found: Found<'_>,
+    start: u32,
+    line: u32,
+) -> Result<(), NoMemory>
+    requires { HasRoom tokens.old }
+    ensures { OnOk result (Adds tokens.old tokens.new (spelt_here start line (what_of found.entry))) }
+{
+    match found {
+        Found::White(_) => Ok(()),
+        Found::Comment(_) => Ok(()),
+        Found::Marker(_) => Ok(()),
+        Found::Spelling(kind) => tokens.add_token(alloc, kind, start, line),
+    }
+}
+
 /// The tokens of a source, or its first fault. A source is cut from its first byte on into pieces,
 /// each the longest that begins where the one before it ends (C17 6.4p4).
 ///
@@ -82,7 +102,7 @@ pub fn tokens(alloc: Global, bytes: &[u8]) -> Result<Tokens, LexError>
             Standing::Here(found, after) => {
                 let next_line = line_behind(&found, line);
                 let next_fresh = fresh_behind(&found, fresh);
-                out.add(alloc, found, at, line)?;
+                add(&mut out, alloc, found, at, line)?;
                 line = next_line;
                 fresh = next_fresh;
                 rest = after;

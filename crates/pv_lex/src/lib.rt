@@ -16,11 +16,8 @@ mod pieces;
 mod standing;
 mod suffixes;
 mod tables;
-mod token_table;
 mod words;
 
-pub use error::{LexError, NoMemory};
+pub use error::LexError;
 pub use lexing::{exactly_one, longest, tokens};
-pub use marks::Mark;
-pub use token_table::{Token, TokenKind, Tokens};
-pub use words::Word;
+pub use pv_token::{Mark, NoMemory, Token, TokenKind, Tokens, Word};

@@ -3,14 +3,15 @@ ghost use Rattle.std.specs.Prelude.{◌≡◌, ◌≤◌, ◌<◌, length, IfOk,
 ghost use Rattle.std.specs.Option.{option_map};
 ghost use Rattle.pv_lex.specs.Bytes.{begins};
 ghost use Rattle.pv_lex.specs.Tables.{row_of};
-ghost use Rattle.pv_lex.specs.Pieces.{token, Character, Text};
-ghost use Rattle.pv_lex.specs.Characters.{escapes, numbered, escape_at, character_at, as_char, character_constant, characters, string_literal};
+ghost use Rattle.pv_lex.specs.Pieces.{token};
+ghost use Rattle.pv_token.specs.Said.{Character, Text, as_char};
+ghost use Rattle.pv_lex.specs.Characters.{escapes, numbered, escape_at, character_at, character_constant, characters, string_literal};
 
 use crate::bytes::{Class, behind, is_in, run};
-use crate::error::NoMemory;
 use crate::escapes::ESCAPES;
 use crate::numbers::value;
 use crate::tables::row_of;
+use pv_token::NoMemory;
 use std::alloc::Global;
 
 /// A character by its number, which is at most 255 (C17 6.4.4.4p9).

@@ -5,12 +5,12 @@ ghost use Rattle.pv_lex.specs.Bytes.{begins};
 ghost use Rattle.pv_lex.specs.Tables.{row_of};
 ghost use Rattle.pv_lex.specs.Pieces.{token};
 ghost use Rattle.pv_lex.specs.Constants.{suffixes, digit_value, value_from, number_of, constant_of, number_at, sized};
-ghost use Rattle.pv_lex.specs.Views.{said_of};
+ghost use Rattle.pv_token.specs.Said.{said_of};
 
 use crate::bytes::{Class, run};
-use crate::pieces::Kind;
 use crate::suffixes::{SUFFIXES, Suffix};
 use crate::tables::row_of;
+use pv_token::Kind;
 
 /// What a digit is worth: 0 to 9, A to F, a to f.
 fn digit_value(b: u8) -> u8

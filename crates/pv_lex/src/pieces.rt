@@ -9,9 +9,10 @@ ghost use Rattle.pv_lex.specs.Stands.{stands};
 ghost use Rattle.pv_lex.specs.Views.{stand_of};
 
 use crate::bytes::{Class, is_letter, run};
-use crate::marks::{MARKS, Mark};
+use crate::marks::MARKS;
 use crate::tables::{first_row, row_of};
-use crate::words::{WORDS, Word};
+use crate::words::WORDS;
+use pv_token::{Kind, Mark, Word};
 
 /// Why no piece begins at a place. A word of the profile has its length.
 #[derive(Clone, Copy)]
@@ -19,23 +20,6 @@ pub(crate) enum Fault {
     BadByte,
     BadToken,
     Profile(u32),
-}
-
-/// What a token says. A name lies in the source, a string literal has its decoded bytes, a
-/// character constant its byte.
-#[derive(Drop)]
-pub(crate) enum Kind<'a> {
-    Keyword(Word),
-    Name(&'a [u8]),
-    Number {
-        value: u64,
-        decimal: bool,
-        unsigned: bool,
-        longs: u8,
-    },
-    Character(u8),
-    Text(Vec<u8>),
-    Punctuator(Mark),
 }
 
 /// What a piece is.

@@ -3,17 +3,17 @@ ghost use Rattle.std.specs.Prelude.{IsFalse, ◌≡◌, ◌≤◌, ◌<◌, ◌^
 ghost use Rattle.std.specs.Option.{option_map};
 ghost use Rattle.std.specs.Char.{is_ascii_digit};
 ghost use Rattle.pv_lex.specs.Bytes.{begins, is_white, is_letter};
-ghost use Rattle.pv_lex.specs.Pieces.{or_bad, token, Character, Text, Marker, Comment};
-ghost use Rattle.pv_lex.specs.Characters.{as_char};
+ghost use Rattle.pv_lex.specs.Pieces.{or_bad, token, Marker, Comment};
 ghost use Rattle.pv_lex.specs.Stands.{stands};
-ghost use Rattle.pv_lex.specs.Views.{stand_of, said_of};
+ghost use Rattle.pv_token.specs.Said.{Character, Text, as_char, said_of};
+ghost use Rattle.pv_lex.specs.Views.{stand_of};
 
 use crate::bytes::{Class, behind, is_letter, is_white, run};
 use crate::comments::{block_comment, marker};
-use crate::error::NoMemory;
 use crate::literals::{character_constant, string_literal};
 use crate::numbers::number;
-use crate::pieces::{Fault, Found, Kind, Standing, mark, word};
+use crate::pieces::{Fault, Found, Standing, mark, word};
+use pv_token::{Kind, NoMemory};
 use std::alloc::Global;
 
 /// What stands where `text` is left. `fresh`: only spaces and tabs stand before it on its line.

@@ -1,7 +1,7 @@
 -- The tokens are one program at most, and the code finds it.
 use Rattle.std.proofs.Common.{◌≡◌, ◌∙◌, List, map, Option, None, Some, option_map, sym, ap, subst}
 use Rattle.std.specs.List.{flat_map}
-use Rattle.pv_lex.specs.Lexes.{Table}
+use Rattle.pv_token.specs.Table.{Table}
 use Rattle.pv_starter.specs.declared.syntax.TranslationUnit.{TranslationUnit}
 use Rattle.pv_starter.specs.declared.syntax.Object.{Object}
 use Rattle.pv_starter.specs.declared.terms.Program.{Program}

@@ -1,13 +1,13 @@
 -- The tokens of the starter language: what each token of a source is to its grammar.
 use Rattle.std.specs.Prelude.{ℕ, Bool, false, not, ◌&&◌, ◌||◌, if◌then◌else◌, List, map, Option, Some, None, nat_eq, nat_le, slice_get, codes}
 use Rattle.std.specs.Str.{bytes_eq}
-use Rattle.pv_lex.specs.Lexes.{Table}
-use Rattle.pv_lex.specs.declared.token_table.TokenKind.{TokenKind}
-use Rattle.pv_lex.specs.declared.token_table.TokenKind.TheVariants as kind
-use Rattle.pv_lex.specs.declared.words.Word.{Word}
-use Rattle.pv_lex.specs.declared.words.Word.TheVariants as word
-use Rattle.pv_lex.specs.declared.marks.Mark.{Mark}
-use Rattle.pv_lex.specs.declared.marks.Mark.TheVariants as mark
+use Rattle.pv_token.specs.Table.{Table}
+use Rattle.pv_token.specs.declared.token_table.TokenKind.{TokenKind}
+use Rattle.pv_token.specs.declared.token_table.TokenKind.TheVariants as kind
+use Rattle.pv_token.specs.declared.words.Word.{Word}
+use Rattle.pv_token.specs.declared.words.Word.TheVariants as word
+use Rattle.pv_token.specs.declared.marks.Mark.{Mark}
+use Rattle.pv_token.specs.declared.marks.Mark.TheVariants as mark
 use Rattle.pv_starter.specs.declared.lexemes.Terminal.TheVariants as terminal
 use Rattle.pv_starter.specs.declared.lexemes.Lexeme.{Lexeme}
 use Rattle.pv_starter.specs.declared.lexemes.Lexeme.TheVariants as lexeme

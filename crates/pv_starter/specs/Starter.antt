@@ -1,6 +1,6 @@
 -- Which tokens are a program of the starter language, and which program they are.
 use Rattle.std.specs.Prelude.{◌≡◌, Option, None, Some}
-use Rattle.pv_lex.specs.Lexes.{Table}
+use Rattle.pv_token.specs.Table.{Table}
 use Rattle.pv_starter.specs.declared.terms.Program.{Program as CodeProgram}
 use Rattle.pv_starter.specs.Lexemes.{lexemes_of}
 use Rattle.pv_starter.specs.Syntax.{UnitTree, Spells}

@@ -4,7 +4,7 @@ ghost use Rattle.pv_starter.specs.Lexemes.{of_word, of_mark, of_name, is_main, o
 ghost use Rattle.pv_starter.specs.Reading.{number_of};
 
 use crate::NoMemory;
-use pv_lex::{Mark, Token, TokenKind, Tokens, Word};
+use pv_token::{Mark, Token, TokenKind, Tokens, Word};
 use std::alloc::Global;
 
 /// A token that always reads the same.

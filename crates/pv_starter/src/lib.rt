@@ -2,7 +2,7 @@
 #![tactic(auto)]
 
 ghost use Rattle.std.specs.Prelude.{◌≡◌, ◌⊎◌, IfOk};
-ghost use Rattle.pv_lex.specs.Lexes.{Table};
+ghost use Rattle.pv_token.specs.Table.{Table};
 ghost use Rattle.pv_starter.specs.Terms.{ProgramTree};
 ghost use Rattle.pv_starter.specs.Starter.{IsProgram, FindsProgram};
 
@@ -12,7 +12,7 @@ mod syntax;
 mod terms;
 mod typing;
 
-use pv_lex::Tokens;
+use pv_token::Tokens;
 use std::alloc::{AllocError, AllocFailed, Global};
 pub use terms::{ObjectType, Program, StaticObject, Term, TypedLocal, TypedStatement};
 

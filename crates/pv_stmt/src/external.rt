@@ -14,8 +14,8 @@ ghost use Rattle.pv_stmt_forms.specs.Found.{function_with, IsExternalAt};
 use crate::source::Source;
 use indexmap::IndexSet;
 use pv_decl::{declaration, type_names};
-use pv_lex::{NoMemory, Tokens};
 use pv_stmt_forms::region_end;
+use pv_token::{NoMemory, Tokens};
 use pv_tree::{Decl, ListId, NodeId, TypeReader, Unit};
 use std::alloc::Global;
 

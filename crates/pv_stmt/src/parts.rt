@@ -16,11 +16,11 @@ ghost use Rattle.pv_stmt_forms.specs.Statements.{expression, condition, expressi
 use crate::source::Source;
 use pv_decl::declaration;
 use pv_expr::{Level, expression};
-use pv_lex::NoMemory;
 use pv_stmt_forms::{
     First, ForHead, LabelWord, Sign, after, begins_type, found_before, found_statement,
     is_declaration, label_word, peek,
 };
+use pv_token::NoMemory;
 use pv_tree::{NodeId, Stmt, TypeReader, Unit};
 
 impl<R: TypeReader> Source<'_, R> {

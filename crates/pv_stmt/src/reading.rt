@@ -13,11 +13,11 @@ ghost use Rattle.pv_stmt_forms.specs.Statements.{statement, selection, chosen, l
 
 use crate::nodes::{ends_open, for_node};
 use crate::source::Source;
-use pv_lex::NoMemory;
 use pv_stmt_forms::{
     Sign, StatementForm, Within, after, begins_type, block_of, form_of, found_before,
     found_statement, labelled_of, line_at, peek,
 };
+use pv_token::NoMemory;
 use pv_tree::{NodeId, Stmt, TypeReader, Unit};
 
 impl<R: TypeReader> Source<'_, R> {

@@ -1,7 +1,7 @@
 //! What a reader of statements is given.
 
 use indexmap::IndexSet;
-use pv_lex::Tokens;
+use pv_token::Tokens;
 
 /// The tokens, and what is known of the names and type names among them.
 #[derive(Drop)]

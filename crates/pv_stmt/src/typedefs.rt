@@ -6,8 +6,8 @@ ghost use Rattle.pv_tree.specs.Tables.{declaration_at, is_declaration, Is};
 ghost use Rattle.pv_tree.specs.Units.{with_types};
 
 use indexmap::IndexSet;
-use pv_lex::NoMemory;
 use pv_stmt_forms::{add_all, add_name, has_typedef};
+use pv_token::NoMemory;
 use pv_tree::{Decl, NodeId, Unit};
 
 /// Adds the names that an external declaration declares with `typedef`.

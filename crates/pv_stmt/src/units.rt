@@ -1,6 +1,6 @@
 //! Translation units (C17 6.9).
 ghost use Rattle.std.specs.Prelude.{◌≡◌, ◌≤◌, ℕ, List, length, drop, Err, IfOk};
-ghost use Rattle.pv_lex.specs.declared.token_table.Token.{Token};
+ghost use Rattle.pv_token.specs.declared.token_table.Token.{Token};
 ghost use Rattle.pv_tree.specs.Rows.{tables};
 ghost use Rattle.pv_tree.specs.Syntax.{DeclarationTree};
 ghost use Rattle.pv_tree.specs.Tables.{no_tables};
@@ -12,7 +12,7 @@ ghost use Rattle.pv_stmt.specs.declared.units.SynError.TheVariants.{NoMemory as 
 use crate::external::external;
 use crate::typedefs::add_types;
 use indexmap::IndexSet;
-use pv_lex::{NoMemory, Tokens};
+use pv_token::{NoMemory, Tokens};
 use pv_tree::Unit;
 use std::alloc::Global;
 use thiserror::Error;

@@ -1,10 +1,10 @@
 -- What is spelled as a form of a statement is read: selection, iteration and jumps.
 use Rattle.std.proofs.Common.{◌≡◌, ◌≤◌, ℕ, suc, Bool, true, false, cond, List, [], ◌∷◌, ◌++◌, drop, Some, None, option_and_then, refl, sym, ap, subst, ◌∙◌, arith}
-use Rattle.pv_lex.specs.declared.token_table.Token.{Token}
-use Rattle.pv_lex.specs.declared.token_table.TokenKind.{TokenKind}
-use Rattle.pv_lex.specs.declared.token_table.TokenKind.TheVariants as kind
-use Rattle.pv_lex.specs.declared.words.Word.TheVariants as word
-use Rattle.pv_lex.specs.declared.marks.Mark.TheVariants as mark
+use Rattle.pv_token.specs.declared.token_table.Token.{Token}
+use Rattle.pv_token.specs.declared.token_table.TokenKind.{TokenKind}
+use Rattle.pv_token.specs.declared.token_table.TokenKind.TheVariants as kind
+use Rattle.pv_token.specs.declared.words.Word.TheVariants as word
+use Rattle.pv_token.specs.declared.marks.Mark.TheVariants as mark
 use Rattle.pv_tree.specs.Syntax.{ExpressionTree, DeclarationTree, Declaration, StatementTree, ExpressionStatement, If, IfElse, While, DoWhile, For, ForDeclaration, Switch, Break, Continue, Return, Tree, OfExpression, OfDeclaration, OfStatement, OptionalTree, Absent, Present}
 use Rattle.pv_tree.specs.Depths.{expression_depth, declaration_depth, statement_depth, optional_depth}
 use Rattle.pv_tree.specs.Spelling.{ended, in_parens, expression_tokens, declaration_tokens, statement_tokens, optional_tokens}

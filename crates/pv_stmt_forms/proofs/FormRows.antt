@@ -1,6 +1,6 @@
 -- Parts in a row are read where they are spelled, wherever one part can end before the next.
 use Rattle.std.proofs.Common.{◌≡◌, ◌≤◌, ℕ, true, List, Some, None, ap, subst, ◌∙◌, arith}
-use Rattle.pv_lex.specs.declared.token_table.Token.{Token}
+use Rattle.pv_token.specs.declared.token_table.Token.{Token}
 use Rattle.pv_tree.specs.Syntax.{Tree, Trees, NoTrees, Then}
 use Rattle.pv_tree.specs.Depths.{tree_depth, trees_depth}
 use Rattle.pv_tree.specs.Spelling.{tree_tokens, trees_tokens}

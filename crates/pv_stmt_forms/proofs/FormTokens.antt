@@ -1,10 +1,10 @@
 -- The tokens that a form of a statement ends with or goes on with.
 use Rattle.std.proofs.Common.{◌≡◌, Bool, true, false, List, [], ◌∷◌, Option, Some, None, refl, ap, ◌∙◌}
-use Rattle.pv_lex.specs.declared.token_table.Token.{Token}
-use Rattle.pv_lex.specs.declared.token_table.TokenKind.{TokenKind}
-use Rattle.pv_lex.specs.declared.token_table.TokenKind.TheVariants as kind
-use Rattle.pv_lex.specs.declared.words.Word.TheVariants as word
-use Rattle.pv_lex.specs.declared.marks.Mark.TheVariants as mark
+use Rattle.pv_token.specs.declared.token_table.Token.{Token}
+use Rattle.pv_token.specs.declared.token_table.TokenKind.{TokenKind}
+use Rattle.pv_token.specs.declared.token_table.TokenKind.TheVariants as kind
+use Rattle.pv_token.specs.declared.words.Word.TheVariants as word
+use Rattle.pv_token.specs.declared.marks.Mark.TheVariants as mark
 use Rattle.pv_tree.specs.Syntax.{Tree, Trees, OptionalTree}
 use Rattle.pv_expr_forms.specs.Reader.{is_open, after}
 use Rattle.pv_expr_forms.proofs.Runs.{Takes}

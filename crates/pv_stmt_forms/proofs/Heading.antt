@@ -1,8 +1,8 @@
 -- The head of a `for`.
 use Rattle.std.proofs.Common.{◌≡◌, ◌≤◌, ℕ, Bool, true, false, List, length, drop, Option, Some, None, option_map, refl, sym, ap, subst, ◌∙◌}
 use Rattle.indexmap.specs.IndexSet.{IndexSet}
-use Rattle.pv_lex.specs.declared.token_table.Token.{Token}
-use Rattle.pv_lex.specs.declared.token_table.TokenKind.{TokenKind}
+use Rattle.pv_token.specs.declared.token_table.Token.{Token}
+use Rattle.pv_token.specs.declared.token_table.TokenKind.{TokenKind}
 use Rattle.pv_tree.specs.declared.nodes.NodeId.{NodeId}
 use Rattle.pv_tree.specs.Syntax.{For, ForDeclaration, Tree, OfStatement, OptionalTree}
 use Rattle.pv_tree.specs.Grammar.{Names, begins_type}

@@ -1,7 +1,7 @@
 -- The names whose type names are the longest, under a set of typedef names alone.
 use Rattle.std.proofs.Common.{◌≡◌, ◌≤◌, ◌<◌, ℕ, zero, suc, Bool, List, [], ◌∷◌, length, Some, None, refl, sym, ap, subst, arith}
 use Rattle.std.proofs.lemmas.List.{length-drop}
-use Rattle.pv_lex.specs.declared.token_table.Token.{Token}
+use Rattle.pv_token.specs.declared.token_table.Token.{Token}
 use Rattle.pv_tree.specs.Syntax.{DeclarationTree, NoTrees}
 use Rattle.pv_tree.specs.Spelling.{declaration_tokens}
 use Rattle.pv_tree.specs.Grammar.{Names}

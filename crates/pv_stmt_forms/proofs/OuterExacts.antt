@@ -1,6 +1,6 @@
 -- What is spelled as an external declaration is read, whatever follows.
 use Rattle.std.proofs.Common.{◌≡◌, ◌≤◌, ℕ, zero, suc, true, false, List, [], ◌∷◌, ◌++◌, Some, refl, ap, subst, ◌∙◌, arith}
-use Rattle.pv_lex.specs.declared.token_table.Token.{Token}
+use Rattle.pv_token.specs.declared.token_table.Token.{Token}
 use Rattle.pv_tree.specs.Syntax.{DeclarationTree, Function, Declaration, Parameter, DeclaratorTree, Block, OfDeclaration, OfDeclarator, Trees, Present}
 use Rattle.pv_tree.specs.Depths.{declaration_depth}
 use Rattle.pv_tree.specs.Spelling.{declaration_tokens, declarator_tokens, statement_tokens, trees_tokens}

@@ -1,7 +1,7 @@
 -- What reading on lists promises, for the code (6.9).
 use Rattle.std.proofs.Common.{◌≡◌, ◌≤◌, ◌<◌, ℕ, Bool, List, [], ◌∷◌, ◌++◌, length, drop, Some, None, refl, sym, ap, subst, ◌∙◌, arith, append-nil}
 use Rattle.std.proofs.lemmas.List.{length-append}
-use Rattle.pv_lex.specs.declared.token_table.Token.{Token}
+use Rattle.pv_token.specs.declared.token_table.Token.{Token}
 use Rattle.pv_tree.specs.Syntax.{DeclarationTree, Tree}
 use Rattle.pv_tree.specs.Tables.{Tables, as_declaration}
 use Rattle.pv_tree.specs.TypeNames.{TypeMap, names_of, AreTied}

@@ -1,11 +1,11 @@
 -- What is read takes a token, and what is left is an end of the tokens.
 use Rattle.std.proofs.Common.{◌≡◌, ◌≤◌, ◌<◌, ℕ, zero, suc, Bool, true, false, cond, List, [], ◌∷◌, length, Option, Some, None, option_map, option_and_then, refl, ap, subst, arith, nat_eq}
 use Rattle.indexmap.specs.IndexSet.{IndexSet, contains}
-use Rattle.pv_lex.specs.declared.token_table.Token.{Token}
-use Rattle.pv_lex.specs.declared.token_table.TokenKind.{TokenKind}
-use Rattle.pv_lex.specs.declared.token_table.TokenKind.TheVariants as kind
-use Rattle.pv_lex.specs.declared.words.Word.TheVariants as word
-use Rattle.pv_lex.specs.declared.marks.Mark.TheVariants as mark
+use Rattle.pv_token.specs.declared.token_table.Token.{Token}
+use Rattle.pv_token.specs.declared.token_table.TokenKind.{TokenKind}
+use Rattle.pv_token.specs.declared.token_table.TokenKind.TheVariants as kind
+use Rattle.pv_token.specs.declared.words.Word.TheVariants as word
+use Rattle.pv_token.specs.declared.marks.Mark.TheVariants as mark
 use Rattle.pv_tree.specs.Syntax.{ExpressionTree, While, DoWhile, For, ForDeclaration, Switch, Labelled, Case, Default, Break, Continue, Return, ExpressionStatement, Tree, OfExpression, OfStatement, Trees, NoTrees, OptionalTree}
 use Rattle.pv_tree.specs.Spelling.{declaration_tokens}
 use Rattle.pv_tree.specs.Grammar.{Names, begins_type, line_here}

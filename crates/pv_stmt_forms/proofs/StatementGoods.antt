@@ -1,10 +1,10 @@
 -- What is read as a statement, or as the block of a `switch`, fits, and spells what was taken.
 use Rattle.std.proofs.Common.{◌≡◌, ℕ, zero, suc, Bool, true, false, cond, List, [], ◌∷◌, Some, option_map, refl, sym, ap, subst, arith}
-use Rattle.pv_lex.specs.declared.token_table.Token.{Token}
-use Rattle.pv_lex.specs.declared.token_table.TokenKind.{TokenKind}
-use Rattle.pv_lex.specs.declared.token_table.TokenKind.TheVariants as kind
-use Rattle.pv_lex.specs.declared.words.Word.TheVariants as word
-use Rattle.pv_lex.specs.declared.marks.Mark.TheVariants as mark
+use Rattle.pv_token.specs.declared.token_table.Token.{Token}
+use Rattle.pv_token.specs.declared.token_table.TokenKind.{TokenKind}
+use Rattle.pv_token.specs.declared.token_table.TokenKind.TheVariants as kind
+use Rattle.pv_token.specs.declared.words.Word.TheVariants as word
+use Rattle.pv_token.specs.declared.marks.Mark.TheVariants as mark
 use Rattle.pv_tree.specs.Syntax.{DeclarationTree, StatementTree, Block, SwitchBlock, Labelled, Case, Default, Tree, OfDeclaration, OfStatement, Trees, NoTrees, Then}
 use Rattle.pv_tree.specs.Spelling.{expression_tokens, statement_tokens, trees_tokens}
 use Rattle.pv_tree.specs.Grammar.{Names, begins_type, line_here, Fits}

@@ -1,6 +1,6 @@
 -- What the readers of external declarations answer, as what reading on lists gives (6.9).
 use Rattle.std.specs.Prelude.{◌≡◌, ℕ, Bool, List, Option, drop, option_map}
-use Rattle.pv_lex.specs.declared.token_table.Token.{Token}
+use Rattle.pv_token.specs.declared.token_table.Token.{Token}
 use Rattle.pv_tree.specs.declared.nodes.NodeId.{NodeId}
 use Rattle.pv_tree.specs.Syntax.{DeclaratorTree, Function, OfDeclaration, Trees}
 use Rattle.pv_tree.specs.Tables.{Tables, as_statement, is_external}

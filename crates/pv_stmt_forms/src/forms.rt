@@ -2,7 +2,7 @@
 ghost use Rattle.std.specs.Prelude.{◌≡◌};
 ghost use Rattle.pv_stmt_forms.specs.Parts.{test_of, form_of, label_word_of};
 
-use pv_lex::{Mark, TokenKind, Word};
+use pv_token::{Mark, TokenKind, Word};
 use pv_tree::NodeId;
 
 /// A token that a form ends with or goes on with.

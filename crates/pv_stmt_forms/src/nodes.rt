@@ -13,7 +13,7 @@ ghost use Rattle.pv_stmt_forms.specs.Statements.{block_end};
 
 use crate::forms::{Sign, Within};
 use crate::places::after;
-use pv_lex::{NoMemory, Tokens};
+use pv_token::{NoMemory, Tokens};
 use pv_tree::{Decl, ListId, NodeId, Stmt, Unit};
 
 /// Whether a node is a whole declaration, and no part or head of one.

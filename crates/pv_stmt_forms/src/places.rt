@@ -10,7 +10,7 @@ ghost use Rattle.pv_stmt_forms.specs.Parts.{test_of};
 
 use crate::forms::Sign;
 use indexmap::IndexSet;
-use pv_lex::{Token, TokenKind, Tokens, Word};
+use pv_token::{Token, TokenKind, Tokens, Word};
 
 /// The token at a place, unless the tokens end there.
 pub fn peek(tokens: &Tokens, at: u32) -> Option<Token>

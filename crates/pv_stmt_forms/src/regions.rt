@@ -1,7 +1,7 @@
 //! How far an external declaration reaches, as far as its braces and semicolons tell.
 ghost use Rattle.std.specs.Prelude.{◌≡◌, ◌<◌, ◌≤◌, ◌+◌, ◌^◌, length};
 
-use pv_lex::{Mark, TokenKind, Tokens, Word};
+use pv_token::{Mark, TokenKind, Tokens, Word};
 
 /// What stands directly before a token, as far as it tells what a `{` there opens.
 #[derive(Clone, Copy)]

@@ -7,7 +7,7 @@ ghost use Rattle.pv_tree.specs.Units.{declares, is_typedef, has_typedef, any_dec
 ghost use Rattle.pv_stmt_forms.specs.Names.{IsBefore, names_there, is_name, declares_one};
 
 use indexmap::IndexSet;
-use pv_lex::NoMemory;
+use pv_token::NoMemory;
 use pv_tree::{Decl, Declarator, ListId, NodeId, Spec, Unit};
 
 /// Where the name of a declarator stands.

@@ -2,7 +2,7 @@
 use crate::rows::{Asked, check};
 use indexmap::IndexSet;
 use pv_decl::{declaration, type_names};
-use pv_lex::Tokens;
+use pv_token::Tokens;
 use pv_tree::Unit;
 use std::alloc::Global;
 use std::process::Abort;

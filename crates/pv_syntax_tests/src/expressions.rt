@@ -3,7 +3,7 @@ use crate::rows::{Asked, check, check_row};
 use indexmap::IndexSet;
 use pv_decl::type_names;
 use pv_expr::{Level, expression};
-use pv_lex::Tokens;
+use pv_token::Tokens;
 use pv_tree::Unit;
 use std::alloc::Global;
 use std::process::Abort;

@@ -1,7 +1,7 @@
 //! What no clause says: that the grammar of units is C's.
 use crate::rows::{Asked, check, check_row};
-use pv_lex::Tokens;
 use pv_stmt::{SynError, unit};
+use pv_token::Tokens;
 use std::alloc::Global;
 use std::process::Abort;
 

@@ -9,7 +9,7 @@ ghost use Rattle.pv_tree.specs.Lines.{tree_line};
 ghost use Rattle.pv_tree.specs.Syntax.{OfExpression, OfDeclaration, OfDeclarator, OfSpecifier, OfInitializer, OfStatement};
 
 use crate::nodes::{Decl, Declarator, Expr, Init, ListId, Node, NodeId, Spec, Stmt};
-use pv_lex::NoMemory;
+use pv_token::NoMemory;
 use std::alloc::Global;
 use std::marker::Model;
 

@@ -2,9 +2,10 @@
 use Rattle.std.proofs.Common.{◌≡◌, inl, inr, ℕ, ◌+◌, ◌-◌, List, take, drop, refl, sym, ap, subst, ◌∙◌, arith}
 use Rattle.pv_lex.specs.declared.error.LexError.{LexError}
 use Rattle.pv_lex.specs.declared.error.LexError.TheVariants as error
-use Rattle.pv_lex.specs.Lexes.{Table, Lexes}
+use Rattle.pv_token.specs.Table.{Table}
+use Rattle.pv_lex.specs.Lexes.{Lexes}
 use Rattle.pv_lex.specs.Faults.{LexFault}
-use Rattle.pv_lex.specs.declared.token_table.Token.{Token as LexToken}
+use Rattle.pv_token.specs.declared.token_table.Token.{Token as LexToken}
 use Rattle.pv_tree.specs.Syntax.{DeclarationTree}
 use Rattle.pv_tree.specs.Units.{SpellUnit, IsWhole}
 use Rattle.pv_stmt.specs.declared.units.SynError.{SynError}

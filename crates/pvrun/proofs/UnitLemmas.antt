@@ -1,6 +1,6 @@
 -- Tokens are a translation unit, or so many external declarations and no more stand first.
 use Rattle.std.proofs.Common.{◌≡◌, ◌⊎◌, inl, inr, ℕ, List, [], ◌∷◌, length, refl}
-use Rattle.pv_lex.specs.declared.token_table.Token.{Token}
+use Rattle.pv_token.specs.declared.token_table.Token.{Token}
 use Rattle.pv_tree.specs.Syntax.{DeclarationTree}
 use Rattle.pv_tree.specs.Units.{no_types, SpellUnit, IsWhole}
 use Rattle.pv_stmt_forms.specs.Externals.{units}

@@ -1,7 +1,8 @@
 -- What a source that is not too long comes to, with a bound on the turns of its run.
 use Rattle.std.specs.Prelude.{◌≡◌, ℕ, List, take, drop}
 use Rattle.pv_lex.specs.declared.error.LexError.TheVariants as error
-use Rattle.pv_lex.specs.Lexes.{Table, Lexes}
+use Rattle.pv_token.specs.Table.{Table}
+use Rattle.pv_lex.specs.Lexes.{Lexes}
 use Rattle.pv_lex.specs.Faults.{LexFault}
 use Rattle.pv_tree.specs.Syntax.{DeclarationTree}
 use Rattle.pv_tree.specs.Units.{SpellUnit, IsWhole}

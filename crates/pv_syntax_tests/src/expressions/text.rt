@@ -4,7 +4,7 @@ ghost use Rattle.pv_tree.specs.Children.{HasExprChildren};
 ghost use Rattle.pv_tree.specs.Rows.{tables};
 ghost use Rattle.pv_tree.specs.Tables.{Forest, HasOptional, HasList, is_expression, is_declaration, Is};
 
-use pv_lex::Tokens;
+use pv_token::Tokens;
 use pv_tree::{Decl, Expr, ListId, NodeId, Spec, Unit};
 use std::process::Abort;
 

@@ -4,7 +4,7 @@ use Rattle.pv_lex.specs.Stands.{stands}
 use Rattle.pv_lex.specs.Views.{stand_of, what_of}
 use Rattle.pv_lex.proofs.Moving.{moves_stands}
 use Rattle.pv_lex.proofs.Cutting.{cut_goes_on, cut_ends, cut_faults}
-use Rattle.pv_lex.proofs.Telling.{tells_known}
+use Rattle.pv_token.proofs.Telling.{tells_known}
 use Rattle.pv_lex.proofs.Fitting.{cut_count, cut_room, cut_fault_lies}
 use Rattle.pv_lex.proofs.lexing.tokens.Goals as goal
 
@@ -28,7 +28,7 @@ pieces-preserved c =
     record {
       room = omega (arith, moved.shorter, c.pieces.invariant.room);
       lines = omega (arith, line, c.line_behind-next_line.ensures, c.pieces.invariant.lines, c.pieces.invariant.room);
-      cut = rw (c.line_behind-next_line.ensures, c.fresh_behind-next_fresh.ensures) (cut_goes_on c.args.bytes.now c.pieces.out c.add.new.self (record { text = c.pieces.rest.now; line = c.pieces.line; fresh = c.pieces.fresh }) (record { what = what_of c.in-Here.found; after = c.in-Here.after.now }) _ c.pieces.invariant.cut here refl c.in_ok-add-in-Here.ensures);
+      cut = rw (c.line_behind-next_line.ensures, c.fresh_behind-next_fresh.ensures) (cut_goes_on c.args.bytes.now c.pieces.out c.add.new.tokens (record { text = c.pieces.rest.now; line = c.pieces.line; fresh = c.pieces.fresh }) (record { what = what_of c.in-Here.found; after = c.in-Here.after.now }) _ c.pieces.invariant.cut here refl c.in_ok-add-in-Here.ensures);
     }
 
 pub returns-in-End-clause-whole : goal.returns-in-End-clause-whole

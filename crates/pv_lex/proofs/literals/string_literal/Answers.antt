@@ -1,6 +1,7 @@
 use Rattle.std.proofs.Common.{◌≡◌, ◌-◌, ◌+◌, length, length-append, sym, ap, ◌∙◌, arith}
 use Rattle.std.specs.Option.{option_map}
-use Rattle.pv_lex.specs.Pieces.{token, Text}
+use Rattle.pv_token.specs.Said.{Text}
+use Rattle.pv_lex.specs.Pieces.{token}
 use Rattle.pv_lex.specs.Characters.{string_literal}
 use Rattle.pv_lex.proofs.Joining.{begins_byte, begins_other, characters_close, characters_none, characters_step, characters_end}
 use Rattle.pv_lex.proofs.literals.string_literal.Goals as goal

@@ -1,6 +1,6 @@
 use Rattle.std.proofs.Common.{◌≡◌, ◌∙◌, ◌+◌, ◌≤◌, ℕ, Option, Result, List, IfOk, sym, ap, drop, length, arith, refl, rules, subst}
 use Rattle.std.proofs.lemmas.Result.{IfOk-from_err}
-use Rattle.pv_lex.specs.declared.token_table.Token.{Token}
+use Rattle.pv_token.specs.declared.token_table.Token.{Token}
 use Rattle.pv_tree.specs.declared.nodes.NodeId.{NodeId}
 use Rattle.pv_tree.specs.Rows.{tables}
 use Rattle.pv_tree.specs.Places.{Place}

@@ -1,5 +1,5 @@
 use Rattle.std.proofs.Common.{◌∙◌, ◌+◌, ◌≤◌, ◌-◌, sym, ap, drop, length, arith, List, Some, rules, vec_len, ◌≡◌, ◌==◌, ℕ, subst, All}
-use Rattle.pv_lex.specs.declared.token_table.Token.{Token}
+use Rattle.pv_token.specs.declared.token_table.Token.{Token}
 use Rattle.pv_tree.specs.Rows.{tables}
 use Rattle.pv_tree.specs.Syntax.{Tree, Trees, OfStatement, While, NoTrees, Switch, Labelled}
 use Rattle.pv_tree.specs.Tables.{tree_at, as_expression, statement_at, is_expression, is_declaration, is_statement, is_item, trees_of, Is}

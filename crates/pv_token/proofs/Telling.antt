@@ -6,13 +6,12 @@ use Rattle.std.specs.List.{flat_map, list_any}
 use Rattle.std.specs.Cmp.Lexicographic.{pointwise}
 use Rattle.std.proofs.lemmas.List.{append-nil}
 use Rattle.std.proofs.lemmas.Slice.Eq.{bytes_eq-Decides}
-use Rattle.pv_lex.specs.declared.token_table.Token.{Token}
-use Rattle.pv_lex.specs.declared.token_table.TokenKind.{TokenKind}
-use Rattle.pv_lex.specs.declared.token_table.TokenKind.TheVariants as kind
-use Rattle.pv_lex.specs.Pieces.{Said, Name, Text, Keyword, Number, Character, Punctuator}
-use Rattle.pv_lex.specs.Rows.{Spelt}
-use Rattle.pv_lex.specs.Lexes.{Table, Tells, Adds, IsKnown, KnowsAll, says, spelt_of, with_name, names_with, names_from, text_number}
-use Rattle.pv_lex.proofs.Growing.{adds_plain, adds_name, adds_text, with_token, spelt_as, last_text}
+use Rattle.pv_token.specs.declared.token_table.Token.{Token}
+use Rattle.pv_token.specs.declared.token_table.TokenKind.{TokenKind}
+use Rattle.pv_token.specs.declared.token_table.TokenKind.TheVariants as kind
+use Rattle.pv_token.specs.Said.{Said, Name, Text, Keyword, Number, Character, Punctuator, Spelt}
+use Rattle.pv_token.specs.Table.{Table, Tells, Adds, IsKnown, KnowsAll, says, spelt_of, with_name, names_with, names_from, text_number}
+use Rattle.pv_token.proofs.Growing.{adds_plain, adds_name, adds_text, with_token, spelt_as, last_text}
 
 -- There is a table.
 

@@ -10,12 +10,11 @@ use Rattle.std.proofs.lemmas.Option.{slice_get-map, slice_get-get_or}
 use Rattle.std.proofs.lemmas.List.Quantifiers.{position-Some}
 use Rattle.std.proofs.lemmas.Slice.Eq.{bytes_eq-Decides}
 use Rattle.indexmap.specs.IndexSet.{insert_key}
-use Rattle.pv_lex.specs.declared.token_table.Token.{Token}
-use Rattle.pv_lex.specs.declared.token_table.TokenKind.{TokenKind}
-use Rattle.pv_lex.specs.declared.token_table.TokenKind.TheVariants as kind
-use Rattle.pv_lex.specs.Pieces.{Said, Name, Text, Keyword, Number, Character, Punctuator}
-use Rattle.pv_lex.specs.Rows.{Spelt}
-use Rattle.pv_lex.specs.Lexes.{Table, Adds, says, spelt_of, with_name, names_with, names_from, text_of, texts_of, text_number}
+use Rattle.pv_token.specs.declared.token_table.Token.{Token}
+use Rattle.pv_token.specs.declared.token_table.TokenKind.{TokenKind}
+use Rattle.pv_token.specs.declared.token_table.TokenKind.TheVariants as kind
+use Rattle.pv_token.specs.Said.{Said, Name, Text, Keyword, Number, Character, Punctuator, Spelt}
+use Rattle.pv_token.specs.Table.{Table, Adds, says, spelt_of, with_name, names_with, names_from, text_of, texts_of, text_number}
 
 abbrev bytes_of : Vec ℕ Global → List ℕ
 bytes_of v = v.items

@@ -1,9 +1,9 @@
 use Rattle.std.proofs.Common.{Some, rules, refl, ap, ◌∙◌}
 use Rattle.std.proofs.lemmas.Int.{to_z-of_z}
 use Rattle.std.specs.Int.{w32}
-use Rattle.pv_lex.specs.Pieces.{Character}
-use Rattle.pv_lex.proofs.Growing.{onward, adds_plain, adds_name, adds_text}
-use Rattle.pv_lex.proofs.token_table.Tokens.add_token.Goals as goal
+use Rattle.pv_token.specs.Said.{Character}
+use Rattle.pv_token.proofs.Growing.{onward, adds_plain, adds_name, adds_text}
+use Rattle.pv_token.proofs.token_table.Tokens.add_token.Goals as goal
 
 pub returns-in-Keyword : goal.returns-in-Keyword
 returns-in-Keyword c = rw c.in-Keyword.is (onward c.push.result (adds_plain _ _ _ _ _ _ (λ ns xs. refl) (λ ns. refl) refl refl) c.push.ensures)

@@ -1,13 +1,11 @@
 //! The tokens of a source, with their names and literals.
 ghost use Rattle.std.specs.Prelude.{◌≡◌, ◌≤◌, ◌<◌, ◌+◌, ◌^◌, List, [], ◌∷◌, ◌++◌, length, map, Some, slice_get, slice_index, IfOk, OnOk};
-ghost use Rattle.pv_lex.specs.Characters.{as_char};
-ghost use Rattle.pv_lex.specs.Rows.{Spelt, spelt_here};
-ghost use Rattle.pv_lex.specs.Lexes.{Table, HasRoom, Adds, with_name};
-ghost use Rattle.pv_lex.specs.Views.{said_of, what_of};
+ghost use Rattle.pv_token.specs.Said.{Spelt, as_char, said_of};
+ghost use Rattle.pv_token.specs.Table.{Table, HasRoom, Adds, with_name};
 
 use crate::error::NoMemory;
+use crate::kinds::Kind;
 use crate::marks::Mark;
-use crate::pieces::{Found, Kind};
 use crate::words::Word;
 use indexmap::IndexSet;
 use std::alloc::Global;
@@ -101,7 +99,7 @@ fn as_char(b: u8) -> i32
 
 impl Tokens {
     /// No tokens, which take no memory.
-    pub(crate) fn new(alloc: Global) -> Tokens
+    pub fn new(alloc: Global) -> Tokens
         ensures { result ≡ record { tokens = []; names = []; texts = [] } }
     {
         Tokens {
@@ -111,27 +109,8 @@ impl Tokens {
         }
     }
 
-    /// Takes a piece in: a token is kept, and any other piece is not.
-    pub(crate) fn add(
-        &mut self,
-        alloc: Global,
-        found: Found<'_>,
-        start: u32,
-        line: u32,
-    ) -> Result<(), NoMemory>
-        requires { HasRoom self.old }
-        ensures { OnOk result (Adds self.old self.new (spelt_here start line (what_of found.entry))) }
-    {
-        match found {
-            Found::White(_) => Ok(()),
-            Found::Comment(_) => Ok(()),
-            Found::Marker(_) => Ok(()),
-            Found::Spelling(kind) => self.add_token(alloc, kind, start, line),
-        }
-    }
-
     /// Keeps a token, and the name or the string literal that it stands for.
-    fn add_token(
+    pub fn add_token(
         &mut self,
         alloc: Global,
         kind: Kind<'_>,

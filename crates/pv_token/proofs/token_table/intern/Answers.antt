@@ -1,7 +1,7 @@
 use Rattle.std.proofs.Common.{sym, ap, ◌∙◌, map, Some}
-use Rattle.pv_lex.specs.Lexes.{with_name}
-use Rattle.pv_lex.proofs.Growing.{keys_named, number_named, known_name}
-use Rattle.pv_lex.proofs.token_table.intern.Goals as goal
+use Rattle.pv_token.specs.Table.{with_name}
+use Rattle.pv_token.proofs.Growing.{keys_named, number_named, known_name}
+use Rattle.pv_token.proofs.token_table.intern.Goals as goal
 
 pub returns-in-Some-clause-keys : goal.returns-in-Some-clause-keys
 returns-in-Some-clause-keys c = (known_name c.args.names.now.keys c.args.text.now c.in-Some.index (sym c.in-Some.ensures.index)).0

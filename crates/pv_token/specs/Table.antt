@@ -1,0 +1,97 @@
+-- The table of tokens, with their names and literals.
+use Rattle.std.specs.Prelude.{◌≡◌, ℕ, ◌+◌, ◌<◌, ◌^◌, if◌then◌else◌, List, [], ◌∷◌, ◌++◌, length, map, Option, Some, option_map, nat_eq, slice_get}
+use Rattle.std.specs.List.{range_with_len, list_any, flat_map}
+use Rattle.std.specs.Cmp.Lexicographic.{pointwise}
+use Rattle.pv_token.specs.declared.token_table.Token.{Token}
+use Rattle.pv_token.specs.declared.token_table.TokenKind.{TokenKind}
+use Rattle.pv_token.specs.declared.token_table.TokenKind.TheVariants as kind
+use Rattle.pv_token.specs.Said.{Said, Name, Text, Keyword, Number, Character, Punctuator, Spelt}
+
+-- What a caller sees of `Tokens`: the tokens (6.4p1), the different identifiers (6.4.2.1), and the decoded bytes of each string literal (6.4.5).
+pub record Table : Type 0 where
+  pub tokens : List Token
+  pub names : List (List ℕ)
+  pub texts : List (List ℕ)
+
+-- One more token, name or literal still has a number that is a `u32`: a source may have as many as it has bytes (5.2.4.1p1).
+pub record HasRoom (t : Table) : Type 0 where
+  pub tokens : length t.tokens + 1 < 2 ^ 32
+  pub names : length t.names + 1 < 2 ^ 32
+  pub texts : length t.texts + 1 < 2 ^ 32
+
+-- What a token says, with its identifier or its literal looked up (6.4p1).
+abbrev pub says : (names texts : List (List ℕ)) → TokenKind → Option Said
+says names texts (kind.Word w) = Some (Keyword w)
+says names texts (kind.Name n) = option_map Name (slice_get names n)
+says names texts (kind.Number value decimal unsigned longs) = Some (Number value decimal unsigned longs)
+says names texts (kind.Character value) = Some (Character value)
+says names texts (kind.Text n) = option_map Text (slice_get texts n)
+says names texts (kind.Mark m) = Some (Punctuator m)
+
+-- A token of the table as a token of the source (6.4p1).
+abbrev pub spelt_of : (names texts : List (List ℕ)) → Token → Option Spelt
+spelt_of names texts t = option_map (λ s. record { said = s; start = t.start; line = t.line }) (says names texts t.kind)
+
+-- The number of a token's identifier or literal is one of the table's (6.4.2.1, 6.4.5).
+abbrev pub IsKnown : Table → TokenKind → Type 0
+IsKnown t (kind.Word w) = Unit {0}
+IsKnown t (kind.Name n) = n < length t.names
+IsKnown t (kind.Number value decimal unsigned longs) = Unit {0}
+IsKnown t (kind.Character value) = Unit {0}
+IsKnown t (kind.Text n) = n < length t.texts
+IsKnown t (kind.Mark m) = Unit {0}
+
+-- Every token's number may be looked up (6.4p1).
+abbrev pub KnowsAll : Table → Type 0
+KnowsAll t = (i : ℕ) (k : Token) → slice_get t.tokens i ≡ Some k → IsKnown t k.kind
+
+-- A name that is new goes behind the others; two identifiers are one where all bytes are the same (6.4.2.1p5).
+abbrev pub with_name : List (List ℕ) → List ℕ → List (List ℕ)
+with_name names name = if list_any (pointwise nat_eq name) names then names else names ++ name ∷ []
+
+-- The names with that of a token, if it is an identifier (6.4.2.1).
+abbrev pub names_with : List (List ℕ) → Said → List (List ℕ)
+names_with names (Keyword w) = names
+names_with names (Name text) = with_name names text
+names_with names (Number value decimal unsigned longs) = names
+names_with names (Character value) = names
+names_with names (Text bytes) = names
+names_with names (Punctuator m) = names
+
+-- The names, and then the different identifiers among these tokens in the order of their first places (6.4.2.1).
+abbrev pub names_from : List (List ℕ) → List Spelt → List (List ℕ)
+names_from names [] = names
+names_from names (s ∷ ss) = names_from (names_with names s.said) ss
+
+-- The bytes of a token, if it is a string literal (6.4.5).
+abbrev pub text_of : Said → List (List ℕ)
+text_of (Keyword w) = []
+text_of (Name text) = []
+text_of (Number value decimal unsigned longs) = []
+text_of (Character value) = []
+text_of (Text bytes) = bytes ∷ []
+text_of (Punctuator m) = []
+
+-- Every string literal, in order; adjacent ones stay apart (6.4.5: they are joined in a later phase, 5.1.1.2p1).
+abbrev pub texts_of : List Spelt → List (List ℕ)
+texts_of ss = flat_map (λ s. text_of s.said) ss
+
+-- The number of a token, if it is a string literal (6.4.5).
+abbrev pub text_number : TokenKind → List ℕ
+text_number (kind.Word w) = []
+text_number (kind.Name n) = []
+text_number (kind.Number value decimal unsigned longs) = []
+text_number (kind.Character value) = []
+text_number (kind.Text n) = n ∷ []
+text_number (kind.Mark m) = []
+
+-- The table tells these tokens (6.4p1): each token is the one of its place, the names are theirs in the order of first places (6.4.2.1), and the literals are theirs in order and numbered in order (6.4.5).
+pub record Tells (t : Table) (ss : List Spelt) : Type 0 where
+  pub tokens : map (spelt_of t.names t.texts) t.tokens ≡ map Some ss
+  pub names : t.names ≡ names_from [] ss
+  pub texts : t.texts ≡ texts_of ss
+  pub in_order : flat_map (λ k. text_number k.kind) t.tokens ≡ range_with_len 0 (length t.texts)
+
+-- The new table tells what the old one told, and then these tokens (6.4p1).
+abbrev pub Adds : (old new : Table) → List Spelt → Type 0
+Adds old new more = (ss : List Spelt) → Tells old ss → Tells new (ss ++ more)
