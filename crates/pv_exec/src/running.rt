@@ -12,7 +12,7 @@ use pv_starter::{NoMemory, Program};
 use std::alloc::Global;
 
 /// How a run ended. Lines are counted from 1, as line markers set them.
-#[derive(Clone, Copy, Debug)]
+#[derive(Clone, Copy)]
 pub enum Outcome {
     /// `main` returned this status (C17 5.1.2.2.3).
     Exit { status: i32 },
@@ -25,7 +25,7 @@ pub enum Outcome {
 }
 
 /// A run that ended.
-#[derive(Clone, Copy, Debug)]
+#[derive(Clone, Copy)]
 pub struct Ran {
     pub outcome: Outcome,
     /// How many turns were taken: one for each node that was evaluated and each statement that was executed.
