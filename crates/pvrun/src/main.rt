@@ -1,18 +1,10 @@
 //! Runs one C source as the words of the command line ask.
 //!
-//! `main` makes the real files and the real output and calls [`serve`], which does all the rest over whatever files
-//! and sinks it is handed: it reads the words, reads the source, judges it, and reports.
+//! `main` makes the real files and the real output and calls [`serve`], which does all the rest.
 #![tactic(auto)]
 
-mod error;
-mod judging;
-mod report;
-mod serving;
-mod words;
-
-pub use error::NoMemory;
 use pv_script::{DiskFiles, Printed};
-pub use serving::{serve, serve_calmly};
+use pv_serve::{NO_MEMORY, NoMemory, serve};
 use std::alloc::Global;
 use std::process::ExitCode;
 use std::rt::Env;
@@ -24,7 +16,7 @@ fn main(rt: HostRuntime) -> ExitCode {
     let mut out = Printed::new(io::writer(&rt));
     let mut report = Printed::new(io::writer(&rt));
     match words_asked(&rt, alloc) {
-        Err(_) => ExitCode::from(serving::NO_MEMORY),
+        Err(_) => ExitCode::from(NO_MEMORY),
         Ok(words) => ExitCode::from(serve(
             alloc,
             words.as_slice(),

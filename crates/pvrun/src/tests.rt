@@ -1,5 +1,6 @@
-use super::*;
 use pv_script::{CalmFiles, CalmSink, MemFiles, MemSink};
+use pv_serve::{NoMemory, serve, serve_calmly};
+use std::alloc::Global;
 use std::process::Abort;
 use std::test::*;
 
@@ -287,11 +288,22 @@ fn a_report_that_is_refused_is_a_prefix(rt: HostRuntime) -> Result<(), NoMemory>
                 write: refused as u64,
                 most,
             };
-            let told = told(alloc, SHORTEST.as_bytes(), "run a.c", devices)?;
-            let wanted = cut_off(alloc, most * (refused - 1))?;
-            assert!(rt; told.as_str() == wanted.as_str(), "at {most} and {refused}");
+            is_cut_off(&rt, alloc, devices, most * (refused - 1))?;
         }
     }
+    Ok(())
+}
+
+// What is told by devices that take so many bytes of the report.
+fn is_cut_off(
+    rt: &impl Abort,
+    alloc: Global,
+    devices: Devices,
+    room: usize,
+) -> Result<(), NoMemory> {
+    let told = told(alloc, SHORTEST.as_bytes(), "run a.c", devices)?;
+    let wanted = cut_off(alloc, room)?;
+    assert!(rt; told.as_str() == wanted.as_str(), "{room} bytes: {told:?}");
     Ok(())
 }
 
@@ -317,10 +329,7 @@ fn has_its_row(rt: &impl Abort, alloc: Global, fault: &Fault) -> Result<(), NoMe
         most: 3,
     };
     let told = told(alloc, SHORTEST.as_bytes(), words, devices)?;
-    assert!(rt;
-        told.as_str() == wanted,
-        "{words} at {read} and {write}: {told:?}"
-    );
+    assert!(rt; told.as_str() == wanted, "{words}: {told:?}");
     Ok(())
 }
 
@@ -400,8 +409,7 @@ fn long_sources_are_told(rt: HostRuntime) -> Result<(), NoMemory> {
     let alloc = rt.alloc();
     for row in &rows_of(alloc, long_rows::LONG)? {
         let source = repeated(alloc, row.source(), times_of(row.options))?;
-        let told = told(alloc, source.as_bytes(), "run a.c", SOUND)?;
-        expect(&rt, row.source(), row.options, told.as_str(), row.wanted);
+        agrees(&rt, alloc, source.as_str(), "", row.wanted)?;
     }
     Ok(())
 }
@@ -434,10 +442,15 @@ fn want_of_memory_reports_nothing(rt: HostRuntime) {
 // Where memory is wanting, nothing is reported; else the row's line is.
 fn each_row_is_told_or_nothing(rt: &impl Abort, alloc: Global) -> Result<(), NoMemory> {
     for row in &rows_of(alloc, rows::SHOWN)? {
-        let told = calmly_told(alloc, row.source().as_bytes(), "run a.c")?;
-        if told.as_str() != "13 " {
-            expect(rt, row.source(), "", told.as_str(), row.wanted);
-        }
+        is_told_or_nothing(rt, alloc, row)?;
+    }
+    Ok(())
+}
+
+fn is_told_or_nothing(rt: &impl Abort, alloc: Global, row: &Row<'_>) -> Result<(), NoMemory> {
+    let told = calmly_told(alloc, row.source().as_bytes(), "run a.c")?;
+    if told.as_str() != "13 " {
+        expect(rt, row.source(), "", told.as_str(), row.wanted);
     }
     Ok(())
 }

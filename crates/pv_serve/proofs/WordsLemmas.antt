@@ -1,0 +1,76 @@
+-- The digits of a number, one after the other.
+use Rattle.std.proofs.Common.{◌≡◌, ◌≢◌, ℕ, ◌+◌, ◌-◌, ◌*◌, ◌<◌, ◌≤◌, List, [], ◌∷◌, Bool, true, false, drop, get_or, length, refl, sym, ◌∙◌, ap, arith, add-one, drop-cons}
+use Rattle.std.specs.Prelude.{Option, Some, None, IfSome, if◌then◌else◌, ◌==◌}
+use Rattle.std.specs.Char.{is_ascii_digit}
+use Rattle.std.proofs.lemmas.List.{drop_all}
+use Rattle.std.proofs.lemmas.Bool.Decides.{nat_tests}
+use Rattle.pv_serve.specs.Words.{digits_from, up_to, turns_of}
+
+if_some : (b : Bool) (o : Option ℕ) (m n : ℕ) → m ≤ n → IfSome o (λ k. n ≤ k) → IfSome (if b then o else None) (λ k. m ≤ k)
+if_some true None m n le h = tt
+if_some true (Some k) m n le h = omega arith
+if_some false o m n le h = tt
+
+-- more digits make no smaller number
+grows : (n : ℕ) (ds : List ℕ) → IfSome (digits_from n ds) (λ m. n ≤ m)
+grows n [] = omega arith
+grows n (d ∷ ds) = if_some (is_ascii_digit d) (digits_from (n * 10 + (d - 48)) ds) n (n * 10 + (d - 48)) (omega arith) (grows (n * 10 + (d - 48)) ds)
+
+one_digit : (n : ℕ) (ds : List ℕ) (i : ℕ) → i < length ds → digits_from n (drop i ds) ≡ (if is_ascii_digit (get_or ds i 0) then digits_from (n * 10 + (get_or ds i 0 - 48)) (drop (i + 1) ds) else None)
+one_digit n ds i h =
+    let e : drop i ds ≡ get_or ds i 0 ∷ drop (i + 1) ds = rw (add-one, drop-cons ds i 0) refl in
+    ap (digits_from n) e
+
+-- a digit more
+pub next_digit : (n : ℕ) (ds : List ℕ) (i : ℕ) (all : Option ℕ) → i < length ds → is_ascii_digit (get_or ds i 0) ≡ true → digits_from n (drop i ds) ≡ all → digits_from (n * 10 + (get_or ds i 0 - 48)) (drop (i + 1) ds) ≡ all
+next_digit n ds i all h is e = sym (one_digit n ds i h ∙ ap (λ b. if b then digits_from (n * 10 + (get_or ds i 0 - 48)) (drop (i + 1) ds) else None) is) ∙ e
+
+turns_is : (ds : List ℕ) → 0 < length ds → get_or ds 0 0 ≢ 48 → turns_of ds ≡ up_to 100000000 (digits_from 0 ds)
+turns_is [] h first = absurd (omega arith)
+turns_is (d ∷ ds) h first = grind arith
+
+too_large : (o : Option ℕ) (n : ℕ) → 100000000 < n → IfSome o (λ m. n ≤ m) → up_to 100000000 o ≡ None
+too_large None n lt h = refl
+too_large (Some m) n lt h = grind arith
+
+small_enough : (n : ℕ) → n ≤ 100000000 → up_to 100000000 (Some n) ≡ Some n
+small_enough n le = grind arith
+
+-- what is no digit
+pub no_digit : (n : ℕ) (ds : List ℕ) (i : ℕ) → 0 < length ds → get_or ds 0 0 ≢ 48 → i < length ds → is_ascii_digit (get_or ds i 0) ≡ false → digits_from n (drop i ds) ≡ digits_from 0 ds → None ≡ turns_of ds
+no_digit n ds i some first h is e =
+    let none : digits_from n (drop i ds) ≡ None = one_digit n ds i h ∙ ap (λ b. if b then digits_from (n * 10 + (get_or ds i 0 - 48)) (drop (i + 1) ds) else None) is in
+    sym (turns_is ds some first ∙ ap (up_to 100000000) (sym e ∙ none))
+
+-- a number that is too large already
+pub no_more_digits : (n : ℕ) (ds : List ℕ) (i : ℕ) → 0 < length ds → get_or ds 0 0 ≢ 48 → 100000000 < n → digits_from n (drop i ds) ≡ digits_from 0 ds → None ≡ turns_of ds
+no_more_digits n ds i some first lt e =
+    sym (turns_is ds some first ∙ (ap (up_to 100000000) (sym e) ∙ too_large (digits_from n (drop i ds)) n lt (grows n (drop i ds))))
+
+-- the last digit
+pub all_digits : (n : ℕ) (ds : List ℕ) → 0 < length ds → get_or ds 0 0 ≢ 48 → n ≤ 100000000 → digits_from n (drop (length ds) ds) ≡ digits_from 0 ds → Some n ≡ turns_of ds
+all_digits n ds some first le e =
+    let end : drop (length ds) ds ≡ [] = drop_all (length ds) ds (omega arith) in
+    let all : digits_from 0 ds ≡ Some n = sym e ∙ ap (digits_from n) end in
+    sym (turns_is ds some first ∙ (ap (up_to 100000000) all ∙ small_enough n le))
+
+digit_above : (d : ℕ) → is_ascii_digit d ≡ true → d ≢ 48 → 0 < d - 48
+digit_above d is not = grind (arith, nat_tests)
+
+first_digit : (b : Bool) (n m : ℕ) (o : Option ℕ) → (b ≡ true → 0 < m) → IfSome o (λ k. m ≤ k) → Some n ≡ (if b then o else None) → 0 < n
+first_digit true n m None above grow e = absurd (cc)
+first_digit true n m (Some k) above grow e = let same : n ≡ k = cc in omega (arith, above refl)
+first_digit false n m o above grow e = absurd (cc)
+
+-- digits that do not begin with 0 spell a number above 0
+pub spells_some : (n : ℕ) (ds : List ℕ) (i : ℕ) → 0 < length ds → get_or ds 0 0 ≢ 48 → length ds ≤ i → digits_from n (drop i ds) ≡ digits_from 0 ds → 0 < n
+spells_some n [] i some first end e = absurd (omega arith)
+spells_some n (d ∷ ds) i some first end e =
+    first_digit (is_ascii_digit d) n (0 * 10 + (d - 48)) (digits_from (0 * 10 + (d - 48)) ds)
+    (λ is. omega (arith, digit_above d is first))
+    (grows (0 * 10 + (d - 48)) ds)
+    (sym (ap (digits_from n) (drop_all i (d ∷ ds) end)) ∙ e)
+
+-- what `is_empty` answers
+pub has_some : (b : Bool) (ds : List ℕ) → b ≡ (length ds == 0) → b ≡ false → 0 < length ds
+has_some b ds is none = grind (arith, nat_tests)
