@@ -16,7 +16,7 @@ use Rattle.pv_tree.specs.Nodes.{declarator_of}
 use Rattle.pv_tree.specs.Places.{Parameters, may_be_variadic}
 use Rattle.pv_tree.specs.Spelling.{listed_tokens, variadic_tokens}
 use Rattle.pv_tree.specs.Syntax.{AbstractFunction, Tree, OfDeclarator, Trees, NoTrees, Absent}
-use Rattle.pv_tree.specs.Tables.{Forest, Tables, tree_at, is_declarator, Extends}
+use Rattle.pv_tree.specs.Tables.{Forest, Tables, tree_at, is_declarator, HasList, Extends}
 use Rattle.pv_tree.specs.TypeNames.{TypeMap, AreTied}
 use Rattle.pv_tree.specs.Units.{depth_limit}
 use Rattle.pv_tree.proofs.Kept.{tree_kept, is_kept}
@@ -80,6 +80,10 @@ no_lists lists e at = elim (leb_tells lists.to at) [
   | inl h ↦ filled_beyond lists.to lists.found.items at h.1
   | inr h ↦ filled_before lists.to lists.found.items at (omega (arith, h.1, ap length e))
 ]
+
+-- a list whose members stand before a node of a unit is a list of the unit
+pub list_below : (f : Forest) (kind : Tree → Bool) (n count : ℕ) (l : ListId) → n < count → HasList f n kind l → HasList f count kind l
+list_below f kind n count l before h = (h.0, λ k d lt. let x = h.1 k d lt in (omega (arith, x.0, before), x.1))
 
 -- ---- a list of parameters, for one depth and for another
 

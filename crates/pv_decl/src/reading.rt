@@ -2,7 +2,7 @@
 ghost use Rattle.std.specs.Prelude.{◌≡◌, ◌≤◌, length, drop, Some, IfOk, IfSome, option_and_then};
 ghost use Rattle.pv_tree.specs.Places.{Specifiers, Members, Enumerators, Parameters};
 ghost use Rattle.pv_tree.specs.Rows.{tables};
-ghost use Rattle.pv_tree.specs.Syntax.{Composite, Enumeration, OfSpecifier, NoTrees};
+ghost use Rattle.pv_tree.specs.Syntax.{NoTrees};
 ghost use Rattle.pv_tree.specs.Tables.{tree_at, optional_at, is_declaration, is_declarator, is_specifier, Is, Extends};
 ghost use Rattle.pv_expr_forms.specs.Known.{names_in};
 ghost use Rattle.pv_expr_forms.specs.Reader.{after};
@@ -12,17 +12,18 @@ ghost use Rattle.pv_decl_forms.specs.Givens.{AreGiven};
 ghost use Rattle.pv_decl_forms.specs.Rows.{AreAnswered};
 ghost use Rattle.pv_decl_forms.specs.declared.forms.Part.TheVariants as part;
 ghost use Rattle.pv_decl_forms.specs.Declarators.{consts_in_row, grown, head, longer, opened, parametrized, pointer};
-ghost use Rattle.pv_decl_forms.specs.Parts.{kind_of_part, place_of_part, word_of_composite, word_of_tag, within, function_of};
+ghost use Rattle.pv_decl_forms.specs.Parts.{kind_of_part, place_of_part, word_of_tag, within, function_of};
 ghost use Rattle.pv_decl_forms.specs.Pieces.{is_open_brace, row, listed};
-ghost use Rattle.pv_decl_forms.specs.Reader.{readers, braced, listed_in_braces, row_in_braces, tag_at, with_tag};
+ghost use Rattle.pv_decl_forms.specs.Reader.{readers, braced};
 
 use crate::lists::DEPTH_LIMIT;
 use crate::source::Source;
 use pv_decl_forms::{
-    CompositeWord, Form, Opening, Part, Sign, TagWord, after, composite, consts_in_row,
-    enumeration, function_of, line_at, may_go_on, member_of, named, opening_of, opens_parameters,
-    parameter_of, parenthesized, peek, plain, pointed, tag_alone, tag_at, tag_word,
+    Form, Opening, Part, Sign, TagWord, after, composite, consts_in_row, enumeration, function_of,
+    line_at, may_go_on, member_of, named, opening_of, opens_parameters, parameter_of,
+    parenthesized, plain, pointed, tag_alone, tag_at, tag_word,
 };
+use pv_expr_forms::peek;
 use pv_token::NoMemory;
 use pv_tree::{NodeId, TypeReader, Unit};
 
@@ -105,7 +106,8 @@ impl<R: TypeReader> Source<'_, R> {
         }
     }
 
-    // A specifier (C17 6.7p1).
+    // A specifier (C17 6.7p1). Where the braces behind `struct`, `union` or `enum` can't be read, it
+    // is the tag alone (C17 6.7.2.1 to 6.7.2.3).
     #[cycle(reading)]
     #[tactic(auto, using(pv_tree::proofs::Kept::extends_same))]
     fn specifier(
@@ -125,30 +127,10 @@ impl<R: TypeReader> Source<'_, R> {
         let Some(word) = tag_word(token.kind) else {
             return plain(self.tokens, self.typedefs, at + 1, token, into);
         };
-        self.tagged(at + 1, word, token.line, depth, into)
-    }
-
-    // What stands behind `struct`, `union` or `enum`: where its braces can't be read, the tag alone
-    // (C17 6.7.2.1 to 6.7.2.3).
-    #[cycle(reading)]
-    #[tactic(auto, using(pv_tree::proofs::Kept::extends_same))]
-    fn tagged(
-        &self,
-        at: u32,
-        word: TagWord,
-        line: u32,
-        depth: u32,
-        into: &mut Unit,
-    ) -> Result<Option<(NodeId, u32)>, NoMemory>
-        requires place { at ≤ length self.now.tokens.now.tokens }
-        requires tied { AreGiven (list_map self.now.lists.now) self.now.typedefs.now (R.types self.now.reader.now) (tables into.old) self.now.tokens.now.tokens }
-        ensures keeps { Extends (tables into.old) (tables into.new) }
-        ensures ok { IfOk result (λ r. Answers (tables into.new) is_specifier self.now.tokens.now.tokens r (with_tag (within (names_in self.now.typedefs.now (R.types self.now.reader.now) (tables into.old) self.now.tokens.now.tokens) depth) line (word_of_tag word) (tag_at (drop at self.now.tokens.now.tokens)))) }
-    {
-        let (tag, next) = tag_at(self.tokens, at);
-        match self.braced(next, word, tag, line, depth, into)? {
+        let (tag, next) = tag_at(self.tokens, at + 1);
+        match self.braced(next, word, tag, token.line, depth, into)? {
             Some(found) => Ok(Some(found)),
-            None => tag_alone(self.tokens, next, word, tag, line, into),
+            None => tag_alone(self.tokens, next, word, tag, token.line, into),
         }
     }
 
@@ -177,52 +159,15 @@ impl<R: TypeReader> Source<'_, R> {
             return Ok(None);
         }
         match word {
-            TagWord::Enum => self.enumerators(inside, tag, line, depth - 1, into),
+            TagWord::Enum => {
+                let (enumerators, end) = self.listed(Part::Enumerator, inside, depth - 1, into)?;
+                enumeration(self.tokens, end, tag, &enumerators, line, into)
+            }
             TagWord::Composite(composite_word) => {
-                self.members(inside, composite_word, tag, line, depth - 1, into)
+                let (members, end) = self.row(Part::Member, inside, depth - 1, into)?;
+                composite(self.tokens, end, composite_word, tag, &members, line, into)
             }
         }
-    }
-
-    // An enumeration, from behind its `{` on (C17 6.7.2.2p1).
-    #[cycle(reading)]
-    #[tactic(auto, using(pv_tree::proofs::Kept::extends_same))]
-    fn enumerators(
-        &self,
-        at: u32,
-        tag: Option<u32>,
-        line: u32,
-        below: u32,
-        into: &mut Unit,
-    ) -> Result<Option<(NodeId, u32)>, NoMemory>
-        requires place { at ≤ length self.now.tokens.now.tokens }
-        requires tied { AreGiven (list_map self.now.lists.now) self.now.typedefs.now (R.types self.now.reader.now) (tables into.old) self.now.tokens.now.tokens }
-        ensures keeps { Extends (tables into.old) (tables into.new) }
-        ensures ok { IfOk result (λ r. Answers (tables into.new) is_specifier self.now.tokens.now.tokens r (listed_in_braces (λ trees comma. OfSpecifier (Enumeration line tag trees comma)) (listed (readers (names_in self.now.typedefs.now (R.types self.now.reader.now) (tables into.old) self.now.tokens.now.tokens) below Enumerators) (drop at self.now.tokens.now.tokens)))) }
-    {
-        let (parts, end) = self.listed(Part::Enumerator, at, below, into)?;
-        enumeration(self.tokens, end, tag, &parts, line, into)
-    }
-
-    // A structure or union, from behind its `{` on (C17 6.7.2.1p1).
-    #[cycle(reading)]
-    #[tactic(auto, using(pv_tree::proofs::Kept::extends_same))]
-    fn members(
-        &self,
-        at: u32,
-        composite_word: CompositeWord,
-        tag: Option<u32>,
-        line: u32,
-        below: u32,
-        into: &mut Unit,
-    ) -> Result<Option<(NodeId, u32)>, NoMemory>
-        requires place { at ≤ length self.now.tokens.now.tokens }
-        requires tied { AreGiven (list_map self.now.lists.now) self.now.typedefs.now (R.types self.now.reader.now) (tables into.old) self.now.tokens.now.tokens }
-        ensures keeps { Extends (tables into.old) (tables into.new) }
-        ensures ok { IfOk result (λ r. Answers (tables into.new) is_specifier self.now.tokens.now.tokens r (row_in_braces (λ trees. OfSpecifier (Composite line (word_of_composite composite_word) tag trees)) (row (readers (names_in self.now.typedefs.now (R.types self.now.reader.now) (tables into.old) self.now.tokens.now.tokens) below Members) NoTrees (drop at self.now.tokens.now.tokens)))) }
-    {
-        let (parts, end) = self.row(Part::Member, at, below, into)?;
-        composite(self.tokens, end, composite_word, tag, &parts, line, into)
     }
 
     // A member declaration, to behind its `;` (C17 6.7.2.1p1).
@@ -363,7 +308,8 @@ impl<R: TypeReader> Source<'_, R> {
         }
     }
 
-    /// Parameters behind a declarator that may be left out, from behind the `(` on (C17 6.7.6.3).
+    /// Parameters behind a declarator that may be left out, from behind the `(` on (C17 6.7.6.3):
+    /// the list that is known of the place, or else the one that is read.
     #[cycle(reading)]
     #[tactic(auto, using(pv_tree::proofs::Kept::extends_same))]
     pub(crate) fn parameters(
@@ -385,26 +331,6 @@ impl<R: TypeReader> Source<'_, R> {
                 return self.known_parameters(at, list, left, line, below, into);
             }
         }
-        self.unknown_parameters(at, left, line, below, into)
-    }
-
-    // The same, where it is not known which they are.
-    #[cycle(reading)]
-    #[tactic(auto, using(pv_tree::proofs::Kept::extends_same))]
-    fn unknown_parameters(
-        &self,
-        at: u32,
-        left: Option<NodeId>,
-        line: u32,
-        below: u32,
-        into: &mut Unit,
-    ) -> Result<Option<(NodeId, u32)>, NoMemory>
-        requires place { at ≤ length self.now.tokens.now.tokens }
-        requires tied { AreGiven (list_map self.now.lists.now) self.now.typedefs.now (R.types self.now.reader.now) (tables into.old) self.now.tokens.now.tokens }
-        requires left { IfSome left (λ n. Is (tables into.old) is_declarator n) }
-        ensures keeps { Extends (tables into.old) (tables into.new) }
-        ensures ok { IfOk result (λ r. Answers (tables into.new) is_declarator self.now.tokens.now.tokens r (parametrized (function_of line (optional_at (tables into.old).forest left)) (readers (names_in self.now.typedefs.now (R.types self.now.reader.now) (tables into.old) self.now.tokens.now.tokens) below) (drop at self.now.tokens.now.tokens))) }
-    {
         let (parts, end) = self.listed(Part::Parameter, at, below, into)?;
         function_of(self.tokens, end, left, &parts, line, into)
     }

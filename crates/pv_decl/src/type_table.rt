@@ -16,7 +16,7 @@ ghost use Rattle.pv_decl_forms.specs.TypeNames.{AreTypeNames};
 use crate::lists::{DEPTH_LIMIT, ParameterLists};
 use crate::source::Source;
 use indexmap::IndexSet;
-use pv_decl_forms::{is_open, peek};
+use pv_expr_forms::{is_open, peek};
 use pv_token::{NoMemory, Tokens};
 use pv_tree::{NodeId, TypeReader, Unit};
 use std::alloc::Global;

@@ -15,8 +15,9 @@ ghost use Rattle.pv_decl_forms.specs.Pieces.{optional, value};
 ghost use Rattle.pv_decl_forms.specs.Reader.{readers};
 
 use crate::source::Source;
-use pv_decl_forms::{Form, Sign, after, array_of, found_declaration, is_type, name_of, peek};
+use pv_decl_forms::{Form, Sign, after, array_of, found_declaration, name_of};
 use pv_expr::{Level, expression};
+use pv_expr_forms::{is_type, peek};
 use pv_token::NoMemory;
 use pv_tree::{Decl, NodeId, TypeReader, Unit};
 

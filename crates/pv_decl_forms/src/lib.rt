@@ -17,6 +17,6 @@ pub use pieces::{
     member_of, named, parameter_of, parenthesized, plain, pointed, tag_alone, type_name_of,
 };
 pub use tokens::{
-    after, comma_at, consts_in_row, ellipsis_at, is_open, is_type, line_at, name_of, opening_of,
-    opens_block, opens_parameters, peek, tag_at, tag_word,
+    after, comma_at, consts_in_row, ellipsis_at, line_at, name_of, opening_of, opens_block,
+    opens_parameters, tag_at, tag_word,
 };

@@ -17,8 +17,9 @@ use crate::forms::{CompositeWord, Form, Sign, TagWord};
 use crate::nodes::{
     found_declaration, found_declarator, found_initializer, found_specifier, is_named,
 };
-use crate::tokens::{after, comma_at, ellipsis_at, is_type};
+use crate::tokens::{after, comma_at, ellipsis_at};
 use indexmap::IndexSet;
+use pv_expr_forms::is_type;
 use pv_token::{NoMemory, Token, TokenKind, Tokens, Word};
 use pv_tree::{Decl, Declarator, Init, ListId, NodeId, Spec, Unit};
 

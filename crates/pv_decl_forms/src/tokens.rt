@@ -1,9 +1,8 @@
 //! What the tokens from a place are, as far as that takes no part of a declaration to be read.
-ghost use Rattle.std.specs.Prelude.{◌≡◌, ◌<◌, ◌≤◌, ◌+◌, ◌^◌, Bool, Option, ℕ, List, [], ◌∷◌, length, drop, Some, None, MatchOption, true, nat_eq, option_and_then};
+ghost use Rattle.std.specs.Prelude.{◌≡◌, ◌<◌, ◌≤◌, ◌+◌, ◌^◌, Bool, Option, ℕ, List, length, drop, Some, None, MatchOption, true, option_and_then};
 ghost use Rattle.pv_token.specs.declared.token_table.Token.{Token};
-ghost use Rattle.indexmap.specs.IndexSet.{contains};
-ghost use Rattle.pv_tree.specs.Grammar.{begins_specifiers, line_here};
-ghost use Rattle.pv_expr_forms.specs.Reader.{after, is_comma, is_open};
+ghost use Rattle.pv_tree.specs.Grammar.{line_here};
+ghost use Rattle.pv_expr_forms.specs.Reader.{after, is_comma};
 ghost use Rattle.pv_tree.specs.Tables.{Tables};
 ghost use Rattle.pv_tree.specs.TypeNames.{TypeMap};
 ghost use Rattle.pv_expr_forms.specs.Known.{names_in};
@@ -15,19 +14,8 @@ ghost use Rattle.pv_decl_forms.specs.Grammar.{opens_block};
 
 use crate::forms::{CompositeWord, Opening, Sign, TagWord};
 use indexmap::IndexSet;
-use pv_token::{Mark, Token, TokenKind, Tokens, Word};
-
-/// The token at a place, unless the tokens end there.
-pub fn peek(tokens: &Tokens, at: u32) -> Option<Token>
-    requires { at ≤ length tokens.now.tokens }
-    ensures { MatchOption result (drop at tokens.now.tokens ≡ []) (λ t. (drop at tokens.now.tokens ≡ t ∷ drop (at + 1) tokens.now.tokens) × (at < length tokens.now.tokens) × (at + 1 < 2 ^ 32)) }
-{
-    if at < tokens.len() {
-        Some(tokens.at(at))
-    } else {
-        None
-    }
-}
+use pv_expr_forms::{begins_type, is_close, peek};
+use pv_token::{Mark, TokenKind, Tokens, Word};
 
 /// The line of the token at a place, or 0 where the tokens end.
 pub fn line_at(tokens: &Tokens, at: u32) -> u32
@@ -77,26 +65,6 @@ pub fn consts_in_row(tokens: &Tokens, at: u32) -> (u32, u32)
         next += 1;
     }
     (count, next)
-}
-
-/// Whether a keyword begins specifiers (C17 6.7p1).
-pub fn begins_specifiers(word: Word) -> bool
-    ensures { result ≡ begins_specifiers word }
-{
-    match word {
-        Word::Typedef | Word::Extern | Word::Static | Word::Const => true,
-        Word::Void | Word::Char | Word::Short | Word::Int | Word::Long => true,
-        Word::Signed | Word::Unsigned | Word::Bool => true,
-        Word::Struct | Word::Union | Word::Enum => true,
-        _ => false,
-    }
-}
-
-/// Whether a name is a typedef name (C17 6.7.8).
-pub fn is_type(typedefs: &IndexSet<u32>, name: u32) -> bool
-    ensures { result ≡ contains nat_eq typedefs.now name }
-{
-    typedefs.contains(&name)
 }
 
 /// The name that a token is, a typedef name or not.
@@ -177,18 +145,12 @@ pub fn ellipsis_at(tokens: &Tokens, at: u32) -> (bool, u32)
 }
 
 /// Whether parameters stand behind a `(`, and no declarator.
-#[tactic(auto, unfolding(pv_expr_forms::specs::Known::names_in, pv_tree::specs::TypeNames::names_of))]
 pub fn opens_parameters(tokens: &Tokens, typedefs: &IndexSet<u32>, at: u32) -> bool
     requires { at ≤ length tokens.now.tokens }
     ensures { (types : TypeMap) (u : Tables) → result ≡ opens_parameters (names_in typedefs.now types u tokens.now.tokens) (drop at tokens.now.tokens) }
 {
     match peek(tokens, at) {
-        Some(token) => match token.kind {
-            TokenKind::Mark(Mark::CloseParen) => true,
-            TokenKind::Name(name) => is_type(typedefs, name),
-            TokenKind::Word(word) => begins_specifiers(word),
-            _ => false,
-        },
+        Some(token) => is_close(token.kind) || begins_type(tokens, typedefs, at),
         None => false,
     }
 }
@@ -202,11 +164,4 @@ pub fn opens_block(tokens: &Tokens, at: u32) -> bool
         Some(token) => Sign::OpenBrace.is(token.kind),
         None => false,
     }
-}
-
-/// Whether a token is `(`.
-pub fn is_open(kind: TokenKind) -> bool
-    ensures { result ≡ is_open kind }
-{
-    matches!(kind, TokenKind::Mark(Mark::OpenParen))
 }

@@ -7,6 +7,7 @@ use Rattle.pv_token.specs.declared.token_table.Token.{Token}
 use Rattle.pv_token.specs.declared.token_table.TokenKind.{TokenKind}
 use Rattle.pv_tree.specs.declared.nodes.NodeId.{NodeId}
 use Rattle.pv_tree.specs.Syntax.{ExpressionTree, Member, Arrow, Cast, Tree}
+use Rattle.pv_tree.specs.Depths.{expression_depth}
 use Rattle.pv_tree.specs.Levels.{rank}
 use Rattle.pv_tree.specs.Lines.{expression_line}
 use Rattle.pv_tree.specs.Grammar.{Names, begins_type}
@@ -15,8 +16,8 @@ use Rattle.pv_tree.specs.TypeNames.{TypeMap, names_of, AreTied}
 use Rattle.pv_tree.proofs.Kept.{tree_kept}
 use Rattle.pv_expr_forms.specs.declared.follows.Follow.{Follow}
 use Rattle.pv_expr_forms.specs.declared.follows.Follow.TheVariants as follow
-use Rattle.pv_expr_forms.specs.Follows.{prefix_of}
-use Rattle.pv_expr_forms.specs.Reader.{Read, Reads, read, deeper, head, head_of, opened, closed, measured, grown, longer, goes_on, asked, is_open}
+use Rattle.pv_expr_forms.specs.Follows.{prefix_of, follow_of, follow_rank, follow_left}
+use Rattle.pv_expr_forms.specs.Reader.{Read, Reads, read, deeper, head, head_of, opened, closed, measured, grown, longer, tried, goes_on, asked, is_open}
 use Rattle.pv_expr_forms.specs.Known.{names_in}
 use Rattle.pv_expr_forms.specs.Parts.{leaf_of, measures_type, type_closed, named}
 use Rattle.pv_expr_forms.specs.Answers.{Answers}
@@ -73,6 +74,32 @@ grown_in typedefs types u v tokens tied keeps level below a ts = ap (λ (n : Nam
 pub longer_in : {S : Type 0} (typedefs : IndexSet ℕ S) (types : TypeMap) (u v w : Tables) (tokens : List Token) → AreTied types u tokens → Extends u v → (level below : ℕ) (left : ExpressionTree) (ts : List Token) (answer : Option (NodeId × ℕ))
     → Answers w tokens answer (longer (names_in typedefs types v tokens) (read (names_in typedefs types v tokens) below) level below left ts) → Answers w tokens answer (longer (names_in typedefs types u tokens) (read (names_in typedefs types u tokens) below) level below left ts)
 longer_in typedefs types u v w tokens tied keeps level below left ts answer a = record { is = a.is ∙ ap (λ (n : Names). longer n (read n below) level below left ts) (names_kept typedefs types u v tokens tied keeps); there = a.there }
+
+-- ---- the next longer tree
+
+pub longer_deep : (names : Names) (r : Reads) (level below : ℕ) (left : ExpressionTree) (ts : List Token) → below < expression_depth left → None ≡ longer names r level below left ts
+unfolding longer
+longer_deep names r level below left [] h = refl
+longer_deep names r level below left (t ∷ ts) h = rw (leb_not (expression_depth left) below h) refl
+
+pub longer_end : (names : Names) (r : Reads) (level below : ℕ) (left : ExpressionTree) (ts : List Token) → ts ≡ [] → None ≡ longer names r level below left ts
+unfolding longer
+longer_end names r level below left ts e = rw e refl
+
+module _ (names : Names) (r : Reads) (level below : ℕ) (left : ExpressionTree) (t : Token) (ts rest : List Token) (here : ts ≡ t ∷ rest) (shallow : expression_depth left ≤ below) where
+  longer_tried : (o : Option Follow) → follow_of t.kind ≡ o → tried names r level left o rest ≡ longer names r level below left ts
+  unfolding longer
+  longer_tried o e = rw (here, le-leb (expression_depth left) below shallow, e) refl
+
+  pub longer_other : follow_of t.kind ≡ None → None ≡ longer names r level below left ts
+  unfolding tried
+  longer_other e = longer_tried None e
+
+  pub longer_follows : (f : Follow) → follow_of t.kind ≡ Some f → level ≤ follow_rank f → follow_left f ≤ rank left → goes_on names r left f rest ≡ longer names r level below left ts
+  unfolding tried
+  longer_follows f e tight loose =
+      let go : goes_on names r left f rest ≡ tried names r level left (Some f) rest = rw (le-leb level (follow_rank f) tight, le-leb (follow_left f) (rank left) loose) refl in
+      go ∙ longer_tried (Some f) e
 
 -- ---- behind an opening parenthesis
 

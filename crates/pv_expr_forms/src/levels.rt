@@ -10,7 +10,7 @@ use crate::follows::{Follow, Join};
 use pv_tree::{BinaryOperator, Expr};
 
 /// The levels of expressions that other parts of the grammar have.
-#[derive(Clone, Copy, Debug, PartialEq, Eq)]
+#[derive(Clone, Copy)]
 pub enum Level {
     /// An expression (C17 6.5.17p1).
     Comma,

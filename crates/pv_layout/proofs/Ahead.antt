@@ -1,5 +1,5 @@
 -- The members of a structure that lie ahead, from where the one before them ends.
-use Rattle.std.proofs.Common.{◌≡◌, ◌≢◌, ℕ, suc, ◌+◌, ◌<◌, ◌≤◌, ◌^◌, max, false, IsTrue, List, [], ◌∷◌, length, drop, drop-cons, get_or, add-one, refl, ◌∙◌, ap, subst, arith, is_some}
+use Rattle.std.proofs.Common.{◌≡◌, ◌≢◌, ℕ, suc, ◌+◌, ◌<◌, ◌≤◌, ◌^◌, max, false, IsTrue, List, [], ◌∷◌, length, drop, drop-cons, get_or, add-one, refl, sym, ◌∙◌, ap, subst, arith, is_some, Some}
 use Rattle.std.specs.Int.{next_multiple_of}
 use Rattle.pv_types.specs.declared.terms.Member.{Member}
 use Rattle.pv_types.specs.declared.terms.Term.{Term}
@@ -10,7 +10,7 @@ use Rattle.pv_types.specs.Known.{Known, tree, trees, tree_in, env, named, named_
 use Rattle.pv_types.proofs.Fills.{struct_end-ge}
 use Rattle.pv_types.proofs.Made.{made}
 use Rattle.pv_types.proofs.Peeling.{positive_align}
-use Rattle.pv_layout.specs.Places.{bare, places}
+use Rattle.pv_layout.specs.Places.{bare, place_of, places, struct_places}
 
 -- every member's definition goes less deep
 abbrev pub AreLower : List Entry → ℕ → List Named → Type 0
@@ -91,6 +91,27 @@ pub ahead_next : (m : Known) (tag o p i : ℕ) (items : List Member) (d : Member
     → p ≡ next_multiple_of o (layout_in (env m) (tree m (get_or items i d).t.0)).align + (layout_in (env m) (tree m (get_or items i d).t.0)).size
     → Ahead m tag p (drop (i + 1) items)
 ahead_next m tag o p i items d lt h e = rw (e, add-one) (ahead_step m tag o (get_or items i d) (drop (suc i) items) (front m tag o i items d lt h))
+
+place_first : (m : Known) (name o s : ℕ) (x : Member) (ms : List Member) → x.name ≡ name → s ≡ next_multiple_of o (layout_in (env m) (tree m x.t.0)).align
+    → Some (s, x.t) ≡ place_of name (struct_places m o (x ∷ ms))
+place_first m name o s x ms same e = rw (same, e) (grind arith)
+
+place_later : (m : Known) (name o : ℕ) (x : Member) (ms : List Member) → x.name ≢ name
+    → place_of name (struct_places m (next_multiple_of o (layout_in (env m) (tree m x.t.0)).align + (layout_in (env m) (tree m x.t.0)).size) ms) ≡ place_of name (struct_places m o (x ∷ ms))
+place_later m name o x ms other = grind arith
+
+-- the next member is the one of the name
+pub place_here : (m : Known) (name o s i : ℕ) (items : List Member) (d : Member) → i < length items → (get_or items i d).name ≡ name → s ≡ next_multiple_of o (layout_in (env m) (tree m (get_or items i d).t.0)).align
+    → Some (s, (get_or items i d).t) ≡ place_of name (struct_places m o (drop i items))
+place_here m name o s i items d lt same e =
+    place_first m name o s (get_or items i d) (drop (suc i) items) same e ∙ sym (ap (λ ms. place_of name (struct_places m o ms)) (drop-cons items i d lt))
+
+-- it isn't
+pub place_next : (m : Known) (name o p i : ℕ) (items : List Member) (d : Member) → i < length items → (get_or items i d).name ≢ name
+    → p ≡ next_multiple_of o (layout_in (env m) (tree m (get_or items i d).t.0)).align + (layout_in (env m) (tree m (get_or items i d).t.0)).size
+    → place_of name (struct_places m p (drop (i + 1) items)) ≡ place_of name (struct_places m o (drop i items))
+place_next m name o p i items d lt other e =
+    rw (e, add-one) (place_later m name o (get_or items i d) (drop (suc i) items) other ∙ sym (ap (λ ms. place_of name (struct_places m o ms)) (drop-cons items i d lt)))
 
 -- qualifiers change no layout
 pub bare_size : (env : List Entry) (t : Ty) → (layout_in env (bare t)).size ≡ (layout_in env t).size

@@ -2,12 +2,14 @@
 ghost use Rattle.std.specs.Prelude.{◌≡◌, ◌≤◌, ◌^◌, ◌-◌, ◌+◌, ◌<◌, length, IfSome, Some, None, true, false, not, ◌&&◌, nat_eq, if◌then◌else◌};
 ghost use Rattle.std.specs.Option.{option_map};
 ghost use Rattle.pv_lex.specs.Bytes.{begins, line_feeds};
-ghost use Rattle.pv_lex.specs.Pieces.{Comment, Marker};
+ghost use Rattle.pv_lex.specs.Pieces.{Marker, or_bad};
+ghost use Rattle.pv_lex.specs.Views.{stand_of};
 ghost use Rattle.pv_lex.specs.Comments.{block_comment};
 ghost use Rattle.pv_lex.specs.Markers.{some_of, behind_name, quoted, behind_line_feed, group_at, groups, marker_piece, marker};
 
 use crate::bytes::{Class, behind, is_in, run};
 use crate::numbers::value;
+use crate::pieces::{Fault, Found, Standing};
 
 /// How many lines a byte ends.
 fn line_feed(b: u8) -> u32
@@ -16,21 +18,21 @@ fn line_feed(b: u8) -> u32
     if b == b'\n' { 1 } else { 0 }
 }
 
-/// Behind the `/*` of a comment: its line feeds, and what is left behind it.
-pub(crate) fn block_comment(text: &[u8]) -> Option<(u32, &[u8])>
+/// A comment, behind its `/*`.
+pub(crate) fn block_comment(text: &[u8]) -> Standing<'_>
     requires { length text.now ≤ 2 ^ 20 }
-    ensures { option_map (λ r. record { what = Comment r.0; after = r.1.now }) result ≡ block_comment text.now }
+    ensures { stand_of result ≡ or_bad (block_comment text.now) }
 {
     let mut lines = 0u32;
     let mut rest = text;
     while rest.len() > 0 {
         if rest.starts_with(b"*/") {
-            return Some((lines, behind(rest, 2)));
+            return Standing::Here(Found::Comment(lines), behind(rest, 2));
         }
         lines += line_feed(rest[0]);
         rest = behind(rest, 1);
     }
-    None
+    Standing::Bad(Fault::BadToken)
 }
 
 /// At least one byte of the class, and what is left.

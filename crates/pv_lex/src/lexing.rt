@@ -1,5 +1,5 @@
 //! From the bytes of a source to its tokens.
-ghost use Rattle.std.specs.Prelude.{◌≡◌, ◌++◌, Bool, ◌≤◌, ◌<◌, ◌^◌, length, IfOk, OnOk, IfErr, List, ℕ, ◌⊎◌, true, false, Some, slice_get, slice_index, nat_eq};
+ghost use Rattle.std.specs.Prelude.{◌≡◌, ◌++◌, [], Bool, ◌≤◌, ◌<◌, ◌^◌, length, IfOk, OnOk, IfErr, List, ℕ, ◌⊎◌, true, false, Some, slice_get, slice_index, nat_eq};
 ghost use Rattle.pv_lex.specs.Rows.{Place, Row, start, bytes_of_row, line_behind, fresh_behind, spelt_here};
 ghost use Rattle.pv_token.specs.Table.{Table, HasRoom, KnowsAll, Adds};
 ghost use Rattle.pv_lex.specs.Lexes.{Lexes};
@@ -91,18 +91,32 @@ pub fn tokens(alloc: Global, bytes: &[u8]) -> Result<Tokens, LexError>
     ensures count { IfOk result (λ t. length t.tokens ≤ length bytes.now) }
 {
     let mut out = Tokens::new(alloc);
+    cut(alloc, bytes, &mut out)?;
+    Ok(out)
+}
+
+/// Cuts a source into its pieces, and keeps the tokens among them in a table that has none yet.
+fn cut(alloc: Global, bytes: &[u8], out: &mut Tokens) -> Result<(), LexError>
+    requires short { length bytes.now ≤ 2 ^ 20 }
+    requires empty { out.old ≡ record { tokens = []; names = []; texts = [] } }
+    ensures whole { OnOk result (Lexes bytes.now out.new) }
+    ensures fault { IfErr result (λ e. LexFault bytes.now e) }
+    ensures within { IfErr result (λ e. LiesWithin bytes.now e) }
+    ensures known { OnOk result (KnowsAll out.new) }
+    ensures count { OnOk result (length out.new.tokens ≤ length bytes.now) }
+{
     let mut rest = bytes;
     let mut line = 1u32;
     let mut fresh = true;
     'pieces: loop {
         let at = (bytes.len() - rest.len()) as u32;
         match stand(alloc, fresh, rest)? {
-            Standing::End => return Ok(out),
+            Standing::End => return Ok(()),
             Standing::Bad(fault) => return Err(error_at(fault, at)),
             Standing::Here(found, after) => {
                 let next_line = line_behind(&found, line);
                 let next_fresh = fresh_behind(&found, fresh);
-                add(&mut out, alloc, found, at, line)?;
+                add(out, alloc, found, at, line)?;
                 line = next_line;
                 fresh = next_fresh;
                 rest = after;

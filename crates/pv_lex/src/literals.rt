@@ -3,15 +3,16 @@ ghost use Rattle.std.specs.Prelude.{◌≡◌, ◌≤◌, ◌<◌, length, IfOk,
 ghost use Rattle.std.specs.Option.{option_map};
 ghost use Rattle.pv_lex.specs.Bytes.{begins};
 ghost use Rattle.pv_lex.specs.Tables.{row_of};
-ghost use Rattle.pv_lex.specs.Pieces.{token};
-ghost use Rattle.pv_token.specs.Said.{Character, Text, as_char};
+ghost use Rattle.pv_lex.specs.Pieces.{or_bad};
+ghost use Rattle.pv_lex.specs.Views.{stand_of};
 ghost use Rattle.pv_lex.specs.Characters.{escapes, numbered, escape_at, character_at, character_constant, characters, string_literal};
 
 use crate::bytes::{Class, behind, is_in, run};
 use crate::escapes::ESCAPES;
 use crate::numbers::value;
+use crate::pieces::{Fault, Found, Standing};
 use crate::tables::row_of;
-use pv_token::NoMemory;
+use pv_token::{Kind, NoMemory};
 use std::alloc::Global;
 
 /// A character by its number, which is at most 255 (C17 6.4.4.4p9).
@@ -81,39 +82,39 @@ fn character(quote: u8, text: &[u8]) -> Option<(u8, &[u8])>
     Some((text[0], rest))
 }
 
-/// A character constant, behind its quote: its byte, and what is left.
+/// A character constant, behind its quote.
 #[tactic(auto, unfolding(crate::specs::Characters::character_constant))]
-pub(crate) fn character_constant(text: &[u8]) -> Option<(u8, &[u8])>
-    ensures { option_map (λ r. token (Character (as_char r.0)) r.1.now) result ≡ character_constant text.now }
+pub(crate) fn character_constant(text: &[u8]) -> Standing<'_>
+    ensures { stand_of result ≡ or_bad (character_constant text.now) }
 {
-    let (b, after) = character(b'\'', text)?;
+    let Some((b, after)) = character(b'\'', text) else {
+        return Standing::Bad(Fault::BadToken);
+    };
     if !after.is_empty() && after[0] == b'\'' {
-        Some((b, behind(after, 1)))
+        Standing::Here(Found::Spelling(Kind::Character(b)), behind(after, 1))
     } else {
-        None
+        Standing::Bad(Fault::BadToken)
     }
 }
 
-/// A string literal, behind its quote: the decoded bytes, and what is left.
-pub(crate) fn string_literal(
-    alloc: Global,
-    text: &[u8],
-) -> Result<Option<(Vec<u8>, &[u8])>, NoMemory>
-    ensures { IfOk result (λ o. option_map (λ r. token (Text r.0.items) r.1.now) o ≡ string_literal text.now) }
+/// A string literal, behind its quote.
+pub(crate) fn string_literal(alloc: Global, text: &[u8]) -> Result<Standing<'_>, NoMemory>
+    ensures { IfOk result (λ s. stand_of s ≡ or_bad (string_literal text.now)) }
 {
     let mut out = Vec::new(alloc);
     let mut rest = text;
     while rest.len() > 0 {
         if rest[0] == b'"' {
-            return Ok(Some((out, behind(rest, 1))));
+            let found = Found::Spelling(Kind::Text(out));
+            return Ok(Standing::Here(found, behind(rest, 1)));
         }
         match character(b'"', rest) {
-            None => return Ok(None),
+            None => return Ok(Standing::Bad(Fault::BadToken)),
             Some((b, after)) => {
                 out.push(b)?;
                 rest = after;
             }
         }
     }
-    Ok(None)
+    Ok(Standing::Bad(Fault::BadToken))
 }

@@ -3,11 +3,13 @@ ghost use Rattle.std.specs.Prelude.{◌≡◌, ◌≤◌, ◌^◌, length, if◌
 ghost use Rattle.std.specs.Option.{option_map};
 ghost use Rattle.pv_lex.specs.Bytes.{begins};
 ghost use Rattle.pv_lex.specs.Tables.{row_of};
-ghost use Rattle.pv_lex.specs.Pieces.{token};
+ghost use Rattle.pv_lex.specs.Pieces.{or_bad};
+ghost use Rattle.pv_lex.specs.Views.{stand_of};
 ghost use Rattle.pv_lex.specs.Constants.{suffixes, digit_value, value_from, number_of, constant_of, number_at, sized};
 ghost use Rattle.pv_token.specs.Said.{said_of};
 
 use crate::bytes::{Class, run};
+use crate::pieces::{Fault, Found, Standing};
 use crate::suffixes::{SUFFIXES, Suffix};
 use crate::tables::row_of;
 use pv_token::Kind;
@@ -99,13 +101,15 @@ fn constant_of(text: &[u8]) -> Option<Kind<'static>>
 
 /// A constant at the front.
 #[tactic(auto, unfolding(crate::specs::Constants::number_at))]
-pub(crate) fn number(text: &[u8]) -> Option<(Kind<'static>, &[u8])>
-    ensures { option_map (λ r. token (said_of r.0) r.1.now) result ≡ number_at text.now }
+pub(crate) fn number(text: &[u8]) -> Standing<'_>
+    ensures { stand_of result ≡ or_bad (number_at text.now) }
 {
     let (front, behind) = text.split_at(run(Class::Word, text));
     if !behind.is_empty() && behind[0] == b'.' {
-        return None;
+        return Standing::Bad(Fault::BadToken);
     }
-    let kind = constant_of(front)?;
-    Some((kind, behind))
+    match constant_of(front) {
+        None => Standing::Bad(Fault::BadToken),
+        Some(kind) => Standing::Here(Found::Spelling(kind), behind),
+    }
 }

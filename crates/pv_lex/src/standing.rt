@@ -3,9 +3,8 @@ ghost use Rattle.std.specs.Prelude.{IsFalse, ◌≡◌, ◌≤◌, ◌<◌, ◌^
 ghost use Rattle.std.specs.Option.{option_map};
 ghost use Rattle.std.specs.Char.{is_ascii_digit};
 ghost use Rattle.pv_lex.specs.Bytes.{begins, is_white, is_letter};
-ghost use Rattle.pv_lex.specs.Pieces.{or_bad, token, Marker, Comment};
+ghost use Rattle.pv_lex.specs.Pieces.{or_bad, Marker};
 ghost use Rattle.pv_lex.specs.Stands.{stands};
-ghost use Rattle.pv_token.specs.Said.{Character, Text, as_char, said_of};
 ghost use Rattle.pv_lex.specs.Views.{stand_of};
 
 use crate::bytes::{Class, behind, is_letter, is_white, run};
@@ -13,7 +12,7 @@ use crate::comments::{block_comment, marker};
 use crate::literals::{character_constant, string_literal};
 use crate::numbers::number;
 use crate::pieces::{Fault, Found, Standing, mark, word};
-use pv_token::{Kind, NoMemory};
+use pv_token::NoMemory;
 use std::alloc::Global;
 
 /// What stands where `text` is left. `fresh`: only spaces and tabs stand before it on its line.
@@ -34,10 +33,10 @@ pub(crate) fn stand(alloc: Global, fresh: bool, text: &[u8]) -> Result<Standing<
         return Ok(word(text));
     }
     if b.is_ascii_digit() {
-        return Ok(constant_or_bad(number(text)));
+        return Ok(number(text));
     }
     if b == b'"' {
-        return Ok(text_or_bad(string_literal(alloc, rest)?));
+        return string_literal(alloc, rest);
     }
     Ok(marked(fresh, text))
 }
@@ -56,7 +55,7 @@ fn marked(fresh: bool, text: &[u8]) -> Standing<'_>
     let b = text[0];
     let rest = behind(text, 1);
     if b == b'\'' {
-        return character_or_bad(character_constant(rest));
+        return character_constant(rest);
     }
     if b == b'#' {
         return marker_or_bad(if fresh { marker(rest) } else { None });
@@ -65,7 +64,7 @@ fn marked(fresh: bool, text: &[u8]) -> Standing<'_>
         return Standing::Here(Found::Comment(0), behind(rest, run(Class::InLine, rest)));
     }
     if text.starts_with(b"/*") {
-        return comment_or_bad(block_comment(behind(rest, 1)));
+        return block_comment(behind(rest, 1));
     }
     if begins_fraction(text) || text.starts_with(b"%:") {
         return Standing::Bad(Fault::BadToken);
@@ -81,36 +80,6 @@ fn begins_fraction(text: &[u8]) -> bool
     text[0] == b'.' && text.len() > 1 && text[1].is_ascii_digit()
 }
 
-/// An integer constant, or the fault that none stands here.
-fn constant_or_bad<'a>(found: Option<(Kind<'static>, &'a [u8])>) -> Standing<'a>
-    ensures { stand_of result ≡ or_bad (option_map (λ r. token (said_of r.0) r.1.now) found.entry) }
-{
-    match found {
-        None => Standing::Bad(Fault::BadToken),
-        Some((kind, after)) => Standing::Here(Found::Spelling(kind), after),
-    }
-}
-
-/// A character constant, or the fault that none stands here.
-fn character_or_bad<'a>(found: Option<(u8, &'a [u8])>) -> Standing<'a>
-    ensures { stand_of result ≡ or_bad (option_map (λ r. token (Character (as_char r.0)) r.1.now) found.entry) }
-{
-    match found {
-        None => Standing::Bad(Fault::BadToken),
-        Some((value, after)) => Standing::Here(Found::Spelling(Kind::Character(value)), after),
-    }
-}
-
-/// A string literal, or the fault that none stands here.
-fn text_or_bad<'a>(found: Option<(Vec<u8>, &'a [u8])>) -> Standing<'a>
-    ensures { stand_of result ≡ or_bad (option_map (λ r. token (Text r.0.items) r.1.now) found.entry) }
-{
-    match found {
-        None => Standing::Bad(Fault::BadToken),
-        Some((bytes, after)) => Standing::Here(Found::Spelling(Kind::Text(bytes)), after),
-    }
-}
-
 /// A line marker, or the fault that none stands here.
 fn marker_or_bad<'a>(found: Option<(u32, &'a [u8])>) -> Standing<'a>
     ensures { stand_of result ≡ or_bad (option_map (λ r. record { what = Marker r.0; after = r.1.now }) found.entry) }
@@ -118,15 +87,5 @@ fn marker_or_bad<'a>(found: Option<(u32, &'a [u8])>) -> Standing<'a>
     match found {
         None => Standing::Bad(Fault::BadToken),
         Some((line, after)) => Standing::Here(Found::Marker(line), after),
-    }
-}
-
-/// A comment, or the fault that it has no end.
-fn comment_or_bad<'a>(found: Option<(u32, &'a [u8])>) -> Standing<'a>
-    ensures { stand_of result ≡ or_bad (option_map (λ r. record { what = Comment r.0; after = r.1.now }) found.entry) }
-{
-    match found {
-        None => Standing::Bad(Fault::BadToken),
-        Some((lines, after)) => Standing::Here(Found::Comment(lines), after),
     }
 }

@@ -9,7 +9,7 @@ use Rattle.std.proofs.Math.IntN.{suc_ℤ, suc_ℤ-*ℤ}
 use Rattle.std.proofs.lemmas.Nat.{pow_pos}
 use Rattle.pv_num.specs.Kinds.{Fits, width, is_signed, convert_of, truth_of, bits_of, modulus_of, from_bits_of, IsCongruent, IsConversion}
 
-pub convert_fits : (k : IntKind) (n : ℤ) → Fits k (convert_of k n)
+convert_fits : (k : IntKind) (n : ℤ) → Fits k (convert_of k n)
 convert_fits BoolKind (pos zero) = grind (arith, ints)
 convert_fits BoolKind (pos (suc n)) = grind (arith, ints)
 convert_fits BoolKind (negsuc n) = grind (arith, ints)
@@ -53,5 +53,12 @@ convert_congruent ULong n = converted_congruent ULong n
 convert_congruent LLong n = converted_congruent LLong n
 convert_congruent ULLong n = converted_congruent ULLong n
 
+-- what is computed of a number is the conversion of it, under any name of the number
+pub equal_value : (k : IntKind) (n m : ℤ) {n' : ℤ} → n' ≡ n → m ≡ convert_of k n' → m ≡ convert_of k n
+equal_value k n m same e = subst (λ x. m ≡ convert_of k x) same e
+
+pub equal_fits : (k : IntKind) (n m : ℤ) {n' : ℤ} → n' ≡ n → m ≡ convert_of k n' → Fits k m
+equal_fits k n m same e = subst (Fits k) (sym (equal_value k n m same e)) (convert_fits k n)
+
 pub equal_congruent : (k : IntKind) (n m : ℤ) {n' : ℤ} → n' ≡ n → m ≡ convert_of k n' → IsConversion k n m
-equal_congruent k n m same e = subst (λ x. IsConversion k n x) (sym (subst (λ x. m ≡ convert_of k x) same e)) (convert_congruent k n)
+equal_congruent k n m same e = subst (IsConversion k n) (sym (equal_value k n m same e)) (convert_congruent k n)

@@ -151,7 +151,6 @@ pub fn fits(kind: IntKind, n: i128) -> bool
 ///
 /// At `_Bool` 0 of 0 and else 1; at every other kind the member that differs from `n` by a multiple of 2^w, w
 /// the kind's width in bits. Conversion to a signed kind out of range wraps: the target's choice (6.3.1.3p3).
-#[tactic(auto, using(crate::proofs::Congruence::convert_fits))]
 pub fn convert(kind: IntKind, n: i128) -> i128
     requires convertible { IsConvertible n }
     ensures value { result ≡ convert_of kind n }

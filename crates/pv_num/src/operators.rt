@@ -107,7 +107,6 @@ fn computed(op: BinOp, kind: IntKind, a: i128, b: i128) -> Result<i128, Fault>
 /// # Errors
 ///
 /// 6.5p5 `overflow`: `-` of the least number of a signed kind.
-#[tactic(auto, using(crate::proofs::Members::unary_fits))]
 pub fn unary(op: UnOp, kind: IntKind, a: i128) -> Result<i128, Fault>
     requires promoted { IsPromoted kind }
     requires operand { Fits kind a }

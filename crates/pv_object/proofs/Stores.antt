@@ -1,5 +1,5 @@
 -- A store changes the bytes of one instance, and no instance's place or size.
-use Rattle.std.proofs.Common.{◌≡◌, ℕ, zero, suc, ◌-◌, List, [], ◌∷◌, length, set, get_or, map, Option, None, Some, refl, sym, ap, ◌∙◌, arith}
+use Rattle.std.proofs.Common.{◌≡◌, ℕ, zero, suc, ◌+◌, ◌-◌, ◌<◌, ◌≤◌, List, [], ◌∷◌, length, set, get_or, map, Option, None, Some, refl, sym, ap, subst, ◌∙◌, arith}
 use Rattle.std.specs.List.{slice_get}
 use Rattle.std.proofs.lemmas.Option.{get_or_from_slice_get}
 use Rattle.pv_object.specs.declared.values.Byte.{Byte}
@@ -20,6 +20,23 @@ found_at m zero n r x h e = absurd h
 found_at m (suc i) n r x h e =
     let k : suc i - 1 ≡ i = omega arith in
     found m.instances i n r x (slice_get m.instances i) refl h (e ∙ ap (λ j. get_or m.instances j x) k)
+
+there : (xs : List Storage) (i n : ℕ) (r : Reach) → IsReachIn (slice_get xs i) r n → i < length xs
+there [] i n r h = absurd h
+there (x ∷ xs) zero n r h = omega arith
+there (x ∷ xs) (suc i) n r h = let more = there xs i n r h in omega (arith, more)
+
+there_at : (m : Mem) (i n : ℕ) (r : Reach) → IsReachIn (instance_at m i) r n → (1 ≤ i) × (i - 1 < length m.instances)
+there_at m zero n r h = absurd h
+there_at m (suc i) n r h = let lt = there m.instances i n r h in (omega arith, omega (arith, lt))
+
+-- what was reached lies in an instance that was made
+pub reach_made : (m : Mem) (r : Reach) (n : ℕ) → IsReach m r n → (1 ≤ r.inst) × (r.inst - 1 < length m.instances)
+reach_made m r n h = there_at m r.inst n r h
+
+-- and so many of its bytes are there
+pub reach_holds : (m : Mem) (r : Reach) (n : ℕ) (x : Storage) → IsReach m r n → x ≡ get_or m.instances (r.inst - 1) x → r.offset + n ≤ length x.bytes
+reach_holds m r n x h e = (subst (λ o. IsReachIn o r n) (found_at m r.inst n r x h e) h).1
 
 same_storage : (y : Storage) (b : ℕ) (bs : List Byte) → y.base ≡ b → y.bytes ≡ bs → y ≡ record { base = b; bytes = bs }
 same_storage y b bs e f =

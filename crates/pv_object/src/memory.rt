@@ -1,5 +1,5 @@
 // The memory: its storage instances, accesses to them, and sums of pointers.
-ghost use Rattle.std.specs.Prelude.{◌≡◌, ◌+◌, ◌-◌, ◌≤◌, ◌≤ℤ◌, ◌^◌, neg_ℤ, pos, length, IfOk, OnOk, OnErr};
+ghost use Rattle.std.specs.Prelude.{◌≡◌, ◌+◌, ◌-◌, ◌≤◌, ◌≤ℤ◌, ◌+ℤ◌, ◌^◌, neg_ℤ, pos, length, IfOk, OnOk, OnErr};
 ghost use Rattle.std.specs.Option.{option_copied};
 ghost use Rattle.pv_object.specs.Memory.{Mem, instance_at, pointer_to};
 ghost use Rattle.pv_object.specs.Placement.{default_base, empty_memory, placed};
@@ -62,6 +62,15 @@ fn unnamed(clause: Clause, p: Pointer) -> Stop
         Reason::Empty
     };
     undefined(clause, reason)
+}
+
+/// An address moved by so many bytes, which fits.
+fn moved(address: u64, by: i128) -> i128
+    requires low { neg_ℤ (pos (2 ^ 66)) ≤ℤ by }
+    requires high { by ≤ℤ pos (2 ^ 66) }
+    ensures { result ≡ pos address +ℤ by }
+{
+    address as i128 + by
 }
 
 impl Memory {
@@ -191,7 +200,7 @@ impl Memory {
         let Some(instance) = self.instance(i) else {
             return Err(undefined(Clause::Lifetimes, Reason::Ended));
         };
-        let address = p.address as i128 + by;
+        let address = moved(p.address, by);
         if !instance.spans(address) {
             return Err(undefined(Clause::AdditionOfPointers, Reason::Outside));
         }

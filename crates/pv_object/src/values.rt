@@ -13,7 +13,7 @@ impl From<AllocError> for NoMemory {
 }
 
 /// Which storage instance a pointer was made from: the memory object model's provenance.
-#[derive(Clone, Copy, Debug, PartialEq, Eq)]
+#[derive(Clone, Copy, PartialEq, Eq)]
 pub enum Prov {
     /// None: no instance may be accessed through the pointer.
     Empty,
@@ -22,7 +22,7 @@ pub enum Prov {
 }
 
 /// A pointer value. The null pointer (6.3.2.3p3) is address 0 with the empty provenance.
-#[derive(Clone, Copy, Debug, PartialEq, Eq)]
+#[derive(Clone, Copy, PartialEq, Eq)]
 pub struct Pointer {
     /// The address, in bytes.
     pub address: u64,
@@ -40,7 +40,7 @@ pub enum Scalar {
 }
 
 /// The value of a scalar type.
-#[derive(Clone, Copy, Debug, PartialEq, Eq)]
+#[derive(Clone, Copy, PartialEq, Eq)]
 pub enum Value {
     /// A whole number.
     Int(i128),
@@ -67,7 +67,7 @@ pub(crate) const FRESH: Byte = Byte {
 };
 
 /// Where an access that passed its checks goes.
-#[derive(Clone, Copy, Debug, PartialEq, Eq)]
+#[derive(Clone, Copy, PartialEq, Eq)]
 pub struct Reach {
     /// The number of the instance.
     pub inst: u64,

@@ -1,5 +1,5 @@
 -- Where a typing stops.
-use Rattle.std.proofs.Common.{◌≡◌, ◌<◌, ℕ, suc, ◌+◌, Bool, false, List, [], ◌∷◌, ◌++◌, length, drop, map, get_or, Option, Some, None, is_some, option_map, refl, sym, ap, ◌∙◌, add-one, drop-cons, arith}
+use Rattle.std.proofs.Common.{◌≡◌, ◌<◌, ℕ, suc, ◌+◌, Bool, false, List, [], ◌∷◌, ◌++◌, length, drop, map, get_or, Option, Some, None, is_some, option_map, option_and_then, refl, sym, ap, ◌∙◌, add-one, drop-cons, arith}
 use Rattle.std.specs.Prelude.{if◌then◌else◌, nat_eq}
 use Rattle.std.specs.Prelude.{slice_get}
 use Rattle.std.proofs.lemmas.Option.{slice_get_within, get_or_from_slice_get}
@@ -7,9 +7,9 @@ use Rattle.std.specs.Map.{lookup}
 use Rattle.pv_starter.specs.declared.syntax.Object.{Object}
 use Rattle.pv_starter.specs.declared.terms.ObjectType.TheVariants as object_type
 use Rattle.pv_starter.specs.declared.typing.Variable.{Variable}
-use Rattle.pv_starter.specs.Syntax.{LocalTree, StatementTree}
+use Rattle.pv_starter.specs.Syntax.{UnaryTree, LocalTree, StatementTree}
 use Rattle.pv_starter.specs.Terms.{StatementTerm}
-use Rattle.pv_starter.specs.Typing.{Scope, Scopes, declared, declared_objects, Locals, with_local, typed_locals, typed_statement, typed_statements}
+use Rattle.pv_starter.specs.Typing.{Scope, Scopes, TypedTree, typed_unary, joined, typed_from, declared, declared_objects, Locals, with_local, typed_locals, typed_statement, typed_statements}
 use Rattle.pv_starter.proofs.Lists.{dropped}
 
 not_some : {A : Type 0} (o : Option A) → false ≡ is_some o → o ≡ None
@@ -82,4 +82,11 @@ statements_on view s done new i xs x y whole less at e k h =
     ap (λ (ys : List StatementTerm). typed_statements s (Some ys) (map view (drop (i + 1) xs))) k
     ∙ ap (λ (z : Option StatementTerm). typed_statements s (option_map (λ w. done ++ w ∷ []) z) (map view (drop (i + 1) xs))) e
     ∙ ap (λ (ys : List StatementTree). typed_statements s (Some done) ys) (sym (dropped view xs i x less at))
+    ∙ h
+
+-- one operand more
+pub sum_on : {A : Type 0} (view : A → UnaryTree) (s : Scopes) (left new : Option TypedTree) (i : ℕ) (us : List A) (u : A) (whole : Option TypedTree) → i < length us → u ≡ get_or us i u → new ≡ option_and_then (λ a. option_and_then (joined a) (typed_unary s (view u))) left → typed_from s left (map view (drop i us)) ≡ whole → typed_from s new (map view (drop (i + 1) us)) ≡ whole
+sum_on view s left new i us u whole less at e h =
+    ap (λ (y : Option TypedTree). typed_from s y (map view (drop (i + 1) us))) e
+    ∙ ap (λ (ys : List UnaryTree). typed_from s left ys) (sym (dropped view us i u less at))
     ∙ h

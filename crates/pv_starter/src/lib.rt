@@ -17,7 +17,7 @@ use std::alloc::{AllocError, AllocFailed, Global};
 pub use terms::{ObjectType, Program, StaticObject, Term, TypedLocal, TypedStatement};
 
 /// There was no memory for the call.
-#[derive(Clone, Copy, Debug)]
+#[derive(Clone, Copy)]
 pub struct NoMemory;
 
 impl From<AllocError> for NoMemory {

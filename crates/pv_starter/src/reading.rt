@@ -616,23 +616,10 @@ fn assignment(
     requires { at ≤ length lexemes.now }
     ensures { IfOk result (λ r. Answers statement_tree lexemes.now r (reading.assignment (drop at lexemes.now))) }
 {
-    match unary(alloc, lexemes, at, ASSIGN_DEPTH)? {
-        Some((left, next)) => assigned(alloc, lexemes, next, left),
-        None => Ok(None),
-    }
-}
-
-// An assignment to what was read.
-fn assigned(
-    alloc: Global,
-    lexemes: &[Lexeme],
-    at: usize,
-    left: Unary,
-) -> Result<Option<(Statement, usize)>, NoMemory>
-    requires { at ≤ length lexemes.now }
-    ensures { IfOk result (λ r. Answers statement_tree lexemes.now r (reading.assigned (unary_tree left, drop at lexemes.now))) }
-{
-    match assigned_sum(alloc, lexemes, at)? {
+    let Some((left, next)) = unary(alloc, lexemes, at, ASSIGN_DEPTH)? else {
+        return Ok(None);
+    };
+    match assigned_sum(alloc, lexemes, next)? {
         Some((right, end)) => Ok(Some((Statement::Assign { left, right }, end))),
         None => Ok(None),
     }

@@ -2,7 +2,6 @@
 ghost use Rattle.std.specs.Prelude.{◌≡◌, ◌<◌, ◌≤◌, ◌+◌, ◌^◌, [], ◌∷◌, List, length, drop, map, Option, Some, None, IfOk, IfSome, option_map, option_and_then, if◌then◌else◌, slice_get};
 ghost use Rattle.pv_starter.specs.Views.{unary_tree, sum_tree, local_tree, statement_tree};
 ghost use Rattle.pv_starter.specs.TermViews.{term_tree, typed_tree, local_term, statement_term, program_tree, scopes_of, locals_of};
-ghost use Rattle.pv_starter.specs.Terms.{Put};
 ghost use Rattle.pv_starter.specs.Typing as typing;
 
 use super::syntax::{Constant, Local, Object, Statement, Sum, TranslationUnit, Unary};
@@ -399,35 +398,17 @@ fn assigned(
 ) -> Result<Option<TypedStatement>, NoMemory>
     ensures { IfOk result (λ r. option_map statement_term r ≡ typing.assigned (scopes_of names.now) (sum_tree right.now) (typed_tree place)) }
 {
-    match assigned_value(alloc, names, &place, right)? {
-        Some(value) => Ok(Some(put(place, value))),
+    if !place.is_place {
+        return Ok(None);
+    }
+    match typed_value(alloc, names, place.object_type, right)? {
+        Some(value) => Ok(Some(TypedStatement::Put {
+            object_type: place.object_type,
+            line: place.line,
+            place: place.term,
+            value,
+        })),
         None => Ok(None),
-    }
-}
-
-// The value that is assigned; None where the left side is no lvalue.
-fn assigned_value(
-    alloc: Global,
-    names: &Names,
-    place: &Typed,
-    right: &Sum,
-) -> Result<Option<Term>, NoMemory>
-    ensures { IfOk result (λ r. option_map term_tree r ≡ (if place.now.is_place then typing.typed_value (scopes_of names.now) place.now.object_type (sum_tree right.now) else None)) }
-{
-    if place.is_place {
-        return typed_value(alloc, names, place.object_type, right);
-    }
-    Ok(None)
-}
-
-fn put(place: Typed, value: Term) -> TypedStatement
-    ensures { statement_term result ≡ Put place.object_type place.line (term_tree place.term) (term_tree value) }
-{
-    TypedStatement::Put {
-        object_type: place.object_type,
-        line: place.line,
-        place: place.term,
-        value,
     }
 }
 
@@ -499,21 +480,9 @@ fn typed_in(
     requires outer { names.old.outer.entries ≡ [] }
     ensures { IfOk result (λ r. option_map program_tree r ≡ typing.typed_parts unit.now.objects.items (map local_tree unit.now.locals.items) (map statement_tree unit.now.statements.items)) }
 {
-    if declare_objects(&mut names.outer, &unit.objects)? {
-        return typed_main(alloc, names, unit);
+    if !declare_objects(&mut names.outer, &unit.objects)? {
+        return Ok(None);
     }
-    Ok(None)
-}
-
-// The typed program of a unit whose file-scope objects are declared.
-fn typed_main(
-    alloc: Global,
-    names: &mut Names,
-    unit: &TranslationUnit,
-) -> Result<Option<Program>, NoMemory>
-    requires { names.old.inner.entries ≡ [] }
-    ensures { IfOk result (λ r. option_map program_tree r ≡ typing.main_in unit.now.objects.items (map local_tree unit.now.locals.items) (map statement_tree unit.now.statements.items) names.old.outer.entries) }
-{
     let objects: &[Object] = &unit.objects;
     match typed_locals(alloc, names, objects.len(), &unit.locals)? {
         Some(locals) => typed_body(alloc, names, locals, unit),

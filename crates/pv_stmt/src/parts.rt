@@ -16,9 +16,10 @@ ghost use Rattle.pv_stmt_forms.specs.Statements.{expression, condition, expressi
 use crate::source::Source;
 use pv_decl::declaration;
 use pv_expr::{Level, expression};
+use pv_expr_forms::{begins_type, peek};
 use pv_stmt_forms::{
-    First, ForHead, LabelWord, Sign, after, begins_type, found_before, found_statement,
-    is_declaration, label_word, peek,
+    First, ForHead, LabelWord, Sign, after, found_before, found_statement, is_declaration,
+    label_word,
 };
 use pv_token::NoMemory;
 use pv_tree::{NodeId, Stmt, TypeReader, Unit};

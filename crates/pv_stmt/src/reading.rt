@@ -11,11 +11,12 @@ ghost use Rattle.pv_decl_forms.specs.Pieces.{row};
 ghost use Rattle.pv_stmt_forms.specs.Parts.{item_in, braced};
 ghost use Rattle.pv_stmt_forms.specs.Statements.{statement, selection, chosen, loop, do_loop, for_loop, switch, labelled, Statements, SwitchBlocks, readers};
 
-use crate::nodes::{ends_open, for_node};
+use crate::nodes::ends_open;
 use crate::source::Source;
+use pv_expr_forms::{begins_type, peek};
 use pv_stmt_forms::{
-    Sign, StatementForm, Within, after, begins_type, block_of, form_of, found_before,
-    found_statement, labelled_of, line_at, peek,
+    Sign, StatementForm, Within, after, block_of, for_node, form_of, found_before, found_statement,
+    labelled_of, line_at,
 };
 use pv_token::NoMemory;
 use pv_tree::{NodeId, Stmt, TypeReader, Unit};

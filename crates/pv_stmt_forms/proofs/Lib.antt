@@ -2,6 +2,7 @@ pub mod Shorter
 pub mod Chains
 pub mod Begun
 pub mod Heading
+pub mod Labelling
 pub mod FormTokens
 pub mod PartGoods
 pub mod FormGoods

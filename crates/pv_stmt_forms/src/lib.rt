@@ -12,7 +12,8 @@ mod regions;
 mod typedefs;
 
 pub use forms::{First, ForHead, LabelWord, Sign, StatementForm, Within, form_of, label_word};
-pub use nodes::{block_of, found_before, found_statement, is_declaration, labelled_of};
-pub use places::{after, begins_type, line_at, peek};
+pub use nodes::{block_of, for_node, found_before, found_statement, is_declaration, labelled_of};
+pub use places::{after, line_at};
+pub use pv_expr_forms::{begins_type, peek};
 pub use regions::region_end;
 pub use typedefs::{add_all, add_name, has_typedef};

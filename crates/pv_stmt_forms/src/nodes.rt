@@ -5,13 +5,13 @@ ghost use Rattle.pv_tree.specs.Nodes.{statement_of};
 ghost use Rattle.pv_tree.specs.Places.{is_declaration_tree};
 ghost use Rattle.pv_tree.specs.Rows.{tables};
 ghost use Rattle.pv_tree.specs.Syntax.{Labelled, OfStatement};
-ghost use Rattle.pv_tree.specs.Tables.{Forest, HasList, declaration_at, statement_at, trees_of, trees_at, is_declaration, is_statement, is_item, Is, Extends};
+ghost use Rattle.pv_tree.specs.Tables.{Forest, Has, HasList, tree_at, declaration_at, statement_at, trees_of, trees_at, is_declaration, is_statement, is_item, Is, Extends};
 ghost use Rattle.pv_decl_forms.specs.Answers.{Answers};
 ghost use Rattle.pv_expr_forms.specs.Reader.{after};
-ghost use Rattle.pv_stmt_forms.specs.Parts.{test_of, enclosed};
+ghost use Rattle.pv_stmt_forms.specs.Parts.{HasHead, test_of, enclosed, for_by};
 ghost use Rattle.pv_stmt_forms.specs.Statements.{block_end};
 
-use crate::forms::{Sign, Within};
+use crate::forms::{First, ForHead, Sign, Within};
 use crate::places::after;
 use pv_token::{NoMemory, Tokens};
 use pv_tree::{Decl, ListId, NodeId, Stmt, Unit};
@@ -112,4 +112,27 @@ pub fn labelled_of(
     let labels = into.add_list(labels)?;
     let labelled = Stmt::Labelled { labels, statement };
     found_statement(tokens, end, labelled, line, into)
+}
+
+/// The node of a `for` (C17 6.8.5.3).
+pub fn for_node(head: ForHead, body: NodeId) -> Stmt
+    ensures is { (f : Forest) (line : ℕ) → OfStatement (statement_of f line result) ≡ for_by f line head (tree_at f body) }
+    ensures children { (f : Forest) (count : ℕ) → HasHead f count head → Has f count is_statement body → HasStmtChildren f count result }
+{
+    let condition = head.condition;
+    let step = head.step;
+    match head.first {
+        First::Declaration(declaration) => Stmt::ForDeclaration {
+            declaration,
+            condition,
+            step,
+            body,
+        },
+        First::Expression(first) => Stmt::For {
+            first,
+            condition,
+            step,
+            body,
+        },
+    }
 }

@@ -10,7 +10,6 @@ fn keeps_what_is_added(rt: HostRuntime) {
     let alloc = rt.alloc();
     adds_expressions(&rt, alloc);
     adds_a_list(&rt, alloc);
-    adds_parts_of_a_declaration(&rt, alloc);
     adds_a_value(&rt, alloc);
     adds_an_external_declaration(&rt, alloc);
     assert!(rt; NoTypes.type_name(0).is_none());
@@ -34,7 +33,7 @@ fn adds_expressions(rt: &impl Abort, alloc: Global) {
         .add_expr(Expr::Binary(BinaryOperator::Add, x, one), 3)
         .expect(rt, "no memory");
     assert!(rt;
-        matches!(unit.expr(sum), Expr::Binary(BinaryOperator::Add, a, b) if a == x && b == one)
+        matches!(unit.expr(sum), Expr::Binary(BinaryOperator::Add, a, b) if a.0 == x.0 && b.0 == one.0)
     );
     assert!(rt; unit.depth(sum) == 2);
 }
@@ -49,20 +48,10 @@ fn adds_a_list(rt: &impl Abort, alloc: Global) {
     let call = unit
         .add_expr(Expr::Call(a, arguments), 1)
         .expect(rt, "no memory");
-    assert!(rt; matches!(unit.expr(call), Expr::Call(f, list) if f == a && list == arguments));
+    assert!(rt;
+        matches!(unit.expr(call), Expr::Call(f, list) if f.0 == a.0 && list.0 == arguments.0)
+    );
     assert!(rt; unit.depth(call) == 2);
-}
-
-// parts of `int x`
-fn adds_parts_of_a_declaration(rt: &impl Abort, alloc: Global) {
-    let mut unit = Unit::new(alloc);
-    let int = unit.add_spec(Spec::Int, 7).expect(rt, "no memory");
-    assert!(rt; matches!(unit.spec(int), Spec::Int));
-    assert!(rt; unit.depth(int) == 0);
-    let x = unit
-        .add_declarator(Declarator::Name(2), 7)
-        .expect(rt, "no memory");
-    assert!(rt; matches!(unit.declarator(x), Declarator::Name(2)));
 }
 
 // parts of `int x = '\0'; return '\0';`
@@ -71,31 +60,37 @@ fn adds_a_value(rt: &impl Abort, alloc: Global) {
     let mut unit = Unit::new(alloc);
     let zero = unit.add_expr(Expr::Character(0), 7).expect(rt, "no memory");
     let init = unit.add_init(Init::Expr(zero), 7).expect(rt, "no memory");
-    assert!(rt; matches!(unit.init(init), Init::Expr(e) if e == zero));
+    assert!(rt; matches!(unit.init(init), Init::Expr(e) if e.0 == zero.0));
     assert!(rt; unit.depth(init) == 2);
     let end = unit
         .add_stmt(Stmt::Return(Some(zero)), 7)
         .expect(rt, "no memory");
-    assert!(rt; matches!(unit.stmt(end), Stmt::Return(Some(e)) if e == zero));
+    assert!(rt; matches!(unit.stmt(end), Stmt::Return(Some(e)) if e.0 == zero.0));
     assert!(rt; unit.depth(end) == 2);
 }
 
-// `int;`
+// `int;`, and behind it the declarator of `int x`
 #[tactic(auto, using(pv_tree::proofs::Kept::is_new, pv_tree::proofs::Kept::is_kept, pv_tree::proofs::Kept::extends_tree, pv_tree::proofs::Kept::extends_list, pv_tree::proofs::Kept::list_new, pv_tree::proofs::Kept::has_list_kept, pv_tree::proofs::Kept::all_more, pv_tree::proofs::Kept::all_none))]
 fn adds_an_external_declaration(rt: &impl Abort, alloc: Global) {
     let mut unit = Unit::new(alloc);
-    let int = unit.add_spec(Spec::Int, 1).expect(rt, "no memory");
+    let int = unit.add_spec(Spec::Int, 7).expect(rt, "no memory");
+    assert!(rt; matches!(unit.spec(int), Spec::Int));
+    assert!(rt; unit.depth(int) == 0);
     let all = unit.add_list(&[int]).expect(rt, "no memory");
     let none = unit.add_list(&[]).expect(rt, "no memory");
     let node = Decl::Declaration {
         specs: all,
         declared: none,
     };
-    let declaration = unit.add_decl(node, 1).expect(rt, "no memory");
+    let declaration = unit.add_decl(node, 7).expect(rt, "no memory");
     assert!(rt;
-        matches!(unit.decl(declaration), Decl::Declaration { specs, declared } if specs == all && declared == none)
+        matches!(unit.decl(declaration), Decl::Declaration { specs, declared } if specs.0 == all.0 && declared.0 == none.0)
     );
     assert!(rt; unit.depth(declaration) == 1 && unit.count() == 0);
     unit.add_external(declaration).expect(rt, "no memory");
-    assert!(rt; unit.count() == 1 && unit.external(0) == declaration);
+    assert!(rt; unit.count() == 1 && unit.external(0).0 == declaration.0);
+    let x = unit
+        .add_declarator(Declarator::Name(2), 7)
+        .expect(rt, "no memory");
+    assert!(rt; matches!(unit.declarator(x), Declarator::Name(2)));
 }

@@ -3,7 +3,7 @@
 //! A source with ` times ` and a number behind it has what stands between two backticks so many times.
 use crate::{declarations, expressions, units};
 use pv_expr::Level;
-use pv_lex::tokens;
+use pv_lex::{Tokens, tokens};
 use std::alloc::Global;
 use std::process::Abort;
 
@@ -34,7 +34,8 @@ pub(crate) fn check_row(rt: &impl Abort, alloc: Global, asked: Asked, row: &str)
     let (left, wanted) = row.split_once(" => ").unwrap_or((row, ""));
     let (form, times) = left.rsplit_once(" times ").unwrap_or((left, "1"));
     let source = repeated(rt, alloc, form, times.parse::<usize>().unwrap_or(0));
-    let told = told(rt, alloc, asked, source.as_str());
+    let tokens = lexed(rt, alloc, source.as_bytes());
+    let told = told(rt, alloc, asked, &tokens);
     assert!(rt; told.as_str() == wanted, "the row {row:?}: {told:?}");
 }
 
@@ -51,14 +52,17 @@ fn repeated(rt: &impl Abort, alloc: Global, form: &str, times: usize) -> String 
     source
 }
 
-/// What is told of a source.
-fn told(rt: &impl Abort, alloc: Global, asked: Asked, source: &str) -> String {
-    let bytes = source.as_bytes();
-    assert!(rt; bytes.len() <= 100000);
-    let tokens = tokens(alloc, bytes).expect(rt, "no tokens");
+/// The tokens of a source.
+fn lexed(rt: &impl Abort, alloc: Global, source: &[u8]) -> Tokens {
+    assert!(rt; source.len() <= 100000);
+    tokens(alloc, source).expect(rt, "no tokens")
+}
+
+/// What is told of the tokens of a source.
+fn told(rt: &impl Abort, alloc: Global, asked: Asked, tokens: &Tokens) -> String {
     match asked {
-        Asked::Unit => units::told(rt, alloc, &tokens),
-        Asked::Declaration => declarations::told(rt, alloc, &tokens),
-        _ => expressions::told(rt, alloc, &tokens, asked),
+        Asked::Unit => units::told(rt, alloc, tokens),
+        Asked::Declaration => declarations::told(rt, alloc, tokens),
+        _ => expressions::told(rt, alloc, tokens, asked),
     }
 }

@@ -2,6 +2,7 @@
 use crate::rows::{Asked, check, check_row};
 use pv_stmt::{SynError, unit};
 use pv_token::Tokens;
+use pv_tree::Unit;
 use std::alloc::Global;
 use std::process::Abort;
 
@@ -9,9 +10,14 @@ mod externals;
 mod nests;
 mod statements;
 
+/// The unit that the tokens are. That it has no clause spares `told` all that `unit` promises.
+fn read(alloc: Global, tokens: &Tokens) -> Result<Unit, SynError> {
+    unit(alloc, tokens)
+}
+
 /// What becomes of tokens: so many external declarations, or why there is no unit.
 pub(crate) fn told(rt: &impl Abort, alloc: Global, tokens: &Tokens) -> String {
-    let text = match unit(alloc, tokens) {
+    let text = match read(alloc, tokens) {
         Ok(unit) => format!(in alloc; "unit {}", unit.count()),
         Err(SynError::Syntax { whole }) => format!(in alloc; "syntax whole={whole}"),
         Err(SynError::NoMemory) => panic!(rt; "no memory"),

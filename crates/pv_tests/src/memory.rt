@@ -1,5 +1,9 @@
 // Two objects, as `int x; int *p; p = &x; *p = -2;` has them: expected values worked out from the standard's rules and
 // from the default places (the first at 65536, each later one 16 bytes past the end of the one before, rounded up to 16).
+ghost use Rattle.std.specs.Prelude.{◌≡◌, ◌≤◌};
+ghost use Rattle.pv_object.specs.Encoding.{size_of};
+ghost use Rattle.pv_object.specs.Values.{IsOf};
+
 use pv_num::{Clause, Fault, IntKind, Reason};
 use pv_object::{Memory, NoMemory, Pointer, Prov, Reach, Scalar, Stop, Value};
 use std::process::Abort;
@@ -14,21 +18,17 @@ fn pointer(address: u64, prov: Prov) -> Pointer {
     Pointer { address, prov }
 }
 
-/// `p = &x`.
-fn store_pointer(rt: &impl Abort, memory: &mut Memory, p: Pointer, x: Pointer) {
-    let at = memory.reach(p, 8, 8).expect(rt, "a pointer");
-    assert!(rt; memory.load(&at, Scalar::Pointer) == Err(Stop::Indeterminate));
-    memory.store(&at, Scalar::Pointer, &Value::Pointer(x));
-    let at = memory.reach(p, 8, 8).expect(rt, "a pointer");
-    assert!(rt; memory.load(&at, Scalar::Pointer) == Ok(Value::Pointer(x)));
-}
-
-/// `*p = -2`.
-fn store_int(rt: &impl Abort, memory: &mut Memory, x: Pointer) {
-    let at = memory.reach(x, 4, 4).expect(rt, "an int");
-    memory.store(&at, INT, &Value::Int(-2));
-    let at = memory.reach(x, 4, 4).expect(rt, "an int");
-    assert!(rt; memory.load(&at, INT) == Ok(Value::Int(-2)));
+/// Stores a value where none was stored yet, and loads it.
+fn store(rt: &impl Abort, memory: &mut Memory, p: Pointer, t: Scalar, bytes: u64, value: Value)
+    requires size { bytes ≡ size_of t }
+    requires some { 1 ≤ bytes }
+    requires kind { IsOf t value }
+{
+    let at = memory.reach(p, bytes, bytes).expect(rt, "an object");
+    assert!(rt; memory.load(&at, t) == Err(Stop::Indeterminate));
+    memory.store(&at, t, &value);
+    let at = memory.reach(p, bytes, bytes).expect(rt, "an object");
+    assert!(rt; memory.load(&at, t) == Ok(value));
 }
 
 fn shift_past_the_end(rt: &impl Abort, memory: &Memory, x: Pointer) {
@@ -47,15 +47,31 @@ fn stores_through_a_pointer(rt: HostRuntime) {
     let p = memory.pointer_to(2);
     assert!(rt; x == pointer(65536, Prov::Inst(1)));
     assert!(rt; p == pointer(65568, Prov::Inst(2)));
-    store_pointer(&rt, &mut memory, p, x);
-    store_int(&rt, &mut memory, x);
+    // `p = &x`, then `*p = -2`
+    store(&rt, &mut memory, p, Scalar::Pointer, 8, Value::Pointer(x));
+    store(&rt, &mut memory, x, INT, 4, Value::Int(-2));
     shift_past_the_end(&rt, &memory, x);
     assert!(rt; memory.create(0x100_0001) == Err(NoMemory));
 }
 
-/// What the checks of an access to an `int` answer.
-fn reach(memory: &Memory, address: u64, prov: Prov) -> Result<Reach, Stop> {
-    memory.reach(pointer(address, prov), 4, 4)
+/// Addresses with their provenance, and why there is no access to an `int` there.
+static REFUSED: [(u64, Prov, Clause, Reason); 5] = [
+    (0, Prov::Empty, Clause::Indirection, Reason::Null),
+    (65540, Prov::Empty, Clause::Indirection, Reason::Empty),
+    (65540, Prov::Inst(2), Clause::Lifetimes, Reason::Ended),
+    (65544, Prov::Inst(1), Clause::Indirection, Reason::Outside),
+    (
+        65538,
+        Prov::Inst(1),
+        Clause::Indirection,
+        Reason::Misaligned,
+    ),
+];
+
+fn refuses(rt: &impl Abort, memory: &Memory) {
+    for &(address, prov, clause, reason) in REFUSED.iter() {
+        assert!(rt; memory.reach(pointer(address, prov), 4, 4) == Err(fault(clause, reason)));
+    }
 }
 
 #[test]
@@ -67,15 +83,7 @@ fn checks_an_access(rt: HostRuntime) {
         offset: 4,
         address: 65540,
     };
-    let null = fault(Clause::Indirection, Reason::Null);
-    let empty = fault(Clause::Indirection, Reason::Empty);
-    let ended = fault(Clause::Lifetimes, Reason::Ended);
-    let outside = fault(Clause::Indirection, Reason::Outside);
-    let misaligned = fault(Clause::Indirection, Reason::Misaligned);
-    assert!(rt; reach(&memory, 65540, Prov::Inst(1)) == Ok(second));
-    assert!(rt; reach(&memory, 0, Prov::Empty) == Err(null));
-    assert!(rt; reach(&memory, 65540, Prov::Empty) == Err(empty));
-    assert!(rt; reach(&memory, 65540, Prov::Inst(2)) == Err(ended));
-    assert!(rt; reach(&memory, 65544, Prov::Inst(1)) == Err(outside));
-    assert!(rt; reach(&memory, 65538, Prov::Inst(1)) == Err(misaligned));
+    let p = pointer(65540, Prov::Inst(1));
+    assert!(rt; memory.reach(p, 4, 4) == Ok(second));
+    refuses(&rt, &memory);
 }

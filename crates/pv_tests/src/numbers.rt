@@ -607,19 +607,19 @@ fn gives_what_c_gives(rt: HostRuntime) {
     }
 }
 
-/// Compares a fault with what reports print of it.
-fn prints(rt: &impl Abort, fault: Fault, clause: &str, reason: &str) {
-    assert!(rt;
-        fault.clause.text() == clause && fault.reason.text() == reason,
-        "{clause}"
-    );
-}
+/// Faults, and what reports print of them.
+static PRINTED: [(Fault, &str, &str); 5] = [
+    (OVERFLOW, "6.5p5", "overflow"),
+    (DIVIDE, "6.5.5p5", "divide"),
+    (QUOTIENT, "6.5.5p6", "quotient"),
+    (COUNT, "6.5.7p3", "count"),
+    (SHIFT, "6.5.7p4", "shift"),
+];
 
 #[test]
 fn names_faults(rt: HostRuntime) {
-    prints(&rt, OVERFLOW, "6.5p5", "overflow");
-    prints(&rt, DIVIDE, "6.5.5p5", "divide");
-    prints(&rt, QUOTIENT, "6.5.5p6", "quotient");
-    prints(&rt, COUNT, "6.5.7p3", "count");
-    prints(&rt, SHIFT, "6.5.7p4", "shift");
+    for &(fault, clause, reason) in PRINTED.iter() {
+        assert!(rt; fault.clause.text() == clause, "{clause}");
+        assert!(rt; fault.reason.text() == reason, "{reason}");
+    }
 }

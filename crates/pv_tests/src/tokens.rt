@@ -6,49 +6,42 @@ use std::process::Abort;
 
 mod cases;
 
-/// The tokens with their places, and then the bytes of the names and of the literals.
-fn listing(rt: &impl Abort, alloc: Global, t: &Tokens) -> String {
-    let mut out = String::new(alloc);
+/// Adds the tokens with their places, and then the bytes of the names and of the literals.
+fn list(rt: &impl Abort, out: &mut String, t: &Tokens) {
     for i in 0..t.len() {
         let token = t.at(i);
         write!(out, "{:?}@{}:{} ", token.kind, token.start, token.line).expect(rt, "no memory");
     }
     for n in 0..t.names_len() {
-        write!(out, "{:?} ", t.name(n)).expect(rt, "no memory");
+        put(rt, out, t.name(n));
     }
     for n in 0..t.texts_len() {
-        write!(out, "{:?} ", t.text(n)).expect(rt, "no memory");
+        put(rt, out, t.text(n));
+    }
+}
+
+fn put(rt: &impl Abort, out: &mut String, bytes: &[u8]) {
+    write!(out, "{bytes:?} ").expect(rt, "no memory");
+}
+
+/// The tokens of a source, or its fault.
+fn told(rt: &impl Abort, alloc: Global, source: &[u8]) -> String {
+    assert!(rt; source.len() <= 1000);
+    let mut out = String::new(alloc);
+    match tokens(alloc, source) {
+        Ok(t) => list(rt, &mut out, &t),
+        Err(e) => write!(out, "{e:?}").expect(rt, "no memory"),
     }
     out
 }
 
-/// A source as the rows write it: `¶`, which is the bytes c2 and b6, is the end of a line.
-fn unfold(rt: &impl Abort, alloc: Global, text: &str) -> Vec<u8> {
-    let mut source = Vec::new(alloc);
-    for byte in text.as_bytes() {
-        match *byte {
-            0xc2 => {}
-            0xb6 => source.push(b'\n').expect(rt, "no memory"),
-            other => source.push(other).expect(rt, "no memory"),
-        }
-    }
-    source
-}
-
-fn told(rt: &impl Abort, alloc: Global, source: &[u8]) -> String {
-    assert!(rt; source.len() <= 1000);
-    match tokens(alloc, source) {
-        Ok(t) => listing(rt, alloc, &t),
-        Err(e) => format!(in alloc; "{e:?}").expect(rt, "no memory"),
-    }
-}
-
-/// Compares each row, a source and behind ` =>` its tokens, names and literals, or its fault.
+/// Compares each row, a source and behind ` =>` its tokens, names and literals, or its fault. In the source `¶` is the
+/// end of a line.
 fn agree(rt: &impl Abort, alloc: Global, rows: &str) {
     for row in rows.lines() {
         let (text, want) = row.split_once(" =>").expect(rt, "no arrow");
-        let source = unfold(rt, alloc, text);
-        let got = told(rt, alloc, source.as_slice());
+        let source = text.replace(alloc, '¶', "\n").expect(rt, "no memory");
+        let got = told(rt, alloc, source.as_bytes());
         assert!(rt; got.trim() == want.trim(), "{row}, but {got}");
     }
 }

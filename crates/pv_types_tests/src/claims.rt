@@ -3,7 +3,7 @@ ghost use Rattle.std.specs.Prelude.{◌≡◌, ◌<◌, ◌≤◌, ◌^◌, leng
 ghost use Rattle.pv_types.specs.Known.{tree, env};
 ghost use Rattle.pv_types.specs.Layouts.{is_complete_in, layout_in};
 
-use crate::lines::{Desk, NONE, object, pop, pop_list, pop_object, pop_type};
+use crate::lines::{Desk, Value, object, pop, pop_list, pop_object, pop_type};
 use pv_effect::{permits_declared, permits_marks};
 use pv_layout::{align, leaf_at, measure, member, part_at, size};
 use pv_types::{TypeId, Types};
@@ -78,8 +78,9 @@ fn layout(rt: &impl Abort, types: &Types, desk: &mut Desk) -> bool {
     let bytes = u64::from(pop(rt, desk));
     let alignment = u64::from(pop(rt, desk));
     let t = pop_object(rt, types, desk);
-    types.extent(t).size == Some(bytes)
-        && types.extent(t).align == alignment
+    let extent = types.extent(t);
+    extent.size == Some(bytes)
+        && extent.align == alignment
         && measure(types, t) == Some(bytes)
         && size(types, t) == bytes
         && align(types, t) == alignment
@@ -124,29 +125,34 @@ fn access(rt: &impl Abort, types: &Types, desk: &mut Desk) -> bool {
 fn read(rt: &impl Abort, types: &Types, desk: &mut Desk) -> bool {
     let permitted = pop(rt, desk) == 1;
     let want = pop_object(rt, types, desk);
-    pop_list(rt, desk);
-    desk.marks.clear();
-    for i in 0..desk.list.len() / 3 {
-        mark_run(rt, desk, 3 * i);
-    }
+    pop_marks(rt, desk);
     desk.marks.len() as u64 == size(types, want) && is_read(types, want, &desk.marks) == permitted
 }
 
-/// Adds the marks of the run that begins at this place of the list.
-fn mark_run(rt: &impl Abort, desk: &mut Desk, place: usize) {
-    assert!(rt; desk.list.len() > 2 && place < desk.list.len() - 2);
-    let t = desk.list[place];
-    let first = u64::from(desk.list[place + 1]);
-    let count = u64::from(desk.list[place + 2]);
-    mark(rt, desk, t, first, count);
+/// Takes the runs up to a closing bracket, and makes their marks.
+fn pop_marks(rt: &impl Abort, desk: &mut Desk) {
+    desk.marks.clear();
+    for _ in 0..desk.values.len() {
+        let t = match desk.values.pop() {
+            Some(Value::Number(t)) => Some(t),
+            Some(Value::NoType) => None,
+            _ => return,
+        };
+        let first = u64::from(pop(rt, desk));
+        let count = u64::from(pop(rt, desk));
+        mark(rt, desk, t, first, count);
+    }
 }
 
-/// Adds the marks of bytes of a type.
-fn mark(rt: &impl Abort, desk: &mut Desk, t: u32, first: u64, count: u64) {
+/// Adds the marks of bytes of a type, or of none.
+fn mark(rt: &impl Abort, desk: &mut Desk, t: Option<u32>, first: u64, count: u64) {
     for byte in 0..255_u8 {
         let place = u64::from(byte);
         if first <= place && place < first.saturating_add(count) {
-            let mark = if t == NONE { None } else { Some((t, byte)) };
+            let mark = match t {
+                Some(t) => Some((t, byte)),
+                None => None,
+            };
             desk.marks.push(mark).expect(rt, "no memory");
         }
     }
@@ -185,7 +191,7 @@ fn stored(rt: &impl Abort, types: &Types, desk: &mut Desk) -> bool {
     pop_list(rt, desk);
     desk.marks.clear();
     for _ in 0..16 {
-        mark(rt, desk, t.0, 0, size(types, t));
+        mark(rt, desk, Some(t.0), 0, size(types, t));
     }
     for asked in &desk.asked {
         let want = object(rt, types, *asked);

@@ -1,6 +1,5 @@
 // Pairs of types, with what C17 6.2.7, 6.7.3 and 6.7.6 say of them.
 use crate::lines::check;
-use std::test::Fail;
 
 /// Two structures and a union whose members are not known.
 static TAGS: &str = "type X0 = struct {}
@@ -74,8 +73,8 @@ compatible no: (*const int) int, (*int) int
 compatible no: (*X0) int, (*X1) int";
 
 #[test]
-fn compatible_types(rt: HostRuntime) -> Result<(), Fail> {
-    check(&rt, rt.alloc(), &[(1, TAGS), (1, PAIRS)])
+fn compatible_types(rt: HostRuntime) {
+    check(&rt, rt.alloc(), &[TAGS, PAIRS]);
 }
 
 /// Two types that differ in one size.
@@ -84,13 +83,15 @@ type X1 = [3]int";
 
 /// One more level of each: a pointer, a parameter, a result, and `const` elements.
 static LEVEL: &str = "type X0 = [2]const *() *(*X0) void
-type X1 = [2]const *() *(*X1) void";
+type X1 = [2]const *() *(*X1) void
+";
 
 static TOP: &str = "compatible yes: X0, X1
 complete yes: X0";
 
 /// The stack holds the comparison of types that differ at the bottom of many levels.
 #[test]
-fn deep_types(rt: HostRuntime) -> Result<(), Fail> {
-    check(&rt, rt.alloc(), &[(1, BOTTOM), (20000, LEVEL), (1, TOP)])
+fn deep_types(rt: HostRuntime) {
+    let levels = LEVEL.repeat(rt.alloc(), 20000).expect(&rt, "no memory");
+    check(&rt, rt.alloc(), &[BOTTOM, levels.as_str(), TOP]);
 }

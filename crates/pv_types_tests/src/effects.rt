@@ -1,7 +1,6 @@
 // What no clause says: that another reader of types permits the same accesses. It is slow and in another language, and
 // lists all parts and looks at each of them.
 use crate::lines::check;
-use std::test::Fail;
 
 /// Structures and unions, laid out as gcc does for x86-64.
 static TYPES: &str = "layout 24 8: X0 = struct {char@0, long@8, short@16}
@@ -185,10 +184,6 @@ read no: X9 {int 0 8}
 read no: X6 {int 0 4}";
 
 #[test]
-fn accesses(rt: HostRuntime) -> Result<(), Fail> {
-    check(
-        &rt,
-        rt.alloc(),
-        &[(1, TYPES), (1, ALL_PAIRS), (1, ACCESSES), (1, READS)],
-    )
+fn accesses(rt: HostRuntime) {
+    check(&rt, rt.alloc(), &[TYPES, ALL_PAIRS, ACCESSES, READS]);
 }

@@ -10,20 +10,24 @@ use pv_num::IntKind;
 use pv_types::{Member, Term, TypeId, Types};
 use std::alloc::Global;
 use std::process::Abort;
-use std::test::Fail;
 
-/// What a closing bracket leaves. All other values are numbers, and numbers of types.
-const CLOSED: u32 = 0xffff_ffff;
-
-/// The number of no type, for bytes without a mark.
-pub(crate) const NONE: u32 = 0xffff_fffe;
+/// What a word leaves for the words before it.
+#[derive(Clone, Copy)]
+pub(crate) enum Value {
+    /// A number, or that of a type.
+    Number(u32),
+    /// No type, for bytes without a mark.
+    NoType,
+    /// The end of a list.
+    Closed,
+}
 
 /// What the words of a line made so far.
 #[derive(Drop)]
 pub(crate) struct Desk {
     alloc: Global,
     /// What is not taken yet.
-    values: Vec<u32>,
+    pub(crate) values: Vec<Value>,
     /// What was taken from between two brackets last.
     pub(crate) list: Vec<u32>,
     /// The types that lines named `X0`, `X1` and so on.
@@ -50,7 +54,7 @@ enum Word {
     Const,
     Struct,
     Union,
-    Number(u32),
+    Value(Value),
     Claim(Claim),
 }
 
@@ -72,9 +76,9 @@ static WORDS: [(&[u8], Word); 30] = [
     (b"const", Word::Const),
     (b"struct", Word::Struct),
     (b"union", Word::Union),
-    (b"yes", Word::Number(1)),
-    (b"no", Word::Number(0)),
-    (b"none", Word::Number(NONE)),
+    (b"yes", Word::Value(Value::Number(1))),
+    (b"no", Word::Value(Value::Number(0))),
+    (b"none", Word::Value(Value::NoType)),
     (b"type", Word::Claim(Claim::Type)),
     (b"same", Word::Claim(Claim::Same)),
     (b"compatible", Word::Claim(Claim::Compatible)),
@@ -88,24 +92,26 @@ static WORDS: [(&[u8], Word); 30] = [
     (b"stored", Word::Claim(Claim::Stored)),
 ];
 
-fn push(rt: &impl Abort, desk: &mut Desk, n: u32) {
-    desk.values.push(n).expect(rt, "no memory");
+fn push(rt: &impl Abort, desk: &mut Desk, value: Value) {
+    desk.values.push(value).expect(rt, "no memory");
 }
 
-/// The next value.
+/// The next value, a number.
 pub(crate) fn pop(rt: &impl Abort, desk: &mut Desk) -> u32 {
-    desk.values.pop().expect(rt, "a value is missing")
+    match desk.values.pop() {
+        Some(Value::Number(n)) => n,
+        _ => panic!(rt; "a number is missing"),
+    }
 }
 
-/// Takes the values up to a closing bracket.
+/// Takes the numbers up to a closing bracket, and that bracket.
 pub(crate) fn pop_list(rt: &impl Abort, desk: &mut Desk) {
     desk.list.clear();
     for _ in 0..desk.values.len() {
-        let n = pop(rt, desk);
-        if n == CLOSED {
-            return;
+        match desk.values.pop() {
+            Some(Value::Number(n)) => desk.list.push(n).expect(rt, "no memory"),
+            _ => return,
         }
-        desk.list.push(n).expect(rt, "no memory");
     }
 }
 
@@ -152,7 +158,7 @@ fn make(rt: &impl Abort, types: &mut Types, desk: &mut Desk, term: Term)
 {
     let t = types.intern(term).expect(rt, "no memory");
     assert!(rt; types.view(t) == term);
-    push(rt, desk, t.0);
+    push(rt, desk, Value::Number(t.0));
 }
 
 /// Makes an array, whose length is in brackets.
@@ -283,7 +289,7 @@ fn take_name(rt: &impl Abort, desk: &mut Desk, place: usize) {
     if desk.names {
         desk.names = false;
         let t = pop(rt, desk);
-        push(rt, desk, t);
+        push(rt, desk, Value::Number(t));
         if place < desk.named.len() {
             desk.named[place] = t;
         } else {
@@ -292,7 +298,7 @@ fn take_name(rt: &impl Abort, desk: &mut Desk, place: usize) {
     } else {
         assert!(rt; place < desk.named.len());
         let t = desk.named[place];
-        push(rt, desk, t);
+        push(rt, desk, Value::Number(t));
     }
 }
 
@@ -306,7 +312,7 @@ fn take_word(rt: &impl Abort, types: &mut Types, desk: &mut Desk, word: Word) {
         }
         Word::Struct => composite(rt, types, desk, false),
         Word::Union => composite(rt, types, desk, true),
-        Word::Number(n) => push(rt, desk, n),
+        Word::Value(value) => push(rt, desk, value),
         Word::Claim(claim) => desk.holds = is_so(rt, types, desk, claim),
     }
 }
@@ -346,8 +352,8 @@ fn take(rt: &impl Abort, types: &mut Types, desk: &mut Desk, text: &[u8])
         b'(' => function(rt, types, desk),
         b'.' => desk.variadic = true,
         b'=' => desk.names = true,
-        b']' | b')' | b'}' => push(rt, desk, CLOSED),
-        b'0'..=b'9' => push(rt, desk, number(text)),
+        b']' | b')' | b'}' => push(rt, desk, Value::Closed),
+        b'0'..=b'9' => push(rt, desk, Value::Number(number(text))),
         b'X' => take_name(rt, desk, number(&text[1..]) as usize),
         _ => take_word(rt, types, desk, look_up(rt, text)),
     }
@@ -373,20 +379,18 @@ fn take_line(rt: &impl Abort, types: &mut Types, desk: &mut Desk, line: &[u8]) -
     desk.holds && desk.values.is_empty()
 }
 
-/// Takes texts, each as many times as it says, over one table.
-fn take_texts(rt: &impl Abort, types: &mut Types, desk: &mut Desk, texts: &[(u32, &str)]) {
-    for (times, text) in texts {
-        for _ in 0..*times {
-            for line in text.lines() {
-                assert!(rt; take_line(rt, types, desk, line.as_bytes()), "{line}");
-            }
+/// Takes the lines of texts over one table, and stops where one does not hold.
+fn take_texts(rt: &impl Abort, types: &mut Types, desk: &mut Desk, texts: &[&str]) {
+    for text in texts {
+        for line in text.lines() {
+            assert!(rt; take_line(rt, types, desk, line.as_bytes()), "{line}");
         }
     }
 }
 
-/// Checks that each line of the texts holds. Each text is read as many times as it says.
-pub(crate) fn check(rt: &impl Abort, alloc: Global, texts: &[(u32, &str)]) -> Result<(), Fail> {
-    let mut types = Types::new(alloc)?;
+/// Checks that each line of the texts holds.
+pub(crate) fn check(rt: &impl Abort, alloc: Global, texts: &[&str]) {
+    let mut types = Types::new(alloc).expect(rt, "no memory");
     let mut desk = Desk {
         alloc,
         values: Vec::new(alloc),
@@ -400,5 +404,4 @@ pub(crate) fn check(rt: &impl Abort, alloc: Global, texts: &[(u32, &str)]) -> Re
         holds: false,
     };
     take_texts(rt, &mut types, &mut desk, texts);
-    Ok(())
 }

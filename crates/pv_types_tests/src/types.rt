@@ -1,6 +1,5 @@
 // Types and their numbers, with what follows from the rules of C17 6.2.5.
 use crate::lines::check;
-use std::test::Fail;
 
 /// Types that are made more than once.
 static NUMBERS: &str = "same yes: *int, *int
@@ -21,8 +20,8 @@ complete no: void
 complete no: []*X1";
 
 #[test]
-fn numbers_and_completeness(rt: HostRuntime) -> Result<(), Fail> {
-    check(&rt, rt.alloc(), &[(1, NUMBERS), (1, COMPLETENESS)])
+fn numbers_and_completeness(rt: HostRuntime) {
+    check(&rt, rt.alloc(), &[NUMBERS, COMPLETENESS]);
 }
 
 /// A structure with its members. Where they begin is kept from the time that the next type is made.
@@ -63,10 +62,6 @@ suits no, no: X2 + 13, X1";
 static ONE_MORE: &str = "complete yes: *X2";
 
 #[test]
-fn members_are_found_before_their_places_are_kept(rt: HostRuntime) -> Result<(), Fail> {
-    check(
-        &rt,
-        rt.alloc(),
-        &[(1, MEMBERS), (1, BYTES), (1, ONE_MORE), (1, BYTES)],
-    )
+fn members_are_found_before_their_places_are_kept(rt: HostRuntime) {
+    check(&rt, rt.alloc(), &[MEMBERS, BYTES, ONE_MORE, BYTES]);
 }

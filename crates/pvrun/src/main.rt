@@ -4,7 +4,8 @@
 #![tactic(auto)]
 
 use pv_script::{DiskFiles, Printed};
-use pv_serve::{NO_MEMORY, NoMemory, serve};
+pub use pv_serve::serve;
+use pv_serve::{NO_MEMORY, NoMemory};
 use std::alloc::Global;
 use std::process::ExitCode;
 use std::rt::Env;

@@ -1,11 +1,12 @@
 use Rattle.std.proofs.Common.{◌≡◌, ◌<◌, ◌≤◌, ◌^◌, ◌*◌, ◌∙◌, IsTrue, is_some, ◌||◌, true, false, refl, get_or, length, sym, ap, arith}
 use Rattle.pv_types.specs.Known.{tree, env}
 use Rattle.pv_types.specs.Layouts.{layout_in, look, or_none}
+use Rattle.pv_types.proofs.Fills.{lt_true}
 use Rattle.pv_types.proofs.Made.{flag, made}
 use Rattle.pv_types.proofs.Peeling.{whole_array}
 use Rattle.pv_layout.proofs.Ahead.{nobody}
 use Rattle.pv_layout.proofs.Below.{one_of}
-use Rattle.pv_layout.proofs.Unions.{around_start, around_hit, around_miss, around_same, inside_at, union_found}
+use Rattle.pv_layout.proofs.Unions.{around_start, around_hit, around_miss, around_same, around_next, around_none, inside_at, union_found}
 use Rattle.pv_effect.specs.EffectiveType.{some_over}
 use Rattle.pv_effect.specs.Searches.{passes}
 use Rattle.pv_effect.proofs.Descents.{joins_over, struct_whole, union_whole, const_whole}
@@ -94,3 +95,64 @@ in_union-returns-else-found_in_others-clause-below t c =
     let all = around_start m (some_over (env c.args.types.now) (passes c.args.types.now c.args.sought) c.args.offset) c.args.tag 0 c.members-members.ensures.built c.requires.complete c.requires.union c.requires.small in
     let n = inside_at m (some_over (env c.args.types.now) (passes c.args.types.now c.args.sought) c.args.offset) c.args.tag 0 c.last_deep.result c.members-members.result.now nobody c.last_deep.ensures.in_range (rw c.members-members.ensures.value all) in
     (n.known, n.complete, n.small, n.lower)
+
+pub below-view-requires : goal.below-view-requires
+below-view-requires t c = c.requires.known
+
+pub below-returns-in-Int-clause-below : goal.below-returns-in-Int-clause-below
+below-returns-in-Int-clause-below t c = tt
+
+pub below-returns-in-Void-2-clause-below : goal.below-returns-in-Void-2-clause-below
+below-returns-in-Void-2-clause-below t c = tt
+
+pub found_in_others-members-m-items-requires : goal.found_in_others-members-m-items-requires
+found_in_others-members-m-items-requires t c = c.requires.made
+
+pub found_in_others-found-requires : goal.found_in_others-found-requires
+found_in_others-found-requires t c =
+    let lt : c.loop-m.m-index < length c.members-m-items.result.now = omega arith in
+    let n = around_next c.args.types.now (some_over (env c.args.types.now) (passes c.args.types.now c.args.sought) c.args.offset) c.args.tag c.args.main.0 c.loop-m.m-index c.members-m-items.result.now nobody lt c.loop-m.invariant in
+    (omega (arith, n.lower), (n.known, (n.complete, n.small)))
+
+pub found_in_others-returns : goal.found_in_others-returns
+found_in_others-returns t c =
+    let ge : length c.members-m-items.result.now ≤ c.loop-m.m-index = omega arith in
+    around_none c.args.types.now (some_over (env c.args.types.now) (passes c.args.types.now c.args.sought) c.args.offset) (joins_over (env c.args.types.now) (passes c.args.types.now c.args.sought) c.args.offset) c.args.tag c.args.main.0 c.loop-m.m-index c.members-m-items.result.now ge c.loop-m.invariant
+
+pub in_union-members-members-requires : goal.in_union-members-members-requires
+in_union-members-members-requires t c = c.requires.made
+
+pub in_union-last_deep-requires-clause-some : goal.in_union-last_deep-requires-clause-some
+in_union-last_deep-requires-clause-some t c = lt_true 0 _ (rw c.members-members.ensures.complete at c.requires.complete)
+
+pub in_union-bounds-members-last_deep : goal.in_union-bounds-members-last_deep
+in_union-bounds-members-last_deep t c = c.last_deep.ensures.in_range
+
+pub in_union-found_in_others-requires : goal.in_union-found_in_others-requires
+in_union-found_in_others-requires t c = (omega arith, (c.requires.made, (c.requires.complete, (c.requires.union, c.requires.small))))
+
+pub in_union-returns-then-found_in_others-clause-below : goal.in_union-returns-then-found_in_others-clause-below
+in_union-returns-then-found_in_others-clause-below t c = tt
+
+pub below-in_scalar-requires-clause-known : goal.below-in_scalar-requires-clause-known
+below-in_scalar-requires-clause-known t c = c.requires.known
+
+pub below-in_scalar-requires-clause-complete : goal.below-in_scalar-requires-clause-complete
+below-in_scalar-requires-clause-complete t c = c.requires.complete
+
+pub below-in_scalar-requires-clause-small : goal.below-in_scalar-requires-clause-small
+below-in_scalar-requires-clause-small t c = c.requires.small
+
+pub found-loop-answer-init : goal.found-loop-answer-init
+found-loop-answer-init t c = record {
+  known = c.requires.known;
+  complete = c.requires.complete;
+  small = c.requires.small;
+  lower = omega arith;
+  same = refl;
+}
+
+pub found-below-requires : goal.found-below-requires
+found-below-requires t c =
+    let h = c.loop-answer.invariant in
+    (omega (arith, h.lower), (h.known, (h.complete, h.small)))

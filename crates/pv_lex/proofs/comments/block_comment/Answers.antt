@@ -1,11 +1,12 @@
 use Rattle.std.proofs.Common.{◌+◌, ◌≤◌, nat_eq, get_or, length-drop, sym, ap, ◌∙◌, arith}
+use Rattle.pv_lex.specs.Pieces.{or_bad}
 use Rattle.pv_lex.proofs.Closing.{close_here, close_next, close_none, feeds_next, comment_is, comment_none, at_most_one}
 use Rattle.pv_lex.proofs.comments.block_comment.Goals as goal
 
 pub returns-then-starts_with : goal.returns-then-starts_with
 returns-then-starts_with c =
     let here = close_here c.loop-rest.rest.now (sym c.starts_with.ensures.value ∙ c.if-starts_with.true) in
-    rw c.behind.ensures (comment_is c.args.text.now _ _ (c.loop-rest.invariant.closes ∙ here.0) (ap (λ n. c.loop-rest.lines + n) (sym here.1) ∙ c.loop-rest.invariant.feeds))
+    rw c.behind.ensures (ap or_bad (comment_is c.args.text.now _ _ (c.loop-rest.invariant.closes ∙ here.0) (ap (λ n. c.loop-rest.lines + n) (sym here.1) ∙ c.loop-rest.invariant.feeds)))
 
 pub loop-rest-preserved : goal.loop-rest-preserved
 loop-rest-preserved c =
@@ -19,4 +20,4 @@ loop-rest-preserved c =
     })
 
 pub returns : goal.returns
-returns c = comment_none _ (c.loop-rest.invariant.closes ∙ close_none _ (omega arith))
+returns c = ap or_bad (comment_none _ (c.loop-rest.invariant.closes ∙ close_none _ (omega arith)))

@@ -8,6 +8,7 @@ use Rattle.pv_tree.proofs.Kept.{tree_kept, is_kept}
 use Rattle.pv_expr_forms.proofs.Answered.{kept_same, kept_list}
 use Rattle.pv_decl_forms.proofs.Answered.{moved}
 use Rattle.pv_decl_forms.proofs.Listing.{list_made, list_has}
+use Rattle.std.proofs.lemmas.Result.{IfOk-from_err}
 use Rattle.pv_stmt_forms.proofs.nodes.labelled_of.Goals as goal
 
 pub returns-in_err-labels-clause-keeps : goal.returns-in_err-labels-clause-keeps
@@ -26,3 +27,9 @@ returns-clause-ok c =
     moved _ _ _ _ _ _
     (ap (λ (ts : Trees). let x : Tree × List Token = (OfStatement (Labelled c.args.line ts (statement_at (tables c.add_list.new.self).forest c.args.statement)), rest) in Some x) listed
     ∙ ap (λ (t : Tree). let x : Tree × List Token = (OfStatement (Labelled c.args.line (trees_of (tables c.args.into.now).forest c.args.labels.now) (as_statement t)), rest) in Some x) (tree_kept (tables c.args.into.now) (tables c.add_list.new.self) c.args.statement grows c.requires.statement.0)) c.found_statement.ensures.ok
+
+pub returns-in_err-labels-clause-ok : goal.returns-in_err-labels-clause-ok
+returns-in_err-labels-clause-ok c = IfOk-from_err _ _ c.from_residual.ensures.0
+
+pub found_statement-requires-clause-place : goal.found_statement-requires-clause-place
+found_statement-requires-clause-place c = c.requires.place

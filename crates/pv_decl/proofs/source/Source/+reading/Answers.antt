@@ -153,14 +153,17 @@ specifier-returns-in_default-clause-ok g t c = nothing _ _ _ _ (specifier_end (n
 pub specifier-returns-in_default-tag_word-clause-ok : goal.specifier-returns-in_default-tag_word-clause-ok
 specifier-returns-in_default-tag_word-clause-ok g t c = moved _ _ _ _ _ _ (specifier_plain c.args.self.now.typedefs.now (g.R.TypeReader.types c.args.self.now.reader.now) (tables c.args.into.now) c.args.self.now.tokens.now.tokens c.args.depth _ c.in-Some.token _ c.in-Some.ensures.0 (sym c.in_default-tag_word.ensures)) c.plain.ensures.ok
 
-pub specifier-returns-clause-ok : goal.specifier-returns-clause-ok
-specifier-returns-clause-ok g t c = moved _ _ _ _ _ _ (specifier_tagged (names_in c.args.self.now.typedefs.now (g.R.TypeReader.types c.args.self.now.reader.now) (tables c.args.into.now) c.args.self.now.tokens.now.tokens) c.args.depth _ c.in-Some.token _ c.in-Some.ensures.0 c.in-Some-tag_word.word (sym c.in-Some-tag_word.ensures)) c.tagged.ensures.ok
+pub specifier-returns-in-Some-2-clause-ok : goal.specifier-returns-in-Some-2-clause-ok
+specifier-returns-in-Some-2-clause-ok g t c =
+    let a = tagged_braced (tables c.braced.new.into) c.args.self.now.tokens.now.tokens (within (names_in c.args.self.now.typedefs.now (g.R.TypeReader.types c.args.self.now.reader.now) (tables c.args.into.now) c.args.self.now.tokens.now.tokens) c.args.depth) c.in-Some.token.line (word_of_tag c.in-Some-tag_word.word) (drop (c.args.at + 1) c.args.self.now.tokens.now.tokens) c.tag_at-tag.result.0 (drop c.tag_at-tag.result.1 c.args.self.now.tokens.now.tokens) c.tag_at-tag.ensures.is c.in_ok-found.field-0 c.in_ok-found.ensures.ok c.in-Some-2.found c.in-Some-2.is in
+    record {
+      is = a.is ∙ specifier_tagged (names_in c.args.self.now.typedefs.now (g.R.TypeReader.types c.args.self.now.reader.now) (tables c.args.into.now) c.args.self.now.tokens.now.tokens) c.args.depth _ c.in-Some.token _ c.in-Some.ensures.0 c.in-Some-tag_word.word (sym c.in-Some-tag_word.ensures);
+      there = a.there;
+    }
 
-pub tagged-returns-in-Some-clause-ok : goal.tagged-returns-in-Some-clause-ok
-tagged-returns-in-Some-clause-ok g t c = tagged_braced (tables c.braced.new.into) c.args.self.now.tokens.now.tokens (within (names_in c.args.self.now.typedefs.now (g.R.TypeReader.types c.args.self.now.reader.now) (tables c.args.into.now) c.args.self.now.tokens.now.tokens) c.args.depth) c.args.line (word_of_tag c.args.word) (drop c.args.at c.args.self.now.tokens.now.tokens) c.tag_at-tag.result.0 (drop c.tag_at-tag.result.1 c.args.self.now.tokens.now.tokens) c.tag_at-tag.ensures.is c.in_ok-found.field-0 c.in_ok-found.ensures.ok c.in-Some.found c.in-Some.is
-
-pub tagged-returns-in-None-clause-ok : goal.tagged-returns-in-None-clause-ok
-tagged-returns-in-None-clause-ok g t c = moved _ _ _ _ _ _ (tagged_alone (tables c.braced.new.into) c.args.self.now.tokens.now.tokens (within (names_in c.args.self.now.typedefs.now (g.R.TypeReader.types c.args.self.now.reader.now) (tables c.args.into.now) c.args.self.now.tokens.now.tokens) c.args.depth) c.args.line (word_of_tag c.args.word) (drop c.args.at c.args.self.now.tokens.now.tokens) c.tag_at-tag.result.0 (drop c.tag_at-tag.result.1 c.args.self.now.tokens.now.tokens) c.tag_at-tag.ensures.is c.in_ok-found.field-0 c.in_ok-found.ensures.ok c.in-None.is) c.tag_alone.ensures.ok
+pub specifier-returns-in-None-clause-ok : goal.specifier-returns-in-None-clause-ok
+specifier-returns-in-None-clause-ok g t c = moved _ _ _ _ _ _ (tagged_alone (tables c.braced.new.into) c.args.self.now.tokens.now.tokens (within (names_in c.args.self.now.typedefs.now (g.R.TypeReader.types c.args.self.now.reader.now) (tables c.args.into.now) c.args.self.now.tokens.now.tokens) c.args.depth) c.in-Some.token.line (word_of_tag c.in-Some-tag_word.word) (drop (c.args.at + 1) c.args.self.now.tokens.now.tokens) c.tag_at-tag.result.0 (drop c.tag_at-tag.result.1 c.args.self.now.tokens.now.tokens) c.tag_at-tag.ensures.is c.in_ok-found.field-0 c.in_ok-found.ensures.ok c.in-None.is
+    ∙ specifier_tagged (names_in c.args.self.now.typedefs.now (g.R.TypeReader.types c.args.self.now.reader.now) (tables c.args.into.now) c.args.self.now.tokens.now.tokens) c.args.depth _ c.in-Some.token _ c.in-Some.ensures.0 c.in-Some-tag_word.word (sym c.in-Some-tag_word.ensures)) c.tag_alone.ensures.ok
 
 pub braced-returns-in_default-clause-ok : goal.braced-returns-in_default-clause-ok
 braced-returns-in_default-clause-ok g t c = nothing _ _ _ _ (no_brace (names_in c.args.self.now.typedefs.now (g.R.TypeReader.types c.args.self.now.reader.now) (tables c.args.into.now) c.args.self.now.tokens.now.tokens) c.args.depth c.args.line c.args.word c.args.tag (drop c.args.at c.args.self.now.tokens.now.tokens) c.in_default.ensures)
@@ -168,23 +171,19 @@ braced-returns-in_default-clause-ok g t c = nothing _ _ _ _ (no_brace (names_in 
 pub braced-returns-then-depth-eq0-clause-ok : goal.braced-returns-then-depth-eq0-clause-ok
 braced-returns-then-depth-eq0-clause-ok g t c = nothing _ _ _ _ (no_depth (names_in c.args.self.now.typedefs.now (g.R.TypeReader.types c.args.self.now.reader.now) (tables c.args.into.now) c.args.self.now.tokens.now.tokens) c.args.depth c.args.line c.args.word c.args.tag (drop c.args.at c.args.self.now.tokens.now.tokens) (drop c.in-Some.inside c.args.self.now.tokens.now.tokens) c.in-Some.ensures.0 c.if-depth-eq0.true)
 
-pub braced-returns-in-Enum-clause-ok : goal.braced-returns-in-Enum-clause-ok
-braced-returns-in-Enum-clause-ok g t c = moved _ _ _ _ _ _ (enumerators_in (names_in c.args.self.now.typedefs.now (g.R.TypeReader.types c.args.self.now.reader.now) (tables c.args.into.now) c.args.self.now.tokens.now.tokens) c.args.depth c.args.line c.args.word c.args.tag (drop c.args.at c.args.self.now.tokens.now.tokens) (drop c.in-Some.inside c.args.self.now.tokens.now.tokens) c.in-Some.ensures.0 (omega arith) c.in-Enum.is) c.enumerators.ensures.ok
+pub braced-returns-in_ok-enumerators-in-Enum-clause-ok : goal.braced-returns-in_ok-enumerators-in-Enum-clause-ok
+braced-returns-in_ok-enumerators-in-Enum-clause-ok g t c = moved _ _ _ _ _ _ (ap (listed_in_braces (λ trees comma. OfSpecifier (Enumeration c.args.line c.args.tag trees comma))) (ap (λ (ns : List NodeId). let x : Trees × List Token = (trees_of (tables c.listed.new.into).forest ns, drop c.in_ok-enumerators-in-Enum.end c.args.self.now.tokens.now.tokens) in x) c.deref.ensures.value ∙ c.in_ok-enumerators-in-Enum.ensures.ok.is)
+    ∙ enumerators_in (names_in c.args.self.now.typedefs.now (g.R.TypeReader.types c.args.self.now.reader.now) (tables c.args.into.now) c.args.self.now.tokens.now.tokens) c.args.depth c.args.line c.args.word c.args.tag (drop c.args.at c.args.self.now.tokens.now.tokens) (drop c.in-Some.inside c.args.self.now.tokens.now.tokens) c.in-Some.ensures.0 (omega arith) c.in-Enum.is) c.enumeration.ensures.ok
 
-pub braced-returns-in-Composite-clause-ok : goal.braced-returns-in-Composite-clause-ok
-braced-returns-in-Composite-clause-ok g t c = moved _ _ _ _ _ _ (members_in (names_in c.args.self.now.typedefs.now (g.R.TypeReader.types c.args.self.now.reader.now) (tables c.args.into.now) c.args.self.now.tokens.now.tokens) c.args.depth c.args.line c.args.word c.args.tag (drop c.args.at c.args.self.now.tokens.now.tokens) (drop c.in-Some.inside c.args.self.now.tokens.now.tokens) c.in-Some.ensures.0 (omega arith) c.in-Composite.composite_word c.in-Composite.is) c.members.ensures.ok
+pub braced-returns-in_ok-members-in-Composite-clause-ok : goal.braced-returns-in_ok-members-in-Composite-clause-ok
+braced-returns-in_ok-members-in-Composite-clause-ok g t c = moved _ _ _ _ _ _ (ap (row_in_braces (λ trees. OfSpecifier (Composite c.args.line (word_of_composite c.in-Composite.composite_word) c.args.tag trees))) (ap (λ (ns : List NodeId). let x : Trees × List Token = (trees_of (tables c.row.new.into).forest ns, drop c.in_ok-members-in-Composite.end c.args.self.now.tokens.now.tokens) in x) c.deref-in-Composite.ensures.value ∙ c.in_ok-members-in-Composite.ensures.ok.is)
+    ∙ members_in (names_in c.args.self.now.typedefs.now (g.R.TypeReader.types c.args.self.now.reader.now) (tables c.args.into.now) c.args.self.now.tokens.now.tokens) c.args.depth c.args.line c.args.word c.args.tag (drop c.args.at c.args.self.now.tokens.now.tokens) (drop c.in-Some.inside c.args.self.now.tokens.now.tokens) c.in-Some.ensures.0 (omega arith) c.in-Composite.composite_word c.in-Composite.is) c.composite.ensures.ok
 
-pub enumerators-returns-clause-ok : goal.enumerators-returns-clause-ok
-enumerators-returns-clause-ok g t c = moved _ _ _ _ _ _ (ap (listed_in_braces (λ trees comma. OfSpecifier (Enumeration c.args.line c.args.tag trees comma))) (ap (λ (ns : List NodeId). let x : Trees × List Token = (trees_of (tables c.listed.new.into).forest ns, drop c.in_ok-parts.end c.args.self.now.tokens.now.tokens) in x) c.deref.ensures.value ∙ c.in_ok-parts.ensures.ok.is)) c.enumeration.ensures.ok
+pub braced-enumeration-requires-clause-enumerators : goal.braced-enumeration-requires-clause-enumerators
+braced-enumeration-requires-clause-enumerators g t c = all_as (tables c.listed.new.into) is_declaration _ _ c.deref.ensures.value c.in_ok-enumerators-in-Enum.ensures.ok.there
 
-pub enumerators-enumeration-requires-clause-enumerators : goal.enumerators-enumeration-requires-clause-enumerators
-enumerators-enumeration-requires-clause-enumerators g t c = all_as (tables c.listed.new.into) is_declaration _ _ c.deref.ensures.value c.in_ok-parts.ensures.ok.there
-
-pub members-returns-clause-ok : goal.members-returns-clause-ok
-members-returns-clause-ok g t c = moved _ _ _ _ _ _ (ap (row_in_braces (λ trees. OfSpecifier (Composite c.args.line (word_of_composite c.args.composite_word) c.args.tag trees))) (ap (λ (ns : List NodeId). let x : Trees × List Token = (trees_of (tables c.row.new.into).forest ns, drop c.in_ok-parts.end c.args.self.now.tokens.now.tokens) in x) c.deref.ensures.value ∙ c.in_ok-parts.ensures.ok.is)) c.composite.ensures.ok
-
-pub members-composite-requires-clause-members : goal.members-composite-requires-clause-members
-members-composite-requires-clause-members g t c = all_as (tables c.row.new.into) is_declaration _ _ c.deref.ensures.value c.in_ok-parts.ensures.ok.there
+pub braced-composite-requires-clause-members : goal.braced-composite-requires-clause-members
+braced-composite-requires-clause-members g t c = all_as (tables c.row.new.into) is_declaration _ _ c.deref-in-Composite.ensures.value c.in_ok-members-in-Composite.ensures.ok.there
 
 -- ---- members and parameters
 
@@ -297,14 +296,14 @@ extend-returns-in-Paren-clause-ok g t c = moved _ _ _ _ _ _ (longer_paren (reade
 pub extend-returns-in_default-opening-clause-ok : goal.extend-returns-in_default-opening-clause-ok
 extend-returns-in_default-opening-clause-ok g t c = nothing _ _ _ _ (longer_other (readers (names_in c.args.self.now.typedefs.now (g.R.TypeReader.types c.args.self.now.reader.now) (tables c.args.into.now) c.args.self.now.tokens.now.tokens) c.args.below) c.args.below c.args.line (tree_at (tables c.args.into.now).forest c.args.left) (sym c.may_go_on.ensures ∙ c.if-not-may_go_on.false) (drop c.args.at c.args.self.now.tokens.now.tokens) c.in-Some.token (drop (c.args.at + 1) c.args.self.now.tokens.now.tokens) c.in-Some.ensures.0 c.in-Some-opening_of.opening (sym c.in-Some-opening_of.ensures) c.in_default-opening.not-Bracket c.in_default-opening.not-Paren)
 
-pub unknown_parameters-returns-clause-ok : goal.unknown_parameters-returns-clause-ok
-unknown_parameters-returns-clause-ok g t c = moved _ _ _ _ _ _ (parametrized_is (tables c.args.into.now) (tables c.listed.new.into) c.args.self.now.tokens.now.tokens c.args.line c.args.at (readers (names_in c.args.self.now.typedefs.now (g.R.TypeReader.types c.args.self.now.reader.now) (tables c.args.into.now) c.args.self.now.tokens.now.tokens) c.args.below) c.args.left c.listed.ensures.keeps c.requires.left c.in_ok-parts.parts.items c.deref.result.now c.in_ok-parts.end c.deref.ensures.value c.in_ok-parts.ensures.ok) c.function_of.ensures.ok
+pub parameters-returns-clause-ok : goal.parameters-returns-clause-ok
+parameters-returns-clause-ok g t c = moved _ _ _ _ _ _ (parametrized_is (tables c.args.into.now) (tables c.listed.new.into) c.args.self.now.tokens.now.tokens c.args.line c.args.at (readers (names_in c.args.self.now.typedefs.now (g.R.TypeReader.types c.args.self.now.reader.now) (tables c.args.into.now) c.args.self.now.tokens.now.tokens) c.args.below) c.args.left c.listed.ensures.keeps c.requires.left c.in_ok-parts.parts.items c.deref.result.now c.in_ok-parts.end c.deref.ensures.value c.in_ok-parts.ensures.ok) c.function_of.ensures.ok
 
-pub unknown_parameters-function_of-requires-clause-left : goal.unknown_parameters-function_of-requires-clause-left
-unknown_parameters-function_of-requires-clause-left g t c = some_kept (tables c.args.into.now) (tables c.listed.new.into) is_declarator c.args.left c.listed.ensures.keeps c.requires.left
+pub parameters-function_of-requires-clause-left : goal.parameters-function_of-requires-clause-left
+parameters-function_of-requires-clause-left g t c = some_kept (tables c.args.into.now) (tables c.listed.new.into) is_declarator c.args.left c.listed.ensures.keeps c.requires.left
 
-pub unknown_parameters-function_of-requires-clause-parameters : goal.unknown_parameters-function_of-requires-clause-parameters
-unknown_parameters-function_of-requires-clause-parameters g t c = all_as (tables c.listed.new.into) is_declaration _ _ c.deref.ensures.value c.in_ok-parts.ensures.ok.there
+pub parameters-function_of-requires-clause-parameters : goal.parameters-function_of-requires-clause-parameters
+parameters-function_of-requires-clause-parameters g t c = all_as (tables c.listed.new.into) is_declaration _ _ c.deref.ensures.value c.in_ok-parts.ensures.ok.there
 
 -- ---- how one begins
 
@@ -355,11 +354,11 @@ braced-returns-in_default-clause-keeps g t c = extends_same _
 pub braced-returns-then-depth-eq0-clause-keeps : goal.braced-returns-then-depth-eq0-clause-keeps
 braced-returns-then-depth-eq0-clause-keeps g t c = extends_same _
 
-pub braced-returns-in-Enum-clause-keeps : goal.braced-returns-in-Enum-clause-keeps
-braced-returns-in-Enum-clause-keeps g t c = c.enumerators.ensures.keeps
+pub braced-returns-in_ok-enumerators-in-Enum-clause-keeps : goal.braced-returns-in_ok-enumerators-in-Enum-clause-keeps
+braced-returns-in_ok-enumerators-in-Enum-clause-keeps g t c = extends_then _ _ _ c.listed.ensures.keeps c.enumeration.ensures.keeps
 
-pub braced-returns-in-Composite-clause-keeps : goal.braced-returns-in-Composite-clause-keeps
-braced-returns-in-Composite-clause-keeps g t c = c.members.ensures.keeps
+pub braced-returns-in_ok-members-in-Composite-clause-keeps : goal.braced-returns-in_ok-members-in-Composite-clause-keeps
+braced-returns-in_ok-members-in-Composite-clause-keeps g t c = extends_then _ _ _ c.row.ensures.keeps c.composite.ensures.keeps
 
 pub declarator-returns-then-depth-eq0-clause-keeps : goal.declarator-returns-then-depth-eq0-clause-keeps
 declarator-returns-then-depth-eq0-clause-keeps g t c = extends_same _
@@ -376,14 +375,11 @@ declarator-returns-in-Some-clause-keeps g t c = extends_then _ _ _ c.head.ensure
 pub declarator-returns-in-None-clause-keeps : goal.declarator-returns-in-None-clause-keeps
 declarator-returns-in-None-clause-keeps g t c = c.head.ensures.keeps
 
-pub enumerators-returns-in_err-parts-clause-keeps : goal.enumerators-returns-in_err-parts-clause-keeps
-enumerators-returns-in_err-parts-clause-keeps g t c = c.listed.ensures.keeps
+pub braced-returns-in_err-enumerators-in-Enum-clause-keeps : goal.braced-returns-in_err-enumerators-in-Enum-clause-keeps
+braced-returns-in_err-enumerators-in-Enum-clause-keeps g t c = c.listed.ensures.keeps
 
-pub enumerators-enumeration-requires-clause-place : goal.enumerators-enumeration-requires-clause-place
-enumerators-enumeration-requires-clause-place g t c = c.in_ok-parts.ensures.ok.place
-
-pub enumerators-returns-clause-keeps : goal.enumerators-returns-clause-keeps
-enumerators-returns-clause-keeps g t c = extends_then _ _ _ c.listed.ensures.keeps c.enumeration.ensures.keeps
+pub braced-enumeration-requires-clause-place : goal.braced-enumeration-requires-clause-place
+braced-enumeration-requires-clause-place g t c = c.in_ok-enumerators-in-Enum.ensures.ok.place
 
 pub extend-may_go_on-requires : goal.extend-may_go_on-requires
 extend-may_go_on-requires g t c = c.requires.node
@@ -484,14 +480,11 @@ member-member_of-requires-clause-place g t c = c.in_ok-declarators.ensures.ok.pl
 pub member-returns-clause-keeps : goal.member-returns-clause-keeps
 member-returns-clause-keeps g t c = extends_then _ _ _ (extends_then _ _ _ c.row.ensures.keeps c.listed.ensures.keeps) c.member_of.ensures.keeps
 
-pub members-returns-in_err-parts-clause-keeps : goal.members-returns-in_err-parts-clause-keeps
-members-returns-in_err-parts-clause-keeps g t c = c.row.ensures.keeps
+pub braced-returns-in_err-members-in-Composite-clause-keeps : goal.braced-returns-in_err-members-in-Composite-clause-keeps
+braced-returns-in_err-members-in-Composite-clause-keeps g t c = c.row.ensures.keeps
 
-pub members-composite-requires-clause-place : goal.members-composite-requires-clause-place
-members-composite-requires-clause-place g t c = c.in_ok-parts.ensures.ok.place
-
-pub members-returns-clause-keeps : goal.members-returns-clause-keeps
-members-returns-clause-keeps g t c = extends_then _ _ _ c.row.ensures.keeps c.composite.ensures.keeps
+pub braced-composite-requires-clause-place : goal.braced-composite-requires-clause-place
+braced-composite-requires-clause-place g t c = c.in_ok-members-in-Composite.ensures.ok.place
 
 pub opened-opens_parameters-requires : goal.opened-opens_parameters-requires
 opened-opens_parameters-requires g t c = c.requires.place
@@ -544,12 +537,6 @@ parameters-returns-in-Some-clause-keeps g t c = c.known_parameters.ensures.keeps
 pub parameters-returns-in-Some-clause-ok : goal.parameters-returns-in-Some-clause-ok
 parameters-returns-in-Some-clause-ok g t c = c.known_parameters.ensures.ok
 
-pub parameters-returns-clause-keeps : goal.parameters-returns-clause-keeps
-parameters-returns-clause-keeps g t c = c.unknown_parameters.ensures.keeps
-
-pub parameters-returns-clause-ok : goal.parameters-returns-clause-ok
-parameters-returns-clause-ok g t c = c.unknown_parameters.ensures.ok
-
 pub pointer-consts_in_row-consts-requires : goal.pointer-consts_in_row-consts-requires
 pointer-consts_in_row-consts-requires g t c = c.requires.place
 
@@ -601,38 +588,35 @@ specifier-returns-in_default-clause-keeps g t c = extends_same _
 pub specifier-returns-in_default-tag_word-clause-keeps : goal.specifier-returns-in_default-tag_word-clause-keeps
 specifier-returns-in_default-tag_word-clause-keeps g t c = c.plain.ensures.keeps
 
-pub specifier-returns-clause-keeps : goal.specifier-returns-clause-keeps
-specifier-returns-clause-keeps g t c = c.tagged.ensures.keeps
+pub specifier-tag_at-tag-requires : goal.specifier-tag_at-tag-requires
+specifier-tag_at-tag-requires g t c = omega (arith, c.in-Some.ensures.1)
 
-pub tagged-tag_at-tag-requires : goal.tagged-tag_at-tag-requires
-tagged-tag_at-tag-requires g t c = c.requires.place
+pub specifier-returns-in_err-found-clause-keeps : goal.specifier-returns-in_err-found-clause-keeps
+specifier-returns-in_err-found-clause-keeps g t c = c.braced.ensures.keeps
 
-pub tagged-returns-in_err-found-clause-keeps : goal.tagged-returns-in_err-found-clause-keeps
-tagged-returns-in_err-found-clause-keeps g t c = c.braced.ensures.keeps
+pub specifier-tag_alone-requires : goal.specifier-tag_alone-requires
+specifier-tag_alone-requires g t c = c.tag_at-tag.ensures.place
 
-pub tagged-tag_alone-requires : goal.tagged-tag_alone-requires
-tagged-tag_alone-requires g t c = c.tag_at-tag.ensures.place
+pub specifier-returns-in-Some-2-clause-keeps : goal.specifier-returns-in-Some-2-clause-keeps
+specifier-returns-in-Some-2-clause-keeps g t c = c.braced.ensures.keeps
 
-pub tagged-returns-in-Some-clause-keeps : goal.tagged-returns-in-Some-clause-keeps
-tagged-returns-in-Some-clause-keeps g t c = c.braced.ensures.keeps
+pub specifier-returns-in-None-clause-keeps : goal.specifier-returns-in-None-clause-keeps
+specifier-returns-in-None-clause-keeps g t c = extends_then _ _ _ c.braced.ensures.keeps c.tag_alone.ensures.keeps
 
-pub tagged-returns-in-None-clause-keeps : goal.tagged-returns-in-None-clause-keeps
-tagged-returns-in-None-clause-keeps g t c = extends_then _ _ _ c.braced.ensures.keeps c.tag_alone.ensures.keeps
+pub parameters-returns-in_err-parts-clause-keeps : goal.parameters-returns-in_err-parts-clause-keeps
+parameters-returns-in_err-parts-clause-keeps g t c = c.listed.ensures.keeps
 
-pub unknown_parameters-returns-in_err-parts-clause-keeps : goal.unknown_parameters-returns-in_err-parts-clause-keeps
-unknown_parameters-returns-in_err-parts-clause-keeps g t c = c.listed.ensures.keeps
+pub parameters-function_of-requires-clause-place : goal.parameters-function_of-requires-clause-place
+parameters-function_of-requires-clause-place g t c = c.in_ok-parts.ensures.ok.place
 
-pub unknown_parameters-function_of-requires-clause-place : goal.unknown_parameters-function_of-requires-clause-place
-unknown_parameters-function_of-requires-clause-place g t c = c.in_ok-parts.ensures.ok.place
-
-pub unknown_parameters-returns-clause-keeps : goal.unknown_parameters-returns-clause-keeps
-unknown_parameters-returns-clause-keeps g t c = extends_then _ _ _ c.listed.ensures.keeps c.function_of.ensures.keeps
+pub parameters-returns-clause-keeps : goal.parameters-returns-clause-keeps
+parameters-returns-clause-keeps g t c = extends_then _ _ _ c.listed.ensures.keeps c.function_of.ensures.keeps
 
 pub declarator-returns-in_err-first-clause-ok : goal.declarator-returns-in_err-first-clause-ok
 declarator-returns-in_err-first-clause-ok g t c = IfOk-from_err _ _ c.from_residual.ensures.0
 
-pub enumerators-returns-in_err-parts-clause-ok : goal.enumerators-returns-in_err-parts-clause-ok
-enumerators-returns-in_err-parts-clause-ok g t c = IfOk-from_err _ _ c.from_residual.ensures.0
+pub braced-returns-in_err-enumerators-in-Enum-clause-ok : goal.braced-returns-in_err-enumerators-in-Enum-clause-ok
+braced-returns-in_err-enumerators-in-Enum-clause-ok g t c = IfOk-from_err _ _ c.from_residual.ensures.0
 
 pub grow-returns-in_err-longer-clause-ok : goal.grow-returns-in_err-longer-clause-ok
 grow-returns-in_err-longer-clause-ok g t c = IfOk-from_err _ _ c.from_residual.ensures.0
@@ -649,8 +633,8 @@ member-returns-in_err-specs-clause-ok g t c = IfOk-from_err _ _ c.from_residual.
 pub member-returns-in_err-declarators-clause-ok : goal.member-returns-in_err-declarators-clause-ok
 member-returns-in_err-declarators-clause-ok g t c = IfOk-from_err _ _ c.from_residual-in_err-declarators.ensures.0
 
-pub members-returns-in_err-parts-clause-ok : goal.members-returns-in_err-parts-clause-ok
-members-returns-in_err-parts-clause-ok g t c = IfOk-from_err _ _ c.from_residual.ensures.0
+pub braced-returns-in_err-members-in-Composite-clause-ok : goal.braced-returns-in_err-members-in-Composite-clause-ok
+braced-returns-in_err-members-in-Composite-clause-ok g t c = IfOk-from_err _ _ c.from_residual-in_err-members-in-Composite.ensures.0
 
 pub opened-returns-in_err-inner-clause-ok : goal.opened-returns-in_err-inner-clause-ok
 opened-returns-in_err-inner-clause-ok g t c = IfOk-from_err _ _ c.from_residual.ensures.0
@@ -670,8 +654,8 @@ row-returns-in_err-found-clause-ok g t c = IfOk-from_err _ _ c.from_residual.ens
 pub row-returns-in_err-push-clause-ok : goal.row-returns-in_err-push-clause-ok
 row-returns-in_err-push-clause-ok g t c = IfOk-from_err _ _ c.before.from_residual-in_err-push.ensures.0
 
-pub tagged-returns-in_err-found-clause-ok : goal.tagged-returns-in_err-found-clause-ok
-tagged-returns-in_err-found-clause-ok g t c = IfOk-from_err _ _ c.from_residual.ensures.0
+pub specifier-returns-in_err-found-clause-ok : goal.specifier-returns-in_err-found-clause-ok
+specifier-returns-in_err-found-clause-ok g t c = IfOk-from_err _ _ c.from_residual.ensures.0
 
-pub unknown_parameters-returns-in_err-parts-clause-ok : goal.unknown_parameters-returns-in_err-parts-clause-ok
-unknown_parameters-returns-in_err-parts-clause-ok g t c = IfOk-from_err _ _ c.from_residual.ensures.0
+pub parameters-returns-in_err-parts-clause-ok : goal.parameters-returns-in_err-parts-clause-ok
+parameters-returns-in_err-parts-clause-ok g t c = IfOk-from_err _ _ c.from_residual.ensures.0

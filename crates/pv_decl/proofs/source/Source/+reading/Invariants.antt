@@ -31,17 +31,8 @@ decreases-listed g l = 12 * l.depth + height l.part + 1
 abbrev pub decreases-specifier : goal.decreases-specifier
 decreases-specifier g l = 12 * l.depth + 2
 
-abbrev pub decreases-tagged : goal.decreases-tagged
-decreases-tagged g l = 12 * l.depth + 1
-
 abbrev pub decreases-braced : goal.decreases-braced
 decreases-braced g l = 12 * l.depth
-
-abbrev pub decreases-enumerators : goal.decreases-enumerators
-decreases-enumerators g l = 12 * l.below + 10
-
-abbrev pub decreases-members : goal.decreases-members
-decreases-members g l = 12 * l.below + 10
 
 abbrev pub decreases-member : goal.decreases-member
 decreases-member g l = 12 * l.depth + 7
@@ -60,9 +51,6 @@ decreases-extend g l = 12 * l.below + 8
 
 abbrev pub decreases-parameters : goal.decreases-parameters
 decreases-parameters g l = 12 * l.below + 7
-
-abbrev pub decreases-unknown_parameters : goal.decreases-unknown_parameters
-decreases-unknown_parameters g l = 12 * l.below + 6
 
 abbrev pub decreases-head : goal.decreases-head
 decreases-head g l = 12 * l.below + 9

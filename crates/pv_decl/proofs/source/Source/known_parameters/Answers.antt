@@ -1,13 +1,13 @@
-use Rattle.std.proofs.Common.{sym, ap, ◌∙◌, arith, drop, Some}
+use Rattle.std.proofs.Common.{sym, ap, ◌∙◌, arith, drop, length, Some}
 use Rattle.pv_tree.specs.Rows.{tables}
 use Rattle.pv_tree.specs.Syntax.{Tree}
-use Rattle.pv_tree.specs.Tables.{optional_at}
+use Rattle.pv_tree.specs.Tables.{optional_at, is_declaration}
 use Rattle.pv_tree.proofs.Kept.{extends_same}
 use Rattle.pv_decl_forms.specs.Parts.{function_of}
 use Rattle.pv_decl_forms.specs.Pieces.{Piece}
 use Rattle.pv_decl_forms.proofs.Answered.{moved, nothing}
 use Rattle.pv_decl.specs.Filled.{list_map}
-use Rattle.pv_decl.proofs.Givens.{parts_of, varies, is_function, known_there, known_none, known_deep, known_shallow, known_function}
+use Rattle.pv_decl.proofs.Givens.{parts_of, varies, is_function, known_there, known_none, known_deep, known_shallow, known_function, list_below}
 use Rattle.pv_decl.proofs.source.Source.known_parameters.Goals as goal
 
 pub returns-in_default-clause-ok : goal.returns-in_default-clause-ok
@@ -68,3 +68,13 @@ function_node-function-requires g c = c.requires.left
 
 pub returns-clause-keeps : goal.returns-clause-keeps
 returns-clause-keeps g c = c.found_declarator.ensures.keeps
+
+pub overflow_add-below : goal.overflow_add-below
+overflow_add-below g c = omega (arith, c.requires.shallow)
+
+pub found_declarator-requires-clause-children : goal.found_declarator-requires-clause-children
+found_declarator-requires-clause-children g c =
+    let f = (tables c.args.into.now).forest in
+    let there = known_there (list_map c.args.self.now.lists.now) c.args.self.now.typedefs.now (g.R.TypeReader.types c.args.self.now.reader.now) (tables c.args.into.now) c.args.self.now.tokens.now.tokens
+    c.requires.tied c.args.at c.requires.place c.args.list c.requires.list c.in-Some.known c.in-Some.end c.in-Some.is in
+    c.function_node-function.ensures.children (list_below f is_declaration c.in-Some.known.0 (length f.trees) c.in-AbstractFunction.parameters there.1.0 c.in-AbstractFunction.ensures.children.1)

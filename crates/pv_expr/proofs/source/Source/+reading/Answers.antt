@@ -1,6 +1,7 @@
-use Rattle.std.proofs.Common.{◌∙◌, ◌+◌, ◌≤◌, sym, drop, length, arith, rules, refl}
+use Rattle.std.proofs.Common.{◌∙◌, ◌+◌, ◌≤◌, sym, drop, length, arith, refl}
+use Rattle.std.proofs.lemmas.Result.{IfOk-from_err}
 use Rattle.pv_tree.specs.Rows.{tables}
-use Rattle.pv_tree.specs.Tables.{expression_at, is_expression}
+use Rattle.pv_tree.specs.Tables.{expression_at, is_expression, is_declaration}
 use Rattle.pv_tree.proofs.Kept.{extends_same, extends_then, is_kept}
 use Rattle.pv_expr_forms.specs.Known.{names_in}
 use Rattle.pv_expr_forms.specs.Reader.{read, grown}
@@ -9,7 +10,7 @@ use Rattle.pv_expr_forms.proofs.Calls.{call_none, call_there, call_forward, call
 use Rattle.pv_expr_forms.proofs.Firsts.{head_open, head_front}
 use Rattle.pv_expr_forms.proofs.Listing.{called_close, no_items, start_with}
 use Rattle.pv_expr_forms.proofs.Naming.{tied_kept}
-use Rattle.pv_expr_forms.proofs.Readings.{nothing, head_end, head_first, leaf_first, measure_first, longer_in, deeper_none, deeper_low, deeper_on, grown_in, cast_none, cast_nothing, cast_done, paren_nothing, paren_done, dot_is, arrow_is, ask_is}
+use Rattle.pv_expr_forms.proofs.Readings.{nothing, head_end, head_first, leaf_first, measure_first, longer_in, longer_deep, longer_end, longer_other, longer_follows, deeper_none, deeper_low, deeper_on, grown_in, cast_none, cast_nothing, cast_done, paren_nothing, paren_done, dot_is, arrow_is, ask_is}
 use Rattle.pv_expr_forms.proofs.Operands.{call_is, increment_is, decrement_is, join_nothing, join_done, ask_nothing, index_nothing, index_done, front_nothing, front_done, asked_none, asked_nothing, asked_done}
 use Rattle.pv_expr_forms.proofs.Steps.{grown_on, longer_goes}
 use Rattle.pv_expr.proofs.source.Source.+reading.Goals as goal
@@ -482,3 +483,128 @@ arguments-read_tree-requires g t c κs within = (omega arith, (within, (c.loop-l
 
 pub grow-extend-requires : goal.grow-extend-requires
 grow-extend-requires g t c κs within = (omega arith, (within, (c.loop-longer.invariant.place, (c.loop-longer.invariant.tied, c.loop-longer.invariant.node))))
+
+-- ---- the next longer tree
+
+pub extend-returns-then-depth_of-below-clause-ok : goal.extend-returns-then-depth_of-below-clause-ok
+extend-returns-then-depth_of-below-clause-ok g t c = nothing _ _ _ (longer_deep _ _ _ _ _ _ (omega arith))
+
+pub extend-returns-in_default-clause-ok : goal.extend-returns-in_default-clause-ok
+extend-returns-in_default-clause-ok g t c = nothing _ _ _ (longer_end _ _ _ _ _ _ c.in_default.ensures)
+
+pub extend-returns-in_default-follow_of-clause-ok : goal.extend-returns-in_default-follow_of-clause-ok
+extend-returns-in_default-follow_of-clause-ok g t c = nothing _ _ _ (longer_other _ _ _ _ _ c.in-Some.token _ _ c.in-Some.ensures.0 (omega arith) (sym c.in_default-follow_of.ensures))
+
+pub extend-returns-clause-ok : goal.extend-returns-clause-ok
+extend-returns-clause-ok g t c = moved _ _ _ _ _ (longer_follows _ _ _ _ _ c.in-Some.token _ _ c.in-Some.ensures.0 (omega arith) c.in-Some-follow_of.follow (sym c.in-Some-follow_of.ensures) (omega arith) (omega arith)) c.go_on.ensures.ok
+
+pub extend-go_on-requires : goal.extend-go_on-requires
+extend-go_on-requires g t c κs within = (omega arith, (within, (omega (arith, c.in-Some.ensures.1), (c.requires.tied, c.requires.node))))
+
+pub extend-depth_of-requires : goal.extend-depth_of-requires
+extend-depth_of-requires g t c = c.requires.node
+
+pub extend-rank_of-requires : goal.extend-rank_of-requires
+extend-rank_of-requires g t c = c.requires.node
+
+pub extend-peek-requires : goal.extend-peek-requires
+extend-peek-requires g t c = c.requires.place
+
+-- ---- what a new node's parts are, and where it ends
+
+pub open-found-requires-clause-children : goal.open-found-requires-clause-children
+open-found-requires-clause-children g t c = (is_kept (tables c.args.into.now) (tables c.read_tree.new.into) is_declaration c.in-Some.name c.read_tree.ensures.keeps c.in-Some.ensures.1, (got (tables c.read_tree.new.into) c.args.self.now.tokens.now.tokens c.in_ok-operand.field-0 _ c.in-Some-2.operand c.in-Some-2.end c.in_ok-operand.ensures.ok c.in-Some-2.is).1)
+
+pub ask-found-requires-clause-children : goal.ask-found-requires-clause-children
+ask-found-requires-clause-children g t c = (is_kept (tables c.args.into.now) (tables c.read_tree.new.into) is_expression c.args.condition c.read_tree.ensures.keeps c.requires.condition, is_kept (tables c.args.into.now) (tables c.read_tree.new.into) is_expression c.args.yes c.read_tree.ensures.keeps c.requires.yes, (got (tables c.read_tree.new.into) c.args.self.now.tokens.now.tokens c.in_ok-no.field-0 _ c.in-Some-2.no c.in-Some-2.end c.in_ok-no.ensures.ok c.in-Some-2.is).1)
+
+pub go_on-found-requires-clause-children : goal.go_on-found-requires-clause-children
+go_on-found-requires-clause-children g t c = c.requires.node
+
+pub go_on-found-requires-in-Decrement-clause-children : goal.go_on-found-requires-in-Decrement-clause-children
+go_on-found-requires-in-Decrement-clause-children g t c = c.requires.node
+
+pub go_on-line_of-line-requires : goal.go_on-line_of-line-requires
+go_on-line_of-line-requires g t c = c.requires.node
+
+pub go_on-line_of-line-requires-in-Decrement : goal.go_on-line_of-line-requires-in-Decrement
+go_on-line_of-line-requires-in-Decrement g t c = c.requires.node
+
+pub go_on-found-requires-in-Decrement-clause-place : goal.go_on-found-requires-in-Decrement-clause-place
+go_on-found-requires-in-Decrement-clause-place g t c = c.requires.place
+
+pub read_deeper-rank_of-requires : goal.read_deeper-rank_of-requires
+read_deeper-rank_of-requires g t c = (got (tables c.read_head.new.into) c.args.self.now.tokens.now.tokens c.in_ok-read_head.field-0 _ c.in-Some.first c.in-Some.next c.in_ok-read_head.ensures.ok c.in-Some.is).1
+
+pub arguments-call-requires-then-is_close-clause-place : goal.arguments-call-requires-then-is_close-clause-place
+arguments-call-requires-then-is_close-clause-place g t c = omega (arith, c.in-Some-peek.ensures.1)
+
+pub arguments-peek-requires : goal.arguments-peek-requires
+arguments-peek-requires g t c = (got (tables c.read_tree.new.into) c.args.self.now.tokens.now.tokens c.in_ok-argument.field-0 _ c.in-Some-2.argument c.in-Some-2.end c.in_ok-argument.ensures.ok c.in-Some-2.is).2
+
+pub arguments-call-requires-then-is_close-clause-callee : goal.arguments-call-requires-then-is_close-clause-callee
+arguments-call-requires-then-is_close-clause-callee g t c = is_kept (tables c.args.into.now) (tables c.read_tree.new.into) is_expression c.args.callee (extends_then (tables c.args.into.now) (tables c.loop-list.into) (tables c.read_tree.new.into) c.loop-list.invariant.keeps c.read_tree.ensures.keeps) c.requires.node
+
+-- ---- by the first token
+
+pub read_head-open-requires : goal.read_head-open-requires
+read_head-open-requires g t c κs within = (omega arith, (within, (omega (arith, c.in-Some.ensures.1), c.requires.tied)))
+
+pub read_head-front-requires : goal.read_head-front-requires
+read_head-front-requires g t c κs within = (omega arith, (within, (omega (arith, c.in-Some.ensures.1), c.requires.tied)))
+
+pub read_head-leaf-requires : goal.read_head-leaf-requires
+read_head-leaf-requires g t c = omega (arith, c.in-Some.ensures.1)
+
+pub read_head-measures_type-requires : goal.read_head-measures_type-requires
+read_head-measures_type-requires g t c = omega (arith, c.in-Some.ensures.1)
+
+pub read_head-measure-requires-clause-place : goal.read_head-measure-requires-clause-place
+read_head-measure-requires-clause-place g t c = c.measures_type.ensures.place c.if-measures_type.true
+
+pub read_head-peek-requires : goal.read_head-peek-requires
+read_head-peek-requires g t c = c.requires.place
+
+pub open-begins_type-requires : goal.open-begins_type-requires
+open-begins_type-requires g t c = c.requires.place
+
+pub ask-after_colon-requires : goal.ask-after_colon-requires
+ask-after_colon-requires g t c = c.requires.place
+
+pub arguments-after_close-requires : goal.arguments-after_close-requires
+arguments-after_close-requires g t c = c.requires.place
+
+-- ---- want of memory
+
+pub read_deeper-returns-in_err-read_head-clause-ok : goal.read_deeper-returns-in_err-read_head-clause-ok
+read_deeper-returns-in_err-read_head-clause-ok g t c = IfOk-from_err _ _ c.from_residual.ensures.0
+
+pub front-returns-in_err-operand-clause-ok : goal.front-returns-in_err-operand-clause-ok
+front-returns-in_err-operand-clause-ok g t c = IfOk-from_err _ _ c.from_residual.ensures.0
+
+pub ask-returns-in_err-no-clause-ok : goal.ask-returns-in_err-no-clause-ok
+ask-returns-in_err-no-clause-ok g t c = IfOk-from_err _ _ c.from_residual.ensures.0
+
+pub grow-returns-in_err-longer-clause-ok : goal.grow-returns-in_err-longer-clause-ok
+grow-returns-in_err-longer-clause-ok g t c = IfOk-from_err _ _ c.from_residual.ensures.0
+
+pub open-returns-in_err-operand-clause-ok : goal.open-returns-in_err-operand-clause-ok
+open-returns-in_err-operand-clause-ok g t c = IfOk-from_err _ _ c.from_residual.ensures.0
+
+pub open-returns-in_err-inside-clause-ok : goal.open-returns-in_err-inside-clause-ok
+open-returns-in_err-inside-clause-ok g t c = IfOk-from_err _ _ c.from_residual-in_err-inside.ensures.0
+
+pub go_on-returns-in_err-right-in-Join-clause-ok : goal.go_on-returns-in_err-right-in-Join-clause-ok
+go_on-returns-in_err-right-in-Join-clause-ok g t c = IfOk-from_err _ _ c.from_residual.ensures.0
+
+pub go_on-returns-in_err-yes-in-Ask-clause-ok : goal.go_on-returns-in_err-yes-in-Ask-clause-ok
+go_on-returns-in_err-yes-in-Ask-clause-ok g t c = IfOk-from_err _ _ c.from_residual-in_err-yes-in-Ask.ensures.0
+
+pub go_on-returns-in_err-subscript-in-Index-clause-ok : goal.go_on-returns-in_err-subscript-in-Index-clause-ok
+go_on-returns-in_err-subscript-in-Index-clause-ok g t c = IfOk-from_err _ _ c.from_residual-in_err-subscript-in-Index.ensures.0
+
+pub arguments-returns-in_err-argument-clause-ok : goal.arguments-returns-in_err-argument-clause-ok
+arguments-returns-in_err-argument-clause-ok g t c = IfOk-from_err _ _ c.from_residual.ensures.0
+
+pub arguments-returns-in_err-push-clause-ok : goal.arguments-returns-in_err-push-clause-ok
+arguments-returns-in_err-push-clause-ok g t c = IfOk-from_err _ _ c.from_residual-in_err-push.ensures.0

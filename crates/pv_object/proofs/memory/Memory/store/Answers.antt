@@ -1,10 +1,40 @@
-use Rattle.std.proofs.Common.{◌≡◌, ◌-◌, ◌∙◌, ap, map, set, subst, sym, take}
+use Rattle.std.proofs.Common.{◌≡◌, ◌-◌, ◌∙◌, ap, map, set, subst, sym, take, arith}
+use Rattle.std.proofs.lemmas.List.{length-take}
 use Rattle.pv_object.specs.Memory.{Mem}
 use Rattle.pv_object.specs.Encoding.{size_of}
 use Rattle.pv_object.specs.Access.{IsReach, overlaid, stored}
 use Rattle.pv_object.specs.Extents.{extents, extent_of}
-use Rattle.pv_object.proofs.Stores.{row_stored, extents_stored}
+use Rattle.pv_object.proofs.Stores.{row_stored, extents_stored, reach_made, reach_holds}
 use Rattle.pv_object.proofs.memory.Memory.store.Goals as goal
+
+pub encode-bytes-requires : goal.encode-bytes-requires
+encode-bytes-requires c = c.requires.value
+
+pub overflow_sub-at : goal.overflow_sub-at
+overflow_sub-at c =
+    let m : Mem = record { cursor = c.self.inside.cursor; instances = c.self.inside.instances.items } in
+    let Reached : Mem → Type 0 = λ k. IsReach k c.args.at.now (size_of c.args.t) in
+    let reached : Reached m = subst Reached (sym c.self.view_is) c.requires.reached in
+    (reach_made m c.args.at.now (size_of c.args.t) reached).0
+
+pub index_mut-instance-requires : goal.index_mut-instance-requires
+index_mut-instance-requires c =
+    let m : Mem = record { cursor = c.self.inside.cursor; instances = c.self.inside.instances.items } in
+    let Reached : Mem → Type 0 = λ k. IsReach k c.args.at.now (size_of c.args.t) in
+    let reached : Reached m = subst Reached (sym c.self.view_is) c.requires.reached in
+    let lt = (reach_made m c.args.at.now (size_of c.args.t) reached).1 in
+    omega (arith, lt, c.self.inside.instances.ok.0)
+
+pub overlay-requires : goal.overlay-requires
+overlay-requires c =
+    let m : Mem = record { cursor = c.self.inside.cursor; instances = c.self.inside.instances.items } in
+    let Reached : Mem → Type 0 = λ k. IsReach k c.args.at.now (size_of c.args.t) in
+    let reached : Reached m = subst Reached (sym c.self.view_is) c.requires.reached in
+    let holds = reach_holds m c.args.at.now (size_of c.args.t) c.index_mut-instance.result.now reached c.index_mut-instance.ensures.value in
+    omega (arith, holds, c.size_of-size.ensures.size, length-take c.size_of-size.result c.encode-bytes.result)
+
+pub invariant_of-self : goal.invariant_of-self
+invariant_of-self c = c.self.invariant
 
 pub returns-clause-stored : goal.returns-clause-stored
 returns-clause-stored c =

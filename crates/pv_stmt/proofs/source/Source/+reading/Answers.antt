@@ -1,7 +1,8 @@
 use Rattle.std.proofs.Common.{◌∙◌, ◌+◌, ◌≤◌, ◌-◌, sym, ap, drop, length, arith, List, Some, rules, vec_len, ◌≡◌, ◌==◌, ℕ, subst, All}
+use Rattle.std.proofs.lemmas.Result.{IfOk-from_err}
 use Rattle.pv_token.specs.declared.token_table.Token.{Token}
 use Rattle.pv_tree.specs.Rows.{tables}
-use Rattle.pv_tree.specs.Syntax.{Tree, Trees, OfStatement, While, NoTrees, Switch, Labelled}
+use Rattle.pv_tree.specs.Syntax.{Tree, Trees, OfStatement, While, NoTrees, Switch}
 use Rattle.pv_tree.specs.Tables.{tree_at, as_expression, statement_at, is_expression, is_declaration, is_statement, is_item, trees_of, Is}
 use Rattle.pv_tree.proofs.Kept.{extends_same, extends_then, tree_kept, is_kept}
 use Rattle.pv_expr_forms.specs.Known.{names_in}
@@ -13,14 +14,16 @@ use Rattle.pv_decl_forms.proofs.Loops.{at_start, no_parts, start_row, goes_forwa
 use Rattle.pv_stmt_forms.specs.Parts.{item_in, braced, enclosed}
 use Rattle.pv_stmt_forms.specs.Statements.{condition, declared, labelled, chosen, do_end, Statements, SwitchBlocks, readers, block_end}
 use Rattle.pv_stmt_forms.proofs.Shorter.{items_shorten}
-use Rattle.pv_stmt_forms.proofs.Chains.{first_some, first_none, there_of, later_some, later_none, as_items, statement_item, declaration_item, labelled_none, labelled_bare, labelled_so, selection_shut, selection_none, selection_so, loop_shut, loop_none, loop_so, switch_shut, switch_none, switch_so, do_none, do_on, chosen_plain, chosen_open, chosen_unread, chosen_both, alone_kept, both_kept}
+use Rattle.pv_stmt_forms.proofs.Chains.{first_some, first_none, there_of, later_some, later_none, as_items, statement_item, declaration_item, labelled_none, labelled_bare, selection_shut, selection_none, selection_so, loop_shut, loop_none, loop_so, switch_shut, switch_none, switch_so, do_none, do_on, chosen_plain, chosen_open, chosen_unread, chosen_both, alone_kept, both_kept}
 use Rattle.pv_stmt_forms.proofs.Begun.{statement_zero, switch_zero, statement_end, begun, switch_begun, switch_not, item_declared, item_stated, item_labelled}
 use Rattle.pv_stmt_forms.proofs.Heading.{for_shut, for_none, for_so, for_children, head_there}
+use Rattle.pv_stmt_forms.proofs.Labelling.{labelled_as}
 use Rattle.pv_decl_forms.proofs.Listing.{some_of, none_of}
-use Rattle.pv_tree.specs.Grammar.{Names, line_here}
+use Rattle.pv_tree.specs.Grammar.{Names}
 use Rattle.pv_tree.specs.declared.nodes.NodeId.{NodeId}
 use Rattle.pv_stmt_forms.specs.declared.forms.StatementForm.TheVariants as form
 use Rattle.pv_stmt_forms.specs.declared.forms.Within.TheVariants as within
+use Rattle.pv_decl_forms.proofs.Growing.{all_as}
 use Rattle.pv_stmt.proofs.source.Source.+reading.Goals as goal
 
 pub statement-returns-then-depth-eq0-clause-keeps : goal.statement-returns-then-depth-eq0-clause-keeps
@@ -275,11 +278,7 @@ labelled-returns-then-is_empty-clause-ok g t c =
 pub labelled-returns-clause-ok : goal.labelled-returns-clause-ok
 labelled-returns-clause-ok g t c =
     let e : length c.in_ok-labels.labels.items ≡ vec_len c.in_ok-labels.labels = omega (arith, c.in_ok-labels.labels.ok.0) in
-    moved _ _ _ _ _ _
-    (ap (λ (l : ℕ). let x : Tree × List Token = (OfStatement (Labelled l (trees_of (tables c.statement.new.into).forest c.deref.result.now) (statement_at (tables c.statement.new.into).forest c.in-Some.statement)), (drop c.in-Some.end c.args.self.now.tokens.now.tokens)) in Some x) c.line_at-line.ensures
-    ∙ ap (λ (ns : List NodeId). let x : Tree × List Token = (OfStatement (Labelled (line_here (drop c.args.at c.args.self.now.tokens.now.tokens)) (trees_of (tables c.statement.new.into).forest ns) (statement_at (tables c.statement.new.into).forest c.in-Some.statement)), (drop c.in-Some.end c.args.self.now.tokens.now.tokens)) in Some x) c.deref.ensures.value
-    ∙ ap (λ (ts : Trees). let x : Tree × List Token = (OfStatement (Labelled (line_here (drop c.args.at c.args.self.now.tokens.now.tokens)) ts (statement_at (tables c.statement.new.into).forest c.in-Some.statement)), (drop c.in-Some.end c.args.self.now.tokens.now.tokens)) in Some x) (trees_kept is_statement (tables c.labels.new.into) (tables c.statement.new.into) c.statement.ensures.keeps c.in_ok-labels.labels.items c.in_ok-labels.ensures.ok.there)
-    ∙ labelled_so (names_in c.args.self.now.typedefs.now (g.R.TypeReader.types c.args.self.now.reader.now) (tables c.args.into.now) c.args.self.now.tokens.now.tokens) c.args.depth (readers (names_in c.args.self.now.typedefs.now (g.R.TypeReader.types c.args.self.now.reader.now) (tables c.args.into.now) c.args.self.now.tokens.now.tokens) c.args.depth Statements) (drop c.args.at c.args.self.now.tokens.now.tokens) (trees_of (tables c.labels.new.into).forest c.in_ok-labels.labels.items, (drop c.in_ok-labels.next c.args.self.now.tokens.now.tokens)) c.in_ok-labels.ensures.ok.is (tree_at (tables c.statement.new.into).forest c.in-Some.statement, (drop c.in-Some.end c.args.self.now.tokens.now.tokens)) (some_of (tables c.labels.new.into).forest c.in_ok-labels.labels.items (ap (λ n. n == 0) e ∙ sym c.is_empty.ensures ∙ c.if-is_empty.false)) (later_some c.args.self.now.typedefs.now (g.R.TypeReader.types c.args.self.now.reader.now) (tables c.args.into.now) (tables c.labels.new.into) (tables c.statement.new.into) c.args.self.now.tokens.now.tokens c.requires.tied c.labels.ensures.keeps is_statement c.in_ok-statement.field-0 (λ (n : Names). readers n c.args.depth Statements (drop c.in_ok-labels.next c.args.self.now.tokens.now.tokens)) c.in_ok-statement.ensures.ok c.in-Some.statement c.in-Some.end c.in-Some.is)) c.labelled_of.ensures.ok
+    moved _ _ _ _ _ _ (labelled_as (names_in c.args.self.now.typedefs.now (g.R.TypeReader.types c.args.self.now.reader.now) (tables c.args.into.now) c.args.self.now.tokens.now.tokens) c.args.depth (readers (names_in c.args.self.now.typedefs.now (g.R.TypeReader.types c.args.self.now.reader.now) (tables c.args.into.now) c.args.self.now.tokens.now.tokens) c.args.depth Statements) (drop c.args.at c.args.self.now.tokens.now.tokens) (trees_of (tables c.labels.new.into).forest c.in_ok-labels.labels.items, (drop c.in_ok-labels.next c.args.self.now.tokens.now.tokens)) c.in_ok-labels.ensures.ok.is (tables c.statement.new.into).forest _ c.deref.result.now c.in_ok-labels.labels.items (tree_at (tables c.statement.new.into).forest c.in-Some.statement, (drop c.in-Some.end c.args.self.now.tokens.now.tokens)) c.line_at-line.ensures c.deref.ensures.value (trees_kept is_statement (tables c.labels.new.into) (tables c.statement.new.into) c.statement.ensures.keeps c.in_ok-labels.labels.items c.in_ok-labels.ensures.ok.there) (some_of (tables c.labels.new.into).forest c.in_ok-labels.labels.items (ap (λ n. n == 0) e ∙ sym c.is_empty.ensures ∙ c.if-is_empty.false)) (later_some c.args.self.now.typedefs.now (g.R.TypeReader.types c.args.self.now.reader.now) (tables c.args.into.now) (tables c.labels.new.into) (tables c.statement.new.into) c.args.self.now.tokens.now.tokens c.requires.tied c.labels.ensures.keeps is_statement c.in_ok-statement.field-0 (λ (n : Names). readers n c.args.depth Statements (drop c.in_ok-labels.next c.args.self.now.tokens.now.tokens)) c.in_ok-statement.ensures.ok c.in-Some.statement c.in-Some.end c.in-Some.is)) c.labelled_of.ensures.ok
 
 pub labelled-labelled_of-requires-clause-place : goal.labelled-labelled_of-requires-clause-place
 labelled-labelled_of-requires-clause-place g t c = (there_of (tables c.statement.new.into) is_statement c.args.self.now.tokens.now.tokens c.in_ok-statement.field-0 (readers (names_in c.args.self.now.typedefs.now (g.R.TypeReader.types c.args.self.now.reader.now) (tables c.labels.new.into) c.args.self.now.tokens.now.tokens) c.args.depth Statements (drop c.in_ok-labels.next c.args.self.now.tokens.now.tokens)) c.in_ok-statement.ensures.ok c.in-Some.statement c.in-Some.end c.in-Some.is).1
@@ -535,3 +534,60 @@ switch_block-after-requires g t c = c.requires.place
 
 pub switch_block-returns-in-Some-clause-keeps : goal.switch_block-returns-in-Some-clause-keeps
 switch_block-returns-in-Some-clause-keeps g t c = c.braced.ensures.keeps
+
+pub braced-returns-in_err-items-clause-ok : goal.braced-returns-in_err-items-clause-ok
+braced-returns-in_err-items-clause-ok g t c = IfOk-from_err _ _ c.from_residual.ensures.0
+
+pub chosen-returns-in_err-other-clause-ok : goal.chosen-returns-in_err-other-clause-ok
+chosen-returns-in_err-other-clause-ok g t c = IfOk-from_err _ _ c.from_residual.ensures.0
+
+pub do_loop-returns-in_err-body-clause-ok : goal.do_loop-returns-in_err-body-clause-ok
+do_loop-returns-in_err-body-clause-ok g t c = IfOk-from_err _ _ c.from_residual.ensures.0
+
+pub for_loop-returns-in_err-head-clause-ok : goal.for_loop-returns-in_err-head-clause-ok
+for_loop-returns-in_err-head-clause-ok g t c = IfOk-from_err _ _ c.from_residual.ensures.0
+
+pub for_loop-returns-in_err-body-clause-ok : goal.for_loop-returns-in_err-body-clause-ok
+for_loop-returns-in_err-body-clause-ok g t c = IfOk-from_err _ _ c.from_residual-in_err-body.ensures.0
+
+pub items-returns-in_err-found-clause-ok : goal.items-returns-in_err-found-clause-ok
+items-returns-in_err-found-clause-ok g t c = IfOk-from_err _ _ c.from_residual.ensures.0
+
+pub items-returns-in_err-push-clause-ok : goal.items-returns-in_err-push-clause-ok
+items-returns-in_err-push-clause-ok g t c = IfOk-from_err _ _ c.from_residual-in_err-push.ensures.0
+
+pub labelled-returns-in_err-labels-clause-ok : goal.labelled-returns-in_err-labels-clause-ok
+labelled-returns-in_err-labels-clause-ok g t c = IfOk-from_err _ _ c.from_residual.ensures.0
+
+pub labelled-returns-in_err-statement-clause-ok : goal.labelled-returns-in_err-statement-clause-ok
+labelled-returns-in_err-statement-clause-ok g t c = IfOk-from_err _ _ c.from_residual-in_err-statement.ensures.0
+
+pub selection-returns-in_err-condition-clause-ok : goal.selection-returns-in_err-condition-clause-ok
+selection-returns-in_err-condition-clause-ok g t c = IfOk-from_err _ _ c.from_residual.ensures.0
+
+pub selection-returns-in_err-body-clause-ok : goal.selection-returns-in_err-body-clause-ok
+selection-returns-in_err-body-clause-ok g t c = IfOk-from_err _ _ c.from_residual-in_err-body.ensures.0
+
+pub switch-returns-in_err-value-clause-ok : goal.switch-returns-in_err-value-clause-ok
+switch-returns-in_err-value-clause-ok g t c = IfOk-from_err _ _ c.from_residual.ensures.0
+
+pub switch-returns-in_err-block-clause-ok : goal.switch-returns-in_err-block-clause-ok
+switch-returns-in_err-block-clause-ok g t c = IfOk-from_err _ _ c.from_residual-in_err-block.ensures.0
+
+pub while_loop-returns-in_err-condition-clause-ok : goal.while_loop-returns-in_err-condition-clause-ok
+while_loop-returns-in_err-condition-clause-ok g t c = IfOk-from_err _ _ c.from_residual.ensures.0
+
+pub while_loop-returns-in_err-body-clause-ok : goal.while_loop-returns-in_err-body-clause-ok
+while_loop-returns-in_err-body-clause-ok g t c = IfOk-from_err _ _ c.from_residual-in_err-body.ensures.0
+
+pub chosen-returns-in-Some-2-clause-keeps : goal.chosen-returns-in-Some-2-clause-keeps
+chosen-returns-in-Some-2-clause-keeps g t c = extends_then (tables c.args.into.now) (tables c.statement.new.into) (tables c.found_statement-in-Some-2.new.into) c.statement.ensures.keeps c.found_statement-in-Some-2.ensures.keeps
+
+pub chosen-returns-in-None-clause-keeps : goal.chosen-returns-in-None-clause-keeps
+chosen-returns-in-None-clause-keeps g t c = extends_then (tables c.args.into.now) (tables c.statement.new.into) (tables c.found_statement-in-None.new.into) c.statement.ensures.keeps c.found_statement-in-None.ensures.keeps
+
+pub braced-block_of-requires-clause-place : goal.braced-block_of-requires-clause-place
+braced-block_of-requires-clause-place g t c = c.in_ok-items.ensures.ok.place
+
+pub braced-block_of-requires-clause-items : goal.braced-block_of-requires-clause-items
+braced-block_of-requires-clause-items g t c = all_as (tables c.items.new.into) is_item _ _ c.deref.ensures.value c.in_ok-items.ensures.ok.there

@@ -1,4 +1,5 @@
 use Rattle.std.proofs.Common.{drop, Some, None}
+use Rattle.std.proofs.lemmas.Result.{IfOk-from_err}
 use Rattle.pv_tree.specs.Rows.{tables}
 use Rattle.pv_tree.specs.Tables.{tree_at, is_expression}
 use Rattle.pv_tree.proofs.Kept.{extends_same}
@@ -46,3 +47,9 @@ returns-in-Some-after-clause-keeps g c = c.expression.ensures.keeps
 
 pub returns-in-None-clause-keeps : goal.returns-in-None-clause-keeps
 returns-in-None-clause-keeps g c = c.expression.ensures.keeps
+
+pub returns-in_err-value-clause-ok : goal.returns-in_err-value-clause-ok
+returns-in_err-value-clause-ok g c = IfOk-from_err _ _ c.from_residual.ensures.0
+
+pub after-requires-2 : goal.after-requires-2
+after-requires-2 g c = (there_of (tables c.expression.new.into) is_expression c.args.self.now.tokens.now.tokens c.in_ok-value.field-0 (expression (names_in c.args.self.now.typedefs.now (g.R.TypeReader.types c.args.self.now.reader.now) (tables c.args.into.now) c.args.self.now.tokens.now.tokens) c.args.depth 1 (drop c.in-Some.inside c.args.self.now.tokens.now.tokens)) c.in_ok-value.ensures.ok c.in-Some-2.value c.in-Some-2.end c.in-Some-2.is).1

@@ -1,4 +1,5 @@
 use Rattle.std.proofs.Common.{◌∙◌, sym, drop}
+use Rattle.std.proofs.lemmas.Result.{IfOk-from_err}
 use Rattle.pv_tree.specs.Rows.{tables}
 use Rattle.pv_tree.specs.Tables.{tree_at, is_declaration}
 use Rattle.pv_expr_forms.specs.Known.{names_in}
@@ -36,3 +37,6 @@ returns-then-is_declaration-clause-keeps g c = c.declaration.ensures.keeps
 
 pub returns-else-is_declaration-clause-keeps : goal.returns-else-is_declaration-clause-keeps
 returns-else-is_declaration-clause-keeps g c = c.declaration.ensures.keeps
+
+pub returns-in_err-node-clause-ok : goal.returns-in_err-node-clause-ok
+returns-in_err-node-clause-ok g c = IfOk-from_err _ _ c.from_residual.ensures.0

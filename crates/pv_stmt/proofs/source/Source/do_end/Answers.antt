@@ -1,4 +1,5 @@
 use Rattle.std.proofs.Common.{◌∙◌, ap, drop, List, option_map}
+use Rattle.std.proofs.lemmas.Result.{IfOk-from_err}
 use Rattle.pv_token.specs.declared.token_table.Token.{Token}
 use Rattle.pv_tree.specs.Rows.{tables}
 use Rattle.pv_tree.specs.Syntax.{Tree, OfStatement, DoWhile}
@@ -49,3 +50,6 @@ returns-in-Some-2-clause-keeps g c = extends_then (tables c.args.into.now) (tabl
 
 pub returns-in-None-clause-keeps : goal.returns-in-None-clause-keeps
 returns-in-None-clause-keeps g c = c.condition.ensures.keeps
+
+pub returns-in_err-value-clause-ok : goal.returns-in_err-value-clause-ok
+returns-in_err-value-clause-ok g c = IfOk-from_err _ _ c.from_residual.ensures.0

@@ -1,4 +1,5 @@
 use Rattle.std.proofs.Common.{drop}
+use Rattle.std.proofs.lemmas.Result.{IfOk-from_err}
 use Rattle.pv_tree.specs.Rows.{tables}
 use Rattle.pv_expr_forms.specs.Known.{names_in}
 use Rattle.pv_stmt_forms.specs.Parts.{test_of}
@@ -25,3 +26,9 @@ returns-in-Some-clause-keeps g c = c.optional_expression.ensures.keeps
 
 pub returns-in-None-clause-keeps : goal.returns-in-None-clause-keeps
 returns-in-None-clause-keeps g c = c.optional_expression.ensures.keeps
+
+pub returns-in_err-value-clause-ok : goal.returns-in_err-value-clause-ok
+returns-in_err-value-clause-ok g c = IfOk-from_err _ _ c.from_residual.ensures.0
+
+pub after-requires : goal.after-requires
+after-requires g c = c.in_ok-value.ensures.ok.place

@@ -1,3 +1,4 @@
+use Rattle.std.proofs.lemmas.Result.{IfOk-from_err}
 use Rattle.pv_tree.specs.Rows.{tables}
 use Rattle.pv_tree.proofs.Kept.{extends_then}
 use Rattle.pv_tree.specs.Tables.{is_declaration}
@@ -64,3 +65,6 @@ returns-in-Declaration-clause-keeps g c = c.declaration.ensures.keeps
 
 pub returns-in-Some-declarator-clause-keeps : goal.returns-in-Some-declarator-clause-keeps
 returns-in-Some-declarator-clause-keeps g c = extends_then (tables c.args.into.now) (tables c.declaration.new.into) (tables c.function.new.into) c.declaration.ensures.keeps c.function.ensures.keeps
+
+pub returns-in_err-head-clause-ok : goal.returns-in_err-head-clause-ok
+returns-in_err-head-clause-ok g c = IfOk-from_err _ _ c.from_residual.ensures.0

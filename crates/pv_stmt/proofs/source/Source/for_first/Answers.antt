@@ -1,4 +1,5 @@
 use Rattle.std.proofs.Common.{◌∙◌, sym, drop}
+use Rattle.std.proofs.lemmas.Result.{IfOk-from_err}
 use Rattle.pv_tree.specs.Rows.{tables}
 use Rattle.pv_expr_forms.specs.Known.{names_in}
 use Rattle.pv_stmt_forms.proofs.Heading.{declaration_none, declaration_some, expression_none, expression_some}
@@ -48,3 +49,9 @@ returns-in-Some-2-clause-keeps g c = c.expression_before.ensures.keeps
 
 pub returns-in-None-2-clause-keeps : goal.returns-in-None-2-clause-keeps
 returns-in-None-2-clause-keeps g c = c.expression_before.ensures.keeps
+
+pub returns-in_err-declaration-clause-ok : goal.returns-in_err-declaration-clause-ok
+returns-in_err-declaration-clause-ok g c = IfOk-from_err _ _ c.from_residual.ensures.0
+
+pub returns-in_err-first-clause-ok : goal.returns-in_err-first-clause-ok
+returns-in_err-first-clause-ok g c = IfOk-from_err _ _ c.from_residual-in_err-first.ensures.0

@@ -1,4 +1,5 @@
 use Rattle.std.proofs.Common.{drop}
+use Rattle.std.proofs.lemmas.Result.{IfOk-from_err}
 use Rattle.pv_tree.specs.Rows.{tables}
 use Rattle.pv_tree.proofs.Kept.{extends_then, extends_same}
 use Rattle.pv_expr_forms.specs.Known.{names_in}
@@ -69,3 +70,12 @@ returns-in-Some-4-clause-keeps g c = extends_then (tables c.args.into.now) (tabl
 
 pub returns-in-None-clause-keeps : goal.returns-in-None-clause-keeps
 returns-in-None-clause-keeps g c = extends_then (tables c.args.into.now) (tables c.expression_before.new.into) (tables c.expression_before-2.new.into) (extends_then (tables c.args.into.now) (tables c.for_first.new.into) (tables c.expression_before.new.into) c.for_first.ensures.keeps c.expression_before.ensures.keeps) c.expression_before-2.ensures.keeps
+
+pub returns-in_err-first-clause-ok : goal.returns-in_err-first-clause-ok
+returns-in_err-first-clause-ok g c = IfOk-from_err _ _ c.from_residual.ensures.0
+
+pub returns-in_err-condition-clause-ok : goal.returns-in_err-condition-clause-ok
+returns-in_err-condition-clause-ok g c = IfOk-from_err _ _ c.from_residual-in_err-condition.ensures.0
+
+pub returns-in_err-step-clause-ok : goal.returns-in_err-step-clause-ok
+returns-in_err-step-clause-ok g c = IfOk-from_err _ _ c.from_residual-in_err-step.ensures.0

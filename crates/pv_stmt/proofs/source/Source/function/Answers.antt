@@ -1,5 +1,6 @@
 use Rattle.pv_tree.specs.Rows.{tables}
 use Rattle.std.proofs.Common.{sym, ap}
+use Rattle.std.proofs.lemmas.Result.{IfOk-from_err}
 use Rattle.pv_tree.specs.Tables.{trees_at, declarator_at, is_specifier, is_declarator, is_statement}
 use Rattle.pv_stmt_forms.proofs.Chains.{first_none, there_of}
 use Rattle.pv_stmt_forms.specs.Found.{function_with}
@@ -38,3 +39,9 @@ returns-clause-keeps g c = extends_then (tables c.args.into.now) (tables c.state
 
 pub add_decl-requires : goal.add_decl-requires
 add_decl-requires g c = (has_list_kept (tables c.args.into.now) (tables c.statement.new.into) is_specifier c.args.specs c.statement.ensures.keeps c.requires.specs, is_kept (tables c.args.into.now) (tables c.statement.new.into) is_declarator c.args.declarator c.statement.ensures.keeps c.requires.declarator, (there_of (tables c.statement.new.into) is_statement c.args.self.now.tokens.now.tokens c.in_ok-block.field-0 _ c.in_ok-block.ensures.ok c.in-Some.block c.in-Some.end c.in-Some.is).0)
+
+pub returns-in_err-block-clause-ok : goal.returns-in_err-block-clause-ok
+returns-in_err-block-clause-ok g c = IfOk-from_err _ _ c.from_residual.ensures.0
+
+pub returns-in_err-add_decl-clause-ok : goal.returns-in_err-add_decl-clause-ok
+returns-in_err-add_decl-clause-ok g c = IfOk-from_err _ _ c.from_residual-in_err-add_decl.ensures.0

@@ -1,4 +1,4 @@
-use Rattle.std.proofs.Common.{◌∙◌, ◌+◌, sym, ap, drop, Some}
+use Rattle.std.proofs.Common.{◌∙◌, ◌+◌, sym, ap, drop, arith, Some}
 use Rattle.pv_tree.specs.Rows.{tables}
 use Rattle.pv_tree.proofs.Kept.{extends_same}
 use Rattle.pv_expr_forms.specs.Known.{names_in}
@@ -39,3 +39,9 @@ returns-in-Case-clause-keeps g c = c.case_label.ensures.keeps
 
 pub returns-in-Default-clause-keeps : goal.returns-in-Default-clause-keeps
 returns-in-Default-clause-keeps g c = c.found_before.ensures.keeps
+
+pub case_label-requires-clause-place : goal.case_label-requires-clause-place
+case_label-requires-clause-place g c = omega (arith, c.in-Some.ensures.1)
+
+pub found_before-requires-clause-place : goal.found_before-requires-clause-place
+found_before-requires-clause-place g c = omega (arith, c.in-Some.ensures.1)

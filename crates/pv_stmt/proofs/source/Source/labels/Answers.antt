@@ -1,4 +1,5 @@
 use Rattle.std.proofs.Common.{◌≤◌, drop, length, arith}
+use Rattle.std.proofs.lemmas.Result.{IfOk-from_err}
 use Rattle.pv_tree.specs.Rows.{tables}
 use Rattle.pv_tree.specs.Syntax.{NoTrees}
 use Rattle.pv_tree.specs.Tables.{is_statement}
@@ -55,3 +56,9 @@ returns-in_default-clause-keeps g c = extends_then (tables c.args.into.now) (tab
 
 pub returns-in_err-push-clause-keeps : goal.returns-in_err-push-clause-keeps
 returns-in_err-push-clause-keeps g c = extends_then (tables c.args.into.now) (tables c.loop-labels.into) (tables c.label.new.into) c.loop-labels.invariant.keeps c.label.ensures.keeps
+
+pub returns-in_err-found-clause-ok : goal.returns-in_err-found-clause-ok
+returns-in_err-found-clause-ok g c = IfOk-from_err _ _ c.from_residual.ensures.0
+
+pub returns-in_err-push-clause-ok : goal.returns-in_err-push-clause-ok
+returns-in_err-push-clause-ok g c = IfOk-from_err _ _ c.from_residual-in_err-push.ensures.0

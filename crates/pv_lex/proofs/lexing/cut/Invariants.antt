@@ -1,6 +1,6 @@
 use Rattle.std.proofs.Common.{◌+◌, ◌≤◌, length}
 use Rattle.pv_lex.proofs.Cutting.{Cut}
-use Rattle.pv_lex.proofs.lexing.tokens.Given as goal
+use Rattle.pv_lex.proofs.lexing.cut.Given as goal
 
 abbrev pub invariant-pieces : goal.invariant-pieces
 invariant-pieces l = record {

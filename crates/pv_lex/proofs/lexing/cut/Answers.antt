@@ -6,14 +6,14 @@ use Rattle.pv_lex.proofs.Moving.{moves_stands}
 use Rattle.pv_lex.proofs.Cutting.{cut_goes_on, cut_ends, cut_faults}
 use Rattle.pv_token.proofs.Telling.{tells_known}
 use Rattle.pv_lex.proofs.Fitting.{cut_count, cut_room, cut_fault_lies}
-use Rattle.pv_lex.proofs.lexing.tokens.Goals as goal
+use Rattle.pv_lex.proofs.lexing.cut.Goals as goal
 
 -- what the code finds at a place takes some bytes, and counts their lines
 pub line_behind-next_line-requires : goal.line_behind-next_line-requires
 line_behind-next_line-requires c =
     let here : stands c.pieces.fresh c.pieces.rest.now ≡ Here (record { what = what_of c.in-Here.found; after = c.in-Here.after.now }) = sym c.in_ok-stand.ensures ∙ ap stand_of c.in-Here.is in
     let line = ((moves_stands c.pieces.fresh c.pieces.rest.now).here _ here).line c.pieces.line in
-    omega (arith, line, c.pieces.invariant.lines, c.pieces.invariant.room, c.requires)
+    omega (arith, line, c.pieces.invariant.lines, c.pieces.invariant.room, c.requires.short)
 
 pub pieces-smaller : goal.pieces-smaller
 pieces-smaller c =
@@ -44,7 +44,7 @@ pub returns-in-Bad-clause-within : goal.returns-in-Bad-clause-within
 returns-in-Bad-clause-within c = rw c.error_at.ensures (cut_fault_lies c.args.bytes.now c.pieces.out (record { text = c.pieces.rest.now; line = c.pieces.line; fresh = c.pieces.fresh }) c.in-Bad.fault _ c.pieces.invariant.cut (sym c.in_ok-stand.ensures ∙ ap stand_of c.in-Bad.is) refl)
 
 pub add-requires : goal.add-requires
-add-requires c = cut_room c.args.bytes.now c.pieces.out _ c.pieces.invariant.cut c.requires
+add-requires c = cut_room c.args.bytes.now c.pieces.out _ c.pieces.invariant.cut c.requires.short
 
 pub returns-in-End-clause-known : goal.returns-in-End-clause-known
 returns-in-End-clause-known c = tells_known c.pieces.out _ c.pieces.invariant.cut.tells
