@@ -1,6 +1,6 @@
 // What no clause says: that the layouts are those of a C compiler for the target, and that what stands where is
 // what another reader of types finds.
-use crate::lines::check;
+use super::lines::check;
 
 /// Types with their sizes and alignments and their members' offsets, as gcc gives them for x86-64 (`sizeof`, `_Alignof`,
 /// `offsetof`).

@@ -1,5 +1,5 @@
 // Pairs of types, with what C17 6.2.7, 6.7.3 and 6.7.6 say of them.
-use crate::lines::check;
+use super::lines::check;
 
 /// Two structures and a union whose members are not known.
 static TAGS: &str = "type X0 = struct {}

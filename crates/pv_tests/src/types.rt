@@ -1,5 +1,17 @@
-// Types and their numbers, with what follows from the rules of C17 6.2.5.
-use crate::lines::check;
+//! What no clause says of types: that they are those that a C compiler for the target has.
+//!
+//! Most rows are lines of text, such as `compatible no: *const int, *int`: `lines` reads them, and `claims` says what
+//! they mean. Here are types and their numbers, with what follows from the rules of C17 6.2.5.
+//!
+//! Every function of a crate is proved, those of its tests too. These have no clause to prove: they call with what they
+//! have tested, and stop where it is not so.
+use lines::check;
+
+mod claims;
+mod compatible;
+mod effects;
+mod layouts;
+mod lines;
 
 /// Types that are made more than once.
 static NUMBERS: &str = "same yes: *int, *int

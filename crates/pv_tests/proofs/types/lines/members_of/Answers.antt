@@ -1,6 +1,6 @@
 use Rattle.std.proofs.Common.{◌∙◌, sym, refl, ap, is_ok}
-use Rattle.pv_types_tests.proofs.Fresh.{fresh_push}
-use Rattle.pv_types_tests.proofs.lines.members_of.Goals as goal
+use Rattle.pv_tests.proofs.Fresh.{fresh_push}
+use Rattle.pv_tests.proofs.types.lines.members_of.Goals as goal
 
 pub loop-i-preserved : goal.loop-i-preserved
 loop-i-preserved g c =

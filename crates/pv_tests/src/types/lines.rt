@@ -4,7 +4,7 @@ ghost use Rattle.std.specs.Prelude.{◌≡◌, ◌<◌, ◌≤◌, ◌^◌, leng
 ghost use Rattle.pv_types.specs.Known.{IsKnown, MembersBelow, NamesDiffer, named_in, trees, tree, env};
 ghost use Rattle.pv_types.specs.Layouts.{AreComplete, is_complete_in, layout_in};
 
-use crate::claims::{Claim, is_so};
+use super::claims::{Claim, is_so};
 use pv_layout::measure;
 use pv_num::IntKind;
 use pv_types::{Member, Term, TypeId, Types};
@@ -110,9 +110,11 @@ pub(crate) fn pop_list(rt: &impl Abort, desk: &mut Desk) {
     for _ in 0..desk.values.len() {
         match desk.values.pop() {
             Some(Value::Number(n)) => desk.list.push(n).expect(rt, "no memory"),
-            _ => return,
+            Some(Value::Closed) => return,
+            _ => break,
         }
     }
+    panic!(rt; "a number or a closing bracket is missing");
 }
 
 /// The type of this number.

@@ -1,6 +1,6 @@
 // What no clause says: that another reader of types permits the same accesses. It is slow and in another language, and
 // lists all parts and looks at each of them.
-use crate::lines::check;
+use super::lines::check;
 
 /// Structures and unions, laid out as gcc does for x86-64.
 static TYPES: &str = "layout 24 8: X0 = struct {char@0, long@8, short@16}

@@ -3,7 +3,7 @@ ghost use Rattle.std.specs.Prelude.{◌≡◌, ◌<◌, ◌≤◌, ◌^◌, leng
 ghost use Rattle.pv_types.specs.Known.{tree, env};
 ghost use Rattle.pv_types.specs.Layouts.{is_complete_in, layout_in};
 
-use crate::lines::{Desk, Value, object, pop, pop_list, pop_object, pop_type};
+use super::lines::{Desk, Value, object, pop, pop_list, pop_object, pop_type};
 use pv_effect::{permits_declared, permits_marks};
 use pv_layout::{align, leaf_at, measure, member, part_at, size};
 use pv_types::{TypeId, Types};
@@ -136,12 +136,14 @@ fn pop_marks(rt: &impl Abort, desk: &mut Desk) {
         let t = match desk.values.pop() {
             Some(Value::Number(t)) => Some(t),
             Some(Value::NoType) => None,
-            _ => return,
+            Some(Value::Closed) => return,
+            None => break,
         };
         let first = u64::from(pop(rt, desk));
         let count = u64::from(pop(rt, desk));
         mark(rt, desk, t, first, count);
     }
+    panic!(rt; "a closing bracket is missing");
 }
 
 /// Adds the marks of bytes of a type, or of none.
