@@ -7,7 +7,7 @@ use pv_token::Tokens;
 use pv_tree::Unit;
 use std::alloc::Global;
 use std::process::Abort;
-use text::{Printer, put};
+use text::{Printer, put, show};
 
 mod cases;
 mod text;
@@ -43,7 +43,7 @@ pub(crate) fn told(rt: &impl Abort, alloc: Global, tokens: &Tokens, asked: Asked
     );
     let mut out = String::new(alloc);
     if let Some((n, end)) = found {
-        write!(out, "{end}").expect(rt, "no memory");
+        show(rt, &mut out, end);
         if !matches!(asked, Asked::End) {
             let printer = Printer {
                 tokens,
@@ -61,26 +61,32 @@ pub(crate) fn told(rt: &impl Abort, alloc: Global, tokens: &Tokens, asked: Asked
 #[test]
 fn reads_as_the_grammar_says(rt: HostRuntime) {
     let alloc = rt.alloc();
-    let comma = Asked::Tree(Level::Comma);
-    check(&rt, alloc, comma, cases::LEVELS);
-    check(&rt, alloc, comma, cases::ALIKE);
-    check(&rt, alloc, comma, cases::ASSIGNMENTS);
-    check(&rt, alloc, comma, cases::CONDITIONALS);
-    check(&rt, alloc, comma, cases::UNARY);
-    check(&rt, alloc, comma, cases::TYPE_NAMES);
-    check(&rt, alloc, comma, cases::POSTFIX);
-    check(&rt, alloc, comma, cases::LEAVES);
+    check(
+        &rt,
+        alloc,
+        Asked::Tree(Level::Comma),
+        &[
+            cases::LEVELS,
+            cases::ALIKE,
+            cases::ASSIGNMENTS,
+            cases::CONDITIONALS,
+            cases::UNARY,
+            cases::TYPE_NAMES,
+            cases::POSTFIX,
+            cases::LEAVES,
+        ],
+    );
     check(
         &rt,
         alloc,
         Asked::Tree(Level::Assignment),
-        cases::ASSIGNMENT_LEVEL,
+        &[cases::ASSIGNMENT_LEVEL],
     );
     check(
         &rt,
         alloc,
         Asked::Tree(Level::Conditional),
-        cases::CONDITIONAL_LEVEL,
+        &[cases::CONDITIONAL_LEVEL],
     );
     for row in &cases::LINES {
         check_row(&rt, alloc, Asked::Lines, row);
@@ -89,5 +95,5 @@ fn reads_as_the_grammar_says(rt: HostRuntime) {
 
 #[test]
 fn reads_as_deep_as_asked(rt: HostRuntime) {
-    check(&rt, rt.alloc(), Asked::End, cases::NESTS);
+    check(&rt, rt.alloc(), Asked::End, &[cases::NESTS]);
 }

@@ -22,10 +22,12 @@ pub(crate) enum Asked {
     Lines,
 }
 
-/// Asserts that each row of a table is so.
-pub(crate) fn check(rt: &impl Abort, alloc: Global, asked: Asked, table: &str) {
-    for row in table.lines() {
-        check_row(rt, alloc, asked, row);
+/// Asserts that each row of some tables is so.
+pub(crate) fn check(rt: &impl Abort, alloc: Global, asked: Asked, tables: &[&str]) {
+    for table in tables {
+        for row in table.lines() {
+            check_row(rt, alloc, asked, row);
+        }
     }
 }
 

@@ -28,16 +28,23 @@ pub(crate) fn told(rt: &impl Abort, alloc: Global, tokens: &Tokens) -> String {
 #[test]
 fn units_are_as_the_grammar_says(rt: HostRuntime) {
     let alloc = rt.alloc();
-    check(&rt, alloc, Asked::Unit, externals::EXTERNALS);
-    check(&rt, alloc, Asked::Unit, externals::PREFIXES);
-    check(&rt, alloc, Asked::Unit, externals::FUNCTIONS);
-    check(&rt, alloc, Asked::Unit, externals::TYPEDEF_NAMES);
-    check(&rt, alloc, Asked::Unit, externals::STRUCTURES);
-    check(&rt, alloc, Asked::Unit, externals::DECLARATORS);
-    check(&rt, alloc, Asked::Unit, statements::STATEMENTS);
-    check(&rt, alloc, Asked::Unit, statements::SWITCHES);
-    check(&rt, alloc, Asked::Unit, statements::EXPRESSIONS);
-    check(&rt, alloc, Asked::Unit, statements::SAMPLES);
+    check(
+        &rt,
+        alloc,
+        Asked::Unit,
+        &[
+            externals::EXTERNALS,
+            externals::PREFIXES,
+            externals::FUNCTIONS,
+            externals::TYPEDEF_NAMES,
+            externals::STRUCTURES,
+            externals::DECLARATORS,
+            statements::STATEMENTS,
+            statements::SWITCHES,
+            statements::EXPRESSIONS,
+            statements::SAMPLES,
+        ],
+    );
     for row in &statements::SPACED {
         check_row(&rt, alloc, Asked::Unit, row);
     }
@@ -45,5 +52,5 @@ fn units_are_as_the_grammar_says(rt: HostRuntime) {
 
 #[test]
 fn units_are_as_deep_as_the_limit(rt: HostRuntime) {
-    check(&rt, rt.alloc(), Asked::Unit, nests::NESTS);
+    check(&rt, rt.alloc(), Asked::Unit, &[nests::NESTS]);
 }

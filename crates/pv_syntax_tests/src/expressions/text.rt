@@ -6,6 +6,7 @@ ghost use Rattle.pv_tree.specs.Tables.{Forest, HasOptional, HasList, is_expressi
 
 use pv_token::Tokens;
 use pv_tree::{Decl, Expr, ListId, NodeId, Spec, Unit};
+use std::fmt::Debug;
 use std::process::Abort;
 
 /// What the text is made from.
@@ -141,6 +142,11 @@ pub(super) fn put(rt: &impl Abort, out: &mut String, text: &str) {
     out.push_str(text).expect(rt, "no memory");
 }
 
+/// Adds a number or the name of an operator.
+pub(super) fn show<T: Debug + Copy>(rt: &impl Abort, out: &mut String, value: T) {
+    write!(out, "{value:?}").expect(rt, "no memory");
+}
+
 impl Printer<'_> {
     fn name(&self, rt: &impl Abort, n: u32, out: &mut String) {
         if n < self.tokens.names_len() {
@@ -167,25 +173,24 @@ impl Printer<'_> {
 
     fn operator(&self, rt: &impl Abort, e: Expr, out: &mut String) {
         put(rt, out, word(e));
-        let written = match e {
-            Expr::Name(n) | Expr::Member(_, n) | Expr::Arrow(_, n) => {
-                self.name(rt, n, out);
-                Ok(())
-            }
+        match e {
+            Expr::Name(n) | Expr::Member(_, n) | Expr::Arrow(_, n) => self.name(rt, n, out),
             Expr::Number {
                 value,
                 decimal,
                 unsigned,
                 longs,
-            } => write!(out, "{value}{}", suffix(decimal, unsigned, longs)),
-            Expr::Character(value) => write!(out, "{value}"),
-            Expr::Text { more, .. } => write!(out, "{}", more as u64 + 1),
-            Expr::Unary(op, _) => write!(out, "{op:?}"),
-            Expr::Binary(op, _, _) => write!(out, "{op:?}"),
-            Expr::Assign(op, _, _) => write!(out, "{op:?}"),
-            _ => Ok(()),
-        };
-        written.expect(rt, "no memory");
+            } => {
+                show(rt, out, value);
+                put(rt, out, suffix(decimal, unsigned, longs));
+            }
+            Expr::Character(value) => show(rt, out, value),
+            Expr::Text { more, .. } => show(rt, out, more as u64 + 1),
+            Expr::Unary(op, _) => show(rt, out, op),
+            Expr::Binary(op, _, _) => show(rt, out, op),
+            Expr::Assign(op, _, _) => show(rt, out, op),
+            _ => {}
+        }
     }
 
     /// A space and the text of an expression.
@@ -196,7 +201,8 @@ impl Printer<'_> {
         put(rt, out, " (");
         self.operator(rt, e, out);
         if self.lines {
-            write!(out, "@{}", self.unit.line(n)).expect(rt, "no memory");
+            put(rt, out, "@");
+            show(rt, out, self.unit.line(n));
         }
         if let Some(name) = type_in(e) {
             self.type_name(rt, name, out);
