@@ -1,5 +1,6 @@
 //! Translation units (C17 6.9).
 ghost use Rattle.std.specs.Prelude.{◌≡◌, ◌≤◌, ℕ, List, length, drop, Err, IfOk};
+ghost use Rattle.indexmap.specs.IndexSet.{IsEmpty};
 ghost use Rattle.pv_token.specs.declared.token_table.Token.{Token};
 ghost use Rattle.pv_tree.specs.Rows.{tables};
 ghost use Rattle.pv_tree.specs.Syntax.{DeclarationTree};
@@ -38,17 +39,22 @@ impl From<NoMemory> for SynError {
 }
 
 /// Reads external declarations into an empty unit as long as there are any, and gives the place
-/// behind them.
-fn read_all(alloc: Global, t: &Tokens, into: &mut Unit) -> Result<u32, NoMemory>
-    requires { tables into.old ≡ no_tables }
+/// behind them. The typedef names are added to a set that is empty at first.
+fn read_all(
+    alloc: Global,
+    t: &Tokens,
+    types: &mut IndexSet<u32>,
+    into: &mut Unit,
+) -> Result<u32, NoMemory>
+    requires types { IsEmpty types.old }
+    requires unit { tables into.old ≡ no_tables }
     ensures place { IfOk result (λ end. end ≤ length t.now.tokens) }
     ensures reads { IfOk result (λ end. ◌≡◌ {A = List DeclarationTree × List Token} (externals_of (tables into.new), drop end t.now.tokens) (units no_types t.now.tokens)) }
 {
-    let mut types = IndexSet::new(alloc);
     let mut at = 0;
-    while let Some((declaration, end)) = external(alloc, t, at, &types, into)? {
+    while let Some((declaration, end)) = external(alloc, t, at, types, into)? {
         into.add_external(declaration)?;
-        add_types(into, declaration, &mut types)?;
+        add_types(into, declaration, types)?;
         at = end;
     }
     Ok(at)
@@ -68,8 +74,9 @@ pub fn unit(alloc: Global, t: &Tokens) -> Result<Unit, SynError>
     // Where it is refused, none do, and no more than so many spell the first tokens.
     ensures syntax { (whole : ℕ) → result ≡ Err (SynError.Syntax whole) → ((ds : List DeclarationTree) → SpellUnit t.now.tokens ds → ⊥) × IsWhole t.now.tokens whole }
 {
+    let mut types = IndexSet::new(alloc);
     let mut unit = Unit::new(alloc);
-    let end = read_all(alloc, t, &mut unit)?;
+    let end = read_all(alloc, t, &mut types, &mut unit)?;
     if end < t.len() {
         return Err(SynError::Syntax {
             whole: unit.count(),

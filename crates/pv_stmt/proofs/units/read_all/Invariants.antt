@@ -4,8 +4,8 @@ use Rattle.pv_tree.specs.Rows.{tables}
 use Rattle.pv_stmt_forms.proofs.OuterSteps.{ReadSoFar}
 use Rattle.pv_stmt.proofs.units.read_all.Given as goal
 
-abbrev pub invariant-loop-types : goal.invariant-loop-types
-invariant-loop-types l = ReadSoFar (tables l.into) (contains nat_eq l.types) l.t.tokens l.at
+abbrev pub invariant-loop-declaration : goal.invariant-loop-declaration
+invariant-loop-declaration l = ReadSoFar (tables l.into) (contains nat_eq l.types) l.t.tokens l.at
 
-abbrev pub decreases-loop-types : goal.decreases-loop-types
-decreases-loop-types l = length l.t.tokens - l.at
+abbrev pub decreases-loop-declaration : goal.decreases-loop-declaration
+decreases-loop-declaration l = length l.t.tokens - l.at

@@ -1,4 +1,4 @@
-use Rattle.std.proofs.Common.{◌∙◌, ◌+◌, ◌≤◌, ◌-◌, sym, ap, drop, length, arith, List, Some, rules, vec_len, ◌≡◌, ◌==◌, ℕ, subst, All}
+use Rattle.std.proofs.Common.{◌∙◌, ◌+◌, ◌≤◌, ◌-◌, sym, ap, drop, length, arith, List, Some, vec_len, ◌≡◌, ◌==◌, ℕ, subst, All}
 use Rattle.std.proofs.lemmas.Result.{IfOk-from_err}
 use Rattle.pv_token.specs.declared.token_table.Token.{Token}
 use Rattle.pv_tree.specs.Rows.{tables}
@@ -72,16 +72,16 @@ pub selection-returns-in_default-clause-ok : goal.selection-returns-in_default-c
 selection-returns-in_default-clause-ok g t c = nothing _ _ _ _ (selection_shut (names_in c.args.self.now.typedefs.now (g.R.TypeReader.types c.args.self.now.reader.now) (tables c.args.into.now) c.args.self.now.tokens.now.tokens) c.args.below c.args.line (readers (names_in c.args.self.now.typedefs.now (g.R.TypeReader.types c.args.self.now.reader.now) (tables c.args.into.now) c.args.self.now.tokens.now.tokens) c.args.below Statements) (drop c.args.at c.args.self.now.tokens.now.tokens) (first_none (tables c.condition.new.into) is_expression c.args.self.now.tokens.now.tokens c.in_ok-condition.field-0 (condition (names_in c.args.self.now.typedefs.now (g.R.TypeReader.types c.args.self.now.reader.now) (tables c.args.into.now) c.args.self.now.tokens.now.tokens) c.args.below (drop c.args.at c.args.self.now.tokens.now.tokens)) c.in_ok-condition.ensures.ok c.in_default.is))
 
 pub selection-statement-requires : goal.selection-statement-requires
-selection-statement-requires g t c =
+selection-statement-requires g t c κs within =
     let place = (there_of (tables c.condition.new.into) is_expression c.args.self.now.tokens.now.tokens c.in_ok-condition.field-0 (condition (names_in c.args.self.now.typedefs.now (g.R.TypeReader.types c.args.self.now.reader.now) (tables c.args.into.now) c.args.self.now.tokens.now.tokens) c.args.below (drop c.args.at c.args.self.now.tokens.now.tokens)) c.in_ok-condition.ensures.ok c.in-Some.condition c.in-Some.next c.in-Some.is).1 in
     let tied = tied_kept (g.R.TypeReader.types c.args.self.now.reader.now) (tables c.args.into.now) (tables c.condition.new.into) c.args.self.now.tokens.now.tokens c.requires.tied c.condition.ensures.keeps in
-    search rules
+    (omega arith, (within, (place, tied)))
 
 pub selection-returns-in-None-clause-ok : goal.selection-returns-in-None-clause-ok
 selection-returns-in-None-clause-ok g t c = nothing _ _ _ _ (selection_none (names_in c.args.self.now.typedefs.now (g.R.TypeReader.types c.args.self.now.reader.now) (tables c.args.into.now) c.args.self.now.tokens.now.tokens) c.args.below c.args.line (readers (names_in c.args.self.now.typedefs.now (g.R.TypeReader.types c.args.self.now.reader.now) (tables c.args.into.now) c.args.self.now.tokens.now.tokens) c.args.below Statements) (drop c.args.at c.args.self.now.tokens.now.tokens) (tree_at (tables c.condition.new.into).forest c.in-Some.condition, (drop c.in-Some.next c.args.self.now.tokens.now.tokens)) (first_some (tables c.condition.new.into) is_expression c.args.self.now.tokens.now.tokens c.in_ok-condition.field-0 (condition (names_in c.args.self.now.typedefs.now (g.R.TypeReader.types c.args.self.now.reader.now) (tables c.args.into.now) c.args.self.now.tokens.now.tokens) c.args.below (drop c.args.at c.args.self.now.tokens.now.tokens)) c.in_ok-condition.ensures.ok c.in-Some.condition c.in-Some.next c.in-Some.is) (later_none c.args.self.now.typedefs.now (g.R.TypeReader.types c.args.self.now.reader.now) (tables c.args.into.now) (tables c.condition.new.into) (tables c.statement.new.into) c.args.self.now.tokens.now.tokens c.requires.tied c.condition.ensures.keeps is_statement c.in_ok-body.field-0 (λ (n : Names). readers n c.args.below Statements (drop c.in-Some.next c.args.self.now.tokens.now.tokens)) c.in_ok-body.ensures.ok c.in-None.is))
 
 pub selection-chosen-requires : goal.selection-chosen-requires
-selection-chosen-requires g t c =
+selection-chosen-requires g t c κs within =
     let place = (there_of (tables c.statement.new.into) is_statement c.args.self.now.tokens.now.tokens c.in_ok-body.field-0 (readers (names_in c.args.self.now.typedefs.now (g.R.TypeReader.types c.args.self.now.reader.now) (tables c.condition.new.into) c.args.self.now.tokens.now.tokens) c.args.below Statements (drop c.in-Some.next c.args.self.now.tokens.now.tokens)) c.in_ok-body.ensures.ok c.in-Some-2.body c.in-Some-2.end c.in-Some-2.is).1 in
     let tied = tied_kept (g.R.TypeReader.types c.args.self.now.reader.now) (tables c.args.into.now) (tables c.statement.new.into) c.args.self.now.tokens.now.tokens c.requires.tied (extends_then (tables c.args.into.now) (tables c.condition.new.into) (tables c.statement.new.into) c.condition.ensures.keeps c.statement.ensures.keeps) in
     let condition = is_kept (tables c.condition.new.into) (tables c.statement.new.into) is_expression c.in-Some.condition c.statement.ensures.keeps (there_of (tables c.condition.new.into) is_expression c.args.self.now.tokens.now.tokens c.in_ok-condition.field-0 (condition (names_in c.args.self.now.typedefs.now (g.R.TypeReader.types c.args.self.now.reader.now) (tables c.args.into.now) c.args.self.now.tokens.now.tokens) c.args.below (drop c.args.at c.args.self.now.tokens.now.tokens)) c.in_ok-condition.ensures.ok c.in-Some.condition c.in-Some.next c.in-Some.is).0 in
@@ -90,7 +90,7 @@ selection-chosen-requires g t c =
     let body = (there_of (tables c.statement.new.into) is_statement c.args.self.now.tokens.now.tokens c.in_ok-body.field-0 (readers (names_in c.args.self.now.typedefs.now (g.R.TypeReader.types c.args.self.now.reader.now) (tables c.condition.new.into) c.args.self.now.tokens.now.tokens) c.args.below Statements (drop c.in-Some.next c.args.self.now.tokens.now.tokens)) c.in_ok-body.ensures.ok c.in-Some-2.body c.in-Some-2.end c.in-Some-2.is).0 in
     let body_number = body.0 in
     let body_kind = body.1 in
-    search rules
+    (omega arith, (within, (place, (tied, (condition, body)))))
 
 pub selection-returns-in-Some-2-clause-ok : goal.selection-returns-in-Some-2-clause-ok
 selection-returns-in-Some-2-clause-ok g t c = moved _ _ _ _ _ _
@@ -102,10 +102,10 @@ pub while_loop-returns-in_default-clause-ok : goal.while_loop-returns-in_default
 while_loop-returns-in_default-clause-ok g t c = nothing _ _ _ _ (loop_shut (names_in c.args.self.now.typedefs.now (g.R.TypeReader.types c.args.self.now.reader.now) (tables c.args.into.now) c.args.self.now.tokens.now.tokens) c.args.below c.args.line (readers (names_in c.args.self.now.typedefs.now (g.R.TypeReader.types c.args.self.now.reader.now) (tables c.args.into.now) c.args.self.now.tokens.now.tokens) c.args.below Statements) (drop c.args.at c.args.self.now.tokens.now.tokens) (first_none (tables c.condition.new.into) is_expression c.args.self.now.tokens.now.tokens c.in_ok-condition.field-0 (condition (names_in c.args.self.now.typedefs.now (g.R.TypeReader.types c.args.self.now.reader.now) (tables c.args.into.now) c.args.self.now.tokens.now.tokens) c.args.below (drop c.args.at c.args.self.now.tokens.now.tokens)) c.in_ok-condition.ensures.ok c.in_default.is))
 
 pub while_loop-statement-requires : goal.while_loop-statement-requires
-while_loop-statement-requires g t c =
+while_loop-statement-requires g t c κs within =
     let place = (there_of (tables c.condition.new.into) is_expression c.args.self.now.tokens.now.tokens c.in_ok-condition.field-0 (condition (names_in c.args.self.now.typedefs.now (g.R.TypeReader.types c.args.self.now.reader.now) (tables c.args.into.now) c.args.self.now.tokens.now.tokens) c.args.below (drop c.args.at c.args.self.now.tokens.now.tokens)) c.in_ok-condition.ensures.ok c.in-Some.condition c.in-Some.next c.in-Some.is).1 in
     let tied = tied_kept (g.R.TypeReader.types c.args.self.now.reader.now) (tables c.args.into.now) (tables c.condition.new.into) c.args.self.now.tokens.now.tokens c.requires.tied c.condition.ensures.keeps in
-    search rules
+    (omega arith, (within, (place, tied)))
 
 pub while_loop-returns-in-None-clause-ok : goal.while_loop-returns-in-None-clause-ok
 while_loop-returns-in-None-clause-ok g t c = nothing _ _ _ _ (loop_none (names_in c.args.self.now.typedefs.now (g.R.TypeReader.types c.args.self.now.reader.now) (tables c.args.into.now) c.args.self.now.tokens.now.tokens) c.args.below c.args.line (readers (names_in c.args.self.now.typedefs.now (g.R.TypeReader.types c.args.self.now.reader.now) (tables c.args.into.now) c.args.self.now.tokens.now.tokens) c.args.below Statements) (drop c.args.at c.args.self.now.tokens.now.tokens) (tree_at (tables c.condition.new.into).forest c.in-Some.condition, (drop c.in-Some.next c.args.self.now.tokens.now.tokens)) (first_some (tables c.condition.new.into) is_expression c.args.self.now.tokens.now.tokens c.in_ok-condition.field-0 (condition (names_in c.args.self.now.typedefs.now (g.R.TypeReader.types c.args.self.now.reader.now) (tables c.args.into.now) c.args.self.now.tokens.now.tokens) c.args.below (drop c.args.at c.args.self.now.tokens.now.tokens)) c.in_ok-condition.ensures.ok c.in-Some.condition c.in-Some.next c.in-Some.is) (later_none c.args.self.now.typedefs.now (g.R.TypeReader.types c.args.self.now.reader.now) (tables c.args.into.now) (tables c.condition.new.into) (tables c.statement.new.into) c.args.self.now.tokens.now.tokens c.requires.tied c.condition.ensures.keeps is_statement c.in_ok-body.field-0 (λ (n : Names). readers n c.args.below Statements (drop c.in-Some.next c.args.self.now.tokens.now.tokens)) c.in_ok-body.ensures.ok c.in-None.is))
@@ -125,10 +125,10 @@ pub switch-returns-in_default-clause-ok : goal.switch-returns-in_default-clause-
 switch-returns-in_default-clause-ok g t c = nothing _ _ _ _ (switch_shut (names_in c.args.self.now.typedefs.now (g.R.TypeReader.types c.args.self.now.reader.now) (tables c.args.into.now) c.args.self.now.tokens.now.tokens) c.args.below c.args.line (readers (names_in c.args.self.now.typedefs.now (g.R.TypeReader.types c.args.self.now.reader.now) (tables c.args.into.now) c.args.self.now.tokens.now.tokens) c.args.below SwitchBlocks) (drop c.args.at c.args.self.now.tokens.now.tokens) (first_none (tables c.condition.new.into) is_expression c.args.self.now.tokens.now.tokens c.in_ok-value.field-0 (condition (names_in c.args.self.now.typedefs.now (g.R.TypeReader.types c.args.self.now.reader.now) (tables c.args.into.now) c.args.self.now.tokens.now.tokens) c.args.below (drop c.args.at c.args.self.now.tokens.now.tokens)) c.in_ok-value.ensures.ok c.in_default.is))
 
 pub switch-switch_block-requires : goal.switch-switch_block-requires
-switch-switch_block-requires g t c =
+switch-switch_block-requires g t c κs within =
     let place = (there_of (tables c.condition.new.into) is_expression c.args.self.now.tokens.now.tokens c.in_ok-value.field-0 (condition (names_in c.args.self.now.typedefs.now (g.R.TypeReader.types c.args.self.now.reader.now) (tables c.args.into.now) c.args.self.now.tokens.now.tokens) c.args.below (drop c.args.at c.args.self.now.tokens.now.tokens)) c.in_ok-value.ensures.ok c.in-Some.value c.in-Some.next c.in-Some.is).1 in
     let tied = tied_kept (g.R.TypeReader.types c.args.self.now.reader.now) (tables c.args.into.now) (tables c.condition.new.into) c.args.self.now.tokens.now.tokens c.requires.tied c.condition.ensures.keeps in
-    search rules
+    (omega arith, (within, (place, tied)))
 
 pub switch-returns-in-None-clause-ok : goal.switch-returns-in-None-clause-ok
 switch-returns-in-None-clause-ok g t c = nothing _ _ _ _ (switch_none (names_in c.args.self.now.typedefs.now (g.R.TypeReader.types c.args.self.now.reader.now) (tables c.args.into.now) c.args.self.now.tokens.now.tokens) c.args.below c.args.line (readers (names_in c.args.self.now.typedefs.now (g.R.TypeReader.types c.args.self.now.reader.now) (tables c.args.into.now) c.args.self.now.tokens.now.tokens) c.args.below SwitchBlocks) (drop c.args.at c.args.self.now.tokens.now.tokens) (tree_at (tables c.condition.new.into).forest c.in-Some.value, (drop c.in-Some.next c.args.self.now.tokens.now.tokens)) (first_some (tables c.condition.new.into) is_expression c.args.self.now.tokens.now.tokens c.in_ok-value.field-0 (condition (names_in c.args.self.now.typedefs.now (g.R.TypeReader.types c.args.self.now.reader.now) (tables c.args.into.now) c.args.self.now.tokens.now.tokens) c.args.below (drop c.args.at c.args.self.now.tokens.now.tokens)) c.in_ok-value.ensures.ok c.in-Some.value c.in-Some.next c.in-Some.is) (later_none c.args.self.now.typedefs.now (g.R.TypeReader.types c.args.self.now.reader.now) (tables c.args.into.now) (tables c.condition.new.into) (tables c.switch_block.new.into) c.args.self.now.tokens.now.tokens c.requires.tied c.condition.ensures.keeps is_statement c.in_ok-block.field-0 (λ (n : Names). readers n c.args.below SwitchBlocks (drop c.in-Some.next c.args.self.now.tokens.now.tokens)) c.in_ok-block.ensures.ok c.in-None.is))
@@ -165,15 +165,6 @@ chosen-found_statement-requires-in-Some-2-clause-children g t c = (is_kept (tabl
 pub chosen-found_statement-requires-in-None-clause-children : goal.chosen-found_statement-requires-in-None-clause-children
 chosen-found_statement-requires-in-None-clause-children g t c = (is_kept (tables c.args.into.now) (tables c.statement.new.into) is_expression c.args.condition c.statement.ensures.keeps c.requires.condition, is_kept (tables c.args.into.now) (tables c.statement.new.into) is_statement c.args.body c.statement.ensures.keeps c.requires.body)
 
-pub do_loop-do_end-requires : goal.do_loop-do_end-requires
-do_loop-do_end-requires g t c =
-    let there = there_of (tables c.statement.new.into) is_statement c.args.self.now.tokens.now.tokens c.in_ok-body.field-0 (readers (names_in c.args.self.now.typedefs.now (g.R.TypeReader.types c.args.self.now.reader.now) (tables c.args.into.now) c.args.self.now.tokens.now.tokens) c.args.below Statements (drop c.args.at c.args.self.now.tokens.now.tokens)) c.in_ok-body.ensures.ok c.in-Some.body c.in-Some.next c.in-Some.is in
-    let place = there.1 in
-    let tied = tied_kept (g.R.TypeReader.types c.args.self.now.reader.now) (tables c.args.into.now) (tables c.statement.new.into) c.args.self.now.tokens.now.tokens c.requires.tied c.statement.ensures.keeps in
-    let number = there.0.0 in
-    let kind = there.0.1 in
-    search rules
-
 pub do_loop-returns-in-Some-clause-ok : goal.do_loop-returns-in-Some-clause-ok
 do_loop-returns-in-Some-clause-ok g t c = moved _ _ _ _ _ _ (ap (λ (n : Names). do_end n c.args.below c.args.line (tree_at (tables c.statement.new.into).forest c.in-Some.body) (drop c.in-Some.next c.args.self.now.tokens.now.tokens)) (names_kept c.args.self.now.typedefs.now (g.R.TypeReader.types c.args.self.now.reader.now) (tables c.args.into.now) (tables c.statement.new.into) c.args.self.now.tokens.now.tokens c.requires.tied c.statement.ensures.keeps) ∙ do_on (names_in c.args.self.now.typedefs.now (g.R.TypeReader.types c.args.self.now.reader.now) (tables c.args.into.now) c.args.self.now.tokens.now.tokens) c.args.below c.args.line (readers (names_in c.args.self.now.typedefs.now (g.R.TypeReader.types c.args.self.now.reader.now) (tables c.args.into.now) c.args.self.now.tokens.now.tokens) c.args.below Statements) (drop c.args.at c.args.self.now.tokens.now.tokens) (tree_at (tables c.statement.new.into).forest c.in-Some.body, (drop c.in-Some.next c.args.self.now.tokens.now.tokens)) (first_some (tables c.statement.new.into) is_statement c.args.self.now.tokens.now.tokens c.in_ok-body.field-0 (readers (names_in c.args.self.now.typedefs.now (g.R.TypeReader.types c.args.self.now.reader.now) (tables c.args.into.now) c.args.self.now.tokens.now.tokens) c.args.below Statements (drop c.args.at c.args.self.now.tokens.now.tokens)) c.in_ok-body.ensures.ok c.in-Some.body c.in-Some.next c.in-Some.is)) c.do_end.ensures.ok
 
@@ -184,10 +175,10 @@ pub for_loop-returns-in_default-clause-ok : goal.for_loop-returns-in_default-cla
 for_loop-returns-in_default-clause-ok g t c = nothing _ _ _ _ (for_shut (tables c.for_head.new.into) (names_in c.args.self.now.typedefs.now (g.R.TypeReader.types c.args.self.now.reader.now) (tables c.args.into.now) c.args.self.now.tokens.now.tokens) c.args.below c.args.self.now.tokens.now.tokens c.in_ok-head.field-0 (drop c.args.at c.args.self.now.tokens.now.tokens) c.in_ok-head.ensures.ok (readers (names_in c.args.self.now.typedefs.now (g.R.TypeReader.types c.args.self.now.reader.now) (tables c.args.into.now) c.args.self.now.tokens.now.tokens) c.args.below Statements) c.args.line c.in_default.is)
 
 pub for_loop-statement-requires : goal.for_loop-statement-requires
-for_loop-statement-requires g t c =
+for_loop-statement-requires g t c κs within =
     let place = (head_there (tables c.for_head.new.into) (names_in c.args.self.now.typedefs.now (g.R.TypeReader.types c.args.self.now.reader.now) (tables c.args.into.now) c.args.self.now.tokens.now.tokens) c.args.below c.args.self.now.tokens.now.tokens c.in_ok-head.field-0 (drop c.args.at c.args.self.now.tokens.now.tokens) c.in_ok-head.ensures.ok (readers (names_in c.args.self.now.typedefs.now (g.R.TypeReader.types c.args.self.now.reader.now) (tables c.args.into.now) c.args.self.now.tokens.now.tokens) c.args.below Statements) c.args.line c.in-Some.head c.in-Some.next c.in-Some.is).1 in
     let tied = tied_kept (g.R.TypeReader.types c.args.self.now.reader.now) (tables c.args.into.now) (tables c.for_head.new.into) c.args.self.now.tokens.now.tokens c.requires.tied c.for_head.ensures.keeps in
-    search rules
+    (omega arith, (within, (place, tied)))
 
 pub for_loop-found_statement-requires-clause-place : goal.for_loop-found_statement-requires-clause-place
 for_loop-found_statement-requires-clause-place g t c = (there_of (tables c.statement.new.into) is_statement c.args.self.now.tokens.now.tokens c.in_ok-body.field-0 (readers (names_in c.args.self.now.typedefs.now (g.R.TypeReader.types c.args.self.now.reader.now) (tables c.for_head.new.into) c.args.self.now.tokens.now.tokens) c.args.below Statements (drop c.in-Some.next c.args.self.now.tokens.now.tokens)) c.in_ok-body.ensures.ok c.in-Some-2.body c.in-Some-2.end c.in-Some-2.is).1
@@ -259,10 +250,10 @@ pub item-returns-in-Switch-clause-ok : goal.item-returns-in-Switch-clause-ok
 item-returns-in-Switch-clause-ok g t c = as_items c.labelled.result (tables c.labelled.new.into) is_statement c.args.self.now.tokens.now.tokens (labelled (names_in c.args.self.now.typedefs.now (g.R.TypeReader.types c.args.self.now.reader.now) (tables c.args.into.now) c.args.self.now.tokens.now.tokens) c.args.depth (readers (names_in c.args.self.now.typedefs.now (g.R.TypeReader.types c.args.self.now.reader.now) (tables c.args.into.now) c.args.self.now.tokens.now.tokens) c.args.depth Statements) (drop c.args.at c.args.self.now.tokens.now.tokens)) (item_in c.args.within (names_in c.args.self.now.typedefs.now (g.R.TypeReader.types c.args.self.now.reader.now) (tables c.args.into.now) c.args.self.now.tokens.now.tokens) c.args.depth (drop c.args.at c.args.self.now.tokens.now.tokens)) statement_item (item_labelled c.args.within (names_in c.args.self.now.typedefs.now (g.R.TypeReader.types c.args.self.now.reader.now) (tables c.args.into.now) c.args.self.now.tokens.now.tokens) c.args.depth (drop c.args.at c.args.self.now.tokens.now.tokens) (sym (c.begins_type.ensures (g.R.TypeReader.types c.args.self.now.reader.now) (tables c.args.into.now)) ∙ c.if-begins_type.false) c.in-Switch.is) c.labelled.ensures.ok
 
 pub labelled-statement-requires : goal.labelled-statement-requires
-labelled-statement-requires g t c =
+labelled-statement-requires g t c κs within =
     let place = c.in_ok-labels.ensures.ok.place in
     let tied = tied_kept (g.R.TypeReader.types c.args.self.now.reader.now) (tables c.args.into.now) (tables c.labels.new.into) c.args.self.now.tokens.now.tokens c.requires.tied c.labels.ensures.keeps in
-    search rules
+    (omega arith, (within, (place, tied)))
 
 pub labelled-returns-in_default-clause-ok : goal.labelled-returns-in_default-clause-ok
 labelled-returns-in_default-clause-ok g t c = nothing _ _ _ _ (labelled_none (names_in c.args.self.now.typedefs.now (g.R.TypeReader.types c.args.self.now.reader.now) (tables c.args.into.now) c.args.self.now.tokens.now.tokens) c.args.depth (readers (names_in c.args.self.now.typedefs.now (g.R.TypeReader.types c.args.self.now.reader.now) (tables c.args.into.now) c.args.self.now.tokens.now.tokens) c.args.depth Statements) (drop c.args.at c.args.self.now.tokens.now.tokens) (trees_of (tables c.labels.new.into).forest c.in_ok-labels.labels.items, (drop c.in_ok-labels.next c.args.self.now.tokens.now.tokens)) c.in_ok-labels.ensures.ok.is (later_none c.args.self.now.typedefs.now (g.R.TypeReader.types c.args.self.now.reader.now) (tables c.args.into.now) (tables c.labels.new.into) (tables c.statement.new.into) c.args.self.now.tokens.now.tokens c.requires.tied c.labels.ensures.keeps is_statement c.in_ok-statement.field-0 (λ (n : Names). readers n c.args.depth Statements (drop c.in_ok-labels.next c.args.self.now.tokens.now.tokens)) c.in_ok-statement.ensures.ok c.in_default.is))
@@ -591,3 +582,51 @@ braced-block_of-requires-clause-place g t c = c.in_ok-items.ensures.ok.place
 
 pub braced-block_of-requires-clause-items : goal.braced-block_of-requires-clause-items
 braced-block_of-requires-clause-items g t c = all_as (tables c.items.new.into) is_item _ _ c.deref.ensures.value c.in_ok-items.ensures.ok.there
+
+pub statement-braced-requires : goal.statement-braced-requires
+statement-braced-requires g t c κs within = (omega arith, (within, (omega (arith, c.in-Some.ensures.1), c.requires.tied)))
+
+pub statement-selection-requires : goal.statement-selection-requires
+statement-selection-requires g t c κs within = (omega arith, (within, (omega (arith, c.in-Some.ensures.1), c.requires.tied)))
+
+pub statement-while_loop-requires : goal.statement-while_loop-requires
+statement-while_loop-requires g t c κs within = (omega arith, (within, (omega (arith, c.in-Some.ensures.1), c.requires.tied)))
+
+pub statement-do_loop-requires : goal.statement-do_loop-requires
+statement-do_loop-requires g t c κs within = (omega arith, (within, (omega (arith, c.in-Some.ensures.1), c.requires.tied)))
+
+pub statement-for_loop-requires : goal.statement-for_loop-requires
+statement-for_loop-requires g t c κs within = (omega arith, (within, (omega (arith, c.in-Some.ensures.1), c.requires.tied)))
+
+pub statement-switch-requires : goal.statement-switch-requires
+statement-switch-requires g t c κs within = (omega arith, (within, (omega (arith, c.in-Some.ensures.1), c.requires.tied)))
+
+pub chosen-statement-requires : goal.chosen-statement-requires
+chosen-statement-requires g t c κs within = (omega arith, (within, (c.in-Some.ensures.1, c.requires.tied)))
+
+pub do_loop-statement-requires : goal.do_loop-statement-requires
+do_loop-statement-requires g t c κs within = (omega arith, (within, (c.requires.place, c.requires.tied)))
+
+pub item-statement-requires : goal.item-statement-requires
+item-statement-requires g t c κs within = (omega arith, (within, (c.requires.place, c.requires.tied)))
+
+pub item-labelled-requires : goal.item-labelled-requires
+item-labelled-requires g t c κs within = (omega arith, (within, (c.requires.place, c.requires.tied)))
+
+pub braced-items-requires : goal.braced-items-requires
+braced-items-requires g t c κs within = (omega arith, (within, (c.requires.place, c.requires.tied)))
+
+pub items-item-requires : goal.items-item-requires
+items-item-requires g t c κs within = (omega arith, (within, (c.loop-items.invariant.place, c.loop-items.invariant.tied)))
+
+pub switch_block-braced-requires : goal.switch_block-braced-requires
+switch_block-braced-requires g t c κs within = (omega arith, (within, (c.in-Some.ensures.1, c.requires.tied)))
+
+pub do_loop-do_end-requires-clause-place : goal.do_loop-do_end-requires-clause-place
+do_loop-do_end-requires-clause-place g t c = (there_of (tables c.statement.new.into) is_statement c.args.self.now.tokens.now.tokens c.in_ok-body.field-0 _ c.in_ok-body.ensures.ok c.in-Some.body c.in-Some.next c.in-Some.is).1
+
+pub do_loop-do_end-requires-clause-body : goal.do_loop-do_end-requires-clause-body
+do_loop-do_end-requires-clause-body g t c = (there_of (tables c.statement.new.into) is_statement c.args.self.now.tokens.now.tokens c.in_ok-body.field-0 _ c.in_ok-body.ensures.ok c.in-Some.body c.in-Some.next c.in-Some.is).0
+
+pub do_loop-do_end-requires-clause-tied : goal.do_loop-do_end-requires-clause-tied
+do_loop-do_end-requires-clause-tied g t c = tied_kept (g.R.TypeReader.types c.args.self.now.reader.now) (tables c.args.into.now) (tables c.statement.new.into) c.args.self.now.tokens.now.tokens c.requires.tied c.statement.ensures.keeps
