@@ -10,7 +10,7 @@ ghost use Rattle.pv_decl_forms.specs.Answers.{Answers};
 ghost use Rattle.pv_decl_forms.specs.Rows.{AreAnswered, MayBeAnswered};
 ghost use Rattle.pv_decl_forms.specs.Pieces.{optional, row};
 ghost use Rattle.pv_decl_forms.specs.Reader.{declaration};
-ghost use Rattle.pv_stmt_forms.specs.Parts.{test_of, case_label, PartAnswers, FirstAnswers, HeadAnswers};
+ghost use Rattle.pv_stmt_forms.specs.Parts.{test_of, PartAnswers, FirstAnswers, HeadAnswers};
 ghost use Rattle.pv_stmt_forms.specs.Statements.{expression, condition, expression_before, simple, returned, do_end, declared, label};
 
 use crate::source::Source;
@@ -273,28 +273,6 @@ impl<R: TypeReader> Source<'_, R> {
         }
     }
 
-    // A `case`, from behind its keyword on (C17 6.8.1).
-    fn case_label(
-        &self,
-        at: u32,
-        line: u32,
-        depth: u32,
-        into: &mut Unit,
-    ) -> Result<Option<(NodeId, u32)>, NoMemory>
-        requires place { at ≤ length self.now.tokens.now.tokens }
-        requires tied { AreTied (R.types self.now.reader.now) (tables into.old) self.now.tokens.now.tokens }
-        ensures keeps { Extends (tables into.old) (tables into.new) }
-        ensures ok { IfOk result (λ r. Answers (tables into.new) is_statement self.now.tokens.now.tokens r (case_label (names_in self.now.typedefs.now (R.types self.now.reader.now) (tables into.old) self.now.tokens.now.tokens) depth line (drop at self.now.tokens.now.tokens))) }
-    {
-        match self.expression(at, Level::Conditional, depth, into)? {
-            Some((value, end)) => {
-                let label = Stmt::Case(value);
-                found_before(self.tokens, end, Sign::Colon, label, line, into)
-            }
-            None => Ok(None),
-        }
-    }
-
     // A label at a place, and the place behind it (C17 6.8.1).
     #[tactic(auto, using(pv_tree::proofs::Kept::extends_same))]
     fn label(&self, at: u32, depth: u32, into: &mut Unit) -> Result<Option<(NodeId, u32)>, NoMemory>
@@ -311,7 +289,13 @@ impl<R: TypeReader> Source<'_, R> {
         };
         let next = at + 1;
         match word {
-            LabelWord::Case => self.case_label(next, token.line, depth, into),
+            LabelWord::Case => match self.expression(next, Level::Conditional, depth, into)? {
+                Some((value, end)) => {
+                    let label = Stmt::Case(value);
+                    found_before(self.tokens, end, Sign::Colon, label, token.line, into)
+                }
+                None => Ok(None),
+            },
             LabelWord::Default => {
                 let label = Stmt::Default;
                 found_before(self.tokens, next, Sign::Colon, label, token.line, into)
