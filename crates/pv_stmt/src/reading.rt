@@ -196,7 +196,7 @@ impl<R: TypeReader> Source<'_, R> {
         }
     }
 
-    // A `switch`, from behind its keyword on (C17 6.8.4.2).
+    // A `switch`, from behind its keyword on, whose body is a block (C17 6.8.4.2).
     #[cycle(reading)]
     fn switch(
         &self,
@@ -213,33 +213,17 @@ impl<R: TypeReader> Source<'_, R> {
         let Some((value, next)) = self.condition(at, below, into)? else {
             return Ok(None);
         };
-        match self.switch_block(next, below, into)? {
+        if below == 0 {
+            return Ok(None);
+        }
+        let Some(inside) = after(self.tokens, next, Sign::OpenBrace) else {
+            return Ok(None);
+        };
+        let first = line_at(self.tokens, next);
+        match self.braced(inside, Within::Switch, first, below - 1, into)? {
             Some((block, end)) => {
                 found_statement(self.tokens, end, Stmt::Switch(value, block), line, into)
             }
-            None => Ok(None),
-        }
-    }
-
-    // The block of a `switch`, of at most so much depth (C17 6.8.4.2).
-    #[cycle(reading)]
-    fn switch_block(
-        &self,
-        at: u32,
-        depth: u32,
-        into: &mut Unit,
-    ) -> Result<Option<(NodeId, u32)>, NoMemory>
-        requires place { at ≤ length self.now.tokens.now.tokens }
-        requires tied { AreTied (R.types self.now.reader.now) (tables into.old) self.now.tokens.now.tokens }
-        ensures keeps { Extends (tables into.old) (tables into.new) }
-        ensures ok { IfOk result (λ r. Answers (tables into.new) is_statement self.now.tokens.now.tokens r (readers (names_in self.now.typedefs.now (R.types self.now.reader.now) (tables into.old) self.now.tokens.now.tokens) depth SwitchBlocks (drop at self.now.tokens.now.tokens))) }
-    {
-        if depth == 0 {
-            return Ok(None);
-        }
-        let line = line_at(self.tokens, at);
-        match after(self.tokens, at, Sign::OpenBrace) {
-            Some(inside) => self.braced(inside, Within::Switch, line, depth - 1, into),
             None => Ok(None),
         }
     }

@@ -124,25 +124,19 @@ while_loop-returns-in-Some-2-clause-ok g t c = moved _ _ _ _ _ _
 pub switch-returns-in_default-clause-ok : goal.switch-returns-in_default-clause-ok
 switch-returns-in_default-clause-ok g t c = nothing _ _ _ _ (switch_shut (names_in c.args.self.now.typedefs.now (g.R.TypeReader.types c.args.self.now.reader.now) (tables c.args.into.now) c.args.self.now.tokens.now.tokens) c.args.below c.args.line (readers (names_in c.args.self.now.typedefs.now (g.R.TypeReader.types c.args.self.now.reader.now) (tables c.args.into.now) c.args.self.now.tokens.now.tokens) c.args.below SwitchBlocks) (drop c.args.at c.args.self.now.tokens.now.tokens) (first_none (tables c.condition.new.into) is_expression c.args.self.now.tokens.now.tokens c.in_ok-value.field-0 (condition (names_in c.args.self.now.typedefs.now (g.R.TypeReader.types c.args.self.now.reader.now) (tables c.args.into.now) c.args.self.now.tokens.now.tokens) c.args.below (drop c.args.at c.args.self.now.tokens.now.tokens)) c.in_ok-value.ensures.ok c.in_default.is))
 
-pub switch-switch_block-requires : goal.switch-switch_block-requires
-switch-switch_block-requires g t c κs within =
-    let place = (there_of (tables c.condition.new.into) is_expression c.args.self.now.tokens.now.tokens c.in_ok-value.field-0 (condition (names_in c.args.self.now.typedefs.now (g.R.TypeReader.types c.args.self.now.reader.now) (tables c.args.into.now) c.args.self.now.tokens.now.tokens) c.args.below (drop c.args.at c.args.self.now.tokens.now.tokens)) c.in_ok-value.ensures.ok c.in-Some.value c.in-Some.next c.in-Some.is).1 in
-    let tied = tied_kept (g.R.TypeReader.types c.args.self.now.reader.now) (tables c.args.into.now) (tables c.condition.new.into) c.args.self.now.tokens.now.tokens c.requires.tied c.condition.ensures.keeps in
-    (omega arith, (within, (place, tied)))
-
 pub switch-returns-in-None-clause-ok : goal.switch-returns-in-None-clause-ok
-switch-returns-in-None-clause-ok g t c = nothing _ _ _ _ (switch_none (names_in c.args.self.now.typedefs.now (g.R.TypeReader.types c.args.self.now.reader.now) (tables c.args.into.now) c.args.self.now.tokens.now.tokens) c.args.below c.args.line (readers (names_in c.args.self.now.typedefs.now (g.R.TypeReader.types c.args.self.now.reader.now) (tables c.args.into.now) c.args.self.now.tokens.now.tokens) c.args.below SwitchBlocks) (drop c.args.at c.args.self.now.tokens.now.tokens) (tree_at (tables c.condition.new.into).forest c.in-Some.value, (drop c.in-Some.next c.args.self.now.tokens.now.tokens)) (first_some (tables c.condition.new.into) is_expression c.args.self.now.tokens.now.tokens c.in_ok-value.field-0 (condition (names_in c.args.self.now.typedefs.now (g.R.TypeReader.types c.args.self.now.reader.now) (tables c.args.into.now) c.args.self.now.tokens.now.tokens) c.args.below (drop c.args.at c.args.self.now.tokens.now.tokens)) c.in_ok-value.ensures.ok c.in-Some.value c.in-Some.next c.in-Some.is) (later_none c.args.self.now.typedefs.now (g.R.TypeReader.types c.args.self.now.reader.now) (tables c.args.into.now) (tables c.condition.new.into) (tables c.switch_block.new.into) c.args.self.now.tokens.now.tokens c.requires.tied c.condition.ensures.keeps is_statement c.in_ok-block.field-0 (λ (n : Names). readers n c.args.below SwitchBlocks (drop c.in-Some.next c.args.self.now.tokens.now.tokens)) c.in_ok-block.ensures.ok c.in-None.is))
+switch-returns-in-None-clause-ok g t c = nothing _ _ _ _ (switch_none (names_in c.args.self.now.typedefs.now (g.R.TypeReader.types c.args.self.now.reader.now) (tables c.args.into.now) c.args.self.now.tokens.now.tokens) c.args.below c.args.line (readers (names_in c.args.self.now.typedefs.now (g.R.TypeReader.types c.args.self.now.reader.now) (tables c.args.into.now) c.args.self.now.tokens.now.tokens) c.args.below SwitchBlocks) (drop c.args.at c.args.self.now.tokens.now.tokens) (tree_at (tables c.condition.new.into).forest c.in-Some.value, (drop c.in-Some.next c.args.self.now.tokens.now.tokens)) (first_some (tables c.condition.new.into) is_expression c.args.self.now.tokens.now.tokens c.in_ok-value.field-0 (condition (names_in c.args.self.now.typedefs.now (g.R.TypeReader.types c.args.self.now.reader.now) (tables c.args.into.now) c.args.self.now.tokens.now.tokens) c.args.below (drop c.args.at c.args.self.now.tokens.now.tokens)) c.in_ok-value.ensures.ok c.in-Some.value c.in-Some.next c.in-Some.is) (later_none c.args.self.now.typedefs.now (g.R.TypeReader.types c.args.self.now.reader.now) (tables c.args.into.now) (tables c.condition.new.into) (tables c.braced.new.into) c.args.self.now.tokens.now.tokens c.requires.tied c.condition.ensures.keeps is_statement c.in_ok-block.field-0 (λ (n : Names). readers n c.args.below SwitchBlocks (drop c.in-Some.next c.args.self.now.tokens.now.tokens)) (record { is = c.in_ok-block.ensures.ok.is ∙ ap (λ (l : ℕ). braced within.Switch (names_in c.args.self.now.typedefs.now (g.R.TypeReader.types c.args.self.now.reader.now) (tables c.condition.new.into) c.args.self.now.tokens.now.tokens) (c.args.below - 1) l (drop c.in-Some-after.inside c.args.self.now.tokens.now.tokens)) c.line_at-first.ensures ∙ switch_begun (names_in c.args.self.now.typedefs.now (g.R.TypeReader.types c.args.self.now.reader.now) (tables c.condition.new.into) c.args.self.now.tokens.now.tokens) c.args.below (drop c.in-Some.next c.args.self.now.tokens.now.tokens) (drop c.in-Some-after.inside c.args.self.now.tokens.now.tokens) (omega arith) c.in-Some-after.ensures.0; there = c.in_ok-block.ensures.ok.there }) c.in-None.is))
 
 pub switch-found_statement-requires-clause-place : goal.switch-found_statement-requires-clause-place
-switch-found_statement-requires-clause-place g t c = (there_of (tables c.switch_block.new.into) is_statement c.args.self.now.tokens.now.tokens c.in_ok-block.field-0 (readers (names_in c.args.self.now.typedefs.now (g.R.TypeReader.types c.args.self.now.reader.now) (tables c.condition.new.into) c.args.self.now.tokens.now.tokens) c.args.below SwitchBlocks (drop c.in-Some.next c.args.self.now.tokens.now.tokens)) c.in_ok-block.ensures.ok c.in-Some-2.block c.in-Some-2.end c.in-Some-2.is).1
+switch-found_statement-requires-clause-place g t c = (there_of (tables c.braced.new.into) is_statement c.args.self.now.tokens.now.tokens c.in_ok-block.field-0 _ c.in_ok-block.ensures.ok c.in-Some-2.block c.in-Some-2.end c.in-Some-2.is).1
 
 pub switch-found_statement-requires-clause-children : goal.switch-found_statement-requires-clause-children
-switch-found_statement-requires-clause-children g t c = (is_kept (tables c.condition.new.into) (tables c.switch_block.new.into) is_expression c.in-Some.value c.switch_block.ensures.keeps (there_of (tables c.condition.new.into) is_expression c.args.self.now.tokens.now.tokens c.in_ok-value.field-0 (condition (names_in c.args.self.now.typedefs.now (g.R.TypeReader.types c.args.self.now.reader.now) (tables c.args.into.now) c.args.self.now.tokens.now.tokens) c.args.below (drop c.args.at c.args.self.now.tokens.now.tokens)) c.in_ok-value.ensures.ok c.in-Some.value c.in-Some.next c.in-Some.is).0, (there_of (tables c.switch_block.new.into) is_statement c.args.self.now.tokens.now.tokens c.in_ok-block.field-0 (readers (names_in c.args.self.now.typedefs.now (g.R.TypeReader.types c.args.self.now.reader.now) (tables c.condition.new.into) c.args.self.now.tokens.now.tokens) c.args.below SwitchBlocks (drop c.in-Some.next c.args.self.now.tokens.now.tokens)) c.in_ok-block.ensures.ok c.in-Some-2.block c.in-Some-2.end c.in-Some-2.is).0)
+switch-found_statement-requires-clause-children g t c = (is_kept (tables c.condition.new.into) (tables c.braced.new.into) is_expression c.in-Some.value c.braced.ensures.keeps (there_of (tables c.condition.new.into) is_expression c.args.self.now.tokens.now.tokens c.in_ok-value.field-0 (condition (names_in c.args.self.now.typedefs.now (g.R.TypeReader.types c.args.self.now.reader.now) (tables c.args.into.now) c.args.self.now.tokens.now.tokens) c.args.below (drop c.args.at c.args.self.now.tokens.now.tokens)) c.in_ok-value.ensures.ok c.in-Some.value c.in-Some.next c.in-Some.is).0, (there_of (tables c.braced.new.into) is_statement c.args.self.now.tokens.now.tokens c.in_ok-block.field-0 _ c.in_ok-block.ensures.ok c.in-Some-2.block c.in-Some-2.end c.in-Some-2.is).0)
 
 pub switch-returns-in-Some-2-clause-ok : goal.switch-returns-in-Some-2-clause-ok
 switch-returns-in-Some-2-clause-ok g t c = moved _ _ _ _ _ _
-    (ap (λ (t : Tree). let x : Tree × List Token = (OfStatement (Switch c.args.line (as_expression t) (statement_at (tables c.switch_block.new.into).forest c.in-Some-2.block)), (drop c.in-Some-2.end c.args.self.now.tokens.now.tokens)) in Some x) (tree_kept (tables c.condition.new.into) (tables c.switch_block.new.into) c.in-Some.value c.switch_block.ensures.keeps (there_of (tables c.condition.new.into) is_expression c.args.self.now.tokens.now.tokens c.in_ok-value.field-0 (condition (names_in c.args.self.now.typedefs.now (g.R.TypeReader.types c.args.self.now.reader.now) (tables c.args.into.now) c.args.self.now.tokens.now.tokens) c.args.below (drop c.args.at c.args.self.now.tokens.now.tokens)) c.in_ok-value.ensures.ok c.in-Some.value c.in-Some.next c.in-Some.is).0.0)
-    ∙ switch_so (names_in c.args.self.now.typedefs.now (g.R.TypeReader.types c.args.self.now.reader.now) (tables c.args.into.now) c.args.self.now.tokens.now.tokens) c.args.below c.args.line (readers (names_in c.args.self.now.typedefs.now (g.R.TypeReader.types c.args.self.now.reader.now) (tables c.args.into.now) c.args.self.now.tokens.now.tokens) c.args.below SwitchBlocks) (drop c.args.at c.args.self.now.tokens.now.tokens) (tree_at (tables c.condition.new.into).forest c.in-Some.value, (drop c.in-Some.next c.args.self.now.tokens.now.tokens)) (first_some (tables c.condition.new.into) is_expression c.args.self.now.tokens.now.tokens c.in_ok-value.field-0 (condition (names_in c.args.self.now.typedefs.now (g.R.TypeReader.types c.args.self.now.reader.now) (tables c.args.into.now) c.args.self.now.tokens.now.tokens) c.args.below (drop c.args.at c.args.self.now.tokens.now.tokens)) c.in_ok-value.ensures.ok c.in-Some.value c.in-Some.next c.in-Some.is) (tree_at (tables c.switch_block.new.into).forest c.in-Some-2.block, (drop c.in-Some-2.end c.args.self.now.tokens.now.tokens)) (later_some c.args.self.now.typedefs.now (g.R.TypeReader.types c.args.self.now.reader.now) (tables c.args.into.now) (tables c.condition.new.into) (tables c.switch_block.new.into) c.args.self.now.tokens.now.tokens c.requires.tied c.condition.ensures.keeps is_statement c.in_ok-block.field-0 (λ (n : Names). readers n c.args.below SwitchBlocks (drop c.in-Some.next c.args.self.now.tokens.now.tokens)) c.in_ok-block.ensures.ok c.in-Some-2.block c.in-Some-2.end c.in-Some-2.is)) c.found_statement.ensures.ok
+    (ap (λ (t : Tree). let x : Tree × List Token = (OfStatement (Switch c.args.line (as_expression t) (statement_at (tables c.braced.new.into).forest c.in-Some-2.block)), (drop c.in-Some-2.end c.args.self.now.tokens.now.tokens)) in Some x) (tree_kept (tables c.condition.new.into) (tables c.braced.new.into) c.in-Some.value c.braced.ensures.keeps (there_of (tables c.condition.new.into) is_expression c.args.self.now.tokens.now.tokens c.in_ok-value.field-0 (condition (names_in c.args.self.now.typedefs.now (g.R.TypeReader.types c.args.self.now.reader.now) (tables c.args.into.now) c.args.self.now.tokens.now.tokens) c.args.below (drop c.args.at c.args.self.now.tokens.now.tokens)) c.in_ok-value.ensures.ok c.in-Some.value c.in-Some.next c.in-Some.is).0.0)
+    ∙ switch_so (names_in c.args.self.now.typedefs.now (g.R.TypeReader.types c.args.self.now.reader.now) (tables c.args.into.now) c.args.self.now.tokens.now.tokens) c.args.below c.args.line (readers (names_in c.args.self.now.typedefs.now (g.R.TypeReader.types c.args.self.now.reader.now) (tables c.args.into.now) c.args.self.now.tokens.now.tokens) c.args.below SwitchBlocks) (drop c.args.at c.args.self.now.tokens.now.tokens) (tree_at (tables c.condition.new.into).forest c.in-Some.value, (drop c.in-Some.next c.args.self.now.tokens.now.tokens)) (first_some (tables c.condition.new.into) is_expression c.args.self.now.tokens.now.tokens c.in_ok-value.field-0 (condition (names_in c.args.self.now.typedefs.now (g.R.TypeReader.types c.args.self.now.reader.now) (tables c.args.into.now) c.args.self.now.tokens.now.tokens) c.args.below (drop c.args.at c.args.self.now.tokens.now.tokens)) c.in_ok-value.ensures.ok c.in-Some.value c.in-Some.next c.in-Some.is) (tree_at (tables c.braced.new.into).forest c.in-Some-2.block, (drop c.in-Some-2.end c.args.self.now.tokens.now.tokens)) (later_some c.args.self.now.typedefs.now (g.R.TypeReader.types c.args.self.now.reader.now) (tables c.args.into.now) (tables c.condition.new.into) (tables c.braced.new.into) c.args.self.now.tokens.now.tokens c.requires.tied c.condition.ensures.keeps is_statement c.in_ok-block.field-0 (λ (n : Names). readers n c.args.below SwitchBlocks (drop c.in-Some.next c.args.self.now.tokens.now.tokens)) (record { is = c.in_ok-block.ensures.ok.is ∙ ap (λ (l : ℕ). braced within.Switch (names_in c.args.self.now.typedefs.now (g.R.TypeReader.types c.args.self.now.reader.now) (tables c.condition.new.into) c.args.self.now.tokens.now.tokens) (c.args.below - 1) l (drop c.in-Some-after.inside c.args.self.now.tokens.now.tokens)) c.line_at-first.ensures ∙ switch_begun (names_in c.args.self.now.typedefs.now (g.R.TypeReader.types c.args.self.now.reader.now) (tables c.condition.new.into) c.args.self.now.tokens.now.tokens) c.args.below (drop c.in-Some.next c.args.self.now.tokens.now.tokens) (drop c.in-Some-after.inside c.args.self.now.tokens.now.tokens) (omega arith) c.in-Some-after.ensures.0; there = c.in_ok-block.ensures.ok.there }) c.in-Some-2.block c.in-Some-2.end c.in-Some-2.is)) c.found_statement.ensures.ok
 
 pub chosen-returns-in_default-clause-ok : goal.chosen-returns-in_default-clause-ok
 chosen-returns-in_default-clause-ok g t c = moved _ _ _ _ _ _ (chosen_plain (readers (names_in c.args.self.now.typedefs.now (g.R.TypeReader.types c.args.self.now.reader.now) (tables c.args.into.now) c.args.self.now.tokens.now.tokens) c.args.below Statements) c.args.line (tree_at (tables c.args.into.now).forest c.args.condition) (tree_at (tables c.args.into.now).forest c.args.body) (drop c.args.at c.args.self.now.tokens.now.tokens) c.in_default.ensures) c.found_statement.ensures.ok
@@ -191,21 +185,6 @@ for_loop-returns-in-Some-2-clause-ok g t c = moved _ _ _ _ _ _ (ap (λ (t : Tree
 
 pub for_loop-returns-in-None-clause-ok : goal.for_loop-returns-in-None-clause-ok
 for_loop-returns-in-None-clause-ok g t c = nothing _ _ _ _ (for_none (tables c.for_head.new.into) (names_in c.args.self.now.typedefs.now (g.R.TypeReader.types c.args.self.now.reader.now) (tables c.args.into.now) c.args.self.now.tokens.now.tokens) c.args.below c.args.self.now.tokens.now.tokens c.in_ok-head.field-0 (drop c.args.at c.args.self.now.tokens.now.tokens) c.in_ok-head.ensures.ok (readers (names_in c.args.self.now.typedefs.now (g.R.TypeReader.types c.args.self.now.reader.now) (tables c.args.into.now) c.args.self.now.tokens.now.tokens) c.args.below Statements) c.args.line c.in-Some.head c.in-Some.next c.in-Some.is (later_none c.args.self.now.typedefs.now (g.R.TypeReader.types c.args.self.now.reader.now) (tables c.args.into.now) (tables c.for_head.new.into) (tables c.statement.new.into) c.args.self.now.tokens.now.tokens c.requires.tied c.for_head.ensures.keeps is_statement c.in_ok-body.field-0 (λ (n : Names). readers n c.args.below Statements (drop c.in-Some.next c.args.self.now.tokens.now.tokens)) c.in_ok-body.ensures.ok c.in-None.is))
-
-pub switch_block-returns-then-depth-eq0-clause-keeps : goal.switch_block-returns-then-depth-eq0-clause-keeps
-switch_block-returns-then-depth-eq0-clause-keeps g t c = extends_same _
-
-pub switch_block-returns-then-depth-eq0-clause-ok : goal.switch_block-returns-then-depth-eq0-clause-ok
-switch_block-returns-then-depth-eq0-clause-ok g t c = nothing _ _ _ _ (switch_zero (names_in c.args.self.now.typedefs.now (g.R.TypeReader.types c.args.self.now.reader.now) (tables c.args.into.now) c.args.self.now.tokens.now.tokens) c.args.depth (drop c.args.at c.args.self.now.tokens.now.tokens) c.if-depth-eq0.true)
-
-pub switch_block-returns-in-None-clause-keeps : goal.switch_block-returns-in-None-clause-keeps
-switch_block-returns-in-None-clause-keeps g t c = extends_same _
-
-pub switch_block-returns-in-Some-clause-ok : goal.switch_block-returns-in-Some-clause-ok
-switch_block-returns-in-Some-clause-ok g t c = moved _ _ _ _ _ _ (ap (λ (l : ℕ). braced within.Switch (names_in c.args.self.now.typedefs.now (g.R.TypeReader.types c.args.self.now.reader.now) (tables c.args.into.now) c.args.self.now.tokens.now.tokens) (c.args.depth - 1) l (drop c.in-Some.inside c.args.self.now.tokens.now.tokens)) c.line_at-line.ensures ∙ switch_begun (names_in c.args.self.now.typedefs.now (g.R.TypeReader.types c.args.self.now.reader.now) (tables c.args.into.now) c.args.self.now.tokens.now.tokens) c.args.depth (drop c.args.at c.args.self.now.tokens.now.tokens) (drop c.in-Some.inside c.args.self.now.tokens.now.tokens) (omega arith) c.in-Some.ensures.0) c.braced.ensures.ok
-
-pub switch_block-returns-in-None-clause-ok : goal.switch_block-returns-in-None-clause-ok
-switch_block-returns-in-None-clause-ok g t c = nothing _ _ _ _ (switch_not (names_in c.args.self.now.typedefs.now (g.R.TypeReader.types c.args.self.now.reader.now) (tables c.args.into.now) c.args.self.now.tokens.now.tokens) c.args.depth (drop c.args.at c.args.self.now.tokens.now.tokens) (omega arith) c.in-None.ensures)
 
 pub braced-returns-clause-ok : goal.braced-returns-clause-ok
 braced-returns-clause-ok g t c = moved _ _ _ _ _ _ (ap (block_end (enclosed c.args.within c.args.line)) (ap (λ (ns : List NodeId). let x : Trees × List Token = (trees_of (tables c.items.new.into).forest ns, drop c.in_ok-items.end c.args.self.now.tokens.now.tokens) in x) c.deref.ensures.value ∙ c.in_ok-items.ensures.ok.is)) c.block_of.ensures.ok
@@ -401,13 +380,13 @@ pub while_loop-returns-in_default-clause-keeps : goal.while_loop-returns-in_defa
 while_loop-returns-in_default-clause-keeps g t c = c.condition.ensures.keeps
 
 pub switch-returns-in_err-block-clause-keeps : goal.switch-returns-in_err-block-clause-keeps
-switch-returns-in_err-block-clause-keeps g t c = extends_then (tables c.args.into.now) (tables c.condition.new.into) (tables c.switch_block.new.into) c.condition.ensures.keeps c.switch_block.ensures.keeps
+switch-returns-in_err-block-clause-keeps g t c = extends_then (tables c.args.into.now) (tables c.condition.new.into) (tables c.braced.new.into) c.condition.ensures.keeps c.braced.ensures.keeps
 
 pub switch-returns-in-None-clause-keeps : goal.switch-returns-in-None-clause-keeps
-switch-returns-in-None-clause-keeps g t c = extends_then (tables c.args.into.now) (tables c.condition.new.into) (tables c.switch_block.new.into) c.condition.ensures.keeps c.switch_block.ensures.keeps
+switch-returns-in-None-clause-keeps g t c = extends_then (tables c.args.into.now) (tables c.condition.new.into) (tables c.braced.new.into) c.condition.ensures.keeps c.braced.ensures.keeps
 
 pub switch-returns-in-Some-2-clause-keeps : goal.switch-returns-in-Some-2-clause-keeps
-switch-returns-in-Some-2-clause-keeps g t c = extends_then (tables c.args.into.now) (tables c.switch_block.new.into) (tables c.found_statement.new.into) (extends_then (tables c.args.into.now) (tables c.condition.new.into) (tables c.switch_block.new.into) c.condition.ensures.keeps c.switch_block.ensures.keeps) c.found_statement.ensures.keeps
+switch-returns-in-Some-2-clause-keeps g t c = extends_then (tables c.args.into.now) (tables c.braced.new.into) (tables c.found_statement.new.into) (extends_then (tables c.args.into.now) (tables c.condition.new.into) (tables c.braced.new.into) c.condition.ensures.keeps c.braced.ensures.keeps) c.found_statement.ensures.keeps
 
 pub item-begins_type-requires : goal.item-begins_type-requires
 item-begins_type-requires g t c = c.requires.place
@@ -517,15 +496,6 @@ statement-found_before-requires-in-Continue-clause-place g t c = omega (arith, c
 pub statement-returned-requires-clause-place : goal.statement-returned-requires-clause-place
 statement-returned-requires-clause-place g t c = omega (arith, c.in-Some.ensures.1)
 
-pub switch_block-line_at-line-requires : goal.switch_block-line_at-line-requires
-switch_block-line_at-line-requires g t c = c.requires.place
-
-pub switch_block-after-requires : goal.switch_block-after-requires
-switch_block-after-requires g t c = c.requires.place
-
-pub switch_block-returns-in-Some-clause-keeps : goal.switch_block-returns-in-Some-clause-keeps
-switch_block-returns-in-Some-clause-keeps g t c = c.braced.ensures.keeps
-
 pub braced-returns-in_err-items-clause-ok : goal.braced-returns-in_err-items-clause-ok
 braced-returns-in_err-items-clause-ok g t c = IfOk-from_err _ _ c.from_residual.ensures.0
 
@@ -619,9 +589,6 @@ braced-items-requires g t c κs within = (omega arith, (within, (c.requires.plac
 pub items-item-requires : goal.items-item-requires
 items-item-requires g t c κs within = (omega arith, (within, (c.loop-items.invariant.place, c.loop-items.invariant.tied)))
 
-pub switch_block-braced-requires : goal.switch_block-braced-requires
-switch_block-braced-requires g t c κs within = (omega arith, (within, (c.in-Some.ensures.1, c.requires.tied)))
-
 pub do_loop-do_end-requires-clause-place : goal.do_loop-do_end-requires-clause-place
 do_loop-do_end-requires-clause-place g t c = (there_of (tables c.statement.new.into) is_statement c.args.self.now.tokens.now.tokens c.in_ok-body.field-0 _ c.in_ok-body.ensures.ok c.in-Some.body c.in-Some.next c.in-Some.is).1
 
@@ -630,3 +597,24 @@ do_loop-do_end-requires-clause-body g t c = (there_of (tables c.statement.new.in
 
 pub do_loop-do_end-requires-clause-tied : goal.do_loop-do_end-requires-clause-tied
 do_loop-do_end-requires-clause-tied g t c = tied_kept (g.R.TypeReader.types c.args.self.now.reader.now) (tables c.args.into.now) (tables c.statement.new.into) c.args.self.now.tokens.now.tokens c.requires.tied c.statement.ensures.keeps
+
+pub switch-returns-then-below-eq0-clause-keeps : goal.switch-returns-then-below-eq0-clause-keeps
+switch-returns-then-below-eq0-clause-keeps g t c = c.condition.ensures.keeps
+
+pub switch-returns-then-below-eq0-clause-ok : goal.switch-returns-then-below-eq0-clause-ok
+switch-returns-then-below-eq0-clause-ok g t c = nothing _ _ _ _ (switch_none (names_in c.args.self.now.typedefs.now (g.R.TypeReader.types c.args.self.now.reader.now) (tables c.args.into.now) c.args.self.now.tokens.now.tokens) c.args.below c.args.line (readers (names_in c.args.self.now.typedefs.now (g.R.TypeReader.types c.args.self.now.reader.now) (tables c.args.into.now) c.args.self.now.tokens.now.tokens) c.args.below SwitchBlocks) (drop c.args.at c.args.self.now.tokens.now.tokens) (tree_at (tables c.condition.new.into).forest c.in-Some.value, (drop c.in-Some.next c.args.self.now.tokens.now.tokens)) (first_some (tables c.condition.new.into) is_expression c.args.self.now.tokens.now.tokens c.in_ok-value.field-0 (condition (names_in c.args.self.now.typedefs.now (g.R.TypeReader.types c.args.self.now.reader.now) (tables c.args.into.now) c.args.self.now.tokens.now.tokens) c.args.below (drop c.args.at c.args.self.now.tokens.now.tokens)) c.in_ok-value.ensures.ok c.in-Some.value c.in-Some.next c.in-Some.is) (sym (switch_zero (names_in c.args.self.now.typedefs.now (g.R.TypeReader.types c.args.self.now.reader.now) (tables c.args.into.now) c.args.self.now.tokens.now.tokens) c.args.below (drop c.in-Some.next c.args.self.now.tokens.now.tokens) c.if-below-eq0.true)))
+
+pub switch-after-requires : goal.switch-after-requires
+switch-after-requires g t c = (there_of (tables c.condition.new.into) is_expression c.args.self.now.tokens.now.tokens c.in_ok-value.field-0 (condition (names_in c.args.self.now.typedefs.now (g.R.TypeReader.types c.args.self.now.reader.now) (tables c.args.into.now) c.args.self.now.tokens.now.tokens) c.args.below (drop c.args.at c.args.self.now.tokens.now.tokens)) c.in_ok-value.ensures.ok c.in-Some.value c.in-Some.next c.in-Some.is).1
+
+pub switch-returns-in_default-after-clause-keeps : goal.switch-returns-in_default-after-clause-keeps
+switch-returns-in_default-after-clause-keeps g t c = c.condition.ensures.keeps
+
+pub switch-returns-in_default-after-clause-ok : goal.switch-returns-in_default-after-clause-ok
+switch-returns-in_default-after-clause-ok g t c = nothing _ _ _ _ (switch_none (names_in c.args.self.now.typedefs.now (g.R.TypeReader.types c.args.self.now.reader.now) (tables c.args.into.now) c.args.self.now.tokens.now.tokens) c.args.below c.args.line (readers (names_in c.args.self.now.typedefs.now (g.R.TypeReader.types c.args.self.now.reader.now) (tables c.args.into.now) c.args.self.now.tokens.now.tokens) c.args.below SwitchBlocks) (drop c.args.at c.args.self.now.tokens.now.tokens) (tree_at (tables c.condition.new.into).forest c.in-Some.value, (drop c.in-Some.next c.args.self.now.tokens.now.tokens)) (first_some (tables c.condition.new.into) is_expression c.args.self.now.tokens.now.tokens c.in_ok-value.field-0 (condition (names_in c.args.self.now.typedefs.now (g.R.TypeReader.types c.args.self.now.reader.now) (tables c.args.into.now) c.args.self.now.tokens.now.tokens) c.args.below (drop c.args.at c.args.self.now.tokens.now.tokens)) c.in_ok-value.ensures.ok c.in-Some.value c.in-Some.next c.in-Some.is) (sym (switch_not (names_in c.args.self.now.typedefs.now (g.R.TypeReader.types c.args.self.now.reader.now) (tables c.args.into.now) c.args.self.now.tokens.now.tokens) c.args.below (drop c.in-Some.next c.args.self.now.tokens.now.tokens) (omega arith) c.in_default-after.ensures)))
+
+pub switch-line_at-first-requires : goal.switch-line_at-first-requires
+switch-line_at-first-requires g t c = (there_of (tables c.condition.new.into) is_expression c.args.self.now.tokens.now.tokens c.in_ok-value.field-0 (condition (names_in c.args.self.now.typedefs.now (g.R.TypeReader.types c.args.self.now.reader.now) (tables c.args.into.now) c.args.self.now.tokens.now.tokens) c.args.below (drop c.args.at c.args.self.now.tokens.now.tokens)) c.in_ok-value.ensures.ok c.in-Some.value c.in-Some.next c.in-Some.is).1
+
+pub switch-braced-requires : goal.switch-braced-requires
+switch-braced-requires g t c κs within = (omega arith, (within, (c.in-Some-after.ensures.1, tied_kept (g.R.TypeReader.types c.args.self.now.reader.now) (tables c.args.into.now) (tables c.condition.new.into) c.args.self.now.tokens.now.tokens c.requires.tied c.condition.ensures.keeps)))

@@ -29,9 +29,6 @@ decreases-for_loop g l = 6 * l.below + 1
 abbrev pub decreases-switch : goal.decreases-switch
 decreases-switch g l = 6 * l.below + 2
 
-abbrev pub decreases-switch_block : goal.decreases-switch_block
-decreases-switch_block g l = 6 * l.depth + 1
-
 abbrev pub decreases-braced : goal.decreases-braced
 decreases-braced g l = 6 * l.below + 5
 
