@@ -11,7 +11,7 @@ ghost use Rattle.pv_decl_forms.specs.Rows.{AreAnswered, MayBeAnswered};
 ghost use Rattle.pv_decl_forms.specs.Pieces.{optional, row};
 ghost use Rattle.pv_decl_forms.specs.Reader.{declaration};
 ghost use Rattle.pv_stmt_forms.specs.Parts.{test_of, PartAnswers, FirstAnswers, HeadAnswers};
-ghost use Rattle.pv_stmt_forms.specs.Statements.{expression, condition, expression_before, simple, returned, do_end, declared, label};
+ghost use Rattle.pv_stmt_forms.specs.Statements.{expression, condition, expression_before, simple, returned, declared, label};
 
 use crate::source::Source;
 use pv_decl::declaration;
@@ -149,34 +149,6 @@ impl<R: TypeReader> Source<'_, R> {
         match self.expression_before(at, Sign::Semicolon, depth, into)? {
             Some((value, end)) => {
                 found_statement(self.tokens, end, Stmt::Return(value), line, into)
-            }
-            None => Ok(None),
-        }
-    }
-
-    /// What follows the body of a `do` (C17 6.8.5.2).
-    #[tactic(auto, using(pv_tree::proofs::Kept::extends_same))]
-    pub(crate) fn do_end(
-        &self,
-        at: u32,
-        body: NodeId,
-        line: u32,
-        depth: u32,
-        into: &mut Unit,
-    ) -> Result<Option<(NodeId, u32)>, NoMemory>
-        requires place { at ≤ length self.now.tokens.now.tokens }
-        requires tied { AreTied (R.types self.now.reader.now) (tables into.old) self.now.tokens.now.tokens }
-        requires body { Is (tables into.old) is_statement body }
-        ensures keeps { Extends (tables into.old) (tables into.new) }
-        ensures ok { IfOk result (λ r. Answers (tables into.new) is_statement self.now.tokens.now.tokens r (do_end (names_in self.now.typedefs.now (R.types self.now.reader.now) (tables into.old) self.now.tokens.now.tokens) depth line (tree_at (tables into.old).forest body) (drop at self.now.tokens.now.tokens))) }
-    {
-        let Some(next) = after(self.tokens, at, Sign::While) else {
-            return Ok(None);
-        };
-        match self.condition(next, depth, into)? {
-            Some((value, end)) => {
-                let statement = Stmt::DoWhile(body, value);
-                found_before(self.tokens, end, Sign::Semicolon, statement, line, into)
             }
             None => Ok(None),
         }

@@ -165,8 +165,17 @@ impl<R: TypeReader> Source<'_, R> {
         ensures keeps { Extends (tables into.old) (tables into.new) }
         ensures ok { IfOk result (λ r. Answers (tables into.new) is_statement self.now.tokens.now.tokens r (do_loop (names_in self.now.typedefs.now (R.types self.now.reader.now) (tables into.old) self.now.tokens.now.tokens) below (readers (names_in self.now.typedefs.now (R.types self.now.reader.now) (tables into.old) self.now.tokens.now.tokens) below Statements) line (drop at self.now.tokens.now.tokens))) }
     {
-        match self.statement(at, below, into)? {
-            Some((body, next)) => self.do_end(next, body, line, below, into),
+        let Some((body, next)) = self.statement(at, below, into)? else {
+            return Ok(None);
+        };
+        let Some(inside) = after(self.tokens, next, Sign::While) else {
+            return Ok(None);
+        };
+        match self.condition(inside, below, into)? {
+            Some((value, end)) => {
+                let statement = Stmt::DoWhile(body, value);
+                found_before(self.tokens, end, Sign::Semicolon, statement, line, into)
+            }
             None => Ok(None),
         }
     }

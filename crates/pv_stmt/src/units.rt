@@ -74,9 +74,9 @@ pub fn unit(alloc: Global, t: &Tokens) -> Result<Unit, SynError>
     // Where it is refused, none do, and no more than so many spell the first tokens.
     ensures syntax { (whole : ℕ) → result ≡ Err (SynError.Syntax whole) → ((ds : List DeclarationTree) → SpellUnit t.now.tokens ds → ⊥) × IsWhole t.now.tokens whole }
 {
-    let mut types = IndexSet::new(alloc);
     let mut unit = Unit::new(alloc);
-    let end = read_all(alloc, t, &mut types, &mut unit)?;
+    let read = read_all(alloc, t, &mut IndexSet::new(alloc), &mut unit);
+    let end = read?;
     if end < t.len() {
         return Err(SynError::Syntax {
             whole: unit.count(),

@@ -1,20 +1,21 @@
-use Rattle.std.proofs.Common.{◌∙◌, ◌+◌, ◌≤◌, ◌-◌, sym, ap, drop, length, arith, List, Some, vec_len, ◌≡◌, ◌==◌, ℕ, subst, All}
+use Rattle.std.proofs.Common.{option_map, ◌∙◌, ◌+◌, ◌≤◌, ◌-◌, sym, ap, drop, length, arith, List, Some, vec_len, ◌≡◌, ◌==◌, ℕ, subst, All}
 use Rattle.std.proofs.lemmas.Result.{IfOk-from_err}
 use Rattle.pv_token.specs.declared.token_table.Token.{Token}
 use Rattle.pv_tree.specs.Rows.{tables}
-use Rattle.pv_tree.specs.Syntax.{Tree, Trees, OfStatement, While, NoTrees, Switch}
-use Rattle.pv_tree.specs.Tables.{tree_at, as_expression, statement_at, is_expression, is_declaration, is_statement, is_item, trees_of, Is}
+use Rattle.pv_tree.specs.Syntax.{Tree, Trees, OfStatement, DoWhile, While, NoTrees, Switch}
+use Rattle.pv_tree.specs.Tables.{tree_at, as_statement, as_expression, statement_at, is_expression, is_declaration, is_statement, is_item, trees_of, Is}
 use Rattle.pv_tree.proofs.Kept.{extends_same, extends_then, tree_kept, is_kept}
 use Rattle.pv_expr_forms.specs.Known.{names_in}
 use Rattle.pv_expr_forms.proofs.Naming.{tied_kept, names_kept}
-use Rattle.pv_decl_forms.specs.Pieces.{row}
+use Rattle.pv_expr_forms.specs.Reader.{after}
+use Rattle.pv_decl_forms.specs.Pieces.{is_semicolon, row}
 use Rattle.pv_decl_forms.specs.Reader.{declaration}
 use Rattle.pv_decl_forms.proofs.Answered.{moved, nothing}
 use Rattle.pv_decl_forms.proofs.Loops.{at_start, no_parts, start_row, goes_forward, part_there, parts_there, row_ends, row_goes, trees_kept, all_kept}
 use Rattle.pv_stmt_forms.specs.Parts.{item_in, braced, enclosed}
 use Rattle.pv_stmt_forms.specs.Statements.{condition, declared, labelled, chosen, do_end, Statements, SwitchBlocks, readers, block_end}
 use Rattle.pv_stmt_forms.proofs.Shorter.{items_shorten}
-use Rattle.pv_stmt_forms.proofs.Chains.{first_some, first_none, there_of, later_some, later_none, as_items, statement_item, declaration_item, labelled_none, labelled_bare, selection_shut, selection_none, selection_so, loop_shut, loop_none, loop_so, switch_shut, switch_none, switch_so, do_none, do_on, chosen_plain, chosen_open, chosen_unread, chosen_both, alone_kept, both_kept}
+use Rattle.pv_stmt_forms.proofs.Chains.{do_shut, do_unread, do_so, first_some, first_none, there_of, later_some, later_none, as_items, statement_item, declaration_item, labelled_none, labelled_bare, selection_shut, selection_none, selection_so, loop_shut, loop_none, loop_so, switch_shut, switch_none, switch_so, do_none, do_on, chosen_plain, chosen_open, chosen_unread, chosen_both, alone_kept, both_kept}
 use Rattle.pv_stmt_forms.proofs.Begun.{statement_zero, switch_zero, statement_end, begun, switch_begun, switch_not, item_declared, item_stated, item_labelled}
 use Rattle.pv_stmt_forms.proofs.Heading.{for_shut, for_none, for_so, for_children, head_there}
 use Rattle.pv_stmt_forms.proofs.Labelling.{labelled_as}
@@ -159,12 +160,6 @@ chosen-found_statement-requires-in-Some-2-clause-children g t c = (is_kept (tabl
 pub chosen-found_statement-requires-in-None-clause-children : goal.chosen-found_statement-requires-in-None-clause-children
 chosen-found_statement-requires-in-None-clause-children g t c = (is_kept (tables c.args.into.now) (tables c.statement.new.into) is_expression c.args.condition c.statement.ensures.keeps c.requires.condition, is_kept (tables c.args.into.now) (tables c.statement.new.into) is_statement c.args.body c.statement.ensures.keeps c.requires.body)
 
-pub do_loop-returns-in-Some-clause-ok : goal.do_loop-returns-in-Some-clause-ok
-do_loop-returns-in-Some-clause-ok g t c = moved _ _ _ _ _ _ (ap (λ (n : Names). do_end n c.args.below c.args.line (tree_at (tables c.statement.new.into).forest c.in-Some.body) (drop c.in-Some.next c.args.self.now.tokens.now.tokens)) (names_kept c.args.self.now.typedefs.now (g.R.TypeReader.types c.args.self.now.reader.now) (tables c.args.into.now) (tables c.statement.new.into) c.args.self.now.tokens.now.tokens c.requires.tied c.statement.ensures.keeps) ∙ do_on (names_in c.args.self.now.typedefs.now (g.R.TypeReader.types c.args.self.now.reader.now) (tables c.args.into.now) c.args.self.now.tokens.now.tokens) c.args.below c.args.line (readers (names_in c.args.self.now.typedefs.now (g.R.TypeReader.types c.args.self.now.reader.now) (tables c.args.into.now) c.args.self.now.tokens.now.tokens) c.args.below Statements) (drop c.args.at c.args.self.now.tokens.now.tokens) (tree_at (tables c.statement.new.into).forest c.in-Some.body, (drop c.in-Some.next c.args.self.now.tokens.now.tokens)) (first_some (tables c.statement.new.into) is_statement c.args.self.now.tokens.now.tokens c.in_ok-body.field-0 (readers (names_in c.args.self.now.typedefs.now (g.R.TypeReader.types c.args.self.now.reader.now) (tables c.args.into.now) c.args.self.now.tokens.now.tokens) c.args.below Statements (drop c.args.at c.args.self.now.tokens.now.tokens)) c.in_ok-body.ensures.ok c.in-Some.body c.in-Some.next c.in-Some.is)) c.do_end.ensures.ok
-
-pub do_loop-returns-in-None-clause-ok : goal.do_loop-returns-in-None-clause-ok
-do_loop-returns-in-None-clause-ok g t c = nothing _ _ _ _ (do_none (names_in c.args.self.now.typedefs.now (g.R.TypeReader.types c.args.self.now.reader.now) (tables c.args.into.now) c.args.self.now.tokens.now.tokens) c.args.below c.args.line (readers (names_in c.args.self.now.typedefs.now (g.R.TypeReader.types c.args.self.now.reader.now) (tables c.args.into.now) c.args.self.now.tokens.now.tokens) c.args.below Statements) (drop c.args.at c.args.self.now.tokens.now.tokens) (first_none (tables c.statement.new.into) is_statement c.args.self.now.tokens.now.tokens c.in_ok-body.field-0 (readers (names_in c.args.self.now.typedefs.now (g.R.TypeReader.types c.args.self.now.reader.now) (tables c.args.into.now) c.args.self.now.tokens.now.tokens) c.args.below Statements (drop c.args.at c.args.self.now.tokens.now.tokens)) c.in_ok-body.ensures.ok c.in-None.is))
-
 pub for_loop-returns-in_default-clause-ok : goal.for_loop-returns-in_default-clause-ok
 for_loop-returns-in_default-clause-ok g t c = nothing _ _ _ _ (for_shut (tables c.for_head.new.into) (names_in c.args.self.now.typedefs.now (g.R.TypeReader.types c.args.self.now.reader.now) (tables c.args.into.now) c.args.self.now.tokens.now.tokens) c.args.below c.args.self.now.tokens.now.tokens c.in_ok-head.field-0 (drop c.args.at c.args.self.now.tokens.now.tokens) c.in_ok-head.ensures.ok (readers (names_in c.args.self.now.typedefs.now (g.R.TypeReader.types c.args.self.now.reader.now) (tables c.args.into.now) c.args.self.now.tokens.now.tokens) c.args.below Statements) c.args.line c.in_default.is)
 
@@ -297,12 +292,6 @@ chosen-found_statement-requires-in-None-clause-place g t c = c.requires.place
 
 pub do_loop-returns-in_err-body-clause-keeps : goal.do_loop-returns-in_err-body-clause-keeps
 do_loop-returns-in_err-body-clause-keeps g t c = c.statement.ensures.keeps
-
-pub do_loop-returns-in-Some-clause-keeps : goal.do_loop-returns-in-Some-clause-keeps
-do_loop-returns-in-Some-clause-keeps g t c = extends_then (tables c.args.into.now) (tables c.statement.new.into) (tables c.do_end.new.into) c.statement.ensures.keeps c.do_end.ensures.keeps
-
-pub do_loop-returns-in-None-clause-keeps : goal.do_loop-returns-in-None-clause-keeps
-do_loop-returns-in-None-clause-keeps g t c = c.statement.ensures.keeps
 
 pub for_loop-for_head-requires-clause-place : goal.for_loop-for_head-requires-clause-place
 for_loop-for_head-requires-clause-place g t c = c.requires.place
@@ -589,15 +578,6 @@ braced-items-requires g t c κs within = (omega arith, (within, (c.requires.plac
 pub items-item-requires : goal.items-item-requires
 items-item-requires g t c κs within = (omega arith, (within, (c.loop-items.invariant.place, c.loop-items.invariant.tied)))
 
-pub do_loop-do_end-requires-clause-place : goal.do_loop-do_end-requires-clause-place
-do_loop-do_end-requires-clause-place g t c = (there_of (tables c.statement.new.into) is_statement c.args.self.now.tokens.now.tokens c.in_ok-body.field-0 _ c.in_ok-body.ensures.ok c.in-Some.body c.in-Some.next c.in-Some.is).1
-
-pub do_loop-do_end-requires-clause-body : goal.do_loop-do_end-requires-clause-body
-do_loop-do_end-requires-clause-body g t c = (there_of (tables c.statement.new.into) is_statement c.args.self.now.tokens.now.tokens c.in_ok-body.field-0 _ c.in_ok-body.ensures.ok c.in-Some.body c.in-Some.next c.in-Some.is).0
-
-pub do_loop-do_end-requires-clause-tied : goal.do_loop-do_end-requires-clause-tied
-do_loop-do_end-requires-clause-tied g t c = tied_kept (g.R.TypeReader.types c.args.self.now.reader.now) (tables c.args.into.now) (tables c.statement.new.into) c.args.self.now.tokens.now.tokens c.requires.tied c.statement.ensures.keeps
-
 pub switch-returns-then-below-eq0-clause-keeps : goal.switch-returns-then-below-eq0-clause-keeps
 switch-returns-then-below-eq0-clause-keeps g t c = c.condition.ensures.keeps
 
@@ -618,3 +598,51 @@ switch-line_at-first-requires g t c = (there_of (tables c.condition.new.into) is
 
 pub switch-braced-requires : goal.switch-braced-requires
 switch-braced-requires g t c κs within = (omega arith, (within, (c.in-Some-after.ensures.1, tied_kept (g.R.TypeReader.types c.args.self.now.reader.now) (tables c.args.into.now) (tables c.condition.new.into) c.args.self.now.tokens.now.tokens c.requires.tied c.condition.ensures.keeps)))
+
+pub do_loop-returns-in_default-clause-keeps : goal.do_loop-returns-in_default-clause-keeps
+do_loop-returns-in_default-clause-keeps g t c = c.statement.ensures.keeps
+
+pub do_loop-returns-in_default-clause-ok : goal.do_loop-returns-in_default-clause-ok
+do_loop-returns-in_default-clause-ok g t c = nothing _ _ _ _ (do_none (names_in c.args.self.now.typedefs.now (g.R.TypeReader.types c.args.self.now.reader.now) (tables c.args.into.now) c.args.self.now.tokens.now.tokens) c.args.below c.args.line (readers (names_in c.args.self.now.typedefs.now (g.R.TypeReader.types c.args.self.now.reader.now) (tables c.args.into.now) c.args.self.now.tokens.now.tokens) c.args.below Statements) (drop c.args.at c.args.self.now.tokens.now.tokens) (first_none (tables c.statement.new.into) is_statement c.args.self.now.tokens.now.tokens c.in_ok-body.field-0 (readers (names_in c.args.self.now.typedefs.now (g.R.TypeReader.types c.args.self.now.reader.now) (tables c.args.into.now) c.args.self.now.tokens.now.tokens) c.args.below Statements (drop c.args.at c.args.self.now.tokens.now.tokens)) c.in_ok-body.ensures.ok c.in_default.is))
+
+pub do_loop-after-requires : goal.do_loop-after-requires
+do_loop-after-requires g t c = (there_of (tables c.statement.new.into) is_statement c.args.self.now.tokens.now.tokens c.in_ok-body.field-0 _ c.in_ok-body.ensures.ok c.in-Some.body c.in-Some.next c.in-Some.is).1
+
+pub do_loop-returns-in_default-after-clause-keeps : goal.do_loop-returns-in_default-after-clause-keeps
+do_loop-returns-in_default-after-clause-keeps g t c = c.statement.ensures.keeps
+
+pub do_loop-returns-in_default-after-clause-ok : goal.do_loop-returns-in_default-after-clause-ok
+do_loop-returns-in_default-after-clause-ok g t c = nothing _ _ _ _ (do_shut (names_in c.args.self.now.typedefs.now (g.R.TypeReader.types c.args.self.now.reader.now) (tables c.statement.new.into) c.args.self.now.tokens.now.tokens) c.args.below c.args.line (tree_at (tables c.statement.new.into).forest c.in-Some.body) (drop c.in-Some.next c.args.self.now.tokens.now.tokens) c.in_default-after.ensures ∙ ap (λ (n : Names). do_end n c.args.below c.args.line (tree_at (tables c.statement.new.into).forest c.in-Some.body) (drop c.in-Some.next c.args.self.now.tokens.now.tokens)) (names_kept c.args.self.now.typedefs.now (g.R.TypeReader.types c.args.self.now.reader.now) (tables c.args.into.now) (tables c.statement.new.into) c.args.self.now.tokens.now.tokens c.requires.tied c.statement.ensures.keeps) ∙ do_on (names_in c.args.self.now.typedefs.now (g.R.TypeReader.types c.args.self.now.reader.now) (tables c.args.into.now) c.args.self.now.tokens.now.tokens) c.args.below c.args.line (readers (names_in c.args.self.now.typedefs.now (g.R.TypeReader.types c.args.self.now.reader.now) (tables c.args.into.now) c.args.self.now.tokens.now.tokens) c.args.below Statements) (drop c.args.at c.args.self.now.tokens.now.tokens) (tree_at (tables c.statement.new.into).forest c.in-Some.body, (drop c.in-Some.next c.args.self.now.tokens.now.tokens)) (first_some (tables c.statement.new.into) is_statement c.args.self.now.tokens.now.tokens c.in_ok-body.field-0 (readers (names_in c.args.self.now.typedefs.now (g.R.TypeReader.types c.args.self.now.reader.now) (tables c.args.into.now) c.args.self.now.tokens.now.tokens) c.args.below Statements (drop c.args.at c.args.self.now.tokens.now.tokens)) c.in_ok-body.ensures.ok c.in-Some.body c.in-Some.next c.in-Some.is))
+
+pub do_loop-condition-requires-clause-place : goal.do_loop-condition-requires-clause-place
+do_loop-condition-requires-clause-place g t c = c.in-Some-after.ensures.1
+
+pub do_loop-condition-requires-clause-tied : goal.do_loop-condition-requires-clause-tied
+do_loop-condition-requires-clause-tied g t c = tied_kept (g.R.TypeReader.types c.args.self.now.reader.now) (tables c.args.into.now) (tables c.statement.new.into) c.args.self.now.tokens.now.tokens c.requires.tied c.statement.ensures.keeps
+
+pub do_loop-returns-in_err-value-clause-keeps : goal.do_loop-returns-in_err-value-clause-keeps
+do_loop-returns-in_err-value-clause-keeps g t c = extends_then (tables c.args.into.now) (tables c.statement.new.into) (tables c.condition.new.into) c.statement.ensures.keeps c.condition.ensures.keeps
+
+pub do_loop-returns-in_err-value-clause-ok : goal.do_loop-returns-in_err-value-clause-ok
+do_loop-returns-in_err-value-clause-ok g t c = IfOk-from_err _ _ c.from_residual-in_err-value.ensures.0
+
+pub do_loop-found_before-requires-clause-place : goal.do_loop-found_before-requires-clause-place
+do_loop-found_before-requires-clause-place g t c = (there_of (tables c.condition.new.into) is_expression c.args.self.now.tokens.now.tokens c.in_ok-value.field-0 _ c.in_ok-value.ensures.ok c.in-Some-2.value c.in-Some-2.end c.in-Some-2.is).1
+
+pub do_loop-found_before-requires-clause-children : goal.do_loop-found_before-requires-clause-children
+do_loop-found_before-requires-clause-children g t c = (is_kept (tables c.statement.new.into) (tables c.condition.new.into) is_statement c.in-Some.body c.condition.ensures.keeps (there_of (tables c.statement.new.into) is_statement c.args.self.now.tokens.now.tokens c.in_ok-body.field-0 _ c.in_ok-body.ensures.ok c.in-Some.body c.in-Some.next c.in-Some.is).0, (there_of (tables c.condition.new.into) is_expression c.args.self.now.tokens.now.tokens c.in_ok-value.field-0 _ c.in_ok-value.ensures.ok c.in-Some-2.value c.in-Some-2.end c.in-Some-2.is).0)
+
+pub do_loop-returns-in-Some-2-clause-keeps : goal.do_loop-returns-in-Some-2-clause-keeps
+do_loop-returns-in-Some-2-clause-keeps g t c = extends_then (tables c.args.into.now) (tables c.condition.new.into) (tables c.found_before.new.into) (extends_then (tables c.args.into.now) (tables c.statement.new.into) (tables c.condition.new.into) c.statement.ensures.keeps c.condition.ensures.keeps) c.found_before.ensures.keeps
+
+pub do_loop-returns-in-Some-2-clause-ok : goal.do_loop-returns-in-Some-2-clause-ok
+do_loop-returns-in-Some-2-clause-ok g t c = moved _ _ _ _ _ _
+    (ap (λ (t : Tree). option_map (λ (more : List Token). let y : Tree × List Token = (OfStatement (DoWhile c.args.line (as_statement t) (as_expression (tree_at (tables c.condition.new.into).forest c.in-Some-2.value))), more) in y) (after is_semicolon (drop c.in-Some-2.end c.args.self.now.tokens.now.tokens))) (tree_kept (tables c.statement.new.into) (tables c.condition.new.into) c.in-Some.body c.condition.ensures.keeps (there_of (tables c.statement.new.into) is_statement c.args.self.now.tokens.now.tokens c.in_ok-body.field-0 _ c.in_ok-body.ensures.ok c.in-Some.body c.in-Some.next c.in-Some.is).0.0)
+    ∙ do_so (names_in c.args.self.now.typedefs.now (g.R.TypeReader.types c.args.self.now.reader.now) (tables c.statement.new.into) c.args.self.now.tokens.now.tokens) c.args.below c.args.line (tree_at (tables c.statement.new.into).forest c.in-Some.body) (drop c.in-Some.next c.args.self.now.tokens.now.tokens) (drop c.in-Some-after.inside c.args.self.now.tokens.now.tokens) c.in-Some-after.ensures.0 (tree_at (tables c.condition.new.into).forest c.in-Some-2.value, drop c.in-Some-2.end c.args.self.now.tokens.now.tokens) (first_some (tables c.condition.new.into) is_expression c.args.self.now.tokens.now.tokens c.in_ok-value.field-0 (condition (names_in c.args.self.now.typedefs.now (g.R.TypeReader.types c.args.self.now.reader.now) (tables c.statement.new.into) c.args.self.now.tokens.now.tokens) c.args.below (drop c.in-Some-after.inside c.args.self.now.tokens.now.tokens)) c.in_ok-value.ensures.ok c.in-Some-2.value c.in-Some-2.end c.in-Some-2.is)
+    ∙ ap (λ (n : Names). do_end n c.args.below c.args.line (tree_at (tables c.statement.new.into).forest c.in-Some.body) (drop c.in-Some.next c.args.self.now.tokens.now.tokens)) (names_kept c.args.self.now.typedefs.now (g.R.TypeReader.types c.args.self.now.reader.now) (tables c.args.into.now) (tables c.statement.new.into) c.args.self.now.tokens.now.tokens c.requires.tied c.statement.ensures.keeps) ∙ do_on (names_in c.args.self.now.typedefs.now (g.R.TypeReader.types c.args.self.now.reader.now) (tables c.args.into.now) c.args.self.now.tokens.now.tokens) c.args.below c.args.line (readers (names_in c.args.self.now.typedefs.now (g.R.TypeReader.types c.args.self.now.reader.now) (tables c.args.into.now) c.args.self.now.tokens.now.tokens) c.args.below Statements) (drop c.args.at c.args.self.now.tokens.now.tokens) (tree_at (tables c.statement.new.into).forest c.in-Some.body, (drop c.in-Some.next c.args.self.now.tokens.now.tokens)) (first_some (tables c.statement.new.into) is_statement c.args.self.now.tokens.now.tokens c.in_ok-body.field-0 (readers (names_in c.args.self.now.typedefs.now (g.R.TypeReader.types c.args.self.now.reader.now) (tables c.args.into.now) c.args.self.now.tokens.now.tokens) c.args.below Statements (drop c.args.at c.args.self.now.tokens.now.tokens)) c.in_ok-body.ensures.ok c.in-Some.body c.in-Some.next c.in-Some.is)) c.found_before.ensures.ok
+
+pub do_loop-returns-in-None-clause-keeps : goal.do_loop-returns-in-None-clause-keeps
+do_loop-returns-in-None-clause-keeps g t c = extends_then (tables c.args.into.now) (tables c.statement.new.into) (tables c.condition.new.into) c.statement.ensures.keeps c.condition.ensures.keeps
+
+pub do_loop-returns-in-None-clause-ok : goal.do_loop-returns-in-None-clause-ok
+do_loop-returns-in-None-clause-ok g t c = nothing _ _ _ _ (do_unread (names_in c.args.self.now.typedefs.now (g.R.TypeReader.types c.args.self.now.reader.now) (tables c.statement.new.into) c.args.self.now.tokens.now.tokens) c.args.below c.args.line (tree_at (tables c.statement.new.into).forest c.in-Some.body) (drop c.in-Some.next c.args.self.now.tokens.now.tokens) (drop c.in-Some-after.inside c.args.self.now.tokens.now.tokens) c.in-Some-after.ensures.0 (first_none (tables c.condition.new.into) is_expression c.args.self.now.tokens.now.tokens c.in_ok-value.field-0 (condition (names_in c.args.self.now.typedefs.now (g.R.TypeReader.types c.args.self.now.reader.now) (tables c.statement.new.into) c.args.self.now.tokens.now.tokens) c.args.below (drop c.in-Some-after.inside c.args.self.now.tokens.now.tokens)) c.in_ok-value.ensures.ok c.in-None.is) ∙ ap (λ (n : Names). do_end n c.args.below c.args.line (tree_at (tables c.statement.new.into).forest c.in-Some.body) (drop c.in-Some.next c.args.self.now.tokens.now.tokens)) (names_kept c.args.self.now.typedefs.now (g.R.TypeReader.types c.args.self.now.reader.now) (tables c.args.into.now) (tables c.statement.new.into) c.args.self.now.tokens.now.tokens c.requires.tied c.statement.ensures.keeps) ∙ do_on (names_in c.args.self.now.typedefs.now (g.R.TypeReader.types c.args.self.now.reader.now) (tables c.args.into.now) c.args.self.now.tokens.now.tokens) c.args.below c.args.line (readers (names_in c.args.self.now.typedefs.now (g.R.TypeReader.types c.args.self.now.reader.now) (tables c.args.into.now) c.args.self.now.tokens.now.tokens) c.args.below Statements) (drop c.args.at c.args.self.now.tokens.now.tokens) (tree_at (tables c.statement.new.into).forest c.in-Some.body, (drop c.in-Some.next c.args.self.now.tokens.now.tokens)) (first_some (tables c.statement.new.into) is_statement c.args.self.now.tokens.now.tokens c.in_ok-body.field-0 (readers (names_in c.args.self.now.typedefs.now (g.R.TypeReader.types c.args.self.now.reader.now) (tables c.args.into.now) c.args.self.now.tokens.now.tokens) c.args.below Statements (drop c.args.at c.args.self.now.tokens.now.tokens)) c.in_ok-body.ensures.ok c.in-Some.body c.in-Some.next c.in-Some.is))
