@@ -75,6 +75,7 @@ pub fn unit(alloc: Global, t: &Tokens) -> Result<Unit, SynError>
     ensures syntax { (whole : ℕ) → result ≡ Err (SynError.Syntax whole) → ((ds : List DeclarationTree) → SpellUnit t.now.tokens ds → ⊥) × IsWhole t.now.tokens whole }
 {
     let mut unit = Unit::new(alloc);
+    // The typedef names are let go before an error is passed on.
     let read = read_all(alloc, t, &mut IndexSet::new(alloc), &mut unit);
     let end = read?;
     if end < t.len() {
