@@ -1,8 +1,9 @@
 //! The finished trees of a unit, and new ones made of them.
-ghost use Rattle.std.specs.Prelude.{◌≡◌, ◌≤◌, All, length, drop, Some, IfOk, nat_eq};
+ghost use Rattle.std.specs.Prelude.{◌≡◌, ◌≤◌, ◌<◌, ◌+◌, ◌^◌, All, length, drop, Some, None, IfOk, MatchOption, nat_eq};
 ghost use Rattle.indexmap.specs.IndexSet.{contains};
 ghost use Rattle.pv_tree.specs.Children.{HasExprChildren};
 ghost use Rattle.pv_tree.specs.Depths.{expression_depth, declaration_depth};
+ghost use Rattle.pv_tree.specs.Grammar.{Names};
 ghost use Rattle.pv_tree.specs.Levels.{rank};
 ghost use Rattle.pv_tree.specs.Lines.{expression_line};
 ghost use Rattle.pv_tree.specs.Nodes.{expression_of};
@@ -12,11 +13,13 @@ ghost use Rattle.pv_tree.specs.Tables.{expression_at, declaration_at, arguments_
 ghost use Rattle.pv_expr_forms.specs.Answers.{Answers};
 ghost use Rattle.pv_expr_forms.specs.Follows.{joined, prefixed};
 ghost use Rattle.pv_expr_forms.specs.Parts.{leaf_of, named};
-ghost use Rattle.pv_expr_forms.specs.Reader.{closed, indexed};
+ghost use Rattle.pv_expr_forms.specs.Reader.{Reads, closed, indexed, longer, goes_on};
+ghost use Rattle.pv_expr.specs.Going.{operand_level, suffixed, combined};
 
 use indexmap::IndexSet;
 use pv_expr_forms::{
-    Join, Prefix, after_bracket, after_close, is_type, name_next, rank, texts_in_row,
+    Follow, Join, Prefix, after_bracket, after_close, follow_of, is_type, name_next, peek, rank,
+    texts_in_row,
 };
 use pv_token::{NoMemory, Token, TokenKind, Tokens};
 use pv_tree::{Expr, NodeId, Unit};
@@ -139,7 +142,7 @@ pub(crate) fn close(
 
 /// An element, whose index ends at a place (C17 6.5.2.1).
 #[tactic(auto, using(pv_tree::proofs::Kept::extends_same), unfolding(pv_expr_forms::specs::Reader::indexed))]
-pub(crate) fn index(
+fn index(
     tokens: &Tokens,
     at: u32,
     array: NodeId,
@@ -163,7 +166,7 @@ pub(crate) fn index(
 
 /// A member, whose name stands at a place (C17 6.5.2.3p1).
 #[tactic(auto, using(pv_tree::proofs::Kept::extends_same), unfolding(pv_expr_forms::specs::Parts::named))]
-pub(crate) fn member(
+fn member(
     tokens: &Tokens,
     typedefs: &IndexSet<u32>,
     at: u32,
@@ -186,7 +189,7 @@ pub(crate) fn member(
 
 /// A member behind a pointer, whose name stands at a place (C17 6.5.2.3p2).
 #[tactic(auto, using(pv_tree::proofs::Kept::extends_same), unfolding(pv_expr_forms::specs::Parts::named))]
-pub(crate) fn arrow(
+fn arrow(
     tokens: &Tokens,
     typedefs: &IndexSet<u32>,
     at: u32,
@@ -204,6 +207,94 @@ pub(crate) fn arrow(
             found(tokens, next, Expr::Arrow(pointer, name), line, into)
         }
         None => Ok(None),
+    }
+}
+
+/// How a tree goes on at a place, where its level and its depth permit that.
+pub(crate) fn follow_at(
+    tokens: &Tokens,
+    at: u32,
+    left: NodeId,
+    level: u8,
+    below: u32,
+    unit: &Unit,
+) -> Option<Follow>
+    requires place { at ≤ length tokens.now.tokens }
+    requires left { Is (tables unit.now) is_expression left }
+    ensures { MatchOption result ((names : Names) (read : Reads) → None ≡ longer names read level below (expression_at (tables unit.now).forest left) (drop at tokens.now.tokens)) (λ f. ((names : Names) (read : Reads) → goes_on names read (expression_at (tables unit.now).forest left) f (drop (at + 1) tokens.now.tokens) ≡ longer names read level below (expression_at (tables unit.now).forest left) (drop at tokens.now.tokens)) × (at < length tokens.now.tokens) × (at + 1 < 2 ^ 32)) }
+{
+    if depth_of(unit, left) > below {
+        return None;
+    }
+    let Some(token) = peek(tokens, at) else {
+        return None;
+    };
+    let Some(follow) = follow_of(token.kind) else {
+        return None;
+    };
+    if follow.rank() < level || rank_of(unit, left) < follow.left() {
+        return None;
+    }
+    Some(follow)
+}
+
+/// The level of the operand that a tree goes on with, where it goes on with one.
+pub(crate) fn operand_level(follow: Follow) -> Option<u8>
+    ensures { result ≡ operand_level follow }
+{
+    match follow {
+        Follow::Join(op) => Some(op.right()),
+        Follow::Ask | Follow::Index => Some(1),
+        _ => None,
+    }
+}
+
+/// The tree that goes on from a tree without any further tree (C17 6.5.2.3, 6.5.2.4).
+#[tactic(auto, using(pv_tree::proofs::Kept::extends_same), unfolding(crate::specs::Going::suffixed))]
+pub(crate) fn suffixed(
+    tokens: &Tokens,
+    typedefs: &IndexSet<u32>,
+    at: u32,
+    tree: NodeId,
+    follow: Follow,
+    into: &mut Unit,
+) -> Result<Option<(NodeId, u32)>, NoMemory>
+    requires place { at ≤ length tokens.now.tokens }
+    requires tree { Is (tables into.old) is_expression tree }
+    ensures keeps { Extends (tables into.old) (tables into.new) }
+    ensures ok { IfOk result (λ r. Answers (tables into.new) tokens.now.tokens r (suffixed (contains nat_eq typedefs.now) (expression_at (tables into.old).forest tree) follow (drop at tokens.now.tokens))) }
+{
+    let line = line_of(into, tree);
+    match follow {
+        Follow::Dot => member(tokens, typedefs, at, tree, into),
+        Follow::Arrow => arrow(tokens, typedefs, at, tree, into),
+        Follow::Increment => found(tokens, at, Expr::PostIncrement(tree), line, into),
+        Follow::Decrement => found(tokens, at, Expr::PostDecrement(tree), line, into),
+        _ => Ok(None),
+    }
+}
+
+/// The tree that goes on from a tree with one operand, which ends at a place (C17 6.5.2.1, 6.5.5
+/// to 6.5.14, 6.5.16, 6.5.17).
+#[tactic(auto, using(pv_tree::proofs::Kept::extends_same), unfolding(crate::specs::Going::combined))]
+pub(crate) fn combined(
+    tokens: &Tokens,
+    at: u32,
+    left: NodeId,
+    right: NodeId,
+    follow: Follow,
+    into: &mut Unit,
+) -> Result<Option<(NodeId, u32)>, NoMemory>
+    requires place { at ≤ length tokens.now.tokens }
+    requires left { Is (tables into.old) is_expression left }
+    requires right { Is (tables into.old) is_expression right }
+    ensures keeps { Extends (tables into.old) (tables into.new) }
+    ensures ok { IfOk result (λ r. Answers (tables into.new) tokens.now.tokens r (combined (expression_at (tables into.old).forest left) (expression_at (tables into.old).forest right) follow (drop at tokens.now.tokens))) }
+{
+    match follow {
+        Follow::Join(op) => joined(tokens, at, op, left, right, into),
+        Follow::Index => index(tokens, at, left, right, into),
+        _ => Ok(None),
     }
 }
 
@@ -232,7 +323,7 @@ pub(crate) fn prefixed(
 
 /// An operator between two operands, of which the right one ends at a place (C17 6.5.5 to 6.5.14,
 /// 6.5.16, 6.5.17).
-pub(crate) fn joined(
+fn joined(
     tokens: &Tokens,
     at: u32,
     op: Join,

@@ -5,14 +5,15 @@ ghost use Rattle.pv_tree.specs.Tables.{expression_at, is_expression, Is, Extends
 ghost use Rattle.pv_tree.specs.TypeNames.{AreTied};
 ghost use Rattle.pv_expr_forms.specs.Answers.{Answers};
 ghost use Rattle.pv_expr_forms.specs.Known.{names_in};
-ghost use Rattle.pv_expr_forms.specs.Reader.{read, deeper, head, opened, fronted, grown, longer, goes_on, asked, called, measured};
+ghost use Rattle.pv_expr_forms.specs.Reader.{read, head, opened, fronted, grown, longer, asked, called, measured};
 
 use crate::nodes::{
-    arrow, call, close, depth_of, found, index, joined, leaf, line_of, member, prefixed, rank_of,
+    call, close, combined, follow_at, found, leaf, line_of, operand_level, prefixed, rank_of,
+    suffixed,
 };
 use crate::source::Source;
 use pv_expr_forms::{
-    Follow, Prefix, after_close, after_colon, begins_type, follow_of, is_close, is_comma, is_open,
+    Follow, Prefix, after_close, after_colon, begins_type, is_close, is_comma, is_open,
     measures_type, peek, prefix_of,
 };
 use pv_token::NoMemory;
@@ -37,23 +38,7 @@ impl<R: TypeReader> Source<'_, R> {
         if depth == 0 {
             return Ok(None);
         }
-        self.read_deeper(at, level, depth - 1, into)
-    }
-
-    // The same, where its parts have at most so much depth.
-    #[cycle(reading)]
-    fn read_deeper(
-        &self,
-        at: u32,
-        level: u8,
-        below: u32,
-        into: &mut Unit,
-    ) -> Result<Option<(NodeId, u32)>, NoMemory>
-        requires place { at ≤ length self.now.tokens.now.tokens }
-        requires tied { AreTied (R.types self.now.reader.now) (tables into.old) self.now.tokens.now.tokens }
-        ensures keeps { Extends (tables into.old) (tables into.new) }
-        ensures ok { IfOk result (λ r. Answers (tables into.new) self.now.tokens.now.tokens r (deeper (names_in self.now.typedefs.now (R.types self.now.reader.now) (tables into.old) self.now.tokens.now.tokens) (read (names_in self.now.typedefs.now (R.types self.now.reader.now) (tables into.old) self.now.tokens.now.tokens) below) below level (drop at self.now.tokens.now.tokens))) }
-    {
+        let below = depth - 1;
         match self.read_head(at, below, into)? {
             None => Ok(None),
             Some((first, next)) => {
@@ -197,9 +182,8 @@ impl<R: TypeReader> Source<'_, R> {
         }
     }
 
-    // The next longer tree of a level that begins with a tree.
+    // The next longer tree of a level that begins with a tree (C17 6.5.2, 6.5.5 to 6.5.17).
     #[cycle(reading)]
-    #[tactic(auto, unfolding(pv_expr_forms::specs::Reader::longer, pv_expr_forms::specs::Reader::tried))]
     fn extend(
         &self,
         at: u32,
@@ -214,62 +198,21 @@ impl<R: TypeReader> Source<'_, R> {
         ensures keeps { Extends (tables into.old) (tables into.new) }
         ensures ok { IfOk result (λ r. Answers (tables into.new) self.now.tokens.now.tokens r (longer (names_in self.now.typedefs.now (R.types self.now.reader.now) (tables into.old) self.now.tokens.now.tokens) (read (names_in self.now.typedefs.now (R.types self.now.reader.now) (tables into.old) self.now.tokens.now.tokens) below) level below (expression_at (tables into.old).forest left) (drop at self.now.tokens.now.tokens))) }
     {
-        if depth_of(into, left) > below {
-            return Ok(None);
-        }
-        let Some(token) = peek(self.tokens, at) else {
+        let Some(follow) = follow_at(self.tokens, at, left, level, below, into) else {
             return Ok(None);
         };
-        let Some(follow) = follow_of(token.kind) else {
-            return Ok(None);
-        };
-        if follow.rank() < level || rank_of(into, left) < follow.left() {
-            return Ok(None);
-        }
-        self.go_on(at + 1, left, follow, below, into)
-    }
-
-    // The tree that goes on from a tree so (C17 6.5.2, 6.5.5 to 6.5.17).
-    #[cycle(reading)]
-    #[tactic(auto, unfolding(pv_expr_forms::specs::Reader::goes_on))]
-    fn go_on(
-        &self,
-        at: u32,
-        left: NodeId,
-        follow: Follow,
-        below: u32,
-        into: &mut Unit,
-    ) -> Result<Option<(NodeId, u32)>, NoMemory>
-        requires place { at ≤ length self.now.tokens.now.tokens }
-        requires tied { AreTied (R.types self.now.reader.now) (tables into.old) self.now.tokens.now.tokens }
-        requires node { Is (tables into.old) is_expression left }
-        ensures keeps { Extends (tables into.old) (tables into.new) }
-        ensures ok { IfOk result (λ r. Answers (tables into.new) self.now.tokens.now.tokens r (goes_on (names_in self.now.typedefs.now (R.types self.now.reader.now) (tables into.old) self.now.tokens.now.tokens) (read (names_in self.now.typedefs.now (R.types self.now.reader.now) (tables into.old) self.now.tokens.now.tokens) below) (expression_at (tables into.old).forest left) follow (drop at self.now.tokens.now.tokens))) }
-    {
-        match follow {
-            Follow::Join(op) => match self.read_tree(at, op.right(), below, into)? {
-                Some((right, next)) => joined(self.tokens, next, op, left, right, into),
-                None => Ok(None),
+        match operand_level(follow) {
+            None => match follow {
+                Follow::Call => self.arguments(at + 1, left, below, into),
+                _ => suffixed(self.tokens, self.typedefs, at + 1, left, follow, into),
             },
-            Follow::Ask => match self.read_tree(at, 1, below, into)? {
-                Some((yes, next)) => self.ask(next, left, yes, below, into),
+            Some(tightness) => match self.read_tree(at + 1, tightness, below, into)? {
                 None => Ok(None),
+                Some((operand, next)) => match follow {
+                    Follow::Ask => self.ask(next, left, operand, below, into),
+                    _ => combined(self.tokens, next, left, operand, follow, into),
+                },
             },
-            Follow::Index => match self.read_tree(at, 1, below, into)? {
-                Some((subscript, next)) => index(self.tokens, next, left, subscript, into),
-                None => Ok(None),
-            },
-            Follow::Call => self.arguments(at, left, below, into),
-            Follow::Dot => member(self.tokens, self.typedefs, at, left, into),
-            Follow::Arrow => arrow(self.tokens, self.typedefs, at, left, into),
-            Follow::Increment => {
-                let line = line_of(into, left);
-                found(self.tokens, at, Expr::PostIncrement(left), line, into)
-            }
-            Follow::Decrement => {
-                let line = line_of(into, left);
-                found(self.tokens, at, Expr::PostDecrement(left), line, into)
-            }
         }
     }
 

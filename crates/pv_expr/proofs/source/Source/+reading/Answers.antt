@@ -10,27 +10,16 @@ use Rattle.pv_expr_forms.proofs.Calls.{call_none, call_there, call_forward, call
 use Rattle.pv_expr_forms.proofs.Firsts.{head_open, head_front}
 use Rattle.pv_expr_forms.proofs.Listing.{called_close, no_items, start_with}
 use Rattle.pv_expr_forms.proofs.Naming.{tied_kept}
-use Rattle.pv_expr_forms.proofs.Readings.{nothing, head_end, head_first, leaf_first, measure_first, longer_in, longer_deep, longer_end, longer_other, longer_follows, deeper_none, deeper_low, deeper_on, grown_in, cast_none, cast_nothing, cast_done, paren_nothing, paren_done, dot_is, arrow_is, ask_is}
-use Rattle.pv_expr_forms.proofs.Operands.{call_is, increment_is, decrement_is, join_nothing, join_done, ask_nothing, index_nothing, index_done, front_nothing, front_done, asked_none, asked_nothing, asked_done}
+use Rattle.pv_expr_forms.proofs.Readings.{nothing, head_end, head_first, leaf_first, measure_first, longer_in, deeper_none, deeper_low, deeper_on, grown_in, cast_none, cast_nothing, cast_done, paren_nothing, paren_done}
+use Rattle.pv_expr_forms.proofs.Operands.{call_is, front_nothing, front_done, asked_none, asked_nothing, asked_done}
 use Rattle.pv_expr_forms.proofs.Steps.{grown_on, longer_goes}
+use Rattle.pv_expr.proofs.Goes.{suffix_is, operand_none, operand_done, operand_asks}
 use Rattle.pv_expr.proofs.source.Source.+reading.Goals as goal
 
 -- ---- nothing changed
 
 pub ask-returns-in_default-clause-keeps : goal.ask-returns-in_default-clause-keeps
 ask-returns-in_default-clause-keeps g t c = extends_same _
-
-pub extend-returns-then-depth_of-below-clause-keeps : goal.extend-returns-then-depth_of-below-clause-keeps
-extend-returns-then-depth_of-below-clause-keeps g t c = extends_same _
-
-pub extend-returns-in_default-clause-keeps : goal.extend-returns-in_default-clause-keeps
-extend-returns-in_default-clause-keeps g t c = extends_same _
-
-pub extend-returns-in_default-follow_of-clause-keeps : goal.extend-returns-in_default-follow_of-clause-keeps
-extend-returns-in_default-follow_of-clause-keeps g t c = extends_same _
-
-pub extend-returns-then-rank-level-clause-keeps : goal.extend-returns-then-rank-level-clause-keeps
-extend-returns-then-rank-level-clause-keeps g t c = extends_same _
 
 pub open-returns-in_default-clause-keeps : goal.open-returns-in_default-clause-keeps
 open-returns-in_default-clause-keeps g t c = extends_same _
@@ -45,28 +34,6 @@ read_tree-returns-then-depth-eq0-clause-keeps g t c = extends_same _
 
 pub read_tree-returns-then-depth-eq0-clause-ok : goal.read_tree-returns-then-depth-eq0-clause-ok
 read_tree-returns-then-depth-eq0-clause-ok g t c = nothing _ _ _ (read_none _ _ _ _ c.if-depth-eq0.true)
-
-pub read_tree-returns-clause-ok : goal.read_tree-returns-clause-ok
-read_tree-returns-clause-ok g t c = moved _ _ _ _ _ (read_some _ c.args.depth _ _ (omega arith)) c.read_deeper.ensures.ok
-
-pub read_deeper-returns-in-None-clause-ok : goal.read_deeper-returns-in-None-clause-ok
-read_deeper-returns-in-None-clause-ok g t c = nothing _ _ _ (deeper_none _ _ _ _ _ (got_none (tables c.read_head.new.into) c.args.self.now.tokens.now.tokens _ _ c.in_ok-read_head.ensures.ok c.in-None.is))
-
-pub read_deeper-returns-then-rank_of-level-clause-ok : goal.read_deeper-returns-then-rank_of-level-clause-ok
-read_deeper-returns-then-rank_of-level-clause-ok g t c =
-    let h = got (tables c.read_head.new.into) c.args.self.now.tokens.now.tokens c.in_ok-read_head.field-0 _ c.in-Some.first c.in-Some.next c.in_ok-read_head.ensures.ok c.in-Some.is in
-    nothing _ _ _ (deeper_low _ _ _ _ _ _ _ h.0 (omega arith))
-
-pub read_deeper-returns-else-rank_of-level-clause-ok : goal.read_deeper-returns-else-rank_of-level-clause-ok
-read_deeper-returns-else-rank_of-level-clause-ok g t c =
-    let h = got (tables c.read_head.new.into) c.args.self.now.tokens.now.tokens c.in_ok-read_head.field-0 _ c.in-Some.first c.in-Some.next c.in_ok-read_head.ensures.ok c.in-Some.is in
-    moved _ _ _ _ _ (grown_in c.args.self.now.typedefs.now (g.R.TypeReader.types c.args.self.now.reader.now) (tables c.args.into.now) (tables c.read_head.new.into) c.args.self.now.tokens.now.tokens c.requires.tied c.read_head.ensures.keeps _ _ _ _ ∙ deeper_on _ _ _ _ _ _ _ h.0 (omega arith)) c.grow.ensures.ok
-
-pub read_deeper-grow-requires : goal.read_deeper-grow-requires
-read_deeper-grow-requires g t c κs within =
-    let h = got (tables c.read_head.new.into) c.args.self.now.tokens.now.tokens c.in_ok-read_head.field-0 _ c.in-Some.first c.in-Some.next c.in_ok-read_head.ensures.ok c.in-Some.is in
-    let tied = tied_kept (g.R.TypeReader.types c.args.self.now.reader.now) (tables c.args.into.now) (tables c.read_head.new.into) c.args.self.now.tokens.now.tokens c.requires.tied c.read_head.ensures.keeps in
-    (omega arith, (within, (h.2, (tied, h.1))))
 
 -- ---- read_head
 
@@ -136,22 +103,6 @@ grow-returns-in-None-clause-ok g t c =
 
 -- ---- go_on
 
-pub go_on-ask-requires : goal.go_on-ask-requires
-go_on-ask-requires g t c κs within =
-    let h = got (tables c.read_tree-in-Ask.new.into) c.args.self.now.tokens.now.tokens c.in_ok-yes-in-Ask.field-0 _ c.in-Some-2.yes c.in-Some-2.next c.in_ok-yes-in-Ask.ensures.ok c.in-Some-2.is in
-    let tied = tied_kept (g.R.TypeReader.types c.args.self.now.reader.now) (tables c.args.into.now) (tables c.read_tree-in-Ask.new.into) c.args.self.now.tokens.now.tokens c.requires.tied c.read_tree-in-Ask.ensures.keeps in
-    let condition = is_kept (tables c.args.into.now) (tables c.read_tree-in-Ask.new.into) is_expression c.args.left c.read_tree-in-Ask.ensures.keeps c.requires.node in
-    (omega arith, (within, (h.2, (tied, (condition, h.1)))))
-
-pub go_on-returns-in-Some-2-clause-ok : goal.go_on-returns-in-Some-2-clause-ok
-go_on-returns-in-Some-2-clause-ok g t c = moved _ _ _ _ _ (ask_is c.args.self.now.typedefs.now (g.R.TypeReader.types c.args.self.now.reader.now) (tables c.args.into.now) (tables c.read_tree-in-Ask.new.into) c.args.self.now.tokens.now.tokens c.requires.tied c.read_tree-in-Ask.ensures.keeps c.args.below c.args.at c.args.left c.requires.node c.in_ok-yes-in-Ask.field-0 c.in_ok-yes-in-Ask.ensures.ok c.in-Some-2.yes c.in-Some-2.next c.in-Some-2.is c.args.follow c.in-Ask.is) c.ask.ensures.ok
-
-pub go_on-returns-in-Dot-clause-ok : goal.go_on-returns-in-Dot-clause-ok
-go_on-returns-in-Dot-clause-ok g t c = moved _ _ _ _ _ (dot_is c.args.self.now.typedefs.now (g.R.TypeReader.types c.args.self.now.reader.now) (tables c.args.into.now) c.args.self.now.tokens.now.tokens _ _ _ c.args.follow c.in-Dot.is) c.member.ensures.ok
-
-pub go_on-returns-in-Arrow-clause-ok : goal.go_on-returns-in-Arrow-clause-ok
-go_on-returns-in-Arrow-clause-ok g t c = moved _ _ _ _ _ (arrow_is c.args.self.now.typedefs.now (g.R.TypeReader.types c.args.self.now.reader.now) (tables c.args.into.now) c.args.self.now.tokens.now.tokens _ _ _ c.args.follow c.in-Arrow.is) c.arrow.ensures.ok
-
 -- ---- arguments
 
 pub arguments-returns-in-Some-clause-ok : goal.arguments-returns-in-Some-clause-ok
@@ -195,18 +146,6 @@ arguments-returns-in-loop-list-clause-ok g t c = call_stop c.args.self.now.typed
 
 -- ---- what an operand added stays, also on a refusal
 
-pub read_tree-returns-clause-keeps : goal.read_tree-returns-clause-keeps
-read_tree-returns-clause-keeps g t c = c.read_deeper.ensures.keeps
-
-pub read_deeper-returns-in-None-clause-keeps : goal.read_deeper-returns-in-None-clause-keeps
-read_deeper-returns-in-None-clause-keeps g t c = c.read_head.ensures.keeps
-
-pub read_deeper-returns-in_err-read_head-clause-keeps : goal.read_deeper-returns-in_err-read_head-clause-keeps
-read_deeper-returns-in_err-read_head-clause-keeps g t c = c.read_head.ensures.keeps
-
-pub read_deeper-returns-then-rank_of-level-clause-keeps : goal.read_deeper-returns-then-rank_of-level-clause-keeps
-read_deeper-returns-then-rank_of-level-clause-keeps g t c = c.read_head.ensures.keeps
-
 pub read_head-returns-then-is_open-clause-keeps : goal.read_head-returns-then-is_open-clause-keeps
 read_head-returns-then-is_open-clause-keeps g t c = c.open.ensures.keeps
 
@@ -237,42 +176,6 @@ open-returns-in-None-2-clause-keeps g t c = c.read_tree-else-begins_type.ensures
 pub open-returns-in_err-inside-clause-keeps : goal.open-returns-in_err-inside-clause-keeps
 open-returns-in_err-inside-clause-keeps g t c = c.read_tree-else-begins_type.ensures.keeps
 
-pub extend-returns-clause-keeps : goal.extend-returns-clause-keeps
-extend-returns-clause-keeps g t c = c.go_on.ensures.keeps
-
-pub go_on-returns-in-None-clause-keeps : goal.go_on-returns-in-None-clause-keeps
-go_on-returns-in-None-clause-keeps g t c = c.read_tree.ensures.keeps
-
-pub go_on-returns-in_err-right-in-Join-clause-keeps : goal.go_on-returns-in_err-right-in-Join-clause-keeps
-go_on-returns-in_err-right-in-Join-clause-keeps g t c = c.read_tree.ensures.keeps
-
-pub go_on-returns-in-None-2-clause-keeps : goal.go_on-returns-in-None-2-clause-keeps
-go_on-returns-in-None-2-clause-keeps g t c = c.read_tree-in-Ask.ensures.keeps
-
-pub go_on-returns-in_err-yes-in-Ask-clause-keeps : goal.go_on-returns-in_err-yes-in-Ask-clause-keeps
-go_on-returns-in_err-yes-in-Ask-clause-keeps g t c = c.read_tree-in-Ask.ensures.keeps
-
-pub go_on-returns-in-None-3-clause-keeps : goal.go_on-returns-in-None-3-clause-keeps
-go_on-returns-in-None-3-clause-keeps g t c = c.read_tree-in-Index.ensures.keeps
-
-pub go_on-returns-in_err-subscript-in-Index-clause-keeps : goal.go_on-returns-in_err-subscript-in-Index-clause-keeps
-go_on-returns-in_err-subscript-in-Index-clause-keeps g t c = c.read_tree-in-Index.ensures.keeps
-
-pub go_on-returns-in-Call-clause-keeps : goal.go_on-returns-in-Call-clause-keeps
-go_on-returns-in-Call-clause-keeps g t c = c.arguments.ensures.keeps
-
-pub go_on-returns-in-Dot-clause-keeps : goal.go_on-returns-in-Dot-clause-keeps
-go_on-returns-in-Dot-clause-keeps g t c = c.member.ensures.keeps
-
-pub go_on-returns-in-Arrow-clause-keeps : goal.go_on-returns-in-Arrow-clause-keeps
-go_on-returns-in-Arrow-clause-keeps g t c = c.arrow.ensures.keeps
-
-pub go_on-returns-in-Increment-clause-keeps : goal.go_on-returns-in-Increment-clause-keeps
-go_on-returns-in-Increment-clause-keeps g t c = c.found.ensures.keeps
-
-pub go_on-returns-in-Decrement-clause-keeps : goal.go_on-returns-in-Decrement-clause-keeps
-go_on-returns-in-Decrement-clause-keeps g t c = c.found-in-Decrement.ensures.keeps
-
 pub ask-returns-in-None-clause-keeps : goal.ask-returns-in-None-clause-keeps
 ask-returns-in-None-clause-keeps g t c = c.read_tree.ensures.keeps
 
@@ -282,9 +185,6 @@ ask-returns-in_err-no-clause-keeps g t c = c.read_tree.ensures.keeps
 pub arguments-returns-in-Some-clause-keeps : goal.arguments-returns-in-Some-clause-keeps
 arguments-returns-in-Some-clause-keeps g t c = c.call.ensures.keeps
 
-pub read_deeper-returns-else-rank_of-level-clause-keeps : goal.read_deeper-returns-else-rank_of-level-clause-keeps
-read_deeper-returns-else-rank_of-level-clause-keeps g t c = extends_then (tables c.args.into.now) (tables c.read_head.new.into) (tables c.grow.new.into) c.read_head.ensures.keeps c.grow.ensures.keeps
-
 pub front-returns-in-Some-clause-keeps : goal.front-returns-in-Some-clause-keeps
 front-returns-in-Some-clause-keeps g t c = extends_then (tables c.args.into.now) (tables c.read_tree.new.into) (tables c.prefixed.new.into) c.read_tree.ensures.keeps c.prefixed.ensures.keeps
 
@@ -293,15 +193,6 @@ open-returns-in-Some-2-clause-keeps g t c = extends_then (tables c.args.into.now
 
 pub open-returns-in-Some-3-clause-keeps : goal.open-returns-in-Some-3-clause-keeps
 open-returns-in-Some-3-clause-keeps g t c = extends_then (tables c.args.into.now) (tables c.read_tree-else-begins_type.new.into) (tables c.close.new.into) c.read_tree-else-begins_type.ensures.keeps c.close.ensures.keeps
-
-pub go_on-returns-in-Some-clause-keeps : goal.go_on-returns-in-Some-clause-keeps
-go_on-returns-in-Some-clause-keeps g t c = extends_then (tables c.args.into.now) (tables c.read_tree.new.into) (tables c.joined.new.into) c.read_tree.ensures.keeps c.joined.ensures.keeps
-
-pub go_on-returns-in-Some-2-clause-keeps : goal.go_on-returns-in-Some-2-clause-keeps
-go_on-returns-in-Some-2-clause-keeps g t c = extends_then (tables c.args.into.now) (tables c.read_tree-in-Ask.new.into) (tables c.ask.new.into) c.read_tree-in-Ask.ensures.keeps c.ask.ensures.keeps
-
-pub go_on-returns-in-Some-3-clause-keeps : goal.go_on-returns-in-Some-3-clause-keeps
-go_on-returns-in-Some-3-clause-keeps g t c = extends_then (tables c.args.into.now) (tables c.read_tree-in-Index.new.into) (tables c.index.new.into) c.read_tree-in-Index.ensures.keeps c.index.ensures.keeps
 
 pub ask-returns-in-Some-2-clause-keeps : goal.ask-returns-in-Some-2-clause-keeps
 ask-returns-in-Some-2-clause-keeps g t c = extends_then (tables c.args.into.now) (tables c.read_tree.new.into) (tables c.found.new.into) c.read_tree.ensures.keeps c.found.ensures.keeps
@@ -340,30 +231,6 @@ front-returns-in-Some-clause-ok g t c = moved _ _ _ _ _ (front_done (read (names
 
 -- ---- go_on, once its operand is read
 
-pub go_on-returns-in-None-clause-ok : goal.go_on-returns-in-None-clause-ok
-go_on-returns-in-None-clause-ok g t c = nothing _ _ _ (join_nothing (names_in c.args.self.now.typedefs.now (g.R.TypeReader.types c.args.self.now.reader.now) (tables c.args.into.now) c.args.self.now.tokens.now.tokens) (read (names_in c.args.self.now.typedefs.now (g.R.TypeReader.types c.args.self.now.reader.now) (tables c.args.into.now) c.args.self.now.tokens.now.tokens) c.args.below) (expression_at (tables c.args.into.now).forest c.args.left) (drop c.args.at c.args.self.now.tokens.now.tokens) c.args.follow c.in-Join.op c.in-Join.is c.right.result c.right.ensures (got_none (tables c.read_tree.new.into) c.args.self.now.tokens.now.tokens c.in_ok-right-in-Join.field-0 _ c.in_ok-right-in-Join.ensures.ok c.in-None.is))
-
-pub go_on-returns-in-Some-clause-ok : goal.go_on-returns-in-Some-clause-ok
-go_on-returns-in-Some-clause-ok g t c = moved _ _ _ _ _ (join_done (tables c.args.into.now) (tables c.read_tree.new.into) c.args.self.now.tokens.now.tokens c.read_tree.ensures.keeps (names_in c.args.self.now.typedefs.now (g.R.TypeReader.types c.args.self.now.reader.now) (tables c.args.into.now) c.args.self.now.tokens.now.tokens) (read (names_in c.args.self.now.typedefs.now (g.R.TypeReader.types c.args.self.now.reader.now) (tables c.args.into.now) c.args.self.now.tokens.now.tokens) c.args.below) c.args.at c.args.left c.requires.node c.args.follow c.in_ok-right-in-Join.field-0 c.in-Some.right c.in-Some.next c.in-Some.is c.in-Join.op c.in-Join.is c.right.result c.right.ensures c.in_ok-right-in-Join.ensures.ok) c.joined.ensures.ok
-
-pub go_on-returns-in-Increment-clause-ok : goal.go_on-returns-in-Increment-clause-ok
-go_on-returns-in-Increment-clause-ok g t c = moved _ _ _ _ _ (increment_is (names_in c.args.self.now.typedefs.now (g.R.TypeReader.types c.args.self.now.reader.now) (tables c.args.into.now) c.args.self.now.tokens.now.tokens) (read (names_in c.args.self.now.typedefs.now (g.R.TypeReader.types c.args.self.now.reader.now) (tables c.args.into.now) c.args.self.now.tokens.now.tokens) c.args.below) (expression_at (tables c.args.into.now).forest c.args.left) (drop c.args.at c.args.self.now.tokens.now.tokens) c.args.follow c.in-Increment.is c.line_of-line.result c.line_of-line.ensures) c.found.ensures.ok
-
-pub go_on-returns-in-Decrement-clause-ok : goal.go_on-returns-in-Decrement-clause-ok
-go_on-returns-in-Decrement-clause-ok g t c = moved _ _ _ _ _ (decrement_is (names_in c.args.self.now.typedefs.now (g.R.TypeReader.types c.args.self.now.reader.now) (tables c.args.into.now) c.args.self.now.tokens.now.tokens) (read (names_in c.args.self.now.typedefs.now (g.R.TypeReader.types c.args.self.now.reader.now) (tables c.args.into.now) c.args.self.now.tokens.now.tokens) c.args.below) (expression_at (tables c.args.into.now).forest c.args.left) (drop c.args.at c.args.self.now.tokens.now.tokens) c.args.follow c.in-Decrement.is c.line_of-line-in-Decrement.result c.line_of-line-in-Decrement.ensures) c.found-in-Decrement.ensures.ok
-
-pub go_on-returns-in-Call-clause-ok : goal.go_on-returns-in-Call-clause-ok
-go_on-returns-in-Call-clause-ok g t c = moved _ _ _ _ _ (call_is (names_in c.args.self.now.typedefs.now (g.R.TypeReader.types c.args.self.now.reader.now) (tables c.args.into.now) c.args.self.now.tokens.now.tokens) (read (names_in c.args.self.now.typedefs.now (g.R.TypeReader.types c.args.self.now.reader.now) (tables c.args.into.now) c.args.self.now.tokens.now.tokens) c.args.below) (expression_at (tables c.args.into.now).forest c.args.left) (drop c.args.at c.args.self.now.tokens.now.tokens) c.args.follow c.in-Call.is) c.arguments.ensures.ok
-
-pub go_on-returns-in-None-2-clause-ok : goal.go_on-returns-in-None-2-clause-ok
-go_on-returns-in-None-2-clause-ok g t c = nothing _ _ _ (ask_nothing (names_in c.args.self.now.typedefs.now (g.R.TypeReader.types c.args.self.now.reader.now) (tables c.args.into.now) c.args.self.now.tokens.now.tokens) (read (names_in c.args.self.now.typedefs.now (g.R.TypeReader.types c.args.self.now.reader.now) (tables c.args.into.now) c.args.self.now.tokens.now.tokens) c.args.below) (expression_at (tables c.args.into.now).forest c.args.left) (drop c.args.at c.args.self.now.tokens.now.tokens) c.args.follow c.in-Ask.is (got_none (tables c.read_tree-in-Ask.new.into) c.args.self.now.tokens.now.tokens c.in_ok-yes-in-Ask.field-0 _ c.in_ok-yes-in-Ask.ensures.ok c.in-None-2.is))
-
-pub go_on-returns-in-None-3-clause-ok : goal.go_on-returns-in-None-3-clause-ok
-go_on-returns-in-None-3-clause-ok g t c = nothing _ _ _ (index_nothing (names_in c.args.self.now.typedefs.now (g.R.TypeReader.types c.args.self.now.reader.now) (tables c.args.into.now) c.args.self.now.tokens.now.tokens) (read (names_in c.args.self.now.typedefs.now (g.R.TypeReader.types c.args.self.now.reader.now) (tables c.args.into.now) c.args.self.now.tokens.now.tokens) c.args.below) (expression_at (tables c.args.into.now).forest c.args.left) (drop c.args.at c.args.self.now.tokens.now.tokens) c.args.follow c.in-Index.is (got_none (tables c.read_tree-in-Index.new.into) c.args.self.now.tokens.now.tokens c.in_ok-subscript-in-Index.field-0 _ c.in_ok-subscript-in-Index.ensures.ok c.in-None-3.is))
-
-pub go_on-returns-in-Some-3-clause-ok : goal.go_on-returns-in-Some-3-clause-ok
-go_on-returns-in-Some-3-clause-ok g t c = moved _ _ _ _ _ (index_done (tables c.args.into.now) (tables c.read_tree-in-Index.new.into) c.args.self.now.tokens.now.tokens c.read_tree-in-Index.ensures.keeps (names_in c.args.self.now.typedefs.now (g.R.TypeReader.types c.args.self.now.reader.now) (tables c.args.into.now) c.args.self.now.tokens.now.tokens) (read (names_in c.args.self.now.typedefs.now (g.R.TypeReader.types c.args.self.now.reader.now) (tables c.args.into.now) c.args.self.now.tokens.now.tokens) c.args.below) c.args.at c.args.left c.requires.node c.args.follow c.in_ok-subscript-in-Index.field-0 c.in-Some-3.subscript c.in-Some-3.next c.in-Some-3.is c.in-Index.is c.in_ok-subscript-in-Index.ensures.ok) c.index.ensures.ok
-
 -- ---- ask, once its operand is read
 
 pub ask-returns-in_default-clause-ok : goal.ask-returns-in_default-clause-ok
@@ -382,39 +249,6 @@ front-prefixed-requires-clause-place g t c = (got (tables c.read_tree.new.into) 
 
 pub front-prefixed-requires-clause-operand : goal.front-prefixed-requires-clause-operand
 front-prefixed-requires-clause-operand g t c = (got (tables c.read_tree.new.into) c.args.self.now.tokens.now.tokens c.in_ok-operand.field-0 _ c.in-Some.operand c.in-Some.next c.in_ok-operand.ensures.ok c.in-Some.is).1
-
-pub go_on-joined-requires-clause-place : goal.go_on-joined-requires-clause-place
-go_on-joined-requires-clause-place g t c = (got (tables c.read_tree.new.into) c.args.self.now.tokens.now.tokens c.in_ok-right-in-Join.field-0 _ c.in-Some.right c.in-Some.next c.in_ok-right-in-Join.ensures.ok c.in-Some.is).2
-
-pub go_on-joined-requires-clause-left : goal.go_on-joined-requires-clause-left
-go_on-joined-requires-clause-left g t c = is_kept (tables c.args.into.now) (tables c.read_tree.new.into) is_expression c.args.left c.read_tree.ensures.keeps c.requires.node
-
-pub go_on-joined-requires-clause-right : goal.go_on-joined-requires-clause-right
-go_on-joined-requires-clause-right g t c = (got (tables c.read_tree.new.into) c.args.self.now.tokens.now.tokens c.in_ok-right-in-Join.field-0 _ c.in-Some.right c.in-Some.next c.in_ok-right-in-Join.ensures.ok c.in-Some.is).1
-
-pub go_on-index-requires-clause-place : goal.go_on-index-requires-clause-place
-go_on-index-requires-clause-place g t c = (got (tables c.read_tree-in-Index.new.into) c.args.self.now.tokens.now.tokens c.in_ok-subscript-in-Index.field-0 _ c.in-Some-3.subscript c.in-Some-3.next c.in_ok-subscript-in-Index.ensures.ok c.in-Some-3.is).2
-
-pub go_on-index-requires-clause-array : goal.go_on-index-requires-clause-array
-go_on-index-requires-clause-array g t c = is_kept (tables c.args.into.now) (tables c.read_tree-in-Index.new.into) is_expression c.args.left c.read_tree-in-Index.ensures.keeps c.requires.node
-
-pub go_on-index-requires-clause-index : goal.go_on-index-requires-clause-index
-go_on-index-requires-clause-index g t c = (got (tables c.read_tree-in-Index.new.into) c.args.self.now.tokens.now.tokens c.in_ok-subscript-in-Index.field-0 _ c.in-Some-3.subscript c.in-Some-3.next c.in_ok-subscript-in-Index.ensures.ok c.in-Some-3.is).1
-
-pub go_on-member-requires-clause-place : goal.go_on-member-requires-clause-place
-go_on-member-requires-clause-place g t c = c.requires.place
-
-pub go_on-arrow-requires-clause-place : goal.go_on-arrow-requires-clause-place
-go_on-arrow-requires-clause-place g t c = c.requires.place
-
-pub go_on-found-requires-clause-place : goal.go_on-found-requires-clause-place
-go_on-found-requires-clause-place g t c = c.requires.place
-
-pub go_on-member-requires-clause-whole : goal.go_on-member-requires-clause-whole
-go_on-member-requires-clause-whole g t c = c.requires.node
-
-pub go_on-arrow-requires-clause-pointer : goal.go_on-arrow-requires-clause-pointer
-go_on-arrow-requires-clause-pointer g t c = c.requires.node
 
 pub open-type_closed-requires-clause-place : goal.open-type_closed-requires-clause-place
 open-type_closed-requires-clause-place g t c = c.requires.place
@@ -448,29 +282,11 @@ arguments-call-requires-clause-callee g t c = c.requires.node
 
 -- ---- where a tree is read
 
-pub read_tree-read_deeper-requires : goal.read_tree-read_deeper-requires
-read_tree-read_deeper-requires g t c κs within = (omega arith, (within, (c.requires.place, c.requires.tied)))
-
-pub read_deeper-read_head-requires : goal.read_deeper-read_head-requires
-read_deeper-read_head-requires g t c κs within = (omega arith, (within, (c.requires.place, c.requires.tied)))
-
 pub front-read_tree-requires : goal.front-read_tree-requires
 front-read_tree-requires g t c κs within = (omega arith, (within, (c.requires.place, c.requires.tied)))
 
-pub go_on-read_tree-requires : goal.go_on-read_tree-requires
-go_on-read_tree-requires g t c κs within = (omega arith, (within, (c.requires.place, c.requires.tied)))
-
-pub go_on-read_tree-requires-in-Ask : goal.go_on-read_tree-requires-in-Ask
-go_on-read_tree-requires-in-Ask g t c κs within = (omega arith, (within, (c.requires.place, c.requires.tied)))
-
-pub go_on-read_tree-requires-in-Index : goal.go_on-read_tree-requires-in-Index
-go_on-read_tree-requires-in-Index g t c κs within = (omega arith, (within, (c.requires.place, c.requires.tied)))
-
 pub open-read_tree-requires-else-begins_type : goal.open-read_tree-requires-else-begins_type
 open-read_tree-requires-else-begins_type g t c κs within = (omega arith, (within, (c.requires.place, c.requires.tied)))
-
-pub go_on-arguments-requires : goal.go_on-arguments-requires
-go_on-arguments-requires g t c κs within = (omega arith, (within, (c.requires.place, (c.requires.tied, c.requires.node))))
 
 pub open-read_tree-requires : goal.open-read_tree-requires
 open-read_tree-requires g t c κs within = (omega arith, (within, (c.in-Some.ensures.2, c.requires.tied)))
@@ -486,30 +302,6 @@ grow-extend-requires g t c κs within = (omega arith, (within, (c.loop-longer.in
 
 -- ---- the next longer tree
 
-pub extend-returns-then-depth_of-below-clause-ok : goal.extend-returns-then-depth_of-below-clause-ok
-extend-returns-then-depth_of-below-clause-ok g t c = nothing _ _ _ (longer_deep _ _ _ _ _ _ (omega arith))
-
-pub extend-returns-in_default-clause-ok : goal.extend-returns-in_default-clause-ok
-extend-returns-in_default-clause-ok g t c = nothing _ _ _ (longer_end _ _ _ _ _ _ c.in_default.ensures)
-
-pub extend-returns-in_default-follow_of-clause-ok : goal.extend-returns-in_default-follow_of-clause-ok
-extend-returns-in_default-follow_of-clause-ok g t c = nothing _ _ _ (longer_other _ _ _ _ _ c.in-Some.token _ _ c.in-Some.ensures.0 (omega arith) (sym c.in_default-follow_of.ensures))
-
-pub extend-returns-clause-ok : goal.extend-returns-clause-ok
-extend-returns-clause-ok g t c = moved _ _ _ _ _ (longer_follows _ _ _ _ _ c.in-Some.token _ _ c.in-Some.ensures.0 (omega arith) c.in-Some-follow_of.follow (sym c.in-Some-follow_of.ensures) (omega arith) (omega arith)) c.go_on.ensures.ok
-
-pub extend-go_on-requires : goal.extend-go_on-requires
-extend-go_on-requires g t c κs within = (omega arith, (within, (omega (arith, c.in-Some.ensures.1), (c.requires.tied, c.requires.node))))
-
-pub extend-depth_of-requires : goal.extend-depth_of-requires
-extend-depth_of-requires g t c = c.requires.node
-
-pub extend-rank_of-requires : goal.extend-rank_of-requires
-extend-rank_of-requires g t c = c.requires.node
-
-pub extend-peek-requires : goal.extend-peek-requires
-extend-peek-requires g t c = c.requires.place
-
 -- ---- what a new node's parts are, and where it ends
 
 pub open-found-requires-clause-children : goal.open-found-requires-clause-children
@@ -517,24 +309,6 @@ open-found-requires-clause-children g t c = (is_kept (tables c.args.into.now) (t
 
 pub ask-found-requires-clause-children : goal.ask-found-requires-clause-children
 ask-found-requires-clause-children g t c = (is_kept (tables c.args.into.now) (tables c.read_tree.new.into) is_expression c.args.condition c.read_tree.ensures.keeps c.requires.condition, is_kept (tables c.args.into.now) (tables c.read_tree.new.into) is_expression c.args.yes c.read_tree.ensures.keeps c.requires.yes, (got (tables c.read_tree.new.into) c.args.self.now.tokens.now.tokens c.in_ok-no.field-0 _ c.in-Some-2.no c.in-Some-2.end c.in_ok-no.ensures.ok c.in-Some-2.is).1)
-
-pub go_on-found-requires-clause-children : goal.go_on-found-requires-clause-children
-go_on-found-requires-clause-children g t c = c.requires.node
-
-pub go_on-found-requires-in-Decrement-clause-children : goal.go_on-found-requires-in-Decrement-clause-children
-go_on-found-requires-in-Decrement-clause-children g t c = c.requires.node
-
-pub go_on-line_of-line-requires : goal.go_on-line_of-line-requires
-go_on-line_of-line-requires g t c = c.requires.node
-
-pub go_on-line_of-line-requires-in-Decrement : goal.go_on-line_of-line-requires-in-Decrement
-go_on-line_of-line-requires-in-Decrement g t c = c.requires.node
-
-pub go_on-found-requires-in-Decrement-clause-place : goal.go_on-found-requires-in-Decrement-clause-place
-go_on-found-requires-in-Decrement-clause-place g t c = c.requires.place
-
-pub read_deeper-rank_of-requires : goal.read_deeper-rank_of-requires
-read_deeper-rank_of-requires g t c = (got (tables c.read_head.new.into) c.args.self.now.tokens.now.tokens c.in_ok-read_head.field-0 _ c.in-Some.first c.in-Some.next c.in_ok-read_head.ensures.ok c.in-Some.is).1
 
 pub arguments-call-requires-then-is_close-clause-place : goal.arguments-call-requires-then-is_close-clause-place
 arguments-call-requires-then-is_close-clause-place g t c = omega (arith, c.in-Some-peek.ensures.1)
@@ -576,9 +350,6 @@ arguments-after_close-requires g t c = c.requires.place
 
 -- ---- want of memory
 
-pub read_deeper-returns-in_err-read_head-clause-ok : goal.read_deeper-returns-in_err-read_head-clause-ok
-read_deeper-returns-in_err-read_head-clause-ok g t c = IfOk-from_err _ _ c.from_residual.ensures.0
-
 pub front-returns-in_err-operand-clause-ok : goal.front-returns-in_err-operand-clause-ok
 front-returns-in_err-operand-clause-ok g t c = IfOk-from_err _ _ c.from_residual.ensures.0
 
@@ -594,17 +365,128 @@ open-returns-in_err-operand-clause-ok g t c = IfOk-from_err _ _ c.from_residual.
 pub open-returns-in_err-inside-clause-ok : goal.open-returns-in_err-inside-clause-ok
 open-returns-in_err-inside-clause-ok g t c = IfOk-from_err _ _ c.from_residual-in_err-inside.ensures.0
 
-pub go_on-returns-in_err-right-in-Join-clause-ok : goal.go_on-returns-in_err-right-in-Join-clause-ok
-go_on-returns-in_err-right-in-Join-clause-ok g t c = IfOk-from_err _ _ c.from_residual.ensures.0
-
-pub go_on-returns-in_err-yes-in-Ask-clause-ok : goal.go_on-returns-in_err-yes-in-Ask-clause-ok
-go_on-returns-in_err-yes-in-Ask-clause-ok g t c = IfOk-from_err _ _ c.from_residual-in_err-yes-in-Ask.ensures.0
-
-pub go_on-returns-in_err-subscript-in-Index-clause-ok : goal.go_on-returns-in_err-subscript-in-Index-clause-ok
-go_on-returns-in_err-subscript-in-Index-clause-ok g t c = IfOk-from_err _ _ c.from_residual-in_err-subscript-in-Index.ensures.0
-
 pub arguments-returns-in_err-argument-clause-ok : goal.arguments-returns-in_err-argument-clause-ok
 arguments-returns-in_err-argument-clause-ok g t c = IfOk-from_err _ _ c.from_residual.ensures.0
 
 pub arguments-returns-in_err-push-clause-ok : goal.arguments-returns-in_err-push-clause-ok
 arguments-returns-in_err-push-clause-ok g t c = IfOk-from_err _ _ c.from_residual-in_err-push.ensures.0
+
+-- ---- read_tree
+
+pub read_tree-read_head-requires : goal.read_tree-read_head-requires
+read_tree-read_head-requires g t c κs within = (omega arith, (within, (c.requires.place, c.requires.tied)))
+
+pub read_tree-returns-in-None-clause-keeps : goal.read_tree-returns-in-None-clause-keeps
+read_tree-returns-in-None-clause-keeps g t c = c.read_head.ensures.keeps
+
+pub read_tree-returns-in_err-read_head-clause-keeps : goal.read_tree-returns-in_err-read_head-clause-keeps
+read_tree-returns-in_err-read_head-clause-keeps g t c = c.read_head.ensures.keeps
+
+pub read_tree-returns-then-rank_of-level-clause-keeps : goal.read_tree-returns-then-rank_of-level-clause-keeps
+read_tree-returns-then-rank_of-level-clause-keeps g t c = c.read_head.ensures.keeps
+
+pub read_tree-returns-else-rank_of-level-clause-keeps : goal.read_tree-returns-else-rank_of-level-clause-keeps
+read_tree-returns-else-rank_of-level-clause-keeps g t c = extends_then (tables c.args.into.now) (tables c.read_head.new.into) (tables c.grow.new.into) c.read_head.ensures.keeps c.grow.ensures.keeps
+
+pub read_tree-returns-in_err-read_head-clause-ok : goal.read_tree-returns-in_err-read_head-clause-ok
+read_tree-returns-in_err-read_head-clause-ok g t c = IfOk-from_err _ _ c.from_residual.ensures.0
+
+pub read_tree-returns-in-None-clause-ok : goal.read_tree-returns-in-None-clause-ok
+read_tree-returns-in-None-clause-ok g t c = nothing _ _ _ (deeper_none _ _ _ _ _ (got_none (tables c.read_head.new.into) c.args.self.now.tokens.now.tokens _ _ c.in_ok-read_head.ensures.ok c.in-None.is) ∙ read_some _ c.args.depth _ _ (omega arith))
+
+pub read_tree-rank_of-requires : goal.read_tree-rank_of-requires
+read_tree-rank_of-requires g t c = (got (tables c.read_head.new.into) c.args.self.now.tokens.now.tokens c.in_ok-read_head.field-0 _ c.in-Some.first c.in-Some.next c.in_ok-read_head.ensures.ok c.in-Some.is).1
+
+pub read_tree-returns-then-rank_of-level-clause-ok : goal.read_tree-returns-then-rank_of-level-clause-ok
+read_tree-returns-then-rank_of-level-clause-ok g t c = 
+    let h = got (tables c.read_head.new.into) c.args.self.now.tokens.now.tokens c.in_ok-read_head.field-0 _ c.in-Some.first c.in-Some.next c.in_ok-read_head.ensures.ok c.in-Some.is in
+    nothing _ _ _ (deeper_low _ _ _ _ _ _ _ h.0 (omega arith) ∙ read_some _ c.args.depth _ _ (omega arith))
+
+pub read_tree-returns-else-rank_of-level-clause-ok : goal.read_tree-returns-else-rank_of-level-clause-ok
+read_tree-returns-else-rank_of-level-clause-ok g t c = 
+    let h = got (tables c.read_head.new.into) c.args.self.now.tokens.now.tokens c.in_ok-read_head.field-0 _ c.in-Some.first c.in-Some.next c.in_ok-read_head.ensures.ok c.in-Some.is in
+    moved _ _ _ _ _ (grown_in c.args.self.now.typedefs.now (g.R.TypeReader.types c.args.self.now.reader.now) (tables c.args.into.now) (tables c.read_head.new.into) c.args.self.now.tokens.now.tokens c.requires.tied c.read_head.ensures.keeps _ _ _ _ ∙ deeper_on _ _ _ _ _ _ _ h.0 (omega arith) ∙ read_some _ c.args.depth _ _ (omega arith)) c.grow.ensures.ok
+
+pub read_tree-grow-requires : goal.read_tree-grow-requires
+read_tree-grow-requires g t c κs within = 
+    let h = got (tables c.read_head.new.into) c.args.self.now.tokens.now.tokens c.in_ok-read_head.field-0 _ c.in-Some.first c.in-Some.next c.in_ok-read_head.ensures.ok c.in-Some.is in
+    let tied = tied_kept (g.R.TypeReader.types c.args.self.now.reader.now) (tables c.args.into.now) (tables c.read_head.new.into) c.args.self.now.tokens.now.tokens c.requires.tied c.read_head.ensures.keeps in
+    (omega arith, (within, (h.2, (tied, h.1))))
+
+-- ---- extend
+
+pub extend-follow_at-requires-clause-place : goal.extend-follow_at-requires-clause-place
+extend-follow_at-requires-clause-place g t c = c.requires.place
+
+pub extend-follow_at-requires-clause-left : goal.extend-follow_at-requires-clause-left
+extend-follow_at-requires-clause-left g t c = c.requires.node
+
+pub extend-returns-in_default-clause-keeps : goal.extend-returns-in_default-clause-keeps
+extend-returns-in_default-clause-keeps g t c = extends_same _
+
+pub extend-returns-in_default-clause-ok : goal.extend-returns-in_default-clause-ok
+extend-returns-in_default-clause-ok g t c = nothing _ _ _ (c.in_default.ensures _ _)
+
+pub extend-arguments-requires : goal.extend-arguments-requires
+extend-arguments-requires g t c κs within = (omega arith, (within, (omega (arith, c.in-Some.ensures.1), (c.requires.tied, c.requires.node))))
+
+pub extend-returns-in-Call-clause-keeps : goal.extend-returns-in-Call-clause-keeps
+extend-returns-in-Call-clause-keeps g t c = c.arguments.ensures.keeps
+
+pub extend-returns-in-Call-clause-ok : goal.extend-returns-in-Call-clause-ok
+extend-returns-in-Call-clause-ok g t c = moved _ _ _ _ _ (call_is _ _ _ _ c.in-Some.follow c.in-Call.is ∙ c.in-Some.ensures.0 _ _) c.arguments.ensures.ok
+
+pub extend-suffixed-requires-clause-place : goal.extend-suffixed-requires-clause-place
+extend-suffixed-requires-clause-place g t c = omega (arith, c.in-Some.ensures.1)
+
+pub extend-suffixed-requires-clause-tree : goal.extend-suffixed-requires-clause-tree
+extend-suffixed-requires-clause-tree g t c = c.requires.node
+
+pub extend-returns-in_default-follow-clause-keeps : goal.extend-returns-in_default-follow-clause-keeps
+extend-returns-in_default-follow-clause-keeps g t c = c.suffixed.ensures.keeps
+
+pub extend-returns-in_default-follow-clause-ok : goal.extend-returns-in_default-follow-clause-ok
+extend-returns-in_default-follow-clause-ok g t c = moved _ _ _ _ _ (suffix_is c.args.self.now.typedefs.now (g.R.TypeReader.types c.args.self.now.reader.now) (tables c.args.into.now) c.args.self.now.tokens.now.tokens _ _ _ c.in-Some.follow (sym c.in-None.ensures) c.in_default-follow.not-Call ∙ c.in-Some.ensures.0 _ _) c.suffixed.ensures.ok
+
+pub extend-read_tree-requires : goal.extend-read_tree-requires
+extend-read_tree-requires g t c κs within = (omega arith, (within, (omega (arith, c.in-Some.ensures.1), c.requires.tied)))
+
+pub extend-returns-in_err-read_tree-in-Some-operand_level-clause-keeps : goal.extend-returns-in_err-read_tree-in-Some-operand_level-clause-keeps
+extend-returns-in_err-read_tree-in-Some-operand_level-clause-keeps g t c = c.read_tree.ensures.keeps
+
+pub extend-returns-in_err-read_tree-in-Some-operand_level-clause-ok : goal.extend-returns-in_err-read_tree-in-Some-operand_level-clause-ok
+extend-returns-in_err-read_tree-in-Some-operand_level-clause-ok g t c = IfOk-from_err _ _ c.from_residual.ensures.0
+
+pub extend-returns-in-None-2-clause-keeps : goal.extend-returns-in-None-2-clause-keeps
+extend-returns-in-None-2-clause-keeps g t c = c.read_tree.ensures.keeps
+
+pub extend-returns-in-None-2-clause-ok : goal.extend-returns-in-None-2-clause-ok
+extend-returns-in-None-2-clause-ok g t c = nothing _ _ _ (operand_none _ _ _ _ c.in-Some.follow c.in-Some-operand_level.tightness (sym c.in-Some-operand_level.ensures) (got_none (tables c.read_tree.new.into) c.args.self.now.tokens.now.tokens _ _ c.in_ok-read_tree-in-Some-operand_level.ensures.ok c.in-None-2.is) ∙ c.in-Some.ensures.0 _ _)
+
+pub extend-ask-requires : goal.extend-ask-requires
+extend-ask-requires g t c κs within = 
+    let h = got (tables c.read_tree.new.into) c.args.self.now.tokens.now.tokens c.in_ok-read_tree-in-Some-operand_level.field-0 _ c.in-Some-2.operand c.in-Some-2.next c.in_ok-read_tree-in-Some-operand_level.ensures.ok c.in-Some-2.is in
+    let tied = tied_kept (g.R.TypeReader.types c.args.self.now.reader.now) (tables c.args.into.now) (tables c.read_tree.new.into) c.args.self.now.tokens.now.tokens c.requires.tied c.read_tree.ensures.keeps in
+    let condition = is_kept (tables c.args.into.now) (tables c.read_tree.new.into) is_expression c.args.left c.read_tree.ensures.keeps c.requires.node in
+    (omega arith, (within, (h.2, (tied, (condition, h.1)))))
+
+pub extend-returns-in-Ask-clause-keeps : goal.extend-returns-in-Ask-clause-keeps
+extend-returns-in-Ask-clause-keeps g t c = extends_then (tables c.args.into.now) (tables c.read_tree.new.into) (tables c.ask.new.into) c.read_tree.ensures.keeps c.ask.ensures.keeps
+
+pub extend-returns-in-Ask-clause-ok : goal.extend-returns-in-Ask-clause-ok
+extend-returns-in-Ask-clause-ok g t c = moved _ _ _ _ _ (operand_asks c.args.self.now.typedefs.now (g.R.TypeReader.types c.args.self.now.reader.now) (tables c.args.into.now) (tables c.read_tree.new.into) c.args.self.now.tokens.now.tokens c.requires.tied c.read_tree.ensures.keeps c.args.below (c.args.at + 1) c.args.left c.requires.node c.in-Some.follow c.in-Some-operand_level.tightness (sym c.in-Some-operand_level.ensures) c.in-Ask.is c.in_ok-read_tree-in-Some-operand_level.field-0 c.in_ok-read_tree-in-Some-operand_level.ensures.ok c.in-Some-2.operand c.in-Some-2.next c.in-Some-2.is ∙ c.in-Some.ensures.0 _ _) c.ask.ensures.ok
+
+pub extend-combined-requires-clause-place : goal.extend-combined-requires-clause-place
+extend-combined-requires-clause-place g t c = (got (tables c.read_tree.new.into) c.args.self.now.tokens.now.tokens c.in_ok-read_tree-in-Some-operand_level.field-0 _ c.in-Some-2.operand c.in-Some-2.next c.in_ok-read_tree-in-Some-operand_level.ensures.ok c.in-Some-2.is).2
+
+pub extend-combined-requires-clause-left : goal.extend-combined-requires-clause-left
+extend-combined-requires-clause-left g t c = is_kept (tables c.args.into.now) (tables c.read_tree.new.into) is_expression c.args.left c.read_tree.ensures.keeps c.requires.node
+
+pub extend-combined-requires-clause-right : goal.extend-combined-requires-clause-right
+extend-combined-requires-clause-right g t c = (got (tables c.read_tree.new.into) c.args.self.now.tokens.now.tokens c.in_ok-read_tree-in-Some-operand_level.field-0 _ c.in-Some-2.operand c.in-Some-2.next c.in_ok-read_tree-in-Some-operand_level.ensures.ok c.in-Some-2.is).1
+
+pub extend-returns-in_default-follow-2-clause-keeps : goal.extend-returns-in_default-follow-2-clause-keeps
+extend-returns-in_default-follow-2-clause-keeps g t c = extends_then (tables c.args.into.now) (tables c.read_tree.new.into) (tables c.combined.new.into) c.read_tree.ensures.keeps c.combined.ensures.keeps
+
+pub extend-returns-in_default-follow-2-clause-ok : goal.extend-returns-in_default-follow-2-clause-ok
+extend-returns-in_default-follow-2-clause-ok g t c = moved _ _ _ _ _ (operand_done (tables c.args.into.now) (tables c.read_tree.new.into) c.args.self.now.tokens.now.tokens c.read_tree.ensures.keeps _ _ (c.args.at + 1) c.args.left c.requires.node c.in-Some.follow c.in-Some-operand_level.tightness (sym c.in-Some-operand_level.ensures) c.in_default-follow-2.not-Ask c.in_ok-read_tree-in-Some-operand_level.field-0 c.in_ok-read_tree-in-Some-operand_level.ensures.ok c.in-Some-2.operand c.in-Some-2.next c.in-Some-2.is ∙ c.in-Some.ensures.0 _ _) c.combined.ensures.ok

@@ -11,9 +11,6 @@ use Rattle.pv_expr.proofs.source.Source.+reading.Given as goal
 abbrev pub decreases-read_tree : goal.decreases-read_tree
 decreases-read_tree g l = 6 * l.depth
 
-abbrev pub decreases-read_deeper : goal.decreases-read_deeper
-decreases-read_deeper g l = 6 * l.below + 5
-
 abbrev pub decreases-read_head : goal.decreases-read_head
 decreases-read_head g l = 6 * l.below + 3
 
@@ -28,9 +25,6 @@ decreases-grow g l = 6 * l.below + 4
 
 abbrev pub decreases-extend : goal.decreases-extend
 decreases-extend g l = 6 * l.below + 3
-
-abbrev pub decreases-go_on : goal.decreases-go_on
-decreases-go_on g l = 6 * l.below + 2
 
 abbrev pub decreases-ask : goal.decreases-ask
 decreases-ask g l = 6 * l.below + 1
