@@ -15,6 +15,7 @@ ghost use Rattle.pv_expr_forms.specs.Follows.{joined, prefixed};
 ghost use Rattle.pv_expr_forms.specs.Parts.{leaf_of, named};
 ghost use Rattle.pv_expr_forms.specs.Reader.{Reads, closed, indexed, longer, goes_on};
 ghost use Rattle.pv_expr.specs.Going.{operand_level, suffixed, combined};
+ghost use Rattle.pv_expr.specs.Openings.{operand_of, IsOpening, enclosed};
 
 use indexmap::IndexSet;
 use pv_expr_forms::{
@@ -23,6 +24,30 @@ use pv_expr_forms::{
 };
 use pv_token::{NoMemory, Token, TokenKind, Tokens};
 use pv_tree::{Expr, NodeId, Unit};
+
+/// What stands before an operand.
+#[derive(Clone, Copy)]
+pub(crate) enum Opening {
+    /// A parenthesis, whose other one stands behind the operand (C17 6.5.1p5).
+    Paren,
+    /// A type name in parentheses (C17 6.5.4).
+    Cast(NodeId),
+    /// An operator (C17 6.5.3).
+    Operator(Prefix),
+}
+
+impl Opening {
+    /// The level of the operand.
+    pub(crate) fn operand(self) -> u8
+        ensures { result ≡ operand_of self }
+    {
+        match self {
+            Opening::Paren => 1,
+            Opening::Cast(_) => 14,
+            Opening::Operator(op) => op.operand(),
+        }
+    }
+}
 
 /// The tightest level that an expression belongs to.
 pub(crate) fn rank_of(unit: &Unit, n: NodeId) -> u8
@@ -122,7 +147,7 @@ pub(crate) fn leaf(
 
 /// What stands in parentheses, whose inside ends at a place (C17 6.5.1p5).
 #[tactic(auto, using(pv_tree::proofs::Kept::extends_same), unfolding(pv_expr_forms::specs::Reader::closed))]
-pub(crate) fn close(
+fn close(
     tokens: &Tokens,
     at: u32,
     inside: NodeId,
@@ -207,6 +232,29 @@ fn arrow(
             found(tokens, next, Expr::Arrow(pointer, name), line, into)
         }
         None => Ok(None),
+    }
+}
+
+/// The tree of an operand, which ends at a place, and of what stands before it.
+#[tactic(auto, unfolding(crate::specs::Openings::enclosed))]
+pub(crate) fn enclosed(
+    tokens: &Tokens,
+    at: u32,
+    form: Opening,
+    operand: NodeId,
+    line: u32,
+    into: &mut Unit,
+) -> Result<Option<(NodeId, u32)>, NoMemory>
+    requires place { at ≤ length tokens.now.tokens }
+    requires form { IsOpening (tables into.old) form }
+    requires operand { Is (tables into.old) is_expression operand }
+    ensures keeps { Extends (tables into.old) (tables into.new) }
+    ensures ok { IfOk result (λ r. Answers (tables into.new) tokens.now.tokens r (enclosed (tables into.old).forest line form (expression_at (tables into.old).forest operand) (drop at tokens.now.tokens))) }
+{
+    match form {
+        Opening::Paren => close(tokens, at, operand, line, into),
+        Opening::Cast(name) => found(tokens, at, Expr::Cast(name, operand), line, into),
+        Opening::Operator(op) => prefixed(tokens, at, op, operand, line, into),
     }
 }
 
@@ -299,7 +347,7 @@ pub(crate) fn combined(
 }
 
 /// An operator before its operand, which ends at a place (C17 6.5.3).
-pub(crate) fn prefixed(
+fn prefixed(
     tokens: &Tokens,
     at: u32,
     op: Prefix,

@@ -1,20 +1,18 @@
 //! Reading an expression from the left, by the levels of its operators.
-ghost use Rattle.std.specs.Prelude.{◌≡◌, ◌≤◌, length, drop, Some, IfOk, option_and_then};
+ghost use Rattle.std.specs.Prelude.{◌≤◌, length, drop, Some, IfOk, option_and_then};
 ghost use Rattle.pv_tree.specs.Rows.{tables};
 ghost use Rattle.pv_tree.specs.Tables.{expression_at, is_expression, Is, Extends};
 ghost use Rattle.pv_tree.specs.TypeNames.{AreTied};
 ghost use Rattle.pv_expr_forms.specs.Answers.{Answers};
 ghost use Rattle.pv_expr_forms.specs.Known.{names_in};
-ghost use Rattle.pv_expr_forms.specs.Reader.{read, head, opened, fronted, grown, longer, asked, called, measured};
+ghost use Rattle.pv_expr_forms.specs.Reader.{read, head, grown, longer, asked, called, measured};
 
 use crate::nodes::{
-    call, close, combined, follow_at, found, leaf, line_of, operand_level, prefixed, rank_of,
-    suffixed,
+    call, combined, enclosed, follow_at, found, leaf, line_of, operand_level, rank_of, suffixed,
 };
 use crate::source::Source;
 use pv_expr_forms::{
-    Follow, Prefix, after_close, after_colon, begins_type, is_close, is_comma, is_open,
-    measures_type, peek, prefix_of,
+    Follow, after_close, after_colon, is_close, is_comma, measures_type, peek,
 };
 use pv_token::NoMemory;
 use pv_tree::{Expr, NodeId, TypeReader, Unit};
@@ -67,69 +65,15 @@ impl<R: TypeReader> Source<'_, R> {
             return Ok(None);
         };
         let next = at + 1;
-        if is_open(token.kind) {
-            return self.open(next, token.line, below, into);
-        }
         if measures_type(self.tokens, self.typedefs, token.kind, next) {
             return self.measure(next + 1, token.line, below, into);
         }
-        match prefix_of(token.kind) {
-            Some(op) => self.front(next, token.line, op, below, into),
-            None => leaf(self.tokens, self.typedefs, next, token, into),
-        }
-    }
-
-    // An operator and its operand (C17 6.5.3).
-    #[cycle(reading)]
-    #[tactic(auto, unfolding(pv_expr_forms::specs::Reader::fronted))]
-    fn front(
-        &self,
-        at: u32,
-        line: u32,
-        op: Prefix,
-        below: u32,
-        into: &mut Unit,
-    ) -> Result<Option<(NodeId, u32)>, NoMemory>
-        requires place { at ≤ length self.now.tokens.now.tokens }
-        requires tied { AreTied (R.types self.now.reader.now) (tables into.old) self.now.tokens.now.tokens }
-        ensures keeps { Extends (tables into.old) (tables into.new) }
-        ensures ok { IfOk result (λ r. Answers (tables into.new) self.now.tokens.now.tokens r (fronted (read (names_in self.now.typedefs.now (R.types self.now.reader.now) (tables into.old) self.now.tokens.now.tokens) below) line (Some op) (drop at self.now.tokens.now.tokens))) }
-    {
-        match self.read_tree(at, op.operand(), below, into)? {
-            Some((operand, next)) => prefixed(self.tokens, next, op, operand, line, into),
+        let Some((form, start)) = self.opening_at(token.kind, next, below, into) else {
+            return leaf(self.tokens, self.typedefs, next, token, into);
+        };
+        match self.read_tree(start, form.operand(), below, into)? {
+            Some((operand, end)) => enclosed(self.tokens, end, form, operand, token.line, into),
             None => Ok(None),
-        }
-    }
-
-    // What follows an opening parenthesis: a cast (C17 6.5.4) or what stands in parentheses.
-    #[cycle(reading)]
-    fn open(
-        &self,
-        at: u32,
-        line: u32,
-        below: u32,
-        into: &mut Unit,
-    ) -> Result<Option<(NodeId, u32)>, NoMemory>
-        requires place { at ≤ length self.now.tokens.now.tokens }
-        requires tied { AreTied (R.types self.now.reader.now) (tables into.old) self.now.tokens.now.tokens }
-        ensures keeps { Extends (tables into.old) (tables into.new) }
-        ensures ok { IfOk result (λ r. Answers (tables into.new) self.now.tokens.now.tokens r (opened (names_in self.now.typedefs.now (R.types self.now.reader.now) (tables into.old) self.now.tokens.now.tokens) (read (names_in self.now.typedefs.now (R.types self.now.reader.now) (tables into.old) self.now.tokens.now.tokens) below) below line (drop at self.now.tokens.now.tokens))) }
-    {
-        if begins_type(self.tokens, self.typedefs, at) {
-            let Some((name, next)) = self.type_closed(at, below, into) else {
-                return Ok(None);
-            };
-            match self.read_tree(next, 14, below, into)? {
-                Some((operand, end)) => {
-                    found(self.tokens, end, Expr::Cast(name, operand), line, into)
-                }
-                None => Ok(None),
-            }
-        } else {
-            match self.read_tree(at, 1, below, into)? {
-                Some((inside, next)) => close(self.tokens, next, inside, line, into),
-                None => Ok(None),
-            }
         }
     }
 

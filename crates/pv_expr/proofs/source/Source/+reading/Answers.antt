@@ -7,12 +7,12 @@ use Rattle.pv_expr_forms.specs.Known.{names_in}
 use Rattle.pv_expr_forms.specs.Reader.{read, grown}
 use Rattle.pv_expr_forms.proofs.Answered.{moved, got, got_none, read_none, read_some, grew, grew_out}
 use Rattle.pv_expr_forms.proofs.Calls.{call_none, call_there, call_forward, call_nodes, call_kept, call_end, call_stop, call_next, call_last}
-use Rattle.pv_expr_forms.proofs.Firsts.{head_open, head_front}
 use Rattle.pv_expr_forms.proofs.Listing.{called_close, no_items, start_with}
 use Rattle.pv_expr_forms.proofs.Naming.{tied_kept}
-use Rattle.pv_expr_forms.proofs.Readings.{nothing, head_end, head_first, leaf_first, measure_first, longer_in, deeper_none, deeper_low, deeper_on, grown_in, cast_none, cast_nothing, cast_done, paren_nothing, paren_done}
-use Rattle.pv_expr_forms.proofs.Operands.{call_is, front_nothing, front_done, asked_none, asked_nothing, asked_done}
+use Rattle.pv_expr_forms.proofs.Readings.{nothing, head_end, head_first, measure_first, longer_in, deeper_none, deeper_low, deeper_on, grown_in}
+use Rattle.pv_expr_forms.proofs.Operands.{call_is, asked_none, asked_nothing, asked_done}
 use Rattle.pv_expr_forms.proofs.Steps.{grown_on, longer_goes}
+use Rattle.pv_expr.proofs.Opens.{opening_kept, enclosed_nothing, enclosed_done}
 use Rattle.pv_expr.proofs.Goes.{suffix_is, operand_none, operand_done, operand_asks}
 use Rattle.pv_expr.proofs.source.Source.+reading.Goals as goal
 
@@ -21,53 +21,24 @@ use Rattle.pv_expr.proofs.source.Source.+reading.Goals as goal
 pub ask-returns-in_default-clause-keeps : goal.ask-returns-in_default-clause-keeps
 ask-returns-in_default-clause-keeps g t c = extends_same _
 
-pub open-returns-in_default-clause-keeps : goal.open-returns-in_default-clause-keeps
-open-returns-in_default-clause-keeps g t c = extends_same _
-
 pub read_head-returns-in_default-clause-keeps : goal.read_head-returns-in_default-clause-keeps
 read_head-returns-in_default-clause-keeps g t c = extends_same _
 
 pub read_tree-returns-then-depth-eq0-clause-keeps : goal.read_tree-returns-then-depth-eq0-clause-keeps
 read_tree-returns-then-depth-eq0-clause-keeps g t c = extends_same _
 
--- ---- read_tree and read_deeper
+-- ---- no depth, no tree
 
 pub read_tree-returns-then-depth-eq0-clause-ok : goal.read_tree-returns-then-depth-eq0-clause-ok
 read_tree-returns-then-depth-eq0-clause-ok g t c = nothing _ _ _ (read_none _ _ _ _ c.if-depth-eq0.true)
 
--- ---- read_head
+-- ---- read_head, where no operand is read
 
 pub read_head-returns-in_default-clause-ok : goal.read_head-returns-in_default-clause-ok
 read_head-returns-in_default-clause-ok g t c = nothing _ _ _ (head_end _ _ _ _ c.in_default.ensures)
 
-pub read_head-returns-then-is_open-clause-ok : goal.read_head-returns-then-is_open-clause-ok
-read_head-returns-then-is_open-clause-ok g t c = moved _ _ _ _ _ (head_first _ _ _ c.in-Some.token _ _ _ c.in-Some.ensures.0 (head_open _ _ _ _ _ _ (sym c.is_open.ensures ∙ c.if-is_open.true))) c.open.ensures.ok
-
 pub read_head-returns-then-measures_type-clause-ok : goal.read_head-returns-then-measures_type-clause-ok
 read_head-returns-then-measures_type-clause-ok g t c = moved _ _ _ _ _ (head_first _ _ _ c.in-Some.token _ _ _ c.in-Some.ensures.0 (measure_first _ _ _ _ _ c.args.self.now.tokens.now.tokens (c.args.at + 1) (sym (c.measures_type.ensures.is (g.R.TypeReader.types c.args.self.now.reader.now) (tables c.args.into.now)) ∙ c.if-measures_type.true))) c.measure.ensures.ok
-
-pub read_head-returns-in-Some-prefix_of-clause-ok : goal.read_head-returns-in-Some-prefix_of-clause-ok
-read_head-returns-in-Some-prefix_of-clause-ok g t c = moved _ _ _ _ _ (head_first _ _ _ c.in-Some.token _ _ _ c.in-Some.ensures.0 (head_front _ _ _ _ _ _ c.in-Some-prefix_of.op (sym c.is_open.ensures ∙ c.if-is_open.false) (sym (c.measures_type.ensures.is (g.R.TypeReader.types c.args.self.now.reader.now) (tables c.args.into.now)) ∙ c.if-measures_type.false) (sym c.in-Some-prefix_of.ensures))) c.front.ensures.ok
-
-pub read_head-returns-in-None-clause-ok : goal.read_head-returns-in-None-clause-ok
-read_head-returns-in-None-clause-ok g t c = moved _ _ _ _ _ (head_first _ _ _ c.in-Some.token _ _ _ c.in-Some.ensures.0 (leaf_first c.args.self.now.typedefs.now (g.R.TypeReader.types c.args.self.now.reader.now) (tables c.args.into.now) c.args.self.now.tokens.now.tokens _ _ _ _ _ (sym c.is_open.ensures ∙ c.if-is_open.false) (sym c.in-None.ensures))) c.leaf.ensures.ok
-
--- ---- open
-
-pub open-returns-in_default-clause-ok : goal.open-returns-in_default-clause-ok
-open-returns-in_default-clause-ok g t c = nothing _ _ _ (cast_none _ _ _ _ (tables c.args.into.now) (tables c.args.into.now) c.args.self.now.tokens.now.tokens c.args.at (sym (c.begins_type.ensures (g.R.TypeReader.types c.args.self.now.reader.now) (tables c.args.into.now)) ∙ c.if-begins_type.true) c.in_default.ensures)
-
-pub open-returns-in-Some-2-clause-ok : goal.open-returns-in-Some-2-clause-ok
-open-returns-in-Some-2-clause-ok g t c = moved _ _ _ _ _ (cast_done _ _ _ _ (tables c.args.into.now) (tables c.read_tree.new.into) c.args.self.now.tokens.now.tokens c.args.at (sym (c.begins_type.ensures (g.R.TypeReader.types c.args.self.now.reader.now) (tables c.args.into.now)) ∙ c.if-begins_type.true) c.in-Some.name c.in-Some.next c.in-Some.ensures.0 c.in_ok-operand.field-0 c.in_ok-operand.ensures.ok c.in-Some-2.operand c.in-Some-2.end c.in-Some-2.is c.read_tree.ensures.keeps c.in-Some.ensures.1) c.found.ensures.ok
-
-pub open-returns-in-None-clause-ok : goal.open-returns-in-None-clause-ok
-open-returns-in-None-clause-ok g t c = nothing _ _ _ (cast_nothing _ _ _ _ (tables c.args.into.now) (tables c.read_tree.new.into) c.args.self.now.tokens.now.tokens c.args.at (sym (c.begins_type.ensures (g.R.TypeReader.types c.args.self.now.reader.now) (tables c.args.into.now)) ∙ c.if-begins_type.true) c.in-Some.name c.in-Some.next c.in-Some.ensures.0 c.in_ok-operand.field-0 c.in_ok-operand.ensures.ok c.in-None.is)
-
-pub open-returns-in-Some-3-clause-ok : goal.open-returns-in-Some-3-clause-ok
-open-returns-in-Some-3-clause-ok g t c = moved _ _ _ _ _ (paren_done _ _ _ _ (tables c.args.into.now) (tables c.read_tree-else-begins_type.new.into) c.args.self.now.tokens.now.tokens c.args.at (sym (c.begins_type.ensures (g.R.TypeReader.types c.args.self.now.reader.now) (tables c.args.into.now)) ∙ c.if-begins_type.false) c.in_ok-inside.field-0 c.in_ok-inside.ensures.ok c.in-Some-3.inside c.in-Some-3.next c.in-Some-3.is) c.close.ensures.ok
-
-pub open-returns-in-None-2-clause-ok : goal.open-returns-in-None-2-clause-ok
-open-returns-in-None-2-clause-ok g t c = nothing _ _ _ (paren_nothing _ _ _ _ (tables c.args.into.now) (tables c.read_tree-else-begins_type.new.into) c.args.self.now.tokens.now.tokens c.args.at (sym (c.begins_type.ensures (g.R.TypeReader.types c.args.self.now.reader.now) (tables c.args.into.now)) ∙ c.if-begins_type.false) c.in_ok-inside.field-0 c.in_ok-inside.ensures.ok c.in-None-2.is)
 
 -- ---- grow
 
@@ -100,8 +71,6 @@ grow-returns-in-None-clause-ok g t c =
     grew_out (names_in c.args.self.now.typedefs.now (g.R.TypeReader.types c.args.self.now.reader.now) (tables c.args.into.now) c.args.self.now.tokens.now.tokens) (read (names_in c.args.self.now.typedefs.now (g.R.TypeReader.types c.args.self.now.reader.now) (tables c.args.into.now) c.args.self.now.tokens.now.tokens) c.args.below) c.args.level c.args.below (tables c.loop-longer.into) (tables c.extend.new.into) c.args.self.now.tokens.now.tokens c.loop-longer.left c.loop-longer.next c.in_ok-longer.field-0 a
     (grown (names_in c.args.self.now.typedefs.now (g.R.TypeReader.types c.args.self.now.reader.now) (tables c.args.into.now) c.args.self.now.tokens.now.tokens) (read (names_in c.args.self.now.typedefs.now (g.R.TypeReader.types c.args.self.now.reader.now) (tables c.args.into.now) c.args.self.now.tokens.now.tokens) c.args.below) c.args.level c.args.below (expression_at (tables c.args.into.now).forest c.args.first) (drop c.args.at c.args.self.now.tokens.now.tokens))
     c.in-None.is c.extend.ensures.keeps c.loop-longer.invariant.node c.loop-longer.invariant.place c.loop-longer.invariant.same
-
--- ---- go_on
 
 -- ---- arguments
 
@@ -146,35 +115,8 @@ arguments-returns-in-loop-list-clause-ok g t c = call_stop c.args.self.now.typed
 
 -- ---- what an operand added stays, also on a refusal
 
-pub read_head-returns-then-is_open-clause-keeps : goal.read_head-returns-then-is_open-clause-keeps
-read_head-returns-then-is_open-clause-keeps g t c = c.open.ensures.keeps
-
 pub read_head-returns-then-measures_type-clause-keeps : goal.read_head-returns-then-measures_type-clause-keeps
 read_head-returns-then-measures_type-clause-keeps g t c = c.measure.ensures.keeps
-
-pub read_head-returns-in-Some-prefix_of-clause-keeps : goal.read_head-returns-in-Some-prefix_of-clause-keeps
-read_head-returns-in-Some-prefix_of-clause-keeps g t c = c.front.ensures.keeps
-
-pub read_head-returns-in-None-clause-keeps : goal.read_head-returns-in-None-clause-keeps
-read_head-returns-in-None-clause-keeps g t c = c.leaf.ensures.keeps
-
-pub front-returns-in-None-clause-keeps : goal.front-returns-in-None-clause-keeps
-front-returns-in-None-clause-keeps g t c = c.read_tree.ensures.keeps
-
-pub front-returns-in_err-operand-clause-keeps : goal.front-returns-in_err-operand-clause-keeps
-front-returns-in_err-operand-clause-keeps g t c = c.read_tree.ensures.keeps
-
-pub open-returns-in-None-clause-keeps : goal.open-returns-in-None-clause-keeps
-open-returns-in-None-clause-keeps g t c = c.read_tree.ensures.keeps
-
-pub open-returns-in_err-operand-clause-keeps : goal.open-returns-in_err-operand-clause-keeps
-open-returns-in_err-operand-clause-keeps g t c = c.read_tree.ensures.keeps
-
-pub open-returns-in-None-2-clause-keeps : goal.open-returns-in-None-2-clause-keeps
-open-returns-in-None-2-clause-keeps g t c = c.read_tree-else-begins_type.ensures.keeps
-
-pub open-returns-in_err-inside-clause-keeps : goal.open-returns-in_err-inside-clause-keeps
-open-returns-in_err-inside-clause-keeps g t c = c.read_tree-else-begins_type.ensures.keeps
 
 pub ask-returns-in-None-clause-keeps : goal.ask-returns-in-None-clause-keeps
 ask-returns-in-None-clause-keeps g t c = c.read_tree.ensures.keeps
@@ -184,15 +126,6 @@ ask-returns-in_err-no-clause-keeps g t c = c.read_tree.ensures.keeps
 
 pub arguments-returns-in-Some-clause-keeps : goal.arguments-returns-in-Some-clause-keeps
 arguments-returns-in-Some-clause-keeps g t c = c.call.ensures.keeps
-
-pub front-returns-in-Some-clause-keeps : goal.front-returns-in-Some-clause-keeps
-front-returns-in-Some-clause-keeps g t c = extends_then (tables c.args.into.now) (tables c.read_tree.new.into) (tables c.prefixed.new.into) c.read_tree.ensures.keeps c.prefixed.ensures.keeps
-
-pub open-returns-in-Some-2-clause-keeps : goal.open-returns-in-Some-2-clause-keeps
-open-returns-in-Some-2-clause-keeps g t c = extends_then (tables c.args.into.now) (tables c.read_tree.new.into) (tables c.found.new.into) c.read_tree.ensures.keeps c.found.ensures.keeps
-
-pub open-returns-in-Some-3-clause-keeps : goal.open-returns-in-Some-3-clause-keeps
-open-returns-in-Some-3-clause-keeps g t c = extends_then (tables c.args.into.now) (tables c.read_tree-else-begins_type.new.into) (tables c.close.new.into) c.read_tree-else-begins_type.ensures.keeps c.close.ensures.keeps
 
 pub ask-returns-in-Some-2-clause-keeps : goal.ask-returns-in-Some-2-clause-keeps
 ask-returns-in-Some-2-clause-keeps g t c = extends_then (tables c.args.into.now) (tables c.read_tree.new.into) (tables c.found.new.into) c.read_tree.ensures.keeps c.found.ensures.keeps
@@ -221,16 +154,6 @@ arguments-returns-in-loop-list-clause-keeps g t c = extends_then (tables c.args.
 pub arguments-returns-then-is_close-clause-keeps : goal.arguments-returns-then-is_close-clause-keeps
 arguments-returns-then-is_close-clause-keeps g t c = extends_then (tables c.args.into.now) (tables c.read_tree.new.into) (tables c.call-then-is_close.new.into) (extends_then (tables c.args.into.now) (tables c.loop-list.into) (tables c.read_tree.new.into) c.loop-list.invariant.keeps c.read_tree.ensures.keeps) c.call-then-is_close.ensures.keeps
 
--- ---- front, once its operand is read
-
-pub front-returns-in-None-clause-ok : goal.front-returns-in-None-clause-ok
-front-returns-in-None-clause-ok g t c = nothing _ _ _ (front_nothing (read (names_in c.args.self.now.typedefs.now (g.R.TypeReader.types c.args.self.now.reader.now) (tables c.args.into.now) c.args.self.now.tokens.now.tokens) c.args.below) c.args.line c.args.op (drop c.args.at c.args.self.now.tokens.now.tokens) c.operand.result c.operand.ensures (got_none (tables c.read_tree.new.into) c.args.self.now.tokens.now.tokens c.in_ok-operand.field-0 _ c.in_ok-operand.ensures.ok c.in-None.is))
-
-pub front-returns-in-Some-clause-ok : goal.front-returns-in-Some-clause-ok
-front-returns-in-Some-clause-ok g t c = moved _ _ _ _ _ (front_done (read (names_in c.args.self.now.typedefs.now (g.R.TypeReader.types c.args.self.now.reader.now) (tables c.args.into.now) c.args.self.now.tokens.now.tokens) c.args.below) c.args.line c.args.op (drop c.args.at c.args.self.now.tokens.now.tokens) c.operand.result c.operand.ensures (expression_at (tables c.read_tree.new.into).forest c.in-Some.operand) (drop c.in-Some.next c.args.self.now.tokens.now.tokens) (got (tables c.read_tree.new.into) c.args.self.now.tokens.now.tokens c.in_ok-operand.field-0 _ c.in-Some.operand c.in-Some.next c.in_ok-operand.ensures.ok c.in-Some.is).0) c.prefixed.ensures.ok
-
--- ---- go_on, once its operand is read
-
 -- ---- ask, once its operand is read
 
 pub ask-returns-in_default-clause-ok : goal.ask-returns-in_default-clause-ok
@@ -243,27 +166,6 @@ pub ask-returns-in-Some-2-clause-ok : goal.ask-returns-in-Some-2-clause-ok
 ask-returns-in-Some-2-clause-ok g t c = moved _ _ _ _ _ (asked_done (tables c.args.into.now) (tables c.read_tree.new.into) c.args.self.now.tokens.now.tokens c.read_tree.ensures.keeps (read (names_in c.args.self.now.typedefs.now (g.R.TypeReader.types c.args.self.now.reader.now) (tables c.args.into.now) c.args.self.now.tokens.now.tokens) c.args.below) c.args.at c.args.condition c.args.yes c.requires.condition c.requires.yes c.in-Some.next c.in-Some.ensures.0 c.in_ok-no.field-0 c.in_ok-no.ensures.ok c.in-Some-2.no c.in-Some-2.end c.in-Some-2.is c.line_of-line.result c.line_of-line.ensures) c.found.ensures.ok
 
 -- ---- what a node's parts have to be
-
-pub front-prefixed-requires-clause-place : goal.front-prefixed-requires-clause-place
-front-prefixed-requires-clause-place g t c = (got (tables c.read_tree.new.into) c.args.self.now.tokens.now.tokens c.in_ok-operand.field-0 _ c.in-Some.operand c.in-Some.next c.in_ok-operand.ensures.ok c.in-Some.is).2
-
-pub front-prefixed-requires-clause-operand : goal.front-prefixed-requires-clause-operand
-front-prefixed-requires-clause-operand g t c = (got (tables c.read_tree.new.into) c.args.self.now.tokens.now.tokens c.in_ok-operand.field-0 _ c.in-Some.operand c.in-Some.next c.in_ok-operand.ensures.ok c.in-Some.is).1
-
-pub open-type_closed-requires-clause-place : goal.open-type_closed-requires-clause-place
-open-type_closed-requires-clause-place g t c = c.requires.place
-
-pub open-type_closed-requires-clause-tied : goal.open-type_closed-requires-clause-tied
-open-type_closed-requires-clause-tied g t c = c.requires.tied
-
-pub open-found-requires-clause-place : goal.open-found-requires-clause-place
-open-found-requires-clause-place g t c = (got (tables c.read_tree.new.into) c.args.self.now.tokens.now.tokens c.in_ok-operand.field-0 _ c.in-Some-2.operand c.in-Some-2.end c.in_ok-operand.ensures.ok c.in-Some-2.is).2
-
-pub open-close-requires-clause-place : goal.open-close-requires-clause-place
-open-close-requires-clause-place g t c = (got (tables c.read_tree-else-begins_type.new.into) c.args.self.now.tokens.now.tokens c.in_ok-inside.field-0 _ c.in-Some-3.inside c.in-Some-3.next c.in_ok-inside.ensures.ok c.in-Some-3.is).2
-
-pub open-close-requires-clause-inside : goal.open-close-requires-clause-inside
-open-close-requires-clause-inside g t c = (got (tables c.read_tree-else-begins_type.new.into) c.args.self.now.tokens.now.tokens c.in_ok-inside.field-0 _ c.in-Some-3.inside c.in-Some-3.next c.in_ok-inside.ensures.ok c.in-Some-3.is).1
 
 pub ask-found-requires-clause-place : goal.ask-found-requires-clause-place
 ask-found-requires-clause-place g t c = (got (tables c.read_tree.new.into) c.args.self.now.tokens.now.tokens c.in_ok-no.field-0 _ c.in-Some-2.no c.in-Some-2.end c.in_ok-no.ensures.ok c.in-Some-2.is).2
@@ -282,15 +184,6 @@ arguments-call-requires-clause-callee g t c = c.requires.node
 
 -- ---- where a tree is read
 
-pub front-read_tree-requires : goal.front-read_tree-requires
-front-read_tree-requires g t c κs within = (omega arith, (within, (c.requires.place, c.requires.tied)))
-
-pub open-read_tree-requires-else-begins_type : goal.open-read_tree-requires-else-begins_type
-open-read_tree-requires-else-begins_type g t c κs within = (omega arith, (within, (c.requires.place, c.requires.tied)))
-
-pub open-read_tree-requires : goal.open-read_tree-requires
-open-read_tree-requires g t c κs within = (omega arith, (within, (c.in-Some.ensures.2, c.requires.tied)))
-
 pub ask-read_tree-requires : goal.ask-read_tree-requires
 ask-read_tree-requires g t c κs within = (omega arith, (within, (c.in-Some.ensures.1, c.requires.tied)))
 
@@ -300,12 +193,7 @@ arguments-read_tree-requires g t c κs within = (omega arith, (within, (c.loop-l
 pub grow-extend-requires : goal.grow-extend-requires
 grow-extend-requires g t c κs within = (omega arith, (within, (c.loop-longer.invariant.place, (c.loop-longer.invariant.tied, c.loop-longer.invariant.node))))
 
--- ---- the next longer tree
-
 -- ---- what a new node's parts are, and where it ends
-
-pub open-found-requires-clause-children : goal.open-found-requires-clause-children
-open-found-requires-clause-children g t c = (is_kept (tables c.args.into.now) (tables c.read_tree.new.into) is_declaration c.in-Some.name c.read_tree.ensures.keeps c.in-Some.ensures.1, (got (tables c.read_tree.new.into) c.args.self.now.tokens.now.tokens c.in_ok-operand.field-0 _ c.in-Some-2.operand c.in-Some-2.end c.in_ok-operand.ensures.ok c.in-Some-2.is).1)
 
 pub ask-found-requires-clause-children : goal.ask-found-requires-clause-children
 ask-found-requires-clause-children g t c = (is_kept (tables c.args.into.now) (tables c.read_tree.new.into) is_expression c.args.condition c.read_tree.ensures.keeps c.requires.condition, is_kept (tables c.args.into.now) (tables c.read_tree.new.into) is_expression c.args.yes c.read_tree.ensures.keeps c.requires.yes, (got (tables c.read_tree.new.into) c.args.self.now.tokens.now.tokens c.in_ok-no.field-0 _ c.in-Some-2.no c.in-Some-2.end c.in_ok-no.ensures.ok c.in-Some-2.is).1)
@@ -321,15 +209,6 @@ arguments-call-requires-then-is_close-clause-callee g t c = is_kept (tables c.ar
 
 -- ---- by the first token
 
-pub read_head-open-requires : goal.read_head-open-requires
-read_head-open-requires g t c κs within = (omega arith, (within, (omega (arith, c.in-Some.ensures.1), c.requires.tied)))
-
-pub read_head-front-requires : goal.read_head-front-requires
-read_head-front-requires g t c κs within = (omega arith, (within, (omega (arith, c.in-Some.ensures.1), c.requires.tied)))
-
-pub read_head-leaf-requires : goal.read_head-leaf-requires
-read_head-leaf-requires g t c = omega (arith, c.in-Some.ensures.1)
-
 pub read_head-measures_type-requires : goal.read_head-measures_type-requires
 read_head-measures_type-requires g t c = omega (arith, c.in-Some.ensures.1)
 
@@ -339,9 +218,6 @@ read_head-measure-requires-clause-place g t c = c.measures_type.ensures.place c.
 pub read_head-peek-requires : goal.read_head-peek-requires
 read_head-peek-requires g t c = c.requires.place
 
-pub open-begins_type-requires : goal.open-begins_type-requires
-open-begins_type-requires g t c = c.requires.place
-
 pub ask-after_colon-requires : goal.ask-after_colon-requires
 ask-after_colon-requires g t c = c.requires.place
 
@@ -350,20 +226,11 @@ arguments-after_close-requires g t c = c.requires.place
 
 -- ---- want of memory
 
-pub front-returns-in_err-operand-clause-ok : goal.front-returns-in_err-operand-clause-ok
-front-returns-in_err-operand-clause-ok g t c = IfOk-from_err _ _ c.from_residual.ensures.0
-
 pub ask-returns-in_err-no-clause-ok : goal.ask-returns-in_err-no-clause-ok
 ask-returns-in_err-no-clause-ok g t c = IfOk-from_err _ _ c.from_residual.ensures.0
 
 pub grow-returns-in_err-longer-clause-ok : goal.grow-returns-in_err-longer-clause-ok
 grow-returns-in_err-longer-clause-ok g t c = IfOk-from_err _ _ c.from_residual.ensures.0
-
-pub open-returns-in_err-operand-clause-ok : goal.open-returns-in_err-operand-clause-ok
-open-returns-in_err-operand-clause-ok g t c = IfOk-from_err _ _ c.from_residual.ensures.0
-
-pub open-returns-in_err-inside-clause-ok : goal.open-returns-in_err-inside-clause-ok
-open-returns-in_err-inside-clause-ok g t c = IfOk-from_err _ _ c.from_residual-in_err-inside.ensures.0
 
 pub arguments-returns-in_err-argument-clause-ok : goal.arguments-returns-in_err-argument-clause-ok
 arguments-returns-in_err-argument-clause-ok g t c = IfOk-from_err _ _ c.from_residual.ensures.0
@@ -490,3 +357,50 @@ extend-returns-in_default-follow-2-clause-keeps g t c = extends_then (tables c.a
 
 pub extend-returns-in_default-follow-2-clause-ok : goal.extend-returns-in_default-follow-2-clause-ok
 extend-returns-in_default-follow-2-clause-ok g t c = moved _ _ _ _ _ (operand_done (tables c.args.into.now) (tables c.read_tree.new.into) c.args.self.now.tokens.now.tokens c.read_tree.ensures.keeps _ _ (c.args.at + 1) c.args.left c.requires.node c.in-Some.follow c.in-Some-operand_level.tightness (sym c.in-Some-operand_level.ensures) c.in_default-follow-2.not-Ask c.in_ok-read_tree-in-Some-operand_level.field-0 c.in_ok-read_tree-in-Some-operand_level.ensures.ok c.in-Some-2.operand c.in-Some-2.next c.in-Some-2.is ∙ c.in-Some.ensures.0 _ _) c.combined.ensures.ok
+
+-- ---- read_head
+
+pub read_head-opening_at-requires-clause-place : goal.read_head-opening_at-requires-clause-place
+read_head-opening_at-requires-clause-place g t c = omega (arith, c.in-Some.ensures.1)
+
+pub read_head-opening_at-requires-clause-tied : goal.read_head-opening_at-requires-clause-tied
+read_head-opening_at-requires-clause-tied g t c = c.requires.tied
+
+pub read_head-leaf-requires : goal.read_head-leaf-requires
+read_head-leaf-requires g t c = omega (arith, c.in-Some.ensures.1)
+
+pub read_head-returns-in_default-opening_at-clause-keeps : goal.read_head-returns-in_default-opening_at-clause-keeps
+read_head-returns-in_default-opening_at-clause-keeps g t c = c.leaf.ensures.keeps
+
+pub read_head-returns-in_default-opening_at-clause-ok : goal.read_head-returns-in_default-opening_at-clause-ok
+read_head-returns-in_default-opening_at-clause-ok g t c = moved _ _ _ _ _ (head_first _ _ _ c.in-Some.token _ _ _ c.in-Some.ensures.0 (c.in_default-opening_at.ensures _ _ (sym (c.measures_type.ensures.is (g.R.TypeReader.types c.args.self.now.reader.now) (tables c.args.into.now)) ∙ c.if-measures_type.false))) c.leaf.ensures.ok
+
+pub read_head-read_tree-requires : goal.read_head-read_tree-requires
+read_head-read_tree-requires g t c κs within = (omega arith, (within, (c.in-Some-opening_at.ensures.2, c.requires.tied)))
+
+pub read_head-returns-in_err-operand-clause-keeps : goal.read_head-returns-in_err-operand-clause-keeps
+read_head-returns-in_err-operand-clause-keeps g t c = c.read_tree.ensures.keeps
+
+pub read_head-returns-in_err-operand-clause-ok : goal.read_head-returns-in_err-operand-clause-ok
+read_head-returns-in_err-operand-clause-ok g t c = IfOk-from_err _ _ c.from_residual.ensures.0
+
+pub read_head-returns-in-None-clause-keeps : goal.read_head-returns-in-None-clause-keeps
+read_head-returns-in-None-clause-keeps g t c = c.read_tree.ensures.keeps
+
+pub read_head-returns-in-None-clause-ok : goal.read_head-returns-in-None-clause-ok
+read_head-returns-in-None-clause-ok g t c = nothing _ _ _ (head_first _ _ _ c.in-Some.token _ _ _ c.in-Some.ensures.0 (enclosed_nothing (tables c.args.into.now).forest c.in-Some.token.line c.in-Some-opening_at.form (read (names_in c.args.self.now.typedefs.now (g.R.TypeReader.types c.args.self.now.reader.now) (tables c.args.into.now) c.args.self.now.tokens.now.tokens) c.args.below) (drop c.in-Some-opening_at.start c.args.self.now.tokens.now.tokens) _ c.operand.ensures (got_none (tables c.read_tree.new.into) c.args.self.now.tokens.now.tokens _ _ c.in_ok-operand.ensures.ok c.in-None.is) ∙ c.in-Some-opening_at.ensures.0 (read (names_in c.args.self.now.typedefs.now (g.R.TypeReader.types c.args.self.now.reader.now) (tables c.args.into.now) c.args.self.now.tokens.now.tokens) c.args.below) c.in-Some.token.line (sym (c.measures_type.ensures.is (g.R.TypeReader.types c.args.self.now.reader.now) (tables c.args.into.now)) ∙ c.if-measures_type.false)))
+
+pub read_head-enclosed-requires-clause-place : goal.read_head-enclosed-requires-clause-place
+read_head-enclosed-requires-clause-place g t c = (got (tables c.read_tree.new.into) c.args.self.now.tokens.now.tokens c.in_ok-operand.field-0 _ c.in-Some-2.operand c.in-Some-2.end c.in_ok-operand.ensures.ok c.in-Some-2.is).2
+
+pub read_head-enclosed-requires-clause-operand : goal.read_head-enclosed-requires-clause-operand
+read_head-enclosed-requires-clause-operand g t c = (got (tables c.read_tree.new.into) c.args.self.now.tokens.now.tokens c.in_ok-operand.field-0 _ c.in-Some-2.operand c.in-Some-2.end c.in_ok-operand.ensures.ok c.in-Some-2.is).1
+
+pub read_head-enclosed-requires-clause-form : goal.read_head-enclosed-requires-clause-form
+read_head-enclosed-requires-clause-form g t c = opening_kept (tables c.args.into.now) (tables c.read_tree.new.into) c.in-Some-opening_at.form c.read_tree.ensures.keeps c.in-Some-opening_at.ensures.1
+
+pub read_head-returns-in-Some-2-clause-keeps : goal.read_head-returns-in-Some-2-clause-keeps
+read_head-returns-in-Some-2-clause-keeps g t c = extends_then (tables c.args.into.now) (tables c.read_tree.new.into) (tables c.enclosed.new.into) c.read_tree.ensures.keeps c.enclosed.ensures.keeps
+
+pub read_head-returns-in-Some-2-clause-ok : goal.read_head-returns-in-Some-2-clause-ok
+read_head-returns-in-Some-2-clause-ok g t c = moved _ _ _ _ _ (head_first _ _ _ c.in-Some.token _ _ _ c.in-Some.ensures.0 (enclosed_done (tables c.args.into.now) (tables c.read_tree.new.into) c.args.self.now.tokens.now.tokens c.read_tree.ensures.keeps c.in-Some.token.line c.in-Some-opening_at.form c.in-Some-opening_at.ensures.1 (read (names_in c.args.self.now.typedefs.now (g.R.TypeReader.types c.args.self.now.reader.now) (tables c.args.into.now) c.args.self.now.tokens.now.tokens) c.args.below) (drop c.in-Some-opening_at.start c.args.self.now.tokens.now.tokens) _ c.operand.ensures c.in_ok-operand.field-0 c.in_ok-operand.ensures.ok c.in-Some-2.operand c.in-Some-2.end c.in-Some-2.is ∙ c.in-Some-opening_at.ensures.0 (read (names_in c.args.self.now.typedefs.now (g.R.TypeReader.types c.args.self.now.reader.now) (tables c.args.into.now) c.args.self.now.tokens.now.tokens) c.args.below) c.in-Some.token.line (sym (c.measures_type.ensures.is (g.R.TypeReader.types c.args.self.now.reader.now) (tables c.args.into.now)) ∙ c.if-measures_type.false))) c.enclosed.ensures.ok

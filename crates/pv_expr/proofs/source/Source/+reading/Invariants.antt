@@ -14,12 +14,6 @@ decreases-read_tree g l = 6 * l.depth
 abbrev pub decreases-read_head : goal.decreases-read_head
 decreases-read_head g l = 6 * l.below + 3
 
-abbrev pub decreases-open : goal.decreases-open
-decreases-open g l = 6 * l.below + 2
-
-abbrev pub decreases-front : goal.decreases-front
-decreases-front g l = 6 * l.below + 1
-
 abbrev pub decreases-grow : goal.decreases-grow
 decreases-grow g l = 6 * l.below + 4
 
