@@ -11,9 +11,7 @@ use crate::nodes::{
     call, combined, enclosed, follow_at, found, leaf, line_of, operand_level, rank_of, suffixed,
 };
 use crate::source::Source;
-use pv_expr_forms::{
-    Follow, after_close, after_colon, is_close, is_comma, measures_type, peek,
-};
+use pv_expr_forms::{Follow, after_close, after_colon, is_close, is_comma, measures_type, peek};
 use pv_token::NoMemory;
 use pv_tree::{Expr, NodeId, TypeReader, Unit};
 

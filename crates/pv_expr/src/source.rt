@@ -63,13 +63,11 @@ impl<R: TypeReader> Source<'_, R> {
     ) -> Option<(Opening, u32)>
         requires place { at ≤ length self.now.tokens.now.tokens }
         requires tied { AreTied (R.types self.now.reader.now) (tables into.now) self.now.tokens.now.tokens }
-        ensures {
-            let names = names_in self.now.typedefs.now (R.types self.now.reader.now) (tables into.now) self.now.tokens.now.tokens in
+        ensures { let names = names_in self.now.typedefs.now (R.types self.now.reader.now) (tables into.now) self.now.tokens.now.tokens in
             let behind = drop at self.now.tokens.now.tokens in
             MatchOption result
             ((read : Reads) (line : ℕ) → measures_type names kind behind ≡ false → leaf_of (contains nat_eq self.now.typedefs.now) line kind behind ≡ head_of names read below line kind behind)
-            (λ x. ((read : Reads) (line : ℕ) → measures_type names kind behind ≡ false → option_and_then (λ y. enclosed (tables into.now).forest line x.0 y.0 y.1) (read (operand_of x.0) (drop x.1 self.now.tokens.now.tokens)) ≡ head_of names read below line kind behind) × IsOpening (tables into.now) x.0 × (x.1 ≤ length self.now.tokens.now.tokens))
-        }
+            (λ x. ((read : Reads) (line : ℕ) → measures_type names kind behind ≡ false → option_and_then (λ y. enclosed (tables into.now).forest line x.0 y.0 y.1) (read (operand_of x.0) (drop x.1 self.now.tokens.now.tokens)) ≡ head_of names read below line kind behind) × IsOpening (tables into.now) x.0 × (x.1 ≤ length self.now.tokens.now.tokens)) }
     {
         if is_open(kind) {
             if !begins_type(self.tokens, self.typedefs, at) {

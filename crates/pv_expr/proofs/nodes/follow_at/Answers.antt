@@ -15,7 +15,7 @@ returns-in_default-follow_of c names r = longer_other names r _ _ _ c.in-Some.to
 
 pub returns-then-rank-level : goal.returns-then-rank-level
 returns-then-rank-level c names r = elim c.then-rank-level.branch [
-  then-rank-level-via-then-rank-level w ↦ longer_low names r _ _ _ c.in-Some.token _ _ c.in-Some.ensures.0 (omega arith) c.in-Some-follow_of.follow (sym c.in-Some-follow_of.ensures) (omega arith)
+  | then-rank-level-via-then-rank-level w ↦ longer_low names r _ _ _ c.in-Some.token _ _ c.in-Some.ensures.0 (omega arith) c.in-Some-follow_of.follow (sym c.in-Some-follow_of.ensures) (omega arith)
   | then-rank-level-via-else-rank-level+then-rank_of-left w ↦ longer_loose names r _ _ _ c.in-Some.token _ _ c.in-Some.ensures.0 (omega arith) c.in-Some-follow_of.follow (sym c.in-Some-follow_of.ensures) (omega arith) (omega arith)
 ]
 

@@ -265,17 +265,17 @@ pub read_tree-rank_of-requires : goal.read_tree-rank_of-requires
 read_tree-rank_of-requires g t c = (got (tables c.read_head.new.into) c.args.self.now.tokens.now.tokens c.in_ok-read_head.field-0 _ c.in-Some.first c.in-Some.next c.in_ok-read_head.ensures.ok c.in-Some.is).1
 
 pub read_tree-returns-then-rank_of-level-clause-ok : goal.read_tree-returns-then-rank_of-level-clause-ok
-read_tree-returns-then-rank_of-level-clause-ok g t c = 
+read_tree-returns-then-rank_of-level-clause-ok g t c =
     let h = got (tables c.read_head.new.into) c.args.self.now.tokens.now.tokens c.in_ok-read_head.field-0 _ c.in-Some.first c.in-Some.next c.in_ok-read_head.ensures.ok c.in-Some.is in
     nothing _ _ _ (deeper_low _ _ _ _ _ _ _ h.0 (omega arith) ∙ read_some _ c.args.depth _ _ (omega arith))
 
 pub read_tree-returns-else-rank_of-level-clause-ok : goal.read_tree-returns-else-rank_of-level-clause-ok
-read_tree-returns-else-rank_of-level-clause-ok g t c = 
+read_tree-returns-else-rank_of-level-clause-ok g t c =
     let h = got (tables c.read_head.new.into) c.args.self.now.tokens.now.tokens c.in_ok-read_head.field-0 _ c.in-Some.first c.in-Some.next c.in_ok-read_head.ensures.ok c.in-Some.is in
     moved _ _ _ _ _ (grown_in c.args.self.now.typedefs.now (g.R.TypeReader.types c.args.self.now.reader.now) (tables c.args.into.now) (tables c.read_head.new.into) c.args.self.now.tokens.now.tokens c.requires.tied c.read_head.ensures.keeps _ _ _ _ ∙ deeper_on _ _ _ _ _ _ _ h.0 (omega arith) ∙ read_some _ c.args.depth _ _ (omega arith)) c.grow.ensures.ok
 
 pub read_tree-grow-requires : goal.read_tree-grow-requires
-read_tree-grow-requires g t c κs within = 
+read_tree-grow-requires g t c κs within =
     let h = got (tables c.read_head.new.into) c.args.self.now.tokens.now.tokens c.in_ok-read_head.field-0 _ c.in-Some.first c.in-Some.next c.in_ok-read_head.ensures.ok c.in-Some.is in
     let tied = tied_kept (g.R.TypeReader.types c.args.self.now.reader.now) (tables c.args.into.now) (tables c.read_head.new.into) c.args.self.now.tokens.now.tokens c.requires.tied c.read_head.ensures.keeps in
     (omega arith, (within, (h.2, (tied, h.1))))
@@ -331,7 +331,7 @@ pub extend-returns-in-None-2-clause-ok : goal.extend-returns-in-None-2-clause-ok
 extend-returns-in-None-2-clause-ok g t c = nothing _ _ _ (operand_none _ _ _ _ c.in-Some.follow c.in-Some-operand_level.tightness (sym c.in-Some-operand_level.ensures) (got_none (tables c.read_tree.new.into) c.args.self.now.tokens.now.tokens _ _ c.in_ok-read_tree-in-Some-operand_level.ensures.ok c.in-None-2.is) ∙ c.in-Some.ensures.0 _ _)
 
 pub extend-ask-requires : goal.extend-ask-requires
-extend-ask-requires g t c κs within = 
+extend-ask-requires g t c κs within =
     let h = got (tables c.read_tree.new.into) c.args.self.now.tokens.now.tokens c.in_ok-read_tree-in-Some-operand_level.field-0 _ c.in-Some-2.operand c.in-Some-2.next c.in_ok-read_tree-in-Some-operand_level.ensures.ok c.in-Some-2.is in
     let tied = tied_kept (g.R.TypeReader.types c.args.self.now.reader.now) (tables c.args.into.now) (tables c.read_tree.new.into) c.args.self.now.tokens.now.tokens c.requires.tied c.read_tree.ensures.keeps in
     let condition = is_kept (tables c.args.into.now) (tables c.read_tree.new.into) is_expression c.args.left c.read_tree.ensures.keeps c.requires.node in
