@@ -1,4 +1,4 @@
-use Rattle.std.proofs.Common.{◌≡◌, ◌∙◌, ◌+◌, ◌≤◌, ℕ, Option, Result, List, IfOk, sym, ap, drop, length, arith, refl, rules, subst}
+use Rattle.std.proofs.Common.{◌≡◌, ◌∙◌, ◌+◌, ◌≤◌, ℕ, Option, Result, List, IfOk, sym, ap, drop, length, arith, refl, subst}
 use Rattle.std.proofs.lemmas.Result.{IfOk-from_err}
 use Rattle.pv_token.specs.declared.token_table.Token.{Token}
 use Rattle.pv_tree.specs.declared.nodes.NodeId.{NodeId}
@@ -35,22 +35,8 @@ as_part p q e result u tokens reading h = subst (λ (x : Part). IfOk result (λ 
 pub read-returns-in-Specifier-clause-ok : goal.read-returns-in-Specifier-clause-ok
 read-returns-in-Specifier-clause-ok g t c = as_part c.args.part part.Specifier c.in-Specifier.is _ (tables c.specifier.new.into) c.args.self.now.tokens.now.tokens (λ place. readers (names_in c.args.self.now.typedefs.now (g.R.TypeReader.types c.args.self.now.reader.now) (tables c.args.into.now) c.args.self.now.tokens.now.tokens) c.args.depth place (drop c.args.at c.args.self.now.tokens.now.tokens)) c.specifier.ensures.ok
 
-pub read-specifier-requires : goal.read-specifier-requires
-read-specifier-requires g t c =
-    let tall : height c.args.part ≡ 4 = ap height c.in-Specifier.is in
-    let place = c.requires.place in
-    let tied = c.requires.tied in
-    search rules
-
 pub read-returns-in-Member-clause-ok : goal.read-returns-in-Member-clause-ok
 read-returns-in-Member-clause-ok g t c = as_part c.args.part part.Member c.in-Member.is _ (tables c.member.new.into) c.args.self.now.tokens.now.tokens (λ place. readers (names_in c.args.self.now.typedefs.now (g.R.TypeReader.types c.args.self.now.reader.now) (tables c.args.into.now) c.args.self.now.tokens.now.tokens) c.args.depth place (drop c.args.at c.args.self.now.tokens.now.tokens)) c.member.ensures.ok
-
-pub read-member-requires : goal.read-member-requires
-read-member-requires g t c =
-    let tall : height c.args.part ≡ 8 = ap height c.in-Member.is in
-    let place = c.requires.place in
-    let tied = c.requires.tied in
-    search rules
 
 pub read-returns-in-Enumerator-clause-ok : goal.read-returns-in-Enumerator-clause-ok
 read-returns-in-Enumerator-clause-ok g t c = as_part c.args.part part.Enumerator c.in-Enumerator.is _ (tables c.enumerator.new.into) c.args.self.now.tokens.now.tokens (λ place. readers (names_in c.args.self.now.typedefs.now (g.R.TypeReader.types c.args.self.now.reader.now) (tables c.args.into.now) c.args.self.now.tokens.now.tokens) c.args.depth place (drop c.args.at c.args.self.now.tokens.now.tokens)) c.enumerator.ensures.ok
@@ -58,22 +44,8 @@ read-returns-in-Enumerator-clause-ok g t c = as_part c.args.part part.Enumerator
 pub read-returns-in-Parameter-clause-ok : goal.read-returns-in-Parameter-clause-ok
 read-returns-in-Parameter-clause-ok g t c = as_part c.args.part part.Parameter c.in-Parameter.is _ (tables c.parameter.new.into) c.args.self.now.tokens.now.tokens (λ place. readers (names_in c.args.self.now.typedefs.now (g.R.TypeReader.types c.args.self.now.reader.now) (tables c.args.into.now) c.args.self.now.tokens.now.tokens) c.args.depth place (drop c.args.at c.args.self.now.tokens.now.tokens)) c.parameter.ensures.ok
 
-pub read-parameter-requires : goal.read-parameter-requires
-read-parameter-requires g t c =
-    let tall : height c.args.part ≡ 4 = ap height c.in-Parameter.is in
-    let place = c.requires.place in
-    let tied = c.requires.tied in
-    search rules
-
 pub read-returns-in-Declarator-clause-ok : goal.read-returns-in-Declarator-clause-ok
 read-returns-in-Declarator-clause-ok g t c = as_part c.args.part (part.Declarator c.in-Declarator.form) c.in-Declarator.is _ (tables c.declarator.new.into) c.args.self.now.tokens.now.tokens (λ place. readers (names_in c.args.self.now.typedefs.now (g.R.TypeReader.types c.args.self.now.reader.now) (tables c.args.into.now) c.args.self.now.tokens.now.tokens) c.args.depth place (drop c.args.at c.args.self.now.tokens.now.tokens)) c.declarator.ensures.ok
-
-pub read-declarator-requires : goal.read-declarator-requires
-read-declarator-requires g t c =
-    let tall : height c.args.part ≡ 4 = ap height c.in-Declarator.is in
-    let place = c.requires.place in
-    let tied = c.requires.tied in
-    search rules
 
 -- ---- parts in a row
 
@@ -190,12 +162,6 @@ braced-composite-requires-clause-members g t c = all_as (tables c.row.new.into) 
 pub member-returns-then-is_empty-clause-ok : goal.member-returns-then-is_empty-clause-ok
 member-returns-then-is_empty-clause-ok g t c = nothing _ _ _ _ (member_ends c.args.self.now.typedefs.now (g.R.TypeReader.types c.args.self.now.reader.now) (tables c.args.into.now) (tables c.row.new.into) c.args.self.now.tokens.now.tokens c.requires.tied.tied c.row.ensures.keeps c.args.depth c.args.at c.in_ok-specs.specs.items c.in_ok-specs.next c.in_ok-specs.ensures.ok (counted _ _ _ _ c.in_ok-specs.specs.ok.0 c.is_empty.ensures c.if-is_empty.true))
 
-pub member-listed-requires : goal.member-listed-requires
-member-listed-requires g t c =
-    let tied = given_kept (list_map c.args.self.now.lists.now) c.args.self.now.typedefs.now (g.R.TypeReader.types c.args.self.now.reader.now) (tables c.args.into.now) (tables c.row.new.into) c.args.self.now.tokens.now.tokens c.requires.tied c.row.ensures.keeps in
-    let place = c.in_ok-specs.ensures.ok.place in
-    search rules
-
 pub member-returns-clause-ok : goal.member-returns-clause-ok
 member-returns-clause-ok g t c = moved _ _ _ _ _ _ (member_goes c.args.self.now.typedefs.now (g.R.TypeReader.types c.args.self.now.reader.now) (tables c.args.into.now) (tables c.row.new.into) c.args.self.now.tokens.now.tokens c.requires.tied.tied c.row.ensures.keeps c.args.depth c.args.at c.in_ok-specs.specs.items c.in_ok-specs.next c.in_ok-specs.ensures.ok (counted _ _ _ _ c.in_ok-specs.specs.ok.0 c.is_empty.ensures c.if-is_empty.false) (tables c.listed.new.into) c.listed.ensures.keeps c.line_at-line.result c.line_at-line.ensures c.in_ok-declarators.declarators.items c.in_ok-declarators.end c.in_ok-declarators.ensures.ok c.deref.result.now c.deref-2.result.now c.deref.ensures.value c.deref-2.ensures.value) c.member_of.ensures.ok
 
@@ -210,12 +176,6 @@ parameter-returns-then-depth-eq0-clause-ok g t c = nothing _ _ _ _ (no_parameter
 
 pub parameter-returns-then-is_empty-clause-ok : goal.parameter-returns-then-is_empty-clause-ok
 parameter-returns-then-is_empty-clause-ok g t c = nothing _ _ _ _ (parameter_ends c.args.self.now.typedefs.now (g.R.TypeReader.types c.args.self.now.reader.now) (tables c.args.into.now) (tables c.row.new.into) c.args.self.now.tokens.now.tokens c.requires.tied.tied c.row.ensures.keeps c.args.depth c.args.at c.in_ok-specs.specs.items c.in_ok-specs.next (omega arith) c.in_ok-specs.ensures.ok (counted _ _ _ _ c.in_ok-specs.specs.ok.0 c.is_empty.ensures c.if-is_empty.true))
-
-pub parameter-read-requires : goal.parameter-read-requires
-parameter-read-requires g t c =
-    let tied = given_kept (list_map c.args.self.now.lists.now) c.args.self.now.typedefs.now (g.R.TypeReader.types c.args.self.now.reader.now) (tables c.args.into.now) (tables c.row.new.into) c.args.self.now.tokens.now.tokens c.requires.tied c.row.ensures.keeps in
-    let place = c.in_ok-specs.ensures.ok.place in
-    search rules
 
 pub parameter-returns-clause-ok : goal.parameter-returns-clause-ok
 parameter-returns-clause-ok g t c = moved _ _ _ _ _ _ (parameter_goes c.args.self.now.typedefs.now (g.R.TypeReader.types c.args.self.now.reader.now) (tables c.args.into.now) (tables c.row.new.into) c.args.self.now.tokens.now.tokens c.requires.tied.tied c.row.ensures.keeps c.args.depth c.args.at c.in_ok-specs.specs.items c.in_ok-specs.next (omega arith) c.in_ok-specs.ensures.ok (counted _ _ _ _ c.in_ok-specs.specs.ok.0 c.is_empty.ensures c.if-is_empty.false) (tables c.read.new.into) c.read.ensures.keeps c.line_at-line.result c.line_at-line.ensures c.in_ok-declarator.declarator c.in_ok-declarator.ensures.ok c.deref.result.now c.deref.ensures.value) c.parameter_of.ensures.ok
@@ -236,15 +196,6 @@ declarator-returns-in-None-clause-ok g t c = nothing _ _ _ _ (declarator_none c.
 
 pub declarator-returns-in-Some-clause-ok : goal.declarator-returns-in-Some-clause-ok
 declarator-returns-in-Some-clause-ok g t c = moved _ _ _ _ _ _ (declarator_some c.args.self.now.typedefs.now (g.R.TypeReader.types c.args.self.now.reader.now) (tables c.args.into.now) (tables c.head.new.into) c.args.self.now.tokens.now.tokens c.requires.tied.tied c.head.ensures.keeps c.args.depth c.args.at c.args.form (omega arith) c.in_ok-first.field-0 c.in_ok-first.ensures.ok c.in-Some.first c.in-Some.next c.line_at-line.result c.in-Some.is c.line_at-line.ensures) c.grow.ensures.ok
-
-pub declarator-grow-requires : goal.declarator-grow-requires
-declarator-grow-requires g t c =
-    let h = got (tables c.head.new.into) is_declarator c.args.self.now.tokens.now.tokens c.in_ok-first.field-0 _ c.in-Some.first c.in-Some.next c.in_ok-first.ensures.ok c.in-Some.is in
-    let tied = given_kept (list_map c.args.self.now.lists.now) c.args.self.now.typedefs.now (g.R.TypeReader.types c.args.self.now.reader.now) (tables c.args.into.now) (tables c.head.new.into) c.args.self.now.tokens.now.tokens c.requires.tied c.head.ensures.keeps in
-    let number = h.1.0 in
-    let kind = h.1.1 in
-    let place = h.2 in
-    search rules
 
 -- ---- growth
 
@@ -342,6 +293,122 @@ opened-returns-in_ok-inner-clause-ok g t c = moved _ _ _ _ _ _ (opened_within (n
 
 pub opened-parenthesized-requires : goal.opened-parenthesized-requires
 opened-parenthesized-requires g t c = c.in_ok-inner.ensures.ok.there
+
+-- ---- calls within the cycle: the measure falls, and what the call requires is there
+
+pub read-specifier-requires : goal.read-specifier-requires
+read-specifier-requires g t c = λ κs within. (omega (arith, c.decreases, ap height c.in-Specifier.is), (within, (c.requires.place, c.requires.tied)))
+
+pub read-member-requires : goal.read-member-requires
+read-member-requires g t c = λ κs within. (omega (arith, c.decreases, ap height c.in-Member.is), (within, (c.requires.place, c.requires.tied)))
+
+pub read-parameter-requires : goal.read-parameter-requires
+read-parameter-requires g t c = λ κs within. (omega (arith, c.decreases, ap height c.in-Parameter.is), (within, (c.requires.place, c.requires.tied)))
+
+pub read-declarator-requires : goal.read-declarator-requires
+read-declarator-requires g t c = λ κs within. (omega (arith, c.decreases, ap height c.in-Declarator.is), (within, (c.requires.place, c.requires.tied)))
+
+pub row-read-requires : goal.row-read-requires
+row-read-requires g t c = λ κs within. (omega (arith, c.decreases), (within, (c.loop-parts.invariant.place, c.loop-parts.invariant.tied)))
+
+pub listed-read-requires : goal.listed-read-requires
+listed-read-requires g t c = λ κs within. (omega (arith, c.decreases), (within, (c.loop-parts.invariant.place, c.loop-parts.invariant.tied)))
+
+pub listed-after-requires : goal.listed-after-requires
+listed-after-requires g t c = (got (tables c.read.new.into) (kind_of_part c.args.part) c.args.self.now.tokens.now.tokens c.in_ok-found.field-0 _ c.in-Some.found c.in-Some.end c.in_ok-found.ensures.ok c.in-Some.is).2
+
+pub specifier-overflow_add-at : goal.specifier-overflow_add-at
+specifier-overflow_add-at g t c = record { fits = c.in-Some.ensures.2 }
+
+pub specifier-overflow_add-at-2 : goal.specifier-overflow_add-at-2
+specifier-overflow_add-at-2 g t c = record { fits = c.in-Some.ensures.2 }
+
+pub specifier-plain-requires : goal.specifier-plain-requires
+specifier-plain-requires g t c = omega (arith, c.in-Some.ensures.1)
+
+pub specifier-braced-requires : goal.specifier-braced-requires
+specifier-braced-requires g t c = λ κs within. (omega (arith, c.decreases), (within, (c.tag_at-tag.ensures.place, c.requires.tied)))
+
+pub braced-overflow_sub-depth : goal.braced-overflow_sub-depth
+braced-overflow_sub-depth g t c = omega (arith, c.if-depth-eq0.false)
+
+pub braced-overflow_sub-depth-in-Composite : goal.braced-overflow_sub-depth-in-Composite
+braced-overflow_sub-depth-in-Composite g t c = omega (arith, c.if-depth-eq0.false)
+
+pub braced-listed-requires : goal.braced-listed-requires
+braced-listed-requires g t c = λ κs within. (omega (arith, c.decreases, c.if-depth-eq0.false), (within, (c.in-Some.ensures.1, c.requires.tied)))
+
+pub braced-row-requires : goal.braced-row-requires
+braced-row-requires g t c = λ κs within. (omega (arith, c.decreases, c.if-depth-eq0.false), (within, (c.in-Some.ensures.1, c.requires.tied)))
+
+pub member-row-requires : goal.member-row-requires
+member-row-requires g t c = λ κs within. (omega (arith, c.decreases), (within, (c.requires.place, c.requires.tied)))
+
+pub member-listed-requires : goal.member-listed-requires
+member-listed-requires g t c = λ κs within. (omega (arith, c.decreases), (within, (c.in_ok-specs.ensures.ok.place, (given_kept (list_map c.args.self.now.lists.now) c.args.self.now.typedefs.now (g.R.TypeReader.types c.args.self.now.reader.now) (tables c.args.into.now) (tables c.row.new.into) c.args.self.now.tokens.now.tokens c.requires.tied c.row.ensures.keeps))))
+
+pub parameter-overflow_sub-depth : goal.parameter-overflow_sub-depth
+parameter-overflow_sub-depth g t c = omega (arith, c.if-depth-eq0.false)
+
+pub parameter-overflow_sub-depth-2 : goal.parameter-overflow_sub-depth-2
+parameter-overflow_sub-depth-2 g t c = omega (arith, c.if-depth-eq0.false)
+
+pub parameter-row-requires : goal.parameter-row-requires
+parameter-row-requires g t c = λ κs within. (omega (arith, c.decreases, c.if-depth-eq0.false), (within, (c.requires.place, c.requires.tied)))
+
+pub parameter-read-requires : goal.parameter-read-requires
+parameter-read-requires g t c = λ κs within. (omega (arith, c.decreases, c.if-depth-eq0.false), (within, (c.in_ok-specs.ensures.ok.place, (given_kept (list_map c.args.self.now.lists.now) c.args.self.now.typedefs.now (g.R.TypeReader.types c.args.self.now.reader.now) (tables c.args.into.now) (tables c.row.new.into) c.args.self.now.tokens.now.tokens c.requires.tied c.row.ensures.keeps))))
+
+pub declarator-overflow_sub-depth : goal.declarator-overflow_sub-depth
+declarator-overflow_sub-depth g t c = omega (arith, c.if-depth-eq0.false)
+
+pub declarator-overflow_sub-depth-in-Some : goal.declarator-overflow_sub-depth-in-Some
+declarator-overflow_sub-depth-in-Some g t c = omega (arith, c.if-depth-eq0.false)
+
+pub declarator-head-requires : goal.declarator-head-requires
+declarator-head-requires g t c = λ κs within. (omega (arith, c.decreases, c.if-depth-eq0.false), (within, (c.requires.place, c.requires.tied)))
+
+pub declarator-grow-requires : goal.declarator-grow-requires
+declarator-grow-requires g t c = λ κs within. (omega (arith, c.decreases, c.if-depth-eq0.false), (within, ((got (tables c.head.new.into) is_declarator c.args.self.now.tokens.now.tokens c.in_ok-first.field-0 _ c.in-Some.first c.in-Some.next c.in_ok-first.ensures.ok c.in-Some.is).2, ((given_kept (list_map c.args.self.now.lists.now) c.args.self.now.typedefs.now (g.R.TypeReader.types c.args.self.now.reader.now) (tables c.args.into.now) (tables c.head.new.into) c.args.self.now.tokens.now.tokens c.requires.tied c.head.ensures.keeps), (got (tables c.head.new.into) is_declarator c.args.self.now.tokens.now.tokens c.in_ok-first.field-0 _ c.in-Some.first c.in-Some.next c.in_ok-first.ensures.ok c.in-Some.is).1))))
+
+pub grow-extend-requires : goal.grow-extend-requires
+grow-extend-requires g t c = λ κs within. (omega (arith, c.decreases), (within, (c.loop-longer.invariant.place, (c.loop-longer.invariant.tied, c.loop-longer.invariant.node))))
+
+pub extend-overflow_add-at : goal.extend-overflow_add-at
+extend-overflow_add-at g t c = record { fits = c.in-Some.ensures.2 }
+
+pub extend-overflow_add-at-in-Paren : goal.extend-overflow_add-at-in-Paren
+extend-overflow_add-at-in-Paren g t c = record { fits = c.in-Some.ensures.2 }
+
+pub extend-parameters-requires : goal.extend-parameters-requires
+extend-parameters-requires g t c = λ κs within. (omega (arith, c.decreases), (within, (omega (arith, c.in-Some.ensures.1), (c.requires.tied, c.requires.node))))
+
+pub parameters-known_parameters-requires-clause-list : goal.parameters-known_parameters-requires-clause-list
+parameters-known_parameters-requires-clause-list g t c = sym c.at.ensures ∙ c.in-Some.is
+
+pub parameters-known_parameters-requires-clause-shallow : goal.parameters-known_parameters-requires-clause-shallow
+parameters-known_parameters-requires-clause-shallow g t c = c.if-below-le-DEPTH_LIMIT.true
+
+pub parameters-listed-requires : goal.parameters-listed-requires
+parameters-listed-requires g t c = λ κs within. (omega (arith, c.decreases), (within, (c.requires.place, c.requires.tied)))
+
+pub head-overflow_add-next : goal.head-overflow_add-next
+head-overflow_add-next g t c = record { fits = c.in-Some.ensures.2 }
+
+pub head-pointer-requires : goal.head-pointer-requires
+head-pointer-requires g t c = λ κs within. (omega (arith, c.decreases), (within, (omega (arith, c.in-Some.ensures.1), c.requires.tied)))
+
+pub head-opened-requires : goal.head-opened-requires
+head-opened-requires g t c = λ κs within. (omega (arith, c.decreases), (within, (omega (arith, c.in-Some.ensures.1), c.requires.tied)))
+
+pub pointer-read-requires : goal.pointer-read-requires
+pointer-read-requires g t c = λ κs within. (omega (arith, c.decreases), (within, (c.consts_in_row-consts.ensures.place, c.requires.tied)))
+
+pub opened-parameters-requires : goal.opened-parameters-requires
+opened-parameters-requires g t c = λ κs within. (omega (arith, c.decreases), (within, (c.requires.place, (c.requires.tied, tt))))
+
+pub opened-read-requires : goal.opened-read-requires
+opened-read-requires g t c = λ κs within. (omega (arith, c.decreases), (within, (c.requires.place, c.requires.tied)))
 
 -- ---- what older nodes are kept, and where the parts are
 
