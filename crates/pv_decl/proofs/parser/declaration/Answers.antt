@@ -34,3 +34,24 @@ returns-clause-none g c =
 
 pub declaration-requires-clause-tied : goal.declaration-requires-clause-tied
 declaration-requires-clause-tied g c = given_tied (list_map c.new-lists.result) c.args.types.now (g.R.TypeReader.types c.args.reader.now) (tables c.args.into.now) c.args.t.now.tokens (no_lists c.new-lists.result c.new-lists.ensures.items) c.requires
+
+pub returns-then-at-len-clause-found : goal.returns-then-at-len-clause-found
+returns-then-at-len-clause-found g c = tt
+
+pub returns-then-at-len-clause-longest : goal.returns-then-at-len-clause-longest
+returns-then-at-len-clause-longest g c = tt
+
+pub returns-then-at-len-clause-only : goal.returns-then-at-len-clause-only
+returns-then-at-len-clause-only g c = tt
+
+pub returns-then-at-len-clause-none : goal.returns-then-at-len-clause-none
+returns-then-at-len-clause-none g c = λ _ d end from to spells. omega (arith, from, to, c.if-at-len.true, c.len.ensures)
+
+pub declaration-requires-clause-place : goal.declaration-requires-clause-place
+declaration-requires-clause-place g c = omega (arith, c.if-at-len.false, c.len.ensures)
+
+pub returns-clause-keeps : goal.returns-clause-keeps
+returns-clause-keeps g c = c.declaration.ensures.keeps
+
+pub returns-clause-reads : goal.returns-clause-reads
+returns-clause-reads g c = c.declaration.ensures.ok

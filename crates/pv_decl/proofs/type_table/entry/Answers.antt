@@ -19,3 +19,15 @@ pub returns-clause-ok : goal.returns-clause-ok
 returns-clause-ok c =
     let names = names_in c.args.types.now (type_map c.args.names.now) (tables c.args.into.now) c.args.t.now.tokens in
     moved _ _ _ _ _ _ (entry_so names c.args.t.now.tokens c.args.at (sym c.is_behind_open.ensures ∙ c.if-not-is_behind_open.false)) c.type_name.ensures.ok
+
+pub is_behind_open-requires : goal.is_behind_open-requires
+is_behind_open-requires c = c.requires.place
+
+pub type_name-requires-clause-place : goal.type_name-requires-clause-place
+type_name-requires-clause-place c = c.requires.place
+
+pub type_name-requires-clause-tied : goal.type_name-requires-clause-tied
+type_name-requires-clause-tied c = c.requires.tied
+
+pub returns-clause-keeps : goal.returns-clause-keeps
+returns-clause-keeps c = c.type_name.ensures.keeps

@@ -1,3 +1,4 @@
+use Rattle.std.proofs.lemmas.Result.{IfOk-from_err}
 use Rattle.pv_tree.proofs.Kept.{extends_same}
 use Rattle.pv_decl.proofs.Givens.{limited}
 use Rattle.pv_decl.proofs.type_table.list_entry.Goals as goal
@@ -7,3 +8,27 @@ returns-clause-ok c = limited _ _ _ _ _ c.in_ok-parameters.ensures.ok
 
 pub returns-then-not-is_behind_open-clause-keeps : goal.returns-then-not-is_behind_open-clause-keeps
 returns-then-not-is_behind_open-clause-keeps c = extends_same _
+
+pub is_behind_open-requires : goal.is_behind_open-requires
+is_behind_open-requires c = c.requires.place
+
+pub returns-then-not-is_behind_open-clause-ok : goal.returns-then-not-is_behind_open-clause-ok
+returns-then-not-is_behind_open-clause-ok c = tt
+
+pub parameters-requires-clause-place : goal.parameters-requires-clause-place
+parameters-requires-clause-place c = c.requires.place
+
+pub parameters-requires-clause-tied : goal.parameters-requires-clause-tied
+parameters-requires-clause-tied c = c.requires.tied
+
+pub parameters-requires-clause-left : goal.parameters-requires-clause-left
+parameters-requires-clause-left c = tt
+
+pub returns-in_err-parameters-clause-keeps : goal.returns-in_err-parameters-clause-keeps
+returns-in_err-parameters-clause-keeps c = c.parameters.ensures.keeps
+
+pub returns-in_err-parameters-clause-ok : goal.returns-in_err-parameters-clause-ok
+returns-in_err-parameters-clause-ok c = IfOk-from_err _ _ c.from_residual.ensures.0
+
+pub returns-clause-keeps : goal.returns-clause-keeps
+returns-clause-keeps c = c.parameters.ensures.keeps

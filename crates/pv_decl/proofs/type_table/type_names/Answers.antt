@@ -1,5 +1,6 @@
 use Rattle.std.proofs.Common.{ap, ◌∙◌, ◌<◌, ◌≤◌, ◌-◌, [], ◌∷◌, length, nat_eq, arith, refl, inl, inr}
 use Rattle.std.specs.Prelude.{min}
+use Rattle.std.proofs.lemmas.Result.{IfOk-from_err}
 use Rattle.std.proofs.lemmas.List.{length-append}
 use Rattle.indexmap.specs.IndexSet.{contains}
 use Rattle.pv_tree.specs.Rows.{tables}
@@ -121,3 +122,107 @@ returns-clause-outside c =
     let cut = cut_by c.loop-at.names.to c.args.to (length c.args.t.now.tokens) c.loop-at.invariant.cut in
     filled_outside (contains nat_eq c.args.types.now) (tables c.loop-at.into) c.args.t.now.tokens depth_limit c.loop-at.names.to c.loop-at.names.found.items c.loop-at.at c.args.from c.args.to
     c.loop-at.invariant.filled (omega (arith, c.loop-at-test.false)) c.loop-at.invariant.low cut.2 cut.0
+
+-- ---- nothing is promised of an error
+
+pub overflow_sub-at : goal.overflow_sub-at
+overflow_sub-at c = omega (arith, c.loop-at-test.true)
+
+pub loop-at-smaller : goal.loop-at-smaller
+loop-at-smaller c = omega (arith, c.loop-at-test.true)
+
+pub returns-in_err-found-clause-tied : goal.returns-in_err-found-clause-tied
+returns-in_err-found-clause-tied c = IfOk-from_err _ _ c.from_residual.ensures.0
+
+pub returns-in_err-found-clause-reads : goal.returns-in_err-found-clause-reads
+returns-in_err-found-clause-reads c = IfOk-from_err _ _ c.from_residual.ensures.0
+
+pub returns-in_err-found-clause-found : goal.returns-in_err-found-clause-found
+returns-in_err-found-clause-found c = IfOk-from_err _ _ c.from_residual.ensures.0
+
+pub returns-in_err-found-clause-longest : goal.returns-in_err-found-clause-longest
+returns-in_err-found-clause-longest c = IfOk-from_err _ _ c.from_residual.ensures.0
+
+pub returns-in_err-found-clause-only : goal.returns-in_err-found-clause-only
+returns-in_err-found-clause-only c = IfOk-from_err _ _ c.from_residual.ensures.0
+
+pub returns-in_err-found-clause-none : goal.returns-in_err-found-clause-none
+returns-in_err-found-clause-none c = IfOk-from_err _ _ c.from_residual.ensures.0
+
+pub returns-in_err-found-clause-elsewhere : goal.returns-in_err-found-clause-elsewhere
+returns-in_err-found-clause-elsewhere c = IfOk-from_err _ _ c.from_residual.ensures.0
+
+pub returns-in_err-found-clause-outside : goal.returns-in_err-found-clause-outside
+returns-in_err-found-clause-outside c = IfOk-from_err _ _ c.from_residual.ensures.0
+
+pub returns-in_err-push-clause-tied : goal.returns-in_err-push-clause-tied
+returns-in_err-push-clause-tied c = IfOk-from_err _ _ c.from_residual-in_err-push.ensures.0
+
+pub returns-in_err-push-clause-reads : goal.returns-in_err-push-clause-reads
+returns-in_err-push-clause-reads c = IfOk-from_err _ _ c.from_residual-in_err-push.ensures.0
+
+pub returns-in_err-push-clause-found : goal.returns-in_err-push-clause-found
+returns-in_err-push-clause-found c = IfOk-from_err _ _ c.from_residual-in_err-push.ensures.0
+
+pub returns-in_err-push-clause-longest : goal.returns-in_err-push-clause-longest
+returns-in_err-push-clause-longest c = IfOk-from_err _ _ c.from_residual-in_err-push.ensures.0
+
+pub returns-in_err-push-clause-only : goal.returns-in_err-push-clause-only
+returns-in_err-push-clause-only c = IfOk-from_err _ _ c.from_residual-in_err-push.ensures.0
+
+pub returns-in_err-push-clause-none : goal.returns-in_err-push-clause-none
+returns-in_err-push-clause-none c = IfOk-from_err _ _ c.from_residual-in_err-push.ensures.0
+
+pub returns-in_err-push-clause-elsewhere : goal.returns-in_err-push-clause-elsewhere
+returns-in_err-push-clause-elsewhere c = IfOk-from_err _ _ c.from_residual-in_err-push.ensures.0
+
+pub returns-in_err-push-clause-outside : goal.returns-in_err-push-clause-outside
+returns-in_err-push-clause-outside c = IfOk-from_err _ _ c.from_residual-in_err-push.ensures.0
+
+pub returns-in_err-list-clause-tied : goal.returns-in_err-list-clause-tied
+returns-in_err-list-clause-tied c = IfOk-from_err _ _ c.from_residual-in_err-list.ensures.0
+
+pub returns-in_err-list-clause-reads : goal.returns-in_err-list-clause-reads
+returns-in_err-list-clause-reads c = IfOk-from_err _ _ c.from_residual-in_err-list.ensures.0
+
+pub returns-in_err-list-clause-found : goal.returns-in_err-list-clause-found
+returns-in_err-list-clause-found c = IfOk-from_err _ _ c.from_residual-in_err-list.ensures.0
+
+pub returns-in_err-list-clause-longest : goal.returns-in_err-list-clause-longest
+returns-in_err-list-clause-longest c = IfOk-from_err _ _ c.from_residual-in_err-list.ensures.0
+
+pub returns-in_err-list-clause-only : goal.returns-in_err-list-clause-only
+returns-in_err-list-clause-only c = IfOk-from_err _ _ c.from_residual-in_err-list.ensures.0
+
+pub returns-in_err-list-clause-none : goal.returns-in_err-list-clause-none
+returns-in_err-list-clause-none c = IfOk-from_err _ _ c.from_residual-in_err-list.ensures.0
+
+pub returns-in_err-list-clause-elsewhere : goal.returns-in_err-list-clause-elsewhere
+returns-in_err-list-clause-elsewhere c = IfOk-from_err _ _ c.from_residual-in_err-list.ensures.0
+
+pub returns-in_err-list-clause-outside : goal.returns-in_err-list-clause-outside
+returns-in_err-list-clause-outside c = IfOk-from_err _ _ c.from_residual-in_err-list.ensures.0
+
+pub returns-in_err-push-2-clause-tied : goal.returns-in_err-push-2-clause-tied
+returns-in_err-push-2-clause-tied c = IfOk-from_err _ _ c.from_residual-in_err-push-2.ensures.0
+
+pub returns-in_err-push-2-clause-reads : goal.returns-in_err-push-2-clause-reads
+returns-in_err-push-2-clause-reads c = IfOk-from_err _ _ c.from_residual-in_err-push-2.ensures.0
+
+pub returns-in_err-push-2-clause-found : goal.returns-in_err-push-2-clause-found
+returns-in_err-push-2-clause-found c = IfOk-from_err _ _ c.from_residual-in_err-push-2.ensures.0
+
+pub returns-in_err-push-2-clause-longest : goal.returns-in_err-push-2-clause-longest
+returns-in_err-push-2-clause-longest c = IfOk-from_err _ _ c.from_residual-in_err-push-2.ensures.0
+
+pub returns-in_err-push-2-clause-only : goal.returns-in_err-push-2-clause-only
+returns-in_err-push-2-clause-only c = IfOk-from_err _ _ c.from_residual-in_err-push-2.ensures.0
+
+pub returns-in_err-push-2-clause-none : goal.returns-in_err-push-2-clause-none
+returns-in_err-push-2-clause-none c = IfOk-from_err _ _ c.from_residual-in_err-push-2.ensures.0
+
+pub returns-in_err-push-2-clause-elsewhere : goal.returns-in_err-push-2-clause-elsewhere
+returns-in_err-push-2-clause-elsewhere c = IfOk-from_err _ _ c.from_residual-in_err-push-2.ensures.0
+
+pub returns-in_err-push-2-clause-outside : goal.returns-in_err-push-2-clause-outside
+returns-in_err-push-2-clause-outside c = IfOk-from_err _ _ c.from_residual-in_err-push-2.ensures.0

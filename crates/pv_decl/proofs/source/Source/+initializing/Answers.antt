@@ -5,13 +5,13 @@ use Rattle.pv_tree.specs.declared.nodes.NodeId.{NodeId}
 use Rattle.pv_tree.specs.Rows.{tables}
 use Rattle.pv_tree.specs.Places.{Initializers}
 use Rattle.pv_tree.specs.Syntax.{Initial, Braces, Tree, Trees, OfInitializer}
-use Rattle.pv_tree.specs.Tables.{expression_at, trees_of, is_initializer}
+use Rattle.pv_tree.specs.Tables.{expression_at, trees_of, is_expression, is_initializer}
 use Rattle.pv_tree.proofs.Kept.{extends_same, extends_then}
 use Rattle.pv_expr_forms.specs.Known.{names_in}
 use Rattle.pv_decl_forms.specs.Pieces.{listed}
 use Rattle.pv_decl_forms.specs.Reader.{listed_in_braces, readers}
 use Rattle.pv_decl_forms.proofs.Growing.{all_as}
-use Rattle.pv_decl_forms.proofs.Answered.{moved, nothing}
+use Rattle.pv_decl_forms.proofs.Answered.{moved, nothing, got}
 use Rattle.pv_decl_forms.proofs.Initials.{initializer_zero, initializer_braced, initializer_some, initializer_none}
 use Rattle.pv_decl_forms.proofs.Loops.{parts_shorten, commas_shorten, at_start, no_parts, start_list, goes_forward, part_there, parts_there, list_ends, list_stops, list_goes, comma_forward}
 use Rattle.pv_decl.specs.Filled.{list_map}
@@ -137,3 +137,24 @@ initializers-returns-in_err-found-clause-ok g t c = IfOk-from_err _ _ c.from_res
 
 pub initializers-returns-in_err-push-clause-ok : goal.initializers-returns-in_err-push-clause-ok
 initializers-returns-in_err-push-clause-ok g t c = IfOk-from_err _ _ c.from_residual-in_err-push.ensures.0
+
+pub initializer-overflow_sub-depth : goal.initializer-overflow_sub-depth
+initializer-overflow_sub-depth g t c = omega (arith, c.if-depth-eq0.false)
+
+pub initializer-overflow_sub-depth-2 : goal.initializer-overflow_sub-depth-2
+initializer-overflow_sub-depth-2 g t c = omega (arith, c.if-depth-eq0.false)
+
+pub initializer-initializers-requires : goal.initializer-initializers-requires
+initializer-initializers-requires g t c = λ κs within. (omega (arith, c.decreases, c.if-depth-eq0.false), (within, (c.in-Some.ensures.1, c.requires.tied)))
+
+pub initializer-found_initializer-requires-clause-place : goal.initializer-found_initializer-requires-clause-place
+initializer-found_initializer-requires-clause-place g t c = (got (tables c.assigned.new.into) is_expression c.args.self.now.tokens.now.tokens c.in_ok-value.field-0 _ c.in-Some-2.value c.in-Some-2.end c.in_ok-value.ensures.ok c.in-Some-2.is).2
+
+pub initializer-found_initializer-requires-clause-children : goal.initializer-found_initializer-requires-clause-children
+initializer-found_initializer-requires-clause-children g t c = (got (tables c.assigned.new.into) is_expression c.args.self.now.tokens.now.tokens c.in_ok-value.field-0 _ c.in-Some-2.value c.in-Some-2.end c.in_ok-value.ensures.ok c.in-Some-2.is).1
+
+pub initializers-initializer-requires : goal.initializers-initializer-requires
+initializers-initializer-requires g t c = λ κs within. (omega (arith, c.decreases), (within, (c.loop-parts.invariant.place, c.loop-parts.invariant.tied)))
+
+pub initializers-after-requires : goal.initializers-after-requires
+initializers-after-requires g t c = (got (tables c.initializer.new.into) is_initializer c.args.self.now.tokens.now.tokens c.in_ok-found.field-0 _ c.in-Some.found c.in-Some.end c.in_ok-found.ensures.ok c.in-Some.is).2

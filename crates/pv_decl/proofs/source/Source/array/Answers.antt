@@ -1,11 +1,11 @@
 use Rattle.std.proofs.lemmas.Result.{IfOk-from_err}
-use Rattle.pv_tree.specs.Tables.{is_declarator}
+use Rattle.pv_tree.specs.Tables.{is_declarator, is_expression}
 use Rattle.pv_tree.specs.Rows.{tables}
 use Rattle.pv_tree.proofs.Kept.{extends_then}
 use Rattle.pv_expr_forms.specs.Known.{names_in}
 use Rattle.pv_decl_forms.specs.Reader.{readers}
 use Rattle.pv_decl_forms.proofs.Growing.{some_kept}
-use Rattle.pv_decl_forms.proofs.Answered.{moved}
+use Rattle.pv_decl_forms.proofs.Answered.{moved, got}
 use Rattle.pv_decl_forms.proofs.Constants.{array_some, array_none}
 use Rattle.pv_decl.proofs.source.Source.array.Goals as goal
 
@@ -44,3 +44,9 @@ returns-in-None-clause-keeps g c = extends_then _ _ _ c.constant.ensures.keeps c
 
 pub returns-in_err-size-clause-ok : goal.returns-in_err-size-clause-ok
 returns-in_err-size-clause-ok g c = IfOk-from_err _ _ c.from_residual.ensures.0
+
+pub array_of-requires-clause-place : goal.array_of-requires-clause-place
+array_of-requires-clause-place g c = (got (tables c.constant.new.into) is_expression c.args.self.now.tokens.now.tokens c.in_ok-size.field-0 _ c.in-Some.size c.in-Some.end c.in_ok-size.ensures.ok c.in-Some.is).2
+
+pub array_of-requires-clause-size : goal.array_of-requires-clause-size
+array_of-requires-clause-size g c = (got (tables c.constant.new.into) is_expression c.args.self.now.tokens.now.tokens c.in_ok-size.field-0 _ c.in-Some.size c.in-Some.end c.in_ok-size.ensures.ok c.in-Some.is).1

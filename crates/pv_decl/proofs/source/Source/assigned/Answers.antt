@@ -12,3 +12,6 @@ returns-clause-ok g c =
 
 pub expression-requires : goal.expression-requires
 expression-requires g c = c.requires.tied.tied
+
+pub returns-clause-keeps : goal.returns-clause-keeps
+returns-clause-keeps g c = c.expression.ensures.keeps

@@ -74,3 +74,9 @@ returns-clause-keeps g c = extends_then _ _ _ c.row.ensures.keeps c.specified.en
 
 pub returns-in_err-specs-clause-ok : goal.returns-in_err-specs-clause-ok
 returns-in_err-specs-clause-ok g c = IfOk-from_err _ _ c.from_residual.ensures.0
+
+pub overflow_sub-depth : goal.overflow_sub-depth
+overflow_sub-depth g c = omega (arith, c.if-depth-eq0.false)
+
+pub overflow_sub-depth-2 : goal.overflow_sub-depth-2
+overflow_sub-depth-2 g c = omega (arith, c.if-depth-eq0.false)

@@ -1,4 +1,4 @@
-use Rattle.std.proofs.Common.{◌∙◌, sym}
+use Rattle.std.proofs.Common.{◌∙◌, ◌≤◌, arith, sym}
 use Rattle.std.proofs.lemmas.Result.{IfOk-from_err}
 use Rattle.pv_tree.specs.Rows.{tables}
 use Rattle.pv_tree.proofs.Kept.{extends_same, extends_then}
@@ -46,3 +46,12 @@ returns-clause-keeps g c = extends_then _ _ _ c.constant_value.ensures.keeps c.f
 
 pub returns-in_err-value-clause-ok : goal.returns-in_err-value-clause-ok
 returns-in_err-value-clause-ok g c = IfOk-from_err _ _ c.from_residual.ensures.0
+
+pub overflow_add-at : goal.overflow_add-at
+overflow_add-at g c = record { fits = c.in-Some.ensures.2 }
+
+pub constant_value-requires-clause-place : goal.constant_value-requires-clause-place
+constant_value-requires-clause-place g c = omega (arith, c.in-Some.ensures.1)
+
+pub found_declaration-requires-clause-children : goal.found_declaration-requires-clause-children
+found_declaration-requires-clause-children g c = c.in_ok-value.ensures.ok.there

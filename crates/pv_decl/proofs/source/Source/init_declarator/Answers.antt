@@ -1,12 +1,12 @@
 use Rattle.std.proofs.Common.{ap, ◌∙◌, drop, Some, ℕ}
 use Rattle.std.proofs.lemmas.Result.{IfOk-from_err}
 use Rattle.pv_tree.specs.Rows.{tables}
-use Rattle.pv_tree.specs.Tables.{tree_at}
+use Rattle.pv_tree.specs.Tables.{tree_at, is_declarator}
 use Rattle.pv_tree.proofs.Kept.{extends_then}
 use Rattle.pv_expr_forms.specs.Known.{names_in}
 use Rattle.pv_decl_forms.specs.Pieces.{Piece}
 use Rattle.pv_decl_forms.specs.Reader.{initialized, readers}
-use Rattle.pv_decl_forms.proofs.Answered.{moved, nothing}
+use Rattle.pv_decl_forms.proofs.Answered.{moved, nothing, got}
 use Rattle.pv_decl_forms.proofs.Outer.{init_none, init_some, moved_at_start}
 use Rattle.pv_decl.specs.Filled.{list_map}
 use Rattle.pv_decl.proofs.Givens.{given_kept}
@@ -54,3 +54,9 @@ returns-in-None-clause-keeps g c = c.read.ensures.keeps
 
 pub returns-in_err-declarator-clause-ok : goal.returns-in_err-declarator-clause-ok
 returns-in_err-declarator-clause-ok g c = IfOk-from_err _ _ c.from_residual.ensures.0
+
+pub initialized-requires-clause-place : goal.initialized-requires-clause-place
+initialized-requires-clause-place g c = (got (tables c.read.new.into) is_declarator c.args.self.now.tokens.now.tokens c.in_ok-declarator.field-0 _ c.in-Some.declarator c.in-Some.end c.in_ok-declarator.ensures.ok c.in-Some.is).2
+
+pub initialized-requires-clause-declarator : goal.initialized-requires-clause-declarator
+initialized-requires-clause-declarator g c = (got (tables c.read.new.into) is_declarator c.args.self.now.tokens.now.tokens c.in_ok-declarator.field-0 _ c.in-Some.declarator c.in-Some.end c.in_ok-declarator.ensures.ok c.in-Some.is).1

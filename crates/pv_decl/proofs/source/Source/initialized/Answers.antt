@@ -1,7 +1,8 @@
 use Rattle.std.proofs.Common.{drop}
 use Rattle.std.proofs.lemmas.Result.{IfOk-from_err}
 use Rattle.pv_tree.specs.Rows.{tables}
-use Rattle.pv_tree.proofs.Kept.{extends_then}
+use Rattle.pv_tree.specs.Tables.{is_declarator}
+use Rattle.pv_tree.proofs.Kept.{extends_then, is_kept}
 use Rattle.pv_expr_forms.specs.Known.{names_in}
 use Rattle.pv_decl_forms.specs.Reader.{readers}
 use Rattle.pv_decl_forms.proofs.Answered.{moved}
@@ -31,3 +32,6 @@ returns-clause-keeps g c = extends_then _ _ _ c.initial_value.ensures.keeps c.fo
 
 pub returns-in_err-init-clause-ok : goal.returns-in_err-init-clause-ok
 returns-in_err-init-clause-ok g c = IfOk-from_err _ _ c.from_residual.ensures.0
+
+pub found_declaration-requires-clause-children : goal.found_declaration-requires-clause-children
+found_declaration-requires-clause-children g c = (is_kept (tables c.args.into.now) (tables c.initial_value.new.into) is_declarator c.args.declarator c.initial_value.ensures.keeps c.requires.declarator, c.in_ok-init.ensures.ok.there)

@@ -4,7 +4,7 @@ use Rattle.pv_tree.specs.declared.nodes.NodeId.{NodeId}
 use Rattle.pv_tree.specs.Places.{InitDeclarators}
 use Rattle.pv_tree.specs.Rows.{tables}
 use Rattle.pv_tree.specs.Syntax.{Declaration, NoTrees, Then}
-use Rattle.pv_tree.specs.Tables.{tree_at, trees_of, is_declaration, is_specifier}
+use Rattle.pv_tree.specs.Tables.{tree_at, trees_of, is_declaration, is_declarator, is_specifier}
 use Rattle.pv_tree.proofs.Kept.{extends_then}
 use Rattle.pv_expr_forms.specs.Known.{names_in}
 use Rattle.pv_decl_forms.specs.Pieces.{Piece, row, after_comma}
@@ -144,3 +144,24 @@ returns-in_err-first-clause-ok g c = IfOk-from_err _ _ c.from_residual-in_err-fi
 
 pub returns-in_err-declared-clause-ok : goal.returns-in_err-declared-clause-ok
 returns-in_err-declared-clause-ok g c = IfOk-from_err _ _ c.from_residual-in_err-declared.ensures.0
+
+pub opens_block-requires : goal.opens_block-requires
+opens_block-requires g c = (got (tables c.read.new.into) is_declarator c.args.self.now.tokens.now.tokens c.in_ok-declarator.field-0 _ c.in-Some.declarator c.in-Some.end c.in_ok-declarator.ensures.ok c.in-Some.is).2
+
+pub parameter_of-requires-clause-declarator : goal.parameter_of-requires-clause-declarator
+parameter_of-requires-clause-declarator g c = ((got (tables c.read.new.into) is_declarator c.args.self.now.tokens.now.tokens c.in_ok-declarator.field-0 _ c.in-Some.declarator c.in-Some.end c.in_ok-declarator.ensures.ok c.in-Some.is).1, (got (tables c.read.new.into) is_declarator c.args.self.now.tokens.now.tokens c.in_ok-declarator.field-0 _ c.in-Some.declarator c.in-Some.end c.in_ok-declarator.ensures.ok c.in-Some.is).2)
+
+pub line_at-here-requires : goal.line_at-here-requires
+line_at-here-requires g c = c.requires.place
+
+pub initialized-requires-clause-place : goal.initialized-requires-clause-place
+initialized-requires-clause-place g c = (got (tables c.read.new.into) is_declarator c.args.self.now.tokens.now.tokens c.in_ok-declarator.field-0 _ c.in-Some.declarator c.in-Some.end c.in_ok-declarator.ensures.ok c.in-Some.is).2
+
+pub initialized-requires-clause-declarator : goal.initialized-requires-clause-declarator
+initialized-requires-clause-declarator g c = (got (tables c.read.new.into) is_declarator c.args.self.now.tokens.now.tokens c.in_ok-declarator.field-0 _ c.in-Some.declarator c.in-Some.end c.in_ok-declarator.ensures.ok c.in-Some.is).1
+
+pub declared-requires-clause-place : goal.declared-requires-clause-place
+declared-requires-clause-place g c = (got (tables c.initialized.new.into) is_declaration c.args.self.now.tokens.now.tokens c.in_ok-first.field-0 _ c.in-Some-2.first c.in-Some-2.behind c.in_ok-first.ensures.ok c.in-Some-2.is).2
+
+pub declared-requires-clause-first : goal.declared-requires-clause-first
+declared-requires-clause-first g c = (got (tables c.initialized.new.into) is_declaration c.args.self.now.tokens.now.tokens c.in_ok-first.field-0 _ c.in-Some-2.first c.in-Some-2.behind c.in_ok-first.ensures.ok c.in-Some-2.is).1
