@@ -2,3 +2,4 @@ pub mod Filling
 pub mod Tabled
 pub mod Givens
 pub mod Held
+pub mod Looping

@@ -1,4 +1,4 @@
-use Rattle.std.proofs.Common.{◌∙◌, ◌≤◌, ap, drop, length, arith, ℕ, List, Some}
+use Rattle.std.proofs.Common.{◌∙◌, ap, drop, arith, ℕ, List, Some}
 use Rattle.std.proofs.lemmas.Result.{IfOk-from_err}
 use Rattle.pv_token.specs.declared.token_table.Token.{Token}
 use Rattle.pv_tree.specs.declared.nodes.NodeId.{NodeId}
@@ -13,9 +13,9 @@ use Rattle.pv_decl_forms.specs.Reader.{listed_in_braces, readers}
 use Rattle.pv_decl_forms.proofs.Growing.{all_as}
 use Rattle.pv_decl_forms.proofs.Answered.{moved, nothing, got}
 use Rattle.pv_decl_forms.proofs.Initials.{initializer_zero, initializer_braced, initializer_some, initializer_none}
-use Rattle.pv_decl_forms.proofs.Loops.{parts_shorten, commas_shorten, at_start, no_parts, start_list, goes_forward, part_there, parts_there, list_ends, list_stops, list_goes, comma_forward}
+use Rattle.pv_decl_forms.proofs.Loops.{no_parts, start_list}
 use Rattle.pv_decl.specs.Filled.{list_map}
-use Rattle.pv_decl.proofs.Givens.{given_kept}
+use Rattle.pv_decl.proofs.Looping.{past_comma, list_done, list_stop, list_turn}
 use Rattle.pv_decl.proofs.source.Source.+initializing.Goals as goal
 
 pub initializer-returns-then-depth-eq0-clause-ok : goal.initializer-returns-then-depth-eq0-clause-ok
@@ -53,30 +53,16 @@ initializers-loop-parts-init g t c = record {
 }
 
 pub initializers-returns-in_default-clause-ok : goal.initializers-returns-in_default-clause-ok
-initializers-returns-in_default-clause-ok g t c = list_ends is_initializer (tables c.loop-parts.into) (tables c.initializer.new.into) c.initializer.ensures.keeps c.args.self.now.tokens.now.tokens (readers (names_in c.args.self.now.typedefs.now (g.R.TypeReader.types c.args.self.now.reader.now) (tables c.args.into.now) c.args.self.now.tokens.now.tokens) c.args.depth Initializers) c.loop-parts.parts.items c.loop-parts.invariant.nodes c.loop-parts.next c.loop-parts.invariant.place c.in_ok-found.field-0 (at_start c.args.self.now.typedefs.now (g.R.TypeReader.types c.args.self.now.reader.now) (tables c.args.into.now) (tables c.loop-parts.into) (tables c.initializer.new.into) c.args.self.now.tokens.now.tokens c.requires.tied.tied c.loop-parts.invariant.keeps is_initializer c.in_ok-found.field-0 (λ n. readers n c.args.depth Initializers (drop c.loop-parts.next c.args.self.now.tokens.now.tokens)) c.in_ok-found.ensures.ok) (commas_shorten c.args.self.now.typedefs.now (g.R.TypeReader.types c.args.self.now.reader.now) (tables c.args.into.now) c.args.self.now.tokens.now.tokens c.requires.tied.tied c.args.depth Initializers) c.loop-parts.behind c.loop-parts.invariant.where_behind (listed (readers (names_in c.args.self.now.typedefs.now (g.R.TypeReader.types c.args.self.now.reader.now) (tables c.args.into.now) c.args.self.now.tokens.now.tokens) c.args.depth Initializers) (drop c.args.at c.args.self.now.tokens.now.tokens)) c.loop-parts.invariant.same c.in_default.is
+initializers-returns-in_default-clause-ok g t c = list_done (list_map c.args.self.now.lists.now) c.args.self.now.typedefs.now (g.R.TypeReader.types c.args.self.now.reader.now) (tables c.args.into.now) (tables c.loop-parts.into) (tables c.initializer.new.into) c.args.self.now.tokens.now.tokens c.requires.tied c.loop-parts.invariant.keeps c.initializer.ensures.keeps is_initializer c.args.depth Initializers c.loop-parts.parts.items c.loop-parts.invariant.nodes c.loop-parts.next c.loop-parts.invariant.place c.in_ok-found.field-0 c.in_ok-found.ensures.ok c.loop-parts.behind c.loop-parts.invariant.where_behind (listed (readers (names_in c.args.self.now.typedefs.now (g.R.TypeReader.types c.args.self.now.reader.now) (tables c.args.into.now) c.args.self.now.tokens.now.tokens) c.args.depth Initializers) (drop c.args.at c.args.self.now.tokens.now.tokens)) c.loop-parts.invariant.same c.in_default.is
 
 pub initializers-loop-parts-smaller : goal.initializers-loop-parts-smaller
-initializers-loop-parts-smaller g t c =
-    let far = goes_forward is_initializer (tables c.loop-parts.into) (tables c.initializer.new.into) c.initializer.ensures.keeps c.args.self.now.tokens.now.tokens (readers (names_in c.args.self.now.typedefs.now (g.R.TypeReader.types c.args.self.now.reader.now) (tables c.args.into.now) c.args.self.now.tokens.now.tokens) c.args.depth Initializers) c.loop-parts.parts.items c.loop-parts.invariant.nodes c.loop-parts.next c.loop-parts.invariant.place c.in_ok-found.field-0 (at_start c.args.self.now.typedefs.now (g.R.TypeReader.types c.args.self.now.reader.now) (tables c.args.into.now) (tables c.loop-parts.into) (tables c.initializer.new.into) c.args.self.now.tokens.now.tokens c.requires.tied.tied c.loop-parts.invariant.keeps is_initializer c.in_ok-found.field-0 (λ n. readers n c.args.depth Initializers (drop c.loop-parts.next c.args.self.now.tokens.now.tokens)) c.in_ok-found.ensures.ok) (parts_shorten c.args.self.now.typedefs.now (g.R.TypeReader.types c.args.self.now.reader.now) (tables c.args.into.now) c.args.self.now.tokens.now.tokens c.requires.tied.tied c.args.depth Initializers) c.in-Some.found c.in-Some.end c.in-Some.is in
-    let there = part_there is_initializer (tables c.loop-parts.into) (tables c.initializer.new.into) c.initializer.ensures.keeps c.args.self.now.tokens.now.tokens (readers (names_in c.args.self.now.typedefs.now (g.R.TypeReader.types c.args.self.now.reader.now) (tables c.args.into.now) c.args.self.now.tokens.now.tokens) c.args.depth Initializers) c.loop-parts.parts.items c.loop-parts.invariant.nodes c.loop-parts.next c.loop-parts.invariant.place c.in_ok-found.field-0 (at_start c.args.self.now.typedefs.now (g.R.TypeReader.types c.args.self.now.reader.now) (tables c.args.into.now) (tables c.loop-parts.into) (tables c.initializer.new.into) c.args.self.now.tokens.now.tokens c.requires.tied.tied c.loop-parts.invariant.keeps is_initializer c.in_ok-found.field-0 (λ n. readers n c.args.depth Initializers (drop c.loop-parts.next c.args.self.now.tokens.now.tokens)) c.in_ok-found.ensures.ok) c.in-Some.found c.in-Some.end c.in-Some.is in
-    let end : c.in-Some.end ≤ length c.args.self.now.tokens.now.tokens = there.1 in
-    let more = comma_forward c.args.self.now.tokens.now.tokens c.in-Some.end c.in-Some-after.following end c.in-Some-after.ensures.1 c.in-Some-after.ensures.0 in
-    omega (arith, far, end, more, c.in-Some-after.ensures.1)
+initializers-loop-parts-smaller g t c = omega (arith, past_comma (list_map c.args.self.now.lists.now) c.args.self.now.typedefs.now (g.R.TypeReader.types c.args.self.now.reader.now) (tables c.args.into.now) (tables c.loop-parts.into) (tables c.initializer.new.into) c.args.self.now.tokens.now.tokens c.requires.tied c.loop-parts.invariant.keeps c.initializer.ensures.keeps is_initializer c.args.depth Initializers c.loop-parts.parts.items c.loop-parts.invariant.nodes c.loop-parts.next c.loop-parts.invariant.place c.in_ok-found.field-0 c.in_ok-found.ensures.ok c.in-Some.found c.in-Some.end c.in-Some.is c.in-Some-after.following c.in-Some-after.ensures.1 c.in-Some-after.ensures.0, c.in-Some-after.ensures.1)
 
 pub initializers-loop-parts-preserved : goal.initializers-loop-parts-preserved
-initializers-loop-parts-preserved g t c =
-    let keeps = extends_then (tables c.args.into.now) (tables c.loop-parts.into) (tables c.initializer.new.into) c.loop-parts.invariant.keeps c.initializer.ensures.keeps in
-    record {
-      nodes = parts_there is_initializer (tables c.loop-parts.into) (tables c.initializer.new.into) c.initializer.ensures.keeps c.args.self.now.tokens.now.tokens (readers (names_in c.args.self.now.typedefs.now (g.R.TypeReader.types c.args.self.now.reader.now) (tables c.args.into.now) c.args.self.now.tokens.now.tokens) c.args.depth Initializers) c.loop-parts.parts.items c.loop-parts.invariant.nodes c.loop-parts.next c.loop-parts.invariant.place c.in_ok-found.field-0 (at_start c.args.self.now.typedefs.now (g.R.TypeReader.types c.args.self.now.reader.now) (tables c.args.into.now) (tables c.loop-parts.into) (tables c.initializer.new.into) c.args.self.now.tokens.now.tokens c.requires.tied.tied c.loop-parts.invariant.keeps is_initializer c.in_ok-found.field-0 (λ n. readers n c.args.depth Initializers (drop c.loop-parts.next c.args.self.now.tokens.now.tokens)) c.in_ok-found.ensures.ok) c.in-Some.found c.in-Some.end c.in-Some.is c.push.new.self.items c.in_ok-push.ensures.items;
-      place = c.in-Some-after.ensures.1;
-      where_behind = (part_there is_initializer (tables c.loop-parts.into) (tables c.initializer.new.into) c.initializer.ensures.keeps c.args.self.now.tokens.now.tokens (readers (names_in c.args.self.now.typedefs.now (g.R.TypeReader.types c.args.self.now.reader.now) (tables c.args.into.now) c.args.self.now.tokens.now.tokens) c.args.depth Initializers) c.loop-parts.parts.items c.loop-parts.invariant.nodes c.loop-parts.next c.loop-parts.invariant.place c.in_ok-found.field-0 (at_start c.args.self.now.typedefs.now (g.R.TypeReader.types c.args.self.now.reader.now) (tables c.args.into.now) (tables c.loop-parts.into) (tables c.initializer.new.into) c.args.self.now.tokens.now.tokens c.requires.tied.tied c.loop-parts.invariant.keeps is_initializer c.in_ok-found.field-0 (λ n. readers n c.args.depth Initializers (drop c.loop-parts.next c.args.self.now.tokens.now.tokens)) c.in_ok-found.ensures.ok) c.in-Some.found c.in-Some.end c.in-Some.is).1;
-      keeps = keeps;
-      tied = given_kept (list_map c.args.self.now.lists.now) c.args.self.now.typedefs.now (g.R.TypeReader.types c.args.self.now.reader.now) (tables c.args.into.now) (tables c.initializer.new.into) c.args.self.now.tokens.now.tokens c.requires.tied keeps;
-      same = list_goes is_initializer (tables c.loop-parts.into) (tables c.initializer.new.into) c.initializer.ensures.keeps c.args.self.now.tokens.now.tokens (readers (names_in c.args.self.now.typedefs.now (g.R.TypeReader.types c.args.self.now.reader.now) (tables c.args.into.now) c.args.self.now.tokens.now.tokens) c.args.depth Initializers) c.loop-parts.parts.items c.loop-parts.invariant.nodes c.loop-parts.next c.loop-parts.invariant.place c.in_ok-found.field-0 (at_start c.args.self.now.typedefs.now (g.R.TypeReader.types c.args.self.now.reader.now) (tables c.args.into.now) (tables c.loop-parts.into) (tables c.initializer.new.into) c.args.self.now.tokens.now.tokens c.requires.tied.tied c.loop-parts.invariant.keeps is_initializer c.in_ok-found.field-0 (λ n. readers n c.args.depth Initializers (drop c.loop-parts.next c.args.self.now.tokens.now.tokens)) c.in_ok-found.ensures.ok) (commas_shorten c.args.self.now.typedefs.now (g.R.TypeReader.types c.args.self.now.reader.now) (tables c.args.into.now) c.args.self.now.tokens.now.tokens c.requires.tied.tied c.args.depth Initializers) c.loop-parts.behind c.loop-parts.invariant.where_behind (listed (readers (names_in c.args.self.now.typedefs.now (g.R.TypeReader.types c.args.self.now.reader.now) (tables c.args.into.now) c.args.self.now.tokens.now.tokens) c.args.depth Initializers) (drop c.args.at c.args.self.now.tokens.now.tokens)) c.loop-parts.invariant.same c.in-Some.found c.in-Some.end c.in-Some.is c.push.new.self.items c.in_ok-push.ensures.items c.in-Some-after.following c.in-Some-after.ensures.0;
-    }
+initializers-loop-parts-preserved g t c = list_turn (list_map c.args.self.now.lists.now) c.args.self.now.typedefs.now (g.R.TypeReader.types c.args.self.now.reader.now) (tables c.args.into.now) (tables c.loop-parts.into) (tables c.initializer.new.into) c.args.self.now.tokens.now.tokens c.requires.tied c.loop-parts.invariant.keeps c.initializer.ensures.keeps is_initializer c.args.depth Initializers c.loop-parts.parts.items c.loop-parts.invariant.nodes c.loop-parts.next c.loop-parts.invariant.place c.in_ok-found.field-0 c.in_ok-found.ensures.ok c.loop-parts.behind c.loop-parts.invariant.where_behind (listed (readers (names_in c.args.self.now.typedefs.now (g.R.TypeReader.types c.args.self.now.reader.now) (tables c.args.into.now) c.args.self.now.tokens.now.tokens) c.args.depth Initializers) (drop c.args.at c.args.self.now.tokens.now.tokens)) c.loop-parts.invariant.same c.in-Some.found c.in-Some.end c.in-Some.is c.push.new.self.items c.in_ok-push.ensures.items c.in-Some-after.following c.in-Some-after.ensures.0 c.in-Some-after.ensures.1
 
 pub initializers-returns-in-None-clause-ok : goal.initializers-returns-in-None-clause-ok
-initializers-returns-in-None-clause-ok g t c = list_stops is_initializer (tables c.loop-parts.into) (tables c.initializer.new.into) c.initializer.ensures.keeps c.args.self.now.tokens.now.tokens (readers (names_in c.args.self.now.typedefs.now (g.R.TypeReader.types c.args.self.now.reader.now) (tables c.args.into.now) c.args.self.now.tokens.now.tokens) c.args.depth Initializers) c.loop-parts.parts.items c.loop-parts.invariant.nodes c.loop-parts.next c.loop-parts.invariant.place c.in_ok-found.field-0 (at_start c.args.self.now.typedefs.now (g.R.TypeReader.types c.args.self.now.reader.now) (tables c.args.into.now) (tables c.loop-parts.into) (tables c.initializer.new.into) c.args.self.now.tokens.now.tokens c.requires.tied.tied c.loop-parts.invariant.keeps is_initializer c.in_ok-found.field-0 (λ n. readers n c.args.depth Initializers (drop c.loop-parts.next c.args.self.now.tokens.now.tokens)) c.in_ok-found.ensures.ok) (commas_shorten c.args.self.now.typedefs.now (g.R.TypeReader.types c.args.self.now.reader.now) (tables c.args.into.now) c.args.self.now.tokens.now.tokens c.requires.tied.tied c.args.depth Initializers) c.loop-parts.behind c.loop-parts.invariant.where_behind (listed (readers (names_in c.args.self.now.typedefs.now (g.R.TypeReader.types c.args.self.now.reader.now) (tables c.args.into.now) c.args.self.now.tokens.now.tokens) c.args.depth Initializers) (drop c.args.at c.args.self.now.tokens.now.tokens)) c.loop-parts.invariant.same c.in-Some.found c.in-Some.end c.in-Some.is c.push.new.self.items c.in_ok-push.ensures.items c.in-None.ensures
+initializers-returns-in-None-clause-ok g t c = list_stop (list_map c.args.self.now.lists.now) c.args.self.now.typedefs.now (g.R.TypeReader.types c.args.self.now.reader.now) (tables c.args.into.now) (tables c.loop-parts.into) (tables c.initializer.new.into) c.args.self.now.tokens.now.tokens c.requires.tied c.loop-parts.invariant.keeps c.initializer.ensures.keeps is_initializer c.args.depth Initializers c.loop-parts.parts.items c.loop-parts.invariant.nodes c.loop-parts.next c.loop-parts.invariant.place c.in_ok-found.field-0 c.in_ok-found.ensures.ok c.loop-parts.behind c.loop-parts.invariant.where_behind (listed (readers (names_in c.args.self.now.typedefs.now (g.R.TypeReader.types c.args.self.now.reader.now) (tables c.args.into.now) c.args.self.now.tokens.now.tokens) c.args.depth Initializers) (drop c.args.at c.args.self.now.tokens.now.tokens)) c.loop-parts.invariant.same c.in-Some.found c.in-Some.end c.in-Some.is c.push.new.self.items c.in_ok-push.ensures.items c.in-None.ensures
 
 pub initializer-returns-then-depth-eq0-clause-keeps : goal.initializer-returns-then-depth-eq0-clause-keeps
 initializer-returns-then-depth-eq0-clause-keeps g t c = extends_same _

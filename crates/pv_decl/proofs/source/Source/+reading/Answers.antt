@@ -18,11 +18,12 @@ use Rattle.pv_decl_forms.specs.Reader.{listed_in_braces, row_in_braces, readers}
 use Rattle.pv_decl_forms.proofs.Answered.{moved, nothing, got}
 use Rattle.pv_decl_forms.proofs.Bracing.{specifier_end, specifier_plain, specifier_tagged, tagged_braced, tagged_alone, no_brace, no_depth, enumerators_in, members_in}
 use Rattle.pv_decl_forms.proofs.Growing.{head_end, head_other, head_named, head_star, head_paren, head_bracket, named_in, pointer_is, opened_function, opened_not, opened_within, longer_not, longer_end, longer_none, longer_other, longer_bracket, longer_paren, some_kept, all_as, parametrized_is, grew, grew_out, no_declarators, declarator_none, declarator_some}
-use Rattle.pv_decl_forms.proofs.Loops.{parts_shorten, commas_shorten, at_start, no_parts, start_row, start_list, goes_forward, part_there, parts_there, row_ends, row_goes, list_ends, list_stops, list_goes, comma_forward, all_kept}
+use Rattle.pv_decl_forms.proofs.Loops.{at_start, no_parts, start_row, start_list, all_kept}
 use Rattle.pv_decl_forms.proofs.Members.{counted, no_parameters, member_ends, member_goes, parameter_ends, parameter_goes}
 use Rattle.pv_decl_forms.proofs.Steps.{longer_goes, grown_next}
 use Rattle.pv_decl.specs.Filled.{list_map}
 use Rattle.pv_decl.proofs.Givens.{given_kept}
+use Rattle.pv_decl.proofs.Looping.{forward, past_comma, row_done, row_turn, list_done, list_stop, list_turn}
 use Rattle.pv_decl.proofs.source.Source.+reading.Invariants.{height}
 use Rattle.pv_decl.proofs.source.Source.+reading.Goals as goal
 
@@ -59,25 +60,15 @@ row-loop-parts-init g t c = record {
 }
 
 pub row-returns-in_default-clause-ok : goal.row-returns-in_default-clause-ok
-row-returns-in_default-clause-ok g t c = row_ends (kind_of_part c.args.part) (tables c.loop-parts.into) (tables c.read.new.into) c.read.ensures.keeps c.args.self.now.tokens.now.tokens (readers (names_in c.args.self.now.typedefs.now (g.R.TypeReader.types c.args.self.now.reader.now) (tables c.args.into.now) c.args.self.now.tokens.now.tokens) c.args.depth (place_of_part c.args.part)) c.loop-parts.parts.items c.loop-parts.invariant.nodes c.loop-parts.next c.loop-parts.invariant.place c.in_ok-found.field-0 (at_start c.args.self.now.typedefs.now (g.R.TypeReader.types c.args.self.now.reader.now) (tables c.args.into.now) (tables c.loop-parts.into) (tables c.read.new.into) c.args.self.now.tokens.now.tokens c.requires.tied.tied c.loop-parts.invariant.keeps (kind_of_part c.args.part) c.in_ok-found.field-0 (λ n. readers n c.args.depth (place_of_part c.args.part) (drop c.loop-parts.next c.args.self.now.tokens.now.tokens)) c.in_ok-found.ensures.ok) (parts_shorten c.args.self.now.typedefs.now (g.R.TypeReader.types c.args.self.now.reader.now) (tables c.args.into.now) c.args.self.now.tokens.now.tokens c.requires.tied.tied c.args.depth (place_of_part c.args.part)) (row (readers (names_in c.args.self.now.typedefs.now (g.R.TypeReader.types c.args.self.now.reader.now) (tables c.args.into.now) c.args.self.now.tokens.now.tokens) c.args.depth (place_of_part c.args.part)) NoTrees (drop c.args.at c.args.self.now.tokens.now.tokens)) c.loop-parts.invariant.same c.in_default.is
+row-returns-in_default-clause-ok g t c = row_done (list_map c.args.self.now.lists.now) c.args.self.now.typedefs.now (g.R.TypeReader.types c.args.self.now.reader.now) (tables c.args.into.now) (tables c.loop-parts.into) (tables c.read.new.into) c.args.self.now.tokens.now.tokens c.requires.tied c.loop-parts.invariant.keeps c.read.ensures.keeps (kind_of_part c.args.part) c.args.depth (place_of_part c.args.part) c.loop-parts.parts.items c.loop-parts.invariant.nodes c.loop-parts.next c.loop-parts.invariant.place c.in_ok-found.field-0 c.in_ok-found.ensures.ok (row (readers (names_in c.args.self.now.typedefs.now (g.R.TypeReader.types c.args.self.now.reader.now) (tables c.args.into.now) c.args.self.now.tokens.now.tokens) c.args.depth (place_of_part c.args.part)) NoTrees (drop c.args.at c.args.self.now.tokens.now.tokens)) c.loop-parts.invariant.same c.in_default.is
 
 pub row-loop-parts-smaller : goal.row-loop-parts-smaller
 row-loop-parts-smaller g t c =
-    let far = goes_forward (kind_of_part c.args.part) (tables c.loop-parts.into) (tables c.read.new.into) c.read.ensures.keeps c.args.self.now.tokens.now.tokens (readers (names_in c.args.self.now.typedefs.now (g.R.TypeReader.types c.args.self.now.reader.now) (tables c.args.into.now) c.args.self.now.tokens.now.tokens) c.args.depth (place_of_part c.args.part)) c.loop-parts.parts.items c.loop-parts.invariant.nodes c.loop-parts.next c.loop-parts.invariant.place c.in_ok-found.field-0 (at_start c.args.self.now.typedefs.now (g.R.TypeReader.types c.args.self.now.reader.now) (tables c.args.into.now) (tables c.loop-parts.into) (tables c.read.new.into) c.args.self.now.tokens.now.tokens c.requires.tied.tied c.loop-parts.invariant.keeps (kind_of_part c.args.part) c.in_ok-found.field-0 (λ n. readers n c.args.depth (place_of_part c.args.part) (drop c.loop-parts.next c.args.self.now.tokens.now.tokens)) c.in_ok-found.ensures.ok) (parts_shorten c.args.self.now.typedefs.now (g.R.TypeReader.types c.args.self.now.reader.now) (tables c.args.into.now) c.args.self.now.tokens.now.tokens c.requires.tied.tied c.args.depth (place_of_part c.args.part)) c.in-Some.found c.in-Some.end c.in-Some.is in
-    let there = part_there (kind_of_part c.args.part) (tables c.loop-parts.into) (tables c.read.new.into) c.read.ensures.keeps c.args.self.now.tokens.now.tokens (readers (names_in c.args.self.now.typedefs.now (g.R.TypeReader.types c.args.self.now.reader.now) (tables c.args.into.now) c.args.self.now.tokens.now.tokens) c.args.depth (place_of_part c.args.part)) c.loop-parts.parts.items c.loop-parts.invariant.nodes c.loop-parts.next c.loop-parts.invariant.place c.in_ok-found.field-0 (at_start c.args.self.now.typedefs.now (g.R.TypeReader.types c.args.self.now.reader.now) (tables c.args.into.now) (tables c.loop-parts.into) (tables c.read.new.into) c.args.self.now.tokens.now.tokens c.requires.tied.tied c.loop-parts.invariant.keeps (kind_of_part c.args.part) c.in_ok-found.field-0 (λ n. readers n c.args.depth (place_of_part c.args.part) (drop c.loop-parts.next c.args.self.now.tokens.now.tokens)) c.in_ok-found.ensures.ok) c.in-Some.found c.in-Some.end c.in-Some.is in
-    let end : c.in-Some.end ≤ length c.args.self.now.tokens.now.tokens = there.1 in
-    omega (arith, far, end)
+    let end : c.in-Some.end ≤ length c.args.self.now.tokens.now.tokens = (got (tables c.read.new.into) (kind_of_part c.args.part) c.args.self.now.tokens.now.tokens c.in_ok-found.field-0 _ c.in-Some.found c.in-Some.end c.in_ok-found.ensures.ok c.in-Some.is).2 in
+    omega (arith, forward (list_map c.args.self.now.lists.now) c.args.self.now.typedefs.now (g.R.TypeReader.types c.args.self.now.reader.now) (tables c.args.into.now) (tables c.loop-parts.into) (tables c.read.new.into) c.args.self.now.tokens.now.tokens c.requires.tied c.loop-parts.invariant.keeps c.read.ensures.keeps (kind_of_part c.args.part) c.args.depth (place_of_part c.args.part) c.loop-parts.parts.items c.loop-parts.invariant.nodes c.loop-parts.next c.loop-parts.invariant.place c.in_ok-found.field-0 c.in_ok-found.ensures.ok c.in-Some.found c.in-Some.end c.in-Some.is, end)
 
 pub row-loop-parts-preserved : goal.row-loop-parts-preserved
-row-loop-parts-preserved g t c =
-    let keeps = extends_then (tables c.args.into.now) (tables c.loop-parts.into) (tables c.read.new.into) c.loop-parts.invariant.keeps c.read.ensures.keeps in
-    record {
-      nodes = parts_there (kind_of_part c.args.part) (tables c.loop-parts.into) (tables c.read.new.into) c.read.ensures.keeps c.args.self.now.tokens.now.tokens (readers (names_in c.args.self.now.typedefs.now (g.R.TypeReader.types c.args.self.now.reader.now) (tables c.args.into.now) c.args.self.now.tokens.now.tokens) c.args.depth (place_of_part c.args.part)) c.loop-parts.parts.items c.loop-parts.invariant.nodes c.loop-parts.next c.loop-parts.invariant.place c.in_ok-found.field-0 (at_start c.args.self.now.typedefs.now (g.R.TypeReader.types c.args.self.now.reader.now) (tables c.args.into.now) (tables c.loop-parts.into) (tables c.read.new.into) c.args.self.now.tokens.now.tokens c.requires.tied.tied c.loop-parts.invariant.keeps (kind_of_part c.args.part) c.in_ok-found.field-0 (λ n. readers n c.args.depth (place_of_part c.args.part) (drop c.loop-parts.next c.args.self.now.tokens.now.tokens)) c.in_ok-found.ensures.ok) c.in-Some.found c.in-Some.end c.in-Some.is c.push.new.self.items c.in_ok-push.ensures.items;
-      place = (part_there (kind_of_part c.args.part) (tables c.loop-parts.into) (tables c.read.new.into) c.read.ensures.keeps c.args.self.now.tokens.now.tokens (readers (names_in c.args.self.now.typedefs.now (g.R.TypeReader.types c.args.self.now.reader.now) (tables c.args.into.now) c.args.self.now.tokens.now.tokens) c.args.depth (place_of_part c.args.part)) c.loop-parts.parts.items c.loop-parts.invariant.nodes c.loop-parts.next c.loop-parts.invariant.place c.in_ok-found.field-0 (at_start c.args.self.now.typedefs.now (g.R.TypeReader.types c.args.self.now.reader.now) (tables c.args.into.now) (tables c.loop-parts.into) (tables c.read.new.into) c.args.self.now.tokens.now.tokens c.requires.tied.tied c.loop-parts.invariant.keeps (kind_of_part c.args.part) c.in_ok-found.field-0 (λ n. readers n c.args.depth (place_of_part c.args.part) (drop c.loop-parts.next c.args.self.now.tokens.now.tokens)) c.in_ok-found.ensures.ok) c.in-Some.found c.in-Some.end c.in-Some.is).1;
-      keeps = keeps;
-      tied = given_kept (list_map c.args.self.now.lists.now) c.args.self.now.typedefs.now (g.R.TypeReader.types c.args.self.now.reader.now) (tables c.args.into.now) (tables c.read.new.into) c.args.self.now.tokens.now.tokens c.requires.tied keeps;
-      same = row_goes (kind_of_part c.args.part) (tables c.loop-parts.into) (tables c.read.new.into) c.read.ensures.keeps c.args.self.now.tokens.now.tokens (readers (names_in c.args.self.now.typedefs.now (g.R.TypeReader.types c.args.self.now.reader.now) (tables c.args.into.now) c.args.self.now.tokens.now.tokens) c.args.depth (place_of_part c.args.part)) c.loop-parts.parts.items c.loop-parts.invariant.nodes c.loop-parts.next c.loop-parts.invariant.place c.in_ok-found.field-0 (at_start c.args.self.now.typedefs.now (g.R.TypeReader.types c.args.self.now.reader.now) (tables c.args.into.now) (tables c.loop-parts.into) (tables c.read.new.into) c.args.self.now.tokens.now.tokens c.requires.tied.tied c.loop-parts.invariant.keeps (kind_of_part c.args.part) c.in_ok-found.field-0 (λ n. readers n c.args.depth (place_of_part c.args.part) (drop c.loop-parts.next c.args.self.now.tokens.now.tokens)) c.in_ok-found.ensures.ok) (parts_shorten c.args.self.now.typedefs.now (g.R.TypeReader.types c.args.self.now.reader.now) (tables c.args.into.now) c.args.self.now.tokens.now.tokens c.requires.tied.tied c.args.depth (place_of_part c.args.part)) (row (readers (names_in c.args.self.now.typedefs.now (g.R.TypeReader.types c.args.self.now.reader.now) (tables c.args.into.now) c.args.self.now.tokens.now.tokens) c.args.depth (place_of_part c.args.part)) NoTrees (drop c.args.at c.args.self.now.tokens.now.tokens)) c.loop-parts.invariant.same c.in-Some.found c.in-Some.end c.in-Some.is c.push.new.self.items c.in_ok-push.ensures.items;
-    }
+row-loop-parts-preserved g t c = row_turn (list_map c.args.self.now.lists.now) c.args.self.now.typedefs.now (g.R.TypeReader.types c.args.self.now.reader.now) (tables c.args.into.now) (tables c.loop-parts.into) (tables c.read.new.into) c.args.self.now.tokens.now.tokens c.requires.tied c.loop-parts.invariant.keeps c.read.ensures.keeps (kind_of_part c.args.part) c.args.depth (place_of_part c.args.part) c.loop-parts.parts.items c.loop-parts.invariant.nodes c.loop-parts.next c.loop-parts.invariant.place c.in_ok-found.field-0 c.in_ok-found.ensures.ok (row (readers (names_in c.args.self.now.typedefs.now (g.R.TypeReader.types c.args.self.now.reader.now) (tables c.args.into.now) c.args.self.now.tokens.now.tokens) c.args.depth (place_of_part c.args.part)) NoTrees (drop c.args.at c.args.self.now.tokens.now.tokens)) c.loop-parts.invariant.same c.in-Some.found c.in-Some.end c.in-Some.is c.push.new.self.items c.in_ok-push.ensures.items
 
 -- ---- parts with commas between
 
@@ -92,30 +83,16 @@ listed-loop-parts-init g t c = record {
 }
 
 pub listed-returns-in_default-clause-ok : goal.listed-returns-in_default-clause-ok
-listed-returns-in_default-clause-ok g t c = list_ends (kind_of_part c.args.part) (tables c.loop-parts.into) (tables c.read.new.into) c.read.ensures.keeps c.args.self.now.tokens.now.tokens (readers (names_in c.args.self.now.typedefs.now (g.R.TypeReader.types c.args.self.now.reader.now) (tables c.args.into.now) c.args.self.now.tokens.now.tokens) c.args.depth (place_of_part c.args.part)) c.loop-parts.parts.items c.loop-parts.invariant.nodes c.loop-parts.next c.loop-parts.invariant.place c.in_ok-found.field-0 (at_start c.args.self.now.typedefs.now (g.R.TypeReader.types c.args.self.now.reader.now) (tables c.args.into.now) (tables c.loop-parts.into) (tables c.read.new.into) c.args.self.now.tokens.now.tokens c.requires.tied.tied c.loop-parts.invariant.keeps (kind_of_part c.args.part) c.in_ok-found.field-0 (λ n. readers n c.args.depth (place_of_part c.args.part) (drop c.loop-parts.next c.args.self.now.tokens.now.tokens)) c.in_ok-found.ensures.ok) (commas_shorten c.args.self.now.typedefs.now (g.R.TypeReader.types c.args.self.now.reader.now) (tables c.args.into.now) c.args.self.now.tokens.now.tokens c.requires.tied.tied c.args.depth (place_of_part c.args.part)) c.loop-parts.behind c.loop-parts.invariant.where_behind (listed (readers (names_in c.args.self.now.typedefs.now (g.R.TypeReader.types c.args.self.now.reader.now) (tables c.args.into.now) c.args.self.now.tokens.now.tokens) c.args.depth (place_of_part c.args.part)) (drop c.args.at c.args.self.now.tokens.now.tokens)) c.loop-parts.invariant.same c.in_default.is
+listed-returns-in_default-clause-ok g t c = list_done (list_map c.args.self.now.lists.now) c.args.self.now.typedefs.now (g.R.TypeReader.types c.args.self.now.reader.now) (tables c.args.into.now) (tables c.loop-parts.into) (tables c.read.new.into) c.args.self.now.tokens.now.tokens c.requires.tied c.loop-parts.invariant.keeps c.read.ensures.keeps (kind_of_part c.args.part) c.args.depth (place_of_part c.args.part) c.loop-parts.parts.items c.loop-parts.invariant.nodes c.loop-parts.next c.loop-parts.invariant.place c.in_ok-found.field-0 c.in_ok-found.ensures.ok c.loop-parts.behind c.loop-parts.invariant.where_behind (listed (readers (names_in c.args.self.now.typedefs.now (g.R.TypeReader.types c.args.self.now.reader.now) (tables c.args.into.now) c.args.self.now.tokens.now.tokens) c.args.depth (place_of_part c.args.part)) (drop c.args.at c.args.self.now.tokens.now.tokens)) c.loop-parts.invariant.same c.in_default.is
 
 pub listed-loop-parts-smaller : goal.listed-loop-parts-smaller
-listed-loop-parts-smaller g t c =
-    let far = goes_forward (kind_of_part c.args.part) (tables c.loop-parts.into) (tables c.read.new.into) c.read.ensures.keeps c.args.self.now.tokens.now.tokens (readers (names_in c.args.self.now.typedefs.now (g.R.TypeReader.types c.args.self.now.reader.now) (tables c.args.into.now) c.args.self.now.tokens.now.tokens) c.args.depth (place_of_part c.args.part)) c.loop-parts.parts.items c.loop-parts.invariant.nodes c.loop-parts.next c.loop-parts.invariant.place c.in_ok-found.field-0 (at_start c.args.self.now.typedefs.now (g.R.TypeReader.types c.args.self.now.reader.now) (tables c.args.into.now) (tables c.loop-parts.into) (tables c.read.new.into) c.args.self.now.tokens.now.tokens c.requires.tied.tied c.loop-parts.invariant.keeps (kind_of_part c.args.part) c.in_ok-found.field-0 (λ n. readers n c.args.depth (place_of_part c.args.part) (drop c.loop-parts.next c.args.self.now.tokens.now.tokens)) c.in_ok-found.ensures.ok) (parts_shorten c.args.self.now.typedefs.now (g.R.TypeReader.types c.args.self.now.reader.now) (tables c.args.into.now) c.args.self.now.tokens.now.tokens c.requires.tied.tied c.args.depth (place_of_part c.args.part)) c.in-Some.found c.in-Some.end c.in-Some.is in
-    let there = part_there (kind_of_part c.args.part) (tables c.loop-parts.into) (tables c.read.new.into) c.read.ensures.keeps c.args.self.now.tokens.now.tokens (readers (names_in c.args.self.now.typedefs.now (g.R.TypeReader.types c.args.self.now.reader.now) (tables c.args.into.now) c.args.self.now.tokens.now.tokens) c.args.depth (place_of_part c.args.part)) c.loop-parts.parts.items c.loop-parts.invariant.nodes c.loop-parts.next c.loop-parts.invariant.place c.in_ok-found.field-0 (at_start c.args.self.now.typedefs.now (g.R.TypeReader.types c.args.self.now.reader.now) (tables c.args.into.now) (tables c.loop-parts.into) (tables c.read.new.into) c.args.self.now.tokens.now.tokens c.requires.tied.tied c.loop-parts.invariant.keeps (kind_of_part c.args.part) c.in_ok-found.field-0 (λ n. readers n c.args.depth (place_of_part c.args.part) (drop c.loop-parts.next c.args.self.now.tokens.now.tokens)) c.in_ok-found.ensures.ok) c.in-Some.found c.in-Some.end c.in-Some.is in
-    let end : c.in-Some.end ≤ length c.args.self.now.tokens.now.tokens = there.1 in
-    let more = comma_forward c.args.self.now.tokens.now.tokens c.in-Some.end c.in-Some-after.following end c.in-Some-after.ensures.1 c.in-Some-after.ensures.0 in
-    omega (arith, far, end, more, c.in-Some-after.ensures.1)
+listed-loop-parts-smaller g t c = omega (arith, past_comma (list_map c.args.self.now.lists.now) c.args.self.now.typedefs.now (g.R.TypeReader.types c.args.self.now.reader.now) (tables c.args.into.now) (tables c.loop-parts.into) (tables c.read.new.into) c.args.self.now.tokens.now.tokens c.requires.tied c.loop-parts.invariant.keeps c.read.ensures.keeps (kind_of_part c.args.part) c.args.depth (place_of_part c.args.part) c.loop-parts.parts.items c.loop-parts.invariant.nodes c.loop-parts.next c.loop-parts.invariant.place c.in_ok-found.field-0 c.in_ok-found.ensures.ok c.in-Some.found c.in-Some.end c.in-Some.is c.in-Some-after.following c.in-Some-after.ensures.1 c.in-Some-after.ensures.0, c.in-Some-after.ensures.1)
 
 pub listed-loop-parts-preserved : goal.listed-loop-parts-preserved
-listed-loop-parts-preserved g t c =
-    let keeps = extends_then (tables c.args.into.now) (tables c.loop-parts.into) (tables c.read.new.into) c.loop-parts.invariant.keeps c.read.ensures.keeps in
-    record {
-      nodes = parts_there (kind_of_part c.args.part) (tables c.loop-parts.into) (tables c.read.new.into) c.read.ensures.keeps c.args.self.now.tokens.now.tokens (readers (names_in c.args.self.now.typedefs.now (g.R.TypeReader.types c.args.self.now.reader.now) (tables c.args.into.now) c.args.self.now.tokens.now.tokens) c.args.depth (place_of_part c.args.part)) c.loop-parts.parts.items c.loop-parts.invariant.nodes c.loop-parts.next c.loop-parts.invariant.place c.in_ok-found.field-0 (at_start c.args.self.now.typedefs.now (g.R.TypeReader.types c.args.self.now.reader.now) (tables c.args.into.now) (tables c.loop-parts.into) (tables c.read.new.into) c.args.self.now.tokens.now.tokens c.requires.tied.tied c.loop-parts.invariant.keeps (kind_of_part c.args.part) c.in_ok-found.field-0 (λ n. readers n c.args.depth (place_of_part c.args.part) (drop c.loop-parts.next c.args.self.now.tokens.now.tokens)) c.in_ok-found.ensures.ok) c.in-Some.found c.in-Some.end c.in-Some.is c.push.new.self.items c.in_ok-push.ensures.items;
-      place = c.in-Some-after.ensures.1;
-      where_behind = (part_there (kind_of_part c.args.part) (tables c.loop-parts.into) (tables c.read.new.into) c.read.ensures.keeps c.args.self.now.tokens.now.tokens (readers (names_in c.args.self.now.typedefs.now (g.R.TypeReader.types c.args.self.now.reader.now) (tables c.args.into.now) c.args.self.now.tokens.now.tokens) c.args.depth (place_of_part c.args.part)) c.loop-parts.parts.items c.loop-parts.invariant.nodes c.loop-parts.next c.loop-parts.invariant.place c.in_ok-found.field-0 (at_start c.args.self.now.typedefs.now (g.R.TypeReader.types c.args.self.now.reader.now) (tables c.args.into.now) (tables c.loop-parts.into) (tables c.read.new.into) c.args.self.now.tokens.now.tokens c.requires.tied.tied c.loop-parts.invariant.keeps (kind_of_part c.args.part) c.in_ok-found.field-0 (λ n. readers n c.args.depth (place_of_part c.args.part) (drop c.loop-parts.next c.args.self.now.tokens.now.tokens)) c.in_ok-found.ensures.ok) c.in-Some.found c.in-Some.end c.in-Some.is).1;
-      keeps = keeps;
-      tied = given_kept (list_map c.args.self.now.lists.now) c.args.self.now.typedefs.now (g.R.TypeReader.types c.args.self.now.reader.now) (tables c.args.into.now) (tables c.read.new.into) c.args.self.now.tokens.now.tokens c.requires.tied keeps;
-      same = list_goes (kind_of_part c.args.part) (tables c.loop-parts.into) (tables c.read.new.into) c.read.ensures.keeps c.args.self.now.tokens.now.tokens (readers (names_in c.args.self.now.typedefs.now (g.R.TypeReader.types c.args.self.now.reader.now) (tables c.args.into.now) c.args.self.now.tokens.now.tokens) c.args.depth (place_of_part c.args.part)) c.loop-parts.parts.items c.loop-parts.invariant.nodes c.loop-parts.next c.loop-parts.invariant.place c.in_ok-found.field-0 (at_start c.args.self.now.typedefs.now (g.R.TypeReader.types c.args.self.now.reader.now) (tables c.args.into.now) (tables c.loop-parts.into) (tables c.read.new.into) c.args.self.now.tokens.now.tokens c.requires.tied.tied c.loop-parts.invariant.keeps (kind_of_part c.args.part) c.in_ok-found.field-0 (λ n. readers n c.args.depth (place_of_part c.args.part) (drop c.loop-parts.next c.args.self.now.tokens.now.tokens)) c.in_ok-found.ensures.ok) (commas_shorten c.args.self.now.typedefs.now (g.R.TypeReader.types c.args.self.now.reader.now) (tables c.args.into.now) c.args.self.now.tokens.now.tokens c.requires.tied.tied c.args.depth (place_of_part c.args.part)) c.loop-parts.behind c.loop-parts.invariant.where_behind (listed (readers (names_in c.args.self.now.typedefs.now (g.R.TypeReader.types c.args.self.now.reader.now) (tables c.args.into.now) c.args.self.now.tokens.now.tokens) c.args.depth (place_of_part c.args.part)) (drop c.args.at c.args.self.now.tokens.now.tokens)) c.loop-parts.invariant.same c.in-Some.found c.in-Some.end c.in-Some.is c.push.new.self.items c.in_ok-push.ensures.items c.in-Some-after.following c.in-Some-after.ensures.0;
-    }
+listed-loop-parts-preserved g t c = list_turn (list_map c.args.self.now.lists.now) c.args.self.now.typedefs.now (g.R.TypeReader.types c.args.self.now.reader.now) (tables c.args.into.now) (tables c.loop-parts.into) (tables c.read.new.into) c.args.self.now.tokens.now.tokens c.requires.tied c.loop-parts.invariant.keeps c.read.ensures.keeps (kind_of_part c.args.part) c.args.depth (place_of_part c.args.part) c.loop-parts.parts.items c.loop-parts.invariant.nodes c.loop-parts.next c.loop-parts.invariant.place c.in_ok-found.field-0 c.in_ok-found.ensures.ok c.loop-parts.behind c.loop-parts.invariant.where_behind (listed (readers (names_in c.args.self.now.typedefs.now (g.R.TypeReader.types c.args.self.now.reader.now) (tables c.args.into.now) c.args.self.now.tokens.now.tokens) c.args.depth (place_of_part c.args.part)) (drop c.args.at c.args.self.now.tokens.now.tokens)) c.loop-parts.invariant.same c.in-Some.found c.in-Some.end c.in-Some.is c.push.new.self.items c.in_ok-push.ensures.items c.in-Some-after.following c.in-Some-after.ensures.0 c.in-Some-after.ensures.1
 
 pub listed-returns-in-None-clause-ok : goal.listed-returns-in-None-clause-ok
-listed-returns-in-None-clause-ok g t c = list_stops (kind_of_part c.args.part) (tables c.loop-parts.into) (tables c.read.new.into) c.read.ensures.keeps c.args.self.now.tokens.now.tokens (readers (names_in c.args.self.now.typedefs.now (g.R.TypeReader.types c.args.self.now.reader.now) (tables c.args.into.now) c.args.self.now.tokens.now.tokens) c.args.depth (place_of_part c.args.part)) c.loop-parts.parts.items c.loop-parts.invariant.nodes c.loop-parts.next c.loop-parts.invariant.place c.in_ok-found.field-0 (at_start c.args.self.now.typedefs.now (g.R.TypeReader.types c.args.self.now.reader.now) (tables c.args.into.now) (tables c.loop-parts.into) (tables c.read.new.into) c.args.self.now.tokens.now.tokens c.requires.tied.tied c.loop-parts.invariant.keeps (kind_of_part c.args.part) c.in_ok-found.field-0 (λ n. readers n c.args.depth (place_of_part c.args.part) (drop c.loop-parts.next c.args.self.now.tokens.now.tokens)) c.in_ok-found.ensures.ok) (commas_shorten c.args.self.now.typedefs.now (g.R.TypeReader.types c.args.self.now.reader.now) (tables c.args.into.now) c.args.self.now.tokens.now.tokens c.requires.tied.tied c.args.depth (place_of_part c.args.part)) c.loop-parts.behind c.loop-parts.invariant.where_behind (listed (readers (names_in c.args.self.now.typedefs.now (g.R.TypeReader.types c.args.self.now.reader.now) (tables c.args.into.now) c.args.self.now.tokens.now.tokens) c.args.depth (place_of_part c.args.part)) (drop c.args.at c.args.self.now.tokens.now.tokens)) c.loop-parts.invariant.same c.in-Some.found c.in-Some.end c.in-Some.is c.push.new.self.items c.in_ok-push.ensures.items c.in-None.ensures
+listed-returns-in-None-clause-ok g t c = list_stop (list_map c.args.self.now.lists.now) c.args.self.now.typedefs.now (g.R.TypeReader.types c.args.self.now.reader.now) (tables c.args.into.now) (tables c.loop-parts.into) (tables c.read.new.into) c.args.self.now.tokens.now.tokens c.requires.tied c.loop-parts.invariant.keeps c.read.ensures.keeps (kind_of_part c.args.part) c.args.depth (place_of_part c.args.part) c.loop-parts.parts.items c.loop-parts.invariant.nodes c.loop-parts.next c.loop-parts.invariant.place c.in_ok-found.field-0 c.in_ok-found.ensures.ok c.loop-parts.behind c.loop-parts.invariant.where_behind (listed (readers (names_in c.args.self.now.typedefs.now (g.R.TypeReader.types c.args.self.now.reader.now) (tables c.args.into.now) c.args.self.now.tokens.now.tokens) c.args.depth (place_of_part c.args.part)) (drop c.args.at c.args.self.now.tokens.now.tokens)) c.loop-parts.invariant.same c.in-Some.found c.in-Some.end c.in-Some.is c.push.new.self.items c.in_ok-push.ensures.items c.in-None.ensures
 
 -- ---- specifiers
 
