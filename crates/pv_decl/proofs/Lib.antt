@@ -3,3 +3,4 @@ pub mod Tabled
 pub mod Givens
 pub mod Held
 pub mod Looping
+pub mod Valued
