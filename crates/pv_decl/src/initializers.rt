@@ -21,7 +21,6 @@ use pv_tree::{Decl, Init, NodeId, TypeReader, Unit};
 impl<R: TypeReader> Source<'_, R> {
     /// An initializer, and the place behind it.
     #[cycle(initializing)]
-    #[tactic(auto, using(pv_tree::proofs::Kept::extends_same))]
     fn initializer(
         &self,
         at: u32,
@@ -106,7 +105,6 @@ impl<R: TypeReader> Source<'_, R> {
     }
 
     // The initializer behind a `=` at a place, if both can be read, and the place behind it.
-    #[tactic(auto, using(pv_tree::proofs::Kept::extends_same), unfolding(pv_decl_forms::specs::Pieces::value))]
     fn initial_value(
         &self,
         at: u32,

@@ -62,7 +62,6 @@ impl<R: TypeReader> Source<'_, R> {
     /// known which list of them begins there, if any (C17 6.7.6.3).
     ///
     /// The list is known for the greatest depth: where it is too deep here, no other one fits.
-    #[tactic(auto, using(pv_tree::proofs::Kept::extends_same))]
     pub(crate) fn known_parameters(
         &self,
         at: u32,

@@ -109,7 +109,6 @@ impl<R: TypeReader> Source<'_, R> {
     // A specifier (C17 6.7p1). Where the braces behind `struct`, `union` or `enum` can't be read, it
     // is the tag alone (C17 6.7.2.1 to 6.7.2.3).
     #[cycle(reading)]
-    #[tactic(auto, using(pv_tree::proofs::Kept::extends_same))]
     fn specifier(
         &self,
         at: u32,
@@ -137,7 +136,6 @@ impl<R: TypeReader> Source<'_, R> {
     // The braces of a structure, union or enumeration at a place, if they can be read
     // (C17 6.7.2.1, 6.7.2.2).
     #[cycle(reading)]
-    #[tactic(auto, using(pv_tree::proofs::Kept::extends_same))]
     fn braced(
         &self,
         at: u32,
@@ -172,7 +170,6 @@ impl<R: TypeReader> Source<'_, R> {
 
     // A member declaration, to behind its `;` (C17 6.7.2.1p1).
     #[cycle(reading)]
-    #[tactic(auto, using(pv_tree::proofs::Kept::extends_same))]
     fn member(
         &self,
         at: u32,
@@ -195,7 +192,6 @@ impl<R: TypeReader> Source<'_, R> {
 
     // A parameter (C17 6.7.6p1).
     #[cycle(reading)]
-    #[tactic(auto, using(pv_tree::proofs::Kept::extends_same))]
     fn parameter(
         &self,
         at: u32,
@@ -221,7 +217,6 @@ impl<R: TypeReader> Source<'_, R> {
 
     // A declarator, or an abstract one (C17 6.7.6, 6.7.7).
     #[cycle(reading)]
-    #[tactic(auto, using(pv_tree::proofs::Kept::extends_same))]
     fn declarator(
         &self,
         at: u32,
@@ -246,7 +241,6 @@ impl<R: TypeReader> Source<'_, R> {
 
     // The longest declarator that begins with one.
     #[cycle(reading)]
-    #[tactic(auto, using(pv_tree::proofs::Kept::extends_same))]
     fn grow(
         &self,
         at: u32,
@@ -277,7 +271,6 @@ impl<R: TypeReader> Source<'_, R> {
     // The next longer declarator that begins with one: brackets or parameters behind it
     // (C17 6.7.6.2, 6.7.6.3).
     #[cycle(reading)]
-    #[tactic(auto, using(pv_tree::proofs::Kept::extends_same))]
     fn extend(
         &self,
         at: u32,
@@ -311,7 +304,6 @@ impl<R: TypeReader> Source<'_, R> {
     /// Parameters behind a declarator that may be left out, from behind the `(` on (C17 6.7.6.3):
     /// the list that is known of the place, or else the one that is read.
     #[cycle(reading)]
-    #[tactic(auto, using(pv_tree::proofs::Kept::extends_same))]
     pub(crate) fn parameters(
         &self,
         at: u32,
@@ -337,7 +329,6 @@ impl<R: TypeReader> Source<'_, R> {
 
     // A declarator that nothing went on from yet.
     #[cycle(reading)]
-    #[tactic(auto, using(pv_tree::proofs::Kept::extends_same))]
     fn head(
         &self,
         at: u32,
@@ -370,7 +361,6 @@ impl<R: TypeReader> Source<'_, R> {
 
     // A pointer, from behind its `*` on (C17 6.7.6.1).
     #[cycle(reading)]
-    #[tactic(auto, using(pv_tree::proofs::Kept::extends_same))]
     fn pointer(
         &self,
         at: u32,
@@ -392,7 +382,6 @@ impl<R: TypeReader> Source<'_, R> {
     // What stands behind the `(` that a declarator begins with: parameters, or another declarator
     // (C17 6.7.6p6, 6.7.6.3, 6.7.7).
     #[cycle(reading)]
-    #[tactic(auto, using(pv_tree::proofs::Kept::extends_same))]
     fn opened(
         &self,
         at: u32,

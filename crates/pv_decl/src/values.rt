@@ -69,7 +69,6 @@ impl<R: TypeReader> Source<'_, R> {
     }
 
     /// The same behind no declarator, where an abstract one may stand (C17 6.7.7p1).
-    #[tactic(auto, using(pv_tree::proofs::Kept::extends_same))]
     pub(crate) fn abstract_array(
         &self,
         at: u32,
@@ -91,7 +90,6 @@ impl<R: TypeReader> Source<'_, R> {
     }
 
     /// The value behind a `=` at a place, if both can be read, and the place behind it.
-    #[tactic(auto, using(pv_tree::proofs::Kept::extends_same), unfolding(pv_decl_forms::specs::Pieces::value))]
     fn constant_value(
         &self,
         at: u32,
@@ -113,7 +111,6 @@ impl<R: TypeReader> Source<'_, R> {
     }
 
     /// An enumerator, and the place behind it (C17 6.7.2.2p1).
-    #[tactic(auto, using(pv_tree::proofs::Kept::extends_same))]
     pub(crate) fn enumerator(
         &self,
         at: u32,
