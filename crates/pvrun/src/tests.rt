@@ -29,6 +29,13 @@ const SOUND: Devices = Devices {
     most: 4096,
 };
 
+// The 257 reads that the longest source takes, and no more.
+const LIMITED: Devices = Devices {
+    read: 258,
+    write: 0,
+    most: 4096,
+};
+
 // What is told of the source `a.c`. Nothing is to be written but the report: the first write of anything else fails.
 fn told(rt: &impl Abort, alloc: Global, source: &[u8], words: &str, devices: Devices) -> String {
     let words = words_of(alloc, words).expect(rt, "no memory");
@@ -119,7 +126,8 @@ enum Way {
     Calmly,
     // The same, and memory may be wanting.
     OrNothing,
-    // It is run after what stands between two backticks has been written as many times as its options say.
+    // It is run, over the reads that the longest source takes, with what stands between two backticks as many times as
+    // its options say.
     Repeated,
 }
 
@@ -134,7 +142,8 @@ fn row_agrees(rt: &impl Abort, alloc: Global, row: Row<'_>, way: Way) {
         Way::Repeated => {
             let times = row.options.strip_suffix(" times ").unwrap_or("");
             let source = repeated(rt, alloc, row.source, times.parse::<usize>().unwrap_or(0));
-            agrees(rt, alloc, source.as_str(), "", row.wanted);
+            let told = told(rt, alloc, source.as_bytes(), "run a.c", LIMITED);
+            expect(rt, row.source, row.options, told.as_str(), row.wanted);
         }
     }
 }
@@ -175,18 +184,19 @@ fn agree(rt: &impl Abort, alloc: Global, table: &str, way: Way) {
     }
 }
 
+static TABLES: [&str; 7] = [
+    rows::SHOWN,
+    rows::TURNS,
+    rows::SUMS,
+    rows::NAMES,
+    pointer_rows::POINTERS,
+    pointer_rows::LINES,
+    pointer_rows::FAULTS,
+];
+
 #[test]
 fn each_row_is_told(rt: HostRuntime) {
-    let tables = [
-        rows::SHOWN,
-        rows::TURNS,
-        rows::SUMS,
-        rows::NAMES,
-        pointer_rows::POINTERS,
-        pointer_rows::LINES,
-        pointer_rows::FAULTS,
-    ];
-    for table in &tables {
+    for table in &TABLES {
         agree(&rt, rt.alloc(), table, Way::Soundly);
     }
 }
@@ -332,19 +342,9 @@ fn faults_have_their_rows(rt: HostRuntime) {
     }
 }
 
-// The longest source, and one byte more, read over the 257 reads that they take.
 #[test]
 fn a_source_of_the_limit_is_read(rt: HostRuntime) {
-    let devices = Devices { read: 258, ..SOUND };
-    for (spaces, wanted) in [
-        (1_048_551, "0 exit status=0 turn=3"),
-        (1_048_552, "8 refused reason=size"),
-        (1_060_000, "8 refused reason=size"),
-    ] {
-        let source = repeated(&rt, rt.alloc(), "int main(void){return 0;}` `", spaces);
-        let told = told(&rt, rt.alloc(), source.as_bytes(), "run a.c", devices);
-        assert!(rt; is_line(told.as_str(), wanted), "{spaces} spaces: {told:?}");
-    }
+    agree(&rt, rt.alloc(), long_rows::LIMIT, Way::Repeated);
 }
 
 // A function whose block has no end is no function (C17 6.9.1), wherever the source is cut off.

@@ -74,6 +74,18 @@ int main(void){return `(`0`)`;}
 497 times => 8 refused reason=syntax whole=0
 "#;
 
+/// The longest source, and two that are longer.
+pub(super) static LIMIT: &str = r#"
+int main(void){return 0;}` `
+1048551 times => 0 exit status=0 turn=3
+
+int main(void){return 0;}` `
+1048552 times => 8 refused reason=size
+
+int main(void){return 0;}` `
+1060000 times => 8 refused reason=size
+"#;
+
 /// At the most turns that a run has unless its words say otherwise, and one statement beyond. A statement is
 /// [`STATEMENT`], with its part 495 times.
 pub(super) static LONGEST: [(usize, &str); 2] = [

@@ -1,7 +1,7 @@
 //! Sources, and what an independent executor of the same rules reports of them: addresses, lines and lexical faults.
 
 /// Addresses, and what is loaded and stored through them.
-pub(super) static POINTERS: &str = r#"
+pub(super) const POINTERS: &str = r#"
 int x = 3; int main(void){int *p = &x, *q = p; *q = 8; return x + *p;}
 => 0 exit status=16 turn=16
 
@@ -199,7 +199,7 @@ int x; int main(void){int*p=&x,a=1,*q=p;*q=a;return x;}
 "#;
 
 /// The lines that a report tells, and comments and line markers, which are no tokens.
-pub(super) static LINES: &str = r#"
+pub(super) const LINES: &str = r#"
 int main(void) {
   return 2147483647
     + 1;
@@ -335,7 +335,7 @@ int main(void) <% return 0; %>
 "#;
 
 /// Sources that are not all tokens, and the first of two faults.
-pub(super) static FAULTS: &str = r#"
+pub(super) const FAULTS: &str = r#"
 @
 => 8 refused reason=byte at=0
 

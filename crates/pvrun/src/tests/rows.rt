@@ -1,7 +1,7 @@
 //! Sources, and what an independent executor of the same rules reports of them: values, names and bounds.
 
 /// The rows that show what the first programs report.
-pub(super) static SHOWN: &str = r#"
+pub(super) const SHOWN: &str = r#"
 int main(void){return 0;}
 => 0 exit status=0 turn=3
 
@@ -56,7 +56,7 @@ int main(void) {
 "#;
 
 /// Bounds that are just enough or one turn too few, and words that are no bound.
-pub(super) static TURNS: &str = r#"
+pub(super) const TURNS: &str = r#"
 int main(void){return 0;}
 --turns 3 => 0 exit status=0 turn=3
 
@@ -122,7 +122,7 @@ int main(void){return 1 - 1;}
 "#;
 
 /// Values, and constants at their limits.
-pub(super) static SUMS: &str = r#"
+pub(super) const SUMS: &str = r#"
 int main(void){}
 => 0 exit status=0 turn=1
 
@@ -224,7 +224,7 @@ int x; int main(void){return x;}
 "#;
 
 /// Scopes, names given twice or not at all, and words that are no names.
-pub(super) static NAMES: &str = r#"
+pub(super) const NAMES: &str = r#"
 int x; int x; int main(void){return 0;}
 => 8 refused reason=unbuilt
 
