@@ -17,8 +17,5 @@ overflow_sub-at c = omega (arith, c.if-at-eq0.false)
 pub peek-requires : goal.peek-requires
 peek-requires c = omega (arith, c.requires)
 
-pub returns-in-Some : goal.returns-in-Some
-returns-in-Some c = c.is_open.ensures ∙ sym (ap opens c.in-Some.ensures.0) ∙ behind c.args.t.now.tokens c.args.at (omega (arith, c.if-at-eq0.false))
-
 pub returns-in-None : goal.returns-in-None
 returns-in-None c = sym (ap opens c.in-None.ensures) ∙ behind c.args.t.now.tokens c.args.at (omega (arith, c.if-at-eq0.false))
