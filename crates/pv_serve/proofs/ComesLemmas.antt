@@ -16,10 +16,10 @@ use Rattle.pv_starter.specs.Terms.{ProgramTree}
 use Rattle.pv_starter.specs.Starter.{FindsProgram}
 use Rattle.pv_starter.specs.TermViews.{program_tree}
 use Rattle.pv_starter.specs.declared.terms.Program.{Program}
-use Rattle.pv_exec.specs.Run.{ran_of}
+use Rattle.pv_starter_run.specs.Run.{ran_of}
 use Rattle.pv_starter.proofs.Programs.{one_program, either_program}
 use Rattle.std.specs.Prelude.{Result, Ok, Err, IfOk, Option, Some}
-use Rattle.pv_exec.specs.declared.running.Ran.{Ran}
+use Rattle.pv_starter_run.specs.declared.running.Ran.{Ran}
 use Rattle.pv_serve.specs.declared.judging.Judgement.{Judgement}
 use Rattle.pv_serve.specs.Verdicts.{Verdict, Ended, Refused, Byte, Token, Profile, Syntax, Unbuilt, verdict_of}
 use Rattle.pv_serve.specs.Comes.{ProgramComes, NoProgram, Runs, TokensCome, NoUnit, Spelled, Comes, BadByte, BadToken, LeftOut, Lexed}

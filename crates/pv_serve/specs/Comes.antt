@@ -8,7 +8,7 @@ use Rattle.pv_tree.specs.Syntax.{DeclarationTree}
 use Rattle.pv_tree.specs.Units.{SpellUnit, IsWhole}
 use Rattle.pv_starter.specs.Terms.{ProgramTree}
 use Rattle.pv_starter.specs.Starter.{IsProgram}
-use Rattle.pv_exec.specs.Run.{ran_of}
+use Rattle.pv_starter_run.specs.Run.{ran_of}
 use Rattle.pv_serve.specs.Verdicts.{Verdict, Ended, Refused, Byte, Token, Profile, Syntax, Unbuilt}
 
 -- What the tokens of a unit come to (5.1.2.3): the run of the program that they are, or a refusal where they are none that is run so far.

@@ -3,8 +3,8 @@ use Rattle.std.specs.Prelude.{ℕ, ℤ, List, [], ◌∷◌, ◌++◌, codes}
 use Rattle.std.specs.Fmt.{decimal, signed_decimal}
 use Rattle.pv_num.specs.declared.faults.Fault.{Fault}
 use Rattle.pv_num.specs.Texts.{clause_text, reason_text}
-use Rattle.pv_exec.specs.declared.running.Outcome.{Outcome}
-use Rattle.pv_exec.specs.declared.running.Outcome.TheVariants.{Exit, Undefined, Indeterminate, Turns}
+use Rattle.pv_starter_run.specs.declared.running.Outcome.{Outcome}
+use Rattle.pv_starter_run.specs.declared.running.Outcome.TheVariants.{Exit, Undefined, Indeterminate, Turns}
 use Rattle.pv_serve.specs.Verdicts.{Verdict, Ended, Refused, Refusal, Size, Byte, Token, Profile, Syntax, Unbuilt}
 
 -- A line ends with a line feed (5.2.2).

@@ -1,6 +1,6 @@
 -- What a source may come to, and the verdict that the judging function's answer stands for.
 use Rattle.std.specs.Prelude.{ℕ, List}
-use Rattle.pv_exec.specs.declared.running.Ran.{Ran}
+use Rattle.pv_starter_run.specs.declared.running.Ran.{Ran}
 use Rattle.pv_serve.specs.declared.judging.Judgement.{Judgement}
 use Rattle.pv_serve.specs.declared.judging.Judgement.TheVariants as judgement
 use Rattle.pv_serve.specs.declared.judging.Refused.TheVariants as refused

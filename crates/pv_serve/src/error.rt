@@ -11,8 +11,8 @@ impl From<AllocError> for NoMemory {
     }
 }
 
-impl From<pv_exec::NoMemory> for NoMemory {
-    fn from(_: pv_exec::NoMemory) -> Self {
+impl From<pv_starter_run::NoMemory> for NoMemory {
+    fn from(_: pv_starter_run::NoMemory) -> Self {
         NoMemory
     }
 }

@@ -5,8 +5,8 @@ ghost use Rattle.pv_serve.specs.Comes.{Comes, TokensCome, ProgramComes};
 ghost use Rattle.pv_serve.specs.Judged.{Judged, source_limit};
 
 use crate::NoMemory;
-use pv_exec::{Ran, program, run};
 use pv_lex::{LexError, Tokens, tokens};
+use pv_starter_run::{Ran, program, run};
 use pv_stmt::{SynError, unit};
 use std::alloc::Global;
 

@@ -5,8 +5,8 @@ ghost use Rattle.pv_serve.specs.Verdicts.{verdict_of, refusal_of};
 
 use crate::NoMemory;
 use crate::judging::{Judgement, Refused};
-use pv_exec::{Outcome, Ran};
 use pv_num::Fault;
+use pv_starter_run::{Outcome, Ran};
 use std::alloc::Global;
 
 /// The status of a judgement.

@@ -1,11 +1,11 @@
 // Two objects, as `int x; int *p; p = &x; *p = -2;` has them: expected values worked out from the standard's rules and
 // from the default places (the first at 65536, each later one 16 bytes past the end of the one before, rounded up to 16).
 ghost use Rattle.std.specs.Prelude.{◌≡◌, ◌≤◌};
-ghost use Rattle.pv_object.specs.Encoding.{size_of};
-ghost use Rattle.pv_object.specs.Values.{IsOf};
+ghost use Rattle.pv_starter_memory.specs.Encoding.{size_of};
+ghost use Rattle.pv_starter_memory.specs.Values.{IsOf};
 
 use pv_num::{Clause, Fault, IntKind, Reason};
-use pv_object::{Memory, NoMemory, Pointer, Prov, Reach, Scalar, Stop, Value};
+use pv_starter_memory::{Memory, NoMemory, Pointer, Prov, Reach, Scalar, Stop, Value};
 use std::process::Abort;
 
 const INT: Scalar = Scalar::Int(IntKind::Int);

@@ -1,0 +1,11 @@
+use Rattle.std.proofs.Common.{◌≡◌, ◌-◌, ◌<◌, ◌≤◌, ◌^◌, length, drop, Some}
+use Rattle.std.specs.Option.{option_map}
+use Rattle.pv_starter_memory.specs.Encoding.{number_of, values_of}
+use Rattle.pv_starter_memory.proofs.encoding.number.Given as goal
+
+abbrev pub invariant-loop-i : goal.invariant-loop-i
+invariant-loop-i l = record {
+  within : l.i ≤ length l.bytes;
+  bound : l.number < 256 ^ (length l.bytes - l.i);
+  so_far : option_map number_of (values_of (drop l.i l.bytes)) ≡ Some l.number;
+}
