@@ -1,0 +1,16 @@
+//! What no clause says of scripts, storage instances and memory: that answers are those of another implementation of
+//! the same rules.
+//!
+//! A table is a text. A line of it is an operation with its operands, ` => `, and what it answers. Of each line, words
+//! stand for numbers: `lines` reads them.
+//!
+//! Every function of a crate is proved, those of its tests too. These have no clause to prove: they ask what a call
+//! asks for before they make it, and stop where it is not so.
+#![tactic(auto)]
+
+#[cfg(test)]
+mod instances;
+#[cfg(test)]
+mod lines;
+#[cfg(test)]
+mod scripts;
