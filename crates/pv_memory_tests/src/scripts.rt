@@ -63,7 +63,10 @@ fn check(rt: &impl Abort, alloc: Global, table: &str) {
         } else {
             let text = text_of(rt, alloc, form);
             let answer = read(alloc, &text);
-            assert!(rt; answer.as_ref().err().copied() == wanted(rt, words), "{line}");
+            assert!(rt;
+                answer.as_ref().err().copied() == wanted(rt, words),
+                "{line}"
+            );
             script = answer.unwrap_or(Script::empty(alloc));
         }
     }
@@ -368,7 +371,8 @@ bad 1: @hep 1 null|@he#p 2 0x7f00|
 bad 2: @heap 1 null|@heap 2 07f00|";
 
 /// Where a script puts each request.
-static PLACES: &str = "ok: # places|x 2 0x20010||@heap 1 null|x 1 0x20000|@heap 3 0xFf0|y 1 0x0|xx 1 0x1|@lit 1 0xffffffffffffffff
+static PLACES: &str =
+    "ok: # places|x 2 0x20010||@heap 1 null|x 1 0x20000|@heap 3 0xFf0|y 1 0x0|xx 1 0x1|@lit 1 0xffffffffffffffff
 at none: x 0
 at 0x20000: x 1
 at 0x20010: x 2
@@ -419,4 +423,3 @@ at none: z 1
 at none: z 2
 at none: z 3
 at none: z 4294967297";
-

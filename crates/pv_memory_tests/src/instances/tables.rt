@@ -1,7 +1,8 @@
 // Sequences of calls, with the answers of another implementation of the rules.
 
 /// Places at both ends of the addresses, and alignments.
-pub(super) static PLACES: &str = "script a,1,0x1000;a,2,0xfff;b,1,0x7ffffffffff8;c,1,0x7ffffffffff8;c,2,0x7fffffffffff => none
+pub(super) static PLACES: &str =
+    "script a,1,0x1000;a,2,0xfff;b,1,0x7ffffffffff8;c,1,0x7ffffffffff8;c,2,0x7fffffffffff => none
 make a 8 8 plain => 1 1 0x1000
 info 1 => a 1 0x1000 8 plain no
 make a 8 1 plain => range 2 0xfff
@@ -50,7 +51,8 @@ make a 1 16 plain => 18 18 0x100e0
 make a 1 16 plain => 19 19 0x10100";
 
 /// Default places, the numbers that requests use up, and overlaps.
-pub(super) static DEFAULTS: &str = "script b,1,0x30000;b,2,0x10000;b,3,0x10001;@heap,2,null;@heap,3,0x40008 => none
+pub(super) static DEFAULTS: &str =
+    "script b,1,0x30000;b,2,0x10000;b,3,0x10001;@heap,2,null;@heap,3,0x40008 => none
 make a 1 1 plain => 1 1 0x10000
 make a 16 8 plain => 2 2 0x10020
 make a 17 16 plain => 3 3 0x10040
@@ -130,7 +132,8 @@ make a 18446744073709551615 1 plain => storage 16777216 18446744073709551615
 make @heap 18446744073709551615 16 heap => denied";
 
 /// Pairs made, settled by each test and by each other, ended instances, and a place that lives again.
-pub(super) static PAIRS: &str = "script a,1,0x20000;b,1,0x20008;a,2,0x20000;c,1,0x20010;a,3,0x20000;@heap,1,0x20020;@heap,2,0x20030 => none
+pub(super) static PAIRS: &str =
+    "script a,1,0x20000;b,1,0x20008;a,2,0x20000;c,1,0x20010;a,3,0x20000;@heap,1,0x20020;@heap,2,0x20030 => none
 make a 8 8 plain => 1 1 0x20000
 make b 8 8 plain => 2 1 0x20008
 name 0x20008 => none
@@ -284,7 +287,8 @@ block p12 0x20020 => ended
 range p13 0x20028 8 => outside";
 
 /// Pairs of which one side ended.
-pub(super) static SIDES: &str = "script a,1,0x20000;b,1,0x20008;a,2,0x20000;b,2,0x20008;c,1,0x20010 => none
+pub(super) static SIDES: &str =
+    "script a,1,0x20000;b,1,0x20008;a,2,0x20000;b,2,0x20008;c,1,0x20010 => none
 make a 8 8 plain => 1 1 0x20000
 make b 8 8 plain => 2 1 0x20008
 expose 2 => none
@@ -342,7 +346,8 @@ same p8 4 => apart
 stands p8 => 3 none";
 
 /// Calls in a mixed order.
-pub(super) static MIXED_1: &str = "script a,1,0x20018;b,1,0x20030;c,1,0x20008;a,2,0x20028;b,2,0x20038;c,2,0x20000;a,3,0x20020;b,3,0x20010;a,4,0x20030;a,5,0x20008;a,6,0x20030;a,7,0x20000;a,8,0x20020;b,4,0x20018;b,5,0x20008;b,7,0x20000;b,8,0x20000;c,4,0x20018;c,6,0x20018;c,7,0x20038;c,8,0x20028 => none
+pub(super) static MIXED_1: &str =
+    "script a,1,0x20018;b,1,0x20030;c,1,0x20008;a,2,0x20028;b,2,0x20038;c,2,0x20000;a,3,0x20020;b,3,0x20010;a,4,0x20030;a,5,0x20008;a,6,0x20030;a,7,0x20000;a,8,0x20020;b,4,0x20018;b,5,0x20008;b,7,0x20000;b,8,0x20000;c,4,0x20018;c,6,0x20018;c,7,0x20038;c,8,0x20028 => none
 make a 8 8 plain => 1 1 0x20018
 make b 8 8 plain => 2 1 0x20030
 make c 8 8 plain => 3 1 0x20008
@@ -494,7 +499,8 @@ stands 5 => 5 none
 range p9 0x2002c 1 => outside";
 
 /// Calls in a mixed order, with other places.
-pub(super) static MIXED_2: &str = "script a,1,0x20028;b,1,0x20018;c,1,0x20020;a,2,0x20008;b,2,0x20010;c,2,0x20030;a,3,0x20038;b,3,0x20000;a,4,0x20018;a,5,0x20010;a,7,0x20028;a,8,0x20038;b,4,0x20000;b,5,0x20028;b,6,0x20028;b,8,0x20010;c,3,0x20018;c,4,0x20010;c,5,0x20010;c,6,0x20028;c,8,0x20010 => none
+pub(super) static MIXED_2: &str =
+    "script a,1,0x20028;b,1,0x20018;c,1,0x20020;a,2,0x20008;b,2,0x20010;c,2,0x20030;a,3,0x20038;b,3,0x20000;a,4,0x20018;a,5,0x20010;a,7,0x20028;a,8,0x20038;b,4,0x20000;b,5,0x20028;b,6,0x20028;b,8,0x20010;c,3,0x20018;c,4,0x20010;c,5,0x20010;c,6,0x20028;c,8,0x20010 => none
 make a 8 8 plain => 1 1 0x20028
 make b 8 8 plain => 2 1 0x20018
 make c 8 8 plain => 3 1 0x20020

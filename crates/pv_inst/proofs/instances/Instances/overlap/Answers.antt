@@ -1,4 +1,4 @@
-use Rattle.std.proofs.Common.{◌≡◌, ◌≤◌, refl, arith}
+use Rattle.std.proofs.Common.{◌≤◌, refl, arith}
 use Rattle.pv_inst.proofs.Apartness.{none_behind}
 use Rattle.pv_inst.proofs.instances.Instances.overlap.Goals as goal
 
