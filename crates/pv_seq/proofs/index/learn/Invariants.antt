@@ -1,0 +1,9 @@
+use Rattle.std.proofs.Common.{◌-◌}
+use Rattle.pv_seq.specs.Found.{AreFound}
+use Rattle.pv_seq.proofs.index.learn.Given as goal
+
+abbrev pub invariant-loop-index : goal.invariant-loop-index
+invariant-loop-index l = AreFound l.index l.accesses
+
+abbrev pub decreases-loop-index : goal.decreases-loop-index
+decreases-loop-index l = l.to - l.index.known
