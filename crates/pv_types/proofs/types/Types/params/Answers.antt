@@ -3,12 +3,13 @@ use Rattle.std.proofs.Math.Seq.{get_or-append_seam}
 use Rattle.std.proofs.lemmas.List.{length-map}
 use Rattle.pv_types.specs.declared.terms.TypeId.{TypeId}
 use Rattle.pv_types.specs.Kept.{kept_of, AreMeasured}
-use Rattle.pv_types.specs.Known.{Known, IsBuilt, AllBelow, IsNoList, list_at, tree, env}
+use Rattle.pv_types.specs.Known.{Known, IsBuilt, AllBelow, IsNoList, list_at, tree, env, completions, completed_in, parameters_at}
 use Rattle.pv_types.specs.Shown.{shown}
 use Rattle.pv_types.proofs.Built.{built_list, env-list}
 use Rattle.pv_types.proofs.Equal.{items_of}
 use Rattle.pv_types.proofs.Indexed.{indexed_list}
-use Rattle.pv_types.proofs.Grown.{tree-list}
+use Rattle.pv_types.proofs.Grown.{tree-list, parameters-list}
+use Rattle.pv_types.proofs.Lists.{trees-list}
 use Rattle.pv_types.proofs.types.Types.params.Goals as goal
 
 pub invariant_of-self-2 : goal.invariant_of-self-2
@@ -71,3 +72,15 @@ returns-clause-list c =
 pub returns-clause-equal : goal.returns-clause-equal
 returns-clause-equal c = λ q lt e.
     (invariant_of-self-2 c).0.listed.distinct q c.in_ok-add_list.field-0 lt (returns-clause-number c) (e ∙ sym (returns-clause-list c))
+
+pub returns-clause-completed : goal.returns-clause-completed
+returns-clause-completed c =
+    let m : Known = shown c.self.inside.terms.keys (map items_of c.self.inside.lists.keys) c.self.inside.tags.items c.self.inside.done.items in
+    rw c.in_ok-add_list.ensures.keys (ap (λ ts. completed_in ts m.done) (trees-list m.lists c.args.list.items m.terms c.self.invariant.0.formed)) ∙ ap completions c.self.view_is
+
+pub returns-clause-parameters : goal.returns-clause-parameters
+returns-clause-parameters c = λ p lt.
+    let m : Known = shown c.self.inside.terms.keys (map items_of c.self.inside.lists.keys) c.self.inside.tags.items c.self.inside.done.items in
+    let P : Known → Type 0 = λ k. p < length k.lists in
+    let here : P m = subst P (sym c.self.view_is) lt in
+    rw c.in_ok-add_list.ensures.keys (parameters-list m c.args.list.items p c.self.invariant.0 here) ∙ ap (λ (k : Known). parameters_at k p) c.self.view_is
