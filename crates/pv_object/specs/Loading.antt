@@ -1,0 +1,105 @@
+-- A load (C17 6.3.2.1p2, 6.2.6.1p5): its last checks, the exposures, the value, and the live test on a loaded pointer.
+use Rattle.std.specs.Prelude.{◌≡◌, ℕ, pos, Bool, false, nat_lt, List, [], ◌∷◌, Option, None, Some, Result, Ok, Err, if◌then◌else◌, IsSome, IsSomeAnd, unwrap_or, option_map}
+use Rattle.pv_num.specs.declared.kinds.IntKind.{IntKind}
+use Rattle.pv_num.specs.declared.kinds.IntKind.TheVariants.{Bool as BoolKind, Char, SChar, UChar, Short, UShort, Int, UInt, Long, ULong, LLong, ULLong}
+use Rattle.pv_num.specs.declared.faults.Clause.TheVariants as clause
+use Rattle.pv_num.specs.declared.faults.Reason.TheVariants as reason
+use Rattle.pv_num.specs.Kinds.{convert_of}
+use Rattle.pv_prov.specs.declared.names.Prov.{Prov}
+use Rattle.pv_inst.specs.declared.values.Test.TheVariants.{Live}
+use Rattle.pv_inst.specs.declared.values.Tried.{Tried}
+use Rattle.pv_inst.specs.declared.values.Miss.{Miss}
+use Rattle.pv_inst.specs.Table.{Table}
+use Rattle.pv_inst.specs.Use.{use_answer, settled, untried}
+use Rattle.pv_inst.specs.Exposure.{expose}
+use Rattle.pv_inst.specs.Finding.{name_at, after_name, found_at}
+use Rattle.pv_shadow.specs.declared.byte.Byte.{Byte}
+use Rattle.pv_shadow.specs.Bytes.{read}
+use Rattle.pv_shadow.specs.Whole.{whole_name}
+use Rattle.pv_object.specs.declared.values.Pointer.{Pointer}
+use Rattle.pv_object.specs.declared.values.Scalar.{Scalar}
+use Rattle.pv_object.specs.declared.values.Scalar.TheVariants as scalar
+use Rattle.pv_object.specs.declared.values.Value.{Value}
+use Rattle.pv_object.specs.declared.values.Value.TheVariants as value
+use Rattle.pv_object.specs.declared.values.Stop.{Stop}
+use Rattle.pv_object.specs.declared.values.Stop.TheVariants.{Indeterminate, NoMemory}
+use Rattle.pv_object.specs.Values.{is_character}
+use Rattle.pv_object.specs.Encoding.{size_of, number_in}
+use Rattle.pv_object.specs.Access.{fault}
+use Rattle.pv_object.specs.Memory.{Mem}
+
+-- an answer, and the table that it leaves
+abbrev pub Loaded : Type 0
+Loaded = Result (Value × Tried) Stop × Table
+
+abbrev pub live_answer : Pointer → Result Tried Miss → Result (Value × Tried) Stop
+live_answer p (Ok tried) = Ok (value.Pointer p, tried)
+live_answer p (Err miss) = Err (fault clause.Lifetimes reason.Ended)
+
+-- the live test on a pointer just loaded
+abbrev pub tested : Table → Pointer → Loaded
+tested T p = (live_answer p (use_answer T p.prov Live), settled T p.prov (use_answer T p.prov Live))
+
+-- a pointer that was stored whole has its name; other bytes are a number that is converted
+abbrev pub pointer_named : Table → Option Prov → ℕ → Loaded
+pointer_named T (Some p) a = tested T (record { address = a; prov = p })
+pointer_named T None a = tested (after_name T a) (record { address = a; prov = name_at T a })
+
+-- The name that a pointer has which these bytes are, before its live test: that of a pointer stored whole, or else that
+-- which the number finds (of two instances, the next pair). None where a byte has no value.
+abbrev pub loaded_name : Table → List Byte → Option Prov
+loaded_name T bytes = option_map (λ a. unwrap_or (whole_name bytes) (name_at T a)) (number_in bytes)
+
+abbrev pub pointer_of : Table → List Byte → Option ℕ → Loaded
+pointer_of T bytes None = (Err Indeterminate, T)
+pointer_of T bytes (Some a) = pointer_named T (whole_name bytes) a
+
+-- the names of the bytes are exposed one by one, from the first byte on
+abbrev pub exposed_by : Table → List Byte → Table
+exposed_by T [] = T
+exposed_by T (b ∷ bs) = exposed_by (expose T b.prov) bs
+
+-- 6.2.6.1p5: a number that is no value of the type; here a `_Bool` above 1
+abbrev pub is_trap : IntKind → ℕ → Bool
+is_trap BoolKind n = nat_lt 1 n
+is_trap Char n = false
+is_trap SChar n = false
+is_trap UChar n = false
+is_trap Short n = false
+is_trap UShort n = false
+is_trap Int n = false
+is_trap UInt n = false
+is_trap Long n = false
+is_trap ULong n = false
+is_trap LLong n = false
+is_trap ULLong n = false
+
+-- a byte without a value is unset as a character, and indeterminate as any other integer
+abbrev pub integer_of : Table → IntKind → List Byte → Option ℕ → Loaded
+integer_of T k bytes None = if is_character k then (Ok (value.Unset, untried), exposed_by T bytes) else (Err Indeterminate, T)
+integer_of T k bytes (Some n) =
+    if is_trap k n then (Err (fault clause.Traps reason.Trap), T)
+    else (Ok (value.Int (convert_of k (pos n)), untried), exposed_by T bytes)
+
+-- what bytes are worth at a scalar type, and what reading them does to the table
+abbrev pub value_of : Table → List Byte → Scalar → Loaded
+value_of T bytes (scalar.Int k) = integer_of T k bytes (number_in bytes)
+value_of T bytes scalar.Pointer = pointer_of T bytes (number_in bytes)
+
+-- a load reads the bytes from its address on. All bytes stay
+abbrev pub load : Mem → ℕ → Scalar → Loaded
+load M a t = value_of M.table (read M.bytes a (size_of t)) t
+
+-- two instances fit at the number
+abbrev pub FitsTwo : Table → ℕ → Type 0
+FitsTwo T a = IsSome (found_at T a).high
+
+-- the bytes are no whole pointer, and a number at which two instances fit
+abbrev pub MakesPair : Table → List Byte → Scalar → Type 0
+MakesPair T bytes (scalar.Int k) = ⊥
+MakesPair T bytes scalar.Pointer = (whole_name bytes ≡ None) × IsSomeAnd (number_in bytes) (FitsTwo T)
+
+-- this answer and this table; or no memory, only where a pair is made, and nothing changed
+abbrev pub OrNoPair : {A : Type 0} → Type 0 → Result A Stop → Table → Table → Result A Stop × Table → Type 0
+OrNoPair two (Err NoMemory) old new wanted = (new ≡ old) × two
+OrNoPair two r old new wanted = (r ≡ wanted.0) × (new ≡ wanted.1)

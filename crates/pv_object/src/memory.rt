@@ -1,0 +1,424 @@
+// The memory: its instances, accesses to them, and the steps that change its table.
+ghost use Rattle.std.specs.Prelude.{◌≡◌, ◌+◌, ◌<◌, ◌≤◌, ◌↔◌, ◌^◌, length, take, All, IfOk, IfNone, OnOk, OnErr, IsSome, true, codes, option_to_list, drop, ◌++◌, []};
+ghost use Rattle.pv_prov.specs.declared.names.Prov.{Prov};
+ghost use Rattle.pv_script.specs.Names.{name_at as text_of};
+ghost use Rattle.pv_inst.specs.Table.{IsMadeIn};
+ghost use Rattle.pv_inst.specs.Use.{use_answer, settled, is_heap};
+ghost use Rattle.pv_inst.specs.Same.{same_answer, after_same};
+ghost use Rattle.pv_inst.specs.Ending.{IsLive};
+ghost use Rattle.pv_inst.specs.Exposure.{expose};
+ghost use Rattle.pv_inst.specs.Finding.{name_at, after_name, found_at};
+ghost use Rattle.pv_shadow.specs.Bytes.{HasBytes, read};
+ghost use Rattle.pv_object.specs.Memory.{Mem, with_table, empty_memory, IsReach};
+ghost use Rattle.pv_object.specs.Later.{IsLater};
+ghost use Rattle.pv_object.specs.Values.{IsOf, IsMadeValue};
+ghost use Rattle.pv_object.specs.Encoding.{size_of, encode};
+ghost use Rattle.pv_object.specs.Access.{reach};
+ghost use Rattle.pv_object.specs.Loading.{value_of, load, exposed_by, tested, integer_of, loaded_name, pointer_of, MakesPair, FitsTwo, OrNoPair};
+ghost use Rattle.pv_object.specs.Storing.{with_bytes, stored, copied};
+ghost use Rattle.pv_object.specs.Creating.{created, without, OrSpent, HasSize};
+ghost use Rattle.pv_object.specs.Encoding.{number_in};
+
+use crate::checks::{Wish, checked_in, chosen, clause_of, range_stop, undefined};
+use crate::encoding;
+use crate::values::{Asker, Pointer, Reach, Scalar, Stop, Value};
+use pv_inst::{CreateError, Instances, Kind, Miss, Test, Tried};
+use pv_num::{Clause, IntKind, Reason, convert};
+use pv_prov::{NoMemory, Prov};
+use pv_script::{Names, Script};
+use pv_shadow::{BLANK, Byte, Bytes};
+use std::alloc::Global;
+use std::marker::Model;
+
+/// What a use finds that tests nothing.
+const UNTRIED: Tried = Tried {
+    pair: None,
+    low: false,
+    high: false,
+};
+
+/// The storage instances of a run and the bytes of the live ones, seen as `Mem`.
+#[derive(Drop)]
+pub struct Memory {
+    alloc: Global,
+    table: Instances,
+    bytes: Bytes,
+}
+
+impl Model for Memory {
+    ghost use Rattle.std.specs.Coded.{codes};
+    ghost use Rattle.pv_inst.specs.CountsCode.{counts_code};
+    ghost use Rattle.pv_object.specs.Codes.{store_code};
+    ghost use Rattle.pv_object.specs.Memory.{Mem, HasLiveBytes};
+
+    ghost Value = { Mem };
+
+    ghost coded = { Prim.hlevel (codes, counts_code, store_code) };
+
+    ghost view = { λ m. record { table = m.table; bytes = m.bytes } };
+
+    ghost invariant = { λ m. HasLiveBytes m.table m.bytes };
+}
+
+// The first n of eight bytes stand in memory.
+fn first_bytes(bytes: &Bytes, a: u64, n: usize) -> [Byte; 8]
+    requires few { n ≤ 8 }
+    requires there { HasBytes bytes.now a n }
+    requires within { a + n < 2 ^ 64 }
+    ensures { take n result ≡ read bytes.now a n }
+{
+    let mut first = [BLANK; 8];
+    bytes.read(a, &mut first[..n]);
+    first
+}
+
+// The bytes that stand in memory.
+fn fetch(alloc: Global, bytes: &Bytes, a: u64, n: u64) -> Result<Vec<Byte>, NoMemory>
+    requires there { HasBytes bytes.now a n }
+    requires within { a + n < 2 ^ 64 }
+    ensures { IfOk result (λ v. v.items ≡ read bytes.now a n) }
+{
+    let mut copy = vec![in alloc; BLANK; n as usize]?;
+    bytes.read(a, &mut copy);
+    Ok(copy)
+}
+
+impl Memory {
+    /// The memory without instances.
+    pub fn new(alloc: Global, script: Script, names: &Names) -> Result<Self, NoMemory>
+        ensures { IfOk result (λ m. m ≡ empty_memory script) }
+    {
+        Ok(Memory {
+            alloc,
+            table: Instances::new(alloc, script, names)?,
+            bytes: Bytes::new(alloc),
+        })
+    }
+
+    /// The table of instances, for reading.
+    pub fn instances(&self) -> &Instances
+        ensures { result.now ≡ self.now.table }
+    {
+        &self.table
+    }
+
+    // A use of a name: see `Instances::narrow`.
+    pub(crate) fn narrow(&mut self, p: Prov, test: Test) -> Result<Tried, Miss>
+        requires { IsMadeIn self.old.table p }
+        ensures answer { result ≡ use_answer self.old.table p test }
+        ensures state { self.new ≡ with_table self.old (settled self.old.table p result) }
+        ensures later { IsLater self.old.table self.new.table }
+        ensures keeps { (q : Prov) → IsMadeIn self.old.table q → IsMadeIn self.new.table q }
+    {
+        self.table.narrow(p, test)
+    }
+
+    // The use of two names together: see `Instances::same`.
+    pub(crate) fn same(&mut self, p: Prov, q: Prov) -> Result<(Tried, Tried), Miss>
+        requires left { IsMadeIn self.old.table p }
+        requires right { IsMadeIn self.old.table q }
+        ensures answer { result ≡ same_answer self.old.table p q }
+        ensures state { self.new ≡ with_table self.old (after_same self.old.table p q) }
+        ensures later { IsLater self.old.table self.new.table }
+    {
+        self.table.same(p, q)
+    }
+
+    // The live candidates of a name become exposed.
+    pub(crate) fn expose(&mut self, p: Prov)
+        requires { IsMadeIn self.old.table p }
+        ensures state { self.new ≡ with_table self.old (expose self.old.table p) }
+        ensures later { IsLater self.old.table self.new.table }
+        ensures keeps { (q : Prov) → IsMadeIn self.old.table q → IsMadeIn self.new.table q }
+    {
+        self.table.expose(p);
+    }
+
+    // The name of an integer that is converted to a pointer.
+    pub(crate) fn name_for(&mut self, a: u64) -> Result<Prov, NoMemory>
+        ensures name { IfOk result (λ p. p ≡ name_at self.old.table a) }
+        ensures state { OnOk result (self.new ≡ with_table self.old (after_name self.old.table a)) }
+        ensures made { IfOk result (λ p. IsMadeIn self.new.table p) }
+        ensures unchanged { OnErr result (self.new ≡ self.old) }
+        ensures later { IsLater self.old.table self.new.table }
+        ensures only { OnErr result (FitsTwo self.old.table a) }
+    {
+        self.table.name_for(a)
+    }
+
+    /// The use of a pointer that `free` or `realloc` is given (7.22.3.3, 7.22.3.5): it points to a live allocation.
+    pub fn block(&mut self, p: Pointer) -> Result<Tried, Miss>
+        requires { IsMadeIn self.old.table p.prov }
+        ensures answer { result ≡ use_answer self.old.table p.prov (Test.Block p.address) }
+        ensures state { self.new ≡ with_table self.old (settled self.old.table p.prov result) }
+        ensures later { IsLater self.old.table self.new.table }
+    {
+        let address = p.address;
+        self.narrow(p.prov, Test::Block { address })
+    }
+
+    /// The next instance that became exposed and was not given yet.
+    pub fn next_exposed(&mut self) -> Option<u64>
+        ensures given { self.old.table.pending ≡ option_to_list result ++ self.new.table.pending }
+        ensures none { IfNone result (self.old.table.pending ≡ []) }
+        ensures rest { self.new ≡ with_table self.old (record self.old.table { pending = drop 1 self.old.table.pending }) }
+    {
+        self.table.next_exposed()
+    }
+
+    /// A new instance with blank bytes, or why there is none. After `NoMemory` the memory isn't used again.
+    pub fn create(
+        &mut self,
+        names: &Names,
+        name: u32,
+        size: u64,
+        align: u64,
+        kind: Kind,
+    ) -> Result<u64, CreateError>
+        requires named { name < length names.now }
+        requires sized { 1 ≤ size }
+        requires aligned { 1 ≤ align }
+        requires heap { (text_of names.now name ≡ codes "@heap") ↔ (is_heap kind ≡ true) }
+        ensures answer { OrSpent result self.new (created self.old (record {
+          text = text_of names.now name;
+          name = name;
+          size = size;
+          align = align;
+          kind = kind;
+        })) }
+        ensures live { IfOk result (λ i. IsLive self.new.table.instances i) }
+        ensures sized { IfOk result (λ i. HasSize self.new.table.instances i size) }
+    {
+        let i = self.table.create(names, name, size, align, kind)?;
+        self.table.well_formed();
+        let Some(x) = self.table.info(i) else {
+            unreachable!();
+        };
+        match self.bytes.add(x.base, x.size) {
+            Ok(()) => Ok(i),
+            Err(NoMemory) => {
+                self.table.end(i);
+                Err(CreateError::NoMemory)
+            }
+        }
+    }
+
+    /// Ends a live instance: it has no bytes from here on. Its number is never used again.
+    pub fn end(&mut self, i: u64)
+        requires { IsLive self.old.table.instances i }
+        ensures { self.new ≡ without self.old i }
+    {
+        self.table.well_formed();
+        let Some(x) = self.table.info(i) else {
+            unreachable!();
+        };
+        self.table.end(i);
+        self.bytes.remove(x.base, x.size);
+    }
+
+    /// The checks of an access to `n` bytes through a pointer, in this order: it is not null, its name is not empty, a
+    /// candidate is live (6.2.4p2), the bytes lie in a live candidate, the address is a multiple of `align`, and what
+    /// is written to is no literal (6.4.5p7) and not const-qualified (6.7.3p6).
+    #[tactic(auto, using(crate::proofs::Later::later_itself, crate::proofs::Later::later_both))]
+    pub fn reach(
+        &mut self,
+        p: Pointer,
+        n: u64,
+        align: u64,
+        write: bool,
+        by: Asker,
+    ) -> Result<Reach, Stop>
+        requires made { IsMadeIn self.old.table p.prov }
+        requires aligned { 1 ≤ align }
+        ensures answer { result ≡ (reach self.old.table p n align write by).0 }
+        ensures state { self.new ≡ with_table self.old (reach self.old.table p n align write by).1 }
+        ensures later { IsLater self.old.table self.new.table }
+        ensures within { IfOk result (λ r. IsReach self.new.table r n) }
+    {
+        let clause = clause_of(by);
+        if p.is_null() {
+            return Err(undefined(clause, Reason::Null));
+        }
+        if p.prov.is_empty() {
+            return Err(undefined(clause, Reason::Empty));
+        }
+        let stands = self.table.stands(p.prov);
+        let test = Test::Range {
+            address: p.address,
+            size: n,
+        };
+        let tried = match self.narrow(p.prov, test) {
+            Ok(tried) => tried,
+            Err(miss) => return Err(range_stop(clause, miss)),
+        };
+        let Some(i) = chosen(stands, tried) else {
+            return Err(undefined(clause, Reason::Outside));
+        };
+        let wish = Wish {
+            clause,
+            pointer: p,
+            size: n,
+            align,
+            write,
+        };
+        checked_in(i, wish, tried, self.table.info(i))
+    }
+
+    /// The value at a place that was reached. All bytes stay.
+    ///
+    /// `Indeterminate` exactly where a byte that is needed has no value; `NoMemory` only where a new pair is made.
+    pub fn load(&mut self, at: &Reach, t: Scalar) -> Result<(Value, Tried), Stop>
+        requires { IsReach self.old.table at.now (size_of t) }
+        ensures answer { OrNoPair (MakesPair self.old.table (read self.old.bytes at.now.address (size_of t)) t) result self.old.table self.new.table (load self.old at.now.address t) }
+        ensures bytes { self.new.bytes ≡ self.old.bytes }
+        ensures later { IsLater self.old.table self.new.table }
+        ensures made { IfOk result (λ r. IsMadeValue self.new.table r.0) }
+    {
+        self.table.well_formed();
+        let size = encoding::size_of(t);
+        let bytes = first_bytes(&self.bytes, at.address, size);
+        self.value_of(&bytes[..size], t)
+    }
+
+    /// What bytes are worth at a scalar type, of which they have the size: as a load of them.
+    pub fn value_of(&mut self, bytes: &[Byte], t: Scalar) -> Result<(Value, Tried), Stop>
+        requires size { length bytes.now ≡ size_of t }
+        requires made { All (λ b. IsMadeIn self.old.table b.prov) bytes.now }
+        ensures answer { OrNoPair (MakesPair self.old.table bytes.now t) result self.old.table self.new.table (value_of self.old.table bytes.now t) }
+        ensures bytes { self.new.bytes ≡ self.old.bytes }
+        ensures later { IsLater self.old.table self.new.table }
+        ensures made { IfOk result (λ r. IsMadeValue self.new.table r.0) }
+    {
+        match t {
+            Scalar::Int(kind) => self.integer_of(bytes, kind),
+            Scalar::Pointer => self.pointer_of(bytes),
+        }
+    }
+
+    /// The provenance name of the pointer that bytes are, before its live test; of two instances that fit their number
+    /// it is the pair that a load would make next. None where a byte has no value. Nothing changes.
+    pub fn loaded_name(&self, bytes: &[Byte]) -> Option<Prov>
+        requires { length bytes.now ≤ 8 }
+        ensures { result ≡ loaded_name self.now.table bytes.now }
+    {
+        let address = encoding::number(bytes)?;
+        match encoding::whole_name(bytes) {
+            Some(prov) => Some(prov),
+            None => Some(self.table.name_at(address)),
+        }
+    }
+
+    // What bytes are worth at an integer type. The names of the bytes that are read become exposed.
+    #[tactic(auto, using(crate::proofs::Later::later_itself, crate::proofs::Later::later_both))]
+    fn integer_of(&mut self, bytes: &[Byte], kind: IntKind) -> Result<(Value, Tried), Stop>
+        requires size { length bytes.now ≤ 8 }
+        requires made { All (λ b. IsMadeIn self.old.table b.prov) bytes.now }
+        ensures answer { result ≡ (integer_of self.old.table kind bytes.now (number_in bytes.now)).0 }
+        ensures state { self.new ≡ with_table self.old (integer_of self.old.table kind bytes.now (number_in bytes.now)).1 }
+        ensures later { IsLater self.old.table self.new.table }
+        ensures made { IfOk result (λ r. IsMadeValue self.new.table r.0) }
+    {
+        let Some(number) = encoding::number(bytes) else {
+            if !encoding::is_character(kind) {
+                return Err(Stop::Indeterminate);
+            }
+            self.expose_all(bytes);
+            return Ok((Value::Unset, UNTRIED));
+        };
+        if encoding::is_trap(kind, number) {
+            return Err(undefined(Clause::Traps, Reason::Trap));
+        }
+        self.expose_all(bytes);
+        Ok((Value::Int(convert(kind, i128::from(number))), UNTRIED))
+    }
+
+    // The names of bytes become exposed, from the first byte on.
+    #[tactic(auto, using(crate::proofs::Later::later_itself, crate::proofs::Later::later_both))]
+    fn expose_all(&mut self, bytes: &[Byte])
+        requires { All (λ b. IsMadeIn self.old.table b.prov) bytes.now }
+        ensures state { self.new ≡ with_table self.old (exposed_by self.old.table bytes.now) }
+        ensures later { IsLater self.old.table self.new.table }
+    {
+        for i in 0..bytes.len() {
+            self.expose(bytes[i].prov);
+        }
+    }
+
+    // What eight bytes are worth at a pointer type.
+    #[tactic(auto, using(crate::proofs::Later::later_itself, crate::proofs::Later::later_both))]
+    fn pointer_of(&mut self, bytes: &[Byte]) -> Result<(Value, Tried), Stop>
+        requires size { length bytes.now ≡ 8 }
+        requires made { All (λ b. IsMadeIn self.old.table b.prov) bytes.now }
+        ensures answer { OrNoPair (MakesPair self.old.table bytes.now Scalar.Pointer) result self.old.table self.new.table (pointer_of self.old.table bytes.now (number_in bytes.now)) }
+        ensures bytes { self.new.bytes ≡ self.old.bytes }
+        ensures later { IsLater self.old.table self.new.table }
+        ensures made { IfOk result (λ r. IsMadeValue self.new.table r.0) }
+    {
+        let Some(address) = encoding::number(bytes) else {
+            return Err(Stop::Indeterminate);
+        };
+        match encoding::whole_name(bytes) {
+            Some(prov) => self.tested(Pointer { address, prov }),
+            None => match self.name_for(address) {
+                Ok(prov) => self.tested(Pointer { address, prov }),
+                Err(NoMemory) => Err(Stop::NoMemory),
+            },
+        }
+    }
+
+    // The live test on a pointer just loaded.
+    fn tested(&mut self, p: Pointer) -> Result<(Value, Tried), Stop>
+        requires { IsMadeIn self.old.table p.prov }
+        ensures answer { result ≡ (tested self.old.table p).0 }
+        ensures state { self.new ≡ with_table self.old (tested self.old.table p).1 }
+        ensures later { IsLater self.old.table self.new.table }
+        ensures made { IfOk result (λ r. IsMadeValue self.new.table r.0) }
+    {
+        match self.narrow(p.prov, Test::Live) {
+            Ok(tried) => Ok((Value::Pointer(p), tried)),
+            Err(_) => Err(undefined(Clause::Lifetimes, Reason::Ended)),
+        }
+    }
+
+    /// Makes the bytes at a place that was reached those of a value, marked by the type. All other bytes stay.
+    pub fn store(&mut self, at: &Reach, t: Scalar, v: &Value, mark: Option<u32>)
+        requires reached { IsReach self.old.table at.now (size_of t) }
+        requires value { IsOf t v.now }
+        requires made { IsMadeValue self.old.table v.now }
+        ensures { self.new ≡ stored self.old at.now.address t v.now mark }
+    {
+        let bytes = encoding::encode(t, v, mark);
+        let size = encoding::size_of(t);
+        self.write_bytes(at, &bytes[..size]);
+    }
+
+    /// Makes the `n` bytes at a place those that stand at another, whole. All other bytes stay.
+    pub fn copy(&mut self, to: &Reach, from: &Reach, n: u64)
+        requires target { IsReach self.old.table to.now n }
+        requires source { IsReach self.old.table from.now n }
+        ensures { self.new ≡ copied self.old to.now.address from.now.address n }
+    {
+        self.table.well_formed();
+        self.bytes.copy(to.address, from.address, n);
+    }
+
+    /// The `n` bytes at a place that was reached.
+    pub fn read_bytes(&self, at: &Reach, n: u64) -> Result<Vec<Byte>, NoMemory>
+        requires { IsReach self.now.table at.now n }
+        ensures bytes { IfOk result (λ v. v.items ≡ read self.now.bytes at.now.address n) }
+        ensures made { IfOk result (λ v. All (λ b. IsMadeIn self.now.table b.prov) v.items) }
+    {
+        self.table.well_formed();
+        fetch(self.alloc, &self.bytes, at.address, n)
+    }
+
+    /// Makes the bytes at a place that was reached these, whole. All other bytes stay.
+    pub fn write_bytes(&mut self, at: &Reach, bytes: &[Byte])
+        requires reached { IsReach self.old.table at.now (length bytes.now) }
+        requires made { All (λ b. IsMadeIn self.old.table b.prov) bytes.now }
+        ensures { self.new ≡ with_bytes self.old at.now.address bytes.now }
+    {
+        self.table.well_formed();
+        self.bytes.write(at.address, bytes);
+    }
+}
