@@ -13,4 +13,6 @@ mod instances;
 #[cfg(test)]
 mod lines;
 #[cfg(test)]
+mod memory;
+#[cfg(test)]
 mod scripts;

@@ -7,7 +7,7 @@ use std::process::Abort;
 const PAIRS: i128 = 0x1000_0000;
 
 /// The words, other than numbers and pairs.
-static WORDS: [(&str, i128); 23] = [
+static WORDS: [(&str, i128); 43] = [
     ("@lit", 0),
     ("@heap", 1),
     ("a", 2),
@@ -31,9 +31,30 @@ static WORDS: [(&str, i128); 23] = [
     ("range", -9),
     ("misaligned", -10),
     ("overlap", -11),
+    ("bool", 0),
+    ("char", 1),
+    ("schar", 2),
+    ("uchar", 3),
+    ("short", 4),
+    ("ushort", 5),
+    ("int", 6),
+    ("uint", 7),
+    ("long", 8),
+    ("ulong", 9),
+    ("llong", 10),
+    ("ullong", 11),
+    ("pointer", 12),
+    ("unset", -12),
+    ("read", 0),
+    ("write", 1),
+    ("access", 0),
+    ("member", 1),
+    ("text", 2),
+    ("print", 3),
 ];
 
-/// The number of a word: `0x1f`, `-12`, `p1` for the name of a pair, or one of the words above.
+/// The number of a word: `0x1f`, `-12`, `p1` for the name of a pair, `r1` for a place of a
+/// pointer, or one of the words above.
 fn number(rt: &impl Abort, word: &str) -> i128 {
     for (known, n) in &WORDS {
         if *known == word {
@@ -42,6 +63,9 @@ fn number(rt: &impl Abort, word: &str) -> i128 {
     }
     if let Some(digits) = word.strip_prefix("0x") {
         return i128::from(u64::from_str_radix(digits, 16).expect(rt, "no digits"));
+    }
+    if let Some(digits) = word.strip_prefix("r") {
+        return i128::from(digits.parse::<u32>().expect(rt, "no place"));
     }
     if let Some(digits) = word.strip_prefix("p") {
         return PAIRS + i128::from(digits.parse::<u32>().expect(rt, "no pair"));
