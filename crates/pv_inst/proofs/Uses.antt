@@ -6,14 +6,14 @@ use Rattle.pv_prov.specs.declared.names.Prov.{Prov}
 use Rattle.pv_prov.specs.declared.names.Prov.TheVariants.{Empty, Inst, Pair}
 use Rattle.pv_prov.specs.declared.pairs.Twin.{Twin}
 use Rattle.pv_prov.specs.declared.names.Stands.{Stands}
-use Rattle.pv_prov.specs.Names.{stands, stands_of, those_kept, twin_at, keeping, alone}
+use Rattle.pv_prov.specs.Names.{stands, stands_of, twin_at, keeping, alone}
 use Rattle.pv_inst.specs.declared.values.Instance.{Instance}
 use Rattle.pv_inst.specs.declared.values.Test.{Test}
 use Rattle.pv_inst.specs.declared.values.Test.TheVariants.{Live, Range, Block}
 use Rattle.pv_inst.specs.declared.values.Tried.{Tried}
 use Rattle.pv_inst.specs.declared.values.Miss.{Miss}
 use Rattle.pv_inst.specs.Table.{Table, IsMadeIn}
-use Rattle.pv_inst.specs.Use.{survives, any_survives, miss_of, judged, if_two, use_answer, settled, tried_by}
+use Rattle.pv_inst.specs.Use.{survives, any_survives, judged, if_two, use_answer, settled, tried_by}
 use Rattle.pv_inst.proofs.Together.{slice_get-set_here}
 
 judged_ok : (xs : List Instance) (s : Stands) (pair : Option ℕ) (t : Test) (tried : Tried) → judged xs s pair t ≡ Ok tried → (any_survives xs s t ≡ true) × (tried ≡ record { pair = pair; low = survives xs s.low t; high = survives xs s.high t })
