@@ -1,11 +1,11 @@
 -- What the index tells of accesses.
-use Rattle.std.proofs.Common.{◌≡◌, ◌≤◌, ◌<◌, ◌+◌, ◌-◌, ℕ, zero, suc, Bool, true, false, ◌||◌, ◌&&◌, List, [], ◌∷◌, ◌++◌, length, take, get_or, Option, Some, None, cond, if◌then◌else◌, refl, sym, ap, subst, ◌∙◌, arith, inl, inr}
+use Rattle.std.proofs.Common.{◌≡◌, ◌≤◌, ◌<◌, ◌+◌, ◌-◌, ℕ, zero, suc, Bool, true, false, ◌||◌, ◌&&◌, List, [], ◌∷◌, ◌++◌, length, take, get_or, Some, None, cond, if◌then◌else◌, refl, sym, ap, subst, ◌∙◌, arith, inl, inr}
 use Rattle.std.specs.Prelude.{find}
 use Rattle.std.specs.Option.{option_or}
 use Rattle.std.proofs.lemmas.List.{length-take-le, length_push, get_or-take, get_or_append_left}
 use Rattle.std.proofs.lemmas.Bool.{cases_Bool, cases_eq, true≢false}
 use Rattle.pv_seq.specs.Sequencing.{Access, clash, overlap}
-use Rattle.pv_seq.specs.Marks.{marked, AllMarked, NoneMarked}
+use Rattle.pv_seq.specs.Marks.{marked, NoneMarked}
 use Rattle.pv_seq.specs.Found.{is_narrow, no_access, IsFound, AreFound, NoneClash, Stands}
 use Rattle.pv_seq.specs.Frames.{row}
 use Rattle.pv_seq.specs.declared.index.Index.{Index}
@@ -37,8 +37,8 @@ no_clash : (x : Index) (a b : Access) (n start end : ℕ) → start ≤ n → n 
 no_clash x a b n start end le lt narrow f nw nr = elim (cases_Bool (clash a b)) [
   | inl e ↦
       absurd
-          (none_shared x a b n start end le lt (overlapping_share a b (and_right (b.writes || a.writes) (overlap a b) e)) b.writes refl narrow f nw
-          (λ w. nr (ap (λ v. v || a.writes) (sym w) ∙ and_left (b.writes || a.writes) (overlap a b) e)))
+      (none_shared x a b n start end le lt (overlapping_share a b (and_right (b.writes || a.writes) (overlap a b) e)) b.writes refl narrow f nw
+      (λ w. nr (ap (λ v. v || a.writes) (sym w) ∙ and_left (b.writes || a.writes) (overlap a b) e)))
   | inr e ↦ e
 ]
 
@@ -81,10 +81,13 @@ found_kept x y accesses kept e h =
 
 pub found_more : (x y : Index) (accesses : List Access) → ((b : Access) (n : ℕ) → IsFound x b n → IsFound y b n) → x.known < length accesses → IsFound y (get_or accesses x.known no_access) x.known → AreFound x accesses
     → (x.known + 1 ≤ length accesses) × ((n : ℕ) → n < x.known + 1 → IsFound y (get_or accesses n no_access) n)
-found_more x y accesses kept some f h = (omega (arith, some), λ n lt. elim (cases_eq n x.known) [
-  | inl e ↦ subst (λ k. IsFound y (get_or accesses k no_access) k) (sym e) f
-  | inr other ↦ kept (get_or accesses n no_access) n (h.1 n (omega (arith, lt, other)))
-])
+found_more x y accesses kept some f h = (
+  omega (arith, some),
+  λ n lt. elim (cases_eq n x.known) [
+    | inl e ↦ subst (λ k. IsFound y (get_or accesses k no_access) k) (sym e) f
+    | inr other ↦ kept (get_or accesses n no_access) n (h.1 n (omega (arith, lt, other)))
+  ],
+)
 
 -- ---- accesses that the index forgets, lists that grow and are cut
 
@@ -123,9 +126,9 @@ stands_cut ws number n some last lt (i, before, e) =
 
 pub begins_later : (a : Access) (xs : List Access) (start middle end : ℕ) → start ≤ middle → middle ≤ end → end ≤ length xs → NoneClash a xs start middle → find (clash a) (row middle end xs) ≡ find (clash a) (row start end xs)
 begins_later a xs start middle end le order whole h = sym (
-  ap (find (clash a)) (sym (row_joined start middle end xs le order)) ∙ find_both (clash a) (row start middle xs) (row middle end xs)
-  ∙ ap (λ x. option_or x (find (clash a) (row middle end xs))) (none_row a xs start middle le (omega (arith, order, whole)) h)
-)
+    ap (find (clash a)) (sym (row_joined start middle end xs le order)) ∙ find_both (clash a) (row start middle xs) (row middle end xs)
+    ∙ ap (λ x. option_or x (find (clash a) (row middle end xs))) (none_row a xs start middle le (omega (arith, order, whole)) h)
+    )
 
 found_either : (x : Index) (ls : List Access) (a : Access) (w : Bool) → AreFound x ls → AreFound x (if w then ls ++ a ∷ [] else ls)
 found_either x ls a true h = found_pushed x ls a h

@@ -1,5 +1,5 @@
 -- What the index knows of the first accesses in a list: a narrow one is found at each of its bytes, a wide one by its number.
-use Rattle.std.specs.Prelude.{◌≡◌, ℕ, ◌+◌, ◌<◌, ◌≤◌, true, false, Bool, ◌&&◌, nat_lt, nat_le, List, length, get_or}
+use Rattle.std.specs.Prelude.{◌≡◌, ℕ, ◌<◌, ◌≤◌, true, false, Bool, ◌&&◌, nat_lt, nat_le, List, length, get_or}
 use Rattle.pv_seq.specs.Sequencing.{Access, clash}
 use Rattle.pv_seq.specs.Marks.{AllMarked}
 use Rattle.pv_seq.specs.declared.index.Index.{Index}

@@ -12,7 +12,7 @@ use std::alloc::Global;
 use std::collections::BTreeSet;
 
 /// As many accesses are compared one by one in about the time of a search by address.
-const FEW: usize = 256;
+const FEW: usize = 1024;
 
 /// Where the first accesses of a list are found by address.
 #[derive(Drop)]

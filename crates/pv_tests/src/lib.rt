@@ -11,6 +11,10 @@ mod numbers;
 #[cfg(test)]
 mod outside;
 #[cfg(test)]
+mod sequences;
+#[cfg(test)]
+mod texts;
+#[cfg(test)]
 mod tokens;
 #[cfg(test)]
 mod types;

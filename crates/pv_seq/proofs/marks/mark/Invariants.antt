@@ -1,4 +1,3 @@
-use Rattle.std.proofs.Common.{◌≤◌}
 use Rattle.pv_seq.specs.Marks.{AllMarked, KeepsMarks}
 use Rattle.pv_seq.proofs.marks.mark.Given as goal
 
