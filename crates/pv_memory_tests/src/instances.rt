@@ -164,8 +164,12 @@ fn same(rt: &impl Abort, table: &mut Instances, p: i128, q: i128) -> [i128; 8] {
 
 fn narrow(rt: &impl Abort, table: &mut Instances, p: i128, test: Test) -> [i128; 8] {
     let p = known(rt, table, p);
+    let before = table.stands(p);
     match table.narrow(p, test) {
-        Ok(x) => list(&[pair_of(x), x.low.into(), x.high.into()]),
+        Ok(x) => {
+            assert!(rt; table.tried_since(known(rt, table, number_of(p)), before) == x);
+            list(&[pair_of(x), x.low.into(), x.high.into()])
+        }
         Err(miss) => missed(miss),
     }
 }
@@ -193,7 +197,9 @@ fn end(rt: &impl Abort, table: &mut Instances, i: u64) -> [i128; 8] {
 /// What asks for names, or for what they stand for.
 fn named(rt: &impl Abort, table: &mut Instances, word: &str, n: [i128; 8]) -> [i128; 8] {
     if word == "name" {
+        let next = table.name_at(wide(n[0]));
         let p = table.name_for(wide(n[0])).expect(rt, "no memory");
+        assert!(rt; p == next);
         return list(&[number_of(p)]);
     }
     if word == "at" {

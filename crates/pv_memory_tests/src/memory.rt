@@ -8,7 +8,7 @@ ghost use Rattle.pv_object.specs.Encoding.{size_of};
 ghost use Rattle.pv_inst.specs.Table.{IsMadeIn};
 
 use crate::instances::{kind_of, missed, names, pair_of, refused, script_of};
-use crate::lines::{list, number_of, numbers, short, wide};
+use crate::lines::{list, name_of, number_of, numbers, short, wide};
 use checks::{BYTES, CHECKS, VALUES};
 use mixed::{MIXED_1, MIXED_2, MIXED_3, MIXED_4};
 use mixed_more::{MIXED_5, MIXED_6, MIXED_7, MIXED_8};
@@ -21,7 +21,7 @@ use pv_script::Names;
 use std::alloc::Global;
 use std::cmp::Ordering;
 use std::process::Abort;
-use uses::{POINTERS, USES};
+use uses::{NAMED, POINTERS, USES};
 
 mod checks;
 mod mixed;
@@ -83,6 +83,7 @@ fn mark_of(n: i128) -> Option<u32> {
 fn size_of(t: Scalar) -> u64
     ensures size { result ≡ size_of t }
     ensures some { 1 ≤ result }
+    ensures few { result ≤ 8 }
 {
     match t {
         Scalar::Int(IntKind::Bool | IntKind::Char | IntKind::SChar | IntKind::UChar) => 1,
@@ -140,7 +141,11 @@ fn value_of(
     let at = memory.reach(p, size, 1, false, Asker::Access)?;
     let bytes = memory.read_bytes(&at, size).expect(rt, "no memory");
     assert!(rt; bytes.len() as u64 == size);
+    let name = memory.loaded_name(&bytes);
     let (value, tried) = memory.value_of(&bytes, t)?;
+    if let Value::Pointer(q) = value {
+        assert!(rt; name == Some(q.prov));
+    }
     Ok((value, at.tried, tried))
 }
 
@@ -417,6 +422,16 @@ impl Bench {
         list(&[info.base.into()])
     }
 
+    /// A pointer of this address and this name.
+    fn set(&mut self, n: [i128; 8]) -> [i128; 8] {
+        let p = Pointer {
+            address: wide(n[1]),
+            prov: name_of(n[2]),
+        };
+        self.keep(n[0], p);
+        list(&[])
+    }
+
     fn end(&mut self, rt: &impl Abort, i: u64) -> [i128; 8] {
         match self.memory.instances().info(i) {
             Some(_) => self.memory.end(i),
@@ -438,6 +453,7 @@ impl Bench {
             "make" => Ok(make(rt, &mut self.memory, &self.names, n)),
             "end" => Ok(self.end(rt, wide(n[0]))),
             "base" => Ok(self.base(rt, n[0], wide(n[1]))),
+            "set" => Ok(self.set(n)),
             "ptr" => self.found(n[0], n[1]),
             "exposed" => Ok(list(&[self.memory.next_exposed().unwrap_or(0).into()])),
             _ => self.by_two(rt, word, n),
@@ -483,7 +499,11 @@ fn check_all(rt: &impl Abort, alloc: Global, tables: &[&str]) {
 
 #[test]
 fn sequences_of_operations(rt: HostRuntime) {
-    check_all(&rt, rt.alloc(), &[CHECKS, VALUES, BYTES, POINTERS, USES]);
+    check_all(
+        &rt,
+        rt.alloc(),
+        &[CHECKS, VALUES, BYTES, POINTERS, NAMED, USES],
+    );
 }
 
 #[test]
