@@ -1,0 +1,9 @@
+-- Tables of a unit in which a line of words is read.
+use Rattle.std.specs.Prelude.{◌<◌, length}
+use Rattle.pv_types.specs.declared.terms.TypeId.{TypeId}
+use Rattle.pv_typed.specs.Tables.{Stored}
+use Rattle.pv_typed.specs.Formed.{AreKnown}
+
+-- all parts are there, the structure of the lines too
+abbrev pub IsReady : Stored → TypeId → Type 0
+IsReady u s = AreKnown u × (s.0 < length u.known.terms)
