@@ -5,6 +5,8 @@
 #![tactic(auto)]
 
 #[cfg(test)]
+mod halls;
+#[cfg(test)]
 mod memory;
 #[cfg(test)]
 mod numbers;

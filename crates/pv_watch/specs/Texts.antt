@@ -1,0 +1,109 @@
+-- The texts of the kinds of watchers.
+use Rattle.std.specs.Prelude.{ℕ, Bool, true, false, List, [], ◌∷◌, ◌++◌, length, codes, if◌then◌else◌, ◌==◌, ◌||◌, Option, Some, None}
+use Rattle.std.specs.List.{filter}
+use Rattle.std.specs.Fmt.{decimal}
+use Rattle.pv_watch.specs.declared.event.Event.{Event}
+use Rattle.pv_watch.specs.declared.event.What.{What}
+use Rattle.pv_watch.specs.declared.event.What.TheVariants.{Made, Ended, Exposed, Pair, Tried, Fault}
+use Rattle.pv_watch.specs.Lines.{first_told, line, event_lines}
+
+-- ---- kind 2: how many events of each kind were seen
+
+abbrev pub word_of : What → List ℕ
+word_of (Made inst name k base size) = codes "create"
+word_of (Ended inst) = codes "end"
+word_of (Exposed inst) = codes "expose"
+word_of (Pair pair address low high) = codes "pair"
+word_of (Tried pair test low high) = codes "use"
+word_of (Fault verdict low high pair) = codes "fault"
+
+-- which of the six
+abbrev pub place_of : What → ℕ
+place_of (Made inst name k base size) = 0
+place_of (Ended inst) = 1
+place_of (Exposed inst) = 2
+place_of (Pair pair address low high) = 3
+place_of (Tried pair test low high) = 4
+place_of (Fault verdict low high pair) = 5
+
+abbrev pub counted : List Event → ℕ → ℕ
+counted seen place = length (filter (λ (e : Event). place_of e.what == place) seen)
+
+abbrev pub count_line : List ℕ → ℕ → List ℕ
+count_line word n = line (word ++ codes " " ++ decimal n)
+
+abbrev pub census_text : List Event → List ℕ
+census_text seen =
+    count_line (codes "create") (counted seen 0) ++ count_line (codes "end") (counted seen 1) ++ count_line (codes "expose") (counted seen 2)
+    ++ count_line (codes "pair") (counted seen 3) ++ count_line (codes "use") (counted seen 4) ++ count_line (codes "fault") (counted seen 5)
+
+-- ---- kind 3: the pairs, and their uses
+
+abbrev pub is_of_pair : What → Bool
+is_of_pair (Pair pair address low high) = true
+is_of_pair (Tried pair test low high) = true
+is_of_pair _ = false
+
+abbrev pub pointers_text : List Event → List (List ℕ) → List ℕ
+pointers_text seen names = event_lines seen names (filter (λ (e : Event). is_of_pair e.what) seen)
+
+-- ---- kind 1: what led to the fault
+
+-- the candidates and the pair of the pointer that was tested
+pub record Suspects : Type 0 where
+  pub low : Option ℕ
+  pub high : Option ℕ
+  pub pair : Option ℕ
+
+abbrev pub suspects_of : What → Option Suspects
+suspects_of (Fault verdict low high pair) = Some (record { low = low; high = high; pair = pair })
+suspects_of _ = None
+
+abbrev pub is_that : Option ℕ → ℕ → Bool
+is_that None i = false
+is_that (Some n) i = n == i
+
+abbrev pub is_suspect : Suspects → ℕ → Bool
+is_suspect s i = is_that s.low i || is_that s.high i
+
+-- it names a candidate or the pair; a pair's making names its two instances too, a use its pair alone
+abbrev pub concerns : Suspects → What → Bool
+concerns s (Made inst name k base size) = is_suspect s inst
+concerns s (Ended inst) = is_suspect s inst
+concerns s (Exposed inst) = is_suspect s inst
+concerns s (Pair pair address low high) = is_suspect s low || is_suspect s high || is_that s.pair pair
+concerns s (Tried pair test low high) = is_that s.pair pair
+concerns s (Fault verdict low high pair) = false
+
+abbrev pub is_fault : What → Bool
+is_fault (Fault verdict low high pair) = true
+is_fault _ = false
+
+-- these and the first fault event, which isn't behind `passed`
+abbrev pub concerning : Suspects → (passed : Bool) → List Event → List Event
+concerning s passed [] = []
+concerning s passed (e ∷ es) =
+    if is_fault e.what then (if passed then concerning s true es else e ∷ concerning s true es)
+    else if concerns s e.what then e ∷ concerning s passed es
+    else concerning s passed es
+
+abbrev pub explained : List Event → List (List ℕ) → Option Suspects → List ℕ
+explained seen names None = line (codes "no fault")
+explained seen names (Some s) = event_lines seen names (concerning s false seen)
+
+abbrev pub explain_text : List Event → List (List ℕ) → List ℕ
+explain_text seen names = explained seen names (first_told suspects_of seen)
+
+-- ---- all of them
+
+-- as many events as wanted were seen, so that later ones may be missing
+abbrev pub cut : ℕ → List Event → List ℕ
+cut wants seen = if length seen == wants then line (codes "cut") else []
+
+-- the text of a kind, none where the kind has a text of its own
+abbrev pub text_of : (kind wants : ℕ) → List Event → List (List ℕ) → Option (List ℕ)
+text_of kind wants seen names =
+    if kind == 1 then Some (explain_text seen names ++ cut wants seen)
+    else if kind == 2 then Some (census_text seen ++ cut wants seen)
+    else if kind == 3 then Some (pointers_text seen names ++ cut wants seen)
+    else None

@@ -1,0 +1,16 @@
+//! What is told of a run, and the hall of those who watch it.
+//!
+//! A run tells an event for each thing that happens in its memory and for its verdict. A watcher sees the events and has a
+//! text; a hall keeps watchers in their order, and the texts of those that have seen enough.
+#![tactic(auto)]
+
+mod error;
+mod event;
+mod hall;
+mod seats;
+mod watch;
+
+pub use error::NoMemory;
+pub use event::{Event, Verdict, What};
+pub use hall::Hall;
+pub use watch::{Attend, Watch};
