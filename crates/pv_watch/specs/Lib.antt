@@ -2,3 +2,4 @@ pub mod Lines
 pub mod Texts
 pub mod Seen
 pub mod Slots
+pub mod Halls

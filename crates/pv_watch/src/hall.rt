@@ -1,7 +1,8 @@
 //! The hall.
 ghost use Rattle.std.specs.Prelude.{◌≡◌, map, IfOk, OnOk};
 ghost use Rattle.std.specs.List.{filter, AllZip};
-ghost use Rattle.pv_watch.specs.Slots.{slots, watcher, After, SayAll, is_kept};
+ghost use Rattle.pv_watch.specs.Slots.{watcher, After, SayAll, is_kept};
+ghost use Rattle.pv_watch.specs.Halls.{slots_in};
 
 use crate::error::NoMemory;
 use crate::event::Event;
@@ -20,7 +21,7 @@ pub struct Hall {
 impl Hall {
     /// All of them are present, in the order of the list.
     pub fn new(alloc: Global, watchers: Vec<Box<dyn Watch>>) -> Result<Hall, NoMemory>
-        ensures { IfOk result (λ h. slots (watcher its_kind its_wants seen) h.seats.items ≡ map (watcher its_kind its_wants seen) watchers.items) }
+        ensures { IfOk result (λ h. slots_in (watcher its_kind its_wants seen) h ≡ map (watcher its_kind its_wants seen) watchers.items) }
     {
         let seats = seated(alloc, watchers)?;
         Ok(Hall { alloc, seats })
@@ -28,7 +29,7 @@ impl Hall {
 
     /// Drops those of other kinds. It takes no memory.
     pub fn keep(&mut self, kinds: &[u8])
-        ensures { slots (watcher its_kind its_wants seen) self.new.seats.items ≡ filter (is_kept kinds.now) (slots (watcher its_kind its_wants seen) self.old.seats.items) }
+        ensures { slots_in (watcher its_kind its_wants seen) self.new ≡ filter (is_kept kinds.now) (slots_in (watcher its_kind its_wants seen) self.old) }
     {
         keep_kinds(&mut self.seats, kinds);
     }
@@ -37,14 +38,14 @@ impl Hall {
     ///
     /// After `NoMemory` some have seen the event and others not, and the hall is not used again.
     pub fn tell(&mut self, e: &Event, names: &Names) -> Result<(), NoMemory>
-        ensures { OnOk result (AllZip (After e.now names.now) (slots (watcher its_kind its_wants seen) self.old.seats.items) (slots (watcher its_kind its_wants seen) self.new.seats.items)) }
+        ensures { OnOk result (AllZip (After e.now names.now) (slots_in (watcher its_kind its_wants seen) self.old) (slots_in (watcher its_kind its_wants seen) self.new)) }
     {
         tell_each(self.alloc, self.seats.as_mut_slice(), e, names)
     }
 
     /// The texts of all in the order of the list, those that have left included.
     pub fn texts(&self, names: &Names) -> Result<Vec<u8>, NoMemory>
-        ensures { IfOk result (λ v. SayAll names.now (slots (watcher its_kind its_wants seen) self.now.seats.items) v.items) }
+        ensures { IfOk result (λ v. SayAll names.now (slots_in (watcher its_kind its_wants seen) self.now) v.items) }
     {
         texts_of(self.alloc, self.seats.as_slice(), names)
     }
