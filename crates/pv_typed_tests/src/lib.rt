@@ -6,4 +6,6 @@ mod constants;
 #[cfg(test)]
 mod trees;
 #[cfg(test)]
+mod units;
+#[cfg(test)]
 mod words;
