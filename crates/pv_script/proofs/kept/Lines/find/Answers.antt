@@ -1,0 +1,23 @@
+use Rattle.std.proofs.Common.{◌<◌, Some, sym, ap, ◌∙◌, subst}
+use Rattle.std.specs.Option.{option_map}
+use Rattle.pv_script.specs.Numbered.{numbered}
+use Rattle.pv_script.specs.Indexed.{found}
+use Rattle.pv_script.proofs.Keys.{unnamed, by_key, key_within, none_by_key}
+use Rattle.pv_script.proofs.kept.Lines.find.Goals as goal
+
+pub returns-in_err-number : goal.returns-in_err-number
+returns-in_err-number c = ap (option_map (λ l. numbered l.now)) c.from_residual.ensures
+    ∙ sym (unnamed c.self.inside.names c.self.inside.lines.items c.args.name.now c.args.k c.in_err-number.ensures.none c.self.invariant.known) ∙ ap (λ ls. found ls c.args.name.now c.args.k) c.self.view_is
+
+pub index-requires : goal.index-requires
+index-requires c = subst (λ n. c.in-Some.i.now < n) (sym c.self.inside.lines.ok.0)
+    (key_within c.self.inside.names c.self.inside.lines.items c.self.inside.places.entries c.args.name.now c.in_ok-number.number c.args.k c.key.result c.in-Some.i.now c.in_ok-number.ensures.once c.in_ok-number.ensures.found c.key.ensures.range c.self.invariant c.key.ensures.key c.in-Some.ensures.value)
+
+pub returns-in-Some : goal.returns-in-Some
+returns-in-Some c = ap (λ l. Some (numbered l)) c.index.ensures
+    ∙ sym (by_key c.self.inside.names c.self.inside.lines.items c.self.inside.places.entries c.args.name.now c.in_ok-number.number c.args.k c.key.result c.in-Some.i.now c.index.result.now c.in_ok-number.ensures.once c.in_ok-number.ensures.found c.key.ensures.range c.self.invariant c.key.ensures.key c.in-Some.ensures.value)
+    ∙ ap (λ ls. found ls c.args.name.now c.args.k) c.self.view_is
+
+pub returns-in-None : goal.returns-in-None
+returns-in-None c = sym (none_by_key c.self.inside.names c.self.inside.lines.items c.self.inside.places.entries c.args.name.now c.in_ok-number.number c.args.k c.key.result c.in_ok-number.ensures.once c.in_ok-number.ensures.found c.key.ensures.range c.self.invariant c.key.ensures.key c.in-None.ensures.value)
+    ∙ ap (λ ls. found ls c.args.name.now c.args.k) c.self.view_is

@@ -1,0 +1,36 @@
+-- How the lines of a script are found: by the number of the name, and the count.
+use Rattle.std.specs.Prelude.{◌≡◌, ℕ, ◌+◌, ◌*◌, ◌^◌, ◌<◌, ◌==◌, ◌&&◌, Bool, List, [], ◌∷◌, Option, None, Some, if◌then◌else◌, All, slice_get}
+use Rattle.std.specs.Option.{option_map}
+use Rattle.std.specs.Ordering.{nat_cmp}
+use Rattle.std.specs.Map.{lookup}
+use Rattle.std.specs.BTreeMap.{is_at}
+use Rattle.std.specs.Str.{bytes_eq}
+use Rattle.pv_script.specs.declared.script.Line.{Line}
+use Rattle.pv_script.specs.Scripts.{NumberedLine}
+
+-- the first line for the name and the count
+abbrev pub found : List NumberedLine → List ℕ → ℕ → Option NumberedLine
+found [] name k = None
+found (e ∷ es) name k = if e.says.k == k && bytes_eq e.says.name name then Some e else found es name k
+
+-- where the first one stands that passes
+abbrev pub first_place : {X : Type 0} → (X → Bool) → List X → Option ℕ
+first_place p [] = None
+first_place p (x ∷ xs) = if p x then Some 0 else option_map (λ i. i + 1) (first_place p xs)
+
+-- the name's number and the count as one number
+abbrev pub key : ℕ → ℕ → ℕ
+key name k = name * 2 ^ 64 + k
+
+abbrev pub has_key : ℕ → Line → Bool
+has_key q l = key l.number l.k == q
+
+-- the line's name has its number among the names
+pub record IsNamed (names : List (List ℕ)) (l : Line) : Type 0 where
+  pub named : slice_get names l.number ≡ Some l.name.items
+  pub small : l.k < 2 ^ 64
+
+-- what the ordered map has at a key is where the first line with it stands
+pub record IsIndexed (names : List (List ℕ)) (lines : List Line) (entries : List (ℕ × ℕ)) : Type 0 where
+  pub known : All (IsNamed names) lines
+  pub places : (q : ℕ) → lookup (is_at (nat_cmp q)) entries ≡ first_place (has_key q) lines
