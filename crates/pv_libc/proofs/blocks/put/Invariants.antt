@@ -1,0 +1,12 @@
+use Rattle.std.proofs.Common.{◌≡◌, ◌+◌, ◌++◌, ◌∷◌, [], map, drop, length}
+use Rattle.pv_object.specs.Memory.{IsReach}
+use Rattle.pv_object.specs.Storing.{with_bytes}
+use Rattle.pv_libc.specs.Blocks.{plain_byte}
+use Rattle.pv_libc.proofs.blocks.put.Given as goal
+
+-- the bytes that are left, put
+abbrev pub invariant-loop-i : goal.invariant-loop-i
+invariant-loop-i l = record {
+  rest : with_bytes l.memory (l.at.address + l.i) (map plain_byte (drop l.i l.text ++ 0 ∷ [])) ≡ with_bytes l.initial.memory l.at.address (map plain_byte (l.text ++ 0 ∷ []));
+  reached : IsReach l.memory.table l.at (length l.text + 1);
+}

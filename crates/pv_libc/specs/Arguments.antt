@@ -1,0 +1,56 @@
+-- The arguments of `printf`: which a conversion takes, and the text of a number or an address (C17 7.21.6.1p7, p8).
+use Rattle.std.specs.Prelude.{ℕ, ℤ, Bool, true, false, ◌&&◌, ◌==◌, not, List, Option, None, Some, if◌then◌else◌, codes}
+use Rattle.pv_num.specs.declared.kinds.IntKind.{IntKind}
+use Rattle.pv_num.specs.declared.kinds.IntKind.TheVariants as kind
+use Rattle.pv_num.specs.Kinds.{bits_of, fits_of}
+use Rattle.pv_prov.specs.Names.{is_empty}
+use Rattle.pv_object.specs.declared.values.Pointer.{Pointer}
+use Rattle.pv_object.specs.declared.values.Value.{Value}
+use Rattle.pv_object.specs.declared.values.Value.TheVariants as value
+use Rattle.pv_print.specs.Texts.{decimal_text, hexadecimal_text, address_text}
+use Rattle.pv_libc.specs.declared.values.Shape.{Shape}
+use Rattle.pv_libc.specs.declared.values.Shape.TheVariants as shape
+use Rattle.pv_libc.specs.declared.formats.Style.{Style}
+use Rattle.pv_libc.specs.declared.formats.Style.TheVariants as style
+
+-- the text of `%p`; a pointer at address 0 that has a name is not null
+abbrev pub pointer_text : Pointer → List ℕ
+pointer_text p = if p.address == 0 && not (is_empty p.prov) then codes "0x0" else address_text p.address
+
+-- 7.21.6.1p7: `l` means `long` or `unsigned long`, and without it `int` or `unsigned int`
+abbrev pub is_long : IntKind → Bool
+is_long kind.Long = true
+is_long kind.ULong = true
+is_long _ = false
+
+abbrev pub is_int : IntKind → Bool
+is_int kind.Int = true
+is_int kind.UInt = true
+is_int _ = false
+
+abbrev pub takes : (long : Bool) → IntKind → Bool
+takes long k = if long then is_long k else is_int k
+
+-- the type whose values a number conversion writes
+abbrev pub written_kind : (long : Bool) → Style → IntKind
+written_kind long style.Signed = if long then kind.Long else kind.Int
+written_kind long _ = if long then kind.ULong else kind.UInt
+
+abbrev pub number_text : Style → ℤ → List ℕ
+number_text style.Hexadecimal n = hexadecimal_text (bits_of kind.ULong n)
+number_text _ n = decimal_text n
+
+-- the value of an argument of one of the two types, if it is one of the type that is written too (6.5.2.2p6)
+abbrev pub number_of : (long : Bool) → Style → Shape → Value → Option ℤ
+number_of long how (shape.Int k) (value.Int n) = if takes long k && fits_of (written_kind long how) n then Some n else None
+number_of long how _ _ = None
+
+-- a pointer to a character type, or to `void` or a character type
+abbrev pub string_of : Shape → Value → Option Pointer
+string_of shape.Text (value.Pointer p) = Some p
+string_of _ _ = None
+
+abbrev pub address_of : Shape → Value → Option Pointer
+address_of shape.Text (value.Pointer p) = Some p
+address_of shape.Void (value.Pointer p) = Some p
+address_of _ _ = None

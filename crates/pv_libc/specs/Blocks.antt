@@ -1,0 +1,72 @@
+-- Functions on ranges of bytes (C17 7.24.2.1, 7.24.2.2, 7.24.4.1, 7.24.6.1).
+use Rattle.std.specs.Prelude.{ℕ, ℤ, pos, negsuc, ◌+◌, Bool, true, false, ◌&&◌, ◌==◌, nat_lt, List, [], ◌∷◌, None, Some, if◌then◌else◌}
+use Rattle.std.specs.List.{repeat}
+use Rattle.pv_num.specs.declared.kinds.IntKind.TheVariants.{UChar}
+use Rattle.pv_num.specs.declared.faults.Clause.TheVariants as clause
+use Rattle.pv_num.specs.declared.faults.Reason.TheVariants as reason
+use Rattle.pv_num.specs.Kinds.{bits_of}
+use Rattle.pv_prov.specs.declared.names.Prov.TheVariants.{Empty}
+use Rattle.pv_shadow.specs.declared.byte.Byte.{Byte}
+use Rattle.pv_object.specs.declared.values.Value.TheVariants as value
+use Rattle.pv_object.specs.declared.values.Asker.TheVariants.{Text}
+use Rattle.pv_object.specs.Memory.{Mem}
+use Rattle.pv_object.specs.Access.{fault}
+use Rattle.pv_object.specs.Storing.{with_bytes, copied}
+use Rattle.pv_libc.specs.declared.values.Given.{Given}
+use Rattle.pv_libc.specs.declared.values.Reply.{Reply}
+use Rattle.pv_libc.specs.declared.values.Reply.TheVariants as reply
+use Rattle.pv_libc.specs.Steps.{Now, Did, done, halted, next, noted, in_memory, reached}
+use Rattle.pv_libc.specs.Characters.{characters_from}
+
+-- a byte of this value: the empty name, no index and no mark
+abbrev pub plain_byte : ℕ → Byte
+plain_byte v = record { value = Some v; prov = Empty; index = None; mark = None }
+
+-- n bytes from an address on get a value
+abbrev pub filled : Mem → ℕ → ℕ → ℕ → Mem
+filled M a n v = with_bytes M a (repeat n (plain_byte v ∷ []))
+
+-- two ranges of n bytes share a byte
+abbrev pub share : ℕ → ℕ → ℕ → Bool
+share a b n = nat_lt a (b + n) && nat_lt b (a + n)
+
+-- the functions that answer their first argument
+abbrev pub answers : Given → Now → Did Reply
+answers g S = done (reply.Value (value.Pointer g.pointer)) S
+
+-- 7.24.2.1p2, 7.24.2.2p2: the target is checked, then the source, and for `memcpy` that they share no byte
+abbrev pub copy : (apart : Bool) → Given → Given → ℕ → Now → Did Reply
+copy apart to from n S =
+    next (reached Text true to n S) (λ t T.
+    next (reached Text false from n T) (λ f U.
+    if apart && share to.pointer.address from.pointer.address n then halted (fault clause.MemcpyOverlap reason.Overlap) (noted (to.stopped ∷ []) U)
+    else answers to (in_memory U (copied U.memory t.address f.address n))))
+
+-- 7.24.2.1
+abbrev pub memcpy : Given → Given → ℕ → Now → Did Reply
+memcpy to from n S = copy true to from n S
+
+-- 7.24.2.2
+abbrev pub memmove : Given → Given → ℕ → Now → Did Reply
+memmove to from n S = copy false to from n S
+
+-- 7.24.6.1p2: the value is converted to `unsigned char`
+abbrev pub memset : Given → ℤ → ℕ → Now → Did Reply
+memset g c n S = next (reached Text true g n S) (λ r T. answers g (in_memory T (filled T.memory r.address n (bits_of UChar c))))
+
+-- the sign of the first difference
+abbrev pub sign_of : ℕ → ℕ → ℤ
+sign_of a b = if nat_lt a b then negsuc 0 else (if a == b then pos 0 else pos 1)
+
+abbrev pub difference : List ℕ → List ℕ → ℤ
+difference (a ∷ ls) (b ∷ rs) = if a == b then difference ls rs else sign_of a b
+difference [] rs = pos 0
+difference (a ∷ ls) [] = pos 0
+
+-- 7.24.4.1p2: both are checked, the left one first; then all of the left are read, and all of the right
+abbrev pub memcmp : Given → Given → ℕ → Now → Did Reply
+memcmp p q n S =
+    next (reached Text false p n S) (λ l T.
+    next (reached Text false q n T) (λ r U.
+    next (characters_from n p l.address [] U) (λ ls V.
+    next (characters_from n q r.address [] V) (λ rs W. done (reply.Value (value.Int (difference ls rs))) W))))

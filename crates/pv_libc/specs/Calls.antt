@@ -1,0 +1,121 @@
+-- A call of a library function: its reply, the memory after it, and what it prints.
+use Rattle.std.specs.Prelude.{ℕ, ℤ, pos, List, [], ◌++◌, drop, length, map, slice_get, Option, None, Some, Result, Ok, Err, if◌then◌else◌}
+use Rattle.pv_num.specs.declared.kinds.IntKind.TheVariants.{Int, ULong}
+use Rattle.pv_num.specs.Kinds.{bits_of, convert_of, fits_of}
+use Rattle.pv_prov.specs.declared.names.Prov.{Prov}
+use Rattle.pv_prov.specs.declared.names.Stands.{Stands}
+use Rattle.pv_prov.specs.declared.names.Prov.TheVariants.{Empty, Inst, Pair}
+use Rattle.pv_prov.specs.Names.{stands}
+use Rattle.pv_script.specs.declared.library.Library.{Library}
+use Rattle.pv_script.specs.declared.library.Library.TheVariants as library
+use Rattle.pv_object.specs.declared.values.Pointer.{Pointer}
+use Rattle.pv_object.specs.declared.values.Value.{Value}
+use Rattle.pv_object.specs.declared.values.Value.TheVariants as value
+use Rattle.pv_object.specs.declared.values.Stop.{Stop}
+use Rattle.pv_object.specs.Memory.{Mem}
+use Rattle.pv_libc.specs.declared.values.Arg.{Arg}
+use Rattle.pv_libc.specs.declared.values.Note.{Note}
+use Rattle.pv_libc.specs.declared.values.Note.TheVariants.{Stopped}
+use Rattle.pv_libc.specs.declared.values.Reply.{Reply}
+use Rattle.pv_libc.specs.declared.values.Reply.TheVariants as reply
+use Rattle.pv_libc.specs.declared.values.Given.{Given}
+use Rattle.pv_libc.specs.declared.values.Offered.{Offered}
+use Rattle.pv_libc.specs.Steps.{Now, Did, done, next, with_notes}
+use Rattle.pv_libc.specs.Heap.{malloc, calloc, free, realloc}
+use Rattle.pv_libc.specs.Blocks.{memcpy, memmove, memset, memcmp}
+use Rattle.pv_libc.specs.Strings.{strlen, strcmp, strcpy}
+use Rattle.pv_libc.specs.declared.formats.Within.TheVariants as within
+use Rattle.pv_libc.specs.Printing.{printed_from, format_of}
+
+-- An argument by its place. Typing makes sure that it is there and of the parameter's type.
+abbrev pub number_in : Value → ℤ
+number_in (value.Int n) = n
+number_in value.Unset = pos 0
+number_in (value.Pointer p) = pos 0
+
+abbrev pub pointer_in : Value → Pointer
+pointer_in (value.Pointer p) = p
+pointer_in value.Unset = record { address = 0; prov = Empty }
+pointer_in (value.Int n) = record { address = 0; prov = Empty }
+
+abbrev pub value_in : Option Arg → Value
+value_in None = value.Unset
+value_in (Some x) = x.value
+
+abbrev pub number : List Arg → ℕ → ℤ
+number args i = number_in (value_in (slice_get args i))
+
+abbrev pub size : List Arg → ℕ → ℕ
+size args i = bits_of ULong (number args i)
+
+abbrev pub pointer : List Arg → ℕ → Pointer
+pointer args i = pointer_in (value_in (slice_get args i))
+
+-- what is noted last where a check of the pointer stops the call: what its name stood for before the whole call
+abbrev pub pair_of : Prov → Option ℕ
+pair_of (Pair k) = Some k
+pair_of (Inst i) = None
+pair_of Empty = None
+
+abbrev pub stopped_at : Prov → Stands → Note
+stopped_at p s = Stopped s.low s.high (pair_of p)
+
+abbrev pub stopped : Mem → Prov → Note
+stopped M p = stopped_at p (stands M.table.pairs p)
+
+abbrev pub argument_at : List Arg → ℕ → Mem → Given
+argument_at args i M = record { pointer = pointer args i; stopped = stopped M (pointer args i).prov }
+
+abbrev pub offer : Mem → Arg → Offered
+offer M x = record { arg = x; stopped = stopped M (pointer_in x.value).prov }
+
+-- 7.22.4.4p2: the status is an `int`
+abbrev pub status : List Arg → ℕ → ℤ
+status args i = if fits_of Int (number args i) then number args i else pos 0
+
+-- 7.21.6.3p2: the text of the format and the arguments behind it
+abbrev pub printed : List Arg → Now → Did (List ℕ)
+printed args S =
+    printed_from (format_of S.memory (pointer args 0).prov) (record { within = within.Text; left = map (offer S.memory) (drop 1 args); text = [] }) S
+
+-- 7.21.6.3p3: how many bytes are printed
+abbrev pub printf : List Arg → Now → Did Reply
+printf args S = next (printed args S) (λ text T. done (reply.Value (value.Int (convert_of Int (pos (length text))))) T)
+
+abbrev pub called_in : Library → List Arg → Now → Did Reply
+called_in library.Malloc a S = (malloc (size a 0) S)
+called_in library.Calloc a S = (calloc (size a 0) (size a 1) S)
+called_in library.Free a S = (free (argument_at a 0 S.memory) S)
+called_in library.Realloc a S = (realloc (argument_at a 0 S.memory) (size a 1) S)
+called_in library.Memcpy a S = (memcpy (argument_at a 0 S.memory) (argument_at a 1 S.memory) (size a 2) S)
+called_in library.Memmove a S = (memmove (argument_at a 0 S.memory) (argument_at a 1 S.memory) (size a 2) S)
+called_in library.Memset a S = (memset (argument_at a 0 S.memory) (number a 1) (size a 2) S)
+called_in library.Memcmp a S = (memcmp (argument_at a 0 S.memory) (argument_at a 1 S.memory) (size a 2) S)
+called_in library.Strlen a S = (strlen (argument_at a 0 S.memory) S)
+called_in library.Strcmp a S = (strcmp (argument_at a 0 S.memory) (argument_at a 1 S.memory) S)
+called_in library.Strcpy a S = (strcpy (argument_at a 0 S.memory) (argument_at a 1 S.memory) S)
+-- 7.22.4.4
+called_in library.Exit a S = done (reply.Exit (status a 0)) S
+-- 7.22.4.1
+called_in library.Abort a S = done reply.Abort S
+called_in library.Printf a S = printf a S
+
+-- a call: its reply or why it stops, the memory that it leaves, and what happened within it, in order
+abbrev pub called : Library → List Arg → Mem → Did Reply
+called f args M = called_in f args (with_notes M [])
+
+-- the bytes that a call prints: none where it stops
+abbrev pub text_or_none : Result (List ℕ) Stop → List ℕ
+text_or_none (Ok text) = text
+text_or_none (Err stop) = []
+
+abbrev pub output_in : Library → List Arg → Now → List ℕ
+output_in library.Printf a S = text_or_none (printed a S).answer
+output_in _ a S = []
+
+abbrev pub output : Library → List Arg → Mem → List ℕ
+output f args M = output_in f args (with_notes M [])
+
+-- the same, with its notes behind those that there were
+abbrev pub behind : {A : Type 0} → List Note → Did A → Did A
+behind before d = record d { after = record d.after { notes = before ++ d.after.notes } }

@@ -1,0 +1,140 @@
+-- Memory management functions (C17 7.22.3).
+use Rattle.std.specs.Prelude.{ℕ, ◌*◌, min, ◌==◌, [], ◌∷◌, Option, None, Some, Result, Ok, Err, if◌then◌else◌, codes}
+use Rattle.pv_num.specs.declared.faults.Clause.{Clause}
+use Rattle.pv_num.specs.declared.faults.Clause.TheVariants as clause
+use Rattle.pv_num.specs.declared.faults.Reason.TheVariants as reason
+use Rattle.pv_prov.specs.declared.names.Prov.TheVariants.{Empty, Inst}
+use Rattle.pv_prov.specs.Names.{stands}
+use Rattle.pv_inst.specs.declared.values.Info.{Info}
+use Rattle.pv_inst.specs.declared.values.Kind.TheVariants.{Heap}
+use Rattle.pv_inst.specs.declared.values.CreateError.{CreateError}
+use Rattle.pv_inst.specs.declared.values.CreateError.TheVariants as create
+use Rattle.pv_inst.specs.declared.values.Test.TheVariants.{Block}
+use Rattle.pv_inst.specs.declared.values.Tried.{Tried}
+use Rattle.pv_inst.specs.declared.values.Miss.{Miss}
+use Rattle.pv_inst.specs.declared.values.Miss.TheVariants as miss
+use Rattle.pv_inst.specs.Table.{instance_at}
+use Rattle.pv_inst.specs.Infos.{info_of}
+use Rattle.pv_inst.specs.Placing.{Request}
+use Rattle.pv_inst.specs.Use.{use_answer, settled}
+use Rattle.pv_object.specs.declared.values.Pointer.{Pointer}
+use Rattle.pv_object.specs.declared.values.Value.{Value}
+use Rattle.pv_object.specs.declared.values.Value.TheVariants as value
+use Rattle.pv_object.specs.declared.values.Stop.{Stop}
+use Rattle.pv_object.specs.declared.values.Stop.TheVariants.{NoMemory}
+use Rattle.pv_object.specs.Memory.{Mem}
+use Rattle.pv_object.specs.Access.{fault, chosen, is_null}
+use Rattle.pv_object.specs.Creating.{created, without}
+use Rattle.pv_object.specs.Storing.{copied}
+use Rattle.pv_libc.specs.declared.values.Given.{Given}
+use Rattle.pv_libc.specs.declared.values.Note.TheVariants.{Made, Ended}
+use Rattle.pv_libc.specs.declared.values.Reply.{Reply}
+use Rattle.pv_libc.specs.declared.values.Reply.TheVariants as reply
+use Rattle.pv_libc.specs.Steps.{Now, Did, done, halted, next, noted, in_memory, in_table, about, used}
+use Rattle.pv_libc.specs.Blocks.{filled}
+
+abbrev pub null : Value
+null = value.Pointer (record { address = 0; prov = Empty })
+
+-- what is known of a live instance
+abbrev pub told_of : Mem → ℕ → Option Info
+told_of M i = info_of (instance_at M.table.instances i)
+
+abbrev pub base_of : Option Info → ℕ
+base_of None = 0
+base_of (Some x) = x.base
+
+-- 7.22.3p1: a pointer to the first byte
+abbrev pub pointer_to : Mem → ℕ → Reply
+pointer_to M i = reply.Value (value.Pointer (record { address = base_of (told_of M i); prov = Inst i }))
+
+-- 7.22.3p1: an allocation is aligned for every object type
+abbrev pub heap_request : ℕ → Request
+heap_request size = record { text = codes "@heap"; name = 1; size = size; align = 16; kind = Heap }
+
+-- the number of the new instance, or else what the call replies
+abbrev pub granted : Now → Result ℕ CreateError × Mem → Did (Result ℕ Reply)
+granted S ((Ok i), N) = done (Ok i) (noted (Made i ∷ []) (in_memory S N))
+granted S ((Err create.Denied), N) = done (Err (reply.Value null)) (in_memory S N)
+granted S ((Err create.NoMemory), N) = halted NoMemory (in_memory S N)
+granted S ((Err other), N) = done (Err (reply.Placement other)) (in_memory S N)
+
+-- 7.22.3p1: of no byte there is no allocation, and no request
+abbrev pub requested : ℕ → Now → Did (Result ℕ Reply)
+requested size S = if size == 0 then done (Err (reply.Value null)) S else granted S (created S.memory (heap_request size))
+
+-- 7.22.3.4
+abbrev pub allocated : Result ℕ Reply → Now → Did Reply
+allocated (Err r) S = done r S
+allocated (Ok i) S = done (pointer_to S.memory i) S
+
+abbrev pub malloc : ℕ → Now → Did Reply
+malloc size S = next (requested size S) allocated
+
+-- 7.22.3.2p2: the product is exact, and all bytes are 0
+abbrev pub zeroed : ℕ → Option Info → Mem → Mem
+zeroed i None N = N
+zeroed i (Some x) N = filled N x.base x.size 0
+
+abbrev pub cleared : Result ℕ Reply → Now → Did Reply
+cleared (Err r) S = done r S
+cleared (Ok i) S = done (pointer_to S.memory i) (in_memory S (zeroed i (told_of S.memory i) S.memory))
+
+abbrev pub calloc : ℕ → ℕ → Now → Did Reply
+calloc count size S = next (requested (count * size) S) cleared
+
+-- why a pointer is none to an allocation that is live
+abbrev pub block_stop : Clause → Miss → Stop
+block_stop c miss.Ended = fault c reason.Ended
+block_stop c miss.Empty = fault c reason.Empty
+block_stop c miss.Outside = fault c reason.Block
+block_stop c miss.Block = fault c reason.Block
+block_stop c miss.Apart = fault c reason.Block
+block_stop c miss.Undecided = fault c reason.Block
+
+-- the survivor, which is live
+abbrev pub block_in : Clause → ℕ → Option Info → Result ℕ Stop
+block_in c i None = Err (fault c reason.Block)
+block_in c i (Some x) = Ok i
+
+abbrev pub the_block : Clause → Mem → Option ℕ → Result ℕ Stop
+the_block c M None = Err (fault c reason.Block)
+the_block c M (Some i) = block_in c i (told_of M i)
+
+abbrev pub block_answer : Clause → Mem → Pointer → Result Tried Miss → Result ℕ Stop
+block_answer c M p (Ok tried) = the_block c M (chosen (stands M.table.pairs p.prov) tried)
+block_answer c M p (Err m) = Err (block_stop c m)
+
+abbrev pub block_by : Clause → Given → Now → Result Tried Miss → Did ℕ
+block_by c g S found = record {
+  answer = block_answer c S.memory g.pointer found;
+  after = noted (used found 3) (in_table S (settled S.memory.table g.pointer.prov found));
+}
+
+-- 7.22.3.3p2, 7.22.3.5p3: the allocation that a pointer to its first byte means
+abbrev pub block : Clause → Given → Now → Did ℕ
+block c g S = about g.stopped (block_by c g S (use_answer S.memory.table g.pointer.prov (Block g.pointer.address)))
+
+abbrev pub freed : ℕ → Now → Did Reply
+freed i S = done reply.Nothing (noted (Ended i ∷ []) (in_memory S (without S.memory i)))
+
+-- 7.22.3.3p2: of a null pointer nothing
+abbrev pub free : Given → Now → Did Reply
+free g S = if is_null g.pointer then done reply.Nothing S else next (block clause.Freeing g S) freed
+
+-- 7.22.3.5p2: the first bytes that both have are copied, and the old allocation ends
+abbrev pub both : Option Info → Option Info → Mem → Mem
+both (Some old) (Some new) N = copied N new.base old.base (min old.size new.size)
+both _ _ N = N
+
+abbrev pub moved : ℕ → Result ℕ Reply → Now → Did Reply
+moved i (Err r) S = done r S
+moved i (Ok j) S =
+    done (pointer_to S.memory j) (noted (Ended i ∷ []) (in_memory S (without (both (told_of S.memory i) (told_of S.memory j) S.memory) i)))
+
+-- 7.22.3.5p3, p4: the request is made while the old allocation is live; where none is had, it stays. For no byte it stays, too
+abbrev pub resized : ℕ → ℕ → Now → Did Reply
+resized size i S = if size == 0 then done (reply.Value null) S else next (requested size S) (moved i)
+
+abbrev pub realloc : Given → ℕ → Now → Did Reply
+realloc g size S = if is_null g.pointer then malloc size S else next (block clause.Reallocating g S) (resized size)

@@ -1,0 +1,10 @@
+pub mod Uses
+pub mod Steps
+pub mod Characters
+pub mod Blocks
+pub mod Heap
+pub mod Strings
+pub mod Formats
+pub mod Arguments
+pub mod Printing
+pub mod Calls

@@ -1,0 +1,102 @@
+-- A step of a call, and one step behind another.
+use Rattle.std.specs.Prelude.{◌≡◌, ℕ, ◌+◌, ◌-◌, ◌^◌, min, Bool, List, [], ◌∷◌, ◌++◌, map, Option, None, Some, Result, Ok, Err}
+use Rattle.pv_inst.specs.declared.values.Tried.{Tried}
+use Rattle.pv_inst.specs.declared.values.Miss.{Miss}
+use Rattle.pv_inst.specs.declared.values.Test.TheVariants.{Range}
+use Rattle.pv_inst.specs.Table.{Table}
+use Rattle.pv_inst.specs.Use.{use_answer}
+use Rattle.pv_object.specs.declared.values.Reach.{Reach}
+use Rattle.pv_object.specs.declared.values.Stop.{Stop}
+use Rattle.pv_object.specs.declared.values.Stop.TheVariants.{NoMemory}
+use Rattle.pv_object.specs.declared.values.Asker.{Asker}
+use Rattle.pv_object.specs.Memory.{Mem, with_table}
+use Rattle.pv_object.specs.Access.{reach}
+use Rattle.pv_libc.specs.declared.values.Note.{Note}
+use Rattle.pv_libc.specs.declared.values.Note.TheVariants.{Exposed, Used}
+use Rattle.pv_libc.specs.declared.values.Given.{Given}
+
+-- where a call stands: the memory, and what was noted so far
+pub record Now : Type 0 where
+  pub memory : Mem
+  pub notes : List Note
+
+abbrev pub with_notes : Mem → List Note → Now
+with_notes M notes = record { memory = M; notes = notes }
+
+-- a step: its answer, or why it stops, and what it leaves
+pub record Did (A : Type 0) : Type 0 where
+  pub answer : Result A Stop
+  pub after : Now
+
+-- nothing is to be done
+abbrev pub done : {A : Type 0} → A → Now → Did A
+done a S = record { answer = Ok a; after = S }
+
+-- it stops here
+abbrev pub halted : {A : Type 0} → Stop → Now → Did A
+halted stop S = record { answer = Err stop; after = S }
+
+-- a step, and then another one on its answer and on what it leaves. After a stop there is none
+abbrev pub next_by : {A B : Type 0} → Result A Stop → Did A → (A → Now → Did B) → Did B
+next_by (Ok a) d rest = rest a d.after
+next_by (Err stop) d rest = halted stop d.after
+
+abbrev pub next : {A B : Type 0} → Did A → (A → Now → Did B) → Did B
+next d rest = next_by d.answer d rest
+
+abbrev pub noted : List Note → Now → Now
+noted more S = record S { notes = S.notes ++ more }
+
+abbrev pub in_memory : Now → Mem → Now
+in_memory S M = record S { memory = M }
+
+abbrev pub in_table : Now → Table → Now
+in_table S T = in_memory S (with_table S.memory T)
+
+-- where the step stops, this is noted last
+abbrev pub about_by : {A : Type 0} → Result A Stop → Note → Did A → Did A
+about_by (Ok a) note d = d
+about_by (Err stop) note d = halted stop (noted (note ∷ []) d.after)
+
+abbrev pub about : {A : Type 0} → Note → Did A → Did A
+about note d = about_by d.answer note d
+
+-- a use of a name that stood for two before
+abbrev pub pair_used : Option ℕ → Tried → ℕ → List Note
+pair_used None tried test = []
+pair_used (Some k) tried test = Used tried test ∷ []
+
+abbrev pub used : Result Tried Miss → ℕ → List Note
+used (Ok tried) test = pair_used tried.pair tried test
+used (Err miss) test = []
+
+-- what became exposed is noted, in order
+abbrev pub told : Now → Now
+told S = record {
+  memory = with_table S.memory (record S.memory.table { pending = [] });
+  notes = S.notes ++ map Exposed S.memory.table.pending;
+}
+
+-- the checks of an access to n bytes
+abbrev pub reached_by : Asker → (write : Bool) → Given → (n : ℕ) → Now → Result Reach Stop × Table → Did Reach
+reached_by by write g n S got = record {
+  answer = got.0;
+  after = noted (used (use_answer S.memory.table g.pointer.prov (Range g.pointer.address n)) 2) (in_table S got.1);
+}
+
+abbrev pub reached : Asker → (write : Bool) → Given → (n : ℕ) → Now → Did Reach
+reached by write g n S = about g.stopped (reached_by by write g n S (reach S.memory.table g.pointer n 1 write by))
+
+-- the pointer so many bytes further on; where there is no such address, the last one, which lies in no instance
+abbrev pub further : Given → ℕ → Given
+further g i = record g { pointer = record g.pointer { address = min (g.pointer.address + i) (2 ^ 64 - 1) } }
+
+-- this answer, and this is left; or no memory was had, and nothing is said
+abbrev pub OrNoMemory : {A : Type 0} → Result A Stop → Now → Did A → Type 0
+OrNoMemory (Err NoMemory) S wanted = Unit {0}
+OrNoMemory r S wanted = (r ≡ wanted.answer) × (S ≡ wanted.after)
+
+-- an answer that is worth another one
+abbrev pub worth : {A B : Type 0} → (A → B) → Result A Stop → Result B Stop
+worth f (Ok a) = Ok (f a)
+worth f (Err stop) = Err stop

@@ -1,0 +1,141 @@
+// What is noted of a call: uses of names that stood for two, exposures, and the pointer whose check stops it.
+ghost use Rattle.std.specs.Prelude.{◌≡◌, ◌++◌, OnOk, IfOk};
+ghost use Rattle.pv_inst.specs.Table.{IsMadeIn};
+ghost use Rattle.pv_inst.specs.Use.{use_answer, survives};
+ghost use Rattle.pv_object.specs.Memory.{IsReach};
+ghost use Rattle.pv_object.specs.Access.{fault, clause_of};
+ghost use Rattle.pv_object.specs.Later.{IsLater};
+ghost use Rattle.pv_libc.specs.Uses.{info_passes};
+ghost use Rattle.pv_libc.specs.Steps.{used, told, reached, with_notes, OrNoMemory};
+
+use crate::values::{Given, Note};
+use pv_inst::{Info, Kind, Test, Tried};
+use pv_num::{Clause, Fault, Reason};
+use pv_object::{Asker, Memory, Reach, Stop};
+use pv_prov::{NoMemory, Prov};
+
+/// Undefined behaviour by this paragraph, for this reason.
+pub(crate) fn undefined(clause: Clause, reason: Reason) -> Stop
+    ensures { result ≡ fault clause reason }
+{
+    Stop::Undefined(Fault { clause, reason })
+}
+
+/// The paragraph under which an invalid pointer is reported.
+pub(crate) fn clause_of(by: Asker) -> Clause
+    ensures { result ≡ clause_of by }
+{
+    match by {
+        Asker::Access | Asker::Member => Clause::Indirection,
+        Asker::Text => Clause::StringFunctions,
+        Asker::Print => Clause::LibraryArguments,
+    }
+}
+
+/// Whether a live instance passes a test.
+fn passes(x: Info, test: Test) -> bool
+    ensures { result ≡ info_passes x test }
+{
+    match test {
+        Test::Live => true,
+        Test::Range { address, size } => {
+            x.base <= address
+                && u128::from(address) + u128::from(size) <= u128::from(x.base) + u128::from(x.size)
+        }
+        Test::Block { address } => matches!(x.kind, Kind::Heap) && x.base == address,
+    }
+}
+
+/// Whether there is such a candidate, and it passes.
+#[tactic(auto, using(crate::proofs::Surviving::gone, crate::proofs::Surviving::here))]
+fn survives(memory: &Memory, candidate: Option<u64>, test: Test) -> bool
+    ensures { result ≡ survives memory.now.table.instances candidate test }
+{
+    match candidate {
+        Some(i) => match memory.instances().info(i) {
+            Some(x) => passes(x, test),
+            None => false,
+        },
+        None => false,
+    }
+}
+
+/// Notes a use of a name that stands for two, before it is made. A use that finds none is not noted.
+#[tactic(auto, using(crate::proofs::Surviving::unpaired))]
+pub(crate) fn note_use(
+    memory: &Memory,
+    notes: &mut Vec<Note>,
+    p: Prov,
+    test: Test,
+    number: u8,
+) -> Result<(), NoMemory>
+    requires { IsMadeIn memory.now.table p }
+    ensures { OnOk result (notes.new.items ≡ notes.old.items ++ used (use_answer memory.now.table p test) number) }
+{
+    let Prov::Pair(k) = p else {
+        return Ok(());
+    };
+    let stands = memory.instances().stands(p);
+    let low = survives(memory, stands.low, test);
+    let high = survives(memory, stands.high, test);
+    if !(low || high) || stands.low.is_none() || stands.high.is_none() {
+        return Ok(());
+    }
+    let tried = Tried {
+        pair: Some(k),
+        low,
+        high,
+    };
+    match notes.push(Note::Used {
+        tried,
+        test: number,
+    }) {
+        Ok(()) => Ok(()),
+        Err(_) => Err(NoMemory),
+    }
+}
+
+/// Notes what became exposed.
+pub(crate) fn note_exposed(memory: &mut Memory, notes: &mut Vec<Note>) -> Result<(), NoMemory>
+    ensures state { OnOk result (with_notes memory.new notes.new.items ≡ told (with_notes memory.old notes.old.items)) }
+    ensures later { IsLater memory.old.table memory.new.table }
+{
+    while let Some(i) = memory.next_exposed() {
+        if notes.push(Note::Exposed(i)).is_err() {
+            return Err(NoMemory);
+        }
+    }
+    Ok(())
+}
+
+/// The checks of an access to `n` bytes.
+#[tactic(auto, using(crate::proofs::Steps::or_is))]
+pub(crate) fn reached(
+    memory: &mut Memory,
+    notes: &mut Vec<Note>,
+    by: Asker,
+    write: bool,
+    given: Given,
+    n: u64,
+) -> Result<Reach, Stop>
+    requires { IsMadeIn memory.old.table given.pointer.prov }
+    ensures answer { OrNoMemory result (with_notes memory.new notes.new.items) (reached by write given n (with_notes memory.old notes.old.items)) }
+    ensures later { IsLater memory.old.table memory.new.table }
+    ensures within { IfOk result (λ r. IsReach memory.new.table r n) }
+{
+    let p = given.pointer;
+    let test = Test::Range {
+        address: p.address,
+        size: n,
+    };
+    if note_use(memory, notes, p.prov, test, 2).is_err() {
+        return Err(Stop::NoMemory);
+    }
+    match memory.reach(p, n, 1, write, by) {
+        Ok(at) => Ok(at),
+        Err(stop) => match notes.push(given.stopped) {
+            Ok(()) => Err(stop),
+            Err(_) => Err(Stop::NoMemory),
+        },
+    }
+}
