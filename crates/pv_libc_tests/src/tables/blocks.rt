@@ -1,0 +1,143 @@
+// Calls, with the answers of another implementation of the rules.
+
+/// `memcpy` and `memmove`: whole, bytes with names, overlapping, read-only, null, empty, outside, no byte.
+pub(super) static COPIES: &str = "script => none
+make a 8 plain => 1
+make b 8 plain => 2
+make c 4 constant => 3
+literal hi => 4
+bytes 0x10000 1 49,50,51,52,53,54,55,56 1 0 => none
+memcpy text:0x10020@2 text:0x10000@1 ulong:8 => 0x10020@2 ;  ; 
+memcpy text:0x10022@2 text:0x10020@2 ulong:3 => 7.24.2.1p2 overlap ;  ; stopped 2 none none
+memcpy text:0x10023@2 text:0x10020@2 ulong:3 => 0x10023@2 ;  ; 
+memcpy text:0x10020@2 text:0x10022@2 ulong:3 => 7.24.2.1p2 overlap ;  ; stopped 2 none none
+memmove text:0x10022@2 text:0x10020@2 ulong:4 => 0x10022@2 ;  ; 
+memmove text:0x10020@2 text:0x10021@2 ulong:7 => 0x10020@2 ;  ; 
+memcpy text:0x10020@2 text:0x10020@2 ulong:0 => 0x10020@2 ;  ; 
+memcpy text:0x10020@2 text:0x10020@2 ulong:1 => 7.24.2.1p2 overlap ;  ; stopped 2 none none
+memmove text:0x10020@2 text:0x10020@2 ulong:8 => 0x10020@2 ;  ; 
+memcpy text:0x10040@3 text:0x10000@1 ulong:0 => 0x10040@3 ;  ; 
+memcpy text:0x10040@3 text:0x10000@1 ulong:1 => 6.7.3p6 readonly ;  ; stopped 3 none none
+memmove text:0x10060@4 text:0x10000@1 ulong:1 => 6.4.5p7 readonly ;  ; stopped 4 none none
+memcpy text:0x10060@4 text:0x10000@1 ulong:1 => 6.4.5p7 readonly ;  ; stopped 4 none none
+memcpy text:0x10000@1 text:0x10060@4 ulong:3 => 0x10000@1 ;  ; 
+memcpy text:null text:0x10000@1 ulong:0 => 7.24.1p2 null ;  ; stopped none none none
+memcpy text:0x9@0 text:null ulong:0 => 7.24.1p2 empty ;  ; stopped none none none
+memcpy text:0x10020@2 text:null ulong:1 => 7.24.1p2 null ;  ; stopped none none none
+memcpy text:0x10020@2 text:0x9@0 ulong:1 => 7.24.1p2 empty ;  ; stopped none none none
+memmove text:null text:null ulong:0 => 7.24.1p2 null ;  ; stopped none none none
+memcpy text:0x10024@2 text:0x10000@1 ulong:5 => 7.24.1p2 outside ;  ; stopped 2 none none
+memcpy text:0x10024@2 text:0x10000@1 ulong:4 => 0x10024@2 ;  ; 
+memcpy text:0x1001f@2 text:0x10000@1 ulong:1 => 7.24.1p2 outside ;  ; stopped 2 none none
+memcpy text:0x10020@2 text:0x10008@1 ulong:0 => 0x10020@2 ;  ; 
+memcpy text:0x10028@2 text:0x10008@1 ulong:0 => 0x10028@2 ;  ; 
+memmove text:0x10020@2 text:0x10007@1 ulong:2 => 7.24.1p2 outside ;  ; stopped 1 none none
+memmove text:0x10029@2 text:0x10000@1 ulong:0 => 7.24.1p2 outside ;  ; stopped 2 none none
+memcpy text:0x10020@2 text:0x10000@1 ulong:16777216 => 7.24.1p2 outside ;  ; stopped 2 none none
+memcpy text:0x10020@2 text:0x10000@1 ulong:18446744073709551615 => 7.24.1p2 outside ;  ; stopped 2 none none
+make a 3 plain => 5
+memcpy text:0x10080@5 text:0x10000@1 ulong:3 => 0x10080@5 ;  ; 
+memmove text:0x10000@1 text:0x10080@5 ulong:3 => 0x10000@1 ;  ; 
+make b 5 plain => 6
+memcpy text:0x10020@2 text:0x100a0@6 ulong:5 => 0x10020@2 ;  ; 
+memcpy text:0x10001@1 text:0x10021@2 ulong:3 => 0x10001@1 ;  ; 
+end 6 => none
+memcpy text:0x10020@2 text:0x100a0@6 ulong:1 => 6.2.4p2 ended ;  ; stopped 6 none none
+memcpy text:0x100a0@6 text:0x10020@2 ulong:0 => 6.2.4p2 ended ;  ; stopped 6 none none
+state 1 => hidden
+memory 0x10000 1 8 => 104 none none none 53@1.4 54@1.5 55@1.6 56@1.7
+state 2 => hidden
+memory 0x10020 2 8 => none none none none none 105 0 52@1.3
+state 3 => hidden
+memory 0x10040 3 4 => none none none none
+state 4 => hidden
+memory 0x10060 4 3 => 104 105 0
+state 5 => hidden
+memory 0x10080 5 3 => 104 105 0
+state 6 => ended";
+
+/// `memset`: the value modulo 256, read-only, no byte, outside.
+pub(super) static FILLS: &str = "script => none
+make a 8 plain => 1
+make c 4 constant => 2
+literal hi => 3
+bytes 0x10000 1 49,50,51,52,53,54,55,56 1 0 => none
+memset void:0x10000@1 int:300 ulong:3 => 0x10000@1 ;  ; 
+memset void:0x10006@1 int:-1 ulong:2 => 0x10006@1 ;  ; 
+memset void:0x10004@1 int:-2147483648 ulong:1 => 0x10004@1 ;  ; 
+memset void:0x10005@1 int:2147483647 ulong:1 => 0x10005@1 ;  ; 
+memset void:0x10020@2 int:1 ulong:0 => 0x10020@2 ;  ; 
+memset void:0x10020@2 int:1 ulong:1 => 6.7.3p6 readonly ;  ; stopped 2 none none
+memset void:0x10040@3 int:1 ulong:1 => 6.4.5p7 readonly ;  ; stopped 3 none none
+memset void:0x10040@3 int:1 ulong:0 => 0x10040@3 ;  ; 
+memset void:0x10008@1 int:1 ulong:0 => 0x10008@1 ;  ; 
+memset void:0x10008@1 int:1 ulong:1 => 7.24.1p2 outside ;  ; stopped 1 none none
+memset void:0xffff@1 int:1 ulong:1 => 7.24.1p2 outside ;  ; stopped 1 none none
+memset void:0x10000@1 int:1 ulong:9 => 7.24.1p2 outside ;  ; stopped 1 none none
+memset void:null int:0 ulong:0 => 7.24.1p2 null ;  ; stopped none none none
+memset void:0x5@0 int:0 ulong:1 => 7.24.1p2 empty ;  ; stopped none none none
+state 1 => hidden
+memory 0x10000 1 8 => 44 44 44 52@1.3 0 255 255 255
+state 2 => hidden
+memory 0x10020 2 4 => none none none none
+state 3 => hidden
+memory 0x10040 3 3 => 104 105 0";
+
+/// `memcmp`: signs, bytes without a value, all of the left read before the right, exposure, bounds.
+pub(super) static COMPARE: &str = "script => none
+make a 6 plain => 1
+make b 6 plain => 2
+malloc ulong:2 => 0x10040@3 ;  ; made 3
+malloc ulong:2 => 0x10060@4 ;  ; made 4
+bytes 0x10000 1 97,98,99,100 3 0 => none
+bytes 0x10020 2 97,98,200,100 4 4 => none
+memcmp text:0x10020@2 text:0x10000@1 ulong:0 => 0 ;  ; 
+memcmp text:0x10000@1 text:0x10020@2 ulong:2 => 0 ;  ; exposed 3, exposed 4
+memcmp text:0x10000@1 text:0x10020@2 ulong:3 => -1 ;  ; 
+memcmp text:0x10020@2 text:0x10000@1 ulong:3 => 1 ;  ; 
+memcmp text:0x10000@1 text:0x10000@1 ulong:4 => 0 ;  ; 
+memcmp text:0x10000@1 text:0x10020@2 ulong:5 => indeterminate ;  ; stopped 1 none none
+memcmp text:0x10020@2 text:0x10000@1 ulong:6 => indeterminate ;  ; stopped 2 none none
+memcmp text:0x10000@1 text:0x10020@2 ulong:7 => 7.24.1p2 outside ;  ; stopped 1 none none
+memcmp text:0x10000@1 text:0x10021@2 ulong:6 => 7.24.1p2 outside ;  ; stopped 2 none none
+memcmp text:0x10000@1 text:null ulong:0 => 7.24.1p2 null ;  ; stopped none none none
+memcmp text:null text:0x10000@1 ulong:0 => 7.24.1p2 null ;  ; stopped none none none
+memcmp text:0x7@0 text:null ulong:0 => 7.24.1p2 empty ;  ; stopped none none none
+memcmp text:0xffff@1 text:0x10020@2 ulong:1 => 7.24.1p2 outside ;  ; stopped 1 none none
+memcmp text:0x10006@1 text:0x10026@2 ulong:0 => 0 ;  ; 
+memcmp text:0x10000@1 text:0x10020@2 ulong:18446744073709551615 => 7.24.1p2 outside ;  ; stopped 1 none none
+make c 2 plain => 5
+bytes 0x10080 5 97 => none
+memcmp text:0x10080@5 text:0x10000@1 ulong:2 => indeterminate ;  ; stopped 5 none none
+memcmp text:0x10000@1 text:0x10080@5 ulong:2 => indeterminate ;  ; stopped 5 none none
+end 5 => none
+memcmp text:0x10000@1 text:0x10080@5 ulong:1 => 6.2.4p2 ended ;  ; stopped 5 none none
+state 1 => hidden
+memory 0x10000 1 6 => 97@3.0 98@3.1 99@3.2 100@3.3 none none
+state 2 => hidden
+memory 0x10020 2 6 => 97@4.4 98@4.5 200@4.6 100@4.7 none none
+state 3 => exposed
+memory 0x10040 3 2 => none none
+state 4 => exposed
+memory 0x10060 4 2 => none none
+state 5 => ended";
+
+/// A difference does not end the reading, and what the right one has after a byte without a value of the left is not exposed.
+pub(super) static UNREAD: &str = "script => none
+make a 3 plain => 1
+make b 3 plain => 2
+malloc ulong:1 => 0x10040@3 ;  ; made 3
+malloc ulong:1 => 0x10060@4 ;  ; made 4
+bytes 0x10000 1 120,121 => none
+bytes 0x10020 2 97,98,99 3 0 => none
+memcmp text:0x10000@1 text:0x10020@2 ulong:3 => indeterminate ;  ; stopped 1 none none
+bytes 0x10002 1 122 4 7 => none
+memcmp text:0x10000@1 text:0x10020@2 ulong:3 => 1 ;  ; exposed 4, exposed 3
+state 1 => hidden
+memory 0x10000 1 3 => 120 121 122@4.7
+state 2 => hidden
+memory 0x10020 2 3 => 97@3.0 98@3.1 99@3.2
+state 3 => exposed
+memory 0x10040 3 1 => none
+state 4 => exposed
+memory 0x10060 4 1 => none";
