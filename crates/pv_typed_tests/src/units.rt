@@ -17,7 +17,7 @@ use std::alloc::Global;
 use std::process::Abort;
 
 /// An `int` constant.
-fn number(rt: &impl Abort, u: &mut TypedUnit, int: TypeId, n: i128) -> NodeId
+pub(crate) fn number(rt: &impl Abort, u: &mut TypedUnit, int: TypeId, n: i128) -> NodeId
     requires { IsReady u.old int }
     ensures ready { IsReady u.new int }
     ensures node { IsExpression u.new result }
@@ -28,7 +28,7 @@ fn number(rt: &impl Abort, u: &mut TypedUnit, int: TypeId, n: i128) -> NodeId
 }
 
 /// A statement that declares nothing.
-fn statement(rt: &impl Abort, u: &mut TypedUnit, int: TypeId, x: TypedStmt) -> NodeId
+pub(crate) fn statement(rt: &impl Abort, u: &mut TypedUnit, int: TypeId, x: TypedStmt) -> NodeId
     requires ready { IsReady u.old int }
     requires parts { HasParts u.old.rows u.old.lists (length u.old.rows) x }
     requires named { DeclaresIn u.old x }
@@ -53,7 +53,7 @@ fn block(rt: &impl Abort, u: &mut TypedUnit, int: TypeId, a: NodeId, b: NodeId) 
 }
 
 /// A name, and its number.
-fn name(rt: &impl Abort, u: &mut TypedUnit, int: TypeId, text: &[u8]) -> u32
+pub(crate) fn name(rt: &impl Abort, u: &mut TypedUnit, int: TypeId, text: &[u8]) -> u32
     requires { IsReady u.old int }
     ensures ready { IsReady u.new int }
     ensures named { result < length u.new.names }
@@ -65,7 +65,13 @@ fn name(rt: &impl Abort, u: &mut TypedUnit, int: TypeId, text: &[u8]) -> u32
 }
 
 /// An object of type `int`, and its number.
-fn object(rt: &impl Abort, u: &mut TypedUnit, int: TypeId, text: &[u8], lasting: bool) -> u32
+pub(crate) fn object(
+    rt: &impl Abort,
+    u: &mut TypedUnit,
+    int: TypeId,
+    text: &[u8],
+    lasting: bool,
+) -> u32
     requires { IsReady u.old int }
     ensures ready { IsReady u.new int }
     ensures number { result < length u.new.objects }
