@@ -2,11 +2,12 @@
 //
 //     struct S { .. };
 //     char word[] = "ab";
-//     int f(int);
+//     int f(int), main(int);
 //     { f(7); exit(7); }
-ghost use Rattle.std.specs.Prelude.{◌<◌, length};
-ghost use Rattle.pv_typed.specs.Tables.{IsExpression};
+ghost use Rattle.std.specs.Prelude.{◌<◌, IsTrue, is_some, length};
+ghost use Rattle.pv_typed.specs.Tables.{IsExpression, whole};
 ghost use Rattle.pv_typed.specs.Formed.{AreKnown, Grown};
+ghost use Rattle.pv_typed.specs.Mains.{main_of};
 ghost use Rattle.pv_typed_tests.specs.Ready.{IsReady};
 
 use crate::units::{name, number, object, statement};
@@ -45,6 +46,24 @@ fn declare(rt: &impl Abort, u: &mut TypedUnit, t: TypeId, text: &[u8]) -> u32
 {
     let x = Function {
         name: name(rt, u, t, text),
+        t,
+        line: 7,
+        body: None,
+    };
+    u.add_function(x).expect(rt, "no memory")
+}
+
+/// Declares `main`.
+fn declare_main(rt: &impl Abort, u: &mut TypedUnit, t: TypeId) -> u32
+    requires { IsReady u.old t }
+    ensures ready { IsReady u.new t }
+    ensures main { IsTrue (is_some (main_of (whole u.new))) }
+    ensures grown { Grown u.old u.new }
+{
+    let name = u.add_name(b"main").expect(rt, "no memory");
+    assert!(rt; name < u.names().len());
+    let x = Function {
+        name,
         t,
         line: 7,
         body: None,
@@ -202,6 +221,8 @@ fn what_a_unit_holds_is_read_back(rt: HostRuntime) {
     check_tag(&rt, &mut u, int);
     check_block(&rt, &mut u, int);
     move_function(&rt, &mut u, int, f);
+    let main = declare_main(&rt, &mut u, t);
+    assert!(rt; u.main() == main && main > f);
     let char = u.intern(Term::Int(IntKind::Char)).expect(&rt, "no memory");
     let chars = u
         .intern(Term::Array(char, Some(3)))
