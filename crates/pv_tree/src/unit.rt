@@ -249,6 +249,18 @@ impl Unit {
         }
     }
 
+    /// Whether the node is a declaration, or a part of one: among the items of a block, a declaration (C17 6.8.2p1).
+    pub fn is_declaration(&self, n: NodeId) -> bool
+        requires { n.0 < length (tables self.now).forest.trees }
+        ensures { result ≡ is_declaration (tree_at (tables self.now).forest n) }
+    {
+        match self.node(n) {
+            Node::Decl(_) => true,
+            Node::Expr(_) | Node::Declarator(_) | Node::Spec(_) | Node::Init(_) | Node::Stmt(_) =>
+                false,
+        }
+    }
+
     /// How many external declarations there are (C17 6.9p1).
     pub fn count(&self) -> u32
         ensures { result ≡ length (tables self.now).externals }
