@@ -7,7 +7,8 @@ use Rattle.std.proofs.lemmas.List.Elements.{All-push}
 use Rattle.std.proofs.lemmas.Slice.Eq.{bytes_eq-Decides}
 use Rattle.std.specs.List.{slice_get, list_any}
 use Rattle.std.specs.Cmp.Lexicographic.{pointwise}
-use Rattle.std.specs.Ordering.{is_eq}
+use Rattle.std.specs.Ordering.{is_eq, ordering_then}
+use Rattle.std.specs.declared.cmp.Ordering.{Ordering}
 use Rattle.std.specs.declared.cmp.Ordering.TheVariants.{Less, Equal, Greater}
 use Rattle.std.specs.Option.{option_map}
 use Rattle.std.specs.Map.{lookup}
@@ -19,7 +20,7 @@ use Rattle.pv_script.specs.Places.{place_of}
 use Rattle.pv_script.specs.Numbered.{numbered}
 use Rattle.pv_script.specs.Scripts.{NumberedLine, first_same}
 use Rattle.pv_script.specs.Names.{name_at, with_text}
-use Rattle.pv_script.specs.Indexed.{found, first_place, key, has_key, IsNamed, IsIndexed}
+use Rattle.pv_script.specs.Indexed.{found, first_place, has_key, key_cmp, IsNamed, IsIndexed}
 
 -- what a script says, and which line says the same, are of the first line found
 pub place_found : (es : List NumberedLine) (name : List ℕ) (k : ℕ) → place_of (map (λ (e : NumberedLine). e.says) es) name k ≡ option_map (λ (e : NumberedLine). e.says.place) (found es name k)
@@ -60,21 +61,19 @@ abbrev pub IsOnly : List (List ℕ) → List ℕ → ℕ → Type 0
 IsOnly names name n = (i : ℕ) → i < length names → name_at names i ≡ name → i ≡ n
 
 -- by the name's number it is the same
-same_test : (names : List (List ℕ)) (name : List ℕ) (n k : ℕ) (l : Line) → IsOnly names name n → slice_get names n ≡ Some name → k < 2 ^ 64 → IsNamed names l → has_key (key n k) l ≡ is_for name k l
-same_test names name n k l only at small known = bools_same _ _
+same_test : (names : List (List ℕ)) (name : List ℕ) (n k : ℕ) (l : Line) → IsOnly names name n → slice_get names n ≡ Some name → IsNamed names l → has_key (n, k) l ≡ is_for name k l
+same_test names name n k l only at known = bools_same _ _
     (λ h.
-    let e : l.number * 2 ^ 64 + l.k ≡ n * 2 ^ 64 + k = grind (arith, nat_tests) in
-    let same_number : l.number ≡ n = omega (arith, known.small) in
-    let same_count : l.k ≡ k = omega (arith, known.small) in
+    let w = halves (eqb l.number n) (eqb l.k k) h in
+    let same_number : l.number ≡ n = grind (arith, nat_tests) in
     let same_name : Some l.name.items ≡ Some name = sym known.named ∙ ap (slice_get names) same_number ∙ at in
-    both _ _ (grind (arith, nat_tests)) ((bytes_eq-Decides l.name.items name).1 (cc)))
+    both _ _ w.1 ((bytes_eq-Decides l.name.items name).1 (cc)))
     (λ h.
     let w = halves (eqb l.k k) (bytes_eq l.name.items name) h in
-    let same_count : l.k ≡ k = grind (arith, nat_tests) in
     let same_name : l.name.items ≡ name = (bytes_eq-Decides l.name.items name).0 w.1 in
     let same_number : l.number ≡ n =
     only l.number (slice_get_within names l.number l.name.items known.named) (get_or_from_slice_get names l.number l.name.items [] known.named ∙ same_name) in
-    grind (arith, nat_tests))
+    both _ _ (grind (arith, nat_tests)) w.0)
 
 -- tests that agree on all find the same place
 same_place : (p q : Line → Bool) (ls : List Line) → All (λ (l : Line). p l ≡ q l) ls → first_place p ls ≡ first_place q ls
@@ -83,8 +82,8 @@ same_place p q (l ∷ ls) h =
     ap (λ b. cond b (Some 0) (option_map (λ i. i + 1) (first_place p ls))) (h 0 l (omega arith))
     ∙ ap (λ o. cond (q l) (Some 0) (option_map (λ i. i + 1) o)) (same_place p q ls (λ i d lt. h (suc i) d (omega arith)))
 
-pub places_same : (names : List (List ℕ)) (ls : List Line) (name : List ℕ) (n k : ℕ) → IsOnly names name n → slice_get names n ≡ Some name → k < 2 ^ 64 → All (IsNamed names) ls → first_place (has_key (key n k)) ls ≡ first_place (is_for name k) ls
-places_same names ls name n k only at small known = same_place _ _ ls (λ i d lt. same_test names name n k (get_or ls i d) only at small (known i d lt))
+pub places_same : (names : List (List ℕ)) (ls : List Line) (name : List ℕ) (n k : ℕ) → IsOnly names name n → slice_get names n ≡ Some name → All (IsNamed names) ls → first_place (has_key (n, k)) ls ≡ first_place (is_for name k) ls
+places_same names ls name n k only at known = same_place _ _ ls (λ i d lt. same_test names name n k (get_or ls i d) only at (known i d lt))
 
 -- a line that is found stands at its place
 pub found_there : (ls : List Line) (name : List ℕ) (k i : ℕ) (d : Line) → first_place (is_for name k) ls ≡ Some i → (i < length ls) × (found (map numbered ls) name k ≡ Some (numbered (get_or ls i d)))
@@ -142,19 +141,27 @@ still_named names text l h = by (list_any (pointwise nat_eq text) names)
   where
     by : (b : Bool) → IsNamed (cond b names (names ++ (text ∷ []))) l
     by true = h
-    by false = record { named = get_pushed names (text ∷ []) l.number l.name.items h.named; small = h.small }
+    by false = record { named = get_pushed names (text ∷ []) l.number l.name.items h.named }
 
-pub more_names : (names : List (List ℕ)) (text : List ℕ) (ls : List Line) (es : List (ℕ × ℕ)) → IsIndexed names ls es → IsIndexed (with_text names text) ls es
+pub more_names : (names : List (List ℕ)) (text : List ℕ) (ls : List Line) (es : List ((ℕ × ℕ) × ℕ)) → IsIndexed names ls es → IsIndexed (with_text names text) ls es
 more_names names text ls es h = record { known = λ i d lt. still_named names text (get_or ls i d) (h.known i d lt); places = h.places }
 
-at_is : (s q : ℕ) → is_at (nat_cmp s) q ≡ eqb s q
-at_is s q = by (ltb s q) (eqb s q) refl refl
+number_is : (s q : ℕ) → is_eq (nat_cmp s q) ≡ eqb s q
+number_is s q = by (ltb s q) (eqb s q) refl refl
   where
     by : (b c : Bool) → ltb s q ≡ b → eqb s q ≡ c → is_eq (cond b Less (cond c Equal Greater)) ≡ c
     by true true h g = absurd (grind (arith, nat_tests))
     by true false h g = refl
     by false true h g = refl
     by false false h g = refl
+
+then_equal : (a b : Ordering) → is_eq (ordering_then a b) ≡ (is_eq a && is_eq b)
+then_equal Less b = refl
+then_equal Equal b = refl
+then_equal Greater b = refl
+
+at_is : (s q : ℕ × ℕ) → is_at (key_cmp s) q ≡ (eqb s.0 q.0 && eqb s.1 q.1)
+at_is s q = then_equal (nat_cmp s.0 q.0) (nat_cmp s.1 q.1) ∙ ap (λ b. b && is_eq (nat_cmp s.1 q.1)) (number_is s.0 q.0) ∙ ap (λ b. eqb s.0 q.0 && b) (number_is s.1 q.1)
 
 abbrev or_last : Option ℕ → Bool → ℕ → Option ℕ
 or_last None b n = cond b (Some n) None
@@ -178,19 +185,22 @@ first_pushed p (x ∷ ls) l = ap (λ o. cond (p x) (Some 0) (option_map (λ i. i
         last false = refl
 
 -- one line more, with its place in the map
-pub one_more : (names : List (List ℕ)) (ls : List Line) (es fs : List (ℕ × ℕ)) (l : Line) → IsOnly names l.name.items l.number → IsIndexed names ls es → IsNamed names l → found (map numbered ls) l.name.items l.k ≡ None
-    → ((q : ℕ) → lookup (is_at (nat_cmp q)) fs ≡ cond (is_at (nat_cmp (key l.number l.k)) q) (Some (length ls)) (lookup (is_at (nat_cmp q)) es)) → IsIndexed names (ls ++ l ∷ []) fs
+pub one_more : (names : List (List ℕ)) (ls : List Line) (es fs : List ((ℕ × ℕ) × ℕ)) (l : Line) → IsOnly names l.name.items l.number → IsIndexed names ls es → IsNamed names l → found (map numbered ls) l.name.items l.k ≡ None
+    → ((q : ℕ × ℕ) → lookup (is_at (key_cmp q)) fs ≡ cond (is_at (key_cmp (l.number, l.k)) q) (Some (length ls)) (lookup (is_at (key_cmp q)) es)) → IsIndexed names (ls ++ l ∷ []) fs
 one_more names ls es fs l only h named none updates = record {
   known = All-push (IsNamed names) ls l h.known named;
-  places = λ q. updates q ∙ ap (λ b. cond b (Some (length ls)) (lookup (is_at (nat_cmp q)) es)) (at_is (key l.number l.k) q) ∙ by q (has_key q l) refl ∙ sym (first_pushed (has_key q) ls l);
+  places = λ q. updates q ∙ ap (λ b. cond b (Some (length ls)) (lookup (is_at (key_cmp q)) es)) (at_is (l.number, l.k) q) ∙ by q (has_key q l) refl ∙ sym (first_pushed (has_key q) ls l);
 }
   where
-    nowhere : first_place (has_key (key l.number l.k)) ls ≡ None
-    nowhere = places_same names ls l.name.items l.number l.k only named.named named.small h.known ∙ nowhere_found ls l.name.items l.k none
+    nowhere : first_place (has_key (l.number, l.k)) ls ≡ None
+    nowhere = places_same names ls l.name.items l.number l.k only named.named h.known ∙ nowhere_found ls l.name.items l.k none
 
-    by : (q : ℕ) (b : Bool) → has_key q l ≡ b → cond b (Some (length ls)) (lookup (is_at (nat_cmp q)) es) ≡ or_last (first_place (has_key q) ls) b (length ls)
+    by : (q : ℕ × ℕ) (b : Bool) → has_key q l ≡ b → cond b (Some (length ls)) (lookup (is_at (key_cmp q)) es) ≡ or_last (first_place (has_key q) ls) b (length ls)
     by q true e =
-        let same : key l.number l.k ≡ q = grind (arith, nat_tests) in
+        let w = halves (eqb l.number q.0) (eqb l.k q.1) e in
+        let number : l.number ≡ q.0 = grind (arith, nat_tests) in
+        let count : l.k ≡ q.1 = grind (arith, nat_tests) in
+        let same : ◌≡◌ {A = ℕ × ℕ} (l.number, l.k) q = ap (λ n. (n, l.k)) number ∙ ap (λ n. (q.0, n)) count in
         sym (ap (λ o. or_last o true (length ls)) (sym (ap (λ s. first_place (has_key s) ls) same) ∙ nowhere))
     by q false e = h.places q ∙ sym (or_none (first_place (has_key q) ls))
       where
@@ -199,33 +209,33 @@ one_more names ls es fs l only h named none updates = record {
         or_none (Some i) = refl
 
 -- the same by the facts that the calls tell
-pub kept_more : (names more : List (List ℕ)) (text : List ℕ) (ls same all : List Line) (es fs : List (ℕ × ℕ)) (l : Line) (q at : ℕ) → more ≡ with_text names text → text ≡ l.name.items → IsOnly more text l.number → slice_get more l.number ≡ Some text → l.k < 2 ^ 64
-    → IsIndexed names ls es → same ≡ ls → all ≡ same ++ l ∷ [] → found (map numbered ls) l.name.items l.k ≡ None → q ≡ key l.number l.k → at ≡ length same
-    → ((p : ℕ) → lookup (is_at (nat_cmp p)) fs ≡ cond (is_at (nat_cmp q) p) (Some at) (lookup (is_at (nat_cmp p)) es)) → IsIndexed more all fs
-kept_more names more text ls same all es fs l q at more_is text_is only there small h same_is all_is none q_is at_is updates = subst (λ ms. IsIndexed more ms fs) (sym (all_is ∙ ap (λ ms. ms ++ l ∷ []) same_is))
-    (one_more more ls es fs l (subst (λ t. IsOnly more t l.number) text_is only) before record { named = there ∙ ap Some text_is; small = small } none
-    (λ p. updates p ∙ ap (λ s. cond (is_at (nat_cmp s) p) (Some at) (lookup (is_at (nat_cmp p)) es)) q_is ∙ ap (λ a. cond (is_at (nat_cmp (key l.number l.k)) p) (Some a) (lookup (is_at (nat_cmp p)) es)) (at_is ∙ ap length same_is)))
+pub kept_more : (names more : List (List ℕ)) (text : List ℕ) (ls same all : List Line) (es fs : List ((ℕ × ℕ) × ℕ)) (l : Line) (q : ℕ × ℕ) (at : ℕ) → more ≡ with_text names text → text ≡ l.name.items → IsOnly more text l.number → slice_get more l.number ≡ Some text
+    → IsIndexed names ls es → same ≡ ls → all ≡ same ++ l ∷ [] → found (map numbered ls) l.name.items l.k ≡ None → q ≡ (l.number, l.k) → at ≡ length same
+    → ((p : ℕ × ℕ) → lookup (is_at (key_cmp p)) fs ≡ cond (is_at (key_cmp q) p) (Some at) (lookup (is_at (key_cmp p)) es)) → IsIndexed more all fs
+kept_more names more text ls same all es fs l q at more_is text_is only there h same_is all_is none q_is at_is updates = subst (λ ms. IsIndexed more ms fs) (sym (all_is ∙ ap (λ ms. ms ++ l ∷ []) same_is))
+    (one_more more ls es fs l (subst (λ t. IsOnly more t l.number) text_is only) before record { named = there ∙ ap Some text_is } none
+    (λ p. updates p ∙ ap (λ s. cond (is_at (key_cmp s) p) (Some at) (lookup (is_at (key_cmp p)) es)) q_is ∙ ap (λ a. cond (is_at (key_cmp (l.number, l.k)) p) (Some a) (lookup (is_at (key_cmp p)) es)) (at_is ∙ ap length same_is)))
   where
     before : IsIndexed more ls es
     before = subst (λ ns. IsIndexed ns ls es) (sym more_is) (more_names names text ls es h)
 
 -- what the map has at a key is the line, and where it has nothing there is none
-by_name : (names : List (List ℕ)) (ls : List Line) (es : List (ℕ × ℕ)) (name : List ℕ) (n k q : ℕ) → IsOnly names name n → slice_get names n ≡ Some name → k < 2 ^ 64 → IsIndexed names ls es → q ≡ key n k → first_place (is_for name k) ls ≡ lookup (is_at (nat_cmp q)) es
-by_name names ls es name n k q only at small h q_is = sym (places_same names ls name n k only at small h.known) ∙ ap (λ p. first_place (has_key p) ls) (sym q_is) ∙ sym (h.places q)
+by_name : (names : List (List ℕ)) (ls : List Line) (es : List ((ℕ × ℕ) × ℕ)) (name : List ℕ) (n k : ℕ) (q : ℕ × ℕ) → IsOnly names name n → slice_get names n ≡ Some name → IsIndexed names ls es → q ≡ (n, k) → first_place (is_for name k) ls ≡ lookup (is_at (key_cmp q)) es
+by_name names ls es name n k q only at h q_is = sym (places_same names ls name n k only at h.known) ∙ ap (λ p. first_place (has_key p) ls) (sym q_is) ∙ sym (h.places q)
 
-pub by_key : (names : List (List ℕ)) (ls : List Line) (es : List (ℕ × ℕ)) (name : List ℕ) (n k q i : ℕ) (d : Line) → IsOnly names name n → slice_get names n ≡ Some name → k < 2 ^ 64 → IsIndexed names ls es → q ≡ key n k → Some i ≡ lookup (is_at (nat_cmp q)) es
+pub by_key : (names : List (List ℕ)) (ls : List Line) (es : List ((ℕ × ℕ) × ℕ)) (name : List ℕ) (n k : ℕ) (q : ℕ × ℕ) (i : ℕ) (d : Line) → IsOnly names name n → slice_get names n ≡ Some name → IsIndexed names ls es → q ≡ (n, k) → Some i ≡ lookup (is_at (key_cmp q)) es
     → found (map numbered ls) name k ≡ Some (numbered (get_or ls i d))
-by_key names ls es name n k q i d only at small h q_is e = (found_there ls name k i d (by_name names ls es name n k q only at small h q_is ∙ sym e)).1
+by_key names ls es name n k q i d only at h q_is e = (found_there ls name k i d (by_name names ls es name n k q only at h q_is ∙ sym e)).1
 
-pub key_within : (names : List (List ℕ)) (ls : List Line) (es : List (ℕ × ℕ)) (name : List ℕ) (n k q i : ℕ) → IsOnly names name n → slice_get names n ≡ Some name → k < 2 ^ 64 → IsIndexed names ls es → q ≡ key n k → Some i ≡ lookup (is_at (nat_cmp q)) es → i < length ls
-key_within names ls es name n k q i only at small h q_is e = within ls (by_name names ls es name n k q only at small h q_is ∙ sym e)
+pub key_within : (names : List (List ℕ)) (ls : List Line) (es : List ((ℕ × ℕ) × ℕ)) (name : List ℕ) (n k : ℕ) (q : ℕ × ℕ) (i : ℕ) → IsOnly names name n → slice_get names n ≡ Some name → IsIndexed names ls es → q ≡ (n, k) → Some i ≡ lookup (is_at (key_cmp q)) es → i < length ls
+key_within names ls es name n k q i only at h q_is e = within ls (by_name names ls es name n k q only at h q_is ∙ sym e)
   where
     within : (ms : List Line) → first_place (is_for name k) ms ≡ Some i → i < length ms
     within [] g = absurd (none-some i g)
     within (m ∷ ms) g = (found_there (m ∷ ms) name k i m g).0
 
-pub none_by_key : (names : List (List ℕ)) (ls : List Line) (es : List (ℕ × ℕ)) (name : List ℕ) (n k q : ℕ) → IsOnly names name n → slice_get names n ≡ Some name → k < 2 ^ 64 → IsIndexed names ls es → q ≡ key n k → None ≡ lookup (is_at (nat_cmp q)) es → found (map numbered ls) name k ≡ None
-none_by_key names ls es name n k q only at small h q_is e = found_nowhere ls name k (by_name names ls es name n k q only at small h q_is ∙ sym e)
+pub none_by_key : (names : List (List ℕ)) (ls : List Line) (es : List ((ℕ × ℕ) × ℕ)) (name : List ℕ) (n k : ℕ) (q : ℕ × ℕ) → IsOnly names name n → slice_get names n ≡ Some name → IsIndexed names ls es → q ≡ (n, k) → None ≡ lookup (is_at (key_cmp q)) es → found (map numbered ls) name k ≡ None
+none_by_key names ls es name n k q only at h q_is e = found_nowhere ls name k (by_name names ls es name n k q only at h q_is ∙ sym e)
 
 -- what no earlier line says has no line
 pub none_same : (es : List NumberedLine) (s : ScriptLine) → first_same es s ≡ None → found es s.name s.k ≡ None

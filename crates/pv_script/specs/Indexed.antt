@@ -1,7 +1,8 @@
 -- How the lines of a script are found: by the number of the name, and the count.
-use Rattle.std.specs.Prelude.{◌≡◌, ℕ, ◌+◌, ◌*◌, ◌^◌, ◌<◌, ◌==◌, ◌&&◌, Bool, List, [], ◌∷◌, Option, None, Some, if◌then◌else◌, All, slice_get}
+use Rattle.std.specs.Prelude.{◌≡◌, ℕ, ◌+◌, ◌==◌, ◌&&◌, Bool, List, [], ◌∷◌, Option, None, Some, if◌then◌else◌, All, slice_get}
 use Rattle.std.specs.Option.{option_map}
-use Rattle.std.specs.Ordering.{nat_cmp}
+use Rattle.std.specs.declared.cmp.Ordering.{Ordering}
+use Rattle.std.specs.Ordering.{nat_cmp, ordering_then}
 use Rattle.std.specs.Map.{lookup}
 use Rattle.std.specs.BTreeMap.{is_at}
 use Rattle.std.specs.Str.{bytes_eq}
@@ -18,19 +19,19 @@ abbrev pub first_place : {X : Type 0} → (X → Bool) → List X → Option ℕ
 first_place p [] = None
 first_place p (x ∷ xs) = if p x then Some 0 else option_map (λ i. i + 1) (first_place p xs)
 
--- the name's number and the count as one number
-abbrev pub key : ℕ → ℕ → ℕ
-key name k = name * 2 ^ 64 + k
+-- the line has this number of a name, and this count
+abbrev pub has_key : ℕ × ℕ → Line → Bool
+has_key q l = l.number == q.0 && l.k == q.1
 
-abbrev pub has_key : ℕ → Line → Bool
-has_key q l = key l.number l.k == q
+-- keys in order: by the name's number, and then by the count
+abbrev pub key_cmp : ℕ × ℕ → ℕ × ℕ → Ordering
+key_cmp p q = ordering_then (nat_cmp p.0 q.0) (nat_cmp p.1 q.1)
 
 -- the line's name has its number among the names
 pub record IsNamed (names : List (List ℕ)) (l : Line) : Type 0 where
   pub named : slice_get names l.number ≡ Some l.name.items
-  pub small : l.k < 2 ^ 64
 
 -- what the ordered map has at a key is where the first line with it stands
-pub record IsIndexed (names : List (List ℕ)) (lines : List Line) (entries : List (ℕ × ℕ)) : Type 0 where
+pub record IsIndexed (names : List (List ℕ)) (lines : List Line) (entries : List ((ℕ × ℕ) × ℕ)) : Type 0 where
   pub known : All (IsNamed names) lines
-  pub places : (q : ℕ) → lookup (is_at (nat_cmp q)) entries ≡ first_place (has_key q) lines
+  pub places : (q : ℕ × ℕ) → lookup (is_at (key_cmp q)) entries ≡ first_place (has_key q) lines

@@ -1,8 +1,8 @@
 // The lines of a script, found by name and count.
-ghost use Rattle.std.specs.Prelude.{◌≡◌, ◌<◌, ◌^◌, [], ◌∷◌, ◌++◌, OnOk, None};
+ghost use Rattle.std.specs.Prelude.{◌≡◌, [], ◌∷◌, ◌++◌, OnOk, None};
 ghost use Rattle.std.specs.Option.{option_map};
 ghost use Rattle.pv_script.specs.Numbered.{numbered};
-ghost use Rattle.pv_script.specs.Indexed.{key, found};
+ghost use Rattle.pv_script.specs.Indexed.{found};
 
 use crate::names::Names;
 use crate::outside::NoMemory;
@@ -16,8 +16,8 @@ use std::marker::Model;
 pub(crate) struct Lines {
     names: Names,
     lines: Vec<Line>,
-    // where each line stands, by its name and count
-    places: BTreeMap<u128, u64>,
+    // where each line stands, by the number of its name and its count
+    places: BTreeMap<(u32, u64), u64>,
 }
 
 impl Model for Lines {
@@ -31,14 +31,6 @@ impl Model for Lines {
     ghost view = { λ s. map numbered s.lines.items };
 
     ghost invariant = { λ s. IsIndexed s.names s.lines.items s.places.entries };
-}
-
-/// The number of a name and a count as one number.
-fn key(name: u32, k: u64) -> u128
-    ensures key { result ≡ key name k }
-    ensures range { k < 2 ^ 64 }
-{
-    u128::from(name) * 0x1_0000_0000_0000_0000 + u128::from(k)
 }
 
 impl Lines {
@@ -58,7 +50,7 @@ impl Lines {
         ensures { option_map (λ l. numbered l.now) result ≡ found self.now name.now k }
     {
         let number = self.names.find(name)?;
-        match self.places.get(&key(number, k)) {
+        match self.places.get(&(number, k)) {
             Some(i) => Some(&self.lines[*i as usize]),
             None => None,
         }
@@ -72,7 +64,7 @@ impl Lines {
         let number = self.names.add(&line.name)?;
         self.lines.reserve(1)?;
         let at = self.lines.len() as u64;
-        self.places.insert(key(number, line.k), at)?;
+        self.places.insert((number, line.k), at)?;
         self.lines.push_reserved(Line {
             name: line.name,
             number,

@@ -13,7 +13,7 @@ use std::{env, io};
 
 fn main(rt: HostRuntime) -> ExitCode {
     let alloc = rt.alloc();
-    let mut files = DiskFiles::new(&rt);
+    let mut files = DiskFiles::new(&rt, alloc);
     let mut out = Printed::new(io::writer(&rt));
     let mut report = Printed::new(io::writer(&rt));
     match words_asked(&rt, alloc) {

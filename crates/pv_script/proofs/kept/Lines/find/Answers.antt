@@ -1,4 +1,4 @@
-use Rattle.std.proofs.Common.{◌<◌, Some, sym, ap, ◌∙◌, subst}
+use Rattle.std.proofs.Common.{refl, ◌<◌, Some, sym, ap, ◌∙◌, subst}
 use Rattle.std.specs.Option.{option_map}
 use Rattle.pv_script.specs.Numbered.{numbered}
 use Rattle.pv_script.specs.Indexed.{found}
@@ -11,13 +11,13 @@ returns-in_err-number c = ap (option_map (λ l. numbered l.now)) c.from_residual
 
 pub index-requires : goal.index-requires
 index-requires c = subst (λ n. c.in-Some.i.now < n) (sym c.self.inside.lines.ok.0)
-    (key_within c.self.inside.names c.self.inside.lines.items c.self.inside.places.entries c.args.name.now c.in_ok-number.number c.args.k c.key.result c.in-Some.i.now c.in_ok-number.ensures.once c.in_ok-number.ensures.found c.key.ensures.range c.self.invariant c.key.ensures.key c.in-Some.ensures.value)
+    (key_within c.self.inside.names c.self.inside.lines.items c.self.inside.places.entries c.args.name.now c.in_ok-number.number c.args.k (c.in_ok-number.number, c.args.k) c.in-Some.i.now c.in_ok-number.ensures.once c.in_ok-number.ensures.found c.self.invariant refl c.in-Some.ensures.value)
 
 pub returns-in-Some : goal.returns-in-Some
 returns-in-Some c = ap (λ l. Some (numbered l)) c.index.ensures
-    ∙ sym (by_key c.self.inside.names c.self.inside.lines.items c.self.inside.places.entries c.args.name.now c.in_ok-number.number c.args.k c.key.result c.in-Some.i.now c.index.result.now c.in_ok-number.ensures.once c.in_ok-number.ensures.found c.key.ensures.range c.self.invariant c.key.ensures.key c.in-Some.ensures.value)
+    ∙ sym (by_key c.self.inside.names c.self.inside.lines.items c.self.inside.places.entries c.args.name.now c.in_ok-number.number c.args.k (c.in_ok-number.number, c.args.k) c.in-Some.i.now c.index.result.now c.in_ok-number.ensures.once c.in_ok-number.ensures.found c.self.invariant refl c.in-Some.ensures.value)
     ∙ ap (λ ls. found ls c.args.name.now c.args.k) c.self.view_is
 
 pub returns-in-None : goal.returns-in-None
-returns-in-None c = sym (none_by_key c.self.inside.names c.self.inside.lines.items c.self.inside.places.entries c.args.name.now c.in_ok-number.number c.args.k c.key.result c.in_ok-number.ensures.once c.in_ok-number.ensures.found c.key.ensures.range c.self.invariant c.key.ensures.key c.in-None.ensures.value)
+returns-in-None c = sym (none_by_key c.self.inside.names c.self.inside.lines.items c.self.inside.places.entries c.args.name.now c.in_ok-number.number c.args.k (c.in_ok-number.number, c.args.k) c.in_ok-number.ensures.once c.in_ok-number.ensures.found c.self.invariant refl c.in-None.ensures.value)
     ∙ ap (λ ls. found ls c.args.name.now c.args.k) c.self.view_is
