@@ -1,0 +1,70 @@
+-- Calls of functions (6.5.2.2).
+use Rattle.std.specs.Prelude.{ℕ, Bool, true, false, ◌||◌, if◌then◌else◌, Option, Some, None, List, [], ◌∷◌}
+use Rattle.pv_script.specs.declared.library.Library.{Library}
+use Rattle.pv_script.specs.declared.library.Library.TheVariants as library
+use Rattle.pv_types.specs.Layouts.{is_complete_in}
+use Rattle.pv_types.specs.Ty.{Ty, Tys, NoTys, MoreTys, FunctionTy}
+use Rattle.pv_typed.specs.TypedTree.{TypedTree, Form, Node, Call, LibraryCall, Convert, ArrayPointer, String, arguments_of, form_of, type_of}
+use Rattle.pv_typed.specs.TypedUnits.{WholeUnit, function_at, name_at, literal_at, layouts}
+use Rattle.pv_check.specs.Library.{library_named, is_format}
+use Rattle.pv_check.specs.Sorts.{is_void}
+use Rattle.pv_check.specs.Values.{written, promoted_value, assigned}
+
+abbrev pub more : Option TypedTree → Option (List TypedTree) → Option (List TypedTree)
+more (Some a) (Some rest) = Some (a ∷ rest)
+more _ _ = None
+
+-- 6.5.2.2p6 and p7: an argument beyond the parameters is promoted
+abbrev pub further : TypedTree → Option TypedTree
+further a = if is_void (type_of a) then None else Some (promoted_value a)
+
+-- 6.5.2.2p2 and p7: as many arguments as parameters, each as if assigned to its parameter, and further ones where the function takes them
+abbrev pub passed : Tys → (variadic : Bool) → List TypedTree → Option (List TypedTree)
+passed NoTys variadic [] = Some []
+passed NoTys true (a ∷ rest) = more (further a) (passed NoTys true rest)
+passed NoTys false (a ∷ rest) = None
+passed (MoreTys t ts) variadic [] = None
+passed (MoreTys t ts) variadic (a ∷ rest) = more (assigned t a) (passed ts variadic rest)
+
+abbrev pub string_in : Form → Option ℕ
+string_in (String l) = Some l
+string_in _ = None
+
+-- the number of the string literal whose first byte an argument points to
+abbrev pub literal_in : Form → Option ℕ
+literal_in (Convert (Node t line turn x)) = literal_in x
+literal_in (ArrayPointer a) = string_in (form_of a)
+literal_in _ = None
+
+abbrev pub is_format_literal : WholeUnit → Option ℕ → Bool
+is_format_literal u (Some l) = is_format (literal_at u l).bytes
+is_format_literal u None = false
+
+-- 7.21.6.1p8: the format of `printf` is a string literal of conversions that the profile has
+abbrev pub may_pass : WholeUnit → Library → List TypedTree → Bool
+may_pass u library.Printf (Node t line turn x ∷ rest) = is_format_literal u (literal_in x)
+may_pass u library.Printf [] = false
+may_pass u f args = true
+
+abbrev pub library_call : WholeUnit → ℕ → Library → Ty → Option (List TypedTree) → Option TypedTree
+library_call u line f t None = None
+library_call u line f t (Some args) = if may_pass u f args then Some (written line t (LibraryCall f (arguments_of args))) else None
+
+abbrev pub program_call : ℕ → ℕ → Ty → Option (List TypedTree) → Option TypedTree
+program_call line f t None = None
+program_call line f t (Some args) = Some (written line t (Call f (arguments_of args)))
+
+abbrev pub called : WholeUnit → ℕ → ℕ → Option Library → Ty → Option (List TypedTree) → Option TypedTree
+called u line f (Some l) t args = library_call u line l t args
+called u line f None t args = program_call line f t args
+
+-- 6.5.2.2p1 and p5: the function returns void or a complete object type, which the call has
+abbrev pub call_at : WholeUnit → ℕ → ℕ → Ty → List TypedTree → Option TypedTree
+call_at u line f (FunctionTy t ts variadic) args =
+    if is_void t || is_complete_in (layouts u) t
+    then called u line f (library_named (name_at u (function_at u f).name)) t (passed ts variadic args)
+    else None
+call_at u line f t args = None
+
+abbrev pub call_of : WholeUnit → ℕ → ℕ → List TypedTree → Option TypedTree
+call_of u line f args = call_at u line f (function_at u f).t args

@@ -1,0 +1,51 @@
+-- The conditional operator (6.5.15).
+use Rattle.std.specs.Prelude.{ℕ, Bool, true, false, ◌||◌, if◌then◌else◌, Option, Some, None}
+use Rattle.pv_types.specs.Ty.{Ty, VoidTy, IntTy, PointerTo, StructTag, UnionTag}
+use Rattle.pv_typed.specs.TypedTree.{TypedTree, Conditional, type_of}
+use Rattle.pv_check.specs.Kinds.{common}
+use Rattle.pv_check.specs.Qualified.{unqualified, qualified_if, is_const, same}
+use Rattle.pv_check.specs.Sorts.{is_scalar, is_void, are_alike}
+use Rattle.pv_check.specs.Composite.{composite}
+use Rattle.pv_typed.specs.Addresses.{is_null_constant}
+use Rattle.pv_check.specs.Values.{written, converted}
+
+abbrev pub pointer_to : (const : Bool) → Ty → Ty
+pointer_to const t = PointerTo (qualified_if const t)
+
+-- 6.5.15p6: what two pointers that are no null pointer constants give: a pointer to the composite type, or to void where one points to
+-- void, with the qualifiers of both
+abbrev pub merged : Ty → Ty → Option Ty
+merged t u =
+    if are_alike t u then Some (pointer_to (is_const t || is_const u) (composite (unqualified t) (unqualified u)))
+    else (if is_void t || is_void u then Some (pointer_to (is_const t || is_const u) VoidTy) else None)
+
+-- 6.5.15p6: with a null pointer constant, the type of the other operand; two of pointer type are two pointers
+abbrev pub pointer_type : Ty → Ty → (left right : Bool) → Option Ty
+pointer_type t u false true = Some (PointerTo t)
+pointer_type t u true false = Some (PointerTo u)
+pointer_type t u left right = merged t u
+
+-- 6.5.15p3 and p5: what two that are no pointers give: two integers, two of type void, two of one structure or union
+abbrev pub plain_type : Ty → Ty → Option Ty
+plain_type (IntTy k) (IntTy l) = Some (IntTy (common k l))
+plain_type VoidTy VoidTy = Some VoidTy
+plain_type (StructTag n) u = if same (StructTag n) u then Some u else None
+plain_type (UnionTag n) u = if same (UnionTag n) u then Some u else None
+plain_type t u = None
+
+-- 6.5.15p3, p5 and p6: the type of the result, by the types of the second and the third operand, and whether they are null pointer
+-- constants
+abbrev pub result_type : Ty → Ty → (left right : Bool) → Option Ty
+result_type (PointerTo t) (PointerTo u) left right = pointer_type t u left right
+result_type (PointerTo t) u left true = Some (PointerTo t)
+result_type t (PointerTo u) true right = Some (PointerTo u)
+result_type t u left right = plain_type t u
+
+abbrev pub chosen : ℕ → TypedTree → TypedTree → TypedTree → Option Ty → Option TypedTree
+chosen line a b c (Some t) = Some (written line t (Conditional a (converted t b) (converted t c)))
+chosen line a b c None = None
+
+-- 6.5.15
+abbrev pub conditional_of : ℕ → TypedTree → TypedTree → TypedTree → Option TypedTree
+conditional_of line a b c =
+    if is_scalar (type_of a) then chosen line a b c (result_type (type_of b) (type_of c) (is_null_constant b) (is_null_constant c)) else None

@@ -1,0 +1,67 @@
+-- What the code has of a declarator, and what it stands for.
+use Rattle.std.specs.Prelude.{◌<◌, ℕ, Bool, Some, None, IfSome, List, [], ◌∷◌, ◌++◌, map, length}
+use Rattle.std.specs.declared.option.Option.{Option}
+use Rattle.std.specs.declared.vec.Vec.{Vec}
+use Rattle.std.specs.declared.alloc.Global.{Global}
+use Rattle.pv_types.specs.Known.{Known, tree}
+use Rattle.pv_typed.specs.Children.{Each}
+use Rattle.pv_typed.specs.Tables.{Stored}
+use Rattle.pv_check.specs.declared.declarators.Steps.{Steps}
+use Rattle.pv_check.specs.declared.parameters.Parameter.{Parameter}
+use Rattle.pv_check.specs.declared.parameters.Signature.{Signature}
+use Rattle.pv_check.specs.Derivations.{Parameter as WholeParameter, Signature as WholeSignature, Steps as WholeSteps}
+use Rattle.pv_check.specs.Open.{state_of, ScopeKnown}
+use Rattle.pv_check.specs.Raw.{Raw, raw_of, scope_shown}
+use Rattle.pv_check.specs.State.{After}
+use Rattle.pv_check.specs.Stepping.{steps_in, AreSteps}
+
+abbrev pub parameter_shown : Known → Parameter → WholeParameter
+parameter_shown m p = record { t = tree m p.t.0; name = p.name; object = p.object }
+
+abbrev pub parameters_shown : Known → List Parameter → List WholeParameter
+parameters_shown m ps = map (parameter_shown m) ps
+
+abbrev pub signature_shown : Known → Signature → WholeSignature
+signature_shown m g = record { parameters = parameters_shown m g.parameters.items; variadic = g.variadic; scope = scope_shown m (raw_of g.scope) }
+
+abbrev pub signature_if : Known → Option Signature → Option WholeSignature
+signature_if m None = None
+signature_if m (Some g) = Some (signature_shown m g)
+
+abbrev pub steps_shown : Known → Steps → WholeSteps
+steps_shown m x = record { list = steps_in m x.list.items; signature = signature_if m x.signature }
+
+abbrev pub after_steps : List (List ℕ) → Bool → Raw → Stored → Option Steps → Option (After WholeSteps)
+after_steps texts u s m None = None
+after_steps texts u s m (Some x) = Some (record { value = steps_shown m.known x; state = state_of texts u s m })
+
+abbrev pub after_value : {A : Type 0} → List (List ℕ) → Bool → Raw → Stored → Option A → Option (After A)
+after_value texts u s m None = None
+after_value texts u s m (Some k) = Some (record { value = k; state = state_of texts u s m })
+
+-- one parameter more behind others, and the state after it
+abbrev pub after_parameter : List (List ℕ) → Bool → Raw → Stored → List WholeParameter → Option Parameter → Option (After (List WholeParameter))
+after_parameter texts u s m before None = None
+after_parameter texts u s m before (Some p) = Some (record { value = before ++ (parameter_shown m.known p ∷ []); state = state_of texts u s m })
+
+abbrev pub parameters_if : Known → Option (Vec Parameter Global) → Option (List WholeParameter)
+parameters_if m None = None
+parameters_if m (Some v) = Some (parameters_shown m v.items)
+
+abbrev pub after_parameters : List (List ℕ) → Bool → Raw → Stored → Option (Vec Parameter Global) → Option (After (List WholeParameter))
+after_parameters texts u s m None = None
+after_parameters texts u s m (Some v) = Some (record { value = parameters_shown m.known v.items; state = state_of texts u s m })
+
+-- what a list of parameters names is there
+abbrev pub ParameterKnown : Stored → Parameter → Type 0
+ParameterKnown m p = (p.t.0 < length m.known.terms) × IfSome p.object (λ o. o < length m.objects)
+
+abbrev pub SignatureKnown : Stored → Signature → Type 0
+SignatureKnown m g = Each (ParameterKnown m) g.parameters.items × ScopeKnown m (raw_of g.scope)
+
+-- what steps name is there
+abbrev pub StepsKnown : Stored → Steps → Type 0
+StepsKnown m x = AreSteps m.known x.list.items × IfSome x.signature (SignatureKnown m)
+
+abbrev pub KnownSteps : Stored → Option Steps → Type 0
+KnownSteps m o = IfSome o (StepsKnown m)

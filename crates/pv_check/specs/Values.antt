@@ -1,0 +1,61 @@
+-- The value that is taken of an operand (6.3.2.1), conversions (6.3), and what may be assigned (6.5.16.1).
+use Rattle.std.specs.Prelude.{ℕ, Bool, true, false, not, ◌&&◌, ◌||◌, if◌then◌else◌, Option, Some, None, List}
+use Rattle.pv_num.specs.declared.kinds.IntKind.TheVariants.{Bool as BoolKind}
+use Rattle.pv_types.specs.Layouts.{Entry, is_complete_in}
+use Rattle.pv_types.specs.Ty.{Ty, IntTy, PointerTo, ArrayOf, StructTag, UnionTag}
+use Rattle.pv_typed.specs.TypedTree.{TypedTree, Form, Node, Convert, Read, ArrayPointer, type_of, line_of, is_lvalue}
+use Rattle.pv_check.specs.Kinds.{promoted}
+use Rattle.pv_check.specs.Qualified.{unqualified, is_const, same}
+use Rattle.pv_check.specs.Sorts.{is_void, is_array, are_alike}
+use Rattle.pv_types.specs.Qualifiers.{has_const}
+use Rattle.pv_typed.specs.Addresses.{is_null_constant}
+
+-- a node of the source, and one that typing adds, which takes no turn
+abbrev pub written : ℕ → Ty → Form → TypedTree
+written line t x = Node t line true x
+
+abbrev pub implied : ℕ → Ty → Form → TypedTree
+implied line t x = Node t line false x
+
+-- 6.3.2.1p2 and p3: of an array the pointer to its first element, of another lvalue what it holds; 6.3.2.1p2: an incomplete type
+-- has no value
+abbrev pub read_at : List Entry → TypedTree → Ty → Option TypedTree
+read_at env a (ArrayOf t n) = Some (implied (line_of a) (PointerTo t) (ArrayPointer a))
+read_at env a t = if is_complete_in env t then Some (implied (line_of a) (unqualified t) (Read a)) else None
+
+abbrev pub value_of : List Entry → TypedTree → Option TypedTree
+value_of env a = if is_lvalue a then read_at env a (type_of a) else Some a
+
+-- 6.3.2.1p1: an lvalue that may be changed
+abbrev pub is_modifiable : List Entry → TypedTree → Bool
+is_modifiable env a = is_lvalue a && (not (is_array (type_of a)) && (is_complete_in env (type_of a) && not (has_const env (type_of a))))
+
+-- 6.3: converted to a type that is not qualified; a value that has the type stays as it is
+abbrev pub converted : Ty → TypedTree → TypedTree
+converted t a = if same (type_of a) t then a else implied (line_of a) t (Convert a)
+
+-- 6.3.1.1p2
+abbrev pub promotion : TypedTree → Ty → TypedTree
+promotion a (IntTy k) = converted (IntTy (promoted k)) a
+promotion a t = a
+
+abbrev pub promoted_value : TypedTree → TypedTree
+promoted_value a = promotion a (type_of a)
+
+-- 6.5.16.1p1: the left one of two types pointed to has the qualifiers of the right one, and they are compatible or one is void
+abbrev pub may_point : Ty → Ty → Bool
+may_point t u = (is_const t || not (is_const u)) && (are_alike t u || (is_void t || is_void u))
+
+-- 6.5.16.1p1: a value of the right type may be assigned where the left one is wanted; here null says that it is a null pointer constant
+abbrev pub may_assign : Ty → Ty → (null : Bool) → Bool
+may_assign (IntTy k) (IntTy l) null = true
+may_assign (IntTy BoolKind) (PointerTo u) null = true
+may_assign (PointerTo t) (PointerTo u) null = null || may_point t u
+may_assign (PointerTo t) u null = null
+may_assign (StructTag n) u null = same (StructTag n) u
+may_assign (UnionTag n) u null = same (UnionTag n) u
+may_assign _ _ null = false
+
+-- 6.5.16.1p2: a value converted to the unqualified type of what it is assigned to
+abbrev pub assigned : Ty → TypedTree → Option TypedTree
+assigned t a = if may_assign (unqualified t) (type_of a) (is_null_constant a) then Some (converted (unqualified t) a) else None

@@ -1,0 +1,117 @@
+//! Identifiers (C17 6.5.1p2).
+ghost use Rattle.std.specs.Prelude.{◌≡◌, ◌<◌, ℕ, List, Some, IfOk, IfSome, OnOk, length};
+ghost use Rattle.pv_types.specs.Ty.{IntTy};
+ghost use Rattle.pv_num.specs.declared.kinds.IntKind.TheVariants.{Int};
+ghost use Rattle.pv_typed.specs.TypedTree.{Object, Constant};
+ghost use Rattle.pv_typed.specs.TypedUnits.{object_at};
+ghost use Rattle.pv_typed.specs.Tables.{whole, expression_at, IsExpression};
+ghost use Rattle.pv_typed.specs.Formed.{AreKnown};
+ghost use Rattle.pv_check.specs.State.{look, ObjectName, ConstantOf};
+ghost use Rattle.pv_check.specs.Primary.{name_of};
+ghost use Rattle.pv_check.specs.Raw.{scopes_shown, meaning_if};
+ghost use Rattle.pv_check.specs.Open.{state_of, IsOpen, Goes, EntryKnown};
+ghost use Rattle.pv_check.specs.Arms.{after_node, OpenIf};
+ghost use Rattle.pv_check.specs.Kept.{Kept, expression_if};
+ghost use Rattle.pv_check.specs.Values.{written};
+
+use crate::scopes::{Entry, Named, Scopes};
+use crate::values::{add, intern};
+use pv_num::IntKind;
+use pv_tree::NodeId;
+use pv_typed::{Typed, TypedUnit};
+use pv_types::{NoMemory, Term};
+
+/// The object that an identifier designates.
+pub(crate) fn object(into: &mut TypedUnit, line: u32, o: u32) -> Result<Option<NodeId>, NoMemory>
+    requires known { AreKnown into.old }
+    requires object { o < length into.old.objects }
+    ensures node { IfOk result (λ r. IfSome r (λ v. IsExpression into.new v)) }
+    ensures typed { IfOk result (λ r. expression_if into.new r ≡ Some (written line (object_at (whole into.old) o).t (Object o))) }
+    ensures kept { OnOk result (Kept into.old into.new) }
+{
+    let t = into.object(o).t;
+    let r = add(into, Typed::Object(o), t, line, true)?;
+    Ok(Some(r))
+}
+
+/// An enumeration constant (C17 6.4.4.3).
+pub(crate) fn enumerator(
+    into: &mut TypedUnit,
+    line: u32,
+    value: i128,
+) -> Result<Option<NodeId>, NoMemory>
+    requires known { AreKnown into.old }
+    ensures node { IfOk result (λ r. IfSome r (λ v. IsExpression into.new v)) }
+    ensures typed { IfOk result (λ r. expression_if into.new r ≡ Some (written line (IntTy Int) (Constant value))) }
+    ensures kept { OnOk result (Kept into.old into.new) }
+{
+    let t = intern(into, Term::Int(IntKind::Int))?;
+    let r = add(into, Typed::Constant(value), t, line, true)?;
+    Ok(Some(r))
+}
+
+/// What a name designates.
+#[tactic(auto, using(crate::proofs::Showing::look_shown, crate::proofs::Opening::look_known))]
+pub(crate) fn look_up(s: &Scopes, into: &TypedUnit, n: u32) -> Option<Entry>
+    requires open { IsOpen into.now s.now }
+    ensures meaning { look (scopes_shown into.now.known s.now.scopes) n ≡ meaning_if into.now.known result }
+    ensures known { IfSome result (EntryKnown into.now) }
+{
+    s.look(n)
+}
+
+/// An object that an identifier designates, which counts as used.
+fn named_object(
+    s: &mut Scopes,
+    hidden: bool,
+    line: u32,
+    o: u32,
+    into: &mut TypedUnit,
+) -> Result<Option<NodeId>, NoMemory>
+    requires open { IsOpen into.old s.old }
+    requires object { o < length into.old.objects }
+    ensures open { IfOk result (λ r. OpenIf into.new s.new r) }
+    ensures typed { (texts : List (List ℕ)) → IfOk result (λ r. after_node texts hidden s.new into.new r ≡ name_of line (Some (ObjectName o)) (state_of texts hidden s.old into.old)) }
+    ensures goes { OnOk result (Goes into.old into.new) }
+{
+    s.note(Named::Object(o))?;
+    let r = object(into, line, o)?;
+    Ok(r)
+}
+
+/// An enumerator that an identifier designates.
+fn named_constant(
+    s: &Scopes,
+    hidden: bool,
+    line: u32,
+    value: i128,
+    into: &mut TypedUnit,
+) -> Result<Option<NodeId>, NoMemory>
+    requires open { IsOpen into.old s.now }
+    ensures open { IfOk result (λ r. OpenIf into.new s.now r) }
+    ensures typed { (texts : List (List ℕ)) → IfOk result (λ r. after_node texts hidden s.now into.new r ≡ name_of line (Some (ConstantOf value)) (state_of texts hidden s.now into.old)) }
+    ensures goes { OnOk result (Goes into.old into.new) }
+{
+    let r = enumerator(into, line, value)?;
+    Ok(r)
+}
+
+/// The object or the enumerator that an identifier designates; a function's name is the callee of a call alone.
+pub(crate) fn name(
+    s: &mut Scopes,
+    hidden: bool,
+    line: u32,
+    n: u32,
+    into: &mut TypedUnit,
+) -> Result<Option<NodeId>, NoMemory>
+    requires open { IsOpen into.old s.old }
+    ensures open { IfOk result (λ r. OpenIf into.new s.new r) }
+    ensures typed { (texts : List (List ℕ)) → IfOk result (λ r. after_node texts hidden s.new into.new r ≡ name_of line (look (scopes_shown into.old.known s.old.scopes) n) (state_of texts hidden s.old into.old)) }
+    ensures goes { OnOk result (Goes into.old into.new) }
+{
+    match look_up(s, into, n) {
+        Some(Entry::Object(o)) => named_object(s, hidden, line, o, into),
+        Some(Entry::Constant(value)) => named_constant(s, hidden, line, value, into),
+        Some(Entry::Function(_)) | Some(Entry::Typedef(_)) | None => Ok(None),
+    }
+}

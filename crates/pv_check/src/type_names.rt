@@ -1,0 +1,181 @@
+//! Type names (C17 6.7.7), and what specifiers and the steps of declarators come to.
+ghost use Rattle.std.specs.Prelude.{◌≡◌, ◌<◌, ◌≤◌, length, Some, None, IfOk, OnOk, false, IfSome, ℕ};
+ghost use Rattle.pv_types.specs.Known.{tree, env};
+ghost use Rattle.pv_typed.specs.Tables.{whole};
+ghost use Rattle.pv_typed.specs.Formed.{AreKnown};
+ghost use Rattle.pv_check.specs.Derivations.{derived};
+ghost use Rattle.pv_check.specs.Growing.{AreSized, IsType, type_if};
+ghost use Rattle.pv_check.specs.Open.{IsOpen, Goes, state_of, after_type};
+ghost use Rattle.pv_check.specs.Seeing.{seen_in, specified_if, IsSpecified};
+ghost use Rattle.pv_check.specs.Specifiers.{specified, without_storage};
+ghost use Rattle.pv_check.specs.State.{and_then};
+ghost use Rattle.pv_check.specs.Stepping.{steps_in, AreSteps};
+ghost use Rattle.pv_tree.specs.Rows.{tables};
+ghost use Rattle.pv_tree.specs.Tables.{Is, is_declaration, declaration_at, HasList, is_declarator, is_specifier, trees_at, optional_at};
+ghost use Rattle.pv_check.specs.Rows.{plain};
+ghost use Rattle.pv_check.specs.Typing.{type_named, specifiers};
+ghost use Rattle.pv_tree.specs.Syntax.{TypeName};
+
+use crate::declarators::optional_steps;
+use crate::derivations::{Step, derived};
+use crate::scopes::Scopes;
+use crate::specifiers::{Seen, Specified, Storage, taken_together};
+use crate::specifying::specifiers;
+use pv_token::Tokens;
+use pv_tree::{Decl, ListId, NodeId, Unit};
+use pv_typed::TypedUnit;
+use pv_types::{NoMemory, TypeId};
+use std::alloc::Global;
+
+/// What specifiers say, all together.
+pub fn concluded(into: &mut TypedUnit, seen: Seen) -> Result<Option<Specified>, NoMemory>
+    requires known { AreKnown into.old }
+    requires named { IsType into.old.known seen.named }
+    ensures known { IfOk result (λ r. IsSpecified into.new.known r) }
+    ensures value { IfOk result (λ r. specified_if into.new.known r ≡ specified (seen_in into.old.known seen)) }
+    ensures whole { OnOk result (whole into.new ≡ whole into.old) }
+    ensures goes { OnOk result (Goes into.old into.new) }
+{
+    let r = taken_together(into.types_mut(), seen)?;
+    Ok(r)
+}
+
+/// The type of specifiers that may have no storage class (C17 6.7.2.1p1, 6.7.6.3p2, 6.7.7p1).
+fn plain(into: &mut TypedUnit, seen: Seen) -> Result<Option<TypeId>, NoMemory>
+    requires known { AreKnown into.old }
+    requires named { IsType into.old.known seen.named }
+    ensures known { IfOk result (λ r. IsType into.new.known r) }
+    ensures tree { IfOk result (λ r. type_if into.new.known r ≡ and_then (specified (seen_in into.old.known seen)) without_storage) }
+    ensures whole { OnOk result (whole into.new ≡ whole into.old) }
+    ensures goes { OnOk result (Goes into.old into.new) }
+{
+    let Some(x) = concluded(into, seen)? else {
+        return Ok(None);
+    };
+    match x.storage {
+        Storage::Plain => Ok(Some(x.t)),
+        Storage::Typedef | Storage::Extern | Storage::Static => Ok(None),
+    }
+}
+
+/// The same beside the scopes, which stay open.
+pub(crate) fn base_type(
+    s: &Scopes,
+    into: &mut TypedUnit,
+    seen: Seen,
+) -> Result<Option<TypeId>, NoMemory>
+    requires opened { IsOpen into.old s.now }
+    requires named { IsType into.old.known seen.named }
+    ensures opened { OnOk result (IsOpen into.new s.now) }
+    ensures known { IfOk result (λ r. IsType into.new.known r) }
+    ensures tree { IfOk result (λ r. type_if into.new.known r ≡ and_then (specified (seen_in into.old.known seen)) without_storage) }
+    ensures whole { OnOk result (whole into.new ≡ whole into.old) }
+    ensures goes { OnOk result (Goes into.old into.new) }
+{
+    let r = plain(into, seen)?;
+    Ok(r)
+}
+
+/// The type that steps make of a type (C17 6.7.6p4).
+pub fn derived_in(
+    into: &mut TypedUnit,
+    unsized_may_be: bool,
+    steps: &[Step],
+    t: TypeId,
+) -> Result<Option<TypeId>, NoMemory>
+    requires known { AreKnown into.old }
+    requires sized { AreSized into.old.known }
+    requires base { t.0 < length into.old.known.terms }
+    requires steps { AreSteps into.old.known steps.now }
+    ensures known { IfOk result (λ r. IsType into.new.known r) }
+    ensures tree { IfOk result (λ r. type_if into.new.known r ≡ derived unsized_may_be (env into.old.known) (steps_in into.old.known steps.now) (tree into.old.known t.0)) }
+    ensures whole { OnOk result (whole into.new ≡ whole into.old) }
+    ensures goes { OnOk result (Goes into.old into.new) }
+{
+    let r = derived(into.types_mut(), unsized_may_be, steps, 0, t)?;
+    Ok(r)
+}
+
+/// The type of specifiers in a row that may have no storage class.
+#[cycle(typed)]
+pub fn specified_type(
+    u: &Unit,
+    t: &Tokens,
+    s: &mut Scopes,
+    into: &mut TypedUnit,
+    specs: ListId,
+    unevaluated: bool,
+) -> Result<Option<TypeId>, NoMemory>
+    requires specs { HasList (tables u.now).forest (length (tables u.now).forest.trees) is_specifier specs }
+    requires opened { IsOpen into.old s.old }
+    ensures opened { IfOk result (λ r. IfSome r (λ k. IsOpen into.new s.new)) }
+    ensures goes { IfOk result (λ r. IfSome r (λ k. Goes into.old into.new)) }
+    ensures known { IfOk result (λ r. IsType into.new.known r) }
+    ensures answer { IfOk result (λ r. after_type t.now.texts unevaluated s.new into.new r ≡ and_then (specifiers (trees_at (tables u.now).forest specs) (state_of t.now.texts unevaluated s.old into.old)) plain) }
+{
+    let Some(seen) = specifiers(u, t, s, into, specs, unevaluated)? else {
+        return Ok(None);
+    };
+    let r = base_type(s, into, seen)?;
+    Ok(r)
+}
+
+/// The type that a type name names (C17 6.7.7).
+#[cycle(typed)]
+pub(crate) fn type_named(
+    s: &mut Scopes,
+    u: &Unit,
+    t: &Tokens,
+    n: NodeId,
+    hidden: bool,
+    into: &mut TypedUnit,
+) -> Result<Option<TypeId>, NoMemory>
+    requires node { Is (tables u.now) is_declaration n }
+    requires open { IsOpen into.old s.old }
+    ensures open { IfOk result (λ r. IfSome r (λ x. (x.0 < length into.new.known.terms) × IsOpen into.new s.new)) }
+    ensures typed { IfOk result (λ r. after_type t.now.texts hidden s.new into.new r ≡ type_named (declaration_at (tables u.now).forest n) (state_of t.now.texts hidden s.old into.old)) }
+    ensures goes { IfOk result (λ r. IfSome r (λ v. Goes into.old into.new)) }
+{
+    let alloc = s.allocator();
+    match u.decl(n) {
+        Decl::TypeName { specs, declarator } => {
+            type_name(alloc, u, t, s, into, specs, declarator, hidden)
+        }
+        Decl::Function { .. }
+        | Decl::Declaration { .. }
+        | Decl::InitDeclarator { .. }
+        | Decl::Member { .. }
+        | Decl::Enumerator { .. }
+        | Decl::Parameter { .. } => Ok(None),
+    }
+}
+
+/// The type that a type name names (C17 6.7.7p2).
+#[cycle(typed)]
+pub(crate) fn type_name(
+    alloc: Global,
+    u: &Unit,
+    t: &Tokens,
+    s: &mut Scopes,
+    into: &mut TypedUnit,
+    specs: ListId,
+    declarator: Option<NodeId>,
+    unevaluated: bool,
+) -> Result<Option<TypeId>, NoMemory>
+    requires specs { HasList (tables u.now).forest (length (tables u.now).forest.trees) is_specifier specs }
+    requires declarator { IfSome declarator (λ n. Is (tables u.now) is_declarator n) }
+    requires opened { IsOpen into.old s.old }
+    ensures opened { IfOk result (λ r. IfSome r (λ k. IsOpen into.new s.new)) }
+    ensures goes { IfOk result (λ r. IfSome r (λ k. Goes into.old into.new)) }
+    ensures known { IfOk result (λ r. IsType into.new.known r) }
+    ensures answer { (line : ℕ) → IfOk result (λ r. after_type t.now.texts unevaluated s.new into.new r ≡ type_named (TypeName line (trees_at (tables u.now).forest specs) (optional_at (tables u.now).forest declarator)) (state_of t.now.texts unevaluated s.old into.old)) }
+{
+    let Some(base) = specified_type(u, t, s, into, specs, unevaluated)? else {
+        return Ok(None);
+    };
+    let Some(steps) = optional_steps(alloc, u, t, s, into, declarator, unevaluated)? else {
+        return Ok(None);
+    };
+    let r = derived_in(into, false, &steps.list, base)?;
+    Ok(r)
+}

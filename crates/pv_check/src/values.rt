@@ -1,0 +1,171 @@
+//! The value that is taken of an operand (C17 6.3.2.1), and conversions (C17 6.3).
+ghost use Rattle.std.specs.Prelude.{◌≡◌, ◌<◌, IfOk, IfSome, OnOk, IsTrue, length};
+ghost use Rattle.pv_types.specs.Known.{IsKnown, tree, tree_in, trees, env};
+ghost use Rattle.pv_types.specs.Ty.{IntTy};
+ghost use Rattle.pv_check.specs.Growing.{is_sized};
+ghost use Rattle.pv_check.specs.Kept.{AreSmall};
+ghost use Rattle.pv_typed.specs.TypedTree.{Node};
+ghost use Rattle.pv_typed.specs.Nodes.{form_in};
+ghost use Rattle.pv_typed.specs.Children.{HasOperands};
+ghost use Rattle.pv_typed.specs.Formed.{NamesIn};
+ghost use Rattle.pv_check.specs.Qualified.{qualified};
+ghost use Rattle.pv_typed.specs.TypedTree.{is_lvalue, type_of};
+ghost use Rattle.pv_typed.specs.Tables.{Stored, nodes, expression_at, IsExpression};
+ghost use Rattle.pv_typed.specs.Formed.{AreKnown};
+ghost use Rattle.pv_check.specs.Kept.{Kept, env_of, expression_if};
+ghost use Rattle.pv_check.specs.Values.{read_at, value_of, converted, promoted_value};
+
+use crate::interning::interned;
+use crate::kinds::promoted;
+use crate::qualified::qualified;
+use crate::sorts::{is_void, same, unqualified};
+use pv_num::IntKind;
+use pv_tree::NodeId;
+use pv_typed::{Typed, TypedUnit};
+use pv_types::{NoMemory, Term, TypeId};
+
+/// The number of a type.
+pub(crate) fn intern(into: &mut TypedUnit, term: Term) -> Result<TypeId, NoMemory>
+    requires known { AreKnown into.old }
+    requires term { IsKnown into.old.known term }
+    requires sized { AreSmall into.old.known → IsTrue (is_sized (env into.old.known) (tree_in into.old.known.lists (trees into.old.known) term)) }
+    ensures number { IfOk result (λ t. t.0 < length into.new.known.terms) }
+    ensures tree { IfOk result (λ t. tree into.new.known t.0 ≡ tree_in into.new.known.lists (trees into.new.known) term) }
+    ensures kept { OnOk result (Kept into.old into.new) }
+{
+    let t = interned(into.types_mut(), term)?;
+    Ok(t)
+}
+
+/// Adds a node of a type, whose first token stands on the line.
+pub(crate) fn add(
+    into: &mut TypedUnit,
+    x: Typed,
+    t: TypeId,
+    line: u32,
+    counts: bool,
+) -> Result<NodeId, NoMemory>
+    requires operands { HasOperands into.old.rows into.old.lists (length into.old.rows) x }
+    requires named { NamesIn into.old x }
+    requires typed { t.0 < length into.old.known.terms }
+    ensures node { IfOk result (λ n. IsExpression into.new n) }
+    ensures tree { IfOk result (λ n. expression_at into.new n ≡ Node (tree into.old.known t.0) line counts (form_in into.old.lists (nodes into.old) x)) }
+    ensures kept { OnOk result (Kept into.old into.new) }
+{
+    let n = into.add_node(x, t, line, counts)?;
+    Ok(n)
+}
+
+/// The type with `const`, which of an array its elements have (C17 6.7.3p9).
+pub(crate) fn constant(into: &mut TypedUnit, t: TypeId) -> Result<TypeId, NoMemory>
+    requires known { AreKnown into.old }
+    requires target { t.0 < length into.old.known.terms }
+    ensures number { IfOk result (λ r. r.0 < length into.new.known.terms) }
+    ensures tree { IfOk result (λ r. tree into.new.known r.0 ≡ qualified (tree into.old.known t.0)) }
+    ensures kept { OnOk result (Kept into.old into.new) }
+{
+    let r = qualified(into.types_mut(), t)?;
+    Ok(r)
+}
+
+/// Whether it is an lvalue (C17 6.3.2.1p1).
+pub(crate) fn is_lvalue(into: &TypedUnit, n: NodeId) -> bool
+    requires known { AreKnown into.now }
+    requires node { IsExpression into.now n }
+    ensures { result ≡ is_lvalue (expression_at into.now n) }
+{
+    match into.node(n) {
+        Typed::Object(_) | Typed::String(_) | Typed::Subscript(_, _) => true,
+        Typed::Member(_, _) | Typed::Arrow(_, _) => true,
+        Typed::Indirection(_) => !is_void(into.types(), into.type_of(n)),
+        _ => false,
+    }
+}
+
+/// What an lvalue holds, or the pointer to the first element of an array (C17 6.3.2.1p2, p3).
+fn read(into: &mut TypedUnit, n: NodeId) -> Result<Option<NodeId>, NoMemory>
+    requires known { AreKnown into.old }
+    requires node { IsExpression into.old n }
+    ensures node { IfOk result (λ r. IfSome r (λ v. IsExpression into.new v)) }
+    ensures value { IfOk result (λ r. expression_if into.new r ≡ read_at (env_of into.old) (expression_at into.old n) (type_of (expression_at into.old n))) }
+    ensures kept { OnOk result (Kept into.old into.new) }
+{
+    let t = into.type_of(n);
+    let line = into.line_of(n);
+    if let Term::Array(element, _) = into.types().view(t) {
+        let to = intern(into, Term::Pointer(element))?;
+        let r = add(into, Typed::ArrayPointer(n), to, line, false)?;
+        return Ok(Some(r));
+    }
+    if !into.types().is_complete(t) {
+        return Ok(None);
+    }
+    let plain = unqualified(into.types(), t);
+    let r = add(into, Typed::Read(n), plain, line, false)?;
+    Ok(Some(r))
+}
+
+/// The value of an operand (C17 6.3.2.1), `None` where it has an incomplete type.
+pub(crate) fn value(into: &mut TypedUnit, n: NodeId) -> Result<Option<NodeId>, NoMemory>
+    requires known { AreKnown into.old }
+    requires node { IsExpression into.old n }
+    ensures node { IfOk result (λ r. IfSome r (λ v. IsExpression into.new v)) }
+    ensures value { IfOk result (λ r. expression_if into.new r ≡ value_of (env_of into.old) (expression_at into.old n)) }
+    ensures kept { OnOk result (Kept into.old into.new) }
+{
+    if is_lvalue(into, n) {
+        let r = read(into, n)?;
+        Ok(r)
+    } else {
+        Ok(Some(n))
+    }
+}
+
+/// A value converted to a type without qualifiers (C17 6.3); it stays as it is where it has the type.
+pub(crate) fn converted(into: &mut TypedUnit, t: TypeId, n: NodeId) -> Result<NodeId, NoMemory>
+    requires known { AreKnown into.old }
+    requires node { IsExpression into.old n }
+    requires target { t.0 < length into.old.known.terms }
+    ensures node { IfOk result (λ r. IsExpression into.new r) }
+    ensures value { IfOk result (λ r. expression_at into.new r ≡ converted (tree into.old.known t.0) (expression_at into.old n)) }
+    ensures kept { OnOk result (Kept into.old into.new) }
+{
+    let from = into.type_of(n);
+    if same(into.types(), from, t) {
+        return Ok(n);
+    }
+    let line = into.line_of(n);
+    let r = add(into, Typed::Convert(n), t, line, false)?;
+    Ok(r)
+}
+
+/// A value converted to an integer type.
+pub(crate) fn to_kind(into: &mut TypedUnit, kind: IntKind, n: NodeId) -> Result<NodeId, NoMemory>
+    requires known { AreKnown into.old }
+    requires node { IsExpression into.old n }
+    ensures node { IfOk result (λ r. IsExpression into.new r) }
+    ensures value { IfOk result (λ r. expression_at into.new r ≡ converted (IntTy kind) (expression_at into.old n)) }
+    ensures kept { OnOk result (Kept into.old into.new) }
+{
+    let t = intern(into, Term::Int(kind))?;
+    let r = converted(into, t, n)?;
+    Ok(r)
+}
+
+/// A value of an integer type promoted, another as it is (C17 6.3.1.1p2).
+pub fn promoted_value(into: &mut TypedUnit, n: NodeId) -> Result<NodeId, NoMemory>
+    requires known { AreKnown into.old }
+    requires node { IsExpression into.old n }
+    ensures node { IfOk result (λ r. IsExpression into.new r) }
+    ensures value { IfOk result (λ r. expression_at into.new r ≡ promoted_value (expression_at into.old n)) }
+    ensures kept { OnOk result (Kept into.old into.new) }
+{
+    let t = into.type_of(n);
+    match into.types().view(t) {
+        Term::Int(kind) => {
+            let r = to_kind(into, promoted(kind), n)?;
+            Ok(r)
+        }
+        _ => Ok(n),
+    }
+}
