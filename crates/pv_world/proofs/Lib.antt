@@ -1,0 +1,10 @@
+pub mod Events
+pub mod Comings
+pub mod Makings
+pub mod Laters
+pub mod Literals
+pub mod Surviving
+pub mod Differences
+pub mod Rooms
+pub mod LoadSteps
+pub mod Reaching

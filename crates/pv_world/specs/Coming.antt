@@ -1,0 +1,80 @@
+-- What a call of an operation comes to: its answer, the world after it, and what was told by then.
+use Rattle.std.specs.Prelude.{◌≡◌, ℕ, List, [], ◌∷◌, ◌++◌, Result, Ok, Err, All}
+use Rattle.pv_inst.specs.Table.{Table, IsMadeIn}
+use Rattle.pv_inst.specs.declared.values.CreateError.{CreateError}
+use Rattle.pv_inst.specs.declared.values.CreateError.TheVariants as refusal
+use Rattle.pv_shadow.specs.declared.byte.Byte.{Byte}
+use Rattle.pv_object.specs.Values.{IsMadeValue}
+use Rattle.pv_watch.specs.declared.event.What.{What}
+use Rattle.pv_world.specs.declared.got.Got.{Got}
+use Rattle.pv_world.specs.declared.got.Got.TheVariants as got
+use Rattle.pv_world.specs.declared.got.Cause.{Cause}
+use Rattle.pv_world.specs.declared.got.Cause.TheVariants as cause
+use Rattle.pv_world.specs.declared.got.Failure.{Failure}
+use Rattle.pv_world.specs.declared.got.Failure.TheVariants as failure
+use Rattle.pv_world.specs.Worlds.{Worth, Nothing, Missing, Scalar, Whole, World, Wrong, Undefined, Undecided, Halts, Indeterminate, Exits, Aborts, Refused, SidesEnded}
+use Rattle.pv_world.specs.Telling.{verdict_of, fault_of, fault_told}
+use Rattle.pv_world.specs.Doing.{Done, Answers, Fails, Breaks}
+
+abbrev pub worth_of : Got → Worth
+worth_of got.Nothing = Nothing
+worth_of got.Missing = Missing
+worth_of (got.Scalar v) = Scalar v
+worth_of (got.Whole bytes origin) = Whole bytes.items origin
+
+abbrev pub wrong_for : Cause → Wrong
+wrong_for (cause.Undefined f) = Undefined f
+wrong_for cause.Undecided = Undecided
+wrong_for cause.Indeterminate = Halts Indeterminate
+wrong_for (cause.Exits n) = Halts (Exits n)
+wrong_for cause.Aborts = Halts Aborts
+wrong_for (cause.Refused name e) = Halts (Refused name e)
+wrong_for (cause.SidesEnded k) = Halts (SidesEnded k)
+
+-- the names in a value were made
+abbrev pub IsMadeWorth : Table → Worth → Type 0
+IsMadeWorth T (Scalar v) = IsMadeValue T v
+IsMadeWorth T (Whole bytes origin) = All (λ (b : Byte). IsMadeIn T b.prov) bytes
+IsMadeWorth T Nothing = Unit {0}
+IsMadeWorth T Missing = Unit {0}
+
+-- what an operation comes to, after events that were told before: a fault is told last
+pub data Seen : Type 0 where
+  Gave : Worth → World → List What → Seen
+  Ended : Wrong → World → List What → Seen
+  Printed : List ℕ → Seen → Seen
+
+-- the operations of a world print nothing; calls of the library do
+abbrev pub printing : List ℕ → Seen → Seen
+printing [] s = s
+printing (b ∷ bs) s = Printed (b ∷ bs) s
+
+abbrev pub seen : List What → World → Done → Seen
+seen es w (Answers v x t) = printing t.bytes (Gave v x (es ++ t.events))
+seen es w (Fails y p x t) = printing t.bytes (Ended y x (es ++ t.events ++ fault_told w.memory y p))
+seen es w (Breaks y b x t) = printing t.bytes (Ended y x (es ++ t.events ++ fault_of b (verdict_of y)))
+
+-- the call comes to that, where its answer is worth this. After want of memory nothing is said
+abbrev pub Came : {A : Type 0} → (A → Worth) → Result A Failure → World → List What → Seen → Type 0
+Came give (Ok v) w es s = s ≡ Gave (give v) w es
+Came give (Err (failure.Stop y)) w es s = s ≡ Ended (wrong_for y) w es
+Came give (Err failure.NoMemory) w es s = Unit {0}
+
+-- the operation was made
+abbrev pub Did : {A : Type 0} → (A → Worth) → (World → Done) → Result A Failure → (old new : World) → (before after : List What) → Type 0
+Did give op r old new before after = Came give r new after (seen before old (op old))
+
+-- the run ends so, and this was told by then
+abbrev pub Faulted : Failure → Wrong → List What → List What → Type 0
+Faulted (failure.Stop z) y es wanted = (wrong_for z ≡ y) × (es ≡ wanted)
+Faulted failure.NoMemory y es wanted = Unit {0}
+
+-- what gives nothing
+abbrev pub no_worth : Unit {0} → Worth
+no_worth u = Nothing
+
+-- a making, under this name. A refusal ends the run, and tells of no fault
+abbrev pub CameMade : (name : ℕ) → Result (Unit {0}) CreateError → World → List What → Seen → Type 0
+CameMade name (Ok u) w es s = s ≡ Gave Nothing w es
+CameMade name (Err refusal.NoMemory) w es s = Unit {0}
+CameMade name (Err e) w es s = s ≡ Ended (Halts (Refused name e)) w es

@@ -1,0 +1,79 @@
+-- Conversions (C17 6.3), and the truth of a value.
+use Rattle.std.specs.Prelude.{ℤ, pos, Bool, true, false, not, ◌++◌, Some, None, Result, Ok, Err}
+use Rattle.std.specs.Ordering.{int_eq}
+use Rattle.pv_num.specs.declared.kinds.IntKind.{IntKind}
+use Rattle.pv_num.specs.Kinds.{convert_of}
+use Rattle.pv_inst.specs.declared.values.Tried.{Tried}
+use Rattle.pv_inst.specs.Table.{Table}
+use Rattle.pv_object.specs.declared.values.Pointer.{Pointer}
+use Rattle.pv_object.specs.declared.values.Value.{Value}
+use Rattle.pv_object.specs.declared.values.Value.TheVariants.{Int as IntValue, Unset, Pointer as PointerValue}
+use Rattle.pv_object.specs.declared.values.Stop.{Stop}
+use Rattle.pv_object.specs.Operations.{truth, to_ptr, recast, to_int}
+use Rattle.pv_world.specs.declared.got.How.{How}
+use Rattle.pv_world.specs.declared.got.How.TheVariants.{Rounds, Passes, Tests, Numbers, Points, Recasts, Voids}
+use Rattle.pv_world.specs.Worlds.{Worth, Nothing, Missing, Scalar, Whole, World, with_table}
+use Rattle.pv_world.specs.Telling.{quiet, telling, used, live_use, live_test, exposures, all_told, pairings}
+use Rattle.pv_world.specs.Doing.{Done, Answers, Fails}
+use Rattle.pv_world.specs.Worths.{int, pointer, truth_int, int_of, pointer_of, plain, present, wrong_of}
+
+-- 6.5.9p6, 6.3.1.2: whether a pointer is not null, once its name passed the live test
+abbrev pub truth_by : World → Pointer → Result (Bool × Tried) Stop × Table → (Bool → Worth) → Done
+truth_by w p (Ok r, T) give = Answers (give r.0) (with_table w T) (telling (used live_test r.1))
+truth_by w p (Err y, T) give = Fails (wrong_of y) (Some p.prov) (with_table w T) quiet
+
+-- 6.5.13p3, 6.5.14p3, 6.5.15p4, 6.8.4.1p2, 6.8.5p4: a value compared with 0
+abbrev pub truth_value : World → Value → (Bool → Worth) → Done
+truth_value w (IntValue n) give = Answers (give (not (int_eq n (pos 0)))) w quiet
+truth_value w (PointerValue p) give = truth_by w p (truth w.memory.table p) give
+truth_value w Unset give = Answers (give false) w quiet
+
+abbrev pub truth_worth : World → (Bool → Worth) → Worth → Done
+truth_worth w give (Scalar v) = truth_value w v give
+truth_worth w give Nothing = Answers (give false) w quiet
+truth_worth w give Missing = Answers (give false) w quiet
+truth_worth w give (Whole bs a) = Answers (give false) w quiet
+
+abbrev pub tests : (Bool → Worth) → Worth → World → Done
+tests give v w = plain v w (truth_worth w give)
+
+-- 6.5.3.3p5: what `!` gives
+abbrev pub opposite : Bool → Worth
+opposite true = truth_int false
+opposite false = truth_int true
+
+-- 6.3.2.3p6: a pointer to an integer type: the live test, then whether the address fits, then the exposure
+abbrev pub number_by : World → Pointer → Result (ℤ × Tried) Stop × Table → Done
+number_by w p (Ok r, T) = Answers (int r.0) (with_table w (all_told T)) (telling (live_use w.memory.table p ++ exposures T))
+number_by w p (Err y, T) = Fails (wrong_of y) (Some p.prov) (with_table w T) (telling (live_use w.memory.table p))
+
+-- 6.3.2.3p5: an integer to a pointer type; two instances that fit make a pair
+abbrev pub pointed : World → Result Pointer Stop × Table → Done
+pointed w (Ok p, T) = Answers (pointer p) (with_table w T) (telling (pairings w.memory.table T))
+pointed w (Err y, T) = Fails (wrong_of y) None (with_table w T) quiet
+
+-- 6.3.2.3p7: to another pointer type: the live test, then the alignment
+abbrev pub recast_by : World → Pointer → Result Tried Stop × Table → Done
+recast_by w p (Ok tried, T) = Answers (pointer p) (with_table w T) (telling (live_use w.memory.table p))
+recast_by w p (Err y, T) = Fails (wrong_of y) (Some p.prov) (with_table w T) (telling (live_use w.memory.table p))
+
+-- 6.3.1.2, 6.3.1.3: between character types, where the conversion is implied; a value that was never set stays one
+abbrev pub passed : IntKind → Value → Worth
+passed k (IntValue n) = int (convert_of k n)
+passed k Unset = Scalar Unset
+passed k (PointerValue p) = Scalar (PointerValue p)
+
+abbrev pub passes : IntKind → World → Worth → Done
+passes k w (Scalar v) = Answers (passed k v) w quiet
+passes k w v = Answers v w quiet
+
+-- 6.3: each conversion, of a value that is there
+abbrev pub converts : How → Worth → World → Done
+converts (Rounds k) v w = plain v w (λ v. Answers (int (convert_of k (int_of v))) w quiet)
+converts (Passes k) v w = present v w (passes k w)
+converts Tests v w = tests truth_int v w
+converts (Numbers k) v w = plain v w (λ v. number_by w (pointer_of v) (to_int w.memory.table (pointer_of v) k))
+converts Points v w = plain v w (λ v. pointed w (to_ptr w.memory.table (int_of v)))
+converts (Recasts n) v w = plain v w (λ v. recast_by w (pointer_of v) (recast w.memory.table (pointer_of v) n))
+-- 6.3.2.2: dropped
+converts Voids v w = Answers Nothing w quiet

@@ -1,0 +1,129 @@
+-- What an operation tells of: its events, without turn and mark, in the order of what it did, and the bytes that it prints.
+-- In the memory model PNVI-ae-udi a use of a pointer settles its name, an integer exposes instances, and a number at which
+-- two instances meet makes a pair; each of these is told, also where a later check of the same operation ends the run.
+use Rattle.std.specs.Prelude.{ℕ, ◌+◌, List, [], ◌∷◌, ◌++◌, length, Some, None, Result, Ok, Err, drop}
+use Rattle.std.specs.declared.option.Option.{Option}
+use Rattle.std.specs.Option.{option_map}
+use Rattle.pv_prov.specs.declared.pairs.Twin.{Twin}
+use Rattle.pv_prov.specs.declared.names.Prov.{Prov}
+use Rattle.pv_prov.specs.declared.names.Prov.TheVariants.{Empty, Inst, Pair}
+use Rattle.pv_prov.specs.Names.{stands}
+use Rattle.pv_inst.specs.declared.values.Instance.{Instance}
+use Rattle.pv_inst.specs.declared.values.Tried.{Tried}
+use Rattle.pv_inst.specs.declared.values.Miss.{Miss}
+use Rattle.pv_inst.specs.declared.values.Test.TheVariants.{Live}
+use Rattle.pv_inst.specs.Table.{Table, instance_at}
+use Rattle.pv_inst.specs.Infos.{base_of}
+use Rattle.pv_inst.specs.Use.{use_answer}
+use Rattle.pv_object.specs.declared.values.Pointer.{Pointer}
+use Rattle.pv_object.specs.Memory.{Mem}
+use Rattle.pv_world.specs.declared.failing.Blame.{Blame}
+use Rattle.pv_watch.specs.declared.event.What.{What}
+use Rattle.pv_watch.specs.declared.event.What.TheVariants as what
+use Rattle.pv_watch.specs.declared.event.Verdict.{Verdict}
+use Rattle.pv_watch.specs.declared.event.Verdict.TheVariants as verdict
+use Rattle.pv_world.specs.Worlds.{Wrong, Undefined, Undecided, Halts, Halt, Indeterminate}
+
+pub record Told : Type 0 where
+  pub events : List What
+  pub bytes : List ℕ
+
+abbrev pub quiet : Told
+quiet = record { events = []; bytes = [] }
+
+abbrev pub telling : List What → Told
+telling es = record { events = es; bytes = [] }
+
+-- The numbers of the tests of a use: the candidate is live (6.2.4p2), a range lies in it (6.5.6p8, 6.5.3.2p4), it is an
+-- allocation that begins there (7.22.3.3p2), it is a candidate of the other operand too (6.5.8p5, 6.5.6p9)
+abbrev pub live_test : ℕ
+live_test = 1
+
+abbrev pub range_test : ℕ
+range_test = 2
+
+abbrev pub block_test : ℕ
+block_test = 3
+
+abbrev pub same_test : ℕ
+same_test = 4
+
+-- a use that found survivors is told of where its name stood for two before it
+abbrev pub used_pair : Option ℕ → (test : ℕ) → Tried → List What
+used_pair None test tried = []
+used_pair (Some k) test tried = what.Tried k test tried.low tried.high ∷ []
+
+abbrev pub used : (test : ℕ) → Tried → List What
+used test tried = used_pair tried.pair test tried
+
+-- a use that found none is not told
+abbrev pub uses : (test : ℕ) → Result Tried Miss → List What
+uses test (Ok tried) = used test tried
+uses test (Err miss) = []
+
+-- the live test of a pointer, as it is made on this table
+abbrev pub live_use : Table → Pointer → List What
+live_use T p = uses live_test (use_answer T p.prov Live)
+
+-- of two operands the left one's use comes first
+abbrev pub both_used : Tried → Tried → List What
+both_used left right = used same_test left ++ used same_test right
+
+-- an instance that was made (6.2.4p2)
+abbrev pub made_row : ℕ → Option Instance → List What
+made_row i None = []
+made_row i (Some x) = what.Made i x.name x.k x.base x.size ∷ []
+
+abbrev pub made : Table → ℕ → List What
+made T i = made_row i (instance_at T.instances i)
+
+-- the instances that became exposed and were not told of; afterwards they were
+abbrev pub each_exposed : List ℕ → List What
+each_exposed [] = []
+each_exposed (i ∷ is) = what.Exposed i ∷ each_exposed is
+
+abbrev pub exposures : Table → List What
+exposures T = each_exposed T.pending
+
+abbrev pub all_told : Table → Table
+all_told T = record T { pending = [] }
+
+-- the pairs from number k on. A pair's address is where its high one begins
+abbrev pub each_paired : Table → ℕ → List Twin → List What
+each_paired T k [] = []
+each_paired T k (t ∷ ts) = what.Pair k (base_of (instance_at T.instances t.high)) t.low t.high ∷ each_paired T (k + 1) ts
+
+-- the pairs that were made from one table to a later one
+abbrev pub pairings : Table → Table → List What
+pairings T U = each_paired U (length T.pairs + 1) (drop (length T.pairs) U.pairs)
+
+-- the verdict of a stop that has one
+abbrev pub verdict_of_halt : Halt → Option Verdict
+verdict_of_halt Indeterminate = Some verdict.Indeterminate
+verdict_of_halt _ = None
+
+abbrev pub verdict_of : Wrong → Option Verdict
+verdict_of (Undefined f) = Some (verdict.Undefined f)
+verdict_of Undecided = Some verdict.Undecided
+verdict_of (Halts h) = verdict_of_halt h
+
+-- a fault carries the candidates of the pointer whose check stopped, as they stood before the operation, and the number of
+-- its pair, settled or not
+abbrev pub pair_of : Prov → Option ℕ
+pair_of (Pair k) = Some k
+pair_of (Inst i) = None
+pair_of Empty = None
+
+abbrev pub blame_of : Mem → Prov → Blame
+blame_of M p = let s = stands M.table.pairs p in record { low = s.low; high = s.high; pair = pair_of p }
+
+abbrev pub faulted : Option Blame → Verdict → What
+faulted None v = what.Fault v None None None
+faulted (Some b) v = what.Fault v b.low b.high b.pair
+
+abbrev pub fault_of : Option Blame → Option Verdict → List What
+fault_of b None = []
+fault_of b (Some v) = faulted b v ∷ []
+
+abbrev pub fault_told : Mem → Wrong → Option Prov → List What
+fault_told M y p = fault_of (option_map (blame_of M) p) (verdict_of y)

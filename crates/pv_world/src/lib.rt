@@ -1,0 +1,35 @@
+//! The world of a run: its memory, the instances of its objects and literals, and the operations on them.
+//!
+//! No operation looks at a unit: sizes, alignments, kinds and the numbers of objects are handed in. Each tells what
+//! happened, in order, and where it ends the run, the fault last.
+#![tactic(auto)]
+
+mod accesses;
+mod bodies;
+mod bound;
+mod calculation;
+mod comparing;
+mod convert;
+mod failing;
+mod got;
+mod literal_arrays;
+mod loads;
+mod moving;
+mod numbers;
+mod objects;
+mod operands;
+mod stores;
+mod subtracting;
+mod telling;
+mod truth;
+mod uses;
+mod world;
+
+pub use accesses::origin_of;
+pub use bound::Bound;
+pub use calculation::{calculate, calculate_one, need};
+pub use failing::{Blame, fail};
+pub use got::{Cause, Failure, Got, How, Shape};
+pub use operands::pointer_of;
+pub use telling::{tell, tell_made, tell_used};
+pub use world::World;

@@ -1,0 +1,183 @@
+// What bytes are worth (6.2.6.1p5), with what is told of it, and whom a stop blames.
+ghost use Rattle.std.specs.Prelude.{◌≡◌, ◌≤◌, ◌+◌, ◌++◌, All, length, drop, Result, OnOk, IfOk};
+ghost use Rattle.std.specs.Option.{option_map};
+ghost use Rattle.pv_inst.specs.declared.values.Tried.{Tried};
+ghost use Rattle.pv_inst.specs.declared.values.Miss.{Miss};
+ghost use Rattle.pv_inst.specs.Table.{IsMadeIn};
+ghost use Rattle.pv_inst.specs.Use.{settled};
+ghost use Rattle.pv_shadow.specs.Whole.{is_whole, whole_name};
+ghost use Rattle.pv_object.specs.Memory.{Mem};
+ghost use Rattle.pv_object.specs.Later.{IsLater};
+ghost use Rattle.pv_object.specs.Encoding.{size_of};
+ghost use Rattle.pv_object.specs.Loading.{value_of as load_of};
+ghost use Rattle.pv_world.specs.Worlds.{with_table};
+ghost use Rattle.pv_world.specs.Telling.{used, live_test, exposures, all_told, each_paired, blame_of};
+ghost use Rattle.pv_world.specs.Accesses.{HasSizeOf};
+ghost use Rattle.pv_world.specs.Loads.{stop_blame, loaded_seen, valued_seen};
+ghost use Rattle.pv_world.specs.Coming.{Came, worth_of, IsMadeWorth};
+
+use crate::failing::{Blame, blame_of, stopped};
+use crate::got::{Failure, Got, Shape};
+use crate::operands::LIVE_TEST;
+use crate::telling::{tell_pairs, tell_used};
+use crate::world::World;
+use pv_inst::Tried;
+use pv_object::{Memory, Scalar, Stop};
+use pv_prov::{NoMemory, Prov, same_name};
+use pv_shadow::Byte;
+use pv_watch::What;
+
+/// Whether the bytes are those of one pointer, in order.
+fn is_whole(prov: Prov, bytes: &[Byte]) -> bool
+    ensures { result ≡ is_whole prov 0 bytes.now }
+{
+    for i in 0..bytes.len() {
+        let at = match bytes[i].index {
+            Some(j) => usize::from(j) == i,
+            None => false,
+        };
+        if !(same_name(bytes[i].prov, prov) && at) {
+            return false;
+        }
+    }
+    true
+}
+
+/// The name of a pointer whose bytes these are, if it was stored whole.
+fn stored_name(bytes: &[Byte]) -> Option<Prov>
+    ensures { result ≡ whole_name bytes.now }
+{
+    if bytes.is_empty() {
+        return None;
+    }
+    let first = bytes[0].prov;
+    if is_whole(first, bytes) {
+        Some(first)
+    } else {
+        None
+    }
+}
+
+/// Whom a load of these bytes blames by its live test.
+pub(crate) fn blame_of_bytes(memory: &Memory, bytes: &[Byte]) -> Option<Blame>
+    requires { All (λ b. IsMadeIn memory.now.table b.prov) bytes.now }
+    ensures { result ≡ option_map (blame_of memory.now) (whole_name bytes.now) }
+{
+    match stored_name(bytes) {
+        Some(p) => Some(blame_of(memory, p)),
+        None => None,
+    }
+}
+
+/// The same within an access through a name that stood for the blamed candidates until then: a name that is not that one
+/// stands for what it stood for.
+pub(crate) fn blame_since(memory: &Memory, bytes: &[Byte], p: Prov, blame: Blame) -> Option<Blame>
+    requires made { All (λ b. IsMadeIn memory.now.table b.prov) bytes.now }
+    requires used { IsMadeIn memory.now.table p }
+    ensures { (M : Mem) (t : Result Tried Miss) → memory.now.table ≡ settled M.table p t → blame ≡ blame_of M p → result ≡ option_map (blame_of M) (whole_name bytes.now) }
+{
+    let Some(q) = stored_name(bytes) else {
+        return None;
+    };
+    if same_name(q, p) {
+        return Some(blame);
+    }
+    Some(blame_of(memory, q))
+}
+
+/// Whom a stop of a load blames.
+fn stop_blame(
+    shape: Shape,
+    stop: Stop,
+    accessed: Option<Blame>,
+    loaded: Option<Blame>,
+) -> Option<Blame>
+    ensures { result ≡ stop_blame shape stop accessed loaded }
+{
+    match shape {
+        Shape::Pointer => match stop {
+            Stop::Undefined(_) => loaded,
+            Stop::Indeterminate | Stop::Undecided | Stop::NoMemory => accessed,
+        },
+        Shape::Int(_) | Shape::Whole => accessed,
+    }
+}
+
+impl World {
+    // What a load did: a new pair, the live test of the loaded pointer, and exposures.
+    #[tactic(auto, using(crate::proofs::Laters::later_itself))]
+    fn tell_load(&mut self, told: &mut Vec<What>, before: u64, tried: Tried) -> Result<(), NoMemory>
+        requires { before ≤ length self.old.memory.table.pairs }
+        ensures told { OnOk result (told.new.items ≡ told.old.items ++ each_paired self.old.memory.table (before + 1) (drop before self.old.memory.table.pairs) ++ used live_test tried ++ exposures self.old.memory.table) }
+        ensures state { OnOk result (self.new ≡ with_table self.old (all_told self.old.memory.table)) }
+        ensures later { IsLater self.old.memory.table self.new.memory.table }
+        ensures memory { self.new ≡ record self.old { memory = self.new.memory } }
+    {
+        let Ok(()) = tell_pairs(told, &self.memory, before) else {
+            return Err(NoMemory);
+        };
+        let Ok(()) = tell_used(told, LIVE_TEST, tried) else {
+            return Err(NoMemory);
+        };
+        self.tell_exposures(told)
+    }
+
+    // What bytes are worth at the scalar type of a shape.
+    #[tactic(auto, using(crate::proofs::LoadSteps::load_ok, crate::proofs::LoadSteps::load_err, crate::proofs::Laters::later_itself, crate::proofs::Laters::later_both, crate::proofs::Laters::made_later))]
+    fn scalar_in(
+        &mut self,
+        bytes: &[Byte],
+        shape: Shape,
+        t: Scalar,
+        accessed: Option<Blame>,
+        loaded: Option<Blame>,
+        told: &mut Vec<What>,
+    ) -> Result<Got, Failure>
+        requires size { length bytes.now ≡ size_of t }
+        requires made { All (λ b. IsMadeIn self.old.memory.table b.prov) bytes.now }
+        ensures did { Came worth_of result self.new told.new.items (loaded_seen told.old.items self.old shape accessed loaded (load_of self.old.memory.table bytes.now t)) }
+        ensures later { IsLater self.old.memory.table self.new.memory.table }
+        ensures memory { self.new ≡ record self.old { memory = self.new.memory } }
+        ensures made { IfOk result (λ g. IsMadeWorth self.new.memory.table (worth_of g)) }
+    {
+        let before = self.memory.instances().pairs_made();
+        match self.memory.value_of(bytes, t) {
+            Ok((v, tried)) => match self.tell_load(told, before, tried) {
+                Ok(()) => Ok(Got::Scalar(v)),
+                Err(_) => Err(Failure::NoMemory),
+            },
+            Err(stop) => {
+                let blame = stop_blame(shape, stop, accessed, loaded);
+                Err(stopped(told, stop, blame))
+            }
+        }
+    }
+
+    // What bytes are worth in this shape.
+    #[tactic(auto, using(crate::proofs::Laters::later_itself))]
+    pub(crate) fn valued(
+        &mut self,
+        bytes: &[Byte],
+        shape: Shape,
+        origin: Option<u64>,
+        accessed: Option<Blame>,
+        loaded: Option<Blame>,
+        told: &mut Vec<What>,
+    ) -> Result<Got, Failure>
+        requires size { HasSizeOf shape (length bytes.now) }
+        requires made { All (λ b. IsMadeIn self.old.memory.table b.prov) bytes.now }
+        ensures did { Came worth_of result self.new told.new.items (valued_seen told.old.items self.old bytes.now shape origin accessed loaded) }
+        ensures later { IsLater self.old.memory.table self.new.memory.table }
+        ensures memory { self.new ≡ record self.old { memory = self.new.memory } }
+        ensures made { IfOk result (λ g. IsMadeWorth self.new.memory.table (worth_of g)) }
+    {
+        match shape {
+            Shape::Int(k) => self.scalar_in(bytes, shape, Scalar::Int(k), accessed, loaded, told),
+            Shape::Pointer => self.scalar_in(bytes, shape, Scalar::Pointer, accessed, loaded, told),
+            Shape::Whole => match Vec::from_slice(self.alloc, bytes) {
+                Ok(copy) => Ok(Got::Whole(copy, origin)),
+                Err(_) => Err(Failure::NoMemory),
+            },
+        }
+    }
+}
