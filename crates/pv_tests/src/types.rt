@@ -31,9 +31,33 @@ complete no: [4]X1
 complete no: void
 complete no: []*X1";
 
+/// Which types are modifiable (6.3.2.1p1), and what stands under qualifiers.
+static QUALIFIERS: &str = "constant no: int
+constant yes: const int
+constant no: *const int
+constant yes: const *int
+constant yes: [2]const int
+constant no: (const int) int
+type X0 = struct {char@0, int@4}
+type X1 = struct {const char@0, int@4}
+type X2 = struct {X0@0, [2]X1@8}
+type X3 = struct {}
+constant no: X0
+constant yes: X1
+constant yes: X2
+constant yes: [3]X2
+constant no: *X2
+constant no: X3
+bare yes: int, int
+bare yes: const const int, int
+bare no: const *const int, *int
+bare yes: const *const int, *const int
+bare yes: const [2]const int, [2]const int
+bare yes: const X2, X2";
+
 #[test]
 fn numbers_and_completeness(rt: HostRuntime) {
-    check(&rt, rt.alloc(), &[NUMBERS, COMPLETENESS]);
+    check(&rt, rt.alloc(), &[NUMBERS, COMPLETENESS, QUALIFIERS]);
 }
 
 /// A structure with its members. Where they begin is kept from the time that the next type is made.

@@ -5,7 +5,7 @@ ghost use Rattle.pv_types.specs.Layouts.{is_complete_in, layout_in};
 
 use super::lines::{Desk, Value, object, pop, pop_list, pop_object, pop_type};
 use pv_effect::{permits_declared, permits_marks};
-use pv_layout::{align, leaf_at, measure, member, part_at, size};
+use pv_layout::{align, bare, leaf_at, measure, member, part_at, size};
 use pv_types::{TypeId, Types};
 use std::process::Abort;
 
@@ -20,6 +20,10 @@ pub(crate) enum Claim {
     Compatible,
     /// `complete ANSWER: TYPE`.
     Complete,
+    /// `constant ANSWER: TYPE`: whether it or a part of it has `const`.
+    Constant,
+    /// `bare ANSWER: TYPE, TYPE`: whether the second is the first without the qualifiers around it.
+    Bare,
     /// `layout SIZE ALIGNMENT: TYPE`, where members stand with their offsets, as `struct {char@0, int@4}`.
     Layout,
     /// `suits LEAF, PART: WHOLE + OFFSET, TYPE`: whether a leaf and whether a part of the whole there suits the type.
@@ -44,6 +48,8 @@ pub(crate) fn is_so(rt: &impl Abort, types: &Types, desk: &mut Desk, claim: Clai
         Claim::Same => same(rt, types, desk),
         Claim::Compatible => compatible(rt, types, desk),
         Claim::Complete => complete(rt, types, desk),
+        Claim::Constant => constant(rt, types, desk),
+        Claim::Bare => is_bare(rt, types, desk),
         Claim::Layout => layout(rt, types, desk),
         Claim::Suits => suits(rt, types, desk),
         Claim::Access => access(rt, types, desk),
@@ -72,6 +78,19 @@ fn complete(rt: &impl Abort, types: &Types, desk: &mut Desk) -> bool {
     let want = pop(rt, desk) == 1;
     let t = pop_type(rt, types, desk);
     types.is_complete(t) == want
+}
+
+fn constant(rt: &impl Abort, types: &Types, desk: &mut Desk) -> bool {
+    let want = pop(rt, desk) == 1;
+    let t = pop_type(rt, types, desk);
+    types.has_const(t) == want
+}
+
+fn is_bare(rt: &impl Abort, types: &Types, desk: &mut Desk) -> bool {
+    let want = pop(rt, desk) == 1;
+    let whole = pop_type(rt, types, desk);
+    let plain = pop_type(rt, types, desk);
+    (bare(types, whole) == plain) == want
 }
 
 fn layout(rt: &impl Abort, types: &Types, desk: &mut Desk) -> bool {

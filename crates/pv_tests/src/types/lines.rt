@@ -59,7 +59,7 @@ enum Word {
 }
 
 /// The words, other than numbers and names.
-static WORDS: [(&[u8], Word); 30] = [
+static WORDS: [(&[u8], Word); 32] = [
     (b"void", Word::Void),
     (b"_Bool", Word::Int(IntKind::Bool)),
     (b"char", Word::Int(IntKind::Char)),
@@ -83,6 +83,8 @@ static WORDS: [(&[u8], Word); 30] = [
     (b"same", Word::Claim(Claim::Same)),
     (b"compatible", Word::Claim(Claim::Compatible)),
     (b"complete", Word::Claim(Claim::Complete)),
+    (b"constant", Word::Claim(Claim::Constant)),
+    (b"bare", Word::Claim(Claim::Bare)),
     (b"layout", Word::Claim(Claim::Layout)),
     (b"suits", Word::Claim(Claim::Suits)),
     (b"access", Word::Claim(Claim::Access)),
