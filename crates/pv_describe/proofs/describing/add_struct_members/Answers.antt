@@ -1,0 +1,62 @@
+use Rattle.std.proofs.Common.{rules, ◌≡◌, ◌++◌, ◌+◌, ◌∙◌, ◌<◌, ap, sym, refl, length, get_or, arith}
+use Rattle.std.specs.Int.{next_multiple_of}
+use Rattle.pv_types.specs.Known.{tree, env, members_in, IsBuilt}
+use Rattle.pv_types.specs.Layouts.{layout_in}
+use Rattle.pv_layout.proofs.Ahead.{nobody, ahead_start, ahead_next, next_at}
+use Rattle.pv_describe.specs.Describing.{member_line}
+use Rattle.pv_describe.proofs.Members.{struct_starts, struct_next}
+use Rattle.pv_describe.proofs.describing.add_struct_members.Goals as goal
+
+pub loop-m-init : goal.loop-m-init
+loop-m-init c =
+    let m = c.args.u.now.known in
+    let items = c.members-m-items.ensures.value ∙ ap (λ k. members_in k.done c.args.tag) c.types-types.ensures in
+    let built : IsBuilt c.args.u.now.known = rw (← c.types-types.ensures) c.members-m-items.ensures.built in (
+      rw items (ahead_start m c.args.tag built c.requires.complete c.requires.structure c.requires.small),
+      struct_starts c.args.u.now c.args.tag c.args.text.now.items c.members-m-items.result.now items,
+    )
+
+pub align-requires-clause-small : goal.align-requires-clause-small
+align-requires-clause-small c =
+    let lt : c.loop-m.m-index < length c.members-m-items.result.now = omega arith in
+    let next = (next_at c.args.u.now.known c.args.tag c.loop-m.end c.loop-m.m-index c.members-m-items.result.now nobody lt c.loop-m.invariant.0).small in
+    rw c.types-types.ensures (omega (arith, next))
+
+pub next_multiple_of-start-requires-clause-nonzero : goal.next_multiple_of-start-requires-clause-nonzero
+next_multiple_of-start-requires-clause-nonzero c =
+    let lt : c.loop-m.m-index < length c.members-m-items.result.now = omega arith in
+    rw (c.align.ensures, c.types-types.ensures) (next_at c.args.u.now.known c.args.tag c.loop-m.end c.loop-m.m-index c.members-m-items.result.now nobody lt c.loop-m.invariant.0).positive
+
+pub next_multiple_of-start-requires-clause-fits : goal.next_multiple_of-start-requires-clause-fits
+next_multiple_of-start-requires-clause-fits c =
+    let lt : c.loop-m.m-index < length c.members-m-items.result.now = omega arith in
+    let next = (next_at c.args.u.now.known c.args.tag c.loop-m.end c.loop-m.m-index c.members-m-items.result.now nobody lt c.loop-m.invariant.0).small in
+    rw (c.align.ensures, c.types-types.ensures) (omega (arith, next))
+
+pub size-bytes-requires-clause-small : goal.size-bytes-requires-clause-small
+size-bytes-requires-clause-small c =
+    let lt : c.loop-m.m-index < length c.members-m-items.result.now = omega arith in
+    let next = (next_at c.args.u.now.known c.args.tag c.loop-m.end c.loop-m.m-index c.members-m-items.result.now nobody lt c.loop-m.invariant.0).small in
+    rw c.types-types.ensures (omega (arith, next))
+
+pub overflow_add-end : goal.overflow_add-end
+overflow_add-end c =
+    let lt : c.loop-m.m-index < length c.members-m-items.result.now = omega arith in
+    let next = (next_at c.args.u.now.known c.args.tag c.loop-m.end c.loop-m.m-index c.members-m-items.result.now nobody lt c.loop-m.invariant.0).small in
+    rw (c.next_multiple_of-start.ensures.value, c.align.ensures, c.size-bytes.ensures, c.types-types.ensures) (omega (arith, next))
+
+pub loop-m-preserved : goal.loop-m-preserved
+loop-m-preserved c =
+    let m = c.args.u.now.known in
+    let items = c.members-m-items.result.now in
+    let i = c.loop-m.m-index in
+    let lt : i < length items = omega arith in
+    let t = tree m (get_or items i nobody).t.0 in
+    let bytes : c.size-bytes.result ≡ (layout_in (env m) t).size = c.size-bytes.ensures ∙ ap (λ k. (layout_in (env k) (tree k (get_or items i nobody).t.0)).size) c.types-types.ensures in
+    let start : c.next_multiple_of-start.result ≡ next_multiple_of c.loop-m.end (layout_in (env m) t).align =
+    c.next_multiple_of-start.ensures.value ∙ ap (next_multiple_of c.loop-m.end) (c.align.ensures ∙ ap (λ k. (layout_in (env k) (tree k (get_or items i nobody).t.0)).align) c.types-types.ensures) in
+    let end : c.next_multiple_of-start.result + c.size-bytes.result ≡ next_multiple_of c.loop-m.end (layout_in (env m) t).align + (layout_in (env m) t).size = rw (start, bytes) refl in
+    let text : c.extend_from_slice.new.self.items ≡ c.loop-m.text.items ++ c.in_ok-line.line.items = search rules in
+    let line : c.in_ok-line.line.items ≡ member_line c.source_name.result.now c.next_multiple_of-start.result c.size-bytes.result = search rules in
+    let next = struct_next c.args.u.now c.loop-m.text.items c.in_ok-line.line.items c.source_name.result.now c.loop-m.end _ _ _ i items lt line c.source_name.ensures start bytes refl in
+    (ahead_next m c.args.tag c.loop-m.end _ i items nobody lt c.loop-m.invariant.0 end, rw text (next ∙ c.loop-m.invariant.1))

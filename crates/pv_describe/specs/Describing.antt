@@ -1,0 +1,75 @@
+-- What the modes `check` and `layout` print of a typed unit. C17 leaves the form of such a report to an implementation (5.1.1.3).
+use Rattle.std.specs.Prelude.{◌≤◌, ◌^◌, ℕ, ◌+◌, ◌==◌, if◌then◌else◌, is_some, List, [], ◌∷◌, ◌++◌, codes, Option, Some, None}
+use Rattle.std.specs.Fmt.{decimal}
+use Rattle.std.specs.Int.{next_multiple_of}
+use Rattle.pv_types.specs.Ty.{Ty, StructTag, UnionTag}
+use Rattle.pv_types.specs.Known.{Known, env, heading_at}
+use Rattle.pv_types.specs.Layouts.{Completed, Named, layout_in, look}
+use Rattle.pv_typed.specs.TypedUnits.{WholeUnit, layouts, name_at}
+
+abbrev pub line_feed : List ℕ
+line_feed = 10 ∷ []
+
+-- 6.9p1: how many external declarations there are
+abbrev pub check_text : WholeUnit → List ℕ
+check_text u = codes "checked declarations=" ++ decimal u.declarations ++ line_feed
+
+-- 6.4.2.1: the names of a source stand behind two that no source has
+abbrev pub source_name : WholeUnit → ℕ → List ℕ
+source_name u n = name_at u (n + 2)
+
+abbrev pub name_if : WholeUnit → Option ℕ → List ℕ
+name_if u None = []
+name_if u (Some n) = source_name u n
+
+-- 6.7.2.3: the name that the tag was made with
+abbrev pub tag_name : WholeUnit → ℕ → List ℕ
+tag_name u tag = name_if u (heading_at u.headings tag).name
+
+-- 6.7.2.1: the members of a tag, in the order of their declarations; none where it is not completed
+abbrev pub members_of : List Completed → ℕ → List Named
+members_of [] n = []
+members_of (d ∷ ds) n = if d.tag == n then d.members else members_of ds n
+
+-- 6.2.6.1p4, 6.2.8p1: `struct` or `union`, the tag's name, how many bytes an object takes, and what its address is a multiple of
+abbrev pub head_line : (word name : List ℕ) → (size align : ℕ) → List ℕ
+head_line word name size align = word ++ name ++ codes " size=" ++ decimal size ++ codes " align=" ++ decimal align ++ line_feed
+
+-- a member: its name, where it begins, in bytes from the beginning of the whole, and how many bytes it takes
+abbrev pub member_line : (name : List ℕ) → (offset size : ℕ) → List ℕ
+member_line name offset size = codes "  " ++ name ++ codes " offset=" ++ decimal offset ++ codes " size=" ++ decimal size ++ line_feed
+
+-- 6.7.2.1p15: the members of a structure in their order, each at the least aligned offset behind the one before
+abbrev pub struct_lines : WholeUnit → (behind : ℕ) → List Named → List ℕ
+struct_lines u behind [] = []
+struct_lines u behind (m ∷ ms) =
+    member_line (source_name u m.name) (next_multiple_of behind (layout_in (layouts u) m.t).align) (layout_in (layouts u) m.t).size
+    ++ struct_lines u (next_multiple_of behind (layout_in (layouts u) m.t).align + (layout_in (layouts u) m.t).size) ms
+
+-- 6.7.2.1p16: the members of a union all begin where it begins
+abbrev pub union_lines : WholeUnit → List Named → List ℕ
+union_lines u [] = []
+union_lines u (m ∷ ms) = member_line (source_name u m.name) 0 (layout_in (layouts u) m.t).size ++ union_lines u ms
+
+abbrev pub tag_head : WholeUnit → (word : List ℕ) → ℕ → Ty → List ℕ
+tag_head u word tag t = head_line word (tag_name u tag) (layout_in (layouts u) t).size (layout_in (layouts u) t).align
+
+-- a structure or union: its size and alignment, then its members; what is not complete has no layout
+abbrev pub tag_text : WholeUnit → Ty → List ℕ
+tag_text u (StructTag n) =
+    if is_some (look (layouts u) n) then tag_head u (codes "struct ") n (StructTag n) ++ struct_lines u 0 (members_of u.completed n) else []
+tag_text u (UnionTag n) =
+    if is_some (look (layouts u) n) then tag_head u (codes "union ") n (UnionTag n) ++ union_lines u (members_of u.completed n) else []
+tag_text u _ = []
+
+abbrev pub tag_texts : WholeUnit → List Ty → List ℕ
+tag_texts u [] = []
+tag_texts u (t ∷ ts) = tag_text u t ++ tag_texts u ts
+
+-- 6.7.2.3: the structures and unions with a tag that are completed at file scope, in that order
+abbrev pub layout_text : WholeUnit → List ℕ
+layout_text u = tag_texts u u.tags
+
+-- 5.2.4.1: no structure or union takes more than 2^32 bytes
+abbrev pub AreSmall : Known → Type 0
+AreSmall m = (n : ℕ) → (layout_in (env m) (StructTag n)).size ≤ 2 ^ 32
