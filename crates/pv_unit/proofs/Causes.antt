@@ -1,0 +1,67 @@
+-- What comes of a unit, from what the parts of the code found.
+use Rattle.std.proofs.Common.{◌≡◌, ℕ, ◌≤◌, ◌^◌, List, Result, Ok, Err, IfErr, OnOk, sym, subst}
+use Rattle.pv_token.specs.Table.{Table}
+use Rattle.pv_tree.specs.Syntax.{DeclarationTree}
+use Rattle.pv_types.specs.Known.{Known, env}
+use Rattle.pv_types.specs.Layouts.{layout_in}
+use Rattle.pv_types.specs.Ty.{StructTag}
+use Rattle.pv_typed.specs.Formed.{AreKnown, Grown}
+use Rattle.pv_typed.specs.Tables.{Stored}
+use Rattle.pv_typed.specs.TypedUnits.{WholeUnit}
+use Rattle.pv_check.specs.Growing.{AreSized}
+use Rattle.pv_check.proofs.Growth.{sized_small}
+use Rattle.pv_unit.specs.declared.checking.CheckError.{CheckError}
+use Rattle.pv_unit.specs.declared.checking.CheckError.TheVariants as error
+use Rattle.pv_unit.specs.Checking.{IsCause, IsLack, IsNamed, IsResolved, IsStop}
+use Rattle.pv_unit.specs.Entities.{UnitState}
+use Rattle.pv_unit.specs.Units.{Breaks, IsTyped, Typed, UnitComes, finished, first}
+
+pub stop_cause : (t : Table) (ds : List DeclarationTree) (u : UnitState) (e : CheckError) → u ≡ first t → IsStop ds u e → IsCause t ds e
+stop_cause t ds u (error.Constraint n) same h = subst (λ v. Breaks ds v n) same h
+stop_cause t ds u (error.Unresolved n) same h = absurd h
+stop_cause t ds u error.NoMain same h = absurd h
+stop_cause t ds u error.NoMemory same h = tt
+
+pub stop_named : (t : Table) (ds : List DeclarationTree) (u : UnitState) (e : CheckError) → IsStop ds u e → IsNamed t e
+stop_named t ds u (error.Constraint n) h = tt
+stop_named t ds u (error.Unresolved n) h = absurd h
+stop_named t ds u error.NoMain h = tt
+stop_named t ds u error.NoMemory h = tt
+
+lack_cause : (t : Table) (ds : List DeclarationTree) (u : UnitState) (e : CheckError) → IsTyped ds (first t) u → IsLack u e → IsCause t ds e
+lack_cause t ds u (error.Constraint n) typed h = absurd h
+lack_cause t ds u (error.Unresolved n) typed h = (u, (typed, h))
+lack_cause t ds u error.NoMain typed h = (u, (typed, h.0, h.1))
+lack_cause t ds u error.NoMemory typed h = tt
+
+pub lack_refused : {T : Type 0} (t : Table) (ds : List DeclarationTree) (u : UnitState) (r : Result T CheckError) → IsTyped ds (first t) u → IfErr r (IsLack u) → IfErr r (IsCause t ds)
+lack_refused t ds u (Ok x) typed h = tt
+lack_refused t ds u (Err e) typed h = lack_cause t ds u e typed h
+
+pub unit_comes : {T : Type 0} (t : Table) (ds : List DeclarationTree) (u : UnitState) (w : WholeUnit) (r : Result T CheckError) → IsTyped ds (first t) u → OnOk r (IsResolved u) → OnOk r (w ≡ finished u) → OnOk r (UnitComes t ds (Typed w))
+unit_comes t ds u w (Ok x) typed h k = (u, (typed, h.0, h.1, k))
+unit_comes t ds u w (Err e) typed h k = tt
+
+pub known_on : {T E : Type 0} (a b : Stored) (r : Result T E) → AreKnown a → OnOk r (Grown a b) → OnOk r (AreKnown b)
+known_on a b (Ok x) known h = h.known known
+known_on a b (Err e) known h = tt
+
+small_in : (m : Known) → AreSized m → (n : ℕ) → (layout_in (env m) (StructTag n)).size ≤ 2 ^ 32
+small_in m sized n = sized_small (env m) (StructTag n) (sized.tags n)
+
+pub small_on : {T E : Type 0} (a b : Known) (r : Result T E) → AreSized a → OnOk r (b ≡ a) → OnOk r ((n : ℕ) → (layout_in (env b) (StructTag n)).size ≤ 2 ^ 32)
+small_on a b (Ok x) sized e = subst (λ (m : Known). (n : ℕ) → (layout_in (env m) (StructTag n)).size ≤ 2 ^ 32) (sym e) (small_in a sized)
+small_on a b (Err x) sized e = tt
+
+-- want of memory is no cause that tells of the unit
+pub memory_lack : {T : Type 0} (u : UnitState) (r : Result T CheckError) → IfErr r (λ e. e ≡ error.NoMemory) → IfErr r (IsLack u)
+memory_lack u (Ok x) h = tt
+memory_lack u (Err e) h = subst (λ z. IsLack u z) (sym h) tt
+
+pub memory_named : {T : Type 0} (t : Table) (r : Result T CheckError) → IfErr r (λ e. e ≡ error.NoMemory) → IfErr r (IsNamed t)
+memory_named t (Ok x) h = tt
+memory_named t (Err e) h = subst (λ z. IsNamed t z) (sym h) tt
+
+pub resolved_on : {T E : Type 0} {P : Type 0} (r : Result T E) → P → OnOk r P
+resolved_on (Ok x) h = h
+resolved_on (Err e) h = tt

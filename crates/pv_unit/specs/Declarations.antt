@@ -1,0 +1,165 @@
+-- Declarations (C17 6.7): at file scope and in blocks.
+use Rattle.std.specs.Prelude.{ℕ, ◌+◌, nat_lt, Bool, true, false, ◌&&◌, ◌||◌, not, if◌then◌else◌, Some, None, is_some, List, [], ◌∷◌, length}
+use Rattle.std.specs.declared.option.Option.{Option}
+use Rattle.pv_token.specs.declared.words.Word.{Word}
+use Rattle.pv_types.specs.Ty.{Ty}
+use Rattle.pv_tree.specs.Syntax.{DeclarationTree, Declaration, InitDeclarator, DeclaratorTree, Composite, Tag, SpecifierTree, InitializerTree, Tree, OfDeclaration, OfSpecifier, OfInitializer, Trees, NoTrees, Then, OptionalTree, Absent, Present}
+use Rattle.pv_typed.specs.TypedUnits.{object_at}
+use Rattle.pv_check.specs.Sorts.{is_function}
+use Rattle.pv_check.specs.State.{State, After, Scope, Meaning, TypedefOf, and_then, give, env, innermost, find, bind}
+use Rattle.pv_check.specs.declared.specifiers.Storage.{Storage}
+use Rattle.pv_check.specs.declared.specifiers.Storage.TheVariants as storage
+use Rattle.pv_check.specs.Specifiers.{Specified, specified}
+use Rattle.pv_check.specs.Tags.{tag_alone}
+use Rattle.pv_check.specs.Texts.{is_main}
+use Rattle.pv_check.specs.Derivations.{Derivation, ByArray, declared_name, derived}
+use Rattle.pv_check.specs.Typing.{specifiers, steps}
+use Rattle.pv_types.specs.Compatible.{are_compatible}
+use Rattle.pv_unit.specs.Library.{main_type}
+use Rattle.pv_check.specs.Qualified.{same}
+use Rattle.pv_unit.specs.Entities.{UnitState, unit_name, marked, is_initialized, object_declared, function_declared}
+use Rattle.pv_unit.specs.ValueRules.{initialized, with_given}
+
+-- ---- without declarators
+
+abbrev pub bound_in : Scope → ℕ
+bound_in x = length x.names + length x.tags
+
+-- a structure or a union with a tag and members
+abbrev pub is_listed : SpecifierTree → Bool
+is_listed (Composite line w n ms) = is_some n
+is_listed _ = false
+
+abbrev pub has_list : Trees → Bool
+has_list NoTrees = false
+has_list (Then before (OfSpecifier x)) = is_listed x || has_list before
+has_list (Then before _) = has_list before
+
+-- a tag specifier and nothing else
+abbrev pub only_tag : Trees → Option (Word × ℕ)
+only_tag (Then NoTrees (OfSpecifier (Tag line w n))) = Some (w, n)
+only_tag _ = None
+
+-- 6.7p2: it declares a tag or enumerators, or completes a tag
+abbrev pub declares_something : Trees → State → State → Bool
+declares_something specs before after = nat_lt (bound_in (innermost before.scopes)) (bound_in (innermost after.scopes)) || has_list specs
+
+abbrev pub tags_alone : Trees → State → After Specified → Option (After Specified)
+tags_alone specs s a = if declares_something specs s a.state then Some a else None
+
+abbrev pub specified_by : Trees → State → Option (After Specified)
+specified_by specs s = and_then (specifiers specs s) (λ a. give (specified a.value) a.state)
+
+-- ---- one declarator
+
+-- an array of no size among the steps of a declarator
+abbrev pub is_unsized : Derivation → Bool
+is_unsized (ByArray None) = true
+is_unsized _ = false
+
+abbrev pub has_unsized : List Derivation → Bool
+has_unsized [] = false
+has_unsized (d ∷ ds) = is_unsized d || has_unsized ds
+
+-- what a declarator makes of the type before it (6.7.6), and whether it has an array of no size
+pub record DeclaredType : Type 0 where
+  pub t : Ty
+  pub unsized : Bool
+
+abbrev pub with_unsized : Bool → Ty → Option DeclaredType
+with_unsized b t = Some (record { t = t; unsized = b })
+
+abbrev pub type_declared : (unsized : Bool) → Ty → DeclaratorTree → State → Option (After DeclaredType)
+type_declared unsized t d s =
+    and_then (steps d s) (λ a. give (and_then (derived unsized (env a.state) a.value.list t) (with_unsized (has_unsized a.value.list))) a.state)
+
+-- ---- at file scope
+
+-- 6.7p3: the same typedef may stand again
+abbrev pub typedef_again : Option Meaning → ℕ → Ty → UnitState → Option UnitState
+typedef_again None n t u = Some (record u { state = bind n (TypedefOf t) u.state })
+typedef_again (Some (TypedefOf v)) n t u = if same v t then Some u else None
+typedef_again (Some _) n t u = None
+
+abbrev pub typedef_found : ℕ → Ty → UnitState → Option UnitState
+typedef_found n t u = typedef_again (find (innermost u.state.scopes).names n) n t u
+
+abbrev pub typedef_declared : ℕ → Ty → Bool → UnitState → Option UnitState
+typedef_declared n t unsized u =
+    if is_main u.state.unit.names (unit_name n) && not (is_function t && are_compatible t main_type) then None
+    else typedef_found n t (record u { unsized_typedef = u.unsized_typedef || unsized })
+
+abbrev pub is_typedef : Storage → Bool
+is_typedef storage.Typedef = true
+is_typedef _ = false
+
+abbrev pub is_extern : Storage → Bool
+is_extern storage.Extern = true
+is_extern _ = false
+
+abbrev pub noted : Bool → ℕ → (defined initialized unsized : Bool) → UnitState → UnitState
+noted function k d i b u = record u { entities = marked function k d i b u.entities }
+
+-- 6.9.2p1, p2: without initializer it is defined where it is not `extern`
+abbrev pub object_noted : Storage → Bool → ℕ × UnitState → UnitState
+object_noted x unsized a = noted false a.0 (not (is_extern x)) false unsized a.1
+
+-- 6.7.9: it has one initializer at most, which may complete its type
+abbrev pub object_initialized : InitializerTree → ℕ × UnitState → Option UnitState
+object_initialized i a =
+    if is_initialized false a.0 a.1.entities then None
+    else and_then (initialized true (object_at a.1.state.unit a.0).t i a.1.state) (λ f.
+    Some (noted false a.0 true true false (record a.1 { state = with_given a.0 f.value f.state })))
+
+-- the same name may stand for a type again (6.7p3), without an initializer
+abbrev pub typedef_entity : Ty → ℕ × ℕ → Bool → OptionalTree → UnitState → Option UnitState
+typedef_entity t n unsized Absent u = typedef_declared n.0 t unsized u
+typedef_entity t n unsized _ u = None
+
+-- a function, or an object without an initializer
+abbrev pub plain_entity : Storage → Ty → ℕ × ℕ → Bool → UnitState → Option UnitState
+plain_entity x t n unsized u =
+    if is_function t
+    then and_then (function_declared n.0 n.1 t u) (λ a. Some (noted true a.0 false false unsized a.1))
+    else and_then (object_declared n.0 n.1 t u) (λ a. Some (object_noted x unsized a))
+
+-- an object with an initializer
+abbrev pub given_entity : Ty → ℕ × ℕ → InitializerTree → UnitState → Option UnitState
+given_entity t n i u = if is_function t then None else and_then (object_declared n.0 n.1 t u) (object_initialized i)
+
+abbrev pub variable_entity : Storage → Ty → ℕ × ℕ → Bool → OptionalTree → UnitState → Option UnitState
+variable_entity x t n unsized Absent u = plain_entity x t n unsized u
+variable_entity x t n unsized (Present (OfInitializer i)) u = given_entity t n i u
+variable_entity x t n unsized _ u = None
+
+abbrev pub entity_declared : Storage → Ty → ℕ × ℕ → Bool → OptionalTree → UnitState → Option UnitState
+entity_declared storage.Typedef t n unsized i u = typedef_entity t n unsized i u
+entity_declared x t n unsized i u = variable_entity x t n unsized i u
+
+abbrev pub file_declarator : Specified → DeclaratorTree → OptionalTree → UnitState → Option UnitState
+file_declarator x d i u =
+    and_then (declared_name d) (λ n. and_then (type_declared true x.t d u.state) (λ a.
+    entity_declared x.storage a.value.t n a.value.unsized i (record u { state = a.state })))
+
+abbrev pub file_init_declarator : Specified → Tree → UnitState → Option UnitState
+file_init_declarator x (OfDeclaration (InitDeclarator line d i)) u = file_declarator x d i u
+file_init_declarator x _ u = None
+
+abbrev pub file_declarators : Trees → Specified → UnitState → Option UnitState
+file_declarators NoTrees x u = Some u
+file_declarators (Then before t) x u = and_then (file_declarators before x u) (file_init_declarator x t)
+
+-- a tag specifier alone, without declarators (6.7.2.3p7), or other specifiers
+abbrev pub file_alone : Option (Word × ℕ) → Trees → UnitState → Option UnitState
+file_alone (Some (w, n)) specs u = and_then (tag_alone w n u.state) (λ s. Some (record u { state = s }))
+file_alone None specs u =
+    and_then (specified_by specs u.state) (λ a. and_then (tags_alone specs u.state a) (λ b. Some (record u { state = b.state })))
+
+abbrev pub file_declared : Trees → Trees → UnitState → Option UnitState
+file_declared specs ds u = and_then (specified_by specs u.state) (λ a. file_declarators ds a.value (record u { state = a.state }))
+
+-- 6.9p1: a declaration among the external declarations
+abbrev pub file_declaration : DeclarationTree → UnitState → Option UnitState
+file_declaration (Declaration line specs NoTrees) u = file_alone (only_tag specs) specs u
+file_declaration (Declaration line specs ds) u = file_declared specs ds u
+file_declaration _ u = None

@@ -1,0 +1,13 @@
+-- What is kept of the objects and functions of file scope.
+use Rattle.std.specs.Prelude.{ℕ, false, Bool, List, map, Option, Some, None}
+use Rattle.pv_typed.specs.Tables.{Stored}
+use Rattle.pv_check.specs.Raw.{Raw}
+use Rattle.pv_check.specs.Open.{state_of, IsOpen, Goes}
+use Rattle.pv_unit.specs.declared.entities.Entity.{Entity}
+use Rattle.pv_unit.specs.Entities.{Entity as WholeEntity}
+
+abbrev pub entity_of : Entity → WholeEntity
+entity_of e = record { name = e.name; function = e.function; number = e.number; defined = e.defined; initialized = e.initialized; unsized = e.without_size }
+
+abbrev pub no_entity : Entity
+no_entity = record { name = 0; function = false; number = 0; defined = false; initialized = false; without_size = false }

@@ -1,0 +1,61 @@
+-- Typing function definitions (C17 6.9.1), and external declarations (6.9p1).
+use Rattle.std.specs.Prelude.{ℕ, false, Option, Some, None, List, [], ◌∷◌, ◌++◌}
+use Rattle.pv_tree.specs.Syntax.{DeclarationTree, Function, DeclaratorTree, StatementTree, Block, Trees}
+use Rattle.pv_types.specs.Ty.{Ty}
+use Rattle.pv_typed.specs.TypedStatement.{TypedStatement}
+use Rattle.pv_typed.specs.TypedUnits.{function_at}
+use Rattle.pv_typed.specs.Adding.{with_param, with_declaration}
+use Rattle.pv_check.specs.Derivations.{Parameter}
+use Rattle.pv_check.specs.State.{State, Scope, After, and_then, left}
+use Rattle.pv_unit.specs.Declarations.{file_declaration}
+use Rattle.pv_unit.specs.Definitions.{Head, head}
+use Rattle.pv_unit.specs.Entities.{UnitState, with_function}
+use Rattle.pv_unit.specs.Statements.{Around, block_of}
+use Rattle.pv_unit.specs.TypedStatements.{typed_items}
+
+-- outside of all loops and switches
+abbrev pub body_of : Ty → Around
+body_of t = record { result = t; breaks = false; continues = false }
+
+-- 6.2.1p4: a scope within the others
+abbrev pub within : Scope → State → State
+within x s = record s { scopes = s.scopes ++ (x ∷ []) }
+
+-- 6.9.1p9: the objects of the parameters, in order
+abbrev pub with_parameter : ℕ → Option ℕ → State → State
+with_parameter f None s = s
+with_parameter f (Some o) s = record s { unit = with_param s.unit f o }
+
+abbrev pub with_parameters : ℕ → List Parameter → State → State
+with_parameters f [] s = s
+with_parameters f (p ∷ ps) s = with_parameters f ps (with_parameter f p.object s)
+
+abbrev pub with_body : ℕ → TypedStatement → State → State
+with_body f b s = with_function f (record (function_at s.unit f) { body = Some b }) s
+
+-- the function has its parameters, and as its body the block of what was typed
+abbrev pub defined_with : Head → (line : ℕ) → UnitState → After (List TypedStatement) → Option UnitState
+defined_with h line u x =
+    Some (record u { state = with_body h.function (block_of line x.value) (with_parameters h.function h.signature.parameters (left x.state)) })
+
+-- 6.2.1p4: the scope of the parameters is that of the body's block
+abbrev pub typed_body : StatementTree → Head × UnitState → Option UnitState
+typed_body (Block line items) h =
+    and_then (typed_items (body_of h.0.result) items (within h.0.signature.scope h.1.state)) (defined_with h.0 line h.1)
+typed_body _ h = None
+
+-- ---- external declarations
+
+abbrev pub typed_declaration : DeclarationTree → UnitState → Option UnitState
+typed_declaration (Function line specs declarator block) u = and_then (head specs declarator u) (typed_body block)
+typed_declaration d u = file_declaration d u
+
+abbrev pub counted_state : State → State
+counted_state s = record s { unit = with_declaration s.unit }
+
+abbrev pub counted : UnitState → Option UnitState
+counted u = Some (record u { state = counted_state u.state })
+
+-- one external declaration more
+abbrev pub typed_external : DeclarationTree → UnitState → Option UnitState
+typed_external d u = and_then (typed_declaration d u) counted

@@ -1,0 +1,33 @@
+-- What the answers of the code that gives an object its initializer stand for (C17 6.7.9).
+use Rattle.std.specs.Prelude.{ℕ, false, ◌<◌, length, List, [], ◌∷◌, Option, Some, None}
+use Rattle.pv_types.specs.Known.{tree}
+use Rattle.pv_typed.specs.declared.entries.Init.{Init}
+use Rattle.pv_typed.specs.Adding.{with_store}
+use Rattle.pv_typed.specs.Tables.{Stored}
+use Rattle.pv_typed.specs.TypedUnits.{Store, WholeUnit}
+use Rattle.pv_check.specs.Raw.{Raw}
+use Rattle.pv_check.specs.Open.{state_of}
+use Rattle.pv_check.specs.State.{State}
+use Rattle.pv_unit.specs.declared.giving.Completion.{Completion}
+use Rattle.pv_unit.specs.Initialized.{Given as WholeGiven}
+use Rattle.pv_unit.specs.Rules.{After}
+use Rattle.pv_unit.specs.Stores.{stores_in}
+
+-- what an object gets
+abbrev pub given_in : Stored → List Init → Completion → WholeGiven
+given_in m out x = record { t = tree m.known x.t.0; braced = x.braced; stores = stores_in m out }
+
+-- and the state behind its initializer
+abbrev pub given_if : List (List ℕ) → Raw → Stored → List Init → Option Completion → Option (After State WholeGiven)
+given_if texts s m out None = None
+given_if texts s m out (Some x) = Some (record { value = given_in m out x; state = state_of texts false s m })
+
+-- its type is there
+abbrev pub IsGivenIf : Stored → Option Completion → Type 0
+IsGivenIf m None = Unit {0}
+IsGivenIf m (Some x) = x.t.0 < length m.known.terms
+
+-- stores behind those of an object, one after the other
+abbrev pub with_stores : WholeUnit → ℕ → List Store → WholeUnit
+with_stores u o [] = u
+with_stores u o (x ∷ xs) = with_stores (with_store u o x) o xs

@@ -1,0 +1,20 @@
+-- What the code that types declarations at file scope has and answers.
+use Rattle.std.specs.Prelude.{ℕ, Bool, true, false, List, Option, Some, None}
+use Rattle.pv_typed.specs.Tables.{Stored}
+use Rattle.pv_check.specs.Raw.{Raw}
+use Rattle.pv_check.specs.Open.{state_of}
+use Rattle.pv_unit.specs.declared.entities.Outer.{Outer}
+use Rattle.pv_unit.specs.Entities.{UnitState}
+
+-- what scopes, tables and the entities stand for
+abbrev pub unit_state : List (List ℕ) → Raw → Stored → Outer → UnitState
+unit_state texts s m o = record { state = state_of texts false s m; entities = o.entities; unsized_typedef = o.unsized_typedef }
+
+-- an answer, with what is known behind it
+abbrev pub unit_if : List (List ℕ) → Raw → Stored → Outer → Bool → Option UnitState
+unit_if texts s m o false = None
+unit_if texts s m o true = Some (unit_state texts s m o)
+
+abbrev pub number_if : List (List ℕ) → Raw → Stored → Outer → Option ℕ → Option (ℕ × UnitState)
+number_if texts s m o None = None
+number_if texts s m o (Some n) = Some (n, unit_state texts s m o)

@@ -1,0 +1,28 @@
+-- The automatic objects that the code of a declaration in a block reaches.
+use Rattle.std.specs.Prelude.{ℕ, ◌<◌, Bool, true, false, List, map, length, Option, Some, None}
+use Rattle.pv_typed.specs.Children.{Each}
+use Rattle.pv_typed.specs.Tables.{Stored}
+use Rattle.pv_check.specs.Raw.{Raw}
+use Rattle.pv_check.specs.Open.{state_of}
+use Rattle.pv_check.specs.State.{After}
+use Rattle.pv_unit.specs.declared.blocks.Reached.{Reached}
+use Rattle.pv_unit.specs.Blocks.{Reached as WholeReached}
+
+abbrev pub reached_of : Reached → WholeReached
+reached_of x = record { object = x.object; line = x.line }
+
+-- those that were reached, and the state behind them
+abbrev pub reached_in : List (List ℕ) → Raw → Stored → List Reached → After (List WholeReached)
+reached_in texts s m xs = record { value = map reached_of xs; state = state_of texts false s m }
+
+abbrev pub reached_if : List (List ℕ) → Raw → Stored → List Reached → Bool → Option (After (List WholeReached))
+reached_if texts s m xs false = None
+reached_if texts s m xs true = Some (reached_in texts s m xs)
+
+-- they are there
+abbrev pub AreReached : Stored → List Reached → Type 0
+AreReached m xs = Each (λ (x : Reached). x.object < length m.objects) xs
+
+abbrev pub ReachedOn : Stored → List Reached → Bool → Type 0
+ReachedOn m xs false = Unit {0}
+ReachedOn m xs true = AreReached m xs

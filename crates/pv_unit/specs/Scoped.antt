@@ -1,0 +1,105 @@
+-- Typing a statement that has a scope, within this scope (C17 6.8.2, 6.8.4p3, 6.8.5p5), part by part as the code does.
+use Rattle.std.specs.Prelude.{ℕ, Bool, true, false, List, [], ◌∷◌, ◌++◌, Option, Some, None}
+use Rattle.pv_num.specs.declared.kinds.IntKind.{IntKind}
+use Rattle.pv_tree.specs.Syntax.{ExpressionTree, StatementTree, Block, ExpressionStatement, If, IfElse, While, DoWhile, For, ForDeclaration, Switch, SwitchBlock, Labelled, Tree, OfStatement, Trees, OptionalTree}
+use Rattle.pv_typed.specs.TypedTree.{TypedTree}
+use Rattle.pv_typed.specs.TypedStatement.{TypedStatement}
+use Rattle.pv_check.specs.State.{State, After, and_then, give, entered}
+use Rattle.pv_unit.specs.Blocks.{block_declaration}
+use Rattle.pv_unit.specs.Statements.{Around, in_loop, in_switch, leaving, valued, condition, optional, Label, typed_labels, under, Switched, switched}
+use Rattle.pv_unit.specs.TypedStatements.{Body, if_made, else_made, while_made, do_made, for_made, round_made, switch_made, block_made, body_made, if_automatic, typed_statement, typed_items, switch_items, switch_block}
+
+-- a statement in a scope of its own
+abbrev pub inner : Around → StatementTree → State → Option (After TypedStatement)
+inner w b s = leaving (typed_statement w b (entered s))
+
+-- what follows the parts of each statement
+
+abbrev pub if_behind : Around → (line : ℕ) → StatementTree → After TypedTree → Option (After TypedStatement)
+if_behind w line body c = and_then (inner w body c.state) (if_made line c.value)
+
+abbrev pub else_last : Around → (line : ℕ) → StatementTree → TypedTree → After TypedStatement → Option (After TypedStatement)
+else_last w line other c b = and_then (inner w other b.state) (else_made line c b.value)
+
+abbrev pub else_behind : Around → (line : ℕ) → StatementTree → StatementTree → After TypedTree → Option (After TypedStatement)
+else_behind w line body other c = and_then (inner w body c.state) (else_last w line other c.value)
+
+abbrev pub while_behind : Around → (line : ℕ) → StatementTree → After TypedTree → Option (After TypedStatement)
+while_behind w line body c = and_then (inner (in_loop w) body c.state) (while_made line c.value)
+
+abbrev pub do_behind : (line : ℕ) → ExpressionTree → After TypedStatement → Option (After TypedStatement)
+do_behind line a b = and_then (condition a b.state) (do_made line b.value)
+
+abbrev pub for_last : Around → (line : ℕ) → StatementTree → Option TypedTree → Option TypedTree → After (Option TypedTree) → Option (After TypedStatement)
+for_last w line body f c t = and_then (inner (in_loop w) body t.state) (for_made line f c t.value)
+
+abbrev pub for_step : Around → (line : ℕ) → OptionalTree → StatementTree → Option TypedTree → After (Option TypedTree) → Option (After TypedStatement)
+for_step w line step body f c = and_then (optional valued step c.state) (for_last w line body f c.value)
+
+abbrev pub for_behind : Around → (line : ℕ) → OptionalTree → OptionalTree → StatementTree → After (Option TypedTree) → Option (After TypedStatement)
+for_behind w line a step body f = and_then (optional condition a f.state) (for_step w line step body f.value)
+
+abbrev pub round_last : Around → (line : ℕ) → StatementTree → List TypedStatement → Option TypedTree → After (Option TypedTree) → Option (After TypedStatement)
+round_last w line body xs c t = and_then (inner (in_loop w) body t.state) (round_made line xs c t.value)
+
+abbrev pub round_step : Around → (line : ℕ) → OptionalTree → StatementTree → List TypedStatement → After (Option TypedTree) → Option (After TypedStatement)
+round_step w line step body xs c = and_then (optional valued step c.state) (round_last w line body xs c.value)
+
+abbrev pub round_behind : Around → (line : ℕ) → OptionalTree → OptionalTree → StatementTree → After (List TypedStatement) → Option (After TypedStatement)
+round_behind w line a step body f = and_then (optional condition a f.state) (round_step w line step body f.value)
+
+abbrev pub switch_behind : Around → (line : ℕ) → StatementTree → After Switched → Option (After TypedStatement)
+switch_behind w line body c = and_then (switch_block w c.value.kind body c.state) (switch_made line c.value.value)
+
+-- a statement that has a scope, within it
+abbrev pub scoped : Around → StatementTree → State → Option (After TypedStatement)
+scoped w (Block line items) z = and_then (typed_items w items z) (block_made line)
+scoped w (If line a body) z = and_then (condition a z) (if_behind w line body)
+scoped w (IfElse line a body other) z = and_then (condition a z) (else_behind w line body other)
+scoped w (While line a body) z = and_then (condition a z) (while_behind w line body)
+scoped w (DoWhile line body a) z = and_then (inner (in_loop w) body z) (do_behind line a)
+scoped w (For line first a step body) z = and_then (optional valued first z) (for_behind w line a step body)
+scoped w (ForDeclaration line d a step body) z = and_then (and_then (block_declaration d z) if_automatic) (round_behind w line a step body)
+scoped w (Switch line a body) z = and_then (switched a z) (switch_behind w line body)
+scoped w _ z = None
+
+-- whether it has one
+abbrev pub has_scope : StatementTree → Bool
+has_scope (Block line items) = true
+has_scope (If line a body) = true
+has_scope (IfElse line a body other) = true
+has_scope (While line a body) = true
+has_scope (DoWhile line body a) = true
+has_scope (For line first a step body) = true
+has_scope (ForDeclaration line d a step body) = true
+has_scope (Switch line a body) = true
+has_scope _ = false
+
+-- the items of a switch's block, within its scope
+abbrev pub switch_body : Around → IntKind → StatementTree → State → Option (After TypedStatement)
+switch_body w k (SwitchBlock line items) z = and_then (switch_items (in_switch w) k items z) (body_made line)
+switch_body w k _ z = None
+
+-- ---- statements of a switch's block
+
+-- a statement under its labels, and the labels that the switch has then
+pub record Marked : Type 0 where
+  pub labels : List Label
+  pub statement : TypedStatement
+
+abbrev pub marked : (seen own : List Label) → After TypedStatement → Option (After Marked)
+marked seen own x = give (Some (record { labels = seen ++ own; statement = under own x.value })) x.state
+
+abbrev pub unmarked : (seen : List Label) → After TypedStatement → Option (After Marked)
+unmarked seen x = give (Some (record { labels = seen; statement = x.value })) x.state
+
+abbrev pub under_labels : Around → StatementTree → (seen : List Label) → After (List Label) → Option (After Marked)
+under_labels w b seen l = and_then (typed_statement w b l.state) (marked seen l.value)
+
+-- 6.8.1: a statement of a switch's block, with labels or without
+abbrev pub labelled_statement : Around → IntKind → StatementTree → (seen : List Label) → State → Option (After Marked)
+labelled_statement w k (Labelled line labels b) seen s = and_then (typed_labels k seen labels s) (under_labels w b seen)
+labelled_statement w k b seen s = and_then (typed_statement w b s) (unmarked seen)
+
+abbrev pub with_marked : Body → After Marked → Option (After Body)
+with_marked x y = give (Some (record { items = x.items ++ (y.value.statement ∷ []); labels = y.value.labels })) y.state

@@ -1,0 +1,22 @@
+-- The tables and the scopes before the first declaration of a unit.
+use Rattle.std.specs.Prelude.{◌≡◌, ℕ, List, ◌∷◌, [], ◌++◌}
+use Rattle.pv_token.specs.Table.{Table}
+use Rattle.pv_typed.specs.Formed.{AreKnown}
+use Rattle.pv_typed.specs.Mains.{no_tables}
+use Rattle.pv_typed.specs.Tables.{Stored, whole}
+use Rattle.pv_typed.specs.TypedUnits.{WholeUnit}
+use Rattle.pv_check.specs.Raw.{Raw, no_raw}
+use Rattle.pv_unit.specs.Units.{first}
+
+abbrev pub with_name_behind : WholeUnit → List ℕ → WholeUnit
+with_name_behind u text = record u { names = u.names ++ (text ∷ []) }
+
+-- tables without an entry, with the names of the tokens behind the two that no token has
+pub record IsFirst (t : Table) (m : Stored) : Type 0 where
+  pub unit : whole m ≡ (first t).state.unit
+  pub types : m.known ≡ no_tables.known
+  pub known : AreKnown m
+
+-- the scope of a file
+abbrev pub first_raw : Raw
+first_raw = record { scopes = no_raw ∷ []; used = [] }

@@ -1,0 +1,20 @@
+-- The objects and functions that declarations at file scope declare are in the tables.
+use Rattle.std.specs.Prelude.{ℕ, ◌<◌, Bool, true, false, List, [], ◌∷◌, length}
+use Rattle.pv_typed.specs.Tables.{Stored}
+use Rattle.pv_unit.specs.Entities.{Entity}
+
+abbrev pub HasNumber : Stored → (function : Bool) → ℕ → Type 0
+HasNumber m true k = k < length m.functions
+HasNumber m false k = k < length m.objects
+
+abbrev pub IsThere : Stored → Entity → Type 0
+IsThere m e = HasNumber m e.function e.number
+
+abbrev pub AreThere : Stored → List Entity → Type 0
+AreThere m [] = Unit {0}
+AreThere m (e ∷ es) = IsThere m e × AreThere m es
+
+-- where there is an answer
+abbrev pub ThereOn : Stored → List Entity → Bool → Type 0
+ThereOn m es false = Unit {0}
+ThereOn m es true = AreThere m es

@@ -1,0 +1,129 @@
+-- Typing translation units (C17 6.9).
+use Rattle.std.specs.Prelude.{◌≡◌, ◌<◌, ℕ, ◌+◌, ◌==◌, Bool, true, false, not, ◌&&◌, ◌||◌, if◌then◌else◌, List, [], ◌∷◌, ◌++◌, length, take, nat_lt, is_some, Option, Some, None}
+use Rattle.pv_token.specs.Table.{Table}
+use Rattle.pv_tree.specs.Syntax.{DeclarationTree}
+use Rattle.pv_typed.specs.Mains.{literal_text, heap_text}
+use Rattle.pv_typed.specs.TypedUnits.{WholeUnit, TypedObject, name_at}
+use Rattle.pv_check.specs.Library.{library_named}
+use Rattle.pv_check.specs.State.{State, Used, UsedObject, UsedFunction, no_scope, and_then}
+use Rattle.pv_check.specs.Texts.{is_main}
+use Rattle.pv_unit.specs.Definitions.{may_end}
+use Rattle.pv_unit.specs.Entities.{Entity, UnitState, unit_name, is_entity}
+use Rattle.pv_unit.specs.Functions.{typed_external}
+
+-- the first external declarations of a unit, one after the other
+abbrev pub typed_first : List DeclarationTree → UnitState → Option UnitState
+typed_first [] u = Some u
+typed_first (d ∷ ds) u = and_then (typed_external d u) (typed_first ds)
+
+-- 6.9.2p2, 6.7p7: what the declarations of a unit leave incomplete breaks a constraint of its last one
+abbrev pub typed_last : List DeclarationTree → UnitState → Option UnitState
+typed_last [] u = Some u
+typed_last (d ∷ ds) u = if may_end u then Some u else None
+
+-- the first n external declarations of a unit
+unfoldable pub typed_to : List DeclarationTree → (n : ℕ) → UnitState → Option UnitState
+typed_to ds n u = if nat_lt n (length ds) then typed_first (take n ds) u else and_then (typed_first ds u) (typed_last ds)
+
+-- ---- names that nothing defines
+
+-- an expression names the object or the function
+abbrev pub uses : Bool → ℕ → Used → Bool
+uses false k (UsedObject o) = o == k
+uses true k (UsedFunction f) = f == k
+uses _ k _ = false
+
+abbrev pub is_used : Bool → ℕ → List Used → Bool
+is_used function k [] = false
+is_used function k (x ∷ xs) = uses function k x || is_used function k xs
+
+-- 7.1.3p1
+abbrev pub is_of_library : State → Entity → Bool
+is_of_library s e = e.function && is_some (library_named (name_at s.unit (unit_name e.name)))
+
+-- 6.9p5: an expression names it, and neither the unit nor the library defines it
+abbrev pub is_unresolved : State → Entity → Bool
+is_unresolved s e = is_used e.function e.number s.used && (not e.defined && not (is_of_library s e))
+
+-- the name of the first one, in the order of their first declarations
+abbrev pub unresolved : State → List Entity → Option ℕ
+unresolved s [] = None
+unresolved s (e ∷ es) = if is_unresolved s e then Some e.name else unresolved s es
+
+-- 5.1.2.2.1
+abbrev pub is_main_function : State → Entity → Bool
+is_main_function s e = e.function && (e.defined && is_main s.unit.names (unit_name e.name))
+
+abbrev pub has_main : State → List Entity → Bool
+has_main s [] = false
+has_main s (e ∷ es) = is_main_function s e || has_main s es
+
+-- ---- static objects
+
+-- an object of a block is defined where it is declared; one of file scope may be declared alone
+abbrev pub is_defined : ℕ → List Entity → Bool
+is_defined k [] = true
+is_defined k (e ∷ es) = if is_entity false k e then e.defined else is_defined k es
+
+-- 6.2.4p3: those with static storage that are defined, from number k on
+abbrev pub statics_from : List Entity → ℕ → List TypedObject → List ℕ
+statics_from es k [] = []
+statics_from es k (o ∷ os) = if o.lasting && is_defined k es then k ∷ statics_from es (k + 1) os else statics_from es (k + 1) os
+
+-- ---- units
+
+-- before the first declaration: the unit's names are those of the tokens, behind two that no token has
+abbrev pub first : Table → UnitState
+first t = record {
+  state = record {
+    scopes = no_scope ∷ [];
+    unit = record {
+      names = literal_text ∷ heap_text ∷ t.names;
+      headings = [];
+      completed = [];
+      objects = [];
+      functions = [];
+      literals = [];
+      instances = [];
+      statics = [];
+      tags = [];
+      declarations = 0;
+    };
+    texts = t.texts;
+    used = [];
+    unevaluated = false;
+  };
+  entities = [];
+  unsized_typedef = false;
+}
+
+abbrev pub with_statics : List ℕ → WholeUnit → WholeUnit
+with_statics os u = record u { statics = u.statics ++ os }
+
+-- behind the last one, with the static objects
+abbrev pub finished : UnitState → WholeUnit
+finished u = with_statics (statics_from u.entities 0 u.state.unit.objects) u.state.unit
+
+-- what comes of a unit: its typing, or why there is none
+pub data Checked : Type 0 where
+  Typed : WholeUnit → Checked
+  Constraint : ℕ → Checked
+  Unresolved : ℕ → Checked
+  NoMain : Checked
+
+-- the first n external declarations have a typing, and one more have none
+pub record Breaks (ds : List DeclarationTree) (u : UnitState) (n : ℕ) : Type 0 where
+  pub within : n < length ds
+  pub before : is_some (typed_to ds n u) ≡ true
+  pub at : typed_to ds (n + 1) u ≡ None
+
+-- all have one
+abbrev pub IsTyped : List DeclarationTree → (before behind : UnitState) → Type 0
+IsTyped ds before behind = typed_to ds (length ds) before ≡ Some behind
+
+abbrev pub UnitComes : Table → List DeclarationTree → Checked → Type 0
+UnitComes t ds (Constraint n) = Breaks ds (first t) n
+UnitComes t ds (Unresolved name) = (u : UnitState) × (IsTyped ds (first t) u × (unresolved u.state u.entities ≡ Some name))
+UnitComes t ds NoMain = (u : UnitState) × (IsTyped ds (first t) u × (unresolved u.state u.entities ≡ None) × (has_main u.state u.entities ≡ false))
+UnitComes t ds (Typed w) =
+    (u : UnitState) × (IsTyped ds (first t) u × (unresolved u.state u.entities ≡ None) × (has_main u.state u.entities ≡ true) × (w ≡ finished u))

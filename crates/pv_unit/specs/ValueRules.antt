@@ -1,0 +1,43 @@
+-- How initializers are typed over the state of expressions.
+use Rattle.std.specs.Prelude.{ℕ, Bool, false, Option, Some, None, is_some, List, ◌++◌, length, set}
+use Rattle.pv_tree.specs.Syntax.{InitializerTree}
+use Rattle.pv_types.specs.Ty.{Ty}
+use Rattle.pv_typed.specs.TypedUnits.{object_at}
+use Rattle.pv_typed.specs.Adding.{with_literal}
+use Rattle.pv_typed.specs.Addresses.{constant_of}
+use Rattle.pv_check.specs.State.{State}
+use Rattle.pv_check.specs.State as check
+use Rattle.pv_check.specs.Typing.{types}
+use Rattle.pv_check.specs.Rows.{operand}
+use Rattle.pv_check.specs.Values.{assigned}
+use Rattle.pv_check.specs.Primary.{bytes_of_text}
+use Rattle.pv_unit.specs.Rules.{Rules, After, StringLiteral}
+use Rattle.pv_unit.specs.Initialized.{Given, initialized_object}
+
+abbrev pub lifted : {A : Type 0} → Option (check.After A) → Option (After State A)
+lifted None = None
+lifted (Some x) = Some (record { value = x.value; state = x.state })
+
+abbrev pub lowered : {A : Type 0} → Option (After State A) → Option (check.After A)
+lowered None = None
+lowered (Some x) = Some (record { value = x.value; state = x.state })
+
+abbrev pub filling_text : ℕ → List ℕ → State → After State StringLiteral
+filling_text line bytes s = record { value = record { number = length s.unit.literals; characters = bytes }; state = record s { unit = with_literal s.unit (record { bytes = bytes; line = line }) false } }
+
+-- as expressions are typed, over the state that they thread
+unfoldable pub values : Rules State
+values = record {
+  operand = λ a s. lifted (operand (types a s));
+  assigned = λ s t e. assigned t e;
+  constant = λ s e. is_some (constant_of s.unit e);
+  string = λ line first more s. filling_text line (bytes_of_text s.texts first more) s;
+  completed = λ s. s.unit.completed;
+}
+
+abbrev pub initialized : (lasting : Bool) → Ty → InitializerTree → State → Option (check.After Given)
+initialized lasting t i s = lowered (initialized_object values lasting t i s)
+
+-- 6.7.9: the object has its type, and the stores of its initializer behind those that it has: none, since it is initialized once
+abbrev pub with_given : ℕ → Given → State → State
+with_given o x s = record s { unit = record s.unit { objects = set s.unit.objects o (record (object_at s.unit o) { t = x.t; braced = x.braced; inits = (object_at s.unit o).inits ++ x.stores }) } }

@@ -1,0 +1,133 @@
+//! Names that nothing defines (C17 6.9p5), `main` (C17 5.1.2.2.1), and static objects (C17 6.2.4p3).
+ghost use Rattle.std.specs.Prelude.{◌≡◌, ◌<◌, ◌&&◌, ◌||◌, not, ℕ, Bool, List, true, false, length, map, None, Some, IfOk, OnOk, slice_index_or};
+ghost use Rattle.pv_typed.specs.Formed.{AreKnown, Grown};
+ghost use Rattle.pv_typed.specs.Tables.{whole};
+ghost use Rattle.pv_typed.specs.TypedUnits.{object_at};
+ghost use Rattle.pv_check.specs.Open.{state_of, IsOpen};
+ghost use Rattle.pv_check.specs.Raw.{Raw, used_of};
+ghost use Rattle.pv_unit.specs.Entering.{entity_of};
+ghost use Rattle.pv_unit.specs.Resolving.{has_use, AreUses};
+ghost use Rattle.pv_unit.specs.Units.{uses, is_used, is_of_library, is_unresolved, unresolved, is_main_function, has_main, is_defined, statics_from, with_statics};
+
+use crate::entities::{Entity, Outer};
+use crate::known_names::is_main;
+use crate::library_names::is_of_library;
+use indexmap::IndexSet;
+use pv_check::{Named, Scopes};
+use pv_typed::TypedUnit;
+use pv_types::NoMemory;
+use std::alloc::Global;
+
+/// The numbers of the objects and of the functions that expressions name.
+#[derive(Drop)]
+struct Uses {
+    objects: IndexSet<u32>,
+    functions: IndexSet<u32>,
+}
+
+/// One more that an expression names.
+fn add_use(all: &mut Uses, what: Named) -> Result<(), NoMemory>
+    ensures { OnOk result ((f : Bool) (k : ℕ) → has_use all.new f k ≡ (has_use all.old f k || uses f k (used_of what))) }
+{
+    match what {
+        Named::Object(o) => {
+            all.objects.insert(o)?;
+        }
+        Named::Function(f) => {
+            all.functions.insert(f)?;
+        }
+    }
+    Ok(())
+}
+
+/// All that expressions name.
+fn uses_of(alloc: Global, used: &[Named]) -> Result<Uses, NoMemory>
+    ensures { IfOk result (AreUses used.now) }
+{
+    let mut all = Uses {
+        objects: IndexSet::new(alloc),
+        functions: IndexSet::new(alloc),
+    };
+    for what in used {
+        add_use(&mut all, *what)?;
+    }
+    Ok(all)
+}
+
+/// Whether an expression names it.
+fn is_used(all: &Uses, e: Entity) -> bool
+    ensures { result ≡ has_use all.now e.function e.number }
+{
+    if e.function {
+        all.functions.contains(&e.number)
+    } else {
+        all.objects.contains(&e.number)
+    }
+}
+
+/// Whether an expression names it, and nothing defines it.
+fn is_unresolved(s: &Scopes, into: &TypedUnit, all: &Uses, e: Entity) -> bool
+    requires { AreUses s.now.used all.now }
+    ensures { (texts : List (List ℕ)) → result ≡ is_unresolved (state_of texts false s.now into.now) (entity_of e) }
+{
+    is_used(all, e) && !e.defined && !(e.function && is_of_library(into, e.name))
+}
+
+/// The name of the first declared object or function that an expression names and that nothing defines.
+pub(crate) fn unresolved(
+    s: &Scopes,
+    into: &TypedUnit,
+    outer: &Outer,
+) -> Result<Option<u32>, NoMemory>
+    ensures { IfOk result (λ r. (texts : List (List ℕ)) → r ≡ unresolved (state_of texts false s.now into.now) outer.now.entities) }
+{
+    let all = uses_of(s.allocator(), s.used())?;
+    for i in 0..outer.entities.len() {
+        let e = outer.entities.at(i);
+        if is_unresolved(s, into, &all, e) {
+            return Ok(Some(e.name));
+        }
+    }
+    Ok(None)
+}
+
+/// Whether it is `main`, and defined.
+fn is_main_function(into: &TypedUnit, e: Entity) -> bool
+    ensures { (texts : List (List ℕ)) (s : Raw) → result ≡ is_main_function (state_of texts false s into.now) (entity_of e) }
+{
+    e.function && e.defined && is_main(into, e.name)
+}
+
+/// Whether `main` is defined.
+pub(crate) fn has_main(into: &TypedUnit, outer: &Outer) -> bool
+    ensures { (texts : List (List ℕ)) (s : Raw) → result ≡ has_main (state_of texts false s into.now) outer.now.entities }
+{
+    for i in 0..outer.entities.len() {
+        if is_main_function(into, outer.entities.at(i)) {
+            return true;
+        }
+    }
+    false
+}
+
+/// Whether an object has static storage and is defined.
+fn is_static(into: &TypedUnit, outer: &Outer, o: u32) -> bool
+    requires { o < length into.now.objects }
+    ensures { result ≡ ((object_at (whole into.now) o).lasting && is_defined o outer.now.entities) }
+{
+    into.object(o).lasting && outer.entities.is_defined(o)
+}
+
+/// Notes the objects with static storage that are defined, in the order of their numbers.
+pub(crate) fn add_statics(into: &mut TypedUnit, outer: &Outer) -> Result<(), NoMemory>
+    ensures types { OnOk result (into.new.known ≡ into.old.known) }
+    ensures grown { OnOk result (Grown into.old into.new) }
+    ensures whole { OnOk result (whole into.new ≡ with_statics (statics_from outer.now.entities 0 (whole into.old).objects) (whole into.old)) }
+{
+    for o in 0..into.objects() {
+        if is_static(into, outer, o) {
+            into.add_static(o)?;
+        }
+    }
+    Ok(())
+}
