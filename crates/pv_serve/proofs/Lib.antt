@@ -1,5 +1,6 @@
 pub mod UnitLemmas
 pub mod WordsLemmas
+pub mod TypedLemmas
 pub mod ComesLemmas
 pub mod JudgedLemmas
 pub mod CausesLemmas

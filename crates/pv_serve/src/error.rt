@@ -17,6 +17,12 @@ impl From<pv_starter_run::NoMemory> for NoMemory {
     }
 }
 
+impl From<pv_types::NoMemory> for NoMemory {
+    fn from(_: pv_types::NoMemory) -> Self {
+        NoMemory
+    }
+}
+
 impl From<pv_script::NoMemory> for NoMemory {
     fn from(_: pv_script::NoMemory) -> Self {
         NoMemory

@@ -16,7 +16,8 @@ pub fn status(judgement: &Judgement) -> u8
 {
     match judgement {
         Judgement::Source(_) => 8,
-        Judgement::Ran(ran) => match ran.outcome {
+        Judgement::Described { .. } => 0,
+        Judgement::Ran { ran, .. } => match ran.outcome {
             Outcome::Exit { .. } => 0,
             Outcome::Undefined { .. } => 1,
             Outcome::Indeterminate { .. } => 2,
@@ -26,11 +27,12 @@ pub fn status(judgement: &Judgement) -> u8
 }
 
 /// The line that tells a judgement, with its line feed. The only error is want of memory.
-pub fn line(alloc: Global, judgement: &Judgement, bound: u64) -> Result<Vec<u8>, NoMemory>
-    ensures { IfOk result (λ v. v.items ≡ specified.report_line (verdict_of judgement.now) bound) }
+pub fn line(alloc: Global, judgement: &Judgement) -> Result<Vec<u8>, NoMemory>
+    ensures { IfOk result (λ v. v.items ≡ specified.report_line (verdict_of judgement.now)) }
 {
     match judgement {
-        Judgement::Ran(ran) => Ok(run_line(alloc, *ran, bound)?.into_bytes()),
+        Judgement::Ran { ran, bound } => Ok(run_line(alloc, *ran, *bound)?.into_bytes()),
+        Judgement::Described { text } => Ok(Vec::from_slice(alloc, text)?),
         Judgement::Source(refused) => refusal_line(alloc, refused),
     }
 }
@@ -80,6 +82,11 @@ fn refusal_line(alloc: Global, refused: &Refused) -> Result<Vec<u8>, NoMemory>
         Refused::Token { at } => format!(in alloc; "refused reason=token at={at}\n")?,
         Refused::Profile { at, word } => return profile_line(alloc, *at, word.as_slice()),
         Refused::Syntax { whole } => format!(in alloc; "refused reason=syntax whole={whole}\n")?,
+        Refused::Constraint { index } => format!(in alloc;
+            "refused reason=constraint index={index}\n"
+        )?,
+        Refused::Unresolved { name } => return unresolved_line(alloc, name.as_slice()),
+        Refused::NoMain => format!(in alloc; "refused reason=main\n")?,
         Refused::Unbuilt => format!(in alloc; "refused reason=unbuilt\n")?,
     };
     Ok(text.into_bytes())
@@ -91,6 +98,16 @@ fn profile_line(alloc: Global, at: u32, word: &[u8]) -> Result<Vec<u8>, NoMemory
 {
     let mut line = format!(in alloc; "refused reason=profile at={at} word=")?.into_bytes();
     line.extend_from_slice(word)?;
+    line.push(b'\n')?;
+    Ok(line)
+}
+
+// The line of a name that nothing defines.
+fn unresolved_line(alloc: Global, name: &[u8]) -> Result<Vec<u8>, NoMemory>
+    ensures { IfOk result (λ v. v.items ≡ specified.unresolved_line name.now) }
+{
+    let mut line = Vec::from_slice(alloc, b"refused reason=unresolved name=")?;
+    line.extend_from_slice(name)?;
     line.push(b'\n')?;
     Ok(line)
 }

@@ -1,14 +1,14 @@
 // The top call: what one call of the program does from its words to its status.
 ghost use Rattle.std.specs.Prelude.{◌≡◌, ◌≢◌, ◌⊎◌, ◌≤◌, ◌<◌, ℕ, [], List, Some, IsNone};
 ghost use Rattle.pv_script.specs.Outside.{Rose, Gains, GainsPrefix};
-ghost use Rattle.pv_serve.specs.Words.{texts, job as job_of};
+ghost use Rattle.pv_serve.specs.Words.{IsTask, texts, job as job_of};
 ghost use Rattle.pv_serve.specs.Answer.{SomeVerdict, SomeAnswer};
 ghost use Rattle.pv_serve.specs.Causes.{Call, Sunk, Served, IsAnswer};
 ghost use Rattle.pv_script.specs.Memory.{calm_held, calm_written};
 
 use crate::judging::{SOURCE_LIMIT, judge};
 use crate::report::{line, status};
-use crate::words::job;
+use crate::words::{Task, job};
 use pv_script::{CalmFiles, CalmSink, Files, ReadError, Sink, read_all, write_all};
 use std::alloc::Global;
 
@@ -28,7 +28,7 @@ pub const NO_MEMORY: u8 = 13;
 ///
 /// | status | when |
 /// |---|---|
-/// | 0 | the source's `main` returned (C17 5.1.2.2.3); the line has its value |
+/// | 0 | the source's `main` returned (C17 5.1.2.2.3); the line has its value. Or the source has a typing, and was to be described |
 /// | 1 | an operation had no defined behaviour (3.4.3) |
 /// | 2 | an operation met an object whose value is indeterminate (3.19.2) |
 /// | 6 | the turns that the words allow were taken, and another was due |
@@ -74,27 +74,26 @@ pub fn serve<F: Files, O: Sink, R: Sink>(
     match read_all(alloc, files, asked.file, SOURCE_LIMIT) {
         Err(ReadError::NoMemory) => NO_MEMORY,
         Err(ReadError::Fault) => tell(report, b"fault read\n", READ_FAULT),
-        Ok(source) => run(alloc, &source, asked.turns, report),
+        Ok(source) => run(alloc, &source, asked.task, report),
     }
 }
 
 // Judges a source, and reports. No program of the language that is run so far has output, so there is none to write.
-fn run<R: Sink>(alloc: Global, source: &[u8], bound: u64, report: &mut R) -> u8
-    requires some { 0 < bound }
-    requires most { bound ≤ 100000000 }
+fn run<R: Sink>(alloc: Global, source: &[u8], task: Task, report: &mut R) -> u8
+    requires { IsTask task }
     ensures no_read_fault { result ≢ 11 }
     ensures no_words { result ≢ 10 }
     ensures write_fault { result ≡ 12 → Rose (R.faults report.old) (R.faults report.new) }
-    ensures write_order { result ≡ 12 → SomeVerdict source.now bound
+    ensures write_order { result ≡ 12 → SomeVerdict source.now task
         (λ a. GainsPrefix (R.written report.old) (R.written report.new) a.report) }
     ensures no_memory { result ≡ 13 → Gains (R.written report.old) (R.written report.new) [] }
-    ensures answered { result ≢ 12 → result ≢ 13 → SomeVerdict source.now bound
+    ensures answered { result ≢ 12 → result ≢ 13 → SomeVerdict source.now task
         (λ a. (result ≡ a.status) × Gains (R.written report.old) (R.written report.new) a.report) }
 {
-    let Ok(judgement) = judge(alloc, source, bound) else {
+    let Ok(judgement) = judge(alloc, source, task) else {
         return NO_MEMORY;
     };
-    match line(alloc, &judgement, bound) {
+    match line(alloc, &judgement) {
         Err(_) => NO_MEMORY,
         Ok(text) => tell(report, text.as_slice(), status(&judgement)),
     }

@@ -54,7 +54,7 @@ fn calmly_told(alloc: Global, source: &[u8], words: &str) -> Result<String, NoMe
     let mut files = CalmFiles::new(alloc);
     files.put("a.c", source)?;
     let mut out = CalmSink::new(alloc, 100)?;
-    let mut report = CalmSink::new(alloc, 100)?;
+    let mut report = CalmSink::new(alloc, 400)?;
     let status = serve_calmly(alloc, words.as_slice(), &mut files, &mut out, &mut report);
     text(alloc, status, out.bytes(), report.bytes())
 }
@@ -251,11 +251,14 @@ int a@;
 int main(void){goto x;}
 => 8 refused reason=profile at=15 word=goto
 
+=> 8 refused reason=main
+
+int main(void){return 1 - 1;}
 => 8 refused reason=unbuilt
 "#;
 
 // Lines of words that are no job; a space at the end leaves an empty word.
-const NO_JOBS: [&str; 16] = [
+const NO_JOBS: [&str; 24] = [
     "",
     "run",
     "run ",
@@ -272,6 +275,14 @@ const NO_JOBS: [&str; 16] = [
     "run a.c --turns 3 --turns 3",
     "--turns 3 run a.c",
     "run  --turns 3",
+    "check",
+    "check ",
+    "check a.c b.c",
+    "check a.c --turns 3",
+    "layout",
+    "layout ",
+    "layout a.c --turns 3",
+    "settle a.c",
 ];
 
 #[test]
@@ -318,14 +329,17 @@ fn is_cut_off(rt: &impl Abort, alloc: Global, devices: Devices, room: usize) {
 type Fault = (&'static str, u64, u64, &'static str);
 
 // A file that is not there, and words that name no file to read, are among them.
-static FAULTS: [Fault; 7] = [
+static FAULTS: [Fault; 10] = [
     ("run a.c", 1, 0, "11 fault read\n"),
     ("run a.c", 2, 0, "11 fault read\n"),
     ("run a.c", 3, 0, "0 exit status=0 turn=3\n"),
     ("run a.c", 1, 3, "12 fault "),
     ("run b.c", 0, 0, "11 fault read\n"),
-    ("check a.c", 1, 0, "10 words\n"),
-    ("check a.c", 1, 2, "12 wor"),
+    ("check b.c", 0, 0, "11 fault read\n"),
+    ("layout a.c", 1, 0, "11 fault read\n"),
+    ("check a.c", 0, 2, "12 che"),
+    ("settle a.c", 1, 0, "10 words\n"),
+    ("settle a.c", 1, 2, "12 wor"),
 ];
 
 #[test]
@@ -370,5 +384,89 @@ fn a_run_has_a_million_turns(rt: HostRuntime) {
         let source = repeated(&rt, alloc, form.as_str(), times);
         let told = told(&rt, alloc, source.as_bytes(), "run a.c", SOUND);
         expect(&rt, long_rows::STATEMENT, "in a row", told.as_str(), wanted);
+    }
+}
+
+// The words, a source, and all that is told of it.
+type Described = (&'static str, &'static str, &'static str);
+
+// What is told of sources that are not run, by an independent executor of the same rules.
+static DESCRIBED: [Described; 11] = [
+    (
+        "check a.c",
+        "int main(void){return 0;}",
+        "0 checked declarations=1\n",
+    ),
+    ("check a.c", "", "8 refused reason=main\n"),
+    (
+        "check a.c",
+        "int a; int b = c; int main(void){return 0;}",
+        "8 refused reason=constraint index=1\n",
+    ),
+    (
+        "check a.c",
+        "int f(void); int main(void){return f();}",
+        "8 refused reason=unresolved name=f\n",
+    ),
+    (
+        "check a.c",
+        "int main(void) { switch (1) { case 1: case 1: break; } return 0; }",
+        "8 refused reason=constraint index=0\n",
+    ),
+    ("check a.c", "int a[", "8 refused reason=syntax whole=0\n"),
+    ("check a.c", LINKED, "0 checked declarations=4\n"),
+    ("layout a.c", "int main(void){return 0;}", "0 "),
+    (
+        "layout a.c",
+        "struct s { char c; }; int main(void){return s;}",
+        "8 refused reason=constraint index=1\n",
+    ),
+    (
+        "layout a.c",
+        "struct s { char c; long n; short h; }; int main(void){return 0;}",
+        "0 struct s size=24 align=8\n  c offset=0 size=1\n  n offset=8 size=8\n  h offset=16 size=2\n",
+    ),
+    ("layout a.c", TAGS, LAYOUTS),
+];
+
+// A list of two elements, and the sum over it.
+const LINKED: &str = r#"
+int printf(const char *, ...);
+struct s { int n; struct s *next; };
+static int sum(const struct s *p) {
+  int n = 0;
+  for (; p; p = p->next) n += p->n;
+  return n;
+}
+int main(void) {
+  struct s a = {1, 0}, b = {2, &a};
+  printf("%d\n", sum(&b));
+  return 0;
+}
+"#;
+
+// Tags of file scope, one that is never completed, and one of a block.
+const TAGS: &str = r#"
+union u { char c; long n; };
+struct s { union u a[2]; struct { char x; int y; } m; const char *p; } v;
+struct t;
+int main(void) { struct inner { int z; }; return 0; }
+"#;
+
+const LAYOUTS: &str = r#"0 union u size=8 align=8
+  c offset=0 size=1
+  n offset=0 size=8
+struct s size=32 align=8
+  a offset=0 size=16
+  m offset=16 size=8
+  p offset=24 size=8
+"#;
+
+#[test]
+fn sources_are_described(rt: HostRuntime) {
+    for row in &DESCRIBED {
+        let (words, source, wanted) = *row;
+        let told = calmly_told(rt.alloc(), source.as_bytes(), words).expect(&rt, "no memory");
+        assert!(rt; told.as_str() == wanted, "{words} {source:?}: {told:?}");
     }
 }

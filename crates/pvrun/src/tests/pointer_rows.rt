@@ -129,55 +129,55 @@ int x; int main(void){int **p; return 0;}
 => 8 refused reason=unbuilt
 
 int x; int main(void){int *p = &x; return &p;}
-=> 8 refused reason=unbuilt
+=> 8 refused reason=constraint index=1
 
 int x; int main(void){int *p = &x; return **&p;}
 => 8 refused reason=unbuilt
 
 int x; int main(void){int *p = &x; return p;}
-=> 8 refused reason=unbuilt
+=> 8 refused reason=constraint index=1
 
 int x; int main(void){return &x;}
-=> 8 refused reason=unbuilt
+=> 8 refused reason=constraint index=1
 
 int x; int main(void){int *p = 0; return 0;}
 => 8 refused reason=unbuilt
 
 int x; int main(void){int *p = x; return 0;}
-=> 8 refused reason=unbuilt
+=> 8 refused reason=constraint index=1
 
 int x; int main(void){int a = &x; return 0;}
-=> 8 refused reason=unbuilt
+=> 8 refused reason=constraint index=1
 
 int x; int main(void){x = &x; return 0;}
-=> 8 refused reason=unbuilt
+=> 8 refused reason=constraint index=1
 
 int x; int main(void){int *p = &x; p = 1; return 0;}
-=> 8 refused reason=unbuilt
+=> 8 refused reason=constraint index=1
 
 int x; int main(void){int *p = &x; *p = p; return 0;}
-=> 8 refused reason=unbuilt
+=> 8 refused reason=constraint index=1
 
 int x; int main(void){int *p = &x, *q = p + p; return 0;}
-=> 8 refused reason=unbuilt
+=> 8 refused reason=constraint index=1
 
 int x; int main(void){return *x;}
-=> 8 refused reason=unbuilt
+=> 8 refused reason=constraint index=1
 
 int main(void){return &1;}
-=> 8 refused reason=unbuilt
+=> 8 refused reason=constraint index=0
 
 int main(void){return *1;}
-=> 8 refused reason=unbuilt
+=> 8 refused reason=constraint index=0
 
 int main(void){return *&1;}
-=> 8 refused reason=unbuilt
+=> 8 refused reason=constraint index=0
 
 int main(void){1 = 1; return 0;}
-=> 8 refused reason=unbuilt
+=> 8 refused reason=constraint index=0
 
 int x; int main(void){&x = 1; return 0;}
-=> 8 refused reason=unbuilt
+=> 8 refused reason=constraint index=1
 
 int x; int main(void){x + 1 = 1; return 0;}
 => 8 refused reason=syntax whole=1

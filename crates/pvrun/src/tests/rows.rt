@@ -52,7 +52,7 @@ int main(void) {
 
 => 1 undefined clause=6.5p5 reason=overflow line=40 turn=5
 
-=> 8 refused reason=unbuilt
+=> 8 refused reason=main
 "#;
 
 /// Bounds that are just enough or one turn too few, and words that are no bound.
@@ -181,7 +181,7 @@ int main(void){return 'a';}
 => 8 refused reason=unbuilt
 
 int main(void){return "a";}
-=> 8 refused reason=unbuilt
+=> 8 refused reason=constraint index=0
 
 int main(void){return -1;}
 => 8 refused reason=unbuilt
@@ -193,7 +193,7 @@ int main(void){return 0}
 => 8 refused reason=syntax whole=0
 
 int main(void){return;}
-=> 8 refused reason=unbuilt
+=> 8 refused reason=constraint index=0
 
 int main(void){return 1; return 2;}
 => 0 exit status=1 turn=3
@@ -217,7 +217,7 @@ int x = 1 + 1; int main(void){return x;}
 => 8 refused reason=unbuilt
 
 int x = 1; int y = x; int main(void){return y;}
-=> 8 refused reason=unbuilt
+=> 8 refused reason=constraint index=1
 
 int x; int main(void){return x;}
 => 0 exit status=0 turn=3
@@ -232,13 +232,13 @@ int x, x; int main(void){return 0;}
 => 8 refused reason=unbuilt
 
 int main(void){int a; int a; return 0;}
-=> 8 refused reason=unbuilt
+=> 8 refused reason=constraint index=0
 
 int main(void){int a = 1, a = 2; return a;}
-=> 8 refused reason=unbuilt
+=> 8 refused reason=constraint index=0
 
 int main(void){int a = 1, *a; return 0;}
-=> 8 refused reason=unbuilt
+=> 8 refused reason=constraint index=0
 
 int x = 1; int main(void){int x = 5; return x;}
 => 0 exit status=5 turn=5
@@ -259,7 +259,7 @@ int x = 1; int main(void){int *x; return 0;}
 => 0 exit status=0 turn=3
 
 int x = 1; int main(void){int *x; return x;}
-=> 8 refused reason=unbuilt
+=> 8 refused reason=constraint index=1
 
 int x = 1, y = 2; int main(void){int *x = &y; return *x;}
 => 0 exit status=2 turn=7
@@ -268,13 +268,13 @@ int main(void){int a = 2, b = a + 3, c = a + b; return c;}
 => 0 exit status=7 turn=13
 
 int main(void){int a = b, b = 1; return a;}
-=> 8 refused reason=unbuilt
+=> 8 refused reason=constraint index=0
 
 int main(void){a = 1; return 0;}
-=> 8 refused reason=unbuilt
+=> 8 refused reason=constraint index=0
 
 int main(void){return a;}
-=> 8 refused reason=unbuilt
+=> 8 refused reason=constraint index=0
 
 int main(void){return 0; int a;}
 => 8 refused reason=unbuilt
@@ -283,22 +283,22 @@ int main(void){return 0;} int x;
 => 8 refused reason=unbuilt
 
 int main(void){return 0;} int main(void){return 0;}
-=> 8 refused reason=unbuilt
+=> 8 refused reason=constraint index=1
 
 int main; int main(void){return 0;}
-=> 8 refused reason=unbuilt
+=> 8 refused reason=constraint index=0
 
 int main = 1; int main(void){return 0;}
-=> 8 refused reason=unbuilt
+=> 8 refused reason=constraint index=0
 
 int x, main; int main(void){return 0;}
-=> 8 refused reason=unbuilt
+=> 8 refused reason=constraint index=0
 
 int main(void){int main; return 0;}
 => 8 refused reason=unbuilt
 
 int main(void){return main;}
-=> 8 refused reason=unbuilt
+=> 8 refused reason=constraint index=0
 
 int while; int main(void){return 0;}
 => 8 refused reason=syntax whole=0
@@ -313,7 +313,7 @@ int main(void){int inline = 1; return inline;}
 => 8 refused reason=profile at=19 word=inline
 
 int _Bool; int main(void){return 0;}
-=> 8 refused reason=unbuilt
+=> 8 refused reason=constraint index=0
 
 int mains = 3, main_ = 4, Int = 5; int main(void){return mains + main_ + Int;}
 => 0 exit status=12 turn=7
@@ -325,13 +325,13 @@ int main(){return 0;}
 => 8 refused reason=unbuilt
 
 void main(void){return 0;}
-=> 8 refused reason=unbuilt
+=> 8 refused reason=constraint index=0
 
 int f(void){return 0;}
-=> 8 refused reason=unbuilt
+=> 8 refused reason=main
 
 int x;
-=> 8 refused reason=unbuilt
+=> 8 refused reason=main
 
 int *x; int main(void){return 0;}
 => 8 refused reason=unbuilt
