@@ -6,9 +6,9 @@ use Rattle.std.proofs.lemmas.Bool.Decides.{nat_tests}
 use Rattle.pv_types.specs.Known.{Known}
 use Rattle.pv_typed.specs.Tables.{Stored}
 use Rattle.pv_check.specs.declared.scopes.Entry.{Entry}
-use Rattle.pv_check.specs.Raw.{Raw, RawScope, raw_innermost, meaning_in, name_shown, tag_shown, scope_shown}
+use Rattle.pv_check.specs.Raw.{Raw, raw_innermost, meaning_in, name_shown, tag_shown}
 use Rattle.pv_check.specs.Open.{state_of, EntryKnown, NameKnown, IsOpen}
-use Rattle.pv_check.specs.State.{State, Scope, innermost}
+use Rattle.pv_check.specs.State.{State, Scope}
 use Rattle.pv_check.proofs.Opening.{inner_known}
 use Rattle.pv_check.proofs.Showing.{innermost_shown}
 use Rattle.pv_typed.specs.Children.{Each}

@@ -1,5 +1,5 @@
 -- The tables and the scopes before the first declaration of a unit.
-use Rattle.std.proofs.Common.{◌≡◌, ℕ, ◌+◌, ◌<◌, ◌≤◌, ◌^◌, nat_eq, Bool, true, false, List, [], ◌∷◌, ◌++◌, Some, length, take, IsTrue, refl, sym, ◌∙◌, ap, subst, arith}
+use Rattle.std.proofs.Common.{◌≡◌, ℕ, ◌+◌, ◌≤◌, nat_eq, Bool, true, false, List, [], ◌∷◌, ◌++◌, Some, length, take, IsTrue, refl, sym, ◌∙◌, ap, subst, arith}
 use Rattle.std.specs.Prelude.{if◌then◌else◌}
 use Rattle.std.specs.Cmp.Lexicographic.{pointwise}
 use Rattle.std.specs.List.{list_any, slice_get}
@@ -7,7 +7,7 @@ use Rattle.std.proofs.lemmas.List.{take_all, take_more}
 use Rattle.std.proofs.lemmas.Option.{get_or_from_slice_get, slice_get_within}
 use Rattle.pv_script.specs.Names.{with_text}
 use Rattle.pv_token.specs.Table.{Table}
-use Rattle.pv_types.specs.Known.{Known, env}
+use Rattle.pv_types.specs.Known.{env}
 use Rattle.pv_types.specs.Layouts.{layouts_of}
 use Rattle.pv_types.specs.Ty.{StructTag}
 use Rattle.pv_typed.specs.Formed.{AreKnown, Grown}
@@ -18,7 +18,6 @@ use Rattle.pv_check.specs.Growing.{AreSized, is_sized}
 use Rattle.pv_check.specs.Open.{state_of, IsOpen}
 use Rattle.pv_check.specs.Raw.{Raw}
 use Rattle.pv_unit.specs.declared.entities.Outer.{Outer}
-use Rattle.pv_unit.specs.Entities.{UnitState}
 use Rattle.pv_unit.specs.Outside.{unit_state}
 use Rattle.pv_unit.specs.Starting.{IsFirst, first_raw, with_name_behind}
 use Rattle.pv_unit.specs.Units.{first}

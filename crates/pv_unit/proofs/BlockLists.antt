@@ -1,5 +1,5 @@
 -- The declarators of a declaration in a block, one after the other.
-use Rattle.std.proofs.Common.{◌≡◌, ℕ, suc, ◌+◌, ◌<◌, ◌≤◌, Bool, true, false, List, [], ◌∷◌, Option, Some, None, length, take, drop, get_or, map, refl, sym, ◌∙◌, ap, arith}
+use Rattle.std.proofs.Common.{◌≡◌, ℕ, suc, ◌+◌, ◌<◌, ◌≤◌, Bool, true, false, List, [], ◌∷◌, None, length, take, drop, get_or, refl, sym, ◌∙◌, ap, arith}
 use Rattle.std.specs.List.{fold}
 use Rattle.pv_tree.specs.declared.nodes.NodeId.{NodeId}
 use Rattle.pv_tree.specs.Syntax.{Tree, Trees, NoTrees, Then, Declaration}
@@ -9,11 +9,11 @@ use Rattle.pv_types.specs.Known.{tree}
 use Rattle.pv_typed.specs.Tables.{Stored}
 use Rattle.pv_check.specs.Raw.{Raw}
 use Rattle.pv_check.specs.Open.{state_of, IsOpen, Goes}
-use Rattle.pv_check.specs.State.{State, After, and_then}
+use Rattle.pv_check.specs.State.{State, and_then}
 use Rattle.pv_check.proofs.Opening.{same_goes, then_goes}
 use Rattle.pv_unit.specs.declared.blocks.Reached.{Reached}
 use Rattle.pv_unit.specs.Blocks.{block_declarators, block_init_declarator, block_declared, block_declaration}
-use Rattle.pv_unit.specs.Reaching.{reached_of, reached_in, reached_if, AreReached}
+use Rattle.pv_unit.specs.Reaching.{reached_in, reached_if, AreReached}
 use Rattle.pv_unit.proofs.Lists.{split_from, take_from, take_all}
 
 blocks_stop : (lasting : Bool) (b : Ty) (f : Forest) (t : Trees) (ns : List NodeId) (s : State) → block_declarators t lasting b s ≡ None → block_declarators (fold (λ z n. Then z (tree_at f n)) t ns) lasting b s ≡ None

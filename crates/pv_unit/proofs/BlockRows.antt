@@ -1,18 +1,17 @@
 -- Objects of blocks: what the code's answers come to.
-use Rattle.std.proofs.Common.{◌≡◌, ℕ, ◌+◌, ◌<◌, ◌≤◌, Bool, true, false, List, [], ◌∷◌, ◌++◌, Option, Some, None, is_some, length, map, set, get_or, refl, sym, ◌∙◌, ap, subst, arith}
+use Rattle.std.proofs.Common.{◌≡◌, ℕ, ◌<◌, ◌≤◌, Bool, true, false, List, [], ◌∷◌, ◌++◌, Option, Some, None, is_some, length, refl, sym, ◌∙◌, ap, arith}
 use Rattle.std.specs.Prelude.{if◌then◌else◌, nat_lt, ◌||◌}
-use Rattle.std.proofs.lemmas.List.{length-map, length-set, get_or-set_same, map_push}
-use Rattle.std.specs.List.{fold}
+use Rattle.std.proofs.lemmas.List.{length-map, length-set, get_or-set_same}
 use Rattle.pv_types.specs.Ty.{Ty}
 use Rattle.pv_types.specs.Layouts.{is_complete_in}
 use Rattle.pv_tree.specs.declared.nodes.NodeId.{NodeId}
-use Rattle.pv_tree.specs.Syntax.{InitializerTree, DeclaratorTree, OptionalTree, Tree, Trees, NoTrees, Then, Declaration}
-use Rattle.pv_tree.specs.Tables.{Forest, tree_at, trees_of}
+use Rattle.pv_tree.specs.Syntax.{DeclaratorTree, OptionalTree, Trees, NoTrees}
+use Rattle.pv_tree.specs.Tables.{Forest, trees_of}
 use Rattle.pv_typed.specs.Tables.{Stored, whole, nodes, object_in}
 use Rattle.pv_typed.specs.TypedUnits.{TypedObject, no_object, object_at}
 use Rattle.pv_types.specs.Known.{Known}
 use Rattle.pv_check.specs.Raw.{Raw, meaning_if}
-use Rattle.pv_check.specs.Open.{state_of, IsOpen, Goes}
+use Rattle.pv_check.specs.Open.{state_of}
 use Rattle.pv_check.specs.Specifiers.{Specified as WhatIsSpecified}
 use Rattle.pv_check.specs.State.{State, After, and_then, give, env, innermost, find}
 use Rattle.pv_check.specs.Sorts.{is_function}
@@ -20,12 +19,11 @@ use Rattle.pv_check.specs.Derivations.{declared_name}
 use Rattle.pv_check.specs.declared.scopes.Entry.{Entry}
 use Rattle.pv_unit.specs.Entities.{new_object}
 use Rattle.pv_unit.specs.Initialized.{Given}
-use Rattle.pv_unit.specs.Blocks.{Reached as WholeReached, reached, is_present, with_initializer, block_object, block_declarator, block_storage, block_alone, block_declared, block_declaration}
+use Rattle.pv_unit.specs.Blocks.{Reached as WholeReached, reached, is_present, with_initializer, block_object, block_declarator, block_storage, block_alone}
 use Rattle.pv_unit.specs.Declarations.{DeclaredType as WholeType, type_declared, specified_by, tags_alone, bound_in, has_list}
 use Rattle.pv_unit.specs.DeclaredIn.{state_on}
-use Rattle.pv_unit.specs.ValueRules.{initialized, with_given}
-use Rattle.pv_unit.specs.declared.blocks.Reached.{Reached}
-use Rattle.pv_unit.specs.Reaching.{reached_of, reached_in, reached_if}
+use Rattle.pv_unit.specs.ValueRules.{with_given}
+use Rattle.pv_unit.specs.Reaching.{reached_if}
 
 -- ---- an object with its initializer
 

@@ -1,10 +1,10 @@
 -- Specifiers and declarators of declarations: what the code's answers come to.
 use Rattle.std.proofs.Common.{◌≡◌, ◌≢◌, ℕ, zero, suc, ◌+◌, ◌<◌, ◌≤◌, Bool, true, false, List, [], ◌∷◌, Option, Some, None, length, take, drop, get_or, refl, sym, ◌∙◌, ap, arith}
-use Rattle.std.specs.Prelude.{◌||◌, nat_lt, is_some}
+use Rattle.std.specs.Prelude.{◌||◌, is_some}
 use Rattle.std.proofs.lemmas.List.{length-map}
 use Rattle.std.specs.List.{fold}
 use Rattle.pv_tree.specs.declared.nodes.NodeId.{NodeId}
-use Rattle.pv_tree.specs.Syntax.{DeclaratorTree, SpecifierTree, Tree, OfExpression, OfDeclaration, OfDeclarator, OfSpecifier, OfInitializer, OfStatement, Trees, NoTrees, Then}
+use Rattle.pv_tree.specs.Syntax.{DeclaratorTree, Tree, OfExpression, OfDeclaration, OfDeclarator, OfSpecifier, OfInitializer, OfStatement, Trees, NoTrees, Then}
 use Rattle.pv_tree.specs.Tables.{Forest, tree_at, trees_of, specifier_at, as_specifier, is_specifier}
 use Rattle.pv_types.specs.declared.terms.TypeId.{TypeId}
 use Rattle.pv_types.specs.Ty.{Ty}
@@ -23,14 +23,14 @@ use Rattle.pv_check.specs.declared.derivations.Step.{Step}
 use Rattle.pv_check.specs.declared.derivations.Step.TheVariants as step
 use Rattle.pv_check.specs.State as state
 use Rattle.pv_check.specs.State.{State, After, Scope, Meaning, TagMeaning, and_then, give, innermost}
-use Rattle.pv_check.specs.Raw.{Raw, RawScope, raw_innermost, name_shown, tag_shown, scope_shown, scopes_shown}
+use Rattle.pv_check.specs.Raw.{Raw, raw_innermost, name_shown, tag_shown, scope_shown}
 use Rattle.pv_check.specs.Typing.{specifiers, steps}
 use Rattle.pv_check.specs.Open.{state_of, after_type, IsOpen, Goes}
 use Rattle.pv_check.proofs.Opening.{state_stays}
 use Rattle.pv_check.proofs.Showing.{innermost_shown}
 use Rattle.pv_unit.specs.declared.declarators.DeclaredType.{DeclaredType}
 use Rattle.pv_unit.specs.Declarations.{DeclaredType as WholeType, with_unsized, is_unsized, has_unsized, type_declared, specified_by, is_listed, has_list, only_tag, bound_in}
-use Rattle.pv_unit.specs.DeclaredIn.{specified_in, after_specified, type_in, after_declared, state_on}
+use Rattle.pv_unit.specs.DeclaredIn.{after_specified, after_declared, state_on}
 use Rattle.pv_unit.proofs.Lists.{split_from, take_from, take_all}
 
 -- ---- specifiers

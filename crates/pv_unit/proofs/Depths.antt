@@ -1,16 +1,15 @@
 -- Typing declarations leaves as many scopes as there were.
-use Rattle.std.proofs.Common.{◌≡◌, ℕ, ◌-◌, ◌+◌, ◌<◌, Bool, true, false, Option, Some, None, is_some, List, [], ◌∷◌, ◌++◌, length, set, refl, sym, ap, arith, ◌∙◌, length-set, IfSome}
-use Rattle.std.specs.Prelude.{if◌then◌else◌, option_map, option_and_then}
-use Rattle.std.proofs.lemmas.List.{length-map}
+use Rattle.std.proofs.Common.{◌≡◌, ℕ, ◌-◌, Bool, true, false, Option, Some, None, is_some, List, [], ◌++◌, length, refl, ◌∙◌, length-set}
+use Rattle.std.specs.Prelude.{if◌then◌else◌}
 use Rattle.pv_token.specs.declared.words.Word.{Word}
 use Rattle.pv_token.specs.declared.words.Word.TheVariants as word
 use Rattle.pv_types.specs.Ty.{Ty}
 use Rattle.std.specs.Bool.{beq}
 use Rattle.pv_types.specs.Layouts.{is_complete_in, tag_type}
-use Rattle.pv_tree.specs.Syntax.{ExpressionTree, DeclarationTree, Function as FunctionTree, Declaration, InitDeclarator, MemberDeclaration, Enumerator, Parameter, TypeName, DeclaratorTree, InitializerTree, Initial, Braces, Tree, OfExpression, OfDeclaration, OfDeclarator, OfSpecifier, OfInitializer, OfStatement, Trees, NoTrees, Then, OptionalTree, Absent, Present}
+use Rattle.pv_tree.specs.Syntax.{DeclarationTree, Function as FunctionTree, Declaration, InitDeclarator, MemberDeclaration, Enumerator, Parameter, TypeName, DeclaratorTree, Tree, OfExpression, OfDeclaration, OfDeclarator, OfSpecifier, OfInitializer, OfStatement, Trees, NoTrees, Then, OptionalTree, Absent, Present}
 use Rattle.pv_typed.specs.TypedUnits.{object_at}
 use Rattle.pv_check.specs.State.{State, After, env, TagMeaning, CompositeTag, EnumerationTag, OpenEnumeration, and_then, give, find, innermost}
-use Rattle.pv_check.specs.Specifiers.{Seen, Specified, specified}
+use Rattle.pv_check.specs.Specifiers.{Specified, specified}
 use Rattle.pv_check.specs.Derivations.{Steps, declared_name, derived}
 use Rattle.pv_check.specs.Sorts.{is_function}
 use Rattle.pv_check.specs.Tags.{composite_named, tag_alone}

@@ -1,12 +1,11 @@
 -- The objects and functions of file scope: that they are in the tables, and that each is finished.
-use Rattle.std.proofs.Common.{◌≡◌, ℕ, zero, suc, ◌+◌, ◌<◌, ◌≤◌, Bool, true, false, List, [], ◌∷◌, ◌++◌, Option, Some, None, IfSome, length, drop, slice_index_or, get_or, refl, sym, ◌∙◌, ap, arith}
+use Rattle.std.proofs.Common.{◌≡◌, ℕ, zero, suc, ◌+◌, ◌<◌, ◌≤◌, Bool, true, false, List, [], ◌∷◌, ◌++◌, length, drop, slice_index_or, refl, sym, ◌∙◌, ap, arith}
 use Rattle.std.specs.Prelude.{◌&&◌, ◌||◌, if◌then◌else◌}
 use Rattle.pv_typed.specs.Tables.{Stored}
 use Rattle.pv_check.specs.Open.{Goes}
 use Rattle.pv_check.specs.State.{State}
 use Rattle.pv_unit.specs.Definitions.{is_finished, are_finished}
 use Rattle.pv_unit.specs.Entities.{Entity, entity, is_entity, marked}
-use Rattle.pv_unit.specs.Entering.{entity_of, no_entity}
 use Rattle.pv_check.proofs.Opening.{then_goes}
 use Rattle.pv_unit.specs.DeclaredIn.{GoesOn}
 use Rattle.pv_unit.specs.There.{HasNumber, IsThere, AreThere, ThereOn}

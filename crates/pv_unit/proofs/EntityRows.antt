@@ -13,14 +13,14 @@ use Rattle.pv_check.specs.Raw.{Raw}
 use Rattle.pv_types.specs.Known.{tree}
 use Rattle.pv_check.specs.Sorts.{is_function}
 use Rattle.pv_check.specs.Texts.{is_main}
-use Rattle.pv_check.specs.Open.{state_of, after_nothing, IsOpen, Goes}
+use Rattle.pv_check.specs.Open.{state_of, IsOpen, Goes}
 use Rattle.pv_check.proofs.Opening.{state_stays}
 use Rattle.pv_unit.specs.Library.{main_type}
-use Rattle.pv_check.specs.State.{State, Meaning, ObjectName, FunctionName, TypedefOf, and_then}
+use Rattle.pv_check.specs.State.{State, ObjectName, FunctionName}
 use Rattle.pv_unit.specs.declared.entities.Outer.{Outer}
-use Rattle.pv_unit.specs.Entities.{Entity, UnitState, unit_name, may_have, function_found, function_declared, entity, marked, new_object, new_function, with_new_object, with_new_function, with_object_type, with_function_type, object_again, function_again}
-use Rattle.pv_unit.specs.Declarations.{typedef_found, typedef_declared, noted, object_noted, is_extern, is_typedef, variable_entity, entity_declared}
-use Rattle.pv_unit.specs.Outside.{unit_state, unit_if, number_if}
+use Rattle.pv_unit.specs.Entities.{Entity, UnitState, unit_name, may_have, function_found, function_declared, entity, new_object, new_function, with_new_object, with_new_function, with_object_type, with_function_type, object_again, function_again}
+use Rattle.pv_unit.specs.Declarations.{typedef_found, typedef_declared, is_typedef, variable_entity, entity_declared}
+use Rattle.pv_unit.specs.Outside.{unit_state}
 use Rattle.pv_tree.specs.Syntax.{OptionalTree}
 
 -- a state with what is known of declarations

@@ -1,11 +1,10 @@
 -- The declarators of a declaration at file scope, one after the other.
-use Rattle.std.proofs.Common.{◌≡◌, ℕ, suc, ◌+◌, ◌<◌, ◌≤◌, true, false, List, [], ◌∷◌, Option, Some, None, length, take, drop, get_or, refl, sym, ◌∙◌, ap, arith}
+use Rattle.std.proofs.Common.{◌≡◌, ℕ, suc, ◌+◌, ◌<◌, ◌≤◌, true, false, List, [], ◌∷◌, None, length, take, drop, get_or, refl, sym, ◌∙◌, ap, arith}
 use Rattle.std.specs.List.{fold}
 use Rattle.pv_tree.specs.declared.nodes.NodeId.{NodeId}
-use Rattle.pv_tree.specs.Syntax.{Tree, Trees, NoTrees, Then}
+use Rattle.pv_tree.specs.Syntax.{Trees, NoTrees, Then}
 use Rattle.pv_tree.specs.Tables.{Forest, tree_at, trees_of}
 use Rattle.pv_types.specs.Ty.{Ty}
-use Rattle.pv_types.specs.Known.{tree}
 use Rattle.pv_typed.specs.Tables.{Stored}
 use Rattle.pv_check.specs.declared.specifiers.Specified.{Specified}
 use Rattle.pv_check.specs.Specifiers.{Specified as WhatIsSpecified}

@@ -1,5 +1,5 @@
 -- Function definitions: the scope of the parameters, what the function gets, and what its body comes to.
-use Rattle.std.proofs.Common.{◌≡◌, ℕ, zero, suc, ◌+◌, ◌<◌, ◌≤◌, Bool, true, false, List, [], ◌∷◌, ◌++◌, Option, Some, None, IfSome, length, map, drop, get_or, refl, sym, ◌∙◌, ap, subst, arith}
+use Rattle.std.proofs.Common.{◌≡◌, ℕ, zero, suc, ◌+◌, ◌<◌, ◌≤◌, true, false, List, [], ◌∷◌, ◌++◌, Option, Some, None, length, map, drop, get_or, refl, sym, ◌∙◌, ap, subst, arith}
 use Rattle.std.specs.Prelude.{is_some}
 use Rattle.std.proofs.lemmas.List.{length_push, map_push}
 use Rattle.pv_tree.specs.declared.nodes.NodeId.{NodeId}
@@ -10,18 +10,17 @@ use Rattle.pv_tree.specs.Tables.{is_declaration, is_external}
 use Rattle.pv_types.specs.Known.{Known, tree}
 use Rattle.pv_typed.specs.declared.entries.Function.{Function as FunctionRow}
 use Rattle.pv_typed.specs.Adding.{with_function_at, with_param}
-use Rattle.pv_typed.specs.Children.{Each}
 use Rattle.pv_typed.specs.Headed.{list_of}
 use Rattle.pv_typed.specs.Tables.{Stored, whole, nodes, function_in, statement_at}
 use Rattle.pv_typed.specs.TypedStatement.{TypedStatement}
 use Rattle.pv_typed.specs.TypedUnits.{TypedFunction, WholeUnit, function_at}
-use Rattle.pv_typed.proofs.Each.{each_append, each_at}
+use Rattle.pv_typed.proofs.Each.{each_append}
 use Rattle.pv_check.specs.declared.parameters.Parameter.{Parameter as OwnParameter}
 use Rattle.pv_check.specs.declared.parameters.Signature.{Signature}
-use Rattle.pv_check.specs.Declarators.{ParameterKnown, parameters_shown, signature_shown}
+use Rattle.pv_check.specs.Declarators.{parameters_shown, signature_shown}
 use Rattle.pv_check.specs.Raw.{Raw, RawScope, scope_shown, used_of}
 use Rattle.pv_check.specs.Open.{state_of, IsOpen, Goes, ScopeKnown}
-use Rattle.pv_check.specs.State.{State, Scope, After, and_then, left}
+use Rattle.pv_check.specs.State.{State, Scope, After, and_then}
 use Rattle.pv_unit.specs.declared.entities.Outer.{Outer}
 use Rattle.pv_unit.specs.declared.heads.Defined.{Defined}
 use Rattle.pv_unit.specs.Bodies.{head_made, is_block, is_definition, left_items}

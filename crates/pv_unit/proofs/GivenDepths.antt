@@ -1,7 +1,7 @@
 -- Typing an initializer leaves as many scopes as there were.
-use Rattle.std.proofs.Common.{◌≡◌, ℕ, ◌+◌, Bool, true, false, Option, Some, None, List, [], ◌∷◌, length, refl, sym, ap, ◌∙◌}
+use Rattle.std.proofs.Common.{◌≡◌, ℕ, Bool, true, false, Option, Some, None, length, refl, sym, ap, ◌∙◌}
 use Rattle.std.specs.Prelude.{if◌then◌else◌, option_map, option_and_then}
-use Rattle.pv_tree.specs.Syntax.{ExpressionTree, InitializerTree, Initial, Braces, Tree, OfExpression, OfDeclaration, OfDeclarator, OfSpecifier, OfInitializer, OfStatement, Trees, NoTrees, Then}
+use Rattle.pv_tree.specs.Syntax.{ExpressionTree, InitializerTree, Initial, Braces, OfExpression, OfDeclaration, OfDeclarator, OfSpecifier, OfInitializer, OfStatement, Trees, NoTrees, Then}
 use Rattle.pv_tree.specs.Lines.{expression_line}
 use Rattle.pv_types.specs.Ty.{Ty}
 use Rattle.pv_types.specs.Layouts.{Part, layouts_of}
@@ -11,14 +11,13 @@ use Rattle.pv_check.specs.State.{State}
 use Rattle.pv_check.specs.State as check
 use Rattle.pv_check.specs.Rows.{operand}
 use Rattle.pv_check.specs.Typing.{types}
-use Rattle.pv_check.specs.Primary.{bytes_of_text}
 use Rattle.pv_check.proofs.Leaving.{Leaves}
-use Rattle.pv_unit.specs.Rules.{Rules, After, StringLiteral}
+use Rattle.pv_unit.specs.Rules.{Rules, After}
 use Rattle.pv_unit.specs.Parts.{part_at, can_be_initialized}
-use Rattle.pv_unit.specs.Initializers.{Stores, Shape, Fill, Single, Zero, Each, Wrong, shape_of, formed, filled_with, filled_type, characters, single, valued, as_constant, allowed, unqualified, zero, zero_leaf, nothing, joined}
+use Rattle.pv_unit.specs.Initializers.{Stores, Shape, Fill, Single, Zero, Each, Wrong, shape_of, formed, filled_type, characters, single, valued, as_constant, allowed, unqualified, zero_leaf, joined}
 use Rattle.pv_unit.specs.Initialized as init
 use Rattle.pv_unit.specs.Initialized.{Given, each_initialized, initialized_object, given, is_braced, whole}
-use Rattle.pv_unit.specs.ValueRules.{values, lifted, lowered, initialized, filling_text}
+use Rattle.pv_unit.specs.ValueRules.{values, lifted, lowered, initialized}
 use Rattle.pv_unit.proofs.Values.{value_leaves}
 
 -- where there is an answer, there are n scopes behind it

@@ -5,7 +5,7 @@ use Rattle.std.proofs.Math.Seq.{drop-cons}
 use Rattle.std.proofs.lemmas.List.{drop_all, get_or-set_same, length-map, set-get_or, set-set}
 use Rattle.pv_tree.specs.Syntax.{InitializerTree}
 use Rattle.pv_types.specs.Known.{Known, completions, env, tree}
-use Rattle.pv_types.specs.Layouts.{Entry, Part, Completed, is_complete_in, layouts_of}
+use Rattle.pv_types.specs.Layouts.{Completed, layouts_of}
 use Rattle.pv_types.specs.Ty.{Ty, VoidTy, IntTy, PointerTo, ArrayOf, StructTag, UnionTag, FunctionTy, ConstOf}
 use Rattle.pv_typed.specs.declared.entries.Init.{Init}
 use Rattle.pv_typed.specs.declared.entries.Object.{Object}
@@ -17,7 +17,7 @@ use Rattle.pv_typed.specs.TypedUnits.{Store, TypedObject, WholeUnit, no_object, 
 use Rattle.pv_typed.proofs.Each.{each_at}
 use Rattle.pv_check.specs.Kept.{Kept}
 use Rattle.pv_check.specs.Open.{state_of, IsOpen, Goes}
-use Rattle.pv_check.specs.Raw.{Raw, used_of}
+use Rattle.pv_check.specs.Raw.{Raw}
 use Rattle.pv_check.specs.State.{Scope, State, and_then}
 use Rattle.pv_check.specs.State as check
 use Rattle.pv_check.proofs.ArmLaws.{goes_kept}
@@ -28,7 +28,7 @@ use Rattle.pv_unit.specs.Giving.{given_if, given_in, with_stores}
 use Rattle.pv_unit.specs.Initializers.{Stores}
 use Rattle.pv_unit.specs.Initialized.{Given, given, initialized, initialized_object, is_braced, whole}
 use Rattle.pv_unit.specs.Parts.{can_be_initialized, sized}
-use Rattle.pv_unit.specs.Rules.{Rules, After}
+use Rattle.pv_unit.specs.Rules.{After}
 use Rattle.pv_unit.specs.Stores.{AreStores, Fills, IsStore, behind, stores_if, stores_in}
 use Rattle.pv_unit.specs.ValueRules.{lowered, values, with_given}
 use Rattle.pv_unit.specs.ValueRules as object_rules

@@ -1,7 +1,7 @@
 -- Stores that are kept while the tables grow.
-use Rattle.std.proofs.Common.{◌≡◌, ℕ, ◌<◌, ◌≤◌, Bool, true, false, List, [], ◌∷◌, ◌++◌, Some, None, length, map, if◌then◌else◌, refl, sym, ◌∙◌, ap, subst, arith}
+use Rattle.std.proofs.Common.{◌≡◌, ℕ, ◌<◌, ◌≤◌, true, List, [], ◌∷◌, ◌++◌, length, refl, ◌∙◌, ap, arith}
 use Rattle.std.proofs.lemmas.List.{map_push}
-use Rattle.pv_types.specs.Known.{tree, env}
+use Rattle.pv_types.specs.Known.{tree}
 use Rattle.pv_types.specs.Layouts.{Entry, layout_in, is_complete_in}
 use Rattle.pv_types.specs.Ty.{Ty}
 use Rattle.pv_types.proofs.LayoutLaws.{layout-append, complete-append}
@@ -9,7 +9,7 @@ use Rattle.pv_typed.specs.declared.entries.Init.{Init}
 use Rattle.pv_typed.specs.declared.entries.InitValue.{InitValue}
 use Rattle.pv_typed.specs.declared.entries.InitValue.TheVariants as value
 use Rattle.pv_typed.specs.declared.rows.Row.{Row}
-use Rattle.pv_typed.specs.Children.{Each, is_expression}
+use Rattle.pv_typed.specs.Children.{is_expression}
 use Rattle.pv_typed.specs.Formed.{HasValue}
 use Rattle.pv_typed.specs.Tables.{Stored, nodes, value_in, store_in}
 use Rattle.pv_typed.specs.TypedUnits.{Store, StoredValue, ValueOf}

@@ -1,5 +1,5 @@
 -- Heads of function definitions: what the code's answers come to.
-use Rattle.std.proofs.Common.{◌≡◌, ℕ, zero, suc, ◌+◌, ◌<◌, Bool, true, false, List, [], ◌∷◌, Option, Some, None, length, map, drop, get_or, refl, sym, ◌∙◌, ap, arith}
+use Rattle.std.proofs.Common.{◌≡◌, ℕ, zero, suc, ◌+◌, ◌<◌, Bool, true, false, List, [], ◌∷◌, Option, Some, None, length, drop, get_or, refl, sym, ◌∙◌, ap, arith}
 use Rattle.std.specs.Prelude.{◌&&◌, if◌then◌else◌}
 use Rattle.pv_types.specs.Ty.{Ty, Tys, FunctionTy}
 use Rattle.pv_types.specs.Known.{Known, tree, env}
@@ -10,15 +10,13 @@ use Rattle.pv_check.specs.declared.parameters.Parameter.{Parameter}
 use Rattle.pv_check.specs.declared.parameters.Signature.{Signature as OwnSignature}
 use Rattle.pv_check.specs.Declarators.{parameter_shown, parameters_shown, signature_shown, signature_if, ParameterKnown as KnownParameter}
 use Rattle.pv_check.specs.Derivations.{Derivation, Signature, Steps, derived}
-use Rattle.pv_check.specs.Growing.{type_if}
 use Rattle.pv_check.specs.Open.{state_of, IsOpen, Goes}
 use Rattle.pv_check.specs.Raw.{Raw}
 use Rattle.pv_check.specs.State.{State, After, and_then}
 use Rattle.pv_unit.specs.declared.entities.Outer.{Outer}
 use Rattle.pv_unit.specs.Definitions.{Head, is_definable, may_define, may_be_defined, defined_once, head_of, head_derived, head_signed}
 use Rattle.pv_unit.specs.Entities.{UnitState, function_declared}
-use Rattle.pv_unit.specs.declared.heads.Defined.{Defined}
-use Rattle.pv_unit.specs.Heads.{ParametersKnown, head_if}
+use Rattle.pv_unit.specs.Heads.{ParametersKnown}
 use Rattle.pv_unit.specs.Outside.{unit_state}
 use Rattle.pv_unit.proofs.EntityRows.{unit_stays}
 

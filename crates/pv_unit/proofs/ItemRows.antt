@@ -1,14 +1,14 @@
 -- Items of blocks: what the code's answers come to.
-use Rattle.std.proofs.Common.{◌≡◌, ℕ, suc, ◌+◌, ◌<◌, ◌≤◌, Bool, true, false, List, [], ◌∷◌, ◌++◌, map, Option, Some, None, length, take, get_or, refl, sym, ◌∙◌, ap, arith}
+use Rattle.std.proofs.Common.{◌≡◌, ℕ, ◌+◌, ◌<◌, ◌≤◌, true, false, List, [], ◌∷◌, ◌++◌, map, Option, Some, None, length, take, get_or, refl, sym, ◌∙◌, ap}
 use Rattle.std.proofs.lemmas.List.{take_all}
 use Rattle.pv_tree.specs.declared.nodes.NodeId.{NodeId}
-use Rattle.pv_tree.specs.Syntax.{DeclarationTree, Tree, OfExpression, OfDeclaration, OfDeclarator, OfSpecifier, OfInitializer, OfStatement, Trees, NoTrees, Then}
+use Rattle.pv_tree.specs.Syntax.{DeclarationTree, Tree, OfExpression, OfDeclaration, OfDeclarator, OfSpecifier, OfInitializer, OfStatement}
 use Rattle.pv_tree.specs.Tables.{Forest, tree_at, trees_of, as_statement, as_declaration, is_item, is_declaration}
 use Rattle.pv_typed.specs.TypedStatement.{TypedStatement}
 use Rattle.pv_typed.specs.Tables.{Stored, statement_at, IsStatement}
 use Rattle.pv_check.specs.Raw.{Raw, scopes_shown}
 use Rattle.pv_check.specs.Open.{state_of, IsOpen, Goes}
-use Rattle.pv_check.specs.State.{State, After, and_then, give}
+use Rattle.pv_check.specs.State.{State, After, and_then}
 use Rattle.pv_check.proofs.ListRows.{one_more, none_at}
 use Rattle.pv_unit.specs.declared.blocks.Reached.{Reached}
 use Rattle.pv_unit.specs.declared.plain.Place.{Place}
@@ -16,7 +16,7 @@ use Rattle.pv_unit.specs.Blocks.{Reached as WholeReached, block_declaration}
 use Rattle.pv_unit.specs.Reaching.{reached_of, reached_in}
 use Rattle.pv_unit.specs.Statements.{Around, reached}
 use Rattle.pv_unit.specs.TypedStatements.{typed_statement, typed_items, typed_item, with_reached, with_statement}
-use Rattle.pv_unit.specs.Stated.{around_in, stated, statements_in, items_in, items_if, AreStatements, Moves}
+use Rattle.pv_unit.specs.Stated.{around_in, stated, statements_in, items_in, AreStatements, Moves}
 use Rattle.pv_unit.proofs.Depths.{declaration_leaves}
 use Rattle.pv_unit.proofs.Moving.{moves_same, moves_on, around_same, are_append, statements_stay, statements_same, statements_append, step_on, step_none}
 use Rattle.pv_unit.proofs.Values.{deep_shown}

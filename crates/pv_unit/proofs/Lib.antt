@@ -26,10 +26,10 @@ pub mod Leaves
 pub mod ListedTypes
 pub mod Lists
 pub mod MainRows
-pub mod Marks
 pub mod Members
 pub mod Moving
 pub mod Naming
+pub mod PlaceRows
 pub mod PlainRows
 pub mod Resolutions
 pub mod ScopedRows

@@ -2,7 +2,7 @@
 use Rattle.std.proofs.Common.{◌≡◌, ℕ, ◌+◌, ◌<◌, ◌≤◌, List, [], ◌∷◌, ◌++◌, length, map, take, get_or, refl, sym, ◌∙◌, ap, arith}
 use Rattle.std.proofs.lemmas.List.{map_push, take_all, take_more}
 use Rattle.pv_types.specs.declared.terms.TypeId.{TypeId}
-use Rattle.pv_types.specs.Ty.{Ty, VoidTy, Tys, MoreTys}
+use Rattle.pv_types.specs.Ty.{Ty, VoidTy, MoreTys}
 use Rattle.pv_types.specs.Known.{AllBelow, Known, tree, trees, tys_in}
 use Rattle.pv_check.specs.Growing.{Grows}
 use Rattle.pv_check.proofs.Growth.{same_grows, then_grows}

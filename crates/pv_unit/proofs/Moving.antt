@@ -1,20 +1,19 @@
 -- Typing statements: what is in the tables stays there, and stands for the same.
-use Rattle.std.proofs.Common.{◌≡◌, ℕ, ◌<◌, ◌≤◌, Bool, false, List, [], ◌∷◌, ◌++◌, Option, Some, None, map, length, refl, sym, ◌∙◌, ap, arith}
+use Rattle.std.proofs.Common.{◌≡◌, ℕ, ◌<◌, ◌≤◌, Bool, false, List, [], ◌∷◌, ◌++◌, Option, Some, None, length, refl, ◌∙◌, ap, arith}
 use Rattle.pv_tree.specs.declared.nodes.NodeId.{NodeId}
 use Rattle.pv_tree.specs.Syntax.{Tree}
 use Rattle.pv_tree.specs.Tables.{Forest, Has}
 use Rattle.pv_typed.specs.declared.rows.Row.{Row}
 use Rattle.pv_types.specs.Ty.{Ty}
-use Rattle.pv_types.specs.Known.{tree}
-use Rattle.pv_typed.specs.Children.{Each, is_expression, row_at}
+use Rattle.pv_typed.specs.Children.{is_expression}
 use Rattle.pv_typed.specs.Tables.{Stored, expression_at, statement_at, IsExpression, IsStatement}
 use Rattle.pv_typed.specs.TypedStatement.{TypedStatement}
 use Rattle.pv_check.specs.Raw.{Raw}
-use Rattle.pv_check.specs.State.{State, After, and_then, give}
+use Rattle.pv_check.specs.State.{State, and_then, give}
 use Rattle.pv_check.specs.Open.{state_of, IsOpen, Goes}
 use Rattle.pv_check.proofs.Opening.{open_goes, same_goes, then_goes}
 use Rattle.pv_unit.specs.declared.plain.Place.{Place}
-use Rattle.pv_unit.specs.Stated.{around_in, optional_in, statements_in, stated, items_if, IsOptional, AreStatements, Moves, MovesOn}
+use Rattle.pv_unit.specs.Stated.{around_in, optional_in, statements_in, stated, IsOptional, AreStatements, Moves}
 
 -- a node below another one is there
 pub within : (f : Forest) (kind : Tree → Bool) (n k : ℕ) (x : NodeId) → n < k → Has f n kind x → Has f k kind x

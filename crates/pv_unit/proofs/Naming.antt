@@ -1,18 +1,18 @@
 -- A name more in the innermost scope, and an object or a function more or changed in the tables.
-use Rattle.std.proofs.Common.{◌≡◌, ℕ, ◌+◌, ◌-◌, ◌<◌, nat_eq, cond, Bool, true, false, List, [], ◌∷◌, ◌++◌, Option, Some, None, IfSome, length, map, refl, sym, ◌∙◌, ap, subst, arith}
+use Rattle.std.proofs.Common.{◌≡◌, ℕ, ◌+◌, ◌-◌, ◌<◌, nat_eq, cond, Bool, true, false, List, [], ◌∷◌, Some, None, IfSome, length, map, sym, ◌∙◌, ap, subst, arith}
 use Rattle.std.proofs.lemmas.List.{length-map}
 use Rattle.pv_types.specs.Ty.{Ty}
-use Rattle.pv_types.specs.Known.{Known, tree}
+use Rattle.pv_types.specs.Known.{tree}
 use Rattle.pv_typed.specs.declared.entries.Object.{Object}
 use Rattle.pv_typed.specs.declared.entries.Function.{Function}
 use Rattle.pv_typed.specs.Headed.{list_of}
 use Rattle.pv_typed.specs.Tables.{Stored, whole, nodes, object_in, function_in}
-use Rattle.pv_typed.specs.TypedUnits.{WholeUnit, TypedObject, TypedFunction, object_at, function_at}
+use Rattle.pv_typed.specs.TypedUnits.{TypedObject, TypedFunction, object_at, function_at}
 use Rattle.pv_typed.specs.Adding.{with_object, with_object_at, with_function, with_function_at}
 use Rattle.pv_check.specs.declared.scopes.Entry.{Entry}
 use Rattle.pv_check.specs.declared.scopes.Entry.TheVariants as entry
-use Rattle.pv_check.specs.State.{State, Scope, Meaning, find, bound, innermost, with_innermost, bind}
-use Rattle.pv_check.specs.Raw.{Raw, no_raw, with_name, raw_innermost, scopes_shown, meaning_in, meaning_if, used_of}
+use Rattle.pv_check.specs.State.{find, bound, innermost, with_innermost, bind}
+use Rattle.pv_check.specs.Raw.{Raw, no_raw, with_name, raw_innermost, meaning_in, used_of}
 use Rattle.pv_check.specs.Open.{state_of, EntryKnown, ScopeKnown, IsOpen, Goes}
 use Rattle.pv_typed.specs.Children.{Each}
 use Rattle.pv_typed.proofs.Each.{each_at}

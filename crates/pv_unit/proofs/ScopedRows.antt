@@ -1,20 +1,19 @@
 -- Statements that have a scope, within it: what the code's answers come to.
-use Rattle.std.proofs.Common.{◌≡◌, ℕ, ◌+◌, ◌<◌, arith, Bool, true, false, List, [], ◌∷◌, Option, Some, None, length, refl, sym, ◌∙◌, ap}
-use Rattle.std.specs.Prelude.{if◌then◌else◌}
+use Rattle.std.proofs.Common.{◌≡◌, ℕ, ◌+◌, ◌<◌, arith, true, false, List, Option, Some, None, length, refl, ◌∙◌, ap}
 use Rattle.pv_num.specs.declared.kinds.IntKind.{IntKind}
 use Rattle.pv_tree.specs.declared.nodes.NodeId.{NodeId}
-use Rattle.pv_tree.specs.Syntax.{ExpressionTree, StatementTree, Block, ExpressionStatement, If, IfElse, While, DoWhile, For, ForDeclaration, Switch, SwitchBlock, Labelled, Case, Default, Break, Continue, Return, Trees, OptionalTree}
+use Rattle.pv_tree.specs.Syntax.{ExpressionTree, StatementTree, Block, ExpressionStatement, If, IfElse, While, DoWhile, For, ForDeclaration, Switch, SwitchBlock, Labelled, Case, Default, Break, Continue, Return, OptionalTree}
 use Rattle.pv_typed.specs.TypedTree.{TypedTree}
 use Rattle.pv_typed.specs.TypedStatement.{TypedStatement, statements_of}
 use Rattle.pv_typed.specs.TypedStatement as typed
 use Rattle.pv_typed.specs.Tables.{Stored, expression_at, statement_at, IsExpression}
 use Rattle.pv_check.specs.Raw.{Raw}
 use Rattle.pv_check.specs.Open.{state_of, IsOpen, Goes}
-use Rattle.pv_check.specs.State.{State, After, and_then, give, entered, left}
+use Rattle.pv_check.specs.State.{State, After, and_then, entered, left}
 use Rattle.pv_check.proofs.Opening.{then_goes}
 use Rattle.pv_unit.specs.declared.plain.Place.{Place}
 use Rattle.pv_unit.specs.declared.rows.Controlling.{Controlling}
-use Rattle.pv_unit.specs.Statements.{Around, in_loop, leaving, valued, condition, optional, Switched, switched, declared_in, block_of}
+use Rattle.pv_unit.specs.Statements.{Around, in_loop, leaving, valued, condition, optional, switched, declared_in, block_of}
 use Rattle.pv_unit.specs.TypedStatements.{if_made, else_made, while_made, do_made, for_made, round_made, switch_made, block_made, typed_statement, switch_block}
 use Rattle.pv_unit.specs.Scoped.{switch_body, inner, if_behind, else_last, else_behind, while_behind, do_behind, for_last, for_step, for_behind, round_last, round_step, round_behind, switch_behind, scoped, has_scope}
 use Rattle.pv_unit.specs.Stated.{around_in, stated, statements_in, items_in, optional_in, IsOptional, Moves}

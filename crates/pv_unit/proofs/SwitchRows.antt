@@ -1,15 +1,15 @@
 -- The items of a switch's block, one after the other.
-use Rattle.std.proofs.Common.{◌≡◌, ℕ, ◌+◌, ◌<◌, ◌≤◌, Bool, true, false, List, [], ◌∷◌, ◌++◌, map, Option, Some, None, length, take, drop, get_or, refl, sym, ◌∙◌, ap, arith, length-append}
+use Rattle.std.proofs.Common.{◌≡◌, ℕ, ◌+◌, ◌<◌, ◌≤◌, Bool, true, false, List, [], ◌∷◌, ◌++◌, Option, Some, None, length, take, drop, get_or, refl, sym, ◌∙◌, ap, arith, length-append}
 use Rattle.std.proofs.lemmas.List.{length-map, take_all}
 use Rattle.pv_num.specs.declared.kinds.IntKind.{IntKind}
 use Rattle.pv_tree.specs.declared.nodes.NodeId.{NodeId}
-use Rattle.pv_tree.specs.Syntax.{DeclarationTree, StatementTree, Block, ExpressionStatement, If, IfElse, While, DoWhile, For, ForDeclaration, Switch, SwitchBlock, Labelled, Case, Default, Break, Continue, Return, Tree, OfExpression, OfDeclaration, OfDeclarator, OfSpecifier, OfInitializer, OfStatement, Trees, NoTrees, Then}
+use Rattle.pv_tree.specs.Syntax.{StatementTree, Block, ExpressionStatement, If, IfElse, While, DoWhile, For, ForDeclaration, Switch, SwitchBlock, Labelled, Case, Default, Break, Continue, Return, Tree, OfStatement}
 use Rattle.pv_tree.specs.Tables.{Forest, tree_at, trees_of, as_statement, as_declaration, is_item, is_declaration}
 use Rattle.pv_typed.specs.TypedStatement.{TypedStatement}
-use Rattle.pv_typed.specs.Tables.{Stored, statement_at, IsStatement}
+use Rattle.pv_typed.specs.Tables.{Stored, statement_at}
 use Rattle.pv_check.specs.Raw.{Raw}
 use Rattle.pv_check.specs.Open.{state_of, IsOpen, Goes}
-use Rattle.pv_check.specs.State.{State, After, and_then, give}
+use Rattle.pv_check.specs.State.{State, After, and_then}
 use Rattle.pv_check.proofs.ListRows.{one_more, none_at}
 use Rattle.pv_unit.specs.declared.labels.Label.{Label}
 use Rattle.pv_unit.specs.declared.labels.Labels.{Labels}
@@ -23,7 +23,7 @@ use Rattle.pv_unit.specs.Stated.{around_in, stated, statements_in, items_if, Are
 use Rattle.pv_unit.specs.Switching.{labels_of, labels_if, behind_labels, HasKeys, body_in, body_if, marked_if, is_labelled, is_switch_block}
 use Rattle.pv_unit.proofs.ItemRows.{item_declaration, item_statement}
 use Rattle.pv_unit.proofs.LabelRows.{found, unmapped}
-use Rattle.pv_unit.proofs.Moving.{moves_same, moves_on, around_same, are_append, statements_stay, statements_same, statements_append, step_on, step_none, made_is}
+use Rattle.pv_unit.proofs.Moving.{moves_same, moves_on, around_same, statements_same, statements_append, step_on, step_none, made_is}
 
 -- ---- a statement with labels, or without
 

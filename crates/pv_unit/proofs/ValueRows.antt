@@ -1,5 +1,5 @@
 -- Values within statements: what the code's answers come to.
-use Rattle.std.proofs.Common.{◌≡◌, ℕ, Bool, true, false, List, Option, Some, None, IfSome, refl, sym, ◌∙◌, ap}
+use Rattle.std.proofs.Common.{◌≡◌, ℕ, true, false, List, Option, Some, None, IfSome, sym, ◌∙◌, ap}
 use Rattle.std.specs.Prelude.{if◌then◌else◌}
 use Rattle.pv_num.specs.declared.kinds.IntKind.{IntKind}
 use Rattle.pv_tree.specs.declared.nodes.NodeId.{NodeId}
@@ -15,9 +15,8 @@ use Rattle.pv_check.specs.State.{State, After, and_then, give}
 use Rattle.pv_check.specs.Values.{assigned, promoted_value}
 use Rattle.pv_unit.specs.declared.rows.Controlling.{Controlling}
 use Rattle.pv_unit.specs.Statements.{if_scalar, value_returned, switched_by}
-use Rattle.pv_unit.specs.Stated.{stated_if}
 use Rattle.pv_unit.specs.Switching.{switched_if}
-use Rattle.pv_unit.proofs.Moving.{step_on, made_is}
+use Rattle.pv_unit.proofs.Moving.{step_on}
 
 pub open_there : (m : Stored) (s : Raw) (r : Option NodeId) → OpenIf m s r → IfSome r (IsExpression m)
 open_there m s None h = tt

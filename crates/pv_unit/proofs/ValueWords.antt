@@ -1,7 +1,6 @@
 -- What the rules of expressions say.
 use Rattle.std.proofs.Common.{◌≡◌, ℕ, refl}
 use Rattle.pv_tree.specs.Syntax.{ExpressionTree}
-use Rattle.pv_types.specs.Layouts.{Completed}
 use Rattle.pv_types.specs.Ty.{Ty}
 use Rattle.pv_typed.specs.TypedTree.{TypedTree}
 use Rattle.pv_check.specs.Primary.{bytes_of_text}

@@ -6,7 +6,7 @@ use Rattle.pv_tree.specs.Syntax.{ExpressionTree}
 use Rattle.pv_typed.specs.TypedTree.{TypedTree}
 use Rattle.pv_typed.specs.Tables.{Stored}
 use Rattle.pv_check.specs.Arms.{after_node, OpenIf}
-use Rattle.pv_check.specs.Open.{state_of, IsOpen, Goes}
+use Rattle.pv_check.specs.Open.{state_of, Goes}
 use Rattle.pv_check.specs.Raw.{Raw, scope_shown, scopes_shown}
 use Rattle.pv_check.specs.State.{State, After, and_then, give}
 use Rattle.pv_check.specs.Rows.{operand}

@@ -4,15 +4,14 @@ use Rattle.std.specs.declared.option.Option.{Option}
 use Rattle.pv_token.specs.declared.words.Word.{Word}
 use Rattle.pv_types.specs.Ty.{Ty}
 use Rattle.pv_types.specs.Layouts.{is_complete_in}
-use Rattle.pv_tree.specs.Syntax.{DeclarationTree, Declaration, InitDeclarator, DeclaratorTree, Tag, Tree, OfDeclaration, OfSpecifier, OfInitializer, Trees, NoTrees, Then, OptionalTree, Absent, Present}
+use Rattle.pv_tree.specs.Syntax.{DeclarationTree, Declaration, InitDeclarator, DeclaratorTree, Tree, OfDeclaration, OfInitializer, Trees, NoTrees, Then, OptionalTree, Absent, Present}
 use Rattle.pv_typed.specs.TypedUnits.{object_at}
 use Rattle.pv_check.specs.Sorts.{is_function}
 use Rattle.pv_check.specs.State.{State, After, and_then, give, env, innermost, find}
 use Rattle.pv_check.specs.declared.specifiers.Storage.{Storage}
 use Rattle.pv_check.specs.declared.specifiers.Storage.TheVariants as storage
 use Rattle.pv_check.specs.Tags.{tag_alone}
-use Rattle.pv_check.specs.Derivations.{declared_name, derived}
-use Rattle.pv_check.specs.Typing.{steps}
+use Rattle.pv_check.specs.Derivations.{declared_name}
 use Rattle.pv_unit.specs.Entities.{new_object}
 use Rattle.pv_unit.specs.Declarations.{specified_by, only_tag, tags_alone, type_declared}
 use Rattle.pv_unit.specs.ValueRules.{initialized, with_given}

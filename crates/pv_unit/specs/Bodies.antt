@@ -1,5 +1,5 @@
 -- What the code that types the body of a function has and answers.
-use Rattle.std.specs.Prelude.{◌≡◌, ℕ, Bool, true, false, List, length, Option, Some, None}
+use Rattle.std.specs.Prelude.{◌≡◌, ℕ, Bool, true, false, List, Option, Some, None}
 use Rattle.pv_tree.specs.declared.nodes.NodeId.{NodeId}
 use Rattle.pv_tree.specs.declared.nodes.ListId.{ListId}
 use Rattle.pv_tree.specs.Syntax.{StatementTree, Block, DeclarationTree, Function}

@@ -1,5 +1,5 @@
 -- What the answers of the code that types declarators stand for.
-use Rattle.std.specs.Prelude.{ℕ, ◌<◌, Bool, true, false, List, length, Option, Some, None}
+use Rattle.std.specs.Prelude.{ℕ, Bool, true, false, List, Option, Some, None}
 use Rattle.pv_types.specs.Known.{Known, tree}
 use Rattle.pv_typed.specs.Tables.{Stored}
 use Rattle.pv_check.specs.declared.specifiers.Specified.{Specified}

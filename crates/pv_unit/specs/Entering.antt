@@ -1,8 +1,5 @@
 -- What is kept of the objects and functions of file scope.
-use Rattle.std.specs.Prelude.{ℕ, false, Bool, List, map, Option, Some, None}
-use Rattle.pv_typed.specs.Tables.{Stored}
-use Rattle.pv_check.specs.Raw.{Raw}
-use Rattle.pv_check.specs.Open.{state_of, IsOpen, Goes}
+use Rattle.std.specs.Prelude.{false}
 use Rattle.pv_unit.specs.declared.entities.Entity.{Entity}
 use Rattle.pv_unit.specs.Entities.{Entity as WholeEntity}
 

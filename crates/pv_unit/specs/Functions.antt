@@ -1,6 +1,6 @@
 -- Typing function definitions (C17 6.9.1), and external declarations (6.9p1).
 use Rattle.std.specs.Prelude.{ℕ, false, Option, Some, None, List, [], ◌∷◌, ◌++◌}
-use Rattle.pv_tree.specs.Syntax.{DeclarationTree, Function, DeclaratorTree, StatementTree, Block, Trees}
+use Rattle.pv_tree.specs.Syntax.{DeclarationTree, Function, StatementTree, Block}
 use Rattle.pv_types.specs.Ty.{Ty}
 use Rattle.pv_typed.specs.TypedStatement.{TypedStatement}
 use Rattle.pv_typed.specs.TypedUnits.{function_at}

@@ -15,6 +15,7 @@ pub mod Layouts
 pub mod Library
 pub mod Outside
 pub mod Parts
+pub mod Places
 pub mod Prototypes
 pub mod Reaching
 pub mod Resolving

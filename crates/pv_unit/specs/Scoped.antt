@@ -1,7 +1,7 @@
 -- Typing a statement that has a scope, within this scope (C17 6.8.2, 6.8.4p3, 6.8.5p5), part by part as the code does.
 use Rattle.std.specs.Prelude.{ℕ, Bool, true, false, List, [], ◌∷◌, ◌++◌, Option, Some, None}
 use Rattle.pv_num.specs.declared.kinds.IntKind.{IntKind}
-use Rattle.pv_tree.specs.Syntax.{ExpressionTree, StatementTree, Block, ExpressionStatement, If, IfElse, While, DoWhile, For, ForDeclaration, Switch, SwitchBlock, Labelled, Tree, OfStatement, Trees, OptionalTree}
+use Rattle.pv_tree.specs.Syntax.{ExpressionTree, StatementTree, Block, If, IfElse, While, DoWhile, For, ForDeclaration, Switch, SwitchBlock, Labelled, OptionalTree}
 use Rattle.pv_typed.specs.TypedTree.{TypedTree}
 use Rattle.pv_typed.specs.TypedStatement.{TypedStatement}
 use Rattle.pv_check.specs.State.{State, After, and_then, give, entered}

@@ -8,7 +8,7 @@ use Rattle.pv_typed.specs.TypedStatement.{TypedStatement}
 use Rattle.pv_typed.specs.Tables.{Stored, expression_at, statement_at, IsExpression, IsStatement}
 use Rattle.pv_check.specs.Raw.{Raw}
 use Rattle.pv_check.specs.Open.{state_of, IsOpen, Goes}
-use Rattle.pv_check.specs.State.{State, After}
+use Rattle.pv_check.specs.State.{After}
 use Rattle.pv_unit.specs.declared.plain.Place.{Place}
 use Rattle.pv_unit.specs.Statements.{Around}
 

@@ -5,10 +5,10 @@ use Rattle.pv_tree.specs.declared.nodes.ListId.{ListId}
 use Rattle.pv_tree.specs.Syntax.{StatementTree, SwitchBlock, Labelled}
 use Rattle.pv_tree.specs.Lines.{tree_line}
 use Rattle.pv_tree.specs.Tables.{Forest, tree_at, trees_at, statement_at as statement_of, is_item, is_statement, Has, HasList}
-use Rattle.pv_typed.specs.Tables.{Stored, expression_at, statement_at, IsExpression}
+use Rattle.pv_typed.specs.Tables.{Stored, expression_at, statement_at}
 use Rattle.pv_check.specs.Raw.{Raw}
 use Rattle.pv_check.specs.Open.{state_of}
-use Rattle.pv_check.specs.State.{State, After, give}
+use Rattle.pv_check.specs.State.{After, give}
 use Rattle.pv_unit.specs.declared.labels.Label.{Label}
 use Rattle.pv_unit.specs.declared.labels.Label.TheVariants as label
 use Rattle.pv_unit.specs.declared.labels.Labels.{Labels}

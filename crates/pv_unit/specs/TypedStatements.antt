@@ -7,7 +7,7 @@ use Rattle.pv_typed.specs.TypedStatement.{TypedStatement, statements_of}
 use Rattle.pv_typed.specs.TypedStatement as typed
 use Rattle.pv_check.specs.State.{State, After, and_then, give, entered}
 use Rattle.pv_unit.specs.Blocks.{Reached, block_declaration}
-use Rattle.pv_unit.specs.Statements.{Around, in_loop, in_switch, leaving, valued, condition, optional, Label, typed_labels, under, returned, Switched, switched, reached, declared_in, block_of, automatic_alone}
+use Rattle.pv_unit.specs.Statements.{Around, in_loop, in_switch, leaving, valued, condition, optional, Label, typed_labels, under, returned, switched, reached, declared_in, block_of, automatic_alone}
 
 -- ---- statements whose parts are typed
 

@@ -1,9 +1,12 @@
 //! Objects and functions with declarations at file scope, in the order of their first ones (C17 6.9).
-ghost use Rattle.std.specs.Prelude.{◌≡◌, ◌<◌, ◌||◌, ◌++◌, ◌∷◌, [], ℕ, true, false, length, map, slice_index_or, IfSome, IfNone, OnOk};
-ghost use Rattle.pv_unit.specs.Entities.{entity, is_entity, marked, is_initialized};
+ghost use Rattle.std.specs.Prelude.{◌≡◌, ◌<◌, ◌||◌, ◌++◌, ◌∷◌, [], true, false, length, map, slice_index_or, IfSome, OnErr, OnOk};
+ghost use Rattle.pv_check.specs.State.{find};
+ghost use Rattle.pv_unit.specs.Entities.{entity, marked, is_initialized};
 ghost use Rattle.pv_unit.specs.Entering.{entity_of, no_entity};
+ghost use Rattle.pv_unit.specs.Places.{Keeps, defined_in, first_in, initialized_in, noted_in};
 ghost use Rattle.pv_unit.specs.Units.{is_defined};
 
+use indexmap::IndexMap;
 use pv_types::NoMemory;
 use std::alloc::Global;
 use std::marker::Model;
@@ -23,20 +26,25 @@ pub(crate) struct Entity {
     pub(crate) without_size: bool,
 }
 
-/// All of them.
+/// All of them, and where the objects and the functions stand, by their numbers.
 #[derive(Drop)]
 pub(crate) struct Entities {
     all: Vec<Entity>,
+    objects: IndexMap<u32, usize>,
+    functions: IndexMap<u32, usize>,
 }
 
 impl Model for Entities {
-    ghost use Rattle.std.specs.Prelude.{List, map};
+    ghost use Rattle.std.specs.Prelude.{List, map, true, false};
     ghost use Rattle.pv_unit.specs.Entities.{Entity as WholeEntity};
     ghost use Rattle.pv_unit.specs.Entering.{entity_of};
+    ghost use Rattle.pv_unit.specs.Places.{ArePlaced};
 
     ghost Value = { List WholeEntity };
 
     ghost view = { λ e. map entity_of e.all.items };
+
+    ghost invariant = { λ e. ArePlaced false (map entity_of e.all.items) e.objects.entries × ArePlaced true (map entity_of e.all.items) e.functions.entries };
 }
 
 /// What is known of the declarations at file scope, beside scopes and tables.
@@ -47,13 +55,6 @@ pub(crate) struct Outer {
     pub(crate) unsized_typedef: bool,
 }
 
-/// Whether it is the one of this kind and number.
-fn is_it(e: Entity, function: bool, number: u32) -> bool
-    ensures { result ≡ is_entity function number (entity_of e) }
-{
-    e.function == function && e.number == number
-}
-
 /// The one at a place.
 fn entity_at(all: &[Entity], p: usize) -> Entity
     requires { p < length all.now }
@@ -62,19 +63,22 @@ fn entity_at(all: &[Entity], p: usize) -> Entity
     all[p]
 }
 
-/// The place of the one of this kind and number.
-fn place(all: &[Entity], function: bool, number: u32) -> Option<usize>
-    ensures within { IfSome result (λ p. p < length all.now) }
-    ensures found { IfSome result (λ p. is_entity function number (entity_of (slice_index_or all.now p no_entity)) ≡ true) }
-    ensures first { IfSome result (λ p. (j : ℕ) → j < p → is_entity function number (entity_of (slice_index_or all.now j no_entity)) ≡ false) }
-    ensures none { IfNone result ((j : ℕ) → j < length all.now → is_entity function number (entity_of (slice_index_or all.now j no_entity)) ≡ false) }
+/// The place that is kept for a number.
+fn place_in(places: &IndexMap<u32, usize>, number: u32) -> Option<usize>
+    ensures { result ≡ find places.now.entries number }
 {
-    for i in 0..all.len() {
-        if is_it(all[i], function, number) {
-            return Some(i);
-        }
+    places.get(&number).copied()
+}
+
+/// Keeps a place for a number, if there is none.
+fn keep(places: &mut IndexMap<u32, usize>, number: u32, p: usize) -> Result<(), NoMemory>
+    ensures kept { OnOk result (Keeps number p places.old.entries places.new.entries) }
+    ensures unchanged { OnErr result (places.new.entries ≡ places.old.entries) }
+{
+    if place_in(places, number).is_none() {
+        places.insert(number, p)?;
     }
-    None
+    Ok(())
 }
 
 /// With what one declaration more says.
@@ -91,38 +95,40 @@ fn noted(e: Entity, defined: bool, initialized: bool, without_size: bool) -> Ent
     }
 }
 
-/// Notes what one declaration more says of the one of this kind and number.
-fn note(
+/// Notes what one declaration more says of the one at the place.
+fn note_at(
     all: &mut [Entity],
-    function: bool,
-    number: u32,
+    place: Option<usize>,
     defined: bool,
     initialized: bool,
     without_size: bool,
 )
-    ensures { map entity_of all.new ≡ marked function number defined initialized without_size (map entity_of all.old) }
+    requires { IfSome place (λ p. p < length all.old) }
+    ensures { map entity_of all.new ≡ noted_in place defined initialized without_size (map entity_of all.old) }
 {
-    if let Some(p) = place(all, function, number) {
+    if let Some(p) = place {
         let before = entity_at(all, p);
         all[p] = noted(before, defined, initialized, without_size);
     }
 }
 
-/// Whether the one of this kind and number has an initializer or a body.
-fn is_initialized(all: &[Entity], function: bool, number: u32) -> bool
-    ensures { result ≡ is_initialized function number (map entity_of all.now) }
+/// Whether the one at the place has an initializer or a body.
+fn initialized_at(all: &[Entity], place: Option<usize>) -> bool
+    requires { IfSome place (λ p. p < length all.now) }
+    ensures { result ≡ initialized_in place (map entity_of all.now) }
 {
-    match place(all, function, number) {
+    match place {
         Some(p) => entity_at(all, p).initialized,
         None => false,
     }
 }
 
-/// Whether the object of this number is defined; one of a block is where it is declared.
-fn is_defined(all: &[Entity], number: u32) -> bool
-    ensures { result ≡ is_defined number (map entity_of all.now) }
+/// Whether the object at the place is defined; one that has none is of a block, where it is declared.
+fn defined_at(all: &[Entity], place: Option<usize>) -> bool
+    requires { IfSome place (λ p. p < length all.now) }
+    ensures { result ≡ defined_in place (map entity_of all.now) }
 {
-    match place(all, false, number) {
+    match place {
         Some(p) => entity_at(all, p).defined,
         None => true,
     }
@@ -135,6 +141,8 @@ impl Entities {
     {
         Entities {
             all: Vec::new(alloc),
+            objects: IndexMap::new(alloc),
+            functions: IndexMap::new(alloc),
         }
     }
 
@@ -153,19 +161,62 @@ impl Entities {
         self.all[i]
     }
 
-    /// One more.
-    pub(crate) fn add(&mut self, name: u32, function: bool, number: u32) -> Result<(), NoMemory>
-        ensures { OnOk result (self.new ≡ self.old ++ (entity name function number ∷ [])) }
+    /// Where the first one of this kind and number stands.
+    fn place(&self, function: bool, number: u32) -> Option<usize>
+        ensures { result ≡ first_in function number self.now }
     {
-        self.all.push(Entity {
+        if function {
+            place_in(&self.functions, number)
+        } else {
+            place_in(&self.objects, number)
+        }
+    }
+
+    /// One function more.
+    fn add_function(&mut self, name: u32, number: u32) -> Result<(), NoMemory>
+        ensures { OnOk result (self.new ≡ self.old ++ (entity name true number ∷ [])) }
+    {
+        self.all.reserve(1)?;
+        let p = self.all.len();
+        keep(&mut self.functions, number, p)?;
+        self.all.push_reserved(Entity {
             name,
-            function,
+            function: true,
             number,
             defined: false,
             initialized: false,
             without_size: false,
-        })?;
+        });
         Ok(())
+    }
+
+    /// One object more.
+    fn add_object(&mut self, name: u32, number: u32) -> Result<(), NoMemory>
+        ensures { OnOk result (self.new ≡ self.old ++ (entity name false number ∷ [])) }
+    {
+        self.all.reserve(1)?;
+        let p = self.all.len();
+        keep(&mut self.objects, number, p)?;
+        self.all.push_reserved(Entity {
+            name,
+            function: false,
+            number,
+            defined: false,
+            initialized: false,
+            without_size: false,
+        });
+        Ok(())
+    }
+
+    /// One more.
+    pub(crate) fn add(&mut self, name: u32, function: bool, number: u32) -> Result<(), NoMemory>
+        ensures { OnOk result (self.new ≡ self.old ++ (entity name function number ∷ [])) }
+    {
+        if function {
+            self.add_function(name, number)
+        } else {
+            self.add_object(name, number)
+        }
     }
 
     /// Notes what one declaration more says of the one of this kind and number.
@@ -179,10 +230,10 @@ impl Entities {
     )
         ensures { self.new ≡ marked function number defined initialized without_size self.old }
     {
-        note(
+        let place = self.place(function, number);
+        note_at(
             self.all.as_mut_slice(),
-            function,
-            number,
+            place,
             defined,
             initialized,
             without_size,
@@ -193,13 +244,15 @@ impl Entities {
     pub(crate) fn is_initialized(&self, function: bool, number: u32) -> bool
         ensures { result ≡ is_initialized function number self.now }
     {
-        is_initialized(self.all.as_slice(), function, number)
+        let place = self.place(function, number);
+        initialized_at(self.all.as_slice(), place)
     }
 
     /// Whether the object of this number is defined; one of a block is where it is declared.
     pub(crate) fn is_defined(&self, number: u32) -> bool
         ensures { result ≡ is_defined number self.now }
     {
-        is_defined(self.all.as_slice(), number)
+        let place = self.place(false, number);
+        defined_at(self.all.as_slice(), place)
     }
 }

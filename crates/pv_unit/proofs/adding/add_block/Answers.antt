@@ -1,4 +1,4 @@
-use Rattle.std.proofs.Common.{rules, ◌≡◌, ap, ◌∙◌}
+use Rattle.std.proofs.Common.{ap, ◌∙◌}
 use Rattle.pv_typed.specs.TypedStatement.{Block, statements_of}
 use Rattle.pv_unit.specs.Stated.{statements_in}
 use Rattle.pv_unit.proofs.BlockMade.{listed_there, objects_there}

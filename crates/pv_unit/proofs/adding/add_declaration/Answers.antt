@@ -3,12 +3,11 @@ use Rattle.pv_tree.specs.Rows.{tables}
 use Rattle.pv_tree.specs.Tables.{declaration_at}
 use Rattle.pv_check.specs.Open.{state_of, IsOpen, Goes}
 use Rattle.pv_unit.specs.Blocks.{block_declaration}
-use Rattle.pv_unit.specs.Reaching.{reached_if, reached_in, reached_of, AreReached}
-use Rattle.pv_unit.specs.Stated.{statements_in, items_in, Moves}
+use Rattle.pv_unit.specs.Reaching.{reached_if, reached_in, reached_of}
+use Rattle.pv_unit.specs.Stated.{statements_in}
 use Rattle.pv_unit.specs.Statements.{reached}
-use Rattle.pv_unit.specs.TypedStatements.{with_reached}
 use Rattle.pv_unit.proofs.ItemRows.{declared_none, declared_done, declared_moves}
-use Rattle.pv_unit.proofs.Moving.{moves_on, statements_stay, statements_same}
+use Rattle.pv_unit.proofs.Moving.{moves_on, statements_stay}
 use Rattle.pv_unit.proofs.adding.add_declaration.Goals as goal
 
 pub returns-then-not-found-clause-typed : goal.returns-then-not-found-clause-typed

@@ -1,11 +1,9 @@
-use Rattle.std.proofs.Common.{rules, ◌≡◌, ap, ◌∙◌}
-use Rattle.pv_typed.specs.Nodes.{statements_in as trees_in, list_in}
-use Rattle.pv_typed.specs.Tables.{nodes, statement_at}
+use Rattle.std.proofs.Common.{ap, ◌∙◌}
+use Rattle.pv_typed.specs.Tables.{statement_at}
 use Rattle.pv_typed.specs.TypedStatement.{ForDeclaration, statements_of}
 use Rattle.pv_unit.specs.Stated.{statements_in, optional_in}
-use Rattle.pv_unit.specs.Statements.{declared_in}
 use Rattle.pv_unit.proofs.BlockMade.{listed_there, objects_there, round_parts, round_form}
-use Rattle.pv_unit.proofs.Moving.{moves_on, optional_same, statement_same}
+use Rattle.pv_unit.proofs.Moving.{moves_on}
 use Rattle.pv_unit.proofs.adding.add_round.Goals as goal
 
 pub add-requires-clause-objects : goal.add-requires-clause-objects

@@ -1,4 +1,3 @@
-use Rattle.std.proofs.Common.{rules}
 use Rattle.pv_typed.specs.TypedStatement.{Declare}
 use Rattle.pv_unit.proofs.BlockMade.{one_behind}
 use Rattle.pv_unit.proofs.Moving.{are_append, statements_stay}

@@ -1,4 +1,4 @@
-use Rattle.std.proofs.Common.{List, [], ◌≡◌, ◌<◌, ◌≤◌, IfOk, Option, false, length, sym, ap, subst, ◌∙◌, arith}
+use Rattle.std.proofs.Common.{List, [], ◌≡◌, ◌<◌, ◌≤◌, IfOk, Option, false, length, sym, ap, subst, ◌∙◌}
 use Rattle.pv_tree.specs.declared.nodes.NodeId.{NodeId}
 use Rattle.pv_tree.specs.Lines.{tree_line}
 use Rattle.pv_tree.specs.Syntax.{Declaration, NoTrees}
@@ -6,9 +6,8 @@ use Rattle.pv_tree.specs.Rows.{tables}
 use Rattle.pv_tree.specs.Tables.{tree_at, trees_at, list_at, declaration_at, as_declaration}
 use Rattle.pv_check.specs.Open.{state_of}
 use Rattle.pv_check.specs.State.{After}
-use Rattle.pv_unit.specs.Blocks.{Reached, block_alone, block_declaration}
+use Rattle.pv_unit.specs.Blocks.{Reached, block_declaration}
 use Rattle.pv_unit.specs.declared.blocks.Reached.{Reached as KeptReached}
-use Rattle.pv_unit.specs.Declarations.{only_tag}
 use Rattle.pv_unit.specs.Reaching.{reached_if}
 use Rattle.pv_unit.proofs.BlockLists.{declared_is}
 use Rattle.pv_unit.proofs.BlockRows.{no_list}

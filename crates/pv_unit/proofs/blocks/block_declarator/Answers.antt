@@ -1,4 +1,4 @@
-use Rattle.std.proofs.Common.{rules, ◌≡◌, ◌<◌, ℕ, length}
+use Rattle.std.proofs.Common.{◌≡◌, ◌<◌, ℕ, length}
 use Rattle.pv_typed.specs.Tables.{whole}
 use Rattle.pv_check.specs.Open.{Goes}
 use Rattle.pv_check.proofs.Opening.{then_goes}

@@ -1,11 +1,10 @@
-use Rattle.std.proofs.Common.{◌≡◌, ℕ, true, false, is_some, length, sym, ap, ◌∙◌}
+use Rattle.std.proofs.Common.{◌≡◌, true, false, length, sym, ap, ◌∙◌}
 use Rattle.std.proofs.lemmas.List.{length-map}
 use Rattle.pv_types.specs.Known.{tree}
 use Rattle.pv_tree.specs.Rows.{tables}
 use Rattle.pv_tree.specs.Tables.{optional_at}
 use Rattle.pv_typed.specs.Tables.{whole, nodes, object_in}
 use Rattle.pv_check.specs.Open.{state_of}
-use Rattle.pv_check.specs.State.{find, innermost}
 use Rattle.pv_unit.specs.DeclaredIn.{state_on}
 use Rattle.pv_unit.proofs.BlockRows.{is_bound, object_taken, object_new}
 use Rattle.pv_unit.proofs.blocks.block_object.Goals as goal

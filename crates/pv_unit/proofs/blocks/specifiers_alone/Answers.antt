@@ -1,4 +1,4 @@
-use Rattle.std.proofs.Common.{◌≡◌, Some, false, sym, ap, ◌∙◌}
+use Rattle.std.proofs.Common.{◌≡◌, Some, sym, ap, ◌∙◌}
 use Rattle.pv_tree.specs.Rows.{tables}
 use Rattle.pv_tree.specs.Tables.{trees_at}
 use Rattle.pv_unit.specs.Blocks.{block_storage}

@@ -1,12 +1,11 @@
-use Rattle.std.proofs.Common.{rules, ◌≡◌, true, false, Some, sym, ap, ◌∙◌, ◌<◌, ◌≤◌, length, arith}
+use Rattle.std.proofs.Common.{rules, ◌≡◌, true, false, sym, ap, ◌∙◌, ◌<◌, ◌≤◌, length, arith}
 use Rattle.pv_tree.specs.Rows.{tables}
 use Rattle.pv_tree.specs.Tables.{initializer_at}
 use Rattle.pv_typed.specs.Tables.{whole}
 use Rattle.pv_typed.specs.TypedUnits.{object_at}
 use Rattle.pv_check.specs.Open.{state_of, Goes}
-use Rattle.pv_check.specs.State.{and_then}
 use Rattle.pv_unit.specs.DeclaredIn.{state_on}
-use Rattle.pv_unit.specs.ValueRules.{initialized, with_given}
+use Rattle.pv_unit.specs.ValueRules.{initialized}
 use Rattle.pv_unit.proofs.BlockRows.{given_done}
 use Rattle.pv_unit.proofs.blocks.with_given.Goals as goal
 

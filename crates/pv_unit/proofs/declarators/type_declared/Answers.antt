@@ -2,15 +2,15 @@ use Rattle.std.proofs.Common.{false, Some, sym, ap, ◌∙◌}
 use Rattle.pv_types.specs.Known.{env, tree}
 use Rattle.pv_tree.specs.Rows.{tables}
 use Rattle.pv_tree.specs.Tables.{declarator_at}
-use Rattle.pv_check.specs.Declarators.{after_steps, KnownSteps}
+use Rattle.pv_check.specs.Declarators.{after_steps}
 use Rattle.pv_check.specs.Derivations.{derived}
-use Rattle.pv_check.specs.Growing.{type_if, IsType}
+use Rattle.pv_check.specs.Growing.{type_if}
 use Rattle.pv_check.specs.Open.{state_of, IsOpen, Goes}
 use Rattle.pv_check.specs.Stepping.{steps_in}
 use Rattle.pv_check.proofs.Opening.{open_goes, then_goes}
 use Rattle.pv_check.proofs.SpecifierRows.{there}
 use Rattle.pv_unit.specs.Declarations.{has_unsized}
-use Rattle.pv_unit.proofs.DeclaredRows.{declared_done, declared_none}
+use Rattle.pv_unit.proofs.DeclaredRows.{declared_done}
 use Rattle.pv_unit.proofs.declarators.type_declared.Goals as goal
 
 pub returns-clause-opened : goal.returns-clause-opened

@@ -1,7 +1,5 @@
 use Rattle.pv_unit.proofs.Ends.{there_goes}
-use Rattle.std.proofs.Common.{rules, ◌≡◌, None, true, false, sym, ap, ◌∙◌}
-use Rattle.pv_types.specs.Known.{tree}
-use Rattle.pv_unit.specs.Outside.{number_if}
+use Rattle.std.proofs.Common.{rules, ◌≡◌, true, sym, ◌∙◌}
 use Rattle.pv_unit.proofs.EntityRows.{function_allowed}
 use Rattle.pv_unit.proofs.declaring.function_declared.Goals as goal
 

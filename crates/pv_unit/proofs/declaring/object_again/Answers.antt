@@ -1,5 +1,5 @@
 use Rattle.pv_unit.proofs.Ends.{there_goes}
-use Rattle.std.proofs.Common.{rules, ◌≡◌, Some, None, false, sym, ap, ◌∙◌}
+use Rattle.std.proofs.Common.{rules, ◌≡◌, Some, false, sym, ap, ◌∙◌}
 use Rattle.pv_types.specs.Known.{tree}
 use Rattle.pv_check.specs.declared.scopes.Entry.TheVariants as entry
 use Rattle.pv_check.specs.Raw.{meaning_if}

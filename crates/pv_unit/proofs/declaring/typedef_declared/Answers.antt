@@ -1,7 +1,5 @@
 use Rattle.pv_unit.proofs.Ends.{there_goes}
 use Rattle.std.proofs.Common.{rules, ◌≡◌, true, sym, ◌∙◌}
-use Rattle.std.specs.Prelude.{◌||◌}
-use Rattle.pv_types.specs.Known.{tree}
 use Rattle.pv_unit.proofs.EntityRows.{typedef_allowed}
 use Rattle.pv_unit.proofs.declaring.typedef_declared.Goals as goal
 

@@ -2,7 +2,6 @@ use Rattle.std.proofs.Common.{rules, subst, ◌≡◌, ◌<◌, ◌≤◌, ℕ, 
 use Rattle.pv_check.specs.Open.{state_of}
 use Rattle.pv_check.specs.Raw.{Raw}
 use Rattle.pv_unit.specs.Definitions.{is_finished}
-use Rattle.pv_unit.specs.Entities.{Entity}
 use Rattle.pv_unit.specs.Entering.{entity_of, no_entity}
 use Rattle.pv_unit.specs.There.{IsThere}
 use Rattle.pv_unit.proofs.Ends.{not_finished, one_finished, all_finished, there_at}

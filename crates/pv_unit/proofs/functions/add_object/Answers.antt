@@ -2,7 +2,6 @@ use Rattle.std.proofs.Common.{rules, ◌≡◌}
 use Rattle.pv_typed.specs.Adding.{with_param}
 use Rattle.pv_typed.specs.Formed.{Grown}
 use Rattle.pv_typed.specs.Tables.{whole}
-use Rattle.pv_check.specs.Open.{Goes}
 use Rattle.pv_check.proofs.Literals.{goes_same_types}
 use Rattle.pv_unit.proofs.FunctionRows.{param_added}
 use Rattle.pv_unit.proofs.Moving.{moves_tables}

@@ -1,10 +1,8 @@
-use Rattle.std.proofs.Common.{rules, ◌≡◌, ◌∙◌, ◌<◌, ◌≤◌, ℕ, Option, IfSome, None, List, length, get_or, drop, ◌+◌, refl, sym, ap, subst, false, arith}
-use Rattle.pv_typed.specs.Tables.{Stored}
+use Rattle.std.proofs.Common.{rules, ◌≡◌, ◌∙◌, ◌<◌, ◌≤◌, IfSome, None, length, get_or, drop, ◌+◌, refl, sym, ap, false, arith}
 use Rattle.pv_typed.proofs.Each.{each_at}
 use Rattle.pv_check.specs.declared.parameters.Parameter.{Parameter}
 use Rattle.pv_check.specs.Declarators.{ParameterKnown, parameters_shown}
 use Rattle.pv_check.specs.Open.{state_of}
-use Rattle.pv_check.specs.State.{State}
 use Rattle.pv_check.proofs.ParameterRows.{parameters_known}
 use Rattle.pv_unit.specs.Functions.{with_parameter, with_parameters}
 use Rattle.pv_unit.proofs.FunctionRows.{parameters_from, parameters_none}

@@ -1,4 +1,4 @@
-use Rattle.std.proofs.Common.{rules, ◌≡◌, ◌∙◌, ◌<◌, ◌≤◌, ap, List, length, true, false, Some, None, sym, subst, arith}
+use Rattle.std.proofs.Common.{rules, ◌≡◌, ◌<◌, ◌≤◌, List, length, false, Some, None, sym, subst, arith}
 use Rattle.pv_tree.specs.Rows.{tables}
 use Rattle.pv_tree.specs.Lines.{tree_line}
 use Rattle.pv_tree.specs.Syntax.{Block}
@@ -7,13 +7,13 @@ use Rattle.pv_types.specs.Known.{tree}
 use Rattle.pv_typed.specs.Children.{Each}
 use Rattle.pv_check.specs.declared.parameters.Parameter.{Parameter}
 use Rattle.pv_check.specs.Declarators.{ParameterKnown, parameters_shown}
-use Rattle.pv_check.specs.Open.{state_of, IsOpen}
+use Rattle.pv_check.specs.Open.{state_of}
 use Rattle.pv_check.specs.Raw.{raw_of, scope_shown}
 use Rattle.pv_check.specs.State.{and_then}
 use Rattle.pv_check.proofs.ParameterRows.{parameters_known, parameters_stay}
 use Rattle.pv_unit.specs.Bodies.{is_block, left_items}
 use Rattle.pv_unit.specs.Functions.{body_of, within, with_body, with_parameters}
-use Rattle.pv_unit.specs.Stated.{items_in, statements_in, Moves, AreStatements}
+use Rattle.pv_unit.specs.Stated.{items_in, statements_in, Moves}
 use Rattle.pv_unit.specs.Statements.{block_of}
 use Rattle.pv_unit.specs.TypedStatements.{typed_items}
 use Rattle.pv_unit.proofs.Ends.{there_goes}

@@ -3,7 +3,7 @@ use Rattle.pv_typed.specs.Adding.{with_declaration}
 use Rattle.pv_typed.specs.Formed.{Grown}
 use Rattle.pv_typed.specs.Tables.{whole}
 use Rattle.pv_typed.specs.TypedUnits.{WholeUnit}
-use Rattle.pv_check.specs.Open.{state_of, Goes}
+use Rattle.pv_check.specs.Open.{state_of}
 use Rattle.pv_check.proofs.Literals.{goes_same_types}
 use Rattle.pv_check.proofs.Opening.{open_goes}
 use Rattle.pv_unit.proofs.Naming.{state_more}

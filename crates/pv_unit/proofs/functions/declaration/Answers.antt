@@ -1,7 +1,6 @@
-use Rattle.std.proofs.Common.{rules, ◌≡◌, ◌∙◌, ap, sym, subst, false}
+use Rattle.std.proofs.Common.{rules, ◌≡◌, ◌∙◌, ap, sym, false}
 use Rattle.pv_tree.specs.Rows.{tables}
-use Rattle.pv_tree.specs.Lines.{tree_line}
-use Rattle.pv_tree.specs.Tables.{tree_at, declaration_at}
+use Rattle.pv_tree.specs.Tables.{declaration_at}
 use Rattle.pv_unit.specs.Bodies.{is_definition, AreParts}
 use Rattle.pv_unit.specs.Functions.{typed_declaration}
 use Rattle.pv_unit.specs.Outside.{unit_state}

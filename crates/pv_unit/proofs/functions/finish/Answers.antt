@@ -1,15 +1,11 @@
-use Rattle.std.proofs.Common.{rules, ◌≡◌, ◌∙◌, ◌<◌, ◌≤◌, ap, length, false, arith}
-use Rattle.pv_typed.specs.Children.{Each}
-use Rattle.pv_typed.specs.Tables.{statement_at, IsStatement}
+use Rattle.std.proofs.Common.{◌∙◌, ◌<◌, ◌≤◌, ap, length, false, arith}
 use Rattle.pv_typed.specs.TypedStatement.{TypedStatement}
-use Rattle.pv_check.specs.Declarators.{ParameterKnown, parameters_shown}
-use Rattle.pv_check.specs.Derivations.{Parameter}
-use Rattle.pv_check.specs.Open.{state_of, IsOpen}
-use Rattle.pv_check.specs.State.{State}
+use Rattle.pv_check.specs.Declarators.{parameters_shown}
+use Rattle.pv_check.specs.Open.{state_of}
 use Rattle.pv_check.proofs.ParameterRows.{parameters_known, parameters_stay}
 use Rattle.pv_unit.specs.Functions.{with_parameters, with_body}
 use Rattle.pv_unit.specs.Statements.{block_of}
-use Rattle.pv_unit.specs.Stated.{statements_in, Moves}
+use Rattle.pv_unit.specs.Stated.{statements_in}
 use Rattle.pv_unit.proofs.Moving.{moves_on, statement_stays, statement_same}
 use Rattle.pv_unit.proofs.functions.finish.Goals as goal
 

@@ -1,15 +1,14 @@
-use Rattle.std.proofs.Common.{rules, ◌≡◌, ◌∙◌, ◌<◌, ◌+◌, ap, length, true, false, Some, None, sym, subst, arith}
+use Rattle.std.proofs.Common.{rules, ◌≡◌, ◌∙◌, ◌<◌, ◌+◌, ap, length, false, Some, None, arith}
 use Rattle.pv_tree.specs.Rows.{tables}
 use Rattle.pv_tree.specs.Tables.{trees_at}
 use Rattle.pv_types.specs.Known.{tree}
-use Rattle.pv_check.specs.Open.{state_of, IsOpen}
+use Rattle.pv_check.specs.Open.{state_of}
 use Rattle.pv_check.specs.Raw.{raw_of, scope_shown}
-use Rattle.pv_check.specs.State.{State, After, and_then, left}
+use Rattle.pv_check.specs.State.{State, and_then}
 use Rattle.pv_unit.specs.Bodies.{left_items}
 use Rattle.pv_unit.specs.Functions.{body_of, within}
-use Rattle.pv_unit.specs.Stated.{items_in, items_if, statements_in, Moves, MovesOn, StatementsOn}
+use Rattle.pv_unit.specs.Stated.{items_in, statements_in, Moves}
 use Rattle.pv_unit.specs.TypedStatements.{typed_items}
-use Rattle.pv_unit.proofs.Moving.{moves_on}
 use Rattle.pv_unit.proofs.functions.scoped.Goals as goal
 
 pub leave-requires-clause-within : goal.leave-requires-clause-within

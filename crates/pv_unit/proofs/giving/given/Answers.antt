@@ -1,4 +1,4 @@
-use Rattle.std.proofs.Common.{◌≡◌, ap, sym, false, Some}
+use Rattle.std.proofs.Common.{◌≡◌, ap, false, Some}
 use Rattle.pv_tree.specs.Rows.{tables}
 use Rattle.pv_tree.specs.Tables.{initializer_at}
 use Rattle.pv_types.specs.Known.{tree}

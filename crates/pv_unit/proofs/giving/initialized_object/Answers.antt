@@ -1,4 +1,4 @@
-use Rattle.std.proofs.Common.{rules, ◌≡◌, ◌∙◌, ap, option_map, [], true, false, Some, None}
+use Rattle.std.proofs.Common.{rules, ◌≡◌, ◌∙◌, ap, option_map, true, false, Some, None}
 use Rattle.pv_tree.specs.Rows.{tables}
 use Rattle.pv_tree.specs.Tables.{initializer_at}
 use Rattle.pv_types.specs.Known.{completions, env, tree}

@@ -1,4 +1,4 @@
-use Rattle.std.proofs.Common.{rules, ◌≡◌, ◌<◌, length, subst, Some, None}
+use Rattle.std.proofs.Common.{rules, ◌≡◌, ◌<◌, length, subst, None}
 use Rattle.pv_types.specs.Known.{env, tree}
 use Rattle.pv_types.specs.Layouts.{layout_in}
 use Rattle.pv_types.specs.Ty.{Ty, ArrayOf}

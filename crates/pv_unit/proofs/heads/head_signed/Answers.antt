@@ -1,8 +1,6 @@
-use Rattle.std.proofs.Common.{rules, ◌≡◌, ◌∙◌, ◌<◌, ◌≤◌, ap, length, Some, None, sym, subst, false, arith}
+use Rattle.std.proofs.Common.{rules, ◌≡◌, ◌∙◌, ◌<◌, ap, length, Some, None, sym, subst}
 use Rattle.pv_types.specs.Known.{tree}
-use Rattle.pv_check.specs.declared.parameters.Signature.{Signature as OwnSignature}
 use Rattle.pv_check.specs.Declarators.{SignatureKnown, signature_shown, parameters_shown}
-use Rattle.pv_check.specs.Open.{state_of, Goes, IsOpen}
 use Rattle.pv_check.specs.Stepping.{steps_in, AreSteps}
 use Rattle.pv_check.proofs.ParameterRows.{signature_stays, signature_known}
 use Rattle.pv_check.proofs.SpecifierRows.{there}

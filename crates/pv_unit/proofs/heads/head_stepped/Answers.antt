@@ -1,13 +1,7 @@
-use Rattle.std.proofs.Common.{rules, ◌≡◌, ◌∙◌, ◌<◌, ◌≤◌, ap, length, Some, None, sym, false, arith}
-use Rattle.pv_tree.specs.Rows.{tables}
-use Rattle.pv_tree.specs.Tables.{declarator_at}
+use Rattle.std.proofs.Common.{◌∙◌, ap, sym, false}
 use Rattle.pv_types.specs.Known.{tree}
 use Rattle.pv_check.specs.Declarators.{after_steps, steps_shown}
-use Rattle.pv_check.specs.Declarators.{StepsKnown}
-use Rattle.pv_check.specs.Derivations.{Steps}
-use Rattle.pv_check.specs.Open.{state_of, Goes, IsOpen}
-use Rattle.pv_check.specs.State.{After}
-use Rattle.pv_check.specs.declared.declarators.Steps.{Steps as OwnSteps}
+use Rattle.pv_check.specs.Open.{state_of, Goes}
 use Rattle.pv_check.proofs.SpecifierRows.{there}
 use Rattle.pv_unit.specs.Outside.{unit_state}
 use Rattle.pv_unit.proofs.Ends.{there_goes}

@@ -1,4 +1,3 @@
-use Rattle.std.proofs.Common.{map}
 use Rattle.pv_tree.specs.Rows.{tables}
 use Rattle.pv_unit.specs.Switching.{labels_of, HasKeys}
 use Rattle.pv_unit.proofs.LabelRows.{Along}

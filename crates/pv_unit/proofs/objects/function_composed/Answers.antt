@@ -1,4 +1,4 @@
-use Rattle.std.proofs.Common.{rules, ◌≡◌, Some, None, sym, ap, ◌∙◌}
+use Rattle.std.proofs.Common.{sym, ap, ◌∙◌}
 use Rattle.pv_types.specs.Known.{tree}
 use Rattle.pv_typed.specs.TypedUnits.{TypedFunction}
 use Rattle.pv_check.specs.Growing.{type_if}

@@ -4,7 +4,7 @@ use Rattle.pv_tree.specs.Rows.{tables}
 use Rattle.pv_tree.specs.Tables.{tree_at, trees_of}
 use Rattle.pv_check.specs.Open.{IsOpen, Goes}
 use Rattle.pv_unit.specs.Declarations.{file_declarators, file_init_declarator}
-use Rattle.pv_unit.specs.DeclaredIn.{specified_in, OpenOn, GoesOn}
+use Rattle.pv_unit.specs.DeclaredIn.{specified_in}
 use Rattle.pv_unit.specs.Outside.{unit_state, unit_if}
 use Rattle.pv_unit.specs.There.{AreThere}
 use Rattle.pv_unit.proofs.FileLists.{along_next, along_stop}

@@ -1,7 +1,7 @@
 use Rattle.pv_check.specs.Open.{Goes}
 use Rattle.pv_check.proofs.SpecifierRows.{there}
 use Rattle.pv_unit.proofs.Ends.{there_on}
-use Rattle.std.proofs.Common.{false, sym, ap, ◌∙◌}
+use Rattle.std.proofs.Common.{sym, ap, ◌∙◌}
 use Rattle.pv_tree.specs.Rows.{tables}
 use Rattle.pv_tree.specs.Tables.{trees_at}
 use Rattle.pv_unit.specs.DeclaredIn.{after_specified, specified_in}

@@ -1,7 +1,6 @@
-use Rattle.std.proofs.Common.{rules, ◌≡◌, ◌<◌, ◌≤◌, ◌+◌, ◌∙◌, sym, length, Some, None, true, false, arith}
+use Rattle.std.proofs.Common.{rules, ◌≡◌, ◌<◌, ◌≤◌, ◌∙◌, sym, length, Some, None, true, false, arith}
 use Rattle.pv_check.specs.Open.{state_of}
-use Rattle.pv_check.specs.Raw.{raw_innermost, meaning_in}
-use Rattle.pv_unit.specs.Statements.{is_automatic}
+use Rattle.pv_check.specs.Raw.{raw_innermost}
 use Rattle.pv_unit.proofs.Automatic.{what_at, there_at, known_at, inner_names, rest_next, has_tag, has_other, all_are}
 use Rattle.pv_unit.proofs.plain.automatic_alone.Goals as goal
 

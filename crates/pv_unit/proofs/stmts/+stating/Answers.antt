@@ -1,4 +1,4 @@
-use Rattle.std.proofs.Common.{rules, ◌≡◌, ◌+◌, ◌<◌, ◌≤◌, true, false, List, [], Some, None, length, get_or, drop, sym, ap, ◌∙◌, arith}
+use Rattle.std.proofs.Common.{rules, ◌≡◌, ◌<◌, true, false, [], Some, None, length, get_or, drop, sym, ap, ◌∙◌, arith}
 use Rattle.pv_tree.specs.declared.nodes.NodeId.{NodeId}
 use Rattle.pv_tree.specs.Lines.{tree_line}
 use Rattle.pv_tree.specs.Rows.{tables}

@@ -1,0 +1,42 @@
+-- Where an object or a function of file scope stands among all, and what stands there.
+use Rattle.std.specs.Prelude.{◌≡◌, ℕ, suc, nat_eq, Bool, true, false, ◌||◌, if◌then◌else◌, List, [], ◌∷◌, Option, Some, None, set, slice_index_or}
+use Rattle.std.specs.Option.{option_map}
+use Rattle.pv_check.specs.State.{find}
+use Rattle.pv_unit.specs.Entities.{Entity, is_entity}
+
+-- the place of the first one of this kind and number
+abbrev pub first_in : Bool → ℕ → List Entity → Option ℕ
+first_in f k [] = None
+first_in f k (e ∷ es) = if is_entity f k e then Some 0 else option_map suc (first_in f k es)
+
+-- what is kept by the numbers is where the first ones of a kind stand
+abbrev pub ArePlaced : Bool → List Entity → List (ℕ × ℕ) → Type 0
+ArePlaced f es places = (k : ℕ) → find places k ≡ first_in f k es
+
+abbrev pub or_other : Option ℕ → Option ℕ → Option ℕ
+or_other None o = o
+or_other (Some i) o = Some i
+
+-- a place more for a number, if there is none
+abbrev pub Keeps : ℕ → ℕ → List (ℕ × ℕ) → List (ℕ × ℕ) → Type 0
+Keeps k p old new = (q : ℕ) → find new q ≡ or_other (find old q) (if nat_eq k q then Some p else None)
+
+-- ---- what stands at a place
+
+abbrev pub nothing : Entity
+nothing = record { name = 0; function = false; number = 0; defined = false; initialized = false; unsized = false }
+
+abbrev pub with_more : Bool → Bool → Bool → Entity → Entity
+with_more d i b e = record e { defined = e.defined || d; initialized = e.initialized || i; unsized = e.unsized || b }
+
+abbrev pub noted_in : Option ℕ → (defined initialized unsized : Bool) → List Entity → List Entity
+noted_in None d i b es = es
+noted_in (Some p) d i b es = set es p (with_more d i b (slice_index_or es p nothing))
+
+abbrev pub initialized_in : Option ℕ → List Entity → Bool
+initialized_in None es = false
+initialized_in (Some p) es = (slice_index_or es p nothing).initialized
+
+abbrev pub defined_in : Option ℕ → List Entity → Bool
+defined_in None es = true
+defined_in (Some p) es = (slice_index_or es p nothing).defined
