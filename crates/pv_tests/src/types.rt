@@ -66,7 +66,8 @@ type X1 = char
 type X2 = struct {X1@0, X0@4, X1@8}";
 
 /// What stands in each of its bytes. No line makes a type.
-static BYTES: &str = "suits no, no: X2 + 0, X0
+static BYTES: &str = "members X2 {X1@0, X0@4, X1@8}
+suits no, no: X2 + 0, X0
 suits yes, yes: X2 + 0, X1
 suits no, no: X2 + 1, X0
 suits no, no: X2 + 1, X1
@@ -100,4 +101,19 @@ static ONE_MORE: &str = "complete yes: *X2";
 #[test]
 fn members_are_found_before_their_places_are_kept(rt: HostRuntime) {
     check(&rt, rt.alloc(), &[MEMBERS, BYTES, ONE_MORE, BYTES]);
+}
+
+/// A union and a structure with so many members that their names are kept from the time that the next type is made.
+static MANY: &str = "type X0 = int
+type X1 = char
+type X2 = union {X1@0, X0@0, X1@0, X1@0, X0@0, X0@0, X1@0, X0@0, X1@0, X1@0}
+type X3 = struct {X1@0, X0@4, X1@8, X1@9, X0@12, X0@16, X1@20, X0@24, X1@28, X1@29}";
+
+/// Where each stands. No line makes a type.
+static NAMES: &str = "members X2 {X1@0, X0@0, X1@0, X1@0, X0@0, X0@0, X1@0, X0@0, X1@0, X1@0}
+members X3 {X1@0, X0@4, X1@8, X1@9, X0@12, X0@16, X1@20, X0@24, X1@28, X1@29}";
+
+#[test]
+fn members_are_found_before_their_names_are_kept(rt: HostRuntime) {
+    check(&rt, rt.alloc(), &[MANY, NAMES, ONE_MORE, NAMES]);
 }

@@ -172,8 +172,8 @@ pub fn check(alloc: Global, u: &Unit, t: &Tokens) -> Result<TypedUnit, CheckErro
     ensures refused { IfErr result (IsCause t.now (externals_in (tables u.now))) }
     ensures named { IfErr result (IsNamed t.now) }
 {
-    let mut into = named_unit(alloc, t)?;
     let mut s = first_scopes(alloc)?;
+    let mut into = named_unit(alloc, t)?;
     let mut outer = Outer {
         entities: Entities::new(alloc),
         unsized_typedef: false,

@@ -5,8 +5,8 @@ ghost use Rattle.pv_types.specs.Layouts.{is_complete_in, layout_in};
 
 use super::lines::{Desk, Value, object, pop, pop_list, pop_object, pop_type};
 use pv_effect::{permits_declared, permits_marks};
-use pv_layout::{align, bare, leaf_at, measure, member, part_at, size};
-use pv_types::{TypeId, Types};
+use pv_layout::{align, bare, leaf_at, measure, member, part_at, size, struct_number};
+use pv_types::{Term, TypeId, Types};
 use std::process::Abort;
 
 /// A line's first word.
@@ -26,6 +26,8 @@ pub(crate) enum Claim {
     Bare,
     /// `layout SIZE ALIGNMENT: TYPE`, where members stand with their offsets, as `struct {char@0, int@4}`.
     Layout,
+    /// `members TYPE {MEMBER@OFFSET, ..}`: its members with their offsets, found by their names and by their numbers.
+    Members,
     /// `suits LEAF, PART: WHOLE + OFFSET, TYPE`: whether a leaf and whether a part of the whole there suits the type.
     Suits,
     /// `access ANSWER: DECLARED + OFFSET, TYPE`: whether an access to a declared object is permitted.
@@ -51,6 +53,7 @@ pub(crate) fn is_so(rt: &impl Abort, types: &Types, desk: &mut Desk, claim: Clai
         Claim::Constant => constant(rt, types, desk),
         Claim::Bare => is_bare(rt, types, desk),
         Claim::Layout => layout(rt, types, desk),
+        Claim::Members => members(rt, types, desk),
         Claim::Suits => suits(rt, types, desk),
         Claim::Access => access(rt, types, desk),
         Claim::Read => read(rt, types, desk),
@@ -106,6 +109,24 @@ fn layout(rt: &impl Abort, types: &Types, desk: &mut Desk) -> bool {
         && has_members(types, t, &desk.list)
 }
 
+fn members(rt: &impl Abort, types: &Types, desk: &mut Desk) -> bool {
+    let t = pop_object(rt, types, desk);
+    pop_list(rt, desk);
+    has_members(types, t, &desk.list)
+}
+
+/// The member of this number; of a union, whose members are found by their names alone, the one of this name.
+fn numbered(types: &Types, whole: TypeId, number: u32) -> Option<(u64, TypeId)>
+    requires known { whole.0 < length types.now.terms }
+    requires complete { IsTrue (is_complete_in (env types.now) (tree types.now whole.0)) }
+    requires small { (layout_in (env types.now) (tree types.now whole.0)).size ≤ 2 ^ 32 }
+{
+    match types.view(whole) {
+        Term::Struct(tag) => struct_number(types, tag, u64::from(number)),
+        _ => member(types, whole, number),
+    }
+}
+
 /// Whether the members are these types at these offsets, named by their places.
 fn has_members(types: &Types, whole: TypeId, list: &[u32]) -> bool
     requires known { whole.0 < length types.now.terms }
@@ -116,12 +137,12 @@ fn has_members(types: &Types, whole: TypeId, list: &[u32]) -> bool
         return false;
     }
     for i in 0..list.len() / 2 {
-        let place = (u64::from(list[2 * i + 1]), TypeId(list[2 * i]));
-        if member(types, whole, i as u32) != Some(place) {
+        let place = Some((u64::from(list[2 * i + 1]), TypeId(list[2 * i])));
+        if member(types, whole, i as u32) != place || numbered(types, whole, i as u32) != place {
             return false;
         }
     }
-    member(types, whole, 100).is_none()
+    member(types, whole, 100).is_none() && numbered(types, whole, 100).is_none()
 }
 
 fn suits(rt: &impl Abort, types: &Types, desk: &mut Desk) -> bool {

@@ -59,7 +59,7 @@ enum Word {
 }
 
 /// The words, other than numbers and names.
-static WORDS: [(&[u8], Word); 32] = [
+static WORDS: [(&[u8], Word); 33] = [
     (b"void", Word::Void),
     (b"_Bool", Word::Int(IntKind::Bool)),
     (b"char", Word::Int(IntKind::Char)),
@@ -86,6 +86,7 @@ static WORDS: [(&[u8], Word); 32] = [
     (b"constant", Word::Claim(Claim::Constant)),
     (b"bare", Word::Claim(Claim::Bare)),
     (b"layout", Word::Claim(Claim::Layout)),
+    (b"members", Word::Claim(Claim::Members)),
     (b"suits", Word::Claim(Claim::Suits)),
     (b"access", Word::Claim(Claim::Access)),
     (b"read", Word::Claim(Claim::Read)),
