@@ -1,7 +1,9 @@
 pub mod Differing
 pub mod Filling
 pub mod Kept
+pub mod Makings
 pub mod Offering
+pub mod Quiet
 pub mod Reaches
 pub mod Running
 pub mod Steps

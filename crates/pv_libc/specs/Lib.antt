@@ -8,3 +8,4 @@ pub mod Formats
 pub mod Arguments
 pub mod Printing
 pub mod Calls
+pub mod Makings

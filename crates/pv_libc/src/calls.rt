@@ -8,6 +8,7 @@ ghost use Rattle.pv_object.specs.Values.{IsMadeValue};
 ghost use Rattle.pv_object.specs.declared.values.Value.TheVariants as value;
 ghost use Rattle.pv_libc.specs.declared.values.Reply.TheVariants as reply;
 ghost use Rattle.pv_libc.specs.Steps.{with_notes, OrNoMemory, worth};
+ghost use Rattle.pv_libc.specs.Makings.{AreLive, UnlessNoMemory};
 ghost use Rattle.pv_script.specs.declared.library.Library.TheVariants as library;
 ghost use Rattle.pv_libc.specs.Calls.{number, size, status, pointer_in, stopped, argument_at, offer, printed, called, called_in, output, output_in, behind};
 
@@ -223,8 +224,9 @@ fn called(
 /// `notes` gains that in order, and where the call stops by the check of a pointer, `Stopped` last.
 ///
 /// `args` are values of the prototype's types, converted; behind a format they are promoted (6.5.2.2p6). After a stop
-/// nothing is printed. `NoMemory` may come anywhere; then the memory and the notes aren't used again.
-#[tactic(auto, using(crate::proofs::Steps::or_behind))]
+/// nothing is printed. `NoMemory` may come anywhere; then the memory and the notes aren't used again. Each instance that the
+/// call notes as made is live after it.
+#[tactic(auto, using(crate::proofs::Steps::or_behind, crate::proofs::Makings::called_live))]
 pub fn call(
     m: &mut Memory,
     f: Library,
@@ -239,6 +241,8 @@ pub fn call(
     ensures answer { OrNoMemory result (with_notes m.new notes.new.items) (behind notes.old.items (called f args.now m.old)) }
     ensures out { OnOk result (out.new.items ≡ out.old.items ++ output f args.now m.old) }
     ensures kept { OnErr result (out.new.items ≡ out.old.items) }
+    ensures makings { AreLive (called f args.now m.old).after.memory (called f args.now m.old).after.notes }
+    ensures live { UnlessNoMemory result (AreLive m.new notes.old.items → AreLive m.new notes.new.items) }
 {
     let alloc = *out.allocator();
     let mut within = Vec::new(alloc);

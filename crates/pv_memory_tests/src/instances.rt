@@ -194,6 +194,22 @@ fn end(rt: &impl Abort, table: &mut Instances, i: u64) -> [i128; 8] {
     list(&[])
 }
 
+/// A pair that keeps both of its instances keeps the high one, or else the low one.
+fn side(rt: &impl Abort, table: &mut Instances, p: i128, high: bool) -> [i128; 8] {
+    let p = known(rt, table, p);
+    let Prov::Pair(k) = p else {
+        panic!(rt; "no pair");
+    };
+    match table.pair(k) {
+        Some(twin) => {
+            assert!(rt; twin.keeps_low && twin.keeps_high);
+            table.side(k, high);
+        }
+        None => panic!(rt; "no such pair"),
+    }
+    list(&[])
+}
+
 /// What asks for names, or for what they stand for.
 fn named(rt: &impl Abort, table: &mut Instances, word: &str, n: [i128; 8]) -> [i128; 8] {
     if word == "name" {
@@ -229,6 +245,7 @@ fn answer(
         "range" => narrow(rt, table, n[0], Test::Range { address, size }),
         "block" => narrow(rt, table, n[0], Test::Block { address }),
         "same" => same(rt, table, n[0], n[1]),
+        "side" => side(rt, table, n[0], n[1] != 0),
         "name" | "at" | "stands" | "expose" => named(rt, table, word, n),
         _ => one(rt, table, word, n),
     }

@@ -440,6 +440,22 @@ impl Bench {
         list(&[])
     }
 
+    /// A pair that keeps both of its instances keeps the high one, or else the low one.
+    fn side(&mut self, rt: &impl Abort, p: Prov, high: bool) -> [i128; 8] {
+        let Prov::Pair(k) = p else {
+            panic!(rt; "no pair");
+        };
+        assert!(rt; self.memory.instances().knows(p));
+        match self.memory.instances().pair(k) {
+            Some(twin) => {
+                assert!(rt; twin.keeps_low && twin.keeps_high);
+                self.memory.side(k, high);
+            }
+            None => panic!(rt; "no such pair"),
+        }
+        list(&[])
+    }
+
     /// A number as a pointer.
     fn found(&mut self, r: i128, n: i128) -> Told {
         let p = self.memory.to_ptr(n)?;
@@ -455,6 +471,7 @@ impl Bench {
             "base" => Ok(self.base(rt, n[0], wide(n[1]))),
             "set" => Ok(self.set(n)),
             "ptr" => self.found(n[0], n[1]),
+            "side" => Ok(self.side(rt, name_of(n[0]), n[1] != 0)),
             "exposed" => Ok(list(&[self.memory.next_exposed().unwrap_or(0).into()])),
             _ => self.by_two(rt, word, n),
         }

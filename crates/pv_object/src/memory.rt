@@ -1,6 +1,7 @@
 // The memory: its instances, accesses to them, and the steps that change its table.
-ghost use Rattle.std.specs.Prelude.{◌≡◌, ◌+◌, ◌<◌, ◌≤◌, ◌↔◌, ◌^◌, length, take, All, IfOk, IfNone, OnOk, OnErr, IsSome, true, codes, option_to_list, drop, ◌++◌, []};
+ghost use Rattle.std.specs.Prelude.{◌≡◌, ◌+◌, ◌<◌, ◌≤◌, ◌↔◌, ◌^◌, length, take, All, IfOk, IfNone, OnOk, OnErr, IsSome, true, codes, option_to_list, drop, ◌++◌, [], not};
 ghost use Rattle.pv_prov.specs.declared.names.Prov.{Prov};
+ghost use Rattle.pv_prov.specs.Names.{Stands_low, Stands_high, kept};
 ghost use Rattle.pv_script.specs.Names.{name_at as text_of};
 ghost use Rattle.pv_inst.specs.Table.{IsMadeIn};
 ghost use Rattle.pv_inst.specs.Use.{use_answer, settled, is_heap};
@@ -155,6 +156,17 @@ impl Memory {
     {
         let address = p.address;
         self.narrow(p.prov, Test::Block { address })
+    }
+
+    /// Keeps one of the two instances of a pair that keeps both: the high one, or else the low one. See `Instances::side`.
+    pub fn side(&mut self, pair: u64, high: bool)
+        requires made { IsMadeIn self.old.table (Prov.Pair pair) }
+        requires low_stands { Stands_low self.old.table.pairs pair }
+        requires high_stands { Stands_high self.old.table.pairs pair }
+        ensures state { self.new ≡ with_table self.old (record self.old.table { pairs = kept self.old.table.pairs pair (not high) high }) }
+        ensures later { IsLater self.old.table self.new.table }
+    {
+        self.table.side(pair, high);
     }
 
     /// The next instance that became exposed and was not given yet.

@@ -343,7 +343,17 @@ same p7 p6 => p7 no yes none yes no
 name 0x20008 => p8
 same 3 p8 => none yes no p8 yes no
 same p8 4 => apart
-stands p8 => 3 none";
+stands p8 => 3 none
+name 0x20008 => p9
+side p9 no => none
+stands p9 => 3 none
+live p9 => none yes no
+range p9 0x20008 1 => outside
+name 0x20008 => p10
+side p10 yes => none
+stands p10 => none 4
+live p10 => none no yes
+range p10 0x20004 4 => outside";
 
 /// Calls in a mixed order.
 pub(super) static MIXED_1: &str =
