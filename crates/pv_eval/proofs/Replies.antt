@@ -1,0 +1,190 @@
+-- A call of the library: what it tells, what it comes to, and what it prints.
+use Rattle.std.proofs.Common.{◌≡◌, ℕ, zero, suc, ◌+◌, ◌<◌, ◌≤◌, Bool, true, false, List, [], ◌∷◌, ◌++◌, length, drop, get_or, map, Some, None, refl, sym, ap, ◌∙◌, subst, arith, append-nil, append_assoc}
+use Rattle.std.specs.Prelude.{min, Result, Ok, Err, OnOk, OnErr, if◌then◌else◌}
+use Rattle.std.proofs.lemmas.List.{drop_more}
+use Rattle.pv_script.specs.declared.library.Library.{Library}
+use Rattle.pv_tree.specs.declared.nodes.NodeId.{NodeId}
+use Rattle.pv_typed.specs.TypedTree.{Arguments, NoArguments, MoreArguments, type_of}
+use Rattle.pv_typed.specs.Nodes.{Tree, expression_in, arguments_in}
+use Rattle.pv_inst.specs.Table.{Table}
+use Rattle.pv_object.specs.declared.values.Value.{Value}
+use Rattle.pv_object.specs.declared.values.Stop.{Stop}
+use Rattle.pv_object.specs.declared.values.Stop.TheVariants as stop
+use Rattle.pv_object.specs.Memory.{Mem}
+use Rattle.pv_libc.specs.declared.values.Arg.{Arg}
+use Rattle.pv_libc.specs.declared.values.Shape.{Shape}
+use Rattle.pv_libc.specs.declared.values.Note.{Note}
+use Rattle.pv_libc.specs.declared.values.Note.TheVariants as note
+use Rattle.pv_libc.specs.declared.values.Reply.{Reply}
+use Rattle.pv_libc.specs.declared.values.Reply.TheVariants as reply
+use Rattle.pv_libc.specs.Steps.{Now, with_notes, OrNoMemory, Did as Step}
+use Rattle.pv_libc.specs.Calls.{called, output, behind}
+use Rattle.pv_libc.specs.Makings.{AreLive, UnlessNoMemory as UnlessSpent}
+use Rattle.pv_watch.specs.declared.event.What.{What}
+use Rattle.pv_world.specs.declared.failing.Blame.{Blame}
+use Rattle.pv_world.specs.declared.got.Got.{Got}
+use Rattle.pv_world.specs.declared.got.Failure.{Failure}
+use Rattle.pv_world.specs.declared.got.Failure.TheVariants as failure
+use Rattle.pv_world.specs.Worlds.{World, Nothing, Scalar, Halts, Exits, Aborts, Refused}
+use Rattle.pv_world.specs.Worths.{value_of, wrong_of, missing_value}
+use Rattle.pv_world.specs.Telling.{quiet, fault_of, verdict_of}
+use Rattle.pv_world.specs.Doing.{Done, Fails}
+use Rattle.pv_world.specs.Coming.{Came, Did, Faulted, Gave, Ended, seen, worth_of}
+use Rattle.pv_eval.specs.States.{Setting}
+use Rattle.pv_eval.specs.Arguments.{argument_shape}
+use Rattle.pv_eval.specs.Frames.{asked_with}
+use Rattle.pv_eval.specs.Suiting.{knows_arguments}
+use Rattle.pv_eval.specs.Library.{noted_as, all_noted, blame_in, with_memory, come_to, asked, asks}
+use Rattle.pv_eval.specs.Operations.{Asks, does}
+use Rattle.pv_eval.specs.Texts.{text_in, silent, UnlessNoMemory, Wrote}
+use Rattle.pv_eval.proofs.Chosen.{failed}
+
+-- what happened, one note after the other
+pub next_noted : (T : Table) (told more : List What) (notes : List Note) (i : ℕ) (d : Note) → i < length notes → more ≡ told ++ noted_as T (get_or notes i d)
+    → more ++ all_noted T (drop (i + 1) notes) ≡ told ++ all_noted T (drop i notes)
+next_noted T told more notes i d lt e =
+    ap (λ xs. xs ++ all_noted T (drop (i + 1) notes)) e
+    ∙ append_assoc told (noted_as T (get_or notes i d)) (all_noted T (drop (i + 1) notes))
+    ∙ ap (λ ns. told ++ all_noted T ns) (sym (drop_more notes i d lt))
+
+-- whom the first note that says it blames
+blames : (n : Note) (ns : List Note) (b : Blame) → Some b ≡ blame_in (n ∷ []) → blame_in (n ∷ ns) ≡ Some b
+blames (note.Stopped low high pair) ns b e = sym e
+blames (note.Made i) ns b e = absurd cc
+blames (note.Ended i) ns b e = absurd cc
+blames (note.Exposed i) ns b e = absurd cc
+blames (note.Used tried test) ns b e = absurd cc
+
+blames_not : (n : Note) (ns : List Note) → None ≡ blame_in (n ∷ []) → blame_in (n ∷ ns) ≡ blame_in ns
+blames_not (note.Stopped low high pair) ns e = absurd cc
+blames_not (note.Made i) ns e = refl
+blames_not (note.Ended i) ns e = refl
+blames_not (note.Exposed i) ns e = refl
+blames_not (note.Used tried test) ns e = refl
+
+pub blame_here : (notes : List Note) (i : ℕ) (d : Note) (b : Blame) → i < length notes → Some b ≡ blame_in (get_or notes i d ∷ []) → blame_in (drop i notes) ≡ Some b
+blame_here notes i d b lt e = ap blame_in (drop_more notes i d lt) ∙ blames (get_or notes i d) (drop (i + 1) notes) b e
+
+pub blame_later : (notes : List Note) (i : ℕ) (d : Note) → i < length notes → None ≡ blame_in (get_or notes i d ∷ []) → blame_in (drop (i + 1) notes) ≡ blame_in (drop i notes)
+blame_later notes i d lt e = sym (ap blame_in (drop_more notes i d lt) ∙ blames_not (get_or notes i d) (drop (i + 1) notes) e)
+
+-- the arguments, one after the other
+pub next_given : (ts : List Tree) (ids : List NodeId) (gots : List Got) (i : ℕ) (n : NodeId) (g : Got) (args more : List Arg) (v : Value) (s : Shape) → i < length ids → i < length gots
+    → v ≡ value_of (worth_of (get_or gots i g)) → s ≡ argument_shape (type_of (expression_in ts (get_or ids i n))) → more ≡ args ++ record { value = v; shape = s } ∷ []
+    → more ++ asked_with (arguments_in ts (drop (i + 1) ids)) (map worth_of (drop (i + 1) gots)) ≡ args ++ asked_with (arguments_in ts (drop i ids)) (map worth_of (drop i gots))
+next_given ts ids gots i n g args more v s lt lg is_value is_shape e =
+    let rest : List Arg = asked_with (arguments_in ts (drop (i + 1) ids)) (map worth_of (drop (i + 1) gots)) in
+    ap (λ xs. xs ++ rest) e
+    ∙ append_assoc args (record { value = v; shape = s } ∷ []) rest
+    ∙ ap (λ x. args ++ record { value = x; shape = s } ∷ rest) is_value
+    ∙ ap (λ x. args ++ record { value = value_of (worth_of (get_or gots i g)); shape = x } ∷ rest) is_shape
+    ∙ ap (λ xs. args ++ asked_with (arguments_in ts (get_or ids i n ∷ drop (i + 1) ids)) (map worth_of xs)) (sym (drop_more gots i g lg))
+    ∙ ap (λ xs. args ++ asked_with (arguments_in ts xs) (map worth_of (drop i gots))) (sym (drop_more ids i n lt))
+
+-- where no value or no argument is left, there are no more
+none_given : (xs : Arguments) → asked_with xs [] ≡ []
+none_given NoArguments = refl
+none_given (MoreArguments x xs) = refl
+
+rest_given : (ts : List Tree) (ids : List NodeId) (gots : List Got) (i : ℕ) → min (length ids) (length gots) ≤ i → asked_with (arguments_in ts (drop i ids)) (map worth_of (drop i gots)) ≡ []
+rest_given ts [] gots zero h = refl
+rest_given ts [] gots (suc i) h = refl
+rest_given ts (n ∷ ids) [] zero h = refl
+rest_given ts (n ∷ ids) [] (suc i) h = none_given (arguments_in ts (drop i ids))
+rest_given ts (n ∷ ids) (g ∷ gots) zero h = absurd (omega (arith, h))
+rest_given ts (n ∷ ids) (g ∷ gots) (suc i) h = rest_given ts ids gots i (omega (arith, h))
+
+pub all_given : (ts : List Tree) (ids : List NodeId) (gots : List Got) (i : ℕ) (args all : List Arg) → min (length ids) (length gots) ≤ i
+    → args ++ asked_with (arguments_in ts (drop i ids)) (map worth_of (drop i gots)) ≡ all → args ≡ all
+all_given ts ids gots i args all h e = sym (append-nil args) ∙ ap (λ xs. args ++ xs) (sym (rest_given ts ids gots i h)) ∙ e
+
+-- of an answer that isn't want of memory all is said
+abbrev IsSpent : Result Reply Stop → Type 0
+IsSpent r = r ≡ Err stop.NoMemory
+
+or_known : (r : Result Reply Stop) (S : Now) (d : Step Reply) → (IsSpent r → ⊥) → OrNoMemory r S d → (r ≡ d.answer) × (S ≡ d.after)
+or_known (Ok x) S d n h = h
+or_known (Err (stop.Undefined f)) S d n h = h
+or_known (Err stop.Indeterminate) S d n h = h
+or_known (Err stop.Undecided) S d n h = h
+or_known (Err stop.NoMemory) S d n h = absurd (n refl)
+
+pub live_known : (r : Result Reply Stop) (P : Type 0) → (r ≡ Err stop.NoMemory → ⊥) → UnlessSpent r P → P
+live_known (Ok x) P n h = h
+live_known (Err (stop.Undefined f)) P n h = h
+live_known (Err stop.Indeterminate) P n h = h
+live_known (Err stop.Undecided) P n h = h
+live_known (Err stop.NoMemory) P n h = absurd (n refl)
+
+pub none_live : (M : Mem) → AreLive M []
+none_live M k d lt = absurd (omega (arith, lt))
+
+-- of all answers it is
+unless : {A : Type 0} (r : Result A Failure) (P : Type 0) → P → UnlessNoMemory r P
+unless (Ok x) P h = h
+unless (Err (failure.Stop z)) P h = h
+unless (Err failure.NoMemory) P h = tt
+
+-- what it comes to in the world that it leaves, after what happened within it
+told_as : (w : World) (M : Mem) (notes : List Note) (told : List What) (text : List ℕ) (r : Result Reply Stop)
+    → seen told w (silent (asked w text r (with_notes M notes))) ≡ seen (told ++ all_noted M.table notes) (with_memory w M) (come_to (blame_in notes) r (with_memory w M))
+told_as w M notes told text (Ok reply.Nothing) = ap (Gave Nothing (with_memory w M)) (sym (append-nil (told ++ all_noted M.table notes)))
+told_as w M notes told text (Ok (reply.Value v)) = ap (Gave (Scalar v) (with_memory w M)) (sym (append-nil (told ++ all_noted M.table notes)))
+told_as w M notes told text (Ok (reply.Exit n)) = ap (λ es. Ended (Halts (Exits n)) (with_memory w M) (es ++ [])) (sym (append-nil (told ++ all_noted M.table notes)))
+told_as w M notes told text (Ok reply.Abort) = ap (λ es. Ended (Halts Aborts) (with_memory w M) (es ++ [])) (sym (append-nil (told ++ all_noted M.table notes)))
+told_as w M notes told text (Ok (reply.Placement e)) = ap (λ es. Ended (Halts (Refused 1 e)) (with_memory w M) (es ++ [])) (sym (append-nil (told ++ all_noted M.table notes)))
+told_as w M notes told text (Err y) =
+    ap (λ es. Ended (wrong_of y) (with_memory w M) (es ++ fault_of (blame_in notes) (verdict_of (wrong_of y)))) (sym (append-nil (told ++ all_noted M.table notes)))
+
+wrote_as : (w : World) (M : Mem) (notes : List Note) (text before after : List ℕ) (r : Result Reply Stop) → OnOk r (after ≡ before ++ text) → OnErr r (after ≡ before) → after ≡ before ++ text_in (asked w text r (with_notes M notes))
+wrote_as w M notes text before after (Ok reply.Nothing) ok err = ok
+wrote_as w M notes text before after (Ok (reply.Value v)) ok err = ok
+wrote_as w M notes text before after (Ok (reply.Exit n)) ok err = ok
+wrote_as w M notes text before after (Ok reply.Abort) ok err = ok
+wrote_as w M notes text before after (Ok (reply.Placement e)) ok err = ok
+wrote_as w M notes text before after (Err y) ok err = err ∙ sym (append-nil before)
+
+module _ (f : Library) (args : List Arg) (w v : World) (notes : List Note) (r : Result Reply Stop) (n : r ≡ Err stop.NoMemory → ⊥) (answer : OrNoMemory r (with_notes v.memory notes) (behind [] (called f args w.memory))) where
+  -- what the call is
+  asks_is : asks f args w ≡ asked w (output f args w.memory) r (with_notes v.memory notes)
+  asks_is =
+      let know = or_known r (with_notes v.memory notes) (behind [] (called f args w.memory)) n answer in
+      ap (λ a. asked w (output f args w.memory) a (called f args w.memory).after) (sym know.0) ∙ ap (λ S. asked w (output f args w.memory) r S) (sym know.1)
+
+  asks_did : (res : Result Got Failure) (told more es : List What) → v ≡ record w { memory = v.memory } → more ≡ told ++ all_noted v.memory.table notes
+      → Did worth_of (come_to (blame_in notes) r) res v v more es → Did worth_of (λ w. silent (asks f args w)) res w v told es
+  asks_did res told more es same is did =
+      let text : List ℕ = output f args w.memory in
+      let did1 = subst (λ xs. Came worth_of res v es (seen xs v (come_to (blame_in notes) r v))) is did in
+      let did2 = subst (λ (x : World). Came worth_of res v es (seen (told ++ all_noted v.memory.table notes) x (come_to (blame_in notes) r x))) same did1 in
+      let did3 = subst (λ s. Came worth_of res v es s) (sym (told_as w v.memory notes told text r)) did2 in
+      subst (λ d. Came worth_of res v es (seen told w (silent d))) (sym asks_is) did3
+
+  asks_text : (had text : List ℕ) → OnOk r (text ≡ had ++ output f args w.memory) → OnErr r (text ≡ had) → text ≡ had ++ text_in (asks f args w)
+  asks_text had text ok err = subst (λ d. text ≡ had ++ text_in d) (sym asks_is) (wrote_as w v.memory notes (output f args w.memory) had text r ok err)
+
+  pub asks_wrote : (res : Result Got Failure) (told more es : List What) (had text : List ℕ) → v ≡ record w { memory = v.memory } → more ≡ told ++ all_noted v.memory.table notes
+      → Did worth_of (come_to (blame_in notes) r) res v v more es → OnOk r (text ≡ had ++ output f args w.memory) → OnErr r (text ≡ had) → Wrote (asks f args) res w v told es had text
+  asks_wrote res told more es had text same is did ok err = record {
+    did = asks_did res told more es same is did;
+    wrote = unless res (text ≡ had ++ text_in (asks f args w)) (asks_text had text ok err);
+  }
+
+-- arguments whose names were made, and others
+module _ (b : Setting) (f : Library) (args : List Arg) (w : World) where
+  abbrev chosen : Bool → Done
+  chosen t = if t then asks f args w else Fails missing_value None w quiet
+
+  pub known_wrote : (res : Result Got Failure) (v : World) (es fs : List What) (had text : List ℕ) → knows_arguments w.memory.table args ≡ true
+      → Wrote (asks f args) res w v es fs had text → Wrote (does b (Asks f args)) res w v es fs had text
+  known_wrote res v es fs had text e h = record {
+    did = subst (λ t. Came worth_of res v fs (seen es w (silent (chosen t)))) (sym e) h.did;
+    wrote = subst (λ t. UnlessNoMemory res (text ≡ had ++ text_in (chosen t))) (sym e) h.wrote;
+  }
+
+  pub unknown_wrote : (x : Failure) (es fs : List What) (had : List ℕ) → knows_arguments w.memory.table args ≡ false
+      → Faulted x missing_value fs (es ++ fault_of None (verdict_of missing_value)) → Wrote (does b (Asks f args)) (Err x) w w es fs had had
+  unknown_wrote x es fs had e h = record {
+    did = subst (λ t. Came worth_of (Err x) w fs (seen es w (silent (chosen t)))) (sym e) (failed worth_of x missing_value w es fs h);
+    wrote = subst (λ t. UnlessNoMemory {A = Got} (Err x) (had ≡ had ++ text_in (chosen t))) (sym e) (unless {A = Got} (Err x) (had ≡ had ++ []) (sym (append-nil had)));
+  }

@@ -1,0 +1,85 @@
+-- Reads and writes through a type, by their guards.
+use Rattle.std.proofs.Common.{◌≡◌, ℕ, ◌≤◌, Bool, true, false, List, ◌∷◌, length, refl, sym, ap, ◌∙◌, subst, arith}
+use Rattle.std.specs.Prelude.{◌&&◌, Result, Ok, Err, IfOk, OnOk}
+use Rattle.std.proofs.lemmas.Bool.{le-leb}
+use Rattle.pv_types.specs.Ty.{Ty}
+use Rattle.pv_types.specs.Known.{tree, env}
+use Rattle.pv_types.specs.Layouts.{is_complete_in, layout_in}
+use Rattle.pv_layout.specs.Places.{bare}
+use Rattle.pv_layout.proofs.Ahead.{bare_complete}
+use Rattle.pv_typed.specs.TypedUnits.{WholeUnit, layouts}
+use Rattle.pv_typed.specs.Tables.{Stored, whole}
+use Rattle.pv_seq.specs.Sequencing.{Access, Open, access_of, noted, top, below}
+use Rattle.pv_object.specs.declared.values.Pointer.{Pointer}
+use Rattle.pv_world.specs.declared.got.Got.{Got}
+use Rattle.pv_world.specs.declared.got.Failure.{Failure as Fallen}
+use Rattle.pv_world.specs.declared.got.Shape.{Shape}
+use Rattle.pv_world.specs.declared.got.Shape.TheVariants as shape
+use Rattle.pv_world.specs.Worlds.{Worth, Nothing, Missing, Scalar, Whole, World}
+use Rattle.pv_world.specs.Worths.{present}
+use Rattle.pv_world.specs.Doing.{Done}
+use Rattle.pv_world.specs.Accesses.{IsStored}
+use Rattle.pv_eval.specs.declared.failure.Failure.{Failure}
+use Rattle.pv_eval.specs.declared.types.Complete.{Complete}
+use Rattle.pv_eval.specs.States.{Setting}
+use Rattle.pv_eval.specs.Suiting.{is_size}
+use Rattle.pv_eval.specs.TypeForms.{lvalue, size_of}
+use Rattle.pv_eval.specs.Sizes.{setting_of, size_in, IsComplete}
+use Rattle.pv_eval.specs.Accesses.{access_to}
+use Rattle.pv_eval.specs.Moments.{Moment, IsSetting, Noted}
+use Rattle.pv_eval.proofs.Guards.{both_of}
+
+-- the guard of an lvalue's type
+abbrev pub fits_lvalue : Stored → Ty → Bool
+fits_lvalue u t = is_complete_in (layouts (whole u)) (bare t) && is_size (size_of (setting_of u) t)
+
+pub lvalue_fits : (u : Stored) (l : Complete) → IsComplete u.known l → fits_lvalue u (tree u.known l.t.0) ≡ true
+lvalue_fits u l h =
+    let t = tree u.known l.t.0 in
+    both_of (is_complete_in (layouts (whole u)) (bare t)) (is_size (size_of (setting_of u) t))
+    (bare_complete (env u.known) t ∙ h.complete) (le-leb (size_in u.known t) 4294967296 h.small)
+
+pub lvalue_unfit : (u : Stored) (t : Ty) → false ≡ (is_complete_in (env u.known) t && is_size (size_in u.known t)) → fits_lvalue u t ≡ false
+lvalue_unfit u t h = ap (λ c. c && is_size (size_in u.known t)) (bare_complete (env u.known) t) ∙ sym h
+
+pub left_false : (a b : Bool) → a ≡ false → (a && b) ≡ false
+left_false a b e = ap (λ x. x && b) e
+
+pub right_false : (a b : Bool) → b ≡ false → (a && b) ≡ false
+right_false true b e = e
+right_false false b e = refl
+
+-- a value that is stored is there
+pub stored_present : (s : Shape) (n : ℕ) (v : Worth) (w : World) (go : Worth → Done) → IsStored s n v → present v w go ≡ go v
+stored_present s n (Scalar v) w go h = refl
+stored_present s n (Whole bytes origin) w go h = refl
+stored_present s n Nothing w go h = refl
+stored_present (shape.Int k) n Missing w go h = absurd h
+stored_present shape.Pointer n Missing w go h = absurd h
+stored_present shape.Whole n Missing w go h = absurd h
+
+-- the access that was noted, once its operation is closed
+module _ (x : Access) (answer : Result Got Fallen) (old new : List Open) where
+  abbrev IsNoted : Type 0
+  IsNoted = new ≡ noted x (top old) ∷ below old
+
+  pub noted_closed : (a : Setting → Access) (u : Stored) (m : Moment) (result : Result Got Failure) → IfOk result (λ g. answer ≡ Ok g) → OnOk answer IsNoted → ((b : Setting) → IsSetting b u m → x ≡ a b)
+      → Noted a result old new u m
+  noted_closed a u m (Ok g) same h k = λ b hs. subst (λ r. OnOk r IsNoted) same h ∙ ap (λ y. noted y (top old) ∷ below old) (k b hs)
+  noted_closed a u m (Err e) same h k = tt
+
+  pub below_closed : (result : Result Got Failure) → IfOk result (λ g. answer ≡ Ok g) → OnOk answer IsNoted → IfOk result (λ v. below new ≡ below old)
+  below_closed (Ok g) same h = ap below (subst (λ r. OnOk r IsNoted) same h)
+  below_closed (Err e) same h = tt
+
+  pub some_closed : (result : Result Got Failure) → IfOk result (λ g. answer ≡ Ok g) → OnOk answer IsNoted → IfOk result (λ v. 1 ≤ length new)
+  some_closed (Ok g) same h =
+      let is : new ≡ noted x (top old) ∷ below old = subst (λ r. OnOk r IsNoted) same h in
+      subst (λ (js : List Open). 1 ≤ length js) (sym is) (omega arith)
+  some_closed (Err e) same h = tt
+
+-- an access by the tables of the unit is that in its setting
+pub access_is : (b : Setting) (u : Stored) (t v : Ty) (p : Pointer) (writes : Bool) → b.unit ≡ whole u → t ≡ v → access_to (lvalue (setting_of u) t) p writes ≡ access_to (lvalue b v) p writes
+access_is b u t v p writes unit e =
+    ap (λ (z : Ty). access_to (lvalue (setting_of u) z) p writes) e
+    ∙ ap (λ (w : WholeUnit). access_of p.address (layout_in (layouts w) v).size writes) (sym unit)

@@ -1,0 +1,10 @@
+use Rattle.std.proofs.Common.{◌≡◌}
+use Rattle.pv_types.specs.Known.{tree}
+use Rattle.pv_eval.specs.Arguments.{shape_to}
+use Rattle.pv_eval.proofs.asking.shape_to.Given as goal
+
+abbrev pub invariant-layers : goal.invariant-layers
+invariant-layers l = shape_to (tree l.types l.at.0) ≡ shape_to (tree l.types l.initial.at.0)
+
+abbrev pub decreases-layers : goal.decreases-layers
+decreases-layers l = l.at.0

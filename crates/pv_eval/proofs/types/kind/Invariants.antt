@@ -1,0 +1,10 @@
+use Rattle.std.proofs.Common.{◌≡◌}
+use Rattle.pv_types.specs.Known.{tree}
+use Rattle.pv_eval.specs.TypeForms.{kind_of}
+use Rattle.pv_eval.proofs.types.kind.Given as goal
+
+abbrev pub invariant-layers : goal.invariant-layers
+invariant-layers l = kind_of (tree l.types l.at.0) ≡ kind_of (tree l.types l.initial.at.0)
+
+abbrev pub decreases-layers : goal.decreases-layers
+decreases-layers l = l.at.0

@@ -1,0 +1,69 @@
+-- An operation on the state: the one place where the world changes, events are told and bytes are printed.
+use Rattle.std.specs.Prelude.{ℕ, Bool, not, List, [], ◌∷◌, ◌++◌, ◌==◌, ◌&&◌, length, nat_lt, Option, Some, None, false, if◌then◌else◌, slice_get}
+use Rattle.pv_prov.specs.declared.pairs.Twin.{Twin}
+use Rattle.pv_prov.specs.Names.{twin_at, kept}
+use Rattle.pv_watch.specs.declared.event.What.{What}
+use Rattle.pv_watch.specs.declared.event.What.TheVariants as what
+use Rattle.pv_world.specs.Worlds.{Worth, World, Halts, SidesEnded}
+use Rattle.pv_world.specs.Doing.{Done, Answers, Fails, Breaks}
+use Rattle.pv_world.specs.Telling.{Told, verdict_of, fault_of, fault_told}
+use Rattle.pv_eval.specs.declared.marked.Marked.{Marked}
+use Rattle.pv_eval.specs.States.{Setting, State, Stopped, Res, Gives, Stops}
+
+-- events, each with this turn and mark
+abbrev pub stamped : (turn mark : ℕ) → List What → List Marked
+stamped n m [] = []
+stamped n m (x ∷ xs) = record { event = record { turn = n; what = x }; mark = m } ∷ stamped n m xs
+
+-- the state after an operation: the bytes that it prints come after its events
+abbrev pub noted : World → Told → State → State
+noted w t s = record { world = w; output = s.output ++ t.bytes; events = s.events ++ stamped s.taken (length s.output) t.events; taken = s.taken }
+
+-- the same, with more events behind
+abbrev pub noted_with : World → Told → List What → State → State
+noted_with w t more s = noted w (record t { events = t.events ++ more }) s
+
+-- the pairs of a world
+abbrev pub pair_count : World → ℕ
+pair_count w = length w.memory.table.pairs
+
+-- pair k, which keeps both, keeps its low one or its high one alone
+abbrev pub keeps_both : Option Twin → Bool
+keeps_both None = false
+keeps_both (Some t) = t.keeps_low && t.keeps_high
+
+abbrev pub one_kept : World → (pair : ℕ) → (high : Bool) → World
+one_kept w k high = record w { memory = record w.memory { table = record w.memory.table { pairs = kept w.memory.table.pairs k (not high) high } } }
+
+abbrev pub sided : World → (pair : ℕ) → (high : Bool) → World
+sided w k high = if keeps_both (twin_at w.memory.table.pairs k) then one_kept w k high else w
+
+-- in a settled run the test on a pair that was just made finds one candidate, and nothing is told of it
+abbrev pub is_use_of : ℕ → What → Bool
+is_use_of k (what.Tried m test low high) = m == k
+is_use_of k _ = false
+
+abbrev pub without_use : ℕ → List What → List What
+without_use k [] = []
+without_use k (e ∷ es) = if is_use_of k e then without_use k es else e ∷ without_use k es
+
+abbrev pub settling : ℕ → Told → Told
+settling k t = record t { events = without_use k t.events }
+
+-- in a settled run a new pair keeps its side from its making on; where the list has no side for it the run ends
+abbrev pub by_side : Option Bool → Worth → (line : ℕ) → World → Told → State → Res Worth
+by_side None v line w t s = Stops (Stopped (Halts (SidesEnded (pair_count w))) line) (noted w (settling (pair_count w) t) s)
+by_side (Some high) v line w t s = Gives v (noted (sided w (pair_count w) high) (settling (pair_count w) t) s)
+
+abbrev pub answered : Option (List Bool) → Worth → (line : ℕ) → World → Told → State → Res Worth
+answered None v line w t s = Gives v (noted w t s)
+answered (Some sides) v line w t s =
+    if nat_lt (pair_count s.world) (pair_count w)
+    then by_side (slice_get sides (pair_count s.world)) v line w t s
+    else Gives v (noted w t s)
+
+-- an operation of the node in this line gives its value, or ends the run; then the fault comes last
+abbrev pub acted : Setting → (line : ℕ) → Done → State → Res Worth
+acted b line (Answers v w t) s = answered b.sides v line w t s
+acted b line (Fails y p w t) s = Stops (Stopped y line) (noted_with w t (fault_told s.world.memory y p) s)
+acted b line (Breaks y p w t) s = Stops (Stopped y line) (noted_with w t (fault_of p (verdict_of y)) s)

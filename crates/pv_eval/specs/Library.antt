@@ -1,0 +1,64 @@
+-- Calls of the library (C17 7): what they tell of, and what they come to.
+use Rattle.std.specs.Prelude.{ℕ, List, [], ◌∷◌, ◌++◌, Option, Some, None, Result, Ok, Err}
+use Rattle.pv_script.specs.declared.library.Library.{Library}
+use Rattle.pv_inst.specs.Table.{Table}
+use Rattle.pv_object.specs.declared.values.Stop.{Stop}
+use Rattle.pv_object.specs.Memory.{Mem}
+use Rattle.pv_libc.specs.declared.values.Arg.{Arg}
+use Rattle.pv_libc.specs.declared.values.Note.{Note}
+use Rattle.pv_libc.specs.declared.values.Note.TheVariants as note
+use Rattle.pv_libc.specs.declared.values.Reply.{Reply}
+use Rattle.pv_libc.specs.declared.values.Reply.TheVariants as reply
+use Rattle.pv_libc.specs.Steps.{Now}
+use Rattle.pv_libc.specs.Calls.{called, output}
+use Rattle.pv_watch.specs.declared.event.What.{What}
+use Rattle.pv_watch.specs.declared.event.What.TheVariants as what
+use Rattle.pv_world.specs.declared.failing.Blame.{Blame}
+use Rattle.pv_world.specs.Worlds.{World, Nothing, Scalar, Halts, Exits, Aborts, Refused}
+use Rattle.pv_world.specs.Telling.{Told, quiet, used, made}
+use Rattle.pv_world.specs.Doing.{Done, Answers, Fails, Breaks}
+use Rattle.pv_world.specs.Worths.{wrong_of}
+
+-- what happened within a call, as events
+abbrev pub noted_as : Table → Note → List What
+noted_as T (note.Made i) = made T i
+noted_as T (note.Ended i) = what.Ended i ∷ []
+noted_as T (note.Exposed i) = what.Exposed i ∷ []
+noted_as T (note.Used tried test) = used test tried
+noted_as T (note.Stopped low high pair) = []
+
+abbrev pub all_noted : Table → List Note → List What
+all_noted T [] = []
+all_noted T (n ∷ ns) = noted_as T n ++ all_noted T ns
+
+-- the pointer whose check stops a call is noted last, with what its name stood for before
+abbrev pub blame_in : List Note → Option Blame
+blame_in [] = None
+blame_in (note.Stopped low high pair ∷ ns) = Some (record { low = low; high = high; pair = pair })
+blame_in (n ∷ ns) = blame_in ns
+
+abbrev pub told_of : Mem → List Note → List ℕ → Told
+told_of M notes text = record { events = all_noted M.table notes; bytes = text }
+
+abbrev pub with_memory : World → Mem → World
+with_memory w M = record w { memory = M }
+
+-- 7.22.4.1, 7.22.4.4: the program may end; a place that the script has for an allocation may be refused, under the name 1
+abbrev pub replied : Reply → World → Told → Done
+replied reply.Nothing w t = Answers Nothing w t
+replied (reply.Value v) w t = Answers (Scalar v) w t
+replied (reply.Exit n) w t = Fails (Halts (Exits n)) None w t
+replied reply.Abort w t = Fails (Halts Aborts) None w t
+replied (reply.Placement e) w t = Fails (Halts (Refused 1 e)) None w t
+
+-- what a call comes to in this world, beside what happened within it
+abbrev pub come_to : Option Blame → Result Reply Stop → World → Done
+come_to b (Ok r) w = replied r w quiet
+come_to b (Err y) w = Breaks (wrong_of y) b w quiet
+
+abbrev pub asked : World → (text : List ℕ) → Result Reply Stop → Now → Done
+asked w text (Ok r) S = replied r (with_memory w S.memory) (told_of S.memory S.notes text)
+asked w text (Err y) S = Breaks (wrong_of y) (blame_in S.notes) (with_memory w S.memory) (told_of S.memory S.notes [])
+
+abbrev pub asks : Library → List Arg → World → Done
+asks f args w = asked w (output f args w.memory) (called f args w.memory).answer (called f args w.memory).after

@@ -1,0 +1,121 @@
+-- The operations of a run (C17 6.3, 6.5, 6.7.9, 7), and what each does.
+use Rattle.std.specs.Prelude.{ℕ, nat_le, Bool, true, ◌&&◌, List, Option, None, if◌then◌else◌}
+use Rattle.pv_num.specs.declared.kinds.IntKind.{IntKind}
+use Rattle.pv_num.specs.declared.operators.BinOp.{BinOp}
+use Rattle.pv_num.specs.declared.operators.UnOp.{UnOp}
+use Rattle.pv_num.specs.Kinds.{fits_of}
+use Rattle.pv_types.specs.Layouts.{is_complete_in}
+use Rattle.pv_typed.specs.TypedUnits.{layouts}
+use Rattle.pv_script.specs.declared.library.Library.{Library}
+use Rattle.pv_seq.specs.Sequencing.{Access}
+use Rattle.pv_libc.specs.declared.values.Arg.{Arg}
+use Rattle.pv_world.specs.declared.got.How.{How}
+use Rattle.pv_world.specs.Worlds.{Worth, World}
+use Rattle.pv_world.specs.Worths.{truth_int, int_of, missing_value}
+use Rattle.pv_world.specs.Telling.{quiet}
+use Rattle.pv_world.specs.Doing.{Done, Fails}
+use Rattle.pv_world.specs.Conversions.{converts, opposite, tests}
+use Rattle.pv_world.specs.Calculations.{accepts, needs, calculates, calculates_one, follows_to}
+use Rattle.pv_world.specs.Pointers.{moves, subtracts, orders, equals, selects, is_order}
+use Rattle.pv_world.specs.Objects.{names_literal, begins_body, ends_body}
+use Rattle.pv_eval.specs.States.{Setting, State, Res}
+use Rattle.pv_eval.specs.Acting.{acted}
+use Rattle.pv_eval.specs.TypeForms.{Lvalue}
+use Rattle.pv_eval.specs.Accesses.{reads, writes, takes_part}
+use Rattle.pv_eval.specs.Objects.{names_object, makes, ends, makes_literal, fills, puts, puts_text}
+use Rattle.pv_eval.specs.Library.{asks}
+use Rattle.pv_eval.specs.Suiting.{knows_worth, knows_arguments, is_small, is_integer, is_promoted, is_operand, is_size, is_stored, has_part}
+
+pub data Op : Type 0 where
+  -- 6.3, 6.5.3.3, 6.5.5 to 6.5.14
+  Converts : How → Worth → Op
+  Calculates : BinOp → IntKind → Worth → Worth → Op
+  CalculatesOne : UnOp → IntKind → Worth → Op
+  Tests : Worth → Op
+  Negates : Worth → Op
+  -- a value is passed on: an argument, a return, a comparison of a switch
+  Accepts : Worth → Op
+  Needs : Worth → Op
+  -- 6.5.2.1, 6.5.2.3, 6.5.3.2, 6.5.6, 6.5.8, 6.5.9
+  Moves : (minus pointer_first : Bool) → (size : ℕ) → Worth → Worth → Op
+  Subtracts : (size : ℕ) → Worth → Worth → Op
+  Orders : BinOp → Worth → Worth → Op
+  Equals : (negated : Bool) → Worth → Worth → Op
+  Follows : (nothing : Bool) → Worth → Op
+  Selects : (offset : ℕ) → Worth → Op
+  TakesPart : (offset : ℕ) → Lvalue → Worth → Op
+  -- 6.3.2.1p2, 6.5.16p3
+  Reads : Lvalue → (place : Worth) → List Access → Op
+  Writes : Lvalue → (place value : Worth) → (from : Option ℕ) → List Access → Op
+  -- 6.5.1, 6.2.4
+  NamesObject : (object : ℕ) → Op
+  NamesLiteral : (literal : ℕ) → Op
+  Makes : (object : ℕ) → Op
+  MakesLiteral : (literal : ℕ) → Op
+  Ends : (object : ℕ) → Op
+  BeginsBody : Op
+  EndsBody : Op
+  -- 6.7.9
+  Fills : (object : ℕ) → Option ℕ → Op
+  Puts : (object offset : ℕ) → Lvalue → Worth → Op
+  PutsText : (object offset size literal : ℕ) → Op
+  -- 7
+  Asks : Library → List Arg → Op
+
+-- what typing promises of the operands of an operation: an operand of another kind comes from no checked unit
+abbrev pub suits : Setting → Op → World → Bool
+suits b (Converts how v) w = is_small v && knows_worth w.memory.table v
+suits b (Calculates op k v x) w = (is_promoted k && fits_of k (int_of v)) && is_operand op k (int_of x)
+suits b (CalculatesOne op k v) w = is_promoted k && fits_of k (int_of v)
+suits b (Tests v) w = knows_worth w.memory.table v
+suits b (Negates v) w = knows_worth w.memory.table v
+suits b (Needs v) w = is_integer v
+suits b (Moves minus first size v x) w = is_size size && ((is_small v && is_small x) && (knows_worth w.memory.table v && knows_worth w.memory.table x))
+suits b (Subtracts size v x) w = is_size size && (nat_le 1 size && (knows_worth w.memory.table v && knows_worth w.memory.table x))
+suits b (Orders op v x) w = is_order op && (knows_worth w.memory.table v && knows_worth w.memory.table x)
+suits b (Equals negated v x) w = knows_worth w.memory.table v && knows_worth w.memory.table x
+suits b (Selects offset v) w = knows_worth w.memory.table v
+suits b (TakesPart offset l v) w = is_size l.size && (has_part v offset l.size && knows_worth w.memory.table v)
+suits b (Reads l place rivals) w = (is_complete_in (layouts b.unit) l.t && is_size l.size) && knows_worth w.memory.table place
+suits b (Writes l place v from rivals) w =
+    (is_complete_in (layouts b.unit) l.t && is_size l.size) && (is_stored l.shape l.size v && (knows_worth w.memory.table place && knows_worth w.memory.table v))
+suits b (Asks f args) w = knows_arguments w.memory.table args
+-- the others take every value
+suits b _ w = true
+
+-- one line an operation
+abbrev pub works : Setting → Op → World → Done
+works b (Converts how v) = converts how v
+works b (Calculates op k v x) = calculates op k v x
+works b (CalculatesOne op k v) = calculates_one op k v
+works b (Tests v) = tests truth_int v
+works b (Negates v) = tests opposite v
+works b (Accepts v) = accepts v
+works b (Needs v) = needs v
+works b (Moves minus first size v x) = moves minus first size v x
+works b (Subtracts size v x) = subtracts size v x
+works b (Orders op v x) = orders op v x
+works b (Equals negated v x) = equals negated v x
+works b (Follows nothing v) = follows_to nothing v
+works b (Selects offset v) = selects offset v
+works b (TakesPart offset l v) = takes_part offset l v
+works b (Reads l place rivals) = reads b l place rivals
+works b (Writes l place v from rivals) = writes b l place v from rivals
+works b (NamesObject o) = names_object b o
+works b (NamesLiteral l) = names_literal l
+works b (Makes o) = makes b o
+works b (MakesLiteral l) = makes_literal b l
+works b (Ends o) = ends b o
+works b BeginsBody = begins_body
+works b EndsBody = ends_body
+works b (Fills o v) = fills b o v
+works b (Puts o offset l v) = puts b o offset l v
+works b (PutsText o offset size l) = puts_text b o offset size l
+works b (Asks f args) = asks f args
+
+-- 6.9.1p12: on a value that isn't of its expression's type it ends the run as on a value that is missing
+abbrev pub does : Setting → Op → World → Done
+does b op w = if suits b op w then works b op w else Fails missing_value None w quiet
+
+abbrev pub act : Setting → (line : ℕ) → Op → State → Res Worth
+act b line op s = acted b line (does b op s.world) s

@@ -1,0 +1,13 @@
+-- Lists that are lent, as the logic has their types.
+use denote.RattleType.{RattleType}
+use Rattle.std.specs.Borrow.{u8}
+use Rattle.std.specs.contracts.alloc.Global as global
+use Rattle.std.specs.contracts.vec.Vec as vec
+use Rattle.std.specs.contracts.impls.GlobalAllocator.TheImpl.{ghosts}
+use Rattle.pv_eval.specs.contracts.marked.Marked as marked
+
+abbrev pub bytes_row : RattleType
+bytes_row = vec.the_row u8 global.the_row ghosts
+
+abbrev pub events_row : RattleType
+events_row = vec.the_row marked.the_row global.the_row ghosts

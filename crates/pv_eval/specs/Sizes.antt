@@ -1,0 +1,42 @@
+-- The same questions to the tables of a unit alone.
+use Rattle.std.specs.Prelude.{◌≡◌, ℕ, Bool, ◌<◌, ◌≤◌, ◌^◌, IsTrue, length, None}
+use Rattle.pv_types.specs.Ty.{Ty}
+use Rattle.pv_types.specs.Known.{Known, tree, env}
+use Rattle.pv_types.specs.Layouts.{layout_in, is_complete_in}
+use Rattle.pv_layout.specs.Places.{bare}
+use Rattle.pv_typed.specs.Tables.{Stored, whole}
+use Rattle.pv_world.specs.declared.got.How.{How}
+use Rattle.pv_eval.specs.declared.types.Complete.{Complete}
+use Rattle.pv_eval.specs.States.{Setting}
+use Rattle.pv_eval.specs.TypeForms.{number_of, shape_of, pointed_to, alignment_by}
+use Rattle.pv_eval.specs.Conversions.{how_by}
+
+-- what operations look at in the setting of a run: neither the bound nor the sides
+abbrev pub setting_of : Stored → Setting
+setting_of u = record { unit = whole u; types = u.known; bound = 0; sides = None }
+
+abbrev pub size_in : Known → Ty → ℕ
+size_in m t = (layout_in (env m) t).size
+
+abbrev pub align_in : Known → Ty → ℕ
+align_in m t = alignment_by (env m) t
+
+abbrev pub number_in : Known → Ty → ℕ
+number_in m t = number_of m (bare t)
+
+abbrev pub element_in : Known → Ty → ℕ
+element_in m t = size_in m (pointed_to t)
+
+abbrev pub alignment_in : Known → Ty → ℕ
+alignment_in m t = alignment_by (env m) (pointed_to t)
+
+abbrev pub how_in : Known → (implied : Bool) → (from to : Ty) → How
+how_in m implied from to = how_by (env m) implied (shape_of from) (shape_of to) (pointed_to to)
+
+-- a complete object type of at most 2 ^ 32 bytes
+pub record IsComplete (m : Known) (l : Complete) : Type 0 where
+  pub known : l.t.0 < length m.terms
+  pub complete : IsTrue (is_complete_in (env m) (tree m l.t.0))
+  pub size : l.size ≡ size_in m (tree m l.t.0)
+  pub small : size_in m (tree m l.t.0) ≤ 2 ^ 32
+  pub some : 1 ≤ l.size

@@ -1,0 +1,7 @@
+-- The meaning of a stack, whatever its frames are: the specified rest of the run. The innermost frame comes first.
+use Rattle.std.specs.Prelude.{List, [], ◌∷◌}
+use Rattle.pv_eval.specs.States.{State, Res, Gives, then_do}
+
+abbrev pub rest : {F V : Type 0} → (F → V → State → Res V) → List F → V → State → Res V
+rest after [] v s = Gives v s
+rest after (f ∷ fs) v s = then_do (after f v s) (rest after fs)

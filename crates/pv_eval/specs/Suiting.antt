@@ -1,0 +1,117 @@
+-- What typing promises of the values that operations are made on (C17 6.3, 6.5, 6.7.9): the names in them were made, a number lies
+-- within an integer type, a stored value is one of the type. A checked unit never comes to anything else.
+use Rattle.std.specs.Prelude.{ℕ, ◌+◌, ◌-◌, ◌^◌, ◌==◌, Bool, true, false, ◌&&◌, nat_le, nat_lt, pos, neg_ℤ, int_le, ℤ, List, length, Option, Some, None}
+use Rattle.std.specs.List.{list_all}
+use Rattle.pv_num.specs.declared.kinds.IntKind.{IntKind}
+use Rattle.pv_num.specs.declared.operators.BinOp.{BinOp}
+use Rattle.pv_num.specs.declared.operators.BinOp.TheVariants.{Shl, Shr}
+use Rattle.pv_num.specs.Kinds.{width, fits_of}
+use Rattle.pv_prov.specs.declared.names.Prov.{Prov}
+use Rattle.pv_prov.specs.declared.names.Prov.TheVariants.{Empty, Inst, Pair}
+use Rattle.pv_inst.specs.declared.values.Instance.{Instance}
+use Rattle.pv_inst.specs.Table.{Table, instance_at}
+use Rattle.pv_shadow.specs.declared.byte.Byte.{Byte}
+use Rattle.pv_object.specs.declared.values.Scalar.{Scalar}
+use Rattle.pv_object.specs.declared.values.Scalar.TheVariants as scalar
+use Rattle.pv_object.specs.declared.values.Value.{Value}
+use Rattle.pv_object.specs.declared.values.Value.TheVariants.{Int as IntValue, Unset, Pointer as PointerValue}
+use Rattle.pv_object.specs.Values.{is_character}
+use Rattle.pv_libc.specs.declared.values.Arg.{Arg}
+use Rattle.pv_world.specs.declared.got.Shape.{Shape}
+use Rattle.pv_world.specs.declared.got.Shape.TheVariants as shape
+use Rattle.pv_world.specs.Worlds.{Worth, Nothing, Missing, Scalar as ScalarWorth, Whole, World}
+use Rattle.pv_world.specs.Worths.{int_of}
+
+-- 6.2.4: what a name speaks of was made
+abbrev pub knows : Table → Prov → Bool
+knows T Empty = true
+knows T (Inst i) = nat_le 1 i && nat_le i (length T.instances)
+knows T (Pair k) = nat_le 1 k && nat_le k (length T.pairs)
+
+abbrev pub knows_value : Table → Value → Bool
+knows_value T (PointerValue p) = knows T p.prov
+knows_value T (IntValue n) = true
+knows_value T Unset = true
+
+abbrev pub knows_bytes : Table → List Byte → Bool
+knows_bytes T bytes = list_all (λ (x : Byte). knows T x.prov) bytes
+
+abbrev pub knows_worth : Table → Worth → Bool
+knows_worth T (ScalarWorth v) = knows_value T v
+knows_worth T (Whole bytes origin) = knows_bytes T bytes
+knows_worth T Nothing = true
+knows_worth T Missing = true
+
+abbrev pub knows_arguments : Table → List Arg → Bool
+knows_arguments T args = list_all (λ (x : Arg). knows_value T x.value) args
+
+-- 6.2.5p17: a number is one of some integer type, or the difference of two addresses
+abbrev pub is_small : Worth → Bool
+is_small v = int_le (neg_ℤ (pos (2 ^ 64))) (int_of v) && int_le (int_of v) (pos (2 ^ 64))
+
+-- 6.8.4.2p1: an integer, if the value is there and was set
+abbrev pub is_integer_value : Value → Bool
+is_integer_value (IntValue n) = true
+is_integer_value Unset = true
+is_integer_value (PointerValue p) = false
+
+abbrev pub is_integer : Worth → Bool
+is_integer (ScalarWorth v) = is_integer_value v
+is_integer Missing = true
+is_integer Nothing = false
+is_integer (Whole bytes origin) = false
+
+-- 6.3.1.1p2: the integer promotions leave the kind as it is
+abbrev pub is_promoted : IntKind → Bool
+is_promoted k = nat_le 32 (width k)
+
+-- 6.5.5 to 6.5.12: the right operand has the kind, and that of a shift any promoted kind (6.5.7p3)
+abbrev pub is_count : ℤ → Bool
+is_count n = int_le (neg_ℤ (pos (2 ^ 63))) n && int_le n (pos (2 ^ 64 - 1))
+
+abbrev pub is_operand : BinOp → IntKind → ℤ → Bool
+is_operand Shl k n = is_count n
+is_operand Shr k n = is_count n
+is_operand op k n = fits_of k n
+
+-- no object is larger than this
+abbrev pub is_size : ℕ → Bool
+is_size n = nat_le n (2 ^ 32)
+
+-- 6.2.6.1: a value of the scalar type
+abbrev pub is_of : Scalar → Value → Bool
+is_of (scalar.Int k) (IntValue n) = fits_of k n
+is_of (scalar.Int k) Unset = is_character k
+is_of (scalar.Int k) (PointerValue p) = false
+is_of scalar.Pointer (PointerValue p) = nat_lt p.address (2 ^ 64)
+is_of scalar.Pointer (IntValue n) = false
+is_of scalar.Pointer Unset = false
+
+-- 6.5.16.1p2, 6.7.9p11, p13: a value that is stored in so many bytes is one of the type
+abbrev pub is_stored : Shape → ℕ → Worth → Bool
+is_stored (shape.Int k) n (ScalarWorth v) = is_of (scalar.Int k) v
+is_stored shape.Pointer n (ScalarWorth v) = is_of scalar.Pointer v
+is_stored shape.Whole n (Whole bytes origin) = n == length bytes
+is_stored s n v = false
+
+-- 6.5.2.3p3: a structure or union has the bytes of its member
+abbrev pub has_part : Worth → (offset size : ℕ) → Bool
+has_part (Whole bytes origin) offset size = nat_le (offset + size) (length bytes)
+has_part Missing offset size = true
+has_part Nothing offset size = false
+has_part (ScalarWorth v) offset size = false
+
+-- 6.2.4p2: a live instance, and so many of its bytes from an offset on
+abbrev pub live_in : Option Instance → Bool
+live_in None = false
+live_in (Some x) = x.live
+
+abbrev pub is_live : World → ℕ → Bool
+is_live w i = live_in (instance_at w.memory.table.instances i)
+
+abbrev pub room_in : Option Instance → (offset n : ℕ) → Bool
+room_in None offset n = false
+room_in (Some x) offset n = x.live && nat_le (offset + n) x.size
+
+abbrev pub has_room : World → (i offset n : ℕ) → Bool
+has_room w i offset n = room_in (instance_at w.memory.table.instances i) offset n

@@ -1,0 +1,95 @@
+-- What operations ask of a type (C17 6.2.5, 6.3.1.1, 6.5.3.4).
+use Rattle.std.specs.Prelude.{ℕ, List, Bool, true, false, if◌then◌else◌, position, unwrap_or}
+use Rattle.pv_num.specs.declared.kinds.IntKind.{IntKind}
+use Rattle.pv_num.specs.declared.kinds.IntKind.TheVariants as kind
+use Rattle.pv_types.specs.Ty.{Ty, VoidTy, IntTy, PointerTo, ArrayOf, FunctionTy, ConstOf}
+use Rattle.pv_types.specs.Layouts.{Entry, layout_in, is_complete_in}
+use Rattle.pv_types.specs.Known.{Known, trees}
+use Rattle.pv_layout.specs.Places.{bare}
+use Rattle.pv_effect.specs.EffectiveType.{same_type}
+use Rattle.pv_typed.specs.TypedUnits.{layouts}
+use Rattle.pv_world.specs.declared.got.Shape.{Shape}
+use Rattle.pv_world.specs.declared.got.Shape.TheVariants as shape
+use Rattle.pv_eval.specs.States.{Setting}
+
+-- an lvalue, qualifiers aside: its type and the number of that, its size, its alignment and its shape
+pub record Lvalue : Type 0 where
+  pub t : Ty
+  pub number : ℕ
+  pub size : ℕ
+  pub align : ℕ
+  pub shape : Shape
+
+-- 6.3.2.1p2: what is read or written through it: an integer, a pointer, or a structure or union whole
+abbrev pub shape_of : Ty → Shape
+shape_of (IntTy k) = shape.Int k
+shape_of (PointerTo t) = shape.Pointer
+shape_of (ConstOf t) = shape_of t
+shape_of _ = shape.Whole
+
+-- the number of a type in the table
+abbrev pub number_of : Known → Ty → ℕ
+number_of m t = unwrap_or (position (same_type t) (trees m)) 0
+
+-- 6.5.3.4, 6.2.8
+abbrev pub size_of : Setting → Ty → ℕ
+size_of b t = (layout_in (layouts b.unit) t).size
+
+abbrev pub align_of : Setting → Ty → ℕ
+align_of b t = (layout_in (layouts b.unit) t).align
+
+-- 6.3.2.1p1
+abbrev pub lvalue : Setting → Ty → Lvalue
+lvalue b t = record { t = bare t; number = number_of b.types (bare t); size = size_of b t; align = align_of b t; shape = shape_of t }
+
+-- the kind of an integer type; 6.3.1.1p2: what the promotions make of it
+abbrev pub kind_of : Ty → IntKind
+kind_of (IntTy k) = k
+kind_of (ConstOf t) = kind_of t
+kind_of _ = kind.Int
+
+abbrev pub promoted : IntKind → IntKind
+promoted kind.Bool = kind.Int
+promoted kind.Char = kind.Int
+promoted kind.SChar = kind.Int
+promoted kind.UChar = kind.Int
+promoted kind.Short = kind.Int
+promoted kind.UShort = kind.Int
+promoted k = k
+
+-- 6.2.5p20, qualifiers aside
+abbrev pub is_pointer : Ty → Bool
+is_pointer (PointerTo t) = true
+is_pointer (ConstOf t) = is_pointer t
+is_pointer _ = false
+
+-- what a pointer type points to
+abbrev pub pointed_to : Ty → Ty
+pointed_to (PointerTo t) = t
+pointed_to (ConstOf t) = pointed_to t
+pointed_to _ = VoidTy
+
+-- 6.3.2.3p7: a pointer to this type is aligned for what it points to; an incomplete type asks for nothing
+abbrev pub alignment_by : List Entry → Ty → ℕ
+alignment_by env t = if is_complete_in env t then (layout_in env t).align else 1
+
+-- 6.5.6p8: the size of what it points to
+abbrev pub element_size : Setting → Ty → ℕ
+element_size b t = size_of b (pointed_to t)
+
+-- 6.7.3p6, p9: the declared type, or the innermost element type, is const-qualified
+abbrev pub is_constant : Ty → Bool
+is_constant (ConstOf t) = true
+is_constant (ArrayOf t n) = is_constant t
+is_constant _ = false
+
+-- 6.9.1p12: what a function of this type gives is nothing
+abbrev pub is_none : Ty → Bool
+is_none VoidTy = true
+is_none (ConstOf t) = is_none t
+is_none _ = false
+
+-- 6.7.6.3, 6.8.6.4: a function that returns nothing
+abbrev pub gives_none : Ty → Bool
+gives_none (FunctionTy t ts v) = is_none t
+gives_none _ = false

@@ -1,0 +1,381 @@
+// The machine of expressions: the moment, and the expressions that were started.
+ghost use Rattle.std.specs.Prelude.{◌≡◌, ℕ, ◌+◌, ◌<◌, ◌^◌, true, length, map, IfOk, OnOk};
+ghost use Rattle.std.specs.Borrow.{Lends, sem};
+ghost use Rattle.pv_eval.specs.Rows.{bytes_row, events_row};
+ghost use Rattle.pv_eval.specs.contracts.machine.Machine.{the_row};
+ghost use Rattle.pv_types.specs.Known.{tree};
+ghost use Rattle.pv_typed.specs.TypedTree.{line_of};
+ghost use Rattle.pv_typed.specs.Tables.{Stored, expression_at, IsExpression};
+ghost use Rattle.pv_world.specs.Worlds.{Nothing};
+ghost use Rattle.pv_world.specs.Coming.{worth_of};
+ghost use Rattle.pv_eval.specs.Constants.{constant_worth, high_side};
+ghost use Rattle.pv_eval.specs.Runnable.{IsRunnable};
+ghost use Rattle.pv_eval.specs.States.{Gives, then_do};
+ghost use Rattle.pv_eval.specs.Steps.{Calling, converted};
+ghost use Rattle.pv_eval.specs.TypeForms.{lvalue, size_of};
+ghost use Rattle.pv_eval.specs.Operations.{Tests, Accepts, Needs, BeginsBody, EndsBody, Makes, MakesLiteral, Ends, Fills, Puts, PutsText, act};
+ghost use Rattle.pv_eval.specs.Moments.{sides_of, state_of, Always, Came, Tested, Made, Needed, IsMemory, Stays};
+ghost use Rattle.pv_eval.specs.Machines.{first_machine, left_of, ended, is_due, is_going, is_ended, is_asked, asked_arguments, asked_line, due_turns, after_first};
+ghost use Rattle.pv_eval.specs.MachineSteps.{IsBegun, IsTaken, IsAnswered, IsOpen, Fit, Stepped, WentTo, KeepsSetting};
+
+use crate::converting::{hand_on, need};
+use crate::failure::Failure;
+use crate::frames::Step;
+use crate::marked::Marked;
+use crate::moment::Moment;
+use crate::started::{Stacks, Started};
+use pv_script::Script;
+use pv_tree::NodeId;
+use pv_typed::{Const, TypedUnit};
+use pv_types::TypeId;
+use pv_world::Got;
+use std::alloc::Global;
+use std::collections::VecDeque;
+use std::marker::Model;
+
+/// What a run has in hand, and the expressions in progress, the innermost first: each but that one waits for a call.
+#[derive(Drop)]
+pub struct Machine {
+    alloc: Global,
+    moment: Moment,
+    started: VecDeque<Started>,
+    /// Stacks of expressions that have ended.
+    spare: Vec<Stacks>,
+}
+
+impl Model for Machine {
+    ghost use Rattle.std.specs.Coded.{codes};
+    ghost use Rattle.pv_inst.specs.CountsCode.{counts_code};
+    ghost use Rattle.pv_object.specs.Codes.{store_code};
+    ghost use Rattle.pv_eval.specs.Machines.{Machine as Seen};
+
+    ghost Value = { Seen };
+
+    ghost coded = { Prim.hlevel (codes, counts_code, store_code) };
+
+    ghost view = { λ m. record { moment = m.moment; started = m.started.items } };
+}
+
+impl Machine {
+    /// Nothing made, printed, told or started; in a settled run with the sides of its pairs.
+    pub fn new(
+        alloc: Global,
+        unit: &TypedUnit,
+        script: Script,
+        sides: Option<Vec<bool>>,
+    ) -> Result<Machine, Failure>
+        requires runnable { IsRunnable unit.now }
+        ensures value { IfOk result (λ m. m ≡ first_machine script (sides_of sides)) }
+        ensures memory { IsMemory result }
+    {
+        match Moment::new(alloc, script, unit.names(), sides) {
+            Ok(moment) => Ok(Machine {
+                alloc,
+                moment,
+                started: VecDeque::new(alloc),
+                spare: Vec::new(alloc),
+            }),
+            Err(e) => Err(e),
+        }
+    }
+
+    /// The value of a constant (C17 6.6), by the places of static objects and literals.
+    pub fn constant(&self, c: Const) -> Got
+        ensures { worth_of result ≡ constant_worth self.now.moment.world c }
+    {
+        self.moment.constant(c)
+    }
+
+    /// How many pairs were made.
+    pub fn pairs(&self) -> u64
+        ensures { result ≡ length self.now.moment.world.memory.table.pairs }
+    {
+        self.moment.pairs()
+    }
+
+    /// Whether a pair keeps its high candidate alone, counted from 0.
+    pub fn is_high(&self, k: u64) -> bool
+        requires { k < length self.now.moment.world.memory.table.pairs }
+        ensures { result ≡ high_side self.now.moment.world k }
+    {
+        self.moment.is_high(k)
+    }
+
+    /// Whether the next step takes a turn.
+    pub fn due(&self) -> bool
+        ensures { result ≡ is_due self.now.started }
+    {
+        match self.started.front() {
+            Some(e) => e.due(),
+            None => false,
+        }
+    }
+
+    /// Takes a statement's turn.
+    pub fn tick(&mut self)
+        requires { self.old.moment.taken < 10 ^ 8 }
+        ensures moment { self.new.moment ≡ record self.old.moment { taken = self.old.moment.taken + 1 } }
+        ensures started { self.new.started ≡ self.old.started }
+    {
+        self.moment.tick();
+    }
+
+    /// The turns taken.
+    pub fn turns(&self) -> u64
+        ensures { result ≡ self.now.moment.taken }
+    {
+        self.moment.turns()
+    }
+
+    /// Starts an expression, which is the innermost one then.
+    pub fn start(&mut self, n: NodeId) -> Result<(), Failure>
+        ensures begun { OnOk result (IsBegun n self.new.started self.old.started) }
+        ensures moment { self.new.moment ≡ self.old.moment }
+        ensures fit { (u : Stored) → IsExpression u n → Fit u self.old.started → OnOk result (Fit u self.new.started) }
+        ensures memory { IsMemory result }
+    {
+        let stacks = match self.spare.pop() {
+            Some(stacks) => stacks,
+            None => Stacks::new(self.alloc),
+        };
+        let Ok(e) = Started::new(stacks, n) else {
+            return Err(Failure::NoMemory);
+        };
+        match self.started.push_front(e) {
+            Ok(()) => Ok(()),
+            Err(_) => Err(Failure::NoMemory),
+        }
+    }
+
+    /// One turn of the innermost expression, and what comes before the next.
+    pub fn step(&mut self, unit: &TypedUnit) -> Result<Step, Failure>
+        requires runnable { IsRunnable unit.now }
+        requires going { is_going self.old.started ≡ true }
+        requires fit { Fit unit.now self.old.started }
+        requires turn { is_due self.old.started ≡ true → self.old.moment.taken < 10 ^ 8 }
+        ensures rest { Always unit.now self.old.moment (λ b out es. (call : Calling) → (is_due self.old.started ≡ true → self.old.moment.taken < b.bound) → Stepped b call unit.now (left_of b call unit.now self.old.started (state_of self.old.moment out es)) result self.new.started (state_of self.new.moment out es)) }
+        ensures others { after_first self.new.started ≡ after_first self.old.started }
+        ensures which { IfOk result (λ x. WentTo unit.now x self.new.started) }
+        ensures fit { OnOk result (Fit unit.now self.new.started) }
+        ensures taken { self.new.moment.taken ≡ self.old.moment.taken + due_turns self.old.started }
+        ensures stays { KeepsSetting self.old.moment self.new.moment }
+    {
+        match self.started.front_mut() {
+            Some(e) => e.step(self.alloc, unit, &mut self.moment),
+            None => unreachable!(),
+        }
+    }
+
+    /// The value of the innermost expression, which has ended.
+    pub fn value(&mut self) -> Got
+        requires { is_ended self.old.started ≡ true }
+        ensures value { worth_of result ≡ ended self.old.started }
+        ensures started { self.new.started ≡ after_first self.old.started }
+        ensures moment { self.new.moment ≡ self.old.moment }
+    {
+        match self.started.pop_front() {
+            Some(e) => e.value(&mut self.spare),
+            None => unreachable!(),
+        }
+    }
+
+    /// The value of the innermost expression, which has ended, compared with 0 by the condition in this line
+    /// (C17 6.8.4.1, 6.8.5).
+    pub fn decide(&mut self, unit: &TypedUnit, line: u32) -> Result<bool, Failure>
+        requires runnable { IsRunnable unit.now }
+        requires ended { is_ended self.old.started ≡ true }
+        ensures tested { Always unit.now self.old.moment (λ b out es. Tested (act b line (Tests (ended self.old.started)) (state_of self.old.moment out es)) result (state_of self.new.moment out es)) }
+        ensures started { self.new.started ≡ after_first self.old.started }
+        ensures stays { Stays self.old.moment self.new.moment }
+    {
+        let v = self.value();
+        self.moment.test(unit, line, v)
+    }
+
+    /// The value of the innermost expression, which has ended, converted where that is implied and handed on by the node
+    /// or statement in this line (C17 6.7.9, 6.8.6.4).
+    pub fn hand(&mut self, unit: &TypedUnit, n: NodeId, line: u32) -> Result<Got, Failure>
+        requires runnable { IsRunnable unit.now }
+        requires node { IsExpression unit.now n }
+        requires ended { is_ended self.old.started ≡ true }
+        ensures handed { Always unit.now self.old.moment (λ b out es. Came (then_do (converted b (expression_at unit.now n) (ended self.old.started) (state_of self.old.moment out es)) (λ v s. act b line (Accepts v) s)) result (state_of self.new.moment out es)) }
+        ensures started { self.new.started ≡ after_first self.old.started }
+        ensures stays { Stays self.old.moment self.new.moment }
+    {
+        let v = self.value();
+        hand_on(unit, n, line, v, &mut self.moment)
+    }
+
+    /// The same as a number, for a switch (C17 6.8.4.2).
+    pub fn need(&mut self, unit: &TypedUnit, n: NodeId) -> Result<i128, Failure>
+        requires runnable { IsRunnable unit.now }
+        requires node { IsExpression unit.now n }
+        requires ended { is_ended self.old.started ≡ true }
+        ensures needed { Always unit.now self.old.moment (λ b out es. Needed (then_do (converted b (expression_at unit.now n) (ended self.old.started) (state_of self.old.moment out es)) (λ v s. act b (line_of (expression_at unit.now n)) (Needs v) s)) result (state_of self.new.moment out es)) }
+        ensures started { self.new.started ≡ after_first self.old.started }
+        ensures stays { Stays self.old.moment self.new.moment }
+    {
+        let v = self.value();
+        need(unit, n, v, &mut self.moment)
+    }
+
+    /// The arguments of the call that is handed up.
+    pub fn arguments(&mut self) -> Result<Vec<Got>, Failure>
+        requires { is_asked self.old.started ≡ true }
+        ensures arguments { IfOk result (λ a. map worth_of a.items ≡ asked_arguments self.old.started) }
+        ensures started { OnOk result (IsTaken self.new.started self.old.started) }
+        ensures fit { (u : Stored) → Fit u self.old.started → OnOk result (Fit u self.new.started) }
+        ensures memory { IsMemory result }
+        ensures moment { self.new.moment ≡ self.old.moment }
+    {
+        match self.started.front_mut() {
+            Some(e) => Ok(e.arguments(self.alloc)),
+            None => unreachable!(),
+        }
+    }
+
+    /// The line of the call that is handed up.
+    pub fn line(&self) -> u32
+        ensures { result ≡ asked_line self.now.started }
+    {
+        match self.started.front() {
+            Some(e) => e.line(),
+            None => 0,
+        }
+    }
+
+    /// The value that the call gives, whose body has ended.
+    pub fn answer(&mut self, v: Got)
+        requires { IsOpen self.old.started }
+        ensures started { IsAnswered (worth_of v) self.new.started self.old.started }
+        ensures fit { (u : Stored) → Fit u self.old.started → Fit u self.new.started }
+        ensures moment { self.new.moment ≡ self.old.moment }
+    {
+        match self.started.front_mut() {
+            Some(e) => e.answer(v),
+            None => unreachable!(),
+        }
+    }
+
+    /// The bytes that are printed and not yet taken, for whoever writes them.
+    pub fn printed(&mut self) -> &mut Vec<u8>
+        ensures* writes_back { sem 𝓛 (Lends the_row bytes_row self.entry result (λ w. record self.old { moment = record self.old.moment { printed = w.items } })) }
+        ensures value { result.now.items ≡ self.old.moment.printed }
+    {
+        self.moment.printed()
+    }
+
+    /// The events that are not yet told, for whoever tells them.
+    pub fn waiting(&mut self) -> &mut Vec<Marked>
+        ensures* writes_back { sem 𝓛 (Lends the_row events_row self.entry result (λ w. record self.old { moment = record self.old.moment { waiting = w.items } })) }
+        ensures value { result.now.items ≡ self.old.moment.waiting }
+    {
+        self.moment.waiting()
+    }
+
+    /// A body begins, with no objects of its own (C17 6.2.4p6).
+    pub fn begin_body(&mut self) -> Result<(), Failure>
+        ensures made { (u : Stored) → Always u self.old.moment (λ b out es. (line : ℕ) → Made (act b line BeginsBody (state_of self.old.moment out es)) result (state_of self.new.moment out es)) }
+        ensures started { self.new.started ≡ self.old.started }
+        ensures stays { Stays self.old.moment self.new.moment }
+        ensures memory { IsMemory result }
+    {
+        self.moment.begin_body()
+    }
+
+    /// The innermost body ends.
+    pub fn end_body(&mut self)
+        ensures made { (u : Stored) → Always u self.old.moment (λ b out es. (line : ℕ) → act b line EndsBody (state_of self.old.moment out es) ≡ Gives Nothing (state_of self.new.moment out es)) }
+        ensures started { self.new.started ≡ self.old.started }
+        ensures stays { Stays self.old.moment self.new.moment }
+    {
+        self.moment.end_body()
+    }
+
+    /// An object begins its lifetime (C17 6.2.4p2), for the declaration or call in this line.
+    pub fn make(&mut self, unit: &TypedUnit, line: u32, o: u32) -> Result<(), Failure>
+        requires runnable { IsRunnable unit.now }
+        requires there { o < length unit.now.objects }
+        ensures made { Always unit.now self.old.moment (λ b out es. Made (act b line (Makes o) (state_of self.old.moment out es)) result (state_of self.new.moment out es)) }
+        ensures started { self.new.started ≡ self.old.started }
+        ensures stays { Stays self.old.moment self.new.moment }
+    {
+        self.moment.make(unit, line, o)
+    }
+
+    /// A literal's array begins its lifetime (C17 6.4.5p6).
+    pub fn make_literal(&mut self, unit: &TypedUnit, line: u32, l: u32) -> Result<(), Failure>
+        requires runnable { IsRunnable unit.now }
+        requires there { l < length unit.now.literals }
+        ensures made { Always unit.now self.old.moment (λ b out es. Made (act b line (MakesLiteral l) (state_of self.old.moment out es)) result (state_of self.new.moment out es)) }
+        ensures started { self.new.started ≡ self.old.started }
+        ensures stays { Stays self.old.moment self.new.moment }
+    {
+        self.moment.make_literal(unit, line, l)
+    }
+
+    /// An object ends its lifetime (C17 6.2.4p2).
+    pub fn finish(&mut self, unit: &TypedUnit, o: u32) -> Result<(), Failure>
+        requires runnable { IsRunnable unit.now }
+        requires there { o < length unit.now.objects }
+        ensures made { Always unit.now self.old.moment (λ b out es. (line : ℕ) → Made (act b line (Ends o) (state_of self.old.moment out es)) result (state_of self.new.moment out es)) }
+        ensures started { self.new.started ≡ self.old.started }
+        ensures stays { Stays self.old.moment self.new.moment }
+        ensures memory { IsMemory result }
+    {
+        self.moment.finish(unit, o)
+    }
+
+    /// Every byte of an object becomes this one, or as in a new instance (C17 6.7.9p10, p19, p21).
+    pub fn fill(&mut self, unit: &TypedUnit, o: u32, value: Option<u8>) -> Result<(), Failure>
+        requires runnable { IsRunnable unit.now }
+        requires there { o < length unit.now.objects }
+        ensures made { Always unit.now self.old.moment (λ b out es. (line : ℕ) → Made (act b line (Fills o value) (state_of self.old.moment out es)) result (state_of self.new.moment out es)) }
+        ensures started { self.new.started ≡ self.old.started }
+        ensures stays { Stays self.old.moment self.new.moment }
+        ensures memory { IsMemory result }
+    {
+        self.moment.fill(unit, o, value)
+    }
+
+    /// A store of an initializer or of a parameter (C17 6.7.9p11, 6.9.1p10).
+    pub fn put(
+        &mut self,
+        unit: &TypedUnit,
+        o: u32,
+        offset: u64,
+        t: TypeId,
+        v: &Got,
+    ) -> Result<(), Failure>
+        requires runnable { IsRunnable unit.now }
+        requires there { o < length unit.now.objects }
+        requires typed { t.0 < length unit.now.known.terms }
+        ensures made { Always unit.now self.old.moment (λ b out es. (line : ℕ) → Made (act b line (Puts o offset (lvalue b (tree unit.now.known t.0)) (worth_of v.now)) (state_of self.old.moment out es)) result (state_of self.new.moment out es)) }
+        ensures started { self.new.started ≡ self.old.started }
+        ensures stays { Stays self.old.moment self.new.moment }
+        ensures memory { IsMemory result }
+    {
+        self.moment.put(unit, o, offset, t, v)
+    }
+
+    /// The characters of a literal that fill an array (C17 6.7.9p14).
+    pub fn put_text(
+        &mut self,
+        unit: &TypedUnit,
+        o: u32,
+        offset: u64,
+        t: TypeId,
+        literal: u32,
+    ) -> Result<(), Failure>
+        requires runnable { IsRunnable unit.now }
+        requires there { o < length unit.now.objects }
+        requires typed { t.0 < length unit.now.known.terms }
+        requires literal { literal < length unit.now.literals }
+        ensures made { Always unit.now self.old.moment (λ b out es. (line : ℕ) → Made (act b line (PutsText o offset (size_of b (tree unit.now.known t.0)) literal) (state_of self.old.moment out es)) result (state_of self.new.moment out es)) }
+        ensures started { self.new.started ≡ self.old.started }
+        ensures stays { Stays self.old.moment self.new.moment }
+        ensures memory { IsMemory result }
+    {
+        self.moment.put_text(unit, o, offset, t, literal)
+    }
+}

@@ -1,0 +1,220 @@
+// What a run has in hand.
+ghost use Rattle.std.specs.Prelude.{◌≡◌, ◌+◌, ◌<◌, ◌^◌, ℕ, [], List, length, IfOk, IfErr, OnOk, Ok, Bool};
+ghost use Rattle.pv_world.specs.Worlds.{Worth, World as Seen};
+ghost use Rattle.pv_world.specs.Telling.{telling};
+ghost use Rattle.pv_world.specs.Worths.{truth_int, int};
+ghost use Rattle.pv_world.specs.Doing.{Done};
+ghost use Rattle.pv_world.specs.Coming.{Did, worth_of, no_worth};
+ghost use Rattle.pv_eval.specs.States.{Setting};
+ghost use Rattle.pv_eval.specs.Acting.{acted, answered, pair_count, without_use};
+ghost use Rattle.pv_eval.specs.Siding.{Settled};
+ghost use Rattle.pv_eval.specs.Moments.{Follows, state_of, marked, Came, Tested, Needed, Made, IsMemory};
+ghost use Rattle.pv_eval.specs.declared.marked.Marked.{Marked as Event};
+
+use crate::failure::Failure;
+use crate::marked::{Marked, stamp, stamp_others};
+use crate::siding::{Side, keep_side, side_for};
+use pv_object::Value;
+use pv_watch::What;
+use pv_world::{Cause, Failure as Fallen, Got, World};
+use std::alloc::Global;
+use std::marker::Model;
+
+/// The world, what is printed and not yet taken, what happened and is not yet told, and the turns taken.
+#[derive(Drop)]
+pub struct Moment {
+    pub(crate) alloc: Global,
+    pub(crate) world: World,
+    pub(crate) printed: Vec<u8>,
+    /// How many bytes were printed in all.
+    pub(crate) total: u64,
+    pub(crate) waiting: Vec<Marked>,
+    pub(crate) taken: u64,
+    /// In a settled run the side of each pair, true for the high one.
+    pub(crate) sides: Option<Vec<bool>>,
+}
+
+impl Model for Moment {
+    ghost use Rattle.std.specs.Coded.{codes};
+    ghost use Rattle.pv_inst.specs.CountsCode.{counts_code};
+    ghost use Rattle.pv_object.specs.Codes.{store_code};
+    ghost use Rattle.pv_eval.specs.Moments.{Moment as Seen, sides_of};
+
+    ghost Value = { Seen };
+
+    ghost coded = { Prim.hlevel (codes, counts_code, store_code) };
+
+    ghost view = { λ m. record { world = m.world; printed = m.printed.items; total = m.total; waiting = m.waiting.items; taken = m.taken; sides = sides_of m.sides } };
+}
+
+/// 1 or 0.
+pub(crate) fn truth_value(t: bool) -> Got
+    ensures { worth_of result ≡ truth_int t }
+{
+    Got::Scalar(Value::Int(if t { 1 } else { 0 }))
+}
+
+impl Moment {
+    /// Takes a turn.
+    pub fn tick(&mut self)
+        requires { self.old.taken < 10 ^ 8 }
+        ensures { self.new ≡ record self.old { taken = self.old.taken + 1 } }
+    {
+        self.taken += 1;
+    }
+
+    /// What was told of an operation is marked, to be told later.
+    fn mark(&mut self, told: &[What]) -> Result<(), Failure>
+        ensures marked { OnOk result (self.new ≡ marked self.old self.old.world told.now) }
+        ensures kept { self.new ≡ record self.old { waiting = self.new.waiting } }
+        ensures memory { IfErr result (λ e. e ≡ Failure.NoMemory) }
+    {
+        match stamp(&mut self.waiting, self.taken, self.total, told) {
+            Ok(()) => Ok(()),
+            Err(_) => Err(Failure::NoMemory),
+        }
+    }
+
+    /// The same of all that was told but the uses of a pair.
+    fn mark_others(&mut self, pair: u64, told: &[What]) -> Result<(), Failure>
+        ensures marked { OnOk result (self.new ≡ marked self.old self.old.world (without_use pair told.now)) }
+        ensures kept { self.new ≡ record self.old { waiting = self.new.waiting } }
+        ensures memory { IfErr result (λ e. e ≡ Failure.NoMemory) }
+    {
+        match stamp_others(&mut self.waiting, self.taken, self.total, pair, told) {
+            Ok(()) => Ok(()),
+            Err(_) => Err(Failure::NoMemory),
+        }
+    }
+
+    /// An operation of the node in this line gave a value, where there were so many pairs before it: what it told is marked.
+    /// In a settled run a pair that it made keeps its side.
+    fn settle(&mut self, line: u32, before: u64, told: &[What]) -> Result<(), Failure>
+        ensures settled { (v : Worth) (b : Setting) (w : Seen) (out : List ℕ) (es : List Event) → b.sides ≡ self.old.sides → before ≡ pair_count w → Follows self.old (length out) → Settled v (answered b.sides v line self.old.world (telling told.now) (state_of (record self.old { world = w }) out es)) result (state_of self.new out es) }
+        ensures kept { self.new ≡ record self.old { world = self.new.world; waiting = self.new.waiting } }
+    {
+        let pair = self.world.pairs_made();
+        match side_for(&self.sides, before, pair) {
+            Side::Free => self.mark(told),
+            Side::Ended => match self.mark_others(pair, told) {
+                Ok(()) => Err(Failure::Stop(Cause::SidesEnded(pair), line)),
+                Err(e) => Err(e),
+            },
+            Side::Keeps(high) => {
+                keep_side(&mut self.world, pair, high);
+                self.mark_others(pair, told)
+            }
+        }
+    }
+
+    /// An operation of the node in this line was made on the world, where there were so many pairs before it.
+    #[tactic(auto, using(crate::proofs::Marking::closed_stop))]
+    pub(crate) fn close(
+        &mut self,
+        line: u32,
+        before: u64,
+        told: &[What],
+        answer: Result<Got, Fallen>,
+    ) -> Result<Got, Failure>
+        ensures acted { (b : Setting) (w : Seen) (op : Seen → Done) (out : List ℕ) (es : List Event) → b.sides ≡ self.old.sides → before ≡ pair_count w → Follows self.old (length out) → Did worth_of op answer w self.old.world [] told.now → Came (acted b line (op w) (state_of (record self.old { world = w }) out es)) result (state_of self.new out es) }
+        ensures same { IfOk result (λ g. answer ≡ Ok g) }
+        ensures kept { self.new ≡ record self.old { world = self.new.world; waiting = self.new.waiting } }
+    {
+        match answer {
+            Ok(g) => match self.settle(line, before, told) {
+                Ok(()) => Ok(g),
+                Err(e) => Err(e),
+            },
+            Err(Fallen::Stop(cause)) => match self.mark(told) {
+                Ok(()) => Err(Failure::Stop(cause, line)),
+                Err(e) => Err(e),
+            },
+            Err(Fallen::NoMemory) => Err(Failure::NoMemory),
+        }
+    }
+
+    /// The same of a test.
+    pub(crate) fn close_test(
+        &mut self,
+        line: u32,
+        before: u64,
+        told: &[What],
+        answer: Result<bool, Fallen>,
+    ) -> Result<bool, Failure>
+        ensures tested { (b : Setting) (w : Seen) (op : Seen → Done) (out : List ℕ) (es : List Event) → b.sides ≡ self.old.sides → before ≡ pair_count w → Follows self.old (length out) → Did truth_int op answer w self.old.world [] told.now → Tested (acted b line (op w) (state_of (record self.old { world = w }) out es)) result (state_of self.new out es) }
+        ensures kept { self.new ≡ record self.old { world = self.new.world; waiting = self.new.waiting } }
+    {
+        match answer {
+            Ok(t) => match self.close(line, before, told, Ok(truth_value(t))) {
+                Ok(_) => Ok(t),
+                Err(e) => Err(e),
+            },
+            Err(stop) => match self.close(line, before, told, Err(stop)) {
+                Ok(_) => unreachable!(),
+                Err(e) => Err(e),
+            },
+        }
+    }
+
+    /// The same of what gives a number.
+    pub(crate) fn close_number(
+        &mut self,
+        line: u32,
+        before: u64,
+        told: &[What],
+        answer: Result<i128, Fallen>,
+    ) -> Result<i128, Failure>
+        ensures needed { (b : Setting) (w : Seen) (op : Seen → Done) (out : List ℕ) (es : List Event) → b.sides ≡ self.old.sides → before ≡ pair_count w → Follows self.old (length out) → Did int op answer w self.old.world [] told.now → Needed (acted b line (op w) (state_of (record self.old { world = w }) out es)) result (state_of self.new out es) }
+        ensures kept { self.new ≡ record self.old { world = self.new.world; waiting = self.new.waiting } }
+    {
+        match answer {
+            Ok(n) => match self.close(line, before, told, Ok(Got::Scalar(Value::Int(n)))) {
+                Ok(_) => Ok(n),
+                Err(e) => Err(e),
+            },
+            Err(stop) => match self.close(line, before, told, Err(stop)) {
+                Ok(_) => unreachable!(),
+                Err(e) => Err(e),
+            },
+        }
+    }
+
+    /// The same of what gives nothing.
+    pub(crate) fn close_made(
+        &mut self,
+        line: u32,
+        before: u64,
+        told: &[What],
+        answer: Result<(), Fallen>,
+    ) -> Result<(), Failure>
+        ensures made { (b : Setting) (w : Seen) (op : Seen → Done) (out : List ℕ) (es : List Event) → b.sides ≡ self.old.sides → before ≡ pair_count w → Follows self.old (length out) → Did no_worth op answer w self.old.world [] told.now → Made (acted b line (op w) (state_of (record self.old { world = w }) out es)) result (state_of self.new out es) }
+        ensures kept { self.new ≡ record self.old { world = self.new.world; waiting = self.new.waiting } }
+    {
+        match answer {
+            Ok(()) => match self.close(line, before, told, Ok(Got::Nothing)) {
+                Ok(_) => Ok(()),
+                Err(e) => Err(e),
+            },
+            Err(stop) => match self.close(line, before, told, Err(stop)) {
+                Ok(_) => unreachable!(),
+                Err(e) => Err(e),
+            },
+        }
+    }
+
+    /// An operation that can't stop and makes no pair was made on the world, whatever its line: what it told is marked.
+    pub(crate) fn close_done(&mut self, told: &[What]) -> Result<(), Failure>
+        ensures made { (b : Setting) (w : Seen) (op : Seen → Done) (out : List ℕ) (es : List Event) → b.sides ≡ self.old.sides → pair_count self.old.world ≡ pair_count w → Follows self.old (length out) → Did no_worth op (Ok tt) w self.old.world [] told.now → (line : ℕ) → Made (acted b line (op w) (state_of (record self.old { world = w }) out es)) result (state_of self.new out es) }
+        ensures kept { self.new ≡ record self.old { waiting = self.new.waiting } }
+        ensures memory { IsMemory result }
+    {
+        self.mark(told)
+    }
+
+    /// The turns taken.
+    pub fn turns(&self) -> u64
+        ensures { result ≡ self.now.taken }
+    {
+        self.taken
+    }
+}

@@ -1,0 +1,123 @@
+// Which accesses the effective type of an object permits (C17 6.5p6, 6.5p7).
+ghost use Rattle.std.specs.Prelude.{◌≡◌, ◌≤◌, ◌<◌, ◌^◌, length, IsTrue, IfOk, IfSome, map};
+ghost use Rattle.std.specs.Option.{option_map};
+ghost use Rattle.pv_types.specs.Known.{tree, env};
+ghost use Rattle.pv_types.specs.Layouts.{is_complete_in, layout_in};
+ghost use Rattle.pv_types.specs.Ty.{Ty};
+ghost use Rattle.pv_layout.specs.Places.{bare};
+ghost use Rattle.pv_effect.specs.EffectiveType.{is_character, permits_marks};
+ghost use Rattle.pv_shadow.specs.Bytes.{read};
+ghost use Rattle.pv_object.specs.Memory.{IsReach};
+ghost use Rattle.pv_typed.specs.Formed.{AreKnown};
+ghost use Rattle.pv_types.specs.declared.terms.TypeId.{TypeId as TypeNumber};
+ghost use Rattle.pv_eval.specs.TypeForms.{lvalue};
+ghost use Rattle.pv_eval.specs.Sizes.{setting_of, size_in, IsComplete};
+ghost use Rattle.pv_eval.specs.Permission.{marks_of, permits_object, type_by, permits};
+
+use crate::types::{Complete, is_character, measured};
+use pv_effect::{permits_declared, permits_marks};
+use pv_inst::Kind;
+use pv_layout::bare;
+use pv_object::Reach;
+use pv_prov::NoMemory;
+use pv_shadow::Byte;
+use pv_typed::TypedUnit;
+use pv_types::TypeId;
+use pv_world::World;
+use std::alloc::Global;
+
+/// By which types bytes were stored.
+fn marks_of(alloc: Global, bytes: &[Byte]) -> Result<Vec<Option<(u32, u8)>>, NoMemory>
+    ensures { IfOk result (λ v. v.items ≡ marks_of bytes.now) }
+{
+    let mut marks = Vec::new(alloc);
+    for i in 0..bytes.len() {
+        if marks.push(bytes[i].mark).is_err() {
+            return Err(NoMemory);
+        }
+    }
+    Ok(marks)
+}
+
+/// The declared type of an object, which is complete (C17 6.7p7).
+fn type_by(unit: &TypedUnit, object: Option<u32>) -> Option<Complete>
+    requires { AreKnown unit.now }
+    ensures kind { option_map (λ l. tree unit.now.known l.t.0) result ≡ type_by (setting_of unit.now) object }
+    ensures complete { IfSome result (λ l. IsComplete unit.now.known l) }
+{
+    let Some(o) = object else {
+        return None;
+    };
+    if o < unit.objects() {
+        measured(unit.types(), unit.object(o).t)
+    } else {
+        None
+    }
+}
+
+/// Whether what is stored in an object may be accessed through an lvalue of the type (C17 6.5p7).
+fn permits_object(unit: &TypedUnit, object: Option<u32>, offset: u64, want: TypeId) -> bool
+    requires known { AreKnown unit.now }
+    requires want { want.0 < length unit.now.known.terms }
+    requires complete { IsTrue (is_complete_in (env unit.now.known) (tree unit.now.known want.0)) }
+    requires small { size_in unit.now.known (tree unit.now.known want.0) ≤ 2 ^ 32 }
+    ensures { result ≡ permits_object (setting_of unit.now) (type_by (setting_of unit.now) object) offset (tree unit.now.known want.0) }
+{
+    let types = unit.types();
+    match type_by(unit, object) {
+        Some(declared) => permits_declared(types, declared.t, offset, want),
+        None => is_character(types, want),
+    }
+}
+
+/// Whether what was stored in an allocation may be read through an lvalue of the type (C17 6.5p6).
+fn permits_heap(
+    alloc: Global,
+    unit: &TypedUnit,
+    world: &World,
+    at: &Reach,
+    want: TypeId,
+    size: u64,
+) -> Result<bool, NoMemory>
+    requires want { want.0 < length unit.now.known.terms }
+    requires complete { IsTrue (is_complete_in (env unit.now.known) (tree unit.now.known want.0)) }
+    requires small { size_in unit.now.known (tree unit.now.known want.0) ≤ 2 ^ 32 }
+    requires size { size ≡ size_in unit.now.known (tree unit.now.known want.0) }
+    requires reached { IsReach world.now.memory.table at.now size }
+    ensures { IfOk result (λ p. p ≡ permits_marks unit.now.known (layout_in (env unit.now.known) (tree unit.now.known want.0)).parts (marks_of (read world.now.memory.bytes at.now.address size))) }
+{
+    let bytes = world.memory().read_bytes(at, size)?;
+    let marks = marks_of(alloc, &bytes)?;
+    Ok(permits_marks(unit.types(), &marks, want))
+}
+
+/// Whether an access through an lvalue of the type is permitted, where it was reached (C17 6.5p7).
+pub(crate) fn permits(
+    alloc: Global,
+    unit: &TypedUnit,
+    world: &World,
+    at: &Reach,
+    l: Complete,
+    write: bool,
+) -> Result<bool, NoMemory>
+    requires known { AreKnown unit.now }
+    requires complete { IsComplete unit.now.known l }
+    requires reached { IsReach world.now.memory.table at.now l.size }
+    ensures { IfOk result (λ p. p ≡ permits (setting_of unit.now) world.now (lvalue (setting_of unit.now) (tree unit.now.known l.t.0)) at.now write) }
+{
+    let want = bare(unit.types(), l.t);
+    let Some(x) = world.memory().instances().info(at.inst) else {
+        unreachable!();
+    };
+    match x.kind {
+        Kind::Declared { .. } => Ok(permits_object(unit, world.owner(at.inst), at.offset, want)),
+        Kind::Literal => Ok(is_character(unit.types(), want)),
+        Kind::Heap => {
+            if write {
+                Ok(true)
+            } else {
+                permits_heap(alloc, unit, world, at, want, l.size)
+            }
+        }
+    }
+}

@@ -1,0 +1,215 @@
+// Expressions that were started.
+ghost use Rattle.std.specs.Prelude.{◌≡◌, ◌+◌, ◌<◌, ◌^◌, ◌∷◌, [], List, length, map, true, false, IfOk, OnOk};
+ghost use Rattle.pv_typed.specs.Tables.{Stored};
+ghost use Rattle.pv_seq.specs.Sequencing.{opened, settled, top, below};
+ghost use Rattle.pv_world.specs.Coming.{worth_of};
+ghost use Rattle.pv_eval.specs.Runnable.{IsRunnable};
+ghost use Rattle.pv_eval.specs.Steps.{Calling};
+ghost use Rattle.pv_eval.specs.Moments.{state_of, Always, IsMemory};
+ghost use Rattle.pv_eval.specs.Ahead.{ahead, Matched};
+ghost use Rattle.pv_eval.specs.Machines.{Started as Expression, value_at, is_due_at, is_value, is_call_at, turns_at, arguments_at, line_at};
+ghost use Rattle.pv_eval.specs.MachineSteps.{StartedFits, Stepped, WentTo, step_at, KeepsSetting};
+
+use crate::failure::Failure;
+use crate::frames::{Frame, Now, Step};
+use crate::moment::Moment;
+use crate::running;
+use pv_seq::Journal;
+use pv_tree::NodeId;
+use pv_typed::TypedUnit;
+use pv_world::Got;
+use std::alloc::Global;
+use std::marker::Model;
+
+/// The stacks of an expression that has ended, for one to come: nothing is on them, and they have their memory.
+#[derive(Drop)]
+pub(crate) struct Stacks {
+    frames: Vec<Frame>,
+    journal: Journal,
+}
+
+impl Model for Stacks {
+    ghost use Rattle.std.specs.Prelude.{◌≡◌, [], ℕ};
+
+    ghost Value = { ℕ };
+
+    ghost view = { λ s. 0 };
+
+    ghost invariant = { λ s. (s.frames.items ≡ []) × (s.journal ≡ []) };
+}
+
+impl Stacks {
+    /// Stacks without memory of their own.
+    pub(crate) fn new(alloc: Global) -> Stacks {
+        Stacks {
+            frames: Vec::new(alloc),
+            journal: Journal::new(alloc),
+        }
+    }
+}
+
+/// An expression that was started: its nodes that wait, the accesses of each, and where it is.
+#[derive(Drop)]
+pub(crate) struct Started {
+    root: NodeId,
+    frames: Vec<Frame>,
+    journal: Journal,
+    place: Now,
+}
+
+impl Model for Started {
+    ghost use Rattle.std.specs.Prelude.{◌≡◌, false};
+    ghost use Rattle.pv_eval.specs.Ahead.{Matched};
+    ghost use Rattle.pv_eval.specs.Machines.{Started as Seen, is_due_at};
+
+    ghost Value = { Seen };
+
+    ghost view = { λ e. record { root = e.root; frames = e.frames.items; opens = e.journal; place = e.place } };
+
+    ghost invariant = { λ e. is_due_at e.place ≡ false → Matched e.frames.items e.journal };
+}
+
+impl Started {
+    /// A full expression, which has no foes (C17 6.8p4).
+    pub(crate) fn new(stacks: Stacks, n: NodeId) -> Result<Started, Failure>
+        ensures begun { IfOk result (λ e. e ≡ record { root = n; frames = []; opens = opened [] ∷ []; place = Now.Due n }) }
+        ensures memory { IsMemory result }
+    {
+        let Stacks { frames, journal } = stacks;
+        let mut journal = journal;
+        if journal.full().is_err() {
+            return Err(Failure::NoMemory);
+        }
+        Ok(Started {
+            root: n,
+            frames,
+            journal,
+            place: Now::Due(n),
+        })
+    }
+
+    /// One turn, and what comes before the next.
+    pub(crate) fn step(
+        &mut self,
+        alloc: Global,
+        unit: &TypedUnit,
+        moment: &mut Moment,
+    ) -> Result<Step, Failure>
+        requires runnable { IsRunnable unit.now }
+        requires going { is_call_at self.old.place ≡ false }
+        requires fits { StartedFits unit.now self.old }
+        requires turn { is_due_at self.old.place ≡ true → moment.old.taken < 10 ^ 8 }
+        ensures rest { Always unit.now moment.old (λ b out es. (call : Calling) (others : List Expression) → (is_due_at self.old.place ≡ true → moment.old.taken < b.bound) → Stepped b call unit.now (ahead b call unit.now self.old.frames self.old.opens self.old.place (state_of moment.old out es)) result (self.new ∷ others) (state_of moment.new out es)) }
+        ensures which { (others : List Expression) → IfOk result (λ x. WentTo unit.now x (self.new ∷ others)) }
+        ensures fits { OnOk result (StartedFits unit.now self.new) }
+        ensures taken { moment.new.taken ≡ moment.old.taken + turns_at self.old.place }
+        ensures setting { KeepsSetting moment.old moment.new }
+    {
+        let place = std::mem::replace(&mut self.place, Now::Due(self.root));
+        match running::step(
+            alloc,
+            unit,
+            &mut self.frames,
+            &mut self.journal,
+            moment,
+            place,
+        ) {
+            Ok(place) => {
+                let led = leads(&place);
+                self.place = place;
+                Ok(led)
+            }
+            Err(e) => Err(e),
+        }
+    }
+
+    /// Whether a turn is due next.
+    pub(crate) fn due(&self) -> bool
+        ensures { result ≡ is_due_at self.now.place }
+    {
+        match &self.place {
+            Now::Due(_) => true,
+            _ => false,
+        }
+    }
+
+    /// The line of the call that it waits for.
+    pub(crate) fn line(&self) -> u32
+        ensures { result ≡ line_at self.now.place }
+    {
+        match &self.place {
+            Now::Asked(_, _, line) => *line,
+            _ => 0,
+        }
+    }
+
+    /// The value of an expression that has ended, whose stacks are kept.
+    pub(crate) fn value(self, spare: &mut Vec<Stacks>) -> Got
+        requires { is_value self.place ≡ true }
+        ensures { worth_of result ≡ value_at self.place }
+    {
+        let Started {
+            frames,
+            journal,
+            place,
+            ..
+        } = self;
+        if frames.is_empty() {
+            keep(spare, frames, journal);
+        }
+        match place {
+            Now::Value(v) => v,
+            _ => unreachable!(),
+        }
+    }
+
+    /// The arguments of the call that it waits for, which are taken out.
+    pub(crate) fn arguments(&mut self, alloc: Global) -> Vec<Got>
+        requires { is_call_at self.old.place ≡ true }
+        ensures arguments { map worth_of result.items ≡ arguments_at self.old.place }
+        ensures kept { self.new ≡ record self.old { place = self.new.place } }
+        ensures fits { (u : Stored) → StartedFits u self.old → StartedFits u self.new }
+    {
+        match std::mem::replace(&mut self.place, Now::Due(self.root)) {
+            Now::Asked(f, args, line) => {
+                self.place = Now::Asked(f, Vec::new(alloc), line);
+                args
+            }
+            _ => unreachable!(),
+        }
+    }
+
+    /// The call has given this value, behind a sequence point (C17 6.5.2.2p10).
+    pub(crate) fn answer(&mut self, v: Got)
+        requires { Matched self.old.frames self.old.opens }
+        ensures frames { self.new.frames ≡ self.old.frames }
+        ensures opens { self.new.opens ≡ settled (top self.old.opens) ∷ below self.old.opens }
+        ensures value { value_at self.new.place ≡ worth_of v }
+        ensures ended { is_value self.new.place ≡ true }
+        ensures fits { (u : Stored) → StartedFits u self.old → StartedFits u self.new }
+    {
+        self.journal.settle();
+        self.place = Now::Value(v);
+    }
+}
+
+/// What a step leads to, by where the expression is then.
+fn leads(place: &Now) -> Step
+    ensures { result ≡ step_at place.now }
+{
+    match place {
+        Now::Due(_) => Step::More,
+        Now::Value(_) => Step::Done,
+        Now::Asked(f, _, _) => Step::Call(*f),
+    }
+}
+
+/// The stacks of a full expression are kept for those to come, if there is memory for that.
+fn keep(spare: &mut Vec<Stacks>, frames: Vec<Frame>, journal: Journal)
+    requires frames { frames.items ≡ [] }
+    requires journal { length journal ≡ 1 }
+{
+    let mut journal = journal;
+    journal.close();
+    let _ = spare.push(Stacks { frames, journal });
+}

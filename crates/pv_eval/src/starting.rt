@@ -1,0 +1,35 @@
+// A moment before a run.
+ghost use Rattle.std.specs.Prelude.{◌≡◌, IfOk};
+ghost use Rattle.pv_eval.specs.Moments.{first_moment, sides_of, IsMemory};
+
+use crate::failure::Failure;
+use crate::moment::Moment;
+use pv_script::{Names, Script};
+use pv_world::World;
+use std::alloc::Global;
+
+impl Moment {
+    /// Nothing made, printed, told or taken (C17 5.1.2); in a settled run with the sides of its pairs.
+    pub fn new(
+        alloc: Global,
+        script: Script,
+        names: &Names,
+        sides: Option<Vec<bool>>,
+    ) -> Result<Moment, Failure>
+        ensures first { IfOk result (λ m. m ≡ first_moment script (sides_of sides)) }
+        ensures memory { IsMemory result }
+    {
+        match World::new(alloc, script, names) {
+            Ok(world) => Ok(Moment {
+                alloc,
+                world,
+                printed: Vec::new(alloc),
+                total: 0,
+                waiting: Vec::new(alloc),
+                taken: 0,
+                sides,
+            }),
+            Err(_) => Err(Failure::NoMemory),
+        }
+    }
+}
