@@ -1,0 +1,85 @@
+-- Labels that are looked for in a list.
+use Rattle.std.proofs.Common.{◌≡◌, ℕ, ◌+◌, ◌<◌, List, [], ◌∷◌, None, refl, sym, ap, ◌∙◌, subst}
+use Rattle.std.specs.Prelude.{ℤ, Bool, true, false, ◌||◌, drop, if◌then◌else◌}
+use Rattle.pv_tree.specs.declared.nodes.NodeId.{NodeId}
+use Rattle.pv_tree.specs.declared.nodes.ListId.{ListId}
+use Rattle.pv_typed.specs.TypedStatement.{TypedStatement, Block, Declare, Expression, Empty, If, IfElse, Switch, Case, Default, While, DoWhile, For, ForDeclaration, Continue, Break, Return, Statements, MoreStatements}
+use Rattle.pv_typed.specs.Nodes.{statements_in}
+use Rattle.pv_typed.specs.Tables.{Stored, nodes, list_at, statement_at}
+use Rattle.pv_eval.specs.States.{Setting, State, then_do}
+use Rattle.pv_exec.specs.Flows.{Below, falls}
+use Rattle.pv_exec.specs.Labels.{Target, ToCase, ToDefault, ToNone, some_case, some_default, is_target, target_of}
+use Rattle.pv_exec.specs.Execution.{ex, exs, exs_at}
+use Rattle.pv_exec.specs.Tasks.{statements_from}
+use Rattle.pv_exec.specs.Items.{declared_in}
+use Rattle.pv_exec.specs.Switches.{some_target, is_none_target, Reaches}
+use Rattle.pv_exec.proofs.Listing.{plain-first}
+
+some-first : (at : Target) (x : TypedStatement) (xs : Statements) → some_target at (MoreStatements x xs) ≡ (is_target at x || some_target at xs)
+some-first (ToCase v) x xs = refl
+some-first ToDefault x xs = refl
+some-first ToNone x xs = refl
+
+pub some-step : (u : Stored) (l : ListId) (at : Target) (i j : ℕ) (n : NodeId) → drop i (list_at u l) ≡ n ∷ drop j (list_at u l) → some_target at (statements_from u l i) ≡ (is_target at (statement_at u n) || some_target at (statements_from u l j))
+some-step u l at i j n e = ap (λ ns. some_target at (statements_in (nodes u) ns)) e ∙ some-first at (statement_at u n) (statements_from u l j)
+
+pub some-no : (u : Stored) (l : ListId) (at : Target) (i j : ℕ) (n : NodeId) → drop i (list_at u l) ≡ n ∷ drop j (list_at u l) → is_target at (statement_at u n) ≡ false → some_target at (statements_from u l i) ≡ some_target at (statements_from u l j)
+some-no u l at i j n e h = some-step u l at i j n e ∙ ap (λ q. q || some_target at (statements_from u l j)) h
+
+pub some-yes : (u : Stored) (l : ListId) (at : Target) (i j : ℕ) (n : NodeId) → drop i (list_at u l) ≡ n ∷ drop j (list_at u l) → is_target at (statement_at u n) ≡ true → some_target at (statements_from u l i) ≡ true
+some-yes u l at i j n e h = some-step u l at i j n e ∙ ap (λ q. q || some_target at (statements_from u l j)) h
+
+some-none : (at : Target) (u : Stored) → some_target at (statements_in (nodes u) []) ≡ false
+some-none (ToCase v) u = refl
+some-none ToDefault u = refl
+some-none ToNone u = refl
+
+pub some-end : (u : Stored) (l : ListId) (at : Target) (i : ℕ) → drop i (list_at u l) ≡ [] → some_target at (statements_from u l i) ≡ false
+some-end u l at i e = ap (λ ns. some_target at (statements_in (nodes u) ns)) e ∙ some-none at u
+
+pub at-no : (b : Setting) (w : Below) (u : Stored) (l : ListId) (at : Target) (i j : ℕ) (n : NodeId) (s : State) → drop i (list_at u l) ≡ n ∷ drop j (list_at u l) → is_target at (statement_at u n) ≡ false → exs_at b w at (statements_from u l i) s ≡ exs_at b w at (statements_from u l j) s
+unfolding ex
+at-no b w u l at i j n s e h =
+    ap (λ ns. exs_at b w at (statements_in (nodes u) ns) s) e
+    ∙ ap (λ (q : Bool). if q then then_do (ex b w (statement_at u n) s) (λ fl s. falls fl (λ s. exs b w (statements_from u l j) s) s) else exs_at b w at (statements_from u l j) s) h
+
+plain-target : (at : Target) (x : TypedStatement) → is_target at x ≡ true → declared_in x ≡ None
+plain-target (ToCase v) (Declare line o) h = absurd (cc)
+plain-target ToDefault (Declare line o) h = absurd (cc)
+plain-target ToNone (Declare line o) h = absurd (cc)
+plain-target at (Block line os xs) h = refl
+plain-target at (Expression line x) h = refl
+plain-target at (Empty line) h = refl
+plain-target at (If line c x) h = refl
+plain-target at (IfElse line c x y) h = refl
+plain-target at (Switch line c x) h = refl
+plain-target at (Case line n x) h = refl
+plain-target at (Default line x) h = refl
+plain-target at (While line c x) h = refl
+plain-target at (DoWhile line x c) h = refl
+plain-target at (For line f c t x) h = refl
+plain-target at (ForDeclaration line os ds c t x) h = refl
+plain-target at (Continue line) h = refl
+plain-target at (Break line) h = refl
+plain-target at (Return line x) h = refl
+
+pub at-yes : (b : Setting) (w : Below) (u : Stored) (l : ListId) (at : Target) (i j : ℕ) (n : NodeId) (s : State) → drop i (list_at u l) ≡ n ∷ drop j (list_at u l) → is_target at (statement_at u n) ≡ true → exs_at b w at (statements_from u l i) s ≡ exs b w (statements_from u l i) s
+unfolding ex
+at-yes b w u l at i j n s e h =
+    ap (λ ns. exs_at b w at (statements_in (nodes u) ns) s) e
+    ∙ ap (λ (q : Bool). if q then then_do (ex b w (statement_at u n) s) (λ fl s. falls fl (λ s. exs b w (statements_from u l j) s) s) else exs_at b w at (statements_from u l j) s) h
+    ∙ sym (plain-first b w (statement_at u n) (statements_from u l j) s (plain-target at (statement_at u n) h))
+    ∙ sym (ap (λ ns. exs b w (statements_in (nodes u) ns) s) e)
+
+-- which label a value goes to
+pub to-case : (v : ℤ) (xs : Statements) → some_case v xs ≡ true → target_of v xs ≡ ToCase v
+to-case v xs h = ap (λ (q : Bool). if q then ToCase v else (if some_default xs then ToDefault else ToNone)) h
+
+pub to-default : (v : ℤ) (xs : Statements) → some_case v xs ≡ false → some_default xs ≡ true → target_of v xs ≡ ToDefault
+to-default v xs h k = ap (λ (q : Bool). if q then ToCase v else (if some_default xs then ToDefault else ToNone)) h ∙ ap (λ (q : Bool). if q then ToDefault else ToNone) k
+
+pub to-none : (v : ℤ) (xs : Statements) → some_case v xs ≡ false → some_default xs ≡ false → target_of v xs ≡ ToNone
+to-none v xs h k = ap (λ (q : Bool). if q then ToCase v else (if some_default xs then ToDefault else ToNone)) h ∙ ap (λ (q : Bool). if q then ToDefault else ToNone) k
+
+pub reaches-by : (u : Stored) (l : ListId) (v : ℤ) (t : Target) (i : ℕ) → target_of v (statements_from u l 0) ≡ t → is_none_target t ≡ false → ((b : Setting) (w : Below) (s : State) → exs_at b w t (statements_from u l 0) s ≡ exs b w (statements_from u l i) s) → Reaches u l v (Rattle.std.proofs.Common.Some i)
+reaches-by u l v t i e n h = (ap is_none_target e ∙ n, λ b w s. ap (λ q. exs_at b w q (statements_from u l 0) s) e ∙ h b w s)

@@ -1,0 +1,10 @@
+use Rattle.std.proofs.Common.{◌≡◌, ◌<◌, length}
+use Rattle.pv_types.specs.Known.{tree}
+use Rattle.pv_eval.specs.TypeForms.{is_none}
+use Rattle.pv_exec.proofs.functions.is_none.Given as goal
+
+abbrev pub invariant-layers : goal.invariant-layers
+invariant-layers l = (l.at.0 < length l.types.terms) × (is_none (tree l.types l.at.0) ≡ is_none (tree l.types l.initial.at.0))
+
+abbrev pub decreases-layers : goal.decreases-layers
+decreases-layers l = l.at.0

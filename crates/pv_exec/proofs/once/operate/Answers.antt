@@ -1,0 +1,37 @@
+use Rattle.std.proofs.Common.{refl, arith}
+use Rattle.pv_eval.specs.Moments.{state_of}
+use Rattle.pv_exec.specs.declared.task.Doing.TheVariants as doing
+use Rattle.std.proofs.Common.{Ok}
+use Rattle.pv_exec.specs.declared.task.Way.TheVariants as way
+use Rattle.pv_exec.specs.Works.{does}
+use Rattle.pv_exec.proofs.ByTask.{doing-doing}
+use Rattle.pv_exec.proofs.Leaving.{left-again, value-again}
+use Rattle.pv_exec.proofs.once.operate.Goals as goal
+
+pub returns-in-Enter-clause-led : goal.returns-in-Enter-clause-led
+unfolding does
+returns-in-Enter-clause-led c = doing-doing c.args.unit.now c.args.doing (doing.Enter c.in-Enter.n) c.enter.result c.args.machine.now c.enter.new.machine c.in-Enter.is (λ b out es hs hl k le tu lt. c.enter.ensures.led b out es hs hl k (tu refl) lt)
+
+pub returns-in-Jump-clause-led : goal.returns-in-Jump-clause-led
+returns-in-Jump-clause-led c = doing-doing c.args.unit.now c.args.doing (doing.Jump c.in-Jump.n c.in-Jump.l c.in-Jump.i) c.jump.result c.args.machine.now c.jump.new.machine c.in-Jump.is c.jump.ensures.led
+
+pub returns-in-Statements-clause-led : goal.returns-in-Statements-clause-led
+returns-in-Statements-clause-led c = doing-doing c.args.unit.now c.args.doing (doing.Statements c.in-Statements.l c.in-Statements.i) c.next_statement.result c.args.machine.now c.next_statement.new.machine c.in-Statements.is c.next_statement.ensures.led
+
+pub returns-in-Within-clause-led : goal.returns-in-Within-clause-led
+returns-in-Within-clause-led c = doing-doing c.args.unit.now c.args.doing (doing.Within c.in-Within.n) c.within.result c.args.machine.now c.within.new.machine c.in-Within.is c.within.ensures.led
+
+pub returns-in-Store-clause-led : goal.returns-in-Store-clause-led
+returns-in-Store-clause-led c = doing-doing c.args.unit.now c.args.doing (doing.Store c.in-Store.o c.in-Store.i) c.store.result c.args.machine.now c.store.new.machine c.in-Store.is c.store.ensures.led
+
+pub returns-in-Absent-clause-led : goal.returns-in-Absent-clause-led
+returns-in-Absent-clause-led c = doing-doing c.args.unit.now c.args.doing doing.Absent c.pass_body.result c.args.machine.now c.pass_body.new.machine c.in-Absent.is c.pass_body.ensures.led
+
+pub returns-in-Evaluate-clause-led : goal.returns-in-Evaluate-clause-led
+returns-in-Evaluate-clause-led c = doing-doing c.args.unit.now c.args.doing doing.Evaluate c.go_on.result c.args.machine.now c.go_on.new.machine c.in-Evaluate.is c.go_on.ensures.led
+
+pub returns-in-Left-clause-led : goal.returns-in-Left-clause-led
+returns-in-Left-clause-led c = doing-doing c.args.unit.now c.args.doing (doing.Left c.in-Left.flow) (Ok (way.Do (doing.Left c.in-Left.flow))) c.args.machine.now c.args.machine.now c.in-Left.is (λ b out es hs hl k le tu lt. left-again b c.args.unit.now k c.in-Left.flow c.args.machine.now.started (state_of c.args.machine.now.moment out es) (omega (arith, lt)))
+
+pub returns-in-Evaluated-clause-led : goal.returns-in-Evaluated-clause-led
+returns-in-Evaluated-clause-led c = doing-doing c.args.unit.now c.args.doing doing.Evaluated (Ok (way.Do doing.Evaluated)) c.args.machine.now c.args.machine.now c.in-Evaluated.is (λ b out es hs hl k le tu lt. value-again b c.args.unit.now k c.args.machine.now.started (state_of c.args.machine.now.moment out es) (omega (arith, lt)))

@@ -1,0 +1,42 @@
+-- Calls as the code makes them.
+use Rattle.std.specs.Prelude.{◌≡◌, ℕ, ◌+◌, ◌<◌, ◌≤◌, List, Result}
+use Rattle.pv_typed.specs.TypedUnits.{TypedFunction, object_at, function_at}
+use Rattle.pv_typed.specs.Tables.{Stored, whole}
+use Rattle.pv_world.specs.Worlds.{Worth}
+use Rattle.pv_eval.specs.declared.failure.Failure.{Failure}
+use Rattle.pv_eval.specs.States.{Setting, State, Res, Gives, then_do}
+use Rattle.pv_eval.specs.TypeForms.{lvalue}
+use Rattle.pv_eval.specs.Operations.{Makes, Puts, BeginsBody, act}
+use Rattle.pv_eval.specs.Moments.{Always, state_of}
+use Rattle.pv_eval.specs.Machines.{Machine, Started, asked_arguments, asked_line, answered_of, after_first}
+use Rattle.pv_exec.specs.declared.task.Doing.{Doing}
+use Rattle.pv_exec.specs.declared.task.Way.{Way}
+use Rattle.pv_exec.specs.Calls.{below, take_params, runs_body}
+use Rattle.pv_exec.specs.Tasks.{Reached, Valued, left}
+use Rattle.pv_exec.specs.Works.{does, others, due}
+use Rattle.pv_exec.specs.Leading.{LeadsOr}
+use Rattle.pv_exec.specs.Fits.{DoingFits}
+
+-- one parameter
+abbrev pub takes_one : Setting → (line o : ℕ) → Worth → State → Res Worth
+takes_one b line o v s = then_do (act b line (Makes o) s) (λ x s. act b line (Puts o 0 (lvalue b (object_at b.unit o).t) v) s)
+
+-- what comes before the body
+abbrev pub begun : Setting → (line : ℕ) → TypedFunction → List Worth → State → Res Worth
+begun b line f vs s = then_do (act b line BeginsBody s) (λ x s. take_params b line f.params vs s)
+
+-- the body of a function is entered
+pub record BodyIs (u : Stored) (f : ℕ) (d : Doing) : Type 0 where
+  pub runs : (b : Setting) (k : ℕ) (es : List Started) (s : State) → b.unit ≡ whole u → left (runs_body b (below b k) (function_at b.unit f).body s) ≡ does b u k es d s
+  pub here : (es : List Started) → others es d ≡ es
+  pub counts : (es : List Started) → due es d ≡ 1
+  pub fits : (es : List Started) → DoingFits u es d
+
+-- what is left of an expression that waits for a call, from the call on
+abbrev pub calls : Setting → Stored → (level f : ℕ) → List Started → State → Res Reached
+calls b u k f es s = then_do (then_do ((below b k).call f (asked_arguments es) (asked_line es) s) (answered_of b (below b k).call u es)) (λ g s. Gives (Valued g.value) s)
+
+abbrev pub CallLed : Stored → (function : ℕ) → Result Way Failure → Machine → Machine → Type 0
+CallLed u f r old new =
+    Always u old.moment (λ b out es. (k : ℕ) → old.moment.taken ≤ b.bound → b.bound < old.moment.taken + k →
+    LeadsOr b u (calls b u k f old.started (state_of old.moment out es)) (after_first old.started) r new.started (state_of new.moment out es))

@@ -1,0 +1,58 @@
+-- Calls of the program's functions (C17 6.5.2.2, 6.9.1), and the levels of calls and rounds.
+use Rattle.std.specs.Prelude.{ℕ, zero, suc, pos, Bool, List, [], ◌∷◌, Some, None, if◌then◌else◌}
+use Rattle.std.specs.declared.option.Option.{Option}
+use Rattle.pv_typed.specs.TypedStatement.{TypedStatement}
+use Rattle.pv_typed.specs.TypedUnits.{WholeUnit, TypedFunction, object_at, function_at}
+use Rattle.pv_typed.specs.Mains.{named_main}
+use Rattle.pv_world.specs.Worlds.{Worth, Nothing, Missing}
+use Rattle.pv_world.specs.Worths.{int}
+use Rattle.pv_eval.specs.States.{Setting, State, Res, Gives, Stops, Unreached, then_do, tick}
+use Rattle.pv_eval.specs.TypeForms.{lvalue, gives_none}
+use Rattle.pv_eval.specs.Operations.{Makes, BeginsBody, EndsBody, Puts, act}
+use Rattle.pv_exec.specs.Flows.{Flow, Falls, Breaks, Continues, Returns, Below, end_all, round, round_do}
+use Rattle.pv_exec.specs.Execution.{ex}
+
+-- 6.9.1p10: each parameter is made and gets its argument
+abbrev pub take_params : Setting → (line : ℕ) → List ℕ → List Worth → State → Res Worth
+take_params b line [] vs s = Gives Nothing s
+take_params b line (o ∷ os) [] s = Gives Nothing s
+take_params b line (o ∷ os) (v ∷ vs) s =
+    then_do (act b line (Makes o) s) (λ x s. then_do (act b line (Puts o 0 (lvalue b (object_at b.unit o).t) v) s) (λ x s. take_params b line os vs s))
+
+-- 5.1.2.2.3: reaching the end of `main` gives 0
+abbrev pub is_main : WholeUnit → TypedFunction → Bool
+is_main u f = named_main u.names f.name
+
+abbrev pub value_at_end : Setting → TypedFunction → Worth
+value_at_end b f = if is_main b.unit f then int (pos 0) else (if gives_none f.t then Nothing else Missing)
+
+-- 6.9.1p12: what a call gives, from how its body was left
+abbrev pub value_by : Setting → TypedFunction → Flow → Worth
+value_by b f (Returns v) = v
+value_by b f Falls = value_at_end b f
+value_by b f Breaks = value_at_end b f
+value_by b f Continues = value_at_end b f
+
+-- 6.9p3: a function that is called is defined; the body of another one would be an empty statement
+abbrev pub runs_body : Setting → Below → Option TypedStatement → State → Res Flow
+runs_body b u None s = tick b s (λ s. Gives Falls s)
+runs_body b u (Some x) s = ex b u x s
+
+-- 6.5.2.2: parameters are made, the body is executed, and the parameters end
+abbrev pub call_body : Setting → Below → TypedFunction → List Worth → (line : ℕ) → State → Res Worth
+call_body b u f vs line s =
+    then_do (act b line BeginsBody s) (λ x s. then_do (take_params b line f.params vs s) (λ x s. then_do (runs_body b u f.body s) (λ fl s.
+    then_do (end_all b f.params s) (λ x s. then_do (act b line EndsBody s) (λ x s. Gives (value_by b f fl) s)))))
+
+-- what lies below, where so many calls and rounds may still begin, one within or after another
+unfoldable pub below : Setting → ℕ → Below
+below b zero = record {
+  call = λ f vs line s. Stops Unreached s;
+  again = λ c step x s. Stops Unreached s;
+  again_do = λ x c s. Stops Unreached s;
+}
+below b (suc k) = record {
+  call = λ f vs line s. call_body b (below b k) (function_at b.unit f) vs line s;
+  again = λ c step x s. round b (below b k).call c step (ex b (below b k) x) ((below b k).again c step x) s;
+  again_do = λ x c s. round_do b (below b k).call c (ex b (below b k) x) ((below b k).again_do x c) s;
+}

@@ -1,0 +1,16 @@
+-- How the code answers how a run ended.
+use Rattle.std.specs.Prelude.{None, Some}
+use Rattle.std.specs.declared.option.Option.{Option}
+use Rattle.pv_world.specs.Coming.{worth_of, wrong_for}
+use Rattle.pv_exec.specs.declared.outcome.Outcome.{Outcome}
+use Rattle.pv_exec.specs.declared.outcome.Outcome.TheVariants as outcome
+use Rattle.pv_exec.specs.declared.running.Ended.{Ended}
+use Rattle.pv_exec.specs.declared.running.Ended.TheVariants as ended
+use Rattle.pv_exec.specs.Run.{status_of, stopped}
+
+-- nothing where there was no memory
+abbrev pub outcome_by : Ended → Option Outcome
+outcome_by (ended.Value v) = Some (outcome.Exit (status_of (worth_of v)))
+outcome_by ended.Turns = Some outcome.Turns
+outcome_by (ended.Stop y line) = stopped (wrong_for y) line
+outcome_by ended.NoMemory = None

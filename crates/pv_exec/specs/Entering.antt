@@ -1,0 +1,37 @@
+-- What a statement does once its turn is taken.
+use Rattle.std.specs.Prelude.{Bool, true, false, Some, if◌then◌else◌}
+use Rattle.pv_typed.specs.TypedStatement.{TypedStatement, Block, Expression, If, IfElse, Switch, Case, Default, While, DoWhile, For, ForDeclaration, Continue, Break, Return}
+use Rattle.pv_eval.specs.States.{Setting, State, Res, Gives, then_do}
+use Rattle.pv_exec.specs.Execution.{ex, exs}
+use Rattle.pv_exec.specs.Flows.{Flow, Falls, Breaks, Continues, Below, full, nothing_done, testing, scoped, stepped, round_do, returns_value}
+use Rattle.pv_world.specs.Worths.{is_true}
+use Rattle.pv_exec.specs.Parts.{loop_of, rounds, selected, selection_of}
+use Rattle.pv_exec.specs.Tasks.{within}
+
+abbrev pub entered : Setting → Below → TypedStatement → State → Res Flow
+entered b w (Block line os xs) s = scoped b os (λ s. exs b w xs s) s
+entered b w (Expression line x) s = nothing_done (full b w.call x s)
+entered b w (If line c x) s = then_do (testing b w.call c s) (λ v s. if is_true v then ex b w x s else Gives Falls s)
+entered b w (IfElse line c x y) s = then_do (testing b w.call c s) (λ v s. if is_true v then ex b w x s else ex b w y s)
+entered b w (Switch line c (Block m os xs)) s = then_do (full b w.call c s) (selected b w (selection_of (Switch line c (Block m os xs))))
+entered b w (While line c x) s = rounds b w (loop_of (While line c x)) s
+entered b w (DoWhile line x c) s = round_do b w.call c (λ s. ex b w x s) (w.again_do x c) s
+entered b w (For line first c step x) s = stepped b w.call first (rounds b w (loop_of (For line first c step x))) s
+entered b w (ForDeclaration line os ds c step x) s = scoped b os (within b w (Some ds) (loop_of (ForDeclaration line os ds c step x))) s
+entered b w (Continue line) s = Gives Continues s
+entered b w (Break line) s = Gives Breaks s
+entered b w (Return line x) s = returns_value b w.call x line s
+entered b w x s = Gives Falls s
+
+abbrev pub is_labelled : TypedStatement → Bool
+is_labelled (Case line n x) = true
+is_labelled (Default line x) = true
+is_labelled x = false
+
+abbrev pub is_block_tree : TypedStatement → Bool
+is_block_tree (Block line os xs) = true
+is_block_tree x = false
+
+abbrev pub is_for_tree : TypedStatement → Bool
+is_for_tree (ForDeclaration line os ds c step x) = true
+is_for_tree x = false

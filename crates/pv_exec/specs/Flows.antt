@@ -1,0 +1,111 @@
+-- Words of execution (C17 6.8): how a statement is left, what lies below, the objects of a block, the stores of an initializer,
+-- and rounds of loops.
+use Rattle.std.specs.Prelude.{ℕ, Bool, true, false, List, [], ◌∷◌, Some, None, if◌then◌else◌}
+use Rattle.std.specs.declared.option.Option.{Option}
+use Rattle.pv_typed.specs.TypedTree.{TypedTree, line_of}
+use Rattle.pv_typed.specs.TypedStatement.{TypedStatement}
+use Rattle.pv_typed.specs.TypedUnits.{Store, StoredValue, ValueOf, TextOf, TypedObject, object_at}
+use Rattle.pv_world.specs.Worlds.{Worth, Nothing}
+use Rattle.pv_world.specs.Worths.{is_true}
+use Rattle.pv_eval.specs.States.{Setting, State, Res, Gives, then_do, tick}
+use Rattle.pv_eval.specs.TypeForms.{lvalue, size_of}
+use Rattle.pv_eval.specs.Operations.{Tests, Accepts, Makes, Ends, Fills, Puts, PutsText, act}
+use Rattle.pv_eval.specs.Steps.{Calling, converted, handed}
+use Rattle.pv_eval.specs.Evaluation.{ev}
+
+-- how a statement is left (6.8.6)
+pub data Flow : Type 0 where
+  Falls : Flow
+  Breaks : Flow
+  Continues : Flow
+  Returns : Worth → Flow
+
+-- what lies below: a call of a function, and a further round of a loop
+pub record Below : Type 0 where
+  pub call : Calling
+  pub again : (condition step : Option TypedTree) → TypedStatement → State → Res Flow
+  pub again_do : TypedStatement → (condition : TypedTree) → State → Res Flow
+
+-- 6.8p4: a full expression, which has no foes; its accesses end with it
+abbrev pub full : Setting → Calling → TypedTree → State → Res Worth
+full b call x s = then_do (ev b call x [] s) (λ g s. Gives g.value s)
+
+abbrev pub nothing_done : Res Worth → Res Flow
+nothing_done r = then_do r (λ v s. Gives Falls s)
+
+-- a condition, tested at its own line
+abbrev pub testing : Setting → Calling → TypedTree → State → Res Worth
+testing b call x s = then_do (full b call x s) (λ v s. act b (line_of x) (Tests v) s)
+
+-- goes on where the statement before fell through
+abbrev pub falls : Flow → (State → Res Flow) → State → Res Flow
+falls Falls go s = go s
+falls Breaks go s = Gives Breaks s
+falls Continues go s = Gives Continues s
+falls (Returns v) go s = Gives (Returns v) s
+
+-- after the body of a loop (6.8.6.2, 6.8.6.3)
+abbrev pub goes_on : Flow → (State → Res Flow) → State → Res Flow
+goes_on Falls go s = go s
+goes_on Continues go s = go s
+goes_on Breaks go s = Gives Falls s
+goes_on (Returns v) go s = Gives (Returns v) s
+
+-- after the body of a switch
+abbrev pub switched : Flow → State → Res Flow
+switched Breaks s = Gives Falls s
+switched Falls s = Gives Falls s
+switched Continues s = Gives Continues s
+switched (Returns v) s = Gives (Returns v) s
+
+-- 6.2.4p6, 6.8.2: the objects of a block are made when it is entered, in order, and end when it is left
+abbrev pub make_all : Setting → List ℕ → State → Res Worth
+make_all b [] s = Gives Nothing s
+make_all b (o ∷ os) s = then_do (act b (object_at b.unit o).line (Makes o) s) (λ v s. make_all b os s)
+
+abbrev pub end_all : Setting → List ℕ → State → Res Worth
+end_all b [] s = Gives Nothing s
+end_all b (o ∷ os) s = then_do (act b (object_at b.unit o).line (Ends o) s) (λ v s. end_all b os s)
+
+abbrev pub scoped : Setting → List ℕ → (State → Res Flow) → State → Res Flow
+scoped b os body s = then_do (make_all b os s) (λ v s. then_do (body s) (λ fl s. then_do (end_all b os s) (λ v s. Gives fl s)))
+
+-- 6.7.9: the stores of an initializer that is reached; each takes a turn
+abbrev pub stores_value : Setting → Calling → (object : ℕ) → Store → StoredValue → State → Res Worth
+stores_value b call o x (ValueOf e) s =
+    tick b s (λ s. then_do (full b call e s) (λ v s. then_do (handed b e v s) (λ v s. act b x.line (Puts o x.offset (lvalue b x.t) v) s)))
+stores_value b call o x (TextOf l) s = tick b s (λ s. act b x.line (PutsText o x.offset (size_of b x.t) l) s)
+
+abbrev pub store_all : Setting → Calling → (object : ℕ) → List Store → State → Res Worth
+store_all b call o [] s = Gives Nothing s
+store_all b call o (x ∷ xs) s = then_do (stores_value b call o x x.what s) (λ v s. store_all b call o xs s)
+
+abbrev pub begin_fill : Setting → (object : ℕ) → (braced : Bool) → List Store → State → Res Worth
+begin_fill b o true xs s = act b (object_at b.unit o).line (Fills o (Some 0)) s
+begin_fill b o false [] s = act b (object_at b.unit o).line (Fills o None) s
+begin_fill b o false (x ∷ xs) s = Gives Nothing s
+
+-- 6.2.4p6, 6.7.9p10, p19: a declaration that is reached
+abbrev pub declares : Setting → Calling → (object : ℕ) → TypedObject → State → Res Flow
+declares b call o x s = then_do (begin_fill b o x.braced x.inits s) (λ v s. nothing_done (store_all b call o x.inits s))
+
+-- 6.8.5: a round of `while` and `for`; of `do`
+abbrev pub if_tested : Setting → Calling → Option TypedTree → (State → Res Flow) → State → Res Flow
+if_tested b call None go s = go s
+if_tested b call (Some x) go s = then_do (testing b call x s) (λ v s. if is_true v then go s else Gives Falls s)
+
+abbrev pub stepped : Setting → Calling → Option TypedTree → (State → Res Flow) → State → Res Flow
+stepped b call None go s = go s
+stepped b call (Some x) go s = then_do (full b call x s) (λ v s. go s)
+
+abbrev pub round : Setting → Calling → (condition step : Option TypedTree) → (body again : State → Res Flow) → State → Res Flow
+round b call c step body again s = if_tested b call c (λ s. then_do (body s) (λ fl s. goes_on fl (stepped b call step again) s)) s
+
+abbrev pub round_do : Setting → Calling → (condition : TypedTree) → (body again : State → Res Flow) → State → Res Flow
+round_do b call c body again s = then_do (body s) (λ fl s. goes_on fl (if_tested b call (Some c) again) s)
+
+-- 6.8.6.4p3: the value is converted as if by assignment, and passed on
+abbrev pub returns_value : Setting → Calling → Option TypedTree → (line : ℕ) → State → Res Flow
+returns_value b call None line s = Gives (Returns Nothing) s
+returns_value b call (Some x) line s =
+    then_do (full b call x s) (λ v s. then_do (converted b x v s) (λ v s. then_do (act b line (Accepts v) s) (λ v s. Gives (Returns v) s)))

@@ -1,0 +1,44 @@
+-- Labels of a `switch` (C17 6.8.1, 6.8.4.2).
+use Rattle.std.specs.Prelude.{ℤ, Bool, true, false, ◌||◌, if◌then◌else◌}
+use Rattle.std.specs.Ordering.{int_eq}
+use Rattle.pv_typed.specs.TypedStatement.{TypedStatement, Case, Default, Statements, NoStatements, MoreStatements}
+use Rattle.pv_eval.specs.States.{State, Res, Gives}
+use Rattle.pv_exec.specs.Flows.{Flow, Falls}
+
+-- 6.8.4.2p5, p7: the label to which a switch jumps: that of its value, else `default`, else none
+pub data Target : Type 0 where
+  ToCase : ℤ → Target
+  ToDefault : Target
+  ToNone : Target
+
+abbrev pub has_case : ℤ → TypedStatement → Bool
+has_case v (Case line n x) = int_eq n v || has_case v x
+has_case v (Default line x) = has_case v x
+has_case v _ = false
+
+abbrev pub has_default : TypedStatement → Bool
+has_default (Default line x) = true
+has_default (Case line n x) = has_default x
+has_default _ = false
+
+abbrev pub some_case : ℤ → Statements → Bool
+some_case v NoStatements = false
+some_case v (MoreStatements x xs) = has_case v x || some_case v xs
+
+abbrev pub some_default : Statements → Bool
+some_default NoStatements = false
+some_default (MoreStatements x xs) = has_default x || some_default xs
+
+abbrev pub target_of : ℤ → Statements → Target
+target_of v xs = if some_case v xs then ToCase v else (if some_default xs then ToDefault else ToNone)
+
+abbrev pub is_target : Target → TypedStatement → Bool
+is_target (ToCase v) x = has_case v x
+is_target ToDefault x = has_default x
+is_target ToNone x = false
+
+-- 6.8.4.2p7: where no label fits, nothing of the body is executed
+abbrev pub unless_none : Target → (State → Res Flow) → State → Res Flow
+unless_none ToNone go s = Gives Falls s
+unless_none (ToCase v) go s = go s
+unless_none ToDefault go s = go s

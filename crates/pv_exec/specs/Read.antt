@@ -1,0 +1,58 @@
+-- Parts of statements as the code has them, by the numbers of their nodes.
+use Rattle.std.specs.Prelude.{None, Some, List, Bool, true, false}
+use Rattle.std.specs.declared.option.Option.{Option}
+use Rattle.pv_tree.specs.declared.nodes.NodeId.{NodeId}
+use Rattle.pv_tree.specs.declared.nodes.ListId.{ListId}
+use Rattle.pv_typed.specs.TypedStatement.{TypedStatement, Statements, declared_of}
+use Rattle.pv_typed.specs.Nodes.{Tree, expression_in, statement_in, statements_in, list_in}
+use Rattle.pv_typed.specs.Tables.{Stored, IsExpression, IsStatement}
+use Rattle.pv_exec.specs.declared.parts.DoParts.{DoParts}
+use Rattle.pv_exec.specs.declared.parts.ChoiceParts.{ChoiceParts}
+use Rattle.pv_exec.specs.declared.task.Doing.TheVariants as doing
+use Rattle.pv_exec.specs.declared.task.Flow.TheVariants as flow
+use Rattle.pv_exec.specs.declared.task.Way.{Way}
+use Rattle.pv_exec.specs.declared.task.Way.TheVariants as way
+use Rattle.pv_exec.specs.Parts.{DoLoop, Choice, Items}
+
+abbrev pub do_in : List Tree → DoParts → DoLoop
+do_in ts p = record { condition = expression_in ts p.condition; body = statement_in ts p.body }
+
+abbrev pub do_read : List Tree → Option DoParts → Option DoLoop
+do_read ts None = None
+do_read ts (Some p) = Some (do_in ts p)
+
+abbrev pub other_read : List Tree → Option NodeId → Option TypedStatement
+other_read ts None = None
+other_read ts (Some n) = Some (statement_in ts n)
+
+abbrev pub choice_in : List Tree → ChoiceParts → Choice
+choice_in ts p = record { condition = expression_in ts p.condition; body = statement_in ts p.body; other = other_read ts p.other }
+
+abbrev pub choice_read : List Tree → Option ChoiceParts → Option Choice
+choice_read ts None = None
+choice_read ts (Some p) = Some (choice_in ts p)
+
+abbrev pub HasOther : Stored → Option NodeId → Type 0
+HasOther u None = Unit {0}
+HasOther u (Some n) = IsStatement u n
+
+abbrev pub ChoiceFits : Stored → ChoiceParts → Type 0
+ChoiceFits u p = IsExpression u p.condition × IsStatement u p.body × HasOther u p.other
+
+abbrev pub other_way : Option NodeId → Way
+other_way None = way.Do (doing.Left flow.Falls)
+other_way (Some y) = way.Do (doing.Enter y)
+
+abbrev pub side_of : ChoiceParts → Bool → Way
+side_of p true = way.Do (doing.Enter p.body)
+side_of p false = other_way p.other
+
+-- the statements of a list
+abbrev pub list_read : List Tree → List (List NodeId) → Option ListId → Option Statements
+list_read ts lists None = None
+list_read ts lists (Some l) = Some (statements_in ts (list_in lists l))
+
+-- a block by its list
+abbrev pub items_read : List Tree → List (List NodeId) → TypedStatement → Option ListId → Option Items
+items_read ts lists x None = None
+items_read ts lists x (Some l) = Some (record { objects = declared_of x; items = statements_in ts (list_in lists l) })

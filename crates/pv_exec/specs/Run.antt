@@ -1,0 +1,74 @@
+-- The run of a unit (C17 5.1.2): a function of the unit, its script, the bound on its turns, and in a settled run the sides.
+use Rattle.std.specs.Prelude.{ℕ, ℤ, pos, Bool, List, [], None, Some, map, if◌then◌else◌}
+use Rattle.std.specs.declared.option.Option.{Option}
+use Rattle.pv_num.specs.declared.kinds.IntKind.TheVariants as kind
+use Rattle.pv_num.specs.declared.faults.Reason.TheVariants as reason
+use Rattle.pv_num.specs.Kinds.{fits_of}
+use Rattle.pv_script.specs.Lines.{ScriptLine}
+use Rattle.pv_inst.specs.declared.values.CreateError.{CreateError}
+use Rattle.pv_inst.specs.declared.values.CreateError.TheVariants as refusal
+use Rattle.pv_typed.specs.TypedUnits.{function_at}
+use Rattle.pv_typed.specs.Mains.{main_of}
+use Rattle.pv_typed.specs.Tables.{Stored, whole}
+use Rattle.pv_world.specs.Worlds.{Worth, Nothing, Wrong, Undefined, Undecided, Halts, Halt, Indeterminate, Exits, Aborts, Refused, SidesEnded}
+use Rattle.pv_world.specs.Worths.{int_of}
+use Rattle.pv_eval.specs.States.{Setting, State, Turns, Unreached, Stopped, Res, Gives, Stops, then_do}
+use Rattle.pv_eval.specs.Moments.{first_world}
+use Rattle.pv_eval.specs.Constants.{is_high_pair}
+use Rattle.pv_exec.specs.declared.outcome.Outcome.{Outcome}
+use Rattle.pv_exec.specs.declared.outcome.Outcome.TheVariants as outcome
+use Rattle.pv_exec.specs.Calls.{below, call_body}
+use Rattle.pv_exec.specs.Preparing.{prepare}
+
+abbrev pub setting_of : Stored → (bound : ℕ) → Option (List Bool) → Setting
+setting_of u bound sides = record { unit = whole u; types = u.known; bound = bound; sides = sides }
+
+abbrev pub first : List ScriptLine → State
+first script = record { world = first_world script; output = []; events = []; taken = 0 }
+
+-- 5.1.2.2.1: `main` is called, without arguments, in the line of its name
+abbrev pub call_main : Setting → Option ℕ → State → Res Worth
+call_main b None s = Gives Nothing s
+call_main b (Some f) s = call_body b (below b b.bound) (function_at b.unit f) [] (function_at b.unit f).line s
+
+unfoldable pub run_of : Setting → List ScriptLine → Res Worth
+run_of b script = then_do (prepare b (first script)) (λ v s. call_main b (main_of b.unit) s)
+
+-- 5.1.2.2.3: the status that `main` gives
+abbrev pub status_in : ℤ → ℤ
+status_in n = if fits_of kind.Int n then n else pos 0
+
+abbrev pub status_of : Worth → ℤ
+status_of v = status_in (int_of v)
+
+-- a request for an instance was refused; those for objects and literals are never denied
+abbrev pub refused : (name : ℕ) → CreateError → (line : ℕ) → Option Outcome
+refused name (refusal.Storage live size) line = Some (outcome.Storage live size line)
+refused name refusal.Denied line = None
+refused name (refusal.Range k address) line = Some (outcome.Placement reason.Range name k line)
+refused name (refusal.Misaligned k address) line = Some (outcome.Placement reason.Misaligned name k line)
+refused name (refusal.Overlap k address other) line = Some (outcome.Placement reason.Overlap name k line)
+refused name refusal.NoMemory line = None
+
+abbrev pub halted : Halt → ℕ → Option Outcome
+halted Indeterminate line = Some (outcome.Indeterminate line)
+halted (Exits n) line = Some (outcome.Exit n)
+halted Aborts line = Some (outcome.Abort line)
+halted (Refused name e) line = refused name e line
+halted (SidesEnded k) line = Some (outcome.SidesEnded k)
+
+abbrev pub stopped : Wrong → ℕ → Option Outcome
+stopped (Undefined f) line = Some (outcome.Undefined f line)
+stopped Undecided line = Some (outcome.Undecided line)
+stopped (Halts h) line = halted h line
+
+-- how a run ended; its levels are never used up
+abbrev pub outcome_of : Res Worth → Option Outcome
+outcome_of (Gives v s) = Some (outcome.Exit (status_of v))
+outcome_of (Stops Turns s) = Some outcome.Turns
+outcome_of (Stops Unreached s) = None
+outcome_of (Stops (Stopped y line) s) = stopped y line
+
+-- of each pair whether it was settled to its high candidate
+abbrev pub sides_at : State → List Bool
+sides_at s = map is_high_pair s.world.memory.table.pairs

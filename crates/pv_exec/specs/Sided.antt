@@ -1,0 +1,12 @@
+-- Sides of pairs.
+use Rattle.std.specs.Prelude.{Bool, true, false}
+use Rattle.pv_exec.specs.declared.sides.Side.{Side}
+use Rattle.pv_exec.specs.declared.sides.Side.TheVariants.{Low, High}
+
+abbrev pub side_of : Bool → Side
+side_of true = High
+side_of false = Low
+
+abbrev pub is_high : Side → Bool
+is_high High = true
+is_high Low = false

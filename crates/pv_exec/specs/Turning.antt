@@ -1,0 +1,73 @@
+-- Turns of a run, and how its statements end.
+use Rattle.std.specs.Prelude.{◌≡◌, ℕ, ◌+◌, ◌-◌, ◌*◌, ◌<◌, List, Result, Ok, Err}
+use Rattle.pv_typed.specs.Tables.{Stored}
+use Rattle.pv_world.specs.Coming.{wrong_for}
+use Rattle.pv_eval.specs.declared.failure.Failure.{Failure}
+use Rattle.pv_eval.specs.declared.failure.Failure.TheVariants as failure
+use Rattle.pv_eval.specs.States.{State, Turns, Stopped, Res, Gives, Stops}
+use Rattle.pv_eval.specs.Moments.{Always, state_of}
+use Rattle.pv_eval.specs.Machines.{Machine, Started, ended}
+use Rattle.pv_eval.specs.MachineSteps.{Fit}
+use Rattle.pv_exec.specs.declared.once.After.{After}
+use Rattle.pv_exec.specs.declared.once.After.TheVariants as after
+use Rattle.pv_exec.specs.declared.turning.Last.{Last}
+use Rattle.pv_exec.specs.declared.turning.Last.TheVariants as last
+use Rattle.pv_exec.specs.declared.turning.Advanced.{Advanced}
+use Rattle.pv_exec.specs.declared.turning.Advanced.TheVariants as advance
+use Rattle.pv_exec.specs.declared.task.Task.{Task}
+use Rattle.pv_exec.specs.declared.task.Doing.{Doing}
+use Rattle.pv_exec.specs.Tasks.{Reached, Left, Valued}
+use Rattle.pv_exec.specs.Works.{flow_of, due, Holds}
+use Rattle.pv_exec.specs.Leading.{HoldsAfter}
+use Rattle.pv_exec.specs.Fits.{Runs}
+
+-- what operations that take no turn lead to
+abbrev pub SettledLed : Stored → Doing → Result After Failure → (before behind : List Task) → Machine → Machine → Type 0
+SettledLed u d r ts ts' old new =
+    Always u old.moment (λ b out es. (all : Res Reached) →
+    Holds b u all ts old.started d (state_of old.moment out es) → HoldsAfter b u all r ts' new.started (state_of new.moment out es))
+
+-- a turn is due
+abbrev pub DueAfter : List Started → Result After Failure → Type 0
+DueAfter es (Ok (after.On d)) = due es d ≡ 1
+DueAfter es (Ok (after.Ended fl)) = Unit {0}
+DueAfter es (Ok after.Valued) = Unit {0}
+DueAfter es (Err e) = Unit {0}
+
+abbrev pub advanced_by : Result After Failure → Advanced
+advanced_by (Ok (after.On d)) = advance.On d
+advanced_by (Ok (after.Ended fl)) = advance.Last (last.Left fl)
+advanced_by (Ok after.Valued) = advance.Last last.Valued
+advanced_by (Err (failure.Stop y line)) = advance.Last (last.Stop y line)
+advanced_by (Err failure.NoMemory) = advance.NoMemory
+
+-- how the whole that was asked for ended
+abbrev pub LastIs : Res Reached → Last → List Started → State → Type 0
+LastIs all (last.Left fl) es s = all ≡ Gives (Left (flow_of fl)) s
+LastIs all last.Valued es s = all ≡ Gives (Valued (ended es)) s
+LastIs all last.Turns es s = all ≡ Stops Turns s
+LastIs all (last.Stop y line) es s = all ≡ Stops (Stopped (wrong_for y) line) s
+
+-- what a part of the run leads to, where this is the bound
+abbrev pub AdvancedLed : Stored → (bound : ℕ) → Doing → Advanced → (before behind : List Task) → Machine → Machine → Type 0
+AdvancedLed u n d (advance.On e) ts ts' old new =
+    Always u old.moment (λ b out es. (all : Res Reached) → b.bound ≡ n →
+    Holds b u all ts old.started d (state_of old.moment out es) → Holds b u all ts' new.started e (state_of new.moment out es))
+AdvancedLed u n d (advance.Last l) ts ts' old new =
+    Always u old.moment (λ b out es. (all : Res Reached) → b.bound ≡ n →
+    Holds b u all ts old.started d (state_of old.moment out es) → LastIs all l new.started (state_of new.moment out es))
+AdvancedLed u n d advance.NoMemory ts ts' old new = Unit {0}
+
+abbrev pub AdvancedRuns : Stored → List Task → List Started → Advanced → Type 0
+AdvancedRuns u ts es (advance.On d) = Runs u ts es d × Fit u es
+AdvancedRuns u ts es (advance.Last l) = Unit {0}
+AdvancedRuns u ts es advance.NoMemory = Unit {0}
+
+-- twice the turns that are left, and one more where none is due
+abbrev pub turn_measure : (bound taken : ℕ) → List Started → Doing → ℕ
+turn_measure n taken es d = 2 * (n - taken) + (1 - due es d)
+
+abbrev pub AdvancedPace : (before bound taken : ℕ) → List Started → Advanced → Type 0
+AdvancedPace m n taken es (advance.On d) = turn_measure n taken es d < m
+AdvancedPace m n taken es (advance.Last l) = Unit {0}
+AdvancedPace m n taken es advance.NoMemory = Unit {0}

@@ -1,0 +1,110 @@
+-- The meaning of a run in progress.
+use Rattle.std.specs.Prelude.{◌≡◌, ℕ, ◌+◌, ◌<◌, ◌≤◌, Bool, true, false, List, [], ◌∷◌, map, reverse, All, drop, if◌then◌else◌}
+use Rattle.pv_typed.specs.TypedStatement.{declared_of}
+use Rattle.pv_typed.specs.TypedUnits.{object_at}
+use Rattle.pv_typed.specs.Tables.{Stored, statement_at}
+use Rattle.pv_eval.specs.Machines.{left_of, ended, due_turns, after_first}
+use Rattle.pv_eval.specs.States.{Setting, State, Res, Gives, then_do, tick}
+use Rattle.pv_exec.specs.Execution.{ex, exs}
+use Rattle.pv_exec.specs.Calls.{below}
+use Rattle.pv_exec.specs.Flows.{scoped, store_all}
+use Rattle.pv_world.specs.Coming.{worth_of}
+use Rattle.pv_eval.specs.Stack.{rest}
+use Rattle.pv_exec.specs.Flows as execution
+use Rattle.pv_eval.specs.Machines.{Started}
+use Rattle.pv_exec.specs.declared.task.Flow.{Flow}
+use Rattle.pv_exec.specs.declared.task.Flow.TheVariants as flow
+use Rattle.pv_exec.specs.declared.task.Task.{Task}
+use Rattle.pv_exec.specs.declared.task.Task.TheVariants as task
+use Rattle.pv_exec.specs.declared.task.Doing.{Doing}
+use Rattle.pv_exec.specs.declared.task.Doing.TheVariants as doing
+use Rattle.pv_exec.specs.Tasks.{Reached, Left, Valued, left, statements_from, within, declarations_of, after_task}
+use Rattle.pv_exec.specs.Parts.{loop_of}
+
+abbrev pub flow_of : Flow → execution.Flow
+flow_of flow.Falls = execution.Falls
+flow_of flow.Breaks = execution.Breaks
+flow_of flow.Continues = execution.Continues
+flow_of (flow.Returns v) = execution.Returns (worth_of v)
+
+-- what is done now, at its level, with the expressions that were started
+unfoldable pub does : Setting → Stored → (level : ℕ) → List Started → Doing → State → Res Reached
+does b u k es (doing.Enter n) s = left (ex b (below b k) (statement_at u n) s)
+does b u k es (doing.Jump n l i) s = left (tick b s (λ s. scoped b (declared_of (statement_at u n)) (λ s. exs b (below b k) (statements_from u l i) s) s))
+does b u k es (doing.Statements l i) s = left (exs b (below b k) (statements_from u l i) s)
+does b u k es (doing.Within n) s = left (within b (below b k) (declarations_of (statement_at u n)) (loop_of (statement_at u n)) s)
+does b u k es (doing.Store o i) s = left (then_do (store_all b (below b k).call o (drop i (object_at b.unit o).inits) s) (λ v s. Gives execution.Falls s))
+does b u k es doing.Absent s = left (tick b s (λ s. Gives execution.Falls s))
+does b u k es (doing.Left fl) s = Gives (Left (flow_of fl)) s
+does b u k es doing.Evaluate s = then_do (left_of b (below b k).call u es s) (λ g s. Gives (Valued g.value) s)
+does b u k es doing.Evaluated s = Gives (Valued (ended es)) s
+
+-- one where a turn is due
+abbrev pub due : List Started → Doing → ℕ
+due es (doing.Enter n) = 1
+due es (doing.Jump n l i) = 1
+due es (doing.Statements l i) = 0
+due es (doing.Within n) = 0
+due es (doing.Store o i) = 1
+due es doing.Absent = 1
+due es (doing.Left fl) = 0
+due es doing.Evaluate = due_turns es
+due es doing.Evaluated = 0
+
+-- the expressions that wait for calls
+abbrev pub others : List Started → Doing → List Started
+others es doing.Evaluate = after_first es
+others es doing.Evaluated = after_first es
+others es (doing.Enter n) = es
+others es (doing.Jump n l i) = es
+others es (doing.Statements l i) = es
+others es (doing.Within n) = es
+others es (doing.Store o i) = es
+others es doing.Absent = es
+others es (doing.Left fl) = es
+
+abbrev pub is_call : Task → Bool
+is_call (task.InCall f line) = true
+is_call (task.InList l i) = false
+is_call (task.InBlock n) = false
+is_call task.InSwitch = false
+is_call task.Dropping = false
+is_call (task.Chosen n) = false
+is_call (task.First n) = false
+is_call (task.Declared n) = false
+is_call (task.Tested n) = false
+is_call (task.Rounded n) = false
+is_call (task.Stepped n) = false
+is_call (task.RoundedDo n) = false
+is_call (task.TestedDo n) = false
+is_call (task.Selecting n) = false
+is_call (task.Returning n) = false
+is_call (task.Storing o i) = false
+
+abbrev pub passed : Task → List Started → List Started
+passed t es = if is_call t then after_first es else es
+
+-- a task at its level, with the expressions that wait when it is reached
+pub record Work : Type 0 where
+  pub level : ℕ
+  pub task : Task
+  pub waiting : List Started
+
+unfoldable pub after_work : Setting → Stored → Work → Reached → State → Res Reached
+after_work b u w r s = after_task b u w.level w.waiting w.task r s
+
+-- the works stand on these expressions
+abbrev pub Standing : List Work → List Started → Type 0
+Standing [] es = Unit {0}
+Standing (w ∷ ws) es = (w.waiting ≡ es) × Standing ws (passed w.task es)
+
+-- the run that is to come, from the tasks that wait, the innermost last, and from what is done now
+pub record Holds (b : Setting) (u : Stored) (all : Res Reached) (tasks : List Task) (es : List Started) (d : Doing) (s : State) : Type 0 where
+  pub works : List Work
+  pub level : ℕ
+  pub same : map (λ (w : Work). w.task) works ≡ reverse tasks
+  pub standing : Standing works (others es d)
+  pub law : all ≡ then_do (does b u level es d s) (rest (after_work b u) works)
+  pub rooms : All (λ (w : Work). b.bound < s.taken + w.level + due es d) works
+  pub room : b.bound < s.taken + level + due es d
+  pub most : s.taken ≤ b.bound

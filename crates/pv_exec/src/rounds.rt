@@ -1,0 +1,112 @@
+// Further rounds of loops whose condition comes first.
+ghost use Rattle.std.specs.Prelude.{◌≡◌, ℕ, ◌+◌, ◌<◌, ◌≤◌, OnOk, IfOk, IfSome, true};
+ghost use Rattle.pv_typed.specs.Tables.{nodes, statement_at, IsExpression, IsStatement};
+ghost use Rattle.pv_typed.specs.Nodes.{optional_in};
+ghost use Rattle.pv_eval.specs.MachineSteps.{Fit};
+ghost use Rattle.pv_eval.specs.Machines.{ended, is_ended, after_first};
+ghost use Rattle.pv_eval.specs.Moments.{Always, Stays, state_of};
+ghost use Rattle.pv_eval.specs.States.{Setting, State};
+ghost use Rattle.pv_eval.specs.Runnable.{IsRunnable};
+ghost use Rattle.pv_exec.specs.Calls.{below};
+ghost use Rattle.pv_exec.specs.Tasks.{left};
+ghost use Rattle.pv_exec.specs.Parts.{loop_of, rounded, stepped_on, tested, line_of_condition};
+ghost use Rattle.pv_exec.specs.Works.{flow_of};
+ghost use Rattle.pv_exec.specs.Leading.{LeadsOr};
+ghost use Rattle.pv_exec.specs.Quickness.{QuickOr};
+ghost use Rattle.pv_exec.specs.Fits.{WayFitsOr};
+
+use crate::statements::{begin_round, evaluate, loop_parts};
+use crate::task::{Doing, Flow, Task, Way};
+use pv_eval::{Failure, Machine};
+use pv_tree::NodeId;
+use pv_typed::TypedUnit;
+
+// A further round, one level lower.
+pub fn round_again(unit: &TypedUnit, n: NodeId, machine: &mut Machine) -> Result<Way, Failure>
+    requires there { IsStatement unit.now n }
+    requires fit { Fit unit.now machine.old.started }
+    ensures led { (b : Setting) (k : ℕ) (s : State) → s.taken ≤ b.bound → b.bound < s.taken + k → LeadsOr b unit.now (left ((below b k).again (loop_of (statement_at unit.now n)).condition (loop_of (statement_at unit.now n)).step (loop_of (statement_at unit.now n)).body s)) machine.old.started result machine.new.started s }
+    ensures moment { machine.new.moment ≡ machine.old.moment }
+    ensures fit { OnOk result (Fit unit.now machine.new.started) }
+    ensures ways { WayFitsOr unit.now machine.old.started machine.new.started result }
+    ensures quick { QuickOr machine.new.started result }
+{
+    begin_round(unit, n, machine)
+}
+
+// After the body: the last expression, and a further round.
+pub fn round_goes_on(unit: &TypedUnit, n: NodeId, machine: &mut Machine) -> Result<Way, Failure>
+    requires there { IsStatement unit.now n }
+    requires fit { Fit unit.now machine.old.started }
+    ensures led { (b : Setting) (k : ℕ) (s : State) → s.taken ≤ b.bound → b.bound < s.taken + k → LeadsOr b unit.now (left (stepped_on b (below b k) (loop_of (statement_at unit.now n)) s)) machine.old.started result machine.new.started s }
+    ensures moment { machine.new.moment ≡ machine.old.moment }
+    ensures fit { OnOk result (Fit unit.now machine.new.started) }
+    ensures ways { WayFitsOr unit.now machine.old.started machine.new.started result }
+    ensures quick { QuickOr machine.new.started result }
+{
+    let parts = loop_parts(unit, n);
+    match parts.step {
+        None => round_again(unit, n, machine),
+        Some(x) => evaluate(machine, Task::Stepped(n), x),
+    }
+}
+
+// How the body was left decides (C17 6.8.6.2, 6.8.6.3).
+pub fn after_body(
+    unit: &TypedUnit,
+    n: NodeId,
+    flow: Flow,
+    machine: &mut Machine,
+) -> Result<Way, Failure>
+    requires there { IsStatement unit.now n }
+    requires fit { Fit unit.now machine.old.started }
+    ensures led { (b : Setting) (k : ℕ) (s : State) → s.taken ≤ b.bound → b.bound < s.taken + k → LeadsOr b unit.now (left (rounded b (below b k) (loop_of (statement_at unit.now n)) (flow_of flow) s)) machine.old.started result machine.new.started s }
+    ensures moment { machine.new.moment ≡ machine.old.moment }
+    ensures fit { OnOk result (Fit unit.now machine.new.started) }
+    ensures ways { WayFitsOr unit.now machine.old.started machine.new.started result }
+    ensures quick { QuickOr machine.new.started result }
+{
+    match flow {
+        Flow::Falls => round_goes_on(unit, n, machine),
+        Flow::Continues => round_goes_on(unit, n, machine),
+        Flow::Breaks => Ok(Way::Do(Doing::Left(Flow::Falls))),
+        Flow::Returns(v) => Ok(Way::Do(Doing::Left(Flow::Returns(v)))),
+    }
+}
+
+// The line of a condition.
+fn line_of_optional(unit: &TypedUnit, c: Option<NodeId>) -> u32
+    requires { IfSome c (IsExpression unit.now) }
+    ensures { result ≡ line_of_condition (optional_in (nodes unit.now) c) }
+{
+    match c {
+        None => 0,
+        Some(c) => unit.line_of(c),
+    }
+}
+
+// After the condition of a loop.
+pub fn after_condition(unit: &TypedUnit, n: NodeId, machine: &mut Machine) -> Result<Way, Failure>
+    requires runnable { IsRunnable unit.now }
+    requires there { IsStatement unit.now n }
+    requires ended { is_ended machine.old.started ≡ true }
+    requires fit { Fit unit.now machine.old.started }
+    ensures led { Always unit.now machine.old.moment (λ b out es. (k : ℕ) → b.bound < machine.old.moment.taken + k → LeadsOr b unit.now (left (tested b (below b k) (loop_of (statement_at unit.now n)) (ended machine.old.started) (state_of machine.old.moment out es))) (after_first machine.old.started) result machine.new.started (state_of machine.new.moment out es)) }
+    ensures stays { Stays machine.old.moment machine.new.moment }
+    ensures fit { Fit unit.now machine.new.started }
+    ensures ways { WayFitsOr unit.now (after_first machine.old.started) machine.new.started result }
+    ensures quick { QuickOr machine.new.started result }
+{
+    let parts = loop_parts(unit, n);
+    let line = line_of_optional(unit, parts.condition);
+    match machine.decide(unit, line) {
+        Ok(goes_on) => {
+            if goes_on {
+                Ok(Way::With(Task::Rounded(n), Doing::Enter(parts.body)))
+            } else {
+                Ok(Way::Do(Doing::Left(Flow::Falls)))
+            }
+        }
+        Err(e) => Err(e),
+    }
+}
