@@ -107,10 +107,10 @@ one_answer t ds (Typed w) (Unresolved m) x y =
 one_answer t ds NoMain NoMain x y = refl
 one_answer t ds NoMain (Typed w) x y =
     let same = same_unit ds (first t) y.0 x.0 y.1.0 x.1.0 in
-    true_false (has_main x.0.state x.0.entities) (sym (ap (λ (u : UnitState). has_main u.state u.entities) same) ∙ y.1.2) x.1.2
+    true_false (has_main x.0.state.unit) (sym (ap (λ (u : UnitState). has_main u.state.unit) same) ∙ y.1.2) x.1.2
 one_answer t ds (Typed w) NoMain x y =
     let same = same_unit ds (first t) x.0 y.0 x.1.0 y.1.0 in
-    true_false (has_main y.0.state y.0.entities) (sym (ap (λ (u : UnitState). has_main u.state u.entities) same) ∙ x.1.2) y.1.2
+    true_false (has_main y.0.state.unit) (sym (ap (λ (u : UnitState). has_main u.state.unit) same) ∙ x.1.2) y.1.2
 one_answer t ds (Typed v) (Typed w) x y =
     let same = same_unit ds (first t) x.0 y.0 x.1.0 y.1.0 in
     ap Typed (x.1.3 ∙ ap finished same ∙ sym y.1.3)
@@ -149,12 +149,12 @@ up_to ds u (suc m) le =
 abbrev Answer : Table → List DeclarationTree → Type 0
 Answer t ds = (a : Checked) × UnitComes t ds a
 
-with_main : (t : Table) (ds : List DeclarationTree) (u : UnitState) → IsTyped ds (first t) u → unresolved u.state u.entities ≡ None → (has_main u.state u.entities ≡ true) ⊎ (has_main u.state u.entities ≡ false) → Answer t ds
+with_main : (t : Table) (ds : List DeclarationTree) (u : UnitState) → IsTyped ds (first t) u → unresolved u.state u.entities ≡ None → (has_main u.state.unit ≡ true) ⊎ (has_main u.state.unit ≡ false) → Answer t ds
 with_main t ds u e none (inl there) = (Typed (finished u), (u, (e, none, there, refl)))
 with_main t ds u e none (inr absent) = (NoMain, (u, (e, none, absent)))
 
 with_names : (t : Table) (ds : List DeclarationTree) (u : UnitState) → IsTyped ds (first t) u → (unresolved u.state u.entities ≡ None) ⊎ ((n : ℕ) × (unresolved u.state u.entities ≡ Some n)) → Answer t ds
-with_names t ds u e (inl none) = with_main t ds u e none (shown (has_main u.state u.entities))
+with_names t ds u e (inl none) = with_main t ds u e none (shown (has_main u.state.unit))
 with_names t ds u e (inr some) = (Unresolved some.0, (u, (e, some.1)))
 
 typed_answer : (t : Table) (ds : List DeclarationTree) → (typed_to ds (length ds) (first t) ≡ None) ⊎ ((u : UnitState) × (typed_to ds (length ds) (first t) ≡ Some u)) → is_some (typed_to ds (length ds) (first t)) ≡ true → Answer t ds

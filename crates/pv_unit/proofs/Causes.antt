@@ -1,11 +1,12 @@
 -- What comes of a unit, from what the parts of the code found.
-use Rattle.std.proofs.Common.{◌≡◌, ℕ, ◌≤◌, ◌^◌, List, Result, Ok, Err, IfErr, OnOk, sym, subst}
+use Rattle.std.proofs.Common.{◌≡◌, ℕ, ◌≤◌, ◌^◌, List, Result, Ok, Err, IfErr, OnOk, IsTrue, is_some, sym, subst}
 use Rattle.pv_token.specs.Table.{Table}
 use Rattle.pv_tree.specs.Syntax.{DeclarationTree}
 use Rattle.pv_types.specs.Known.{Known, env}
 use Rattle.pv_types.specs.Layouts.{layout_in}
 use Rattle.pv_types.specs.Ty.{StructTag}
 use Rattle.pv_typed.specs.Formed.{AreKnown, Grown}
+use Rattle.pv_typed.specs.Mains.{main_of}
 use Rattle.pv_typed.specs.Tables.{Stored}
 use Rattle.pv_typed.specs.TypedUnits.{WholeUnit}
 use Rattle.pv_check.specs.Growing.{AreSized}
@@ -15,6 +16,7 @@ use Rattle.pv_unit.specs.declared.checking.CheckError.TheVariants as error
 use Rattle.pv_unit.specs.Checking.{IsCause, IsLack, IsNamed, IsResolved, IsStop}
 use Rattle.pv_unit.specs.Entities.{UnitState}
 use Rattle.pv_unit.specs.Units.{Breaks, IsTyped, Typed, UnitComes, finished, first}
+use Rattle.pv_unit.proofs.Resolutions.{main_found}
 
 pub stop_cause : (t : Table) (ds : List DeclarationTree) (u : UnitState) (e : CheckError) → u ≡ first t → IsStop ds u e → IsCause t ds e
 stop_cause t ds u (error.Constraint n) same h = subst (λ v. Breaks ds v n) same h
@@ -41,6 +43,10 @@ lack_refused t ds u (Err e) typed h = lack_cause t ds u e typed h
 pub unit_comes : {T : Type 0} (t : Table) (ds : List DeclarationTree) (u : UnitState) (w : WholeUnit) (r : Result T CheckError) → IsTyped ds (first t) u → OnOk r (IsResolved u) → OnOk r (w ≡ finished u) → OnOk r (UnitComes t ds (Typed w))
 unit_comes t ds u w (Ok x) typed h k = (u, (typed, h.0, h.1, k))
 unit_comes t ds u w (Err e) typed h k = tt
+
+pub main_on : {T : Type 0} (u : UnitState) (w : WholeUnit) (r : Result T CheckError) → OnOk r (IsResolved u) → OnOk r (w ≡ finished u) → OnOk r (IsTrue (is_some (main_of w)))
+main_on u w (Ok x) h k = subst (λ (v : WholeUnit). IsTrue (is_some (main_of v))) (sym k) (main_found u.state.unit.names u.state.unit.functions h.1)
+main_on u w (Err e) h k = tt
 
 pub known_on : {T E : Type 0} (a b : Stored) (r : Result T E) → AreKnown a → OnOk r (Grown a b) → OnOk r (AreKnown b)
 known_on a b (Ok x) known h = h.known known

@@ -1,6 +1,7 @@
 -- Names that nothing defines, `main`, and static objects: what the code's steps come to.
 use Rattle.std.proofs.Common.{◌≡◌, ℕ, ◌+◌, ◌<◌, ◌≤◌, Bool, true, false, nat_eq, List, [], ◌∷◌, ◌++◌, Some, None, length, map, take, drop, suc, get_or, eq-eqb, refl, sym, ◌∙◌, ap, subst, arith, append_assoc}
-use Rattle.std.specs.Prelude.{if◌then◌else◌, ◌||◌, ◌&&◌}
+use Rattle.std.specs.Prelude.{if◌then◌else◌, ◌||◌, ◌&&◌, Option, is_some, IsTrue}
+use Rattle.std.specs.Option.{option_map}
 use Rattle.std.specs.List.{list_any}
 use Rattle.std.proofs.Math.Bool.{or_assoc}
 use Rattle.std.proofs.Math.Seq.{drop-cons}
@@ -10,15 +11,18 @@ use Rattle.std.proofs.lemmas.List.Folds.{list_any-append}
 use Rattle.indexmap.specs.IndexSet.{insert_key}
 use Rattle.pv_typed.specs.Adding.{with_static}
 use Rattle.pv_typed.specs.Formed.{Grown}
-use Rattle.pv_typed.specs.Tables.{Stored, whole}
-use Rattle.pv_typed.specs.TypedUnits.{TypedObject, WholeUnit, no_object}
+use Rattle.pv_tree.specs.declared.nodes.NodeId.{NodeId}
+use Rattle.pv_typed.specs.Mains.{first_main, named_main}
+use Rattle.pv_typed.specs.Nodes.{Tree}
+use Rattle.pv_typed.specs.Tables.{Stored, body_in, whole}
+use Rattle.pv_typed.specs.TypedUnits.{TypedFunction, TypedObject, WholeUnit, no_object}
 use Rattle.pv_typed.proofs.Adding.{grown_refl, grown_trans}
 use Rattle.pv_check.specs.declared.scopes.Named.{Named}
 use Rattle.pv_check.specs.Raw.{used_of}
 use Rattle.pv_check.specs.State.{State, Used, UsedObject, UsedFunction}
 use Rattle.pv_unit.specs.Entities.{Entity}
 use Rattle.pv_unit.specs.Resolving.{has_in}
-use Rattle.pv_unit.specs.Units.{has_main, is_defined, is_main_function, is_unresolved, is_used, statics_from, unresolved, uses, with_statics}
+use Rattle.pv_unit.specs.Units.{has_main_in, is_defined, is_main_function, is_unresolved, is_used, statics_from, unresolved, uses, with_statics}
 
 -- ---- what expressions name
 
@@ -96,16 +100,35 @@ unresolved_here s es i d lt is_so =
 pub none_unresolved : (s : State) (es : List Entity) (i : ℕ) → length es ≤ i → None ≡ unresolved s (drop i es)
 none_unresolved s es i end = sym (ap (unresolved s) (drop_all i es end))
 
-pub main_next : (s : State) (es : List Entity) (i : ℕ) (d : Entity) → i < length es → is_main_function s (get_or es i d) ≡ false → has_main s (drop (i + 1) es) ≡ has_main s (drop i es)
-main_next s es i d lt not_so =
+pub main_next : (names : List (List ℕ)) (fs : List TypedFunction) (i : ℕ) (d : TypedFunction) → i < length fs → is_main_function names (get_or fs i d) ≡ false → has_main_in names (drop (i + 1) fs) ≡ has_main_in names (drop i fs)
+main_next names fs i d lt not_so =
     let step : i + 1 ≡ suc i = omega arith in
-    ap (λ j. has_main s (drop j es)) step ∙ ap (λ b. b || has_main s (drop (suc i) es)) (sym not_so) ∙ ap (has_main s) (sym (drop-cons es i d lt))
+    ap (λ j. has_main_in names (drop j fs)) step ∙ ap (λ b. b || has_main_in names (drop (suc i) fs)) (sym not_so) ∙ ap (has_main_in names) (sym (drop-cons fs i d lt))
 
-pub main_here : (s : State) (es : List Entity) (i : ℕ) (d : Entity) → i < length es → is_main_function s (get_or es i d) ≡ true → true ≡ has_main s (drop i es)
-main_here s es i d lt is_so = ap (λ b. b || has_main s (drop (suc i) es)) (sym is_so) ∙ ap (has_main s) (sym (drop-cons es i d lt))
+pub main_here : (names : List (List ℕ)) (fs : List TypedFunction) (i : ℕ) (d : TypedFunction) → i < length fs → is_main_function names (get_or fs i d) ≡ true → true ≡ has_main_in names (drop i fs)
+main_here names fs i d lt is_so = ap (λ b. b || has_main_in names (drop (suc i) fs)) (sym is_so) ∙ ap (has_main_in names) (sym (drop-cons fs i d lt))
 
-pub no_main : (s : State) (es : List Entity) (i : ℕ) → length es ≤ i → false ≡ has_main s (drop i es)
-no_main s es i end = sym (ap (has_main s) (drop_all i es end))
+pub no_main : (names : List (List ℕ)) (fs : List TypedFunction) (i : ℕ) → length fs ≤ i → false ≡ has_main_in names (drop i fs)
+no_main names fs i end = sym (ap (has_main_in names) (drop_all i fs end))
+
+pub body_there : (ts : List Tree) (o : Option NodeId) → is_some o ≡ is_some (body_in ts o)
+body_there ts None = refl
+body_there ts (Some n) = refl
+
+main_shifted : (o : Option ℕ) → IsTrue (is_some o) → IsTrue (is_some (option_map suc o))
+main_shifted None h = h
+main_shifted (Some k) h = h
+
+main_further : (names : List (List ℕ)) (fs : List TypedFunction) (some named : Bool) → (has_main_in names fs ≡ true → IsTrue (is_some (first_main names fs)))
+    → ((some && named) || has_main_in names fs) ≡ true → IsTrue (is_some (if named then Some 0 else option_map suc (first_main names fs)))
+main_further names fs some true rest h = refl
+main_further names fs true false rest h = main_shifted (first_main names fs) (rest h)
+main_further names fs false false rest h = main_shifted (first_main names fs) (rest h)
+
+-- a unit that defines `main` has a function of that name
+pub main_found : (names : List (List ℕ)) (fs : List TypedFunction) → has_main_in names fs ≡ true → IsTrue (is_some (first_main names fs))
+main_found names [] e = absurd cc
+main_found names (f ∷ fs) e = main_further names fs (is_some f.body) (named_main names f.name) (main_found names fs) e
 
 -- ---- static objects
 

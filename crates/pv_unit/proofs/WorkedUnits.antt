@@ -93,7 +93,7 @@ accepted u = Accepted (objects u.state.unit u.state.unit.objects) (named (finish
 
 abbrev resolved : UnitState → Option ℕ → Answer
 resolved u (Some n) = Named n
-resolved u None = if has_main u.state u.entities then accepted u else Mainless
+resolved u None = if has_main u.state.unit then accepted u else Mainless
 
 abbrev ended : ℕ → Option UnitState → Answer
 ended i None = Refused i

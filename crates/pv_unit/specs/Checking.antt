@@ -34,10 +34,10 @@ IsStop ds u _ = ⊥
 
 -- nothing is left without a definition
 abbrev pub IsResolved : UnitState → Type 0
-IsResolved u = (unresolved u.state u.entities ≡ None) × (has_main u.state u.entities ≡ true)
+IsResolved u = (unresolved u.state u.entities ≡ None) × (has_main u.state.unit ≡ true)
 
 abbrev pub IsLack : UnitState → CheckError → Type 0
 IsLack u (error.Unresolved n) = unresolved u.state u.entities ≡ Some n
-IsLack u error.NoMain = (unresolved u.state u.entities ≡ None) × (has_main u.state u.entities ≡ false)
+IsLack u error.NoMain = (unresolved u.state u.entities ≡ None) × (has_main u.state.unit ≡ false)
 IsLack u error.NoMemory = Unit {0}
 IsLack u _ = ⊥

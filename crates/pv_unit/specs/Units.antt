@@ -2,11 +2,10 @@
 use Rattle.std.specs.Prelude.{◌≡◌, ◌<◌, ℕ, ◌+◌, ◌==◌, Bool, true, false, not, ◌&&◌, ◌||◌, if◌then◌else◌, List, [], ◌∷◌, ◌++◌, length, take, nat_lt, is_some, Option, Some, None}
 use Rattle.pv_token.specs.Table.{Table}
 use Rattle.pv_tree.specs.Syntax.{DeclarationTree}
-use Rattle.pv_typed.specs.Mains.{literal_text, heap_text}
-use Rattle.pv_typed.specs.TypedUnits.{WholeUnit, TypedObject, name_at}
+use Rattle.pv_typed.specs.Mains.{literal_text, heap_text, named_main}
+use Rattle.pv_typed.specs.TypedUnits.{WholeUnit, TypedObject, TypedFunction, name_at}
 use Rattle.pv_check.specs.Library.{library_named}
 use Rattle.pv_check.specs.State.{State, Used, UsedObject, UsedFunction, no_scope, and_then}
-use Rattle.pv_check.specs.Texts.{is_main}
 use Rattle.pv_unit.specs.Definitions.{may_end}
 use Rattle.pv_unit.specs.Entities.{Entity, UnitState, unit_name, is_entity}
 use Rattle.pv_unit.specs.Functions.{typed_external}
@@ -50,13 +49,16 @@ abbrev pub unresolved : State → List Entity → Option ℕ
 unresolved s [] = None
 unresolved s (e ∷ es) = if is_unresolved s e then Some e.name else unresolved s es
 
--- 5.1.2.2.1
-abbrev pub is_main_function : State → Entity → Bool
-is_main_function s e = e.function && (e.defined && is_main s.unit.names (unit_name e.name))
+-- 5.1.2.2.1: a function of this name that has a body
+abbrev pub is_main_function : List (List ℕ) → TypedFunction → Bool
+is_main_function names f = is_some f.body && named_main names f.name
 
-abbrev pub has_main : State → List Entity → Bool
-has_main s [] = false
-has_main s (e ∷ es) = is_main_function s e || has_main s es
+abbrev pub has_main_in : List (List ℕ) → List TypedFunction → Bool
+has_main_in names [] = false
+has_main_in names (f ∷ fs) = is_main_function names f || has_main_in names fs
+
+abbrev pub has_main : WholeUnit → Bool
+has_main w = has_main_in w.names w.functions
 
 -- ---- static objects
 
@@ -124,6 +126,6 @@ IsTyped ds before behind = typed_to ds (length ds) before ≡ Some behind
 abbrev pub UnitComes : Table → List DeclarationTree → Checked → Type 0
 UnitComes t ds (Constraint n) = Breaks ds (first t) n
 UnitComes t ds (Unresolved name) = (u : UnitState) × (IsTyped ds (first t) u × (unresolved u.state u.entities ≡ Some name))
-UnitComes t ds NoMain = (u : UnitState) × (IsTyped ds (first t) u × (unresolved u.state u.entities ≡ None) × (has_main u.state u.entities ≡ false))
+UnitComes t ds NoMain = (u : UnitState) × (IsTyped ds (first t) u × (unresolved u.state u.entities ≡ None) × (has_main u.state.unit ≡ false))
 UnitComes t ds (Typed w) =
-    (u : UnitState) × (IsTyped ds (first t) u × (unresolved u.state u.entities ≡ None) × (has_main u.state u.entities ≡ true) × (w ≡ finished u))
+    (u : UnitState) × (IsTyped ds (first t) u × (unresolved u.state u.entities ≡ None) × (has_main u.state.unit ≡ true) × (w ≡ finished u))

@@ -1,5 +1,5 @@
 //! Typing a translation unit (C17 6.9).
-ghost use Rattle.std.specs.Prelude.{◌≡◌, ◌<◌, ◌≤◌, ◌^◌, ◌&&◌, nat_lt, not, ℕ, List, length, Some, IfOk, IfErr, OnOk};
+ghost use Rattle.std.specs.Prelude.{◌≡◌, ◌<◌, ◌≤◌, ◌^◌, ◌&&◌, nat_lt, not, ℕ, List, length, Some, is_some, IsTrue, IfOk, IfErr, OnOk};
 ghost use Rattle.pv_token.specs.Table.{Table};
 ghost use Rattle.pv_tree.specs.Rows.{tables};
 ghost use Rattle.pv_tree.specs.Syntax.{DeclarationTree};
@@ -7,6 +7,7 @@ ghost use Rattle.pv_types.specs.Known.{env};
 ghost use Rattle.pv_types.specs.Layouts.{layout_in};
 ghost use Rattle.pv_types.specs.Ty.{StructTag};
 ghost use Rattle.pv_typed.specs.Formed.{AreKnown, Grown};
+ghost use Rattle.pv_typed.specs.Mains.{main_of};
 ghost use Rattle.pv_typed.specs.Tables.{whole};
 ghost use Rattle.pv_check.specs.Open.{state_of, IsOpen};
 ghost use Rattle.pv_check.specs.Raw.{Raw};
@@ -95,6 +96,7 @@ fn all_declarations(
 /// Looks for names that nothing defines, and for `main`. A name that is none of the tokens', which none is that was read
 /// of them, gives want of memory.
 fn resolved(t: &Tokens, s: &Scopes, into: &TypedUnit, outer: &Outer) -> Result<(), CheckError>
+    requires known { AreKnown into.now }
     ensures fine { OnOk result (IsResolved (unit_state t.now.texts s.now into.now outer.now)) }
     ensures refused { IfErr result (IsLack (unit_state t.now.texts s.now into.now outer.now)) }
     ensures named { IfErr result (IsNamed t.now) }
@@ -105,7 +107,7 @@ fn resolved(t: &Tokens, s: &Scopes, into: &TypedUnit, outer: &Outer) -> Result<(
         }
         return Err(CheckError::Unresolved { name });
     }
-    if !has_main(into, outer) {
+    if !has_main(into) {
         return Err(CheckError::NoMain);
     }
     Ok(())
@@ -126,6 +128,7 @@ fn with_statics(into: &mut TypedUnit, outer: &Outer) -> Result<(), CheckError>
 
 /// Looks for names that nothing defines, and for `main`, and notes the static objects.
 fn finished(t: &Tokens, s: &Scopes, into: &mut TypedUnit, outer: &Outer) -> Result<(), CheckError>
+    requires known { AreKnown into.old }
     ensures fine { OnOk result (IsResolved (unit_state t.now.texts s.now into.old outer.now)) }
     ensures whole { OnOk result (whole into.new ≡ finished (unit_state t.now.texts s.now into.old outer.now)) }
     ensures types { OnOk result (into.new.known ≡ into.old.known) }
@@ -152,6 +155,7 @@ fn filled(
     requires entities { AreThere into.old outer.old.entities }
     ensures typed { OnOk result (UnitComes t.now (externals_in (tables u.now)) (Typed (whole into.new))) }
     ensures known { OnOk result (AreKnown into.new) }
+    ensures main { OnOk result (IsTrue (is_some (main_of (whole into.new)))) }
     ensures small { OnOk result ((n : ℕ) → (layout_in (env into.new.known) (StructTag n)).size ≤ 2 ^ 32) }
     ensures refused { IfErr result (IsCause t.now (externals_in (tables u.now))) }
     ensures named { IfErr result (IsNamed t.now) }
@@ -168,6 +172,7 @@ fn filled(
 pub fn check(alloc: Global, u: &Unit, t: &Tokens) -> Result<TypedUnit, CheckError>
     ensures typed { IfOk result (λ w. UnitComes t.now (externals_in (tables u.now)) (Typed (whole w))) }
     ensures known { IfOk result AreKnown }
+    ensures main { IfOk result (λ w. IsTrue (is_some (main_of (whole w)))) }
     ensures small { IfOk result (λ w. (n : ℕ) → (layout_in (env w.known) (StructTag n)).size ≤ 2 ^ 32) }
     ensures refused { IfErr result (IsCause t.now (externals_in (tables u.now))) }
     ensures named { IfErr result (IsNamed t.now) }

@@ -1,8 +1,10 @@
 //! Names that nothing defines (C17 6.9p5), `main` (C17 5.1.2.2.1), and static objects (C17 6.2.4p3).
-ghost use Rattle.std.specs.Prelude.{◌≡◌, ◌<◌, ◌&&◌, ◌||◌, not, ℕ, Bool, List, true, false, length, map, None, Some, IfOk, OnOk, slice_index_or};
+ghost use Rattle.std.specs.Prelude.{◌≡◌, ◌<◌, ◌&&◌, ◌||◌, not, nat_eq, ℕ, Bool, List, true, false, length, map, None, Some, IfOk, OnOk, slice_index_or};
+ghost use Rattle.std.specs.Cmp.Lexicographic.{pointwise};
 ghost use Rattle.pv_typed.specs.Formed.{AreKnown, Grown};
+ghost use Rattle.pv_typed.specs.Mains.{main_text};
 ghost use Rattle.pv_typed.specs.Tables.{whole};
-ghost use Rattle.pv_typed.specs.TypedUnits.{object_at};
+ghost use Rattle.pv_typed.specs.TypedUnits.{object_at, function_at};
 ghost use Rattle.pv_check.specs.Open.{state_of, IsOpen};
 ghost use Rattle.pv_check.specs.Raw.{Raw, used_of};
 ghost use Rattle.pv_unit.specs.Entering.{entity_of};
@@ -10,7 +12,6 @@ ghost use Rattle.pv_unit.specs.Resolving.{has_use, AreUses};
 ghost use Rattle.pv_unit.specs.Units.{uses, is_used, is_of_library, is_unresolved, unresolved, is_main_function, has_main, is_defined, statics_from, with_statics};
 
 use crate::entities::{Entity, Outer};
-use crate::known_names::is_main;
 use crate::library_names::is_of_library;
 use indexmap::IndexSet;
 use pv_check::{Named, Scopes};
@@ -91,19 +92,30 @@ pub(crate) fn unresolved(
     Ok(None)
 }
 
-/// Whether it is `main`, and defined.
-fn is_main_function(into: &TypedUnit, e: Entity) -> bool
-    ensures { (texts : List (List ℕ)) (s : Raw) → result ≡ is_main_function (state_of texts false s into.now) (entity_of e) }
+/// Whether a name is `main`.
+fn is_main(text: &[u8]) -> bool
+    ensures { result ≡ pointwise nat_eq text.now main_text }
 {
-    e.function && e.defined && is_main(into, e.name)
+    text == b"main".as_slice()
+}
+
+/// Whether the function is `main`, and has a body.
+fn is_main_function(into: &TypedUnit, f: u32) -> bool
+    requires known { AreKnown into.now }
+    requires function { f < length into.now.functions }
+    ensures { result ≡ is_main_function into.now.names (function_at (whole into.now) f) }
+{
+    let function = into.function(f);
+    function.body.is_some() && is_main(into.names().text(function.name))
 }
 
 /// Whether `main` is defined.
-pub(crate) fn has_main(into: &TypedUnit, outer: &Outer) -> bool
-    ensures { (texts : List (List ℕ)) (s : Raw) → result ≡ has_main (state_of texts false s into.now) outer.now.entities }
+pub(crate) fn has_main(into: &TypedUnit) -> bool
+    requires known { AreKnown into.now }
+    ensures { result ≡ has_main (whole into.now) }
 {
-    for i in 0..outer.entities.len() {
-        if is_main_function(into, outer.entities.at(i)) {
+    for f in 0..into.functions() {
+        if is_main_function(into, f) {
             return true;
         }
     }

@@ -5,7 +5,7 @@ use Rattle.pv_unit.specs.Checking.{externals_in}
 use Rattle.pv_unit.specs.Entities.{UnitState}
 use Rattle.pv_unit.specs.Outside.{unit_state}
 use Rattle.pv_unit.specs.Units.{IsTyped, first}
-use Rattle.pv_unit.proofs.Causes.{known_on, lack_refused, small_on, stop_cause, stop_named, unit_comes}
+use Rattle.pv_unit.proofs.Causes.{known_on, lack_refused, main_on, small_on, stop_cause, stop_named, unit_comes}
 use Rattle.pv_unit.proofs.checking.filled.Goals as goal
 
 pub returns-in-Ok-clause-typed : goal.returns-in-Ok-clause-typed
@@ -19,6 +19,11 @@ returns-in-Ok-clause-typed c =
 
 pub returns-in-Ok-clause-known : goal.returns-in-Ok-clause-known
 returns-in-Ok-clause-known c = known_on c.all_declarations.new.into c.finished.new.into c.finished.result c.in-Ok.ensures.opened.known c.finished.ensures.grown
+
+pub returns-in-Ok-clause-main : goal.returns-in-Ok-clause-main
+returns-in-Ok-clause-main c =
+    let u = unit_state c.args.t.now.texts c.all_declarations.new.s c.all_declarations.new.into c.all_declarations.new.outer in
+    main_on u (whole c.finished.new.into) c.finished.result c.finished.ensures.fine c.finished.ensures.whole
 
 pub returns-in-Ok-clause-small : goal.returns-in-Ok-clause-small
 returns-in-Ok-clause-small c = small_on c.all_declarations.new.into.known c.finished.new.into.known c.finished.result c.in-Ok.ensures.opened.sized c.finished.ensures.types

@@ -1,8 +1,7 @@
-use Rattle.std.proofs.Common.{◌≡◌, ℕ, List, drop, false}
-use Rattle.pv_check.specs.Open.{state_of}
-use Rattle.pv_check.specs.Raw.{Raw}
-use Rattle.pv_unit.specs.Units.{has_main}
+use Rattle.std.proofs.Common.{◌≡◌, drop}
+use Rattle.pv_typed.specs.Tables.{whole}
+use Rattle.pv_unit.specs.Units.{has_main, has_main_in}
 use Rattle.pv_unit.proofs.resolving.has_main.Given as goal
 
-abbrev pub invariant-loop-i : goal.invariant-loop-i
-invariant-loop-i l = (texts : List (List ℕ)) (s : Raw) → has_main (state_of texts false s l.into) (drop l.i l.outer.entities) ≡ has_main (state_of texts false s l.into) l.outer.entities
+abbrev pub invariant-loop-f : goal.invariant-loop-f
+invariant-loop-f l = has_main_in l.into.names (drop l.f (whole l.into).functions) ≡ has_main (whole l.into)
