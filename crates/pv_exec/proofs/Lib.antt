@@ -27,3 +27,12 @@ pub mod Readying
 pub mod Siding
 pub mod Mains
 pub mod Outside
+pub mod Executed
+pub mod Framed
+pub mod Heading
+pub mod Growing
+pub mod Adding
+pub mod Streaming
+pub mod MainPieces
+pub mod Reaching
+pub mod Cutting

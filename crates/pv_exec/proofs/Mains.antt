@@ -1,5 +1,5 @@
 -- How the statements of a run begin and end.
-use Rattle.std.proofs.Common.{◌≡◌, ℕ, ◌+◌, ◌<◌, List, [], ◌∷◌, Some, None, refl, sym, ap, ◌∙◌, subst, arith, true, false}
+use Rattle.std.proofs.Common.{◌≡◌, ℕ, ◌+◌, ◌<◌, List, [], ◌∷◌, ◌++◌, append-nil, Some, None, refl, sym, ap, ◌∙◌, subst, arith, true, false}
 use Rattle.std.specs.Prelude.{Bool, Err, length, suc, if◌then◌else◌}
 use Rattle.std.specs.Option.{option_map}
 use Rattle.std.proofs.lemmas.List.{length-map}
@@ -10,10 +10,11 @@ use Rattle.pv_typed.specs.Tables.{Stored, whole, nodes, function_in}
 use Rattle.pv_world.specs.Worlds.{Worth, Nothing}
 use Rattle.pv_eval.specs.declared.failure.Failure.{Failure}
 use Rattle.pv_eval.specs.declared.failure.Failure.TheVariants as failure
-use Rattle.pv_eval.specs.States.{Setting, State, Why, Turns, Res, Gives, Stops, then_do}
-use Rattle.pv_eval.specs.Operations.{BeginsBody, EndsBody, act}
+use Rattle.pv_eval.specs.declared.marked.Marked.{Marked}
+use Rattle.pv_eval.specs.States.{Setting, State, Why, Turns, Res, Gives, Stops, then_do, end_of}
+use Rattle.pv_eval.specs.Operations.{BeginsBody, EndsBody, does as operates, act}
 use Rattle.pv_eval.specs.Machines.{Started}
-use Rattle.pv_eval.specs.Moments.{Made}
+use Rattle.pv_eval.specs.Moments.{Moment, state_of, Made}
 use Rattle.pv_exec.specs.declared.task.Flow.{Flow}
 use Rattle.pv_exec.specs.declared.task.Doing.{Doing}
 use Rattle.pv_exec.specs.declared.running.Ended.{Ended}
@@ -26,7 +27,11 @@ use Rattle.pv_exec.specs.Run.{call_main}
 use Rattle.pv_exec.specs.Tasks.{Reached, Left, Valued, left}
 use Rattle.pv_exec.specs.Works.{flow_of, does, Holds}
 use Rattle.pv_exec.specs.Fits.{Runs}
-use Rattle.pv_exec.specs.Running.{EndedIs, ends_call, ended_by}
+use Rattle.pv_exec.specs.Running.{EndedIs, ends_call, ended_by, main_called, whole_run}
+use Rattle.pv_exec.specs.Streaming.{Begins}
+use Rattle.pv_exec.proofs.Growing.{Growing, grew-refl, seq-grows, acted-grows}
+use Rattle.pv_exec.proofs.Adding.{main-grows, run-grows, ends-grow}
+use Rattle.pv_exec.proofs.Streaming.{begins-all, begins-later}
 use Rattle.pv_exec.proofs.Pieces.{then-then}
 
 -- what was left, from what was reached
@@ -52,8 +57,13 @@ then-gives : {A : Type 0} (m : Res A) → m ≡ then_do m (λ a s. Gives a s)
 then-gives (Gives a s) = refl
 then-gives (Stops y s) = refl
 
-pub ended-is : (q r : Res Worth) (x : Ended) (s : State) → r ≡ q → EndedIs q x s → EndedIs r x s
-ended-is q r x s e h = subst (λ (z : Res Worth). EndedIs z x s) (sym e) h
+pub ended-is : (q r : Res Worth) (x : Ended) (m : Moment) (out : List ℕ) (es : List Marked) → r ≡ q → EndedIs q x m out es → EndedIs r x m out es
+ended-is q r x m out es e h = subst (λ (z : Res Worth). EndedIs z x m out es) (sym e) h
+
+-- where nothing has left the run
+pub ended-nothing : (r : Res Worth) (x : Ended) (m : Moment) (out : List ℕ) (es : List Marked) → EndedIs r x m out es → EndedIs r x m (out ++ []) (es ++ [])
+ended-nothing r x m out es h =
+    subst (λ (o : List ℕ). EndedIs r x m o (es ++ [])) (sym (append-nil out)) (subst (λ (e : List Marked). EndedIs r x m out e) (sym (append-nil es)) h)
 
 abbrev or_zero : ℕ → Option ℕ → ℕ
 or_zero d None = d
@@ -82,6 +92,24 @@ runs-first u f d es body = record { tasks_fit = λ k t lt. absurd (omega (arith,
 abbrev pub left_by : Setting → (f line : ℕ) → execution.Flow → State → Res Worth
 left_by b f line fl s = then_do (end_all b (function_at b.unit f).params s) (λ x s. then_do (act b line EndsBody s) (λ x s. Gives (value_by b (function_at b.unit f) fl) s))
 
+left-grows : (b : Setting) (f line : ℕ) (fl : execution.Flow) → Growing Worth (left_by b f line fl)
+left-grows b f line fl s =
+    let v = value_by b (function_at b.unit f) fl in
+    seq-grows s (end_all b (function_at b.unit f).params s) (λ x s. then_do (act b line EndsBody s) (λ x s. Gives v s)) (ends-grow b (function_at b.unit f).params s)
+    (λ x s. seq-grows s (act b line EndsBody s) (λ x s. Gives v s) (acted-grows b line (operates b EndsBody s.world) s) (λ x s. grew-refl s.taken s (omega arith)))
+
+-- what has left a run that could not go on is a first part of all
+begins-then : (out : List ℕ) (es : List Marked) (m : Res execution.Flow) (K : execution.Flow → State → Res Worth) → ((fl : execution.Flow) → Growing Worth (K fl)) → Begins out es (end_of (left m)) → Begins out es (end_of (then_do m K))
+begins-then out es (Gives fl s) K g h = begins-later out es s (end_of (K fl s)) h (g fl s)
+begins-then out es (Stops y s) K g h = h
+
+pub main-lost : (b : Setting) (f line : ℕ) (m : Res execution.Flow) (r : Res Worth) (out : List ℕ) (es : List Marked) → r ≡ then_do m (left_by b f line) → Begins out es (end_of (left m)) → Begins out es (end_of r)
+main-lost b f line m r out es e h = subst (λ (z : Res Worth). Begins out es (end_of z)) (sym e) (begins-then out es m (left_by b f line) (left-grows b f line) h)
+
+-- the parameters could not end
+pub end-lost : (b : Setting) (f line : ℕ) (fl : Flow) (m : Moment) (out : List ℕ) (es : List Marked) → Begins out es (end_of (ends_call b f line fl (state_of m out es)))
+end-lost b f line fl m out es = begins-all out es m (end_of (ends_call b f line fl (state_of m out es))) (left-grows b f line (flow_of fl) (state_of m out es))
+
 -- a call, with what begins it
 pub main-split : (b : Setting) (f line : ℕ) (s : State) → call_body b (below b b.bound) (function_at b.unit f) [] line s ≡ then_do (begun b line (function_at b.unit f) [] s) (λ x s. then_do (runs_body b (below b b.bound) (function_at b.unit f).body s) (left_by b f line))
 main-split b f line s =
@@ -98,10 +126,11 @@ main-begins b u f line s s1 is l h =
     let F = function_at b.unit f in
     main-split b f F.line s ∙ ap (λ (r : Res Worth). then_do r (λ x s. then_do (runs_body b (below b b.bound) F.body s) (left_by b f F.line))) (begun-here b u f line s is l ∙ h)
 
-pub main-not-begun : (b : Setting) (u : Stored) (f line : ℕ) (s s1 : State) (e : Failure) → b.unit ≡ whole u → line ≡ (function_at b.unit f).line → Made (begun b line (function_at (whole u) f) [] s) (Err e) s1 → EndedIs (call_body b (below b b.bound) (function_at b.unit f) [] (function_at b.unit f).line s) (ended_by e) s1
-main-not-begun b u f line s s1 failure.NoMemory is l h = tt
-main-not-begun b u f line s s1 (failure.Stop y n) is l h =
+pub main-not-begun : (b : Setting) (u : Stored) (f line : ℕ) (m m1 : Moment) (out : List ℕ) (es : List Marked) (e : Failure) → b.unit ≡ whole u → line ≡ (function_at b.unit f).line → Made (begun b line (function_at (whole u) f) [] (state_of m out es)) (Err e) (state_of m1 out es) → EndedIs (main_called f b (state_of m out es)) (ended_by e) m1 out es
+main-not-begun b u f line m m1 out es failure.NoMemory is l h = begins-all out es m (end_of (main_called f b (state_of m out es))) (main-grows b f (state_of m out es))
+main-not-begun b u f line m m1 out es (failure.Stop y n) is l h =
     let F = function_at b.unit f in
+    let s = state_of m out es in
     main-split b f F.line s ∙ ap (λ (r : Res Worth). then_do r (λ x s. then_do (runs_body b (below b b.bound) F.body s) (left_by b f F.line))) (begun-here b u f line s is l ∙ h)
 
 -- how it is left
@@ -136,6 +165,6 @@ pub unit-ends : (b : Setting) (f : ℕ) (s s1 : State) → prepare b s ≡ Gives
 unit-ends b f s s1 h e =
     ap (λ (r : Res Worth). then_do r (λ v s. call_main b (main_of b.unit) s)) h ∙ ap (λ (o : Option ℕ). call_main b o s1) e
 
-pub unit-stops : (b : Setting) (e : Failure) (s s1 : State) → Made (prepare b s) (Err e) s1 → EndedIs (then_do (prepare b s) (λ v s. call_main b (main_of b.unit) s)) (ended_by e) s1
-unit-stops b (failure.Stop y line) s s1 h = ap (λ (r : Res Worth). then_do r (λ v s. call_main b (main_of b.unit) s)) h
-unit-stops b failure.NoMemory s s1 h = tt
+pub unit-stops : (b : Setting) (e : Failure) (m m1 : Moment) (out : List ℕ) (es : List Marked) → Made (prepare b (state_of m out es)) (Err e) (state_of m1 out es) → EndedIs (whole_run b (state_of m out es)) (ended_by e) m1 out es
+unit-stops b (failure.Stop y line) m m1 out es h = ap (λ (r : Res Worth). then_do r (λ v s. call_main b (main_of b.unit) s)) h
+unit-stops b failure.NoMemory m m1 out es h = begins-all out es m (end_of (whole_run b (state_of m out es))) (run-grows b (state_of m out es))

@@ -1,7 +1,10 @@
 -- What `run` answers, of the run that is defined.
-use Rattle.std.specs.Prelude.{◌≡◌, ℕ, Bool, List, ◌++◌, None, Some, map, Result, Ok, Err}
+use Rattle.std.specs.Prelude.{◌≡◌, ℕ, Bool, List, ◌++◌, length, None, Some, map, Result, Ok, Err}
 use Rattle.std.specs.declared.option.Option.{Option}
-use Rattle.pv_script.specs.Outside.{Rose}
+use Rattle.pv_script.specs.Lines.{ScriptLine}
+use Rattle.pv_script.specs.Outside.{Rose, Gains}
+use Rattle.pv_typed.specs.Children.{Each}
+use Rattle.pv_typed.specs.Tables.{Stored}
 use Rattle.pv_watch.specs.declared.event.Event.{Event}
 use Rattle.pv_watch.specs.declared.hall.Hall.{Hall}
 use Rattle.pv_watch.specs.Halls.{slots_in}
@@ -9,20 +12,21 @@ use Rattle.pv_watch.specs.Slots.{Slot, watcher, Told}
 use Rattle.pv_world.specs.Worlds.{Worth}
 use Rattle.pv_eval.specs.declared.marked.Marked.{Marked}
 use Rattle.pv_eval.specs.Moments.{Moment}
-use Rattle.pv_eval.specs.States.{State, Res, Gives, Stops}
+pub use Rattle.pv_eval.specs.States.{end_of}
+use Rattle.pv_eval.specs.States.{State, Res}
 use Rattle.pv_eval.specs.Constants.{is_high_pair}
 use Rattle.pv_exec.specs.declared.sides.Side.{Side}
 use Rattle.pv_exec.specs.declared.program.Ran.{Ran}
 use Rattle.pv_exec.specs.declared.program.RunError.{RunError}
 use Rattle.pv_exec.specs.declared.program.RunError.TheVariants as error
 use Rattle.pv_exec.specs.declared.outcome.Outcome.{Outcome}
-use Rattle.pv_exec.specs.Run.{outcome_of, sides_at}
+use Rattle.pv_exec.specs.declared.delivering.Undelivered.{Undelivered}
+use Rattle.pv_exec.specs.declared.delivering.Undelivered.TheVariants as undelivered
+use Rattle.pv_exec.specs.declared.running.Ended.{Ended}
+use Rattle.pv_exec.specs.declared.running.Ended.TheVariants as ended
+use Rattle.pv_exec.specs.Run.{setting_of, run_of, outcome_of, sides_at}
+use Rattle.pv_exec.specs.Streaming.{Outlet, IsNear, event_of}
 use Rattle.pv_exec.specs.Sided.{side_of, is_high}
-
--- the state in which a run ended
-abbrev pub end_of : Res Worth → State
-end_of (Gives v s) = s
-end_of (Stops y s) = s
 
 -- the sides that are given, each by whether it is the high one
 abbrev pub highs : {R : Type 0} → Option R → (R → List Side) → Option (List Bool)
@@ -45,20 +49,49 @@ pub record RanAt (o : Outcome) (m : Moment) (ran : Ran) : Type 0 where
 abbrev pub hall_slots : {X : Type 0} {P : X → Type 0} → Hall X P → ((x : X) × P x → ℕ) → ((x : X) × P x → ℕ) → ((x : X) × P x → List Event) → List Slot
 hall_slots h kind wants seen = slots_in (watcher (λ b. kind (b.vtable, b.value)) (λ b. wants (b.vtable, b.value)) (λ b. seen (b.vtable, b.value))) h
 
-abbrev pub event_of : Marked → Event
-event_of m = m.event
+-- what the outside has, by what the sink tells and by its hall
+abbrev pub outlet : {X : Type 0} {P : X → Type 0} → Option (List ℕ) → Hall X P → ((x : X) × P x → ℕ) → ((x : X) × P x → ℕ) → ((x : X) × P x → List Event) → Outlet
+outlet sink h kind wants seen = record { sink = sink; hall = hall_slots h kind wants seen }
+
+-- where a write failed: what was written of the output, as many bytes as the sink gained, and what was told of the events; each of
+-- those came when at most 4095 bytes more were printed than were written
+pub record ToldPart (before now : Outlet) (end : State) (names : List (List ℕ)) : Type 0 where
+  pub written : List ℕ
+  pub unwritten : List ℕ
+  pub output : written ++ unwritten ≡ end.output
+  pub gains : Gains before.sink now.sink written
+  pub events : List Marked
+  pub untold : List Marked
+  pub all : events ++ untold ≡ end.events
+  pub told : Told before.hall (map event_of events) names now.hall
+  pub near : Each (IsNear (length written)) events
 
 -- those who watch were told of the run, or of a first part of it where a write failed
-pub record ToldPart (old new : List Slot) (events : List Event) (names : List (List ℕ)) : Type 0 where
-  pub part : List Event
-  pub rest : List Event
-  pub whole : part ++ rest ≡ events
-  pub told : Told old part names new
+abbrev pub ToldOr : Result Ran RunError → Outlet → Outlet → State → List (List ℕ) → Type 0
+ToldOr (Ok ran) before now end names = Told before.hall (map event_of end.events) names now.hall
+ToldOr (Err error.WriteFault) before now end names = ToldPart before now end names
+ToldOr (Err error.NoMemory) before now end names = Unit {0}
 
-abbrev pub ToldOr : Result Ran RunError → List Slot → List Slot → List Event → List (List ℕ) → Type 0
-ToldOr (Ok ran) old new events names = Told old events names new
-ToldOr (Err error.WriteFault) old new events names = ToldPart old new events names
-ToldOr (Err error.NoMemory) old new events names = Unit {0}
+-- once the run is over, what waited was told; where a write failed nothing
+abbrev pub RestTold : Result Ran RunError → List Slot → List Slot → List Event → List (List ℕ) → Type 0
+RestTold (Ok ran) old new events names = Told old events names new
+RestTold (Err error.WriteFault) old new events names = new ≡ old
+RestTold (Err error.NoMemory) old new events names = Unit {0}
+
+-- why there is no outcome
+abbrev pub error_of : Undelivered → RunError
+error_of undelivered.NoMemory = error.NoMemory
+error_of undelivered.WriteFault = error.WriteFault
+
+abbrev pub error_by : Ended → RunError
+error_by (ended.Failed e) = error_of e
+error_by (ended.Value v) = error.NoMemory
+error_by ended.Turns = error.NoMemory
+error_by (ended.Stop y line) = error.NoMemory
+
+-- the state in which the run of a unit ends
+abbrev pub end_at : Stored → (bound : ℕ) → Option (List Bool) → List ScriptLine → State
+end_at u n sides script = end_of (run_of (setting_of u n sides) script)
 
 -- a write failed only where the sink counts a fault more
 abbrev pub FaultCause : Result Ran RunError → (before now : ℕ) → Type 0

@@ -8,9 +8,9 @@ use Rattle.pv_exec.specs.declared.running.Ended.{Ended}
 use Rattle.pv_exec.specs.declared.running.Ended.TheVariants as ended
 use Rattle.pv_exec.specs.Run.{status_of, stopped}
 
--- nothing where there was no memory
+-- nothing where it could not go on
 abbrev pub outcome_by : Ended → Option Outcome
 outcome_by (ended.Value v) = Some (outcome.Exit (status_of (worth_of v)))
 outcome_by ended.Turns = Some outcome.Turns
 outcome_by (ended.Stop y line) = stopped (wrong_for y) line
-outcome_by ended.NoMemory = None
+outcome_by (ended.Failed e) = None

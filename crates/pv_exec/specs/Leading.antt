@@ -1,6 +1,9 @@
 -- What operations lead to.
 use Rattle.std.specs.Prelude.{◌≡◌, ℕ, ◌+◌, ◌<◌, ◌≤◌, List, map, reverse, All, Result, Ok, Err}
-use Rattle.pv_typed.specs.Tables.{Stored}
+use Rattle.pv_tree.specs.declared.nodes.NodeId.{NodeId}
+use Rattle.pv_typed.specs.TypedStatement.{declared_of}
+use Rattle.pv_typed.specs.Tables.{Stored, statement_at}
+use Rattle.pv_world.specs.Worlds.{Worth}
 use Rattle.pv_world.specs.Coming.{wrong_for}
 use Rattle.pv_eval.specs.declared.failure.Failure.{Failure}
 use Rattle.pv_eval.specs.declared.failure.Failure.TheVariants as failure
@@ -15,7 +18,12 @@ use Rattle.pv_exec.specs.declared.task.Task.{Task}
 use Rattle.pv_exec.specs.declared.task.Doing.{Doing}
 use Rattle.pv_exec.specs.declared.task.Way.{Way}
 use Rattle.pv_exec.specs.declared.task.Way.TheVariants as way
-use Rattle.pv_exec.specs.Tasks.{Reached, Left, Valued, after_task, after_flow, after_value}
+use Rattle.pv_exec.specs.Flows as execution
+use Rattle.pv_exec.specs.Execution.{ex}
+use Rattle.pv_exec.specs.Calls.{below}
+use Rattle.pv_exec.specs.Parts.{loop_of, tested}
+use Rattle.pv_exec.specs.Entering.{entered}
+use Rattle.pv_exec.specs.Tasks.{Reached, Left, Valued, left, after_task, after_flow, after_value}
 use Rattle.pv_exec.specs.Works.{flow_of, does, due, others, passed, Work, after_work, Standing, Holds}
 
 -- what an operation leads to, at the levels of what waits and of what is done
@@ -47,6 +55,28 @@ LeadsOr b u all stand (Err failure.NoMemory) es s = Unit {0}
 -- what an operation does, whatever the level
 abbrev pub Operates : Setting → Stored → List Started → Doing → Result Way Failure → List Started → State → State → Type 0
 Operates b u old d r new s s' = (k : ℕ) → s.taken ≤ b.bound → (due old d ≡ 1 → s.taken < b.bound) → b.bound < s.taken + k + due old d → LeadsOr b u (does b u k old d s) (others old d) r new s'
+
+-- a piece of the run, at any level, leads to what is done next
+abbrev pub Led : Stored → (Setting → (level : ℕ) → State → Res execution.Flow) → (stand : List Started) → Result Way Failure → Machine → Machine → Type 0
+Led u piece stand r old new =
+    Always u old.moment (λ b out es. (k : ℕ) → b.bound < old.moment.taken + k →
+    LeadsOr b u (left (piece b k (state_of old.moment out es))) stand r new.started (state_of new.moment out es))
+
+-- 6.8: what a statement does once its turn was taken; 6.8.5: a loop once its condition has this value; 6.8.2: a block that was left so
+abbrev pub entered_at : Stored → NodeId → Setting → (level : ℕ) → State → Res execution.Flow
+entered_at u n b k s = entered b (below b k) (statement_at u n) s
+
+abbrev pub tested_at : Stored → NodeId → Worth → Setting → (level : ℕ) → State → Res execution.Flow
+tested_at u n v b k s = tested b (below b k) (loop_of (statement_at u n)) v s
+
+abbrev pub block_left : Stored → NodeId → execution.Flow → Setting → (level : ℕ) → State → Res execution.Flow
+block_left u n fl b k s = then_do (execution.end_all b (declared_of (statement_at u n)) s) (λ v s. Gives fl s)
+
+-- a statement whose turn is due
+abbrev pub EnterLed : Stored → NodeId → Result Way Failure → Machine → Machine → Type 0
+EnterLed u n r old new =
+    Always u old.moment (λ b out es. (k : ℕ) → old.moment.taken < b.bound → b.bound < old.moment.taken + k + 1 →
+    LeadsOr b u (left (ex b (below b k) (statement_at u n) (state_of old.moment out es))) old.started r new.started (state_of new.moment out es))
 
 -- what is to come after an operation
 abbrev pub HoldsAfter : Setting → Stored → Res Reached → Result After Failure → List Task → List Started → State → Type 0

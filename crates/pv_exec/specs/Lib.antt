@@ -19,7 +19,10 @@ pub mod Prepared
 pub mod Run
 pub mod Putting
 pub mod Turning
+pub mod Streaming
 pub mod Running
+pub mod Growing
+pub mod Laws
 pub mod Sided
 pub mod Ending
 pub mod Answering

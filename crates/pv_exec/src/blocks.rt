@@ -1,28 +1,19 @@
 // Blocks: their objects, and the statements of lists.
-ghost use Rattle.std.specs.Prelude.{◌≡◌, ℕ, ◌+◌, ◌<◌, ◌≤◌, ◌^◌, true, false, List, length, OnOk, IfOk, drop};
+ghost use Rattle.std.specs.Prelude.{◌≡◌, ◌+◌, ◌<◌};
 ghost use Rattle.pv_typed.specs.TypedStatement.{declared_of};
-ghost use Rattle.pv_typed.specs.TypedUnits.{object_at};
-ghost use Rattle.pv_typed.specs.Tables.{Stored, whole, statement_at, IsStatement};
+ghost use Rattle.pv_typed.specs.Tables.{statement_at};
 ghost use Rattle.pv_typed.specs.Formed.{AreObjects};
-ghost use Rattle.pv_eval.specs.MachineSteps.{Fit};
 ghost use Rattle.pv_eval.specs.Moments.{Made, IsMemory};
 ghost use Rattle.pv_eval.specs.Moments.{Always, state_of, Stays};
-ghost use Rattle.pv_eval.specs.States.{Setting, State, Res, then_do};
 ghost use Rattle.pv_eval.specs.Runnable.{IsRunnable};
-ghost use Rattle.pv_exec.specs.Calls.{below};
-ghost use Rattle.pv_exec.specs.Execution.{exs};
-ghost use Rattle.pv_exec.specs.Flows.{make_all, end_all, begin_fill};
-ghost use Rattle.pv_exec.specs.Tasks.{left, statements_from};
-ghost use Rattle.pv_exec.specs.Leading.{LeadsOr};
-ghost use Rattle.pv_exec.specs.Fits.{WayFitsOr, IsScope, HasList};
-ghost use Rattle.pv_exec.specs.Quickness.{QuickOr};
+ghost use Rattle.pv_exec.specs.Flows.{make_all, end_all};
+ghost use Rattle.pv_exec.specs.Fits.{IsScope};
 
-use crate::task::{Doing, Flow, Task, Way};
 use pv_eval::{Failure, Machine};
-use pv_tree::{ListId, NodeId};
-use pv_typed::{TypedStmt, TypedUnit};
+use pv_tree::NodeId;
+use pv_typed::TypedUnit;
 
-// The objects of a block are made, in order (C17 6.2.4p6).
+/// The objects of a block are made, in order (C17 6.2.4p6).
 pub fn make_objects(unit: &TypedUnit, n: NodeId, machine: &mut Machine) -> Result<(), Failure>
     requires runnable { IsRunnable unit.now }
     requires scope { IsScope unit.now n }
@@ -43,7 +34,7 @@ pub fn make_objects(unit: &TypedUnit, n: NodeId, machine: &mut Machine) -> Resul
     Ok(())
 }
 
-// The objects of a block end, in order.
+/// The objects of a block end, in order.
 pub fn end_objects(unit: &TypedUnit, n: NodeId, machine: &mut Machine) -> Result<(), Failure>
     requires runnable { IsRunnable unit.now }
     requires scope { IsScope unit.now n }
@@ -55,7 +46,7 @@ pub fn end_objects(unit: &TypedUnit, n: NodeId, machine: &mut Machine) -> Result
     end_each(unit, unit.declared(n), machine)
 }
 
-// Objects end, in order.
+/// Objects end, in order.
 pub fn end_each(unit: &TypedUnit, objects: &[u32], machine: &mut Machine) -> Result<(), Failure>
     requires runnable { IsRunnable unit.now }
     requires there { AreObjects unit.now objects.now }

@@ -1,17 +1,15 @@
 // Calls of the program's functions (C17 6.5.2.2, 6.9.1).
-ghost use Rattle.std.specs.Prelude.{◌≡◌, ℕ, ◌+◌, ◌<◌, ◌≤◌, map, length, true, OnOk};
-ghost use Rattle.pv_typed.specs.TypedUnits.{function_at, object_at};
+ghost use Rattle.std.specs.Prelude.{◌≡◌, ◌+◌, ◌<◌, map, length, true, OnOk};
+ghost use Rattle.pv_typed.specs.TypedUnits.{function_at};
 ghost use Rattle.pv_typed.specs.Tables.{whole};
 ghost use Rattle.pv_world.specs.Coming.{worth_of};
-ghost use Rattle.pv_eval.specs.States.{Gives, then_do};
 ghost use Rattle.pv_eval.specs.Moments.{Always, Stays, state_of};
 ghost use Rattle.pv_eval.specs.MachineSteps.{Fit};
 ghost use Rattle.pv_eval.specs.Moments.{Made};
-ghost use Rattle.pv_eval.specs.Machines.{is_asked, asked_arguments, asked_line, answered_of, after_first};
+ghost use Rattle.pv_eval.specs.Machines.{is_asked, after_first};
 ghost use Rattle.pv_eval.specs.Runnable.{IsRunnable};
-ghost use Rattle.pv_exec.specs.Calls.{below, take_params};
-ghost use Rattle.pv_exec.specs.Tasks.{Valued};
-ghost use Rattle.pv_exec.specs.Leading.{LeadsOr, FlowLed};
+ghost use Rattle.pv_exec.specs.Calls.{take_params};
+ghost use Rattle.pv_exec.specs.Leading.{FlowLed};
 ghost use Rattle.pv_exec.specs.Fits.{WayFitsOr};
 ghost use Rattle.pv_exec.specs.Quickness.{QuickOr, EndsOr};
 ghost use Rattle.pv_exec.specs.Called.{takes_one, begun, BodyIs, CallLed};
@@ -53,7 +51,8 @@ fn take_parameters(
 ) -> Result<(), Failure>
     requires runnable { IsRunnable unit.now }
     requires there { f < length unit.now.functions }
-    ensures made { Always unit.now machine.old.moment (λ b out es. Made (take_params b line (function_at (whole unit.now) f).params (map worth_of arguments.now) (state_of machine.old.moment out es)) result (state_of machine.new.moment out es)) }
+    ensures made { Always unit.now machine.old.moment (λ b out es.
+        Made (take_params b line (function_at (whole unit.now) f).params (map worth_of arguments.now) (state_of machine.old.moment out es)) result (state_of machine.new.moment out es)) }
     ensures started { machine.new.started ≡ machine.old.started }
     ensures stays { Stays machine.old.moment machine.new.moment }
 {
@@ -93,7 +92,7 @@ pub fn begin_function(
     take_parameters(unit, f, line, arguments, machine)
 }
 
-// Where the body of a function begins.
+/// Where the body of a function begins.
 pub fn body_of(unit: &TypedUnit, f: u32) -> Doing
     requires there { f < length unit.now.functions }
     ensures does { BodyIs unit.now f result }

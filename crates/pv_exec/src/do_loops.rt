@@ -16,7 +16,7 @@ use pv_eval::{Failure, Machine};
 use pv_tree::NodeId;
 use pv_typed::TypedUnit;
 
-// The condition of a `do` was evaluated: a further round is one level lower.
+/// The condition of a `do` was evaluated: a further round is one level lower.
 pub fn after_do_condition(
     unit: &TypedUnit,
     n: NodeId,
@@ -50,7 +50,7 @@ pub fn after_do_condition(
     }
 }
 
-// How the body of a `do` was left decides (C17 6.8.6.2, 6.8.6.3).
+/// How the body of a `do` was left decides (C17 6.8.6.2, 6.8.6.3).
 pub fn after_do_body(
     unit: &TypedUnit,
     n: NodeId,

@@ -78,7 +78,7 @@ fn stopped(cause: Cause, line: u32) -> Option<Outcome>
     }
 }
 
-/// The outcome of a run that ended so; nothing where memory ran out.
+/// The outcome of a run that ended so; nothing where it could not go on.
 pub fn outcome_by(ended: &Ended) -> Option<Outcome>
     ensures { result ≡ outcome_by ended.now }
 {
@@ -86,6 +86,6 @@ pub fn outcome_by(ended: &Ended) -> Option<Outcome>
         Ended::Value(v) => Some(Outcome::Exit { status: status(v) }),
         Ended::Turns => Some(Outcome::Turns),
         Ended::Stop(cause, line) => stopped(*cause, *line),
-        Ended::NoMemory => None,
+        Ended::Failed(_) => None,
     }
 }

@@ -1,17 +1,17 @@
 // The turns of statements.
-ghost use Rattle.std.specs.Prelude.{◌≡◌, ℕ, ◌+◌, ◌<◌, ◌≤◌, ◌^◌, true, false, List, length, OnOk, IfOk, IfSome, None};
-ghost use Rattle.pv_typed.specs.Nodes.{statement_form, statements_in};
+ghost use Rattle.std.specs.Prelude.{◌≡◌, ℕ, ◌+◌, ◌<◌, ◌^◌, true, false, OnOk, IfSome, None};
+ghost use Rattle.pv_typed.specs.Nodes.{statements_in};
 ghost use Rattle.pv_typed.specs.TypedStatement.{Block, Switch, statement_line, declared_of};
 ghost use Rattle.pv_typed.specs.Tables.{nodes, list_at, expression_at, statement_at, IsExpression, IsStatement};
 ghost use Rattle.pv_eval.specs.MachineSteps.{Fit, KeepsSetting};
-ghost use Rattle.pv_eval.specs.Moments.{Always, state_of, Stays};
-ghost use Rattle.pv_eval.specs.States.{Setting, State, Res, then_do};
+ghost use Rattle.pv_eval.specs.Moments.{Stays};
+ghost use Rattle.pv_eval.specs.States.{Setting, State};
 ghost use Rattle.pv_eval.specs.Runnable.{IsRunnable};
 ghost use Rattle.pv_exec.specs.Calls.{below};
 ghost use Rattle.pv_exec.specs.Execution.{ex};
 ghost use Rattle.pv_exec.specs.Flows.{Below};
 ghost use Rattle.pv_exec.specs.Tasks.{left};
-ghost use Rattle.pv_exec.specs.Leading.{LeadsOr};
+ghost use Rattle.pv_exec.specs.Leading.{LeadsOr, Led, EnterLed, entered_at};
 ghost use Rattle.pv_exec.specs.Entering.{entered, is_labelled, is_block_tree, is_for_tree};
 ghost use Rattle.pv_exec.specs.Fits.{WayFitsOr, IsScope, HasList};
 
@@ -23,7 +23,7 @@ use pv_tree::{ListId, NodeId};
 use pv_typed::{TypedStmt, TypedUnit};
 use pv_world::Got;
 
-// The statement behind the labels of a statement (C17 6.8.1).
+/// The statement behind the labels of a statement (C17 6.8.1).
 pub fn unlabelled(unit: &TypedUnit, n: NodeId) -> NodeId
     requires there { IsStatement unit.now n }
     ensures same { (b : Setting) (w : Below) (s : State) → ex b w (statement_at unit.now n) s ≡ ex b w (statement_at unit.now result) s }
@@ -85,7 +85,7 @@ fn begin_block(
     requires scope { IsScope unit.now n }
     requires form { statement_at unit.now n ≡ Block (statement_line (statement_at unit.now n)) (declared_of (statement_at unit.now n)) (statements_in (nodes unit.now) (list_at unit.now l)) }
     requires list { HasList unit.now l }
-    ensures led { Always unit.now machine.old.moment (λ b out es. (k : ℕ) → b.bound < machine.old.moment.taken + k → LeadsOr b unit.now (left (entered b (below b k) (statement_at unit.now n) (state_of machine.old.moment out es))) machine.old.started result machine.new.started (state_of machine.new.moment out es)) }
+    ensures led { Led unit.now (entered_at unit.now n) machine.old.started result machine.old machine.new }
     ensures started { machine.new.started ≡ machine.old.started }
     ensures ways { WayFitsOr unit.now machine.old.started machine.new.started result }
     ensures stays { Stays machine.old.moment machine.new.moment }
@@ -101,7 +101,7 @@ fn begin_for(unit: &TypedUnit, n: NodeId, machine: &mut Machine) -> Result<Way, 
     requires runnable { IsRunnable unit.now }
     requires scope { IsScope unit.now n }
     requires form { is_for_tree (statement_at unit.now n) ≡ true }
-    ensures led { Always unit.now machine.old.moment (λ b out es. (k : ℕ) → b.bound < machine.old.moment.taken + k → LeadsOr b unit.now (left (entered b (below b k) (statement_at unit.now n) (state_of machine.old.moment out es))) machine.old.started result machine.new.started (state_of machine.new.moment out es)) }
+    ensures led { Led unit.now (entered_at unit.now n) machine.old.started result machine.old machine.new }
     ensures started { machine.new.started ≡ machine.old.started }
     ensures ways { WayFitsOr unit.now machine.old.started machine.new.started result }
     ensures stays { Stays machine.old.moment machine.new.moment }
@@ -117,7 +117,7 @@ fn begin(unit: &TypedUnit, n: NodeId, machine: &mut Machine) -> Result<Way, Fail
     requires runnable { IsRunnable unit.now }
     requires there { IsStatement unit.now n }
     requires fit { Fit unit.now machine.old.started }
-    ensures led { Always unit.now machine.old.moment (λ b out es. (k : ℕ) → b.bound < machine.old.moment.taken + k → LeadsOr b unit.now (left (entered b (below b k) (statement_at unit.now n) (state_of machine.old.moment out es))) machine.old.started result machine.new.started (state_of machine.new.moment out es)) }
+    ensures led { Led unit.now (entered_at unit.now n) machine.old.started result machine.old machine.new }
     ensures stays { Stays machine.old.moment machine.new.moment }
     ensures fit { OnOk result (Fit unit.now machine.new.started) }
     ensures ways { WayFitsOr unit.now machine.old.started machine.new.started result }
@@ -224,7 +224,7 @@ pub fn enter(unit: &TypedUnit, n: NodeId, machine: &mut Machine) -> Result<Way, 
     requires there { IsStatement unit.now n }
     requires fit { Fit unit.now machine.old.started }
     requires turn { machine.old.moment.taken < 10 ^ 8 }
-    ensures led { Always unit.now machine.old.moment (λ b out es. (k : ℕ) → machine.old.moment.taken < b.bound → b.bound < machine.old.moment.taken + k + 1 → LeadsOr b unit.now (left (ex b (below b k) (statement_at unit.now n) (state_of machine.old.moment out es))) machine.old.started result machine.new.started (state_of machine.new.moment out es)) }
+    ensures led { EnterLed unit.now n result machine.old machine.new }
     ensures setting { KeepsSetting machine.old.moment machine.new.moment }
     ensures taken { machine.new.moment.taken ≡ machine.old.moment.taken + 1 }
     ensures fit { OnOk result (Fit unit.now machine.new.started) }

@@ -1,13 +1,8 @@
 // Steps of the innermost expression.
-ghost use Rattle.std.specs.Prelude.{◌≡◌, ℕ, ◌+◌, ◌<◌, ◌≤◌, ◌^◌, OnOk, length, true};
-ghost use Rattle.pv_typed.specs.Tables.{Stored};
+ghost use Rattle.std.specs.Prelude.{◌≡◌, ◌+◌, ◌<◌, ◌^◌, OnOk, true};
 ghost use Rattle.pv_eval.specs.MachineSteps.{Fit, KeepsSetting};
-ghost use Rattle.pv_eval.specs.Machines.{is_going, is_due, is_asked, asked_arguments, asked_line, answered_of, after_first, due_turns};
-ghost use Rattle.pv_eval.specs.Moments.{Always, Stays, state_of};
-ghost use Rattle.pv_eval.specs.States.{Gives, then_do};
+ghost use Rattle.pv_eval.specs.Machines.{is_going, is_due, after_first, due_turns};
 ghost use Rattle.pv_eval.specs.Runnable.{IsRunnable};
-ghost use Rattle.pv_exec.specs.Calls.{below};
-ghost use Rattle.pv_exec.specs.Tasks.{Valued};
 ghost use Rattle.pv_exec.specs.Leading.{DoingLed};
 ghost use Rattle.pv_exec.specs.Fits.{WayFitsOr};
 ghost use Rattle.pv_exec.specs.Quickness.{EndsOr};

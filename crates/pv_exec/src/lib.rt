@@ -10,6 +10,7 @@ mod enter;
 mod functions;
 mod given;
 mod going;
+mod laws;
 mod lists;
 mod once;
 mod outcome;
@@ -28,6 +29,7 @@ mod task;
 mod turning;
 mod values;
 
+pub use laws::{lesser_bound_cuts, turns_keep_the_bound};
 pub use outcome::Outcome;
 pub use program::{Ran, RunError, run};
 pub use sides::{Side, Sides};

@@ -1,10 +1,9 @@
 // The statements of lists (C17 6.8.2), and the declarations of a `for`.
-ghost use Rattle.std.specs.Prelude.{◌≡◌, ◌<◌, ◌≤◌, length, OnOk, IfOk, IfSome, None};
+ghost use Rattle.std.specs.Prelude.{◌≡◌, ◌<◌, length, OnOk, IfOk, IfSome, None};
 ghost use Rattle.pv_typed.specs.TypedUnits.{object_at};
-ghost use Rattle.pv_typed.specs.Tables.{nodes, list_at, statement_at, IsStatement};
+ghost use Rattle.pv_typed.specs.Tables.{statement_at, IsStatement};
 ghost use Rattle.pv_eval.specs.Moments.{Stays, Always, state_of};
 ghost use Rattle.pv_eval.specs.MachineSteps.{Fit};
-ghost use Rattle.pv_eval.specs.Machines.{after_first};
 ghost use Rattle.pv_eval.specs.Moments.{IsMemory, Made};
 ghost use Rattle.pv_eval.specs.Runnable.{IsRunnable};
 ghost use Rattle.pv_exec.specs.Leading.{FlowLed, DoingLed};
@@ -20,7 +19,7 @@ use pv_eval::{Failure, Machine};
 use pv_tree::{ListId, NodeId};
 use pv_typed::{TypedStmt, TypedUnit};
 
-// After a statement of a list, the next one.
+/// After a statement of a list, the next one.
 pub fn after_statement(
     unit: &TypedUnit,
     l: ListId,
@@ -44,7 +43,7 @@ pub fn after_statement(
     }
 }
 
-// After the declarations of a `for`, its first round (C17 6.8.5.3).
+/// After the declarations of a `for`, its first round (C17 6.8.5.3).
 pub fn after_declarations(
     unit: &TypedUnit,
     n: NodeId,
@@ -67,7 +66,7 @@ pub fn after_declarations(
     }
 }
 
-// What stands within a `for` with a declaration.
+/// What stands within a `for` with a declaration.
 pub fn within(unit: &TypedUnit, n: NodeId, machine: &mut Machine) -> Result<Way, Failure>
     requires there { IsStatement unit.now n }
     requires fit { Fit unit.now machine.old.started }

@@ -1,13 +1,11 @@
 // One operation of a run.
-ghost use Rattle.std.specs.Prelude.{◌≡◌, ℕ, ◌+◌, ◌<◌, ◌≤◌, ◌^◌, List, length, All, OnOk, IfOk, reverse, true};
+ghost use Rattle.std.specs.Prelude.{◌≡◌, ◌+◌, ◌<◌, ◌^◌, List, length, All, OnOk, IfOk, reverse, true};
 ghost use Rattle.pv_typed.specs.Tables.{Stored};
 ghost use Rattle.pv_eval.specs.MachineSteps.{Fit, KeepsSetting};
-ghost use Rattle.pv_eval.specs.Machines.{ended, after_first, is_ended};
-ghost use Rattle.pv_eval.specs.Moments.{Always, state_of, Stays};
 ghost use Rattle.pv_eval.specs.States.{Setting, State, Res};
 ghost use Rattle.pv_eval.specs.Runnable.{IsRunnable};
-ghost use Rattle.pv_exec.specs.Tasks.{Reached, Left, Valued, after_task};
-ghost use Rattle.pv_exec.specs.Works.{due, others, flow_of, passed, Holds};
+ghost use Rattle.pv_exec.specs.Tasks.{Reached, Left, Valued};
+ghost use Rattle.pv_exec.specs.Works.{due, others};
 ghost use Rattle.pv_exec.specs.Leading.{Leads, LeadsOr, DoingLed, OnceLed, Waits, FollowedOr};
 ghost use Rattle.pv_exec.specs.Pace.{goes_on, doing_ops, way_ops, FollowedPace, AfterPace};
 ghost use Rattle.pv_exec.specs.Fits.{TaskFits, TasksStand, DoingFits, WayFits, WayFitsOr, RunsOr, Runs, AfterRuns};

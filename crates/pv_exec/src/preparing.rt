@@ -1,9 +1,8 @@
 // Before the first turn (C17 5.1.2p1): static objects, literals, and static initializers.
-ghost use Rattle.std.specs.Prelude.{◌≡◌, ◌<◌, ◌+◌, length, drop, Some};
+ghost use Rattle.std.specs.Prelude.{◌≡◌, ◌<◌, ◌+◌, length, Some};
 ghost use Rattle.pv_typed.specs.TypedUnits.{object_at};
-ghost use Rattle.pv_typed.specs.Tables.{whole};
 ghost use Rattle.pv_eval.specs.Moments.{Always, Stays, state_of};
-ghost use Rattle.pv_eval.specs.Moments.{Made, IsMemory};
+ghost use Rattle.pv_eval.specs.Moments.{Made};
 ghost use Rattle.pv_eval.specs.Runnable.{IsRunnable};
 ghost use Rattle.pv_exec.specs.Fits.{HasStore};
 ghost use Rattle.pv_exec.specs.Prepared.{StoresOne};

@@ -5,16 +5,17 @@ ghost use Rattle.pv_typed.specs.Mains.{main_of};
 ghost use Rattle.pv_typed.specs.Tables.{whole};
 ghost use Rattle.pv_eval.specs.Runnable.{IsRunnable};
 ghost use Rattle.pv_exec.specs.Run.{setting_of, run_of};
-ghost use Rattle.pv_exec.specs.Answering.{RanAs, RanAt, ToldOr, FaultCause, end_of, event_of, highs, hall_slots};
+ghost use Rattle.pv_exec.specs.Streaming.{event_of};
+ghost use Rattle.pv_exec.specs.Answering.{RanAs, RanAt, ToldOr, RestTold, FaultCause, error_of, error_by, end_at, highs, hall_slots, outlet};
 
-use crate::delivering::tell;
+use crate::delivering::{Undelivered, finish};
 use crate::endings::outcome_by;
 use crate::given::given_highs;
 use crate::outcome::Outcome;
-use crate::running::run_unit;
+use crate::running::{Ended, run_unit};
 use crate::sides::{Side, Sides, sides_of};
 use pv_eval::Machine;
-use pv_script::{Script, Sink, write_all};
+use pv_script::{Script, Sink};
 use pv_typed::TypedUnit;
 use pv_watch::{Hall, Watch};
 use std::alloc::Global;
@@ -41,7 +42,27 @@ pub enum RunError {
     WriteFault,
 }
 
-// What is printed is written, and those who watch are told.
+// The same, of what can't be delivered.
+fn error_of(e: Undelivered) -> RunError
+    ensures { result ≡ error_of e }
+{
+    match e {
+        Undelivered::NoMemory => RunError::NoMemory,
+        Undelivered::WriteFault => RunError::WriteFault,
+    }
+}
+
+// The same, of a run that has no outcome.
+fn error_by(ended: &Ended) -> RunError
+    ensures { result ≡ error_by ended.now }
+{
+    match ended {
+        Ended::Failed(e) => error_of(*e),
+        _ => RunError::NoMemory,
+    }
+}
+
+// The run is over: what is left of its output is written, and of its events told.
 fn answer<O: Sink>(
     alloc: Global,
     unit: &TypedUnit,
@@ -55,30 +76,28 @@ fn answer<O: Sink>(
     ensures gains { OnOk result (Gains (O.written out.old) (O.written out.new) machine.old.moment.printed) }
     ensures part { OnErr result (GainsPrefix (O.written out.old) (O.written out.new) machine.old.moment.printed) }
     ensures cause { FaultCause result (O.faults out.old) (O.faults out.new) }
-    ensures told { ToldOr result (hall_slots hall.old its_kind its_wants seen) (hall_slots hall.new its_kind its_wants seen) (map event_of machine.old.moment.waiting) unit.now.names }
+    ensures told { RestTold result (hall_slots hall.old its_kind its_wants seen) (hall_slots hall.new its_kind its_wants seen) (map event_of machine.old.moment.waiting) unit.now.names }
 {
     let turns = machine.turns();
     let sides = match sides_of(alloc, machine) {
         Some(sides) => sides,
         None => return Err(RunError::NoMemory),
     };
-    match write_all(out, machine.printed().as_slice()) {
-        Ok(()) => {}
-        Err(_) => return Err(RunError::WriteFault),
-    }
-    match tell(unit, machine.waiting().as_slice(), hall) {
+    match finish(unit, machine, out, hall) {
         Ok(()) => Ok(Ran {
             outcome,
             turns,
             sides,
         }),
-        Err(_) => Err(RunError::NoMemory),
+        Err(e) => Err(error_of(e)),
     }
 }
 
 /// Runs a unit (C17 5.1.2): what it prints goes to the sink, and those in the hall are told of its memory.
 ///
 /// At most as many turns are taken as the bound allows. With sides, each pair stands for its side from its making.
+/// What is printed is written while the run goes on: less than 4096 bytes wait for the next part of the run. The hall is told
+/// of each part once its bytes were written so. A write that fails ends the run.
 pub fn run<O: Sink>(
     alloc: Global,
     u: &TypedUnit,
@@ -92,10 +111,11 @@ pub fn run<O: Sink>(
     requires main { IsTrue (is_some (main_of (whole u.now))) }
     requires bound { bound ≤ 10 ^ 8 }
     ensures ran { IfOk result (RanAs (run_of (setting_of u.now bound (highs sides.entry (λ x. x.now))) script)) }
-    ensures gains { OnOk result (Gains (O.written out.old) (O.written out.new) (end_of (run_of (setting_of u.now bound (highs sides.entry (λ x. x.now))) script)).output) }
-    ensures part { OnErr result (GainsPrefix (O.written out.old) (O.written out.new) (end_of (run_of (setting_of u.now bound (highs sides.entry (λ x. x.now))) script)).output) }
+    ensures gains { OnOk result (Gains (O.written out.old) (O.written out.new) (end_at u.now bound (highs sides.entry (λ x. x.now)) script).output) }
+    ensures part { OnErr result (GainsPrefix (O.written out.old) (O.written out.new) (end_at u.now bound (highs sides.entry (λ x. x.now)) script).output) }
     ensures cause { FaultCause result (O.faults out.old) (O.faults out.new) }
-    ensures told { ToldOr result (hall_slots hall.old its_kind its_wants seen) (hall_slots hall.new its_kind its_wants seen) (map event_of (end_of (run_of (setting_of u.now bound (highs sides.entry (λ x. x.now))) script)).events) u.now.names }
+    ensures told { ToldOr result (outlet (O.written out.old) hall.old its_kind its_wants seen) (outlet (O.written out.new) hall.new its_kind its_wants seen)
+        (end_at u.now bound (highs sides.entry (λ x. x.now)) script) u.now.names }
 {
     let given = match given_highs(alloc, sides) {
         Some(given) => given,
@@ -105,9 +125,9 @@ pub fn run<O: Sink>(
         Ok(machine) => machine,
         Err(_) => return Err(RunError::NoMemory),
     };
-    let ended = run_unit(alloc, u, bound, &mut machine);
+    let ended = run_unit(alloc, u, bound, &mut machine, out, hall);
     match outcome_by(&ended) {
         Some(outcome) => answer(alloc, u, outcome, &mut machine, out, hall),
-        None => Err(RunError::NoMemory),
+        None => Err(error_by(&ended)),
     }
 }

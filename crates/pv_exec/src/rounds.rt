@@ -1,17 +1,17 @@
 // Further rounds of loops whose condition comes first.
-ghost use Rattle.std.specs.Prelude.{◌≡◌, ℕ, ◌+◌, ◌<◌, ◌≤◌, OnOk, IfOk, IfSome, true};
+ghost use Rattle.std.specs.Prelude.{◌≡◌, ℕ, ◌+◌, ◌<◌, ◌≤◌, OnOk, IfSome, true};
 ghost use Rattle.pv_typed.specs.Tables.{nodes, statement_at, IsExpression, IsStatement};
 ghost use Rattle.pv_typed.specs.Nodes.{optional_in};
 ghost use Rattle.pv_eval.specs.MachineSteps.{Fit};
 ghost use Rattle.pv_eval.specs.Machines.{ended, is_ended, after_first};
-ghost use Rattle.pv_eval.specs.Moments.{Always, Stays, state_of};
+ghost use Rattle.pv_eval.specs.Moments.{Stays};
 ghost use Rattle.pv_eval.specs.States.{Setting, State};
 ghost use Rattle.pv_eval.specs.Runnable.{IsRunnable};
 ghost use Rattle.pv_exec.specs.Calls.{below};
 ghost use Rattle.pv_exec.specs.Tasks.{left};
-ghost use Rattle.pv_exec.specs.Parts.{loop_of, rounded, stepped_on, tested, line_of_condition};
+ghost use Rattle.pv_exec.specs.Parts.{loop_of, rounded, stepped_on, line_of_condition};
 ghost use Rattle.pv_exec.specs.Works.{flow_of};
-ghost use Rattle.pv_exec.specs.Leading.{LeadsOr};
+ghost use Rattle.pv_exec.specs.Leading.{LeadsOr, Led, tested_at};
 ghost use Rattle.pv_exec.specs.Quickness.{QuickOr};
 ghost use Rattle.pv_exec.specs.Fits.{WayFitsOr};
 
@@ -21,11 +21,12 @@ use pv_eval::{Failure, Machine};
 use pv_tree::NodeId;
 use pv_typed::TypedUnit;
 
-// A further round, one level lower.
+/// A further round, one level lower.
 pub fn round_again(unit: &TypedUnit, n: NodeId, machine: &mut Machine) -> Result<Way, Failure>
     requires there { IsStatement unit.now n }
     requires fit { Fit unit.now machine.old.started }
-    ensures led { (b : Setting) (k : ℕ) (s : State) → s.taken ≤ b.bound → b.bound < s.taken + k → LeadsOr b unit.now (left ((below b k).again (loop_of (statement_at unit.now n)).condition (loop_of (statement_at unit.now n)).step (loop_of (statement_at unit.now n)).body s)) machine.old.started result machine.new.started s }
+    ensures led { (b : Setting) (k : ℕ) (s : State) → s.taken ≤ b.bound → b.bound < s.taken + k →
+        LeadsOr b unit.now (left ((below b k).again (loop_of (statement_at unit.now n)).condition (loop_of (statement_at unit.now n)).step (loop_of (statement_at unit.now n)).body s)) machine.old.started result machine.new.started s }
     ensures moment { machine.new.moment ≡ machine.old.moment }
     ensures fit { OnOk result (Fit unit.now machine.new.started) }
     ensures ways { WayFitsOr unit.now machine.old.started machine.new.started result }
@@ -34,7 +35,7 @@ pub fn round_again(unit: &TypedUnit, n: NodeId, machine: &mut Machine) -> Result
     begin_round(unit, n, machine)
 }
 
-// After the body: the last expression, and a further round.
+/// After the body: the last expression, and a further round.
 pub fn round_goes_on(unit: &TypedUnit, n: NodeId, machine: &mut Machine) -> Result<Way, Failure>
     requires there { IsStatement unit.now n }
     requires fit { Fit unit.now machine.old.started }
@@ -51,7 +52,7 @@ pub fn round_goes_on(unit: &TypedUnit, n: NodeId, machine: &mut Machine) -> Resu
     }
 }
 
-// How the body was left decides (C17 6.8.6.2, 6.8.6.3).
+/// How the body was left decides (C17 6.8.6.2, 6.8.6.3).
 pub fn after_body(
     unit: &TypedUnit,
     n: NodeId,
@@ -60,7 +61,8 @@ pub fn after_body(
 ) -> Result<Way, Failure>
     requires there { IsStatement unit.now n }
     requires fit { Fit unit.now machine.old.started }
-    ensures led { (b : Setting) (k : ℕ) (s : State) → s.taken ≤ b.bound → b.bound < s.taken + k → LeadsOr b unit.now (left (rounded b (below b k) (loop_of (statement_at unit.now n)) (flow_of flow) s)) machine.old.started result machine.new.started s }
+    ensures led { (b : Setting) (k : ℕ) (s : State) → s.taken ≤ b.bound → b.bound < s.taken + k →
+        LeadsOr b unit.now (left (rounded b (below b k) (loop_of (statement_at unit.now n)) (flow_of flow) s)) machine.old.started result machine.new.started s }
     ensures moment { machine.new.moment ≡ machine.old.moment }
     ensures fit { OnOk result (Fit unit.now machine.new.started) }
     ensures ways { WayFitsOr unit.now machine.old.started machine.new.started result }
@@ -85,13 +87,13 @@ fn line_of_optional(unit: &TypedUnit, c: Option<NodeId>) -> u32
     }
 }
 
-// After the condition of a loop.
+/// After the condition of a loop.
 pub fn after_condition(unit: &TypedUnit, n: NodeId, machine: &mut Machine) -> Result<Way, Failure>
     requires runnable { IsRunnable unit.now }
     requires there { IsStatement unit.now n }
     requires ended { is_ended machine.old.started ≡ true }
     requires fit { Fit unit.now machine.old.started }
-    ensures led { Always unit.now machine.old.moment (λ b out es. (k : ℕ) → b.bound < machine.old.moment.taken + k → LeadsOr b unit.now (left (tested b (below b k) (loop_of (statement_at unit.now n)) (ended machine.old.started) (state_of machine.old.moment out es))) (after_first machine.old.started) result machine.new.started (state_of machine.new.moment out es)) }
+    ensures led { Led unit.now (tested_at unit.now n (ended machine.old.started)) (after_first machine.old.started) result machine.old machine.new }
     ensures stays { Stays machine.old.moment machine.new.moment }
     ensures fit { Fit unit.now machine.new.started }
     ensures ways { WayFitsOr unit.now (after_first machine.old.started) machine.new.started result }

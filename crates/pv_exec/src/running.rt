@@ -2,29 +2,34 @@
 ghost use Rattle.std.specs.Prelude.{◌≡◌, ◌<◌, ◌≤◌, ◌^◌, [], length, IsTrue, is_some};
 ghost use Rattle.pv_typed.specs.Mains.{main_of};
 ghost use Rattle.pv_typed.specs.Tables.{whole};
-ghost use Rattle.pv_eval.specs.MachineSteps.{Fit, KeepsSetting};
+ghost use Rattle.pv_eval.specs.MachineSteps.{Fit};
 ghost use Rattle.pv_eval.specs.Runnable.{IsRunnable};
+ghost use Rattle.pv_exec.specs.Answering.{outlet};
 ghost use Rattle.pv_exec.specs.Fits.{Runs};
-ghost use Rattle.pv_exec.specs.Running.{StatementsLed, MainLed, EndLed, UnitLed, ended_by};
+ghost use Rattle.pv_exec.specs.Streaming.{failing, DeliveryCause};
+ghost use Rattle.pv_exec.specs.Running.{StatementsLed, EndLed, PieceLed, IsCalm, main_called, whole_run, ended_by, failed};
 
 use crate::blocks::end_each;
 use crate::calls::{begin_function, body_of};
+use crate::delivering::{Undelivered, deliver};
 use crate::functions::value_by;
 use crate::preparing::prepare;
 use crate::task::{Doing, Flow};
 use crate::turning::{Advanced, Last, advance};
 use pv_eval::{Failure, Machine};
+use pv_script::Sink;
 use pv_typed::TypedUnit;
+use pv_watch::{Hall, Watch};
 use pv_world::{Cause, Got};
 use std::alloc::Global;
 
-/// How a run ended: by the value of `main`, or before.
+/// How a run ended: by the value of `main`, or before; or it could not go on.
 #[derive(Drop)]
 pub enum Ended {
     Value(Got),
     Turns,
     Stop(Cause, u32),
-    NoMemory,
+    Failed(Undelivered),
 }
 
 // A run that ended before it had a value.
@@ -33,32 +38,39 @@ fn ended_by(e: Failure) -> Ended
 {
     match e {
         Failure::Stop(cause, line) => Ended::Stop(cause, line),
-        Failure::NoMemory => Ended::NoMemory,
+        Failure::NoMemory => Ended::Failed(Undelivered::NoMemory),
     }
 }
 
-// Statements, until no task waits.
-fn run_statements(
+// Statements, until no task waits. What they print and tell is delivered after each part.
+fn run_statements<O: Sink>(
     alloc: Global,
     unit: &TypedUnit,
     doing: Doing,
     bound: u64,
     machine: &mut Machine,
-) -> Option<Last>
+    out: &mut O,
+    hall: &mut Hall,
+) -> Result<Last, Undelivered>
     requires runnable { IsRunnable unit.now }
     requires bound { bound ≤ 10 ^ 8 }
     requires runs { Runs unit.now [] machine.old.started doing }
     requires fit { Fit unit.now machine.old.started }
-    ensures ended { StatementsLed unit.now bound doing result machine.old machine.new }
-    ensures setting { KeepsSetting machine.old.moment machine.new.moment }
+    ensures ended { StatementsLed unit.now (outlet (O.written out.old) hall.old its_kind its_wants seen) (outlet (O.written out.new) hall.new its_kind its_wants seen) bound doing result machine.old machine.new }
+    ensures cause { DeliveryCause (failing result) (O.faults out.old) (O.faults out.new) }
 {
     let mut tasks = Vec::new(alloc);
     let mut doing = doing;
+    let mut written = 0;
     'statements: loop {
         match advance(unit, &mut tasks, doing, bound, machine) {
             Advanced::On(next) => doing = next,
-            Advanced::Last(last) => return Some(last),
-            Advanced::NoMemory => return None,
+            Advanced::Last(last) => return Ok(last),
+            Advanced::NoMemory => return Err(Undelivered::NoMemory),
+        }
+        match deliver(unit, machine, &mut written, out, hall) {
+            Ok(()) => {}
+            Err(e) => return Err(e),
         }
     }
 }
@@ -68,49 +80,67 @@ fn end_main(unit: &TypedUnit, f: u32, flow: Flow, machine: &mut Machine) -> Ende
     requires runnable { IsRunnable unit.now }
     requires there { f < length unit.now.functions }
     ensures ended { EndLed unit.now f flow result machine.old machine.new }
+    ensures calm { IsCalm result }
 {
     let ended = end_each(unit, unit.params_of(f), machine);
     if ended.is_err() {
-        return Ended::NoMemory;
+        return Ended::Failed(Undelivered::NoMemory);
     }
     machine.end_body();
     Ended::Value(value_by(unit, f, flow))
 }
 
 // The call of `main` (C17 5.1.2.2.1).
-fn run_main(alloc: Global, unit: &TypedUnit, f: u32, bound: u64, machine: &mut Machine) -> Ended
+fn run_main<O: Sink>(
+    alloc: Global,
+    unit: &TypedUnit,
+    f: u32,
+    bound: u64,
+    machine: &mut Machine,
+    out: &mut O,
+    hall: &mut Hall,
+) -> Ended
     requires runnable { IsRunnable unit.now }
     requires bound { bound ≤ 10 ^ 8 }
     requires there { f < length unit.now.functions }
     requires fresh { machine.old.moment.taken ≡ 0 }
     requires none { machine.old.started ≡ [] }
-    ensures ended { MainLed unit.now bound f result machine.old machine.new }
+    ensures ended { PieceLed unit.now (outlet (O.written out.old) hall.old its_kind its_wants seen) (outlet (O.written out.new) hall.new its_kind its_wants seen) bound (main_called f) result machine.old machine.new }
+    ensures cause { DeliveryCause (failed result) (O.faults out.old) (O.faults out.new) }
 {
     match begin_function(unit, f, unit.function(f).line, &[], machine) {
         Ok(()) => {}
         Err(e) => return ended_by(e),
     }
-    match run_statements(alloc, unit, body_of(unit, f), bound, machine) {
-        Some(Last::Left(flow)) => end_main(unit, f, flow, machine),
+    match run_statements(alloc, unit, body_of(unit, f), bound, machine, out, hall) {
+        Ok(Last::Left(flow)) => end_main(unit, f, flow, machine),
         // No statement ends with the value of an expression.
-        Some(Last::Valued) => Ended::Turns,
-        Some(Last::Turns) => Ended::Turns,
-        Some(Last::Stop(cause, line)) => Ended::Stop(cause, line),
-        None => Ended::NoMemory,
+        Ok(Last::Valued) => Ended::Turns,
+        Ok(Last::Turns) => Ended::Turns,
+        Ok(Last::Stop(cause, line)) => Ended::Stop(cause, line),
+        Err(e) => Ended::Failed(e),
     }
 }
 
-/// The run of a unit, once the machine was made.
-pub fn run_unit(alloc: Global, unit: &TypedUnit, bound: u64, machine: &mut Machine) -> Ended
+/// The run of a unit, once the machine was made. What is printed and told at last stays in the machine.
+pub fn run_unit<O: Sink>(
+    alloc: Global,
+    unit: &TypedUnit,
+    bound: u64,
+    machine: &mut Machine,
+    out: &mut O,
+    hall: &mut Hall,
+) -> Ended
     requires runnable { IsRunnable unit.now }
     requires main { IsTrue (is_some (main_of (whole unit.now))) }
     requires bound { bound ≤ 10 ^ 8 }
     requires fresh { machine.old.moment.taken ≡ 0 }
     requires none { machine.old.started ≡ [] }
-    ensures ended { UnitLed unit.now bound result machine.old machine.new }
+    ensures ended { PieceLed unit.now (outlet (O.written out.old) hall.old its_kind its_wants seen) (outlet (O.written out.new) hall.new its_kind its_wants seen) bound whole_run result machine.old machine.new }
+    ensures cause { DeliveryCause (failed result) (O.faults out.old) (O.faults out.new) }
 {
     match prepare(unit, machine) {
-        Ok(()) => run_main(alloc, unit, unit.main(), bound, machine),
+        Ok(()) => run_main(alloc, unit, unit.main(), bound, machine, out, hall),
         Err(e) => ended_by(e),
     }
 }

@@ -1,15 +1,14 @@
 // The ends of blocks.
-ghost use Rattle.std.specs.Prelude.{◌≡◌, ℕ, ◌+◌, ◌<◌, List, OnOk};
-ghost use Rattle.pv_typed.specs.TypedStatement.{declared_of};
-ghost use Rattle.pv_typed.specs.Tables.{Stored, statement_at};
+ghost use Rattle.std.specs.Prelude.{ℕ, ◌+◌, ◌<◌, List, OnOk};
+ghost use Rattle.pv_typed.specs.Tables.{Stored};
 ghost use Rattle.pv_eval.specs.MachineSteps.{Fit};
-ghost use Rattle.pv_eval.specs.Moments.{Always, Stays, state_of};
-ghost use Rattle.pv_eval.specs.States.{Setting, State, Gives, then_do};
+ghost use Rattle.pv_eval.specs.Moments.{Stays};
+ghost use Rattle.pv_eval.specs.States.{Setting, State};
 ghost use Rattle.pv_eval.specs.Runnable.{IsRunnable};
-ghost use Rattle.pv_exec.specs.Flows.{end_all, switched};
+ghost use Rattle.pv_exec.specs.Flows.{switched};
 ghost use Rattle.pv_exec.specs.Tasks.{left};
 ghost use Rattle.pv_exec.specs.Works.{flow_of};
-ghost use Rattle.pv_exec.specs.Leading.{Leads, LeadsOr};
+ghost use Rattle.pv_exec.specs.Leading.{Leads, Led, block_left};
 ghost use Rattle.pv_eval.specs.Machines.{Started};
 ghost use Rattle.pv_exec.specs.Quickness.{Quick, QuickOr};
 ghost use Rattle.pv_exec.specs.Fits.{WayFits, WayFitsOr, IsScope};
@@ -20,7 +19,7 @@ use pv_eval::{Failure, Machine};
 use pv_tree::NodeId;
 use pv_typed::TypedUnit;
 
-// A block is left, in whatever way: its objects end (C17 6.2.4p6).
+/// A block is left, in whatever way: its objects end (C17 6.2.4p6).
 pub fn after_block(
     unit: &TypedUnit,
     n: NodeId,
@@ -30,7 +29,7 @@ pub fn after_block(
     requires runnable { IsRunnable unit.now }
     requires scope { IsScope unit.now n }
     requires fit { Fit unit.now machine.old.started }
-    ensures led { Always unit.now machine.old.moment (λ b out es. (k : ℕ) → b.bound < machine.old.moment.taken + k → LeadsOr b unit.now (left (then_do (end_all b (declared_of (statement_at unit.now n)) (state_of machine.old.moment out es)) (λ v s. Gives (flow_of flow) s))) machine.old.started result machine.new.started (state_of machine.new.moment out es)) }
+    ensures led { Led unit.now (block_left unit.now n (flow_of flow)) machine.old.started result machine.old machine.new }
     ensures stays { Stays machine.old.moment machine.new.moment }
     ensures fit { OnOk result (Fit unit.now machine.new.started) }
     ensures ways { WayFitsOr unit.now machine.old.started machine.new.started result }
@@ -43,7 +42,7 @@ pub fn after_block(
     Ok(Way::Do(Doing::Left(flow)))
 }
 
-// A switch is left (C17 6.8.6.3).
+/// A switch is left (C17 6.8.6.3).
 pub fn after_switch(flow: Flow) -> Way
     ensures led { (b : Setting) (u : Stored) (k : ℕ) (es : List Started) (s : State) → b.bound < s.taken + k → Leads b u (left (switched (flow_of flow) s)) es result es s }
     ensures ways { (u : Stored) (es : List Started) → WayFits u es es result × Quick es result }

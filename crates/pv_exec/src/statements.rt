@@ -1,24 +1,19 @@
 // The first operations of statements.
-ghost use Rattle.std.specs.Prelude.{◌≡◌, ℕ, ◌+◌, ◌<◌, ◌≤◌, ◌^◌, true, false, List, length, OnOk, IfOk, IfSome, None, drop};
-ghost use Rattle.pv_typed.specs.Nodes.{statement_form, expression_in, statement_in, optional_in};
-ghost use Rattle.pv_typed.specs.TypedStatement.{statement_line, declared_of};
+ghost use Rattle.std.specs.Prelude.{◌≡◌, ℕ, ◌+◌, ◌<◌, true, false, OnOk, IfSome, None};
+ghost use Rattle.pv_typed.specs.Nodes.{optional_in};
 ghost use Rattle.pv_typed.specs.Tables.{Stored, nodes, expression_at, statement_at, IsExpression, IsStatement};
 ghost use Rattle.pv_eval.specs.MachineSteps.{Fit};
-ghost use Rattle.pv_eval.specs.Moments.{Made, IsMemory};
-ghost use Rattle.pv_eval.specs.Moments.{Always, state_of, Stays};
 ghost use Rattle.pv_eval.specs.States.{Setting, State, Res, then_do};
 ghost use Rattle.pv_exec.specs.Calls.{below};
-ghost use Rattle.pv_exec.specs.Execution.{ex};
-ghost use Rattle.pv_exec.specs.Flows.{full, make_all, end_all};
+ghost use Rattle.pv_exec.specs.Flows.{full};
 ghost use Rattle.pv_exec.specs.Tasks.{takes_value, Reached, left, after_value};
 ghost use Rattle.pv_exec.specs.Parts.{loop_of, rounds};
 ghost use Rattle.pv_exec.specs.Works.{is_call};
 ghost use Rattle.pv_exec.specs.Leading.{LeadsOr};
-ghost use Rattle.pv_exec.specs.Entering.{entered, is_labelled};
-ghost use Rattle.pv_exec.specs.Fits.{TaskFits, WayFitsOr, IsScope};
+ghost use Rattle.pv_exec.specs.Fits.{TaskFits, WayFitsOr};
 ghost use Rattle.pv_exec.specs.Quickness.{QuickOr};
 
-use crate::task::{Doing, Flow, Task, Way};
+use crate::task::{Doing, Task, Way};
 use pv_eval::{Failure, Machine};
 use pv_tree::NodeId;
 use pv_typed::{TypedStmt, TypedUnit};
@@ -32,11 +27,12 @@ pub struct Parts {
     pub body: NodeId,
 }
 
-// An expression is started, and a task waits for its value.
+/// An expression is started, and a task waits for its value.
 pub fn evaluate(machine: &mut Machine, task: Task, e: NodeId) -> Result<Way, Failure>
     requires task { is_call task ≡ false }
     requires value { takes_value task ≡ true }
-    ensures led { (b : Setting) (u : Stored) (k : ℕ) (s : State) (all : Res Reached) → b.bound < s.taken + k + 1 → all ≡ then_do (full b (below b k).call (expression_at u e) s) (after_value b u k task) → LeadsOr b u all machine.old.started result machine.new.started s }
+    ensures led { (b : Setting) (u : Stored) (k : ℕ) (s : State) (all : Res Reached) → b.bound < s.taken + k + 1 →
+        all ≡ then_do (full b (below b k).call (expression_at u e) s) (after_value b u k task) → LeadsOr b u all machine.old.started result machine.new.started s }
     ensures moment { machine.new.moment ≡ machine.old.moment }
     ensures fit { (u : Stored) → IsExpression u e → Fit u machine.old.started → OnOk result (Fit u machine.new.started) }
     ensures ways { (u : Stored) → TaskFits u task → WayFitsOr u machine.old.started machine.new.started result }
@@ -48,7 +44,7 @@ pub fn evaluate(machine: &mut Machine, task: Task, e: NodeId) -> Result<Way, Fai
     }
 }
 
-// The parts of a loop; of another statement, parts that nothing looks at.
+/// The parts of a loop; of another statement, parts that nothing looks at.
 pub fn loop_parts(unit: &TypedUnit, n: NodeId) -> Parts
     requires there { IsStatement unit.now n }
     ensures value { loop_of (statement_at unit.now n) ≡ record { condition = optional_in (nodes unit.now) result.condition; step = optional_in (nodes unit.now) result.step; body = statement_at unit.now result.body } }
@@ -108,7 +104,7 @@ fn no_parts(n: NodeId) -> Parts
     }
 }
 
-// A round of a loop whose condition comes first.
+/// A round of a loop whose condition comes first.
 pub fn begin_round(unit: &TypedUnit, n: NodeId, machine: &mut Machine) -> Result<Way, Failure>
     requires there { IsStatement unit.now n }
     requires fit { Fit unit.now machine.old.started }

@@ -1,15 +1,12 @@
 // Labels of a `switch`, and the jump to one of them (C17 6.8.4.2).
-ghost use Rattle.std.specs.Prelude.{◌≡◌, ◌+◌, ◌<◌, ◌^◌, ℤ, ℕ, List, Bool, true, false, length, OnOk, IfSome, None};
-ghost use Rattle.pv_typed.specs.TypedTree.{TypedTree};
-ghost use Rattle.pv_typed.specs.Tables.{nodes, expression_at, statement_at, IsExpression, IsStatement};
+ghost use Rattle.std.specs.Prelude.{◌≡◌, ◌+◌, ◌<◌, ◌^◌, ℕ, List, true, false, OnOk, IfSome, None};
+ghost use Rattle.pv_typed.specs.Tables.{expression_at, statement_at, IsExpression, IsStatement};
 ghost use Rattle.pv_eval.specs.States.{Setting, State};
 ghost use Rattle.pv_eval.specs.Moments.{Stays};
 ghost use Rattle.pv_eval.specs.Machines.{Started, is_ended, after_first};
 ghost use Rattle.pv_eval.specs.MachineSteps.{Fit, KeepsSetting};
 ghost use Rattle.pv_eval.specs.Runnable.{IsRunnable};
-ghost use Rattle.pv_exec.specs.Flows.{Below};
-ghost use Rattle.pv_exec.specs.Execution.{exs, exs_at};
-ghost use Rattle.pv_exec.specs.Labels.{is_target, target_of};
+ghost use Rattle.pv_exec.specs.Labels.{is_target};
 ghost use Rattle.pv_exec.specs.Calls.{below};
 ghost use Rattle.pv_exec.specs.Parts.{selection_of, selection_by, items_of, jumps};
 ghost use Rattle.pv_exec.specs.Tasks.{statements_from, left};

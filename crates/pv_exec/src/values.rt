@@ -1,5 +1,5 @@
 // What tasks do with the values of expressions.
-ghost use Rattle.std.specs.Prelude.{◌≡◌, true, OnOk, IfSome};
+ghost use Rattle.std.specs.Prelude.{◌≡◌, true, OnOk};
 ghost use Rattle.pv_typed.specs.Tables.{IsStatement};
 ghost use Rattle.pv_eval.specs.Moments.{Stays};
 ghost use Rattle.pv_eval.specs.MachineSteps.{Fit};
@@ -8,7 +8,7 @@ ghost use Rattle.pv_eval.specs.Runnable.{IsRunnable};
 ghost use Rattle.pv_exec.specs.Leading.{ValueLed};
 ghost use Rattle.pv_exec.specs.Fits.{WayFitsOr};
 ghost use Rattle.pv_exec.specs.Quickness.{QuickOr};
-ghost use Rattle.pv_exec.specs.Read.{side_of, ChoiceFits};
+ghost use Rattle.pv_exec.specs.Read.{side_of};
 
 use crate::parts::{ChoiceParts, choice_parts, return_value};
 use crate::rounds::round_again;
@@ -18,7 +18,7 @@ use pv_eval::{Failure, Machine};
 use pv_tree::NodeId;
 use pv_typed::TypedUnit;
 
-// The value of an expression statement is dropped (C17 6.8.3p2).
+/// The value of an expression statement is dropped (C17 6.8.3p2).
 pub fn after_expression(unit: &TypedUnit, machine: &mut Machine) -> Result<Way, Failure>
     requires ended { is_ended machine.old.started ≡ true }
     requires fit { Fit unit.now machine.old.started }
@@ -32,7 +32,7 @@ pub fn after_expression(unit: &TypedUnit, machine: &mut Machine) -> Result<Way, 
     Ok(Way::Do(Doing::Left(Flow::Falls)))
 }
 
-// The first expression of a `for` was evaluated (C17 6.8.5.3).
+/// The first expression of a `for` was evaluated (C17 6.8.5.3).
 pub fn after_first_part(unit: &TypedUnit, n: NodeId, machine: &mut Machine) -> Result<Way, Failure>
     requires there { IsStatement unit.now n }
     requires ended { is_ended machine.old.started ≡ true }
@@ -47,7 +47,7 @@ pub fn after_first_part(unit: &TypedUnit, n: NodeId, machine: &mut Machine) -> R
     begin_round(unit, n, machine)
 }
 
-// The last expression of a loop was evaluated (C17 6.8.5.3).
+/// The last expression of a loop was evaluated (C17 6.8.5.3).
 pub fn after_step(unit: &TypedUnit, n: NodeId, machine: &mut Machine) -> Result<Way, Failure>
     requires there { IsStatement unit.now n }
     requires ended { is_ended machine.old.started ≡ true }
@@ -75,7 +75,7 @@ fn side(parts: ChoiceParts, yes: bool) -> Way
     }
 }
 
-// The condition of an `if` was evaluated.
+/// The condition of an `if` was evaluated.
 pub fn after_choice(unit: &TypedUnit, n: NodeId, machine: &mut Machine) -> Result<Way, Failure>
     requires runnable { IsRunnable unit.now }
     requires there { IsStatement unit.now n }
@@ -99,7 +99,7 @@ pub fn after_choice(unit: &TypedUnit, n: NodeId, machine: &mut Machine) -> Resul
     }
 }
 
-// The expression of a `return` was evaluated (C17 6.8.6.4).
+/// The expression of a `return` was evaluated (C17 6.8.6.4).
 pub fn after_return(unit: &TypedUnit, n: NodeId, machine: &mut Machine) -> Result<Way, Failure>
     requires runnable { IsRunnable unit.now }
     requires there { IsStatement unit.now n }

@@ -3,7 +3,8 @@ use Rattle.std.specs.Prelude.{List, map}
 use Rattle.std.proofs.lemmas.List.{take_all}
 use Rattle.pv_watch.specs.Slots.{Told}
 use Rattle.pv_eval.specs.declared.marked.Marked.{Marked}
-use Rattle.pv_exec.specs.Answering.{event_of, hall_slots}
+use Rattle.pv_exec.specs.Answering.{hall_slots}
+use Rattle.pv_exec.specs.Streaming.{event_of}
 use Rattle.pv_exec.proofs.Outside.{told-next}
 use Rattle.pv_exec.proofs.delivering.tell.Goals as goal
 

@@ -1,11 +1,10 @@
-use Rattle.std.proofs.Common.{◌∙◌, ap, sym, subst, ℕ}
-use Rattle.std.specs.Prelude.{List, OnOk, OnErr, map}
-use Rattle.pv_script.specs.Outside.{Gains, GainsPrefix}
-use Rattle.pv_eval.specs.declared.marked.Marked.{Marked}
+use Rattle.std.proofs.Common.{◌∙◌, ap, sym, subst}
+use Rattle.std.specs.Prelude.{Err}
 use Rattle.pv_eval.specs.Machines.{first_machine}
+use Rattle.pv_exec.specs.declared.program.RunError.{RunError}
 use Rattle.pv_exec.specs.Run.{setting_of, run_of}
-use Rattle.pv_exec.specs.Answering.{ToldOr, event_of, highs, hall_slots}
-use Rattle.pv_exec.proofs.Outside.{run-over, ran-as, same-output, same-events}
+use Rattle.pv_exec.specs.Answering.{ToldOr, end_of, highs, outlet}
+use Rattle.pv_exec.proofs.Outside.{run-over, over, streams-over, ran-as, gained, gained-part, told-end, fault-later, lost-part, lost-told}
 use Rattle.pv_exec.proofs.program.run.Goals as goal
 
 pub returns-in-Some-outcome_by-clause-ran : goal.returns-in-Some-outcome_by-clause-ran
@@ -14,9 +13,12 @@ returns-in-Some-outcome_by-clause-ran g c =
     let hs = highs c.args.sides (λ x. x.now) in
     let R = run_of (setting_of u c.args.bound hs) c.args.script in
     let m = c.run_unit-ended.new.machine in
+    let x = c.run_unit-ended.result in
+    let led = c.run_unit-ended.ensures.ended in
+    let e = run-over u c.args.bound hs c.args.script c.in-Ok.machine m x (c.in-Ok.ensures.value ∙ ap (first_machine c.args.script) c.in-Some.ensures) led in
     let o = c.in-Some-outcome_by.outcome in
-    let v = run-over u c.args.bound hs c.args.script c.in-Ok.machine m c.run_unit-ended.result o (c.in-Ok.ensures.value ∙ ap (first_machine c.args.script) c.in-Some.ensures) c.run_unit-ended.ensures.ended (sym c.in-Some-outcome_by.ensures) in
-    ran-as R o m.moment c.answer.result v c.answer.ensures.ran
+    let v = over R x o m.moment led.bytes led.events (sym c.in-Some-outcome_by.ensures) e in
+    ran-as R o m.moment led.bytes led.events c.answer.result v c.answer.ensures.ran
 
 pub returns-in-Some-outcome_by-clause-gains : goal.returns-in-Some-outcome_by-clause-gains
 returns-in-Some-outcome_by-clause-gains g c =
@@ -24,9 +26,12 @@ returns-in-Some-outcome_by-clause-gains g c =
     let hs = highs c.args.sides (λ x. x.now) in
     let R = run_of (setting_of u c.args.bound hs) c.args.script in
     let m = c.run_unit-ended.new.machine in
+    let x = c.run_unit-ended.result in
+    let led = c.run_unit-ended.ensures.ended in
+    let e = run-over u c.args.bound hs c.args.script c.in-Ok.machine m x (c.in-Ok.ensures.value ∙ ap (first_machine c.args.script) c.in-Some.ensures) led in
     let o = c.in-Some-outcome_by.outcome in
-    let v = run-over u c.args.bound hs c.args.script c.in-Ok.machine m c.run_unit-ended.result o (c.in-Ok.ensures.value ∙ ap (first_machine c.args.script) c.in-Some.ensures) c.run_unit-ended.ensures.ended (sym c.in-Some-outcome_by.ensures) in
-    subst (λ (xs : List ℕ). OnOk c.answer.result (Gains (g.O.Sink.written c.args.out.now) (g.O.Sink.written c.answer.new.out) xs)) (same-output R o m.moment v) c.answer.ensures.gains
+    let v = over R x o m.moment led.bytes led.events (sym c.in-Some-outcome_by.ensures) e in
+    gained R o m.moment led.bytes led.events c.answer.result _ _ _ v led.streams.gains c.answer.ensures.gains
 
 pub returns-in-Some-outcome_by-clause-part : goal.returns-in-Some-outcome_by-clause-part
 returns-in-Some-outcome_by-clause-part g c =
@@ -34,9 +39,15 @@ returns-in-Some-outcome_by-clause-part g c =
     let hs = highs c.args.sides (λ x. x.now) in
     let R = run_of (setting_of u c.args.bound hs) c.args.script in
     let m = c.run_unit-ended.new.machine in
+    let x = c.run_unit-ended.result in
+    let led = c.run_unit-ended.ensures.ended in
+    let e = run-over u c.args.bound hs c.args.script c.in-Ok.machine m x (c.in-Ok.ensures.value ∙ ap (first_machine c.args.script) c.in-Some.ensures) led in
     let o = c.in-Some-outcome_by.outcome in
-    let v = run-over u c.args.bound hs c.args.script c.in-Ok.machine m c.run_unit-ended.result o (c.in-Ok.ensures.value ∙ ap (first_machine c.args.script) c.in-Some.ensures) c.run_unit-ended.ensures.ended (sym c.in-Some-outcome_by.ensures) in
-    subst (λ (xs : List ℕ). OnErr c.answer.result (GainsPrefix (g.O.Sink.written c.args.out.now) (g.O.Sink.written c.answer.new.out) xs)) (same-output R o m.moment v) c.answer.ensures.part
+    let v = over R x o m.moment led.bytes led.events (sym c.in-Some-outcome_by.ensures) e in
+    gained-part R o m.moment led.bytes led.events c.answer.result _ _ _ v led.streams.gains c.answer.ensures.part
+
+pub returns-in-Some-outcome_by-clause-cause : goal.returns-in-Some-outcome_by-clause-cause
+returns-in-Some-outcome_by-clause-cause g c = fault-later c.answer.result _ _ _ c.run_unit-ended.ensures.cause.later c.answer.ensures.cause
 
 pub returns-in-Some-outcome_by-clause-told : goal.returns-in-Some-outcome_by-clause-told
 returns-in-Some-outcome_by-clause-told g c =
@@ -44,6 +55,36 @@ returns-in-Some-outcome_by-clause-told g c =
     let hs = highs c.args.sides (λ x. x.now) in
     let R = run_of (setting_of u c.args.bound hs) c.args.script in
     let m = c.run_unit-ended.new.machine in
+    let x = c.run_unit-ended.result in
+    let led = c.run_unit-ended.ensures.ended in
+    let e = run-over u c.args.bound hs c.args.script c.in-Ok.machine m x (c.in-Ok.ensures.value ∙ ap (first_machine c.args.script) c.in-Some.ensures) led in
     let o = c.in-Some-outcome_by.outcome in
-    let v = run-over u c.args.bound hs c.args.script c.in-Ok.machine m c.run_unit-ended.result o (c.in-Ok.ensures.value ∙ ap (first_machine c.args.script) c.in-Some.ensures) c.run_unit-ended.ensures.ended (sym c.in-Some-outcome_by.ensures) in
-    subst (λ (es : List Marked). ToldOr c.answer.result (hall_slots c.args.hall.now (λ z. (goal.Watch-dyn g z).its_kind z.1) (λ z. (goal.Watch-dyn g z).its_wants z.1) (λ z. (goal.Watch-dyn g z).seen z.1)) (hall_slots c.answer.new.hall (λ z. (goal.Watch-dyn g z).its_kind z.1) (λ z. (goal.Watch-dyn g z).its_wants z.1) (λ z. (goal.Watch-dyn g z).seen z.1)) (map event_of es) u.names) (same-events R o m.moment v) c.answer.ensures.told
+    let v = over R x o m.moment led.bytes led.events (sym c.in-Some-outcome_by.ensures) e in
+    let a = outlet (g.O.Sink.written c.args.out.now) c.args.hall.now (λ z. (goal.Watch-dyn g z).its_kind z.1) (λ z. (goal.Watch-dyn g z).its_wants z.1) (λ z. (goal.Watch-dyn g z).seen z.1) in
+    let q = outlet (g.O.Sink.written c.run_unit-ended.new.out) c.run_unit-ended.new.hall (λ z. (goal.Watch-dyn g z).its_kind z.1) (λ z. (goal.Watch-dyn g z).its_wants z.1) (λ z. (goal.Watch-dyn g z).seen z.1) in
+    let z = outlet (g.O.Sink.written c.answer.new.out) c.answer.new.hall (λ z. (goal.Watch-dyn g z).its_kind z.1) (λ z. (goal.Watch-dyn g z).its_wants z.1) (λ z. (goal.Watch-dyn g z).seen z.1) in
+    told-end R o m.moment led.bytes led.events u.names c.answer.result a q z v (streams-over x o a q u.names led.bytes led.events (sym c.in-Some-outcome_by.ensures) led.streams) c.answer.ensures.part c.answer.ensures.told
+
+pub returns-clause-part : goal.returns-clause-part
+returns-clause-part g c =
+    let u = c.args.u.now in
+    let hs = highs c.args.sides (λ x. x.now) in
+    let R = run_of (setting_of u c.args.bound hs) c.args.script in
+    let m = c.run_unit-ended.new.machine in
+    let x = c.run_unit-ended.result in
+    let led = c.run_unit-ended.ensures.ended in
+    let e = run-over u c.args.bound hs c.args.script c.in-Ok.machine m x (c.in-Ok.ensures.value ∙ ap (first_machine c.args.script) c.in-Some.ensures) led in
+    lost-part R x m.moment led.bytes led.events u.names (outlet (g.O.Sink.written c.args.out.now) c.args.hall.now (λ z. (goal.Watch-dyn g z).its_kind z.1) (λ z. (goal.Watch-dyn g z).its_wants z.1) (λ z. (goal.Watch-dyn g z).seen z.1)) (outlet (g.O.Sink.written c.run_unit-ended.new.out) c.run_unit-ended.new.hall (λ z. (goal.Watch-dyn g z).its_kind z.1) (λ z. (goal.Watch-dyn g z).its_wants z.1) (λ z. (goal.Watch-dyn g z).seen z.1)) e led.streams
+
+pub returns-clause-told : goal.returns-clause-told
+returns-clause-told g c =
+    let u = c.args.u.now in
+    let hs = highs c.args.sides (λ x. x.now) in
+    let R = run_of (setting_of u c.args.bound hs) c.args.script in
+    let m = c.run_unit-ended.new.machine in
+    let x = c.run_unit-ended.result in
+    let led = c.run_unit-ended.ensures.ended in
+    let e = run-over u c.args.bound hs c.args.script c.in-Ok.machine m x (c.in-Ok.ensures.value ∙ ap (first_machine c.args.script) c.in-Some.ensures) led in
+    let a = outlet (g.O.Sink.written c.args.out.now) c.args.hall.now (λ z. (goal.Watch-dyn g z).its_kind z.1) (λ z. (goal.Watch-dyn g z).its_wants z.1) (λ z. (goal.Watch-dyn g z).seen z.1) in
+    let q = outlet (g.O.Sink.written c.run_unit-ended.new.out) c.run_unit-ended.new.hall (λ z. (goal.Watch-dyn g z).its_kind z.1) (λ z. (goal.Watch-dyn g z).its_wants z.1) (λ z. (goal.Watch-dyn g z).seen z.1) in
+    subst (λ (y : RunError). ToldOr (Err y) a q (end_of R) u.names) (sym c.error_by.ensures) (lost-told R x m.moment led.bytes led.events u.names a q e led.streams)

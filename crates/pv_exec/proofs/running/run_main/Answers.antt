@@ -1,127 +1,62 @@
-use Rattle.std.proofs.Common.{◌∙◌, ap, sym, subst}
-use Rattle.pv_typed.specs.TypedUnits.{WholeUnit, TypedFunction, function_at}
-use Rattle.pv_world.specs.Coming.{wrong_for}
-use Rattle.pv_eval.specs.States.{Turns, Stopped}
-use Rattle.pv_eval.specs.Moments.{state_of}
-use Rattle.pv_eval.specs.Machines.{ended}
-use Rattle.pv_exec.specs.declared.turning.Last.{Last}
-use Rattle.pv_exec.specs.Calls.{below, runs_body, call_body}
-use Rattle.pv_exec.specs.Tasks.{left}
-use Rattle.pv_exec.specs.Turning.{LastIs}
-use Rattle.pv_exec.specs.declared.running.Ended.{Ended}
-use Rattle.pv_exec.specs.Running.{ends_call, EndedIs}
-use Rattle.pv_exec.proofs.Pieces.{setting-stays, before-stays}
-use Rattle.pv_exec.proofs.Turns.{keeps-setting}
-use Rattle.pv_exec.proofs.Mains.{runs-first, holds-first, left_by, main-begins, main-not-begun, main-left, main-stops, main-valued, ended-is}
-use Rattle.std.specs.Prelude.{length, []}
+use Rattle.std.proofs.Common.{◌∙◌, ap, sym}
+use Rattle.pv_typed.specs.TypedUnits.{TypedFunction}
+use Rattle.pv_exec.specs.Running.{ended_by, main_called}
+use Rattle.pv_exec.proofs.Mains.{runs-first}
+use Rattle.pv_exec.proofs.MainPieces.{piece-left, piece-valued, piece-turns, piece-stops, piece-fails, piece-unbegun, piece-as, led-as, cause-calm}
 use Rattle.pv_exec.proofs.running.run_main.Goals as goal
 
 pub run_statements-requires-clause-runs : goal.run_statements-requires-clause-runs
-run_statements-requires-clause-runs c = runs-first c.args.unit.now c.args.f c.body_of.result c.begin_function.new.machine.started c.body_of.ensures.does
+run_statements-requires-clause-runs g c = runs-first c.args.unit.now c.args.f c.body_of.result c.begin_function.new.machine.started c.body_of.ensures.does
 
-pub returns-in-Err : goal.returns-in-Err
-returns-in-Err c = record {
-  ended = λ b out es hs hl q.
-      let u = c.args.unit.now in
-      let f = c.args.f in
-      let s = state_of c.args.machine.now.moment out es in
-      let s1 = state_of c.begin_function.new.machine.moment out es in
-      let line = sym (ap (λ (x : TypedFunction). x.line) (ap (λ (w : WholeUnit). function_at w f) hs.unit ∙ c.function.ensures.function)) in
-      subst (λ (x : Ended). EndedIs (call_body b (below b b.bound) (function_at b.unit f) [] (function_at b.unit f).line s) x s1) (sym c.ended_by.ensures)
-      (main-not-begun b u f c.function.result.line s s1 c.in-Err.e hs.unit line (c.in-Err.ensures.made b out es hs hl));
-}
+pub returns-in-Err-clause-ended : goal.returns-in-Err-clause-ended
+returns-in-Err-clause-ended g c =
+    let line = sym (ap (λ (x : TypedFunction). x.line) c.function.ensures.function) in
+    piece-as c.args.unit.now c.args.bound (main_called c.args.f) (ended_by c.in-Err.e) c.ended_by.result c.args.machine.now c.begin_function.new.machine c.ended_by.ensures
+    (piece-unbegun _ c.args.unit.now c.args.bound c.args.f c.function.result.line c.args.machine.now c.begin_function.new.machine c.in-Err.e c.in-Err.ensures.made line)
 
-pub returns-in-Some-Left : goal.returns-in-Some-Left
-returns-in-Some-Left c = record {
-  ended = λ b out es hs hl q.
-      let u = c.args.unit.now in
-      let f = c.args.f in
-      let old = c.args.machine.now in
-      let m1 = c.begin_function.new.machine in
-      let m2 = c.run_statements.new.machine in
-      let st = c.in-Ok.ensures.stays in
-      let s = state_of old.moment out es in
-      let s1 = state_of m1.moment out es in
-      let s2 = state_of m2.moment out es in
-      let hs1 = setting-stays b u old.moment m1.moment st hs in
-      let hl1 = before-stays old.moment m1.moment out st hl in
-      let F = function_at b.unit f in
-      let line = sym (ap (λ (x : TypedFunction). x.line) (ap (λ (w : WholeUnit). function_at w f) hs.unit ∙ c.function.ensures.function)) in
-      let m = runs_body b (below b b.bound) F.body s1 in
-      let e = main-begins b u f c.function.result.line s s1 hs.unit line (c.in-Ok.ensures.made b out es hs hl) in
-      let held = holds-first b u f c.body_of.result m1.started s1 hs.unit c.body_of.ensures.does (c.in-Ok.ensures.started ∙ c.requires.none) (st.taken ∙ c.requires.fresh) in
-      let h = subst (λ (l : Last). LastIs (left m) l m2.started s2) c.in-Some-Left.field-0-is (c.in-Some-Left.ensures.ended b out es hs1 hl1 (left m) q held) in
-      let k = c.run_statements.ensures.setting in
-      ended-is (ends_call b f F.line c.in-Some-Left.flow s2) (call_body b (below b b.bound) F [] F.line s) c.end_main.result (state_of c.end_main.new.machine.moment out es)
-      (main-left b f F.line c.in-Some-Left.flow m s2 (call_body b (below b b.bound) F [] F.line s) e h)
-      (c.end_main.ensures.ended b out es (keeps-setting b u m1.moment m2.moment k hs1) (k.total (length out) hl1) F.line);
-}
+pub returns-in-Ok-Left-clause-ended : goal.returns-in-Ok-Left-clause-ended
+returns-in-Ok-Left-clause-ended g c =
+    let u = c.args.unit.now in
+    let m1 = c.begin_function.new.machine in
+    let m2 = c.run_statements.new.machine in
+    let line = sym (ap (λ (x : TypedFunction). x.line) c.function.ensures.function) in
+    piece-left _ _ u c.args.bound c.args.f c.function.result.line c.body_of.result c.args.machine.now m1 m2 c.in-Ok.ensures.made line c.in-Ok.ensures.stays c.requires.fresh (c.in-Ok.ensures.started ∙ c.requires.none) c.body_of.ensures.does
+    c.in-Ok-Left.flow c.end_main.result c.end_main.new.machine (led-as u c.args.bound c.body_of.result _ _ m1 m2 c.in-Ok-Left.field-0-is c.in-Ok-Left.ensures.ended) c.end_main.ensures.ended
 
-pub returns-in-Some-Valued : goal.returns-in-Some-Valued
-returns-in-Some-Valued c = record {
-  ended = λ b out es hs hl q.
-      let u = c.args.unit.now in
-      let f = c.args.f in
-      let old = c.args.machine.now in
-      let m1 = c.begin_function.new.machine in
-      let m2 = c.run_statements.new.machine in
-      let st = c.in-Ok.ensures.stays in
-      let s = state_of old.moment out es in
-      let s1 = state_of m1.moment out es in
-      let s2 = state_of m2.moment out es in
-      let hs1 = setting-stays b u old.moment m1.moment st hs in
-      let hl1 = before-stays old.moment m1.moment out st hl in
-      let F = function_at b.unit f in
-      let line = sym (ap (λ (x : TypedFunction). x.line) (ap (λ (w : WholeUnit). function_at w f) hs.unit ∙ c.function.ensures.function)) in
-      let m = runs_body b (below b b.bound) F.body s1 in
-      let e = main-begins b u f c.function.result.line s s1 hs.unit line (c.in-Ok.ensures.made b out es hs hl) in
-      let held = holds-first b u f c.body_of.result m1.started s1 hs.unit c.body_of.ensures.does (c.in-Ok.ensures.started ∙ c.requires.none) (st.taken ∙ c.requires.fresh) in
-      let h = subst (λ (l : Last). LastIs (left m) l m2.started s2) c.in-Some-Valued.field-0-is (c.in-Some-Valued.ensures.ended b out es hs1 hl1 (left m) q held) in
-      main-valued m (ended m2.started) s2 h;
-}
+pub returns-in-Ok-Valued-clause-ended : goal.returns-in-Ok-Valued-clause-ended
+returns-in-Ok-Valued-clause-ended g c =
+    let u = c.args.unit.now in
+    let m1 = c.begin_function.new.machine in
+    let m2 = c.run_statements.new.machine in
+    let line = sym (ap (λ (x : TypedFunction). x.line) c.function.ensures.function) in
+    piece-valued _ _ u c.args.bound c.args.f c.function.result.line c.body_of.result c.args.machine.now m1 m2 c.in-Ok.ensures.made line c.in-Ok.ensures.stays c.requires.fresh (c.in-Ok.ensures.started ∙ c.requires.none) c.body_of.ensures.does
+    _ (led-as u c.args.bound c.body_of.result _ _ m1 m2 c.in-Ok-Valued.field-0-is c.in-Ok-Valued.ensures.ended)
 
-pub returns-in-Some-Turns : goal.returns-in-Some-Turns
-returns-in-Some-Turns c = record {
-  ended = λ b out es hs hl q.
-      let u = c.args.unit.now in
-      let f = c.args.f in
-      let old = c.args.machine.now in
-      let m1 = c.begin_function.new.machine in
-      let m2 = c.run_statements.new.machine in
-      let st = c.in-Ok.ensures.stays in
-      let s = state_of old.moment out es in
-      let s1 = state_of m1.moment out es in
-      let s2 = state_of m2.moment out es in
-      let hs1 = setting-stays b u old.moment m1.moment st hs in
-      let hl1 = before-stays old.moment m1.moment out st hl in
-      let F = function_at b.unit f in
-      let line = sym (ap (λ (x : TypedFunction). x.line) (ap (λ (w : WholeUnit). function_at w f) hs.unit ∙ c.function.ensures.function)) in
-      let m = runs_body b (below b b.bound) F.body s1 in
-      let e = main-begins b u f c.function.result.line s s1 hs.unit line (c.in-Ok.ensures.made b out es hs hl) in
-      let held = holds-first b u f c.body_of.result m1.started s1 hs.unit c.body_of.ensures.does (c.in-Ok.ensures.started ∙ c.requires.none) (st.taken ∙ c.requires.fresh) in
-      let h = subst (λ (l : Last). LastIs (left m) l m2.started s2) c.in-Some-Turns.field-0-is (c.in-Some-Turns.ensures.ended b out es hs1 hl1 (left m) q held) in
-      main-stops m (left_by b f F.line) Turns s2 (call_body b (below b b.bound) F [] F.line s) e h;
-}
+pub returns-in-Ok-Turns-clause-ended : goal.returns-in-Ok-Turns-clause-ended
+returns-in-Ok-Turns-clause-ended g c =
+    let u = c.args.unit.now in
+    let m1 = c.begin_function.new.machine in
+    let m2 = c.run_statements.new.machine in
+    let line = sym (ap (λ (x : TypedFunction). x.line) c.function.ensures.function) in
+    piece-turns _ _ u c.args.bound c.args.f c.function.result.line c.body_of.result c.args.machine.now m1 m2 c.in-Ok.ensures.made line c.in-Ok.ensures.stays c.requires.fresh (c.in-Ok.ensures.started ∙ c.requires.none) c.body_of.ensures.does
+    (led-as u c.args.bound c.body_of.result _ _ m1 m2 c.in-Ok-Turns.field-0-is c.in-Ok-Turns.ensures.ended)
 
-pub returns-in-Some-Stop : goal.returns-in-Some-Stop
-returns-in-Some-Stop c = record {
-  ended = λ b out es hs hl q.
-      let u = c.args.unit.now in
-      let f = c.args.f in
-      let old = c.args.machine.now in
-      let m1 = c.begin_function.new.machine in
-      let m2 = c.run_statements.new.machine in
-      let st = c.in-Ok.ensures.stays in
-      let s = state_of old.moment out es in
-      let s1 = state_of m1.moment out es in
-      let s2 = state_of m2.moment out es in
-      let hs1 = setting-stays b u old.moment m1.moment st hs in
-      let hl1 = before-stays old.moment m1.moment out st hl in
-      let F = function_at b.unit f in
-      let line = sym (ap (λ (x : TypedFunction). x.line) (ap (λ (w : WholeUnit). function_at w f) hs.unit ∙ c.function.ensures.function)) in
-      let m = runs_body b (below b b.bound) F.body s1 in
-      let e = main-begins b u f c.function.result.line s s1 hs.unit line (c.in-Ok.ensures.made b out es hs hl) in
-      let held = holds-first b u f c.body_of.result m1.started s1 hs.unit c.body_of.ensures.does (c.in-Ok.ensures.started ∙ c.requires.none) (st.taken ∙ c.requires.fresh) in
-      let h = subst (λ (l : Last). LastIs (left m) l m2.started s2) c.in-Some-Stop.field-0-is (c.in-Some-Stop.ensures.ended b out es hs1 hl1 (left m) q held) in
-      main-stops m (left_by b f F.line) (Stopped (wrong_for c.in-Some-Stop.cause) c.in-Some-Stop.line) s2 (call_body b (below b b.bound) F [] F.line s) e h;
-}
+pub returns-in-Ok-Stop-clause-ended : goal.returns-in-Ok-Stop-clause-ended
+returns-in-Ok-Stop-clause-ended g c =
+    let u = c.args.unit.now in
+    let m1 = c.begin_function.new.machine in
+    let m2 = c.run_statements.new.machine in
+    let line = sym (ap (λ (x : TypedFunction). x.line) c.function.ensures.function) in
+    piece-stops _ _ u c.args.bound c.args.f c.function.result.line c.body_of.result c.args.machine.now m1 m2 c.in-Ok.ensures.made line c.in-Ok.ensures.stays c.requires.fresh (c.in-Ok.ensures.started ∙ c.requires.none) c.body_of.ensures.does
+    c.in-Ok-Stop.cause c.in-Ok-Stop.line (led-as u c.args.bound c.body_of.result _ _ m1 m2 c.in-Ok-Stop.field-0-is c.in-Ok-Stop.ensures.ended)
+
+pub returns-in-Err-run_statements-clause-ended : goal.returns-in-Err-run_statements-clause-ended
+returns-in-Err-run_statements-clause-ended g c =
+    let m1 = c.begin_function.new.machine in
+    let m2 = c.run_statements.new.machine in
+    let line = sym (ap (λ (x : TypedFunction). x.line) c.function.ensures.function) in
+    piece-fails _ _ c.args.unit.now c.args.bound c.args.f c.function.result.line c.body_of.result c.args.machine.now m1 m2 c.in-Ok.ensures.made line c.in-Ok.ensures.stays c.requires.fresh (c.in-Ok.ensures.started ∙ c.requires.none) c.body_of.ensures.does
+    c.in-Err-run_statements.e c.in-Err-run_statements.ensures.ended
+
+pub returns-in-Ok-Left-clause-cause : goal.returns-in-Ok-Left-clause-cause
+returns-in-Ok-Left-clause-cause g c = cause-calm c.end_main.result _ _ c.end_main.ensures.calm c.in-Ok-Left.ensures.cause

@@ -1,0 +1,153 @@
+-- The call of `main` and the whole run, from how the statements ended.
+use Rattle.std.proofs.Common.{◌≡◌, ℕ, List, [], ◌++◌, None, Some, sym, ap, ◌∙◌, subst}
+use Rattle.std.specs.Prelude.{length, Result, Ok, Err}
+use Rattle.pv_typed.specs.TypedUnits.{WholeUnit, function_at}
+use Rattle.pv_typed.specs.Mains.{main_of}
+use Rattle.pv_typed.specs.Tables.{Stored, whole}
+use Rattle.pv_world.specs.Worlds.{Worth}
+use Rattle.pv_world.specs.Coming.{wrong_for}
+use Rattle.pv_world.specs.declared.got.Cause.{Cause}
+use Rattle.pv_eval.specs.declared.failure.Failure.{Failure}
+use Rattle.pv_eval.specs.declared.marked.Marked.{Marked}
+use Rattle.pv_eval.specs.States.{Setting, State, Turns, Stopped, Res, then_do}
+use Rattle.pv_eval.specs.Moments.{IsSetting, Follows, Stays, Always, Made, state_of}
+use Rattle.pv_eval.specs.Machines.{Machine, ended}
+use Rattle.pv_exec.specs.declared.delivering.Undelivered.{Undelivered}
+use Rattle.pv_exec.specs.declared.running.Ended.{Ended}
+use Rattle.pv_exec.specs.declared.running.Ended.TheVariants as ending
+use Rattle.pv_exec.specs.declared.turning.Last.{Last}
+use Rattle.pv_exec.specs.declared.turning.Last.TheVariants as last
+use Rattle.pv_exec.specs.declared.task.Doing.{Doing}
+use Rattle.pv_exec.specs.declared.task.Flow.{Flow}
+use Rattle.pv_exec.specs.Calls.{below, runs_body}
+use Rattle.pv_exec.specs.Called.{begun, BodyIs}
+use Rattle.pv_exec.specs.Preparing.{prepare}
+use Rattle.pv_exec.specs.Tasks.{left}
+use Rattle.pv_exec.specs.declared.delivering.Undelivered.TheVariants as undelivered
+use Rattle.pv_exec.specs.Streaming.{Outlet, DeliveryCause}
+use Rattle.pv_exec.specs.Running.{LastOr, StatementsLed, EndLed, PieceLed, ends_call, ended_by, failed, main_called, whole_run, IsCalm}
+use Rattle.pv_exec.proofs.Pieces.{setting-stays, before-stays}
+use Rattle.pv_exec.proofs.Streaming.{streams-fail, streams-first, setting-apart, total-apart}
+use Rattle.pv_exec.proofs.Mains.{holds-first, left_by, main-begins, main-not-begun, main-left, main-stops, main-valued, main-lost, ended-is, ended-nothing, unit-ends, unit-stops}
+
+module _ (o o' : Outlet) (u : Stored) (n f line : ℕ) (d : Doing) (old m1 m2 : Machine) (made : Always u old.moment (λ b out es. Made (begun b line (function_at (whole u) f) [] (state_of old.moment out es)) (Ok tt) (state_of m1.moment out es))) (there : line ≡ (function_at (whole u) f).line) (st : Stays old.moment m1.moment) (fresh : old.moment.taken ≡ 0) (none : m1.started ≡ []) (body : BodyIs u f d) where
+  begins : (b : Setting) (out : List ℕ) (es : List Marked) → IsSetting b u old.moment → Follows old.moment (length out) → main_called f b (state_of old.moment out es) ≡ then_do (runs_body b (below b b.bound) (function_at b.unit f).body (state_of m1.moment out es)) (left_by b f (function_at b.unit f).line)
+  begins b out es hs hl = main-begins b u f line (state_of old.moment out es) (state_of m1.moment out es) hs.unit (there ∙ ap (λ (w : WholeUnit). (function_at w f).line) (sym hs.unit)) (made b out es hs hl)
+
+  statements : (r : Result Last Undelivered) (led : StatementsLed u o o' n d r m1 m2) (b : Setting) (out : List ℕ) (es : List Marked) → IsSetting b u old.moment → Follows old.moment (length out) → b.bound ≡ n → LastOr (left (runs_body b (below b b.bound) (function_at b.unit f).body (state_of m1.moment out es))) r m2 (out ++ led.bytes) (es ++ led.events)
+  statements r led b out es hs hl q =
+      let s1 = state_of m1.moment out es in
+      led.led b out es (setting-stays b u old.moment m1.moment st hs) (before-stays old.moment m1.moment out st hl) (left (runs_body b (below b b.bound) (function_at b.unit f).body s1)) q
+      (holds-first b u f d m1.started s1 hs.unit body none (st.taken ∙ fresh))
+
+  -- its body was left
+  pub piece-left : (fl : Flow) (x : Ended) (m3 : Machine) → StatementsLed u o o' n d (Ok (last.Left fl)) m1 m2 → EndLed u f fl x m2 m3 → PieceLed u o o' n (main_called f) x old m3
+  piece-left fl x m3 led e = record {
+    bytes = led.bytes;
+    events = led.events;
+    streams = streams-fail (failed x) led.streams;
+    led = λ b out es hs hl q.
+        let F = function_at b.unit f in
+        let m = runs_body b (below b b.bound) F.body (state_of m1.moment out es) in
+        let out' = out ++ led.bytes in
+        let es' = es ++ led.events in
+        let s2 = state_of m2.moment out' es' in
+        let hs1 = setting-stays b u old.moment m1.moment st hs in
+        let hl1 = before-stays old.moment m1.moment out st hl in
+        ended-is (ends_call b f F.line fl s2) (main_called f b (state_of old.moment out es)) x m3.moment out' es'
+        (main-left b f F.line fl m s2 (main_called f b (state_of old.moment out es)) (begins b out es hs hl) (statements (Ok (last.Left fl)) led b out es hs hl q))
+        (e b out' es' (setting-apart b u led.bytes m1.moment m2.moment led.keeps hs1) (total-apart out led.bytes m1.moment m2.moment led.keeps hl1) F.line);
+  }
+
+  -- no statement ends with the value of an expression
+  pub piece-valued : (x : Ended) → StatementsLed u o o' n d (Ok last.Valued) m1 m2 → PieceLed u o o' n (main_called f) x old m2
+  piece-valued x led = record {
+    bytes = led.bytes;
+    events = led.events;
+    streams = streams-fail (failed x) led.streams;
+    led = λ b out es hs hl q.
+        let m = runs_body b (below b b.bound) (function_at b.unit f).body (state_of m1.moment out es) in
+        main-valued m (ended m2.started) (state_of m2.moment (out ++ led.bytes) (es ++ led.events)) (statements (Ok last.Valued) led b out es hs hl q);
+  }
+
+  pub piece-turns : StatementsLed u o o' n d (Ok last.Turns) m1 m2 → PieceLed u o o' n (main_called f) ending.Turns old m2
+  piece-turns led = record {
+    bytes = led.bytes;
+    events = led.events;
+    streams = led.streams;
+    led = λ b out es hs hl q.
+        let F = function_at b.unit f in
+        let m = runs_body b (below b b.bound) F.body (state_of m1.moment out es) in
+        main-stops m (left_by b f F.line) Turns (state_of m2.moment (out ++ led.bytes) (es ++ led.events)) (main_called f b (state_of old.moment out es)) (begins b out es hs hl) (statements (Ok last.Turns) led b out es hs hl q);
+  }
+
+  pub piece-stops : (y : Cause) (at : ℕ) → StatementsLed u o o' n d (Ok (last.Stop y at)) m1 m2 → PieceLed u o o' n (main_called f) (ending.Stop y at) old m2
+  piece-stops y at led = record {
+    bytes = led.bytes;
+    events = led.events;
+    streams = led.streams;
+    led = λ b out es hs hl q.
+        let F = function_at b.unit f in
+        let m = runs_body b (below b b.bound) F.body (state_of m1.moment out es) in
+        main-stops m (left_by b f F.line) (Stopped (wrong_for y) at) (state_of m2.moment (out ++ led.bytes) (es ++ led.events)) (main_called f b (state_of old.moment out es)) (begins b out es hs hl) (statements (Ok (last.Stop y at)) led b out es hs hl q);
+  }
+
+  -- they could not go on
+  pub piece-fails : (e : Undelivered) → StatementsLed u o o' n d (Err e) m1 m2 → PieceLed u o o' n (main_called f) (ending.Failed e) old m2
+  piece-fails e led = record {
+    bytes = led.bytes;
+    events = led.events;
+    streams = led.streams;
+    led = λ b out es hs hl q.
+        let F = function_at b.unit f in
+        let m = runs_body b (below b b.bound) F.body (state_of m1.moment out es) in
+        main-lost b f F.line m (main_called f b (state_of old.moment out es)) (out ++ led.bytes) (es ++ led.events) (begins b out es hs hl) (statements (Err e) led b out es hs hl q);
+  }
+
+-- the body did not begin
+pub piece-unbegun : (o : Outlet) (u : Stored) (n f line : ℕ) (old m1 : Machine) (e : Failure) → Always u old.moment (λ b out es. Made (begun b line (function_at (whole u) f) [] (state_of old.moment out es)) (Err e) (state_of m1.moment out es)) → line ≡ (function_at (whole u) f).line → PieceLed u o o n (main_called f) (ended_by e) old m1
+piece-unbegun o u n f line old m1 e made there = record {
+  bytes = [];
+  events = [];
+  streams = streams-first o u.names (failed (ended_by e));
+  led = λ b out es hs hl q.
+      ended-nothing (main_called f b (state_of old.moment out es)) (ended_by e) m1.moment out es
+      (main-not-begun b u f line old.moment m1.moment out es e hs.unit (there ∙ ap (λ (w : WholeUnit). (function_at w f).line) (sym hs.unit)) (made b out es hs hl));
+}
+
+-- the whole run
+pub piece-whole : {o o' : Outlet} (u : Stored) (n f : ℕ) (x : Ended) (old m1 m2 : Machine) → Always u old.moment (λ b out es. Made (prepare b (state_of old.moment out es)) (Ok tt) (state_of m1.moment out es)) → main_of (whole u) ≡ Some f → Stays old.moment m1.moment → PieceLed u o o' n (main_called f) x m1 m2 → PieceLed u o o' n whole_run x old m2
+piece-whole u n f x old m1 m2 made is st led = record {
+  bytes = led.bytes;
+  events = led.events;
+  streams = led.streams;
+  led = λ b out es hs hl q.
+      let s = state_of old.moment out es in
+      let s1 = state_of m1.moment out es in
+      ended-is (main_called f b s1) (whole_run b s) x m2.moment (out ++ led.bytes) (es ++ led.events)
+      (unit-ends b f s s1 (made b out es hs hl) (ap main_of hs.unit ∙ is))
+      (led.led b out es (setting-stays b u old.moment m1.moment st hs) (before-stays old.moment m1.moment out st hl) q);
+}
+
+pub piece-unprepared : (o : Outlet) (u : Stored) (n : ℕ) (old m1 : Machine) (e : Failure) → Always u old.moment (λ b out es. Made (prepare b (state_of old.moment out es)) (Err e) (state_of m1.moment out es)) → PieceLed u o o n whole_run (ended_by e) old m1
+piece-unprepared o u n old m1 e made = record {
+  bytes = [];
+  events = [];
+  streams = streams-first o u.names (failed (ended_by e));
+  led = λ b out es hs hl q. ended-nothing (whole_run b (state_of old.moment out es)) (ended_by e) m1.moment out es (unit-stops b e old.moment m1.moment out es (made b out es hs hl));
+}
+
+-- the same by equal names
+pub led-as : {o o' : Outlet} (u : Stored) (n : ℕ) (d : Doing) (l l' : Last) (old new : Machine) → l ≡ l' → StatementsLed u o o' n d (Ok l) old new → StatementsLed u o o' n d (Ok l') old new
+led-as {o} {o'} u n d l l' old new e h = subst (λ (x : Last). StatementsLed u o o' n d (Ok x) old new) e h
+
+pub piece-as : {o o' : Outlet} (u : Stored) (n : ℕ) (piece : Setting → State → Res Worth) (x y : Ended) (old new : Machine) → y ≡ x → PieceLed u o o' n piece x old new → PieceLed u o o' n piece y old new
+piece-as {o} {o'} u n piece x y old new e h = subst (λ (z : Ended). PieceLed u o o' n piece z old new) (sym e) h
+
+-- where no write failed, none is the cause
+pub cause-calm : (x : Ended) (a b : ℕ) → IsCalm x → DeliveryCause None a b → DeliveryCause (failed x) a b
+cause-calm (ending.Value v) a b q h = h
+cause-calm ending.Turns a b q h = h
+cause-calm (ending.Stop y line) a b q h = h
+cause-calm (ending.Failed undelivered.NoMemory) a b q h = record { later = h.later; rose = tt }
+cause-calm (ending.Failed undelivered.WriteFault) a b q h = absurd q

@@ -1,0 +1,18 @@
+-- What comes later in a run comes to what there is: bytes that were printed and events that came stay as they are (C17 5.1.2.3).
+use Rattle.std.specs.Prelude.{◌≡◌, ℕ, ◌≤◌, List, ◌++◌}
+use Rattle.pv_typed.specs.Children.{Each}
+use Rattle.pv_eval.specs.declared.marked.Marked.{Marked}
+use Rattle.pv_eval.specs.States.{State}
+
+-- an event of this turn or of a later one
+abbrev pub IsFrom : (turn : ℕ) → Marked → Type 0
+IsFrom n m = n ≤ m.event.turn
+
+-- from one moment to a later one, where nothing comes before this turn
+pub record Grew (turn : ℕ) (s t : State) : Type 0 where
+  pub taken : turn ≤ t.taken
+  pub more : List Marked
+  pub events : t.events ≡ s.events ++ more
+  pub later : Each (IsFrom turn) more
+  pub bytes : List ℕ
+  pub output : t.output ≡ s.output ++ bytes
