@@ -1,64 +1,126 @@
--- A source comes to one verdict, and one byte above the limit tells as much as all that follow.
-use Rattle.std.proofs.Common.{◌≡◌, ℕ, ◌+◌, ◌<◌, ◌≤◌, List, take, length, refl, sym, ◌∙◌, subst, arith, inl, inr}
+-- A source with its script comes to one verdict, or is run; and one byte above a limit tells as much as all that follow.
+use Rattle.std.proofs.Common.{◌≡◌, ◌⊎◌, ℕ, ◌+◌, ◌<◌, ◌≤◌, List, [], take, length, refl, sym, ap, ◌∙◌, subst, arith, inl, inr}
 use Rattle.std.proofs.lemmas.Bool.{cases_lt}
-use Rattle.std.proofs.lemmas.List.{take_all, length-take}
-use Rattle.std.specs.Prelude.{Result, Ok, Err, IfOk}
-use Rattle.pv_serve.specs.declared.judging.Judgement.{Judgement}
+use Rattle.std.specs.Prelude.{Result, Ok, Err, Some}
+use Rattle.pv_script.specs.declared.scripts.ScriptError.{ScriptError}
+use Rattle.pv_script.specs.Lines.{ScriptLine}
+use Rattle.pv_script.specs.Scripts.{script_of}
+use Rattle.pv_typed.specs.TypedUnits.{WholeUnit}
+use Rattle.pv_world.specs.Worlds.{Worth}
+use Rattle.pv_eval.specs.States.{Res}
+use Rattle.pv_exec.specs.declared.outcome.Outcome.{Outcome}
+use Rattle.pv_describe.specs.Describing.{check_text, layout_text}
 use Rattle.pv_serve.specs.declared.words.Task.{Task}
-use Rattle.pv_serve.specs.Judged.{Judged, Oversize, Sized, source_limit}
+use Rattle.pv_serve.specs.declared.words.Task.TheVariants as task
+use Rattle.pv_serve.specs.Verdicts.{Refusal, Verdict, Ending, Ended, Described, Refused, Size, Script}
+use Rattle.pv_serve.specs.Readings.{Reading, Program, Bad}
+use Rattle.pv_serve.specs.Comes.{Comes, source_limit}
+use Rattle.pv_serve.specs.Judged.{Judged, Oversize, Unread, Unfit, Fit, UnitGives, RunEnds, Ends, IsToRun, IsLeftToRun, BothRun}
 use Rattle.pv_serve.proofs.ComesLemmas.{comes_to_one, comes_to_some}
-use Rattle.pv_serve.specs.Verdicts.{Verdict, Refused, Size, verdict_of}
-use Rattle.pv_serve.specs.Comes.{Comes}
 
-pub source_limit_is : source_limit ≡ 1048576
-unfolding source_limit
-source_limit_is = refl
+-- ---- one end of a run
 
-pub one_verdict : (source : List ℕ) (task : Task) (v w : Verdict) → Judged source task v → Judged source task w → v ≡ w
-one_verdict source task v w (Oversize long p) (Oversize long' q) = p ∙ sym q
-one_verdict source task v w (Oversize long p) (Sized short q) = absurd (omega arith)
-one_verdict source task v w (Sized short p) (Oversize long q) = absurd (omega arith)
-one_verdict source task v w (Sized short p) (Sized short' q) = comes_to_one source task v w p q
+abbrev ending : Outcome → ℕ → List ℕ → List (List ℕ) → Ending
+ending o turns output names = record { outcome = o; turns = turns; output = output; names = names }
 
-pub some_verdict : (source : List ℕ) (task : Task) → (v : Verdict) × Judged source task v
-some_verdict source task = elim (cases_lt source_limit (length source)) as (λ _. (v : Verdict) × Judged source task v) [
-  | inl long ↦ (Refused Size, Oversize long refl)
-  | inr short ↦ let c = comes_to_some source task in (c.0, Sized (omega arith) c.1)
+some_same : {A : Type 0} (x y : A) → Some x ≡ Some y → x ≡ y
+some_same x y e = cc
+
+pub one_end : (run : Res Worth) (names : List (List ℕ)) (e f : Ending) → Ends run names e → Ends run names f → e ≡ f
+one_end run names e f a b =
+    ap (λ (o : Outcome). ending o e.turns e.output e.names) (some_same e.outcome f.outcome (sym a.outcome ∙ b.outcome))
+    ∙ ap (λ (n : ℕ). ending f.outcome n e.output e.names) (a.turns ∙ sym b.turns)
+    ∙ ap (λ (bytes : List ℕ). ending f.outcome f.turns bytes e.names) (a.output ∙ sym b.output)
+    ∙ ap (λ (texts : List (List ℕ)). ending f.outcome f.turns f.output texts) (a.names ∙ sym b.names)
+
+-- ---- some verdict
+
+abbrev Has : (source script : List ℕ) → Task → Type 0
+Has source script t = ((v : Verdict) × Judged source script t v) ⊎ IsLeftToRun source script t
+
+has_unit : (source script : List ℕ) (t : Task) (lines : List ScriptLine) (unit : WholeUnit) → length source ≤ source_limit → script_of script ≡ Ok lines
+    → Comes source (Program unit) → Has source script t
+has_unit source script (task.Run bound) lines unit short e c = inr (record {
+  job = record { bound = bound; asks = refl; lines = lines; unit = unit; short = short; reads = e; comes = c };
+  verdict = λ f ends. Fit lines unit short e c (f, ends, refl);
+})
+has_unit source script task.Check lines unit short e c = inl (Described (check_text unit), Fit lines unit short e c refl)
+has_unit source script task.Layout lines unit short e c = inl (Described (layout_text unit), Fit lines unit short e c refl)
+
+has_reading : (source script : List ℕ) (t : Task) (lines : List ScriptLine) (r : Reading) → length source ≤ source_limit → script_of script ≡ Ok lines
+    → Comes source r → Has source script t
+has_reading source script t lines (Program unit) short e c = has_unit source script t lines unit short e c
+has_reading source script t lines (Bad refusal) short e c = inl (Refused refusal, Unfit lines refusal short e c refl)
+
+has_script : (source script : List ℕ) (t : Task) (r : Result (List ScriptLine) ScriptError) → length source ≤ source_limit → script_of script ≡ r → Has source script t
+has_script source script t (Err why) short e = inl (Script why, Unread why short e refl)
+has_script source script t (Ok lines) short e = let c = comes_to_some source in has_reading source script t lines c.0 short e c.1
+
+pub some_verdict : (source script : List ℕ) (t : Task) → Has source script t
+some_verdict source script t = elim (cases_lt source_limit (length source)) as (λ _. Has source script t) [
+  | inl long ↦ inl (Refused Size, Oversize long refl)
+  | inr short ↦ has_script source script t (script_of script) (omega arith) refl
 ]
 
--- the same for any limit
-long_part : (limit : ℕ) (all : List ℕ) → limit < length all → length (take (limit + 1) all) ≡ limit + 1
-long_part limit all long = simp length-take (omega arith)
+-- ---- no other
 
-short_part : (limit : ℕ) (all : List ℕ) → length all ≤ limit → take (limit + 1) all ≡ all
-short_part limit all short = take_all (limit + 1) all (omega arith)
+abbrev Meet : (source script : List ℕ) → Task → (v w : Verdict) → Type 0
+Meet source script t v w = (v ≡ w) ⊎ BothRun source script t v w
 
-too_long : (task : Task) (v : Verdict) (xs ys : List ℕ) → source_limit < length xs → source_limit < length ys → Judged xs task v → Judged ys task v
-too_long task v xs ys long long' (Oversize l p) = Oversize long' p
-too_long task v xs ys long long' (Sized short p) = absurd (omega arith)
+ok_same : {A E : Type 0} (x y : A) → ◌≡◌ {A = Result A E} (Ok x) (Ok y) → x ≡ y
+ok_same x y e = cc
 
-pub more_decides : (all : List ℕ) (task : Task) (v : Verdict) → Judged (take (source_limit + 1) all) task v → Judged all task v
-more_decides all task v judged = elim (cases_lt source_limit (length all)) [
-  | inl long ↦ too_long task v (take (source_limit + 1) all) all (omega (arith, long_part source_limit all long)) long judged
-  | inr short ↦ subst (λ (s : List ℕ). Judged s task v) (short_part source_limit all short) judged
-]
+err_same : {A E : Type 0} (x y : E) → ◌≡◌ {A = Result A E} (Err x) (Err y) → x ≡ y
+err_same x y e = cc
 
-pub fewer_decide : (all : List ℕ) (task : Task) (v : Verdict) → Judged all task v → Judged (take (source_limit + 1) all) task v
-fewer_decide all task v judged = elim (cases_lt source_limit (length all)) [
-  | inl long ↦ too_long task v all (take (source_limit + 1) all) long (omega (arith, long_part source_limit all long)) judged
-  | inr short ↦ subst (λ (s : List ℕ). Judged s task v) (sym (short_part source_limit all short)) judged
-]
+ok_err : {A E : Type 0} (x : A) (y : E) → ◌≡◌ {A = Result A E} (Ok x) (Err y) → ⊥
+ok_err x y e = cc
 
--- a source above the number that the limit is
-pub refused_by_size : (source : List ℕ) (task : Task) → 1048576 < length source → Judged source task (Refused Size)
-refused_by_size source task long = Oversize (omega (arith, source_limit_is)) refl
+bad_same : (r s : Refusal) → Bad r ≡ Bad s → r ≡ s
+bad_same r s e = cc
 
--- a source up to it
-pub judged_within : (source : List ℕ) (task : Task) (v : Verdict) → length source ≤ 1048576 → Comes source task v → Judged source task v
-judged_within source task v short comes = Sized (omega (arith, source_limit_is)) comes
+program_same : (u v : WholeUnit) → Program u ≡ Program v → u ≡ v
+program_same u v e = cc
 
--- the same for an answer that may be want of memory
-pub judged_if : {E : Type 0} (source : List ℕ) (task : Task) (r : Result Judgement E) → length source ≤ 1048576
-    → IfOk r (λ j. Comes source task (verdict_of j)) → IfOk r (λ j. Judged source task (verdict_of j))
-judged_if source task (Ok j) short comes = judged_within source task (verdict_of j) short comes
-judged_if source task (Err e) short comes = tt
+program_bad : (u : WholeUnit) (r : Refusal) → Program u ≡ Bad r → ⊥
+program_bad u r e = cc
+
+gives_one : (source script : List ℕ) (t : Task) (lines : List ScriptLine) (unit : WholeUnit) (v w : Verdict) → length source ≤ source_limit
+    → script_of script ≡ Ok lines → Comes source (Program unit) → UnitGives unit lines t v → UnitGives unit lines t w → Meet source script t v w
+gives_one source script (task.Run bound) lines unit v w short e c g h = inr (record {
+  job = record { bound = bound; asks = refl; lines = lines; unit = unit; short = short; reads = e; comes = c };
+  one = g.0;
+  other = h.0;
+  ends = g.1;
+  others = h.1;
+  is_one = g.2;
+  is_other = h.2;
+})
+gives_one source script task.Check lines unit v w short e c g h = inl (g ∙ sym h)
+gives_one source script task.Layout lines unit v w short e c g h = inl (g ∙ sym h)
+
+fits_meet : (source script : List ℕ) (t : Task) (ls ms : List ScriptLine) (u x : WholeUnit) (v w : Verdict) → length source ≤ source_limit
+    → script_of script ≡ Ok ls → script_of script ≡ Ok ms → Comes source (Program u) → Comes source (Program x) → UnitGives u ls t v → UnitGives x ms t w → Meet source script t v w
+fits_meet source script t ls ms u x v w short e f c d g h =
+    let lines : ms ≡ ls = ok_same ms ls (sym f ∙ e) in
+    let units : x ≡ u = program_same x u (comes_to_one source (Program x) (Program u) d c) in
+    gives_one source script t ls u v w short e c g
+    (subst (λ (k : WholeUnit). UnitGives k ls t w) units (subst (λ (k : List ScriptLine). UnitGives x k t w) lines h))
+
+pub one_verdict : (source script : List ℕ) (t : Task) (v w : Verdict) → Judged source script t v → Judged source script t w → Meet source script t v w
+one_verdict source script t v w (Oversize l p) (Oversize m q) = inl (p ∙ sym q)
+one_verdict source script t v w (Oversize l p) (Unread y m f q) = absurd (omega arith)
+one_verdict source script t v w (Oversize l p) (Unfit ms s m f d q) = absurd (omega arith)
+one_verdict source script t v w (Oversize l p) (Fit ms x m f d h) = absurd (omega arith)
+one_verdict source script t v w (Unread y l e p) (Oversize m q) = absurd (omega arith)
+one_verdict source script t v w (Unread y l e p) (Unread z m f q) = inl (p ∙ ap Script (err_same y z (sym e ∙ f)) ∙ sym q)
+one_verdict source script t v w (Unread y l e p) (Unfit ms s m f d q) = absurd (ok_err ms y (sym f ∙ e))
+one_verdict source script t v w (Unread y l e p) (Fit ms x m f d h) = absurd (ok_err ms y (sym f ∙ e))
+one_verdict source script t v w (Unfit ls r l e c p) (Oversize m q) = absurd (omega arith)
+one_verdict source script t v w (Unfit ls r l e c p) (Unread z m f q) = absurd (ok_err ls z (sym e ∙ f))
+one_verdict source script t v w (Unfit ls r l e c p) (Unfit ms s m f d q) = inl (p ∙ ap Refused (bad_same r s (comes_to_one source (Bad r) (Bad s) c d)) ∙ sym q)
+one_verdict source script t v w (Unfit ls r l e c p) (Fit ms x m f d h) = absurd (program_bad x r (comes_to_one source (Program x) (Bad r) d c))
+one_verdict source script t v w (Fit ls u l e c g) (Oversize m q) = absurd (omega arith)
+one_verdict source script t v w (Fit ls u l e c g) (Unread z m f q) = absurd (ok_err ls z (sym e ∙ f))
+one_verdict source script t v w (Fit ls u l e c g) (Unfit ms s m f d q) = absurd (program_bad u s (comes_to_one source (Program u) (Bad s) c d))
+one_verdict source script t v w (Fit ls u l e c g) (Fit ms x m f d h) = fits_meet source script t ls ms u x v w l e f c d g h

@@ -3,5 +3,8 @@ pub mod WordsLemmas
 pub mod TypedLemmas
 pub mod ComesLemmas
 pub mod JudgedLemmas
+pub mod Limits
+pub mod RunLemmas
+pub mod FilesLemmas
 pub mod CausesLemmas
 pub mod ReportLemmas

@@ -1,10 +1,11 @@
 -- The digits of a number, one after the other.
-use Rattle.std.proofs.Common.{◌≡◌, ◌≢◌, ℕ, ◌+◌, ◌-◌, ◌*◌, ◌<◌, ◌≤◌, List, [], ◌∷◌, Bool, true, false, drop, get_or, length, refl, sym, ◌∙◌, ap, arith, add-one, drop-cons}
-use Rattle.std.specs.Prelude.{Option, Some, None, IfSome, if◌then◌else◌, ◌==◌}
+use Rattle.std.proofs.Common.{◌≡◌, ◌≢◌, ℕ, ◌+◌, ◌-◌, ◌*◌, ◌<◌, ◌≤◌, List, [], ◌∷◌, Bool, true, false, take, drop, get_or, length, refl, sym, ◌∙◌, ap, arith, add-one, drop-cons}
+use Rattle.std.specs.Prelude.{Option, Some, None, IfSome, if◌then◌else◌, ◌==◌, option_and_then, String, string_bytes}
 use Rattle.std.specs.Char.{is_ascii_digit}
-use Rattle.std.proofs.lemmas.List.{drop_all}
+use Rattle.std.proofs.lemmas.List.{drop_all, take_all}
+use Rattle.std.specs.declared.alloc.Global.{Global}
 use Rattle.std.proofs.lemmas.Bool.Decides.{nat_tests}
-use Rattle.pv_serve.specs.Words.{digits_from, up_to, turns_of}
+use Rattle.pv_serve.specs.Words.{digits_from, up_to, turns_of, Options, options, with_option, texts}
 
 if_some : (b : Bool) (o : Option ℕ) (m n : ℕ) → m ≤ n → IfSome o (λ k. n ≤ k) → IfSome (if b then o else None) (λ k. m ≤ k)
 if_some true None m n le h = tt
@@ -74,3 +75,19 @@ spells_some n (d ∷ ds) i some first end e =
 -- what `is_empty` answers
 pub has_some : (b : Bool) (ds : List ℕ) → b ≡ (length ds == 0) → b ≡ false → 0 < length ds
 has_some b ds is none = grind (arith, nat_tests)
+
+-- ---- options: two words more
+
+rest_is : (v w : String Global) (rest : List (String Global)) → take (length (v ∷ w ∷ rest) - 2) rest ≡ rest
+rest_is v w rest = take_all (length (v ∷ w ∷ rest) - 2) rest (omega arith)
+
+pub two_more : (ws : List (String Global)) (x y : String Global) (a b : List ℕ) (o p : Options) → 2 ≤ length ws → x ≡ get_or ws 0 x → y ≡ get_or ws 1 y → a ≡ string_bytes x → b ≡ string_bytes y
+    → with_option o a b ≡ Some p → options o (texts ws) ≡ options p (texts (take (length ws - 2) (drop 2 ws)))
+two_more [] x y a b o p h ex ey ea eb e = absurd (omega arith)
+two_more (v ∷ []) x y a b o p h ex ey ea eb e = absurd (omega arith)
+two_more (v ∷ w ∷ rest) x y a b o p h ex ey ea eb e =
+    let first : a ≡ string_bytes v = ea ∙ ap (λ (s : String Global). string_bytes s) ex in
+    let second : b ≡ string_bytes w = eb ∙ ap (λ (s : String Global). string_bytes s) ey in
+    let given : with_option o (string_bytes v) (string_bytes w) ≡ Some p =
+    ap (λ (k : List ℕ). with_option o k (string_bytes w)) (sym first) ∙ ap (λ (k : List ℕ). with_option o a k) (sym second) ∙ e in
+    ap (λ (q : Option Options). option_and_then (λ r. options r (texts rest)) q) given ∙ ap (λ (l : List (String Global)). options p (texts l)) (sym (rest_is v w rest))

@@ -4,7 +4,7 @@ use Rattle.std.specs.Prelude.{◌≡◌, ◌≢◌, ◌⊎◌, ℕ, List, [], Op
 use Rattle.pv_script.specs.Outside.{Rose, Gains, GainsPrefix}
 use Rattle.pv_serve.specs.Words.{Job, job, files_of}
 use Rattle.pv_serve.specs.Report.{fault_line}
-use Rattle.pv_serve.specs.Answer.{Answer, SomeAnswer, EachAnswer}
+use Rattle.pv_serve.specs.Answer.{Answer, SomeAnswer, SomeOutput}
 
 -- a sink before and after the call
 pub record Sunk : Type 0 where
@@ -40,9 +40,15 @@ Wrote sink bytes = Gains sink.old sink.new bytes
 abbrev pub WrotePrefix : Sunk → List ℕ → Type 0
 WrotePrefix sink bytes = GainsPrefix sink.old sink.new bytes
 
--- a prefix of the output, and of the report nothing unless all of the output was written
-abbrev pub WroteInOrder : Call → Answer → Type 0
-WroteInOrder c a = (Wrote c.out a.out × WrotePrefix c.report a.report) ⊎ (WrotePrefix c.out a.out × Wrote c.report [])
+-- all of the output, and a prefix of the report
+pub record WroteReport (out report : Sunk) (a : Answer) : Type 0 where
+  pub whole : Wrote out a.out
+  pub begun : WrotePrefix report a.report
+
+-- a prefix of the output, and of the report nothing
+pub record WroteOutput (out report : Sunk) (output : List ℕ) : Type 0 where
+  pub begun : WrotePrefix out output
+  pub nothing : Wrote report []
 
 -- status 11
 pub record ReadFault (c : Call) : Type 0 where
@@ -59,12 +65,12 @@ pub record LostReadFault (c : Call) : Type 0 where
 -- status 12
 pub record WriteFault (c : Call) : Type 0 where
   pub cause : SinkRose c.out ⊎ SinkRose c.report
-  pub wrote : SomeAnswer (job c.words) c.held (WroteInOrder c) ⊎ LostReadFault c
+  pub wrote : SomeAnswer (job c.words) c.held (WroteReport c.out c.report) ⊎ (SomeOutput (job c.words) c.held (WroteOutput c.out c.report) ⊎ LostReadFault c)
 
 -- status 13
 pub record NoMemory (c : Call) : Type 0 where
   pub is_job : IsSome (job c.words)
-  pub out : EachAnswer (job c.words) c.held (λ a. WrotePrefix c.out a.out)
+  pub out : Wrote c.out [] ⊎ SomeOutput (job c.words) c.held (WrotePrefix c.out)
   pub report : Wrote c.report []
 
 -- any other status

@@ -1,14 +1,90 @@
--- What a source comes to, by the task that is done with it.
-use Rattle.std.specs.Prelude.{◌≡◌, ℕ, ◌<◌, ◌≤◌, List, length}
+-- What a source with a script of addresses comes to, by the task that is done with it.
+use Rattle.std.specs.Prelude.{◌≡◌, ℕ, ◌<◌, ◌≤◌, List, length, Ok, Err, None, Some}
+use Rattle.pv_script.specs.declared.scripts.ScriptError.{ScriptError}
+use Rattle.pv_script.specs.Lines.{ScriptLine}
+use Rattle.pv_script.specs.Scripts.{script_of}
+use Rattle.pv_typed.specs.TypedUnits.{WholeUnit}
+use Rattle.pv_typed.specs.Tables.{Stored, whole}
+use Rattle.pv_typed.specs.Formed.{AreKnown}
+use Rattle.pv_describe.specs.Describing.{check_text, layout_text}
+use Rattle.pv_world.specs.Worlds.{Worth}
+use Rattle.pv_eval.specs.States.{Res}
+use Rattle.pv_exec.specs.Run.{setting_of, run_of, outcome_of}
+use Rattle.pv_exec.specs.Answering.{end_of}
 use Rattle.pv_serve.specs.declared.words.Task.{Task}
-use Rattle.pv_serve.specs.Verdicts.{Verdict, Refused, Size}
-use Rattle.pv_serve.specs.Comes.{Comes}
+use Rattle.pv_serve.specs.declared.words.Task.TheVariants as task
+use Rattle.pv_serve.specs.Verdicts.{Refusal, Verdict, Ending, Ended, Described, Refused, Size, Script}
+use Rattle.pv_serve.specs.Readings.{Program, Bad}
+use Rattle.pv_serve.specs.Comes.{Comes, source_limit}
 
--- The most bytes of a source. C17 leaves such a limit to the implementation (5.2.4.1).
-unfoldable pub source_limit : ℕ
-source_limit = 1048576
+-- how a run ends, in a unit with these names
+pub record Ends (run : Res Worth) (texts : List (List ℕ)) (e : Ending) : Type 0 where
+  pub outcome : outcome_of run ≡ Some e.outcome
+  pub turns : e.turns ≡ (end_of run).taken
+  pub output : e.output ≡ (end_of run).output
+  pub names : e.names ≡ texts
 
--- A source that is too long is refused by its size, whatever stands in it; any other comes to what its bytes say.
-pub data Judged (source : List ℕ) (task : Task) (verdict : Verdict) : Type 0 where
-  Oversize : source_limit < length source → verdict ≡ Refused Size → Judged source task verdict
-  Sized : length source ≤ source_limit → Comes source task verdict → Judged source task verdict
+-- The run of a unit (5.1.2.3), with its script and the bound on its turns. A run numbers the types of its unit, for the marks that stores
+-- leave (6.5p6): so it is the run of tables that stand for the unit.
+pub record IsRun (unit : WholeUnit) (lines : List ScriptLine) (bound : ℕ) (run : Res Worth) : Type 0 where
+  pub tables : Stored
+  pub stands : whole tables ≡ unit
+  pub known : AreKnown tables
+  pub is : run ≡ run_of (setting_of tables bound None) lines
+
+-- it ends so
+pub record RunEnds (unit : WholeUnit) (lines : List ScriptLine) (bound : ℕ) (e : Ending) : Type 0 where
+  pub run : Res Worth
+  pub runs : IsRun unit lines bound run
+  pub ends : Ends run unit.names e
+
+-- What is done with a unit comes to this: its run (5.1.2.3), or what describes it.
+abbrev pub UnitGives : WholeUnit → List ScriptLine → Task → Verdict → Type 0
+UnitGives unit lines (task.Run bound) verdict = (e : Ending) × RunEnds unit lines bound e × (verdict ≡ Ended e bound)
+UnitGives unit lines task.Check verdict = verdict ≡ Described (check_text unit)
+UnitGives unit lines task.Layout verdict = verdict ≡ Described (layout_text unit)
+
+-- What is first refused: a source that is too long, its script, then the source for what stands in it. A program that is refused for none of these decides.
+pub data Judged (source script : List ℕ) (t : Task) (verdict : Verdict) : Type 0 where
+  Oversize : source_limit < length source → verdict ≡ Refused Size → Judged source script t verdict
+  Unread : (why : ScriptError) → length source ≤ source_limit → script_of script ≡ Err why → verdict ≡ Script why → Judged source script t verdict
+  Unfit : (lines : List ScriptLine) (refusal : Refusal) → length source ≤ source_limit → script_of script ≡ Ok lines → Comes source (Bad refusal) → verdict ≡ Refused refusal → Judged source script t verdict
+  Fit : (lines : List ScriptLine) (unit : WholeUnit) → length source ≤ source_limit → script_of script ≡ Ok lines → Comes source (Program unit) → UnitGives unit lines t verdict → Judged source script t verdict
+
+-- a source that is a program, with a script that has a reading: what is left is to run it, at most so long
+pub record IsToRun (source script : List ℕ) (t : Task) : Type 0 where
+  pub bound : ℕ
+  pub asks : t ≡ task.Run bound
+  pub lines : List ScriptLine
+  pub unit : WholeUnit
+  pub short : length source ≤ source_limit
+  pub reads : script_of script ≡ Ok lines
+  pub comes : Comes source (Program unit)
+
+-- what its run prints, whichever way it ends (5.1.2.3p6)
+pub record Prints (source script : List ℕ) (t : Task) (out : List ℕ) : Type 0 where
+  pub job : IsToRun source script t
+  pub run : Res Worth
+  pub runs : IsRun job.unit job.lines job.bound run
+  pub output : out ≡ (end_of run).output
+
+-- ---- laws
+
+-- the most bytes of a script
+unfoldable pub script_limit : ℕ
+script_limit = 65536
+
+-- the verdict of a source that is to be run is that of its run
+pub record IsLeftToRun (source script : List ℕ) (t : Task) : Type 0 where
+  pub job : IsToRun source script t
+  pub verdict : (e : Ending) → RunEnds job.unit job.lines job.bound e → Judged source script t (Ended e job.bound)
+
+-- both are ends of its run
+pub record BothRun (source script : List ℕ) (t : Task) (v w : Verdict) : Type 0 where
+  pub job : IsToRun source script t
+  pub one : Ending
+  pub other : Ending
+  pub ends : RunEnds job.unit job.lines job.bound one
+  pub others : RunEnds job.unit job.lines job.bound other
+  pub is_one : v ≡ Ended one job.bound
+  pub is_other : w ≡ Ended other job.bound

@@ -1,7 +1,10 @@
 pub mod Words
 pub mod Verdicts
+pub mod Readings
 pub mod Comes
 pub mod Judged
 pub mod Report
+pub mod Judging
 pub mod Answer
 pub mod Causes
+pub mod Serving

@@ -2,10 +2,14 @@
 use Rattle.std.specs.Prelude.{ℕ, ℤ, List, [], ◌∷◌, ◌++◌, codes}
 use Rattle.std.specs.Fmt.{decimal, signed_decimal}
 use Rattle.pv_num.specs.declared.faults.Fault.{Fault}
+use Rattle.pv_num.specs.declared.faults.Reason.{Reason}
 use Rattle.pv_num.specs.Texts.{clause_text, reason_text}
-use Rattle.pv_starter_run.specs.declared.running.Outcome.{Outcome}
-use Rattle.pv_starter_run.specs.declared.running.Outcome.TheVariants.{Exit, Undefined, Indeterminate, Turns}
-use Rattle.pv_serve.specs.Verdicts.{Verdict, Ended, Described, Refused, Refusal, Size, Byte, Token, Profile, Syntax, Constraint, Unresolved, NoMain, Unbuilt}
+use Rattle.pv_script.specs.declared.scripts.ScriptError.{ScriptError}
+use Rattle.pv_script.specs.declared.scripts.ScriptError.TheVariants as script
+use Rattle.pv_script.specs.Names.{name_at}
+use Rattle.pv_exec.specs.declared.outcome.Outcome.{Outcome}
+use Rattle.pv_exec.specs.declared.outcome.Outcome.TheVariants as outcome
+use Rattle.pv_serve.specs.Verdicts.{Verdict, Ended, Described, Refused, Script, Refusal, Size, Byte, Token, Profile, Syntax, Constraint, Unresolved, NoMain}
 
 -- A line ends with a line feed (5.2.2).
 abbrev pub line_feed : List ℕ
@@ -17,20 +21,38 @@ undefined_line fault line turns =
     codes "undefined clause=" ++ clause_text fault.clause ++ codes " reason=" ++ reason_text fault.reason
     ++ codes " line=" ++ decimal line ++ codes " turn=" ++ decimal turns ++ line_feed
 
--- The value that `main` returned (5.1.2.2.3), and the turns. Numbers are decimal, without leading zeros.
+-- The value that `main` returned, or that `exit` was called with (5.1.2.2.3, 7.22.4.4), and the turns. Numbers are decimal, without leading zeros.
 abbrev pub exit_line : (status : ℤ) (turns : ℕ) → List ℕ
 exit_line status turns = codes "exit status=" ++ signed_decimal status ++ codes " turn=" ++ decimal turns ++ line_feed
 
--- The line of the operation that met an indeterminate value (3.19.2), and the turns.
-abbrev pub indeterminate_line : (line turns : ℕ) → List ℕ
-indeterminate_line line turns = codes "indeterminate line=" ++ decimal line ++ codes " turn=" ++ decimal turns ++ line_feed
+-- A line of the source at which a run ended, by this word, and the turns.
+abbrev pub at_line : (word : List ℕ) → (line turns : ℕ) → List ℕ
+at_line word line turns = word ++ codes " line=" ++ decimal line ++ codes " turn=" ++ decimal turns ++ line_feed
 
--- How a run ended; one that used up its turns is told by the bound alone.
-abbrev pub outcome_line : Outcome → (turns bound : ℕ) → List ℕ
-outcome_line (Exit status) turns bound = exit_line status turns
-outcome_line (Undefined fault line) turns bound = undefined_line fault line turns
-outcome_line (Indeterminate line) turns bound = indeterminate_line line turns
-outcome_line Turns turns bound = codes "turns bound=" ++ decimal bound ++ line_feed
+-- A place that the script has for an instance and that can't be given: why, its name, which of the requests for that name it is, from 1.
+abbrev pub placement_line : Reason → (name : List ℕ) → (k line turns : ℕ) → List ℕ
+placement_line reason name k line turns =
+    codes "placement reason=" ++ reason_text reason ++ codes " name=" ++ name
+    ++ (codes " k=" ++ decimal k ++ codes " line=" ++ decimal line ++ codes " turn=" ++ decimal turns ++ line_feed)
+
+-- The bytes that are live, and those that were asked for (5.2.4.1).
+abbrev pub storage_line : (live size line turns : ℕ) → List ℕ
+storage_line live size line turns =
+    codes "storage live=" ++ decimal live ++ codes " size=" ++ decimal size
+    ++ codes " line=" ++ decimal line ++ codes " turn=" ++ decimal turns ++ line_feed
+
+-- How a run ended, in a unit with these names: an indeterminate value (3.19.2), an order that is undecided (6.5.8p5), `abort` (7.22.4.1), and those
+-- above. One that used up its turns is told by the bound alone.
+abbrev pub outcome_line : Outcome → (names : List (List ℕ)) → (turns bound : ℕ) → List ℕ
+outcome_line (outcome.Exit status) names turns bound = exit_line status turns
+outcome_line (outcome.Undefined fault line) names turns bound = undefined_line fault line turns
+outcome_line (outcome.Indeterminate line) names turns bound = at_line (codes "indeterminate") line turns
+outcome_line (outcome.Undecided line) names turns bound = at_line (codes "undecided") line turns
+outcome_line (outcome.Placement reason name k line) names turns bound = placement_line reason (name_at names name) k line turns
+outcome_line (outcome.Storage live size line) names turns bound = storage_line live size line turns
+outcome_line outcome.Turns names turns bound = codes "turns bound=" ++ decimal bound ++ line_feed
+outcome_line (outcome.Abort line) names turns bound = at_line (codes "abort") line turns
+outcome_line (outcome.SidesEnded pair) names turns bound = codes "sides ended pair=" ++ decimal pair ++ line_feed
 
 -- A word that is of C17 and not of the language that is run (6.4.1).
 abbrev pub profile_line : (place : ℕ) (word : List ℕ) → List ℕ
@@ -41,8 +63,7 @@ abbrev pub unresolved_line : (name : List ℕ) → List ℕ
 unresolved_line name = codes "refused reason=unresolved name=" ++ name ++ line_feed
 
 -- A refusal: by size (5.2.4.1), by a byte (5.2.1), a token (6.4) or a word at its place from 0, by the grammar (6.9) behind so many whole
--- external declarations, by a constraint behind so many that have a typing (6.5 to 6.9), by a name (6.9p5), for want of `main` (5.1.2.2.1), or
--- unbuilt.
+-- external declarations, by a constraint behind so many that have a typing (6.5 to 6.9), by a name (6.9p5), or for want of `main` (5.1.2.2.1).
 abbrev pub refusal_line : Refusal → List ℕ
 refusal_line Size = codes "refused reason=size" ++ line_feed
 refusal_line (Byte place) = codes "refused reason=byte at=" ++ decimal place ++ line_feed
@@ -52,30 +73,48 @@ refusal_line (Syntax whole) = codes "refused reason=syntax whole=" ++ decimal wh
 refusal_line (Constraint index) = codes "refused reason=constraint index=" ++ decimal index ++ line_feed
 refusal_line (Unresolved name) = unresolved_line name
 refusal_line NoMain = codes "refused reason=main" ++ line_feed
-refusal_line Unbuilt = codes "refused reason=unbuilt" ++ line_feed
+
+-- Two lines of a script speak of one request.
+abbrev pub repeated_line : (line first : ℕ) → List ℕ
+repeated_line line first = codes "script reason=repeated line=" ++ decimal line ++ codes " first=" ++ decimal first ++ line_feed
+
+-- A script: it is too long, or this line of it, from 1, has no reading, or speaks of the request of which that line speaks first. No text is refused
+-- for want of memory.
+abbrev pub script_line : ScriptError → List ℕ
+script_line script.Size = codes "script reason=size" ++ line_feed
+script_line (script.BadLine line) = codes "script reason=line line=" ++ decimal line ++ line_feed
+script_line (script.Repeated line first) = repeated_line line first
+script_line script.NoMemory = []
 
 -- What is told of a verdict; a text that describes a source is told as it is.
 abbrev pub report_line : Verdict → List ℕ
-report_line (Ended ran bound) = outcome_line ran.outcome ran.turns bound
+report_line (Ended e bound) = outcome_line e.outcome e.names e.turns bound
 report_line (Described text) = text
 report_line (Refused refusal) = refusal_line refusal
+report_line (Script why) = script_line why
 
 abbrev pub outcome_status : Outcome → ℕ
-outcome_status (Exit status) = 0
-outcome_status (Undefined fault line) = 1
-outcome_status (Indeterminate line) = 2
-outcome_status Turns = 6
+outcome_status (outcome.Exit status) = 0
+outcome_status (outcome.Undefined fault line) = 1
+outcome_status (outcome.Indeterminate line) = 2
+outcome_status (outcome.Undecided line) = 3
+outcome_status (outcome.Placement reason name k line) = 4
+outcome_status (outcome.Storage live size line) = 5
+outcome_status outcome.Turns = 6
+outcome_status (outcome.Abort line) = 7
+outcome_status (outcome.SidesEnded pair) = 14
 
 -- The status that the program ends with (7.22.4.4p5). The status that the source's `main` returned is in the line alone.
 abbrev pub status_of : Verdict → ℕ
-status_of (Ended ran bound) = outcome_status ran.outcome
+status_of (Ended e bound) = outcome_status e.outcome
 status_of (Described text) = 0
 status_of (Refused refusal) = 8
+status_of (Script why) = 9
 
 -- The words are no job.
 abbrev pub words_line : List ℕ
 words_line = codes "words" ++ line_feed
 
--- The file that the words name could not be read.
+-- A file that the words name could not be read.
 abbrev pub fault_line : List ℕ
 fault_line = codes "fault read" ++ line_feed

@@ -11,12 +11,6 @@ impl From<AllocError> for NoMemory {
     }
 }
 
-impl From<pv_starter_run::NoMemory> for NoMemory {
-    fn from(_: pv_starter_run::NoMemory) -> Self {
-        NoMemory
-    }
-}
-
 impl From<pv_types::NoMemory> for NoMemory {
     fn from(_: pv_types::NoMemory) -> Self {
         NoMemory

@@ -1,182 +1,179 @@
-//! What a source comes to: its tokens, the unit that they are, and what is done with that.
-ghost use Rattle.std.specs.Prelude.{◌^◌, ◌≡◌, ◌+◌, ◌<◌, ◌≤◌, ℕ, List, length, take, IfOk};
-ghost use Rattle.pv_tree.specs.Rows.{tables};
-ghost use Rattle.pv_tree.specs.Units.{SpellUnit};
-ghost use Rattle.pv_typed.specs.Tables.{whole};
-ghost use Rattle.pv_typed.specs.Formed.{AreKnown};
-ghost use Rattle.pv_unit.specs.Checking.{externals_in};
-ghost use Rattle.pv_serve.specs.Words.{IsTask};
-ghost use Rattle.pv_describe.specs.Describing.{AreSmall};
-ghost use Rattle.pv_serve.specs.Verdicts.{Verdict, verdict_of};
-ghost use Rattle.pv_serve.specs.Comes.{Comes, TokensCome, UnitComes, TypedComes, ProgramComes};
-ghost use Rattle.pv_serve.specs.Judged.{Judged, source_limit};
+//! What a source comes to: it is run, or described, or refused.
+ghost use Rattle.std.specs.Prelude.{◌^◌, ◌≡◌, ◌+◌, ◌≤◌, ◌⊎◌, ℕ, List, [], length, take, None, Result, Ok, Err, IfOk, IfErr};
+ghost use Rattle.pv_script.specs.Lines.{ScriptLine};
+ghost use Rattle.pv_script.specs.Scripts.{script_of, OrNoMemory};
+ghost use Rattle.pv_script.specs.declared.scripts.ScriptError.{ScriptError};
+ghost use Rattle.pv_typed.specs.Tables.{Stored, whole};
+ghost use Rattle.pv_exec.specs.Answering.{hall_slots};
+ghost use Rattle.pv_exec.specs.Run.{setting_of, run_of};
+ghost use Rattle.pv_serve.specs.Words.{IsTask, IsBound};
+ghost use Rattle.pv_serve.specs.Verdicts.{Verdict, Ending, Described};
+ghost use Rattle.pv_serve.specs.Readings.{IsFit};
+ghost use Rattle.pv_serve.specs.Comes.{source_limit};
+ghost use Rattle.pv_serve.specs.Judged.{Judged, Ends, IsLeftToRun, BothRun, script_limit};
+ghost use Rattle.pv_serve.specs.Judging.{IsJudged, IsCutOff, IsScriptRefused, verdict_of, UnitJudged, UnitCutOff, HasFault, StayNone};
 
 use crate::NoMemory;
+use crate::checking::{Refused, SOURCE_LIMIT, typed};
 use crate::words::Task;
 use pv_describe::{check_text, layout_text};
-use pv_lex::{LexError, Tokens, tokens};
-use pv_starter_run::{Ran, program, run};
-use pv_stmt::{SynError, unit};
-use pv_tree::Unit;
+use pv_exec::{Ran, RunError, run};
+use pv_script::{Script, ScriptError, Sink, read};
 use pv_typed::TypedUnit;
-use pv_unit::{CheckError, check};
+use pv_watch::{Hall, Watch};
 use std::alloc::Global;
 
-/// The most bytes that a source may have.
-pub const SOURCE_LIMIT: usize = 1_048_576;
-
-/// Why a source has no run.
-#[derive(Drop)]
-pub enum Refused {
-    /// It is longer than 1048576 bytes (C17 5.2.4.1 leaves such limits to an implementation).
-    Size,
-    /// The byte at this place is in no token (C17 5.2.1).
-    Byte { at: u32 },
-    /// A token that begins at this place has no end, or no value (C17 6.4).
-    Token { at: u32 },
-    /// The word at this place is of C17, but not of the language that is run (C17 6.4.1, 6.4.4, 6.4.5).
-    Profile { at: u32, word: Vec<u8> },
-    /// Its tokens are no translation unit (C17 6.9). So many external declarations, and no more,
-    /// are spelled by the first of them.
-    Syntax { whole: u32 },
-    /// So many of its external declarations have a typing, and one more have none (C17 6.5 to 6.9).
-    Constraint { index: u32 },
-    /// This is the first declared name that an expression names and that nothing defines (C17 6.9p5).
-    Unresolved { name: Vec<u8> },
-    /// It defines no `main` (C17 5.1.2.2.1).
-    NoMain,
-    /// It has a typing, and is not of the language that is run so far.
-    Unbuilt,
-}
-
-/// What a source comes to.
+/// What a source and its script come to.
 #[derive(Drop)]
 pub enum Judgement {
-    /// It was run, with at most so many turns.
-    Ran { ran: Ran, bound: u64 },
+    /// The unit was run, with at most so many turns.
+    Ran {
+        ran: Ran,
+        unit: TypedUnit,
+        bound: u64,
+    },
     /// It has a typing, and this text tells of it.
-    Described { text: Vec<u8> },
-    /// It is refused.
+    Described {
+        text: Vec<u8>,
+    },
+    /// The source is refused.
     Source(Refused),
+    /// The script is refused.
+    Script(ScriptError),
 }
 
-/// Judges a source: runs it, or describes it. The only error is want of memory.
-pub fn judge(alloc: Global, source: &[u8], task: Task) -> Result<Judgement, NoMemory>
+/// Judges a source with a script of addresses: runs it, or describes it. What the run prints goes to `out`.
+///
+/// A source that is too long is refused before its script is read, the script before the source is.
+pub fn judge<O: Sink>(
+    alloc: Global,
+    source: &[u8],
+    script: &[u8],
+    task: Task,
+    out: &mut O,
+    hall: &mut Hall,
+) -> Result<Judgement, RunError>
     requires { IsTask task }
-    ensures { IfOk result (λ j. Judged source.now task (verdict_of j)) }
+    ensures judged { IfOk result (IsJudged source.now script.now task (O.written out.old) (O.written out.new)) }
+    ensures part { IfErr result (IsCutOff source.now script.now task (O.written out.old) (O.written out.new)) }
+    ensures cause { HasFault result (O.faults out.old) (O.faults out.new) }
+    ensures hall { StayNone result (hall_slots hall.old its_kind its_wants seen) (hall_slots hall.new its_kind its_wants seen) }
 {
     if source.len() > SOURCE_LIMIT {
         return Ok(Judgement::Source(Refused::Size));
     }
-    within(alloc, source, task)
+    match read(alloc, script) {
+        Ok(lines) => judge_source(alloc, source, lines, task, out, hall),
+        Err(why) => script_refused(why),
+    }
 }
 
-// Judges a source that is not too long.
-fn within(alloc: Global, source: &[u8], task: Task) -> Result<Judgement, NoMemory>
+// A script is refused for any reason but want of memory.
+fn script_refused(why: ScriptError) -> Result<Judgement, RunError>
+    ensures refused { (wanted : Result (List ScriptLine) ScriptError) → OrNoMemory {A = List ScriptLine} (λ s. s) (Err why) wanted → IfOk result (IsScriptRefused wanted) }
+    ensures memory { IfErr result (λ e. e ≡ RunError.NoMemory) }
+{
+    match why {
+        ScriptError::NoMemory => Err(RunError::NoMemory),
+        why => Ok(Judgement::Script(why)),
+    }
+}
+
+// Judges a source that is not too long, with a script that was read.
+fn judge_source<O: Sink>(
+    alloc: Global,
+    source: &[u8],
+    lines: Script,
+    task: Task,
+    out: &mut O,
+    hall: &mut Hall,
+) -> Result<Judgement, RunError>
     requires length { length source.now ≤ 2 ^ 20 }
     requires task { IsTask task }
-    ensures { IfOk result (λ j. Comes source.now task (verdict_of j)) }
+    ensures judged { (script : List ℕ) → script_of script ≡ Ok lines → IfOk result (IsJudged source.now script task (O.written out.old) (O.written out.new)) }
+    ensures part { (script : List ℕ) → script_of script ≡ Ok lines → IfErr result (IsCutOff source.now script task (O.written out.old) (O.written out.new)) }
+    ensures cause { HasFault result (O.faults out.old) (O.faults out.new) }
+    ensures hall { StayNone result (hall_slots hall.old its_kind its_wants seen) (hall_slots hall.new its_kind its_wants seen) }
 {
-    match tokens(alloc, source) {
-        Ok(tokens) => judge_tokens(alloc, &tokens, task),
-        Err(LexError::BadByte { at }) => Ok(Judgement::Source(Refused::Byte { at })),
-        Err(LexError::BadToken { at }) => Ok(Judgement::Source(Refused::Token { at })),
-        Err(LexError::Profile { at, word }) => {
-            let start = at as usize;
-            let word = Vec::from_slice(alloc, &source[start..start + word as usize])?;
-            Ok(Judgement::Source(Refused::Profile { at, word }))
-        }
-        Err(LexError::NoMemory) => Err(NoMemory),
+    match typed(alloc, source) {
+        Ok(Ok(unit)) => judge_unit(alloc, unit, lines, task, out, hall),
+        Ok(Err(refused)) => Ok(Judgement::Source(refused)),
+        Err(NoMemory) => Err(RunError::NoMemory),
     }
 }
 
-// Judges the tokens of a source.
-fn judge_tokens(alloc: Global, tokens: &Tokens, task: Task) -> Result<Judgement, NoMemory>
-    requires { IsTask task }
-    ensures { IfOk result (λ j. TokensCome tokens.now task (verdict_of j)) }
-{
-    match unit(alloc, tokens) {
-        Ok(unit) => judge_unit(alloc, tokens, &unit, task),
-        Err(SynError::Syntax { whole }) => Ok(Judgement::Source(Refused::Syntax { whole })),
-        Err(SynError::NoMemory) => Err(NoMemory),
-    }
-}
-
-// Judges a translation unit.
-fn judge_unit(
+// Does with a unit what the task says.
+fn judge_unit<O: Sink>(
     alloc: Global,
-    tokens: &Tokens,
-    unit: &Unit,
+    unit: TypedUnit,
+    lines: Script,
     task: Task,
-) -> Result<Judgement, NoMemory>
-    requires spelled { SpellUnit tokens.now.tokens (externals_in (tables unit.now)) }
+    out: &mut O,
+    hall: &mut Hall,
+) -> Result<Judgement, RunError>
+    requires fit { IsFit unit }
     requires task { IsTask task }
-    ensures { IfOk result (λ j. UnitComes tokens.now (externals_in (tables unit.now)) task (verdict_of j)) }
-{
-    match check(alloc, unit, tokens) {
-        Ok(typed) => judge_typed(alloc, tokens, &typed, task),
-        Err(CheckError::Constraint { index }) => {
-            Ok(Judgement::Source(Refused::Constraint { index }))
-        }
-        Err(CheckError::Unresolved { name }) => {
-            let text = tokens.name(name);
-            let name = Vec::from_slice(alloc, text)?;
-            Ok(Judgement::Source(Refused::Unresolved { name }))
-        }
-        Err(CheckError::NoMain) => Ok(Judgement::Source(Refused::NoMain)),
-        Err(CheckError::NoMemory) => Err(NoMemory),
-    }
-}
-
-// Does with a unit that has a typing what the task says.
-fn judge_typed(
-    alloc: Global,
-    tokens: &Tokens,
-    typed: &TypedUnit,
-    task: Task,
-) -> Result<Judgement, NoMemory>
-    requires known { AreKnown typed.now }
-    requires small { AreSmall typed.now.known }
-    requires task { IsTask task }
-    ensures { IfOk result (λ j. TypedComes tokens.now (whole typed.now) task (verdict_of j)) }
+    ensures judged { IfOk result (UnitJudged (whole unit) lines task (O.written out.old) (O.written out.new)) }
+    ensures part { IfErr result (UnitCutOff (whole unit) lines task (O.written out.old) (O.written out.new)) }
+    ensures cause { HasFault result (O.faults out.old) (O.faults out.new) }
+    ensures hall { StayNone result (hall_slots hall.old its_kind its_wants seen) (hall_slots hall.new its_kind its_wants seen) }
 {
     match task {
-        Task::Run { bound } => judge_program(alloc, tokens, bound),
-        Task::Check => Ok(Judgement::Described {
-            text: check_text(alloc, typed)?,
-        }),
-        Task::Layout => Ok(Judgement::Described {
-            text: layout_text(alloc, typed)?,
-        }),
+        Task::Run { bound } => run_unit(alloc, unit, lines, bound, out, hall),
+        Task::Check => described(check_text(alloc, &unit)),
+        Task::Layout => described(layout_text(alloc, &unit)),
     }
 }
 
-// Runs the program that the tokens are, if it is one of those that are run so far.
-fn judge_program(alloc: Global, tokens: &Tokens, bound: u64) -> Result<Judgement, NoMemory>
-    requires some { 0 < bound }
-    requires most { bound ≤ 100000000 }
-    ensures { IfOk result (λ j. ProgramComes tokens.now bound (verdict_of j)) }
+// A unit is described by this text.
+fn described(text: Result<Vec<u8>, pv_types::NoMemory>) -> Result<Judgement, RunError>
+    ensures described { (want : List ℕ) → IfOk text (λ v. v.items ≡ want) → IfOk result (λ j. verdict_of j [] ≡ Described want) }
+    ensures memory { IfErr result (λ e. e ≡ RunError.NoMemory) }
 {
-    match program(alloc, tokens)? {
-        Some(program) => Ok(Judgement::Ran {
-            ran: run(alloc, &program, bound)?,
-            bound,
-        }),
-        None => Ok(Judgement::Source(Refused::Unbuilt)),
+    match text {
+        Ok(text) => Ok(Judgement::Described { text }),
+        Err(_) => Err(RunError::NoMemory),
     }
 }
 
-/// A law: each source comes to one verdict and to no other, whatever is done with it.
+// Runs a unit, and keeps it, since the line of a run may have one of its names.
+fn run_unit<O: Sink>(
+    alloc: Global,
+    unit: TypedUnit,
+    lines: Script,
+    bound: u64,
+    out: &mut O,
+    hall: &mut Hall,
+) -> Result<Judgement, RunError>
+    requires fit { IsFit unit }
+    requires bound { IsBound bound }
+    ensures judged { IfOk result (UnitJudged (whole unit) lines (Task.Run bound) (O.written out.old) (O.written out.new)) }
+    ensures part { IfErr result (UnitCutOff (whole unit) lines (Task.Run bound) (O.written out.old) (O.written out.new)) }
+    ensures cause { HasFault result (O.faults out.old) (O.faults out.new) }
+    ensures hall { StayNone result (hall_slots hall.old its_kind its_wants seen) (hall_slots hall.new its_kind its_wants seen) }
+{
+    match run(alloc, &unit, lines, bound, None, out, hall) {
+        Ok(ran) => Ok(Judgement::Ran { ran, unit, bound }),
+        Err(error) => Err(error),
+    }
+}
+
+/// A law: a source comes to one verdict, with each script and whatever is done with it. If it is run, its verdict is an end of that run.
 pub fn one_verdict()
-    ensures some { (source : List ℕ) (task : Task) → (v : Verdict) × Judged source task v }
-    ensures one { (source : List ℕ) (task : Task) (v w : Verdict) →
-        Judged source task v → Judged source task w → v ≡ w }
+    ensures some { (source script : List ℕ) (t : Task) → ((v : Verdict) × Judged source script t v) ⊎ IsLeftToRun source script t }
+    ensures one { (source script : List ℕ) (t : Task) (v w : Verdict) → Judged source script t v → Judged source script t w → (v ≡ w) ⊎ BothRun source script t v w }
 {}
 
-/// A law: of a source that is too long, one byte above the limit tells as much as all that follow.
+/// A law: a run of the same tables, with the same script and bound, has no two ends.
+pub fn one_end()
+    ensures { (u : Stored) (lines : List ScriptLine) (bound : ℕ) (names : List (List ℕ)) (e f : Ending) →
+        Ends (run_of (setting_of u bound None) lines) names e → Ends (run_of (setting_of u bound None) lines) names f → e ≡ f }
+{}
+
+/// A law: of a source and of a script, one byte above the limit tells as much as all that follow.
 pub fn first_bytes_decide()
-    ensures more { (all : List ℕ) (task : Task) (v : Verdict) →
-        Judged (take (source_limit + 1) all) task v → Judged all task v }
-    ensures fewer { (all : List ℕ) (task : Task) (v : Verdict) →
-        Judged all task v → Judged (take (source_limit + 1) all) task v }
+    ensures more { (all text : List ℕ) (t : Task) (v : Verdict) →
+        Judged (take (source_limit + 1) all) (take (script_limit + 1) text) t v → Judged all text t v }
+    ensures fewer { (all text : List ℕ) (t : Task) (v : Verdict) →
+        Judged all text t v → Judged (take (source_limit + 1) all) (take (script_limit + 1) text) t v }
 {}

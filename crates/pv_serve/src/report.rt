@@ -1,66 +1,116 @@
-// The report on a source: one line, and the status that goes with it.
-ghost use Rattle.std.specs.Prelude.{◌≡◌, ◌<◌, IfOk, string_bytes};
+// The report: one line, and the status that goes with it.
+ghost use Rattle.std.specs.Prelude.{◌≡◌, ◌<◌, ◌⊎◌, List, ℕ, IfOk, string_bytes};
+ghost use Rattle.pv_script.specs.Names.{name_at};
 ghost use Rattle.pv_serve.specs.Report as specified;
-ghost use Rattle.pv_serve.specs.Verdicts.{verdict_of, refusal_of};
+ghost use Rattle.pv_serve.specs.Readings.{refusal_of};
+ghost use Rattle.pv_serve.specs.Judging.{verdict_of};
 
 use crate::NoMemory;
-use crate::judging::{Judgement, Refused};
-use pv_num::Fault;
-use pv_starter_run::{Outcome, Ran};
+use crate::checking::Refused;
+use crate::judging::Judgement;
+use pv_exec::{Outcome, Ran};
+use pv_num::{Fault, Reason};
+use pv_script::{Names, ScriptError};
 use std::alloc::Global;
 
 /// The status of a judgement.
 pub fn status(judgement: &Judgement) -> u8
-    ensures value { result ≡ specified.status_of (verdict_of judgement.now) }
-    ensures few { result < 10 }
+    ensures value { (printed : List ℕ) → result ≡ specified.status_of (verdict_of judgement.now printed) }
+    ensures own { (result < 10) ⊎ (result ≡ 14) }
 {
     match judgement {
         Judgement::Source(_) => 8,
+        Judgement::Script(_) => 9,
         Judgement::Described { .. } => 0,
-        Judgement::Ran { ran, .. } => match ran.outcome {
-            Outcome::Exit { .. } => 0,
-            Outcome::Undefined { .. } => 1,
-            Outcome::Indeterminate { .. } => 2,
-            Outcome::Turns => 6,
-        },
+        Judgement::Ran { ran, .. } => run_status(ran.outcome),
     }
 }
 
-/// The line that tells a judgement, with its line feed. The only error is want of memory.
+// The status of a run.
+fn run_status(outcome: Outcome) -> u8
+    ensures value { result ≡ specified.outcome_status outcome }
+    ensures own { (result < 10) ⊎ (result ≡ 14) }
+{
+    match outcome {
+        Outcome::Exit { .. } => 0,
+        Outcome::Undefined { .. } => 1,
+        Outcome::Indeterminate { .. } => 2,
+        Outcome::Undecided { .. } => 3,
+        Outcome::Placement { .. } => 4,
+        Outcome::Storage { .. } => 5,
+        Outcome::Turns => 6,
+        Outcome::Abort { .. } => 7,
+        Outcome::SidesEnded { .. } => 14,
+    }
+}
+
+/// The line that tells a judgement, with its line feed; of a source that is described, its text. The only error is want
+/// of memory.
 pub fn line(alloc: Global, judgement: &Judgement) -> Result<Vec<u8>, NoMemory>
-    ensures { IfOk result (λ v. v.items ≡ specified.report_line (verdict_of judgement.now)) }
+    ensures { (printed : List ℕ) → IfOk result (λ v. v.items ≡ specified.report_line (verdict_of judgement.now printed)) }
 {
     match judgement {
-        Judgement::Ran { ran, bound } => Ok(run_line(alloc, *ran, *bound)?.into_bytes()),
+        Judgement::Ran { ran, unit, bound } => run_line(alloc, ran, unit.names(), *bound),
         Judgement::Described { text } => Ok(Vec::from_slice(alloc, text)?),
         Judgement::Source(refused) => refusal_line(alloc, refused),
+        Judgement::Script(why) => script_line(alloc, *why),
     }
 }
 
 // The line of a run.
-fn run_line(alloc: Global, ran: Ran, bound: u64) -> Result<String, NoMemory>
-    ensures { IfOk result (λ s. string_bytes s ≡ specified.outcome_line ran.outcome ran.turns bound) }
+fn run_line(alloc: Global, ran: &Ran, names: &Names, bound: u64) -> Result<Vec<u8>, NoMemory>
+    ensures { IfOk result (λ v. v.items ≡ specified.outcome_line ran.now.outcome names.now ran.now.turns bound) }
 {
+    let turns = ran.turns;
     match ran.outcome {
-        Outcome::Exit { status } => exit_line(alloc, status, ran.turns),
-        Outcome::Undefined { fault, line } => undefined_line(alloc, fault, line, ran.turns),
-        Outcome::Indeterminate { line } => indeterminate_line(alloc, line, ran.turns),
-        Outcome::Turns => Ok(format!(in alloc; "turns bound={bound}\n")?),
+        Outcome::Exit { status } => Ok(exit_line(alloc, status, turns)?.into_bytes()),
+        Outcome::Undefined { fault, line } => {
+            Ok(undefined_line(alloc, fault, line, turns)?.into_bytes())
+        }
+        Outcome::Indeterminate { line } => {
+            Ok(at_line(alloc, "indeterminate", line, turns)?.into_bytes())
+        }
+        Outcome::Undecided { line } => Ok(at_line(alloc, "undecided", line, turns)?.into_bytes()),
+        Outcome::Placement {
+            reason,
+            name,
+            k,
+            line,
+        } => placement_line(alloc, reason, text_of(names, name), k, line, turns),
+        Outcome::Storage { live, size, line } => {
+            Ok(storage_line(alloc, live, size, line, turns)?.into_bytes())
+        }
+        Outcome::Turns => Ok(format!(in alloc; "turns bound={bound}\n")?.into_bytes()),
+        Outcome::Abort { line } => Ok(at_line(alloc, "abort", line, turns)?.into_bytes()),
+        Outcome::SidesEnded { pair } => {
+            Ok(format!(in alloc; "sides ended pair={pair}\n")?.into_bytes())
+        }
     }
 }
 
-// The line of a run whose `main` returned.
+// The text of a name, and none of a number that no name has.
+fn text_of(names: &Names, number: u32) -> &[u8]
+    ensures { result.now ≡ name_at names.now number }
+{
+    if number < names.len() {
+        names.text(number)
+    } else {
+        b""
+    }
+}
+
+// The line of a run whose `main` returned, or that called `exit`.
 fn exit_line(alloc: Global, status: i32, turns: u64) -> Result<String, NoMemory>
     ensures { IfOk result (λ s. string_bytes s ≡ specified.exit_line status turns) }
 {
     Ok(format!(in alloc; "exit status={status} turn={turns}\n")?)
 }
 
-// The line of a run that ended at an object without a value.
-fn indeterminate_line(alloc: Global, line: u32, turns: u64) -> Result<String, NoMemory>
-    ensures { IfOk result (λ s. string_bytes s ≡ specified.indeterminate_line line turns) }
+// The line of a run that ended in a line of its source, by this word.
+fn at_line(alloc: Global, word: &str, line: u32, turns: u64) -> Result<String, NoMemory>
+    ensures { IfOk result (λ s. string_bytes s ≡ specified.at_line word.now line turns) }
 {
-    Ok(format!(in alloc; "indeterminate line={line} turn={turns}\n")?)
+    Ok(format!(in alloc; "{word} line={line} turn={turns}\n")?)
 }
 
 // The line of a run that ended at an operation without defined behaviour.
@@ -72,7 +122,59 @@ fn undefined_line(alloc: Global, fault: Fault, line: u32, turns: u64) -> Result<
     Ok(format!(in alloc; "undefined clause={clause} reason={reason} line={line} turn={turns}\n")?)
 }
 
-// The line of a refusal.
+// The line of a run that ended where the instances took too much.
+fn storage_line(
+    alloc: Global,
+    live: u64,
+    size: u64,
+    line: u32,
+    turns: u64,
+) -> Result<String, NoMemory>
+    ensures { IfOk result (λ s. string_bytes s ≡ specified.storage_line live size line turns) }
+{
+    Ok(format!(in alloc; "storage live={live} size={size} line={line} turn={turns}\n")?)
+}
+
+// The line of a run that ended at a request that the script puts where it can't be.
+fn placement_line(
+    alloc: Global,
+    reason: Reason,
+    name: &[u8],
+    k: u64,
+    line: u32,
+    turns: u64,
+) -> Result<Vec<u8>, NoMemory>
+    ensures { IfOk result (λ v. v.items ≡ specified.placement_line reason name.now k line turns) }
+{
+    let reason = reason.text();
+    let mut text = format!(in alloc; "placement reason={reason} name=")?.into_bytes();
+    text.extend_from_slice(name)?;
+    let rest = format!(in alloc; " k={k} line={line} turn={turns}\n")?;
+    text.extend_from_slice(rest.as_bytes())?;
+    Ok(text)
+}
+
+// The line of a script that is refused.
+fn script_line(alloc: Global, why: ScriptError) -> Result<Vec<u8>, NoMemory>
+    ensures { IfOk result (λ v. v.items ≡ specified.script_line why) }
+{
+    let text = match why {
+        ScriptError::Size => format!(in alloc; "script reason=size\n")?,
+        ScriptError::BadLine { line } => format!(in alloc; "script reason=line line={line}\n")?,
+        ScriptError::Repeated { line, first } => repeated_line(alloc, line, first)?,
+        ScriptError::NoMemory => return Err(NoMemory),
+    };
+    Ok(text.into_bytes())
+}
+
+// The line of a script of which two lines speak of one request.
+fn repeated_line(alloc: Global, line: u32, first: u32) -> Result<String, NoMemory>
+    ensures { IfOk result (λ s. string_bytes s ≡ specified.repeated_line line first) }
+{
+    Ok(format!(in alloc; "script reason=repeated line={line} first={first}\n")?)
+}
+
+// The line of a source that is refused.
 fn refusal_line(alloc: Global, refused: &Refused) -> Result<Vec<u8>, NoMemory>
     ensures { IfOk result (λ v. v.items ≡ specified.refusal_line (refusal_of refused.now)) }
 {
@@ -87,7 +189,6 @@ fn refusal_line(alloc: Global, refused: &Refused) -> Result<Vec<u8>, NoMemory>
         )?,
         Refused::Unresolved { name } => return unresolved_line(alloc, name.as_slice()),
         Refused::NoMain => format!(in alloc; "refused reason=main\n")?,
-        Refused::Unbuilt => format!(in alloc; "refused reason=unbuilt\n")?,
     };
     Ok(text.into_bytes())
 }

@@ -1,15 +1,21 @@
 // The top call: what one call of the program does from its words to its status.
-ghost use Rattle.std.specs.Prelude.{◌≡◌, ◌≢◌, ◌⊎◌, ◌≤◌, ◌<◌, ℕ, [], List, Some, IsNone};
+ghost use Rattle.std.specs.Prelude.{◌≡◌, ◌≢◌, ◌⊎◌, ◌+◌, ℕ, [], List, take, Some, IfSome, option_map, Any, IsNone, IfOk, IsErrOf};
 ghost use Rattle.pv_script.specs.Outside.{Rose, Gains, GainsPrefix};
-ghost use Rattle.pv_serve.specs.Words.{IsTask, texts, job as job_of};
-ghost use Rattle.pv_serve.specs.Answer.{SomeVerdict, SomeAnswer};
-ghost use Rattle.pv_serve.specs.Causes.{Call, Sunk, Served, IsAnswer};
+ghost use Rattle.pv_serve.specs.Words.{IsTask, texts, job as job_of, job_by, script_files};
+ghost use Rattle.pv_serve.specs.Comes.{source_limit};
+ghost use Rattle.pv_serve.specs.Judged.{script_limit};
+ghost use Rattle.pv_serve.specs.Answer.{SomeAnswer, script_held};
+ghost use Rattle.pv_serve.specs.Causes.{Call, Served, IsAnswer, JobRose};
+ghost use Rattle.pv_serve.specs.Serving.{Answered, Reported, IsGiven, sunk};
 ghost use Rattle.pv_script.specs.Memory.{calm_held, calm_written};
 
-use crate::judging::{SOURCE_LIMIT, judge};
+use crate::checking::SOURCE_LIMIT;
+use crate::judging::{Judgement, judge};
 use crate::report::{line, status};
-use crate::words::{Task, job};
+use crate::words::{Asked, Task, job};
+use pv_exec::RunError;
 use pv_script::{CalmFiles, CalmSink, Files, ReadError, Sink, read_all, write_all};
+use pv_watch::Hall;
 use std::alloc::Global;
 
 const NO_JOB: u8 = 10;
@@ -21,6 +27,9 @@ const WRITE_FAULT: u8 = 12;
 /// The status where memory ran out.
 pub const NO_MEMORY: u8 = 13;
 
+/// The most bytes that a script may have.
+const SCRIPT_LIMIT: usize = 65_536;
+
 /// Does all that the program does, and answers its status.
 ///
 /// The words are those behind the program's name. The program's output goes to `out`, and one line to `report` once
@@ -28,15 +37,21 @@ pub const NO_MEMORY: u8 = 13;
 ///
 /// | status | when |
 /// |---|---|
-/// | 0 | the source's `main` returned (C17 5.1.2.2.3); the line has its value. Or the source has a typing, and was to be described |
+/// | 0 | the source's `main` returned, or `exit` was called (C17 5.1.2.2.3, 7.22.4.4); the line has the value. Or the source has a typing, and was to be described |
 /// | 1 | an operation had no defined behaviour (3.4.3) |
 /// | 2 | an operation met an object whose value is indeterminate (3.19.2) |
+/// | 3 | two operands have two instances in common, under different names (6.5.6p9, 6.5.8p5) |
+/// | 4 | the script has a place for an instance that can't be given |
+/// | 5 | the live instances would take more storage than there is |
 /// | 6 | the turns that the words allow were taken, and another was due |
+/// | 7 | `abort` was called (7.22.4.1) |
 /// | 8 | the source is refused |
+/// | 9 | the script is refused |
 /// | 10 | the words are no job |
-/// | 11 | the job's file could not be read |
+/// | 11 | a file that the job names could not be read |
 /// | 12 | the output or the report could not be written |
 /// | 13 | memory ran out, which may come wherever the words are a job |
+/// | 14 | a pair was made for which no side is given |
 pub fn serve<F: Files, O: Sink, R: Sink>(
     alloc: Global,
     words: &[String],
@@ -71,31 +86,129 @@ pub fn serve<F: Files, O: Sink, R: Sink>(
     let Some(asked) = job(words) else {
         return tell(report, b"words\n", NO_JOB);
     };
-    match read_all(alloc, files, asked.file, SOURCE_LIMIT) {
+    match read_given(alloc, files, asked) {
         Err(ReadError::NoMemory) => NO_MEMORY,
         Err(ReadError::Fault) => tell(report, b"fault read\n", READ_FAULT),
-        Ok(source) => run(alloc, &source, asked.task, report),
+        Ok(given) => answer(
+            alloc,
+            given.source.as_slice(),
+            given.script.as_slice(),
+            asked.task,
+            out,
+            report,
+        ),
     }
 }
 
-// Judges a source, and reports. No program of the language that is run so far has output, so there is none to write.
-fn run<R: Sink>(alloc: Global, source: &[u8], task: Task, report: &mut R) -> u8
-    requires { IsTask task }
-    ensures no_read_fault { result ≢ 11 }
-    ensures no_words { result ≢ 10 }
-    ensures write_fault { result ≡ 12 → Rose (R.faults report.old) (R.faults report.new) }
-    ensures write_order { result ≡ 12 → SomeVerdict source.now task
-        (λ a. GainsPrefix (R.written report.old) (R.written report.new) a.report) }
-    ensures no_memory { result ≡ 13 → Gains (R.written report.old) (R.written report.new) [] }
-    ensures answered { result ≢ 12 → result ≢ 13 → SomeVerdict source.now task
-        (λ a. (result ≡ a.status) × Gains (R.written report.old) (R.written report.new) a.report) }
+// The bytes of a job's files, up to one above what each may have.
+#[derive(Drop)]
+struct Given {
+    source: Vec<u8>,
+    script: Vec<u8>,
+}
+
+// Reads a job's files.
+fn read_given<F: Files>(alloc: Global, files: &mut F, asked: Asked<'_>) -> Result<Given, ReadError>
+    ensures read { IfOk result (λ g. IsGiven (job_by (λ s. s.now) asked.entry.file.now asked.entry.script asked.entry.task) (F.held files.old) g.source.items g.script.items) }
+    ensures same { (n : List ℕ) → F.held files.new n ≡ F.held files.old n }
+    ensures cause { IsErrOf result ReadError.Fault →
+        JobRose (Some (job_by (λ s. s.now) asked.entry.file.now asked.entry.script asked.entry.task)) (F.faults files.old) (F.faults files.new) }
 {
-    let Ok(judgement) = judge(alloc, source, task) else {
-        return NO_MEMORY;
-    };
-    match line(alloc, &judgement) {
+    match read_all(alloc, files, asked.file, SOURCE_LIMIT) {
+        Ok(source) => with_script(alloc, files, asked, source),
+        Err(error) => Err(error),
+    }
+}
+
+// Reads the script too, unless the source is too long.
+fn with_script<F: Files>(
+    alloc: Global,
+    files: &mut F,
+    asked: Asked<'_>,
+    source: Vec<u8>,
+) -> Result<Given, ReadError>
+    requires { IfSome (F.held files.old asked.file.now) (λ all. source.items ≡ take (source_limit + 1) all) }
+    ensures read { IfOk result (λ g. IsGiven (job_by (λ s. s.now) asked.entry.file.now asked.entry.script asked.entry.task) (F.held files.old) g.source.items g.script.items) }
+    ensures same { (n : List ℕ) → F.held files.new n ≡ F.held files.old n }
+    ensures cause { IsErrOf result ReadError.Fault →
+        Any (λ n. Rose (F.faults files.old n) (F.faults files.new n)) (script_files (option_map (λ s. s.now) asked.entry.script)) }
+{
+    if source.len() > SOURCE_LIMIT {
+        let script = Vec::new(alloc);
+        return Ok(Given { source, script });
+    }
+    match script_given(alloc, files, asked.script) {
+        Ok(script) => Ok(Given { source, script }),
+        Err(error) => Err(error),
+    }
+}
+
+// Reads a script, if one is named; where none is, it has no bytes.
+fn script_given<F: Files>(
+    alloc: Global,
+    files: &mut F,
+    name: Option<&str>,
+) -> Result<Vec<u8>, ReadError>
+    ensures read { IfOk result (λ v. IfSome (script_held (option_map (λ s. s.now) name.entry) (F.held files.old)) (λ text. v.items ≡ take (script_limit + 1) text)) }
+    ensures same { (n : List ℕ) → F.held files.new n ≡ F.held files.old n }
+    ensures cause { IsErrOf result ReadError.Fault →
+        Any (λ n. Rose (F.faults files.old n) (F.faults files.new n)) (script_files (option_map (λ s. s.now) name.entry)) }
+{
+    match name {
+        Some(name) => read_all(alloc, files, name, SCRIPT_LIMIT),
+        None => Ok(Vec::new(alloc)),
+    }
+}
+
+// Judges a source with its script, and reports. No option asks for a watcher yet, so nobody sits in the hall.
+fn answer<O: Sink, R: Sink>(
+    alloc: Global,
+    source: &[u8],
+    script: &[u8],
+    task: Task,
+    out: &mut O,
+    report: &mut R,
+) -> u8
+    requires { IsTask task }
+    ensures { Answered source.now script.now task
+        (sunk (O.written out.old) (O.written out.new) (O.faults out.old) (O.faults out.new))
+        (sunk (R.written report.old) (R.written report.new) (R.faults report.old) (R.faults report.new)) result }
+{
+    match Hall::new(alloc, Vec::new(alloc)) {
+        Ok(mut hall) => answer_in(alloc, source, script, task, out, report, &mut hall),
         Err(_) => NO_MEMORY,
-        Ok(text) => tell(report, text.as_slice(), status(&judgement)),
+    }
+}
+
+// The same before those who sit in the hall.
+fn answer_in<O: Sink, R: Sink>(
+    alloc: Global,
+    source: &[u8],
+    script: &[u8],
+    task: Task,
+    out: &mut O,
+    report: &mut R,
+    hall: &mut Hall,
+) -> u8
+    requires { IsTask task }
+    ensures { Answered source.now script.now task
+        (sunk (O.written out.old) (O.written out.new) (O.faults out.old) (O.faults out.new))
+        (sunk (R.written report.old) (R.written report.new) (R.faults report.old) (R.faults report.new)) result }
+{
+    match judge(alloc, source, script, task, out, hall) {
+        Err(RunError::NoMemory) => NO_MEMORY,
+        Err(RunError::WriteFault) => WRITE_FAULT,
+        Ok(judgement) => told(alloc, &judgement, report),
+    }
+}
+
+// Reports a judgement, by a line that is made whole first.
+fn told<R: Sink>(alloc: Global, judgement: &Judgement, report: &mut R) -> u8
+    ensures { Reported judgement.now (sunk (R.written report.old) (R.written report.new) (R.faults report.old) (R.faults report.new)) result }
+{
+    match line(alloc, judgement) {
+        Err(_) => NO_MEMORY,
+        Ok(text) => tell(report, text.as_slice(), status(judgement)),
     }
 }
 

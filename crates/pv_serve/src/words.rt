@@ -2,7 +2,7 @@
 ghost use Rattle.std.specs.Prelude.{◌≡◌, ◌<◌, ◌≤◌, ◌&&◌, nat_lt, length, codes, Some, None, MatchOption, IfSome, string_bytes};
 ghost use Rattle.std.specs.Str.{bytes_eq};
 ghost use Rattle.pv_serve.specs.Words as specified;
-ghost use Rattle.pv_serve.specs.Words.{IsTask};
+ghost use Rattle.pv_serve.specs.Words.{IsTask, AreBounded};
 
 // The largest value of `--turns`.
 const MOST_TURNS: u64 = 100_000_000;
@@ -21,63 +21,169 @@ pub enum Task {
     Layout,
 }
 
-/// A job: a task, and the file that holds the source.
+/// A job: a task, the file that holds the source, and the file that holds the script of addresses, if there is one.
 #[derive(Clone, Copy)]
 pub struct Asked<'a> {
     /// The name of the file, of at least one byte.
     pub file: &'a str,
-    /// What is to be done with it.
+    /// The name of the script's file, of at least one byte.
+    pub script: Option<&'a str>,
+    /// What is to be done with the source.
     pub task: Task,
 }
 
-/// What the words ask for, if they are a job: `run FILE`, `run FILE --turns N`, `check FILE` or `layout FILE`.
+// What the options of a run say, as far as they are read.
+#[derive(Clone, Copy)]
+struct Options<'a> {
+    script: Option<&'a str>,
+    turns: Option<u64>,
+}
+
+/// What the words ask for, if they are a job: `run FILE` with options, `check FILE` or `layout FILE`.
+///
+/// The options of a run are `--script F` and `--turns N`, each at most once and in any order.
 pub fn job(words: &[String]) -> Option<Asked<'_>>
     ensures words { MatchOption result
         (specified.job (specified.texts words.now) ≡ None)
-        (λ j. specified.job (specified.texts words.now) ≡ Some (record { file = j.file.now; task = j.task })) }
+        (λ j. specified.job (specified.texts words.now) ≡ Some (specified.job_by (λ s. s.now) j.file.now j.script j.task)) }
     ensures turns { IfSome result (λ j. IsTask j.task) }
 {
     match words {
-        [mode, file] => {
-            let task = task_of(mode.as_str())?;
-            with_file(file.as_str(), task)
-        }
-        [mode, file, option, value] => {
-            if mode.as_str() != "run" || option.as_str() != "--turns" {
-                return None;
+        [mode, file, rest @ ..] => {
+            if file.as_str().is_empty() {
+                None
+            } else {
+                asked_by(mode.as_str(), file.as_str(), rest)
             }
-            let bound = turns_of(value.as_str())?;
-            with_file(file.as_str(), Task::Run { bound })
         }
         _ => None,
     }
 }
 
-/// What a mode alone asks for; a run takes at most 1000000 turns then.
-fn task_of(mode: &str) -> Option<Task>
-    ensures value { result ≡ specified.task_of mode.now }
-    ensures turns { IfSome result IsTask }
+// What a mode asks of a file, with these words behind it.
+fn asked_by<'a>(mode: &str, file: &'a str, rest: &'a [String]) -> Option<Asked<'a>>
+    ensures words { MatchOption result
+        (specified.asked mode.now file.now (specified.texts rest.now) ≡ None)
+        (λ j. specified.asked mode.now file.now (specified.texts rest.now) ≡ Some (specified.job_by (λ s. s.now) j.file.now j.script j.task)) }
+    ensures turns { IfSome result (λ j. IsTask j.task) }
 {
     match mode {
-        "run" => Some(Task::Run {
-            bound: DEFAULT_TURNS,
-        }),
-        "check" => Some(Task::Check),
-        "layout" => Some(Task::Layout),
+        "run" => run_of(file, rest),
+        "check" => described(Task::Check, file, rest),
+        "layout" => described(Task::Layout, file, rest),
         _ => None,
     }
 }
 
-/// The job, if the file has a name.
-fn with_file(file: &str, task: Task) -> Option<Asked<'_>>
-    ensures value { MatchOption result (specified.with_file file.now task ≡ None)
-        (λ j. specified.with_file file.now task ≡ Some (record { file = j.file.now; task = j.task })) }
-    ensures same { IfSome result (λ j. j.task ≡ task) }
+// A run of a file, with these options.
+fn run_of<'a>(file: &'a str, rest: &'a [String]) -> Option<Asked<'a>>
+    ensures words { MatchOption result
+        (specified.run_of file.now (specified.texts rest.now) ≡ None)
+        (λ j. specified.run_of file.now (specified.texts rest.now) ≡ Some (specified.job_by (λ s. s.now) j.file.now j.script j.task)) }
+    ensures turns { IfSome result (λ j. IsTask j.task) }
 {
-    if file.is_empty() {
-        None
-    } else {
-        Some(Asked { file, task })
+    let none = Options {
+        script: None,
+        turns: None,
+    };
+    let options = all_options(none, rest)?;
+    let bound = options.turns.unwrap_or(DEFAULT_TURNS);
+    Some(Asked {
+        file,
+        script: options.script,
+        task: Task::Run { bound },
+    })
+}
+
+// What describes a file has no options.
+fn described<'a>(task: Task, file: &'a str, rest: &[String]) -> Option<Asked<'a>>
+    requires { IsTask task }
+    ensures words { MatchOption result
+        (specified.described task file.now (specified.texts rest.now) ≡ None)
+        (λ j. specified.described task file.now (specified.texts rest.now) ≡ Some (specified.job_by (λ s. s.now) j.file.now j.script j.task)) }
+    ensures turns { IfSome result (λ j. IsTask j.task) }
+{
+    match rest {
+        [] => Some(Asked {
+            file,
+            script: None,
+            task,
+        }),
+        _ => None,
+    }
+}
+
+// What the options say, behind those that were read: pairs of a word and its value.
+fn all_options<'a>(given: Options<'a>, words: &'a [String]) -> Option<Options<'a>>
+    requires { AreBounded given.turns }
+    ensures words { MatchOption result
+        (specified.options (specified.options_by (λ s. s.now) given.entry.script given.entry.turns) (specified.texts words.now) ≡ None)
+        (λ o. specified.options (specified.options_by (λ s. s.now) given.entry.script given.entry.turns) (specified.texts words.now) ≡ Some (specified.options_by (λ s. s.now) o.script o.turns)) }
+    ensures turns { IfSome result (λ o. AreBounded o.turns) }
+{
+    match words {
+        [] => Some(given),
+        [name, value, rest @ ..] => {
+            all_options(with_option(given, name.as_str(), value.as_str())?, rest)
+        }
+        _ => None,
+    }
+}
+
+// One option more.
+fn with_option<'a>(given: Options<'a>, name: &str, value: &'a str) -> Option<Options<'a>>
+    requires { AreBounded given.turns }
+    ensures words { MatchOption result
+        (specified.with_option (specified.options_by (λ s. s.now) given.entry.script given.entry.turns) name.now value.now ≡ None)
+        (λ o. specified.with_option (specified.options_by (λ s. s.now) given.entry.script given.entry.turns) name.now value.now ≡ Some (specified.options_by (λ s. s.now) o.script o.turns)) }
+    ensures turns { IfSome result (λ o. AreBounded o.turns) }
+{
+    match name {
+        "--script" => with_script(given, value),
+        "--turns" => with_turns(given, value),
+        _ => None,
+    }
+}
+
+// The script's file, which is named at most once.
+fn with_script<'a>(given: Options<'a>, name: &'a str) -> Option<Options<'a>>
+    requires { AreBounded given.turns }
+    ensures words { MatchOption result
+        (specified.with_script (specified.options_by (λ s. s.now) given.entry.script given.entry.turns) name.now ≡ None)
+        (λ o. specified.with_script (specified.options_by (λ s. s.now) given.entry.script given.entry.turns) name.now ≡ Some (specified.options_by (λ s. s.now) o.script o.turns)) }
+    ensures turns { IfSome result (λ o. AreBounded o.turns) }
+{
+    match given.script {
+        Some(_) => None,
+        None => {
+            if name.is_empty() {
+                None
+            } else {
+                Some(Options {
+                    script: Some(name),
+                    turns: given.turns,
+                })
+            }
+        }
+    }
+}
+
+// The bound, which is given at most once.
+fn with_turns<'a>(given: Options<'a>, text: &str) -> Option<Options<'a>>
+    ensures words { MatchOption result
+        (specified.with_turns (specified.options_by (λ s. s.now) given.entry.script given.entry.turns) text.now ≡ None)
+        (λ o. specified.with_turns (specified.options_by (λ s. s.now) given.entry.script given.entry.turns) text.now ≡ Some (specified.options_by (λ s. s.now) o.script o.turns)) }
+    ensures turns { IfSome result (λ o. AreBounded o.turns) }
+{
+    match given.turns {
+        Some(_) => None,
+        None => {
+            let turns = turns_of(text)?;
+            Some(Options {
+                script: given.script,
+                turns: Some(turns),
+            })
+        }
     }
 }
 

@@ -1,4 +1,4 @@
-//! What no clause says of numbers, tokens, memory and types: that they are those that other readers of C know.
+//! What no clause says of numbers, tokens and types: that they are those that other readers of C know.
 //!
 //! Each public call runs here once at least, and tables of values that come from elsewhere are compared. The rows of
 //! whole programs stand with `serve`, in `pvrun`.
@@ -6,8 +6,6 @@
 
 #[cfg(test)]
 mod halls;
-#[cfg(test)]
-mod memory;
 #[cfg(test)]
 mod numbers;
 #[cfg(test)]

@@ -16,16 +16,10 @@ fn main(rt: HostRuntime) -> ExitCode {
     let mut files = DiskFiles::new(&rt, alloc);
     let mut out = Printed::new(io::writer(&rt));
     let mut report = Printed::new(io::writer(&rt));
-    match words_asked(&rt, alloc) {
-        Err(_) => ExitCode::from(NO_MEMORY),
-        Ok(words) => ExitCode::from(serve(
-            alloc,
-            words.as_slice(),
-            &mut files,
-            &mut out,
-            &mut report,
-        )),
-    }
+    let Ok(words) = words_asked(&rt, alloc) else {
+        return ExitCode::from(NO_MEMORY);
+    };
+    ExitCode::from(serve(alloc, words.as_slice(), &mut files, &mut out, &mut report))
 }
 
 // The words behind the program's name. Arguments that are no text are no words; the only error is want of memory.

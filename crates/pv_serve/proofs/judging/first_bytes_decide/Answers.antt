@@ -1,4 +1,4 @@
-use Rattle.pv_serve.proofs.JudgedLemmas.{more_decides, fewer_decide}
+use Rattle.pv_serve.proofs.Limits.{more_decides, fewer_decide}
 use Rattle.pv_serve.proofs.judging.first_bytes_decide.Goals as goal
 
 pub returns-clause-more : goal.returns-clause-more

@@ -1,8 +1,43 @@
-use Rattle.pv_serve.proofs.JudgedLemmas.{refused_by_size, judged_if}
+use Rattle.std.proofs.Common.{refl, sym}
+use Rattle.pv_serve.specs.Judged.{Oversize}
+use Rattle.pv_serve.proofs.RunLemmas.{beyond, within, judged_nothing, script_if, memory_cut, memory_fault, stays}
 use Rattle.pv_serve.proofs.judging.judge.Goals as goal
 
-pub returns-then-source-gt-SOURCE_LIMIT : goal.returns-then-source-gt-SOURCE_LIMIT
-returns-then-source-gt-SOURCE_LIMIT c = refused_by_size _ _ c.if-source-gt-SOURCE_LIMIT.true
+pub returns-then-source-gt-SOURCE_LIMIT-clause-judged : goal.returns-then-source-gt-SOURCE_LIMIT-clause-judged
+returns-then-source-gt-SOURCE_LIMIT-clause-judged g c = judged_nothing _ _ _ _ _ (Oversize (beyond _ c.if-source-gt-SOURCE_LIMIT.true) refl) refl
 
-pub returns : goal.returns
-returns c = judged_if _ _ _ c.if-source-gt-SOURCE_LIMIT.false c.within.ensures
+pub returns-in-Ok-clause-judged : goal.returns-in-Ok-clause-judged
+returns-in-Ok-clause-judged g c = c.judge_source.ensures.judged c.args.script.now (sym c.in-Ok.ensures)
+
+pub returns-in-Ok-clause-part : goal.returns-in-Ok-clause-part
+returns-in-Ok-clause-part g c = c.judge_source.ensures.part c.args.script.now (sym c.in-Ok.ensures)
+
+pub returns-in-Err-clause-judged : goal.returns-in-Err-clause-judged
+returns-in-Err-clause-judged g c = script_if _ c.args.script.now _ _ _ (within _ c.if-source-gt-SOURCE_LIMIT.false) (c.script_refused.ensures.refused _ c.in-Err.ensures)
+
+pub returns-in-Err-clause-part : goal.returns-in-Err-clause-part
+returns-in-Err-clause-part g c = memory_cut _ c.args.script.now _ _ _ c.script_refused.ensures.memory
+
+pub returns-in-Err-clause-cause : goal.returns-in-Err-clause-cause
+returns-in-Err-clause-cause g c = memory_fault _ _ _ c.script_refused.ensures.memory
+
+pub returns-in-Err-clause-hall : goal.returns-in-Err-clause-hall
+returns-in-Err-clause-hall g c = stays _ _
+
+pub judge_source-requires : goal.judge_source-requires
+judge_source-requires g c = record { length = c.if-source-gt-SOURCE_LIMIT.false; task = c.requires }
+
+pub returns-then-source-gt-SOURCE_LIMIT-clause-part : goal.returns-then-source-gt-SOURCE_LIMIT-clause-part
+returns-then-source-gt-SOURCE_LIMIT-clause-part g c = tt
+
+pub returns-then-source-gt-SOURCE_LIMIT-clause-cause : goal.returns-then-source-gt-SOURCE_LIMIT-clause-cause
+returns-then-source-gt-SOURCE_LIMIT-clause-cause g c = tt
+
+pub returns-then-source-gt-SOURCE_LIMIT-clause-hall : goal.returns-then-source-gt-SOURCE_LIMIT-clause-hall
+returns-then-source-gt-SOURCE_LIMIT-clause-hall g c = λ none. none
+
+pub returns-in-Ok-clause-cause : goal.returns-in-Ok-clause-cause
+returns-in-Ok-clause-cause g c = c.judge_source.ensures.cause
+
+pub returns-in-Ok-clause-hall : goal.returns-in-Ok-clause-hall
+returns-in-Ok-clause-hall g c = c.judge_source.ensures.hall

@@ -1,17 +1,32 @@
-use Rattle.std.proofs.Common.{refl, ◌∙◌}
-use Rattle.pv_serve.proofs.TypedLemmas.{typed_if, breaks, lacks, mainless}
+use Rattle.pv_serve.proofs.RunLemmas.{check_judged, layout_judged, memory_cut_unit, memory_fault, stays, task_judged, task_cut, task_bound}
 use Rattle.pv_serve.proofs.judging.judge_unit.Goals as goal
 
-pub returns-in-Ok : goal.returns-in-Ok
-returns-in-Ok c = typed_if _ _ _ _ _ c.in-Ok.ensures.typed c.judge_typed.ensures
+pub run_unit-requires : goal.run_unit-requires
+run_unit-requires g c = record { fit = c.requires.fit; bound = task_bound _ _ c.in-Run.is c.requires.task }
 
-pub returns-in-Err-Constraint : goal.returns-in-Err-Constraint
-returns-in-Err-Constraint c = breaks _ _ _ _ _ _ c.in-Err-Constraint.ensures.refused c.in-Err-Constraint.field-0-is (rw c.in-Err-Constraint.field-0-is refl)
+pub layout_text-requires : goal.layout_text-requires
+layout_text-requires g c = record { known = c.requires.fit.known; small = c.requires.fit.small }
 
-pub returns-in-Err-NoMain : goal.returns-in-Err-NoMain
-returns-in-Err-NoMain c = mainless _ _ _ _ c.in-Err-NoMain.ensures.refused c.in-Err-NoMain.field-0-is
+pub returns-in-Run : goal.returns-in-Run
+returns-in-Run g c = record {
+  judged = task_judged _ _ _ _ _ _ _ c.in-Run.is c.run_unit.ensures.judged;
+  part = task_cut _ _ _ _ _ _ _ c.in-Run.is c.run_unit.ensures.part;
+  cause = c.run_unit.ensures.cause;
+  hall = c.run_unit.ensures.hall;
+}
 
-pub returns-in_ok-name-in-Err-Unresolved : goal.returns-in_ok-name-in-Err-Unresolved
-returns-in_ok-name-in-Err-Unresolved c =
-    let is = c.in-Err-Unresolved.field-0-is in
-    lacks _ _ _ _ _ _ _ _ c.in-Err-Unresolved.ensures.refused is c.name-text.ensures (rw is refl) c.in_ok-name-in-Err-Unresolved.ensures.items
+pub returns-in-Check : goal.returns-in-Check
+returns-in-Check g c = record {
+  judged = check_judged _ _ _ _ _ c.in-Check.is (c.described.ensures.described _ c.check_text.ensures);
+  part = memory_cut_unit _ _ _ _ _ c.described.ensures.memory;
+  cause = memory_fault _ _ _ c.described.ensures.memory;
+  hall = stays _ _;
+}
+
+pub returns-in-Layout : goal.returns-in-Layout
+returns-in-Layout g c = record {
+  judged = layout_judged _ _ _ _ _ c.in-Layout.is (c.described-in-Layout.ensures.described _ c.layout_text.ensures);
+  part = memory_cut_unit _ _ _ _ _ c.described-in-Layout.ensures.memory;
+  cause = memory_fault _ _ _ c.described-in-Layout.ensures.memory;
+  hall = stays _ _;
+}

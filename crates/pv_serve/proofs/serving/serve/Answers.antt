@@ -1,22 +1,26 @@
-use Rattle.std.proofs.Common.{inl, inr}
-use Rattle.pv_script.proofs.GainsLemmas.{gains_nothing, prefix_nothing}
-use Rattle.pv_serve.proofs.CausesLemmas.{is_read, served_by_run}
+use Rattle.std.proofs.Common.{refl}
+use Rattle.pv_serve.proofs.CausesLemmas.{served_by_answer, served_by_fault, served_by_nothing}
 use Rattle.pv_serve.proofs.serving.serve.Goals as goal
+
+pub answer-requires : goal.answer-requires
+answer-requires g c = c.in-Some.ensures.turns
 
 pub returns-in-Ok-clause-served : goal.returns-in-Ok-clause-served
 returns-in-Ok-clause-served g c =
-    let r = c.run.ensures in
-    let none = gains_nothing (g.O.Sink.written c.args.out.now) in
-    served_by_run _ _ c.deref.result.now c.in-Some.ensures.words (is_read _ c.deref.result.now (rw c.deref.ensures.value c.in-Ok.ensures.bytes))
-    (record {
-      no_read_fault = r.no_read_fault;
-      no_words = r.no_words;
-      write_fault = λ h. inr (r.write_fault h);
-      write_order = λ h. let v = r.write_order h in record { verdict = v.verdict; judged = v.judged; answered = inl (none, v.answered) };
-      no_memory = λ h. (λ v judged. prefix_nothing none, r.no_memory h);
-      answered = λ not12 not13. let v = r.answered not12 not13 in record {
-        verdict = v.verdict;
-        judged = v.judged;
-        answered = record { status = v.answered.0; out = none; report = v.answered.1 };
-      };
-    })
+    served_by_answer _ _ _ _ c.in-Some.ensures.words (rw (c.as_slice.ensures.value, c.as_slice-in-Ok.ensures.value) c.in-Ok.ensures.read) c.answer.ensures
+
+pub returns-in-Ok-clause-files_same : goal.returns-in-Ok-clause-files_same
+returns-in-Ok-clause-files_same g c = c.in-Ok.ensures.same
+
+pub returns-in-Err-Fault-clause-served : goal.returns-in-Err-Fault-clause-served
+returns-in-Err-Fault-clause-served g c =
+    served_by_fault _ _ c.in-Some.ensures.words ((rw c.in-Err-Fault.field-0-is at c.in-Err-Fault.ensures.cause) refl) refl c.tell-in-Err-Fault.ensures.told c.tell-in-Err-Fault.ensures.fault
+
+pub returns-in-Err-Fault-clause-files_same : goal.returns-in-Err-Fault-clause-files_same
+returns-in-Err-Fault-clause-files_same g c = c.in-Err-Fault.ensures.same
+
+pub returns-in-Err-NoMemory-clause-served : goal.returns-in-Err-NoMemory-clause-served
+returns-in-Err-NoMemory-clause-served g c = served_by_nothing _ _ c.in-Some.ensures.words refl refl refl
+
+pub returns-in-Err-NoMemory-clause-files_same : goal.returns-in-Err-NoMemory-clause-files_same
+returns-in-Err-NoMemory-clause-files_same g c = c.in-Err-NoMemory.ensures.same

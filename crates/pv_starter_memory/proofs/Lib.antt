@@ -1,3 +1,0 @@
-mod Digits
-pub mod Kept
-mod Stores

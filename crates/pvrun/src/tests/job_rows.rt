@@ -1,0 +1,111 @@
+//! Words, and jobs with several faults, and what an independent executor of the same rules reports of them.
+
+/// Lines of words, for the source [`super::SHORTEST`] as `a.c` and a script of one line as `s`. A space at the end leaves an
+/// empty word.
+pub(super) const WORDS: &str = r#"
+run a.c => 0 exit status=0 turn=3
+check a.c => 0 checked declarations=1
+run a.c --script s => 0 exit status=0 turn=3
+run a.c --turns 3 => 0 exit status=0 turn=3
+run a.c --turns 2 => 6 turns bound=2
+run a.c --script s --turns 3 => 0 exit status=0 turn=3
+run a.c --turns 2 --script s => 6 turns bound=2
+run a.c --script a.c => 9 script reason=line line=1
+run s --script s => 8 refused reason=syntax whole=0
+run s --script a.c => 9 script reason=line line=1
+run a.c --script --turns => 11 fault read
+run a.c --script t => 11 fault read
+run t --script s => 11 fault read
+check t => 11 fault read
+ => 10 words
+run => 10 words
+run  => 10 words
+go a.c => 10 words
+run a.c b.c => 10 words
+run a.c s --script => 10 words
+run a.c --turns => 10 words
+run a.c --turns  => 10 words
+run a.c --turns 0 => 10 words
+run a.c --turns 01 => 10 words
+run a.c --turns 1x => 10 words
+run a.c --turns 100000001 => 10 words
+run a.c --turns 99999999999999999999 => 10 words
+run a.c --turns 3 --turns 3 => 10 words
+run a.c --script => 10 words
+run a.c --script  => 10 words
+run a.c --script s --script s => 10 words
+run a.c --script s --turns => 10 words
+run a.c --turns 3 --script s s => 10 words
+run a.c --watch census => 10 words
+run a.c --sides l => 10 words
+run a.c --zap on => 10 words
+--turns 3 run a.c => 10 words
+run --script s a.c => 10 words
+run  --turns 3 => 10 words
+check => 10 words
+check  => 10 words
+check a.c --turns 3 => 10 words
+check a.c --script s => 10 words
+layout a.c --script s => 10 words
+settle a.c => 10 words
+gen 3 => 10 words
+"#;
+
+/// Several faults of one job, and the one that is told.
+pub(super) const ORDER: &str = r#"
+int main(void){return 0;}` `
+1048552 times --script t => 8 refused reason=size
+
+int main(void){return 0;}` `
+script x
+1048552 times => 8 refused reason=size
+
+int a@;
+--script t => 11 fault read
+
+int a@;
+script x
+=> 9 script reason=line line=1
+
+int a@;
+script x
+--turns 0 => 10 words
+
+int main(void){return 0;
+script x 1
+=> 9 script reason=line line=1
+
+int a@;
+script x 1 0x1
+script x 1 0x2
+script y
+=> 9 script reason=repeated line=2 first=1
+
+goto; int a@;
+=> 8 refused reason=profile at=0 word=goto
+
+int a[; int b = c;
+=> 8 refused reason=syntax whole=0
+
+int f(void); int b = c; int main(void){return f();}
+=> 8 refused reason=constraint index=1
+
+int f(void); int g(void){return f();}
+=> 8 refused reason=unresolved name=f
+
+int x; int f(void); int main(void){return f();}
+script x 1 0x1
+=> 8 refused reason=unresolved name=f
+
+int x; int f(void){return 0;}
+script x 1 0x1
+=> 8 refused reason=main
+
+int x; int main(void){for (;;) ;}
+script x 1 0x1
+--turns 1 => 4 placement reason=range name=x k=1 line=1 turn=0
+
+int a@;
+script #`a`
+65535 times => 9 script reason=size
+"#;

@@ -1,5 +1,0 @@
-int main(void) {
-  goto end;
-end:
-  return 0;
-}

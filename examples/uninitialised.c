@@ -1,4 +1,0 @@
-int main(void) {
-  int a;
-  return a;
-}
