@@ -10,6 +10,7 @@ use Rattle.pv_check.specs.Library.{library_named, is_format}
 use Rattle.pv_check.specs.Sorts.{is_void}
 use Rattle.pv_check.specs.Values.{written, promoted_value, assigned}
 
+-- one argument before others, where all may be passed: a list helper
 abbrev pub more : Option TypedTree → Option (List TypedTree) → Option (List TypedTree)
 more (Some a) (Some rest) = Some (a ∷ rest)
 more _ _ = None
@@ -26,16 +27,18 @@ passed NoTys false (a ∷ rest) = None
 passed (MoreTys t ts) variadic [] = None
 passed (MoreTys t ts) variadic (a ∷ rest) = more (assigned t a) (passed ts variadic rest)
 
+-- the number of the string literal that an expression is (6.5.1p4)
 abbrev pub string_in : Form → Option ℕ
 string_in (String l) = Some l
 string_in _ = None
 
--- the number of the string literal whose first byte an argument points to
+-- 6.3.2.1p3: the number of the string literal whose first byte an argument points to
 abbrev pub literal_in : Form → Option ℕ
 literal_in (Convert (Node t line turn x)) = literal_in x
 literal_in (ArrayPointer a) = string_in (form_of a)
 literal_in _ = None
 
+-- 7.21.6.1p8: the format is such a literal, and one of the conversions that the profile has
 abbrev pub is_format_literal : WholeUnit → Option ℕ → Bool
 is_format_literal u (Some l) = is_format (literal_at u l).bytes
 is_format_literal u None = false
@@ -46,14 +49,17 @@ may_pass u library.Printf (Node t line turn x ∷ rest) = is_format_literal u (l
 may_pass u library.Printf [] = false
 may_pass u f args = true
 
+-- 7.1.4p1: a call of a function of the library
 abbrev pub library_call : WholeUnit → ℕ → Library → Ty → Option (List TypedTree) → Option TypedTree
 library_call u line f t None = None
 library_call u line f t (Some args) = if may_pass u f args then Some (written line t (LibraryCall f (arguments_of args))) else None
 
+-- 6.5.2.2p5: a call of a function of the program, with the type of its result
 abbrev pub program_call : ℕ → ℕ → Ty → Option (List TypedTree) → Option TypedTree
 program_call line f t None = None
 program_call line f t (Some args) = Some (written line t (Call f (arguments_of args)))
 
+-- 6.5.2.2p5: the call, where the arguments may be passed
 abbrev pub called : WholeUnit → ℕ → ℕ → Option Library → Ty → Option (List TypedTree) → Option TypedTree
 called u line f (Some l) t args = library_call u line l t args
 called u line f None t args = program_call line f t args
@@ -66,5 +72,6 @@ call_at u line f (FunctionTy t ts variadic) args =
     else None
 call_at u line f t args = None
 
+-- 6.5.2.2p1: a call by the number of the function, whose type is looked up
 abbrev pub call_of : WholeUnit → ℕ → ℕ → List TypedTree → Option TypedTree
 call_of u line f args = call_at u line f (function_at u f).t args

@@ -9,11 +9,12 @@ use Rattle.pv_check.specs.Composite.{composite}
 use Rattle.pv_typed.specs.Addresses.{is_null_constant}
 use Rattle.pv_check.specs.Values.{written, converted}
 
+-- 6.5.15p6: a pointer to a type, with `const` where one operand's has it
 abbrev pub pointer_to : (const : Bool) → Ty → Ty
 pointer_to const t = PointerTo (qualified_if const t)
 
--- 6.5.15p6: what two pointers that are no null pointer constants give: a pointer to the composite type, or to void where one points to
--- void, with the qualifiers of both
+-- 6.5.15p6: what two pointers that are no null pointer constants give: a pointer to the composite type, or to void where one
+-- points to void, with the qualifiers of both
 abbrev pub merged : Ty → Ty → Option Ty
 merged t u =
     if are_alike t u then Some (pointer_to (is_const t || is_const u) (composite (unqualified t) (unqualified u)))
@@ -41,11 +42,12 @@ result_type (PointerTo t) u left true = Some (PointerTo t)
 result_type t (PointerTo u) true right = Some (PointerTo u)
 result_type t u left right = plain_type t u
 
+-- 6.5.15p5 and p6: the node, where there is a type of the result, to which both operands are converted
 abbrev pub chosen : ℕ → TypedTree → TypedTree → TypedTree → Option Ty → Option TypedTree
 chosen line a b c (Some t) = Some (written line t (Conditional a (converted t b) (converted t c)))
 chosen line a b c None = None
 
--- 6.5.15
+-- 6.5.15p2 and p3: the first operand is a scalar, and the others go together
 abbrev pub conditional_of : ℕ → TypedTree → TypedTree → TypedTree → Option TypedTree
 conditional_of line a b c =
     if is_scalar (type_of a) then chosen line a b c (result_type (type_of b) (type_of c) (is_null_constant b) (is_null_constant c)) else None

@@ -15,26 +15,33 @@ use Rattle.pv_check.specs.Raw.{Raw, raw_of, scope_shown}
 use Rattle.pv_check.specs.State.{After}
 use Rattle.pv_check.specs.Stepping.{steps_in, AreSteps}
 
+-- a parameter (6.7.6.3) that the code has, with the tree of its type
 abbrev pub parameter_shown : Known → Parameter → WholeParameter
 parameter_shown m p = record { t = tree m p.t.0; name = p.name; object = p.object }
 
+-- the parameters of a list, the same
 abbrev pub parameters_shown : Known → List Parameter → List WholeParameter
 parameters_shown m ps = map (parameter_shown m) ps
 
+-- a list of parameters and its scope (6.2.1p4), the same
 abbrev pub signature_shown : Known → Signature → WholeSignature
 signature_shown m g = record { parameters = parameters_shown m g.parameters.items; variadic = g.variadic; scope = scope_shown m (raw_of g.scope) }
 
+-- the same, where there is one
 abbrev pub signature_if : Known → Option Signature → Option WholeSignature
 signature_if m None = None
 signature_if m (Some g) = Some (signature_shown m g)
 
+-- the steps of a declarator (6.7.6), the same
 abbrev pub steps_shown : Known → Steps → WholeSteps
 steps_shown m x = record { list = steps_in m x.list.items; signature = signature_if m x.signature }
 
+-- the steps of a declarator that the code answers, and the state after it
 abbrev pub after_steps : List (List ℕ) → Bool → Raw → Stored → Option Steps → Option (After WholeSteps)
 after_steps texts u s m None = None
 after_steps texts u s m (Some x) = Some (record { value = steps_shown m.known x; state = state_of texts u s m })
 
+-- a value that the code answers, and the state after it
 abbrev pub after_value : {A : Type 0} → List (List ℕ) → Bool → Raw → Stored → Option A → Option (After A)
 after_value texts u s m None = None
 after_value texts u s m (Some k) = Some (record { value = k; state = state_of texts u s m })
@@ -44,18 +51,21 @@ abbrev pub after_parameter : List (List ℕ) → Bool → Raw → Stored → Lis
 after_parameter texts u s m before None = None
 after_parameter texts u s m before (Some p) = Some (record { value = before ++ (parameter_shown m.known p ∷ []); state = state_of texts u s m })
 
+-- parameters that the code answers
 abbrev pub parameters_if : Known → Option (Vec Parameter Global) → Option (List WholeParameter)
 parameters_if m None = None
 parameters_if m (Some v) = Some (parameters_shown m v.items)
 
+-- parameters that the code answers, and the state after them
 abbrev pub after_parameters : List (List ℕ) → Bool → Raw → Stored → Option (Vec Parameter Global) → Option (After (List WholeParameter))
 after_parameters texts u s m None = None
 after_parameters texts u s m (Some v) = Some (record { value = parameters_shown m.known v.items; state = state_of texts u s m })
 
--- what a list of parameters names is there
+-- the type and the object of a parameter are there
 abbrev pub ParameterKnown : Stored → Parameter → Type 0
 ParameterKnown m p = (p.t.0 < length m.known.terms) × IfSome p.object (λ o. o < length m.objects)
 
+-- what a list of parameters names is there
 abbrev pub SignatureKnown : Stored → Signature → Type 0
 SignatureKnown m g = Each (ParameterKnown m) g.parameters.items × ScopeKnown m (raw_of g.scope)
 
@@ -63,5 +73,6 @@ SignatureKnown m g = Each (ParameterKnown m) g.parameters.items × ScopeKnown m 
 abbrev pub StepsKnown : Stored → Steps → Type 0
 StepsKnown m x = AreSteps m.known x.list.items × IfSome x.signature (SignatureKnown m)
 
+-- the same, where there is an answer
 abbrev pub KnownSteps : Stored → Option Steps → Type 0
 KnownSteps m o = IfSome o (StepsKnown m)

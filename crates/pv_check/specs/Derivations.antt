@@ -9,7 +9,7 @@ use Rattle.pv_check.specs.Sorts.{is_function, is_array, is_void}
 use Rattle.pv_check.specs.State.{State, After, Scope, ObjectName, and_then, give, env, innermost, declare, left, is_file_scope}
 use Rattle.pv_check.specs.Texts.{is_printf}
 
--- a parameter: its type as an object has it, and if it has a name, this and the number of its object
+-- a parameter (6.7.6.3): its type as an object has it, and if it has a name, this and the number of its object
 pub record Parameter : Type 0 where
   pub t : Ty
   pub name : Option ℕ
@@ -32,18 +32,20 @@ pub record Steps : Type 0 where
   pub list : List Derivation
   pub signature : Option Signature
 
+-- the declarator that is a name alone, or nothing (6.7.6p4, 6.7.7p2)
 abbrev pub no_steps : Steps
 no_steps = record { list = []; signature = None }
 
--- one step more
+-- 6.7.6p4: one step more
 abbrev pub with_step : Steps → Derivation → Steps
 with_step x d = record { list = x.list ++ (d ∷ []); signature = x.signature }
 
+-- 6.9.1p2: the list of parameters of the step that is nearest to the name
 abbrev pub nearest : List Derivation → Option Signature → Signature → Option Signature
 nearest [] old g = Some g
 nearest (d ∷ ds) old g = old
 
--- the name that a declarator declares, and its line
+-- 6.7.6p2: the name that a declarator declares, and its line
 abbrev pub declared_name : DeclaratorTree → Option (ℕ × ℕ)
 declared_name (DeclaredName line n) = Some (n, line)
 declared_name (ParenDeclarator line d) = declared_name d
@@ -52,6 +54,7 @@ declared_name (Array line d size) = declared_name d
 declared_name (FunctionDeclarator line d parameters variadic) = declared_name d
 declared_name _ = None
 
+-- the same of a declarator that may be left out or abstract (6.7.6.3p1)
 abbrev pub optional_name : OptionalTree → Option (ℕ × ℕ)
 optional_name (Present (OfDeclarator d)) = declared_name d
 optional_name _ = None
@@ -76,6 +79,7 @@ abbrev pub parameter_types : List Parameter → Tys
 parameter_types [] = NoTys
 parameter_types (p ∷ ps) = MoreTys (unqualified p.t) (parameter_types ps)
 
+-- 6.7.6.3p5: one step more, a function with these parameters
 abbrev pub with_function : Steps → Signature → Steps
 with_function x g = record { list = x.list ++ (ByFunction (parameter_types g.parameters) g.variadic ∷ []); signature = nearest x.list x.signature g }
 
@@ -83,6 +87,7 @@ with_function x g = record { list = x.list ++ (ByFunction (parameter_types g.par
 abbrev pub function_of : Tys → Bool → Ty → Option Ty
 function_of ts variadic t = if is_function t then None else (if is_array t then None else Some (FunctionTy (unqualified t) ts variadic))
 
+-- one step round a type: 6.7.6.1p1, 6.7.6.2p3, 6.7.6.3p5
 abbrev pub step : Bool → List Entry → Derivation → Ty → Option Ty
 step unsized env (ByPointer constant) t = pointer_to constant t
 step unsized env (ByArray n) t = array_of unsized env n t
@@ -99,18 +104,22 @@ adjusted (ArrayOf t n) = Some (PointerTo t)
 adjusted (FunctionTy t ts v) = None
 adjusted t = Some t
 
+-- the name of a parameter (6.7.6.3), if it has one
 abbrev pub name_of : Option (ℕ × ℕ) → Option ℕ
 name_of None = None
 name_of (Some (n, line)) = Some n
 
+-- the number of its object (6.2.4), if it has a name
 abbrev pub object_of : Option (ℕ × ℕ) → ℕ → Option ℕ
 object_of None o = None
 object_of (Some (n, line)) o = Some o
 
+-- 6.2.4p5: the unit with an automatic object for a parameter that has a name
 abbrev pub with_object : Option (ℕ × ℕ) → Ty → State → State
 with_object None t s = s
 with_object (Some (n, line)) t s = record s { unit = record s.unit { objects = s.unit.objects ++ (record { name = n + 2; t = t; line = line; lasting = false; braced = false; inits = [] } ∷ []) } }
 
+-- 6.7p3, 6.2.1p7: the parameter's name in the innermost scope, where it is new
 abbrev pub with_name : Option (ℕ × ℕ) → State → Option State
 with_name None s = Some s
 with_name (Some (n, line)) s = declare n (ObjectName (length s.unit.objects)) s
@@ -126,28 +135,33 @@ abbrev pub no_void : List Parameter → Bool
 no_void [] = true
 no_void (p ∷ ps) = if is_void p.t then false else no_void ps
 
+-- 6.7.6.3p10: `void` without qualifiers
 abbrev pub is_unqualified_void : Ty → Bool
 is_unqualified_void VoidTy = true
 is_unqualified_void _ = false
 
+-- 6.7.6.3p10: the list `(void)`
 abbrev pub means_none : List Parameter → Bool
 means_none (p ∷ []) = is_unqualified_void p.t && not (is_some p.name)
 means_none _ = false
 
+-- the parameters that a list stands for (6.7.6.3p10): none, or objects
 abbrev pub proper : Bool → List Parameter → Option (List Parameter)
 proper variadic ps = if not variadic && means_none ps then Some [] else (if no_void ps then Some ps else None)
 
+-- 6.7.6.3p1: a list of parameters, and the scope that it leaves (6.2.1p4), which ends
 abbrev pub signature : Bool → After (List Parameter) → Option (After Signature)
 signature variadic a =
     and_then (proper variadic a.value) (λ ps.
     give (Some (record { parameters = ps; variadic = variadic; scope = innermost a.state.scopes })) (left a.state))
 
--- `...` stands in the declaration of `printf` alone, at file scope
+-- our choice: `...` stands in the declaration of `printf` alone (7.21.6.3p1), at file scope
 abbrev pub is_printf_declarator : List (List ℕ) → DeclaratorTree → Bool
 is_printf_declarator texts (DeclaredName line n) = is_printf texts (n + 2)
 is_printf_declarator texts (ParenDeclarator line d) = is_printf_declarator texts d
 is_printf_declarator texts _ = false
 
+-- a list of parameters may end with `...` (6.7.6.3p9)
 abbrev pub may_be_variadic : Bool → DeclaratorTree → State → Bool
 may_be_variadic true d s = is_file_scope s && is_printf_declarator s.unit.names d
 may_be_variadic false d s = true

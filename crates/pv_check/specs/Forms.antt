@@ -13,6 +13,7 @@ use Rattle.pv_check.specs.Typing.{steps, optional_steps, array_size, parameters}
 abbrev pub pointed : Bool → After Steps → Option (After Steps)
 pointed constant a = give (Some (with_step a.value (ByPointer constant))) a.state
 
+-- the steps of a declarator (6.7.6), as the code takes it apart
 abbrev pub form_steps : Forest → Form → State → Option (After Steps)
 form_steps f form.Name s = give (Some no_steps) s
 form_steps f (form.Paren d) s = steps (declarator_at f d) s

@@ -23,7 +23,7 @@ is_sized env (StructTag n) = nat_le (layout_in env (StructTag n)).size (2 ^ 32)
 is_sized env (UnionTag n) = nat_le (layout_in env (UnionTag n)).size (2 ^ 32)
 is_sized env _ = true
 
--- every type of the table is so, and every structure
+-- every type of the table is so (5.2.4.1), and every structure
 pub record AreSized (m : Known) : Type 0 where
   pub types : (i : ℕ) → i < length m.terms → IsTrue (is_sized (env m) (tree m i))
   pub tags : (n : ℕ) → IsTrue (is_sized (env m) (StructTag n))
@@ -42,6 +42,7 @@ abbrev pub IsType : Known → Option TypeId → Type 0
 IsType m None = Unit {0}
 IsType m (Some t) = t.0 < length m.terms
 
+-- the type of a number, where there is one
 abbrev pub type_if : Known → Option TypeId → Option Ty
 type_if m None = None
 type_if m (Some t) = Some (tree m t.0)

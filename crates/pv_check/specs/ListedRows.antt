@@ -13,11 +13,12 @@ use Rattle.pv_check.specs.State.{State, After, and_then, give}
 use Rattle.pv_check.specs.Tags.{opened, some_members, completed, opened_enumeration, closed_enumeration}
 use Rattle.pv_check.specs.Typing.{members, enumerators}
 
+-- the list of a specifier, as the code takes it apart
 abbrev pub list_of : Listed → ListId
 list_of (list.Composite union n l) = l
 list_of (list.Enumeration n l) = l
 
--- what a specifier with a list makes of those before it
+-- what a specifier with a list makes of those before it (6.7.2.1, 6.7.2.2)
 abbrev pub listed : Forest → Listed → Seen → State → Option (After Seen)
 listed f (list.Composite union n l) seen s =
     and_then (opened union n s) (λ o. and_then (and_then (members (trees_at f l) o.state) some_members) (λ m.
@@ -26,12 +27,14 @@ listed f (list.Enumeration n l) seen s =
     and_then (opened_enumeration n s) (λ o. and_then (enumerators (trees_at f l) o) (λ e.
     give (with_type seen (IntTy kind.Int)) (closed_enumeration n e.state)))
 
+-- a specifier that has no list in braces
 abbrev pub is_unlisted : Spec → Bool
 is_unlisted (spec.Struct n ms) = false
 is_unlisted (spec.Union n ms) = false
 is_unlisted (spec.Enum n es comma) = false
 is_unlisted _ = true
 
+-- a specifier that is no word alone
 abbrev pub is_no_keyword : Spec → Bool
 is_no_keyword (spec.StructTag n) = true
 is_no_keyword (spec.UnionTag n) = true

@@ -4,12 +4,12 @@ use Rattle.std.specs.Int.{next_multiple_of}
 use Rattle.pv_types.specs.Layouts.{Completed, Entry, Named, layouts_of, layout_in}
 use Rattle.pv_types.specs.Ty.{Ty, StructTag, UnionTag, ConstOf}
 
--- a member: where it begins, and its type
+-- 6.5.2.3: a member: where it begins, and its type
 pub record Place : Type 0 where
   pub offset : ℕ
   pub t : Ty
 
--- the members that a tag was completed with
+-- 6.7.2.1p8: the members that a tag was completed with
 abbrev pub members_in : List Completed → ℕ → List Named
 members_in [] n = []
 members_in (d ∷ ds) n = if d.tag == n then d.members else members_in ds n

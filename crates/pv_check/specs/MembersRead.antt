@@ -10,9 +10,11 @@ use Rattle.pv_check.specs.Open.{state_of}
 use Rattle.pv_check.specs.Raw.{Raw}
 use Rattle.pv_check.specs.State.{After}
 
+-- the members (6.7.2.1) that the code has, with the trees of their types
 abbrev pub members_shown : Known → MemberList → List Named
 members_shown m ms = named_in (trees m) ms.list.items
 
+-- the same, where there are any
 abbrev pub members_if : Known → Option MemberList → Option (List Named)
 members_if m None = None
 members_if m (Some ms) = Some (members_shown m ms)

@@ -19,13 +19,14 @@ use Rattle.pv_check.specs.State.{State, After}
 abbrev pub state_of : List (List ℕ) → Bool → Raw → Stored → State
 state_of texts unevaluated s m = record { scopes = scopes_shown m.known s.scopes; unit = whole m; texts = texts; used = map used_of s.used; unevaluated = unevaluated }
 
--- what a name or a tag designates is there
+-- what a name designates is there
 abbrev pub EntryKnown : Stored → Entry → Type 0
 EntryKnown m (entry.Object o) = o < length m.objects
 EntryKnown m (entry.Function f) = f < length m.functions
 EntryKnown m (entry.Typedef t) = t.0 < length m.known.terms
 EntryKnown m (entry.Constant value) = Unit {0}
 
+-- what a tag designates is there
 abbrev pub TagKnown : Stored → TagEntry → Type 0
 TagKnown m (tag.Composite n) = n < length m.known.tags
 TagKnown m tag.Enumerated = Unit {0}
@@ -35,12 +36,15 @@ TagKnown m tag.Unfinished = Unit {0}
 abbrev pub HasTag : Stored → Bool → ℕ → Type 0
 HasTag m union n = (n < length m.known.tags) × ((heading_at m.known.tags n).union ≡ union)
 
+-- what a name of a scope designates is there
 abbrev pub NameKnown : Stored → ℕ × Entry → Type 0
 NameKnown m e = EntryKnown m e.1
 
+-- what a tag of a scope designates is there
 abbrev pub TagNameKnown : Stored → ℕ × TagEntry → Type 0
 TagNameKnown m e = TagKnown m e.1
 
+-- what a scope names is there
 abbrev pub ScopeKnown : Stored → RawScope → Type 0
 ScopeKnown m x = Each (NameKnown m) x.names × Each (TagNameKnown m) x.tags
 
@@ -51,7 +55,7 @@ pub record IsOpen (m : Stored) (s : Raw) : Type 0 where
   pub some : 0 < length s.scopes
   pub scopes : Each (ScopeKnown m) s.scopes
 
--- what typing does to the tables
+-- what typing does to the tables: they have more
 pub record Goes (old new : Stored) : Type 0 where
   pub grown : Grown old new
   pub headings : (n : ℕ) → n < length old.known.tags → heading_at new.known.tags n ≡ heading_at old.known.tags n
@@ -64,10 +68,11 @@ abbrev pub after_type : List (List ℕ) → Bool → Raw → Stored → Option T
 after_type texts unevaluated s m None = None
 after_type texts unevaluated s m (Some t) = Some (record { value = tree m.known t.0; state = state_of texts unevaluated s m })
 
--- of a number
+-- an answer of a number, and the state after it
 abbrev pub after_number : List (List ℕ) → Bool → Raw → Stored → Option ℕ → Option (After ℕ)
 after_number texts unevaluated s m None = None
 after_number texts unevaluated s m (Some n) = Some (record { value = n; state = state_of texts unevaluated s m })
 
+-- an answer that is a state alone
 abbrev pub after_nothing : List (List ℕ) → Bool → Raw → Stored → Bool → Option State
 after_nothing texts unevaluated s m b = if b then Some (state_of texts unevaluated s m) else None

@@ -15,12 +15,13 @@ use Rattle.pv_check.specs.Raw.{Raw}
 use Rattle.pv_check.specs.State.{After}
 use Rattle.pv_check.specs.Values.{assigned}
 
--- an argument, where these parameters are left
+-- 6.5.2.2p7: an argument, where these parameters are left
 abbrev pub one_passed : Tys → Bool → TypedTree → Option TypedTree
 one_passed NoTys true a = further a
 one_passed NoTys false a = None
 one_passed (MoreTys t ts) variadic a = assigned t a
 
+-- the arguments of an answer
 abbrev pub trees_if : Stored → Option (Vec NodeId Global) → Option (List TypedTree)
 trees_if m None = None
 trees_if m (Some v) = Some (map (expression_at m) v.items)
@@ -30,12 +31,13 @@ abbrev pub after_nodes : List (List ℕ) → Bool → Raw → Stored → Option 
 after_nodes texts u s m None = None
 after_nodes texts u s m (Some v) = Some (record { value = map (expression_at m) v.items; state = state_of texts u s m })
 
--- the rest of a format, by where it begins
+-- 7.21.6.1p3: the rest of a format, by where it begins
 abbrev pub reads : Place → List ℕ → Bool
 reads place.Text cs = is_format cs
 reads place.Conversion cs = is_conversion cs
 reads place.LongConversion cs = is_long_conversion cs
 
+-- the same, where it is a format so far
 abbrev pub reads_if : Option Place → List ℕ → Bool
 reads_if None cs = false
 reads_if (Some p) cs = reads p cs

@@ -4,9 +4,10 @@ use Rattle.pv_types.specs.Ty.{Ty, FunctionTy}
 use Rattle.pv_types.specs.Known.{Known, AllBelow, list_at, parameters_at, tree}
 use Rattle.pv_check.specs.declared.composite_types.Signature.{Signature}
 
--- what it says, of parts below n
+-- what a layer of a function type (6.7.6.3) says, of parts below n
 abbrev pub IsSignature : Known → ℕ → Signature → Type 0
 IsSignature m n s = (s.result.0 < n) × (s.params < length m.lists) × AllBelow n (list_at m.lists s.params)
 
+-- the function type that it is
 abbrev pub signature_in : Known → Signature → Ty
 signature_in m s = FunctionTy (tree m s.result.0) (parameters_at m s.params) s.variadic

@@ -11,11 +11,12 @@ use Rattle.pv_types.specs.Layouts.{Named, look, layout_in, is_complete_in, tag_t
 use Rattle.pv_check.specs.State.{State, After, ConstantOf, TagMeaning, CompositeTag, EnumerationTag, OpenEnumeration, and_then, give, env, innermost, find, look_tag, bind_tag, declare, declare_tag, is_file_scope}
 use Rattle.pv_check.specs.Texts.{is_main}
 
+-- 6.7.2.1p1: `union`, and not `struct`
 abbrev pub is_union_word : Word → Bool
 is_union_word word.Union = true
 is_union_word _ = false
 
--- a new tag, incomplete: its number
+-- 6.7.2.3p5, 6.7.2.1p8: a new tag, incomplete: its number
 abbrev pub new_tag : Option ℕ → Bool → State → After ℕ
 new_tag n union s = record { value = length s.unit.headings; state = record s { unit = record s.unit { headings = s.unit.headings ++ (record { name = n; union = union } ∷ []) } } }
 
@@ -25,10 +26,11 @@ declared_new n union s =
     let a = new_tag (Some n) union s in
     record { value = a.value; state = bind_tag n (CompositeTag union a.value) a.state }
 
+-- 6.7.2.1p6: the type of a structure or union by its number
 abbrev pub composite_type : Bool → After ℕ → After Ty
 composite_type union a = record { value = tag_type union a.value; state = a.state }
 
--- 6.7.2.3p8: `struct n` or `union n` where the tag stands for this, and if for nothing, then it is declared
+-- 6.7.2.3p8, p9: `struct n` or `union n` where the tag stands for this (p2: with the same word), and if for nothing, then it is declared
 abbrev pub composite_named : Bool → ℕ → Option TagMeaning → State → Option (After Ty)
 composite_named union n None s = Some (composite_type union (declared_new n union s))
 composite_named union n (Some (CompositeTag u k)) s = if beq u union then give (Some (tag_type u k)) s else None
@@ -39,7 +41,7 @@ abbrev pub enumeration_named : Option TagMeaning → State → Option (After Ty)
 enumeration_named (Some EnumerationTag) s = give (Some (IntTy kind.Int)) s
 enumeration_named _ s = None
 
--- a word and a tag, without a list
+-- 6.7.2.3p3, p8, p9: a word and a tag, without a list
 abbrev pub tag_named : Word → ℕ → State → Option (After Ty)
 tag_named word.Struct n s = composite_named false n (look_tag s.scopes n) s
 tag_named word.Union n s = composite_named true n (look_tag s.scopes n) s
@@ -56,17 +58,18 @@ tag_alone _ n s = None
 abbrev pub is_open : State → ℕ → Bool
 is_open s k = not (is_some (look (env s) k))
 
--- 6.7.2.3p1, p8: before `{`, in the innermost scope the tag is incomplete and of this kind, or it is declared there
+-- 6.7.2.3p1, p6: before `{`, in the innermost scope the tag is incomplete and of this kind, or it is declared there
 abbrev pub opened_named : Bool → ℕ → Option TagMeaning → State → Option (After ℕ)
 opened_named union n None s = Some (declared_new n union s)
 opened_named union n (Some (CompositeTag u k)) s = if beq u union && is_open s k then give (Some k) s else None
 opened_named union n (Some _) s = None
 
+-- 6.7.2.3p5, p6: the same; without a tag the type is a new one
 abbrev pub opened : Bool → Option ℕ → State → Option (After ℕ)
 opened union None s = Some (new_tag None union s)
 opened union (Some n) s = opened_named union n (find (innermost s.scopes).tags n) s
 
--- no member has the name
+-- 6.2.3p1, 6.7p3: no member has the name
 abbrev pub is_new_member : ℕ → List Named → Bool
 is_new_member n [] = true
 is_new_member n (m ∷ ms) = not (m.name == n) && is_new_member n ms
@@ -75,18 +78,20 @@ is_new_member n (m ∷ ms) = not (m.name == n) && is_new_member n ms
 abbrev pub with_member : State → List Named → ℕ → Ty → Option (List Named)
 with_member s ms n t = if is_complete_in (env s) t && is_new_member n ms then Some (ms ++ (record { name = n; t = t } ∷ [])) else None
 
--- the structures and unions with a tag that are completed at file scope
+-- the structures and unions with a tag that are completed at file scope: what `layout` prints, no rule of C17
 abbrev pub filed_with : Option ℕ → Ty → State → State
 filed_with None t s = s
 filed_with (Some n) t s = if is_file_scope s then record s { unit = record s.unit { tags = s.unit.tags ++ (t ∷ []) } } else s
 
+-- 6.7.2.1p8: the tag is complete, with these members
 abbrev pub with_done : Bool → ℕ → List Named → State → State
 with_done union k ms s = record s { unit = record s.unit { completed = s.unit.completed ++ (record { tag = k; union = union; members = ms } ∷ []) } }
 
--- no type is larger than 2 ^ 32 bytes (5.2.4.1)
+-- 5.2.4.1p1: no type is larger than 2 ^ 32 bytes
 abbrev pub is_small : State → Ty → Bool
 is_small s t = nat_le (layout_in (env s) t).size (2 ^ 32)
 
+-- 5.2.4.1p1: the same of a structure or union that was completed
 abbrev pub sized_tag : Option ℕ → Ty → State → Option (After Ty)
 sized_tag n t s = if is_small s t then give (Some t) (filed_with n t s) else None
 
@@ -103,6 +108,7 @@ abbrev pub opened_enumeration : Option ℕ → State → Option State
 opened_enumeration None s = Some s
 opened_enumeration (Some n) s = declare_tag n OpenEnumeration s
 
+-- 6.7.2.3p3, 6.7.2.2p4: behind its list the enumeration is complete
 abbrev pub closed_enumeration : Option ℕ → State → State
 closed_enumeration None s = s
 closed_enumeration (Some n) s = bind_tag n EnumerationTag s

@@ -15,7 +15,7 @@ use Rattle.pv_check.specs.Primary.{name_of, integer_of, character_of, bytes_of_t
 use Rattle.pv_check.specs.Rows.{operand, subscript, member, arrow, increment, unary, unevaluated, measured, sizeof_named, cast, binary, conditional, assignment, comma, with_argument, callee, with_callee, call, integer_value, plain, by_pointer, by_array, by_function, known_size, named_type, member_of, parameter_of}
 
 abbrev mutual
-  -- 6.5
+  -- 6.5: an expression's typed tree, or none where it breaks a constraint
   pub types : ExpressionTree → State → Option (After TypedTree)
   types (Name line n) s = name_of line (look s.scopes n) s
   types (Number line value decimal unsigned longs) s = give (integer_of line value decimal unsigned longs) s
@@ -45,7 +45,7 @@ abbrev mutual
   arguments NoArguments s = give (Some []) s
   arguments (Argument before last) s = and_then (arguments before s) (λ l. and_then (operand (types last l.state)) (with_argument l.value))
 
-  -- 6.7.7
+  -- 6.7.7p2: the type that a type name names
   pub type_named : DeclarationTree → State → Option (After Ty)
   type_named (TypeName line specs d) s =
       and_then (specifiers specs s) (λ a. and_then (plain a) (λ b. and_then (optional_steps d b.state) (named_type b.value)))
@@ -56,10 +56,12 @@ abbrev mutual
   specifiers NoTrees s = give (Some nothing_seen) s
   specifiers (Then before x) s = and_then (specifiers before s) (specifier_in x)
 
+  -- one specifier more
   pub specifier_in : Tree → After Seen → Option (After Seen)
   specifier_in (OfSpecifier x) a = specifier x a.value a.state
   specifier_in _ a = None
 
+  -- 6.7.1 to 6.7.3, 6.7.8: what a specifier says beside those before it
   pub specifier : SpecifierTree → Seen → State → Option (After Seen)
   specifier (Keyword line w) seen s = give (with_keyword seen w) s
   specifier (TypedefName line n) seen s = give (and_then (typedef_of (look s.scopes n)) (with_type seen)) s
@@ -76,15 +78,18 @@ abbrev mutual
   members NoTrees s = give (Some []) s
   members (Then before x) s = and_then (members before s) (member_in x)
 
+  -- 6.7.2.1p1: the members of one declaration
   pub member_in : Tree → After (List Named) → Option (After (List Named))
   member_in (OfDeclaration (MemberDeclaration line specs ds)) m =
       and_then (specifiers specs m.state) (λ a. and_then (plain a) (λ b. member_declarators ds b.value m.value b.state))
   member_in _ m = None
 
+  -- 6.7.2.1p1: its declarators, from left to right
   pub member_declarators : Trees → Ty → List Named → State → Option (After (List Named))
   member_declarators NoTrees t ms s = give (Some ms) s
   member_declarators (Then before x) t ms s = and_then (member_declarators before t ms s) (member_declarator t x)
 
+  -- 6.7.2.1p9: one member
   pub member_declarator : Ty → Tree → After (List Named) → Option (After (List Named))
   member_declarator t (OfDeclarator d) m = and_then (steps d m.state) (member_of (declared_name d) t m.value)
   member_declarator t _ m = None
@@ -94,10 +99,12 @@ abbrev mutual
   enumerators NoTrees s = give (Some (pos 0)) s
   enumerators (Then before x) s = and_then (enumerators before s) (enumerator_in x)
 
+  -- 6.7.2.2p3: one enumerator
   pub enumerator_in : Tree → After ℤ → Option (After ℤ)
   enumerator_in (OfDeclaration (Enumerator line n v)) a = and_then (enumerator_value v a.value a.state) (λ b. enumerated n b.value b.state)
   enumerator_in _ a = None
 
+  -- 6.7.2.2p3: its value, or the next one
   pub enumerator_value : OptionalTree → ℤ → State → Option (After ℤ)
   enumerator_value Absent next s = give (Some next) s
   enumerator_value (Present (OfExpression a)) next s = integer_value (operand (types a s))
@@ -120,12 +127,13 @@ abbrev mutual
   steps (AbstractFunction line d ps false) s =
       and_then (optional_steps d s) (λ a. and_then (parameters ps (entered a.state)) (by_function false a.value))
 
+  -- the steps of a declarator that may be left out
   pub optional_steps : OptionalTree → State → Option (After Steps)
   optional_steps Absent s = give (Some no_steps) s
   optional_steps (Present (OfDeclarator d)) s = steps d s
   optional_steps _ s = None
 
-  -- 6.7.6.2p1
+  -- 6.7.6.2p1: the size of an array, where one stands
   pub array_size : OptionalTree → State → Option (After (Option ℕ))
   array_size Absent s = give (Some None) s
   array_size (Present (OfExpression a)) s = and_then (integer_value (operand (types a s))) known_size
@@ -136,6 +144,7 @@ abbrev mutual
   parameters NoTrees s = give (Some []) s
   parameters (Then before x) s = and_then (parameters before s) (parameter_in x)
 
+  -- 6.7.6.3p1: one parameter
   pub parameter_in : Tree → After (List OneParameter) → Option (After (List OneParameter))
   parameter_in (OfDeclaration (Parameter line specs d)) p =
       and_then (specifiers specs p.state) (λ a. and_then (plain a) (λ b.

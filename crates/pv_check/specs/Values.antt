@@ -10,10 +10,11 @@ use Rattle.pv_check.specs.Sorts.{is_void, is_array, are_alike}
 use Rattle.pv_types.specs.Qualifiers.{has_const}
 use Rattle.pv_typed.specs.Addresses.{is_null_constant}
 
--- a node of the source, and one that typing adds, which takes no turn
+-- a node of the source (6.5), which takes a turn
 abbrev pub written : ℕ → Ty → Form → TypedTree
 written line t x = Node t line true x
 
+-- a node that typing adds (6.3), which takes none
 abbrev pub implied : ℕ → Ty → Form → TypedTree
 implied line t x = Node t line false x
 
@@ -23,6 +24,7 @@ abbrev pub read_at : List Entry → TypedTree → Ty → Option TypedTree
 read_at env a (ArrayOf t n) = Some (implied (line_of a) (PointerTo t) (ArrayPointer a))
 read_at env a t = if is_complete_in env t then Some (implied (line_of a) (unqualified t) (Read a)) else None
 
+-- 6.3.2.1p2 and p3: the value of an lvalue, or the expression itself
 abbrev pub value_of : List Entry → TypedTree → Option TypedTree
 value_of env a = if is_lvalue a then read_at env a (type_of a) else Some a
 
@@ -34,11 +36,12 @@ is_modifiable env a = is_lvalue a && (not (is_array (type_of a)) && (is_complete
 abbrev pub converted : Ty → TypedTree → TypedTree
 converted t a = if same (type_of a) t then a else implied (line_of a) t (Convert a)
 
--- 6.3.1.1p2
+-- 6.3.1.1p2: an integer converted to its promoted type, by its type
 abbrev pub promotion : TypedTree → Ty → TypedTree
 promotion a (IntTy k) = converted (IntTy (promoted k)) a
 promotion a t = a
 
+-- 6.3.1.1p2, 6.5.2.2p6: a value that is promoted, where it is an integer
 abbrev pub promoted_value : TypedTree → TypedTree
 promoted_value a = promotion a (type_of a)
 

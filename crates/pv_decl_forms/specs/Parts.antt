@@ -39,13 +39,14 @@ test_of sign.Ellipsis k = is_ellipsis k
 test_of sign.OpenBrace k = is_open_brace k
 test_of sign.CloseBrace k = is_close_brace k
 
--- the word `const` is the next token
+-- the word `const` is the next token (6.7.6.1p1)
 abbrev pub is_const_next : List Token → Bool
 is_const_next [] = false
 is_const_next (t ∷ ts) = is_const t.kind
 
 -- ---- parts
 
+-- the place of the grammar at which a part stands
 abbrev pub place_of_part : Part → Place
 place_of_part part.Specifier = Specifiers
 place_of_part part.Member = Members
@@ -53,6 +54,7 @@ place_of_part part.Enumerator = Enumerators
 place_of_part part.Parameter = Parameters
 place_of_part (part.Declarator f) = place_of f
 
+-- the kind of tree that a part is
 abbrev pub kind_of_part : Part → Tree → Bool
 kind_of_part part.Specifier t = is_specifier t
 kind_of_part part.Member t = is_declaration t
@@ -62,15 +64,17 @@ kind_of_part (part.Declarator f) t = is_declarator t
 
 -- ---- specifiers
 
+-- `struct` or `union` (6.7.2.1p1)
 abbrev pub word_of_composite : CompositeWord → Word
 word_of_composite composite.Struct = word.Struct
 word_of_composite composite.Union = word.Union
 
+-- `struct`, `union` or `enum` (6.7.2.3)
 abbrev pub word_of_tag : TagWord → Word
 word_of_tag (tag_word.Composite c) = word_of_composite c
 word_of_tag tag_word.Enum = word.Enum
 
--- a keyword before a tag
+-- a keyword before a tag (6.7.2.3)
 abbrev pub tag_word_of : TokenKind → Option TagWord
 tag_word_of (kind.Word word.Struct) = Some (tag_word.Composite composite.Struct)
 tag_word_of (kind.Word word.Union) = Some (tag_word.Composite composite.Union)
@@ -93,7 +97,7 @@ keyword_of word.Unsigned = Some spec.Unsigned
 keyword_of word.Bool = Some spec.Bool
 keyword_of _ = None
 
--- what a declarator begins or goes on with
+-- what a declarator begins or goes on with (6.7.6p1)
 abbrev pub opening_of : TokenKind → Option Opening
 opening_of (kind.Name n) = Some (opening.Name n)
 opening_of (kind.Mark mark.Star) = Some opening.Star
@@ -101,7 +105,7 @@ opening_of (kind.Mark mark.OpenParen) = Some opening.Paren
 opening_of (kind.Mark mark.OpenBracket) = Some opening.Bracket
 opening_of _ = None
 
--- a keyword that stands alone, or a typedef name
+-- a keyword that stands alone, or a typedef name (6.7.1 to 6.7.3, 6.7.8)
 unfoldable pub plain_of : (ℕ → Bool) → (line : ℕ) → TokenKind → List Token → Piece
 plain_of is_type line (kind.Name n) ts = if is_type n then Some (OfSpecifier (TypedefName line n), ts) else None
 plain_of is_type line (kind.Word w) ts = if is_plain_word w then Some (OfSpecifier (Keyword line w), ts) else None
@@ -109,6 +113,7 @@ plain_of is_type line _ ts = None
 
 -- ---- declarators
 
+-- a name, as a declarator (6.7.6p1)
 unfoldable pub named_of : (ℕ → Bool) → Form → (line n : ℕ) → List Token → Piece
 named_of is_type f line n ts = if is_type n then None else if allows_name f then Some (OfDeclarator (DeclaredName line n), ts) else None
 
@@ -119,10 +124,12 @@ within names (suc depth) place ts = readers names depth place ts
 
 -- ---- brackets and parameters behind a declarator that may be left out (6.7.6.2, 6.7.6.3)
 
+-- 6.7.6p1, 6.7.7p1: brackets behind a declarator
 abbrev pub array_of : (line : ℕ) → OptionalTree → OptionalTree → Tree
 array_of line Absent size = OfDeclarator (AbstractArray line Absent size)
 array_of line (Present t) size = arrayed line t size
 
+-- 6.7.6p1, 6.7.7p1: parameters behind a declarator
 abbrev pub function_of : (line : ℕ) → OptionalTree → Trees → Bool → Tree
 function_of line Absent parameters variadic = OfDeclarator (AbstractFunction line Absent parameters variadic)
 function_of line (Present t) parameters variadic = functioned line t parameters variadic

@@ -9,7 +9,7 @@ use Rattle.pv_tree.specs.Syntax.{Tree, Trees, NoTrees, Then, OptionalTree, Absen
 use Rattle.pv_tree.specs.Places.{Place}
 use Rattle.pv_expr_forms.specs.Reader.{is_comma, after}
 
--- a tree, and the tokens behind it
+-- what reading gives: a tree (6.7), and the tokens behind it
 abbrev pub Piece : Type 0
 Piece = Option (Tree × List Token)
 
@@ -19,26 +19,32 @@ Reads = Place → List Token → Piece
 
 -- ---- tokens that a form ends with or goes on with
 
+-- `;` (6.4.6)
 abbrev pub is_semicolon : TokenKind → Bool
 is_semicolon (kind.Mark mark.Semicolon) = true
 is_semicolon _ = false
 
+-- `=` (6.4.6)
 abbrev pub is_equals : TokenKind → Bool
 is_equals (kind.Mark mark.Assign) = true
 is_equals _ = false
 
+-- `...` (6.4.6)
 abbrev pub is_ellipsis : TokenKind → Bool
 is_ellipsis (kind.Mark mark.Ellipsis) = true
 is_ellipsis _ = false
 
+-- `{` (6.4.6)
 abbrev pub is_open_brace : TokenKind → Bool
 is_open_brace (kind.Mark mark.OpenBrace) = true
 is_open_brace _ = false
 
+-- `}` (6.4.6)
 abbrev pub is_close_brace : TokenKind → Bool
 is_close_brace (kind.Mark mark.CloseBrace) = true
 is_close_brace _ = false
 
+-- the word `const` (6.4.1p1)
 abbrev pub is_const : TokenKind → Bool
 is_const (kind.Word word.Const) = true
 is_const _ = false
@@ -50,11 +56,12 @@ found_in (Some rest) ts = (true, rest)
 
 -- ---- parts that may be left out: what can't be read is
 
+-- a part that may be left out: what can't be read is
 abbrev pub optional : List Token → Piece → OptionalTree × List Token
 optional ts None = (Absent, ts)
 optional ts (Some x) = (Present x.0, x.1)
 
--- `=` and a part
+-- `=` and a part (6.7p1, 6.7.2.2p1)
 unfoldable pub value : (List Token → Piece) → List Token → OptionalTree × List Token
 value read ts = optional ts (option_and_then read (after is_equals ts))
 
@@ -65,18 +72,19 @@ abbrev pub row_on : (Trees → List Token → Trees × List Token) → Trees →
 row_on go before ts None = (before, ts)
 row_on go before ts (Some x) = go (Then before x.0) x.1
 
+-- parts in a row, in so many steps at most
 unfoldable pub row_for : (steps : ℕ) → (List Token → Piece) → Trees → List Token → Trees × List Token
 row_for zero read before ts = (before, ts)
 row_for (suc steps) read before ts = row_on (row_for steps read) before ts (read ts)
 
--- the parts from one on, behind those before it
+-- the parts from one on, behind those before it: it stops before what can't be read
 unfoldable pub row : (List Token → Piece) → Trees → List Token → Trees × List Token
 row read before ts = row_for (length ts) read before ts
 
--- a part behind a comma
+-- a part behind a comma (6.7p1, 6.7.6p1)
 unfoldable pub after_comma : (List Token → Piece) → List Token → Piece
 after_comma read ts = option_and_then read (after is_comma ts)
 
--- parts with commas between
+-- parts with commas between (6.7p1, 6.7.2.1p1, 6.7.2.2p1, 6.7.6p1, 6.7.9p1)
 unfoldable pub listed : (List Token → Piece) → List Token → Trees × List Token
 listed read ts = row_on (row (after_comma read)) NoTrees ts (read ts)

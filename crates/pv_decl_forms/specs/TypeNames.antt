@@ -8,8 +8,8 @@ use Rattle.pv_tree.specs.TypeNames.{TypeMap, names_of}
 use Rattle.pv_decl_forms.specs.Answers.{seen}
 use Rattle.pv_decl_forms.specs.Reader.{type_name}
 
--- behind each `(` from one place to before another, the longest type name of at most so much depth, where those within it are the table's own; at no
--- other place any
+-- 6.7.7: behind each `(` from one place to before another, the longest type name of at most so much depth, where those within it are
+-- the table's own; at no other place any
 pub record AreTypeNames (is_type : ℕ → Bool) (types : TypeMap) (u : Tables) (tokens : List Token) (deep from to : ℕ) : Type 0 where
   pub behind : (at : ℕ) (o : Token) (ts : List Token) → from ≤ suc at → suc at < to → drop at tokens ≡ o ∷ ts → o.kind ≡ kind.Mark mark.OpenParen
       → seen u.forest tokens (types (suc at)) ≡ type_name (names_of is_type types u.forest tokens) deep ts

@@ -7,6 +7,7 @@ use Rattle.pv_types.specs.Known.{Known, env, heading_at}
 use Rattle.pv_types.specs.Layouts.{Completed, Named, layout_in, look}
 use Rattle.pv_typed.specs.TypedUnits.{WholeUnit, layouts, name_at}
 
+-- 5.1.1.3: the end of a line
 abbrev pub line_feed : List ℕ
 line_feed = 10 ∷ []
 
@@ -18,6 +19,7 @@ check_text u = codes "checked declarations=" ++ decimal u.declarations ++ line_f
 abbrev pub source_name : WholeUnit → ℕ → List ℕ
 source_name u n = name_at u (n + 2)
 
+-- 6.7.2.3: the name of a tag, if it has one
 abbrev pub name_if : WholeUnit → Option ℕ → List ℕ
 name_if u None = []
 name_if u (Some n) = source_name u n
@@ -35,7 +37,7 @@ members_of (d ∷ ds) n = if d.tag == n then d.members else members_of ds n
 abbrev pub head_line : (word name : List ℕ) → (size align : ℕ) → List ℕ
 head_line word name size align = word ++ name ++ codes " size=" ++ decimal size ++ codes " align=" ++ decimal align ++ line_feed
 
--- a member: its name, where it begins, in bytes from the beginning of the whole, and how many bytes it takes
+-- 6.7.2.1p15: a member: its name, where it begins, in bytes from the beginning of the whole, and how many bytes it takes
 abbrev pub member_line : (name : List ℕ) → (offset size : ℕ) → List ℕ
 member_line name offset size = codes "  " ++ name ++ codes " offset=" ++ decimal offset ++ codes " size=" ++ decimal size ++ line_feed
 
@@ -51,10 +53,11 @@ abbrev pub union_lines : WholeUnit → List Named → List ℕ
 union_lines u [] = []
 union_lines u (m ∷ ms) = member_line (source_name u m.name) 0 (layout_in (layouts u) m.t).size ++ union_lines u ms
 
+-- 6.2.6.1p4, 6.2.8p1: the first line of a structure or union
 abbrev pub tag_head : WholeUnit → (word : List ℕ) → ℕ → Ty → List ℕ
 tag_head u word tag t = head_line word (tag_name u tag) (layout_in (layouts u) t).size (layout_in (layouts u) t).align
 
--- a structure or union: its size and alignment, then its members; what is not complete has no layout
+-- 6.7.2.1p15, p16: a structure or union: its size and alignment, then its members; what is not complete has no layout (6.7.2.1p8)
 abbrev pub tag_text : WholeUnit → Ty → List ℕ
 tag_text u (StructTag n) =
     if is_some (look (layouts u) n) then tag_head u (codes "struct ") n (StructTag n) ++ struct_lines u 0 (members_of u.completed n) else []
@@ -62,6 +65,7 @@ tag_text u (UnionTag n) =
     if is_some (look (layouts u) n) then tag_head u (codes "union ") n (UnionTag n) ++ union_lines u (members_of u.completed n) else []
 tag_text u _ = []
 
+-- the same of several, one after the other
 abbrev pub tag_texts : WholeUnit → List Ty → List ℕ
 tag_texts u [] = []
 tag_texts u (t ∷ ts) = tag_text u t ++ tag_texts u ts

@@ -18,13 +18,13 @@ is_character_kind SChar = true
 is_character_kind UChar = true
 is_character_kind _ = false
 
--- the same of a type, qualifiers aside
+-- 6.2.5p15: the same of a type, qualifiers aside
 abbrev pub is_character : Ty → Bool
 is_character (IntTy k) = is_character_kind k
 is_character (ConstOf t) = is_character t
 is_character _ = false
 
--- a structure or union, qualifiers aside
+-- 6.2.5p20: a structure or union, qualifiers aside
 abbrev pub is_composite : Ty → Bool
 is_composite (StructTag n) = true
 is_composite (UnionTag n) = true
@@ -39,12 +39,13 @@ permits_declared parts o want =
     else if is_composite want then some_at (suits want) o parts
     else some_at (agrees want) o (leaves parts)
 
+-- 6.7.6.2p6: one size, or none on both sides
 abbrev pub same_size : Option ℕ → Option ℕ → Bool
 same_size None None = true
 same_size (Some m) (Some n) = m == n
 same_size _ _ = false
 
--- equal types
+-- 6.2.7p1: whether two types are the same
 abbrev mutual
   pub same_type : Ty → Ty → Bool
   same_type VoidTy VoidTy = true
@@ -62,7 +63,7 @@ abbrev mutual
   same_types (MoreTys t ts) (MoreTys u us) = same_type t u && same_types ts us
   same_types _ _ = false
 
--- qualifiers aside, the type or its signed or unsigned counterpart
+-- 6.5p7: qualifiers aside, the type or its signed or unsigned counterpart (6.2.5p6)
 abbrev pub same_or_counterpart : Ty → Ty → Bool
 same_or_counterpart t u = same_type (bare t) (bare u) || are_counterparts (bare t) (bare u)
 
@@ -72,7 +73,7 @@ same_or_counterpart t u = same_type (bare t) (bare u) || are_counterparts (bare 
 abbrev pub accepts : Known → ℕ × ℕ → ℕ → Ty → Bool
 accepts m (u, k) j t = is_character t || (nat_lt u (length m.terms) && ((k == j) && same_or_counterpart t (tree m u)))
 
--- every mark, and none
+-- every mark, and none: with it `some_over` tells whether a byte lies in any scalar, or is padding (6.2.6.1p6)
 abbrev pub anything : ℕ → Ty → Bool
 anything j t = true
 
@@ -80,22 +81,23 @@ anything j t = true
 abbrev pub covers : List Entry → ℕ → Part → Bool
 covers env b p = nat_le p.offset b && nat_lt b (p.offset + (layout_in env p.t).size)
 
--- some part covers the byte, and passes with the number that the byte has in it
+-- 6.5p7: some part covers the byte, and passes with the number that the byte has in it
 abbrev pub some_over : List Entry → (ℕ → Ty → Bool) → ℕ → List Part → Bool
 some_over env f b [] = false
 some_over env f b (p ∷ ps) = (covers env b p && f (b - p.offset) p.t) || some_over env f b ps
 
--- a byte may be read as one of an object with these scalar parts where it has no mark, where it lies in none of them
+-- 6.5p7: a byte may be read as one of an object with these scalar parts where it has no mark, where it lies in none of them
 -- (6.2.6.1p6: padding), or where one that it lies in accepts the mark
 abbrev pub permits_byte : Known → List Part → ℕ → Option (ℕ × ℕ) → Bool
 permits_byte m scalars b None = true
 permits_byte m scalars b (Some mark) = some_over (env m) (accepts m mark) b scalars || not (some_over (env m) anything b scalars)
 
+-- 6.5p7: the same of the bytes in a row, from byte b on
 abbrev pub permits_bytes : Known → List Part → ℕ → List (Option (ℕ × ℕ)) → Bool
 permits_bytes m scalars b [] = true
 permits_bytes m scalars b (x ∷ xs) = permits_byte m scalars b x && permits_bytes m scalars (suc b) xs
 
--- an object without a declared type, whose bytes have these marks, may be read at the type that has these parts; a scalar
+-- 6.5p6, 6.5p7: an object without a declared type, whose bytes have these marks, may be read at the type that has these parts; a scalar
 -- is its own one scalar part
 abbrev pub permits_marks : Known → List Part → List (Option (ℕ × ℕ)) → Bool
 permits_marks m parts marks = permits_bytes m (leaves parts) 0 marks

@@ -37,6 +37,7 @@ reads_at b l p rivals at w t =
 abbrev pub reads_from : Setting → Lvalue → Pointer → List Access → World → Done
 reads_from b l p rivals w = reaching p l.size l.align false w (reads_at b l p rivals)
 
+-- 6.3.2.1p2: the same of the value that is a place
 abbrev pub reads : Setting → Lvalue → (place : Worth) → List Access → World → Done
 reads b l v rivals w = reads_from b l (pointer_of v) rivals w
 
@@ -58,6 +59,7 @@ writes_at b l p v from rivals at w t =
     if permits b w l at true then writes_permitted l p v from rivals at w t
     else Fails (undefined EffectiveTypes WrongType) (Some p.prov) w t
 
+-- 6.5.16p3: a write to this place, with the checks of an access first
 abbrev pub writes_to : Setting → Lvalue → Pointer → (from : Option ℕ) → List Access → World → Worth → Done
 writes_to b l p from rivals w v = reaching p l.size l.align true w (writes_at b l p v from rivals)
 

@@ -23,38 +23,43 @@ noted w t s = record { world = w; output = s.output ++ t.bytes; events = s.event
 abbrev pub noted_with : World → Told → List What → State → State
 noted_with w t more s = noted w (record t { events = t.events ++ more }) s
 
--- the pairs of a world
+-- the memory model: how many pairs of candidates were made
 abbrev pub pair_count : World → ℕ
 pair_count w = length w.memory.table.pairs
 
--- pair k, which keeps both, keeps its low one or its high one alone
+-- the memory model: a pair that stands for both of its candidates still
 abbrev pub keeps_both : Option Twin → Bool
 keeps_both None = false
 keeps_both (Some t) = t.keeps_low && t.keeps_high
 
+-- the memory model: pair k keeps its high candidate alone, or its low one
 abbrev pub one_kept : World → (pair : ℕ) → (high : Bool) → World
 one_kept w k high = record w { memory = record w.memory { table = record w.memory.table { pairs = kept w.memory.table.pairs k (not high) high } } }
 
+-- a pair that stands for both is settled to this side (the memory model: the user disambiguates)
 abbrev pub sided : World → (pair : ℕ) → (high : Bool) → World
 sided w k high = if keeps_both (twin_at w.memory.table.pairs k) then one_kept w k high else w
 
--- in a settled run the test on a pair that was just made finds one candidate, and nothing is told of it
+-- an event that tells of a use of pair k
 abbrev pub is_use_of : ℕ → What → Bool
 is_use_of k (what.Tried m test low high) = m == k
 is_use_of k _ = false
 
+-- the events that tell of no use of pair k
 abbrev pub without_use : ℕ → List What → List What
 without_use k [] = []
 without_use k (e ∷ es) = if is_use_of k e then without_use k es else e ∷ without_use k es
 
+-- in a settled run the test on a pair that was just made finds one candidate (the memory model), and nothing is told of it
 abbrev pub settling : ℕ → Told → Told
 settling k t = record t { events = without_use k t.events }
 
--- in a settled run a new pair keeps its side from its making on; where the list has no side for it the run ends
+-- the memory model: in a settled run a new pair keeps its side from its making on; where the list has none for it the run ends
 abbrev pub by_side : Option Bool → Worth → (line : ℕ) → World → Told → State → Res Worth
 by_side None v line w t s = Stops (Stopped (Halts (SidesEnded (pair_count w))) line) (noted w (settling (pair_count w) t) s)
 by_side (Some high) v line w t s = Gives v (noted (sided w (pair_count w) high) (settling (pair_count w) t) s)
 
+-- the value of an operation; in a settled run a pair of candidates (the memory model) that it made has its side from then on
 abbrev pub answered : Option (List Bool) → Worth → (line : ℕ) → World → Told → State → Res Worth
 answered None v line w t s = Gives v (noted w t s)
 answered (Some sides) v line w t s =
@@ -62,7 +67,7 @@ answered (Some sides) v line w t s =
     then by_side (slice_get sides (pair_count s.world)) v line w t s
     else Gives v (noted w t s)
 
--- an operation of the node in this line gives its value, or ends the run; then the fault comes last
+-- an operation of the node in this line gives its value, or ends the run (3.4.3); then the fault comes last
 abbrev pub acted : Setting → (line : ℕ) → Done → State → Res Worth
 acted b line (Answers v w t) s = answered b.sides v line w t s
 acted b line (Fails y p w t) s = Stops (Stopped y line) (noted_with w t (fault_told s.world.memory y p) s)

@@ -31,6 +31,7 @@ zip [] js = []
 zip (f ∷ fs) [] = []
 zip (f ∷ fs) (j ∷ js) = (f, j) ∷ zip fs js
 
+-- a stack of frames, each with the accesses of its node
 abbrev pub stack : List Frame → List Open → List (Frame × Open)
 stack frames js = zip (reverse frames) js
 
@@ -75,12 +76,14 @@ StageFits x (stage.Later side) = Unit {0}
 abbrev pub FrameFits : Stored → Frame → Type 0
 FrameFits u f = IsExpression u f.node × StageFits (form_of (expression_at u f.node)) f.stage
 
+-- the same of what a move names
 abbrev pub MoveFits : Stored → Move → Type 0
 MoveFits u (move.Give v) = Unit {0}
 MoveFits u (move.Operand n f) = IsExpression u n × FrameFits u f
 MoveFits u (move.Later n f) = IsExpression u n × FrameFits u f
 MoveFits u (move.Ask f args line) = f < length u.functions
 
+-- the same, unless the run ended
 abbrev pub MoveFitsOr : Stored → Result Move Failure → Type 0
 MoveFitsOr u (Ok m) = MoveFits u m
 MoveFitsOr u (Err e) = Unit {0}
@@ -91,6 +94,7 @@ NowFits u (now.Due n) js = IsExpression u n × (top js ≡ opened (top js).foes)
 NowFits u (now.Value v) js = Unit {0}
 NowFits u (now.Asked f args line) js = f < length u.functions
 
+-- the same, unless the run ended
 abbrev pub NowFitsOr : Stored → Result Now Failure → List Open → Type 0
 NowFitsOr u (Ok place) js = NowFits u place js
 NowFitsOr u (Err e) js = Unit {0}
@@ -99,11 +103,12 @@ NowFitsOr u (Err e) js = Unit {0}
 abbrev pub Matched : List Frame → List Open → Type 0
 Matched frames js = length js ≡ length frames + 1
 
+-- the same, unless the run ended
 abbrev pub MatchedOr : Result Now Failure → List Frame → List Open → Type 0
 MatchedOr (Ok place) frames js = Matched frames js
 MatchedOr (Err e) frames js = Unit {0}
 
--- the first operand of a node, and the second of those that have two from the start
+-- 6.5: the first operand of a node
 abbrev pub first_operand_of : Typed → Option NodeId
 first_operand_of (typed.Subscript a b) = Some a
 first_operand_of (typed.Member a k) = Some a
@@ -137,6 +142,7 @@ first_operand_of (typed.Call f l) = None
 first_operand_of (typed.LibraryCall f l) = None
 first_operand_of (typed.Sizeof k) = None
 
+-- 6.5: the second operand of those that evaluate two in any case
 abbrev pub second_operand_of : Typed → Option NodeId
 second_operand_of (typed.Subscript a b) = Some b
 second_operand_of (typed.Arithmetic o a b) = Some b
@@ -147,7 +153,7 @@ second_operand_of (typed.PointerEquality o a b) = Some b
 second_operand_of (typed.Assign a b) = Some b
 second_operand_of _ = None
 
--- whether a node takes a turn
+-- 5.1.2.3: whether a node takes a turn
 abbrev pub takes_of : Bool → Typed → Bool
 takes_of turn (typed.Read a) = false
 takes_of turn (typed.ArrayPointer a) = false

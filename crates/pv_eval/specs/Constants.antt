@@ -20,9 +20,10 @@ constant_worth w const.Null = pointer null_pointer
 constant_worth w (const.Address o n) = place_by w (unwrap_or (map.get w.statics o) 0) n
 constant_worth w (const.Literal l n) = place_by w (literal_of w l) n
 
--- a pair that keeps its high candidate alone
+-- the memory model: a pair that keeps its high candidate alone
 abbrev pub is_high_pair : Twin → Bool
 is_high_pair t = not t.keeps_low
 
+-- the memory model: whether a pair of candidates keeps its high one alone
 abbrev pub high_side : World → (pair : ℕ) → Bool
 high_side w k = is_high_pair (slice_index_or w.memory.table.pairs k (record { low = 0; high = 0; keeps_low = true; keeps_high = true }))

@@ -27,12 +27,12 @@ how_to_pointer env shape.Pointer t = Recasts (alignment_by env t)
 how_to_pointer env (shape.Int j) t = Points
 how_to_pointer env shape.Whole t = Points
 
--- by how the values of the two types look, and what the second one points to. 6.3.2.2: to any other type a value is given up
+-- 6.3: by how values of the two types look, and what the second one points to. 6.3.2.2: to any other type a value is given up
 abbrev pub how_by : List Entry → (implied : Bool) → (from to : Shape) → (pointee : Ty) → How
 how_by env implied from (shape.Int k) t = how_to_int implied from k
 how_by env implied from shape.Pointer t = how_to_pointer env from t
 how_by env implied from shape.Whole t = Voids
 
--- a cast is not implied
+-- 6.3p1, 6.5.4p5: from this type to that one, implied or by a cast
 abbrev pub how_to : Setting → (implied : Bool) → (from to : Ty) → How
 how_to b implied from to = how_by (layouts b.unit) implied (shape_of from) (shape_of to) (pointed_to to)

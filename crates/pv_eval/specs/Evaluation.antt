@@ -18,6 +18,7 @@ use Rattle.pv_eval.specs.Sequenced.{Given, done, doing, work, operand, later}
 use Rattle.pv_eval.specs.Steps.{Calling, takes, tick_if, converted, handed, reading, writing, source_of, is_unequal, is_minus, is_after, combining, stepping}
 use Rattle.pv_eval.specs.Arguments.{argument}
 
+-- 6.5p1, p2: what a node gives: its turn first, then by its kind; then the arguments of a call of the program, and of the library
 unfoldable mutual
   pub ev : Setting → Calling → TypedTree → List Access → State → Res Given
   ev b call (Node t line turn x) fs s = tick_if (takes turn x) b s (λ s. ev_form b call t line x fs s)
@@ -105,6 +106,7 @@ unfoldable mutual
   ev_call b call line f got (MoreArguments x xs) j s =
       operand (ev b call x) j s (λ j v s. then_do (handed b x v s) (λ v s. ev_call b call line f (got ++ v ∷ []) xs j s))
 
+  -- 6.5.2.2p10, 7.1.4p1: the same of a function of the library
   pub ev_ask : Setting → Calling → ℕ → Library → List Arg → Arguments → Open → State → Res Given
   ev_ask b call line f got NoArguments j s = work b line (Asks f got) (settled j) s
   ev_ask b call line f got (MoreArguments x xs) j s =

@@ -22,7 +22,7 @@ use Rattle.pv_eval.specs.declared.frames.Frame.{Frame}
 use Rattle.pv_libc.specs.declared.values.Arg.{Arg}
 use Rattle.pv_world.specs.Coming.{worth_of}
 
--- with the value of the second operand, beside that of the first
+-- 6.5: what a node does with the value of its second operand, beside that of the first
 abbrev pub second_after : Setting → Calling → Ty → ℕ → Form → Worth → Open → Worth → State → Res Given
 second_after b call t line (Subscript x y) v j w s = work b line (Moves false (is_pointer (type_of x)) (element_size b (if is_pointer (type_of x) then type_of x else type_of y)) v w) j s
 second_after b call t line (Arithmetic o x y) v j w s = then_do (converted b x v s) (λ v s. then_do (converted b y w s) (λ w s. work b line (Calculates o (kind_of (type_of x)) v w) j s))
@@ -33,7 +33,7 @@ second_after b call t line (PointerEquality o x y) v j w s = then_do (converted 
 second_after b call t line (Assign x y) p j v s = then_do (converted b y v s) (λ v s. writing b (lvalue b (type_of x)) line p v (source_of y v) j s done)
 second_after b call t line _ v j w s = done j w s
 
--- the same, beside the place and the value that was read there
+-- 6.5.16.2p3: the same, beside the place and the value that was read there
 abbrev pub both_after : Setting → Calling → Ty → ℕ → Form → Worth → Worth → Open → Worth → State → Res Given
 both_after b call t line (CompoundAssign o k x y) p v j w s =
     then_do (act b line (Converts (Rounds k) v) s) (λ v s. then_do (converted b y w s) (λ w s.
@@ -42,7 +42,7 @@ both_after b call t line (PointerAssign sign x y) p v j w s =
     doing b line (Moves (is_minus sign) true (element_size b t) v w) s (λ v s. writing b (lvalue b (type_of x)) line p v None j s done)
 both_after b call t line _ p v j w s = done j w s
 
--- with the value of the operand after a sequence point; of a conditional the second or the third
+-- 6.5.13p4, 6.5.14p4, 6.5.15p4, 6.5.17p2: with the value of the operand after a sequence point; of a conditional the second or the third
 abbrev pub later_after : Setting → Calling → Ty → ℕ → Form → Bool → Open → Worth → State → Res Given
 later_after b call t line (LogicalAnd x y) side j w s = work b line (Tests w) j s
 later_after b call t line (LogicalOr x y) side j w s = work b line (Tests w) j s
@@ -50,7 +50,7 @@ later_after b call t line (Conditional x y z) true j w s = then_do (converted b 
 later_after b call t line (Conditional x y z) false j w s = then_do (converted b z w s) (done j)
 later_after b call t line _ side j w s = done j w s
 
--- with the value of the first operand
+-- 6.5: with the value of the first operand
 abbrev pub first_after : Setting → Calling → Ty → ℕ → Form → Open → Worth → State → Res Given
 first_after b call t line (Read x) j p s = reading b (lvalue b (type_of x)) line p j s done
 first_after b call t line (Indirection x) j v s = work b line (Follows (is_none t) v) j s
@@ -83,12 +83,13 @@ first_after b call t line (Increment o x) j p s =
     then_do (stepping b line t o v s) (λ w s. writing b (lvalue b (type_of x)) line p w None j s (λ j w s. done j (if is_after o then v else w) s)))
 first_after b call t line _ j v s = done j v s
 
--- with the value of argument number i
+-- 6.5.2.2: argument number i
 abbrev pub argument_at : Arguments → ℕ → TypedTree
 argument_at (MoreArguments x xs) zero = x
 argument_at (MoreArguments x xs) (suc i) = argument_at xs i
 argument_at NoArguments i = Node VoidTy 0 false (Constant (pos 0))
 
+-- the arguments from number i on
 abbrev pub arguments_from : Arguments → ℕ → Arguments
 arguments_from xs zero = xs
 arguments_from (MoreArguments x xs) (suc i) = arguments_from xs i
@@ -99,6 +100,7 @@ abbrev pub count : Arguments → ℕ
 count NoArguments = 0
 count (MoreArguments x xs) = suc (count xs)
 
+-- how many arguments a node has, if it is a call
 abbrev pub arguments_count : Form → ℕ
 arguments_count (Call f xs) = count xs
 arguments_count (LibraryCall f xs) = count xs
@@ -110,12 +112,14 @@ asked_with NoArguments vs = []
 asked_with (MoreArguments x xs) [] = []
 asked_with (MoreArguments x xs) (v ∷ vs) = argument x v ∷ asked_with xs vs
 
+-- 6.5.2.2p10: with the value of argument number i
 abbrev pub argument_after : Setting → Calling → Ty → ℕ → Form → (i : ℕ) → List Worth → Open → Worth → State → Res Given
 argument_after b call t line (Call f xs) i got j v s = then_do (handed b (argument_at xs i) v s) (λ v s. ev_call b call line f (got ++ v ∷ []) (arguments_from xs (i + 1)) j s)
 argument_after b call t line (LibraryCall f xs) i got j v s =
     then_do (handed b (argument_at xs i) v s) (λ v s. ev_ask b call line f (asked_with xs got ++ argument (argument_at xs i) v ∷ []) (arguments_from xs (i + 1)) j s)
 argument_after b call t line _ i got j v s = done j v s
 
+-- 6.5: with the value of the operand for which it waits
 abbrev pub stage_after : Setting → Calling → Ty → ℕ → Form → Stage → Open → Worth → State → Res Given
 stage_after b call t line form stage.First j v s = first_after b call t line form j v s
 stage_after b call t line form (stage.Second v) j w s = second_after b call t line form (worth_of v) j w s
@@ -123,6 +127,7 @@ stage_after b call t line form (stage.Both r) j w s = both_after b call t line f
 stage_after b call t line form (stage.Later side) j w s = later_after b call t line form side j w s
 stage_after b call t line form (stage.Argument got) j v s = argument_after b call t line form (length got.items) (map worth_of got.items) j v s
 
+-- 6.5: the same of a frame, by the node whose number it has
 unfoldable pub frame_after : Setting → Calling → Stored → Frame → Open → Worth → State → Res Given
 frame_after b call u f j v s = let x = expression_at u f.node in stage_after b call (type_of x) (line_of x) (form_of x) f.stage j v s
 

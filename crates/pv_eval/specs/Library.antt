@@ -19,7 +19,7 @@ use Rattle.pv_world.specs.Telling.{Told, quiet, used, made}
 use Rattle.pv_world.specs.Doing.{Done, Answers, Fails, Breaks}
 use Rattle.pv_world.specs.Worths.{wrong_of}
 
--- what happened within a call, as events
+-- what happened within a call, as events (the memory model: instances made and ended, exposure, uses of pairs of candidates)
 abbrev pub noted_as : Table → Note → List What
 noted_as T (note.Made i) = made T i
 noted_as T (note.Ended i) = what.Ended i ∷ []
@@ -27,19 +27,22 @@ noted_as T (note.Exposed i) = what.Exposed i ∷ []
 noted_as T (note.Used tried test) = used test tried
 noted_as T (note.Stopped low high pair) = []
 
+-- the same of all that happened, in order (the memory model)
 abbrev pub all_noted : Table → List Note → List What
 all_noted T [] = []
 all_noted T (n ∷ ns) = noted_as T n ++ all_noted T ns
 
--- the pointer whose check stops a call is noted last, with what its name stood for before
+-- the memory model: the candidates of the pointer whose check stops a call, noted last, as they were before
 abbrev pub blame_in : List Note → Option Blame
 blame_in [] = None
 blame_in (note.Stopped low high pair ∷ ns) = Some (record { low = low; high = high; pair = pair })
 blame_in (n ∷ ns) = blame_in ns
 
+-- what a call tells: its events (the memory model), and the bytes that it prints (7.21.6.3)
 abbrev pub told_of : Mem → List Note → List ℕ → Told
 told_of M notes text = record { events = all_noted M.table notes; bytes = text }
 
+-- the world, with this memory
 abbrev pub with_memory : World → Mem → World
 with_memory w M = record w { memory = M }
 
@@ -51,14 +54,16 @@ replied (reply.Exit n) w t = Fails (Halts (Exits n)) None w t
 replied reply.Abort w t = Fails (Halts Aborts) None w t
 replied (reply.Placement e) w t = Fails (Halts (Refused 1 e)) None w t
 
--- what a call comes to in this world, beside what happened within it
+-- 7.1.4: what a call comes to in this world, beside what happened within it
 abbrev pub come_to : Option Blame → Result Reply Stop → World → Done
 come_to b (Ok r) w = replied r w quiet
 come_to b (Err y) w = Breaks (wrong_of y) b w quiet
 
+-- 7.1.4: the same, with the memory that it leaves and what it tells; one that stops prints nothing
 abbrev pub asked : World → (text : List ℕ) → Result Reply Stop → Now → Done
 asked w text (Ok r) S = replied r (with_memory w S.memory) (told_of S.memory S.notes text)
 asked w text (Err y) S = Breaks (wrong_of y) (blame_in S.notes) (with_memory w S.memory) (told_of S.memory S.notes [])
 
+-- 7.1.4: a call of a library function
 abbrev pub asks : Library → List Arg → World → Done
 asks f args w = asked w (output f args w.memory) (called f args w.memory).answer (called f args w.memory).after

@@ -42,6 +42,7 @@ pub record StartedFits (u : Stored) (e : Started) : Type 0 where
   pub matched : Matched e.frames e.opens
   pub place : NowFits u e.place e.opens
 
+-- the same of all that were started
 abbrev pub Fit : Stored → List Started → Type 0
 Fit u es = Each (StartedFits u) es
 

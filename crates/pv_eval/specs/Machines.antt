@@ -30,16 +30,16 @@ pub record Machine : Type 0 where
   pub moment : Moment
   pub started : List Started
 
--- 5.1.2: before a run nothing is started
+-- 5.1.2p1: before a run nothing is started
 abbrev pub first_machine : List ScriptLine → Option (List Bool) → Machine
 first_machine script sides = record { moment = first_moment script sides; started = [] }
 
--- what is left of the innermost expression
+-- 6.5: what is left of the innermost expression
 abbrev pub left_of : Setting → Calling → Stored → List Started → State → Res Given
 left_of b call u [] s = Stops Unreached s
 left_of b call u (e ∷ es) s = ahead b call u e.frames e.opens e.place s
 
--- what is left of it once a call has given its value
+-- 6.5.2.2: what is left of it once a call has given its value
 abbrev pub answered_of : Setting → Calling → Stored → List Started → Worth → State → Res Given
 answered_of b call u [] v s = Stops Unreached s
 answered_of b call u (e ∷ es) v s = then_do (done (settled (top e.opens)) v s) (rest (after b call u) (stack e.frames (below e.opens)))
@@ -50,33 +50,40 @@ value_at (now.Due n) = Nothing
 value_at (now.Value v) = worth_of v
 value_at (now.Asked f args line) = Nothing
 
+-- the value of the innermost expression, where it has ended
 abbrev pub ended : List Started → Worth
 ended [] = Nothing
 ended (e ∷ es) = value_at e.place
 
+-- 6.5p2: its value with its accesses
 abbrev pub given_by : List Started → Given
 given_by [] = record { value = Nothing; all = []; loose = [] }
 given_by (e ∷ es) = record { value = value_at e.place; all = (top e.opens).all; loose = (top e.opens).loose }
 
+-- a node is about to begin, and its turn is due
 abbrev pub is_due_at : Now → Bool
 is_due_at (now.Due n) = true
 is_due_at (now.Value v) = false
 is_due_at (now.Asked f args line) = false
 
+-- the expression has its value
 abbrev pub is_value : Now → Bool
 is_value (now.Due n) = false
 is_value (now.Value v) = true
 is_value (now.Asked f args line) = false
 
+-- a call of the program is handed up
 abbrev pub is_call_at : Now → Bool
 is_call_at (now.Due n) = false
 is_call_at (now.Value v) = false
 is_call_at (now.Asked f args line) = true
 
+-- a turn of the innermost expression is due
 abbrev pub is_due : List Started → Bool
 is_due [] = false
 is_due (e ∷ es) = is_due_at e.place
 
+-- the innermost expression hands a call up
 abbrev pub is_asked : List Started → Bool
 is_asked [] = false
 is_asked (e ∷ es) = is_call_at e.place
@@ -91,44 +98,53 @@ abbrev pub is_ended : List Started → Bool
 is_ended [] = false
 is_ended (e ∷ es) = is_value e.place
 
+-- how many turns are due, one at most
 abbrev pub turns_at : Now → ℕ
 turns_at p = if is_due_at p then 1 else 0
 
+-- the same of the innermost expression
 abbrev pub due_turns : List Started → ℕ
 due_turns es = if is_due es then 1 else 0
 
+-- the expressions behind the innermost one
 abbrev pub after_first : List Started → List Started
 after_first [] = []
 after_first (e ∷ es) = es
 
+-- the node of the innermost expression
 abbrev pub root_of : List Started → NodeId
 root_of [] = record { 0 = 0 }
 root_of (e ∷ es) = e.root
 
--- the call that is handed up
+-- 6.5.2.2: the function that is called, where a call is handed up
 abbrev pub function_asked : Now → ℕ
 function_asked (now.Due n) = 0
 function_asked (now.Value v) = 0
 function_asked (now.Asked f args line) = f
 
+-- 6.5.2.2: the arguments of the call that is handed up
 abbrev pub arguments_at : Now → List Worth
 arguments_at (now.Due n) = []
 arguments_at (now.Value v) = []
 arguments_at (now.Asked f args line) = map worth_of args.items
 
+-- the line of the call that is handed up
 abbrev pub line_at : Now → ℕ
 line_at (now.Due n) = 0
 line_at (now.Value v) = 0
 line_at (now.Asked f args line) = line
 
+-- 6.5.2.2: the same of the innermost expression: the function
 abbrev pub asked_function : List Started → ℕ
 asked_function [] = 0
 asked_function (e ∷ es) = function_asked e.place
 
+-- 6.5.2.2: its arguments
 abbrev pub asked_arguments : List Started → List Worth
 asked_arguments [] = []
 asked_arguments (e ∷ es) = arguments_at e.place
 
+-- its line
 abbrev pub asked_line : List Started → ℕ
 asked_line [] = 0
 asked_line (e ∷ es) = line_at e.place

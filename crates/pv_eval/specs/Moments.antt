@@ -18,6 +18,7 @@ use Rattle.pv_eval.specs.States.{Setting, State, Stopped, Res, Gives, Stops}
 use Rattle.pv_eval.specs.Acting.{stamped}
 use Rattle.pv_eval.specs.Operations.{Op, act}
 
+-- what the code has in hand: the world, the bytes that are printed and not yet taken, the events that wait, the turns
 pub record Moment : Type 0 where
   pub world : World
   -- bytes that are printed and not yet taken, and how many were printed in all
@@ -32,10 +33,11 @@ pub record Moment : Type 0 where
 abbrev pub first_world : List ScriptLine → World
 first_world script = record { memory = empty_memory script; owners = []; statics = empty; literals = empty; bodies = [] }
 
--- in a settled run these are the sides of its pairs
+-- 5.1.2: the same in the code's hands; in a settled run with the sides of its pairs
 abbrev pub first_moment : List ScriptLine → Option (List Bool) → Moment
 first_moment script sides = record { world = first_world script; printed = []; total = 0; waiting = []; taken = 0; sides = sides }
 
+-- the sides that are given, as a list
 abbrev pub sides_of : Option (Vec Bool Global) → Option (List Bool)
 sides_of None = None
 sides_of (Some v) = Some v.items
@@ -70,12 +72,13 @@ Tested r (Ok t) s = r ≡ Gives (truth_int t) s
 Tested r (Err (failure.Stop y line)) s = r ≡ Stops (Stopped (wrong_for y) line) s
 Tested r (Err failure.NoMemory) s = Unit {0}
 
--- the same of what gives nothing, and of what gives a number
+-- the same of what gives nothing
 abbrev pub Made : Res Worth → Result (Unit {0}) Failure → State → Type 0
 Made r (Ok v) s = r ≡ Gives Nothing s
 Made r (Err (failure.Stop y line)) s = r ≡ Stops (Stopped (wrong_for y) line) s
 Made r (Err failure.NoMemory) s = Unit {0}
 
+-- the same of what gives a number
 abbrev pub Needed : Res Worth → Result ℤ Failure → State → Type 0
 Needed r (Ok n) s = r ≡ Gives (int n) s
 Needed r (Err (failure.Stop y line)) s = r ≡ Stops (Stopped (wrong_for y) line) s

@@ -26,6 +26,7 @@ use Rattle.pv_eval.specs.Objects.{names_object, makes, ends, makes_literal, fill
 use Rattle.pv_eval.specs.Library.{asks}
 use Rattle.pv_eval.specs.Suiting.{knows_worth, knows_arguments, is_small, is_integer, is_promoted, is_operand, is_size, is_stored, has_part}
 
+-- an operation of a run (6.3, 6.5, 6.7.9, 7), with its operands
 pub data Op : Type 0 where
   -- 6.3, 6.5.3.3, 6.5.5 to 6.5.14
   Converts : How → Worth → Op
@@ -62,7 +63,7 @@ pub data Op : Type 0 where
   -- 7
   Asks : Library → List Arg → Op
 
--- what typing promises of the operands of an operation: an operand of another kind comes from no checked unit
+-- 6.3, 6.5, 6.7.9: what typing promises of the operands of an operation: an operand of another kind comes from no checked unit
 abbrev pub suits : Setting → Op → World → Bool
 suits b (Converts how v) w = is_small v && knows_worth w.memory.table v
 suits b (Calculates op k v x) w = (is_promoted k && fits_of k (int_of v)) && is_operand op k (int_of x)
@@ -83,7 +84,7 @@ suits b (Asks f args) w = knows_arguments w.memory.table args
 -- the others take every value
 suits b _ w = true
 
--- one line an operation
+-- 6.3, 6.5, 6.7.9, 7: what each operation does, one line an operation
 abbrev pub works : Setting → Op → World → Done
 works b (Converts how v) = converts how v
 works b (Calculates op k v x) = calculates op k v x
@@ -117,5 +118,6 @@ works b (Asks f args) = asks f args
 abbrev pub does : Setting → Op → World → Done
 does b op w = if suits b op w then works b op w else Fails missing_value None w quiet
 
+-- the same in the state of a run (5.1.2.3), for the node in this line
 abbrev pub act : Setting → (line : ℕ) → Op → State → Res Worth
 act b line op s = acted b line (does b op s.world) s

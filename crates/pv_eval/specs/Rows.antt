@@ -6,8 +6,10 @@ use Rattle.std.specs.contracts.vec.Vec as vec
 use Rattle.std.specs.contracts.impls.GlobalAllocator.TheImpl.{ghosts}
 use Rattle.pv_eval.specs.contracts.marked.Marked as marked
 
+-- the bytes that are printed
 abbrev pub bytes_row : RattleType
 bytes_row = vec.the_row u8 global.the_row ghosts
 
+-- the events that wait to be told
 abbrev pub events_row : RattleType
 events_row = vec.the_row marked.the_row global.the_row ghosts

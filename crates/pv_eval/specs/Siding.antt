@@ -16,6 +16,7 @@ side_by false o = Free
 side_by true None = Ended
 side_by true (Some high) = Keeps high
 
+-- the same, by how many pairs there were before and after an operation
 abbrev pub side_for : Option (List Bool) → (before after : ℕ) → Side
 side_for None n m = Free
 side_for (Some sides) n m = side_by (nat_lt n m) (slice_get sides n)

@@ -15,21 +15,27 @@ use Rattle.pv_eval.specs.Conversions.{how_by}
 abbrev pub setting_of : Stored → Setting
 setting_of u = record { unit = whole u; types = u.known; bound = 0; sides = None }
 
+-- 6.5.3.4p2: the size of a type, by the table of types
 abbrev pub size_in : Known → Ty → ℕ
 size_in m t = (layout_in (env m) t).size
 
+-- 6.3.2.3p7: its alignment, 1 where it is incomplete
 abbrev pub align_in : Known → Ty → ℕ
 align_in m t = alignment_by (env m) t
 
+-- 6.5p6: its number, qualifiers aside
 abbrev pub number_in : Known → Ty → ℕ
 number_in m t = number_of m (bare t)
 
+-- 6.5.6p8: the size of what it points to
 abbrev pub element_in : Known → Ty → ℕ
 element_in m t = size_in m (pointed_to t)
 
+-- 6.3.2.3p7: the alignment of what it points to
 abbrev pub alignment_in : Known → Ty → ℕ
 alignment_in m t = alignment_by (env m) (pointed_to t)
 
+-- 6.3: which conversion leads from a type to a type
 abbrev pub how_in : Known → (implied : Bool) → (from to : Ty) → How
 how_in m implied from to = how_by (env m) implied (shape_of from) (shape_of to) (pointed_to to)
 

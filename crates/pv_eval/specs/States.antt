@@ -5,8 +5,8 @@ use Rattle.pv_typed.specs.TypedUnits.{WholeUnit}
 use Rattle.pv_eval.specs.declared.marked.Marked.{Marked}
 use Rattle.pv_world.specs.Worlds.{World, Wrong}
 
--- what a run is given and never changes: the unit (5.1.1.1), the numbers of its types, by which bytes are marked (6.5p6), how many
--- turns it may take, and in a settled run the side of each pair, true for the high one
+-- what is given and never changes: the unit (5.1.1.1), the numbers of its types, by which bytes are marked (6.5p6), how many
+-- turns it may take, and in a settled run the side of each pair (the memory model), true for the high one
 pub record Setting : Type 0 where
   pub unit : WholeUnit
   pub types : Known
@@ -21,13 +21,13 @@ pub record State : Type 0 where
   pub events : List Marked
   pub taken : ℕ
 
--- why a run stops: its turns are taken; an operation, of the node in this line; or what never comes, a level that is used up
+-- why a run stops: its turns (5.1.2.3) are taken; an operation, of the node in this line; or what never comes, a level that is used up
 pub data Why : Type 0 where
   Turns : Why
   Unreached : Why
   Stopped : Wrong → (line : ℕ) → Why
 
--- a piece of the run gives a value and the state after it, or stops the whole run, in the state as it stands then
+-- a piece of the run (5.1.2.3) gives a value and the state after it, or stops the whole run, in the state as it stands then
 pub data Res (A : Type 0) : Type 0 where
   Gives : A → State → Res A
   Stops : Why → State → Res A
@@ -37,13 +37,15 @@ abbrev pub then_do : {A B : Type 0} → Res A → (A → State → Res B) → Re
 then_do (Gives a s) go = go a s
 then_do (Stops w s) go = Stops w s
 
+-- a turn more was taken: a step of the abstract machine (5.1.2.3p1)
 abbrev pub spend : State → State
 spend s = record s { taken = s.taken + 1 }
 
--- a turn is taken, or all turns of the bound were
+-- 5.1.2.3p1: a turn is taken, or the run stops where the bound's were all taken
 abbrev pub tick : {A : Type 0} → Setting → State → (State → Res A) → Res A
 tick b s go = if nat_lt s.taken b.bound then go (spend s) else Stops Turns s
 
+-- the state as a piece of the run leaves it, whichever way it ends
 abbrev pub end_of : {A : Type 0} → Res A → State
 end_of (Gives a s) = s
 end_of (Stops w s) = s

@@ -21,7 +21,7 @@ use Rattle.pv_eval.specs.Accesses.{access_to}
 use Rattle.pv_eval.specs.Operations.{Converts, Calculates, Accepts, Moves, Reads, Writes, act}
 use Rattle.pv_eval.specs.Sequenced.{Given, doing}
 
--- what a call of a function does, of its number, its arguments and the line of the call
+-- 6.5.2.2: what a call of a function does, of its number, its arguments and the line of the call
 abbrev pub Calling : Type 0
 Calling = (function : ℕ) → List Worth → (line : ℕ) → State → Res Worth
 
@@ -34,16 +34,17 @@ takes turn (Subscript a b) = turn
 takes turn (Indirection a) = turn
 takes turn _ = true
 
+-- 5.1.2.3p1: a turn, if there is one to be taken
 abbrev pub tick_if : {A : Type 0} → Bool → Setting → State → (State → Res A) → Res A
 tick_if true b s go = tick b s go
 tick_if false b s go = go s
 
--- an operand's value, converted where its node is an implicit conversion
+-- 6.3p1: an operand's value, converted where its node is an implicit conversion
 abbrev pub converted : Setting → TypedTree → Worth → State → Res Worth
 converted b (Node t line turn (Convert (Node u m k x))) v s = act b line (Converts (how_to b true u t) v) s
 converted b (Node t line turn x) v s = Gives v s
 
--- an argument, a value that is returned or stored: converted, and there
+-- 6.5.2.2p7, 6.7.9p11: an argument, or a value that is stored: converted as if by assignment, and there (6.9.1p12)
 abbrev pub handed : Setting → TypedTree → Worth → State → Res Worth
 handed b x v s = then_do (converted b x v s) (λ v s. act b (line_of x) (Accepts v) s)
 
@@ -60,20 +61,24 @@ abbrev pub source_of : TypedTree → Worth → Option ℕ
 source_of (Node t line turn (Read a)) v = origin_of v
 source_of (Node t line turn _) v = None
 
+-- 6.5.9p3: whether the operator is `!=`
 abbrev pub is_unequal : BinOp → Bool
 is_unequal op.Ne = true
 is_unequal _ = false
 
+-- 6.5.6: whether the operator is `-`
 abbrev pub is_minus : Sign → Bool
 is_minus Minus = true
 is_minus Plus = false
 
+-- 6.5.2.4p3, 6.5.3.1p3: whether 1 is taken off
 abbrev pub is_down : IncrementOperator → Bool
 is_down PostDecrement = true
 is_down PreDecrement = true
 is_down PostIncrement = false
 is_down PreIncrement = false
 
+-- 6.5.2.4p2, p3: whether the result is the value before
 abbrev pub is_after : IncrementOperator → Bool
 is_after PostIncrement = true
 is_after PostDecrement = true

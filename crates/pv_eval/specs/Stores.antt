@@ -13,10 +13,11 @@ use Rattle.pv_eval.specs.Objects.{where_possible}
 abbrev pub fills_sized : ℕ → (lasting : Bool) → (size : ℕ) → Option ℕ → World → Done
 fills_sized o lasting size v w = where_possible (has_room w (instance_of w o lasting) 0 size) w (fills_object o lasting size v w)
 
--- a value is stored in so many bytes, as one of a type of this number and shape
+-- 6.7.9p11, 6.9.1p10: an object that lives, with room for a value of this shape
 abbrev pub can_store : ℕ → (lasting : Bool) → (offset size : ℕ) → Shape → Worth → World → Bool
 can_store o lasting offset size s v w = (is_stored s size v && knows_worth w.memory.table v) && has_room w (instance_of w o lasting) offset size
 
+-- 6.7.9p11, 6.9.1p10: a value is stored in so many bytes, as one of a type of this number and shape
 abbrev pub stores : ℕ → (lasting : Bool) → (offset size number : ℕ) → Shape → Worth → World → Done
 stores o lasting offset size number s v w = where_possible (can_store o lasting offset size s v w) w (puts_bytes o lasting offset (stored_as number s v) w)
 

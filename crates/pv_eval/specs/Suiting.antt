@@ -22,26 +22,30 @@ use Rattle.pv_world.specs.declared.got.Shape.TheVariants as shape
 use Rattle.pv_world.specs.Worlds.{Worth, Nothing, Missing, Scalar as ScalarWorth, Whole, World}
 use Rattle.pv_world.specs.Worths.{int_of}
 
--- 6.2.4: what a name speaks of was made
+-- what a name speaks of was made (the memory model: provenance)
 abbrev pub knows : Table → Prov → Bool
 knows T Empty = true
 knows T (Inst i) = nat_le 1 i && nat_le i (length T.instances)
 knows T (Pair k) = nat_le 1 k && nat_le k (length T.pairs)
 
+-- the same of the name in a value (the memory model)
 abbrev pub knows_value : Table → Value → Bool
 knows_value T (PointerValue p) = knows T p.prov
 knows_value T (IntValue n) = true
 knows_value T Unset = true
 
+-- the same of the names in abstract bytes (the memory model)
 abbrev pub knows_bytes : Table → List Byte → Bool
 knows_bytes T bytes = list_all (λ (x : Byte). knows T x.prov) bytes
 
+-- the same of the names in what an expression gives (the memory model)
 abbrev pub knows_worth : Table → Worth → Bool
 knows_worth T (ScalarWorth v) = knows_value T v
 knows_worth T (Whole bytes origin) = knows_bytes T bytes
 knows_worth T Nothing = true
 knows_worth T Missing = true
 
+-- the same of the names in arguments (the memory model)
 abbrev pub knows_arguments : Table → List Arg → Bool
 knows_arguments T args = list_all (λ (x : Arg). knows_value T x.value) args
 
@@ -55,6 +59,7 @@ is_integer_value (IntValue n) = true
 is_integer_value Unset = true
 is_integer_value (PointerValue p) = false
 
+-- 6.8.4.2p1: the same of what an expression gives
 abbrev pub is_integer : Worth → Bool
 is_integer (ScalarWorth v) = is_integer_value v
 is_integer Missing = true
@@ -65,16 +70,17 @@ is_integer (Whole bytes origin) = false
 abbrev pub is_promoted : IntKind → Bool
 is_promoted k = nat_le 32 (width k)
 
--- 6.5.5 to 6.5.12: the right operand has the kind, and that of a shift any promoted kind (6.5.7p3)
+-- 6.5.7p2: the right operand of a shift is one of some integer type
 abbrev pub is_count : ℤ → Bool
 is_count n = int_le (neg_ℤ (pos (2 ^ 63))) n && int_le n (pos (2 ^ 64 - 1))
 
+-- 6.5.5 to 6.5.12: the right operand has the kind, and that of a shift any promoted kind (6.5.7p3)
 abbrev pub is_operand : BinOp → IntKind → ℤ → Bool
 is_operand Shl k n = is_count n
 is_operand Shr k n = is_count n
 is_operand op k n = fits_of k n
 
--- no object is larger than this
+-- 5.2.4.1: no object is larger than this
 abbrev pub is_size : ℕ → Bool
 is_size n = nat_le n (2 ^ 32)
 
@@ -101,17 +107,20 @@ has_part Missing offset size = true
 has_part Nothing offset size = false
 has_part (ScalarWorth v) offset size = false
 
--- 6.2.4p2: a live instance, and so many of its bytes from an offset on
+-- 6.2.4p2: the instance is there and lives
 abbrev pub live_in : Option Instance → Bool
 live_in None = false
 live_in (Some x) = x.live
 
+-- 6.2.4p2: the same of the instance with this number
 abbrev pub is_live : World → ℕ → Bool
 is_live w i = live_in (instance_at w.memory.table.instances i)
 
+-- 6.2.4p2: a live instance has so many bytes from an offset on
 abbrev pub room_in : Option Instance → (offset n : ℕ) → Bool
 room_in None offset n = false
 room_in (Some x) offset n = x.live && nat_le (offset + n) x.size
 
+-- 6.2.4p2: the same of the instance with this number
 abbrev pub has_room : World → (i offset n : ℕ) → Bool
 has_room w i offset n = room_in (instance_at w.memory.table.instances i) offset n

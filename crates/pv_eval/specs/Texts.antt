@@ -30,6 +30,7 @@ silent (Breaks y b w t) = Breaks y b w (telling t.events)
 abbrev pub written : List ℕ → State → State
 written text s = record s { output = s.output ++ text }
 
+-- the same of a piece of the run
 abbrev pub with_text : List ℕ → Res Worth → Res Worth
 with_text text (Gives v s) = Gives v (written text s)
 with_text text (Stops y s) = Stops y (written text s)

@@ -12,7 +12,7 @@ use Rattle.pv_world.specs.declared.got.Shape.{Shape}
 use Rattle.pv_world.specs.declared.got.Shape.TheVariants as shape
 use Rattle.pv_eval.specs.States.{Setting}
 
--- an lvalue, qualifiers aside: its type and the number of that, its size, its alignment and its shape
+-- 6.3.2.1p1: an lvalue, qualifiers aside: its type and the number of that, its size, its alignment and its shape
 pub record Lvalue : Type 0 where
   pub t : Ty
   pub number : ℕ
@@ -27,27 +27,29 @@ shape_of (PointerTo t) = shape.Pointer
 shape_of (ConstOf t) = shape_of t
 shape_of _ = shape.Whole
 
--- the number of a type in the table
+-- 6.5p6: the number of a type in the table, by which a store marks its bytes
 abbrev pub number_of : Known → Ty → ℕ
 number_of m t = unwrap_or (position (same_type t) (trees m)) 0
 
--- 6.5.3.4, 6.2.8
+-- 6.5.3.4p2: the size of a type
 abbrev pub size_of : Setting → Ty → ℕ
 size_of b t = (layout_in (layouts b.unit) t).size
 
+-- 6.2.8p1: the alignment of a type
 abbrev pub align_of : Setting → Ty → ℕ
 align_of b t = (layout_in (layouts b.unit) t).align
 
--- 6.3.2.1p1
+-- 6.3.2.1p1: the lvalues of a type
 abbrev pub lvalue : Setting → Ty → Lvalue
 lvalue b t = record { t = bare t; number = number_of b.types (bare t); size = size_of b t; align = align_of b t; shape = shape_of t }
 
--- the kind of an integer type; 6.3.1.1p2: what the promotions make of it
+-- 6.2.5p17: the kind of an integer type
 abbrev pub kind_of : Ty → IntKind
 kind_of (IntTy k) = k
 kind_of (ConstOf t) = kind_of t
 kind_of _ = kind.Int
 
+-- 6.3.1.1p2: what the integer promotions make of a kind
 abbrev pub promoted : IntKind → IntKind
 promoted kind.Bool = kind.Int
 promoted kind.Char = kind.Int
@@ -57,13 +59,13 @@ promoted kind.Short = kind.Int
 promoted kind.UShort = kind.Int
 promoted k = k
 
--- 6.2.5p20, qualifiers aside
+-- 6.2.5p20: a pointer type, qualifiers aside
 abbrev pub is_pointer : Ty → Bool
 is_pointer (PointerTo t) = true
 is_pointer (ConstOf t) = is_pointer t
 is_pointer _ = false
 
--- what a pointer type points to
+-- 6.2.5p20: what a pointer type points to
 abbrev pub pointed_to : Ty → Ty
 pointed_to (PointerTo t) = t
 pointed_to (ConstOf t) = pointed_to t
@@ -83,7 +85,7 @@ is_constant (ConstOf t) = true
 is_constant (ArrayOf t n) = is_constant t
 is_constant _ = false
 
--- 6.9.1p12: what a function of this type gives is nothing
+-- 6.2.5p19: the type `void`, qualifiers aside
 abbrev pub is_none : Ty → Bool
 is_none VoidTy = true
 is_none (ConstOf t) = is_none t

@@ -28,33 +28,33 @@ use Rattle.pv_exec.specs.Run.{setting_of, run_of, outcome_of, sides_at}
 use Rattle.pv_exec.specs.Streaming.{Outlet, IsNear, event_of}
 use Rattle.pv_exec.specs.Sided.{side_of, is_high}
 
--- the sides that are given, each by whether it is the high one
+-- the sides that are given, each by whether it is the high one (the memory model: a pair of candidates)
 abbrev pub highs : {R : Type 0} → Option R → (R → List Side) → Option (List Bool)
 highs None view = None
 highs (Some r) view = Some (map is_high (view r))
 
--- how it ended, at which turn, and on which side each pair stands
+-- how it ended (5.1.2.2.3p1), at which turn, and on which side each pair of candidates stands (the memory model)
 pub record RanAs (r : Res Worth) (ran : Ran) : Type 0 where
   pub outcome : outcome_of r ≡ Some ran.outcome
   pub turns : ran.turns ≡ (end_of r).taken
   pub sides : ran.sides ≡ map side_of (sides_at (end_of r))
 
--- the same where the run is over
+-- the same, by the moment at which the run is over
 pub record RanAt (o : Outcome) (m : Moment) (ran : Ran) : Type 0 where
   pub outcome : ran.outcome ≡ o
   pub turns : ran.turns ≡ m.taken
   pub sides : ran.sides ≡ map side_of (map is_high_pair m.world.memory.table.pairs)
 
--- a hall, by what the trait of its watchers says
+-- a hall as a list of slots, by what the trait of its watchers says
 abbrev pub hall_slots : {X : Type 0} {P : X → Type 0} → Hall X P → ((x : X) × P x → ℕ) → ((x : X) × P x → ℕ) → ((x : X) × P x → List Event) → List Slot
 hall_slots h kind wants seen = slots_in (watcher (λ b. kind (b.vtable, b.value)) (λ b. wants (b.vtable, b.value)) (λ b. seen (b.vtable, b.value))) h
 
--- what the outside has, by what the sink tells and by its hall
+-- what the outside has (5.1.2.3p6), by what the sink tells and by its hall
 abbrev pub outlet : {X : Type 0} {P : X → Type 0} → Option (List ℕ) → Hall X P → ((x : X) × P x → ℕ) → ((x : X) × P x → ℕ) → ((x : X) × P x → List Event) → Outlet
 outlet sink h kind wants seen = record { sink = sink; hall = hall_slots h kind wants seen }
 
 -- where a write failed: what was written of the output, as many bytes as the sink gained, and what was told of the events; each of
--- those came when at most 4095 bytes more were printed than were written
+-- those came when at most 4095 bytes more were printed than were written (7.21.3p3)
 pub record ToldPart (before now : Outlet) (end : State) (names : List (List ℕ)) : Type 0 where
   pub written : List ℕ
   pub unwritten : List ℕ
@@ -83,6 +83,7 @@ abbrev pub error_of : Undelivered → RunError
 error_of undelivered.NoMemory = error.NoMemory
 error_of undelivered.WriteFault = error.WriteFault
 
+-- the same of a run that has no outcome
 abbrev pub error_by : Ended → RunError
 error_by (ended.Failed e) = error_of e
 error_by (ended.Value v) = error.NoMemory

@@ -17,25 +17,26 @@ use Rattle.pv_exec.specs.Works.{does, others, due}
 use Rattle.pv_exec.specs.Leading.{LeadsOr}
 use Rattle.pv_exec.specs.Fits.{DoingFits}
 
--- one parameter
+-- 6.9.1p10: one parameter is made and gets its argument
 abbrev pub takes_one : Setting → (line o : ℕ) → Worth → State → Res Worth
 takes_one b line o v s = then_do (act b line (Makes o) s) (λ x s. act b line (Puts o 0 (lvalue b (object_at b.unit o).t) v) s)
 
--- what comes before the body
+-- 6.9.1p10: what comes before the body of a function that is called
 abbrev pub begun : Setting → (line : ℕ) → TypedFunction → List Worth → State → Res Worth
 begun b line f vs s = then_do (act b line BeginsBody s) (λ x s. take_params b line f.params vs s)
 
--- the body of a function is entered
+-- 6.9.1p11: the body of a function is entered
 pub record BodyIs (u : Stored) (f : ℕ) (d : Doing) : Type 0 where
   pub runs : (b : Setting) (k : ℕ) (es : List Started) (s : State) → b.unit ≡ whole u → left (runs_body b (below b k) (function_at b.unit f).body s) ≡ does b u k es d s
   pub here : (es : List Started) → others es d ≡ es
   pub counts : (es : List Started) → due es d ≡ 1
   pub fits : (es : List Started) → DoingFits u es d
 
--- what is left of an expression that waits for a call, from the call on
+-- 6.5.2.2: what is left of an expression that waits for a call, from the call on
 abbrev pub calls : Setting → Stored → (level f : ℕ) → List Started → State → Res Reached
 calls b u k f es s = then_do (then_do ((below b k).call f (asked_arguments es) (asked_line es) s) (answered_of b (below b k).call u es)) (λ g s. Gives (Valued g.value) s)
 
+-- a call that was handed up leads to the body of its function, one level lower
 abbrev pub CallLed : Stored → (function : ℕ) → Result Way Failure → Machine → Machine → Type 0
 CallLed u f r old new =
     Always u old.moment (λ b out es. (k : ℕ) → old.moment.taken ≤ b.bound → b.bound < old.moment.taken + k →

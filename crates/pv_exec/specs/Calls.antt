@@ -12,39 +12,40 @@ use Rattle.pv_eval.specs.Operations.{Makes, BeginsBody, EndsBody, Puts, act}
 use Rattle.pv_exec.specs.Flows.{Flow, Falls, Breaks, Continues, Returns, Below, end_all, round, round_do}
 use Rattle.pv_exec.specs.Execution.{ex}
 
--- 6.9.1p10: each parameter is made and gets its argument
+-- 6.5.2.2p4, 6.9.1p10: each parameter is made and gets its argument
 abbrev pub take_params : Setting → (line : ℕ) → List ℕ → List Worth → State → Res Worth
 take_params b line [] vs s = Gives Nothing s
 take_params b line (o ∷ os) [] s = Gives Nothing s
 take_params b line (o ∷ os) (v ∷ vs) s =
     then_do (act b line (Makes o) s) (λ x s. then_do (act b line (Puts o 0 (lvalue b (object_at b.unit o).t) v) s) (λ x s. take_params b line os vs s))
 
--- 5.1.2.2.3: reaching the end of `main` gives 0
+-- 5.1.2.2.1p1: the function `main`
 abbrev pub is_main : WholeUnit → TypedFunction → Bool
 is_main u f = named_main u.names f.name
 
+-- 5.1.2.2.3p1, 6.9.1p12: what there is where the `}` is reached: 0 of `main`, nothing of a `void` function, else a missing value
 abbrev pub value_at_end : Setting → TypedFunction → Worth
 value_at_end b f = if is_main b.unit f then int (pos 0) else (if gives_none f.t then Nothing else Missing)
 
--- 6.9.1p12: what a call gives, from how its body was left
+-- 6.8.6.4p3, 6.9.1p12: what a call gives, from how its body was left
 abbrev pub value_by : Setting → TypedFunction → Flow → Worth
 value_by b f (Returns v) = v
 value_by b f Falls = value_at_end b f
 value_by b f Breaks = value_at_end b f
 value_by b f Continues = value_at_end b f
 
--- 6.9p3: a function that is called is defined; the body of another one would be an empty statement
+-- 6.9p3, p5: a function that is called is defined; the body of another one would be an empty statement
 abbrev pub runs_body : Setting → Below → Option TypedStatement → State → Res Flow
 runs_body b u None s = tick b s (λ s. Gives Falls s)
 runs_body b u (Some x) s = ex b u x s
 
--- 6.5.2.2: parameters are made, the body is executed, and the parameters end
+-- 6.5.2.2p4, 6.9.1p10, p11: a call: the parameters are made, the body is executed, and the parameters end (6.2.4p6)
 abbrev pub call_body : Setting → Below → TypedFunction → List Worth → (line : ℕ) → State → Res Worth
 call_body b u f vs line s =
     then_do (act b line BeginsBody s) (λ x s. then_do (take_params b line f.params vs s) (λ x s. then_do (runs_body b u f.body s) (λ fl s.
     then_do (end_all b f.params s) (λ x s. then_do (act b line EndsBody s) (λ x s. Gives (value_by b f fl) s)))))
 
--- what lies below, where so many calls and rounds may still begin, one within or after another
+-- 6.5.2.2p11, 6.8.5p4: what lies below, where so many calls and rounds may still begin, one within or after another
 unfoldable pub below : Setting → ℕ → Below
 below b zero = record {
   call = λ f vs line s. Stops Unreached s;

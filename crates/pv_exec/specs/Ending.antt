@@ -8,7 +8,7 @@ use Rattle.pv_exec.specs.declared.running.Ended.{Ended}
 use Rattle.pv_exec.specs.declared.running.Ended.TheVariants as ended
 use Rattle.pv_exec.specs.Run.{status_of, stopped}
 
--- nothing where it could not go on
+-- 5.1.2.2.3p1: the outcome; nothing where the run could not go on
 abbrev pub outcome_by : Ended → Option Outcome
 outcome_by (ended.Value v) = Some (outcome.Exit (status_of (worth_of v)))
 outcome_by ended.Turns = Some outcome.Turns

@@ -8,6 +8,7 @@ use Rattle.pv_world.specs.Worths.{is_true}
 use Rattle.pv_exec.specs.Parts.{loop_of, rounds, selected, selection_of}
 use Rattle.pv_exec.specs.Tasks.{within}
 
+-- 6.8p2: what each kind of statement does behind its turn; each clause is a part of the clause of execution
 abbrev pub entered : Setting → Below → TypedStatement → State → Res Flow
 entered b w (Block line os xs) s = scoped b os (λ s. exs b w xs s) s
 entered b w (Expression line x) s = nothing_done (full b w.call x s)
@@ -23,15 +24,18 @@ entered b w (Break line) s = Gives Breaks s
 entered b w (Return line x) s = returns_value b w.call x line s
 entered b w x s = Gives Falls s
 
+-- 6.8.1: a statement behind a label
 abbrev pub is_labelled : TypedStatement → Bool
 is_labelled (Case line n x) = true
 is_labelled (Default line x) = true
 is_labelled x = false
 
+-- 6.8.2: a block
 abbrev pub is_block_tree : TypedStatement → Bool
 is_block_tree (Block line os xs) = true
 is_block_tree x = false
 
+-- 6.8.5.3: a `for` with a declaration
 abbrev pub is_for_tree : TypedStatement → Bool
 is_for_tree (ForDeclaration line os ds c step x) = true
 is_for_tree x = false

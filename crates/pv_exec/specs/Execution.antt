@@ -11,6 +11,7 @@ use Rattle.pv_eval.specs.Steps.{converted}
 use Rattle.pv_exec.specs.Flows.{Flow, Falls, Breaks, Continues, Below, full, nothing_done, testing, falls, switched, scoped, declares, stepped, round, round_do, returns_value}
 use Rattle.pv_exec.specs.Labels.{Target, target_of, is_target, unless_none}
 
+-- 6.8p2, 5.1.2.3: what a statement does, its turn first; what the statements of a list do; and what they do from a label on
 unfoldable mutual
   pub ex : Setting → Below → TypedStatement → State → Res Flow
   -- 6.8.2p2
@@ -37,13 +38,13 @@ unfoldable mutual
   ex b u (Break line) s = tick b s (λ s. Gives Breaks s)
   ex b u (Return line x) s = tick b s (λ s. returns_value b u.call x line s)
 
-  -- the statements of a block in their order
+  -- 6.8p2, p3: the statements of a block in their order; a declaration that is reached has its initializer stored
   pub exs : Setting → Below → Statements → State → Res Flow
   exs b u NoStatements s = Gives Falls s
   exs b u (MoreStatements (Declare line o) xs) s = then_do (declares b u.call o (object_at b.unit o) s) (λ fl s. exs b u xs s)
   exs b u (MoreStatements x xs) s = then_do (ex b u x s) (λ fl s. falls fl (λ s. exs b u xs s) s)
 
-  -- the same, from the statement with the label on
+  -- 6.8.4.2p4, p5: the same, from the statement with the label on; what stands before it isn't reached
   pub exs_at : Setting → Below → Target → Statements → State → Res Flow
   exs_at b u at NoStatements s = Gives Falls s
   exs_at b u at (MoreStatements x xs) s =

@@ -19,15 +19,19 @@ use Rattle.pv_exec.specs.declared.task.Way.TheVariants as way
 use Rattle.pv_eval.specs.Machines.{is_going, is_ended}
 use Rattle.pv_exec.specs.Works.{others, passed}
 
+-- a list of statements of the unit
 abbrev pub HasList : Stored → ListId → Type 0
 HasList u l = HasKinds u.rows u.lists (length u.rows) false l
 
+-- a statement that has objects of its own (6.8.2, 6.8.5.3)
 abbrev pub IsScope : Stored → NodeId → Type 0
 IsScope u n = IsStatement u n × (is_scope_tree (statement_at u n) ≡ true)
 
+-- a store of an object's initializer (6.7.9)
 abbrev pub HasStore : Stored → ℕ → ℕ → Type 0
 HasStore u o i = (o < length u.objects) × (i < length (object_at (whole u) o).inits)
 
+-- what a task names is there
 abbrev pub TaskFits : Stored → Task → Type 0
 TaskFits u (task.InList l i) = HasList u l
 TaskFits u (task.InBlock n) = IsScope u n
@@ -46,6 +50,7 @@ TaskFits u (task.Returning n) = IsStatement u n
 TaskFits u (task.Storing o i) = HasStore u o i
 TaskFits u (task.InCall f line) = f < length u.functions
 
+-- what is done now names what is there, and an expression that goes on or has ended is there
 abbrev pub DoingFits : Stored → List Started → Doing → Type 0
 DoingFits u es (doing.Enter n) = IsStatement u n
 DoingFits u es (doing.Jump n l i) = IsScope u n × HasList u l
@@ -86,6 +91,7 @@ abbrev pub WayFits : Stored → (stand es : List Started) → Way → Type 0
 WayFits u stand es (way.Do d) = DoingFits u es d × (others es d ≡ stand)
 WayFits u stand es (way.With t d) = TaskFits u t × DoingFits u es d × (passed t (others es d) ≡ stand) × Stands t (others es d)
 
+-- the same, unless the run ended
 abbrev pub WayFitsOr : Stored → (stand es : List Started) → Result Way Failure → Type 0
 WayFitsOr u stand es (Ok w) = WayFits u stand es w
 WayFitsOr u stand es (Err e) = Unit {0}
@@ -96,10 +102,12 @@ pub record Runs (u : Stored) (tasks : List Task) (es : List Started) (d : Doing)
   pub stand : TasksStand (reverse tasks) (others es d)
   pub doing_fits : DoingFits u es d
 
+-- the same, unless the run ended
 abbrev pub RunsOr : Stored → List Task → List Started → Result Doing Failure → Type 0
 RunsOr u tasks es (Ok d) = Runs u tasks es d
 RunsOr u tasks es (Err e) = Unit {0}
 
+-- the same after an operation, where the run goes on
 abbrev pub AfterRuns : Stored → List Task → List Started → Result After Failure → Type 0
 AfterRuns u tasks es (Ok (after.On d)) = Runs u tasks es d
 AfterRuns u tasks es (Ok (after.Ended fl)) = Unit {0}

@@ -13,14 +13,14 @@ use Rattle.pv_eval.specs.Operations.{Tests, Accepts, Makes, Ends, Fills, Puts, P
 use Rattle.pv_eval.specs.Steps.{Calling, converted, handed}
 use Rattle.pv_eval.specs.Evaluation.{ev}
 
--- how a statement is left (6.8.6)
+-- how a statement is left (6.8p2, 6.8.6p2): it falls through to what follows, or jumps by `break`, `continue` or `return`, with a value
 pub data Flow : Type 0 where
   Falls : Flow
   Breaks : Flow
   Continues : Flow
   Returns : Worth → Flow
 
--- what lies below: a call of a function, and a further round of a loop
+-- what lies below: a call of a function (6.5.2.2), and a further round of a loop (6.8.5p4)
 pub record Below : Type 0 where
   pub call : Calling
   pub again : (condition step : Option TypedTree) → TypedStatement → State → Res Flow
@@ -30,81 +30,89 @@ pub record Below : Type 0 where
 abbrev pub full : Setting → Calling → TypedTree → State → Res Worth
 full b call x s = then_do (ev b call x [] s) (λ g s. Gives g.value s)
 
+-- 6.8.3p2: the value is dropped, and the statement falls through
 abbrev pub nothing_done : Res Worth → Res Flow
 nothing_done r = then_do r (λ v s. Gives Falls s)
 
--- a condition, tested at its own line
+-- 6.8.4.1p2, 6.8.5p4: a controlling expression, compared with 0 at its own line
 abbrev pub testing : Setting → Calling → TypedTree → State → Res Worth
 testing b call x s = then_do (full b call x s) (λ v s. act b (line_of x) (Tests v) s)
 
--- goes on where the statement before fell through
+-- 6.8p2: in sequence: goes on where the statement before fell through; else how that was left is handed on
 abbrev pub falls : Flow → (State → Res Flow) → State → Res Flow
 falls Falls go s = go s
 falls Breaks go s = Gives Breaks s
 falls Continues go s = Gives Continues s
 falls (Returns v) go s = Gives (Returns v) s
 
--- after the body of a loop (6.8.6.2, 6.8.6.3)
+-- 6.8.6.2p2, 6.8.6.3p2: after the body of a loop: `continue` goes on with the loop, `break` ends it
 abbrev pub goes_on : Flow → (State → Res Flow) → State → Res Flow
 goes_on Falls go s = go s
 goes_on Continues go s = go s
 goes_on Breaks go s = Gives Falls s
 goes_on (Returns v) go s = Gives (Returns v) s
 
--- after the body of a switch
+-- 6.8.6.3p2: after the body of a `switch`: `break` ends it, `continue` and `return` are handed on
 abbrev pub switched : Flow → State → Res Flow
 switched Breaks s = Gives Falls s
 switched Falls s = Gives Falls s
 switched Continues s = Gives Continues s
 switched (Returns v) s = Gives (Returns v) s
 
--- 6.2.4p6, 6.8.2: the objects of a block are made when it is entered, in order, and end when it is left
+-- 6.2.4p6, 6.8.2p2: the objects of a block are made when it is entered, in the order of their declarations (which is our choice)
 abbrev pub make_all : Setting → List ℕ → State → Res Worth
 make_all b [] s = Gives Nothing s
 make_all b (o ∷ os) s = then_do (act b (object_at b.unit o).line (Makes o) s) (λ v s. make_all b os s)
 
+-- 6.2.4p6: and end when it is left, in the same order
 abbrev pub end_all : Setting → List ℕ → State → Res Worth
 end_all b [] s = Gives Nothing s
 end_all b (o ∷ os) s = then_do (act b (object_at b.unit o).line (Ends o) s) (λ v s. end_all b os s)
 
+-- 6.2.4p6: a block: its objects are made, it is executed, and in whatever way it is left they end
 abbrev pub scoped : Setting → List ℕ → (State → Res Flow) → State → Res Flow
 scoped b os body s = then_do (make_all b os s) (λ v s. then_do (body s) (λ fl s. then_do (end_all b os s) (λ v s. Gives fl s)))
 
--- 6.7.9: the stores of an initializer that is reached; each takes a turn
+-- 6.7.9p11, p13, p14: a store of an initializer that is reached takes a turn: a value as if assigned, or a string's characters
 abbrev pub stores_value : Setting → Calling → (object : ℕ) → Store → StoredValue → State → Res Worth
 stores_value b call o x (ValueOf e) s =
     tick b s (λ s. then_do (full b call e s) (λ v s. then_do (handed b e v s) (λ v s. act b x.line (Puts o x.offset (lvalue b x.t) v) s)))
 stores_value b call o x (TextOf l) s = tick b s (λ s. act b x.line (PutsText o x.offset (size_of b x.t) l) s)
 
+-- 6.7.9p19: all stores, in the order of the list (p23 leaves the order of evaluation open)
 abbrev pub store_all : Setting → Calling → (object : ℕ) → List Store → State → Res Worth
 store_all b call o [] s = Gives Nothing s
 store_all b call o (x ∷ xs) s = then_do (stores_value b call o x x.what s) (λ v s. store_all b call o xs s)
 
+-- 6.7.9p10, p19, p21: all bytes first: 0 where there are braces or a string for an array; without an initializer they have no value
 abbrev pub begin_fill : Setting → (object : ℕ) → (braced : Bool) → List Store → State → Res Worth
 begin_fill b o true xs s = act b (object_at b.unit o).line (Fills o (Some 0)) s
 begin_fill b o false [] s = act b (object_at b.unit o).line (Fills o None) s
 begin_fill b o false (x ∷ xs) s = Gives Nothing s
 
--- 6.2.4p6, 6.7.9p10, p19: a declaration that is reached
+-- 6.2.4p6, 6.8p3, 6.7.9p10, p19: a declaration that is reached: its object has its value anew
 abbrev pub declares : Setting → Calling → (object : ℕ) → TypedObject → State → Res Flow
 declares b call o x s = then_do (begin_fill b o x.braced x.inits s) (λ v s. nothing_done (store_all b call o x.inits s))
 
--- 6.8.5: a round of `while` and `for`; of `do`
+-- 6.8.5p4, 6.8.5.3p2: goes on where the condition isn't 0, or where a `for` has none; else the loop has ended
 abbrev pub if_tested : Setting → Calling → Option TypedTree → (State → Res Flow) → State → Res Flow
 if_tested b call None go s = go s
 if_tested b call (Some x) go s = then_do (testing b call x s) (λ v s. if is_true v then go s else Gives Falls s)
 
+-- 6.8.5.3p1, p2: the first or the last expression of a `for`, which may be left out
 abbrev pub stepped : Setting → Calling → Option TypedTree → (State → Res Flow) → State → Res Flow
 stepped b call None go s = go s
 stepped b call (Some x) go s = then_do (full b call x s) (λ v s. go s)
 
+-- 6.8.5.1p1, 6.8.5.3p1: a round of `while` or `for`: the condition, the body, the last expression, and again
 abbrev pub round : Setting → Calling → (condition step : Option TypedTree) → (body again : State → Res Flow) → State → Res Flow
 round b call c step body again s = if_tested b call c (λ s. then_do (body s) (λ fl s. goes_on fl (stepped b call step again) s)) s
 
+-- 6.8.5.2p1: a round of `do`: the body, the condition, and again
 abbrev pub round_do : Setting → Calling → (condition : TypedTree) → (body again : State → Res Flow) → State → Res Flow
 round_do b call c body again s = then_do (body s) (λ fl s. goes_on fl (if_tested b call (Some c) again) s)
 
--- 6.8.6.4p3: the value is converted as if by assignment, and passed on
+-- 6.8.6.4p2, p3: the value of a `return` is converted as if by assignment, and passed on
 abbrev pub returns_value : Setting → Calling → Option TypedTree → (line : ℕ) → State → Res Flow
 returns_value b call None line s = Gives (Returns Nothing) s
 returns_value b call (Some x) line s =

@@ -4,11 +4,11 @@ use Rattle.pv_typed.specs.Children.{Each}
 use Rattle.pv_eval.specs.declared.marked.Marked.{Marked}
 use Rattle.pv_eval.specs.States.{State}
 
--- an event of this turn or of a later one
+-- 5.1.2.3: an event of this turn or of a later one
 abbrev pub IsFrom : (turn : ℕ) → Marked → Type 0
 IsFrom n m = n ≤ m.event.turn
 
--- from one moment to a later one, where nothing comes before this turn
+-- 5.1.2.3: from one moment to a later one, where nothing comes before this turn: bytes that were printed and events stay as they are
 pub record Grew (turn : ℕ) (s t : State) : Type 0 where
   pub taken : turn ≤ t.taken
   pub more : List Marked

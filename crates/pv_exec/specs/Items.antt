@@ -19,6 +19,7 @@ abbrev pub declared_in : TypedStatement → Option ℕ
 declared_in (Declare line o) = Some o
 declared_in _ = None
 
+-- what is left of a list from this place on
 abbrev pub item_does : Setting → Below → Stored → ListId → Item → State → Res Flow
 item_does b w u l item.End s = Gives Falls s
 item_does b w u l (item.Statement n i) s = then_do (ex b w (statement_at u n) s) (λ fl s. falls fl (λ s. exs b w (statements_from u l i) s) s)
@@ -29,6 +30,7 @@ abbrev pub ItemOr : Setting → Stored → ListId → (from : ℕ) → Result It
 ItemOr b u l i (Ok x) s s' = (w : Below) → exs b w (statements_from u l i) s ≡ item_does b w u l x s'
 ItemOr b u l i (Err e) s s' = Unit {0}
 
+-- what it names is there
 abbrev pub ItemFits : Stored → Item → Type 0
 ItemFits u item.End = Unit {0}
 ItemFits u (item.Statement n i) = IsStatement u n

@@ -5,39 +5,45 @@ use Rattle.pv_typed.specs.TypedStatement.{TypedStatement, Case, Default, Stateme
 use Rattle.pv_eval.specs.States.{State, Res, Gives}
 use Rattle.pv_exec.specs.Flows.{Flow, Falls}
 
--- 6.8.4.2p5, p7: the label to which a switch jumps: that of its value, else `default`, else none
+-- 6.8.4.2p5: the label to which a `switch` jumps: that of its value, else `default`, else none
 pub data Target : Type 0 where
   ToCase : ℤ → Target
   ToDefault : Target
   ToNone : Target
 
+-- 6.8.4.2p5: a `case` with this value is among the labels of a statement (6.8.1)
 abbrev pub has_case : ℤ → TypedStatement → Bool
 has_case v (Case line n x) = int_eq n v || has_case v x
 has_case v (Default line x) = has_case v x
 has_case v _ = false
 
+-- 6.8.4.2p5: a `default` is among the labels of a statement
 abbrev pub has_default : TypedStatement → Bool
 has_default (Default line x) = true
 has_default (Case line n x) = has_default x
 has_default _ = false
 
+-- 6.8.4.2p5: a statement of the body has a `case` with this value
 abbrev pub some_case : ℤ → Statements → Bool
 some_case v NoStatements = false
 some_case v (MoreStatements x xs) = has_case v x || some_case v xs
 
+-- 6.8.4.2p5: a statement of the body has a `default`
 abbrev pub some_default : Statements → Bool
 some_default NoStatements = false
 some_default (MoreStatements x xs) = has_default x || some_default xs
 
+-- 6.8.4.2p5: where a `switch` with this value jumps
 abbrev pub target_of : ℤ → Statements → Target
 target_of v xs = if some_case v xs then ToCase v else (if some_default xs then ToDefault else ToNone)
 
+-- 6.8.4.2p5: whether this is the statement to which it jumps
 abbrev pub is_target : Target → TypedStatement → Bool
 is_target (ToCase v) x = has_case v x
 is_target ToDefault x = has_default x
 is_target ToNone x = false
 
--- 6.8.4.2p7: where no label fits, nothing of the body is executed
+-- 6.8.4.2p5: where no label fits, nothing of the body is executed
 abbrev pub unless_none : Target → (State → Res Flow) → State → Res Flow
 unless_none ToNone go s = Gives Falls s
 unless_none (ToCase v) go s = go s

@@ -11,30 +11,30 @@ use Rattle.pv_exec.specs.declared.outcome.Outcome.TheVariants as outcome
 use Rattle.pv_exec.specs.Run.{setting_of, run_of, outcome_of}
 use Rattle.pv_exec.specs.Growing.{Grew}
 
--- the run of a unit with this bound
+-- 5.1.2p1: the run of a unit with this bound
 abbrev pub run_at : Stored → Option (List Bool) → List ScriptLine → (bound : ℕ) → Res Worth
 run_at u sides script n = run_of (setting_of u n sides) script
 
--- an event that came by this turn, when so many bytes were printed at most
+-- 5.1.2.3: an event that came by this turn, when so many bytes were printed at most
 abbrev pub IsUpto : (turn printed : ℕ) → Marked → Type 0
 IsUpto n k m = (m.event.turn ≤ n) × (m.mark ≤ k)
 
--- no more turns were taken than the bound allows, and all events came by then
+-- no more turns (5.1.2.3) were taken than the bound allows, and all events came by then
 pub record IsWithin (bound : ℕ) (s : State) : Type 0 where
   pub taken : s.taken ≤ bound
   pub events : Each (IsUpto s.taken (length s.output)) s.events
 
--- a run that ends by turns took all of them
+-- a run that ends by turns (5.1.2.3) took all of them
 abbrev pub TakesAll : (bound : ℕ) → Res Worth → Type 0
 TakesAll n r = outcome_of r ≡ Some outcome.Turns → (end_of r).taken ≡ n
 
--- a run at a lesser bound, beside that at a greater one: it was cut off when another turn was due, and the other went on
+-- 5.1.2.3: a run at a lesser bound, beside that at a greater one: it was cut off when another turn was due, and the other went on
 pub record IsCutOff (n : ℕ) (r r' : Res Worth) : Type 0 where
   pub outcome : outcome_of r ≡ Some outcome.Turns
   pub taken : (end_of r).taken ≡ n
   -- what the other one printed and told later is later
   pub goes_on : Grew (n + 1) (end_of r) (end_of r')
 
--- or it is the same run
+-- 5.1.2.3: or it is the same run
 abbrev pub IsCut : (n : ℕ) → Res Worth → Res Worth → Type 0
 IsCut n r r' = (r' ≡ r) ⊎ IsCutOff n r r'

@@ -26,19 +26,22 @@ use Rattle.pv_exec.specs.Entering.{entered}
 use Rattle.pv_exec.specs.Tasks.{Reached, Left, Valued, left, after_task, after_flow, after_value}
 use Rattle.pv_exec.specs.Works.{flow_of, does, due, others, passed, Work, after_work, Standing, Holds}
 
--- what an operation leads to, at the levels of what waits and of what is done
+-- what is done next, of what an operation leads to
 abbrev pub doing_in : Way → Doing
 doing_in (way.Do d) = d
 doing_in (way.With t d) = d
 
+-- what such a way does, at the level of what waits and at that of what is done
 abbrev pub way_means : Setting → Stored → (waits level : ℕ) → List Started → Way → State → Res Reached
 way_means b u i k es (way.Do d) s = does b u k es d s
 way_means b u i k es (way.With t d) s = then_do (does b u k es d s) (after_task b u i (others es d) t)
 
+-- the expressions that are left to the tasks below
 abbrev pub passed_by : Way → List Started → List Started
 passed_by (way.Do d) es = es
 passed_by (way.With t d) es = passed t es
 
+-- a piece of the run leads here: it is what the way does, and there are levels enough for the turns that are left
 pub record Leads (b : Setting) (u : Stored) (all : Res Reached) (stand : List Started) (w : Way) (es : List Started) (s : State) : Type 0 where
   pub waits : ℕ
   pub level : ℕ
@@ -47,6 +50,7 @@ pub record Leads (b : Setting) (u : Stored) (all : Res Reached) (stand : List St
   pub room_waits : b.bound < s.taken + waits + due es (doing_in w)
   pub room : b.bound < s.taken + level + due es (doing_in w)
 
+-- or it ends the run
 abbrev pub LeadsOr : Setting → Stored → Res Reached → List Started → Result Way Failure → List Started → State → Type 0
 LeadsOr b u all stand (Ok w) es s = Leads b u all stand w es s
 LeadsOr b u all stand (Err (failure.Stop y line)) es s = all ≡ Stops (Stopped (wrong_for y) line) s
@@ -62,13 +66,15 @@ Led u piece stand r old new =
     Always u old.moment (λ b out es. (k : ℕ) → b.bound < old.moment.taken + k →
     LeadsOr b u (left (piece b k (state_of old.moment out es))) stand r new.started (state_of new.moment out es))
 
--- 6.8: what a statement does once its turn was taken; 6.8.5: a loop once its condition has this value; 6.8.2: a block that was left so
+-- 6.8: what a statement does once its turn was taken
 abbrev pub entered_at : Stored → NodeId → Setting → (level : ℕ) → State → Res execution.Flow
 entered_at u n b k s = entered b (below b k) (statement_at u n) s
 
+-- 6.8.5p4: a loop once its condition has this value
 abbrev pub tested_at : Stored → NodeId → Worth → Setting → (level : ℕ) → State → Res execution.Flow
 tested_at u n v b k s = tested b (below b k) (loop_of (statement_at u n)) v s
 
+-- 6.2.4p6: a block that was left so: its objects end
 abbrev pub block_left : Stored → NodeId → execution.Flow → Setting → (level : ℕ) → State → Res execution.Flow
 block_left u n fl b k s = then_do (execution.end_all b (declared_of (statement_at u n)) s) (λ v s. Gives fl s)
 

@@ -34,6 +34,7 @@ doing_ops es (doing.Left fl) k = 4 * k + 1
 doing_ops es doing.Evaluate k = if nat_eq (due_turns es) 0 then 4 * k + 4 else 0
 doing_ops es doing.Evaluated k = 4 * k + 1
 
+-- the same of what an operation leads to
 abbrev pub way_ops : List Started → Way → ℕ → ℕ
 way_ops es (way.Do d) k = doing_ops es d k
 way_ops es (way.With t d) k = doing_ops es d (k + 1)

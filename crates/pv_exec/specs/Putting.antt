@@ -15,10 +15,12 @@ use Rattle.pv_exec.specs.Calls.{below}
 use Rattle.pv_exec.specs.Tasks.{Reached, Left, left}
 use Rattle.pv_exec.specs.Leading.{LeadsOr}
 
+-- 6.7.9p11: the first of these stores, and then the others
 abbrev pub put_first : Setting → (level o : ℕ) → List Store → Worth → State → Res Reached
 put_first b k o [] v s = Gives (Left Falls) s
 put_first b k o (x ∷ xs) v s = left (then_do (then_do (act b x.line (Puts o x.offset (lvalue b x.t) v) s) (λ v s. store_all b (below b k).call o xs s)) (λ v s. Gives Falls s))
 
+-- what a store of this value leads to
 abbrev pub PutLed : Stored → (object i : ℕ) → Worth → Result Way Failure → Machine → Machine → Type 0
 PutLed u o i v r old new =
     Always u old.moment (λ b out es. (k : ℕ) → b.bound < old.moment.taken + k →

@@ -21,10 +21,12 @@ Quick es (way.Do doing.Evaluate) = Unit {0}
 Quick es (way.Do doing.Evaluated) = Unit {0}
 Quick es (way.With t d) = due es d ≡ 1
 
+-- unless the run ended
 abbrev pub QuickOr : List Started → Result Way Failure → Type 0
 QuickOr es (Ok w) = Quick es w
 QuickOr es (Err e) = Unit {0}
 
+-- what is done next is the end of something, or takes a turn
 abbrev pub EndsNow : List Started → Doing → Type 0
 EndsNow es (doing.Enter n) = Unit {0}
 EndsNow es (doing.Jump n l i) = Unit {0}
@@ -41,6 +43,7 @@ abbrev pub Ends : List Started → Way → Type 0
 Ends es (way.Do d) = EndsNow es d
 Ends es (way.With t d) = due es d ≡ 1
 
+-- unless the run ended
 abbrev pub EndsOr : List Started → Result Way Failure → Type 0
 EndsOr es (Ok w) = Ends es w
 EndsOr es (Err e) = Unit {0}
@@ -51,6 +54,7 @@ WithinNow es (way.Do d) = EndsNow es d
 WithinNow es (way.With t (doing.Statements l i)) = Unit {0}
 WithinNow es (way.With t d) = ⊥
 
+-- the same of what stands within a `for`
 abbrev pub WithinOr : List Started → Result Way Failure → Type 0
 WithinOr es (Ok w) = WithinNow es w
 WithinOr es (Err e) = Unit {0}

@@ -14,35 +14,44 @@ use Rattle.pv_exec.specs.declared.task.Way.{Way}
 use Rattle.pv_exec.specs.declared.task.Way.TheVariants as way
 use Rattle.pv_exec.specs.Parts.{DoLoop, Choice, Items}
 
+-- 6.8.5.2: a `do` by the numbers of its parts
 abbrev pub do_in : List Tree → DoParts → DoLoop
 do_in ts p = record { condition = expression_in ts p.condition; body = statement_in ts p.body }
 
+-- if it is one
 abbrev pub do_read : List Tree → Option DoParts → Option DoLoop
 do_read ts None = None
 do_read ts (Some p) = Some (do_in ts p)
 
+-- 6.8.4.1: an `else` by its number
 abbrev pub other_read : List Tree → Option NodeId → Option TypedStatement
 other_read ts None = None
 other_read ts (Some n) = Some (statement_in ts n)
 
+-- 6.8.4.1: an `if` by the numbers of its parts
 abbrev pub choice_in : List Tree → ChoiceParts → Choice
 choice_in ts p = record { condition = expression_in ts p.condition; body = statement_in ts p.body; other = other_read ts p.other }
 
+-- if it is one
 abbrev pub choice_read : List Tree → Option ChoiceParts → Option Choice
 choice_read ts None = None
 choice_read ts (Some p) = Some (choice_in ts p)
 
+-- an `else` is a statement of the unit
 abbrev pub HasOther : Stored → Option NodeId → Type 0
 HasOther u None = Unit {0}
 HasOther u (Some n) = IsStatement u n
 
+-- the parts of an `if` are there
 abbrev pub ChoiceFits : Stored → ChoiceParts → Type 0
 ChoiceFits u p = IsExpression u p.condition × IsStatement u p.body × HasOther u p.other
 
+-- 6.8.4.1p2: what is done where the condition does not hold
 abbrev pub other_way : Option NodeId → Way
 other_way None = way.Do (doing.Left flow.Falls)
 other_way (Some y) = way.Do (doing.Enter y)
 
+-- 6.8.4.1p2: the side by the condition
 abbrev pub side_of : ChoiceParts → Bool → Way
 side_of p true = way.Do (doing.Enter p.body)
 side_of p false = other_way p.other

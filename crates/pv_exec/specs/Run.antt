@@ -20,28 +20,33 @@ use Rattle.pv_exec.specs.declared.outcome.Outcome.TheVariants as outcome
 use Rattle.pv_exec.specs.Calls.{below, call_body}
 use Rattle.pv_exec.specs.Preparing.{prepare}
 
+-- what a run is given: the unit (5.1.1.1), its bound, and in a settled run the sides of its pairs
 abbrev pub setting_of : Stored → (bound : ℕ) → Option (List Bool) → Setting
 setting_of u bound sides = record { unit = whole u; types = u.known; bound = bound; sides = sides }
 
+-- 5.1.2p1: nothing is made, printed or told yet, and the script says where storage instances will lie (the memory model)
 abbrev pub first : List ScriptLine → State
 first script = record { world = first_world script; output = []; events = []; taken = 0 }
 
--- 5.1.2.2.1: `main` is called, without arguments, in the line of its name
+-- 5.1.2.2.1p1: `main` is called, without arguments, in the line of its name
 abbrev pub call_main : Setting → Option ℕ → State → Res Worth
 call_main b None s = Gives Nothing s
 call_main b (Some f) s = call_body b (below b b.bound) (function_at b.unit f) [] (function_at b.unit f).line s
 
+-- 5.1.2p1: the run: what comes before the first turn, and the call of `main`
 unfoldable pub run_of : Setting → List ScriptLine → Res Worth
 run_of b script = then_do (prepare b (first script)) (λ v s. call_main b (main_of b.unit) s)
 
--- 5.1.2.2.3: the status that `main` gives
+-- 5.1.2.2.3p1: a status is an `int`; typing makes sure of it
 abbrev pub status_in : ℤ → ℤ
 status_in n = if fits_of kind.Int n then n else pos 0
 
+-- 5.1.2.2.3p1: the status, by the value that `main` gives
 abbrev pub status_of : Worth → ℤ
 status_of v = status_in (int_of v)
 
--- a request for an instance was refused; those for objects and literals are never denied
+-- the memory model leaves open where a storage instance lies: the request for one was refused;
+-- those for objects and literals are never denied
 abbrev pub refused : (name : ℕ) → CreateError → (line : ℕ) → Option Outcome
 refused name (refusal.Storage live size) line = Some (outcome.Storage live size line)
 refused name refusal.Denied line = None
@@ -50,6 +55,7 @@ refused name (refusal.Misaligned k address) line = Some (outcome.Placement reaso
 refused name (refusal.Overlap k address other) line = Some (outcome.Placement reason.Overlap name k line)
 refused name refusal.NoMemory line = None
 
+-- a run ended without undefined behaviour: an indeterminate value (3.19.2), `exit` (7.22.4.4), `abort` (7.22.4.1), a refused request
 abbrev pub halted : Halt → ℕ → Option Outcome
 halted Indeterminate line = Some (outcome.Indeterminate line)
 halted (Exits n) line = Some (outcome.Exit n)
@@ -57,18 +63,19 @@ halted Aborts line = Some (outcome.Abort line)
 halted (Refused name e) line = refused name e line
 halted (SidesEnded k) line = Some (outcome.SidesEnded k)
 
+-- an operation ended the run: undefined behaviour (3.4.3), what the memory model leaves undecided, or one of those above
 abbrev pub stopped : Wrong → ℕ → Option Outcome
 stopped (Undefined f) line = Some (outcome.Undefined f line)
 stopped Undecided line = Some (outcome.Undecided line)
 stopped (Halts h) line = halted h line
 
--- how a run ended; its levels are never used up
+-- 5.1.2.2.3p1: how a run ended: `main` returned, its turns were taken, or an operation ended it; its levels are never used up
 abbrev pub outcome_of : Res Worth → Option Outcome
 outcome_of (Gives v s) = Some (outcome.Exit (status_of v))
 outcome_of (Stops Turns s) = Some outcome.Turns
 outcome_of (Stops Unreached s) = None
 outcome_of (Stops (Stopped y line) s) = stopped y line
 
--- of each pair whether it was settled to its high candidate
+-- the memory model: of each pair of candidates whether it was settled to its high one
 abbrev pub sides_at : State → List Bool
 sides_at s = map is_high_pair s.world.memory.table.pairs

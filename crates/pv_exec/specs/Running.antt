@@ -47,11 +47,12 @@ pub record StatementsLed (u : Stored) (before now : Outlet) (n : ℕ) (d : Doing
   pub keeps : OnOk r (KeepsApart bytes old.moment new.moment)
   pub led : Always u old.moment (λ b out es. (all : Res Reached) → b.bound ≡ n → Holds b u all [] old.started d (state_of old.moment out es) → LastOr all r new (out ++ bytes) (es ++ events))
 
--- before a value
+-- the same where an operation failed before there was a value
 abbrev pub ended_by : Failure → Ended
 ended_by (failure.Stop y line) = ended.Stop y line
 ended_by failure.NoMemory = ended.Failed undelivered.NoMemory
 
+-- why it could not go on
 abbrev pub failed : Ended → Option Undelivered
 failed (ended.Failed e) = Some e
 failed (ended.Value v) = None
@@ -65,7 +66,7 @@ EndedIs r ended.Turns m out es = r ≡ Stops Turns (state_of m out es)
 EndedIs r (ended.Stop y line) m out es = r ≡ Stops (Stopped (wrong_for y) line) (state_of m out es)
 EndedIs r (ended.Failed e) m out es = Begins out es (end_of r)
 
--- no write failed
+-- whatever else failed, no write did
 abbrev pub IsCalm : Ended → Type 0
 IsCalm (ended.Failed undelivered.WriteFault) = ⊥
 IsCalm (ended.Failed undelivered.NoMemory) = Unit {0}
@@ -73,10 +74,11 @@ IsCalm (ended.Value v) = Unit {0}
 IsCalm ended.Turns = Unit {0}
 IsCalm (ended.Stop y line) = Unit {0}
 
--- what follows the body of a function that no expression waits for
+-- 6.9.1p12, 6.2.4p6: what follows the body of a function that no expression waits for
 abbrev pub ends_call : Setting → (function line : ℕ) → Flow → State → Res Worth
 ends_call b f line fl s = then_do (end_all b (function_at b.unit f).params s) (λ x s. then_do (act b line EndsBody s) (λ x s. Gives (value_by b (function_at b.unit f) (flow_of fl)) s))
 
+-- 5.1.2.2.3p1: how the run ends once the body of `main` was left so
 abbrev pub EndLed : Stored → (function : ℕ) → Flow → Ended → Machine → Machine → Type 0
 EndLed u f fl r old new = Always u old.moment (λ b out es. (line : ℕ) → EndedIs (ends_call b f line fl (state_of old.moment out es)) r new.moment out es)
 
@@ -87,10 +89,10 @@ pub record PieceLed (u : Stored) (before now : Outlet) (n : ℕ) (piece : Settin
   pub streams : Streams (failed r) before now u.names bytes events
   pub led : Always u old.moment (λ b out es. b.bound ≡ n → EndedIs (piece b (state_of old.moment out es)) r new.moment (out ++ bytes) (es ++ events))
 
--- 5.1.2.2.1: the call of `main`
+-- 5.1.2.2.1p1: the call of `main`
 abbrev pub main_called : (function : ℕ) → Setting → State → Res Worth
 main_called f b s = call_body b (below b b.bound) (function_at b.unit f) [] (function_at b.unit f).line s
 
--- 5.1.2: the whole run
+-- 5.1.2p1: the whole run
 abbrev pub whole_run : Setting → State → Res Worth
 whole_run b s = then_do (prepare b s) (λ v s. call_main b (main_of b.unit) s)

@@ -11,18 +11,20 @@ use Rattle.pv_eval.specs.States.{State}
 use Rattle.pv_exec.specs.declared.delivering.Undelivered.{Undelivered}
 use Rattle.pv_exec.specs.declared.delivering.Undelivered.TheVariants as undelivered
 
+-- an event without its mark, which says how much was printed when it came
 abbrev pub event_of : Marked → Event
 event_of m = m.event
 
--- an event that came when at most 4095 bytes more were printed than these
+-- 7.21.3p3: output is buffered: the event came when at most 4095 bytes more were printed than these
 abbrev pub IsNear : (written : ℕ) → Marked → Type 0
 IsNear n m = m.mark ≤ n + 4095
 
--- what the outside has: the bytes that the sink tells, and the hall
+-- what the outside has (5.1.2.3p6): the bytes that the sink tells, and the hall
 pub record Outlet : Type 0 where
   pub sink : Option (List ℕ)
   pub hall : List Slot
 
+-- why a part could not be delivered
 abbrev pub failing : {A : Type 0} → Result A Undelivered → Option Undelivered
 failing (Ok a) = None
 failing (Err e) = Some e
@@ -32,6 +34,7 @@ pub record FirstWritten (n : ℕ) (bytes : List ℕ) (before now : Option (List 
   pub most : n ≤ length bytes
   pub gains : Gains before now (take n bytes)
 
+-- they are not kept any more
 pub record HasWritten (n : ℕ) (before now : Option (List ℕ)) (old new : Machine) : Type 0 where
   pub first : FirstWritten n old.moment.printed before now
   pub left : new ≡ record old { moment = record old.moment { printed = drop n old.moment.printed } }
@@ -42,6 +45,7 @@ pub record FirstTold (n : ℕ) (events : List Marked) (written : ℕ) (old new :
   pub told : Told old (map event_of (take n events)) names new
   pub near : Each (IsNear written) (take n events)
 
+-- they do not wait any more
 pub record HasTold (written : ℕ) (before now : List Slot) (names : List (List ℕ)) (old new : Machine) : Type 0 where
   pub count : ℕ
   pub first : FirstTold count old.moment.waiting written before now names
@@ -71,6 +75,7 @@ RoseAt None before now = Unit {0}
 RoseAt (Some undelivered.WriteFault) before now = Rose before now
 RoseAt (Some undelivered.NoMemory) before now = Unit {0}
 
+-- and it is the cause of a fault alone
 pub record DeliveryCause (x : Option Undelivered) (before now : ℕ) : Type 0 where
   pub later : before ≤ now
   pub rose : RoseAt x before now

@@ -19,19 +19,23 @@ use Rattle.pv_exec.specs.Parts.{Selection}
 use Rattle.pv_exec.specs.Tasks.{statements_from}
 use Rattle.pv_exec.specs.Fits.{HasList, IsScope}
 
+-- 6.8.4.2p5: where the code jumps, as the definition has it
 abbrev pub target : Label → Target
 target (label.Value n) = ToCase n
 target label.Default = ToDefault
 
+-- 6.8.4.2p5: a label is among these statements
 abbrev pub some_target : Target → Statements → Bool
 some_target (ToCase v) xs = some_case v xs
 some_target ToDefault xs = some_default xs
 some_target ToNone xs = false
 
+-- 6.8.4.2p5: a `case` with this value
 abbrev pub is_value_of : Label → ℤ → Bool
 is_value_of (label.Value n) v = int_eq n v
 is_value_of label.Default v = false
 
+-- 6.8.4.2p5: a `default`
 abbrev pub is_default_label : Label → Bool
 is_default_label (label.Value n) = false
 is_default_label label.Default = true
@@ -42,6 +46,7 @@ LabelIs u t (labelled.Case v x) = (l : Label) → is_target (target l) t ≡ (is
 LabelIs u t (labelled.Default x) = (l : Label) → is_target (target l) t ≡ (is_default_label l || is_target (target l) (statement_at u x))
 LabelIs u t labelled.Plain = (l : Label) → is_target (target l) t ≡ false
 
+-- a label and the statement behind it are there
 abbrev pub LabelFits : Stored → NodeId → Labelled → Type 0
 LabelFits u n (labelled.Case v x) = IsStatement u x × (x.0 < n.0)
 LabelFits u n (labelled.Default x) = IsStatement u x × (x.0 < n.0)
@@ -52,6 +57,7 @@ pub record Finds (u : Stored) (l : ListId) (at : Target) (i : ℕ) : Type 0 wher
   pub some : some_target at (statements_from u l 0) ≡ true
   pub from : (b : Setting) (w : Below) (s : State) → exs_at b w at (statements_from u l 0) s ≡ exs b w (statements_from u l i) s
 
+-- 6.8.4.2p5: no label fits
 abbrev pub is_none_target : Target → Bool
 is_none_target (ToCase v) = false
 is_none_target ToDefault = false
@@ -62,12 +68,15 @@ abbrev pub Reaches : Stored → ListId → ℤ → Option ℕ → Type 0
 Reaches u l v None = target_of v (statements_from u l 0) ≡ ToNone
 Reaches u l v (Some i) = (is_none_target (target_of v (statements_from u l 0)) ≡ false) × ((b : Setting) (w : Below) (s : State) → exs_at b w (target_of v (statements_from u l 0)) (statements_from u l 0) s ≡ exs b w (statements_from u l i) s)
 
+-- 6.8.4.2: a switch by the numbers of its parts
 abbrev pub selection_in : Stored → SwitchParts → Selection
 selection_in u p = record { value = expression_at u p.value; block = record { objects = declared_of (statement_at u p.block); items = statements_from u p.items 0 } }
 
+-- if it is one whose body is a block
 abbrev pub selection_read : Stored → Option SwitchParts → Option Selection
 selection_read u None = None
 selection_read u (Some p) = Some (selection_in u p)
 
+-- its parts are there
 abbrev pub SelectionFits : Stored → SwitchParts → Type 0
 SelectionFits u p = IsExpression u p.value × IsScope u p.block × HasList u p.items

@@ -25,6 +25,7 @@ pub data Reached : Type 0 where
   Left : Flow → Reached
   Valued : Worth → Reached
 
+-- how a statement was left is handed on
 abbrev pub left : Res Flow → Res Reached
 left r = then_do r (λ fl s. Gives (Left fl) s)
 
@@ -32,20 +33,22 @@ left r = then_do r (λ fl s. Gives (Left fl) s)
 abbrev pub statements_from : Stored → ListId → ℕ → Statements
 statements_from u l i = statements_in (nodes u) (drop i (list_at u l))
 
--- 6.8.6.4p3: the value that a `return` in this line passes on
+-- 6.8.6.4: the expression of a `return`
 abbrev pub returned_of : TypedStatement → Option TypedTree
 returned_of (Return line x) = x
 returned_of _ = None
 
+-- 6.8.6.4p3: once its expression has this value
 abbrev pub returned : Setting → (line : ℕ) → Option TypedTree → Worth → State → Res Flow
 returned b line (Some x) v s = then_do (converted b x v s) (λ v s. then_do (act b line (Accepts v) s) (λ v s. Gives (Returns v) s))
 returned b line None v s = Gives Falls s
 
--- the stores that are left, with the value of the first of them
+-- 6.7.9p11: a store of an initializer, with its value
 abbrev pub stored_value : Setting → (object : ℕ) → Store → StoredValue → Worth → State → Res Worth
 stored_value b o x (ValueOf e) v s = then_do (handed b e v s) (λ v s. act b x.line (Puts o x.offset (lvalue b x.t) v) s)
 stored_value b o x (TextOf l) v s = Gives Nothing s
 
+-- 6.7.9p11, p19: the stores that are left, with the value of the first of them
 abbrev pub stored : Setting → Calling → (object : ℕ) → List Store → Worth → State → Res Flow
 stored b call o [] v s = Gives Falls s
 stored b call o (x ∷ xs) v s = then_do (then_do (stored_value b o x x.what v s) (λ v s. store_all b call o xs s)) (λ v s. Gives Falls s)
@@ -55,6 +58,7 @@ abbrev pub declarations_of : TypedStatement → Option Statements
 declarations_of (ForDeclaration line os ds c step x) = Some ds
 declarations_of _ = None
 
+-- 6.8.5.3: the declarations and then the rounds
 abbrev pub within : Setting → Below → Option Statements → Loop → State → Res Flow
 within b w (Some ds) l s = then_do (exs b w ds s) (λ fl s. falls fl (rounds b w l) s)
 within b w None l s = Gives Falls s
@@ -118,6 +122,7 @@ takes_value (task.Selecting n) = true
 takes_value (task.Returning n) = true
 takes_value (task.Storing o i) = true
 
+-- what a task does with what is handed to it
 abbrev pub after_task : Setting → Stored → (level : ℕ) → List Started → Task → Reached → State → Res Reached
 after_task b u k es t (Left fl) s = after_flow b u k es t fl s
 after_task b u k es t (Valued v) s = if takes_value t then after_value b u k t v s else after_flow b u k es t (Returns v) s

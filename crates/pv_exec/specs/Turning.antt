@@ -34,6 +34,7 @@ DueAfter es (Ok (after.Ended fl)) = Unit {0}
 DueAfter es (Ok after.Valued) = Unit {0}
 DueAfter es (Err e) = Unit {0}
 
+-- what an operation came to, as the loop over turns has it
 abbrev pub advanced_by : Result After Failure → Advanced
 advanced_by (Ok (after.On d)) = advance.On d
 advanced_by (Ok (after.Ended fl)) = advance.Last (last.Left fl)
@@ -58,6 +59,7 @@ AdvancedLed u n d (advance.Last l) ts ts' old new =
     Holds b u all ts old.started d (state_of old.moment out es) → LastIs all l new.started (state_of new.moment out es))
 AdvancedLed u n d advance.NoMemory ts ts' old new = Unit {0}
 
+-- where the run goes on, what waits names what is there
 abbrev pub AdvancedRuns : Stored → List Task → List Started → Advanced → Type 0
 AdvancedRuns u ts es (advance.On d) = Runs u ts es d × Fit u es
 AdvancedRuns u ts es (advance.Last l) = Unit {0}
@@ -67,6 +69,7 @@ AdvancedRuns u ts es advance.NoMemory = Unit {0}
 abbrev pub turn_measure : (bound taken : ℕ) → List Started → Doing → ℕ
 turn_measure n taken es d = 2 * (n - taken) + (1 - due es d)
 
+-- where the run goes on, fewer turns are left
 abbrev pub AdvancedPace : (before bound taken : ℕ) → List Started → Advanced → Type 0
 AdvancedPace m n taken es (advance.On d) = turn_measure n taken es d < m
 AdvancedPace m n taken es (advance.Last l) = Unit {0}

@@ -21,6 +21,7 @@ use Rattle.pv_exec.specs.declared.task.Doing.TheVariants as doing
 use Rattle.pv_exec.specs.Tasks.{Reached, Left, Valued, left, statements_from, within, declarations_of, after_task}
 use Rattle.pv_exec.specs.Parts.{loop_of}
 
+-- 6.8.6: how a statement was left, as the definition has it
 abbrev pub flow_of : Flow → execution.Flow
 flow_of flow.Falls = execution.Falls
 flow_of flow.Breaks = execution.Breaks
@@ -63,6 +64,7 @@ others es (doing.Store o i) = es
 others es doing.Absent = es
 others es (doing.Left fl) = es
 
+-- the task that waits for the body of a function
 abbrev pub is_call : Task → Bool
 is_call (task.InCall f line) = true
 is_call (task.InList l i) = false
@@ -81,6 +83,7 @@ is_call (task.Selecting n) = false
 is_call (task.Returning n) = false
 is_call (task.Storing o i) = false
 
+-- the expressions that are left below a task: a call has an expression of its own
 abbrev pub passed : Task → List Started → List Started
 passed t es = if is_call t then after_first es else es
 
@@ -90,6 +93,7 @@ pub record Work : Type 0 where
   pub task : Task
   pub waiting : List Started
 
+-- what a task does at its level
 unfoldable pub after_work : Setting → Stored → Work → Reached → State → Res Reached
 after_work b u w r s = after_task b u w.level w.waiting w.task r s
 

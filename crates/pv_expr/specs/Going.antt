@@ -9,14 +9,14 @@ use Rattle.pv_expr_forms.specs.Follows.{join_right, joined}
 use Rattle.pv_expr_forms.specs.Reader.{Read, indexed}
 use Rattle.pv_expr_forms.specs.Parts.{named}
 
--- the level of the operand that is read, if one is
+-- 6.5.2p1, 6.5.5p1 to 6.5.17p1: the level of the operand that is read, if one is
 abbrev pub operand_level : Follow → Option ℕ
 operand_level (follow.Join op) = Some (join_right op)
 operand_level follow.Ask = Some 1
 operand_level follow.Index = Some 1
 operand_level _ = None
 
--- what goes on without any further tree
+-- 6.5.2p1: what goes on without any further tree
 unfoldable pub suffixed : (ℕ → Bool) → (left : ExpressionTree) → Follow → List Token → Read
 suffixed is_type left follow.Dot ts = named is_type (Member (expression_line left) left) ts
 suffixed is_type left follow.Arrow ts = named is_type (Arrow (expression_line left) left) ts
@@ -24,7 +24,7 @@ suffixed is_type left follow.Increment ts = Some (PostIncrement (expression_line
 suffixed is_type left follow.Decrement ts = Some (PostDecrement (expression_line left) left, ts)
 suffixed is_type left _ ts = None
 
--- what goes on with one operand, once that is read
+-- 6.5.2p1, 6.5.5p1 to 6.5.17p1: what goes on with one operand, once that is read
 unfoldable pub combined : (left right : ExpressionTree) → Follow → List Token → Read
 combined left right (follow.Join op) ts = Some (joined op left right, ts)
 combined left right follow.Index ts = indexed left right ts

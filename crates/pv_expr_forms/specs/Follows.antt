@@ -22,12 +22,14 @@ use Rattle.pv_expr_forms.specs.declared.follows.Follow.TheVariants as follow
 
 -- ---- before an operand (6.5.3p1)
 
+-- 6.5.3p1: how an operator before its operand is written
 abbrev pub prefix_token : Prefix → TokenKind
 prefix_token prefix.Increment = kind.Mark mark.Increment
 prefix_token prefix.Decrement = kind.Mark mark.Decrement
 prefix_token prefix.Sizeof = kind.Word word.Sizeof
 prefix_token (prefix.Unary op) = kind.Mark (unary_mark op)
 
+-- 6.5.3p1: the operator that a token is before an operand
 abbrev pub prefix_of : TokenKind → Option Prefix
 prefix_of (kind.Word word.Sizeof) = Some prefix.Sizeof
 prefix_of (kind.Mark mark.Increment) = Some prefix.Increment
@@ -40,13 +42,14 @@ prefix_of (kind.Mark mark.Tilde) = Some (prefix.Unary unary.Complement)
 prefix_of (kind.Mark mark.Not) = Some (prefix.Unary unary.Not)
 prefix_of _ = None
 
--- the loosest level of the operand
+-- 6.5.3p1: the loosest level of the operand
 abbrev pub prefix_operand : Prefix → ℕ
 prefix_operand prefix.Increment = 15
 prefix_operand prefix.Decrement = 15
 prefix_operand prefix.Sizeof = 15
 prefix_operand (prefix.Unary op) = 14
 
+-- 6.5.3p1: the operator with its operand
 abbrev pub prefixed : (line : ℕ) → Prefix → ExpressionTree → ExpressionTree
 prefixed line prefix.Increment a = PreIncrement line a
 prefixed line prefix.Decrement a = PreDecrement line a
@@ -55,6 +58,7 @@ prefixed line (prefix.Unary op) a = Unary line op a
 
 -- ---- between two operands (6.5.5 to 6.5.14, 6.5.16, 6.5.17)
 
+-- 6.5.5p1 to 6.5.14p1: the operator that a mark is between two operands
 abbrev pub binary_of : Mark → Option BinaryOperator
 binary_of mark.Star = Some binary.Multiply
 binary_of mark.Slash = Some binary.Divide
@@ -76,6 +80,7 @@ binary_of mark.AndAnd = Some binary.LogicalAnd
 binary_of mark.OrOr = Some binary.LogicalOr
 binary_of _ = None
 
+-- 6.5.16p1: the assignment that a mark is
 abbrev pub assign_of : Mark → Option AssignOperator
 assign_of mark.Assign = Some assign.Assign
 assign_of mark.MulAssign = Some assign.Multiply
@@ -90,28 +95,31 @@ assign_of mark.XorAssign = Some assign.ExclusiveOr
 assign_of mark.OrAssign = Some assign.Or
 assign_of _ = None
 
+-- 6.5.5p1 to 6.5.17p1: how an operator between two operands is written
 abbrev pub join_mark : Join → Mark
 join_mark (join.Binary op) = binary_mark op
 join_mark (join.Assign op) = assign_mark op
 join_mark join.Comma = mark.Comma
 
--- the level of the whole, and the loosest levels of the left and of the right operand
+-- 6.5.5p1 to 6.5.17p1: the level of the whole
 abbrev pub join_rank : Join → ℕ
 join_rank (join.Binary op) = binary_rank op
 join_rank (join.Assign op) = 2
 join_rank join.Comma = 1
 
+-- 6.5.5p1 to 6.5.17p1: the loosest level of the left operand
 abbrev pub join_left : Join → ℕ
 join_left (join.Binary op) = binary_rank op
 join_left (join.Assign op) = 15
 join_left join.Comma = 1
 
+-- 6.5.5p1 to 6.5.17p1: the loosest level of the right operand
 abbrev pub join_right : Join → ℕ
 join_right (join.Binary op) = suc (binary_rank op)
 join_right (join.Assign op) = 2
 join_right join.Comma = 2
 
--- the whole, whose first token is that of its left operand
+-- 6.5.5 to 6.5.17: the whole, whose first token is that of its left operand
 abbrev pub joined : Join → (a b : ExpressionTree) → ExpressionTree
 joined (join.Binary op) a b = Binary (expression_line a) op a b
 joined (join.Assign op) a b = Assign (expression_line a) op a b
@@ -119,6 +127,7 @@ joined join.Comma a b = Comma (expression_line a) a b
 
 -- ---- behind an operand
 
+-- 6.5.2p1, 6.5.15p1, 6.5.17p1: what else a mark may be behind an operand
 abbrev pub other_of : Mark → Option Follow
 other_of mark.Comma = Some (follow.Join join.Comma)
 other_of mark.Question = Some follow.Ask
@@ -130,18 +139,21 @@ other_of mark.Increment = Some follow.Increment
 other_of mark.Decrement = Some follow.Decrement
 other_of _ = None
 
--- the first answer of two
+-- the first of two answers that there is
 abbrev pub or_else : {A : Type 0} → Option A → Option A → Option A
 or_else None o = o
 or_else (Some x) o = Some x
 
+-- 6.5.2p1, 6.5.5p1 to 6.5.17p1: how an expression goes on with a mark
 abbrev pub follow_of_mark : Mark → Option Follow
 follow_of_mark m = or_else (option_map (λ op. follow.Join (join.Binary op)) (binary_of m)) (or_else (option_map (λ op. follow.Join (join.Assign op)) (assign_of m)) (other_of m))
 
+-- the same with a token: it goes on with a mark alone
 abbrev pub follow_of : TokenKind → Option Follow
 follow_of (kind.Mark m) = follow_of_mark m
 follow_of _ = None
 
+-- the mark with which it goes on so
 abbrev pub follow_mark : Follow → Mark
 follow_mark (follow.Join op) = join_mark op
 follow_mark follow.Ask = mark.Question
@@ -152,6 +164,7 @@ follow_mark follow.Arrow = mark.Arrow
 follow_mark follow.Increment = mark.Increment
 follow_mark follow.Decrement = mark.Decrement
 
+-- 6.5.2p1, 6.5.5p1 to 6.5.17p1: the level of the whole
 abbrev pub follow_rank : Follow → ℕ
 follow_rank (follow.Join op) = join_rank op
 follow_rank follow.Ask = 3
@@ -162,6 +175,7 @@ follow_rank follow.Arrow = 16
 follow_rank follow.Increment = 16
 follow_rank follow.Decrement = 16
 
+-- 6.5.2p1, 6.5.5p1 to 6.5.17p1: the loosest level of what goes on
 abbrev pub follow_left : Follow → ℕ
 follow_left (follow.Join op) = join_left op
 follow_left follow.Ask = 4

@@ -17,7 +17,7 @@ leaf_of is_type line (kind.Character value) ts = Some (Character line value, ts)
 leaf_of is_type line (kind.Text n) ts = Some (Text line n (texts_in_row (suc n) ts), drop (texts_in_row (suc n) ts) ts)
 leaf_of is_type line _ ts = None
 
--- the string literal of a number is the next token
+-- the string literal of a number is the next token (6.4.5p5)
 abbrev pub is_text_next : (n : ℕ) → List Token → Bool
 is_text_next n [] = false
 is_text_next n (t ∷ ts) = is_text n t.kind
@@ -27,7 +27,7 @@ abbrev pub measures_type : Names → TokenKind → List Token → Bool
 measures_type names (kind.Word word.Sizeof) ts = opens_type names ts
 measures_type names _ ts = false
 
--- a type name of at most so much depth, and a closing parenthesis behind it
+-- a type name of at most so much depth, and a closing parenthesis behind it (6.5.3p1, 6.5.4p1)
 unfoldable pub type_closed : Names → (below : ℕ) → List Token → Option (DeclarationTree × List Token)
 type_closed names below ts =
     option_and_then (λ x. if nat_le (declaration_depth x.0) below then option_map (λ rest. (x.0, rest)) (after is_close x.1) else None) (names.type_at ts)
@@ -37,10 +37,11 @@ abbrev pub name_of_kind : (ℕ → Bool) → TokenKind → Option ℕ
 name_of_kind is_type (kind.Name n) = if is_type n then None else Some n
 name_of_kind is_type _ = None
 
+-- the same, with what is left behind it
 unfoldable pub name_next : (ℕ → Bool) → List Token → Option (ℕ × List Token)
 name_next is_type [] = None
 name_next is_type (t ∷ ts) = option_map (λ n. (n, ts)) (name_of_kind is_type t.kind)
 
--- what is made with such a name
+-- what is made with such a name (6.5.2p1)
 unfoldable pub named : (ℕ → Bool) → (ℕ → ExpressionTree) → List Token → Read
 named is_type make ts = option_map (λ x. (make x.0, x.1)) (name_next is_type ts)

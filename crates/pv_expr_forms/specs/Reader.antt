@@ -16,37 +16,42 @@ use Rattle.pv_expr_forms.specs.declared.follows.Follow.{Follow}
 use Rattle.pv_expr_forms.specs.declared.follows.Follow.TheVariants as follow
 use Rattle.pv_expr_forms.specs.Follows.{prefix_of, prefix_operand, prefixed, join_right, joined, follow_of, follow_rank, follow_left}
 
--- a tree, and the tokens behind it
+-- what reading gives: a tree (6.5), and the tokens behind it
 abbrev pub Read : Type 0
 Read = Option (ExpressionTree × List Token)
 
--- reads a tree of a level
+-- reads a tree of a level (6.5)
 abbrev pub Reads : Type 0
 Reads = ℕ → List Token → Read
 
 -- ---- tokens that a form ends with or goes on with
 
+-- `(` (6.4.6)
 abbrev pub is_open : TokenKind → Bool
 is_open (kind.Mark mark.OpenParen) = true
 is_open _ = false
 
+-- `)` (6.4.6)
 abbrev pub is_close : TokenKind → Bool
 is_close (kind.Mark mark.CloseParen) = true
 is_close _ = false
 
+-- `]` (6.4.6)
 abbrev pub is_bracket : TokenKind → Bool
 is_bracket (kind.Mark mark.CloseBracket) = true
 is_bracket _ = false
 
+-- `:` (6.4.6)
 abbrev pub is_colon : TokenKind → Bool
 is_colon (kind.Mark mark.Colon) = true
 is_colon _ = false
 
+-- `,` (6.4.6)
 abbrev pub is_comma : TokenKind → Bool
 is_comma (kind.Mark mark.Comma) = true
 is_comma _ = false
 
--- the string literal of a number
+-- the string literal of a number (6.4.5)
 abbrev pub is_text : (n : ℕ) → TokenKind → Bool
 is_text n (kind.Text m) = m == n
 is_text n _ = false
@@ -63,7 +68,7 @@ abbrev pub texts_in_row : (next : ℕ) → List Token → ℕ
 texts_in_row next [] = 0
 texts_in_row next (t ∷ ts) = if is_text next t.kind then suc (texts_in_row (suc next) ts) else 0
 
--- what stands in parentheses, once it is read
+-- what stands in parentheses, once it is read (6.5.1p1)
 unfoldable pub closed : (line : ℕ) → ExpressionTree → List Token → Read
 closed line a ts = option_map (λ rest. (Paren line a, rest)) (after is_close ts)
 
@@ -74,13 +79,14 @@ cast_to read below line type ts =
     then option_and_then (λ rest. option_map (λ x. (Cast line type x.0, x.1)) (read 14 rest)) (after is_close ts)
     else None
 
--- behind an opening parenthesis
+-- behind an opening parenthesis: a cast where a type name begins, else an expression (6.5.1p1, 6.5.4p1)
 unfoldable pub opened : Names → Reads → (below line : ℕ) → List Token → Read
 opened names read below line ts =
     if begins_type names ts
     then option_and_then (λ x. cast_to read below line x.0 x.1) (names.type_at ts)
     else option_and_then (λ x. closed line x.0 x.1) (read 1 ts)
 
+-- behind an operator that stands before its operand (6.5.3p1)
 unfoldable pub fronted : Reads → (line : ℕ) → Option Prefix → List Token → Read
 fronted read line None ts = None
 fronted read line (Some op) ts = option_map (λ x. (prefixed line op x.0, x.1)) (read (prefix_operand op) ts)
@@ -90,18 +96,19 @@ unfoldable pub measured : (below line : ℕ) → DeclarationTree → List Token 
 measured below line type ts =
     if nat_le (declaration_depth type) below then option_map (λ rest. (SizeofType line type, rest)) (after is_close ts) else None
 
--- a parenthesis opens, and a type name begins behind it
+-- a parenthesis opens, and a type name begins behind it (6.5.3p1)
 abbrev pub opens_type : Names → List Token → Bool
 opens_type names [] = false
 opens_type names (t ∷ ts) = is_open t.kind && begins_type names ts
 
--- behind `sizeof`
+-- behind `sizeof` (6.5.3p1)
 unfoldable pub sized : Names → Reads → (below line : ℕ) → List Token → Read
 sized names read below line ts =
     if opens_type names ts
     then option_and_then (λ x. measured below line x.0 x.1) (names.type_at (drop 1 ts))
     else fronted read line (Some prefix.Sizeof) ts
 
+-- what a token begins (6.5.1p1, 6.5.3p1, 6.5.4p1)
 unfoldable pub head_of : Names → Reads → (below line : ℕ) → TokenKind → List Token → Read
 head_of names read below line (kind.Name n) ts = if names.is_type n then None else Some (Name line n, ts)
 head_of names read below line (kind.Number value decimal unsigned longs) ts = Some (Number line value decimal unsigned longs, ts)
@@ -111,16 +118,18 @@ head_of names read below line (kind.Word word.Sizeof) ts = sized names read belo
 head_of names read below line (kind.Mark mark.OpenParen) ts = opened names read below line ts
 head_of names read below line k ts = fronted read line (prefix_of k) ts
 
--- a tree that nothing went on from yet
+-- a tree that nothing went on from yet (6.5.1p1, 6.5.3p1, 6.5.4p1)
 unfoldable pub head : Names → Reads → (below : ℕ) → List Token → Read
 head names read below [] = None
 head names read below (t ∷ ts) = head_of names read below t.line t.kind ts
 
 -- ---- forms that go on from a tree
 
+-- behind the index of an element (6.5.2p1)
 unfoldable pub indexed : (left i : ExpressionTree) → List Token → Read
 indexed left i ts = option_map (λ rest. (Index (expression_line left) left i, rest)) (after is_bracket ts)
 
+-- behind the second operand of `?` (6.5.15p1)
 unfoldable pub asked : Reads → (left b : ExpressionTree) → List Token → Read
 asked read left b ts = option_and_then (λ rest. option_map (λ x. (Conditional (expression_line left) left b x.0, x.1)) (read 3 rest)) (after is_colon ts)
 
@@ -129,14 +138,16 @@ unfoldable pub further : (ArgumentTrees → List Token → Option (ArgumentTrees
 further go before [] = None
 further go before (t ∷ ts) = if is_comma t.kind then go before ts else if is_close t.kind then Some (before, ts) else None
 
+-- the same in at most so many steps
 unfoldable pub arguments_for : (steps : ℕ) → Reads → ArgumentTrees → List Token → Option (ArgumentTrees × List Token)
 arguments_for zero read before ts = None
 arguments_for (suc steps) read before ts = option_and_then (λ x. further (arguments_for steps read) (Argument before x.0) x.1) (read 2 ts)
 
+-- the arguments of a call (6.5.2p1)
 unfoldable pub arguments : Reads → ArgumentTrees → List Token → Option (ArgumentTrees × List Token)
 arguments read before ts = arguments_for (suc (length ts)) read before ts
 
--- behind the parenthesis that opens a call's arguments
+-- behind the parenthesis that opens a call's arguments (6.5.2p1)
 unfoldable pub called : Reads → (left : ExpressionTree) → List Token → Read
 called read left [] = None
 called read left (t ∷ ts) =
@@ -144,16 +155,17 @@ called read left (t ∷ ts) =
     then Some (Call (expression_line left) left NoArguments, ts)
     else option_map (λ x. (Call (expression_line left) left x.0, x.1)) (arguments read NoArguments (t ∷ ts))
 
--- behind `.` and `->`
+-- behind `.` and `->` stands a name (6.5.2p1)
 unfoldable pub selected_by : Names → (ℕ → ExpressionTree) → TokenKind → List Token → Read
 selected_by names make (kind.Name n) ts = if names.is_type n then None else Some (make n, ts)
 selected_by names make _ ts = None
 
+-- the same of the next token
 unfoldable pub selected : Names → (ℕ → ExpressionTree) → List Token → Read
 selected names make [] = None
 selected names make (t ∷ ts) = selected_by names make t.kind ts
 
--- the tree that goes on from left so
+-- the tree that goes on from left so (6.5.2p1, 6.5.5p1 to 6.5.17p1)
 unfoldable pub goes_on : Names → Reads → (left : ExpressionTree) → Follow → List Token → Read
 goes_on names read left (follow.Join op) ts = option_map (λ x. (joined op left x.0, x.1)) (read (join_right op) ts)
 goes_on names read left follow.Ask ts = option_and_then (λ x. asked read left x.0 x.1) (read 1 ts)
@@ -164,6 +176,7 @@ goes_on names read left follow.Arrow ts = selected names (Arrow (expression_line
 goes_on names read left follow.Increment ts = Some (PostIncrement (expression_line left) left, ts)
 goes_on names read left follow.Decrement ts = Some (PostDecrement (expression_line left) left, ts)
 
+-- the same, where the level of the whole and that of left are such as the grammar has
 unfoldable pub tried : Names → Reads → (level : ℕ) → (left : ExpressionTree) → Option Follow → List Token → Read
 tried names read level left None ts = None
 tried names read level left (Some f) ts =
@@ -192,12 +205,12 @@ grown names read level below left ts = grown_for (suc below) names read level be
 
 -- ---- all of it
 
--- one level of depth more
+-- one level of depth more (5.2.4.1)
 unfoldable pub deeper : Names → Reads → (below : ℕ) → Reads
 deeper names read below level ts =
     option_and_then (λ x. if nat_le level (rank x.0) then Some (grown names read level below x.0 x.1) else None) (head names read below ts)
 
--- the longest tree of a level, of at most so much depth
+-- the longest tree of a level (6.5), of at most so much depth (5.2.4.1)
 unfoldable pub read : Names → (depth : ℕ) → Reads
 read names zero level ts = None
 read names (suc below) level ts = deeper names (read names below) below level ts

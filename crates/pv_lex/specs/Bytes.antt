@@ -5,37 +5,47 @@ use Rattle.std.specs.Int.{is_in_range}
 use Rattle.pv_lex.specs.declared.bytes.Class.{Class}
 use Rattle.pv_lex.specs.declared.bytes.Class.TheVariants as class
 
--- Single bytes by name (5.2.1p3).
+-- The horizontal tab (5.2.1p3), as all single bytes by name in this file.
 abbrev pub tab : ℕ
 tab = 9
 
+-- The new-line character (5.2.1p3, 5.2.2p2).
 abbrev pub line_feed : ℕ
 line_feed = 10
 
+-- The carriage return (5.2.2p2).
 abbrev pub carriage_return : ℕ
 carriage_return = 13
 
+-- The space (5.2.1p3).
 abbrev pub space : ℕ
 space = 32
 
+-- `"` (5.2.1p3).
 abbrev pub double_quote : ℕ
 double_quote = 34
 
+-- `#` (5.2.1p3).
 abbrev pub number_sign : ℕ
 number_sign = 35
 
+-- `'` (5.2.1p3).
 abbrev pub single_quote : ℕ
 single_quote = 39
 
+-- `.` (5.2.1p3).
 abbrev pub full_stop : ℕ
 full_stop = 46
 
+-- `0` (5.2.1p3).
 abbrev pub zero_digit : ℕ
 zero_digit = 48
 
+-- `\` (5.2.1p3).
 abbrev pub backslash : ℕ
 backslash = 92
 
+-- `_` (5.2.1p3).
 abbrev pub underscore : ℕ
 underscore = 95
 

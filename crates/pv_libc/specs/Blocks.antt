@@ -18,19 +18,19 @@ use Rattle.pv_libc.specs.declared.values.Reply.TheVariants as reply
 use Rattle.pv_libc.specs.Steps.{Now, Did, done, halted, next, noted, in_memory, reached}
 use Rattle.pv_libc.specs.Characters.{characters_from}
 
--- a byte of this value: the empty name, no index and no mark
+-- an abstract byte of this value: the empty name, no index and no mark (the memory model)
 abbrev pub plain_byte : ℕ → Byte
 plain_byte v = record { value = Some v; prov = Empty; index = None; mark = None }
 
--- n bytes from an address on get a value
+-- 7.24.6.1p2: n bytes from an address on get a value
 abbrev pub filled : Mem → ℕ → ℕ → ℕ → Mem
 filled M a n v = with_bytes M a (repeat n (plain_byte v ∷ []))
 
--- two ranges of n bytes share a byte
+-- 7.24.2.1p2: two ranges of n bytes share a byte
 abbrev pub share : ℕ → ℕ → ℕ → Bool
 share a b n = nat_lt a (b + n) && nat_lt b (a + n)
 
--- the functions that answer their first argument
+-- 7.24.2.1p3, 7.24.2.2p3, 7.24.2.3p3, 7.24.6.1p3: the functions that answer their first argument
 abbrev pub answers : Given → Now → Did Reply
 answers g S = done (reply.Value (value.Pointer g.pointer)) S
 
@@ -42,22 +42,23 @@ copy apart to from n S =
     if apart && share to.pointer.address from.pointer.address n then halted (fault clause.MemcpyOverlap reason.Overlap) (noted (to.stopped ∷ []) U)
     else answers to (in_memory U (copied U.memory t.address f.address n))))
 
--- 7.24.2.1
+-- 7.24.2.1p2: n characters are copied
 abbrev pub memcpy : Given → Given → ℕ → Now → Did Reply
 memcpy to from n S = copy true to from n S
 
--- 7.24.2.2
+-- 7.24.2.2p2: the same, as if by way of another array: they may share bytes
 abbrev pub memmove : Given → Given → ℕ → Now → Did Reply
 memmove to from n S = copy false to from n S
 
--- 7.24.6.1p2: the value is converted to `unsigned char`
+-- 7.24.6.1p2: n bytes get the value, converted to `unsigned char`
 abbrev pub memset : Given → ℤ → ℕ → Now → Did Reply
 memset g c n S = next (reached Text true g n S) (λ r T. answers g (in_memory T (filled T.memory r.address n (bits_of UChar c))))
 
--- the sign of the first difference
+-- 7.24.4p1: the sign of the difference of two characters, here as -1, 0 or 1
 abbrev pub sign_of : ℕ → ℕ → ℤ
 sign_of a b = if nat_lt a b then negsuc 0 else (if a == b then pos 0 else pos 1)
 
+-- 7.24.4p1, 7.24.4.1p3: the sign of the first difference
 abbrev pub difference : List ℕ → List ℕ → ℤ
 difference (a ∷ ls) (b ∷ rs) = if a == b then difference ls rs else sign_of a b
 difference [] rs = pos 0

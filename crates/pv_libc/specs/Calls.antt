@@ -27,49 +27,58 @@ use Rattle.pv_libc.specs.Strings.{strlen, strcmp, strcpy}
 use Rattle.pv_libc.specs.declared.formats.Within.TheVariants as within
 use Rattle.pv_libc.specs.Printing.{printed_from, format_of}
 
--- An argument by its place. Typing makes sure that it is there and of the parameter's type.
+-- the number in an argument. Typing makes sure that it is there and of the parameter's type (6.5.2.2p7)
 abbrev pub number_in : Value → ℤ
 number_in (value.Int n) = n
 number_in value.Unset = pos 0
 number_in (value.Pointer p) = pos 0
 
+-- the pointer in an argument (6.5.2.2p7)
 abbrev pub pointer_in : Value → Pointer
 pointer_in (value.Pointer p) = p
 pointer_in value.Unset = record { address = 0; prov = Empty }
 pointer_in (value.Int n) = record { address = 0; prov = Empty }
 
+-- an argument's value
 abbrev pub value_in : Option Arg → Value
 value_in None = value.Unset
 value_in (Some x) = x.value
 
+-- 6.5.2.2p7: argument number i, from 0, as a number
 abbrev pub number : List Arg → ℕ → ℤ
 number args i = number_in (value_in (slice_get args i))
 
+-- 7.19p2: the same as a `size_t`
 abbrev pub size : List Arg → ℕ → ℕ
 size args i = bits_of ULong (number args i)
 
+-- 6.5.2.2p7: the same as a pointer
 abbrev pub pointer : List Arg → ℕ → Pointer
 pointer args i = pointer_in (value_in (slice_get args i))
 
--- what is noted last where a check of the pointer stops the call: what its name stood for before the whole call
+-- the memory model: the number of the pair of candidates that a name is
 abbrev pub pair_of : Prov → Option ℕ
 pair_of (Pair k) = Some k
 pair_of (Inst i) = None
 pair_of Empty = None
 
+-- the memory model: the note of the candidates of a name
 abbrev pub stopped_at : Prov → Stands → Note
 stopped_at p s = Stopped s.low s.high (pair_of p)
 
+-- the memory model: what is noted last where a check of the pointer stops the call: what its name stood for before the whole call
 abbrev pub stopped : Mem → Prov → Note
 stopped M p = stopped_at p (stands M.table.pairs p)
 
+-- 6.5.2.2p7: an argument that is a pointer, with that note
 abbrev pub argument_at : List Arg → ℕ → Mem → Given
 argument_at args i M = record { pointer = pointer args i; stopped = stopped M (pointer args i).prov }
 
+-- 7.21.6.1p2: an argument behind the format, with that note
 abbrev pub offer : Mem → Arg → Offered
 offer M x = record { arg = x; stopped = stopped M (pointer_in x.value).prov }
 
--- 7.22.4.4p2: the status is an `int`
+-- 7.22.4.4p1, p5: the status is an `int`
 abbrev pub status : List Arg → ℕ → ℤ
 status args i = if fits_of Int (number args i) then number args i else pos 0
 
@@ -82,6 +91,7 @@ printed args S =
 abbrev pub printf : List Arg → Now → Did Reply
 printf args S = next (printed args S) (λ text T. done (reply.Value (value.Int (convert_of Int (pos (length text))))) T)
 
+-- 7.21.6.3, 7.22.3, 7.22.4, 7.24: each function with its arguments
 abbrev pub called_in : Library → List Arg → Now → Did Reply
 called_in library.Malloc a S = (malloc (size a 0) S)
 called_in library.Calloc a S = (calloc (size a 0) (size a 1) S)
@@ -100,19 +110,21 @@ called_in library.Exit a S = done (reply.Exit (status a 0)) S
 called_in library.Abort a S = done reply.Abort S
 called_in library.Printf a S = printf a S
 
--- a call: its reply or why it stops, the memory that it leaves, and what happened within it, in order
+-- 7.1.4: a call: its reply or why it stops, the memory that it leaves, and what happened within it, in order
 abbrev pub called : Library → List Arg → Mem → Did Reply
 called f args M = called_in f args (with_notes M [])
 
--- the bytes that a call prints: none where it stops
+-- 7.21.6.3: what is printed: nothing where the call stops
 abbrev pub text_or_none : Result (List ℕ) Stop → List ℕ
 text_or_none (Ok text) = text
 text_or_none (Err stop) = []
 
+-- 7.21.6.3: only `printf` prints
 abbrev pub output_in : Library → List Arg → Now → List ℕ
 output_in library.Printf a S = text_or_none (printed a S).answer
 output_in _ a S = []
 
+-- 7.21.6.3p2: the bytes that a call prints
 abbrev pub output : Library → List Arg → Mem → List ℕ
 output f args M = output_in f args (with_notes M [])
 

@@ -21,35 +21,37 @@ character_of (Ok (value.Unset, tried)) = Err Indeterminate
 character_of (Ok ((value.Pointer p), tried)) = Err Indeterminate
 character_of (Err stop) = Err stop
 
--- what becomes exposed by the read is noted at once
+-- 7.24.1p3: the same of a load; what becomes exposed by it is noted at once (the memory model: exposure)
 abbrev pub character_loaded : Now → Loaded → Did ℕ
 character_loaded S got = record { answer = character_of got.0; after = told (in_table S got.1) }
 
--- the character at an address that was reached
+-- 7.24.1p3: the character at an address that was reached
 abbrev pub character_in : Given → ℕ → Now → Did ℕ
 character_in g a S = about g.stopped (character_loaded S (load S.memory a (scalar.Int UChar)))
 
--- the character so many bytes further on, checked and read
+-- 7.24.1p3: the character so many bytes further on, checked and read
 abbrev pub character_at : Asker → Given → ℕ → Now → Did ℕ
 character_at by g i S = next (reached by false (further g i) 1 S) (λ r T. character_in g r.address T)
 
--- n characters in a row from an address on that was reached, behind those read
+-- 7.24.1p3: n characters in a row from an address on that was reached, behind those read
 abbrev pub characters_from : ℕ → Given → ℕ → List ℕ → Now → Did (List ℕ)
 characters_from zero g a read S = done read S
 characters_from (suc n) g a read S = next (character_in g a S) (λ c T. characters_from n g (a + 1) (read ++ c ∷ []) T)
 
--- An instance has at most 2^24 bytes, so a string has ended before, or the read that follows is outside.
+-- An instance has at most 2^24 bytes, so a string has ended before, or the read that follows is outside (7.1.1p1).
 abbrev pub too_far : {A : Type 0} → Asker → Given → Now → Did A
 too_far by g S = halted (fault (clause_of by) Outside) (noted (g.stopped ∷ []) S)
 
--- the string after the characters read: what comes before the first 0
+-- 7.1.1p1: the string after the characters read: what comes before the first 0
 abbrev pub string_from : ℕ → Asker → Given → List ℕ → Now → Did (List ℕ)
 string_from zero by g read S = too_far by g S
 string_from (suc k) by g read S =
     next (character_at by g (length read) S) (λ c T. if c == 0 then done read T else string_from k by g (read ++ c ∷ []) T)
 
+-- 7.1.1p1: more characters than any instance has
 unfoldable pub most : ℕ
 most = 2 ^ 24
 
+-- 7.1.1p1: the string that a pointer points to
 abbrev pub string_at : Asker → Given → Now → Did (List ℕ)
 string_at by g S = string_from most by g [] S

@@ -33,13 +33,15 @@ use Rattle.pv_libc.specs.declared.values.Reply.TheVariants as reply
 use Rattle.pv_libc.specs.Steps.{Now, Did, done, halted, next, noted, in_memory, in_table, about, used}
 use Rattle.pv_libc.specs.Blocks.{filled}
 
+-- 6.3.2.3p3: the null pointer
 abbrev pub null : Value
 null = value.Pointer (record { address = 0; prov = Empty })
 
--- what is known of a live instance
+-- 6.2.4p2: what is known of a live instance
 abbrev pub told_of : Mem → ℕ → Option Info
 told_of M i = info_of (instance_at M.table.instances i)
 
+-- where it begins
 abbrev pub base_of : Option Info → ℕ
 base_of None = 0
 base_of (Some x) = x.base
@@ -52,7 +54,7 @@ pointer_to M i = reply.Value (value.Pointer (record { address = base_of (told_of
 abbrev pub heap_request : ℕ → Request
 heap_request size = record { text = codes "@heap"; name = 1; size = size; align = 16; kind = Heap }
 
--- the number of the new instance, or else what the call replies
+-- 7.22.3p1: the number of the new instance, or else what the call replies: null where the script denies it or live bytes are too many
 abbrev pub granted : Now → Result ℕ CreateError × Mem → Did (Result ℕ Reply)
 granted S ((Ok i), N) = done (Ok i) (noted (Made i ∷ []) (in_memory S N))
 granted S ((Err create.Denied), N) = done (Err (reply.Value null)) (in_memory S N)
@@ -63,27 +65,30 @@ granted S ((Err other), N) = done (Err (reply.Placement other)) (in_memory S N)
 abbrev pub requested : ℕ → Now → Did (Result ℕ Reply)
 requested size S = if size == 0 then done (Err (reply.Value null)) S else granted S (created S.memory (heap_request size))
 
--- 7.22.3.4
+-- 7.22.3.4p3: a pointer to the allocation, or a null pointer
 abbrev pub allocated : Result ℕ Reply → Now → Did Reply
 allocated (Err r) S = done r S
 allocated (Ok i) S = done (pointer_to S.memory i) S
 
+-- 7.22.3.4p2: space whose value is indeterminate
 abbrev pub malloc : ℕ → Now → Did Reply
 malloc size S = next (requested size S) allocated
 
--- 7.22.3.2p2: the product is exact, and all bytes are 0
+-- 7.22.3.2p2: all bytes are 0
 abbrev pub zeroed : ℕ → Option Info → Mem → Mem
 zeroed i None N = N
 zeroed i (Some x) N = filled N x.base x.size 0
 
+-- 7.22.3.2p2, p3: a pointer to the allocation, whose bytes are 0, or a null pointer
 abbrev pub cleared : Result ℕ Reply → Now → Did Reply
 cleared (Err r) S = done r S
 cleared (Ok i) S = done (pointer_to S.memory i) (in_memory S (zeroed i (told_of S.memory i) S.memory))
 
+-- 7.22.3.2p2: the product is exact
 abbrev pub calloc : ℕ → ℕ → Now → Did Reply
 calloc count size S = next (requested (count * size) S) cleared
 
--- why a pointer is none to an allocation that is live
+-- 7.22.3.3p2, 7.22.3.5p3: why a pointer is none to an allocation that is live
 abbrev pub block_stop : Clause → Miss → Stop
 block_stop c miss.Ended = fault c reason.Ended
 block_stop c miss.Empty = fault c reason.Empty
@@ -92,19 +97,22 @@ block_stop c miss.Block = fault c reason.Block
 block_stop c miss.Apart = fault c reason.Block
 block_stop c miss.Undecided = fault c reason.Block
 
--- the survivor, which is live
+-- 7.22.3.3p2: the survivor, which is live
 abbrev pub block_in : Clause → ℕ → Option Info → Result ℕ Stop
 block_in c i None = Err (fault c reason.Block)
 block_in c i (Some x) = Ok i
 
+-- 7.22.3.3p2: the same, if there is one
 abbrev pub the_block : Clause → Mem → Option ℕ → Result ℕ Stop
 the_block c M None = Err (fault c reason.Block)
 the_block c M (Some i) = block_in c i (told_of M i)
 
+-- 7.22.3.3p2: the allocation, by what the block test found
 abbrev pub block_answer : Clause → Mem → Pointer → Result Tried Miss → Result ℕ Stop
 block_answer c M p (Ok tried) = the_block c M (chosen (stands M.table.pairs p.prov) tried)
 block_answer c M p (Err m) = Err (block_stop c m)
 
+-- 7.22.3.3p2: the same, with the use of the pointer that the test makes (the memory model)
 abbrev pub block_by : Clause → Given → Now → Result Tried Miss → Did ℕ
 block_by c g S found = record {
   answer = block_answer c S.memory g.pointer found;
@@ -115,18 +123,20 @@ block_by c g S found = record {
 abbrev pub block : Clause → Given → Now → Did ℕ
 block c g S = about g.stopped (block_by c g S (use_answer S.memory.table g.pointer.prov (Block g.pointer.address)))
 
+-- 7.22.3.3p2: the allocation ends
 abbrev pub freed : ℕ → Now → Did Reply
 freed i S = done reply.Nothing (noted (Ended i ∷ []) (in_memory S (without S.memory i)))
 
--- 7.22.3.3p2: of a null pointer nothing
+-- 7.22.3.3p2: of a null pointer nothing; else the allocation that it points to is deallocated
 abbrev pub free : Given → Now → Did Reply
 free g S = if is_null g.pointer then done reply.Nothing S else next (block clause.Freeing g S) freed
 
--- 7.22.3.5p2: the first bytes that both have are copied, and the old allocation ends
+-- 7.22.3.5p2: the first bytes that both have are copied whole
 abbrev pub both : Option Info → Option Info → Mem → Mem
 both (Some old) (Some new) N = copied N new.base old.base (min old.size new.size)
 both _ _ N = N
 
+-- 7.22.3.5p2, p4: a pointer to the new allocation, and the old one ends; or a null pointer, and the old one stays
 abbrev pub moved : ℕ → Result ℕ Reply → Now → Did Reply
 moved i (Err r) S = done r S
 moved i (Ok j) S =
@@ -136,5 +146,6 @@ moved i (Ok j) S =
 abbrev pub resized : ℕ → ℕ → Now → Did Reply
 resized size i S = if size == 0 then done (reply.Value null) S else next (requested size S) (moved i)
 
+-- 7.22.3.5p2, p3: as `malloc` for a null pointer; else the allocation that it points to gets this size
 abbrev pub realloc : Given → ℕ → Now → Did Reply
 realloc g size S = if is_null g.pointer then malloc size S else next (block clause.Reallocating g S) (resized size)

@@ -8,7 +8,7 @@ use Rattle.pv_object.specs.Memory.{Mem}
 use Rattle.pv_libc.specs.declared.values.Note.{Note}
 use Rattle.pv_libc.specs.declared.values.Note.TheVariants.{Made, Ended, Exposed, Used, Stopped}
 
--- an instance that is noted as made is live
+-- 7.22.3p1: an instance that is noted as made is live
 abbrev pub IsLiveIfMade : List Instance → Note → Type 0
 IsLiveIfMade xs (Made i) = IsLive xs i
 IsLiveIfMade xs (Ended i) = Unit {0}
@@ -16,7 +16,7 @@ IsLiveIfMade xs (Exposed i) = Unit {0}
 IsLiveIfMade xs (Used tried test) = Unit {0}
 IsLiveIfMade xs (Stopped low high pair) = Unit {0}
 
--- each instance that is noted as made is live
+-- 7.22.3p1: the same of each
 abbrev pub AreLive : Mem → List Note → Type 0
 AreLive M notes = All (IsLiveIfMade M.table.instances) notes
 

@@ -35,6 +35,7 @@ use Rattle.pv_libc.specs.declared.formats.Piece.TheVariants.{Goes, Converts, Bre
 use Rattle.pv_libc.specs.Formats.{piece_at}
 use Rattle.pv_libc.specs.Arguments.{number_text, pointer_text, number_of, string_of, address_of}
 
+-- 7.21.6.1p9: an invalid conversion, or an argument that is missing or doesn't fit
 abbrev pub format_stop : Stop
 format_stop = fault clause.Formats reason.Format
 
@@ -43,76 +44,84 @@ abbrev pub number_done : (ℤ → List ℕ) → Option ℤ → Now → Did (List
 number_done text None S = halted format_stop S
 number_done text (Some n) S = done (text n) S
 
--- 7.21.6.1p8, `s`
+-- 7.21.6.1p8, `s`: the string, up to its first 0
 abbrev pub string_done : Option Given → Now → Did (List ℕ)
 string_done None S = halted format_stop S
 string_done (Some g) S = string_at Print g S
 
--- 7.21.6.1p8, `p`: the live test, and the exposure
+-- 7.21.6.1p8, `p`: the text, where the live test passes (6.2.4p2)
 abbrev pub text_of_address : Pointer → Result (ℤ × Tried) Stop → Result (List ℕ) Stop
 text_of_address p (Ok n) = Ok (pointer_text p)
 text_of_address p (Err stop) = Err stop
 
+-- 7.21.6.1p8, `p`: the live test, and exposure (the memory model)
 abbrev pub address_by : Given → Now → Result (ℤ × Tried) Stop × Table → Did (List ℕ)
 address_by g S got = record {
   answer = text_of_address g.pointer got.0;
   after = told (noted (used (use_answer S.memory.table g.pointer.prov Live) 1) (in_table S got.1));
 }
 
+-- 7.21.6.1p8, `p`: the same, if the argument fits
 abbrev pub address_done : Option Given → Now → Did (List ℕ)
 address_done None S = halted format_stop S
 address_done (Some g) S = about g.stopped (address_by g S (to_int S.memory.table g.pointer kind.ULong))
 
--- an argument's pointer, if it is one that fits
+-- 7.21.6.1p9: an argument's pointer, if it is one that fits
 abbrev pub given_of : Note → Option Pointer → Option Given
 given_of note None = None
 given_of note (Some p) = Some (record { pointer = p; stopped = note })
 
--- 7.21.6.1p8
+-- 7.21.6.1p8: the text of a conversion with its argument
 abbrev pub converted : Conversion → Offered → Now → Did (List ℕ)
 converted (conversion.Number long how) x S = number_done (number_text how) (number_of long how x.arg.shape x.arg.value) S
 converted conversion.Character x S = number_done (λ n. bits_of kind.UChar n ∷ []) (number_of false style.Signed x.arg.shape x.arg.value) S
 converted conversion.String x S = string_done (given_of x.stopped (string_of x.arg.shape x.arg.value)) S
 converted conversion.Address x S = address_done (given_of x.stopped (address_of x.arg.shape x.arg.value)) S
 
--- after a byte of the format: where in it, the arguments left, and what is printed so far
+-- 7.21.6.1p4: after a byte of the format: where in it, the arguments left, and what is printed so far
 pub record Printed : Type 0 where
   pub within : Within
   pub left : List Offered
   pub text : List ℕ
 
+-- 7.21.6.1p2, p9: a conversion takes the next argument; without one it stops
 abbrev pub argument_taken : Conversion → List Offered → List ℕ → Now → Did Printed
 argument_taken k [] text S = halted format_stop S
 argument_taken k (x ∷ xs) text S = next (converted k x S) (λ t T. done (record { within = within.Text; left = xs; text = text ++ t }) T)
 
+-- 7.21.6.1p3, p4: what a byte of the format does
 abbrev pub piece_done : Piece → List Offered → List ℕ → Now → Did Printed
 piece_done (Goes c place) args text S = done (record { within = place; left = args; text = text ++ option_to_list c }) S
 piece_done (Converts k) args text S = argument_taken k args text S
 piece_done Breaks args text S = halted format_stop S
 
--- the end of the format is none of a conversion
+-- 7.21.6.1p9: the end of the format is none of a conversion
 abbrev pub format_end : Within → List ℕ → Now → Did (List ℕ)
 format_end within.Text text S = done text S
 format_end within.Percent text S = halted format_stop S
 format_end within.Long text S = halted format_stop S
 
+-- 7.21.6.1p3: the format, byte by byte
 abbrev pub printed_from : List ℕ → Printed → Now → Did (List ℕ)
 printed_from [] at S = format_end at.within at.text S
 printed_from (c ∷ cs) at S = next (piece_done (piece_at at.within c) at.left at.text S) (λ at T. printed_from cs at T)
 
--- a format as it is written in its literal, up to the first 0
+-- 7.1.1p1: a byte of the format and those behind it, none from the first 0 on
 abbrev pub unless_zero : Option ℕ → List ℕ → List ℕ
 unless_zero None rest = []
 unless_zero (Some v) rest = if v == 0 then [] else v ∷ rest
 
+-- 7.21.6.1p3: a format as it is written in its literal, up to the first 0
 abbrev pub before_zero : List Byte → List ℕ
 before_zero [] = []
 before_zero (b ∷ bs) = unless_zero b.value (before_zero bs)
 
+-- 6.4.5p6: the literal in this instance
 abbrev pub literal_bytes : Mem → Option Info → List ℕ
 literal_bytes M None = []
 literal_bytes M (Some x) = before_zero (read M.bytes x.base x.size)
 
+-- 6.4.5p6: the literal that a pointer points to; typing makes sure that it is one
 abbrev pub format_of : Mem → Prov → List ℕ
 format_of M (Inst i) = literal_bytes M (info_of (instance_at M.table.instances i))
 format_of M (Pair k) = []

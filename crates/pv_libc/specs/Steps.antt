@@ -15,15 +15,16 @@ use Rattle.pv_libc.specs.declared.values.Note.{Note}
 use Rattle.pv_libc.specs.declared.values.Note.TheVariants.{Exposed, Used}
 use Rattle.pv_libc.specs.declared.values.Given.{Given}
 
--- where a call stands: the memory, and what was noted so far
+-- where a call stands: the memory, and what was noted so far (the memory model)
 pub record Now : Type 0 where
   pub memory : Mem
   pub notes : List Note
 
+-- a call begins, with these notes
 abbrev pub with_notes : Mem → List Note → Now
 with_notes M notes = record { memory = M; notes = notes }
 
--- a step: its answer, or why it stops, and what it leaves
+-- a step of a call: its answer, or why it stops, and what it leaves
 pub record Did (A : Type 0) : Type 0 where
   pub answer : Result A Stop
   pub after : Now
@@ -41,53 +42,60 @@ abbrev pub next_by : {A B : Type 0} → Result A Stop → Did A → (A → Now �
 next_by (Ok a) d rest = rest a d.after
 next_by (Err stop) d rest = halted stop d.after
 
+-- a step, and then another one
 abbrev pub next : {A B : Type 0} → Did A → (A → Now → Did B) → Did B
 next d rest = next_by d.answer d rest
 
+-- more is noted
 abbrev pub noted : List Note → Now → Now
 noted more S = record S { notes = S.notes ++ more }
 
+-- the memory is this one
 abbrev pub in_memory : Now → Mem → Now
 in_memory S M = record S { memory = M }
 
+-- the table of instances and pairs is this one
 abbrev pub in_table : Now → Table → Now
 in_table S T = in_memory S (with_table S.memory T)
 
--- where the step stops, this is noted last
+-- the same, by the step's answer
 abbrev pub about_by : {A : Type 0} → Result A Stop → Note → Did A → Did A
 about_by (Ok a) note d = d
 about_by (Err stop) note d = halted stop (noted (note ∷ []) d.after)
 
+-- where the step stops, this is noted last
 abbrev pub about : {A : Type 0} → Note → Did A → Did A
 about note d = about_by d.answer note d
 
--- a use of a name that stood for two before
+-- the memory model: a use of a name that stood for two before, a pair of candidates
 abbrev pub pair_used : Option ℕ → Tried → ℕ → List Note
 pair_used None tried test = []
 pair_used (Some k) tried test = Used tried test ∷ []
 
+-- the memory model: the same, where the use found survivors
 abbrev pub used : Result Tried Miss → ℕ → List Note
 used (Ok tried) test = pair_used tried.pair tried test
 used (Err miss) test = []
 
--- what became exposed is noted, in order
+-- the memory model: what became exposed is noted, in order
 abbrev pub told : Now → Now
 told S = record {
   memory = with_table S.memory (record S.memory.table { pending = [] });
   notes = S.notes ++ map Exposed S.memory.table.pending;
 }
 
--- the checks of an access to n bytes
+-- 7.24.1p2, 6.5.3.2p4: the checks of an access to n bytes, and the use of the pointer that they make
 abbrev pub reached_by : Asker → (write : Bool) → Given → (n : ℕ) → Now → Result Reach Stop × Table → Did Reach
 reached_by by write g n S got = record {
   answer = got.0;
   after = noted (used (use_answer S.memory.table g.pointer.prov (Range g.pointer.address n)) 2) (in_table S got.1);
 }
 
+-- 7.24.1p2, 7.1.4p1: the same of this pointer, on behalf of who asks
 abbrev pub reached : Asker → (write : Bool) → Given → (n : ℕ) → Now → Did Reach
 reached by write g n S = about g.stopped (reached_by by write g n S (reach S.memory.table g.pointer n 1 write by))
 
--- the pointer so many bytes further on; where there is no such address, the last one, which lies in no instance
+-- 6.5.6p8: the pointer so many bytes further on; where there is no such address, the last one, which lies in no instance
 abbrev pub further : Given → ℕ → Given
 further g i = record g { pointer = record g.pointer { address = min (g.pointer.address + i) (2 ^ 64 - 1) } }
 

@@ -23,13 +23,14 @@ compared_by a b S rest =
     if not (a == b) then done (reply.Value (value.Int (sign_of a b))) S
     else (if a == 0 then done (reply.Value (value.Int (pos 0))) S else rest)
 
--- a character of the left, then one of the right
+-- 7.24.4.2p2, p3: a character of the left, then one of the right
 abbrev pub compared_from : ℕ → Given → Given → ℕ → Now → Did Reply
 compared_from zero p q i S = too_far Text p S
 compared_from (suc k) p q i S =
     next (character_at Text p i S) (λ a T.
     next (character_at Text q i T) (λ b U. compared_by a b U (compared_from k p q (i + 1) U)))
 
+-- 7.24.4.2p2, p3: two strings compared
 abbrev pub strcmp : Given → Given → Now → Did Reply
 strcmp p q S = compared_from most p q 0 S
 

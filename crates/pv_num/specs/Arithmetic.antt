@@ -18,23 +18,23 @@ use Rattle.pv_num.specs.Kinds.{width, is_signed, modulus_of, fits_of, bits_of, f
 abbrev pub IsPromoted : IntKind → Type 0
 IsPromoted k = 32 ≤ width k
 
--- 6.5p5
+-- 6.5p5: a result that its type has not
 abbrev pub overflow : Fault
 overflow = record { clause = Exceptions; reason = Overflow }
 
--- 6.5.5p5
+-- 6.5.5p5: the second operand of `/` or `%` is zero
 abbrev pub divide_by_zero : Fault
 divide_by_zero = record { clause = ZeroDivisors; reason = Divide }
 
--- 6.5.5p6
+-- 6.5.5p6: the quotient is not representable
 abbrev pub quotient_range : Fault
 quotient_range = record { clause = Quotients; reason = Quotient }
 
--- 6.5.7p3
+-- 6.5.7p3: the count is negative, or not less than the width
 abbrev pub count_range : Fault
 count_range = record { clause = ShiftCounts; reason = Count }
 
--- 6.5.7p4
+-- 6.5.7p4: the left operand is negative, or its product not representable
 abbrev pub shift_range : Fault
 shift_range = record { clause = LeftShifts; reason = Shift }
 
@@ -66,7 +66,7 @@ remainder_of k a b =
 abbrev pub is_count : IntKind → ℤ → Bool
 is_count k b = int_le (pos 0) b && int_lt b (pos (width k))
 
--- a times 2 ^ b
+-- 6.5.7p4: a times 2 ^ b
 abbrev pub times_power : ℤ → ℤ → ℤ
 times_power a b = a *ℤ pos (2 ^ unsigned_abs b)
 
@@ -97,7 +97,7 @@ abbrev pub one_if : Bool → ℤ
 one_if true = pos 1
 one_if false = pos 0
 
--- 6.5.5 to 6.5.12: the operands have the promoted kind k; of a shift, the left one has
+-- 6.5.5 to 6.5.12: a binary operator; the operands have the promoted kind k; of a shift, the left one has
 abbrev pub binary_of : BinOp → IntKind → ℤ → ℤ → Result ℤ Fault
 binary_of Add k a b = exact_of k (a +ℤ b)
 binary_of Sub k a b = exact_of k (a -ℤ b)
@@ -116,7 +116,7 @@ binary_of Ge k a b = Ok (one_if (int_le b a))
 binary_of Eq k a b = Ok (one_if (int_eq a b))
 binary_of Ne k a b = Ok (one_if (not (int_eq a b)))
 
--- 6.5.3.3p2 to p4
+-- 6.5.3.3p2 to p4: a unary operator on an operand of the promoted kind k
 abbrev pub unary_of : UnOp → IntKind → ℤ → Result ℤ Fault
 unary_of Plus k a = Ok a
 unary_of Minus k a = exact_of k (neg_ℤ a)
@@ -132,7 +132,7 @@ yielded_kind Eq k = Int
 yielded_kind Ne k = Int
 yielded_kind _ k = k
 
--- what the right operand may be: a member of the kind, and for a shift a member of any promoted kind
+-- 6.5.5 to 6.5.12: what the right operand may be: a member of the kind, and for a shift (6.5.7p3) a member of any promoted kind
 abbrev pub IsOperand : BinOp → IntKind → ℤ → Type 0
 IsOperand Shl k b = (neg_ℤ (pos (2 ^ 63)) ≤ℤ b) × (b ≤ℤ pos (2 ^ 64 - 1))
 IsOperand Shr k b = (neg_ℤ (pos (2 ^ 63)) ≤ℤ b) × (b ≤ℤ pos (2 ^ 64 - 1))

@@ -4,7 +4,7 @@ use Rattle.std.specs.Int.{int_rem_euclid}
 use Rattle.pv_num.specs.declared.kinds.IntKind.{IntKind}
 use Rattle.pv_num.specs.declared.kinds.IntKind.TheVariants.{Bool as BoolKind, Char, SChar, UChar, Short, UShort, Int, UInt, Long, ULong, LLong, ULLong}
 
--- 5.2.4.2.1 and 6.2.6.2p6: the number of bits, the sign's included; this target's choice
+-- 5.2.4.2.1 and 6.2.6.2p6: the number of bits, the sign's included; of `_Bool` those of its byte; this target's choice
 abbrev pub width : IntKind → ℕ
 width BoolKind = 8
 width Char = 8
@@ -34,7 +34,7 @@ is_signed ULong = false
 is_signed LLong = true
 is_signed ULLong = false
 
--- 2 to the width
+-- 6.2.5p9: 2 to the width
 abbrev pub modulus_of : IntKind → ℕ
 modulus_of k = 2 ^ width k
 
@@ -51,7 +51,7 @@ greatest k = if is_signed k then pos (modulus_of k / 2 - 1) else pos (modulus_of
 abbrev pub Fits : IntKind → ℤ → Type 0
 Fits k n = (least k ≤ℤ n) × (n ≤ℤ greatest k)
 
--- the same as a test
+-- 6.2.5: the same as a test
 abbrev pub fits_of : IntKind → ℤ → Bool
 fits_of k n = int_le (least k) n && int_le n (greatest k)
 
@@ -73,7 +73,7 @@ abbrev pub convert_of : IntKind → ℤ → ℤ
 convert_of BoolKind n = truth_of n
 convert_of k n = from_bits_of k (bits_of k n)
 
--- m and n differ by a multiple of d
+-- 6.3.1.3p2: m and n differ by a multiple of d
 abbrev pub IsCongruent : ℕ → ℤ → ℤ → Type 0
 IsCongruent d m n = (q : ℤ) × (m ≡ n +ℤ q *ℤ pos d)
 
@@ -83,6 +83,6 @@ abbrev pub IsConversion : IntKind → ℤ → ℤ → Type 0
 IsConversion BoolKind n m = (m ≡ pos 0) ↔ (n ≡ pos 0)
 IsConversion k n m = IsCongruent (modulus_of k) n m
 
--- the numbers that may be converted, which every operand and every difference of two addresses is among
+-- 6.3.1.3p1: the numbers that may be converted, which every operand and every difference of two addresses is among
 abbrev pub IsConvertible : ℤ → Type 0
 IsConvertible n = (neg_ℤ (pos (2 ^ 64)) ≤ℤ n) × (n ≤ℤ pos (2 ^ 64))

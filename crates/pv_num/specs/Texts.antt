@@ -5,7 +5,7 @@ use Rattle.pv_num.specs.declared.faults.Clause.TheVariants.{Lifetimes, Traps, Po
 use Rattle.pv_num.specs.declared.faults.Reason.{Reason}
 use Rattle.pv_num.specs.declared.faults.Reason.TheVariants.{Ended, Trap, Range, Misaligned, Readonly, Unsequenced, Overflow, WrongType, Null, Empty, Outside, Divide, Quotient, Apart, Uneven, Count, Shift, Overlap, Value, Format, Block}
 
--- the paragraph of C17, without the word "paragraph": section, `p`, number
+-- 3.4.3: the paragraph of C17 that leaves an operation undefined, without the word "paragraph": section, `p`, number
 abbrev pub clause_text : Clause → List ℕ
 clause_text Lifetimes = codes "6.2.4p2"
 clause_text Traps = codes "6.2.6.1p5"
@@ -34,7 +34,7 @@ clause_text StringFunctions = codes "7.24.1p2"
 clause_text MemcpyOverlap = codes "7.24.2.1p2"
 clause_text StrcpyOverlap = codes "7.24.2.3p2"
 
--- the word for the reason
+-- the word for the reason; C17 asks for no diagnostic there (3.4.3)
 abbrev pub reason_text : Reason → List ℕ
 reason_text Ended = codes "ended"
 reason_text Trap = codes "trap"

@@ -28,33 +28,35 @@ use Rattle.pv_object.specs.Encoding.{size_of, number_in}
 use Rattle.pv_object.specs.Access.{fault}
 use Rattle.pv_object.specs.Memory.{Mem}
 
--- an answer, and the table that it leaves
+-- an answer, and the table of the memory model that it leaves
 abbrev pub Loaded : Type 0
 Loaded = Result (Value × Tried) Stop × Table
 
+-- 6.2.4p2: a loaded pointer, where its name passed the live test
 abbrev pub live_answer : Pointer → Result Tried Miss → Result (Value × Tried) Stop
 live_answer p (Ok tried) = Ok (value.Pointer p, tried)
 live_answer p (Err miss) = Err (fault clause.Lifetimes reason.Ended)
 
--- the live test on a pointer just loaded
+-- 6.2.4p2: the live test on a pointer just loaded, whose value is indeterminate where all candidates have ended
 abbrev pub tested : Table → Pointer → Loaded
 tested T p = (live_answer p (use_answer T p.prov Live), settled T p.prov (use_answer T p.prov Live))
 
--- a pointer that was stored whole has its name; other bytes are a number that is converted
+-- the memory model: a pointer that was stored whole has its name; other bytes are a number that is converted (6.3.2.3p5)
 abbrev pub pointer_named : Table → Option Prov → ℕ → Loaded
 pointer_named T (Some p) a = tested T (record { address = a; prov = p })
 pointer_named T None a = tested (after_name T a) (record { address = a; prov = name_at T a })
 
--- The name that a pointer has which these bytes are, before its live test: that of a pointer stored whole, or else that
+-- The memory model: the name that a pointer has which these bytes are, before its live test: that of a pointer stored whole, or else that
 -- which the number finds (of two instances, the next pair). None where a byte has no value.
 abbrev pub loaded_name : Table → List Byte → Option Prov
 loaded_name T bytes = option_map (λ a. unwrap_or (whole_name bytes) (name_at T a)) (number_in bytes)
 
+-- 6.2.6.1p5, 3.19.2: what bytes are worth at a pointer type; indeterminate where one has no value
 abbrev pub pointer_of : Table → List Byte → Option ℕ → Loaded
 pointer_of T bytes None = (Err Indeterminate, T)
 pointer_of T bytes (Some a) = pointer_named T (whole_name bytes) a
 
--- the names of the bytes are exposed one by one, from the first byte on
+-- the memory model, exposure: the names of the bytes are exposed one by one, from the first byte on
 abbrev pub exposed_by : Table → List Byte → Table
 exposed_by T [] = T
 exposed_by T (b ∷ bs) = exposed_by (expose T b.prov) bs
@@ -74,27 +76,28 @@ is_trap ULong n = false
 is_trap LLong n = false
 is_trap ULLong n = false
 
--- a byte without a value is unset as a character, and indeterminate as any other integer
+-- 3.19.2, 6.2.6.1p5: a byte without a value is unset as a character, and indeterminate as any other integer. Its names are exposed
+-- (the memory model) behind the checks
 abbrev pub integer_of : Table → IntKind → List Byte → Option ℕ → Loaded
 integer_of T k bytes None = if is_character k then (Ok (value.Unset, untried), exposed_by T bytes) else (Err Indeterminate, T)
 integer_of T k bytes (Some n) =
     if is_trap k n then (Err (fault clause.Traps reason.Trap), T)
     else (Ok (value.Int (convert_of k (pos n)), untried), exposed_by T bytes)
 
--- what bytes are worth at a scalar type, and what reading them does to the table
+-- 6.3.2.1p2: what bytes are worth at a scalar type, and what reading them does to the table
 abbrev pub value_of : Table → List Byte → Scalar → Loaded
 value_of T bytes (scalar.Int k) = integer_of T k bytes (number_in bytes)
 value_of T bytes scalar.Pointer = pointer_of T bytes (number_in bytes)
 
--- a load reads the bytes from its address on. All bytes stay
+-- 6.3.2.1p2: a load reads the bytes from its address on. All bytes stay
 abbrev pub load : Mem → ℕ → Scalar → Loaded
 load M a t = value_of M.table (read M.bytes a (size_of t)) t
 
--- two instances fit at the number
+-- the memory model: two instances fit at the number
 abbrev pub FitsTwo : Table → ℕ → Type 0
 FitsTwo T a = IsSome (found_at T a).high
 
--- the bytes are no whole pointer, and a number at which two instances fit
+-- the memory model: the bytes are no whole pointer, and a number at which two instances fit
 abbrev pub MakesPair : Table → List Byte → Scalar → Type 0
 MakesPair T bytes (scalar.Int k) = ⊥
 MakesPair T bytes scalar.Pointer = (whole_name bytes ≡ None) × IsSomeAnd (number_in bytes) (FitsTwo T)

@@ -4,6 +4,7 @@ use Rattle.std.specs.Ordering.{nat_cmp, ordering_then}
 use Rattle.std.specs.declared.cmp.Ordering.{Ordering}
 use Rattle.std.specs.BTreeSet.{BTreeSet, contains}
 
+-- the order of the pairs: by the byte, and then by the number
 abbrev pub mark_cmp : ℕ × ℕ → ℕ × ℕ → Ordering
 mark_cmp p q = ordering_then (nat_cmp p.0 q.0) (nat_cmp p.1 q.1)
 

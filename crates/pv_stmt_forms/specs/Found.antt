@@ -13,7 +13,7 @@ use Rattle.pv_stmt_forms.specs.Externals.{external_at}
 abbrev pub function_with : (line : ℕ) → (specs : Trees) → DeclaratorTree → Piece → Piece
 function_with line specs d block = option_map (λ x. (OfDeclaration (Function line specs d (as_statement x.0)), x.1)) block
 
--- the external declaration at a place of some tokens, or that there is none
+-- the external declaration at a place of some tokens (6.9p1), or that there is none
 pub record IsExternalAt (u : Tables) (is_type : ℕ → Bool) (tokens : List Token) (at : ℕ) (answer : Option (NodeId × ℕ)) : Type 0 where
   pub is : type_seen u.forest tokens answer ≡ external_at is_type (drop at tokens)
   pub there : IsThere u is_external tokens answer

@@ -7,7 +7,7 @@ use Rattle.pv_tree.specs.Units.{declares}
 use Rattle.pv_stmt_forms.specs.declared.typedefs.NamePlace.{NamePlace}
 use Rattle.pv_stmt_forms.specs.declared.typedefs.NamePlace.TheVariants as name_place
 
--- the name that stands there is this one
+-- the name that stands there is this one (6.7.6p2)
 abbrev pub names_there : Forest → NamePlace → ℕ → Bool
 names_there f (name_place.Here n) m = n == m
 names_there f (name_place.Within d) m = declares (declarator_at f d) m
@@ -23,7 +23,7 @@ abbrev pub is_name : Option ℕ → ℕ → Bool
 is_name None m = false
 is_name (Some n) m = n == m
 
--- the name that an init-declarator declares is this one
+-- the name that an init-declarator declares is this one (6.7.6p2)
 abbrev pub declares_one : Tree → ℕ → Bool
 declares_one (OfDeclaration (InitDeclarator line declarator init)) m = declares declarator m
 declares_one _ m = false

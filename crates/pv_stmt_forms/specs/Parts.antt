@@ -37,7 +37,7 @@ test_of sign.Colon k = is_colon k
 test_of sign.Else k = is_else k
 test_of sign.While k = is_while k
 
--- the form of the statement that a token begins
+-- the form of the statement that a token begins (6.8p1)
 abbrev pub form_of : TokenKind → StatementForm
 form_of (kind.Mark mark.OpenBrace) = form.Braces
 form_of (kind.Word word.If) = form.If
@@ -50,7 +50,7 @@ form_of (kind.Word word.Continue) = form.Continue
 form_of (kind.Word word.Return) = form.Return
 form_of _ = form.Plain
 
--- the keyword of a label
+-- the keyword of a label (6.8.1p1)
 abbrev pub label_word_of : TokenKind → Option LabelWord
 label_word_of (kind.Word word.Case) = Some label_word.Case
 label_word_of (kind.Word word.Default) = Some label_word.Default
@@ -58,67 +58,75 @@ label_word_of _ = None
 
 -- ---- what braces enclose (6.8.1p2, 6.8.2, 6.8.4.2)
 
+-- what braces make of the items: a block, or that of a `switch` (6.8.2p1, 6.8.4.2)
 abbrev pub enclosed : Within → (line : ℕ) → Trees → Tree
 enclosed within.Block line items = OfStatement (Block line items)
 enclosed within.Switch line items = OfStatement (SwitchBlock line items)
 
--- a statement among the items
+-- a statement among the items (6.8.2p1)
 abbrev pub statement_in : Within → Names → (depth : ℕ) → List Token → Piece
 statement_in within.Block names depth = readers names depth Statements
 statement_in within.Switch names depth = labelled names depth (readers names depth Statements)
 
+-- an item: a declaration or a statement (6.8.2p1)
 abbrev pub item_in : Within → Names → (depth : ℕ) → List Token → Piece
 item_in w names depth = item names depth (statement_in w names depth)
 
--- behind `{`
+-- behind `{` (6.8.2p1)
 abbrev pub braced : Within → Names → (below line : ℕ) → List Token → Piece
 braced w names below line ts = block_end (enclosed w line) (row (item_in w names below) NoTrees ts)
 
 -- ---- labels (6.8.1)
 
--- behind `case`
+-- behind `case` (6.8.1p1)
 abbrev pub case_label : Names → (depth line : ℕ) → List Token → Piece
 case_label names depth line ts = label_of names depth line (kind.Word word.Case) ts
 
 -- ---- a part that may be left out, before a token: what a function that reads both answers
 
+-- a part that may be left out, before a token, as a tree and the tokens behind
 abbrev pub part_seen : Forest → List Token → Option (Option NodeId × ℕ) → Option (OptionalTree × List Token)
 part_seen f tokens None = None
 part_seen f tokens (Some x) = Some (optional_at f x.0, drop x.1 tokens)
 
+-- what is answered is an expression's node, and a place among the tokens
 abbrev pub IsPartThere : Tables → List Token → Option (Option NodeId × ℕ) → Type 0
 IsPartThere u tokens None = Unit {0}
 IsPartThere u tokens (Some x) = HasOptional u.forest (length u.forest.trees) is_expression x.0 × (x.1 ≤ length tokens)
 
+-- what the code answers is what reading on lists gives
 pub record PartAnswers (u : Tables) (tokens : List Token) (answer : Option (Option NodeId × ℕ)) (reading : Option (OptionalTree × List Token)) : Type 0 where
   pub is : part_seen u.forest tokens answer ≡ reading
   pub there : IsPartThere u tokens answer
 
 -- ---- the head of a `for` (6.8.5p1)
 
+-- the first part of a `for` (6.8.5p1) is a node of its kind
 abbrev pub HasFirst : Forest → (count : ℕ) → First → Type 0
 HasFirst f count (first.Declaration d) = Has f count is_declaration d
 HasFirst f count (first.Expression a) = HasOptional f count is_expression a
 
--- its parts are there
+-- the parts of the head of a `for` (6.8.5p1) are there
 pub record HasHead (f : Forest) (count : ℕ) (h : ForHead) : Type 0 where
   pub begins : HasFirst f count h.first
   pub tests : HasOptional f count is_expression h.condition
   pub steps : HasOptional f count is_expression h.step
 
--- what a first part makes with the others
+-- what a first part makes with the others (6.8.5p1)
 abbrev pub for_with : Forest → (line : ℕ) → First → OptionalTree → OptionalTree → Tree → Tree
 for_with f line (first.Declaration d) c s x = OfStatement (ForDeclaration line (declaration_at f d) c s (as_statement x))
 for_with f line (first.Expression a) c s x = OfStatement (For line (optional_at f a) c s (as_statement x))
 
+-- what a head makes with a body (6.8.5p1)
 abbrev pub for_by : Forest → (line : ℕ) → ForHead → Tree → Tree
 for_by f line h x = for_with f line h.first (optional_at f h.condition) (optional_at f h.step) x
 
--- how a `for` goes on from its first part, where one is read
+-- how a `for` goes on from its first part, where one is read (6.8.5p1)
 abbrev pub after_first : Forest → Names → (below : ℕ) → (List Token → Piece) → (line : ℕ) → List Token → Option (First × ℕ) → Piece
 after_first f names below read line tokens None = None
 after_first f names below read line tokens (Some x) = for_rest names below read (for_with f line x.0) (drop x.1 tokens)
 
+-- what is answered is a first part that is there
 abbrev pub IsFirstThere : Tables → List Token → Option (First × ℕ) → Type 0
 IsFirstThere u tokens None = Unit {0}
 IsFirstThere u tokens (Some x) = HasFirst u.forest (length u.forest.trees) x.0 × (x.1 ≤ length tokens)
@@ -128,11 +136,12 @@ pub record FirstAnswers (u : Tables) (names : Names) (below : ℕ) (tokens : Lis
   pub is : (read : List Token → Piece) (line : ℕ) → after_first u.forest names below read line tokens answer ≡ for_parts names below read line ts
   pub there : IsFirstThere u tokens answer
 
--- how a `for` goes on from its head, where one is read
+-- how a `for` goes on from its head, where one is read (6.8.5p1)
 abbrev pub after_head : Forest → (List Token → Piece) → (line : ℕ) → List Token → Option (ForHead × ℕ) → Piece
 after_head f read line tokens None = None
 after_head f read line tokens (Some x) = option_map (λ y. (for_by f line x.0 y.0, y.1)) (read (drop x.1 tokens))
 
+-- what is answered is a head whose parts are there
 abbrev pub IsHeadThere : Tables → List Token → Option (ForHead × ℕ) → Type 0
 IsHeadThere u tokens None = Unit {0}
 IsHeadThere u tokens (Some x) = HasHead u.forest (length u.forest.trees) x.0 × (x.1 ≤ length tokens)

@@ -8,6 +8,7 @@ abbrev pub is_const : Ty → Bool
 is_const (ConstOf t) = true
 is_const _ = false
 
+-- 6.3.2.1p1: some part is `const`
 abbrev pub some_const : List Part → Bool
 some_const [] = false
 some_const (p ∷ ps) = is_const p.t || some_const ps

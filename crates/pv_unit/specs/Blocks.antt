@@ -16,12 +16,12 @@ use Rattle.pv_unit.specs.Entities.{new_object}
 use Rattle.pv_unit.specs.Declarations.{specified_by, only_tag, tags_alone, type_declared}
 use Rattle.pv_unit.specs.ValueRules.{initialized, with_given}
 
--- an automatic object that a declaration reaches, and the line of its name
+-- 6.2.4p5, p6: an automatic object that a declaration reaches, and the line of its name
 pub record Reached : Type 0 where
   pub object : ℕ
   pub line : ℕ
 
--- what a block's declarations may have: no `typedef` and no `extern` below file scope
+-- 6.7.1p1, our choice: what a block's declarations may have: no `typedef` and no `extern` below file scope
 abbrev pub block_storage : Storage → Option Bool
 block_storage storage.Plain = Some false
 block_storage storage.Static = Some true
@@ -45,30 +45,35 @@ abbrev pub reached : Bool → ℕ → ℕ × ℕ → List Reached
 reached true o n = []
 reached false o n = record { object = o; line = n.1 } ∷ []
 
+-- 6.7.9: there is an initializer
 abbrev pub is_present : OptionalTree → Bool
 is_present Absent = false
 is_present (Present t) = true
 
+-- 6.7p1: one declarator of a block, which declares no function (our choice)
 abbrev pub block_declarator : Bool → Ty → DeclaratorTree → OptionalTree → After (List Reached) → Option (After (List Reached))
 block_declarator lasting t d i r =
     and_then (declared_name d) (λ n. and_then (type_declared (is_present i) t d r.state) (λ a.
     if is_function a.value.t then None
     else and_then (block_object lasting a.value.t n i a.state) (give (Some (r.value ++ reached lasting (length a.state.unit.objects) n)))))
 
+-- 6.7p1: one init-declarator of a block
 abbrev pub block_init_declarator : Bool → Ty → Tree → After (List Reached) → Option (After (List Reached))
 block_init_declarator lasting t (OfDeclaration (InitDeclarator line d i)) r = block_declarator lasting t d i r
 block_init_declarator lasting t _ r = None
 
+-- 6.7p1: the init-declarators of a declaration, from left to right
 abbrev pub block_declarators : Trees → Bool → Ty → State → Option (After (List Reached))
 block_declarators NoTrees lasting t s = give (Some []) s
 block_declarators (Then before x) lasting t s = and_then (block_declarators before lasting t s) (block_init_declarator lasting t x)
 
--- a tag specifier alone, without declarators (6.7.2.3p7), or other specifiers
+-- 6.7.2.3p7, 6.7p2: a tag specifier alone, without declarators, or other specifiers
 abbrev pub block_alone : Option (Word × ℕ) → Trees → State → Option (After (List Reached))
 block_alone (Some (w, n)) specs s = and_then (tag_alone w n s) (give (Some []))
 block_alone None specs s =
     and_then (specified_by specs s) (λ a. and_then (block_storage a.value.storage) (λ lasting. and_then (tags_alone specs s a) (λ b. give (Some []) b.state)))
 
+-- 6.7p1: specifiers and declarators
 abbrev pub block_declared : Trees → Trees → State → Option (After (List Reached))
 block_declared specs ds s =
     and_then (specified_by specs s) (λ a. and_then (block_storage a.value.storage) (λ lasting. block_declarators ds lasting a.value.t a.state))

@@ -19,18 +19,19 @@ use Rattle.pv_unit.specs.Definitions.{Head}
 use Rattle.pv_unit.specs.Entities.{UnitState}
 use Rattle.pv_unit.specs.Outside.{unit_state}
 
--- the head of a definition, and what is known behind it
+-- the head of a definition (6.9.1) that the code made, and what is known behind it
 abbrev pub head_made : List (List ℕ) → Raw → Stored → Outer → Defined → Signature → Head × UnitState
 head_made texts s m o d g = (
   record { function = d.function; result = tree m.known d.result_type.0; signature = signature_shown m.known g },
   unit_state texts s m o,
 )
 
--- the items of a body, where it is a block
+-- a block (6.8.2), as every body is
 abbrev pub is_block : StatementTree → Bool
 is_block (Block line items) = true
 is_block _ = false
 
+-- the items of a body, where it is a block
 abbrev pub IsBodyIf : Forest → NodeId → Option ListId → Type 0
 IsBodyIf f n None = is_block (statement_at f n) ≡ false
 IsBodyIf f n (Some l) = (statement_at f n ≡ Block (tree_line (tree_at f n)) (trees_at f l)) × HasList f n.0 is_item l
@@ -39,11 +40,12 @@ IsBodyIf f n (Some l) = (statement_at f n ≡ Block (tree_line (tree_at f n)) (t
 abbrev pub left_items : After (List TypedStatement) → Option (After (List TypedStatement))
 left_items x = Some (record { value = x.value; state = left x.state })
 
--- the parts of a function definition, where it is one
+-- a function definition (6.9.1p1)
 abbrev pub is_definition : DeclarationTree → Bool
 is_definition (Function line specs declarator block) = true
 is_definition _ = false
 
+-- the parts of a function definition, as the code has them
 abbrev pub AreParts : Tables → NodeId → FunctionParts → Type 0
 AreParts u n x =
     (declaration_at u.forest n ≡ Function (tree_line (tree_at u.forest n)) (trees_at u.forest x.specs) (declarator_at u.forest x.declarator) (statement_at u.forest x.block))
@@ -51,6 +53,7 @@ AreParts u n x =
     × Is u is_declarator x.declarator
     × Is u is_statement x.block
 
+-- the same, where it is one
 abbrev pub ArePartsIf : Tables → NodeId → Option FunctionParts → Type 0
 ArePartsIf u n None = is_definition (declaration_at u.forest n) ≡ false
 ArePartsIf u n (Some x) = AreParts u n x

@@ -22,20 +22,22 @@ use Rattle.pv_unit.specs.ValueRules.{initialized, with_given}
 
 -- ---- without declarators
 
+-- how many names and tags a scope has (6.2.3p1)
 abbrev pub bound_in : Scope → ℕ
 bound_in x = length x.names + length x.tags
 
--- a structure or a union with a tag and members
+-- 6.7.2.3p6: a structure or a union with a tag and members
 abbrev pub is_listed : SpecifierTree → Bool
 is_listed (Composite line w n ms) = is_some n
 is_listed _ = false
 
+-- 6.7.2.3p6: such a one stands among specifiers
 abbrev pub has_list : Trees → Bool
 has_list NoTrees = false
 has_list (Then before (OfSpecifier x)) = is_listed x || has_list before
 has_list (Then before _) = has_list before
 
--- a tag specifier and nothing else
+-- 6.7.2.3p7: a tag specifier and nothing else
 abbrev pub only_tag : Trees → Option (Word × ℕ)
 only_tag (Then NoTrees (OfSpecifier (Tag line w n))) = Some (w, n)
 only_tag _ = None
@@ -44,59 +46,69 @@ only_tag _ = None
 abbrev pub declares_something : Trees → State → State → Bool
 declares_something specs before after = nat_lt (bound_in (innermost before.scopes)) (bound_in (innermost after.scopes)) || has_list specs
 
+-- 6.7p2: specifiers without declarators declare something
 abbrev pub tags_alone : Trees → State → After Specified → Option (After Specified)
 tags_alone specs s a = if declares_something specs s a.state then Some a else None
 
+-- 6.7p1: what specifiers say
 abbrev pub specified_by : Trees → State → Option (After Specified)
 specified_by specs s = and_then (specifiers specs s) (λ a. give (specified a.value) a.state)
 
 -- ---- one declarator
 
--- an array of no size among the steps of a declarator
+-- 6.7.6.2p4: an array of no size among the steps of a declarator
 abbrev pub is_unsized : Derivation → Bool
 is_unsized (ByArray None) = true
 is_unsized _ = false
 
+-- 6.7.6.2p4: one of the steps is so
 abbrev pub has_unsized : List Derivation → Bool
 has_unsized [] = false
 has_unsized (d ∷ ds) = is_unsized d || has_unsized ds
 
--- what a declarator makes of the type before it (6.7.6), and whether it has an array of no size
+-- 6.7.6p4: what a declarator makes of the type before it, and whether it has an array of no size
 pub record DeclaredType : Type 0 where
   pub t : Ty
   pub unsized : Bool
 
+-- 6.7.6.2p4: the same, made of its parts
 abbrev pub with_unsized : Bool → Ty → Option DeclaredType
 with_unsized b t = Some (record { t = t; unsized = b })
 
+-- 6.7.6p4: the type that a declarator gives its name, in the state behind it
 abbrev pub type_declared : (unsized : Bool) → Ty → DeclaratorTree → State → Option (After DeclaredType)
 type_declared unsized t d s =
     and_then (steps d s) (λ a. give (and_then (derived unsized (env a.state) a.value.list t) (with_unsized (has_unsized a.value.list))) a.state)
 
 -- ---- at file scope
 
--- 6.7p3: the same typedef may stand again
+-- 6.7p3: the same typedef may stand again, with the same type
 abbrev pub typedef_again : Option Meaning → ℕ → Ty → UnitState → Option UnitState
 typedef_again None n t u = Some (record u { state = bind n (TypedefOf t) u.state })
 typedef_again (Some (TypedefOf v)) n t u = if same v t then Some u else None
 typedef_again (Some _) n t u = None
 
+-- 6.7p3: by what the name stands for at file scope
 abbrev pub typedef_found : ℕ → Ty → UnitState → Option UnitState
 typedef_found n t u = typedef_again (find (innermost u.state.scopes).names n) n t u
 
+-- 6.7.8p3: a typedef name; `main` is a function (5.1.2.2.1p1)
 abbrev pub typedef_declared : ℕ → Ty → Bool → UnitState → Option UnitState
 typedef_declared n t unsized u =
     if is_main u.state.unit.names (unit_name n) && not (is_function t && are_compatible t main_type) then None
     else typedef_found n t (record u { unsized_typedef = u.unsized_typedef || unsized })
 
+-- 6.7.1p5: the storage-class specifier `typedef`
 abbrev pub is_typedef : Storage → Bool
 is_typedef storage.Typedef = true
 is_typedef _ = false
 
+-- 6.7.1p1: the storage-class specifier `extern`
 abbrev pub is_extern : Storage → Bool
 is_extern storage.Extern = true
 is_extern _ = false
 
+-- 6.9.2p1, p2, 6.9p5: what a declaration says of an object or a function, beside what others said
 abbrev pub noted : Bool → ℕ → (defined initialized unsized : Bool) → UnitState → UnitState
 noted function k d i b u = record u { entities = marked function k d i b u.entities }
 
@@ -111,50 +123,56 @@ object_initialized i a =
     else and_then (initialized true (object_at a.1.state.unit a.0).t i a.1.state) (λ f.
     Some (noted false a.0 true true false (record a.1 { state = with_given a.0 f.value f.state })))
 
--- the same name may stand for a type again (6.7p3), without an initializer
+-- 6.7p3, 6.7.9: a typedef name, which has no initializer
 abbrev pub typedef_entity : Ty → ℕ × ℕ → Bool → OptionalTree → UnitState → Option UnitState
 typedef_entity t n unsized Absent u = typedef_declared n.0 t unsized u
 typedef_entity t n unsized _ u = None
 
--- a function, or an object without an initializer
+-- 6.7p4: a function, or an object without an initializer
 abbrev pub plain_entity : Storage → Ty → ℕ × ℕ → Bool → UnitState → Option UnitState
 plain_entity x t n unsized u =
     if is_function t
     then and_then (function_declared n.0 n.1 t u) (λ a. Some (noted true a.0 false false unsized a.1))
     else and_then (object_declared n.0 n.1 t u) (λ a. Some (object_noted x unsized a))
 
--- an object with an initializer
+-- 6.7.9p3: an object with an initializer, which no function has
 abbrev pub given_entity : Ty → ℕ × ℕ → InitializerTree → UnitState → Option UnitState
 given_entity t n i u = if is_function t then None else and_then (object_declared n.0 n.1 t u) (object_initialized i)
 
+-- 6.7p1: a function or an object, with or without an initializer
 abbrev pub variable_entity : Storage → Ty → ℕ × ℕ → Bool → OptionalTree → UnitState → Option UnitState
 variable_entity x t n unsized Absent u = plain_entity x t n unsized u
 variable_entity x t n unsized (Present (OfInitializer i)) u = given_entity t n i u
 variable_entity x t n unsized _ u = None
 
+-- 6.7p1: what one declarator declares, by the storage class
 abbrev pub entity_declared : Storage → Ty → ℕ × ℕ → Bool → OptionalTree → UnitState → Option UnitState
 entity_declared storage.Typedef t n unsized i u = typedef_entity t n unsized i u
 entity_declared x t n unsized i u = variable_entity x t n unsized i u
 
+-- 6.7p1: one declarator of file scope
 abbrev pub file_declarator : Specified → DeclaratorTree → OptionalTree → UnitState → Option UnitState
 file_declarator x d i u =
     and_then (declared_name d) (λ n. and_then (type_declared true x.t d u.state) (λ a.
     entity_declared x.storage a.value.t n a.value.unsized i (record u { state = a.state })))
 
+-- 6.7p1: one init-declarator of file scope
 abbrev pub file_init_declarator : Specified → Tree → UnitState → Option UnitState
 file_init_declarator x (OfDeclaration (InitDeclarator line d i)) u = file_declarator x d i u
 file_init_declarator x _ u = None
 
+-- 6.7p1: the init-declarators of a declaration, from left to right
 abbrev pub file_declarators : Trees → Specified → UnitState → Option UnitState
 file_declarators NoTrees x u = Some u
 file_declarators (Then before t) x u = and_then (file_declarators before x u) (file_init_declarator x t)
 
--- a tag specifier alone, without declarators (6.7.2.3p7), or other specifiers
+-- 6.7.2.3p7, 6.7p2: a tag specifier alone, without declarators, or other specifiers
 abbrev pub file_alone : Option (Word × ℕ) → Trees → UnitState → Option UnitState
 file_alone (Some (w, n)) specs u = and_then (tag_alone w n u.state) (λ s. Some (record u { state = s }))
 file_alone None specs u =
     and_then (specified_by specs u.state) (λ a. and_then (tags_alone specs u.state a) (λ b. Some (record u { state = b.state })))
 
+-- 6.7p1: specifiers and declarators
 abbrev pub file_declared : Trees → Trees → UnitState → Option UnitState
 file_declared specs ds u = and_then (specified_by specs u.state) (λ a. file_declarators ds a.value (record u { state = a.state }))
 

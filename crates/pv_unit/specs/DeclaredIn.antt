@@ -10,31 +10,35 @@ use Rattle.pv_check.specs.Specifiers.{Specified as WhatIsSpecified}
 use Rattle.pv_unit.specs.declared.declarators.DeclaredType.{DeclaredType}
 use Rattle.pv_unit.specs.Declarations.{DeclaredType as WholeType}
 
--- what specifiers say
+-- what specifiers say (6.7p1), with the tree of the type
 abbrev pub specified_in : Known → Specified → WhatIsSpecified
 specified_in m x = record { storage = x.storage; t = tree m x.t.0 }
 
+-- the same as an answer, and the state after it
 abbrev pub after_specified : List (List ℕ) → Raw → Stored → Option Specified → Option (After WhatIsSpecified)
 after_specified texts s m None = None
 after_specified texts s m (Some x) = Some (record { value = specified_in m.known x; state = state_of texts false s m })
 
--- the type of a declarator
+-- the type of a declarator (6.7.6), with its tree
 abbrev pub type_in : Known → DeclaredType → WholeType
 type_in m x = record { t = tree m x.t.0; unsized = x.without_size }
 
+-- the same as an answer, and the state after it
 abbrev pub after_declared : List (List ℕ) → Raw → Stored → Option DeclaredType → Option (After WholeType)
 after_declared texts s m None = None
 after_declared texts s m (Some x) = Some (record { value = type_in m.known x; state = state_of texts false s m })
 
--- where there is an answer, the scopes are open and the tables have more
+-- where there is an answer, the scopes are open
 abbrev pub OpenOn : Stored → Raw → Bool → Type 0
 OpenOn m s false = Unit {0}
 OpenOn m s true = IsOpen m s
 
+-- where there is an answer, the tables have more
 abbrev pub GoesOn : Stored → Stored → Bool → Type 0
 GoesOn a b false = Unit {0}
 GoesOn a b true = Goes a b
 
+-- where there is an answer, the state
 abbrev pub state_on : List (List ℕ) → Raw → Stored → Bool → Option State
 state_on texts s m false = None
 state_on texts s m true = Some (state_of texts false s m)

@@ -11,8 +11,8 @@ use Rattle.pv_check.specs.Composite.{composite}
 use Rattle.pv_check.specs.Library.{library_named}
 use Rattle.pv_unit.specs.Library.{agrees, main_type}
 
--- an object or a function with a declaration at file scope, in the order of their first ones: whether it is defined (6.9.1, 6.9.2p1, p2), whether
--- it has an initializer or a body, and whether it was declared with an array of no size
+-- 6.7p4, 6.9p5: an object or a function with a declaration at file scope, in the order of their first ones: whether it is defined
+-- (6.9.1, 6.9.2p1, p2), whether it has an initializer or a body, and whether it was declared with an array of no size
 pub record Entity : Type 0 where
   pub name : ℕ
   pub function : Bool
@@ -21,32 +21,37 @@ pub record Entity : Type 0 where
   pub initialized : Bool
   pub unsized : Bool
 
--- what is known behind some external declarations
+-- what is known behind some external declarations (6.9p1)
 pub record UnitState : Type 0 where
   pub state : State
   pub entities : List Entity
   pub unsized_typedef : Bool
 
+-- the unit with another object of this number (6.2.7p4: a later declaration changes its type)
 abbrev pub with_object : ℕ → TypedObject → State → State
 with_object o x s = record s { unit = record s.unit { objects = set s.unit.objects o x } }
 
+-- 6.2.7p4: the object has this type from here on
 abbrev pub with_object_type : ℕ → Ty → State → State
 with_object_type o t s = with_object o (record (object_at s.unit o) { t = t }) s
 
+-- the unit with another function of this number (6.2.7p4, 6.9.1)
 abbrev pub with_function : ℕ → TypedFunction → State → State
 with_function f x s = record s { unit = record s.unit { functions = set s.unit.functions f x } }
 
+-- 6.2.7p4: the function has this type from here on
 abbrev pub with_function_type : ℕ → Ty → State → State
 with_function_type f t s = with_function f (record (function_at s.unit f) { t = t }) s
 
--- a name of the source has a number among the unit's names
+-- a name of the source (6.4.2.1) has a number among the unit's names, behind two that no source has
 abbrev pub unit_name : ℕ → ℕ
 unit_name n = n + 2
 
--- the entity of this kind and number, with what a declaration says
+-- 6.7p4: the object or the function of this number
 abbrev pub is_entity : Bool → ℕ → Entity → Bool
 is_entity function k e = beq e.function function && (e.number == k)
 
+-- 6.9p5: the same with what a declaration says, beside what others said
 abbrev pub marked : Bool → ℕ → (defined initialized unsized : Bool) → List Entity → List Entity
 marked function k d i b [] = []
 marked function k d i b (e ∷ es) =
@@ -54,26 +59,30 @@ marked function k d i b (e ∷ es) =
     then record e { defined = e.defined || d; initialized = e.initialized || i; unsized = e.unsized || b } ∷ es
     else e ∷ marked function k d i b es
 
+-- 6.9p5: it has an initializer or a body already
 abbrev pub is_initialized : Bool → ℕ → List Entity → Bool
 is_initialized function k [] = false
 is_initialized function k (e ∷ es) = if is_entity function k e then e.initialized else is_initialized function k es
 
+-- 6.7p4: an object or a function before its first declaration says more
 abbrev pub entity : ℕ → Bool → ℕ → Entity
 entity n function k = record { name = n; function = function; number = k; defined = false; initialized = false; unsized = false }
 
 -- ---- an object
 
--- a new one, with the number and the name that the next object gets
+-- 6.2.1p7: a new object, whose name stands from here on, with the number and the name that the next object gets
 abbrev pub new_object : ℕ → ℕ → Ty → Bool → State → State
 new_object n line t lasting s =
     bind n (ObjectName (length s.unit.objects))
     (record s { unit = record s.unit { objects = s.unit.objects ++ (record { name = unit_name n; t = t; line = line; lasting = lasting; braced = false; inits = [] } ∷ []) } })
 
+-- 6.9.2p1, 6.2.4p3: a new object of file scope, with static storage
 abbrev pub with_new_object : ℕ → ℕ → Ty → UnitState → ℕ × UnitState
 with_new_object n line t u =
     (length u.state.unit.objects, record u { state = new_object n line t true u.state; entities = u.entities ++ (entity n false (length u.state.unit.objects) ∷ []) })
 
--- 6.7p4: all its declarations have compatible types; 6.2.7p4: its type is then the composite one; 6.2.3p1: the name stands for nothing else
+-- 6.7p4: all its declarations have compatible types; 6.2.7p4: its type is then the composite one; 6.2.3p1: the name stands for
+-- nothing else
 abbrev pub object_again : Option Meaning → ℕ → ℕ → Ty → UnitState → Option (ℕ × UnitState)
 object_again None n line t u = Some (with_new_object n line t u)
 object_again (Some (ObjectName o)) n line t u =
@@ -82,23 +91,26 @@ object_again (Some (ObjectName o)) n line t u =
     else None
 object_again (Some _) n line t u = None
 
--- 5.1.2.2.1p1: `main` is a function
+-- 6.7p4, 5.1.2.2.1p1: an object of file scope; `main` is a function
 abbrev pub object_declared : ℕ → ℕ → Ty → UnitState → Option (ℕ × UnitState)
 object_declared n line t u = if is_main u.state.unit.names (unit_name n) then None else object_again (find (innermost u.state.scopes).names n) n line t u
 
 -- ---- a function
 
+-- 6.2.1p7: a new function, whose name stands from here on
 abbrev pub new_function : ℕ → ℕ → Ty → State → State
 new_function n line t s =
     bind n (FunctionName (length s.unit.functions))
     (record s { unit = record s.unit { functions = s.unit.functions ++ (record { name = unit_name n; t = t; line = line; params = []; body = None } ∷ []) } })
 
+-- 6.9p1, 6.7p4: a new function of file scope
 abbrev pub with_new_function : ℕ → ℕ → Ty → UnitState → ℕ × UnitState
 with_new_function n line t u = (
   length u.state.unit.functions,
   record u { state = new_function n line t u.state; entities = u.entities ++ (entity n true (length u.state.unit.functions) ∷ []) },
 )
 
+-- 6.7p4: all its declarations have compatible types; 6.2.7p4: its type is then the composite one
 abbrev pub function_again : Option Meaning → ℕ → ℕ → Ty → UnitState → Option (ℕ × UnitState)
 function_again None n line t u = Some (with_new_function n line t u)
 function_again (Some (FunctionName f)) n line t u =
@@ -107,18 +119,21 @@ function_again (Some (FunctionName f)) n line t u =
     else None
 function_again (Some _) n line t u = None
 
+-- 6.7.6.3p9: a function type with `...`
 abbrev pub is_variadic : Ty → Bool
 is_variadic (FunctionTy t ts v) = v
 is_variadic _ = false
 
--- what its name asks of a function's type: `main` is `int (void)` (5.1.2.2.1p1), a library function's is that of the library (7.1.4p2), and
--- `...` is `printf`'s alone
+-- what its name asks of a function's type: `main` is `int (void)` (5.1.2.2.1p1), a library function's is that of the library
+-- (7.1.4p2), and `...` is `printf`'s alone
 abbrev pub may_have : List (List ℕ) → ℕ → Ty → Bool
 may_have texts n t =
     (not (is_main texts n) || are_compatible t main_type) && agrees (library_named (slice_index_or texts n [])) t && (not (is_variadic t) || is_printf texts n)
 
+-- 6.7p4: by what the name stands for at file scope
 abbrev pub function_found : ℕ → ℕ → Ty → UnitState → Option (ℕ × UnitState)
 function_found n line t u = function_again (find (innermost u.state.scopes).names n) n line t u
 
+-- 6.7p4: a function of file scope, with a type that its name may have
 abbrev pub function_declared : ℕ → ℕ → Ty → UnitState → Option (ℕ × UnitState)
 function_declared n line t u = if may_have u.state.unit.names (unit_name n) t then function_found n line t u else None

@@ -13,7 +13,7 @@ use Rattle.pv_unit.specs.Entities.{UnitState, with_function}
 use Rattle.pv_unit.specs.Statements.{Around, block_of}
 use Rattle.pv_unit.specs.TypedStatements.{typed_items}
 
--- outside of all loops and switches
+-- 6.8.6: outside of all loops and switches, in a function that returns this
 abbrev pub body_of : Ty → Around
 body_of t = record { result = t; breaks = false; continues = false }
 
@@ -21,19 +21,21 @@ body_of t = record { result = t; breaks = false; continues = false }
 abbrev pub within : Scope → State → State
 within x s = record s { scopes = s.scopes ++ (x ∷ []) }
 
--- 6.9.1p9: the objects of the parameters, in order
+-- 6.9.1p9: the object of a parameter
 abbrev pub with_parameter : ℕ → Option ℕ → State → State
 with_parameter f None s = s
 with_parameter f (Some o) s = record s { unit = with_param s.unit f o }
 
+-- 6.9.1p9: the objects of the parameters, in order
 abbrev pub with_parameters : ℕ → List Parameter → State → State
 with_parameters f [] s = s
 with_parameters f (p ∷ ps) s = with_parameters f ps (with_parameter f p.object s)
 
+-- 6.9.1: the function f has this body
 abbrev pub with_body : ℕ → TypedStatement → State → State
 with_body f b s = with_function f (record (function_at s.unit f) { body = Some b }) s
 
--- the function has its parameters, and as its body the block of what was typed
+-- 6.9.1: the function has its parameters, and as its body the block of what was typed
 abbrev pub defined_with : Head → (line : ℕ) → UnitState → After (List TypedStatement) → Option UnitState
 defined_with h line u x =
     Some (record u { state = with_body h.function (block_of line x.value) (with_parameters h.function h.signature.parameters (left x.state)) })
@@ -46,16 +48,19 @@ typed_body _ h = None
 
 -- ---- external declarations
 
+-- 6.9p1: a function definition or a declaration
 abbrev pub typed_declaration : DeclarationTree → UnitState → Option UnitState
 typed_declaration (Function line specs declarator block) u = and_then (head specs declarator u) (typed_body block)
 typed_declaration d u = file_declaration d u
 
+-- one external declaration more: the count that `check` prints
 abbrev pub counted_state : State → State
 counted_state s = record s { unit = with_declaration s.unit }
 
+-- the same of what is known behind it
 abbrev pub counted : UnitState → Option UnitState
 counted u = Some (record u { state = counted_state u.state })
 
--- one external declaration more
+-- 6.9p1: one external declaration more
 abbrev pub typed_external : DeclarationTree → UnitState → Option UnitState
 typed_external d u = and_then (typed_declaration d u) counted

@@ -13,21 +13,21 @@ use Rattle.pv_unit.specs.Initialized.{Given as WholeGiven}
 use Rattle.pv_unit.specs.Rules.{After}
 use Rattle.pv_unit.specs.Stores.{stores_in}
 
--- what an object gets
+-- what an object gets by its initializer (6.7.9), as the code has it
 abbrev pub given_in : Stored → List Init → Completion → WholeGiven
 given_in m out x = record { t = tree m.known x.t.0; braced = x.braced; stores = stores_in m out }
 
--- and the state behind its initializer
+-- the same as an answer, and the state behind it
 abbrev pub given_if : List (List ℕ) → Raw → Stored → List Init → Option Completion → Option (After State WholeGiven)
 given_if texts s m out None = None
 given_if texts s m out (Some x) = Some (record { value = given_in m out x; state = state_of texts false s m })
 
--- its type is there
+-- the type of an answer is there
 abbrev pub IsGivenIf : Stored → Option Completion → Type 0
 IsGivenIf m None = Unit {0}
 IsGivenIf m (Some x) = x.t.0 < length m.known.terms
 
--- stores behind those of an object, one after the other
+-- stores behind those of an object (6.7.9), one after the other
 abbrev pub with_stores : WholeUnit → ℕ → List Store → WholeUnit
 with_stores u o [] = u
 with_stores u o (x ∷ xs) = with_stores (with_store u o x) o xs

@@ -14,22 +14,24 @@ use Rattle.pv_unit.specs.Definitions.{Head}
 use Rattle.pv_unit.specs.Entities.{UnitState}
 use Rattle.pv_unit.specs.Outside.{unit_state}
 
--- the types of parameters are in a table of types
+-- the type of a parameter is in a table of types
 abbrev pub ParameterKnown : Known → Parameter → Type 0
 ParameterKnown m p = p.t.0 < length m.terms
 
+-- the same of all parameters
 abbrev pub ParametersKnown : Known → List Parameter → Type 0
 ParametersKnown m ps = Each (ParameterKnown m) ps
 
--- the function that is defined, with the list of parameters
+-- the function that is defined (6.9.1), with the list of parameters
 abbrev pub head_if : List (List ℕ) → Raw → Stored → Outer → Signature → Option Defined → Option (Head × UnitState)
 head_if texts s m o g None = None
 head_if texts s m o g (Some d) = Some (record { function = d.function; result = tree m.known d.result_type.0; signature = g }, unit_state texts s m o)
 
+-- the same as an answer, and what is known behind it
 abbrev pub whole_head_if : List (List ℕ) → Raw → Stored → Outer → Option Heading → Option (Head × UnitState)
 whole_head_if texts s m o None = None
 whole_head_if texts s m o (Some h) = head_if texts s m o (signature_shown m.known h.signature) (Some h.defined)
 
--- what it names is there
+-- what a head names is there
 abbrev pub HeadKnown : Stored → Heading → Type 0
 HeadKnown m h = (h.defined.function < length m.functions) × (h.defined.result_type.0 < length m.known.terms) × SignatureKnown m h.signature

@@ -15,6 +15,7 @@ abbrev pub unit_if : List (List ℕ) → Raw → Stored → Outer → Bool → O
 unit_if texts s m o false = None
 unit_if texts s m o true = Some (unit_state texts s m o)
 
+-- a number as an answer, with what is known behind it
 abbrev pub number_if : List (List ℕ) → Raw → Stored → Outer → Option ℕ → Option (ℕ × UnitState)
 number_if texts s m o None = None
 number_if texts s m o (Some n) = Some (n, unit_state texts s m o)

@@ -8,6 +8,7 @@ use Rattle.pv_types.specs.Ty.{Ty, IntTy, PointerTo, ArrayOf, StructTag, UnionTag
 use Rattle.pv_types.specs.Layouts.{Part, Entry, Named, Completed, layout_in, layouts_of, is_complete_in}
 use Rattle.pv_layout.specs.Places.{bare}
 
+-- 6.7.2.1p8: the members that a tag was completed with
 abbrev pub members_in : List Completed → ℕ → List Named
 members_in [] n = []
 members_in (d ∷ ds) n = if d.tag == n then d.members else members_in ds n
@@ -24,45 +25,49 @@ abbrev pub first_member : List Named → List Part
 first_member [] = []
 first_member (m ∷ ms) = record { offset = 0; t = m.t } ∷ []
 
--- the part of this number, from 0
+-- 6.7.9p17: the part of this number, from 0
 abbrev pub part_number : ℕ → List Part → Option Part
 part_number n [] = None
 part_number zero (p ∷ ps) = Some p
 part_number (suc n) (p ∷ ps) = part_number n ps
 
+-- 6.2.5p20, 6.5.2.1p2: the element of this number begins behind those before it
 abbrev pub element : List Entry → Ty → ℕ → Part
 element env t i = record { offset = i * (layout_in env t).size; t = t }
 
--- an array has this element; one of unknown size has as many as the largest object has room for
+-- 6.7.9p2, p22: an array has this element; one of unknown size has as many as the largest object has room for (5.2.4.1p1)
 abbrev pub has_element : Option ℕ → (size i : ℕ) → Bool
 has_element (Size n) size i = nat_lt i n
 has_element Unknown size i = nat_le ((i + 1) * size) (2 ^ 32)
 
--- the part that initializer number i of a list is for, within a type without qualifiers
+-- 6.7.9p17: the part that initializer number i of a list is for, within a type without qualifiers
 abbrev pub part_in : List Completed → Ty → ℕ → Option Part
 part_in done (ArrayOf t n) i = if has_element n (layout_in (layouts_of done) t).size i then Some (element (layouts_of done) t i) else None
 part_in done (StructTag n) i = part_number i (struct_members (layouts_of done) 0 (members_in done n))
 part_in done (UnionTag n) i = part_number i (first_member (members_in done n))
 part_in done _ i = None
 
--- the same within a part of an object
+-- 6.7.9p17: a part of a part of an object, from the object's beginning
 abbrev pub within : Part → Part → Part
 within whole p = record { offset = whole.offset + p.offset; t = p.t }
 
+-- 6.7.9p17: the same as part_in, within a part of an object, qualifiers aside
 abbrev pub part_at : List Completed → Part → ℕ → Option Part
 part_at done whole i = option_map (within whole) (part_in done (bare whole.t) i)
 
 -- ---- kinds of types, qualifiers aside
 
+-- 6.2.5p21: a scalar, of a type without qualifiers
 abbrev pub scalar_layer : Ty → Bool
 scalar_layer (IntTy k) = true
 scalar_layer (PointerTo t) = true
 scalar_layer _ = false
 
--- 6.2.5p21
+-- 6.2.5p21: the scalar types are the integer and the pointer types
 abbrev pub is_scalar : Ty → Bool
 is_scalar t = scalar_layer (bare t)
 
+-- 6.2.5p21: the same as is_aggregate, of a type without qualifiers
 abbrev pub aggregate_layer : Ty → Bool
 aggregate_layer (ArrayOf t n) = true
 aggregate_layer (StructTag n) = true
@@ -73,22 +78,24 @@ aggregate_layer _ = false
 abbrev pub is_aggregate : Ty → Bool
 is_aggregate t = aggregate_layer (bare t)
 
--- 6.2.5p15
+-- 6.2.5p15: the three character types
 abbrev pub is_character_kind : IntKind → Bool
 is_character_kind kind.Char = true
 is_character_kind kind.SChar = true
 is_character_kind kind.UChar = true
 is_character_kind _ = false
 
+-- 6.2.5p15: the same of a type without qualifiers
 abbrev pub character_layer : Ty → Bool
 character_layer (IntTy k) = is_character_kind k
 character_layer _ = false
 
+-- 6.7.9p14: the same as is_text, of a type without qualifiers
 abbrev pub text_layer : Ty → Bool
 text_layer (ArrayOf t n) = character_layer (bare t)
 text_layer _ = false
 
--- an array of characters
+-- 6.7.9p14: an array of characters
 abbrev pub is_text : Ty → Bool
 is_text t = text_layer (bare t)
 
@@ -102,11 +109,11 @@ abbrev pub can_be_initialized : List Entry → Ty → Bool
 can_be_initialized env (ArrayOf t Unknown) = is_complete_in env t
 can_be_initialized env t = is_complete_in env t
 
--- the first scalar of a part of an object, which lies at most so deep
+-- 6.7.9p20: the first scalar of a part of an object, which lies at most so deep
 abbrev pub leaf_within : (depth : ℕ) → List Completed → Part → Option Part
 leaf_within zero done p = None
 leaf_within (suc n) done p = if is_scalar p.t then Some p else option_and_then (leaf_within n done) (part_at done p 0)
 
--- the first scalar: the first part of the first part, and so on
+-- 6.7.9p20: the first scalar: the first part of the first part, and so on
 abbrev pub first_leaf : List Completed → Part → Option Part
 first_leaf done p = leaf_within ((layout_in (layouts_of done) p.t).height + 1) done p

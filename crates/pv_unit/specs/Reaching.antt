@@ -8,6 +8,7 @@ use Rattle.pv_check.specs.State.{After}
 use Rattle.pv_unit.specs.declared.blocks.Reached.{Reached}
 use Rattle.pv_unit.specs.Blocks.{Reached as WholeReached}
 
+-- an automatic object that a declaration reaches (6.2.4p5), as the code has it
 abbrev pub reached_of : Reached → WholeReached
 reached_of x = record { object = x.object; line = x.line }
 
@@ -15,6 +16,7 @@ reached_of x = record { object = x.object; line = x.line }
 abbrev pub reached_in : List (List ℕ) → Raw → Stored → List Reached → After (List WholeReached)
 reached_in texts s m xs = record { value = map reached_of xs; state = state_of texts false s m }
 
+-- the same as an answer
 abbrev pub reached_if : List (List ℕ) → Raw → Stored → List Reached → Bool → Option (After (List WholeReached))
 reached_if texts s m xs false = None
 reached_if texts s m xs true = Some (reached_in texts s m xs)
@@ -23,6 +25,7 @@ reached_if texts s m xs true = Some (reached_in texts s m xs)
 abbrev pub AreReached : Stored → List Reached → Type 0
 AreReached m xs = Each (λ (x : Reached). x.object < length m.objects) xs
 
+-- they are there, where there is an answer
 abbrev pub ReachedOn : Stored → List Reached → Bool → Type 0
 ReachedOn m xs false = Unit {0}
 ReachedOn m xs true = AreReached m xs

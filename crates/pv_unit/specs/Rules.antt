@@ -10,11 +10,12 @@ pub record After (S A : Type 0) : Type 0 where
   pub value : A
   pub state : S
 
--- a string literal: its number, and its characters with the zero behind them
+-- 6.4.5p6: a string literal: its number, and its characters with the zero behind them
 pub record StringLiteral : Type 0 where
   pub number : ℕ
   pub characters : List ℕ
 
+-- 6.7.9: what an initializer asks of expressions and types
 pub record Rules (S : Type 0) : Type 0 where
   -- an expression, and its value taken (6.5, 6.3.2.1)
   pub operand : ExpressionTree → S → Option (After S TypedTree)

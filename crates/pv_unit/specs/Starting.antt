@@ -8,6 +8,7 @@ use Rattle.pv_typed.specs.TypedUnits.{WholeUnit}
 use Rattle.pv_check.specs.Raw.{Raw, no_raw}
 use Rattle.pv_unit.specs.Units.{first}
 
+-- the names with one more behind them
 abbrev pub with_name_behind : WholeUnit → List ℕ → WholeUnit
 with_name_behind u text = record u { names = u.names ++ (text ∷ []) }
 
@@ -17,6 +18,6 @@ pub record IsFirst (t : Table) (m : Stored) : Type 0 where
   pub types : m.known ≡ no_tables.known
   pub known : AreKnown m
 
--- the scope of a file
+-- the scope of a file (6.2.1p4)
 abbrev pub first_raw : Raw
 first_raw = record { scopes = no_raw ∷ []; used = [] }

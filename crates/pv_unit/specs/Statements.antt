@@ -16,27 +16,31 @@ use Rattle.pv_check.specs.Rows.{operand}
 use Rattle.pv_check.specs.Values.{assigned, promoted_value}
 use Rattle.pv_unit.specs.Blocks.{Reached}
 
--- what stands around a statement: the type that its function returns, whether a `break` and whether a `continue` has something to leave
+-- 6.8.6.2p1, 6.8.6.3p1, 6.8.6.4: what stands around a statement: the type that its function returns, whether a `break` and whether
+-- a `continue` has something to leave
 pub record Around : Type 0 where
   pub result : Ty
   pub breaks : Bool
   pub continues : Bool
 
+-- 6.8.6.2p1, 6.8.6.3p1: in the body of a loop
 abbrev pub in_loop : Around → Around
 in_loop w = record w { breaks = true; continues = true }
 
+-- 6.8.6.3p1: in the body of a `switch`
 abbrev pub in_switch : Around → Around
 in_switch w = record w { breaks = true }
 
--- what was typed in a scope that ends with it (6.8.2, 6.8.4p3, 6.8.5p5)
+-- 6.8.2p2, 6.8.4p3, 6.8.5p5: what was typed in a scope that ends with it
 abbrev pub leaving : {A : Type 0} → Option (After A) → Option (After A)
 leaving None = None
 leaving (Some x) = Some (record { value = x.value; state = left x.state })
 
--- an expression, and its value taken (6.3.2.1)
+-- 6.3.2.1p2: an expression, and its value taken
 abbrev pub valued : ExpressionTree → State → Option (After TypedTree)
 valued a s = operand (types a s)
 
+-- 6.8.4.1p1, 6.8.5p2: its type is a scalar one
 abbrev pub if_scalar : After TypedTree → Option (After TypedTree)
 if_scalar x = if is_scalar (type_of x.value) then Some x else None
 
@@ -44,10 +48,11 @@ if_scalar x = if is_scalar (type_of x.value) then Some x else None
 abbrev pub condition : ExpressionTree → State → Option (After TypedTree)
 condition a s = and_then (valued a s) if_scalar
 
+-- the value of an expression that may be left out
 abbrev pub some_value : After TypedTree → Option (After (Option TypedTree))
 some_value x = give (Some (Some x.value)) x.state
 
--- an expression that may be left out
+-- 6.8.3p3, 6.8.5.3p2, 6.8.6.4: an expression that may be left out
 abbrev pub optional : (ExpressionTree → State → Option (After TypedTree)) → OptionalTree → State → Option (After (Option TypedTree))
 optional typed Absent s = give (Some None) s
 optional typed (Present (OfExpression a)) s = and_then (typed a s) some_value
@@ -55,16 +60,18 @@ optional typed (Present _) s = None
 
 -- ---- labels (6.8.1, 6.8.4.2)
 
--- a label: `case` with its value, converted to the promoted type of the switch, or `default`
+-- 6.8.1, 6.8.4.2: a label: `case` with its value, converted to the promoted type of the switch, or `default`
 pub data Label : Type 0 where
   CaseLabel : (line : ℕ) → ℤ → Label
   DefaultLabel : (line : ℕ) → Label
 
+-- 6.8.4.2p3: two labels are one: `case` labels of one value, or `default`
 abbrev pub is_label : Label → Label → Bool
 is_label (CaseLabel line m) (CaseLabel other n) = int_eq m n
 is_label (DefaultLabel line) (DefaultLabel other) = true
 is_label _ _ = false
 
+-- 6.8.4.2p3: the label is among these
 abbrev pub stands : Label → List Label → Bool
 stands l [] = false
 stands l (x ∷ xs) = is_label l x || stands l xs
@@ -77,21 +84,23 @@ labelled seen own x = if stands x.value (seen ++ own) then None else give (Some 
 abbrev pub case_label : IntKind → (line : ℕ) → After TypedTree → Option (After Label)
 case_label k line x = and_then (integer x.value) (λ n. give (Some (CaseLabel line (convert_of k n))) x.state)
 
+-- 6.8.1p1: one label
 abbrev pub typed_label : IntKind → StatementTree → State → Option (After Label)
 typed_label k (Case line a) s = and_then (valued a s) (case_label k line)
 typed_label k (Default line) s = give (Some (DefaultLabel line)) s
 typed_label k _ s = None
 
+-- 6.8.1p1: one label behind others
 abbrev pub label_in : IntKind → (seen : List Label) → Tree → After (List Label) → Option (After (List Label))
 label_in k seen (OfStatement l) own = and_then (typed_label k l own.state) (labelled seen own.value)
 label_in k seen _ own = None
 
--- the labels of a statement, where the switch has those that were seen before it
+-- 6.8.4.2p3: the labels of a statement, where the switch has those that were seen before it
 abbrev pub typed_labels : IntKind → (seen : List Label) → Trees → State → Option (After (List Label))
 typed_labels k seen NoTrees s = give (Some []) s
 typed_labels k seen (Then before x) s = and_then (typed_labels k seen before s) (label_in k seen x)
 
--- a statement under its labels
+-- 6.8.1p1: a statement under its labels
 abbrev pub under : List Label → TypedStatement → TypedStatement
 under [] b = b
 under (CaseLabel line n ∷ ls) b = CaseOf line n (under ls b)
@@ -99,13 +108,15 @@ under (DefaultLabel line ∷ ls) b = DefaultOf line (under ls b)
 
 -- ---- `return` (6.8.6.4)
 
+-- 6.8.6.4p1: without an expression, in a function that returns `void` alone
 abbrev pub nothing_returned : (result : Ty) → (line : ℕ) → State → Option (After TypedStatement)
 nothing_returned t line s = if is_void t then give (Some (Return line None)) s else None
 
--- the value is converted as if by assignment to an object of the function's type
+-- 6.8.6.4p1, p3: in a function that returns a value: it is converted as if by assignment to an object of the function's type
 abbrev pub value_returned : (result : Ty) → (line : ℕ) → After TypedTree → Option (After TypedStatement)
 value_returned t line x = if is_void t then None else and_then (assigned t x.value) (λ e. give (Some (Return line (Some e))) x.state)
 
+-- 6.8.6.4p1: `return` with an expression or without one
 abbrev pub returned : (result : Ty) → (line : ℕ) → OptionalTree → State → Option (After TypedStatement)
 returned t line Absent s = nothing_returned t line s
 returned t line (Present (OfExpression a)) s = and_then (valued a s) (value_returned t line)
@@ -113,11 +124,12 @@ returned t line (Present _) s = None
 
 -- ---- switches (6.8.4.2)
 
--- the promoted value of a switch, and its kind
+-- 6.8.4.2p5: the promoted value of a switch, and its kind
 pub record Switched : Type 0 where
   pub value : TypedTree
   pub kind : IntKind
 
+-- 6.8.4.2p1, p5: the integer promotions of an integer
 abbrev pub switched_by : After TypedTree → Option (After Switched)
 switched_by x = and_then (kind_of (type_of (promoted_value x.value))) (λ k. give (Some (record { value = promoted_value x.value; kind = k })) x.state)
 
@@ -127,31 +139,35 @@ switched a s = and_then (valued a s) switched_by
 
 -- ---- blocks (6.8.2)
 
--- reaching the declarations of automatic objects
+-- 6.2.4p6, 6.8p3: reaching the declarations of automatic objects
 abbrev pub reached : List Reached → List TypedStatement
 reached [] = []
 reached (x ∷ xs) = Declare x.line x.object ∷ reached xs
 
--- the automatic objects that a block declares, in the order of their declarations
+-- 6.2.4p5: the automatic object that an item of a block declares
 abbrev pub declared_by : TypedStatement → List ℕ
 declared_by (Declare line o) = o ∷ []
 declared_by _ = []
 
+-- 6.2.4p5: the automatic objects that a block declares, in the order of their declarations
 abbrev pub declared_in : List TypedStatement → List ℕ
 declared_in [] = []
 declared_in (x ∷ xs) = declared_by x ++ declared_in xs
 
+-- 6.8.2p2: a block of these items
 abbrev pub block_of : (line : ℕ) → List TypedStatement → TypedStatement
 block_of line xs = Block line (declared_in xs) (statements_of xs)
 
+-- 6.2.4p5: the name is that of an automatic object
 abbrev pub is_automatic : State → Meaning → Bool
 is_automatic s (ObjectName o) = not (object_at s.unit o).lasting
 is_automatic s _ = false
 
+-- 6.8.5p3: the same of all names of a scope
 abbrev pub are_automatic : State → List (ℕ × Meaning) → Bool
 are_automatic s [] = true
 are_automatic s (e ∷ es) = is_automatic s e.1 && are_automatic s es
 
--- the innermost scope declares nothing but automatic objects
+-- 6.8.5p3: the innermost scope declares nothing but automatic objects
 abbrev pub automatic_alone : State → Bool
 automatic_alone s = are_automatic s (innermost s.scopes).names && (length (innermost s.scopes).tags == 0)

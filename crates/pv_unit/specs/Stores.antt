@@ -15,9 +15,11 @@ use Rattle.pv_unit.specs.Initializers.{Stores}
 abbrev pub IsStore : Stored → Init → Type 0
 IsStore m x = (x.t.0 < length m.known.terms) × HasValue m x.what
 
+-- what stores name is there
 abbrev pub AreStores : Stored → List Init → Type 0
 AreStores m xs = Each (IsStore m) xs
 
+-- the stores of initializers (6.7.9) that the code keeps
 abbrev pub stores_in : Stored → List Init → List Store
 stores_in m xs = map (store_in m.known (nodes m)) xs
 
@@ -36,7 +38,7 @@ pub record Fills (old new : Stored) (s : Raw) (out : List Init) : Type 0 where
   pub opened : IsOpen new s
   pub stores : AreStores new out
 
--- where there is an answer
+-- the same, where there is an answer
 abbrev pub FillsIf : {A : Type 0} → Stored → Stored → Raw → List Init → Option A → Type 0
 FillsIf old new s out None = Unit {0}
 FillsIf old new s out (Some n) = Fills old new s out

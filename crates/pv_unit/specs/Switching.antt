@@ -19,14 +19,16 @@ use Rattle.pv_unit.specs.TypedStatements.{Body}
 use Rattle.pv_unit.specs.Scoped.{Marked}
 use Rattle.pv_unit.specs.Stated.{statements_in}
 
+-- a label (6.8.4.2) that the code has
 abbrev pub label_of : Label → statements.Label
 label_of (label.Case line value) = CaseLabel line value
 label_of (label.Default line) = DefaultLabel line
 
+-- labels that the code has
 abbrev pub labels_of : List Label → List statements.Label
 labels_of ls = map label_of ls
 
--- what two labels that are one share: the value of a `case`
+-- what two labels that are one share (6.8.4.2p3): the value of a `case`
 abbrev pub key_of : Label → Option ℤ
 key_of (label.Case line value) = Some value
 key_of (label.Default line) = None
@@ -35,6 +37,7 @@ key_of (label.Default line) = None
 abbrev pub HasKeys : Labels → Type 0
 HasKeys x = x.keys.keys ≡ map key_of x.all.items
 
+-- a label as an answer, and the state after it
 abbrev pub label_if : List (List ℕ) → Raw → Stored → Option Label → Option (After statements.Label)
 label_if texts s m None = None
 label_if texts s m (Some l) = Some (record { value = label_of l; state = state_of texts false s m })
@@ -49,14 +52,15 @@ abbrev pub behind_labels : List statements.Label → Option (After (List stateme
 behind_labels seen None = None
 behind_labels seen (Some x) = Some (record { value = seen ++ x.value; state = x.state })
 
--- all labels of a switch with one more, if it is not among them
+-- 6.8.4.2p3: all labels of a switch with one more, if it is not among them
 abbrev pub with_label : List statements.Label → After statements.Label → Option (After (List statements.Label))
 with_label all x = if stands x.value all then None else give (Some (all ++ (x.value ∷ []))) x.state
 
--- the controlling expression of a switch
+-- the controlling expression of a switch (6.8.4.2p1)
 abbrev pub switched_in : List (List ℕ) → Raw → Stored → Controlling → After Switched
 switched_in texts s m x = record { value = record { value = expression_at m x.value; kind = x.kind }; state = state_of texts false s m }
 
+-- the same as an answer
 abbrev pub switched_if : List (List ℕ) → Raw → Stored → Option Controlling → Option (After Switched)
 switched_if texts s m None = None
 switched_if texts s m (Some x) = Some (switched_in texts s m x)
@@ -65,19 +69,22 @@ switched_if texts s m (Some x) = Some (switched_in texts s m x)
 abbrev pub body_in : List (List ℕ) → Raw → Stored → List NodeId → List Label → After Body
 body_in texts s m ns ls = record { value = record { items = statements_in m ns; labels = labels_of ls }; state = state_of texts false s m }
 
+-- the same as an answer
 abbrev pub body_if : List (List ℕ) → Raw → Stored → List NodeId → List Label → Bool → Option (After Body)
 body_if texts s m ns ls false = None
 body_if texts s m ns ls true = Some (body_in texts s m ns ls)
 
+-- a statement under its labels as an answer, with the labels of the switch
 abbrev pub marked_if : List (List ℕ) → Raw → Stored → List Label → Option NodeId → Option (After Marked)
 marked_if texts s m ls None = None
 marked_if texts s m ls (Some n) = Some (record { value = record { labels = labels_of ls; statement = statement_at m n }; state = state_of texts false s m })
 
--- a statement with labels, and a switch's block
+-- a statement with labels (6.8.1)
 abbrev pub is_labelled : StatementTree → Bool
 is_labelled (Labelled line labels b) = true
 is_labelled _ = false
 
+-- a switch's block (6.8.4.2)
 abbrev pub is_switch_block : StatementTree → Bool
 is_switch_block (SwitchBlock line items) = true
 is_switch_block _ = false

@@ -11,25 +11,31 @@ use Rattle.pv_unit.specs.Statements.{Around, in_loop, in_switch, leaving, valued
 
 -- ---- statements whose parts are typed
 
+-- 6.8.4.1: an `if` without `else`
 abbrev pub if_made : (line : ℕ) → TypedTree → After TypedStatement → Option (After TypedStatement)
 if_made line c b = give (Some (typed.If line c b.value)) b.state
 
+-- 6.8.4.1: an `if` with `else`
 abbrev pub else_made : (line : ℕ) → TypedTree → TypedStatement → After TypedStatement → Option (After TypedStatement)
 else_made line c b d = give (Some (typed.IfElse line c b d.value)) d.state
 
+-- 6.8.5.1: a `while`
 abbrev pub while_made : (line : ℕ) → TypedTree → After TypedStatement → Option (After TypedStatement)
 while_made line c b = give (Some (typed.While line c b.value)) b.state
 
+-- 6.8.5.2: a `do`
 abbrev pub do_made : (line : ℕ) → TypedStatement → After TypedTree → Option (After TypedStatement)
 do_made line b c = give (Some (typed.DoWhile line b c.value)) c.state
 
+-- 6.8.5.3: a `for` with an expression first, or none
 abbrev pub for_made : (line : ℕ) → Option TypedTree → Option TypedTree → Option TypedTree → After TypedStatement → Option (After TypedStatement)
 for_made line f c t b = give (Some (typed.For line f c t b.value)) b.state
 
--- 6.8.5.3p1: a block round the loop
+-- 6.8.5.3p1, 6.8.5p5: a `for` with a declaration: a block round the loop
 abbrev pub round_made : (line : ℕ) → List TypedStatement → Option TypedTree → Option TypedTree → After TypedStatement → Option (After TypedStatement)
 round_made line xs c t b = give (Some (typed.ForDeclaration line (declared_in xs) (statements_of xs) c t b.value)) b.state
 
+-- 6.8.4.2: a `switch`
 abbrev pub switch_made : (line : ℕ) → TypedTree → After TypedStatement → Option (After TypedStatement)
 switch_made line c b = give (Some (typed.Switch line c b.value)) b.state
 
@@ -38,9 +44,11 @@ abbrev pub expression_of : (line : ℕ) → Option TypedTree → TypedStatement
 expression_of line None = typed.Empty line
 expression_of line (Some e) = typed.Expression line e
 
+-- 6.8.3: an expression statement, or an empty one
 abbrev pub expression_made : (line : ℕ) → After (Option TypedTree) → Option (After TypedStatement)
 expression_made line x = give (Some (expression_of line x.value)) x.state
 
+-- 6.8.2: a block
 abbrev pub block_made : (line : ℕ) → After (List TypedStatement) → Option (After TypedStatement)
 block_made line x = give (Some (block_of line x.value)) x.state
 
@@ -50,31 +58,35 @@ if_automatic x = if automatic_alone x.state then give (Some (reached x.value)) x
 
 -- ---- items of blocks
 
--- the objects that a declaration reaches, behind other items
+-- 6.8.2: the objects that a declaration reaches, behind other items
 abbrev pub with_reached : List TypedStatement → After (List Reached) → Option (After (List TypedStatement))
 with_reached xs y = give (Some (xs ++ reached y.value)) y.state
 
+-- 6.8.2: a statement behind other items
 abbrev pub with_statement : List TypedStatement → After TypedStatement → Option (After (List TypedStatement))
 with_statement xs y = give (Some (xs ++ (y.value ∷ []))) y.state
 
--- what stands in a switch's block, and its labels
+-- 6.8.4.2: what stands in a switch's block, and its labels
 pub record Body : Type 0 where
   pub items : List TypedStatement
   pub labels : List Label
 
+-- 6.8.4.2: a declaration in a switch's block
 abbrev pub body_reached : Body → After (List Reached) → Option (After Body)
 body_reached x y = give (Some (record x { items = x.items ++ reached y.value })) y.state
 
--- a statement under its labels, where the switch has these then
+-- 6.8.1: a statement under its labels, where the switch has these then
 abbrev pub body_with : Body → (all own : List Label) → After TypedStatement → Option (After Body)
 body_with x all own y = give (Some (record { items = x.items ++ (under own y.value ∷ []); labels = all })) y.state
 
+-- 6.8.4.2: a switch's block
 abbrev pub body_made : (line : ℕ) → After Body → Option (After TypedStatement)
 body_made line x = give (Some (block_of line x.value.items)) x.state
 
 -- ---- statements
 
 abbrev mutual
+  -- 6.8: a statement, in a scope of its own where it is a block, a selection or an iteration (6.8.2p2, 6.8.4p3, 6.8.5p5)
   pub typed_statement : Around → StatementTree → State → Option (After TypedStatement)
   typed_statement w (Block line items) s = leaving (and_then (typed_items w items (entered s)) (block_made line))
   typed_statement w (ExpressionStatement line a) s = and_then (optional valued a s) (expression_made line)
@@ -102,26 +114,28 @@ abbrev mutual
   typed_statement w (Return line a) s = returned w.result line a s
   typed_statement w _ s = None
 
-  -- the declarations and statements of a block
+  -- 6.8.2p1: the declarations and statements of a block
   pub typed_items : Around → Trees → State → Option (After (List TypedStatement))
   typed_items w NoTrees s = give (Some []) s
   typed_items w (Then before x) s = and_then (typed_items w before s) (typed_item w x)
 
+  -- 6.8.2p1: one of them
   pub typed_item : Around → Tree → After (List TypedStatement) → Option (After (List TypedStatement))
   typed_item w (OfDeclaration d) x = and_then (block_declaration d x.state) (with_reached x.value)
   typed_item w (OfStatement b) x = and_then (typed_statement w b x.state) (with_statement x.value)
   typed_item w _ x = None
 
-  -- the block of a switch
+  -- 6.8.4.2: the block of a switch
   pub switch_block : Around → IntKind → StatementTree → State → Option (After TypedStatement)
   switch_block w k (SwitchBlock line items) s = leaving (and_then (switch_items (in_switch w) k items (entered s)) (body_made line))
   switch_block w k _ s = None
 
+  -- 6.8.2p1: its declarations and statements
   pub switch_items : Around → IntKind → Trees → State → Option (After Body)
   switch_items w k NoTrees s = give (Some (record { items = []; labels = [] })) s
   switch_items w k (Then before x) s = and_then (switch_items w k before s) (switch_item w k x)
 
-  -- its statements may have labels
+  -- 6.8.1p1: one of them; its statements may have labels
   pub switch_item : Around → IntKind → Tree → After Body → Option (After Body)
   switch_item w k (OfDeclaration d) x = and_then (block_declaration d x.state) (body_reached x.value)
   switch_item w k (OfStatement (Labelled line labels b)) x =

@@ -10,33 +10,34 @@ use Rattle.pv_unit.specs.Definitions.{may_end}
 use Rattle.pv_unit.specs.Entities.{Entity, UnitState, unit_name, is_entity}
 use Rattle.pv_unit.specs.Functions.{typed_external}
 
--- the first external declarations of a unit, one after the other
+-- 6.9p1: the first external declarations of a unit, one after the other
 abbrev pub typed_first : List DeclarationTree → UnitState → Option UnitState
 typed_first [] u = Some u
 typed_first (d ∷ ds) u = and_then (typed_external d u) (typed_first ds)
 
--- 6.9.2p2, 6.7p7: what the declarations of a unit leave incomplete breaks a constraint of its last one
+-- 6.9.2p2, p3: what the declarations of a unit leave incomplete breaks a constraint of its last one (our choice of the place)
 abbrev pub typed_last : List DeclarationTree → UnitState → Option UnitState
 typed_last [] u = Some u
 typed_last (d ∷ ds) u = if may_end u then Some u else None
 
--- the first n external declarations of a unit
+-- 6.9p1: the first n external declarations of a unit
 unfoldable pub typed_to : List DeclarationTree → (n : ℕ) → UnitState → Option UnitState
 typed_to ds n u = if nat_lt n (length ds) then typed_first (take n ds) u else and_then (typed_first ds u) (typed_last ds)
 
 -- ---- names that nothing defines
 
--- an expression names the object or the function
+-- 6.9p5: an expression names the object or the function
 abbrev pub uses : Bool → ℕ → Used → Bool
 uses false k (UsedObject o) = o == k
 uses true k (UsedFunction f) = f == k
 uses _ k _ = false
 
+-- 6.9p5: one of the expressions names it; the operand of sizeof counts as well (our choice)
 abbrev pub is_used : Bool → ℕ → List Used → Bool
 is_used function k [] = false
 is_used function k (x ∷ xs) = uses function k x || is_used function k xs
 
--- 7.1.3p1
+-- 7.1.3p1: a function that has a name of the library
 abbrev pub is_of_library : State → Entity → Bool
 is_of_library s e = e.function && is_some (library_named (name_at s.unit (unit_name e.name)))
 
@@ -44,7 +45,7 @@ is_of_library s e = e.function && is_some (library_named (name_at s.unit (unit_n
 abbrev pub is_unresolved : State → Entity → Bool
 is_unresolved s e = is_used e.function e.number s.used && (not e.defined && not (is_of_library s e))
 
--- the name of the first one, in the order of their first declarations
+-- 6.9p5: the name of the first one, in the order of their first declarations
 abbrev pub unresolved : State → List Entity → Option ℕ
 unresolved s [] = None
 unresolved s (e ∷ es) = if is_unresolved s e then Some e.name else unresolved s es
@@ -53,16 +54,18 @@ unresolved s (e ∷ es) = if is_unresolved s e then Some e.name else unresolved 
 abbrev pub is_main_function : List (List ℕ) → TypedFunction → Bool
 is_main_function names f = is_some f.body && named_main names f.name
 
+-- 5.1.2.2.1p1: one of the functions is so
 abbrev pub has_main_in : List (List ℕ) → List TypedFunction → Bool
 has_main_in names [] = false
 has_main_in names (f ∷ fs) = is_main_function names f || has_main_in names fs
 
+-- 5.1.2.2.1p1: the unit defines `main`
 abbrev pub has_main : WholeUnit → Bool
 has_main w = has_main_in w.names w.functions
 
 -- ---- static objects
 
--- an object of a block is defined where it is declared; one of file scope may be declared alone
+-- 6.9.2p1, p2: an object of a block is defined where it is declared; one of file scope may be declared alone
 abbrev pub is_defined : ℕ → List Entity → Bool
 is_defined k [] = true
 is_defined k (e ∷ es) = if is_entity false k e then e.defined else is_defined k es
@@ -74,7 +77,7 @@ statics_from es k (o ∷ os) = if o.lasting && is_defined k es then k ∷ static
 
 -- ---- units
 
--- before the first declaration: the unit's names are those of the tokens, behind two that no token has
+-- before the first declaration: the unit's names are those of the tokens, behind two that no token has (6.2.1p4: one scope, of the file)
 abbrev pub first : Table → UnitState
 first t = record {
   state = record {
@@ -99,30 +102,32 @@ first t = record {
   unsized_typedef = false;
 }
 
+-- 6.2.4p3: the unit with these static objects
 abbrev pub with_statics : List ℕ → WholeUnit → WholeUnit
 with_statics os u = record u { statics = u.statics ++ os }
 
--- behind the last one, with the static objects
+-- 6.9p1, 6.2.4p3: the unit behind the last one, with the static objects
 abbrev pub finished : UnitState → WholeUnit
 finished u = with_statics (statics_from u.entities 0 u.state.unit.objects) u.state.unit
 
--- what comes of a unit: its typing, or why there is none
+-- 5.1.1.3p1: what comes of a unit: its typing, or why there is none
 pub data Checked : Type 0 where
   Typed : WholeUnit → Checked
   Constraint : ℕ → Checked
   Unresolved : ℕ → Checked
   NoMain : Checked
 
--- the first n external declarations have a typing, and one more have none
+-- 5.1.1.3p1: the first n external declarations have a typing, and one more have none
 pub record Breaks (ds : List DeclarationTree) (u : UnitState) (n : ℕ) : Type 0 where
   pub within : n < length ds
   pub before : is_some (typed_to ds n u) ≡ true
   pub at : typed_to ds (n + 1) u ≡ None
 
--- all have one
+-- 6.9p1: all have one
 abbrev pub IsTyped : List DeclarationTree → (before behind : UnitState) → Type 0
 IsTyped ds before behind = typed_to ds (length ds) before ≡ Some behind
 
+-- 5.1.1.3p1, 6.9p5, 5.1.2.2.1p1: what a unit comes to: the first constraint that is broken, a name without definition, no `main`, its typing
 abbrev pub UnitComes : Table → List DeclarationTree → Checked → Type 0
 UnitComes t ds (Constraint n) = Breaks ds (first t) n
 UnitComes t ds (Unresolved name) = (u : UnitState) × (IsTyped ds (first t) u × (unresolved u.state u.entities ≡ Some name))

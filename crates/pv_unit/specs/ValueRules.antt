@@ -14,18 +14,21 @@ use Rattle.pv_check.specs.Primary.{bytes_of_text}
 use Rattle.pv_unit.specs.Rules.{Rules, After, StringLiteral}
 use Rattle.pv_unit.specs.Initialized.{Given, initialized_object}
 
+-- an answer of the typing of expressions as one of initializers
 abbrev pub lifted : {A : Type 0} → Option (check.After A) → Option (After State A)
 lifted None = None
 lifted (Some x) = Some (record { value = x.value; state = x.state })
 
+-- an answer of the typing of initializers as one of expressions
 abbrev pub lowered : {A : Type 0} → Option (After State A) → Option (check.After A)
 lowered None = None
 lowered (Some x) = Some (record { value = x.value; state = x.state })
 
+-- 6.7.9p14: string literals that fill an array make no object of their own
 abbrev pub filling_text : ℕ → List ℕ → State → After State StringLiteral
 filling_text line bytes s = record { value = record { number = length s.unit.literals; characters = bytes }; state = record s { unit = with_literal s.unit (record { bytes = bytes; line = line }) false } }
 
--- as expressions are typed, over the state that they thread
+-- 6.7.9, 6.5.16.1p1, 6.6p7: as expressions are typed, over the state that they thread
 unfoldable pub values : Rules State
 values = record {
   operand = λ a s. lifted (operand (types a s));
@@ -35,6 +38,7 @@ values = record {
   completed = λ s. s.unit.completed;
 }
 
+-- 6.7.9: the initializer of an object of this type
 abbrev pub initialized : (lasting : Bool) → Ty → InitializerTree → State → Option (check.After Given)
 initialized lasting t i s = lowered (initialized_object values lasting t i s)
 

@@ -13,12 +13,12 @@ abbrev pub first_told : {A : Type 0} → (What → Option A) → List Event → 
 first_told f [] = None
 first_told f (e ∷ es) = option_or (f e.what) (first_told f es)
 
--- the number of an instance's name, and which of this name it is
+-- the memory model: the number of a storage instance's name, and which of this name it is
 abbrev pub making_of : ℕ → What → Option (ℕ × ℕ)
 making_of i (Made inst name k base size) = if inst == i then Some (name, k) else None
 making_of i _ = None
 
--- a pair's low and high candidate
+-- the memory model: a pair's low and high candidate
 abbrev pub making_of_pair : ℕ → What → Option (ℕ × ℕ)
 making_of_pair p (Pair pair address low high) = if pair == p then Some (low, high) else None
 making_of_pair p _ = None
@@ -28,27 +28,31 @@ abbrev pub named : List (List ℕ) → Option (ℕ × ℕ) → List ℕ
 named names None = codes "?"
 named names (Some p) = if nat_lt p.0 (length names) then name_at names p.0 ++ codes "#" ++ decimal p.1 else codes "?"
 
+-- the memory model: the text of a storage instance
 abbrev pub instance_text : List Event → List (List ℕ) → ℕ → List ℕ
 instance_text seen names i = named names (first_told (making_of i) seen)
 
--- the candidates that passed, the low one first; `?` for each where the pair's making isn't told
+-- the memory model: the candidates that passed, the low one first
 abbrev pub survivors : List ℕ → List ℕ → (low high : Bool) → List ℕ
 survivors l h true true = l ++ codes "," ++ h
 survivors l h true false = l
 survivors l h false true = h
 survivors l h false false = []
 
+-- the memory model: the same of a pair of candidates; `?` for each where the pair's making isn't told
 abbrev pub survivors_of : List Event → List (List ℕ) → Option (ℕ × ℕ) → (low high : Bool) → List ℕ
 survivors_of seen names None low high = survivors (codes "?") (codes "?") low high
 survivors_of seen names (Some p) low high = survivors (instance_text seen names p.0) (instance_text seen names p.1) low high
 
+-- the memory model: a use's test, by its number
 abbrev pub test_text : ℕ → List ℕ
 test_text n = if n == 1 then codes "live" else if n == 2 then codes "range" else if n == 3 then codes "block" else if n == 4 then codes "same" else codes "?"
 
+-- a word and its text
 abbrev pub field : List ℕ → List ℕ → List ℕ
 field word text = codes " " ++ word ++ codes "=" ++ text
 
--- with the turns taken
+-- the memory model: the text of an event, with the turns taken
 abbrev pub what_text : List Event → List (List ℕ) → ℕ → What → List ℕ
 what_text seen names turn (Made inst name k base size) =
     codes "create " ++ instance_text seen names inst ++ field (codes "turn") (decimal turn) ++ field (codes "base") (address_text base) ++ field (codes "size") (decimal size)
@@ -66,6 +70,7 @@ what_text seen names turn (Fault verdict low high pair) = codes "fault" ++ field
 abbrev pub line : List ℕ → List ℕ
 line text = text ++ 10 ∷ []
 
+-- the line of an event
 abbrev pub event_line : List Event → List (List ℕ) → Event → List ℕ
 event_line seen names e = line (what_text seen names e.turn e.what)
 

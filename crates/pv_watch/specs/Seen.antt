@@ -5,7 +5,7 @@ use Rattle.pv_watch.specs.declared.watch.Attend.{Attend}
 use Rattle.pv_watch.specs.declared.watch.Attend.TheVariants.{More, Enough, NoMemory}
 use Rattle.pv_watch.specs.Texts.{text_of}
 
--- the event was seen, and there are as many now as are wanted, or not; or it was not seen
+-- an event (of the memory model) was seen, and there are as many now as are wanted, or not; or it was not seen
 abbrev pub Sees : List Event → List Event → ℕ → Event → Attend → Type 0
 Sees old new wants event More = (new ≡ old ++ event ∷ []) × (length new ≢ wants)
 Sees old new wants event Enough = (new ≡ old ++ event ∷ []) × (length new ≡ wants)

@@ -6,15 +6,17 @@ use Rattle.pv_watch.specs.declared.seats.Seat.{Seat}
 use Rattle.pv_watch.specs.declared.seats.Seat.TheVariants.{In, Out}
 use Rattle.pv_watch.specs.Seen.{IsText}
 
--- a watcher that is present, or the text of one that has left
+-- a watcher of a run's events (the memory model) that is present, or the text of one that has left
 pub data Slot : Type 0 where
   Present : (kind wants : ℕ) (seen : List Event) → Slot
   Left : (kind : ℕ) (text : List ℕ) → Slot
 
+-- the kind of a slot's watcher
 abbrev pub kind_of : Slot → ℕ
 kind_of (Present kind wants seen) = kind
 kind_of (Left kind text) = kind
 
+-- the slot's kind is one of these
 abbrev pub is_kept : List ℕ → Slot → Bool
 is_kept kinds slot = list_any (λ k. k == kind_of slot) kinds
 
@@ -54,9 +56,11 @@ SayAll names (slot ∷ slots) text = (first : List ℕ) × (rest : List ℕ) × 
 abbrev pub watcher : {W : Type 0} → (W → ℕ) → (W → ℕ) → (W → List Event) → W → Slot
 watcher kind wants seen w = Present (kind w) (wants w) (seen w)
 
+-- the slot of a seat, which has a watcher or the text of one that has left
 abbrev pub slot : {W : Type 0} → (W → Slot) → Seat W → Slot
 slot view (In w) = view w
 slot view (Out kind text) = Left kind text.items
 
+-- the slots of all seats, in order
 abbrev pub slots : {W : Type 0} → (W → Slot) → List (Seat W) → List Slot
 slots view seats = map (slot view) seats

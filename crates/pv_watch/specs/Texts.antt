@@ -9,6 +9,7 @@ use Rattle.pv_watch.specs.Lines.{first_told, line, event_lines}
 
 -- ---- kind 2: how many events of each kind were seen
 
+-- the memory model: the kinds of events
 abbrev pub word_of : What → List ℕ
 word_of (Made inst name k base size) = codes "create"
 word_of (Ended inst) = codes "end"
@@ -26,12 +27,15 @@ place_of (Pair pair address low high) = 3
 place_of (Tried pair test low high) = 4
 place_of (Fault verdict low high pair) = 5
 
+-- how many events of this kind were seen
 abbrev pub counted : List Event → ℕ → ℕ
 counted seen place = length (filter (λ (e : Event). place_of e.what == place) seen)
 
+-- the line of a kind
 abbrev pub count_line : List ℕ → ℕ → List ℕ
 count_line word n = line (word ++ codes " " ++ decimal n)
 
+-- a line for each kind
 abbrev pub census_text : List Event → List ℕ
 census_text seen =
     count_line (codes "create") (counted seen 0) ++ count_line (codes "end") (counted seen 1) ++ count_line (codes "expose") (counted seen 2)
@@ -39,34 +43,39 @@ census_text seen =
 
 -- ---- kind 3: the pairs, and their uses
 
+-- the memory model: an event that tells of a pair of candidates
 abbrev pub is_of_pair : What → Bool
 is_of_pair (Pair pair address low high) = true
 is_of_pair (Tried pair test low high) = true
 is_of_pair _ = false
 
+-- the lines of those events
 abbrev pub pointers_text : List Event → List (List ℕ) → List ℕ
 pointers_text seen names = event_lines seen names (filter (λ (e : Event). is_of_pair e.what) seen)
 
 -- ---- kind 1: what led to the fault
 
--- the candidates and the pair of the pointer that was tested
+-- the memory model: the candidates and the pair of the pointer that was tested
 pub record Suspects : Type 0 where
   pub low : Option ℕ
   pub high : Option ℕ
   pub pair : Option ℕ
 
+-- the memory model: the same of the event of a fault
 abbrev pub suspects_of : What → Option Suspects
 suspects_of (Fault verdict low high pair) = Some (record { low = low; high = high; pair = pair })
 suspects_of _ = None
 
+-- whether a number is this one
 abbrev pub is_that : Option ℕ → ℕ → Bool
 is_that None i = false
 is_that (Some n) i = n == i
 
+-- the memory model: a candidate of that pointer
 abbrev pub is_suspect : Suspects → ℕ → Bool
 is_suspect s i = is_that s.low i || is_that s.high i
 
--- it names a candidate or the pair; a pair's making names its two instances too, a use its pair alone
+-- the memory model: it names a candidate or the pair; a pair's making names its two instances too, a use its pair alone
 abbrev pub concerns : Suspects → What → Bool
 concerns s (Made inst name k base size) = is_suspect s inst
 concerns s (Ended inst) = is_suspect s inst
@@ -75,6 +84,7 @@ concerns s (Pair pair address low high) = is_suspect s low || is_suspect s high 
 concerns s (Tried pair test low high) = is_that s.pair pair
 concerns s (Fault verdict low high pair) = false
 
+-- the event of a fault (3.4.3)
 abbrev pub is_fault : What → Bool
 is_fault (Fault verdict low high pair) = true
 is_fault _ = false
@@ -87,10 +97,12 @@ concerning s passed (e ∷ es) =
     else if concerns s e.what then e ∷ concerning s passed es
     else concerning s passed es
 
+-- the lines of what led to the fault, or that there is none
 abbrev pub explained : List Event → List (List ℕ) → Option Suspects → List ℕ
 explained seen names None = line (codes "no fault")
 explained seen names (Some s) = event_lines seen names (concerning s false seen)
 
+-- the same of the first fault that was seen
 abbrev pub explain_text : List Event → List (List ℕ) → List ℕ
 explain_text seen names = explained seen names (first_told suspects_of seen)
 

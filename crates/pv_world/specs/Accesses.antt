@@ -25,7 +25,7 @@ use Rattle.pv_world.specs.Telling.{Told, quiet, telling, uses, used, live_test, 
 use Rattle.pv_world.specs.Doing.{Done, Answers, Fails}
 use Rattle.pv_world.specs.Worths.{present, wrong_of, value_of, bytes_of}
 
--- the use of a pointer for a range of so many bytes, as it is made on this table
+-- 6.5.3.2p4: the use of a pointer for a range of so many bytes, as it is made on this table (the memory model)
 abbrev pub range_use : Table → Pointer → (n : ℕ) → List What
 range_use T p n = uses range_test (use_answer T p.prov (Range p.address n))
 
@@ -35,17 +35,18 @@ abbrev pub reaching_by : World → Pointer → List What → Result Reach Stop �
 reaching_by w p us (Ok at, T) go = go at (with_table w T) (telling us)
 reaching_by w p us (Err y, T) go = Fails (wrong_of y) (Some p.prov) (with_table w T) (telling us)
 
+-- 6.5.3.2p4, 6.2.4p2, 6.4.5p7, 6.7.3p6: the same of this pointer
 abbrev pub reaching : Pointer → (n align : ℕ) → (write : Bool) → World → (Reach → World → Told → Done) → Done
 reaching p n align write w go = reaching_by w p (range_use w.memory.table p n) (reach w.memory.table p n align write Access) go
 
--- the scalar that bytes are, of a shape that is one
+-- 6.2.6.1: the scalar that bytes are, of a shape that is one
 abbrev pub scalar_as : Table → List Byte → Shape → Loaded
 scalar_as T bytes (shape.Int k) = load_of T bytes (scalar.Int k)
 scalar_as T bytes shape.Pointer = load_of T bytes scalar.Pointer
 scalar_as T bytes shape.Whole = load_of T bytes scalar.Pointer
 
 -- A load of a pointer that stops by the live test (6.2.4p2) blames the loaded pointer, which was stored whole: what a number
--- finds is live. All else blames the accessed pointer, if bytes were accessed.
+-- finds is live. All else blames the accessed pointer, if bytes were accessed. (The memory model: provenance.)
 abbrev pub load_blame : List Byte → Shape → Option Prov → Stop → Option Prov
 load_blame bytes shape.Pointer p (UndefinedStop f) = whole_name bytes
 load_blame bytes _ p y = p
@@ -56,7 +57,7 @@ scalar_by w bytes s p t (Ok r, T) =
     Answers (Scalar r.0) (with_table w (all_told T)) (telling (t.events ++ pairings w.memory.table T ++ used live_test r.1 ++ exposures T))
 scalar_by w bytes s p t (Err y, T) = Fails (wrong_of y) (load_blame bytes s p y) (with_table w T) t
 
--- of a structure or union the bytes themselves, and where they were read
+-- 6.2.6.1p4, 6.3.2.1p2: of a structure or union the bytes themselves, and where they were read; else the scalar
 abbrev pub worth_in : World → List Byte → Shape → (origin : Option ℕ) → Option Prov → Told → Done
 worth_in w bytes shape.Whole origin p t = Answers (Whole bytes origin) w t
 worth_in w bytes shape.Pointer origin p t = scalar_by w bytes shape.Pointer p t (scalar_as w.memory.table bytes shape.Pointer)
@@ -68,7 +69,7 @@ mark_of number (shape.Int k) = if is_character k then None else Some number
 mark_of number shape.Pointer = Some number
 mark_of number shape.Whole = None
 
--- what a value is stored as, through a type of this number
+-- 6.2.6.1p4: what a value is stored as, through a type of this number
 abbrev pub stored_as : (number : ℕ) → Shape → Worth → List Byte
 stored_as number (shape.Int k) v = encode (scalar.Int k) (value_of v) (mark_of number (shape.Int k))
 stored_as number shape.Pointer v = encode scalar.Pointer (value_of v) (mark_of number shape.Pointer)
@@ -83,20 +84,20 @@ is_inexact (Some b) a n = not (a == b) && (nat_lt a (b + n) && nat_lt b (a + n))
 abbrev pub takes_bytes : (offset size : ℕ) → Shape → Worth → World → Done
 takes_bytes offset size s v w = present v w (λ v. worth_in w (take size (drop offset (bytes_of v))) s None None quiet)
 
--- what is asked of bytes: they are as many as the scalar has
+-- 6.2.6.1p4: what is asked of bytes: they are as many as the scalar has
 abbrev pub HasSizeOf : Shape → ℕ → Type 0
 HasSizeOf (shape.Int k) n = n ≡ size_of (scalar.Int k)
 HasSizeOf shape.Pointer n = n ≡ size_of scalar.Pointer
 HasSizeOf shape.Whole n = Unit {0}
 
--- and of a value whose part is taken: if it is there, it is a structure or union that has these bytes
+-- 6.5.2.3p3: and of a value whose part is taken: if it is there, it is a structure or union that has these bytes
 abbrev pub HasPart : Worth → (offset size : ℕ) → Type 0
 HasPart (Whole bs a) offset size = offset + size ≤ length bs
 HasPart Missing offset size = Unit {0}
 HasPart Nothing offset size = ⊥
 HasPart (Scalar v) offset size = ⊥
 
--- and of a value that is stored in so many bytes: it is of this shape
+-- 6.2.6.1p4: and of a value that is stored in so many bytes: it is of this shape
 abbrev pub IsStored : Shape → ℕ → Worth → Type 0
 IsStored shape.Whole n (Whole bs a) = n ≡ length bs
 IsStored (shape.Int k) n (Scalar v) = (n ≡ size_of (scalar.Int k)) × IsOf (scalar.Int k) v

@@ -16,12 +16,14 @@ use Rattle.pv_world.specs.Worlds.{Worth, Nothing, Missing, Scalar, Whole, World,
 use Rattle.pv_world.specs.Telling.{verdict_of, fault_of, fault_told}
 use Rattle.pv_world.specs.Doing.{Done, Answers, Fails, Breaks}
 
+-- 6.5p1: what an expression gives, of what the code has
 abbrev pub worth_of : Got → Worth
 worth_of got.Nothing = Nothing
 worth_of got.Missing = Missing
 worth_of (got.Scalar v) = Scalar v
 worth_of (got.Whole bytes origin) = Whole bytes.items origin
 
+-- 3.4.3: why the run ends, of what the code has
 abbrev pub wrong_for : Cause → Wrong
 wrong_for (cause.Undefined f) = Undefined f
 wrong_for cause.Undecided = Undecided
@@ -31,7 +33,7 @@ wrong_for cause.Aborts = Halts Aborts
 wrong_for (cause.Refused name e) = Halts (Refused name e)
 wrong_for (cause.SidesEnded k) = Halts (SidesEnded k)
 
--- the names in a value were made
+-- the names in a value were made (the memory model: provenance)
 abbrev pub IsMadeWorth : Table → Worth → Type 0
 IsMadeWorth T (Scalar v) = IsMadeValue T v
 IsMadeWorth T (Whole bytes origin) = All (λ (b : Byte). IsMadeIn T b.prov) bytes
@@ -49,6 +51,7 @@ abbrev pub printing : List ℕ → Seen → Seen
 printing [] s = s
 printing (b ∷ bs) s = Printed (b ∷ bs) s
 
+-- what a doing comes to in this world, behind these events
 abbrev pub seen : List What → World → Done → Seen
 seen es w (Answers v x t) = printing t.bytes (Gave v x (es ++ t.events))
 seen es w (Fails y p x t) = printing t.bytes (Ended y x (es ++ t.events ++ fault_told w.memory y p))

@@ -28,12 +28,14 @@ truth_value w (IntValue n) give = Answers (give (not (int_eq n (pos 0)))) w quie
 truth_value w (PointerValue p) give = truth_by w p (truth w.memory.table p) give
 truth_value w Unset give = Answers (give false) w quiet
 
+-- 6.5.13p3: the same of what an expression gives
 abbrev pub truth_worth : World → (Bool → Worth) → Worth → Done
 truth_worth w give (Scalar v) = truth_value w v give
 truth_worth w give Nothing = Answers (give false) w quiet
 truth_worth w give Missing = Answers (give false) w quiet
 truth_worth w give (Whole bs a) = Answers (give false) w quiet
 
+-- 6.5.13p3, 6.8.4.1p2: the same of a value that is there and was set, as the operator gives it
 abbrev pub tests : (Bool → Worth) → Worth → World → Done
 tests give v w = plain v w (truth_worth w give)
 
@@ -42,17 +44,17 @@ abbrev pub opposite : Bool → Worth
 opposite true = truth_int false
 opposite false = truth_int true
 
--- 6.3.2.3p6: a pointer to an integer type: the live test, then whether the address fits, then the exposure
+-- 6.3.2.3p6: a pointer to an integer type: the live test, then whether the address fits, then exposure (the memory model)
 abbrev pub number_by : World → Pointer → Result (ℤ × Tried) Stop × Table → Done
 number_by w p (Ok r, T) = Answers (int r.0) (with_table w (all_told T)) (telling (live_use w.memory.table p ++ exposures T))
 number_by w p (Err y, T) = Fails (wrong_of y) (Some p.prov) (with_table w T) (telling (live_use w.memory.table p))
 
--- 6.3.2.3p5: an integer to a pointer type; two instances that fit make a pair
+-- 6.3.2.3p5: an integer to a pointer type; two instances that fit make a pair of candidates (the memory model)
 abbrev pub pointed : World → Result Pointer Stop × Table → Done
 pointed w (Ok p, T) = Answers (pointer p) (with_table w T) (telling (pairings w.memory.table T))
 pointed w (Err y, T) = Fails (wrong_of y) None (with_table w T) quiet
 
--- 6.3.2.3p7: to another pointer type: the live test, then the alignment
+-- 6.3.2.3p7: to another pointer type: the live test (6.2.4p2), then the alignment
 abbrev pub recast_by : World → Pointer → Result Tried Stop × Table → Done
 recast_by w p (Ok tried, T) = Answers (pointer p) (with_table w T) (telling (live_use w.memory.table p))
 recast_by w p (Err y, T) = Fails (wrong_of y) (Some p.prov) (with_table w T) (telling (live_use w.memory.table p))
@@ -63,6 +65,7 @@ passed k (IntValue n) = int (convert_of k n)
 passed k Unset = Scalar Unset
 passed k (PointerValue p) = Scalar (PointerValue p)
 
+-- 6.3.1.3: the same of what an expression gives
 abbrev pub passes : IntKind → World → Worth → Done
 passes k w (Scalar v) = Answers (passed k v) w quiet
 passes k w v = Answers v w quiet

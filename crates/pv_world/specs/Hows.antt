@@ -3,7 +3,7 @@ use Rattle.std.specs.Prelude.{◌≤◌}
 use Rattle.pv_world.specs.declared.got.How.{How}
 use Rattle.pv_world.specs.declared.got.How.TheVariants.{Rounds, Passes, Tests, Numbers, Points, Recasts, Voids}
 
--- an alignment that is asked for is 1 at least
+-- 6.2.8p1: an alignment that is asked for is 1 at least
 abbrev pub IsHow : How → Type 0
 IsHow (Recasts align) = 1 ≤ align
 IsHow (Rounds k) = Unit {0}

@@ -29,10 +29,12 @@ stop_blame shape.Pointer NoMemoryStop o q = o
 stop_blame (shape.Int k) y o q = o
 stop_blame shape.Whole y o q = o
 
+-- what a load of a scalar comes to
 abbrev pub loaded_seen : List What → World → Shape → (accessed loaded : Option Blame) → Loaded → Seen
 loaded_seen es w s o q (Ok r, T) = Gave (Scalar r.0) (with_table w (all_told T)) (es ++ pairings w.memory.table T ++ used live_test r.1 ++ exposures T)
 loaded_seen es w s o q (Err y, T) = Ended (wrong_of y) (with_table w T) (es ++ fault_of (stop_blame s y o q) (verdict_of (wrong_of y)))
 
+-- the same of bytes of any shape
 abbrev pub valued_seen : List What → World → List Byte → Shape → (origin : Option ℕ) → (accessed loaded : Option Blame) → Seen
 valued_seen es w bytes shape.Whole origin o q = Gave (Whole bytes origin) w es
 valued_seen es w bytes shape.Pointer origin o q = loaded_seen es w shape.Pointer o q (scalar_as w.memory.table bytes shape.Pointer)

@@ -21,77 +21,88 @@ use Rattle.pv_world.specs.Telling.{quiet, telling, made}
 use Rattle.pv_world.specs.Doing.{Done, Answers, Fails}
 use Rattle.pv_world.specs.Worths.{pointer}
 
+-- 6.2.4p6: the instance of an object in the innermost body
 abbrev pub bound_in : List Bindings → ℕ → Option ℕ
 bound_in [] o = None
 bound_in (m ∷ ms) o = map.get m o
 
+-- 6.2.4p6: in the innermost body, the object has this instance from now on
 abbrev pub bind_in : List Bindings → ℕ → ℕ → List Bindings
 bind_in [] o i = []
 bind_in (m ∷ ms) o i = map.insert m o i ∷ ms
 
--- 6.2.1, 6.2.4: the instance of an object in scope
+-- 6.2.1, 6.2.4: the instance of an object in scope, if it has one; one with static storage is no body's
 abbrev pub bound_to : World → ℕ → (lasting : Bool) → Option ℕ
 bound_to w o true = map.get w.statics o
 bound_to w o false = bound_in w.bodies o
 
+-- 6.2.4: the number of the instance of an object
 abbrev pub instance_of : World → ℕ → (lasting : Bool) → ℕ
 instance_of w o lasting = unwrap_or (bound_to w o lasting) 0
 
+-- 6.2.4: the object has this instance from now on
 abbrev pub bind : World → ℕ → (lasting : Bool) → ℕ → World
 bind w o true i = record w { statics = map.insert w.statics o i }
 bind w o false i = record w { bodies = bind_in w.bodies o i }
 
--- the object that an instance was made for
+-- 6.5p6: the object that an instance was made for, which has a declared type
 abbrev pub owner_of : World → ℕ → Option ℕ
 owner_of w i = if i == 0 then None else slice_index_or w.owners (i - 1) None
 
+-- where an instance begins (the memory model: storage instance)
 abbrev pub base_in : World → ℕ → ℕ
 base_in w i = base_of (instance_at w.memory.table.instances i)
 
+-- 6.5.3.2p3: the pointer to the first byte of an instance, with the instance for its provenance (the memory model)
 abbrev pub address_of : World → ℕ → Pointer
 address_of w i = record { address = base_in w i; prov = Inst i }
 
--- 6.5.1p2
+-- 6.5.1p2: an identifier designates its object
 abbrev pub names_object : ℕ → (lasting : Bool) → World → Done
 names_object o lasting w = Answers (pointer (address_of w (instance_of w o lasting))) w quiet
 
--- 6.5.1p4
+-- 6.5.1p4: the instance of a literal
 abbrev pub literal_of : World → ℕ → ℕ
 literal_of w l = unwrap_or (map.get w.literals l) 0
 
+-- 6.5.1p4: a string literal is an lvalue: the array that was made for it
 abbrev pub names_literal : ℕ → World → Done
 names_literal l w = Answers (pointer (address_of w (literal_of w l))) w quiet
 
--- the objects of the instances up to so many, and that of the next one
+-- 6.5p6: of the instances up to so many, and of the next one, the objects that they were made for
 abbrev pub owned_next : List (Option ℕ) → (before : ℕ) → Option ℕ → List (Option ℕ)
 owned_next os n o = (os ++ replicate (n - length os) None) ++ o ∷ []
 
--- the world in which the instance was made for the object
+-- 6.5p6: the world in which the instance was made for the object
 abbrev pub owning : World → Mem → ℕ → Option ℕ → World
 owning w M i o = record w { memory = M; owners = owned_next w.owners (i - 1) o }
 
--- 6.2.4: an object begins its lifetime
+-- 6.2.4: the request for an object's storage instance (the memory model)
 abbrev pub object_request : (name : ℕ) (text : List ℕ) (size align : ℕ) (constant : Bool) → Request
 object_request name text size align constant = record { text = text; name = name; size = size; align = align; kind = Declared constant }
 
+-- 6.2.4p2: the object begins its lifetime with this instance, or why it has none
 abbrev pub object_made : World → ℕ → (lasting : Bool) → (name : ℕ) → Result ℕ CreateError × Mem → Done
 object_made w o lasting name (Ok i, M) = Answers Nothing (bind (owning w M i (Some o)) o lasting i) (telling (made M.table i))
 object_made w o lasting name (Err e, M) = Fails (Halts (Refused name e)) None (record w { memory = M }) quiet
 
+-- 6.2.4p2: the object begins its lifetime
 abbrev pub makes_object : ℕ → (lasting : Bool) → Request → World → Done
 makes_object o lasting r w = object_made w o lasting r.name (created w.memory r)
 
--- and ends it
+-- 6.2.4p2: an instance ends; its address may be used again, its number never (the memory model)
 abbrev pub ends_instance : World → ℕ → Done
 ends_instance w i = Answers Nothing (record w { memory = without w.memory i }) (telling (what.Ended i ∷ []))
 
+-- 6.2.4p2: the object ends its lifetime
 abbrev pub ends_object : ℕ → (lasting : Bool) → World → Done
 ends_object o lasting w = ends_instance w (instance_of w o lasting)
 
--- the bytes from an address on become these
+-- the world, with these abstract bytes (the memory model)
 abbrev pub with_bytes : World → Store → World
 with_bytes w m = record w { memory = record w.memory { bytes = m } }
 
+-- 6.2.6.1p4: the abstract bytes from an address on become these
 abbrev pub put_at : World → (address : ℕ) → List Byte → World
 put_at w a bytes = with_bytes w (written w.memory.bytes a bytes)
 
@@ -99,24 +110,29 @@ put_at w a bytes = with_bytes w (written w.memory.bytes a bytes)
 abbrev pub literal_request : (text bytes : List ℕ) → Request
 literal_request text bytes = record { text = text; name = 0; size = length bytes; align = 1; kind = Literal }
 
+-- 6.4.5p6: the literal has this instance
 abbrev pub literal_bound : World → ℕ → ℕ → World
 literal_bound w l i = record w { literals = map.insert w.literals l i }
 
+-- 6.4.5p6: its bytes are the characters
 abbrev pub with_characters : World → (i : ℕ) → (bytes : List ℕ) → World
 with_characters w i bytes = put_at w (base_in w i) (plain None 0 bytes)
 
+-- 6.4.5p6: a literal's array with its characters, or why it has none
 abbrev pub literal_made : World → ℕ → (bytes : List ℕ) → Result ℕ CreateError × Mem → Done
 literal_made w l bytes (Ok i, M) =
     Answers Nothing (with_characters (literal_bound (owning w M i None) l i) i bytes) (telling (made M.table i))
 literal_made w l bytes (Err e, M) = Fails (Halts (Refused 0 e)) None (record w { memory = M }) quiet
 
+-- 6.4.5p6: a literal's array is made
 abbrev pub makes_literal_of : ℕ → (text bytes : List ℕ) → World → Done
 makes_literal_of l text bytes w = literal_made w l bytes (created w.memory (literal_request text bytes))
 
--- 6.7.9p10, p19, p21: every byte of an object becomes this one
+-- an abstract byte of this value, or of none: without provenance and mark (the memory model)
 abbrev pub filling : Option ℕ → Byte
 filling v = record { value = v; prov = Empty; index = None; mark = None }
 
+-- 6.7.9p10, p19, p21: every byte of an object becomes this one
 abbrev pub fills_object : ℕ → (lasting : Bool) → (size : ℕ) → Option ℕ → World → Done
 fills_object o lasting size v w = Answers Nothing (put_at w (base_in w (instance_of w o lasting)) (replicate size (filling v))) quiet
 
@@ -128,13 +144,15 @@ puts_bytes o lasting offset bytes w = Answers Nothing (put_at w (base_in w (inst
 abbrev pub begins_body : World → Done
 begins_body w = Answers Nothing (record w { bodies = map.empty ∷ w.bodies }) quiet
 
+-- the bodies below the innermost one
 abbrev pub without_first : List Bindings → List Bindings
 without_first [] = []
 without_first (m ∷ ms) = ms
 
+-- 6.9.1: a body ends
 abbrev pub ends_body : World → Done
 ends_body w = Answers Nothing (record w { bodies = without_first w.bodies }) quiet
 
--- so many bytes of a live instance, from an offset on
+-- 6.2.4p2: so many bytes of a live instance, from an offset on
 abbrev pub HasRoom : World → (i offset n : ℕ) → Type 0
 HasRoom w i offset n = IsSomeAnd (instance_at w.memory.table.instances i) (λ (x : Instance). (x.live ≡ true) × (offset + n ≤ x.size))

@@ -20,7 +20,7 @@ use Rattle.pv_world.specs.Telling.{quiet, telling, used, live_use, both_used, li
 use Rattle.pv_world.specs.Doing.{Done, Answers, Fails}
 use Rattle.pv_world.specs.Worths.{int, pointer, truth_int, int_of, pointer_of, undefined, plain, present, wrong_of}
 
--- what a pointer gives that is moved, and what is told: the use for the range of no bytes at the new address
+-- 6.5.6p8: what a pointer gives that is moved, and what is told: the use for the range of no bytes at the new address
 abbrev pub moved_by : World → Pointer → Result (Pointer × Tried) Stop × Table → Done
 moved_by w p (Ok r, T) = Answers (pointer r.0) (with_table w T) (telling (used range_test r.1))
 moved_by w p (Err y, T) = Fails (wrong_of y) (Some p.prov) (with_table w T) quiet
@@ -30,6 +30,7 @@ abbrev pub distance : (minus : Bool) → (size : ℕ) → ℤ → ℤ
 distance false size n = n *ℤ pos size
 distance true size n = neg_ℤ (n *ℤ pos size)
 
+-- 6.5.6p8: the pointer so many elements further on, or back
 abbrev pub moves_pointer : (minus : Bool) → (size : ℕ) → Worth → Worth → World → Done
 moves_pointer minus size p n w = moved_by w (pointer_of p) (shift w.memory.table (pointer_of p) (distance minus size (int_of n)))
 
@@ -42,20 +43,25 @@ moves minus false size v x w = plain v w (λ v. plain x w (λ x. moves_pointer m
 abbrev pub in_elements : ℤ → (size : ℕ) → Option ℤ
 in_elements bytes size = if int_eq (int_rem bytes (pos size)) (pos 0) then Some (int_div bytes (pos size)) else None
 
+-- 6.5.6p9: a difference that is not whole
 abbrev pub uneven : Wrong
 uneven = undefined SubtractionOfPointers Uneven
 
+-- 6.5.6p9: the difference, or that it is not whole
 abbrev pub elements_by : World → Pointer → List What → Option ℤ → Done
 elements_by w p us (Some n) = Answers (int n) w (telling us)
 elements_by w p us None = Fails uneven (Some p.prov) w (telling us)
 
+-- 6.5.6p9: once the two are in one instance, their addresses are subtracted
 abbrev pub between_by : (size : ℕ) → Pointer → Pointer → World → Result (Tried × Tried) Stop × Table → Done
 between_by size p q w (Ok both, T) = elements_by (with_table w T) p (both_used both.0 both.1) (in_elements (pos p.address -ℤ pos q.address) size)
 between_by size p q w (Err y, T) = Fails (wrong_of y) (Some p.prov) (with_table w T) quiet
 
+-- 6.5.6p9: the two settle to what they have in common (the memory model: pairs of candidates)
 abbrev pub between : (size : ℕ) → Pointer → Pointer → World → Done
 between size p q w = between_by size p q w (together SubtractionOfPointers w.memory.table p q)
 
+-- 6.5.6p9: the same of two values that are there and were set
 abbrev pub subtracts : (size : ℕ) → Worth → Worth → World → Done
 subtracts size v x w = plain v w (λ v. plain x w (λ x. between size (pointer_of v) (pointer_of x) w))
 
@@ -68,6 +74,7 @@ ordered_by op w p q (Ok r, T) = compared (binary_of op IntOfInt (pos p.address) 
     compared (Err f) w left right = Answers (int (pos 0)) w (telling (both_used left right))
 ordered_by op w p q (Err y, T) = Fails (wrong_of y) (Some p.prov) (with_table w T) quiet
 
+-- 6.5.8p5: the same of two values that are there and were set, the left one looked at first
 abbrev pub orders : BinOp → Worth → Worth → World → Done
 orders op v x w = plain v w (λ v. plain x w (λ x. ordered_by op w (pointer_of v) (pointer_of x) (order w.memory.table (pointer_of v) (pointer_of x))))
 
@@ -77,6 +84,7 @@ equal_by negated w p q (Ok r, T) =
     Answers (truth_int (if negated then not r.0 else r.0)) (with_table w T) (telling (live_use w.memory.table p ++ used live_test r.2))
 equal_by negated w p q (Err y, T) = Fails (wrong_of y) (Some p.prov) (with_table w T) (telling (live_use w.memory.table p))
 
+-- 6.5.9p6: the same of two values that are there and were set, the left one looked at first
 abbrev pub equals : (negated : Bool) → Worth → Worth → World → Done
 equals negated v x w = plain v w (λ v. plain x w (λ x. equal_by negated w (pointer_of v) (pointer_of x) (equal w.memory.table (pointer_of v) (pointer_of x))))
 

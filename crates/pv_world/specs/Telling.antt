@@ -24,48 +24,54 @@ use Rattle.pv_watch.specs.declared.event.Verdict.{Verdict}
 use Rattle.pv_watch.specs.declared.event.Verdict.TheVariants as verdict
 use Rattle.pv_world.specs.Worlds.{Wrong, Undefined, Undecided, Halts, Halt, Indeterminate}
 
+-- what an operation tells: its events (the memory model), and the bytes that it prints (7.21.6.3)
 pub record Told : Type 0 where
   pub events : List What
   pub bytes : List ℕ
 
+-- nothing is told
 abbrev pub quiet : Told
 quiet = record { events = []; bytes = [] }
 
+-- these events are told, and nothing is printed
 abbrev pub telling : List What → Told
 telling es = record { events = es; bytes = [] }
 
--- The numbers of the tests of a use: the candidate is live (6.2.4p2), a range lies in it (6.5.6p8, 6.5.3.2p4), it is an
--- allocation that begins there (7.22.3.3p2), it is a candidate of the other operand too (6.5.8p5, 6.5.6p9)
+-- the numbers of the tests of a use (the memory model): the candidate is live (6.2.4p2)
 abbrev pub live_test : ℕ
 live_test = 1
 
+-- a range lies in the candidate (6.5.6p8, 6.5.3.2p4)
 abbrev pub range_test : ℕ
 range_test = 2
 
+-- the candidate is an allocation that begins there (7.22.3.3p2)
 abbrev pub block_test : ℕ
 block_test = 3
 
+-- the candidate is one of the other operand too (6.5.8p5, 6.5.6p9)
 abbrev pub same_test : ℕ
 same_test = 4
 
--- a use that found survivors is told of where its name stood for two before it
+-- the memory model: a use that found survivors is told of where its name stood for two before it, a pair of candidates
 abbrev pub used_pair : Option ℕ → (test : ℕ) → Tried → List What
 used_pair None test tried = []
 used_pair (Some k) test tried = what.Tried k test tried.low tried.high ∷ []
 
+-- the memory model: the same, by what was tried
 abbrev pub used : (test : ℕ) → Tried → List What
 used test tried = used_pair tried.pair test tried
 
--- a use that found none is not told
+-- the memory model: a use that found none is not told
 abbrev pub uses : (test : ℕ) → Result Tried Miss → List What
 uses test (Ok tried) = used test tried
 uses test (Err miss) = []
 
--- the live test of a pointer, as it is made on this table
+-- 6.2.4p2: the live test of a pointer, as it is made on this table
 abbrev pub live_use : Table → Pointer → List What
 live_use T p = uses live_test (use_answer T p.prov Live)
 
--- of two operands the left one's use comes first
+-- 6.5.8p5, 6.5.6p9: of two operands the left one's use comes first
 abbrev pub both_used : Tried → Tried → List What
 both_used left right = used same_test left ++ used same_test right
 
@@ -74,56 +80,64 @@ abbrev pub made_row : ℕ → Option Instance → List What
 made_row i None = []
 made_row i (Some x) = what.Made i x.name x.k x.base x.size ∷ []
 
+-- the same of the instance with this number (6.2.4p2)
 abbrev pub made : Table → ℕ → List What
 made T i = made_row i (instance_at T.instances i)
 
--- the instances that became exposed and were not told of; afterwards they were
+-- the memory model: an event for each instance that became exposed
 abbrev pub each_exposed : List ℕ → List What
 each_exposed [] = []
 each_exposed (i ∷ is) = what.Exposed i ∷ each_exposed is
 
+-- the memory model: the instances that became exposed and were not told of
 abbrev pub exposures : Table → List What
 exposures T = each_exposed T.pending
 
+-- the memory model: afterwards they were told
 abbrev pub all_told : Table → Table
 all_told T = record T { pending = [] }
 
--- the pairs from number k on. A pair's address is where its high one begins
+-- the memory model: the pairs of candidates from number k on. A pair's address is where its high one begins
 abbrev pub each_paired : Table → ℕ → List Twin → List What
 each_paired T k [] = []
 each_paired T k (t ∷ ts) = what.Pair k (base_of (instance_at T.instances t.high)) t.low t.high ∷ each_paired T (k + 1) ts
 
--- the pairs that were made from one table to a later one
+-- the memory model: the pairs of candidates that were made from one table to a later one
 abbrev pub pairings : Table → Table → List What
 pairings T U = each_paired U (length T.pairs + 1) (drop (length T.pairs) U.pairs)
 
--- the verdict of a stop that has one
+-- 3.19.2: the verdict of a stop without undefined behaviour, if it has one
 abbrev pub verdict_of_halt : Halt → Option Verdict
 verdict_of_halt Indeterminate = Some verdict.Indeterminate
 verdict_of_halt _ = None
 
+-- 3.4.3, 3.19.2: the verdict of a stop, if it has one: undefined, undecided (the memory model) or indeterminate
 abbrev pub verdict_of : Wrong → Option Verdict
 verdict_of (Undefined f) = Some (verdict.Undefined f)
 verdict_of Undecided = Some verdict.Undecided
 verdict_of (Halts h) = verdict_of_halt h
 
--- a fault carries the candidates of the pointer whose check stopped, as they stood before the operation, and the number of
--- its pair, settled or not
+-- the memory model: the number of the pair of candidates that a name is
 abbrev pub pair_of : Prov → Option ℕ
 pair_of (Pair k) = Some k
 pair_of (Inst i) = None
 pair_of Empty = None
 
+-- the memory model: what a fault carries: the candidates of the pointer whose check stopped, as they stood before the
+-- operation, and the number of its pair, settled or not
 abbrev pub blame_of : Mem → Prov → Blame
 blame_of M p = let s = stands M.table.pairs p in record { low = s.low; high = s.high; pair = pair_of p }
 
+-- the event of a fault
 abbrev pub faulted : Option Blame → Verdict → What
 faulted None v = what.Fault v None None None
 faulted (Some b) v = what.Fault v b.low b.high b.pair
 
+-- the same, where there is a verdict
 abbrev pub fault_of : Option Blame → Option Verdict → List What
 fault_of b None = []
 fault_of b (Some v) = faulted b v ∷ []
 
+-- the same, by the name of the pointer whose check stopped (the memory model: provenance)
 abbrev pub fault_told : Mem → Wrong → Option Prov → List What
 fault_told M y p = fault_of (option_map (blame_of M) p) (verdict_of y)
