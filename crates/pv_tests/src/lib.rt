@@ -1,4 +1,4 @@
-//! What no clause says of numbers, tokens and types: that they are those that other readers of C know.
+//! What no clause says of numbers, tokens, types and generated sources: that they are those that other readers of C know.
 //!
 //! Each public call runs here once at least, and tables of values that come from elsewhere are compared. The rows of
 //! whole programs stand with `serve`, in `pvrun`.
@@ -13,8 +13,12 @@ mod outside;
 #[cfg(test)]
 mod sequences;
 #[cfg(test)]
+mod sources;
+#[cfg(test)]
 mod texts;
 #[cfg(test)]
 mod tokens;
 #[cfg(test)]
 mod types;
+#[cfg(test)]
+mod watchers;
