@@ -1,12 +1,15 @@
-//! Runs each program of `examples/`, and compares what it prints and reports with the files beside it.
+//! Runs each program of `examples/`, and compares what it prints and reports with the files beside it; where a story stands beside it too, the
+//! report ends with that story of the fault.
 //!
 //! `examples` is a link to this crate's `data/`, so that no example is held twice: the gate runs a program in a copy of its
 //! `data/`, and a test in an empty folder. The names are those of the folder; that none of them got lost is told by the
 //! number in `stdout`, the one line here that a new example changes.
 #![tactic(auto)]
 
+use pv_explain::Explain;
 use pv_script::{DiskFiles, MemSink};
-use pv_serve::serve;
+use pv_serve::{NoMemory, serve};
+use pv_watch::{Hall, Watch};
 use std::alloc::Global;
 use std::rt::Files;
 use std::{fs, io};
@@ -44,10 +47,13 @@ fn agrees(rt: &(impl Files + Print + AllocGlobal), name: &str) -> io::Result<boo
     let mut files = DiskFiles::new(rt, alloc);
     let mut out = sink(alloc)?;
     let mut report = sink(alloc)?;
-    serve(alloc, words.as_slice(), &mut files, &mut out, &mut report);
+    if serve_watched(alloc, words.as_slice(), &mut files, &mut out, &mut report).is_err() {
+        return Err(no_memory());
+    }
     let output = beside(rt, name, "out")?;
-    let line = beside(rt, name, "report")?;
-    let agrees = out.bytes() == output.as_slice() && report.bytes() == line.as_slice();
+    let mut text = beside(rt, name, "report")?;
+    text.extend_from_slice(beside(rt, name, "story")?.as_slice())?;
+    let agrees = out.bytes() == output.as_slice() && report.bytes() == text.as_slice();
     if !agrees {
         let told = str::from_utf8(report.bytes()).unwrap_or("no text");
         println!(rt; "{name}: {told}")?;
@@ -55,7 +61,21 @@ fn agrees(rt: &(impl Files + Print + AllocGlobal), name: &str) -> io::Result<boo
     Ok(agrees)
 }
 
-// The words that run a program, with its script where it has one.
+// Calls `serve` with a watcher that tells the story of a fault.
+fn serve_watched<F: pv_script::Files>(
+    alloc: Global,
+    words: &[String],
+    files: &mut F,
+    out: &mut MemSink,
+    report: &mut MemSink,
+) -> Result<u8, NoMemory> {
+    let mut watchers: Vec<Box<dyn Watch>> = Vec::new(alloc);
+    watchers.push(Box::new(alloc, Explain::new(alloc, 65_536))?)?;
+    let mut hall = Hall::new(alloc, watchers)?;
+    Ok(serve(alloc, words, files, out, report, &mut hall))
+}
+
+// The words that run a program, with its script where it has one, and a story where one is told.
 fn words(rt: &(impl Files + AllocGlobal), name: &str) -> io::Result<Vec<String>> {
     let alloc = rt.alloc();
     let mut words = Vec::new(alloc);
@@ -65,6 +85,11 @@ fn words(rt: &(impl Files + AllocGlobal), name: &str) -> io::Result<Vec<String>>
     if fs::open(rt, script.as_str()).is_ok() {
         words.push(String::from_str(alloc, "--script")?)?;
         words.push(script)?;
+    }
+    let story = format!(in alloc; "{name}.story")?;
+    if fs::open(rt, story.as_str()).is_ok() {
+        words.push(String::from_str(alloc, "--watch")?)?;
+        words.push(String::from_str(alloc, "explain")?)?;
     }
     Ok(words)
 }

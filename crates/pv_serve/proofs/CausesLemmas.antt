@@ -1,21 +1,33 @@
 -- The rows of the table, from what the parts of the call come to.
-use Rattle.std.proofs.Common.{◌≡◌, ◌≢◌, ◌⊎◌, ℕ, ◌+◌, ◌<◌, ◌≤◌, List, [], ◌∷◌, take, refl, sym, ◌∙◌, subst, inl, inr, arith}
-use Rattle.std.specs.Prelude.{Option, Some, None, IfSome, IsSome, IsNone}
+use Rattle.std.proofs.Common.{◌≡◌, ◌≢◌, ◌⊎◌, ℕ, ◌+◌, ◌<◌, ◌≤◌, List, [], ◌++◌, take, refl, sym, ap, ◌∙◌, subst, inl, inr, arith}
+use Rattle.std.specs.Prelude.{Option, Some, None, IfSome, IsSome, IsNone, Result, Ok, Err, IfOk, Vec}
+use Rattle.std.specs.declared.alloc.Global.{Global}
+use Rattle.std.specs.List.{filter}
 use Rattle.std.proofs.lemmas.Bool.{cases_eq}
-use Rattle.pv_script.specs.Outside.{Gains, GainsPrefix}
+use Rattle.pv_script.specs.Outside.{Gains}
 use Rattle.pv_script.proofs.GainsLemmas.{gains_nothing}
+use Rattle.pv_watch.specs.Slots.{Slot, SayAll, is_kept}
+use Rattle.pv_gen.specs.Source.{source_text}
+use Rattle.pv_eval.specs.States.{State}
+use Rattle.pv_exec.specs.Streaming.{Outlet}
+use Rattle.pv_exec.specs.declared.program.RunError.TheVariants as error
+use Rattle.pv_exec.specs.declared.program.Ran.{Ran}
+use Rattle.pv_typed.specs.Tables.{Stored}
 use Rattle.pv_serve.specs.declared.words.Task.{Task}
 use Rattle.pv_serve.specs.declared.judging.Judgement.{Judgement}
-use Rattle.pv_exec.specs.declared.program.RunError.TheVariants as error
-use Rattle.pv_serve.specs.Words.{Job, job}
+use Rattle.pv_serve.specs.declared.judging.Judgement.TheVariants as judgement
+use Rattle.pv_serve.specs.declared.error.NoMemory.{NoMemory}
+use Rattle.pv_serve.specs.Verdicts.{Course, course_of}
+use Rattle.pv_serve.specs.Words.{Job, FileJob, Files, Generated, job, generated, file_job, either, task_of, watched_of, kinds_of}
 use Rattle.pv_serve.specs.Comes.{source_limit}
-use Rattle.pv_serve.specs.Judged.{Judged, Prints, script_limit}
-use Rattle.pv_serve.specs.Judging.{verdict_of, IsJudged, GainsPart, IsCutOff}
-use Rattle.pv_serve.specs.Report.{fault_line, report_line, status_of}
-use Rattle.pv_serve.specs.Answer.{Answer, answer_of, OfFiles, needed, script_held, SomeVerdict, SomePrinted, SomeAnswer, SomeOutput}
-use Rattle.pv_serve.specs.Causes.{Call, Sunk, Table, IsAnswer, JobRose, SinkRose, Wrote, WrotePrefix, WroteReport, WroteOutput, Complete, Served}
-use Rattle.pv_serve.specs.Serving.{IsGiven, Reported, IsTold, Answered}
-use Rattle.pv_serve.proofs.Limits.{more_decides, more_prints}
+use Rattle.pv_serve.specs.Judged.{Judged, SomeRun, script_limit}
+use Rattle.pv_serve.specs.Judging.{Shown, verdict_of, IsJudged, IsCutOff}
+use Rattle.pv_serve.specs.Report.{fault_line, words_line, report_line, status_of}
+use Rattle.pv_serve.specs.Watching.{AreTold, IsReport, kept_by}
+use Rattle.pv_serve.specs.Answer.{Answer, answer_of, no_job, HasReport, OfSource, needed, script_held, SomeVerdict, SomeAnswer, SomeEnd}
+use Rattle.pv_serve.specs.Causes.{Call, Sunk, Table, IsAnswer, JobRose, SinkRose, Wrote, WrotePrefix, WroteReport, WroteOutput, BeganOutput, Complete, Served, kept}
+use Rattle.pv_serve.specs.Serving.{IsSource, IsReportOn, HasStory, SomeReport, Reported, IsTold, Answered, FilesServed, WereRead, WereLost, HadNoRoom}
+use Rattle.pv_serve.proofs.Limits.{more_decides, more_runs}
 use Rattle.pv_serve.proofs.RunLemmas.{printed_part}
 
 -- ---- the answer to a source, from its judgement and the report on that
@@ -23,37 +35,65 @@ use Rattle.pv_serve.proofs.RunLemmas.{printed_part}
 nothing : (s : Sunk) → s.new ≡ s.old → Wrote s []
 nothing s same = subst (λ (o : Option (List ℕ)). Gains s.old o []) (sym same) (gains_nothing s.old)
 
-printed_verdict : (source script : List ℕ) (t : Task) (j : Judgement) (out report : Sunk) (status : ℕ) → IsJudged source script t out.old out.new j → Reported j report status
-    → status ≢ 12 → status ≢ 13 → SomeVerdict source script t (IsTold out report status)
-printed_verdict source script t j out report status is told not12 not13 = record {
-  verdict = verdict_of j is.printed;
+abbrev pub at_sink : Option (List ℕ) → List Slot → Outlet
+at_sink sink slots = record { sink = sink; hall = slots }
+
+has_report : (j : Judgement) (shown : Shown) (kept new : List Slot) (P : List ℕ → Type 0) → AreTold (answer_of (verdict_of j shown)).course kept new → SomeReport j new P
+    → HasReport kept new (answer_of (verdict_of j shown)) P
+has_report j shown kept new P told r = record { told = told; text = r.text; is = r.is shown; holds = r.holds }
+
+printed_verdict : (source script : List ℕ) (t : Task) (j : Judgement) (out report : Sunk) (kept new : List Slot) (status : ℕ)
+    → IsJudged source script t (at_sink out.old kept) (at_sink out.new new) j → Reported j new report status
+    → status ≢ 12 → status ≢ 13 → SomeVerdict source script t (IsTold out report kept new status)
+printed_verdict source script t j out report kept new status is told not12 not13 = record {
+  verdict = verdict_of j is.shown;
   judged = is.judged;
-  answered = record { status_is = told.status_is is.printed not12 not13; output = is.gains; whole = told.whole is.printed not12 not13 };
+  answered = record { status_is = told.status_is is.shown not12 not13; output = is.gains; whole = has_report j is.shown kept new (Wrote report) is.told (told.whole not12 not13) };
 }
 
-pub answered_by : (source script : List ℕ) (t : Task) (j : Judgement) (out report : Sunk) (status : ℕ) → IsJudged source script t out.old out.new j → Reported j report status
-    → Answered source script t out report status
-answered_by source script t j out report status is told = record {
+pub answered_by : (source script : List ℕ) (t : Task) (j : Judgement) (out report : Sunk) (kept new : List Slot) (status : ℕ)
+    → IsJudged source script t (at_sink out.old kept) (at_sink out.new new) j → Reported j new report status → Answered source script t out report kept new status
+answered_by source script t j out report kept new status is told = record {
   no_read_fault = told.no_read_fault;
   no_words = told.no_words;
   write_fault = λ h. inr (told.write_fault h);
-  wrote = λ h. inl (record { verdict = verdict_of j is.printed; judged = is.judged; answered = record { whole = is.gains; begun = told.begun is.printed h } });
-  printed = λ h. printed_part source script t (verdict_of j is.printed) out.old out.new is.judged is.gains;
+  wrote = λ h. inl (record {
+    verdict = verdict_of j is.shown;
+    judged = is.judged;
+    answered = record { whole = is.gains; begun = has_report j is.shown kept new (WrotePrefix report) is.told (told.begun h) };
+  });
+  printed = λ h. printed_part source script t (verdict_of j is.shown) out.old out.new is.judged is.gains;
   no_memory = told.no_memory;
-  told = printed_verdict source script t j out report status is told;
+  told = printed_verdict source script t j out report kept new status is told;
 }
 
 -- ---- the report on a judgement
 
-pub reported_nothing : (j : Judgement) (report : Sunk) → report.new ≡ report.old → Reported j report 13
-reported_nothing j report same = record {
+-- of a source that is described or refused it is the line
+pub quiet_report : (j k : Judgement) (slots : List Slot) (text : List ℕ) → j ≡ k → ((shown : Shown) → course_of (verdict_of k shown) ≡ None)
+    → ((shown : Shown) → text ≡ report_line (verdict_of j shown)) → IsReportOn j slots text
+quiet_report j k slots text e none line = λ shown.
+    subst (λ (c : Option Course). IsReport c slots (report_line (verdict_of j shown)) text)
+    (sym (ap (λ (i : Judgement). course_of (verdict_of i shown)) e ∙ none shown)) (line shown)
+
+-- of a run it has the texts of those who watched behind the line
+pub run_report : (j : Judgement) (ran : Ran) (unit : Stored) (bound : ℕ) (names : List (List ℕ)) (slots : List Slot) (line : List ℕ) (r : Result (Vec ℕ Global) NoMemory)
+    → j ≡ judgement.Ran ran unit bound → names ≡ unit.names → ((shown : Shown) → line ≡ report_line (verdict_of j shown))
+    → IfOk r (λ v. HasStory names slots line v.items) → IfOk r (λ v. IsReportOn j slots v.items)
+run_report j ran unit bound names slots line (Err x) e same is told = tt
+run_report j ran unit bound names slots line (Ok v) e same is told = λ shown.
+    subst (λ (i : Judgement). IsReport (course_of (verdict_of i shown)) slots (report_line (verdict_of j shown)) v.items) (sym e)
+    (told.0, subst (λ (ns : List (List ℕ)). SayAll ns slots told.0) same told.1, told.2 ∙ ap (λ (bytes : List ℕ). bytes ++ told.0) (is shown))
+
+pub reported_nothing : (j : Judgement) (new : List Slot) (report : Sunk) → report.new ≡ report.old → Reported j new report 13
+reported_nothing j new report same = record {
   no_read_fault = λ h. absurd cc;
   no_words = λ h. absurd cc;
   write_fault = λ h. absurd cc;
-  begun = λ printed h. absurd cc;
+  begun = λ h. absurd cc;
   no_memory = λ h. nothing report same;
-  status_is = λ printed not12 not13. absurd (not13 refl);
-  whole = λ printed not12 not13. absurd (not13 refl);
+  status_is = λ shown not12 not13. absurd (not13 refl);
+  whole = λ not12 not13. absurd (not13 refl);
 }
 
 -- a status of a judgement is none of those of a call that has none
@@ -61,36 +101,33 @@ own_status : (status n : ℕ) → 10 ≤ n → n < 14 → (status < 10) ⊎ (sta
 own_status status n above below (inl few) e = omega arith
 own_status status n above below (inr last) e = omega arith
 
-pub reported_by : (j : Judgement) (report : Sunk) (text : List ℕ) (status result : ℕ) → ((printed : List ℕ) → text ≡ report_line (verdict_of j printed))
-    → ((printed : List ℕ) → status ≡ status_of (verdict_of j printed)) → (status < 10) ⊎ (status ≡ 14)
-    → (result ≢ 12 → (result ≡ status) × Wrote report text) → (result ≡ 12 → SinkRose report × WrotePrefix report text) → Reported j report result
-reported_by j report text status result line is own told lost = record {
+pub reported_by : (j : Judgement) (new : List Slot) (report : Sunk) (text : List ℕ) (status result : ℕ) → IsReportOn j new text
+    → ((shown : Shown) → status ≡ status_of (verdict_of j shown)) → (status < 10) ⊎ (status ≡ 14)
+    → (result ≢ 12 → (result ≡ status) × Wrote report text) → (result ≡ 12 → SinkRose report × WrotePrefix report text) → Reported j new report result
+reported_by j new report text status result line is own told lost = record {
   no_read_fault = λ h. own_status status 11 (omega arith) (omega arith) own (sym (told (λ k. absurd cc)).0 ∙ h);
   no_words = λ h. own_status status 10 (omega arith) (omega arith) own (sym (told (λ k. absurd cc)).0 ∙ h);
   write_fault = λ h. (lost h).0;
-  begun = λ printed h. subst (λ (bytes : List ℕ). WrotePrefix report bytes) (line printed) (lost h).1;
+  begun = λ h. record { text = text; is = line; holds = (lost h).1 };
   no_memory = λ h. absurd (own_status status 13 (omega arith) (omega arith) own (sym (told (λ k. absurd cc)).0 ∙ h));
-  status_is = λ printed not12 not13. (told not12).0 ∙ is printed;
-  whole = λ printed not12 not13. subst (λ (bytes : List ℕ). Wrote report bytes) (line printed) (told not12).1;
+  status_is = λ shown not12 not13. (told not12).0 ∙ is shown;
+  whole = λ not12 not13. record { text = text; is = line; holds = (told not12).1 };
 }
 
-some_part : (source script : List ℕ) (t : Task) (out : Sunk) → GainsPart source script t out.old out.new → SomePrinted source script t (WrotePrefix out)
-some_part source script t out p = record { output = p.output; prints = p.prints; printed = p.part }
-
-pub answered_no_memory : (source script : List ℕ) (t : Task) (out report : Sunk) → IsCutOff source script t out.old out.new error.NoMemory → report.new ≡ report.old
-    → Answered source script t out report 13
-answered_no_memory source script t out report cut same = record {
+pub answered_no_memory : (source script : List ℕ) (t : Task) (out report : Sunk) (kept new : List Slot) → IsCutOff source script t (at_sink out.old kept) (at_sink out.new new) error.NoMemory
+    → report.new ≡ report.old → Answered source script t out report kept new 13
+answered_no_memory source script t out report kept new cut same = record {
   no_read_fault = λ h. absurd cc;
   no_words = λ h. absurd cc;
   write_fault = λ h. absurd cc;
   wrote = λ h. absurd cc;
-  printed = λ h. elim cut as (λ _. Wrote out [] ⊎ SomePrinted source script t (WrotePrefix out)) [ inl none ↦ inl none | inr p ↦ inr (some_part source script t out p) ];
+  printed = λ h. cut;
   no_memory = λ h. nothing report same;
   told = λ not12 not13. absurd (not13 refl);
 }
 
-pub answered_nothing : (source script : List ℕ) (t : Task) (out report : Sunk) → out.new ≡ out.old → report.new ≡ report.old → Answered source script t out report 13
-answered_nothing source script t out report out_same same = record {
+pub answered_nothing : (source script : List ℕ) (t : Task) (out report : Sunk) (kept new : List Slot) → out.new ≡ out.old → report.new ≡ report.old → Answered source script t out report kept new 13
+answered_nothing source script t out report kept new out_same same = record {
   no_read_fault = λ h. absurd cc;
   no_words = λ h. absurd cc;
   write_fault = λ h. absurd cc;
@@ -100,13 +137,13 @@ answered_nothing source script t out report out_same same = record {
   told = λ not12 not13. absurd (not13 refl);
 }
 
-pub answered_write_fault : (source script : List ℕ) (t : Task) (out report : Sunk) → IsCutOff source script t out.old out.new error.WriteFault → SinkRose out → report.new ≡ report.old
-    → Answered source script t out report 12
-answered_write_fault source script t out report cut rose same = record {
+pub answered_write_fault : (source script : List ℕ) (t : Task) (out report : Sunk) (kept new : List Slot) → IsCutOff source script t (at_sink out.old kept) (at_sink out.new new) error.WriteFault
+    → SinkRose out → report.new ≡ report.old → Answered source script t out report kept new 12
+answered_write_fault source script t out report kept new cut rose same = record {
   no_read_fault = λ h. absurd cc;
   no_words = λ h. absurd cc;
   write_fault = λ h. inl rose;
-  wrote = λ h. inr (record { output = cut.output; prints = cut.prints; printed = record { begun = cut.part; nothing = nothing report same } });
+  wrote = λ h. inr (record { job = cut.job; run = cut.run; runs = cut.runs; holds = record { part = cut.holds; nothing = nothing report same } });
   printed = λ h. absurd cc;
   no_memory = λ h. absurd cc;
   told = λ not12 not13. absurd (not12 refl);
@@ -118,7 +155,7 @@ if_some : (o : Option (List ℕ)) (P Q : List ℕ → Type 0) → ((x : List ℕ
 if_some None P Q f h = tt
 if_some (Some x) P Q f h = f x h
 
-of_files : (j : Job) (held : List ℕ → Option (List ℕ)) (P Q : List ℕ → List ℕ → Type 0) → ((all text : List ℕ) → P all text → Q all text) → OfFiles j held P → OfFiles j held Q
+of_files : (j : FileJob) (held : List ℕ → Option (List ℕ)) (P Q : List ℕ → List ℕ → Type 0) → ((all text : List ℕ) → P all text → Q all text) → OfSource (Files j) held P → OfSource (Files j) held Q
 of_files j held P Q f h =
     if_some (held j.file) (λ all. IfSome (needed all (script_held j.script held)) (P all)) (λ all. IfSome (needed all (script_held j.script held)) (Q all))
     (λ all. if_some (needed all (script_held j.script held)) (P all) (Q all) (f all)) h
@@ -132,28 +169,35 @@ verdict_told all text source script t P Q f is v = record {
   answered = f (answer_of v.verdict) v.answered;
 }
 
-printed_told : (all text source script : List ℕ) (t : Task) (P : List ℕ → Type 0) → (source ≡ take (source_limit + 1) all) × (script ≡ take (script_limit + 1) text)
-    → SomePrinted source script t P → SomePrinted all text t P
-printed_told all text source script t P is v = record {
-  output = v.output;
-  prints = more_prints all text t v.output
-      (subst (λ (s : List ℕ). Prints s (take (script_limit + 1) text) t v.output) is.0 (subst (λ (s : List ℕ). Prints source s t v.output) is.1 v.prints));
-  printed = v.printed;
-}
+run_told : (all text source script : List ℕ) (t : Task) (P : State → List (List ℕ) → Type 0) → (source ≡ take (source_limit + 1) all) × (script ≡ take (script_limit + 1) text)
+    → SomeRun source script t P → SomeRun all text t P
+run_told all text source script t P is v =
+    more_runs all text t P (subst (λ (s : List ℕ). SomeRun s (take (script_limit + 1) text) t P) is.0 (subst (λ (s : List ℕ). SomeRun source s t P) is.1 v))
+
+of_verdict : (j : Job) (held : List ℕ → Option (List ℕ)) (source script : List ℕ) (P Q : Answer → Type 0) → ((a : Answer) → P a → Q a)
+    → IsSource j held source script → SomeVerdict source script (task_of j) P → OfSource j held (λ all text. SomeVerdict all text (task_of j) Q)
+of_verdict (Files j) held source script P Q f is v =
+    of_files j held (λ all text. (source ≡ take (source_limit + 1) all) × (script ≡ take (script_limit + 1) text)) (λ all text. SomeVerdict all text j.task Q)
+    (λ all text read. verdict_told all text source script j.task P Q f read v) is
+of_verdict (Generated n) held source script P Q f is v =
+    let w : SomeVerdict source script (task_of (Generated n)) Q = record { verdict = v.verdict; judged = v.judged; answered = f (answer_of v.verdict) v.answered } in
+    subst (λ (s : List ℕ). SomeVerdict s [] (task_of (Generated n)) Q) is.0 (subst (λ (s : List ℕ). SomeVerdict source s (task_of (Generated n)) Q) is.1 w)
+
+of_run : (j : Job) (held : List ℕ → Option (List ℕ)) (source script : List ℕ) (P : State → List (List ℕ) → Type 0)
+    → IsSource j held source script → SomeRun source script (task_of j) P → OfSource j held (λ all text. SomeRun all text (task_of j) P)
+of_run (Files j) held source script P is v =
+    of_files j held (λ all text. (source ≡ take (source_limit + 1) all) × (script ≡ take (script_limit + 1) text)) (λ all text. SomeRun all text j.task P)
+    (λ all text read. run_told all text source script j.task P read v) is
+of_run (Generated n) held source script P is v =
+    subst (λ (s : List ℕ). SomeRun s [] (task_of (Generated n)) P) is.0 (subst (λ (s : List ℕ). SomeRun source s (task_of (Generated n)) P) is.1 v)
 
 some_asked : (words : List (List ℕ)) (held : List ℕ → Option (List ℕ)) (j : Job) (source script : List ℕ) (P Q : Answer → Type 0) → ((a : Answer) → P a → Q a) → job words ≡ Some j
-    → IsGiven j held source script → SomeVerdict source script j.task P → SomeAnswer (job words) held Q
-some_asked words held j source script P Q f e is v =
-    subst (λ (o : Option Job). SomeAnswer o held Q) (sym e)
-    (of_files j held (λ all text. (source ≡ take (source_limit + 1) all) × (script ≡ take (script_limit + 1) text)) (λ all text. SomeVerdict all text j.task Q)
-    (λ all text read. verdict_told all text source script j.task P Q f read v) is)
+    → IsSource j held source script → SomeVerdict source script (task_of j) P → SomeAnswer (job words) held Q
+some_asked words held j source script P Q f e is v = subst (λ (o : Option Job). SomeAnswer o held Q) (sym e) (of_verdict j held source script P Q f is v)
 
-some_output : (words : List (List ℕ)) (held : List ℕ → Option (List ℕ)) (j : Job) (source script : List ℕ) (P : List ℕ → Type 0) → job words ≡ Some j
-    → IsGiven j held source script → SomePrinted source script j.task P → SomeOutput (job words) held P
-some_output words held j source script P e is v =
-    subst (λ (o : Option Job). SomeOutput o held P) (sym e)
-    (of_files j held (λ all text. (source ≡ take (source_limit + 1) all) × (script ≡ take (script_limit + 1) text)) (λ all text. SomePrinted all text j.task P)
-    (λ all text read. printed_told all text source script j.task P read v) is)
+some_end : (words : List (List ℕ)) (held : List ℕ → Option (List ℕ)) (j : Job) (source script : List ℕ) (P : State → List (List ℕ) → Type 0) → job words ≡ Some j
+    → IsSource j held source script → SomeRun source script (task_of j) P → SomeEnd (job words) held P
+some_end words held j source script P e is v = subst (λ (o : Option Job). SomeEnd o held P) (sym e) (of_run j held source script P is v)
 
 -- ---- the table
 
@@ -165,22 +209,23 @@ is_none : (o : Option Job) (j : Job) → o ≡ Some j → IsNone o → ⊥
 is_none None j e n = cc
 is_none (Some i) j e n = cc
 
-table_of_answer : (c : Call) (j : Job) (source script : List ℕ) → job c.words ≡ Some j → IsGiven j c.held source script → Answered source script j.task c.out c.report c.status → Table c
+table_of_answer : (c : Call) (j : Job) (source script : List ℕ) → job c.words ≡ Some j → IsSource j c.held source script
+    → Answered source script (task_of j) c.out c.report (kept c) c.hall.new c.status → Table c
 table_of_answer c j source script e is r = record {
   read_fault = λ h. absurd (r.no_read_fault h);
   write_fault = λ h. record {
     cause = r.write_fault h;
     wrote = elim (r.wrote h) [
-      | inl v ↦ inl (some_asked c.words c.held j source script (WroteReport c.out c.report) (WroteReport c.out c.report) (λ a w. w) e is v)
-      | inr p ↦ inr (inl (some_output c.words c.held j source script (WroteOutput c.out c.report) e is p))
+      | inl v ↦ inl (some_asked c.words c.held j source script (WroteReport c.out c.report (kept c) c.hall.new) (WroteReport c.out c.report (kept c) c.hall.new) (λ a w. w) e is v)
+      | inr p ↦ inr (inl (some_end c.words c.held j source script (WroteOutput c.out c.report (kept c) c.hall.new) e is p))
     ];
   };
   no_memory = λ h. record {
     is_job = is_some (job c.words) j e;
-    out = elim (r.printed h) [ inl none ↦ inl none | inr p ↦ inr (some_output c.words c.held j source script (WrotePrefix c.out) e is p) ];
+    out = elim (r.printed h) [ inl none ↦ inl none | inr p ↦ inr (some_end c.words c.held j source script (BeganOutput c.out) e is p) ];
     report = r.no_memory h;
   };
-  every_other = λ not11 not12 not13. some_asked c.words c.held j source script (IsTold c.out c.report c.status) (IsAnswer c)
+  every_other = λ not11 not12 not13. some_asked c.words c.held j source script (IsTold c.out c.report (kept c) c.hall.new c.status) (IsAnswer c)
       (λ a w. record { status = w.status_is; out = w.output; report = w.whole }) e is (r.told not12 not13);
 }
 
@@ -195,7 +240,8 @@ pub complete : (c : Call) → Table c → Complete c
 complete c t = complete_of c t (cases_eq c.status 11) (cases_eq c.status 12) (cases_eq c.status 13)
 
 -- a call that was answered
-pub served_by_answer : (c : Call) (j : Job) (source script : List ℕ) → job c.words ≡ Some j → IsGiven j c.held source script → Answered source script j.task c.out c.report c.status → Served c
+served_by_answer : (c : Call) (j : Job) (source script : List ℕ) → job c.words ≡ Some j → IsSource j c.held source script
+    → Answered source script (task_of j) c.out c.report (kept c) c.hall.new c.status → Served c
 served_by_answer c j source script e is r =
     let t = table_of_answer c j source script e is r in
     record {
@@ -208,21 +254,21 @@ two_apart : (n a b : ℕ) → a < b → n ≡ a → n ≡ b → ⊥
 two_apart n a b lt p q = omega arith
 
 -- a call whose files could not be read
-fault_table : (c : Call) (j : Job) → job c.words ≡ Some j → JobRose (Some j) c.faults_old c.faults_new → c.out.new ≡ c.out.old
+fault_table : (c : Call) (j : Job) → job c.words ≡ Some j → JobRose (Some j) c.faults_old c.faults_new → c.out.new ≡ c.out.old → c.hall.new ≡ kept c
     → (c.status ≢ 12 → (c.status ≡ 11) × Wrote c.report fault_line) → (c.status ≡ 12 → SinkRose c.report × WrotePrefix c.report fault_line) → Table c
-fault_table c j e rose same told lost =
+fault_table c j e rose same stays told lost =
     let cause = subst (λ (o : Option Job). JobRose o c.faults_old c.faults_new) (sym e) rose in
     record {
-      read_fault = λ h. record { cause = cause; out = nothing c.out same; report = (told (λ k. two_apart c.status 11 12 (omega arith) h k)).1 };
-      write_fault = λ h. record { cause = inr (lost h).0; wrote = inr (inr (record { cause = cause; out = nothing c.out same; report = (lost h).1 })) };
+      read_fault = λ h. record { cause = cause; out = nothing c.out same; report = (told (λ k. two_apart c.status 11 12 (omega arith) h k)).1; hall = stays };
+      write_fault = λ h. record { cause = inr (lost h).0; wrote = inr (inr (record { cause = cause; out = nothing c.out same; report = (lost h).1; hall = stays })) };
       no_memory = λ h. absurd (two_apart c.status 11 13 (omega arith) (told (λ k. two_apart c.status 12 13 (omega arith) k h)).0 h);
       every_other = λ not11 not12 not13. absurd (not11 (told not12).0);
     }
 
-pub served_by_fault : (c : Call) (j : Job) → job c.words ≡ Some j → JobRose (Some j) c.faults_old c.faults_new → c.out.new ≡ c.out.old
+served_by_fault : (c : Call) (j : Job) → job c.words ≡ Some j → JobRose (Some j) c.faults_old c.faults_new → c.out.new ≡ c.out.old → c.hall.new ≡ kept c
     → (c.status ≢ 12 → (c.status ≡ 11) × Wrote c.report fault_line) → (c.status ≡ 12 → SinkRose c.report × WrotePrefix c.report fault_line) → Served c
-served_by_fault c j e rose same told lost =
-    let t = fault_table c j e rose same told lost in
+served_by_fault c j e rose same stays told lost =
+    let t = fault_table c j e rose same stays told lost in
     record {
       table = t;
       words = record {
@@ -244,5 +290,79 @@ served_by_nothing c j e is same kept =
     record {
       table = t;
       words = record { only = λ h. absurd (two_apart c.status 10 13 (omega arith) h is); no_job = λ n. absurd (is_none (job c.words) j e n) };
+      complete = complete c t;
+    }
+
+-- ---- those who are kept
+
+kept_is : (c : Call) (j : Job) (mid : List Slot) → job c.words ≡ Some j → mid ≡ filter (is_kept (kinds_of (watched_of j))) c.hall.old → mid ≡ kept c
+kept_is c j mid e is = is ∙ sym (ap (λ (o : Option Job). kept_by o c.hall.old) e)
+
+-- a call that asks for a file
+pub served_by_files : (c : Call) (j : FileJob) (mid : List Slot) → job c.words ≡ Some (Files j) → mid ≡ filter (is_kept (kinds_of j.watched)) c.hall.old
+    → FilesServed j c.held c.faults_old c.faults_new c.out c.report mid c.hall.new c.status → Served c
+served_by_files c j mid e is (WereRead source script given answered) =
+    served_by_answer c (Files j) source script e given
+    (subst (λ (k : List Slot). Answered source script j.task c.out c.report k c.hall.new c.status) (kept_is c (Files j) mid e is) answered)
+served_by_files c j mid e is (WereLost rose same stays told lost) = served_by_fault c (Files j) e rose same (stays ∙ kept_is c (Files j) mid e is) told lost
+served_by_files c j mid e is (HadNoRoom status same kept) = served_by_nothing c (Files j) e status same kept
+
+-- a call that asks for a generated source
+pub served_by_number : (c : Call) (n : ℕ) → job c.words ≡ Some (Generated n)
+    → Answered (source_text n) [] (task_of (Generated n)) c.out c.report (kept_by (Some (Generated n)) c.hall.old) c.hall.new c.status → Served c
+served_by_number c n e answered =
+    served_by_answer c (Generated n) (source_text n) [] e (refl, refl)
+    (subst (λ (k : List Slot). Answered (source_text n) [] (task_of (Generated n)) c.out c.report k c.hall.new c.status)
+    (kept_is c (Generated n) (kept_by (Some (Generated n)) c.hall.old) e refl) answered)
+
+-- words that are no job
+pub job_files : (words : List (List ℕ)) (j : FileJob) → generated words ≡ None → file_job words ≡ Some j → job words ≡ Some (Files j)
+job_files words j none e = ap (λ (o : Option ℕ). either o (file_job words)) none ∙ ap (λ (o : Option FileJob). either None o) e
+
+pub job_none : (words : List (List ℕ)) → generated words ≡ None → file_job words ≡ None → job words ≡ None
+job_none words none e = ap (λ (o : Option ℕ). either o (file_job words)) none ∙ ap (λ (o : Option FileJob). either None o) e
+
+pub job_number : (words : List (List ℕ)) (n : ℕ) → generated words ≡ Some n → job words ≡ Some (Generated n)
+job_number words n e = ap (λ (o : Option ℕ). either o (file_job words)) e
+
+-- ---- words that are no job
+
+is_none_by : (o : Option Job) → o ≡ None → IsNone o
+is_none_by None e = refl
+is_none_by (Some j) e = absurd cc
+
+-- nothing is told, and `words` is the report
+no_report : (c : Call) (P : List ℕ → Type 0) → job c.words ≡ None → c.hall.new ≡ c.hall.old → P words_line → HasReport (kept c) c.hall.new no_job P
+no_report c P e same p = record { told = same ∙ sym (ap (λ (o : Option Job). kept_by o c.hall.old) e); text = words_line; is = refl; holds = p }
+
+none_asked : (c : Call) (P : Answer → Type 0) → job c.words ≡ None → P no_job → SomeAnswer (job c.words) c.held P
+none_asked c P e p = subst (λ (o : Option Job). SomeAnswer o c.held P) (sym e) p
+
+no_job_table : (c : Call) → job c.words ≡ None → c.out.new ≡ c.out.old → c.hall.new ≡ c.hall.old
+    → (c.status ≢ 12 → (c.status ≡ 10) × Wrote c.report words_line) → (c.status ≡ 12 → SinkRose c.report × WrotePrefix c.report words_line) → Table c
+no_job_table c e same stays told lost = record {
+  read_fault = λ h. absurd (two_apart c.status 10 11 (omega arith) (told (λ k. two_apart c.status 11 12 (omega arith) h k)).0 h);
+  write_fault = λ h. record {
+    cause = inr (lost h).0;
+    wrote = inl (none_asked c (WroteReport c.out c.report (kept c) c.hall.new) e
+        (record { whole = nothing c.out same; begun = no_report c (WrotePrefix c.report) e stays (lost h).1 }));
+  };
+  no_memory = λ h. absurd (two_apart c.status 10 13 (omega arith) (told (λ k. two_apart c.status 12 13 (omega arith) k h)).0 h);
+  every_other = λ not11 not12 not13. none_asked c (IsAnswer c) e
+      (record { status = (told not12).0; out = nothing c.out same; report = no_report c (Wrote c.report) e stays (told not12).1 });
+}
+
+no_job_status : (c : Call) → (c.status ≢ 12 → (c.status ≡ 10) × Wrote c.report words_line) → (c.status ≡ 12 → SinkRose c.report × WrotePrefix c.report words_line)
+    → (c.status ≡ 12) ⊎ (c.status ≢ 12) → (c.status ≡ 10) ⊎ ((c.status ≡ 12) × SinkRose c.report)
+no_job_status c told lost (inl is12) = inr (is12, (lost is12).0)
+no_job_status c told lost (inr not12) = inl (told not12).0
+
+pub served_by_no_job : (c : Call) → job c.words ≡ None → c.out.new ≡ c.out.old → c.hall.new ≡ c.hall.old
+    → (c.status ≢ 12 → (c.status ≡ 10) × Wrote c.report words_line) → (c.status ≡ 12 → SinkRose c.report × WrotePrefix c.report words_line) → Served c
+served_by_no_job c e same stays told lost =
+    let t = no_job_table c e same stays told lost in
+    record {
+      table = t;
+      words = record { only = λ h. is_none_by (job c.words) e; no_job = λ n. no_job_status c told lost (cases_eq c.status 12) };
       complete = complete c t;
     }

@@ -1,16 +1,15 @@
 -- What is read of a job's files.
-use Rattle.std.proofs.Common.{◌≡◌, ℕ, zero, suc, ◌+◌, ◌-◌, ◌^◌, ◌<◌, ◌≤◌, min, List, [], ◌∷◌, take, length, Bool, true, false, refl, sym, ap, ◌∙◌, subst, arith}
+use Rattle.std.proofs.Common.{◌≡◌, ℕ, zero, suc, ◌+◌, ◌<◌, ◌≤◌, List, [], ◌∷◌, take, length, Bool, true, false, refl, sym, ap, ◌∙◌, subst, arith}
 use Rattle.std.specs.Prelude.{Option, Some, None, IfSome, IfOk, Result, Ok, Err, option_map, Any, Vec, nat_lt, if◌then◌else◌}
 use Rattle.std.specs.declared.alloc.Global.{Global}
 use Rattle.std.proofs.lemmas.Bool.{lt-ltb, le-ltb}
-use Rattle.std.proofs.lemmas.List.{length-take}
 use Rattle.pv_script.specs.Outside.{Rose}
 use Rattle.pv_script.specs.declared.reading.ReadError.{ReadError}
 use Rattle.pv_serve.specs.declared.serving.Given.{Given}
-use Rattle.pv_serve.specs.Words.{Job, files_of, script_files}
+use Rattle.pv_serve.specs.Words.{FileJob, Files, script_files}
 use Rattle.pv_serve.specs.Comes.{source_limit}
 use Rattle.pv_serve.specs.Judged.{script_limit}
-use Rattle.pv_serve.specs.Answer.{OfFiles, needed, script_held}
+use Rattle.pv_serve.specs.Answer.{needed, script_held}
 use Rattle.pv_serve.specs.Causes.{JobRose}
 use Rattle.pv_serve.specs.Serving.{IsGiven}
 use Rattle.pv_serve.proofs.ComesLemmas.{source_limit_is}
@@ -30,10 +29,10 @@ any_map P Q xs f a = (a.0, a.1, a.2, a.3, f a.1 a.4)
 rose_since : (before between now : ℕ) → before ≤ between → Rose between now → Rose before now
 rose_since before between now le rose = omega arith
 
-pub file_rose : (j : Job) (old new : List ℕ → ℕ) → Rose (old j.file) (new j.file) → JobRose (Some j) old new
+pub file_rose : (j : FileJob) (old new : List ℕ → ℕ) → Rose (old j.file) (new j.file) → JobRose (Some (Files j)) old new
 file_rose j old new rose = any_first (λ n. Rose (old n) (new n)) j.file (script_files j.script) rose
 
-pub script_rose : (j : Job) (old mid new : List ℕ → ℕ) → ((n : List ℕ) → old n ≤ mid n) → Any (λ n. Rose (mid n) (new n)) (script_files j.script) → JobRose (Some j) old new
+pub script_rose : (j : FileJob) (old mid new : List ℕ → ℕ) → ((n : List ℕ) → old n ≤ mid n) → Any (λ n. Rose (mid n) (new n)) (script_files j.script) → JobRose (Some (Files j)) old new
 script_rose j old mid new later any =
     any_later (λ n. Rose (old n) (new n)) j.file (script_files j.script)
     (any_map (λ n. Rose (mid n) (new n)) (λ n. Rose (old n) (new n)) (script_files j.script) (λ n rose. rose_since (old n) (mid n) (new n) (later n) rose) any)
@@ -70,7 +69,7 @@ if_long n long = lt-ltb source_limit n long
 if_short : (n : ℕ) → n ≤ source_limit → nat_lt source_limit n ≡ false
 if_short n short = le-ltb source_limit n short
 
-given_long : (j : Job) (held : List ℕ → Option (List ℕ)) (source : List ℕ) → source_limit < length source → IfSome (held j.file) (λ all. source ≡ take (source_limit + 1) all)
+given_long : (j : FileJob) (held : List ℕ → Option (List ℕ)) (source : List ℕ) → source_limit < length source → IfSome (held j.file) (λ all. source ≡ take (source_limit + 1) all)
     → IsGiven j held source []
 given_long j held source long told = by (held j.file) told
   where
@@ -86,7 +85,7 @@ with_text : (o : Option (List ℕ)) (A : Type 0) (P : List ℕ → Type 0) → A
 with_text None A P a h = tt
 with_text (Some text) A P a h = (a, h)
 
-pub given_short : (j : Job) (held : List ℕ → Option (List ℕ)) (source script : List ℕ) → length source ≤ source_limit → IfSome (held j.file) (λ all. source ≡ take (source_limit + 1) all)
+pub given_short : (j : FileJob) (held : List ℕ → Option (List ℕ)) (source script : List ℕ) → length source ≤ source_limit → IfSome (held j.file) (λ all. source ≡ take (source_limit + 1) all)
     → IfSome (script_held j.script held) (λ text. script ≡ take (script_limit + 1) text) → IsGiven j held source script
 given_short j held source script short told read = by (held j.file) told
   where
@@ -105,13 +104,13 @@ script_same : (script : Option (List ℕ)) (old new : List ℕ → Option (List 
 script_same None old new same = refl
 script_same (Some name) old new same = same name
 
-pub given_same : (j : Job) (old new : List ℕ → Option (List ℕ)) (source script : List ℕ) → ((n : List ℕ) → new n ≡ old n) → IsGiven j new source script → IsGiven j old source script
+pub given_same : (j : FileJob) (old new : List ℕ → Option (List ℕ)) (source script : List ℕ) → ((n : List ℕ) → new n ≡ old n) → IsGiven j new source script → IsGiven j old source script
 given_same j old new source script same given =
     let P : List ℕ → List ℕ → Type 0 = λ all text. (source ≡ take (source_limit + 1) all) × (script ≡ take (script_limit + 1) text) in
     subst (λ (o : Option (List ℕ)). IfSome o (λ all. IfSome (needed all (script_held j.script old)) (P all))) (same j.file)
     (subst (λ (o : Option (List ℕ)). IfSome (new j.file) (λ all. IfSome (needed all o) (P all))) (script_same j.script old new same) given)
 
-pub given_if : (j : Job) (old new : List ℕ → Option (List ℕ)) (r : Result Given ReadError) → ((n : List ℕ) → new n ≡ old n)
+pub given_if : (j : FileJob) (old new : List ℕ → Option (List ℕ)) (r : Result Given ReadError) → ((n : List ℕ) → new n ≡ old n)
     → IfOk r (λ g. IsGiven j new g.source.items g.script.items) → IfOk r (λ g. IsGiven j old g.source.items g.script.items)
 given_if j old new (Ok g) same given = given_same j old new g.source.items g.script.items same given
 given_if j old new (Err e) same given = tt
@@ -137,7 +136,7 @@ pub script_none : {R : Type 0} (view : R → List ℕ) (o : Option R) (held : Li
 script_none {R = R} view o held bytes e none =
     subst (λ (p : Option R). IfSome (script_held (option_map view p) held) (λ all. bytes ≡ take (script_limit + 1) all)) (sym e) (none ∙ no_script)
 
-pub given_none : (j : Job) (held : List ℕ → Option (List ℕ)) (source bytes : List ℕ) → source_limit < length source → bytes ≡ [] → IfSome (held j.file) (λ all. source ≡ take (source_limit + 1) all)
+pub given_none : (j : FileJob) (held : List ℕ → Option (List ℕ)) (source bytes : List ℕ) → source_limit < length source → bytes ≡ [] → IfSome (held j.file) (λ all. source ≡ take (source_limit + 1) all)
     → IsGiven j held source bytes
 given_none j held source bytes long none told = subst (λ (b : List ℕ). IsGiven j held source b) (sym none) (given_long j held source long told)
 

@@ -1,37 +1,39 @@
 -- A source with its script comes to one verdict, or is run; and one byte above a limit tells as much as all that follow.
-use Rattle.std.proofs.Common.{◌≡◌, ◌⊎◌, ℕ, ◌+◌, ◌<◌, ◌≤◌, List, [], take, length, refl, sym, ap, ◌∙◌, subst, arith, inl, inr}
+use Rattle.std.proofs.Common.{◌≡◌, ◌⊎◌, ℕ, ◌≤◌, List, length, refl, sym, ap, ◌∙◌, subst, arith, inl, inr}
 use Rattle.std.proofs.lemmas.Bool.{cases_lt}
 use Rattle.std.specs.Prelude.{Result, Ok, Err, Some}
 use Rattle.pv_script.specs.declared.scripts.ScriptError.{ScriptError}
 use Rattle.pv_script.specs.Lines.{ScriptLine}
 use Rattle.pv_script.specs.Scripts.{script_of}
 use Rattle.pv_typed.specs.TypedUnits.{WholeUnit}
+use Rattle.pv_watch.specs.declared.event.Event.{Event}
 use Rattle.pv_world.specs.Worlds.{Worth}
 use Rattle.pv_eval.specs.States.{Res}
 use Rattle.pv_exec.specs.declared.outcome.Outcome.{Outcome}
 use Rattle.pv_describe.specs.Describing.{check_text, layout_text}
 use Rattle.pv_serve.specs.declared.words.Task.{Task}
 use Rattle.pv_serve.specs.declared.words.Task.TheVariants as task
-use Rattle.pv_serve.specs.Verdicts.{Refusal, Verdict, Ending, Ended, Described, Refused, Size, Script}
+use Rattle.pv_serve.specs.Verdicts.{Refusal, Verdict, Ending, Described, Refused, Size, Script}
 use Rattle.pv_serve.specs.Readings.{Reading, Program, Bad}
 use Rattle.pv_serve.specs.Comes.{Comes, source_limit}
-use Rattle.pv_serve.specs.Judged.{Judged, Oversize, Unread, Unfit, Fit, UnitGives, RunEnds, Ends, IsToRun, IsLeftToRun, BothRun}
+use Rattle.pv_serve.specs.Judged.{Judged, Oversize, Unread, Unfit, Fit, UnitGives, Ends, IsLeftToRun, BothRun}
 use Rattle.pv_serve.proofs.ComesLemmas.{comes_to_one, comes_to_some}
 
 -- ---- one end of a run
 
-abbrev ending : Outcome → ℕ → List ℕ → List (List ℕ) → Ending
-ending o turns output names = record { outcome = o; turns = turns; output = output; names = names }
+abbrev ending : Outcome → ℕ → List ℕ → List Event → List (List ℕ) → Ending
+ending o turns output events names = record { outcome = o; turns = turns; output = output; events = events; names = names }
 
 some_same : {A : Type 0} (x y : A) → Some x ≡ Some y → x ≡ y
 some_same x y e = cc
 
 pub one_end : (run : Res Worth) (names : List (List ℕ)) (e f : Ending) → Ends run names e → Ends run names f → e ≡ f
 one_end run names e f a b =
-    ap (λ (o : Outcome). ending o e.turns e.output e.names) (some_same e.outcome f.outcome (sym a.outcome ∙ b.outcome))
-    ∙ ap (λ (n : ℕ). ending f.outcome n e.output e.names) (a.turns ∙ sym b.turns)
-    ∙ ap (λ (bytes : List ℕ). ending f.outcome f.turns bytes e.names) (a.output ∙ sym b.output)
-    ∙ ap (λ (texts : List (List ℕ)). ending f.outcome f.turns f.output texts) (a.names ∙ sym b.names)
+    ap (λ (o : Outcome). ending o e.turns e.output e.events e.names) (some_same e.outcome f.outcome (sym a.outcome ∙ b.outcome))
+    ∙ ap (λ (n : ℕ). ending f.outcome n e.output e.events e.names) (a.turns ∙ sym b.turns)
+    ∙ ap (λ (bytes : List ℕ). ending f.outcome f.turns bytes e.events e.names) (a.output ∙ sym b.output)
+    ∙ ap (λ (events : List Event). ending f.outcome f.turns f.output events e.names) (a.events ∙ sym b.events)
+    ∙ ap (λ (texts : List (List ℕ)). ending f.outcome f.turns f.output f.events texts) (a.names ∙ sym b.names)
 
 -- ---- some verdict
 

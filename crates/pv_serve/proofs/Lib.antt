@@ -8,3 +8,4 @@ pub mod RunLemmas
 pub mod FilesLemmas
 pub mod CausesLemmas
 pub mod ReportLemmas
+pub mod WatchingLemmas

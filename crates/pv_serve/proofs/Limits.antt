@@ -2,17 +2,16 @@
 use Rattle.std.proofs.Common.{◌≡◌, ℕ, ◌+◌, ◌<◌, ◌≤◌, List, [], take, length, Bool, true, refl, sym, ap, ◌∙◌, subst, arith, inl, inr}
 use Rattle.std.proofs.lemmas.Bool.{cases_lt, lt-ltb}
 use Rattle.std.proofs.lemmas.List.{take_all, length-take}
-use Rattle.std.specs.Prelude.{Result, Ok, Err, Some, None, IfSome, Option, if◌then◌else◌, nat_lt, ◌==◌}
+use Rattle.std.specs.Prelude.{Err, if◌then◌else◌, nat_lt, ◌==◌}
 use Rattle.std.specs.List.{slice_split}
-use Rattle.pv_script.specs.declared.scripts.ScriptError.{ScriptError}
 use Rattle.pv_script.specs.declared.scripts.ScriptError.TheVariants as error
-use Rattle.pv_script.specs.Lines.{ScriptLine}
 use Rattle.pv_script.specs.Scripts.{script_of, all_said, after_lines}
+use Rattle.pv_eval.specs.States.{State}
 use Rattle.pv_serve.specs.declared.words.Task.{Task}
 use Rattle.pv_serve.specs.Verdicts.{Verdict}
 use Rattle.pv_serve.specs.Readings.{Program}
 use Rattle.pv_serve.specs.Comes.{Comes, source_limit}
-use Rattle.pv_serve.specs.Judged.{Judged, Oversize, Unread, Unfit, Fit, Prints, script_limit}
+use Rattle.pv_serve.specs.Judged.{Judged, Oversize, Unread, Unfit, Fit, SomeRun, script_limit}
 
 -- the same for any limit
 long_part : (limit : ℕ) (all : List ℕ) → limit < length all → length (take (limit + 1) all) ≡ limit + 1
@@ -82,8 +81,8 @@ pub fewer_decide : (all text : List ℕ) (t : Task) (v : Verdict) → Judged all
 fewer_decide all text t v judged =
     same_script (take (source_limit + 1) all) text (take (script_limit + 1) text) t v (sym (script_cut text)) (fewer_source all text t v judged)
 
-pub more_prints : (all text : List ℕ) (t : Task) (out : List ℕ) → Prints (take (source_limit + 1) all) (take (script_limit + 1) text) t out → Prints all text t out
-more_prints all text t out p =
+pub more_runs : (all text : List ℕ) (t : Task) (P : State → List (List ℕ) → Type 0) → SomeRun (take (source_limit + 1) all) (take (script_limit + 1) text) t P → SomeRun all text t P
+more_runs all text t P p =
     let short = was_short source_limit all p.job.short in
     record {
       job = record {
@@ -97,5 +96,5 @@ more_prints all text t out p =
       };
       run = p.run;
       runs = p.runs;
-      output = p.output;
+      holds = p.holds;
     }

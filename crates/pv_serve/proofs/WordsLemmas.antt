@@ -5,7 +5,7 @@ use Rattle.std.specs.Char.{is_ascii_digit}
 use Rattle.std.proofs.lemmas.List.{drop_all, take_all}
 use Rattle.std.specs.declared.alloc.Global.{Global}
 use Rattle.std.proofs.lemmas.Bool.Decides.{nat_tests}
-use Rattle.pv_serve.specs.Words.{digits_from, up_to, turns_of, Options, options, with_option, texts}
+use Rattle.pv_serve.specs.Words.{digits_from, up_to, number_to, Options, options, with_option, texts}
 
 if_some : (b : Bool) (o : Option ℕ) (m n : ℕ) → m ≤ n → IfSome o (λ k. n ≤ k) → IfSome (if b then o else None) (λ k. m ≤ k)
 if_some true None m n le h = tt
@@ -26,34 +26,34 @@ one_digit n ds i h =
 pub next_digit : (n : ℕ) (ds : List ℕ) (i : ℕ) (all : Option ℕ) → i < length ds → is_ascii_digit (get_or ds i 0) ≡ true → digits_from n (drop i ds) ≡ all → digits_from (n * 10 + (get_or ds i 0 - 48)) (drop (i + 1) ds) ≡ all
 next_digit n ds i all h is e = sym (one_digit n ds i h ∙ ap (λ b. if b then digits_from (n * 10 + (get_or ds i 0 - 48)) (drop (i + 1) ds) else None) is) ∙ e
 
-turns_is : (ds : List ℕ) → 0 < length ds → get_or ds 0 0 ≢ 48 → turns_of ds ≡ up_to 100000000 (digits_from 0 ds)
-turns_is [] h first = absurd (omega arith)
-turns_is (d ∷ ds) h first = grind arith
+number_is : (most : ℕ) (ds : List ℕ) → 0 < length ds → get_or ds 0 0 ≢ 48 → number_to most ds ≡ up_to most (digits_from 0 ds)
+number_is most [] h first = absurd (omega arith)
+number_is most (d ∷ ds) h first = grind arith
 
-too_large : (o : Option ℕ) (n : ℕ) → 100000000 < n → IfSome o (λ m. n ≤ m) → up_to 100000000 o ≡ None
-too_large None n lt h = refl
-too_large (Some m) n lt h = grind arith
+too_large : (most : ℕ) (o : Option ℕ) (n : ℕ) → most < n → IfSome o (λ m. n ≤ m) → up_to most o ≡ None
+too_large most None n lt h = refl
+too_large most (Some m) n lt h = grind arith
 
-small_enough : (n : ℕ) → n ≤ 100000000 → up_to 100000000 (Some n) ≡ Some n
-small_enough n le = grind arith
+small_enough : (most n : ℕ) → n ≤ most → up_to most (Some n) ≡ Some n
+small_enough most n le = grind arith
 
 -- what is no digit
-pub no_digit : (n : ℕ) (ds : List ℕ) (i : ℕ) → 0 < length ds → get_or ds 0 0 ≢ 48 → i < length ds → is_ascii_digit (get_or ds i 0) ≡ false → digits_from n (drop i ds) ≡ digits_from 0 ds → None ≡ turns_of ds
-no_digit n ds i some first h is e =
+pub no_digit : (most n : ℕ) (ds : List ℕ) (i : ℕ) → 0 < length ds → get_or ds 0 0 ≢ 48 → i < length ds → is_ascii_digit (get_or ds i 0) ≡ false → digits_from n (drop i ds) ≡ digits_from 0 ds → None ≡ number_to most ds
+no_digit most n ds i some first h is e =
     let none : digits_from n (drop i ds) ≡ None = one_digit n ds i h ∙ ap (λ b. if b then digits_from (n * 10 + (get_or ds i 0 - 48)) (drop (i + 1) ds) else None) is in
-    sym (turns_is ds some first ∙ ap (up_to 100000000) (sym e ∙ none))
+    sym (number_is most ds some first ∙ ap (up_to most) (sym e ∙ none))
 
 -- a number that is too large already
-pub no_more_digits : (n : ℕ) (ds : List ℕ) (i : ℕ) → 0 < length ds → get_or ds 0 0 ≢ 48 → 100000000 < n → digits_from n (drop i ds) ≡ digits_from 0 ds → None ≡ turns_of ds
-no_more_digits n ds i some first lt e =
-    sym (turns_is ds some first ∙ (ap (up_to 100000000) (sym e) ∙ too_large (digits_from n (drop i ds)) n lt (grows n (drop i ds))))
+pub no_more_digits : (most n : ℕ) (ds : List ℕ) (i : ℕ) → 0 < length ds → get_or ds 0 0 ≢ 48 → most < n → digits_from n (drop i ds) ≡ digits_from 0 ds → None ≡ number_to most ds
+no_more_digits most n ds i some first lt e =
+    sym (number_is most ds some first ∙ (ap (up_to most) (sym e) ∙ too_large most (digits_from n (drop i ds)) n lt (grows n (drop i ds))))
 
 -- the last digit
-pub all_digits : (n : ℕ) (ds : List ℕ) → 0 < length ds → get_or ds 0 0 ≢ 48 → n ≤ 100000000 → digits_from n (drop (length ds) ds) ≡ digits_from 0 ds → Some n ≡ turns_of ds
-all_digits n ds some first le e =
+pub all_digits : (most n : ℕ) (ds : List ℕ) → 0 < length ds → get_or ds 0 0 ≢ 48 → n ≤ most → digits_from n (drop (length ds) ds) ≡ digits_from 0 ds → Some n ≡ number_to most ds
+all_digits most n ds some first le e =
     let end : drop (length ds) ds ≡ [] = drop_all (length ds) ds (omega arith) in
     let all : digits_from 0 ds ≡ Some n = sym e ∙ ap (digits_from n) end in
-    sym (turns_is ds some first ∙ (ap (up_to 100000000) all ∙ small_enough n le))
+    sym (number_is most ds some first ∙ (ap (up_to most) all ∙ small_enough most n le))
 
 digit_above : (d : ℕ) → is_ascii_digit d ≡ true → d ≢ 48 → 0 < d - 48
 digit_above d is not = grind (arith, nat_tests)
@@ -91,3 +91,9 @@ two_more (v ∷ w ∷ rest) x y a b o p h ex ey ea eb e =
     let given : with_option o (string_bytes v) (string_bytes w) ≡ Some p =
     ap (λ (k : List ℕ). with_option o k (string_bytes w)) (sym first) ∙ ap (λ (k : List ℕ). with_option o a k) (sym second) ∙ e in
     ap (λ (q : Option Options). option_and_then (λ r. options r (texts rest)) q) given ∙ ap (λ (l : List (String Global)). options p (texts l)) (sym (rest_is v w rest))
+
+-- a word that stands alone is no option
+pub one_left : (o : Options) (ws : List (String Global)) → 1 ≤ length ws → length ws < 2 → options o (texts ws) ≡ None
+one_left o [] some few = absurd (omega arith)
+one_left o (w ∷ []) some few = refl
+one_left o (w ∷ v ∷ rest) some few = absurd (omega arith)

@@ -2,9 +2,13 @@
 -- what was written then, and what may have failed. C17 leaves the outside of a program to its implementation (5.1.2.3p7).
 use Rattle.std.specs.Prelude.{◌≡◌, ◌≢◌, ◌⊎◌, ℕ, List, [], Option, Some, None, IsSome, IsNone, Any}
 use Rattle.pv_script.specs.Outside.{Rose, Gains, GainsPrefix}
+use Rattle.pv_watch.specs.Slots.{Slot}
+use Rattle.pv_eval.specs.States.{State}
+use Rattle.pv_exec.specs.Answering.{ToldPart}
 use Rattle.pv_serve.specs.Words.{Job, job, files_of}
 use Rattle.pv_serve.specs.Report.{fault_line}
-use Rattle.pv_serve.specs.Answer.{Answer, SomeAnswer, SomeOutput}
+use Rattle.pv_serve.specs.Watching.{Halls, kept_by}
+use Rattle.pv_serve.specs.Answer.{Answer, HasReport, SomeAnswer, SomeEnd}
 
 -- a sink before and after the call
 pub record Sunk : Type 0 where
@@ -13,7 +17,7 @@ pub record Sunk : Type 0 where
   pub faults_old : ℕ
   pub faults_new : ℕ
 
--- one call: its words, what the files hold under each name with the counts of faults, the two sinks, and the status
+-- one call: its words, what the files hold under each name with the counts of faults, the two sinks, those who watch, and the status
 pub record Call : Type 0 where
   pub words : List (List ℕ)
   pub held : List ℕ → Option (List ℕ)
@@ -21,6 +25,7 @@ pub record Call : Type 0 where
   pub faults_new : List ℕ → ℕ
   pub out : Sunk
   pub report : Sunk
+  pub hall : Halls
   pub status : ℕ
 
 abbrev pub SinkRose : Sunk → Type 0
@@ -40,44 +45,56 @@ Wrote sink bytes = Gains sink.old sink.new bytes
 abbrev pub WrotePrefix : Sunk → List ℕ → Type 0
 WrotePrefix sink bytes = GainsPrefix sink.old sink.new bytes
 
--- all of the output, and a prefix of the report
-pub record WroteReport (out report : Sunk) (a : Answer) : Type 0 where
-  pub whole : Wrote out a.out
-  pub begun : WrotePrefix report a.report
+-- those of the hall whom the job keeps
+abbrev pub kept : Call → List Slot
+kept c = kept_by (job c.words) c.hall.old
 
--- a prefix of the output, and of the report nothing
-pub record WroteOutput (out report : Sunk) (output : List ℕ) : Type 0 where
-  pub begun : WrotePrefix out output
+-- all of the output, and a prefix of the report
+pub record WroteReport (out report : Sunk) (kept new : List Slot) (a : Answer) : Type 0 where
+  pub whole : Wrote out a.out
+  pub begun : HasReport kept new a (WrotePrefix report)
+
+-- a prefix of the output, and of the report nothing; those who watch were told a prefix of the events, each of which came when at most
+-- 4095 bytes more were printed than were written
+pub record WroteOutput (out report : Sunk) (kept new : List Slot) (end : State) (names : List (List ℕ)) : Type 0 where
+  pub part : ToldPart (record { sink = out.old; hall = kept }) (record { sink = out.new; hall = new }) end names
   pub nothing : Wrote report []
+
+-- a prefix of the output
+abbrev pub BeganOutput : (out : Sunk) → State → (names : List (List ℕ)) → Type 0
+BeganOutput out end names = WrotePrefix out end.output
 
 -- status 11
 pub record ReadFault (c : Call) : Type 0 where
   pub cause : FilesRose c
   pub out : Wrote c.out []
   pub report : Wrote c.report fault_line
+  pub hall : c.hall.new ≡ kept c
 
 -- status 12 while `fault read` is written
 pub record LostReadFault (c : Call) : Type 0 where
   pub cause : FilesRose c
   pub out : Wrote c.out []
   pub report : WrotePrefix c.report fault_line
+  pub hall : c.hall.new ≡ kept c
 
 -- status 12
 pub record WriteFault (c : Call) : Type 0 where
   pub cause : SinkRose c.out ⊎ SinkRose c.report
-  pub wrote : SomeAnswer (job c.words) c.held (WroteReport c.out c.report) ⊎ (SomeOutput (job c.words) c.held (WroteOutput c.out c.report) ⊎ LostReadFault c)
+  pub wrote : SomeAnswer (job c.words) c.held (WroteReport c.out c.report (kept c) c.hall.new)
+      ⊎ (SomeEnd (job c.words) c.held (WroteOutput c.out c.report (kept c) c.hall.new) ⊎ LostReadFault c)
 
--- status 13
+-- status 13; of the hall nothing is said
 pub record NoMemory (c : Call) : Type 0 where
   pub is_job : IsSome (job c.words)
-  pub out : Wrote c.out [] ⊎ SomeOutput (job c.words) c.held (WrotePrefix c.out)
+  pub out : Wrote c.out [] ⊎ SomeEnd (job c.words) c.held (BeganOutput c.out)
   pub report : Wrote c.report []
 
 -- any other status
 pub record IsAnswer (c : Call) (a : Answer) : Type 0 where
   pub status : c.status ≡ a.status
   pub out : Wrote c.out a.out
-  pub report : Wrote c.report a.report
+  pub report : HasReport (kept c) c.hall.new a (Wrote c.report)
 
 -- What each status says. The last row holds whatever the counts did.
 pub record Table (c : Call) : Type 0 where

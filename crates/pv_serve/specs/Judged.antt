@@ -1,5 +1,5 @@
 -- What a source with a script of addresses comes to, by the task that is done with it.
-use Rattle.std.specs.Prelude.{◌≡◌, ℕ, ◌<◌, ◌≤◌, List, length, Ok, Err, None, Some}
+use Rattle.std.specs.Prelude.{◌≡◌, ℕ, ◌<◌, ◌≤◌, List, length, map, Ok, Err, None, Some}
 use Rattle.pv_script.specs.declared.scripts.ScriptError.{ScriptError}
 use Rattle.pv_script.specs.Lines.{ScriptLine}
 use Rattle.pv_script.specs.Scripts.{script_of}
@@ -8,9 +8,10 @@ use Rattle.pv_typed.specs.Tables.{Stored, whole}
 use Rattle.pv_typed.specs.Formed.{AreKnown}
 use Rattle.pv_describe.specs.Describing.{check_text, layout_text}
 use Rattle.pv_world.specs.Worlds.{Worth}
-use Rattle.pv_eval.specs.States.{Res}
+use Rattle.pv_eval.specs.States.{Res, State}
 use Rattle.pv_exec.specs.Run.{setting_of, run_of, outcome_of}
 use Rattle.pv_exec.specs.Answering.{end_of}
+use Rattle.pv_exec.specs.Streaming.{event_of}
 use Rattle.pv_serve.specs.declared.words.Task.{Task}
 use Rattle.pv_serve.specs.declared.words.Task.TheVariants as task
 use Rattle.pv_serve.specs.Verdicts.{Refusal, Verdict, Ending, Ended, Described, Refused, Size, Script}
@@ -22,6 +23,7 @@ pub record Ends (run : Res Worth) (texts : List (List ℕ)) (e : Ending) : Type 
   pub outcome : outcome_of run ≡ Some e.outcome
   pub turns : e.turns ≡ (end_of run).taken
   pub output : e.output ≡ (end_of run).output
+  pub events : e.events ≡ map event_of (end_of run).events
   pub names : e.names ≡ texts
 
 -- The run of a unit (5.1.2.3), with its script and the bound on its turns. A run numbers the types of its unit, for the marks that stores
@@ -61,12 +63,12 @@ pub record IsToRun (source script : List ℕ) (t : Task) : Type 0 where
   pub reads : script_of script ≡ Ok lines
   pub comes : Comes source (Program unit)
 
--- what its run prints, whichever way it ends (5.1.2.3p6)
-pub record Prints (source script : List ℕ) (t : Task) (out : List ℕ) : Type 0 where
+-- the source is run, and of the state in which its run ends, with the names of its unit, P holds, whichever way it ends
+pub record SomeRun (source script : List ℕ) (t : Task) (P : State → List (List ℕ) → Type 0) : Type 0 where
   pub job : IsToRun source script t
   pub run : Res Worth
   pub runs : IsRun job.unit job.lines job.bound run
-  pub output : out ≡ (end_of run).output
+  pub holds : P (end_of run) job.unit.names
 
 -- ---- laws
 

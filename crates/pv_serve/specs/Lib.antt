@@ -4,6 +4,7 @@ pub mod Readings
 pub mod Comes
 pub mod Judged
 pub mod Report
+pub mod Watching
 pub mod Judging
 pub mod Answer
 pub mod Causes

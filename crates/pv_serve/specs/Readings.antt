@@ -1,5 +1,5 @@
 -- What a source is, by itself: a program, or why it is none.
-use Rattle.std.specs.Prelude.{ℕ, List, Result, Ok, Err, is_some, IsTrue}
+use Rattle.std.specs.Prelude.{Result, Ok, Err, is_some, IsTrue}
 use Rattle.pv_typed.specs.TypedUnits.{WholeUnit}
 use Rattle.pv_typed.specs.Tables.{Stored, whole}
 use Rattle.pv_typed.specs.Formed.{AreKnown}

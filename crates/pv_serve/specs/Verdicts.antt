@@ -1,6 +1,7 @@
 -- What a source with a script may come to.
-use Rattle.std.specs.Prelude.{ℕ, List}
+use Rattle.std.specs.Prelude.{ℕ, List, Option, Some, None}
 use Rattle.pv_script.specs.declared.scripts.ScriptError.{ScriptError}
+use Rattle.pv_watch.specs.declared.event.Event.{Event}
 use Rattle.pv_exec.specs.declared.outcome.Outcome.{Outcome}
 
 -- Why a source has no run: its size (5.2.4.1), its least lexical fault, which is a byte (5.2.1), a token (6.4) or a
@@ -18,12 +19,13 @@ pub data Refusal : Type 0 where
   Unresolved : (name : List ℕ) → Refusal
   NoMain : Refusal
 
--- How a run ended (5.1.2.2.3, 3.4.3, 3.19.2, its turns, its storage), how many turns it took, what it printed (5.1.2.3p6), and
--- the names of its unit.
+-- How a run ended (5.1.2.2.3, 3.4.3, 3.19.2, its turns, its storage), how many turns it took, what it printed (5.1.2.3p6), what
+-- happened in its memory, and the names of its unit.
 pub record Ending : Type 0 where
   pub outcome : Outcome
   pub turns : ℕ
   pub output : List ℕ
+  pub events : List Event
   pub names : List (List ℕ)
 
 -- What a source comes to: a run with a bound on its turns that ended, a text that describes it, or a refusal of the source or of its script.
@@ -32,3 +34,15 @@ pub data Verdict : Type 0 where
   Described : (text : List ℕ) → Verdict
   Refused : (refusal : Refusal) → Verdict
   Script : (why : ScriptError) → Verdict
+
+-- What those who watch are told of a run: what happened in its memory, and the names of its unit.
+pub record Course : Type 0 where
+  pub events : List Event
+  pub names : List (List ℕ)
+
+-- A source that is refused or described has no run.
+abbrev pub course_of : Verdict → Option Course
+course_of (Ended e bound) = Some (record { events = e.events; names = e.names })
+course_of (Described text) = None
+course_of (Refused refusal) = None
+course_of (Script why) = None

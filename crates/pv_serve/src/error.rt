@@ -28,3 +28,9 @@ impl<T: Drop> From<AllocFailed<T>> for NoMemory {
         NoMemory
     }
 }
+
+impl From<pv_watch::NoMemory> for NoMemory {
+    fn from(_: pv_watch::NoMemory) -> Self {
+        NoMemory
+    }
+}

@@ -1,17 +1,20 @@
 //! What a source comes to: it is run, or described, or refused.
-ghost use Rattle.std.specs.Prelude.{◌^◌, ◌≡◌, ◌+◌, ◌≤◌, ◌⊎◌, ℕ, List, [], length, take, None, Result, Ok, Err, IfOk, IfErr};
+ghost use Rattle.std.specs.Prelude.{◌^◌, ◌≡◌, ◌<◌, ◌≤◌, ◌+◌, ◌++◌, ◌⊎◌, ⊤, ℕ, List, [], length, take, None, Some, Result, Ok, Err, IfOk, IfErr};
+ghost use Rattle.std.specs.List.{flat_map};
 ghost use Rattle.pv_script.specs.Lines.{ScriptLine};
 ghost use Rattle.pv_script.specs.Scripts.{script_of, OrNoMemory};
 ghost use Rattle.pv_script.specs.declared.scripts.ScriptError.{ScriptError};
+ghost use Rattle.pv_watch.specs.Slots.{Slot};
 ghost use Rattle.pv_typed.specs.Tables.{Stored, whole};
-ghost use Rattle.pv_exec.specs.Answering.{hall_slots};
+ghost use Rattle.pv_exec.specs.Answering.{hall_slots, outlet};
 ghost use Rattle.pv_exec.specs.Run.{setting_of, run_of};
 ghost use Rattle.pv_serve.specs.Words.{IsTask, IsBound};
-ghost use Rattle.pv_serve.specs.Verdicts.{Verdict, Ending, Described};
+ghost use Rattle.pv_serve.specs.Verdicts.{Verdict, Ending, Described, Course};
 ghost use Rattle.pv_serve.specs.Readings.{IsFit};
 ghost use Rattle.pv_serve.specs.Comes.{source_limit};
 ghost use Rattle.pv_serve.specs.Judged.{Judged, Ends, IsLeftToRun, BothRun, script_limit};
-ghost use Rattle.pv_serve.specs.Judging.{IsJudged, IsCutOff, IsScriptRefused, verdict_of, UnitJudged, UnitCutOff, HasFault, StayNone};
+ghost use Rattle.pv_serve.specs.Judging.{IsJudged, IsCutOff, IsScriptRefused, nothing_shown, verdict_of, UnitJudged, UnitCutOff, HasFault};
+ghost use Rattle.pv_serve.specs.Watching.{AreFresh, AreTold, IsReport, stories};
 
 use crate::NoMemory;
 use crate::checking::{Refused, SOURCE_LIMIT, typed};
@@ -42,7 +45,8 @@ pub enum Judgement {
     Script(ScriptError),
 }
 
-/// Judges a source with a script of addresses: runs it, or describes it. What the run prints goes to `out`.
+/// Judges a source with a script of addresses: runs it, or describes it. What the run prints goes to `out`, and those in the hall are told
+/// of its memory.
 ///
 /// A source that is too long is refused before its script is read, the script before the source is.
 pub fn judge<O: Sink>(
@@ -54,10 +58,9 @@ pub fn judge<O: Sink>(
     hall: &mut Hall,
 ) -> Result<Judgement, RunError>
     requires { IsTask task }
-    ensures judged { IfOk result (IsJudged source.now script.now task (O.written out.old) (O.written out.new)) }
-    ensures part { IfErr result (IsCutOff source.now script.now task (O.written out.old) (O.written out.new)) }
+    ensures judged { IfOk result (IsJudged source.now script.now task (outlet (O.written out.old) hall.old its_kind its_wants seen) (outlet (O.written out.new) hall.new its_kind its_wants seen)) }
+    ensures part { IfErr result (IsCutOff source.now script.now task (outlet (O.written out.old) hall.old its_kind its_wants seen) (outlet (O.written out.new) hall.new its_kind its_wants seen)) }
     ensures cause { HasFault result (O.faults out.old) (O.faults out.new) }
-    ensures hall { StayNone result (hall_slots hall.old its_kind its_wants seen) (hall_slots hall.new its_kind its_wants seen) }
 {
     if source.len() > SOURCE_LIMIT {
         return Ok(Judgement::Source(Refused::Size));
@@ -90,10 +93,9 @@ fn judge_source<O: Sink>(
 ) -> Result<Judgement, RunError>
     requires length { length source.now ≤ 2 ^ 20 }
     requires task { IsTask task }
-    ensures judged { (script : List ℕ) → script_of script ≡ Ok lines → IfOk result (IsJudged source.now script task (O.written out.old) (O.written out.new)) }
-    ensures part { (script : List ℕ) → script_of script ≡ Ok lines → IfErr result (IsCutOff source.now script task (O.written out.old) (O.written out.new)) }
+    ensures judged { (script : List ℕ) → script_of script ≡ Ok lines → IfOk result (IsJudged source.now script task (outlet (O.written out.old) hall.old its_kind its_wants seen) (outlet (O.written out.new) hall.new its_kind its_wants seen)) }
+    ensures part { (script : List ℕ) → script_of script ≡ Ok lines → IfErr result (IsCutOff source.now script task (outlet (O.written out.old) hall.old its_kind its_wants seen) (outlet (O.written out.new) hall.new its_kind its_wants seen)) }
     ensures cause { HasFault result (O.faults out.old) (O.faults out.new) }
-    ensures hall { StayNone result (hall_slots hall.old its_kind its_wants seen) (hall_slots hall.new its_kind its_wants seen) }
 {
     match typed(alloc, source) {
         Ok(Ok(unit)) => judge_unit(alloc, unit, lines, task, out, hall),
@@ -113,10 +115,9 @@ fn judge_unit<O: Sink>(
 ) -> Result<Judgement, RunError>
     requires fit { IsFit unit }
     requires task { IsTask task }
-    ensures judged { IfOk result (UnitJudged (whole unit) lines task (O.written out.old) (O.written out.new)) }
-    ensures part { IfErr result (UnitCutOff (whole unit) lines task (O.written out.old) (O.written out.new)) }
+    ensures judged { IfOk result (UnitJudged (whole unit) lines task (outlet (O.written out.old) hall.old its_kind its_wants seen) (outlet (O.written out.new) hall.new its_kind its_wants seen)) }
+    ensures part { IfErr result (UnitCutOff (whole unit) lines task (outlet (O.written out.old) hall.old its_kind its_wants seen) (outlet (O.written out.new) hall.new its_kind its_wants seen)) }
     ensures cause { HasFault result (O.faults out.old) (O.faults out.new) }
-    ensures hall { StayNone result (hall_slots hall.old its_kind its_wants seen) (hall_slots hall.new its_kind its_wants seen) }
 {
     match task {
         Task::Run { bound } => run_unit(alloc, unit, lines, bound, out, hall),
@@ -127,7 +128,7 @@ fn judge_unit<O: Sink>(
 
 // A unit is described by this text.
 fn described(text: Result<Vec<u8>, pv_types::NoMemory>) -> Result<Judgement, RunError>
-    ensures described { (want : List ℕ) → IfOk text (λ v. v.items ≡ want) → IfOk result (λ j. verdict_of j [] ≡ Described want) }
+    ensures described { (want : List ℕ) → IfOk text (λ v. v.items ≡ want) → IfOk result (λ j. verdict_of j nothing_shown ≡ Described want) }
     ensures memory { IfErr result (λ e. e ≡ RunError.NoMemory) }
 {
     match text {
@@ -147,10 +148,9 @@ fn run_unit<O: Sink>(
 ) -> Result<Judgement, RunError>
     requires fit { IsFit unit }
     requires bound { IsBound bound }
-    ensures judged { IfOk result (UnitJudged (whole unit) lines (Task.Run bound) (O.written out.old) (O.written out.new)) }
-    ensures part { IfErr result (UnitCutOff (whole unit) lines (Task.Run bound) (O.written out.old) (O.written out.new)) }
+    ensures judged { IfOk result (UnitJudged (whole unit) lines (Task.Run bound) (outlet (O.written out.old) hall.old its_kind its_wants seen) (outlet (O.written out.new) hall.new its_kind its_wants seen)) }
+    ensures part { IfErr result (UnitCutOff (whole unit) lines (Task.Run bound) (outlet (O.written out.old) hall.old its_kind its_wants seen) (outlet (O.written out.new) hall.new its_kind its_wants seen)) }
     ensures cause { HasFault result (O.faults out.old) (O.faults out.new) }
-    ensures hall { StayNone result (hall_slots hall.old its_kind its_wants seen) (hall_slots hall.new its_kind its_wants seen) }
 {
     match run(alloc, &unit, lines, bound, None, out, hall) {
         Ok(ran) => Ok(Judgement::Ran { ran, unit, bound }),
@@ -176,4 +176,10 @@ pub fn first_bytes_decide()
         Judged (take (source_limit + 1) all) (take (script_limit + 1) text) t v → Judged all text t v }
     ensures fewer { (all text : List ℕ) (t : Task) (v : Verdict) →
         Judged all text t v → Judged (take (source_limit + 1) all) (take (script_limit + 1) text) t v }
+{}
+
+/// A law: watchers that had seen nothing before a run say behind its line, in their order, each the text of its kind over the first
+/// events, as many as it wants.
+pub fn watchers_tell()
+    ensures { (kept new : List Slot) (c : Course) (line text : List ℕ) → AreFresh kept → AreTold (Some c) kept new → IsReport (Some c) new line text → text ≡ line ++ stories c kept }
 {}

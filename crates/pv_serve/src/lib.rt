@@ -17,4 +17,4 @@ pub use error::NoMemory;
 pub use judging::{Judgement, judge};
 pub use report::{line, status};
 pub use serving::{NO_MEMORY, serve, serve_calmly};
-pub use words::Task;
+pub use words::{Task, Watched};

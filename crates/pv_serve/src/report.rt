@@ -3,7 +3,7 @@ ghost use Rattle.std.specs.Prelude.{◌≡◌, ◌<◌, ◌⊎◌, List, ℕ, If
 ghost use Rattle.pv_script.specs.Names.{name_at};
 ghost use Rattle.pv_serve.specs.Report as specified;
 ghost use Rattle.pv_serve.specs.Readings.{refusal_of};
-ghost use Rattle.pv_serve.specs.Judging.{verdict_of};
+ghost use Rattle.pv_serve.specs.Judging.{Shown, verdict_of};
 
 use crate::NoMemory;
 use crate::checking::Refused;
@@ -15,7 +15,7 @@ use std::alloc::Global;
 
 /// The status of a judgement.
 pub fn status(judgement: &Judgement) -> u8
-    ensures value { (printed : List ℕ) → result ≡ specified.status_of (verdict_of judgement.now printed) }
+    ensures value { (shown : Shown) → result ≡ specified.status_of (verdict_of judgement.now shown) }
     ensures own { (result < 10) ⊎ (result ≡ 14) }
 {
     match judgement {
@@ -47,7 +47,7 @@ fn run_status(outcome: Outcome) -> u8
 /// The line that tells a judgement, with its line feed; of a source that is described, its text. The only error is want
 /// of memory.
 pub fn line(alloc: Global, judgement: &Judgement) -> Result<Vec<u8>, NoMemory>
-    ensures { (printed : List ℕ) → IfOk result (λ v. v.items ≡ specified.report_line (verdict_of judgement.now printed)) }
+    ensures { (shown : Shown) → IfOk result (λ v. v.items ≡ specified.report_line (verdict_of judgement.now shown)) }
 {
     match judgement {
         Judgement::Ran { ran, unit, bound } => run_line(alloc, ran, unit.names(), *bound),

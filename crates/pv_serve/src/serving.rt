@@ -1,21 +1,28 @@
 // The top call: what one call of the program does from its words to its status.
-ghost use Rattle.std.specs.Prelude.{◌≡◌, ◌≢◌, ◌⊎◌, ◌+◌, ℕ, [], List, take, Some, IfSome, option_map, Any, IsNone, IfOk, IsErrOf};
+ghost use Rattle.std.specs.Prelude.{◌≡◌, ◌≢◌, ◌⊎◌, ◌+◌, ◌<◌, ◌≤◌, ⊤, ℕ, [], List, take, Some, IfSome, option_map, Any, IsNone, IfOk, OnOk, IsErrOf};
+ghost use Rattle.std.specs.List.{filter};
 ghost use Rattle.pv_script.specs.Outside.{Rose, Gains, GainsPrefix};
-ghost use Rattle.pv_serve.specs.Words.{IsTask, texts, job as job_of, job_by, script_files};
+ghost use Rattle.pv_watch.specs.Slots.{is_kept};
+ghost use Rattle.pv_gen.specs.Source.{source_text};
+ghost use Rattle.pv_exec.specs.Answering.{hall_slots};
+ghost use Rattle.pv_serve.specs.Words.{IsTask, texts, file_job as file_job_of, job as job_of, job_by, Files as JobOfFiles, Generated, script_files, kinds_of, watched_of, default_turns};
 ghost use Rattle.pv_serve.specs.Comes.{source_limit};
 ghost use Rattle.pv_serve.specs.Judged.{script_limit};
 ghost use Rattle.pv_serve.specs.Answer.{SomeAnswer, script_held};
 ghost use Rattle.pv_serve.specs.Causes.{Call, Served, IsAnswer, JobRose};
-ghost use Rattle.pv_serve.specs.Serving.{Answered, Reported, IsGiven, sunk};
+ghost use Rattle.pv_serve.specs.Watching.{kept_by};
+ghost use Rattle.pv_serve.specs.Serving.{Answered, FilesServed, HasStory, Reported, IsGiven, IsReportOn, sunk};
 ghost use Rattle.pv_script.specs.Memory.{calm_held, calm_written};
 
+use crate::NoMemory;
 use crate::checking::SOURCE_LIMIT;
 use crate::judging::{Judgement, judge};
 use crate::report::{line, status};
-use crate::words::{Asked, Task, job};
+use crate::words::{Asked, COUNTED, DEFAULT_TURNS, Task, Watched, file_job, generated, kinds_of};
 use pv_exec::RunError;
-use pv_script::{CalmFiles, CalmSink, Files, ReadError, Sink, read_all, write_all};
-use pv_watch::Hall;
+use pv_gen::source;
+use pv_script::{CalmFiles, CalmSink, Files, Names, ReadError, Sink, read_all, write_all};
+use pv_watch::{Hall, Watch};
 use std::alloc::Global;
 
 const NO_JOB: u8 = 10;
@@ -32,8 +39,12 @@ const SCRIPT_LIMIT: usize = 65_536;
 
 /// Does all that the program does, and answers its status.
 ///
-/// The words are those behind the program's name. The program's output goes to `out`, and one line to `report` once
-/// all output is written; the line is made whole before its first byte goes out.
+/// The words are those behind the program's name. The program's output goes to `out`, and the report to `report` once
+/// all output is written; it is made whole before its first byte goes out: a line, and behind that of a run the texts of those in the hall.
+/// Of the hall those are kept whose kind the words ask for (`gen` keeps the count of events); they are told what happens in the run's memory.
+/// Where the words are no job the hall stays as it is, and where memory ran out it is not used again.
+///
+/// The premise on the hall asks for nothing: by it the proof is one for whatever watchers a caller puts there.
 ///
 /// | status | when |
 /// |---|---|
@@ -58,7 +69,9 @@ pub fn serve<F: Files, O: Sink, R: Sink>(
     files: &mut F,
     out: &mut O,
     report: &mut R,
+    hall: &mut Hall,
 ) -> u8
+    requires hall { ⊤ }
     ensures served { let call : Call = record {
       words = texts words.now;
       held = F.held files.old;
@@ -76,16 +89,83 @@ pub fn serve<F: Files, O: Sink, R: Sink>(
         faults_old = R.faults report.old;
         faults_new = R.faults report.new;
       };
+      hall = record {
+        old = hall_slots hall.old its_kind its_wants seen;
+        new = hall_slots hall.new its_kind its_wants seen;
+      };
       status = result;
     } in Served call }
     ensures files_same { (n : List ℕ) → F.held files.new n ≡ F.held files.old n }
 
-    // Where the words are no job, no file is read.
-    ensures unread { IsNone (job_of (texts words.now)) → files.new ≡ files.old }
+    // Where the words are no job, or a source is generated, no file is read.
+    ensures unread { IsNone (file_job_of (texts words.now)) → files.new ≡ files.old }
 {
-    let Some(asked) = job(words) else {
+    if let Some(number) = generated(words) {
+        return run_generated(alloc, number, out, report, hall);
+    }
+    let Some(asked) = file_job(words) else {
         return tell(report, b"words\n", NO_JOB);
     };
+    match keep(alloc, asked.watched, hall) {
+        Ok(()) => run_files(alloc, asked, files, out, report, hall),
+        Err(_) => NO_MEMORY,
+    }
+}
+
+// Keeps those of the hall who are wanted.
+fn keep(alloc: Global, watched: Watched, hall: &mut Hall) -> Result<(), NoMemory>
+    requires hall { ⊤ }
+    ensures { OnOk result (hall_slots hall.new its_kind its_wants seen ≡ filter (is_kept (kinds_of watched)) (hall_slots hall.old its_kind its_wants seen)) }
+{
+    let kinds = kinds_of(alloc, watched)?;
+    hall.keep(kinds.as_slice());
+    Ok(())
+}
+
+// Runs the generated source of this number, before the count of its events.
+fn run_generated<O: Sink, R: Sink>(
+    alloc: Global,
+    number: u32,
+    out: &mut O,
+    report: &mut R,
+    hall: &mut Hall,
+) -> u8
+    requires number { (0 < number) × (number ≤ 8192) }
+    ensures { Answered (source_text number) [] (Task.Run default_turns)
+        (sunk (O.written out.old) (O.written out.new) (O.faults out.old) (O.faults out.new))
+        (sunk (R.written report.old) (R.written report.new) (R.faults report.old) (R.faults report.new))
+        (kept_by (Some (Generated number)) (hall_slots hall.old its_kind its_wants seen)) (hall_slots hall.new its_kind its_wants seen) result }
+{
+    match keep(alloc, COUNTED, hall) {
+        Ok(()) => {}
+        Err(_) => return NO_MEMORY,
+    }
+    let task = Task::Run {
+        bound: DEFAULT_TURNS,
+    };
+    match source(alloc, number) {
+        Ok(text) => answer(alloc, text.as_slice(), b"", task, out, report, hall),
+        Err(_) => NO_MEMORY,
+    }
+}
+
+// Does what is asked of a file, before those who are kept in the hall.
+fn run_files<F: Files, O: Sink, R: Sink>(
+    alloc: Global,
+    asked: Asked<'_>,
+    files: &mut F,
+    out: &mut O,
+    report: &mut R,
+    hall: &mut Hall,
+) -> u8
+    requires task { IsTask asked.task }
+    ensures served { FilesServed (job_by (λ s. s.now) asked.entry.file.now asked.entry.script asked.entry.task asked.entry.watched)
+        (F.held files.old) (F.faults files.old) (F.faults files.new)
+        (sunk (O.written out.old) (O.written out.new) (O.faults out.old) (O.faults out.new))
+        (sunk (R.written report.old) (R.written report.new) (R.faults report.old) (R.faults report.new))
+        (hall_slots hall.old its_kind its_wants seen) (hall_slots hall.new its_kind its_wants seen) result }
+    ensures files_same { (n : List ℕ) → F.held files.new n ≡ F.held files.old n }
+{
     match read_given(alloc, files, asked) {
         Err(ReadError::NoMemory) => NO_MEMORY,
         Err(ReadError::Fault) => tell(report, b"fault read\n", READ_FAULT),
@@ -96,6 +176,7 @@ pub fn serve<F: Files, O: Sink, R: Sink>(
             asked.task,
             out,
             report,
+            hall,
         ),
     }
 }
@@ -109,10 +190,10 @@ struct Given {
 
 // Reads a job's files.
 fn read_given<F: Files>(alloc: Global, files: &mut F, asked: Asked<'_>) -> Result<Given, ReadError>
-    ensures read { IfOk result (λ g. IsGiven (job_by (λ s. s.now) asked.entry.file.now asked.entry.script asked.entry.task) (F.held files.old) g.source.items g.script.items) }
+    ensures read { IfOk result (λ g. IsGiven (job_by (λ s. s.now) asked.entry.file.now asked.entry.script asked.entry.task asked.entry.watched) (F.held files.old) g.source.items g.script.items) }
     ensures same { (n : List ℕ) → F.held files.new n ≡ F.held files.old n }
     ensures cause { IsErrOf result ReadError.Fault →
-        JobRose (Some (job_by (λ s. s.now) asked.entry.file.now asked.entry.script asked.entry.task)) (F.faults files.old) (F.faults files.new) }
+        JobRose (Some (JobOfFiles (job_by (λ s. s.now) asked.entry.file.now asked.entry.script asked.entry.task asked.entry.watched))) (F.faults files.old) (F.faults files.new) }
 {
     match read_all(alloc, files, asked.file, SOURCE_LIMIT) {
         Ok(source) => with_script(alloc, files, asked, source),
@@ -128,7 +209,7 @@ fn with_script<F: Files>(
     source: Vec<u8>,
 ) -> Result<Given, ReadError>
     requires { IfSome (F.held files.old asked.file.now) (λ all. source.items ≡ take (source_limit + 1) all) }
-    ensures read { IfOk result (λ g. IsGiven (job_by (λ s. s.now) asked.entry.file.now asked.entry.script asked.entry.task) (F.held files.old) g.source.items g.script.items) }
+    ensures read { IfOk result (λ g. IsGiven (job_by (λ s. s.now) asked.entry.file.now asked.entry.script asked.entry.task asked.entry.watched) (F.held files.old) g.source.items g.script.items) }
     ensures same { (n : List ℕ) → F.held files.new n ≡ F.held files.old n }
     ensures cause { IsErrOf result ReadError.Fault →
         Any (λ n. Rose (F.faults files.old n) (F.faults files.new n)) (script_files (option_map (λ s. s.now) asked.entry.script)) }
@@ -160,28 +241,8 @@ fn script_given<F: Files>(
     }
 }
 
-// Judges a source with its script, and reports. No option asks for a watcher yet, so nobody sits in the hall.
+// Judges a source with its script before those who watch, and reports.
 fn answer<O: Sink, R: Sink>(
-    alloc: Global,
-    source: &[u8],
-    script: &[u8],
-    task: Task,
-    out: &mut O,
-    report: &mut R,
-) -> u8
-    requires { IsTask task }
-    ensures { Answered source.now script.now task
-        (sunk (O.written out.old) (O.written out.new) (O.faults out.old) (O.faults out.new))
-        (sunk (R.written report.old) (R.written report.new) (R.faults report.old) (R.faults report.new)) result }
-{
-    match Hall::new(alloc, Vec::new(alloc)) {
-        Ok(mut hall) => answer_in(alloc, source, script, task, out, report, &mut hall),
-        Err(_) => NO_MEMORY,
-    }
-}
-
-// The same before those who sit in the hall.
-fn answer_in<O: Sink, R: Sink>(
     alloc: Global,
     source: &[u8],
     script: &[u8],
@@ -193,23 +254,48 @@ fn answer_in<O: Sink, R: Sink>(
     requires { IsTask task }
     ensures { Answered source.now script.now task
         (sunk (O.written out.old) (O.written out.new) (O.faults out.old) (O.faults out.new))
-        (sunk (R.written report.old) (R.written report.new) (R.faults report.old) (R.faults report.new)) result }
+        (sunk (R.written report.old) (R.written report.new) (R.faults report.old) (R.faults report.new))
+        (hall_slots hall.old its_kind its_wants seen) (hall_slots hall.new its_kind its_wants seen) result }
 {
     match judge(alloc, source, script, task, out, hall) {
         Err(RunError::NoMemory) => NO_MEMORY,
         Err(RunError::WriteFault) => WRITE_FAULT,
-        Ok(judgement) => told(alloc, &judgement, report),
+        Ok(judgement) => told(alloc, &judgement, report, hall),
     }
 }
 
-// Reports a judgement, by a line that is made whole first.
-fn told<R: Sink>(alloc: Global, judgement: &Judgement, report: &mut R) -> u8
-    ensures { Reported judgement.now (sunk (R.written report.old) (R.written report.new) (R.faults report.old) (R.faults report.new)) result }
+// Reports a judgement, by a text that is made whole first.
+fn told<R: Sink>(alloc: Global, judgement: &Judgement, report: &mut R, hall: &Hall) -> u8
+    ensures { Reported judgement.now (hall_slots hall.now its_kind its_wants seen)
+        (sunk (R.written report.old) (R.written report.new) (R.faults report.old) (R.faults report.new)) result }
 {
-    match line(alloc, judgement) {
+    match report_of(alloc, judgement, hall) {
         Err(_) => NO_MEMORY,
         Ok(text) => tell(report, text.as_slice(), status(judgement)),
     }
+}
+
+// The line of a judgement, and behind that of a run the texts of those who watched it.
+fn report_of(alloc: Global, judgement: &Judgement, hall: &Hall) -> Result<Vec<u8>, NoMemory>
+    ensures { IfOk result (λ v. IsReportOn judgement.now (hall_slots hall.now its_kind its_wants seen) v.items) }
+{
+    let text = line(alloc, judgement)?;
+    match judgement {
+        Judgement::Ran { unit, .. } => with_story(text, unit.names(), hall),
+        Judgement::Described { .. } => Ok(text),
+        Judgement::Source(_) => Ok(text),
+        Judgement::Script(_) => Ok(text),
+    }
+}
+
+// A line, and behind it the texts of those who watched.
+fn with_story(line: Vec<u8>, names: &Names, hall: &Hall) -> Result<Vec<u8>, NoMemory>
+    ensures { IfOk result (λ v. HasStory names.now (hall_slots hall.now its_kind its_wants seen) line.items v.items) }
+{
+    let mut text = line;
+    let story = hall.texts(names)?;
+    text.extend_from_slice(story.as_slice())?;
+    Ok(text)
 }
 
 // Writes a line of the report.
@@ -233,7 +319,9 @@ pub fn serve_calmly(
     files: &mut CalmFiles,
     out: &mut CalmSink,
     report: &mut CalmSink,
+    hall: &mut Hall,
 ) -> u8
+    requires hall { ⊤ }
     ensures { let call : Call = record {
       words = texts words.now;
       held = λ n. Some (calm_held files.old n);
@@ -251,8 +339,12 @@ pub fn serve_calmly(
         faults_old = 0;
         faults_new = 0;
       };
+      hall = record {
+        old = hall_slots hall.old its_kind its_wants seen;
+        new = hall_slots hall.new its_kind its_wants seen;
+      };
       status = result;
     } in (result ≡ 13) ⊎ SomeAnswer (job_of call.words) call.held (IsAnswer call) }
 {
-    serve(alloc, words, files, out, report)
+    serve(alloc, words, files, out, report, hall)
 }

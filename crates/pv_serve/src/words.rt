@@ -1,14 +1,19 @@
 // The words of the command line (C17 5.1.2.2.1).
-ghost use Rattle.std.specs.Prelude.{◌≡◌, ◌<◌, ◌≤◌, ◌&&◌, nat_lt, length, codes, Some, None, MatchOption, IfSome, string_bytes};
+ghost use Rattle.std.specs.Prelude.{◌≡◌, ◌<◌, ◌≤◌, ◌&&◌, ◌++◌, nat_lt, length, codes, Some, None, MatchOption, IfSome, OnOk, IfOk, string_bytes};
 ghost use Rattle.std.specs.Str.{bytes_eq};
 ghost use Rattle.pv_serve.specs.Words as specified;
-ghost use Rattle.pv_serve.specs.Words.{IsTask, AreBounded};
+ghost use Rattle.pv_serve.specs.Words.{IsTask, AreBounded, if_wanted, kinds_of};
+
+use std::alloc::{AllocError, Global};
 
 // The largest value of `--turns`.
 const MOST_TURNS: u64 = 100_000_000;
 
-// The turns of a run whose words do not say.
-const DEFAULT_TURNS: u64 = 1_000_000;
+/// The turns of a run whose words do not say.
+pub const DEFAULT_TURNS: u64 = 1_000_000;
+
+// The largest number of a generated source.
+const MOST_GENERATED: u64 = 8_192;
 
 /// What is to be done with a source.
 #[derive(Clone, Copy)]
@@ -21,7 +26,50 @@ pub enum Task {
     Layout,
 }
 
-/// A job: a task, the file that holds the source, and the file that holds the script of addresses, if there is one.
+/// Which watchers a run is told to: the story of its fault, the count of its events, the life of each of its pairs.
+#[derive(Clone, Copy)]
+pub struct Watched {
+    pub explain: bool,
+    pub census: bool,
+    pub pointers: bool,
+}
+
+// None of them.
+const NOBODY: Watched = Watched {
+    explain: false,
+    census: false,
+    pointers: false,
+};
+
+/// The count of events alone.
+pub const COUNTED: Watched = Watched {
+    explain: false,
+    census: true,
+    pointers: false,
+};
+
+// A kind more in a list, if it is wanted.
+fn add_wanted(kinds: &mut Vec<u8>, wanted: bool, kind: u8) -> Result<(), AllocError>
+    ensures { OnOk result (kinds.new.items ≡ kinds.old.items ++ if_wanted wanted kind) }
+{
+    if wanted {
+        kinds.push(kind)?;
+    }
+    Ok(())
+}
+
+/// Their kinds, by which a hall knows them.
+pub fn kinds_of(alloc: Global, watched: Watched) -> Result<Vec<u8>, AllocError>
+    ensures { IfOk result (λ v. v.items ≡ kinds_of watched) }
+{
+    let mut kinds = Vec::new(alloc);
+    add_wanted(&mut kinds, watched.explain, 1)?;
+    add_wanted(&mut kinds, watched.census, 2)?;
+    add_wanted(&mut kinds, watched.pointers, 3)?;
+    Ok(kinds)
+}
+
+/// What is asked of a file: a task, the file that holds the source, the file that holds the script of addresses, if there is one, and watchers.
 #[derive(Clone, Copy)]
 pub struct Asked<'a> {
     /// The name of the file, of at least one byte.
@@ -30,6 +78,8 @@ pub struct Asked<'a> {
     pub script: Option<&'a str>,
     /// What is to be done with the source.
     pub task: Task,
+    /// Who watches its run.
+    pub watched: Watched,
 }
 
 // What the options of a run say, as far as they are read.
@@ -37,15 +87,43 @@ pub struct Asked<'a> {
 struct Options<'a> {
     script: Option<&'a str>,
     turns: Option<u64>,
+    watched: Watched,
 }
 
-/// What the words ask for, if they are a job: `run FILE` with options, `check FILE` or `layout FILE`.
+/// The number of the generated source that is to be run, where the words are `gen N`.
+pub fn generated(words: &[String]) -> Option<u32>
+    ensures value { result ≡ specified.generated (specified.texts words.now) }
+    ensures range { IfSome result (λ n. (0 < n) × (n ≤ 8192)) }
+{
+    match words {
+        [mode, number] => {
+            if mode.as_str() == "gen" {
+                source_number(number.as_str())
+            } else {
+                None
+            }
+        }
+        _ => None,
+    }
+}
+
+// The number of a generated source.
+fn source_number(text: &str) -> Option<u32>
+    ensures value { result ≡ specified.number_to 8192 text.now }
+    ensures range { IfSome result (λ n. (0 < n) × (n ≤ 8192)) }
+{
+    let number = number_to(text, MOST_GENERATED)?;
+    Some(number as u32)
+}
+
+/// What the words ask of a file, if they do: `run FILE` with options, `check FILE` or `layout FILE`.
 ///
-/// The options of a run are `--script F` and `--turns N`, each at most once and in any order.
-pub fn job(words: &[String]) -> Option<Asked<'_>>
+/// The options of a run are `--script F` and `--turns N`, each at most once, and `--watch W`, at most once for each of `explain`, `census`
+/// and `pointers`, in any order.
+pub fn file_job(words: &[String]) -> Option<Asked<'_>>
     ensures words { MatchOption result
-        (specified.job (specified.texts words.now) ≡ None)
-        (λ j. specified.job (specified.texts words.now) ≡ Some (specified.job_by (λ s. s.now) j.file.now j.script j.task)) }
+        (specified.file_job (specified.texts words.now) ≡ None)
+        (λ j. specified.file_job (specified.texts words.now) ≡ Some (specified.job_by (λ s. s.now) j.file.now j.script j.task j.watched)) }
     ensures turns { IfSome result (λ j. IsTask j.task) }
 {
     match words {
@@ -64,7 +142,7 @@ pub fn job(words: &[String]) -> Option<Asked<'_>>
 fn asked_by<'a>(mode: &str, file: &'a str, rest: &'a [String]) -> Option<Asked<'a>>
     ensures words { MatchOption result
         (specified.asked mode.now file.now (specified.texts rest.now) ≡ None)
-        (λ j. specified.asked mode.now file.now (specified.texts rest.now) ≡ Some (specified.job_by (λ s. s.now) j.file.now j.script j.task)) }
+        (λ j. specified.asked mode.now file.now (specified.texts rest.now) ≡ Some (specified.job_by (λ s. s.now) j.file.now j.script j.task j.watched)) }
     ensures turns { IfSome result (λ j. IsTask j.task) }
 {
     match mode {
@@ -79,12 +157,13 @@ fn asked_by<'a>(mode: &str, file: &'a str, rest: &'a [String]) -> Option<Asked<'
 fn run_of<'a>(file: &'a str, rest: &'a [String]) -> Option<Asked<'a>>
     ensures words { MatchOption result
         (specified.run_of file.now (specified.texts rest.now) ≡ None)
-        (λ j. specified.run_of file.now (specified.texts rest.now) ≡ Some (specified.job_by (λ s. s.now) j.file.now j.script j.task)) }
+        (λ j. specified.run_of file.now (specified.texts rest.now) ≡ Some (specified.job_by (λ s. s.now) j.file.now j.script j.task j.watched)) }
     ensures turns { IfSome result (λ j. IsTask j.task) }
 {
     let none = Options {
         script: None,
         turns: None,
+        watched: NOBODY,
     };
     let options = all_options(none, rest)?;
     let bound = options.turns.unwrap_or(DEFAULT_TURNS);
@@ -92,6 +171,7 @@ fn run_of<'a>(file: &'a str, rest: &'a [String]) -> Option<Asked<'a>>
         file,
         script: options.script,
         task: Task::Run { bound },
+        watched: options.watched,
     })
 }
 
@@ -100,7 +180,7 @@ fn described<'a>(task: Task, file: &'a str, rest: &[String]) -> Option<Asked<'a>
     requires { IsTask task }
     ensures words { MatchOption result
         (specified.described task file.now (specified.texts rest.now) ≡ None)
-        (λ j. specified.described task file.now (specified.texts rest.now) ≡ Some (specified.job_by (λ s. s.now) j.file.now j.script j.task)) }
+        (λ j. specified.described task file.now (specified.texts rest.now) ≡ Some (specified.job_by (λ s. s.now) j.file.now j.script j.task j.watched)) }
     ensures turns { IfSome result (λ j. IsTask j.task) }
 {
     match rest {
@@ -108,6 +188,7 @@ fn described<'a>(task: Task, file: &'a str, rest: &[String]) -> Option<Asked<'a>
             file,
             script: None,
             task,
+            watched: NOBODY,
         }),
         _ => None,
     }
@@ -117,8 +198,8 @@ fn described<'a>(task: Task, file: &'a str, rest: &[String]) -> Option<Asked<'a>
 fn all_options<'a>(given: Options<'a>, words: &'a [String]) -> Option<Options<'a>>
     requires { AreBounded given.turns }
     ensures words { MatchOption result
-        (specified.options (specified.options_by (λ s. s.now) given.entry.script given.entry.turns) (specified.texts words.now) ≡ None)
-        (λ o. specified.options (specified.options_by (λ s. s.now) given.entry.script given.entry.turns) (specified.texts words.now) ≡ Some (specified.options_by (λ s. s.now) o.script o.turns)) }
+        (specified.options (specified.options_by (λ s. s.now) given.entry.script given.entry.turns given.entry.watched) (specified.texts words.now) ≡ None)
+        (λ o. specified.options (specified.options_by (λ s. s.now) given.entry.script given.entry.turns given.entry.watched) (specified.texts words.now) ≡ Some (specified.options_by (λ s. s.now) o.script o.turns o.watched)) }
     ensures turns { IfSome result (λ o. AreBounded o.turns) }
 {
     match words {
@@ -134,13 +215,14 @@ fn all_options<'a>(given: Options<'a>, words: &'a [String]) -> Option<Options<'a
 fn with_option<'a>(given: Options<'a>, name: &str, value: &'a str) -> Option<Options<'a>>
     requires { AreBounded given.turns }
     ensures words { MatchOption result
-        (specified.with_option (specified.options_by (λ s. s.now) given.entry.script given.entry.turns) name.now value.now ≡ None)
-        (λ o. specified.with_option (specified.options_by (λ s. s.now) given.entry.script given.entry.turns) name.now value.now ≡ Some (specified.options_by (λ s. s.now) o.script o.turns)) }
+        (specified.with_option (specified.options_by (λ s. s.now) given.entry.script given.entry.turns given.entry.watched) name.now value.now ≡ None)
+        (λ o. specified.with_option (specified.options_by (λ s. s.now) given.entry.script given.entry.turns given.entry.watched) name.now value.now ≡ Some (specified.options_by (λ s. s.now) o.script o.turns o.watched)) }
     ensures turns { IfSome result (λ o. AreBounded o.turns) }
 {
     match name {
         "--script" => with_script(given, value),
         "--turns" => with_turns(given, value),
+        "--watch" => with_watch(given, value),
         _ => None,
     }
 }
@@ -149,8 +231,8 @@ fn with_option<'a>(given: Options<'a>, name: &str, value: &'a str) -> Option<Opt
 fn with_script<'a>(given: Options<'a>, name: &'a str) -> Option<Options<'a>>
     requires { AreBounded given.turns }
     ensures words { MatchOption result
-        (specified.with_script (specified.options_by (λ s. s.now) given.entry.script given.entry.turns) name.now ≡ None)
-        (λ o. specified.with_script (specified.options_by (λ s. s.now) given.entry.script given.entry.turns) name.now ≡ Some (specified.options_by (λ s. s.now) o.script o.turns)) }
+        (specified.with_script (specified.options_by (λ s. s.now) given.entry.script given.entry.turns given.entry.watched) name.now ≡ None)
+        (λ o. specified.with_script (specified.options_by (λ s. s.now) given.entry.script given.entry.turns given.entry.watched) name.now ≡ Some (specified.options_by (λ s. s.now) o.script o.turns o.watched)) }
     ensures turns { IfSome result (λ o. AreBounded o.turns) }
 {
     match given.script {
@@ -162,6 +244,7 @@ fn with_script<'a>(given: Options<'a>, name: &'a str) -> Option<Options<'a>>
                 Some(Options {
                     script: Some(name),
                     turns: given.turns,
+                    watched: given.watched,
                 })
             }
         }
@@ -171,8 +254,8 @@ fn with_script<'a>(given: Options<'a>, name: &'a str) -> Option<Options<'a>>
 // The bound, which is given at most once.
 fn with_turns<'a>(given: Options<'a>, text: &str) -> Option<Options<'a>>
     ensures words { MatchOption result
-        (specified.with_turns (specified.options_by (λ s. s.now) given.entry.script given.entry.turns) text.now ≡ None)
-        (λ o. specified.with_turns (specified.options_by (λ s. s.now) given.entry.script given.entry.turns) text.now ≡ Some (specified.options_by (λ s. s.now) o.script o.turns)) }
+        (specified.with_turns (specified.options_by (λ s. s.now) given.entry.script given.entry.turns given.entry.watched) text.now ≡ None)
+        (λ o. specified.with_turns (specified.options_by (λ s. s.now) given.entry.script given.entry.turns given.entry.watched) text.now ≡ Some (specified.options_by (λ s. s.now) o.script o.turns o.watched)) }
     ensures turns { IfSome result (λ o. AreBounded o.turns) }
 {
     match given.turns {
@@ -182,15 +265,86 @@ fn with_turns<'a>(given: Options<'a>, text: &str) -> Option<Options<'a>>
             Some(Options {
                 script: given.script,
                 turns: Some(turns),
+                watched: given.watched,
             })
         }
     }
 }
 
-/// The value of `--turns`: decimal, without a leading zero, from 1 to 100000000.
-pub fn turns_of(text: &str) -> Option<u64>
+// A watcher more, which is asked for at most once.
+fn with_watch<'a>(given: Options<'a>, word: &str) -> Option<Options<'a>>
+    requires { AreBounded given.turns }
+    ensures words { MatchOption result
+        (specified.with_watch (specified.options_by (λ s. s.now) given.entry.script given.entry.turns given.entry.watched) word.now ≡ None)
+        (λ o. specified.with_watch (specified.options_by (λ s. s.now) given.entry.script given.entry.turns given.entry.watched) word.now ≡ Some (specified.options_by (λ s. s.now) o.script o.turns o.watched)) }
+    ensures turns { IfSome result (λ o. AreBounded o.turns) }
+{
+    let watched = one_more(given.watched, word)?;
+    Some(Options {
+        script: given.script,
+        turns: given.turns,
+        watched,
+    })
+}
+
+// The same watchers and one more, which was not among them.
+fn one_more(watched: Watched, word: &str) -> Option<Watched>
+    ensures { result ≡ specified.one_more watched word.now }
+{
+    let Watched {
+        explain,
+        census,
+        pointers,
+    } = watched;
+    match word {
+        "explain" => once(
+            explain,
+            Watched {
+                explain: true,
+                census,
+                pointers,
+            },
+        ),
+        "census" => once(
+            census,
+            Watched {
+                explain,
+                census: true,
+                pointers,
+            },
+        ),
+        "pointers" => once(
+            pointers,
+            Watched {
+                explain,
+                census,
+                pointers: true,
+            },
+        ),
+        _ => None,
+    }
+}
+
+// More watchers, unless the one that is new was wanted before.
+fn once(wanted: bool, more: Watched) -> Option<Watched>
+    ensures { result ≡ specified.watch_once wanted more }
+{
+    if wanted { None } else { Some(more) }
+}
+
+// The value of `--turns`: decimal, without a leading zero, from 1 to 100000000.
+fn turns_of(text: &str) -> Option<u64>
     ensures value { result ≡ specified.turns_of text.now }
     ensures range { IfSome result (λ n. (0 < n) × (n ≤ 100000000)) }
+{
+    number_to(text, MOST_TURNS)
+}
+
+/// A number from 1 to `most`: decimal, without a leading zero.
+pub fn number_to(text: &str, most: u64) -> Option<u64>
+    requires { most ≤ 100000000 }
+    ensures value { result ≡ specified.number_to most text.now }
+    ensures range { IfSome result (λ n. (0 < n) × (n ≤ most)) }
 {
     let digits = text.as_bytes();
     if digits.is_empty() || digits[0] == b'0' {
@@ -202,7 +356,7 @@ pub fn turns_of(text: &str) -> Option<u64>
             return None;
         }
         number = number * 10 + (*digit - b'0') as u64;
-        if number > MOST_TURNS {
+        if number > most {
             return None;
         }
     }

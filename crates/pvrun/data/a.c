@@ -1,7 +1,10 @@
-int x = 1;
-
+int printf(const char *, ...);
+int x = 1, y = 2;
 int main(void) {
-  int *p = &x;
-  *p = 5;
-  return x + 2;
+  unsigned long a = (unsigned long)(&x + 1);
+  unsigned long b = (unsigned long)&y;
+  int *p = (int *)a;
+  *p = 11;
+  printf("%d %d %d\n", x, y, a == b);
+  return 0;
 }

@@ -1,11 +1,15 @@
+use pv_explain::{Census, Explain, Pointers};
 use pv_script::{CalmFiles, CalmSink, MemFiles, MemSink};
 use pv_serve::{NoMemory, serve, serve_calmly};
+use pv_watch::{Hall, Watch};
 use std::alloc::Global;
 use std::process::Abort;
 use std::test::*;
 
 mod described;
+mod ending_rows;
 mod failing;
+mod halls;
 mod job_rows;
 mod library_rows;
 mod long_rows;
@@ -15,6 +19,8 @@ mod pointer_rows;
 mod provenance_rows;
 mod rows;
 mod statement_rows;
+mod story_rows;
+mod watched_rows;
 
 // What is told of a source: the status, and all that was written.
 fn text(alloc: Global, status: u8, out: &[u8], report: &[u8]) -> Result<String, NoMemory> {
@@ -48,6 +54,22 @@ struct Input<'a> {
     script: &'a [u8],
 }
 
+// The status of a call before the program's three watchers.
+fn served(
+    alloc: Global,
+    words: &[String],
+    files: &mut MemFiles,
+    out: &mut MemSink,
+    report: &mut MemSink,
+) -> Result<u8, NoMemory> {
+    let mut watchers: Vec<Box<dyn Watch>> = Vec::new(alloc);
+    watchers.push(Box::new(alloc, Explain::new(alloc, 65_536))?)?;
+    watchers.push(Box::new(alloc, Census::new(alloc, u64::MAX))?)?;
+    watchers.push(Box::new(alloc, Pointers::new(alloc, 65_536))?)?;
+    let mut hall = Hall::new(alloc, watchers)?;
+    Ok(serve(alloc, words, files, out, report, &mut hall))
+}
+
 // What is told of the source `a.c`, where the script `s` is there to be named.
 fn told(rt: &impl Abort, alloc: Global, input: Input<'_>, words: &str, devices: Devices) -> String {
     let words = words_of(alloc, words).expect(rt, "no memory");
@@ -57,7 +79,8 @@ fn told(rt: &impl Abort, alloc: Global, input: Input<'_>, words: &str, devices: 
     let most = devices.most.max(1);
     let mut out = MemSink::new(alloc, most, &[devices.out]).expect(rt, "no memory");
     let mut report = MemSink::new(alloc, most, &[devices.write]).expect(rt, "no memory");
-    let status = serve(alloc, words.as_slice(), &mut files, &mut out, &mut report);
+    let status = served(alloc, words.as_slice(), &mut files, &mut out, &mut report)
+        .expect(rt, "no memory");
     text(alloc, status, out.bytes(), report.bytes()).expect(rt, "no memory")
 }
 
@@ -69,7 +92,10 @@ fn calmly_told(alloc: Global, input: Input<'_>, words: &str) -> Result<String, N
     files.put("s", input.script)?;
     let mut out = CalmSink::new(alloc, 4096)?;
     let mut report = CalmSink::new(alloc, 400)?;
-    let status = serve_calmly(alloc, words.as_slice(), &mut files, &mut out, &mut report);
+    let mut watchers: Vec<Box<dyn Watch>> = Vec::new(alloc);
+    watchers.push(Box::new(alloc, Census::new(alloc, u64::MAX))?)?;
+    let mut hall = Hall::new(alloc, watchers)?;
+    let status = serve_calmly(alloc, words.as_slice(), &mut files, &mut out, &mut report, &mut hall);
     text(alloc, status, out.bytes(), report.bytes())
 }
 
@@ -148,7 +174,8 @@ fn parts_agree(rt: &impl Abort, alloc: Global, row: Row<'_>, calmly: bool) {
         .split_once(" times ")
         .unwrap_or(("1", row.options));
     let case = repeated(rt, alloc, row.case, times.parse::<usize>().unwrap_or(1));
-    let (front, output) = lines_behind(rt, alloc, case.as_str(), "\noutput ");
+    let (front, seen) = lines_behind(rt, alloc, case.as_str(), "\nseen ");
+    let (front, output) = lines_behind(rt, alloc, front, "\noutput ");
     let (source, script) = lines_behind(rt, alloc, front, "\nscript ");
     let named = if script.is_empty() { "" } else { "--script s " };
     let words = format!(in alloc; "run a.c {named}{options}").expect(rt, "no memory");
@@ -162,7 +189,7 @@ fn parts_agree(rt: &impl Abort, alloc: Global, row: Row<'_>, calmly: bool) {
         told(rt, alloc, input, words.as_str().trim_end(), SOUND)
     };
     let (status, report) = row.wanted.split_once(' ').unwrap_or((row.wanted, ""));
-    let wanted = format!(in alloc; "{status} {output}{report}\n").expect(rt, "no memory");
+    let wanted = format!(in alloc; "{status} {output}{report}\n{seen}").expect(rt, "no memory");
     expect(rt, row.case, options, told.as_str(), wanted.as_str());
 }
 
@@ -196,9 +223,9 @@ fn repeated(rt: &impl Abort, alloc: Global, form: &str, times: usize) -> String 
     text
 }
 
-// The rows of a table. Each has the lines of its source, a line `script LINE` for each line of its script and a line
-// `output LINE` for each that it prints, and then a line `OPTIONS => STATUS REPORT`. The source has no line feed at its
-// end, unless an empty line stands there. Where the options begin with `N times`, what stands between two backticks
+// The rows of a table. Each has the lines of its source, a line `script LINE` for each line of its script, a line
+// `output LINE` for each that it prints and a line `seen LINE` for each of the watchers' texts, and then a line
+// `OPTIONS => STATUS REPORT`. The source has no line feed at its end, unless an empty line stands there. Where the options begin with `N times`, what stands between two backticks
 // stands there so often. An empty line stands in front of each row.
 fn agree(rt: &impl Abort, alloc: Global, table: &str, way: Way) {
     let mut front = ("", "");
@@ -222,7 +249,7 @@ fn agree(rt: &impl Abort, alloc: Global, table: &str, way: Way) {
     }
 }
 
-static TABLES: [&str; 13] = [
+static TABLES: [&str; 16] = [
     rows::SHOWN,
     rows::TURNS,
     rows::NAMES,
@@ -236,6 +263,9 @@ static TABLES: [&str; 13] = [
     memory_rows::MEMORY,
     library_rows::LIBRARY,
     placing_rows::PLACES,
+    watched_rows::WATCHED,
+    ending_rows::ENDS,
+    story_rows::STORIES,
 ];
 
 #[test]
@@ -243,6 +273,16 @@ fn each_row_is_told(rt: HostRuntime) {
     for table in &TABLES {
         agree(&rt, rt.alloc(), table, Way::Soundly);
     }
+}
+
+#[test]
+fn what_is_refused_is_not_watched(rt: HostRuntime) {
+    agree(&rt, rt.alloc(), watched_rows::UNWATCHED, Way::Soundly);
+}
+
+#[test]
+fn a_watcher_sees_enough(rt: HostRuntime) {
+    agree(&rt, rt.alloc(), watched_rows::MANY, Way::Soundly);
 }
 
 #[test]

@@ -1,4 +1,4 @@
-//! Sources that are not run, and what an independent executor of the same rules reports of them.
+//! Sources that are not run, or generated, and what an independent executor of the same rules reports of them.
 
 /// The words, a source, and all that is told of it.
 pub(super) struct Described {
@@ -7,7 +7,7 @@ pub(super) struct Described {
     pub(super) wanted: &'static str,
 }
 
-pub(super) static DESCRIBED: [Described; 11] = [
+pub(super) static DESCRIBED: [Described; 17] = [
     Described {
         words: "check a.c",
         source: "int main(void){return 0;}",
@@ -62,6 +62,36 @@ pub(super) static DESCRIBED: [Described; 11] = [
         words: "layout a.c",
         source: TAGS,
         wanted: LAYOUTS,
+    },
+    Described {
+        words: "gen 1",
+        source: "",
+        wanted: "0 exit status=0 turn=21\ncreate 4\nend 2\nexpose 1\npair 0\nuse 0\nfault 0\n",
+    },
+    Described {
+        words: "gen 2",
+        source: "",
+        wanted: "0 exit status=1 turn=36\ncreate 7\nend 4\nexpose 2\npair 0\nuse 0\nfault 0\n",
+    },
+    Described {
+        words: "gen 3",
+        source: "",
+        wanted: "0 exit status=3 turn=51\ncreate 10\nend 6\nexpose 3\npair 0\nuse 0\nfault 0\n",
+    },
+    Described {
+        words: "gen 98",
+        source: "",
+        wanted: "0 exit status=138 turn=1476\ncreate 295\nend 196\nexpose 98\npair 0\nuse 0\nfault 0\n",
+    },
+    Described {
+        words: "gen 1000",
+        source: "",
+        wanted: "0 exit status=58 turn=15006\ncreate 3001\nend 2000\nexpose 1000\npair 0\nuse 0\nfault 0\n",
+    },
+    Described {
+        words: "gen 8192",
+        source: "",
+        wanted: "0 exit status=239 turn=122886\ncreate 24577\nend 16384\nexpose 8192\npair 0\nuse 0\nfault 0\n",
     },
 ];
 

@@ -1,10 +1,10 @@
 use Rattle.std.proofs.Common.{refl, sym}
 use Rattle.pv_serve.specs.Judged.{Oversize}
-use Rattle.pv_serve.proofs.RunLemmas.{beyond, within, judged_nothing, script_if, memory_cut, memory_fault, stays}
+use Rattle.pv_serve.proofs.RunLemmas.{beyond, within, judged_nothing, script_if, memory_cut, memory_fault}
 use Rattle.pv_serve.proofs.judging.judge.Goals as goal
 
 pub returns-then-source-gt-SOURCE_LIMIT-clause-judged : goal.returns-then-source-gt-SOURCE_LIMIT-clause-judged
-returns-then-source-gt-SOURCE_LIMIT-clause-judged g c = judged_nothing _ _ _ _ _ (Oversize (beyond _ c.if-source-gt-SOURCE_LIMIT.true) refl) refl
+returns-then-source-gt-SOURCE_LIMIT-clause-judged g c = judged_nothing _ _ _ _ _ (Oversize (beyond _ c.if-source-gt-SOURCE_LIMIT.true) refl) refl refl
 
 pub returns-in-Ok-clause-judged : goal.returns-in-Ok-clause-judged
 returns-in-Ok-clause-judged g c = c.judge_source.ensures.judged c.args.script.now (sym c.in-Ok.ensures)
@@ -21,9 +21,6 @@ returns-in-Err-clause-part g c = memory_cut _ c.args.script.now _ _ _ c.script_r
 pub returns-in-Err-clause-cause : goal.returns-in-Err-clause-cause
 returns-in-Err-clause-cause g c = memory_fault _ _ _ c.script_refused.ensures.memory
 
-pub returns-in-Err-clause-hall : goal.returns-in-Err-clause-hall
-returns-in-Err-clause-hall g c = stays _ _
-
 pub judge_source-requires : goal.judge_source-requires
 judge_source-requires g c = record { length = c.if-source-gt-SOURCE_LIMIT.false; task = c.requires }
 
@@ -33,11 +30,5 @@ returns-then-source-gt-SOURCE_LIMIT-clause-part g c = tt
 pub returns-then-source-gt-SOURCE_LIMIT-clause-cause : goal.returns-then-source-gt-SOURCE_LIMIT-clause-cause
 returns-then-source-gt-SOURCE_LIMIT-clause-cause g c = tt
 
-pub returns-then-source-gt-SOURCE_LIMIT-clause-hall : goal.returns-then-source-gt-SOURCE_LIMIT-clause-hall
-returns-then-source-gt-SOURCE_LIMIT-clause-hall g c = λ none. none
-
 pub returns-in-Ok-clause-cause : goal.returns-in-Ok-clause-cause
 returns-in-Ok-clause-cause g c = c.judge_source.ensures.cause
-
-pub returns-in-Ok-clause-hall : goal.returns-in-Ok-clause-hall
-returns-in-Ok-clause-hall g c = c.judge_source.ensures.hall

@@ -14,7 +14,7 @@ returns-in-Ok-Ok-clause-part g c = λ script is.
 
 pub returns-in-Ok-Err-clause-judged : goal.returns-in-Ok-Err-clause-judged
 returns-in-Ok-Err-clause-judged g c = λ script is.
-    judged_nothing _ script _ _ _ (Unfit _ _ (within _ c.requires.length) is (rw c.in-Ok-Err.field-0-is at c.in-Ok-Err.ensures.comes) refl) refl
+    judged_nothing _ script _ _ _ (Unfit _ _ (within _ c.requires.length) is (rw c.in-Ok-Err.field-0-is at c.in-Ok-Err.ensures.comes) refl) refl refl
 
 pub returns-in-Err-clause-part : goal.returns-in-Err-clause-part
 returns-in-Err-clause-part g c = λ script is. inl (gains_nothing _)
@@ -28,23 +28,14 @@ judge_unit-requires g c = record { fit = rw c.in-Ok-Ok.field-0-is at c.in-Ok-Ok.
 pub returns-in-Ok-Ok-clause-cause : goal.returns-in-Ok-Ok-clause-cause
 returns-in-Ok-Ok-clause-cause g c = c.judge_unit.ensures.cause
 
-pub returns-in-Ok-Ok-clause-hall : goal.returns-in-Ok-Ok-clause-hall
-returns-in-Ok-Ok-clause-hall g c = c.judge_unit.ensures.hall
-
 pub returns-in-Ok-Err-clause-part : goal.returns-in-Ok-Err-clause-part
 returns-in-Ok-Err-clause-part g c = λ script is. tt
 
 pub returns-in-Ok-Err-clause-cause : goal.returns-in-Ok-Err-clause-cause
 returns-in-Ok-Err-clause-cause g c = tt
 
-pub returns-in-Ok-Err-clause-hall : goal.returns-in-Ok-Err-clause-hall
-returns-in-Ok-Err-clause-hall g c = λ none. none
-
 pub returns-in-Err-clause-judged : goal.returns-in-Err-clause-judged
 returns-in-Err-clause-judged g c = λ script is. tt
 
 pub returns-in-Err-clause-cause : goal.returns-in-Err-clause-cause
 returns-in-Err-clause-cause g c = tt
-
-pub returns-in-Err-clause-hall : goal.returns-in-Err-clause-hall
-returns-in-Err-clause-hall g c = tt

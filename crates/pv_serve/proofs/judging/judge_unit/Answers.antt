@@ -1,4 +1,4 @@
-use Rattle.pv_serve.proofs.RunLemmas.{check_judged, layout_judged, memory_cut_unit, memory_fault, stays, task_judged, task_cut, task_bound}
+use Rattle.pv_serve.proofs.RunLemmas.{check_judged, layout_judged, memory_cut_unit, memory_fault, task_judged, task_cut, task_bound}
 use Rattle.pv_serve.proofs.judging.judge_unit.Goals as goal
 
 pub run_unit-requires : goal.run_unit-requires
@@ -12,7 +12,6 @@ returns-in-Run g c = record {
   judged = task_judged _ _ _ _ _ _ _ c.in-Run.is c.run_unit.ensures.judged;
   part = task_cut _ _ _ _ _ _ _ c.in-Run.is c.run_unit.ensures.part;
   cause = c.run_unit.ensures.cause;
-  hall = c.run_unit.ensures.hall;
 }
 
 pub returns-in-Check : goal.returns-in-Check
@@ -20,7 +19,6 @@ returns-in-Check g c = record {
   judged = check_judged _ _ _ _ _ c.in-Check.is (c.described.ensures.described _ c.check_text.ensures);
   part = memory_cut_unit _ _ _ _ _ c.described.ensures.memory;
   cause = memory_fault _ _ _ c.described.ensures.memory;
-  hall = stays _ _;
 }
 
 pub returns-in-Layout : goal.returns-in-Layout
@@ -28,5 +26,4 @@ returns-in-Layout g c = record {
   judged = layout_judged _ _ _ _ _ c.in-Layout.is (c.described-in-Layout.ensures.described _ c.layout_text.ensures);
   part = memory_cut_unit _ _ _ _ _ c.described-in-Layout.ensures.memory;
   cause = memory_fault _ _ _ c.described-in-Layout.ensures.memory;
-  hall = stays _ _;
 }

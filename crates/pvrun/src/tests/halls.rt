@@ -1,0 +1,171 @@
+//! Halls that the program itself doesn't make.
+ghost use Rattle.std.specs.Prelude.{◌≡◌, ◌<◌};
+
+use super::{NoMemory, expect, text, watched_rows, words_of};
+use pv_explain::{Census, Explain, Pointers};
+use pv_script::{MemFiles, MemSink, Names};
+use pv_serve::serve;
+use pv_watch::{Attend, Event, Hall, Watch};
+use std::alloc::Global;
+use std::test::*;
+
+// A watcher of a kind that nobody asks for.
+#[derive(Drop)]
+struct Stranger {
+    inner: Census,
+}
+
+impl Watch for Stranger {
+    ghost seen = { λ w. ⟦<Census as Watch>⟧.seen w.inner };
+
+    ghost its_kind = { λ w. 9 };
+
+    ghost its_wants = { λ w. ⟦<Census as Watch>⟧.its_wants w.inner };
+
+    fn kind(&self) -> u8 {
+        9
+    }
+
+    fn wants(&self) -> u64 {
+        self.inner.wants()
+    }
+
+    fn see(&mut self, e: &Event) -> Attend {
+        self.inner.see(e)
+    }
+
+    fn text(&self, alloc: Global, _names: &Names) -> Result<Vec<u8>, pv_watch::NoMemory> {
+        Ok(Vec::from_slice(alloc, b"a stranger\n")?)
+    }
+}
+
+// A watcher that finds memory for so many events, and then for none.
+#[derive(Drop)]
+struct Forgetful {
+    inner: Pointers,
+    room: u64,
+}
+
+impl Watch for Forgetful {
+    ghost seen = { λ w. ⟦<Pointers as Watch>⟧.seen w.inner };
+
+    ghost its_kind = { λ w. ⟦<Pointers as Watch>⟧.its_kind w.inner };
+
+    ghost its_wants = { λ w. ⟦<Pointers as Watch>⟧.its_wants w.inner };
+
+    fn kind(&self) -> u8 {
+        self.inner.kind()
+    }
+
+    fn wants(&self) -> u64 {
+        self.inner.wants()
+    }
+
+    fn see(&mut self, e: &Event) -> Attend {
+        if self.room == 0 {
+            return Attend::NoMemory;
+        }
+        self.room -= 1;
+        self.inner.see(e)
+    }
+
+    fn text(&self, alloc: Global, names: &Names) -> Result<Vec<u8>, pv_watch::NoMemory> {
+        self.inner.text(alloc, names)
+    }
+}
+
+// A pointer to an object that has ended.
+const ENDED: &str = r#"int main(void) {
+  int *p;
+  { int a = 1; p = &a; }
+  { int b = 2; }
+  return *p;
+}
+"#;
+
+// A program that prints more than is kept of its output, and then makes an object.
+const PRINTS: &str = r#"int printf(const char *, ...);
+int main(void){int i; for (i = 0; i < 1000; i++) printf("0123456789"); { int z; } return 0;}
+"#;
+
+const ALL: &str = "run a.c --watch explain --watch census --watch pointers";
+
+// What is told of a source before two who count, a stranger, one who wants a single event to explain, and, where that is said, one
+// who forgets.
+fn told_before(alloc: Global, source: &str, forgets: bool) -> Result<String, NoMemory> {
+    let mut watchers: Vec<Box<dyn Watch>> = Vec::new(alloc);
+    watchers.push(Box::new(alloc, Census::new(alloc, u64::MAX))?)?;
+    watchers.push(Box::new(alloc, Census::new(alloc, 2))?)?;
+    let inner = Census::new(alloc, 2);
+    watchers.push(Box::new(alloc, Stranger { inner })?)?;
+    watchers.push(Box::new(alloc, Explain::new(alloc, 1))?)?;
+    if forgets {
+        let inner = Pointers::new(alloc, 65_536);
+        watchers.push(Box::new(alloc, Forgetful { inner, room: 2 })?)?;
+    }
+    let mut hall = Hall::new(alloc, watchers)?;
+    let mut files = MemFiles::new(alloc, &[])?;
+    files.put("a.c", source.as_bytes())?;
+    let mut out = MemSink::new(alloc, 4096, &[])?;
+    let mut report = MemSink::new(alloc, 4096, &[])?;
+    let words = words_of(alloc, ALL)?;
+    let status = serve(alloc, words.as_slice(), &mut files, &mut out, &mut report, &mut hall);
+    text(alloc, status, out.bytes(), report.bytes())
+}
+
+#[test]
+fn watchers_who_are_asked_for_say_their_texts(rt: HostRuntime) {
+    let told = told_before(rt.alloc(), ENDED, false).expect(&rt, "no memory");
+    let wanted = "1 undefined clause=6.2.4p2 reason=ended line=5 turn=15\ncreate 3\nend 2\nexpose 0\npair 0\nuse 0\nfault 1\ncreate 2\nend 0\nexpose 0\npair 0\nuse 0\nfault 0\ncut\nno fault\ncut\n";
+    expect(&rt, ENDED, ALL, told.as_str(), wanted);
+}
+
+// At its third event a watcher finds no memory.
+#[test]
+fn a_watcher_without_memory_ends_the_call(rt: HostRuntime) {
+    let told = told_before(rt.alloc(), ENDED, true).expect(&rt, "no memory");
+    expect(&rt, ENDED, ALL, told.as_str(), "13 ");
+}
+
+// What is told of a source before one who counts so many events alone.
+fn told_before_one(alloc: Global, source: &str, wants: u64) -> Result<String, NoMemory> {
+    let mut watchers: Vec<Box<dyn Watch>> = Vec::new(alloc);
+    watchers.push(Box::new(alloc, Census::new(alloc, wants.max(1)))?)?;
+    let mut hall = Hall::new(alloc, watchers)?;
+    let mut files = MemFiles::new(alloc, &[])?;
+    files.put("a.c", source.as_bytes())?;
+    let mut out = MemSink::new(alloc, 4096, &[])?;
+    let mut report = MemSink::new(alloc, 4096, &[])?;
+    let words = words_of(alloc, "run a.c --watch census")?;
+    let status = serve(alloc, words.as_slice(), &mut files, &mut out, &mut report, &mut hall);
+    text(alloc, status, out.bytes(), report.bytes())
+}
+
+#[test]
+fn a_watcher_leaves_when_it_has_seen_enough(rt: HostRuntime) {
+    let (source, wanted) = watched_rows::FEW;
+    let told = told_before_one(rt.alloc(), source, 2).expect(&rt, "no memory");
+    expect(&rt, source, "a census of 2", told.as_str(), wanted);
+}
+
+// What is told of a source whose first write fails, before one who finds no memory for the third event.
+fn told_late(alloc: Global) -> Result<String, NoMemory> {
+    let mut watchers: Vec<Box<dyn Watch>> = Vec::new(alloc);
+    let inner = Pointers::new(alloc, 65_536);
+    watchers.push(Box::new(alloc, Forgetful { inner, room: 2 })?)?;
+    let mut hall = Hall::new(alloc, watchers)?;
+    let mut files = MemFiles::new(alloc, &[])?;
+    files.put("a.c", PRINTS.as_bytes())?;
+    let mut out = MemSink::new(alloc, 4096, &[1])?;
+    let mut report = MemSink::new(alloc, 4096, &[])?;
+    let words = words_of(alloc, "run a.c --watch pointers")?;
+    let status = serve(alloc, words.as_slice(), &mut files, &mut out, &mut report, &mut hall);
+    text(alloc, status, out.bytes(), report.bytes())
+}
+
+// The first block is written before the third event, so that it is the write that ends the call.
+#[test]
+fn a_write_fails_before_a_later_event_is_told(rt: HostRuntime) {
+    let told = told_late(rt.alloc()).expect(&rt, "no memory");
+    expect(&rt, PRINTS, "run a.c --watch pointers", told.as_str(), "12 ");
+}
