@@ -4,7 +4,7 @@
 #![tactic(auto)]
 
 use pv_explain::{Census, Explain, Pointers};
-use pv_script::{DiskFiles, Printed};
+use pv_script::{DiskFiles, Printed, Sink};
 pub use pv_serve::serve;
 use pv_serve::{NO_MEMORY, NoMemory};
 use pv_watch::{Hall, Watch};
@@ -30,12 +30,23 @@ fn answered(rt: &(impl Env + Files + Print + AllocGlobal)) -> Result<u8, NoMemor
     let mut files = DiskFiles::new(rt, alloc);
     let mut out = Printed::new(io::writer(rt));
     let mut report = Printed::new(io::writer(rt));
+    watched(alloc, words.as_slice(), &mut files, &mut out, &mut report)
+}
+
+// Calls `serve` before the three watchers.
+fn watched<F: pv_script::Files, O: Sink, R: Sink>(
+    alloc: Global,
+    words: &[String],
+    files: &mut F,
+    out: &mut O,
+    report: &mut R,
+) -> Result<u8, NoMemory> {
     let mut watchers: Vec<Box<dyn Watch>> = Vec::new(alloc);
     watchers.push(Box::new(alloc, Explain::new(alloc, WANTS))?)?;
     watchers.push(Box::new(alloc, Census::new(alloc, u64::MAX))?)?;
     watchers.push(Box::new(alloc, Pointers::new(alloc, WANTS))?)?;
     let mut hall = Hall::new(alloc, watchers)?;
-    Ok(serve(alloc, words.as_slice(), &mut files, &mut out, &mut report, &mut hall))
+    Ok(serve(alloc, words, files, out, report, &mut hall))
 }
 
 // The words behind the program's name. Arguments that are no text are no words; the only error is want of memory.

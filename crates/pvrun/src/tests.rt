@@ -56,18 +56,22 @@ struct Input<'a> {
 
 // The status of a call before the program's three watchers.
 fn served(
+    rt: &impl Abort,
     alloc: Global,
     words: &[String],
     files: &mut MemFiles,
     out: &mut MemSink,
     report: &mut MemSink,
-) -> Result<u8, NoMemory> {
+) -> u8 {
+    let explain = Box::new(alloc, Explain::new(alloc, 65_536)).expect(rt, "no memory");
+    let census = Box::new(alloc, Census::new(alloc, u64::MAX)).expect(rt, "no memory");
+    let pointers = Box::new(alloc, Pointers::new(alloc, 65_536)).expect(rt, "no memory");
     let mut watchers: Vec<Box<dyn Watch>> = Vec::new(alloc);
-    watchers.push(Box::new(alloc, Explain::new(alloc, 65_536))?)?;
-    watchers.push(Box::new(alloc, Census::new(alloc, u64::MAX))?)?;
-    watchers.push(Box::new(alloc, Pointers::new(alloc, 65_536))?)?;
-    let mut hall = Hall::new(alloc, watchers)?;
-    Ok(serve(alloc, words, files, out, report, &mut hall))
+    watchers.push(explain).expect(rt, "no memory");
+    watchers.push(census).expect(rt, "no memory");
+    watchers.push(pointers).expect(rt, "no memory");
+    let mut hall = Hall::new(alloc, watchers).expect(rt, "no memory");
+    serve(alloc, words, files, out, report, &mut hall)
 }
 
 // What is told of the source `a.c`, where the script `s` is there to be named.
@@ -79,8 +83,14 @@ fn told(rt: &impl Abort, alloc: Global, input: Input<'_>, words: &str, devices: 
     let most = devices.most.max(1);
     let mut out = MemSink::new(alloc, most, &[devices.out]).expect(rt, "no memory");
     let mut report = MemSink::new(alloc, most, &[devices.write]).expect(rt, "no memory");
-    let status = served(alloc, words.as_slice(), &mut files, &mut out, &mut report)
-        .expect(rt, "no memory");
+    let status = served(
+        rt,
+        alloc,
+        words.as_slice(),
+        &mut files,
+        &mut out,
+        &mut report,
+    );
     text(alloc, status, out.bytes(), report.bytes()).expect(rt, "no memory")
 }
 
@@ -92,11 +102,22 @@ fn calmly_told(alloc: Global, input: Input<'_>, words: &str) -> Result<String, N
     files.put("s", input.script)?;
     let mut out = CalmSink::new(alloc, 4096)?;
     let mut report = CalmSink::new(alloc, 400)?;
+    let status = served_calmly(alloc, words.as_slice(), &mut files, &mut out, &mut report)?;
+    text(alloc, status, out.bytes(), report.bytes())
+}
+
+// The status of a call over devices that never fail, before one who counts.
+fn served_calmly(
+    alloc: Global,
+    words: &[String],
+    files: &mut CalmFiles,
+    out: &mut CalmSink,
+    report: &mut CalmSink,
+) -> Result<u8, NoMemory> {
     let mut watchers: Vec<Box<dyn Watch>> = Vec::new(alloc);
     watchers.push(Box::new(alloc, Census::new(alloc, u64::MAX))?)?;
     let mut hall = Hall::new(alloc, watchers)?;
-    let status = serve_calmly(alloc, words.as_slice(), &mut files, &mut out, &mut report, &mut hall);
-    text(alloc, status, out.bytes(), report.bytes())
+    Ok(serve_calmly(alloc, words, files, out, report, &mut hall))
 }
 
 // A source without a script.

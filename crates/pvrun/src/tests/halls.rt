@@ -1,12 +1,11 @@
 //! Halls that the program itself doesn't make.
-ghost use Rattle.std.specs.Prelude.{◌≡◌, ◌<◌};
-
-use super::{NoMemory, expect, text, watched_rows, words_of};
+use super::{expect, text, watched_rows, words_of};
 use pv_explain::{Census, Explain, Pointers};
 use pv_script::{MemFiles, MemSink, Names};
 use pv_serve::serve;
 use pv_watch::{Attend, Event, Hall, Watch};
 use std::alloc::Global;
+use std::process::Abort;
 use std::test::*;
 
 // A watcher of a kind that nobody asks for.
@@ -90,82 +89,103 @@ int main(void){int i; for (i = 0; i < 1000; i++) printf("0123456789"); { int z; 
 
 const ALL: &str = "run a.c --watch explain --watch census --watch pointers";
 
-// What is told of a source before two who count, a stranger, one who wants a single event to explain, and, where that is said, one
-// who forgets.
-fn told_before(alloc: Global, source: &str, forgets: bool) -> Result<String, NoMemory> {
-    let mut watchers: Vec<Box<dyn Watch>> = Vec::new(alloc);
-    watchers.push(Box::new(alloc, Census::new(alloc, u64::MAX))?)?;
-    watchers.push(Box::new(alloc, Census::new(alloc, 2))?)?;
-    let inner = Census::new(alloc, 2);
-    watchers.push(Box::new(alloc, Stranger { inner })?)?;
-    watchers.push(Box::new(alloc, Explain::new(alloc, 1))?)?;
-    if forgets {
-        let inner = Pointers::new(alloc, 65_536);
-        watchers.push(Box::new(alloc, Forgetful { inner, room: 2 })?)?;
-    }
-    let mut hall = Hall::new(alloc, watchers)?;
-    let mut files = MemFiles::new(alloc, &[])?;
-    files.put("a.c", source.as_bytes())?;
-    let mut out = MemSink::new(alloc, 4096, &[])?;
-    let mut report = MemSink::new(alloc, 4096, &[])?;
-    let words = words_of(alloc, ALL)?;
-    let status = serve(alloc, words.as_slice(), &mut files, &mut out, &mut report, &mut hall);
-    text(alloc, status, out.bytes(), report.bytes())
+// What is told of a source before these watchers, over a sink of which these writes fail.
+fn told_before(
+    rt: &impl Abort,
+    alloc: Global,
+    call: (&str, &str),
+    refused: &[u64],
+    watchers: Vec<Box<dyn Watch>>,
+) -> String {
+    let (source, words) = call;
+    let mut hall = Hall::new(alloc, watchers).expect(rt, "no memory");
+    let mut files = MemFiles::new(alloc, &[]).expect(rt, "no memory");
+    files.put("a.c", source.as_bytes()).expect(rt, "no memory");
+    let mut out = MemSink::new(alloc, 4096, refused).expect(rt, "no memory");
+    let mut report = MemSink::new(alloc, 4096, &[]).expect(rt, "no memory");
+    let words = words_of(alloc, words).expect(rt, "no memory");
+    let status = serve(
+        alloc,
+        words.as_slice(),
+        &mut files,
+        &mut out,
+        &mut report,
+        &mut hall,
+    );
+    text(alloc, status, out.bytes(), report.bytes()).expect(rt, "no memory")
 }
 
+// Two who count, a stranger, and one who wants a single event to explain.
 #[test]
 fn watchers_who_are_asked_for_say_their_texts(rt: HostRuntime) {
-    let told = told_before(rt.alloc(), ENDED, false).expect(&rt, "no memory");
-    let wanted = "1 undefined clause=6.2.4p2 reason=ended line=5 turn=15\ncreate 3\nend 2\nexpose 0\npair 0\nuse 0\nfault 1\ncreate 2\nend 0\nexpose 0\npair 0\nuse 0\nfault 0\ncut\nno fault\ncut\n";
+    let alloc = rt.alloc();
+    let mut watchers: Vec<Box<dyn Watch>> = Vec::new(alloc);
+    let inner = Census::new(alloc, 2);
+    let boxed = Box::new(alloc, Census::new(alloc, u64::MAX)).expect(&rt, "no memory");
+    watchers.push(boxed).expect(&rt, "no memory");
+    let boxed = Box::new(alloc, Census::new(alloc, 2)).expect(&rt, "no memory");
+    watchers.push(boxed).expect(&rt, "no memory");
+    let boxed = Box::new(alloc, Stranger { inner }).expect(&rt, "no memory");
+    watchers.push(boxed).expect(&rt, "no memory");
+    let boxed = Box::new(alloc, Explain::new(alloc, 1)).expect(&rt, "no memory");
+    watchers.push(boxed).expect(&rt, "no memory");
+    let told = told_before(&rt, alloc, (ENDED, ALL), &[], watchers);
+    let wanted =
+        "1 undefined clause=6.2.4p2 reason=ended line=5 turn=15\ncreate 3\nend 2\nexpose 0\npair 0\nuse 0\nfault 1\ncreate 2\nend 0\nexpose 0\npair 0\nuse 0\nfault 0\ncut\nno fault\ncut\n";
     expect(&rt, ENDED, ALL, told.as_str(), wanted);
 }
 
 // At its third event a watcher finds no memory.
 #[test]
 fn a_watcher_without_memory_ends_the_call(rt: HostRuntime) {
-    let told = told_before(rt.alloc(), ENDED, true).expect(&rt, "no memory");
-    expect(&rt, ENDED, ALL, told.as_str(), "13 ");
-}
-
-// What is told of a source before one who counts so many events alone.
-fn told_before_one(alloc: Global, source: &str, wants: u64) -> Result<String, NoMemory> {
+    let alloc = rt.alloc();
     let mut watchers: Vec<Box<dyn Watch>> = Vec::new(alloc);
-    watchers.push(Box::new(alloc, Census::new(alloc, wants.max(1)))?)?;
-    let mut hall = Hall::new(alloc, watchers)?;
-    let mut files = MemFiles::new(alloc, &[])?;
-    files.put("a.c", source.as_bytes())?;
-    let mut out = MemSink::new(alloc, 4096, &[])?;
-    let mut report = MemSink::new(alloc, 4096, &[])?;
-    let words = words_of(alloc, "run a.c --watch census")?;
-    let status = serve(alloc, words.as_slice(), &mut files, &mut out, &mut report, &mut hall);
-    text(alloc, status, out.bytes(), report.bytes())
+    let inner = Pointers::new(alloc, 65_536);
+    let boxed = Box::new(alloc, Census::new(alloc, u64::MAX)).expect(&rt, "no memory");
+    watchers.push(boxed).expect(&rt, "no memory");
+    let boxed = Box::new(alloc, Forgetful { inner, room: 2 }).expect(&rt, "no memory");
+    watchers.push(boxed).expect(&rt, "no memory");
+    let told = told_before(&rt, alloc, (ENDED, ALL), &[], watchers);
+    expect(&rt, ENDED, ALL, told.as_str(), "13 ");
 }
 
 #[test]
 fn a_watcher_leaves_when_it_has_seen_enough(rt: HostRuntime) {
+    let alloc = rt.alloc();
     let (source, wanted) = watched_rows::FEW;
-    let told = told_before_one(rt.alloc(), source, 2).expect(&rt, "no memory");
-    expect(&rt, source, "a census of 2", told.as_str(), wanted);
-}
-
-// What is told of a source whose first write fails, before one who finds no memory for the third event.
-fn told_late(alloc: Global) -> Result<String, NoMemory> {
     let mut watchers: Vec<Box<dyn Watch>> = Vec::new(alloc);
-    let inner = Pointers::new(alloc, 65_536);
-    watchers.push(Box::new(alloc, Forgetful { inner, room: 2 })?)?;
-    let mut hall = Hall::new(alloc, watchers)?;
-    let mut files = MemFiles::new(alloc, &[])?;
-    files.put("a.c", PRINTS.as_bytes())?;
-    let mut out = MemSink::new(alloc, 4096, &[1])?;
-    let mut report = MemSink::new(alloc, 4096, &[])?;
-    let words = words_of(alloc, "run a.c --watch pointers")?;
-    let status = serve(alloc, words.as_slice(), &mut files, &mut out, &mut report, &mut hall);
-    text(alloc, status, out.bytes(), report.bytes())
+    let boxed = Box::new(alloc, Census::new(alloc, 2)).expect(&rt, "no memory");
+    watchers.push(boxed).expect(&rt, "no memory");
+    let told = told_before(
+        &rt,
+        alloc,
+        (source, "run a.c --watch census"),
+        &[],
+        watchers,
+    );
+    expect(&rt, source, "a census of 2", told.as_str(), wanted);
 }
 
 // The first block is written before the third event, so that it is the write that ends the call.
 #[test]
 fn a_write_fails_before_a_later_event_is_told(rt: HostRuntime) {
-    let told = told_late(rt.alloc()).expect(&rt, "no memory");
-    expect(&rt, PRINTS, "run a.c --watch pointers", told.as_str(), "12 ");
+    let alloc = rt.alloc();
+    let mut watchers: Vec<Box<dyn Watch>> = Vec::new(alloc);
+    let inner = Pointers::new(alloc, 65_536);
+    let boxed = Box::new(alloc, Forgetful { inner, room: 2 }).expect(&rt, "no memory");
+    watchers.push(boxed).expect(&rt, "no memory");
+    let told = told_before(
+        &rt,
+        alloc,
+        (PRINTS, "run a.c --watch pointers"),
+        &[1],
+        watchers,
+    );
+    expect(
+        &rt,
+        PRINTS,
+        "run a.c --watch pointers",
+        told.as_str(),
+        "12 ",
+    );
 }
