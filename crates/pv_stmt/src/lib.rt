@@ -4,6 +4,7 @@
 //! external declarations stand before the first that can't be read.
 #![tactic(auto)]
 
+mod beginnings;
 mod external;
 mod nodes;
 mod parts;
@@ -12,5 +13,6 @@ mod source;
 mod typedefs;
 mod units;
 
+pub use beginnings::{begins, one_place, so_many_begin};
 pub use pv_tree::NoMemory;
 pub use units::{SynError, unit};
