@@ -47,8 +47,8 @@ fn some_of(class: Class, text: &[u8]) -> Option<(&[u8], &[u8])>
     Some(text.split_at(run(class, text)))
 }
 
-/// What is left behind a name's closing quote.
-fn behind_name(text: &[u8]) -> Option<&[u8]>
+/// What is left behind the quote that closes a file's name (C17 6.10.4p4): none where no quote closes it on its line.
+pub fn behind_name(text: &[u8]) -> Option<&[u8]>
     ensures { option_map (λ r. r.now) result ≡ behind_name false text.now }
 {
     let mut taken = false;

@@ -30,7 +30,7 @@ fn error_at(fault: Fault, at: u32) -> LexError
 }
 
 /// The number of the line behind a piece (C17 6.10.4p2 and p3).
-fn line_behind(found: &Found<'_>, line: u32) -> u32
+pub fn line_behind(found: &Found<'_>, line: u32) -> u32
     requires { line_behind (what_of found.now) line < 2 ^ 32 }
     ensures { result ≡ line_behind (what_of found.now) line }
 {
@@ -42,8 +42,8 @@ fn line_behind(found: &Found<'_>, line: u32) -> u32
     }
 }
 
-/// Do only spaces and tabs stand before the place behind a piece, on its line?
-fn fresh_behind(found: &Found<'_>, fresh: bool) -> bool
+/// Do only spaces and tabs stand before the place behind a piece, on its line (C17 6.10p2)?
+pub fn fresh_behind(found: &Found<'_>, fresh: bool) -> bool
     ensures { result ≡ fresh_behind (what_of found.now) fresh }
 {
     match found {

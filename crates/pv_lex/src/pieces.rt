@@ -14,28 +14,38 @@ use crate::tables::{first_row, row_of};
 use crate::words::WORDS;
 use pv_token::{Kind, Mark, Word};
 
-/// Why no piece begins at a place. A word of the profile has its length.
+/// Why no piece begins at a place.
 #[derive(Clone, Copy)]
-pub(crate) enum Fault {
+pub enum Fault {
+    /// No token begins with this byte (C17 6.4p1).
     BadByte,
+    /// What begins as a token is none (C17 6.4p2).
     BadToken,
+    /// A word that the profile leaves out, of so many bytes (C17 6.4.1p1).
     Profile(u32),
 }
 
 /// What a piece is.
 #[derive(Drop)]
-pub(crate) enum Found<'a> {
+pub enum Found<'a> {
+    /// A byte of white space (C17 6.4p3).
     White(u8),
+    /// A comment with so many line feeds in it (C17 6.4.9).
     Comment(u32),
+    /// A marker that numbers the next line (C17 6.10.4p3).
     Marker(u32),
+    /// A token (C17 6.4p1).
     Spelling(Kind<'a>),
 }
 
-/// The end, a fault, or a piece and what is left behind it.
+/// What stands at a place: the end, a fault, or a piece and what is left behind it (C17 6.4p4).
 #[derive(Drop)]
-pub(crate) enum Standing<'a> {
+pub enum Standing<'a> {
+    /// The end of the source.
     End,
+    /// No piece begins here.
     Bad(Fault),
+    /// The piece that stands here, and the source behind it.
     Here(Found<'a>, &'a [u8]),
 }
 

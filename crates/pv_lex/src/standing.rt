@@ -15,9 +15,10 @@ use crate::pieces::{Fault, Found, Standing, mark, word};
 use pv_token::NoMemory;
 use std::alloc::Global;
 
-/// What stands where `text` is left. `fresh`: only spaces and tabs stand before it on its line.
+/// What stands where `text` is left (C17 6.4p4). `fresh`: only spaces and tabs stand before it on its line (6.10p2).
+/// The only error is want of memory.
 #[tactic(auto, unfolding(crate::specs::Stands::stands))]
-pub(crate) fn stand(alloc: Global, fresh: bool, text: &[u8]) -> Result<Standing<'_>, NoMemory>
+pub fn stand(alloc: Global, fresh: bool, text: &[u8]) -> Result<Standing<'_>, NoMemory>
     requires { length text.now ≤ 2 ^ 20 }
     ensures { IfOk result (λ s. stand_of s ≡ stands fresh text.now) }
 {

@@ -1,0 +1,3 @@
+pub mod SourceLines
+pub mod Spots
+pub mod Texts

@@ -1,0 +1,11 @@
+//! Where a refusal is, as lines in the form that editors read: file, line and column, the source's line, and a mark.
+//!
+//! The file and the line are those of the line markers that the preprocessor left (C17 6.10.4), as `pv_lex` reads them.
+#![tactic(auto)]
+
+mod shown;
+mod spots;
+mod texts;
+
+pub use pv_token::NoMemory;
+pub use texts::lines;
