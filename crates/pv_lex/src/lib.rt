@@ -23,5 +23,5 @@ pub use comments::behind_name;
 pub use error::LexError;
 pub use lexing::{exactly_one, fresh_behind, line_behind, longest, tokens};
 pub use pieces::{Fault, Found, Standing};
-pub use standing::stand;
 pub use pv_token::{Mark, NoMemory, Token, TokenKind, Tokens, Word};
+pub use standing::stand;

@@ -1,2 +1,5 @@
 pub mod Walking
 pub mod Ending
+pub mod Leading
+pub mod LineLaw
+mod Examples

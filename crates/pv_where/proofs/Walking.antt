@@ -1,5 +1,5 @@
 -- A step of the walk over pieces.
-use Rattle.std.proofs.Common.{◌≡◌, ℕ, zero, suc, ◌+◌, ◌-◌, ◌<◌, ◌≤◌, List, [], ◌∷◌, length, Bool, true, false, cond, Option, Some, None, Bor, refl, sym, ap, ◌∙◌, arith}
+use Rattle.std.proofs.Common.{◌≡◌, ℕ, zero, suc, ◌<◌, ◌≤◌, List, [], ◌∷◌, length, Bool, true, false, cond, Option, Some, None, Bor, refl, sym, ap, ◌∙◌, arith}
 use Rattle.std.specs.Prelude.{nat_le, fold}
 use Rattle.std.specs.Option.{option_map, option_map_or}
 use Rattle.std.proofs.lemmas.Bool.{leb-true}
@@ -41,7 +41,6 @@ pub row_stop : (left most : ℕ) (p : Place) → piece_before left (stands p.fre
 unfolding row_to
 row_stop left zero p e = refl
 row_stop left (suc n) p e = ap (λ o. option_map_or (λ (y : Piece). y ∷ row_to left n (behind_piece y p)) o []) e
-
 
 -- the walk leads to this spot
 abbrev pub Leads : (left : ℕ) → Spot → (total : Spot) → Type 0

@@ -1,3 +1,4 @@
 pub mod SourceLines
 pub mod Spots
 pub mod Texts
+pub mod Laws

@@ -1,7 +1,6 @@
 -- The file and the line of a place, by the line markers before it (6.10.4).
 use Rattle.std.specs.Prelude.{ℕ, zero, suc, ◌+◌, ◌-◌, if◌then◌else◌, false, List, [], ◌∷◌, length, take, fold, Option, Some, None, nat_eq, nat_le}
 use Rattle.std.specs.Option.{option_map_or}
-use Rattle.pv_token.specs.Said.{Said}
 use Rattle.pv_lex.specs.Bytes.{double_quote, line_feeds}
 use Rattle.pv_lex.specs.Pieces.{What, White, Comment, Marker, Spelling, Piece, Stand, End, Bad, Here}
 use Rattle.pv_lex.specs.Markers.{behind_name}

@@ -3,9 +3,11 @@
 //! The file and the line are those of the line markers that the preprocessor left (C17 6.10.4), as `pv_lex` reads them.
 #![tactic(auto)]
 
+mod laws;
 mod shown;
 mod spots;
 mod texts;
 
+pub use laws::{lines_are_counted_alike, the_line_is_of_the_source};
 pub use pv_token::NoMemory;
 pub use texts::lines;

@@ -73,7 +73,11 @@ pub(crate) fn source_line(source: &[u8], place: usize) -> &[u8]
 fn shown_byte(b: u8) -> u8
     ensures { result ≡ lines.shown_byte b }
 {
-    if (b < 32 && b != b'\t') || b == 127 { b'?' } else { b }
+    if (b < 32 && b != b'\t') || b == 127 {
+        b'?'
+    } else {
+        b
+    }
 }
 
 /// What stands under a byte before the place.
@@ -88,14 +92,21 @@ fn margin_byte(b: u8) -> u8
 fn shown_front(line: &[u8]) -> &[u8]
     ensures { result.now ≡ take shown_most line.now }
 {
-    if line.len() > SHOWN_MOST { front(line, SHOWN_MOST) } else { line }
+    if line.len() > SHOWN_MOST {
+        front(line, SHOWN_MOST)
+    } else {
+        line
+    }
 }
 
 /// The line as it is shown.
 pub(crate) fn shown_line(alloc: Global, line: &[u8]) -> Result<Vec<u8>, NoMemory>
     ensures { IfOk result (λ text. text.items ≡ lines.shown_line line.now) }
 {
-    let bytes: Vec<u8> = shown_front(line).iter().map(|b| shown_byte(*b)).collect(alloc)?;
+    let bytes: Vec<u8> = shown_front(line)
+        .iter()
+        .map(|b| shown_byte(*b))
+        .collect(alloc)?;
     let mut text = Vec::from_slice(alloc, b"  ")?;
     text.extend_from_slice(&bytes)?;
     text.push(b'\n')?;

@@ -1,4 +1,4 @@
-use Rattle.std.proofs.Common.{ℕ, List, ◌++◌, drop, take, length, sym, ap, ◌∙◌}
+use Rattle.std.proofs.Common.{drop, ap, ◌∙◌}
 use Rattle.pv_where.proofs.Ending.{line_whole}
 use Rattle.pv_where.proofs.shown.source_line.Goals as goal
 

@@ -1,4 +1,4 @@
-use Rattle.std.proofs.Common.{◌≡◌, ℕ, ◌+◌, ◌-◌, List, false, length, take, Option, Some, None, Bor, sym, ap, ◌∙◌}
+use Rattle.std.proofs.Common.{◌≡◌, ℕ, List, false, take, Some, None, Bor, sym, ap, ◌∙◌}
 use Rattle.std.specs.Option.{option_map}
 use Rattle.pv_lex.specs.Markers.{behind_name}
 use Rattle.pv_where.proofs.Ending.{closed_none, closed_some}

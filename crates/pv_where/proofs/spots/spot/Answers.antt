@@ -1,4 +1,4 @@
-use Rattle.std.proofs.Common.{◌≡◌, ℕ, ◌+◌, ◌-◌, List, length, take, Option, Some, None, sym, ap, ◌∙◌, arith}
+use Rattle.std.proofs.Common.{◌≡◌, ℕ, ◌+◌, ◌-◌, length, Some, None, sym, ap, ◌∙◌, arith}
 use Rattle.pv_lex.specs.Bytes.{line_feeds}
 use Rattle.pv_lex.specs.Stands.{stands}
 use Rattle.pv_lex.specs.Views.{what_of}

@@ -9,7 +9,7 @@ invariant-loop-found l = record {
   before : l.left ≤ length l.rest;
   lines : l.line + length l.rest ≤ 2147483647 + length l.source;
   walk : (most : ℕ) × (length l.rest ≤ most)
-    × (fold spot_behind (record { file = l.file; place = record { text = l.rest; line = l.line; fresh = l.fresh } }) (row_to l.left most (record { text = l.rest; line = l.line; fresh = l.fresh }))
+      × (fold spot_behind (record { file = l.file; place = record { text = l.rest; line = l.line; fresh = l.fresh } }) (row_to l.left most (record { text = l.rest; line = l.line; fresh = l.fresh }))
       ≡ spot_at l.name l.source l.place);
 }
 
