@@ -4,7 +4,7 @@ use Rattle.std.specs.List.{All}
 use Rattle.pv_lex.specs.Bytes.{line_feed}
 use Rattle.pv_where.specs.SourceLines.{ends_line, column, source_line}
 
--- The source is its lines before, this line, and the rest. No byte of the line ends one; the lines before end with a byte that does, if there are any, and so does this line, unless the source ends there. The place is the byte that the column counts.
+-- 5.1.1.2p1: the source is its lines before, this line, and the rest. No byte of the line ends one; the lines before end with a byte that does, if there are any, and so does this line, unless the source ends there. The place is the byte that the column counts.
 pub record IsLineOf (source : List ℕ) (place : ℕ) : Type 0 where
   pub before : List ℕ
   pub behind : List ℕ

@@ -23,15 +23,15 @@ source_line source place = line_before source place ++ line_from source place
 abbrev pub column : (source : List ℕ) → (place : ℕ) → ℕ
 column source place = length (line_before source place) + 1
 
--- 5.2.2p2: so many bytes of a line are shown at most
+-- 5.1.1.3: so many bytes of a line are shown at most
 unfoldable pub shown_most : ℕ
 shown_most = 200
 
--- 5.2.1p3: a byte as it is shown: a control byte as `?`, but for the tab
+-- 5.2.1p3, 5.2.2p2: a byte as it is shown: a control byte as `?`, but for the tab
 abbrev pub shown_byte : ℕ → ℕ
 shown_byte b = if (nat_lt b 32 && not (nat_eq b tab)) || nat_eq b 127 then 63 else b
 
--- the line as it is shown, behind two blanks
+-- 5.1.1.3: the line as it is shown, behind two blanks
 abbrev pub shown_line : (line : List ℕ) → List ℕ
 shown_line line = codes "  " ++ map shown_byte (take shown_most line) ++ line_feed ∷ []
 
@@ -39,10 +39,10 @@ shown_line line = codes "  " ++ map shown_byte (take shown_most line) ++ line_fe
 abbrev pub margin_byte : ℕ → ℕ
 margin_byte b = if nat_eq b tab then tab else space
 
--- 5.1.1.2p1: the place is shown: the whole line is, or so much of it that the byte at the place is among that
+-- 5.1.1.3: the place is shown: the whole line is, or so much of it that the byte at the place is among that
 abbrev pub is_shown : (before : List ℕ) → (line : List ℕ) → Bool
 is_shown before line = nat_lt (length before) shown_most || not (nat_lt shown_most (length line))
 
--- the mark under the place, with what stands before it on its line; none where the place isn't shown
+-- 5.1.1.3: the mark under the place, with what stands before it on its line; none where the place isn't shown
 abbrev pub mark_line : (before : List ℕ) → (line : List ℕ) → List ℕ
 mark_line before line = if is_shown before line then codes "  " ++ map margin_byte before ++ codes "^" ++ line_feed ∷ [] else []

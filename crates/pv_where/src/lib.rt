@@ -4,6 +4,7 @@
 #![tactic(auto)]
 
 mod laws;
+mod parts;
 mod shown;
 mod spots;
 mod texts;

@@ -1,30 +1,15 @@
 //! The line in which a place lies (C17 5.1.1.2p1), and what is shown of it.
-ghost use Rattle.std.specs.Prelude.{◌≡◌, ◌≤◌, ◌+◌, length, take, drop, IfOk};
+ghost use Rattle.std.specs.Prelude.{◌≡◌, ◌≤◌, length, take, drop, IfOk};
 ghost use Rattle.std.specs.List.{position_or_len, after_last};
 ghost use Rattle.pv_where.specs.SourceLines as lines;
 ghost use Rattle.pv_where.specs.SourceLines.{ends_line, shown_most};
 
+use crate::parts::{behind, front};
 use pv_token::NoMemory;
 use std::alloc::Global;
 
 /// So many bytes of a line are shown at most.
 const SHOWN_MOST: usize = 200;
-
-/// The first bytes of a text.
-pub(crate) fn front(text: &[u8], count: usize) -> &[u8]
-    requires { count ≤ length text.now }
-    ensures { result.now ≡ take count text.now }
-{
-    text.split_at(count).0
-}
-
-/// What is left behind so many bytes.
-pub(crate) fn behind(text: &[u8], count: usize) -> &[u8]
-    requires { count ≤ length text.now }
-    ensures { result.now ≡ drop count text.now }
-{
-    text.split_at(count).1
-}
 
 /// Where the last line of a text begins.
 fn last_begin(text: &[u8]) -> usize

@@ -7,7 +7,7 @@ ghost use Rattle.pv_lex.specs.Views.{what_of};
 ghost use Rattle.pv_where.specs.Spots as spots;
 ghost use Rattle.pv_where.specs.Spots.{file_at, line_at};
 
-use crate::shown::{behind, front};
+use crate::parts::{behind, front};
 use pv_lex::{Found, Standing, behind_name, fresh_behind, line_behind, stand};
 use pv_token::NoMemory;
 use std::alloc::Global;
