@@ -1,0 +1,180 @@
+-- What each operation of a run leads to (C17 6.3, 6.5, 6.7.9, 7).
+use Rattle.std.proofs.Common.{◌≡◌, ℕ, ◌≤◌, Bool, true, false, ◌&&◌, not, eqb, List, length, Option, Some, Result, Ok, Err, refl, arith}
+use Rattle.std.specs.Prelude.{nat_le, if◌then◌else◌}
+use Rattle.std.proofs.lemmas.Bool.{leb-true}
+use Rattle.pv_types.specs.Layouts.{Entry, AllFill, layout_in, is_complete_in}
+use Rattle.pv_num.specs.declared.operators.BinOp.{BinOp}
+use Rattle.pv_types.specs.Ty.{Ty}
+use Rattle.pv_types.proofs.Fills.{layout_fills}
+use Rattle.pv_inst.specs.Table.{Table, IsMadeIn}
+use Rattle.pv_object.specs.declared.values.Pointer.{Pointer}
+use Rattle.pv_object.specs.declared.values.Reach.{Reach}
+use Rattle.pv_object.specs.declared.values.Stop.{Stop}
+use Rattle.pv_object.specs.declared.values.Value.TheVariants.{Int as IntValue, Unset, Pointer as PointerValue}
+use Rattle.pv_shadow.specs.Bytes.{read}
+use Rattle.pv_typed.specs.TypedUnits.{TypedObject, layouts, object_at, literal_at}
+use Rattle.pv_script.specs.Names.{name_at as text_of}
+use Rattle.pv_script.specs.declared.library.Library.{Library}
+use Rattle.pv_seq.specs.Sequencing.{Access, conflicts}
+use Rattle.pv_libc.specs.declared.values.Arg.{Arg}
+use Rattle.pv_libc.specs.declared.values.Reply.{Reply}
+use Rattle.pv_libc.specs.declared.values.Reply.TheVariants as reply
+use Rattle.pv_libc.specs.Steps.{Now}
+use Rattle.pv_libc.specs.Calls.{called, output}
+use Rattle.pv_world.specs.Worlds.{Worth, Nothing, Missing, Scalar, Whole, World}
+use Rattle.pv_world.specs.Worths.{truth_int, pointer_of, unplain, unpresent}
+use Rattle.pv_world.specs.Conversions.{opposite}
+use Rattle.pv_world.specs.Telling.{Told}
+use Rattle.pv_world.specs.Doing.{Done}
+use Rattle.pv_world.specs.Coming.{IsMadeWorth}
+use Rattle.pv_world.specs.Accesses.{is_inexact}
+use Rattle.pv_eval.specs.States.{Setting}
+use Rattle.pv_eval.specs.TypeForms.{Lvalue, size_of}
+use Rattle.pv_eval.specs.Permission.{permits}
+use Rattle.pv_eval.specs.Accesses.{access_to, reads_permitted, reads_at, reads, writes_alone, writes_at, writes}
+use Rattle.pv_eval.specs.Objects.{where_possible, heap_name, can_make, request_of, makes, instance_for, ends, makes_literal, can_fill, can_put, can_put_text}
+use Rattle.pv_eval.specs.Library.{replied, with_memory, asked, asks}
+use Rattle.pv_eval.specs.Suiting.{is_size, is_live, knows_worth}
+use Rattle.pv_eval.specs.Operations.{Op, Converts, Calculates, CalculatesOne, Tests, Negates, Accepts, Needs, Moves, Subtracts, Orders, Equals, Follows, Selects, TakesPart, Reads, Writes, NamesObject, NamesLiteral, Makes, MakesLiteral, Ends, BeginsBody, EndsBody, Fills, Puts, PutsText, Asks, suits, works, does}
+use Rattle.pv_eval.proofs.Guards.{left_of, right_of, worth_made}
+use Rattle.pv_laws.proofs.Calls.{called-leads}
+use Rattle.pv_laws.proofs.Worlds.{Onward, unless-on, tests-on, converts-on, calculates-on, calculates-one-on, follows-on, moves-on, selects-on, between-on, order-on, equals-on, reaching-on, worth-on, takes-on, object-on, literal-on, ends-on}
+use Rattle.pv_laws.proofs.Ways.{Changes}
+
+-- if every tag has a byte
+abbrev pub Filled : Setting → Type 0
+Filled b = AllFill (layouts b.unit)
+
+some_by : (es : List Entry) (t : Ty) (c : Bool) → (is_complete_in es t && is_size (layout_in es t).size) && c ≡ true → AllFill es → 1 ≤ (layout_in es t).size
+some_by es t c e f =
+    let complete = left_of (is_complete_in es t) (is_size (layout_in es t).size) (left_of (is_complete_in es t && is_size (layout_in es t).size) c e) in
+    omega (arith, (layout_fills es t f complete).0)
+
+-- an object that can be made has a byte then
+made-some : (b : Setting) (x : TypedObject) → can_make b x ≡ true → Filled b → 1 ≤ size_of b x.t
+made-some b x e f = some_by (layouts b.unit) x.t (not (eqb x.name heap_name)) e f
+
+pointer-made : (T : Table) (v : Worth) → IsMadeWorth T v → IsMadeIn T (pointer_of v).prov
+pointer-made T (Scalar (PointerValue p)) h = h
+pointer-made T (Scalar (IntValue n)) h = tt
+pointer-made T (Scalar Unset) h = tt
+pointer-made T Nothing h = tt
+pointer-made T Missing h = tt
+pointer-made T (Whole bs a) h = tt
+
+known-made : (T : Table) (v : Worth) → knows_worth T v ≡ true → IsMadeIn T (pointer_of v).prov
+known-made T v e = pointer-made T v (worth_made T v e)
+
+module _ {F : Type 0} {R : Table → Table → Type 0} (changes : Changes F R) where
+  pub if-on : (c : Bool) (w : World) (d e : Done) → Onward R w d → (c ≡ false → Onward R w e) → Onward R w (if c then d else e)
+  if-on true w d e h g = h
+  if-on false w d e h g = g refl
+
+  possible-on : (c : Bool) (w : World) (d : Done) → (c ≡ true → Onward R w d) → Onward R w (where_possible c w d)
+  possible-on true w d h = h refl
+  possible-on false w d h = record { leads = changes.itself }
+
+  -- accesses
+  permitted-on : (l : Lvalue) (p : Pointer) (rivals : List Access) (at : Reach) (w : World) (t : Told) → Onward R w (reads_permitted l p rivals at w t)
+  permitted-on l p rivals at w t =
+      if-on (conflicts (access_to l p false) rivals) w _ _ (record { leads = changes.itself })
+      (λ e. worth-on changes w (read w.memory.bytes at.address l.size) l.shape (Some at.address) (Some p.prov) t)
+
+  reads-at : (b : Setting) (l : Lvalue) (p : Pointer) (rivals : List Access) (at : Reach) (w : World) (t : Told) → Onward R w (reads_at b l p rivals at w t)
+  reads-at b l p rivals at w t = if-on (permits b w l at false) w _ _ (permitted-on l p rivals at w t) (λ e. record { leads = changes.itself })
+
+  reads-on : (b : Setting) (l : Lvalue) (v : Worth) (rivals : List Access) (w : World) → Onward R w (reads b l v rivals w)
+  reads-on b l v rivals w = reaching-on changes (pointer_of v) l.size l.align false w (reads_at b l (pointer_of v) rivals) (λ at u t. reads-at b l (pointer_of v) rivals at u t)
+
+  alone-on : (l : Lvalue) (p : Pointer) (v : Worth) (from : Option ℕ) (at : Reach) (w : World) (t : Told) → Onward R w (writes_alone l p v from at w t)
+  alone-on l p v from at w t = if-on (is_inexact from p.address l.size) w _ _ (record { leads = changes.itself }) (λ e. record { leads = changes.itself })
+
+  writes-at : (b : Setting) (l : Lvalue) (p : Pointer) (v : Worth) (from : Option ℕ) (rivals : List Access) (at : Reach) (w : World) (t : Told) → Onward R w (writes_at b l p v from rivals at w t)
+  writes-at b l p v from rivals at w t =
+      if-on (permits b w l at true) w _ _
+      (if-on (conflicts (access_to l p true) rivals) w _ _ (record { leads = changes.itself }) (λ e. alone-on l p v from at w t))
+      (λ e. record { leads = changes.itself })
+
+  writes-on : (b : Setting) (l : Lvalue) (place v : Worth) (from : Option ℕ) (rivals : List Access) (w : World) → Onward R w (writes b l place v from rivals w)
+  writes-on b l place v from rivals w =
+      unless-on changes (unpresent v) w _ (reaching-on changes (pointer_of place) l.size l.align true w (writes_at b l (pointer_of place) v from rivals) (λ at u t. writes-at b l (pointer_of place) v from rivals at u t))
+
+  -- calls of the library
+  replied-on : (r : Reply) (u w : World) (t : Told) → R u.memory.table w.memory.table → Onward R u (replied r w t)
+  replied-on reply.Nothing u w t h = record { leads = h }
+  replied-on (reply.Value v) u w t h = record { leads = h }
+  replied-on (reply.Exit n) u w t h = record { leads = h }
+  replied-on reply.Abort u w t h = record { leads = h }
+  replied-on (reply.Placement e) u w t h = record { leads = h }
+
+  asked-on : (w : World) (text : List ℕ) (r : Result Reply Stop) (S : Now) → R w.memory.table S.memory.table → Onward R w (asked w text r S)
+  asked-on w text (Ok r) S h = replied-on r w (with_memory w S.memory) _ h
+  asked-on w text (Err y) S h = record { leads = h }
+
+  asks-on : (f : Library) (args : List Arg) (w : World) → Onward R w (asks f args w)
+  asks-on f args w = asked-on w (output f args w.memory) (called f args w.memory).answer (called f args w.memory).after (called-leads changes f args w.memory)
+
+module _ (b : Setting) {R : Table → Table → Type 0} (changes : Changes (Filled b) R) where
+  makes-on : (o : ℕ) (w : World) → Onward R w (makes b o w)
+  makes-on o w =
+      let x = object_at b.unit o in
+      possible-on changes (can_make b x) w _ (λ e. object-on changes o x.lasting (request_of b x) w (made-some b x e))
+
+  literal-makes : (l : ℕ) (w : World) → Onward R w (makes_literal b l w)
+  literal-makes l w =
+      let bytes = (literal_at b.unit l).bytes in
+      possible-on changes (nat_le 1 (length bytes)) w _ (λ e. literal-on changes l (text_of b.unit.names 0) bytes w (λ f. leb-true 1 (length bytes) e))
+
+  ends-object : (o : ℕ) (w : World) → Onward R w (ends b o w)
+  ends-object o w = possible-on changes (is_live w (instance_for b o w)) w _ (λ e. ends-on changes w (instance_for b o w))
+
+  -- two operands whose names were made
+  subtracts-on : (size : ℕ) (v x : Worth) (w : World) → suits b (Subtracts size v x) w ≡ true → Onward R w (works b (Subtracts size v x) w)
+  subtracts-on size v x w e =
+      let T = w.memory.table in
+      let both = right_of (nat_le 1 size) (knows_worth T v && knows_worth T x) (right_of (is_size size) _ e) in
+      unless-on changes (unplain v) w _ (unless-on changes (unplain x) w _ (between-on changes size (pointer_of v) (pointer_of x) w
+      (known-made T v (left_of (knows_worth T v) (knows_worth T x) both)) (known-made T x (right_of (knows_worth T v) (knows_worth T x) both))))
+
+  orders-on : (op : BinOp) (v x : Worth) (w : World) → suits b (Orders op v x) w ≡ true → Onward R w (works b (Orders op v x) w)
+  orders-on op v x w e =
+      let T = w.memory.table in
+      let both = right_of _ (knows_worth T v && knows_worth T x) e in
+      unless-on changes (unplain v) w _ (unless-on changes (unplain x) w _ (order-on changes op (pointer_of v) (pointer_of x) w
+      (known-made T v (left_of (knows_worth T v) (knows_worth T x) both)) (known-made T x (right_of (knows_worth T v) (knows_worth T x) both))))
+
+  works-on : (o : Op) (w : World) → suits b o w ≡ true → Onward R w (works b o w)
+  works-on (Converts how v) w e = converts-on changes how v w
+  works-on (Calculates op k v x) w e = calculates-on changes op k v x w
+  works-on (CalculatesOne op k v) w e = calculates-one-on changes op k v w
+  works-on (Tests v) w e = tests-on changes truth_int v w
+  works-on (Negates v) w e = tests-on changes opposite v w
+  works-on (Accepts v) w e = unless-on changes (unpresent v) w _ (record { leads = changes.itself })
+  works-on (Needs v) w e = unless-on changes (unplain v) w _ (record { leads = changes.itself })
+  works-on (Moves minus first size v x) w e = moves-on changes minus first size v x w
+  works-on (Subtracts size v x) w e = subtracts-on size v x w e
+  works-on (Orders op v x) w e = orders-on op v x w e
+  works-on (Equals negated v x) w e = equals-on changes negated v x w
+  works-on (Follows nothing v) w e = follows-on changes nothing v w
+  works-on (Selects offset v) w e = selects-on changes offset v w
+  works-on (TakesPart offset l v) w e = takes-on changes offset l.size l.shape v w
+  works-on (Reads l place rivals) w e = reads-on changes b l place rivals w
+  works-on (Writes l place v from rivals) w e = writes-on changes b l place v from rivals w
+  works-on (NamesObject o) w e = record { leads = changes.itself }
+  works-on (NamesLiteral l) w e = record { leads = changes.itself }
+  works-on (Makes o) w e = makes-on o w
+  works-on (MakesLiteral l) w e = literal-makes l w
+  works-on (Ends o) w e = ends-object o w
+  works-on BeginsBody w e = record { leads = changes.itself }
+  works-on EndsBody w e = record { leads = changes.itself }
+  works-on (Fills o v) w e = possible-on changes (can_fill b o w) w _ (λ c. record { leads = changes.itself })
+  works-on (Puts o offset l v) w e = possible-on changes (can_put b o offset l v w) w _ (λ c. record { leads = changes.itself })
+  works-on (PutsText o offset size l) w e = possible-on changes (can_put_text b o offset size l w) w _ (λ c. record { leads = changes.itself })
+  works-on (Asks f args) w e = asks-on changes f args w
+
+  suited-on : (c : Bool) (w : World) (d x : Done) → (c ≡ true → Onward R w d) → Onward R w x → Onward R w (if c then d else x)
+  suited-on true w d x h g = h refl
+  suited-on false w d x h g = g
+
+  pub does-on : (o : Op) (w : World) → Onward R w (does b o w)
+  does-on o w = suited-on (suits b o w) w (works b o w) _ (λ e. works-on o w e) (record { leads = changes.itself })
