@@ -4,12 +4,9 @@ use Rattle.std.specs.Prelude.{Option, Some, None, IfSome, IsSome, IsNone, Result
 use Rattle.std.specs.declared.alloc.Global.{Global}
 use Rattle.std.specs.List.{filter}
 use Rattle.std.proofs.lemmas.Bool.{cases_eq}
-use Rattle.pv_script.specs.Outside.{Gains}
-use Rattle.pv_script.proofs.GainsLemmas.{gains_nothing}
 use Rattle.pv_watch.specs.Slots.{Slot, SayAll, is_kept}
 use Rattle.pv_gen.specs.Source.{source_text}
 use Rattle.pv_eval.specs.States.{State}
-use Rattle.pv_exec.specs.Streaming.{Outlet}
 use Rattle.pv_exec.specs.declared.program.RunError.TheVariants as error
 use Rattle.pv_exec.specs.declared.program.Ran.{Ran}
 use Rattle.pv_typed.specs.Tables.{Stored}
@@ -18,53 +15,49 @@ use Rattle.pv_serve.specs.declared.judging.Judgement.{Judgement}
 use Rattle.pv_serve.specs.declared.judging.Judgement.TheVariants as judgement
 use Rattle.pv_serve.specs.declared.error.NoMemory.{NoMemory}
 use Rattle.pv_serve.specs.Verdicts.{Course, course_of}
-use Rattle.pv_serve.specs.Words.{Job, FileJob, Files, Generated, job, generated, file_job, either, task_of, watched_of, kinds_of}
+use Rattle.pv_serve.specs.Jobs.{Job, FileJob, Files, Generated, task_of, watched_of, kinds_of}
+use Rattle.pv_serve.specs.Words.{job, generated, file_job, either}
 use Rattle.pv_serve.specs.Comes.{source_limit}
 use Rattle.pv_serve.specs.Judged.{Judged, SomeRun, script_limit}
-use Rattle.pv_serve.specs.Judging.{Shown, verdict_of, IsJudged, IsCutOff}
+use Rattle.pv_serve.specs.Outside.{Sunk, SinkRose, Wrote, WrotePrefix, Halls}
+use Rattle.pv_serve.specs.Judging.{Shown, verdict_of, IsJudged, BeganOutput, IsCutOff}
 use Rattle.pv_serve.specs.Report.{fault_line, words_line, report_line, status_of}
 use Rattle.pv_serve.specs.Watching.{AreTold, IsReport, kept_by}
 use Rattle.pv_serve.specs.Answer.{Answer, answer_of, no_job, HasReport, OfSource, needed, script_held, SomeVerdict, SomeAnswer, SomeEnd}
-use Rattle.pv_serve.specs.Causes.{Call, Sunk, Table, IsAnswer, JobRose, SinkRose, Wrote, WrotePrefix, WroteReport, WroteOutput, BeganOutput, Complete, Served, kept}
-use Rattle.pv_serve.specs.Serving.{IsSource, IsReportOn, HasStory, SomeReport, Reported, IsTold, Answered, FilesServed, WereRead, WereLost, HadNoRoom}
+use Rattle.pv_serve.specs.Causes.{Call, Table, IsAnswer, JobRose, WroteReport, WroteOutput, Complete, Served, kept}
+use Rattle.pv_serve.specs.Serving.{kept_halls, IsSource, IsReportOn, HasStory, SomeReport, Reported, IsTold, Answered, FilesServed, WereRead, WereLost, HadNoRoom}
 use Rattle.pv_serve.proofs.Limits.{more_decides, more_runs}
-use Rattle.pv_serve.proofs.RunLemmas.{printed_part}
+use Rattle.pv_serve.proofs.RunLemmas.{nothing, printed_part}
 
 -- ---- the answer to a source, from its judgement and the report on that
 
-nothing : (s : Sunk) → s.new ≡ s.old → Wrote s []
-nothing s same = subst (λ (o : Option (List ℕ)). Gains s.old o []) (sym same) (gains_nothing s.old)
+has_report : (j : Judgement) (shown : Shown) (hall : Halls) (P : List ℕ → Type 0) → AreTold (answer_of (verdict_of j shown)).course hall.old hall.new → SomeReport j hall.new P
+    → HasReport hall.old hall.new (answer_of (verdict_of j shown)) P
+has_report j shown hall P told r = record { told = told; text = r.text; is = r.is shown; holds = r.holds }
 
-abbrev pub at_sink : Option (List ℕ) → List Slot → Outlet
-at_sink sink slots = record { sink = sink; hall = slots }
-
-has_report : (j : Judgement) (shown : Shown) (kept new : List Slot) (P : List ℕ → Type 0) → AreTold (answer_of (verdict_of j shown)).course kept new → SomeReport j new P
-    → HasReport kept new (answer_of (verdict_of j shown)) P
-has_report j shown kept new P told r = record { told = told; text = r.text; is = r.is shown; holds = r.holds }
-
-printed_verdict : (source script : List ℕ) (t : Task) (j : Judgement) (out report : Sunk) (kept new : List Slot) (status : ℕ)
-    → IsJudged source script t (at_sink out.old kept) (at_sink out.new new) j → Reported j new report status
-    → status ≢ 12 → status ≢ 13 → SomeVerdict source script t (IsTold out report kept new status)
-printed_verdict source script t j out report kept new status is told not12 not13 = record {
+printed_verdict : (source script : List ℕ) (t : Task) (j : Judgement) (out report : Sunk) (hall : Halls) (status : ℕ)
+    → IsJudged source script t out hall j → Reported j hall.new report status
+    → status ≢ 12 → status ≢ 13 → SomeVerdict source script t (IsTold out report hall status)
+printed_verdict source script t j out report hall status is told not12 not13 = record {
   verdict = verdict_of j is.shown;
   judged = is.judged;
-  answered = record { status_is = told.status_is is.shown not12 not13; output = is.gains; whole = has_report j is.shown kept new (Wrote report) is.told (told.whole not12 not13) };
+  answered = record { status_is = told.status_is is.shown not12 not13; output = is.gains; whole = has_report j is.shown hall (Wrote report) is.told (told.whole not12 not13) };
 }
 
-pub answered_by : (source script : List ℕ) (t : Task) (j : Judgement) (out report : Sunk) (kept new : List Slot) (status : ℕ)
-    → IsJudged source script t (at_sink out.old kept) (at_sink out.new new) j → Reported j new report status → Answered source script t out report kept new status
-answered_by source script t j out report kept new status is told = record {
+pub answered_by : (source script : List ℕ) (t : Task) (j : Judgement) (out report : Sunk) (hall : Halls) (status : ℕ)
+    → IsJudged source script t out hall j → Reported j hall.new report status → Answered source script t out report hall status
+answered_by source script t j out report hall status is told = record {
   no_read_fault = told.no_read_fault;
   no_words = told.no_words;
   write_fault = λ h. inr (told.write_fault h);
   wrote = λ h. inl (record {
     verdict = verdict_of j is.shown;
     judged = is.judged;
-    answered = record { whole = is.gains; begun = has_report j is.shown kept new (WrotePrefix report) is.told (told.begun h) };
+    answered = record { whole = is.gains; begun = has_report j is.shown hall (WrotePrefix report) is.told (told.begun h) };
   });
-  printed = λ h. printed_part source script t (verdict_of j is.shown) out.old out.new is.judged is.gains;
+  printed = λ h. printed_part source script t (verdict_of j is.shown) out is.judged is.gains;
   no_memory = told.no_memory;
-  told = printed_verdict source script t j out report kept new status is told;
+  told = printed_verdict source script t j out report hall status is told;
 }
 
 -- ---- the report on a judgement
@@ -114,9 +107,9 @@ reported_by j new report text status result line is own told lost = record {
   whole = λ not12 not13. record { text = text; is = line; holds = (told not12).1 };
 }
 
-pub answered_no_memory : (source script : List ℕ) (t : Task) (out report : Sunk) (kept new : List Slot) → IsCutOff source script t (at_sink out.old kept) (at_sink out.new new) error.NoMemory
-    → report.new ≡ report.old → Answered source script t out report kept new 13
-answered_no_memory source script t out report kept new cut same = record {
+pub answered_no_memory : (source script : List ℕ) (t : Task) (out report : Sunk) (hall : Halls) → IsCutOff source script t out hall error.NoMemory
+    → report.new ≡ report.old → Answered source script t out report hall 13
+answered_no_memory source script t out report hall cut same = record {
   no_read_fault = λ h. absurd cc;
   no_words = λ h. absurd cc;
   write_fault = λ h. absurd cc;
@@ -126,20 +119,12 @@ answered_no_memory source script t out report kept new cut same = record {
   told = λ not12 not13. absurd (not13 refl);
 }
 
-pub answered_nothing : (source script : List ℕ) (t : Task) (out report : Sunk) (kept new : List Slot) → out.new ≡ out.old → report.new ≡ report.old → Answered source script t out report kept new 13
-answered_nothing source script t out report kept new out_same same = record {
-  no_read_fault = λ h. absurd cc;
-  no_words = λ h. absurd cc;
-  write_fault = λ h. absurd cc;
-  wrote = λ h. absurd cc;
-  printed = λ h. inl (nothing out out_same);
-  no_memory = λ h. nothing report same;
-  told = λ not12 not13. absurd (not13 refl);
-}
+pub answered_nothing : (source script : List ℕ) (t : Task) (out report : Sunk) (hall : Halls) → out.new ≡ out.old → report.new ≡ report.old → Answered source script t out report hall 13
+answered_nothing source script t out report hall out_same same = answered_no_memory source script t out report hall (inl (nothing out out_same)) same
 
-pub answered_write_fault : (source script : List ℕ) (t : Task) (out report : Sunk) (kept new : List Slot) → IsCutOff source script t (at_sink out.old kept) (at_sink out.new new) error.WriteFault
-    → SinkRose out → report.new ≡ report.old → Answered source script t out report kept new 12
-answered_write_fault source script t out report kept new cut rose same = record {
+pub answered_write_fault : (source script : List ℕ) (t : Task) (out report : Sunk) (hall : Halls) → IsCutOff source script t out hall error.WriteFault
+    → SinkRose out → report.new ≡ report.old → Answered source script t out report hall 12
+answered_write_fault source script t out report hall cut rose same = record {
   no_read_fault = λ h. absurd cc;
   no_words = λ h. absurd cc;
   write_fault = λ h. inl rose;
@@ -209,8 +194,12 @@ is_none : (o : Option Job) (j : Job) → o ≡ Some j → IsNone o → ⊥
 is_none None j e n = cc
 is_none (Some i) j e n = cc
 
+-- the hall once those whom the job keeps are kept
+abbrev halls_of : Call → Halls
+halls_of c = record { old = kept c; new = c.hall.new }
+
 table_of_answer : (c : Call) (j : Job) (source script : List ℕ) → job c.words ≡ Some j → IsSource j c.held source script
-    → Answered source script (task_of j) c.out c.report (kept c) c.hall.new c.status → Table c
+    → Answered source script (task_of j) c.out c.report (halls_of c) c.status → Table c
 table_of_answer c j source script e is r = record {
   read_fault = λ h. absurd (r.no_read_fault h);
   write_fault = λ h. record {
@@ -225,7 +214,7 @@ table_of_answer c j source script e is r = record {
     out = elim (r.printed h) [ inl none ↦ inl none | inr p ↦ inr (some_end c.words c.held j source script (BeganOutput c.out) e is p) ];
     report = r.no_memory h;
   };
-  every_other = λ not11 not12 not13. some_asked c.words c.held j source script (IsTold c.out c.report (kept c) c.hall.new c.status) (IsAnswer c)
+  every_other = λ not11 not12 not13. some_asked c.words c.held j source script (IsTold c.out c.report (halls_of c) c.status) (IsAnswer c)
       (λ a w. record { status = w.status_is; out = w.output; report = w.whole }) e is (r.told not12 not13);
 }
 
@@ -241,7 +230,7 @@ complete c t = complete_of c t (cases_eq c.status 11) (cases_eq c.status 12) (ca
 
 -- a call that was answered
 served_by_answer : (c : Call) (j : Job) (source script : List ℕ) → job c.words ≡ Some j → IsSource j c.held source script
-    → Answered source script (task_of j) c.out c.report (kept c) c.hall.new c.status → Served c
+    → Answered source script (task_of j) c.out c.report (halls_of c) c.status → Served c
 served_by_answer c j source script e is r =
     let t = table_of_answer c j source script e is r in
     record {
@@ -300,19 +289,19 @@ kept_is c j mid e is = is ∙ sym (ap (λ (o : Option Job). kept_by o c.hall.old
 
 -- a call that asks for a file
 pub served_by_files : (c : Call) (j : FileJob) (mid : List Slot) → job c.words ≡ Some (Files j) → mid ≡ filter (is_kept (kinds_of j.watched)) c.hall.old
-    → FilesServed j c.held c.faults_old c.faults_new c.out c.report mid c.hall.new c.status → Served c
+    → FilesServed j c.held c.faults_old c.faults_new c.out c.report (record { old = mid; new = c.hall.new }) c.status → Served c
 served_by_files c j mid e is (WereRead source script given answered) =
     served_by_answer c (Files j) source script e given
-    (subst (λ (k : List Slot). Answered source script j.task c.out c.report k c.hall.new c.status) (kept_is c (Files j) mid e is) answered)
+    (subst (λ (k : List Slot). Answered source script j.task c.out c.report (record { old = k; new = c.hall.new }) c.status) (kept_is c (Files j) mid e is) answered)
 served_by_files c j mid e is (WereLost rose same stays told lost) = served_by_fault c (Files j) e rose same (stays ∙ kept_is c (Files j) mid e is) told lost
 served_by_files c j mid e is (HadNoRoom status same kept) = served_by_nothing c (Files j) e status same kept
 
 -- a call that asks for a generated source
 pub served_by_number : (c : Call) (n : ℕ) → job c.words ≡ Some (Generated n)
-    → Answered (source_text n) [] (task_of (Generated n)) c.out c.report (kept_by (Some (Generated n)) c.hall.old) c.hall.new c.status → Served c
+    → Answered (source_text n) [] (task_of (Generated n)) c.out c.report (kept_halls (Generated n) c.hall) c.status → Served c
 served_by_number c n e answered =
     served_by_answer c (Generated n) (source_text n) [] e (refl, refl)
-    (subst (λ (k : List Slot). Answered (source_text n) [] (task_of (Generated n)) c.out c.report k c.hall.new c.status)
+    (subst (λ (k : List Slot). Answered (source_text n) [] (task_of (Generated n)) c.out c.report (record { old = k; new = c.hall.new }) c.status)
     (kept_is c (Generated n) (kept_by (Some (Generated n)) c.hall.old) e refl) answered)
 
 -- words that are no job

@@ -6,7 +6,7 @@ use Rattle.std.proofs.lemmas.Bool.{lt-ltb, le-ltb}
 use Rattle.pv_script.specs.Outside.{Rose}
 use Rattle.pv_script.specs.declared.reading.ReadError.{ReadError}
 use Rattle.pv_serve.specs.declared.serving.Given.{Given}
-use Rattle.pv_serve.specs.Words.{FileJob, Files, script_files}
+use Rattle.pv_serve.specs.Jobs.{FileJob, Files, script_files}
 use Rattle.pv_serve.specs.Comes.{source_limit}
 use Rattle.pv_serve.specs.Judged.{script_limit}
 use Rattle.pv_serve.specs.Answer.{needed, script_held}

@@ -4,7 +4,7 @@ use Rattle.pv_watch.specs.Slots.{Slot}
 use Rattle.pv_gen.specs.Source.{source_text}
 use Rattle.pv_eval.specs.States.{State}
 use Rattle.pv_serve.specs.declared.words.Task.{Task}
-use Rattle.pv_serve.specs.Words.{Job, Files, Generated, task_of}
+use Rattle.pv_serve.specs.Jobs.{Job, Files, Generated, task_of}
 use Rattle.pv_serve.specs.Verdicts.{Verdict, Course, course_of}
 use Rattle.pv_serve.specs.Comes.{source_limit}
 use Rattle.pv_serve.specs.Judged.{Judged, SomeRun}
@@ -12,55 +12,56 @@ use Rattle.pv_serve.specs.Judging.{output_of}
 use Rattle.pv_serve.specs.Report.{status_of, report_line, words_line}
 use Rattle.pv_serve.specs.Watching.{AreTold, IsReport}
 
--- The status that the program ends with (7.22.4.4p5), what it prints, the line of its report, and the run that it tells of, if it is one's.
+-- 7.22.4.4p5: the status that the program ends with, what it prints (5.1.2.3p6), the line of its report (docs/FORMATS.md), and the run that it
+-- tells of, if it is one's
 pub record Answer : Type 0 where
   pub status : ℕ
   pub out : List ℕ
   pub line : List ℕ
   pub course : Option Course
 
--- The answer to a verdict.
+-- 5.1.1.3p1, 5.1.2.3: the answer to a verdict
 abbrev pub answer_of : Verdict → Answer
 answer_of verdict = record { status = status_of verdict; out = output_of verdict; line = report_line verdict; course = course_of verdict }
 
--- The answer to words that are no job.
+-- docs/FORMATS.md: the answer to words that are no job
 abbrev pub no_job : Answer
 no_job = record { status = 10; out = []; line = words_line; course = None }
 
--- Those who watch were told of the answer, and its report, their texts behind its line, is as P says.
+-- docs/FORMATS.md: those who watch were told of the answer, and of its report, their texts behind its line, P holds
 pub record HasReport (kept new : List Slot) (a : Answer) (P : List ℕ → Type 0) : Type 0 where
   pub told : AreTold a.course kept new
   pub text : List ℕ
   pub is : IsReport a.course new a.line text
   pub holds : P text
 
--- There is a verdict on the source with this script, and its answer is as P says.
+-- 5.1.1.3p1, 5.1.2.3: there is a verdict on the source with this script, and of its answer P holds
 pub record SomeVerdict (source script : List ℕ) (task : Task) (P : Answer → Type 0) : Type 0 where
   pub verdict : Verdict
   pub judged : Judged source script task verdict
   pub answered : P (answer_of verdict)
 
--- the bytes of the script that a job names, where they are told; one that names none has none
+-- docs/FORMATS.md: the bytes of the script that a job names, where they are told; one that names none has none
 abbrev pub script_held : Option (List ℕ) → (held : List ℕ → Option (List ℕ)) → Option (List ℕ)
 script_held None held = Some []
 script_held (Some name) held = held name
 
--- of a source that is too long no script is needed
+-- 5.2.4.1: of a source that is too long no script is needed
 abbrev pub needed : (source : List ℕ) → Option (List ℕ) → Option (List ℕ)
 needed source script = if nat_lt source_limit (length source) then Some [] else script
 
--- The source of a job and its script, where they are told, are as P says; nothing is said where a file that is needed isn't told. A source that
--- is generated has no script.
+-- docs/FORMATS.md: of the source of a job and its script, where they are told, P holds; nothing is said where a file that is needed isn't told.
+-- A source that is generated has no script.
 abbrev pub OfSource : Job → (held : List ℕ → Option (List ℕ)) → ((source script : List ℕ) → Type 0) → Type 0
 OfSource (Files job) held P = IfSome (held job.file) (λ source. IfSome (needed source (script_held job.script held)) (λ script. P source script))
 OfSource (Generated number) held P = P (source_text number) []
 
--- There is an answer to the job, and it is as P says.
+-- 5.1.1.3p1, 5.1.2.3: there is an answer to the job, and of it P holds
 abbrev pub SomeAnswer : Option Job → (held : List ℕ → Option (List ℕ)) → (Answer → Type 0) → Type 0
 SomeAnswer None held P = P no_job
 SomeAnswer (Some job) held P = OfSource job held (λ source script. SomeVerdict source script (task_of job) P)
 
--- The job is a run, and of the state in which it ends P holds.
+-- 5.1.2.3: the job is a run, and of the state in which it ends P holds
 abbrev pub SomeEnd : Option Job → (held : List ℕ → Option (List ℕ)) → (State → List (List ℕ) → Type 0) → Type 0
 SomeEnd None held P = ⊥
 SomeEnd (Some job) held P = OfSource job held (λ source script. SomeRun source script (task_of job) P)

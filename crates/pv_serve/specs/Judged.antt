@@ -5,7 +5,6 @@ use Rattle.pv_script.specs.Lines.{ScriptLine}
 use Rattle.pv_script.specs.Scripts.{script_of}
 use Rattle.pv_typed.specs.TypedUnits.{WholeUnit}
 use Rattle.pv_typed.specs.Tables.{Stored, whole}
-use Rattle.pv_typed.specs.Formed.{AreKnown}
 use Rattle.pv_describe.specs.Describing.{check_text, layout_text}
 use Rattle.pv_world.specs.Worlds.{Worth}
 use Rattle.pv_eval.specs.States.{Res, State}
@@ -18,7 +17,8 @@ use Rattle.pv_serve.specs.Verdicts.{Refusal, Verdict, Ending, Ended, Described, 
 use Rattle.pv_serve.specs.Readings.{Program, Bad}
 use Rattle.pv_serve.specs.Comes.{Comes, source_limit}
 
--- how a run ends, in a unit with these names
+-- 5.1.2.3: how a run ends (5.1.2.2.3p1), at which turn, and what it shows: its output (5.1.2.3p6), and what happened in its memory (the memory
+-- model); in a unit with these names (6.4.2.1)
 pub record Ends (run : Res Worth) (texts : List (List ℕ)) (e : Ending) : Type 0 where
   pub outcome : outcome_of run ≡ Some e.outcome
   pub turns : e.turns ≡ (end_of run).taken
@@ -26,34 +26,35 @@ pub record Ends (run : Res Worth) (texts : List (List ℕ)) (e : Ending) : Type 
   pub events : e.events ≡ map event_of (end_of run).events
   pub names : e.names ≡ texts
 
--- The run of a unit (5.1.2.3), with its script and the bound on its turns. A run numbers the types of its unit, for the marks that stores
--- leave (6.5p6): so it is the run of tables that stand for the unit.
+-- 5.1.2.3: the run of a unit, with its script and the bound on its turns. A run numbers the types of its unit, for the marks that stores leave
+-- (6.5p6). Which numbers doesn't matter: all tables that stand for a unit give the same run, and each unit has tables (a law, proved in a crate
+-- above). So it is the run of any tables that stand for the unit.
 pub record IsRun (unit : WholeUnit) (lines : List ScriptLine) (bound : ℕ) (run : Res Worth) : Type 0 where
   pub tables : Stored
   pub stands : whole tables ≡ unit
-  pub known : AreKnown tables
   pub is : run ≡ run_of (setting_of tables bound None) lines
 
--- it ends so
+-- 5.1.2.3: the run of a unit ends so
 pub record RunEnds (unit : WholeUnit) (lines : List ScriptLine) (bound : ℕ) (e : Ending) : Type 0 where
   pub run : Res Worth
   pub runs : IsRun unit lines bound run
   pub ends : Ends run unit.names e
 
--- What is done with a unit comes to this: its run (5.1.2.3), or what describes it.
+-- 5.1.2.3: what is done with a unit comes to this: the end of its run, or a text that describes it (docs/FORMATS.md)
 abbrev pub UnitGives : WholeUnit → List ScriptLine → Task → Verdict → Type 0
 UnitGives unit lines (task.Run bound) verdict = (e : Ending) × RunEnds unit lines bound e × (verdict ≡ Ended e bound)
 UnitGives unit lines task.Check verdict = verdict ≡ Described (check_text unit)
 UnitGives unit lines task.Layout verdict = verdict ≡ Described (layout_text unit)
 
--- What is first refused: a source that is too long, its script, then the source for what stands in it. A program that is refused for none of these decides.
+-- 5.1.1.3p1: what is first refused: a source that is too long (5.2.4.1), its script (docs/FORMATS.md), then the source for what stands in it
+-- (6.4 to 6.9). A program that is refused for none of these decides.
 pub data Judged (source script : List ℕ) (t : Task) (verdict : Verdict) : Type 0 where
   Oversize : source_limit < length source → verdict ≡ Refused Size → Judged source script t verdict
   Unread : (why : ScriptError) → length source ≤ source_limit → script_of script ≡ Err why → verdict ≡ Script why → Judged source script t verdict
   Unfit : (lines : List ScriptLine) (refusal : Refusal) → length source ≤ source_limit → script_of script ≡ Ok lines → Comes source (Bad refusal) → verdict ≡ Refused refusal → Judged source script t verdict
   Fit : (lines : List ScriptLine) (unit : WholeUnit) → length source ≤ source_limit → script_of script ≡ Ok lines → Comes source (Program unit) → UnitGives unit lines t verdict → Judged source script t verdict
 
--- a source that is a program, with a script that has a reading: what is left is to run it, at most so long
+-- 5.1.2.3: a source that is a program, with a script that has a reading: what is left is to run it, with so many turns at most
 pub record IsToRun (source script : List ℕ) (t : Task) : Type 0 where
   pub bound : ℕ
   pub asks : t ≡ task.Run bound
@@ -63,7 +64,7 @@ pub record IsToRun (source script : List ℕ) (t : Task) : Type 0 where
   pub reads : script_of script ≡ Ok lines
   pub comes : Comes source (Program unit)
 
--- the source is run, and of the state in which its run ends, with the names of its unit, P holds, whichever way it ends
+-- 5.1.2.3: the source is run, and of the state in which its run ends, with the names of its unit, P holds, whichever way it ends
 pub record SomeRun (source script : List ℕ) (t : Task) (P : State → List (List ℕ) → Type 0) : Type 0 where
   pub job : IsToRun source script t
   pub run : Res Worth
@@ -72,16 +73,16 @@ pub record SomeRun (source script : List ℕ) (t : Task) (P : State → List (Li
 
 -- ---- laws
 
--- the most bytes of a script
+-- docs/FORMATS.md: the most bytes of a script of addresses (the memory model: where storage instances lie)
 unfoldable pub script_limit : ℕ
 script_limit = 65536
 
--- the verdict of a source that is to be run is that of its run
+-- 5.1.2.3: the verdict of a source that is to be run is that of its run
 pub record IsLeftToRun (source script : List ℕ) (t : Task) : Type 0 where
   pub job : IsToRun source script t
   pub verdict : (e : Ending) → RunEnds job.unit job.lines job.bound e → Judged source script t (Ended e job.bound)
 
--- both are ends of its run
+-- 5.1.2.3: the source is run, and both verdicts are ends of its run
 pub record BothRun (source script : List ℕ) (t : Task) (v w : Verdict) : Type 0 where
   pub job : IsToRun source script t
   pub one : Ending

@@ -1,3 +1,4 @@
+pub mod Jobs
 pub mod Words
 pub mod Verdicts
 pub mod Readings
@@ -5,6 +6,7 @@ pub mod Comes
 pub mod Judged
 pub mod Report
 pub mod Watching
+pub mod Outside
 pub mod Judging
 pub mod Answer
 pub mod Causes

@@ -1,4 +1,5 @@
--- The line that tells a verdict, and the status that goes with it.
+-- The line that tells a verdict, and the status that goes with it. C17 leaves the form of a diagnostic message (5.1.1.3p1) and of what is told of
+-- a run's end (7.22.4.4p5) to its implementation: docs/FORMATS.md has the rules.
 use Rattle.std.specs.Prelude.{ℕ, ℤ, List, [], ◌∷◌, ◌++◌, codes}
 use Rattle.std.specs.Fmt.{decimal, signed_decimal}
 use Rattle.pv_num.specs.declared.faults.Fault.{Fault}
@@ -11,38 +12,39 @@ use Rattle.pv_exec.specs.declared.outcome.Outcome.{Outcome}
 use Rattle.pv_exec.specs.declared.outcome.Outcome.TheVariants as outcome
 use Rattle.pv_serve.specs.Verdicts.{Verdict, Ended, Described, Refused, Script, Refusal, Size, Byte, Token, Profile, Syntax, Constraint, Unresolved, NoMain}
 
--- A line ends with a line feed (5.2.2).
+-- 7.21.2p2: a line ends with a line feed
 abbrev pub line_feed : List ℕ
 line_feed = 10 ∷ []
 
--- An operation without defined behaviour (3.4.3): the paragraph that it breaks, why, its line (5.1.1.2), and the turns.
+-- 3.4.3: an operation without defined behaviour: the paragraph that it breaks, why, its line (6.10.4p3), and the turns (5.1.2.3p1)
 abbrev pub undefined_line : Fault → (line turns : ℕ) → List ℕ
 undefined_line fault line turns =
     codes "undefined clause=" ++ clause_text fault.clause ++ codes " reason=" ++ reason_text fault.reason
     ++ codes " line=" ++ decimal line ++ codes " turn=" ++ decimal turns ++ line_feed
 
--- The value that `main` returned, or that `exit` was called with (5.1.2.2.3, 7.22.4.4), and the turns. Numbers are decimal, without leading zeros.
+-- 5.1.2.2.3, 7.22.4.4: the value that `main` returned, or that `exit` was called with, and the turns; numbers are decimal, without leading zeros
 abbrev pub exit_line : (status : ℤ) (turns : ℕ) → List ℕ
 exit_line status turns = codes "exit status=" ++ signed_decimal status ++ codes " turn=" ++ decimal turns ++ line_feed
 
--- A line of the source at which a run ended, by this word, and the turns.
+-- 6.10.4p3: a line of the source at which a run ended, in this way, and the turns (5.1.2.3p1)
 abbrev pub at_line : (word : List ℕ) → (line turns : ℕ) → List ℕ
 at_line word line turns = word ++ codes " line=" ++ decimal line ++ codes " turn=" ++ decimal turns ++ line_feed
 
--- A place that the script has for an instance and that can't be given: why, its name, which of the requests for that name it is, from 1.
+-- the memory model: a place that the script has for a storage instance and that can't be given: why, its name, which of the requests for that
+-- name it is, from 1
 abbrev pub placement_line : Reason → (name : List ℕ) → (k line turns : ℕ) → List ℕ
 placement_line reason name k line turns =
     codes "placement reason=" ++ reason_text reason ++ codes " name=" ++ name
     ++ (codes " k=" ++ decimal k ++ codes " line=" ++ decimal line ++ codes " turn=" ++ decimal turns ++ line_feed)
 
--- The bytes that are live, and those that were asked for (5.2.4.1).
+-- 5.2.4.1: the bytes that are live, and those that were asked for and would be too many
 abbrev pub storage_line : (live size line turns : ℕ) → List ℕ
 storage_line live size line turns =
     codes "storage live=" ++ decimal live ++ codes " size=" ++ decimal size
     ++ codes " line=" ++ decimal line ++ codes " turn=" ++ decimal turns ++ line_feed
 
--- How a run ended, in a unit with these names: an indeterminate value (3.19.2), an order that is undecided (6.5.8p5), `abort` (7.22.4.1), and those
--- above. One that used up its turns is told by the bound alone.
+-- 5.1.2.3: how a run ended, in a unit with these names: an indeterminate value (3.19.2), an order that is undecided (6.5.8p5), `abort` (7.22.4.1),
+-- a pair without a side (the memory model), and those above. One that used up its turns is told by the bound alone.
 abbrev pub outcome_line : Outcome → (names : List (List ℕ)) → (turns bound : ℕ) → List ℕ
 outcome_line (outcome.Exit status) names turns bound = exit_line status turns
 outcome_line (outcome.Undefined fault line) names turns bound = undefined_line fault line turns
@@ -54,16 +56,16 @@ outcome_line outcome.Turns names turns bound = codes "turns bound=" ++ decimal b
 outcome_line (outcome.Abort line) names turns bound = at_line (codes "abort") line turns
 outcome_line (outcome.SidesEnded pair) names turns bound = codes "sides ended pair=" ++ decimal pair ++ line_feed
 
--- A word that is of C17 and not of the language that is run (6.4.1).
+-- 6.4.1: a word that is of C17 and not of the language that is run
 abbrev pub profile_line : (place : ℕ) (word : List ℕ) → List ℕ
 profile_line place word = codes "refused reason=profile at=" ++ decimal place ++ codes " word=" ++ word ++ line_feed
 
--- A name that an expression names and that nothing defines (6.9p5).
+-- 6.9p5: a name that an expression names and that nothing defines
 abbrev pub unresolved_line : (name : List ℕ) → List ℕ
 unresolved_line name = codes "refused reason=unresolved name=" ++ name ++ line_feed
 
--- A refusal: by size (5.2.4.1), by a byte (5.2.1), a token (6.4) or a word at its place from 0, by the grammar (6.9) behind so many whole
--- external declarations, by a constraint behind so many that have a typing (6.5 to 6.9), by a name (6.9p5), or for want of `main` (5.1.2.2.1).
+-- 5.1.1.3p1: a refusal: by size (5.2.4.1), by a byte (5.2.1), a token (6.4) or a word at its place from 0, by the grammar (6.9) behind so many whole
+-- external declarations, by a constraint behind so many that have a typing (6.5 to 6.9), by a name (6.9p5), or for want of `main` (5.1.2.2.1)
 abbrev pub refusal_line : Refusal → List ℕ
 refusal_line Size = codes "refused reason=size" ++ line_feed
 refusal_line (Byte place) = codes "refused reason=byte at=" ++ decimal place ++ line_feed
@@ -74,25 +76,26 @@ refusal_line (Constraint index) = codes "refused reason=constraint index=" ++ de
 refusal_line (Unresolved name) = unresolved_line name
 refusal_line NoMain = codes "refused reason=main" ++ line_feed
 
--- Two lines of a script speak of one request.
+-- docs/FORMATS.md: two lines of a script speak of one request
 abbrev pub repeated_line : (line first : ℕ) → List ℕ
 repeated_line line first = codes "script reason=repeated line=" ++ decimal line ++ codes " first=" ++ decimal first ++ line_feed
 
--- A script: it is too long, or this line of it, from 1, has no reading, or speaks of the request of which that line speaks first. No text is refused
--- for want of memory.
+-- docs/FORMATS.md: a script is too long, or this line of it, from 1, has no reading, or speaks of the request of which that line speaks first; no
+-- text is refused for want of memory
 abbrev pub script_line : ScriptError → List ℕ
 script_line script.Size = codes "script reason=size" ++ line_feed
 script_line (script.BadLine line) = codes "script reason=line line=" ++ decimal line ++ line_feed
 script_line (script.Repeated line first) = repeated_line line first
 script_line script.NoMemory = []
 
--- What is told of a verdict; a text that describes a source is told as it is.
+-- 5.1.1.3p1, 5.1.2.3: what is told of a verdict; a text that describes a source is told as it is
 abbrev pub report_line : Verdict → List ℕ
 report_line (Ended e bound) = outcome_line e.outcome e.names e.turns bound
 report_line (Described text) = text
 report_line (Refused refusal) = refusal_line refusal
 report_line (Script why) = script_line why
 
+-- docs/FORMATS.md: the status by how a run ended; it is 0 where the program came to its end (5.1.2.2.3, 7.22.4.4)
 abbrev pub outcome_status : Outcome → ℕ
 outcome_status (outcome.Exit status) = 0
 outcome_status (outcome.Undefined fault line) = 1
@@ -104,17 +107,17 @@ outcome_status outcome.Turns = 6
 outcome_status (outcome.Abort line) = 7
 outcome_status (outcome.SidesEnded pair) = 14
 
--- The status that the program ends with (7.22.4.4p5). The status that the source's `main` returned is in the line alone.
+-- 7.22.4.4p5: the status that the program ends with (docs/FORMATS.md); the one that the source's `main` returned is in the line alone
 abbrev pub status_of : Verdict → ℕ
 status_of (Ended e bound) = outcome_status e.outcome
 status_of (Described text) = 0
 status_of (Refused refusal) = 8
 status_of (Script why) = 9
 
--- The words are no job.
+-- docs/FORMATS.md: what is told of words that are no job
 abbrev pub words_line : List ℕ
 words_line = codes "words" ++ line_feed
 
--- A file that the words name could not be read.
+-- docs/FORMATS.md: what is told where a file that the words name could not be read
 abbrev pub fault_line : List ℕ
 fault_line = codes "fault read" ++ line_feed

@@ -6,13 +6,13 @@ ghost use Rattle.pv_script.specs.Scripts.{script_of, OrNoMemory};
 ghost use Rattle.pv_script.specs.declared.scripts.ScriptError.{ScriptError};
 ghost use Rattle.pv_watch.specs.Slots.{Slot};
 ghost use Rattle.pv_typed.specs.Tables.{Stored, whole};
-ghost use Rattle.pv_exec.specs.Answering.{hall_slots, outlet};
 ghost use Rattle.pv_exec.specs.Run.{setting_of, run_of};
-ghost use Rattle.pv_serve.specs.Words.{IsTask, IsBound};
+ghost use Rattle.pv_serve.specs.Jobs.{IsTask, IsBound};
 ghost use Rattle.pv_serve.specs.Verdicts.{Verdict, Ending, Described, Course};
 ghost use Rattle.pv_serve.specs.Readings.{IsFit};
 ghost use Rattle.pv_serve.specs.Comes.{source_limit};
 ghost use Rattle.pv_serve.specs.Judged.{Judged, Ends, IsLeftToRun, BothRun, script_limit};
+ghost use Rattle.pv_serve.specs.Outside.{sunk, halls};
 ghost use Rattle.pv_serve.specs.Judging.{IsJudged, IsCutOff, IsScriptRefused, nothing_shown, verdict_of, UnitJudged, UnitCutOff, HasFault};
 ghost use Rattle.pv_serve.specs.Watching.{AreFresh, AreTold, IsReport, stories};
 
@@ -58,8 +58,10 @@ pub fn judge<O: Sink>(
     hall: &mut Hall,
 ) -> Result<Judgement, RunError>
     requires { IsTask task }
-    ensures judged { IfOk result (IsJudged source.now script.now task (outlet (O.written out.old) hall.old its_kind its_wants seen) (outlet (O.written out.new) hall.new its_kind its_wants seen)) }
-    ensures part { IfErr result (IsCutOff source.now script.now task (outlet (O.written out.old) hall.old its_kind its_wants seen) (outlet (O.written out.new) hall.new its_kind its_wants seen)) }
+    ensures judged { IfOk result (IsJudged source.now script.now task
+        (sunk O.written O.faults out.old out.new) (halls hall.old hall.new its_kind its_wants seen)) }
+    ensures part { IfErr result (IsCutOff source.now script.now task
+        (sunk O.written O.faults out.old out.new) (halls hall.old hall.new its_kind its_wants seen)) }
     ensures cause { HasFault result (O.faults out.old) (O.faults out.new) }
 {
     if source.len() > SOURCE_LIMIT {
@@ -73,7 +75,8 @@ pub fn judge<O: Sink>(
 
 // A script is refused for any reason but want of memory.
 fn script_refused(why: ScriptError) -> Result<Judgement, RunError>
-    ensures refused { (wanted : Result (List ScriptLine) ScriptError) → OrNoMemory {A = List ScriptLine} (λ s. s) (Err why) wanted → IfOk result (IsScriptRefused wanted) }
+    ensures refused { (wanted : Result (List ScriptLine) ScriptError)
+        → OrNoMemory {A = List ScriptLine} (λ s. s) (Err why) wanted → IfOk result (IsScriptRefused wanted) }
     ensures memory { IfErr result (λ e. e ≡ RunError.NoMemory) }
 {
     match why {
@@ -93,8 +96,10 @@ fn judge_source<O: Sink>(
 ) -> Result<Judgement, RunError>
     requires length { length source.now ≤ 2 ^ 20 }
     requires task { IsTask task }
-    ensures judged { (script : List ℕ) → script_of script ≡ Ok lines → IfOk result (IsJudged source.now script task (outlet (O.written out.old) hall.old its_kind its_wants seen) (outlet (O.written out.new) hall.new its_kind its_wants seen)) }
-    ensures part { (script : List ℕ) → script_of script ≡ Ok lines → IfErr result (IsCutOff source.now script task (outlet (O.written out.old) hall.old its_kind its_wants seen) (outlet (O.written out.new) hall.new its_kind its_wants seen)) }
+    ensures judged { (script : List ℕ) → script_of script ≡ Ok lines → IfOk result (IsJudged source.now script task
+        (sunk O.written O.faults out.old out.new) (halls hall.old hall.new its_kind its_wants seen)) }
+    ensures part { (script : List ℕ) → script_of script ≡ Ok lines → IfErr result (IsCutOff source.now script task
+        (sunk O.written O.faults out.old out.new) (halls hall.old hall.new its_kind its_wants seen)) }
     ensures cause { HasFault result (O.faults out.old) (O.faults out.new) }
 {
     match typed(alloc, source) {
@@ -115,8 +120,10 @@ fn judge_unit<O: Sink>(
 ) -> Result<Judgement, RunError>
     requires fit { IsFit unit }
     requires task { IsTask task }
-    ensures judged { IfOk result (UnitJudged (whole unit) lines task (outlet (O.written out.old) hall.old its_kind its_wants seen) (outlet (O.written out.new) hall.new its_kind its_wants seen)) }
-    ensures part { IfErr result (UnitCutOff (whole unit) lines task (outlet (O.written out.old) hall.old its_kind its_wants seen) (outlet (O.written out.new) hall.new its_kind its_wants seen)) }
+    ensures judged { IfOk result (UnitJudged (whole unit) lines task
+        (sunk O.written O.faults out.old out.new) (halls hall.old hall.new its_kind its_wants seen)) }
+    ensures part { IfErr result (UnitCutOff (whole unit) lines task
+        (sunk O.written O.faults out.old out.new) (halls hall.old hall.new its_kind its_wants seen)) }
     ensures cause { HasFault result (O.faults out.old) (O.faults out.new) }
 {
     match task {
@@ -128,7 +135,8 @@ fn judge_unit<O: Sink>(
 
 // A unit is described by this text.
 fn described(text: Result<Vec<u8>, pv_types::NoMemory>) -> Result<Judgement, RunError>
-    ensures described { (want : List ℕ) → IfOk text (λ v. v.items ≡ want) → IfOk result (λ j. verdict_of j nothing_shown ≡ Described want) }
+    ensures described { (want : List ℕ) → IfOk text (λ v. v.items ≡ want)
+        → IfOk result (λ j. verdict_of j nothing_shown ≡ Described want) }
     ensures memory { IfErr result (λ e. e ≡ RunError.NoMemory) }
 {
     match text {
@@ -148,8 +156,10 @@ fn run_unit<O: Sink>(
 ) -> Result<Judgement, RunError>
     requires fit { IsFit unit }
     requires bound { IsBound bound }
-    ensures judged { IfOk result (UnitJudged (whole unit) lines (Task.Run bound) (outlet (O.written out.old) hall.old its_kind its_wants seen) (outlet (O.written out.new) hall.new its_kind its_wants seen)) }
-    ensures part { IfErr result (UnitCutOff (whole unit) lines (Task.Run bound) (outlet (O.written out.old) hall.old its_kind its_wants seen) (outlet (O.written out.new) hall.new its_kind its_wants seen)) }
+    ensures judged { IfOk result (UnitJudged (whole unit) lines (Task.Run bound)
+        (sunk O.written O.faults out.old out.new) (halls hall.old hall.new its_kind its_wants seen)) }
+    ensures part { IfErr result (UnitCutOff (whole unit) lines (Task.Run bound)
+        (sunk O.written O.faults out.old out.new) (halls hall.old hall.new its_kind its_wants seen)) }
     ensures cause { HasFault result (O.faults out.old) (O.faults out.new) }
 {
     match run(alloc, &unit, lines, bound, None, out, hall) {
@@ -160,14 +170,16 @@ fn run_unit<O: Sink>(
 
 /// A law: a source comes to one verdict, with each script and whatever is done with it. If it is run, its verdict is an end of that run.
 pub fn one_verdict()
-    ensures some { (source script : List ℕ) (t : Task) → ((v : Verdict) × Judged source script t v) ⊎ IsLeftToRun source script t }
-    ensures one { (source script : List ℕ) (t : Task) (v w : Verdict) → Judged source script t v → Judged source script t w → (v ≡ w) ⊎ BothRun source script t v w }
+    ensures some { (source script : List ℕ) (t : Task)
+        → ((v : Verdict) × Judged source script t v) ⊎ IsLeftToRun source script t }
+    ensures one { (source script : List ℕ) (t : Task) (v w : Verdict)
+        → Judged source script t v → Judged source script t w → (v ≡ w) ⊎ BothRun source script t v w }
 {}
 
 /// A law: a run of the same tables, with the same script and bound, has no two ends.
 pub fn one_end()
     ensures { (u : Stored) (lines : List ScriptLine) (bound : ℕ) (names : List (List ℕ)) (e f : Ending) →
-        Ends (run_of (setting_of u bound None) lines) names e → Ends (run_of (setting_of u bound None) lines) names f → e ≡ f }
+        let run = run_of (setting_of u bound None) lines in Ends run names e → Ends run names f → e ≡ f }
 {}
 
 /// A law: of a source and of a script, one byte above the limit tells as much as all that follow.
@@ -181,5 +193,6 @@ pub fn first_bytes_decide()
 /// A law: watchers that had seen nothing before a run say behind its line, in their order, each the text of its kind over the first
 /// events, as many as it wants.
 pub fn watchers_tell()
-    ensures { (kept new : List Slot) (c : Course) (line text : List ℕ) → AreFresh kept → AreTold (Some c) kept new → IsReport (Some c) new line text → text ≡ line ++ stories c kept }
+    ensures { (kept new : List Slot) (c : Course) (line text : List ℕ) → AreFresh kept → AreTold (Some c) kept new
+        → IsReport (Some c) new line text → text ≡ line ++ stories c kept }
 {}

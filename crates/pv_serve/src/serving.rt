@@ -1,17 +1,18 @@
 // The top call: what one call of the program does from its words to its status.
-ghost use Rattle.std.specs.Prelude.{◌≡◌, ◌≢◌, ◌⊎◌, ◌+◌, ◌<◌, ◌≤◌, ⊤, ℕ, [], List, take, Some, IfSome, option_map, Any, IsNone, IfOk, OnOk, IsErrOf};
+ghost use Rattle.std.specs.Prelude.{◌≡◌, ◌≢◌, ◌⊎◌, ◌+◌, ◌<◌, ◌≤◌, ⊤, ℕ, [], List, take, Some, IfSome, option_map, IsNone, IfOk, OnOk, IsErrOf};
 ghost use Rattle.std.specs.List.{filter};
 ghost use Rattle.pv_script.specs.Outside.{Rose, Gains, GainsPrefix};
 ghost use Rattle.pv_watch.specs.Slots.{is_kept};
 ghost use Rattle.pv_gen.specs.Source.{source_text};
 ghost use Rattle.pv_exec.specs.Answering.{hall_slots};
-ghost use Rattle.pv_serve.specs.Words.{IsTask, texts, file_job as file_job_of, job as job_of, job_by, Files as JobOfFiles, Generated, script_files, kinds_of, watched_of, default_turns};
+ghost use Rattle.pv_serve.specs.Jobs.{IsTask, Files as JobOfFiles, Generated, script_files, kinds_of, default_turns};
+ghost use Rattle.pv_serve.specs.Words.{texts, file_job as file_job_of, job as job_of, asked_job};
 ghost use Rattle.pv_serve.specs.Comes.{source_limit};
 ghost use Rattle.pv_serve.specs.Judged.{script_limit};
 ghost use Rattle.pv_serve.specs.Answer.{SomeAnswer, script_held};
-ghost use Rattle.pv_serve.specs.Causes.{Call, Served, IsAnswer, JobRose};
-ghost use Rattle.pv_serve.specs.Watching.{kept_by};
-ghost use Rattle.pv_serve.specs.Serving.{Answered, FilesServed, HasStory, Reported, IsGiven, IsReportOn, sunk};
+ghost use Rattle.pv_serve.specs.Outside.{sunk, halls};
+ghost use Rattle.pv_serve.specs.Causes.{Call, Served, IsAnswer, AnyRose, JobRose};
+ghost use Rattle.pv_serve.specs.Serving.{Answered, FilesServed, HasStory, Reported, IsGiven, IsReportOn, kept_halls};
 ghost use Rattle.pv_script.specs.Memory.{calm_held, calm_written};
 
 use crate::NoMemory;
@@ -77,22 +78,9 @@ pub fn serve<F: Files, O: Sink, R: Sink>(
       held = F.held files.old;
       faults_old = F.faults files.old;
       faults_new = F.faults files.new;
-      out = record {
-        old = O.written out.old;
-        new = O.written out.new;
-        faults_old = O.faults out.old;
-        faults_new = O.faults out.new;
-      };
-      report = record {
-        old = R.written report.old;
-        new = R.written report.new;
-        faults_old = R.faults report.old;
-        faults_new = R.faults report.new;
-      };
-      hall = record {
-        old = hall_slots hall.old its_kind its_wants seen;
-        new = hall_slots hall.new its_kind its_wants seen;
-      };
+      out = sunk O.written O.faults out.old out.new;
+      report = sunk R.written R.faults report.old report.new;
+      hall = halls hall.old hall.new its_kind its_wants seen;
       status = result;
     } in Served call }
     ensures files_same { (n : List ℕ) → F.held files.new n ≡ F.held files.old n }
@@ -115,7 +103,8 @@ pub fn serve<F: Files, O: Sink, R: Sink>(
 // Keeps those of the hall who are wanted.
 fn keep(alloc: Global, watched: Watched, hall: &mut Hall) -> Result<(), NoMemory>
     requires hall { ⊤ }
-    ensures { OnOk result (hall_slots hall.new its_kind its_wants seen ≡ filter (is_kept (kinds_of watched)) (hall_slots hall.old its_kind its_wants seen)) }
+    ensures { OnOk result (hall_slots hall.new its_kind its_wants seen
+        ≡ filter (is_kept (kinds_of watched)) (hall_slots hall.old its_kind its_wants seen)) }
 {
     let kinds = kinds_of(alloc, watched)?;
     hall.keep(kinds.as_slice());
@@ -132,9 +121,8 @@ fn run_generated<O: Sink, R: Sink>(
 ) -> u8
     requires number { (0 < number) × (number ≤ 8192) }
     ensures { Answered (source_text number) [] (Task.Run default_turns)
-        (sunk (O.written out.old) (O.written out.new) (O.faults out.old) (O.faults out.new))
-        (sunk (R.written report.old) (R.written report.new) (R.faults report.old) (R.faults report.new))
-        (kept_by (Some (Generated number)) (hall_slots hall.old its_kind its_wants seen)) (hall_slots hall.new its_kind its_wants seen) result }
+        (sunk O.written O.faults out.old out.new) (sunk R.written R.faults report.old report.new)
+        (kept_halls (Generated number) (halls hall.old hall.new its_kind its_wants seen)) result }
 {
     match keep(alloc, COUNTED, hall) {
         Ok(()) => {}
@@ -159,11 +147,9 @@ fn run_files<F: Files, O: Sink, R: Sink>(
     hall: &mut Hall,
 ) -> u8
     requires task { IsTask asked.task }
-    ensures served { FilesServed (job_by (λ s. s.now) asked.entry.file.now asked.entry.script asked.entry.task asked.entry.watched)
-        (F.held files.old) (F.faults files.old) (F.faults files.new)
-        (sunk (O.written out.old) (O.written out.new) (O.faults out.old) (O.faults out.new))
-        (sunk (R.written report.old) (R.written report.new) (R.faults report.old) (R.faults report.new))
-        (hall_slots hall.old its_kind its_wants seen) (hall_slots hall.new its_kind its_wants seen) result }
+    ensures served { FilesServed (asked_job asked.entry) (F.held files.old) (F.faults files.old) (F.faults files.new)
+        (sunk O.written O.faults out.old out.new) (sunk R.written R.faults report.old report.new)
+        (halls hall.old hall.new its_kind its_wants seen) result }
     ensures files_same { (n : List ℕ) → F.held files.new n ≡ F.held files.old n }
 {
     match read_given(alloc, files, asked) {
@@ -190,10 +176,10 @@ struct Given {
 
 // Reads a job's files.
 fn read_given<F: Files>(alloc: Global, files: &mut F, asked: Asked<'_>) -> Result<Given, ReadError>
-    ensures read { IfOk result (λ g. IsGiven (job_by (λ s. s.now) asked.entry.file.now asked.entry.script asked.entry.task asked.entry.watched) (F.held files.old) g.source.items g.script.items) }
+    ensures read { IfOk result (λ g. IsGiven (asked_job asked.entry) (F.held files.old) g.source.items g.script.items) }
     ensures same { (n : List ℕ) → F.held files.new n ≡ F.held files.old n }
     ensures cause { IsErrOf result ReadError.Fault →
-        JobRose (Some (JobOfFiles (job_by (λ s. s.now) asked.entry.file.now asked.entry.script asked.entry.task asked.entry.watched))) (F.faults files.old) (F.faults files.new) }
+        JobRose (Some (JobOfFiles (asked_job asked.entry))) (F.faults files.old) (F.faults files.new) }
 {
     match read_all(alloc, files, asked.file, SOURCE_LIMIT) {
         Ok(source) => with_script(alloc, files, asked, source),
@@ -209,10 +195,10 @@ fn with_script<F: Files>(
     source: Vec<u8>,
 ) -> Result<Given, ReadError>
     requires { IfSome (F.held files.old asked.file.now) (λ all. source.items ≡ take (source_limit + 1) all) }
-    ensures read { IfOk result (λ g. IsGiven (job_by (λ s. s.now) asked.entry.file.now asked.entry.script asked.entry.task asked.entry.watched) (F.held files.old) g.source.items g.script.items) }
+    ensures read { IfOk result (λ g. IsGiven (asked_job asked.entry) (F.held files.old) g.source.items g.script.items) }
     ensures same { (n : List ℕ) → F.held files.new n ≡ F.held files.old n }
     ensures cause { IsErrOf result ReadError.Fault →
-        Any (λ n. Rose (F.faults files.old n) (F.faults files.new n)) (script_files (option_map (λ s. s.now) asked.entry.script)) }
+        AnyRose (script_files (asked_job asked.entry).script) (F.faults files.old) (F.faults files.new) }
 {
     if source.len() > SOURCE_LIMIT {
         let script = Vec::new(alloc);
@@ -230,10 +216,11 @@ fn script_given<F: Files>(
     files: &mut F,
     name: Option<&str>,
 ) -> Result<Vec<u8>, ReadError>
-    ensures read { IfOk result (λ v. IfSome (script_held (option_map (λ s. s.now) name.entry) (F.held files.old)) (λ text. v.items ≡ take (script_limit + 1) text)) }
+    ensures read { IfOk result (λ v. IfSome (script_held (option_map (λ s. s.now) name.entry) (F.held files.old))
+        (λ text. v.items ≡ take (script_limit + 1) text)) }
     ensures same { (n : List ℕ) → F.held files.new n ≡ F.held files.old n }
     ensures cause { IsErrOf result ReadError.Fault →
-        Any (λ n. Rose (F.faults files.old n) (F.faults files.new n)) (script_files (option_map (λ s. s.now) name.entry)) }
+        AnyRose (script_files (option_map (λ s. s.now) name.entry)) (F.faults files.old) (F.faults files.new) }
 {
     match name {
         Some(name) => read_all(alloc, files, name, SCRIPT_LIMIT),
@@ -252,10 +239,8 @@ fn answer<O: Sink, R: Sink>(
     hall: &mut Hall,
 ) -> u8
     requires { IsTask task }
-    ensures { Answered source.now script.now task
-        (sunk (O.written out.old) (O.written out.new) (O.faults out.old) (O.faults out.new))
-        (sunk (R.written report.old) (R.written report.new) (R.faults report.old) (R.faults report.new))
-        (hall_slots hall.old its_kind its_wants seen) (hall_slots hall.new its_kind its_wants seen) result }
+    ensures { Answered source.now script.now task (sunk O.written O.faults out.old out.new)
+        (sunk R.written R.faults report.old report.new) (halls hall.old hall.new its_kind its_wants seen) result }
 {
     match judge(alloc, source, script, task, out, hall) {
         Err(RunError::NoMemory) => NO_MEMORY,
@@ -267,7 +252,7 @@ fn answer<O: Sink, R: Sink>(
 // Reports a judgement, by a text that is made whole first.
 fn told<R: Sink>(alloc: Global, judgement: &Judgement, report: &mut R, hall: &Hall) -> u8
     ensures { Reported judgement.now (hall_slots hall.now its_kind its_wants seen)
-        (sunk (R.written report.old) (R.written report.new) (R.faults report.old) (R.faults report.new)) result }
+        (sunk R.written R.faults report.old report.new) result }
 {
     match report_of(alloc, judgement, hall) {
         Err(_) => NO_MEMORY,
@@ -327,22 +312,9 @@ pub fn serve_calmly(
       held = λ n. Some (calm_held files.old n);
       faults_old = λ _. 0;
       faults_new = λ _. 0;
-      out = record {
-        old = calm_written out.old;
-        new = calm_written out.new;
-        faults_old = 0;
-        faults_new = 0;
-      };
-      report = record {
-        old = calm_written report.old;
-        new = calm_written report.new;
-        faults_old = 0;
-        faults_new = 0;
-      };
-      hall = record {
-        old = hall_slots hall.old its_kind its_wants seen;
-        new = hall_slots hall.new its_kind its_wants seen;
-      };
+      out = sunk calm_written (λ _. 0) out.old out.new;
+      report = sunk calm_written (λ _. 0) report.old report.new;
+      hall = halls hall.old hall.new its_kind its_wants seen;
       status = result;
     } in (result ≡ 13) ⊎ SomeAnswer (job_of call.words) call.held (IsAnswer call) }
 {

@@ -1,8 +1,9 @@
 // The words of the command line (C17 5.1.2.2.1).
-ghost use Rattle.std.specs.Prelude.{◌≡◌, ◌<◌, ◌≤◌, ◌&&◌, ◌++◌, nat_lt, length, codes, Some, None, MatchOption, IfSome, OnOk, IfOk, string_bytes};
+ghost use Rattle.std.specs.Prelude.{◌≡◌, ◌<◌, ◌≤◌, ◌&&◌, ◌++◌, nat_lt, length, codes, IfSome, OnOk, IfOk, string_bytes};
 ghost use Rattle.std.specs.Str.{bytes_eq};
 ghost use Rattle.pv_serve.specs.Words as specified;
-ghost use Rattle.pv_serve.specs.Words.{IsTask, AreBounded, if_wanted, kinds_of};
+ghost use Rattle.pv_serve.specs.Jobs.{IsTask, if_wanted, kinds_of};
+ghost use Rattle.pv_serve.specs.Words.{IsAsked, AreOptions, AreBounded};
 
 use std::alloc::{AllocError, Global};
 
@@ -121,9 +122,7 @@ fn source_number(text: &str) -> Option<u32>
 /// The options of a run are `--script F` and `--turns N`, each at most once, and `--watch W`, at most once for each of `explain`, `census`
 /// and `pointers`, in any order.
 pub fn file_job(words: &[String]) -> Option<Asked<'_>>
-    ensures words { MatchOption result
-        (specified.file_job (specified.texts words.now) ≡ None)
-        (λ j. specified.file_job (specified.texts words.now) ≡ Some (specified.job_by (λ s. s.now) j.file.now j.script j.task j.watched)) }
+    ensures words { IsAsked result (specified.file_job (specified.texts words.now)) }
     ensures turns { IfSome result (λ j. IsTask j.task) }
 {
     match words {
@@ -140,9 +139,7 @@ pub fn file_job(words: &[String]) -> Option<Asked<'_>>
 
 // What a mode asks of a file, with these words behind it.
 fn asked_by<'a>(mode: &str, file: &'a str, rest: &'a [String]) -> Option<Asked<'a>>
-    ensures words { MatchOption result
-        (specified.asked mode.now file.now (specified.texts rest.now) ≡ None)
-        (λ j. specified.asked mode.now file.now (specified.texts rest.now) ≡ Some (specified.job_by (λ s. s.now) j.file.now j.script j.task j.watched)) }
+    ensures words { IsAsked result (specified.asked mode.now file.now (specified.texts rest.now)) }
     ensures turns { IfSome result (λ j. IsTask j.task) }
 {
     match mode {
@@ -155,9 +152,7 @@ fn asked_by<'a>(mode: &str, file: &'a str, rest: &'a [String]) -> Option<Asked<'
 
 // A run of a file, with these options.
 fn run_of<'a>(file: &'a str, rest: &'a [String]) -> Option<Asked<'a>>
-    ensures words { MatchOption result
-        (specified.run_of file.now (specified.texts rest.now) ≡ None)
-        (λ j. specified.run_of file.now (specified.texts rest.now) ≡ Some (specified.job_by (λ s. s.now) j.file.now j.script j.task j.watched)) }
+    ensures words { IsAsked result (specified.run_of file.now (specified.texts rest.now)) }
     ensures turns { IfSome result (λ j. IsTask j.task) }
 {
     let none = Options {
@@ -178,9 +173,7 @@ fn run_of<'a>(file: &'a str, rest: &'a [String]) -> Option<Asked<'a>>
 // What describes a file has no options.
 fn described<'a>(task: Task, file: &'a str, rest: &[String]) -> Option<Asked<'a>>
     requires { IsTask task }
-    ensures words { MatchOption result
-        (specified.described task file.now (specified.texts rest.now) ≡ None)
-        (λ j. specified.described task file.now (specified.texts rest.now) ≡ Some (specified.job_by (λ s. s.now) j.file.now j.script j.task j.watched)) }
+    ensures words { IsAsked result (specified.described task file.now (specified.texts rest.now)) }
     ensures turns { IfSome result (λ j. IsTask j.task) }
 {
     match rest {
@@ -197,9 +190,8 @@ fn described<'a>(task: Task, file: &'a str, rest: &[String]) -> Option<Asked<'a>
 // What the options say, behind those that were read: pairs of a word and its value.
 fn all_options<'a>(given: Options<'a>, words: &'a [String]) -> Option<Options<'a>>
     requires { AreBounded given.turns }
-    ensures words { MatchOption result
-        (specified.options (specified.options_by (λ s. s.now) given.entry.script given.entry.turns given.entry.watched) (specified.texts words.now) ≡ None)
-        (λ o. specified.options (specified.options_by (λ s. s.now) given.entry.script given.entry.turns given.entry.watched) (specified.texts words.now) ≡ Some (specified.options_by (λ s. s.now) o.script o.turns o.watched)) }
+    ensures words { AreOptions result
+        (specified.options (specified.options_read given.entry) (specified.texts words.now)) }
     ensures turns { IfSome result (λ o. AreBounded o.turns) }
 {
     match words {
@@ -214,9 +206,7 @@ fn all_options<'a>(given: Options<'a>, words: &'a [String]) -> Option<Options<'a
 // One option more.
 fn with_option<'a>(given: Options<'a>, name: &str, value: &'a str) -> Option<Options<'a>>
     requires { AreBounded given.turns }
-    ensures words { MatchOption result
-        (specified.with_option (specified.options_by (λ s. s.now) given.entry.script given.entry.turns given.entry.watched) name.now value.now ≡ None)
-        (λ o. specified.with_option (specified.options_by (λ s. s.now) given.entry.script given.entry.turns given.entry.watched) name.now value.now ≡ Some (specified.options_by (λ s. s.now) o.script o.turns o.watched)) }
+    ensures words { AreOptions result (specified.with_option (specified.options_read given.entry) name.now value.now) }
     ensures turns { IfSome result (λ o. AreBounded o.turns) }
 {
     match name {
@@ -230,9 +220,7 @@ fn with_option<'a>(given: Options<'a>, name: &str, value: &'a str) -> Option<Opt
 // The script's file, which is named at most once.
 fn with_script<'a>(given: Options<'a>, name: &'a str) -> Option<Options<'a>>
     requires { AreBounded given.turns }
-    ensures words { MatchOption result
-        (specified.with_script (specified.options_by (λ s. s.now) given.entry.script given.entry.turns given.entry.watched) name.now ≡ None)
-        (λ o. specified.with_script (specified.options_by (λ s. s.now) given.entry.script given.entry.turns given.entry.watched) name.now ≡ Some (specified.options_by (λ s. s.now) o.script o.turns o.watched)) }
+    ensures words { AreOptions result (specified.with_script (specified.options_read given.entry) name.now) }
     ensures turns { IfSome result (λ o. AreBounded o.turns) }
 {
     match given.script {
@@ -253,9 +241,7 @@ fn with_script<'a>(given: Options<'a>, name: &'a str) -> Option<Options<'a>>
 
 // The bound, which is given at most once.
 fn with_turns<'a>(given: Options<'a>, text: &str) -> Option<Options<'a>>
-    ensures words { MatchOption result
-        (specified.with_turns (specified.options_by (λ s. s.now) given.entry.script given.entry.turns given.entry.watched) text.now ≡ None)
-        (λ o. specified.with_turns (specified.options_by (λ s. s.now) given.entry.script given.entry.turns given.entry.watched) text.now ≡ Some (specified.options_by (λ s. s.now) o.script o.turns o.watched)) }
+    ensures words { AreOptions result (specified.with_turns (specified.options_read given.entry) text.now) }
     ensures turns { IfSome result (λ o. AreBounded o.turns) }
 {
     match given.turns {
@@ -274,9 +260,7 @@ fn with_turns<'a>(given: Options<'a>, text: &str) -> Option<Options<'a>>
 // A watcher more, which is asked for at most once.
 fn with_watch<'a>(given: Options<'a>, word: &str) -> Option<Options<'a>>
     requires { AreBounded given.turns }
-    ensures words { MatchOption result
-        (specified.with_watch (specified.options_by (λ s. s.now) given.entry.script given.entry.turns given.entry.watched) word.now ≡ None)
-        (λ o. specified.with_watch (specified.options_by (λ s. s.now) given.entry.script given.entry.turns given.entry.watched) word.now ≡ Some (specified.options_by (λ s. s.now) o.script o.turns o.watched)) }
+    ensures words { AreOptions result (specified.with_watch (specified.options_read given.entry) word.now) }
     ensures turns { IfSome result (λ o. AreBounded o.turns) }
 {
     let watched = one_more(given.watched, word)?;
