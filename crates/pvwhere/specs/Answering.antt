@@ -1,0 +1,32 @@
+-- What the parts of the top call come to.
+use Rattle.std.specs.Prelude.{◌≡◌, ◌≢◌, ℕ, ◌+◌, List, [], take, Option, IfSome}
+use Rattle.pv_script.specs.Outside.{Rose}
+use Rattle.pv_serve.specs.Comes.{source_limit}
+use Rattle.pv_serve.specs.Report.{fault_line}
+use Rattle.pv_serve.specs.Causes.{Sunk, SinkRose, Wrote, WrotePrefix}
+use Rattle.pvwhere.specs.Answers.{Answer, SomeGets}
+
+-- all that is written, and the status
+pub record IsTold (out : Sunk) (status : ℕ) (a : Answer) : Type 0 where
+  pub status_is : status ≡ a.status
+  pub written : Wrote out a.text
+
+-- the answer to a source under this name, by the status
+pub record SourceAnswered (name source : List ℕ) (out : Sunk) (status : ℕ) : Type 0 where
+  pub no_read_fault : status ≢ 11
+  pub no_words : status ≢ 10
+  pub write_fault : status ≡ 12 → SinkRose out
+  pub begun : status ≡ 12 → SomeGets name source (λ a. WrotePrefix out a.text)
+  pub no_memory : status ≡ 13 → Wrote out []
+  pub told : status ≢ 12 → status ≢ 13 → SomeGets name source (IsTold out status)
+
+-- what was read of a file, where it is told: the bytes up to one above the limit (5.2.4.1)
+abbrev pub IsRead : Option (List ℕ) → List ℕ → Type 0
+IsRead held source = IfSome held (λ all. source ≡ take (source_limit + 1) all)
+
+-- what came of the file that is asked for: it was read, and its source was answered; it could not be read; or there was no memory for it
+pub data FileAnswered (name : List ℕ) (held : List ℕ → Option (List ℕ)) (faults_old faults_new : List ℕ → ℕ) (out : Sunk) (status : ℕ) : Type 0 where
+  WasRead : (source : List ℕ) → IsRead (held name) source → SourceAnswered name source out status → FileAnswered name held faults_old faults_new out status
+  WasLost : Rose (faults_old name) (faults_new name) → (status ≢ 12 → (status ≡ 11) × Wrote out fault_line)
+      → (status ≡ 12 → SinkRose out × WrotePrefix out fault_line) → FileAnswered name held faults_old faults_new out status
+  HadNoRoom : status ≡ 13 → out.new ≡ out.old → FileAnswered name held faults_old faults_new out status

@@ -1,0 +1,5 @@
+pub mod Words
+pub mod Places
+pub mod Answers
+pub mod Causes
+pub mod Answering

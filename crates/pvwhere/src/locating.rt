@@ -1,0 +1,130 @@
+//! The top call: what one call of the program does from its words to its status.
+ghost use Rattle.std.specs.Prelude.{◌≡◌, ◌≢◌, ◌⊎◌, ℕ, List, Some, IsNone};
+ghost use Rattle.pv_script.specs.Outside.{Rose, Gains, GainsPrefix};
+ghost use Rattle.pv_script.specs.Memory.{calm_held, calm_written};
+ghost use Rattle.pv_serve.specs.Words.{texts};
+ghost use Rattle.pv_serve.specs.Serving.{sunk};
+ghost use Rattle.pvwhere.specs.Words.{file_of};
+ghost use Rattle.pvwhere.specs.Answers.{SomeAnswer};
+ghost use Rattle.pvwhere.specs.Causes.{Call, Answered, IsAnswer};
+ghost use Rattle.pvwhere.specs.Answering.{FileAnswered, SourceAnswered};
+
+use crate::places::SOURCE_LIMIT;
+use crate::telling::told;
+use crate::words::file_asked;
+use pv_script::{CalmFiles, CalmSink, Files, ReadError, Sink, read_all, write_all};
+use std::alloc::Global;
+
+const NOT_REFUSED: u8 = 0;
+
+const REFUSED: u8 = 8;
+
+const NO_JOB: u8 = 10;
+
+const READ_FAULT: u8 = 11;
+
+const WRITE_FAULT: u8 = 12;
+
+/// The status where memory ran out.
+pub const NO_MEMORY: u8 = 13;
+
+/// Does all that the program does, and answers its status.
+///
+/// The words are those behind the program's name: the name of a file, and no more. What is told goes to `out`, and is made whole before its
+/// first byte goes out.
+///
+/// | status | when |
+/// |---|---|
+/// | 0 | the file's source is not refused; nothing is told |
+/// | 8 | it is refused; the lines of the refusal's place are told |
+/// | 10 | the words are no job |
+/// | 11 | the file could not be read |
+/// | 12 | what is told could not be written |
+/// | 13 | memory ran out, which may come wherever the words are a job |
+pub fn locate<F: Files, O: Sink>(alloc: Global, words: &[String], files: &mut F, out: &mut O) -> u8
+    ensures answered { let call : Call = record {
+      words = texts words.now;
+      held = F.held files.old;
+      faults_old = F.faults files.old;
+      faults_new = F.faults files.new;
+      out = record {
+        old = O.written out.old;
+        new = O.written out.new;
+        faults_old = O.faults out.old;
+        faults_new = O.faults out.new;
+      };
+      status = result;
+    } in Answered call }
+    ensures files_same { (n : List ℕ) → F.held files.new n ≡ F.held files.old n }
+
+    // Where the words are no job, no file is read.
+    ensures unread { IsNone (file_of (texts words.now)) → files.new ≡ files.old }
+{
+    match file_asked(words) {
+        Some(name) => locate_in(alloc, name, files, out),
+        None => tell(out, b"words\n", NO_JOB),
+    }
+}
+
+// Tells where the source in a file is refused.
+fn locate_in<F: Files, O: Sink>(alloc: Global, name: &str, files: &mut F, out: &mut O) -> u8
+    ensures answered { FileAnswered name.now (F.held files.old) (F.faults files.old) (F.faults files.new)
+        (sunk (O.written out.old) (O.written out.new) (O.faults out.old) (O.faults out.new)) result }
+    ensures files_same { (n : List ℕ) → F.held files.new n ≡ F.held files.old n }
+{
+    match read_all(alloc, files, name, SOURCE_LIMIT) {
+        Err(ReadError::NoMemory) => NO_MEMORY,
+        Err(ReadError::Fault) => tell(out, b"fault read\n", READ_FAULT),
+        Ok(source) => answer(alloc, name, source.as_slice(), out),
+    }
+}
+
+// Tells where a source is refused.
+fn answer<O: Sink>(alloc: Global, name: &str, source: &[u8], out: &mut O) -> u8
+    ensures { SourceAnswered name.now source.now
+        (sunk (O.written out.old) (O.written out.new) (O.faults out.old) (O.faults out.new)) result }
+{
+    match told(alloc, name, source) {
+        Err(_) => NO_MEMORY,
+        Ok(None) => NOT_REFUSED,
+        Ok(Some(text)) => tell(out, text.as_slice(), REFUSED),
+    }
+}
+
+// Writes what is told.
+fn tell<O: Sink>(out: &mut O, text: &[u8], status: u8) -> u8
+    requires { status ≢ 12 }
+    ensures told { result ≢ 12 → (result ≡ status)
+        × Gains (O.written out.old) (O.written out.new) text.now }
+    ensures fault { result ≡ 12 → Rose (O.faults out.old) (O.faults out.new)
+        × GainsPrefix (O.written out.old) (O.written out.new) text.now }
+{
+    match write_all(out, text) {
+        Ok(()) => status,
+        Err(_) => WRITE_FAULT,
+    }
+}
+
+/// [`locate`] over files and a sink that never fail: the answer with all its bytes, or want of memory, for any words and files.
+pub fn locate_calmly(
+    alloc: Global,
+    words: &[String],
+    files: &mut CalmFiles,
+    out: &mut CalmSink,
+) -> u8
+    ensures { let call : Call = record {
+      words = texts words.now;
+      held = λ n. Some (calm_held files.old n);
+      faults_old = λ _. 0;
+      faults_new = λ _. 0;
+      out = record {
+        old = calm_written out.old;
+        new = calm_written out.new;
+        faults_old = 0;
+        faults_new = 0;
+      };
+      status = result;
+    } in (result ≡ 13) ⊎ SomeAnswer (file_of call.words) call.held (IsAnswer call) }
+{
+    locate(alloc, words, files, out)
+}

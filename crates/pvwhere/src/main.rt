@@ -1,0 +1,58 @@
+//! Tells where a C source is refused, in lines that editors know.
+//!
+//! `main` makes the real files and the real output, and calls [`locate`], which does all the rest.
+#![tactic(auto)]
+
+mod error;
+mod locating;
+mod places;
+mod telling;
+mod words;
+
+use error::NoMemory;
+pub use locating::{NO_MEMORY, locate, locate_calmly};
+pub use places::one_place;
+use pv_script::{DiskFiles, Printed};
+use std::alloc::Global;
+use std::process::ExitCode;
+use std::rt::{Env, Files};
+use std::{env, io};
+pub use telling::one_answer;
+
+fn main(rt: HostRuntime) -> ExitCode {
+    match answered(&rt) {
+        Ok(status) => ExitCode::from(status),
+        Err(NoMemory) => ExitCode::from(NO_MEMORY),
+    }
+}
+
+// The status of the whole call. The only error is want of memory for the words.
+fn answered(rt: &(impl Env + Files + Print + AllocGlobal)) -> Result<u8, NoMemory> {
+    let alloc = rt.alloc();
+    let words = words_asked(rt, alloc)?;
+    let mut files = DiskFiles::new(rt, alloc);
+    let mut out = Printed::new(io::writer(rt));
+    Ok(locate(alloc, words.as_slice(), &mut files, &mut out))
+}
+
+// The words behind the program's name. Arguments that are no text are no words; the only error is want of memory.
+fn words_asked(rt: &(impl Env + AllocGlobal), alloc: Global) -> Result<Vec<String>, NoMemory> {
+    let mut words = Vec::new(alloc);
+    match env::args(rt) {
+        Ok(mut arguments) => {
+            let _program = arguments.next();
+            for word in arguments {
+                words.push(word)?;
+            }
+        }
+        Err(error) => {
+            if error.kind() == io::ErrorKind::OutOfMemory {
+                return Err(NoMemory);
+            }
+        }
+    }
+    Ok(words)
+}
+
+#[cfg(test)]
+mod tests;

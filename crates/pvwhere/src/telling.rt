@@ -1,0 +1,62 @@
+//! What is told of a source: nothing, or the lines of its refusal's place.
+ghost use Rattle.std.specs.Prelude.{◌≡◌, ℕ, List, Some, option_map, IfOk};
+ghost use Rattle.pv_serve.specs.Readings.{Bad, refusal_of};
+ghost use Rattle.pv_serve.specs.Comes.{Reads};
+ghost use Rattle.pvwhere.specs.Answers.{Answer, Gets, SomeGets, told_by, word_of};
+
+use crate::error::NoMemory;
+use crate::places::{first_bytes, place};
+use pv_serve::{Refused, check};
+use pv_where::lines;
+use std::alloc::Global;
+
+/// The lines that tell where a source is refused, if it is. The only error is want of memory.
+pub fn told(alloc: Global, name: &str, source: &[u8]) -> Result<Option<Vec<u8>>, NoMemory>
+    ensures { IfOk result (λ r. Gets name.now source.now (told_by (option_map (λ v. v.items) r))) }
+{
+    match check(alloc, source)? {
+        Ok(_unit) => Ok(None),
+        Err(refused) => {
+            let text = refusal_lines(alloc, name, source, &refused)?;
+            Ok(Some(text))
+        }
+    }
+}
+
+// The lines that tell where a refusal is.
+fn refusal_lines(
+    alloc: Global,
+    name: &str,
+    source: &[u8],
+    refused: &Refused,
+) -> Result<Vec<u8>, NoMemory>
+    requires { Reads source.now (Bad (refusal_of refused.now)) }
+    ensures { IfOk result (λ v. Gets name.now source.now (told_by (Some v.items))) }
+{
+    let first = first_bytes(source);
+    let at = place(alloc, first, refused)?;
+    let text = lines(alloc, name.as_bytes(), first, at, word(refused).as_bytes())?;
+    Ok(text)
+}
+
+// The word of a refusal.
+fn word(refused: &Refused) -> &'static str
+    ensures { result.now ≡ word_of (refusal_of refused.now) }
+{
+    match refused {
+        Refused::Size => "size",
+        Refused::Byte { .. } => "byte",
+        Refused::Token { .. } => "token",
+        Refused::Profile { .. } => "profile",
+        Refused::Syntax { .. } => "syntax",
+        Refused::Constraint { .. } => "constraint",
+        Refused::Unresolved { .. } => "unresolved",
+        Refused::NoMain => "main",
+    }
+}
+
+/// A law: a source gets one answer.
+pub fn one_answer()
+    ensures some { (name source : List ℕ) → SomeGets name source (λ _. Unit {0}) }
+    ensures one { (name source : List ℕ) (a b : Answer) → Gets name source a → Gets name source b → a ≡ b }
+{}

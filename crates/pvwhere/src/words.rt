@@ -1,0 +1,22 @@
+//! The words of the command line (C17 5.1.2.2.1).
+ghost use Rattle.std.specs.Prelude.{◌≡◌, None, Some, MatchOption};
+ghost use Rattle.pv_serve.specs.Words.{texts};
+ghost use Rattle.pvwhere.specs.Words.{file_of};
+
+/// The name of the file that is asked for, where the words are one name of at least one byte.
+pub fn file_asked(words: &[String]) -> Option<&str>
+    ensures { MatchOption result
+        (file_of (texts words.now) ≡ None)
+        (λ name. file_of (texts words.now) ≡ Some name.now) }
+{
+    match words {
+        [name] => {
+            if name.as_str().is_empty() {
+                None
+            } else {
+                Some(name.as_str())
+            }
+        }
+        _ => None,
+    }
+}
