@@ -6,7 +6,7 @@ use Rattle.pv_script.specs.Outside.{Rose, Gains}
 use Rattle.pv_script.proofs.GainsLemmas.{gains_nothing}
 use Rattle.pv_serve.specs.Comes.{source_limit}
 use Rattle.pv_serve.specs.Report.{fault_line, words_line}
-use Rattle.pv_serve.specs.Causes.{Sunk, SinkRose, Wrote, WrotePrefix}
+use Rattle.pv_serve.specs.Outside.{Sunk, SinkRose, Wrote, WrotePrefix}
 use Rattle.pv_serve.proofs.ComesLemmas.{source_limit_is}
 use Rattle.pvwhere.specs.Words.{file_of}
 use Rattle.pvwhere.specs.Answers.{Answer, Gets, SomeGets, SomeAnswer, no_job, told_by}

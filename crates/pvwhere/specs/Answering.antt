@@ -3,7 +3,7 @@ use Rattle.std.specs.Prelude.{◌≡◌, ◌≢◌, ℕ, ◌+◌, List, [], take
 use Rattle.pv_script.specs.Outside.{Rose}
 use Rattle.pv_serve.specs.Comes.{source_limit}
 use Rattle.pv_serve.specs.Report.{fault_line}
-use Rattle.pv_serve.specs.Causes.{Sunk, SinkRose, Wrote, WrotePrefix}
+use Rattle.pv_serve.specs.Outside.{Sunk, SinkRose, Wrote, WrotePrefix}
 use Rattle.pvwhere.specs.Answers.{Answer, SomeGets}
 
 -- all that is written, and the status

@@ -3,7 +3,7 @@ ghost use Rattle.std.specs.Prelude.{◌≡◌, ◌≢◌, ◌⊎◌, ℕ, List, 
 ghost use Rattle.pv_script.specs.Outside.{Rose, Gains, GainsPrefix};
 ghost use Rattle.pv_script.specs.Memory.{calm_held, calm_written};
 ghost use Rattle.pv_serve.specs.Words.{texts};
-ghost use Rattle.pv_serve.specs.Serving.{sunk};
+ghost use Rattle.pv_serve.specs.Outside.{sunk};
 ghost use Rattle.pvwhere.specs.Words.{file_of};
 ghost use Rattle.pvwhere.specs.Answers.{SomeAnswer};
 ghost use Rattle.pvwhere.specs.Causes.{Call, Answered, IsAnswer};
@@ -47,12 +47,7 @@ pub fn locate<F: Files, O: Sink>(alloc: Global, words: &[String], files: &mut F,
       held = F.held files.old;
       faults_old = F.faults files.old;
       faults_new = F.faults files.new;
-      out = record {
-        old = O.written out.old;
-        new = O.written out.new;
-        faults_old = O.faults out.old;
-        faults_new = O.faults out.new;
-      };
+      out = sunk O.written O.faults out.old out.new;
       status = result;
     } in Answered call }
     ensures files_same { (n : List ℕ) → F.held files.new n ≡ F.held files.old n }
@@ -69,7 +64,7 @@ pub fn locate<F: Files, O: Sink>(alloc: Global, words: &[String], files: &mut F,
 // Tells where the source in a file is refused.
 fn locate_in<F: Files, O: Sink>(alloc: Global, name: &str, files: &mut F, out: &mut O) -> u8
     ensures answered { FileAnswered name.now (F.held files.old) (F.faults files.old) (F.faults files.new)
-        (sunk (O.written out.old) (O.written out.new) (O.faults out.old) (O.faults out.new)) result }
+        (sunk O.written O.faults out.old out.new) result }
     ensures files_same { (n : List ℕ) → F.held files.new n ≡ F.held files.old n }
 {
     match read_all(alloc, files, name, SOURCE_LIMIT) {
@@ -82,7 +77,7 @@ fn locate_in<F: Files, O: Sink>(alloc: Global, name: &str, files: &mut F, out: &
 // Tells where a source is refused.
 fn answer<O: Sink>(alloc: Global, name: &str, source: &[u8], out: &mut O) -> u8
     ensures { SourceAnswered name.now source.now
-        (sunk (O.written out.old) (O.written out.new) (O.faults out.old) (O.faults out.new)) result }
+        (sunk O.written O.faults out.old out.new) result }
 {
     match told(alloc, name, source) {
         Err(_) => NO_MEMORY,

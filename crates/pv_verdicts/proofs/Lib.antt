@@ -1,0 +1,14 @@
+pub mod Named
+pub mod NamedGiven
+pub mod NamedBlocks
+pub mod NamedStatements
+pub mod NamedUnits
+pub mod Tokens
+pub mod Places
+pub mod Scripted
+pub mod Refusals
+pub mod Granted
+pub mod Requests
+pub mod Outcomes
+pub mod Programs
+pub mod ExactlyOne

@@ -1,0 +1,53 @@
+-- Every run of a source that is a program, with a script that has a reading, has an outcome (C17 5.1.2).
+use Rattle.std.proofs.Common.{◌≡◌, ℕ, Bool, List, Ok, sym, subst}
+use Rattle.std.specs.declared.option.Option.{Option}
+use Rattle.std.specs.Prelude.{None}
+use Rattle.pv_token.specs.Table.{Table}
+use Rattle.pv_lex.specs.Lexes.{Lexes}
+use Rattle.pv_tree.specs.Syntax.{DeclarationTree}
+use Rattle.pv_script.specs.Lines.{ScriptLine}
+use Rattle.pv_script.specs.Scripts.{script_of}
+use Rattle.pv_typed.specs.TypedUnits.{WholeUnit}
+use Rattle.pv_typed.specs.Tables.{Stored, whole}
+use Rattle.pv_unit.specs.Units as checked
+use Rattle.pv_exec.specs.Laws.{run_at}
+use Rattle.pv_serve.specs.Readings.{Program}
+use Rattle.pv_serve.specs.Comes.{Comes, BadByte, BadToken, LeftOut, Lexed, TokensCome, NoUnit, Spelled, UnitComes, Breaks, Lacks, Mainless, Typed}
+use Rattle.pv_verdicts.specs.Own.{OwnNames}
+use Rattle.pv_verdicts.specs.Endings.{IsProgram, HasOutcome}
+use Rattle.pv_verdicts.proofs.NamedUnits.{unit_names}
+use Rattle.pv_verdicts.proofs.Tokens.{lexed_own}
+use Rattle.pv_verdicts.proofs.Places.{denied_heap}
+use Rattle.pv_verdicts.proofs.Outcomes.{ends-so}
+
+typed_own : (source : List ℕ) (t : Table) (ds : List DeclarationTree) (unit : WholeUnit) → Lexes source t → checked.UnitComes t ds (checked.Typed unit) → OwnNames unit.names
+typed_own source t ds unit l h = subst OwnNames (sym (unit_names t ds unit h)) (lexed_own source t l)
+
+unit_own : (source : List ℕ) (t : Table) (ds : List DeclarationTree) (unit : WholeUnit) → Lexes source t → UnitComes t ds (Program unit) → OwnNames unit.names
+unit_own source t ds unit l (Breaks index h e) = absurd cc
+unit_own source t ds unit l (Lacks name h e) = absurd cc
+unit_own source t ds unit l (Mainless h e) = absurd cc
+unit_own source t ds unit l (Typed w h e) =
+    let same : w ≡ unit = cc in
+    subst (λ (x : WholeUnit). OwnNames x.names) same (typed_own source t ds w l h)
+
+tokens_own : (source : List ℕ) (t : Table) (unit : WholeUnit) → Lexes source t → TokensCome t (Program unit) → OwnNames unit.names
+tokens_own source t unit l (NoUnit n none h e) = absurd cc
+tokens_own source t unit l (Spelled ds h u) = unit_own source t ds unit l u
+
+-- of the names of a program one alone is that of allocations
+pub program_own : (source : List ℕ) (unit : WholeUnit) → Comes source (Program unit) → OwnNames unit.names
+program_own source unit (BadByte place h e) = absurd cc
+program_own source unit (BadToken place h e) = absurd cc
+program_own source unit (LeftOut place word h e) = absurd cc
+program_own source unit (Lexed t l h) = tokens_own source t unit l h
+
+pub program_outcome : (source text : List ℕ) (script : List ScriptLine) (u : Stored) (sides : Option (List Bool)) (n : ℕ) → IsProgram source u → script_of text ≡ Ok script → HasOutcome (run_at u sides script n)
+program_outcome source text script u sides n p r = ends-so u n sides script (program_own source (whole u) p) (denied_heap text script r)
+
+-- the same of the unit that a source is, by itself
+pub has_outcome : (source text : List ℕ) (lines : List ScriptLine) (unit : WholeUnit) → Comes source (Program unit) → script_of text ≡ Ok lines
+    → (u : Stored) → whole u ≡ unit → (n : ℕ) → HasOutcome (run_at u None lines n)
+has_outcome source text lines unit c r u e n =
+    let p : IsProgram source u = subst (λ (x : WholeUnit). Comes source (Program x)) (sym e) c in
+    program_outcome source text lines u None n p r
