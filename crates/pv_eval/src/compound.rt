@@ -22,7 +22,7 @@ ghost use Rattle.pv_eval.specs.Ahead.{Led, MoveFitsOr};
 
 use crate::converting::convert;
 use crate::failure::Failure;
-use crate::frames::{Frame, Move, ReadPlace, Stage};
+use crate::frames::{Aside, Frame, Move, ReadPlace, Stage};
 use crate::moment::Moment;
 use crate::types::promoted;
 use crate::values::{duplicate, give, integer, minus};
@@ -57,16 +57,21 @@ pub(crate) fn read_place(
     ensures some { IfOk result (λ m. 1 ≤ length journal.new) }
     ensures fits { MoveFitsOr unit.now result }
 {
-    match moment.read(unit, line, a, &place, journal) {
-        Ok(value) => Ok(Move::Operand(
-            d,
-            Frame {
-                node: n,
-                stage: Stage::Both(ReadPlace { place, value }),
-            },
-        )),
-        Err(e) => Err(e),
-    }
+    let value = match moment.read(unit, line, a, &place, journal) {
+        Ok(value) => value,
+        Err(e) => return Err(e),
+    };
+    let read = match Aside::new(moment.alloc, ReadPlace { place, value }) {
+        Ok(read) => read,
+        Err(_) => return Err(Failure::NoMemory),
+    };
+    Ok(Move::Operand(
+        d,
+        Frame {
+            node: n,
+            stage: Stage::Both(read),
+        },
+    ))
 }
 
 /// What a node that reads and writes back does with the value of its second operand.

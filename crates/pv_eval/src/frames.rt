@@ -1,6 +1,12 @@
 // Nodes that wait for the value of an operand, and where an operation leads.
+ghost use Rattle.std.specs.Prelude.{◌≡◌, IfOk};
+ghost use Rattle.pv_eval.specs.Moments.{IsMemory};
+
+use crate::failure::Failure;
 use pv_tree::NodeId;
 use pv_world::Got;
+use std::alloc::Global;
+use std::marker::Model;
 
 /// Which operand a node waits for, and what it has so far.
 #[derive(Drop)]
@@ -10,7 +16,7 @@ pub enum Stage {
     /// The second one, beside the value of the first.
     Second(Got),
     /// The second one, beside a place and the value that was read there.
-    Both(ReadPlace),
+    Both(Aside),
     /// One after a sequence point: of a conditional the second, or the third.
     Later(bool),
     /// An argument, beside those before it.
@@ -22,6 +28,40 @@ pub enum Stage {
 pub struct ReadPlace {
     pub place: Got,
     pub value: Got,
+}
+
+/// The same behind a pointer, so that nodes that wait are small: they are moved at each operation.
+#[derive(Drop)]
+pub struct Aside {
+    read: Box<ReadPlace>,
+}
+
+impl Model for Aside {
+    ghost use Rattle.pv_eval.specs.declared.frames.ReadPlace.{ReadPlace};
+
+    ghost Value = { ReadPlace };
+
+    ghost view = { λ a. a.read.value };
+}
+
+impl Aside {
+    /// What was read is laid aside, if there is memory.
+    pub(crate) fn new(alloc: Global, read: ReadPlace) -> Result<Aside, Failure>
+        ensures value { IfOk result (λ a. a ≡ read) }
+        ensures memory { IsMemory result }
+    {
+        match Box::new(alloc, read) {
+            Ok(read) => Ok(Aside { read }),
+            Err(_) => Err(Failure::NoMemory),
+        }
+    }
+
+    /// What was laid aside.
+    pub(crate) fn take(self) -> ReadPlace
+        ensures { result ≡ self }
+    {
+        Box::into_inner(self.read)
+    }
 }
 
 /// A node that waits.

@@ -35,7 +35,7 @@ mod types;
 mod values;
 
 pub use failure::Failure;
-pub use frames::{Frame, Move, Now, ReadPlace, Stage, Step};
+pub use frames::{Aside, Frame, Move, Now, ReadPlace, Stage, Step};
 pub use machine::Machine;
 pub use marked::Marked;
 pub use moment::Moment;

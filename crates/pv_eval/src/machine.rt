@@ -134,9 +134,8 @@ impl Machine {
         ensures fit { (u : Stored) → IsExpression u n → Fit u self.old.started → OnOk result (Fit u self.new.started) }
         ensures memory { IsMemory result }
     {
-        let stacks = match self.spare.pop() {
-            Some(stacks) => stacks,
-            None => Stacks::new(self.alloc),
+        let Ok(stacks) = Stacks::of(&mut self.spare, self.alloc) else {
+            return Err(Failure::NoMemory);
         };
         let Ok(e) = Started::new(stacks, n) else {
             return Err(Failure::NoMemory);

@@ -144,7 +144,7 @@ pub(crate) fn resume(
         Stage::Second(first) => resume_second(unit, n, x, first, v, journal, moment),
         Stage::Later(side) => resume_later(unit, n, x, side, v, moment),
         Stage::Argument(got) => resume_argument(unit, n, x, got, v, journal, moment),
-        Stage::Both(read) => resume_both(unit, n, x, read, v, journal, moment),
+        Stage::Both(read) => resume_both(unit, n, x, read.take(), v, journal, moment),
     }
 }
 

@@ -21,11 +21,17 @@ use pv_world::Got;
 use std::alloc::Global;
 use std::marker::Model;
 
+/// Nodes that wait, and the accesses of each.
+#[derive(Drop)]
+pub(crate) struct Held {
+    frames: Vec<Frame>,
+    journal: Journal,
+}
+
 /// The stacks of an expression that has ended, for one to come: nothing is on them, and they have their memory.
 #[derive(Drop)]
 pub(crate) struct Stacks {
-    frames: Vec<Frame>,
-    journal: Journal,
+    held: Box<Held>,
 }
 
 impl Model for Stacks {
@@ -35,25 +41,41 @@ impl Model for Stacks {
 
     ghost view = { λ s. 0 };
 
-    ghost invariant = { λ s. (s.frames.items ≡ []) × (s.journal ≡ []) };
+    ghost invariant = { λ s. (s.held.value.frames.items ≡ []) × (s.held.value.journal ≡ []) };
 }
 
 impl Stacks {
     /// Stacks without memory of their own.
-    pub(crate) fn new(alloc: Global) -> Stacks {
-        Stacks {
+    pub(crate) fn new(alloc: Global) -> Result<Stacks, Failure>
+        ensures memory { IsMemory result }
+    {
+        let held = Held {
             frames: Vec::new(alloc),
             journal: Journal::new(alloc),
+        };
+        match Box::new(alloc, held) {
+            Ok(held) => Ok(Stacks { held }),
+            Err(_) => Err(Failure::NoMemory),
+        }
+    }
+
+    /// Those of an expression that has ended, or new ones.
+    pub(crate) fn of(spare: &mut Vec<Stacks>, alloc: Global) -> Result<Stacks, Failure>
+        ensures memory { IsMemory result }
+    {
+        match spare.pop() {
+            Some(stacks) => Ok(stacks),
+            None => Stacks::new(alloc),
         }
     }
 }
 
-/// An expression that was started: its nodes that wait, the accesses of each, and where it is.
+/// An expression that was started: its nodes that wait, the accesses of each, and where it is. The stacks stand behind a
+/// pointer, since each expression is moved when it starts and when it has ended.
 #[derive(Drop)]
 pub(crate) struct Started {
     root: NodeId,
-    frames: Vec<Frame>,
-    journal: Journal,
+    held: Box<Held>,
     place: Now,
 }
 
@@ -64,9 +86,9 @@ impl Model for Started {
 
     ghost Value = { Seen };
 
-    ghost view = { λ e. record { root = e.root; frames = e.frames.items; opens = e.journal; place = e.place } };
+    ghost view = { λ e. record { root = e.root; frames = e.held.value.frames.items; opens = e.held.value.journal; place = e.place } };
 
-    ghost invariant = { λ e. is_due_at e.place ≡ false → Matched e.frames.items e.journal };
+    ghost invariant = { λ e. is_due_at e.place ≡ false → Matched e.held.value.frames.items e.held.value.journal };
 }
 
 impl Started {
@@ -75,15 +97,14 @@ impl Started {
         ensures begun { IfOk result (λ e. e ≡ record { root = n; frames = []; opens = opened [] ∷ []; place = Now.Due n }) }
         ensures memory { IsMemory result }
     {
-        let Stacks { frames, journal } = stacks;
-        let mut journal = journal;
-        if journal.full().is_err() {
+        let Stacks { held } = stacks;
+        let mut held = held;
+        if held.journal.full().is_err() {
             return Err(Failure::NoMemory);
         }
         Ok(Started {
             root: n,
-            frames,
-            journal,
+            held,
             place: Now::Due(n),
         })
     }
@@ -106,11 +127,12 @@ impl Started {
         ensures setting { KeepsSetting moment.old moment.new }
     {
         let place = std::mem::replace(&mut self.place, Now::Due(self.root));
+        let held = &mut *self.held;
         match running::step(
             alloc,
             unit,
-            &mut self.frames,
-            &mut self.journal,
+            &mut held.frames,
+            &mut held.journal,
             moment,
             place,
         ) {
@@ -148,14 +170,9 @@ impl Started {
         requires { is_value self.place ≡ true }
         ensures { worth_of result ≡ value_at self.place }
     {
-        let Started {
-            frames,
-            journal,
-            place,
-            ..
-        } = self;
-        if frames.is_empty() {
-            keep(spare, frames, journal);
+        let Started { held, place, .. } = self;
+        if held.frames.is_empty() {
+            keep(spare, held);
         }
         match place {
             Now::Value(v) => v,
@@ -188,7 +205,7 @@ impl Started {
         ensures ended { is_value self.new.place ≡ true }
         ensures fits { (u : Stored) → StartedFits u self.old → StartedFits u self.new }
     {
-        self.journal.settle();
+        self.held.journal.settle();
         self.place = Now::Value(v);
     }
 }
@@ -205,11 +222,11 @@ fn leads(place: &Now) -> Step
 }
 
 /// The stacks of a full expression are kept for those to come, if there is memory for that.
-fn keep(spare: &mut Vec<Stacks>, frames: Vec<Frame>, journal: Journal)
-    requires frames { frames.items ≡ [] }
-    requires journal { length journal ≡ 1 }
+fn keep(spare: &mut Vec<Stacks>, held: Box<Held>)
+    requires frames { held.value.frames.items ≡ [] }
+    requires journal { length held.value.journal ≡ 1 }
 {
-    let mut journal = journal;
-    journal.close();
-    let _ = spare.push(Stacks { frames, journal });
+    let mut held = held;
+    held.journal.close();
+    let _ = spare.push(Stacks { held });
 }

@@ -19,4 +19,4 @@ pub returns-in-Argument-clause-led : goal.returns-in-Argument-clause-led
 returns-in-Argument-clause-led c = λ b out es hs hl call. resumed b call c.args.unit.now c.args.frame c.node-x.result _ (top c.args.journal.now) (worth_of c.args.v) (state_of c.args.moment.now out es) c.resume_argument.result c.resume_argument.new.journal (state_of c.resume_argument.new.moment out es) c.node-x.ensures.form (c.in-Argument.is ∙ ap Argument (sym c.in-Argument.got-is)) (c.resume_argument.ensures.led b out es hs hl call)
 
 pub returns-in-Both-clause-led : goal.returns-in-Both-clause-led
-returns-in-Both-clause-led c = λ b out es hs hl call. resumed b call c.args.unit.now c.args.frame c.node-x.result _ (top c.args.journal.now) (worth_of c.args.v) (state_of c.args.moment.now out es) c.resume_both.result c.resume_both.new.journal (state_of c.resume_both.new.moment out es) c.node-x.ensures.form (c.in-Both.is ∙ ap Both (sym c.in-Both.read-is)) (c.resume_both.ensures.led b out es hs hl call)
+returns-in-Both-clause-led c = λ b out es hs hl call. resumed b call c.args.unit.now c.args.frame c.node-x.result _ (top c.args.journal.now) (worth_of c.args.v) (state_of c.args.moment.now out es) c.resume_both.result c.resume_both.new.journal (state_of c.resume_both.new.moment out es) c.node-x.ensures.form (c.in-Both.is ∙ ap Both (sym c.in-Both.read-is) ∙ ap Both (sym c.take.ensures)) (c.resume_both.ensures.led b out es hs hl call)

@@ -14,5 +14,5 @@ returns-in-Err-clause-rest c = λ b out es hs hl call others lt.
     let place = ap (λ e. e.place) (sym c.self.view_is) ∙ sym c.replace-place.ensures.value in
     stepped-out b call u _ _ _ others c.in-Err.e c.step.new.journal
     (led-kept b call u _ _ (Err c.in-Err.e) c.step.new.frames.items c.step.new.journal _
-    (ap (λ e. ahead b call u e.frames e.opens e.place s) (sym c.self.view_is) ∙ ap (λ p. ahead b call u c.self.inside.frames.items c.self.inside.journal p s) (sym c.replace-place.ensures.value))
+    (ap (λ e. ahead b call u e.frames e.opens e.place s) (sym c.self.view_is) ∙ ap (λ h. ahead b call u h.frames.items h.journal c.self.inside.place s) (sym c.deref_mut-held.ensures.value) ∙ ap (λ p. ahead b call u c.deref_mut-held.result.now.frames.items c.deref_mut-held.result.now.journal p s) (sym c.replace-place.ensures.value))
     (c.in-Err.ensures.kept b out es hs hl call (λ h. lt (ap is_due_at place ∙ h))))
