@@ -1,14 +1,11 @@
 -- Each source comes to exactly one verdict (C17 5.1.1.3, 5.1.2.3).
-use Rattle.std.proofs.Common.{inl, inr, ◌≡◌, ℕ, List, None, Some, Ok, refl, sym, ap, ◌∙◌, subst}
+use Rattle.std.proofs.Common.{inl, inr, ◌≡◌, ℕ, List, None, Ok, refl, sym, ap, ◌∙◌, subst}
 use Rattle.std.specs.Prelude.{◌⊎◌, map}
 use Rattle.pv_script.specs.Lines.{ScriptLine}
 use Rattle.pv_script.specs.Scripts.{script_of}
 use Rattle.pv_typed.specs.TypedUnits.{WholeUnit}
-use Rattle.pv_typed.specs.Tables.{Stored, whole}
 use Rattle.pv_world.specs.Worlds.{Worth}
-use Rattle.pv_eval.specs.declared.marked.Marked.{Marked}
 use Rattle.pv_eval.specs.States.{Res, end_of}
-use Rattle.pv_exec.specs.Run.{outcome_of}
 use Rattle.pv_exec.specs.Laws.{run_at}
 use Rattle.pv_exec.specs.Streaming.{event_of}
 use Rattle.pv_numbering.specs.Same.{SameRun}
@@ -16,7 +13,7 @@ use Rattle.pv_numbering.proofs.Numbering.{same-tables}
 use Rattle.pv_numbering.proofs.UnitEntries.{has_tables}
 use Rattle.pv_serve.specs.declared.words.Task.{Task}
 use Rattle.pv_serve.specs.Verdicts.{Verdict, Ending, Ended}
-use Rattle.pv_serve.specs.Judged.{Judged, Ends, IsRun, RunEnds, IsLeftToRun, BothRun}
+use Rattle.pv_serve.specs.Judged.{Judged, Ends, RunEnds, IsLeftToRun, BothRun}
 use Rattle.pv_serve.specs.Comes.{Comes}
 use Rattle.pv_serve.specs.Readings.{Program}
 use Rattle.pv_serve.proofs.JudgedLemmas as judged
@@ -65,8 +62,7 @@ run-ends source text lines unit c r bound =
     let tables = has_tables unit in
     let run = run_at tables.0 None lines bound in
     let s = end_of run in
-    let o : HasOutcome run = has_outcome source text lines unit c r tables.0 tables.1 bound in
-    (
+    let o : HasOutcome run = has_outcome source text lines unit c r tables.0 tables.1 bound in (
       record { outcome = o.0; turns = s.taken; output = s.output; events = map event_of s.events; names = unit.names },
       record {
         run = run;
