@@ -102,7 +102,7 @@ abbrev pub MakesPair : Table → List Byte → Scalar → Type 0
 MakesPair T bytes (scalar.Int k) = ⊥
 MakesPair T bytes scalar.Pointer = (whole_name bytes ≡ None) × IsSomeAnd (number_in bytes) (FitsTwo T)
 
--- this answer and this table; or no memory, only where a pair is made, and nothing changed
+-- this answer and this table; or no memory, only where a pair of candidates is made (memory model), and nothing changed
 abbrev pub OrNoPair : {A : Type 0} → Type 0 → Result A Stop → Table → Table → Result A Stop × Table → Type 0
 OrNoPair two (Err NoMemory) old new wanted = (new ≡ old) × two
 OrNoPair two r old new wanted = (r ≡ wanted.0) × (new ≡ wanted.1)

@@ -1,8 +1,8 @@
 -- What the index tells of accesses.
-use Rattle.std.proofs.Common.{◌≡◌, ◌≤◌, ◌<◌, ◌+◌, ◌-◌, ℕ, zero, suc, Bool, true, false, ◌||◌, ◌&&◌, List, [], ◌∷◌, ◌++◌, length, take, get_or, Some, None, cond, if◌then◌else◌, refl, sym, ap, subst, ◌∙◌, arith, inl, inr}
+use Rattle.std.proofs.Common.{◌≡◌, ◌≤◌, ◌<◌, ◌+◌, ◌-◌, ℕ, zero, suc, Bool, true, false, ◌||◌, ◌&&◌, List, [], ◌∷◌, ◌++◌, length, get_or, Some, None, cond, if◌then◌else◌, refl, sym, ap, subst, ◌∙◌, arith, inl, inr}
 use Rattle.std.specs.Prelude.{find}
 use Rattle.std.specs.Option.{option_or}
-use Rattle.std.proofs.lemmas.List.{length-take-le, length_push, get_or-take, get_or_append_left}
+use Rattle.std.proofs.lemmas.List.{length_push, get_or_append_left}
 use Rattle.std.proofs.lemmas.Bool.{cases_Bool, cases_eq, true≢false}
 use Rattle.pv_seq.specs.Sequencing.{Access, clash, overlap}
 use Rattle.pv_seq.specs.Marks.{marked, NoneMarked}
@@ -97,30 +97,11 @@ found_less x y accesses m e kept h =
     let le = h.0 in
     (omega (arith, le, e), λ n lt. kept (get_or accesses n no_access) n lt (h.1 n (omega (arith, lt, e))))
 
-pub found_cut : (x : Index) (accesses : List Access) (m : ℕ) → x.known ≤ m → m ≤ length accesses → AreFound x accesses → AreFound x (take m accesses)
-found_cut x accesses m known le h =
-    let long = length-take-le m accesses le in
-    (omega (arith, long, known), λ n lt. subst (λ a. IsFound x a n) (sym (get_or-take m accesses n no_access (omega (arith, lt, known)))) (h.1 n lt))
-
 pub found_pushed : (x : Index) (accesses : List Access) (a : Access) → AreFound x accesses → AreFound x (accesses ++ a ∷ [])
 found_pushed x accesses a h =
     let le = h.0 in
     let long = length_push accesses a in
     (omega (arith, long, le), λ n lt. subst (λ b. IsFound x b n) (sym (get_or_append_left accesses (a ∷ []) no_access n (omega (arith, lt, le)))) (h.1 n lt))
-
-number_differs : (ws : List ℕ) (i j n number : ℕ) → i ≡ j → get_or ws i 0 ≡ n → get_or ws j 0 ≡ number → n < number → ⊥
-number_differs ws i j n number same e last lt = let k : n ≡ number = sym e ∙ ap (λ m. get_or ws m 0) same ∙ last in omega (arith, k, lt)
-
--- the last number is taken away
-pub stands_cut : (ws : List ℕ) (number n : ℕ) → 1 ≤ length ws → get_or ws (length ws - 1) 0 ≡ number → n < number → Stands ws n → Stands (take (length ws - 1) ws) n
-stands_cut ws number n some last lt (i, before, e) =
-    elim (cases_eq i (length ws - 1)) [
-      | inl same ↦ absurd (number_differs ws i (length ws - 1) n number same e last lt)
-      | inr other ↦
-          let small : i < length ws - 1 = omega (arith, before, other, some) in
-          let long = length-take-le (length ws - 1) ws (omega arith) in
-          (i, omega (arith, long, small), get_or-take (length ws - 1) ws i 0 small ∙ e)
-    ]
 
 -- ---- where the search begins
 

@@ -8,7 +8,7 @@ use Rattle.pv_watch.specs.declared.event.Event.{Event}
 use Rattle.pv_watch.specs.declared.event.What.{What}
 use Rattle.pv_watch.specs.declared.event.What.TheVariants.{Made, Ended, Exposed, Pair, Tried, Fault}
 
--- the first of the events that tells such a thing
+-- the first of the events of the memory model that tells such a thing
 abbrev pub first_told : {A : Type 0} → (What → Option A) → List Event → Option A
 first_told f [] = None
 first_told f (e ∷ es) = option_or (f e.what) (first_told f es)
@@ -23,7 +23,7 @@ abbrev pub making_of_pair : ℕ → What → Option (ℕ × ℕ)
 making_of_pair p (Pair pair address low high) = if pair == p then Some (low, high) else None
 making_of_pair p _ = None
 
--- `name#k`, or `?` where the instance's making isn't told or its name has no text
+-- `name#k`, which the memory model calls an instance by, or `?` where the instance's making isn't told or its name has no text
 abbrev pub named : List (List ℕ) → Option (ℕ × ℕ) → List ℕ
 named names None = codes "?"
 named names (Some p) = if nat_lt p.0 (length names) then name_at names p.0 ++ codes "#" ++ decimal p.1 else codes "?"
@@ -48,7 +48,7 @@ survivors_of seen names (Some p) low high = survivors (instance_text seen names 
 abbrev pub test_text : ℕ → List ℕ
 test_text n = if n == 1 then codes "live" else if n == 2 then codes "range" else if n == 3 then codes "block" else if n == 4 then codes "same" else codes "?"
 
--- a word and its text
+-- a word and its text (docs/FORMATS.md, What watchers say; memory model)
 abbrev pub field : List ℕ → List ℕ → List ℕ
 field word text = codes " " ++ word ++ codes "=" ++ text
 
@@ -66,15 +66,15 @@ what_text seen names turn (Tried pair test low high) =
     ++ field (codes "left") (survivors_of seen names (first_told (making_of_pair pair) seen) low high)
 what_text seen names turn (Fault verdict low high pair) = codes "fault" ++ field (codes "turn") (decimal turn)
 
--- a line ends with a line feed
+-- a line ends with a line feed (C17 7.21.2p2: a text stream's line)
 abbrev pub line : List ℕ → List ℕ
 line text = text ++ 10 ∷ []
 
--- the line of an event
+-- the line of an event of the memory model
 abbrev pub event_line : List Event → List (List ℕ) → Event → List ℕ
 event_line seen names e = line (what_text seen names e.turn e.what)
 
--- the lines of some of the events seen, in order
+-- the lines of some of the events of the memory model that were seen, in order
 abbrev pub event_lines : List Event → List (List ℕ) → List Event → List ℕ
 event_lines seen names [] = []
 event_lines seen names (e ∷ es) = event_line seen names e ++ event_lines seen names es

@@ -11,6 +11,6 @@ Sees old new wants event More = (new ≡ old ++ event ∷ []) × (length new ≢
 Sees old new wants event Enough = (new ≡ old ++ event ∷ []) × (length new ≡ wants)
 Sees old new wants event NoMemory = new ≡ old
 
--- the kind's text, where it has one
+-- the kind's text, where it has one (docs/FORMATS.md, What watchers say; memory model)
 abbrev pub IsText : (kind wants : ℕ) → List Event → List (List ℕ) → List ℕ → Type 0
 IsText kind wants seen names text = IfSome (text_of kind wants seen names) (λ t. text ≡ t)

@@ -11,56 +11,56 @@ pub data Slot : Type 0 where
   Present : (kind wants : ℕ) (seen : List Event) → Slot
   Left : (kind : ℕ) (text : List ℕ) → Slot
 
--- the kind of a slot's watcher
+-- the kind of a slot's watcher (docs/FORMATS.md, What watchers say; memory model)
 abbrev pub kind_of : Slot → ℕ
 kind_of (Present kind wants seen) = kind
 kind_of (Left kind text) = kind
 
--- the slot's kind is one of these
+-- the slot's kind is one of these (docs/FORMATS.md, What watchers say; memory model)
 abbrev pub is_kept : List ℕ → Slot → Bool
 is_kept kinds slot = list_any (λ k. k == kind_of slot) kinds
 
--- a watcher that has seen enough has left its text
+-- a watcher that has seen as many events as it wants has left its text (docs/FORMATS.md, What watchers say; memory model)
 abbrev pub Stays : Bool → (kind wants : ℕ) → List Event → List (List ℕ) → Slot → Type 0
 Stays true kind wants seen names (Present k w s) = ⊥
 Stays true kind wants seen names (Left k text) = (k ≡ kind) × IsText kind wants seen names text
 Stays false kind wants seen names slot = slot ≡ Present kind wants seen
 
--- one event more
+-- one event of the memory model more
 abbrev pub After : Event → List (List ℕ) → Slot → Slot → Type 0
 After event names (Present kind wants seen) new = Stays (length (seen ++ event ∷ []) == wants) kind wants (seen ++ event ∷ []) names new
 After event names (Left kind text) new = new ≡ Left kind text
 
--- these events in order
+-- these events of the memory model in order
 abbrev pub Told : List Slot → List Event → List (List ℕ) → List Slot → Type 0
 Told old [] names new = new ≡ old
 Told old (event ∷ events) names new = (next : List Slot) × AllZip (After event names) old next × Told next events names new
 
--- the text of a slot
+-- the text of a slot (docs/FORMATS.md, What watchers say; memory model)
 abbrev pub Says : List (List ℕ) → Slot → List ℕ → Type 0
 Says names (Present kind wants seen) text = IsText kind wants seen names text
 Says names (Left kind text) said = said ≡ text
 
--- it was added
+-- the text of a slot was added (docs/FORMATS.md, What watchers say; memory model)
 pub record Adds (names : List (List ℕ)) (slot : Slot) (old new : List ℕ) : Type 0 where
   pub text : List ℕ
   pub says : Says names slot text
   pub whole : new ≡ old ++ text
 
--- the texts of all slots in order
+-- the texts of all slots in order (docs/FORMATS.md, What watchers say; memory model)
 abbrev pub SayAll : List (List ℕ) → List Slot → List ℕ → Type 0
 SayAll names [] text = text ≡ []
 SayAll names (slot ∷ slots) text = (first : List ℕ) × (rest : List ℕ) × (text ≡ first ++ rest) × Says names slot first × SayAll names slots rest
 
--- a watcher, by what the trait says of it
+-- a watcher of a run's events (memory model), by what the trait says of it
 abbrev pub watcher : {W : Type 0} → (W → ℕ) → (W → ℕ) → (W → List Event) → W → Slot
 watcher kind wants seen w = Present (kind w) (wants w) (seen w)
 
--- the slot of a seat, which has a watcher or the text of one that has left
+-- the slot of a seat, which has a watcher or the text of one that has left (docs/FORMATS.md, What watchers say; memory model)
 abbrev pub slot : {W : Type 0} → (W → Slot) → Seat W → Slot
 slot view (In w) = view w
 slot view (Out kind text) = Left kind text.items
 
--- the slots of all seats, in order
+-- the slots of all seats, in order (docs/FORMATS.md, What watchers say; memory model)
 abbrev pub slots : {W : Type 0} → (W → Slot) → List (Seat W) → List Slot
 slots view seats = map (slot view) seats

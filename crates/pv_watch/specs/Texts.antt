@@ -18,7 +18,7 @@ word_of (Pair pair address low high) = codes "pair"
 word_of (Tried pair test low high) = codes "use"
 word_of (Fault verdict low high pair) = codes "fault"
 
--- which of the six
+-- which of the memory model's six kinds of events
 abbrev pub place_of : What → ℕ
 place_of (Made inst name k base size) = 0
 place_of (Ended inst) = 1
@@ -27,15 +27,16 @@ place_of (Pair pair address low high) = 3
 place_of (Tried pair test low high) = 4
 place_of (Fault verdict low high pair) = 5
 
--- how many events of this kind were seen
+-- how many events of the memory model of this kind were seen
 abbrev pub counted : List Event → ℕ → ℕ
 counted seen place = length (filter (λ (e : Event). place_of e.what == place) seen)
 
--- the line of a kind
+-- the line of a kind (docs/FORMATS.md, What watchers say; memory model)
 abbrev pub count_line : List ℕ → ℕ → List ℕ
 count_line word n = line (word ++ codes " " ++ decimal n)
 
--- a line for each kind
+-- a line for each kind (docs/FORMATS.md, What watchers say; memory model)
+-- worked: all_counted, all_counted_cut, unknown_counted, unknown_counted_cut, faults_counted, faults_counted_cut, none_counted
 abbrev pub census_text : List Event → List ℕ
 census_text seen =
     count_line (codes "create") (counted seen 0) ++ count_line (codes "end") (counted seen 1) ++ count_line (codes "expose") (counted seen 2)
@@ -49,7 +50,8 @@ is_of_pair (Pair pair address low high) = true
 is_of_pair (Tried pair test low high) = true
 is_of_pair _ = false
 
--- the lines of those events
+-- the lines of those events (docs/FORMATS.md, What watchers say; memory model)
+-- worked: all_followed, all_followed_cut, unknown_followed, unknown_followed_cut, faults_followed, faults_followed_cut, none_followed
 abbrev pub pointers_text : List Event → List (List ℕ) → List ℕ
 pointers_text seen names = event_lines seen names (filter (λ (e : Event). is_of_pair e.what) seen)
 
@@ -66,7 +68,7 @@ abbrev pub suspects_of : What → Option Suspects
 suspects_of (Fault verdict low high pair) = Some (record { low = low; high = high; pair = pair })
 suspects_of _ = None
 
--- whether a number is this one
+-- whether the number of an instance or a pair (memory model) is this one
 abbrev pub is_that : Option ℕ → ℕ → Bool
 is_that None i = false
 is_that (Some n) i = n == i
@@ -89,7 +91,7 @@ abbrev pub is_fault : What → Bool
 is_fault (Fault verdict low high pair) = true
 is_fault _ = false
 
--- these and the first fault event, which isn't behind `passed`
+-- these and the first event of a fault (3.4.3), which isn't behind `passed`
 abbrev pub concerning : Suspects → (passed : Bool) → List Event → List Event
 concerning s passed [] = []
 concerning s passed (e ∷ es) =
@@ -97,22 +99,23 @@ concerning s passed (e ∷ es) =
     else if concerns s e.what then e ∷ concerning s passed es
     else concerning s passed es
 
--- the lines of what led to the fault, or that there is none
+-- the lines of what led to the fault (3.4.3), or that there is none
 abbrev pub explained : List Event → List (List ℕ) → Option Suspects → List ℕ
 explained seen names None = line (codes "no fault")
 explained seen names (Some s) = event_lines seen names (concerning s false seen)
 
--- the same of the first fault that was seen
+-- the same of the first fault (3.4.3) that was seen
+-- worked: all_explained, all_explained_cut, unknown_explained, unknown_explained_cut, faults_explained, faults_explained_cut, none_explained
 abbrev pub explain_text : List Event → List (List ℕ) → List ℕ
 explain_text seen names = explained seen names (first_told suspects_of seen)
 
 -- ---- all of them
 
--- as many events as wanted were seen, so that later ones may be missing
+-- as many events as wanted were seen, so that later ones may be missing (docs/FORMATS.md, What watchers say; memory model)
 abbrev pub cut : ℕ → List Event → List ℕ
 cut wants seen = if length seen == wants then line (codes "cut") else []
 
--- the text of a kind, none where the kind has a text of its own
+-- the text of a kind, none where the kind has a text of its own (docs/FORMATS.md, What watchers say; memory model)
 abbrev pub text_of : (kind wants : ℕ) → List Event → List (List ℕ) → Option (List ℕ)
 text_of kind wants seen names =
     if kind == 1 then Some (explain_text seen names ++ cut wants seen)
