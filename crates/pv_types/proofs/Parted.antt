@@ -39,7 +39,10 @@ any_const env (m ∷ ms) = has_const env m.t || any_const env ms
 
 const_union : (env : List Entry) (ms : List Named) → some_const (union_parts env ms) ≡ any_const env ms
 const_union env [] = refl
-const_union env (m ∷ ms) = const_append (layout_in env m.t).parts (union_parts env ms) ∙ ap (λ b. has_const env m.t || b) (const_union env ms)
+const_union env (m ∷ ms) =
+    const_append (shifted 0 (layout_in env m.t).parts) (union_parts env ms)
+    ∙ ap (λ b. b || some_const (union_parts env ms)) (const_shifted 0 (layout_in env m.t).parts)
+    ∙ ap (λ b. has_const env m.t || b) (const_union env ms)
 
 const_struct : (env : List Entry) (ms : List Named) (o : ℕ) → some_const (struct_parts env ms o) ≡ any_const env ms
 const_struct env [] o = refl
