@@ -7,7 +7,7 @@ use Rattle.pv_types.specs.Ty.{Ty}
 use Rattle.pv_types.specs.Layouts.{Entry, Named, look, or_none, layout_in, is_complete_in, struct_parts, repeated, shifted}
 use Rattle.pv_types.specs.Known.{Known, tree, trees, env, named, named_in, members_in, is_union_in, IsBuilt}
 use Rattle.pv_types.specs.declared.terms.TypeId.{TypeId}
-use Rattle.pv_types.specs.Spans.{spans, holder}
+use Rattle.pv_types.specs.Places.{struct_places, holder}
 use Rattle.pv_types.proofs.Peeling.{positive_size}
 use Rattle.pv_types.proofs.Walks.{begin_of, stop_of, walk_hit, walk_miss}
 use Rattle.pv_layout.proofs.Ahead.{Ahead, ahead_start, ahead_next, next_at}
@@ -147,12 +147,12 @@ module _ (m : Known) (tag o : ℕ) (built : IsBuilt m) (there : IsTrue (is_some 
         same = held_in m tag p o 0 (begin_of m p x) (stop_of m p x) (x ∷ ms) x (omega arith) h refl refl ge lt;
       }
 
-  pub held_some : (start : ℕ) (t : TypeId) → Some (start, t) ≡ holder o (spans m (members_in m.done tag) 0) → Landed m tag o start t
+  pub held_some : (start : ℕ) (t : TypeId) → Some (start, t) ≡ holder o (struct_places m 0 (members_in m.done tag)) → Landed m tag o start t
   held_some start t e =
       walk_hit m HeldAt o next (Landed m tag o start t) start t (λ p x ms h begins is ge lt. rw (begins, is) (landed p x ms h ge lt))
       (members_in m.done tag) 0 (held_start m tag o built there flag size) e
 
-  pub held_nowhere : None ≡ holder o (spans m (members_in m.done tag) 0) → (f : ℕ → Ty → Bool) → false ≡ some_over (env m) f o (struct_parts (env m) (named m tag) 0)
+  pub held_nowhere : None ≡ holder o (struct_places m 0 (members_in m.done tag)) → (f : ℕ → Ty → Bool) → false ≡ some_over (env m) f o (struct_parts (env m) (named m tag) 0)
   held_nowhere e =
       walk_miss m HeldAt o next ((f : ℕ → Ty → Bool) → false ≡ some_over (env m) f o (struct_parts (env m) (named m tag) 0))
       (λ p h. held_none m tag p o 0 [] (omega arith) h)

@@ -78,25 +78,5 @@ const_same m s o (FunctionTy t ts v) = sym (no_head (covers (env m) o (record { 
 pub const_whole : (m : Known) (t e o : ℕ) (s : Sought) → tree m t ≡ ConstOf (tree m e) → some_over (env m) (passes m s) o (layout_in (env m) (tree m e)).parts ≡ some_over (env m) (passes m s) o (layout_in (env m) (tree m t)).parts
 const_whole m t e o s is = const_same m s o (tree m e) ∙ sym (ap (λ u. some_over (env m) (passes m s) o (layout_in (env m) u).parts) is)
 
--- a byte from the beginning on
-from_zero : (o n : ℕ) (g : ℕ → Bool) → (((nat_le 0 o && nat_lt o (0 + n)) && g (o - 0)) || false) ≡ (nat_lt o n && g o)
-from_zero o n g =
-    let begins : nat_le 0 o ≡ true = grind (arith, nat_tests) in
-    let ends : 0 + n ≡ n = omega arith in
-    let same : o - 0 ≡ o = omega arith in
-    rw (begins, ends, same) (last (nat_lt o n && g o))
-  where
-    last : (b : Bool) → (b || false) ≡ b
-    last true = refl
-    last false = refl
-
-pub int_whole : (m : Known) (t o : ℕ) (s : Sought) (k : IntKind) → tree m t ≡ IntTy k
-    → (nat_lt o (layout_in (env m) (tree m t)).size && is_sought m s o (tree m t)) ≡ some_over (env m) (passes m s) o (layout_in (env m) (tree m t)).parts
-int_whole m t o s k is = rw is (sym (from_zero o (layout_in (env m) (IntTy k)).size (λ j. is_sought m s j (IntTy k))))
-
-pub pointer_whole : (m : Known) (t o e : ℕ) (s : Sought) → tree m t ≡ PointerTo (tree m e)
-    → (nat_lt o (layout_in (env m) (tree m t)).size && is_sought m s o (tree m t)) ≡ some_over (env m) (passes m s) o (layout_in (env m) (tree m t)).parts
-pointer_whole m t o e s is = rw is (sym (from_zero o 8 (λ j. is_sought m s j (PointerTo (tree m e)))))
-
 pub joins_over : (env : List Entry) (f : ℕ → Ty → Bool) (o : ℕ) → Joins (some_over env f o)
 joins_over env f o = record { none = refl; both = λ xs ys. some_over-append env f o xs ys }

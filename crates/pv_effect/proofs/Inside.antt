@@ -47,7 +47,7 @@ union_inside : (env : List Entry) (ms : List Named) (o k : ℕ) → AllInside en
 union_inside env [] o k i h = tt
 union_inside env (x ∷ ms) o k i h =
     let more = union_end-ge env ms (max o (layout_in env x.t).size) in
-    AreInside-append env k _ _ (AreInside-more env (layout_in env x.t).size k _ (omega (arith, more, h)) i.0) (union_inside env ms _ k i.1 h)
+    AreInside-append env k _ _ (AreInside-more env (0 + (layout_in env x.t).size) k _ (omega (arith, more, h)) (AreInside-shifted env (layout_in env x.t).size 0 (layout_in env x.t).parts i.0)) (union_inside env ms _ k i.1 h)
 
 members_inside : (env : List Entry) (u : Bool) (ms : List Named) → AllInside env ms → AreInside env (end_of env u ms) (member_parts env u ms)
 members_inside env true ms i = union_inside env ms 0 _ i (omega arith)

@@ -119,10 +119,6 @@ int_leaf m k t u e = rw (e, int_compatible k (bare u) (bare_no u)) (last (same_t
     last true = refl
     last false = refl
 
-pub int_small : (k : IntKind) → width k / 8 ≤ 2 ^ 32
-int_small BoolKind = omega arith
-int_small _ = omega arith
-
 -- other types have no counterpart
 pub no_counterpart : (m : Known) (term : Term) (t u : Ty) → t ≡ tree_in m.lists (trees m) term → ((k : IntKind) → term ≢ Int k) → are_counterparts t u ≡ false
 no_counterpart m term t u e h = ap (λ x. are_counterparts x u) e ∙ step term h

@@ -10,16 +10,16 @@ use Rattle.pv_effect.specs.declared.bytes.Sought.TheVariants.{Any, Accepting}
 use Rattle.pv_effect.specs.declared.bytes.Search.{Search}
 use Rattle.pv_effect.specs.declared.bytes.Search.TheVariants.{Settled, In}
 
--- whether a scalar whose byte j is asked about is what is sought
+-- 6.5p6, p7: whether a scalar whose byte j is asked about is what is sought
 abbrev pub is_sought : Known → Sought → ℕ → Ty → Bool
 is_sought m Any j t = true
 is_sought m (Accepting u k) j t = accepts m (u, k) j t
 
--- the same of a part that need not be a scalar
+-- 6.5p6, p7: the same of a part that need not be a scalar
 abbrev pub passes : Known → Sought → ℕ → Ty → Bool
 passes m s j t = is_scalar t && is_sought m s j t
 
--- what a search comes to, once what it goes on in is searched
+-- 6.5p7: what a search comes to, once what it goes on in is searched
 abbrev pub comes_to : (ℕ → Ty → Bool) → Known → Search → Bool
 comes_to f m (Settled b) = b
 comes_to f m (In t offset) = some_over (env m) f offset (layout_in (env m) (tree m t.0)).parts

@@ -82,12 +82,6 @@ pub matching : (t u : Ty) → are_compatible t u ≡ true → Matches t u
 unfolding are_compatible
 matching t u h = record { left = Unqualified; right = Unqualified; same = h }
 
-pub matching_pointer : (t u : Ty) → Matches (PointerTo t) (PointerTo u) → Matches t u
-matching_pointer t u h = record { left = Unqualified; right = Unqualified; same = right_true _ (alike (form_of Unqualified t) (form_of Unqualified u)) h.same }
-
-pub matching_const : (t u : Ty) → Matches (ConstOf t) (ConstOf u) → Matches t u
-matching_const t u h = record { left = with_const h.left; right = with_const h.right; same = h.same }
-
 pub matching_array : (t u : Ty) (m n : Option ℕ) → Matches (ArrayOf t m) (ArrayOf u n) → Matches t u
 matching_array t u m n h = record { left = of_elements h.left; right = of_elements h.right; same = right_true (sizes_agree m n) _ h.same }
 

@@ -1,5 +1,5 @@
 -- Whether a part of a type is `const`, read off its elements or members.
-use Rattle.std.proofs.Common.{◌≡◌, ◌≢◌, ℕ, zero, suc, ◌*◌, ◌+◌, ◌<◌, Bool, true, false, ◌||◌, List, [], ◌∷◌, ◌++◌, Some, length, drop, drop-cons, get_or, add-one, refl, sym, ◌∙◌, ap, subst}
+use Rattle.std.proofs.Common.{◌≡◌, ◌≢◌, ℕ, zero, suc, ◌*◌, ◌+◌, ◌<◌, Bool, true, false, ◌||◌, List, [], ◌∷◌, ◌++◌, Some, length, drop, drop-cons, get_or, refl, sym, ◌∙◌, ap, subst}
 use Rattle.std.specs.Int.{next_multiple_of}
 use Rattle.pv_types.specs.declared.terms.Member.{Member}
 use Rattle.pv_types.specs.Ty.{Ty, ArrayOf}
@@ -39,7 +39,10 @@ any_const env (m ∷ ms) = has_const env m.t || any_const env ms
 
 const_union : (env : List Entry) (ms : List Named) → some_const (union_parts env ms) ≡ any_const env ms
 const_union env [] = refl
-const_union env (m ∷ ms) = const_append (layout_in env m.t).parts (union_parts env ms) ∙ ap (λ b. has_const env m.t || b) (const_union env ms)
+const_union env (m ∷ ms) =
+    const_append (shifted 0 (layout_in env m.t).parts) (union_parts env ms)
+    ∙ ap (λ b. b || some_const (union_parts env ms)) (const_shifted 0 (layout_in env m.t).parts)
+    ∙ ap (λ b. has_const env m.t || b) (const_union env ms)
 
 const_struct : (env : List Entry) (ms : List Named) (o : ℕ) → some_const (struct_parts env ms o) ≡ any_const env ms
 const_struct env [] o = refl
@@ -68,17 +71,8 @@ module _ (m : Known) (all : List Named) (i : ℕ) (items : List Member) (d : Mem
   parts : Looking m all (here ∷ drop (suc i) items)
   parts = subst (λ ms. Looking m all ms) (drop-cons items i d lt) h
 
-  pub looked_known : here.t.0 < length m.terms
-  looked_known = parts.known.0
-
   pub looked_hit : has_const (env m) (tree m here.t.0) ≡ true → any_const (env m) all ≡ true
   looked_hit e = parts.rest ∙ ap (λ b. b || any_const (env m) (named_in (trees m) (drop (suc i) items))) e
-
-  pub looked_on : has_const (env m) (tree m here.t.0) ≡ false → Looking m all (drop (i + 1) items)
-  looked_on e = rw (add-one) (record {
-    known = parts.known.1;
-    rest = parts.rest ∙ ap (λ b. b || any_const (env m) (named_in (trees m) (drop (suc i) items))) e;
-  })
 
 pub const_through_array : (m : Known) (at inner n : ℕ) (b : Bool) → tree m at ≡ ArrayOf (tree m inner) (Some n) → n ≢ 0 → has_const (env m) (tree m at) ≡ b → has_const (env m) (tree m inner) ≡ b
 const_through_array m at inner n b is some h = sym (const_of_elements (env m) (tree m inner) n some) ∙ ap (has_const (env m)) (sym is) ∙ h

@@ -14,9 +14,9 @@ pub returns-in-Some : goal.returns-in-Some
 returns-in-Some c =
     let ms = members_in c.args.types.now.done c.args.tag in
     ap (λ r. Some r) c.beginning.ensures ∙ ap (λ xs. Some (0, (member_at xs c.in-Some.number).t)) c.members.ensures.value
-    ∙ ap (λ n. at_beginning n ms) c.in-Some.ensures ∙ sym (union_named c.args.name ms)
+    ∙ ap (λ n. at_beginning n ms) c.in-Some.ensures ∙ sym (union_named c.args.types.now c.args.name ms)
 
 pub returns-in-None : goal.returns-in-None
 returns-in-None c =
     let ms = members_in c.args.types.now.done c.args.tag in
-    ap (λ n. at_beginning n ms) c.in-None.ensures ∙ sym (union_named c.args.name ms)
+    ap (λ n. at_beginning n ms) c.in-None.ensures ∙ sym (union_named c.args.types.now c.args.name ms)
