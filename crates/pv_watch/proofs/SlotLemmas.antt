@@ -2,8 +2,7 @@
 use Rattle.std.proofs.Common.{◌≡◌, ℕ, zero, suc, ◌+◌, ◌<◌, List, [], ◌∷◌, ◌++◌, Bool, true, false, cond, map, take, drop, set, get_or, length, refl, sym, subst, ◌∙◌, ap, arith}
 use Rattle.std.specs.List.{filter, AllZip}
 use Rattle.std.proofs.lemmas.List.{map-set, length-map, take_all, append-nil, append_assoc, take_more, map-append}
-use Rattle.pv_watch.specs.declared.event.Event.{Event}
-use Rattle.pv_watch.specs.Slots.{Slot, slots, After, Told, Says, Adds, SayAll}
+use Rattle.pv_watch.specs.Slots.{Slot, slots, Says, Adds, SayAll}
 use Rattle.pv_watch.specs.declared.seats.Seat.TheVariants.{In}
 
 kept_or_not : {X Y : Type 0} (f : X → Y) (b : Bool) (x : X) (xs : List X) (ys : List Y) → map f xs ≡ ys → map f (cond b (x ∷ xs) xs) ≡ cond b (f x ∷ ys) ys
@@ -59,11 +58,6 @@ changed_more view R old now i x y lt h r =
 pub changed_all : {Y : Type 0} (R : Y → Y → Type 0) (old now : List Y) (i : ℕ) → length old ≡ i → ChangedSoFar R old now i → AllZip R old now
 changed_all R old now i e h =
     subst (λ xs. AllZip R xs now) (take_all i old (omega (arith, e))) (subst (AllZip R (take i old)) (take_all i now (omega (arith, e, h.2))) h.0)
-
--- one event more
-pub told_more : (names : List (List ℕ)) (events : List Event) (event : Event) (old now new : List Slot) → Told old events names now → AllZip (After event names) now new → Told old (events ++ event ∷ []) names new
-told_more names [] event old now new h step = (new, subst (λ slots. AllZip (After event names) slots new) h step, refl)
-told_more names (e ∷ events) event old now new (next, first, more) step = (next, first, told_more names events event next now new more step)
 
 -- ---- texts
 
