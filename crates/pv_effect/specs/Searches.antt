@@ -1,7 +1,7 @@
 -- What a search for the scalars that a byte lies in asks, and what it comes to.
 use Rattle.std.specs.Prelude.{ℕ, ◌<◌, ◌≤◌, ◌^◌, ◌&&◌, Bool, true, IsTrue, length}
 use Rattle.pv_types.specs.Ty.{Ty}
-use Rattle.pv_types.specs.Layouts.{layout_in, is_complete_in}
+use Rattle.pv_types.specs.Layouts.{layout_in, is_complete_in, part_count}
 use Rattle.pv_types.specs.Known.{Known, tree, env}
 use Rattle.pv_layout.specs.Parts.{is_scalar}
 use Rattle.pv_effect.specs.EffectiveType.{accepts, some_over}
@@ -24,7 +24,7 @@ abbrev pub comes_to : (ℕ → Ty → Bool) → Known → Search → Bool
 comes_to f m (Settled b) = b
 comes_to f m (In t offset) = some_over (env m) f offset (layout_in (env m) (tree m t.0)).parts
 
--- what it goes on in may be searched, and its definition goes less deep
+-- 6.2.6.1p2: what it goes on in may be searched, and has fewer parts
 abbrev pub IsBelow : Known → ℕ → Search → Type 0
 IsBelow m h (Settled b) = Unit {0}
-IsBelow m h (In t offset) = (t.0 < length m.terms) × IsTrue (is_complete_in (env m) (tree m t.0)) × ((layout_in (env m) (tree m t.0)).size ≤ 2 ^ 32) × ((layout_in (env m) (tree m t.0)).height < h)
+IsBelow m h (In t offset) = (t.0 < length m.terms) × IsTrue (is_complete_in (env m) (tree m t.0)) × ((layout_in (env m) (tree m t.0)).size ≤ 2 ^ 32) × (part_count (layout_in (env m) (tree m t.0)) < h)
