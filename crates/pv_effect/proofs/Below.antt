@@ -4,7 +4,7 @@ use Rattle.std.proofs.Math.ListN.{drop_of_length-le}
 use Rattle.std.specs.Int.{next_multiple_of}
 use Rattle.pv_types.specs.declared.terms.Member.{Member}
 use Rattle.pv_types.specs.Ty.{Ty}
-use Rattle.pv_types.specs.Layouts.{Entry, Named, look, or_none, layout_in, is_complete_in, struct_parts, repeated, shifted}
+use Rattle.pv_types.specs.Layouts.{Entry, Named, look, or_none, layout_in, is_complete_in, struct_parts, repeated, shifted, part_count}
 use Rattle.pv_types.specs.Known.{Known, tree, trees, env, named, named_in, members_in, is_union_in, IsBuilt}
 use Rattle.pv_types.specs.declared.terms.TypeId.{TypeId}
 use Rattle.pv_types.specs.Places.{struct_places, holder}
@@ -124,7 +124,7 @@ pub record Landed (m : Known) (tag o start : ℕ) (t : TypeId) : Type 0 where
   pub known : t.0 < length m.terms
   pub complete : IsTrue (is_complete_in (env m) (tree m t.0))
   pub small : (layout_in (env m) (tree m t.0)).size ≤ 2 ^ 32
-  pub lower : (layout_in (env m) (tree m t.0)).height < (or_none (look (env m) tag)).height
+  pub lower : part_count (layout_in (env m) (tree m t.0)) < part_count (or_none (look (env m) tag))
   pub same : (f : ℕ → Ty → Bool) → some_over (env m) f (o - start) (layout_in (env m) (tree m t.0)).parts ≡ some_over (env m) f o (struct_parts (env m) (named m tag) 0)
 
 module _ (m : Known) (tag o : ℕ) (built : IsBuilt m) (there : IsTrue (is_some (look (env m) tag))) (flag : is_union_in m.done tag ≡ false) (size : (or_none (look (env m) tag)).size ≤ 2 ^ 32) where

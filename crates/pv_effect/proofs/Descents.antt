@@ -3,15 +3,18 @@ use Rattle.std.proofs.Common.{◌≡◌, ℕ, ◌+◌, ◌-◌, ◌<◌, ◌≤�
 use Rattle.std.proofs.lemmas.Bool.Decides.{nat_tests}
 use Rattle.pv_num.specs.declared.kinds.IntKind.{IntKind}
 use Rattle.pv_types.specs.Ty.{Ty, VoidTy, IntTy, PointerTo, ArrayOf, StructTag, UnionTag, FunctionTy, ConstOf}
-use Rattle.pv_types.specs.Layouts.{Entry, look, or_none, layout_in, layout_of, is_complete_in, struct_parts, union_parts, repeated}
+use Rattle.pv_types.specs.Layouts.{Entry, look, or_none, layout_in, layout_of, is_complete_in, struct_parts, union_parts, repeated, part_count}
 use Rattle.pv_types.specs.Known.{Known, tree, env, named, is_union_in, IsBuilt}
+use Rattle.pv_types.proofs.Counted.{element_fewer}
 use Rattle.pv_types.proofs.Made.{made}
 use Rattle.pv_layout.specs.Parts.{is_scalar}
 use Rattle.pv_layout.proofs.Unions.{Joins}
 use Rattle.pv_effect.specs.declared.bytes.Sought.{Sought}
 use Rattle.pv_effect.specs.declared.bytes.Sought.TheVariants.{Any, Accepting}
+use Rattle.pv_effect.specs.declared.bytes.Search.{Search}
+use Rattle.pv_effect.specs.declared.bytes.Search.TheVariants.{Settled, In}
 use Rattle.pv_effect.specs.EffectiveType.{covers, some_over}
-use Rattle.pv_effect.specs.Searches.{is_sought, passes}
+use Rattle.pv_effect.specs.Searches.{is_sought, passes, IsBelow}
 use Rattle.pv_effect.proofs.Over.{some_over-append}
 
 -- what the whole covers the byte with, what is left covers the rest with
@@ -19,7 +22,7 @@ pub record Descent (m : Known) (s : Sought) (t o left rest : ℕ) : Type 0 where
   pub known : left < length m.terms
   pub complete : IsTrue (is_complete_in (env m) (tree m left))
   pub small : (layout_in (env m) (tree m left)).size ≤ 2 ^ 32
-  pub lower : (layout_in (env m) (tree m left)).height ≤ (layout_in (env m) (tree m t)).height
+  pub lower : part_count (layout_in (env m) (tree m left)) ≤ part_count (layout_in (env m) (tree m t))
   pub same : some_over (env m) (passes m s) o (layout_in (env m) (tree m t)).parts ≡ some_over (env m) (passes m s) rest (layout_in (env m) (tree m left)).parts
 
 -- a part that is no scalar doesn't count
@@ -80,3 +83,11 @@ const_whole m t e o s is = const_same m s o (tree m e) ∙ sym (ap (λ u. some_o
 
 pub joins_over : (env : List Entry) (f : ℕ → Ty → Bool) (o : ℕ) → Joins (some_over env f o)
 joins_over env f o = record { none = refl; both = λ xs ys. some_over-append env f o xs ys }
+
+-- what a search goes on in has fewer parts than an element, or as many: so it has fewer than the array
+pub array_below : (m : Known) (t e n : ℕ) (r : Search) → tree m t ≡ ArrayOf (tree m e) (Some n) → 0 < n → IsBelow m (part_count (layout_in (env m) (tree m e)) + 1) r → IsBelow m (part_count (layout_in (env m) (tree m t))) r
+array_below m t e n (Settled b) is some low = tt
+array_below m t e n (In u o) is some low =
+    let more = element_fewer (env m) (tree m e) n some in
+    let near = low.3 in
+    (low.0, low.1, low.2, rw is (omega (arith, more, near)))

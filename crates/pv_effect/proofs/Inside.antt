@@ -2,11 +2,11 @@
 use Rattle.std.proofs.Common.{◌≡◌, ℕ, zero, suc, ◌+◌, ◌*◌, ◌<◌, ◌≤◌, max, Bool, true, false, IsTrue, List, [], ◌∷◌, ◌++◌, Some, None, refl, sym, ◌∙◌, ap, subst, arith}
 use Rattle.std.specs.Int.{next_multiple_of}
 use Rattle.pv_types.specs.Ty.{Ty, VoidTy, IntTy, PointerTo, ArrayOf, StructTag, UnionTag, FunctionTy, ConstOf}
-use Rattle.pv_types.specs.Layouts.{Part, Layout, Entry, Named, look, or_none, layout_in, layout_of, is_complete_in, struct_end, union_end, end_of, struct_parts, union_parts, member_parts, tag_type, shifted, repeated, AreComplete}
+use Rattle.pv_types.specs.Layouts.{Part, Layout, Entry, Named, look, or_none, layout_in, layout_of, is_complete_in, struct_end, union_end, end_of, struct_parts, union_parts, member_parts, tag_type, shifted, repeated, part_count, AreComplete}
 use Rattle.pv_types.specs.Known.{Known, env, named, is_union_in, IsBuilt}
-use Rattle.pv_types.proofs.Fills.{struct_end-ge, union_end-ge, right_true}
+use Rattle.pv_types.proofs.Counted.{AreFewer, element_fewer, members_fewer}
+use Rattle.pv_types.proofs.Fills.{struct_end-ge, union_end-ge, left_true, right_true, lt_true}
 use Rattle.pv_types.proofs.Made.{made}
-use Rattle.pv_layout.proofs.Ahead.{AreLower, lower_from}
 use Rattle.pv_effect.proofs.Over.{AreInside}
 
 AreInside-more : (env : List Entry) (s k : ℕ) (ps : List Part) → s ≤ k → AreInside env s ps → AreInside env k ps
@@ -64,28 +64,29 @@ tag_inside env n u ms whole i =
     let P : Layout → Type 0 = λ l. AreInside env l.size l.parts in
     subst P (sym whole) (omega (arith, own), AreInside-more env (end_of env u ms) _ _ (omega arith) (members_inside env u ms i))
 
-all_inside : (env : List Entry) (h : ℕ) (ms : List Named) → AreComplete env ms → AreLower env h ms
-    → ((t : Ty) → IsTrue (is_complete_in env t) → (layout_in env t).height < h → AreInside env (layout_in env t).size (layout_in env t).parts) → AllInside env ms
+all_inside : (env : List Entry) (h : ℕ) (ms : List Named) → AreComplete env ms → AreFewer env h ms
+    → ((t : Ty) → IsTrue (is_complete_in env t) → part_count (layout_in env t) < h → AreInside env (layout_in env t).size (layout_in env t).parts) → AllInside env ms
 all_inside env h [] c l one = tt
 all_inside env h (x ∷ ms) c l one = (one x.t c.0 l.0, all_inside env h ms c.1 l.1 one)
 
--- a structure or union, where this is known of less deep types
+-- a structure or union, where this is known of types with fewer parts
 made_inside : (m : Known) (n : ℕ) → IsBuilt m → IsTrue (is_complete_in (env m) (StructTag n))
-    → ((t : Ty) → IsTrue (is_complete_in (env m) t) → (layout_in (env m) t).height < (or_none (look (env m) n)).height → AreInside (env m) (layout_in (env m) t).size (layout_in (env m) t).parts)
+    → ((t : Ty) → IsTrue (is_complete_in (env m) t) → part_count (layout_in (env m) t) < part_count (or_none (look (env m) n)) → AreInside (env m) (layout_in (env m) t).size (layout_in (env m) t).parts)
     → AreInside (env m) (or_none (look (env m) n)).size (or_none (look (env m) n)).parts
 made_inside m n built there one =
     let h = made m n built there in
     let whole : or_none (look (env m) n) ≡ layout_of (env m) n (is_union_in m.done n) (named m n) = ap or_none h.laid in
-    let lower : AreLower (env m) (or_none (look (env m) n)).height (named m n) = rw whole (lower_from (env m) (named m n) 0 _ (omega arith)) in
+    let lower : AreFewer (env m) (part_count (or_none (look (env m) n))) (named m n) = rw whole (members_fewer (env m) n (is_union_in m.done n) (named m n)) in
     tag_inside (env m) n (is_union_in m.done n) (named m n) whole (all_inside (env m) _ (named m n) h.complete lower one)
 
-inside_below : (m : Known) (h : ℕ) (t : Ty) → IsBuilt m → IsTrue (is_complete_in (env m) t) → (layout_in (env m) t).height < h → AreInside (env m) (layout_in (env m) t).size (layout_in (env m) t).parts
+inside_below : (m : Known) (h : ℕ) (t : Ty) → IsBuilt m → IsTrue (is_complete_in (env m) t) → part_count (layout_in (env m) t) < h → AreInside (env m) (layout_in (env m) t).size (layout_in (env m) t).parts
 inside_below m zero t built c lt = absurd (omega arith)
 inside_below m (suc h) (IntTy k) built c lt = (omega arith, tt)
 inside_below m (suc h) (PointerTo t) built c lt = (omega arith, tt)
 inside_below m (suc h) (ArrayOf t None) built c lt = cc
 inside_below m (suc h) (ArrayOf t (Some n)) built c lt =
-    (omega arith, AreInside-repeated (env m) n (layout_in (env m) t).size (layout_in (env m) t).parts (inside_below m h t built (right_true _ _ c) (omega (arith, lt))))
+    let fewer = element_fewer (env m) t n (lt_true 0 n (left_true _ (is_complete_in (env m) t) c)) in
+    (omega arith, AreInside-repeated (env m) n (layout_in (env m) t).size (layout_in (env m) t).parts (inside_below m h t built (right_true _ _ c) (omega (arith, lt, fewer))))
 inside_below m (suc h) (StructTag n) built c lt = made_inside m n built c (λ t d l. inside_below m h t built d (omega (arith, lt, l)))
 inside_below m (suc h) (UnionTag n) built c lt = made_inside m n built c (λ t d l. inside_below m h t built d (omega (arith, lt, l)))
 inside_below m (suc h) (ConstOf t) built c lt = (omega arith, inside_below m h t built c (omega (arith, lt)))
@@ -93,4 +94,4 @@ inside_below m (suc h) VoidTy built c lt = cc
 inside_below m (suc h) (FunctionTy t ts v) built c lt = cc
 
 pub inside : (m : Known) (t : Ty) → IsBuilt m → IsTrue (is_complete_in (env m) t) → AreInside (env m) (layout_in (env m) t).size (layout_in (env m) t).parts
-inside m t built c = inside_below m (suc (layout_in (env m) t).height) t built c (omega arith)
+inside m t built c = inside_below m (suc (part_count (layout_in (env m) t))) t built c (omega arith)

@@ -2,10 +2,10 @@
 ghost use Rattle.std.specs.Prelude.{◌≡◌, ◌<◌, ◌≤◌, ◌^◌, ◌+◌, ◌&&◌, ◌||◌, nat_lt, ℕ, Bool, length, IsTrue, is_some, false, true};
 ghost use Rattle.pv_types.specs.Ty.{Ty};
 ghost use Rattle.pv_types.specs.Known.{tree, env, named, is_union_in, IsBuilt};
-ghost use Rattle.pv_types.specs.Layouts.{layout_in, is_complete_in, look, or_none, repeated, struct_parts, union_parts};
+ghost use Rattle.pv_types.specs.Layouts.{layout_in, is_complete_in, look, or_none, struct_parts, union_parts, part_count};
 ghost use Rattle.pv_layout.specs.Parts.{leaves, is_scalar};
 ghost use Rattle.pv_effect.specs.EffectiveType.{some_over, accepts};
-ghost use Rattle.pv_effect.specs.Searches.{is_sought, passes, comes_to, IsBelow};
+ghost use Rattle.pv_effect.specs.Searches.{is_sought, passes, comes_to, IsBelow, is_over_type, is_over_members, element_parts};
 
 use crate::kinds::{is_character, same_or_counterpart};
 use pv_layout::{last_deep, size};
@@ -65,7 +65,7 @@ fn below(types: &Types, t: TypeId, offset: u64, sought: Sought) -> Search
     requires complete { IsTrue (is_complete_in (env types.now) (tree types.now t.0)) }
     requires small { (layout_in (env types.now) (tree types.now t.0)).size ≤ 2 ^ 32 }
     ensures value { comes_to (passes types.now sought) types.now result ≡ some_over (env types.now) (passes types.now sought) offset (layout_in (env types.now) (tree types.now t.0)).parts }
-    ensures below { IsBelow types.now (layout_in (env types.now) (tree types.now t.0)).height result }
+    ensures below { IsBelow types.now (part_count (layout_in (env types.now) (tree types.now t.0))) result }
 {
     match types.view(t) {
         Term::Array(element, Some(n)) => in_array(types, element, n, offset),
@@ -114,8 +114,8 @@ fn in_array(types: &Types, element: TypeId, n: u64, offset: u64) -> Search
     requires known { element.0 < length types.now.terms }
     requires complete { IsTrue (is_complete_in (env types.now) (tree types.now element.0)) }
     requires small { (layout_in (env types.now) (tree types.now element.0)).size ≤ 2 ^ 32 }
-    ensures value { (f : ℕ → Ty → Bool) → comes_to f types.now result ≡ some_over (env types.now) f offset (repeated n (layout_in (env types.now) (tree types.now element.0)).size (layout_in (env types.now) (tree types.now element.0)).parts) }
-    ensures below { IsBelow types.now ((layout_in (env types.now) (tree types.now element.0)).height + 1) result }
+    ensures value { (f : ℕ → Ty → Bool) → comes_to f types.now result ≡ some_over (env types.now) f offset (element_parts n (layout_in (env types.now) (tree types.now element.0))) }
+    ensures below { IsBelow types.now (part_count (layout_in (env types.now) (tree types.now element.0)) + 1) result }
 {
     let size = size(types, element);
     if offset / size < n {
@@ -135,7 +135,7 @@ fn in_structure(types: &Types, tag: u32, offset: u64) -> Search
     requires structure { is_union_in types.now.done tag ≡ false }
     requires small { (or_none (look (env types.now) tag)).size ≤ 2 ^ 32 }
     ensures value { (f : ℕ → Ty → Bool) → comes_to f types.now result ≡ some_over (env types.now) f offset (struct_parts (env types.now) (named types.now tag) 0) }
-    ensures below { IsBelow types.now (or_none (look (env types.now) tag)).height result }
+    ensures below { IsBelow types.now (part_count (or_none (look (env types.now) tag))) result }
 {
     match types.member_over(tag, offset) {
         Some((start, t)) => Search::In {
@@ -154,7 +154,7 @@ fn in_union(types: &Types, tag: u32, offset: u64, sought: Sought) -> Search
     requires union { is_union_in types.now.done tag ≡ true }
     requires small { (or_none (look (env types.now) tag)).size ≤ 2 ^ 32 }
     ensures value { comes_to (passes types.now sought) types.now result ≡ some_over (env types.now) (passes types.now sought) offset (union_parts (env types.now) (named types.now tag)) }
-    ensures below { IsBelow types.now (or_none (look (env types.now) tag)).height result }
+    ensures below { IsBelow types.now (part_count (or_none (look (env types.now) tag))) result }
 {
     let members = types.members(tag);
     let main = members[last_deep(types, members)].t;
@@ -172,7 +172,7 @@ fn found_in_others(types: &Types, tag: u32, main: TypeId, offset: u64, sought: S
     requires complete { IsTrue (is_some (look (env types.now) tag)) }
     requires union { is_union_in types.now.done tag ≡ true }
     requires small { (or_none (look (env types.now) tag)).size ≤ 2 ^ 32 }
-    ensures { (result || some_over (env types.now) (passes types.now sought) offset (layout_in (env types.now) (tree types.now main.0)).parts) ≡ (some_over (env types.now) (passes types.now sought) offset (union_parts (env types.now) (named types.now tag)) || some_over (env types.now) (passes types.now sought) offset (layout_in (env types.now) (tree types.now main.0)).parts) }
+    ensures { (result || is_over_type types.now sought offset main.0) ≡ (is_over_members types.now sought offset tag || is_over_type types.now sought offset main.0) }
 {
     for m in types.members(tag) {
         if m.t.0 != main.0 {

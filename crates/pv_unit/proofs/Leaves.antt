@@ -1,8 +1,10 @@
--- Each part of a type has a definition that goes less deep.
-use Rattle.std.proofs.Common.{◌≡◌, ℕ, zero, suc, max, ◌+◌, ◌<◌, ◌≤◌, Bool, true, false, List, [], ◌∷◌, Option, Some, None, option_map, option_and_then, if◌then◌else◌, refl, sym, ◌∙◌, ap, arith, is_some}
+-- Each part of a type has fewer parts.
+use Rattle.std.proofs.Common.{◌≡◌, ℕ, zero, suc, ◌+◌, ◌<◌, ◌≤◌, Bool, true, false, List, [], ◌∷◌, Option, Some, None, option_map, option_and_then, if◌then◌else◌, refl, sym, ◌∙◌, ap, arith, is_some}
 use Rattle.pv_types.specs.Ty.{Ty, VoidTy, IntTy, PointerTo, ArrayOf, StructTag, UnionTag, FunctionTy, ConstOf}
-use Rattle.pv_types.specs.Layouts.{Entry, Part, Named, layout_in, is_complete_in, look, or_none, greatest_height}
-use Rattle.pv_types.specs.Known.{Known, completions, trees, env, named, IsBuilt}
+use Rattle.pv_types.specs.Layouts.{Entry, Part, Named, part_count, layout_in, layout_of, is_complete_in, look, or_none}
+use Rattle.pv_types.specs.Known.{Known, completions, trees, env, named, is_union_in, IsBuilt}
+use Rattle.pv_types.proofs.Counted.{AreFewer, element_fewer, members_fewer}
+use Rattle.pv_types.proofs.Fills.{left_true, lt_true}
 use Rattle.pv_types.proofs.Made.{made}
 use Rattle.pv_layout.specs.Places.{bare}
 use Rattle.pv_unit.specs.Parts.{part_number, struct_members, first_member, part_in, part_at, has_element, within, leaf_within, is_scalar}
@@ -12,47 +14,42 @@ abbrev part_or : Part → Option Part → Part
 part_or d None = d
 part_or d (Some p) = p
 
-height_ge : (env : List Entry) (ms : List Named) (a : ℕ) → a ≤ greatest_height env a ms
-height_ge env [] a = omega arith
-height_ge env (m ∷ ms) a = let more = height_ge env ms (max a (layout_in env m.t).height) in omega (arith, more)
+first_fewer : (env : List Entry) (h : ℕ) (m : Named) (ms : List Named) → AreFewer env h (m ∷ ms) → part_count (layout_in env m.t) < h
+first_fewer env h m ms fewer = fewer.0
 
-height_first : (env : List Entry) (m : Named) (ms : List Named) → (layout_in env m.t).height ≤ greatest_height env 0 (m ∷ ms)
-height_first env m ms = let more = height_ge env ms (max 0 (layout_in env m.t).height) in omega (arith, more)
+struct_lower : (env : List Entry) (h : ℕ) (ms : List Named) (p : Part) → AreFewer env h ms → part_number 0 (struct_members env 0 ms) ≡ Some p → part_count (layout_in env p.t) < h
+struct_lower env h [] p fewer e = cc
+struct_lower env h (m ∷ ms) p fewer e = let same = sym (ap (part_or p) e) in rw same (first_fewer env h m ms fewer)
 
-struct_lower : (env : List Entry) (ms : List Named) (p : Part) → part_number 0 (struct_members env 0 ms) ≡ Some p → (layout_in env p.t).height ≤ greatest_height env 0 ms
-struct_lower env [] p e = cc
-struct_lower env (m ∷ ms) p e = let same = sym (ap (part_or p) e) in rw same (height_first env m ms)
+union_lower : (env : List Entry) (h : ℕ) (ms : List Named) (p : Part) → AreFewer env h ms → part_number 0 (first_member ms) ≡ Some p → part_count (layout_in env p.t) < h
+union_lower env h [] p fewer e = cc
+union_lower env h (m ∷ ms) p fewer e = let same = sym (ap (part_or p) e) in rw same (first_fewer env h m ms fewer)
 
-union_lower : (env : List Entry) (ms : List Named) (p : Part) → part_number 0 (first_member ms) ≡ Some p → (layout_in env p.t).height ≤ greatest_height env 0 ms
-union_lower env [] p e = cc
-union_lower env (m ∷ ms) p e = let same = sym (ap (part_or p) e) in rw same (height_first env m ms)
-
-tag_height : (m : Known) (n : ℕ) → IsBuilt m → is_some (look (env m) n) ≡ true → (or_none (look (env m) n)).height ≡ greatest_height (env m) 0 (named m n) + 1
-tag_height m n built there = ap (λ o. (or_none o).height) (made m n built there).laid
+-- a completed structure or union has more parts than each of its members
+tag_fewer : (m : Known) (n : ℕ) → IsBuilt m → is_some (look (env m) n) ≡ true → AreFewer (env m) (part_count (or_none (look (env m) n))) (named m n)
+tag_fewer m n built there =
+    let whole : or_none (look (env m) n) ≡ layout_of (env m) n (is_union_in m.done n) (named m n) = ap or_none (made m n built there).laid in
+    rw whole (members_fewer (env m) n (is_union_in m.done n) (named m n))
 
 element_step : (b : Bool) (p q : Part) → (if b then Some p else None) ≡ Some q → p ≡ q
 element_step true p q e = ap (part_or p) e
 element_step false p q e = cc
 
 -- the first part of a complete type
-pub part_lower : (m : Known) (t : Ty) (q : Part) → IsBuilt m → is_complete_in (env m) t ≡ true → part_in (completions m) (bare t) 0 ≡ Some q → (layout_in (env m) q.t).height < (layout_in (env m) t).height
+pub part_lower : (m : Known) (t : Ty) (q : Part) → IsBuilt m → is_complete_in (env m) t ≡ true → part_in (completions m) (bare t) 0 ≡ Some q → part_count (layout_in (env m) q.t) < part_count (layout_in (env m) t)
 part_lower m (ConstOf t) q built complete e = let h = part_lower m t q built complete e in omega (arith, h)
 part_lower m (ArrayOf t (Some n)) q built complete e =
     let same = sym (element_step (has_element (Some n) (layout_in (env m) t).size 0) _ q e) in
-    rw same (omega arith)
+    rw same (element_fewer (env m) t n (lt_true 0 n (left_true _ (is_complete_in (env m) t) complete)))
 part_lower m (ArrayOf t None) q built complete e = cc
 part_lower m (StructTag n) q built complete e =
     let members = members_named (trees m) m.done n in
     let at : part_number 0 (struct_members (env m) 0 (named m n)) ≡ Some q = sym (ap (λ ms. part_number 0 (struct_members (env m) 0 ms)) members) ∙ e in
-    let low = struct_lower (env m) (named m n) q at in
-    let high = tag_height m n built complete in
-    omega (arith, low, high)
+    struct_lower (env m) (part_count (or_none (look (env m) n))) (named m n) q (tag_fewer m n built complete) at
 part_lower m (UnionTag n) q built complete e =
     let members = members_named (trees m) m.done n in
     let at : part_number 0 (first_member (named m n)) ≡ Some q = sym (ap (λ ms. part_number 0 (first_member ms)) members) ∙ e in
-    let low = union_lower (env m) (named m n) q at in
-    let high = tag_height m n built complete in
-    omega (arith, low, high)
+    union_lower (env m) (part_count (or_none (look (env m) n))) (named m n) q (tag_fewer m n built complete) at
 part_lower m VoidTy q built complete e = cc
 part_lower m (IntTy k) q built complete e = cc
 part_lower m (PointerTo t) q built complete e = cc
@@ -62,7 +59,7 @@ map_some : (whole : Part) (o : Option Part) (q : Part) → option_map (within wh
 map_some whole None q e = cc
 map_some whole (Some p) q e = (p, (refl, ap (λ o. (part_or p o).t) e))
 
-pub part_at_lower : (m : Known) (p q : Part) → IsBuilt m → is_complete_in (env m) p.t ≡ true → part_at (completions m) p 0 ≡ Some q → (layout_in (env m) q.t).height < (layout_in (env m) p.t).height
+pub part_at_lower : (m : Known) (p q : Part) → IsBuilt m → is_complete_in (env m) p.t ≡ true → part_at (completions m) p 0 ≡ Some q → part_count (layout_in (env m) q.t) < part_count (layout_in (env m) p.t)
 part_at_lower m p q built complete e =
     let h = map_some p (part_in (completions m) (bare p.t) 0) q e in
     let low = part_lower m p.t h.0 built complete h.1.0 in
@@ -71,10 +68,10 @@ part_at_lower m p q built complete e =
 
 -- the search for the first scalar has come to a part, and what is left of its depth
 abbrev pub Going : Known → (whole at : Part) → Type 0
-Going m whole at = (n : ℕ) × ((layout_in (env m) at.t).height < n) × (leaf_within n (completions m) at ≡ leaf_within ((layout_in (env m) whole.t).height + 1) (completions m) whole)
+Going m whole at = (n : ℕ) × (part_count (layout_in (env m) at.t) < n) × (leaf_within n (completions m) at ≡ leaf_within (part_count (layout_in (env m) whole.t) + 1) (completions m) whole)
 
 pub going_start : (m : Known) (whole : Part) → Going m whole whole
-going_start m whole = ((layout_in (env m) whole.t).height + 1, omega arith, refl)
+going_start m whole = (part_count (layout_in (env m) whole.t) + 1, omega arith, refl)
 
 leaf_step : (b : Bool) (p : Part) (o : Option Part) → b ≡ false → (if b then Some p else o) ≡ o
 leaf_step true p o e = cc
@@ -84,8 +81,8 @@ leaf_here : (b : Bool) (p : Part) (o : Option Part) → b ≡ true → (if b the
 leaf_here true p o e = refl
 leaf_here false p o e = cc
 
-going_on : (m : Known) (whole at q : Part) (n : ℕ) → (layout_in (env m) at.t).height < n → leaf_within n (completions m) at ≡ leaf_within ((layout_in (env m) whole.t).height + 1) (completions m) whole
-    → is_scalar at.t ≡ false → (layout_in (env m) q.t).height < (layout_in (env m) at.t).height → part_at (completions m) at 0 ≡ Some q → Going m whole q
+going_on : (m : Known) (whole at q : Part) (n : ℕ) → part_count (layout_in (env m) at.t) < n → leaf_within n (completions m) at ≡ leaf_within (part_count (layout_in (env m) whole.t) + 1) (completions m) whole
+    → is_scalar at.t ≡ false → part_count (layout_in (env m) q.t) < part_count (layout_in (env m) at.t) → part_at (completions m) at 0 ≡ Some q → Going m whole q
 going_on m whole at q zero lt same scalar low e = absurd (omega arith)
 going_on m whole at q (suc n) lt same scalar low e =
     (n, omega (arith, lt, low), sym (leaf_step (is_scalar at.t) at (option_and_then (leaf_within n (completions m)) (part_at (completions m) at 0)) scalar ∙ ap (option_and_then (leaf_within n (completions m))) e) ∙ same)
@@ -93,19 +90,19 @@ going_on m whole at q (suc n) lt same scalar low e =
 pub going_next : (m : Known) (whole at q : Part) → IsBuilt m → is_complete_in (env m) at.t ≡ true → is_scalar at.t ≡ false → part_at (completions m) at 0 ≡ Some q → Going m whole at → Going m whole q
 going_next m whole at q built complete scalar e g = going_on m whole at q g.0 g.1 g.2 scalar (part_at_lower m at q built complete e) e
 
-ended : (m : Known) (whole at : Part) (n : ℕ) → (layout_in (env m) at.t).height < n → leaf_within n (completions m) at ≡ leaf_within ((layout_in (env m) whole.t).height + 1) (completions m) whole
-    → is_scalar at.t ≡ false → None ≡ part_at (completions m) at 0 → None ≡ leaf_within ((layout_in (env m) whole.t).height + 1) (completions m) whole
+ended : (m : Known) (whole at : Part) (n : ℕ) → part_count (layout_in (env m) at.t) < n → leaf_within n (completions m) at ≡ leaf_within (part_count (layout_in (env m) whole.t) + 1) (completions m) whole
+    → is_scalar at.t ≡ false → None ≡ part_at (completions m) at 0 → None ≡ leaf_within (part_count (layout_in (env m) whole.t) + 1) (completions m) whole
 ended m whole at zero lt same scalar e = absurd (omega arith)
 ended m whole at (suc n) lt same scalar e =
     ap (option_and_then (leaf_within n (completions m))) e ∙ sym (leaf_step (is_scalar at.t) at _ scalar) ∙ same
 
-pub going_none : (m : Known) (whole at : Part) → is_scalar at.t ≡ false → None ≡ part_at (completions m) at 0 → Going m whole at → None ≡ leaf_within ((layout_in (env m) whole.t).height + 1) (completions m) whole
+pub going_none : (m : Known) (whole at : Part) → is_scalar at.t ≡ false → None ≡ part_at (completions m) at 0 → Going m whole at → None ≡ leaf_within (part_count (layout_in (env m) whole.t) + 1) (completions m) whole
 going_none m whole at scalar e g = ended m whole at g.0 g.1 g.2 scalar e
 
-reached : (m : Known) (whole at : Part) (n : ℕ) → (layout_in (env m) at.t).height < n → leaf_within n (completions m) at ≡ leaf_within ((layout_in (env m) whole.t).height + 1) (completions m) whole
-    → is_scalar at.t ≡ true → Some at ≡ leaf_within ((layout_in (env m) whole.t).height + 1) (completions m) whole
+reached : (m : Known) (whole at : Part) (n : ℕ) → part_count (layout_in (env m) at.t) < n → leaf_within n (completions m) at ≡ leaf_within (part_count (layout_in (env m) whole.t) + 1) (completions m) whole
+    → is_scalar at.t ≡ true → Some at ≡ leaf_within (part_count (layout_in (env m) whole.t) + 1) (completions m) whole
 reached m whole at zero lt same scalar = absurd (omega arith)
 reached m whole at (suc n) lt same scalar = sym (leaf_here (is_scalar at.t) at _ scalar) ∙ same
 
-pub going_some : (m : Known) (whole at : Part) → is_scalar at.t ≡ true → Going m whole at → Some at ≡ leaf_within ((layout_in (env m) whole.t).height + 1) (completions m) whole
+pub going_some : (m : Known) (whole at : Part) → is_scalar at.t ≡ true → Going m whole at → Some at ≡ leaf_within (part_count (layout_in (env m) whole.t) + 1) (completions m) whole
 going_some m whole at scalar g = reached m whole at g.0 g.1 g.2 scalar

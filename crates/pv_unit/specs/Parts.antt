@@ -5,7 +5,7 @@ use Rattle.std.specs.declared.option.Option.TheVariants.{Some as Size, None as U
 use Rattle.pv_num.specs.declared.kinds.IntKind.{IntKind}
 use Rattle.pv_num.specs.declared.kinds.IntKind.TheVariants as kind
 use Rattle.pv_types.specs.Ty.{Ty, IntTy, PointerTo, ArrayOf, StructTag, UnionTag}
-use Rattle.pv_types.specs.Layouts.{Part, Entry, Named, Completed, layout_in, layouts_of, is_complete_in}
+use Rattle.pv_types.specs.Layouts.{Part, Entry, Named, Completed, layout_in, layouts_of, is_complete_in, part_count}
 use Rattle.pv_layout.specs.Places.{bare}
 
 -- 6.7.2.1p8: the members that a tag was completed with
@@ -109,11 +109,11 @@ abbrev pub can_be_initialized : List Entry → Ty → Bool
 can_be_initialized env (ArrayOf t Unknown) = is_complete_in env t
 can_be_initialized env t = is_complete_in env t
 
--- 6.7.9p20: the first scalar of a part of an object, which lies at most so deep
+-- 6.7.9p20: the first scalar of a part of an object, in at most so many steps, each to the first part of a part
 abbrev pub leaf_within : (depth : ℕ) → List Completed → Part → Option Part
 leaf_within zero done p = None
 leaf_within (suc n) done p = if is_scalar p.t then Some p else option_and_then (leaf_within n done) (part_at done p 0)
 
 -- 6.7.9p20: the first scalar: the first part of the first part, and so on
 abbrev pub first_leaf : List Completed → Part → Option Part
-first_leaf done p = leaf_within ((layout_in (layouts_of done) p.t).height + 1) done p
+first_leaf done p = leaf_within (part_count (layout_in (layouts_of done) p.t) + 1) done p

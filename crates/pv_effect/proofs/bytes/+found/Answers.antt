@@ -1,6 +1,6 @@
 use Rattle.std.proofs.Common.{◌≡◌, ◌<◌, ◌≤◌, ◌^◌, ◌*◌, ◌∙◌, IsTrue, is_some, ◌||◌, true, false, refl, get_or, length, sym, ap, arith}
 use Rattle.pv_types.specs.Known.{tree, env}
-use Rattle.pv_types.specs.Layouts.{layout_in, look, or_none}
+use Rattle.pv_types.specs.Layouts.{layout_in, look, or_none, part_count}
 use Rattle.pv_types.proofs.Fills.{lt_true}
 use Rattle.pv_types.proofs.Made.{flag, made}
 use Rattle.pv_types.proofs.Peeling.{whole_array}
@@ -9,7 +9,7 @@ use Rattle.pv_layout.proofs.Below.{one_of}
 use Rattle.pv_layout.proofs.Unions.{around_start, around_hit, around_miss, around_same, around_next, around_none, inside_at, union_found}
 use Rattle.pv_effect.specs.EffectiveType.{some_over}
 use Rattle.pv_effect.specs.Searches.{passes}
-use Rattle.pv_effect.proofs.Descents.{joins_over, struct_whole, union_whole, const_whole}
+use Rattle.pv_effect.proofs.Descents.{array_below, joins_over, struct_whole, union_whole, const_whole}
 use Rattle.pv_effect.proofs.bytes.+found.Goals as goal
 use Rattle.pv_effect.proofs.bytes.+found.Goals.{found_in_others-then-m-main+else-found, found_in_others-else-m-main}
 
@@ -33,7 +33,7 @@ below-in_union-requires t c =
     let m = c.args.types.now in
     let is = c.in-Union.ensures.tree in
     let there : IsTrue (is_some (look (env m) c.in-Union.tag)) = rw is at c.requires.complete in
-    let deep : (layout_in (env m) (tree m c.args.t.0)).height ≡ (or_none (look (env m) c.in-Union.tag)).height = ap (λ x. (layout_in (env m) x).height) is in
+    let deep : part_count (layout_in (env m) (tree m c.args.t.0)) ≡ part_count (or_none (look (env m) c.in-Union.tag)) = ap (λ x. part_count (layout_in (env m) x)) is in
     let small : (or_none (look (env m) c.in-Union.tag)).size ≤ 2 ^ 32 = rw is at c.requires.small in
     (omega (arith, deep), (c.in-Union.ensures.tagged.0, (there, (flag m c.in-Union.tag c.in-Union.ensures.built there ∙ c.in-Union.ensures.tagged.1, small))))
 
@@ -156,3 +156,10 @@ pub found-below-requires : goal.found-below-requires
 found-below-requires t c =
     let h = c.loop-answer.invariant in
     (omega (arith, h.lower), (h.known, (h.complete, h.small)))
+
+pub below-returns-in-Array-default-Some-clause-below : goal.below-returns-in-Array-default-Some-clause-below
+below-returns-in-Array-default-Some-clause-below t c =
+    let m = c.args.types.now in
+    let is = rw c.in-Array-default-Some.field-1-is at c.in-Array-default-Some.ensures.tree in
+    let whole = whole_array m c.args.t.0 c.in-Array-default-Some.element.0 c.in-Array-default-Some.n c.requires.complete is in
+    array_below m c.args.t.0 c.in-Array-default-Some.element.0 c.in-Array-default-Some.n _ is whole.0 c.in_array.ensures.below
