@@ -2,7 +2,7 @@
 use Rattle.std.proofs.Common.{◌≡◌, ◌≢◌, ℕ, zero, suc, ◌+◌, ◌*◌, ◌-◌, ◌<◌, ◌≤◌, ◌/◌, ◌%◌, true, false, cond, eqb, length, set, drop, drop-cons, map, replicate, List, [], ◌∷◌, Option, Some, None, IsSome, unwrap_or, refl, sym, ap, ◌∙◌, subst, ◌⊎◌, inl, inr, ⊎_elim, arith, get_or, nat_cmp}
 use Rattle.std.proofs.lemmas.Bool.{cases_lt, false≢true}
 use Rattle.std.proofs.lemmas.Bool.Decides.{nat_tests}
-use Rattle.std.proofs.lemmas.List.{get_or-set_same, get_or-set_other, length-set, drop_all}
+use Rattle.std.proofs.lemmas.List.{get_or-set_same, get_or-set_other, length-set}
 use Rattle.std.specs.Cmp.{unsigned_tied}
 use Rattle.std.specs.FinMap.{get, get-empty, insert, remove}
 use Rattle.std.specs.BTreeMap.{is_at}
@@ -55,10 +55,7 @@ get-put_page_in (suc n) a (x ∷ xs) m (suc i) h =
     let e : a + suc i ≡ (a + 1) + i = omega arith in
     ap (get (put_page n (a + 1) xs (put_slot m a x))) e ∙ get-put_page_in n (a + 1) xs (put_slot m a x) i (omega arith)
 
--- an address by its page and its place there
-pub by_page : (q : ℕ) → q ≡ q / 16 * 16 + q % 16
-by_page q = omega arith
-
+-- a place lies in its page
 pub within_page : (q : ℕ) → q % 16 < 16
 within_page q = omega arith
 
@@ -180,26 +177,18 @@ past_the_end [] j h = refl
 past_the_end (x ∷ xs) zero h = absurd (omega arith)
 past_the_end (x ∷ xs) (suc j) h = past_the_end xs j (omega arith)
 
--- steps of the loops over the places of a page, and their ends
+-- steps of the loops over the places of a page
 pub fill_step : (xs : List (Option Byte)) (i n k : ℕ) (x : Option Byte) → k < n → with_slots (set xs (i + k) x) (i + (k + 1)) (replicate (n - (k + 1)) x) ≡ with_slots xs (i + k) (replicate (n - k) x)
 fill_step xs i n k x h =
     let e : n - k ≡ suc (n - (k + 1)) = omega arith in
     let f : (i + k) + 1 ≡ i + (k + 1) = omega arith in
     sym (ap (λ t. with_slots xs (i + k) (replicate t x)) e ∙ ap (λ t. with_slots (set xs (i + k) x) t (replicate (n - (k + 1)) x)) f)
 
-pub fill_end : (xs : List (Option Byte)) (i n k : ℕ) (x : Option Byte) → n ≤ k → with_slots xs i (replicate (n - k) x) ≡ xs
-fill_end xs i n k x h =
-    let e : n - k ≡ 0 = omega arith in
-    ap (λ t. with_slots xs i (replicate t x)) e
-
 pub write_step : (xs : List (Option Byte)) (i k : ℕ) (bs : List Byte) (d : Byte) → k < length bs → with_slots (set xs (i + k) (Some (get_or bs k d))) (i + (k + 1)) (map Some (drop (k + 1) bs)) ≡ with_slots xs (i + k) (map Some (drop k bs))
 write_step xs i k bs d h =
     let e : suc k ≡ k + 1 = omega arith in
     let f : (i + k) + 1 ≡ i + (k + 1) = omega arith in
     sym (ap (λ t. with_slots xs (i + k) (map Some t)) (drop-cons bs k d h ∙ ap (λ j. get_or bs k d ∷ drop j bs) e) ∙ ap (λ t. with_slots (set xs (i + k) (Some (get_or bs k d))) t (map Some (drop (k + 1) bs))) f)
-
-pub write_end : (xs : List (Option Byte)) (i k : ℕ) (bs : List Byte) → length bs ≤ k → with_slots xs i (map Some (drop k bs)) ≡ xs
-write_end xs i k bs h = ap (λ t. with_slots xs i (map Some t)) (drop_all k bs h)
 
 -- a range in two parts
 pub cleared_parts : (m : Store) (a k r : ℕ) → cleared m a (k + r) ≡ cleared (cleared m a k) (a + k) r

@@ -29,7 +29,7 @@ impl Model for Page {
 
 impl Page {
     // No byte at any of its addresses.
-    pub fn new(alloc: Global) -> Result<Page, NoMemory>
+    pub(crate) fn new(alloc: Global) -> Result<Page, NoMemory>
         ensures { IfOk result (λ p. p ≡ no_slots) }
     {
         Ok(Page {
@@ -38,7 +38,7 @@ impl Page {
     }
 
     // The byte at place i, if there is one.
-    pub fn at(&self, i: usize) -> Option<Byte>
+    pub(crate) fn at(&self, i: usize) -> Option<Byte>
         requires { i < 16 }
         ensures { result ≡ slot_at self.now i }
     {
@@ -46,7 +46,7 @@ impl Page {
     }
 
     // The bytes from place i on, each of which is there.
-    pub fn read(&self, i: usize, into: &mut [Byte])
+    pub(crate) fn read(&self, i: usize, into: &mut [Byte])
         requires within { i + length into.old ≤ 16 }
         requires there { (k : ℕ) → k < length into.old → IsSome (slot_at self.now (i + k)) }
         ensures bytes { (k : ℕ) → k < length into.new → slice_get into.new k ≡ slot_at self.now (i + k) }
@@ -61,7 +61,7 @@ impl Page {
     }
 
     // The bytes from place i on become those of the list.
-    pub fn write(&mut self, i: usize, from: &[Byte])
+    pub(crate) fn write(&mut self, i: usize, from: &[Byte])
         requires { i + length from.now ≤ 16 }
         ensures slots { self.new ≡ with_slots self.old i (map Some from.now) }
         ensures width { length self.old ≡ 16 }
@@ -72,7 +72,7 @@ impl Page {
     }
 
     // At n places from i on stands this byte, or none.
-    pub fn fill(&mut self, i: usize, n: usize, byte: Option<Byte>)
+    pub(crate) fn fill(&mut self, i: usize, n: usize, byte: Option<Byte>)
         requires { i + n ≤ 16 }
         ensures slots { self.new ≡ with_slots self.old i (replicate n byte) }
         ensures width { length self.old ≡ 16 }
@@ -83,7 +83,7 @@ impl Page {
     }
 
     // Whether there is no byte.
-    pub fn is_empty(&self) -> bool
+    pub(crate) fn is_empty(&self) -> bool
         ensures { result ≡ true → (j : ℕ) → slot_at self.now j ≡ None }
     {
         for k in 0..WIDTH {
