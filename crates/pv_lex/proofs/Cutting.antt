@@ -24,9 +24,6 @@ pub record Cut (source : List ℕ) (t : Table) (p : Place) : Type 0 where
   pub row : Row (start source) pieces p
   pub tells : Tells t (spelt (length source) (start source) pieces)
 
-pub cut_begins : (source : List ℕ) → Cut source (record { tokens = []; names = []; texts = [] }) (start source)
-cut_begins source = record { pieces = []; row = refl; tells = record { tokens = refl; names = refl; texts = refl; in_order = refl } }
-
 pub cut_goes_on : (source : List ℕ) (old new : Table) (p : Place) (x : Piece) (at : ℕ) → Cut source old p → stands p.fresh p.text ≡ Here x → at ≡ length source - length p.text → Adds old new (spelt_here at p.line x.what) → Cut source new (behind_piece x p)
 cut_goes_on source old new p x at cut here place adds = record {
   pieces = cut.pieces ++ x ∷ [];

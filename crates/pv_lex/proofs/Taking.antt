@@ -59,17 +59,9 @@ pub pass : {A : Type 0} (t : Bool) (x y z : A) → t ≡ false → y ≡ z → c
 pass true x y z h e = absurd cc
 pass false x y z h e = e
 
-pub and_true : (a b : Bool) → (a && b) ≡ true → (a ≡ true) × (b ≡ true)
-and_true true b e = (refl, e)
-and_true false b e = absurd cc
-
 pub and_cut : (a b c : Bool) → (b ≡ false → c ≡ false) → (a && b) ≡ false → (a && c) ≡ false
 and_cut true b c f e = f e
 and_cut false b c f e = refl
-
-pub or_cut : (a b c : Bool) → (b ≡ false → c ≡ false) → (a || b) ≡ false → (a || c) ≡ false
-or_cut true b c f e = e
-or_cut false b c f e = f e
 
 pub or_false : (a b : Bool) → (a || b) ≡ false → (a ≡ false) × (b ≡ false)
 or_false true b e = absurd cc
@@ -110,9 +102,6 @@ starts_cut text u r p e h = tested (starts_with nat_eq u p) (λ k. not_both (sta
 
 pub starts_front : (text p : List ℕ) → starts_with nat_eq text p ≡ true → text ≡ p ++ drop (length p) text
 starts_front text p e = sym (take-append-drop (length p) text) ∙ ap (λ l. l ++ drop (length p) text) (sym ((bytes_eq-Decides p (take (length p) text)).0 e))
-
-pub starts_self : (p s : List ℕ) → starts_with nat_eq (p ++ s) p ≡ true
-starts_self p s = (bytes_eq-Decides p (take (length p) (p ++ s))).1 (sym (take-append_seam p s))
 
 -- Options.
 

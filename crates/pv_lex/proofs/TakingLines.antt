@@ -104,11 +104,6 @@ unfolding line_feeds
 feeds_append [] v = omega arith
 feeds_append (b ∷ u) v = ap (λ n. cond (nat_eq b 10) (suc n) n) (feeds_append u v) ∙ feeds_by (nat_eq b 10) (line_feeds u) (line_feeds v)
 
-comment_as : (text after : List ℕ) (n : ℕ) (w : What) → behind_close text ≡ Some after → line_feeds text - line_feeds after ≡ n → Comment n ≡ w → block_comment text ≡ Some (record { what = w; after = after })
-unfolding block_comment
-comment_as text after n w closes count what =
-    ap (option_map (λ (a : List ℕ). record { what = Comment (line_feeds text - line_feeds a); after = a })) closes ∙ ap (λ m. Some (record { what = Comment m; after = after })) count ∙ ap (λ (z : What). Some (record { what = z; after = after })) what
-
 pub takes_comment : (text : List ℕ) (x : Piece) → block_comment text ≡ Some x → Takes (Reads block_comment x.what) text x.after
 unfolding block_comment
 takes_comment text x e =

@@ -98,9 +98,6 @@ numbered_is base (d ∷ ds) after x e =
     let p = pair_is v after x same in
     record { left = p.1; any = λ s. pick (nat_lt v 256) (Some (v, s)) None (Some (x.0, s)) h (ap (λ (z : ℕ). Some (z, s)) p.0) }) (λ h k. absurd cc) e
 
-octal_size : List ℕ → ℕ
-octal_size text = min 3 (run class.Octal text)
-
 octal_at : List ℕ → Option (ℕ × List ℕ)
 octal_at text = numbered 8 (take (min 3 (run class.Octal text)) text) (drop (min 3 (run class.Octal text)) text)
 

@@ -1,5 +1,5 @@
 -- The fault of a source that has one.
-use Rattle.std.specs.Prelude.{◌≡◌, ℕ, ◌+◌, ◌-◌, ◌<◌, ◌≤◌, List, length}
+use Rattle.std.specs.Prelude.{◌≡◌, ℕ, ◌+◌, ◌-◌, ◌<◌, ◌≤◌, Bool, List, length}
 use Rattle.pv_lex.specs.declared.pieces.Fault.{Fault}
 use Rattle.pv_lex.specs.declared.pieces.Fault.TheVariants as fault
 use Rattle.pv_lex.specs.declared.error.LexError.{LexError}
@@ -28,6 +28,14 @@ LexFault source (error.BadByte at) = FaultAt source fault.BadByte at
 LexFault source (error.BadToken at) = FaultAt source fault.BadToken at
 LexFault source (error.Profile at word) = FaultAt source (fault.Profile word) at
 LexFault source error.NoMemory = Unit {0}
+
+-- The source's first fault, as the error that reports it (6.4p2). That memory ran out is none.
+abbrev pub IsFaultOf : List ℕ → LexError → Type 0
+IsFaultOf source e = (e ≡ error.NoMemory → ⊥) × LexFault source e
+
+-- A byte stands here at which no token begins (6.4p1).
+abbrev pub HasBadByte : (fresh : Bool) → List ℕ → Type 0
+HasBadByte fresh text = stands fresh text ≡ Bad fault.BadByte
 
 -- The fault lies in the source: a byte stands at its place, and a word of the profile ends within the source (6.4.1p1).
 abbrev pub LiesWithin : List ℕ → LexError → Type 0

@@ -3,11 +3,10 @@ ghost use Rattle.std.specs.Prelude.{◌≡◌, ◌++◌, [], Bool, ◌≤◌, �
 ghost use Rattle.pv_lex.specs.Rows.{Place, Row, start, bytes_of_row, line_behind, fresh_behind, spelt_here};
 ghost use Rattle.pv_token.specs.Table.{Table, HasRoom, KnowsAll, Adds};
 ghost use Rattle.pv_lex.specs.Lexes.{Lexes};
-ghost use Rattle.pv_lex.specs.Faults.{LexFault, LiesWithin, FaultAt, error_of};
+ghost use Rattle.pv_lex.specs.declared.error.LexError.{LexError};
+ghost use Rattle.pv_lex.specs.Faults.{LexFault, LiesWithin, IsFaultOf, HasBadByte, error_of};
 ghost use Rattle.pv_lex.specs.Views.{what_of};
-ghost use Rattle.pv_lex.specs.declared.pieces.Fault.{Fault as FaultKind};
-ghost use Rattle.pv_lex.specs.declared.pieces.Fault.TheVariants as fault;
-ghost use Rattle.pv_lex.specs.Pieces.{Piece, Here, Bad};
+ghost use Rattle.pv_lex.specs.Pieces.{Piece, Here};
 ghost use Rattle.pv_lex.specs.Stands.{stands};
 ghost use Rattle.pv_lex.specs.Spellings.{IsSpelling, IsLongest};
 
@@ -128,10 +127,10 @@ fn cut(alloc: Global, bytes: &[u8], out: &mut Tokens) -> Result<(), LexError>
 /// A law, and no work: each source has tokens or a fault and never both, one table of tokens at
 /// most, and one fault at most.
 pub fn exactly_one()
-    ensures either_one { (source : List ℕ) → ((t : Table) × Lexes source t) ⊎ ((f : FaultKind) × (at : ℕ) × FaultAt source f at) }
-    ensures not_both { (source : List ℕ) (t : Table) (f : FaultKind) (at : ℕ) → Lexes source t → FaultAt source f at → ⊥ }
+    ensures either_one { (source : List ℕ) → ((t : Table) × Lexes source t) ⊎ ((e : LexError) × IsFaultOf source e) }
+    ensures not_both { (source : List ℕ) (t : Table) (e : LexError) → Lexes source t → IsFaultOf source e → ⊥ }
     ensures one_table { (source : List ℕ) (t u : Table) → Lexes source t → Lexes source u → t ≡ u }
-    ensures one_fault { (source : List ℕ) (f g : FaultKind) (at bt : ℕ) → FaultAt source f at → FaultAt source g bt → (f ≡ g) × (at ≡ bt) }
+    ensures one_fault { (source : List ℕ) (e g : LexError) → IsFaultOf source e → IsFaultOf source g → e ≡ g }
 {}
 
 /// A law, and no work: the pieces of a cut make up the source byte for byte, each is the longest
@@ -140,5 +139,5 @@ pub fn exactly_one()
 pub fn longest()
     ensures pieces { (fresh : Bool) (text : List ℕ) (x : Piece) → stands fresh text ≡ Here x → IsLongest fresh text x }
     ensures whole { (source : List ℕ) (xs : List Piece) (q : Place) → Row (start source) xs q → bytes_of_row source xs ++ q.text ≡ source }
-    ensures bad_byte { (fresh : Bool) (text : List ℕ) → stands fresh text ≡ Bad fault.BadByte → (bytes rest : List ℕ) → text ≡ bytes ++ rest → IsSpelling fresh bytes → ⊥ }
+    ensures bad_byte { (fresh : Bool) (text : List ℕ) → HasBadByte fresh text → (bytes rest : List ℕ) → text ≡ bytes ++ rest → IsSpelling fresh bytes → ⊥ }
 {}

@@ -17,9 +17,6 @@ pub record Fresh (m : Known) (k : ℕ) (ms : List Member) : Type 0 where
   pub differ : NamesDiffer ms
   pub below : NamesBelow k ms
 
-pub fresh_none : (m : Known) → Fresh m 0 []
-fresh_none m = record { known = tt; complete = tt; differ = tt; below = tt }
-
 names_more : (k : ℕ) (ms : List Member) (x : Member) → NamesBelow k ms → x.name ≡ k → NamesBelow (k + 1) (ms ++ (x ∷ []))
 names_more k [] x h e = (omega (arith, e), tt)
 names_more k (y ∷ ms) x h e = let here = h.0 in (omega (arith, here), names_more k ms x h.1 e)

@@ -1,6 +1,6 @@
 -- What a table tells when a token is added.
 use Rattle.std.proofs.Common.{◌≡◌, ℕ, zero, suc, ◌+◌, List, [], ◌∷◌, ◌++◌, length, map, Bool, true, false, ◌||◌, Option, Some, None, nat_eq, refl, sym, ap, ◌∙◌, length-append, get_or, subst, arith, Vec, Global}
-use Rattle.std.specs.Prelude.{if◌then◌else◌, slice_get, OnOk, Result, Ok, Err, position}
+use Rattle.std.specs.Prelude.{if◌then◌else◌, slice_get, position}
 use Rattle.std.specs.Option.{option_map}
 use Rattle.std.specs.List.{flat_map, list_any, range_with_len}
 use Rattle.std.specs.Cmp.Lexicographic.{pointwise}
@@ -58,11 +58,6 @@ known_name ks text i e = (sym (ap (λ t. if t then map bytes_of ks else map byte
 
 pub number_named : (ks : List (Vec ℕ Global)) (i : ℕ) (k v : Vec ℕ Global) → slice_get ks i ≡ Some k → pointwise nat_eq v.items k.items ≡ true → slice_get (map bytes_of ks) i ≡ Some v.items
 number_named ks i k v at same = slice_get-map bytes_of ks i ∙ ap (option_map bytes_of) at ∙ ap Some (sym ((bytes_eq-Decides v.items k.items).0 same))
-
-slice_get_more : {X : Type 0} (xs ys : List X) (i : ℕ) (x : X) → slice_get xs i ≡ Some x → slice_get (xs ++ ys) i ≡ Some x
-slice_get_more [] ys i x e = absurd cc
-slice_get_more (z ∷ xs) ys zero x e = e
-slice_get_more (z ∷ xs) ys (suc i) x e = slice_get_more xs ys i x e
 
 looked : (f : List ℕ → Said) (xs ys : List (List ℕ)) (i : ℕ) (s : Said) → option_map f (slice_get xs i) ≡ Some s → option_map f (slice_get (xs ++ ys) i) ≡ Some s
 looked f [] ys i s e = absurd cc
@@ -142,10 +137,6 @@ adds old new t s p = λ ss told.
           let f : 0 + length old.texts ≡ length old.texts = omega arith in
           ap (flat_map (λ (k : Token). text_number k.kind)) p.tokens ∙ flat_map-append (λ (k : Token). text_number k.kind) old.tokens (t ∷ []) ∙ ap (λ l. flat_map (λ (k : Token). text_number k.kind) old.tokens ++ l) (append-nil (text_number t.kind) ∙ p.number) ∙ ap (λ l. l ++ range_with_len (length old.texts) (length (text_of s.said))) told.in_order ∙ rw (e, range_more 0 (length old.texts) (length (text_of s.said)), f) refl;
     }
-
-pub onward : {T E P Q : Type 0} (r : Result T E) → (P → Q) → OnOk r P → OnOk r Q
-onward (Ok x) f p = f p
-onward (Err e) f p = tt
 
 abbrev pub with_token : Table → TokenKind → ℕ → ℕ → Table
 with_token old k start line = record old { tokens = old.tokens ++ record { kind = k; start = start; line = line } ∷ [] }

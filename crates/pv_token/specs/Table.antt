@@ -95,3 +95,9 @@ pub record Tells (t : Table) (ss : List Spelt) : Type 0 where
 -- The new table tells what the old one told, and then these tokens (6.4p1).
 abbrev pub Adds : (old new : Table) → List Spelt → Type 0
 Adds old new more = (ss : List Spelt) → Tells old ss → Tells new (ss ++ more)
+
+-- A token with its identifier or its literal kept in the table (6.4p1): behind any tokens, wherever it begins, it adds what it says.
+abbrev pub Keeps : (names new_names texts new_texts : List (List ℕ)) → TokenKind → Said → Type 0
+Keeps names new_names texts new_texts k said = (tokens : List Token) (start line : ℕ) →
+    Adds (record { tokens = tokens; names = names; texts = texts }) (record { tokens = tokens ++ record { kind = k; start = start; line = line } ∷ []; names = new_names; texts = new_texts })
+    (record { said = said; start = start; line = line } ∷ [])

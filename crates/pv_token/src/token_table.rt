@@ -1,7 +1,7 @@
 //! The tokens of a source, with their names and literals.
-ghost use Rattle.std.specs.Prelude.{◌≡◌, ◌≤◌, ◌<◌, ◌+◌, ◌^◌, List, [], ◌∷◌, ◌++◌, length, map, Some, slice_get, slice_index, IfOk, OnOk};
+ghost use Rattle.std.specs.Prelude.{◌≡◌, ◌≤◌, ◌<◌, ◌+◌, ◌^◌, List, [], ◌∷◌, ◌++◌, length, map, Some, slice_get, slice_index, IfOk, OnOk, OnErr};
 ghost use Rattle.pv_token.specs.Said.{Spelt, as_char, said_of};
-ghost use Rattle.pv_token.specs.Table.{Table, HasRoom, Adds, with_name};
+ghost use Rattle.pv_token.specs.Table.{Table, HasRoom, Adds, Keeps, with_name};
 
 use crate::error::NoMemory;
 use crate::kinds::Kind;
@@ -68,6 +68,7 @@ fn intern(alloc: Global, names: &mut IndexSet<Vec<u8>>, text: &[u8]) -> Result<u
     ensures keys { OnOk result (map (λ v. v.items) names.new.keys ≡ with_name (map (λ v. v.items) names.old.keys) text.now) }
     ensures number { IfOk result (λ n. slice_get (map (λ v. v.items) names.new.keys) n ≡ Some text.now) }
     ensures room { length names.new.keys ≤ length names.old.keys + 1 }
+    ensures unchanged { OnErr result (names.new.keys ≡ names.old.keys) }
 {
     if let Some(index) = names.get_index_of(text) {
         return Ok(index as u32);
@@ -83,10 +84,47 @@ fn keep_text(texts: &mut Vec<Vec<u8>>, bytes: Vec<u8>) -> Result<u32, NoMemory>
     ensures items { OnOk result (map (λ v. v.items) texts.new.items ≡ map (λ v. v.items) texts.old.items ++ bytes.items ∷ []) }
     ensures number { IfOk result (λ n. n ≡ length (map (λ v. v.items) texts.old.items)) }
     ensures room { length texts.new.items ≤ length texts.old.items + 1 }
+    ensures unchanged { OnErr result (texts.new.items ≡ texts.old.items) }
 {
     let index = texts.len();
     texts.push(bytes)?;
     Ok(index as u32)
+}
+
+/// What a token is, its name or its literal kept under a number. The only error is want of memory, which keeps neither.
+fn keep(
+    alloc: Global,
+    names: &mut IndexSet<Vec<u8>>,
+    texts: &mut Vec<Vec<u8>>,
+    kind: Kind<'_>,
+) -> Result<TokenKind, NoMemory>
+    requires names { length names.old.keys + 1 < 2 ^ 32 }
+    requires texts { length texts.old.items + 1 < 2 ^ 32 }
+    ensures kept { IfOk result (λ k. Keeps (map (λ v. v.items) names.old.keys) (map (λ v. v.items) names.new.keys)
+        (map (λ v. v.items) texts.old.items) (map (λ v. v.items) texts.new.items) k (said_of kind.entry)) }
+    ensures names_room { length names.new.keys ≤ length names.old.keys + 1 }
+    ensures texts_room { length texts.new.items ≤ length texts.old.items + 1 }
+    ensures names_unchanged { OnErr result (names.new.keys ≡ names.old.keys) }
+    ensures texts_unchanged { OnErr result (texts.new.items ≡ texts.old.items) }
+{
+    match kind {
+        Kind::Keyword(w) => Ok(TokenKind::Word(w)),
+        Kind::Punctuator(m) => Ok(TokenKind::Mark(m)),
+        Kind::Character(b) => Ok(TokenKind::Character(as_char(b))),
+        Kind::Number {
+            value,
+            decimal,
+            unsigned,
+            longs,
+        } => Ok(TokenKind::Number {
+            value,
+            decimal,
+            unsigned,
+            longs,
+        }),
+        Kind::Name(text) => Ok(TokenKind::Name(intern(alloc, names, text)?)),
+        Kind::Text(bytes) => Ok(TokenKind::Text(keep_text(texts, bytes)?)),
+    }
 }
 
 /// A byte taken as a `char`, which is signed here, in the type of a character constant
@@ -109,7 +147,8 @@ impl Tokens {
         }
     }
 
-    /// Keeps a token, and the name or the string literal that it stands for.
+    /// Keeps a token, and the name or the string literal that it stands for. The only error is want of memory, which
+    /// changes nothing.
     pub fn add_token(
         &mut self,
         alloc: Global,
@@ -118,44 +157,12 @@ impl Tokens {
         line: u32,
     ) -> Result<(), NoMemory>
         requires { HasRoom self.old }
-        ensures { OnOk result (Adds self.old self.new (record { said = said_of kind.entry; start = start; line = line } ∷ [])) }
+        ensures told { OnOk result (Adds self.old self.new (record { said = said_of kind.entry; start = start; line = line } ∷ [])) }
+        ensures unchanged { OnErr result (self.new ≡ self.old) }
     {
-        match kind {
-            Kind::Keyword(w) => self.push(TokenKind::Word(w), start, line),
-            Kind::Punctuator(m) => self.push(TokenKind::Mark(m), start, line),
-            Kind::Character(b) => self.push(TokenKind::Character(as_char(b)), start, line),
-            Kind::Number {
-                value,
-                decimal,
-                unsigned,
-                longs,
-            } => self.push(
-                TokenKind::Number {
-                    value,
-                    decimal,
-                    unsigned,
-                    longs,
-                },
-                start,
-                line,
-            ),
-            Kind::Name(text) => {
-                let n = intern(alloc, &mut self.names, text)?;
-                self.push(TokenKind::Name(n), start, line)
-            }
-            Kind::Text(bytes) => {
-                let n = keep_text(&mut self.texts, bytes)?;
-                self.push(TokenKind::Text(n), start, line)
-            }
-        }
-    }
-
-    /// Keeps a token behind the others.
-    fn push(&mut self, kind: TokenKind, start: u32, line: u32) -> Result<(), NoMemory>
-        requires { length self.old.tokens + 1 < 2 ^ 32 }
-        ensures { OnOk result (self.new ≡ record self.old { tokens = self.old.tokens ++ record { kind = kind; start = start; line = line } ∷ [] }) }
-    {
-        self.tokens.push(Token { kind, start, line })?;
+        self.tokens.reserve(1)?;
+        let kind = keep(alloc, &mut self.names, &mut self.texts, kind)?;
+        self.tokens.push_reserved(Token { kind, start, line });
         Ok(())
     }
 

@@ -10,6 +10,9 @@ abbrev pub head_line : (file : List ℕ) → (line column : ℕ) → (what : Lis
 head_line file line column what = file ++ codes ":" ++ decimal line ++ codes ":" ++ decimal column ++ codes ": refused: " ++ what ++ line_feed ∷ []
 
 -- 5.1.1.3: the text of a refusal at a place of a source that is named so: where it is, its line, and a mark under the place
+-- worked: no_marker, second_line, one_marker, two_markers, marker_behind, in_a_marker, escapes_stay, in_a_comment, within_a_comment,
+-- behind_a_fault, tab_before, at_a_line_feed, end_behind_feed, end_without_feed, empty_source, control_bytes, whole_line, before_the_cut,
+-- behind_the_cut
 unfoldable pub place_text : (name source : List ℕ) → (place : ℕ) → (what : List ℕ) → List ℕ
 place_text name source place what =
     head_line (file_at name source place) (line_at name source place) (column source place) what

@@ -5,7 +5,7 @@ use Rattle.std.proofs.lemmas.Bool.{cases_eq}
 use Rattle.pv_script.specs.Outside.{Rose, Gains}
 use Rattle.pv_script.proofs.GainsLemmas.{gains_nothing}
 use Rattle.pv_serve.specs.Comes.{source_limit}
-use Rattle.pv_serve.specs.Report.{fault_line, words_line}
+use Rattle.pv_serve.specs.Report.{fault_line}
 use Rattle.pv_serve.specs.Outside.{Sunk, SinkRose, Wrote, WrotePrefix}
 use Rattle.pv_serve.proofs.ComesLemmas.{source_limit_is}
 use Rattle.pvwhere.specs.Words.{file_of}
@@ -43,17 +43,6 @@ answered_text name source text out status is told lost = record {
   begun = λ h. record { answer = told_by (Some text); is = is; holds = (lost h).1 };
   no_memory = λ h. absurd (two_apart status 8 13 (omega arith) (told (λ k. two_apart status 12 13 (omega arith) k h)).0 h);
   told = λ not12 not13. record { answer = told_by (Some text); is = is; holds = record { status_is = (told not12).0; written = (told not12).1 } };
-}
-
--- one for which there was no memory
-pub answered_nothing : (name source : List ℕ) (out : Sunk) → out.new ≡ out.old → SourceAnswered name source out 13
-answered_nothing name source out same = record {
-  no_read_fault = λ h. absurd cc;
-  no_words = λ h. absurd cc;
-  write_fault = λ h. absurd cc;
-  begun = λ h. absurd cc;
-  no_memory = λ h. nothing out same;
-  told = λ not12 not13. absurd (not13 refl);
 }
 
 -- ---- from what was read to what the file holds
@@ -169,39 +158,3 @@ pub answered_by_file : (c : Call) (name : List ℕ) → file_of c.words ≡ Some
 answered_by_file c name e (WasRead source read answered) = answered_by_source c name source e read answered
 answered_by_file c name e (WasLost rose told lost) = answered_by_fault c name e rose told lost
 answered_by_file c name e (HadNoRoom is same) = answered_by_nothing c name e is same
-
-pub not_unread : (words : List (List ℕ)) (name : List ℕ) {A : Type 0} → file_of words ≡ Some name → IsNone (file_of words) → A
-not_unread words name e n = absurd (is_none (file_of words) name e n)
-
--- ---- words that are no job
-
-is_none_by : (o : Option (List ℕ)) → o ≡ None → IsNone o
-is_none_by None e = refl
-is_none_by (Some name) e = absurd cc
-
-none_asked : (c : Call) (P : Answer → Type 0) → file_of c.words ≡ None → P no_job → SomeAnswer (file_of c.words) c.held P
-none_asked c P e p = subst (λ (o : Option (List ℕ)). SomeAnswer o c.held P) (sym e) p
-
-no_job_table : (c : Call) → file_of c.words ≡ None → (c.status ≢ 12 → (c.status ≡ 10) × Wrote c.out words_line)
-    → (c.status ≡ 12 → SinkRose c.out × WrotePrefix c.out words_line) → Table c
-no_job_table c e told lost = record {
-  read_fault = λ h. absurd (two_apart c.status 10 11 (omega arith) (told (λ k. two_apart c.status 11 12 (omega arith) h k)).0 h);
-  write_fault = λ h. record { cause = (lost h).0; wrote = inl (none_asked c (λ a. WrotePrefix c.out a.text) e (lost h).1) };
-  no_memory = λ h. absurd (two_apart c.status 10 13 (omega arith) (told (λ k. two_apart c.status 12 13 (omega arith) k h)).0 h);
-  every_other = λ not11 not12 not13. none_asked c (IsAnswer c) e (record { status = (told not12).0; out = (told not12).1 });
-}
-
-no_job_status : (c : Call) → (c.status ≢ 12 → (c.status ≡ 10) × Wrote c.out words_line) → (c.status ≡ 12 → SinkRose c.out × WrotePrefix c.out words_line)
-    → (c.status ≡ 12) ⊎ (c.status ≢ 12) → (c.status ≡ 10) ⊎ ((c.status ≡ 12) × SinkRose c.out)
-no_job_status c told lost (inl is12) = inr (is12, (lost is12).0)
-no_job_status c told lost (inr not12) = inl (told not12).0
-
-pub answered_by_no_job : (c : Call) → file_of c.words ≡ None → (c.status ≢ 12 → (c.status ≡ 10) × Wrote c.out words_line)
-    → (c.status ≡ 12 → SinkRose c.out × WrotePrefix c.out words_line) → Answered c
-answered_by_no_job c e told lost =
-    let t = no_job_table c e told lost in
-    record {
-      table = t;
-      words = record { only = λ h. is_none_by (file_of c.words) e; no_job = λ n. no_job_status c told lost (cases_eq c.status 12) };
-      complete = complete c t;
-    }

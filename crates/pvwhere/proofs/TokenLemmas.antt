@@ -1,7 +1,7 @@
 -- Where the tokens of a source begin.
 use Rattle.std.proofs.Common.{◌≡◌, ℕ, zero, suc, ◌+◌, ◌-◌, ◌≤◌, Bool, true, false, List, [], ◌∷◌, ◌++◌, length, map, drop, sym, ap, ◌∙◌, arith}
 use Rattle.std.specs.Prelude.{Option, Some, None, option_map, slice_get, if◌then◌else◌}
-use Rattle.std.proofs.lemmas.List.{drop_all, drop_more}
+use Rattle.std.proofs.lemmas.List.{drop_more}
 use Rattle.std.proofs.lemmas.Option.{get_or_from_slice_get, slice_get_within}
 use Rattle.pv_token.specs.declared.token_table.Token.{Token}
 use Rattle.pv_token.specs.Said.{Said, Spelt}
@@ -19,9 +19,6 @@ drop_here ts i t e = drop_more ts i t (slice_get_within ts i t e) ∙ ap (λ (x 
 pub start_here : (end : ℕ) (ts : List Token) (i : ℕ) (t : Token) → slice_get ts i ≡ Some t → t.start ≡ start_of end (drop i ts)
 start_here end ts i t e = sym (ap (start_of end) (drop_here ts i t e))
 
-pub start_beyond : (end : ℕ) (ts : List Token) (i : ℕ) → length ts ≤ i → end ≡ start_of end (drop i ts)
-start_beyond end ts i le = sym (ap (start_of end) (drop_all i ts le))
-
 module _ (end : ℕ) (names : List (List ℕ)) (text : List ℕ) (ts : List Token) (i : ℕ) (t : Token) (at : slice_get ts i ≡ Some t) where
   one_here : (b : Bool) → is_named names text t.kind ≡ b
       → first_named end names text (drop i ts) ≡ (if b then t.start else first_named end names text (drop (i + 1) ts))
@@ -37,10 +34,6 @@ module _ (end : ℕ) (names : List (List ℕ)) (text : List ℕ) (ts : List Toke
   pub name_behind : first_named end names text (drop i ts) ≡ first_named end names text ts → is_named names text t.kind ≡ false
       → first_named end names text (drop (i + 1) ts) ≡ first_named end names text ts
   name_behind same e = sym (one_here false e) ∙ same
-
-pub name_nowhere : (end : ℕ) (names : List (List ℕ)) (text : List ℕ) (ts : List Token) (i : ℕ) → length ts ≤ i
-    → first_named end names text (drop i ts) ≡ first_named end names text ts → end ≡ first_named end names text ts
-name_nowhere end names text ts i le same = sym (ap (first_named end names text) (drop_all i ts le)) ∙ same
 
 -- ---- no token begins beyond the end
 

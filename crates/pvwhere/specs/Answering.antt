@@ -6,12 +6,12 @@ use Rattle.pv_serve.specs.Report.{fault_line}
 use Rattle.pv_serve.specs.Outside.{Sunk, SinkRose, Wrote, WrotePrefix}
 use Rattle.pvwhere.specs.Answers.{Answer, SomeGets}
 
--- all that is written, and the status
+-- all that is written, and the status (docs/FORMATS.md, Where a refusal is; 5.1.1.3)
 pub record IsTold (out : Sunk) (status : ℕ) (a : Answer) : Type 0 where
   pub status_is : status ≡ a.status
   pub written : Wrote out a.text
 
--- the answer to a source under this name, by the status
+-- the answer to a source under this name, by the status (docs/FORMATS.md, Where a refusal is; 5.1.1.3)
 pub record SourceAnswered (name source : List ℕ) (out : Sunk) (status : ℕ) : Type 0 where
   pub no_read_fault : status ≢ 11
   pub no_words : status ≢ 10
@@ -24,7 +24,8 @@ pub record SourceAnswered (name source : List ℕ) (out : Sunk) (status : ℕ) :
 abbrev pub IsRead : Option (List ℕ) → List ℕ → Type 0
 IsRead held source = IfSome held (λ all. source ≡ take (source_limit + 1) all)
 
--- what came of the file that is asked for: it was read, and its source was answered; it could not be read; or there was no memory for it
+-- what came of the file that is asked for (7.21.3): it was read, and its source was answered; it could not be read; or there was
+-- no memory for it
 pub data FileAnswered (name : List ℕ) (held : List ℕ → Option (List ℕ)) (faults_old faults_new : List ℕ → ℕ) (out : Sunk) (status : ℕ) : Type 0 where
   WasRead : (source : List ℕ) → IsRead (held name) source → SourceAnswered name source out status → FileAnswered name held faults_old faults_new out status
   WasLost : Rose (faults_old name) (faults_new name) → (status ≢ 12 → (status ≡ 11) × Wrote out fault_line)
