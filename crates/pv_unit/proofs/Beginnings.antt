@@ -44,9 +44,6 @@ pub record Naming (t : Table) (k : ℕ) (m : Stored) : Type 0 where
   pub types : m.known ≡ no_tables.known
   pub known : AreKnown m
 
-pub naming_start : (t : Table) (m : Stored) → m ≡ no_tables → AreKnown m → Naming t 0 m
-naming_start t m e known = record { unit = ap whole e; types = ap (λ (s : Stored). s.known) e; known = known }
-
 pub naming_next : (t : Table) (k : ℕ) (m new : Stored) (text : List ℕ) → Naming t k m → slice_get t.names k ≡ Some text → whole new ≡ with_name_behind (whole m) text → new.known ≡ m.known → Grown m new → Naming t (k + 1) new
 naming_next t k m new text h e is known grown =
     let lt = slice_get_within t.names k text e in
@@ -57,13 +54,6 @@ naming_next t k m new text h e is known grown =
       types = known ∙ h.types;
       known = grown.known h.known;
     }
-
-pub naming_done : (t : Table) (k : ℕ) (m : Stored) → Naming t k m → length t.names ≤ k → IsFirst t m
-naming_done t k m h end = record {
-  unit = h.unit ∙ ap (λ xs. record (first t).state.unit { names = literal_text ∷ heap_text ∷ xs }) (take_all k t.names end);
-  types = h.types;
-  known = h.known;
-}
 
 -- ---- before the first declaration
 

@@ -87,17 +87,6 @@ object_behind lasting n i xs a =
     if is_function a.value.t then None
     else and_then (block_object lasting a.value.t n i a.state) (give (Some (xs ++ reached lasting (length a.state.unit.objects) n)))
 
-pub declarator_done : (lasting : Bool) (base : Ty) (d : DeclaratorTree) (i : OptionalTree) (xs ys : List WholeReached) (s last : State) (n : ℕ × ℕ) (a : After WholeType) (o : ℕ)
-    → Some n ≡ declared_name d → Some a ≡ type_declared (is_present i) base d s → is_function a.value.t ≡ false → Some last ≡ block_object lasting a.value.t n i a.state
-    → o ≡ length a.state.unit.objects → ys ≡ xs ++ reached lasting o n
-    → Some (record { value = ys; state = last }) ≡ block_declarator lasting base d i (record { value = xs; state = s })
-declarator_done lasting base d i xs ys s last n a o name made plain object number more =
-    ap (λ zs. Some (record { value = zs; state = last })) (more ∙ ap (λ k. xs ++ reached lasting k n) number)
-    ∙ ap (λ (q : Option State). and_then q (give (Some (xs ++ reached lasting (length a.state.unit.objects) n)))) object
-    ∙ sym (ap (λ b. if b then None else and_then (block_object lasting a.value.t n i a.state) (give (Some (xs ++ reached lasting (length a.state.unit.objects) n)))) plain)
-    ∙ ap (λ (q : Option (After WholeType)). and_then q (object_behind lasting n i xs)) made
-    ∙ ap (λ (q : Option (ℕ × ℕ)). and_then q (λ m. and_then (type_declared (is_present i) base d s) (object_behind lasting m i xs))) name
-
 pub declarator_none : (lasting : Bool) (base : Ty) (d : DeclaratorTree) (i : OptionalTree) (xs : List WholeReached) (s : State) (n : ℕ × ℕ) (q : Option (After WholeType))
     → Some n ≡ declared_name d → q ≡ type_declared (is_present i) base d s → None ≡ and_then q (object_behind lasting n i xs)
     → None ≡ block_declarator lasting base d i (record { value = xs; state = s })

@@ -133,9 +133,6 @@ listed_next f ns k d lt kind other none =
     ∙ listed_here (trees_of f (take k ns)) (tree_at f (get_or ns k d)) kind
     ∙ ap (λ b. b || has_list (trees_of f (take k ns))) other ∙ none
 
-pub listed_none : (f : Forest) (ns : List NodeId) (k : ℕ) → length ns ≤ k → has_list (trees_of f (take k ns)) ≡ false → false ≡ has_list (trees_of f ns)
-listed_none f ns k end h = sym h ∙ ap (λ xs. has_list (trees_of f xs)) (take_all ns k end)
-
 -- ---- a tag specifier and nothing else
 
 more_tags : (f : Forest) (before : Trees) (x y : Tree) (ns : List NodeId) → None ≡ only_tag (fold (λ b n. Then b (tree_at f n)) (Then (Then before x) y) ns)
@@ -146,11 +143,6 @@ pub no_tag : (f : Forest) (ns : List NodeId) → length ns ≢ 1 → None ≡ on
 no_tag f [] h = refl
 no_tag f (n ∷ []) h = absurd (h refl)
 no_tag f (n ∷ k ∷ ns) h = more_tags f NoTrees (tree_at f n) (tree_at f k) ns
-
-pub one_tag : (f : Forest) (ns : List NodeId) (d : NodeId) → length ns ≡ 1 → only_tag (Then NoTrees (tree_at f (get_or ns 0 d))) ≡ only_tag (trees_of f ns)
-one_tag f [] d h = absurd cc
-one_tag f (n ∷ []) d h = refl
-one_tag f (n ∷ k ∷ ns) d h = absurd (omega arith)
 
 -- ---- how many names and tags the innermost scope has
 

@@ -202,13 +202,6 @@ module _ (lasting : Bool) (texts : List (List ℕ)) (m0 m : Stored) (s0 s : Raw)
         space = subst (λ u. HasSpace (env b.known) u (count + 1)) (g.fills.goes.grown.types part.t.0 known) room;
       }
 
--- all are
-pub going_done : (lasting : Bool) (texts : List (List ℕ)) (m0 m : Stored) (s0 s : Raw) (part : Subobject) (f : Forest) (ns : List NodeId) (before : List Store) (k count : ℕ) (out : List Init)
-    → Going lasting texts m0 s0 part f ns before k m s out count → length ns ≤ k
-    → stores_if texts s m out (Some count) ≡ option_map (behind before) (each_initialized values lasting (part_of m0.known part) (trees_of f ns) (state_of texts false s0 m0))
-going_done lasting texts m0 m s0 s part f ns before k count out g end =
-    g.typed ∙ ap (λ xs. option_map (behind before) (each_initialized values lasting (part_of m0.known part) (trees_of f xs) (state_of texts false s0 m0))) (take_all ns k end)
-
 -- the list of an initializer in braces
 pub list_of : (r : Rules State) (lasting : Bool) (p : Part) (f : Forest) (i : NodeId) (inits : ListId) (comma : Bool) (line : ℕ) (ns : List NodeId) (before : List Store) (s : State)
     → tree_at f i ≡ OfInitializer (Braces line (trees_at f inits) comma) → ns ≡ list_at f inits

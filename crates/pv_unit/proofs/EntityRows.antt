@@ -82,18 +82,6 @@ function_other texts a s x n line f ty h = ap (number_of f x) h ∙ number_eithe
 
 -- ---- storage classes
 
-pub typedef_is : (x : Storage) → is_typedef x ≡ true → x ≡ storage.Typedef
-typedef_is storage.Typedef e = refl
-typedef_is storage.Plain e = cc
-typedef_is storage.Extern e = cc
-typedef_is storage.Static e = cc
-
-pub variable_is : (x : Storage) (t : Ty) (n : ℕ × ℕ) (b : Bool) (i : OptionalTree) (u : UnitState) → is_typedef x ≡ false → variable_entity x t n b i u ≡ entity_declared x t n b i u
-variable_is storage.Typedef t n b i u e = cc
-variable_is storage.Plain t n b i u e = refl
-variable_is storage.Extern t n b i u e = refl
-variable_is storage.Static t n b i u e = refl
-
 -- ---- where the name may have the type
 
 pub unit_stays : (texts : List (List ℕ)) (a b : Stored) (s : Raw) (x : Outer) → IsOpen a s → Goes a b → whole b ≡ whole a → unit_state texts s b x ≡ unit_state texts s a x

@@ -130,10 +130,6 @@ counted_open n a b lt e = let some : nat_lt 0 n ≡ true = grind (arith, nat_tes
 
 -- ---- names
 
-next_unresolved : (b : Bool) (n : ℕ) (o : Option ℕ) → b ≡ false → (if b then Some n else o) ≡ o
-next_unresolved true n o e = cc
-next_unresolved false n o e = refl
-
 -- external declaration number i
 pub declaration_is : {A : Type 0} (f : A → DeclarationTree) (xs : List A) (i : ℕ) (x : A) (d : DeclarationTree) → slice_get xs i ≡ Some x → get_or (map f xs) i d ≡ f x
 declaration_is f xs i x d e = get_or-map f xs i x d (slice_get_within xs i x e) ∙ ap f (get_or_from_slice_get xs i x x e)

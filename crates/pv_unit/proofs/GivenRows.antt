@@ -123,31 +123,6 @@ pub record Storing (m0 : Stored) (o : ℕ) (xs : List Init) (k : ℕ) (m : Store
   pub known : m.known ≡ m0.known
   pub left : with_stores (whole_of m) o (stores_in m0 (drop k xs)) ≡ with_stores (whole_of m0) o (stores_in m0 xs)
 
-pub storing_goes : (m0 : Stored) (o : ℕ) (xs : List Init) (k : ℕ) (m : Stored) → Storing m0 o xs k m → Goes m0 m
-storing_goes m0 o xs k m h = goes_same_types m0 m h.grown h.known
-
-pub storing_start : (m0 : Stored) (o : ℕ) (xs : List Init) → Storing m0 o xs 0 m0
-storing_start m0 o xs = record { grown = (same_goes m0).grown; known = refl; left = refl }
-
-pub storing_next : (m0 : Stored) (o : ℕ) (xs : List Init) (k : ℕ) (m new : Stored) (d : Init) → Storing m0 o xs k m → k < length xs → AreStores m0 xs → Grown m new → new.known ≡ m.known
-    → whole_of new ≡ with_store (whole_of m) o (store_in m.known (nodes m) (get_or xs k d)) → Storing m0 o xs (k + 1) new
-storing_next m0 o xs k m new d h lt are grown known is =
-    let goes = storing_goes m0 o xs k m h in
-    let step : suc k ≡ k + 1 = omega arith in
-    let rest = stores_in m0 (drop (suc k) xs) in
-    let x = get_or xs k d in
-    let same : store_in m.known (nodes m) x ≡ store_in m0.known (nodes m0) x = store_same m0 m goes x (each_at (IsStore m0) d xs are k lt) in
-    let left = ap (λ w. with_stores w o rest) is ∙ ap (λ (y : Store). with_stores (with_store (whole_of m) o y) o rest) same
-    ∙ ap (λ ys. with_stores (whole_of m) o (stores_in m0 ys)) (sym (drop-cons xs k d lt)) ∙ h.left in
-    record {
-      grown = (then_goes m0 m new goes (goes_same_types m new grown known)).grown;
-      known = known ∙ h.known;
-      left = ap (λ j. with_stores (whole_of new) o (stores_in m0 (drop j xs))) (sym step) ∙ left;
-    }
-
-pub storing_done : (m0 : Stored) (o : ℕ) (xs : List Init) (k : ℕ) (m : Stored) → Storing m0 o xs k m → length xs ≤ k → whole_of m ≡ with_stores (whole_of m0) o (stores_in m0 xs)
-storing_done m0 o xs k m h le = sym (ap (λ ys. with_stores (whole_of m) o (stores_in m0 ys)) (drop_all k xs le)) ∙ h.left
-
 abbrev with_at : WholeUnit → ℕ → TypedObject → WholeUnit
 with_at u o y = record u { objects = set u.objects o y }
 
@@ -209,10 +184,6 @@ object_given texts m0 m1 m2 s o old x out ready g lt was stored known is =
 
 abbrev given_all : ℕ → check.After Given → Option State
 given_all o f = Some (with_given o f.value f.state)
-
-pub giving_none : (lasting : Bool) (t u : Ty) (i : InitializerTree) (s : State) (o : ℕ) → u ≡ t → None ≡ initialized_object values lasting t i s → None ≡ and_then (object_rules.initialized lasting u i s) (given_all o)
-giving_none lasting t u i s o same none =
-    ap (λ x. and_then (lowered x) (given_all o)) none ∙ ap (λ (v : Ty). and_then (object_rules.initialized lasting v i s) (given_all o)) (sym same)
 
 pub giving_done : (lasting : Bool) (texts : List (List ℕ)) (m1 m2 : Stored) (s1 : Raw) (t u : Ty) (i : InitializerTree) (s : State) (o : ℕ) (out : List Init) (x : Completion) → u ≡ t
     → given_if texts s1 m1 out (Some x) ≡ initialized_object values lasting t i s → state_of texts false s1 m2 ≡ with_given o (given_in m1 out x) (state_of texts false s1 m1)

@@ -31,16 +31,6 @@ define_from e m [] i lt = absurd (omega arith)
 define_from e m (x ∷ xs) zero lt = refl
 define_from e m (x ∷ xs) (suc i) lt = define_from e m xs i (omega arith)
 
-pub not_definable : (e : List Entry) (m : Known) (xs : List Parameter) (i : ℕ) → i < length xs → is_definable e (parameter_shown m (get_or xs i no_parameter)) ≡ false
-    → may_define e (parameters_shown m (drop i xs)) ≡ false
-not_definable e m xs i lt h = define_from e m xs i lt ∙ ap (λ b. b && may_define e (parameters_shown m (drop (suc i) xs))) h
-
-pub one_definable : (e : List Entry) (m : Known) (xs : List Parameter) (i : ℕ) → i < length xs → is_definable e (parameter_shown m (get_or xs i no_parameter)) ≡ true
-    → may_define e (parameters_shown m (drop (i + 1) xs)) ≡ may_define e (parameters_shown m (drop i xs))
-one_definable e m xs i lt h =
-    let next : suc i ≡ i + 1 = omega arith in
-    ap (λ k. may_define e (parameters_shown m (drop k xs))) (sym next) ∙ sym (define_from e m xs i lt ∙ ap (λ b. b && may_define e (parameters_shown m (drop (suc i) xs))) h)
-
 pub known_stay : (a b : Stored) (ps : List Parameter) → Goes a b → ParametersKnown a.known ps → ParametersKnown b.known ps
 known_stay a b [] g h = h
 known_stay a b (p ∷ ps) g h = let more = g.grown.terms in (omega (arith, h.0, more), known_stay a b ps g h.1)

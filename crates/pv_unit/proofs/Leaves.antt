@@ -96,13 +96,7 @@ ended m whole at zero lt same scalar e = absurd (omega arith)
 ended m whole at (suc n) lt same scalar e =
     ap (option_and_then (leaf_within n (completions m))) e ∙ sym (leaf_step (is_scalar at.t) at _ scalar) ∙ same
 
-pub going_none : (m : Known) (whole at : Part) → is_scalar at.t ≡ false → None ≡ part_at (completions m) at 0 → Going m whole at → None ≡ leaf_within (part_count (layout_in (env m) whole.t) + 1) (completions m) whole
-going_none m whole at scalar e g = ended m whole at g.0 g.1 g.2 scalar e
-
 reached : (m : Known) (whole at : Part) (n : ℕ) → part_count (layout_in (env m) at.t) < n → leaf_within n (completions m) at ≡ leaf_within (part_count (layout_in (env m) whole.t) + 1) (completions m) whole
     → is_scalar at.t ≡ true → Some at ≡ leaf_within (part_count (layout_in (env m) whole.t) + 1) (completions m) whole
 reached m whole at zero lt same scalar = absurd (omega arith)
 reached m whole at (suc n) lt same scalar = sym (leaf_here (is_scalar at.t) at _ scalar) ∙ same
-
-pub going_some : (m : Known) (whole at : Part) → is_scalar at.t ≡ true → Going m whole at → Some at ≡ leaf_within (part_count (layout_in (env m) whole.t) + 1) (completions m) whole
-going_some m whole at scalar g = reached m whole at g.0 g.1 g.2 scalar

@@ -40,6 +40,8 @@ pub mod Texts
 pub mod ValueRows
 pub mod ValueWords
 pub mod Values
+mod WorkedAnswers
 mod WorkedConstants
 mod WorkedDeclarations
+mod WorkedLayouts
 mod WorkedUnits

@@ -18,9 +18,6 @@ pub record Listed (old m : Known) (xs : List Simple) (k : ℕ) (list : List Type
   pub below : AllBelow (length m.terms) list
   pub trees : map (tree_of m) list ≡ map simple_type (take k xs)
 
-pub listed_start : (m : Known) (xs : List Simple) → Listed m m xs 0 []
-listed_start m xs = record { grows = same_grows m; below = tt; trees = refl }
-
 below_more : (n k : ℕ) (xs : List TypeId) → n ≤ k → AllBelow n xs → AllBelow k xs
 below_more n k [] le h = tt
 below_more n k (x ∷ xs) le h = let here = h.0 in (omega (arith, le, here), below_more n k xs le h.1)

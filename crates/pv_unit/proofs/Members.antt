@@ -130,7 +130,3 @@ pub union_found : (m : Known) (whole : Subobject) (tag i : ℕ) (items : List Me
     → whole.offset + (or_none (look (env m) tag)).size ≤ 2 ^ 32 → items ≡ members_in m.done tag → 0 < length items → i ≡ 0 → Found m whole (UnionTag tag) i (record { offset = whole.offset; t = (get_or items 0 d).t })
 union_found m whole tag i [] d built there flag small e some z = absurd (omega arith)
 union_found m whole tag i (x ∷ ms) d built there flag small e some z = rw z (union_part m whole tag x ms built there flag small (sym e))
-
--- there is no other
-pub union_none : (done : List Completed) (whole : Part) (tag i : ℕ) → 0 < i → None ≡ option_map (within whole) (part_in done (UnionTag tag) i)
-union_none done whole tag i lt = none_from whole (parts.members_in done tag) i lt

@@ -34,34 +34,6 @@ absorbed : (c a : Bool) → (c ≡ true → a ≡ true) → a ≡ (a || c)
 absorbed true a f = let is = f refl in is ∙ sym (ap (λ b. b || true) is)
 absorbed false a f = sym (or_false a)
 
-same_tests : (p q : Bool) → (p ≡ true → q ≡ true) → (q ≡ true → p ≡ true) → p ≡ q
-same_tests true q f g = sym (f refl)
-same_tests false true f g = g refl
-same_tests false false f g = refl
-
-eq_of : (a b : ℕ) → nat_eq a b ≡ true → a ≡ b
-eq_of a b e = grind (arith, nat_tests)
-
-eq_swap : (a b : ℕ) → nat_eq a b ≡ nat_eq b a
-eq_swap a b = same_tests (nat_eq a b) (nat_eq b a) (λ e. eq-eqb b a (sym (eq_of a b e))) (λ e. eq-eqb a b (sym (eq_of b a e)))
-
-any_more : (b : Bool) (ks : List ℕ) (o k : ℕ) → list_any (nat_eq o) ks ≡ b → list_any (nat_eq k) (if b then ks else ks ++ (o ∷ [])) ≡ (list_any (nat_eq k) ks || nat_eq o k)
-any_more true ks o k e = absorbed (nat_eq o k) (list_any (nat_eq k) ks) (λ h. subst (λ (x : ℕ). list_any (nat_eq x) ks ≡ true) (eq_of o k h) e)
-any_more false ks o k e = list_any-append (nat_eq k) ks (o ∷ []) ∙ ap (λ b. list_any (nat_eq k) ks || b) (or_false (nat_eq k o) ∙ eq_swap k o)
-
--- one object more, or one function
-pub object_used : (os fs ns : List ℕ) (o : ℕ) → ns ≡ insert_key nat_eq os o → (f : Bool) (k : ℕ) → has_in ns fs f k ≡ (has_in os fs f k || uses f k (UsedObject o))
-object_used os fs ns o e false k = ap (list_any (nat_eq k)) e ∙ any_more (list_any (nat_eq o) os) os o k refl
-object_used os fs ns o e true k = sym (or_false (list_any (nat_eq k) fs))
-
-pub function_used : (os fs ns : List ℕ) (o : ℕ) → ns ≡ insert_key nat_eq fs o → (f : Bool) (k : ℕ) → has_in os ns f k ≡ (has_in os fs f k || uses f k (UsedFunction o))
-function_used os fs ns o e true k = ap (list_any (nat_eq k)) e ∙ any_more (list_any (nat_eq o) fs) fs o k refl
-function_used os fs ns o e false k = sym (or_false (list_any (nat_eq k) os))
-
-pub none_used : (os fs : List ℕ) → os ≡ [] → fs ≡ [] → (f : Bool) (k : ℕ) → has_in os fs f k ≡ false
-none_used os fs p q false k = ap (list_any (nat_eq k)) p
-none_used os fs p q true k = ap (list_any (nat_eq k)) q
-
 used_last : (f : Bool) (k : ℕ) (us : List Used) (u : Used) → is_used f k (us ++ (u ∷ [])) ≡ (is_used f k us || uses f k u)
 used_last f k [] u = or_false (uses f k u)
 used_last f k (x ∷ us) u = ap (λ b. uses f k x || b) (used_last f k us u) ∙ sym (or_assoc (uses f k x) (is_used f k us) (uses f k u))
@@ -71,9 +43,6 @@ pub used_next : (f : Bool) (k : ℕ) (used : List Named) (i : ℕ) (d : Named) (
 used_next f k used i d was now lt before more =
     let u = used_of (get_or used i d) in
     more ∙ ap (λ b. b || uses f k u) before ∙ sym (used_last f k (map used_of (take i used)) u) ∙ ap (is_used f k) (sym (map_push used_of (take i used) (get_or used i d))) ∙ ap (λ us. is_used f k (map used_of us)) (sym (take_more used i d lt))
-
-pub used_all : (f : Bool) (k : ℕ) (used : List Named) (i : ℕ) → length used ≤ i → is_used f k (map used_of (take i used)) ≡ is_used f k (map used_of used)
-used_all f k used i end = ap (λ us. is_used f k (map used_of us)) (take_all i used end)
 
 -- ---- one entity after the other
 
@@ -111,10 +80,6 @@ main_here names fs i d lt is_so = ap (λ b. b || has_main_in names (drop (suc i)
 pub no_main : (names : List (List ℕ)) (fs : List TypedFunction) (i : ℕ) → length fs ≤ i → false ≡ has_main_in names (drop i fs)
 no_main names fs i end = sym (ap (has_main_in names) (drop_all i fs end))
 
-pub body_there : (ts : List Tree) (o : Option NodeId) → is_some o ≡ is_some (body_in ts o)
-body_there ts None = refl
-body_there ts (Some n) = refl
-
 main_shifted : (o : Option ℕ) → IsTrue (is_some o) → IsTrue (is_some (option_map suc o))
 main_shifted None h = h
 main_shifted (Some k) h = h
@@ -140,48 +105,6 @@ pub record Noting (m0 : Stored) (es : List Entity) (i : ℕ) (m : Stored) : Type
   pub counted : length m.objects ≡ length m0.objects
   pub left : with_statics (statics_from es i (drop i (whole m0).objects)) (whole m) ≡ with_statics (statics_from es 0 (whole m0).objects) (whole m0)
 
-pub noting_start : (m : Stored) (es : List Entity) → Noting m es 0 m
-noting_start m es = record { grown = grown_refl m; known = refl; objects = refl; counted = refl; left = refl }
-
-abbrev rest_at : List Entity → Stored → ℕ → List ℕ
-rest_at es m i = statics_from es i (drop i (whole m).objects)
-
-statics_step : (m0 : Stored) (es : List Entity) (i : ℕ) (d : TypedObject) → i < length (whole m0).objects
-    → rest_at es m0 i ≡ (if (get_or (whole m0).objects i d).lasting && is_defined i es then i ∷ rest_at es m0 (i + 1) else rest_at es m0 (i + 1))
-statics_step m0 es i d lt =
-    let o = get_or (whole m0).objects i d in
-    let step : suc i ≡ i + 1 = omega arith in
-    ap (statics_from es i) (drop-cons (whole m0).objects i d lt)
-    ∙ ap (λ j. if o.lasting && is_defined i es then i ∷ statics_from es (i + 1) (drop j (whole m0).objects) else statics_from es (i + 1) (drop j (whole m0).objects)) step
-
-pub noting_skipped : (m0 : Stored) (es : List Entity) (i : ℕ) (m : Stored) → Noting m0 es i m → i < length (whole m0).objects → ((get_or (whole m0).objects i no_object).lasting && is_defined i es) ≡ false → Noting m0 es (i + 1) m
-noting_skipped m0 es i m h lt not_so = record {
-  grown = h.grown;
-  known = h.known;
-  objects = h.objects;
-  counted = h.counted;
-  left = ap (λ os. with_statics os (whole m))
-      (turned ((get_or (whole m0).objects i no_object).lasting && is_defined i es) (i ∷ rest_at es m0 (i + 1)) (rest_at es m0 (i + 1)) not_so ∙ sym (statics_step m0 es i no_object lt)) ∙ h.left;
-}
-
-more_statics : (u : WholeUnit) (o : ℕ) (os : List ℕ) → with_statics os (with_static u o) ≡ with_statics (o ∷ os) u
-more_statics u o os = ap (λ xs. record u { statics = xs }) (append_assoc u.statics (o ∷ []) os)
-
-pub noting_noted : (m0 : Stored) (es : List Entity) (i : ℕ) (m new : Stored) → Noting m0 es i m → i < length (whole m0).objects → ((get_or (whole m0).objects i no_object).lasting && is_defined i es) ≡ true
-    → Grown m new → new.known ≡ m.known → whole new ≡ with_static (whole m) i → length new.objects ≡ length m.objects → Noting m0 es (i + 1) new
-noting_noted m0 es i m new h lt is_so grown known is counted = record {
-  grown = grown_trans m0 m new h.grown grown;
-  known = known ∙ h.known;
-  objects = ap (λ (u : WholeUnit). u.objects) is ∙ h.objects;
-  counted = counted ∙ h.counted;
-  left = ap (with_statics (rest_at es m0 (i + 1))) is ∙ more_statics (whole m) i (rest_at es m0 (i + 1))
-      ∙ ap (λ os. with_statics os (whole m)) (taken ((get_or (whole m0).objects i no_object).lasting && is_defined i es) (i ∷ rest_at es m0 (i + 1)) (rest_at es m0 (i + 1)) is_so ∙ sym (statics_step m0 es i no_object lt)) ∙ h.left;
-}
-
 nil_right : {A : Type 0} (xs : List A) → xs ≡ xs ++ []
 nil_right [] = refl
 nil_right (x ∷ xs) = ap (λ ys. x ∷ ys) (nil_right xs)
-
-pub noting_done : (m0 : Stored) (es : List Entity) (i : ℕ) (m : Stored) → Noting m0 es i m → length (whole m0).objects ≤ i → whole m ≡ with_statics (statics_from es 0 (whole m0).objects) (whole m0)
-noting_done m0 es i m h end =
-    ap (λ xs. record (whole m) { statics = xs }) (nil_right (whole m).statics) ∙ ap (λ os. with_statics (statics_from es i os) (whole m)) (sym (drop_all i (whole m0).objects end)) ∙ h.left

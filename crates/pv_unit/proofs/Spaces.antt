@@ -27,14 +27,6 @@ space_one e (StructTag k) n h = tt
 space_one e (UnionTag k) n h = tt
 space_one e (FunctionTy t ts v) n h = tt
 
-pub space_if_one : (e : List Entry) (t : Ty) (o : Option ℕ) → IfSome o (λ n. n ≡ 1) → HasSpaceIf e t o
-space_if_one e t None h = tt
-space_if_one e t (Some n) h = space_one e t n (omega (arith, h))
-
-pub space_ok_one : {E : Type 0} (e : List Entry) (t : Ty) (r : Result (Option ℕ) E) → IfOk r (λ o. IfSome o (λ n. n ≡ 1)) → IfOk r (HasSpaceIf e t)
-space_ok_one e t (Ok o) h = space_if_one e t o h
-space_ok_one e t (Err x) h = tt
-
 at_most : (a b : ℕ) → nat_le a b ≡ true → a ≤ b
 at_most a b e = grind (arith, nat_tests)
 

@@ -22,12 +22,6 @@ pub open_there : (m : Stored) (s : Raw) (r : Option NodeId) → OpenIf m s r →
 open_there m s None h = tt
 open_there m s (Some n) h = h.0
 
-pub scalar_some : (o : Option (After TypedTree)) (x : After TypedTree) → Some x ≡ o → is_scalar (type_of x.value) ≡ true → Some x ≡ and_then o if_scalar
-scalar_some o x e h = step_on o x if_scalar _ e (sym (ap (λ b. if b then Some x else None) h))
-
-pub scalar_none : (o : Option (After TypedTree)) (x : After TypedTree) → Some x ≡ o → is_scalar (type_of x.value) ≡ false → None ≡ and_then o if_scalar
-scalar_none o x e h = step_on o x if_scalar _ e (sym (ap (λ b. if b then Some x else None) h))
-
 -- ---- `switch`
 
 abbrev pub controlling : NodeId → Option IntKind → Option Controlling
@@ -47,9 +41,6 @@ promoted_done texts s a b found value k is kind same = by k (kind ∙ ap (λ e. 
         ∙ ap (λ q. and_then q (λ l. give (Some (record { value = promoted_value (expression_at a found); kind = l })) (state_of texts false s a))) e
 
 -- ---- `return`
-
-pub returned_void : (t : Ty) (line : ℕ) (x : After TypedTree) → is_void t ≡ true → None ≡ value_returned t line x
-returned_void t line x h = sym (ap (λ b. if b then None else and_then (assigned t x.value) (λ e. give (Some (Return line (Some e))) x.state)) h)
 
 pub returned_not : (t : Ty) (line : ℕ) (x : After TypedTree) (r : Option (After TypedStatement)) → is_void t ≡ false → r ≡ and_then (assigned t x.value) (λ e. give (Some (Return line (Some e))) x.state) → r ≡ value_returned t line x
 returned_not t line x r h e = e ∙ sym (ap (λ b. if b then None else and_then (assigned t x.value) (λ e. give (Some (Return line (Some e))) x.state)) h)

@@ -79,6 +79,7 @@ block_declared specs ds s =
     and_then (specified_by specs s) (λ a. and_then (block_storage a.value.storage) (λ lasting. block_declarators ds lasting a.value.t a.state))
 
 -- 6.8.2p1: a declaration in a block, and the automatic objects that it reaches
+-- worked: block_declarations (proofs/WorkedDeclarations)
 abbrev pub block_declaration : DeclarationTree → State → Option (After (List Reached))
 block_declaration (Declaration line specs NoTrees) s = block_alone (only_tag specs) specs s
 block_declaration (Declaration line specs ds) s = block_declared specs ds s

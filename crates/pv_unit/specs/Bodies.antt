@@ -31,12 +31,12 @@ abbrev pub is_block : StatementTree → Bool
 is_block (Block line items) = true
 is_block _ = false
 
--- the items of a body, where it is a block
+-- the items of a body (6.8.2p1), where it is a block
 abbrev pub IsBodyIf : Forest → NodeId → Option ListId → Type 0
 IsBodyIf f n None = is_block (statement_at f n) ≡ false
 IsBodyIf f n (Some l) = (statement_at f n ≡ Block (tree_line (tree_at f n)) (trees_at f l)) × HasList f n.0 is_item l
 
--- the items, behind the scope in which they stand
+-- the items (6.8.2p1), behind the scope in which they stand (6.2.1p4)
 abbrev pub left_items : After (List TypedStatement) → Option (After (List TypedStatement))
 left_items x = Some (record { value = x.value; state = left x.state })
 
@@ -45,7 +45,7 @@ abbrev pub is_definition : DeclarationTree → Bool
 is_definition (Function line specs declarator block) = true
 is_definition _ = false
 
--- the parts of a function definition, as the code has them
+-- the parts of a function definition (6.9.1p1), as the code has them
 abbrev pub AreParts : Tables → NodeId → FunctionParts → Type 0
 AreParts u n x =
     (declaration_at u.forest n ≡ Function (tree_line (tree_at u.forest n)) (trees_at u.forest x.specs) (declarator_at u.forest x.declarator) (statement_at u.forest x.block))
@@ -53,7 +53,7 @@ AreParts u n x =
     × Is u is_declarator x.declarator
     × Is u is_statement x.block
 
--- the same, where it is one
+-- the same, where it is a function definition (6.9.1p1)
 abbrev pub ArePartsIf : Tables → NodeId → Option FunctionParts → Type 0
 ArePartsIf u n None = is_definition (declaration_at u.forest n) ≡ false
 ArePartsIf u n (Some x) = AreParts u n x

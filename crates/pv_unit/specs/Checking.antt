@@ -12,21 +12,21 @@ use Rattle.pv_unit.specs.Units.{Breaks, unresolved, has_main, Constraint, Unreso
 abbrev pub externals_in : Tables → List DeclarationTree
 externals_in u = map (declaration_at u.forest) u.externals
 
--- why a unit has no typing: what each refusal stands for
+-- why a unit has no typing (5.1.1.3p1): what each refusal stands for
 abbrev pub IsCause : Table → List DeclarationTree → CheckError → Type 0
 IsCause t ds (error.Constraint n) = UnitComes t ds (Constraint n)
 IsCause t ds (error.Unresolved n) = UnitComes t ds (Unresolved n)
 IsCause t ds error.NoMain = UnitComes t ds NoMain
 IsCause t ds error.NoMemory = Unit {0}
 
--- a name that a refusal tells is one of the tokens
+-- a name that a refusal tells (6.9p5) is one of the tokens
 abbrev pub IsNamed : Table → CheckError → Type 0
 IsNamed t (error.Unresolved n) = n < length t.names
 IsNamed t _ = Unit {0}
 
 -- ---- parts of the code
 
--- which external declaration has no typing
+-- which external declaration (6.9p1) has no typing
 abbrev pub IsStop : List DeclarationTree → UnitState → CheckError → Type 0
 IsStop ds u (error.Constraint n) = Breaks ds u n
 IsStop ds u error.NoMemory = Unit {0}

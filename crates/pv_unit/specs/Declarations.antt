@@ -10,7 +10,7 @@ use Rattle.pv_check.specs.State.{State, After, Scope, Meaning, TypedefOf, and_th
 use Rattle.pv_check.specs.declared.specifiers.Storage.{Storage}
 use Rattle.pv_check.specs.declared.specifiers.Storage.TheVariants as storage
 use Rattle.pv_check.specs.Specifiers.{Specified, specified}
-use Rattle.pv_check.specs.Tags.{tag_alone}
+use Rattle.pv_check.specs.Tags.{tag_alone, composite_named}
 use Rattle.pv_check.specs.Texts.{is_main}
 use Rattle.pv_check.specs.Derivations.{Derivation, ByArray, declared_name, derived}
 use Rattle.pv_check.specs.Typing.{specifiers, steps}
@@ -42,6 +42,10 @@ abbrev pub only_tag : Trees → Option (Word × ℕ)
 only_tag (Then NoTrees (OfSpecifier (Tag line w n))) = Some (w, n)
 only_tag _ = None
 
+-- 6.7.2.3p7: `struct n ;` or `union n ;`, which is about the innermost scope
+abbrev pub composite_alone : (union : Bool) → ℕ → State → Option State
+composite_alone union n s = and_then (composite_named union n (find (innermost s.scopes).tags n) s) (λ a. Some a.state)
+
 -- 6.7p2: it declares a tag or enumerators, or completes a tag
 abbrev pub declares_something : Trees → State → State → Bool
 declares_something specs before after = nat_lt (bound_in (innermost before.scopes)) (bound_in (innermost after.scopes)) || has_list specs
@@ -51,6 +55,7 @@ abbrev pub tags_alone : Trees → State → After Specified → Option (After Sp
 tags_alone specs s a = if declares_something specs s a.state then Some a else None
 
 -- 6.7p1: what specifiers say
+-- worked: type_words, storage_classes, qualified_types, members, enumerations, enumerator_values (proofs/WorkedDeclarations)
 abbrev pub specified_by : Trees → State → Option (After Specified)
 specified_by specs s = and_then (specifiers specs s) (λ a. give (specified a.value) a.state)
 
@@ -76,6 +81,7 @@ abbrev pub with_unsized : Bool → Ty → Option DeclaredType
 with_unsized b t = Some (record { t = t; unsized = b })
 
 -- 6.7.6p4: the type that a declarator gives its name, in the state behind it
+-- worked: declarator_forms, arrays, array_sizes, largest_objects, void_objects (proofs/WorkedDeclarations)
 abbrev pub type_declared : (unsized : Bool) → Ty → DeclaratorTree → State → Option (After DeclaredType)
 type_declared unsized t d s =
     and_then (steps d s) (λ a. give (and_then (derived unsized (env a.state) a.value.list t) (with_unsized (has_unsized a.value.list))) a.state)
@@ -93,6 +99,7 @@ abbrev pub typedef_found : ℕ → Ty → UnitState → Option UnitState
 typedef_found n t u = typedef_again (find (innermost u.state.scopes).names n) n t u
 
 -- 6.7.8p3: a typedef name; `main` is a function (5.1.2.2.1p1)
+-- worked: typedef_names (proofs/WorkedDeclarations)
 abbrev pub typedef_declared : ℕ → Ty → Bool → UnitState → Option UnitState
 typedef_declared n t unsized u =
     if is_main u.state.unit.names (unit_name n) && not (is_function t && are_compatible t main_type) then None
@@ -128,12 +135,18 @@ abbrev pub typedef_entity : Ty → ℕ × ℕ → Bool → OptionalTree → Unit
 typedef_entity t n unsized Absent u = typedef_declared n.0 t unsized u
 typedef_entity t n unsized _ u = None
 
+-- 6.9.2p1, p2: an object without an initializer: it is declared, and defined where it is not `extern`
+abbrev pub plain_object : Storage → Ty → ℕ × ℕ → Bool → UnitState → Option UnitState
+plain_object x t n unsized u = and_then (object_declared n.0 n.1 t u) (λ a. Some (object_noted x unsized a))
+
+-- 6.7.6.3: a function without a body: it is declared
+abbrev pub plain_function : Ty → ℕ × ℕ → Bool → UnitState → Option UnitState
+plain_function t n unsized u = and_then (function_declared n.0 n.1 t u) (λ a. Some (noted true a.0 false false unsized a.1))
+
 -- 6.7p4: a function, or an object without an initializer
 abbrev pub plain_entity : Storage → Ty → ℕ × ℕ → Bool → UnitState → Option UnitState
 plain_entity x t n unsized u =
-    if is_function t
-    then and_then (function_declared n.0 n.1 t u) (λ a. Some (noted true a.0 false false unsized a.1))
-    else and_then (object_declared n.0 n.1 t u) (λ a. Some (object_noted x unsized a))
+    if is_function t then plain_function t n unsized u else plain_object x t n unsized u
 
 -- 6.7.9p3: an object with an initializer, which no function has
 abbrev pub given_entity : Ty → ℕ × ℕ → InitializerTree → UnitState → Option UnitState
@@ -167,6 +180,7 @@ file_declarators NoTrees x u = Some u
 file_declarators (Then before t) x u = and_then (file_declarators before x u) (file_init_declarator x t)
 
 -- 6.7.2.3p7, 6.7p2: a tag specifier alone, without declarators, or other specifiers
+-- worked: tags (proofs/WorkedDeclarations)
 abbrev pub file_alone : Option (Word × ℕ) → Trees → UnitState → Option UnitState
 file_alone (Some (w, n)) specs u = and_then (tag_alone w n u.state) (λ s. Some (record u { state = s }))
 file_alone None specs u =

@@ -14,7 +14,7 @@ use Rattle.pv_unit.specs.Declarations.{DeclaredType as WholeType}
 abbrev pub specified_in : Known → Specified → WhatIsSpecified
 specified_in m x = record { storage = x.storage; t = tree m x.t.0 }
 
--- the same as an answer, and the state after it
+-- what specifiers say (6.7p1) as an answer, and the state after it
 abbrev pub after_specified : List (List ℕ) → Raw → Stored → Option Specified → Option (After WhatIsSpecified)
 after_specified texts s m None = None
 after_specified texts s m (Some x) = Some (record { value = specified_in m.known x; state = state_of texts false s m })
@@ -23,22 +23,22 @@ after_specified texts s m (Some x) = Some (record { value = specified_in m.known
 abbrev pub type_in : Known → DeclaredType → WholeType
 type_in m x = record { t = tree m x.t.0; unsized = x.without_size }
 
--- the same as an answer, and the state after it
+-- the type of a declarator (6.7.6) as an answer, and the state after it
 abbrev pub after_declared : List (List ℕ) → Raw → Stored → Option DeclaredType → Option (After WholeType)
 after_declared texts s m None = None
 after_declared texts s m (Some x) = Some (record { value = type_in m.known x; state = state_of texts false s m })
 
--- where there is an answer, the scopes are open
+-- where a declaration (6.7) has an answer, the scopes are open
 abbrev pub OpenOn : Stored → Raw → Bool → Type 0
 OpenOn m s false = Unit {0}
 OpenOn m s true = IsOpen m s
 
--- where there is an answer, the tables have more
+-- where a declaration (6.7) has an answer, the tables have more
 abbrev pub GoesOn : Stored → Stored → Bool → Type 0
 GoesOn a b false = Unit {0}
 GoesOn a b true = Goes a b
 
--- where there is an answer, the state
+-- where a declaration (6.7) has an answer, the state
 abbrev pub state_on : List (List ℕ) → Raw → Stored → Bool → Option State
 state_on texts s m false = None
 state_on texts s m true = Some (state_of texts false s m)

@@ -46,11 +46,15 @@ defined_once t g a =
     if is_initialized true a.0 a.1.entities then None
     else Some (record { function = a.0; result = t; signature = g }, noted true a.0 true true false a.1)
 
+-- 6.9.1p1: the function of this type is declared, and defined
+abbrev pub head_function : (t result : Ty) → ℕ × ℕ → Signature → UnitState → Option (Head × UnitState)
+head_function t r n g u = and_then (function_declared n.0 n.1 t u) (defined_once r g)
+
 -- 6.9.1p2: the type of what is defined is a function type
 abbrev pub head_of : Ty → Signature → ℕ × ℕ → UnitState → Option (Head × UnitState)
 head_of (FunctionTy t ts v) g n u =
     if may_be_defined u.state n.0 t v g.parameters
-    then and_then (function_declared n.0 n.1 (FunctionTy t ts v) u) (defined_once t g)
+    then head_function (FunctionTy t ts v) t n g u
     else None
 head_of _ g n u = None
 
@@ -76,6 +80,7 @@ abbrev pub head_specified : Specified → DeclaratorTree → UnitState → Optio
 head_specified x d u = if may_head x.storage then and_then (declared_name d) (head_stepped x.t d u) else None
 
 -- 6.9.1p1: specifiers and a declarator before a body
+-- worked: function_definitions (proofs/WorkedDeclarations)
 abbrev pub head : Trees → DeclaratorTree → UnitState → Option (Head × UnitState)
 head specs d u = and_then (specified_by specs u.state) (λ x. head_specified x.value d (record u { state = x.state }))
 
@@ -104,6 +109,7 @@ abbrev pub are_finished : State → List Entity → Bool
 are_finished s [] = true
 are_finished s (e ∷ es) = is_finished s e && are_finished s es
 
--- what the end of a unit asks (6.9.2p2, p3); a typedef of an array without a size is refused there, too (our choice)
+-- 6.9.2p2, p3: what the end of a unit asks; a typedef of an array without a size is refused there, too (our choice)
+-- worked: ends (proofs/WorkedUnits)
 abbrev pub may_end : UnitState → Bool
 may_end u = not u.unsized_typedef && are_finished u.state u.entities

@@ -81,6 +81,10 @@ abbrev pub with_new_object : ℕ → ℕ → Ty → UnitState → ℕ × UnitSta
 with_new_object n line t u =
     (length u.state.unit.objects, record u { state = new_object n line t true u.state; entities = u.entities ++ (entity n false (length u.state.unit.objects) ∷ []) })
 
+-- 6.7p4, 6.2.7p4: an object that is declared once more, with a compatible type: its type is then the composite one
+abbrev pub object_composed : ℕ → Ty → State → Option State
+object_composed o t s = if are_compatible (object_at s.unit o).t t then Some (with_object_type o (composite (object_at s.unit o).t t) s) else None
+
 -- 6.7p4: all its declarations have compatible types; 6.2.7p4: its type is then the composite one; 6.2.3p1: the name stands for
 -- nothing else
 abbrev pub object_again : Option Meaning → ℕ → ℕ → Ty → UnitState → Option (ℕ × UnitState)
@@ -92,6 +96,7 @@ object_again (Some (ObjectName o)) n line t u =
 object_again (Some _) n line t u = None
 
 -- 6.7p4, 5.1.2.2.1p1: an object of file scope; `main` is a function
+-- worked: redeclared_objects (proofs/WorkedDeclarations)
 abbrev pub object_declared : ℕ → ℕ → Ty → UnitState → Option (ℕ × UnitState)
 object_declared n line t u = if is_main u.state.unit.names (unit_name n) then None else object_again (find (innermost u.state.scopes).names n) n line t u
 
@@ -110,6 +115,10 @@ with_new_function n line t u = (
   record u { state = new_function n line t u.state; entities = u.entities ++ (entity n true (length u.state.unit.functions) ∷ []) },
 )
 
+-- 6.7p4, 6.2.7p4: a function that is declared once more, with a compatible type: its type is then the composite one
+abbrev pub function_composed : ℕ → Ty → State → Option State
+function_composed f t s = if are_compatible (function_at s.unit f).t t then Some (with_function_type f (composite (function_at s.unit f).t t) s) else None
+
 -- 6.7p4: all its declarations have compatible types; 6.2.7p4: its type is then the composite one
 abbrev pub function_again : Option Meaning → ℕ → ℕ → Ty → UnitState → Option (ℕ × UnitState)
 function_again None n line t u = Some (with_new_function n line t u)
@@ -126,6 +135,7 @@ is_variadic _ = false
 
 -- what its name asks of a function's type: `main` is `int (void)` (5.1.2.2.1p1), a library function's is that of the library
 -- (7.1.4p2), and `...` is `printf`'s alone
+-- worked: library_functions, main_functions (proofs/WorkedDeclarations)
 abbrev pub may_have : List (List ℕ) → ℕ → Ty → Bool
 may_have texts n t =
     (not (is_main texts n) || are_compatible t main_type) && agrees (library_named (slice_index_or texts n [])) t && (not (is_variadic t) || is_printf texts n)
@@ -135,5 +145,6 @@ abbrev pub function_found : ℕ → ℕ → Ty → UnitState → Option (ℕ × 
 function_found n line t u = function_again (find (innermost u.state.scopes).names n) n line t u
 
 -- 6.7p4: a function of file scope, with a type that its name may have
+-- worked: function_types (proofs/WorkedDeclarations)
 abbrev pub function_declared : ℕ → ℕ → Ty → UnitState → Option (ℕ × UnitState)
 function_declared n line t u = if may_have u.state.unit.names (unit_name n) t then function_found n line t u else None

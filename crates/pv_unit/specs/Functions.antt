@@ -35,10 +35,14 @@ with_parameters f (p ∷ ps) s = with_parameters f ps (with_parameter f p.object
 abbrev pub with_body : ℕ → TypedStatement → State → State
 with_body f b s = with_function f (record (function_at s.unit f) { body = Some b }) s
 
+-- 6.9.1: the function f has these parameters, and the block of these items as its body
+abbrev pub with_definition : ℕ → List Parameter → (line : ℕ) → List TypedStatement → State → State
+with_definition f ps line xs s = with_body f (block_of line xs) (with_parameters f ps s)
+
 -- 6.9.1: the function has its parameters, and as its body the block of what was typed
 abbrev pub defined_with : Head → (line : ℕ) → UnitState → After (List TypedStatement) → Option UnitState
 defined_with h line u x =
-    Some (record u { state = with_body h.function (block_of line x.value) (with_parameters h.function h.signature.parameters (left x.state)) })
+    Some (record u { state = with_definition h.function h.signature.parameters line x.value (left x.state) })
 
 -- 6.2.1p4: the scope of the parameters is that of the body's block
 abbrev pub typed_body : StatementTree → Head × UnitState → Option UnitState
@@ -53,14 +57,15 @@ abbrev pub typed_declaration : DeclarationTree → UnitState → Option UnitStat
 typed_declaration (Function line specs declarator block) u = and_then (head specs declarator u) (typed_body block)
 typed_declaration d u = file_declaration d u
 
--- one external declaration more: the count that `check` prints
+-- 6.9p1: one external declaration more: the count that `check` prints
 abbrev pub counted_state : State → State
 counted_state s = record s { unit = with_declaration s.unit }
 
--- the same of what is known behind it
+-- 6.9p1: the same of what is known behind it
 abbrev pub counted : UnitState → Option UnitState
 counted u = Some (record u { state = counted_state u.state })
 
 -- 6.9p1: one external declaration more
+-- worked: programs, definitions, lines (proofs/WorkedUnits); layouts_at_file_scope (proofs/WorkedLayouts)
 abbrev pub typed_external : DeclarationTree → UnitState → Option UnitState
 typed_external d u = and_then (typed_declaration d u) counted

@@ -17,12 +17,12 @@ use Rattle.pv_unit.specs.Stores.{stores_in}
 abbrev pub given_in : Stored → List Init → Completion → WholeGiven
 given_in m out x = record { t = tree m.known x.t.0; braced = x.braced; stores = stores_in m out }
 
--- the same as an answer, and the state behind it
+-- what an object gets by its initializer (6.7.9) as an answer, and the state behind it
 abbrev pub given_if : List (List ℕ) → Raw → Stored → List Init → Option Completion → Option (After State WholeGiven)
 given_if texts s m out None = None
 given_if texts s m out (Some x) = Some (record { value = given_in m out x; state = state_of texts false s m })
 
--- the type of an answer is there
+-- the type that an object gets (6.7.9p22) is in the table of types
 abbrev pub IsGivenIf : Stored → Option Completion → Type 0
 IsGivenIf m None = Unit {0}
 IsGivenIf m (Some x) = x.t.0 < length m.known.terms

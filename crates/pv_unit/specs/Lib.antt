@@ -1,3 +1,4 @@
+pub mod AtNodes
 pub mod Blocks
 pub mod Bodies
 pub mod Checking
@@ -11,7 +12,6 @@ pub mod Functions
 pub mod Heads
 pub mod Initialized
 pub mod Initializers
-pub mod Layouts
 pub mod Library
 pub mod Outside
 pub mod Parts

@@ -15,11 +15,11 @@ simple_type simple.ConstantBytes = constant_bytes
 simple_type simple.Text = text
 simple_type simple.ConstantText = constant_text
 
--- a list of such types
+-- a list of such types (6.7.6.3p1)
 abbrev pub simple_types : List Simple → Tys
 simple_types [] = NoTys
 simple_types (x ∷ xs) = MoreTys (simple_type x) (simple_types xs)
 
--- a type, perhaps with `const`
+-- a type, perhaps with `const` (6.7.3)
 abbrev pub constant_if : Bool → Ty → Ty
 constant_if constant t = if constant then ConstOf t else t

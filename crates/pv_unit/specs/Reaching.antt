@@ -12,20 +12,20 @@ use Rattle.pv_unit.specs.Blocks.{Reached as WholeReached}
 abbrev pub reached_of : Reached → WholeReached
 reached_of x = record { object = x.object; line = x.line }
 
--- those that were reached, and the state behind them
+-- those that were reached (6.2.4p5), and the state behind them
 abbrev pub reached_in : List (List ℕ) → Raw → Stored → List Reached → After (List WholeReached)
 reached_in texts s m xs = record { value = map reached_of xs; state = state_of texts false s m }
 
--- the same as an answer
+-- the same as an answer (6.2.4p5)
 abbrev pub reached_if : List (List ℕ) → Raw → Stored → List Reached → Bool → Option (After (List WholeReached))
 reached_if texts s m xs false = None
 reached_if texts s m xs true = Some (reached_in texts s m xs)
 
--- they are there
+-- the reached objects (6.2.4p5) are in the tables
 abbrev pub AreReached : Stored → List Reached → Type 0
 AreReached m xs = Each (λ (x : Reached). x.object < length m.objects) xs
 
--- they are there, where there is an answer
+-- the reached objects (6.2.4p5) are in the tables, where there is an answer
 abbrev pub ReachedOn : Stored → List Reached → Bool → Type 0
 ReachedOn m xs false = Unit {0}
 ReachedOn m xs true = AreReached m xs

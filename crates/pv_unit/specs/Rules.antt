@@ -5,7 +5,7 @@ use Rattle.pv_types.specs.Ty.{Ty}
 use Rattle.pv_types.specs.Layouts.{Completed}
 use Rattle.pv_typed.specs.TypedTree.{TypedTree}
 
--- a typed thing, and the state behind it
+-- a typed thing (6.5, 6.7.9), and the state behind it
 pub record After (S A : Type 0) : Type 0 where
   pub value : A
   pub state : S

@@ -8,11 +8,11 @@ use Rattle.pv_typed.specs.TypedUnits.{WholeUnit}
 use Rattle.pv_check.specs.Raw.{Raw, no_raw}
 use Rattle.pv_unit.specs.Units.{first}
 
--- the names with one more behind them
+-- the names (6.4.2.1) with one more behind them
 abbrev pub with_name_behind : WholeUnit → List ℕ → WholeUnit
 with_name_behind u text = record u { names = u.names ++ (text ∷ []) }
 
--- tables without an entry, with the names of the tokens behind the two that no token has
+-- tables before the first declaration (6.9p1): no entry, and the names of the tokens behind the two that no token has
 pub record IsFirst (t : Table) (m : Stored) : Type 0 where
   pub unit : whole m ≡ (first t).state.unit
   pub types : m.known ≡ no_tables.known

@@ -6,7 +6,7 @@ use Rattle.pv_num.specs.Kinds.{convert_of}
 use Rattle.pv_tree.specs.Syntax.{ExpressionTree, StatementTree, Case, Default, OfExpression, OfStatement, Tree, Trees, NoTrees, Then, OptionalTree, Absent, Present}
 use Rattle.pv_types.specs.Ty.{Ty}
 use Rattle.pv_typed.specs.TypedTree.{TypedTree, type_of}
-use Rattle.pv_typed.specs.TypedStatement.{TypedStatement, Block, Declare, Return, Case as CaseOf, Default as DefaultOf, statements_of}
+use Rattle.pv_typed.specs.TypedStatement.{TypedStatement, Block, ForDeclaration, Declare, Return, Case as CaseOf, Default as DefaultOf, statements_of}
 use Rattle.pv_typed.specs.TypedUnits.{object_at}
 use Rattle.pv_typed.specs.Constants.{integer}
 use Rattle.pv_check.specs.State.{State, After, Meaning, ObjectName, and_then, give, innermost, left}
@@ -48,7 +48,7 @@ if_scalar x = if is_scalar (type_of x.value) then Some x else None
 abbrev pub condition : ExpressionTree → State → Option (After TypedTree)
 condition a s = and_then (valued a s) if_scalar
 
--- the value of an expression that may be left out
+-- 6.8.3p2: the value of an expression that may be left out
 abbrev pub some_value : After TypedTree → Option (After (Option TypedTree))
 some_value x = give (Some (Some x.value)) x.state
 
@@ -157,6 +157,10 @@ declared_in (x ∷ xs) = declared_by x ++ declared_in xs
 -- 6.8.2p2: a block of these items
 abbrev pub block_of : (line : ℕ) → List TypedStatement → TypedStatement
 block_of line xs = Block line (declared_in xs) (statements_of xs)
+
+-- 6.8.5.3: a `for` that begins with these declarations
+abbrev pub round_of : (line : ℕ) → List TypedStatement → (condition step : Option TypedTree) → (body : TypedStatement) → TypedStatement
+round_of line xs c t b = ForDeclaration line (declared_in xs) (statements_of xs) c t b
 
 -- 6.2.4p5: the name is that of an automatic object
 abbrev pub is_automatic : State → Meaning → Bool

@@ -1,13 +1,13 @@
 -- Typing a statement (C17 6.8), by its tree.
 use Rattle.std.specs.Prelude.{ℕ, if◌then◌else◌, List, [], ◌∷◌, ◌++◌, Option, Some, None}
 use Rattle.pv_num.specs.declared.kinds.IntKind.{IntKind}
-use Rattle.pv_tree.specs.Syntax.{StatementTree, Block, ExpressionStatement, If, IfElse, While, DoWhile, For, ForDeclaration, Switch, SwitchBlock, Labelled, Break, Continue, Return, Tree, OfDeclaration, OfStatement, Trees, NoTrees, Then}
+use Rattle.pv_tree.specs.Syntax.{DeclarationTree, StatementTree, Block, ExpressionStatement, If, IfElse, While, DoWhile, For, ForDeclaration, Switch, SwitchBlock, Labelled, Break, Continue, Return, Tree, OfDeclaration, OfStatement, Trees, NoTrees, Then}
 use Rattle.pv_typed.specs.TypedTree.{TypedTree}
-use Rattle.pv_typed.specs.TypedStatement.{TypedStatement, statements_of}
+use Rattle.pv_typed.specs.TypedStatement.{TypedStatement}
 use Rattle.pv_typed.specs.TypedStatement as typed
 use Rattle.pv_check.specs.State.{State, After, and_then, give, entered}
 use Rattle.pv_unit.specs.Blocks.{Reached, block_declaration}
-use Rattle.pv_unit.specs.Statements.{Around, in_loop, in_switch, leaving, valued, condition, optional, Label, typed_labels, under, returned, switched, reached, declared_in, block_of, automatic_alone}
+use Rattle.pv_unit.specs.Statements.{Around, in_loop, in_switch, leaving, valued, condition, optional, Label, typed_labels, under, returned, switched, reached, block_of, round_of, automatic_alone}
 
 -- ---- statements whose parts are typed
 
@@ -33,7 +33,7 @@ for_made line f c t b = give (Some (typed.For line f c t b.value)) b.state
 
 -- 6.8.5.3p1, 6.8.5p5: a `for` with a declaration: a block round the loop
 abbrev pub round_made : (line : ℕ) → List TypedStatement → Option TypedTree → Option TypedTree → After TypedStatement → Option (After TypedStatement)
-round_made line xs c t b = give (Some (typed.ForDeclaration line (declared_in xs) (statements_of xs) c t b.value)) b.state
+round_made line xs c t b = give (Some (round_of line xs c t b.value)) b.state
 
 -- 6.8.4.2: a `switch`
 abbrev pub switch_made : (line : ℕ) → TypedTree → After TypedStatement → Option (After TypedStatement)
@@ -62,6 +62,10 @@ if_automatic x = if automatic_alone x.state then give (Some (reached x.value)) x
 abbrev pub with_reached : List TypedStatement → After (List Reached) → Option (After (List TypedStatement))
 with_reached xs y = give (Some (xs ++ reached y.value)) y.state
 
+-- 6.8.2p1: a declaration behind other items
+abbrev pub declared_item : DeclarationTree → After (List TypedStatement) → Option (After (List TypedStatement))
+declared_item d x = and_then (block_declaration d x.state) (with_reached x.value)
+
 -- 6.8.2: a statement behind other items
 abbrev pub with_statement : List TypedStatement → After TypedStatement → Option (After (List TypedStatement))
 with_statement xs y = give (Some (xs ++ (y.value ∷ []))) y.state
@@ -87,6 +91,7 @@ body_made line x = give (Some (block_of line x.value.items)) x.state
 
 abbrev mutual
   -- 6.8: a statement, in a scope of its own where it is a block, a selection or an iteration (6.8.2p2, 6.8.4p3, 6.8.5p5)
+  -- worked: loops, for_declarations, jumps, switches, scopes, returns (proofs/WorkedUnits)
   pub typed_statement : Around → StatementTree → State → Option (After TypedStatement)
   typed_statement w (Block line items) s = leaving (and_then (typed_items w items (entered s)) (block_made line))
   typed_statement w (ExpressionStatement line a) s = and_then (optional valued a s) (expression_made line)
@@ -121,7 +126,7 @@ abbrev mutual
 
   -- 6.8.2p1: one of them
   pub typed_item : Around → Tree → After (List TypedStatement) → Option (After (List TypedStatement))
-  typed_item w (OfDeclaration d) x = and_then (block_declaration d x.state) (with_reached x.value)
+  typed_item w (OfDeclaration d) x = declared_item d x
   typed_item w (OfStatement b) x = and_then (typed_statement w b x.state) (with_statement x.value)
   typed_item w _ x = None
 

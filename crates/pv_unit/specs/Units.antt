@@ -128,6 +128,7 @@ abbrev pub IsTyped : List DeclarationTree → (before behind : UnitState) → Ty
 IsTyped ds before behind = typed_to ds (length ds) before ≡ Some behind
 
 -- 5.1.1.3p1, 6.9p5, 5.1.2.2.1p1: what a unit comes to: the first constraint that is broken, a name without definition, no `main`, its typing
+-- worked: unresolved_names, static_objects (proofs/WorkedUnits)
 abbrev pub UnitComes : Table → List DeclarationTree → Checked → Type 0
 UnitComes t ds (Constraint n) = Breaks ds (first t) n
 UnitComes t ds (Unresolved name) = (u : UnitState) × (IsTyped ds (first t) u × (unresolved u.state u.entities ≡ Some name))

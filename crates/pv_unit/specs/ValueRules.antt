@@ -2,24 +2,26 @@
 use Rattle.std.specs.Prelude.{ℕ, Bool, false, Option, Some, None, is_some, List, ◌++◌, length, set}
 use Rattle.pv_tree.specs.Syntax.{InitializerTree}
 use Rattle.pv_types.specs.Ty.{Ty}
+use Rattle.pv_types.specs.Layouts.{Part}
 use Rattle.pv_typed.specs.TypedUnits.{object_at}
 use Rattle.pv_typed.specs.Adding.{with_literal}
 use Rattle.pv_typed.specs.Addresses.{constant_of}
-use Rattle.pv_check.specs.State.{State}
+use Rattle.pv_check.specs.State.{State, and_then}
 use Rattle.pv_check.specs.State as check
 use Rattle.pv_check.specs.Typing.{types}
 use Rattle.pv_check.specs.Rows.{operand}
 use Rattle.pv_check.specs.Values.{assigned}
 use Rattle.pv_check.specs.Primary.{bytes_of_text}
+use Rattle.pv_unit.specs.Initializers.{Stores}
 use Rattle.pv_unit.specs.Rules.{Rules, After, StringLiteral}
-use Rattle.pv_unit.specs.Initialized.{Given, initialized_object}
+use Rattle.pv_unit.specs.Initialized.{Given, each_of, initialized_object, initialized as part_initialized}
 
--- an answer of the typing of expressions as one of initializers
+-- an answer of the typing of expressions (6.5) as one of initializers (6.7.9)
 abbrev pub lifted : {A : Type 0} → Option (check.After A) → Option (After State A)
 lifted None = None
 lifted (Some x) = Some (record { value = x.value; state = x.state })
 
--- an answer of the typing of initializers as one of expressions
+-- an answer of the typing of initializers (6.7.9) as one of expressions (6.5)
 abbrev pub lowered : {A : Type 0} → Option (After State A) → Option (check.After A)
 lowered None = None
 lowered (Some x) = Some (record { value = x.value; state = x.state })
@@ -29,6 +31,8 @@ abbrev pub filling_text : ℕ → List ℕ → State → After State StringLiter
 filling_text line bytes s = record { value = record { number = length s.unit.literals; characters = bytes }; state = record s { unit = with_literal s.unit (record { bytes = bytes; line = line }) false } }
 
 -- 6.7.9, 6.5.16.1p1, 6.6p7: as expressions are typed, over the state that they thread
+-- worked: constant_initializers (proofs/WorkedUnits); array_addresses, member_addresses, cast_addresses, text_addresses, incomplete_arrays, booleans, no_constants,
+-- integer_constants, unevaluated, sizes_and_casts, aggregates, case_constants (proofs/WorkedConstants)
 unfoldable pub values : Rules State
 values = record {
   operand = λ a s. lifted (operand (types a s));
@@ -38,10 +42,26 @@ values = record {
   completed = λ s. s.unit.completed;
 }
 
+-- 6.7.9: what an object of this type gets by its initializer
+abbrev pub object_stores : (lasting : Bool) → Ty → InitializerTree → State → Option (After State Given)
+object_stores lasting t i s = initialized_object values lasting t i s
+
+-- 6.7.9p11 to p17: the stores of an initializer into a part of an object
+abbrev pub part_stores : (lasting : Bool) → Part → InitializerTree → State → Option (After State Stores)
+part_stores lasting p i s = part_initialized values lasting p i s
+
+-- 6.7.9p16: those of a list in braces
+abbrev pub list_stores : (lasting : Bool) → Part → InitializerTree → State → Option (After State Stores)
+list_stores lasting p i s = each_of values lasting p i s
+
 -- 6.7.9: the initializer of an object of this type
 abbrev pub initialized : (lasting : Bool) → Ty → InitializerTree → State → Option (check.After Given)
-initialized lasting t i s = lowered (initialized_object values lasting t i s)
+initialized lasting t i s = lowered (object_stores lasting t i s)
 
 -- 6.7.9: the object has its type, and the stores of its initializer behind those that it has: none, since it is initialized once
 abbrev pub with_given : ℕ → Given → State → State
 with_given o x s = record s { unit = record s.unit { objects = set s.unit.objects o (record (object_at s.unit o) { t = x.t; braced = x.braced; inits = (object_at s.unit o).inits ++ x.stores }) } }
+
+-- 6.7.9: an object with what its initializer gives it
+abbrev pub object_given : (lasting : Bool) → ℕ → InitializerTree → State → Option State
+object_given lasting o i s = and_then (initialized lasting (object_at s.unit o).t i s) (λ f. Some (with_given o f.value f.state))

@@ -6,14 +6,13 @@ ghost use Rattle.pv_typed.specs.Children.{HasKinds, HasParts};
 ghost use Rattle.pv_typed.specs.Formed.{AreObjects, DeclaresIn};
 ghost use Rattle.pv_typed.specs.Nodes.{statement_form};
 ghost use Rattle.pv_typed.specs.Tables.{nodes, list_at, statement_at, IsStatement};
-ghost use Rattle.pv_typed.specs.TypedStatement.{Declare, ForDeclaration, statements_of};
+ghost use Rattle.pv_typed.specs.TypedStatement.{Declare};
 ghost use Rattle.pv_check.specs.Open.{state_of, IsOpen};
-ghost use Rattle.pv_check.specs.State.{and_then, entered, left};
-ghost use Rattle.pv_unit.specs.Blocks.{block_declaration};
+ghost use Rattle.pv_check.specs.State.{entered, left};
 ghost use Rattle.pv_unit.specs.Reaching.{AreReached, reached_of};
-ghost use Rattle.pv_unit.specs.Stated.{optional_list, statements_in, optional_in, items_if, IsOptional, AreStatements, StatementsOn, Moves, MovesOn};
-ghost use Rattle.pv_unit.specs.Statements.{reached, declared_by, declared_in, block_of};
-ghost use Rattle.pv_unit.specs.TypedStatements.{with_reached};
+ghost use Rattle.pv_unit.specs.Stated.{optional_list, statements_in, optional_in, items_if, IsOptional, AreStatements, StatementsOn, Moves, MovesOn, items_in};
+ghost use Rattle.pv_unit.specs.Statements.{reached, declared_by, declared_in, block_of, round_of};
+ghost use Rattle.pv_unit.specs.TypedStatements.{declared_item};
 
 use crate::blocks::{Reached, block_declaration};
 use pv_check::Scopes;
@@ -120,7 +119,7 @@ pub(crate) fn add_declaration(
     requires items { AreStatements into.old items.old.items }
     ensures there { IfOk result (StatementsOn into.new items.new.items) }
     ensures moves { IfOk result (MovesOn into.old s.old into.new s.new) }
-    ensures typed { IfOk result (λ b. items_if t.now.texts s.new into.new items.new.items b ≡ and_then (block_declaration (declaration_at (tables u.now).forest d) (state_of t.now.texts false s.old into.old)) (with_reached (statements_in into.old items.old.items))) }
+    ensures typed { IfOk result (λ b. items_if t.now.texts s.new into.new items.new.items b ≡ declared_item (declaration_at (tables u.now).forest d) (items_in t.now.texts s.old into.old items.old.items)) }
 {
     let mut all = Vec::new(s.allocator());
     let found = block_declaration(u, t, s, into, d, &mut all)?;
@@ -232,7 +231,7 @@ pub(crate) fn add_round(
     requires step { IsOptional into.old step }
     requires body { IsStatement into.old body }
     ensures there { IfOk result (IsStatement into.new) }
-    ensures tree { IfOk result (λ n. statement_at into.new n ≡ ForDeclaration line (declared_in (statements_in into.old items.now)) (statements_of (statements_in into.old items.now)) (optional_in into.old condition) (optional_in into.old step) (statement_at into.old body)) }
+    ensures tree { IfOk result (λ n. statement_at into.new n ≡ round_of line (statements_in into.old items.now) (optional_in into.old condition) (optional_in into.old step) (statement_at into.old body)) }
     ensures state { OnOk result ((texts : List (List ℕ)) → state_of texts false s.now into.new ≡ state_of texts false s.now into.old) }
     ensures moves { OnOk result (Moves into.old s.now into.new s.now) }
 {

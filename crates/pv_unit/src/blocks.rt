@@ -3,16 +3,17 @@ ghost use Rattle.std.specs.Prelude.{◌≡◌, ◌<◌, ◌++◌, [], ℕ, List,
 ghost use Rattle.pv_types.specs.Known.{tree};
 ghost use Rattle.pv_tree.specs.Syntax.{OfInitializer, Present};
 ghost use Rattle.pv_tree.specs.Rows.{tables};
-ghost use Rattle.pv_tree.specs.Tables.{Forest, Is, HasList, HasOptional, tree_at, trees_at, declaration_at, declarator_at, initializer_at, optional_at, is_declaration, is_declarator, is_initializer, is_specifier};
+ghost use Rattle.pv_tree.specs.Tables.{Forest, Is, HasList, HasOptional, trees_at, declaration_at, initializer_at, optional_at, is_declaration, is_declarator, is_initializer, is_specifier};
 ghost use Rattle.pv_types.specs.Layouts.{is_complete_in};
 ghost use Rattle.pv_typed.specs.Tables.{Stored, whole};
 ghost use Rattle.pv_typed.specs.TypedUnits.{object_at};
 ghost use Rattle.pv_check.specs.State.{env};
 ghost use Rattle.pv_check.specs.Open.{state_of, IsOpen, Goes};
-ghost use Rattle.pv_unit.specs.Blocks.{reached, is_present, block_storage, with_initializer, block_object, block_declarator, block_init_declarator, block_declarators, block_alone, block_declared, block_declaration};
+ghost use Rattle.pv_unit.specs.Blocks.{reached, is_present, block_storage, with_initializer, block_object, block_declarators, block_alone, block_declared, block_declaration};
 ghost use Rattle.pv_unit.specs.Declarations.{only_tag};
 ghost use Rattle.pv_unit.specs.DeclaredIn.{OpenOn, GoesOn, state_on};
 ghost use Rattle.pv_unit.specs.Reaching.{reached_of, reached_in, reached_if, AreReached, ReachedOn};
+ghost use Rattle.pv_unit.specs.AtNodes.{block_declarator_at, block_init_declarator_at};
 
 use crate::declarators::{bound, only_tag, specified, tag_alone, tags_alone, type_declared};
 use crate::giving::given;
@@ -171,7 +172,7 @@ fn block_declarator(
     ensures opened { IfOk result (OpenOn into.new s.new) }
     ensures goes { IfOk result (GoesOn into.old into.new) }
     ensures there { IfOk result (ReachedOn into.new all.new.items) }
-    ensures answer { IfOk result (λ b. reached_if t.now.texts s.new into.new all.new.items b ≡ block_declarator lasting (tree into.old.known base.0) (declarator_at (tables u.now).forest d) (optional_at (tables u.now).forest init) (reached_in t.now.texts s.old into.old all.old.items)) }
+    ensures answer { IfOk result (λ b. reached_if t.now.texts s.new into.new all.new.items b ≡ block_declarator_at (tables u.now) lasting (tree into.old.known base.0) d init (reached_in t.now.texts s.old into.old all.old.items)) }
 {
     let Some((name, line)) = declared_name(u, d) else {
         return Ok(false);
@@ -208,7 +209,7 @@ fn block_init_declarator(
     ensures opened { IfOk result (OpenOn into.new s.new) }
     ensures goes { IfOk result (GoesOn into.old into.new) }
     ensures there { IfOk result (ReachedOn into.new all.new.items) }
-    ensures answer { IfOk result (λ b. reached_if t.now.texts s.new into.new all.new.items b ≡ block_init_declarator lasting (tree into.old.known base.0) (tree_at (tables u.now).forest n) (reached_in t.now.texts s.old into.old all.old.items)) }
+    ensures answer { IfOk result (λ b. reached_if t.now.texts s.new into.new all.new.items b ≡ block_init_declarator_at (tables u.now) lasting (tree into.old.known base.0) n (reached_in t.now.texts s.old into.old all.old.items)) }
 {
     match u.decl(n) {
         Decl::InitDeclarator { declarator, init } => {

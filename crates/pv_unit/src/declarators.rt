@@ -7,9 +7,9 @@ ghost use Rattle.pv_types.specs.Known.{Known, tree};
 ghost use Rattle.pv_check.specs.Stepping.{step_in, steps_in};
 ghost use Rattle.pv_check.specs.Raw.{raw_innermost};
 ghost use Rattle.pv_check.specs.Open.{state_of, IsOpen, Goes};
-ghost use Rattle.pv_check.specs.Tags.{tag_alone, composite_named};
-ghost use Rattle.pv_check.specs.State.{and_then, find, innermost};
-ghost use Rattle.pv_unit.specs.Declarations.{is_unsized, has_unsized, is_listed, has_list, only_tag, specified_by, type_declared, bound_in};
+ghost use Rattle.pv_check.specs.Tags.{tag_alone};
+ghost use Rattle.pv_check.specs.State.{innermost};
+ghost use Rattle.pv_unit.specs.Declarations.{is_unsized, has_unsized, is_listed, has_list, only_tag, specified_by, type_declared, bound_in, composite_alone};
 ghost use Rattle.pv_unit.specs.DeclaredIn.{after_specified, after_declared, OpenOn, GoesOn, state_on};
 
 use pv_check::{
@@ -196,7 +196,7 @@ fn composite_alone(
     requires opened { IsOpen into.old s.old }
     ensures opened { OnOk result (IsOpen into.new s.new) }
     ensures goes { OnOk result (Goes into.old into.new) }
-    ensures answer { IfOk result (λ b. (texts : List (List ℕ)) → state_on texts s.new into.new b ≡ and_then (composite_named union name (find (innermost (state_of texts false s.old into.old).scopes).tags name) (state_of texts false s.old into.old)) (λ a. Some a.state)) }
+    ensures answer { IfOk result (λ b. (texts : List (List ℕ)) → state_on texts s.new into.new b ≡ composite_alone union name (state_of texts false s.old into.old)) }
 {
     let found = s.inner_tag(name);
     let r = composite_named(s, into, union, name, found)?;

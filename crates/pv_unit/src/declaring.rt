@@ -8,15 +8,15 @@ ghost use Rattle.pv_typed.specs.Tables.{whole};
 ghost use Rattle.pv_check.specs.Raw.{raw_innermost, meaning_if};
 ghost use Rattle.pv_check.specs.Open.{IsOpen, Goes, EntryKnown};
 ghost use Rattle.pv_check.specs.Sorts.{is_function};
-ghost use Rattle.pv_check.specs.State.{find, and_then};
+ghost use Rattle.pv_check.specs.State.{find};
 ghost use Rattle.pv_check.specs.Texts.{is_main};
 ghost use Rattle.pv_unit.specs.Library.{main_type};
 ghost use Rattle.pv_unit.specs.Entities.{unit_name, with_new_object, with_new_function, may_have, object_again, object_declared, function_again, function_found, function_declared};
-ghost use Rattle.pv_unit.specs.Declarations.{typedef_again, typedef_found, typedef_declared, typedef_entity, plain_entity, given_entity, variable_entity, entity_declared, is_extern, is_typedef, noted, object_noted};
+ghost use Rattle.pv_unit.specs.Declarations.{typedef_again, typedef_found, typedef_declared, typedef_entity, plain_entity, given_entity, variable_entity, entity_declared, is_extern, is_typedef, plain_object, plain_function};
 ghost use Rattle.pv_unit.specs.DeclaredIn.{OpenOn, GoesOn};
 ghost use Rattle.pv_unit.specs.declared.entities.Outer.{Outer};
 ghost use Rattle.pv_unit.specs.There.{AreThere};
-ghost use Rattle.pv_unit.specs.Outside.{unit_state, unit_if, number_if};
+ghost use Rattle.pv_unit.specs.Outside.{unit_state, unit_if, number_if, Texts};
 
 use crate::declarators::DeclaredType;
 use crate::entities::Outer;
@@ -131,7 +131,7 @@ fn function_again(
     ensures goes { OnOk result (Goes into.old into.new) }
     ensures number { IfOk result (λ r. IfSome r (λ f. f < length into.new.functions)) }
     ensures entities { OnOk result (AreThere into.new outer.new.entities) }
-    ensures answer { IfOk result (λ r. (texts : List (List ℕ)) → number_if texts s.new into.new outer.new r ≡ function_again (meaning_if into.old.known before) name line (tree into.old.known t.0) (unit_state texts s.old into.old outer.old)) }
+    ensures answer { IfOk result (λ r. (texts : Texts) → number_if texts s.new into.new outer.new r ≡ function_again (meaning_if into.old.known before) name line (tree into.old.known t.0) (unit_state texts s.old into.old outer.old)) }
 {
     match before {
         None => {
@@ -346,7 +346,7 @@ fn plain_object(
     ensures opened { OnOk result (IsOpen into.new s.new) }
     ensures goes { OnOk result (Goes into.old into.new) }
     ensures entities { OnOk result (AreThere into.new outer.new.entities) }
-    ensures answer { IfOk result (λ b. (texts : List (List ℕ)) → unit_if texts s.new into.new outer.new b ≡ and_then (object_declared name line (tree into.old.known d.t.0) (unit_state texts s.old into.old outer.old)) (λ a. Some (object_noted storage d.without_size a))) }
+    ensures answer { IfOk result (λ b. (texts : List (List ℕ)) → unit_if texts s.new into.new outer.new b ≡ plain_object storage (tree into.old.known d.t.0) (name, line) d.without_size (unit_state texts s.old into.old outer.old)) }
 {
     let Some(o) = object_declared(s, into, outer, name, line, d.t)? else {
         return Ok(false);
@@ -373,7 +373,7 @@ fn plain_function(
     ensures opened { OnOk result (IsOpen into.new s.new) }
     ensures goes { OnOk result (Goes into.old into.new) }
     ensures entities { OnOk result (AreThere into.new outer.new.entities) }
-    ensures answer { IfOk result (λ b. (texts : List (List ℕ)) → unit_if texts s.new into.new outer.new b ≡ and_then (function_declared name line (tree into.old.known d.t.0) (unit_state texts s.old into.old outer.old)) (λ a. Some (noted true a.0 false false d.without_size a.1))) }
+    ensures answer { IfOk result (λ b. (texts : List (List ℕ)) → unit_if texts s.new into.new outer.new b ≡ plain_function (tree into.old.known d.t.0) (name, line) d.without_size (unit_state texts s.old into.old outer.old)) }
 {
     let Some(f) = function_declared(s, into, outer, name, line, d.t)? else {
         return Ok(false);

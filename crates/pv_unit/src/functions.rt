@@ -8,16 +8,13 @@ ghost use Rattle.pv_typed.specs.Tables.{Stored, statement_at, IsStatement};
 ghost use Rattle.pv_check.specs.Declarators.{parameters_shown, ParameterKnown, SignatureKnown};
 ghost use Rattle.pv_check.specs.Open.{state_of, IsOpen, Goes, ScopeKnown};
 ghost use Rattle.pv_check.specs.Raw.{raw_of, scope_shown};
-ghost use Rattle.pv_check.specs.State.{and_then};
-ghost use Rattle.pv_unit.specs.Bodies.{ArePartsIf, IsBodyIf, head_made, left_items};
+ghost use Rattle.pv_unit.specs.Bodies.{ArePartsIf, IsBodyIf, head_made};
 ghost use Rattle.pv_unit.specs.DeclaredIn.{OpenOn};
-ghost use Rattle.pv_unit.specs.Definitions.{head};
-ghost use Rattle.pv_unit.specs.Functions.{body_of, within, with_parameter, with_parameters, with_body, counted_state, typed_body, typed_declaration, typed_external};
-ghost use Rattle.pv_unit.specs.Outside.{unit_state, unit_if};
+ghost use Rattle.pv_unit.specs.Functions.{within, with_parameter, with_parameters, with_body, counted_state, typed_body, typed_declaration, typed_external, with_definition};
+ghost use Rattle.pv_unit.specs.Outside.{unit_state, unit_if, Texts};
 ghost use Rattle.pv_unit.specs.Stated.{items_if, statements_in, AreStatements, Moves, MovesOn, StatementsOn};
-ghost use Rattle.pv_unit.specs.Statements.{block_of};
 ghost use Rattle.pv_unit.specs.There.{AreThere, ThereOn};
-ghost use Rattle.pv_unit.specs.TypedStatements.{typed_items};
+ghost use Rattle.pv_unit.specs.AtNodes.{body_items_at, definition_at};
 
 use crate::adding::{add_block, leave};
 use crate::entities::Outer;
@@ -156,7 +153,7 @@ fn scoped(
     requires empty { items.old.items ≡ [] }
     ensures there { IfOk result (StatementsOn into.new items.new.items) }
     ensures moves { IfOk result (MovesOn into.old s.old into.new s.new) }
-    ensures answer { IfOk result (λ b. items_if t.now.texts s.new into.new items.new.items b ≡ and_then (typed_items (body_of (tree into.old.known result_type.0)) (trees_at (tables u.now).forest list) (within (scope_shown into.old.known (raw_of scope)) (state_of t.now.texts false s.old into.old))) left_items) }
+    ensures answer { IfOk result (λ b. items_if t.now.texts s.new into.new items.new.items b ≡ body_items_at (tables u.now) into.old.known result_type scope list (state_of t.now.texts false s.old into.old)) }
 {
     let around = Place {
         result: result_type,
@@ -185,7 +182,7 @@ fn finish(
     requires parameters { Each (ParameterKnown into.old) parameters.now }
     requires items { AreStatements into.old items.now }
     ensures moves { OnOk result (Moves into.old s.now into.new s.now) }
-    ensures state { OnOk result ((texts : List (List ℕ)) → state_of texts false s.now into.new ≡ with_body f (block_of line (statements_in into.old items.now)) (with_parameters f (parameters_shown into.old.known parameters.now) (state_of texts false s.now into.old))) }
+    ensures state { OnOk result ((texts : Texts) → state_of texts false s.now into.new ≡ with_definition f (parameters_shown into.old.known parameters.now) line (statements_in into.old items.now) (state_of texts false s.now into.old)) }
 {
     let made = add_block(s, into, line, items)?;
     add_parameters(s, into, f, parameters)?;
@@ -295,7 +292,7 @@ fn definition(
     requires entities { AreThere into.old outer.old.entities }
     ensures opened { IfOk result (OpenOn into.new s.new) }
     ensures entities { IfOk result (ThereOn into.new outer.new.entities) }
-    ensures answer { IfOk result (λ b. unit_if t.now.texts s.new into.new outer.new b ≡ and_then (head (trees_at (tables u.now).forest x.specs) (declarator_at (tables u.now).forest x.declarator) (unit_state t.now.texts s.old into.old outer.old)) (typed_body (statement_of (tables u.now).forest x.block))) }
+    ensures answer { IfOk result (λ b. unit_if t.now.texts s.new into.new outer.new b ≡ definition_at (tables u.now) x (unit_state t.now.texts s.old into.old outer.old)) }
 {
     let Some(h) = head(u, t, s, into, outer, x.specs, x.declarator)? else {
         return Ok(false);

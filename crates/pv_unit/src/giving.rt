@@ -5,19 +5,17 @@ ghost use Rattle.pv_tree.specs.Rows.{tables};
 ghost use Rattle.pv_tree.specs.Tables.{Forest, Is, initializer_at, is_initializer};
 ghost use Rattle.pv_typed.specs.Formed.{AreKnown, Grown};
 ghost use Rattle.pv_typed.specs.Tables.{whole};
-ghost use Rattle.pv_typed.specs.TypedUnits.{object_at};
 ghost use Rattle.pv_check.specs.Growing.{AreSized};
 ghost use Rattle.pv_check.specs.Kept.{Kept};
 ghost use Rattle.pv_check.specs.Open.{state_of, IsOpen, Goes};
-ghost use Rattle.pv_check.specs.State.{and_then};
 ghost use Rattle.pv_unit.specs.DeclaredIn.{OpenOn, GoesOn, state_on};
 ghost use Rattle.pv_unit.specs.Giving.{IsGivenIf, given_if, given_in, with_stores};
-ghost use Rattle.pv_unit.specs.Initialized.{initialized_object, is_braces, is_braced, is_filling};
+ghost use Rattle.pv_unit.specs.Initialized.{is_braces, is_braced, is_filling};
 ghost use Rattle.pv_unit.specs.Parts.{can_be_initialized, sized};
 ghost use Rattle.pv_unit.specs.Shapes.{shape_in};
 ghost use Rattle.pv_unit.specs.Stores.{AreStores, FillsIf, stores_in};
 ghost use Rattle.pv_unit.specs.Subobjects.{part_of, HasSpace, IsPart};
-ghost use Rattle.pv_unit.specs.ValueRules.{initialized, values, with_given};
+ghost use Rattle.pv_unit.specs.ValueRules.{with_given, object_stores, object_given};
 
 use crate::initializers::{array_of, initializer};
 use crate::parts::Subobject;
@@ -128,7 +126,7 @@ fn initialized_object(
     requires opened { IsOpen into.old s.old }
     requires known { whole.0 < length into.old.known.terms }
     requires none { out.old.items ≡ [] }
-    ensures typed { IfOk result (λ r. given_if t.now.texts s.new into.new out.new.items r ≡ initialized_object values lasting (tree into.old.known whole.0) (initializer_at (tables u.now).forest i) (state_of t.now.texts false s.old into.old)) }
+    ensures typed { IfOk result (λ r. given_if t.now.texts s.new into.new out.new.items r ≡ object_stores lasting (tree into.old.known whole.0) (initializer_at (tables u.now).forest i) (state_of t.now.texts false s.old into.old)) }
     ensures fills { IfOk result (FillsIf into.old into.new s.new out.new.items) }
     ensures known { IfOk result (IsGivenIf into.new) }
 {
@@ -210,7 +208,7 @@ pub(crate) fn given(
     requires object { o < length into.old.objects }
     ensures opened { IfOk result (OpenOn into.new s.new) }
     ensures goes { IfOk result (GoesOn into.old into.new) }
-    ensures answer { IfOk result (λ b. state_on t.now.texts s.new into.new b ≡ and_then (initialized lasting (object_at (whole into.old) o).t (initializer_at (tables u.now).forest i) (state_of t.now.texts false s.old into.old)) (λ f. Some (with_given o f.value f.state))) }
+    ensures answer { IfOk result (λ b. state_on t.now.texts s.new into.new b ≡ object_given lasting o (initializer_at (tables u.now).forest i) (state_of t.now.texts false s.old into.old)) }
 {
     let whole = into.object(o).t;
     let mut stores = Vec::new(s.allocator());

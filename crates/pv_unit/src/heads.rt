@@ -9,14 +9,12 @@ ghost use Rattle.pv_check.specs.Raw.{Raw};
 ghost use Rattle.pv_check.specs.Stepping.{steps_in, AreSteps};
 ghost use Rattle.pv_check.specs.Open.{state_of, IsOpen, Goes};
 ghost use Rattle.pv_check.specs.Sorts.{is_void};
-ghost use Rattle.pv_check.specs.State.{and_then};
-ghost use Rattle.pv_unit.specs.Definitions.{may_return, is_definable, may_define, may_be_defined, defined_once, head_of, head_derived, head_signed, head_stepped, head_specified, head, may_head};
-ghost use Rattle.pv_unit.specs.Entities.{function_declared};
+ghost use Rattle.pv_unit.specs.Definitions.{may_return, is_definable, may_define, may_be_defined, defined_once, head_of, head_derived, head_signed, head_stepped, head_specified, head, may_head, head_function};
 ghost use Rattle.pv_check.specs.Declarators.{parameter_shown, parameters_shown, steps_shown, StepsKnown};
 ghost use Rattle.pv_unit.specs.DeclaredIn.{specified_in};
-ghost use Rattle.pv_unit.specs.Heads.{ParametersKnown, HeadKnown, head_if, whole_head_if};
+ghost use Rattle.pv_unit.specs.Heads.{ParametersKnown, HeadKnown, head_if, heading_if, HeadBy, HeadWith};
 ghost use Rattle.pv_unit.specs.There.{AreThere};
-ghost use Rattle.pv_unit.specs.Outside.{unit_state};
+ghost use Rattle.pv_unit.specs.Outside.{unit_state, Texts};
 
 use crate::declarators::specified;
 use crate::declaring::function_declared;
@@ -138,7 +136,7 @@ fn head_function(
     ensures goes { OnOk result (Goes into.old into.new) }
     ensures there { IfOk result (λ r. IfSome r (λ d. (d.function < length into.new.functions) × (d.result_type.0 < length into.new.known.terms))) }
     ensures entities { OnOk result (AreThere into.new outer.new.entities) }
-    ensures answer { IfOk result (λ r. (texts : List (List ℕ)) (g : WholeSignature) → head_if texts s.new into.new outer.new g r ≡ and_then (function_declared name line (tree into.old.known t.0) (unit_state texts s.old into.old outer.old)) (defined_once (tree into.old.known result_type.0) g)) }
+    ensures answer { IfOk result (HeadBy (head_function (tree into.old.known t.0) (tree into.old.known result_type.0) (name, line)) s.old into.old outer.old s.new into.new outer.new) }
 {
     let Some(f) = function_declared(s, into, outer, name, line, t)? else {
         return Ok(None);
@@ -165,7 +163,7 @@ fn head_of(
     ensures goes { OnOk result (Goes into.old into.new) }
     ensures there { IfOk result (λ r. IfSome r (λ d. (d.function < length into.new.functions) × (d.result_type.0 < length into.new.known.terms))) }
     ensures entities { OnOk result (AreThere into.new outer.new.entities) }
-    ensures answer { IfOk result (λ r. (texts : List (List ℕ)) (g : WholeSignature) → g.parameters ≡ parameters_shown into.old.known parameters.now → head_if texts s.new into.new outer.new g r ≡ head_of (tree into.old.known t.0) g (name, line) (unit_state texts s.old into.old outer.old)) }
+    ensures answer { IfOk result (HeadWith parameters.now (λ g. head_of (tree into.old.known t.0) g (name, line)) s.old into.old outer.old s.new into.new outer.new) }
 {
     match into.types().view(t) {
         Term::Function {
@@ -209,7 +207,7 @@ pub(crate) fn head_derived(
     ensures goes { OnOk result (Goes into.old into.new) }
     ensures there { IfOk result (λ r. IfSome r (λ d. (d.function < length into.new.functions) × (d.result_type.0 < length into.new.known.terms))) }
     ensures entities { OnOk result (AreThere into.new outer.new.entities) }
-    ensures answer { IfOk result (λ r. (texts : List (List ℕ)) (g : WholeSignature) → g.parameters ≡ parameters_shown into.old.known parameters.now → head_if texts s.new into.new outer.new g r ≡ head_derived (tree into.old.known base.0) (steps_in into.old.known steps.now) g (name, line) (unit_state texts s.old into.old outer.old)) }
+    ensures answer { IfOk result (HeadWith parameters.now (λ g. head_derived (tree into.old.known base.0) (steps_in into.old.known steps.now) g (name, line)) s.old into.old outer.old s.new into.new outer.new) }
 {
     let Some(t) = derived_in(into, true, steps, base)? else {
         return Ok(None);
@@ -244,7 +242,7 @@ fn head_stepped(
     ensures opened { IfOk result (λ r. IfSome r (λ h. IsOpen into.new s.new)) }
     ensures known { IfOk result (λ r. IfSome r (HeadKnown into.new)) }
     ensures entities { IfOk result (λ r. IfSome r (λ h. AreThere into.new outer.new.entities)) }
-    ensures answer { IfOk result (λ r. whole_head_if t.now.texts s.new into.new outer.new r ≡ head_stepped (tree into.old.known base.0) (declarator_at (tables u.now).forest d) (unit_state t.now.texts s.old into.old outer.old) (name, line)) }
+    ensures answer { IfOk result (λ r. heading_if t.now.texts s.new into.new outer.new r ≡ head_stepped (tree into.old.known base.0) (declarator_at (tables u.now).forest d) (unit_state t.now.texts s.old into.old outer.old) (name, line)) }
 {
     let Some(steps) = steps_of(s.allocator(), u, t, s, into, d, false)? else {
         return Ok(None);
@@ -270,7 +268,7 @@ fn head_signed(
     ensures opened { IfOk result (λ r. IfSome r (λ h. IsOpen into.new s.new)) }
     ensures known { IfOk result (λ r. IfSome r (HeadKnown into.new)) }
     ensures entities { IfOk result (λ r. IfSome r (λ h. AreThere into.new outer.new.entities)) }
-    ensures answer { IfOk result (λ r. (texts : List (List ℕ)) → whole_head_if texts s.new into.new outer.new r ≡ head_signed (tree into.old.known base.0) (steps_shown into.old.known steps) (name, line) (unit_state texts s.old into.old outer.old)) }
+    ensures answer { IfOk result (λ r. (texts : Texts) → heading_if texts s.new into.new outer.new r ≡ head_signed (tree into.old.known base.0) (steps_shown into.old.known steps) (name, line) (unit_state texts s.old into.old outer.old)) }
 {
     let Steps { list, signature } = steps;
     let Some(own) = signature else {
@@ -303,7 +301,7 @@ fn head_specified(
     ensures opened { IfOk result (λ r. IfSome r (λ h. IsOpen into.new s.new)) }
     ensures known { IfOk result (λ r. IfSome r (HeadKnown into.new)) }
     ensures entities { IfOk result (λ r. IfSome r (λ h. AreThere into.new outer.new.entities)) }
-    ensures answer { IfOk result (λ r. whole_head_if t.now.texts s.new into.new outer.new r ≡ head_specified (specified_in into.old.known x) (declarator_at (tables u.now).forest d) (unit_state t.now.texts s.old into.old outer.old)) }
+    ensures answer { IfOk result (λ r. heading_if t.now.texts s.new into.new outer.new r ≡ head_specified (specified_in into.old.known x) (declarator_at (tables u.now).forest d) (unit_state t.now.texts s.old into.old outer.old)) }
 {
     if !may_head(x.storage) {
         return Ok(None);
@@ -332,7 +330,7 @@ pub(crate) fn head(
     ensures opened { IfOk result (λ r. IfSome r (λ h. IsOpen into.new s.new)) }
     ensures known { IfOk result (λ r. IfSome r (HeadKnown into.new)) }
     ensures entities { IfOk result (λ r. IfSome r (λ h. AreThere into.new outer.new.entities)) }
-    ensures answer { IfOk result (λ r. whole_head_if t.now.texts s.new into.new outer.new r ≡ head (trees_at (tables u.now).forest specs) (declarator_at (tables u.now).forest d) (unit_state t.now.texts s.old into.old outer.old)) }
+    ensures answer { IfOk result (λ r. heading_if t.now.texts s.new into.new outer.new r ≡ head (trees_at (tables u.now).forest specs) (declarator_at (tables u.now).forest d) (unit_state t.now.texts s.old into.old outer.old)) }
 {
     let Some(x) = specified(u, t, s, into, specs)? else {
         return Ok(None);

@@ -4,7 +4,7 @@ ghost use Rattle.pv_types.specs.Known.{completions, env, tree};
 ghost use Rattle.pv_types.specs.Layouts.{layout_in, is_complete_in};
 ghost use Rattle.pv_types.specs.Ty.{ArrayOf};
 ghost use Rattle.pv_tree.specs.Rows.{tables};
-ghost use Rattle.pv_tree.specs.Tables.{expression_at as expression_of_node, initializer_at, is_expression, is_initializer, Is};
+ghost use Rattle.pv_tree.specs.Tables.{expression_at as expression_of, initializer_at, is_expression, is_initializer, Is};
 ghost use Rattle.pv_layout.specs.Places.{bare};
 ghost use Rattle.pv_typed.specs.Formed.{AreKnown};
 ghost use Rattle.pv_typed.specs.Tables.{expression_at, IsExpression};
@@ -15,11 +15,10 @@ ghost use Rattle.pv_check.specs.Primary.{bytes_of_text};
 ghost use Rattle.pv_check.specs.Raw.{Raw};
 ghost use Rattle.pv_check.specs.Values.{assigned};
 ghost use Rattle.pv_unit.specs.Initializers.{allowed, single, zero, zero_leaf, filled_type, filled_with};
-ghost use Rattle.pv_unit.specs.Initialized.{initialized, each_of};
 ghost use Rattle.pv_unit.specs.Parts.{is_text};
-ghost use Rattle.pv_unit.specs.Stores.{AreStores, FillsIf, behind, stores_if, stores_in};
+ghost use Rattle.pv_unit.specs.Stores.{AreStores, FillsIf, stores_if, stores_by};
 ghost use Rattle.pv_unit.specs.Subobjects.{part_of, HasSpaceIf, IsPart, IsInnerIf};
-ghost use Rattle.pv_unit.specs.ValueRules.{filling_text, values};
+ghost use Rattle.pv_unit.specs.ValueRules.{filling_text, values, part_stores, list_stores};
 
 use crate::parts::{LARGEST, Subobject, first_leaf, part_at};
 use crate::shapes::{Shape, shape_of};
@@ -73,7 +72,7 @@ fn single(
     requires opened { IsOpen into.old s.old }
     requires part { part.t.0 < length into.old.known.terms }
     requires stores { AreStores into.old out.old.items }
-    ensures typed { IfOk result (λ r. stores_if t.now.texts s.new into.new out.new.items r ≡ option_map (behind (stores_in into.old out.old.items)) (single values lasting (part_of into.old.known part) (expression_of_node (tables u.now).forest a) (state_of t.now.texts false s.old into.old))) }
+    ensures typed { IfOk result (λ r. stores_if t.now.texts s.new into.new out.new.items r ≡ stores_by (single values lasting (part_of into.old.known part) (expression_of (tables u.now).forest a)) t.now.texts s.old into.old out.old.items) }
     ensures fills { IfOk result (FillsIf into.old into.new s.new out.new.items) }
     ensures one { IfOk result (λ r. IfSome r (λ n. n ≡ 1)) }
 {
@@ -125,7 +124,7 @@ fn zero(
     requires opened { IsOpen into.old s.old }
     requires part { IsPart into.old.known part }
     requires stores { AreStores into.old out.old.items }
-    ensures typed { IfOk result (λ r. stores_if t.now.texts s.new into.new out.new.items r ≡ option_map (behind (stores_in into.old out.old.items)) (zero values lasting (part_of into.old.known part) (expression_of_node (tables u.now).forest a) (state_of t.now.texts false s.old into.old))) }
+    ensures typed { IfOk result (λ r. stores_if t.now.texts s.new into.new out.new.items r ≡ stores_by (zero values lasting (part_of into.old.known part) (expression_of (tables u.now).forest a)) t.now.texts s.old into.old out.old.items) }
     ensures fills { IfOk result (FillsIf into.old into.new s.new out.new.items) }
     ensures one { IfOk result (λ r. IfSome r (λ n. n ≡ 1)) }
 {
@@ -239,7 +238,7 @@ fn fill(
     requires part { part.t.0 < length into.old.known.terms }
     requires text { is_text (tree into.old.known part.t.0) ≡ true }
     requires stores { AreStores into.old out.old.items }
-    ensures typed { IfOk result (λ r. stores_if t.now.texts s.now into.new out.new.items r ≡ option_map (behind (stores_in into.old out.old.items)) (filled_with (part_of into.old.known part) line (values.string line first more (state_of t.now.texts false s.now into.old)))) }
+    ensures typed { IfOk result (λ r. stores_if t.now.texts s.now into.new out.new.items r ≡ stores_by (λ z. filled_with (part_of into.old.known part) line (values.string line first more z)) t.now.texts s.now into.old out.old.items) }
     ensures fills { IfOk result (FillsIf into.old into.new s.now out.new.items) }
     ensures room { IfOk result (HasSpaceIf (env into.new.known) (tree into.old.known part.t.0)) }
 {
@@ -272,7 +271,7 @@ pub(crate) fn initializer(
     requires opened { IsOpen into.old s.old }
     requires part { IsPart into.old.known part }
     requires stores { AreStores into.old out.old.items }
-    ensures typed { IfOk result (λ r. stores_if t.now.texts s.new into.new out.new.items r ≡ option_map (behind (stores_in into.old out.old.items)) (initialized values lasting (part_of into.old.known part) (initializer_at (tables u.now).forest i) (state_of t.now.texts false s.old into.old))) }
+    ensures typed { IfOk result (λ r. stores_if t.now.texts s.new into.new out.new.items r ≡ stores_by (part_stores lasting (part_of into.old.known part) (initializer_at (tables u.now).forest i)) t.now.texts s.old into.old out.old.items) }
     ensures fills { IfOk result (FillsIf into.old into.new s.new out.new.items) }
     ensures room { IfOk result (HasSpaceIf (env into.new.known) (tree into.old.known part.t.0)) }
 {
@@ -301,7 +300,7 @@ fn each(
     requires opened { IsOpen into.old s.old }
     requires part { IsPart into.old.known part }
     requires stores { AreStores into.old out.old.items }
-    ensures typed { IfOk result (λ r. stores_if t.now.texts s.new into.new out.new.items r ≡ option_map (behind (stores_in into.old out.old.items)) (each_of values lasting (part_of into.old.known part) (initializer_at (tables u.now).forest i) (state_of t.now.texts false s.old into.old))) }
+    ensures typed { IfOk result (λ r. stores_if t.now.texts s.new into.new out.new.items r ≡ stores_by (list_stores lasting (part_of into.old.known part) (initializer_at (tables u.now).forest i)) t.now.texts s.old into.old out.old.items) }
     ensures fills { IfOk result (FillsIf into.old into.new s.new out.new.items) }
     ensures room { IfOk result (HasSpaceIf (env into.new.known) (tree into.old.known part.t.0)) }
 {

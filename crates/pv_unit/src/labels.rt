@@ -6,8 +6,8 @@ ghost use Rattle.pv_typed.specs.Tables.{statement_at, expression_at, IsExpressio
 ghost use Rattle.pv_check.specs.Open.{state_of, IsOpen};
 ghost use Rattle.pv_check.specs.State.{and_then};
 ghost use Rattle.pv_unit.specs.Stated.{Moves, MovesOn};
-ghost use Rattle.pv_unit.specs.Statements.{valued, stands, case_label, typed_label, typed_labels, under};
-ghost use Rattle.pv_unit.specs.Switching.{label_of, labels_of, key_of, HasKeys, label_if, labels_if, behind_labels, with_label};
+ghost use Rattle.pv_unit.specs.Statements.{valued, stands, case_label, typed_label, under};
+ghost use Rattle.pv_unit.specs.Switching.{label_of, labels_of, key_of, HasKeys, label_if, labels_if, label_behind, labels_behind};
 
 use crate::adding::add as add_statement;
 use crate::rows::value_of;
@@ -198,7 +198,7 @@ fn further(
     requires same { HasKeys labels.old }
     ensures same { OnOk result (HasKeys labels.new) }
     ensures moves { IfOk result (MovesOn into.old s.old into.new s.new) }
-    ensures typed { IfOk result (λ b. labels_if t.now.texts s.new into.new labels.new.all.items b ≡ and_then (typed_label kind (statement_of (tables u.now).forest n) (state_of t.now.texts false s.old into.old)) (with_label (labels_of labels.old.all.items))) }
+    ensures typed { IfOk result (λ b. labels_if t.now.texts s.new into.new labels.new.all.items b ≡ label_behind kind (labels_of labels.old.all.items) (statement_of (tables u.now).forest n) (state_of t.now.texts false s.old into.old)) }
 {
     let Some(found) = one_label(u, t, s, into, kind, n)? else {
         return Ok(false);
@@ -222,7 +222,7 @@ pub(crate) fn all_labels(
     requires same { HasKeys labels.old }
     ensures same { OnOk result (HasKeys labels.new) }
     ensures moves { IfOk result (MovesOn into.old s.old into.new s.new) }
-    ensures typed { IfOk result (λ b. labels_if t.now.texts s.new into.new labels.new.all.items b ≡ behind_labels (labels_of labels.old.all.items) (typed_labels kind (labels_of labels.old.all.items) (trees_at (tables u.now).forest list) (state_of t.now.texts false s.old into.old))) }
+    ensures typed { IfOk result (λ b. labels_if t.now.texts s.new into.new labels.new.all.items b ≡ labels_behind kind (labels_of labels.old.all.items) (trees_at (tables u.now).forest list) (state_of t.now.texts false s.old into.old)) }
 {
     let nodes = u.list(list);
     for node in nodes {

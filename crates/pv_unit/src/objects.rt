@@ -4,13 +4,12 @@ ghost use Rattle.pv_types.specs.Known.{tree};
 ghost use Rattle.pv_types.specs.Compatible.{are_compatible};
 ghost use Rattle.pv_typed.specs.Formed.{AreKnown};
 ghost use Rattle.pv_typed.specs.Tables.{whole};
-ghost use Rattle.pv_typed.specs.TypedUnits.{object_at, function_at};
 ghost use Rattle.pv_check.specs.Composite.{composite};
 ghost use Rattle.pv_check.specs.Open.{state_of, after_nothing, IsOpen, Goes, EntryKnown};
 ghost use Rattle.pv_check.specs.Growing.{type_if};
 ghost use Rattle.pv_check.specs.Raw.{raw_innermost, meaning_if, with_name};
 ghost use Rattle.pv_check.specs.State.{find, innermost, TypedefOf, bind};
-ghost use Rattle.pv_unit.specs.Entities.{new_object, new_function, with_object_type, with_function_type};
+ghost use Rattle.pv_unit.specs.Entities.{new_object, new_function, with_object_type, with_function_type, object_composed, function_composed};
 
 use pv_check::{Entry, Scopes, composite};
 use pv_typed::{Function, Object, TypedUnit};
@@ -224,7 +223,7 @@ pub(crate) fn object_composed(
     requires known { t.0 < length into.old.known.terms }
     ensures opened { OnOk result (IsOpen into.new s.now) }
     ensures goes { OnOk result (Goes into.old into.new) }
-    ensures answer { IfOk result (λ b. (texts : List (List ℕ)) (u : Bool) → after_nothing texts u s.now into.new b ≡ (if are_compatible (object_at (whole into.old) o).t (tree into.old.known t.0) then Some (with_object_type o (composite (object_at (whole into.old) o).t (tree into.old.known t.0)) (state_of texts u s.now into.old)) else None)) }
+    ensures answer { IfOk result (λ b. (texts : List (List ℕ)) (u : Bool) → after_nothing texts u s.now into.new b ≡ object_composed o (tree into.old.known t.0) (state_of texts u s.now into.old)) }
 {
     let before = into.object(o);
     let Some(both) = composed(s, into, before.t, t)? else {
@@ -246,7 +245,7 @@ pub(crate) fn function_composed(
     requires known { t.0 < length into.old.known.terms }
     ensures opened { OnOk result (IsOpen into.new s.now) }
     ensures goes { OnOk result (Goes into.old into.new) }
-    ensures answer { IfOk result (λ b. (texts : List (List ℕ)) (u : Bool) → after_nothing texts u s.now into.new b ≡ (if are_compatible (function_at (whole into.old) f).t (tree into.old.known t.0) then Some (with_function_type f (composite (function_at (whole into.old) f).t (tree into.old.known t.0)) (state_of texts u s.now into.old)) else None)) }
+    ensures answer { IfOk result (λ b. (texts : List (List ℕ)) (u : Bool) → after_nothing texts u s.now into.new b ≡ function_composed f (tree into.old.known t.0) (state_of texts u s.now into.old)) }
 {
     let before = into.function(f);
     let Some(both) = composed(s, into, before.t, t)? else {

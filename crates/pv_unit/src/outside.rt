@@ -2,13 +2,14 @@
 ghost use Rattle.std.specs.Prelude.{◌≡◌, ◌<◌, IfOk, OnOk, None, length};
 ghost use Rattle.pv_types.specs.Known.{tree};
 ghost use Rattle.pv_tree.specs.Rows.{tables};
-ghost use Rattle.pv_tree.specs.Tables.{Is, HasList, HasOptional, tree_at, trees_at, declaration_at, declarator_at, initializer_at, optional_at, is_declaration, is_declarator, is_initializer, is_specifier};
+ghost use Rattle.pv_tree.specs.Tables.{Is, HasList, HasOptional, tree_at, trees_at, declaration_at, initializer_at, is_declaration, is_declarator, is_initializer, is_specifier};
 ghost use Rattle.pv_check.specs.Open.{IsOpen, Goes};
 ghost use Rattle.pv_check.specs.State.{and_then};
-ghost use Rattle.pv_unit.specs.Declarations.{object_initialized, given_entity, variable_entity, typedef_entity, entity_declared, file_declarator, file_init_declarator, file_declarators, only_tag, file_alone, file_declared, file_declaration};
-ghost use Rattle.pv_unit.specs.DeclaredIn.{OpenOn, GoesOn, specified_in};
+ghost use Rattle.pv_unit.specs.Declarations.{object_initialized, given_entity, file_init_declarator, file_declarators, only_tag, file_alone, file_declared, file_declaration};
+ghost use Rattle.pv_unit.specs.DeclaredIn.{OpenOn, GoesOn, specified_in, type_in};
 ghost use Rattle.pv_unit.specs.There.{AreThere, ThereOn};
 ghost use Rattle.pv_unit.specs.Outside.{unit_state, unit_if};
+ghost use Rattle.pv_unit.specs.AtNodes.{typedef_entity_at, variable_entity_at, entity_declared_at, file_declarator_at};
 
 use crate::declarators::{
     DeclaredType, bound, only_tag, specified, tag_alone, tags_alone, type_declared,
@@ -102,7 +103,7 @@ fn variable_entity(
     ensures opened { IfOk result (OpenOn into.new s.new) }
     ensures goes { IfOk result (GoesOn into.old into.new) }
     ensures entities { IfOk result (ThereOn into.new outer.new.entities) }
-    ensures answer { IfOk result (λ b. unit_if t.now.texts s.new into.new outer.new b ≡ variable_entity storage (tree into.old.known d.t.0) (name, line) d.without_size (optional_at (tables u.now).forest init) (unit_state t.now.texts s.old into.old outer.old)) }
+    ensures answer { IfOk result (λ b. unit_if t.now.texts s.new into.new outer.new b ≡ variable_entity_at (tables u.now) storage (type_in into.old.known d) (name, line) init (unit_state t.now.texts s.old into.old outer.old)) }
 {
     match init {
         None => {
@@ -134,7 +135,7 @@ fn typedef_entity(
     ensures opened { OnOk result (IsOpen into.new s.new) }
     ensures goes { OnOk result (Goes into.old into.new) }
     ensures entities { OnOk result (AreThere into.new outer.new.entities) }
-    ensures answer { IfOk result (λ b. unit_if t.now.texts s.new into.new outer.new b ≡ typedef_entity (tree into.old.known d.t.0) (name, line) d.without_size (optional_at (tables u.now).forest init) (unit_state t.now.texts s.old into.old outer.old)) }
+    ensures answer { IfOk result (λ b. unit_if t.now.texts s.new into.new outer.new b ≡ typedef_entity_at (tables u.now) (type_in into.old.known d) (name, line) init (unit_state t.now.texts s.old into.old outer.old)) }
 {
     match init {
         None => {
@@ -165,7 +166,7 @@ fn entity_declared(
     ensures opened { IfOk result (OpenOn into.new s.new) }
     ensures goes { IfOk result (GoesOn into.old into.new) }
     ensures entities { IfOk result (ThereOn into.new outer.new.entities) }
-    ensures answer { IfOk result (λ b. unit_if t.now.texts s.new into.new outer.new b ≡ entity_declared storage (tree into.old.known d.t.0) (name, line) d.without_size (optional_at (tables u.now).forest init) (unit_state t.now.texts s.old into.old outer.old)) }
+    ensures answer { IfOk result (λ b. unit_if t.now.texts s.new into.new outer.new b ≡ entity_declared_at (tables u.now) storage (type_in into.old.known d) (name, line) init (unit_state t.now.texts s.old into.old outer.old)) }
 {
     if is_typedef(storage) {
         let b = typedef_entity(t, s, into, outer, u, name, line, d, init)?;
@@ -195,7 +196,7 @@ fn file_declarator(
     ensures opened { IfOk result (OpenOn into.new s.new) }
     ensures goes { IfOk result (GoesOn into.old into.new) }
     ensures entities { IfOk result (ThereOn into.new outer.new.entities) }
-    ensures answer { IfOk result (λ b. unit_if t.now.texts s.new into.new outer.new b ≡ file_declarator (specified_in into.old.known x) (declarator_at (tables u.now).forest d) (optional_at (tables u.now).forest init) (unit_state t.now.texts s.old into.old outer.old)) }
+    ensures answer { IfOk result (λ b. unit_if t.now.texts s.new into.new outer.new b ≡ file_declarator_at (tables u.now) (specified_in into.old.known x) d init (unit_state t.now.texts s.old into.old outer.old)) }
 {
     let Some((name, line)) = declared_name(u, d) else {
         return Ok(false);

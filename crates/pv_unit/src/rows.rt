@@ -11,7 +11,7 @@ ghost use Rattle.pv_check.specs.Open.{state_of, IsOpen};
 ghost use Rattle.pv_check.specs.Sorts.{is_scalar, kind_of};
 ghost use Rattle.pv_check.specs.State.{and_then, give};
 ghost use Rattle.pv_check.specs.Values.{assigned, promoted_value};
-ghost use Rattle.pv_unit.specs.Stated.{stated_if, optional_if, IsOptional, Moves};
+ghost use Rattle.pv_unit.specs.Stated.{stated_if, optional_if, IsOptional, Moves, value_in};
 ghost use Rattle.pv_unit.specs.Statements.{valued, condition, optional, nothing_returned, value_returned, switched, switched_by};
 ghost use Rattle.pv_unit.specs.Switching.{switched_if, IsLabelledIf, IsBlockIf};
 
@@ -174,7 +174,7 @@ fn converted_returned(
     requires node { IsExpression into.old value }
     ensures there { IfOk result (λ r. IfSome r (IsStatement into.new)) }
     ensures moves { IfOk result (λ r. IfSome r (λ n. Moves into.old s.now into.new s.now)) }
-    ensures typed { IfOk result (λ r. (texts : List (List ℕ)) → stated_if texts s.now into.new r ≡ value_returned (tree into.old.known returned.0) line (record { value = expression_at into.old value; state = state_of texts false s.now into.old })) }
+    ensures typed { IfOk result (λ r. (texts : List (List ℕ)) → stated_if texts s.now into.new r ≡ value_returned (tree into.old.known returned.0) line (value_in texts s.now into.old value)) }
 {
     if is_void(into.types(), returned) {
         return Ok(None);

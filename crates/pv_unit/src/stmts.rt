@@ -1,15 +1,16 @@
 //! Typing statements (C17 6.8).
 ghost use Rattle.std.specs.Prelude.{false, ◌≡◌, [], ◌<◌, true, length, IfOk, IfSome, OnOk};
 ghost use Rattle.pv_tree.specs.Rows.{tables};
-ghost use Rattle.pv_tree.specs.Tables.{expression_at as expression_of, statement_at as statement_of, declaration_at, tree_at, trees_at, optional_at, is_expression, is_statement, is_declaration, is_item, Is, HasList, Has, HasOptional};
-ghost use Rattle.pv_tree.specs.Syntax.{Block, ForDeclaration, If, IfElse, While, DoWhile, For, Switch, Labelled};
+ghost use Rattle.pv_tree.specs.Tables.{expression_at as expression_of, statement_at as statement_of, tree_at, trees_at, is_expression, is_statement, is_declaration, is_item, Is, HasList, Has, HasOptional};
+ghost use Rattle.pv_tree.specs.Syntax.{Block, If, IfElse, While, DoWhile, Switch, Labelled};
 ghost use Rattle.pv_tree.specs.Lines.{tree_line};
 ghost use Rattle.pv_typed.specs.Tables.{statement_at, IsStatement};
 ghost use Rattle.pv_check.specs.Open.{state_of, IsOpen};
-ghost use Rattle.pv_unit.specs.TypedStatements.{typed_statement, typed_items, typed_item, switch_items, switch_item, switch_block};
-ghost use Rattle.pv_unit.specs.Scoped.{inner, scoped, has_scope, switch_body, labelled_statement};
+ghost use Rattle.pv_unit.specs.TypedStatements.{typed_statement, typed_items, typed_item, switch_block};
+ghost use Rattle.pv_unit.specs.Scoped.{inner, scoped, has_scope, switch_body};
 ghost use Rattle.pv_unit.specs.Stated.{around_in, stated_if, items_in, items_if, AreStatements, StatementsOn, Moves, MovesOn};
 ghost use Rattle.pv_unit.specs.Switching.{labels_of, HasKeys, body_in, body_if, marked_if};
+ghost use Rattle.pv_unit.specs.AtNodes.{IsFor, IsForDeclaration, labelled_statement_at, switch_item_at, switch_items_at};
 
 use crate::adding::{add, add_block, add_declaration, add_round, enter, leave};
 use crate::labels::{Labels, all_labels, no_labels, under};
@@ -220,7 +221,7 @@ fn for_statement(
     requires a { HasOptional (tables u.now).forest (length (tables u.now).forest.trees) is_expression a }
     requires step { HasOptional (tables u.now).forest (length (tables u.now).forest.trees) is_expression step }
     requires body { Has (tables u.now).forest n.0 is_statement body }
-    requires is { statement_of (tables u.now).forest n ≡ For (tree_line (tree_at (tables u.now).forest n)) (optional_at (tables u.now).forest first) (optional_at (tables u.now).forest a) (optional_at (tables u.now).forest step) (statement_of (tables u.now).forest body) }
+    requires is { IsFor (tables u.now).forest n first a step body }
     requires opened { IsOpen into.old s.old }
     requires known { w.result.0 < length into.old.known.terms }
     ensures there { IfOk result (λ r. IfSome r (IsStatement into.new)) }
@@ -273,7 +274,7 @@ fn for_declaration(
     requires a { HasOptional (tables u.now).forest (length (tables u.now).forest.trees) is_expression a }
     requires step { HasOptional (tables u.now).forest (length (tables u.now).forest.trees) is_expression step }
     requires body { Has (tables u.now).forest n.0 is_statement body }
-    requires is { statement_of (tables u.now).forest n ≡ ForDeclaration (tree_line (tree_at (tables u.now).forest n)) (declaration_at (tables u.now).forest declaration) (optional_at (tables u.now).forest a) (optional_at (tables u.now).forest step) (statement_of (tables u.now).forest body) }
+    requires is { IsForDeclaration (tables u.now).forest n declaration a step body }
     requires opened { IsOpen into.old s.old }
     requires known { w.result.0 < length into.old.known.terms }
     ensures there { IfOk result (λ r. IfSome r (IsStatement into.new)) }
@@ -414,7 +415,7 @@ fn under_labels(
     ensures there { IfOk result (λ r. IfSome r (IsStatement into.new)) }
     ensures same { OnOk result (HasKeys labels.new) }
     ensures moves { IfOk result (λ r. IfSome r (λ n. Moves into.old s.old into.new s.new)) }
-    ensures typed { IfOk result (λ r. marked_if t.now.texts s.new into.new labels.new.all.items r ≡ labelled_statement (around_in into.old.known w) kind (statement_of (tables u.now).forest n) (labels_of labels.old.all.items) (state_of t.now.texts false s.old into.old)) }
+    ensures typed { IfOk result (λ r. marked_if t.now.texts s.new into.new labels.new.all.items r ≡ labelled_statement_at (tables u.now) into.old w kind n (labels_of labels.old.all.items) (state_of t.now.texts false s.old into.old)) }
 {
     let before = labels.all.len();
     if !all_labels(u, t, s, into, kind, list, labels)? {
@@ -446,7 +447,7 @@ fn labelled(
     ensures there { IfOk result (λ r. IfSome r (IsStatement into.new)) }
     ensures same { OnOk result (HasKeys labels.new) }
     ensures moves { IfOk result (λ r. IfSome r (λ n. Moves into.old s.old into.new s.new)) }
-    ensures typed { IfOk result (λ r. marked_if t.now.texts s.new into.new labels.new.all.items r ≡ labelled_statement (around_in into.old.known w) kind (statement_of (tables u.now).forest n) (labels_of labels.old.all.items) (state_of t.now.texts false s.old into.old)) }
+    ensures typed { IfOk result (λ r. marked_if t.now.texts s.new into.new labels.new.all.items r ≡ labelled_statement_at (tables u.now) into.old w kind n (labels_of labels.old.all.items) (state_of t.now.texts false s.old into.old)) }
 {
     match labelled_parts(u, n) {
         Some((list, body)) => under_labels(u, t, s, into, w, kind, n, list, body, labels),
@@ -478,7 +479,7 @@ fn switch_item(
     ensures there { IfOk result (StatementsOn into.new items.new.items) }
     ensures moves { IfOk result (MovesOn into.old s.old into.new s.new) }
     ensures same { OnOk result (HasKeys labels.new) }
-    ensures typed { IfOk result (λ b. body_if t.now.texts s.new into.new items.new.items labels.new.all.items b ≡ switch_item (around_in into.old.known w) kind (tree_at (tables u.now).forest n) (body_in t.now.texts s.old into.old items.old.items labels.old.all.items)) }
+    ensures typed { IfOk result (λ b. body_if t.now.texts s.new into.new items.new.items labels.new.all.items b ≡ switch_item_at (tables u.now) into.old w kind n (body_in t.now.texts s.old into.old items.old.items labels.old.all.items)) }
 {
     if u.is_declaration(n) {
         let b = add_declaration(u, t, s, into, n, items)?;
@@ -514,7 +515,7 @@ fn switch_items(
     requires same { HasKeys labels.old }
     ensures there { IfOk result (StatementsOn into.new items.new.items) }
     ensures moves { IfOk result (MovesOn into.old s.old into.new s.new) }
-    ensures typed { IfOk result (λ b. body_if t.now.texts s.new into.new items.new.items labels.new.all.items b ≡ switch_items (around_in into.old.known w) kind (trees_at (tables u.now).forest list) (state_of t.now.texts false s.old into.old)) }
+    ensures typed { IfOk result (λ b. body_if t.now.texts s.new into.new items.new.items labels.new.all.items b ≡ switch_items_at (tables u.now) into.old w kind list (state_of t.now.texts false s.old into.old)) }
 {
     let nodes = u.list(list);
     for node in nodes {
