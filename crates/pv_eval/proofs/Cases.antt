@@ -39,9 +39,6 @@ use Rattle.pv_eval.specs.Ahead.{ahead, zip, stack, Kept, means, Led, first_opera
 use Rattle.pv_eval.specs.Operations.{Tests, act}
 use Rattle.std.specs.Prelude.{IfSome, IfOk, ◌≤◌}
 
-pub some-same : {A : Type 0} (x y : A) → Some x ≡ Some y → x ≡ y
-some-same x y e = cc
-
 -- a node with operands begins with the first one
 module _ (b : Setting) (call : Calling) (t : Ty) (line : ℕ) (ls : List (List NodeId)) (ts : List Tree) (fs : List Access) (s : State) where
   abbrev Begins : Typed → NodeId → Type 0

@@ -9,15 +9,14 @@ use Rattle.std.proofs.lemmas.List.Sums.{AllPass-from_list_all}
 use Rattle.pv_num.specs.declared.kinds.IntKind.{IntKind}
 use Rattle.pv_num.specs.declared.operators.BinOp.{BinOp}
 use Rattle.pv_num.specs.declared.operators.BinOp.TheVariants as op
-use Rattle.pv_num.specs.Kinds.{Fits, fits_of, least, greatest, width}
-use Rattle.pv_num.specs.Arithmetic.{IsPromoted, IsOperand}
+use Rattle.pv_num.specs.Kinds.{Fits, fits_of, least, greatest}
+use Rattle.pv_num.specs.Arithmetic.{IsOperand}
 use Rattle.pv_prov.specs.declared.names.Prov.{Prov}
 use Rattle.pv_prov.specs.declared.names.Prov.TheVariants.{Empty, Inst, Pair}
 use Rattle.pv_inst.specs.declared.values.Instance.{Instance}
 use Rattle.pv_inst.specs.declared.values.Info.{Info}
 use Rattle.pv_inst.specs.Table.{Table, IsMadeIn, instance_at}
 use Rattle.pv_inst.specs.Infos.{info_of}
-use Rattle.pv_inst.specs.Ending.{IsLive}
 use Rattle.pv_shadow.specs.declared.byte.Byte.{Byte}
 use Rattle.pv_object.specs.declared.values.Scalar.{Scalar}
 use Rattle.pv_object.specs.declared.values.Scalar.TheVariants as scalar
@@ -32,7 +31,7 @@ use Rattle.pv_world.specs.Worths.{int_of, IsSmall}
 use Rattle.pv_world.specs.Objects.{HasRoom}
 use Rattle.pv_world.specs.Coming.{IsMadeWorth}
 use Rattle.pv_world.specs.Accesses.{HasPart, HasSizeOf, IsStored}
-use Rattle.pv_eval.specs.Suiting.{knows, knows_value, knows_bytes, knows_worth, knows_arguments, is_small, is_promoted, is_count, is_operand, is_of, is_stored, has_part, is_live, live_in, has_room, room_in}
+use Rattle.pv_eval.specs.Suiting.{knows, knows_value, knows_bytes, knows_worth, knows_arguments, is_small, is_count, is_operand, is_of, is_stored, has_part, live_in, has_room, room_in}
 
 pub left_of : (a b : Bool) → (a && b) ≡ true → a ≡ true
 left_of true b e = refl
@@ -128,9 +127,6 @@ operand_is op.Ge k n e = fits_is k n e
 operand_is op.Eq k n e = fits_is k n e
 operand_is op.Ne k n e = fits_is k n e
 
-pub promoted_is : (k : IntKind) → is_promoted k ≡ true → IsPromoted k
-promoted_is k e = leb-true 32 (width k) e
-
 -- stored values
 pub of_is : (t : Scalar) (v : Value) → is_of t v ≡ true → IsOf t v
 of_is (scalar.Int k) (IntValue n) e = fits_is k n e
@@ -161,13 +157,6 @@ part_is Nothing offset size e = absurd cc
 part_is (ScalarWorth v) offset size e = absurd cc
 
 -- instances
-live_is : (o : Option Instance) → live_in o ≡ true → IsSomeAnd o (λ (x : Instance). IsTrue x.live)
-live_is None e = absurd cc
-live_is (Some x) e = e
-
-pub is_live_is : (w : World) (i : ℕ) → is_live w i ≡ true → IsLive w.memory.table.instances i
-is_live_is w i e = live_is (instance_at w.memory.table.instances i) e
-
 told_by : (c : Bool) (y : Info) → is_some (cond c (Some y) None) ≡ c
 told_by true y = refl
 told_by false y = refl

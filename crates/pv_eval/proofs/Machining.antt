@@ -1,50 +1,28 @@
 -- What is ahead after a step, as the machine tells it.
-use Rattle.std.proofs.Common.{◌≡◌, List, [], ◌∷◌, refl, sym, ap, ◌∙◌, subst, arith}
-use Rattle.std.specs.Prelude.{ℤ, true, false, map, length, Result, Ok, Err, IfOk, slice_index_or, slice_set}
+use Rattle.std.proofs.Common.{◌≡◌, List, [], ◌∷◌, refl, sym, ap, subst, arith}
+use Rattle.std.specs.Prelude.{ℤ, true, false, length, Result, Ok, Err, IfOk, slice_index_or, slice_set}
 use Rattle.pv_typed.specs.Tables.{Stored}
-use Rattle.pv_seq.specs.Sequencing.{Open, settled, top, below}
+use Rattle.pv_seq.specs.Sequencing.{Open, below}
 use Rattle.pv_world.specs.Worlds.{Worth}
-use Rattle.pv_world.specs.Coming.{worth_of}
 use Rattle.pv_world.specs.declared.got.Got.{Got}
-use Rattle.pv_eval.specs.States.{Setting, State, Res, Gives, then_do}
-use Rattle.pv_eval.specs.Sequenced.{Given, done}
+use Rattle.pv_eval.specs.States.{Setting, State, Res}
+use Rattle.pv_eval.specs.Sequenced.{Given}
 use Rattle.pv_eval.specs.Steps.{Calling}
-use Rattle.pv_eval.specs.Stack.{rest}
 use Rattle.pv_eval.specs.Frames.{after}
 use Rattle.pv_eval.specs.declared.failure.Failure.{Failure}
 use Rattle.pv_eval.specs.declared.failure.Failure.TheVariants as failure
 use Rattle.pv_eval.specs.declared.frames.Now.{Now}
-use Rattle.pv_eval.specs.declared.frames.Now.TheVariants as now
 use Rattle.pv_eval.specs.declared.frames.Step.{Step}
-use Rattle.pv_eval.specs.Ahead.{ahead, stack, Kept, NowFits}
-use Rattle.pv_eval.specs.Machines.{Started, left_of, is_going, is_due, answered_of, value_at, arguments_at, line_at, is_value, is_due_at, is_call_at}
-use Rattle.pv_eval.specs.MachineSteps.{Stepped, WentTo, step_at}
+use Rattle.pv_eval.specs.Ahead.{ahead, Kept}
+use Rattle.pv_eval.specs.Machines.{Started, left_of, is_going, is_due, is_value, is_due_at}
+use Rattle.pv_eval.specs.MachineSteps.{Stepped}
 use Rattle.pv_eval.specs.Moments.{Moment, Always, Came, Needed, state_of}
-use Rattle.pv_eval.proofs.Rest.{then-then}
 
 module _ (b : Setting) (call : Calling) (u : Stored) (want : Res Given) (s : State) (e : Started) (es : List Started) where
-  -- it goes on, has ended, or a call is handed up
-  pub stepped-on : (p : Now) → e.place ≡ p → (is_value p ≡ true → e.frames ≡ []) → want ≡ ahead b call u e.frames e.opens p s → Stepped b call u want (Ok (step_at p)) (e ∷ es) s
-  stepped-on (now.Due n) at ended k = k ∙ ap (λ q. ahead b call u e.frames e.opens q s) (sym at)
-  stepped-on (now.Value v) at ended k =
-      k
-      ∙ ap (λ fs. then_do (done (top e.opens) (worth_of v) s) (rest (after b call u) (stack fs (below e.opens)))) (ended refl)
-      ∙ ap (λ q. Gives (record { value = value_at q; all = (top e.opens).all; loose = (top e.opens).loose }) s) (sym at)
-  stepped-on (now.Asked f args line) at ended k =
-      k
-      ∙ sym (then-then (call f (map worth_of args.items) line s) (done (settled (top e.opens))) (rest (after b call u) (stack e.frames (below e.opens))))
-      ∙ ap (λ q. then_do (call f (arguments_at q) (line_at q) s) (answered_of b call u (e ∷ es))) (sym at)
-
   -- the run ends
   pub stepped-out : (x : Failure) (js : List Open) → Kept b call u want (Err x) e.frames js s → Stepped b call u want (Err x) (e ∷ es) s
   stepped-out failure.NoMemory js h = tt
   stepped-out (failure.Stop y line) js h = h
-
-module _ (u : Stored) (e : Started) (es : List Started) where
-  pub went-at : (p : Now) → e.place ≡ p → NowFits u p e.opens → WentTo u (step_at p) (e ∷ es)
-  went-at (now.Due n) at fits = ap is_due_at at
-  went-at (now.Value v) at fits = ap is_value at
-  went-at (now.Asked f args line) at fits = (ap is_call_at at, fits)
 
 -- what goes on has not ended
 pub never-ended : (r : Result Now Failure) (P : Type 0) → IfOk r (λ p. is_value p ≡ false) → IfOk r (λ p. is_value p ≡ true → P)

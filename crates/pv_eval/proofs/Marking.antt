@@ -5,7 +5,7 @@ use Rattle.pv_watch.specs.declared.event.What.{What}
 use Rattle.pv_world.specs.declared.got.Cause.{Cause}
 use Rattle.pv_world.specs.declared.got.Failure.TheVariants as gone
 use Rattle.pv_world.specs.Worlds.{Worth, World, Wrong}
-use Rattle.pv_world.specs.Telling.{quiet, telling, fault_told, fault_of, verdict_of}
+use Rattle.pv_world.specs.Telling.{telling, fault_told, fault_of, verdict_of}
 use Rattle.pv_world.specs.Doing.{Done, Answers, Fails, Breaks}
 use Rattle.pv_world.specs.Coming.{Seen, Gave, Ended, Printed, printing, seen, Did, worth_of, wrong_for}
 use Rattle.pv_eval.specs.declared.failure.Failure.TheVariants as failure
@@ -53,9 +53,3 @@ module _ (b : Setting) (line : ℕ) (old new : Moment) (w : World) (op : World �
       acted_seen b line (op w) (state_of m out es)
       ∙ ap (λ x. doing_seen b line [] x (state_of m out es)) did
       ∙ ap (Stops (Stopped (wrong_for z) line)) (state_marked m old.world told out es h ∙ ap (λ n. state_of n out es) (sym is))
-
--- an operation that tells nothing
-pub noted_quiet : (m : Moment) (out : List ℕ) (es : List Marked) → noted m.world quiet (state_of m out es) ≡ state_of m out es
-noted_quiet m out es =
-    ap (λ o. record { world = m.world; output = o; events = (es ++ m.waiting) ++ []; taken = m.taken }) (append-nil (out ++ m.printed))
-    ∙ ap (λ e. record { world = m.world; output = out ++ m.printed; events = e; taken = m.taken }) (append-nil (es ++ m.waiting))

@@ -108,11 +108,3 @@ lost_by false n e h = e
 
 pub lost : (n : ℕ) → up_to n ≡ None → nat_le n (2 ^ 32) ≡ false
 lost n h = lost_by (nat_le n (2 ^ 32)) n refl h
-
--- whether a size is kept
-kept_test_by : (c : Bool) (n : ℕ) → is_some (if c then Some n else None) ≡ c
-kept_test_by true n = refl
-kept_test_by false n = refl
-
-pub kept_test : (n : ℕ) → is_some (up_to n) ≡ nat_le n (2 ^ 32)
-kept_test n = kept_test_by (nat_le n (2 ^ 32)) n

@@ -1,5 +1,5 @@
 -- What an operation prints comes behind all that was printed, and behind its events.
-use Rattle.std.proofs.Common.{◌≡◌, ℕ, ◌+◌, Bool, true, false, List, [], ◌++◌, length, Some, None, refl, sym, ap, ◌∙◌, subst, arith, append-nil, append_assoc, length-append}
+use Rattle.std.proofs.Common.{◌≡◌, ℕ, ◌+◌, Bool, true, false, List, [], ◌++◌, length, Some, None, refl, sym, ap, ◌∙◌, subst, arith, append-nil}
 use Rattle.std.specs.Prelude.{Option, Result, Ok, Err, nat_lt, slice_get, if◌then◌else◌}
 use Rattle.std.proofs.lemmas.Bool.{le-ltb}
 use Rattle.pv_typed.specs.Tables.{Stored}
@@ -12,7 +12,6 @@ use Rattle.pv_world.specs.Objects.{without_first}
 use Rattle.pv_world.specs.Telling.{Told, quiet, telling, fault_told, fault_of, verdict_of}
 use Rattle.pv_world.specs.Doing.{Done, Answers, Fails, Breaks}
 use Rattle.pv_eval.specs.declared.failure.Failure.{Failure}
-use Rattle.pv_eval.specs.declared.failure.Failure.TheVariants as failure
 use Rattle.pv_eval.specs.declared.marked.Marked.{Marked}
 use Rattle.pv_eval.specs.States.{Setting, State, Stopped, Res, Gives, Stops}
 use Rattle.pv_eval.specs.Acting.{stamped, noted, sided, settling, by_side, answered, acted, pair_count}
@@ -42,28 +41,7 @@ acted_text b line (Answers v w t) s = answered_text b.sides v line w t s
 acted_text b line (Fails y p w t) s = ap (Stops (Stopped y line)) (noted_text w (record t { events = t.events ++ fault_told s.world.memory y p }) s)
 acted_text b line (Breaks y p w t) s = ap (Stops (Stopped y line)) (noted_text w (record t { events = t.events ++ fault_of p (verdict_of y) }) s)
 
--- what came of an operation, with a text behind it
-with_came : (text : List ℕ) (came : Result Got Failure) (r : Res Worth) (s : State) → Came r came s → Came (with_text text r) came (written text s)
-with_came text (Ok v) r s h = ap (with_text text) h
-with_came text (Err (failure.Stop y line)) r s h = ap (with_text text) h
-with_came text (Err failure.NoMemory) r s h = tt
-
-pub came_printed : (text : List ℕ) (came : Result Got Failure) (r : Res Worth) (old new : Moment) (out : List ℕ) (es : List Marked) → new ≡ record old { printed = old.printed ++ text; total = old.total + length text }
-    → Came r came (state_of old out es) → Came (with_text text r) came (state_of new out es)
-came_printed text came r old new out es is h =
-    let printed : Moment = record old { printed = old.printed ++ text; total = old.total + length text } in
-    subst (λ (m : Moment). Came (with_text text r) came (state_of m out es)) (sym is)
-    (subst (λ o. Came (with_text text r) came (record { world = old.world; output = o; events = es ++ old.waiting; taken = old.taken })) (append_assoc out old.printed text)
-    (with_came text came r (state_of old out es) h))
-
-pub stays_printed : (text : List ℕ) (old new : Moment) → new ≡ record old { printed = old.printed ++ text; total = old.total + length text } → Stays old new
-stays_printed text old new is =
-    subst (Stays old) (sym is) (record {
-      total = λ taken h. omega (arith, h, length-append old.printed text);
-      taken = refl;
-      sides = refl;
-    })
-
+-- what stays through one operation and another stays through both
 pub stays_both : (a b c : Moment) → Stays a b → Stays b c → Stays a c
 stays_both a b c s t = record { total = λ n h. t.total n (s.total n h); taken = t.taken ∙ s.taken; sides = t.sides ∙ s.sides }
 

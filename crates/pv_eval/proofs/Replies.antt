@@ -1,37 +1,34 @@
 -- A call of the library: what it tells, what it comes to, and what it prints.
-use Rattle.std.proofs.Common.{◌≡◌, ℕ, zero, suc, ◌+◌, ◌<◌, ◌≤◌, Bool, true, false, List, [], ◌∷◌, ◌++◌, length, drop, get_or, map, Some, None, refl, sym, ap, ◌∙◌, subst, arith, append-nil, append_assoc}
+use Rattle.std.proofs.Common.{◌≡◌, ℕ, zero, suc, ◌+◌, ◌<◌, ◌≤◌, Bool, true, false, List, [], ◌∷◌, ◌++◌, length, drop, get_or, map, None, refl, sym, ap, ◌∙◌, subst, arith, append-nil, append_assoc}
 use Rattle.std.specs.Prelude.{min, Result, Ok, Err, OnOk, OnErr, if◌then◌else◌}
 use Rattle.std.proofs.lemmas.List.{drop_more}
 use Rattle.pv_script.specs.declared.library.Library.{Library}
 use Rattle.pv_tree.specs.declared.nodes.NodeId.{NodeId}
-use Rattle.pv_typed.specs.TypedTree.{Arguments, NoArguments, MoreArguments, type_of}
-use Rattle.pv_typed.specs.Nodes.{Tree, expression_in, arguments_in}
+use Rattle.pv_typed.specs.TypedTree.{Arguments, NoArguments, MoreArguments}
+use Rattle.pv_typed.specs.Nodes.{Tree, arguments_in}
 use Rattle.pv_inst.specs.Table.{Table}
 use Rattle.pv_object.specs.declared.values.Value.{Value}
 use Rattle.pv_object.specs.declared.values.Stop.{Stop}
 use Rattle.pv_object.specs.declared.values.Stop.TheVariants as stop
 use Rattle.pv_object.specs.Memory.{Mem}
 use Rattle.pv_libc.specs.declared.values.Arg.{Arg}
-use Rattle.pv_libc.specs.declared.values.Shape.{Shape}
 use Rattle.pv_libc.specs.declared.values.Note.{Note}
 use Rattle.pv_libc.specs.declared.values.Note.TheVariants as note
 use Rattle.pv_libc.specs.declared.values.Reply.{Reply}
 use Rattle.pv_libc.specs.declared.values.Reply.TheVariants as reply
 use Rattle.pv_libc.specs.Steps.{Now, with_notes, OrNoMemory, Did as Step}
 use Rattle.pv_libc.specs.Calls.{called, output, behind}
-use Rattle.pv_libc.specs.Makings.{AreLive, UnlessNoMemory as UnlessSpent}
+use Rattle.pv_libc.specs.Makings.{AreLive}
 use Rattle.pv_watch.specs.declared.event.What.{What}
-use Rattle.pv_world.specs.declared.failing.Blame.{Blame}
 use Rattle.pv_world.specs.declared.got.Got.{Got}
 use Rattle.pv_world.specs.declared.got.Failure.{Failure}
 use Rattle.pv_world.specs.declared.got.Failure.TheVariants as failure
 use Rattle.pv_world.specs.Worlds.{World, Nothing, Scalar, Halts, Exits, Aborts, Refused}
-use Rattle.pv_world.specs.Worths.{value_of, wrong_of, missing_value}
+use Rattle.pv_world.specs.Worths.{wrong_of, missing_value}
 use Rattle.pv_world.specs.Telling.{quiet, fault_of, verdict_of}
 use Rattle.pv_world.specs.Doing.{Done, Fails}
 use Rattle.pv_world.specs.Coming.{Came, Did, Faulted, Gave, Ended, seen, worth_of}
 use Rattle.pv_eval.specs.States.{Setting}
-use Rattle.pv_eval.specs.Arguments.{argument_shape}
 use Rattle.pv_eval.specs.Frames.{asked_with}
 use Rattle.pv_eval.specs.Suiting.{knows_arguments}
 use Rattle.pv_eval.specs.Library.{noted_as, all_noted, blame_in, with_memory, come_to, asked, asks}
@@ -46,40 +43,6 @@ next_noted T told more notes i d lt e =
     ap (λ xs. xs ++ all_noted T (drop (i + 1) notes)) e
     ∙ append_assoc told (noted_as T (get_or notes i d)) (all_noted T (drop (i + 1) notes))
     ∙ ap (λ ns. told ++ all_noted T ns) (sym (drop_more notes i d lt))
-
--- whom the first note that says it blames
-blames : (n : Note) (ns : List Note) (b : Blame) → Some b ≡ blame_in (n ∷ []) → blame_in (n ∷ ns) ≡ Some b
-blames (note.Stopped low high pair) ns b e = sym e
-blames (note.Made i) ns b e = absurd cc
-blames (note.Ended i) ns b e = absurd cc
-blames (note.Exposed i) ns b e = absurd cc
-blames (note.Used tried test) ns b e = absurd cc
-
-blames_not : (n : Note) (ns : List Note) → None ≡ blame_in (n ∷ []) → blame_in (n ∷ ns) ≡ blame_in ns
-blames_not (note.Stopped low high pair) ns e = absurd cc
-blames_not (note.Made i) ns e = refl
-blames_not (note.Ended i) ns e = refl
-blames_not (note.Exposed i) ns e = refl
-blames_not (note.Used tried test) ns e = refl
-
-pub blame_here : (notes : List Note) (i : ℕ) (d : Note) (b : Blame) → i < length notes → Some b ≡ blame_in (get_or notes i d ∷ []) → blame_in (drop i notes) ≡ Some b
-blame_here notes i d b lt e = ap blame_in (drop_more notes i d lt) ∙ blames (get_or notes i d) (drop (i + 1) notes) b e
-
-pub blame_later : (notes : List Note) (i : ℕ) (d : Note) → i < length notes → None ≡ blame_in (get_or notes i d ∷ []) → blame_in (drop (i + 1) notes) ≡ blame_in (drop i notes)
-blame_later notes i d lt e = sym (ap blame_in (drop_more notes i d lt) ∙ blames_not (get_or notes i d) (drop (i + 1) notes) e)
-
--- the arguments, one after the other
-pub next_given : (ts : List Tree) (ids : List NodeId) (gots : List Got) (i : ℕ) (n : NodeId) (g : Got) (args more : List Arg) (v : Value) (s : Shape) → i < length ids → i < length gots
-    → v ≡ value_of (worth_of (get_or gots i g)) → s ≡ argument_shape (type_of (expression_in ts (get_or ids i n))) → more ≡ args ++ record { value = v; shape = s } ∷ []
-    → more ++ asked_with (arguments_in ts (drop (i + 1) ids)) (map worth_of (drop (i + 1) gots)) ≡ args ++ asked_with (arguments_in ts (drop i ids)) (map worth_of (drop i gots))
-next_given ts ids gots i n g args more v s lt lg is_value is_shape e =
-    let rest : List Arg = asked_with (arguments_in ts (drop (i + 1) ids)) (map worth_of (drop (i + 1) gots)) in
-    ap (λ xs. xs ++ rest) e
-    ∙ append_assoc args (record { value = v; shape = s } ∷ []) rest
-    ∙ ap (λ x. args ++ record { value = x; shape = s } ∷ rest) is_value
-    ∙ ap (λ x. args ++ record { value = value_of (worth_of (get_or gots i g)); shape = x } ∷ rest) is_shape
-    ∙ ap (λ xs. args ++ asked_with (arguments_in ts (get_or ids i n ∷ drop (i + 1) ids)) (map worth_of xs)) (sym (drop_more gots i g lg))
-    ∙ ap (λ xs. args ++ asked_with (arguments_in ts xs) (map worth_of (drop i gots))) (sym (drop_more ids i n lt))
 
 -- where no value or no argument is left, there are no more
 none_given : (xs : Arguments) → asked_with xs [] ≡ []
@@ -108,13 +71,6 @@ or_known (Err (stop.Undefined f)) S d n h = h
 or_known (Err stop.Indeterminate) S d n h = h
 or_known (Err stop.Undecided) S d n h = h
 or_known (Err stop.NoMemory) S d n h = absurd (n refl)
-
-pub live_known : (r : Result Reply Stop) (P : Type 0) → (r ≡ Err stop.NoMemory → ⊥) → UnlessSpent r P → P
-live_known (Ok x) P n h = h
-live_known (Err (stop.Undefined f)) P n h = h
-live_known (Err stop.Indeterminate) P n h = h
-live_known (Err stop.Undecided) P n h = h
-live_known (Err stop.NoMemory) P n h = absurd (n refl)
 
 pub none_live : (M : Mem) → AreLive M []
 none_live M k d lt = absurd (omega (arith, lt))

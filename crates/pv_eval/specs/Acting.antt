@@ -10,16 +10,16 @@ use Rattle.pv_world.specs.Telling.{Told, verdict_of, fault_of, fault_told}
 use Rattle.pv_eval.specs.declared.marked.Marked.{Marked}
 use Rattle.pv_eval.specs.States.{Setting, State, Stopped, Res, Gives, Stops}
 
--- events, each with this turn and mark
+-- events, each with its turn (5.1.2.3p1: a step of the abstract machine) and its mark, how much was printed (7.21.6.3)
 abbrev pub stamped : (turn mark : ℕ) → List What → List Marked
 stamped n m [] = []
 stamped n m (x ∷ xs) = record { event = record { turn = n; what = x }; mark = m } ∷ stamped n m xs
 
--- the state after an operation: the bytes that it prints come after its events
+-- the state after an operation (5.1.2.3p2): the bytes that it prints (7.21.6.3) come after its events
 abbrev pub noted : World → Told → State → State
 noted w t s = record { world = w; output = s.output ++ t.bytes; events = s.events ++ stamped s.taken (length s.output) t.events; taken = s.taken }
 
--- the same, with more events behind
+-- the same, with more events behind, as that of undefined behaviour (3.4.3)
 abbrev pub noted_with : World → Told → List What → State → State
 noted_with w t more s = noted w (record t { events = t.events ++ more }) s
 
@@ -40,12 +40,12 @@ one_kept w k high = record w { memory = record w.memory { table = record w.memor
 abbrev pub sided : World → (pair : ℕ) → (high : Bool) → World
 sided w k high = if keeps_both (twin_at w.memory.table.pairs k) then one_kept w k high else w
 
--- an event that tells of a use of pair k
+-- the memory model: an event that tells of a use of pair k
 abbrev pub is_use_of : ℕ → What → Bool
 is_use_of k (what.Tried m test low high) = m == k
 is_use_of k _ = false
 
--- the events that tell of no use of pair k
+-- the memory model: the events that tell of no use of pair k
 abbrev pub without_use : ℕ → List What → List What
 without_use k [] = []
 without_use k (e ∷ es) = if is_use_of k e then without_use k es else e ∷ without_use k es

@@ -1,4 +1,4 @@
--- The meaning of an expression in progress.
+-- The meaning of an expression in progress (C17 6.5): a bridge from the code's frames and moves to the recursion of evaluation.
 use Rattle.std.specs.Prelude.{◌≡◌, ◌+◌, ◌<◌, Bool, true, false, List, [], ◌∷◌, length, map, reverse, Result, Ok, Err, Some, None}
 use Rattle.std.specs.declared.option.Option.{Option}
 use Rattle.pv_tree.specs.declared.nodes.NodeId.{NodeId}
@@ -25,46 +25,46 @@ use Rattle.pv_eval.specs.declared.frames.Stage.{Stage}
 use Rattle.pv_eval.specs.declared.frames.Stage.TheVariants as stage
 use Rattle.pv_eval.specs.Frames.{arguments_count, frame_after, after}
 
--- frames with the nodes' accesses, the innermost first
+-- 6.5p2: frames with the nodes' accesses, the innermost first
 abbrev pub zip : {A B : Type 0} → List A → List B → List (A × B)
 zip [] js = []
 zip (f ∷ fs) [] = []
 zip (f ∷ fs) (j ∷ js) = (f, j) ∷ zip fs js
 
--- a stack of frames, each with the accesses of its node
+-- 6.5p2: a stack of frames, the innermost last, each with the accesses of its node
 abbrev pub stack : List Frame → List Open → List (Frame × Open)
 stack frames js = zip (reverse frames) js
 
--- what a move does, of the node with these accesses
+-- 6.5p1: what a move does, of the node with these accesses
 abbrev pub means : Setting → Calling → Stored → Move → Open → State → Res Given
 means b call u (move.Give v) j s = done j (worth_of v) s
 means b call u (move.Operand n f) j s = operand (ev b call (expression_at u n)) j s (frame_after b call u f)
 means b call u (move.Later n f) j s = later (ev b call (expression_at u n)) j s (frame_after b call u f)
 means b call u (move.Ask f args line) j s = then_do (call f (map worth_of args.items) line s) (done (settled j))
 
--- what is left of the innermost node
+-- 6.5p1: what is left of the innermost node
 abbrev pub now_does : Setting → Calling → Stored → Now → Open → State → Res Given
 now_does b call u (now.Due n) j s = ev b call (expression_at u n) j.foes s
 now_does b call u (now.Value v) j s = done j (worth_of v) s
 now_does b call u (now.Asked f args line) j s = then_do (call f (map worth_of args.items) line s) (done (settled j))
 
--- what is left of the expression
+-- 6.5p1: what is left of the expression: the innermost node, and then those that wait for its value
 abbrev pub ahead : Setting → Calling → Stored → List Frame → List Open → Now → State → Res Given
 ahead b call u frames js place s = then_do (now_does b call u place (top js) s) (rest (after b call u) (stack frames (below js)))
 
--- an operation leads to a move, or ends the run
+-- 6.5p1: an operation leads to a move, or ends the run (as by undefined behaviour, 3.4.3); after want of memory nothing is said
 abbrev pub Led : Setting → Calling → Stored → Res Given → Result Move Failure → List Open → State → Type 0
 Led b call u want (Ok m) js s = want ≡ means b call u m (top js) s
 Led b call u want (Err (failure.Stop y line)) js s = want ≡ Stops (Stopped (wrong_for y) line) s
 Led b call u want (Err failure.NoMemory) js s = Unit {0}
 
--- what is ahead after a step
+-- 6.5p1: what is ahead after a step is what was wanted, or the run has ended (as by undefined behaviour, 3.4.3)
 abbrev pub Kept : Setting → Calling → Stored → Res Given → Result Now Failure → List Frame → List Open → State → Type 0
 Kept b call u want (Ok place) frames js s = want ≡ ahead b call u frames js place s
 Kept b call u want (Err (failure.Stop y line)) frames js s = want ≡ Stops (Stopped (wrong_for y) line) s
 Kept b call u want (Err failure.NoMemory) frames js s = Unit {0}
 
--- a call that waits for an argument has one more
+-- 6.5.2.2p10: a call that waits for an argument has one more
 abbrev pub StageFits : Form → Stage → Type 0
 StageFits x (stage.Argument got) = length got.items < arguments_count x
 StageFits x stage.First = Unit {0}
@@ -72,38 +72,38 @@ StageFits x (stage.Second v) = Unit {0}
 StageFits x (stage.Both r) = Unit {0}
 StageFits x (stage.Later side) = Unit {0}
 
--- the nodes and functions that are named are there
+-- a frame's node is an expression of the unit (6.5), with the operand for which it waits
 abbrev pub FrameFits : Stored → Frame → Type 0
 FrameFits u f = IsExpression u f.node × StageFits (form_of (expression_at u f.node)) f.stage
 
--- the same of what a move names
+-- the same of what a move names: expressions (6.5), and functions that are called (6.5.2.2)
 abbrev pub MoveFits : Stored → Move → Type 0
 MoveFits u (move.Give v) = Unit {0}
 MoveFits u (move.Operand n f) = IsExpression u n × FrameFits u f
 MoveFits u (move.Later n f) = IsExpression u n × FrameFits u f
 MoveFits u (move.Ask f args line) = f < length u.functions
 
--- the same, unless the run ended
+-- the same, unless the run ended (as by undefined behaviour, 3.4.3)
 abbrev pub MoveFitsOr : Stored → Result Move Failure → Type 0
 MoveFitsOr u (Ok m) = MoveFits u m
 MoveFitsOr u (Err e) = Unit {0}
 
--- a node that is due was just begun
+-- 6.5p2: a node that is due was just begun: it has no accesses yet
 abbrev pub NowFits : Stored → Now → List Open → Type 0
 NowFits u (now.Due n) js = IsExpression u n × (top js ≡ opened (top js).foes)
 NowFits u (now.Value v) js = Unit {0}
 NowFits u (now.Asked f args line) js = f < length u.functions
 
--- the same, unless the run ended
+-- the same, unless the run ended (as by undefined behaviour, 3.4.3)
 abbrev pub NowFitsOr : Stored → Result Now Failure → List Open → Type 0
 NowFitsOr u (Ok place) js = NowFits u place js
 NowFitsOr u (Err e) js = Unit {0}
 
--- each frame has its node's accesses below those of the innermost node
+-- 6.5p2: each frame has its node's accesses below those of the innermost node
 abbrev pub Matched : List Frame → List Open → Type 0
 Matched frames js = length js ≡ length frames + 1
 
--- the same, unless the run ended
+-- the same, unless the run ended (as by undefined behaviour, 3.4.3)
 abbrev pub MatchedOr : Result Now Failure → List Frame → List Open → Type 0
 MatchedOr (Ok place) frames js = Matched frames js
 MatchedOr (Err e) frames js = Unit {0}
@@ -162,19 +162,19 @@ takes_of turn (typed.Subscript a b) = turn
 takes_of turn (typed.Indirection a) = turn
 takes_of turn _ = true
 
--- a value as a move
+-- 6.5p1: a value as a move: it is the node's
 abbrev pub given : Result Got Failure → Result Move Failure
 given (Ok v) = Ok (move.Give v)
 given (Err e) = Err e
 
--- a node that chooses by its first operand
+-- 6.5.13p4, 6.5.14p4, 6.5.15p4: a node that chooses by its first operand
 abbrev pub IsChoice : Typed → Type 0
 IsChoice (typed.LogicalAnd a b) = Unit {0}
 IsChoice (typed.LogicalOr a b) = Unit {0}
 IsChoice (typed.Conditional a b d) = Unit {0}
 IsChoice _ = ⊥
 
--- a call of the library
+-- 7.1.4: a call of the library
 abbrev pub IsLibraryCall : Typed → Type 0
 IsLibraryCall (typed.LibraryCall f l) = Unit {0}
 IsLibraryCall _ = ⊥

@@ -89,24 +89,24 @@ argument_at (MoreArguments x xs) zero = x
 argument_at (MoreArguments x xs) (suc i) = argument_at xs i
 argument_at NoArguments i = Node VoidTy 0 false (Constant (pos 0))
 
--- the arguments from number i on
+-- 6.5.2.2: the arguments from number i on
 abbrev pub arguments_from : Arguments → ℕ → Arguments
 arguments_from xs zero = xs
 arguments_from (MoreArguments x xs) (suc i) = arguments_from xs i
 arguments_from NoArguments (suc i) = NoArguments
 
--- how many arguments a call has
+-- 6.5.2.2: how many arguments a call has
 abbrev pub count : Arguments → ℕ
 count NoArguments = 0
 count (MoreArguments x xs) = suc (count xs)
 
--- how many arguments a node has, if it is a call
+-- 6.5.2.2: how many arguments a node has, if it is a call
 abbrev pub arguments_count : Form → ℕ
 arguments_count (Call f xs) = count xs
 arguments_count (LibraryCall f xs) = count xs
 arguments_count _ = 0
 
--- the arguments of a call of the library that have these values
+-- 7.1.4: the arguments of a call of the library that have these values
 abbrev pub asked_with : Arguments → List Worth → List Arg
 asked_with NoArguments vs = []
 asked_with (MoreArguments x xs) [] = []
@@ -131,6 +131,6 @@ stage_after b call t line form (stage.Argument got) j v s = argument_after b cal
 unfoldable pub frame_after : Setting → Calling → Stored → Frame → Open → Worth → State → Res Given
 frame_after b call u f j v s = let x = expression_at u f.node in stage_after b call (type_of x) (line_of x) (form_of x) f.stage j v s
 
--- the joining is the same for each kind
+-- 6.5p2: a node goes on with what its operand gave, whose accesses join its own; the joining is the same for each kind
 abbrev pub after : Setting → Calling → Stored → Frame × Open → Given → State → Res Given
 after b call u f g s = frame_after b call u f.0 (with_given f.1 g) g.value s

@@ -11,6 +11,7 @@ pub mod Library
 pub mod Texts
 pub mod Stores
 pub mod Operations
+pub mod Within
 pub mod Sequenced
 pub mod Arguments
 pub mod Steps
@@ -20,8 +21,11 @@ pub mod Runnable
 pub mod Rows
 pub mod Moments
 pub mod Siding
+pub mod Closings
 pub mod Frames
 pub mod Ahead
+pub mod Pieces
 pub mod Constants
 pub mod Machines
 pub mod MachineSteps
+pub mod Progress

@@ -42,7 +42,7 @@ blame_in (n ∷ ns) = blame_in ns
 abbrev pub told_of : Mem → List Note → List ℕ → Told
 told_of M notes text = record { events = all_noted M.table notes; bytes = text }
 
--- the world, with this memory
+-- the memory model: the world, with this memory
 abbrev pub with_memory : World → Mem → World
 with_memory w M = record w { memory = M }
 

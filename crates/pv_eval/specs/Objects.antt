@@ -17,7 +17,7 @@ use Rattle.pv_eval.specs.States.{Setting}
 use Rattle.pv_eval.specs.TypeForms.{Lvalue, size_of, align_of, is_constant}
 use Rattle.pv_eval.specs.Suiting.{is_size, is_stored, knows_worth, is_live, has_room}
 
--- nothing is done where it can't be, which never comes in a checked unit
+-- what is done to an object (6.2.4, 6.7.9) is nothing where it can't be done, which never comes in a checked unit
 abbrev pub where_possible : Bool → World → Done → Done
 where_possible can w d = if can then d else Answers Nothing w quiet
 

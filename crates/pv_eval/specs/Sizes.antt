@@ -11,7 +11,7 @@ use Rattle.pv_eval.specs.States.{Setting}
 use Rattle.pv_eval.specs.TypeForms.{number_of, shape_of, pointed_to, alignment_by}
 use Rattle.pv_eval.specs.Conversions.{how_by}
 
--- what operations look at in the setting of a run: neither the bound nor the sides
+-- what operations look at in the setting of a run of the unit (5.1.1.1): neither the bound nor the sides
 abbrev pub setting_of : Stored → Setting
 setting_of u = record { unit = whole u; types = u.known; bound = 0; sides = None }
 
@@ -39,7 +39,7 @@ alignment_in m t = alignment_by (env m) (pointed_to t)
 abbrev pub how_in : Known → (implied : Bool) → (from to : Ty) → How
 how_in m implied from to = how_by (env m) implied (shape_of from) (shape_of to) (pointed_to to)
 
--- a complete object type of at most 2 ^ 32 bytes
+-- 6.2.5p1: a complete object type of at most 2 ^ 32 bytes
 pub record IsComplete (m : Known) (l : Complete) : Type 0 where
   pub known : l.t.0 < length m.terms
   pub complete : IsTrue (is_complete_in (env m) (tree m l.t.0))

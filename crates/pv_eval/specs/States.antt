@@ -45,7 +45,7 @@ spend s = record s { taken = s.taken + 1 }
 abbrev pub tick : {A : Type 0} → Setting → State → (State → Res A) → Res A
 tick b s go = if nat_lt s.taken b.bound then go (spend s) else Stops Turns s
 
--- the state as a piece of the run leaves it, whichever way it ends
+-- the state as a piece of the run (5.1.2.3) leaves it, whichever way it ends
 abbrev pub end_of : {A : Type 0} → Res A → State
 end_of (Gives a s) = s
 end_of (Stops w s) = s

@@ -14,38 +14,39 @@ use Rattle.pv_eval.specs.States.{Setting, State, Res, Gives, Stops}
 use Rattle.pv_eval.specs.Acting.{acted, pair_count}
 use Rattle.pv_eval.specs.Moments.{Moment, Follows, Came, state_of}
 
--- what is printed
+-- 7.21.6.3: what is printed
 abbrev pub text_in : Done → List ℕ
 text_in (Answers v w t) = t.bytes
 text_in (Fails y p w t) = t.bytes
 text_in (Breaks y b w t) = t.bytes
 
--- the same doing, where nothing is printed
+-- 7.21.6.3: the same doing, where nothing is printed
 abbrev pub silent : Done → Done
 silent (Answers v w t) = Answers v w (telling t.events)
 silent (Fails y p w t) = Fails y p w (telling t.events)
 silent (Breaks y b w t) = Breaks y b w (telling t.events)
 
--- a text behind what a state has printed, and behind what a piece of the run has
+-- 7.21.6.3: a text behind what a state has printed, and behind what a piece of the run has
 abbrev pub written : List ℕ → State → State
 written text s = record s { output = s.output ++ text }
 
--- the same of a piece of the run
+-- 7.21.6.3: the same of a piece of the run
 abbrev pub with_text : List ℕ → Res Worth → Res Worth
 with_text text (Gives v s) = Gives v (written text s)
 with_text text (Stops y s) = Stops y (written text s)
 
--- after want of memory nothing is said
+-- after want of memory nothing is said of what is printed (7.21.6.3)
 abbrev pub UnlessNoMemory : {A : Type 0} → Result A Fallen → Type 0 → Type 0
 UnlessNoMemory (Err NoMemory) P = Unit {0}
 UnlessNoMemory r P = P
 
--- the operation was made, and this is its text, behind what was there
+-- 7.21.6.3: the operation was made, and this is its text, behind what was there
 pub record Wrote (op : World → Done) (r : Result Got Fallen) (old new : World) (before after : List What) (had text : List ℕ) : Type 0 where
   pub did : Did worth_of (λ w. silent (op w)) r old new before after
   pub wrote : UnlessNoMemory r (text ≡ had ++ text_in (op old))
 
--- an operation that was so made of the node in this line, where there were so many pairs before it, is done in the run, whatever was written and told before
+-- 5.1.2.3p2: an operation that was so made of the node in this line, where there were so many pairs before it, is done in the run,
+-- whatever was written and told before
 abbrev pub Closed : (line pairs : ℕ) → (World → (World → Done) → Type 0) → (old : Moment) → Result Got Failure → (new : Moment) → Type 0
 Closed line pairs P old r new =
     (b : Setting) (w : World) (op : World → Done) (out : List ℕ) (es : List Marked) → b.sides ≡ old.sides → pairs ≡ pair_count w → Follows old (length out) → P w op

@@ -1,19 +1,20 @@
 // Arguments of calls (C17 6.5.2.2).
 ghost use Rattle.std.specs.Prelude.{◌≡◌, ◌<◌, ◌≤◌, length, true, map, IfOk};
-ghost use Rattle.pv_typed.specs.TypedTree.{form_of, line_of, type_of, Call};
+ghost use Rattle.pv_typed.specs.TypedTree.{form_of, line_of, Call};
 ghost use Rattle.pv_typed.specs.Nodes.{form_in, arguments_in};
 ghost use Rattle.pv_typed.specs.Formed.{NamesIn};
 ghost use Rattle.pv_typed.specs.Children.{HasOperands, HasKinds};
 ghost use Rattle.pv_typed.specs.Tables.{nodes, expression_at, list_at, IsExpression};
 ghost use Rattle.pv_eval.specs.States.{Setting, State};
-ghost use Rattle.pv_seq.specs.Sequencing.{Open, top, below};
+ghost use Rattle.pv_seq.specs.Sequencing.{Open, below};
 ghost use Rattle.pv_eval.specs.Steps.{Calling};
 ghost use Rattle.pv_eval.specs.Evaluation.{ev_call};
 ghost use Rattle.pv_world.specs.Coming.{worth_of};
 ghost use Rattle.pv_eval.specs.Runnable.{IsRunnable};
-ghost use Rattle.pv_eval.specs.Moments.{state_of, Always, Stays};
-ghost use Rattle.pv_eval.specs.Frames.{argument_after, arguments_from, arguments_count};
-ghost use Rattle.pv_eval.specs.Ahead.{means, Led, MoveFits, MoveFitsOr};
+ghost use Rattle.pv_eval.specs.Moments.{Stays};
+ghost use Rattle.pv_eval.specs.Frames.{arguments_count};
+ghost use Rattle.pv_eval.specs.Ahead.{means, MoveFits, MoveFitsOr};
+ghost use Rattle.pv_eval.specs.Pieces.{LedBy, with_argument, arguments_left};
 
 use crate::converting::hand;
 use crate::failure::Failure;
@@ -40,7 +41,7 @@ pub(crate) fn next_argument(
     requires line { line ≡ line_of (expression_at unit.now n) }
     requires list { HasKinds unit.now.rows unit.now.lists n.0 true l }
     requires function { f < length unit.now.functions }
-    ensures means { (b : Setting) (call : Calling) (j : Open) (s : State) → means b call unit.now result j s ≡ ev_call b call line f (map worth_of got.items) (arguments_from (arguments_in (nodes unit.now) (list_at unit.now l)) (length got.items)) j s }
+    ensures means { (b : Setting) (call : Calling) (j : Open) (s : State) → means b call unit.now result j s ≡ ev_call b call line f (map worth_of got.items) (arguments_left unit.now l (length got.items)) j s }
     ensures fits { MoveFits unit.now result }
 {
     let children = unit.children(l);
@@ -76,7 +77,7 @@ pub(crate) fn resume_argument(
     requires named { NamesIn unit.now x }
     requires some { 1 ≤ length journal.old }
     requires more { length got.items < arguments_count (form_in unit.now.lists (nodes unit.now) x) }
-    ensures led { Always unit.now moment.old (λ b out es. (call : Calling) → Led b call unit.now (argument_after b call (type_of (expression_at unit.now n)) (line_of (expression_at unit.now n)) (form_in unit.now.lists (nodes unit.now) x) (length got.items) (map worth_of got.items) (top journal.old) (worth_of v) (state_of moment.old out es)) result journal.new (state_of moment.new out es)) }
+    ensures led { LedBy unit.now (with_argument unit.now n x got.items (worth_of v)) result journal.old journal.new moment.old moment.new }
     ensures stays { Stays moment.old moment.new }
     ensures below { IfOk result (λ m. below journal.new ≡ below journal.old) }
     ensures some { IfOk result (λ m. 1 ≤ length journal.new) }

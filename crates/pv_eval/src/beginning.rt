@@ -1,17 +1,15 @@
 // The first operation of a node.
-ghost use Rattle.std.specs.Prelude.{◌≡◌, ℕ, ◌+◌, ◌<◌, ◌^◌, ◌∷◌, List, None, true};
-ghost use Rattle.pv_types.specs.Ty.{Ty};
+ghost use Rattle.std.specs.Prelude.{◌≡◌, ℕ, ◌+◌, ◌<◌, ◌^◌, None, true};
 ghost use Rattle.pv_typed.specs.TypedTree.{form_of, line_of, takes_turn};
 ghost use Rattle.pv_typed.specs.Nodes.{form_in};
 ghost use Rattle.pv_typed.specs.Formed.{NamesIn};
 ghost use Rattle.pv_typed.specs.Children.{HasOperands};
 ghost use Rattle.pv_typed.specs.Tables.{nodes, expression_at, IsExpression};
-ghost use Rattle.pv_seq.specs.Sequencing.{Open, opened};
-ghost use Rattle.pv_eval.specs.Steps.{Calling, takes};
-ghost use Rattle.pv_eval.specs.Evaluation.{ev, ev_form};
+ghost use Rattle.pv_eval.specs.Steps.{takes};
 ghost use Rattle.pv_eval.specs.Runnable.{IsRunnable};
-ghost use Rattle.pv_eval.specs.Moments.{state_of, Always, Stays, Follows};
-ghost use Rattle.pv_eval.specs.Ahead.{Led, MoveFitsOr, first_operand_of};
+ghost use Rattle.pv_eval.specs.Moments.{Stays, Follows};
+ghost use Rattle.pv_eval.specs.Ahead.{MoveFitsOr, first_operand_of};
+ghost use Rattle.pv_eval.specs.Pieces.{LedInTurn, LedAfterTurn};
 
 use crate::arguments::next_argument;
 use crate::failure::Failure;
@@ -40,7 +38,7 @@ pub(crate) fn begin_leaf(
     requires line { line ≡ line_of (expression_at unit.now n) }
     requires operands { HasOperands unit.now.rows unit.now.lists n.0 x }
     requires named { NamesIn unit.now x }
-    ensures led { Always unit.now moment.old (λ b out es. (call : Calling) (t : Ty) (j : Open) (js : List Open) → Led b call unit.now (ev_form b call t line (form_in unit.now.lists (nodes unit.now) x) j.foes (state_of moment.old out es)) result (opened j.foes ∷ js) (state_of moment.new out es)) }
+    ensures led { LedAfterTurn unit.now line x result moment.old moment.new }
     ensures stays { Stays moment.old moment.new }
     ensures fits { MoveFitsOr unit.now result }
 {
@@ -66,7 +64,7 @@ pub(crate) fn begin(
     requires there { IsExpression unit.now n }
     requires counts { takes (takes_turn (expression_at unit.now n)) (form_of (expression_at unit.now n)) ≡ true }
     requires room { moment.old.taken < 10 ^ 8 }
-    ensures led { Always unit.now moment.old (λ b out es. (call : Calling) (j : Open) (js : List Open) → moment.old.taken < b.bound → Led b call unit.now (ev b call (expression_at unit.now n) j.foes (state_of moment.old out es)) result (opened j.foes ∷ js) (state_of moment.new out es)) }
+    ensures led { LedInTurn unit.now n result moment.old moment.new }
     ensures taken { moment.new.taken ≡ moment.old.taken + 1 }
     ensures total { (n : ℕ) → Follows moment.old n → Follows moment.new n }
     ensures sides { moment.new.sides ≡ moment.old.sides }

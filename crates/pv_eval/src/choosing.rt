@@ -1,16 +1,15 @@
 // Nodes that choose by their first operand (C17 6.5.13 to 6.5.15).
 ghost use Rattle.std.specs.Prelude.{◌≡◌, ◌≤◌, length, IfOk};
-ghost use Rattle.pv_typed.specs.TypedTree.{form_of, line_of, type_of};
+ghost use Rattle.pv_typed.specs.TypedTree.{form_of};
 ghost use Rattle.pv_typed.specs.Nodes.{form_in};
 ghost use Rattle.pv_typed.specs.Children.{HasOperands};
 ghost use Rattle.pv_typed.specs.Tables.{nodes, expression_at, IsExpression};
-ghost use Rattle.pv_seq.specs.Sequencing.{top, below};
-ghost use Rattle.pv_eval.specs.Steps.{Calling};
+ghost use Rattle.pv_seq.specs.Sequencing.{below};
 ghost use Rattle.pv_world.specs.Coming.{worth_of};
 ghost use Rattle.pv_eval.specs.Runnable.{IsRunnable};
-ghost use Rattle.pv_eval.specs.Moments.{state_of, Always, Stays};
-ghost use Rattle.pv_eval.specs.Frames.{first_after};
-ghost use Rattle.pv_eval.specs.Ahead.{Led, MoveFitsOr, IsChoice};
+ghost use Rattle.pv_eval.specs.Moments.{Stays};
+ghost use Rattle.pv_eval.specs.Ahead.{MoveFitsOr, IsChoice};
+ghost use Rattle.pv_eval.specs.Pieces.{LedBy, with_first};
 
 use crate::failure::Failure;
 use crate::frames::Move;
@@ -36,7 +35,7 @@ pub(crate) fn resume_choice(
     requires form { form_of (expression_at unit.now n) ≡ form_in unit.now.lists (nodes unit.now) x }
     requires operands { HasOperands unit.now.rows unit.now.lists n.0 x }
     requires some { 1 ≤ length journal.old }
-    ensures led { Always unit.now moment.old (λ b out es. (call : Calling) → Led b call unit.now (first_after b call (type_of (expression_at unit.now n)) (line_of (expression_at unit.now n)) (form_in unit.now.lists (nodes unit.now) x) (top journal.old) (worth_of v) (state_of moment.old out es)) result journal.new (state_of moment.new out es)) }
+    ensures led { LedBy unit.now (with_first unit.now n x (worth_of v)) result journal.old journal.new moment.old moment.new }
     ensures stays { Stays moment.old moment.new }
     ensures below { IfOk result (λ m. below journal.new ≡ below journal.old) }
     ensures some { IfOk result (λ m. 1 ≤ length journal.new) }

@@ -6,19 +6,15 @@ ghost use Rattle.pv_typed.specs.TypedTree.{form_of, line_of, type_of};
 ghost use Rattle.pv_typed.specs.Nodes.{form_in};
 ghost use Rattle.pv_typed.specs.Children.{HasOperands};
 ghost use Rattle.pv_typed.specs.Tables.{nodes, expression_at, IsExpression};
-ghost use Rattle.pv_eval.specs.States.{then_do};
-ghost use Rattle.pv_eval.specs.Sequenced.{operand, done};
 ghost use Rattle.pv_seq.specs.Sequencing.{top, below, rivals};
-ghost use Rattle.pv_eval.specs.Steps.{Calling, converted, writing, is_minus, combining, stepping, reading, is_down, is_after};
-ghost use Rattle.pv_eval.specs.Evaluation.{ev};
-ghost use Rattle.pv_eval.specs.TypeForms.{lvalue, kind_of, element_size};
-ghost use Rattle.pv_eval.specs.Operations.{Converts, Moves, Writes, act};
-ghost use Rattle.pv_world.specs.declared.got.How.TheVariants.{Rounds};
+ghost use Rattle.pv_eval.specs.Steps.{combining, stepping, is_down, is_after};
+ghost use Rattle.pv_eval.specs.TypeForms.{lvalue};
+ghost use Rattle.pv_eval.specs.Operations.{Writes};
 ghost use Rattle.pv_world.specs.Coming.{worth_of};
 ghost use Rattle.pv_eval.specs.Runnable.{IsRunnable};
 ghost use Rattle.pv_eval.specs.Moments.{state_of, Acted, Always, Came, Noted, Stays};
-ghost use Rattle.pv_eval.specs.Frames.{both_after};
-ghost use Rattle.pv_eval.specs.Ahead.{Led, MoveFitsOr};
+ghost use Rattle.pv_eval.specs.Ahead.{MoveFitsOr};
+ghost use Rattle.pv_eval.specs.Pieces.{LedBy, with_both, writes_back, combines, combines_right, combines_both, moves_and_writes, reads_place, writes_step, steps, increments};
 
 use crate::converting::convert;
 use crate::failure::Failure;
@@ -51,7 +47,7 @@ pub(crate) fn read_place(
     requires form { form_of (expression_at unit.now n) ≡ form_in unit.now.lists (nodes unit.now) x }
     requires line { line ≡ line_of (expression_at unit.now n) }
     requires some { 1 ≤ length journal.old }
-    ensures led { Always unit.now moment.old (λ b out es. (call : Calling) → Led b call unit.now (reading b (lvalue b (type_of (expression_at unit.now a))) line (worth_of place) (top journal.old) (state_of moment.old out es) (λ j v s. operand (ev b call (expression_at unit.now d)) j s (both_after b call (type_of (expression_at unit.now n)) line (form_in unit.now.lists (nodes unit.now) x) (worth_of place) v))) result journal.new (state_of moment.new out es)) }
+    ensures led { LedBy unit.now (reads_place unit.now n line x a d (worth_of place)) result journal.old journal.new moment.old moment.new }
     ensures stays { Stays moment.old moment.new }
     ensures below { IfOk result (λ m. below journal.new ≡ below journal.old) }
     ensures some { IfOk result (λ m. 1 ≤ length journal.new) }
@@ -88,7 +84,7 @@ pub(crate) fn resume_both(
     requires there { IsExpression unit.now n }
     requires operands { HasOperands unit.now.rows unit.now.lists n.0 x }
     requires some { 1 ≤ length journal.old }
-    ensures led { Always unit.now moment.old (λ b out es. (call : Calling) → Led b call unit.now (both_after b call (type_of (expression_at unit.now n)) (line_of (expression_at unit.now n)) (form_in unit.now.lists (nodes unit.now) x) (worth_of read.place) (worth_of read.value) (top journal.old) (worth_of w) (state_of moment.old out es)) result journal.new (state_of moment.new out es)) }
+    ensures led { LedBy unit.now (with_both unit.now n x (worth_of read.place) (worth_of read.value) (worth_of w)) result journal.old journal.new moment.old moment.new }
     ensures stays { Stays moment.old moment.new }
     ensures below { IfOk result (λ m. below journal.new ≡ below journal.old) }
     ensures some { IfOk result (λ m. 1 ≤ length journal.new) }
@@ -126,7 +122,7 @@ fn compound(
     requires left { IsExpression unit.now a }
     requires right { IsExpression unit.now d }
     requires some { 1 ≤ length journal.old }
-    ensures led { Always unit.now moment.old (λ b out es. (call : Calling) → Led b call unit.now (then_do (act b line (Converts (Rounds kind) (worth_of read.value)) (state_of moment.old out es)) (λ v s. then_do (converted b (expression_at unit.now d) (worth_of w) s) (λ w s. then_do (combining b line op kind (kind_of (type_of (expression_at unit.now n))) v w s) (λ v s. writing b (lvalue b (type_of (expression_at unit.now a))) line (worth_of read.place) v None (top journal.old) s done)))) result journal.new (state_of moment.new out es)) }
+    ensures led { LedBy unit.now (combines_both unit.now n line op kind a d (worth_of read.place) (worth_of read.value) (worth_of w)) result journal.old journal.new moment.old moment.new }
     ensures stays { Stays moment.old moment.new }
     ensures below { IfOk result (λ m. below journal.new ≡ below journal.old) }
     ensures some { IfOk result (λ m. 1 ≤ length journal.new) }
@@ -161,7 +157,7 @@ fn compound_right(
     requires left { IsExpression unit.now a }
     requires right { IsExpression unit.now d }
     requires some { 1 ≤ length journal.old }
-    ensures led { Always unit.now moment.old (λ b out es. (call : Calling) → Led b call unit.now (then_do (converted b (expression_at unit.now d) (worth_of w) (state_of moment.old out es)) (λ w s. then_do (combining b line op kind (kind_of (type_of (expression_at unit.now n))) (worth_of v) w s) (λ v s. writing b (lvalue b (type_of (expression_at unit.now a))) line (worth_of place) v None (top journal.old) s done))) result journal.new (state_of moment.new out es)) }
+    ensures led { LedBy unit.now (combines_right unit.now n line op kind a d (worth_of place) (worth_of v) (worth_of w)) result journal.old journal.new moment.old moment.new }
     ensures stays { Stays moment.old moment.new }
     ensures below { IfOk result (λ m. below journal.new ≡ below journal.old) }
     ensures some { IfOk result (λ m. 1 ≤ length journal.new) }
@@ -193,7 +189,7 @@ fn combine_and_write(
     requires runnable { IsRunnable unit.now }
     requires left { IsExpression unit.now a }
     requires some { 1 ≤ length journal.old }
-    ensures led { Always unit.now moment.old (λ b out es. (call : Calling) → Led b call unit.now (then_do (combining b line op kind back (worth_of v) (worth_of w) (state_of moment.old out es)) (λ v s. writing b (lvalue b (type_of (expression_at unit.now a))) line (worth_of place) v None (top journal.old) s done)) result journal.new (state_of moment.new out es)) }
+    ensures led { LedBy unit.now (combines unit.now line op kind back a (worth_of place) (worth_of v) (worth_of w)) result journal.old journal.new moment.old moment.new }
     ensures stays { Stays moment.old moment.new }
     ensures below { IfOk result (λ m. below journal.new ≡ below journal.old) }
     ensures some { IfOk result (λ m. 1 ≤ length journal.new) }
@@ -241,7 +237,7 @@ fn write_back(
     requires runnable { IsRunnable unit.now }
     requires left { IsExpression unit.now a }
     requires some { 1 ≤ length journal.old }
-    ensures led { Always unit.now moment.old (λ b out es. (call : Calling) → Led b call unit.now (writing b (lvalue b (type_of (expression_at unit.now a))) line (worth_of place) (worth_of v) None (top journal.old) (state_of moment.old out es) done) result journal.new (state_of moment.new out es)) }
+    ensures led { LedBy unit.now (writes_back unit.now line a (worth_of place) (worth_of v)) result journal.old journal.new moment.old moment.new }
     ensures stays { Stays moment.old moment.new }
     ensures below { IfOk result (λ m. below journal.new ≡ below journal.old) }
     ensures some { IfOk result (λ m. 1 ≤ length journal.new) }
@@ -267,7 +263,7 @@ fn pointer_assign(
     requires there { IsExpression unit.now n }
     requires left { IsExpression unit.now a }
     requires some { 1 ≤ length journal.old }
-    ensures led { Always unit.now moment.old (λ b out es. (call : Calling) → Led b call unit.now (then_do (act b line (Moves (is_minus sign) true (element_size b (type_of (expression_at unit.now n))) (worth_of read.value) (worth_of w)) (state_of moment.old out es)) (λ v s. writing b (lvalue b (type_of (expression_at unit.now a))) line (worth_of read.place) v None (top journal.old) s done)) result journal.new (state_of moment.new out es)) }
+    ensures led { LedBy unit.now (moves_and_writes unit.now n line sign a (worth_of read.place) (worth_of read.value) (worth_of w)) result journal.old journal.new moment.old moment.new }
     ensures stays { Stays moment.old moment.new }
     ensures below { IfOk result (λ m. below journal.new ≡ below journal.old) }
     ensures some { IfOk result (λ m. 1 ≤ length journal.new) }
@@ -298,7 +294,7 @@ pub(crate) fn increment(
     requires there { IsExpression unit.now n }
     requires left { IsExpression unit.now a }
     requires some { 1 ≤ length journal.old }
-    ensures led { Always unit.now moment.old (λ b out es. (call : Calling) → Led b call unit.now (reading b (lvalue b (type_of (expression_at unit.now a))) line (worth_of place) (top journal.old) (state_of moment.old out es) (λ j v s. then_do (stepping b line (type_of (expression_at unit.now n)) o v s) (λ w s. writing b (lvalue b (type_of (expression_at unit.now a))) line (worth_of place) w None j s (λ j w s. done j (if is_after o then v else w) s)))) result journal.new (state_of moment.new out es)) }
+    ensures led { LedBy unit.now (increments unit.now n line o a (worth_of place)) result journal.old journal.new moment.old moment.new }
     ensures stays { Stays moment.old moment.new }
     ensures below { IfOk result (λ m. below journal.new ≡ below journal.old) }
     ensures some { IfOk result (λ m. 1 ≤ length journal.new) }
@@ -327,7 +323,7 @@ fn step_and_keep(
     requires there { IsExpression unit.now n }
     requires left { IsExpression unit.now a }
     requires some { 1 ≤ length journal.old }
-    ensures led { Always unit.now moment.old (λ b out es. (call : Calling) → Led b call unit.now (then_do (stepping b line (type_of (expression_at unit.now n)) o (worth_of v) (state_of moment.old out es)) (λ w s. writing b (lvalue b (type_of (expression_at unit.now a))) line (worth_of place) w None (top journal.old) s (λ j w s. done j (if is_after o then worth_of v else w) s))) result journal.new (state_of moment.new out es)) }
+    ensures led { LedBy unit.now (steps unit.now n line o a (worth_of place) (worth_of v) (worth_of v)) result journal.old journal.new moment.old moment.new }
     ensures stays { Stays moment.old moment.new }
     ensures below { IfOk result (λ m. below journal.new ≡ below journal.old) }
     ensures some { IfOk result (λ m. 1 ≤ length journal.new) }
@@ -357,7 +353,7 @@ fn step_and_write(
     requires there { IsExpression unit.now n }
     requires left { IsExpression unit.now a }
     requires some { 1 ≤ length journal.old }
-    ensures led { Always unit.now moment.old (λ b out es. (call : Calling) → Led b call unit.now (then_do (stepping b line (type_of (expression_at unit.now n)) o (worth_of v) (state_of moment.old out es)) (λ w s. writing b (lvalue b (type_of (expression_at unit.now a))) line (worth_of place) w None (top journal.old) s (λ j w s. done j (if is_after o then worth_of old else w) s))) result journal.new (state_of moment.new out es)) }
+    ensures led { LedBy unit.now (steps unit.now n line o a (worth_of place) (worth_of old) (worth_of v)) result journal.old journal.new moment.old moment.new }
     ensures stays { Stays moment.old moment.new }
     ensures below { IfOk result (λ m. below journal.new ≡ below journal.old) }
     ensures some { IfOk result (λ m. 1 ≤ length journal.new) }
@@ -385,7 +381,7 @@ fn write_step(
     requires runnable { IsRunnable unit.now }
     requires left { IsExpression unit.now a }
     requires some { 1 ≤ length journal.old }
-    ensures led { Always unit.now moment.old (λ b out es. (call : Calling) → Led b call unit.now (writing b (lvalue b (type_of (expression_at unit.now a))) line (worth_of place) (worth_of w) None (top journal.old) (state_of moment.old out es) (λ j w s. done j (if is_after o then worth_of v else w) s)) result journal.new (state_of moment.new out es)) }
+    ensures led { LedBy unit.now (writes_step unit.now line o a (worth_of place) (worth_of v) (worth_of w)) result journal.old journal.new moment.old moment.new }
     ensures stays { Stays moment.old moment.new }
     ensures below { IfOk result (λ m. below journal.new ≡ below journal.old) }
     ensures some { IfOk result (λ m. 1 ≤ length journal.new) }

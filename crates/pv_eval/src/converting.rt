@@ -1,12 +1,12 @@
 // Implicit conversions of operands (C17 6.3), made by the node above.
-ghost use Rattle.pv_typed.specs.TypedTree.{line_of};
 ghost use Rattle.pv_typed.specs.Tables.{expression_at, IsExpression};
 ghost use Rattle.pv_eval.specs.States.{then_do};
 ghost use Rattle.pv_eval.specs.Steps.{handed, converted};
-ghost use Rattle.pv_eval.specs.Operations.{Accepts, Needs, act};
+ghost use Rattle.pv_eval.specs.Operations.{Accepts, act};
 ghost use Rattle.pv_world.specs.Coming.{worth_of};
 ghost use Rattle.pv_eval.specs.Runnable.{IsRunnable};
 ghost use Rattle.pv_eval.specs.Moments.{state_of, Always, Came, Needed, Stays};
+ghost use Rattle.pv_eval.specs.Pieces.{needed_of};
 
 use crate::failure::Failure;
 use crate::moment::Moment;
@@ -59,7 +59,7 @@ pub(crate) fn need(
 ) -> Result<i128, Failure>
     requires runnable { IsRunnable unit.now }
     requires there { IsExpression unit.now child }
-    ensures needed { Always unit.now moment.old (λ b out es. Needed (then_do (converted b (expression_at unit.now child) (worth_of v) (state_of moment.old out es)) (λ v s. act b (line_of (expression_at unit.now child)) (Needs v) s)) result (state_of moment.new out es)) }
+    ensures needed { Always unit.now moment.old (λ b out es. Needed (needed_of b (expression_at unit.now child) (worth_of v) (state_of moment.old out es)) result (state_of moment.new out es)) }
     ensures stays { Stays moment.old moment.new }
 {
     match convert(unit, child, v, moment) {

@@ -1,20 +1,16 @@
 // What a node does with the value of its first operand.
-ghost use Rattle.std.specs.Prelude.{◌≡◌, ◌≤◌, List, length, IfOk};
-ghost use Rattle.pv_typed.specs.TypedTree.{form_of, line_of, type_of};
+ghost use Rattle.std.specs.Prelude.{◌≡◌, ◌≤◌, length, IfOk};
+ghost use Rattle.pv_typed.specs.TypedTree.{form_of};
 ghost use Rattle.pv_typed.specs.Nodes.{form_in};
 ghost use Rattle.pv_typed.specs.Children.{HasOperands};
 ghost use Rattle.pv_typed.specs.Tables.{nodes, expression_at, IsExpression};
-ghost use Rattle.pv_eval.specs.States.{then_do};
-ghost use Rattle.pv_eval.specs.Sequenced.{operand, work};
-ghost use Rattle.pv_seq.specs.Sequencing.{Open, top, below};
-ghost use Rattle.pv_eval.specs.Steps.{Calling, converted};
-ghost use Rattle.pv_eval.specs.TypeForms.{kind_of};
-ghost use Rattle.pv_eval.specs.Operations.{CalculatesOne};
+ghost use Rattle.pv_eval.specs.Sequenced.{operand};
+ghost use Rattle.pv_seq.specs.Sequencing.{below};
 ghost use Rattle.pv_world.specs.Coming.{worth_of};
 ghost use Rattle.pv_eval.specs.Runnable.{IsRunnable};
-ghost use Rattle.pv_eval.specs.Moments.{state_of, Always, Stays};
-ghost use Rattle.pv_eval.specs.Frames.{first_after};
-ghost use Rattle.pv_eval.specs.Ahead.{Led, MoveFitsOr};
+ghost use Rattle.pv_eval.specs.Moments.{Stays};
+ghost use Rattle.pv_eval.specs.Ahead.{MoveFitsOr};
+ghost use Rattle.pv_eval.specs.Pieces.{LedBy, LedAnywhere, with_first, calculates_one};
 
 use crate::choosing::resume_choice;
 use crate::compound::{increment, read_place};
@@ -44,7 +40,7 @@ pub(crate) fn resume_first(
     requires form { form_of (expression_at unit.now n) ≡ form_in unit.now.lists (nodes unit.now) x }
     requires operands { HasOperands unit.now.rows unit.now.lists n.0 x }
     requires some { 1 ≤ length journal.old }
-    ensures led { Always unit.now moment.old (λ b out es. (call : Calling) → Led b call unit.now (first_after b call (type_of (expression_at unit.now n)) (line_of (expression_at unit.now n)) (form_in unit.now.lists (nodes unit.now) x) (top journal.old) (worth_of v) (state_of moment.old out es)) result journal.new (state_of moment.new out es)) }
+    ensures led { LedBy unit.now (with_first unit.now n x (worth_of v)) result journal.old journal.new moment.old moment.new }
     ensures stays { Stays moment.old moment.new }
     ensures below { IfOk result (λ m. below journal.new ≡ below journal.old) }
     ensures some { IfOk result (λ m. 1 ≤ length journal.new) }
@@ -122,7 +118,7 @@ pub(crate) fn unary(
     requires runnable { IsRunnable unit.now }
     requires node { IsExpression unit.now n }
     requires operand { IsExpression unit.now a }
-    ensures led { Always unit.now moment.old (λ b out es. (call : Calling) (js : List Open) → Led b call unit.now (then_do (converted b (expression_at unit.now a) (worth_of v) (state_of moment.old out es)) (λ v s. work b line (CalculatesOne op (kind_of (type_of (expression_at unit.now n))) v) (top js) s)) result js (state_of moment.new out es)) }
+    ensures led { LedAnywhere unit.now (calculates_one unit.now n line op a (worth_of v)) result moment.old moment.new }
     ensures stays { Stays moment.old moment.new }
     ensures fits { MoveFitsOr unit.now result }
 {

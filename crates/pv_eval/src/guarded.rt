@@ -8,8 +8,9 @@ ghost use Rattle.pv_world.specs.Telling.{fault_of, verdict_of};
 ghost use Rattle.pv_world.specs.Coming.{Did, Faulted, worth_of, wrong_for};
 ghost use Rattle.pv_eval.specs.States.{Setting};
 ghost use Rattle.pv_types.specs.Known.{tree};
-ghost use Rattle.pv_eval.specs.TypeForms.{Lvalue, shape_of};
-ghost use Rattle.pv_eval.specs.Sizes.{element_in, size_in};
+ghost use Rattle.pv_eval.specs.TypeForms.{Lvalue};
+ghost use Rattle.pv_eval.specs.Sizes.{element_in};
+ghost use Rattle.pv_eval.specs.Within.{PartTaken};
 ghost use Rattle.pv_eval.specs.Operations.{Converts, Calculates, CalculatesOne, Tests, Negates, Accepts, Needs, Moves, Subtracts, Orders, Equals, Follows, Selects, TakesPart, does};
 
 use crate::moment::truth_value;
@@ -308,7 +309,7 @@ pub(crate) fn part_of(
     v: &Got,
     told: &mut Vec<What>,
 ) -> Result<Got, Fallen>
-    ensures { (b : Setting) (l : Lvalue) → l.size ≡ size_in types.now (tree types.now t.0) → l.shape ≡ shape_of (tree types.now t.0) → Did worth_of (does b (TakesPart offset l (worth_of v.now))) result world.old world.new told.old.items told.new.items }
+    ensures { PartTaken types.now (tree types.now t.0) offset (worth_of v.now) result world.old world.new told.old.items told.new.items }
 {
     match size_of(types, t) {
         Some(size) => part(world, offset, size, shape(types, t), v, told),

@@ -1,9 +1,7 @@
 // What a node does with the value of an operand after a sequence point.
 ghost use Rattle.std.specs.Prelude.{List};
-ghost use Rattle.pv_typed.specs.TypedTree.{line_of, type_of};
-ghost use Rattle.pv_typed.specs.Nodes.{form_in};
 ghost use Rattle.pv_typed.specs.Children.{HasOperands};
-ghost use Rattle.pv_typed.specs.Tables.{nodes, expression_at, IsExpression};
+ghost use Rattle.pv_typed.specs.Tables.{IsExpression};
 ghost use Rattle.pv_eval.specs.Sequenced.{work};
 ghost use Rattle.pv_seq.specs.Sequencing.{Open, top};
 ghost use Rattle.pv_eval.specs.Steps.{Calling};
@@ -11,8 +9,8 @@ ghost use Rattle.pv_eval.specs.Operations.{Tests};
 ghost use Rattle.pv_world.specs.Coming.{worth_of};
 ghost use Rattle.pv_eval.specs.Runnable.{IsRunnable};
 ghost use Rattle.pv_eval.specs.Moments.{state_of, Always, Stays};
-ghost use Rattle.pv_eval.specs.Frames.{later_after};
 ghost use Rattle.pv_eval.specs.Ahead.{Led, MoveFitsOr};
+ghost use Rattle.pv_eval.specs.Pieces.{LedAnywhere, with_later};
 
 use crate::converting::convert;
 use crate::failure::Failure;
@@ -35,7 +33,7 @@ pub(crate) fn resume_later(
     requires runnable { IsRunnable unit.now }
     requires there { IsExpression unit.now n }
     requires operands { HasOperands unit.now.rows unit.now.lists n.0 x }
-    ensures led { Always unit.now moment.old (λ b out es. (call : Calling) (js : List Open) → Led b call unit.now (later_after b call (type_of (expression_at unit.now n)) (line_of (expression_at unit.now n)) (form_in unit.now.lists (nodes unit.now) x) side (top js) (worth_of w) (state_of moment.old out es)) result js (state_of moment.new out es)) }
+    ensures led { LedAnywhere unit.now (with_later unit.now n x side (worth_of w)) result moment.old moment.new }
     ensures stays { Stays moment.old moment.new }
     ensures fits { MoveFitsOr unit.now result }
 {

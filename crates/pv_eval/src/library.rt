@@ -1,17 +1,16 @@
 // Calls of the library (C17 7), whose arguments are evaluated as those of any call.
-ghost use Rattle.std.specs.Prelude.{◌≡◌, ◌<◌, ◌≤◌, [], ◌∷◌, List, length, true, map, IfOk};
-ghost use Rattle.pv_typed.specs.TypedTree.{form_of, line_of, type_of, LibraryCall};
+ghost use Rattle.std.specs.Prelude.{◌≡◌, ◌<◌, ◌≤◌, length, true, IfOk};
+ghost use Rattle.pv_typed.specs.TypedTree.{form_of, line_of, LibraryCall};
 ghost use Rattle.pv_typed.specs.Nodes.{form_in, arguments_in};
 ghost use Rattle.pv_typed.specs.Children.{HasOperands, HasKinds};
 ghost use Rattle.pv_typed.specs.Tables.{nodes, expression_at, list_at, IsExpression};
-ghost use Rattle.pv_seq.specs.Sequencing.{Access, Open, opened, top, below};
-ghost use Rattle.pv_eval.specs.Steps.{Calling};
-ghost use Rattle.pv_eval.specs.Evaluation.{ev_ask};
+ghost use Rattle.pv_seq.specs.Sequencing.{below};
 ghost use Rattle.pv_world.specs.Coming.{worth_of};
 ghost use Rattle.pv_eval.specs.Runnable.{IsRunnable};
-ghost use Rattle.pv_eval.specs.Moments.{state_of, Always, Stays};
-ghost use Rattle.pv_eval.specs.Frames.{argument_after, arguments_from, arguments_count, asked_with};
-ghost use Rattle.pv_eval.specs.Ahead.{Led, MoveFitsOr, IsLibraryCall};
+ghost use Rattle.pv_eval.specs.Moments.{Stays};
+ghost use Rattle.pv_eval.specs.Frames.{arguments_count};
+ghost use Rattle.pv_eval.specs.Ahead.{MoveFitsOr, IsLibraryCall};
+ghost use Rattle.pv_eval.specs.Pieces.{LedBy, LedByLibrary, with_argument, asks_with};
 
 use crate::converting::hand;
 use crate::failure::Failure;
@@ -43,7 +42,7 @@ fn next_or_ask(
     requires line { line ≡ line_of (expression_at unit.now n) }
     requires list { HasKinds unit.now.rows unit.now.lists n.0 true l }
     requires some { 1 ≤ length journal.old }
-    ensures led { Always unit.now moment.old (λ b out es. (call : Calling) → Led b call unit.now (ev_ask b call line f (asked_with (arguments_in (nodes unit.now) (list_at unit.now l)) (map worth_of got.items)) (arguments_from (arguments_in (nodes unit.now) (list_at unit.now l)) (length got.items)) (top journal.old) (state_of moment.old out es)) result journal.new (state_of moment.new out es)) }
+    ensures led { LedBy unit.now (asks_with unit.now line f l got.items) result journal.old journal.new moment.old moment.new }
     ensures stays { Stays moment.old moment.new }
     ensures below { IfOk result (λ m. below journal.new ≡ below journal.old) }
     ensures some { IfOk result (λ m. 1 ≤ length journal.new) }
@@ -81,7 +80,7 @@ pub(crate) fn begin_library(
     requires line { line ≡ line_of (expression_at unit.now n) }
     requires form { form_of (expression_at unit.now n) ≡ LibraryCall f (arguments_in (nodes unit.now) (list_at unit.now l)) }
     requires list { HasKinds unit.now.rows unit.now.lists n.0 true l }
-    ensures led { Always unit.now moment.old (λ b out es. (call : Calling) (fs : List Access) (js : List Open) → Led b call unit.now (ev_ask b call line f [] (arguments_in (nodes unit.now) (list_at unit.now l)) (opened fs) (state_of moment.old out es)) result (opened fs ∷ js) (state_of moment.new out es)) }
+    ensures led { LedByLibrary unit.now line f l result moment.old moment.new }
     ensures stays { Stays moment.old moment.new }
     ensures fits { MoveFitsOr unit.now result }
 {
@@ -119,7 +118,7 @@ pub(crate) fn resume_library(
     requires some { 1 ≤ length journal.old }
     requires more { length got.items < arguments_count (form_in unit.now.lists (nodes unit.now) x) }
     requires library { IsLibraryCall x }
-    ensures led { Always unit.now moment.old (λ b out es. (call : Calling) → Led b call unit.now (argument_after b call (type_of (expression_at unit.now n)) (line_of (expression_at unit.now n)) (form_in unit.now.lists (nodes unit.now) x) (length got.items) (map worth_of got.items) (top journal.old) (worth_of v) (state_of moment.old out es)) result journal.new (state_of moment.new out es)) }
+    ensures led { LedBy unit.now (with_argument unit.now n x got.items (worth_of v)) result journal.old journal.new moment.old moment.new }
     ensures stays { Stays moment.old moment.new }
     ensures below { IfOk result (λ m. below journal.new ≡ below journal.old) }
     ensures some { IfOk result (λ m. 1 ≤ length journal.new) }

@@ -4,19 +4,19 @@ ghost use Rattle.std.specs.Borrow.{Lends, sem};
 ghost use Rattle.pv_eval.specs.Rows.{bytes_row, events_row};
 ghost use Rattle.pv_eval.specs.contracts.machine.Machine.{the_row};
 ghost use Rattle.pv_types.specs.Known.{tree};
-ghost use Rattle.pv_typed.specs.TypedTree.{line_of};
 ghost use Rattle.pv_typed.specs.Tables.{Stored, expression_at, IsExpression};
 ghost use Rattle.pv_world.specs.Worlds.{Nothing};
 ghost use Rattle.pv_world.specs.Coming.{worth_of};
 ghost use Rattle.pv_eval.specs.Constants.{constant_worth, high_side};
 ghost use Rattle.pv_eval.specs.Runnable.{IsRunnable};
-ghost use Rattle.pv_eval.specs.States.{Gives, then_do};
-ghost use Rattle.pv_eval.specs.Steps.{Calling, converted};
+ghost use Rattle.pv_eval.specs.States.{Gives};
 ghost use Rattle.pv_eval.specs.TypeForms.{lvalue, size_of};
-ghost use Rattle.pv_eval.specs.Operations.{Tests, Accepts, Needs, BeginsBody, EndsBody, Makes, MakesLiteral, Ends, Fills, Puts, PutsText, act};
+ghost use Rattle.pv_eval.specs.Operations.{Tests, BeginsBody, EndsBody, Makes, MakesLiteral, Ends, Fills, Puts, PutsText, act};
 ghost use Rattle.pv_eval.specs.Moments.{sides_of, state_of, Always, Came, Tested, Made, Needed, IsMemory, Stays};
-ghost use Rattle.pv_eval.specs.Machines.{first_machine, left_of, ended, is_due, is_going, is_ended, is_asked, asked_arguments, asked_line, due_turns, after_first};
-ghost use Rattle.pv_eval.specs.MachineSteps.{IsBegun, IsTaken, IsAnswered, IsOpen, Fit, Stepped, WentTo, KeepsSetting};
+ghost use Rattle.pv_eval.specs.Machines.{first_machine, ended, is_due, is_going, is_ended, is_asked, asked_arguments, asked_line, due_turns, after_first};
+ghost use Rattle.pv_eval.specs.MachineSteps.{IsBegun, IsTaken, IsAnswered, IsOpen, Fit, WentTo, KeepsSetting};
+ghost use Rattle.pv_eval.specs.Pieces.{handed_at, needed_of};
+ghost use Rattle.pv_eval.specs.Progress.{StepsMachine, MadeAnywhere};
 
 use crate::converting::{hand_on, need};
 use crate::failure::Failure;
@@ -152,7 +152,7 @@ impl Machine {
         requires going { is_going self.old.started ≡ true }
         requires fit { Fit unit.now self.old.started }
         requires turn { is_due self.old.started ≡ true → self.old.moment.taken < 10 ^ 8 }
-        ensures rest { Always unit.now self.old.moment (λ b out es. (call : Calling) → (is_due self.old.started ≡ true → self.old.moment.taken < b.bound) → Stepped b call unit.now (left_of b call unit.now self.old.started (state_of self.old.moment out es)) result self.new.started (state_of self.new.moment out es)) }
+        ensures rest { StepsMachine unit.now result self.old self.new }
         ensures others { after_first self.new.started ≡ after_first self.old.started }
         ensures which { IfOk result (λ x. WentTo unit.now x self.new.started) }
         ensures fit { OnOk result (Fit unit.now self.new.started) }
@@ -197,7 +197,7 @@ impl Machine {
         requires runnable { IsRunnable unit.now }
         requires node { IsExpression unit.now n }
         requires ended { is_ended self.old.started ≡ true }
-        ensures handed { Always unit.now self.old.moment (λ b out es. Came (then_do (converted b (expression_at unit.now n) (ended self.old.started) (state_of self.old.moment out es)) (λ v s. act b line (Accepts v) s)) result (state_of self.new.moment out es)) }
+        ensures handed { Always unit.now self.old.moment (λ b out es. Came (handed_at b line (expression_at unit.now n) (ended self.old.started) (state_of self.old.moment out es)) result (state_of self.new.moment out es)) }
         ensures started { self.new.started ≡ after_first self.old.started }
         ensures stays { Stays self.old.moment self.new.moment }
     {
@@ -210,7 +210,7 @@ impl Machine {
         requires runnable { IsRunnable unit.now }
         requires node { IsExpression unit.now n }
         requires ended { is_ended self.old.started ≡ true }
-        ensures needed { Always unit.now self.old.moment (λ b out es. Needed (then_do (converted b (expression_at unit.now n) (ended self.old.started) (state_of self.old.moment out es)) (λ v s. act b (line_of (expression_at unit.now n)) (Needs v) s)) result (state_of self.new.moment out es)) }
+        ensures needed { Always unit.now self.old.moment (λ b out es. Needed (needed_of b (expression_at unit.now n) (ended self.old.started) (state_of self.old.moment out es)) result (state_of self.new.moment out es)) }
         ensures started { self.new.started ≡ after_first self.old.started }
         ensures stays { Stays self.old.moment self.new.moment }
     {
@@ -349,7 +349,7 @@ impl Machine {
         requires runnable { IsRunnable unit.now }
         requires there { o < length unit.now.objects }
         requires typed { t.0 < length unit.now.known.terms }
-        ensures made { Always unit.now self.old.moment (λ b out es. (line : ℕ) → Made (act b line (Puts o offset (lvalue b (tree unit.now.known t.0)) (worth_of v.now)) (state_of self.old.moment out es)) result (state_of self.new.moment out es)) }
+        ensures made { MadeAnywhere unit.now (λ b. Puts o offset (lvalue b (tree unit.now.known t.0)) (worth_of v.now)) result self.old.moment self.new.moment }
         ensures started { self.new.started ≡ self.old.started }
         ensures stays { Stays self.old.moment self.new.moment }
         ensures memory { IsMemory result }
@@ -370,7 +370,7 @@ impl Machine {
         requires there { o < length unit.now.objects }
         requires typed { t.0 < length unit.now.known.terms }
         requires literal { literal < length unit.now.literals }
-        ensures made { Always unit.now self.old.moment (λ b out es. (line : ℕ) → Made (act b line (PutsText o offset (size_of b (tree unit.now.known t.0)) literal) (state_of self.old.moment out es)) result (state_of self.new.moment out es)) }
+        ensures made { MadeAnywhere unit.now (λ b. PutsText o offset (size_of b (tree unit.now.known t.0)) literal) result self.old.moment self.new.moment }
         ensures started { self.new.started ≡ self.old.started }
         ensures stays { Stays self.old.moment self.new.moment }
         ensures memory { IsMemory result }

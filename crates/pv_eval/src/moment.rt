@@ -1,15 +1,10 @@
 // What a run has in hand.
-ghost use Rattle.std.specs.Prelude.{◌≡◌, ◌+◌, ◌<◌, ◌^◌, ℕ, [], List, length, IfOk, IfErr, OnOk, Ok, Bool};
-ghost use Rattle.pv_world.specs.Worlds.{Worth, World as Seen};
-ghost use Rattle.pv_world.specs.Telling.{telling};
+ghost use Rattle.std.specs.Prelude.{◌≡◌, ◌+◌, ◌<◌, ◌^◌, [], IfOk, IfErr, OnOk, Ok};
 ghost use Rattle.pv_world.specs.Worths.{truth_int, int};
-ghost use Rattle.pv_world.specs.Doing.{Done};
 ghost use Rattle.pv_world.specs.Coming.{Did, worth_of, no_worth};
-ghost use Rattle.pv_eval.specs.States.{Setting};
-ghost use Rattle.pv_eval.specs.Acting.{acted, answered, pair_count, without_use};
-ghost use Rattle.pv_eval.specs.Siding.{Settled};
-ghost use Rattle.pv_eval.specs.Moments.{Follows, state_of, marked, Came, Tested, Needed, Made, IsMemory};
-ghost use Rattle.pv_eval.specs.declared.marked.Marked.{Marked as Event};
+ghost use Rattle.pv_eval.specs.Acting.{without_use};
+ghost use Rattle.pv_eval.specs.Closings.{ClosedAs, ClosedStill, SettledAs};
+ghost use Rattle.pv_eval.specs.Moments.{marked, Came, Tested, Needed, Made, IsMemory};
 
 use crate::failure::Failure;
 use crate::marked::{Marked, stamp, stamp_others};
@@ -90,7 +85,7 @@ impl Moment {
     /// An operation of the node in this line gave a value, where there were so many pairs before it: what it told is marked.
     /// In a settled run a pair that it made keeps its side.
     fn settle(&mut self, line: u32, before: u64, told: &[What]) -> Result<(), Failure>
-        ensures settled { (v : Worth) (b : Setting) (w : Seen) (out : List ℕ) (es : List Event) → b.sides ≡ self.old.sides → before ≡ pair_count w → Follows self.old (length out) → Settled v (answered b.sides v line self.old.world (telling told.now) (state_of (record self.old { world = w }) out es)) result (state_of self.new out es) }
+        ensures settled { SettledAs line before told.now result self.old self.new }
         ensures kept { self.new ≡ record self.old { world = self.new.world; waiting = self.new.waiting } }
     {
         let pair = self.world.pairs_made();
@@ -116,7 +111,7 @@ impl Moment {
         told: &[What],
         answer: Result<Got, Fallen>,
     ) -> Result<Got, Failure>
-        ensures acted { (b : Setting) (w : Seen) (op : Seen → Done) (out : List ℕ) (es : List Event) → b.sides ≡ self.old.sides → before ≡ pair_count w → Follows self.old (length out) → Did worth_of op answer w self.old.world [] told.now → Came (acted b line (op w) (state_of (record self.old { world = w }) out es)) result (state_of self.new out es) }
+        ensures acted { ClosedAs line before (λ w op. Did worth_of op answer w self.old.world [] told.now) (λ r s. Came r result s) self.old self.new }
         ensures same { IfOk result (λ g. answer ≡ Ok g) }
         ensures kept { self.new ≡ record self.old { world = self.new.world; waiting = self.new.waiting } }
     {
@@ -141,7 +136,7 @@ impl Moment {
         told: &[What],
         answer: Result<bool, Fallen>,
     ) -> Result<bool, Failure>
-        ensures tested { (b : Setting) (w : Seen) (op : Seen → Done) (out : List ℕ) (es : List Event) → b.sides ≡ self.old.sides → before ≡ pair_count w → Follows self.old (length out) → Did truth_int op answer w self.old.world [] told.now → Tested (acted b line (op w) (state_of (record self.old { world = w }) out es)) result (state_of self.new out es) }
+        ensures tested { ClosedAs line before (λ w op. Did truth_int op answer w self.old.world [] told.now) (λ r s. Tested r result s) self.old self.new }
         ensures kept { self.new ≡ record self.old { world = self.new.world; waiting = self.new.waiting } }
     {
         match answer {
@@ -164,7 +159,7 @@ impl Moment {
         told: &[What],
         answer: Result<i128, Fallen>,
     ) -> Result<i128, Failure>
-        ensures needed { (b : Setting) (w : Seen) (op : Seen → Done) (out : List ℕ) (es : List Event) → b.sides ≡ self.old.sides → before ≡ pair_count w → Follows self.old (length out) → Did int op answer w self.old.world [] told.now → Needed (acted b line (op w) (state_of (record self.old { world = w }) out es)) result (state_of self.new out es) }
+        ensures needed { ClosedAs line before (λ w op. Did int op answer w self.old.world [] told.now) (λ r s. Needed r result s) self.old self.new }
         ensures kept { self.new ≡ record self.old { world = self.new.world; waiting = self.new.waiting } }
     {
         match answer {
@@ -187,7 +182,7 @@ impl Moment {
         told: &[What],
         answer: Result<(), Fallen>,
     ) -> Result<(), Failure>
-        ensures made { (b : Setting) (w : Seen) (op : Seen → Done) (out : List ℕ) (es : List Event) → b.sides ≡ self.old.sides → before ≡ pair_count w → Follows self.old (length out) → Did no_worth op answer w self.old.world [] told.now → Made (acted b line (op w) (state_of (record self.old { world = w }) out es)) result (state_of self.new out es) }
+        ensures made { ClosedAs line before (λ w op. Did no_worth op answer w self.old.world [] told.now) (λ r s. Made r result s) self.old self.new }
         ensures kept { self.new ≡ record self.old { world = self.new.world; waiting = self.new.waiting } }
     {
         match answer {
@@ -204,7 +199,7 @@ impl Moment {
 
     /// An operation that can't stop and makes no pair was made on the world, whatever its line: what it told is marked.
     pub(crate) fn close_done(&mut self, told: &[What]) -> Result<(), Failure>
-        ensures made { (b : Setting) (w : Seen) (op : Seen → Done) (out : List ℕ) (es : List Event) → b.sides ≡ self.old.sides → pair_count self.old.world ≡ pair_count w → Follows self.old (length out) → Did no_worth op (Ok tt) w self.old.world [] told.now → (line : ℕ) → Made (acted b line (op w) (state_of (record self.old { world = w }) out es)) result (state_of self.new out es) }
+        ensures made { ClosedStill told.now (λ r s. Made r result s) self.old self.new }
         ensures kept { self.new ≡ record self.old { waiting = self.new.waiting } }
         ensures memory { IsMemory result }
     {

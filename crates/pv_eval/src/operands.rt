@@ -3,14 +3,11 @@ ghost use Rattle.std.specs.Prelude.{◌≡◌, ◌<◌, List, true, IfSome, IfNo
 ghost use Rattle.pv_typed.specs.TypedTree.{form_of, takes_turn};
 ghost use Rattle.pv_typed.specs.Tables.{expression_at, IsExpression};
 ghost use Rattle.pv_eval.specs.States.{Setting, State};
-ghost use Rattle.pv_eval.specs.Sequenced.{operand};
-ghost use Rattle.pv_seq.specs.Sequencing.{Access, opened};
+ghost use Rattle.pv_seq.specs.Sequencing.{Access};
 ghost use Rattle.pv_eval.specs.Steps.{Calling, takes};
-ghost use Rattle.pv_eval.specs.Evaluation.{ev};
-ghost use Rattle.pv_eval.specs.Frames.{frame_after};
 ghost use Rattle.pv_eval.specs.Ahead.{first_operand_of, second_operand_of, takes_of};
+ghost use Rattle.pv_eval.specs.Pieces.{BeginsWith};
 
-use crate::frames::Stage;
 use pv_tree::NodeId;
 use pv_typed::{Typed, TypedUnit};
 
@@ -72,7 +69,7 @@ pub(crate) fn second_operand(x: Typed) -> Option<NodeId>
 /// The operand of a node that takes no turn of its own.
 pub(crate) fn uncounted(unit: &TypedUnit, n: NodeId) -> Option<NodeId>
     requires { IsExpression unit.now n }
-    ensures some { (b : Setting) (call : Calling) (fs : List Access) (s : State) → IfSome result (λ a. ev b call (expression_at unit.now n) fs s ≡ operand (ev b call (expression_at unit.now a)) (opened fs) s (frame_after b call unit.now (record { node = n; stage = Stage.First }))) }
+    ensures some { (b : Setting) (call : Calling) (fs : List Access) (s : State) → IfSome result (λ a. BeginsWith unit.now n a b call fs s) }
     ensures there { IfSome result (λ a. IsExpression unit.now a) }
     ensures less { IfSome result (λ a. a.0 < n.0) }
     ensures none { IfNone result (takes (takes_turn (expression_at unit.now n)) (form_of (expression_at unit.now n)) ≡ true) }

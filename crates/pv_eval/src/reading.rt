@@ -1,6 +1,5 @@
 // Reads and writes as operations of a node (C17 6.3.2.1p2, 6.5.16).
 ghost use Rattle.std.specs.Prelude.{◌≡◌, ◌≤◌, ◌∷◌, length, true, false, IfOk, OnOk};
-ghost use Rattle.pv_types.specs.Known.{tree};
 ghost use Rattle.pv_typed.specs.Formed.{AreKnown};
 ghost use Rattle.pv_typed.specs.TypedTree.{type_of};
 ghost use Rattle.pv_typed.specs.Tables.{expression_at, IsExpression};
@@ -9,6 +8,7 @@ ghost use Rattle.pv_world.specs.Worths.{pointer_of};
 ghost use Rattle.pv_world.specs.Coming.{Did, worth_of};
 ghost use Rattle.pv_eval.specs.TypeForms.{lvalue};
 ghost use Rattle.pv_eval.specs.Sizes.{setting_of, IsComplete};
+ghost use Rattle.pv_eval.specs.Within.{lvalue_in};
 ghost use Rattle.pv_eval.specs.Runnable.{IsRunnable};
 ghost use Rattle.pv_eval.specs.Accesses.{access_to};
 ghost use Rattle.pv_eval.specs.Operations.{Reads, Writes, does};
@@ -41,8 +41,8 @@ fn read_known(
     requires known { AreKnown unit.now }
     requires complete { IsComplete unit.now.known l }
     requires some { 1 ≤ length journal.old }
-    ensures did { Did worth_of (does (setting_of unit.now) (Reads (lvalue (setting_of unit.now) (tree unit.now.known l.t.0)) (worth_of place.now) (rivals (top journal.old)))) result world.old world.new told.old.items told.new.items }
-    ensures noted { OnOk result (journal.new ≡ noted (access_to (lvalue (setting_of unit.now) (tree unit.now.known l.t.0)) (pointer_of (worth_of place.now)) false) (top journal.old) ∷ below journal.old) }
+    ensures did { Did worth_of (does (setting_of unit.now) (Reads (lvalue_in unit.now l.t) (worth_of place.now) (rivals (top journal.old)))) result world.old world.new told.old.items told.new.items }
+    ensures noted { OnOk result (journal.new ≡ noted (access_to (lvalue_in unit.now l.t) (pointer_of (worth_of place.now)) false) (top journal.old) ∷ below journal.old) }
 {
     if knows(world, place) {
         read_from(alloc, unit, l, pointer_of(place), journal, world, told)
@@ -63,8 +63,8 @@ fn read_place(
 ) -> Result<Got, Fallen>
     requires known { AreKnown unit.now }
     requires some { 1 ≤ length journal.old }
-    ensures did { Did worth_of (does (setting_of unit.now) (Reads (lvalue (setting_of unit.now) (tree unit.now.known t.0)) (worth_of place.now) (rivals (top journal.old)))) result world.old world.new told.old.items told.new.items }
-    ensures noted { OnOk result (journal.new ≡ noted (access_to (lvalue (setting_of unit.now) (tree unit.now.known t.0)) (pointer_of (worth_of place.now)) false) (top journal.old) ∷ below journal.old) }
+    ensures did { Did worth_of (does (setting_of unit.now) (Reads (lvalue_in unit.now t) (worth_of place.now) (rivals (top journal.old)))) result world.old world.new told.old.items told.new.items }
+    ensures noted { OnOk result (journal.new ≡ noted (access_to (lvalue_in unit.now t) (pointer_of (worth_of place.now)) false) (top journal.old) ∷ below journal.old) }
 {
     match measured(unit.types(), t) {
         Some(l) => read_known(alloc, unit, l, place, journal, world, told),
@@ -87,8 +87,8 @@ fn write_known(
     requires known { AreKnown unit.now }
     requires complete { IsComplete unit.now.known l }
     requires some { 1 ≤ length journal.old }
-    ensures did { Did worth_of (does (setting_of unit.now) (Writes (lvalue (setting_of unit.now) (tree unit.now.known l.t.0)) (worth_of place.now) (worth_of v) from (rivals (top journal.old)))) result world.old world.new told.old.items told.new.items }
-    ensures noted { OnOk result (journal.new ≡ noted (access_to (lvalue (setting_of unit.now) (tree unit.now.known l.t.0)) (pointer_of (worth_of place.now)) true) (top journal.old) ∷ below journal.old) }
+    ensures did { Did worth_of (does (setting_of unit.now) (Writes (lvalue_in unit.now l.t) (worth_of place.now) (worth_of v) from (rivals (top journal.old)))) result world.old world.new told.old.items told.new.items }
+    ensures noted { OnOk result (journal.new ≡ noted (access_to (lvalue_in unit.now l.t) (pointer_of (worth_of place.now)) true) (top journal.old) ∷ below journal.old) }
 {
     if can_write(world, shape(unit.types(), l.t), l.size, place, &v) {
         write_to(
@@ -121,8 +121,8 @@ fn write_place(
 ) -> Result<Got, Fallen>
     requires known { AreKnown unit.now }
     requires some { 1 ≤ length journal.old }
-    ensures did { Did worth_of (does (setting_of unit.now) (Writes (lvalue (setting_of unit.now) (tree unit.now.known t.0)) (worth_of place.now) (worth_of v) from (rivals (top journal.old)))) result world.old world.new told.old.items told.new.items }
-    ensures noted { OnOk result (journal.new ≡ noted (access_to (lvalue (setting_of unit.now) (tree unit.now.known t.0)) (pointer_of (worth_of place.now)) true) (top journal.old) ∷ below journal.old) }
+    ensures did { Did worth_of (does (setting_of unit.now) (Writes (lvalue_in unit.now t) (worth_of place.now) (worth_of v) from (rivals (top journal.old)))) result world.old world.new told.old.items told.new.items }
+    ensures noted { OnOk result (journal.new ≡ noted (access_to (lvalue_in unit.now t) (pointer_of (worth_of place.now)) true) (top journal.old) ∷ below journal.old) }
 {
     match measured(unit.types(), t) {
         Some(l) => write_known(alloc, unit, l, place, v, from, journal, world, told),

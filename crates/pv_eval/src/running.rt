@@ -2,20 +2,18 @@
 ghost use Rattle.std.specs.Prelude.{◌≡◌, ◌+◌, ◌<◌, ◌≤◌, ◌^◌, [], length, All, true, false, IfOk, IfErr, IsTrue};
 ghost use Rattle.pv_typed.specs.TypedTree.{form_of, takes_turn};
 ghost use Rattle.pv_typed.specs.Tables.{Stored, expression_at, IsExpression};
-ghost use Rattle.pv_eval.specs.States.{Setting, State, then_do};
-ghost use Rattle.pv_eval.specs.Sequenced.{operand};
-ghost use Rattle.pv_eval.specs.Stack.{rest};
+ghost use Rattle.pv_eval.specs.States.{Setting, State};
 ghost use Rattle.pv_seq.specs.Sequencing.{opened, top, below};
 ghost use Rattle.pv_eval.specs.Steps.{Calling, takes};
-ghost use Rattle.pv_eval.specs.Evaluation.{ev};
 ghost use Rattle.pv_world.specs.Coming.{worth_of};
 ghost use Rattle.pv_eval.specs.Runnable.{IsRunnable};
-ghost use Rattle.pv_eval.specs.Moments.{state_of, Always, Stays};
-ghost use Rattle.pv_eval.specs.Frames.{frame_after, after};
+ghost use Rattle.pv_eval.specs.Moments.{Stays};
 ghost use Rattle.pv_world.specs.declared.got.Got.{Got};
 ghost use Rattle.pv_eval.specs.Machines.{is_due_at, is_value, is_call_at, turns_at};
 ghost use Rattle.pv_eval.specs.MachineSteps.{KeepsSetting};
-ghost use Rattle.pv_eval.specs.Ahead.{means, ahead, stack, Led, Kept, FrameFits, MoveFits, MoveFitsOr, NowFits, NowFitsOr, Matched, MatchedOr};
+ghost use Rattle.pv_eval.specs.Ahead.{ahead, Kept, FrameFits, MoveFits, MoveFitsOr, NowFits, NowFitsOr, Matched, MatchedOr};
+ghost use Rattle.pv_eval.specs.Pieces.{LedBy, with_frame};
+ghost use Rattle.pv_eval.specs.Progress.{ahead_by, GoesOn, GoesOnByStep};
 
 use crate::arguments::resume_argument;
 use crate::beginning::begin;
@@ -41,7 +39,7 @@ pub(crate) fn follow(
     led: Move,
 ) -> Result<Now, Failure>
     requires { 1 ≤ length journal.old }
-    ensures kept { (b : Setting) (call : Calling) (u : Stored) (s : State) → Kept b call u (then_do (means b call u led (top journal.old) s) (rest (after b call u) (stack frames.old.items (below journal.old)))) result frames.new.items journal.new s }
+    ensures kept { (b : Setting) (call : Calling) (u : Stored) (s : State) → Kept b call u (ahead_by b call u frames.old.items journal.old led s) result frames.new.items journal.new s }
     ensures fits { (u : Stored) → MoveFits u led → NowFitsOr u result journal.new }
     ensures frames { (u : Stored) → MoveFits u led → All (FrameFits u) frames.old.items → All (FrameFits u) frames.new.items }
     ensures matched { length journal.old ≡ length frames.old.items + 1 → MatchedOr result frames.new.items journal.new }
@@ -108,7 +106,7 @@ pub(crate) fn descend(
 /// A node waits for an operand beside those before it; false where there is no memory.
 pub(crate) fn wait(frames: &mut Vec<Frame>, journal: &mut Journal, a: NodeId, frame: Frame) -> bool
     requires { 1 ≤ length journal.old }
-    ensures kept { (b : Setting) (call : Calling) (u : Stored) (s : State) → IsTrue result → then_do (operand (ev b call (expression_at u a)) (top journal.old) s (frame_after b call u frame)) (rest (after b call u) (stack frames.old.items (below journal.old))) ≡ ahead b call u frames.new.items journal.new (Now.Due a) s }
+    ensures kept { (b : Setting) (call : Calling) (u : Stored) (s : State) → IsTrue result → ahead_by b call u frames.old.items journal.old (Move.Operand a frame) s ≡ ahead b call u frames.new.items journal.new (Now.Due a) s }
     ensures frames { (u : Stored) → FrameFits u frame → All (FrameFits u) frames.old.items → All (FrameFits u) frames.new.items }
     ensures matched { IsTrue result → length journal.old ≡ length frames.old.items + 1 → Matched frames.new.items journal.new }
     ensures fresh { IsTrue result → top journal.new ≡ opened (top journal.new).foes }
@@ -131,7 +129,7 @@ pub(crate) fn resume(
     requires runnable { IsRunnable unit.now }
     requires there { FrameFits unit.now frame }
     requires some { 1 ≤ length journal.old }
-    ensures led { Always unit.now moment.old (λ b out es. (call : Calling) → Led b call unit.now (frame_after b call unit.now frame (top journal.old) (worth_of v) (state_of moment.old out es)) result journal.new (state_of moment.new out es)) }
+    ensures led { LedBy unit.now (with_frame unit.now frame (worth_of v)) result journal.old journal.new moment.old moment.new }
     ensures stays { Stays moment.old moment.new }
     ensures below { IfOk result (λ m. below journal.new ≡ below journal.old) }
     ensures some { IfOk result (λ m. 1 ≤ length journal.new) }
@@ -160,7 +158,7 @@ pub(crate) fn unwind(
     requires runnable { IsRunnable unit.now }
     requires frames { All (FrameFits unit.now) frames.old.items }
     requires matched { Matched frames.old.items journal.old }
-    ensures kept { Always unit.now moment.old (λ b out es. (call : Calling) → Kept b call unit.now (ahead b call unit.now frames.old.items journal.old (Now.Value v) (state_of moment.old out es)) result frames.new.items journal.new (state_of moment.new out es)) }
+    ensures kept { GoesOn unit.now (Now.Value v) result frames.old.items frames.new.items journal.old journal.new moment.old moment.new }
     ensures stays { Stays moment.old moment.new }
     ensures fits { NowFitsOr unit.now result journal.new }
     ensures frames { IfOk result (λ p. All (FrameFits unit.now) frames.new.items) }
@@ -196,7 +194,7 @@ pub(crate) fn step(
     requires frames { All (FrameFits unit.now) frames.old.items }
     requires matched { Matched frames.old.items journal.old }
     requires room { is_due_at place ≡ true → moment.old.taken < 10 ^ 8 }
-    ensures kept { Always unit.now moment.old (λ b out es. (call : Calling) → (is_due_at place ≡ true → moment.old.taken < b.bound) → Kept b call unit.now (ahead b call unit.now frames.old.items journal.old place (state_of moment.old out es)) result frames.new.items journal.new (state_of moment.new out es)) }
+    ensures kept { GoesOnByStep unit.now place result frames.old.items frames.new.items journal.old journal.new moment.old moment.new }
     ensures fits { NowFitsOr unit.now result journal.new }
     ensures frames { IfOk result (λ p. All (FrameFits unit.now) frames.new.items) }
     ensures matched { MatchedOr result frames.new.items journal.new }

@@ -1,20 +1,15 @@
 // What a node does with the value of its second operand.
-ghost use Rattle.std.specs.Prelude.{◌≡◌, ◌≤◌, List, length, IfOk};
-ghost use Rattle.pv_typed.specs.TypedTree.{form_of, line_of, type_of};
+ghost use Rattle.std.specs.Prelude.{◌≡◌, ◌≤◌, length, IfOk};
+ghost use Rattle.pv_typed.specs.TypedTree.{form_of};
 ghost use Rattle.pv_typed.specs.Nodes.{form_in};
 ghost use Rattle.pv_typed.specs.Children.{HasOperands};
 ghost use Rattle.pv_typed.specs.Tables.{nodes, expression_at, IsExpression};
-ghost use Rattle.pv_eval.specs.States.{then_do};
-ghost use Rattle.pv_eval.specs.Sequenced.{work, done};
-ghost use Rattle.pv_seq.specs.Sequencing.{Open, top, below};
-ghost use Rattle.pv_eval.specs.Steps.{Calling, converted, source_of, writing, is_unequal};
-ghost use Rattle.pv_eval.specs.TypeForms.{lvalue, kind_of};
-ghost use Rattle.pv_eval.specs.Operations.{Calculates, Equals};
+ghost use Rattle.pv_seq.specs.Sequencing.{below};
 ghost use Rattle.pv_world.specs.Coming.{worth_of};
 ghost use Rattle.pv_eval.specs.Runnable.{IsRunnable};
-ghost use Rattle.pv_eval.specs.Moments.{state_of, Always, Stays};
-ghost use Rattle.pv_eval.specs.Frames.{second_after};
-ghost use Rattle.pv_eval.specs.Ahead.{Led, MoveFitsOr};
+ghost use Rattle.pv_eval.specs.Moments.{Stays};
+ghost use Rattle.pv_eval.specs.Ahead.{MoveFitsOr};
+ghost use Rattle.pv_eval.specs.Pieces.{LedBy, LedAnywhere, with_second, calculates_right, calculates, compares_right, compares, assigns};
 
 use crate::converting::convert;
 use crate::failure::Failure;
@@ -42,7 +37,7 @@ pub(crate) fn resume_second(
     requires form { form_of (expression_at unit.now n) ≡ form_in unit.now.lists (nodes unit.now) x }
     requires operands { HasOperands unit.now.rows unit.now.lists n.0 x }
     requires some { 1 ≤ length journal.old }
-    ensures led { Always unit.now moment.old (λ b out es. (call : Calling) → Led b call unit.now (second_after b call (type_of (expression_at unit.now n)) (line_of (expression_at unit.now n)) (form_in unit.now.lists (nodes unit.now) x) (worth_of v) (top journal.old) (worth_of w) (state_of moment.old out es)) result journal.new (state_of moment.new out es)) }
+    ensures led { LedBy unit.now (with_second unit.now n x (worth_of v) (worth_of w)) result journal.old journal.new moment.old moment.new }
     ensures stays { Stays moment.old moment.new }
     ensures below { IfOk result (λ m. below journal.new ≡ below journal.old) }
     ensures some { IfOk result (λ m. 1 ≤ length journal.new) }
@@ -83,7 +78,7 @@ pub(crate) fn arithmetic(
     requires runnable { IsRunnable unit.now }
     requires left { IsExpression unit.now a }
     requires right { IsExpression unit.now d }
-    ensures led { Always unit.now moment.old (λ b out es. (call : Calling) (js : List Open) → Led b call unit.now (then_do (converted b (expression_at unit.now a) (worth_of v) (state_of moment.old out es)) (λ v s. then_do (converted b (expression_at unit.now d) (worth_of w) s) (λ w s. work b line (Calculates op (kind_of (type_of (expression_at unit.now a))) v w) (top js) s))) result js (state_of moment.new out es)) }
+    ensures led { LedAnywhere unit.now (calculates unit.now line op a d (worth_of v) (worth_of w)) result moment.old moment.new }
     ensures stays { Stays moment.old moment.new }
     ensures fits { MoveFitsOr unit.now result }
 {
@@ -109,7 +104,7 @@ pub(crate) fn arithmetic_right(
     requires runnable { IsRunnable unit.now }
     requires left { IsExpression unit.now a }
     requires right { IsExpression unit.now d }
-    ensures led { Always unit.now moment.old (λ b out es. (call : Calling) (js : List Open) → Led b call unit.now (then_do (converted b (expression_at unit.now d) (worth_of w) (state_of moment.old out es)) (λ w s. work b line (Calculates op (kind_of (type_of (expression_at unit.now a))) (worth_of v) w) (top js) s)) result js (state_of moment.new out es)) }
+    ensures led { LedAnywhere unit.now (calculates_right unit.now line op a d (worth_of v) (worth_of w)) result moment.old moment.new }
     ensures stays { Stays moment.old moment.new }
     ensures fits { MoveFitsOr unit.now result }
 {
@@ -137,7 +132,7 @@ pub(crate) fn assign(
     requires left { IsExpression unit.now a }
     requires right { IsExpression unit.now d }
     requires some { 1 ≤ length journal.old }
-    ensures led { Always unit.now moment.old (λ b out es. (call : Calling) → Led b call unit.now (then_do (converted b (expression_at unit.now d) (worth_of w) (state_of moment.old out es)) (λ v s. writing b (lvalue b (type_of (expression_at unit.now a))) line (worth_of place) v (source_of (expression_at unit.now d) v) (top journal.old) s done)) result journal.new (state_of moment.new out es)) }
+    ensures led { LedBy unit.now (assigns unit.now line a d (worth_of place) (worth_of w)) result journal.old journal.new moment.old moment.new }
     ensures stays { Stays moment.old moment.new }
     ensures below { IfOk result (λ m. below journal.new ≡ below journal.old) }
     ensures some { IfOk result (λ m. 1 ≤ length journal.new) }
@@ -166,7 +161,7 @@ pub(crate) fn equality(
     requires runnable { IsRunnable unit.now }
     requires left { IsExpression unit.now a }
     requires right { IsExpression unit.now d }
-    ensures led { Always unit.now moment.old (λ b out es. (call : Calling) (js : List Open) → Led b call unit.now (then_do (converted b (expression_at unit.now a) (worth_of v) (state_of moment.old out es)) (λ v s. then_do (converted b (expression_at unit.now d) (worth_of w) s) (λ w s. work b line (Equals (is_unequal op) v w) (top js) s))) result js (state_of moment.new out es)) }
+    ensures led { LedAnywhere unit.now (compares unit.now line op a d (worth_of v) (worth_of w)) result moment.old moment.new }
     ensures stays { Stays moment.old moment.new }
     ensures fits { MoveFitsOr unit.now result }
 {
@@ -190,7 +185,7 @@ pub(crate) fn equality_right(
 ) -> Result<Move, Failure>
     requires runnable { IsRunnable unit.now }
     requires right { IsExpression unit.now d }
-    ensures led { Always unit.now moment.old (λ b out es. (call : Calling) (js : List Open) → Led b call unit.now (then_do (converted b (expression_at unit.now d) (worth_of w) (state_of moment.old out es)) (λ w s. work b line (Equals (is_unequal op) (worth_of v) w) (top js) s)) result js (state_of moment.new out es)) }
+    ensures led { LedAnywhere unit.now (compares_right unit.now line op d (worth_of v) (worth_of w)) result moment.old moment.new }
     ensures stays { Stays moment.old moment.new }
     ensures fits { MoveFitsOr unit.now result }
 {

@@ -4,11 +4,11 @@ ghost use Rattle.pv_typed.specs.Tables.{Stored};
 ghost use Rattle.pv_seq.specs.Sequencing.{opened, settled, top, below};
 ghost use Rattle.pv_world.specs.Coming.{worth_of};
 ghost use Rattle.pv_eval.specs.Runnable.{IsRunnable};
-ghost use Rattle.pv_eval.specs.Steps.{Calling};
-ghost use Rattle.pv_eval.specs.Moments.{state_of, Always, IsMemory};
-ghost use Rattle.pv_eval.specs.Ahead.{ahead, Matched};
+ghost use Rattle.pv_eval.specs.Moments.{IsMemory};
+ghost use Rattle.pv_eval.specs.Ahead.{Matched};
 ghost use Rattle.pv_eval.specs.Machines.{Started as Expression, value_at, is_due_at, is_value, is_call_at, turns_at, arguments_at, line_at};
-ghost use Rattle.pv_eval.specs.MachineSteps.{StartedFits, Stepped, WentTo, step_at, KeepsSetting};
+ghost use Rattle.pv_eval.specs.MachineSteps.{StartedFits, WentTo, step_at, KeepsSetting};
+ghost use Rattle.pv_eval.specs.Progress.{StepsExpression};
 
 use crate::failure::Failure;
 use crate::frames::{Frame, Now, Step};
@@ -120,7 +120,7 @@ impl Started {
         requires going { is_call_at self.old.place ≡ false }
         requires fits { StartedFits unit.now self.old }
         requires turn { is_due_at self.old.place ≡ true → moment.old.taken < 10 ^ 8 }
-        ensures rest { Always unit.now moment.old (λ b out es. (call : Calling) (others : List Expression) → (is_due_at self.old.place ≡ true → moment.old.taken < b.bound) → Stepped b call unit.now (ahead b call unit.now self.old.frames self.old.opens self.old.place (state_of moment.old out es)) result (self.new ∷ others) (state_of moment.new out es)) }
+        ensures rest { StepsExpression unit.now result self.old self.new moment.old moment.new }
         ensures which { (others : List Expression) → IfOk result (λ x. WentTo unit.now x (self.new ∷ others)) }
         ensures fits { OnOk result (StartedFits unit.now self.new) }
         ensures taken { moment.new.taken ≡ moment.old.taken + turns_at self.old.place }

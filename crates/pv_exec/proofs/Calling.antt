@@ -1,6 +1,6 @@
 -- A call: its body runs one level lower, and its end answers.
-use Rattle.std.proofs.Common.{◌≡◌, ℕ, ◌+◌, ◌<◌, ◌≤◌, List, [], ◌∷◌, Some, None, zero, suc, refl, sym, ap, ◌∙◌, subst, arith, true, false}
-use Rattle.std.specs.Prelude.{Bool, Result, Err, length, if◌then◌else◌}
+use Rattle.std.proofs.Common.{◌≡◌, ℕ, ◌+◌, ◌<◌, ◌≤◌, List, [], ◌∷◌, Some, None, zero, suc, refl, sym, ap, ◌∙◌, subst, arith, true}
+use Rattle.std.specs.Prelude.{Result, Err, length}
 use Rattle.std.specs.declared.option.Option.{Option}
 use Rattle.pv_tree.specs.declared.nodes.NodeId.{NodeId}
 use Rattle.pv_typed.specs.TypedStatement.{TypedStatement}
@@ -22,7 +22,7 @@ use Rattle.pv_eval.specs.Operations.{BeginsBody, EndsBody, act}
 use Rattle.pv_eval.specs.Stack.{rest}
 use Rattle.pv_eval.specs.Frames.{after}
 use Rattle.pv_eval.specs.Ahead.{now_does, stack}
-use Rattle.pv_eval.specs.Machines.{Started, answered_of, left_of, after_first, asked_arguments, asked_line, value_at, is_value, is_going, is_call_at}
+use Rattle.pv_eval.specs.Machines.{Started, answered_of, left_of, after_first, asked_arguments, asked_line, value_at, is_value}
 use Rattle.pv_eval.specs.MachineSteps.{IsTaken, IsAnswered}
 use Rattle.pv_eval.specs.Moments.{Made}
 use Rattle.pv_exec.specs.declared.task.Doing.{Doing}
@@ -124,16 +124,6 @@ pub answered-rest : (v : Worth) (new old : List Started) → IsAnswered v new ol
 answered-rest v [] old h = absurd h
 answered-rest v (e ∷ es) [] h = absurd h
 answered-rest v (e ∷ es) (f ∷ fs) h = h.4
-
-no-call : (p : Now) → is_value p ≡ true → is_call_at p ≡ false
-no-call (now.Due n) e = refl
-no-call (now.Value x) e = refl
-no-call (now.Asked f args line) e = absurd (cc)
-
-pub answered-goes : (v : Worth) (new old : List Started) → IsAnswered v new old → is_going new ≡ true
-answered-goes v [] old h = absurd h
-answered-goes v (e ∷ es) [] h = absurd h
-answered-goes v (e ∷ es) (f ∷ fs) h = ap (λ (q : Bool). if q then false else true) (no-call e.place h.3)
 
 pub call-ends : (b : Setting) (u : Stored) (k f line : ℕ) (fl : Flow) (v : Worth) (old new : List Started) (s s1 s2 : State) → b.bound < s2.taken + k → end_all b (function_at b.unit f).params s ≡ Gives Nothing s1 → act b line EndsBody s1 ≡ Gives Nothing s2 → v ≡ value_by b (function_at b.unit f) fl → IsAnswered v new old → Leads b u (after_flow b u k old (task.InCall f line) fl s) (after_first old) (way.Do doing.Evaluate) new s2
 unfolding after_flow does

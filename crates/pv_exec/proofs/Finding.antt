@@ -1,6 +1,6 @@
 -- Labels that are looked for in a list.
 use Rattle.std.proofs.Common.{◌≡◌, ℕ, ◌+◌, ◌<◌, List, [], ◌∷◌, None, refl, sym, ap, ◌∙◌, subst}
-use Rattle.std.specs.Prelude.{ℤ, Bool, true, false, ◌||◌, drop, if◌then◌else◌}
+use Rattle.std.specs.Prelude.{Bool, true, false, ◌||◌, drop, if◌then◌else◌}
 use Rattle.pv_tree.specs.declared.nodes.NodeId.{NodeId}
 use Rattle.pv_tree.specs.declared.nodes.ListId.{ListId}
 use Rattle.pv_typed.specs.TypedStatement.{TypedStatement, Block, Declare, Expression, Empty, If, IfElse, Switch, Case, Default, While, DoWhile, For, ForDeclaration, Continue, Break, Return, Statements, MoreStatements}
@@ -8,11 +8,11 @@ use Rattle.pv_typed.specs.Nodes.{statements_in}
 use Rattle.pv_typed.specs.Tables.{Stored, nodes, list_at, statement_at}
 use Rattle.pv_eval.specs.States.{Setting, State, then_do}
 use Rattle.pv_exec.specs.Flows.{Below, falls}
-use Rattle.pv_exec.specs.Labels.{Target, ToCase, ToDefault, ToNone, some_case, some_default, is_target, target_of}
+use Rattle.pv_exec.specs.Labels.{Target, ToCase, ToDefault, ToNone, is_target}
 use Rattle.pv_exec.specs.Execution.{ex, exs, exs_at}
 use Rattle.pv_exec.specs.Tasks.{statements_from}
 use Rattle.pv_exec.specs.Items.{declared_in}
-use Rattle.pv_exec.specs.Switches.{some_target, is_none_target, Reaches}
+use Rattle.pv_exec.specs.Switches.{some_target}
 use Rattle.pv_exec.proofs.Listing.{plain-first}
 
 some-first : (at : Target) (x : TypedStatement) (xs : Statements) → some_target at (MoreStatements x xs) ≡ (is_target at x || some_target at xs)
@@ -70,16 +70,3 @@ at-yes b w u l at i j n s e h =
     ∙ ap (λ (q : Bool). if q then then_do (ex b w (statement_at u n) s) (λ fl s. falls fl (λ s. exs b w (statements_from u l j) s) s) else exs_at b w at (statements_from u l j) s) h
     ∙ sym (plain-first b w (statement_at u n) (statements_from u l j) s (plain-target at (statement_at u n) h))
     ∙ sym (ap (λ ns. exs b w (statements_in (nodes u) ns) s) e)
-
--- which label a value goes to
-pub to-case : (v : ℤ) (xs : Statements) → some_case v xs ≡ true → target_of v xs ≡ ToCase v
-to-case v xs h = ap (λ (q : Bool). if q then ToCase v else (if some_default xs then ToDefault else ToNone)) h
-
-pub to-default : (v : ℤ) (xs : Statements) → some_case v xs ≡ false → some_default xs ≡ true → target_of v xs ≡ ToDefault
-to-default v xs h k = ap (λ (q : Bool). if q then ToCase v else (if some_default xs then ToDefault else ToNone)) h ∙ ap (λ (q : Bool). if q then ToDefault else ToNone) k
-
-pub to-none : (v : ℤ) (xs : Statements) → some_case v xs ≡ false → some_default xs ≡ false → target_of v xs ≡ ToNone
-to-none v xs h k = ap (λ (q : Bool). if q then ToCase v else (if some_default xs then ToDefault else ToNone)) h ∙ ap (λ (q : Bool). if q then ToDefault else ToNone) k
-
-pub reaches-by : (u : Stored) (l : ListId) (v : ℤ) (t : Target) (i : ℕ) → target_of v (statements_from u l 0) ≡ t → is_none_target t ≡ false → ((b : Setting) (w : Below) (s : State) → exs_at b w t (statements_from u l 0) s ≡ exs b w (statements_from u l i) s) → Reaches u l v (Rattle.std.proofs.Common.Some i)
-reaches-by u l v t i e n h = (ap is_none_target e ∙ n, λ b w s. ap (λ q. exs_at b w q (statements_from u l 0) s) e ∙ h b w s)

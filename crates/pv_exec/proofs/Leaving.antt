@@ -1,15 +1,13 @@
 -- Ends of statements, in whatever way an operation comes to them.
 use Rattle.std.proofs.Common.{◌≡◌, ℕ, ◌+◌, ◌<◌, List, [], ◌∷◌, refl, sym, subst, arith}
-use Rattle.std.specs.Prelude.{Result, Err, length}
+use Rattle.std.specs.Prelude.{Result, length}
 use Rattle.pv_typed.specs.Tables.{Stored}
 use Rattle.pv_eval.specs.declared.failure.Failure.{Failure}
-use Rattle.pv_eval.specs.declared.failure.Failure.TheVariants as failure
 use Rattle.pv_eval.specs.declared.marked.Marked.{Marked}
-use Rattle.pv_eval.specs.States.{Setting, State, Stopped, Res, Gives, Stops}
+use Rattle.pv_eval.specs.States.{Setting, State, Res, Gives}
 use Rattle.pv_eval.specs.Moments.{Moment, state_of}
 use Rattle.pv_eval.specs.Machines.{Started, after_first}
 use Rattle.pv_eval.specs.MachineSteps.{Fit, IsOpen}
-use Rattle.pv_world.specs.Coming.{wrong_for}
 use Rattle.pv_exec.specs.declared.task.Flow.{Flow}
 use Rattle.pv_exec.specs.declared.task.Doing.TheVariants as doing
 use Rattle.pv_exec.specs.declared.task.Way.{Way}
@@ -33,15 +31,6 @@ leaves-here b u k all fl stand new m n out es lt e same st =
 pub at-both : (b : Setting) (u : Stored) (all : Res Reached) (stand first es : List Started) (r : Result Way Failure) (m n : Moment) (out : List ℕ) (marks : List Marked) → n ≡ m → first ≡ stand → LeadsOr b u all first r es (state_of m out marks) → LeadsOr b u all stand r es (state_of n out marks)
 at-both b u all stand first es r m n out marks e f h =
     subst (λ (x : Moment). LeadsOr b u all stand r es (state_of x out marks)) (sym e) (subst (λ (x : List Started). LeadsOr b u all x r es (state_of m out marks)) f h)
-
--- the expressions are others than those that lead on
-pub stands-at : (b : Setting) (u : Stored) (all : Res Reached) (stand old new : List Started) (w : Way) (s : State) → new ≡ old → Leads b u all stand w old s → Leads b u all stand w new s
-stands-at b u all stand old new w s e h = subst (λ (x : List Started). Leads b u all stand w x s) (sym e) h
-
--- the run ends
-pub stops-at : (b : Setting) (u : Stored) (all : Res Reached) (stand es : List Started) (e : Failure) (s : State) → ((y : Rattle.pv_world.specs.declared.got.Cause.Cause) (line : ℕ) → e ≡ failure.Stop y line → all ≡ Stops (Stopped (wrong_for y) line) s) → LeadsOr b u all stand (Err e) es s
-stops-at b u all stand es failure.NoMemory s h = tt
-stops-at b u all stand es (failure.Stop y line) s h = h y line refl
 
 -- the moment stayed at the last step
 pub at-moment : (b : Setting) (u : Stored) (all : Res Reached) (stand es : List Started) (w : Way) (m n : Moment) (out : List ℕ) (marks : List Marked) → n ≡ m → Leads b u all stand w es (state_of m out marks) → Leads b u all stand w es (state_of n out marks)

@@ -24,7 +24,6 @@ pub mod Params
 pub mod Bounds
 pub mod Turns
 pub mod Readying
-pub mod Siding
 pub mod Mains
 pub mod Outside
 pub mod Executed

@@ -22,14 +22,14 @@ use Rattle.pv_exec.specs.declared.running.Ended.TheVariants as ended
 use Rattle.pv_exec.specs.Run.{setting_of, run_of, outcome_of}
 use Rattle.pv_exec.specs.declared.delivering.Undelivered.TheVariants as undelivered
 use Rattle.pv_exec.specs.declared.program.RunError.TheVariants as error
-use Rattle.pv_exec.specs.Streaming.{Outlet, IsNear, event_of, FirstTold, FirstWritten, Streams, Begins, DeliveryCause}
+use Rattle.pv_exec.specs.Streaming.{Outlet, IsNear, event_of, FirstTold, FirstWritten, Streams, Begins}
 use Rattle.pv_exec.specs.Running.{EndedIs, PieceLed, failed, whole_run}
 use Rattle.pv_exec.specs.Ending.{outcome_by}
 use Rattle.pv_exec.specs.declared.program.Ran.{Ran}
 use Rattle.pv_exec.specs.declared.program.RunError.{RunError}
 use Rattle.std.specs.Prelude.{Result, Ok, Err, IfOk, OnOk, OnErr}
 use Rattle.pv_script.specs.Outside.{Gains, GainsPrefix}
-use Rattle.pv_script.proofs.GainsLemmas.{gains_nothing, gains_both, gains_same, prefix_nothing, prefix_next}
+use Rattle.pv_script.proofs.GainsLemmas.{gains_both, gains_same, prefix_next}
 use Rattle.pv_exec.proofs.Growing.{each-append}
 use Rattle.pv_exec.proofs.Streaming.{told-all, near-part, rose-both}
 use Rattle.pv_exec.specs.Sided.{side_of}
@@ -51,10 +51,7 @@ told-next old mid new es i ns names h lt is k =
     (sym (map-append event_of (take i es) (m ∷ [])) ∙ ap (map event_of) (sym (take_more es i no_event lt)))
     (told-more old mid new (map event_of (take i es)) m.event names h (subst (λ (xs : List (List ℕ)). AllZip (After m.event xs) mid new) is k))
 
--- the first event that is not told yet
-told-first : (events : List Marked) (written : ℕ) (old new : List Slot) (names : List (List ℕ)) → new ≡ old → FirstTold 0 events written old new names
-told-first events written old new names e = record { most = omega arith; told = e; near = tt }
-
+-- the first event that was not told yet was told
 pub first-told : (i : ℕ) (events : List Marked) (written : ℕ) (old mid new : List Slot) (ns names : List (List ℕ)) → FirstTold i events written old mid names → i < length events → (get_or events i no_event).mark ≤ written + 4095 → ns ≡ names → AllZip (After (get_or events i no_event).event ns) mid new → FirstTold (i + 1) events written old new names
 first-told i events written old mid new ns names h lt near is k =
     let m = get_or events i no_event in
@@ -213,14 +210,3 @@ lost-told-by R (ended.Failed undelivered.WriteFault) out es names a b q k = reco
 
 pub lost-told : (R : Res Worth) (x : Ended) (m : Moment) (out : List ℕ) (es : List Marked) (names : List (List ℕ)) (a b : Outlet) → EndedIs R x m out es → Streams (failed x) a b names out es → ToldOr (lost x) a b (end_of R) names
 lost-told R x m out es names a b h k = lost-told-by R x out es names a b (lost-begins R x m out es h) k
-
-pub lost-cause : (x : Ended) (a b : ℕ) → DeliveryCause (failed x) a b → FaultCause (lost x) a b
-lost-cause (ended.Value v) a b h = tt
-lost-cause ended.Turns a b h = tt
-lost-cause (ended.Stop y line) a b h = tt
-lost-cause (ended.Failed undelivered.NoMemory) a b h = tt
-lost-cause (ended.Failed undelivered.WriteFault) a b h = h.rose
-
--- nothing was written
-pub no-part : (a : Option (List ℕ)) (bytes : List ℕ) → GainsPrefix a a bytes
-no-part a bytes = prefix_nothing (gains_nothing a)

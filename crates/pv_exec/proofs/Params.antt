@@ -43,9 +43,6 @@ params-stop b line ps vs i v e s s' lt d h =
     made-is (then_do (takes_one b line (slice_index ps i) v s) (λ x s. take_params b line (drop (i + 1) ps) (drop (i + 1) vs) s)) (take_params b line (drop i ps) (drop i vs) s) (Err e) s' (params-split b line ps vs i v s lt d)
     (made-stops (takes_one b line (slice_index ps i) v s) (λ x s. take_params b line (drop (i + 1) ps) (drop (i + 1) vs) s) e s' h)
 
-pub no-params : (b : Setting) (line : ℕ) (ps : List ℕ) (vs : List Worth) (s : State) → ps ≡ [] → take_params b line ps vs s ≡ Gives Nothing s
-no-params b line ps vs s e = ap (λ xs. take_params b line xs vs s) e
-
 no-values : (b : Setting) (line : ℕ) (ps : List ℕ) (s : State) → take_params b line ps [] s ≡ Gives Nothing s
 no-values b line [] s = refl
 no-values b line (o ∷ os) s = refl

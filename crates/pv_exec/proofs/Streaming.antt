@@ -1,8 +1,8 @@
 -- What has left a run, piece after piece.
-use Rattle.std.proofs.Common.{◌≡◌, ℕ, ◌+◌, ◌-◌, ◌<◌, ◌≤◌, List, [], ◌∷◌, ◌++◌, append_assoc, append-nil, length-append, refl, sym, ap, ◌∙◌, subst, arith}
+use Rattle.std.proofs.Common.{◌≡◌, ℕ, ◌+◌, ◌-◌, ◌≤◌, List, [], ◌∷◌, ◌++◌, append_assoc, append-nil, length-append, refl, sym, ap, ◌∙◌, subst, arith}
 use Rattle.std.specs.Prelude.{length, take, drop, map, None, Some, Ok, Err}
 use Rattle.std.specs.declared.option.Option.{Option}
-use Rattle.std.proofs.lemmas.List.{take_at, take-append-drop, length-drop, length-take, map-append}
+use Rattle.std.proofs.lemmas.List.{take-append-drop, length-take, map-append}
 use Rattle.pv_script.specs.Outside.{Rose, Gains, GainsPrefix}
 use Rattle.pv_script.proofs.GainsLemmas.{gains_nothing, gains_both}
 use Rattle.pv_typed.specs.Children.{Each}
@@ -24,16 +24,13 @@ use Rattle.pv_exec.specs.declared.task.Doing.{Doing}
 use Rattle.pv_exec.specs.Tasks.{Reached}
 use Rattle.pv_exec.specs.Works.{Holds}
 use Rattle.pv_exec.specs.Fits.{Runs}
-use Rattle.pv_exec.specs.Turning.{AdvancedLed, turn_measure}
-use Rattle.pv_exec.specs.Streaming.{Outlet, IsNear, event_of, HasWritten, HasTold, Delivered, DeliveredOr, DeliveryCause, Streams, Begins}
+use Rattle.pv_exec.specs.Turning.{AdvancedLed}
+use Rattle.pv_exec.specs.Streaming.{Outlet, IsNear, event_of, HasWritten, HasTold, Delivered, DeliveredOr, Streams, Begins}
 use Rattle.pv_exec.specs.Running.{KeepsApart, StatementsLed}
 use Rattle.pv_exec.proofs.Growing.{each-append, each-weaker, Grows}
 use Rattle.pv_exec.proofs.Adding.{holds-grow}
 
--- a list whose first elements went behind, without them
-pub taken-off : {A : Type 0} (n : ℕ) (xs : List A) → take (length xs - n) (drop n xs ++ take n xs) ≡ drop n xs
-taken-off n xs = take_at (drop n xs) (take n xs) (length xs - n) (length-drop n xs)
-
+-- what was told in two parts was told
 pub told-both : (old mid new : List Slot) (es fs : List Event) (names : List (List ℕ)) → Told old es names mid → Told mid fs names new → Told old (es ++ fs) names new
 told-both old mid new [] fs names h k = subst (λ (s : List Slot). Told s fs names new) h k
 told-both old mid new (e ∷ es) fs names h k = (h.0, h.1, told-both h.0 mid new es fs names h.2 k)
@@ -46,11 +43,6 @@ near-later n m es l h = each-weaker (IsNear n) (IsNear m) es (λ x q. omega (ari
 
 pub rose-both : (a b c : ℕ) → a ≤ b → Rose b c → Rose a c
 rose-both a b c l h = omega (arith, l, h)
-
-pub cause-later : {x : Option Undelivered} (a b c : ℕ) → a ≤ b → DeliveryCause x b c → DeliveryCause x a c
-cause-later {x = None} a b c l h = record { later = omega (arith, l, h.later); rose = tt }
-cause-later {x = Some undelivered.WriteFault} a b c l h = record { later = omega (arith, l, h.later); rose = rose-both a b c l h.rose }
-cause-later {x = Some undelivered.NoMemory} a b c l h = record { later = omega (arith, l, h.later); rose = tt }
 
 abbrev with_kept : Machine → List ℕ → List Marked → Machine
 with_kept m ps es = record m { moment = record m.moment { printed = ps; waiting = es } }
@@ -232,12 +224,6 @@ fit-delivered u m m' d h = subst (λ (xs : List Started). Fit u xs) (sym (ap (λ
 
 pub runs-delivered : {o o' : Outlet} {names : List (List ℕ)} {w w' : ℕ} (u : Stored) (ts : List Task) (d : Doing) (m m' : Machine) → Delivered o o' names w w' m m' → Runs u ts m.started d → Runs u ts m'.started d
 runs-delivered u ts d m m' k h = subst (λ (xs : List Started). Runs u ts xs d) (sym (ap (λ (q : Machine). q.started) k.same)) h
-
-pub pace-delivered : {o o' : Outlet} {names : List (List ℕ)} {w w' : ℕ} (n before : ℕ) (d : Doing) (m m' : Machine) → Delivered o o' names w w' m m' → turn_measure n m.moment.taken m.started d < before → turn_measure n m'.moment.taken m'.started d < before
-pace-delivered n before d m m' k h =
-    let started : m'.started ≡ m.started = ap (λ (q : Machine). q.started) k.same in
-    let taken : m'.moment.taken ≡ m.moment.taken = ap (λ (q : Machine). q.moment.taken) k.same in
-    subst (λ (t : ℕ). turn_measure n t m'.started d < before) (sym taken) (subst (λ (xs : List Started). turn_measure n m.moment.taken xs d < before) (sym started) h)
 
 -- how the statements ended
 pub led-last : {o o' : Outlet} (u : Stored) (n w : ℕ) (d0 d : Doing) (l : Last) (ts ts' : List Task) (old m m' : Machine) → Streaming u o o' n w d0 d ts old m → AdvancedLed u n d (advance.Last l) ts ts' m m' → KeepsSetting m.moment m'.moment → StatementsLed u o o' n d0 (Ok l) old m'

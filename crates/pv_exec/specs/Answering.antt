@@ -39,13 +39,13 @@ pub record RanAs (r : Res Worth) (ran : Ran) : Type 0 where
   pub turns : ran.turns ≡ (end_of r).taken
   pub sides : ran.sides ≡ map side_of (sides_at (end_of r))
 
--- the same, by the moment at which the run is over
+-- 5.1.2.2.3p1: the same, by the moment at which the run is over
 pub record RanAt (o : Outcome) (m : Moment) (ran : Ran) : Type 0 where
   pub outcome : ran.outcome ≡ o
   pub turns : ran.turns ≡ m.taken
   pub sides : ran.sides ≡ map side_of (map is_high_pair m.world.memory.table.pairs)
 
--- a hall as a list of slots, by what the trait of its watchers says
+-- what the outside has (5.1.2.3p6): a hall as a list of slots, by what the trait of its watchers says
 abbrev pub hall_slots : {X : Type 0} {P : X → Type 0} → Hall X P → ((x : X) × P x → ℕ) → ((x : X) × P x → ℕ) → ((x : X) × P x → List Event) → List Slot
 hall_slots h kind wants seen = slots_in (watcher (λ b. kind (b.vtable, b.value)) (λ b. wants (b.vtable, b.value)) (λ b. seen (b.vtable, b.value))) h
 
@@ -66,35 +66,35 @@ pub record ToldPart (before now : Outlet) (end : State) (names : List (List ℕ)
   pub told : Told before.hall (map event_of events) names now.hall
   pub near : Each (IsNear (length written)) events
 
--- those who watch were told of the run, or of a first part of it where a write failed
+-- 5.1.2.3p6: those who watch were told of the run, or of a first part of it where a write failed
 abbrev pub ToldOr : Result Ran RunError → Outlet → Outlet → State → List (List ℕ) → Type 0
 ToldOr (Ok ran) before now end names = Told before.hall (map event_of end.events) names now.hall
 ToldOr (Err error.WriteFault) before now end names = ToldPart before now end names
 ToldOr (Err error.NoMemory) before now end names = Unit {0}
 
--- once the run is over, what waited was told; where a write failed nothing
+-- 5.1.2.3p6: once the run is over, what waited was told; where a write failed nothing
 abbrev pub RestTold : Result Ran RunError → List Slot → List Slot → List Event → List (List ℕ) → Type 0
 RestTold (Ok ran) old new events names = Told old events names new
 RestTold (Err error.WriteFault) old new events names = new ≡ old
 RestTold (Err error.NoMemory) old new events names = Unit {0}
 
--- why there is no outcome
+-- why there is no outcome (5.1.2.2.3p1)
 abbrev pub error_of : Undelivered → RunError
 error_of undelivered.NoMemory = error.NoMemory
 error_of undelivered.WriteFault = error.WriteFault
 
--- the same of a run that has no outcome
+-- the same of a run that has no outcome (5.1.2.2.3p1)
 abbrev pub error_by : Ended → RunError
 error_by (ended.Failed e) = error_of e
 error_by (ended.Value v) = error.NoMemory
 error_by ended.Turns = error.NoMemory
 error_by (ended.Stop y line) = error.NoMemory
 
--- the state in which the run of a unit ends
+-- 5.1.2.2.3p1: the state in which the run of a unit ends
 abbrev pub end_at : Stored → (bound : ℕ) → Option (List Bool) → List ScriptLine → State
 end_at u n sides script = end_of (run_of (setting_of u n sides) script)
 
--- a write failed only where the sink counts a fault more
+-- a write failed only where the sink counts a fault more (docs/FORMATS.md, status 12)
 abbrev pub FaultCause : Result Ran RunError → (before now : ℕ) → Type 0
 FaultCause (Ok ran) before now = Unit {0}
 FaultCause (Err error.WriteFault) before now = Rose before now

@@ -1,4 +1,4 @@
--- Calls as the code makes them.
+-- Calls as the code makes them (C17 6.5.2.2, 6.9.1): a bridge to execution.
 use Rattle.std.specs.Prelude.{◌≡◌, ℕ, ◌+◌, ◌<◌, ◌≤◌, List, Result}
 use Rattle.pv_typed.specs.TypedUnits.{TypedFunction, object_at, function_at}
 use Rattle.pv_typed.specs.Tables.{Stored, whole}
@@ -36,7 +36,7 @@ pub record BodyIs (u : Stored) (f : ℕ) (d : Doing) : Type 0 where
 abbrev pub calls : Setting → Stored → (level f : ℕ) → List Started → State → Res Reached
 calls b u k f es s = then_do (then_do ((below b k).call f (asked_arguments es) (asked_line es) s) (answered_of b (below b k).call u es)) (λ g s. Gives (Valued g.value) s)
 
--- a call that was handed up leads to the body of its function, one level lower
+-- 6.9.1p11: a call that was handed up leads to the body of its function, one level lower
 abbrev pub CallLed : Stored → (function : ℕ) → Result Way Failure → Machine → Machine → Type 0
 CallLed u f r old new =
     Always u old.moment (λ b out es. (k : ℕ) → old.moment.taken ≤ b.bound → b.bound < old.moment.taken + k →

@@ -1,4 +1,4 @@
--- The next thing to do in a list of statements, as the code finds it.
+-- The next thing to do in a list of statements (C17 6.8p2), as the code finds it: a bridge to execution.
 use Rattle.std.specs.Prelude.{◌≡◌, ℕ, Result, Ok, Err, None, Some}
 use Rattle.std.specs.declared.option.Option.{Option}
 use Rattle.pv_tree.specs.declared.nodes.ListId.{ListId}
@@ -19,18 +19,18 @@ abbrev pub declared_in : TypedStatement → Option ℕ
 declared_in (Declare line o) = Some o
 declared_in _ = None
 
--- what is left of a list from this place on
+-- 6.8p2: what is left of a list from this place on
 abbrev pub item_does : Setting → Below → Stored → ListId → Item → State → Res Flow
 item_does b w u l item.End s = Gives Falls s
 item_does b w u l (item.Statement n i) s = then_do (ex b w (statement_at u n) s) (λ fl s. falls fl (λ s. exs b w (statements_from u l i) s) s)
 item_does b w u l (item.Stores o i) s = then_do (nothing_done (store_all b w.call o (object_at b.unit o).inits s)) (λ fl s. exs b w (statements_from u l i) s)
 
--- what is left of the list from a place on, once the declarations before it were passed
+-- 6.8p2: what is left of the list from a place on, once the declarations before it were passed
 abbrev pub ItemOr : Setting → Stored → ListId → (from : ℕ) → Result Item Failure → (old new : State) → Type 0
 ItemOr b u l i (Ok x) s s' = (w : Below) → exs b w (statements_from u l i) s ≡ item_does b w u l x s'
 ItemOr b u l i (Err e) s s' = Unit {0}
 
--- what it names is there
+-- what it names is there: a statement (6.8), an object with an initializer (6.7.9)
 abbrev pub ItemFits : Stored → Item → Type 0
 ItemFits u item.End = Unit {0}
 ItemFits u (item.Statement n i) = IsStatement u n

@@ -20,7 +20,7 @@ abbrev pub put_first : Setting → (level o : ℕ) → List Store → Worth → 
 put_first b k o [] v s = Gives (Left Falls) s
 put_first b k o (x ∷ xs) v s = left (then_do (then_do (act b x.line (Puts o x.offset (lvalue b x.t) v) s) (λ v s. store_all b (below b k).call o xs s)) (λ v s. Gives Falls s))
 
--- what a store of this value leads to
+-- 6.7.9p11: what a store of this value leads to
 abbrev pub PutLed : Stored → (object i : ℕ) → Worth → Result Way Failure → Machine → Machine → Type 0
 PutLed u o i v r old new =
     Always u old.moment (λ b out es. (k : ℕ) → b.bound < old.moment.taken + k →

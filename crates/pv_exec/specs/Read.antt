@@ -1,4 +1,4 @@
--- Parts of statements as the code has them, by the numbers of their nodes.
+-- Parts of statements as the code has them, by the numbers of their nodes: bridges to the typed statements (C17 6.8).
 use Rattle.std.specs.Prelude.{None, Some, List, Bool, true, false}
 use Rattle.std.specs.declared.option.Option.{Option}
 use Rattle.pv_tree.specs.declared.nodes.NodeId.{NodeId}
@@ -18,7 +18,7 @@ use Rattle.pv_exec.specs.Parts.{DoLoop, Choice, Items}
 abbrev pub do_in : List Tree → DoParts → DoLoop
 do_in ts p = record { condition = expression_in ts p.condition; body = statement_in ts p.body }
 
--- if it is one
+-- 6.8.5.2: the same, if it is one
 abbrev pub do_read : List Tree → Option DoParts → Option DoLoop
 do_read ts None = None
 do_read ts (Some p) = Some (do_in ts p)
@@ -32,17 +32,17 @@ other_read ts (Some n) = Some (statement_in ts n)
 abbrev pub choice_in : List Tree → ChoiceParts → Choice
 choice_in ts p = record { condition = expression_in ts p.condition; body = statement_in ts p.body; other = other_read ts p.other }
 
--- if it is one
+-- 6.8.4.1: the same, if it is one
 abbrev pub choice_read : List Tree → Option ChoiceParts → Option Choice
 choice_read ts None = None
 choice_read ts (Some p) = Some (choice_in ts p)
 
--- an `else` is a statement of the unit
+-- 6.8.4.1: an `else` is a statement of the unit
 abbrev pub HasOther : Stored → Option NodeId → Type 0
 HasOther u None = Unit {0}
 HasOther u (Some n) = IsStatement u n
 
--- the parts of an `if` are there
+-- 6.8.4.1: the parts of an `if` are there
 abbrev pub ChoiceFits : Stored → ChoiceParts → Type 0
 ChoiceFits u p = IsExpression u p.condition × IsStatement u p.body × HasOther u p.other
 
@@ -56,12 +56,12 @@ abbrev pub side_of : ChoiceParts → Bool → Way
 side_of p true = way.Do (doing.Enter p.body)
 side_of p false = other_way p.other
 
--- the statements of a list
+-- 6.8.2p1: the statements of a list
 abbrev pub list_read : List Tree → List (List NodeId) → Option ListId → Option Statements
 list_read ts lists None = None
 list_read ts lists (Some l) = Some (statements_in ts (list_in lists l))
 
--- a block by its list
+-- 6.8.2p1: a block by its list
 abbrev pub items_read : List Tree → List (List NodeId) → TypedStatement → Option ListId → Option Items
 items_read ts lists x None = None
 items_read ts lists x (Some l) = Some (record { objects = declared_of x; items = statements_in ts (list_in lists l) })

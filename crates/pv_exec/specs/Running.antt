@@ -1,4 +1,4 @@
--- How the statements of a run end, and the run.
+-- How the statements of a run end, and the run: bridges from the code to the run of a unit (C17 5.1.2).
 use Rattle.std.specs.Prelude.{◌≡◌, ℕ, ◌+◌, List, [], ◌++◌, length, None, Some, Result, Ok, Err, OnOk}
 use Rattle.std.specs.declared.option.Option.{Option}
 use Rattle.pv_typed.specs.TypedUnits.{function_at}
@@ -29,17 +29,17 @@ use Rattle.pv_exec.specs.Works.{flow_of, Holds}
 use Rattle.pv_exec.specs.Turning.{LastIs}
 use Rattle.pv_exec.specs.Streaming.{Outlet, Streams, Begins, failing}
 
--- the setting stays, and of what was printed these bytes have left
+-- the setting stays (the memory model: the sides of a settled run), and of what was printed (7.21.6.3) these bytes have left
 pub record KeepsApart (bytes : List ℕ) (old new : Moment) : Type 0 where
   pub total : (taken : ℕ) → Follows old taken → Follows new (taken + length bytes)
   pub sides : new.sides ≡ old.sides
 
--- how the whole that was asked for ended; where it could not go on, what has left the run is a first part of what leaves it in all
+-- how the whole that was asked for ended (5.1.2.3); where it could not go on, what has left is a first part of what leaves it in all
 abbrev pub LastOr : Res Reached → Result Last Undelivered → Machine → List ℕ → List Marked → Type 0
 LastOr all (Ok l) m out es = LastIs all l m.started (state_of m.moment out es)
 LastOr all (Err e) m out es = Begins out es (end_of all)
 
--- how the statements ended, with what has left the run meanwhile
+-- how the statements ended (6.8p2), with what has left the run meanwhile (5.1.2.3p6)
 pub record StatementsLed (u : Stored) (before now : Outlet) (n : ℕ) (d : Doing) (r : Result Last Undelivered) (old new : Machine) : Type 0 where
   pub bytes : List ℕ
   pub events : List Marked
@@ -47,26 +47,26 @@ pub record StatementsLed (u : Stored) (before now : Outlet) (n : ℕ) (d : Doing
   pub keeps : OnOk r (KeepsApart bytes old.moment new.moment)
   pub led : Always u old.moment (λ b out es. (all : Res Reached) → b.bound ≡ n → Holds b u all [] old.started d (state_of old.moment out es) → LastOr all r new (out ++ bytes) (es ++ events))
 
--- the same where an operation failed before there was a value
+-- how a run ended where an operation failed (as by undefined behaviour, 3.4.3) before there was a value
 abbrev pub ended_by : Failure → Ended
 ended_by (failure.Stop y line) = ended.Stop y line
 ended_by failure.NoMemory = ended.Failed undelivered.NoMemory
 
--- why it could not go on
+-- why a run could not go on, and has no outcome (5.1.2.2.3p1)
 abbrev pub failed : Ended → Option Undelivered
 failed (ended.Failed e) = Some e
 failed (ended.Value v) = None
 failed ended.Turns = None
 failed (ended.Stop y line) = None
 
--- how a run ended, where these bytes and events have left it
+-- 5.1.2.2.3p1: how a run ended, where these bytes and events have left it
 abbrev pub EndedIs : Res Worth → Ended → Moment → List ℕ → List Marked → Type 0
 EndedIs r (ended.Value v) m out es = r ≡ Gives (worth_of v) (state_of m out es)
 EndedIs r ended.Turns m out es = r ≡ Stops Turns (state_of m out es)
 EndedIs r (ended.Stop y line) m out es = r ≡ Stops (Stopped (wrong_for y) line) (state_of m out es)
 EndedIs r (ended.Failed e) m out es = Begins out es (end_of r)
 
--- whatever else failed, no write did
+-- whatever else failed, no write did (docs/FORMATS.md, status 12)
 abbrev pub IsCalm : Ended → Type 0
 IsCalm (ended.Failed undelivered.WriteFault) = ⊥
 IsCalm (ended.Failed undelivered.NoMemory) = Unit {0}
@@ -82,7 +82,7 @@ ends_call b f line fl s = then_do (end_all b (function_at b.unit f).params s) (�
 abbrev pub EndLed : Stored → (function : ℕ) → Flow → Ended → Machine → Machine → Type 0
 EndLed u f fl r old new = Always u old.moment (λ b out es. (line : ℕ) → EndedIs (ends_call b f line fl (state_of old.moment out es)) r new.moment out es)
 
--- how a piece of the run ended, with what has left the run meanwhile
+-- how a piece of the run ended (5.1.2.3), with what has left the run meanwhile (5.1.2.3p6)
 pub record PieceLed (u : Stored) (before now : Outlet) (n : ℕ) (piece : Setting → State → Res Worth) (r : Ended) (old new : Machine) : Type 0 where
   pub bytes : List ℕ
   pub events : List Marked

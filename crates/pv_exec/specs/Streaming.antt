@@ -11,7 +11,7 @@ use Rattle.pv_eval.specs.States.{State}
 use Rattle.pv_exec.specs.declared.delivering.Undelivered.{Undelivered}
 use Rattle.pv_exec.specs.declared.delivering.Undelivered.TheVariants as undelivered
 
--- an event without its mark, which says how much was printed when it came
+-- an event without its mark, which says how much was printed (7.21.6.3) when it came
 abbrev pub event_of : Marked → Event
 event_of m = m.event
 
@@ -24,34 +24,34 @@ pub record Outlet : Type 0 where
   pub sink : Option (List ℕ)
   pub hall : List Slot
 
--- why a part could not be delivered
+-- why a part could not be delivered (docs/FORMATS.md, status 12 and 13)
 abbrev pub failing : {A : Type 0} → Result A Undelivered → Option Undelivered
 failing (Ok a) = None
 failing (Err e) = Some e
 
--- the first n bytes were written
+-- 7.21.3p3: the first n of the bytes that are buffered were written
 pub record FirstWritten (n : ℕ) (bytes : List ℕ) (before now : Option (List ℕ)) : Type 0 where
   pub most : n ≤ length bytes
   pub gains : Gains before now (take n bytes)
 
--- they are not kept any more
+-- 7.21.3p3: they are not kept any more
 pub record HasWritten (n : ℕ) (before now : Option (List ℕ)) (old new : Machine) : Type 0 where
   pub first : FirstWritten n old.moment.printed before now
   pub left : new ≡ record old { moment = record old.moment { printed = drop n old.moment.printed } }
 
--- the first n events were told, each near to what is written
+-- the first n events were told, each near to what is written (7.21.3p3)
 pub record FirstTold (n : ℕ) (events : List Marked) (written : ℕ) (old new : List Slot) (names : List (List ℕ)) : Type 0 where
   pub most : n ≤ length events
   pub told : Told old (map event_of (take n events)) names new
   pub near : Each (IsNear written) (take n events)
 
--- they do not wait any more
+-- they do not wait any more: told as near as output is buffered (7.21.3p3)
 pub record HasTold (written : ℕ) (before now : List Slot) (names : List (List ℕ)) (old new : Machine) : Type 0 where
   pub count : ℕ
   pub first : FirstTold count old.moment.waiting written before now names
   pub left : new ≡ record old { moment = record old.moment { waiting = drop count old.moment.waiting } }
 
--- of what is kept a first part has left, bytes and events
+-- 5.1.2.3p6, 7.21.3p3: of what is kept a first part has left, bytes and events
 pub record Delivered (before now : Outlet) (names : List (List ℕ)) (count counted : ℕ) (old new : Machine) : Type 0 where
   pub bytes : List ℕ
   pub printed : old.moment.printed ≡ bytes ++ new.moment.printed
@@ -63,13 +63,13 @@ pub record Delivered (before now : Outlet) (names : List (List ℕ)) (count coun
   pub near : Each (IsNear counted) events
   pub same : new ≡ record old { moment = record old.moment { printed = new.moment.printed; waiting = new.moment.waiting } }
 
--- or it has not: of the bytes a first part was written, and where a write failed nothing was told
+-- or it has not: of the bytes a first part was written (5.1.2.3p6), and where a write failed nothing was told
 abbrev pub DeliveredOr : Option Undelivered → Outlet → Outlet → List (List ℕ) → (count counted : ℕ) → Machine → Machine → Type 0
 DeliveredOr None before now names count counted old new = Delivered before now names count counted old new
 DeliveredOr (Some undelivered.WriteFault) before now names count counted old new = GainsPrefix before.sink now.sink old.moment.printed × (now.hall ≡ before.hall)
 DeliveredOr (Some undelivered.NoMemory) before now names count counted old new = GainsPrefix before.sink now.sink old.moment.printed
 
--- the sink's count of faults never falls, and a write failed only where it rose
+-- the sink's count of faults never falls, and a write failed only where it rose (docs/FORMATS.md, status 12)
 abbrev pub RoseAt : Option Undelivered → (before now : ℕ) → Type 0
 RoseAt None before now = Unit {0}
 RoseAt (Some undelivered.WriteFault) before now = Rose before now
@@ -80,30 +80,30 @@ pub record DeliveryCause (x : Option Undelivered) (before now : ℕ) : Type 0 wh
   pub later : before ≤ now
   pub rose : RoseAt x before now
 
--- all that was kept was written, or a first part of it
+-- 5.1.2.3p6: all that was kept was written, or a first part of it
 abbrev pub Finished : Option Undelivered → Option (List ℕ) → Option (List ℕ) → List ℕ → Type 0
 Finished None before now bytes = Gains before now bytes
 Finished (Some e) before now bytes = GainsPrefix before now bytes
 
--- all that waited was told; where a write failed nothing
+-- 5.1.2.3p6: all that waited was told; where a write failed nothing
 abbrev pub FinishedTold : Option Undelivered → List Slot → List Slot → List Event → List (List ℕ) → Type 0
 FinishedTold None old new events names = Told old events names new
 FinishedTold (Some undelivered.WriteFault) old new events names = new ≡ old
 FinishedTold (Some undelivered.NoMemory) old new events names = Unit {0}
 
--- the hall was told these events, unless memory ran out on the way
+-- 5.1.2.3p6: the hall was told these events, unless memory ran out on the way
 abbrev pub ToldUnless : Option Undelivered → List Slot → List Event → List (List ℕ) → List Slot → Type 0
 ToldUnless None old events names new = Told old events names new
 ToldUnless (Some undelivered.WriteFault) old events names new = Told old events names new
 ToldUnless (Some undelivered.NoMemory) old events names new = Unit {0}
 
--- what the outside has of a run at a moment: these bytes and these events
+-- 5.1.2.3p6: what the outside has of a run at a moment: these bytes and these events
 pub record Streams (x : Option Undelivered) (before now : Outlet) (names : List (List ℕ)) (bytes : List ℕ) (events : List Marked) : Type 0 where
   pub gains : Gains before.sink now.sink bytes
   pub told : ToldUnless x before.hall (map event_of events) names now.hall
   pub near : Each (IsNear (length bytes)) events
 
--- a state's output and events begin with these
+-- 5.1.2.3p6: a state's output and events begin with these
 pub record Begins (written : List ℕ) (told : List Marked) (s : State) : Type 0 where
   pub unwritten : List ℕ
   pub output : written ++ unwritten ≡ s.output

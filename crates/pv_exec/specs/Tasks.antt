@@ -20,16 +20,16 @@ use Rattle.pv_exec.specs.Execution.{exs}
 use Rattle.pv_exec.specs.Calls.{below, value_by}
 use Rattle.pv_exec.specs.Parts.{Loop, loop_of, rounds, rounded, tested, do_of, rounded_do, tested_do, choice_of, chosen, selection_of, selected}
 
--- what is handed to a task: how a statement was left, or the value of an expression
+-- what is handed to a task: how a statement was left (6.8p2, 6.8.6p2), or the value of an expression (6.8p4)
 pub data Reached : Type 0 where
   Left : Flow → Reached
   Valued : Worth → Reached
 
--- how a statement was left is handed on
+-- 6.8p2, 6.8.6p2: how a statement was left is handed on
 abbrev pub left : Res Flow → Res Reached
 left r = then_do r (λ fl s. Gives (Left fl) s)
 
--- the statements of a list from one on
+-- 6.8.2p1: the statements of a list from one on
 abbrev pub statements_from : Stored → ListId → ℕ → Statements
 statements_from u l i = statements_in (nodes u) (drop i (list_at u l))
 
@@ -63,7 +63,7 @@ abbrev pub within : Setting → Below → Option Statements → Loop → State �
 within b w (Some ds) l s = then_do (exs b w ds s) (λ fl s. falls fl (rounds b w l) s)
 within b w None l s = Gives Falls s
 
--- with how a statement was left, beside the expressions that wait
+-- 6.8p2, 6.8.6p2: with how a statement was left, beside the expressions that wait
 unfoldable pub after_flow : Setting → Stored → (level : ℕ) → List Started → Task → Flow → State → Res Reached
 after_flow b u k es (task.InList l i) fl s = left (falls fl (λ s. exs b (below b k) (statements_from u l i) s) s)
 after_flow b u k es (task.InBlock n) fl s = left (then_do (end_all b (declared_of (statement_at u n)) s) (λ v s. Gives fl s))
@@ -84,7 +84,7 @@ after_flow b u k es (task.Selecting n) fl s = Gives (Left fl) s
 after_flow b u k es (task.Returning n) fl s = Gives (Left fl) s
 after_flow b u k es (task.Storing o i) fl s = Gives (Left fl) s
 
--- with the value of an expression
+-- 6.8p4: with the value of an expression
 unfoldable pub after_value : Setting → Stored → (level : ℕ) → Task → Worth → State → Res Reached
 after_value b u k task.Dropping v s = left (Gives Falls s)
 after_value b u k (task.Chosen n) v s = left (chosen b (below b k) (choice_of (statement_at u n)) v s)
@@ -103,7 +103,7 @@ after_value b u k (task.Rounded n) v s = Gives (Valued v) s
 after_value b u k (task.RoundedDo n) v s = Gives (Valued v) s
 after_value b u k (task.InCall f line) v s = Gives (Valued v) s
 
--- whether a task waits for the value of an expression
+-- 6.8p4: whether a task waits for the value of an expression
 abbrev pub takes_value : Task → Bool
 takes_value (task.InList l i) = false
 takes_value (task.InBlock n) = false
@@ -122,7 +122,7 @@ takes_value (task.Selecting n) = true
 takes_value (task.Returning n) = true
 takes_value (task.Storing o i) = true
 
--- what a task does with what is handed to it
+-- 6.8p2, p4: what a task does with what is handed to it
 abbrev pub after_task : Setting → Stored → (level : ℕ) → List Started → Task → Reached → State → Res Reached
 after_task b u k es t (Left fl) s = after_flow b u k es t fl s
 after_task b u k es t (Valued v) s = if takes_value t then after_value b u k t v s else after_flow b u k es t (Returns v) s

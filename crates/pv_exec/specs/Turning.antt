@@ -1,4 +1,4 @@
--- Turns of a run, and how its statements end.
+-- Turns of a run (C17 5.1.2.3p1), and how its statements end: bridges from the code's loop over turns.
 use Rattle.std.specs.Prelude.{◌≡◌, ℕ, ◌+◌, ◌-◌, ◌*◌, ◌<◌, List, Result, Ok, Err}
 use Rattle.pv_typed.specs.Tables.{Stored}
 use Rattle.pv_world.specs.Coming.{wrong_for}
@@ -21,20 +21,20 @@ use Rattle.pv_exec.specs.Works.{flow_of, due, Holds}
 use Rattle.pv_exec.specs.Leading.{HoldsAfter}
 use Rattle.pv_exec.specs.Fits.{Runs}
 
--- what operations that take no turn lead to
+-- 5.1.2.3p1: what operations that take no turn lead to
 abbrev pub SettledLed : Stored → Doing → Result After Failure → (before behind : List Task) → Machine → Machine → Type 0
 SettledLed u d r ts ts' old new =
     Always u old.moment (λ b out es. (all : Res Reached) →
     Holds b u all ts old.started d (state_of old.moment out es) → HoldsAfter b u all r ts' new.started (state_of new.moment out es))
 
--- a turn is due
+-- 5.1.2.3p1: a turn is due
 abbrev pub DueAfter : List Started → Result After Failure → Type 0
 DueAfter es (Ok (after.On d)) = due es d ≡ 1
 DueAfter es (Ok (after.Ended fl)) = Unit {0}
 DueAfter es (Ok after.Valued) = Unit {0}
 DueAfter es (Err e) = Unit {0}
 
--- what an operation came to, as the loop over turns has it
+-- 5.1.2.3p1: what an operation came to, as the loop over turns has it
 abbrev pub advanced_by : Result After Failure → Advanced
 advanced_by (Ok (after.On d)) = advance.On d
 advanced_by (Ok (after.Ended fl)) = advance.Last (last.Left fl)
@@ -42,14 +42,14 @@ advanced_by (Ok after.Valued) = advance.Last last.Valued
 advanced_by (Err (failure.Stop y line)) = advance.Last (last.Stop y line)
 advanced_by (Err failure.NoMemory) = advance.NoMemory
 
--- how the whole that was asked for ended
+-- 5.1.2.3: how the whole that was asked for ended
 abbrev pub LastIs : Res Reached → Last → List Started → State → Type 0
 LastIs all (last.Left fl) es s = all ≡ Gives (Left (flow_of fl)) s
 LastIs all last.Valued es s = all ≡ Gives (Valued (ended es)) s
 LastIs all last.Turns es s = all ≡ Stops Turns s
 LastIs all (last.Stop y line) es s = all ≡ Stops (Stopped (wrong_for y) line) s
 
--- what a part of the run leads to, where this is the bound
+-- 5.1.2.3: what a part of the run leads to, where this is the bound
 abbrev pub AdvancedLed : Stored → (bound : ℕ) → Doing → Advanced → (before behind : List Task) → Machine → Machine → Type 0
 AdvancedLed u n d (advance.On e) ts ts' old new =
     Always u old.moment (λ b out es. (all : Res Reached) → b.bound ≡ n →
@@ -59,17 +59,17 @@ AdvancedLed u n d (advance.Last l) ts ts' old new =
     Holds b u all ts old.started d (state_of old.moment out es) → LastIs all l new.started (state_of new.moment out es))
 AdvancedLed u n d advance.NoMemory ts ts' old new = Unit {0}
 
--- where the run goes on, what waits names what is there
+-- where the run goes on, what waits names what is there (6.8)
 abbrev pub AdvancedRuns : Stored → List Task → List Started → Advanced → Type 0
 AdvancedRuns u ts es (advance.On d) = Runs u ts es d × Fit u es
 AdvancedRuns u ts es (advance.Last l) = Unit {0}
 AdvancedRuns u ts es advance.NoMemory = Unit {0}
 
--- twice the turns that are left, and one more where none is due
+-- 5.1.2.3p1: twice the turns that are left, and one more where none is due
 abbrev pub turn_measure : (bound taken : ℕ) → List Started → Doing → ℕ
 turn_measure n taken es d = 2 * (n - taken) + (1 - due es d)
 
--- where the run goes on, fewer turns are left
+-- 5.1.2.3p1: where the run goes on, fewer turns are left
 abbrev pub AdvancedPace : (before bound taken : ℕ) → List Started → Advanced → Type 0
 AdvancedPace m n taken es (advance.On d) = turn_measure n taken es d < m
 AdvancedPace m n taken es (advance.Last l) = Unit {0}

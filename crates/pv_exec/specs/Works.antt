@@ -1,4 +1,4 @@
--- The meaning of a run in progress.
+-- The meaning of a run in progress: a bridge from the code's tasks to execution (C17 6.8).
 use Rattle.std.specs.Prelude.{◌≡◌, ℕ, ◌+◌, ◌<◌, ◌≤◌, Bool, true, false, List, [], ◌∷◌, map, reverse, All, drop, if◌then◌else◌}
 use Rattle.pv_typed.specs.TypedStatement.{declared_of}
 use Rattle.pv_typed.specs.TypedUnits.{object_at}
@@ -28,7 +28,7 @@ flow_of flow.Breaks = execution.Breaks
 flow_of flow.Continues = execution.Continues
 flow_of (flow.Returns v) = execution.Returns (worth_of v)
 
--- what is done now, at its level, with the expressions that were started
+-- 6.8p2: what is done now, at its level, with the expressions that were started
 unfoldable pub does : Setting → Stored → (level : ℕ) → List Started → Doing → State → Res Reached
 does b u k es (doing.Enter n) s = left (ex b (below b k) (statement_at u n) s)
 does b u k es (doing.Jump n l i) s = left (tick b s (λ s. scoped b (declared_of (statement_at u n)) (λ s. exs b (below b k) (statements_from u l i) s) s))
@@ -40,7 +40,7 @@ does b u k es (doing.Left fl) s = Gives (Left (flow_of fl)) s
 does b u k es doing.Evaluate s = then_do (left_of b (below b k).call u es s) (λ g s. Gives (Valued g.value) s)
 does b u k es doing.Evaluated s = Gives (Valued (ended es)) s
 
--- one where a turn is due
+-- 5.1.2.3p1: one where a turn is due
 abbrev pub due : List Started → Doing → ℕ
 due es (doing.Enter n) = 1
 due es (doing.Jump n l i) = 1
@@ -52,7 +52,7 @@ due es (doing.Left fl) = 0
 due es doing.Evaluate = due_turns es
 due es doing.Evaluated = 0
 
--- the expressions that wait for calls
+-- 6.5.2.2: the expressions that wait for calls
 abbrev pub others : List Started → Doing → List Started
 others es doing.Evaluate = after_first es
 others es doing.Evaluated = after_first es
@@ -64,7 +64,7 @@ others es (doing.Store o i) = es
 others es doing.Absent = es
 others es (doing.Left fl) = es
 
--- the task that waits for the body of a function
+-- 6.5.2.2, 6.9.1: the task that waits for the body of a function
 abbrev pub is_call : Task → Bool
 is_call (task.InCall f line) = true
 is_call (task.InList l i) = false
@@ -83,26 +83,26 @@ is_call (task.Selecting n) = false
 is_call (task.Returning n) = false
 is_call (task.Storing o i) = false
 
--- the expressions that are left below a task: a call has an expression of its own
+-- 6.5.2.2: the expressions that are left below a task: a call has an expression of its own
 abbrev pub passed : Task → List Started → List Started
 passed t es = if is_call t then after_first es else es
 
--- a task at its level, with the expressions that wait when it is reached
+-- a task (6.8) at its level, with the expressions that wait when it is reached
 pub record Work : Type 0 where
   pub level : ℕ
   pub task : Task
   pub waiting : List Started
 
--- what a task does at its level
+-- 6.8p2: what a task does at its level
 unfoldable pub after_work : Setting → Stored → Work → Reached → State → Res Reached
 after_work b u w r s = after_task b u w.level w.waiting w.task r s
 
--- the works stand on these expressions
+-- 6.5.2.2: the works stand on these expressions
 abbrev pub Standing : List Work → List Started → Type 0
 Standing [] es = Unit {0}
 Standing (w ∷ ws) es = (w.waiting ≡ es) × Standing ws (passed w.task es)
 
--- the run that is to come, from the tasks that wait, the innermost last, and from what is done now
+-- 5.1.2.3: the run that is to come, from the tasks that wait, the innermost last, and from what is done now
 pub record Holds (b : Setting) (u : Stored) (all : Res Reached) (tasks : List Task) (es : List Started) (d : Doing) (s : State) : Type 0 where
   pub works : List Work
   pub level : ℕ
