@@ -4,15 +4,14 @@ use Rattle.std.specs.Prelude.{Option, Some, None, IfSome, IsSome, IsNone, Result
 use Rattle.std.specs.declared.alloc.Global.{Global}
 use Rattle.std.specs.List.{filter}
 use Rattle.std.proofs.lemmas.Bool.{cases_eq}
-use Rattle.pv_watch.specs.Slots.{Slot, SayAll, is_kept}
+use Rattle.pv_watch.specs.Slots.{Slot, is_kept}
 use Rattle.pv_gen.specs.Source.{source_text}
 use Rattle.pv_eval.specs.States.{State}
 use Rattle.pv_exec.specs.declared.program.RunError.TheVariants as error
 use Rattle.pv_exec.specs.declared.program.Ran.{Ran}
-use Rattle.pv_typed.specs.Tables.{Stored}
 use Rattle.pv_serve.specs.declared.words.Task.{Task}
-use Rattle.pv_serve.specs.declared.judging.Judgement.{Judgement}
-use Rattle.pv_serve.specs.declared.judging.Judgement.TheVariants as judgement
+use Rattle.pv_serve.specs.declared.tasks.Judgement.{Judgement}
+use Rattle.pv_serve.specs.declared.tasks.Judgement.TheVariants as judgement
 use Rattle.pv_serve.specs.declared.error.NoMemory.{NoMemory}
 use Rattle.pv_serve.specs.Verdicts.{Course, course_of}
 use Rattle.pv_serve.specs.Jobs.{Job, FileJob, Files, Generated, task_of, watched_of, kinds_of}
@@ -70,13 +69,13 @@ quiet_report j k slots text e none line = λ shown.
     (sym (ap (λ (i : Judgement). course_of (verdict_of i shown)) e ∙ none shown)) (line shown)
 
 -- of a run it has the texts of those who watched behind the line
-pub run_report : (j : Judgement) (ran : Ran) (unit : Stored) (bound : ℕ) (names : List (List ℕ)) (slots : List Slot) (line : List ℕ) (r : Result (Vec ℕ Global) NoMemory)
-    → j ≡ judgement.Ran ran unit bound → names ≡ unit.names → ((shown : Shown) → line ≡ report_line (verdict_of j shown))
+pub run_report : (j : Judgement) (ran : Ran) (names : List (List ℕ)) (bound : ℕ) (slots : List Slot) (line : List ℕ) (r : Result (Vec ℕ Global) NoMemory)
+    → j ≡ judgement.Ran ran names bound → ((shown : Shown) → line ≡ report_line (verdict_of j shown))
     → IfOk r (λ v. HasStory names slots line v.items) → IfOk r (λ v. IsReportOn j slots v.items)
-run_report j ran unit bound names slots line (Err x) e same is told = tt
-run_report j ran unit bound names slots line (Ok v) e same is told = λ shown.
+run_report j ran names bound slots line (Err x) e is told = tt
+run_report j ran names bound slots line (Ok v) e is told = λ shown.
     subst (λ (i : Judgement). IsReport (course_of (verdict_of i shown)) slots (report_line (verdict_of j shown)) v.items) (sym e)
-    (told.0, subst (λ (ns : List (List ℕ)). SayAll ns slots told.0) same told.1, told.2 ∙ ap (λ (bytes : List ℕ). bytes ++ told.0) (is shown))
+    (told.0, told.1, told.2 ∙ ap (λ (bytes : List ℕ). bytes ++ told.0) (is shown))
 
 pub reported_nothing : (j : Judgement) (new : List Slot) (report : Sunk) → report.new ≡ report.old → Reported j new report 13
 reported_nothing j new report same = record {

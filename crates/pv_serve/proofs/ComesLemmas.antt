@@ -1,5 +1,5 @@
 -- A source is one program, or it is none for one reason.
-use Rattle.std.proofs.Common.{◌≡◌, inl, inr, ℕ, ◌+◌, ◌-◌, ◌<◌, ◌≤◌, List, length, take, drop, refl, sym, ap, subst, ◌∙◌, arith}
+use Rattle.std.proofs.Common.{◌≡◌, inl, inr, ℕ, ◌+◌, ◌-◌, ◌<◌, ◌≤◌, List, [], length, take, drop, refl, sym, ap, subst, ◌∙◌, arith}
 use Rattle.pv_lex.specs.declared.error.LexError.{LexError}
 use Rattle.pv_lex.specs.declared.error.LexError.TheVariants as error
 use Rattle.pv_token.specs.Table.{Table}
@@ -17,7 +17,7 @@ use Rattle.pv_lex.proofs.Exactly.{either_error, one_table, one_error, no_error}
 use Rattle.std.specs.Prelude.{Result, Ok, Err, IfOk}
 use Rattle.pv_serve.specs.declared.checking.Refused.{Refused as Answered}
 use Rattle.pv_serve.specs.Verdicts.{Size, Byte, Token, Profile, Syntax, NoMain}
-use Rattle.pv_serve.specs.Readings.{Reading, Bad, reading_of}
+use Rattle.pv_serve.specs.Readings.{Reading, Bad, reading_of, lexical_refusal, IsWordOf}
 use Rattle.pv_serve.specs.Comes.{UnitComes, TokensCome, NoUnit, Spelled, Comes, BadByte, BadToken, LeftOut, Lexed, Reads, Long, Short, source_limit}
 
 one_count : (tokens : List LexToken) (m n : ℕ) → IsWhole tokens m → IsWhole tokens n → m ≡ n
@@ -86,21 +86,28 @@ pub lexed_if : {E : Type 0} (source : List ℕ) (t : Table) (r : Result (Result 
 lexed_if source t (Ok x) whole comes = Lexed t whole comes
 lexed_if source t (Err e) whole comes = tt
 
-fault_of : (source : List ℕ) (e g : LexError) → LexFault source e → e ≡ g → LexFault source g
-fault_of source e g fault is = subst (λ (x : LexError). LexFault source x) is fault
+-- a fault, with its word, is what the source is refused for
+pub faulty : (source : List ℕ) (e : LexError) (word : List ℕ) → LexFault source e → IsWordOf source e word → Comes source (Bad (lexical_refusal e word))
+faulty source (error.BadByte at) word fault is = BadByte at fault refl
+faulty source (error.BadToken at) word fault is = BadToken at fault refl
+faulty source (error.Profile at count) word fault is = LeftOut at count fault (ap (λ (bytes : List ℕ). Bad (Profile at bytes)) is)
+faulty source error.NoMemory word fault is = absurd is
 
-pub bad_byte : (source : List ℕ) (e : LexError) (at shown : ℕ) → LexFault source e → e ≡ error.BadByte at → shown ≡ at → Comes source (Bad (Byte shown))
-bad_byte source e at shown fault is same = BadByte at (fault_of source e (error.BadByte at) fault is) (ap (λ (n : ℕ). Bad (Byte n)) same)
+-- a fault that has no word
+pub wordless_byte : (source : List ℕ) (e : LexError) (at : ℕ) (bytes : List ℕ) → e ≡ error.BadByte at → bytes ≡ [] → IsWordOf source e bytes
+wordless_byte source e at bytes is none = subst (λ (x : LexError). IsWordOf source x bytes) (sym is) none
 
-pub bad_token : (source : List ℕ) (e : LexError) (at shown : ℕ) → LexFault source e → e ≡ error.BadToken at → shown ≡ at → Comes source (Bad (Token shown))
-bad_token source e at shown fault is same = BadToken at (fault_of source e (error.BadToken at) fault is) (ap (λ (n : ℕ). Bad (Token n)) same)
+pub wordless_token : (source : List ℕ) (e : LexError) (at : ℕ) (bytes : List ℕ) → e ≡ error.BadToken at → bytes ≡ [] → IsWordOf source e bytes
+wordless_token source e at bytes is none = subst (λ (x : LexError). IsWordOf source x bytes) (sym is) none
 
-pub left_out : (source : List ℕ) (e : LexError) (at word a w b d shown : ℕ) (bytes : List ℕ) → LexFault source e → e ≡ error.Profile at word
-    → bytes ≡ take ((a + w) - b) (drop d source) → a ≡ at → w ≡ word → b ≡ at → d ≡ at → shown ≡ at → Comes source (Bad (Profile shown bytes))
-left_out source e at word a w b d shown bytes fault is same a_is w_is b_is d_is shown_is =
+-- a word that is cut out of the source, if there is memory for it
+pub cut_word : {E : Type 0} (source : List ℕ) (e : LexError) (at word a w b d : ℕ) (r : Result (List ℕ) E) → e ≡ error.Profile at word
+    → IfOk r (λ bytes. bytes ≡ take ((a + w) - b) (drop d source)) → a ≡ at → w ≡ word → b ≡ at → d ≡ at → IfOk r (IsWordOf source e)
+cut_word source e at word a w b d (Err x) is same a_is w_is b_is d_is = tt
+cut_word source e at word a w b d (Ok bytes) is same a_is w_is b_is d_is =
     let length_is : (a + w) - b ≡ word = omega (arith, a_is, w_is, b_is) in
-    let bytes_are = same ∙ ap (λ (n : ℕ). take n (drop d source)) length_is ∙ ap (λ (n : ℕ). take word (drop n source)) d_is in
-    LeftOut at word (fault_of source e (error.Profile at word) fault is) (ap (λ (b : List ℕ). Bad (Profile shown b)) bytes_are ∙ ap (λ (n : ℕ). Bad (Profile n (take word (drop at source)))) shown_is)
+    subst (λ (x : LexError). IsWordOf source x bytes) (sym is)
+    (same ∙ ap (λ (n : ℕ). take n (drop d source)) length_is ∙ ap (λ (n : ℕ). take word (drop n source)) d_is)
 
 -- the tokens of a unit decide
 pub spelled_if : {E : Type 0} (tokens : Table) (ds : List DeclarationTree) (r : Result (Result Stored Answered) E) → SpellUnit tokens.tokens ds

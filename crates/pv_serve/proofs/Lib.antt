@@ -5,6 +5,7 @@ pub mod ComesLemmas
 pub mod JudgedLemmas
 pub mod Limits
 pub mod RunLemmas
+pub mod LoadLemmas
 pub mod FilesLemmas
 pub mod CausesLemmas
 pub mod ReportLemmas

@@ -20,19 +20,20 @@ use Rattle.pv_exec.specs.declared.program.Ran.{Ran}
 use Rattle.pv_exec.specs.declared.program.RunError.{RunError}
 use Rattle.pv_exec.specs.declared.program.RunError.TheVariants as error
 use Rattle.pv_exec.specs.Streaming.{event_of}
-use Rattle.pv_exec.specs.Answering.{RanAs, ToldOr, FaultCause, end_of}
+use Rattle.pv_exec.specs.Answering.{ToldOr, FaultCause, end_of}
 use Rattle.pv_describe.specs.Describing.{check_text, layout_text}
 use Rattle.pv_serve.specs.declared.words.Task.{Task}
 use Rattle.pv_serve.specs.declared.words.Task.TheVariants as task
-use Rattle.pv_serve.specs.declared.judging.Judgement.{Judgement}
-use Rattle.pv_serve.specs.declared.judging.Judgement.TheVariants as judgement
+use Rattle.pv_serve.specs.declared.tasks.Judgement.{Judgement}
+use Rattle.pv_serve.specs.declared.tasks.Judgement.TheVariants as judgement
 use Rattle.pv_serve.specs.Jobs.{IsTask, IsBound}
 use Rattle.pv_serve.specs.Verdicts.{Verdict, Described, Course, course_of}
 use Rattle.pv_serve.specs.Readings.{Program}
 use Rattle.pv_serve.specs.Comes.{Comes, source_limit}
 use Rattle.pv_serve.specs.Judged.{Judged, Oversize, Unread, Unfit, Fit, UnitGives, IsRun, SomeRun}
 use Rattle.pv_serve.specs.Outside.{Sunk, Wrote, WrotePrefix, Halls}
-use Rattle.pv_serve.specs.Judging.{Shown, nothing_shown, ending_of, verdict_of, output_of, IsJudged, BeganOutput, LeftPart, IsCutOff, UnitJudged, UnitRun, UnitCutOff, HasFault, IsScriptRefused}
+use Rattle.pv_serve.specs.Judging.{Shown, nothing_shown, ending_of, verdict_of, output_of, IsJudged, BeganOutput, LeftPart, IsCutOff, UnitJudged, UnitRun, UnitCutOff, HasFault}
+use Rattle.pv_serve.specs.Settling.{IsRan, IsLeft}
 use Rattle.pv_serve.specs.Watching.{AreTold}
 use Rattle.pv_serve.proofs.ComesLemmas.{source_limit_is}
 
@@ -51,28 +52,31 @@ runnable u k = record {
 abbrev pub shown_by : Res Worth → Shown
 shown_by run = record { output = (end_of run).output; events = map event_of (end_of run).events }
 
-pub run_judged : (u : Stored) (lines : List ScriptLine) (bound : ℕ) (out : Sunk) (hall : Halls) (run : Res Worth) (ran : Ran) → IsRun (whole u) lines bound run
-    → RanAs run ran → Wrote out (end_of run).output → Told hall.old (map event_of (end_of run).events) u.names hall.new
-    → UnitJudged (whole u) lines (task.Run bound) out hall (judgement.Ran ran u bound)
-run_judged u lines bound out hall run ran runs seen gains told = record {
+pub run_judged : (u : Stored) (lines : List ScriptLine) (bound : ℕ) (out : Sunk) (hall : Halls) (run : Res Worth) (ran : Ran) (names : List (List ℕ))
+    → IsRun (whole u) lines bound run → IsRan out hall ran names run u.names → UnitJudged (whole u) lines (task.Run bound) out hall (judgement.Ran ran names bound)
+run_judged u lines bound out hall run ran names runs is = record {
   shown = shown_by run;
   gives = (
-    ending_of ran u (shown_by run),
-    record { run = run; runs = runs; ends = record { outcome = seen.outcome; turns = seen.turns; output = refl; events = refl; names = refl } },
+    ending_of ran names (shown_by run),
+    record { run = run; runs = runs; ends = record { outcome = is.ran.outcome; turns = is.ran.turns; output = refl; events = refl; names = is.names } },
     refl,
   );
-  gains = gains;
-  told = told;
+  gains = is.gains;
+  told = subst (λ (texts : List (List ℕ)). Told hall.old (map event_of (end_of run).events) texts hall.new) (sym is.names) is.told;
 }
 
 pub run_cut_off : (u : Stored) (lines : List ScriptLine) (bound : ℕ) (out : Sunk) (hall : Halls) (run : Res Worth) (e : RunError) → IsRun (whole u) lines bound run
-    → WrotePrefix out (end_of run).output
-    → ToldOr (Err e) (record { sink = out.old; hall = hall.old }) (record { sink = out.new; hall = hall.new }) (end_of run) u.names
-    → UnitCutOff (whole u) lines (task.Run bound) out hall e
-run_cut_off u lines bound out hall run error.NoMemory runs part told = inr (record { bound = bound; asks = refl; run = run; runs = runs; holds = part })
-run_cut_off u lines bound out hall run error.WriteFault runs part told = record { bound = bound; asks = refl; run = run; runs = runs; holds = told }
+    → IsLeft out hall e run u.names → UnitCutOff (whole u) lines (task.Run bound) out hall e
+run_cut_off u lines bound out hall run error.NoMemory runs left = inr (record { bound = bound; asks = refl; run = run; runs = runs; holds = left })
+run_cut_off u lines bound out hall run error.WriteFault runs left = record { bound = bound; asks = refl; run = run; runs = runs; holds = left }
 
-pub fault_of : (e : RunError) (before now : ℕ) → FaultCause (Err e) before now → HasFault (Err e) before now
+-- what a run that was cut off left, as the run says it
+pub left_by : (out : Sunk) (hall : Halls) (run : Res Worth) (names : List (List ℕ)) (e : RunError) → WrotePrefix out (end_of run).output
+    → ToldOr (Err e) (record { sink = out.old; hall = hall.old }) (record { sink = out.new; hall = hall.new }) (end_of run) names → IsLeft out hall e run names
+left_by out hall run names error.NoMemory part told = part
+left_by out hall run names error.WriteFault part told = told
+
+pub fault_of : {A : Type 0} (e : RunError) (before now : ℕ) → FaultCause (Err e) before now → HasFault {A = A} (Err e) before now
 fault_of error.NoMemory before now f = tt
 fault_of error.WriteFault before now f = f
 
@@ -195,26 +199,8 @@ script_refused (why.BadLine n) wanted some o = sym o
 script_refused (why.Repeated n m) wanted some o = sym o
 script_refused why.NoMemory wanted some o = absurd (some refl)
 
-script_judged : (source script : List ℕ) (t : Task) (out : Sunk) (hall : Halls) (j : Judgement) → IsUntouched out hall → length source ≤ source_limit
-    → IsScriptRefused (script_of script) j → IsJudged source script t out hall j
-script_judged source script t out hall (judgement.Script y) same short e = judged_nothing source script t out hall (judgement.Script y) same (Unread y short e refl) refl refl
-script_judged source script t out hall (judgement.Ran ran unit bound) same short e = absurd e
-script_judged source script t out hall (judgement.Described text) same short e = absurd e
-script_judged source script t out hall (judgement.Source y) same short e = absurd e
-
-pub script_if : (source script : List ℕ) (t : Task) (out : Sunk) (hall : Halls) (r : Result Judgement RunError) → IsUntouched out hall → length source ≤ source_limit
-    → IfOk r (IsScriptRefused (script_of script)) → IfOk r (IsJudged source script t out hall)
-script_if source script t out hall (Ok j) same short e = script_judged source script t out hall j same short e
-script_if source script t out hall (Err x) same short e = tt
-
-pub memory_cut : (source script : List ℕ) (t : Task) (out : Sunk) (hall : Halls) (r : Result Judgement RunError) → IsUntouched out hall
-    → IfErr r (λ e. e ≡ error.NoMemory) → IfErr r (IsCutOff source script t out hall)
-memory_cut source script t out hall (Ok j) same e = tt
-memory_cut source script t out hall (Err error.NoMemory) same e = inl (nothing out same.0)
-memory_cut source script t out hall (Err error.WriteFault) same e = absurd cc
-
-pub memory_fault : (before now : ℕ) (r : Result Judgement RunError) → IfErr r (λ e. e ≡ error.NoMemory) → HasFault r before now
-memory_fault before now (Ok j) e = tt
+pub memory_fault : {A : Type 0} (before now : ℕ) (r : Result A RunError) → IfErr r (λ e. e ≡ error.NoMemory) → HasFault r before now
+memory_fault before now (Ok x) e = tt
 memory_fault before now (Err error.NoMemory) e = tt
 memory_fault before now (Err error.WriteFault) e = absurd cc
 

@@ -1,6 +1,6 @@
 -- A translation unit is one program, or it is none for one reason.
 use Rattle.std.proofs.Common.{◌≡◌, ℕ, List, [], refl, sym, ap, subst, ◌∙◌}
-use Rattle.std.specs.Prelude.{Some, slice_get}
+use Rattle.std.specs.Prelude.{Some, slice_get, Result, Ok, Err, IfOk}
 use Rattle.std.proofs.lemmas.Option.{get_or_from_slice_get}
 use Rattle.pv_token.specs.Table.{Table}
 use Rattle.pv_tree.specs.Syntax.{DeclarationTree}
@@ -11,7 +11,7 @@ use Rattle.pv_unit.specs.Units.{Checked}
 use Rattle.pv_unit.specs.Units as checked
 use Rattle.pv_unit.proofs.Answering.{one_answer, some_answer}
 use Rattle.pv_serve.specs.Verdicts.{Constraint, Unresolved, NoMain}
-use Rattle.pv_serve.specs.Readings.{Reading, Program, Bad}
+use Rattle.pv_serve.specs.Readings.{Reading, Program, Bad, typing_refusal, IsNameOf}
 use Rattle.pv_serve.specs.Comes.{UnitComes, Breaks, Lacks, Mainless, Typed, token_name}
 
 -- what a typing's answer says
@@ -51,14 +51,25 @@ unit_comes tokens ds = let a = some_answer tokens ds in answer_comes tokens ds a
 
 -- ---- for the code that types
 
-pub breaks : (tokens : Table) (ds : List DeclarationTree) (e : CheckError) (index shown : ℕ) → IsCause tokens ds e → e ≡ error.Constraint index → shown ≡ index → UnitComes tokens ds (Bad (Constraint shown))
-breaks tokens ds e index shown h is same = Breaks index (subst (IsCause tokens ds) is h) (ap (λ (n : ℕ). Bad (Constraint n)) same)
+-- the reason, with its name, is what the unit is refused for
+pub untyped : (tokens : Table) (ds : List DeclarationTree) (e : CheckError) (name : List ℕ) → IsCause tokens ds e → IsNameOf tokens e name
+    → UnitComes tokens ds (Bad (typing_refusal e name))
+untyped tokens ds (error.Constraint index) name h is = Breaks index h refl
+untyped tokens ds (error.Unresolved n) name h is = Lacks n h (ap (λ (x : List ℕ). Bad (Unresolved x)) (sym (get_or_from_slice_get tokens.names n name [] is)))
+untyped tokens ds error.NoMain name h is = Mainless h refl
+untyped tokens ds error.NoMemory name h is = absurd is
 
-pub lacks : (tokens : Table) (ds : List DeclarationTree) (e : CheckError) (n m : ℕ) (name shown : List ℕ) → IsCause tokens ds e → e ≡ error.Unresolved n → slice_get tokens.names m ≡ Some name → m ≡ n → shown ≡ name
-    → UnitComes tokens ds (Bad (Unresolved shown))
-lacks tokens ds e n m name shown h is there m_is same =
-    let text = get_or_from_slice_get tokens.names m name [] there in
-    Lacks n (subst (IsCause tokens ds) is h) (ap (λ (x : List ℕ). Bad (Unresolved x)) (same ∙ sym text ∙ ap (token_name tokens) m_is))
+-- a reason that has no name
+pub nameless_constraint : (tokens : Table) (e : CheckError) (index : ℕ) (name : List ℕ) → e ≡ error.Constraint index → name ≡ [] → IsNameOf tokens e name
+nameless_constraint tokens e index name is none = subst (λ (x : CheckError). IsNameOf tokens x name) (sym is) none
 
-pub mainless : (tokens : Table) (ds : List DeclarationTree) (e : CheckError) → IsCause tokens ds e → e ≡ error.NoMain → UnitComes tokens ds (Bad NoMain)
-mainless tokens ds e h is = Mainless (subst (IsCause tokens ds) is h) refl
+pub nameless_main : (tokens : Table) (e : CheckError) (name : List ℕ) → e ≡ error.NoMain → name ≡ [] → IsNameOf tokens e name
+nameless_main tokens e name is none = subst (λ (x : CheckError). IsNameOf tokens x name) (sym is) none
+
+-- the name that has this number, if there is memory for it
+pub its_name : {E : Type 0} (tokens : Table) (e : CheckError) (n m : ℕ) (text : List ℕ) (r : Result (List ℕ) E) → e ≡ error.Unresolved n → slice_get tokens.names m ≡ Some text
+    → m ≡ n → IfOk r (λ name. name ≡ text) → IfOk r (IsNameOf tokens e)
+its_name tokens e n m text (Err x) is there m_is same = tt
+its_name tokens e n m text (Ok name) is there m_is same =
+    subst (λ (x : CheckError). IsNameOf tokens x name) (sym is)
+    (ap (λ (k : ℕ). slice_get tokens.names k) (sym m_is) ∙ there ∙ ap (λ (x : List ℕ). Some x) (sym same))

@@ -24,11 +24,11 @@ pub record Answer : Type 0 where
 abbrev pub answer_of : Verdict → Answer
 answer_of verdict = record { status = status_of verdict; out = output_of verdict; line = report_line verdict; course = course_of verdict }
 
--- docs/FORMATS.md: the answer to words that are no job
+-- docs/FORMATS.md, Words (5.1.2.2.1p2): the answer to words that are no job
 abbrev pub no_job : Answer
 no_job = record { status = 10; out = []; line = words_line; course = None }
 
--- docs/FORMATS.md: those who watch were told of the answer, and of its report, their texts behind its line, P holds
+-- docs/FORMATS.md, What watchers say (the memory model): those who watch were told of the answer, and of its report, their texts behind its line, P holds
 pub record HasReport (kept new : List Slot) (a : Answer) (P : List ℕ → Type 0) : Type 0 where
   pub told : AreTold a.course kept new
   pub text : List ℕ
@@ -41,7 +41,7 @@ pub record SomeVerdict (source script : List ℕ) (task : Task) (P : Answer → 
   pub judged : Judged source script task verdict
   pub answered : P (answer_of verdict)
 
--- docs/FORMATS.md: the bytes of the script that a job names, where they are told; one that names none has none
+-- docs/FORMATS.md, Scripts of addresses (the memory model): the bytes of the script that a job names, where they are told; one that names none has none
 abbrev pub script_held : Option (List ℕ) → (held : List ℕ → Option (List ℕ)) → Option (List ℕ)
 script_held None held = Some []
 script_held (Some name) held = held name
@@ -50,7 +50,7 @@ script_held (Some name) held = held name
 abbrev pub needed : (source : List ℕ) → Option (List ℕ) → Option (List ℕ)
 needed source script = if nat_lt source_limit (length source) then Some [] else script
 
--- docs/FORMATS.md: of the source of a job and its script, where they are told, P holds; nothing is said where a file that is needed isn't told.
+-- docs/FORMATS.md, Words (5.1.2.2.1p2): of the source of a job and its script, where they are told, P holds; nothing is said where a file that is needed isn't told.
 -- A source that is generated has no script.
 abbrev pub OfSource : Job → (held : List ℕ → Option (List ℕ)) → ((source script : List ℕ) → Type 0) → Type 0
 OfSource (Files job) held P = IfSome (held job.file) (λ source. IfSome (needed source (script_held job.script held)) (λ script. P source script))

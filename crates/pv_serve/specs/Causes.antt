@@ -39,7 +39,7 @@ JobRose (Some j) old new = AnyRose (files_of j) old new
 abbrev pub FilesRose : Call → Type 0
 FilesRose c = JobRose (job c.words) c.faults_old c.faults_new
 
--- docs/FORMATS.md: those of the hall whom the job keeps
+-- docs/FORMATS.md, What watchers say (the memory model): those of the hall whom the job keeps
 abbrev pub kept : Call → List Slot
 kept c = kept_by (job c.words) c.hall.old
 
@@ -74,7 +74,7 @@ pub record WriteFault (c : Call) : Type 0 where
   pub wrote : SomeAnswer (job c.words) c.held (WroteReport c.out c.report (kept c) c.hall.new)
       ⊎ (SomeEnd (job c.words) c.held (WroteOutput c.out c.report (kept c) c.hall.new) ⊎ LostReadFault c)
 
--- docs/FORMATS.md, status 13: memory ran out: a first part of the output was written, and of the report nothing; of the hall
+-- docs/FORMATS.md, The report (5.1.2.3p7): status 13: memory ran out: a first part of the output was written, and of the report nothing; of the hall
 -- nothing is said
 pub record NoMemory (c : Call) : Type 0 where
   pub is_job : IsSome (job c.words)
@@ -94,7 +94,7 @@ pub record Table (c : Call) : Type 0 where
   pub no_memory : c.status ≡ 13 → NoMemory c
   pub every_other : c.status ≢ 11 → c.status ≢ 12 → c.status ≢ 13 → SomeAnswer (job c.words) c.held (IsAnswer c)
 
--- docs/FORMATS.md: status 10 comes exactly where the words are no job, whatever the files tell; in its place 12, where `words` can't be written
+-- docs/FORMATS.md, Words (5.1.2.2.1p2): status 10 comes exactly where the words are no job, whatever the files tell; in its place 12, where `words` can't be written
 pub record WordsDecide (c : Call) : Type 0 where
   pub only : c.status ≡ 10 → IsNone (job c.words)
   pub no_job : IsNone (job c.words) → (c.status ≡ 10) ⊎ ((c.status ≡ 12) × SinkRose c.report)

@@ -12,26 +12,26 @@ pub record FileJob : Type 0 where
   pub task : Task
   pub watched : Watched
 
--- docs/FORMATS.md: a job: a file's, or the run of the source that is generated for this number
+-- docs/FORMATS.md, Words (5.1.2.2.1p2): a job: a file's, or the run of the source that is generated for this number
 pub data Job : Type 0 where
   Files : (job : FileJob) → Job
   Generated : (number : ℕ) → Job
 
--- docs/FORMATS.md: the files that the name of a script adds
+-- docs/FORMATS.md, Words (5.1.2.2.1p2): the files that the name of a script adds
 abbrev pub script_files : Option (List ℕ) → List (List ℕ)
 script_files None = []
 script_files (Some name) = name ∷ []
 
--- docs/FORMATS.md: the names of the files that a job reads: its source's, and its script's, if there is one
+-- docs/FORMATS.md, Words (5.1.2.2.1p2): the names of the files that a job reads: its source's, and its script's, if there is one
 abbrev pub files_of : Job → List (List ℕ)
 files_of (Files j) = j.file ∷ script_files j.script
 files_of (Generated n) = []
 
--- docs/FORMATS.md: as many turns has a run whose words do not say how many, and that of a generated source
+-- docs/FORMATS.md, Words (5.1.2.2.1p2): as many turns has a run whose words do not say how many, and that of a generated source
 abbrev pub default_turns : ℕ
 default_turns = 1000000
 
--- docs/FORMATS.md: what is to be done with a job's source; a generated one is run
+-- docs/FORMATS.md, Words (5.1.2.2.1p2): what is to be done with a job's source; a generated one is run
 abbrev pub task_of : Job → Task
 task_of (Files j) = j.task
 task_of (Generated n) = task.Run default_turns
@@ -40,7 +40,7 @@ task_of (Generated n) = task.Run default_turns
 abbrev pub IsBound : ℕ → Type 0
 IsBound n = (0 < n) × (n ≤ 100000000)
 
--- docs/FORMATS.md: a task whose bound, if it is a run, is one
+-- docs/FORMATS.md, Words (5.1.2.2.1p2): a task whose bound, if it is a run, is one
 abbrev pub IsTask : Task → Type 0
 IsTask (task.Run bound) = IsBound bound
 IsTask task.Check = Unit {0}
@@ -48,15 +48,15 @@ IsTask task.Layout = Unit {0}
 
 -- ---- watchers
 
--- docs/FORMATS.md: no watcher
+-- docs/FORMATS.md, What watchers say (the memory model): no watcher
 abbrev pub nobody : Watched
 nobody = record { explain = false; census = false; pointers = false }
 
--- docs/FORMATS.md: the count of events alone
+-- docs/FORMATS.md, What watchers say (the memory model): the count of events alone
 abbrev pub counted : Watched
 counted = record { explain = false; census = true; pointers = false }
 
--- docs/FORMATS.md: a kind of watcher, where it is wanted
+-- docs/FORMATS.md, What watchers say (the memory model): a kind of watcher, where it is wanted
 abbrev pub if_wanted : Bool → (kind : ℕ) → List ℕ
 if_wanted wanted kind = if wanted then kind ∷ [] else []
 
@@ -64,7 +64,7 @@ if_wanted wanted kind = if wanted then kind ∷ [] else []
 abbrev pub kinds_of : Watched → List ℕ
 kinds_of w = if_wanted w.explain 1 ++ if_wanted w.census 2 ++ if_wanted w.pointers 3
 
--- docs/FORMATS.md: those who watch a job; a generated source has a count of its events
+-- docs/FORMATS.md, What watchers say (the memory model): those who watch a job; a generated source has a count of its events
 abbrev pub watched_of : Job → Watched
 watched_of (Files j) = j.watched
 watched_of (Generated n) = counted

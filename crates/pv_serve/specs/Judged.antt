@@ -1,5 +1,5 @@
 -- What a source with a script of addresses comes to, by the task that is done with it.
-use Rattle.std.specs.Prelude.{◌≡◌, ℕ, ◌<◌, ◌≤◌, List, length, map, Ok, Err, None, Some}
+use Rattle.std.specs.Prelude.{◌≡◌, ℕ, Bool, ◌<◌, ◌≤◌, List, length, map, Ok, Err, Option, None, Some}
 use Rattle.pv_script.specs.declared.scripts.ScriptError.{ScriptError}
 use Rattle.pv_script.specs.Lines.{ScriptLine}
 use Rattle.pv_script.specs.Scripts.{script_of}
@@ -26,13 +26,18 @@ pub record Ends (run : Res Worth) (texts : List (List ℕ)) (e : Ending) : Type 
   pub events : e.events ≡ map event_of (end_of run).events
   pub names : e.names ≡ texts
 
--- 5.1.2.3: the run of a unit, with its script and the bound on its turns. A run numbers the types of its unit, for the marks that stores leave
--- (6.5p6). Which numbers doesn't matter: all tables that stand for a unit give the same run, and each unit has tables (a law, proved in a crate
--- above). So it is the run of any tables that stand for the unit.
-pub record IsRun (unit : WholeUnit) (lines : List ScriptLine) (bound : ℕ) (run : Res Worth) : Type 0 where
+-- 5.1.2.3: the run of a unit, with its script, the bound on its turns, and the sides for which its pairs of candidates stand from their making, where
+-- there are any (the memory model). A run numbers the types of its unit, for the marks that stores leave (6.5p6). Which numbers doesn't matter: all
+-- tables that stand for a unit give the same run, and each unit has tables (a law, proved in a crate above). So it is the run of any tables that
+-- stand for the unit.
+pub record IsRunBy (unit : WholeUnit) (lines : List ScriptLine) (bound : ℕ) (sides : Option (List Bool)) (run : Res Worth) : Type 0 where
   pub tables : Stored
   pub stands : whole tables ≡ unit
-  pub is : run ≡ run_of (setting_of tables bound None) lines
+  pub is : run ≡ run_of (setting_of tables bound sides) lines
+
+-- 5.1.2.3: the run of a unit, without sides: each pair of candidates is settled at its first use that tells (the memory model)
+abbrev pub IsRun : WholeUnit → List ScriptLine → (bound : ℕ) → (run : Res Worth) → Type 0
+IsRun unit lines bound run = IsRunBy unit lines bound None run
 
 -- 5.1.2.3: the run of a unit ends so
 pub record RunEnds (unit : WholeUnit) (lines : List ScriptLine) (bound : ℕ) (e : Ending) : Type 0 where

@@ -3,9 +3,7 @@ use Rattle.std.specs.Prelude.{◌≡◌, ◌⊎◌, ℕ, List, [], Result, Ok, E
 use Rattle.pv_script.specs.Outside.{Rose}
 use Rattle.pv_watch.specs.declared.event.Event.{Event}
 use Rattle.pv_script.specs.Lines.{ScriptLine}
-use Rattle.pv_script.specs.declared.scripts.ScriptError.{ScriptError}
 use Rattle.pv_typed.specs.TypedUnits.{WholeUnit}
-use Rattle.pv_typed.specs.Tables.{Stored}
 use Rattle.pv_world.specs.Worlds.{Worth}
 use Rattle.pv_eval.specs.States.{Res, State}
 use Rattle.pv_exec.specs.declared.program.RunError.{RunError}
@@ -14,8 +12,8 @@ use Rattle.pv_exec.specs.declared.program.Ran.{Ran}
 use Rattle.pv_exec.specs.Answering.{end_of, ToldPart}
 use Rattle.pv_serve.specs.declared.words.Task.{Task}
 use Rattle.pv_serve.specs.declared.words.Task.TheVariants as task
-use Rattle.pv_serve.specs.declared.judging.Judgement.{Judgement}
-use Rattle.pv_serve.specs.declared.judging.Judgement.TheVariants as judgement
+use Rattle.pv_serve.specs.declared.tasks.Judgement.{Judgement}
+use Rattle.pv_serve.specs.declared.tasks.Judgement.TheVariants as judgement
 use Rattle.pv_serve.specs.Verdicts.{Verdict, Ending, Ended, Described, Refused, Script, course_of}
 use Rattle.pv_serve.specs.Readings.{refusal_of}
 use Rattle.pv_serve.specs.Judged.{Judged, SomeRun, UnitGives, IsRun}
@@ -32,12 +30,12 @@ abbrev pub nothing_shown : Shown
 nothing_shown = record { output = []; events = [] }
 
 -- 5.1.2.3: how the run that was made ended, where this left it
-abbrev pub ending_of : Ran → Stored → Shown → Ending
-ending_of ran unit shown = record { outcome = ran.outcome; turns = ran.turns; output = shown.output; events = shown.events; names = unit.names }
+abbrev pub ending_of : Ran → (names : List (List ℕ)) → Shown → Ending
+ending_of ran names shown = record { outcome = ran.outcome; turns = ran.turns; output = shown.output; events = shown.events; names = names }
 
 -- 5.1.1.3, 5.1.2.3: the verdict that a judgement is, where this left its run
 abbrev pub verdict_of : Judgement → Shown → Verdict
-verdict_of (judgement.Ran ran unit bound) shown = Ended (ending_of ran unit shown) bound
+verdict_of (judgement.Ran ran names bound) shown = Ended (ending_of ran names shown) bound
 verdict_of (judgement.Described text) shown = Described text.items
 verdict_of (judgement.Source why) shown = Refused (refusal_of why)
 verdict_of (judgement.Script why) shown = Script why
@@ -91,14 +89,7 @@ UnitCutOff unit lines t out hall error.NoMemory = Wrote out [] ⊎ UnitRun unit 
 UnitCutOff unit lines t out hall error.WriteFault = UnitRun unit lines t (LeftPart out hall)
 
 -- 7.21.8.2p3: a write failed only where the sink counts a fault more
-abbrev pub HasFault : Result Judgement RunError → (before now : ℕ) → Type 0
-HasFault (Ok j) before now = Unit {0}
+abbrev pub HasFault : {A : Type 0} → Result A RunError → (before now : ℕ) → Type 0
+HasFault (Ok x) before now = Unit {0}
 HasFault (Err error.WriteFault) before now = Rose before now
 HasFault (Err error.NoMemory) before now = Unit {0}
-
--- docs/FORMATS.md: the script is refused for the reason that its text gives
-abbrev pub IsScriptRefused : Result (List ScriptLine) ScriptError → Judgement → Type 0
-IsScriptRefused wanted (judgement.Script why) = wanted ≡ Err why
-IsScriptRefused wanted (judgement.Ran ran unit bound) = ⊥
-IsScriptRefused wanted (judgement.Described text) = ⊥
-IsScriptRefused wanted (judgement.Source why) = ⊥

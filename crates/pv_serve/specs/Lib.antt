@@ -8,6 +8,8 @@ pub mod Report
 pub mod Watching
 pub mod Outside
 pub mod Judging
+pub mod Loading
+pub mod Settling
 pub mod Answer
 pub mod Causes
 pub mod Serving

@@ -30,11 +30,11 @@ Wrote sink bytes = Gains sink.old sink.new bytes
 abbrev pub WrotePrefix : Sunk → List ℕ → Type 0
 WrotePrefix sink bytes = GainsPrefix sink.old sink.new bytes
 
--- docs/FORMATS.md: the hall before a call and after it, as lists of watchers that are present or have left their text
+-- docs/FORMATS.md, What watchers say (the memory model): the hall before a call and after it, as lists of watchers that are present or have left their text
 pub record Halls : Type 0 where
   pub old : List Slot
   pub new : List Slot
 
--- docs/FORMATS.md: the same, by what a hall's watchers say of their kind, of how many events they want, and of those that they have seen
+-- docs/FORMATS.md, What watchers say (the memory model): the same, by what a hall's watchers say of their kind, of how many events they want, and of those that they have seen
 abbrev pub halls : {X : Type 0} {P : X → Type 0} → (old new : Hall X P) → ((x : X) × P x → ℕ) → ((x : X) × P x → ℕ) → ((x : X) × P x → List Event) → Halls
 halls old new kind wants seen = record { old = hall_slots old kind wants seen; new = hall_slots new kind wants seen }

@@ -76,11 +76,11 @@ refusal_line (Constraint index) = codes "refused reason=constraint index=" ++ de
 refusal_line (Unresolved name) = unresolved_line name
 refusal_line NoMain = codes "refused reason=main" ++ line_feed
 
--- docs/FORMATS.md: two lines of a script speak of one request
+-- docs/FORMATS.md, Scripts of addresses (the memory model): two lines of a script speak of one request
 abbrev pub repeated_line : (line first : ℕ) → List ℕ
 repeated_line line first = codes "script reason=repeated line=" ++ decimal line ++ codes " first=" ++ decimal first ++ line_feed
 
--- docs/FORMATS.md: a script is too long, or this line of it, from 1, has no reading, or speaks of the request of which that line speaks first; no
+-- docs/FORMATS.md, Scripts of addresses (the memory model): a script is too long, or this line of it, from 1, has no reading, or speaks of the request of which that line speaks first; no
 -- text is refused for want of memory
 abbrev pub script_line : ScriptError → List ℕ
 script_line script.Size = codes "script reason=size" ++ line_feed
@@ -114,10 +114,10 @@ status_of (Described text) = 0
 status_of (Refused refusal) = 8
 status_of (Script why) = 9
 
--- docs/FORMATS.md: what is told of words that are no job
+-- docs/FORMATS.md, The report (5.1.1.3p1): what is told of words that are no job
 abbrev pub words_line : List ℕ
 words_line = codes "words" ++ line_feed
 
--- docs/FORMATS.md: what is told where a file that the words name could not be read
+-- docs/FORMATS.md, The report (5.1.1.3p1): what is told where a file that the words name could not be read
 abbrev pub fault_line : List ℕ
 fault_line = codes "fault read" ++ line_feed

@@ -3,7 +3,7 @@ use Rattle.std.specs.Prelude.{◌≡◌, ◌≢◌, ◌⊎◌, ℕ, ◌+◌, Lis
 use Rattle.pv_watch.specs.Slots.{Slot, SayAll}
 use Rattle.pv_gen.specs.Source.{source_text}
 use Rattle.pv_serve.specs.declared.words.Task.{Task}
-use Rattle.pv_serve.specs.declared.judging.Judgement.{Judgement}
+use Rattle.pv_serve.specs.declared.tasks.Judgement.{Judgement}
 use Rattle.pv_serve.specs.Jobs.{Job, FileJob, Files, Generated}
 use Rattle.pv_serve.specs.Verdicts.{course_of}
 use Rattle.pv_serve.specs.Comes.{source_limit}
@@ -15,7 +15,7 @@ use Rattle.pv_serve.specs.Watching.{IsReport, kept_by}
 use Rattle.pv_serve.specs.Answer.{Answer, HasReport, OfSource, SomeVerdict}
 use Rattle.pv_serve.specs.Causes.{JobRose, WroteReport, WroteOutput}
 
--- docs/FORMATS.md: the hall once those whom the job keeps are kept, and as the call leaves it
+-- docs/FORMATS.md, What watchers say (the memory model): the hall once those whom the job keeps are kept, and as the call leaves it
 abbrev pub kept_halls : Job → Halls → Halls
 kept_halls j hall = record { old = kept_by (Some j) hall.old; new = hall.new }
 
@@ -28,21 +28,21 @@ abbrev pub IsSource : Job → (held : List ℕ → Option (List ℕ)) → (sourc
 IsSource (Files job) held source script = IsGiven job held source script
 IsSource (Generated number) held source script = (source ≡ source_text number) × (script ≡ [])
 
--- docs/FORMATS.md: the report on a judgement has this text, whatever its run printed and told
+-- docs/FORMATS.md, The report (5.1.1.3p1): the report on a judgement has this text, whatever its run printed and told
 abbrev pub IsReportOn : Judgement → (hall : List Slot) → (text : List ℕ) → Type 0
 IsReportOn j hall text = (shown : Shown) → IsReport (course_of (verdict_of j shown)) hall (report_line (verdict_of j shown)) text
 
--- docs/FORMATS.md: a line with the texts of a hall behind it
+-- docs/FORMATS.md, What watchers say (the memory model): a line with the texts of a hall behind it
 abbrev pub HasStory : (names : List (List ℕ)) → (hall : List Slot) → (line text : List ℕ) → Type 0
 HasStory names hall line text = (story : List ℕ) × SayAll names hall story × (text ≡ line ++ story)
 
--- docs/FORMATS.md: of the report on a judgement P holds
+-- docs/FORMATS.md, The report (5.1.1.3p1): of the report on a judgement P holds
 pub record SomeReport (j : Judgement) (hall : List Slot) (P : List ℕ → Type 0) : Type 0 where
   pub text : List ℕ
   pub is : IsReportOn j hall text
   pub holds : P text
 
--- docs/FORMATS.md: the report on a judgement, by the status
+-- docs/FORMATS.md, The report (5.1.1.3p1): the report on a judgement, by the status
 pub record Reported (j : Judgement) (hall : List Slot) (report : Sunk) (status : ℕ) : Type 0 where
   pub no_read_fault : status ≢ 11
   pub no_words : status ≢ 10
@@ -58,7 +58,7 @@ pub record IsTold (out report : Sunk) (hall : Halls) (status : ℕ) (a : Answer)
   pub output : Wrote out a.out
   pub whole : HasReport hall.old hall.new a (Wrote report)
 
--- docs/FORMATS.md: the answer to a source with its script, by the status, before those who watch
+-- docs/FORMATS.md, The report (5.1.2.3p7): the answer to a source with its script, by the status, before those who watch
 pub record Answered (source script : List ℕ) (t : Task) (out report : Sunk) (hall : Halls) (status : ℕ) : Type 0 where
   pub no_read_fault : status ≢ 11
   pub no_words : status ≢ 10

@@ -6,7 +6,7 @@ use Rattle.pv_watch.specs.Slots.{Slot, Present, Left, Told, SayAll, is_kept}
 use Rattle.pv_serve.specs.Jobs.{Job, kinds_of, watched_of}
 use Rattle.pv_serve.specs.Verdicts.{Course}
 
--- docs/FORMATS.md: those whom a job keeps are of the kinds that its options name; words that are no job leave the hall as it is
+-- docs/FORMATS.md, What watchers say (the memory model): those whom a job keeps are of the kinds that its options name; words that are no job leave the hall as it is
 abbrev pub kept_by : Option Job → List Slot → List Slot
 kept_by None slots = slots
 kept_by (Some j) slots = filter (is_kept (kinds_of (watched_of j))) slots
@@ -16,24 +16,24 @@ abbrev pub AreTold : Option Course → (kept new : List Slot) → Type 0
 AreTold None kept new = new ≡ kept
 AreTold (Some c) kept new = Told kept c.events c.names new
 
--- docs/FORMATS.md: a report: its line, and behind that of a run the texts of those who watched, in the order of the hall
+-- docs/FORMATS.md, The report (5.1.1.3p1): a report: its line, and behind that of a run the texts of those who watched, in the order of the hall
 abbrev pub IsReport : Option Course → (hall : List Slot) → (line text : List ℕ) → Type 0
 IsReport None hall line text = text ≡ line
 IsReport (Some c) hall line text = (story : List ℕ) × SayAll c.names hall story × (text ≡ line ++ story)
 
 -- ---- a law: what watchers say who come to a run having seen nothing
 
--- docs/FORMATS.md: such watchers, each of a kind whose text is specified; each wants an event at least
+-- docs/FORMATS.md, What watchers say (the memory model): such watchers, each of a kind whose text is specified; each wants an event at least
 abbrev pub AreFresh : List Slot → Type 0
 AreFresh [] = Unit {0}
 AreFresh ((Left kind text) ∷ slots) = ⊥
 AreFresh ((Present kind wants seen) ∷ slots) = (seen ≡ []) × (0 < wants) × (0 < kind) × (kind ≤ 3) × AreFresh slots
 
--- docs/FORMATS.md: the text of a watcher's kind over the first events, as many as it wants, or all where there are fewer
+-- docs/FORMATS.md, What watchers say (the memory model): the text of a watcher's kind over the first events, as many as it wants, or all where there are fewer
 abbrev pub story_of : Course → Slot → List ℕ
 story_of c (Present kind wants seen) = unwrap_or (text_of kind wants (take wants c.events) c.names) []
 story_of c (Left kind text) = text
 
--- docs/FORMATS.md: the texts of all in the order of the hall
+-- docs/FORMATS.md, What watchers say (the memory model): the texts of all in the order of the hall
 abbrev pub stories : Course → List Slot → List ℕ
 stories c slots = flat_map (story_of c) slots

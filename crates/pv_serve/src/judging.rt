@@ -1,169 +1,134 @@
-//! What a source comes to: it is run, or described, or refused.
-ghost use Rattle.std.specs.Prelude.{◌^◌, ◌≡◌, ◌<◌, ◌≤◌, ◌+◌, ◌++◌, ◌⊎◌, ⊤, ℕ, List, [], length, take, None, Some, Result, Ok, Err, IfOk, IfErr};
+//! What a source with its script comes to: the end of its run, or why it has none.
+ghost use Rattle.std.specs.Prelude.{◌≡◌, ◌<◌, ◌≤◌, ◌+◌, ◌++◌, ◌⊎◌, ℕ, List, length, take, None, Some, IfOk, IfErr};
 ghost use Rattle.std.specs.List.{flat_map};
 ghost use Rattle.pv_script.specs.Lines.{ScriptLine};
-ghost use Rattle.pv_script.specs.Scripts.{script_of, OrNoMemory};
-ghost use Rattle.pv_script.specs.declared.scripts.ScriptError.{ScriptError};
 ghost use Rattle.pv_watch.specs.Slots.{Slot};
-ghost use Rattle.pv_typed.specs.Tables.{Stored, whole};
+ghost use Rattle.pv_typed.specs.Tables.{Stored};
 ghost use Rattle.pv_exec.specs.Run.{setting_of, run_of};
-ghost use Rattle.pv_serve.specs.Jobs.{IsTask, IsBound};
-ghost use Rattle.pv_serve.specs.Verdicts.{Verdict, Ending, Described, Course};
+ghost use Rattle.pv_exec.specs.Answering.{highs};
+ghost use Rattle.pv_serve.specs.Jobs.{IsBound};
+ghost use Rattle.pv_serve.specs.Verdicts.{Verdict, Ending, Course};
 ghost use Rattle.pv_serve.specs.Readings.{IsFit};
 ghost use Rattle.pv_serve.specs.Comes.{source_limit};
 ghost use Rattle.pv_serve.specs.Judged.{Judged, Ends, IsLeftToRun, BothRun, script_limit};
 ghost use Rattle.pv_serve.specs.Outside.{sunk, halls};
-ghost use Rattle.pv_serve.specs.Judging.{IsJudged, IsCutOff, IsScriptRefused, nothing_shown, verdict_of, UnitJudged, UnitCutOff, HasFault};
+ghost use Rattle.pv_serve.specs.Judging.{HasFault};
+ghost use Rattle.pv_serve.specs.Loading.{IsLoadedProgram};
+ghost use Rattle.pv_serve.specs.Settling.{IsRan, IsOutcome, IsLeft, IsUnfinished};
 ghost use Rattle.pv_serve.specs.Watching.{AreFresh, AreTold, IsReport, stories};
 
 use crate::NoMemory;
-use crate::checking::{Refused, SOURCE_LIMIT, typed};
+use crate::checking::Refused;
+use crate::loading::{Loaded, load};
 use crate::words::Task;
-use pv_describe::{check_text, layout_text};
-use pv_exec::{Ran, RunError, run};
-use pv_script::{Script, ScriptError, Sink, read};
+use pv_exec::{Ran, RunError, Side, run};
+use pv_script::{Names, Script, ScriptError, Sink};
 use pv_typed::TypedUnit;
 use pv_watch::{Hall, Watch};
 use std::alloc::Global;
+use std::mem;
 
 /// What a source and its script come to.
 #[derive(Drop)]
-pub enum Judgement {
-    /// The unit was run, with at most so many turns.
-    Ran {
-        ran: Ran,
-        unit: TypedUnit,
-        bound: u64,
-    },
-    /// It has a typing, and this text tells of it.
-    Described {
-        text: Vec<u8>,
-    },
+pub enum Judged {
+    /// The unit, which has these names, was run.
+    Ran { ran: Ran, names: Names },
     /// The source is refused.
     Source(Refused),
     /// The script is refused.
     Script(ScriptError),
 }
 
-/// Judges a source with a script of addresses: runs it, or describes it. What the run prints goes to `out`, and those in the hall are told
-/// of its memory.
+/// Runs a source with a script of addresses (C17 5.1.2). What the run prints goes to `out`, and those in the hall are told of its memory.
+///
+/// At most as many turns are taken as the bound allows. Without sides each pair of candidates is settled at the first use that tells them
+/// apart. With sides each stands for its side from its making, and a run that makes more pairs ends at the first that has none.
 ///
 /// A source that is too long is refused before its script is read, the script before the source is.
 pub fn judge<O: Sink>(
     alloc: Global,
     source: &[u8],
     script: &[u8],
-    task: Task,
+    bound: u64,
+    sides: Option<&[Side]>,
     out: &mut O,
     hall: &mut Hall,
-) -> Result<Judgement, RunError>
-    requires { IsTask task }
-    ensures judged { IfOk result (IsJudged source.now script.now task
+) -> Result<Judged, RunError>
+    requires { IsBound bound }
+    ensures judged { IfOk result (IsOutcome source.now script.now bound (highs sides.entry (λ x. x.now))
         (sunk O.written O.faults out.old out.new) (halls hall.old hall.new its_kind its_wants seen)) }
-    ensures part { IfErr result (IsCutOff source.now script.now task
+    ensures part { IfErr result (IsUnfinished source.now script.now bound (highs sides.entry (λ x. x.now))
         (sunk O.written O.faults out.old out.new) (halls hall.old hall.new its_kind its_wants seen)) }
     ensures cause { HasFault result (O.faults out.old) (O.faults out.new) }
 {
-    if source.len() > SOURCE_LIMIT {
-        return Ok(Judgement::Source(Refused::Size));
-    }
-    match read(alloc, script) {
-        Ok(lines) => judge_source(alloc, source, lines, task, out, hall),
-        Err(why) => script_refused(why),
-    }
-}
-
-// A script is refused for any reason but want of memory.
-fn script_refused(why: ScriptError) -> Result<Judgement, RunError>
-    ensures refused { (wanted : Result (List ScriptLine) ScriptError)
-        → OrNoMemory {A = List ScriptLine} (λ s. s) (Err why) wanted → IfOk result (IsScriptRefused wanted) }
-    ensures memory { IfErr result (λ e. e ≡ RunError.NoMemory) }
-{
-    match why {
-        ScriptError::NoMemory => Err(RunError::NoMemory),
-        why => Ok(Judgement::Script(why)),
-    }
-}
-
-// Judges a source that is not too long, with a script that was read.
-fn judge_source<O: Sink>(
-    alloc: Global,
-    source: &[u8],
-    lines: Script,
-    task: Task,
-    out: &mut O,
-    hall: &mut Hall,
-) -> Result<Judgement, RunError>
-    requires length { length source.now ≤ 2 ^ 20 }
-    requires task { IsTask task }
-    ensures judged { (script : List ℕ) → script_of script ≡ Ok lines → IfOk result (IsJudged source.now script task
-        (sunk O.written O.faults out.old out.new) (halls hall.old hall.new its_kind its_wants seen)) }
-    ensures part { (script : List ℕ) → script_of script ≡ Ok lines → IfErr result (IsCutOff source.now script task
-        (sunk O.written O.faults out.old out.new) (halls hall.old hall.new its_kind its_wants seen)) }
-    ensures cause { HasFault result (O.faults out.old) (O.faults out.new) }
-{
-    match typed(alloc, source) {
-        Ok(Ok(unit)) => judge_unit(alloc, unit, lines, task, out, hall),
-        Ok(Err(refused)) => Ok(Judgement::Source(refused)),
+    match load(alloc, source, script) {
+        Ok(Loaded::Program { unit, lines }) => {
+            run_program(alloc, unit, lines, bound, sides, out, hall)
+        }
+        Ok(Loaded::Source(why)) => Ok(Judged::Source(why)),
+        Ok(Loaded::Script(why)) => Ok(Judged::Script(why)),
         Err(NoMemory) => Err(RunError::NoMemory),
     }
 }
 
-// Does with a unit what the task says.
-fn judge_unit<O: Sink>(
-    alloc: Global,
-    unit: TypedUnit,
-    lines: Script,
-    task: Task,
-    out: &mut O,
-    hall: &mut Hall,
-) -> Result<Judgement, RunError>
-    requires fit { IsFit unit }
-    requires task { IsTask task }
-    ensures judged { IfOk result (UnitJudged (whole unit) lines task
-        (sunk O.written O.faults out.old out.new) (halls hall.old hall.new its_kind its_wants seen)) }
-    ensures part { IfErr result (UnitCutOff (whole unit) lines task
-        (sunk O.written O.faults out.old out.new) (halls hall.old hall.new its_kind its_wants seen)) }
-    ensures cause { HasFault result (O.faults out.old) (O.faults out.new) }
-{
-    match task {
-        Task::Run { bound } => run_unit(alloc, unit, lines, bound, out, hall),
-        Task::Check => described(check_text(alloc, &unit)),
-        Task::Layout => described(layout_text(alloc, &unit)),
-    }
-}
-
-// A unit is described by this text.
-fn described(text: Result<Vec<u8>, pv_types::NoMemory>) -> Result<Judgement, RunError>
-    ensures described { (want : List ℕ) → IfOk text (λ v. v.items ≡ want)
-        → IfOk result (λ j. verdict_of j nothing_shown ≡ Described want) }
-    ensures memory { IfErr result (λ e. e ≡ RunError.NoMemory) }
-{
-    match text {
-        Ok(text) => Ok(Judgement::Described { text }),
-        Err(_) => Err(RunError::NoMemory),
-    }
-}
-
-// Runs a unit, and keeps it, since the line of a run may have one of its names.
-fn run_unit<O: Sink>(
+// Runs a program.
+fn run_program<O: Sink>(
     alloc: Global,
     unit: TypedUnit,
     lines: Script,
     bound: u64,
+    sides: Option<&[Side]>,
     out: &mut O,
     hall: &mut Hall,
-) -> Result<Judgement, RunError>
+) -> Result<Judged, RunError>
     requires fit { IsFit unit }
     requires bound { IsBound bound }
-    ensures judged { IfOk result (UnitJudged (whole unit) lines (Task.Run bound)
-        (sunk O.written O.faults out.old out.new) (halls hall.old hall.new its_kind its_wants seen)) }
-    ensures part { IfErr result (UnitCutOff (whole unit) lines (Task.Run bound)
-        (sunk O.written O.faults out.old out.new) (halls hall.old hall.new its_kind its_wants seen)) }
+    ensures judged { (source script : List ℕ) → IsLoadedProgram source script unit lines → IfOk result (IsOutcome source script bound
+        (highs sides.entry (λ x. x.now)) (sunk O.written O.faults out.old out.new) (halls hall.old hall.new its_kind its_wants seen)) }
+    ensures part { (source script : List ℕ) → IsLoadedProgram source script unit lines → IfErr result (IsUnfinished source script bound
+        (highs sides.entry (λ x. x.now)) (sunk O.written O.faults out.old out.new) (halls hall.old hall.new its_kind its_wants seen)) }
     ensures cause { HasFault result (O.faults out.old) (O.faults out.new) }
 {
-    match run(alloc, &unit, lines, bound, None, out, hall) {
-        Ok(ran) => Ok(Judgement::Ran { ran, unit, bound }),
+    match run_unit(alloc, unit, lines, bound, sides, out, hall) {
+        Ok(named) => Ok(Judged::Ran {
+            ran: named.ran,
+            names: named.names,
+        }),
+        Err(error) => Err(error),
+    }
+}
+
+/// A run that ended, with the names of its unit, since its line may have one of them.
+#[derive(Drop)]
+pub(crate) struct Named {
+    pub ran: Ran,
+    pub names: Names,
+}
+
+/// Runs a unit, and keeps its names.
+pub(crate) fn run_unit<O: Sink>(
+    alloc: Global,
+    unit: TypedUnit,
+    lines: Script,
+    bound: u64,
+    sides: Option<&[Side]>,
+    out: &mut O,
+    hall: &mut Hall,
+) -> Result<Named, RunError>
+    requires fit { IsFit unit }
+    requires bound { IsBound bound }
+    ensures ran { IfOk result (λ r. IsRan (sunk O.written O.faults out.old out.new) (halls hall.old hall.new its_kind its_wants seen)
+        r.ran r.names (run_of (setting_of unit bound (highs sides.entry (λ x. x.now))) lines) unit.names) }
+    ensures left { IfErr result (λ e. IsLeft (sunk O.written O.faults out.old out.new) (halls hall.old hall.new its_kind its_wants seen)
+        e (run_of (setting_of unit bound (highs sides.entry (λ x. x.now))) lines) unit.names) }
+    ensures cause { HasFault result (O.faults out.old) (O.faults out.new) }
+{
+    match run(alloc, &unit, lines, bound, sides, out, hall) {
+        Ok(ran) => {
+            let mut unit = unit;
+            let names = mem::replace(unit.names_mut(), Names::new(alloc));
+            Ok(Named { ran, names })
+        }
         Err(error) => Err(error),
     }
 }

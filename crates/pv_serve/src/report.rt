@@ -2,19 +2,34 @@
 ghost use Rattle.std.specs.Prelude.{◌≡◌, ◌<◌, ◌⊎◌, List, ℕ, IfOk, string_bytes};
 ghost use Rattle.pv_script.specs.Names.{name_at};
 ghost use Rattle.pv_serve.specs.Report as specified;
-ghost use Rattle.pv_serve.specs.Readings.{refusal_of};
+ghost use Rattle.pv_serve.specs.Readings.{refusal_of, lexical_refusal, typing_refusal};
 ghost use Rattle.pv_serve.specs.Judging.{Shown, verdict_of};
+ghost use Rattle.pv_serve.specs.Settling.{line_of, status_by};
 
 use crate::NoMemory;
 use crate::checking::Refused;
-use crate::judging::Judgement;
+use crate::judging::Judged;
+use crate::tasks::Judgement;
 use pv_exec::{Outcome, Ran};
+use pv_lex::LexError;
 use pv_num::{Fault, Reason};
 use pv_script::{Names, ScriptError};
+use pv_unit::CheckError;
 use std::alloc::Global;
 
+/// The status that goes with what a source comes to; it takes no memory.
+pub fn status(j: &Judged) -> u8
+    ensures { result ≡ status_by j.now }
+{
+    match j {
+        Judged::Ran { ran, .. } => run_status(ran.outcome),
+        Judged::Source(_) => 8,
+        Judged::Script(_) => 9,
+    }
+}
+
 /// The status of a judgement.
-pub fn status(judgement: &Judgement) -> u8
+pub(crate) fn task_status(judgement: &Judgement) -> u8
     ensures value { (shown : Shown) → result ≡ specified.status_of (verdict_of judgement.now shown) }
     ensures own { (result < 10) ⊎ (result ≡ 14) }
 {
@@ -44,13 +59,24 @@ fn run_status(outcome: Outcome) -> u8
     }
 }
 
+/// The line that tells what a source comes to, with its line feed, of a run with this bound. The only error is want of memory.
+pub fn line(alloc: Global, j: &Judged, bound: u64) -> Result<Vec<u8>, NoMemory>
+    ensures { IfOk result (λ v. v.items ≡ line_of j.now bound) }
+{
+    match j {
+        Judged::Ran { ran, names } => run_line(alloc, ran, names, bound),
+        Judged::Source(refused) => refusal_line(alloc, refused),
+        Judged::Script(why) => script_line(alloc, *why),
+    }
+}
+
 /// The line that tells a judgement, with its line feed; of a source that is described, its text. The only error is want
 /// of memory.
-pub fn line(alloc: Global, judgement: &Judgement) -> Result<Vec<u8>, NoMemory>
+pub(crate) fn task_line(alloc: Global, judgement: &Judgement) -> Result<Vec<u8>, NoMemory>
     ensures { (shown : Shown) → IfOk result (λ v. v.items ≡ specified.report_line (verdict_of judgement.now shown)) }
 {
     match judgement {
-        Judgement::Ran { ran, unit, bound } => run_line(alloc, ran, unit.names(), *bound),
+        Judgement::Ran { ran, names, bound } => run_line(alloc, ran, names, *bound),
         Judgement::Described { text } => Ok(Vec::from_slice(alloc, text)?),
         Judgement::Source(refused) => refusal_line(alloc, refused),
         Judgement::Script(why) => script_line(alloc, *why),
@@ -178,19 +204,44 @@ fn repeated_line(alloc: Global, line: u32, first: u32) -> Result<String, NoMemor
 fn refusal_line(alloc: Global, refused: &Refused) -> Result<Vec<u8>, NoMemory>
     ensures { IfOk result (λ v. v.items ≡ specified.refusal_line (refusal_of refused.now)) }
 {
-    let text = match refused {
-        Refused::Size => format!(in alloc; "refused reason=size\n")?,
-        Refused::Byte { at } => format!(in alloc; "refused reason=byte at={at}\n")?,
-        Refused::Token { at } => format!(in alloc; "refused reason=token at={at}\n")?,
-        Refused::Profile { at, word } => return profile_line(alloc, *at, word.as_slice()),
-        Refused::Syntax { whole } => format!(in alloc; "refused reason=syntax whole={whole}\n")?,
-        Refused::Constraint { index } => format!(in alloc;
-            "refused reason=constraint index={index}\n"
-        )?,
-        Refused::Unresolved { name } => return unresolved_line(alloc, name.as_slice()),
-        Refused::NoMain => format!(in alloc; "refused reason=main\n")?,
-    };
-    Ok(text.into_bytes())
+    match refused {
+        Refused::Size => Ok(format!(in alloc; "refused reason=size\n")?.into_bytes()),
+        Refused::Lex { fault, word } => lexical_line(alloc, *fault, word.as_slice()),
+        Refused::Syntax { whole } => {
+            Ok(format!(in alloc; "refused reason=syntax whole={whole}\n")?.into_bytes())
+        }
+        Refused::Check { fault, name } => typing_line(alloc, *fault, name.as_slice()),
+    }
+}
+
+// The line of a source that has a lexical fault, with this word. Want of memory is none.
+fn lexical_line(alloc: Global, fault: LexError, word: &[u8]) -> Result<Vec<u8>, NoMemory>
+    ensures { IfOk result (λ v. v.items ≡ specified.refusal_line (lexical_refusal fault word.now)) }
+{
+    match fault {
+        LexError::BadByte { at } => {
+            Ok(format!(in alloc; "refused reason=byte at={at}\n")?.into_bytes())
+        }
+        LexError::BadToken { at } => {
+            Ok(format!(in alloc; "refused reason=token at={at}\n")?.into_bytes())
+        }
+        LexError::Profile { at, .. } => profile_line(alloc, at, word),
+        LexError::NoMemory => Err(NoMemory),
+    }
+}
+
+// The line of a source that has no typing, with this name. Want of memory is no reason.
+fn typing_line(alloc: Global, fault: CheckError, name: &[u8]) -> Result<Vec<u8>, NoMemory>
+    ensures { IfOk result (λ v. v.items ≡ specified.refusal_line (typing_refusal fault name.now)) }
+{
+    match fault {
+        CheckError::Constraint { index } => {
+            Ok(format!(in alloc; "refused reason=constraint index={index}\n")?.into_bytes())
+        }
+        CheckError::Unresolved { .. } => unresolved_line(alloc, name),
+        CheckError::NoMain => Ok(format!(in alloc; "refused reason=main\n")?.into_bytes()),
+        CheckError::NoMemory => Err(NoMemory),
+    }
 }
 
 // The line of a word that is not of the language.

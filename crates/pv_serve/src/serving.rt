@@ -17,8 +17,8 @@ ghost use Rattle.pv_script.specs.Memory.{calm_held, calm_written};
 
 use crate::NoMemory;
 use crate::checking::SOURCE_LIMIT;
-use crate::judging::{Judgement, judge};
-use crate::report::{line, status};
+use crate::report::{task_line, task_status};
+use crate::tasks::{Judgement, judge_task};
 use crate::words::{Asked, COUNTED, DEFAULT_TURNS, Task, Watched, file_job, generated, kinds_of};
 use pv_exec::RunError;
 use pv_gen::source;
@@ -242,7 +242,7 @@ fn answer<O: Sink, R: Sink>(
     ensures { Answered source.now script.now task (sunk O.written O.faults out.old out.new)
         (sunk R.written R.faults report.old report.new) (halls hall.old hall.new its_kind its_wants seen) result }
 {
-    match judge(alloc, source, script, task, out, hall) {
+    match judge_task(alloc, source, script, task, out, hall) {
         Err(RunError::NoMemory) => NO_MEMORY,
         Err(RunError::WriteFault) => WRITE_FAULT,
         Ok(judgement) => told(alloc, &judgement, report, hall),
@@ -256,7 +256,7 @@ fn told<R: Sink>(alloc: Global, judgement: &Judgement, report: &mut R, hall: &Ha
 {
     match report_of(alloc, judgement, hall) {
         Err(_) => NO_MEMORY,
-        Ok(text) => tell(report, text.as_slice(), status(judgement)),
+        Ok(text) => tell(report, text.as_slice(), task_status(judgement)),
     }
 }
 
@@ -264,9 +264,9 @@ fn told<R: Sink>(alloc: Global, judgement: &Judgement, report: &mut R, hall: &Ha
 fn report_of(alloc: Global, judgement: &Judgement, hall: &Hall) -> Result<Vec<u8>, NoMemory>
     ensures { IfOk result (λ v. IsReportOn judgement.now (hall_slots hall.now its_kind its_wants seen) v.items) }
 {
-    let text = line(alloc, judgement)?;
+    let text = task_line(alloc, judgement)?;
     match judgement {
-        Judgement::Ran { unit, .. } => with_story(text, unit.names(), hall),
+        Judgement::Ran { names, .. } => with_story(text, names, hall),
         Judgement::Described { .. } => Ok(text),
         Judgement::Source(_) => Ok(text),
         Judgement::Script(_) => Ok(text),

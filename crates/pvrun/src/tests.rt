@@ -11,6 +11,7 @@ mod ending_rows;
 mod failing;
 mod halls;
 mod job_rows;
+mod judged_rows;
 mod library_rows;
 mod long_rows;
 mod memory_rows;

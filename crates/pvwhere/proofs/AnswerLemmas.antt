@@ -1,5 +1,5 @@
 -- One byte above the limit tells as much as all that follow.
-use Rattle.std.proofs.Common.{◌≡◌, ℕ, ◌+◌, List, take, ap, ◌∙◌, subst, arith}
+use Rattle.std.proofs.Common.{◌≡◌, ℕ, ◌+◌, List, take, sym, ap, ◌∙◌, subst, arith}
 use Rattle.std.specs.Prelude.{Some, Result, Ok, Err}
 use Rattle.std.proofs.lemmas.List.{take-take, take_all}
 use Rattle.pv_where.specs.Texts.{place_text}
@@ -41,6 +41,10 @@ pub gets_lines : (name source first text what : List ℕ) (refusal : Refusal) (p
 gets_lines name source first text what refusal place reads are is word e =
     ItsPlace refusal place reads (subst (λ (s : List ℕ). IsPlace s refusal place) are is)
     (ap (λ (t : List ℕ). told_by (Some t)) (e ∙ ap (λ (s : List ℕ). place_text name s place what) are ∙ ap (place_text name (first_bytes source) place) word))
+
+-- its word, where it is known by its variant
+pub word_by : (r k : Refused) (word : List ℕ) → r ≡ k → word ≡ word_of (refusal_of k) → word ≡ word_of (refusal_of r)
+word_by r k word e is = is ∙ sym (ap (λ (x : Refused). word_of (refusal_of x)) e)
 
 -- what the check answered
 pub reads_ok : (source : List ℕ) (r : Result Stored Refused) (unit : Stored) → r ≡ Ok unit → Reads source (reading_of r) → Reads source (Program (whole unit))

@@ -1,6 +1,6 @@
 -- A refusal has one place, which lies in the source.
 use Rattle.std.proofs.Common.{◌≡◌, ◌≢◌, ℕ, ◌<◌, ◌≤◌, List, [], length, take, drop, refl, sym, ap, ◌∙◌, subst, arith}
-use Rattle.std.specs.Prelude.{Option, Some, None, IsSome}
+use Rattle.std.specs.Prelude.{Option, Some, None, IsSome, Result, Ok, Err, IfOk}
 use Rattle.std.proofs.lemmas.List.{take_all, length-take}
 use Rattle.pv_token.specs.Table.{Table}
 use Rattle.pv_lex.specs.declared.error.LexError.TheVariants as error
@@ -9,9 +9,11 @@ use Rattle.pv_lex.specs.Faults.{LexFault}
 use Rattle.pv_lex.proofs.Exactly.{one_table}
 use Rattle.pv_stmt.specs.Behind.{IsBehind}
 use Rattle.pv_stmt.proofs.Rows.{place_one, fewer_behind, whole_behind}
+use Rattle.pv_unit.specs.declared.checking.CheckError.{CheckError}
+use Rattle.pv_unit.specs.declared.checking.CheckError.TheVariants as typing
 use Rattle.pv_serve.specs.declared.checking.Refused.{Refused}
 use Rattle.pv_serve.specs.Verdicts.{Refusal, Size, Byte, Token, Profile, Syntax, Constraint, Unresolved, NoMain}
-use Rattle.pv_serve.specs.Readings.{Reading, Program, Bad, refusal_of}
+use Rattle.pv_serve.specs.Readings.{Reading, Program, Bad, refusal_of, typing_refusal}
 use Rattle.pv_serve.specs.Comes.{source_limit, Breaks, Lacks, Mainless, Typed, TokensCome, NoUnit, Spelled, Comes, BadByte, BadToken, LeftOut, Lexed, Reads, Long, Short}
 use Rattle.pv_serve.proofs.ComesLemmas.{source_limit_is}
 use Rattle.pvwhere.specs.Places.{first_bytes, start_of, first_named, BeginsWith, StandsBehind, IsFirstNamed, IsPlace, IsRefused, SomePlace}
@@ -160,6 +162,17 @@ place_within source refusal place h p = within_by source refusal place (refused_
 
 pub begins_by : (source : List ℕ) (r k : Refused) → r ≡ k → IsRefused source (refusal_of r) → Tells source (Bad (refusal_of k))
 begins_by source r k e h = subst (λ (x : Refused). Tells source (Bad (refusal_of x))) e (refused_tells source (refusal_of r) h)
+
+pub places_of : {E : Type 0} (source : List ℕ) (r k : Refused) (o : Result ℕ E) → r ≡ k → IfOk o (IsPlace source (refusal_of k)) → IfOk o (IsPlace source (refusal_of r))
+places_of source r k (Ok place) e p = place_of source r k place e p
+places_of source r k (Err x) e p = tt
+
+pub refused_by : (source : List ℕ) (r k : Refused) → r ≡ k → IsRefused source (refusal_of r) → IsRefused source (refusal_of k)
+refused_by source r k e h = subst (λ (x : Refused). IsRefused source (refusal_of x)) e h
+
+-- of a unit that breaks a constraint
+pub begins_in_unit : (source : List ℕ) (e : CheckError) (index : ℕ) (name : List ℕ) → e ≡ typing.Constraint index → IsRefused source (typing_refusal e name) → BeginsWith source index
+begins_in_unit source e index name is h = refused_tells source (Constraint index) (subst (λ (x : CheckError). IsRefused source (typing_refusal x name)) is h)
 
 -- the tokens that are lexed again are the same, and so there is a place behind so many
 is_some : (o : Option ℕ) → o ≢ None → IsSome o

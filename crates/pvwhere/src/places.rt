@@ -3,14 +3,15 @@ ghost use Rattle.std.specs.Prelude.{◌≡◌, ◌^◌, ◌≤◌, ℕ, List, le
 ghost use Rattle.pv_token.specs.Table.{IsKnown, KnowsAll};
 ghost use Rattle.pv_lex.specs.Lexes.{Lexes};
 ghost use Rattle.pv_serve.specs.Verdicts.{Refusal};
-ghost use Rattle.pv_serve.specs.Readings.{refusal_of};
+ghost use Rattle.pv_serve.specs.Readings.{refusal_of, lexical_refusal, typing_refusal};
 ghost use Rattle.pvwhere.specs.Places as specified;
 ghost use Rattle.pvwhere.specs.Places.{IsPlace, IsRefused, BeginsWith, StandsBehind, IsFirstNamed, SomePlace};
 
 use crate::error::NoMemory;
-use pv_lex::{TokenKind, Tokens, tokens};
+use pv_lex::{LexError, TokenKind, Tokens, tokens};
 use pv_serve::Refused;
 use pv_stmt::begins;
+use pv_unit::CheckError;
 use std::alloc::Global;
 
 // The most bytes that a source may have.
@@ -36,13 +37,40 @@ pub fn place(alloc: Global, source: &[u8], refused: &Refused) -> Result<usize, N
 {
     match refused {
         Refused::Size => Ok(source.len()),
-        Refused::Byte { at } => Ok(*at as usize),
-        Refused::Token { at } => Ok(*at as usize),
-        Refused::Profile { at, .. } => Ok(*at as usize),
+        Refused::Lex { fault, .. } => Ok(place_of_fault(source, *fault)),
         Refused::Syntax { whole } => behind(alloc, source, *whole),
-        Refused::Constraint { index } => behind(alloc, source, *index),
-        Refused::Unresolved { name } => named(alloc, source, name.as_slice()),
-        Refused::NoMain => Ok(source.len()),
+        Refused::Check { fault, name } => place_in_unit(alloc, source, *fault, name.as_slice()),
+    }
+}
+
+// The place of a lexical fault (C17 6.4). Want of memory is none.
+fn place_of_fault(source: &[u8], fault: LexError) -> usize
+    ensures { (word : List ℕ) → IsPlace source.now (lexical_refusal fault word) result }
+{
+    match fault {
+        LexError::BadByte { at } => at as usize,
+        LexError::BadToken { at } => at as usize,
+        LexError::Profile { at, .. } => at as usize,
+        LexError::NoMemory => source.len(),
+    }
+}
+
+// The place of what keeps a unit from having a typing (C17 6.9). Want of memory is no such thing.
+fn place_in_unit(
+    alloc: Global,
+    source: &[u8],
+    fault: CheckError,
+    name: &[u8],
+) -> Result<usize, NoMemory>
+    requires short { length source.now ≤ 2 ^ 20 }
+    requires refused { IsRefused source.now (typing_refusal fault name.now) }
+    ensures { IfOk result (λ place. IsPlace source.now (typing_refusal fault name.now) place) }
+{
+    match fault {
+        CheckError::Constraint { index } => behind(alloc, source, index),
+        CheckError::Unresolved { .. } => named(alloc, source, name),
+        CheckError::NoMain => Ok(source.len()),
+        CheckError::NoMemory => Ok(source.len()),
     }
 }
 

@@ -1,12 +1,14 @@
 //! What is told of a source: nothing, or the lines of its refusal's place.
 ghost use Rattle.std.specs.Prelude.{◌≡◌, ℕ, List, Some, option_map, IfOk};
-ghost use Rattle.pv_serve.specs.Readings.{Bad, refusal_of};
+ghost use Rattle.pv_serve.specs.Readings.{Bad, refusal_of, lexical_refusal, typing_refusal};
 ghost use Rattle.pv_serve.specs.Comes.{Reads};
 ghost use Rattle.pvwhere.specs.Answers.{Answer, Gets, SomeGets, told_by, word_of};
 
 use crate::error::NoMemory;
 use crate::places::{first_bytes, place};
+use pv_lex::LexError;
 use pv_serve::{Refused, check};
+use pv_unit::CheckError;
 use pv_where::lines;
 use std::alloc::Global;
 
@@ -45,13 +47,33 @@ fn word(refused: &Refused) -> &'static str
 {
     match refused {
         Refused::Size => "size",
-        Refused::Byte { .. } => "byte",
-        Refused::Token { .. } => "token",
-        Refused::Profile { .. } => "profile",
+        Refused::Lex { fault, .. } => fault_word(*fault),
         Refused::Syntax { .. } => "syntax",
-        Refused::Constraint { .. } => "constraint",
-        Refused::Unresolved { .. } => "unresolved",
-        Refused::NoMain => "main",
+        Refused::Check { fault, .. } => unit_word(*fault),
+    }
+}
+
+// The word of a lexical fault. Want of memory is none, and has the word of a source that is too long.
+fn fault_word(fault: LexError) -> &'static str
+    ensures { (word : List ℕ) → result.now ≡ word_of (lexical_refusal fault word) }
+{
+    match fault {
+        LexError::BadByte { .. } => "byte",
+        LexError::BadToken { .. } => "token",
+        LexError::Profile { .. } => "profile",
+        LexError::NoMemory => "size",
+    }
+}
+
+// The word of what keeps a unit from having a typing, likewise.
+fn unit_word(fault: CheckError) -> &'static str
+    ensures { (name : List ℕ) → result.now ≡ word_of (typing_refusal fault name) }
+{
+    match fault {
+        CheckError::Constraint { .. } => "constraint",
+        CheckError::Unresolved { .. } => "unresolved",
+        CheckError::NoMain => "main",
+        CheckError::NoMemory => "size",
     }
 }
 

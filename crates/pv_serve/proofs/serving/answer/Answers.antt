@@ -2,8 +2,8 @@ use Rattle.std.proofs.Common.{refl}
 use Rattle.pv_serve.proofs.CausesLemmas.{answered_by, answered_no_memory, answered_write_fault}
 use Rattle.pv_serve.proofs.serving.answer.Goals as goal
 
-pub judge-requires : goal.judge-requires
-judge-requires g c = c.requires
+pub judge_task-requires : goal.judge_task-requires
+judge_task-requires g c = c.requires
 
 pub returns-in-Ok : goal.returns-in-Ok
 returns-in-Ok g c = answered_by _ _ _ _ _ _ _ _ c.in-Ok.ensures.judged c.told.ensures

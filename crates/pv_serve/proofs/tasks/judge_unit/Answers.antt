@@ -1,19 +1,19 @@
 use Rattle.std.proofs.Common.{refl}
 use Rattle.pv_serve.specs.Outside.{sunk}
 use Rattle.pv_serve.proofs.RunLemmas.{check_judged, layout_judged, memory_cut_unit, memory_fault, task_judged, task_cut, task_bound}
-use Rattle.pv_serve.proofs.judging.judge_unit.Goals as goal
+use Rattle.pv_serve.proofs.tasks.judge_unit.Goals as goal
 
-pub run_unit-requires : goal.run_unit-requires
-run_unit-requires g c = record { fit = c.requires.fit; bound = task_bound _ _ c.in-Run.is c.requires.task }
+pub run_late-requires : goal.run_late-requires
+run_late-requires g c = record { fit = c.requires.fit; bound = task_bound _ _ c.in-Run.is c.requires.task }
 
 pub layout_text-requires : goal.layout_text-requires
 layout_text-requires g c = record { known = c.requires.fit.known; small = c.requires.fit.small }
 
 pub returns-in-Run : goal.returns-in-Run
 returns-in-Run g c = record {
-  judged = task_judged _ _ _ _ _ _ _ c.in-Run.is c.run_unit.ensures.judged;
-  part = task_cut _ _ _ _ (sunk g.O.Sink.written g.O.Sink.faults _ _) _ _ c.in-Run.is c.run_unit.ensures.part;
-  cause = c.run_unit.ensures.cause;
+  judged = task_judged _ _ _ _ _ _ _ c.in-Run.is c.run_late.ensures.judged;
+  part = task_cut _ _ _ _ (sunk g.O.Sink.written g.O.Sink.faults _ _) _ _ c.in-Run.is c.run_late.ensures.part;
+  cause = c.run_late.ensures.cause;
 }
 
 pub returns-in-Check : goal.returns-in-Check

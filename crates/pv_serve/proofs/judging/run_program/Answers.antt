@@ -1,0 +1,20 @@
+use Rattle.pv_serve.specs.Outside.{sunk}
+use Rattle.pv_serve.proofs.LoadLemmas.{ran_outcome, left_unfinished}
+use Rattle.pv_serve.proofs.judging.run_program.Goals as goal
+
+pub run_unit-requires : goal.run_unit-requires
+run_unit-requires g c = c.requires
+
+pub returns-in-Ok : goal.returns-in-Ok
+returns-in-Ok g c = record {
+  judged = λ source script is. ran_outcome source script _ _ _ _ _ _ _ _ is c.in-Ok.ensures.ran;
+  part = λ source script is. tt;
+  cause = tt;
+}
+
+pub returns-in-Err : goal.returns-in-Err
+returns-in-Err g c = record {
+  judged = λ source script is. tt;
+  part = λ source script is. left_unfinished source script _ _ _ _ (sunk g.O.Sink.written g.O.Sink.faults _ _) _ _ is c.in-Err.ensures.left;
+  cause = c.in-Err.ensures.cause;
+}

@@ -1,0 +1,72 @@
+-- What `judge` answers of a source with its script: how its run ended, whose pairs of candidates are settled late or, with sides, at their making
+-- (the memory model), or why it has none (5.1.1.3p1).
+use Rattle.std.specs.Prelude.{◌≡◌, ◌⊎◌, ℕ, Bool, List, [], map, Option}
+use Rattle.pv_watch.specs.Slots.{Told}
+use Rattle.pv_world.specs.Worlds.{Worth}
+use Rattle.pv_eval.specs.States.{Res}
+use Rattle.pv_exec.specs.declared.program.Ran.{Ran}
+use Rattle.pv_exec.specs.declared.program.RunError.{RunError}
+use Rattle.pv_exec.specs.declared.program.RunError.TheVariants as error
+use Rattle.pv_exec.specs.Streaming.{event_of}
+use Rattle.pv_exec.specs.Answering.{RanAs, end_of}
+use Rattle.pv_serve.specs.declared.words.Task.TheVariants as task
+use Rattle.pv_serve.specs.declared.judging.Judged as declared
+use Rattle.pv_serve.specs.declared.judging.Judged.TheVariants as judged
+use Rattle.pv_serve.specs.Readings.{refusal_of}
+use Rattle.pv_serve.specs.Judged.{IsToRun, IsRunBy}
+use Rattle.pv_serve.specs.Report.{outcome_line, refusal_line, script_line, outcome_status}
+use Rattle.pv_serve.specs.Outside.{Sunk, Wrote, WrotePrefix, Halls}
+use Rattle.pv_serve.specs.Judging.{LeftPart}
+use Rattle.pv_serve.specs.Loading.{IsSourceRefused, IsScriptRefused}
+
+-- 5.1.2.3: the source is run, with so many turns at most and with these sides, if there are any (the memory model), and of its run, with the names
+-- of its unit (6.4.2.1), P holds
+pub record SomeRunBy (source script : List ℕ) (bound : ℕ) (sides : Option (List Bool)) (P : Res Worth → List (List ℕ) → Type 0) : Type 0 where
+  pub job : IsToRun source script (task.Run bound)
+  pub run : Res Worth
+  pub runs : IsRunBy job.unit job.lines bound sides run
+  pub holds : P run job.unit.names
+
+-- 5.1.2.3p6: what is told of a run, in a unit with these names: how it ended (5.1.2.2.3p1), at which turn, and to which side each of its pairs was
+-- settled (the memory model). The sink gained all that it printed, and those who watch were told all that happened in its memory.
+pub record IsRan (out : Sunk) (hall : Halls) (ran : Ran) (names : List (List ℕ)) (run : Res Worth) (texts : List (List ℕ)) : Type 0 where
+  pub ran : RanAs run ran
+  pub gains : Wrote out (end_of run).output
+  pub told : Told hall.old (map event_of (end_of run).events) texts hall.new
+  pub names : names ≡ texts
+
+-- 5.1.1.3p1: there is no run: nothing was printed, and nobody was told of anything
+pub record IsQuiet (out : Sunk) (hall : Halls) : Type 0 where
+  pub gains : Wrote out []
+  pub told : hall.new ≡ hall.old
+
+-- 5.1.1.3p1, 5.1.2.3: what a source with its script comes to: the end of its run, or the first refusal
+abbrev pub IsOutcome : (source script : List ℕ) (bound : ℕ) (sides : Option (List Bool)) (out : Sunk) (hall : Halls) → declared.Judged → Type 0
+IsOutcome source script bound sides out hall (judged.Ran ran names) = SomeRunBy source script bound sides (IsRan out hall ran names)
+IsOutcome source script bound sides out hall (judged.Source why) = IsSourceRefused source script why × IsQuiet out hall
+IsOutcome source script bound sides out hall (judged.Script why) = IsScriptRefused source script why × IsQuiet out hall
+
+-- 7.21.3p3: what left a run that was cut off: where memory ran out, a first part of what is printed; where a write failed, that and a first part of
+-- what is told
+abbrev pub IsLeft : (out : Sunk) (hall : Halls) → RunError → Res Worth → (names : List (List ℕ)) → Type 0
+IsLeft out hall error.NoMemory run names = WrotePrefix out (end_of run).output
+IsLeft out hall error.WriteFault run names = LeftPart out hall (end_of run) names
+
+-- 7.21.3p3: there is no outcome: a run was cut off, or memory ran out before there was one
+abbrev pub IsUnfinished : (source script : List ℕ) (bound : ℕ) (sides : Option (List Bool)) (out : Sunk) (hall : Halls) → RunError → Type 0
+IsUnfinished source script bound sides out hall error.NoMemory = Wrote out [] ⊎ SomeRunBy source script bound sides (IsLeft out hall error.NoMemory)
+IsUnfinished source script bound sides out hall error.WriteFault = SomeRunBy source script bound sides (IsLeft out hall error.WriteFault)
+
+-- ---- the report
+
+-- docs/FORMATS.md: the line that tells what `judge` answers, for a run with this bound on its turns (5.1.2.3p1)
+abbrev pub line_of : declared.Judged → (bound : ℕ) → List ℕ
+line_of (judged.Ran ran names) bound = outcome_line ran.outcome names ran.turns bound
+line_of (judged.Source why) bound = refusal_line (refusal_of why)
+line_of (judged.Script why) bound = script_line why
+
+-- docs/FORMATS.md: the status that goes with it (7.22.4.4p5)
+abbrev pub status_by : declared.Judged → ℕ
+status_by (judged.Ran ran names) = outcome_status ran.outcome
+status_by (judged.Source why) = 8
+status_by (judged.Script why) = 9

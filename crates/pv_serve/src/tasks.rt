@@ -1,0 +1,121 @@
+//! What a source with its script comes to by a task: it is run, or described, or refused.
+ghost use Rattle.std.specs.Prelude.{◌≡◌, ℕ, List, IfOk, IfErr};
+ghost use Rattle.pv_typed.specs.Tables.{whole};
+ghost use Rattle.pv_serve.specs.Jobs.{IsTask, IsBound};
+ghost use Rattle.pv_serve.specs.Verdicts.{Described};
+ghost use Rattle.pv_serve.specs.Readings.{IsFit};
+ghost use Rattle.pv_serve.specs.Outside.{sunk, halls};
+ghost use Rattle.pv_serve.specs.Judging.{IsJudged, IsCutOff, nothing_shown, verdict_of, UnitJudged, UnitCutOff, HasFault};
+
+use crate::NoMemory;
+use crate::checking::Refused;
+use crate::judging::run_unit;
+use crate::loading::{Loaded, load};
+use crate::words::Task;
+use pv_describe::{check_text, layout_text};
+use pv_exec::{Ran, RunError};
+use pv_script::{Names, Script, ScriptError, Sink};
+use pv_typed::TypedUnit;
+use pv_watch::{Hall, Watch};
+use std::alloc::Global;
+
+/// What a source and its script come to by a task.
+#[derive(Drop)]
+pub(crate) enum Judgement {
+    /// The unit, which has these names, was run, with at most so many turns.
+    Ran { ran: Ran, names: Names, bound: u64 },
+    /// It has a typing, and this text tells of it.
+    Described { text: Vec<u8> },
+    /// The source is refused.
+    Source(Refused),
+    /// The script is refused.
+    Script(ScriptError),
+}
+
+/// Judges a source with a script of addresses: runs it, or describes it. What the run prints goes to `out`, and those in the hall are told
+/// of its memory.
+pub(crate) fn judge_task<O: Sink>(
+    alloc: Global,
+    source: &[u8],
+    script: &[u8],
+    task: Task,
+    out: &mut O,
+    hall: &mut Hall,
+) -> Result<Judgement, RunError>
+    requires { IsTask task }
+    ensures judged { IfOk result (IsJudged source.now script.now task
+        (sunk O.written O.faults out.old out.new) (halls hall.old hall.new its_kind its_wants seen)) }
+    ensures part { IfErr result (IsCutOff source.now script.now task
+        (sunk O.written O.faults out.old out.new) (halls hall.old hall.new its_kind its_wants seen)) }
+    ensures cause { HasFault result (O.faults out.old) (O.faults out.new) }
+{
+    match load(alloc, source, script) {
+        Ok(Loaded::Program { unit, lines }) => judge_unit(alloc, unit, lines, task, out, hall),
+        Ok(Loaded::Source(why)) => Ok(Judgement::Source(why)),
+        Ok(Loaded::Script(why)) => Ok(Judgement::Script(why)),
+        Err(NoMemory) => Err(RunError::NoMemory),
+    }
+}
+
+// Does with a unit what the task says.
+fn judge_unit<O: Sink>(
+    alloc: Global,
+    unit: TypedUnit,
+    lines: Script,
+    task: Task,
+    out: &mut O,
+    hall: &mut Hall,
+) -> Result<Judgement, RunError>
+    requires fit { IsFit unit }
+    requires task { IsTask task }
+    ensures judged { IfOk result (UnitJudged (whole unit) lines task
+        (sunk O.written O.faults out.old out.new) (halls hall.old hall.new its_kind its_wants seen)) }
+    ensures part { IfErr result (UnitCutOff (whole unit) lines task
+        (sunk O.written O.faults out.old out.new) (halls hall.old hall.new its_kind its_wants seen)) }
+    ensures cause { HasFault result (O.faults out.old) (O.faults out.new) }
+{
+    match task {
+        Task::Run { bound } => run_late(alloc, unit, lines, bound, out, hall),
+        Task::Check => described(check_text(alloc, &unit)),
+        Task::Layout => described(layout_text(alloc, &unit)),
+    }
+}
+
+// A unit is described by this text.
+fn described(text: Result<Vec<u8>, pv_types::NoMemory>) -> Result<Judgement, RunError>
+    ensures described { (want : List ℕ) → IfOk text (λ v. v.items ≡ want)
+        → IfOk result (λ j. verdict_of j nothing_shown ≡ Described want) }
+    ensures memory { IfErr result (λ e. e ≡ RunError.NoMemory) }
+{
+    match text {
+        Ok(text) => Ok(Judgement::Described { text }),
+        Err(_) => Err(RunError::NoMemory),
+    }
+}
+
+// Runs a unit without sides.
+fn run_late<O: Sink>(
+    alloc: Global,
+    unit: TypedUnit,
+    lines: Script,
+    bound: u64,
+    out: &mut O,
+    hall: &mut Hall,
+) -> Result<Judgement, RunError>
+    requires fit { IsFit unit }
+    requires bound { IsBound bound }
+    ensures judged { IfOk result (UnitJudged (whole unit) lines (Task.Run bound)
+        (sunk O.written O.faults out.old out.new) (halls hall.old hall.new its_kind its_wants seen)) }
+    ensures part { IfErr result (UnitCutOff (whole unit) lines (Task.Run bound)
+        (sunk O.written O.faults out.old out.new) (halls hall.old hall.new its_kind its_wants seen)) }
+    ensures cause { HasFault result (O.faults out.old) (O.faults out.new) }
+{
+    match run_unit(alloc, unit, lines, bound, None, out, hall) {
+        Ok(named) => Ok(Judgement::Ran {
+            ran: named.ran,
+            names: named.names,
+            bound,
+        }),
+        Err(error) => Err(error),
+    }
+}
