@@ -10,7 +10,7 @@ use Rattle.pv_check.specs.Composite.{composite, composites, known_size}
 use Rattle.pv_check.specs.Growing.{HasMore, AreSized, is_sized, Grows}
 use Rattle.pv_types.specs.Matching.{Matches, MatchAll}
 use Rattle.pv_types.proofs.Matched.{matching_size, matching_first, matching_rest}
-use Rattle.pv_check.proofs.Growth.{left_true, right_true, both_true, env_more, same_grows, then_grows}
+use Rattle.pv_check.proofs.Growth.{left_true, right_true, both_true, then_grows}
 
 -- ---- a type and itself
 
@@ -78,15 +78,6 @@ sized_joined k a b r t u m n all la lb lr h ia ib made =
 
 -- ---- lists of parameters' types
 
-pub grows_lists : (a b : Known) → HasMore a b → length b.terms ≤ length a.terms → Grows a b
-grows_lists a b h le = record {
-  more = h;
-  sized = λ all. let same = env_more a b h in record {
-    types = λ i lt. rw (same, h.trees i (omega (arith, le, lt))) (all.types i (omega (arith, le, lt)));
-    tags = λ n. rw same (all.tags n);
-  };
-}
-
 pub below_more : (m n : ℕ) (xs : List TypeId) → m ≤ n → AllBelow m xs → AllBelow n xs
 below_more m n [] le h = tt
 below_more m n (x ∷ xs) le h = let lt : x.0 < m = h.0 in (omega (arith, lt, le), below_more m n xs le h.1)
@@ -124,9 +115,6 @@ pub record Joins (m0 m : Known) (bound : ℕ) (left right list restl restr : Lis
   pub right_below : AllBelow (length m0.terms) restr
   pub matching : MatchAll (tys_in (trees m0) restl) (tys_in (trees m0) restr)
   pub whole : before m list (composites (tys_in (trees m0) restl) (tys_in (trees m0) restr)) ≡ composites (tys_in (trees m0) left) (tys_in (trees m0) right)
-
-pub joins_start : (m : Known) (bound : ℕ) (left right : List TypeId) → AllBelow bound left → AllBelow (length m.terms) right → MatchAll (tys_in (trees m) left) (tys_in (trees m) right) → Joins m m bound left right [] left right
-joins_start m bound left right l r h = record { grows = same_grows m; known = tt; below = l; right_below = r; matching = h; whole = refl }
 
 -- the next of each
 pub record Next (m0 m : Known) (bound : ℕ) (x y : TypeId) : Type 0 where

@@ -140,10 +140,6 @@ closed_same n (Some k) s h = tag_bound n k EnumerationTag s h
 
 -- ---- parameters
 
-with_object_same : (n : ℕ) (k : Option (ℕ × ℕ)) (t : Ty) (s : State) → length s.scopes ≡ n → length (with_object k t s).scopes ≡ n
-with_object_same n None t s h = h
-with_object_same n (Some (k, line)) t s h = h
-
 parameter_leaves : (n : ℕ) (ps : List OneParameter) (k : Option (ℕ × ℕ)) (s : State) (t : Ty) → length s.scopes ≡ n → Leaves n (with_parameter ps k s t)
 parameter_leaves n ps None s t h = some_leaves n _ s h
 parameter_leaves n ps (Some (k, line)) s t h = here (is_some (find (innermost s.scopes).names k))

@@ -1,3 +1,4 @@
+pub mod ExampleRows
 pub mod ExampleContext
 mod Examples
 mod BinaryExamples

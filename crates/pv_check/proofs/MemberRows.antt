@@ -1,5 +1,5 @@
 -- A member more behind others.
-use Rattle.std.proofs.Common.{◌≡◌, ◌≢◌, ℕ, suc, ◌<◌, ◌==◌, not, ◌||◌, ◌&&◌, nat_eq, nat_lt, true, false, Bool, Some, None, Option, List, [], ◌∷◌, ◌++◌, length, map, IsTrue, refl, sym, ap, subst, arith, ◌∙◌, length-append}
+use Rattle.std.proofs.Common.{◌≡◌, ◌≢◌, ℕ, suc, ◌<◌, ◌==◌, not, ◌||◌, ◌&&◌, nat_eq, nat_lt, true, false, Bool, Some, None, Option, List, [], ◌∷◌, ◌++◌, length, map, IsTrue, refl, sym, ap, subst, arith, ◌∙◌}
 use Rattle.std.specs.Prelude.{if◌then◌else◌}
 use Rattle.std.specs.List.{list_any}
 use Rattle.std.proofs.lemmas.Bool.{eq-eqb}
@@ -50,9 +50,6 @@ differ_append ts (m ∷ ms) x h k =
     let here : not (m.name == x.name) ≡ true = left_true (not (m.name == x.name)) _ k in
     let rest : is_new_member x.name (named_in ts ms) ≡ true = right_true (not (m.name == x.name)) _ k in
     (new_append m.name ms x h.0 (other_name m.name x.name here), differ_append ts ms x h.1 rest)
-
-pub some_append : (ms : List Member) (x : Member) → 0 < length (ms ++ (x ∷ []))
-some_append ms x = omega (arith, length-append ms (x ∷ []))
 
 -- ---- names as a set
 

@@ -1,21 +1,19 @@
 -- Tables that typing fills: what is there stays there, and stands for the same.
-use Rattle.std.proofs.Common.{◌≡◌, ℕ, ◌-◌, ◌<◌, ◌≤◌, cond, Bool, true, false, List, [], ◌∷◌, ◌++◌, Option, Some, None, IfSome, length, nat_eq, refl, sym, ◌∙◌, ap, arith, set, map, subst, zero, suc, length-append, length-set, append_assoc}
-use Rattle.std.proofs.Math.ListN.{get_or-append}
-use Rattle.std.proofs.Math.Seq.{get_or-append_seam}
+use Rattle.std.proofs.Common.{◌≡◌, ℕ, ◌-◌, ◌<◌, ◌≤◌, cond, Bool, true, false, List, [], ◌∷◌, ◌++◌, Option, Some, None, IfSome, length, nat_eq, refl, sym, ◌∙◌, ap, arith, set, map, subst, zero, suc, length-set, append_assoc}
 use Rattle.std.specs.Prelude.{if◌then◌else◌}
-use Rattle.pv_types.specs.Known.{Known, Heading, env, heading_at, parameters_at}
+use Rattle.pv_types.specs.Known.{Known, Heading, env, heading_at}
 use Rattle.pv_types.specs.Layouts.{Entry as LayoutEntry}
 use Rattle.pv_check.proofs.Growth.{env_more}
 use Rattle.pv_typed.specs.Children.{Each}
 use Rattle.pv_typed.specs.Tables.{Stored, whole}
-use Rattle.pv_typed.specs.Formed.{AreKnown, Grown}
+use Rattle.pv_typed.specs.Formed.{AreKnown}
 use Rattle.pv_typed.proofs.Adding.{grown_refl, grown_trans}
 use Rattle.pv_typed.proofs.Each.{each_weaker, each_at, map_same}
 use Rattle.pv_check.specs.declared.scopes.Entry.{Entry}
 use Rattle.pv_check.specs.declared.scopes.Entry.TheVariants as entry
 use Rattle.pv_check.specs.declared.scopes.TagEntry.{TagEntry}
 use Rattle.pv_check.specs.declared.scopes.TagEntry.TheVariants as tag
-use Rattle.pv_check.specs.Growing.{AreSized, Lengthens, Grows}
+use Rattle.pv_check.specs.Growing.{Lengthens, Grows}
 use Rattle.pv_check.specs.State.{TypedefOf, CompositeTag, find, or_else, bound, look_by, innermost, with_innermost, bind_tag}
 use Rattle.pv_check.specs.Raw.{Raw, RawScope, no_raw, raw_innermost, raw_names, raw_tags, with_tag, with_name, name_shown, tag_shown, scope_shown, scopes_shown, meaning_in, tag_meaning, used_of}
 use Rattle.pv_check.proofs.Keeping.{grown_typed, whole_typed}
@@ -193,22 +191,6 @@ pub whole_types : (s : Stored) (lent k : Known) → lent ≡ s.known → AreKnow
 whole_types s lent k e known =
     subst (λ (m : Known). Grows m k → whole (record s { known = k }) ≡ whole s) (sym e)
     (λ g. whole_typed s k known g.more.trees g.more.terms g.more.completed g.more.headings)
-
-pub goes_tag : (a b : Stored) (x : Heading) → Grown a b → b.known ≡ record a.known { tags = a.known.tags ++ (x ∷ []) } → Goes a b
-goes_tag a b x grown e = record {
-  grown = grown;
-  headings = λ n lt. ap (λ (m : Known). heading_at m.tags n) e ∙ get_or-append a.known.tags (x ∷ []) _ n lt;
-  parameters = λ p lt. ap (λ (m : Known). parameters_at m p) e;
-  sized = λ h. subst AreSized (sym e) (record { types = h.types; tags = h.tags });
-  completed = lengthens_same (env a.known) (env b.known) (ap env e);
-}
-
--- the last tag is as it was made
-pub last_tag : (a b : Stored) (x : Heading) → b.known ≡ record a.known { tags = a.known.tags ++ (x ∷ []) } → HasTag b x.union (length a.known.tags)
-last_tag a b x e = (
-  rw e (omega (arith, length-append a.known.tags (x ∷ []))),
-  ap (λ (m : Known). (heading_at m.tags (length a.known.tags)).union) e ∙ ap (λ (y : Heading). y.union) (get_or-append_seam a.known.tags x [] _),
-)
 
 -- a tag more in the innermost scope, and tables that have more
 pub state_tag : (texts : List (List ℕ)) (u : Bool) (a b : Stored) (s : Raw) (n : ℕ) (x : TagEntry) → IsOpen a s → Goes a b

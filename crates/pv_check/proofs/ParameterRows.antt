@@ -1,5 +1,5 @@
 -- Parameters, one by one, and the list that they make.
-use Rattle.std.proofs.Common.{◌≡◌, ◌≢◌, ℕ, zero, suc, ◌-◌, ◌+◌, ◌<◌, ◌≤◌, Bool, true, false, not, ◌&&◌, Some, None, is_some, IfSome, List, [], ◌∷◌, ◌++◌, Option, length, take, map, get_or, refl, sym, ap, subst, arith, ◌∙◌}
+use Rattle.std.proofs.Common.{◌≡◌, ℕ, zero, suc, ◌-◌, ◌+◌, ◌<◌, ◌≤◌, Bool, true, false, not, Some, None, is_some, IfSome, List, [], ◌∷◌, ◌++◌, Option, length, take, map, refl, sym, ap, subst, arith, ◌∙◌}
 use Rattle.std.specs.Prelude.{if◌then◌else◌}
 use Rattle.std.proofs.lemmas.List.{take-map, length-map, length-take-le}
 use Rattle.pv_types.specs.declared.terms.TypeId.{TypeId}
@@ -17,7 +17,7 @@ use Rattle.pv_check.specs.declared.parameters.Signature.{Signature}
 use Rattle.pv_check.specs.declared.scopes.Entry.{Entry}
 use Rattle.pv_check.specs.declared.scopes.Entry.TheVariants as entry
 use Rattle.pv_check.specs.Declarators.{parameter_shown, parameters_shown, signature_shown, signature_if, steps_shown, ParameterKnown, SignatureKnown}
-use Rattle.pv_check.specs.Derivations.{Parameter as WholeParameter, Signature as WholeSignature, Steps as WholeSteps, ByFunction, Derivation, with_parameter, with_object as with_one, means_none, is_unqualified_void, proper, parameter_types, nearest}
+use Rattle.pv_check.specs.Derivations.{Parameter as WholeParameter, Signature as WholeSignature, Steps as WholeSteps, ByFunction, Derivation, with_parameter, with_object as with_one, proper, parameter_types, nearest}
 use Rattle.pv_check.specs.Open.{state_of, IsOpen, Goes, EntryKnown, ScopeKnown}
 use Rattle.pv_check.specs.Raw.{Raw, RawScope, raw_of, raw_innermost, with_name, used_of, scope_shown, scopes_shown, meaning_in, meaning_if}
 use Rattle.pv_check.specs.Rows.{by_function}
@@ -100,9 +100,6 @@ module _ (texts : List (List ℕ)) (u : Bool) (a b : Stored) (s : Raw) (ps : Lis
 
 -- ---- a list of parameters
 
-pub known_types : (m : Stored) (ps : List Parameter) → Each (ParameterKnown m) ps → Each (λ (p : Parameter). p.t.0 < length m.known.terms) ps
-known_types m ps h = each_weaker (ParameterKnown m) (λ (p : Parameter). p.t.0 < length m.known.terms) (λ p k. k.0) ps h
-
 parameter_stays : (a b : Stored) → Goes a b → (p : Parameter) → ParameterKnown a p → ParameterKnown b p
 parameter_stays a b g p h =
     let more : length a.known.terms ≤ length b.known.terms = g.grown.terms in
@@ -120,17 +117,6 @@ pub parameters_stay : (a b : Stored) (ps : List Parameter) → Goes a b → Each
 parameters_stay a b ps g h =
     map_same (parameter_shown b.known) (parameter_shown a.known) (ParameterKnown a)
     (λ (p : Parameter) k. ap (λ (t : Ty). record { t = t; name = p.name; object = p.object }) (g.grown.types p.t.0 k.0)) ps h
-
-pub one_means : (m : Known) (ps : List Parameter) (d : Parameter) → length ps ≡ 1
-    → means_none (parameters_shown m ps) ≡ (is_unqualified_void (tree m (get_or ps 0 d).t.0) && not (is_some (get_or ps 0 d).name))
-one_means m [] d h = absurd (omega (arith, h))
-one_means m (p ∷ []) d h = refl
-one_means m (p ∷ q ∷ ps) d h = absurd (omega (arith, h))
-
-pub other_means : (m : Known) (ps : List Parameter) → length ps ≢ 1 → means_none (parameters_shown m ps) ≡ false
-other_means m [] h = refl
-other_means m (p ∷ []) h = absurd (h refl)
-other_means m (p ∷ q ∷ ps) h = refl
 
 -- ---- the list next to a name, and its scope
 

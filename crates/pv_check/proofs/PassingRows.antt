@@ -3,7 +3,7 @@ use Rattle.std.proofs.Common.{◌≡◌, ℕ, zero, suc, ◌+◌, ◌<◌, ◌�
 use Rattle.pv_tree.specs.declared.nodes.NodeId.{NodeId}
 use Rattle.pv_tree.specs.declared.nodes.ListId.{ListId}
 use Rattle.pv_types.specs.declared.terms.TypeId.{TypeId}
-use Rattle.pv_types.specs.Known.{tys_in, at}
+use Rattle.pv_types.specs.Known.{tys_in}
 use Rattle.pv_types.specs.Ty.{Ty, Tys, NoTys, MoreTys}
 use Rattle.pv_typed.specs.Children.{Each}
 use Rattle.pv_typed.specs.Nodes.{expression_in, arguments_in, list_in, Tree}
@@ -15,7 +15,6 @@ use Rattle.pv_typed.specs.Formed.{Grown}
 use Rattle.pv_typed.proofs.Each.{each_weaker, map_same}
 use Rattle.pv_check.specs.Calls.{more, passed}
 use Rattle.pv_check.specs.Passing.{one_passed}
-use Rattle.pv_check.specs.Values.{assigned}
 
 -- those before a place, and what the rest gives
 abbrev pub joined : List TypedTree → Option (List TypedTree) → Option (List TypedTree)
@@ -43,16 +42,6 @@ rest_drop : (ts : List Ty) (ids : List TypeId) (i : ℕ) → rest_of (tys_in ts 
 rest_drop ts [] i = ap (λ xs. rest_of (tys_in ts xs)) (drop_nil i) ∙ ap (tys_in ts) (sym (drop_nil (i + 1)))
 rest_drop ts (x ∷ xs) zero = refl
 rest_drop ts (x ∷ xs) (suc i) = let e : suc i + 1 ≡ suc (i + 1) = omega arith in rw e (rest_drop ts xs i)
-
-pub passed_at : (ts : List Ty) (ids : List TypeId) (i : ℕ) (d : TypeId) (v : Bool) (a : TypedTree) → i < length ids → assigned (at ts (get_or ids i d).0) a ≡ one_passed (tys_in ts (drop i ids)) v a
-passed_at ts [] i d v a lt = absurd (omega (arith, lt))
-passed_at ts (x ∷ xs) zero d v a lt = refl
-passed_at ts (x ∷ xs) (suc i) d v a lt = passed_at ts xs i d v a (omega (arith, lt))
-
-pub passed_past : (ts : List Ty) (ids : List TypeId) (i : ℕ) (v : Bool) (a : TypedTree) → length ids ≤ i → one_passed NoTys v a ≡ one_passed (tys_in ts (drop i ids)) v a
-passed_past ts [] i v a le = ap (λ xs. one_passed (tys_in ts xs) v a) (sym (drop_nil i))
-passed_past ts (x ∷ xs) zero v a le = absurd (omega (arith, le))
-passed_past ts (x ∷ xs) (suc i) v a le = passed_past ts xs i v a (omega (arith, le))
 
 joined_more : (xs : List TypedTree) (x : TypedTree) (o : Option (List TypedTree)) → joined xs (more (Some x) o) ≡ joined (xs ++ x ∷ []) o
 joined_more xs x None = refl
@@ -86,18 +75,8 @@ drop_past [] i le = drop_nil i
 drop_past (x ∷ xs) zero le = absurd (omega (arith, le))
 drop_past (x ∷ xs) (suc i) le = drop_past xs i (omega (arith, le))
 
-append_nil : {A : Type 0} (xs : List A) → xs ++ [] ≡ xs
-append_nil [] = refl
-append_nil (x ∷ xs) = ap (λ ys. x ∷ ys) (append_nil xs)
-
 -- behind the last argument
 module _ (ts : List Ty) (ids : List TypeId) (v : Bool) (f : NodeId → TypedTree) (args : List NodeId) (i : ℕ) (le : length args ≤ i) (done : List TypedTree) where
-  pub passed_all : length ids ≤ i → Some done ≡ joined done (passed (tys_in ts (drop i ids)) v (map f (drop i args)))
-  passed_all k =
-      ap Some (sym (append_nil done))
-      ∙ ap (λ xs. joined done (passed (tys_in ts xs) v [])) (sym (drop_past ids i k))
-      ∙ ap (λ xs. joined done (passed (tys_in ts (drop i ids)) v (map f xs))) (sym (drop_past args i le))
-
   pub too_few : i < length ids → None ≡ joined done (passed (tys_in ts (drop i ids)) v (map f (drop i args)))
   too_few k = at_least ids i k ∙ ap (λ xs. joined done (passed (tys_in ts (drop i ids)) v (map f xs))) (sym (drop_past args i le))
     where

@@ -1,6 +1,6 @@
 -- Qualifiers (C17 6.7.3): what is read is unqualified, an address keeps them, which lvalues are modifiable (6.3.2.1p1), and which
 -- pointers may be assigned (6.5.16.1p1).
-use Rattle.std.specs.Prelude.{◌≡◌, refl, pos, true, false, Some, None}
+use Rattle.std.specs.Prelude.{refl, pos, true, false, Some, None, [], ◌∷◌}
 use Rattle.pv_num.specs.declared.kinds.IntKind.TheVariants as kind
 use Rattle.pv_num.specs.declared.operators.BinOp.TheVariants as arithmetic
 use Rattle.pv_num.specs.declared.operators.UnOp.TheVariants as numeric
@@ -16,546 +16,264 @@ use Rattle.pv_types.specs.Layouts.{layouts_of}
 use Rattle.pv_types.specs.Compatible.{are_compatible}
 use Rattle.pv_check.specs.Words.{type_of_words}
 use Rattle.pv_check.specs.Library.{library_named}
-use Rattle.pv_check.specs.Typing.{types}
 use Rattle.pv_typed.specs.TypedTree.{Node, NoArguments as NoMore, MoreArguments as More}
-use Rattle.pv_check.proofs.MoreExamples.{context, typed_tree}
+use Rattle.pv_check.proofs.MoreExamples.{context}
+use Rattle.pv_check.proofs.ExampleRows.{AreTyped, object, value_of_object, int_constant}
 
--- ci
-qualifier_0 : typed_tree (types (Name 1 19) context) ≡ Some (Node (ConstOf (IntTy kind.Int)) 1 true (typed.Object 12))
+-- What is read, cast to or given back has no qualifier (C17 6.3.2.1p2, 6.5.4, 6.7.6.3).
+unqualified_value_rows : AreTyped context (
+    -- ci
+    (Name 1 19, Some (object (ConstOf (IntTy kind.Int)) 12)) ∷
+    -- ci, cul
+    (Comma 1 (Name 1 19) (Name 1 20), Some (Node (IntTy kind.ULong) 1 true (typed.Comma (Node (IntTy kind.Int) 1 false (typed.Read (object (ConstOf (IntTy kind.Int)) 12))) (Node (IntTy kind.ULong) 1 false (typed.Read (object (ConstOf (IntTy kind.ULong)) 13)))))) ∷
+    -- cul + ci
+    (Binary 1 bop.Add (Name 1 20) (Name 1 19), Some (Node (IntTy kind.ULong) 1 true (typed.Arithmetic arithmetic.Add (Node (IntTy kind.ULong) 1 false (typed.Read (object (ConstOf (IntTy kind.ULong)) 13))) (Node (IntTy kind.ULong) 1 false (typed.Convert (Node (IntTy kind.Int) 1 false (typed.Read (object (ConstOf (IntTy kind.Int)) 12)))))))) ∷
+    -- (cword)ch
+    (Cast 1 (TypeName 1 (Then NoTrees (OfSpecifier (TypedefName 1 4))) Absent) (Name 1 8), Some (Node (IntTy kind.Int) 1 true (typed.Cast (value_of_object (IntTy kind.Char) 1)))) ∷
+    -- (const int *)pi
+    (Cast 1 (TypeName 1 (Then (Then NoTrees (OfSpecifier (Keyword 1 word.Const))) (OfSpecifier (Keyword 1 word.Int))) (Present (OfDeclarator (AbstractPointer 1 0 Absent)))) (Name 1 21), Some (Node (PointerTo (ConstOf (IntTy kind.Int))) 1 true (typed.Cast (value_of_object (PointerTo (IntTy kind.Int)) 14)))) ∷
+    -- *&ci
+    (Unary 1 uop.Indirection (Unary 1 uop.Address (Name 1 19)), Some (Node (ConstOf (IntTy kind.Int)) 1 true (typed.Indirection (Node (PointerTo (ConstOf (IntTy kind.Int))) 1 true (typed.Address (object (ConstOf (IntTy kind.Int)) 12)))))) ∷
+    -- +ci
+    (Unary 1 uop.Plus (Name 1 19), Some (Node (IntTy kind.Int) 1 true (typed.Unary numeric.Plus (Node (IntTy kind.Int) 1 false (typed.Read (object (ConstOf (IntTy kind.Int)) 12)))))) ∷
+    -- fixed()
+    (Call 1 (Name 1 61) NoArguments, Some (Node (IntTy kind.Int) 1 true (typed.Call 3 NoMore))) ∷
+    -- fixed() = 1
+    (Assign 1 aop.Assign (Call 1 (Name 1 61) NoArguments) (Number 1 1 true false 0), None) ∷
+    [])
+unfolding type_of_words layouts_of are_compatible library_named
+unqualified_value_rows = refl
+
+-- An address keeps the qualifiers of its lvalue (C17 6.5.3.2p3).
+qualified_address_rows : AreTyped context (
+    -- &ci
+    (Unary 1 uop.Address (Name 1 19), Some (Node (PointerTo (ConstOf (IntTy kind.Int))) 1 true (typed.Address (object (ConstOf (IntTy kind.Int)) 12)))) ∷
+    -- &cpi
+    (Unary 1 uop.Address (Name 1 23), Some (Node (PointerTo (ConstOf (PointerTo (IntTy kind.Int)))) 1 true (typed.Address (object (ConstOf (PointerTo (IntTy kind.Int))) 16)))) ∷
+    -- &ca
+    (Unary 1 uop.Address (Name 1 33), Some (Node (PointerTo (ArrayOf (ConstOf (IntTy kind.Int)) (Some 2))) 1 true (typed.Address (object (ArrayOf (ConstOf (IntTy kind.Int)) (Some 2)) 26)))) ∷
+    -- &ca[1]
+    (Unary 1 uop.Address (Index 1 (Name 1 33) (Number 1 1 true false 0)), Some (Node (PointerTo (ConstOf (IntTy kind.Int))) 1 true (typed.Address (Node (ConstOf (IntTy kind.Int)) 1 false (typed.Subscript (Node (PointerTo (ConstOf (IntTy kind.Int))) 1 false (typed.ArrayPointer (object (ArrayOf (ConstOf (IntTy kind.Int)) (Some 2)) 26))) (int_constant 1)))))) ∷
+    -- &cm[1]
+    (Unary 1 uop.Address (Index 1 (Name 1 35) (Number 1 1 true false 0)), Some (Node (PointerTo (ArrayOf (ConstOf (IntTy kind.Int)) (Some 3))) 1 true (typed.Address (Node (ArrayOf (ConstOf (IntTy kind.Int)) (Some 3)) 1 false (typed.Subscript (Node (PointerTo (ArrayOf (ConstOf (IntTy kind.Int)) (Some 3))) 1 false (typed.ArrayPointer (object (ArrayOf (ArrayOf (ConstOf (IntTy kind.Int)) (Some 3)) (Some 2)) 28))) (int_constant 1)))))) ∷
+    -- &cst.a
+    (Unary 1 uop.Address (Member 1 (Name 1 42) 32), Some (Node (PointerTo (ConstOf (IntTy kind.Int))) 1 true (typed.Address (Node (ConstOf (IntTy kind.Int)) 1 true (typed.Member (object (ConstOf (StructTag 0)) 35) 0))))) ∷
+    -- &cst.b
+    (Unary 1 uop.Address (Member 1 (Name 1 42) 93), Some (Node (PointerTo (ArrayOf (ConstOf (IntTy kind.Char)) (Some 4))) 1 true (typed.Address (Node (ArrayOf (ConstOf (IntTy kind.Char)) (Some 4)) 1 true (typed.Member (object (ConstOf (StructTag 0)) 35) 4))))) ∷
+    -- &pcst->b[1]
+    (Unary 1 uop.Address (Index 1 (Arrow 1 (Name 1 43) 93) (Number 1 1 true false 0)), Some (Node (PointerTo (ConstOf (IntTy kind.Char))) 1 true (typed.Address (Node (ConstOf (IntTy kind.Char)) 1 false (typed.Subscript (Node (PointerTo (ConstOf (IntTy kind.Char))) 1 false (typed.ArrayPointer (Node (ArrayOf (ConstOf (IntTy kind.Char)) (Some 4)) 1 true (typed.Arrow (value_of_object (PointerTo (ConstOf (StructTag 0))) 36) 4)))) (int_constant 1)))))) ∷
+    -- &cnode.next
+    (Unary 1 uop.Address (Member 1 (Name 1 45) 96), Some (Node (PointerTo (ConstOf (PointerTo (StructTag 1)))) 1 true (typed.Address (Node (ConstOf (PointerTo (StructTag 1))) 1 true (typed.Member (object (ConstOf (StructTag 1)) 38) 8))))) ∷
+    -- &pcn->x
+    (Unary 1 uop.Address (Arrow 1 (Name 1 47) 95), Some (Node (PointerTo (ConstOf (IntTy kind.Int))) 1 true (typed.Address (Node (ConstOf (IntTy kind.Int)) 1 true (typed.Arrow (value_of_object (PointerTo (ConstOf (StructTag 1))) 40) 0))))) ∷
+    -- &cho.q
+    (Unary 1 uop.Address (Member 1 (Name 1 53) 99), Some (Node (PointerTo (ArrayOf (ConstOf (StructTag 1)) (Some 2))) 1 true (typed.Address (Node (ArrayOf (ConstOf (StructTag 1)) (Some 2)) 1 true (typed.Member (object (ConstOf (StructTag 3)) 46) 0))))) ∷
+    -- &cho.q[1].next
+    (Unary 1 uop.Address (Member 1 (Index 1 (Member 1 (Name 1 53) 99) (Number 1 1 true false 0)) 96), Some (Node (PointerTo (ConstOf (PointerTo (StructTag 1)))) 1 true (typed.Address (Node (ConstOf (PointerTo (StructTag 1))) 1 true (typed.Member (Node (ConstOf (StructTag 1)) 1 true (typed.Subscript (Node (PointerTo (ConstOf (StructTag 1))) 1 false (typed.ArrayPointer (Node (ArrayOf (ConstOf (StructTag 1)) (Some 2)) 1 true (typed.Member (object (ConstOf (StructTag 3)) 46) 0)))) (int_constant 1))) 8))))) ∷
+    -- &st.c
+    (Unary 1 uop.Address (Member 1 (Name 1 41) 94), Some (Node (PointerTo (ConstOf (IntTy kind.Int))) 1 true (typed.Address (Node (ConstOf (IntTy kind.Int)) 1 true (typed.Member (object (StructTag 0) 34) 8))))) ∷
+    [])
 unfolding layouts_of are_compatible
-qualifier_0 = refl
+qualified_address_rows = refl
 
--- ci, cul
-qualifier_1 : typed_tree (types (Comma 1 (Name 1 19) (Name 1 20)) context) ≡ Some (Node (IntTy kind.ULong) 1 true (typed.Comma (Node (IntTy kind.Int) 1 false (typed.Read (Node (ConstOf (IntTy kind.Int)) 1 true (typed.Object 12)))) (Node (IntTy kind.ULong) 1 false (typed.Read (Node (ConstOf (IntTy kind.ULong)) 1 true (typed.Object 13))))))
+-- Which lvalues of scalar type are modifiable (C17 6.3.2.1p1).
+modifiable_scalar_rows : AreTyped context (
+    -- cpi = pi
+    (Assign 1 aop.Assign (Name 1 23) (Name 1 21), None) ∷
+    -- *cpi = 1
+    (Assign 1 aop.Assign (Unary 1 uop.Indirection (Name 1 23)) (Number 1 1 true false 0), Some (Node (IntTy kind.Int) 1 true (typed.Assign (Node (IntTy kind.Int) 1 true (typed.Indirection (Node (PointerTo (IntTy kind.Int)) 1 false (typed.Read (object (ConstOf (PointerTo (IntTy kind.Int))) 16))))) (int_constant 1)))) ∷
+    -- (*cpi)++
+    (PostIncrement 1 (Paren 1 (Unary 1 uop.Indirection (Name 1 23))), Some (Node (IntTy kind.Int) 1 true (typed.Increment step.PostIncrement (Node (IntTy kind.Int) 1 true (typed.Indirection (Node (PointerTo (IntTy kind.Int)) 1 false (typed.Read (object (ConstOf (PointerTo (IntTy kind.Int))) 16)))))))) ∷
+    -- cpi += 1
+    (Assign 1 aop.Add (Name 1 23) (Number 1 1 true false 0), None) ∷
+    -- pci++
+    (PostIncrement 1 (Name 1 22), Some (Node (PointerTo (ConstOf (IntTy kind.Int))) 1 true (typed.Increment step.PostIncrement (object (PointerTo (ConstOf (IntTy kind.Int))) 15)))) ∷
+    -- *pci = 1
+    (Assign 1 aop.Assign (Unary 1 uop.Indirection (Name 1 22)) (Number 1 1 true false 0), None) ∷
+    -- ++*pci
+    (PreIncrement 1 (Unary 1 uop.Indirection (Name 1 22)), None) ∷
+    -- ca[0] = 1
+    (Assign 1 aop.Assign (Index 1 (Name 1 33) (Number 1 0 false false 0)) (Number 1 1 true false 0), None) ∷
+    -- *ca = 1
+    (Assign 1 aop.Assign (Unary 1 uop.Indirection (Name 1 33)) (Number 1 1 true false 0), None) ∷
+    -- cm[1][0] = 1
+    (Assign 1 aop.Assign (Index 1 (Index 1 (Name 1 35) (Number 1 1 true false 0)) (Number 1 0 false false 0)) (Number 1 1 true false 0), None) ∷
+    -- cul += 1
+    (Assign 1 aop.Add (Name 1 20) (Number 1 1 true false 0), None) ∷
+    -- cst.a = 1
+    (Assign 1 aop.Assign (Member 1 (Name 1 42) 32) (Number 1 1 true false 0), None) ∷
+    -- pcst->b[0] = 'x'
+    (Assign 1 aop.Assign (Index 1 (Arrow 1 (Name 1 43) 93) (Number 1 0 false false 0)) (Character 1 (pos 120)), None) ∷
+    -- st.b[0] = 'x'
+    (Assign 1 aop.Assign (Index 1 (Member 1 (Name 1 41) 93) (Number 1 0 false false 0)) (Character 1 (pos 120)), Some (Node (IntTy kind.Char) 1 true (typed.Assign (Node (IntTy kind.Char) 1 true (typed.Subscript (Node (PointerTo (IntTy kind.Char)) 1 false (typed.ArrayPointer (Node (ArrayOf (IntTy kind.Char) (Some 4)) 1 true (typed.Member (object (StructTag 0) 34) 4)))) (int_constant 0))) (Node (IntTy kind.Char) 1 false (typed.Convert (int_constant 120)))))) ∷
+    -- st.c = 1
+    (Assign 1 aop.Assign (Member 1 (Name 1 41) 94) (Number 1 1 true false 0), None) ∷
+    -- st.a = 1
+    (Assign 1 aop.Assign (Member 1 (Name 1 41) 32) (Number 1 1 true false 0), Some (Node (IntTy kind.Int) 1 true (typed.Assign (Node (IntTy kind.Int) 1 true (typed.Member (object (StructTag 0) 34) 0)) (int_constant 1)))) ∷
+    [])
 unfolding layouts_of are_compatible
-qualifier_1 = refl
+modifiable_scalar_rows = refl
 
--- cul + ci
-qualifier_2 : typed_tree (types (Binary 1 bop.Add (Name 1 20) (Name 1 19)) context) ≡ Some (Node (IntTy kind.ULong) 1 true (typed.Arithmetic arithmetic.Add (Node (IntTy kind.ULong) 1 false (typed.Read (Node (ConstOf (IntTy kind.ULong)) 1 true (typed.Object 13)))) (Node (IntTy kind.ULong) 1 false (typed.Convert (Node (IntTy kind.Int) 1 false (typed.Read (Node (ConstOf (IntTy kind.Int)) 1 true (typed.Object 12))))))))
-unfolding layouts_of are_compatible
-qualifier_2 = refl
-
--- (cword)ch
-qualifier_3 : typed_tree (types (Cast 1 (TypeName 1 (Then NoTrees (OfSpecifier (TypedefName 1 4))) Absent) (Name 1 8)) context) ≡ Some (Node (IntTy kind.Int) 1 true (typed.Cast (Node (IntTy kind.Char) 1 false (typed.Read (Node (IntTy kind.Char) 1 true (typed.Object 1))))))
-unfolding layouts_of are_compatible
-qualifier_3 = refl
-
--- (const int *)pi
-qualifier_4 : typed_tree (types (Cast 1 (TypeName 1 (Then (Then NoTrees (OfSpecifier (Keyword 1 word.Const))) (OfSpecifier (Keyword 1 word.Int))) (Present (OfDeclarator (AbstractPointer 1 0 Absent)))) (Name 1 21)) context) ≡ Some (Node (PointerTo (ConstOf (IntTy kind.Int))) 1 true (typed.Cast (Node (PointerTo (IntTy kind.Int)) 1 false (typed.Read (Node (PointerTo (IntTy kind.Int)) 1 true (typed.Object 14))))))
+-- Structures and unions with members that are `const`, and what is selected of them (C17 6.3.2.1p1, 6.5.2.3p3).
+modifiable_structure_rows : AreTyped context (
+    -- de = de
+    (Assign 1 aop.Assign (Name 1 51) (Name 1 51), None) ∷
+    -- de.n = 1
+    (Assign 1 aop.Assign (Member 1 (Name 1 51) 98) (Number 1 1 true false 0), Some (Node (IntTy kind.Int) 1 true (typed.Assign (Node (IntTy kind.Int) 1 true (typed.Member (object (StructTag 2) 44) 12)) (int_constant 1)))) ∷
+    -- de.inner.c--
+    (PostDecrement 1 (Member 1 (Member 1 (Name 1 51) 97) 94), None) ∷
+    -- de.inner.a--
+    (PostDecrement 1 (Member 1 (Member 1 (Name 1 51) 97) 32), Some (Node (IntTy kind.Int) 1 true (typed.Increment step.PostDecrement (Node (IntTy kind.Int) 1 true (typed.Member (Node (StructTag 0) 1 true (typed.Member (object (StructTag 2) 44) 0)) 0))))) ∷
+    -- uv = uv
+    (Assign 1 aop.Assign (Name 1 50) (Name 1 50), None) ∷
+    -- uv.m = 1
+    (Assign 1 aop.Assign (Member 1 (Name 1 50) 34) (Number 1 1 true false 0), Some (Node (IntTy kind.Long) 1 true (typed.Assign (Node (IntTy kind.Long) 1 true (typed.Member (object (UnionTag 6) 43) 0)) (Node (IntTy kind.Long) 1 false (typed.Convert (int_constant 1)))))) ∷
+    -- uv.k = 1
+    (Assign 1 aop.Assign (Member 1 (Name 1 50) 101) (Number 1 1 true false 0), None) ∷
+    -- ho = ho
+    (Assign 1 aop.Assign (Name 1 52) (Name 1 52), Some (Node (StructTag 3) 1 true (typed.Assign (object (StructTag 3) 45) (value_of_object (StructTag 3) 45)))) ∷
+    -- ho = cho
+    (Assign 1 aop.Assign (Name 1 52) (Name 1 53), Some (Node (StructTag 3) 1 true (typed.Assign (object (StructTag 3) 45) (Node (StructTag 3) 1 false (typed.Read (object (ConstOf (StructTag 3)) 46)))))) ∷
+    -- cho = ho
+    (Assign 1 aop.Assign (Name 1 53) (Name 1 52), None) ∷
+    -- cho.u = 1
+    (Assign 1 aop.Assign (Member 1 (Name 1 53) 90) (Number 1 1 true false 0), None) ∷
+    -- cho.q[0].x = 1
+    (Assign 1 aop.Assign (Member 1 (Index 1 (Member 1 (Name 1 53) 99) (Number 1 0 false false 0)) 95) (Number 1 1 true false 0), None) ∷
+    -- ho.q[1] = node
+    (Assign 1 aop.Assign (Index 1 (Member 1 (Name 1 52) 99) (Number 1 1 true false 0)) (Name 1 44), Some (Node (StructTag 1) 1 true (typed.Assign (Node (StructTag 1) 1 true (typed.Subscript (Node (PointerTo (StructTag 1)) 1 false (typed.ArrayPointer (Node (ArrayOf (StructTag 1) (Some 2)) 1 true (typed.Member (object (StructTag 3) 45) 0)))) (int_constant 1))) (value_of_object (StructTag 1) 37)))) ∷
+    -- cho.q[1] = node
+    (Assign 1 aop.Assign (Index 1 (Member 1 (Name 1 53) 99) (Number 1 1 true false 0)) (Name 1 44), None) ∷
+    -- cnode.next = 0
+    (Assign 1 aop.Assign (Member 1 (Name 1 45) 96) (Number 1 0 false false 0), None) ∷
+    -- cnode.next->x = 1
+    (Assign 1 aop.Assign (Arrow 1 (Member 1 (Name 1 45) 96) 95) (Number 1 1 true false 0), Some (Node (IntTy kind.Int) 1 true (typed.Assign (Node (IntTy kind.Int) 1 true (typed.Arrow (Node (PointerTo (StructTag 1)) 1 false (typed.Read (Node (ConstOf (PointerTo (StructTag 1))) 1 true (typed.Member (object (ConstOf (StructTag 1)) 38) 8)))) 0)) (int_constant 1)))) ∷
+    -- pcn->next->next->x++
+    (PostIncrement 1 (Arrow 1 (Arrow 1 (Arrow 1 (Name 1 47) 96) 96) 95), Some (Node (IntTy kind.Int) 1 true (typed.Increment step.PostIncrement (Node (IntTy kind.Int) 1 true (typed.Arrow (Node (PointerTo (StructTag 1)) 1 false (typed.Read (Node (PointerTo (StructTag 1)) 1 true (typed.Arrow (Node (PointerTo (StructTag 1)) 1 false (typed.Read (Node (ConstOf (PointerTo (StructTag 1))) 1 true (typed.Arrow (value_of_object (PointerTo (ConstOf (StructTag 1))) 40) 8)))) 8)))) 0))))) ∷
+    -- pcn->x++
+    (PostIncrement 1 (Arrow 1 (Name 1 47) 95), None) ∷
+    -- *&node = cnode
+    (Assign 1 aop.Assign (Unary 1 uop.Indirection (Unary 1 uop.Address (Name 1 44))) (Name 1 45), Some (Node (StructTag 1) 1 true (typed.Assign (Node (StructTag 1) 1 true (typed.Indirection (Node (PointerTo (StructTag 1)) 1 true (typed.Address (object (StructTag 1) 37))))) (Node (StructTag 1) 1 false (typed.Read (object (ConstOf (StructTag 1)) 38)))))) ∷
+    -- *(const struct p *)&node = cnode
+    (Assign 1 aop.Assign (Unary 1 uop.Indirection (Cast 1 (TypeName 1 (Then (Then NoTrees (OfSpecifier (Keyword 1 word.Const))) (OfSpecifier (Tag 1 word.Struct 86))) (Present (OfDeclarator (AbstractPointer 1 0 Absent)))) (Unary 1 uop.Address (Name 1 44)))) (Name 1 45), None) ∷
+    -- *pcpi = pi
+    (Assign 1 aop.Assign (Unary 1 uop.Indirection (Name 1 31)) (Name 1 21), None) ∷
+    -- **pcpi = 1
+    (Assign 1 aop.Assign (Unary 1 uop.Indirection (Unary 1 uop.Indirection (Name 1 31))) (Number 1 1 true false 0), Some (Node (IntTy kind.Int) 1 true (typed.Assign (Node (IntTy kind.Int) 1 true (typed.Indirection (Node (PointerTo (IntTy kind.Int)) 1 false (typed.Read (Node (ConstOf (PointerTo (IntTy kind.Int))) 1 true (typed.Indirection (value_of_object (PointerTo (ConstOf (PointerTo (IntTy kind.Int)))) 24))))))) (int_constant 1)))) ∷
+    [])
 unfolding type_of_words layouts_of are_compatible
-qualifier_4 = refl
+modifiable_structure_rows = refl
 
--- *&ci
-qualifier_5 : typed_tree (types (Unary 1 uop.Indirection (Unary 1 uop.Address (Name 1 19))) context) ≡ Some (Node (ConstOf (IntTy kind.Int)) 1 true (typed.Indirection (Node (PointerTo (ConstOf (IntTy kind.Int))) 1 true (typed.Address (Node (ConstOf (IntTy kind.Int)) 1 true (typed.Object 12))))))
-unfolding layouts_of are_compatible
-qualifier_5 = refl
-
--- +ci
-qualifier_6 : typed_tree (types (Unary 1 uop.Plus (Name 1 19)) context) ≡ Some (Node (IntTy kind.Int) 1 true (typed.Unary numeric.Plus (Node (IntTy kind.Int) 1 false (typed.Read (Node (ConstOf (IntTy kind.Int)) 1 true (typed.Object 12))))))
-unfolding layouts_of are_compatible
-qualifier_6 = refl
-
--- fixed()
-qualifier_7 : typed_tree (types (Call 1 (Name 1 61) NoArguments) context) ≡ Some (Node (IntTy kind.Int) 1 true (typed.Call 3 NoMore))
+-- Members of values, and what else is no modifiable lvalue (C17 6.5.2.3p3, 6.3.2.1p1).
+member_of_value_rows : AreTyped context (
+    -- build().a = 1
+    (Assign 1 aop.Assign (Member 1 (Call 1 (Name 1 59) NoArguments) 32) (Number 1 1 true false 0), None) ∷
+    -- make(1).x++
+    (PostIncrement 1 (Member 1 (Call 1 (Name 1 58) (Argument NoArguments (Number 1 1 true false 0))) 95), None) ∷
+    -- build().b
+    (Member 1 (Call 1 (Name 1 59) NoArguments) 93, None) ∷
+    -- build().c
+    (Member 1 (Call 1 (Name 1 59) NoArguments) 94, Some (Node (IntTy kind.Int) 1 true (typed.MemberOfValue (Node (StructTag 0) 1 true (typed.Call 1 NoMore)) 8))) ∷
+    -- build().a
+    (Member 1 (Call 1 (Name 1 59) NoArguments) 32, Some (Node (IntTy kind.Int) 1 true (typed.MemberOfValue (Node (StructTag 0) 1 true (typed.Call 1 NoMore)) 0))) ∷
+    -- make(2).next->x = 3
+    (Assign 1 aop.Assign (Arrow 1 (Member 1 (Call 1 (Name 1 58) (Argument NoArguments (Number 1 2 true false 0))) 96) 95) (Number 1 3 true false 0), Some (Node (IntTy kind.Int) 1 true (typed.Assign (Node (IntTy kind.Int) 1 true (typed.Arrow (Node (PointerTo (StructTag 1)) 1 true (typed.MemberOfValue (Node (StructTag 1) 1 true (typed.Call 0 (More (int_constant 2) NoMore))) 8)) 0)) (int_constant 3)))) ∷
+    -- unite().bytes
+    (Member 1 (Call 1 (Name 1 60) NoArguments) 100, None) ∷
+    -- unite().i
+    (Member 1 (Call 1 (Name 1 60) NoArguments) 13, Some (Node (IntTy kind.Int) 1 true (typed.MemberOfValue (Node (UnionTag 5) 1 true (typed.Call 2 NoMore)) 0))) ∷
+    -- m[1] = a
+    (Assign 1 aop.Assign (Index 1 (Name 1 34) (Number 1 1 true false 0)) (Name 1 32), None) ∷
+    -- *pv = i
+    (Assign 1 aop.Assign (Unary 1 uop.Indirection (Name 1 24)) (Name 1 13), None) ∷
+    -- A = 1
+    (Assign 1 aop.Assign (Name 1 0) (Number 1 1 true false 0), None) ∷
+    -- "abc"[1] = 'x'
+    (Assign 1 aop.Assign (Index 1 (Text 1 4 0) (Number 1 1 true false 0)) (Character 1 (pos 120)), Some (Node (IntTy kind.Char) 1 true (typed.Assign (Node (IntTy kind.Char) 1 true (typed.Subscript (Node (PointerTo (IntTy kind.Char)) 1 false (typed.ArrayPointer (Node (ArrayOf (IntTy kind.Char) (Some 4)) 1 true (typed.String 0)))) (int_constant 1))) (Node (IntTy kind.Char) 1 false (typed.Convert (int_constant 120)))))) ∷
+    [])
 unfolding layouts_of are_compatible library_named
-qualifier_7 = refl
+member_of_value_rows = refl
 
--- fixed() = 1
-qualifier_8 : typed_tree (types (Assign 1 aop.Assign (Call 1 (Name 1 61) NoArguments) (Number 1 1 true false 0)) context) ≡ None
-unfolding layouts_of are_compatible library_named
-qualifier_8 = refl
-
--- &ci
-qualifier_9 : typed_tree (types (Unary 1 uop.Address (Name 1 19)) context) ≡ Some (Node (PointerTo (ConstOf (IntTy kind.Int))) 1 true (typed.Address (Node (ConstOf (IntTy kind.Int)) 1 true (typed.Object 12))))
-unfolding layouts_of are_compatible
-qualifier_9 = refl
-
--- &cpi
-qualifier_10 : typed_tree (types (Unary 1 uop.Address (Name 1 23)) context) ≡ Some (Node (PointerTo (ConstOf (PointerTo (IntTy kind.Int)))) 1 true (typed.Address (Node (ConstOf (PointerTo (IntTy kind.Int))) 1 true (typed.Object 16))))
-unfolding layouts_of are_compatible
-qualifier_10 = refl
-
--- &ca
-qualifier_11 : typed_tree (types (Unary 1 uop.Address (Name 1 33)) context) ≡ Some (Node (PointerTo (ArrayOf (ConstOf (IntTy kind.Int)) (Some 2))) 1 true (typed.Address (Node (ArrayOf (ConstOf (IntTy kind.Int)) (Some 2)) 1 true (typed.Object 26))))
-unfolding layouts_of are_compatible
-qualifier_11 = refl
-
--- &ca[1]
-qualifier_12 : typed_tree (types (Unary 1 uop.Address (Index 1 (Name 1 33) (Number 1 1 true false 0))) context) ≡ Some (Node (PointerTo (ConstOf (IntTy kind.Int))) 1 true (typed.Address (Node (ConstOf (IntTy kind.Int)) 1 false (typed.Subscript (Node (PointerTo (ConstOf (IntTy kind.Int))) 1 false (typed.ArrayPointer (Node (ArrayOf (ConstOf (IntTy kind.Int)) (Some 2)) 1 true (typed.Object 26)))) (Node (IntTy kind.Int) 1 true (typed.Constant (pos 1)))))))
-unfolding layouts_of are_compatible
-qualifier_12 = refl
-
--- &cm[1]
-qualifier_13 : typed_tree (types (Unary 1 uop.Address (Index 1 (Name 1 35) (Number 1 1 true false 0))) context) ≡ Some (Node (PointerTo (ArrayOf (ConstOf (IntTy kind.Int)) (Some 3))) 1 true (typed.Address (Node (ArrayOf (ConstOf (IntTy kind.Int)) (Some 3)) 1 false (typed.Subscript (Node (PointerTo (ArrayOf (ConstOf (IntTy kind.Int)) (Some 3))) 1 false (typed.ArrayPointer (Node (ArrayOf (ArrayOf (ConstOf (IntTy kind.Int)) (Some 3)) (Some 2)) 1 true (typed.Object 28)))) (Node (IntTy kind.Int) 1 true (typed.Constant (pos 1)))))))
-unfolding layouts_of are_compatible
-qualifier_13 = refl
-
--- &cst.a
-qualifier_14 : typed_tree (types (Unary 1 uop.Address (Member 1 (Name 1 42) 32)) context) ≡ Some (Node (PointerTo (ConstOf (IntTy kind.Int))) 1 true (typed.Address (Node (ConstOf (IntTy kind.Int)) 1 true (typed.Member (Node (ConstOf (StructTag 0)) 1 true (typed.Object 35)) 0))))
-unfolding layouts_of are_compatible
-qualifier_14 = refl
-
--- &cst.b
-qualifier_15 : typed_tree (types (Unary 1 uop.Address (Member 1 (Name 1 42) 93)) context) ≡ Some (Node (PointerTo (ArrayOf (ConstOf (IntTy kind.Char)) (Some 4))) 1 true (typed.Address (Node (ArrayOf (ConstOf (IntTy kind.Char)) (Some 4)) 1 true (typed.Member (Node (ConstOf (StructTag 0)) 1 true (typed.Object 35)) 4))))
-unfolding layouts_of are_compatible
-qualifier_15 = refl
-
--- &pcst->b[1]
-qualifier_16 : typed_tree (types (Unary 1 uop.Address (Index 1 (Arrow 1 (Name 1 43) 93) (Number 1 1 true false 0))) context) ≡ Some (Node (PointerTo (ConstOf (IntTy kind.Char))) 1 true (typed.Address (Node (ConstOf (IntTy kind.Char)) 1 false (typed.Subscript (Node (PointerTo (ConstOf (IntTy kind.Char))) 1 false (typed.ArrayPointer (Node (ArrayOf (ConstOf (IntTy kind.Char)) (Some 4)) 1 true (typed.Arrow (Node (PointerTo (ConstOf (StructTag 0))) 1 false (typed.Read (Node (PointerTo (ConstOf (StructTag 0))) 1 true (typed.Object 36)))) 4)))) (Node (IntTy kind.Int) 1 true (typed.Constant (pos 1)))))))
-unfolding layouts_of are_compatible
-qualifier_16 = refl
-
--- &cnode.next
-qualifier_17 : typed_tree (types (Unary 1 uop.Address (Member 1 (Name 1 45) 96)) context) ≡ Some (Node (PointerTo (ConstOf (PointerTo (StructTag 1)))) 1 true (typed.Address (Node (ConstOf (PointerTo (StructTag 1))) 1 true (typed.Member (Node (ConstOf (StructTag 1)) 1 true (typed.Object 38)) 8))))
-unfolding layouts_of are_compatible
-qualifier_17 = refl
-
--- &pcn->x
-qualifier_18 : typed_tree (types (Unary 1 uop.Address (Arrow 1 (Name 1 47) 95)) context) ≡ Some (Node (PointerTo (ConstOf (IntTy kind.Int))) 1 true (typed.Address (Node (ConstOf (IntTy kind.Int)) 1 true (typed.Arrow (Node (PointerTo (ConstOf (StructTag 1))) 1 false (typed.Read (Node (PointerTo (ConstOf (StructTag 1))) 1 true (typed.Object 40)))) 0))))
-unfolding layouts_of are_compatible
-qualifier_18 = refl
-
--- &cho.q
-qualifier_19 : typed_tree (types (Unary 1 uop.Address (Member 1 (Name 1 53) 99)) context) ≡ Some (Node (PointerTo (ArrayOf (ConstOf (StructTag 1)) (Some 2))) 1 true (typed.Address (Node (ArrayOf (ConstOf (StructTag 1)) (Some 2)) 1 true (typed.Member (Node (ConstOf (StructTag 3)) 1 true (typed.Object 46)) 0))))
-unfolding layouts_of are_compatible
-qualifier_19 = refl
-
--- &cho.q[1].next
-qualifier_20 : typed_tree (types (Unary 1 uop.Address (Member 1 (Index 1 (Member 1 (Name 1 53) 99) (Number 1 1 true false 0)) 96)) context) ≡ Some (Node (PointerTo (ConstOf (PointerTo (StructTag 1)))) 1 true (typed.Address (Node (ConstOf (PointerTo (StructTag 1))) 1 true (typed.Member (Node (ConstOf (StructTag 1)) 1 true (typed.Subscript (Node (PointerTo (ConstOf (StructTag 1))) 1 false (typed.ArrayPointer (Node (ArrayOf (ConstOf (StructTag 1)) (Some 2)) 1 true (typed.Member (Node (ConstOf (StructTag 3)) 1 true (typed.Object 46)) 0)))) (Node (IntTy kind.Int) 1 true (typed.Constant (pos 1))))) 8))))
-unfolding layouts_of are_compatible
-qualifier_20 = refl
-
--- &st.c
-qualifier_21 : typed_tree (types (Unary 1 uop.Address (Member 1 (Name 1 41) 94)) context) ≡ Some (Node (PointerTo (ConstOf (IntTy kind.Int))) 1 true (typed.Address (Node (ConstOf (IntTy kind.Int)) 1 true (typed.Member (Node (StructTag 0) 1 true (typed.Object 34)) 8))))
-unfolding layouts_of are_compatible
-qualifier_21 = refl
-
--- cpi = pi
-qualifier_22 : typed_tree (types (Assign 1 aop.Assign (Name 1 23) (Name 1 21)) context) ≡ None
-unfolding layouts_of are_compatible
-qualifier_22 = refl
-
--- *cpi = 1
-qualifier_23 : typed_tree (types (Assign 1 aop.Assign (Unary 1 uop.Indirection (Name 1 23)) (Number 1 1 true false 0)) context) ≡ Some (Node (IntTy kind.Int) 1 true (typed.Assign (Node (IntTy kind.Int) 1 true (typed.Indirection (Node (PointerTo (IntTy kind.Int)) 1 false (typed.Read (Node (ConstOf (PointerTo (IntTy kind.Int))) 1 true (typed.Object 16)))))) (Node (IntTy kind.Int) 1 true (typed.Constant (pos 1)))))
-unfolding layouts_of are_compatible
-qualifier_23 = refl
-
--- (*cpi)++
-qualifier_24 : typed_tree (types (PostIncrement 1 (Paren 1 (Unary 1 uop.Indirection (Name 1 23)))) context) ≡ Some (Node (IntTy kind.Int) 1 true (typed.Increment step.PostIncrement (Node (IntTy kind.Int) 1 true (typed.Indirection (Node (PointerTo (IntTy kind.Int)) 1 false (typed.Read (Node (ConstOf (PointerTo (IntTy kind.Int))) 1 true (typed.Object 16))))))))
-unfolding layouts_of are_compatible
-qualifier_24 = refl
-
--- cpi += 1
-qualifier_25 : typed_tree (types (Assign 1 aop.Add (Name 1 23) (Number 1 1 true false 0)) context) ≡ None
-unfolding layouts_of are_compatible
-qualifier_25 = refl
-
--- pci++
-qualifier_26 : typed_tree (types (PostIncrement 1 (Name 1 22)) context) ≡ Some (Node (PointerTo (ConstOf (IntTy kind.Int))) 1 true (typed.Increment step.PostIncrement (Node (PointerTo (ConstOf (IntTy kind.Int))) 1 true (typed.Object 15))))
-unfolding layouts_of are_compatible
-qualifier_26 = refl
-
--- *pci = 1
-qualifier_27 : typed_tree (types (Assign 1 aop.Assign (Unary 1 uop.Indirection (Name 1 22)) (Number 1 1 true false 0)) context) ≡ None
-unfolding layouts_of are_compatible
-qualifier_27 = refl
-
--- ++*pci
-qualifier_28 : typed_tree (types (PreIncrement 1 (Unary 1 uop.Indirection (Name 1 22))) context) ≡ None
-unfolding layouts_of are_compatible
-qualifier_28 = refl
-
--- ca[0] = 1
-qualifier_29 : typed_tree (types (Assign 1 aop.Assign (Index 1 (Name 1 33) (Number 1 0 false false 0)) (Number 1 1 true false 0)) context) ≡ None
-unfolding layouts_of are_compatible
-qualifier_29 = refl
-
--- *ca = 1
-qualifier_30 : typed_tree (types (Assign 1 aop.Assign (Unary 1 uop.Indirection (Name 1 33)) (Number 1 1 true false 0)) context) ≡ None
-unfolding layouts_of are_compatible
-qualifier_30 = refl
-
--- cm[1][0] = 1
-qualifier_31 : typed_tree (types (Assign 1 aop.Assign (Index 1 (Index 1 (Name 1 35) (Number 1 1 true false 0)) (Number 1 0 false false 0)) (Number 1 1 true false 0)) context) ≡ None
-unfolding layouts_of are_compatible
-qualifier_31 = refl
-
--- cul += 1
-qualifier_32 : typed_tree (types (Assign 1 aop.Add (Name 1 20) (Number 1 1 true false 0)) context) ≡ None
-unfolding layouts_of are_compatible
-qualifier_32 = refl
-
--- cst.a = 1
-qualifier_33 : typed_tree (types (Assign 1 aop.Assign (Member 1 (Name 1 42) 32) (Number 1 1 true false 0)) context) ≡ None
-unfolding layouts_of are_compatible
-qualifier_33 = refl
-
--- pcst->b[0] = 'x'
-qualifier_34 : typed_tree (types (Assign 1 aop.Assign (Index 1 (Arrow 1 (Name 1 43) 93) (Number 1 0 false false 0)) (Character 1 (pos 120))) context) ≡ None
-unfolding layouts_of are_compatible
-qualifier_34 = refl
-
--- st.b[0] = 'x'
-qualifier_35 : typed_tree (types (Assign 1 aop.Assign (Index 1 (Member 1 (Name 1 41) 93) (Number 1 0 false false 0)) (Character 1 (pos 120))) context) ≡ Some (Node (IntTy kind.Char) 1 true (typed.Assign (Node (IntTy kind.Char) 1 true (typed.Subscript (Node (PointerTo (IntTy kind.Char)) 1 false (typed.ArrayPointer (Node (ArrayOf (IntTy kind.Char) (Some 4)) 1 true (typed.Member (Node (StructTag 0) 1 true (typed.Object 34)) 4)))) (Node (IntTy kind.Int) 1 true (typed.Constant (pos 0))))) (Node (IntTy kind.Char) 1 false (typed.Convert (Node (IntTy kind.Int) 1 true (typed.Constant (pos 120)))))))
-unfolding layouts_of are_compatible
-qualifier_35 = refl
-
--- st.c = 1
-qualifier_36 : typed_tree (types (Assign 1 aop.Assign (Member 1 (Name 1 41) 94) (Number 1 1 true false 0)) context) ≡ None
-unfolding layouts_of are_compatible
-qualifier_36 = refl
-
--- st.a = 1
-qualifier_37 : typed_tree (types (Assign 1 aop.Assign (Member 1 (Name 1 41) 32) (Number 1 1 true false 0)) context) ≡ Some (Node (IntTy kind.Int) 1 true (typed.Assign (Node (IntTy kind.Int) 1 true (typed.Member (Node (StructTag 0) 1 true (typed.Object 34)) 0)) (Node (IntTy kind.Int) 1 true (typed.Constant (pos 1)))))
-unfolding layouts_of are_compatible
-qualifier_37 = refl
-
--- de = de
-qualifier_38 : typed_tree (types (Assign 1 aop.Assign (Name 1 51) (Name 1 51)) context) ≡ None
-unfolding layouts_of are_compatible
-qualifier_38 = refl
-
--- de.n = 1
-qualifier_39 : typed_tree (types (Assign 1 aop.Assign (Member 1 (Name 1 51) 98) (Number 1 1 true false 0)) context) ≡ Some (Node (IntTy kind.Int) 1 true (typed.Assign (Node (IntTy kind.Int) 1 true (typed.Member (Node (StructTag 2) 1 true (typed.Object 44)) 12)) (Node (IntTy kind.Int) 1 true (typed.Constant (pos 1)))))
-unfolding layouts_of are_compatible
-qualifier_39 = refl
-
--- de.inner.c--
-qualifier_40 : typed_tree (types (PostDecrement 1 (Member 1 (Member 1 (Name 1 51) 97) 94)) context) ≡ None
-unfolding layouts_of are_compatible
-qualifier_40 = refl
-
--- de.inner.a--
-qualifier_41 : typed_tree (types (PostDecrement 1 (Member 1 (Member 1 (Name 1 51) 97) 32)) context) ≡ Some (Node (IntTy kind.Int) 1 true (typed.Increment step.PostDecrement (Node (IntTy kind.Int) 1 true (typed.Member (Node (StructTag 0) 1 true (typed.Member (Node (StructTag 2) 1 true (typed.Object 44)) 0)) 0))))
-unfolding layouts_of are_compatible
-qualifier_41 = refl
-
--- uv = uv
-qualifier_42 : typed_tree (types (Assign 1 aop.Assign (Name 1 50) (Name 1 50)) context) ≡ None
-unfolding layouts_of are_compatible
-qualifier_42 = refl
-
--- uv.m = 1
-qualifier_43 : typed_tree (types (Assign 1 aop.Assign (Member 1 (Name 1 50) 34) (Number 1 1 true false 0)) context) ≡ Some (Node (IntTy kind.Long) 1 true (typed.Assign (Node (IntTy kind.Long) 1 true (typed.Member (Node (UnionTag 6) 1 true (typed.Object 43)) 0)) (Node (IntTy kind.Long) 1 false (typed.Convert (Node (IntTy kind.Int) 1 true (typed.Constant (pos 1)))))))
-unfolding layouts_of are_compatible
-qualifier_43 = refl
-
--- uv.k = 1
-qualifier_44 : typed_tree (types (Assign 1 aop.Assign (Member 1 (Name 1 50) 101) (Number 1 1 true false 0)) context) ≡ None
-unfolding layouts_of are_compatible
-qualifier_44 = refl
-
--- ho = ho
-qualifier_45 : typed_tree (types (Assign 1 aop.Assign (Name 1 52) (Name 1 52)) context) ≡ Some (Node (StructTag 3) 1 true (typed.Assign (Node (StructTag 3) 1 true (typed.Object 45)) (Node (StructTag 3) 1 false (typed.Read (Node (StructTag 3) 1 true (typed.Object 45))))))
-unfolding layouts_of are_compatible
-qualifier_45 = refl
-
--- ho = cho
-qualifier_46 : typed_tree (types (Assign 1 aop.Assign (Name 1 52) (Name 1 53)) context) ≡ Some (Node (StructTag 3) 1 true (typed.Assign (Node (StructTag 3) 1 true (typed.Object 45)) (Node (StructTag 3) 1 false (typed.Read (Node (ConstOf (StructTag 3)) 1 true (typed.Object 46))))))
-unfolding layouts_of are_compatible
-qualifier_46 = refl
-
--- cho = ho
-qualifier_47 : typed_tree (types (Assign 1 aop.Assign (Name 1 53) (Name 1 52)) context) ≡ None
-unfolding layouts_of are_compatible
-qualifier_47 = refl
-
--- cho.u = 1
-qualifier_48 : typed_tree (types (Assign 1 aop.Assign (Member 1 (Name 1 53) 90) (Number 1 1 true false 0)) context) ≡ None
-unfolding layouts_of are_compatible
-qualifier_48 = refl
-
--- cho.q[0].x = 1
-qualifier_49 : typed_tree (types (Assign 1 aop.Assign (Member 1 (Index 1 (Member 1 (Name 1 53) 99) (Number 1 0 false false 0)) 95) (Number 1 1 true false 0)) context) ≡ None
-unfolding layouts_of are_compatible
-qualifier_49 = refl
-
--- ho.q[1] = node
-qualifier_50 : typed_tree (types (Assign 1 aop.Assign (Index 1 (Member 1 (Name 1 52) 99) (Number 1 1 true false 0)) (Name 1 44)) context) ≡ Some (Node (StructTag 1) 1 true (typed.Assign (Node (StructTag 1) 1 true (typed.Subscript (Node (PointerTo (StructTag 1)) 1 false (typed.ArrayPointer (Node (ArrayOf (StructTag 1) (Some 2)) 1 true (typed.Member (Node (StructTag 3) 1 true (typed.Object 45)) 0)))) (Node (IntTy kind.Int) 1 true (typed.Constant (pos 1))))) (Node (StructTag 1) 1 false (typed.Read (Node (StructTag 1) 1 true (typed.Object 37))))))
-unfolding layouts_of are_compatible
-qualifier_50 = refl
-
--- cho.q[1] = node
-qualifier_51 : typed_tree (types (Assign 1 aop.Assign (Index 1 (Member 1 (Name 1 53) 99) (Number 1 1 true false 0)) (Name 1 44)) context) ≡ None
-unfolding layouts_of are_compatible
-qualifier_51 = refl
-
--- cnode.next = 0
-qualifier_52 : typed_tree (types (Assign 1 aop.Assign (Member 1 (Name 1 45) 96) (Number 1 0 false false 0)) context) ≡ None
-unfolding layouts_of are_compatible
-qualifier_52 = refl
-
--- cnode.next->x = 1
-qualifier_53 : typed_tree (types (Assign 1 aop.Assign (Arrow 1 (Member 1 (Name 1 45) 96) 95) (Number 1 1 true false 0)) context) ≡ Some (Node (IntTy kind.Int) 1 true (typed.Assign (Node (IntTy kind.Int) 1 true (typed.Arrow (Node (PointerTo (StructTag 1)) 1 false (typed.Read (Node (ConstOf (PointerTo (StructTag 1))) 1 true (typed.Member (Node (ConstOf (StructTag 1)) 1 true (typed.Object 38)) 8)))) 0)) (Node (IntTy kind.Int) 1 true (typed.Constant (pos 1)))))
-unfolding layouts_of are_compatible
-qualifier_53 = refl
-
--- pcn->next->next->x++
-qualifier_54 : typed_tree (types (PostIncrement 1 (Arrow 1 (Arrow 1 (Arrow 1 (Name 1 47) 96) 96) 95)) context) ≡ Some (Node (IntTy kind.Int) 1 true (typed.Increment step.PostIncrement (Node (IntTy kind.Int) 1 true (typed.Arrow (Node (PointerTo (StructTag 1)) 1 false (typed.Read (Node (PointerTo (StructTag 1)) 1 true (typed.Arrow (Node (PointerTo (StructTag 1)) 1 false (typed.Read (Node (ConstOf (PointerTo (StructTag 1))) 1 true (typed.Arrow (Node (PointerTo (ConstOf (StructTag 1))) 1 false (typed.Read (Node (PointerTo (ConstOf (StructTag 1))) 1 true (typed.Object 40)))) 8)))) 8)))) 0))))
-unfolding layouts_of are_compatible
-qualifier_54 = refl
-
--- pcn->x++
-qualifier_55 : typed_tree (types (PostIncrement 1 (Arrow 1 (Name 1 47) 95)) context) ≡ None
-unfolding layouts_of are_compatible
-qualifier_55 = refl
-
--- *&node = cnode
-qualifier_56 : typed_tree (types (Assign 1 aop.Assign (Unary 1 uop.Indirection (Unary 1 uop.Address (Name 1 44))) (Name 1 45)) context) ≡ Some (Node (StructTag 1) 1 true (typed.Assign (Node (StructTag 1) 1 true (typed.Indirection (Node (PointerTo (StructTag 1)) 1 true (typed.Address (Node (StructTag 1) 1 true (typed.Object 37)))))) (Node (StructTag 1) 1 false (typed.Read (Node (ConstOf (StructTag 1)) 1 true (typed.Object 38))))))
-unfolding layouts_of are_compatible
-qualifier_56 = refl
-
--- *(const struct p *)&node = cnode
-qualifier_57 : typed_tree (types (Assign 1 aop.Assign (Unary 1 uop.Indirection (Cast 1 (TypeName 1 (Then (Then NoTrees (OfSpecifier (Keyword 1 word.Const))) (OfSpecifier (Tag 1 word.Struct 86))) (Present (OfDeclarator (AbstractPointer 1 0 Absent)))) (Unary 1 uop.Address (Name 1 44)))) (Name 1 45)) context) ≡ None
+-- Which pointers may be assigned to which (C17 6.5.16.1p1).
+assigned_pointer_rows : AreTyped context (
+    -- pci = &ci
+    (Assign 1 aop.Assign (Name 1 22) (Unary 1 uop.Address (Name 1 19)), Some (Node (PointerTo (ConstOf (IntTy kind.Int))) 1 true (typed.Assign (object (PointerTo (ConstOf (IntTy kind.Int))) 15) (Node (PointerTo (ConstOf (IntTy kind.Int))) 1 true (typed.Address (object (ConstOf (IntTy kind.Int)) 12)))))) ∷
+    -- pi = &ci
+    (Assign 1 aop.Assign (Name 1 21) (Unary 1 uop.Address (Name 1 19)), None) ∷
+    -- pi = (int *)&ci
+    (Assign 1 aop.Assign (Name 1 21) (Cast 1 (TypeName 1 (Then NoTrees (OfSpecifier (Keyword 1 word.Int))) (Present (OfDeclarator (AbstractPointer 1 0 Absent)))) (Unary 1 uop.Address (Name 1 19))), Some (Node (PointerTo (IntTy kind.Int)) 1 true (typed.Assign (object (PointerTo (IntTy kind.Int)) 14) (Node (PointerTo (IntTy kind.Int)) 1 true (typed.Cast (Node (PointerTo (ConstOf (IntTy kind.Int))) 1 true (typed.Address (object (ConstOf (IntTy kind.Int)) 12)))))))) ∷
+    -- pi = ca
+    (Assign 1 aop.Assign (Name 1 21) (Name 1 33), None) ∷
+    -- pci = ca
+    (Assign 1 aop.Assign (Name 1 22) (Name 1 33), Some (Node (PointerTo (ConstOf (IntTy kind.Int))) 1 true (typed.Assign (object (PointerTo (ConstOf (IntTy kind.Int))) 15) (Node (PointerTo (ConstOf (IntTy kind.Int))) 1 false (typed.ArrayPointer (object (ArrayOf (ConstOf (IntTy kind.Int)) (Some 2)) 26)))))) ∷
+    -- ppci = ppi
+    (Assign 1 aop.Assign (Name 1 30) (Name 1 29), None) ∷
+    -- pcpi = ppi
+    (Assign 1 aop.Assign (Name 1 31) (Name 1 29), Some (Node (PointerTo (ConstOf (PointerTo (IntTy kind.Int)))) 1 true (typed.Assign (object (PointerTo (ConstOf (PointerTo (IntTy kind.Int)))) 24) (Node (PointerTo (ConstOf (PointerTo (IntTy kind.Int)))) 1 false (typed.Convert (value_of_object (PointerTo (PointerTo (IntTy kind.Int))) 22)))))) ∷
+    -- ppi = pcpi
+    (Assign 1 aop.Assign (Name 1 29) (Name 1 31), None) ∷
+    -- ppi = &cpi
+    (Assign 1 aop.Assign (Name 1 29) (Unary 1 uop.Address (Name 1 23)), None) ∷
+    -- pcpi = &cpi
+    (Assign 1 aop.Assign (Name 1 31) (Unary 1 uop.Address (Name 1 23)), Some (Node (PointerTo (ConstOf (PointerTo (IntTy kind.Int)))) 1 true (typed.Assign (object (PointerTo (ConstOf (PointerTo (IntTy kind.Int)))) 24) (Node (PointerTo (ConstOf (PointerTo (IntTy kind.Int)))) 1 true (typed.Address (object (ConstOf (PointerTo (IntTy kind.Int))) 16)))))) ∷
+    -- pca3 = pa3
+    (Assign 1 aop.Assign (Name 1 40) (Name 1 38), None) ∷
+    -- pa3 = &a
+    (Assign 1 aop.Assign (Name 1 38) (Unary 1 uop.Address (Name 1 32)), Some (Node (PointerTo (ArrayOf (IntTy kind.Int) (Some 3))) 1 true (typed.Assign (object (PointerTo (ArrayOf (IntTy kind.Int) (Some 3))) 31) (Node (PointerTo (ArrayOf (IntTy kind.Int) (Some 3))) 1 true (typed.Address (object (ArrayOf (IntTy kind.Int) (Some 3)) 25)))))) ∷
+    -- pa3 = m
+    (Assign 1 aop.Assign (Name 1 38) (Name 1 34), Some (Node (PointerTo (ArrayOf (IntTy kind.Int) (Some 3))) 1 true (typed.Assign (object (PointerTo (ArrayOf (IntTy kind.Int) (Some 3))) 31) (Node (PointerTo (ArrayOf (IntTy kind.Int) (Some 3))) 1 false (typed.ArrayPointer (object (ArrayOf (ArrayOf (IntTy kind.Int) (Some 3)) (Some 2)) 27)))))) ∷
+    -- pa3 = cm
+    (Assign 1 aop.Assign (Name 1 38) (Name 1 35), None) ∷
+    -- pca3 = cm
+    (Assign 1 aop.Assign (Name 1 40) (Name 1 35), Some (Node (PointerTo (ArrayOf (ConstOf (IntTy kind.Int)) (Some 3))) 1 true (typed.Assign (object (PointerTo (ArrayOf (ConstOf (IntTy kind.Int)) (Some 3))) 33) (Node (PointerTo (ArrayOf (ConstOf (IntTy kind.Int)) (Some 3))) 1 false (typed.ArrayPointer (object (ArrayOf (ArrayOf (ConstOf (IntTy kind.Int)) (Some 3)) (Some 2)) 28)))))) ∷
+    -- pa3 = &open
+    (Assign 1 aop.Assign (Name 1 38) (Unary 1 uop.Address (Name 1 56)), Some (Node (PointerTo (ArrayOf (IntTy kind.Int) (Some 3))) 1 true (typed.Assign (object (PointerTo (ArrayOf (IntTy kind.Int) (Some 3))) 31) (Node (PointerTo (ArrayOf (IntTy kind.Int) (Some 3))) 1 false (typed.Convert (Node (PointerTo (ArrayOf (IntTy kind.Int) None)) 1 true (typed.Address (object (ArrayOf (IntTy kind.Int) None) 49)))))))) ∷
+    -- pa4 = &open
+    (Assign 1 aop.Assign (Name 1 39) (Unary 1 uop.Address (Name 1 56)), Some (Node (PointerTo (ArrayOf (IntTy kind.Int) (Some 4))) 1 true (typed.Assign (object (PointerTo (ArrayOf (IntTy kind.Int) (Some 4))) 32) (Node (PointerTo (ArrayOf (IntTy kind.Int) (Some 4))) 1 false (typed.Convert (Node (PointerTo (ArrayOf (IntTy kind.Int) None)) 1 true (typed.Address (object (ArrayOf (IntTy kind.Int) None) 49)))))))) ∷
+    -- pa4 = &a
+    (Assign 1 aop.Assign (Name 1 39) (Unary 1 uop.Address (Name 1 32)), None) ∷
+    -- pv = pci
+    (Assign 1 aop.Assign (Name 1 24) (Name 1 22), None) ∷
+    -- pcv = pci
+    (Assign 1 aop.Assign (Name 1 25) (Name 1 22), Some (Node (PointerTo (ConstOf VoidTy)) 1 true (typed.Assign (object (PointerTo (ConstOf VoidTy)) 18) (Node (PointerTo (ConstOf VoidTy)) 1 false (typed.Convert (value_of_object (PointerTo (ConstOf (IntTy kind.Int))) 15)))))) ∷
+    -- pv = ppci
+    (Assign 1 aop.Assign (Name 1 24) (Name 1 30), Some (Node (PointerTo VoidTy) 1 true (typed.Assign (object (PointerTo VoidTy) 17) (Node (PointerTo VoidTy) 1 false (typed.Convert (value_of_object (PointerTo (PointerTo (ConstOf (IntTy kind.Int)))) 23)))))) ∷
+    -- pc = pcc
+    (Assign 1 aop.Assign (Name 1 26) (Name 1 27), None) ∷
+    -- pcc = pc
+    (Assign 1 aop.Assign (Name 1 27) (Name 1 26), Some (Node (PointerTo (ConstOf (IntTy kind.Char))) 1 true (typed.Assign (object (PointerTo (ConstOf (IntTy kind.Char))) 20) (Node (PointerTo (ConstOf (IntTy kind.Char))) 1 false (typed.Convert (value_of_object (PointerTo (IntTy kind.Char)) 19)))))) ∷
+    -- pcc = "abc"
+    (Assign 1 aop.Assign (Name 1 27) (Text 1 4 0), Some (Node (PointerTo (ConstOf (IntTy kind.Char))) 1 true (typed.Assign (object (PointerTo (ConstOf (IntTy kind.Char))) 20) (Node (PointerTo (ConstOf (IntTy kind.Char))) 1 false (typed.Convert (Node (PointerTo (IntTy kind.Char)) 1 false (typed.ArrayPointer (Node (ArrayOf (IntTy kind.Char) (Some 4)) 1 true (typed.String 0))))))))) ∷
+    -- pc = "abc"
+    (Assign 1 aop.Assign (Name 1 26) (Text 1 4 0), Some (Node (PointerTo (IntTy kind.Char)) 1 true (typed.Assign (object (PointerTo (IntTy kind.Char)) 19) (Node (PointerTo (IntTy kind.Char)) 1 false (typed.ArrayPointer (Node (ArrayOf (IntTy kind.Char) (Some 4)) 1 true (typed.String 0))))))) ∷
+    -- pui = pi
+    (Assign 1 aop.Assign (Name 1 28) (Name 1 21), None) ∷
+    -- pn = &cnode
+    (Assign 1 aop.Assign (Name 1 46) (Unary 1 uop.Address (Name 1 45)), None) ∷
+    -- pcn = &node
+    (Assign 1 aop.Assign (Name 1 47) (Unary 1 uop.Address (Name 1 44)), Some (Node (PointerTo (ConstOf (StructTag 1))) 1 true (typed.Assign (object (PointerTo (ConstOf (StructTag 1))) 40) (Node (PointerTo (ConstOf (StructTag 1))) 1 false (typed.Convert (Node (PointerTo (StructTag 1)) 1 true (typed.Address (object (StructTag 1) 37)))))))) ∷
+    -- bo = pci
+    (Assign 1 aop.Assign (Name 1 7) (Name 1 22), Some (Node (IntTy kind.Bool) 1 true (typed.Assign (object (IntTy kind.Bool) 0) (Node (IntTy kind.Bool) 1 false (typed.Convert (value_of_object (PointerTo (ConstOf (IntTy kind.Int))) 15)))))) ∷
+    -- bo = a
+    (Assign 1 aop.Assign (Name 1 7) (Name 1 32), Some (Node (IntTy kind.Bool) 1 true (typed.Assign (object (IntTy kind.Bool) 0) (Node (IntTy kind.Bool) 1 false (typed.Convert (Node (PointerTo (IntTy kind.Int)) 1 false (typed.ArrayPointer (object (ArrayOf (IntTy kind.Int) (Some 3)) 25)))))))) ∷
+    -- bo = node
+    (Assign 1 aop.Assign (Name 1 7) (Name 1 44), None) ∷
+    -- l = pi
+    (Assign 1 aop.Assign (Name 1 15) (Name 1 21), None) ∷
+    [])
 unfolding type_of_words layouts_of are_compatible
-qualifier_57 = refl
+assigned_pointer_rows = refl
 
--- *pcpi = pi
-qualifier_58 : typed_tree (types (Assign 1 aop.Assign (Unary 1 uop.Indirection (Name 1 31)) (Name 1 21)) context) ≡ None
-unfolding layouts_of are_compatible
-qualifier_58 = refl
-
--- **pcpi = 1
-qualifier_59 : typed_tree (types (Assign 1 aop.Assign (Unary 1 uop.Indirection (Unary 1 uop.Indirection (Name 1 31))) (Number 1 1 true false 0)) context) ≡ Some (Node (IntTy kind.Int) 1 true (typed.Assign (Node (IntTy kind.Int) 1 true (typed.Indirection (Node (PointerTo (IntTy kind.Int)) 1 false (typed.Read (Node (ConstOf (PointerTo (IntTy kind.Int))) 1 true (typed.Indirection (Node (PointerTo (ConstOf (PointerTo (IntTy kind.Int)))) 1 false (typed.Read (Node (PointerTo (ConstOf (PointerTo (IntTy kind.Int)))) 1 true (typed.Object 24)))))))))) (Node (IntTy kind.Int) 1 true (typed.Constant (pos 1)))))
-unfolding layouts_of are_compatible
-qualifier_59 = refl
-
--- build().a = 1
-qualifier_60 : typed_tree (types (Assign 1 aop.Assign (Member 1 (Call 1 (Name 1 59) NoArguments) 32) (Number 1 1 true false 0)) context) ≡ None
+-- Arguments are assigned to parameters (C17 6.5.2.2p2).
+passed_pointer_rows : AreTyped context (
+    -- keep(ci, cpi)
+    (Call 1 (Name 1 68) (Argument (Argument NoArguments (Name 1 19)) (Name 1 23)), Some (Node (IntTy kind.Int) 1 true (typed.Call 10 (More (Node (IntTy kind.Int) 1 false (typed.Read (object (ConstOf (IntTy kind.Int)) 12))) (More (Node (PointerTo (IntTy kind.Int)) 1 false (typed.Read (object (ConstOf (PointerTo (IntTy kind.Int))) 16))) NoMore))))) ∷
+    -- keep(i, pci)
+    (Call 1 (Name 1 68) (Argument (Argument NoArguments (Name 1 13)) (Name 1 22)), None) ∷
+    -- find(&ci)
+    (Call 1 (Name 1 65) (Argument NoArguments (Unary 1 uop.Address (Name 1 19))), Some (Node (PointerTo (IntTy kind.Int)) 1 true (typed.Call 7 (More (Node (PointerTo (ConstOf (IntTy kind.Int))) 1 true (typed.Address (object (ConstOf (IntTy kind.Int)) 12))) NoMore)))) ∷
+    -- find(ca)
+    (Call 1 (Name 1 65) (Argument NoArguments (Name 1 33)), Some (Node (PointerTo (IntTy kind.Int)) 1 true (typed.Call 7 (More (Node (PointerTo (ConstOf (IntTy kind.Int))) 1 false (typed.ArrayPointer (object (ArrayOf (ConstOf (IntTy kind.Int)) (Some 2)) 26))) NoMore)))) ∷
+    [])
 unfolding layouts_of are_compatible library_named
-qualifier_60 = refl
-
--- make(1).x++
-qualifier_61 : typed_tree (types (PostIncrement 1 (Member 1 (Call 1 (Name 1 58) (Argument NoArguments (Number 1 1 true false 0))) 95)) context) ≡ None
-unfolding layouts_of are_compatible library_named
-qualifier_61 = refl
-
--- build().b
-qualifier_62 : typed_tree (types (Member 1 (Call 1 (Name 1 59) NoArguments) 93) context) ≡ None
-unfolding layouts_of are_compatible library_named
-qualifier_62 = refl
-
--- build().c
-qualifier_63 : typed_tree (types (Member 1 (Call 1 (Name 1 59) NoArguments) 94) context) ≡ Some (Node (IntTy kind.Int) 1 true (typed.MemberOfValue (Node (StructTag 0) 1 true (typed.Call 1 NoMore)) 8))
-unfolding layouts_of are_compatible library_named
-qualifier_63 = refl
-
--- build().a
-qualifier_64 : typed_tree (types (Member 1 (Call 1 (Name 1 59) NoArguments) 32) context) ≡ Some (Node (IntTy kind.Int) 1 true (typed.MemberOfValue (Node (StructTag 0) 1 true (typed.Call 1 NoMore)) 0))
-unfolding layouts_of are_compatible library_named
-qualifier_64 = refl
-
--- make(2).next->x = 3
-qualifier_65 : typed_tree (types (Assign 1 aop.Assign (Arrow 1 (Member 1 (Call 1 (Name 1 58) (Argument NoArguments (Number 1 2 true false 0))) 96) 95) (Number 1 3 true false 0)) context) ≡ Some (Node (IntTy kind.Int) 1 true (typed.Assign (Node (IntTy kind.Int) 1 true (typed.Arrow (Node (PointerTo (StructTag 1)) 1 true (typed.MemberOfValue (Node (StructTag 1) 1 true (typed.Call 0 (More (Node (IntTy kind.Int) 1 true (typed.Constant (pos 2))) NoMore))) 8)) 0)) (Node (IntTy kind.Int) 1 true (typed.Constant (pos 3)))))
-unfolding layouts_of are_compatible library_named
-qualifier_65 = refl
-
--- unite().bytes
-qualifier_66 : typed_tree (types (Member 1 (Call 1 (Name 1 60) NoArguments) 100) context) ≡ None
-unfolding layouts_of are_compatible library_named
-qualifier_66 = refl
-
--- unite().i
-qualifier_67 : typed_tree (types (Member 1 (Call 1 (Name 1 60) NoArguments) 13) context) ≡ Some (Node (IntTy kind.Int) 1 true (typed.MemberOfValue (Node (UnionTag 5) 1 true (typed.Call 2 NoMore)) 0))
-unfolding layouts_of are_compatible library_named
-qualifier_67 = refl
-
--- m[1] = a
-qualifier_68 : typed_tree (types (Assign 1 aop.Assign (Index 1 (Name 1 34) (Number 1 1 true false 0)) (Name 1 32)) context) ≡ None
-unfolding layouts_of are_compatible
-qualifier_68 = refl
-
--- *pv = i
-qualifier_69 : typed_tree (types (Assign 1 aop.Assign (Unary 1 uop.Indirection (Name 1 24)) (Name 1 13)) context) ≡ None
-unfolding layouts_of are_compatible
-qualifier_69 = refl
-
--- A = 1
-qualifier_70 : typed_tree (types (Assign 1 aop.Assign (Name 1 0) (Number 1 1 true false 0)) context) ≡ None
-unfolding layouts_of are_compatible
-qualifier_70 = refl
-
--- "abc"[1] = 'x'
-qualifier_71 : typed_tree (types (Assign 1 aop.Assign (Index 1 (Text 1 4 0) (Number 1 1 true false 0)) (Character 1 (pos 120))) context) ≡ Some (Node (IntTy kind.Char) 1 true (typed.Assign (Node (IntTy kind.Char) 1 true (typed.Subscript (Node (PointerTo (IntTy kind.Char)) 1 false (typed.ArrayPointer (Node (ArrayOf (IntTy kind.Char) (Some 4)) 1 true (typed.String 0)))) (Node (IntTy kind.Int) 1 true (typed.Constant (pos 1))))) (Node (IntTy kind.Char) 1 false (typed.Convert (Node (IntTy kind.Int) 1 true (typed.Constant (pos 120)))))))
-unfolding layouts_of are_compatible
-qualifier_71 = refl
-
--- pci = &ci
-qualifier_72 : typed_tree (types (Assign 1 aop.Assign (Name 1 22) (Unary 1 uop.Address (Name 1 19))) context) ≡ Some (Node (PointerTo (ConstOf (IntTy kind.Int))) 1 true (typed.Assign (Node (PointerTo (ConstOf (IntTy kind.Int))) 1 true (typed.Object 15)) (Node (PointerTo (ConstOf (IntTy kind.Int))) 1 true (typed.Address (Node (ConstOf (IntTy kind.Int)) 1 true (typed.Object 12))))))
-unfolding layouts_of are_compatible
-qualifier_72 = refl
-
--- pi = &ci
-qualifier_73 : typed_tree (types (Assign 1 aop.Assign (Name 1 21) (Unary 1 uop.Address (Name 1 19))) context) ≡ None
-unfolding layouts_of are_compatible
-qualifier_73 = refl
-
--- pi = (int *)&ci
-qualifier_74 : typed_tree (types (Assign 1 aop.Assign (Name 1 21) (Cast 1 (TypeName 1 (Then NoTrees (OfSpecifier (Keyword 1 word.Int))) (Present (OfDeclarator (AbstractPointer 1 0 Absent)))) (Unary 1 uop.Address (Name 1 19)))) context) ≡ Some (Node (PointerTo (IntTy kind.Int)) 1 true (typed.Assign (Node (PointerTo (IntTy kind.Int)) 1 true (typed.Object 14)) (Node (PointerTo (IntTy kind.Int)) 1 true (typed.Cast (Node (PointerTo (ConstOf (IntTy kind.Int))) 1 true (typed.Address (Node (ConstOf (IntTy kind.Int)) 1 true (typed.Object 12))))))))
-unfolding type_of_words layouts_of are_compatible
-qualifier_74 = refl
-
--- pi = ca
-qualifier_75 : typed_tree (types (Assign 1 aop.Assign (Name 1 21) (Name 1 33)) context) ≡ None
-unfolding layouts_of are_compatible
-qualifier_75 = refl
-
--- pci = ca
-qualifier_76 : typed_tree (types (Assign 1 aop.Assign (Name 1 22) (Name 1 33)) context) ≡ Some (Node (PointerTo (ConstOf (IntTy kind.Int))) 1 true (typed.Assign (Node (PointerTo (ConstOf (IntTy kind.Int))) 1 true (typed.Object 15)) (Node (PointerTo (ConstOf (IntTy kind.Int))) 1 false (typed.ArrayPointer (Node (ArrayOf (ConstOf (IntTy kind.Int)) (Some 2)) 1 true (typed.Object 26))))))
-unfolding layouts_of are_compatible
-qualifier_76 = refl
-
--- ppci = ppi
-qualifier_77 : typed_tree (types (Assign 1 aop.Assign (Name 1 30) (Name 1 29)) context) ≡ None
-unfolding layouts_of are_compatible
-qualifier_77 = refl
-
--- pcpi = ppi
-qualifier_78 : typed_tree (types (Assign 1 aop.Assign (Name 1 31) (Name 1 29)) context) ≡ Some (Node (PointerTo (ConstOf (PointerTo (IntTy kind.Int)))) 1 true (typed.Assign (Node (PointerTo (ConstOf (PointerTo (IntTy kind.Int)))) 1 true (typed.Object 24)) (Node (PointerTo (ConstOf (PointerTo (IntTy kind.Int)))) 1 false (typed.Convert (Node (PointerTo (PointerTo (IntTy kind.Int))) 1 false (typed.Read (Node (PointerTo (PointerTo (IntTy kind.Int))) 1 true (typed.Object 22))))))))
-unfolding layouts_of are_compatible
-qualifier_78 = refl
-
--- ppi = pcpi
-qualifier_79 : typed_tree (types (Assign 1 aop.Assign (Name 1 29) (Name 1 31)) context) ≡ None
-unfolding layouts_of are_compatible
-qualifier_79 = refl
-
--- ppi = &cpi
-qualifier_80 : typed_tree (types (Assign 1 aop.Assign (Name 1 29) (Unary 1 uop.Address (Name 1 23))) context) ≡ None
-unfolding layouts_of are_compatible
-qualifier_80 = refl
-
--- pcpi = &cpi
-qualifier_81 : typed_tree (types (Assign 1 aop.Assign (Name 1 31) (Unary 1 uop.Address (Name 1 23))) context) ≡ Some (Node (PointerTo (ConstOf (PointerTo (IntTy kind.Int)))) 1 true (typed.Assign (Node (PointerTo (ConstOf (PointerTo (IntTy kind.Int)))) 1 true (typed.Object 24)) (Node (PointerTo (ConstOf (PointerTo (IntTy kind.Int)))) 1 true (typed.Address (Node (ConstOf (PointerTo (IntTy kind.Int))) 1 true (typed.Object 16))))))
-unfolding layouts_of are_compatible
-qualifier_81 = refl
-
--- pca3 = pa3
-qualifier_82 : typed_tree (types (Assign 1 aop.Assign (Name 1 40) (Name 1 38)) context) ≡ None
-unfolding layouts_of are_compatible
-qualifier_82 = refl
-
--- pa3 = &a
-qualifier_83 : typed_tree (types (Assign 1 aop.Assign (Name 1 38) (Unary 1 uop.Address (Name 1 32))) context) ≡ Some (Node (PointerTo (ArrayOf (IntTy kind.Int) (Some 3))) 1 true (typed.Assign (Node (PointerTo (ArrayOf (IntTy kind.Int) (Some 3))) 1 true (typed.Object 31)) (Node (PointerTo (ArrayOf (IntTy kind.Int) (Some 3))) 1 true (typed.Address (Node (ArrayOf (IntTy kind.Int) (Some 3)) 1 true (typed.Object 25))))))
-unfolding layouts_of are_compatible
-qualifier_83 = refl
-
--- pa3 = m
-qualifier_84 : typed_tree (types (Assign 1 aop.Assign (Name 1 38) (Name 1 34)) context) ≡ Some (Node (PointerTo (ArrayOf (IntTy kind.Int) (Some 3))) 1 true (typed.Assign (Node (PointerTo (ArrayOf (IntTy kind.Int) (Some 3))) 1 true (typed.Object 31)) (Node (PointerTo (ArrayOf (IntTy kind.Int) (Some 3))) 1 false (typed.ArrayPointer (Node (ArrayOf (ArrayOf (IntTy kind.Int) (Some 3)) (Some 2)) 1 true (typed.Object 27))))))
-unfolding layouts_of are_compatible
-qualifier_84 = refl
-
--- pa3 = cm
-qualifier_85 : typed_tree (types (Assign 1 aop.Assign (Name 1 38) (Name 1 35)) context) ≡ None
-unfolding layouts_of are_compatible
-qualifier_85 = refl
-
--- pca3 = cm
-qualifier_86 : typed_tree (types (Assign 1 aop.Assign (Name 1 40) (Name 1 35)) context) ≡ Some (Node (PointerTo (ArrayOf (ConstOf (IntTy kind.Int)) (Some 3))) 1 true (typed.Assign (Node (PointerTo (ArrayOf (ConstOf (IntTy kind.Int)) (Some 3))) 1 true (typed.Object 33)) (Node (PointerTo (ArrayOf (ConstOf (IntTy kind.Int)) (Some 3))) 1 false (typed.ArrayPointer (Node (ArrayOf (ArrayOf (ConstOf (IntTy kind.Int)) (Some 3)) (Some 2)) 1 true (typed.Object 28))))))
-unfolding layouts_of are_compatible
-qualifier_86 = refl
-
--- pa3 = &open
-qualifier_87 : typed_tree (types (Assign 1 aop.Assign (Name 1 38) (Unary 1 uop.Address (Name 1 56))) context) ≡ Some (Node (PointerTo (ArrayOf (IntTy kind.Int) (Some 3))) 1 true (typed.Assign (Node (PointerTo (ArrayOf (IntTy kind.Int) (Some 3))) 1 true (typed.Object 31)) (Node (PointerTo (ArrayOf (IntTy kind.Int) (Some 3))) 1 false (typed.Convert (Node (PointerTo (ArrayOf (IntTy kind.Int) None)) 1 true (typed.Address (Node (ArrayOf (IntTy kind.Int) None) 1 true (typed.Object 49))))))))
-unfolding layouts_of are_compatible
-qualifier_87 = refl
-
--- pa4 = &open
-qualifier_88 : typed_tree (types (Assign 1 aop.Assign (Name 1 39) (Unary 1 uop.Address (Name 1 56))) context) ≡ Some (Node (PointerTo (ArrayOf (IntTy kind.Int) (Some 4))) 1 true (typed.Assign (Node (PointerTo (ArrayOf (IntTy kind.Int) (Some 4))) 1 true (typed.Object 32)) (Node (PointerTo (ArrayOf (IntTy kind.Int) (Some 4))) 1 false (typed.Convert (Node (PointerTo (ArrayOf (IntTy kind.Int) None)) 1 true (typed.Address (Node (ArrayOf (IntTy kind.Int) None) 1 true (typed.Object 49))))))))
-unfolding layouts_of are_compatible
-qualifier_88 = refl
-
--- pa4 = &a
-qualifier_89 : typed_tree (types (Assign 1 aop.Assign (Name 1 39) (Unary 1 uop.Address (Name 1 32))) context) ≡ None
-unfolding layouts_of are_compatible
-qualifier_89 = refl
-
--- pv = pci
-qualifier_90 : typed_tree (types (Assign 1 aop.Assign (Name 1 24) (Name 1 22)) context) ≡ None
-unfolding layouts_of are_compatible
-qualifier_90 = refl
-
--- pcv = pci
-qualifier_91 : typed_tree (types (Assign 1 aop.Assign (Name 1 25) (Name 1 22)) context) ≡ Some (Node (PointerTo (ConstOf VoidTy)) 1 true (typed.Assign (Node (PointerTo (ConstOf VoidTy)) 1 true (typed.Object 18)) (Node (PointerTo (ConstOf VoidTy)) 1 false (typed.Convert (Node (PointerTo (ConstOf (IntTy kind.Int))) 1 false (typed.Read (Node (PointerTo (ConstOf (IntTy kind.Int))) 1 true (typed.Object 15))))))))
-unfolding layouts_of are_compatible
-qualifier_91 = refl
-
--- pv = ppci
-qualifier_92 : typed_tree (types (Assign 1 aop.Assign (Name 1 24) (Name 1 30)) context) ≡ Some (Node (PointerTo VoidTy) 1 true (typed.Assign (Node (PointerTo VoidTy) 1 true (typed.Object 17)) (Node (PointerTo VoidTy) 1 false (typed.Convert (Node (PointerTo (PointerTo (ConstOf (IntTy kind.Int)))) 1 false (typed.Read (Node (PointerTo (PointerTo (ConstOf (IntTy kind.Int)))) 1 true (typed.Object 23))))))))
-unfolding layouts_of are_compatible
-qualifier_92 = refl
-
--- pc = pcc
-qualifier_93 : typed_tree (types (Assign 1 aop.Assign (Name 1 26) (Name 1 27)) context) ≡ None
-unfolding layouts_of are_compatible
-qualifier_93 = refl
-
--- pcc = pc
-qualifier_94 : typed_tree (types (Assign 1 aop.Assign (Name 1 27) (Name 1 26)) context) ≡ Some (Node (PointerTo (ConstOf (IntTy kind.Char))) 1 true (typed.Assign (Node (PointerTo (ConstOf (IntTy kind.Char))) 1 true (typed.Object 20)) (Node (PointerTo (ConstOf (IntTy kind.Char))) 1 false (typed.Convert (Node (PointerTo (IntTy kind.Char)) 1 false (typed.Read (Node (PointerTo (IntTy kind.Char)) 1 true (typed.Object 19))))))))
-unfolding layouts_of are_compatible
-qualifier_94 = refl
-
--- pcc = "abc"
-qualifier_95 : typed_tree (types (Assign 1 aop.Assign (Name 1 27) (Text 1 4 0)) context) ≡ Some (Node (PointerTo (ConstOf (IntTy kind.Char))) 1 true (typed.Assign (Node (PointerTo (ConstOf (IntTy kind.Char))) 1 true (typed.Object 20)) (Node (PointerTo (ConstOf (IntTy kind.Char))) 1 false (typed.Convert (Node (PointerTo (IntTy kind.Char)) 1 false (typed.ArrayPointer (Node (ArrayOf (IntTy kind.Char) (Some 4)) 1 true (typed.String 0))))))))
-unfolding layouts_of are_compatible
-qualifier_95 = refl
-
--- pc = "abc"
-qualifier_96 : typed_tree (types (Assign 1 aop.Assign (Name 1 26) (Text 1 4 0)) context) ≡ Some (Node (PointerTo (IntTy kind.Char)) 1 true (typed.Assign (Node (PointerTo (IntTy kind.Char)) 1 true (typed.Object 19)) (Node (PointerTo (IntTy kind.Char)) 1 false (typed.ArrayPointer (Node (ArrayOf (IntTy kind.Char) (Some 4)) 1 true (typed.String 0))))))
-unfolding layouts_of are_compatible
-qualifier_96 = refl
-
--- pui = pi
-qualifier_97 : typed_tree (types (Assign 1 aop.Assign (Name 1 28) (Name 1 21)) context) ≡ None
-unfolding layouts_of are_compatible
-qualifier_97 = refl
-
--- pn = &cnode
-qualifier_98 : typed_tree (types (Assign 1 aop.Assign (Name 1 46) (Unary 1 uop.Address (Name 1 45))) context) ≡ None
-unfolding layouts_of are_compatible
-qualifier_98 = refl
-
--- pcn = &node
-qualifier_99 : typed_tree (types (Assign 1 aop.Assign (Name 1 47) (Unary 1 uop.Address (Name 1 44))) context) ≡ Some (Node (PointerTo (ConstOf (StructTag 1))) 1 true (typed.Assign (Node (PointerTo (ConstOf (StructTag 1))) 1 true (typed.Object 40)) (Node (PointerTo (ConstOf (StructTag 1))) 1 false (typed.Convert (Node (PointerTo (StructTag 1)) 1 true (typed.Address (Node (StructTag 1) 1 true (typed.Object 37))))))))
-unfolding layouts_of are_compatible
-qualifier_99 = refl
-
--- bo = pci
-qualifier_100 : typed_tree (types (Assign 1 aop.Assign (Name 1 7) (Name 1 22)) context) ≡ Some (Node (IntTy kind.Bool) 1 true (typed.Assign (Node (IntTy kind.Bool) 1 true (typed.Object 0)) (Node (IntTy kind.Bool) 1 false (typed.Convert (Node (PointerTo (ConstOf (IntTy kind.Int))) 1 false (typed.Read (Node (PointerTo (ConstOf (IntTy kind.Int))) 1 true (typed.Object 15))))))))
-unfolding layouts_of are_compatible
-qualifier_100 = refl
-
--- bo = a
-qualifier_101 : typed_tree (types (Assign 1 aop.Assign (Name 1 7) (Name 1 32)) context) ≡ Some (Node (IntTy kind.Bool) 1 true (typed.Assign (Node (IntTy kind.Bool) 1 true (typed.Object 0)) (Node (IntTy kind.Bool) 1 false (typed.Convert (Node (PointerTo (IntTy kind.Int)) 1 false (typed.ArrayPointer (Node (ArrayOf (IntTy kind.Int) (Some 3)) 1 true (typed.Object 25))))))))
-unfolding layouts_of are_compatible
-qualifier_101 = refl
-
--- bo = node
-qualifier_102 : typed_tree (types (Assign 1 aop.Assign (Name 1 7) (Name 1 44)) context) ≡ None
-unfolding layouts_of are_compatible
-qualifier_102 = refl
-
--- l = pi
-qualifier_103 : typed_tree (types (Assign 1 aop.Assign (Name 1 15) (Name 1 21)) context) ≡ None
-unfolding layouts_of are_compatible
-qualifier_103 = refl
-
--- keep(ci, cpi)
-qualifier_104 : typed_tree (types (Call 1 (Name 1 68) (Argument (Argument NoArguments (Name 1 19)) (Name 1 23))) context) ≡ Some (Node (IntTy kind.Int) 1 true (typed.Call 10 (More (Node (IntTy kind.Int) 1 false (typed.Read (Node (ConstOf (IntTy kind.Int)) 1 true (typed.Object 12)))) (More (Node (PointerTo (IntTy kind.Int)) 1 false (typed.Read (Node (ConstOf (PointerTo (IntTy kind.Int))) 1 true (typed.Object 16)))) NoMore))))
-unfolding layouts_of are_compatible library_named
-qualifier_104 = refl
-
--- keep(i, pci)
-qualifier_105 : typed_tree (types (Call 1 (Name 1 68) (Argument (Argument NoArguments (Name 1 13)) (Name 1 22))) context) ≡ None
-unfolding layouts_of are_compatible library_named
-qualifier_105 = refl
-
--- find(&ci)
-qualifier_106 : typed_tree (types (Call 1 (Name 1 65) (Argument NoArguments (Unary 1 uop.Address (Name 1 19)))) context) ≡ Some (Node (PointerTo (IntTy kind.Int)) 1 true (typed.Call 7 (More (Node (PointerTo (ConstOf (IntTy kind.Int))) 1 true (typed.Address (Node (ConstOf (IntTy kind.Int)) 1 true (typed.Object 12)))) NoMore)))
-unfolding layouts_of are_compatible library_named
-qualifier_106 = refl
-
--- find(ca)
-qualifier_107 : typed_tree (types (Call 1 (Name 1 65) (Argument NoArguments (Name 1 33))) context) ≡ Some (Node (PointerTo (IntTy kind.Int)) 1 true (typed.Call 7 (More (Node (PointerTo (ConstOf (IntTy kind.Int))) 1 false (typed.ArrayPointer (Node (ArrayOf (ConstOf (IntTy kind.Int)) (Some 2)) 1 true (typed.Object 26)))) NoMore)))
-unfolding layouts_of are_compatible library_named
-qualifier_107 = refl
+passed_pointer_rows = refl

@@ -16,10 +16,13 @@ more (Some a) (Some rest) = Some (a ∷ rest)
 more _ _ = None
 
 -- 6.5.2.2p6 and p7: an argument beyond the parameters is promoted
+-- worked: further_argument_rows (proofs/FormatExamples)
 abbrev pub further : TypedTree → Option TypedTree
 further a = if is_void (type_of a) then None else Some (promoted_value a)
 
 -- 6.5.2.2p2 and p7: as many arguments as parameters, each as if assigned to its parameter, and further ones where the function takes them
+-- worked: function_call_rows (proofs/FurtherExamples); call_operand_rows (proofs/OperandExamples); passed_pointer_rows
+--   (proofs/QualifierExamples); passed_null_pointer_rows (proofs/ConstantExamples)
 abbrev pub passed : Tys → (variadic : Bool) → List TypedTree → Option (List TypedTree)
 passed NoTys variadic [] = Some []
 passed NoTys true (a ∷ rest) = more (further a) (passed NoTys true rest)
@@ -44,12 +47,15 @@ is_format_literal u (Some l) = is_format (literal_at u l).bytes
 is_format_literal u None = false
 
 -- 7.21.6.1p8: the format of `printf` is a string literal of conversions that the profile has
+-- worked: format_literal_rows, called_printf_rows (proofs/FormatExamples)
 abbrev pub may_pass : WholeUnit → Library → List TypedTree → Bool
 may_pass u library.Printf (Node t line turn x ∷ rest) = is_format_literal u (literal_in x)
 may_pass u library.Printf [] = false
 may_pass u f args = true
 
 -- 7.1.4p1: a call of a function of the library
+-- worked: library_call_rows (proofs/FurtherExamples); memory_function_rows, block_function_rows, string_function_rows,
+--   ending_function_rows (proofs/LibraryExamples)
 abbrev pub library_call : WholeUnit → ℕ → Library → Ty → Option (List TypedTree) → Option TypedTree
 library_call u line f t None = None
 library_call u line f t (Some args) = if may_pass u f args then Some (written line t (LibraryCall f (arguments_of args))) else None
@@ -64,11 +70,16 @@ abbrev pub called : WholeUnit → ℕ → ℕ → Option Library → Ty → Opti
 called u line f (Some l) t args = library_call u line l t args
 called u line f None t args = program_call line f t args
 
+-- 6.5.2.2p5: the same, of a function by its number: its name says whether it is one of the library (7.1.3p1)
+abbrev pub called_by_name : WholeUnit → ℕ → ℕ → Ty → Option (List TypedTree) → Option TypedTree
+called_by_name u line f t args = called u line f (library_named (name_at u (function_at u f).name)) t args
+
 -- 6.5.2.2p1 and p5: the function returns void or a complete object type, which the call has
+-- worked: incomplete_result_rows (proofs/IncompleteExamples)
 abbrev pub call_at : WholeUnit → ℕ → ℕ → Ty → List TypedTree → Option TypedTree
 call_at u line f (FunctionTy t ts variadic) args =
     if is_void t || is_complete_in (layouts u) t
-    then called u line f (library_named (name_at u (function_at u f).name)) t (passed ts variadic args)
+    then called_by_name u line f t (passed ts variadic args)
     else None
 call_at u line f t args = None
 

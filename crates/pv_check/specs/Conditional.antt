@@ -15,18 +15,21 @@ pointer_to const t = PointerTo (qualified_if const t)
 
 -- 6.5.15p6: what two pointers that are no null pointer constants give: a pointer to the composite type, or to void where one
 -- points to void, with the qualifiers of both
+-- worked: composite_of_pointers_rows (proofs/ConditionalExamples)
 abbrev pub merged : Ty → Ty → Option Ty
 merged t u =
     if are_alike t u then Some (pointer_to (is_const t || is_const u) (composite (unqualified t) (unqualified u)))
     else (if is_void t || is_void u then Some (pointer_to (is_const t || is_const u) VoidTy) else None)
 
 -- 6.5.15p6: with a null pointer constant, the type of the other operand; two of pointer type are two pointers
+-- worked: chosen_pointer_rows, chosen_void_pointer_rows, chosen_null_pointer_rows (proofs/ConditionalExamples)
 abbrev pub pointer_type : Ty → Ty → (left right : Bool) → Option Ty
 pointer_type t u false true = Some (PointerTo t)
 pointer_type t u true false = Some (PointerTo u)
 pointer_type t u left right = merged t u
 
 -- 6.5.15p3 and p5: what two that are no pointers give: two integers, two of type void, two of one structure or union
+-- worked: chosen_structure_rows (proofs/ConditionalExamples)
 abbrev pub plain_type : Ty → Ty → Option Ty
 plain_type (IntTy k) (IntTy l) = Some (IntTy (common k l))
 plain_type VoidTy VoidTy = Some VoidTy
@@ -42,12 +45,16 @@ result_type (PointerTo t) u left true = Some (PointerTo t)
 result_type t (PointerTo u) true right = Some (PointerTo u)
 result_type t u left right = plain_type t u
 
+-- 6.5.15p3, p5 and p6: the type of the result, by the second and the third operand
+abbrev pub type_of_chosen : TypedTree → TypedTree → Option Ty
+type_of_chosen b c = result_type (type_of b) (type_of c) (is_null_constant b) (is_null_constant c)
+
 -- 6.5.15p5 and p6: the node, where there is a type of the result, to which both operands are converted
 abbrev pub chosen : ℕ → TypedTree → TypedTree → TypedTree → Option Ty → Option TypedTree
 chosen line a b c (Some t) = Some (written line t (Conditional a (converted t b) (converted t c)))
 chosen line a b c None = None
 
 -- 6.5.15p2 and p3: the first operand is a scalar, and the others go together
+-- worked: conditional_rows (proofs/FurtherExamples); chosen_integer_rows (proofs/ConditionalExamples)
 abbrev pub conditional_of : ℕ → TypedTree → TypedTree → TypedTree → Option TypedTree
-conditional_of line a b c =
-    if is_scalar (type_of a) then chosen line a b c (result_type (type_of b) (type_of c) (is_null_constant b) (is_null_constant c)) else None
+conditional_of line a b c = if is_scalar (type_of a) then chosen line a b c (type_of_chosen b c) else None

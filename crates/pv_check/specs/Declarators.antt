@@ -3,15 +3,18 @@ use Rattle.std.specs.Prelude.{◌<◌, ℕ, Bool, Some, None, IfSome, List, [], 
 use Rattle.std.specs.declared.option.Option.{Option}
 use Rattle.std.specs.declared.vec.Vec.{Vec}
 use Rattle.std.specs.declared.alloc.Global.{Global}
+use Rattle.pv_types.specs.declared.terms.TypeId.{TypeId}
 use Rattle.pv_types.specs.Known.{Known, tree}
 use Rattle.pv_typed.specs.Children.{Each}
 use Rattle.pv_typed.specs.Tables.{Stored}
 use Rattle.pv_check.specs.declared.declarators.Steps.{Steps}
+use Rattle.pv_check.specs.declared.derivations.Step.{Step}
 use Rattle.pv_check.specs.declared.parameters.Parameter.{Parameter}
 use Rattle.pv_check.specs.declared.parameters.Signature.{Signature}
-use Rattle.pv_check.specs.Derivations.{Parameter as WholeParameter, Signature as WholeSignature, Steps as WholeSteps}
+use Rattle.pv_check.specs.Derivations.{Parameter as WholeParameter, Signature as WholeSignature, Steps as WholeSteps, with_parameter}
 use Rattle.pv_check.specs.Open.{state_of, ScopeKnown}
 use Rattle.pv_check.specs.Raw.{Raw, raw_of, scope_shown}
+use Rattle.pv_check.specs.Rows.{parameter_of}
 use Rattle.pv_check.specs.State.{After}
 use Rattle.pv_check.specs.Stepping.{steps_in, AreSteps}
 
@@ -40,6 +43,28 @@ steps_shown m x = record { list = steps_in m x.list.items; signature = signature
 abbrev pub after_steps : List (List ℕ) → Bool → Raw → Stored → Option Steps → Option (After WholeSteps)
 after_steps texts u s m None = None
 after_steps texts u s m (Some x) = Some (record { value = steps_shown m.known x; state = state_of texts u s m })
+
+-- the steps of a declarator (6.7.6) with what the nearest list of parameters says, and the state after them
+abbrev pub steps_after : List (List ℕ) → Bool → Raw → Stored → List Step → Option WholeSignature → After WholeSteps
+steps_after texts u s m steps g = record { value = record { list = steps_in m.known steps; signature = g }; state = state_of texts u s m }
+
+-- the parameters of a list (6.7.6.3), and the state after them
+abbrev pub parameters_after : List (List ℕ) → Bool → Raw → Stored → List Parameter → After (List WholeParameter)
+parameters_after texts u s m ps = record { value = parameters_shown m.known ps; state = state_of texts u s m }
+
+-- one parameter more behind others, by its type (6.7.6.3p7)
+abbrev pub with_parameter_of_type : List (List ℕ) → Bool → Raw → Stored → List WholeParameter → Option (ℕ × ℕ) → TypeId →
+    Option (After (List WholeParameter))
+with_parameter_of_type texts u s m ps name t = with_parameter ps name (state_of texts u s m) (tree m.known t.0)
+
+-- one parameter more behind others, by the type that its specifiers name and the steps of its declarator (6.7.6.3p7)
+abbrev pub parameter_from : List (List ℕ) → Bool → Raw → Stored → Option (ℕ × ℕ) → TypeId → List WholeParameter → List Step →
+    Option WholeSignature → Option (After (List WholeParameter))
+parameter_from texts u s m name base ps steps g = parameter_of name (tree m.known base.0) ps (steps_after texts u s m steps g)
+
+-- a value, and the state after it
+abbrev pub value_after : {A : Type 0} → List (List ℕ) → Bool → Raw → Stored → A → After A
+value_after texts u s m x = record { value = x; state = state_of texts u s m }
 
 -- a value that the code answers, and the state after it
 abbrev pub after_value : {A : Type 0} → List (List ℕ) → Bool → Raw → Stored → Option A → Option (After A)

@@ -36,4 +36,5 @@ pub mod SeenAfter
 pub mod MembersRead
 pub mod Passing
 pub mod ListedRows
+pub mod Operands
 pub mod Forms

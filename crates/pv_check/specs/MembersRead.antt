@@ -24,6 +24,10 @@ abbrev pub after_members : List (List ℕ) → Bool → Raw → Stored → Optio
 after_members texts u s m None = None
 after_members texts u s m (Some ms) = Some (record { value = members_shown m.known ms; state = state_of texts u s m })
 
+-- members that were read before, and the state after them
+abbrev pub members_after : List (List ℕ) → Bool → Raw → Stored → MemberList → After (List Named)
+members_after texts u s m ms = record { value = members_shown m.known ms; state = state_of texts u s m }
+
 -- 6.7.2.1p3, 6.2.3p1: their types are complete, and their names differ and are these
 pub record AreMembers (m : Known) (ms : MemberList) : Type 0 where
   pub types : MembersBelow (length m.terms) ms.list.items

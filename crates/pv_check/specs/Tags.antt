@@ -37,11 +37,13 @@ composite_named union n (Some (CompositeTag u k)) s = if beq u union then give (
 composite_named union n (Some _) s = None
 
 -- 6.7.2.3p3: `enum n` stands behind its enumerators alone
+-- worked: enumeration_tag_rows (proofs/TagExamples)
 abbrev pub enumeration_named : Option TagMeaning → State → Option (After Ty)
 enumeration_named (Some EnumerationTag) s = give (Some (IntTy kind.Int)) s
 enumeration_named _ s = None
 
 -- 6.7.2.3p3, p8, p9: a word and a tag, without a list
+-- worked: known_tag_rows (proofs/TagExamples)
 abbrev pub tag_named : Word → ℕ → State → Option (After Ty)
 tag_named word.Struct n s = composite_named false n (look_tag s.scopes n) s
 tag_named word.Union n s = composite_named true n (look_tag s.scopes n) s
@@ -75,6 +77,7 @@ is_new_member n [] = true
 is_new_member n (m ∷ ms) = not (m.name == n) && is_new_member n ms
 
 -- 6.7.2.1p3: a member has a complete object type; 6.2.3p1: the members' names differ
+-- worked: declared_member_rows (proofs/TagExamples)
 abbrev pub with_member : State → List Named → ℕ → Ty → Option (List Named)
 with_member s ms n t = if is_complete_in (env s) t && is_new_member n ms then Some (ms ++ (record { name = n; t = t } ∷ [])) else None
 
@@ -100,6 +103,7 @@ abbrev pub some_members : After (List Named) → Option (After (List Named))
 some_members a = if nat_lt 0 (length a.value) then Some a else None
 
 -- 6.7.2.1p8: the type is complete from the `}` on; none of its members' specifiers completed it
+-- worked: declared_structure_rows (proofs/TagExamples)
 abbrev pub completed : Bool → Option ℕ → ℕ → List Named → State → Option (After Ty)
 completed union n k ms s = if is_open s k then sized_tag n (tag_type union k) (with_done union k ms s) else None
 
@@ -118,5 +122,6 @@ abbrev pub may_enumerate : ℕ → ℤ → State → Bool
 may_enumerate n k s = fits_of kind.Int k && not (is_file_scope s && is_main s.unit.names (n + 2))
 
 -- 6.7.2.2p3: an enumerator, and the value that the next one has without its own
+-- worked: declared_enumerator_rows, enumerator_value_rows (proofs/TagExamples)
 abbrev pub enumerated : ℕ → ℤ → State → Option (After ℤ)
 enumerated n k s = if may_enumerate n k s then and_then (declare n (ConstantOf k) s) (give (Some (k +ℤ pos 1))) else None

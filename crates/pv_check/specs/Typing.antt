@@ -46,6 +46,7 @@ abbrev mutual
   arguments (Argument before last) s = and_then (arguments before s) (λ l. and_then (operand (types last l.state)) (with_argument l.value))
 
   -- 6.7.7p2: the type that a type name names
+  -- worked: named_type_rows (proofs/FurtherExamples); type_name_rows (proofs/TagExamples)
   pub type_named : DeclarationTree → State → Option (After Ty)
   type_named (TypeName line specs d) s =
       and_then (specifiers specs s) (λ a. and_then (plain a) (λ b. and_then (optional_steps d b.state) (named_type b.value)))
@@ -74,6 +75,7 @@ abbrev mutual
       give (with_type seen (IntTy kind.Int)) (closed_enumeration n e.state)))
 
   -- 6.7.2.1p1: the members of a structure or union
+  -- worked: nested_declaration_rows (proofs/TagExamples)
   pub members : Trees → State → Option (After (List Named))
   members NoTrees s = give (Some []) s
   members (Then before x) s = and_then (members before s) (member_in x)

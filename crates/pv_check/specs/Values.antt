@@ -11,6 +11,7 @@ use Rattle.pv_types.specs.Qualifiers.{has_const}
 use Rattle.pv_typed.specs.Addresses.{is_null_constant}
 
 -- a node of the source (6.5), which takes a turn
+-- worked: line_rows (proofs/OperandExamples)
 abbrev pub written : ℕ → Ty → Form → TypedTree
 written line t x = Node t line true x
 
@@ -25,10 +26,13 @@ read_at env a (ArrayOf t n) = Some (implied (line_of a) (PointerTo t) (ArrayPoin
 read_at env a t = if is_complete_in env t then Some (implied (line_of a) (unqualified t) (Read a)) else None
 
 -- 6.3.2.1p2 and p3: the value of an lvalue, or the expression itself
+-- worked: unqualified_value_rows (proofs/QualifierExamples); incomplete_structure_rows, unknown_size_rows, void_expression_rows
+--   (proofs/IncompleteExamples)
 abbrev pub value_of : List Entry → TypedTree → Option TypedTree
 value_of env a = if is_lvalue a then read_at env a (type_of a) else Some a
 
 -- 6.3.2.1p1: an lvalue that may be changed
+-- worked: modifiable_scalar_rows, modifiable_structure_rows (proofs/QualifierExamples)
 abbrev pub is_modifiable : List Entry → TypedTree → Bool
 is_modifiable env a = is_lvalue a && (not (is_array (type_of a)) && (is_complete_in env (type_of a) && not (has_const env (type_of a))))
 
@@ -46,6 +50,7 @@ abbrev pub promoted_value : TypedTree → TypedTree
 promoted_value a = promotion a (type_of a)
 
 -- 6.5.16.1p1: the left one of two types pointed to has the qualifiers of the right one, and they are compatible or one is void
+-- worked: assigned_pointer_rows (proofs/QualifierExamples)
 abbrev pub may_point : Ty → Ty → Bool
 may_point t u = (is_const t || not (is_const u)) && (are_alike t u || (is_void t || is_void u))
 
@@ -59,6 +64,11 @@ may_assign (StructTag n) u null = same (StructTag n) u
 may_assign (UnionTag n) u null = same (UnionTag n) u
 may_assign _ _ null = false
 
+-- 6.5.16.1p2: the same as assigned, of a value that is a null pointer constant or not (6.3.2.3p3)
+abbrev pub assigned_with : (null : Bool) → Ty → TypedTree → Option TypedTree
+assigned_with null t a = if may_assign (unqualified t) (type_of a) null then Some (converted (unqualified t) a) else None
+
 -- 6.5.16.1p2: a value converted to the unqualified type of what it is assigned to
+-- worked: null_integer_rows, null_void_pointer_rows (proofs/ConstantExamples)
 abbrev pub assigned : Ty → TypedTree → Option TypedTree
-assigned t a = if may_assign (unqualified t) (type_of a) (is_null_constant a) then Some (converted (unqualified t) a) else None
+assigned t a = assigned_with (is_null_constant a) t a

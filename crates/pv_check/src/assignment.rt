@@ -7,7 +7,7 @@ ghost use Rattle.pv_typed.specs.Formed.{AreKnown};
 ghost use Rattle.pv_check.specs.Kept.{Kept, env_of, expression_if};
 ghost use Rattle.pv_types.specs.Ty.{IntTy};
 ghost use Rattle.pv_check.specs.Qualified.{unqualified};
-ghost use Rattle.pv_check.specs.Values.{written, converted, may_point, may_assign};
+ghost use Rattle.pv_check.specs.Values.{written, converted, may_point, may_assign, assigned_with};
 ghost use Rattle.pv_check.specs.Assignment.{assigned_to, compound_at, arithmetic_assign, shift_assign, pointer_assign, comma_of};
 
 use crate::kinds::{common, promoted};
@@ -60,7 +60,7 @@ pub fn assigned_as(
     requires target { t.0 < length into.old.known.terms }
     requires node { IsExpression into.old a }
     ensures node { IfOk result (λ r. IfSome r (λ v. IsExpression into.new v)) }
-    ensures typed { IfOk result (λ r. expression_if into.new r ≡ (if may_assign (unqualified (tree into.old.known t.0)) (type_of (expression_at into.old a)) null then Some (converted (unqualified (tree into.old.known t.0)) (expression_at into.old a)) else None)) }
+    ensures typed { IfOk result (λ r. expression_if into.new r ≡ assigned_with null (tree into.old.known t.0) (expression_at into.old a)) }
     ensures kept { OnOk result (Kept into.old into.new) }
 {
     let plain = unqualified(into.types(), t);

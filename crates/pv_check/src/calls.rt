@@ -7,7 +7,7 @@ ghost use Rattle.pv_typed.specs.Tables.{Stored, whole, expression_at, list_at, I
 ghost use Rattle.pv_typed.specs.TypedTree.{form_of};
 ghost use Rattle.pv_typed.specs.TypedUnits.{function_at, name_at};
 ghost use Rattle.pv_check.specs.Arms.{after_node, OpenIf};
-ghost use Rattle.pv_check.specs.Calls.{further, passed, string_in, literal_in, is_format_literal, may_pass, library_call, program_call, called, call_of};
+ghost use Rattle.pv_check.specs.Calls.{further, passed, string_in, literal_in, is_format_literal, may_pass, library_call, program_call, called, call_of, called_by_name};
 ghost use Rattle.pv_check.specs.Kept.{Kept, expression_if};
 ghost use Rattle.pv_check.specs.Library.{library_named};
 ghost use Rattle.pv_check.specs.Open.{state_of, IsOpen, after_number};
@@ -17,6 +17,7 @@ ghost use Rattle.pv_check.specs.State.{and_then, give, look};
 ghost use Rattle.pv_check.specs.Raw.{scopes_shown};
 ghost use Rattle.pv_tree.specs.Rows.{tables};
 ghost use Rattle.pv_tree.specs.Tables.{Is, is_expression, expression_at as expression_of_node};
+ghost use Rattle.pv_check.specs.Operands.{callee_of};
 
 use crate::formats::{is_format, library_named};
 use crate::names::look_up;
@@ -68,7 +69,7 @@ pub(crate) fn used_callee(
     requires open { IsOpen into.now s.old }
     ensures open { OnOk result (IsOpen into.now s.new) }
     ensures known { IfOk result (λ r. IfSome r (λ f. f < length into.now.functions)) }
-    ensures value { IfOk result (λ r. (texts : List (List ℕ)) (hidden : Bool) → after_number texts hidden s.new into.now r ≡ and_then (callee (state_of texts hidden s.old into.now).scopes (expression_of_node (tables u.now).forest n)) (λ c. give (Some c) (with_callee (state_of texts hidden s.old into.now) c))) }
+    ensures value { IfOk result (λ r. (texts : List (List ℕ)) (hidden : Bool) → after_number texts hidden s.new into.now r ≡ callee_of (expression_of_node (tables u.now).forest n) (state_of texts hidden s.old into.now)) }
 {
     let Some(f) = callee(s, u, into, n) else {
         return Ok(None);
@@ -274,7 +275,7 @@ fn called(
     requires target { t.0 < length into.old.known.terms }
     requires nodes { Each (IsExpression into.old) args.now }
     ensures node { IfOk result (λ r. IfSome r (λ v. IsExpression into.new v)) }
-    ensures typed { IfOk result (λ r. expression_if into.new r ≡ called (whole into.old) line f (library_named (name_at (whole into.old) (function_at (whole into.old) f).name)) (tree into.old.known t.0) (Some (map (expression_at into.old) args.now))) }
+    ensures typed { IfOk result (λ r. expression_if into.new r ≡ called_by_name (whole into.old) line f (tree into.old.known t.0) (Some (map (expression_at into.old) args.now))) }
     ensures kept { OnOk result (Kept into.old into.new) }
 {
     match library_of(into, f) {
@@ -300,7 +301,7 @@ fn call_with(
     requires list { params < length into.old.known.lists }
     requires nodes { Each (IsExpression into.old) args.now }
     ensures node { IfOk result (λ r. IfSome r (λ v. IsExpression into.new v)) }
-    ensures typed { IfOk result (λ r. expression_if into.new r ≡ called (whole into.old) line f (library_named (name_at (whole into.old) (function_at (whole into.old) f).name)) (tree into.old.known t.0) (passed (parameters_at into.old.known params) variadic (map (expression_at into.old) args.now))) }
+    ensures typed { IfOk result (λ r. expression_if into.new r ≡ called_by_name (whole into.old) line f (tree into.old.known t.0) (passed (parameters_at into.old.known params) variadic (map (expression_at into.old) args.now))) }
     ensures kept { OnOk result (Kept into.old into.new) }
 {
     let types = Vec::from_slice(alloc, into.types().param_list(params))?;

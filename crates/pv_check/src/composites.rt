@@ -9,7 +9,7 @@ ghost use Rattle.pv_check.specs.Growing.{AreSized, IsType};
 ghost use Rattle.pv_check.specs.Open.{state_of, IsOpen, Goes, HasTag, after_type};
 ghost use Rattle.pv_check.specs.Tags.{filed_with, some_members, completed, is_new_member, with_member};
 ghost use Rattle.pv_check.specs.Raw.{Raw};
-ghost use Rattle.pv_check.specs.MembersRead.{members_if, members_shown, after_members, AreMembers};
+ghost use Rattle.pv_check.specs.MembersRead.{members_if, members_shown, after_members, AreMembers, members_after};
 ghost use Rattle.pv_types.specs.Ty.{Ty};
 ghost use Rattle.pv_check.specs.Derivations.{Signature};
 ghost use Rattle.pv_check.specs.Words.{total};
@@ -19,6 +19,7 @@ ghost use Rattle.pv_check.specs.SeenAfter.{after_seen};
 ghost use Rattle.pv_check.specs.Specifiers.{with_type};
 ghost use Rattle.pv_check.specs.State.{and_then, give};
 ghost use Rattle.pv_check.specs.Stepping.{AreSteps, steps_in};
+ghost use Rattle.pv_check.specs.ListedRows.{member_from_steps, with_some_members};
 
 use crate::derivations::Step;
 use crate::scopes::Scopes;
@@ -192,7 +193,7 @@ pub(crate) fn member_of(
     ensures opened { OnOk result (IsOpen into.new s.now) }
     ensures goes { OnOk result (Goes into.old into.new) }
     ensures members { IfOk result (λ r. IfSome r (AreMembers into.new.known)) }
-    ensures answer { IfOk result (λ r. (texts : List (List ℕ)) (u : Bool) (g : Option Signature) → after_members texts u s.now into.new r ≡ member_of named (tree into.old.known base.0) (members_shown into.old.known members) (record { value = record { list = steps_in into.old.known steps.now; signature = g }; state = state_of texts u s.now into.old })) }
+    ensures answer { IfOk result (λ r. (texts : List (List ℕ)) (u : Bool) (g : Option Signature) → after_members texts u s.now into.new r ≡ member_from_steps texts u s.now into.old named base members steps.now g) }
 {
     let Some((name, _)) = named else {
         return Ok(None);
@@ -222,7 +223,7 @@ pub(crate) fn completed_seen(
     ensures goes { IfOk result (λ r. IfSome r (λ x. Goes into.old into.new)) }
     ensures known { IfOk result (λ r. IfSome r (λ x. IsType into.new.known x.named)) }
     ensures bounded { IfOk result (λ r. IfSome r (λ x. total x.words ≤ total seen.words)) }
-    ensures answer { IfOk result (λ r. (texts : List (List ℕ)) (u : Bool) → after_seen texts u s.now into.new r ≡ and_then (some_members (record { value = members_shown into.old.known members; state = state_of texts u s.now into.old })) (λ m. and_then (completed union name number m.value m.state) (λ a. give (with_type (seen_in into.old.known seen) a.value) a.state))) }
+    ensures answer { IfOk result (λ r. (texts : List (List ℕ)) (u : Bool) → after_seen texts u s.now into.new r ≡ with_some_members union name number (seen_in into.old.known seen) (members_after texts u s.now into.old members)) }
 {
     if members.list.is_empty() {
         return Ok(None);

@@ -6,7 +6,7 @@ ghost use Rattle.pv_typed.specs.TypedTree.{type_of};
 ghost use Rattle.pv_typed.specs.Addresses.{is_null_constant};
 ghost use Rattle.pv_typed.specs.Tables.{expression_at, IsExpression};
 ghost use Rattle.pv_typed.specs.Formed.{AreKnown};
-ghost use Rattle.pv_check.specs.Conditional.{pointer_to, merged, pointer_type, plain_type, result_type, chosen, conditional_of};
+ghost use Rattle.pv_check.specs.Conditional.{pointer_to, merged, pointer_type, plain_type, result_type, chosen, conditional_of, type_of_chosen};
 ghost use Rattle.pv_check.specs.Growing.{Grows, IsType, type_if};
 ghost use Rattle.pv_check.specs.Kept.{Kept, expression_if};
 
@@ -170,7 +170,7 @@ fn type_of_both(
     requires second { IsExpression into.old b }
     requires third { IsExpression into.old c }
     ensures known { IfOk result (λ r. IsType into.new.known r) }
-    ensures tree { IfOk result (λ r. type_if into.new.known r ≡ result_type (type_of (expression_at into.old b)) (type_of (expression_at into.old c)) (is_null_constant (expression_at into.old b)) (is_null_constant (expression_at into.old c))) }
+    ensures tree { IfOk result (λ r. type_if into.new.known r ≡ type_of_chosen (expression_at into.old b) (expression_at into.old c)) }
     ensures kept { OnOk result (Kept into.old into.new) }
 {
     let t = into.type_of(b);

@@ -14,6 +14,7 @@ ghost use Rattle.pv_check.specs.Arms.{after_node, OpenIf, row_of_one, row_of_two
 ghost use Rattle.pv_check.specs.Kept.{Kept, env_of};
 ghost use Rattle.pv_check.specs.Rows.{operand, conditional, unevaluated, measured, sizeof_named, cast, callee, with_callee, call};
 ghost use Rattle.pv_check.specs.Typing.{types, type_named, arguments};
+ghost use Rattle.pv_check.specs.Operands.{of_two_operands, of_three_operands, size_of_operand, size_of_named_type, cast_to_type, call_with_list};
 
 use crate::arms::{One, Two};
 use crate::calls::{call, used_callee};
@@ -252,7 +253,7 @@ fn of_two(
     requires node_b { Is (tables u.now) is_expression b }
     requires open { IsOpen into.old s.old }
     ensures open { IfOk result (λ r. OpenIf into.new s.new r) }
-    ensures typed { IfOk result (λ r. after_node t.now.texts hidden s.new into.new r ≡ and_then (first_operand what (types (expression_of_node (tables u.now).forest a) (state_of t.now.texts hidden s.old into.old))) (λ l. and_then (operand (types (expression_of_node (tables u.now).forest b) l.state)) (row_of_two what line l.value))) }
+    ensures typed { IfOk result (λ r. after_node t.now.texts hidden s.new into.new r ≡ of_two_operands (tables u.now).forest what line a b (state_of t.now.texts hidden s.old into.old)) }
     ensures goes { IfOk result (λ r. IfSome r (λ v. Goes into.old into.new)) }
 {
     let Some(x) = first_of(s, u, t, what, a, hidden, into)? else {
@@ -283,7 +284,7 @@ fn of_three(
     requires node_c { Is (tables u.now) is_expression c }
     requires open { IsOpen into.old s.old }
     ensures open { IfOk result (λ r. OpenIf into.new s.new r) }
-    ensures typed { IfOk result (λ r. after_node t.now.texts hidden s.new into.new r ≡ and_then (operand (types (expression_of_node (tables u.now).forest a) (state_of t.now.texts hidden s.old into.old))) (λ l. and_then (operand (types (expression_of_node (tables u.now).forest b) l.state)) (λ m. and_then (operand (types (expression_of_node (tables u.now).forest c) m.state)) (conditional line l.value m.value)))) }
+    ensures typed { IfOk result (λ r. after_node t.now.texts hidden s.new into.new r ≡ of_three_operands (tables u.now).forest line a b c (state_of t.now.texts hidden s.old into.old)) }
     ensures goes { IfOk result (λ r. IfSome r (λ v. Goes into.old into.new)) }
 {
     let Some(x) = operand(s, u, t, a, hidden, into)? else {
@@ -313,7 +314,7 @@ fn measured(
     requires node { Is (tables u.now) is_expression a }
     requires open { IsOpen into.old s.old }
     ensures open { IfOk result (λ r. OpenIf into.new s.new r) }
-    ensures typed { IfOk result (λ r. after_node t.now.texts hidden s.new into.new r ≡ and_then (types (expression_of_node (tables u.now).forest a) (unevaluated (state_of t.now.texts hidden s.old into.old))) (measured line (state_of t.now.texts hidden s.old into.old))) }
+    ensures typed { IfOk result (λ r. after_node t.now.texts hidden s.new into.new r ≡ size_of_operand (tables u.now).forest line a (state_of t.now.texts hidden s.old into.old)) }
     ensures goes { IfOk result (λ r. IfSome r (λ v. Goes into.old into.new)) }
 {
     let Some(x) = typed(s, u, t, a, true, into)? else {
@@ -337,7 +338,7 @@ fn sizeof_named(
     requires node { Is (tables u.now) is_declaration n }
     requires open { IsOpen into.old s.old }
     ensures open { IfOk result (λ r. OpenIf into.new s.new r) }
-    ensures typed { IfOk result (λ r. after_node t.now.texts hidden s.new into.new r ≡ and_then (type_named (declaration_at (tables u.now).forest n) (unevaluated (state_of t.now.texts hidden s.old into.old))) (sizeof_named line (state_of t.now.texts hidden s.old into.old))) }
+    ensures typed { IfOk result (λ r. after_node t.now.texts hidden s.new into.new r ≡ size_of_named_type (tables u.now).forest line n (state_of t.now.texts hidden s.old into.old)) }
     ensures goes { IfOk result (λ r. IfSome r (λ v. Goes into.old into.new)) }
 {
     let Some(x) = type_named(s, u, t, n, true, into)? else {
@@ -363,7 +364,7 @@ fn cast_to(
     requires node { Is (tables u.now) is_expression a }
     requires open { IsOpen into.old s.old }
     ensures open { IfOk result (λ r. OpenIf into.new s.new r) }
-    ensures typed { IfOk result (λ r. after_node t.now.texts hidden s.new into.new r ≡ and_then (type_named (declaration_at (tables u.now).forest n) (state_of t.now.texts hidden s.old into.old)) (λ x. and_then (operand (types (expression_of_node (tables u.now).forest a) x.state)) (cast line x.value))) }
+    ensures typed { IfOk result (λ r. after_node t.now.texts hidden s.new into.new r ≡ cast_to_type (tables u.now).forest line n a (state_of t.now.texts hidden s.old into.old)) }
     ensures goes { IfOk result (λ r. IfSome r (λ v. Goes into.old into.new)) }
 {
     let Some(x) = type_named(s, u, t, n, hidden, into)? else {
@@ -392,7 +393,7 @@ fn call_to(
     requires list { HasList (tables u.now).forest (length (tables u.now).forest.trees) is_expression args }
     requires open { IsOpen into.old s.old }
     ensures open { IfOk result (λ r. OpenIf into.new s.new r) }
-    ensures typed { IfOk result (λ r. after_node t.now.texts hidden s.new into.new r ≡ and_then (callee (state_of t.now.texts hidden s.old into.old).scopes (expression_of_node (tables u.now).forest f)) (λ c. and_then (arguments (arguments_at (tables u.now).forest args) (with_callee (state_of t.now.texts hidden s.old into.old) c)) (call line c))) }
+    ensures typed { IfOk result (λ r. after_node t.now.texts hidden s.new into.new r ≡ call_with_list (tables u.now).forest line f args (state_of t.now.texts hidden s.old into.old)) }
     ensures goes { IfOk result (λ r. IfSome r (λ v. Goes into.old into.new)) }
 {
     let Some(c) = used_callee(s, u, into, f)? else {

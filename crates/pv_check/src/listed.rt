@@ -7,7 +7,7 @@ ghost use Rattle.pv_types.specs.Ty.{IntTy};
 ghost use Rattle.pv_num.specs.declared.kinds.IntKind.TheVariants as kind;
 ghost use Rattle.pv_check.specs.Declarators.{after_value};
 ghost use Rattle.pv_check.specs.Growing.{IsType};
-ghost use Rattle.pv_check.specs.MembersRead.{members_shown, after_members, AreMembers};
+ghost use Rattle.pv_check.specs.MembersRead.{members_shown, after_members, AreMembers, members_after};
 ghost use Rattle.pv_check.specs.Open.{state_of, IsOpen, Goes};
 ghost use Rattle.pv_check.specs.Seeing.{seen_in};
 ghost use Rattle.pv_check.specs.SeenAfter.{after_seen};
@@ -16,6 +16,7 @@ ghost use Rattle.pv_check.specs.State.{and_then, give};
 ghost use Rattle.pv_check.specs.Tags.{opened, some_members, completed, opened_enumeration, closed_enumeration};
 ghost use Rattle.pv_check.specs.Typing.{members, member_in, member_declarators, member_declarator, enumerators, enumerator_in, enumerator_value};
 ghost use Rattle.pv_check.specs.Words.{total};
+ghost use Rattle.pv_check.specs.ListedRows.{with_composite_list, with_enumeration_list, declared_members, declared_member};
 
 use crate::composites::{MemberList, completed_seen, member_of, no_members};
 use crate::declarators::{integer_at, steps_of};
@@ -50,7 +51,7 @@ pub(crate) fn composite_listed(
     ensures goes { IfOk result (λ r. IfSome r (λ x. Goes into.old into.new)) }
     ensures known { IfOk result (λ r. IfSome r (λ x. IsType into.new.known x.named)) }
     ensures bounded { IfOk result (λ r. IfSome r (λ x. total x.words ≤ total seen.words)) }
-    ensures answer { IfOk result (λ r. after_seen t.now.texts unevaluated s.new into.new r ≡ and_then (opened union tag (state_of t.now.texts unevaluated s.old into.old)) (λ o. and_then (and_then (members (trees_at (tables u.now).forest list) o.state) some_members) (λ m. and_then (completed union tag o.value m.value m.state) (λ a. give (with_type (seen_in into.old.known seen) a.value) a.state)))) }
+    ensures answer { IfOk result (λ r. after_seen t.now.texts unevaluated s.new into.new r ≡ with_composite_list (tables u.now).forest union tag list (seen_in into.old.known seen) (state_of t.now.texts unevaluated s.old into.old)) }
 {
     let Some(number) = opened(s, into, union, tag)? else {
         return Ok(None);
@@ -109,7 +110,7 @@ fn member(
     ensures opened { IfOk result (λ r. IfSome r (λ x. IsOpen into.new s.new)) }
     ensures goes { IfOk result (λ r. IfSome r (λ x. Goes into.old into.new)) }
     ensures members { IfOk result (λ r. IfSome r (AreMembers into.new.known)) }
-    ensures answer { IfOk result (λ r. after_members t.now.texts unevaluated s.new into.new r ≡ member_in (tree_at (tables u.now).forest n) (record { value = members_shown into.old.known before; state = state_of t.now.texts unevaluated s.old into.old })) }
+    ensures answer { IfOk result (λ r. after_members t.now.texts unevaluated s.new into.new r ≡ member_in (tree_at (tables u.now).forest n) (members_after t.now.texts unevaluated s.old into.old before)) }
 {
     match u.decl(n) {
         Decl::Member { specs, declarators } => {
@@ -147,7 +148,7 @@ fn member_declarators(
     ensures opened { IfOk result (λ r. IfSome r (λ x. IsOpen into.new s.new)) }
     ensures goes { IfOk result (λ r. IfSome r (λ x. Goes into.old into.new)) }
     ensures members { IfOk result (λ r. IfSome r (AreMembers into.new.known)) }
-    ensures answer { IfOk result (λ r. after_members t.now.texts unevaluated s.new into.new r ≡ member_declarators (trees_at (tables u.now).forest list) (tree into.old.known base.0) (members_shown into.old.known before) (state_of t.now.texts unevaluated s.old into.old)) }
+    ensures answer { IfOk result (λ r. after_members t.now.texts unevaluated s.new into.new r ≡ declared_members (tables u.now).forest list (tree into.old.known base.0) (members_after t.now.texts unevaluated s.old into.old before)) }
 {
     let nodes = u.list(list);
     let mut ms = before;
@@ -181,7 +182,7 @@ fn member_declarator(
     ensures opened { IfOk result (λ r. IfSome r (λ x. IsOpen into.new s.new)) }
     ensures goes { IfOk result (λ r. IfSome r (λ x. Goes into.old into.new)) }
     ensures members { IfOk result (λ r. IfSome r (AreMembers into.new.known)) }
-    ensures answer { IfOk result (λ r. after_members t.now.texts unevaluated s.new into.new r ≡ member_declarator (tree into.old.known base.0) (tree_at (tables u.now).forest n) (record { value = members_shown into.old.known before; state = state_of t.now.texts unevaluated s.old into.old })) }
+    ensures answer { IfOk result (λ r. after_members t.now.texts unevaluated s.new into.new r ≡ declared_member (tables u.now).forest n (tree into.old.known base.0) (members_after t.now.texts unevaluated s.old into.old before)) }
 {
     let alloc = s.allocator();
     let Some(steps) = steps_of(alloc, u, t, s, into, n, unevaluated)? else {
@@ -211,7 +212,7 @@ pub(crate) fn enumeration_listed(
     ensures goes { IfOk result (λ r. IfSome r (λ x. Goes into.old into.new)) }
     ensures known { IfOk result (λ r. IfSome r (λ x. IsType into.new.known x.named)) }
     ensures bounded { IfOk result (λ r. IfSome r (λ x. total x.words ≤ total seen.words)) }
-    ensures answer { IfOk result (λ r. after_seen t.now.texts unevaluated s.new into.new r ≡ and_then (opened_enumeration tag (state_of t.now.texts unevaluated s.old into.old)) (λ o. and_then (enumerators (trees_at (tables u.now).forest list) o) (λ e. give (with_type (seen_in into.old.known seen) (IntTy kind.Int)) (closed_enumeration tag e.state)))) }
+    ensures answer { IfOk result (λ r. after_seen t.now.texts unevaluated s.new into.new r ≡ with_enumeration_list (tables u.now).forest tag list (seen_in into.old.known seen) (state_of t.now.texts unevaluated s.old into.old)) }
 {
     if !opened_enumeration(s, into, tag)? {
         return Ok(None);

@@ -3,12 +3,13 @@ ghost use Rattle.std.specs.Prelude.{◌≡◌, IfOk, IfSome, List, Some, length}
 ghost use Rattle.pv_tree.specs.Rows.{tables};
 ghost use Rattle.pv_tree.specs.Tables.{Is, is_declaration, tree_at, trees_at, HasList};
 ghost use Rattle.pv_typed.specs.Children.{Each};
-ghost use Rattle.pv_check.specs.Declarators.{after_parameter, after_parameters, after_steps, steps_shown, ParameterKnown, StepsKnown, KnownSteps};
+ghost use Rattle.pv_check.specs.Declarators.{after_parameter, after_parameters, after_steps, steps_shown, ParameterKnown, StepsKnown, KnownSteps, value_after};
 ghost use Rattle.pv_check.specs.Derivations.{Parameter as WholeParameter};
 ghost use Rattle.pv_check.specs.Open.{state_of, IsOpen, Goes};
 ghost use Rattle.pv_check.specs.Rows.{by_function};
 ghost use Rattle.pv_check.specs.State.{and_then, entered};
 ghost use Rattle.pv_check.specs.Typing.{parameters, parameter_in};
+ghost use Rattle.pv_check.specs.Operands.{with_parameter_list};
 
 use crate::declarators::{Steps, optional_steps};
 use crate::parameters::{Parameter, by_function, entered, parameter_of};
@@ -40,7 +41,7 @@ pub(crate) fn with_parameters(
     ensures opened { IfOk result (λ r. IfSome r (λ k. IsOpen into.new s.new)) }
     ensures goes { IfOk result (λ r. IfSome r (λ k. Goes into.old into.new)) }
     ensures known { IfOk result (λ r. KnownSteps into.new r) }
-    ensures answer { IfOk result (λ r. after_steps t.now.texts unevaluated s.new into.new r ≡ and_then (parameters (trees_at (tables u.now).forest list) (entered (state_of t.now.texts unevaluated s.old into.old))) (by_function variadic (steps_shown into.old.known x))) }
+    ensures answer { IfOk result (λ r. after_steps t.now.texts unevaluated s.new into.new r ≡ with_parameter_list (tables u.now).forest list variadic (steps_shown into.old.known x) (state_of t.now.texts unevaluated s.old into.old)) }
 {
     entered(s, into)?;
     let Some(ps) = parameters(alloc, u, t, s, into, list, unevaluated)? else {
@@ -97,7 +98,7 @@ fn parameter(
     ensures opened { IfOk result (λ r. IfSome r (λ p. IsOpen into.new s.new)) }
     ensures goes { IfOk result (λ r. IfSome r (λ p. Goes into.old into.new)) }
     ensures known { IfOk result (λ r. IfSome r (ParameterKnown into.new)) }
-    ensures answer { IfOk result (λ r. (before : List WholeParameter) → after_parameter t.now.texts unevaluated s.new into.new before r ≡ parameter_in (tree_at (tables u.now).forest n) (record { value = before; state = state_of t.now.texts unevaluated s.old into.old })) }
+    ensures answer { IfOk result (λ r. (ps : List WholeParameter) → after_parameter t.now.texts unevaluated s.new into.new ps r ≡ parameter_in (tree_at (tables u.now).forest n) (value_after t.now.texts unevaluated s.old into.old ps)) }
 {
     match u.decl(n) {
         Decl::Parameter { specs, declarator } => {

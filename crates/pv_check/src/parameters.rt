@@ -5,7 +5,8 @@ ghost use Rattle.pv_typed.specs.Adding.{with_object};
 ghost use Rattle.pv_typed.specs.Children.{Each};
 ghost use Rattle.pv_typed.specs.Formed.{AreKnown, Grown};
 ghost use Rattle.pv_typed.specs.Tables.{Stored, whole};
-ghost use Rattle.pv_check.specs.Declarators.{parameter_shown, parameters_shown, signature_shown, signature_if, steps_shown, after_parameter, after_steps, parameters_if, ParameterKnown, SignatureKnown, StepsKnown, KnownSteps};
+ghost use Rattle.pv_check.specs.Declarators.{parameter_shown, parameters_shown, signature_shown, signature_if, steps_shown, parameters_if};
+ghost use Rattle.pv_check.specs.Declarators.{after_parameter, after_steps, parameters_after, with_parameter_of_type, parameter_from, ParameterKnown, SignatureKnown, StepsKnown, KnownSteps};
 ghost use Rattle.pv_check.specs.Derivations.{Parameter as WholeParameter, Signature as WholeSignature, derived, adjusted, with_parameter, means_none, no_void, proper, parameter_types, nearest};
 ghost use Rattle.pv_check.specs.Growing.{AreSized, Grows, IsType, type_if};
 ghost use Rattle.pv_check.specs.Open.{state_of, IsOpen, Goes};
@@ -139,7 +140,7 @@ fn named_parameter(
     ensures opened { IfOk result (λ r. IfSome r (λ p. IsOpen into.new s.new)) }
     ensures goes { OnOk result (Goes into.old into.new) }
     ensures known { IfOk result (λ r. IfSome r (ParameterKnown into.new)) }
-    ensures answer { IfOk result (λ r. (texts : List (List ℕ)) (u : Bool) (ps : List WholeParameter) → after_parameter texts u s.new into.new ps r ≡ with_parameter ps (Some (n, line)) (state_of texts u s.old into.old) (tree into.old.known t.0)) }
+    ensures answer { IfOk result (λ r. (texts : List (List ℕ)) (u : Bool) (ps : List WholeParameter) → after_parameter texts u s.new into.new ps r ≡ with_parameter_of_type texts u s.old into.old ps (Some (n, line)) t) }
 {
     let o = parameter_object(into, n, line, t)?;
     if !s.declare(n, Entry::Object(o))? {
@@ -166,7 +167,8 @@ pub(crate) fn parameter_of(
     ensures opened { IfOk result (λ r. IfSome r (λ p. IsOpen into.new s.new)) }
     ensures goes { OnOk result (Goes into.old into.new) }
     ensures known { IfOk result (λ r. IfSome r (ParameterKnown into.new)) }
-    ensures answer { IfOk result (λ r. (texts : List (List ℕ)) (u : Bool) (ps : List WholeParameter) (g : Option WholeSignature) → after_parameter texts u s.new into.new ps r ≡ parameter_of named (tree into.old.known base.0) ps (record { value = record { list = steps_in into.old.known steps.now; signature = g }; state = state_of texts u s.old into.old })) }
+    ensures answer { IfOk result (λ r. (texts : List (List ℕ)) (u : Bool) (ps : List WholeParameter) (g : Option WholeSignature) →
+        after_parameter texts u s.new into.new ps r ≡ parameter_from texts u s.old into.old named base ps steps.now g) }
 {
     let Some(t) = parameter_type_in(into, steps, base)? else {
         return Ok(None);
@@ -332,7 +334,7 @@ pub(crate) fn by_function(
     ensures opened { IfOk result (λ r. IfSome r (λ k. IsOpen into.new s.new)) }
     ensures goes { OnOk result (Goes into.old into.new) }
     ensures known { IfOk result (λ r. KnownSteps into.new r) }
-    ensures answer { IfOk result (λ r. (texts : List (List ℕ)) (u : Bool) → after_steps texts u s.new into.new r ≡ by_function variadic (steps_shown into.old.known x) (record { value = parameters_shown into.old.known ps.items; state = state_of texts u s.old into.old })) }
+    ensures answer { IfOk result (λ r. (texts : List (List ℕ)) (u : Bool) → after_steps texts u s.new into.new r ≡ by_function variadic (steps_shown into.old.known x) (parameters_after texts u s.old into.old ps.items)) }
 {
     let Some(list) = proper(into, variadic, ps) else {
         return Ok(None);

@@ -3,7 +3,7 @@ ghost use Rattle.std.specs.Prelude.{◌≡◌, Bool, IfOk, IfSome, OnOk, Some, L
 ghost use Rattle.pv_typed.specs.Formed.{AreKnown};
 ghost use Rattle.pv_typed.specs.Tables.{whole, expression_at, IsExpression};
 ghost use Rattle.pv_check.specs.State.{and_then};
-ghost use Rattle.pv_check.specs.Arms.{after_node, OpenIf, row_of_one, row_of_two};
+ghost use Rattle.pv_check.specs.Arms.{after_node, OpenIf, row_of_one, row_of_two, operand_after, conditional_from};
 ghost use Rattle.pv_check.specs.Assignment.{assign_of};
 ghost use Rattle.pv_check.specs.Kept.{Kept, AreSmall, expression_if, env_of};
 ghost use Rattle.pv_check.specs.Open.{state_of, IsOpen};
@@ -98,7 +98,7 @@ fn member(
     requires open { IsOpen into.old s.now }
     requires node { IsExpression into.old a }
     ensures open { IfOk result (λ r. OpenIf into.new s.now r) }
-    ensures typed { (texts : List (List ℕ)) (hidden : Bool) → IfOk result (λ r. after_node texts hidden s.now into.new r ≡ member line name (record { value = expression_at into.old a; state = state_of texts hidden s.now into.old })) }
+    ensures typed { (texts : List (List ℕ)) (hidden : Bool) → IfOk result (λ r. after_node texts hidden s.now into.new r ≡ member line name (operand_after texts hidden s.now into.old a)) }
     ensures kept { OnOk result (Kept into.old into.new) }
 {
     let r = member_from(into, line, name, a)?;
@@ -116,7 +116,7 @@ fn arrow(
     requires open { IsOpen into.old s.now }
     requires node { IsExpression into.old a }
     ensures open { IfOk result (λ r. OpenIf into.new s.now r) }
-    ensures typed { (texts : List (List ℕ)) (hidden : Bool) → IfOk result (λ r. after_node texts hidden s.now into.new r ≡ and_then (operand (Some (record { value = expression_at into.old a; state = state_of texts hidden s.now into.old }))) (arrow line name)) }
+    ensures typed { (texts : List (List ℕ)) (hidden : Bool) → IfOk result (λ r. after_node texts hidden s.now into.new r ≡ and_then (operand (Some (operand_after texts hidden s.now into.old a))) (arrow line name)) }
     ensures kept { OnOk result (Kept into.old into.new) }
 {
     let r = arrow_node(into, line, name, a)?;
@@ -134,7 +134,7 @@ fn increment(
     requires open { IsOpen into.old s.now }
     requires node { IsExpression into.old a }
     ensures open { IfOk result (λ r. OpenIf into.new s.now r) }
-    ensures typed { (texts : List (List ℕ)) (hidden : Bool) → IfOk result (λ r. after_node texts hidden s.now into.new r ≡ increment line op (record { value = expression_at into.old a; state = state_of texts hidden s.now into.old })) }
+    ensures typed { (texts : List (List ℕ)) (hidden : Bool) → IfOk result (λ r. after_node texts hidden s.now into.new r ≡ increment line op (operand_after texts hidden s.now into.old a)) }
     ensures kept { OnOk result (Kept into.old into.new) }
 {
     let r = increment_node(into, line, op, a)?;
@@ -152,7 +152,7 @@ fn unary(
     requires open { IsOpen into.old s.now }
     requires node { IsExpression into.old a }
     ensures open { IfOk result (λ r. OpenIf into.new s.now r) }
-    ensures typed { (texts : List (List ℕ)) (hidden : Bool) → IfOk result (λ r. after_node texts hidden s.now into.new r ≡ unary line op (record { value = expression_at into.old a; state = state_of texts hidden s.now into.old })) }
+    ensures typed { (texts : List (List ℕ)) (hidden : Bool) → IfOk result (λ r. after_node texts hidden s.now into.new r ≡ unary line op (operand_after texts hidden s.now into.old a)) }
     ensures kept { OnOk result (Kept into.old into.new) }
 {
     let r = unary_node(into, line, op, a)?;
@@ -170,7 +170,7 @@ pub(crate) fn one(
     requires open { IsOpen into.old s.now }
     requires node { IsExpression into.old a }
     ensures open { IfOk result (λ r. OpenIf into.new s.now r) }
-    ensures typed { (texts : List (List ℕ)) (hidden : Bool) → IfOk result (λ r. after_node texts hidden s.now into.new r ≡ row_of_one what line (record { value = expression_at into.old a; state = state_of texts hidden s.now into.old })) }
+    ensures typed { (texts : List (List ℕ)) (hidden : Bool) → IfOk result (λ r. after_node texts hidden s.now into.new r ≡ row_of_one what line (operand_after texts hidden s.now into.old a)) }
     ensures kept { OnOk result (Kept into.old into.new) }
 {
     match what {
@@ -193,7 +193,7 @@ fn subscript(
     requires left { IsExpression into.old a }
     requires right { IsExpression into.old b }
     ensures open { IfOk result (λ r. OpenIf into.new s.now r) }
-    ensures typed { (texts : List (List ℕ)) (hidden : Bool) → IfOk result (λ r. after_node texts hidden s.now into.new r ≡ subscript line (expression_at into.old a) (record { value = expression_at into.old b; state = state_of texts hidden s.now into.old })) }
+    ensures typed { (texts : List (List ℕ)) (hidden : Bool) → IfOk result (λ r. after_node texts hidden s.now into.new r ≡ subscript line (expression_at into.old a) (operand_after texts hidden s.now into.old b)) }
     ensures kept { OnOk result (Kept into.old into.new) }
 {
     let r = subscript_node(into, line, a, b)?;
@@ -213,7 +213,7 @@ fn binary(
     requires left { IsExpression into.old a }
     requires right { IsExpression into.old b }
     ensures open { IfOk result (λ r. OpenIf into.new s.now r) }
-    ensures typed { (texts : List (List ℕ)) (hidden : Bool) → IfOk result (λ r. after_node texts hidden s.now into.new r ≡ binary line op (expression_at into.old a) (record { value = expression_at into.old b; state = state_of texts hidden s.now into.old })) }
+    ensures typed { (texts : List (List ℕ)) (hidden : Bool) → IfOk result (λ r. after_node texts hidden s.now into.new r ≡ binary line op (expression_at into.old a) (operand_after texts hidden s.now into.old b)) }
     ensures kept { OnOk result (Kept into.old into.new) }
 {
     let r = binary_node(into, line, op, a, b)?;
@@ -233,7 +233,7 @@ fn assignment(
     requires left { IsExpression into.old a }
     requires right { IsExpression into.old b }
     ensures open { IfOk result (λ r. OpenIf into.new s.now r) }
-    ensures typed { (texts : List (List ℕ)) (hidden : Bool) → IfOk result (λ r. after_node texts hidden s.now into.new r ≡ assignment line op (expression_at into.old a) (record { value = expression_at into.old b; state = state_of texts hidden s.now into.old })) }
+    ensures typed { (texts : List (List ℕ)) (hidden : Bool) → IfOk result (λ r. after_node texts hidden s.now into.new r ≡ assignment line op (expression_at into.old a) (operand_after texts hidden s.now into.old b)) }
     ensures kept { OnOk result (Kept into.old into.new) }
 {
     let r = assign_node(into, line, op, a, b)?;
@@ -252,7 +252,7 @@ fn comma(
     requires left { IsExpression into.old a }
     requires right { IsExpression into.old b }
     ensures open { IfOk result (λ r. OpenIf into.new s.now r) }
-    ensures typed { (texts : List (List ℕ)) (hidden : Bool) → IfOk result (λ r. after_node texts hidden s.now into.new r ≡ comma line (expression_at into.old a) (record { value = expression_at into.old b; state = state_of texts hidden s.now into.old })) }
+    ensures typed { (texts : List (List ℕ)) (hidden : Bool) → IfOk result (λ r. after_node texts hidden s.now into.new r ≡ comma line (expression_at into.old a) (operand_after texts hidden s.now into.old b)) }
     ensures kept { OnOk result (Kept into.old into.new) }
 {
     let r = comma_node(into, line, a, b)?;
@@ -272,7 +272,7 @@ pub(crate) fn two(
     requires left { IsExpression into.old a }
     requires right { IsExpression into.old b }
     ensures open { IfOk result (λ r. OpenIf into.new s.now r) }
-    ensures typed { (texts : List (List ℕ)) (hidden : Bool) → IfOk result (λ r. after_node texts hidden s.now into.new r ≡ row_of_two what line (expression_at into.old a) (record { value = expression_at into.old b; state = state_of texts hidden s.now into.old })) }
+    ensures typed { (texts : List (List ℕ)) (hidden : Bool) → IfOk result (λ r. after_node texts hidden s.now into.new r ≡ row_of_two what line (expression_at into.old a) (operand_after texts hidden s.now into.old b)) }
     ensures kept { OnOk result (Kept into.old into.new) }
 {
     match what {
@@ -297,7 +297,7 @@ pub(crate) fn three(
     requires second { IsExpression into.old b }
     requires third { IsExpression into.old c }
     ensures open { IfOk result (λ r. OpenIf into.new s.now r) }
-    ensures typed { (texts : List (List ℕ)) (hidden : Bool) → IfOk result (λ r. after_node texts hidden s.now into.new r ≡ conditional line (expression_at into.old a) (expression_at into.old b) (record { value = expression_at into.old c; state = state_of texts hidden s.now into.old })) }
+    ensures typed { (texts : List (List ℕ)) (hidden : Bool) → IfOk result (λ r. after_node texts hidden s.now into.new r ≡ conditional_from into.old line a b (operand_after texts hidden s.now into.old c)) }
     ensures kept { OnOk result (Kept into.old into.new) }
 {
     let r = conditional_node(s.allocator(), into, line, a, b, c)?;

@@ -2,7 +2,7 @@
 ghost use Rattle.std.specs.Prelude.{◌≡◌, ◌<◌, ◌≤◌, ◌+◌, ◌-◌, ◌^◌, ℕ, Some, None, length, IfOk, OnOk, IfSome, IsTrue};
 ghost use Rattle.pv_tree.specs.Tables.{Forest, Is, HasList, is_specifier, is_declaration, specifier_at, trees_at};
 ghost use Rattle.pv_tree.specs.Children.{HasSpecChildren};
-ghost use Rattle.pv_check.specs.ListedRows.{listed, list_of, is_unlisted, is_no_keyword};
+ghost use Rattle.pv_check.specs.ListedRows.{listed, list_of, is_unlisted, is_no_keyword, with_composite_tag, with_enumeration_tag, with_typedef_name};
 ghost use Rattle.pv_check.specs.Specifiers.{Seen as WhatIsSeen};
 ghost use Rattle.pv_check.specs.State.{State};
 ghost use Rattle.pv_tree.specs.Rows.{tables};
@@ -68,7 +68,7 @@ fn composite_seen(
     ensures goes { OnOk result (Goes into.old into.new) }
     ensures known { IfOk result (λ r. IfSome r (λ x. IsType into.new.known x.named)) }
     ensures bounded { IfOk result (λ r. IfSome r (λ x. total x.words ≤ total seen.words)) }
-    ensures answer { IfOk result (λ r. after_seen t.now.texts unevaluated s.new into.new r ≡ and_then (composite_named union name (look_tag (state_of t.now.texts unevaluated s.old into.old).scopes name) (state_of t.now.texts unevaluated s.old into.old)) (λ a. give (with_type (seen_in into.old.known seen) a.value) a.state)) }
+    ensures answer { IfOk result (λ r. after_seen t.now.texts unevaluated s.new into.new r ≡ with_composite_tag union name (seen_in into.old.known seen) (state_of t.now.texts unevaluated s.old into.old)) }
 {
     let Some(named) = composite_tag(s, into, union, name)? else {
         return Ok(None);
@@ -91,7 +91,7 @@ fn enumeration_seen(
     ensures goes { OnOk result (Goes into.old into.new) }
     ensures known { IfOk result (λ r. IfSome r (λ x. IsType into.new.known x.named)) }
     ensures bounded { IfOk result (λ r. IfSome r (λ x. total x.words ≤ total seen.words)) }
-    ensures answer { IfOk result (λ r. after_seen t.now.texts unevaluated s.now into.new r ≡ and_then (enumeration_named (look_tag (state_of t.now.texts unevaluated s.now into.old).scopes name) (state_of t.now.texts unevaluated s.now into.old)) (λ a. give (with_type (seen_in into.old.known seen) a.value) a.state)) }
+    ensures answer { IfOk result (λ r. after_seen t.now.texts unevaluated s.now into.new r ≡ with_enumeration_tag name (seen_in into.old.known seen) (state_of t.now.texts unevaluated s.now into.old)) }
 {
     let Some(named) = enumeration_tag(s, into, name)? else {
         return Ok(None);
@@ -124,7 +124,7 @@ fn typedef_seen(
     requires named { IsType into.now.known seen.named }
     ensures known { IfSome result (λ x. IsType into.now.known x.named) }
     ensures bounded { IfSome result (λ x. total x.words ≤ total seen.words) }
-    ensures answer { after_seen t.now.texts unevaluated s.now into.now result ≡ give (and_then (typedef_of (look (state_of t.now.texts unevaluated s.now into.now).scopes name)) (with_type (seen_in into.now.known seen))) (state_of t.now.texts unevaluated s.now into.now) }
+    ensures answer { after_seen t.now.texts unevaluated s.now into.now result ≡ with_typedef_name name (seen_in into.now.known seen) (state_of t.now.texts unevaluated s.now into.now) }
 {
     let found = s.look(name);
     let Some(named) = typedef_of(found) else {

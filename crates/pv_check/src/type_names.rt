@@ -15,6 +15,7 @@ ghost use Rattle.pv_tree.specs.Tables.{Is, is_declaration, declaration_at, HasLi
 ghost use Rattle.pv_check.specs.Rows.{plain};
 ghost use Rattle.pv_check.specs.Typing.{type_named, specifiers};
 ghost use Rattle.pv_tree.specs.Syntax.{TypeName};
+ghost use Rattle.pv_check.specs.Operands.{type_of_name};
 
 use crate::declarators::optional_steps;
 use crate::derivations::{Step, derived};
@@ -168,7 +169,7 @@ pub(crate) fn type_name(
     ensures opened { IfOk result (λ r. IfSome r (λ k. IsOpen into.new s.new)) }
     ensures goes { IfOk result (λ r. IfSome r (λ k. Goes into.old into.new)) }
     ensures known { IfOk result (λ r. IsType into.new.known r) }
-    ensures answer { (line : ℕ) → IfOk result (λ r. after_type t.now.texts unevaluated s.new into.new r ≡ type_named (TypeName line (trees_at (tables u.now).forest specs) (optional_at (tables u.now).forest declarator)) (state_of t.now.texts unevaluated s.old into.old)) }
+    ensures answer { (line : ℕ) → IfOk result (λ r. after_type t.now.texts unevaluated s.new into.new r ≡ type_of_name (tables u.now).forest line specs declarator (state_of t.now.texts unevaluated s.old into.old)) }
 {
     let Some(base) = specified_type(u, t, s, into, specs, unevaluated)? else {
         return Ok(None);

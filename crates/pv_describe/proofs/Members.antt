@@ -1,18 +1,16 @@
 -- The members of a tag, as the table has them and as trees; the lines of those that are left.
-use Rattle.std.proofs.Common.{◌≡◌, ℕ, suc, max, ◌+◌, ◌<◌, ◌≤◌, ◌^◌, ◌==◌, Bool, true, false, cond, IsTrue, List, [], ◌∷◌, ◌++◌, length, drop, drop-cons, get_or, add-one, refl, sym, ◌∙◌, ap, subst, arith, is_some, map, append_assoc, append-nil}
-use Rattle.std.proofs.lemmas.List.{drop_all}
+use Rattle.std.proofs.Common.{◌≡◌, ℕ, suc, max, ◌+◌, ◌<◌, ◌≤◌, ◌^◌, ◌==◌, Bool, true, false, cond, IsTrue, List, [], ◌∷◌, ◌++◌, length, drop, drop-cons, get_or, add-one, refl, sym, ◌∙◌, ap, subst, arith, is_some, map, append_assoc}
 use Rattle.std.specs.Int.{next_multiple_of}
 use Rattle.pv_types.specs.declared.terms.Member.{Member}
 use Rattle.pv_types.specs.declared.terms.TypeId.{TypeId}
 use Rattle.pv_types.specs.Ty.{Ty}
-use Rattle.pv_types.specs.Layouts.{Entry, Named, look, or_none, layout_in, layout_of, union_end, greatest_align, is_complete_in, AreComplete}
+use Rattle.pv_types.specs.Layouts.{Named, look, or_none, layout_in, layout_of, union_end, greatest_align, is_complete_in, AreComplete}
 use Rattle.pv_types.specs.Known.{Known, DoneTag, tree, trees, env, named, named_in, completed_in, members_in, is_union_in, MembersBelow, IsBuilt}
 use Rattle.pv_types.proofs.Fills.{union_end-ge}
 use Rattle.pv_types.proofs.Made.{made}
 use Rattle.pv_layout.proofs.Ahead.{nobody}
 use Rattle.pv_typed.specs.Tables.{Stored, whole}
-use Rattle.pv_typed.specs.TypedUnits.{WholeUnit, layouts}
-use Rattle.pv_describe.specs.Describing.{members_of, member_line, source_name, struct_lines, union_lines, tag_text, tag_texts}
+use Rattle.pv_describe.specs.Describing.{members_of, member_line, source_name, struct_lines, union_lines, tag_texts}
 
 members_step : (b : Bool) (ts : List Ty) (ms : List Member) (xs : List Named) (ys : List Member) → xs ≡ named_in ts ys → cond b (named_in ts ms) xs ≡ named_in ts (cond b ms ys)
 members_step true ts ms xs ys e = refl
@@ -53,23 +51,6 @@ pub struct_next : (s : Stored) (text line name : List ℕ) (o p start size i : �
 struct_next s text line name o p start size i items lt l n b z e =
     rw add-one (struct_first s text line name o p start size (get_or items i nobody) (drop (suc i) items) l n b z e ∙ sym (ap (struct_left s text o) (drop-cons items i nobody lt)))
 
-union_first : (s : Stored) (text line name : List ℕ) (size : ℕ) (x : Member) (ms : List Member) → line ≡ member_line name 0 size → name ≡ source_name (whole s) x.name → size ≡ (layout_in (env s.known) (tree s.known x.t.0)).size
-    → union_left s (text ++ line) ms ≡ union_left s text (x ∷ ms)
-union_first s text line name size x ms l n z =
-    rw (l, n, z) (append_assoc text (member_line (source_name (whole s) x.name) 0 (layout_in (env s.known) (tree s.known x.t.0)).size) (union_lines (whole s) (named_in (trees s.known) ms)))
-
-pub union_next : (s : Stored) (text line name : List ℕ) (size i : ℕ) (items : List Member) → i < length items → line ≡ member_line name 0 size → name ≡ source_name (whole s) (get_or items i nobody).name
-    → size ≡ (layout_in (env s.known) (tree s.known (get_or items i nobody).t.0)).size → union_left s (text ++ line) (drop (i + 1) items) ≡ union_left s text (drop i items)
-union_next s text line name size i items lt l n z =
-    rw add-one (union_first s text line name size (get_or items i nobody) (drop (suc i) items) l n z ∙ sym (ap (union_left s text) (drop-cons items i nobody lt)))
-
--- none is left
-pub struct_ends : (s : Stored) (text all : List ℕ) (o i : ℕ) (items : List Member) → length items ≤ i → struct_left s text o (drop i items) ≡ all → text ≡ all
-struct_ends s text all o i items le e = sym (append-nil text) ∙ sym (ap (struct_left s text o) (drop_all i items le)) ∙ e
-
-pub union_ends : (s : Stored) (text all : List ℕ) (i : ℕ) (items : List Member) → length items ≤ i → union_left s text (drop i items) ≡ all → text ≡ all
-union_ends s text all i items le e = sym (append-nil text) ∙ sym (ap (union_left s text) (drop_all i items le)) ∙ e
-
 -- the members of a union that are left, each of which is complete and small enough
 pub record Left (m : Known) (ms : List Member) : Type 0 where
   pub before : ℕ
@@ -83,9 +64,6 @@ left_start m tag items e built there flag size =
     let whole_is : or_none (look (env m) tag) ≡ layout_of (env m) tag true (named m tag) = ap or_none h.laid ∙ ap (λ u. layout_of (env m) tag u (named m tag)) flag in
     let small : next_multiple_of (union_end (env m) 0 (named m tag)) (greatest_align (env m) 1 (named m tag)) ≤ 2 ^ 32 = rw whole_is at size in
     rw e (record { before = 0; known = h.known; complete = h.complete; small = omega (arith, small) })
-
-left_step : (m : Known) (x : Member) (ms : List Member) → Left m (x ∷ ms) → Left m ms
-left_step m x ms h = record { before = max h.before (layout_in (env m) (tree m x.t.0)).size; known = h.known.1; complete = h.complete.1; small = h.small }
 
 pub record One (m : Known) (x : Member) : Type 0 where
   pub known : x.t.0 < length m.terms
@@ -104,18 +82,7 @@ front m i items lt h = subst (Left m) (drop-cons items i nobody lt) h
 pub one_at : (m : Known) (i : ℕ) (items : List Member) → i < length items → Left m (drop i items) → One m (get_or items i nobody)
 one_at m i items lt h = one_of m (get_or items i nobody) (drop (suc i) items) (front m i items lt h)
 
-pub left_next : (m : Known) (i : ℕ) (items : List Member) → i < length items → Left m (drop i items) → Left m (drop (i + 1) items)
-left_next m i items lt h = rw add-one (left_step m (get_or items i nobody) (drop (suc i) items) (front m i items lt h))
-
 -- ---- tags
 
 abbrev pub tags_left : Stored → (text : List ℕ) → List TypeId → List ℕ
 tags_left s text ts = text ++ tag_texts (whole s) (map (λ (t : TypeId). tree s.known t.0) ts)
-
-pub tags_next : (s : Stored) (text line : List ℕ) (i : ℕ) (items : List TypeId) (d : TypeId) → i < length items → line ≡ tag_text (whole s) (tree s.known (get_or items i d).0)
-    → tags_left s (text ++ line) (drop (i + 1) items) ≡ tags_left s text (drop i items)
-tags_next s text line i items d lt l =
-    rw (add-one, l) (append_assoc text (tag_text (whole s) (tree s.known (get_or items i d).0)) (tag_texts (whole s) (map (λ (t : TypeId). tree s.known t.0) (drop (suc i) items))) ∙ sym (ap (tags_left s text) (drop-cons items i d lt)))
-
-pub tags_end : (s : Stored) (text all : List ℕ) (i : ℕ) (items : List TypeId) → length items ≤ i → tags_left s text (drop i items) ≡ all → text ≡ all
-tags_end s text all i items le e = sym (append-nil text) ∙ sym (ap (tags_left s text) (drop_all i items le)) ∙ e
