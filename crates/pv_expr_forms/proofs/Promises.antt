@@ -1,26 +1,20 @@
 -- What `expression` promises, from what reading gives.
-use Rattle.std.proofs.Common.{◌≡◌, ◌≤◌, ◌-◌, ℕ, Bool, List, length, drop, Option, Some, None, sym, ap, subst, ◌∙◌, arith, inl, inr}
-use Rattle.std.specs.Prelude.{IfSome, slice_range}
-use Rattle.std.proofs.lemmas.List.{length-drop, length-map, length-take}
+use Rattle.std.proofs.Common.{◌≡◌, ◌≤◌, ℕ, Bool, List, length, drop, Option, Some, None, sym, ap, subst, ◌∙◌, arith, inl, inr}
+use Rattle.std.specs.Prelude.{IfSome}
+use Rattle.std.proofs.lemmas.List.{length-drop}
 use Rattle.pv_token.specs.declared.token_table.Token.{Token}
 use Rattle.pv_tree.specs.declared.nodes.NodeId.{NodeId}
 use Rattle.pv_tree.specs.Syntax.{ExpressionTree}
 use Rattle.pv_tree.specs.Tables.{Tables, expression_at, is_expression, Is}
 use Rattle.pv_tree.specs.Spelling.{expression_tokens}
-use Rattle.pv_tree.specs.Grammar.{Names, Spells}
+use Rattle.pv_tree.specs.Grammar.{Spells}
 use Rattle.pv_tree.specs.TypeNames.{TypeMap, names_of, AreTied}
 use Rattle.pv_expr_forms.specs.Reader.{Read, read}
 use Rattle.pv_expr_forms.specs.Answers.{Answers}
 use Rattle.pv_expr_forms.proofs.Steps.{some_is}
-use Rattle.pv_expr_forms.proofs.Trees.{some_tokens}
 use Rattle.pv_expr_forms.proofs.Sound.{read_sound}
 use Rattle.pv_expr_forms.proofs.Longest.{Within, Reaches, longest}
 use Rattle.pv_expr_forms.proofs.Spans.{IsEnd, names_spelled, at_end, takes_spelled, spelled_taken}
-
--- nothing is spelled by no tokens
-pub none_beyond : (names : Names) (tokens : List Token) (at end level deep : ℕ) (a : ExpressionTree) → length tokens ≤ at → Spells names level deep tokens at end a → ⊥
-none_beyond names tokens at end level deep a beyond s =
-    absurd (omega (arith, some_tokens a, ap length s.is, length-map (slice_range tokens at end) (λ (t : Token). t.kind), length-take (end - at) (drop at tokens), length-drop at tokens))
 
 module _ (is_type : ℕ → Bool) (types : TypeMap) (u v : Tables) (tokens : List Token) (at level deep : ℕ) (tied : AreTied types u tokens) (place : at ≤ length tokens) where
   abbrev Reading : Read
