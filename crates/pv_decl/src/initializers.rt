@@ -1,20 +1,17 @@
 //! Initializers (C17 6.7.9), and declarators with them.
-ghost use Rattle.std.specs.Prelude.{◌≡◌, ◌≤◌, length, drop, Some, IfOk};
+ghost use Rattle.std.specs.Prelude.{◌≡◌, ◌≤◌, length, Some, IfOk};
 ghost use Rattle.pv_tree.specs.Rows.{tables};
 ghost use Rattle.pv_tree.specs.Tables.{tree_at, is_declaration, is_declarator, is_expression, is_initializer, Is, Extends};
 ghost use Rattle.pv_tree.specs.Places.{Initializers};
-ghost use Rattle.pv_expr_forms.specs.Known.{names_in};
-ghost use Rattle.pv_decl_forms.specs.Answers.{Answers};
-ghost use Rattle.pv_decl.specs.Filled.{list_map};
-ghost use Rattle.pv_decl_forms.specs.Givens.{AreGiven};
-ghost use Rattle.pv_decl_forms.specs.Rows.{AreAnswered, MayBeAnswered};
 ghost use Rattle.pv_decl_forms.specs.Parts.{assigned};
 ghost use Rattle.pv_decl_forms.specs.Pieces.{value, listed};
 ghost use Rattle.pv_decl_forms.specs.Reader.{readers, initialized};
+ghost use Rattle.pv_decl.specs.Sources.{known_names, AreKnown, ReadsFrom, RowReads, MayRead};
 
 use crate::source::Source;
-use pv_decl_forms::{Sign, after, braces_of, found_declaration, found_initializer, line_at};
+use pv_decl_forms::{Sign, after, braces_of, found_declaration, found_initializer};
 use pv_expr::{Level, expression};
+use pv_expr_forms::line_at;
 use pv_token::NoMemory;
 use pv_tree::{Decl, Init, NodeId, TypeReader, Unit};
 
@@ -28,9 +25,9 @@ impl<R: TypeReader> Source<'_, R> {
         into: &mut Unit,
     ) -> Result<Option<(NodeId, u32)>, NoMemory>
         requires place { at ≤ length self.now.tokens.now.tokens }
-        requires tied { AreGiven (list_map self.now.lists.now) self.now.typedefs.now (R.types self.now.reader.now) (tables into.old) self.now.tokens.now.tokens }
+        requires tied { AreKnown R.types self.now (tables into.old) }
         ensures keeps { Extends (tables into.old) (tables into.new) }
-        ensures ok { IfOk result (λ r. Answers (tables into.new) is_initializer self.now.tokens.now.tokens r (readers (names_in self.now.typedefs.now (R.types self.now.reader.now) (tables into.old) self.now.tokens.now.tokens) depth Initializers (drop at self.now.tokens.now.tokens))) }
+        ensures ok { ReadsFrom self.now at (tables into.new) is_initializer result (readers (known_names R.types self.now (tables into.old)) depth Initializers) }
     {
         if depth == 0 {
             return Ok(None);
@@ -60,9 +57,9 @@ impl<R: TypeReader> Source<'_, R> {
         into: &mut Unit,
     ) -> Result<Option<(NodeId, u32)>, NoMemory>
         requires place { at ≤ length self.now.tokens.now.tokens }
-        requires tied { AreGiven (list_map self.now.lists.now) self.now.typedefs.now (R.types self.now.reader.now) (tables into.old) self.now.tokens.now.tokens }
+        requires tied { AreKnown R.types self.now (tables into.old) }
         ensures keeps { Extends (tables into.old) (tables into.new) }
-        ensures ok { IfOk result (λ r. Answers (tables into.new) is_expression self.now.tokens.now.tokens r (assigned (names_in self.now.typedefs.now (R.types self.now.reader.now) (tables into.old) self.now.tokens.now.tokens) depth (drop at self.now.tokens.now.tokens))) }
+        ensures ok { ReadsFrom self.now at (tables into.new) is_expression result (assigned (known_names R.types self.now (tables into.old)) depth) }
     {
         expression(
             self.tokens,
@@ -84,9 +81,9 @@ impl<R: TypeReader> Source<'_, R> {
         into: &mut Unit,
     ) -> Result<(Vec<NodeId>, u32), NoMemory>
         requires place { at ≤ length self.now.tokens.now.tokens }
-        requires tied { AreGiven (list_map self.now.lists.now) self.now.typedefs.now (R.types self.now.reader.now) (tables into.old) self.now.tokens.now.tokens }
+        requires tied { AreKnown R.types self.now (tables into.old) }
         ensures keeps { Extends (tables into.old) (tables into.new) }
-        ensures ok { IfOk result (λ r. AreAnswered (tables into.new) is_initializer self.now.tokens.now.tokens r.0.items r.1 (listed (readers (names_in self.now.typedefs.now (R.types self.now.reader.now) (tables into.old) self.now.tokens.now.tokens) depth Initializers) (drop at self.now.tokens.now.tokens))) }
+        ensures ok { IfOk result (λ r. RowReads self.now at (tables into.new) is_initializer r.0.items r.1 (listed (readers (known_names R.types self.now (tables into.old)) depth Initializers))) }
     {
         let mut parts = Vec::new(*self.typedefs.allocator());
         let mut behind = at;
@@ -112,9 +109,9 @@ impl<R: TypeReader> Source<'_, R> {
         into: &mut Unit,
     ) -> Result<(Option<NodeId>, u32), NoMemory>
         requires place { at ≤ length self.now.tokens.now.tokens }
-        requires tied { AreGiven (list_map self.now.lists.now) self.now.typedefs.now (R.types self.now.reader.now) (tables into.old) self.now.tokens.now.tokens }
+        requires tied { AreKnown R.types self.now (tables into.old) }
         ensures keeps { Extends (tables into.old) (tables into.new) }
-        ensures ok { IfOk result (λ r. MayBeAnswered (tables into.new) is_initializer self.now.tokens.now.tokens r.0 r.1 (value (readers (names_in self.now.typedefs.now (R.types self.now.reader.now) (tables into.old) self.now.tokens.now.tokens) depth Initializers) (drop at self.now.tokens.now.tokens))) }
+        ensures ok { IfOk result (λ r. MayRead self.now at (tables into.new) is_initializer r.0 r.1 (value (readers (known_names R.types self.now (tables into.old)) depth Initializers))) }
     {
         let Some(behind) = after(self.tokens, at, Sign::Equals) else {
             return Ok((None, at));
@@ -135,10 +132,10 @@ impl<R: TypeReader> Source<'_, R> {
         into: &mut Unit,
     ) -> Result<Option<(NodeId, u32)>, NoMemory>
         requires place { at ≤ length self.now.tokens.now.tokens }
-        requires tied { AreGiven (list_map self.now.lists.now) self.now.typedefs.now (R.types self.now.reader.now) (tables into.old) self.now.tokens.now.tokens }
+        requires tied { AreKnown R.types self.now (tables into.old) }
         requires declarator { Is (tables into.old) is_declarator declarator }
         ensures keeps { Extends (tables into.old) (tables into.new) }
-        ensures ok { IfOk result (λ r. Answers (tables into.new) is_declaration self.now.tokens.now.tokens r (Some (initialized (readers (names_in self.now.typedefs.now (R.types self.now.reader.now) (tables into.old) self.now.tokens.now.tokens) depth) line (tree_at (tables into.old).forest declarator) (drop at self.now.tokens.now.tokens)))) }
+        ensures ok { ReadsFrom self.now at (tables into.new) is_declaration result (λ ts. Some (initialized (readers (known_names R.types self.now (tables into.old)) depth) line (tree_at (tables into.old).forest declarator) ts)) }
     {
         let (init, end) = self.initial_value(at, depth, into)?;
         let declared = Decl::InitDeclarator { declarator, init };

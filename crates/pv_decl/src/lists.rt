@@ -1,12 +1,10 @@
 //! Lists of parameters that are known before they are read.
-ghost use Rattle.std.specs.Prelude.{◌≡◌, ◌≤◌, [], IfOk, IfSome, Some, drop, length};
+ghost use Rattle.std.specs.Prelude.{◌≡◌, ◌≤◌, [], IfSome, Some, length};
 ghost use Rattle.pv_tree.specs.Rows.{tables};
 ghost use Rattle.pv_tree.specs.Tables.{optional_at, is_declarator, Is, Extends};
-ghost use Rattle.pv_expr_forms.specs.Known.{names_in};
-ghost use Rattle.pv_decl_forms.specs.Answers.{Answers};
 ghost use Rattle.pv_decl_forms.specs.Declarators.{parametrized};
 ghost use Rattle.pv_decl.specs.Filled.{list_map};
-ghost use Rattle.pv_decl_forms.specs.Givens.{AreGiven};
+ghost use Rattle.pv_decl.specs.Sources.{known_names, AreKnown, ReadsFrom};
 ghost use Rattle.pv_decl_forms.specs.Parts.{function_of};
 ghost use Rattle.pv_decl_forms.specs.Reader.{readers};
 
@@ -15,9 +13,6 @@ use pv_decl_forms::{found_declarator, function_node};
 use pv_token::NoMemory;
 use pv_tree::{Declarator, NodeId, TypeReader, Unit};
 use std::alloc::Global;
-
-/// How deep an external declaration may be, and so what stands within (C17 5.2.4.1).
-pub(crate) const DEPTH_LIMIT: u32 = 500;
 
 /// The lists of parameters that begin at places behind a `(` (C17 6.7.6.3).
 #[derive(Drop)]
@@ -72,12 +67,12 @@ impl<R: TypeReader> Source<'_, R> {
         into: &mut Unit,
     ) -> Result<Option<(NodeId, u32)>, NoMemory>
         requires place { at ≤ length self.now.tokens.now.tokens }
-        requires tied { AreGiven (list_map self.now.lists.now) self.now.typedefs.now (R.types self.now.reader.now) (tables into.old) self.now.tokens.now.tokens }
+        requires tied { AreKnown R.types self.now (tables into.old) }
         requires list { list_map self.now.lists.now at ≡ Some list }
         requires left { IfSome left (λ n. Is (tables into.old) is_declarator n) }
         requires shallow { below ≤ 500 }
         ensures keeps { Extends (tables into.old) (tables into.new) }
-        ensures ok { IfOk result (λ r. Answers (tables into.new) is_declarator self.now.tokens.now.tokens r (parametrized (function_of line (optional_at (tables into.old).forest left)) (readers (names_in self.now.typedefs.now (R.types self.now.reader.now) (tables into.old) self.now.tokens.now.tokens) below) (drop at self.now.tokens.now.tokens))) }
+        ensures ok { ReadsFrom self.now at (tables into.new) is_declarator result (parametrized (function_of line (optional_at (tables into.old).forest left)) (readers (known_names R.types self.now (tables into.old)) below)) }
     {
         let Some((known, end)) = list else {
             return Ok(None);

@@ -1,25 +1,22 @@
 //! Declarations, and the heads of functions.
-ghost use Rattle.std.specs.Prelude.{◌≡◌, ◌≤◌, ℕ, All, length, drop, None, IfOk, IfSome};
+ghost use Rattle.std.specs.Prelude.{◌≡◌, ◌≤◌, ℕ, All, length, None, IfOk, IfSome};
 ghost use Rattle.pv_tree.specs.Places.{InitDeclarators};
 ghost use Rattle.pv_tree.specs.Rows.{tables};
-ghost use Rattle.pv_tree.specs.Syntax.{DeclarationTree, NoTrees, Then};
+ghost use Rattle.pv_tree.specs.Syntax.{DeclarationTree};
 ghost use Rattle.pv_tree.specs.Tables.{tree_at, trees_of, declaration_at, is_declaration, is_specifier, Is, Extends};
 ghost use Rattle.pv_tree.specs.TypeNames.{AreTied};
 ghost use Rattle.pv_expr_forms.specs.Known.{names_in};
-ghost use Rattle.pv_decl_forms.specs.Answers.{Answers};
-ghost use Rattle.pv_decl.specs.Filled.{list_map};
-ghost use Rattle.pv_decl_forms.specs.Givens.{AreGiven};
 ghost use Rattle.pv_decl_forms.specs.Grammar.{SpellsDeclaration};
-ghost use Rattle.pv_decl_forms.specs.Pieces.{row, after_comma};
-ghost use Rattle.pv_decl_forms.specs.Reader.{readers, after_specifiers, declaration, type_name};
-ghost use Rattle.pv_decl_forms.specs.Rows.{AreAnswered};
+ghost use Rattle.pv_decl_forms.specs.Reader.{readers, after_specifiers, declaration, type_name, declared_from};
+ghost use Rattle.pv_decl.specs.Sources.{known_names, AreKnown, ReadsFrom, RowReads};
 
 use crate::lists::ParameterLists;
 use crate::source::Source;
 use indexmap::IndexSet;
 use pv_decl_forms::{
-    Form, Part, Sign, after, declaration_of, line_at, opens_block, parameter_of, type_name_of,
+    Form, Part, Sign, after, declaration_of, opens_block, parameter_of, type_name_of,
 };
+use pv_expr_forms::line_at;
 use pv_token::{NoMemory, Tokens};
 use pv_tree::{NodeId, TypeReader, Unit};
 
@@ -34,10 +31,10 @@ impl<R: TypeReader> Source<'_, R> {
         into: &mut Unit,
     ) -> Result<Option<(NodeId, u32)>, NoMemory>
         requires place { at ≤ length self.now.tokens.now.tokens }
-        requires tied { AreGiven (list_map self.now.lists.now) self.now.typedefs.now (R.types self.now.reader.now) (tables into.old) self.now.tokens.now.tokens }
+        requires tied { AreKnown R.types self.now (tables into.old) }
         requires specs { All (λ n. Is (tables into.old) is_specifier n) specs.now }
         ensures keeps { Extends (tables into.old) (tables into.new) }
-        ensures ok { IfOk result (λ r. Answers (tables into.new) is_declaration self.now.tokens.now.tokens r (after_specifiers (readers (names_in self.now.typedefs.now (R.types self.now.reader.now) (tables into.old) self.now.tokens.now.tokens) below) line (trees_of (tables into.old).forest specs.now) (drop at self.now.tokens.now.tokens))) }
+        ensures ok { ReadsFrom self.now at (tables into.new) is_declaration result (after_specifiers (readers (known_names R.types self.now (tables into.old)) below) line (trees_of (tables into.old).forest specs.now)) }
     {
         if after(self.tokens, at, Sign::Semicolon).is_some() {
             return declaration_of(self.tokens, at, specs, &[], line, into);
@@ -65,9 +62,9 @@ impl<R: TypeReader> Source<'_, R> {
         into: &mut Unit,
     ) -> Result<Option<(NodeId, u32)>, NoMemory>
         requires place { at ≤ length self.now.tokens.now.tokens }
-        requires tied { AreGiven (list_map self.now.lists.now) self.now.typedefs.now (R.types self.now.reader.now) (tables into.old) self.now.tokens.now.tokens }
+        requires tied { AreKnown R.types self.now (tables into.old) }
         ensures keeps { Extends (tables into.old) (tables into.new) }
-        ensures ok { IfOk result (λ r. Answers (tables into.new) is_declaration self.now.tokens.now.tokens r (readers (names_in self.now.typedefs.now (R.types self.now.reader.now) (tables into.old) self.now.tokens.now.tokens) depth InitDeclarators (drop at self.now.tokens.now.tokens))) }
+        ensures ok { ReadsFrom self.now at (tables into.new) is_declaration result (readers (known_names R.types self.now (tables into.old)) depth InitDeclarators) }
     {
         let line = line_at(self.tokens, at);
         match self.read(Part::Declarator(Form::Named), at, depth, into)? {
@@ -85,10 +82,10 @@ impl<R: TypeReader> Source<'_, R> {
         into: &mut Unit,
     ) -> Result<(Vec<NodeId>, u32), NoMemory>
         requires place { at ≤ length self.now.tokens.now.tokens }
-        requires tied { AreGiven (list_map self.now.lists.now) self.now.typedefs.now (R.types self.now.reader.now) (tables into.old) self.now.tokens.now.tokens }
+        requires tied { AreKnown R.types self.now (tables into.old) }
         requires first { Is (tables into.old) is_declaration first }
         ensures keeps { Extends (tables into.old) (tables into.new) }
-        ensures ok { IfOk result (λ r. AreAnswered (tables into.new) is_declaration self.now.tokens.now.tokens r.0.items r.1 (row (after_comma (readers (names_in self.now.typedefs.now (R.types self.now.reader.now) (tables into.old) self.now.tokens.now.tokens) below InitDeclarators)) (Then NoTrees (tree_at (tables into.old).forest first)) (drop at self.now.tokens.now.tokens))) }
+        ensures ok { IfOk result (λ r. RowReads self.now at (tables into.new) is_declaration r.0.items r.1 (declared_from (readers (known_names R.types self.now (tables into.old)) below) (tree_at (tables into.old).forest first))) }
     {
         let mut declared = Vec::new(*self.typedefs.allocator());
         declared.push(first)?;
@@ -112,9 +109,9 @@ impl<R: TypeReader> Source<'_, R> {
         into: &mut Unit,
     ) -> Result<Option<(NodeId, u32)>, NoMemory>
         requires place { at ≤ length self.now.tokens.now.tokens }
-        requires tied { AreGiven (list_map self.now.lists.now) self.now.typedefs.now (R.types self.now.reader.now) (tables into.old) self.now.tokens.now.tokens }
+        requires tied { AreKnown R.types self.now (tables into.old) }
         ensures keeps { Extends (tables into.old) (tables into.new) }
-        ensures ok { IfOk result (λ r. Answers (tables into.new) is_declaration self.now.tokens.now.tokens r (declaration (names_in self.now.typedefs.now (R.types self.now.reader.now) (tables into.old) self.now.tokens.now.tokens) depth (drop at self.now.tokens.now.tokens))) }
+        ensures ok { ReadsFrom self.now at (tables into.new) is_declaration result (declaration (known_names R.types self.now (tables into.old)) depth) }
     {
         if depth == 0 {
             return Ok(None);
@@ -135,9 +132,9 @@ impl<R: TypeReader> Source<'_, R> {
         into: &mut Unit,
     ) -> Result<Option<(NodeId, u32)>, NoMemory>
         requires place { at ≤ length self.now.tokens.now.tokens }
-        requires tied { AreGiven (list_map self.now.lists.now) self.now.typedefs.now (R.types self.now.reader.now) (tables into.old) self.now.tokens.now.tokens }
+        requires tied { AreKnown R.types self.now (tables into.old) }
         ensures keeps { Extends (tables into.old) (tables into.new) }
-        ensures ok { IfOk result (λ r. Answers (tables into.new) is_declaration self.now.tokens.now.tokens r (type_name (names_in self.now.typedefs.now (R.types self.now.reader.now) (tables into.old) self.now.tokens.now.tokens) depth (drop at self.now.tokens.now.tokens))) }
+        ensures ok { ReadsFrom self.now at (tables into.new) is_declaration result (type_name (known_names R.types self.now (tables into.old)) depth) }
     {
         let line = line_at(self.tokens, at);
         let (specs, next) = self.row(Part::Specifier, at, depth, into)?;
@@ -185,9 +182,6 @@ pub fn declaration<R: TypeReader>(
     ensures none { let names = names_in types.now (R.types reader.now) (tables into.old) t.now.tokens in
         IfOk result (λ r. r ≡ None → (d : DeclarationTree) (end : ℕ) → at ≤ end → end ≤ length t.now.tokens
         → SpellsDeclaration names depth t.now.tokens at end d → ⊥) }
-    // It is what reading from the left gives.
-    ensures reads { let names = names_in types.now (R.types reader.now) (tables into.old) t.now.tokens in
-        IfOk result (λ r. Answers (tables into.new) is_declaration t.now.tokens r (declaration names depth (drop at t.now.tokens))) }
 {
     if at > t.len() {
         return Ok(None);

@@ -1,29 +1,24 @@
 //! Reading the parts of declarations from the left, each with the parts within it.
 ghost use Rattle.std.specs.Prelude.{◌≡◌, ◌≤◌, length, drop, Some, IfOk, IfSome, option_and_then};
-ghost use Rattle.pv_tree.specs.Places.{Specifiers, Members, Enumerators, Parameters};
+ghost use Rattle.pv_tree.specs.Places.{Specifiers, Members, Parameters};
 ghost use Rattle.pv_tree.specs.Rows.{tables};
 ghost use Rattle.pv_tree.specs.Syntax.{NoTrees};
 ghost use Rattle.pv_tree.specs.Tables.{tree_at, optional_at, is_declaration, is_declarator, is_specifier, Is, Extends};
-ghost use Rattle.pv_expr_forms.specs.Known.{names_in};
 ghost use Rattle.pv_expr_forms.specs.Reader.{after};
-ghost use Rattle.pv_decl_forms.specs.Answers.{Answers};
-ghost use Rattle.pv_decl.specs.Filled.{list_map};
-ghost use Rattle.pv_decl_forms.specs.Givens.{AreGiven};
-ghost use Rattle.pv_decl_forms.specs.Rows.{AreAnswered};
 ghost use Rattle.pv_decl_forms.specs.declared.forms.Part.TheVariants as part;
 ghost use Rattle.pv_decl_forms.specs.Declarators.{consts_in_row, grown, head, longer, opened, parametrized, pointer};
 ghost use Rattle.pv_decl_forms.specs.Parts.{kind_of_part, place_of_part, word_of_tag, within, function_of};
 ghost use Rattle.pv_decl_forms.specs.Pieces.{is_open_brace, row, listed};
 ghost use Rattle.pv_decl_forms.specs.Reader.{readers, braced};
+ghost use Rattle.pv_decl.specs.Sources.{known_names, AreKnown, ReadsFrom, RowReads};
 
-use crate::lists::DEPTH_LIMIT;
 use crate::source::Source;
 use pv_decl_forms::{
-    Form, Opening, Part, Sign, TagWord, after, composite, consts_in_row, enumeration, function_of,
-    line_at, may_go_on, member_of, named, opening_of, opens_parameters, parameter_of,
+    DEPTH_LIMIT, Form, Opening, Part, Sign, TagWord, after, composite, consts_in_row, enumeration,
+    function_of, may_go_on, member_of, named, opening_of, opens_parameters, parameter_of,
     parenthesized, plain, pointed, tag_alone, tag_at, tag_word,
 };
-use pv_expr_forms::peek;
+use pv_expr_forms::{line_at, peek};
 use pv_token::NoMemory;
 use pv_tree::{NodeId, TypeReader, Unit};
 
@@ -38,9 +33,9 @@ impl<R: TypeReader> Source<'_, R> {
         into: &mut Unit,
     ) -> Result<Option<(NodeId, u32)>, NoMemory>
         requires place { at ≤ length self.now.tokens.now.tokens }
-        requires tied { AreGiven (list_map self.now.lists.now) self.now.typedefs.now (R.types self.now.reader.now) (tables into.old) self.now.tokens.now.tokens }
+        requires tied { AreKnown R.types self.now (tables into.old) }
         ensures keeps { Extends (tables into.old) (tables into.new) }
-        ensures ok { IfOk result (λ r. Answers (tables into.new) (kind_of_part part) self.now.tokens.now.tokens r (readers (names_in self.now.typedefs.now (R.types self.now.reader.now) (tables into.old) self.now.tokens.now.tokens) depth (place_of_part part) (drop at self.now.tokens.now.tokens))) }
+        ensures ok { ReadsFrom self.now at (tables into.new) (kind_of_part part) result (readers (known_names R.types self.now (tables into.old)) depth (place_of_part part)) }
     {
         match part {
             Part::Specifier => self.specifier(at, depth, into),
@@ -61,9 +56,9 @@ impl<R: TypeReader> Source<'_, R> {
         into: &mut Unit,
     ) -> Result<(Vec<NodeId>, u32), NoMemory>
         requires place { at ≤ length self.now.tokens.now.tokens }
-        requires tied { AreGiven (list_map self.now.lists.now) self.now.typedefs.now (R.types self.now.reader.now) (tables into.old) self.now.tokens.now.tokens }
+        requires tied { AreKnown R.types self.now (tables into.old) }
         ensures keeps { Extends (tables into.old) (tables into.new) }
-        ensures ok { IfOk result (λ r. AreAnswered (tables into.new) (kind_of_part part) self.now.tokens.now.tokens r.0.items r.1 (row (readers (names_in self.now.typedefs.now (R.types self.now.reader.now) (tables into.old) self.now.tokens.now.tokens) depth (place_of_part part)) NoTrees (drop at self.now.tokens.now.tokens))) }
+        ensures ok { IfOk result (λ r. RowReads self.now at (tables into.new) (kind_of_part part) r.0.items r.1 (row (readers (known_names R.types self.now (tables into.old)) depth (place_of_part part)) NoTrees)) }
     {
         let mut parts = Vec::new(*self.typedefs.allocator());
         let mut next = at;
@@ -86,9 +81,9 @@ impl<R: TypeReader> Source<'_, R> {
         into: &mut Unit,
     ) -> Result<(Vec<NodeId>, u32), NoMemory>
         requires place { at ≤ length self.now.tokens.now.tokens }
-        requires tied { AreGiven (list_map self.now.lists.now) self.now.typedefs.now (R.types self.now.reader.now) (tables into.old) self.now.tokens.now.tokens }
+        requires tied { AreKnown R.types self.now (tables into.old) }
         ensures keeps { Extends (tables into.old) (tables into.new) }
-        ensures ok { IfOk result (λ r. AreAnswered (tables into.new) (kind_of_part part) self.now.tokens.now.tokens r.0.items r.1 (listed (readers (names_in self.now.typedefs.now (R.types self.now.reader.now) (tables into.old) self.now.tokens.now.tokens) depth (place_of_part part)) (drop at self.now.tokens.now.tokens))) }
+        ensures ok { IfOk result (λ r. RowReads self.now at (tables into.new) (kind_of_part part) r.0.items r.1 (listed (readers (known_names R.types self.now (tables into.old)) depth (place_of_part part)))) }
     {
         let mut parts = Vec::new(*self.typedefs.allocator());
         let mut behind = at;
@@ -116,9 +111,9 @@ impl<R: TypeReader> Source<'_, R> {
         into: &mut Unit,
     ) -> Result<Option<(NodeId, u32)>, NoMemory>
         requires place { at ≤ length self.now.tokens.now.tokens }
-        requires tied { AreGiven (list_map self.now.lists.now) self.now.typedefs.now (R.types self.now.reader.now) (tables into.old) self.now.tokens.now.tokens }
+        requires tied { AreKnown R.types self.now (tables into.old) }
         ensures keeps { Extends (tables into.old) (tables into.new) }
-        ensures ok { IfOk result (λ r. Answers (tables into.new) is_specifier self.now.tokens.now.tokens r (readers (names_in self.now.typedefs.now (R.types self.now.reader.now) (tables into.old) self.now.tokens.now.tokens) depth Specifiers (drop at self.now.tokens.now.tokens))) }
+        ensures ok { ReadsFrom self.now at (tables into.new) is_specifier result (readers (known_names R.types self.now (tables into.old)) depth Specifiers) }
     {
         let Some(token) = peek(self.tokens, at) else {
             return Ok(None);
@@ -146,9 +141,9 @@ impl<R: TypeReader> Source<'_, R> {
         into: &mut Unit,
     ) -> Result<Option<(NodeId, u32)>, NoMemory>
         requires place { at ≤ length self.now.tokens.now.tokens }
-        requires tied { AreGiven (list_map self.now.lists.now) self.now.typedefs.now (R.types self.now.reader.now) (tables into.old) self.now.tokens.now.tokens }
+        requires tied { AreKnown R.types self.now (tables into.old) }
         ensures keeps { Extends (tables into.old) (tables into.new) }
-        ensures ok { IfOk result (λ r. Answers (tables into.new) is_specifier self.now.tokens.now.tokens r (option_and_then (braced (within (names_in self.now.typedefs.now (R.types self.now.reader.now) (tables into.old) self.now.tokens.now.tokens) depth) line (word_of_tag word) tag) (after is_open_brace (drop at self.now.tokens.now.tokens)))) }
+        ensures ok { ReadsFrom self.now at (tables into.new) is_specifier result (λ ts. option_and_then (braced (within (known_names R.types self.now (tables into.old)) depth) line (word_of_tag word) tag) (after is_open_brace ts)) }
     {
         let Some(inside) = after(self.tokens, at, Sign::OpenBrace) else {
             return Ok(None);
@@ -177,9 +172,9 @@ impl<R: TypeReader> Source<'_, R> {
         into: &mut Unit,
     ) -> Result<Option<(NodeId, u32)>, NoMemory>
         requires place { at ≤ length self.now.tokens.now.tokens }
-        requires tied { AreGiven (list_map self.now.lists.now) self.now.typedefs.now (R.types self.now.reader.now) (tables into.old) self.now.tokens.now.tokens }
+        requires tied { AreKnown R.types self.now (tables into.old) }
         ensures keeps { Extends (tables into.old) (tables into.new) }
-        ensures ok { IfOk result (λ r. Answers (tables into.new) is_declaration self.now.tokens.now.tokens r (readers (names_in self.now.typedefs.now (R.types self.now.reader.now) (tables into.old) self.now.tokens.now.tokens) depth Members (drop at self.now.tokens.now.tokens))) }
+        ensures ok { ReadsFrom self.now at (tables into.new) is_declaration result (readers (known_names R.types self.now (tables into.old)) depth Members) }
     {
         let line = line_at(self.tokens, at);
         let (specs, next) = self.row(Part::Specifier, at, depth, into)?;
@@ -199,9 +194,9 @@ impl<R: TypeReader> Source<'_, R> {
         into: &mut Unit,
     ) -> Result<Option<(NodeId, u32)>, NoMemory>
         requires place { at ≤ length self.now.tokens.now.tokens }
-        requires tied { AreGiven (list_map self.now.lists.now) self.now.typedefs.now (R.types self.now.reader.now) (tables into.old) self.now.tokens.now.tokens }
+        requires tied { AreKnown R.types self.now (tables into.old) }
         ensures keeps { Extends (tables into.old) (tables into.new) }
-        ensures ok { IfOk result (λ r. Answers (tables into.new) is_declaration self.now.tokens.now.tokens r (readers (names_in self.now.typedefs.now (R.types self.now.reader.now) (tables into.old) self.now.tokens.now.tokens) depth Parameters (drop at self.now.tokens.now.tokens))) }
+        ensures ok { ReadsFrom self.now at (tables into.new) is_declaration result (readers (known_names R.types self.now (tables into.old)) depth Parameters) }
     {
         if depth == 0 {
             return Ok(None);
@@ -225,9 +220,9 @@ impl<R: TypeReader> Source<'_, R> {
         into: &mut Unit,
     ) -> Result<Option<(NodeId, u32)>, NoMemory>
         requires place { at ≤ length self.now.tokens.now.tokens }
-        requires tied { AreGiven (list_map self.now.lists.now) self.now.typedefs.now (R.types self.now.reader.now) (tables into.old) self.now.tokens.now.tokens }
+        requires tied { AreKnown R.types self.now (tables into.old) }
         ensures keeps { Extends (tables into.old) (tables into.new) }
-        ensures ok { IfOk result (λ r. Answers (tables into.new) is_declarator self.now.tokens.now.tokens r (readers (names_in self.now.typedefs.now (R.types self.now.reader.now) (tables into.old) self.now.tokens.now.tokens) depth (place_of_part (part.Declarator form)) (drop at self.now.tokens.now.tokens))) }
+        ensures ok { ReadsFrom self.now at (tables into.new) is_declarator result (readers (known_names R.types self.now (tables into.old)) depth (place_of_part (part.Declarator form))) }
     {
         if depth == 0 {
             return Ok(None);
@@ -250,10 +245,10 @@ impl<R: TypeReader> Source<'_, R> {
         into: &mut Unit,
     ) -> Result<Option<(NodeId, u32)>, NoMemory>
         requires place { at ≤ length self.now.tokens.now.tokens }
-        requires tied { AreGiven (list_map self.now.lists.now) self.now.typedefs.now (R.types self.now.reader.now) (tables into.old) self.now.tokens.now.tokens }
+        requires tied { AreKnown R.types self.now (tables into.old) }
         requires node { Is (tables into.old) is_declarator first }
         ensures keeps { Extends (tables into.old) (tables into.new) }
-        ensures ok { IfOk result (λ r. Answers (tables into.new) is_declarator self.now.tokens.now.tokens r (Some (grown (readers (names_in self.now.typedefs.now (R.types self.now.reader.now) (tables into.old) self.now.tokens.now.tokens) below) below line (tree_at (tables into.old).forest first) (drop at self.now.tokens.now.tokens)))) }
+        ensures ok { ReadsFrom self.now at (tables into.new) is_declarator result (λ ts. Some (grown (readers (known_names R.types self.now (tables into.old)) below) below line (tree_at (tables into.old).forest first) ts)) }
     {
         let mut left = first;
         let mut next = at;
@@ -280,10 +275,10 @@ impl<R: TypeReader> Source<'_, R> {
         into: &mut Unit,
     ) -> Result<Option<(NodeId, u32)>, NoMemory>
         requires place { at ≤ length self.now.tokens.now.tokens }
-        requires tied { AreGiven (list_map self.now.lists.now) self.now.typedefs.now (R.types self.now.reader.now) (tables into.old) self.now.tokens.now.tokens }
+        requires tied { AreKnown R.types self.now (tables into.old) }
         requires node { Is (tables into.old) is_declarator left }
         ensures keeps { Extends (tables into.old) (tables into.new) }
-        ensures ok { IfOk result (λ r. Answers (tables into.new) is_declarator self.now.tokens.now.tokens r (longer (readers (names_in self.now.typedefs.now (R.types self.now.reader.now) (tables into.old) self.now.tokens.now.tokens) below) below line (tree_at (tables into.old).forest left) (drop at self.now.tokens.now.tokens))) }
+        ensures ok { ReadsFrom self.now at (tables into.new) is_declarator result (longer (readers (known_names R.types self.now (tables into.old)) below) below line (tree_at (tables into.old).forest left)) }
     {
         if !may_go_on(into, left, below) {
             return Ok(None);
@@ -313,10 +308,10 @@ impl<R: TypeReader> Source<'_, R> {
         into: &mut Unit,
     ) -> Result<Option<(NodeId, u32)>, NoMemory>
         requires place { at ≤ length self.now.tokens.now.tokens }
-        requires tied { AreGiven (list_map self.now.lists.now) self.now.typedefs.now (R.types self.now.reader.now) (tables into.old) self.now.tokens.now.tokens }
+        requires tied { AreKnown R.types self.now (tables into.old) }
         requires left { IfSome left (λ n. Is (tables into.old) is_declarator n) }
         ensures keeps { Extends (tables into.old) (tables into.new) }
-        ensures ok { IfOk result (λ r. Answers (tables into.new) is_declarator self.now.tokens.now.tokens r (parametrized (function_of line (optional_at (tables into.old).forest left)) (readers (names_in self.now.typedefs.now (R.types self.now.reader.now) (tables into.old) self.now.tokens.now.tokens) below) (drop at self.now.tokens.now.tokens))) }
+        ensures ok { ReadsFrom self.now at (tables into.new) is_declarator result (parametrized (function_of line (optional_at (tables into.old).forest left)) (readers (known_names R.types self.now (tables into.old)) below)) }
     {
         if below <= DEPTH_LIMIT {
             if let Some(list) = self.lists.at(at) {
@@ -337,9 +332,9 @@ impl<R: TypeReader> Source<'_, R> {
         into: &mut Unit,
     ) -> Result<Option<(NodeId, u32)>, NoMemory>
         requires place { at ≤ length self.now.tokens.now.tokens }
-        requires tied { AreGiven (list_map self.now.lists.now) self.now.typedefs.now (R.types self.now.reader.now) (tables into.old) self.now.tokens.now.tokens }
+        requires tied { AreKnown R.types self.now (tables into.old) }
         ensures keeps { Extends (tables into.old) (tables into.new) }
-        ensures ok { IfOk result (λ r. Answers (tables into.new) is_declarator self.now.tokens.now.tokens r (head (names_in self.now.typedefs.now (R.types self.now.reader.now) (tables into.old) self.now.tokens.now.tokens) (readers (names_in self.now.typedefs.now (R.types self.now.reader.now) (tables into.old) self.now.tokens.now.tokens) below) form (drop at self.now.tokens.now.tokens))) }
+        ensures ok { ReadsFrom self.now at (tables into.new) is_declarator result (head (known_names R.types self.now (tables into.old)) (readers (known_names R.types self.now (tables into.old)) below) form) }
     {
         let Some(token) = peek(self.tokens, at) else {
             return Ok(None);
@@ -370,9 +365,9 @@ impl<R: TypeReader> Source<'_, R> {
         into: &mut Unit,
     ) -> Result<Option<(NodeId, u32)>, NoMemory>
         requires place { at ≤ length self.now.tokens.now.tokens }
-        requires tied { AreGiven (list_map self.now.lists.now) self.now.typedefs.now (R.types self.now.reader.now) (tables into.old) self.now.tokens.now.tokens }
+        requires tied { AreKnown R.types self.now (tables into.old) }
         ensures keeps { Extends (tables into.old) (tables into.new) }
-        ensures ok { IfOk result (λ r. Answers (tables into.new) is_declarator self.now.tokens.now.tokens r (pointer (readers (names_in self.now.typedefs.now (R.types self.now.reader.now) (tables into.old) self.now.tokens.now.tokens) below) form line (consts_in_row (drop at self.now.tokens.now.tokens)) (drop (consts_in_row (drop at self.now.tokens.now.tokens)) (drop at self.now.tokens.now.tokens)))) }
+        ensures ok { ReadsFrom self.now at (tables into.new) is_declarator result (λ ts. pointer (readers (known_names R.types self.now (tables into.old)) below) form line (consts_in_row ts) (drop (consts_in_row ts) ts)) }
     {
         let (consts, behind) = consts_in_row(self.tokens, at);
         let inner = self.read(Part::Declarator(form), behind, below, into)?;
@@ -391,9 +386,9 @@ impl<R: TypeReader> Source<'_, R> {
         into: &mut Unit,
     ) -> Result<Option<(NodeId, u32)>, NoMemory>
         requires place { at ≤ length self.now.tokens.now.tokens }
-        requires tied { AreGiven (list_map self.now.lists.now) self.now.typedefs.now (R.types self.now.reader.now) (tables into.old) self.now.tokens.now.tokens }
+        requires tied { AreKnown R.types self.now (tables into.old) }
         ensures keeps { Extends (tables into.old) (tables into.new) }
-        ensures ok { IfOk result (λ r. Answers (tables into.new) is_declarator self.now.tokens.now.tokens r (opened (names_in self.now.typedefs.now (R.types self.now.reader.now) (tables into.old) self.now.tokens.now.tokens) (readers (names_in self.now.typedefs.now (R.types self.now.reader.now) (tables into.old) self.now.tokens.now.tokens) below) form line (drop at self.now.tokens.now.tokens))) }
+        ensures ok { ReadsFrom self.now at (tables into.new) is_declarator result (opened (known_names R.types self.now (tables into.old)) (readers (known_names R.types self.now (tables into.old)) below) form line) }
     {
         if opens_parameters(self.tokens, self.typedefs, at) {
             if form.allows_abstract() {

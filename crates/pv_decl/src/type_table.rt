@@ -13,9 +13,10 @@ ghost use Rattle.pv_decl_forms.specs.Givens.{AreGiven, parameter_list};
 ghost use Rattle.pv_decl_forms.specs.Grammar.{SpellsTypeName};
 ghost use Rattle.pv_decl_forms.specs.TypeNames.{AreTypeNames};
 
-use crate::lists::{DEPTH_LIMIT, ParameterLists};
+use crate::lists::ParameterLists;
 use crate::source::Source;
 use indexmap::IndexSet;
+use pv_decl_forms::DEPTH_LIMIT;
 use pv_expr_forms::{is_open, peek};
 use pv_token::{NoMemory, Tokens};
 use pv_tree::{NodeId, TypeReader, Unit};

@@ -1,18 +1,14 @@
 //! Parts of declarations that expressions stand in.
-ghost use Rattle.std.specs.Prelude.{◌≡◌, ◌≤◌, IfSome, length, drop, Some, None, IfOk, if◌then◌else◌};
+ghost use Rattle.std.specs.Prelude.{◌≡◌, ◌≤◌, IfSome, length, None, IfOk, if◌then◌else◌};
 ghost use Rattle.pv_tree.specs.Rows.{tables};
 ghost use Rattle.pv_tree.specs.Syntax.{Absent};
 ghost use Rattle.pv_tree.specs.Tables.{optional_at, is_declaration, is_declarator, is_expression, Is, Extends};
 ghost use Rattle.pv_tree.specs.Places.{Constants, Enumerators};
-ghost use Rattle.pv_expr_forms.specs.Known.{names_in};
-ghost use Rattle.pv_decl_forms.specs.Answers.{Answers};
-ghost use Rattle.pv_decl.specs.Filled.{list_map};
-ghost use Rattle.pv_decl_forms.specs.Givens.{AreGiven};
-ghost use Rattle.pv_decl_forms.specs.Rows.{MayBeAnswered};
 ghost use Rattle.pv_decl_forms.specs.Declarators.{allows_abstract, sized};
 ghost use Rattle.pv_decl_forms.specs.Parts.{array_of};
-ghost use Rattle.pv_decl_forms.specs.Pieces.{optional, value};
+ghost use Rattle.pv_decl_forms.specs.Pieces.{value};
 ghost use Rattle.pv_decl_forms.specs.Reader.{readers};
+ghost use Rattle.pv_decl.specs.Sources.{known_names, AreKnown, ReadsFrom, MayRead};
 
 use crate::source::Source;
 use pv_decl_forms::{Form, Sign, after, array_of, found_declaration, name_of};
@@ -31,9 +27,9 @@ impl<R: TypeReader> Source<'_, R> {
         into: &mut Unit,
     ) -> Result<Option<(NodeId, u32)>, NoMemory>
         requires place { at ≤ length self.now.tokens.now.tokens }
-        requires tied { AreGiven (list_map self.now.lists.now) self.now.typedefs.now (R.types self.now.reader.now) (tables into.old) self.now.tokens.now.tokens }
+        requires tied { AreKnown R.types self.now (tables into.old) }
         ensures keeps { Extends (tables into.old) (tables into.new) }
-        ensures ok { IfOk result (λ r. Answers (tables into.new) is_expression self.now.tokens.now.tokens r (readers (names_in self.now.typedefs.now (R.types self.now.reader.now) (tables into.old) self.now.tokens.now.tokens) depth Constants (drop at self.now.tokens.now.tokens))) }
+        ensures ok { ReadsFrom self.now at (tables into.new) is_expression result (readers (known_names R.types self.now (tables into.old)) depth Constants) }
     {
         expression(
             self.tokens,
@@ -57,10 +53,10 @@ impl<R: TypeReader> Source<'_, R> {
         into: &mut Unit,
     ) -> Result<Option<(NodeId, u32)>, NoMemory>
         requires place { at ≤ length self.now.tokens.now.tokens }
-        requires tied { AreGiven (list_map self.now.lists.now) self.now.typedefs.now (R.types self.now.reader.now) (tables into.old) self.now.tokens.now.tokens }
+        requires tied { AreKnown R.types self.now (tables into.old) }
         requires left { IfSome left (λ n. Is (tables into.old) is_declarator n) }
         ensures keeps { Extends (tables into.old) (tables into.new) }
-        ensures ok { IfOk result (λ r. Answers (tables into.new) is_declarator self.now.tokens.now.tokens r (sized (array_of line (optional_at (tables into.old).forest left)) (readers (names_in self.now.typedefs.now (R.types self.now.reader.now) (tables into.old) self.now.tokens.now.tokens) below) (drop at self.now.tokens.now.tokens))) }
+        ensures ok { ReadsFrom self.now at (tables into.new) is_declarator result (sized (array_of line (optional_at (tables into.old).forest left)) (readers (known_names R.types self.now (tables into.old)) below)) }
     {
         match self.constant(at, below, into)? {
             Some((size, end)) => array_of(self.tokens, end, left, Some(size), line, into),
@@ -78,9 +74,9 @@ impl<R: TypeReader> Source<'_, R> {
         into: &mut Unit,
     ) -> Result<Option<(NodeId, u32)>, NoMemory>
         requires place { at ≤ length self.now.tokens.now.tokens }
-        requires tied { AreGiven (list_map self.now.lists.now) self.now.typedefs.now (R.types self.now.reader.now) (tables into.old) self.now.tokens.now.tokens }
+        requires tied { AreKnown R.types self.now (tables into.old) }
         ensures keeps { Extends (tables into.old) (tables into.new) }
-        ensures ok { IfOk result (λ r. Answers (tables into.new) is_declarator self.now.tokens.now.tokens r (if allows_abstract form then sized (array_of line Absent) (readers (names_in self.now.typedefs.now (R.types self.now.reader.now) (tables into.old) self.now.tokens.now.tokens) below) (drop at self.now.tokens.now.tokens) else None)) }
+        ensures ok { ReadsFrom self.now at (tables into.new) is_declarator result (λ ts. if allows_abstract form then sized (array_of line Absent) (readers (known_names R.types self.now (tables into.old)) below) ts else None) }
     {
         if form.allows_abstract() {
             self.array(at, None, line, below, into)
@@ -97,9 +93,9 @@ impl<R: TypeReader> Source<'_, R> {
         into: &mut Unit,
     ) -> Result<(Option<NodeId>, u32), NoMemory>
         requires place { at ≤ length self.now.tokens.now.tokens }
-        requires tied { AreGiven (list_map self.now.lists.now) self.now.typedefs.now (R.types self.now.reader.now) (tables into.old) self.now.tokens.now.tokens }
+        requires tied { AreKnown R.types self.now (tables into.old) }
         ensures keeps { Extends (tables into.old) (tables into.new) }
-        ensures ok { IfOk result (λ r. MayBeAnswered (tables into.new) is_expression self.now.tokens.now.tokens r.0 r.1 (value (readers (names_in self.now.typedefs.now (R.types self.now.reader.now) (tables into.old) self.now.tokens.now.tokens) depth Constants) (drop at self.now.tokens.now.tokens))) }
+        ensures ok { IfOk result (λ r. MayRead self.now at (tables into.new) is_expression r.0 r.1 (value (readers (known_names R.types self.now (tables into.old)) depth Constants))) }
     {
         let Some(behind) = after(self.tokens, at, Sign::Equals) else {
             return Ok((None, at));
@@ -118,9 +114,9 @@ impl<R: TypeReader> Source<'_, R> {
         into: &mut Unit,
     ) -> Result<Option<(NodeId, u32)>, NoMemory>
         requires place { at ≤ length self.now.tokens.now.tokens }
-        requires tied { AreGiven (list_map self.now.lists.now) self.now.typedefs.now (R.types self.now.reader.now) (tables into.old) self.now.tokens.now.tokens }
+        requires tied { AreKnown R.types self.now (tables into.old) }
         ensures keeps { Extends (tables into.old) (tables into.new) }
-        ensures ok { IfOk result (λ r. Answers (tables into.new) is_declaration self.now.tokens.now.tokens r (readers (names_in self.now.typedefs.now (R.types self.now.reader.now) (tables into.old) self.now.tokens.now.tokens) depth Enumerators (drop at self.now.tokens.now.tokens))) }
+        ensures ok { ReadsFrom self.now at (tables into.new) is_declaration result (readers (known_names R.types self.now (tables into.old)) depth Enumerators) }
     {
         let Some(token) = peek(self.tokens, at) else {
             return Ok(None);

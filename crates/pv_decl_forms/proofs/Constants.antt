@@ -69,10 +69,6 @@ module _ (u v : Tables) (tokens : List Token) (at line : ℕ) (below : Reads) (l
 -- ---- values behind `=`
 
 module _ (u : Tables) (kind : Tree → Bool) (tokens : List Token) (at : ℕ) (place : at ≤ length tokens) (part : List Token → Piece) where
-  pub value_not : after is_equals (drop at tokens) ≡ None → MayBeAnswered u kind tokens None at (value part (drop at tokens))
-  unfolding value
-  value_not e = record { is = rw e refl; there = tt; place = place }
-
   module _ (behind : ℕ) (e : after is_equals (drop at tokens) ≡ Some (drop behind tokens)) (answer : Option (NodeId × ℕ)) (a : Answers u kind tokens answer (part (drop behind tokens))) where
     pub value_none : answer ≡ None → MayBeAnswered u kind tokens None at (value part (drop at tokens))
     unfolding value

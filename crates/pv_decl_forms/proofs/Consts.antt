@@ -1,5 +1,5 @@
 -- Words `const` in a row, by places.
-use Rattle.std.proofs.Common.{◌≡◌, ◌<◌, ◌+◌, ℕ, suc, true, false, List, [], ◌∷◌, length, drop, refl, sym, arith}
+use Rattle.std.proofs.Common.{◌≡◌, ◌<◌, ◌+◌, ℕ, suc, true, List, [], ◌∷◌, length, drop, refl, sym, arith}
 use Rattle.pv_token.specs.declared.token_table.Token.{Token}
 use Rattle.pv_expr_forms.proofs.Places.{behind_first}
 use Rattle.pv_decl_forms.specs.Declarators.{consts_in_row}
@@ -17,8 +17,3 @@ const_there tokens at (t ∷ ts) d e = (behind_first tokens at (suc at) t ts d r
 pub const_more : (tokens : List Token) (at : ℕ) → is_const_next (drop at tokens) ≡ true → (at < length tokens) × (consts_in_row (drop at tokens) ≡ suc (consts_in_row (drop (at + 1) tokens)))
 const_more tokens at e =
     (const_there tokens at (drop at tokens) refl e, const_on (drop at tokens) (drop (at + 1) tokens) e (λ t others is. sym (behind_first tokens at (at + 1) t others is (omega arith)).0))
-
--- no more
-pub const_end : (ts : List Token) → is_const_next ts ≡ false → consts_in_row ts ≡ 0
-const_end [] e = refl
-const_end (t ∷ ts) e = rw e refl

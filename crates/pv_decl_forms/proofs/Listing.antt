@@ -1,12 +1,12 @@
 -- Parts that are made of lists of nodes.
-use Rattle.std.proofs.Common.{◌≡◌, ◌<◌, ◌==◌, ℕ, Bool, true, false, cond, List, [], ◌∷◌, length, Option, Some, None, option_and_then, All, refl, sym, ap, subst, ◌∙◌, arith}
+use Rattle.std.proofs.Common.{◌≡◌, ◌<◌, ◌==◌, ℕ, Bool, true, false, List, [], ◌∷◌, length, Some, option_and_then, All, refl, sym, ap, subst, ◌∙◌, arith}
 use Rattle.std.specs.List.{fold}
 use Rattle.std.proofs.lemmas.Bool.{eqb-true}
 use Rattle.std.proofs.lemmas.List.{length-append, get_or_push}
 use Rattle.pv_token.specs.declared.token_table.Token.{Token}
 use Rattle.pv_tree.specs.declared.nodes.NodeId.{NodeId}
 use Rattle.pv_tree.specs.declared.nodes.ListId.{ListId}
-use Rattle.pv_tree.specs.Syntax.{DeclarationTree, Declaration, MemberDeclaration, Tree, OfDeclaration, Trees, Then}
+use Rattle.pv_tree.specs.Syntax.{Declaration, MemberDeclaration, Tree, OfDeclaration, Trees, Then}
 use Rattle.pv_tree.specs.Places.{some}
 use Rattle.pv_tree.specs.Tables.{Forest, Tables, tree_at, trees_of, trees_at, with_list, HasList, Is}
 use Rattle.pv_tree.proofs.Kept.{list_kept, extends_list, list_new, has_list_kept}
@@ -45,62 +45,20 @@ none_of f (n ∷ ns) e = absurd (omega (arith, eqb-true (length (n ∷ ns)) 0 e)
 
 -- ---- what stands behind them
 
-neither : {A : Type 0} (b : Bool) → ◌≡◌ {A = Option A} None (cond b None None)
-neither true = refl
-neither false = refl
-
 module _ (make : Trees → Bool → Tree) (f : Forest) (ns : List NodeId) (ts : List Token) where
-  pub braces_none : (length ns == 0) ≡ true → None ≡ listed_in_braces make (trees_of f ns, ts)
-  unfolding listed_in_braces
-  braces_none e = rw (none_of f ns e) refl
-
-  pub braces_open : (comma : Bool) (mid : List Token) → ◌≡◌ {A = Bool × List Token} (comma, mid) (found_in (after is_comma ts) ts) → after is_close_brace mid ≡ None
-      → None ≡ listed_in_braces make (trees_of f ns, ts)
-  unfolding listed_in_braces brace_closed
-  braces_open comma mid e a = rw (← e, a) (neither (some (trees_of f ns)))
-
   pub braces_close : (comma : Bool) (mid rest : List Token) (t : Tree) → (length ns == 0) ≡ false → ◌≡◌ {A = Bool × List Token} (comma, mid) (found_in (after is_comma ts) ts)
       → after is_close_brace mid ≡ Some rest → t ≡ make (trees_of f ns) comma → Some (t, rest) ≡ listed_in_braces make (trees_of f ns, ts)
   unfolding listed_in_braces brace_closed
   braces_close comma mid rest t s e a is = rw (some_of f ns s, ← e, a, is) refl
 
 module _ (make : Trees → Tree) (f : Forest) (ns : List NodeId) (ts : List Token) where
-  pub row_none : (length ns == 0) ≡ true → None ≡ row_in_braces make (trees_of f ns, ts)
-  unfolding row_in_braces
-  row_none e = rw (none_of f ns e) refl
-
-  pub row_open : after is_close_brace ts ≡ None → None ≡ row_in_braces make (trees_of f ns, ts)
-  unfolding row_in_braces
-  row_open a = rw a (neither (some (trees_of f ns)))
-
   pub row_close : (rest : List Token) (t : Tree) → (length ns == 0) ≡ false → after is_close_brace ts ≡ Some rest → t ≡ make (trees_of f ns) → Some (t, rest) ≡ row_in_braces make (trees_of f ns, ts)
   unfolding row_in_braces
   row_close rest t s a is = rw (some_of f ns s, a, is) refl
 
-module _ (d : DeclarationTree) (ts : List Token) where
-  pub ended_not : after is_semicolon ts ≡ None → None ≡ ended d ts
-  unfolding ended
-  ended_not a = rw a refl
-
-  pub ended_so : (rest : List Token) (t : DeclarationTree) → after is_semicolon ts ≡ Some rest → t ≡ d → Some (OfDeclaration t, rest) ≡ ended d ts
-  unfolding ended
-  ended_so rest t a is = rw (a, is) refl
-
-module _ (line : ℕ) (specs : Trees) (f : Forest) (ns : List NodeId) (ts : List Token) where
-  pub members_none : (length ns == 0) ≡ true → None ≡ with_members line specs (trees_of f ns, ts)
-  unfolding with_members
-  members_none e = rw (none_of f ns e) refl
-
-  pub members_not : after is_semicolon ts ≡ None → None ≡ with_members line specs (trees_of f ns, ts)
-  unfolding with_members ended
-  members_not a = rw a (neither (some (trees_of f ns)))
-
 -- ---- two lists that are kept, one behind the other
 
 module _ (u v w : Tables) (ns ms : List NodeId) (i j : ListId) (one : v ≡ with_list u ns) (at : i.0 ≡ length u.forest.lists) (two : w ≡ with_list v ms) (then_at : j.0 ≡ length v.forest.lists) where
-  trees_same : length v.forest.trees ≡ length u.forest.trees
-  trees_same = ap (λ (x : Tables). length x.forest.trees) one
-
   longer_list : i.0 < length v.forest.lists
   longer_list = omega (arith, at, ap (λ (x : Tables). length x.forest.lists) one, length-append u.forest.lists (ns ∷ []))
 

@@ -1,6 +1,6 @@
 -- Declarations, heads of functions and type names, once their parts are read.
-use Rattle.std.proofs.Common.{◌≡◌, ◌≤◌, ◌<◌, ◌-◌, ◌==◌, ℕ, zero, suc, Bool, true, false, List, [], ◌∷◌, ◌++◌, All, length, drop, Option, Some, None, Result, option_and_then, refl, sym, ap, ◌∙◌, arith, sub-one, nat_eq}
-use Rattle.std.specs.Prelude.{MatchOption, is_some, IfOk, IfSome}
+use Rattle.std.proofs.Common.{◌≡◌, ◌≤◌, ◌<◌, ◌-◌, ◌==◌, ℕ, zero, suc, Bool, true, false, List, [], ◌∷◌, ◌++◌, All, length, drop, Option, Some, None, Result, Ok, Err, option_and_then, refl, sym, ap, ◌∙◌, arith, sub-one, nat_eq}
+use Rattle.std.specs.Prelude.{is_some, IfOk, IfSome}
 use Rattle.std.proofs.lemmas.List.{drop_all}
 use Rattle.indexmap.specs.IndexSet.{IndexSet, contains}
 use Rattle.pv_token.specs.declared.token_table.Token.{Token}
@@ -12,6 +12,7 @@ use Rattle.pv_tree.specs.Tables.{Tables, tree_at, trees_of, declaration_at, is_d
 use Rattle.pv_tree.specs.TypeNames.{TypeMap, AreTied}
 use Rattle.pv_tree.proofs.Kept.{all_none, all_more}
 use Rattle.pv_expr_forms.specs.Reader.{is_comma, after}
+use Rattle.pv_expr_forms.specs.Answers.{IsBehind}
 use Rattle.pv_expr_forms.specs.Known.{names_in}
 use Rattle.pv_expr_forms.proofs.Naming.{names_kept}
 use Rattle.pv_expr_forms.proofs.Steps.{some_is}
@@ -24,7 +25,7 @@ use Rattle.pv_decl_forms.specs.Rows.{AreAnswered}
 use Rattle.pv_decl_forms.proofs.Answered.{moved, got, got_none}
 use Rattle.pv_decl_forms.proofs.Listing.{some_of, none_of}
 use Rattle.pv_decl_forms.proofs.Loops.{trees_kept}
-use Rattle.pv_decl_forms.proofs.Promises.{declaration_found, declaration_longest, declaration_only, declaration_none}
+use Rattle.pv_decl_forms.proofs.Promises.{declaration_found, declaration_longest, declaration_only, declaration_none, declaration_read}
 
 -- ---- what is read under the names of a unit that has grown
 
@@ -84,13 +85,13 @@ same_count a b x e h = rw (← e) h
 
 -- whether a `;` stands at a place
 pub semicolon_there : (tokens : List Token) (ts : List Token) (o : Option ℕ)
-    → MatchOption o (after is_semicolon ts ≡ None) (λ next. (after is_semicolon ts ≡ Some (drop next tokens)) × (next ≤ length tokens))
+    → IsBehind tokens o (after is_semicolon ts)
     → is_some o ≡ true → (rest : List Token) × (after is_semicolon ts ≡ Some rest)
 semicolon_there tokens ts None m e = absurd cc
 semicolon_there tokens ts (Some next) m e = (drop next tokens, m.0)
 
 pub no_semicolon : (tokens : List Token) (ts : List Token) (o : Option ℕ)
-    → MatchOption o (after is_semicolon ts ≡ None) (λ next. (after is_semicolon ts ≡ Some (drop next tokens)) × (next ≤ length tokens))
+    → IsBehind tokens o (after is_semicolon ts)
     → is_some o ≡ false → after is_semicolon ts ≡ None
 no_semicolon tokens ts None m e = m
 no_semicolon tokens ts (Some next) m e = absurd cc
@@ -206,3 +207,14 @@ module _ {S : Type 0} (typedefs : IndexSet ℕ S) (types : TypeMap) (u v : Table
   pub none : r ≡ None → (d : DeclarationTree) (end : ℕ) → at ≤ end → end ≤ length tokens → SpellsDeclaration (names_in typedefs types u tokens) deep tokens at end d → ⊥
   unfolding names_in
   none = declaration_none (contains nat_eq typedefs) types u v tokens at deep tied place r a
+
+-- what is promised is what reading gives
+module _ {S E : Type 0} (typedefs : IndexSet ℕ S) (types : TypeMap) (u v : Tables) (tokens : List Token) (at deep : ℕ) (tied : AreTied types u tokens) (place : at ≤ length tokens) where
+  pub is_read : (result : Result (Option (NodeId × ℕ)) E)
+      → IfOk result (λ r. IfSome r (λ x. Is v is_declaration x.0 × (at ≤ x.1) × (x.1 ≤ length tokens) × SpellsDeclaration (names_in typedefs types u tokens) deep tokens at x.1 (declaration_at v.forest x.0)))
+      → IfOk result (λ r. IfSome r (λ x. (d : DeclarationTree) (end : ℕ) → at ≤ end → end ≤ length tokens → SpellsDeclaration (names_in typedefs types u tokens) deep tokens at end d → end ≤ x.1))
+      → IfOk result (λ r. r ≡ None → (d : DeclarationTree) (end : ℕ) → at ≤ end → end ≤ length tokens → SpellsDeclaration (names_in typedefs types u tokens) deep tokens at end d → ⊥)
+      → IfOk result (λ r. Answers v is_declaration tokens r (declaration (names_in typedefs types u tokens) deep (drop at tokens)))
+  unfolding names_in
+  is_read (Ok r) f l n = declaration_read (contains nat_eq typedefs) types u v tokens at deep tied place r f l n
+  is_read (Err e) f l n = tt

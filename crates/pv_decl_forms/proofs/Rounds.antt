@@ -1,11 +1,10 @@
 -- The readers by what they read, and one step of reading at a place of one token list.
-use Rattle.std.proofs.Common.{◌≡◌, ◌≤◌, ◌<◌, ℕ, zero, suc, List, length, drop, Some, None, option_map, refl, arith}
+use Rattle.std.proofs.Common.{◌≡◌, ◌≤◌, ◌<◌, ℕ, zero, suc, List, length, drop, Some, None, refl, arith}
 use Rattle.std.proofs.lemmas.List.{length-drop}
 use Rattle.pv_token.specs.declared.token_table.Token.{Token}
-use Rattle.pv_tree.specs.Syntax.{Tree, OfExpression, Trees}
+use Rattle.pv_tree.specs.Syntax.{Tree, Trees}
 use Rattle.pv_tree.specs.Grammar.{Names}
-use Rattle.pv_tree.specs.Places.{Place, Specifiers, Members, Enumerators, Parameters, Initializers, Constants}
-use Rattle.pv_expr_forms.specs.Reader.{read}
+use Rattle.pv_tree.specs.Places.{Place, Specifiers, Members, Enumerators, Parameters, Initializers}
 use Rattle.pv_expr_forms.proofs.Heads.{IsSpelled}
 use Rattle.pv_expr_forms.proofs.Spans.{IsEnd, at_end}
 use Rattle.pv_decl_forms.specs.declared.forms.Form.{Form}
@@ -53,16 +52,6 @@ pub initializer_by : (names : Names) (depth : ℕ) (ts : List Token)
 unfolding readers with_parts made
 initializer_by names depth ts = refl
 
-pub no_initializer : (names : Names) (ts : List Token) → readers names zero Initializers ts ≡ None
-unfolding readers with_parts leaves
-no_initializer names ts = refl
-
-pub constant_by : (names : Names) (depth : ℕ) (ts : List Token)
-    → readers names depth Constants ts ≡ option_map {U = Tree × List Token} (λ x. (OfExpression x.0, x.1)) (read names depth 3 ts)
-unfolding readers with_parts made leaves read
-constant_by names zero ts = refl
-constant_by names (suc depth) ts = refl
-
 -- ---- what is no node of its own
 
 pub member_by : (names : Names) (depth : ℕ) (ts : List Token) → readers names depth Members ts ≡ member (readers names depth) ts
@@ -78,12 +67,6 @@ enumerator_by names (suc depth) ts = refl
 -- ---- at a place
 
 module _ (names : Names) (tokens : List Token) (spelled : IsSpelled names (IsEnd tokens)) (depth : ℕ) (place : Place) where
-  pub part_forward : (at next : ℕ) (t : Tree) → at ≤ length tokens → next ≤ length tokens
-      → readers names depth place (drop at tokens) ≡ Some (t, drop next tokens) → at < next
-  part_forward at next t p q e =
-      let short = part_shortens names (IsEnd tokens) spelled depth (readers names depth) (readers_sound names (IsEnd tokens) spelled depth) place in
-      omega (arith, short.less (drop at tokens) t (drop next tokens) (at_end tokens at p) e, length-drop at tokens, length-drop next tokens)
-
   pub comma_forward : (at next : ℕ) (t : Tree) → at ≤ length tokens → next ≤ length tokens
       → after_comma (readers names depth place) (drop at tokens) ≡ Some (t, drop next tokens) → at < next
   comma_forward at next t p q e =

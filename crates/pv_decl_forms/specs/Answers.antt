@@ -1,5 +1,5 @@
 -- What a function of the reader answers, as what reading on lists gives.
-use Rattle.std.specs.Prelude.{◌≡◌, ◌≤◌, ℕ, Bool, List, length, drop, Option, Some, None}
+use Rattle.std.specs.Prelude.{◌≡◌, ◌≤◌, ℕ, Bool, List, length, drop, Option, Some, None, Result, IfOk}
 use Rattle.pv_token.specs.declared.token_table.Token.{Token}
 use Rattle.pv_tree.specs.declared.nodes.NodeId.{NodeId}
 use Rattle.pv_tree.specs.Syntax.{Tree}
@@ -20,3 +20,7 @@ IsThere u kind tokens (Some x) = Is u kind x.0 × (x.1 ≤ length tokens)
 pub record Answers (u : Tables) (kind : Tree → Bool) (tokens : List Token) (answer : Option (NodeId × ℕ)) (reading : Piece) : Type 0 where
   pub is : seen u.forest tokens answer ≡ reading
   pub there : IsThere u kind tokens answer
+
+-- the same of what reading gives from a place on, unless memory is wanting
+abbrev pub AnswersAt : {E : Type 0} → Tables → (kind : Tree → Bool) → List Token → (at : ℕ) → Result (Option (NodeId × ℕ)) E → (List Token → Piece) → Type 0
+AnswersAt u kind tokens at result reading = IfOk result (λ r. Answers u kind tokens r (reading (drop at tokens)))

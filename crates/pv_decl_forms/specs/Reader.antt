@@ -185,6 +185,10 @@ after_declarator below line here specs t ts =
     then Some (OfDeclaration (Parameter line specs (Present t)), ts)
     else declared line specs (row (after_comma (below InitDeclarators)) (Then NoTrees (initialized below here t ts).0) (initialized below here t ts).1)
 
+-- the init-declarators from a first one on (6.7p1)
+abbrev pub declared_from : Reads → Tree → List Token → Trees × List Token
+declared_from reads first ts = row (after_comma (reads InitDeclarators)) (Then NoTrees first) ts
+
 -- once specifiers are read (6.7p1)
 unfoldable pub after_specifiers : Reads → (line : ℕ) → (specs : Trees) → List Token → Piece
 after_specifiers below line specs ts =
@@ -195,6 +199,7 @@ unfoldable pub declaration_with : Reads → (line : ℕ) → Trees × List Token
 declaration_with below line x = if some x.0 then after_specifiers below line x.0 x.1 else None
 
 -- a declaration to its `;` (6.7), or the head of a function to before its block (6.9.1): the specifiers and the declarator, as a parameter's
+-- (worked by hand in proofs/Worked: `initializes`, `heads` and where it is `too_deep`, `composes`, `declares` and `declares_none`)
 unfoldable pub declaration : Names → (depth : ℕ) → List Token → Piece
 declaration names zero ts = None
 declaration names (suc depth) ts = declaration_with (readers names depth) (line_here ts) (row (readers names depth Specifiers) NoTrees ts)

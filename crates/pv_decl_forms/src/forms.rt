@@ -5,6 +5,9 @@ ghost use Rattle.pv_decl_forms.specs.Parts.{test_of};
 
 use pv_token::{Mark, TokenKind};
 
+/// How deep an external declaration may be, and so what stands within (C17 5.2.4.1).
+pub const DEPTH_LIMIT: u32 = 500;
+
 /// Whether a declarator has a name (C17 6.7.6, 6.7.7).
 #[derive(Clone, Copy)]
 pub enum Form {

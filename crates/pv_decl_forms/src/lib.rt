@@ -10,13 +10,13 @@ mod nodes;
 mod pieces;
 mod tokens;
 
-pub use forms::{CompositeWord, Form, Opening, Part, Sign, TagWord};
+pub use forms::{CompositeWord, DEPTH_LIMIT, Form, Opening, Part, Sign, TagWord};
 pub use nodes::{found_declaration, found_declarator, found_initializer, may_go_on};
 pub use pieces::{
     array_of, braces_of, composite, declaration_of, enumeration, function_node, function_of,
     member_of, named, parameter_of, parenthesized, plain, pointed, tag_alone, type_name_of,
 };
 pub use tokens::{
-    after, comma_at, consts_in_row, ellipsis_at, line_at, name_of, opening_of, opens_block,
+    after, comma_at, consts_in_row, ellipsis_at, name_of, opening_of, opens_block,
     opens_parameters, tag_at, tag_word,
 };

@@ -1,13 +1,13 @@
 //! The finished trees of a unit, and new ones made of them.
-ghost use Rattle.std.specs.Prelude.{◌≡◌, ◌≤◌, ◌&&◌, nat_le, length, drop, Some, IfOk};
+ghost use Rattle.std.specs.Prelude.{◌≡◌, ◌≤◌, ◌&&◌, nat_le, length, Some};
 ghost use Rattle.pv_tree.specs.Children.{HasDeclChildren, HasDeclaratorChildren, HasSpecChildren, HasInitChildren};
 ghost use Rattle.pv_tree.specs.Depths.{declarator_depth};
 ghost use Rattle.pv_tree.specs.Nodes.{declaration_of, declarator_of, specifier_of, initializer_of};
 ghost use Rattle.pv_tree.specs.Places.{is_named, is_direct};
 ghost use Rattle.pv_tree.specs.Rows.{tables};
-ghost use Rattle.pv_tree.specs.Syntax.{DeclaredName, OfDeclaration, OfDeclarator, OfSpecifier, OfInitializer};
+ghost use Rattle.pv_tree.specs.Syntax.{OfDeclaration, OfDeclarator, OfSpecifier, OfInitializer};
 ghost use Rattle.pv_tree.specs.Tables.{declarator_at, is_declaration, is_declarator, is_specifier, is_initializer, Is, Extends};
-ghost use Rattle.pv_decl_forms.specs.Answers.{Answers};
+ghost use Rattle.pv_decl_forms.specs.Answers.{AnswersAt};
 
 use pv_token::{NoMemory, Tokens};
 use pv_tree::{Decl, Declarator, Init, NodeId, Spec, Unit};
@@ -66,7 +66,7 @@ pub fn found_declarator(
     requires place { next ≤ length tokens.now.tokens }
     requires children { HasDeclaratorChildren (tables into.old).forest (length (tables into.old).forest.trees) declarator }
     ensures keeps { Extends (tables into.old) (tables into.new) }
-    ensures ok { IfOk result (λ r. Answers (tables into.new) is_declarator tokens.now.tokens r (Some (OfDeclarator (declarator_of (tables into.old).forest line declarator), drop next tokens.now.tokens))) }
+    ensures ok { AnswersAt (tables into.new) is_declarator tokens.now.tokens next result (λ ts. Some (OfDeclarator (declarator_of (tables into.old).forest line declarator), ts)) }
 {
     Ok(Some((into.add_declarator(declarator, line)?, next)))
 }
@@ -82,7 +82,7 @@ pub fn found_declaration(
     requires place { next ≤ length tokens.now.tokens }
     requires children { HasDeclChildren (tables into.old).forest (length (tables into.old).forest.trees) declaration }
     ensures keeps { Extends (tables into.old) (tables into.new) }
-    ensures ok { IfOk result (λ r. Answers (tables into.new) is_declaration tokens.now.tokens r (Some (OfDeclaration (declaration_of (tables into.old).forest line declaration), drop next tokens.now.tokens))) }
+    ensures ok { AnswersAt (tables into.new) is_declaration tokens.now.tokens next result (λ ts. Some (OfDeclaration (declaration_of (tables into.old).forest line declaration), ts)) }
 {
     Ok(Some((into.add_decl(declaration, line)?, next)))
 }
@@ -98,7 +98,7 @@ pub fn found_specifier(
     requires place { next ≤ length tokens.now.tokens }
     requires children { HasSpecChildren (tables into.old).forest (length (tables into.old).forest.trees) specifier }
     ensures keeps { Extends (tables into.old) (tables into.new) }
-    ensures ok { IfOk result (λ r. Answers (tables into.new) is_specifier tokens.now.tokens r (Some (OfSpecifier (specifier_of (tables into.old).forest line specifier), drop next tokens.now.tokens))) }
+    ensures ok { AnswersAt (tables into.new) is_specifier tokens.now.tokens next result (λ ts. Some (OfSpecifier (specifier_of (tables into.old).forest line specifier), ts)) }
 {
     Ok(Some((into.add_spec(specifier, line)?, next)))
 }
@@ -114,7 +114,7 @@ pub fn found_initializer(
     requires place { next ≤ length tokens.now.tokens }
     requires children { HasInitChildren (tables into.old).forest (length (tables into.old).forest.trees) initializer }
     ensures keeps { Extends (tables into.old) (tables into.new) }
-    ensures ok { IfOk result (λ r. Answers (tables into.new) is_initializer tokens.now.tokens r (Some (OfInitializer (initializer_of (tables into.old).forest line initializer), drop next tokens.now.tokens))) }
+    ensures ok { AnswersAt (tables into.new) is_initializer tokens.now.tokens next result (λ ts. Some (OfInitializer (initializer_of (tables into.old).forest line initializer), ts)) }
 {
     Ok(Some((into.add_init(initializer, line)?, next)))
 }

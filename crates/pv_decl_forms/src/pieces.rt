@@ -1,13 +1,13 @@
 //! Parts of declarations, made once the parts within them are read.
-ghost use Rattle.std.specs.Prelude.{◌≡◌, ℕ, Bool, List, ◌≤◌, IfSome, All, length, drop, Some, None, IfOk, nat_eq, option_and_then};
+ghost use Rattle.std.specs.Prelude.{◌≡◌, ℕ, Bool, List, ◌≤◌, IfSome, All, length, drop, IfOk, nat_eq, option_and_then};
 ghost use Rattle.pv_token.specs.declared.token_table.Token.{Token};
 ghost use Rattle.indexmap.specs.IndexSet.{contains};
 ghost use Rattle.pv_tree.specs.Children.{HasSpecChildren, HasDeclaratorChildren};
 ghost use Rattle.pv_tree.specs.Nodes.{specifier_of, declarator_of};
 ghost use Rattle.pv_tree.specs.Rows.{tables};
-ghost use Rattle.pv_tree.specs.Syntax.{OfDeclarator, Declaration, MemberDeclaration, Parameter, TypeName, Composite, Enumeration, Braces, OfSpecifier, OfInitializer};
+ghost use Rattle.pv_tree.specs.Syntax.{OfDeclarator, Declaration, Parameter, TypeName, Composite, Enumeration, Braces, OfSpecifier, OfInitializer};
 ghost use Rattle.pv_tree.specs.Tables.{Forest, HasList, trees_of, trees_at, optional_at, is_declaration, is_declarator, is_expression, is_initializer, is_specifier, Is, Extends};
-ghost use Rattle.pv_decl_forms.specs.Answers.{seen, IsThere, Answers};
+ghost use Rattle.pv_decl_forms.specs.Answers.{seen, IsThere, Answers, AnswersAt};
 ghost use Rattle.pv_decl_forms.specs.Declarators.{bracketed, variadic_at, with_parameters, pointed, in_parentheses};
 ghost use Rattle.pv_decl_forms.specs.Parts.{word_of_composite, word_of_tag, keyword_of, plain_of, named_of, array_of, function_of};
 ghost use Rattle.pv_decl_forms.specs.Pieces.{optional};
@@ -57,7 +57,7 @@ pub fn plain(
 ) -> Result<Option<(NodeId, u32)>, NoMemory>
     requires { at ≤ length tokens.now.tokens }
     ensures keeps { Extends (tables into.old) (tables into.new) }
-    ensures ok { IfOk result (λ r. Answers (tables into.new) is_specifier tokens.now.tokens r (plain_of (contains nat_eq typedefs.now) token.line token.kind (drop at tokens.now.tokens))) }
+    ensures ok { AnswersAt (tables into.new) is_specifier tokens.now.tokens at result (plain_of (contains nat_eq typedefs.now) token.line token.kind) }
 {
     match token.kind {
         TokenKind::Name(name) => {
@@ -86,7 +86,7 @@ pub fn tag_alone(
 ) -> Result<Option<(NodeId, u32)>, NoMemory>
     requires { at ≤ length tokens.now.tokens }
     ensures keeps { Extends (tables into.old) (tables into.new) }
-    ensures ok { IfOk result (λ r. Answers (tables into.new) is_specifier tokens.now.tokens r (tag_alone line (word_of_tag word) tag (drop at tokens.now.tokens))) }
+    ensures ok { AnswersAt (tables into.new) is_specifier tokens.now.tokens at result (tag_alone line (word_of_tag word) tag) }
 {
     let Some(name) = tag else {
         return Ok(None);
@@ -112,7 +112,7 @@ pub fn enumeration(
     requires place { at ≤ length tokens.now.tokens }
     requires enumerators { All (λ n. Is (tables into.old) is_declaration n) enumerators.now }
     ensures keeps { Extends (tables into.old) (tables into.new) }
-    ensures ok { IfOk result (λ r. Answers (tables into.new) is_specifier tokens.now.tokens r (listed_in_braces (λ trees comma. OfSpecifier (Enumeration line tag trees comma)) (trees_of (tables into.old).forest enumerators.now, drop at tokens.now.tokens))) }
+    ensures ok { AnswersAt (tables into.new) is_specifier tokens.now.tokens at result (λ ts. listed_in_braces (λ trees comma. OfSpecifier (Enumeration line tag trees comma)) (trees_of (tables into.old).forest enumerators.now, ts)) }
 {
     if enumerators.is_empty() {
         return Ok(None);
@@ -155,7 +155,7 @@ pub fn composite(
     requires place { at ≤ length tokens.now.tokens }
     requires members { All (λ n. Is (tables into.old) is_declaration n) members.now }
     ensures keeps { Extends (tables into.old) (tables into.new) }
-    ensures ok { IfOk result (λ r. Answers (tables into.new) is_specifier tokens.now.tokens r (row_in_braces (λ trees. OfSpecifier (Composite line (word_of_composite word) tag trees)) (trees_of (tables into.old).forest members.now, drop at tokens.now.tokens))) }
+    ensures ok { AnswersAt (tables into.new) is_specifier tokens.now.tokens at result (λ ts. row_in_braces (λ trees. OfSpecifier (Composite line (word_of_composite word) tag trees)) (trees_of (tables into.old).forest members.now, ts)) }
 {
     if members.is_empty() {
         return Ok(None);
@@ -182,7 +182,7 @@ pub fn named(
 ) -> Result<Option<(NodeId, u32)>, NoMemory>
     requires { at ≤ length tokens.now.tokens }
     ensures keeps { Extends (tables into.old) (tables into.new) }
-    ensures ok { IfOk result (λ r. Answers (tables into.new) is_declarator tokens.now.tokens r (named_of (contains nat_eq typedefs.now) form line name (drop at tokens.now.tokens))) }
+    ensures ok { AnswersAt (tables into.new) is_declarator tokens.now.tokens at result (named_of (contains nat_eq typedefs.now) form line name) }
 {
     if is_type(typedefs, name) || !form.allows_name() {
         return Ok(None);
@@ -205,7 +205,7 @@ pub fn pointed(
     requires place { at ≤ length tokens.now.tokens }
     requires within { IsThere (tables into.old) is_declarator tokens.now.tokens within }
     ensures keeps { Extends (tables into.old) (tables into.new) }
-    ensures ok { IfOk result (λ r. Answers (tables into.new) is_declarator tokens.now.tokens r (pointed form line consts (drop at tokens.now.tokens) (seen (tables into.old).forest tokens.now.tokens within))) }
+    ensures ok { AnswersAt (tables into.new) is_declarator tokens.now.tokens at result (λ ts. pointed form line consts ts (seen (tables into.old).forest tokens.now.tokens within)) }
 {
     let Some((inner, end)) = within else {
         if !form.allows_abstract() {
@@ -271,7 +271,7 @@ pub fn array_of(
     requires left { IfSome left (λ n. Is (tables into.old) is_declarator n) }
     requires size { IfSome size (λ n. Is (tables into.old) is_expression n) }
     ensures keeps { Extends (tables into.old) (tables into.new) }
-    ensures ok { IfOk result (λ r. Answers (tables into.new) is_declarator tokens.now.tokens r (bracketed (array_of line (optional_at (tables into.old).forest left)) (optional_at (tables into.old).forest size, drop at tokens.now.tokens))) }
+    ensures ok { AnswersAt (tables into.new) is_declarator tokens.now.tokens at result (λ ts. bracketed (array_of line (optional_at (tables into.old).forest left)) (optional_at (tables into.old).forest size, ts)) }
 {
     let Some(next) = after(tokens, at, Sign::CloseBracket) else {
         return Ok(None);
@@ -336,7 +336,7 @@ pub fn function_of(
     requires left { IfSome left (λ n. Is (tables into.old) is_declarator n) }
     requires parameters { All (λ n. Is (tables into.old) is_declaration n) parameters.now }
     ensures keeps { Extends (tables into.old) (tables into.new) }
-    ensures ok { IfOk result (λ r. Answers (tables into.new) is_declarator tokens.now.tokens r (with_parameters (function_of line (optional_at (tables into.old).forest left)) (trees_of (tables into.old).forest parameters.now, drop at tokens.now.tokens))) }
+    ensures ok { AnswersAt (tables into.new) is_declarator tokens.now.tokens at result (λ ts. with_parameters (function_of line (optional_at (tables into.old).forest left)) (trees_of (tables into.old).forest parameters.now, ts)) }
 {
     let (variadic, end) = variadic_at(tokens, at, parameters);
     let Some(next) = after(tokens, end, Sign::CloseParen) else {
@@ -363,7 +363,7 @@ pub fn member_of(
     requires specs { All (λ n. Is (tables into.old) is_specifier n) specs.now }
     requires declarators { All (λ n. Is (tables into.old) is_declarator n) declarators.now }
     ensures keeps { Extends (tables into.old) (tables into.new) }
-    ensures ok { IfOk result (λ r. Answers (tables into.new) is_declaration tokens.now.tokens r (with_members line (trees_of (tables into.old).forest specs.now) (trees_of (tables into.old).forest declarators.now, drop at tokens.now.tokens))) }
+    ensures ok { AnswersAt (tables into.new) is_declaration tokens.now.tokens at result (λ ts. with_members line (trees_of (tables into.old).forest specs.now) (trees_of (tables into.old).forest declarators.now, ts)) }
 {
     if declarators.is_empty() {
         return Ok(None);
@@ -391,7 +391,8 @@ pub fn parameter_of(
     requires specs { All (λ n. Is (tables into.old) is_specifier n) specs.now }
     requires declarator { IsThere (tables into.old) is_declarator tokens.now.tokens declarator }
     ensures keeps { Extends (tables into.old) (tables into.new) }
-    ensures ok { IfOk result (λ r. Answers (tables into.new) is_declaration tokens.now.tokens r (made_of (Parameter line) (trees_of (tables into.old).forest specs.now) (optional (drop at tokens.now.tokens) (seen (tables into.old).forest tokens.now.tokens declarator)))) }
+    ensures ok { let old = (tables into.old).forest in
+        AnswersAt (tables into.new) is_declaration tokens.now.tokens at result (λ ts. made_of (Parameter line) (trees_of old specs.now) (optional ts (seen old tokens.now.tokens declarator))) }
 {
     let specs = into.add_list(specs)?;
     let (declarator, end) = match declarator {
@@ -416,7 +417,8 @@ pub fn type_name_of(
     requires specs { All (λ n. Is (tables into.old) is_specifier n) specs.now }
     requires declarator { IsThere (tables into.old) is_declarator tokens.now.tokens declarator }
     ensures keeps { Extends (tables into.old) (tables into.new) }
-    ensures ok { IfOk result (λ r. Answers (tables into.new) is_declaration tokens.now.tokens r (made_of (TypeName line) (trees_of (tables into.old).forest specs.now) (optional (drop at tokens.now.tokens) (seen (tables into.old).forest tokens.now.tokens declarator)))) }
+    ensures ok { let old = (tables into.old).forest in
+        AnswersAt (tables into.new) is_declaration tokens.now.tokens at result (λ ts. made_of (TypeName line) (trees_of old specs.now) (optional ts (seen old tokens.now.tokens declarator))) }
 {
     let specs = into.add_list(specs)?;
     let (declarator, end) = match declarator {
@@ -441,7 +443,7 @@ pub fn declaration_of(
     requires specs { All (λ n. Is (tables into.old) is_specifier n) specs.now }
     requires declared { All (λ n. Is (tables into.old) is_declaration n) declared.now }
     ensures keeps { Extends (tables into.old) (tables into.new) }
-    ensures ok { IfOk result (λ r. Answers (tables into.new) is_declaration tokens.now.tokens r (ended (Declaration line (trees_of (tables into.old).forest specs.now) (trees_of (tables into.old).forest declared.now)) (drop at tokens.now.tokens))) }
+    ensures ok { AnswersAt (tables into.new) is_declaration tokens.now.tokens at result (ended (Declaration line (trees_of (tables into.old).forest specs.now) (trees_of (tables into.old).forest declared.now))) }
 {
     let Some(end) = after(tokens, at, Sign::Semicolon) else {
         return Ok(None);
@@ -464,7 +466,7 @@ pub fn braces_of(
     requires place { at ≤ length tokens.now.tokens }
     requires inits { All (λ n. Is (tables into.old) is_initializer n) inits.now }
     ensures keeps { Extends (tables into.old) (tables into.new) }
-    ensures ok { IfOk result (λ r. Answers (tables into.new) is_initializer tokens.now.tokens r (listed_in_braces (λ trees comma. OfInitializer (Braces line trees comma)) (trees_of (tables into.old).forest inits.now, drop at tokens.now.tokens))) }
+    ensures ok { AnswersAt (tables into.new) is_initializer tokens.now.tokens at result (λ ts. listed_in_braces (λ trees comma. OfInitializer (Braces line trees comma)) (trees_of (tables into.old).forest inits.now, ts)) }
 {
     if inits.is_empty() {
         return Ok(None);

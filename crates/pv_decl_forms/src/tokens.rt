@@ -1,11 +1,11 @@
 //! What the tokens from a place are, as far as that takes no part of a declaration to be read.
-ghost use Rattle.std.specs.Prelude.{◌≡◌, ◌<◌, ◌≤◌, ◌+◌, ◌^◌, Bool, Option, ℕ, List, length, drop, Some, None, MatchOption, true, option_and_then};
+ghost use Rattle.std.specs.Prelude.{◌≡◌, ◌<◌, ◌≤◌, ◌+◌, ◌^◌, Bool, Option, ℕ, List, length, drop, true, option_and_then};
 ghost use Rattle.pv_token.specs.declared.token_table.Token.{Token};
-ghost use Rattle.pv_tree.specs.Grammar.{line_here};
 ghost use Rattle.pv_expr_forms.specs.Reader.{after, is_comma};
 ghost use Rattle.pv_tree.specs.Tables.{Tables};
 ghost use Rattle.pv_tree.specs.TypeNames.{TypeMap};
 ghost use Rattle.pv_expr_forms.specs.Known.{names_in};
+ghost use Rattle.pv_expr_forms.specs.Answers.{IsBehind};
 ghost use Rattle.pv_decl_forms.specs.Declarators.{consts_in_row, opens_parameters};
 ghost use Rattle.pv_decl_forms.specs.Parts.{test_of, is_const_next, tag_word_of, opening_of};
 ghost use Rattle.pv_decl_forms.specs.Pieces.{is_ellipsis, found_in};
@@ -17,21 +17,10 @@ use indexmap::IndexSet;
 use pv_expr_forms::{begins_type, is_close, peek};
 use pv_token::{Mark, TokenKind, Tokens, Word};
 
-/// The line of the token at a place, or 0 where the tokens end.
-pub fn line_at(tokens: &Tokens, at: u32) -> u32
-    requires { at ≤ length tokens.now.tokens }
-    ensures { result ≡ line_here (drop at tokens.now.tokens) }
-{
-    match peek(tokens, at) {
-        Some(token) => token.line,
-        None => 0,
-    }
-}
-
 /// The place behind a mark.
 pub fn after(tokens: &Tokens, at: u32, sign: Sign) -> Option<u32>
     requires { at ≤ length tokens.now.tokens }
-    ensures { MatchOption result (after (test_of sign) (drop at tokens.now.tokens) ≡ None) (λ next. (after (test_of sign) (drop at tokens.now.tokens) ≡ Some (drop next tokens.now.tokens)) × (next ≤ length tokens.now.tokens)) }
+    ensures { IsBehind tokens.now.tokens result (after (test_of sign) (drop at tokens.now.tokens)) }
 {
     match peek(tokens, at) {
         Some(token) if sign.is(token.kind) => Some(at + 1),

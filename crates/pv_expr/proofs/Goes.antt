@@ -13,11 +13,11 @@ use Rattle.pv_tree.specs.Tables.{Tables, expression_at, is_expression, Is, Exten
 use Rattle.pv_tree.specs.TypeNames.{TypeMap, names_of, AreTied}
 use Rattle.pv_expr_forms.specs.declared.follows.Follow.{Follow}
 use Rattle.pv_expr_forms.specs.declared.follows.Follow.TheVariants as follow
-use Rattle.pv_expr_forms.specs.Follows.{join_right, joined, follow_of, follow_rank, follow_left}
-use Rattle.pv_expr_forms.specs.Reader.{Read, Reads, read, longer, tried, goes_on, asked, indexed}
+use Rattle.pv_expr_forms.specs.Follows.{joined, follow_of, follow_rank, follow_left}
+use Rattle.pv_expr_forms.specs.Reader.{Reads, read, longer, tried, goes_on, asked, indexed}
 use Rattle.pv_expr_forms.specs.Known.{names_in}
 use Rattle.pv_expr_forms.specs.Answers.{Answers}
-use Rattle.pv_expr_forms.proofs.Answered.{got, got_none}
+use Rattle.pv_expr_forms.proofs.Answered.{got}
 use Rattle.pv_expr_forms.proofs.Firsts.{named_is}
 use Rattle.pv_expr_forms.proofs.Listing.{expression_kept}
 use Rattle.pv_expr_forms.proofs.Naming.{leb_not}

@@ -1,12 +1,13 @@
 -- What goes on from a tree, by whether an operand is read for it.
-use Rattle.std.specs.Prelude.{ℕ, Bool, List, Option, Some, None}
+use Rattle.std.specs.Prelude.{◌≡◌, ◌<◌, ◌+◌, ◌^◌, ℕ, Bool, List, length, drop, Option, Some, None, MatchOption}
 use Rattle.pv_token.specs.declared.token_table.Token.{Token}
-use Rattle.pv_tree.specs.Syntax.{ExpressionTree, Member, Arrow, PostIncrement, PostDecrement}
+use Rattle.pv_tree.specs.Grammar.{Names}
+use Rattle.pv_tree.specs.Syntax.{ExpressionTree, ArgumentTrees, Call, Member, Arrow, PostIncrement, PostDecrement}
 use Rattle.pv_tree.specs.Lines.{expression_line}
 use Rattle.pv_expr_forms.specs.declared.follows.Follow.{Follow}
 use Rattle.pv_expr_forms.specs.declared.follows.Follow.TheVariants as follow
 use Rattle.pv_expr_forms.specs.Follows.{join_right, joined}
-use Rattle.pv_expr_forms.specs.Reader.{Read, indexed}
+use Rattle.pv_expr_forms.specs.Reader.{Read, Reads, indexed, longer, goes_on}
 use Rattle.pv_expr_forms.specs.Parts.{named}
 
 -- 6.5.2p1, 6.5.5p1 to 6.5.17p1: the level of the operand that is read, if one is
@@ -29,3 +30,13 @@ unfoldable pub combined : (left right : ExpressionTree) → Follow → List Toke
 combined left right (follow.Join op) ts = Some (joined op left right, ts)
 combined left right follow.Index ts = indexed left right ts
 combined left right _ ts = None
+
+-- 6.5.2.2p1: the call of a function with arguments
+abbrev pub called_with : (callee : ExpressionTree) → ArgumentTrees → ExpressionTree
+called_with callee list = Call (expression_line callee) callee list
+
+-- 6.5.2p1, 6.5.5p1 to 6.5.17p1: so a tree goes on at a place, behind the token there, or not at all, whatever reads what stands within
+abbrev pub GoesOnAt : List Token → (at level below : ℕ) → (left : ExpressionTree) → Option Follow → Type 0
+GoesOnAt tokens at level below left answer = MatchOption answer
+    ((names : Names) (read : Reads) → None ≡ longer names read level below left (drop at tokens))
+    (λ f. ((names : Names) (read : Reads) → goes_on names read left f (drop (at + 1) tokens) ≡ longer names read level below left (drop at tokens)) × (at < length tokens) × (at + 1 < 2 ^ 32))

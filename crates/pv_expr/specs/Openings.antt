@@ -1,10 +1,13 @@
 -- What stands before an operand: an operator, a type name in parentheses, a parenthesis.
-use Rattle.std.specs.Prelude.{ℕ, List, Some}
+use Rattle.std.specs.Prelude.{◌≡◌, ◌≤◌, ℕ, Bool, false, List, length, drop, Option, Some, MatchOption, option_and_then}
 use Rattle.pv_token.specs.declared.token_table.Token.{Token}
+use Rattle.pv_token.specs.declared.token_table.TokenKind.{TokenKind}
+use Rattle.pv_tree.specs.Grammar.{Names}
 use Rattle.pv_tree.specs.Syntax.{ExpressionTree, Cast}
 use Rattle.pv_tree.specs.Tables.{Forest, Tables, declaration_at, is_declaration, Is}
 use Rattle.pv_expr_forms.specs.Follows.{prefix_operand, prefixed}
-use Rattle.pv_expr_forms.specs.Reader.{Read, closed}
+use Rattle.pv_expr_forms.specs.Parts.{leaf_of, measures_type}
+use Rattle.pv_expr_forms.specs.Reader.{Read, Reads, closed, head_of}
 use Rattle.pv_expr.specs.declared.nodes.Opening.{Opening}
 use Rattle.pv_expr.specs.declared.nodes.Opening.TheVariants as opening
 
@@ -24,3 +27,13 @@ unfoldable pub enclosed : Forest → (line : ℕ) → Opening → ExpressionTree
 enclosed f line opening.Paren a ts = closed line a ts
 enclosed f line (opening.Cast name) a ts = Some (Cast line (declaration_at f name) a, ts)
 enclosed f line (opening.Operator op) a ts = Some (prefixed line op a, ts)
+
+-- what reading an operand behind an opening gives (6.5.1p1, 6.5.3p1, 6.5.4p1)
+abbrev pub opened_by : Forest → Reads → (line : ℕ) → Opening → List Token → Read
+opened_by f read line form ts = option_and_then (λ x. enclosed f line form x.0 x.1) (read (operand_of form) ts)
+
+-- a token of a kind, which ends at a place and measures no type, opens this before an operand, or nothing: it is an operand itself (6.5.1p1, 6.5.3p1, 6.5.4p1)
+abbrev pub OpensAt : Names → (is_type : ℕ → Bool) → Tables → List Token → TokenKind → (at below : ℕ) → Option (Opening × ℕ) → Type 0
+OpensAt names is_type u tokens kind at below answer = let behind = drop at tokens in MatchOption answer
+    ((read : Reads) (line : ℕ) → measures_type names kind behind ≡ false → leaf_of is_type line kind behind ≡ head_of names read below line kind behind)
+    (λ x. ((read : Reads) (line : ℕ) → measures_type names kind behind ≡ false → opened_by u.forest read line x.0 (drop x.1 tokens) ≡ head_of names read below line kind behind) × IsOpening u x.0 × (x.1 ≤ length tokens))

@@ -1,20 +1,19 @@
 //! The finished trees of a unit, and new ones made of them.
-ghost use Rattle.std.specs.Prelude.{◌≡◌, ◌≤◌, ◌<◌, ◌+◌, ◌^◌, All, length, drop, Some, None, IfOk, MatchOption, nat_eq};
+ghost use Rattle.std.specs.Prelude.{◌≡◌, ◌≤◌, ◌<◌, ◌+◌, ◌^◌, All, length, Some, nat_eq};
 ghost use Rattle.indexmap.specs.IndexSet.{contains};
 ghost use Rattle.pv_tree.specs.Children.{HasExprChildren};
 ghost use Rattle.pv_tree.specs.Depths.{expression_depth, declaration_depth};
-ghost use Rattle.pv_tree.specs.Grammar.{Names};
 ghost use Rattle.pv_tree.specs.Levels.{rank};
 ghost use Rattle.pv_tree.specs.Lines.{expression_line};
 ghost use Rattle.pv_tree.specs.Nodes.{expression_of};
 ghost use Rattle.pv_tree.specs.Rows.{tables};
-ghost use Rattle.pv_tree.specs.Syntax.{Call, Member, Arrow};
+ghost use Rattle.pv_tree.specs.Syntax.{Member, Arrow};
 ghost use Rattle.pv_tree.specs.Tables.{expression_at, declaration_at, arguments_of, is_expression, is_declaration, Is, Extends};
-ghost use Rattle.pv_expr_forms.specs.Answers.{Answers};
 ghost use Rattle.pv_expr_forms.specs.Follows.{joined, prefixed};
 ghost use Rattle.pv_expr_forms.specs.Parts.{leaf_of, named};
-ghost use Rattle.pv_expr_forms.specs.Reader.{Reads, closed, indexed, longer, goes_on};
-ghost use Rattle.pv_expr.specs.Going.{operand_level, suffixed, combined};
+ghost use Rattle.pv_expr_forms.specs.Reader.{closed, indexed};
+ghost use Rattle.pv_expr_forms.specs.Answers.{AnswersAt};
+ghost use Rattle.pv_expr.specs.Going.{operand_level, suffixed, combined, called_with, GoesOnAt};
 ghost use Rattle.pv_expr.specs.Openings.{operand_of, IsOpening, enclosed};
 
 use indexmap::IndexSet;
@@ -92,7 +91,7 @@ pub(crate) fn found(
     requires place { next ≤ length tokens.now.tokens }
     requires children { HasExprChildren (tables into.old).forest (length (tables into.old).forest.trees) expr }
     ensures keeps { Extends (tables into.old) (tables into.new) }
-    ensures ok { IfOk result (λ r. Answers (tables into.new) tokens.now.tokens r (Some (expression_of (tables into.old).forest line expr, drop next tokens.now.tokens))) }
+    ensures ok { AnswersAt (tables into.new) tokens.now.tokens next result (λ ts. Some (expression_of (tables into.old).forest line expr, ts)) }
 {
     Ok(Some((into.add_expr(expr, line)?, next)))
 }
@@ -109,7 +108,7 @@ pub(crate) fn leaf(
 ) -> Result<Option<(NodeId, u32)>, NoMemory>
     requires { at ≤ length tokens.now.tokens }
     ensures keeps { Extends (tables into.old) (tables into.new) }
-    ensures ok { IfOk result (λ r. Answers (tables into.new) tokens.now.tokens r (leaf_of (contains nat_eq typedefs.now) token.line token.kind (drop at tokens.now.tokens))) }
+    ensures ok { AnswersAt (tables into.new) tokens.now.tokens at result (leaf_of (contains nat_eq typedefs.now) token.line token.kind) }
 {
     let line = token.line;
     match token.kind {
@@ -157,7 +156,7 @@ fn close(
     requires place { at ≤ length tokens.now.tokens }
     requires inside { Is (tables into.old) is_expression inside }
     ensures keeps { Extends (tables into.old) (tables into.new) }
-    ensures ok { IfOk result (λ r. Answers (tables into.new) tokens.now.tokens r (closed line (expression_at (tables into.old).forest inside) (drop at tokens.now.tokens))) }
+    ensures ok { AnswersAt (tables into.new) tokens.now.tokens at result (closed line (expression_at (tables into.old).forest inside)) }
 {
     match after_close(tokens, at) {
         Some(next) => found(tokens, next, Expr::Paren(inside), line, into),
@@ -178,7 +177,7 @@ fn index(
     requires array { Is (tables into.old) is_expression array }
     requires index { Is (tables into.old) is_expression index }
     ensures keeps { Extends (tables into.old) (tables into.new) }
-    ensures ok { IfOk result (λ r. Answers (tables into.new) tokens.now.tokens r (indexed (expression_at (tables into.old).forest array) (expression_at (tables into.old).forest index) (drop at tokens.now.tokens))) }
+    ensures ok { AnswersAt (tables into.new) tokens.now.tokens at result (indexed (expression_at (tables into.old).forest array) (expression_at (tables into.old).forest index)) }
 {
     match after_bracket(tokens, at) {
         Some(next) => {
@@ -201,7 +200,7 @@ fn member(
     requires place { at ≤ length tokens.now.tokens }
     requires whole { Is (tables into.old) is_expression whole }
     ensures keeps { Extends (tables into.old) (tables into.new) }
-    ensures ok { IfOk result (λ r. Answers (tables into.new) tokens.now.tokens r (named (contains nat_eq typedefs.now) (Member (expression_line (expression_at (tables into.old).forest whole)) (expression_at (tables into.old).forest whole)) (drop at tokens.now.tokens))) }
+    ensures ok { AnswersAt (tables into.new) tokens.now.tokens at result (named (contains nat_eq typedefs.now) (Member (expression_line (expression_at (tables into.old).forest whole)) (expression_at (tables into.old).forest whole))) }
 {
     match name_next(tokens, typedefs, at) {
         Some((name, next)) => {
@@ -224,7 +223,7 @@ fn arrow(
     requires place { at ≤ length tokens.now.tokens }
     requires pointer { Is (tables into.old) is_expression pointer }
     ensures keeps { Extends (tables into.old) (tables into.new) }
-    ensures ok { IfOk result (λ r. Answers (tables into.new) tokens.now.tokens r (named (contains nat_eq typedefs.now) (Arrow (expression_line (expression_at (tables into.old).forest pointer)) (expression_at (tables into.old).forest pointer)) (drop at tokens.now.tokens))) }
+    ensures ok { AnswersAt (tables into.new) tokens.now.tokens at result (named (contains nat_eq typedefs.now) (Arrow (expression_line (expression_at (tables into.old).forest pointer)) (expression_at (tables into.old).forest pointer))) }
 {
     match name_next(tokens, typedefs, at) {
         Some((name, next)) => {
@@ -249,7 +248,7 @@ pub(crate) fn enclosed(
     requires form { IsOpening (tables into.old) form }
     requires operand { Is (tables into.old) is_expression operand }
     ensures keeps { Extends (tables into.old) (tables into.new) }
-    ensures ok { IfOk result (λ r. Answers (tables into.new) tokens.now.tokens r (enclosed (tables into.old).forest line form (expression_at (tables into.old).forest operand) (drop at tokens.now.tokens))) }
+    ensures ok { AnswersAt (tables into.new) tokens.now.tokens at result (enclosed (tables into.old).forest line form (expression_at (tables into.old).forest operand)) }
 {
     match form {
         Opening::Paren => close(tokens, at, operand, line, into),
@@ -269,7 +268,7 @@ pub(crate) fn follow_at(
 ) -> Option<Follow>
     requires place { at ≤ length tokens.now.tokens }
     requires left { Is (tables unit.now) is_expression left }
-    ensures { MatchOption result ((names : Names) (read : Reads) → None ≡ longer names read level below (expression_at (tables unit.now).forest left) (drop at tokens.now.tokens)) (λ f. ((names : Names) (read : Reads) → goes_on names read (expression_at (tables unit.now).forest left) f (drop (at + 1) tokens.now.tokens) ≡ longer names read level below (expression_at (tables unit.now).forest left) (drop at tokens.now.tokens)) × (at < length tokens.now.tokens) × (at + 1 < 2 ^ 32)) }
+    ensures { GoesOnAt tokens.now.tokens at level below (expression_at (tables unit.now).forest left) result }
 {
     if depth_of(unit, left) > below {
         return None;
@@ -310,7 +309,7 @@ pub(crate) fn suffixed(
     requires place { at ≤ length tokens.now.tokens }
     requires tree { Is (tables into.old) is_expression tree }
     ensures keeps { Extends (tables into.old) (tables into.new) }
-    ensures ok { IfOk result (λ r. Answers (tables into.new) tokens.now.tokens r (suffixed (contains nat_eq typedefs.now) (expression_at (tables into.old).forest tree) follow (drop at tokens.now.tokens))) }
+    ensures ok { AnswersAt (tables into.new) tokens.now.tokens at result (suffixed (contains nat_eq typedefs.now) (expression_at (tables into.old).forest tree) follow) }
 {
     let line = line_of(into, tree);
     match follow {
@@ -337,7 +336,7 @@ pub(crate) fn combined(
     requires left { Is (tables into.old) is_expression left }
     requires right { Is (tables into.old) is_expression right }
     ensures keeps { Extends (tables into.old) (tables into.new) }
-    ensures ok { IfOk result (λ r. Answers (tables into.new) tokens.now.tokens r (combined (expression_at (tables into.old).forest left) (expression_at (tables into.old).forest right) follow (drop at tokens.now.tokens))) }
+    ensures ok { AnswersAt (tables into.new) tokens.now.tokens at result (combined (expression_at (tables into.old).forest left) (expression_at (tables into.old).forest right) follow) }
 {
     match follow {
         Follow::Join(op) => joined(tokens, at, op, left, right, into),
@@ -358,7 +357,7 @@ fn prefixed(
     requires place { at ≤ length tokens.now.tokens }
     requires operand { Is (tables into.old) is_expression operand }
     ensures keeps { Extends (tables into.old) (tables into.new) }
-    ensures ok { IfOk result (λ r. Answers (tables into.new) tokens.now.tokens r (Some (prefixed line op (expression_at (tables into.old).forest operand), drop at tokens.now.tokens))) }
+    ensures ok { AnswersAt (tables into.new) tokens.now.tokens at result (λ ts. Some (prefixed line op (expression_at (tables into.old).forest operand), ts)) }
 {
     let expr = match op {
         Prefix::Increment => Expr::PreIncrement(operand),
@@ -383,7 +382,7 @@ fn joined(
     requires left { Is (tables into.old) is_expression left }
     requires right { Is (tables into.old) is_expression right }
     ensures keeps { Extends (tables into.old) (tables into.new) }
-    ensures ok { IfOk result (λ r. Answers (tables into.new) tokens.now.tokens r (Some (joined op (expression_at (tables into.old).forest left) (expression_at (tables into.old).forest right), drop at tokens.now.tokens))) }
+    ensures ok { AnswersAt (tables into.new) tokens.now.tokens at result (λ ts. Some (joined op (expression_at (tables into.old).forest left) (expression_at (tables into.old).forest right), ts)) }
 {
     let line = line_of(into, left);
     let expr = match op {
@@ -406,7 +405,7 @@ pub(crate) fn call(
     requires callee { Is (tables into.old) is_expression callee }
     requires arguments { All (λ n. Is (tables into.old) is_expression n) arguments.now }
     ensures keeps { Extends (tables into.old) (tables into.new) }
-    ensures ok { IfOk result (λ r. Answers (tables into.new) tokens.now.tokens r (Some (Call (expression_line (expression_at (tables into.old).forest callee)) (expression_at (tables into.old).forest callee) (arguments_of (tables into.old).forest arguments.now), drop at tokens.now.tokens))) }
+    ensures ok { AnswersAt (tables into.new) tokens.now.tokens at result (λ ts. Some (called_with (expression_at (tables into.old).forest callee) (arguments_of (tables into.old).forest arguments.now), ts)) }
 {
     let line = line_of(into, callee);
     let list = into.add_list(arguments)?;

@@ -1,14 +1,12 @@
 //! Expressions of a level (C17 6.5).
-ghost use Rattle.std.specs.Prelude.{◌≡◌, ◌≤◌, ℕ, length, drop, None, IfOk, IfSome};
+ghost use Rattle.std.specs.Prelude.{◌≡◌, ◌≤◌, ℕ, length, None, IfOk, IfSome};
 ghost use Rattle.pv_tree.specs.Grammar.{Spells};
 ghost use Rattle.pv_tree.specs.Rows.{tables};
 ghost use Rattle.pv_tree.specs.Syntax.{ExpressionTree};
 ghost use Rattle.pv_tree.specs.Tables.{expression_at, is_expression, Is, Extends};
 ghost use Rattle.pv_tree.specs.TypeNames.{AreTied};
-ghost use Rattle.pv_expr_forms.specs.Answers.{Answers};
 ghost use Rattle.pv_expr_forms.specs.Known.{names_in};
 ghost use Rattle.pv_expr_forms.specs.Numbers.{level_number};
-ghost use Rattle.pv_expr_forms.specs.Reader.{read};
 
 use crate::source::Source;
 use indexmap::IndexSet;
@@ -52,9 +50,6 @@ pub fn expression<R: TypeReader>(
     ensures none { let names = names_in types.now (R.types reader.now) (tables into.old) t.now.tokens in
         IfOk result (λ r. r ≡ None → (a : ExpressionTree) (end : ℕ) → at ≤ end → end ≤ length t.now.tokens
         → Spells names (level_number level) depth t.now.tokens at end a → ⊥) }
-    // It is what reading from the left gives, for readers of what has expressions within.
-    ensures reads { let names = names_in types.now (R.types reader.now) (tables into.old) t.now.tokens in
-        IfOk result (λ r. Answers (tables into.new) t.now.tokens r (read names depth (level_number level) (drop at t.now.tokens))) }
 {
     if at > t.len() {
         return Ok(None);

@@ -1,11 +1,9 @@
 //! Reading an expression from the left, by the levels of its operators.
-ghost use Rattle.std.specs.Prelude.{◌≤◌, length, drop, Some, IfOk, option_and_then};
+ghost use Rattle.std.specs.Prelude.{◌≤◌, length, Some, option_and_then};
 ghost use Rattle.pv_tree.specs.Rows.{tables};
 ghost use Rattle.pv_tree.specs.Tables.{expression_at, is_expression, Is, Extends};
-ghost use Rattle.pv_tree.specs.TypeNames.{AreTied};
-ghost use Rattle.pv_expr_forms.specs.Answers.{Answers};
-ghost use Rattle.pv_expr_forms.specs.Known.{names_in};
 ghost use Rattle.pv_expr_forms.specs.Reader.{read, head, grown, longer, asked, called, measured};
+ghost use Rattle.pv_expr.specs.Sources.{known_names, AreKnown, ReadsFrom};
 
 use crate::nodes::{
     call, combined, enclosed, follow_at, found, leaf, line_of, operand_level, rank_of, suffixed,
@@ -27,9 +25,9 @@ impl<R: TypeReader> Source<'_, R> {
         into: &mut Unit,
     ) -> Result<Option<(NodeId, u32)>, NoMemory>
         requires place { at ≤ length self.now.tokens.now.tokens }
-        requires tied { AreTied (R.types self.now.reader.now) (tables into.old) self.now.tokens.now.tokens }
+        requires tied { AreKnown R.types self.now (tables into.old) }
         ensures keeps { Extends (tables into.old) (tables into.new) }
-        ensures ok { IfOk result (λ r. Answers (tables into.new) self.now.tokens.now.tokens r (read (names_in self.now.typedefs.now (R.types self.now.reader.now) (tables into.old) self.now.tokens.now.tokens) depth level (drop at self.now.tokens.now.tokens))) }
+        ensures ok { ReadsFrom self.now at (tables into.new) result (read (known_names R.types self.now (tables into.old)) depth level) }
     {
         if depth == 0 {
             return Ok(None);
@@ -55,9 +53,9 @@ impl<R: TypeReader> Source<'_, R> {
         into: &mut Unit,
     ) -> Result<Option<(NodeId, u32)>, NoMemory>
         requires place { at ≤ length self.now.tokens.now.tokens }
-        requires tied { AreTied (R.types self.now.reader.now) (tables into.old) self.now.tokens.now.tokens }
+        requires tied { AreKnown R.types self.now (tables into.old) }
         ensures keeps { Extends (tables into.old) (tables into.new) }
-        ensures ok { IfOk result (λ r. Answers (tables into.new) self.now.tokens.now.tokens r (head (names_in self.now.typedefs.now (R.types self.now.reader.now) (tables into.old) self.now.tokens.now.tokens) (read (names_in self.now.typedefs.now (R.types self.now.reader.now) (tables into.old) self.now.tokens.now.tokens) below) below (drop at self.now.tokens.now.tokens))) }
+        ensures ok { ReadsFrom self.now at (tables into.new) result (head (known_names R.types self.now (tables into.old)) (read (known_names R.types self.now (tables into.old)) below) below) }
     {
         let Some(token) = peek(self.tokens, at) else {
             return Ok(None);
@@ -85,9 +83,9 @@ impl<R: TypeReader> Source<'_, R> {
         into: &mut Unit,
     ) -> Result<Option<(NodeId, u32)>, NoMemory>
         requires place { at ≤ length self.now.tokens.now.tokens }
-        requires tied { AreTied (R.types self.now.reader.now) (tables into.old) self.now.tokens.now.tokens }
+        requires tied { AreKnown R.types self.now (tables into.old) }
         ensures keeps { Extends (tables into.old) (tables into.new) }
-        ensures ok { IfOk result (λ r. Answers (tables into.new) self.now.tokens.now.tokens r (option_and_then (λ x. measured below line x.0 x.1) ((names_in self.now.typedefs.now (R.types self.now.reader.now) (tables into.old) self.now.tokens.now.tokens).type_at (drop at self.now.tokens.now.tokens)))) }
+        ensures ok { ReadsFrom self.now at (tables into.new) result (λ ts. option_and_then (λ x. measured below line x.0 x.1) ((known_names R.types self.now (tables into.old)).type_at ts)) }
     {
         match self.type_closed(at, below, into) {
             Some((name, next)) => { found(self.tokens, next, Expr::SizeofType(name), line, into) }
@@ -106,10 +104,11 @@ impl<R: TypeReader> Source<'_, R> {
         into: &mut Unit,
     ) -> Result<Option<(NodeId, u32)>, NoMemory>
         requires place { at ≤ length self.now.tokens.now.tokens }
-        requires tied { AreTied (R.types self.now.reader.now) (tables into.old) self.now.tokens.now.tokens }
+        requires tied { AreKnown R.types self.now (tables into.old) }
         requires node { Is (tables into.old) is_expression first }
         ensures keeps { Extends (tables into.old) (tables into.new) }
-        ensures ok { IfOk result (λ r. Answers (tables into.new) self.now.tokens.now.tokens r (Some (grown (names_in self.now.typedefs.now (R.types self.now.reader.now) (tables into.old) self.now.tokens.now.tokens) (read (names_in self.now.typedefs.now (R.types self.now.reader.now) (tables into.old) self.now.tokens.now.tokens) below) level below (expression_at (tables into.old).forest first) (drop at self.now.tokens.now.tokens)))) }
+        ensures ok { let names = known_names R.types self.now (tables into.old) in
+            ReadsFrom self.now at (tables into.new) result (λ ts. Some (grown names (read names below) level below (expression_at (tables into.old).forest first) ts)) }
     {
         let mut left = first;
         let mut next = at;
@@ -135,10 +134,11 @@ impl<R: TypeReader> Source<'_, R> {
         into: &mut Unit,
     ) -> Result<Option<(NodeId, u32)>, NoMemory>
         requires place { at ≤ length self.now.tokens.now.tokens }
-        requires tied { AreTied (R.types self.now.reader.now) (tables into.old) self.now.tokens.now.tokens }
+        requires tied { AreKnown R.types self.now (tables into.old) }
         requires node { Is (tables into.old) is_expression left }
         ensures keeps { Extends (tables into.old) (tables into.new) }
-        ensures ok { IfOk result (λ r. Answers (tables into.new) self.now.tokens.now.tokens r (longer (names_in self.now.typedefs.now (R.types self.now.reader.now) (tables into.old) self.now.tokens.now.tokens) (read (names_in self.now.typedefs.now (R.types self.now.reader.now) (tables into.old) self.now.tokens.now.tokens) below) level below (expression_at (tables into.old).forest left) (drop at self.now.tokens.now.tokens))) }
+        ensures ok { let names = known_names R.types self.now (tables into.old) in
+            ReadsFrom self.now at (tables into.new) result (longer names (read names below) level below (expression_at (tables into.old).forest left)) }
     {
         let Some(follow) = follow_at(self.tokens, at, left, level, below, into) else {
             return Ok(None);
@@ -170,11 +170,11 @@ impl<R: TypeReader> Source<'_, R> {
         into: &mut Unit,
     ) -> Result<Option<(NodeId, u32)>, NoMemory>
         requires place { at ≤ length self.now.tokens.now.tokens }
-        requires tied { AreTied (R.types self.now.reader.now) (tables into.old) self.now.tokens.now.tokens }
+        requires tied { AreKnown R.types self.now (tables into.old) }
         requires condition { Is (tables into.old) is_expression condition }
         requires yes { Is (tables into.old) is_expression yes }
         ensures keeps { Extends (tables into.old) (tables into.new) }
-        ensures ok { IfOk result (λ r. Answers (tables into.new) self.now.tokens.now.tokens r (asked (read (names_in self.now.typedefs.now (R.types self.now.reader.now) (tables into.old) self.now.tokens.now.tokens) below) (expression_at (tables into.old).forest condition) (expression_at (tables into.old).forest yes) (drop at self.now.tokens.now.tokens))) }
+        ensures ok { ReadsFrom self.now at (tables into.new) result (asked (read (known_names R.types self.now (tables into.old)) below) (expression_at (tables into.old).forest condition) (expression_at (tables into.old).forest yes)) }
     {
         let Some(next) = after_colon(self.tokens, at) else {
             return Ok(None);
@@ -204,10 +204,10 @@ impl<R: TypeReader> Source<'_, R> {
         into: &mut Unit,
     ) -> Result<Option<(NodeId, u32)>, NoMemory>
         requires place { at ≤ length self.now.tokens.now.tokens }
-        requires tied { AreTied (R.types self.now.reader.now) (tables into.old) self.now.tokens.now.tokens }
+        requires tied { AreKnown R.types self.now (tables into.old) }
         requires node { Is (tables into.old) is_expression callee }
         ensures keeps { Extends (tables into.old) (tables into.new) }
-        ensures ok { IfOk result (λ r. Answers (tables into.new) self.now.tokens.now.tokens r (called (read (names_in self.now.typedefs.now (R.types self.now.reader.now) (tables into.old) self.now.tokens.now.tokens) below) (expression_at (tables into.old).forest callee) (drop at self.now.tokens.now.tokens))) }
+        ensures ok { ReadsFrom self.now at (tables into.new) result (called (read (known_names R.types self.now (tables into.old)) below) (expression_at (tables into.old).forest callee)) }
     {
         if let Some(next) = after_close(self.tokens, at) {
             return call(self.tokens, next, callee, &[], into);

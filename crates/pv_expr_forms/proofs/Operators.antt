@@ -13,11 +13,10 @@ use Rattle.pv_tree.specs.declared.operators.AssignOperator.TheVariants as assign
 use Rattle.pv_tree.specs.Levels.{binary_mark, assign_mark, binary_rank}
 use Rattle.pv_expr_forms.specs.declared.follows.Prefix.{Prefix}
 use Rattle.pv_expr_forms.specs.declared.follows.Prefix.TheVariants as prefix
-use Rattle.pv_expr_forms.specs.declared.follows.Join.{Join}
 use Rattle.pv_expr_forms.specs.declared.follows.Join.TheVariants as join
 use Rattle.pv_expr_forms.specs.declared.follows.Follow.{Follow}
 use Rattle.pv_expr_forms.specs.declared.follows.Follow.TheVariants as follow
-use Rattle.pv_expr_forms.specs.Follows.{prefix_token, prefix_of, prefix_operand, binary_of, assign_of, join_rank, join_right, other_of, or_else, follow_of_mark, follow_of, follow_mark, follow_rank, follow_left}
+use Rattle.pv_expr_forms.specs.Follows.{prefix_token, prefix_of, prefix_operand, binary_of, assign_of, other_of, or_else, follow_of_mark, follow_of, follow_mark, follow_rank, follow_left}
 
 -- ---- from a token to its operator, and back
 
@@ -184,8 +183,3 @@ operand_cases prefix.Increment = inr refl
 operand_cases prefix.Decrement = inr refl
 operand_cases prefix.Sizeof = inr refl
 operand_cases (prefix.Unary op) = inl refl
-
-pub right_in : (op : Join) → (join_rank op ≤ join_right op) × (join_right op ≤ 14)
-right_in (join.Binary op) = let r = binary_rank_in op in (omega arith, omega (arith, r.1))
-right_in (join.Assign op) = (omega arith, omega arith)
-right_in join.Comma = (omega arith, omega arith)

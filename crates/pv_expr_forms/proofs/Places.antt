@@ -1,5 +1,5 @@
 -- Tokens at places.
-use Rattle.std.proofs.Common.{◌≡◌, ◌<◌, ◌+◌, ℕ, zero, suc, true, false, List, [], ◌∷◌, length, drop, Some, slice_get, refl, sym, ap, ◌∙◌, arith, add-one, drop-cons}
+use Rattle.std.proofs.Common.{◌≡◌, ◌<◌, ◌+◌, ℕ, zero, suc, true, List, [], ◌∷◌, length, drop, Some, slice_get, refl, sym, ap, ◌∙◌, arith, add-one, drop-cons}
 use Rattle.std.proofs.lemmas.Option.{slice_get_within, get_or_from_slice_get}
 use Rattle.pv_token.specs.declared.token_table.Token.{Token}
 use Rattle.pv_expr_forms.specs.Reader.{texts_in_row}
@@ -29,8 +29,3 @@ text_there tokens at n (t ∷ ts) d e = (behind_first tokens at (suc at) t ts d 
 pub text_more : (tokens : List Token) (at n : ℕ) → is_text_next n (drop at tokens) ≡ true → (at < length tokens) × (texts_in_row n (drop at tokens) ≡ suc (texts_in_row (suc n) (drop (at + 1) tokens)))
 text_more tokens at n e =
     (text_there tokens at n (drop at tokens) refl e, text_on n (drop at tokens) (drop (at + 1) tokens) e (λ t others is. sym (behind_first tokens at (at + 1) t others is (omega arith)).0))
-
--- the row ends
-pub text_end : (n : ℕ) (ts : List Token) → is_text_next n ts ≡ false → texts_in_row n ts ≡ 0
-text_end n [] e = refl
-text_end n (t ∷ ts) e = rw e refl

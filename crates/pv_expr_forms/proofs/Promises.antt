@@ -1,26 +1,21 @@
--- What `expression` promises, from what reading gives.
-use Rattle.std.proofs.Common.{◌≡◌, ◌≤◌, ◌-◌, ℕ, Bool, List, length, drop, Option, Some, None, sym, ap, subst, ◌∙◌, arith, inl, inr}
-use Rattle.std.specs.Prelude.{IfSome, slice_range}
-use Rattle.std.proofs.lemmas.List.{length-drop, length-map, length-take}
+-- What `expression` promises, from what reading gives, and that what keeps these promises is what reading gives.
+use Rattle.std.proofs.Common.{◌≡◌, ◌≤◌, ℕ, Bool, List, length, drop, Option, Some, None, refl, sym, ap, subst, ◌∙◌, arith, inl, inr}
+use Rattle.std.specs.Prelude.{IfSome}
+use Rattle.std.proofs.lemmas.List.{length-drop}
 use Rattle.pv_token.specs.declared.token_table.Token.{Token}
 use Rattle.pv_tree.specs.declared.nodes.NodeId.{NodeId}
 use Rattle.pv_tree.specs.Syntax.{ExpressionTree}
 use Rattle.pv_tree.specs.Tables.{Tables, expression_at, is_expression, Is}
 use Rattle.pv_tree.specs.Spelling.{expression_tokens}
-use Rattle.pv_tree.specs.Grammar.{Names, Spells}
+use Rattle.pv_tree.specs.Grammar.{Spells}
 use Rattle.pv_tree.specs.TypeNames.{TypeMap, names_of, AreTied}
 use Rattle.pv_expr_forms.specs.Reader.{Read, read}
 use Rattle.pv_expr_forms.specs.Answers.{Answers}
+use Rattle.pv_expr_forms.proofs.Runs.{Takes}
 use Rattle.pv_expr_forms.proofs.Steps.{some_is}
-use Rattle.pv_expr_forms.proofs.Trees.{some_tokens}
 use Rattle.pv_expr_forms.proofs.Sound.{read_sound}
 use Rattle.pv_expr_forms.proofs.Longest.{Within, Reaches, longest}
-use Rattle.pv_expr_forms.proofs.Spans.{IsEnd, names_spelled, at_end, takes_spelled, spelled_taken}
-
--- nothing is spelled by no tokens
-pub none_beyond : (names : Names) (tokens : List Token) (at end level deep : ℕ) (a : ExpressionTree) → length tokens ≤ at → Spells names level deep tokens at end a → ⊥
-none_beyond names tokens at end level deep a beyond s =
-    absurd (omega (arith, some_tokens a, ap length s.is, length-map (slice_range tokens at end) (λ (t : Token). t.kind), length-take (end - at) (drop at tokens), length-drop at tokens))
+use Rattle.pv_expr_forms.proofs.Spans.{IsEnd, names_spelled, at_end, takes_spelled, spelled_taken, ends_at}
 
 module _ (is_type : ℕ → Bool) (types : TypeMap) (u v : Tables) (tokens : List Token) (at level deep : ℕ) (tied : AreTied types u tokens) (place : at ≤ length tokens) where
   abbrev Reading : Read
@@ -79,3 +74,37 @@ module _ (is_type : ℕ → Bool) (types : TypeMap) (u v : Tables) (tokens : Lis
       → Spells (names_of is_type types u.forest tokens) level deep tokens at end a → ⊥
   expression_none None k e a end from to s = let o = reached a end from s in let p : ◌≡◌ {A = Read} None (Some o.found) = k.is ∙ o.is in absurd cc
   expression_none (Some x) k e a end from to s = absurd cc
+
+  -- what reading gives spells the tokens up to a place
+  read_spelled : (a : ExpressionTree) (rest : List Token) → Reading ≡ Some (a, rest)
+      → (end : ℕ) × (at ≤ end) × (end ≤ length tokens) × (rest ≡ drop end tokens) × Spelled end a
+  read_spelled a rest e =
+      let names = names_of is_type types u.forest tokens in
+      let ks = expression_tokens a in
+      let g = (read_sound names (IsEnd tokens) (names_spelled is_type types u tokens tied) deep).good level (drop at tokens) a rest (at_end tokens at place) e in
+      let p = ends_at ks tokens at rest place g.takes in
+      let run = spelled_taken ks tokens at p.0 place p.1 (subst (λ (x : List Token). Takes ks (drop at tokens) x) p.2 g.takes) in
+      (p.0, run.0, p.1, p.2, record { fits = g.fits; tight = g.tight; shallow = g.shallow; is = run.1 })
+
+  none_by : (o : Read) → Reading ≡ o → ((a : ExpressionTree) (end : ℕ) → at ≤ end → end ≤ length tokens → Spelled end a → ⊥) → Answers v tokens None Reading
+  none_by None e h = record { is = sym e; there = tt }
+  none_by (Some x) e h = let s = read_spelled x.0 x.1 e in absurd (h x.0 s.0 s.1 s.2 s.4)
+
+  -- where nothing is spelled, reading gives nothing
+  pub none_read : ((a : ExpressionTree) (end : ℕ) → at ≤ end → end ≤ length tokens → Spells (names_of is_type types u.forest tokens) level deep tokens at end a → ⊥) → Answers v tokens None Reading
+  none_read = none_by Reading refl
+
+  -- what is within the longest that is spelled, and ends no later, is it
+  is_longest : (x y : ExpressionTree × List Token) (end next : ℕ) → x.1 ≡ drop end tokens → y.1 ≡ drop next tokens → end ≤ next → Within x y → x ≡ y
+  is_longest x y end next e f le (inl h) = absurd (omega (arith, h, le, ap length e, ap length f, length-drop end tokens, length-drop next tokens))
+  is_longest x y end next e f le (inr same) = same
+
+  -- the longest that is spelled is what reading gives
+  pub longest_read : (x : NodeId × ℕ) → Is v is_expression x.0 × (at ≤ x.1) × (x.1 ≤ length tokens) × Spells (names_of is_type types u.forest tokens) level deep tokens at x.1 (expression_at v.forest x.0)
+      → ((a : ExpressionTree) (end : ℕ) → at ≤ end → end ≤ length tokens → Spells (names_of is_type types u.forest tokens) level deep tokens at end a → end ≤ x.1)
+      → Answers v tokens (Some x) Reading
+  longest_read x f far =
+      let o = reached (expression_at v.forest x.0) x.1 f.1 f.3 in
+      let s = read_spelled o.found.0 o.found.1 o.is in
+      let e = is_longest o.found (expression_at v.forest x.0, drop x.1 tokens) s.0 x.1 s.3 refl (far o.found.0 s.0 s.1 s.2 s.4) o.within in
+      record { is = sym (o.is ∙ ap (λ (y : ExpressionTree × List Token). Some y) e); there = (f.0, f.2) }

@@ -6,10 +6,9 @@ use Rattle.indexmap.specs.IndexSet.{IndexSet, contains}
 use Rattle.pv_token.specs.declared.token_table.Token.{Token}
 use Rattle.pv_token.specs.declared.token_table.TokenKind.{TokenKind}
 use Rattle.pv_tree.specs.declared.nodes.NodeId.{NodeId}
-use Rattle.pv_tree.specs.Syntax.{ExpressionTree, Member, Arrow, Cast, Tree}
+use Rattle.pv_tree.specs.Syntax.{ExpressionTree, Cast, Tree}
 use Rattle.pv_tree.specs.Depths.{expression_depth}
 use Rattle.pv_tree.specs.Levels.{rank}
-use Rattle.pv_tree.specs.Lines.{expression_line}
 use Rattle.pv_tree.specs.Grammar.{Names, begins_type}
 use Rattle.pv_tree.specs.Tables.{Tables, as_declaration, expression_at, declaration_at, is_expression, is_declaration, Is, Extends}
 use Rattle.pv_tree.specs.TypeNames.{TypeMap, names_of, AreTied}
@@ -19,10 +18,10 @@ use Rattle.pv_expr_forms.specs.declared.follows.Follow.TheVariants as follow
 use Rattle.pv_expr_forms.specs.Follows.{prefix_of, follow_of, follow_rank, follow_left}
 use Rattle.pv_expr_forms.specs.Reader.{Read, Reads, read, deeper, head, head_of, opened, closed, measured, grown, longer, tried, goes_on, asked, is_open}
 use Rattle.pv_expr_forms.specs.Known.{names_in}
-use Rattle.pv_expr_forms.specs.Parts.{leaf_of, measures_type, type_closed, named}
+use Rattle.pv_expr_forms.specs.Parts.{leaf_of, measures_type, type_closed}
 use Rattle.pv_expr_forms.specs.Answers.{Answers}
 use Rattle.pv_expr_forms.proofs.Answered.{got, got_none}
-use Rattle.pv_expr_forms.proofs.Firsts.{head_leaf, head_measure, opened_cast, opened_paren, named_is}
+use Rattle.pv_expr_forms.proofs.Firsts.{head_leaf, head_measure, opened_cast, opened_paren}
 use Rattle.pv_expr_forms.proofs.Listing.{expression_kept}
 use Rattle.pv_expr_forms.proofs.Naming.{leb_not, names_kept}
 
@@ -104,9 +103,6 @@ module _ (names : Names) (r : Reads) (level below : ℕ) (left : ExpressionTree)
 -- ---- behind an opening parenthesis
 
 module _ (names : Names) (r : Reads) (below line : ℕ) (u v : Tables) (tokens : List Token) (at : ℕ) where
-  pub cast_none : begins_type names (drop at tokens) ≡ true → type_closed names below (drop at tokens) ≡ None → None ≡ opened names r below line (drop at tokens)
-  cast_none b e = opened_cast names r below line (drop at tokens) None b e
-
   module _ (b : begins_type names (drop at tokens) ≡ true) (type : NodeId) (next : ℕ) (e : type_closed names below (drop at tokens) ≡ Some (declaration_at u.forest type, drop next tokens))
       (answer : Option (NodeId × ℕ)) (a : Answers v tokens answer (r 14 (drop next tokens))) where
     casts : (o : Read) → o ≡ r 14 (drop next tokens) → option_map (λ x. (Cast line (declaration_at u.forest type) x.0, x.1)) o ≡ opened names r below line (drop at tokens)
@@ -133,15 +129,6 @@ module _ (names : Names) (r : Reads) (below line : ℕ) (u v : Tables) (tokens :
     paren_done n end h = parens (Some (expression_at v.forest n, drop end tokens)) (got v tokens answer _ n end a h).0
 
 -- ---- behind an operand
-
-module _ {S : Type 0} (typedefs : IndexSet ℕ S) (types : TypeMap) (u : Tables) (tokens : List Token) (r : Reads) (left : ExpressionTree) (ts : List Token) (f : Follow) where
-  pub dot_is : f ≡ follow.Dot → named (contains nat_eq typedefs) (Member (expression_line left) left) ts ≡ goes_on (names_in typedefs types u tokens) r left f ts
-  unfolding goes_on names_in names_of
-  dot_is e = rw e (named_is (names_in typedefs types u tokens) (Member (expression_line left) left) ts)
-
-  pub arrow_is : f ≡ follow.Arrow → named (contains nat_eq typedefs) (Arrow (expression_line left) left) ts ≡ goes_on (names_in typedefs types u tokens) r left f ts
-  unfolding goes_on names_in names_of
-  arrow_is e = rw e (named_is (names_in typedefs types u tokens) (Arrow (expression_line left) left) ts)
 
 -- a condition, whose middle operand is read
 pub ask_is : {S : Type 0} (typedefs : IndexSet ℕ S) (types : TypeMap) (u v : Tables) (tokens : List Token) → AreTied types u tokens → Extends u v → (below at : ℕ) (left : NodeId) → Is u is_expression left

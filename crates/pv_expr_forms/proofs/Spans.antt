@@ -12,7 +12,7 @@ use Rattle.pv_tree.specs.Spelling.{declaration_tokens}
 use Rattle.pv_tree.specs.Grammar.{kinds}
 use Rattle.pv_tree.specs.TypeNames.{TypeMap, type_seen, names_of, AreTied}
 use Rattle.pv_expr_forms.specs.Reader.{further, arguments, read}
-use Rattle.pv_expr_forms.proofs.Runs.{Takes, takes_length, kinds_taken, takes_kinds, takes_by_kinds}
+use Rattle.pv_expr_forms.proofs.Runs.{Takes, takes_rest, takes_length, kinds_taken, takes_kinds, takes_by_kinds}
 use Rattle.pv_expr_forms.proofs.Steps.{arguments_step, some_is}
 use Rattle.pv_expr_forms.proofs.Heads.{IsSpelled}
 use Rattle.pv_expr_forms.proofs.Sound.{read_shortens}
@@ -76,6 +76,12 @@ arguments_next is_type types u tokens tied deep before at p =
     arguments_step (IsEnd tokens) (read names deep) (read_shortens names (IsEnd tokens) (names_spelled is_type types u tokens tied) deep) before (drop at tokens) (at_end tokens at p)
 
 -- ---- runs at places
+
+-- what a run of kinds leaves begins at a place
+pub ends_at : (ks : List TokenKind) (tokens : List Token) (at : ℕ) (rest : List Token) → at ≤ length tokens → Takes ks (drop at tokens) rest
+    → (next : ℕ) × (next ≤ length tokens) × (rest ≡ drop next tokens)
+ends_at ks tokens at rest place h =
+    (at + length ks, omega (arith, takes_length ks (drop at tokens) rest h, length-drop at tokens, place), sym (takes_rest ks (drop at tokens) rest h) ∙ drop-drop (length ks) at tokens)
 
 pub takes_spelled : (ks : List TokenKind) (tokens : List Token) (at end : ℕ) → at ≤ end → ks ≡ kinds (slice_range tokens at end)
     → Takes ks (drop at tokens) (drop end tokens)

@@ -13,5 +13,5 @@ pub use follows::{Follow, Join, Prefix, follow_of, prefix_of};
 pub use levels::{Level, rank};
 pub use peeking::{
     after_bracket, after_close, after_colon, begins_type, is_close, is_comma, is_open, is_type,
-    measures_type, name_next, peek, texts_in_row,
+    line_at, measures_type, name_next, peek, texts_in_row,
 };

@@ -1,10 +1,11 @@
 //! What the tokens from a place are, as far as that takes no expression to be read.
 ghost use Rattle.std.specs.Prelude.{◌≡◌, ◌<◌, ◌≤◌, ◌+◌, ◌^◌, [], ◌∷◌, length, drop, Some, None, MatchOption, true, nat_eq};
 ghost use Rattle.indexmap.specs.IndexSet.{contains};
-ghost use Rattle.pv_tree.specs.Grammar.{begins_specifiers, begins_type};
+ghost use Rattle.pv_tree.specs.Grammar.{begins_specifiers, begins_type, line_here};
 ghost use Rattle.pv_tree.specs.Tables.{Tables};
 ghost use Rattle.pv_tree.specs.TypeNames.{TypeMap};
 ghost use Rattle.pv_expr_forms.specs.Reader.{is_open, is_close, is_bracket, is_colon, is_comma, after, texts_in_row, opens_type};
+ghost use Rattle.pv_expr_forms.specs.Answers.{IsFound, IsBehind};
 ghost use Rattle.pv_expr_forms.specs.Known.{names_in};
 ghost use Rattle.pv_expr_forms.specs.Parts.{is_text_next, measures_type, name_next, name_of_kind};
 
@@ -20,6 +21,17 @@ pub fn peek(tokens: &Tokens, at: u32) -> Option<Token>
         Some(tokens.at(at))
     } else {
         None
+    }
+}
+
+/// The line of the token at a place, or 0 where the tokens end.
+pub fn line_at(tokens: &Tokens, at: u32) -> u32
+    requires { at ≤ length tokens.now.tokens }
+    ensures { result ≡ line_here (drop at tokens.now.tokens) }
+{
+    match peek(tokens, at) {
+        Some(token) => token.line,
+        None => 0,
     }
 }
 
@@ -61,7 +73,7 @@ fn is_colon(kind: TokenKind) -> bool
 /// The place behind a `)`.
 pub fn after_close(tokens: &Tokens, at: u32) -> Option<u32>
     requires { at ≤ length tokens.now.tokens }
-    ensures { MatchOption result (after is_close (drop at tokens.now.tokens) ≡ None) (λ next. (after is_close (drop at tokens.now.tokens) ≡ Some (drop next tokens.now.tokens)) × (next ≤ length tokens.now.tokens)) }
+    ensures { IsBehind tokens.now.tokens result (after is_close (drop at tokens.now.tokens)) }
 {
     match peek(tokens, at) {
         Some(token) if is_close(token.kind) => Some(at + 1),
@@ -72,7 +84,7 @@ pub fn after_close(tokens: &Tokens, at: u32) -> Option<u32>
 /// The place behind a `]`.
 pub fn after_bracket(tokens: &Tokens, at: u32) -> Option<u32>
     requires { at ≤ length tokens.now.tokens }
-    ensures { MatchOption result (after is_bracket (drop at tokens.now.tokens) ≡ None) (λ next. (after is_bracket (drop at tokens.now.tokens) ≡ Some (drop next tokens.now.tokens)) × (next ≤ length tokens.now.tokens)) }
+    ensures { IsBehind tokens.now.tokens result (after is_bracket (drop at tokens.now.tokens)) }
 {
     match peek(tokens, at) {
         Some(token) if is_bracket(token.kind) => Some(at + 1),
@@ -83,7 +95,7 @@ pub fn after_bracket(tokens: &Tokens, at: u32) -> Option<u32>
 /// The place behind a `:`.
 pub fn after_colon(tokens: &Tokens, at: u32) -> Option<u32>
     requires { at ≤ length tokens.now.tokens }
-    ensures { MatchOption result (after is_colon (drop at tokens.now.tokens) ≡ None) (λ next. (after is_colon (drop at tokens.now.tokens) ≡ Some (drop next tokens.now.tokens)) × (next ≤ length tokens.now.tokens)) }
+    ensures { IsBehind tokens.now.tokens result (after is_colon (drop at tokens.now.tokens)) }
 {
     match peek(tokens, at) {
         Some(token) if is_colon(token.kind) => Some(at + 1),
@@ -159,7 +171,7 @@ fn name_of_kind(typedefs: &IndexSet<u32>, kind: TokenKind) -> Option<u32>
 #[tactic(auto, unfolding(crate::specs::Parts::name_next))]
 pub fn name_next(tokens: &Tokens, typedefs: &IndexSet<u32>, at: u32) -> Option<(u32, u32)>
     requires { at ≤ length tokens.now.tokens }
-    ensures { MatchOption result (name_next (contains nat_eq typedefs.now) (drop at tokens.now.tokens) ≡ None) (λ x. (name_next (contains nat_eq typedefs.now) (drop at tokens.now.tokens) ≡ Some (x.0, drop x.1 tokens.now.tokens)) × (x.1 ≤ length tokens.now.tokens)) }
+    ensures { IsFound tokens.now.tokens result (name_next (contains nat_eq typedefs.now) (drop at tokens.now.tokens)) }
 {
     let Some(token) = peek(tokens, at) else {
         return None;

@@ -20,3 +20,4 @@ pub mod UnitCounts
 pub mod OuterParts
 pub mod OuterSteps
 pub mod AddedNames
+mod RegionSteps

@@ -293,9 +293,3 @@ pub statement_exact : (names : Names) (K : List Token → Type 0) → IsSpelled 
     → is_whole_statement s ≡ true → StatementFits names.is_type (Fits names) s here → statement_depth s ≤ deep → Takes (statement_tokens s) here rest
     → (ends_open s ≡ true → NoElse rest) → readers names deep Statements here ≡ Some (OfStatement s, rest)
 statement_exact names K spelled deep s here rest known w f d h o = (are_exact names K spelled deep).exact s here rest known w f d h o
-
--- the block of a `switch`, whatever follows
-pub switched_exact : (names : Names) (K : List Token → Type 0) → IsSpelled names K → (deep : ℕ) (s : StatementTree) (here rest : List Token) → K here
-    → is_switch_block s ≡ true → StatementFits names.is_type (Fits names) s here → statement_depth s ≤ deep → Takes (statement_tokens s) here rest
-    → readers names deep SwitchBlocks here ≡ Some (OfStatement s, rest)
-switched_exact names K spelled deep s here rest known w f d h = (are_exact names K spelled deep).block s here rest known w f d h

@@ -4,3 +4,4 @@ pub mod Externals
 pub mod Units
 pub mod Found
 pub mod Names
+pub mod RegionEnds

@@ -13,7 +13,7 @@ mod typedefs;
 
 pub use forms::{First, ForHead, LabelWord, Sign, StatementForm, Within, form_of, label_word};
 pub use nodes::{block_of, for_node, found_before, found_statement, is_declaration, labelled_of};
-pub use places::{after, line_at};
+pub use places::after;
 pub use pv_expr_forms::{begins_type, peek};
 pub use regions::region_end;
 pub use typedefs::{add_all, add_name, has_typedef};

@@ -1,15 +1,15 @@
 //! The finished trees of a unit, and statements made of them.
-ghost use Rattle.std.specs.Prelude.{◌≡◌, ◌≤◌, ℕ, All, length, drop, Some, IfOk, option_map};
+ghost use Rattle.std.specs.Prelude.{◌≡◌, ◌≤◌, ℕ, All, length, Some, option_map};
 ghost use Rattle.pv_tree.specs.Children.{HasStmtChildren};
 ghost use Rattle.pv_tree.specs.Nodes.{statement_of};
 ghost use Rattle.pv_tree.specs.Places.{is_declaration_tree};
 ghost use Rattle.pv_tree.specs.Rows.{tables};
 ghost use Rattle.pv_tree.specs.Syntax.{Labelled, OfStatement};
 ghost use Rattle.pv_tree.specs.Tables.{Forest, Has, HasList, tree_at, declaration_at, statement_at, trees_of, trees_at, is_declaration, is_statement, is_item, Is, Extends};
-ghost use Rattle.pv_decl_forms.specs.Answers.{Answers};
 ghost use Rattle.pv_expr_forms.specs.Reader.{after};
 ghost use Rattle.pv_stmt_forms.specs.Parts.{HasHead, test_of, enclosed, for_by};
 ghost use Rattle.pv_stmt_forms.specs.Statements.{block_end};
+ghost use Rattle.pv_decl_forms.specs.Answers.{AnswersAt};
 
 use crate::forms::{First, ForHead, Sign, Within};
 use crate::places::after;
@@ -35,7 +35,7 @@ pub fn found_statement(
     requires place { next ≤ length tokens.now.tokens }
     requires children { HasStmtChildren (tables into.old).forest (length (tables into.old).forest.trees) statement }
     ensures keeps { Extends (tables into.old) (tables into.new) }
-    ensures ok { IfOk result (λ r. Answers (tables into.new) is_statement tokens.now.tokens r (Some (OfStatement (statement_of (tables into.old).forest line statement), drop next tokens.now.tokens))) }
+    ensures ok { AnswersAt (tables into.new) is_statement tokens.now.tokens next result (λ ts. Some (OfStatement (statement_of (tables into.old).forest line statement), ts)) }
 {
     Ok(Some((into.add_stmt(statement, line)?, next)))
 }
@@ -53,7 +53,7 @@ pub fn found_before(
     requires place { at ≤ length tokens.now.tokens }
     requires children { HasStmtChildren (tables into.old).forest (length (tables into.old).forest.trees) statement }
     ensures keeps { Extends (tables into.old) (tables into.new) }
-    ensures ok { IfOk result (λ r. Answers (tables into.new) is_statement tokens.now.tokens r (option_map (λ rest. (OfStatement (statement_of (tables into.old).forest line statement), rest)) (after (test_of sign) (drop at tokens.now.tokens)))) }
+    ensures ok { AnswersAt (tables into.new) is_statement tokens.now.tokens at result (λ ts. option_map (λ rest. (OfStatement (statement_of (tables into.old).forest line statement), rest)) (after (test_of sign) ts)) }
 {
     match after(tokens, at, sign) {
         Some(next) => found_statement(tokens, next, statement, line, into),
@@ -85,7 +85,7 @@ pub fn block_of(
     requires place { at ≤ length tokens.now.tokens }
     requires items { All (λ n. Is (tables into.old) is_item n) items.now }
     ensures keeps { Extends (tables into.old) (tables into.new) }
-    ensures ok { IfOk result (λ r. Answers (tables into.new) is_statement tokens.now.tokens r (block_end (enclosed within line) (trees_of (tables into.old).forest items.now, drop at tokens.now.tokens))) }
+    ensures ok { AnswersAt (tables into.new) is_statement tokens.now.tokens at result (λ ts. block_end (enclosed within line) (trees_of (tables into.old).forest items.now, ts)) }
 {
     let Some(end) = after(tokens, at, Sign::CloseBrace) else {
         return Ok(None);
@@ -107,7 +107,7 @@ pub fn labelled_of(
     requires labels { All (λ n. Is (tables into.old) is_statement n) labels.now }
     requires statement { Is (tables into.old) is_statement statement }
     ensures keeps { Extends (tables into.old) (tables into.new) }
-    ensures ok { IfOk result (λ r. Answers (tables into.new) is_statement tokens.now.tokens r (Some (OfStatement (Labelled line (trees_of (tables into.old).forest labels.now) (statement_at (tables into.old).forest statement)), drop end tokens.now.tokens))) }
+    ensures ok { AnswersAt (tables into.new) is_statement tokens.now.tokens end result (λ ts. Some (OfStatement (Labelled line (trees_of (tables into.old).forest labels.now) (statement_at (tables into.old).forest statement)), ts)) }
 {
     let labels = into.add_list(labels)?;
     let labelled = Stmt::Labelled { labels, statement };

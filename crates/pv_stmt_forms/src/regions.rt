@@ -1,5 +1,7 @@
 //! How far an external declaration reaches, as far as its braces and semicolons tell.
-ghost use Rattle.std.specs.Prelude.{◌≡◌, ◌<◌, ◌≤◌, ◌+◌, ◌^◌, length};
+ghost use Rattle.std.specs.Prelude.{◌≡◌, ◌<◌, ◌≤◌, ◌+◌, ◌-◌, ◌^◌, true, false, drop, length};
+ghost use Rattle.pv_decl_forms.specs.Pieces.{is_semicolon};
+ghost use Rattle.pv_stmt_forms.specs.RegionEnds.{may_end, braces_behind, EndsBefore, NoneEnds};
 
 use pv_token::{Mark, TokenKind, Tokens, Word};
 
@@ -52,7 +54,9 @@ impl Scan {
     /// Takes a further token, and says whether an external declaration ends with it.
     fn ends_with(&mut self, kind: TokenKind) -> bool
         requires { self.old.braces + 1 < 2 ^ 32 }
-        ensures { self.new.braces ≤ self.old.braces + 1 }
+        ensures braces { self.new.braces ≡ braces_behind kind self.old.braces }
+        ensures ends { result ≡ true → may_end kind ≡ true }
+        ensures inner { result ≡ false → is_semicolon kind ≡ true → 0 < self.old.braces }
     {
         let before = self.before;
         self.before = before.then(kind);
@@ -79,7 +83,11 @@ impl Scan {
 /// An external declaration that can be read ends there or before.
 pub fn region_end(tokens: &Tokens, from: u32) -> u32
     requires { from ≤ length tokens.now.tokens }
-    ensures { result ≤ length tokens.now.tokens }
+    ensures within { result ≤ length tokens.now.tokens }
+    // Where tokens are left, it is behind a `;` or a `}`.
+    ensures behind { result < length tokens.now.tokens → (from < result) × EndsBefore tokens.now.tokens result }
+    // No `;` outside braces stands before the last token.
+    ensures first { NoneEnds 0 (result - 1 - from) (drop from tokens.now.tokens) }
 {
     let mut scan = Scan::new();
     for at in from..tokens.len() {

@@ -2,19 +2,13 @@ use Rattle.std.proofs.Common.{arith}
 use Rattle.std.proofs.lemmas.Result.{MatchResult-weaker}
 use Rattle.pv_tree.specs.Rows.{tables}
 use Rattle.pv_tree.proofs.Kept.{extends_same}
-use Rattle.pv_expr_forms.specs.Known.{names_in}
-use Rattle.pv_decl_forms.proofs.Answered.{nothing}
-use Rattle.pv_decl_forms.proofs.Outer.{declaration_end, found, longest, only, none}
+use Rattle.pv_decl_forms.proofs.Outer.{found, longest, only, none}
 use Rattle.pv_decl.specs.Filled.{list_map}
 use Rattle.pv_decl.proofs.Givens.{given_tied, no_lists}
 use Rattle.pv_decl.proofs.parser.declaration.Goals as goal
 
 pub returns-then-at-len-clause-keeps : goal.returns-then-at-len-clause-keeps
 returns-then-at-len-clause-keeps g c = extends_same _
-
-pub returns-then-at-len-clause-reads : goal.returns-then-at-len-clause-reads
-returns-then-at-len-clause-reads g c =
-    nothing _ _ _ _ (declaration_end (names_in c.args.types.now (g.R.TypeReader.types c.args.reader.now) (tables c.args.into.now) c.args.t.now.tokens) c.args.depth c.args.at c.args.t.now.tokens (omega arith))
 
 pub returns-clause-found : goal.returns-clause-found
 returns-clause-found g c =
@@ -52,6 +46,3 @@ declaration-requires-clause-place g c = omega (arith, c.if-at-len.false, c.len.e
 
 pub returns-clause-keeps : goal.returns-clause-keeps
 returns-clause-keeps g c = c.declaration.ensures.keeps
-
-pub returns-clause-reads : goal.returns-clause-reads
-returns-clause-reads g c = c.declaration.ensures.ok

@@ -6,9 +6,7 @@ use Rattle.pv_expr_forms.specs.Known.{names_in}
 use Rattle.pv_expr_forms.specs.Numbers.{level_number}
 use Rattle.pv_expr_forms.specs.Reader.{read}
 use Rattle.pv_expr_forms.proofs.Answered.{moved}
-use Rattle.pv_expr_forms.proofs.Listing.{read_end}
 use Rattle.pv_expr_forms.proofs.Parsed.{found, longest, only, none}
-use Rattle.pv_expr_forms.proofs.Readings.{nothing}
 use Rattle.pv_expr.proofs.parser.expression.Goals as goal
 
 pub returns-then-at-len-clause-keeps : goal.returns-then-at-len-clause-keeps
@@ -36,10 +34,3 @@ pub returns-clause-none : goal.returns-clause-none
 returns-clause-none g c =
     let answers = moved c.read_tree.result (tables c.read_tree.new.into) c.args.t.now.tokens _ _ (ap (λ (l : ℕ). read (names_in c.args.types.now (g.R.TypeReader.types c.args.reader.now) (tables c.args.into.now) c.args.t.now.tokens) c.args.depth l (drop c.args.at c.args.t.now.tokens)) c.number.ensures) c.read_tree.ensures.ok in
     MatchResult-weaker c.read_tree.result answers (λ r a. none c.args.types.now (g.R.TypeReader.types c.args.reader.now) (tables c.args.into.now) (tables c.read_tree.new.into) c.args.t.now.tokens c.args.at (level_number c.args.level) c.args.depth c.requires (omega arith) r a) (λ e h. h)
-
-pub returns-then-at-len-clause-reads : goal.returns-then-at-len-clause-reads
-returns-then-at-len-clause-reads g c = nothing _ _ _ (read_end (names_in c.args.types.now (g.R.TypeReader.types c.args.reader.now) (tables c.args.into.now) c.args.t.now.tokens) c.args.depth (level_number c.args.level) c.args.at c.args.t.now.tokens (omega arith))
-
-pub returns-clause-reads : goal.returns-clause-reads
-returns-clause-reads g c =
-    moved c.read_tree.result (tables c.read_tree.new.into) c.args.t.now.tokens _ _ (ap (λ (l : ℕ). read (names_in c.args.types.now (g.R.TypeReader.types c.args.reader.now) (tables c.args.into.now) c.args.t.now.tokens) c.args.depth l (drop c.args.at c.args.t.now.tokens)) c.number.ensures) c.read_tree.ensures.ok

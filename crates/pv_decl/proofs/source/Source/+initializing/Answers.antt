@@ -7,7 +7,6 @@ use Rattle.pv_tree.specs.Places.{Initializers}
 use Rattle.pv_tree.specs.Syntax.{Initial, Braces, Tree, Trees, OfInitializer}
 use Rattle.pv_tree.specs.Tables.{expression_at, trees_of, is_expression, is_initializer}
 use Rattle.pv_tree.proofs.Kept.{extends_same, extends_then}
-use Rattle.pv_expr_forms.specs.Known.{names_in}
 use Rattle.pv_decl_forms.specs.Pieces.{listed}
 use Rattle.pv_decl_forms.specs.Reader.{listed_in_braces, readers}
 use Rattle.pv_decl_forms.proofs.Growing.{all_as}
@@ -16,6 +15,7 @@ use Rattle.pv_decl_forms.proofs.Initials.{initializer_zero, initializer_braced, 
 use Rattle.pv_decl_forms.proofs.Loops.{no_parts, start_list}
 use Rattle.pv_decl.specs.Filled.{list_map}
 use Rattle.pv_decl.proofs.Looping.{past_comma, list_done, list_stop, list_turn}
+use Rattle.pv_decl.specs.Sources.{known_names}
 use Rattle.pv_decl.proofs.source.Source.+initializing.Goals as goal
 
 pub initializer-returns-then-depth-eq0-clause-ok : goal.initializer-returns-then-depth-eq0-clause-ok
@@ -29,7 +29,7 @@ initializer-returns-in-Some-clause-ok g t c =
     let parts = ap (λ (ns : List NodeId). let x : Trees × List Token = (trees_of v.forest ns, drop c.in_ok-parts.end tokens) in x) c.deref.ensures.value ∙ c.in_ok-parts.ensures.ok.is in
     moved _ _ _ _ _ _
     (ap (λ (l : ℕ). listed_in_braces (λ inits comma. OfInitializer (Braces l inits comma)) (trees_of v.forest c.deref.result.now, drop c.in_ok-parts.end tokens)) c.line_at-line.ensures
-    ∙ initializer_braced (names_in c.args.self.now.typedefs.now (g.R.TypeReader.types c.args.self.now.reader.now) (tables c.args.into.now) c.args.self.now.tokens.now.tokens) c.args.depth here (drop c.in-Some.inside tokens) (trees_of v.forest c.deref.result.now, drop c.in_ok-parts.end tokens) (omega arith) c.in-Some.ensures.0 parts) c.braces_of.ensures.ok
+    ∙ initializer_braced (known_names g.R.TypeReader.types c.args.self.now (tables c.args.into.now)) c.args.depth here (drop c.in-Some.inside tokens) (trees_of v.forest c.deref.result.now, drop c.in_ok-parts.end tokens) (omega arith) c.in-Some.ensures.0 parts) c.braces_of.ensures.ok
 
 pub initializer-returns-in-Some-2-clause-ok : goal.initializer-returns-in-Some-2-clause-ok
 initializer-returns-in-Some-2-clause-ok g t c =
@@ -37,10 +37,10 @@ initializer-returns-in-Some-2-clause-ok g t c =
     let v = tables c.assigned.new.into in
     moved _ _ _ _ _ _
     (ap (λ (l : ℕ). let x : Tree × List Token = (OfInitializer (Initial l (expression_at v.forest c.in-Some-2.value)), drop c.in-Some-2.end tokens) in Some x) c.line_at-line.ensures
-    ∙ initializer_some (names_in c.args.self.now.typedefs.now (g.R.TypeReader.types c.args.self.now.reader.now) (tables c.args.into.now) c.args.self.now.tokens.now.tokens) c.args.depth (drop c.args.at tokens) (omega arith) c.in_default.ensures v tokens c.in_ok-value.field-0 c.in_ok-value.ensures.ok c.in-Some-2.value c.in-Some-2.end c.in-Some-2.is) c.found_initializer.ensures.ok
+    ∙ initializer_some (known_names g.R.TypeReader.types c.args.self.now (tables c.args.into.now)) c.args.depth (drop c.args.at tokens) (omega arith) c.in_default.ensures v tokens c.in_ok-value.field-0 c.in_ok-value.ensures.ok c.in-Some-2.value c.in-Some-2.end c.in-Some-2.is) c.found_initializer.ensures.ok
 
 pub initializer-returns-in-None-clause-ok : goal.initializer-returns-in-None-clause-ok
-initializer-returns-in-None-clause-ok g t c = nothing _ _ _ _ (initializer_none (names_in c.args.self.now.typedefs.now (g.R.TypeReader.types c.args.self.now.reader.now) (tables c.args.into.now) c.args.self.now.tokens.now.tokens) c.args.depth (drop c.args.at c.args.self.now.tokens.now.tokens) (omega arith) c.in_default.ensures (tables c.assigned.new.into) c.args.self.now.tokens.now.tokens c.in_ok-value.field-0 c.in_ok-value.ensures.ok c.in-None.is)
+initializer-returns-in-None-clause-ok g t c = nothing _ _ _ _ (initializer_none (known_names g.R.TypeReader.types c.args.self.now (tables c.args.into.now)) c.args.depth (drop c.args.at c.args.self.now.tokens.now.tokens) (omega arith) c.in_default.ensures (tables c.assigned.new.into) c.args.self.now.tokens.now.tokens c.in_ok-value.field-0 c.in_ok-value.ensures.ok c.in-None.is)
 
 pub initializers-loop-parts-init : goal.initializers-loop-parts-init
 initializers-loop-parts-init g t c = record {
@@ -53,16 +53,16 @@ initializers-loop-parts-init g t c = record {
 }
 
 pub initializers-returns-in_default-clause-ok : goal.initializers-returns-in_default-clause-ok
-initializers-returns-in_default-clause-ok g t c = list_done (list_map c.args.self.now.lists.now) c.args.self.now.typedefs.now (g.R.TypeReader.types c.args.self.now.reader.now) (tables c.args.into.now) (tables c.loop-parts.into) (tables c.initializer.new.into) c.args.self.now.tokens.now.tokens c.requires.tied c.loop-parts.invariant.keeps c.initializer.ensures.keeps is_initializer c.args.depth Initializers c.loop-parts.parts.items c.loop-parts.invariant.nodes c.loop-parts.next c.loop-parts.invariant.place c.in_ok-found.field-0 c.in_ok-found.ensures.ok c.loop-parts.behind c.loop-parts.invariant.where_behind (listed (readers (names_in c.args.self.now.typedefs.now (g.R.TypeReader.types c.args.self.now.reader.now) (tables c.args.into.now) c.args.self.now.tokens.now.tokens) c.args.depth Initializers) (drop c.args.at c.args.self.now.tokens.now.tokens)) c.loop-parts.invariant.same c.in_default.is
+initializers-returns-in_default-clause-ok g t c = list_done (list_map c.args.self.now.lists.now) c.args.self.now.typedefs.now (g.R.TypeReader.types c.args.self.now.reader.now) (tables c.args.into.now) (tables c.loop-parts.into) (tables c.initializer.new.into) c.args.self.now.tokens.now.tokens c.requires.tied c.loop-parts.invariant.keeps c.initializer.ensures.keeps is_initializer c.args.depth Initializers c.loop-parts.parts.items c.loop-parts.invariant.nodes c.loop-parts.next c.loop-parts.invariant.place c.in_ok-found.field-0 c.in_ok-found.ensures.ok c.loop-parts.behind c.loop-parts.invariant.where_behind (listed (readers (known_names g.R.TypeReader.types c.args.self.now (tables c.args.into.now)) c.args.depth Initializers) (drop c.args.at c.args.self.now.tokens.now.tokens)) c.loop-parts.invariant.same c.in_default.is
 
 pub initializers-loop-parts-smaller : goal.initializers-loop-parts-smaller
 initializers-loop-parts-smaller g t c = omega (arith, past_comma (list_map c.args.self.now.lists.now) c.args.self.now.typedefs.now (g.R.TypeReader.types c.args.self.now.reader.now) (tables c.args.into.now) (tables c.loop-parts.into) (tables c.initializer.new.into) c.args.self.now.tokens.now.tokens c.requires.tied c.loop-parts.invariant.keeps c.initializer.ensures.keeps is_initializer c.args.depth Initializers c.loop-parts.parts.items c.loop-parts.invariant.nodes c.loop-parts.next c.loop-parts.invariant.place c.in_ok-found.field-0 c.in_ok-found.ensures.ok c.in-Some.found c.in-Some.end c.in-Some.is c.in-Some-after.following c.in-Some-after.ensures.1 c.in-Some-after.ensures.0, c.in-Some-after.ensures.1)
 
 pub initializers-loop-parts-preserved : goal.initializers-loop-parts-preserved
-initializers-loop-parts-preserved g t c = list_turn (list_map c.args.self.now.lists.now) c.args.self.now.typedefs.now (g.R.TypeReader.types c.args.self.now.reader.now) (tables c.args.into.now) (tables c.loop-parts.into) (tables c.initializer.new.into) c.args.self.now.tokens.now.tokens c.requires.tied c.loop-parts.invariant.keeps c.initializer.ensures.keeps is_initializer c.args.depth Initializers c.loop-parts.parts.items c.loop-parts.invariant.nodes c.loop-parts.next c.loop-parts.invariant.place c.in_ok-found.field-0 c.in_ok-found.ensures.ok c.loop-parts.behind c.loop-parts.invariant.where_behind (listed (readers (names_in c.args.self.now.typedefs.now (g.R.TypeReader.types c.args.self.now.reader.now) (tables c.args.into.now) c.args.self.now.tokens.now.tokens) c.args.depth Initializers) (drop c.args.at c.args.self.now.tokens.now.tokens)) c.loop-parts.invariant.same c.in-Some.found c.in-Some.end c.in-Some.is c.push.new.self.items c.in_ok-push.ensures.items c.in-Some-after.following c.in-Some-after.ensures.0 c.in-Some-after.ensures.1
+initializers-loop-parts-preserved g t c = list_turn (list_map c.args.self.now.lists.now) c.args.self.now.typedefs.now (g.R.TypeReader.types c.args.self.now.reader.now) (tables c.args.into.now) (tables c.loop-parts.into) (tables c.initializer.new.into) c.args.self.now.tokens.now.tokens c.requires.tied c.loop-parts.invariant.keeps c.initializer.ensures.keeps is_initializer c.args.depth Initializers c.loop-parts.parts.items c.loop-parts.invariant.nodes c.loop-parts.next c.loop-parts.invariant.place c.in_ok-found.field-0 c.in_ok-found.ensures.ok c.loop-parts.behind c.loop-parts.invariant.where_behind (listed (readers (known_names g.R.TypeReader.types c.args.self.now (tables c.args.into.now)) c.args.depth Initializers) (drop c.args.at c.args.self.now.tokens.now.tokens)) c.loop-parts.invariant.same c.in-Some.found c.in-Some.end c.in-Some.is c.push.new.self.items c.in_ok-push.ensures.items c.in-Some-after.following c.in-Some-after.ensures.0 c.in-Some-after.ensures.1
 
 pub initializers-returns-in-None-clause-ok : goal.initializers-returns-in-None-clause-ok
-initializers-returns-in-None-clause-ok g t c = list_stop (list_map c.args.self.now.lists.now) c.args.self.now.typedefs.now (g.R.TypeReader.types c.args.self.now.reader.now) (tables c.args.into.now) (tables c.loop-parts.into) (tables c.initializer.new.into) c.args.self.now.tokens.now.tokens c.requires.tied c.loop-parts.invariant.keeps c.initializer.ensures.keeps is_initializer c.args.depth Initializers c.loop-parts.parts.items c.loop-parts.invariant.nodes c.loop-parts.next c.loop-parts.invariant.place c.in_ok-found.field-0 c.in_ok-found.ensures.ok c.loop-parts.behind c.loop-parts.invariant.where_behind (listed (readers (names_in c.args.self.now.typedefs.now (g.R.TypeReader.types c.args.self.now.reader.now) (tables c.args.into.now) c.args.self.now.tokens.now.tokens) c.args.depth Initializers) (drop c.args.at c.args.self.now.tokens.now.tokens)) c.loop-parts.invariant.same c.in-Some.found c.in-Some.end c.in-Some.is c.push.new.self.items c.in_ok-push.ensures.items c.in-None.ensures
+initializers-returns-in-None-clause-ok g t c = list_stop (list_map c.args.self.now.lists.now) c.args.self.now.typedefs.now (g.R.TypeReader.types c.args.self.now.reader.now) (tables c.args.into.now) (tables c.loop-parts.into) (tables c.initializer.new.into) c.args.self.now.tokens.now.tokens c.requires.tied c.loop-parts.invariant.keeps c.initializer.ensures.keeps is_initializer c.args.depth Initializers c.loop-parts.parts.items c.loop-parts.invariant.nodes c.loop-parts.next c.loop-parts.invariant.place c.in_ok-found.field-0 c.in_ok-found.ensures.ok c.loop-parts.behind c.loop-parts.invariant.where_behind (listed (readers (known_names g.R.TypeReader.types c.args.self.now (tables c.args.into.now)) c.args.depth Initializers) (drop c.args.at c.args.self.now.tokens.now.tokens)) c.loop-parts.invariant.same c.in-Some.found c.in-Some.end c.in-Some.is c.push.new.self.items c.in_ok-push.ensures.items c.in-None.ensures
 
 pub initializer-returns-then-depth-eq0-clause-keeps : goal.initializer-returns-then-depth-eq0-clause-keeps
 initializer-returns-then-depth-eq0-clause-keeps g t c = extends_same _

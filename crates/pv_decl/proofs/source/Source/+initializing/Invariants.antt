@@ -2,11 +2,9 @@ use Rattle.std.proofs.Common.{◌≡◌, ◌≤◌, ◌+◌, ◌-◌, ◌*◌, A
 use Rattle.pv_tree.specs.Rows.{tables}
 use Rattle.pv_tree.specs.Places.{Initializers}
 use Rattle.pv_tree.specs.Tables.{trees_of, is_initializer, Is, Extends}
-use Rattle.pv_expr_forms.specs.Known.{names_in}
 use Rattle.pv_decl_forms.specs.Pieces.{row_on, row, after_comma, listed}
 use Rattle.pv_decl_forms.specs.Reader.{readers}
-use Rattle.pv_decl.specs.Filled.{list_map}
-use Rattle.pv_decl_forms.specs.Givens.{AreGiven}
+use Rattle.pv_decl.specs.Sources.{known_names, AreKnown}
 use Rattle.pv_decl.proofs.source.Source.+initializing.Given as goal
 
 abbrev pub decreases-initializer : goal.decreases-initializer
@@ -18,13 +16,13 @@ decreases-initializers g l = 2 * l.depth + 1
 abbrev pub invariant-initializers-loop-parts : goal.invariant-initializers-loop-parts
 invariant-initializers-loop-parts g l =
     let tokens = l.self.tokens.now.tokens in
-    let part = readers (names_in l.self.typedefs.now (g.R.TypeReader.types l.self.reader.now) (tables l.fn.into) tokens) l.depth Initializers in
+    let part = readers (known_names g.R.TypeReader.types l.self (tables l.fn.into)) l.depth Initializers in
     record {
       nodes : All (λ n. Is (tables l.into) is_initializer n) l.parts.items;
       place : l.next ≤ length tokens;
       where_behind : l.behind ≤ length tokens;
       keeps : Extends (tables l.fn.into) (tables l.into);
-      tied : AreGiven (list_map l.self.lists.now) l.self.typedefs.now (g.R.TypeReader.types l.self.reader.now) (tables l.into) tokens;
+      tied : AreKnown g.R.TypeReader.types l.self (tables l.into);
       same : row_on (row (after_comma part)) (trees_of (tables l.into).forest l.parts.items) (drop l.behind tokens) (part (drop l.next tokens)) ≡ listed part (drop l.fn.at tokens);
     }
 

@@ -7,7 +7,6 @@ use Rattle.pv_tree.specs.Places.{Place}
 use Rattle.pv_tree.specs.Syntax.{Composite, Enumeration, OfSpecifier, Trees, NoTrees}
 use Rattle.pv_tree.specs.Tables.{Tables, trees_of, tree_at, is_declaration, is_declarator, is_specifier}
 use Rattle.pv_tree.proofs.Kept.{extends_same, extends_then}
-use Rattle.pv_expr_forms.specs.Known.{names_in}
 use Rattle.pv_decl_forms.specs.declared.forms.Part.{Part}
 use Rattle.pv_decl_forms.specs.declared.forms.Part.TheVariants as part
 use Rattle.pv_decl_forms.specs.Answers.{Answers}
@@ -24,6 +23,7 @@ use Rattle.pv_decl_forms.proofs.Steps.{longer_goes, grown_next}
 use Rattle.pv_decl.specs.Filled.{list_map}
 use Rattle.pv_decl.proofs.Givens.{given_kept}
 use Rattle.pv_decl.proofs.Looping.{forward, past_comma, row_done, row_turn, list_done, list_stop, list_turn}
+use Rattle.pv_decl.specs.Sources.{known_names}
 use Rattle.pv_decl.proofs.source.Source.+reading.Invariants.{height}
 use Rattle.pv_decl.proofs.source.Source.+reading.Goals as goal
 
@@ -34,19 +34,19 @@ as_part : {E : Type 0} (p q : Part) → p ≡ q → (result : Result (Option (No
 as_part p q e result u tokens reading h = subst (λ (x : Part). IfOk result (λ r. Answers u (kind_of_part x) tokens r (reading (place_of_part x)))) (sym e) h
 
 pub read-returns-in-Specifier-clause-ok : goal.read-returns-in-Specifier-clause-ok
-read-returns-in-Specifier-clause-ok g t c = as_part c.args.part part.Specifier c.in-Specifier.is _ (tables c.specifier.new.into) c.args.self.now.tokens.now.tokens (λ place. readers (names_in c.args.self.now.typedefs.now (g.R.TypeReader.types c.args.self.now.reader.now) (tables c.args.into.now) c.args.self.now.tokens.now.tokens) c.args.depth place (drop c.args.at c.args.self.now.tokens.now.tokens)) c.specifier.ensures.ok
+read-returns-in-Specifier-clause-ok g t c = as_part c.args.part part.Specifier c.in-Specifier.is _ (tables c.specifier.new.into) c.args.self.now.tokens.now.tokens (λ place. readers (known_names g.R.TypeReader.types c.args.self.now (tables c.args.into.now)) c.args.depth place (drop c.args.at c.args.self.now.tokens.now.tokens)) c.specifier.ensures.ok
 
 pub read-returns-in-Member-clause-ok : goal.read-returns-in-Member-clause-ok
-read-returns-in-Member-clause-ok g t c = as_part c.args.part part.Member c.in-Member.is _ (tables c.member.new.into) c.args.self.now.tokens.now.tokens (λ place. readers (names_in c.args.self.now.typedefs.now (g.R.TypeReader.types c.args.self.now.reader.now) (tables c.args.into.now) c.args.self.now.tokens.now.tokens) c.args.depth place (drop c.args.at c.args.self.now.tokens.now.tokens)) c.member.ensures.ok
+read-returns-in-Member-clause-ok g t c = as_part c.args.part part.Member c.in-Member.is _ (tables c.member.new.into) c.args.self.now.tokens.now.tokens (λ place. readers (known_names g.R.TypeReader.types c.args.self.now (tables c.args.into.now)) c.args.depth place (drop c.args.at c.args.self.now.tokens.now.tokens)) c.member.ensures.ok
 
 pub read-returns-in-Enumerator-clause-ok : goal.read-returns-in-Enumerator-clause-ok
-read-returns-in-Enumerator-clause-ok g t c = as_part c.args.part part.Enumerator c.in-Enumerator.is _ (tables c.enumerator.new.into) c.args.self.now.tokens.now.tokens (λ place. readers (names_in c.args.self.now.typedefs.now (g.R.TypeReader.types c.args.self.now.reader.now) (tables c.args.into.now) c.args.self.now.tokens.now.tokens) c.args.depth place (drop c.args.at c.args.self.now.tokens.now.tokens)) c.enumerator.ensures.ok
+read-returns-in-Enumerator-clause-ok g t c = as_part c.args.part part.Enumerator c.in-Enumerator.is _ (tables c.enumerator.new.into) c.args.self.now.tokens.now.tokens (λ place. readers (known_names g.R.TypeReader.types c.args.self.now (tables c.args.into.now)) c.args.depth place (drop c.args.at c.args.self.now.tokens.now.tokens)) c.enumerator.ensures.ok
 
 pub read-returns-in-Parameter-clause-ok : goal.read-returns-in-Parameter-clause-ok
-read-returns-in-Parameter-clause-ok g t c = as_part c.args.part part.Parameter c.in-Parameter.is _ (tables c.parameter.new.into) c.args.self.now.tokens.now.tokens (λ place. readers (names_in c.args.self.now.typedefs.now (g.R.TypeReader.types c.args.self.now.reader.now) (tables c.args.into.now) c.args.self.now.tokens.now.tokens) c.args.depth place (drop c.args.at c.args.self.now.tokens.now.tokens)) c.parameter.ensures.ok
+read-returns-in-Parameter-clause-ok g t c = as_part c.args.part part.Parameter c.in-Parameter.is _ (tables c.parameter.new.into) c.args.self.now.tokens.now.tokens (λ place. readers (known_names g.R.TypeReader.types c.args.self.now (tables c.args.into.now)) c.args.depth place (drop c.args.at c.args.self.now.tokens.now.tokens)) c.parameter.ensures.ok
 
 pub read-returns-in-Declarator-clause-ok : goal.read-returns-in-Declarator-clause-ok
-read-returns-in-Declarator-clause-ok g t c = as_part c.args.part (part.Declarator c.in-Declarator.form) c.in-Declarator.is _ (tables c.declarator.new.into) c.args.self.now.tokens.now.tokens (λ place. readers (names_in c.args.self.now.typedefs.now (g.R.TypeReader.types c.args.self.now.reader.now) (tables c.args.into.now) c.args.self.now.tokens.now.tokens) c.args.depth place (drop c.args.at c.args.self.now.tokens.now.tokens)) c.declarator.ensures.ok
+read-returns-in-Declarator-clause-ok g t c = as_part c.args.part (part.Declarator c.in-Declarator.form) c.in-Declarator.is _ (tables c.declarator.new.into) c.args.self.now.tokens.now.tokens (λ place. readers (known_names g.R.TypeReader.types c.args.self.now (tables c.args.into.now)) c.args.depth place (drop c.args.at c.args.self.now.tokens.now.tokens)) c.declarator.ensures.ok
 
 -- ---- parts in a row
 
@@ -60,7 +60,7 @@ row-loop-parts-init g t c = record {
 }
 
 pub row-returns-in_default-clause-ok : goal.row-returns-in_default-clause-ok
-row-returns-in_default-clause-ok g t c = row_done (list_map c.args.self.now.lists.now) c.args.self.now.typedefs.now (g.R.TypeReader.types c.args.self.now.reader.now) (tables c.args.into.now) (tables c.loop-parts.into) (tables c.read.new.into) c.args.self.now.tokens.now.tokens c.requires.tied c.loop-parts.invariant.keeps c.read.ensures.keeps (kind_of_part c.args.part) c.args.depth (place_of_part c.args.part) c.loop-parts.parts.items c.loop-parts.invariant.nodes c.loop-parts.next c.loop-parts.invariant.place c.in_ok-found.field-0 c.in_ok-found.ensures.ok (row (readers (names_in c.args.self.now.typedefs.now (g.R.TypeReader.types c.args.self.now.reader.now) (tables c.args.into.now) c.args.self.now.tokens.now.tokens) c.args.depth (place_of_part c.args.part)) NoTrees (drop c.args.at c.args.self.now.tokens.now.tokens)) c.loop-parts.invariant.same c.in_default.is
+row-returns-in_default-clause-ok g t c = row_done (list_map c.args.self.now.lists.now) c.args.self.now.typedefs.now (g.R.TypeReader.types c.args.self.now.reader.now) (tables c.args.into.now) (tables c.loop-parts.into) (tables c.read.new.into) c.args.self.now.tokens.now.tokens c.requires.tied c.loop-parts.invariant.keeps c.read.ensures.keeps (kind_of_part c.args.part) c.args.depth (place_of_part c.args.part) c.loop-parts.parts.items c.loop-parts.invariant.nodes c.loop-parts.next c.loop-parts.invariant.place c.in_ok-found.field-0 c.in_ok-found.ensures.ok (row (readers (known_names g.R.TypeReader.types c.args.self.now (tables c.args.into.now)) c.args.depth (place_of_part c.args.part)) NoTrees (drop c.args.at c.args.self.now.tokens.now.tokens)) c.loop-parts.invariant.same c.in_default.is
 
 pub row-loop-parts-smaller : goal.row-loop-parts-smaller
 row-loop-parts-smaller g t c =
@@ -68,7 +68,7 @@ row-loop-parts-smaller g t c =
     omega (arith, forward (list_map c.args.self.now.lists.now) c.args.self.now.typedefs.now (g.R.TypeReader.types c.args.self.now.reader.now) (tables c.args.into.now) (tables c.loop-parts.into) (tables c.read.new.into) c.args.self.now.tokens.now.tokens c.requires.tied c.loop-parts.invariant.keeps c.read.ensures.keeps (kind_of_part c.args.part) c.args.depth (place_of_part c.args.part) c.loop-parts.parts.items c.loop-parts.invariant.nodes c.loop-parts.next c.loop-parts.invariant.place c.in_ok-found.field-0 c.in_ok-found.ensures.ok c.in-Some.found c.in-Some.end c.in-Some.is, end)
 
 pub row-loop-parts-preserved : goal.row-loop-parts-preserved
-row-loop-parts-preserved g t c = row_turn (list_map c.args.self.now.lists.now) c.args.self.now.typedefs.now (g.R.TypeReader.types c.args.self.now.reader.now) (tables c.args.into.now) (tables c.loop-parts.into) (tables c.read.new.into) c.args.self.now.tokens.now.tokens c.requires.tied c.loop-parts.invariant.keeps c.read.ensures.keeps (kind_of_part c.args.part) c.args.depth (place_of_part c.args.part) c.loop-parts.parts.items c.loop-parts.invariant.nodes c.loop-parts.next c.loop-parts.invariant.place c.in_ok-found.field-0 c.in_ok-found.ensures.ok (row (readers (names_in c.args.self.now.typedefs.now (g.R.TypeReader.types c.args.self.now.reader.now) (tables c.args.into.now) c.args.self.now.tokens.now.tokens) c.args.depth (place_of_part c.args.part)) NoTrees (drop c.args.at c.args.self.now.tokens.now.tokens)) c.loop-parts.invariant.same c.in-Some.found c.in-Some.end c.in-Some.is c.push.new.self.items c.in_ok-push.ensures.items
+row-loop-parts-preserved g t c = row_turn (list_map c.args.self.now.lists.now) c.args.self.now.typedefs.now (g.R.TypeReader.types c.args.self.now.reader.now) (tables c.args.into.now) (tables c.loop-parts.into) (tables c.read.new.into) c.args.self.now.tokens.now.tokens c.requires.tied c.loop-parts.invariant.keeps c.read.ensures.keeps (kind_of_part c.args.part) c.args.depth (place_of_part c.args.part) c.loop-parts.parts.items c.loop-parts.invariant.nodes c.loop-parts.next c.loop-parts.invariant.place c.in_ok-found.field-0 c.in_ok-found.ensures.ok (row (readers (known_names g.R.TypeReader.types c.args.self.now (tables c.args.into.now)) c.args.depth (place_of_part c.args.part)) NoTrees (drop c.args.at c.args.self.now.tokens.now.tokens)) c.loop-parts.invariant.same c.in-Some.found c.in-Some.end c.in-Some.is c.push.new.self.items c.in_ok-push.ensures.items
 
 -- ---- parts with commas between
 
@@ -83,50 +83,50 @@ listed-loop-parts-init g t c = record {
 }
 
 pub listed-returns-in_default-clause-ok : goal.listed-returns-in_default-clause-ok
-listed-returns-in_default-clause-ok g t c = list_done (list_map c.args.self.now.lists.now) c.args.self.now.typedefs.now (g.R.TypeReader.types c.args.self.now.reader.now) (tables c.args.into.now) (tables c.loop-parts.into) (tables c.read.new.into) c.args.self.now.tokens.now.tokens c.requires.tied c.loop-parts.invariant.keeps c.read.ensures.keeps (kind_of_part c.args.part) c.args.depth (place_of_part c.args.part) c.loop-parts.parts.items c.loop-parts.invariant.nodes c.loop-parts.next c.loop-parts.invariant.place c.in_ok-found.field-0 c.in_ok-found.ensures.ok c.loop-parts.behind c.loop-parts.invariant.where_behind (listed (readers (names_in c.args.self.now.typedefs.now (g.R.TypeReader.types c.args.self.now.reader.now) (tables c.args.into.now) c.args.self.now.tokens.now.tokens) c.args.depth (place_of_part c.args.part)) (drop c.args.at c.args.self.now.tokens.now.tokens)) c.loop-parts.invariant.same c.in_default.is
+listed-returns-in_default-clause-ok g t c = list_done (list_map c.args.self.now.lists.now) c.args.self.now.typedefs.now (g.R.TypeReader.types c.args.self.now.reader.now) (tables c.args.into.now) (tables c.loop-parts.into) (tables c.read.new.into) c.args.self.now.tokens.now.tokens c.requires.tied c.loop-parts.invariant.keeps c.read.ensures.keeps (kind_of_part c.args.part) c.args.depth (place_of_part c.args.part) c.loop-parts.parts.items c.loop-parts.invariant.nodes c.loop-parts.next c.loop-parts.invariant.place c.in_ok-found.field-0 c.in_ok-found.ensures.ok c.loop-parts.behind c.loop-parts.invariant.where_behind (listed (readers (known_names g.R.TypeReader.types c.args.self.now (tables c.args.into.now)) c.args.depth (place_of_part c.args.part)) (drop c.args.at c.args.self.now.tokens.now.tokens)) c.loop-parts.invariant.same c.in_default.is
 
 pub listed-loop-parts-smaller : goal.listed-loop-parts-smaller
 listed-loop-parts-smaller g t c = omega (arith, past_comma (list_map c.args.self.now.lists.now) c.args.self.now.typedefs.now (g.R.TypeReader.types c.args.self.now.reader.now) (tables c.args.into.now) (tables c.loop-parts.into) (tables c.read.new.into) c.args.self.now.tokens.now.tokens c.requires.tied c.loop-parts.invariant.keeps c.read.ensures.keeps (kind_of_part c.args.part) c.args.depth (place_of_part c.args.part) c.loop-parts.parts.items c.loop-parts.invariant.nodes c.loop-parts.next c.loop-parts.invariant.place c.in_ok-found.field-0 c.in_ok-found.ensures.ok c.in-Some.found c.in-Some.end c.in-Some.is c.in-Some-after.following c.in-Some-after.ensures.1 c.in-Some-after.ensures.0, c.in-Some-after.ensures.1)
 
 pub listed-loop-parts-preserved : goal.listed-loop-parts-preserved
-listed-loop-parts-preserved g t c = list_turn (list_map c.args.self.now.lists.now) c.args.self.now.typedefs.now (g.R.TypeReader.types c.args.self.now.reader.now) (tables c.args.into.now) (tables c.loop-parts.into) (tables c.read.new.into) c.args.self.now.tokens.now.tokens c.requires.tied c.loop-parts.invariant.keeps c.read.ensures.keeps (kind_of_part c.args.part) c.args.depth (place_of_part c.args.part) c.loop-parts.parts.items c.loop-parts.invariant.nodes c.loop-parts.next c.loop-parts.invariant.place c.in_ok-found.field-0 c.in_ok-found.ensures.ok c.loop-parts.behind c.loop-parts.invariant.where_behind (listed (readers (names_in c.args.self.now.typedefs.now (g.R.TypeReader.types c.args.self.now.reader.now) (tables c.args.into.now) c.args.self.now.tokens.now.tokens) c.args.depth (place_of_part c.args.part)) (drop c.args.at c.args.self.now.tokens.now.tokens)) c.loop-parts.invariant.same c.in-Some.found c.in-Some.end c.in-Some.is c.push.new.self.items c.in_ok-push.ensures.items c.in-Some-after.following c.in-Some-after.ensures.0 c.in-Some-after.ensures.1
+listed-loop-parts-preserved g t c = list_turn (list_map c.args.self.now.lists.now) c.args.self.now.typedefs.now (g.R.TypeReader.types c.args.self.now.reader.now) (tables c.args.into.now) (tables c.loop-parts.into) (tables c.read.new.into) c.args.self.now.tokens.now.tokens c.requires.tied c.loop-parts.invariant.keeps c.read.ensures.keeps (kind_of_part c.args.part) c.args.depth (place_of_part c.args.part) c.loop-parts.parts.items c.loop-parts.invariant.nodes c.loop-parts.next c.loop-parts.invariant.place c.in_ok-found.field-0 c.in_ok-found.ensures.ok c.loop-parts.behind c.loop-parts.invariant.where_behind (listed (readers (known_names g.R.TypeReader.types c.args.self.now (tables c.args.into.now)) c.args.depth (place_of_part c.args.part)) (drop c.args.at c.args.self.now.tokens.now.tokens)) c.loop-parts.invariant.same c.in-Some.found c.in-Some.end c.in-Some.is c.push.new.self.items c.in_ok-push.ensures.items c.in-Some-after.following c.in-Some-after.ensures.0 c.in-Some-after.ensures.1
 
 pub listed-returns-in-None-clause-ok : goal.listed-returns-in-None-clause-ok
-listed-returns-in-None-clause-ok g t c = list_stop (list_map c.args.self.now.lists.now) c.args.self.now.typedefs.now (g.R.TypeReader.types c.args.self.now.reader.now) (tables c.args.into.now) (tables c.loop-parts.into) (tables c.read.new.into) c.args.self.now.tokens.now.tokens c.requires.tied c.loop-parts.invariant.keeps c.read.ensures.keeps (kind_of_part c.args.part) c.args.depth (place_of_part c.args.part) c.loop-parts.parts.items c.loop-parts.invariant.nodes c.loop-parts.next c.loop-parts.invariant.place c.in_ok-found.field-0 c.in_ok-found.ensures.ok c.loop-parts.behind c.loop-parts.invariant.where_behind (listed (readers (names_in c.args.self.now.typedefs.now (g.R.TypeReader.types c.args.self.now.reader.now) (tables c.args.into.now) c.args.self.now.tokens.now.tokens) c.args.depth (place_of_part c.args.part)) (drop c.args.at c.args.self.now.tokens.now.tokens)) c.loop-parts.invariant.same c.in-Some.found c.in-Some.end c.in-Some.is c.push.new.self.items c.in_ok-push.ensures.items c.in-None.ensures
+listed-returns-in-None-clause-ok g t c = list_stop (list_map c.args.self.now.lists.now) c.args.self.now.typedefs.now (g.R.TypeReader.types c.args.self.now.reader.now) (tables c.args.into.now) (tables c.loop-parts.into) (tables c.read.new.into) c.args.self.now.tokens.now.tokens c.requires.tied c.loop-parts.invariant.keeps c.read.ensures.keeps (kind_of_part c.args.part) c.args.depth (place_of_part c.args.part) c.loop-parts.parts.items c.loop-parts.invariant.nodes c.loop-parts.next c.loop-parts.invariant.place c.in_ok-found.field-0 c.in_ok-found.ensures.ok c.loop-parts.behind c.loop-parts.invariant.where_behind (listed (readers (known_names g.R.TypeReader.types c.args.self.now (tables c.args.into.now)) c.args.depth (place_of_part c.args.part)) (drop c.args.at c.args.self.now.tokens.now.tokens)) c.loop-parts.invariant.same c.in-Some.found c.in-Some.end c.in-Some.is c.push.new.self.items c.in_ok-push.ensures.items c.in-None.ensures
 
 -- ---- specifiers
 
 pub specifier-returns-in_default-clause-ok : goal.specifier-returns-in_default-clause-ok
-specifier-returns-in_default-clause-ok g t c = nothing _ _ _ _ (specifier_end (names_in c.args.self.now.typedefs.now (g.R.TypeReader.types c.args.self.now.reader.now) (tables c.args.into.now) c.args.self.now.tokens.now.tokens) c.args.depth _ c.in_default.ensures)
+specifier-returns-in_default-clause-ok g t c = nothing _ _ _ _ (specifier_end (known_names g.R.TypeReader.types c.args.self.now (tables c.args.into.now)) c.args.depth _ c.in_default.ensures)
 
 pub specifier-returns-in_default-tag_word-clause-ok : goal.specifier-returns-in_default-tag_word-clause-ok
 specifier-returns-in_default-tag_word-clause-ok g t c = moved _ _ _ _ _ _ (specifier_plain c.args.self.now.typedefs.now (g.R.TypeReader.types c.args.self.now.reader.now) (tables c.args.into.now) c.args.self.now.tokens.now.tokens c.args.depth _ c.in-Some.token _ c.in-Some.ensures.0 (sym c.in_default-tag_word.ensures)) c.plain.ensures.ok
 
 pub specifier-returns-in-Some-2-clause-ok : goal.specifier-returns-in-Some-2-clause-ok
 specifier-returns-in-Some-2-clause-ok g t c =
-    let a = tagged_braced (tables c.braced.new.into) c.args.self.now.tokens.now.tokens (within (names_in c.args.self.now.typedefs.now (g.R.TypeReader.types c.args.self.now.reader.now) (tables c.args.into.now) c.args.self.now.tokens.now.tokens) c.args.depth) c.in-Some.token.line (word_of_tag c.in-Some-tag_word.word) (drop (c.args.at + 1) c.args.self.now.tokens.now.tokens) c.tag_at-tag.result.0 (drop c.tag_at-tag.result.1 c.args.self.now.tokens.now.tokens) c.tag_at-tag.ensures.is c.in_ok-found.field-0 c.in_ok-found.ensures.ok c.in-Some-2.found c.in-Some-2.is in
+    let a = tagged_braced (tables c.braced.new.into) c.args.self.now.tokens.now.tokens (within (known_names g.R.TypeReader.types c.args.self.now (tables c.args.into.now)) c.args.depth) c.in-Some.token.line (word_of_tag c.in-Some-tag_word.word) (drop (c.args.at + 1) c.args.self.now.tokens.now.tokens) c.tag_at-tag.result.0 (drop c.tag_at-tag.result.1 c.args.self.now.tokens.now.tokens) c.tag_at-tag.ensures.is c.in_ok-found.field-0 c.in_ok-found.ensures.ok c.in-Some-2.found c.in-Some-2.is in
     record {
-      is = a.is ∙ specifier_tagged (names_in c.args.self.now.typedefs.now (g.R.TypeReader.types c.args.self.now.reader.now) (tables c.args.into.now) c.args.self.now.tokens.now.tokens) c.args.depth _ c.in-Some.token _ c.in-Some.ensures.0 c.in-Some-tag_word.word (sym c.in-Some-tag_word.ensures);
+      is = a.is ∙ specifier_tagged (known_names g.R.TypeReader.types c.args.self.now (tables c.args.into.now)) c.args.depth _ c.in-Some.token _ c.in-Some.ensures.0 c.in-Some-tag_word.word (sym c.in-Some-tag_word.ensures);
       there = a.there;
     }
 
 pub specifier-returns-in-None-clause-ok : goal.specifier-returns-in-None-clause-ok
-specifier-returns-in-None-clause-ok g t c = moved _ _ _ _ _ _ (tagged_alone (tables c.braced.new.into) c.args.self.now.tokens.now.tokens (within (names_in c.args.self.now.typedefs.now (g.R.TypeReader.types c.args.self.now.reader.now) (tables c.args.into.now) c.args.self.now.tokens.now.tokens) c.args.depth) c.in-Some.token.line (word_of_tag c.in-Some-tag_word.word) (drop (c.args.at + 1) c.args.self.now.tokens.now.tokens) c.tag_at-tag.result.0 (drop c.tag_at-tag.result.1 c.args.self.now.tokens.now.tokens) c.tag_at-tag.ensures.is c.in_ok-found.field-0 c.in_ok-found.ensures.ok c.in-None.is
-    ∙ specifier_tagged (names_in c.args.self.now.typedefs.now (g.R.TypeReader.types c.args.self.now.reader.now) (tables c.args.into.now) c.args.self.now.tokens.now.tokens) c.args.depth _ c.in-Some.token _ c.in-Some.ensures.0 c.in-Some-tag_word.word (sym c.in-Some-tag_word.ensures)) c.tag_alone.ensures.ok
+specifier-returns-in-None-clause-ok g t c = moved _ _ _ _ _ _ (tagged_alone (tables c.braced.new.into) c.args.self.now.tokens.now.tokens (within (known_names g.R.TypeReader.types c.args.self.now (tables c.args.into.now)) c.args.depth) c.in-Some.token.line (word_of_tag c.in-Some-tag_word.word) (drop (c.args.at + 1) c.args.self.now.tokens.now.tokens) c.tag_at-tag.result.0 (drop c.tag_at-tag.result.1 c.args.self.now.tokens.now.tokens) c.tag_at-tag.ensures.is c.in_ok-found.field-0 c.in_ok-found.ensures.ok c.in-None.is
+    ∙ specifier_tagged (known_names g.R.TypeReader.types c.args.self.now (tables c.args.into.now)) c.args.depth _ c.in-Some.token _ c.in-Some.ensures.0 c.in-Some-tag_word.word (sym c.in-Some-tag_word.ensures)) c.tag_alone.ensures.ok
 
 pub braced-returns-in_default-clause-ok : goal.braced-returns-in_default-clause-ok
-braced-returns-in_default-clause-ok g t c = nothing _ _ _ _ (no_brace (names_in c.args.self.now.typedefs.now (g.R.TypeReader.types c.args.self.now.reader.now) (tables c.args.into.now) c.args.self.now.tokens.now.tokens) c.args.depth c.args.line c.args.word c.args.tag (drop c.args.at c.args.self.now.tokens.now.tokens) c.in_default.ensures)
+braced-returns-in_default-clause-ok g t c = nothing _ _ _ _ (no_brace (known_names g.R.TypeReader.types c.args.self.now (tables c.args.into.now)) c.args.depth c.args.line c.args.word c.args.tag (drop c.args.at c.args.self.now.tokens.now.tokens) c.in_default.ensures)
 
 pub braced-returns-then-depth-eq0-clause-ok : goal.braced-returns-then-depth-eq0-clause-ok
-braced-returns-then-depth-eq0-clause-ok g t c = nothing _ _ _ _ (no_depth (names_in c.args.self.now.typedefs.now (g.R.TypeReader.types c.args.self.now.reader.now) (tables c.args.into.now) c.args.self.now.tokens.now.tokens) c.args.depth c.args.line c.args.word c.args.tag (drop c.args.at c.args.self.now.tokens.now.tokens) (drop c.in-Some.inside c.args.self.now.tokens.now.tokens) c.in-Some.ensures.0 c.if-depth-eq0.true)
+braced-returns-then-depth-eq0-clause-ok g t c = nothing _ _ _ _ (no_depth (known_names g.R.TypeReader.types c.args.self.now (tables c.args.into.now)) c.args.depth c.args.line c.args.word c.args.tag (drop c.args.at c.args.self.now.tokens.now.tokens) (drop c.in-Some.inside c.args.self.now.tokens.now.tokens) c.in-Some.ensures.0 c.if-depth-eq0.true)
 
 pub braced-returns-in_ok-enumerators-in-Enum-clause-ok : goal.braced-returns-in_ok-enumerators-in-Enum-clause-ok
 braced-returns-in_ok-enumerators-in-Enum-clause-ok g t c = moved _ _ _ _ _ _ (ap (listed_in_braces (λ trees comma. OfSpecifier (Enumeration c.args.line c.args.tag trees comma))) (ap (λ (ns : List NodeId). let x : Trees × List Token = (trees_of (tables c.listed.new.into).forest ns, drop c.in_ok-enumerators-in-Enum.end c.args.self.now.tokens.now.tokens) in x) c.deref.ensures.value ∙ c.in_ok-enumerators-in-Enum.ensures.ok.is)
-    ∙ enumerators_in (names_in c.args.self.now.typedefs.now (g.R.TypeReader.types c.args.self.now.reader.now) (tables c.args.into.now) c.args.self.now.tokens.now.tokens) c.args.depth c.args.line c.args.word c.args.tag (drop c.args.at c.args.self.now.tokens.now.tokens) (drop c.in-Some.inside c.args.self.now.tokens.now.tokens) c.in-Some.ensures.0 (omega arith) c.in-Enum.is) c.enumeration.ensures.ok
+    ∙ enumerators_in (known_names g.R.TypeReader.types c.args.self.now (tables c.args.into.now)) c.args.depth c.args.line c.args.word c.args.tag (drop c.args.at c.args.self.now.tokens.now.tokens) (drop c.in-Some.inside c.args.self.now.tokens.now.tokens) c.in-Some.ensures.0 (omega arith) c.in-Enum.is) c.enumeration.ensures.ok
 
 pub braced-returns-in_ok-members-in-Composite-clause-ok : goal.braced-returns-in_ok-members-in-Composite-clause-ok
 braced-returns-in_ok-members-in-Composite-clause-ok g t c = moved _ _ _ _ _ _ (ap (row_in_braces (λ trees. OfSpecifier (Composite c.args.line (word_of_composite c.in-Composite.composite_word) c.args.tag trees))) (ap (λ (ns : List NodeId). let x : Trees × List Token = (trees_of (tables c.row.new.into).forest ns, drop c.in_ok-members-in-Composite.end c.args.self.now.tokens.now.tokens) in x) c.deref-in-Composite.ensures.value ∙ c.in_ok-members-in-Composite.ensures.ok.is)
-    ∙ members_in (names_in c.args.self.now.typedefs.now (g.R.TypeReader.types c.args.self.now.reader.now) (tables c.args.into.now) c.args.self.now.tokens.now.tokens) c.args.depth c.args.line c.args.word c.args.tag (drop c.args.at c.args.self.now.tokens.now.tokens) (drop c.in-Some.inside c.args.self.now.tokens.now.tokens) c.in-Some.ensures.0 (omega arith) c.in-Composite.composite_word c.in-Composite.is) c.composite.ensures.ok
+    ∙ members_in (known_names g.R.TypeReader.types c.args.self.now (tables c.args.into.now)) c.args.depth c.args.line c.args.word c.args.tag (drop c.args.at c.args.self.now.tokens.now.tokens) (drop c.in-Some.inside c.args.self.now.tokens.now.tokens) c.in-Some.ensures.0 (omega arith) c.in-Composite.composite_word c.in-Composite.is) c.composite.ensures.ok
 
 pub braced-enumeration-requires-clause-enumerators : goal.braced-enumeration-requires-clause-enumerators
 braced-enumeration-requires-clause-enumerators g t c = all_as (tables c.listed.new.into) is_declaration _ _ c.deref.ensures.value c.in_ok-enumerators-in-Enum.ensures.ok.there
@@ -149,7 +149,7 @@ pub member-member_of-requires-clause-declarators : goal.member-member_of-require
 member-member_of-requires-clause-declarators g t c = all_as (tables c.listed.new.into) is_declarator _ _ c.deref-2.ensures.value c.in_ok-declarators.ensures.ok.there
 
 pub parameter-returns-then-depth-eq0-clause-ok : goal.parameter-returns-then-depth-eq0-clause-ok
-parameter-returns-then-depth-eq0-clause-ok g t c = nothing _ _ _ _ (no_parameters (names_in c.args.self.now.typedefs.now (g.R.TypeReader.types c.args.self.now.reader.now) (tables c.args.into.now) c.args.self.now.tokens.now.tokens) c.args.depth (drop c.args.at c.args.self.now.tokens.now.tokens) c.if-depth-eq0.true)
+parameter-returns-then-depth-eq0-clause-ok g t c = nothing _ _ _ _ (no_parameters (known_names g.R.TypeReader.types c.args.self.now (tables c.args.into.now)) c.args.depth (drop c.args.at c.args.self.now.tokens.now.tokens) c.if-depth-eq0.true)
 
 pub parameter-returns-then-is_empty-clause-ok : goal.parameter-returns-then-is_empty-clause-ok
 parameter-returns-then-is_empty-clause-ok g t c = nothing _ _ _ _ (parameter_ends c.args.self.now.typedefs.now (g.R.TypeReader.types c.args.self.now.reader.now) (tables c.args.into.now) (tables c.row.new.into) c.args.self.now.tokens.now.tokens c.requires.tied.tied c.row.ensures.keeps c.args.depth c.args.at c.in_ok-specs.specs.items c.in_ok-specs.next (omega arith) c.in_ok-specs.ensures.ok (counted _ _ _ _ c.in_ok-specs.specs.ok.0 c.is_empty.ensures c.if-is_empty.true))
@@ -166,7 +166,7 @@ parameter-parameter_of-requires-clause-declarator g t c = c.in_ok-declarator.ens
 -- ---- declarators
 
 pub declarator-returns-then-depth-eq0-clause-ok : goal.declarator-returns-then-depth-eq0-clause-ok
-declarator-returns-then-depth-eq0-clause-ok g t c = nothing _ _ _ _ (no_declarators (names_in c.args.self.now.typedefs.now (g.R.TypeReader.types c.args.self.now.reader.now) (tables c.args.into.now) c.args.self.now.tokens.now.tokens) c.args.depth c.args.form (drop c.args.at c.args.self.now.tokens.now.tokens) c.if-depth-eq0.true)
+declarator-returns-then-depth-eq0-clause-ok g t c = nothing _ _ _ _ (no_declarators (known_names g.R.TypeReader.types c.args.self.now (tables c.args.into.now)) c.args.depth c.args.form (drop c.args.at c.args.self.now.tokens.now.tokens) c.if-depth-eq0.true)
 
 pub declarator-returns-in-None-clause-ok : goal.declarator-returns-in-None-clause-ok
 declarator-returns-in-None-clause-ok g t c = nothing _ _ _ _ (declarator_none c.args.self.now.typedefs.now (g.R.TypeReader.types c.args.self.now.reader.now) (tables c.args.into.now) (tables c.head.new.into) c.args.self.now.tokens.now.tokens c.requires.tied.tied c.head.ensures.keeps c.args.depth c.args.at c.args.form (omega arith) c.in_ok-first.field-0 c.in_ok-first.ensures.ok c.in-None.is)
@@ -181,51 +181,51 @@ grow-loop-longer-init g t c = record { node = c.requires.node; place = c.require
 
 pub grow-loop-longer-smaller : goal.grow-loop-longer-smaller
 grow-loop-longer-smaller g t c =
-    let e = grew (readers (names_in c.args.self.now.typedefs.now (g.R.TypeReader.types c.args.self.now.reader.now) (tables c.loop-longer.into) c.args.self.now.tokens.now.tokens) c.args.below) c.args.below c.args.line (tables c.loop-longer.into) (tables c.extend.new.into) c.args.self.now.tokens.now.tokens c.loop-longer.left c.loop-longer.next c.in_ok-longer.field-0 c.in_ok-longer.ensures.ok c.in-Some.longer c.in-Some.end c.in-Some.is in
-    let s = longer_goes (readers (names_in c.args.self.now.typedefs.now (g.R.TypeReader.types c.args.self.now.reader.now) (tables c.loop-longer.into) c.args.self.now.tokens.now.tokens) c.args.below) c.args.below c.args.line (tree_at (tables c.loop-longer.into).forest c.loop-longer.left) (drop c.loop-longer.next c.args.self.now.tokens.now.tokens) (tree_at (tables c.extend.new.into).forest c.in-Some.longer) (drop c.in-Some.end c.args.self.now.tokens.now.tokens) e in
+    let e = grew (readers (known_names g.R.TypeReader.types c.args.self.now (tables c.loop-longer.into)) c.args.below) c.args.below c.args.line (tables c.loop-longer.into) (tables c.extend.new.into) c.args.self.now.tokens.now.tokens c.loop-longer.left c.loop-longer.next c.in_ok-longer.field-0 c.in_ok-longer.ensures.ok c.in-Some.longer c.in-Some.end c.in-Some.is in
+    let s = longer_goes (readers (known_names g.R.TypeReader.types c.args.self.now (tables c.loop-longer.into)) c.args.below) c.args.below c.args.line (tree_at (tables c.loop-longer.into).forest c.loop-longer.left) (drop c.loop-longer.next c.args.self.now.tokens.now.tokens) (tree_at (tables c.extend.new.into).forest c.in-Some.longer) (drop c.in-Some.end c.args.self.now.tokens.now.tokens) e in
     omega (arith, s.grows, s.was_shallow)
 
 pub grow-loop-longer-preserved : goal.grow-loop-longer-preserved
 grow-loop-longer-preserved g t c =
     let a = at_start c.args.self.now.typedefs.now (g.R.TypeReader.types c.args.self.now.reader.now) (tables c.args.into.now) (tables c.loop-longer.into) (tables c.extend.new.into) c.args.self.now.tokens.now.tokens c.requires.tied.tied c.loop-longer.invariant.keeps is_declarator c.in_ok-longer.field-0 (λ n. longer (readers n c.args.below) c.args.below c.args.line (tree_at (tables c.loop-longer.into).forest c.loop-longer.left) (drop c.loop-longer.next c.args.self.now.tokens.now.tokens)) c.in_ok-longer.ensures.ok in
     let h = got (tables c.extend.new.into) is_declarator c.args.self.now.tokens.now.tokens c.in_ok-longer.field-0 _ c.in-Some.longer c.in-Some.end a c.in-Some.is in
-    let e = grew (readers (names_in c.args.self.now.typedefs.now (g.R.TypeReader.types c.args.self.now.reader.now) (tables c.args.into.now) c.args.self.now.tokens.now.tokens) c.args.below) c.args.below c.args.line (tables c.loop-longer.into) (tables c.extend.new.into) c.args.self.now.tokens.now.tokens c.loop-longer.left c.loop-longer.next c.in_ok-longer.field-0 a c.in-Some.longer c.in-Some.end c.in-Some.is in
+    let e = grew (readers (known_names g.R.TypeReader.types c.args.self.now (tables c.args.into.now)) c.args.below) c.args.below c.args.line (tables c.loop-longer.into) (tables c.extend.new.into) c.args.self.now.tokens.now.tokens c.loop-longer.left c.loop-longer.next c.in_ok-longer.field-0 a c.in-Some.longer c.in-Some.end c.in-Some.is in
     let keeps = extends_then (tables c.args.into.now) (tables c.loop-longer.into) (tables c.extend.new.into) c.loop-longer.invariant.keeps c.extend.ensures.keeps in
     record {
       node = h.1;
       place = h.2;
       keeps = keeps;
       tied = given_kept (list_map c.args.self.now.lists.now) c.args.self.now.typedefs.now (g.R.TypeReader.types c.args.self.now.reader.now) (tables c.args.into.now) (tables c.extend.new.into) c.args.self.now.tokens.now.tokens c.requires.tied keeps;
-      same = sym (grown_next (readers (names_in c.args.self.now.typedefs.now (g.R.TypeReader.types c.args.self.now.reader.now) (tables c.args.into.now) c.args.self.now.tokens.now.tokens) c.args.below) c.args.below c.args.line (tree_at (tables c.loop-longer.into).forest c.loop-longer.left) (drop c.loop-longer.next c.args.self.now.tokens.now.tokens) (tree_at (tables c.extend.new.into).forest c.in-Some.longer) (drop c.in-Some.end c.args.self.now.tokens.now.tokens) e) ∙ c.loop-longer.invariant.same;
+      same = sym (grown_next (readers (known_names g.R.TypeReader.types c.args.self.now (tables c.args.into.now)) c.args.below) c.args.below c.args.line (tree_at (tables c.loop-longer.into).forest c.loop-longer.left) (drop c.loop-longer.next c.args.self.now.tokens.now.tokens) (tree_at (tables c.extend.new.into).forest c.in-Some.longer) (drop c.in-Some.end c.args.self.now.tokens.now.tokens) e) ∙ c.loop-longer.invariant.same;
     }
 
 pub grow-returns-in-None-clause-ok : goal.grow-returns-in-None-clause-ok
 grow-returns-in-None-clause-ok g t c =
     let a = at_start c.args.self.now.typedefs.now (g.R.TypeReader.types c.args.self.now.reader.now) (tables c.args.into.now) (tables c.loop-longer.into) (tables c.extend.new.into) c.args.self.now.tokens.now.tokens c.requires.tied.tied c.loop-longer.invariant.keeps is_declarator c.in_ok-longer.field-0 (λ n. longer (readers n c.args.below) c.args.below c.args.line (tree_at (tables c.loop-longer.into).forest c.loop-longer.left) (drop c.loop-longer.next c.args.self.now.tokens.now.tokens)) c.in_ok-longer.ensures.ok in
-    grew_out (readers (names_in c.args.self.now.typedefs.now (g.R.TypeReader.types c.args.self.now.reader.now) (tables c.args.into.now) c.args.self.now.tokens.now.tokens) c.args.below) c.args.below c.args.line (tables c.loop-longer.into) (tables c.extend.new.into) c.args.self.now.tokens.now.tokens c.loop-longer.left c.loop-longer.next c.in_ok-longer.field-0 a
-    (grown (readers (names_in c.args.self.now.typedefs.now (g.R.TypeReader.types c.args.self.now.reader.now) (tables c.args.into.now) c.args.self.now.tokens.now.tokens) c.args.below) c.args.below c.args.line (tree_at (tables c.args.into.now).forest c.args.first) (drop c.args.at c.args.self.now.tokens.now.tokens))
+    grew_out (readers (known_names g.R.TypeReader.types c.args.self.now (tables c.args.into.now)) c.args.below) c.args.below c.args.line (tables c.loop-longer.into) (tables c.extend.new.into) c.args.self.now.tokens.now.tokens c.loop-longer.left c.loop-longer.next c.in_ok-longer.field-0 a
+    (grown (readers (known_names g.R.TypeReader.types c.args.self.now (tables c.args.into.now)) c.args.below) c.args.below c.args.line (tree_at (tables c.args.into.now).forest c.args.first) (drop c.args.at c.args.self.now.tokens.now.tokens))
     c.in-None.is c.extend.ensures.keeps c.loop-longer.invariant.node c.loop-longer.invariant.place c.loop-longer.invariant.same
 
 pub extend-returns-then-not-may_go_on-clause-ok : goal.extend-returns-then-not-may_go_on-clause-ok
-extend-returns-then-not-may_go_on-clause-ok g t c = nothing _ _ _ _ (longer_not (readers (names_in c.args.self.now.typedefs.now (g.R.TypeReader.types c.args.self.now.reader.now) (tables c.args.into.now) c.args.self.now.tokens.now.tokens) c.args.below) c.args.below c.args.line (tree_at (tables c.args.into.now).forest c.args.left) (drop c.args.at c.args.self.now.tokens.now.tokens) (sym c.may_go_on.ensures ∙ c.if-not-may_go_on.true))
+extend-returns-then-not-may_go_on-clause-ok g t c = nothing _ _ _ _ (longer_not (readers (known_names g.R.TypeReader.types c.args.self.now (tables c.args.into.now)) c.args.below) c.args.below c.args.line (tree_at (tables c.args.into.now).forest c.args.left) (drop c.args.at c.args.self.now.tokens.now.tokens) (sym c.may_go_on.ensures ∙ c.if-not-may_go_on.true))
 
 pub extend-returns-in_default-clause-ok : goal.extend-returns-in_default-clause-ok
-extend-returns-in_default-clause-ok g t c = nothing _ _ _ _ (longer_end (readers (names_in c.args.self.now.typedefs.now (g.R.TypeReader.types c.args.self.now.reader.now) (tables c.args.into.now) c.args.self.now.tokens.now.tokens) c.args.below) c.args.below c.args.line (tree_at (tables c.args.into.now).forest c.args.left) (drop c.args.at c.args.self.now.tokens.now.tokens) c.in_default.ensures)
+extend-returns-in_default-clause-ok g t c = nothing _ _ _ _ (longer_end (readers (known_names g.R.TypeReader.types c.args.self.now (tables c.args.into.now)) c.args.below) c.args.below c.args.line (tree_at (tables c.args.into.now).forest c.args.left) (drop c.args.at c.args.self.now.tokens.now.tokens) c.in_default.ensures)
 
 pub extend-returns-in_default-opening_of-clause-ok : goal.extend-returns-in_default-opening_of-clause-ok
-extend-returns-in_default-opening_of-clause-ok g t c = nothing _ _ _ _ (longer_none (readers (names_in c.args.self.now.typedefs.now (g.R.TypeReader.types c.args.self.now.reader.now) (tables c.args.into.now) c.args.self.now.tokens.now.tokens) c.args.below) c.args.below c.args.line (tree_at (tables c.args.into.now).forest c.args.left) (sym c.may_go_on.ensures ∙ c.if-not-may_go_on.false) (drop c.args.at c.args.self.now.tokens.now.tokens) c.in-Some.token (drop (c.args.at + 1) c.args.self.now.tokens.now.tokens) c.in-Some.ensures.0 (sym c.in_default-opening_of.ensures))
+extend-returns-in_default-opening_of-clause-ok g t c = nothing _ _ _ _ (longer_none (readers (known_names g.R.TypeReader.types c.args.self.now (tables c.args.into.now)) c.args.below) c.args.below c.args.line (tree_at (tables c.args.into.now).forest c.args.left) (sym c.may_go_on.ensures ∙ c.if-not-may_go_on.false) (drop c.args.at c.args.self.now.tokens.now.tokens) c.in-Some.token (drop (c.args.at + 1) c.args.self.now.tokens.now.tokens) c.in-Some.ensures.0 (sym c.in_default-opening_of.ensures))
 
 pub extend-returns-in-Bracket-clause-ok : goal.extend-returns-in-Bracket-clause-ok
-extend-returns-in-Bracket-clause-ok g t c = moved _ _ _ _ _ _ (longer_bracket (readers (names_in c.args.self.now.typedefs.now (g.R.TypeReader.types c.args.self.now.reader.now) (tables c.args.into.now) c.args.self.now.tokens.now.tokens) c.args.below) c.args.below c.args.line (tree_at (tables c.args.into.now).forest c.args.left) (sym c.may_go_on.ensures ∙ c.if-not-may_go_on.false) (drop c.args.at c.args.self.now.tokens.now.tokens) c.in-Some.token (drop (c.args.at + 1) c.args.self.now.tokens.now.tokens) c.in-Some.ensures.0 c.in-Some-opening_of.opening (sym c.in-Some-opening_of.ensures) c.in-Bracket.is) c.array.ensures.ok
+extend-returns-in-Bracket-clause-ok g t c = moved _ _ _ _ _ _ (longer_bracket (readers (known_names g.R.TypeReader.types c.args.self.now (tables c.args.into.now)) c.args.below) c.args.below c.args.line (tree_at (tables c.args.into.now).forest c.args.left) (sym c.may_go_on.ensures ∙ c.if-not-may_go_on.false) (drop c.args.at c.args.self.now.tokens.now.tokens) c.in-Some.token (drop (c.args.at + 1) c.args.self.now.tokens.now.tokens) c.in-Some.ensures.0 c.in-Some-opening_of.opening (sym c.in-Some-opening_of.ensures) c.in-Bracket.is) c.array.ensures.ok
 
 pub extend-returns-in-Paren-clause-ok : goal.extend-returns-in-Paren-clause-ok
-extend-returns-in-Paren-clause-ok g t c = moved _ _ _ _ _ _ (longer_paren (readers (names_in c.args.self.now.typedefs.now (g.R.TypeReader.types c.args.self.now.reader.now) (tables c.args.into.now) c.args.self.now.tokens.now.tokens) c.args.below) c.args.below c.args.line (tree_at (tables c.args.into.now).forest c.args.left) (sym c.may_go_on.ensures ∙ c.if-not-may_go_on.false) (drop c.args.at c.args.self.now.tokens.now.tokens) c.in-Some.token (drop (c.args.at + 1) c.args.self.now.tokens.now.tokens) c.in-Some.ensures.0 c.in-Some-opening_of.opening (sym c.in-Some-opening_of.ensures) c.in-Paren.is) c.parameters.ensures.ok
+extend-returns-in-Paren-clause-ok g t c = moved _ _ _ _ _ _ (longer_paren (readers (known_names g.R.TypeReader.types c.args.self.now (tables c.args.into.now)) c.args.below) c.args.below c.args.line (tree_at (tables c.args.into.now).forest c.args.left) (sym c.may_go_on.ensures ∙ c.if-not-may_go_on.false) (drop c.args.at c.args.self.now.tokens.now.tokens) c.in-Some.token (drop (c.args.at + 1) c.args.self.now.tokens.now.tokens) c.in-Some.ensures.0 c.in-Some-opening_of.opening (sym c.in-Some-opening_of.ensures) c.in-Paren.is) c.parameters.ensures.ok
 
 pub extend-returns-in_default-opening-clause-ok : goal.extend-returns-in_default-opening-clause-ok
-extend-returns-in_default-opening-clause-ok g t c = nothing _ _ _ _ (longer_other (readers (names_in c.args.self.now.typedefs.now (g.R.TypeReader.types c.args.self.now.reader.now) (tables c.args.into.now) c.args.self.now.tokens.now.tokens) c.args.below) c.args.below c.args.line (tree_at (tables c.args.into.now).forest c.args.left) (sym c.may_go_on.ensures ∙ c.if-not-may_go_on.false) (drop c.args.at c.args.self.now.tokens.now.tokens) c.in-Some.token (drop (c.args.at + 1) c.args.self.now.tokens.now.tokens) c.in-Some.ensures.0 c.in-Some-opening_of.opening (sym c.in-Some-opening_of.ensures) c.in_default-opening.not-Bracket c.in_default-opening.not-Paren)
+extend-returns-in_default-opening-clause-ok g t c = nothing _ _ _ _ (longer_other (readers (known_names g.R.TypeReader.types c.args.self.now (tables c.args.into.now)) c.args.below) c.args.below c.args.line (tree_at (tables c.args.into.now).forest c.args.left) (sym c.may_go_on.ensures ∙ c.if-not-may_go_on.false) (drop c.args.at c.args.self.now.tokens.now.tokens) c.in-Some.token (drop (c.args.at + 1) c.args.self.now.tokens.now.tokens) c.in-Some.ensures.0 c.in-Some-opening_of.opening (sym c.in-Some-opening_of.ensures) c.in_default-opening.not-Bracket c.in_default-opening.not-Paren)
 
 pub parameters-returns-clause-ok : goal.parameters-returns-clause-ok
-parameters-returns-clause-ok g t c = moved _ _ _ _ _ _ (parametrized_is (tables c.args.into.now) (tables c.listed.new.into) c.args.self.now.tokens.now.tokens c.args.line c.args.at (readers (names_in c.args.self.now.typedefs.now (g.R.TypeReader.types c.args.self.now.reader.now) (tables c.args.into.now) c.args.self.now.tokens.now.tokens) c.args.below) c.args.left c.listed.ensures.keeps c.requires.left c.in_ok-parts.parts.items c.deref.result.now c.in_ok-parts.end c.deref.ensures.value c.in_ok-parts.ensures.ok) c.function_of.ensures.ok
+parameters-returns-clause-ok g t c = moved _ _ _ _ _ _ (parametrized_is (tables c.args.into.now) (tables c.listed.new.into) c.args.self.now.tokens.now.tokens c.args.line c.args.at (readers (known_names g.R.TypeReader.types c.args.self.now (tables c.args.into.now)) c.args.below) c.args.left c.listed.ensures.keeps c.requires.left c.in_ok-parts.parts.items c.deref.result.now c.in_ok-parts.end c.deref.ensures.value c.in_ok-parts.ensures.ok) c.function_of.ensures.ok
 
 pub parameters-function_of-requires-clause-left : goal.parameters-function_of-requires-clause-left
 parameters-function_of-requires-clause-left g t c = some_kept (tables c.args.into.now) (tables c.listed.new.into) is_declarator c.args.left c.listed.ensures.keeps c.requires.left
@@ -236,37 +236,37 @@ parameters-function_of-requires-clause-parameters g t c = all_as (tables c.liste
 -- ---- how one begins
 
 pub head-returns-in_default-clause-ok : goal.head-returns-in_default-clause-ok
-head-returns-in_default-clause-ok g t c = nothing _ _ _ _ (head_end (names_in c.args.self.now.typedefs.now (g.R.TypeReader.types c.args.self.now.reader.now) (tables c.args.into.now) c.args.self.now.tokens.now.tokens) (readers (names_in c.args.self.now.typedefs.now (g.R.TypeReader.types c.args.self.now.reader.now) (tables c.args.into.now) c.args.self.now.tokens.now.tokens) c.args.below) c.args.form (drop c.args.at c.args.self.now.tokens.now.tokens) c.in_default.ensures)
+head-returns-in_default-clause-ok g t c = nothing _ _ _ _ (head_end (known_names g.R.TypeReader.types c.args.self.now (tables c.args.into.now)) (readers (known_names g.R.TypeReader.types c.args.self.now (tables c.args.into.now)) c.args.below) c.args.form (drop c.args.at c.args.self.now.tokens.now.tokens) c.in_default.ensures)
 
 pub head-returns-in_default-opening_of-clause-ok : goal.head-returns-in_default-opening_of-clause-ok
-head-returns-in_default-opening_of-clause-ok g t c = nothing _ _ _ _ (head_other (names_in c.args.self.now.typedefs.now (g.R.TypeReader.types c.args.self.now.reader.now) (tables c.args.into.now) c.args.self.now.tokens.now.tokens) (readers (names_in c.args.self.now.typedefs.now (g.R.TypeReader.types c.args.self.now.reader.now) (tables c.args.into.now) c.args.self.now.tokens.now.tokens) c.args.below) c.args.form (drop c.args.at c.args.self.now.tokens.now.tokens) c.in-Some.token (drop (c.args.at + 1) c.args.self.now.tokens.now.tokens) c.in-Some.ensures.0 (sym c.in_default-opening_of.ensures))
+head-returns-in_default-opening_of-clause-ok g t c = nothing _ _ _ _ (head_other (known_names g.R.TypeReader.types c.args.self.now (tables c.args.into.now)) (readers (known_names g.R.TypeReader.types c.args.self.now (tables c.args.into.now)) c.args.below) c.args.form (drop c.args.at c.args.self.now.tokens.now.tokens) c.in-Some.token (drop (c.args.at + 1) c.args.self.now.tokens.now.tokens) c.in-Some.ensures.0 (sym c.in_default-opening_of.ensures))
 
 pub head-returns-in-Name-clause-ok : goal.head-returns-in-Name-clause-ok
-head-returns-in-Name-clause-ok g t c = moved _ _ _ _ _ _ (named_in c.args.self.now.typedefs.now (g.R.TypeReader.types c.args.self.now.reader.now) (tables c.args.into.now) c.args.self.now.tokens.now.tokens c.args.form c.in-Some.token.line c.in-Name.name (drop (c.args.at + 1) c.args.self.now.tokens.now.tokens) ∙ head_named (names_in c.args.self.now.typedefs.now (g.R.TypeReader.types c.args.self.now.reader.now) (tables c.args.into.now) c.args.self.now.tokens.now.tokens) (readers (names_in c.args.self.now.typedefs.now (g.R.TypeReader.types c.args.self.now.reader.now) (tables c.args.into.now) c.args.self.now.tokens.now.tokens) c.args.below) c.args.form (drop c.args.at c.args.self.now.tokens.now.tokens) c.in-Some.token (drop (c.args.at + 1) c.args.self.now.tokens.now.tokens) c.in-Some.ensures.0 c.in-Some-opening_of.opening (sym c.in-Some-opening_of.ensures) c.in-Name.name c.in-Name.is) c.named.ensures.ok
+head-returns-in-Name-clause-ok g t c = moved _ _ _ _ _ _ (named_in c.args.self.now.typedefs.now (g.R.TypeReader.types c.args.self.now.reader.now) (tables c.args.into.now) c.args.self.now.tokens.now.tokens c.args.form c.in-Some.token.line c.in-Name.name (drop (c.args.at + 1) c.args.self.now.tokens.now.tokens) ∙ head_named (known_names g.R.TypeReader.types c.args.self.now (tables c.args.into.now)) (readers (known_names g.R.TypeReader.types c.args.self.now (tables c.args.into.now)) c.args.below) c.args.form (drop c.args.at c.args.self.now.tokens.now.tokens) c.in-Some.token (drop (c.args.at + 1) c.args.self.now.tokens.now.tokens) c.in-Some.ensures.0 c.in-Some-opening_of.opening (sym c.in-Some-opening_of.ensures) c.in-Name.name c.in-Name.is) c.named.ensures.ok
 
 pub head-returns-in-Star-clause-ok : goal.head-returns-in-Star-clause-ok
-head-returns-in-Star-clause-ok g t c = moved _ _ _ _ _ _ (head_star (names_in c.args.self.now.typedefs.now (g.R.TypeReader.types c.args.self.now.reader.now) (tables c.args.into.now) c.args.self.now.tokens.now.tokens) (readers (names_in c.args.self.now.typedefs.now (g.R.TypeReader.types c.args.self.now.reader.now) (tables c.args.into.now) c.args.self.now.tokens.now.tokens) c.args.below) c.args.form (drop c.args.at c.args.self.now.tokens.now.tokens) c.in-Some.token (drop (c.args.at + 1) c.args.self.now.tokens.now.tokens) c.in-Some.ensures.0 c.in-Some-opening_of.opening (sym c.in-Some-opening_of.ensures) c.in-Star.is) c.pointer.ensures.ok
+head-returns-in-Star-clause-ok g t c = moved _ _ _ _ _ _ (head_star (known_names g.R.TypeReader.types c.args.self.now (tables c.args.into.now)) (readers (known_names g.R.TypeReader.types c.args.self.now (tables c.args.into.now)) c.args.below) c.args.form (drop c.args.at c.args.self.now.tokens.now.tokens) c.in-Some.token (drop (c.args.at + 1) c.args.self.now.tokens.now.tokens) c.in-Some.ensures.0 c.in-Some-opening_of.opening (sym c.in-Some-opening_of.ensures) c.in-Star.is) c.pointer.ensures.ok
 
 pub head-returns-in-Paren-clause-ok : goal.head-returns-in-Paren-clause-ok
-head-returns-in-Paren-clause-ok g t c = moved _ _ _ _ _ _ (head_paren (names_in c.args.self.now.typedefs.now (g.R.TypeReader.types c.args.self.now.reader.now) (tables c.args.into.now) c.args.self.now.tokens.now.tokens) (readers (names_in c.args.self.now.typedefs.now (g.R.TypeReader.types c.args.self.now.reader.now) (tables c.args.into.now) c.args.self.now.tokens.now.tokens) c.args.below) c.args.form (drop c.args.at c.args.self.now.tokens.now.tokens) c.in-Some.token (drop (c.args.at + 1) c.args.self.now.tokens.now.tokens) c.in-Some.ensures.0 c.in-Some-opening_of.opening (sym c.in-Some-opening_of.ensures) c.in-Paren.is) c.opened.ensures.ok
+head-returns-in-Paren-clause-ok g t c = moved _ _ _ _ _ _ (head_paren (known_names g.R.TypeReader.types c.args.self.now (tables c.args.into.now)) (readers (known_names g.R.TypeReader.types c.args.self.now (tables c.args.into.now)) c.args.below) c.args.form (drop c.args.at c.args.self.now.tokens.now.tokens) c.in-Some.token (drop (c.args.at + 1) c.args.self.now.tokens.now.tokens) c.in-Some.ensures.0 c.in-Some-opening_of.opening (sym c.in-Some-opening_of.ensures) c.in-Paren.is) c.opened.ensures.ok
 
 pub head-returns-in-Bracket-clause-ok : goal.head-returns-in-Bracket-clause-ok
-head-returns-in-Bracket-clause-ok g t c = moved _ _ _ _ _ _ (head_bracket (names_in c.args.self.now.typedefs.now (g.R.TypeReader.types c.args.self.now.reader.now) (tables c.args.into.now) c.args.self.now.tokens.now.tokens) (readers (names_in c.args.self.now.typedefs.now (g.R.TypeReader.types c.args.self.now.reader.now) (tables c.args.into.now) c.args.self.now.tokens.now.tokens) c.args.below) c.args.form (drop c.args.at c.args.self.now.tokens.now.tokens) c.in-Some.token (drop (c.args.at + 1) c.args.self.now.tokens.now.tokens) c.in-Some.ensures.0 c.in-Some-opening_of.opening (sym c.in-Some-opening_of.ensures) c.in-Bracket.is) c.abstract_array.ensures.ok
+head-returns-in-Bracket-clause-ok g t c = moved _ _ _ _ _ _ (head_bracket (known_names g.R.TypeReader.types c.args.self.now (tables c.args.into.now)) (readers (known_names g.R.TypeReader.types c.args.self.now (tables c.args.into.now)) c.args.below) c.args.form (drop c.args.at c.args.self.now.tokens.now.tokens) c.in-Some.token (drop (c.args.at + 1) c.args.self.now.tokens.now.tokens) c.in-Some.ensures.0 c.in-Some-opening_of.opening (sym c.in-Some-opening_of.ensures) c.in-Bracket.is) c.abstract_array.ensures.ok
 
 pub pointer-returns-clause-ok : goal.pointer-returns-clause-ok
-pointer-returns-clause-ok g t c = moved _ _ _ _ _ _ (pointer_is (readers (names_in c.args.self.now.typedefs.now (g.R.TypeReader.types c.args.self.now.reader.now) (tables c.args.into.now) c.args.self.now.tokens.now.tokens) c.args.below) c.args.form c.args.line c.consts_in_row-consts.result.0 (drop c.args.at c.args.self.now.tokens.now.tokens) (drop c.consts_in_row-consts.result.1 c.args.self.now.tokens.now.tokens) _ c.consts_in_row-consts.ensures.count c.consts_in_row-consts.ensures.behind c.in_ok-inner.ensures.ok.is) c.pointed.ensures.ok
+pointer-returns-clause-ok g t c = moved _ _ _ _ _ _ (pointer_is (readers (known_names g.R.TypeReader.types c.args.self.now (tables c.args.into.now)) c.args.below) c.args.form c.args.line c.consts_in_row-consts.result.0 (drop c.args.at c.args.self.now.tokens.now.tokens) (drop c.consts_in_row-consts.result.1 c.args.self.now.tokens.now.tokens) _ c.consts_in_row-consts.ensures.count c.consts_in_row-consts.ensures.behind c.in_ok-inner.ensures.ok.is) c.pointed.ensures.ok
 
 pub pointer-pointed-requires-clause-within : goal.pointer-pointed-requires-clause-within
 pointer-pointed-requires-clause-within g t c = c.in_ok-inner.ensures.ok.there
 
 pub opened-returns-then-allows_abstract-clause-ok : goal.opened-returns-then-allows_abstract-clause-ok
-opened-returns-then-allows_abstract-clause-ok g t c = moved _ _ _ _ _ _ (opened_function (names_in c.args.self.now.typedefs.now (g.R.TypeReader.types c.args.self.now.reader.now) (tables c.args.into.now) c.args.self.now.tokens.now.tokens) (readers (names_in c.args.self.now.typedefs.now (g.R.TypeReader.types c.args.self.now.reader.now) (tables c.args.into.now) c.args.self.now.tokens.now.tokens) c.args.below) c.args.form c.args.line (drop c.args.at c.args.self.now.tokens.now.tokens) (sym (c.opens_parameters.ensures (g.R.TypeReader.types c.args.self.now.reader.now) (tables c.args.into.now)) ∙ c.if-opens_parameters.true) (sym c.allows_abstract.ensures ∙ c.if-allows_abstract.true)) c.parameters.ensures.ok
+opened-returns-then-allows_abstract-clause-ok g t c = moved _ _ _ _ _ _ (opened_function (known_names g.R.TypeReader.types c.args.self.now (tables c.args.into.now)) (readers (known_names g.R.TypeReader.types c.args.self.now (tables c.args.into.now)) c.args.below) c.args.form c.args.line (drop c.args.at c.args.self.now.tokens.now.tokens) (sym (c.opens_parameters.ensures (g.R.TypeReader.types c.args.self.now.reader.now) (tables c.args.into.now)) ∙ c.if-opens_parameters.true) (sym c.allows_abstract.ensures ∙ c.if-allows_abstract.true)) c.parameters.ensures.ok
 
 pub opened-returns-else-allows_abstract-clause-ok : goal.opened-returns-else-allows_abstract-clause-ok
-opened-returns-else-allows_abstract-clause-ok g t c = nothing _ _ _ _ (opened_not (names_in c.args.self.now.typedefs.now (g.R.TypeReader.types c.args.self.now.reader.now) (tables c.args.into.now) c.args.self.now.tokens.now.tokens) (readers (names_in c.args.self.now.typedefs.now (g.R.TypeReader.types c.args.self.now.reader.now) (tables c.args.into.now) c.args.self.now.tokens.now.tokens) c.args.below) c.args.form c.args.line (drop c.args.at c.args.self.now.tokens.now.tokens) (sym (c.opens_parameters.ensures (g.R.TypeReader.types c.args.self.now.reader.now) (tables c.args.into.now)) ∙ c.if-opens_parameters.true) (sym c.allows_abstract.ensures ∙ c.if-allows_abstract.false))
+opened-returns-else-allows_abstract-clause-ok g t c = nothing _ _ _ _ (opened_not (known_names g.R.TypeReader.types c.args.self.now (tables c.args.into.now)) (readers (known_names g.R.TypeReader.types c.args.self.now (tables c.args.into.now)) c.args.below) c.args.form c.args.line (drop c.args.at c.args.self.now.tokens.now.tokens) (sym (c.opens_parameters.ensures (g.R.TypeReader.types c.args.self.now.reader.now) (tables c.args.into.now)) ∙ c.if-opens_parameters.true) (sym c.allows_abstract.ensures ∙ c.if-allows_abstract.false))
 
 pub opened-returns-in_ok-inner-clause-ok : goal.opened-returns-in_ok-inner-clause-ok
-opened-returns-in_ok-inner-clause-ok g t c = moved _ _ _ _ _ _ (opened_within (names_in c.args.self.now.typedefs.now (g.R.TypeReader.types c.args.self.now.reader.now) (tables c.args.into.now) c.args.self.now.tokens.now.tokens) (readers (names_in c.args.self.now.typedefs.now (g.R.TypeReader.types c.args.self.now.reader.now) (tables c.args.into.now) c.args.self.now.tokens.now.tokens) c.args.below) c.args.form c.args.line (drop c.args.at c.args.self.now.tokens.now.tokens) (sym (c.opens_parameters.ensures (g.R.TypeReader.types c.args.self.now.reader.now) (tables c.args.into.now)) ∙ c.if-opens_parameters.false) _ c.in_ok-inner.ensures.ok.is) c.parenthesized.ensures.ok
+opened-returns-in_ok-inner-clause-ok g t c = moved _ _ _ _ _ _ (opened_within (known_names g.R.TypeReader.types c.args.self.now (tables c.args.into.now)) (readers (known_names g.R.TypeReader.types c.args.self.now (tables c.args.into.now)) c.args.below) c.args.form c.args.line (drop c.args.at c.args.self.now.tokens.now.tokens) (sym (c.opens_parameters.ensures (g.R.TypeReader.types c.args.self.now.reader.now) (tables c.args.into.now)) ∙ c.if-opens_parameters.false) _ c.in_ok-inner.ensures.ok.is) c.parenthesized.ensures.ok
 
 pub opened-parenthesized-requires : goal.opened-parenthesized-requires
 opened-parenthesized-requires g t c = c.in_ok-inner.ensures.ok.there

@@ -3,15 +3,13 @@ use Rattle.pv_tree.specs.Depths.{declarator_depth}
 use Rattle.pv_tree.specs.Rows.{tables}
 use Rattle.pv_tree.specs.Syntax.{NoTrees}
 use Rattle.pv_tree.specs.Tables.{tree_at, declarator_at, trees_of, is_declarator, Is, Extends}
-use Rattle.pv_expr_forms.specs.Known.{names_in}
 use Rattle.pv_decl_forms.specs.declared.forms.Part.{Part}
 use Rattle.pv_decl_forms.specs.declared.forms.Part.TheVariants as part
 use Rattle.pv_decl_forms.specs.Declarators.{grown}
 use Rattle.pv_decl_forms.specs.Parts.{kind_of_part, place_of_part}
 use Rattle.pv_decl_forms.specs.Pieces.{row_on, row, after_comma, listed}
 use Rattle.pv_decl_forms.specs.Reader.{readers}
-use Rattle.pv_decl.specs.Filled.{list_map}
-use Rattle.pv_decl_forms.specs.Givens.{AreGiven}
+use Rattle.pv_decl.specs.Sources.{known_names, AreKnown}
 use Rattle.pv_decl.proofs.source.Source.+reading.Given as goal
 
 -- a member is read by its specifiers and declarators, at its own depth
@@ -64,12 +62,12 @@ decreases-opened g l = 12 * l.below + 8
 abbrev pub invariant-row-loop-parts : goal.invariant-row-loop-parts
 invariant-row-loop-parts g l =
     let tokens = l.self.tokens.now.tokens in
-    let part = readers (names_in l.self.typedefs.now (g.R.TypeReader.types l.self.reader.now) (tables l.fn.into) tokens) l.depth (place_of_part l.part) in
+    let part = readers (known_names g.R.TypeReader.types l.self (tables l.fn.into)) l.depth (place_of_part l.part) in
     record {
       nodes : All (λ n. Is (tables l.into) (kind_of_part l.part) n) l.parts.items;
       place : l.next ≤ length tokens;
       keeps : Extends (tables l.fn.into) (tables l.into);
-      tied : AreGiven (list_map l.self.lists.now) l.self.typedefs.now (g.R.TypeReader.types l.self.reader.now) (tables l.into) tokens;
+      tied : AreKnown g.R.TypeReader.types l.self (tables l.into);
       same : row part (trees_of (tables l.into).forest l.parts.items) (drop l.next tokens) ≡ row part NoTrees (drop l.fn.at tokens);
     }
 
@@ -79,13 +77,13 @@ decreases-row-loop-parts g l = length l.self.tokens.now.tokens - l.next
 abbrev pub invariant-listed-loop-parts : goal.invariant-listed-loop-parts
 invariant-listed-loop-parts g l =
     let tokens = l.self.tokens.now.tokens in
-    let part = readers (names_in l.self.typedefs.now (g.R.TypeReader.types l.self.reader.now) (tables l.fn.into) tokens) l.depth (place_of_part l.part) in
+    let part = readers (known_names g.R.TypeReader.types l.self (tables l.fn.into)) l.depth (place_of_part l.part) in
     record {
       nodes : All (λ n. Is (tables l.into) (kind_of_part l.part) n) l.parts.items;
       place : l.next ≤ length tokens;
       where_behind : l.behind ≤ length tokens;
       keeps : Extends (tables l.fn.into) (tables l.into);
-      tied : AreGiven (list_map l.self.lists.now) l.self.typedefs.now (g.R.TypeReader.types l.self.reader.now) (tables l.into) tokens;
+      tied : AreKnown g.R.TypeReader.types l.self (tables l.into);
       same : row_on (row (after_comma part)) (trees_of (tables l.into).forest l.parts.items) (drop l.behind tokens) (part (drop l.next tokens)) ≡ listed part (drop l.fn.at tokens);
     }
 
@@ -95,12 +93,12 @@ decreases-listed-loop-parts g l = length l.self.tokens.now.tokens - l.next
 abbrev pub invariant-grow-loop-longer : goal.invariant-grow-loop-longer
 invariant-grow-loop-longer g l =
     let tokens = l.self.tokens.now.tokens in
-    let below = readers (names_in l.self.typedefs.now (g.R.TypeReader.types l.self.reader.now) (tables l.fn.into) tokens) l.below in
+    let below = readers (known_names g.R.TypeReader.types l.self (tables l.fn.into)) l.below in
     record {
       node : Is (tables l.into) is_declarator l.left;
       place : l.next ≤ length tokens;
       keeps : Extends (tables l.fn.into) (tables l.into);
-      tied : AreGiven (list_map l.self.lists.now) l.self.typedefs.now (g.R.TypeReader.types l.self.reader.now) (tables l.into) tokens;
+      tied : AreKnown g.R.TypeReader.types l.self (tables l.into);
       same : grown below l.below l.line (tree_at (tables l.into).forest l.left) (drop l.next tokens) ≡ grown below l.below l.line (tree_at (tables l.fn.into).forest l.fn.first) (drop l.fn.at tokens);
     }
 

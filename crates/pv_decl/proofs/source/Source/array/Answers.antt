@@ -2,18 +2,18 @@ use Rattle.std.proofs.lemmas.Result.{IfOk-from_err}
 use Rattle.pv_tree.specs.Tables.{is_declarator, is_expression}
 use Rattle.pv_tree.specs.Rows.{tables}
 use Rattle.pv_tree.proofs.Kept.{extends_then}
-use Rattle.pv_expr_forms.specs.Known.{names_in}
 use Rattle.pv_decl_forms.specs.Reader.{readers}
 use Rattle.pv_decl_forms.proofs.Growing.{some_kept}
 use Rattle.pv_decl_forms.proofs.Answered.{moved, got}
 use Rattle.pv_decl_forms.proofs.Constants.{array_some, array_none}
+use Rattle.pv_decl.specs.Sources.{known_names}
 use Rattle.pv_decl.proofs.source.Source.array.Goals as goal
 
 pub returns-in-Some-clause-ok : goal.returns-in-Some-clause-ok
-returns-in-Some-clause-ok g c = moved _ _ _ _ _ _ (array_some (tables c.args.into.now) (tables c.constant.new.into) c.args.self.now.tokens.now.tokens c.args.at c.args.line (readers (names_in c.args.self.now.typedefs.now (g.R.TypeReader.types c.args.self.now.reader.now) (tables c.args.into.now) c.args.self.now.tokens.now.tokens) c.args.below) c.args.left c.constant.ensures.keeps c.requires.left c.in_ok-size.field-0 c.in_ok-size.ensures.ok c.in-Some.size c.in-Some.end c.in-Some.is) c.array_of.ensures.ok
+returns-in-Some-clause-ok g c = moved _ _ _ _ _ _ (array_some (tables c.args.into.now) (tables c.constant.new.into) c.args.self.now.tokens.now.tokens c.args.at c.args.line (readers (known_names g.R.TypeReader.types c.args.self.now (tables c.args.into.now)) c.args.below) c.args.left c.constant.ensures.keeps c.requires.left c.in_ok-size.field-0 c.in_ok-size.ensures.ok c.in-Some.size c.in-Some.end c.in-Some.is) c.array_of.ensures.ok
 
 pub returns-in-None-clause-ok : goal.returns-in-None-clause-ok
-returns-in-None-clause-ok g c = moved _ _ _ _ _ _ (array_none (tables c.args.into.now) (tables c.constant.new.into) c.args.self.now.tokens.now.tokens c.args.at c.args.line (readers (names_in c.args.self.now.typedefs.now (g.R.TypeReader.types c.args.self.now.reader.now) (tables c.args.into.now) c.args.self.now.tokens.now.tokens) c.args.below) c.args.left c.constant.ensures.keeps c.requires.left c.in_ok-size.field-0 c.in_ok-size.ensures.ok c.in-None.is) c.array_of-in-None.ensures.ok
+returns-in-None-clause-ok g c = moved _ _ _ _ _ _ (array_none (tables c.args.into.now) (tables c.constant.new.into) c.args.self.now.tokens.now.tokens c.args.at c.args.line (readers (known_names g.R.TypeReader.types c.args.self.now (tables c.args.into.now)) c.args.below) c.args.left c.constant.ensures.keeps c.requires.left c.in_ok-size.field-0 c.in_ok-size.ensures.ok c.in-None.is) c.array_of-in-None.ensures.ok
 
 pub constant-requires-clause-place : goal.constant-requires-clause-place
 constant-requires-clause-place g c = c.requires.place

@@ -4,9 +4,9 @@ use Rattle.pv_tree.specs.Places.{Constants}
 use Rattle.pv_tree.specs.Rows.{tables}
 use Rattle.pv_tree.specs.Tables.{is_expression}
 use Rattle.pv_tree.proofs.Kept.{extends_same}
-use Rattle.pv_expr_forms.specs.Known.{names_in}
 use Rattle.pv_decl_forms.specs.Reader.{readers}
 use Rattle.pv_decl.proofs.Valued.{no_equals, no_value, one_value}
+use Rattle.pv_decl.specs.Sources.{known_names}
 use Rattle.pv_decl.proofs.source.Source.constant_value.Goals as goal
 
 pub after-requires : goal.after-requires
@@ -34,10 +34,10 @@ pub returns-in_err-value-clause-ok : goal.returns-in_err-value-clause-ok
 returns-in_err-value-clause-ok g c = IfOk-from_err _ _ c.from_residual.ensures.0
 
 pub returns-in_default-clause-ok : goal.returns-in_default-clause-ok
-returns-in_default-clause-ok g c = no_equals (tables c.args.into.now) is_expression c.args.self.now.tokens.now.tokens (readers (names_in c.args.self.now.typedefs.now (g.R.TypeReader.types c.args.self.now.reader.now) (tables c.args.into.now) c.args.self.now.tokens.now.tokens) c.args.depth Constants) c.args.at c.requires.place c.in_default.ensures
+returns-in_default-clause-ok g c = no_equals (tables c.args.into.now) is_expression c.args.self.now.tokens.now.tokens (readers (known_names g.R.TypeReader.types c.args.self.now (tables c.args.into.now)) c.args.depth Constants) c.args.at c.requires.place c.in_default.ensures
 
 pub returns-in-Some-2-clause-ok : goal.returns-in-Some-2-clause-ok
-returns-in-Some-2-clause-ok g c = one_value (tables c.constant.new.into) is_expression c.args.self.now.tokens.now.tokens (readers (names_in c.args.self.now.typedefs.now (g.R.TypeReader.types c.args.self.now.reader.now) (tables c.args.into.now) c.args.self.now.tokens.now.tokens) c.args.depth Constants) c.args.at (drop c.in-Some.behind c.args.self.now.tokens.now.tokens) c.in-Some.ensures.0 c.in_ok-value.field-0 c.in_ok-value.ensures.ok c.in-Some-2.value c.in-Some-2.end c.in-Some-2.is
+returns-in-Some-2-clause-ok g c = one_value (tables c.constant.new.into) is_expression c.args.self.now.tokens.now.tokens (readers (known_names g.R.TypeReader.types c.args.self.now (tables c.args.into.now)) c.args.depth Constants) c.args.at (drop c.in-Some.behind c.args.self.now.tokens.now.tokens) c.in-Some.ensures.0 c.in_ok-value.field-0 c.in_ok-value.ensures.ok c.in-Some-2.value c.in-Some-2.end c.in-Some-2.is
 
 pub returns-in-None-clause-ok : goal.returns-in-None-clause-ok
-returns-in-None-clause-ok g c = no_value (tables c.constant.new.into) is_expression c.args.self.now.tokens.now.tokens (readers (names_in c.args.self.now.typedefs.now (g.R.TypeReader.types c.args.self.now.reader.now) (tables c.args.into.now) c.args.self.now.tokens.now.tokens) c.args.depth Constants) c.args.at (drop c.in-Some.behind c.args.self.now.tokens.now.tokens) c.in-Some.ensures.0 c.in_ok-value.field-0 c.in_ok-value.ensures.ok c.requires.place c.in-None.is
+returns-in-None-clause-ok g c = no_value (tables c.constant.new.into) is_expression c.args.self.now.tokens.now.tokens (readers (known_names g.R.TypeReader.types c.args.self.now (tables c.args.into.now)) c.args.depth Constants) c.args.at (drop c.in-Some.behind c.args.self.now.tokens.now.tokens) c.in-Some.ensures.0 c.in_ok-value.field-0 c.in_ok-value.ensures.ok c.requires.place c.in-None.is

@@ -13,6 +13,7 @@ use Rattle.pv_decl_forms.proofs.Answered.{moved, nothing}
 use Rattle.pv_decl_forms.proofs.Outer.{moved_at_start, same_count, declaration_zero, declaration_none_by, declaration_some_by}
 use Rattle.pv_decl.specs.Filled.{list_map}
 use Rattle.pv_decl.proofs.Givens.{given_kept}
+use Rattle.pv_decl.specs.Sources.{known_names}
 use Rattle.pv_decl.proofs.source.Source.declaration.Goals as goal
 
 pub returns-then-depth-eq0-clause-keeps : goal.returns-then-depth-eq0-clause-keeps
@@ -24,7 +25,7 @@ returns-then-depth-eq0-clause-ok g c = nothing _ _ _ _ (declaration_zero _ _ _ c
 pub returns-then-is_empty-clause-ok : goal.returns-then-is_empty-clause-ok
 returns-then-is_empty-clause-ok g c =
     let tokens = c.args.self.now.tokens.now.tokens in
-    let names = names_in c.args.self.now.typedefs.now (g.R.TypeReader.types c.args.self.now.reader.now) (tables c.args.into.now) tokens in
+    let names = known_names g.R.TypeReader.types c.args.self.now (tables c.args.into.now) in
     nothing _ _ _ _ (declaration_none_by names c.args.depth (drop c.args.at tokens) (omega arith) (tables c.row.new.into) tokens c.in_ok-specs.specs.items c.in_ok-specs.next c.in_ok-specs.ensures.ok
     (same_count (vec_len c.in_ok-specs.specs) (length c.in_ok-specs.specs.items) true (omega (arith, c.in_ok-specs.specs.ok.0)) (sym c.is_empty.ensures ∙ c.if-is_empty.true)))
 

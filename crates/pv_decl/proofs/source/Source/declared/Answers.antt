@@ -12,6 +12,7 @@ use Rattle.pv_decl_forms.proofs.Loops.{commas_shorten, at_start, goes_forward, p
 use Rattle.pv_decl_forms.proofs.Outer.{comma_none, comma_some, one_part, start_one}
 use Rattle.pv_decl.specs.Filled.{list_map}
 use Rattle.pv_decl.proofs.Givens.{given_kept}
+use Rattle.pv_decl.specs.Sources.{known_names}
 use Rattle.pv_decl.proofs.source.Source.declared.Goals as goal
 
 pub returns-in_err-push-clause-keeps : goal.returns-in_err-push-clause-keeps
@@ -21,7 +22,7 @@ pub loop-next-init : goal.loop-next-init
 loop-next-init g c =
     let u = tables c.args.into.now in
     let tokens = c.args.self.now.tokens.now.tokens in
-    let names = names_in c.args.self.now.typedefs.now (g.R.TypeReader.types c.args.self.now.reader.now) u tokens in
+    let names = known_names g.R.TypeReader.types c.args.self.now u in
     record {
       nodes = one_part is_declaration u c.args.first c.push.new.self.items c.new-declared.result.items c.new-declared.ensures.items c.in_ok-push.ensures.items c.requires.first;
       place = c.requires.place;

@@ -10,6 +10,7 @@ use Rattle.pv_decl_forms.proofs.Answered.{moved, nothing, got}
 use Rattle.pv_decl_forms.proofs.Outer.{init_none, init_some, moved_at_start}
 use Rattle.pv_decl.specs.Filled.{list_map}
 use Rattle.pv_decl.proofs.Givens.{given_kept}
+use Rattle.pv_decl.specs.Sources.{known_names}
 use Rattle.pv_decl.proofs.source.Source.init_declarator.Goals as goal
 
 pub initialized-requires-clause-tied : goal.initialized-requires-clause-tied
@@ -19,7 +20,7 @@ initialized-requires-clause-tied g c =
 pub returns-in-None-clause-ok : goal.returns-in-None-clause-ok
 returns-in-None-clause-ok g c =
     let tokens = c.args.self.now.tokens.now.tokens in
-    let names = names_in c.args.self.now.typedefs.now (g.R.TypeReader.types c.args.self.now.reader.now) (tables c.args.into.now) tokens in
+    let names = known_names g.R.TypeReader.types c.args.self.now (tables c.args.into.now) in
     nothing _ _ _ _ (init_none names c.args.depth (drop c.args.at tokens) (tables c.read.new.into) tokens c.in_ok-declarator.field-0 c.in_ok-declarator.ensures.ok c.in-None.is)
 
 pub returns-in-Some-clause-ok : goal.returns-in-Some-clause-ok

@@ -3,16 +3,16 @@ use Rattle.std.proofs.lemmas.Result.{IfOk-from_err}
 use Rattle.pv_tree.specs.Rows.{tables}
 use Rattle.pv_tree.specs.Tables.{is_declarator}
 use Rattle.pv_tree.proofs.Kept.{extends_then, is_kept}
-use Rattle.pv_expr_forms.specs.Known.{names_in}
 use Rattle.pv_decl_forms.specs.Reader.{readers}
 use Rattle.pv_decl_forms.proofs.Answered.{moved}
 use Rattle.pv_decl_forms.proofs.Initials.{initialized_is}
+use Rattle.pv_decl.specs.Sources.{known_names}
 use Rattle.pv_decl.proofs.source.Source.initialized.Goals as goal
 
 pub returns-clause-ok : goal.returns-clause-ok
 returns-clause-ok g c =
     let tokens = c.args.self.now.tokens.now.tokens in
-    let part = readers (names_in c.args.self.now.typedefs.now (g.R.TypeReader.types c.args.self.now.reader.now) (tables c.args.into.now) tokens) c.args.depth in
+    let part = readers (known_names g.R.TypeReader.types c.args.self.now (tables c.args.into.now)) c.args.depth in
     moved _ _ _ _ _ _ (initialized_is (tables c.args.into.now) (tables c.initial_value.new.into) tokens part c.args.line c.args.declarator (drop c.args.at tokens) c.in_ok-init.init c.in_ok-init.end c.initial_value.ensures.keeps c.requires.declarator c.in_ok-init.ensures.ok) c.found_declaration.ensures.ok
 
 pub initial_value-requires-clause-place : goal.initial_value-requires-clause-place

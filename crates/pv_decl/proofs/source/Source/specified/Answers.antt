@@ -15,13 +15,14 @@ use Rattle.pv_decl_forms.proofs.Loops.{at_start, all_kept}
 use Rattle.pv_decl_forms.proofs.Outer.{are_at_start, semicolon_there, no_semicolon, ends_here, specified_none, specified_head, specified_list}
 use Rattle.pv_decl.specs.Filled.{list_map}
 use Rattle.pv_decl.proofs.Givens.{given_kept}
+use Rattle.pv_decl.specs.Sources.{known_names}
 use Rattle.pv_decl.proofs.source.Source.specified.Goals as goal
 
 pub returns-then-is_some-clause-ok : goal.returns-then-is_some-clause-ok
 returns-then-is_some-clause-ok g c =
     let tokens = c.args.self.now.tokens.now.tokens in
     let u = tables c.args.into.now in
-    let r = readers (names_in c.args.self.now.typedefs.now (g.R.TypeReader.types c.args.self.now.reader.now) u tokens) c.args.below in
+    let r = readers (known_names g.R.TypeReader.types c.args.self.now u) c.args.below in
     let s = semicolon_there tokens (drop c.args.at tokens) c.after.result c.after.ensures (sym c.is_some.ensures ∙ c.if-is_some.true) in
     moved _ _ _ _ _ _ (ends_here r c.args.line (trees_of u.forest c.args.specs.now) (drop c.args.at tokens) s.0 s.1) c.declaration_of.ensures.ok
 
@@ -29,7 +30,7 @@ pub returns-in_default-clause-ok : goal.returns-in_default-clause-ok
 returns-in_default-clause-ok g c =
     let tokens = c.args.self.now.tokens.now.tokens in
     let u = tables c.args.into.now in
-    let r = readers (names_in c.args.self.now.typedefs.now (g.R.TypeReader.types c.args.self.now.reader.now) u tokens) c.args.below in
+    let r = readers (known_names g.R.TypeReader.types c.args.self.now u) c.args.below in
     let no = no_semicolon tokens (drop c.args.at tokens) c.after.result c.after.ensures (sym c.is_some.ensures ∙ c.if-is_some.false) in
     nothing _ _ _ _ (specified_none u (tables c.read.new.into) tokens r c.args.line c.args.at c.args.specs.now c.requires.specs c.read.ensures.keeps no c.in_ok-declarator.field-0 c.in_ok-declarator.ensures.ok c.in_default.is)
 
@@ -40,7 +41,7 @@ pub returns-then-opens_block-clause-ok : goal.returns-then-opens_block-clause-ok
 returns-then-opens_block-clause-ok g c =
     let tokens = c.args.self.now.tokens.now.tokens in
     let u = tables c.args.into.now in
-    let r = readers (names_in c.args.self.now.typedefs.now (g.R.TypeReader.types c.args.self.now.reader.now) u tokens) c.args.below in
+    let r = readers (known_names g.R.TypeReader.types c.args.self.now u) c.args.below in
     let no = no_semicolon tokens (drop c.args.at tokens) c.after.result c.after.ensures (sym c.is_some.ensures ∙ c.if-is_some.false) in
     moved _ _ _ _ _ _
     (specified_head u (tables c.read.new.into) tokens r c.args.line c.args.at c.args.specs.now c.requires.specs c.read.ensures.keeps no c.in_ok-declarator.field-0 c.in_ok-declarator.ensures.ok

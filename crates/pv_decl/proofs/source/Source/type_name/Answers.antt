@@ -17,12 +17,13 @@ use Rattle.pv_decl_forms.proofs.Loops.{at_start, all_kept}
 use Rattle.pv_decl_forms.proofs.Outer.{same_count, type_name_none_by, type_name_some_by}
 use Rattle.pv_decl.specs.Filled.{list_map}
 use Rattle.pv_decl.proofs.Givens.{given_kept}
+use Rattle.pv_decl.specs.Sources.{known_names}
 use Rattle.pv_decl.proofs.source.Source.type_name.Goals as goal
 
 pub returns-then-is_empty-clause-ok : goal.returns-then-is_empty-clause-ok
 returns-then-is_empty-clause-ok g c =
     let tokens = c.args.self.now.tokens.now.tokens in
-    let names = names_in c.args.self.now.typedefs.now (g.R.TypeReader.types c.args.self.now.reader.now) (tables c.args.into.now) tokens in
+    let names = known_names g.R.TypeReader.types c.args.self.now (tables c.args.into.now) in
     nothing _ _ _ _ (type_name_none_by names c.args.depth (drop c.args.at tokens) (tables c.row.new.into) tokens c.in_ok-specs.specs.items c.in_ok-specs.next c.in_ok-specs.ensures.ok (same_count (vec_len c.in_ok-specs.specs) (length c.in_ok-specs.specs.items) true (omega (arith, c.in_ok-specs.specs.ok.0)) (sym c.is_empty.ensures ∙ c.if-is_empty.true)))
 
 pub read-requires-clause-tied : goal.read-requires-clause-tied

@@ -1,9 +1,9 @@
 use Rattle.std.proofs.Common.{◌∙◌, ◌+◌, ◌≤◌, sym, drop, length, arith, refl}
 use Rattle.std.proofs.lemmas.Result.{IfOk-from_err}
 use Rattle.pv_tree.specs.Rows.{tables}
-use Rattle.pv_tree.specs.Tables.{expression_at, is_expression, is_declaration}
+use Rattle.pv_tree.specs.Tables.{expression_at, is_expression}
 use Rattle.pv_tree.proofs.Kept.{extends_same, extends_then, is_kept}
-use Rattle.pv_expr_forms.specs.Known.{names_in}
+use Rattle.pv_expr.specs.Sources.{known_names}
 use Rattle.pv_expr_forms.specs.Reader.{read, grown}
 use Rattle.pv_expr_forms.proofs.Answered.{moved, got, got_none, read_none, read_some, grew, grew_out}
 use Rattle.pv_expr_forms.proofs.Calls.{call_none, call_there, call_forward, call_nodes, call_kept, call_end, call_stop, call_next, call_last}
@@ -47,29 +47,29 @@ grow-loop-longer-init g t c = record { node = c.requires.node; place = c.require
 
 pub grow-loop-longer-smaller : goal.grow-loop-longer-smaller
 grow-loop-longer-smaller g t c =
-    let e = grew (names_in c.args.self.now.typedefs.now (g.R.TypeReader.types c.args.self.now.reader.now) (tables c.loop-longer.into) c.args.self.now.tokens.now.tokens) (read (names_in c.args.self.now.typedefs.now (g.R.TypeReader.types c.args.self.now.reader.now) (tables c.loop-longer.into) c.args.self.now.tokens.now.tokens) c.args.below) c.args.level c.args.below (tables c.loop-longer.into) (tables c.extend.new.into) c.args.self.now.tokens.now.tokens c.loop-longer.left c.loop-longer.next c.in_ok-longer.field-0 c.in_ok-longer.ensures.ok c.in-Some.longer c.in-Some.end c.in-Some.is in
-    let s = longer_goes (names_in c.args.self.now.typedefs.now (g.R.TypeReader.types c.args.self.now.reader.now) (tables c.loop-longer.into) c.args.self.now.tokens.now.tokens) (read (names_in c.args.self.now.typedefs.now (g.R.TypeReader.types c.args.self.now.reader.now) (tables c.loop-longer.into) c.args.self.now.tokens.now.tokens) c.args.below) c.args.level c.args.below (expression_at (tables c.loop-longer.into).forest c.loop-longer.left) (drop c.loop-longer.next c.args.self.now.tokens.now.tokens) (expression_at (tables c.extend.new.into).forest c.in-Some.longer) (drop c.in-Some.end c.args.self.now.tokens.now.tokens) e in
+    let e = grew (known_names g.R.TypeReader.types c.args.self.now (tables c.loop-longer.into)) (read (known_names g.R.TypeReader.types c.args.self.now (tables c.loop-longer.into)) c.args.below) c.args.level c.args.below (tables c.loop-longer.into) (tables c.extend.new.into) c.args.self.now.tokens.now.tokens c.loop-longer.left c.loop-longer.next c.in_ok-longer.field-0 c.in_ok-longer.ensures.ok c.in-Some.longer c.in-Some.end c.in-Some.is in
+    let s = longer_goes (known_names g.R.TypeReader.types c.args.self.now (tables c.loop-longer.into)) (read (known_names g.R.TypeReader.types c.args.self.now (tables c.loop-longer.into)) c.args.below) c.args.level c.args.below (expression_at (tables c.loop-longer.into).forest c.loop-longer.left) (drop c.loop-longer.next c.args.self.now.tokens.now.tokens) (expression_at (tables c.extend.new.into).forest c.in-Some.longer) (drop c.in-Some.end c.args.self.now.tokens.now.tokens) e in
     omega (arith, s.grows, s.was_shallow)
 
 pub grow-loop-longer-preserved : goal.grow-loop-longer-preserved
 grow-loop-longer-preserved g t c =
     let a = longer_in c.args.self.now.typedefs.now (g.R.TypeReader.types c.args.self.now.reader.now) (tables c.args.into.now) (tables c.loop-longer.into) (tables c.extend.new.into) c.args.self.now.tokens.now.tokens c.requires.tied c.loop-longer.invariant.keeps c.args.level c.args.below (expression_at (tables c.loop-longer.into).forest c.loop-longer.left) (drop c.loop-longer.next c.args.self.now.tokens.now.tokens) c.in_ok-longer.field-0 c.in_ok-longer.ensures.ok in
     let h = got (tables c.extend.new.into) c.args.self.now.tokens.now.tokens c.in_ok-longer.field-0 _ c.in-Some.longer c.in-Some.end a c.in-Some.is in
-    let e = grew (names_in c.args.self.now.typedefs.now (g.R.TypeReader.types c.args.self.now.reader.now) (tables c.args.into.now) c.args.self.now.tokens.now.tokens) (read (names_in c.args.self.now.typedefs.now (g.R.TypeReader.types c.args.self.now.reader.now) (tables c.args.into.now) c.args.self.now.tokens.now.tokens) c.args.below) c.args.level c.args.below (tables c.loop-longer.into) (tables c.extend.new.into) c.args.self.now.tokens.now.tokens c.loop-longer.left c.loop-longer.next c.in_ok-longer.field-0 a c.in-Some.longer c.in-Some.end c.in-Some.is in
+    let e = grew (known_names g.R.TypeReader.types c.args.self.now (tables c.args.into.now)) (read (known_names g.R.TypeReader.types c.args.self.now (tables c.args.into.now)) c.args.below) c.args.level c.args.below (tables c.loop-longer.into) (tables c.extend.new.into) c.args.self.now.tokens.now.tokens c.loop-longer.left c.loop-longer.next c.in_ok-longer.field-0 a c.in-Some.longer c.in-Some.end c.in-Some.is in
     let keeps = extends_then (tables c.args.into.now) (tables c.loop-longer.into) (tables c.extend.new.into) c.loop-longer.invariant.keeps c.extend.ensures.keeps in
     record {
       node = h.1;
       place = h.2;
       keeps = keeps;
       tied = tied_kept (g.R.TypeReader.types c.args.self.now.reader.now) (tables c.args.into.now) (tables c.extend.new.into) c.args.self.now.tokens.now.tokens c.requires.tied keeps;
-      same = sym (grown_on (names_in c.args.self.now.typedefs.now (g.R.TypeReader.types c.args.self.now.reader.now) (tables c.args.into.now) c.args.self.now.tokens.now.tokens) (read (names_in c.args.self.now.typedefs.now (g.R.TypeReader.types c.args.self.now.reader.now) (tables c.args.into.now) c.args.self.now.tokens.now.tokens) c.args.below) c.args.level c.args.below (expression_at (tables c.loop-longer.into).forest c.loop-longer.left) (drop c.loop-longer.next c.args.self.now.tokens.now.tokens) (expression_at (tables c.extend.new.into).forest c.in-Some.longer) (drop c.in-Some.end c.args.self.now.tokens.now.tokens) e) ∙ c.loop-longer.invariant.same;
+      same = sym (grown_on (known_names g.R.TypeReader.types c.args.self.now (tables c.args.into.now)) (read (known_names g.R.TypeReader.types c.args.self.now (tables c.args.into.now)) c.args.below) c.args.level c.args.below (expression_at (tables c.loop-longer.into).forest c.loop-longer.left) (drop c.loop-longer.next c.args.self.now.tokens.now.tokens) (expression_at (tables c.extend.new.into).forest c.in-Some.longer) (drop c.in-Some.end c.args.self.now.tokens.now.tokens) e) ∙ c.loop-longer.invariant.same;
     }
 
 pub grow-returns-in-None-clause-ok : goal.grow-returns-in-None-clause-ok
 grow-returns-in-None-clause-ok g t c =
     let a = longer_in c.args.self.now.typedefs.now (g.R.TypeReader.types c.args.self.now.reader.now) (tables c.args.into.now) (tables c.loop-longer.into) (tables c.extend.new.into) c.args.self.now.tokens.now.tokens c.requires.tied c.loop-longer.invariant.keeps c.args.level c.args.below (expression_at (tables c.loop-longer.into).forest c.loop-longer.left) (drop c.loop-longer.next c.args.self.now.tokens.now.tokens) c.in_ok-longer.field-0 c.in_ok-longer.ensures.ok in
-    grew_out (names_in c.args.self.now.typedefs.now (g.R.TypeReader.types c.args.self.now.reader.now) (tables c.args.into.now) c.args.self.now.tokens.now.tokens) (read (names_in c.args.self.now.typedefs.now (g.R.TypeReader.types c.args.self.now.reader.now) (tables c.args.into.now) c.args.self.now.tokens.now.tokens) c.args.below) c.args.level c.args.below (tables c.loop-longer.into) (tables c.extend.new.into) c.args.self.now.tokens.now.tokens c.loop-longer.left c.loop-longer.next c.in_ok-longer.field-0 a
-    (grown (names_in c.args.self.now.typedefs.now (g.R.TypeReader.types c.args.self.now.reader.now) (tables c.args.into.now) c.args.self.now.tokens.now.tokens) (read (names_in c.args.self.now.typedefs.now (g.R.TypeReader.types c.args.self.now.reader.now) (tables c.args.into.now) c.args.self.now.tokens.now.tokens) c.args.below) c.args.level c.args.below (expression_at (tables c.args.into.now).forest c.args.first) (drop c.args.at c.args.self.now.tokens.now.tokens))
+    grew_out (known_names g.R.TypeReader.types c.args.self.now (tables c.args.into.now)) (read (known_names g.R.TypeReader.types c.args.self.now (tables c.args.into.now)) c.args.below) c.args.level c.args.below (tables c.loop-longer.into) (tables c.extend.new.into) c.args.self.now.tokens.now.tokens c.loop-longer.left c.loop-longer.next c.in_ok-longer.field-0 a
+    (grown (known_names g.R.TypeReader.types c.args.self.now (tables c.args.into.now)) (read (known_names g.R.TypeReader.types c.args.self.now (tables c.args.into.now)) c.args.below) c.args.level c.args.below (expression_at (tables c.args.into.now).forest c.args.first) (drop c.args.at c.args.self.now.tokens.now.tokens))
     c.in-None.is c.extend.ensures.keeps c.loop-longer.invariant.node c.loop-longer.invariant.place c.loop-longer.invariant.same
 
 -- ---- arguments
@@ -157,13 +157,13 @@ arguments-returns-then-is_close-clause-keeps g t c = extends_then (tables c.args
 -- ---- ask, once its operand is read
 
 pub ask-returns-in_default-clause-ok : goal.ask-returns-in_default-clause-ok
-ask-returns-in_default-clause-ok g t c = nothing _ _ _ (asked_none (read (names_in c.args.self.now.typedefs.now (g.R.TypeReader.types c.args.self.now.reader.now) (tables c.args.into.now) c.args.self.now.tokens.now.tokens) c.args.below) (expression_at (tables c.args.into.now).forest c.args.condition) (expression_at (tables c.args.into.now).forest c.args.yes) (drop c.args.at c.args.self.now.tokens.now.tokens) c.in_default.ensures)
+ask-returns-in_default-clause-ok g t c = nothing _ _ _ (asked_none (read (known_names g.R.TypeReader.types c.args.self.now (tables c.args.into.now)) c.args.below) (expression_at (tables c.args.into.now).forest c.args.condition) (expression_at (tables c.args.into.now).forest c.args.yes) (drop c.args.at c.args.self.now.tokens.now.tokens) c.in_default.ensures)
 
 pub ask-returns-in-None-clause-ok : goal.ask-returns-in-None-clause-ok
-ask-returns-in-None-clause-ok g t c = nothing _ _ _ (asked_nothing (read (names_in c.args.self.now.typedefs.now (g.R.TypeReader.types c.args.self.now.reader.now) (tables c.args.into.now) c.args.self.now.tokens.now.tokens) c.args.below) (expression_at (tables c.args.into.now).forest c.args.condition) (expression_at (tables c.args.into.now).forest c.args.yes) (drop c.args.at c.args.self.now.tokens.now.tokens) (drop c.in-Some.next c.args.self.now.tokens.now.tokens) c.in-Some.ensures.0 (got_none (tables c.read_tree.new.into) c.args.self.now.tokens.now.tokens c.in_ok-no.field-0 _ c.in_ok-no.ensures.ok c.in-None.is))
+ask-returns-in-None-clause-ok g t c = nothing _ _ _ (asked_nothing (read (known_names g.R.TypeReader.types c.args.self.now (tables c.args.into.now)) c.args.below) (expression_at (tables c.args.into.now).forest c.args.condition) (expression_at (tables c.args.into.now).forest c.args.yes) (drop c.args.at c.args.self.now.tokens.now.tokens) (drop c.in-Some.next c.args.self.now.tokens.now.tokens) c.in-Some.ensures.0 (got_none (tables c.read_tree.new.into) c.args.self.now.tokens.now.tokens c.in_ok-no.field-0 _ c.in_ok-no.ensures.ok c.in-None.is))
 
 pub ask-returns-in-Some-2-clause-ok : goal.ask-returns-in-Some-2-clause-ok
-ask-returns-in-Some-2-clause-ok g t c = moved _ _ _ _ _ (asked_done (tables c.args.into.now) (tables c.read_tree.new.into) c.args.self.now.tokens.now.tokens c.read_tree.ensures.keeps (read (names_in c.args.self.now.typedefs.now (g.R.TypeReader.types c.args.self.now.reader.now) (tables c.args.into.now) c.args.self.now.tokens.now.tokens) c.args.below) c.args.at c.args.condition c.args.yes c.requires.condition c.requires.yes c.in-Some.next c.in-Some.ensures.0 c.in_ok-no.field-0 c.in_ok-no.ensures.ok c.in-Some-2.no c.in-Some-2.end c.in-Some-2.is c.line_of-line.result c.line_of-line.ensures) c.found.ensures.ok
+ask-returns-in-Some-2-clause-ok g t c = moved _ _ _ _ _ (asked_done (tables c.args.into.now) (tables c.read_tree.new.into) c.args.self.now.tokens.now.tokens c.read_tree.ensures.keeps (read (known_names g.R.TypeReader.types c.args.self.now (tables c.args.into.now)) c.args.below) c.args.at c.args.condition c.args.yes c.requires.condition c.requires.yes c.in-Some.next c.in-Some.ensures.0 c.in_ok-no.field-0 c.in_ok-no.ensures.ok c.in-Some-2.no c.in-Some-2.end c.in-Some-2.is c.line_of-line.result c.line_of-line.ensures) c.found.ensures.ok
 
 -- ---- what a node's parts have to be
 
@@ -388,7 +388,7 @@ pub read_head-returns-in-None-clause-keeps : goal.read_head-returns-in-None-clau
 read_head-returns-in-None-clause-keeps g t c = c.read_tree.ensures.keeps
 
 pub read_head-returns-in-None-clause-ok : goal.read_head-returns-in-None-clause-ok
-read_head-returns-in-None-clause-ok g t c = nothing _ _ _ (head_first _ _ _ c.in-Some.token _ _ _ c.in-Some.ensures.0 (enclosed_nothing (tables c.args.into.now).forest c.in-Some.token.line c.in-Some-opening_at.form (read (names_in c.args.self.now.typedefs.now (g.R.TypeReader.types c.args.self.now.reader.now) (tables c.args.into.now) c.args.self.now.tokens.now.tokens) c.args.below) (drop c.in-Some-opening_at.start c.args.self.now.tokens.now.tokens) _ c.operand.ensures (got_none (tables c.read_tree.new.into) c.args.self.now.tokens.now.tokens _ _ c.in_ok-operand.ensures.ok c.in-None.is) ∙ c.in-Some-opening_at.ensures.0 (read (names_in c.args.self.now.typedefs.now (g.R.TypeReader.types c.args.self.now.reader.now) (tables c.args.into.now) c.args.self.now.tokens.now.tokens) c.args.below) c.in-Some.token.line (sym (c.measures_type.ensures.is (g.R.TypeReader.types c.args.self.now.reader.now) (tables c.args.into.now)) ∙ c.if-measures_type.false)))
+read_head-returns-in-None-clause-ok g t c = nothing _ _ _ (head_first _ _ _ c.in-Some.token _ _ _ c.in-Some.ensures.0 (enclosed_nothing (tables c.args.into.now).forest c.in-Some.token.line c.in-Some-opening_at.form (read (known_names g.R.TypeReader.types c.args.self.now (tables c.args.into.now)) c.args.below) (drop c.in-Some-opening_at.start c.args.self.now.tokens.now.tokens) _ c.operand.ensures (got_none (tables c.read_tree.new.into) c.args.self.now.tokens.now.tokens _ _ c.in_ok-operand.ensures.ok c.in-None.is) ∙ c.in-Some-opening_at.ensures.0 (read (known_names g.R.TypeReader.types c.args.self.now (tables c.args.into.now)) c.args.below) c.in-Some.token.line (sym (c.measures_type.ensures.is (g.R.TypeReader.types c.args.self.now.reader.now) (tables c.args.into.now)) ∙ c.if-measures_type.false)))
 
 pub read_head-enclosed-requires-clause-place : goal.read_head-enclosed-requires-clause-place
 read_head-enclosed-requires-clause-place g t c = (got (tables c.read_tree.new.into) c.args.self.now.tokens.now.tokens c.in_ok-operand.field-0 _ c.in-Some-2.operand c.in-Some-2.end c.in_ok-operand.ensures.ok c.in-Some-2.is).2
@@ -403,4 +403,4 @@ pub read_head-returns-in-Some-2-clause-keeps : goal.read_head-returns-in-Some-2-
 read_head-returns-in-Some-2-clause-keeps g t c = extends_then (tables c.args.into.now) (tables c.read_tree.new.into) (tables c.enclosed.new.into) c.read_tree.ensures.keeps c.enclosed.ensures.keeps
 
 pub read_head-returns-in-Some-2-clause-ok : goal.read_head-returns-in-Some-2-clause-ok
-read_head-returns-in-Some-2-clause-ok g t c = moved _ _ _ _ _ (head_first _ _ _ c.in-Some.token _ _ _ c.in-Some.ensures.0 (enclosed_done (tables c.args.into.now) (tables c.read_tree.new.into) c.args.self.now.tokens.now.tokens c.read_tree.ensures.keeps c.in-Some.token.line c.in-Some-opening_at.form c.in-Some-opening_at.ensures.1 (read (names_in c.args.self.now.typedefs.now (g.R.TypeReader.types c.args.self.now.reader.now) (tables c.args.into.now) c.args.self.now.tokens.now.tokens) c.args.below) (drop c.in-Some-opening_at.start c.args.self.now.tokens.now.tokens) _ c.operand.ensures c.in_ok-operand.field-0 c.in_ok-operand.ensures.ok c.in-Some-2.operand c.in-Some-2.end c.in-Some-2.is ∙ c.in-Some-opening_at.ensures.0 (read (names_in c.args.self.now.typedefs.now (g.R.TypeReader.types c.args.self.now.reader.now) (tables c.args.into.now) c.args.self.now.tokens.now.tokens) c.args.below) c.in-Some.token.line (sym (c.measures_type.ensures.is (g.R.TypeReader.types c.args.self.now.reader.now) (tables c.args.into.now)) ∙ c.if-measures_type.false))) c.enclosed.ensures.ok
+read_head-returns-in-Some-2-clause-ok g t c = moved _ _ _ _ _ (head_first _ _ _ c.in-Some.token _ _ _ c.in-Some.ensures.0 (enclosed_done (tables c.args.into.now) (tables c.read_tree.new.into) c.args.self.now.tokens.now.tokens c.read_tree.ensures.keeps c.in-Some.token.line c.in-Some-opening_at.form c.in-Some-opening_at.ensures.1 (read (known_names g.R.TypeReader.types c.args.self.now (tables c.args.into.now)) c.args.below) (drop c.in-Some-opening_at.start c.args.self.now.tokens.now.tokens) _ c.operand.ensures c.in_ok-operand.field-0 c.in_ok-operand.ensures.ok c.in-Some-2.operand c.in-Some-2.end c.in-Some-2.is ∙ c.in-Some-opening_at.ensures.0 (read (known_names g.R.TypeReader.types c.args.self.now (tables c.args.into.now)) c.args.below) c.in-Some.token.line (sym (c.measures_type.ensures.is (g.R.TypeReader.types c.args.self.now.reader.now) (tables c.args.into.now)) ∙ c.if-measures_type.false))) c.enclosed.ensures.ok

@@ -3,9 +3,8 @@ use Rattle.pv_tree.specs.Depths.{expression_depth}
 use Rattle.pv_tree.specs.Rows.{tables}
 use Rattle.pv_tree.specs.Syntax.{NoArguments}
 use Rattle.pv_tree.specs.Tables.{expression_at, arguments_of, is_expression, Is, Extends}
-use Rattle.pv_tree.specs.TypeNames.{AreTied}
 use Rattle.pv_expr_forms.specs.Reader.{read, grown, arguments}
-use Rattle.pv_expr_forms.specs.Known.{names_in}
+use Rattle.pv_expr.specs.Sources.{known_names, AreKnown}
 use Rattle.pv_expr.proofs.source.Source.+reading.Given as goal
 
 abbrev pub decreases-read_tree : goal.decreases-read_tree
@@ -29,12 +28,12 @@ decreases-arguments g l = 6 * l.below + 1
 abbrev pub invariant-grow-loop-longer : goal.invariant-grow-loop-longer
 invariant-grow-loop-longer g l =
     let tokens = l.self.tokens.now.tokens in
-    let names = names_in l.self.typedefs.now (g.R.TypeReader.types l.self.reader.now) (tables l.fn.into) tokens in
+    let names = known_names g.R.TypeReader.types l.self (tables l.fn.into) in
     record {
       node : Is (tables l.into) is_expression l.left;
       place : l.next ≤ length tokens;
       keeps : Extends (tables l.fn.into) (tables l.into);
-      tied : AreTied (g.R.TypeReader.types l.self.reader.now) (tables l.into) tokens;
+      tied : AreKnown g.R.TypeReader.types l.self (tables l.into);
       same : grown names (read names l.below) l.level l.below (expression_at (tables l.into).forest l.left) (drop l.next tokens) ≡ grown names (read names l.below) l.level l.below (expression_at (tables l.fn.into).forest l.fn.first) (drop l.fn.at tokens);
     }
 
@@ -44,12 +43,12 @@ decreases-grow-loop-longer g l = l.below + 1 - expression_depth (expression_at (
 abbrev pub invariant-arguments-loop-list : goal.invariant-arguments-loop-list
 invariant-arguments-loop-list g l =
     let tokens = l.self.tokens.now.tokens in
-    let names = names_in l.self.typedefs.now (g.R.TypeReader.types l.self.reader.now) (tables l.fn.into) tokens in
+    let names = known_names g.R.TypeReader.types l.self (tables l.fn.into) in
     record {
       nodes : All (λ n. Is (tables l.into) is_expression n) l.list.items;
       place : l.next ≤ length tokens;
       keeps : Extends (tables l.fn.into) (tables l.into);
-      tied : AreTied (g.R.TypeReader.types l.self.reader.now) (tables l.into) tokens;
+      tied : AreKnown g.R.TypeReader.types l.self (tables l.into);
       same : arguments (read names l.below) (arguments_of (tables l.into).forest l.list.items) (drop l.next tokens) ≡ arguments (read names l.below) NoArguments (drop l.fn.at tokens);
     }
 
