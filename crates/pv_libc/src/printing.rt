@@ -226,7 +226,8 @@ fn step(
 ) -> Result<Within, Stop>
     requires within { next.old ≤ length args.now }
     requires made { All (λ x. IsMadeValue memory.old.table x.arg.value) args.now }
-    ensures answer { OrNoMemory (worth (λ w. record { within = w; left = drop next.new args.now; text = text.new.items }) result) (with_notes memory.new notes.new.items) (piece_done piece (drop next.old args.now) text.old.items (with_notes memory.old notes.old.items)) }
+    ensures answer { OrNoMemory (worth (λ w. record { within = w; left = drop next.new args.now; text = text.new.items }) result)
+        (with_notes memory.new notes.new.items) (piece_done piece (drop next.old args.now) text.old.items (with_notes memory.old notes.old.items)) }
     ensures within { next.new ≤ length args.now }
     ensures later { IsLater memory.old.table memory.new.table }
 {

@@ -30,10 +30,6 @@ module _ (u u' : Stored) (same : whole u ≡ whole u') (bound : ℕ) (sides : Op
       (types_in_table u)
       (subst (AllUnit (InTable u'.known)) (sym same) (types_in_table u'))
 
-  -- what stands for an object that isn't there has the type `void`
-  pub void_alike : AlikeType (setting_of u bound sides) u'.known VoidTy
-  void_alike = alike_lvalue (setting_of u bound sides) u'.known VoidTy (void_in_table u.known) (void_in_table u'.known)
-
   -- the setting of the run by the other table
   pub other_setting : with_types (setting_of u bound sides) u'.known ≡ setting_of u' bound sides
   other_setting = ap (λ (w : WholeUnit). record { unit = w; types = u'.known; bound = bound; sides = sides }) same

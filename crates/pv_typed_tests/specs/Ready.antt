@@ -4,6 +4,6 @@ use Rattle.pv_types.specs.declared.terms.TypeId.{TypeId}
 use Rattle.pv_typed.specs.Tables.{Stored}
 use Rattle.pv_typed.specs.Formed.{AreKnown}
 
--- all parts are there, the structure of the lines too
+-- 6.9p1: all parts of a unit are there, the structure of the lines too
 abbrev pub IsReady : Stored → TypeId → Type 0
 IsReady u s = AreKnown u × (s.0 < length u.known.terms)

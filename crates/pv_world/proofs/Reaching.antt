@@ -62,21 +62,6 @@ reach_settled T p n align write by at h =
     let c = clause_of by in
     checked_settled (is_null p) (is_empty p.prov) (fault c reason.Null) (fault c reason.Empty) T T (settled T p.prov u) (reach_after T p n align write c u) at (after_settled u T p n align write c at) h
 
--- names that are the same in text are equal
-number_same : (i j : ℕ) → eqb i j ≡ true → i ≡ j
-number_same i j h = grind arith
-
-pub one_name : (q p : Prov) → same_name q p ≡ true → q ≡ p
-one_name Empty Empty h = refl
-one_name (Inst i) (Inst j) h = ap Inst (number_same i j h)
-one_name (Pair k) (Pair m) h = ap Pair (number_same k m h)
-one_name Empty (Inst j) h = absurd cc
-one_name Empty (Pair m) h = absurd cc
-one_name (Inst i) Empty h = absurd cc
-one_name (Inst i) (Pair m) h = absurd cc
-one_name (Pair k) Empty h = absurd cc
-one_name (Pair k) (Inst j) h = absurd cc
-
 number_other : (i j : ℕ) → eqb i j ≡ false → i ≢ j
 number_other i j h = λ e. grind arith
 
