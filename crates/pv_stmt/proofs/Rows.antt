@@ -132,15 +132,6 @@ pub record FirstSoFar (u : Tables) (is_type : ℕ → Bool) (tokens : List Token
   pub few : length u.externals ≤ most
 
 module _ (u : Tables) (is_type : ℕ → Bool) (tokens : List Token) (at most : ℕ) (s : FirstSoFar u is_type tokens at most) where
-  -- there are so many
-  pub first_enough : (count : ℕ) → count ≡ length u.externals → most ≤ count → IsBehind tokens most at
-  first_enough count is enough = record {
-    within = s.reading.place;
-    externals = externals_of u;
-    count = omega (arith, length-map u.externals (λ n. declaration_at u.forest n), is, enough, s.few);
-    spelled = s.row;
-  }
-
   module _ (v : Tables) (count : ℕ) (is : count ≡ length u.externals) (less : count < most) (keeps : Extends u v) (answer : Option (NodeId × ℕ))
       (a : IsExternalAt v is_type tokens at answer) where
     -- there are no more

@@ -11,7 +11,7 @@ pub record IsBehind (tokens : List Token) (n place : ℕ) : Type 0 where
   pub count : length externals ≡ n
   pub spelled : SpellExternals no_types externals tokens (drop place tokens)
 
--- there is such a place
+-- there is such a place, behind so many external declarations (6.9p1)
 pub record SomeBehind (tokens : List Token) (n : ℕ) : Type 0 where
   pub place : ℕ
   pub is : IsBehind tokens n place

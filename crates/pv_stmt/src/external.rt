@@ -1,46 +1,33 @@
 //! One external declaration: a declaration or a function definition (C17 6.9).
-ghost use Rattle.std.specs.Prelude.{◌≡◌, ◌≤◌, length, drop, Some, None, IfOk, IfSome, nat_eq};
+ghost use Rattle.std.specs.Prelude.{◌≡◌, ◌≤◌, length, Some, None, IfOk, IfSome, nat_eq};
 ghost use Rattle.indexmap.specs.IndexSet.{contains};
 ghost use Rattle.pv_tree.specs.Rows.{tables};
-ghost use Rattle.pv_tree.specs.Tables.{trees_at, declarator_at, declaration_at, is_specifier, is_declarator, is_external, Is, HasList, Extends};
-ghost use Rattle.pv_tree.specs.TypeNames.{AreTied};
+ghost use Rattle.pv_tree.specs.Tables.{is_specifier, is_declarator, is_external, Is, HasList, Extends};
 ghost use Rattle.pv_tree.specs.Units.{depth_limit};
-ghost use Rattle.pv_expr_forms.specs.Known.{names_in};
-ghost use Rattle.pv_decl_forms.specs.Answers.{Answers};
 ghost use Rattle.pv_stmt_forms.specs.Statements.{statement};
-ghost use Rattle.pv_stmt_forms.specs.Externals.{external, external_at};
-ghost use Rattle.pv_stmt_forms.specs.Found.{function_with, IsExternalAt};
+ghost use Rattle.pv_stmt_forms.specs.Externals.{external};
+ghost use Rattle.pv_stmt_forms.specs.Found.{IsExternalAt, function_at};
+ghost use Rattle.pv_stmt.specs.Sources.{known_names, AreKnown, ReadsFrom};
 
 use crate::source::Source;
 use indexmap::IndexSet;
-use pv_decl::{declaration, type_names};
+use pv_decl::type_names;
+use pv_decl_forms::DEPTH_LIMIT;
 use pv_stmt_forms::region_end;
 use pv_token::{NoMemory, Tokens};
 use pv_tree::{Decl, ListId, NodeId, TypeReader, Unit};
 use std::alloc::Global;
-
-/// How deep an external declaration may be (C17 5.2.4.1).
-const DEPTH_LIMIT: u32 = 500;
 
 impl<R: TypeReader> Source<'_, R> {
     /// The longest external declaration at a place, and the place behind it (C17 6.9p1).
     #[tactic(auto, using(pv_expr_forms::proofs::Naming::tied_kept))]
     fn external(&self, at: u32, into: &mut Unit) -> Result<Option<(NodeId, u32)>, NoMemory>
         requires place { at ≤ length self.now.tokens.now.tokens }
-        requires tied { AreTied (R.types self.now.reader.now) (tables into.old) self.now.tokens.now.tokens }
+        requires tied { AreKnown R.types self.now (tables into.old) }
         ensures keeps { Extends (tables into.old) (tables into.new) }
-        ensures ok { IfOk result (λ r. Answers (tables into.new) is_external self.now.tokens.now.tokens r (external (names_in self.now.typedefs.now (R.types self.now.reader.now) (tables into.old) self.now.tokens.now.tokens) depth_limit (drop at self.now.tokens.now.tokens))) }
+        ensures ok { ReadsFrom self.now at (tables into.new) is_external result (external (known_names R.types self.now (tables into.old)) depth_limit) }
     {
-        let tokens = self.tokens;
-        let Some((head, next)) = declaration(
-            tokens,
-            at,
-            DEPTH_LIMIT,
-            self.typedefs,
-            into,
-            self.reader,
-        )?
-        else {
+        let Some((head, next)) = self.declaration(at, DEPTH_LIMIT, into)? else {
             return Ok(None);
         };
         match into.decl(head) {
@@ -67,11 +54,11 @@ impl<R: TypeReader> Source<'_, R> {
         into: &mut Unit,
     ) -> Result<Option<(NodeId, u32)>, NoMemory>
         requires place { at ≤ length self.now.tokens.now.tokens }
-        requires tied { AreTied (R.types self.now.reader.now) (tables into.old) self.now.tokens.now.tokens }
+        requires tied { AreKnown R.types self.now (tables into.old) }
         requires specs { HasList (tables into.old).forest (length (tables into.old).forest.trees) is_specifier specs }
         requires declarator { Is (tables into.old) is_declarator declarator }
         ensures keeps { Extends (tables into.old) (tables into.new) }
-        ensures ok { IfOk result (λ r. Answers (tables into.new) is_external self.now.tokens.now.tokens r (function_with line (trees_at (tables into.old).forest specs) (declarator_at (tables into.old).forest declarator) (statement (names_in self.now.typedefs.now (R.types self.now.reader.now) (tables into.old) self.now.tokens.now.tokens) 499 (drop at self.now.tokens.now.tokens)))) }
+        ensures ok { ReadsFrom self.now at (tables into.new) is_external result (λ ts. function_at (tables into.old).forest line specs declarator (statement (known_names R.types self.now (tables into.old)) 499 ts)) }
     {
         let Some((block, end)) = self.statement(at, DEPTH_LIMIT - 1, into)? else {
             return Ok(None);

@@ -1,17 +1,14 @@
 //! Parts of statements that no statement stands in.
-ghost use Rattle.std.specs.Prelude.{◌≡◌, ◌≤◌, length, drop, IfOk};
+ghost use Rattle.std.specs.Prelude.{◌≡◌, ◌≤◌, length, IfOk};
 ghost use Rattle.pv_tree.specs.Rows.{tables};
 ghost use Rattle.pv_tree.specs.Syntax.{NoTrees};
-ghost use Rattle.pv_tree.specs.Tables.{tree_at, is_declaration, is_expression, is_statement, Is, Extends};
-ghost use Rattle.pv_tree.specs.TypeNames.{AreTied};
-ghost use Rattle.pv_expr_forms.specs.Known.{names_in};
+ghost use Rattle.pv_tree.specs.Tables.{is_declaration, is_expression, is_statement, Extends};
 ghost use Rattle.pv_expr_forms.specs.Numbers.{level_number};
-ghost use Rattle.pv_decl_forms.specs.Answers.{Answers};
-ghost use Rattle.pv_decl_forms.specs.Rows.{AreAnswered, MayBeAnswered};
 ghost use Rattle.pv_decl_forms.specs.Pieces.{optional, row};
 ghost use Rattle.pv_decl_forms.specs.Reader.{declaration};
 ghost use Rattle.pv_stmt_forms.specs.Parts.{test_of, PartAnswers, FirstAnswers, HeadAnswers};
 ghost use Rattle.pv_stmt_forms.specs.Statements.{expression, condition, expression_before, simple, returned, declared, label};
+ghost use Rattle.pv_stmt.specs.Sources.{known_names, AreKnown, tokens_from, ReadsFrom, RowReads, MayRead};
 
 use crate::source::Source;
 use pv_decl::declaration;
@@ -34,9 +31,9 @@ impl<R: TypeReader> Source<'_, R> {
         into: &mut Unit,
     ) -> Result<Option<(NodeId, u32)>, NoMemory>
         requires place { at ≤ length self.now.tokens.now.tokens }
-        requires tied { AreTied (R.types self.now.reader.now) (tables into.old) self.now.tokens.now.tokens }
+        requires tied { AreKnown R.types self.now (tables into.old) }
         ensures keeps { Extends (tables into.old) (tables into.new) }
-        ensures ok { IfOk result (λ r. Answers (tables into.new) is_expression self.now.tokens.now.tokens r (expression (names_in self.now.typedefs.now (R.types self.now.reader.now) (tables into.old) self.now.tokens.now.tokens) depth (level_number level) (drop at self.now.tokens.now.tokens))) }
+        ensures ok { ReadsFrom self.now at (tables into.new) is_expression result (expression (known_names R.types self.now (tables into.old)) depth (level_number level)) }
     {
         expression(
             self.tokens,
@@ -58,9 +55,9 @@ impl<R: TypeReader> Source<'_, R> {
         into: &mut Unit,
     ) -> Result<Option<(NodeId, u32)>, NoMemory>
         requires place { at ≤ length self.now.tokens.now.tokens }
-        requires tied { AreTied (R.types self.now.reader.now) (tables into.old) self.now.tokens.now.tokens }
+        requires tied { AreKnown R.types self.now (tables into.old) }
         ensures keeps { Extends (tables into.old) (tables into.new) }
-        ensures ok { IfOk result (λ r. Answers (tables into.new) is_expression self.now.tokens.now.tokens r (condition (names_in self.now.typedefs.now (R.types self.now.reader.now) (tables into.old) self.now.tokens.now.tokens) depth (drop at self.now.tokens.now.tokens))) }
+        ensures ok { ReadsFrom self.now at (tables into.new) is_expression result (condition (known_names R.types self.now (tables into.old)) depth) }
     {
         let Some(inside) = after(self.tokens, at, Sign::OpenParen) else {
             return Ok(None);
@@ -82,9 +79,9 @@ impl<R: TypeReader> Source<'_, R> {
         into: &mut Unit,
     ) -> Result<(Option<NodeId>, u32), NoMemory>
         requires place { at ≤ length self.now.tokens.now.tokens }
-        requires tied { AreTied (R.types self.now.reader.now) (tables into.old) self.now.tokens.now.tokens }
+        requires tied { AreKnown R.types self.now (tables into.old) }
         ensures keeps { Extends (tables into.old) (tables into.new) }
-        ensures ok { IfOk result (λ r. MayBeAnswered (tables into.new) is_expression self.now.tokens.now.tokens r.0 r.1 (optional (drop at self.now.tokens.now.tokens) (expression (names_in self.now.typedefs.now (R.types self.now.reader.now) (tables into.old) self.now.tokens.now.tokens) depth 1 (drop at self.now.tokens.now.tokens)))) }
+        ensures ok { IfOk result (λ r. MayRead self.now at (tables into.new) is_expression r.0 r.1 (λ ts. optional ts (expression (known_names R.types self.now (tables into.old)) depth 1 ts))) }
     {
         match self.expression(at, Level::Comma, depth, into)? {
             Some((value, end)) => Ok((Some(value), end)),
@@ -101,9 +98,9 @@ impl<R: TypeReader> Source<'_, R> {
         into: &mut Unit,
     ) -> Result<Option<(Option<NodeId>, u32)>, NoMemory>
         requires place { at ≤ length self.now.tokens.now.tokens }
-        requires tied { AreTied (R.types self.now.reader.now) (tables into.old) self.now.tokens.now.tokens }
+        requires tied { AreKnown R.types self.now (tables into.old) }
         ensures keeps { Extends (tables into.old) (tables into.new) }
-        ensures ok { IfOk result (λ r. PartAnswers (tables into.new) self.now.tokens.now.tokens r (expression_before (names_in self.now.typedefs.now (R.types self.now.reader.now) (tables into.old) self.now.tokens.now.tokens) depth (test_of sign) (drop at self.now.tokens.now.tokens))) }
+        ensures ok { IfOk result (λ r. PartAnswers (tables into.new) self.now.tokens.now.tokens r (expression_before (known_names R.types self.now (tables into.old)) depth (test_of sign) (tokens_from self.now at))) }
     {
         let (value, end) = self.optional_expression(at, depth, into)?;
         match after(self.tokens, end, sign) {
@@ -121,9 +118,9 @@ impl<R: TypeReader> Source<'_, R> {
         into: &mut Unit,
     ) -> Result<Option<(NodeId, u32)>, NoMemory>
         requires place { at ≤ length self.now.tokens.now.tokens }
-        requires tied { AreTied (R.types self.now.reader.now) (tables into.old) self.now.tokens.now.tokens }
+        requires tied { AreKnown R.types self.now (tables into.old) }
         ensures keeps { Extends (tables into.old) (tables into.new) }
-        ensures ok { IfOk result (λ r. Answers (tables into.new) is_statement self.now.tokens.now.tokens r (simple (names_in self.now.typedefs.now (R.types self.now.reader.now) (tables into.old) self.now.tokens.now.tokens) depth line (drop at self.now.tokens.now.tokens))) }
+        ensures ok { ReadsFrom self.now at (tables into.new) is_statement result (simple (known_names R.types self.now (tables into.old)) depth line) }
     {
         match self.expression_before(at, Sign::Semicolon, depth, into)? {
             Some((value, end)) => {
@@ -142,9 +139,9 @@ impl<R: TypeReader> Source<'_, R> {
         into: &mut Unit,
     ) -> Result<Option<(NodeId, u32)>, NoMemory>
         requires place { at ≤ length self.now.tokens.now.tokens }
-        requires tied { AreTied (R.types self.now.reader.now) (tables into.old) self.now.tokens.now.tokens }
+        requires tied { AreKnown R.types self.now (tables into.old) }
         ensures keeps { Extends (tables into.old) (tables into.new) }
-        ensures ok { IfOk result (λ r. Answers (tables into.new) is_statement self.now.tokens.now.tokens r (returned (names_in self.now.typedefs.now (R.types self.now.reader.now) (tables into.old) self.now.tokens.now.tokens) depth line (drop at self.now.tokens.now.tokens))) }
+        ensures ok { ReadsFrom self.now at (tables into.new) is_statement result (returned (known_names R.types self.now (tables into.old)) depth line) }
     {
         match self.expression_before(at, Sign::Semicolon, depth, into)? {
             Some((value, end)) => {
@@ -152,6 +149,21 @@ impl<R: TypeReader> Source<'_, R> {
             }
             None => Ok(None),
         }
+    }
+
+    /// The declaration or the head of a function at a place, and the place behind it (C17 6.7, 6.9.1).
+    pub(crate) fn declaration(
+        &self,
+        at: u32,
+        depth: u32,
+        into: &mut Unit,
+    ) -> Result<Option<(NodeId, u32)>, NoMemory>
+        requires place { at ≤ length self.now.tokens.now.tokens }
+        requires tied { AreKnown R.types self.now (tables into.old) }
+        ensures keeps { Extends (tables into.old) (tables into.new) }
+        ensures ok { ReadsFrom self.now at (tables into.new) is_declaration result (declaration (known_names R.types self.now (tables into.old)) depth) }
+    {
+        declaration(self.tokens, at, depth, self.typedefs, into, self.reader)
     }
 
     /// The declaration at a place, and the place behind it (C17 6.7).
@@ -162,19 +174,11 @@ impl<R: TypeReader> Source<'_, R> {
         into: &mut Unit,
     ) -> Result<Option<(NodeId, u32)>, NoMemory>
         requires place { at ≤ length self.now.tokens.now.tokens }
-        requires tied { AreTied (R.types self.now.reader.now) (tables into.old) self.now.tokens.now.tokens }
+        requires tied { AreKnown R.types self.now (tables into.old) }
         ensures keeps { Extends (tables into.old) (tables into.new) }
-        ensures ok { IfOk result (λ r. Answers (tables into.new) is_declaration self.now.tokens.now.tokens r (declared (declaration (names_in self.now.typedefs.now (R.types self.now.reader.now) (tables into.old) self.now.tokens.now.tokens) depth (drop at self.now.tokens.now.tokens)))) }
+        ensures ok { ReadsFrom self.now at (tables into.new) is_declaration result (λ ts. declared (declaration (known_names R.types self.now (tables into.old)) depth ts)) }
     {
-        let Some((node, end)) = declaration(
-            self.tokens,
-            at,
-            depth,
-            self.typedefs,
-            into,
-            self.reader,
-        )?
-        else {
+        let Some((node, end)) = self.declaration(at, depth, into)? else {
             return Ok(None);
         };
         if is_declaration(into, node) {
@@ -192,9 +196,9 @@ impl<R: TypeReader> Source<'_, R> {
         into: &mut Unit,
     ) -> Result<Option<(First, u32)>, NoMemory>
         requires place { at ≤ length self.now.tokens.now.tokens }
-        requires tied { AreTied (R.types self.now.reader.now) (tables into.old) self.now.tokens.now.tokens }
+        requires tied { AreKnown R.types self.now (tables into.old) }
         ensures keeps { Extends (tables into.old) (tables into.new) }
-        ensures ok { IfOk result (λ r. FirstAnswers (tables into.new) (names_in self.now.typedefs.now (R.types self.now.reader.now) (tables into.old) self.now.tokens.now.tokens) depth self.now.tokens.now.tokens r (drop at self.now.tokens.now.tokens)) }
+        ensures ok { IfOk result (λ r. FirstAnswers (tables into.new) (known_names R.types self.now (tables into.old)) depth self.now.tokens.now.tokens r (tokens_from self.now at)) }
     {
         if begins_type(self.tokens, self.typedefs, at) {
             match self.declared(at, depth, into)? {
@@ -218,9 +222,9 @@ impl<R: TypeReader> Source<'_, R> {
         into: &mut Unit,
     ) -> Result<Option<(ForHead, u32)>, NoMemory>
         requires place { at ≤ length self.now.tokens.now.tokens }
-        requires tied { AreTied (R.types self.now.reader.now) (tables into.old) self.now.tokens.now.tokens }
+        requires tied { AreKnown R.types self.now (tables into.old) }
         ensures keeps { Extends (tables into.old) (tables into.new) }
-        ensures ok { IfOk result (λ r. HeadAnswers (tables into.new) (names_in self.now.typedefs.now (R.types self.now.reader.now) (tables into.old) self.now.tokens.now.tokens) depth self.now.tokens.now.tokens r (drop at self.now.tokens.now.tokens)) }
+        ensures ok { IfOk result (λ r. HeadAnswers (tables into.new) (known_names R.types self.now (tables into.old)) depth self.now.tokens.now.tokens r (tokens_from self.now at)) }
     {
         let Some(inside) = after(self.tokens, at, Sign::OpenParen) else {
             return Ok(None);
@@ -249,9 +253,9 @@ impl<R: TypeReader> Source<'_, R> {
     #[tactic(auto, using(pv_tree::proofs::Kept::extends_same))]
     fn label(&self, at: u32, depth: u32, into: &mut Unit) -> Result<Option<(NodeId, u32)>, NoMemory>
         requires place { at ≤ length self.now.tokens.now.tokens }
-        requires tied { AreTied (R.types self.now.reader.now) (tables into.old) self.now.tokens.now.tokens }
+        requires tied { AreKnown R.types self.now (tables into.old) }
         ensures keeps { Extends (tables into.old) (tables into.new) }
-        ensures ok { IfOk result (λ r. Answers (tables into.new) is_statement self.now.tokens.now.tokens r (label (names_in self.now.typedefs.now (R.types self.now.reader.now) (tables into.old) self.now.tokens.now.tokens) depth (drop at self.now.tokens.now.tokens))) }
+        ensures ok { ReadsFrom self.now at (tables into.new) is_statement result (label (known_names R.types self.now (tables into.old)) depth) }
     {
         let Some(token) = peek(self.tokens, at) else {
             return Ok(None);
@@ -283,9 +287,9 @@ impl<R: TypeReader> Source<'_, R> {
         into: &mut Unit,
     ) -> Result<(Vec<NodeId>, u32), NoMemory>
         requires place { at ≤ length self.now.tokens.now.tokens }
-        requires tied { AreTied (R.types self.now.reader.now) (tables into.old) self.now.tokens.now.tokens }
+        requires tied { AreKnown R.types self.now (tables into.old) }
         ensures keeps { Extends (tables into.old) (tables into.new) }
-        ensures ok { IfOk result (λ r. AreAnswered (tables into.new) is_statement self.now.tokens.now.tokens r.0.items r.1 (row (label (names_in self.now.typedefs.now (R.types self.now.reader.now) (tables into.old) self.now.tokens.now.tokens) depth) NoTrees (drop at self.now.tokens.now.tokens))) }
+        ensures ok { IfOk result (λ r. RowReads self.now at (tables into.new) is_statement r.0.items r.1 (row (label (known_names R.types self.now (tables into.old)) depth) NoTrees)) }
     {
         let mut labels = Vec::new(*self.typedefs.allocator());
         let mut next = at;

@@ -1,22 +1,19 @@
 //! Reading a statement from the left, with the statements within it.
-ghost use Rattle.std.specs.Prelude.{◌≡◌, ◌≤◌, length, drop, IfOk};
+ghost use Rattle.std.specs.Prelude.{◌≡◌, ◌≤◌, length, IfOk};
 ghost use Rattle.pv_tree.specs.Rows.{tables};
 ghost use Rattle.pv_tree.specs.Syntax.{NoTrees};
 ghost use Rattle.pv_tree.specs.Tables.{tree_at, is_expression, is_item, is_statement, Is, Extends};
-ghost use Rattle.pv_tree.specs.TypeNames.{AreTied};
-ghost use Rattle.pv_expr_forms.specs.Known.{names_in};
-ghost use Rattle.pv_decl_forms.specs.Answers.{Answers};
-ghost use Rattle.pv_decl_forms.specs.Rows.{AreAnswered};
 ghost use Rattle.pv_decl_forms.specs.Pieces.{row};
 ghost use Rattle.pv_stmt_forms.specs.Parts.{item_in, braced};
-ghost use Rattle.pv_stmt_forms.specs.Statements.{statement, selection, chosen, loop, do_loop, for_loop, switch, labelled, Statements, SwitchBlocks, readers};
+ghost use Rattle.pv_stmt_forms.specs.Statements.{statement, selection, chosen, loop, do_loop, for_loop, switch, labelled, SwitchBlocks, readers};
+ghost use Rattle.pv_stmt.specs.Sources.{known_names, AreKnown, ReadsFrom, RowReads, statements_within};
 
 use crate::nodes::ends_open;
 use crate::source::Source;
-use pv_expr_forms::{begins_type, peek};
+use pv_expr_forms::{begins_type, line_at, peek};
 use pv_stmt_forms::{
     Sign, StatementForm, Within, after, block_of, for_node, form_of, found_before, found_statement,
-    labelled_of, line_at,
+    labelled_of,
 };
 use pv_token::NoMemory;
 use pv_tree::{NodeId, Stmt, TypeReader, Unit};
@@ -32,9 +29,9 @@ impl<R: TypeReader> Source<'_, R> {
         into: &mut Unit,
     ) -> Result<Option<(NodeId, u32)>, NoMemory>
         requires place { at ≤ length self.now.tokens.now.tokens }
-        requires tied { AreTied (R.types self.now.reader.now) (tables into.old) self.now.tokens.now.tokens }
+        requires tied { AreKnown R.types self.now (tables into.old) }
         ensures keeps { Extends (tables into.old) (tables into.new) }
-        ensures ok { IfOk result (λ r. Answers (tables into.new) is_statement self.now.tokens.now.tokens r (statement (names_in self.now.typedefs.now (R.types self.now.reader.now) (tables into.old) self.now.tokens.now.tokens) depth (drop at self.now.tokens.now.tokens))) }
+        ensures ok { ReadsFrom self.now at (tables into.new) is_statement result (statement (known_names R.types self.now (tables into.old)) depth) }
     {
         if depth == 0 {
             return Ok(None);
@@ -78,9 +75,9 @@ impl<R: TypeReader> Source<'_, R> {
         into: &mut Unit,
     ) -> Result<Option<(NodeId, u32)>, NoMemory>
         requires place { at ≤ length self.now.tokens.now.tokens }
-        requires tied { AreTied (R.types self.now.reader.now) (tables into.old) self.now.tokens.now.tokens }
+        requires tied { AreKnown R.types self.now (tables into.old) }
         ensures keeps { Extends (tables into.old) (tables into.new) }
-        ensures ok { IfOk result (λ r. Answers (tables into.new) is_statement self.now.tokens.now.tokens r (selection (names_in self.now.typedefs.now (R.types self.now.reader.now) (tables into.old) self.now.tokens.now.tokens) below (readers (names_in self.now.typedefs.now (R.types self.now.reader.now) (tables into.old) self.now.tokens.now.tokens) below Statements) line (drop at self.now.tokens.now.tokens))) }
+        ensures ok { ReadsFrom self.now at (tables into.new) is_statement result (selection (known_names R.types self.now (tables into.old)) below (statements_within R.types self.now (tables into.old) below) line) }
     {
         let Some((condition, next)) = self.condition(at, below, into)? else {
             return Ok(None);
@@ -104,11 +101,12 @@ impl<R: TypeReader> Source<'_, R> {
         into: &mut Unit,
     ) -> Result<Option<(NodeId, u32)>, NoMemory>
         requires place { at ≤ length self.now.tokens.now.tokens }
-        requires tied { AreTied (R.types self.now.reader.now) (tables into.old) self.now.tokens.now.tokens }
+        requires tied { AreKnown R.types self.now (tables into.old) }
         requires condition { Is (tables into.old) is_expression condition }
         requires body { Is (tables into.old) is_statement body }
         ensures keeps { Extends (tables into.old) (tables into.new) }
-        ensures ok { IfOk result (λ r. Answers (tables into.new) is_statement self.now.tokens.now.tokens r (chosen (readers (names_in self.now.typedefs.now (R.types self.now.reader.now) (tables into.old) self.now.tokens.now.tokens) below Statements) line (tree_at (tables into.old).forest condition) (tree_at (tables into.old).forest body) (drop at self.now.tokens.now.tokens))) }
+        ensures ok { ReadsFrom self.now at (tables into.new) is_statement result
+            (chosen (statements_within R.types self.now (tables into.old) below) line (tree_at (tables into.old).forest condition) (tree_at (tables into.old).forest body)) }
     {
         let alone = Stmt::If(condition, body);
         let Some(next) = after(self.tokens, at, Sign::Else) else {
@@ -136,9 +134,9 @@ impl<R: TypeReader> Source<'_, R> {
         into: &mut Unit,
     ) -> Result<Option<(NodeId, u32)>, NoMemory>
         requires place { at ≤ length self.now.tokens.now.tokens }
-        requires tied { AreTied (R.types self.now.reader.now) (tables into.old) self.now.tokens.now.tokens }
+        requires tied { AreKnown R.types self.now (tables into.old) }
         ensures keeps { Extends (tables into.old) (tables into.new) }
-        ensures ok { IfOk result (λ r. Answers (tables into.new) is_statement self.now.tokens.now.tokens r (loop (names_in self.now.typedefs.now (R.types self.now.reader.now) (tables into.old) self.now.tokens.now.tokens) below (readers (names_in self.now.typedefs.now (R.types self.now.reader.now) (tables into.old) self.now.tokens.now.tokens) below Statements) line (drop at self.now.tokens.now.tokens))) }
+        ensures ok { ReadsFrom self.now at (tables into.new) is_statement result (loop (known_names R.types self.now (tables into.old)) below (statements_within R.types self.now (tables into.old) below) line) }
     {
         let Some((condition, next)) = self.condition(at, below, into)? else {
             return Ok(None);
@@ -161,9 +159,9 @@ impl<R: TypeReader> Source<'_, R> {
         into: &mut Unit,
     ) -> Result<Option<(NodeId, u32)>, NoMemory>
         requires place { at ≤ length self.now.tokens.now.tokens }
-        requires tied { AreTied (R.types self.now.reader.now) (tables into.old) self.now.tokens.now.tokens }
+        requires tied { AreKnown R.types self.now (tables into.old) }
         ensures keeps { Extends (tables into.old) (tables into.new) }
-        ensures ok { IfOk result (λ r. Answers (tables into.new) is_statement self.now.tokens.now.tokens r (do_loop (names_in self.now.typedefs.now (R.types self.now.reader.now) (tables into.old) self.now.tokens.now.tokens) below (readers (names_in self.now.typedefs.now (R.types self.now.reader.now) (tables into.old) self.now.tokens.now.tokens) below Statements) line (drop at self.now.tokens.now.tokens))) }
+        ensures ok { ReadsFrom self.now at (tables into.new) is_statement result (do_loop (known_names R.types self.now (tables into.old)) below (statements_within R.types self.now (tables into.old) below) line) }
     {
         let Some((body, next)) = self.statement(at, below, into)? else {
             return Ok(None);
@@ -190,9 +188,9 @@ impl<R: TypeReader> Source<'_, R> {
         into: &mut Unit,
     ) -> Result<Option<(NodeId, u32)>, NoMemory>
         requires place { at ≤ length self.now.tokens.now.tokens }
-        requires tied { AreTied (R.types self.now.reader.now) (tables into.old) self.now.tokens.now.tokens }
+        requires tied { AreKnown R.types self.now (tables into.old) }
         ensures keeps { Extends (tables into.old) (tables into.new) }
-        ensures ok { IfOk result (λ r. Answers (tables into.new) is_statement self.now.tokens.now.tokens r (for_loop (names_in self.now.typedefs.now (R.types self.now.reader.now) (tables into.old) self.now.tokens.now.tokens) below (readers (names_in self.now.typedefs.now (R.types self.now.reader.now) (tables into.old) self.now.tokens.now.tokens) below Statements) line (drop at self.now.tokens.now.tokens))) }
+        ensures ok { ReadsFrom self.now at (tables into.new) is_statement result (for_loop (known_names R.types self.now (tables into.old)) below (statements_within R.types self.now (tables into.old) below) line) }
     {
         let Some((head, next)) = self.for_head(at, below, into)? else {
             return Ok(None);
@@ -215,9 +213,9 @@ impl<R: TypeReader> Source<'_, R> {
         into: &mut Unit,
     ) -> Result<Option<(NodeId, u32)>, NoMemory>
         requires place { at ≤ length self.now.tokens.now.tokens }
-        requires tied { AreTied (R.types self.now.reader.now) (tables into.old) self.now.tokens.now.tokens }
+        requires tied { AreKnown R.types self.now (tables into.old) }
         ensures keeps { Extends (tables into.old) (tables into.new) }
-        ensures ok { IfOk result (λ r. Answers (tables into.new) is_statement self.now.tokens.now.tokens r (switch (names_in self.now.typedefs.now (R.types self.now.reader.now) (tables into.old) self.now.tokens.now.tokens) below (readers (names_in self.now.typedefs.now (R.types self.now.reader.now) (tables into.old) self.now.tokens.now.tokens) below SwitchBlocks) line (drop at self.now.tokens.now.tokens))) }
+        ensures ok { ReadsFrom self.now at (tables into.new) is_statement result (switch (known_names R.types self.now (tables into.old)) below (readers (known_names R.types self.now (tables into.old)) below SwitchBlocks) line) }
     {
         let Some((value, next)) = self.condition(at, below, into)? else {
             return Ok(None);
@@ -248,9 +246,9 @@ impl<R: TypeReader> Source<'_, R> {
         into: &mut Unit,
     ) -> Result<Option<(NodeId, u32)>, NoMemory>
         requires place { at ≤ length self.now.tokens.now.tokens }
-        requires tied { AreTied (R.types self.now.reader.now) (tables into.old) self.now.tokens.now.tokens }
+        requires tied { AreKnown R.types self.now (tables into.old) }
         ensures keeps { Extends (tables into.old) (tables into.new) }
-        ensures ok { IfOk result (λ r. Answers (tables into.new) is_statement self.now.tokens.now.tokens r (braced within (names_in self.now.typedefs.now (R.types self.now.reader.now) (tables into.old) self.now.tokens.now.tokens) below line (drop at self.now.tokens.now.tokens))) }
+        ensures ok { ReadsFrom self.now at (tables into.new) is_statement result (braced within (known_names R.types self.now (tables into.old)) below line) }
     {
         let (items, end) = self.items(at, within, below, into)?;
         block_of(self.tokens, end, within, &items, line, into)
@@ -266,9 +264,9 @@ impl<R: TypeReader> Source<'_, R> {
         into: &mut Unit,
     ) -> Result<(Vec<NodeId>, u32), NoMemory>
         requires place { at ≤ length self.now.tokens.now.tokens }
-        requires tied { AreTied (R.types self.now.reader.now) (tables into.old) self.now.tokens.now.tokens }
+        requires tied { AreKnown R.types self.now (tables into.old) }
         ensures keeps { Extends (tables into.old) (tables into.new) }
-        ensures ok { IfOk result (λ r. AreAnswered (tables into.new) is_item self.now.tokens.now.tokens r.0.items r.1 (row (item_in within (names_in self.now.typedefs.now (R.types self.now.reader.now) (tables into.old) self.now.tokens.now.tokens) depth) NoTrees (drop at self.now.tokens.now.tokens))) }
+        ensures ok { IfOk result (λ r. RowReads self.now at (tables into.new) is_item r.0.items r.1 (row (item_in within (known_names R.types self.now (tables into.old)) depth) NoTrees)) }
     {
         let mut items = Vec::new(*self.typedefs.allocator());
         let mut next = at;
@@ -291,9 +289,9 @@ impl<R: TypeReader> Source<'_, R> {
         into: &mut Unit,
     ) -> Result<Option<(NodeId, u32)>, NoMemory>
         requires place { at ≤ length self.now.tokens.now.tokens }
-        requires tied { AreTied (R.types self.now.reader.now) (tables into.old) self.now.tokens.now.tokens }
+        requires tied { AreKnown R.types self.now (tables into.old) }
         ensures keeps { Extends (tables into.old) (tables into.new) }
-        ensures ok { IfOk result (λ r. Answers (tables into.new) is_item self.now.tokens.now.tokens r (item_in within (names_in self.now.typedefs.now (R.types self.now.reader.now) (tables into.old) self.now.tokens.now.tokens) depth (drop at self.now.tokens.now.tokens))) }
+        ensures ok { ReadsFrom self.now at (tables into.new) is_item result (item_in within (known_names R.types self.now (tables into.old)) depth) }
     {
         if begins_type(self.tokens, self.typedefs, at) {
             return self.declared(at, depth, into);
@@ -313,9 +311,9 @@ impl<R: TypeReader> Source<'_, R> {
         into: &mut Unit,
     ) -> Result<Option<(NodeId, u32)>, NoMemory>
         requires place { at ≤ length self.now.tokens.now.tokens }
-        requires tied { AreTied (R.types self.now.reader.now) (tables into.old) self.now.tokens.now.tokens }
+        requires tied { AreKnown R.types self.now (tables into.old) }
         ensures keeps { Extends (tables into.old) (tables into.new) }
-        ensures ok { IfOk result (λ r. Answers (tables into.new) is_statement self.now.tokens.now.tokens r (labelled (names_in self.now.typedefs.now (R.types self.now.reader.now) (tables into.old) self.now.tokens.now.tokens) depth (readers (names_in self.now.typedefs.now (R.types self.now.reader.now) (tables into.old) self.now.tokens.now.tokens) depth Statements) (drop at self.now.tokens.now.tokens))) }
+        ensures ok { ReadsFrom self.now at (tables into.new) is_statement result (labelled (known_names R.types self.now (tables into.old)) depth (statements_within R.types self.now (tables into.old) depth)) }
     {
         let line = line_at(self.tokens, at);
         let (labels, next) = self.labels(at, depth, into)?;

@@ -5,7 +5,6 @@ use Rattle.pv_tree.specs.Rows.{tables}
 use Rattle.pv_tree.specs.Syntax.{Tree, Trees, OfStatement, DoWhile, While, NoTrees, Switch}
 use Rattle.pv_tree.specs.Tables.{tree_at, as_statement, as_expression, statement_at, is_expression, is_declaration, is_statement, is_item, trees_of, Is}
 use Rattle.pv_tree.proofs.Kept.{extends_same, extends_then, tree_kept, is_kept}
-use Rattle.pv_expr_forms.specs.Known.{names_in}
 use Rattle.pv_expr_forms.proofs.Naming.{tied_kept, names_kept}
 use Rattle.pv_expr_forms.specs.Reader.{after}
 use Rattle.pv_decl_forms.specs.Pieces.{is_semicolon, row}
@@ -25,70 +24,71 @@ use Rattle.pv_tree.specs.declared.nodes.NodeId.{NodeId}
 use Rattle.pv_stmt_forms.specs.declared.forms.StatementForm.TheVariants as form
 use Rattle.pv_stmt_forms.specs.declared.forms.Within.TheVariants as within
 use Rattle.pv_decl_forms.proofs.Growing.{all_as}
+use Rattle.pv_stmt.specs.Sources.{known_names}
 use Rattle.pv_stmt.proofs.source.Source.+reading.Goals as goal
 
 pub statement-returns-then-depth-eq0-clause-keeps : goal.statement-returns-then-depth-eq0-clause-keeps
 statement-returns-then-depth-eq0-clause-keeps g t c = extends_same _
 
 pub statement-returns-then-depth-eq0-clause-ok : goal.statement-returns-then-depth-eq0-clause-ok
-statement-returns-then-depth-eq0-clause-ok g t c = nothing _ _ _ _ (statement_zero (names_in c.args.self.now.typedefs.now (g.R.TypeReader.types c.args.self.now.reader.now) (tables c.args.into.now) c.args.self.now.tokens.now.tokens) c.args.depth (drop c.args.at c.args.self.now.tokens.now.tokens) c.if-depth-eq0.true)
+statement-returns-then-depth-eq0-clause-ok g t c = nothing _ _ _ _ (statement_zero (known_names g.R.TypeReader.types c.args.self.now (tables c.args.into.now)) c.args.depth (drop c.args.at c.args.self.now.tokens.now.tokens) c.if-depth-eq0.true)
 
 pub statement-returns-in_default-clause-keeps : goal.statement-returns-in_default-clause-keeps
 statement-returns-in_default-clause-keeps g t c = extends_same _
 
 pub statement-returns-in_default-clause-ok : goal.statement-returns-in_default-clause-ok
-statement-returns-in_default-clause-ok g t c = nothing _ _ _ _ (statement_end (names_in c.args.self.now.typedefs.now (g.R.TypeReader.types c.args.self.now.reader.now) (tables c.args.into.now) c.args.self.now.tokens.now.tokens) c.args.depth (drop c.args.at c.args.self.now.tokens.now.tokens) (omega arith) c.in_default.ensures)
+statement-returns-in_default-clause-ok g t c = nothing _ _ _ _ (statement_end (known_names g.R.TypeReader.types c.args.self.now (tables c.args.into.now)) c.args.depth (drop c.args.at c.args.self.now.tokens.now.tokens) (omega arith) c.in_default.ensures)
 
 pub statement-returns-in-Braces-clause-ok : goal.statement-returns-in-Braces-clause-ok
-statement-returns-in-Braces-clause-ok g t c = moved _ _ _ _ _ _ (begun (names_in c.args.self.now.typedefs.now (g.R.TypeReader.types c.args.self.now.reader.now) (tables c.args.into.now) c.args.self.now.tokens.now.tokens) c.args.depth (drop c.args.at c.args.self.now.tokens.now.tokens) c.in-Some.token (drop (c.args.at + 1) c.args.self.now.tokens.now.tokens) form.Braces (omega arith) c.in-Some.ensures.0 (sym c.form_of.ensures ∙ c.in-Braces.is)) c.braced.ensures.ok
+statement-returns-in-Braces-clause-ok g t c = moved _ _ _ _ _ _ (begun (known_names g.R.TypeReader.types c.args.self.now (tables c.args.into.now)) c.args.depth (drop c.args.at c.args.self.now.tokens.now.tokens) c.in-Some.token (drop (c.args.at + 1) c.args.self.now.tokens.now.tokens) form.Braces (omega arith) c.in-Some.ensures.0 (sym c.form_of.ensures ∙ c.in-Braces.is)) c.braced.ensures.ok
 
 pub statement-returns-in-If-clause-ok : goal.statement-returns-in-If-clause-ok
-statement-returns-in-If-clause-ok g t c = moved _ _ _ _ _ _ (begun (names_in c.args.self.now.typedefs.now (g.R.TypeReader.types c.args.self.now.reader.now) (tables c.args.into.now) c.args.self.now.tokens.now.tokens) c.args.depth (drop c.args.at c.args.self.now.tokens.now.tokens) c.in-Some.token (drop (c.args.at + 1) c.args.self.now.tokens.now.tokens) form.If (omega arith) c.in-Some.ensures.0 (sym c.form_of.ensures ∙ c.in-If.is)) c.selection.ensures.ok
+statement-returns-in-If-clause-ok g t c = moved _ _ _ _ _ _ (begun (known_names g.R.TypeReader.types c.args.self.now (tables c.args.into.now)) c.args.depth (drop c.args.at c.args.self.now.tokens.now.tokens) c.in-Some.token (drop (c.args.at + 1) c.args.self.now.tokens.now.tokens) form.If (omega arith) c.in-Some.ensures.0 (sym c.form_of.ensures ∙ c.in-If.is)) c.selection.ensures.ok
 
 pub statement-returns-in-While-clause-ok : goal.statement-returns-in-While-clause-ok
-statement-returns-in-While-clause-ok g t c = moved _ _ _ _ _ _ (begun (names_in c.args.self.now.typedefs.now (g.R.TypeReader.types c.args.self.now.reader.now) (tables c.args.into.now) c.args.self.now.tokens.now.tokens) c.args.depth (drop c.args.at c.args.self.now.tokens.now.tokens) c.in-Some.token (drop (c.args.at + 1) c.args.self.now.tokens.now.tokens) form.While (omega arith) c.in-Some.ensures.0 (sym c.form_of.ensures ∙ c.in-While.is)) c.while_loop.ensures.ok
+statement-returns-in-While-clause-ok g t c = moved _ _ _ _ _ _ (begun (known_names g.R.TypeReader.types c.args.self.now (tables c.args.into.now)) c.args.depth (drop c.args.at c.args.self.now.tokens.now.tokens) c.in-Some.token (drop (c.args.at + 1) c.args.self.now.tokens.now.tokens) form.While (omega arith) c.in-Some.ensures.0 (sym c.form_of.ensures ∙ c.in-While.is)) c.while_loop.ensures.ok
 
 pub statement-returns-in-Do-clause-ok : goal.statement-returns-in-Do-clause-ok
-statement-returns-in-Do-clause-ok g t c = moved _ _ _ _ _ _ (begun (names_in c.args.self.now.typedefs.now (g.R.TypeReader.types c.args.self.now.reader.now) (tables c.args.into.now) c.args.self.now.tokens.now.tokens) c.args.depth (drop c.args.at c.args.self.now.tokens.now.tokens) c.in-Some.token (drop (c.args.at + 1) c.args.self.now.tokens.now.tokens) form.Do (omega arith) c.in-Some.ensures.0 (sym c.form_of.ensures ∙ c.in-Do.is)) c.do_loop.ensures.ok
+statement-returns-in-Do-clause-ok g t c = moved _ _ _ _ _ _ (begun (known_names g.R.TypeReader.types c.args.self.now (tables c.args.into.now)) c.args.depth (drop c.args.at c.args.self.now.tokens.now.tokens) c.in-Some.token (drop (c.args.at + 1) c.args.self.now.tokens.now.tokens) form.Do (omega arith) c.in-Some.ensures.0 (sym c.form_of.ensures ∙ c.in-Do.is)) c.do_loop.ensures.ok
 
 pub statement-returns-in-For-clause-ok : goal.statement-returns-in-For-clause-ok
-statement-returns-in-For-clause-ok g t c = moved _ _ _ _ _ _ (begun (names_in c.args.self.now.typedefs.now (g.R.TypeReader.types c.args.self.now.reader.now) (tables c.args.into.now) c.args.self.now.tokens.now.tokens) c.args.depth (drop c.args.at c.args.self.now.tokens.now.tokens) c.in-Some.token (drop (c.args.at + 1) c.args.self.now.tokens.now.tokens) form.For (omega arith) c.in-Some.ensures.0 (sym c.form_of.ensures ∙ c.in-For.is)) c.for_loop.ensures.ok
+statement-returns-in-For-clause-ok g t c = moved _ _ _ _ _ _ (begun (known_names g.R.TypeReader.types c.args.self.now (tables c.args.into.now)) c.args.depth (drop c.args.at c.args.self.now.tokens.now.tokens) c.in-Some.token (drop (c.args.at + 1) c.args.self.now.tokens.now.tokens) form.For (omega arith) c.in-Some.ensures.0 (sym c.form_of.ensures ∙ c.in-For.is)) c.for_loop.ensures.ok
 
 pub statement-returns-in-Switch-clause-ok : goal.statement-returns-in-Switch-clause-ok
-statement-returns-in-Switch-clause-ok g t c = moved _ _ _ _ _ _ (begun (names_in c.args.self.now.typedefs.now (g.R.TypeReader.types c.args.self.now.reader.now) (tables c.args.into.now) c.args.self.now.tokens.now.tokens) c.args.depth (drop c.args.at c.args.self.now.tokens.now.tokens) c.in-Some.token (drop (c.args.at + 1) c.args.self.now.tokens.now.tokens) form.Switch (omega arith) c.in-Some.ensures.0 (sym c.form_of.ensures ∙ c.in-Switch.is)) c.switch.ensures.ok
+statement-returns-in-Switch-clause-ok g t c = moved _ _ _ _ _ _ (begun (known_names g.R.TypeReader.types c.args.self.now (tables c.args.into.now)) c.args.depth (drop c.args.at c.args.self.now.tokens.now.tokens) c.in-Some.token (drop (c.args.at + 1) c.args.self.now.tokens.now.tokens) form.Switch (omega arith) c.in-Some.ensures.0 (sym c.form_of.ensures ∙ c.in-Switch.is)) c.switch.ensures.ok
 
 pub statement-returns-in-Break-clause-ok : goal.statement-returns-in-Break-clause-ok
-statement-returns-in-Break-clause-ok g t c = moved _ _ _ _ _ _ (begun (names_in c.args.self.now.typedefs.now (g.R.TypeReader.types c.args.self.now.reader.now) (tables c.args.into.now) c.args.self.now.tokens.now.tokens) c.args.depth (drop c.args.at c.args.self.now.tokens.now.tokens) c.in-Some.token (drop (c.args.at + 1) c.args.self.now.tokens.now.tokens) form.Break (omega arith) c.in-Some.ensures.0 (sym c.form_of.ensures ∙ c.in-Break.is)) c.found_before.ensures.ok
+statement-returns-in-Break-clause-ok g t c = moved _ _ _ _ _ _ (begun (known_names g.R.TypeReader.types c.args.self.now (tables c.args.into.now)) c.args.depth (drop c.args.at c.args.self.now.tokens.now.tokens) c.in-Some.token (drop (c.args.at + 1) c.args.self.now.tokens.now.tokens) form.Break (omega arith) c.in-Some.ensures.0 (sym c.form_of.ensures ∙ c.in-Break.is)) c.found_before.ensures.ok
 
 pub statement-returns-in-Continue-clause-ok : goal.statement-returns-in-Continue-clause-ok
-statement-returns-in-Continue-clause-ok g t c = moved _ _ _ _ _ _ (begun (names_in c.args.self.now.typedefs.now (g.R.TypeReader.types c.args.self.now.reader.now) (tables c.args.into.now) c.args.self.now.tokens.now.tokens) c.args.depth (drop c.args.at c.args.self.now.tokens.now.tokens) c.in-Some.token (drop (c.args.at + 1) c.args.self.now.tokens.now.tokens) form.Continue (omega arith) c.in-Some.ensures.0 (sym c.form_of.ensures ∙ c.in-Continue.is)) c.found_before-in-Continue.ensures.ok
+statement-returns-in-Continue-clause-ok g t c = moved _ _ _ _ _ _ (begun (known_names g.R.TypeReader.types c.args.self.now (tables c.args.into.now)) c.args.depth (drop c.args.at c.args.self.now.tokens.now.tokens) c.in-Some.token (drop (c.args.at + 1) c.args.self.now.tokens.now.tokens) form.Continue (omega arith) c.in-Some.ensures.0 (sym c.form_of.ensures ∙ c.in-Continue.is)) c.found_before-in-Continue.ensures.ok
 
 pub statement-returns-in-Return-clause-ok : goal.statement-returns-in-Return-clause-ok
-statement-returns-in-Return-clause-ok g t c = moved _ _ _ _ _ _ (begun (names_in c.args.self.now.typedefs.now (g.R.TypeReader.types c.args.self.now.reader.now) (tables c.args.into.now) c.args.self.now.tokens.now.tokens) c.args.depth (drop c.args.at c.args.self.now.tokens.now.tokens) c.in-Some.token (drop (c.args.at + 1) c.args.self.now.tokens.now.tokens) form.Return (omega arith) c.in-Some.ensures.0 (sym c.form_of.ensures ∙ c.in-Return.is)) c.returned.ensures.ok
+statement-returns-in-Return-clause-ok g t c = moved _ _ _ _ _ _ (begun (known_names g.R.TypeReader.types c.args.self.now (tables c.args.into.now)) c.args.depth (drop c.args.at c.args.self.now.tokens.now.tokens) c.in-Some.token (drop (c.args.at + 1) c.args.self.now.tokens.now.tokens) form.Return (omega arith) c.in-Some.ensures.0 (sym c.form_of.ensures ∙ c.in-Return.is)) c.returned.ensures.ok
 
 pub statement-returns-in-Plain-clause-ok : goal.statement-returns-in-Plain-clause-ok
-statement-returns-in-Plain-clause-ok g t c = moved _ _ _ _ _ _ (begun (names_in c.args.self.now.typedefs.now (g.R.TypeReader.types c.args.self.now.reader.now) (tables c.args.into.now) c.args.self.now.tokens.now.tokens) c.args.depth (drop c.args.at c.args.self.now.tokens.now.tokens) c.in-Some.token (drop (c.args.at + 1) c.args.self.now.tokens.now.tokens) form.Plain (omega arith) c.in-Some.ensures.0 (sym c.form_of.ensures ∙ c.in-Plain.is)) c.plain.ensures.ok
+statement-returns-in-Plain-clause-ok g t c = moved _ _ _ _ _ _ (begun (known_names g.R.TypeReader.types c.args.self.now (tables c.args.into.now)) c.args.depth (drop c.args.at c.args.self.now.tokens.now.tokens) c.in-Some.token (drop (c.args.at + 1) c.args.self.now.tokens.now.tokens) form.Plain (omega arith) c.in-Some.ensures.0 (sym c.form_of.ensures ∙ c.in-Plain.is)) c.plain.ensures.ok
 
 pub selection-returns-in_default-clause-ok : goal.selection-returns-in_default-clause-ok
-selection-returns-in_default-clause-ok g t c = nothing _ _ _ _ (selection_shut (names_in c.args.self.now.typedefs.now (g.R.TypeReader.types c.args.self.now.reader.now) (tables c.args.into.now) c.args.self.now.tokens.now.tokens) c.args.below c.args.line (readers (names_in c.args.self.now.typedefs.now (g.R.TypeReader.types c.args.self.now.reader.now) (tables c.args.into.now) c.args.self.now.tokens.now.tokens) c.args.below Statements) (drop c.args.at c.args.self.now.tokens.now.tokens) (first_none (tables c.condition.new.into) is_expression c.args.self.now.tokens.now.tokens c.in_ok-condition.field-0 (condition (names_in c.args.self.now.typedefs.now (g.R.TypeReader.types c.args.self.now.reader.now) (tables c.args.into.now) c.args.self.now.tokens.now.tokens) c.args.below (drop c.args.at c.args.self.now.tokens.now.tokens)) c.in_ok-condition.ensures.ok c.in_default.is))
+selection-returns-in_default-clause-ok g t c = nothing _ _ _ _ (selection_shut (known_names g.R.TypeReader.types c.args.self.now (tables c.args.into.now)) c.args.below c.args.line (readers (known_names g.R.TypeReader.types c.args.self.now (tables c.args.into.now)) c.args.below Statements) (drop c.args.at c.args.self.now.tokens.now.tokens) (first_none (tables c.condition.new.into) is_expression c.args.self.now.tokens.now.tokens c.in_ok-condition.field-0 (condition (known_names g.R.TypeReader.types c.args.self.now (tables c.args.into.now)) c.args.below (drop c.args.at c.args.self.now.tokens.now.tokens)) c.in_ok-condition.ensures.ok c.in_default.is))
 
 pub selection-statement-requires : goal.selection-statement-requires
 selection-statement-requires g t c κs within =
-    let place = (there_of (tables c.condition.new.into) is_expression c.args.self.now.tokens.now.tokens c.in_ok-condition.field-0 (condition (names_in c.args.self.now.typedefs.now (g.R.TypeReader.types c.args.self.now.reader.now) (tables c.args.into.now) c.args.self.now.tokens.now.tokens) c.args.below (drop c.args.at c.args.self.now.tokens.now.tokens)) c.in_ok-condition.ensures.ok c.in-Some.condition c.in-Some.next c.in-Some.is).1 in
+    let place = (there_of (tables c.condition.new.into) is_expression c.args.self.now.tokens.now.tokens c.in_ok-condition.field-0 (condition (known_names g.R.TypeReader.types c.args.self.now (tables c.args.into.now)) c.args.below (drop c.args.at c.args.self.now.tokens.now.tokens)) c.in_ok-condition.ensures.ok c.in-Some.condition c.in-Some.next c.in-Some.is).1 in
     let tied = tied_kept (g.R.TypeReader.types c.args.self.now.reader.now) (tables c.args.into.now) (tables c.condition.new.into) c.args.self.now.tokens.now.tokens c.requires.tied c.condition.ensures.keeps in
     (omega arith, (within, (place, tied)))
 
 pub selection-returns-in-None-clause-ok : goal.selection-returns-in-None-clause-ok
-selection-returns-in-None-clause-ok g t c = nothing _ _ _ _ (selection_none (names_in c.args.self.now.typedefs.now (g.R.TypeReader.types c.args.self.now.reader.now) (tables c.args.into.now) c.args.self.now.tokens.now.tokens) c.args.below c.args.line (readers (names_in c.args.self.now.typedefs.now (g.R.TypeReader.types c.args.self.now.reader.now) (tables c.args.into.now) c.args.self.now.tokens.now.tokens) c.args.below Statements) (drop c.args.at c.args.self.now.tokens.now.tokens) (tree_at (tables c.condition.new.into).forest c.in-Some.condition, (drop c.in-Some.next c.args.self.now.tokens.now.tokens)) (first_some (tables c.condition.new.into) is_expression c.args.self.now.tokens.now.tokens c.in_ok-condition.field-0 (condition (names_in c.args.self.now.typedefs.now (g.R.TypeReader.types c.args.self.now.reader.now) (tables c.args.into.now) c.args.self.now.tokens.now.tokens) c.args.below (drop c.args.at c.args.self.now.tokens.now.tokens)) c.in_ok-condition.ensures.ok c.in-Some.condition c.in-Some.next c.in-Some.is) (later_none c.args.self.now.typedefs.now (g.R.TypeReader.types c.args.self.now.reader.now) (tables c.args.into.now) (tables c.condition.new.into) (tables c.statement.new.into) c.args.self.now.tokens.now.tokens c.requires.tied c.condition.ensures.keeps is_statement c.in_ok-body.field-0 (λ (n : Names). readers n c.args.below Statements (drop c.in-Some.next c.args.self.now.tokens.now.tokens)) c.in_ok-body.ensures.ok c.in-None.is))
+selection-returns-in-None-clause-ok g t c = nothing _ _ _ _ (selection_none (known_names g.R.TypeReader.types c.args.self.now (tables c.args.into.now)) c.args.below c.args.line (readers (known_names g.R.TypeReader.types c.args.self.now (tables c.args.into.now)) c.args.below Statements) (drop c.args.at c.args.self.now.tokens.now.tokens) (tree_at (tables c.condition.new.into).forest c.in-Some.condition, (drop c.in-Some.next c.args.self.now.tokens.now.tokens)) (first_some (tables c.condition.new.into) is_expression c.args.self.now.tokens.now.tokens c.in_ok-condition.field-0 (condition (known_names g.R.TypeReader.types c.args.self.now (tables c.args.into.now)) c.args.below (drop c.args.at c.args.self.now.tokens.now.tokens)) c.in_ok-condition.ensures.ok c.in-Some.condition c.in-Some.next c.in-Some.is) (later_none c.args.self.now.typedefs.now (g.R.TypeReader.types c.args.self.now.reader.now) (tables c.args.into.now) (tables c.condition.new.into) (tables c.statement.new.into) c.args.self.now.tokens.now.tokens c.requires.tied c.condition.ensures.keeps is_statement c.in_ok-body.field-0 (λ (n : Names). readers n c.args.below Statements (drop c.in-Some.next c.args.self.now.tokens.now.tokens)) c.in_ok-body.ensures.ok c.in-None.is))
 
 pub selection-chosen-requires : goal.selection-chosen-requires
 selection-chosen-requires g t c κs within =
-    let place = (there_of (tables c.statement.new.into) is_statement c.args.self.now.tokens.now.tokens c.in_ok-body.field-0 (readers (names_in c.args.self.now.typedefs.now (g.R.TypeReader.types c.args.self.now.reader.now) (tables c.condition.new.into) c.args.self.now.tokens.now.tokens) c.args.below Statements (drop c.in-Some.next c.args.self.now.tokens.now.tokens)) c.in_ok-body.ensures.ok c.in-Some-2.body c.in-Some-2.end c.in-Some-2.is).1 in
+    let place = (there_of (tables c.statement.new.into) is_statement c.args.self.now.tokens.now.tokens c.in_ok-body.field-0 (readers (known_names g.R.TypeReader.types c.args.self.now (tables c.condition.new.into)) c.args.below Statements (drop c.in-Some.next c.args.self.now.tokens.now.tokens)) c.in_ok-body.ensures.ok c.in-Some-2.body c.in-Some-2.end c.in-Some-2.is).1 in
     let tied = tied_kept (g.R.TypeReader.types c.args.self.now.reader.now) (tables c.args.into.now) (tables c.statement.new.into) c.args.self.now.tokens.now.tokens c.requires.tied (extends_then (tables c.args.into.now) (tables c.condition.new.into) (tables c.statement.new.into) c.condition.ensures.keeps c.statement.ensures.keeps) in
-    let condition = is_kept (tables c.condition.new.into) (tables c.statement.new.into) is_expression c.in-Some.condition c.statement.ensures.keeps (there_of (tables c.condition.new.into) is_expression c.args.self.now.tokens.now.tokens c.in_ok-condition.field-0 (condition (names_in c.args.self.now.typedefs.now (g.R.TypeReader.types c.args.self.now.reader.now) (tables c.args.into.now) c.args.self.now.tokens.now.tokens) c.args.below (drop c.args.at c.args.self.now.tokens.now.tokens)) c.in_ok-condition.ensures.ok c.in-Some.condition c.in-Some.next c.in-Some.is).0 in
+    let condition = is_kept (tables c.condition.new.into) (tables c.statement.new.into) is_expression c.in-Some.condition c.statement.ensures.keeps (there_of (tables c.condition.new.into) is_expression c.args.self.now.tokens.now.tokens c.in_ok-condition.field-0 (condition (known_names g.R.TypeReader.types c.args.self.now (tables c.args.into.now)) c.args.below (drop c.args.at c.args.self.now.tokens.now.tokens)) c.in_ok-condition.ensures.ok c.in-Some.condition c.in-Some.next c.in-Some.is).0 in
     let condition_number = condition.0 in
     let condition_kind = condition.1 in
-    let body = (there_of (tables c.statement.new.into) is_statement c.args.self.now.tokens.now.tokens c.in_ok-body.field-0 (readers (names_in c.args.self.now.typedefs.now (g.R.TypeReader.types c.args.self.now.reader.now) (tables c.condition.new.into) c.args.self.now.tokens.now.tokens) c.args.below Statements (drop c.in-Some.next c.args.self.now.tokens.now.tokens)) c.in_ok-body.ensures.ok c.in-Some-2.body c.in-Some-2.end c.in-Some-2.is).0 in
+    let body = (there_of (tables c.statement.new.into) is_statement c.args.self.now.tokens.now.tokens c.in_ok-body.field-0 (readers (known_names g.R.TypeReader.types c.args.self.now (tables c.condition.new.into)) c.args.below Statements (drop c.in-Some.next c.args.self.now.tokens.now.tokens)) c.in_ok-body.ensures.ok c.in-Some-2.body c.in-Some-2.end c.in-Some-2.is).0 in
     let body_number = body.0 in
     let body_kind = body.1 in
     (omega arith, (within, (place, (tied, (condition, body)))))
@@ -96,90 +96,90 @@ selection-chosen-requires g t c κs within =
 pub selection-returns-in-Some-2-clause-ok : goal.selection-returns-in-Some-2-clause-ok
 selection-returns-in-Some-2-clause-ok g t c = moved _ _ _ _ _ _
     (ap (λ (n : Names). chosen (readers n c.args.below Statements) c.args.line (tree_at (tables c.statement.new.into).forest c.in-Some.condition) (tree_at (tables c.statement.new.into).forest c.in-Some-2.body) (drop c.in-Some-2.end c.args.self.now.tokens.now.tokens)) (names_kept c.args.self.now.typedefs.now (g.R.TypeReader.types c.args.self.now.reader.now) (tables c.args.into.now) (tables c.statement.new.into) c.args.self.now.tokens.now.tokens c.requires.tied (extends_then (tables c.args.into.now) (tables c.condition.new.into) (tables c.statement.new.into) c.condition.ensures.keeps c.statement.ensures.keeps))
-    ∙ ap (λ (t : Tree). chosen (readers (names_in c.args.self.now.typedefs.now (g.R.TypeReader.types c.args.self.now.reader.now) (tables c.args.into.now) c.args.self.now.tokens.now.tokens) c.args.below Statements) c.args.line t (tree_at (tables c.statement.new.into).forest c.in-Some-2.body) (drop c.in-Some-2.end c.args.self.now.tokens.now.tokens)) (tree_kept (tables c.condition.new.into) (tables c.statement.new.into) c.in-Some.condition c.statement.ensures.keeps (there_of (tables c.condition.new.into) is_expression c.args.self.now.tokens.now.tokens c.in_ok-condition.field-0 (condition (names_in c.args.self.now.typedefs.now (g.R.TypeReader.types c.args.self.now.reader.now) (tables c.args.into.now) c.args.self.now.tokens.now.tokens) c.args.below (drop c.args.at c.args.self.now.tokens.now.tokens)) c.in_ok-condition.ensures.ok c.in-Some.condition c.in-Some.next c.in-Some.is).0.0)
-    ∙ selection_so (names_in c.args.self.now.typedefs.now (g.R.TypeReader.types c.args.self.now.reader.now) (tables c.args.into.now) c.args.self.now.tokens.now.tokens) c.args.below c.args.line (readers (names_in c.args.self.now.typedefs.now (g.R.TypeReader.types c.args.self.now.reader.now) (tables c.args.into.now) c.args.self.now.tokens.now.tokens) c.args.below Statements) (drop c.args.at c.args.self.now.tokens.now.tokens) (tree_at (tables c.condition.new.into).forest c.in-Some.condition, (drop c.in-Some.next c.args.self.now.tokens.now.tokens)) (first_some (tables c.condition.new.into) is_expression c.args.self.now.tokens.now.tokens c.in_ok-condition.field-0 (condition (names_in c.args.self.now.typedefs.now (g.R.TypeReader.types c.args.self.now.reader.now) (tables c.args.into.now) c.args.self.now.tokens.now.tokens) c.args.below (drop c.args.at c.args.self.now.tokens.now.tokens)) c.in_ok-condition.ensures.ok c.in-Some.condition c.in-Some.next c.in-Some.is) (tree_at (tables c.statement.new.into).forest c.in-Some-2.body, (drop c.in-Some-2.end c.args.self.now.tokens.now.tokens)) (later_some c.args.self.now.typedefs.now (g.R.TypeReader.types c.args.self.now.reader.now) (tables c.args.into.now) (tables c.condition.new.into) (tables c.statement.new.into) c.args.self.now.tokens.now.tokens c.requires.tied c.condition.ensures.keeps is_statement c.in_ok-body.field-0 (λ (n : Names). readers n c.args.below Statements (drop c.in-Some.next c.args.self.now.tokens.now.tokens)) c.in_ok-body.ensures.ok c.in-Some-2.body c.in-Some-2.end c.in-Some-2.is)) c.chosen.ensures.ok
+    ∙ ap (λ (t : Tree). chosen (readers (known_names g.R.TypeReader.types c.args.self.now (tables c.args.into.now)) c.args.below Statements) c.args.line t (tree_at (tables c.statement.new.into).forest c.in-Some-2.body) (drop c.in-Some-2.end c.args.self.now.tokens.now.tokens)) (tree_kept (tables c.condition.new.into) (tables c.statement.new.into) c.in-Some.condition c.statement.ensures.keeps (there_of (tables c.condition.new.into) is_expression c.args.self.now.tokens.now.tokens c.in_ok-condition.field-0 (condition (known_names g.R.TypeReader.types c.args.self.now (tables c.args.into.now)) c.args.below (drop c.args.at c.args.self.now.tokens.now.tokens)) c.in_ok-condition.ensures.ok c.in-Some.condition c.in-Some.next c.in-Some.is).0.0)
+    ∙ selection_so (known_names g.R.TypeReader.types c.args.self.now (tables c.args.into.now)) c.args.below c.args.line (readers (known_names g.R.TypeReader.types c.args.self.now (tables c.args.into.now)) c.args.below Statements) (drop c.args.at c.args.self.now.tokens.now.tokens) (tree_at (tables c.condition.new.into).forest c.in-Some.condition, (drop c.in-Some.next c.args.self.now.tokens.now.tokens)) (first_some (tables c.condition.new.into) is_expression c.args.self.now.tokens.now.tokens c.in_ok-condition.field-0 (condition (known_names g.R.TypeReader.types c.args.self.now (tables c.args.into.now)) c.args.below (drop c.args.at c.args.self.now.tokens.now.tokens)) c.in_ok-condition.ensures.ok c.in-Some.condition c.in-Some.next c.in-Some.is) (tree_at (tables c.statement.new.into).forest c.in-Some-2.body, (drop c.in-Some-2.end c.args.self.now.tokens.now.tokens)) (later_some c.args.self.now.typedefs.now (g.R.TypeReader.types c.args.self.now.reader.now) (tables c.args.into.now) (tables c.condition.new.into) (tables c.statement.new.into) c.args.self.now.tokens.now.tokens c.requires.tied c.condition.ensures.keeps is_statement c.in_ok-body.field-0 (λ (n : Names). readers n c.args.below Statements (drop c.in-Some.next c.args.self.now.tokens.now.tokens)) c.in_ok-body.ensures.ok c.in-Some-2.body c.in-Some-2.end c.in-Some-2.is)) c.chosen.ensures.ok
 
 pub while_loop-returns-in_default-clause-ok : goal.while_loop-returns-in_default-clause-ok
-while_loop-returns-in_default-clause-ok g t c = nothing _ _ _ _ (loop_shut (names_in c.args.self.now.typedefs.now (g.R.TypeReader.types c.args.self.now.reader.now) (tables c.args.into.now) c.args.self.now.tokens.now.tokens) c.args.below c.args.line (readers (names_in c.args.self.now.typedefs.now (g.R.TypeReader.types c.args.self.now.reader.now) (tables c.args.into.now) c.args.self.now.tokens.now.tokens) c.args.below Statements) (drop c.args.at c.args.self.now.tokens.now.tokens) (first_none (tables c.condition.new.into) is_expression c.args.self.now.tokens.now.tokens c.in_ok-condition.field-0 (condition (names_in c.args.self.now.typedefs.now (g.R.TypeReader.types c.args.self.now.reader.now) (tables c.args.into.now) c.args.self.now.tokens.now.tokens) c.args.below (drop c.args.at c.args.self.now.tokens.now.tokens)) c.in_ok-condition.ensures.ok c.in_default.is))
+while_loop-returns-in_default-clause-ok g t c = nothing _ _ _ _ (loop_shut (known_names g.R.TypeReader.types c.args.self.now (tables c.args.into.now)) c.args.below c.args.line (readers (known_names g.R.TypeReader.types c.args.self.now (tables c.args.into.now)) c.args.below Statements) (drop c.args.at c.args.self.now.tokens.now.tokens) (first_none (tables c.condition.new.into) is_expression c.args.self.now.tokens.now.tokens c.in_ok-condition.field-0 (condition (known_names g.R.TypeReader.types c.args.self.now (tables c.args.into.now)) c.args.below (drop c.args.at c.args.self.now.tokens.now.tokens)) c.in_ok-condition.ensures.ok c.in_default.is))
 
 pub while_loop-statement-requires : goal.while_loop-statement-requires
 while_loop-statement-requires g t c κs within =
-    let place = (there_of (tables c.condition.new.into) is_expression c.args.self.now.tokens.now.tokens c.in_ok-condition.field-0 (condition (names_in c.args.self.now.typedefs.now (g.R.TypeReader.types c.args.self.now.reader.now) (tables c.args.into.now) c.args.self.now.tokens.now.tokens) c.args.below (drop c.args.at c.args.self.now.tokens.now.tokens)) c.in_ok-condition.ensures.ok c.in-Some.condition c.in-Some.next c.in-Some.is).1 in
+    let place = (there_of (tables c.condition.new.into) is_expression c.args.self.now.tokens.now.tokens c.in_ok-condition.field-0 (condition (known_names g.R.TypeReader.types c.args.self.now (tables c.args.into.now)) c.args.below (drop c.args.at c.args.self.now.tokens.now.tokens)) c.in_ok-condition.ensures.ok c.in-Some.condition c.in-Some.next c.in-Some.is).1 in
     let tied = tied_kept (g.R.TypeReader.types c.args.self.now.reader.now) (tables c.args.into.now) (tables c.condition.new.into) c.args.self.now.tokens.now.tokens c.requires.tied c.condition.ensures.keeps in
     (omega arith, (within, (place, tied)))
 
 pub while_loop-returns-in-None-clause-ok : goal.while_loop-returns-in-None-clause-ok
-while_loop-returns-in-None-clause-ok g t c = nothing _ _ _ _ (loop_none (names_in c.args.self.now.typedefs.now (g.R.TypeReader.types c.args.self.now.reader.now) (tables c.args.into.now) c.args.self.now.tokens.now.tokens) c.args.below c.args.line (readers (names_in c.args.self.now.typedefs.now (g.R.TypeReader.types c.args.self.now.reader.now) (tables c.args.into.now) c.args.self.now.tokens.now.tokens) c.args.below Statements) (drop c.args.at c.args.self.now.tokens.now.tokens) (tree_at (tables c.condition.new.into).forest c.in-Some.condition, (drop c.in-Some.next c.args.self.now.tokens.now.tokens)) (first_some (tables c.condition.new.into) is_expression c.args.self.now.tokens.now.tokens c.in_ok-condition.field-0 (condition (names_in c.args.self.now.typedefs.now (g.R.TypeReader.types c.args.self.now.reader.now) (tables c.args.into.now) c.args.self.now.tokens.now.tokens) c.args.below (drop c.args.at c.args.self.now.tokens.now.tokens)) c.in_ok-condition.ensures.ok c.in-Some.condition c.in-Some.next c.in-Some.is) (later_none c.args.self.now.typedefs.now (g.R.TypeReader.types c.args.self.now.reader.now) (tables c.args.into.now) (tables c.condition.new.into) (tables c.statement.new.into) c.args.self.now.tokens.now.tokens c.requires.tied c.condition.ensures.keeps is_statement c.in_ok-body.field-0 (λ (n : Names). readers n c.args.below Statements (drop c.in-Some.next c.args.self.now.tokens.now.tokens)) c.in_ok-body.ensures.ok c.in-None.is))
+while_loop-returns-in-None-clause-ok g t c = nothing _ _ _ _ (loop_none (known_names g.R.TypeReader.types c.args.self.now (tables c.args.into.now)) c.args.below c.args.line (readers (known_names g.R.TypeReader.types c.args.self.now (tables c.args.into.now)) c.args.below Statements) (drop c.args.at c.args.self.now.tokens.now.tokens) (tree_at (tables c.condition.new.into).forest c.in-Some.condition, (drop c.in-Some.next c.args.self.now.tokens.now.tokens)) (first_some (tables c.condition.new.into) is_expression c.args.self.now.tokens.now.tokens c.in_ok-condition.field-0 (condition (known_names g.R.TypeReader.types c.args.self.now (tables c.args.into.now)) c.args.below (drop c.args.at c.args.self.now.tokens.now.tokens)) c.in_ok-condition.ensures.ok c.in-Some.condition c.in-Some.next c.in-Some.is) (later_none c.args.self.now.typedefs.now (g.R.TypeReader.types c.args.self.now.reader.now) (tables c.args.into.now) (tables c.condition.new.into) (tables c.statement.new.into) c.args.self.now.tokens.now.tokens c.requires.tied c.condition.ensures.keeps is_statement c.in_ok-body.field-0 (λ (n : Names). readers n c.args.below Statements (drop c.in-Some.next c.args.self.now.tokens.now.tokens)) c.in_ok-body.ensures.ok c.in-None.is))
 
 pub while_loop-found_statement-requires-clause-place : goal.while_loop-found_statement-requires-clause-place
-while_loop-found_statement-requires-clause-place g t c = (there_of (tables c.statement.new.into) is_statement c.args.self.now.tokens.now.tokens c.in_ok-body.field-0 (readers (names_in c.args.self.now.typedefs.now (g.R.TypeReader.types c.args.self.now.reader.now) (tables c.condition.new.into) c.args.self.now.tokens.now.tokens) c.args.below Statements (drop c.in-Some.next c.args.self.now.tokens.now.tokens)) c.in_ok-body.ensures.ok c.in-Some-2.body c.in-Some-2.end c.in-Some-2.is).1
+while_loop-found_statement-requires-clause-place g t c = (there_of (tables c.statement.new.into) is_statement c.args.self.now.tokens.now.tokens c.in_ok-body.field-0 (readers (known_names g.R.TypeReader.types c.args.self.now (tables c.condition.new.into)) c.args.below Statements (drop c.in-Some.next c.args.self.now.tokens.now.tokens)) c.in_ok-body.ensures.ok c.in-Some-2.body c.in-Some-2.end c.in-Some-2.is).1
 
 pub while_loop-found_statement-requires-clause-children : goal.while_loop-found_statement-requires-clause-children
-while_loop-found_statement-requires-clause-children g t c = (is_kept (tables c.condition.new.into) (tables c.statement.new.into) is_expression c.in-Some.condition c.statement.ensures.keeps (there_of (tables c.condition.new.into) is_expression c.args.self.now.tokens.now.tokens c.in_ok-condition.field-0 (condition (names_in c.args.self.now.typedefs.now (g.R.TypeReader.types c.args.self.now.reader.now) (tables c.args.into.now) c.args.self.now.tokens.now.tokens) c.args.below (drop c.args.at c.args.self.now.tokens.now.tokens)) c.in_ok-condition.ensures.ok c.in-Some.condition c.in-Some.next c.in-Some.is).0, (there_of (tables c.statement.new.into) is_statement c.args.self.now.tokens.now.tokens c.in_ok-body.field-0 (readers (names_in c.args.self.now.typedefs.now (g.R.TypeReader.types c.args.self.now.reader.now) (tables c.condition.new.into) c.args.self.now.tokens.now.tokens) c.args.below Statements (drop c.in-Some.next c.args.self.now.tokens.now.tokens)) c.in_ok-body.ensures.ok c.in-Some-2.body c.in-Some-2.end c.in-Some-2.is).0)
+while_loop-found_statement-requires-clause-children g t c = (is_kept (tables c.condition.new.into) (tables c.statement.new.into) is_expression c.in-Some.condition c.statement.ensures.keeps (there_of (tables c.condition.new.into) is_expression c.args.self.now.tokens.now.tokens c.in_ok-condition.field-0 (condition (known_names g.R.TypeReader.types c.args.self.now (tables c.args.into.now)) c.args.below (drop c.args.at c.args.self.now.tokens.now.tokens)) c.in_ok-condition.ensures.ok c.in-Some.condition c.in-Some.next c.in-Some.is).0, (there_of (tables c.statement.new.into) is_statement c.args.self.now.tokens.now.tokens c.in_ok-body.field-0 (readers (known_names g.R.TypeReader.types c.args.self.now (tables c.condition.new.into)) c.args.below Statements (drop c.in-Some.next c.args.self.now.tokens.now.tokens)) c.in_ok-body.ensures.ok c.in-Some-2.body c.in-Some-2.end c.in-Some-2.is).0)
 
 pub while_loop-returns-in-Some-2-clause-ok : goal.while_loop-returns-in-Some-2-clause-ok
 while_loop-returns-in-Some-2-clause-ok g t c = moved _ _ _ _ _ _
-    (ap (λ (t : Tree). let x : Tree × List Token = (OfStatement (While c.args.line (as_expression t) (statement_at (tables c.statement.new.into).forest c.in-Some-2.body)), (drop c.in-Some-2.end c.args.self.now.tokens.now.tokens)) in Some x) (tree_kept (tables c.condition.new.into) (tables c.statement.new.into) c.in-Some.condition c.statement.ensures.keeps (there_of (tables c.condition.new.into) is_expression c.args.self.now.tokens.now.tokens c.in_ok-condition.field-0 (condition (names_in c.args.self.now.typedefs.now (g.R.TypeReader.types c.args.self.now.reader.now) (tables c.args.into.now) c.args.self.now.tokens.now.tokens) c.args.below (drop c.args.at c.args.self.now.tokens.now.tokens)) c.in_ok-condition.ensures.ok c.in-Some.condition c.in-Some.next c.in-Some.is).0.0)
-    ∙ loop_so (names_in c.args.self.now.typedefs.now (g.R.TypeReader.types c.args.self.now.reader.now) (tables c.args.into.now) c.args.self.now.tokens.now.tokens) c.args.below c.args.line (readers (names_in c.args.self.now.typedefs.now (g.R.TypeReader.types c.args.self.now.reader.now) (tables c.args.into.now) c.args.self.now.tokens.now.tokens) c.args.below Statements) (drop c.args.at c.args.self.now.tokens.now.tokens) (tree_at (tables c.condition.new.into).forest c.in-Some.condition, (drop c.in-Some.next c.args.self.now.tokens.now.tokens)) (first_some (tables c.condition.new.into) is_expression c.args.self.now.tokens.now.tokens c.in_ok-condition.field-0 (condition (names_in c.args.self.now.typedefs.now (g.R.TypeReader.types c.args.self.now.reader.now) (tables c.args.into.now) c.args.self.now.tokens.now.tokens) c.args.below (drop c.args.at c.args.self.now.tokens.now.tokens)) c.in_ok-condition.ensures.ok c.in-Some.condition c.in-Some.next c.in-Some.is) (tree_at (tables c.statement.new.into).forest c.in-Some-2.body, (drop c.in-Some-2.end c.args.self.now.tokens.now.tokens)) (later_some c.args.self.now.typedefs.now (g.R.TypeReader.types c.args.self.now.reader.now) (tables c.args.into.now) (tables c.condition.new.into) (tables c.statement.new.into) c.args.self.now.tokens.now.tokens c.requires.tied c.condition.ensures.keeps is_statement c.in_ok-body.field-0 (λ (n : Names). readers n c.args.below Statements (drop c.in-Some.next c.args.self.now.tokens.now.tokens)) c.in_ok-body.ensures.ok c.in-Some-2.body c.in-Some-2.end c.in-Some-2.is)) c.found_statement.ensures.ok
+    (ap (λ (t : Tree). let x : Tree × List Token = (OfStatement (While c.args.line (as_expression t) (statement_at (tables c.statement.new.into).forest c.in-Some-2.body)), (drop c.in-Some-2.end c.args.self.now.tokens.now.tokens)) in Some x) (tree_kept (tables c.condition.new.into) (tables c.statement.new.into) c.in-Some.condition c.statement.ensures.keeps (there_of (tables c.condition.new.into) is_expression c.args.self.now.tokens.now.tokens c.in_ok-condition.field-0 (condition (known_names g.R.TypeReader.types c.args.self.now (tables c.args.into.now)) c.args.below (drop c.args.at c.args.self.now.tokens.now.tokens)) c.in_ok-condition.ensures.ok c.in-Some.condition c.in-Some.next c.in-Some.is).0.0)
+    ∙ loop_so (known_names g.R.TypeReader.types c.args.self.now (tables c.args.into.now)) c.args.below c.args.line (readers (known_names g.R.TypeReader.types c.args.self.now (tables c.args.into.now)) c.args.below Statements) (drop c.args.at c.args.self.now.tokens.now.tokens) (tree_at (tables c.condition.new.into).forest c.in-Some.condition, (drop c.in-Some.next c.args.self.now.tokens.now.tokens)) (first_some (tables c.condition.new.into) is_expression c.args.self.now.tokens.now.tokens c.in_ok-condition.field-0 (condition (known_names g.R.TypeReader.types c.args.self.now (tables c.args.into.now)) c.args.below (drop c.args.at c.args.self.now.tokens.now.tokens)) c.in_ok-condition.ensures.ok c.in-Some.condition c.in-Some.next c.in-Some.is) (tree_at (tables c.statement.new.into).forest c.in-Some-2.body, (drop c.in-Some-2.end c.args.self.now.tokens.now.tokens)) (later_some c.args.self.now.typedefs.now (g.R.TypeReader.types c.args.self.now.reader.now) (tables c.args.into.now) (tables c.condition.new.into) (tables c.statement.new.into) c.args.self.now.tokens.now.tokens c.requires.tied c.condition.ensures.keeps is_statement c.in_ok-body.field-0 (λ (n : Names). readers n c.args.below Statements (drop c.in-Some.next c.args.self.now.tokens.now.tokens)) c.in_ok-body.ensures.ok c.in-Some-2.body c.in-Some-2.end c.in-Some-2.is)) c.found_statement.ensures.ok
 
 pub switch-returns-in_default-clause-ok : goal.switch-returns-in_default-clause-ok
-switch-returns-in_default-clause-ok g t c = nothing _ _ _ _ (switch_shut (names_in c.args.self.now.typedefs.now (g.R.TypeReader.types c.args.self.now.reader.now) (tables c.args.into.now) c.args.self.now.tokens.now.tokens) c.args.below c.args.line (readers (names_in c.args.self.now.typedefs.now (g.R.TypeReader.types c.args.self.now.reader.now) (tables c.args.into.now) c.args.self.now.tokens.now.tokens) c.args.below SwitchBlocks) (drop c.args.at c.args.self.now.tokens.now.tokens) (first_none (tables c.condition.new.into) is_expression c.args.self.now.tokens.now.tokens c.in_ok-value.field-0 (condition (names_in c.args.self.now.typedefs.now (g.R.TypeReader.types c.args.self.now.reader.now) (tables c.args.into.now) c.args.self.now.tokens.now.tokens) c.args.below (drop c.args.at c.args.self.now.tokens.now.tokens)) c.in_ok-value.ensures.ok c.in_default.is))
+switch-returns-in_default-clause-ok g t c = nothing _ _ _ _ (switch_shut (known_names g.R.TypeReader.types c.args.self.now (tables c.args.into.now)) c.args.below c.args.line (readers (known_names g.R.TypeReader.types c.args.self.now (tables c.args.into.now)) c.args.below SwitchBlocks) (drop c.args.at c.args.self.now.tokens.now.tokens) (first_none (tables c.condition.new.into) is_expression c.args.self.now.tokens.now.tokens c.in_ok-value.field-0 (condition (known_names g.R.TypeReader.types c.args.self.now (tables c.args.into.now)) c.args.below (drop c.args.at c.args.self.now.tokens.now.tokens)) c.in_ok-value.ensures.ok c.in_default.is))
 
 pub switch-returns-in-None-clause-ok : goal.switch-returns-in-None-clause-ok
-switch-returns-in-None-clause-ok g t c = nothing _ _ _ _ (switch_none (names_in c.args.self.now.typedefs.now (g.R.TypeReader.types c.args.self.now.reader.now) (tables c.args.into.now) c.args.self.now.tokens.now.tokens) c.args.below c.args.line (readers (names_in c.args.self.now.typedefs.now (g.R.TypeReader.types c.args.self.now.reader.now) (tables c.args.into.now) c.args.self.now.tokens.now.tokens) c.args.below SwitchBlocks) (drop c.args.at c.args.self.now.tokens.now.tokens) (tree_at (tables c.condition.new.into).forest c.in-Some.value, (drop c.in-Some.next c.args.self.now.tokens.now.tokens)) (first_some (tables c.condition.new.into) is_expression c.args.self.now.tokens.now.tokens c.in_ok-value.field-0 (condition (names_in c.args.self.now.typedefs.now (g.R.TypeReader.types c.args.self.now.reader.now) (tables c.args.into.now) c.args.self.now.tokens.now.tokens) c.args.below (drop c.args.at c.args.self.now.tokens.now.tokens)) c.in_ok-value.ensures.ok c.in-Some.value c.in-Some.next c.in-Some.is) (later_none c.args.self.now.typedefs.now (g.R.TypeReader.types c.args.self.now.reader.now) (tables c.args.into.now) (tables c.condition.new.into) (tables c.braced.new.into) c.args.self.now.tokens.now.tokens c.requires.tied c.condition.ensures.keeps is_statement c.in_ok-block.field-0 (λ (n : Names). readers n c.args.below SwitchBlocks (drop c.in-Some.next c.args.self.now.tokens.now.tokens)) (record { is = c.in_ok-block.ensures.ok.is ∙ ap (λ (l : ℕ). braced within.Switch (names_in c.args.self.now.typedefs.now (g.R.TypeReader.types c.args.self.now.reader.now) (tables c.condition.new.into) c.args.self.now.tokens.now.tokens) (c.args.below - 1) l (drop c.in-Some-after.inside c.args.self.now.tokens.now.tokens)) c.line_at-first.ensures ∙ switch_begun (names_in c.args.self.now.typedefs.now (g.R.TypeReader.types c.args.self.now.reader.now) (tables c.condition.new.into) c.args.self.now.tokens.now.tokens) c.args.below (drop c.in-Some.next c.args.self.now.tokens.now.tokens) (drop c.in-Some-after.inside c.args.self.now.tokens.now.tokens) (omega arith) c.in-Some-after.ensures.0; there = c.in_ok-block.ensures.ok.there }) c.in-None.is))
+switch-returns-in-None-clause-ok g t c = nothing _ _ _ _ (switch_none (known_names g.R.TypeReader.types c.args.self.now (tables c.args.into.now)) c.args.below c.args.line (readers (known_names g.R.TypeReader.types c.args.self.now (tables c.args.into.now)) c.args.below SwitchBlocks) (drop c.args.at c.args.self.now.tokens.now.tokens) (tree_at (tables c.condition.new.into).forest c.in-Some.value, (drop c.in-Some.next c.args.self.now.tokens.now.tokens)) (first_some (tables c.condition.new.into) is_expression c.args.self.now.tokens.now.tokens c.in_ok-value.field-0 (condition (known_names g.R.TypeReader.types c.args.self.now (tables c.args.into.now)) c.args.below (drop c.args.at c.args.self.now.tokens.now.tokens)) c.in_ok-value.ensures.ok c.in-Some.value c.in-Some.next c.in-Some.is) (later_none c.args.self.now.typedefs.now (g.R.TypeReader.types c.args.self.now.reader.now) (tables c.args.into.now) (tables c.condition.new.into) (tables c.braced.new.into) c.args.self.now.tokens.now.tokens c.requires.tied c.condition.ensures.keeps is_statement c.in_ok-block.field-0 (λ (n : Names). readers n c.args.below SwitchBlocks (drop c.in-Some.next c.args.self.now.tokens.now.tokens)) (record { is = c.in_ok-block.ensures.ok.is ∙ ap (λ (l : ℕ). braced within.Switch (known_names g.R.TypeReader.types c.args.self.now (tables c.condition.new.into)) (c.args.below - 1) l (drop c.in-Some-after.inside c.args.self.now.tokens.now.tokens)) c.line_at-first.ensures ∙ switch_begun (known_names g.R.TypeReader.types c.args.self.now (tables c.condition.new.into)) c.args.below (drop c.in-Some.next c.args.self.now.tokens.now.tokens) (drop c.in-Some-after.inside c.args.self.now.tokens.now.tokens) (omega arith) c.in-Some-after.ensures.0; there = c.in_ok-block.ensures.ok.there }) c.in-None.is))
 
 pub switch-found_statement-requires-clause-place : goal.switch-found_statement-requires-clause-place
 switch-found_statement-requires-clause-place g t c = (there_of (tables c.braced.new.into) is_statement c.args.self.now.tokens.now.tokens c.in_ok-block.field-0 _ c.in_ok-block.ensures.ok c.in-Some-2.block c.in-Some-2.end c.in-Some-2.is).1
 
 pub switch-found_statement-requires-clause-children : goal.switch-found_statement-requires-clause-children
-switch-found_statement-requires-clause-children g t c = (is_kept (tables c.condition.new.into) (tables c.braced.new.into) is_expression c.in-Some.value c.braced.ensures.keeps (there_of (tables c.condition.new.into) is_expression c.args.self.now.tokens.now.tokens c.in_ok-value.field-0 (condition (names_in c.args.self.now.typedefs.now (g.R.TypeReader.types c.args.self.now.reader.now) (tables c.args.into.now) c.args.self.now.tokens.now.tokens) c.args.below (drop c.args.at c.args.self.now.tokens.now.tokens)) c.in_ok-value.ensures.ok c.in-Some.value c.in-Some.next c.in-Some.is).0, (there_of (tables c.braced.new.into) is_statement c.args.self.now.tokens.now.tokens c.in_ok-block.field-0 _ c.in_ok-block.ensures.ok c.in-Some-2.block c.in-Some-2.end c.in-Some-2.is).0)
+switch-found_statement-requires-clause-children g t c = (is_kept (tables c.condition.new.into) (tables c.braced.new.into) is_expression c.in-Some.value c.braced.ensures.keeps (there_of (tables c.condition.new.into) is_expression c.args.self.now.tokens.now.tokens c.in_ok-value.field-0 (condition (known_names g.R.TypeReader.types c.args.self.now (tables c.args.into.now)) c.args.below (drop c.args.at c.args.self.now.tokens.now.tokens)) c.in_ok-value.ensures.ok c.in-Some.value c.in-Some.next c.in-Some.is).0, (there_of (tables c.braced.new.into) is_statement c.args.self.now.tokens.now.tokens c.in_ok-block.field-0 _ c.in_ok-block.ensures.ok c.in-Some-2.block c.in-Some-2.end c.in-Some-2.is).0)
 
 pub switch-returns-in-Some-2-clause-ok : goal.switch-returns-in-Some-2-clause-ok
 switch-returns-in-Some-2-clause-ok g t c = moved _ _ _ _ _ _
-    (ap (λ (t : Tree). let x : Tree × List Token = (OfStatement (Switch c.args.line (as_expression t) (statement_at (tables c.braced.new.into).forest c.in-Some-2.block)), (drop c.in-Some-2.end c.args.self.now.tokens.now.tokens)) in Some x) (tree_kept (tables c.condition.new.into) (tables c.braced.new.into) c.in-Some.value c.braced.ensures.keeps (there_of (tables c.condition.new.into) is_expression c.args.self.now.tokens.now.tokens c.in_ok-value.field-0 (condition (names_in c.args.self.now.typedefs.now (g.R.TypeReader.types c.args.self.now.reader.now) (tables c.args.into.now) c.args.self.now.tokens.now.tokens) c.args.below (drop c.args.at c.args.self.now.tokens.now.tokens)) c.in_ok-value.ensures.ok c.in-Some.value c.in-Some.next c.in-Some.is).0.0)
-    ∙ switch_so (names_in c.args.self.now.typedefs.now (g.R.TypeReader.types c.args.self.now.reader.now) (tables c.args.into.now) c.args.self.now.tokens.now.tokens) c.args.below c.args.line (readers (names_in c.args.self.now.typedefs.now (g.R.TypeReader.types c.args.self.now.reader.now) (tables c.args.into.now) c.args.self.now.tokens.now.tokens) c.args.below SwitchBlocks) (drop c.args.at c.args.self.now.tokens.now.tokens) (tree_at (tables c.condition.new.into).forest c.in-Some.value, (drop c.in-Some.next c.args.self.now.tokens.now.tokens)) (first_some (tables c.condition.new.into) is_expression c.args.self.now.tokens.now.tokens c.in_ok-value.field-0 (condition (names_in c.args.self.now.typedefs.now (g.R.TypeReader.types c.args.self.now.reader.now) (tables c.args.into.now) c.args.self.now.tokens.now.tokens) c.args.below (drop c.args.at c.args.self.now.tokens.now.tokens)) c.in_ok-value.ensures.ok c.in-Some.value c.in-Some.next c.in-Some.is) (tree_at (tables c.braced.new.into).forest c.in-Some-2.block, (drop c.in-Some-2.end c.args.self.now.tokens.now.tokens)) (later_some c.args.self.now.typedefs.now (g.R.TypeReader.types c.args.self.now.reader.now) (tables c.args.into.now) (tables c.condition.new.into) (tables c.braced.new.into) c.args.self.now.tokens.now.tokens c.requires.tied c.condition.ensures.keeps is_statement c.in_ok-block.field-0 (λ (n : Names). readers n c.args.below SwitchBlocks (drop c.in-Some.next c.args.self.now.tokens.now.tokens)) (record { is = c.in_ok-block.ensures.ok.is ∙ ap (λ (l : ℕ). braced within.Switch (names_in c.args.self.now.typedefs.now (g.R.TypeReader.types c.args.self.now.reader.now) (tables c.condition.new.into) c.args.self.now.tokens.now.tokens) (c.args.below - 1) l (drop c.in-Some-after.inside c.args.self.now.tokens.now.tokens)) c.line_at-first.ensures ∙ switch_begun (names_in c.args.self.now.typedefs.now (g.R.TypeReader.types c.args.self.now.reader.now) (tables c.condition.new.into) c.args.self.now.tokens.now.tokens) c.args.below (drop c.in-Some.next c.args.self.now.tokens.now.tokens) (drop c.in-Some-after.inside c.args.self.now.tokens.now.tokens) (omega arith) c.in-Some-after.ensures.0; there = c.in_ok-block.ensures.ok.there }) c.in-Some-2.block c.in-Some-2.end c.in-Some-2.is)) c.found_statement.ensures.ok
+    (ap (λ (t : Tree). let x : Tree × List Token = (OfStatement (Switch c.args.line (as_expression t) (statement_at (tables c.braced.new.into).forest c.in-Some-2.block)), (drop c.in-Some-2.end c.args.self.now.tokens.now.tokens)) in Some x) (tree_kept (tables c.condition.new.into) (tables c.braced.new.into) c.in-Some.value c.braced.ensures.keeps (there_of (tables c.condition.new.into) is_expression c.args.self.now.tokens.now.tokens c.in_ok-value.field-0 (condition (known_names g.R.TypeReader.types c.args.self.now (tables c.args.into.now)) c.args.below (drop c.args.at c.args.self.now.tokens.now.tokens)) c.in_ok-value.ensures.ok c.in-Some.value c.in-Some.next c.in-Some.is).0.0)
+    ∙ switch_so (known_names g.R.TypeReader.types c.args.self.now (tables c.args.into.now)) c.args.below c.args.line (readers (known_names g.R.TypeReader.types c.args.self.now (tables c.args.into.now)) c.args.below SwitchBlocks) (drop c.args.at c.args.self.now.tokens.now.tokens) (tree_at (tables c.condition.new.into).forest c.in-Some.value, (drop c.in-Some.next c.args.self.now.tokens.now.tokens)) (first_some (tables c.condition.new.into) is_expression c.args.self.now.tokens.now.tokens c.in_ok-value.field-0 (condition (known_names g.R.TypeReader.types c.args.self.now (tables c.args.into.now)) c.args.below (drop c.args.at c.args.self.now.tokens.now.tokens)) c.in_ok-value.ensures.ok c.in-Some.value c.in-Some.next c.in-Some.is) (tree_at (tables c.braced.new.into).forest c.in-Some-2.block, (drop c.in-Some-2.end c.args.self.now.tokens.now.tokens)) (later_some c.args.self.now.typedefs.now (g.R.TypeReader.types c.args.self.now.reader.now) (tables c.args.into.now) (tables c.condition.new.into) (tables c.braced.new.into) c.args.self.now.tokens.now.tokens c.requires.tied c.condition.ensures.keeps is_statement c.in_ok-block.field-0 (λ (n : Names). readers n c.args.below SwitchBlocks (drop c.in-Some.next c.args.self.now.tokens.now.tokens)) (record { is = c.in_ok-block.ensures.ok.is ∙ ap (λ (l : ℕ). braced within.Switch (known_names g.R.TypeReader.types c.args.self.now (tables c.condition.new.into)) (c.args.below - 1) l (drop c.in-Some-after.inside c.args.self.now.tokens.now.tokens)) c.line_at-first.ensures ∙ switch_begun (known_names g.R.TypeReader.types c.args.self.now (tables c.condition.new.into)) c.args.below (drop c.in-Some.next c.args.self.now.tokens.now.tokens) (drop c.in-Some-after.inside c.args.self.now.tokens.now.tokens) (omega arith) c.in-Some-after.ensures.0; there = c.in_ok-block.ensures.ok.there }) c.in-Some-2.block c.in-Some-2.end c.in-Some-2.is)) c.found_statement.ensures.ok
 
 pub chosen-returns-in_default-clause-ok : goal.chosen-returns-in_default-clause-ok
-chosen-returns-in_default-clause-ok g t c = moved _ _ _ _ _ _ (chosen_plain (readers (names_in c.args.self.now.typedefs.now (g.R.TypeReader.types c.args.self.now.reader.now) (tables c.args.into.now) c.args.self.now.tokens.now.tokens) c.args.below Statements) c.args.line (tree_at (tables c.args.into.now).forest c.args.condition) (tree_at (tables c.args.into.now).forest c.args.body) (drop c.args.at c.args.self.now.tokens.now.tokens) c.in_default.ensures) c.found_statement.ensures.ok
+chosen-returns-in_default-clause-ok g t c = moved _ _ _ _ _ _ (chosen_plain (readers (known_names g.R.TypeReader.types c.args.self.now (tables c.args.into.now)) c.args.below Statements) c.args.line (tree_at (tables c.args.into.now).forest c.args.condition) (tree_at (tables c.args.into.now).forest c.args.body) (drop c.args.at c.args.self.now.tokens.now.tokens) c.in_default.ensures) c.found_statement.ensures.ok
 
 pub chosen-returns-then-ends_open-clause-ok : goal.chosen-returns-then-ends_open-clause-ok
-chosen-returns-then-ends_open-clause-ok g t c = moved _ _ _ _ _ _ (chosen_open (readers (names_in c.args.self.now.typedefs.now (g.R.TypeReader.types c.args.self.now.reader.now) (tables c.args.into.now) c.args.self.now.tokens.now.tokens) c.args.below Statements) c.args.line (tree_at (tables c.args.into.now).forest c.args.condition) (tree_at (tables c.args.into.now).forest c.args.body) (drop c.args.at c.args.self.now.tokens.now.tokens) (sym c.ends_open.ensures ∙ c.if-ends_open.true)) c.found_statement-then-ends_open.ensures.ok
+chosen-returns-then-ends_open-clause-ok g t c = moved _ _ _ _ _ _ (chosen_open (readers (known_names g.R.TypeReader.types c.args.self.now (tables c.args.into.now)) c.args.below Statements) c.args.line (tree_at (tables c.args.into.now).forest c.args.condition) (tree_at (tables c.args.into.now).forest c.args.body) (drop c.args.at c.args.self.now.tokens.now.tokens) (sym c.ends_open.ensures ∙ c.if-ends_open.true)) c.found_statement-then-ends_open.ensures.ok
 
 pub chosen-returns-in-Some-2-clause-ok : goal.chosen-returns-in-Some-2-clause-ok
-chosen-returns-in-Some-2-clause-ok g t c = moved _ _ _ _ _ _ (both_kept (tables c.args.into.now) (tables c.statement.new.into) c.statement.ensures.keeps c.args.line c.args.condition c.args.body c.requires.condition c.requires.body (drop c.in-Some-2.end c.args.self.now.tokens.now.tokens) (tree_at (tables c.statement.new.into).forest c.in-Some-2.other) ∙ chosen_both (readers (names_in c.args.self.now.typedefs.now (g.R.TypeReader.types c.args.self.now.reader.now) (tables c.args.into.now) c.args.self.now.tokens.now.tokens) c.args.below Statements) c.args.line (tree_at (tables c.args.into.now).forest c.args.condition) (tree_at (tables c.args.into.now).forest c.args.body) (drop c.args.at c.args.self.now.tokens.now.tokens) (drop c.in-Some.next c.args.self.now.tokens.now.tokens) c.in-Some.ensures.0 (tree_at (tables c.statement.new.into).forest c.in-Some-2.other, (drop c.in-Some-2.end c.args.self.now.tokens.now.tokens)) (sym c.ends_open.ensures ∙ c.if-ends_open.false) (first_some (tables c.statement.new.into) is_statement c.args.self.now.tokens.now.tokens c.in_ok-other.field-0 (readers (names_in c.args.self.now.typedefs.now (g.R.TypeReader.types c.args.self.now.reader.now) (tables c.args.into.now) c.args.self.now.tokens.now.tokens) c.args.below Statements (drop c.in-Some.next c.args.self.now.tokens.now.tokens)) c.in_ok-other.ensures.ok c.in-Some-2.other c.in-Some-2.end c.in-Some-2.is)) c.found_statement-in-Some-2.ensures.ok
+chosen-returns-in-Some-2-clause-ok g t c = moved _ _ _ _ _ _ (both_kept (tables c.args.into.now) (tables c.statement.new.into) c.statement.ensures.keeps c.args.line c.args.condition c.args.body c.requires.condition c.requires.body (drop c.in-Some-2.end c.args.self.now.tokens.now.tokens) (tree_at (tables c.statement.new.into).forest c.in-Some-2.other) ∙ chosen_both (readers (known_names g.R.TypeReader.types c.args.self.now (tables c.args.into.now)) c.args.below Statements) c.args.line (tree_at (tables c.args.into.now).forest c.args.condition) (tree_at (tables c.args.into.now).forest c.args.body) (drop c.args.at c.args.self.now.tokens.now.tokens) (drop c.in-Some.next c.args.self.now.tokens.now.tokens) c.in-Some.ensures.0 (tree_at (tables c.statement.new.into).forest c.in-Some-2.other, (drop c.in-Some-2.end c.args.self.now.tokens.now.tokens)) (sym c.ends_open.ensures ∙ c.if-ends_open.false) (first_some (tables c.statement.new.into) is_statement c.args.self.now.tokens.now.tokens c.in_ok-other.field-0 (readers (known_names g.R.TypeReader.types c.args.self.now (tables c.args.into.now)) c.args.below Statements (drop c.in-Some.next c.args.self.now.tokens.now.tokens)) c.in_ok-other.ensures.ok c.in-Some-2.other c.in-Some-2.end c.in-Some-2.is)) c.found_statement-in-Some-2.ensures.ok
 
 pub chosen-returns-in-None-clause-ok : goal.chosen-returns-in-None-clause-ok
-chosen-returns-in-None-clause-ok g t c = moved _ _ _ _ _ _ (alone_kept (tables c.args.into.now) (tables c.statement.new.into) c.statement.ensures.keeps c.args.line c.args.condition c.args.body c.requires.condition c.requires.body (drop c.args.at c.args.self.now.tokens.now.tokens) ∙ chosen_unread (readers (names_in c.args.self.now.typedefs.now (g.R.TypeReader.types c.args.self.now.reader.now) (tables c.args.into.now) c.args.self.now.tokens.now.tokens) c.args.below Statements) c.args.line (tree_at (tables c.args.into.now).forest c.args.condition) (tree_at (tables c.args.into.now).forest c.args.body) (drop c.args.at c.args.self.now.tokens.now.tokens) (drop c.in-Some.next c.args.self.now.tokens.now.tokens) c.in-Some.ensures.0 (first_none (tables c.statement.new.into) is_statement c.args.self.now.tokens.now.tokens c.in_ok-other.field-0 (readers (names_in c.args.self.now.typedefs.now (g.R.TypeReader.types c.args.self.now.reader.now) (tables c.args.into.now) c.args.self.now.tokens.now.tokens) c.args.below Statements (drop c.in-Some.next c.args.self.now.tokens.now.tokens)) c.in_ok-other.ensures.ok c.in-None.is)) c.found_statement-in-None.ensures.ok
+chosen-returns-in-None-clause-ok g t c = moved _ _ _ _ _ _ (alone_kept (tables c.args.into.now) (tables c.statement.new.into) c.statement.ensures.keeps c.args.line c.args.condition c.args.body c.requires.condition c.requires.body (drop c.args.at c.args.self.now.tokens.now.tokens) ∙ chosen_unread (readers (known_names g.R.TypeReader.types c.args.self.now (tables c.args.into.now)) c.args.below Statements) c.args.line (tree_at (tables c.args.into.now).forest c.args.condition) (tree_at (tables c.args.into.now).forest c.args.body) (drop c.args.at c.args.self.now.tokens.now.tokens) (drop c.in-Some.next c.args.self.now.tokens.now.tokens) c.in-Some.ensures.0 (first_none (tables c.statement.new.into) is_statement c.args.self.now.tokens.now.tokens c.in_ok-other.field-0 (readers (known_names g.R.TypeReader.types c.args.self.now (tables c.args.into.now)) c.args.below Statements (drop c.in-Some.next c.args.self.now.tokens.now.tokens)) c.in_ok-other.ensures.ok c.in-None.is)) c.found_statement-in-None.ensures.ok
 
 pub chosen-found_statement-requires-in-Some-2-clause-place : goal.chosen-found_statement-requires-in-Some-2-clause-place
-chosen-found_statement-requires-in-Some-2-clause-place g t c = (there_of (tables c.statement.new.into) is_statement c.args.self.now.tokens.now.tokens c.in_ok-other.field-0 (readers (names_in c.args.self.now.typedefs.now (g.R.TypeReader.types c.args.self.now.reader.now) (tables c.args.into.now) c.args.self.now.tokens.now.tokens) c.args.below Statements (drop c.in-Some.next c.args.self.now.tokens.now.tokens)) c.in_ok-other.ensures.ok c.in-Some-2.other c.in-Some-2.end c.in-Some-2.is).1
+chosen-found_statement-requires-in-Some-2-clause-place g t c = (there_of (tables c.statement.new.into) is_statement c.args.self.now.tokens.now.tokens c.in_ok-other.field-0 (readers (known_names g.R.TypeReader.types c.args.self.now (tables c.args.into.now)) c.args.below Statements (drop c.in-Some.next c.args.self.now.tokens.now.tokens)) c.in_ok-other.ensures.ok c.in-Some-2.other c.in-Some-2.end c.in-Some-2.is).1
 
 pub chosen-found_statement-requires-in-Some-2-clause-children : goal.chosen-found_statement-requires-in-Some-2-clause-children
-chosen-found_statement-requires-in-Some-2-clause-children g t c = (is_kept (tables c.args.into.now) (tables c.statement.new.into) is_expression c.args.condition c.statement.ensures.keeps c.requires.condition, is_kept (tables c.args.into.now) (tables c.statement.new.into) is_statement c.args.body c.statement.ensures.keeps c.requires.body, (there_of (tables c.statement.new.into) is_statement c.args.self.now.tokens.now.tokens c.in_ok-other.field-0 (readers (names_in c.args.self.now.typedefs.now (g.R.TypeReader.types c.args.self.now.reader.now) (tables c.args.into.now) c.args.self.now.tokens.now.tokens) c.args.below Statements (drop c.in-Some.next c.args.self.now.tokens.now.tokens)) c.in_ok-other.ensures.ok c.in-Some-2.other c.in-Some-2.end c.in-Some-2.is).0)
+chosen-found_statement-requires-in-Some-2-clause-children g t c = (is_kept (tables c.args.into.now) (tables c.statement.new.into) is_expression c.args.condition c.statement.ensures.keeps c.requires.condition, is_kept (tables c.args.into.now) (tables c.statement.new.into) is_statement c.args.body c.statement.ensures.keeps c.requires.body, (there_of (tables c.statement.new.into) is_statement c.args.self.now.tokens.now.tokens c.in_ok-other.field-0 (readers (known_names g.R.TypeReader.types c.args.self.now (tables c.args.into.now)) c.args.below Statements (drop c.in-Some.next c.args.self.now.tokens.now.tokens)) c.in_ok-other.ensures.ok c.in-Some-2.other c.in-Some-2.end c.in-Some-2.is).0)
 
 pub chosen-found_statement-requires-in-None-clause-children : goal.chosen-found_statement-requires-in-None-clause-children
 chosen-found_statement-requires-in-None-clause-children g t c = (is_kept (tables c.args.into.now) (tables c.statement.new.into) is_expression c.args.condition c.statement.ensures.keeps c.requires.condition, is_kept (tables c.args.into.now) (tables c.statement.new.into) is_statement c.args.body c.statement.ensures.keeps c.requires.body)
 
 pub for_loop-returns-in_default-clause-ok : goal.for_loop-returns-in_default-clause-ok
-for_loop-returns-in_default-clause-ok g t c = nothing _ _ _ _ (for_shut (tables c.for_head.new.into) (names_in c.args.self.now.typedefs.now (g.R.TypeReader.types c.args.self.now.reader.now) (tables c.args.into.now) c.args.self.now.tokens.now.tokens) c.args.below c.args.self.now.tokens.now.tokens c.in_ok-head.field-0 (drop c.args.at c.args.self.now.tokens.now.tokens) c.in_ok-head.ensures.ok (readers (names_in c.args.self.now.typedefs.now (g.R.TypeReader.types c.args.self.now.reader.now) (tables c.args.into.now) c.args.self.now.tokens.now.tokens) c.args.below Statements) c.args.line c.in_default.is)
+for_loop-returns-in_default-clause-ok g t c = nothing _ _ _ _ (for_shut (tables c.for_head.new.into) (known_names g.R.TypeReader.types c.args.self.now (tables c.args.into.now)) c.args.below c.args.self.now.tokens.now.tokens c.in_ok-head.field-0 (drop c.args.at c.args.self.now.tokens.now.tokens) c.in_ok-head.ensures.ok (readers (known_names g.R.TypeReader.types c.args.self.now (tables c.args.into.now)) c.args.below Statements) c.args.line c.in_default.is)
 
 pub for_loop-statement-requires : goal.for_loop-statement-requires
 for_loop-statement-requires g t c κs within =
-    let place = (head_there (tables c.for_head.new.into) (names_in c.args.self.now.typedefs.now (g.R.TypeReader.types c.args.self.now.reader.now) (tables c.args.into.now) c.args.self.now.tokens.now.tokens) c.args.below c.args.self.now.tokens.now.tokens c.in_ok-head.field-0 (drop c.args.at c.args.self.now.tokens.now.tokens) c.in_ok-head.ensures.ok (readers (names_in c.args.self.now.typedefs.now (g.R.TypeReader.types c.args.self.now.reader.now) (tables c.args.into.now) c.args.self.now.tokens.now.tokens) c.args.below Statements) c.args.line c.in-Some.head c.in-Some.next c.in-Some.is).1 in
+    let place = (head_there (tables c.for_head.new.into) (known_names g.R.TypeReader.types c.args.self.now (tables c.args.into.now)) c.args.below c.args.self.now.tokens.now.tokens c.in_ok-head.field-0 (drop c.args.at c.args.self.now.tokens.now.tokens) c.in_ok-head.ensures.ok (readers (known_names g.R.TypeReader.types c.args.self.now (tables c.args.into.now)) c.args.below Statements) c.args.line c.in-Some.head c.in-Some.next c.in-Some.is).1 in
     let tied = tied_kept (g.R.TypeReader.types c.args.self.now.reader.now) (tables c.args.into.now) (tables c.for_head.new.into) c.args.self.now.tokens.now.tokens c.requires.tied c.for_head.ensures.keeps in
     (omega arith, (within, (place, tied)))
 
 pub for_loop-found_statement-requires-clause-place : goal.for_loop-found_statement-requires-clause-place
-for_loop-found_statement-requires-clause-place g t c = (there_of (tables c.statement.new.into) is_statement c.args.self.now.tokens.now.tokens c.in_ok-body.field-0 (readers (names_in c.args.self.now.typedefs.now (g.R.TypeReader.types c.args.self.now.reader.now) (tables c.for_head.new.into) c.args.self.now.tokens.now.tokens) c.args.below Statements (drop c.in-Some.next c.args.self.now.tokens.now.tokens)) c.in_ok-body.ensures.ok c.in-Some-2.body c.in-Some-2.end c.in-Some-2.is).1
+for_loop-found_statement-requires-clause-place g t c = (there_of (tables c.statement.new.into) is_statement c.args.self.now.tokens.now.tokens c.in_ok-body.field-0 (readers (known_names g.R.TypeReader.types c.args.self.now (tables c.for_head.new.into)) c.args.below Statements (drop c.in-Some.next c.args.self.now.tokens.now.tokens)) c.in_ok-body.ensures.ok c.in-Some-2.body c.in-Some-2.end c.in-Some-2.is).1
 
 pub for_loop-found_statement-requires-clause-children : goal.for_loop-found_statement-requires-clause-children
-for_loop-found_statement-requires-clause-children g t c = c.for_node.ensures.children (tables c.statement.new.into).forest (length (tables c.statement.new.into).forest.trees) (for_children (tables c.for_head.new.into) (names_in c.args.self.now.typedefs.now (g.R.TypeReader.types c.args.self.now.reader.now) (tables c.args.into.now) c.args.self.now.tokens.now.tokens) c.args.below c.args.self.now.tokens.now.tokens c.in_ok-head.field-0 (drop c.args.at c.args.self.now.tokens.now.tokens) c.in_ok-head.ensures.ok (readers (names_in c.args.self.now.typedefs.now (g.R.TypeReader.types c.args.self.now.reader.now) (tables c.args.into.now) c.args.self.now.tokens.now.tokens) c.args.below Statements) c.args.line c.in-Some.head c.in-Some.next c.in-Some.is (tables c.statement.new.into) c.statement.ensures.keeps) (there_of (tables c.statement.new.into) is_statement c.args.self.now.tokens.now.tokens c.in_ok-body.field-0 (readers (names_in c.args.self.now.typedefs.now (g.R.TypeReader.types c.args.self.now.reader.now) (tables c.for_head.new.into) c.args.self.now.tokens.now.tokens) c.args.below Statements (drop c.in-Some.next c.args.self.now.tokens.now.tokens)) c.in_ok-body.ensures.ok c.in-Some-2.body c.in-Some-2.end c.in-Some-2.is).0
+for_loop-found_statement-requires-clause-children g t c = c.for_node.ensures.children (tables c.statement.new.into).forest (length (tables c.statement.new.into).forest.trees) (for_children (tables c.for_head.new.into) (known_names g.R.TypeReader.types c.args.self.now (tables c.args.into.now)) c.args.below c.args.self.now.tokens.now.tokens c.in_ok-head.field-0 (drop c.args.at c.args.self.now.tokens.now.tokens) c.in_ok-head.ensures.ok (readers (known_names g.R.TypeReader.types c.args.self.now (tables c.args.into.now)) c.args.below Statements) c.args.line c.in-Some.head c.in-Some.next c.in-Some.is (tables c.statement.new.into) c.statement.ensures.keeps) (there_of (tables c.statement.new.into) is_statement c.args.self.now.tokens.now.tokens c.in_ok-body.field-0 (readers (known_names g.R.TypeReader.types c.args.self.now (tables c.for_head.new.into)) c.args.below Statements (drop c.in-Some.next c.args.self.now.tokens.now.tokens)) c.in_ok-body.ensures.ok c.in-Some-2.body c.in-Some-2.end c.in-Some-2.is).0
 
 pub for_loop-returns-in-Some-2-clause-ok : goal.for_loop-returns-in-Some-2-clause-ok
-for_loop-returns-in-Some-2-clause-ok g t c = moved _ _ _ _ _ _ (ap (λ (t : Tree). let x : Tree × List Token = (t, (drop c.in-Some-2.end c.args.self.now.tokens.now.tokens)) in Some x) (c.for_node.ensures.is (tables c.statement.new.into).forest c.args.line) ∙ for_so (tables c.for_head.new.into) (names_in c.args.self.now.typedefs.now (g.R.TypeReader.types c.args.self.now.reader.now) (tables c.args.into.now) c.args.self.now.tokens.now.tokens) c.args.below c.args.self.now.tokens.now.tokens c.in_ok-head.field-0 (drop c.args.at c.args.self.now.tokens.now.tokens) c.in_ok-head.ensures.ok (readers (names_in c.args.self.now.typedefs.now (g.R.TypeReader.types c.args.self.now.reader.now) (tables c.args.into.now) c.args.self.now.tokens.now.tokens) c.args.below Statements) c.args.line c.in-Some.head c.in-Some.next c.in-Some.is (tables c.statement.new.into) c.statement.ensures.keeps (tree_at (tables c.statement.new.into).forest c.in-Some-2.body, (drop c.in-Some-2.end c.args.self.now.tokens.now.tokens)) (later_some c.args.self.now.typedefs.now (g.R.TypeReader.types c.args.self.now.reader.now) (tables c.args.into.now) (tables c.for_head.new.into) (tables c.statement.new.into) c.args.self.now.tokens.now.tokens c.requires.tied c.for_head.ensures.keeps is_statement c.in_ok-body.field-0 (λ (n : Names). readers n c.args.below Statements (drop c.in-Some.next c.args.self.now.tokens.now.tokens)) c.in_ok-body.ensures.ok c.in-Some-2.body c.in-Some-2.end c.in-Some-2.is)) c.found_statement.ensures.ok
+for_loop-returns-in-Some-2-clause-ok g t c = moved _ _ _ _ _ _ (ap (λ (t : Tree). let x : Tree × List Token = (t, (drop c.in-Some-2.end c.args.self.now.tokens.now.tokens)) in Some x) (c.for_node.ensures.is (tables c.statement.new.into).forest c.args.line) ∙ for_so (tables c.for_head.new.into) (known_names g.R.TypeReader.types c.args.self.now (tables c.args.into.now)) c.args.below c.args.self.now.tokens.now.tokens c.in_ok-head.field-0 (drop c.args.at c.args.self.now.tokens.now.tokens) c.in_ok-head.ensures.ok (readers (known_names g.R.TypeReader.types c.args.self.now (tables c.args.into.now)) c.args.below Statements) c.args.line c.in-Some.head c.in-Some.next c.in-Some.is (tables c.statement.new.into) c.statement.ensures.keeps (tree_at (tables c.statement.new.into).forest c.in-Some-2.body, (drop c.in-Some-2.end c.args.self.now.tokens.now.tokens)) (later_some c.args.self.now.typedefs.now (g.R.TypeReader.types c.args.self.now.reader.now) (tables c.args.into.now) (tables c.for_head.new.into) (tables c.statement.new.into) c.args.self.now.tokens.now.tokens c.requires.tied c.for_head.ensures.keeps is_statement c.in_ok-body.field-0 (λ (n : Names). readers n c.args.below Statements (drop c.in-Some.next c.args.self.now.tokens.now.tokens)) c.in_ok-body.ensures.ok c.in-Some-2.body c.in-Some-2.end c.in-Some-2.is)) c.found_statement.ensures.ok
 
 pub for_loop-returns-in-None-clause-ok : goal.for_loop-returns-in-None-clause-ok
-for_loop-returns-in-None-clause-ok g t c = nothing _ _ _ _ (for_none (tables c.for_head.new.into) (names_in c.args.self.now.typedefs.now (g.R.TypeReader.types c.args.self.now.reader.now) (tables c.args.into.now) c.args.self.now.tokens.now.tokens) c.args.below c.args.self.now.tokens.now.tokens c.in_ok-head.field-0 (drop c.args.at c.args.self.now.tokens.now.tokens) c.in_ok-head.ensures.ok (readers (names_in c.args.self.now.typedefs.now (g.R.TypeReader.types c.args.self.now.reader.now) (tables c.args.into.now) c.args.self.now.tokens.now.tokens) c.args.below Statements) c.args.line c.in-Some.head c.in-Some.next c.in-Some.is (later_none c.args.self.now.typedefs.now (g.R.TypeReader.types c.args.self.now.reader.now) (tables c.args.into.now) (tables c.for_head.new.into) (tables c.statement.new.into) c.args.self.now.tokens.now.tokens c.requires.tied c.for_head.ensures.keeps is_statement c.in_ok-body.field-0 (λ (n : Names). readers n c.args.below Statements (drop c.in-Some.next c.args.self.now.tokens.now.tokens)) c.in_ok-body.ensures.ok c.in-None.is))
+for_loop-returns-in-None-clause-ok g t c = nothing _ _ _ _ (for_none (tables c.for_head.new.into) (known_names g.R.TypeReader.types c.args.self.now (tables c.args.into.now)) c.args.below c.args.self.now.tokens.now.tokens c.in_ok-head.field-0 (drop c.args.at c.args.self.now.tokens.now.tokens) c.in_ok-head.ensures.ok (readers (known_names g.R.TypeReader.types c.args.self.now (tables c.args.into.now)) c.args.below Statements) c.args.line c.in-Some.head c.in-Some.next c.in-Some.is (later_none c.args.self.now.typedefs.now (g.R.TypeReader.types c.args.self.now.reader.now) (tables c.args.into.now) (tables c.for_head.new.into) (tables c.statement.new.into) c.args.self.now.tokens.now.tokens c.requires.tied c.for_head.ensures.keeps is_statement c.in_ok-body.field-0 (λ (n : Names). readers n c.args.below Statements (drop c.in-Some.next c.args.self.now.tokens.now.tokens)) c.in_ok-body.ensures.ok c.in-None.is))
 
 pub braced-returns-clause-ok : goal.braced-returns-clause-ok
 braced-returns-clause-ok g t c = moved _ _ _ _ _ _ (ap (block_end (enclosed c.args.within c.args.line)) (ap (λ (ns : List NodeId). let x : Trees × List Token = (trees_of (tables c.items.new.into).forest ns, drop c.in_ok-items.end c.args.self.now.tokens.now.tokens) in x) c.deref.ensures.value ∙ c.in_ok-items.ensures.ok.is)) c.block_of.ensures.ok
@@ -194,12 +194,12 @@ items-loop-items-init g t c = record {
 }
 
 pub items-returns-in_default-clause-ok : goal.items-returns-in_default-clause-ok
-items-returns-in_default-clause-ok g t c = row_ends is_item (tables c.loop-items.into) (tables c.item.new.into) c.item.ensures.keeps c.args.self.now.tokens.now.tokens (item_in c.args.within (names_in c.args.self.now.typedefs.now (g.R.TypeReader.types c.args.self.now.reader.now) (tables c.args.into.now) c.args.self.now.tokens.now.tokens) c.args.depth) c.loop-items.items.items c.loop-items.invariant.nodes c.loop-items.next c.loop-items.invariant.place c.in_ok-found.field-0 (at_start c.args.self.now.typedefs.now (g.R.TypeReader.types c.args.self.now.reader.now) (tables c.args.into.now) (tables c.loop-items.into) (tables c.item.new.into) c.args.self.now.tokens.now.tokens c.requires.tied c.loop-items.invariant.keeps is_item c.in_ok-found.field-0 (λ n. item_in c.args.within n c.args.depth (drop c.loop-items.next c.args.self.now.tokens.now.tokens)) c.in_ok-found.ensures.ok) (items_shorten c.args.self.now.typedefs.now (g.R.TypeReader.types c.args.self.now.reader.now) (tables c.args.into.now) c.args.self.now.tokens.now.tokens c.requires.tied c.args.within c.args.depth) (row (item_in c.args.within (names_in c.args.self.now.typedefs.now (g.R.TypeReader.types c.args.self.now.reader.now) (tables c.args.into.now) c.args.self.now.tokens.now.tokens) c.args.depth) NoTrees (drop c.args.at c.args.self.now.tokens.now.tokens)) c.loop-items.invariant.same c.in_default.is
+items-returns-in_default-clause-ok g t c = row_ends is_item (tables c.loop-items.into) (tables c.item.new.into) c.item.ensures.keeps c.args.self.now.tokens.now.tokens (item_in c.args.within (known_names g.R.TypeReader.types c.args.self.now (tables c.args.into.now)) c.args.depth) c.loop-items.items.items c.loop-items.invariant.nodes c.loop-items.next c.loop-items.invariant.place c.in_ok-found.field-0 (at_start c.args.self.now.typedefs.now (g.R.TypeReader.types c.args.self.now.reader.now) (tables c.args.into.now) (tables c.loop-items.into) (tables c.item.new.into) c.args.self.now.tokens.now.tokens c.requires.tied c.loop-items.invariant.keeps is_item c.in_ok-found.field-0 (λ n. item_in c.args.within n c.args.depth (drop c.loop-items.next c.args.self.now.tokens.now.tokens)) c.in_ok-found.ensures.ok) (items_shorten c.args.self.now.typedefs.now (g.R.TypeReader.types c.args.self.now.reader.now) (tables c.args.into.now) c.args.self.now.tokens.now.tokens c.requires.tied c.args.within c.args.depth) (row (item_in c.args.within (known_names g.R.TypeReader.types c.args.self.now (tables c.args.into.now)) c.args.depth) NoTrees (drop c.args.at c.args.self.now.tokens.now.tokens)) c.loop-items.invariant.same c.in_default.is
 
 pub items-loop-items-smaller : goal.items-loop-items-smaller
 items-loop-items-smaller g t c =
-    let far = goes_forward is_item (tables c.loop-items.into) (tables c.item.new.into) c.item.ensures.keeps c.args.self.now.tokens.now.tokens (item_in c.args.within (names_in c.args.self.now.typedefs.now (g.R.TypeReader.types c.args.self.now.reader.now) (tables c.args.into.now) c.args.self.now.tokens.now.tokens) c.args.depth) c.loop-items.items.items c.loop-items.invariant.nodes c.loop-items.next c.loop-items.invariant.place c.in_ok-found.field-0 (at_start c.args.self.now.typedefs.now (g.R.TypeReader.types c.args.self.now.reader.now) (tables c.args.into.now) (tables c.loop-items.into) (tables c.item.new.into) c.args.self.now.tokens.now.tokens c.requires.tied c.loop-items.invariant.keeps is_item c.in_ok-found.field-0 (λ n. item_in c.args.within n c.args.depth (drop c.loop-items.next c.args.self.now.tokens.now.tokens)) c.in_ok-found.ensures.ok) (items_shorten c.args.self.now.typedefs.now (g.R.TypeReader.types c.args.self.now.reader.now) (tables c.args.into.now) c.args.self.now.tokens.now.tokens c.requires.tied c.args.within c.args.depth) c.in-Some.found c.in-Some.end c.in-Some.is in
-    let there = part_there is_item (tables c.loop-items.into) (tables c.item.new.into) c.item.ensures.keeps c.args.self.now.tokens.now.tokens (item_in c.args.within (names_in c.args.self.now.typedefs.now (g.R.TypeReader.types c.args.self.now.reader.now) (tables c.args.into.now) c.args.self.now.tokens.now.tokens) c.args.depth) c.loop-items.items.items c.loop-items.invariant.nodes c.loop-items.next c.loop-items.invariant.place c.in_ok-found.field-0 (at_start c.args.self.now.typedefs.now (g.R.TypeReader.types c.args.self.now.reader.now) (tables c.args.into.now) (tables c.loop-items.into) (tables c.item.new.into) c.args.self.now.tokens.now.tokens c.requires.tied c.loop-items.invariant.keeps is_item c.in_ok-found.field-0 (λ n. item_in c.args.within n c.args.depth (drop c.loop-items.next c.args.self.now.tokens.now.tokens)) c.in_ok-found.ensures.ok) c.in-Some.found c.in-Some.end c.in-Some.is in
+    let far = goes_forward is_item (tables c.loop-items.into) (tables c.item.new.into) c.item.ensures.keeps c.args.self.now.tokens.now.tokens (item_in c.args.within (known_names g.R.TypeReader.types c.args.self.now (tables c.args.into.now)) c.args.depth) c.loop-items.items.items c.loop-items.invariant.nodes c.loop-items.next c.loop-items.invariant.place c.in_ok-found.field-0 (at_start c.args.self.now.typedefs.now (g.R.TypeReader.types c.args.self.now.reader.now) (tables c.args.into.now) (tables c.loop-items.into) (tables c.item.new.into) c.args.self.now.tokens.now.tokens c.requires.tied c.loop-items.invariant.keeps is_item c.in_ok-found.field-0 (λ n. item_in c.args.within n c.args.depth (drop c.loop-items.next c.args.self.now.tokens.now.tokens)) c.in_ok-found.ensures.ok) (items_shorten c.args.self.now.typedefs.now (g.R.TypeReader.types c.args.self.now.reader.now) (tables c.args.into.now) c.args.self.now.tokens.now.tokens c.requires.tied c.args.within c.args.depth) c.in-Some.found c.in-Some.end c.in-Some.is in
+    let there = part_there is_item (tables c.loop-items.into) (tables c.item.new.into) c.item.ensures.keeps c.args.self.now.tokens.now.tokens (item_in c.args.within (known_names g.R.TypeReader.types c.args.self.now (tables c.args.into.now)) c.args.depth) c.loop-items.items.items c.loop-items.invariant.nodes c.loop-items.next c.loop-items.invariant.place c.in_ok-found.field-0 (at_start c.args.self.now.typedefs.now (g.R.TypeReader.types c.args.self.now.reader.now) (tables c.args.into.now) (tables c.loop-items.into) (tables c.item.new.into) c.args.self.now.tokens.now.tokens c.requires.tied c.loop-items.invariant.keeps is_item c.in_ok-found.field-0 (λ n. item_in c.args.within n c.args.depth (drop c.loop-items.next c.args.self.now.tokens.now.tokens)) c.in_ok-found.ensures.ok) c.in-Some.found c.in-Some.end c.in-Some.is in
     let end : c.in-Some.end ≤ length c.args.self.now.tokens.now.tokens = there.1 in
     omega (arith, far, end)
 
@@ -207,21 +207,21 @@ pub items-loop-items-preserved : goal.items-loop-items-preserved
 items-loop-items-preserved g t c =
     let keeps = extends_then (tables c.args.into.now) (tables c.loop-items.into) (tables c.item.new.into) c.loop-items.invariant.keeps c.item.ensures.keeps in
     record {
-      nodes = parts_there is_item (tables c.loop-items.into) (tables c.item.new.into) c.item.ensures.keeps c.args.self.now.tokens.now.tokens (item_in c.args.within (names_in c.args.self.now.typedefs.now (g.R.TypeReader.types c.args.self.now.reader.now) (tables c.args.into.now) c.args.self.now.tokens.now.tokens) c.args.depth) c.loop-items.items.items c.loop-items.invariant.nodes c.loop-items.next c.loop-items.invariant.place c.in_ok-found.field-0 (at_start c.args.self.now.typedefs.now (g.R.TypeReader.types c.args.self.now.reader.now) (tables c.args.into.now) (tables c.loop-items.into) (tables c.item.new.into) c.args.self.now.tokens.now.tokens c.requires.tied c.loop-items.invariant.keeps is_item c.in_ok-found.field-0 (λ n. item_in c.args.within n c.args.depth (drop c.loop-items.next c.args.self.now.tokens.now.tokens)) c.in_ok-found.ensures.ok) c.in-Some.found c.in-Some.end c.in-Some.is c.push.new.self.items c.in_ok-push.ensures.items;
-      place = (part_there is_item (tables c.loop-items.into) (tables c.item.new.into) c.item.ensures.keeps c.args.self.now.tokens.now.tokens (item_in c.args.within (names_in c.args.self.now.typedefs.now (g.R.TypeReader.types c.args.self.now.reader.now) (tables c.args.into.now) c.args.self.now.tokens.now.tokens) c.args.depth) c.loop-items.items.items c.loop-items.invariant.nodes c.loop-items.next c.loop-items.invariant.place c.in_ok-found.field-0 (at_start c.args.self.now.typedefs.now (g.R.TypeReader.types c.args.self.now.reader.now) (tables c.args.into.now) (tables c.loop-items.into) (tables c.item.new.into) c.args.self.now.tokens.now.tokens c.requires.tied c.loop-items.invariant.keeps is_item c.in_ok-found.field-0 (λ n. item_in c.args.within n c.args.depth (drop c.loop-items.next c.args.self.now.tokens.now.tokens)) c.in_ok-found.ensures.ok) c.in-Some.found c.in-Some.end c.in-Some.is).1;
+      nodes = parts_there is_item (tables c.loop-items.into) (tables c.item.new.into) c.item.ensures.keeps c.args.self.now.tokens.now.tokens (item_in c.args.within (known_names g.R.TypeReader.types c.args.self.now (tables c.args.into.now)) c.args.depth) c.loop-items.items.items c.loop-items.invariant.nodes c.loop-items.next c.loop-items.invariant.place c.in_ok-found.field-0 (at_start c.args.self.now.typedefs.now (g.R.TypeReader.types c.args.self.now.reader.now) (tables c.args.into.now) (tables c.loop-items.into) (tables c.item.new.into) c.args.self.now.tokens.now.tokens c.requires.tied c.loop-items.invariant.keeps is_item c.in_ok-found.field-0 (λ n. item_in c.args.within n c.args.depth (drop c.loop-items.next c.args.self.now.tokens.now.tokens)) c.in_ok-found.ensures.ok) c.in-Some.found c.in-Some.end c.in-Some.is c.push.new.self.items c.in_ok-push.ensures.items;
+      place = (part_there is_item (tables c.loop-items.into) (tables c.item.new.into) c.item.ensures.keeps c.args.self.now.tokens.now.tokens (item_in c.args.within (known_names g.R.TypeReader.types c.args.self.now (tables c.args.into.now)) c.args.depth) c.loop-items.items.items c.loop-items.invariant.nodes c.loop-items.next c.loop-items.invariant.place c.in_ok-found.field-0 (at_start c.args.self.now.typedefs.now (g.R.TypeReader.types c.args.self.now.reader.now) (tables c.args.into.now) (tables c.loop-items.into) (tables c.item.new.into) c.args.self.now.tokens.now.tokens c.requires.tied c.loop-items.invariant.keeps is_item c.in_ok-found.field-0 (λ n. item_in c.args.within n c.args.depth (drop c.loop-items.next c.args.self.now.tokens.now.tokens)) c.in_ok-found.ensures.ok) c.in-Some.found c.in-Some.end c.in-Some.is).1;
       keeps = keeps;
       tied = tied_kept (g.R.TypeReader.types c.args.self.now.reader.now) (tables c.args.into.now) (tables c.item.new.into) c.args.self.now.tokens.now.tokens c.requires.tied keeps;
-      same = row_goes is_item (tables c.loop-items.into) (tables c.item.new.into) c.item.ensures.keeps c.args.self.now.tokens.now.tokens (item_in c.args.within (names_in c.args.self.now.typedefs.now (g.R.TypeReader.types c.args.self.now.reader.now) (tables c.args.into.now) c.args.self.now.tokens.now.tokens) c.args.depth) c.loop-items.items.items c.loop-items.invariant.nodes c.loop-items.next c.loop-items.invariant.place c.in_ok-found.field-0 (at_start c.args.self.now.typedefs.now (g.R.TypeReader.types c.args.self.now.reader.now) (tables c.args.into.now) (tables c.loop-items.into) (tables c.item.new.into) c.args.self.now.tokens.now.tokens c.requires.tied c.loop-items.invariant.keeps is_item c.in_ok-found.field-0 (λ n. item_in c.args.within n c.args.depth (drop c.loop-items.next c.args.self.now.tokens.now.tokens)) c.in_ok-found.ensures.ok) (items_shorten c.args.self.now.typedefs.now (g.R.TypeReader.types c.args.self.now.reader.now) (tables c.args.into.now) c.args.self.now.tokens.now.tokens c.requires.tied c.args.within c.args.depth) (row (item_in c.args.within (names_in c.args.self.now.typedefs.now (g.R.TypeReader.types c.args.self.now.reader.now) (tables c.args.into.now) c.args.self.now.tokens.now.tokens) c.args.depth) NoTrees (drop c.args.at c.args.self.now.tokens.now.tokens)) c.loop-items.invariant.same c.in-Some.found c.in-Some.end c.in-Some.is c.push.new.self.items c.in_ok-push.ensures.items;
+      same = row_goes is_item (tables c.loop-items.into) (tables c.item.new.into) c.item.ensures.keeps c.args.self.now.tokens.now.tokens (item_in c.args.within (known_names g.R.TypeReader.types c.args.self.now (tables c.args.into.now)) c.args.depth) c.loop-items.items.items c.loop-items.invariant.nodes c.loop-items.next c.loop-items.invariant.place c.in_ok-found.field-0 (at_start c.args.self.now.typedefs.now (g.R.TypeReader.types c.args.self.now.reader.now) (tables c.args.into.now) (tables c.loop-items.into) (tables c.item.new.into) c.args.self.now.tokens.now.tokens c.requires.tied c.loop-items.invariant.keeps is_item c.in_ok-found.field-0 (λ n. item_in c.args.within n c.args.depth (drop c.loop-items.next c.args.self.now.tokens.now.tokens)) c.in_ok-found.ensures.ok) (items_shorten c.args.self.now.typedefs.now (g.R.TypeReader.types c.args.self.now.reader.now) (tables c.args.into.now) c.args.self.now.tokens.now.tokens c.requires.tied c.args.within c.args.depth) (row (item_in c.args.within (known_names g.R.TypeReader.types c.args.self.now (tables c.args.into.now)) c.args.depth) NoTrees (drop c.args.at c.args.self.now.tokens.now.tokens)) c.loop-items.invariant.same c.in-Some.found c.in-Some.end c.in-Some.is c.push.new.self.items c.in_ok-push.ensures.items;
     }
 
 pub item-returns-then-begins_type-clause-ok : goal.item-returns-then-begins_type-clause-ok
-item-returns-then-begins_type-clause-ok g t c = as_items c.declared.result (tables c.declared.new.into) is_declaration c.args.self.now.tokens.now.tokens (declared (declaration (names_in c.args.self.now.typedefs.now (g.R.TypeReader.types c.args.self.now.reader.now) (tables c.args.into.now) c.args.self.now.tokens.now.tokens) c.args.depth (drop c.args.at c.args.self.now.tokens.now.tokens))) (item_in c.args.within (names_in c.args.self.now.typedefs.now (g.R.TypeReader.types c.args.self.now.reader.now) (tables c.args.into.now) c.args.self.now.tokens.now.tokens) c.args.depth (drop c.args.at c.args.self.now.tokens.now.tokens)) declaration_item (item_declared c.args.within (names_in c.args.self.now.typedefs.now (g.R.TypeReader.types c.args.self.now.reader.now) (tables c.args.into.now) c.args.self.now.tokens.now.tokens) c.args.depth (drop c.args.at c.args.self.now.tokens.now.tokens) (sym (c.begins_type.ensures (g.R.TypeReader.types c.args.self.now.reader.now) (tables c.args.into.now)) ∙ c.if-begins_type.true)) c.declared.ensures.ok
+item-returns-then-begins_type-clause-ok g t c = as_items c.declared.result (tables c.declared.new.into) is_declaration c.args.self.now.tokens.now.tokens (declared (declaration (known_names g.R.TypeReader.types c.args.self.now (tables c.args.into.now)) c.args.depth (drop c.args.at c.args.self.now.tokens.now.tokens))) (item_in c.args.within (known_names g.R.TypeReader.types c.args.self.now (tables c.args.into.now)) c.args.depth (drop c.args.at c.args.self.now.tokens.now.tokens)) declaration_item (item_declared c.args.within (known_names g.R.TypeReader.types c.args.self.now (tables c.args.into.now)) c.args.depth (drop c.args.at c.args.self.now.tokens.now.tokens) (sym (c.begins_type.ensures (g.R.TypeReader.types c.args.self.now.reader.now) (tables c.args.into.now)) ∙ c.if-begins_type.true)) c.declared.ensures.ok
 
 pub item-returns-in-Block-clause-ok : goal.item-returns-in-Block-clause-ok
-item-returns-in-Block-clause-ok g t c = as_items c.statement.result (tables c.statement.new.into) is_statement c.args.self.now.tokens.now.tokens (readers (names_in c.args.self.now.typedefs.now (g.R.TypeReader.types c.args.self.now.reader.now) (tables c.args.into.now) c.args.self.now.tokens.now.tokens) c.args.depth Statements (drop c.args.at c.args.self.now.tokens.now.tokens)) (item_in c.args.within (names_in c.args.self.now.typedefs.now (g.R.TypeReader.types c.args.self.now.reader.now) (tables c.args.into.now) c.args.self.now.tokens.now.tokens) c.args.depth (drop c.args.at c.args.self.now.tokens.now.tokens)) statement_item (item_stated c.args.within (names_in c.args.self.now.typedefs.now (g.R.TypeReader.types c.args.self.now.reader.now) (tables c.args.into.now) c.args.self.now.tokens.now.tokens) c.args.depth (drop c.args.at c.args.self.now.tokens.now.tokens) (sym (c.begins_type.ensures (g.R.TypeReader.types c.args.self.now.reader.now) (tables c.args.into.now)) ∙ c.if-begins_type.false) c.in-Block.is) c.statement.ensures.ok
+item-returns-in-Block-clause-ok g t c = as_items c.statement.result (tables c.statement.new.into) is_statement c.args.self.now.tokens.now.tokens (readers (known_names g.R.TypeReader.types c.args.self.now (tables c.args.into.now)) c.args.depth Statements (drop c.args.at c.args.self.now.tokens.now.tokens)) (item_in c.args.within (known_names g.R.TypeReader.types c.args.self.now (tables c.args.into.now)) c.args.depth (drop c.args.at c.args.self.now.tokens.now.tokens)) statement_item (item_stated c.args.within (known_names g.R.TypeReader.types c.args.self.now (tables c.args.into.now)) c.args.depth (drop c.args.at c.args.self.now.tokens.now.tokens) (sym (c.begins_type.ensures (g.R.TypeReader.types c.args.self.now.reader.now) (tables c.args.into.now)) ∙ c.if-begins_type.false) c.in-Block.is) c.statement.ensures.ok
 
 pub item-returns-in-Switch-clause-ok : goal.item-returns-in-Switch-clause-ok
-item-returns-in-Switch-clause-ok g t c = as_items c.labelled.result (tables c.labelled.new.into) is_statement c.args.self.now.tokens.now.tokens (labelled (names_in c.args.self.now.typedefs.now (g.R.TypeReader.types c.args.self.now.reader.now) (tables c.args.into.now) c.args.self.now.tokens.now.tokens) c.args.depth (readers (names_in c.args.self.now.typedefs.now (g.R.TypeReader.types c.args.self.now.reader.now) (tables c.args.into.now) c.args.self.now.tokens.now.tokens) c.args.depth Statements) (drop c.args.at c.args.self.now.tokens.now.tokens)) (item_in c.args.within (names_in c.args.self.now.typedefs.now (g.R.TypeReader.types c.args.self.now.reader.now) (tables c.args.into.now) c.args.self.now.tokens.now.tokens) c.args.depth (drop c.args.at c.args.self.now.tokens.now.tokens)) statement_item (item_labelled c.args.within (names_in c.args.self.now.typedefs.now (g.R.TypeReader.types c.args.self.now.reader.now) (tables c.args.into.now) c.args.self.now.tokens.now.tokens) c.args.depth (drop c.args.at c.args.self.now.tokens.now.tokens) (sym (c.begins_type.ensures (g.R.TypeReader.types c.args.self.now.reader.now) (tables c.args.into.now)) ∙ c.if-begins_type.false) c.in-Switch.is) c.labelled.ensures.ok
+item-returns-in-Switch-clause-ok g t c = as_items c.labelled.result (tables c.labelled.new.into) is_statement c.args.self.now.tokens.now.tokens (labelled (known_names g.R.TypeReader.types c.args.self.now (tables c.args.into.now)) c.args.depth (readers (known_names g.R.TypeReader.types c.args.self.now (tables c.args.into.now)) c.args.depth Statements) (drop c.args.at c.args.self.now.tokens.now.tokens)) (item_in c.args.within (known_names g.R.TypeReader.types c.args.self.now (tables c.args.into.now)) c.args.depth (drop c.args.at c.args.self.now.tokens.now.tokens)) statement_item (item_labelled c.args.within (known_names g.R.TypeReader.types c.args.self.now (tables c.args.into.now)) c.args.depth (drop c.args.at c.args.self.now.tokens.now.tokens) (sym (c.begins_type.ensures (g.R.TypeReader.types c.args.self.now.reader.now) (tables c.args.into.now)) ∙ c.if-begins_type.false) c.in-Switch.is) c.labelled.ensures.ok
 
 pub labelled-statement-requires : goal.labelled-statement-requires
 labelled-statement-requires g t c κs within =
@@ -230,29 +230,29 @@ labelled-statement-requires g t c κs within =
     (omega arith, (within, (place, tied)))
 
 pub labelled-returns-in_default-clause-ok : goal.labelled-returns-in_default-clause-ok
-labelled-returns-in_default-clause-ok g t c = nothing _ _ _ _ (labelled_none (names_in c.args.self.now.typedefs.now (g.R.TypeReader.types c.args.self.now.reader.now) (tables c.args.into.now) c.args.self.now.tokens.now.tokens) c.args.depth (readers (names_in c.args.self.now.typedefs.now (g.R.TypeReader.types c.args.self.now.reader.now) (tables c.args.into.now) c.args.self.now.tokens.now.tokens) c.args.depth Statements) (drop c.args.at c.args.self.now.tokens.now.tokens) (trees_of (tables c.labels.new.into).forest c.in_ok-labels.labels.items, (drop c.in_ok-labels.next c.args.self.now.tokens.now.tokens)) c.in_ok-labels.ensures.ok.is (later_none c.args.self.now.typedefs.now (g.R.TypeReader.types c.args.self.now.reader.now) (tables c.args.into.now) (tables c.labels.new.into) (tables c.statement.new.into) c.args.self.now.tokens.now.tokens c.requires.tied c.labels.ensures.keeps is_statement c.in_ok-statement.field-0 (λ (n : Names). readers n c.args.depth Statements (drop c.in_ok-labels.next c.args.self.now.tokens.now.tokens)) c.in_ok-statement.ensures.ok c.in_default.is))
+labelled-returns-in_default-clause-ok g t c = nothing _ _ _ _ (labelled_none (known_names g.R.TypeReader.types c.args.self.now (tables c.args.into.now)) c.args.depth (readers (known_names g.R.TypeReader.types c.args.self.now (tables c.args.into.now)) c.args.depth Statements) (drop c.args.at c.args.self.now.tokens.now.tokens) (trees_of (tables c.labels.new.into).forest c.in_ok-labels.labels.items, (drop c.in_ok-labels.next c.args.self.now.tokens.now.tokens)) c.in_ok-labels.ensures.ok.is (later_none c.args.self.now.typedefs.now (g.R.TypeReader.types c.args.self.now.reader.now) (tables c.args.into.now) (tables c.labels.new.into) (tables c.statement.new.into) c.args.self.now.tokens.now.tokens c.requires.tied c.labels.ensures.keeps is_statement c.in_ok-statement.field-0 (λ (n : Names). readers n c.args.depth Statements (drop c.in_ok-labels.next c.args.self.now.tokens.now.tokens)) c.in_ok-statement.ensures.ok c.in_default.is))
 
 pub labelled-returns-then-is_empty-clause-ok : goal.labelled-returns-then-is_empty-clause-ok
 labelled-returns-then-is_empty-clause-ok g t c =
     let e : length c.in_ok-labels.labels.items ≡ vec_len c.in_ok-labels.labels = omega (arith, c.in_ok-labels.labels.ok.0) in
     record {
-      is = labelled_bare (names_in c.args.self.now.typedefs.now (g.R.TypeReader.types c.args.self.now.reader.now) (tables c.args.into.now) c.args.self.now.tokens.now.tokens) c.args.depth (readers (names_in c.args.self.now.typedefs.now (g.R.TypeReader.types c.args.self.now.reader.now) (tables c.args.into.now) c.args.self.now.tokens.now.tokens) c.args.depth Statements) (drop c.args.at c.args.self.now.tokens.now.tokens) (trees_of (tables c.labels.new.into).forest c.in_ok-labels.labels.items, (drop c.in_ok-labels.next c.args.self.now.tokens.now.tokens)) c.in_ok-labels.ensures.ok.is (tree_at (tables c.statement.new.into).forest c.in-Some.statement, (drop c.in-Some.end c.args.self.now.tokens.now.tokens)) (none_of (tables c.labels.new.into).forest c.in_ok-labels.labels.items (ap (λ n. n == 0) e ∙ sym c.is_empty.ensures ∙ c.if-is_empty.true)) (later_some c.args.self.now.typedefs.now (g.R.TypeReader.types c.args.self.now.reader.now) (tables c.args.into.now) (tables c.labels.new.into) (tables c.statement.new.into) c.args.self.now.tokens.now.tokens c.requires.tied c.labels.ensures.keeps is_statement c.in_ok-statement.field-0 (λ (n : Names). readers n c.args.depth Statements (drop c.in_ok-labels.next c.args.self.now.tokens.now.tokens)) c.in_ok-statement.ensures.ok c.in-Some.statement c.in-Some.end c.in-Some.is);
-      there = (there_of (tables c.statement.new.into) is_statement c.args.self.now.tokens.now.tokens c.in_ok-statement.field-0 (readers (names_in c.args.self.now.typedefs.now (g.R.TypeReader.types c.args.self.now.reader.now) (tables c.labels.new.into) c.args.self.now.tokens.now.tokens) c.args.depth Statements (drop c.in_ok-labels.next c.args.self.now.tokens.now.tokens)) c.in_ok-statement.ensures.ok c.in-Some.statement c.in-Some.end c.in-Some.is);
+      is = labelled_bare (known_names g.R.TypeReader.types c.args.self.now (tables c.args.into.now)) c.args.depth (readers (known_names g.R.TypeReader.types c.args.self.now (tables c.args.into.now)) c.args.depth Statements) (drop c.args.at c.args.self.now.tokens.now.tokens) (trees_of (tables c.labels.new.into).forest c.in_ok-labels.labels.items, (drop c.in_ok-labels.next c.args.self.now.tokens.now.tokens)) c.in_ok-labels.ensures.ok.is (tree_at (tables c.statement.new.into).forest c.in-Some.statement, (drop c.in-Some.end c.args.self.now.tokens.now.tokens)) (none_of (tables c.labels.new.into).forest c.in_ok-labels.labels.items (ap (λ n. n == 0) e ∙ sym c.is_empty.ensures ∙ c.if-is_empty.true)) (later_some c.args.self.now.typedefs.now (g.R.TypeReader.types c.args.self.now.reader.now) (tables c.args.into.now) (tables c.labels.new.into) (tables c.statement.new.into) c.args.self.now.tokens.now.tokens c.requires.tied c.labels.ensures.keeps is_statement c.in_ok-statement.field-0 (λ (n : Names). readers n c.args.depth Statements (drop c.in_ok-labels.next c.args.self.now.tokens.now.tokens)) c.in_ok-statement.ensures.ok c.in-Some.statement c.in-Some.end c.in-Some.is);
+      there = (there_of (tables c.statement.new.into) is_statement c.args.self.now.tokens.now.tokens c.in_ok-statement.field-0 (readers (known_names g.R.TypeReader.types c.args.self.now (tables c.labels.new.into)) c.args.depth Statements (drop c.in_ok-labels.next c.args.self.now.tokens.now.tokens)) c.in_ok-statement.ensures.ok c.in-Some.statement c.in-Some.end c.in-Some.is);
     }
 
 pub labelled-returns-clause-ok : goal.labelled-returns-clause-ok
 labelled-returns-clause-ok g t c =
     let e : length c.in_ok-labels.labels.items ≡ vec_len c.in_ok-labels.labels = omega (arith, c.in_ok-labels.labels.ok.0) in
-    moved _ _ _ _ _ _ (labelled_as (names_in c.args.self.now.typedefs.now (g.R.TypeReader.types c.args.self.now.reader.now) (tables c.args.into.now) c.args.self.now.tokens.now.tokens) c.args.depth (readers (names_in c.args.self.now.typedefs.now (g.R.TypeReader.types c.args.self.now.reader.now) (tables c.args.into.now) c.args.self.now.tokens.now.tokens) c.args.depth Statements) (drop c.args.at c.args.self.now.tokens.now.tokens) (trees_of (tables c.labels.new.into).forest c.in_ok-labels.labels.items, (drop c.in_ok-labels.next c.args.self.now.tokens.now.tokens)) c.in_ok-labels.ensures.ok.is (tables c.statement.new.into).forest _ c.deref.result.now c.in_ok-labels.labels.items (tree_at (tables c.statement.new.into).forest c.in-Some.statement, (drop c.in-Some.end c.args.self.now.tokens.now.tokens)) c.line_at-line.ensures c.deref.ensures.value (trees_kept is_statement (tables c.labels.new.into) (tables c.statement.new.into) c.statement.ensures.keeps c.in_ok-labels.labels.items c.in_ok-labels.ensures.ok.there) (some_of (tables c.labels.new.into).forest c.in_ok-labels.labels.items (ap (λ n. n == 0) e ∙ sym c.is_empty.ensures ∙ c.if-is_empty.false)) (later_some c.args.self.now.typedefs.now (g.R.TypeReader.types c.args.self.now.reader.now) (tables c.args.into.now) (tables c.labels.new.into) (tables c.statement.new.into) c.args.self.now.tokens.now.tokens c.requires.tied c.labels.ensures.keeps is_statement c.in_ok-statement.field-0 (λ (n : Names). readers n c.args.depth Statements (drop c.in_ok-labels.next c.args.self.now.tokens.now.tokens)) c.in_ok-statement.ensures.ok c.in-Some.statement c.in-Some.end c.in-Some.is)) c.labelled_of.ensures.ok
+    moved _ _ _ _ _ _ (labelled_as (known_names g.R.TypeReader.types c.args.self.now (tables c.args.into.now)) c.args.depth (readers (known_names g.R.TypeReader.types c.args.self.now (tables c.args.into.now)) c.args.depth Statements) (drop c.args.at c.args.self.now.tokens.now.tokens) (trees_of (tables c.labels.new.into).forest c.in_ok-labels.labels.items, (drop c.in_ok-labels.next c.args.self.now.tokens.now.tokens)) c.in_ok-labels.ensures.ok.is (tables c.statement.new.into).forest _ c.deref.result.now c.in_ok-labels.labels.items (tree_at (tables c.statement.new.into).forest c.in-Some.statement, (drop c.in-Some.end c.args.self.now.tokens.now.tokens)) c.line_at-line.ensures c.deref.ensures.value (trees_kept is_statement (tables c.labels.new.into) (tables c.statement.new.into) c.statement.ensures.keeps c.in_ok-labels.labels.items c.in_ok-labels.ensures.ok.there) (some_of (tables c.labels.new.into).forest c.in_ok-labels.labels.items (ap (λ n. n == 0) e ∙ sym c.is_empty.ensures ∙ c.if-is_empty.false)) (later_some c.args.self.now.typedefs.now (g.R.TypeReader.types c.args.self.now.reader.now) (tables c.args.into.now) (tables c.labels.new.into) (tables c.statement.new.into) c.args.self.now.tokens.now.tokens c.requires.tied c.labels.ensures.keeps is_statement c.in_ok-statement.field-0 (λ (n : Names). readers n c.args.depth Statements (drop c.in_ok-labels.next c.args.self.now.tokens.now.tokens)) c.in_ok-statement.ensures.ok c.in-Some.statement c.in-Some.end c.in-Some.is)) c.labelled_of.ensures.ok
 
 pub labelled-labelled_of-requires-clause-place : goal.labelled-labelled_of-requires-clause-place
-labelled-labelled_of-requires-clause-place g t c = (there_of (tables c.statement.new.into) is_statement c.args.self.now.tokens.now.tokens c.in_ok-statement.field-0 (readers (names_in c.args.self.now.typedefs.now (g.R.TypeReader.types c.args.self.now.reader.now) (tables c.labels.new.into) c.args.self.now.tokens.now.tokens) c.args.depth Statements (drop c.in_ok-labels.next c.args.self.now.tokens.now.tokens)) c.in_ok-statement.ensures.ok c.in-Some.statement c.in-Some.end c.in-Some.is).1
+labelled-labelled_of-requires-clause-place g t c = (there_of (tables c.statement.new.into) is_statement c.args.self.now.tokens.now.tokens c.in_ok-statement.field-0 (readers (known_names g.R.TypeReader.types c.args.self.now (tables c.labels.new.into)) c.args.depth Statements (drop c.in_ok-labels.next c.args.self.now.tokens.now.tokens)) c.in_ok-statement.ensures.ok c.in-Some.statement c.in-Some.end c.in-Some.is).1
 
 pub labelled-labelled_of-requires-clause-labels : goal.labelled-labelled_of-requires-clause-labels
 labelled-labelled_of-requires-clause-labels g t c = subst (λ (ns : List NodeId). All (λ n. Is (tables c.statement.new.into) is_statement n) ns) (sym c.deref.ensures.value) (all_kept is_statement (tables c.labels.new.into) (tables c.statement.new.into) c.statement.ensures.keeps c.in_ok-labels.labels.items c.in_ok-labels.ensures.ok.there)
 
 pub labelled-labelled_of-requires-clause-statement : goal.labelled-labelled_of-requires-clause-statement
-labelled-labelled_of-requires-clause-statement g t c = (there_of (tables c.statement.new.into) is_statement c.args.self.now.tokens.now.tokens c.in_ok-statement.field-0 (readers (names_in c.args.self.now.typedefs.now (g.R.TypeReader.types c.args.self.now.reader.now) (tables c.labels.new.into) c.args.self.now.tokens.now.tokens) c.args.depth Statements (drop c.in_ok-labels.next c.args.self.now.tokens.now.tokens)) c.in_ok-statement.ensures.ok c.in-Some.statement c.in-Some.end c.in-Some.is).0
+labelled-labelled_of-requires-clause-statement g t c = (there_of (tables c.statement.new.into) is_statement c.args.self.now.tokens.now.tokens c.in_ok-statement.field-0 (readers (known_names g.R.TypeReader.types c.args.self.now (tables c.labels.new.into)) c.args.depth Statements (drop c.in_ok-labels.next c.args.self.now.tokens.now.tokens)) c.in_ok-statement.ensures.ok c.in-Some.statement c.in-Some.end c.in-Some.is).0
 
 pub braced-returns-in_err-items-clause-keeps : goal.braced-returns-in_err-items-clause-keeps
 braced-returns-in_err-items-clause-keeps g t c = c.items.ensures.keeps
@@ -582,19 +582,19 @@ pub switch-returns-then-below-eq0-clause-keeps : goal.switch-returns-then-below-
 switch-returns-then-below-eq0-clause-keeps g t c = c.condition.ensures.keeps
 
 pub switch-returns-then-below-eq0-clause-ok : goal.switch-returns-then-below-eq0-clause-ok
-switch-returns-then-below-eq0-clause-ok g t c = nothing _ _ _ _ (switch_none (names_in c.args.self.now.typedefs.now (g.R.TypeReader.types c.args.self.now.reader.now) (tables c.args.into.now) c.args.self.now.tokens.now.tokens) c.args.below c.args.line (readers (names_in c.args.self.now.typedefs.now (g.R.TypeReader.types c.args.self.now.reader.now) (tables c.args.into.now) c.args.self.now.tokens.now.tokens) c.args.below SwitchBlocks) (drop c.args.at c.args.self.now.tokens.now.tokens) (tree_at (tables c.condition.new.into).forest c.in-Some.value, (drop c.in-Some.next c.args.self.now.tokens.now.tokens)) (first_some (tables c.condition.new.into) is_expression c.args.self.now.tokens.now.tokens c.in_ok-value.field-0 (condition (names_in c.args.self.now.typedefs.now (g.R.TypeReader.types c.args.self.now.reader.now) (tables c.args.into.now) c.args.self.now.tokens.now.tokens) c.args.below (drop c.args.at c.args.self.now.tokens.now.tokens)) c.in_ok-value.ensures.ok c.in-Some.value c.in-Some.next c.in-Some.is) (sym (switch_zero (names_in c.args.self.now.typedefs.now (g.R.TypeReader.types c.args.self.now.reader.now) (tables c.args.into.now) c.args.self.now.tokens.now.tokens) c.args.below (drop c.in-Some.next c.args.self.now.tokens.now.tokens) c.if-below-eq0.true)))
+switch-returns-then-below-eq0-clause-ok g t c = nothing _ _ _ _ (switch_none (known_names g.R.TypeReader.types c.args.self.now (tables c.args.into.now)) c.args.below c.args.line (readers (known_names g.R.TypeReader.types c.args.self.now (tables c.args.into.now)) c.args.below SwitchBlocks) (drop c.args.at c.args.self.now.tokens.now.tokens) (tree_at (tables c.condition.new.into).forest c.in-Some.value, (drop c.in-Some.next c.args.self.now.tokens.now.tokens)) (first_some (tables c.condition.new.into) is_expression c.args.self.now.tokens.now.tokens c.in_ok-value.field-0 (condition (known_names g.R.TypeReader.types c.args.self.now (tables c.args.into.now)) c.args.below (drop c.args.at c.args.self.now.tokens.now.tokens)) c.in_ok-value.ensures.ok c.in-Some.value c.in-Some.next c.in-Some.is) (sym (switch_zero (known_names g.R.TypeReader.types c.args.self.now (tables c.args.into.now)) c.args.below (drop c.in-Some.next c.args.self.now.tokens.now.tokens) c.if-below-eq0.true)))
 
 pub switch-after-requires : goal.switch-after-requires
-switch-after-requires g t c = (there_of (tables c.condition.new.into) is_expression c.args.self.now.tokens.now.tokens c.in_ok-value.field-0 (condition (names_in c.args.self.now.typedefs.now (g.R.TypeReader.types c.args.self.now.reader.now) (tables c.args.into.now) c.args.self.now.tokens.now.tokens) c.args.below (drop c.args.at c.args.self.now.tokens.now.tokens)) c.in_ok-value.ensures.ok c.in-Some.value c.in-Some.next c.in-Some.is).1
+switch-after-requires g t c = (there_of (tables c.condition.new.into) is_expression c.args.self.now.tokens.now.tokens c.in_ok-value.field-0 (condition (known_names g.R.TypeReader.types c.args.self.now (tables c.args.into.now)) c.args.below (drop c.args.at c.args.self.now.tokens.now.tokens)) c.in_ok-value.ensures.ok c.in-Some.value c.in-Some.next c.in-Some.is).1
 
 pub switch-returns-in_default-after-clause-keeps : goal.switch-returns-in_default-after-clause-keeps
 switch-returns-in_default-after-clause-keeps g t c = c.condition.ensures.keeps
 
 pub switch-returns-in_default-after-clause-ok : goal.switch-returns-in_default-after-clause-ok
-switch-returns-in_default-after-clause-ok g t c = nothing _ _ _ _ (switch_none (names_in c.args.self.now.typedefs.now (g.R.TypeReader.types c.args.self.now.reader.now) (tables c.args.into.now) c.args.self.now.tokens.now.tokens) c.args.below c.args.line (readers (names_in c.args.self.now.typedefs.now (g.R.TypeReader.types c.args.self.now.reader.now) (tables c.args.into.now) c.args.self.now.tokens.now.tokens) c.args.below SwitchBlocks) (drop c.args.at c.args.self.now.tokens.now.tokens) (tree_at (tables c.condition.new.into).forest c.in-Some.value, (drop c.in-Some.next c.args.self.now.tokens.now.tokens)) (first_some (tables c.condition.new.into) is_expression c.args.self.now.tokens.now.tokens c.in_ok-value.field-0 (condition (names_in c.args.self.now.typedefs.now (g.R.TypeReader.types c.args.self.now.reader.now) (tables c.args.into.now) c.args.self.now.tokens.now.tokens) c.args.below (drop c.args.at c.args.self.now.tokens.now.tokens)) c.in_ok-value.ensures.ok c.in-Some.value c.in-Some.next c.in-Some.is) (sym (switch_not (names_in c.args.self.now.typedefs.now (g.R.TypeReader.types c.args.self.now.reader.now) (tables c.args.into.now) c.args.self.now.tokens.now.tokens) c.args.below (drop c.in-Some.next c.args.self.now.tokens.now.tokens) (omega arith) c.in_default-after.ensures)))
+switch-returns-in_default-after-clause-ok g t c = nothing _ _ _ _ (switch_none (known_names g.R.TypeReader.types c.args.self.now (tables c.args.into.now)) c.args.below c.args.line (readers (known_names g.R.TypeReader.types c.args.self.now (tables c.args.into.now)) c.args.below SwitchBlocks) (drop c.args.at c.args.self.now.tokens.now.tokens) (tree_at (tables c.condition.new.into).forest c.in-Some.value, (drop c.in-Some.next c.args.self.now.tokens.now.tokens)) (first_some (tables c.condition.new.into) is_expression c.args.self.now.tokens.now.tokens c.in_ok-value.field-0 (condition (known_names g.R.TypeReader.types c.args.self.now (tables c.args.into.now)) c.args.below (drop c.args.at c.args.self.now.tokens.now.tokens)) c.in_ok-value.ensures.ok c.in-Some.value c.in-Some.next c.in-Some.is) (sym (switch_not (known_names g.R.TypeReader.types c.args.self.now (tables c.args.into.now)) c.args.below (drop c.in-Some.next c.args.self.now.tokens.now.tokens) (omega arith) c.in_default-after.ensures)))
 
 pub switch-line_at-first-requires : goal.switch-line_at-first-requires
-switch-line_at-first-requires g t c = (there_of (tables c.condition.new.into) is_expression c.args.self.now.tokens.now.tokens c.in_ok-value.field-0 (condition (names_in c.args.self.now.typedefs.now (g.R.TypeReader.types c.args.self.now.reader.now) (tables c.args.into.now) c.args.self.now.tokens.now.tokens) c.args.below (drop c.args.at c.args.self.now.tokens.now.tokens)) c.in_ok-value.ensures.ok c.in-Some.value c.in-Some.next c.in-Some.is).1
+switch-line_at-first-requires g t c = (there_of (tables c.condition.new.into) is_expression c.args.self.now.tokens.now.tokens c.in_ok-value.field-0 (condition (known_names g.R.TypeReader.types c.args.self.now (tables c.args.into.now)) c.args.below (drop c.args.at c.args.self.now.tokens.now.tokens)) c.in_ok-value.ensures.ok c.in-Some.value c.in-Some.next c.in-Some.is).1
 
 pub switch-braced-requires : goal.switch-braced-requires
 switch-braced-requires g t c κs within = (omega arith, (within, (c.in-Some-after.ensures.1, tied_kept (g.R.TypeReader.types c.args.self.now.reader.now) (tables c.args.into.now) (tables c.condition.new.into) c.args.self.now.tokens.now.tokens c.requires.tied c.condition.ensures.keeps)))
@@ -603,7 +603,7 @@ pub do_loop-returns-in_default-clause-keeps : goal.do_loop-returns-in_default-cl
 do_loop-returns-in_default-clause-keeps g t c = c.statement.ensures.keeps
 
 pub do_loop-returns-in_default-clause-ok : goal.do_loop-returns-in_default-clause-ok
-do_loop-returns-in_default-clause-ok g t c = nothing _ _ _ _ (do_none (names_in c.args.self.now.typedefs.now (g.R.TypeReader.types c.args.self.now.reader.now) (tables c.args.into.now) c.args.self.now.tokens.now.tokens) c.args.below c.args.line (readers (names_in c.args.self.now.typedefs.now (g.R.TypeReader.types c.args.self.now.reader.now) (tables c.args.into.now) c.args.self.now.tokens.now.tokens) c.args.below Statements) (drop c.args.at c.args.self.now.tokens.now.tokens) (first_none (tables c.statement.new.into) is_statement c.args.self.now.tokens.now.tokens c.in_ok-body.field-0 (readers (names_in c.args.self.now.typedefs.now (g.R.TypeReader.types c.args.self.now.reader.now) (tables c.args.into.now) c.args.self.now.tokens.now.tokens) c.args.below Statements (drop c.args.at c.args.self.now.tokens.now.tokens)) c.in_ok-body.ensures.ok c.in_default.is))
+do_loop-returns-in_default-clause-ok g t c = nothing _ _ _ _ (do_none (known_names g.R.TypeReader.types c.args.self.now (tables c.args.into.now)) c.args.below c.args.line (readers (known_names g.R.TypeReader.types c.args.self.now (tables c.args.into.now)) c.args.below Statements) (drop c.args.at c.args.self.now.tokens.now.tokens) (first_none (tables c.statement.new.into) is_statement c.args.self.now.tokens.now.tokens c.in_ok-body.field-0 (readers (known_names g.R.TypeReader.types c.args.self.now (tables c.args.into.now)) c.args.below Statements (drop c.args.at c.args.self.now.tokens.now.tokens)) c.in_ok-body.ensures.ok c.in_default.is))
 
 pub do_loop-after-requires : goal.do_loop-after-requires
 do_loop-after-requires g t c = (there_of (tables c.statement.new.into) is_statement c.args.self.now.tokens.now.tokens c.in_ok-body.field-0 _ c.in_ok-body.ensures.ok c.in-Some.body c.in-Some.next c.in-Some.is).1
@@ -612,7 +612,7 @@ pub do_loop-returns-in_default-after-clause-keeps : goal.do_loop-returns-in_defa
 do_loop-returns-in_default-after-clause-keeps g t c = c.statement.ensures.keeps
 
 pub do_loop-returns-in_default-after-clause-ok : goal.do_loop-returns-in_default-after-clause-ok
-do_loop-returns-in_default-after-clause-ok g t c = nothing _ _ _ _ (do_shut (names_in c.args.self.now.typedefs.now (g.R.TypeReader.types c.args.self.now.reader.now) (tables c.statement.new.into) c.args.self.now.tokens.now.tokens) c.args.below c.args.line (tree_at (tables c.statement.new.into).forest c.in-Some.body) (drop c.in-Some.next c.args.self.now.tokens.now.tokens) c.in_default-after.ensures ∙ ap (λ (n : Names). do_end n c.args.below c.args.line (tree_at (tables c.statement.new.into).forest c.in-Some.body) (drop c.in-Some.next c.args.self.now.tokens.now.tokens)) (names_kept c.args.self.now.typedefs.now (g.R.TypeReader.types c.args.self.now.reader.now) (tables c.args.into.now) (tables c.statement.new.into) c.args.self.now.tokens.now.tokens c.requires.tied c.statement.ensures.keeps) ∙ do_on (names_in c.args.self.now.typedefs.now (g.R.TypeReader.types c.args.self.now.reader.now) (tables c.args.into.now) c.args.self.now.tokens.now.tokens) c.args.below c.args.line (readers (names_in c.args.self.now.typedefs.now (g.R.TypeReader.types c.args.self.now.reader.now) (tables c.args.into.now) c.args.self.now.tokens.now.tokens) c.args.below Statements) (drop c.args.at c.args.self.now.tokens.now.tokens) (tree_at (tables c.statement.new.into).forest c.in-Some.body, (drop c.in-Some.next c.args.self.now.tokens.now.tokens)) (first_some (tables c.statement.new.into) is_statement c.args.self.now.tokens.now.tokens c.in_ok-body.field-0 (readers (names_in c.args.self.now.typedefs.now (g.R.TypeReader.types c.args.self.now.reader.now) (tables c.args.into.now) c.args.self.now.tokens.now.tokens) c.args.below Statements (drop c.args.at c.args.self.now.tokens.now.tokens)) c.in_ok-body.ensures.ok c.in-Some.body c.in-Some.next c.in-Some.is))
+do_loop-returns-in_default-after-clause-ok g t c = nothing _ _ _ _ (do_shut (known_names g.R.TypeReader.types c.args.self.now (tables c.statement.new.into)) c.args.below c.args.line (tree_at (tables c.statement.new.into).forest c.in-Some.body) (drop c.in-Some.next c.args.self.now.tokens.now.tokens) c.in_default-after.ensures ∙ ap (λ (n : Names). do_end n c.args.below c.args.line (tree_at (tables c.statement.new.into).forest c.in-Some.body) (drop c.in-Some.next c.args.self.now.tokens.now.tokens)) (names_kept c.args.self.now.typedefs.now (g.R.TypeReader.types c.args.self.now.reader.now) (tables c.args.into.now) (tables c.statement.new.into) c.args.self.now.tokens.now.tokens c.requires.tied c.statement.ensures.keeps) ∙ do_on (known_names g.R.TypeReader.types c.args.self.now (tables c.args.into.now)) c.args.below c.args.line (readers (known_names g.R.TypeReader.types c.args.self.now (tables c.args.into.now)) c.args.below Statements) (drop c.args.at c.args.self.now.tokens.now.tokens) (tree_at (tables c.statement.new.into).forest c.in-Some.body, (drop c.in-Some.next c.args.self.now.tokens.now.tokens)) (first_some (tables c.statement.new.into) is_statement c.args.self.now.tokens.now.tokens c.in_ok-body.field-0 (readers (known_names g.R.TypeReader.types c.args.self.now (tables c.args.into.now)) c.args.below Statements (drop c.args.at c.args.self.now.tokens.now.tokens)) c.in_ok-body.ensures.ok c.in-Some.body c.in-Some.next c.in-Some.is))
 
 pub do_loop-condition-requires-clause-place : goal.do_loop-condition-requires-clause-place
 do_loop-condition-requires-clause-place g t c = c.in-Some-after.ensures.1
@@ -638,11 +638,11 @@ do_loop-returns-in-Some-2-clause-keeps g t c = extends_then (tables c.args.into.
 pub do_loop-returns-in-Some-2-clause-ok : goal.do_loop-returns-in-Some-2-clause-ok
 do_loop-returns-in-Some-2-clause-ok g t c = moved _ _ _ _ _ _
     (ap (λ (t : Tree). option_map (λ (more : List Token). let y : Tree × List Token = (OfStatement (DoWhile c.args.line (as_statement t) (as_expression (tree_at (tables c.condition.new.into).forest c.in-Some-2.value))), more) in y) (after is_semicolon (drop c.in-Some-2.end c.args.self.now.tokens.now.tokens))) (tree_kept (tables c.statement.new.into) (tables c.condition.new.into) c.in-Some.body c.condition.ensures.keeps (there_of (tables c.statement.new.into) is_statement c.args.self.now.tokens.now.tokens c.in_ok-body.field-0 _ c.in_ok-body.ensures.ok c.in-Some.body c.in-Some.next c.in-Some.is).0.0)
-    ∙ do_so (names_in c.args.self.now.typedefs.now (g.R.TypeReader.types c.args.self.now.reader.now) (tables c.statement.new.into) c.args.self.now.tokens.now.tokens) c.args.below c.args.line (tree_at (tables c.statement.new.into).forest c.in-Some.body) (drop c.in-Some.next c.args.self.now.tokens.now.tokens) (drop c.in-Some-after.inside c.args.self.now.tokens.now.tokens) c.in-Some-after.ensures.0 (tree_at (tables c.condition.new.into).forest c.in-Some-2.value, drop c.in-Some-2.end c.args.self.now.tokens.now.tokens) (first_some (tables c.condition.new.into) is_expression c.args.self.now.tokens.now.tokens c.in_ok-value.field-0 (condition (names_in c.args.self.now.typedefs.now (g.R.TypeReader.types c.args.self.now.reader.now) (tables c.statement.new.into) c.args.self.now.tokens.now.tokens) c.args.below (drop c.in-Some-after.inside c.args.self.now.tokens.now.tokens)) c.in_ok-value.ensures.ok c.in-Some-2.value c.in-Some-2.end c.in-Some-2.is)
-    ∙ ap (λ (n : Names). do_end n c.args.below c.args.line (tree_at (tables c.statement.new.into).forest c.in-Some.body) (drop c.in-Some.next c.args.self.now.tokens.now.tokens)) (names_kept c.args.self.now.typedefs.now (g.R.TypeReader.types c.args.self.now.reader.now) (tables c.args.into.now) (tables c.statement.new.into) c.args.self.now.tokens.now.tokens c.requires.tied c.statement.ensures.keeps) ∙ do_on (names_in c.args.self.now.typedefs.now (g.R.TypeReader.types c.args.self.now.reader.now) (tables c.args.into.now) c.args.self.now.tokens.now.tokens) c.args.below c.args.line (readers (names_in c.args.self.now.typedefs.now (g.R.TypeReader.types c.args.self.now.reader.now) (tables c.args.into.now) c.args.self.now.tokens.now.tokens) c.args.below Statements) (drop c.args.at c.args.self.now.tokens.now.tokens) (tree_at (tables c.statement.new.into).forest c.in-Some.body, (drop c.in-Some.next c.args.self.now.tokens.now.tokens)) (first_some (tables c.statement.new.into) is_statement c.args.self.now.tokens.now.tokens c.in_ok-body.field-0 (readers (names_in c.args.self.now.typedefs.now (g.R.TypeReader.types c.args.self.now.reader.now) (tables c.args.into.now) c.args.self.now.tokens.now.tokens) c.args.below Statements (drop c.args.at c.args.self.now.tokens.now.tokens)) c.in_ok-body.ensures.ok c.in-Some.body c.in-Some.next c.in-Some.is)) c.found_before.ensures.ok
+    ∙ do_so (known_names g.R.TypeReader.types c.args.self.now (tables c.statement.new.into)) c.args.below c.args.line (tree_at (tables c.statement.new.into).forest c.in-Some.body) (drop c.in-Some.next c.args.self.now.tokens.now.tokens) (drop c.in-Some-after.inside c.args.self.now.tokens.now.tokens) c.in-Some-after.ensures.0 (tree_at (tables c.condition.new.into).forest c.in-Some-2.value, drop c.in-Some-2.end c.args.self.now.tokens.now.tokens) (first_some (tables c.condition.new.into) is_expression c.args.self.now.tokens.now.tokens c.in_ok-value.field-0 (condition (known_names g.R.TypeReader.types c.args.self.now (tables c.statement.new.into)) c.args.below (drop c.in-Some-after.inside c.args.self.now.tokens.now.tokens)) c.in_ok-value.ensures.ok c.in-Some-2.value c.in-Some-2.end c.in-Some-2.is)
+    ∙ ap (λ (n : Names). do_end n c.args.below c.args.line (tree_at (tables c.statement.new.into).forest c.in-Some.body) (drop c.in-Some.next c.args.self.now.tokens.now.tokens)) (names_kept c.args.self.now.typedefs.now (g.R.TypeReader.types c.args.self.now.reader.now) (tables c.args.into.now) (tables c.statement.new.into) c.args.self.now.tokens.now.tokens c.requires.tied c.statement.ensures.keeps) ∙ do_on (known_names g.R.TypeReader.types c.args.self.now (tables c.args.into.now)) c.args.below c.args.line (readers (known_names g.R.TypeReader.types c.args.self.now (tables c.args.into.now)) c.args.below Statements) (drop c.args.at c.args.self.now.tokens.now.tokens) (tree_at (tables c.statement.new.into).forest c.in-Some.body, (drop c.in-Some.next c.args.self.now.tokens.now.tokens)) (first_some (tables c.statement.new.into) is_statement c.args.self.now.tokens.now.tokens c.in_ok-body.field-0 (readers (known_names g.R.TypeReader.types c.args.self.now (tables c.args.into.now)) c.args.below Statements (drop c.args.at c.args.self.now.tokens.now.tokens)) c.in_ok-body.ensures.ok c.in-Some.body c.in-Some.next c.in-Some.is)) c.found_before.ensures.ok
 
 pub do_loop-returns-in-None-clause-keeps : goal.do_loop-returns-in-None-clause-keeps
 do_loop-returns-in-None-clause-keeps g t c = extends_then (tables c.args.into.now) (tables c.statement.new.into) (tables c.condition.new.into) c.statement.ensures.keeps c.condition.ensures.keeps
 
 pub do_loop-returns-in-None-clause-ok : goal.do_loop-returns-in-None-clause-ok
-do_loop-returns-in-None-clause-ok g t c = nothing _ _ _ _ (do_unread (names_in c.args.self.now.typedefs.now (g.R.TypeReader.types c.args.self.now.reader.now) (tables c.statement.new.into) c.args.self.now.tokens.now.tokens) c.args.below c.args.line (tree_at (tables c.statement.new.into).forest c.in-Some.body) (drop c.in-Some.next c.args.self.now.tokens.now.tokens) (drop c.in-Some-after.inside c.args.self.now.tokens.now.tokens) c.in-Some-after.ensures.0 (first_none (tables c.condition.new.into) is_expression c.args.self.now.tokens.now.tokens c.in_ok-value.field-0 (condition (names_in c.args.self.now.typedefs.now (g.R.TypeReader.types c.args.self.now.reader.now) (tables c.statement.new.into) c.args.self.now.tokens.now.tokens) c.args.below (drop c.in-Some-after.inside c.args.self.now.tokens.now.tokens)) c.in_ok-value.ensures.ok c.in-None.is) ∙ ap (λ (n : Names). do_end n c.args.below c.args.line (tree_at (tables c.statement.new.into).forest c.in-Some.body) (drop c.in-Some.next c.args.self.now.tokens.now.tokens)) (names_kept c.args.self.now.typedefs.now (g.R.TypeReader.types c.args.self.now.reader.now) (tables c.args.into.now) (tables c.statement.new.into) c.args.self.now.tokens.now.tokens c.requires.tied c.statement.ensures.keeps) ∙ do_on (names_in c.args.self.now.typedefs.now (g.R.TypeReader.types c.args.self.now.reader.now) (tables c.args.into.now) c.args.self.now.tokens.now.tokens) c.args.below c.args.line (readers (names_in c.args.self.now.typedefs.now (g.R.TypeReader.types c.args.self.now.reader.now) (tables c.args.into.now) c.args.self.now.tokens.now.tokens) c.args.below Statements) (drop c.args.at c.args.self.now.tokens.now.tokens) (tree_at (tables c.statement.new.into).forest c.in-Some.body, (drop c.in-Some.next c.args.self.now.tokens.now.tokens)) (first_some (tables c.statement.new.into) is_statement c.args.self.now.tokens.now.tokens c.in_ok-body.field-0 (readers (names_in c.args.self.now.typedefs.now (g.R.TypeReader.types c.args.self.now.reader.now) (tables c.args.into.now) c.args.self.now.tokens.now.tokens) c.args.below Statements (drop c.args.at c.args.self.now.tokens.now.tokens)) c.in_ok-body.ensures.ok c.in-Some.body c.in-Some.next c.in-Some.is))
+do_loop-returns-in-None-clause-ok g t c = nothing _ _ _ _ (do_unread (known_names g.R.TypeReader.types c.args.self.now (tables c.statement.new.into)) c.args.below c.args.line (tree_at (tables c.statement.new.into).forest c.in-Some.body) (drop c.in-Some.next c.args.self.now.tokens.now.tokens) (drop c.in-Some-after.inside c.args.self.now.tokens.now.tokens) c.in-Some-after.ensures.0 (first_none (tables c.condition.new.into) is_expression c.args.self.now.tokens.now.tokens c.in_ok-value.field-0 (condition (known_names g.R.TypeReader.types c.args.self.now (tables c.statement.new.into)) c.args.below (drop c.in-Some-after.inside c.args.self.now.tokens.now.tokens)) c.in_ok-value.ensures.ok c.in-None.is) ∙ ap (λ (n : Names). do_end n c.args.below c.args.line (tree_at (tables c.statement.new.into).forest c.in-Some.body) (drop c.in-Some.next c.args.self.now.tokens.now.tokens)) (names_kept c.args.self.now.typedefs.now (g.R.TypeReader.types c.args.self.now.reader.now) (tables c.args.into.now) (tables c.statement.new.into) c.args.self.now.tokens.now.tokens c.requires.tied c.statement.ensures.keeps) ∙ do_on (known_names g.R.TypeReader.types c.args.self.now (tables c.args.into.now)) c.args.below c.args.line (readers (known_names g.R.TypeReader.types c.args.self.now (tables c.args.into.now)) c.args.below Statements) (drop c.args.at c.args.self.now.tokens.now.tokens) (tree_at (tables c.statement.new.into).forest c.in-Some.body, (drop c.in-Some.next c.args.self.now.tokens.now.tokens)) (first_some (tables c.statement.new.into) is_statement c.args.self.now.tokens.now.tokens c.in_ok-body.field-0 (readers (known_names g.R.TypeReader.types c.args.self.now (tables c.args.into.now)) c.args.below Statements (drop c.args.at c.args.self.now.tokens.now.tokens)) c.in_ok-body.ensures.ok c.in-Some.body c.in-Some.next c.in-Some.is))

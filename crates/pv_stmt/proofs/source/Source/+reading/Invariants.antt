@@ -2,10 +2,9 @@ use Rattle.std.proofs.Common.{◌≡◌, ◌≤◌, ◌+◌, ◌-◌, ◌*◌, A
 use Rattle.pv_tree.specs.Rows.{tables}
 use Rattle.pv_tree.specs.Syntax.{NoTrees}
 use Rattle.pv_tree.specs.Tables.{trees_of, is_item, Is, Extends}
-use Rattle.pv_tree.specs.TypeNames.{AreTied}
-use Rattle.pv_expr_forms.specs.Known.{names_in}
 use Rattle.pv_decl_forms.specs.Pieces.{row}
 use Rattle.pv_stmt_forms.specs.Parts.{item_in}
+use Rattle.pv_stmt.specs.Sources.{known_names, AreKnown}
 use Rattle.pv_stmt.proofs.source.Source.+reading.Given as goal
 
 abbrev pub decreases-statement : goal.decreases-statement
@@ -44,12 +43,12 @@ decreases-labelled g l = 6 * l.depth + 2
 abbrev pub invariant-items-loop-items : goal.invariant-items-loop-items
 invariant-items-loop-items g l =
     let tokens = l.self.tokens.now.tokens in
-    let part = item_in l.within (names_in l.self.typedefs.now (g.R.TypeReader.types l.self.reader.now) (tables l.fn.into) tokens) l.depth in
+    let part = item_in l.within (known_names g.R.TypeReader.types l.self (tables l.fn.into)) l.depth in
     record {
       nodes : All (λ n. Is (tables l.into) is_item n) l.items.items;
       place : l.next ≤ length tokens;
       keeps : Extends (tables l.fn.into) (tables l.into);
-      tied : AreTied (g.R.TypeReader.types l.self.reader.now) (tables l.into) tokens;
+      tied : AreKnown g.R.TypeReader.types l.self (tables l.into);
       same : row part (trees_of (tables l.into).forest l.items.items) (drop l.next tokens) ≡ row part NoTrees (drop l.fn.at tokens);
     }
 

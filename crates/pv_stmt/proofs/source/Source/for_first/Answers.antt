@@ -1,21 +1,21 @@
 use Rattle.std.proofs.Common.{◌∙◌, sym, drop}
 use Rattle.std.proofs.lemmas.Result.{IfOk-from_err}
 use Rattle.pv_tree.specs.Rows.{tables}
-use Rattle.pv_expr_forms.specs.Known.{names_in}
 use Rattle.pv_stmt_forms.proofs.Heading.{declaration_none, declaration_some, expression_none, expression_some}
+use Rattle.pv_stmt.specs.Sources.{known_names}
 use Rattle.pv_stmt.proofs.source.Source.for_first.Goals as goal
 
 pub returns-in-Some-clause-ok : goal.returns-in-Some-clause-ok
-returns-in-Some-clause-ok g c = declaration_some (names_in c.args.self.now.typedefs.now (g.R.TypeReader.types c.args.self.now.reader.now) (tables c.args.into.now) c.args.self.now.tokens.now.tokens) c.args.depth (drop c.args.at c.args.self.now.tokens.now.tokens) (sym (c.begins_type.ensures (g.R.TypeReader.types c.args.self.now.reader.now) (tables c.args.into.now)) ∙ c.if-begins_type.true) (tables c.declared.new.into) c.args.self.now.tokens.now.tokens c.in_ok-declaration.field-0 c.in_ok-declaration.ensures.ok c.in-Some.declaration c.in-Some.end c.in-Some.is
+returns-in-Some-clause-ok g c = declaration_some (known_names g.R.TypeReader.types c.args.self.now (tables c.args.into.now)) c.args.depth (drop c.args.at c.args.self.now.tokens.now.tokens) (sym (c.begins_type.ensures (g.R.TypeReader.types c.args.self.now.reader.now) (tables c.args.into.now)) ∙ c.if-begins_type.true) (tables c.declared.new.into) c.args.self.now.tokens.now.tokens c.in_ok-declaration.field-0 c.in_ok-declaration.ensures.ok c.in-Some.declaration c.in-Some.end c.in-Some.is
 
 pub returns-in-None-clause-ok : goal.returns-in-None-clause-ok
-returns-in-None-clause-ok g c = declaration_none (names_in c.args.self.now.typedefs.now (g.R.TypeReader.types c.args.self.now.reader.now) (tables c.args.into.now) c.args.self.now.tokens.now.tokens) c.args.depth (drop c.args.at c.args.self.now.tokens.now.tokens) (sym (c.begins_type.ensures (g.R.TypeReader.types c.args.self.now.reader.now) (tables c.args.into.now)) ∙ c.if-begins_type.true) (tables c.declared.new.into) c.args.self.now.tokens.now.tokens c.in_ok-declaration.field-0 c.in_ok-declaration.ensures.ok c.in-None.is
+returns-in-None-clause-ok g c = declaration_none (known_names g.R.TypeReader.types c.args.self.now (tables c.args.into.now)) c.args.depth (drop c.args.at c.args.self.now.tokens.now.tokens) (sym (c.begins_type.ensures (g.R.TypeReader.types c.args.self.now.reader.now) (tables c.args.into.now)) ∙ c.if-begins_type.true) (tables c.declared.new.into) c.args.self.now.tokens.now.tokens c.in_ok-declaration.field-0 c.in_ok-declaration.ensures.ok c.in-None.is
 
 pub returns-in-Some-2-clause-ok : goal.returns-in-Some-2-clause-ok
-returns-in-Some-2-clause-ok g c = expression_some (names_in c.args.self.now.typedefs.now (g.R.TypeReader.types c.args.self.now.reader.now) (tables c.args.into.now) c.args.self.now.tokens.now.tokens) c.args.depth (drop c.args.at c.args.self.now.tokens.now.tokens) (sym (c.begins_type.ensures (g.R.TypeReader.types c.args.self.now.reader.now) (tables c.args.into.now)) ∙ c.if-begins_type.false) (tables c.expression_before.new.into) c.args.self.now.tokens.now.tokens c.in_ok-first.field-0 c.in_ok-first.ensures.ok c.in-Some-2.first c.in-Some-2.end c.in-Some-2.is
+returns-in-Some-2-clause-ok g c = expression_some (known_names g.R.TypeReader.types c.args.self.now (tables c.args.into.now)) c.args.depth (drop c.args.at c.args.self.now.tokens.now.tokens) (sym (c.begins_type.ensures (g.R.TypeReader.types c.args.self.now.reader.now) (tables c.args.into.now)) ∙ c.if-begins_type.false) (tables c.expression_before.new.into) c.args.self.now.tokens.now.tokens c.in_ok-first.field-0 c.in_ok-first.ensures.ok c.in-Some-2.first c.in-Some-2.end c.in-Some-2.is
 
 pub returns-in-None-2-clause-ok : goal.returns-in-None-2-clause-ok
-returns-in-None-2-clause-ok g c = expression_none (names_in c.args.self.now.typedefs.now (g.R.TypeReader.types c.args.self.now.reader.now) (tables c.args.into.now) c.args.self.now.tokens.now.tokens) c.args.depth (drop c.args.at c.args.self.now.tokens.now.tokens) (sym (c.begins_type.ensures (g.R.TypeReader.types c.args.self.now.reader.now) (tables c.args.into.now)) ∙ c.if-begins_type.false) (tables c.expression_before.new.into) c.args.self.now.tokens.now.tokens c.in_ok-first.field-0 c.in_ok-first.ensures.ok c.in-None-2.is
+returns-in-None-2-clause-ok g c = expression_none (known_names g.R.TypeReader.types c.args.self.now (tables c.args.into.now)) c.args.depth (drop c.args.at c.args.self.now.tokens.now.tokens) (sym (c.begins_type.ensures (g.R.TypeReader.types c.args.self.now.reader.now) (tables c.args.into.now)) ∙ c.if-begins_type.false) (tables c.expression_before.new.into) c.args.self.now.tokens.now.tokens c.in_ok-first.field-0 c.in_ok-first.ensures.ok c.in-None-2.is
 
 pub begins_type-requires : goal.begins_type-requires
 begins_type-requires g c = c.requires.place

@@ -4,12 +4,12 @@ use Rattle.pv_tree.specs.Rows.{tables}
 use Rattle.pv_tree.specs.Syntax.{NoTrees}
 use Rattle.pv_tree.specs.Tables.{is_statement}
 use Rattle.pv_tree.proofs.Kept.{extends_same, extends_then}
-use Rattle.pv_expr_forms.specs.Known.{names_in}
 use Rattle.pv_expr_forms.proofs.Naming.{tied_kept}
 use Rattle.pv_decl_forms.specs.Pieces.{row}
 use Rattle.pv_decl_forms.proofs.Loops.{at_start, no_parts, start_row, goes_forward, part_there, parts_there, row_ends, row_goes}
 use Rattle.pv_stmt_forms.specs.Statements.{label}
 use Rattle.pv_stmt_forms.proofs.Shorter.{labels_shorten}
+use Rattle.pv_stmt.specs.Sources.{known_names}
 use Rattle.pv_stmt.proofs.source.Source.labels.Goals as goal
 
 pub loop-labels-init : goal.loop-labels-init
@@ -22,12 +22,12 @@ loop-labels-init g c = record {
 }
 
 pub returns-in_default-clause-ok : goal.returns-in_default-clause-ok
-returns-in_default-clause-ok g c = row_ends is_statement (tables c.loop-labels.into) (tables c.label.new.into) c.label.ensures.keeps c.args.self.now.tokens.now.tokens (label (names_in c.args.self.now.typedefs.now (g.R.TypeReader.types c.args.self.now.reader.now) (tables c.args.into.now) c.args.self.now.tokens.now.tokens) c.args.depth) c.loop-labels.labels.items c.loop-labels.invariant.nodes c.loop-labels.next c.loop-labels.invariant.place c.in_ok-found.field-0 (at_start c.args.self.now.typedefs.now (g.R.TypeReader.types c.args.self.now.reader.now) (tables c.args.into.now) (tables c.loop-labels.into) (tables c.label.new.into) c.args.self.now.tokens.now.tokens c.requires.tied c.loop-labels.invariant.keeps is_statement c.in_ok-found.field-0 (λ n. label n c.args.depth (drop c.loop-labels.next c.args.self.now.tokens.now.tokens)) c.in_ok-found.ensures.ok) (labels_shorten c.args.self.now.typedefs.now (g.R.TypeReader.types c.args.self.now.reader.now) (tables c.args.into.now) c.args.self.now.tokens.now.tokens c.requires.tied c.args.depth) (row (label (names_in c.args.self.now.typedefs.now (g.R.TypeReader.types c.args.self.now.reader.now) (tables c.args.into.now) c.args.self.now.tokens.now.tokens) c.args.depth) NoTrees (drop c.args.at c.args.self.now.tokens.now.tokens)) c.loop-labels.invariant.same c.in_default.is
+returns-in_default-clause-ok g c = row_ends is_statement (tables c.loop-labels.into) (tables c.label.new.into) c.label.ensures.keeps c.args.self.now.tokens.now.tokens (label (known_names g.R.TypeReader.types c.args.self.now (tables c.args.into.now)) c.args.depth) c.loop-labels.labels.items c.loop-labels.invariant.nodes c.loop-labels.next c.loop-labels.invariant.place c.in_ok-found.field-0 (at_start c.args.self.now.typedefs.now (g.R.TypeReader.types c.args.self.now.reader.now) (tables c.args.into.now) (tables c.loop-labels.into) (tables c.label.new.into) c.args.self.now.tokens.now.tokens c.requires.tied c.loop-labels.invariant.keeps is_statement c.in_ok-found.field-0 (λ n. label n c.args.depth (drop c.loop-labels.next c.args.self.now.tokens.now.tokens)) c.in_ok-found.ensures.ok) (labels_shorten c.args.self.now.typedefs.now (g.R.TypeReader.types c.args.self.now.reader.now) (tables c.args.into.now) c.args.self.now.tokens.now.tokens c.requires.tied c.args.depth) (row (label (known_names g.R.TypeReader.types c.args.self.now (tables c.args.into.now)) c.args.depth) NoTrees (drop c.args.at c.args.self.now.tokens.now.tokens)) c.loop-labels.invariant.same c.in_default.is
 
 pub loop-labels-smaller : goal.loop-labels-smaller
 loop-labels-smaller g c =
-    let far = goes_forward is_statement (tables c.loop-labels.into) (tables c.label.new.into) c.label.ensures.keeps c.args.self.now.tokens.now.tokens (label (names_in c.args.self.now.typedefs.now (g.R.TypeReader.types c.args.self.now.reader.now) (tables c.args.into.now) c.args.self.now.tokens.now.tokens) c.args.depth) c.loop-labels.labels.items c.loop-labels.invariant.nodes c.loop-labels.next c.loop-labels.invariant.place c.in_ok-found.field-0 (at_start c.args.self.now.typedefs.now (g.R.TypeReader.types c.args.self.now.reader.now) (tables c.args.into.now) (tables c.loop-labels.into) (tables c.label.new.into) c.args.self.now.tokens.now.tokens c.requires.tied c.loop-labels.invariant.keeps is_statement c.in_ok-found.field-0 (λ n. label n c.args.depth (drop c.loop-labels.next c.args.self.now.tokens.now.tokens)) c.in_ok-found.ensures.ok) (labels_shorten c.args.self.now.typedefs.now (g.R.TypeReader.types c.args.self.now.reader.now) (tables c.args.into.now) c.args.self.now.tokens.now.tokens c.requires.tied c.args.depth) c.in-Some.found c.in-Some.end c.in-Some.is in
-    let there = part_there is_statement (tables c.loop-labels.into) (tables c.label.new.into) c.label.ensures.keeps c.args.self.now.tokens.now.tokens (label (names_in c.args.self.now.typedefs.now (g.R.TypeReader.types c.args.self.now.reader.now) (tables c.args.into.now) c.args.self.now.tokens.now.tokens) c.args.depth) c.loop-labels.labels.items c.loop-labels.invariant.nodes c.loop-labels.next c.loop-labels.invariant.place c.in_ok-found.field-0 (at_start c.args.self.now.typedefs.now (g.R.TypeReader.types c.args.self.now.reader.now) (tables c.args.into.now) (tables c.loop-labels.into) (tables c.label.new.into) c.args.self.now.tokens.now.tokens c.requires.tied c.loop-labels.invariant.keeps is_statement c.in_ok-found.field-0 (λ n. label n c.args.depth (drop c.loop-labels.next c.args.self.now.tokens.now.tokens)) c.in_ok-found.ensures.ok) c.in-Some.found c.in-Some.end c.in-Some.is in
+    let far = goes_forward is_statement (tables c.loop-labels.into) (tables c.label.new.into) c.label.ensures.keeps c.args.self.now.tokens.now.tokens (label (known_names g.R.TypeReader.types c.args.self.now (tables c.args.into.now)) c.args.depth) c.loop-labels.labels.items c.loop-labels.invariant.nodes c.loop-labels.next c.loop-labels.invariant.place c.in_ok-found.field-0 (at_start c.args.self.now.typedefs.now (g.R.TypeReader.types c.args.self.now.reader.now) (tables c.args.into.now) (tables c.loop-labels.into) (tables c.label.new.into) c.args.self.now.tokens.now.tokens c.requires.tied c.loop-labels.invariant.keeps is_statement c.in_ok-found.field-0 (λ n. label n c.args.depth (drop c.loop-labels.next c.args.self.now.tokens.now.tokens)) c.in_ok-found.ensures.ok) (labels_shorten c.args.self.now.typedefs.now (g.R.TypeReader.types c.args.self.now.reader.now) (tables c.args.into.now) c.args.self.now.tokens.now.tokens c.requires.tied c.args.depth) c.in-Some.found c.in-Some.end c.in-Some.is in
+    let there = part_there is_statement (tables c.loop-labels.into) (tables c.label.new.into) c.label.ensures.keeps c.args.self.now.tokens.now.tokens (label (known_names g.R.TypeReader.types c.args.self.now (tables c.args.into.now)) c.args.depth) c.loop-labels.labels.items c.loop-labels.invariant.nodes c.loop-labels.next c.loop-labels.invariant.place c.in_ok-found.field-0 (at_start c.args.self.now.typedefs.now (g.R.TypeReader.types c.args.self.now.reader.now) (tables c.args.into.now) (tables c.loop-labels.into) (tables c.label.new.into) c.args.self.now.tokens.now.tokens c.requires.tied c.loop-labels.invariant.keeps is_statement c.in_ok-found.field-0 (λ n. label n c.args.depth (drop c.loop-labels.next c.args.self.now.tokens.now.tokens)) c.in_ok-found.ensures.ok) c.in-Some.found c.in-Some.end c.in-Some.is in
     let end : c.in-Some.end ≤ length c.args.self.now.tokens.now.tokens = there.1 in
     omega (arith, far, end)
 
@@ -35,11 +35,11 @@ pub loop-labels-preserved : goal.loop-labels-preserved
 loop-labels-preserved g c =
     let keeps = extends_then (tables c.args.into.now) (tables c.loop-labels.into) (tables c.label.new.into) c.loop-labels.invariant.keeps c.label.ensures.keeps in
     record {
-      nodes = parts_there is_statement (tables c.loop-labels.into) (tables c.label.new.into) c.label.ensures.keeps c.args.self.now.tokens.now.tokens (label (names_in c.args.self.now.typedefs.now (g.R.TypeReader.types c.args.self.now.reader.now) (tables c.args.into.now) c.args.self.now.tokens.now.tokens) c.args.depth) c.loop-labels.labels.items c.loop-labels.invariant.nodes c.loop-labels.next c.loop-labels.invariant.place c.in_ok-found.field-0 (at_start c.args.self.now.typedefs.now (g.R.TypeReader.types c.args.self.now.reader.now) (tables c.args.into.now) (tables c.loop-labels.into) (tables c.label.new.into) c.args.self.now.tokens.now.tokens c.requires.tied c.loop-labels.invariant.keeps is_statement c.in_ok-found.field-0 (λ n. label n c.args.depth (drop c.loop-labels.next c.args.self.now.tokens.now.tokens)) c.in_ok-found.ensures.ok) c.in-Some.found c.in-Some.end c.in-Some.is c.push.new.self.items c.in_ok-push.ensures.items;
-      place = (part_there is_statement (tables c.loop-labels.into) (tables c.label.new.into) c.label.ensures.keeps c.args.self.now.tokens.now.tokens (label (names_in c.args.self.now.typedefs.now (g.R.TypeReader.types c.args.self.now.reader.now) (tables c.args.into.now) c.args.self.now.tokens.now.tokens) c.args.depth) c.loop-labels.labels.items c.loop-labels.invariant.nodes c.loop-labels.next c.loop-labels.invariant.place c.in_ok-found.field-0 (at_start c.args.self.now.typedefs.now (g.R.TypeReader.types c.args.self.now.reader.now) (tables c.args.into.now) (tables c.loop-labels.into) (tables c.label.new.into) c.args.self.now.tokens.now.tokens c.requires.tied c.loop-labels.invariant.keeps is_statement c.in_ok-found.field-0 (λ n. label n c.args.depth (drop c.loop-labels.next c.args.self.now.tokens.now.tokens)) c.in_ok-found.ensures.ok) c.in-Some.found c.in-Some.end c.in-Some.is).1;
+      nodes = parts_there is_statement (tables c.loop-labels.into) (tables c.label.new.into) c.label.ensures.keeps c.args.self.now.tokens.now.tokens (label (known_names g.R.TypeReader.types c.args.self.now (tables c.args.into.now)) c.args.depth) c.loop-labels.labels.items c.loop-labels.invariant.nodes c.loop-labels.next c.loop-labels.invariant.place c.in_ok-found.field-0 (at_start c.args.self.now.typedefs.now (g.R.TypeReader.types c.args.self.now.reader.now) (tables c.args.into.now) (tables c.loop-labels.into) (tables c.label.new.into) c.args.self.now.tokens.now.tokens c.requires.tied c.loop-labels.invariant.keeps is_statement c.in_ok-found.field-0 (λ n. label n c.args.depth (drop c.loop-labels.next c.args.self.now.tokens.now.tokens)) c.in_ok-found.ensures.ok) c.in-Some.found c.in-Some.end c.in-Some.is c.push.new.self.items c.in_ok-push.ensures.items;
+      place = (part_there is_statement (tables c.loop-labels.into) (tables c.label.new.into) c.label.ensures.keeps c.args.self.now.tokens.now.tokens (label (known_names g.R.TypeReader.types c.args.self.now (tables c.args.into.now)) c.args.depth) c.loop-labels.labels.items c.loop-labels.invariant.nodes c.loop-labels.next c.loop-labels.invariant.place c.in_ok-found.field-0 (at_start c.args.self.now.typedefs.now (g.R.TypeReader.types c.args.self.now.reader.now) (tables c.args.into.now) (tables c.loop-labels.into) (tables c.label.new.into) c.args.self.now.tokens.now.tokens c.requires.tied c.loop-labels.invariant.keeps is_statement c.in_ok-found.field-0 (λ n. label n c.args.depth (drop c.loop-labels.next c.args.self.now.tokens.now.tokens)) c.in_ok-found.ensures.ok) c.in-Some.found c.in-Some.end c.in-Some.is).1;
       keeps = keeps;
       tied = tied_kept (g.R.TypeReader.types c.args.self.now.reader.now) (tables c.args.into.now) (tables c.label.new.into) c.args.self.now.tokens.now.tokens c.requires.tied keeps;
-      same = row_goes is_statement (tables c.loop-labels.into) (tables c.label.new.into) c.label.ensures.keeps c.args.self.now.tokens.now.tokens (label (names_in c.args.self.now.typedefs.now (g.R.TypeReader.types c.args.self.now.reader.now) (tables c.args.into.now) c.args.self.now.tokens.now.tokens) c.args.depth) c.loop-labels.labels.items c.loop-labels.invariant.nodes c.loop-labels.next c.loop-labels.invariant.place c.in_ok-found.field-0 (at_start c.args.self.now.typedefs.now (g.R.TypeReader.types c.args.self.now.reader.now) (tables c.args.into.now) (tables c.loop-labels.into) (tables c.label.new.into) c.args.self.now.tokens.now.tokens c.requires.tied c.loop-labels.invariant.keeps is_statement c.in_ok-found.field-0 (λ n. label n c.args.depth (drop c.loop-labels.next c.args.self.now.tokens.now.tokens)) c.in_ok-found.ensures.ok) (labels_shorten c.args.self.now.typedefs.now (g.R.TypeReader.types c.args.self.now.reader.now) (tables c.args.into.now) c.args.self.now.tokens.now.tokens c.requires.tied c.args.depth) (row (label (names_in c.args.self.now.typedefs.now (g.R.TypeReader.types c.args.self.now.reader.now) (tables c.args.into.now) c.args.self.now.tokens.now.tokens) c.args.depth) NoTrees (drop c.args.at c.args.self.now.tokens.now.tokens)) c.loop-labels.invariant.same c.in-Some.found c.in-Some.end c.in-Some.is c.push.new.self.items c.in_ok-push.ensures.items;
+      same = row_goes is_statement (tables c.loop-labels.into) (tables c.label.new.into) c.label.ensures.keeps c.args.self.now.tokens.now.tokens (label (known_names g.R.TypeReader.types c.args.self.now (tables c.args.into.now)) c.args.depth) c.loop-labels.labels.items c.loop-labels.invariant.nodes c.loop-labels.next c.loop-labels.invariant.place c.in_ok-found.field-0 (at_start c.args.self.now.typedefs.now (g.R.TypeReader.types c.args.self.now.reader.now) (tables c.args.into.now) (tables c.loop-labels.into) (tables c.label.new.into) c.args.self.now.tokens.now.tokens c.requires.tied c.loop-labels.invariant.keeps is_statement c.in_ok-found.field-0 (λ n. label n c.args.depth (drop c.loop-labels.next c.args.self.now.tokens.now.tokens)) c.in_ok-found.ensures.ok) (labels_shorten c.args.self.now.typedefs.now (g.R.TypeReader.types c.args.self.now.reader.now) (tables c.args.into.now) c.args.self.now.tokens.now.tokens c.requires.tied c.args.depth) (row (label (known_names g.R.TypeReader.types c.args.self.now (tables c.args.into.now)) c.args.depth) NoTrees (drop c.args.at c.args.self.now.tokens.now.tokens)) c.loop-labels.invariant.same c.in-Some.found c.in-Some.end c.in-Some.is c.push.new.self.items c.in_ok-push.ensures.items;
     }
 
 pub label-requires-clause-place : goal.label-requires-clause-place
