@@ -10,7 +10,7 @@ use Rattle.pv_check.specs.Library.{library_named, is_format}
 use Rattle.pv_check.specs.Sorts.{is_void}
 use Rattle.pv_check.specs.Values.{written, promoted_value, assigned}
 
--- one argument before others, where all may be passed: a list helper
+-- one argument before others, where all may be passed: a list helper (6.5.2.2p4)
 abbrev pub more : Option TypedTree → Option (List TypedTree) → Option (List TypedTree)
 more (Some a) (Some rest) = Some (a ∷ rest)
 more _ _ = None

@@ -22,7 +22,7 @@ use Rattle.pv_check.specs.Stepping.{steps_in, AreSteps}
 abbrev pub parameter_shown : Known → Parameter → WholeParameter
 parameter_shown m p = record { t = tree m p.t.0; name = p.name; object = p.object }
 
--- the parameters of a list, the same
+-- the parameters of a list, the same (6.7.6.3)
 abbrev pub parameters_shown : Known → List Parameter → List WholeParameter
 parameters_shown m ps = map (parameter_shown m) ps
 
@@ -30,7 +30,7 @@ parameters_shown m ps = map (parameter_shown m) ps
 abbrev pub signature_shown : Known → Signature → WholeSignature
 signature_shown m g = record { parameters = parameters_shown m g.parameters.items; variadic = g.variadic; scope = scope_shown m (raw_of g.scope) }
 
--- the same, where there is one
+-- the same, where there is one (6.7.6.3)
 abbrev pub signature_if : Known → Option Signature → Option WholeSignature
 signature_if m None = None
 signature_if m (Some g) = Some (signature_shown m g)
@@ -39,7 +39,7 @@ signature_if m (Some g) = Some (signature_shown m g)
 abbrev pub steps_shown : Known → Steps → WholeSteps
 steps_shown m x = record { list = steps_in m x.list.items; signature = signature_if m x.signature }
 
--- the steps of a declarator that the code answers, and the state after it
+-- the steps of a declarator that the code answers, and the state after it (6.7.6)
 abbrev pub after_steps : List (List ℕ) → Bool → Raw → Stored → Option Steps → Option (After WholeSteps)
 after_steps texts u s m None = None
 after_steps texts u s m (Some x) = Some (record { value = steps_shown m.known x; state = state_of texts u s m })
@@ -71,33 +71,33 @@ abbrev pub after_value : {A : Type 0} → List (List ℕ) → Bool → Raw → S
 after_value texts u s m None = None
 after_value texts u s m (Some k) = Some (record { value = k; state = state_of texts u s m })
 
--- one parameter more behind others, and the state after it
+-- one parameter more behind others, and the state after it (6.7.6.3)
 abbrev pub after_parameter : List (List ℕ) → Bool → Raw → Stored → List WholeParameter → Option Parameter → Option (After (List WholeParameter))
 after_parameter texts u s m before None = None
 after_parameter texts u s m before (Some p) = Some (record { value = before ++ (parameter_shown m.known p ∷ []); state = state_of texts u s m })
 
--- parameters that the code answers
+-- parameters that the code answers (6.7.6.3)
 abbrev pub parameters_if : Known → Option (Vec Parameter Global) → Option (List WholeParameter)
 parameters_if m None = None
 parameters_if m (Some v) = Some (parameters_shown m v.items)
 
--- parameters that the code answers, and the state after them
+-- parameters that the code answers, and the state after them (6.7.6.3)
 abbrev pub after_parameters : List (List ℕ) → Bool → Raw → Stored → Option (Vec Parameter Global) → Option (After (List WholeParameter))
 after_parameters texts u s m None = None
 after_parameters texts u s m (Some v) = Some (record { value = parameters_shown m.known v.items; state = state_of texts u s m })
 
--- the type and the object of a parameter are there
+-- the type and the object of a parameter are there (6.7.6.3)
 abbrev pub ParameterKnown : Stored → Parameter → Type 0
 ParameterKnown m p = (p.t.0 < length m.known.terms) × IfSome p.object (λ o. o < length m.objects)
 
--- what a list of parameters names is there
+-- what a list of parameters names is there (6.7.6.3)
 abbrev pub SignatureKnown : Stored → Signature → Type 0
 SignatureKnown m g = Each (ParameterKnown m) g.parameters.items × ScopeKnown m (raw_of g.scope)
 
--- what steps name is there
+-- what steps name is there (6.7.6)
 abbrev pub StepsKnown : Stored → Steps → Type 0
 StepsKnown m x = AreSteps m.known x.list.items × IfSome x.signature (SignatureKnown m)
 
--- the same, where there is an answer
+-- the same, where there is an answer (6.7.6)
 abbrev pub KnownSteps : Stored → Option Steps → Type 0
 KnownSteps m o = IfSome o (StepsKnown m)

@@ -23,7 +23,7 @@ form_steps f (form.Function d list variadic) s =
     and_then (optional_steps (optional_at f d) s) (λ a. and_then (parameters (trees_at f list) (entered a.state)) (by_function variadic a.value))
 form_steps f form.Misplaced s = None
 
--- its parts are nodes and lists of the tree, below it
+-- its parts are nodes and lists of the tree, below it (6.7.6)
 abbrev pub HasFormParts : Forest → (count : ℕ) → Form → Type 0
 HasFormParts f count form.Name = Unit {0}
 HasFormParts f count (form.Paren d) = Has f count is_declarator d

@@ -25,7 +25,7 @@ use Rattle.pv_check.specs.State.{State, After, and_then, give, look, look_tag}
 use Rattle.pv_check.specs.Tags.{opened, some_members, completed, opened_enumeration, closed_enumeration, composite_named, enumeration_named}
 use Rattle.pv_check.specs.Typing.{members, member_declarators, member_declarator, enumerators}
 
--- the list of a specifier, as the code takes it apart
+-- the list of a specifier, as the code takes it apart (6.7.2.1, 6.7.2.2)
 abbrev pub list_of : Listed → ListId
 list_of (list.Composite union n l) = l
 list_of (list.Enumeration n l) = l
@@ -84,14 +84,14 @@ declared_member f n t m = member_declarator t (tree_at f n) m
 abbrev pub declared_members : Forest → ListId → Ty → After (List Named) → Option (After (List Named))
 declared_members f l t m = member_declarators (trees_at f l) t m.value m.state
 
--- a specifier that has no list in braces
+-- a specifier that has no list in braces (6.7.2.1, 6.7.2.2)
 abbrev pub is_unlisted : Spec → Bool
 is_unlisted (spec.Struct n ms) = false
 is_unlisted (spec.Union n ms) = false
 is_unlisted (spec.Enum n es comma) = false
 is_unlisted _ = true
 
--- a specifier that is no word alone
+-- a specifier that is no word alone (6.7.1 to 6.7.3)
 abbrev pub is_no_keyword : Spec → Bool
 is_no_keyword (spec.StructTag n) = true
 is_no_keyword (spec.UnionTag n) = true

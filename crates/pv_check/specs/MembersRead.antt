@@ -14,17 +14,17 @@ use Rattle.pv_check.specs.State.{After}
 abbrev pub members_shown : Known → MemberList → List Named
 members_shown m ms = named_in (trees m) ms.list.items
 
--- the same, where there are any
+-- the same, where there are any (6.7.2.1)
 abbrev pub members_if : Known → Option MemberList → Option (List Named)
 members_if m None = None
 members_if m (Some ms) = Some (members_shown m ms)
 
--- members, and the state after them
+-- members, and the state after them (6.7.2.1)
 abbrev pub after_members : List (List ℕ) → Bool → Raw → Stored → Option MemberList → Option (After (List Named))
 after_members texts u s m None = None
 after_members texts u s m (Some ms) = Some (record { value = members_shown m.known ms; state = state_of texts u s m })
 
--- members that were read before, and the state after them
+-- members that were read before, and the state after them (6.7.2.1)
 abbrev pub members_after : List (List ℕ) → Bool → Raw → Stored → MemberList → After (List Named)
 members_after texts u s m ms = record { value = members_shown m.known ms; state = state_of texts u s m }
 

@@ -19,36 +19,36 @@ use Rattle.pv_check.specs.State.{State, After}
 abbrev pub state_of : List (List ℕ) → Bool → Raw → Stored → State
 state_of texts unevaluated s m = record { scopes = scopes_shown m.known s.scopes; unit = whole m; texts = texts; used = map used_of s.used; unevaluated = unevaluated }
 
--- what a name designates is there
+-- what a name designates is there (6.2.1p1)
 abbrev pub EntryKnown : Stored → Entry → Type 0
 EntryKnown m (entry.Object o) = o < length m.objects
 EntryKnown m (entry.Function f) = f < length m.functions
 EntryKnown m (entry.Typedef t) = t.0 < length m.known.terms
 EntryKnown m (entry.Constant value) = Unit {0}
 
--- what a tag designates is there
+-- what a tag designates is there (6.7.2.3)
 abbrev pub TagKnown : Stored → TagEntry → Type 0
 TagKnown m (tag.Composite n) = n < length m.known.tags
 TagKnown m tag.Enumerated = Unit {0}
 TagKnown m tag.Unfinished = Unit {0}
 
--- the number is the tag of a structure, or of a union
+-- the number is the tag of a structure, or of a union (6.7.2.3)
 abbrev pub HasTag : Stored → Bool → ℕ → Type 0
 HasTag m union n = (n < length m.known.tags) × ((heading_at m.known.tags n).union ≡ union)
 
--- what a name of a scope designates is there
+-- what a name of a scope designates is there (6.2.1p1)
 abbrev pub NameKnown : Stored → ℕ × Entry → Type 0
 NameKnown m e = EntryKnown m e.1
 
--- what a tag of a scope designates is there
+-- what a tag of a scope designates is there (6.7.2.3)
 abbrev pub TagNameKnown : Stored → ℕ × TagEntry → Type 0
 TagNameKnown m e = TagKnown m e.1
 
--- what a scope names is there
+-- what a scope names is there (6.2.1p4)
 abbrev pub ScopeKnown : Stored → RawScope → Type 0
 ScopeKnown m x = Each (NameKnown m) x.names × Each (TagNameKnown m) x.tags
 
--- there is a scope, and all that tables and scopes name is there
+-- there is a scope, and all that tables and scopes name is there (6.2.1p4)
 pub record IsOpen (m : Stored) (s : Raw) : Type 0 where
   pub known : AreKnown m
   pub sized : AreSized m.known
@@ -63,7 +63,7 @@ pub record Goes (old new : Stored) : Type 0 where
   pub sized : AreSized old.known → AreSized new.known
   pub completed : Lengthens (env old.known) (env new.known)
 
--- an answer of a type, and the state after it
+-- an answer of a type, and the state after it (6.7.7)
 abbrev pub after_type : List (List ℕ) → Bool → Raw → Stored → Option TypeId → Option (After Ty)
 after_type texts unevaluated s m None = None
 after_type texts unevaluated s m (Some t) = Some (record { value = tree m.known t.0; state = state_of texts unevaluated s m })

@@ -21,12 +21,12 @@ one_passed NoTys true a = further a
 one_passed NoTys false a = None
 one_passed (MoreTys t ts) variadic a = assigned t a
 
--- the arguments of an answer
+-- the arguments of an answer (6.5.2.2p4)
 abbrev pub trees_if : Stored → Option (Vec NodeId Global) → Option (List TypedTree)
 trees_if m None = None
 trees_if m (Some v) = Some (map (expression_at m) v.items)
 
--- arguments, and the state after them
+-- arguments, and the state after them (6.5.2.2p4)
 abbrev pub after_nodes : List (List ℕ) → Bool → Raw → Stored → Option (Vec NodeId Global) → Option (After (List TypedTree))
 after_nodes texts u s m None = None
 after_nodes texts u s m (Some v) = Some (record { value = map (expression_at m) v.items; state = state_of texts u s m })
@@ -37,7 +37,7 @@ reads place.Text cs = is_format cs
 reads place.Conversion cs = is_conversion cs
 reads place.LongConversion cs = is_long_conversion cs
 
--- the same, where it is a format so far
+-- the same, where it is a format so far (7.21.6.1)
 abbrev pub reads_if : Option Place → List ℕ → Bool
 reads_if None cs = false
 reads_if (Some p) cs = reads p cs

@@ -17,36 +17,36 @@ pub record RawScope : Type 0 where
   pub names : List (ℕ × Entry)
   pub tags : List (ℕ × TagEntry)
 
--- the scopes, the innermost last, and what expressions named, in order
+-- the scopes, the innermost last, and what expressions named, in order (6.2.1p4)
 pub record Raw : Type 0 where
   pub scopes : List RawScope
   pub used : List Named
 
--- a scope without names
+-- a scope without names (6.2.1p4)
 abbrev pub no_raw : RawScope
 no_raw = record { names = []; tags = [] }
 
--- a scope that the code keeps, as lists
+-- a scope that the code keeps, as lists (6.2.1p4)
 abbrev pub raw_of : KeptScope → RawScope
 raw_of s = record { names = s.names.entries; tags = s.tags.entries }
 
--- the innermost scope
+-- the innermost scope (6.2.1p4)
 abbrev pub raw_innermost : List RawScope → RawScope
 raw_innermost ss = slice_index_or ss (length ss - 1) no_raw
 
--- the names of a scope
+-- the names of a scope (6.2.1p1)
 abbrev pub raw_names : RawScope → List (ℕ × Entry)
 raw_names s = s.names
 
--- the tags of a scope
+-- the tags of a scope (6.2.3p1)
 abbrev pub raw_tags : RawScope → List (ℕ × TagEntry)
 raw_tags s = s.tags
 
--- the names of a scope that the code keeps
+-- the names of a scope that the code keeps (6.2.1p1)
 abbrev pub kept_names : KeptScope → List (ℕ × Entry)
 kept_names s = s.names.entries
 
--- the tags of a scope that the code keeps
+-- the tags of a scope that the code keeps (6.2.3p1)
 abbrev pub kept_tags : KeptScope → List (ℕ × TagEntry)
 kept_tags s = s.tags.entries
 
@@ -76,11 +76,11 @@ abbrev pub used_of : Named → Used
 used_of (named.Object o) = UsedObject o
 used_of (named.Function f) = UsedFunction f
 
--- a name and what it designates
+-- a name and what it designates (6.2.1p1)
 abbrev pub name_shown : Known → ℕ × Entry → ℕ × Meaning
 name_shown m e = (e.0, meaning_in m e.1)
 
--- a tag and what it designates
+-- a tag and what it designates (6.2.3p1)
 abbrev pub tag_shown : Known → ℕ × TagEntry → ℕ × TagMeaning
 tag_shown m e = (e.0, tag_meaning m e.1)
 
@@ -88,32 +88,32 @@ tag_shown m e = (e.0, tag_meaning m e.1)
 abbrev pub scope_shown : Known → RawScope → Scope
 scope_shown m s = record { names = map (name_shown m) s.names; tags = map (tag_shown m) s.tags }
 
--- the scopes, with the trees of types
+-- the scopes, with the trees of types (6.2.1p4)
 abbrev pub scopes_shown : Known → List RawScope → List Scope
 scopes_shown m ss = map (scope_shown m) ss
 
--- what a name designates, where it is found
+-- what a name designates, where it is found (6.2.1p1)
 abbrev pub meaning_if : Known → Option Entry → Option Meaning
 meaning_if m None = None
 meaning_if m (Some e) = Some (meaning_in m e)
 
--- what a tag designates, where it is found
+-- what a tag designates, where it is found (6.2.3p1)
 abbrev pub tag_meaning_if : Known → Option TagEntry → Option TagMeaning
 tag_meaning_if m None = None
 tag_meaning_if m (Some e) = Some (tag_meaning m e)
 
--- a tag, as it is declared
+-- a tag, as it is declared (6.7.2.3)
 abbrev pub entry_of_tag : Tag → TagEntry
 entry_of_tag (known_tag.Composite n) = tag.Composite n
 entry_of_tag known_tag.Enumerated = tag.Enumerated
 
--- a tag, as it is looked up; an enumeration is one within its list, too
+-- a tag, as it is looked up; an enumeration is one within its list, too (6.7.2.3)
 abbrev pub tag_of_entry : TagEntry → Tag
 tag_of_entry (tag.Composite n) = known_tag.Composite n
 tag_of_entry tag.Enumerated = known_tag.Enumerated
 tag_of_entry tag.Unfinished = known_tag.Enumerated
 
--- the same, where it is found
+-- the same, where it is found (6.7.2.3)
 abbrev pub tag_if : Option TagEntry → Option Tag
 tag_if None = None
 tag_if (Some e) = Some (tag_of_entry e)

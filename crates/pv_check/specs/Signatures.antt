@@ -8,6 +8,6 @@ use Rattle.pv_check.specs.declared.composite_types.Signature.{Signature}
 abbrev pub IsSignature : Known → ℕ → Signature → Type 0
 IsSignature m n s = (s.result.0 < n) × (s.params < length m.lists) × AllBelow n (list_at m.lists s.params)
 
--- the function type that it is
+-- the function type that it is (6.7.6.3)
 abbrev pub signature_in : Known → Signature → Ty
 signature_in m s = FunctionTy (tree m s.result.0) (parameters_at m s.params) s.variadic
