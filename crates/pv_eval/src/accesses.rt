@@ -1,18 +1,22 @@
 // Reads and writes through lvalues (C17 6.3.2.1p2, 6.5.16), which are accesses of the node's own.
-ghost use Rattle.std.specs.Prelude.{◌≡◌, ◌≤◌, ◌++◌, ◌∷◌, length, true, false, IfOk, IfErr, OnOk, Some};
+ghost use Rattle.std.specs.Prelude.{◌≡◌, ◌≤◌, ◌<◌, ◌++◌, List, [], ◌∷◌, length, true, false, Result, Err, IfOk, IfErr, OnOk, Some};
+ghost use Rattle.pv_inst.specs.declared.values.Tried.{Tried};
+ghost use Rattle.pv_inst.specs.declared.values.Miss.{Miss};
 ghost use Rattle.pv_inst.specs.Table.{IsMadeIn};
+ghost use Rattle.pv_inst.specs.Use.{settled};
 ghost use Rattle.pv_object.specs.Memory.{IsReach};
 ghost use Rattle.pv_types.specs.Known.{tree};
 ghost use Rattle.pv_typed.specs.Formed.{AreKnown};
 ghost use Rattle.pv_seq.specs.Sequencing.{access_of, conflicts, top, below, noted, rivals};
+ghost use Rattle.pv_world.specs.Worlds.{World as Seen};
 ghost use Rattle.pv_world.specs.Worths.{undefined};
-ghost use Rattle.pv_world.specs.Telling.{fault_of, verdict_of};
+ghost use Rattle.pv_world.specs.Telling.{telling, blame_of, fault_of, verdict_of};
 ghost use Rattle.pv_world.specs.Accesses.{is_inexact, IsStored};
-ghost use Rattle.pv_world.specs.Coming.{Did, Faulted, worth_of, IsMadeWorth};
-ghost use Rattle.pv_eval.specs.TypeForms.{shape_of};
+ghost use Rattle.pv_world.specs.Coming.{Came, Did, Faulted, seen, worth_of, wrong_for, IsMadeWorth};
+ghost use Rattle.pv_watch.specs.declared.event.What.{What as Told};
+ghost use Rattle.pv_eval.specs.TypeForms.{lvalue, shape_of};
 ghost use Rattle.pv_eval.specs.Sizes.{setting_of, IsComplete};
-ghost use Rattle.pv_eval.specs.Within.{lvalue_in, ReadsWithin, WritesWithin};
-ghost use Rattle.pv_eval.specs.Accesses.{reads_permitted, reads_at, reads_from, writes_alone, writes_permitted, writes_at, writes_to};
+ghost use Rattle.pv_eval.specs.Accesses.{access_to, reads_permitted, reads_at, reads_from, writes_alone, writes_permitted, writes_at, writes_to};
 
 use crate::permission::permits;
 use crate::types::{Complete, align_of, number, shape};
@@ -65,7 +69,8 @@ fn read_permitted(
     requires made { IsMadeIn world.old.memory.table p.prov }
     requires reached { IsReach world.old.memory.table at.now l.size }
     requires some { 1 ≤ length journal.old }
-    ensures did { ReadsWithin world.old p blame (reads_permitted (lvalue_in unit.now l.t) p (rivals (top journal.old)) at.now) result world.new told.old.items told.new.items }
+    ensures did { (w0 : Seen) (x : Result Tried Miss) (es us : List Told) → world.old.memory.table ≡ settled w0.memory.table p.prov x → blame ≡ blame_of w0.memory p.prov → told.old.items ≡ es ++ us → Came worth_of result world.new told.new.items
+        (seen es w0 (reads_permitted (lvalue (setting_of unit.now) (tree unit.now.known l.t.0)) p (rivals (top journal.old)) at.now world.old (telling us))) }
     ensures noted { OnOk result (journal.new ≡ noted (access_of p.address l.size false) (top journal.old) ∷ below journal.old) }
 {
     match note(journal, p.address, l.size, false) {
@@ -92,7 +97,8 @@ fn read_reached(
     requires made { IsMadeIn world.old.memory.table p.prov }
     requires reached { IsReach world.old.memory.table at.now l.size }
     requires some { 1 ≤ length journal.old }
-    ensures did { ReadsWithin world.old p blame (reads_at (setting_of unit.now) (lvalue_in unit.now l.t) p (rivals (top journal.old)) at.now) result world.new told.old.items told.new.items }
+    ensures did { (w0 : Seen) (x : Result Tried Miss) (es us : List Told) → world.old.memory.table ≡ settled w0.memory.table p.prov x → blame ≡ blame_of w0.memory p.prov → told.old.items ≡ es ++ us → Came worth_of result world.new told.new.items
+        (seen es w0 (reads_at (setting_of unit.now) (lvalue (setting_of unit.now) (tree unit.now.known l.t.0)) p (rivals (top journal.old)) at.now world.old (telling us))) }
     ensures noted { OnOk result (journal.new ≡ noted (access_of p.address l.size false) (top journal.old) ∷ below journal.old) }
 {
     match permits(alloc, unit, world, at, l, false) {
@@ -116,7 +122,7 @@ pub(crate) fn read_from(
     requires complete { IsComplete unit.now.known l }
     requires made { IsMadeIn world.old.memory.table p.prov }
     requires some { 1 ≤ length journal.old }
-    ensures did { Did worth_of (reads_from (setting_of unit.now) (lvalue_in unit.now l.t) p (rivals (top journal.old))) result world.old world.new told.old.items told.new.items }
+    ensures did { Did worth_of (reads_from (setting_of unit.now) (lvalue (setting_of unit.now) (tree unit.now.known l.t.0)) p (rivals (top journal.old))) result world.old world.new told.old.items told.new.items }
     ensures noted { OnOk result (journal.new ≡ noted (access_of p.address l.size false) (top journal.old) ∷ below journal.old) }
 {
     let align = align_of(unit.types(), l.t);
@@ -159,7 +165,8 @@ fn write_alone(
     requires value { IsStored (shape_of (tree unit.now.known l.t.0)) l.size (worth_of v) }
     requires value_made { IsMadeWorth world.old.memory.table (worth_of v) }
     requires reached { IsReach world.old.memory.table at.now l.size }
-    ensures { WritesWithin world.old p blame (writes_alone (lvalue_in unit.now l.t) p (worth_of v) from at.now) result world.new told.old.items told.new.items }
+    ensures { (w0 : Seen) (es us : List Told) → blame ≡ blame_of w0.memory p.prov → told.old.items ≡ es ++ us → Came worth_of result world.new told.new.items
+        (seen es w0 (writes_alone (lvalue (setting_of unit.now) (tree unit.now.known l.t.0)) p (worth_of v) from at.now world.old (telling us))) }
 {
     if inexact(from, p.address, l.size) {
         Err(blamed(told, Clause::OverlappingAssignment, Reason::Overlap, blame))
@@ -188,7 +195,8 @@ fn write_permitted(
     requires value_made { IsMadeWorth world.old.memory.table (worth_of v) }
     requires reached { IsReach world.old.memory.table at.now l.size }
     requires some { 1 ≤ length journal.old }
-    ensures did { WritesWithin world.old p blame (writes_permitted (lvalue_in unit.now l.t) p (worth_of v) from (rivals (top journal.old)) at.now) result world.new told.old.items told.new.items }
+    ensures did { (w0 : Seen) (es us : List Told) → blame ≡ blame_of w0.memory p.prov → told.old.items ≡ es ++ us → Came worth_of result world.new told.new.items
+        (seen es w0 (writes_permitted (lvalue (setting_of unit.now) (tree unit.now.known l.t.0)) p (worth_of v) from (rivals (top journal.old)) at.now world.old (telling us))) }
     ensures noted { OnOk result (journal.new ≡ noted (access_of p.address l.size true) (top journal.old) ∷ below journal.old) }
 {
     match note(journal, p.address, l.size, true) {
@@ -218,7 +226,8 @@ fn write_reached(
     requires value_made { IsMadeWorth world.old.memory.table (worth_of v) }
     requires reached { IsReach world.old.memory.table at.now l.size }
     requires some { 1 ≤ length journal.old }
-    ensures did { WritesWithin world.old p blame (writes_at (setting_of unit.now) (lvalue_in unit.now l.t) p (worth_of v) from (rivals (top journal.old)) at.now) result world.new told.old.items told.new.items }
+    ensures did { (w0 : Seen) (es us : List Told) → blame ≡ blame_of w0.memory p.prov → told.old.items ≡ es ++ us → Came worth_of result world.new told.new.items
+        (seen es w0 (writes_at (setting_of unit.now) (lvalue (setting_of unit.now) (tree unit.now.known l.t.0)) p (worth_of v) from (rivals (top journal.old)) at.now world.old (telling us))) }
     ensures noted { OnOk result (journal.new ≡ noted (access_of p.address l.size true) (top journal.old) ∷ below journal.old) }
 {
     match permits(alloc, unit, world, at, l, true) {
@@ -246,7 +255,7 @@ pub(crate) fn write_to(
     requires value_made { IsMadeWorth world.old.memory.table (worth_of v) }
     requires made { IsMadeIn world.old.memory.table p.prov }
     requires some { 1 ≤ length journal.old }
-    ensures did { Did worth_of (λ w. writes_to (setting_of unit.now) (lvalue_in unit.now l.t) p from (rivals (top journal.old)) w (worth_of v)) result world.old world.new told.old.items told.new.items }
+    ensures did { Did worth_of (λ w. writes_to (setting_of unit.now) (lvalue (setting_of unit.now) (tree unit.now.known l.t.0)) p from (rivals (top journal.old)) w (worth_of v)) result world.old world.new told.old.items told.new.items }
     ensures noted { OnOk result (journal.new ≡ noted (access_of p.address l.size true) (top journal.old) ∷ below journal.old) }
 {
     let align = align_of(unit.types(), l.t);
