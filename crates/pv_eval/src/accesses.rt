@@ -69,8 +69,8 @@ fn read_permitted(
     requires made { IsMadeIn world.old.memory.table p.prov }
     requires reached { IsReach world.old.memory.table at.now l.size }
     requires some { 1 ≤ length journal.old }
-    ensures did { (w0 : Seen) (x : Result Tried Miss) (es us : List Told) → world.old.memory.table ≡ settled w0.memory.table p.prov x → blame ≡ blame_of w0.memory p.prov → told.old.items ≡ es ++ us → Came worth_of result world.new told.new.items
-        (seen es w0 (reads_permitted (lvalue (setting_of unit.now) (tree unit.now.known l.t.0)) p (rivals (top journal.old)) at.now world.old (telling us))) }
+    ensures did { (w0 : Seen) (x : Result Tried Miss) (es us : List Told) → world.old.memory.table ≡ settled w0.memory.table p.prov x → blame ≡ blame_of w0.memory p.prov → told.old.items ≡ es ++ us
+        → Came worth_of result world.new told.new.items (seen es w0 (reads_permitted (lvalue (setting_of unit.now) (tree unit.now.known l.t.0)) p (rivals (top journal.old)) at.now world.old (telling us))) }
     ensures noted { OnOk result (journal.new ≡ noted (access_of p.address l.size false) (top journal.old) ∷ below journal.old) }
 {
     match note(journal, p.address, l.size, false) {
@@ -97,8 +97,8 @@ fn read_reached(
     requires made { IsMadeIn world.old.memory.table p.prov }
     requires reached { IsReach world.old.memory.table at.now l.size }
     requires some { 1 ≤ length journal.old }
-    ensures did { (w0 : Seen) (x : Result Tried Miss) (es us : List Told) → world.old.memory.table ≡ settled w0.memory.table p.prov x → blame ≡ blame_of w0.memory p.prov → told.old.items ≡ es ++ us → Came worth_of result world.new told.new.items
-        (seen es w0 (reads_at (setting_of unit.now) (lvalue (setting_of unit.now) (tree unit.now.known l.t.0)) p (rivals (top journal.old)) at.now world.old (telling us))) }
+    ensures did { (w0 : Seen) (x : Result Tried Miss) (es us : List Told) → world.old.memory.table ≡ settled w0.memory.table p.prov x → blame ≡ blame_of w0.memory p.prov → told.old.items ≡ es ++ us
+        → Came worth_of result world.new told.new.items (seen es w0 (reads_at (setting_of unit.now) (lvalue (setting_of unit.now) (tree unit.now.known l.t.0)) p (rivals (top journal.old)) at.now world.old (telling us))) }
     ensures noted { OnOk result (journal.new ≡ noted (access_of p.address l.size false) (top journal.old) ∷ below journal.old) }
 {
     match permits(alloc, unit, world, at, l, false) {
