@@ -178,16 +178,6 @@ module _ (names : Names) (depth : ℕ) (ts : List Token) (v : Tables) (tokens : 
       rw (← a.is, some_of v.forest specs e, ← b.is)
       (ap (λ (x : Trees). made_of (TypeName (line_here ts)) x (optional (drop next tokens) (seen w.forest tokens answer))) (trees_kept is_specifier v w keeps specs a.there))
 
--- ---- where no token is left
-
-nothing_read : (names : Names) (depth : ℕ) → None ≡ declaration names depth []
-unfolding declaration declaration_with row row_for
-nothing_read names zero = refl
-nothing_read names (suc depth) = refl
-
-pub declaration_end : (names : Names) (depth at : ℕ) (tokens : List Token) → length tokens ≤ at → None ≡ declaration names depth (drop at tokens)
-declaration_end names depth at tokens h = rw (drop_all at tokens h) (nothing_read names depth)
-
 -- ---- under the names as the clauses have them
 
 module _ {S : Type 0} (typedefs : IndexSet ℕ S) (types : TypeMap) (u v : Tables) (tokens : List Token) (at deep : ℕ) (tied : AreTied types u tokens) (place : at ≤ length tokens)

@@ -24,10 +24,6 @@ none_of_fewer braces (suc count) (t ∷ ts) h = (h.0, none_of_fewer (braces_behi
 abbrev pub Known : List Token → (from at braces : ℕ) → Type 0
 Known tokens from at braces = (n m : ℕ) → from + m ≡ at + n → NoneEnds braces n (drop at tokens) → NoneEnds 0 m (drop from tokens)
 
--- before the first token
-pub known_first : (tokens : List Token) (from : ℕ) → Known tokens from from 0
-known_first tokens from n m e h = subst (λ (k : ℕ). NoneEnds 0 k (drop from tokens)) (omega (arith, e)) h
-
 -- behind one that ends nothing
 pub known_next : (tokens : List Token) (from at braces next : ℕ) (t : Token) → slice_get tokens at ≡ Some t → Known tokens from at braces
     → (is_semicolon t.kind ≡ true → 0 < braces) → next ≡ braces_behind t.kind braces → Known tokens from (at + 1) next
