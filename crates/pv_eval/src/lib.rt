@@ -39,3 +39,4 @@ pub use frames::{Aside, Frame, Move, Now, ReadPlace, Stage, Step};
 pub use machine::Machine;
 pub use marked::Marked;
 pub use moment::Moment;
+pub use values::Kept;

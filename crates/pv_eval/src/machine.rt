@@ -24,6 +24,7 @@ use crate::frames::Step;
 use crate::marked::Marked;
 use crate::moment::Moment;
 use crate::started::{Stacks, Started};
+use crate::values::Kept;
 use pv_script::Script;
 use pv_tree::NodeId;
 use pv_typed::{Const, TypedUnit};
@@ -231,6 +232,14 @@ impl Machine {
             Some(e) => Ok(e.arguments(self.alloc)),
             None => unreachable!(),
         }
+    }
+
+    /// A value behind a pointer.
+    pub fn keep(&self, v: Got) -> Result<Kept, Failure>
+        ensures value { IfOk result (λ k. k ≡ v) }
+        ensures memory { IsMemory result }
+    {
+        Kept::new(self.alloc, v)
     }
 
     /// The line of the call that is handed up.

@@ -8,6 +8,7 @@ ghost use Rattle.pv_eval.specs.Steps.{source_of, is_minus, is_unequal};
 ghost use Rattle.pv_types.specs.Known.{tree};
 ghost use Rattle.pv_world.specs.Coming.{worth_of};
 ghost use Rattle.pv_eval.specs.Ahead.{given};
+ghost use Rattle.pv_eval.specs.Moments.{IsMemory};
 
 use crate::failure::Failure;
 use crate::frames::{Frame, Move, Stage};
@@ -17,6 +18,42 @@ use pv_tree::NodeId;
 use pv_typed::{Sign, Typed, TypedUnit};
 use pv_types::TypeId;
 use pv_world::Got;
+use std::alloc::Global;
+use std::marker::Model;
+
+/// A value behind a pointer, for what is moved at each operation.
+#[derive(Drop)]
+pub struct Kept {
+    value: Box<Got>,
+}
+
+impl Model for Kept {
+    ghost use Rattle.pv_world.specs.declared.got.Got.{Got};
+
+    ghost Value = { Got };
+
+    ghost view = { λ k. k.value.value };
+}
+
+impl Kept {
+    /// The value is kept, if there is memory.
+    pub(crate) fn new(alloc: Global, v: Got) -> Result<Kept, Failure>
+        ensures value { IfOk result (λ k. k ≡ v) }
+        ensures memory { IsMemory result }
+    {
+        match Box::new(alloc, v) {
+            Ok(value) => Ok(Kept { value }),
+            Err(_) => Err(Failure::NoMemory),
+        }
+    }
+
+    /// The value.
+    pub fn take(self) -> Got
+        ensures { result ≡ self }
+    {
+        Box::into_inner(self.value)
+    }
+}
 
 /// A value, or why there is none, as a move.
 pub(crate) fn give(r: Result<Got, Failure>) -> Result<Move, Failure>
