@@ -8,6 +8,7 @@ use Rattle.pv_eval.specs.declared.failure.Failure.{Failure}
 use Rattle.pv_eval.specs.Machines.{Started, due_turns}
 use Rattle.pv_exec.specs.declared.task.Task.{Task}
 use Rattle.pv_exec.specs.declared.task.Doing.{Doing}
+use Rattle.pv_exec.specs.declared.task.Flow.{Flow}
 use Rattle.pv_exec.specs.declared.task.Doing.TheVariants as doing
 use Rattle.pv_exec.specs.declared.task.Way.{Way}
 use Rattle.pv_exec.specs.declared.task.Way.TheVariants as way
@@ -137,3 +138,15 @@ followed-pace es w (Err e) k j h = tt
 pub fit-on : (es : List Started) (w : Result Way Failure) (d : Doing) (k j : ℕ) (P : Type 0) → FollowedPace es w k (Ok d) j → OnOk w P → P
 fit-on es (Ok x) d k j P e h = h
 fit-on es (Err x) d k j P e h = absurd e
+
+-- neither the end of a statement nor that of an expression
+pub goes-by : (d : Doing) → ((fl : Flow) → d ≡ doing.Left fl → ⊥) → (d ≡ doing.Evaluated → ⊥) → goes_on d ≡ true
+goes-by (doing.Enter n) l e = refl
+goes-by (doing.Jump n l i) f e = refl
+goes-by (doing.Statements l i) f e = refl
+goes-by (doing.Within n) l e = refl
+goes-by (doing.Store o i) l e = refl
+goes-by doing.Absent l e = refl
+goes-by doing.Evaluate l e = refl
+goes-by (doing.Left fl) l e = absurd (l fl refl)
+goes-by doing.Evaluated l e = absurd (e refl)

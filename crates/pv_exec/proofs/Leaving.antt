@@ -1,14 +1,16 @@
 -- Ends of statements, in whatever way an operation comes to them.
 use Rattle.std.proofs.Common.{◌≡◌, ℕ, ◌+◌, ◌<◌, List, [], ◌∷◌, refl, sym, subst, arith}
-use Rattle.std.specs.Prelude.{Result, length}
+use Rattle.std.specs.Prelude.{Result, Ok, Err, IfOk, length}
 use Rattle.pv_typed.specs.Tables.{Stored}
 use Rattle.pv_eval.specs.declared.failure.Failure.{Failure}
 use Rattle.pv_eval.specs.declared.marked.Marked.{Marked}
-use Rattle.pv_eval.specs.States.{Setting, State, Res, Gives}
-use Rattle.pv_eval.specs.Moments.{Moment, state_of}
+use Rattle.pv_eval.specs.States.{Setting, State, Stopped, Res, Gives, Stops}
+use Rattle.pv_eval.specs.Moments.{Moment, state_of, IsMemory}
+use Rattle.pv_world.specs.declared.got.Got.{Got}
 use Rattle.pv_eval.specs.Machines.{Started, after_first}
 use Rattle.pv_eval.specs.MachineSteps.{Fit, IsOpen}
 use Rattle.pv_exec.specs.declared.task.Flow.{Flow}
+use Rattle.pv_exec.specs.declared.task.Flow.TheVariants as flow
 use Rattle.pv_exec.specs.declared.task.Doing.TheVariants as doing
 use Rattle.pv_exec.specs.declared.task.Way.{Way}
 use Rattle.pv_exec.specs.declared.task.Way.TheVariants as way
@@ -47,3 +49,10 @@ value-again b u k es s lt = record { waits = k; level = k; law = refl; stands = 
 pub open-there : (u : Stored) (es : List Started) → Fit u es → 0 < length es → IsOpen es
 open-there u [] h lt = absurd (omega (arith, lt))
 open-there u (e ∷ es) h lt = h.0.matched
+
+-- the same where a value is kept, if there is memory for it
+pub leaves-with : (b : Setting) (u : Stored) (k : ℕ) (all : Res Reached) (v : Got) (r : Result Way Failure) (stand new : List Started) (s : State) → b.bound < s.taken + k → all ≡ Gives (Left (flow_of (flow.Returns v))) s → new ≡ stand
+    → IfOk r (λ w. w ≡ way.Do (doing.Left (flow.Returns v))) → IsMemory r → LeadsOr b u all stand r new s
+leaves-with b u k all v (Ok w) stand new s lt e n is h = subst (λ (w : Way). Leads b u all stand w new s) (sym is) (leaves-at b u k all (flow.Returns v) stand new s lt e n)
+leaves-with b u k all v (Err failure.NoMemory) stand new s lt e n is h = tt
+leaves-with b u k all v (Err (failure.Stop y line)) stand new s lt e n is h = absurd h

@@ -18,6 +18,7 @@ ghost use Rattle.pv_exec.specs.Fits.{WayFitsOr, IsScope, HasList};
 use crate::blocks::make_objects;
 use crate::statements::{begin_round, evaluate};
 use crate::task::{Doing, Flow, Task, Way};
+use crate::values::leave_with;
 use pv_eval::{Failure, Machine};
 use pv_tree::{ListId, NodeId};
 use pv_typed::{TypedStmt, TypedUnit};
@@ -153,7 +154,7 @@ fn begin(unit: &TypedUnit, n: NodeId, machine: &mut Machine) -> Result<Way, Fail
         TypedStmt::Break => Ok(Way::Do(Doing::Left(Flow::Breaks))),
         TypedStmt::Return(value) => match value {
             Some(x) => evaluate(machine, Task::Returning(n), x),
-            None => Ok(Way::Do(Doing::Left(Flow::Returns(Got::Nothing)))),
+            None => leave_with(Got::Nothing, machine),
         },
     }
 }

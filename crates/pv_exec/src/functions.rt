@@ -82,7 +82,7 @@ pub fn value_by(unit: &TypedUnit, f: u32, flow: Flow) -> Got
     ensures { (b : Setting) → b.unit ≡ whole unit.now → worth_of result ≡ value_by b (function_at b.unit f) (flow_of flow) }
 {
     match flow {
-        Flow::Returns(v) => v,
+        Flow::Returns(v) => v.take(),
         Flow::Falls => value_at_end(unit, f),
         Flow::Breaks => value_at_end(unit, f),
         Flow::Continues => value_at_end(unit, f),

@@ -176,13 +176,7 @@ pub fn once(
     match doing {
         Doing::Left(flow) => leave(unit, tasks, flow, machine),
         Doing::Evaluated => take_value(unit, tasks, machine),
-        Doing::Enter(n) => begin_operation(unit, tasks, Doing::Enter(n), machine),
-        Doing::Jump(n, l, i) => begin_operation(unit, tasks, Doing::Jump(n, l, i), machine),
-        Doing::Statements(l, i) => begin_operation(unit, tasks, Doing::Statements(l, i), machine),
-        Doing::Within(n) => begin_operation(unit, tasks, Doing::Within(n), machine),
-        Doing::Store(o, i) => begin_operation(unit, tasks, Doing::Store(o, i), machine),
-        Doing::Absent => begin_operation(unit, tasks, Doing::Absent, machine),
-        Doing::Evaluate => begin_operation(unit, tasks, Doing::Evaluate, machine),
+        doing => begin_operation(unit, tasks, doing, machine),
     }
 }
 

@@ -74,7 +74,10 @@ fn pass_value(unit: &TypedUnit, task: Task, machine: &mut Machine) -> Result<Way
     ensures quick { QuickOr machine.new.started result }
 {
     let v = machine.value();
-    resume_flow(unit, task, Flow::Returns(v), machine)
+    match machine.keep(v) {
+        Ok(v) => resume_flow(unit, task, Flow::Returns(v), machine),
+        Err(_) => Err(Failure::NoMemory),
+    }
 }
 
 /// A task is reached with the value of an expression.

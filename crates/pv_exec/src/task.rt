@@ -1,6 +1,6 @@
 // What waits for the end of a statement or for the value of an expression, and what is done now.
+use pv_eval::Kept;
 use pv_tree::{ListId, NodeId};
-use pv_world::Got;
 
 /// How a statement is left (C17 6.8.6).
 #[derive(Drop)]
@@ -8,7 +8,8 @@ pub enum Flow {
     Falls,
     Breaks,
     Continues,
-    Returns(Got),
+    /// Behind a pointer, since what is done is moved at each operation.
+    Returns(Kept),
 }
 
 /// What waits, by the number of its statement.

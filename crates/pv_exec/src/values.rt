@@ -1,7 +1,7 @@
 // What tasks do with the values of expressions.
-ghost use Rattle.std.specs.Prelude.{◌≡◌, true, OnOk};
+ghost use Rattle.std.specs.Prelude.{◌≡◌, true, OnOk, IfOk};
 ghost use Rattle.pv_typed.specs.Tables.{IsStatement};
-ghost use Rattle.pv_eval.specs.Moments.{Stays};
+ghost use Rattle.pv_eval.specs.Moments.{Stays, IsMemory};
 ghost use Rattle.pv_eval.specs.MachineSteps.{Fit};
 ghost use Rattle.pv_eval.specs.Machines.{is_ended, after_first};
 ghost use Rattle.pv_eval.specs.Runnable.{IsRunnable};
@@ -17,6 +17,7 @@ use crate::task::{Doing, Flow, Task, Way};
 use pv_eval::{Failure, Machine};
 use pv_tree::NodeId;
 use pv_typed::TypedUnit;
+use pv_world::Got;
 
 /// The value of an expression statement is dropped (C17 6.8.3p2).
 pub fn after_expression(unit: &TypedUnit, machine: &mut Machine) -> Result<Way, Failure>
@@ -99,6 +100,17 @@ pub fn after_choice(unit: &TypedUnit, n: NodeId, machine: &mut Machine) -> Resul
     }
 }
 
+/// A statement is left with a value (C17 6.8.6.4).
+pub fn leave_with(v: Got, machine: &Machine) -> Result<Way, Failure>
+    ensures way { IfOk result (λ w. w ≡ Way.Do (Doing.Left (Flow.Returns v))) }
+    ensures memory { IsMemory result }
+{
+    match machine.keep(v) {
+        Ok(v) => Ok(Way::Do(Doing::Left(Flow::Returns(v)))),
+        Err(_) => Err(Failure::NoMemory),
+    }
+}
+
 /// The expression of a `return` was evaluated (C17 6.8.6.4).
 pub fn after_return(unit: &TypedUnit, n: NodeId, machine: &mut Machine) -> Result<Way, Failure>
     requires runnable { IsRunnable unit.now }
@@ -117,7 +129,7 @@ pub fn after_return(unit: &TypedUnit, n: NodeId, machine: &mut Machine) -> Resul
             Ok(Way::Do(Doing::Left(Flow::Falls)))
         }
         Some(x) => match machine.hand(unit, x, unit.line_of(n)) {
-            Ok(v) => Ok(Way::Do(Doing::Left(Flow::Returns(v)))),
+            Ok(v) => leave_with(v, machine),
             Err(e) => Err(e),
         },
     }

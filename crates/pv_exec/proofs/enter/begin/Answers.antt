@@ -1,4 +1,4 @@
-use Rattle.std.proofs.Common.{sym, subst, ap, ◌∙◌, arith}
+use Rattle.std.proofs.Common.{refl, sym, subst, ap, ◌∙◌, arith}
 use Rattle.pv_typed.specs.Tables.{nodes, expression_at, statement_at}
 use Rattle.pv_eval.specs.Moments.{state_of}
 use Rattle.pv_exec.specs.Calls.{below}
@@ -8,6 +8,8 @@ use Rattle.pv_typed.specs.TypedStatement.{For, Return, statement_line}
 use Rattle.pv_world.specs.declared.got.Got.TheVariants as got
 use Rattle.pv_exec.specs.Leading.{LeadsOr}
 use Rattle.pv_exec.specs.Entering.{entered}
+use Rattle.pv_exec.specs.Tasks.{left}
+use Rattle.pv_exec.proofs.Leaving.{leaves-with}
 use Rattle.pv_exec.proofs.Enters.{expression-enters, choice-enters, choice-else-enters, return-enters, for-enters, do-enters, leaves, at-world, while-is, for-is-round}
 use Rattle.pv_exec.proofs.enter.begin.Goals as goal
 
@@ -109,7 +111,7 @@ pub returns-in-None-value-clause-led : goal.returns-in-None-value-clause-led
 returns-in-None-value-clause-led c = λ b out es hs hl k lt.
     let u = c.args.unit.now in
     let s = state_of c.args.machine.now.moment out es in
-    leaves b u k c.args.machine.now.started _ (flow.Returns got.Nothing) s lt (ap (λ t. entered b (below b k) t s) (c.in-Return.ensures.form ∙ ap (λ q. Return (statement_line (statement_at u c.args.n)) (optional_in (nodes u) q)) c.in-None-value.is))
+    leaves-with b u k _ got.Nothing c.leave_with.result c.args.machine.now.started _ s lt (ap (λ t. left (entered b (below b k) t s)) (c.in-Return.ensures.form ∙ ap (λ q. Return (statement_line (statement_at u c.args.n)) (optional_in (nodes u) q)) c.in-None-value.is)) refl c.leave_with.ensures.way c.leave_with.ensures.memory
 
 pub returns-in-Expression-clause-ways : goal.returns-in-Expression-clause-ways
 returns-in-Expression-clause-ways c = c.evaluate.ensures.ways c.args.unit.now tt
