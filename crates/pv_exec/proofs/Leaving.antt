@@ -3,6 +3,7 @@ use Rattle.std.proofs.Common.{◌≡◌, ℕ, ◌+◌, ◌<◌, List, [], ◌∷
 use Rattle.std.specs.Prelude.{Result, Ok, Err, IfOk, length}
 use Rattle.pv_typed.specs.Tables.{Stored}
 use Rattle.pv_eval.specs.declared.failure.Failure.{Failure}
+use Rattle.pv_eval.specs.declared.failure.Failure.TheVariants as failure
 use Rattle.pv_eval.specs.declared.marked.Marked.{Marked}
 use Rattle.pv_eval.specs.States.{Setting, State, Stopped, Res, Gives, Stops}
 use Rattle.pv_eval.specs.Moments.{Moment, state_of, IsMemory}
