@@ -35,7 +35,7 @@ quiet out hall same stays = record { gains = nothing out same; told = stays }
 
 -- ---- a program
 
-to_run : (source script : List ℕ) (u : Stored) (lines : List ScriptLine) (bound : ℕ) → IsLoadedProgram source script u lines → IsToRun source script (task.Run bound)
+abbrev to_run : (source script : List ℕ) (u : Stored) (lines : List ScriptLine) (bound : ℕ) → IsLoadedProgram source script u lines → IsToRun source script (task.Run bound)
 to_run source script u lines bound p = record { bound = bound; asks = refl; lines = lines; unit = whole u; short = p.short; reads = p.reads; comes = p.comes }
 
 pub ran_outcome : (source script : List ℕ) (u : Stored) (lines : List ScriptLine) (bound : ℕ) (sides : Option (List Bool)) (out : Sunk) (hall : Halls) (ran : Ran) (names : List (List ℕ))

@@ -58,11 +58,11 @@ run_judged u lines bound out hall run ran names runs is = record {
   shown = shown_by run;
   gives = (
     ending_of ran names (shown_by run),
-    record { run = run; runs = runs; ends = record { outcome = is.ran.outcome; turns = is.ran.turns; output = refl; events = refl; names = is.names } },
+    record { run = run; runs = runs; ends = record { outcome = is.ended.outcome; turns = is.ended.turns; output = refl; events = refl; names = is.named } },
     refl,
   );
   gains = is.gains;
-  told = subst (λ (texts : List (List ℕ)). Told hall.old (map event_of (end_of run).events) texts hall.new) (sym is.names) is.told;
+  told = subst (λ (texts : List (List ℕ)). Told hall.old (map event_of (end_of run).events) texts hall.new) (sym is.named) is.told;
 }
 
 pub run_cut_off : (u : Stored) (lines : List ScriptLine) (bound : ℕ) (out : Sunk) (hall : Halls) (run : Res Worth) (e : RunError) → IsRun (whole u) lines bound run
@@ -76,9 +76,9 @@ pub left_by : (out : Sunk) (hall : Halls) (run : Res Worth) (names : List (List 
 left_by out hall run names error.NoMemory part told = part
 left_by out hall run names error.WriteFault part told = told
 
-pub fault_of : {A : Type 0} (e : RunError) (before now : ℕ) → FaultCause (Err e) before now → HasFault {A = A} (Err e) before now
-fault_of error.NoMemory before now f = tt
-fault_of error.WriteFault before now f = f
+pub fault_of : (A : Type 0) (e : RunError) (before now : ℕ) → FaultCause (Err e) before now → HasFault {A = A} (Err e) before now
+fault_of A error.NoMemory before now f = tt
+fault_of A error.WriteFault before now f = f
 
 -- ---- what describes a unit
 

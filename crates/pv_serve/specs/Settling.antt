@@ -30,10 +30,10 @@ pub record SomeRunBy (source script : List ℕ) (bound : ℕ) (sides : Option (L
 -- 5.1.2.3p6: what is told of a run, in a unit with these names: how it ended (5.1.2.2.3p1), at which turn, and to which side each of its pairs was
 -- settled (the memory model). The sink gained all that it printed, and those who watch were told all that happened in its memory.
 pub record IsRan (out : Sunk) (hall : Halls) (ran : Ran) (names : List (List ℕ)) (run : Res Worth) (texts : List (List ℕ)) : Type 0 where
-  pub ran : RanAs run ran
+  pub ended : RanAs run ran
   pub gains : Wrote out (end_of run).output
   pub told : Told hall.old (map event_of (end_of run).events) texts hall.new
-  pub names : names ≡ texts
+  pub named : names ≡ texts
 
 -- 5.1.1.3p1: there is no run: nothing was printed, and nobody was told of anything
 pub record IsQuiet (out : Sunk) (hall : Halls) : Type 0 where

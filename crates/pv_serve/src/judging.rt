@@ -125,12 +125,19 @@ pub(crate) fn run_unit<O: Sink>(
 {
     match run(alloc, &unit, lines, bound, sides, out, hall) {
         Ok(ran) => {
-            let mut unit = unit;
-            let names = mem::replace(unit.names_mut(), Names::new(alloc));
+            let names = names_of(alloc, unit);
             Ok(Named { ran, names })
         }
         Err(error) => Err(error),
     }
+}
+
+// The names of a unit, which is let go.
+fn names_of(alloc: Global, unit: TypedUnit) -> Names
+    ensures { result ≡ unit.names }
+{
+    let mut unit = unit;
+    mem::replace(unit.names_mut(), Names::new(alloc))
 }
 
 /// A law: a source comes to one verdict, with each script and whatever is done with it. If it is run, its verdict is an end of that run.

@@ -4,25 +4,25 @@ use Rattle.pv_serve.proofs.LoadLemmas.{quiet}
 use Rattle.pv_serve.proofs.judging.judge.Goals as goal
 
 pub run_program-requires : goal.run_program-requires
-run_program-requires g c = record { fit = c.in-Ok-Program.ensures.fit; bound = c.requires }
+run_program-requires g c = record { fit = (rw c.in-Ok-Program.field-0-is at c.in-Ok-Program.ensures).fit; bound = c.requires }
 
 pub returns-in-Ok-Program : goal.returns-in-Ok-Program
 returns-in-Ok-Program g c = record {
-  judged = c.run_program.ensures.judged _ _ c.in-Ok-Program.ensures;
-  part = c.run_program.ensures.part _ _ c.in-Ok-Program.ensures;
+  judged = c.run_program.ensures.judged _ _ (rw c.in-Ok-Program.field-0-is at c.in-Ok-Program.ensures);
+  part = c.run_program.ensures.part _ _ (rw c.in-Ok-Program.field-0-is at c.in-Ok-Program.ensures);
   cause = c.run_program.ensures.cause;
 }
 
 pub returns-in-Ok-Source : goal.returns-in-Ok-Source
 returns-in-Ok-Source g c = record {
-  judged = (c.in-Ok-Source.ensures, quiet _ _ refl refl);
+  judged = ((rw c.in-Ok-Source.field-0-is at c.in-Ok-Source.ensures), quiet _ _ refl refl);
   part = tt;
   cause = tt;
 }
 
 pub returns-in-Ok-Script : goal.returns-in-Ok-Script
 returns-in-Ok-Script g c = record {
-  judged = (c.in-Ok-Script.ensures, quiet _ _ refl refl);
+  judged = ((rw c.in-Ok-Script.field-0-is at c.in-Ok-Script.ensures), quiet _ _ refl refl);
   part = tt;
   cause = tt;
 }

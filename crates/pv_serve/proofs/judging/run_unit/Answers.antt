@@ -1,4 +1,4 @@
-use Rattle.std.proofs.Common.{rules}
+use Rattle.pv_serve.specs.declared.judging.Named.{Named}
 use Rattle.pv_serve.specs.Outside.{sunk}
 use Rattle.pv_serve.proofs.RunLemmas.{runnable, left_by, fault_of}
 use Rattle.pv_serve.proofs.judging.run_unit.Goals as goal
@@ -8,7 +8,7 @@ run-requires g c = record { runnable = runnable _ c.requires.fit.known; main = c
 
 pub returns-in-Ok : goal.returns-in-Ok
 returns-in-Ok g c = record {
-  ran = record { ran = c.in-Ok.ensures.ran; gains = c.in-Ok.ensures.gains; told = c.in-Ok.ensures.told; names = search rules };
+  ran = record { ended = c.in-Ok.ensures.ran; gains = c.in-Ok.ensures.gains; told = c.in-Ok.ensures.told; named = c.names_of-names.ensures };
   left = tt;
   cause = tt;
 }
@@ -17,5 +17,5 @@ pub returns-in-Err : goal.returns-in-Err
 returns-in-Err g c = record {
   ran = tt;
   left = left_by (sunk g.O.Sink.written g.O.Sink.faults _ _) _ _ _ _ c.in-Err.ensures.part c.in-Err.ensures.told;
-  cause = fault_of _ _ _ c.in-Err.ensures.cause;
+  cause = fault_of Named _ _ _ c.in-Err.ensures.cause;
 }
