@@ -5,7 +5,7 @@ use Rattle.pv_typed.specs.Tables.{Stored}
 use Rattle.pv_eval.specs.declared.failure.Failure.{Failure}
 use Rattle.pv_eval.specs.declared.failure.Failure.TheVariants as failure
 use Rattle.pv_eval.specs.declared.marked.Marked.{Marked}
-use Rattle.pv_eval.specs.States.{Setting, State, Stopped, Res, Gives, Stops}
+use Rattle.pv_eval.specs.States.{Setting, State, Res, Gives}
 use Rattle.pv_eval.specs.Moments.{Moment, state_of, IsMemory}
 use Rattle.pv_world.specs.declared.got.Got.{Got}
 use Rattle.pv_eval.specs.Machines.{Started, after_first}

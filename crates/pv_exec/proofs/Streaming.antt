@@ -1,5 +1,5 @@
 -- What has left a run, piece after piece.
-use Rattle.std.proofs.Common.{◌≡◌, ℕ, ◌+◌, ◌-◌, ◌≤◌, List, [], ◌∷◌, ◌++◌, append_assoc, append-nil, length-append, refl, sym, ap, ◌∙◌, subst, arith}
+use Rattle.std.proofs.Common.{◌≡◌, ℕ, ◌+◌, ◌≤◌, List, [], ◌∷◌, ◌++◌, append_assoc, append-nil, length-append, refl, sym, ap, ◌∙◌, subst, arith}
 use Rattle.std.specs.Prelude.{length, take, drop, map, None, Some, Ok, Err}
 use Rattle.std.specs.declared.option.Option.{Option}
 use Rattle.std.proofs.lemmas.List.{take-append-drop, length-take, map-append}
