@@ -1,6 +1,7 @@
 //! What a source with its script comes to by a task: it is run, or described, or refused.
 ghost use Rattle.std.specs.Prelude.{◌≡◌, ℕ, List, IfOk, IfErr};
 ghost use Rattle.pv_typed.specs.Tables.{whole};
+ghost use Rattle.pv_describe.specs.Describing as describing;
 ghost use Rattle.pv_serve.specs.Jobs.{IsTask, IsBound};
 ghost use Rattle.pv_serve.specs.Verdicts.{Described};
 ghost use Rattle.pv_serve.specs.Readings.{IsFit};
@@ -76,9 +77,26 @@ fn judge_unit<O: Sink>(
 {
     match task {
         Task::Run { bound } => run_late(alloc, unit, lines, bound, out, hall),
-        Task::Check => described(check_text(alloc, &unit)),
-        Task::Layout => described(layout_text(alloc, &unit)),
+        Task::Check => checked(alloc, &unit),
+        Task::Layout => laid_out(alloc, &unit),
     }
+}
+
+// A unit is described by how many declarations it has.
+fn checked(alloc: Global, unit: &TypedUnit) -> Result<Judgement, RunError>
+    ensures described { IfOk result (λ j. verdict_of j nothing_shown ≡ Described (describing.check_text (whole unit.now))) }
+    ensures memory { IfErr result (λ e. e ≡ RunError.NoMemory) }
+{
+    described(check_text(alloc, unit))
+}
+
+// A unit is described by the layouts of its types with a tag.
+fn laid_out(alloc: Global, unit: &TypedUnit) -> Result<Judgement, RunError>
+    requires { IsFit unit.now }
+    ensures described { IfOk result (λ j. verdict_of j nothing_shown ≡ Described (describing.layout_text (whole unit.now))) }
+    ensures memory { IfErr result (λ e. e ≡ RunError.NoMemory) }
+{
+    described(layout_text(alloc, unit))
 }
 
 // A unit is described by this text.

@@ -160,6 +160,10 @@ place_within source refusal place h p = within_by source refusal place (refused_
 
 -- ---- for the code that finds it
 
+-- of a refusal that is known by its variant
+pub place_of : (source : List ℕ) (r k : Refused) (place : ℕ) → r ≡ k → IsPlace source (refusal_of k) place → IsPlace source (refusal_of r) place
+place_of source r k place e p = subst (λ (x : Refused). IsPlace source (refusal_of x) place) (sym e) p
+
 pub begins_by : (source : List ℕ) (r k : Refused) → r ≡ k → IsRefused source (refusal_of r) → Tells source (Bad (refusal_of k))
 begins_by source r k e h = subst (λ (x : Refused). Tells source (Bad (refusal_of x))) e (refused_tells source (refusal_of r) h)
 

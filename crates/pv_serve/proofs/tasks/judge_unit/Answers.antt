@@ -6,8 +6,8 @@ use Rattle.pv_serve.proofs.tasks.judge_unit.Goals as goal
 pub run_late-requires : goal.run_late-requires
 run_late-requires g c = record { fit = c.requires.fit; bound = task_bound _ _ c.in-Run.is c.requires.task }
 
-pub layout_text-requires : goal.layout_text-requires
-layout_text-requires g c = record { known = c.requires.fit.known; small = c.requires.fit.small }
+pub laid_out-requires : goal.laid_out-requires
+laid_out-requires g c = c.requires.fit
 
 pub returns-in-Run : goal.returns-in-Run
 returns-in-Run g c = record {
@@ -18,14 +18,14 @@ returns-in-Run g c = record {
 
 pub returns-in-Check : goal.returns-in-Check
 returns-in-Check g c = record {
-  judged = check_judged _ _ _ _ _ _ (refl, refl) c.in-Check.is (c.described.ensures.described _ c.check_text.ensures);
-  part = memory_cut_unit _ _ _ (sunk g.O.Sink.written g.O.Sink.faults _ _) _ _ (refl, refl) c.described.ensures.memory;
-  cause = memory_fault _ _ _ c.described.ensures.memory;
+  judged = check_judged _ _ _ _ _ _ (refl, refl) c.in-Check.is c.checked.ensures.described;
+  part = memory_cut_unit _ _ _ (sunk g.O.Sink.written g.O.Sink.faults _ _) _ _ (refl, refl) c.checked.ensures.memory;
+  cause = memory_fault _ _ _ c.checked.ensures.memory;
 }
 
 pub returns-in-Layout : goal.returns-in-Layout
 returns-in-Layout g c = record {
-  judged = layout_judged _ _ _ _ _ _ (refl, refl) c.in-Layout.is (c.described-in-Layout.ensures.described _ c.layout_text.ensures);
-  part = memory_cut_unit _ _ _ (sunk g.O.Sink.written g.O.Sink.faults _ _) _ _ (refl, refl) c.described-in-Layout.ensures.memory;
-  cause = memory_fault _ _ _ c.described-in-Layout.ensures.memory;
+  judged = layout_judged _ _ _ _ _ _ (refl, refl) c.in-Layout.is c.laid_out.ensures.described;
+  part = memory_cut_unit _ _ _ (sunk g.O.Sink.written g.O.Sink.faults _ _) _ _ (refl, refl) c.laid_out.ensures.memory;
+  cause = memory_fault _ _ _ c.laid_out.ensures.memory;
 }
