@@ -10,7 +10,7 @@ ghost use Rattle.pv_serve.specs.Jobs.{IsBound};
 ghost use Rattle.pv_serve.specs.Verdicts.{Verdict, Ending, Course};
 ghost use Rattle.pv_serve.specs.Readings.{IsFit};
 ghost use Rattle.pv_serve.specs.Comes.{source_limit};
-ghost use Rattle.pv_serve.specs.Judged.{Judged, Ends, IsLeftToRun, BothRun, script_limit};
+ghost use Rattle.pv_serve.specs.Judged.{Judged as HasVerdict, Ends, IsLeftToRun, BothRun, script_limit};
 ghost use Rattle.pv_serve.specs.Outside.{sunk, halls};
 ghost use Rattle.pv_serve.specs.Judging.{HasFault};
 ghost use Rattle.pv_serve.specs.Loading.{IsLoadedProgram};
@@ -143,9 +143,9 @@ fn names_of(alloc: Global, unit: TypedUnit) -> Names
 /// A law: a source comes to one verdict, with each script and whatever is done with it. If it is run, its verdict is an end of that run.
 pub fn one_verdict()
     ensures some { (source script : List ℕ) (t : Task)
-        → ((v : Verdict) × Judged source script t v) ⊎ IsLeftToRun source script t }
+        → ((v : Verdict) × HasVerdict source script t v) ⊎ IsLeftToRun source script t }
     ensures one { (source script : List ℕ) (t : Task) (v w : Verdict)
-        → Judged source script t v → Judged source script t w → (v ≡ w) ⊎ BothRun source script t v w }
+        → HasVerdict source script t v → HasVerdict source script t w → (v ≡ w) ⊎ BothRun source script t v w }
 {}
 
 /// A law: a run of the same tables, with the same script and bound, has no two ends.
@@ -157,9 +157,9 @@ pub fn one_end()
 /// A law: of a source and of a script, one byte above the limit tells as much as all that follow.
 pub fn first_bytes_decide()
     ensures more { (all text : List ℕ) (t : Task) (v : Verdict) →
-        Judged (take (source_limit + 1) all) (take (script_limit + 1) text) t v → Judged all text t v }
+        HasVerdict (take (source_limit + 1) all) (take (script_limit + 1) text) t v → HasVerdict all text t v }
     ensures fewer { (all text : List ℕ) (t : Task) (v : Verdict) →
-        Judged all text t v → Judged (take (source_limit + 1) all) (take (script_limit + 1) text) t v }
+        HasVerdict all text t v → HasVerdict (take (source_limit + 1) all) (take (script_limit + 1) text) t v }
 {}
 
 /// A law: watchers that had seen nothing before a run say behind its line, in their order, each the text of its kind over the first
