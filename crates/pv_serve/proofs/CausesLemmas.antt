@@ -118,9 +118,6 @@ answered_no_memory source script t out report hall cut same = record {
   told = λ not12 not13. absurd (not13 refl);
 }
 
-pub answered_nothing : (source script : List ℕ) (t : Task) (out report : Sunk) (hall : Halls) → out.new ≡ out.old → report.new ≡ report.old → Answered source script t out report hall 13
-answered_nothing source script t out report hall out_same same = answered_no_memory source script t out report hall (inl (nothing out out_same)) same
-
 pub answered_write_fault : (source script : List ℕ) (t : Task) (out report : Sunk) (hall : Halls) → IsCutOff source script t out hall error.WriteFault
     → SinkRose out → report.new ≡ report.old → Answered source script t out report hall 12
 answered_write_fault source script t out report hall cut rose same = record {
@@ -307,50 +304,7 @@ served_by_number c n e answered =
 pub job_files : (words : List (List ℕ)) (j : FileJob) → generated words ≡ None → file_job words ≡ Some j → job words ≡ Some (Files j)
 job_files words j none e = ap (λ (o : Option ℕ). either o (file_job words)) none ∙ ap (λ (o : Option FileJob). either None o) e
 
-pub job_none : (words : List (List ℕ)) → generated words ≡ None → file_job words ≡ None → job words ≡ None
-job_none words none e = ap (λ (o : Option ℕ). either o (file_job words)) none ∙ ap (λ (o : Option FileJob). either None o) e
-
 pub job_number : (words : List (List ℕ)) (n : ℕ) → generated words ≡ Some n → job words ≡ Some (Generated n)
 job_number words n e = ap (λ (o : Option ℕ). either o (file_job words)) e
 
 -- ---- words that are no job
-
-is_none_by : (o : Option Job) → o ≡ None → IsNone o
-is_none_by None e = refl
-is_none_by (Some j) e = absurd cc
-
--- nothing is told, and `words` is the report
-no_report : (c : Call) (P : List ℕ → Type 0) → job c.words ≡ None → c.hall.new ≡ c.hall.old → P words_line → HasReport (kept c) c.hall.new no_job P
-no_report c P e same p = record { told = same ∙ sym (ap (λ (o : Option Job). kept_by o c.hall.old) e); text = words_line; is = refl; holds = p }
-
-none_asked : (c : Call) (P : Answer → Type 0) → job c.words ≡ None → P no_job → SomeAnswer (job c.words) c.held P
-none_asked c P e p = subst (λ (o : Option Job). SomeAnswer o c.held P) (sym e) p
-
-no_job_table : (c : Call) → job c.words ≡ None → c.out.new ≡ c.out.old → c.hall.new ≡ c.hall.old
-    → (c.status ≢ 12 → (c.status ≡ 10) × Wrote c.report words_line) → (c.status ≡ 12 → SinkRose c.report × WrotePrefix c.report words_line) → Table c
-no_job_table c e same stays told lost = record {
-  read_fault = λ h. absurd (two_apart c.status 10 11 (omega arith) (told (λ k. two_apart c.status 11 12 (omega arith) h k)).0 h);
-  write_fault = λ h. record {
-    cause = inr (lost h).0;
-    wrote = inl (none_asked c (WroteReport c.out c.report (kept c) c.hall.new) e
-        (record { whole = nothing c.out same; begun = no_report c (WrotePrefix c.report) e stays (lost h).1 }));
-  };
-  no_memory = λ h. absurd (two_apart c.status 10 13 (omega arith) (told (λ k. two_apart c.status 12 13 (omega arith) k h)).0 h);
-  every_other = λ not11 not12 not13. none_asked c (IsAnswer c) e
-      (record { status = (told not12).0; out = nothing c.out same; report = no_report c (Wrote c.report) e stays (told not12).1 });
-}
-
-no_job_status : (c : Call) → (c.status ≢ 12 → (c.status ≡ 10) × Wrote c.report words_line) → (c.status ≡ 12 → SinkRose c.report × WrotePrefix c.report words_line)
-    → (c.status ≡ 12) ⊎ (c.status ≢ 12) → (c.status ≡ 10) ⊎ ((c.status ≡ 12) × SinkRose c.report)
-no_job_status c told lost (inl is12) = inr (is12, (lost is12).0)
-no_job_status c told lost (inr not12) = inl (told not12).0
-
-pub served_by_no_job : (c : Call) → job c.words ≡ None → c.out.new ≡ c.out.old → c.hall.new ≡ c.hall.old
-    → (c.status ≢ 12 → (c.status ≡ 10) × Wrote c.report words_line) → (c.status ≡ 12 → SinkRose c.report × WrotePrefix c.report words_line) → Served c
-served_by_no_job c e same stays told lost =
-    let t = no_job_table c e same stays told lost in
-    record {
-      table = t;
-      words = record { only = λ h. is_none_by (job c.words) e; no_job = λ n. no_job_status c told lost (cases_eq c.status 12) };
-      complete = complete c t;
-    }

@@ -48,13 +48,6 @@ pub no_more_digits : (most n : ℕ) (ds : List ℕ) (i : ℕ) → 0 < length ds 
 no_more_digits most n ds i some first lt e =
     sym (number_is most ds some first ∙ (ap (up_to most) (sym e) ∙ too_large most (digits_from n (drop i ds)) n lt (grows n (drop i ds))))
 
--- the last digit
-pub all_digits : (most n : ℕ) (ds : List ℕ) → 0 < length ds → get_or ds 0 0 ≢ 48 → n ≤ most → digits_from n (drop (length ds) ds) ≡ digits_from 0 ds → Some n ≡ number_to most ds
-all_digits most n ds some first le e =
-    let end : drop (length ds) ds ≡ [] = drop_all (length ds) ds (omega arith) in
-    let all : digits_from 0 ds ≡ Some n = sym e ∙ ap (digits_from n) end in
-    sym (number_is most ds some first ∙ (ap (up_to most) all ∙ small_enough most n le))
-
 digit_above : (d : ℕ) → is_ascii_digit d ≡ true → d ≢ 48 → 0 < d - 48
 digit_above d is not = grind (arith, nat_tests)
 
