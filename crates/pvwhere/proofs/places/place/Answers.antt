@@ -6,10 +6,10 @@ behind-requires-clause-begins c = begins_by _ _ _ c.in-Syntax.is c.requires.refu
 
 pub place_in_unit-requires : goal.place_in_unit-requires
 place_in_unit-requires c =
-    record { short = c.requires.short; refused = rw (← c.as_slice.ensures.value) (refused_by _ _ _ c.in-Check.is c.requires.refused) }
+    record { short = c.requires.short; refused = rw (c.as_slice.ensures) (refused_by _ _ _ c.in-Check.is c.requires.refused) }
 
 pub returns-in-Lex : goal.returns-in-Lex
 returns-in-Lex c = place_of _ _ _ _ c.in-Lex.is (c.place_of_fault.ensures _)
 
 pub returns-in-Check : goal.returns-in-Check
-returns-in-Check c = places_of _ _ _ _ c.in-Check.is (rw c.as_slice.ensures.value at c.place_in_unit.ensures)
+returns-in-Check c = places_of _ _ _ _ c.in-Check.is (rw c.as_slice.ensures at c.place_in_unit.ensures)
