@@ -40,6 +40,7 @@ fn blamed(told: &mut Vec<What>, clause: Clause, reason: Reason, blame: Blame) ->
 }
 
 /// The access of a node's own is noted, unless it is unsequenced relative to one that it conflicts with (C17 6.5p2).
+#[inline(always)]
 #[tactic(auto, using(crate::proofs::Rivals::some_conflict, crate::proofs::Rivals::no_conflict))]
 fn note(journal: &mut Journal, at: u64, n: u64, write: bool) -> Result<bool, Fallen>
     requires { 1 ≤ length journal.old }

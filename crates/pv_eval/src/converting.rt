@@ -69,6 +69,7 @@ pub(crate) fn need(
 }
 
 /// The value of an operand, converted where its node is an implicit conversion.
+#[inline(always)]
 pub(crate) fn convert(
     unit: &TypedUnit,
     child: NodeId,

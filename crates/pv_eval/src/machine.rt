@@ -1,5 +1,5 @@
 // The machine of expressions: the moment, and the expressions that were started.
-ghost use Rattle.std.specs.Prelude.{◌≡◌, ℕ, ◌+◌, ◌<◌, ◌^◌, true, length, map, IfOk, OnOk};
+ghost use Rattle.std.specs.Prelude.{◌≡◌, ℕ, ◌+◌, ◌<◌, ◌^◌, ◌==◌, ◌&&◌, true, length, map, IfOk, OnOk};
 ghost use Rattle.std.specs.Borrow.{Lends, sem};
 ghost use Rattle.pv_eval.specs.Rows.{bytes_row, events_row};
 ghost use Rattle.pv_eval.specs.contracts.machine.Machine.{the_row};
@@ -129,6 +129,7 @@ impl Machine {
     }
 
     /// Starts an expression, which is the innermost one then.
+    #[inline(always)]
     pub fn start(&mut self, n: NodeId) -> Result<(), Failure>
         ensures begun { OnOk result (IsBegun n self.new.started self.old.started) }
         ensures moment { self.new.moment ≡ self.old.moment }
@@ -167,6 +168,7 @@ impl Machine {
     }
 
     /// The value of the innermost expression, which has ended.
+    #[inline(always)]
     pub fn value(&mut self) -> Got
         requires { is_ended self.old.started ≡ true }
         ensures value { worth_of result ≡ ended self.old.started }
@@ -263,6 +265,14 @@ impl Machine {
             Some(e) => e.answer(v),
             None => unreachable!(),
         }
+    }
+
+    /// Whether nothing is printed that is not yet taken, and no event waits.
+    #[inline(always)]
+    pub fn is_quiet(&self) -> bool
+        ensures { result ≡ (length self.now.moment.printed == 0 && length self.now.moment.waiting == 0) }
+    {
+        self.moment.is_quiet()
     }
 
     /// The bytes that are printed and not yet taken, for whoever writes them.

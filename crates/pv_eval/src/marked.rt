@@ -16,6 +16,7 @@ pub struct Marked {
 pub(crate) struct NoMemory;
 
 /// What was told is noted, each with this turn and mark.
+#[inline(always)]
 pub(crate) fn stamp(
     waiting: &mut Vec<Marked>,
     turn: u64,

@@ -59,6 +59,7 @@ impl Moment {
     }
 
     /// What was told of an operation is marked, to be told later.
+    #[inline(always)]
     fn mark(&mut self, told: &[What]) -> Result<(), Failure>
         ensures marked { OnOk result (self.new ≡ marked self.old self.old.world told.now) }
         ensures kept { self.new ≡ record self.old { waiting = self.new.waiting } }
@@ -84,6 +85,7 @@ impl Moment {
 
     /// An operation of the node in this line gave a value, where there were so many pairs before it: what it told is marked.
     /// In a settled run a pair that it made keeps its side.
+    #[inline(always)]
     fn settle(&mut self, line: u32, before: u64, told: &[What]) -> Result<(), Failure>
         ensures settled { SettledAs line before told.now result self.old self.new }
         ensures kept { self.new ≡ record self.old { world = self.new.world; waiting = self.new.waiting } }
@@ -103,6 +105,7 @@ impl Moment {
     }
 
     /// An operation of the node in this line was made on the world, where there were so many pairs before it.
+    #[inline(always)]
     #[tactic(auto, using(crate::proofs::Marking::closed_stop))]
     pub(crate) fn close(
         &mut self,

@@ -92,6 +92,7 @@ impl Moment {
     }
 
     /// An operator on two integers (C17 6.5.5 to 6.5.12).
+    #[inline(always)]
     pub fn calculate(
         &mut self,
         unit: &TypedUnit,
@@ -131,6 +132,7 @@ impl Moment {
     }
 
     /// A value compared with 0 (C17 6.5.13 to 6.5.15).
+    #[inline(always)]
     pub fn test(&mut self, unit: &TypedUnit, line: u32, v: Got) -> Result<bool, Failure>
         requires runnable { IsRunnable unit.now }
         ensures tested { Always unit.now self.old (λ b out es. Tested (act b line (Tests (worth_of v)) (state_of self.old out es)) result (state_of self.new out es)) }
@@ -241,6 +243,7 @@ impl Moment {
     }
 
     /// A pointer of this type moved by so many elements (C17 6.5.6p8).
+    #[inline(always)]
     pub fn shift(
         &mut self,
         unit: &TypedUnit,

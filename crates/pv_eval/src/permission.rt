@@ -5,7 +5,7 @@ ghost use Rattle.pv_types.specs.Known.{tree, env};
 ghost use Rattle.pv_types.specs.Layouts.{is_complete_in, layout_in};
 ghost use Rattle.pv_types.specs.Ty.{Ty};
 ghost use Rattle.pv_layout.specs.Places.{bare};
-ghost use Rattle.pv_effect.specs.EffectiveType.{is_character, permits_marks};
+ghost use Rattle.pv_effect.specs.EffectiveType.{is_character, permits_declared, permits_marks};
 ghost use Rattle.pv_shadow.specs.Bytes.{read};
 ghost use Rattle.pv_object.specs.Memory.{IsReach};
 ghost use Rattle.pv_typed.specs.Formed.{AreKnown};
@@ -14,7 +14,7 @@ ghost use Rattle.pv_eval.specs.TypeForms.{lvalue};
 ghost use Rattle.pv_eval.specs.Sizes.{setting_of, size_in, IsComplete};
 ghost use Rattle.pv_eval.specs.Permission.{marks_of, permits_object, type_by, permits};
 
-use crate::types::{Complete, is_character, measured};
+use crate::types::{Complete, is_character, layer, measured};
 use pv_effect::{permits_declared, permits_marks};
 use pv_inst::Kind;
 use pv_layout::bare;
@@ -22,7 +22,7 @@ use pv_object::Reach;
 use pv_prov::NoMemory;
 use pv_shadow::Byte;
 use pv_typed::TypedUnit;
-use pv_types::TypeId;
+use pv_types::{Term, TypeId, Types};
 use pv_world::World;
 use std::alloc::Global;
 
@@ -55,7 +55,28 @@ fn type_by(unit: &TypedUnit, object: Option<u32>) -> Option<Complete>
     }
 }
 
+/// Whether a declared type permits it: an integer that is accessed at its own type, as most are, without a search.
+#[inline(always)]
+#[tactic(auto, using(crate::proofs::Allowing::whole_integer))]
+fn permits_part(types: &Types, declared: TypeId, offset: u64, want: TypeId) -> bool
+    requires declared { declared.0 < length types.now.terms }
+    requires declared_complete { IsTrue (is_complete_in (env types.now) (tree types.now declared.0)) }
+    requires declared_small { size_in types.now (tree types.now declared.0) ≤ 2 ^ 32 }
+    requires want { want.0 < length types.now.terms }
+    requires want_complete { IsTrue (is_complete_in (env types.now) (tree types.now want.0)) }
+    requires want_small { size_in types.now (tree types.now want.0) ≤ 2 ^ 32 }
+    ensures { result ≡ permits_declared (layout_in (env types.now) (tree types.now declared.0)).parts offset (tree types.now want.0) }
+{
+    if offset == 0 && declared.0 == want.0 {
+        if let Term::Int(_) = layer(types, want) {
+            return true;
+        }
+    }
+    permits_declared(types, declared, offset, want)
+}
+
 /// Whether what is stored in an object may be accessed through an lvalue of the type (C17 6.5p7).
+#[inline(always)]
 fn permits_object(unit: &TypedUnit, object: Option<u32>, offset: u64, want: TypeId) -> bool
     requires known { AreKnown unit.now }
     requires want { want.0 < length unit.now.known.terms }
@@ -65,7 +86,7 @@ fn permits_object(unit: &TypedUnit, object: Option<u32>, offset: u64, want: Type
 {
     let types = unit.types();
     match type_by(unit, object) {
-        Some(declared) => permits_declared(types, declared.t, offset, want),
+        Some(declared) => permits_part(types, declared.t, offset, want),
         None => is_character(types, want),
     }
 }
@@ -92,6 +113,7 @@ fn permits_heap(
 }
 
 /// Whether an access through an lvalue of the type is permitted, where it was reached (C17 6.5p7).
+#[inline(always)]
 pub(crate) fn permits(
     alloc: Global,
     unit: &TypedUnit,

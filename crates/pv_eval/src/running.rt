@@ -33,6 +33,7 @@ use pv_world::Got;
 use std::alloc::Global;
 
 /// Where a move leads.
+#[inline(always)]
 pub(crate) fn follow(
     frames: &mut Vec<Frame>,
     journal: &mut Journal,
@@ -119,6 +120,7 @@ pub(crate) fn wait(frames: &mut Vec<Frame>, journal: &mut Journal, a: NodeId, fr
 }
 
 /// What a frame does with the value that it waited for.
+#[inline(always)]
 pub(crate) fn resume(
     unit: &TypedUnit,
     frame: Frame,
@@ -147,6 +149,7 @@ pub(crate) fn resume(
 }
 
 /// Operations, until a turn is due or the expression has ended.
+#[inline(always)]
 #[tactic(auto, using(crate::proofs::Cases::stays_both))]
 pub(crate) fn unwind(
     unit: &TypedUnit,

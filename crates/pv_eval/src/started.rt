@@ -166,6 +166,7 @@ impl Started {
     }
 
     /// The value of an expression that has ended, whose stacks are kept.
+    #[inline(always)]
     pub(crate) fn value(self, spare: &mut Vec<Stacks>) -> Got
         requires { is_value self.place ≡ true }
         ensures { worth_of result ≡ value_at self.place }

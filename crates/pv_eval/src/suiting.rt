@@ -64,6 +64,7 @@ pub(crate) fn knows_arguments(world: &World, args: &[Arg]) -> bool
 }
 
 /// The same of the names in a value.
+#[inline(always)]
 #[tactic(auto, using(crate::proofs::Guards::worth_made))]
 pub(crate) fn knows(world: &World, v: &Got) -> bool
     ensures value { result ≡ knows_worth world.now.memory.table (worth_of v.now) }
@@ -77,6 +78,7 @@ pub(crate) fn knows(world: &World, v: &Got) -> bool
 }
 
 /// The same of two values.
+#[inline(always)]
 pub(crate) fn knows_both(world: &World, v: &Got, x: &Got) -> bool
     ensures value { result ≡ (knows_worth world.now.memory.table (worth_of v.now) && knows_worth world.now.memory.table (worth_of x.now)) }
     ensures left { result ≡ true → IsMadeWorth world.now.memory.table (worth_of v.now) }

@@ -150,6 +150,7 @@ pub(crate) struct Complete {
 }
 
 /// The type, where it is a complete object type (C17 6.2.5p1) of at most 2^32 bytes.
+#[inline(always)]
 #[tactic(auto, using(crate::proofs::Numbers::kept, crate::proofs::Numbers::lost))]
 pub(crate) fn measured(types: &Types, t: TypeId) -> Option<Complete>
     ensures test { is_some result ≡ (is_complete_in (env types.now) (tree types.now t.0) && is_size (size_in types.now (tree types.now t.0))) }
@@ -167,6 +168,7 @@ pub(crate) fn measured(types: &Types, t: TypeId) -> Option<Complete>
 }
 
 /// What the address of an object of the type is a multiple of; 1, where the type is not complete (C17 6.2.8p1).
+#[inline(always)]
 #[tactic(auto, using(crate::proofs::Numbers::some_align))]
 pub(crate) fn align_of(types: &Types, t: TypeId) -> u64
     ensures align { result ≡ alignment_by (env types.now) (tree types.now t.0) }

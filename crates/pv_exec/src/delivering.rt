@@ -46,6 +46,7 @@ fn write_blocks<O: Sink>(kept: &[u8], out: &mut O) -> Result<usize, Failed>
 }
 
 // The same of what a run has printed, which does not keep what was written.
+#[inline(always)]
 fn write_kept<O: Sink>(machine: &mut Machine, out: &mut O) -> Result<usize, Failed>
     ensures ok { IfOk result (λ n. HasWritten n (O.written out.old) (O.written out.new) machine.old machine.new) }
     ensures err { OnErr result (GainsPrefix (O.written out.old) (O.written out.new) machine.old.moment.printed) }
@@ -112,6 +113,9 @@ pub fn deliver<O: Sink>(
         unit.now.names written.old written.new machine.old machine.new }
     ensures cause { DeliveryCause (failing result) (O.faults out.old) (O.faults out.new) }
 {
+    if machine.is_quiet() {
+        return Ok(());
+    }
     match write_kept(machine, out) {
         Ok(n) => *written = written.saturating_add(n as u64),
         Err(_) => return Err(Undelivered::WriteFault),

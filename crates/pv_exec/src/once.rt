@@ -32,6 +32,7 @@ pub enum After {
 }
 
 // Follows the way of an operation.
+#[inline(always)]
 fn follow(tasks: &mut Vec<Task>, way: Result<Way, Failure>) -> Result<Doing, Failure>
     ensures runs { (u : Stored) (stand es : List Started) → All (TaskFits u) tasks.old.items → TasksStand (reverse tasks.old.items) stand → WayFitsOr u stand es way → RunsOr u tasks.new.items es result }
     ensures pace { (es : List Started) → FollowedPace es way (length tasks.old.items) result (length tasks.new.items) }
@@ -43,6 +44,7 @@ fn follow(tasks: &mut Vec<Task>, way: Result<Way, Failure>) -> Result<Doing, Fai
     }
 }
 
+#[inline(always)]
 fn follow_way(tasks: &mut Vec<Task>, way: Way) -> Result<Doing, Failure>
     ensures runs { (u : Stored) (stand es : List Started) → All (TaskFits u) tasks.old.items → TasksStand (reverse tasks.old.items) stand → WayFits u stand es way → RunsOr u tasks.new.items es result }
     ensures pace { (es : List Started) → IfOk result (λ d. doing_ops es d (length tasks.new.items) ≡ way_ops es way (length tasks.old.items)) }
@@ -156,6 +158,7 @@ fn take_value(
 }
 
 /// One operation.
+#[inline(always)]
 pub fn once(
     unit: &TypedUnit,
     tasks: &mut Vec<Task>,

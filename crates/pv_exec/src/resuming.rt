@@ -23,6 +23,7 @@ use pv_eval::{Failure, Machine};
 use pv_typed::TypedUnit;
 
 /// A task is reached with how a statement was left.
+#[inline(always)]
 pub fn resume_flow(
     unit: &TypedUnit,
     task: Task,

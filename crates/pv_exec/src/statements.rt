@@ -28,6 +28,7 @@ pub struct Parts {
 }
 
 /// An expression is started, and a task waits for its value.
+#[inline(always)]
 pub fn evaluate(machine: &mut Machine, task: Task, e: NodeId) -> Result<Way, Failure>
     requires task { is_call task ≡ false }
     requires value { takes_value task ≡ true }

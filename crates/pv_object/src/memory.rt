@@ -104,6 +104,7 @@ impl Memory {
     }
 
     // A use of a name: see `Instances::narrow`.
+    #[inline(always)]
     pub(crate) fn narrow(&mut self, p: Prov, test: Test) -> Result<Tried, Miss>
         requires { IsMadeIn self.old.table p }
         ensures answer { result ≡ use_answer self.old.table p test }
@@ -126,6 +127,7 @@ impl Memory {
     }
 
     // The live candidates of a name become exposed.
+    #[inline(always)]
     pub(crate) fn expose(&mut self, p: Prov)
         requires { IsMadeIn self.old.table p }
         ensures state { self.new ≡ with_table self.old (expose self.old.table p) }
@@ -231,6 +233,7 @@ impl Memory {
     /// The checks of an access to `n` bytes through a pointer, in this order: it is not null, its name is not empty, a
     /// candidate is live (6.2.4p2), the bytes lie in a live candidate, the address is a multiple of `align`, and what
     /// is written to is no literal (6.4.5p7) and not const-qualified (6.7.3p6).
+    #[inline(always)]
     #[tactic(auto, using(crate::proofs::Later::later_itself, crate::proofs::Later::later_both))]
     pub fn reach(
         &mut self,
@@ -293,6 +296,7 @@ impl Memory {
     }
 
     /// What bytes are worth at a scalar type, of which they have the size: as a load of them.
+    #[inline(always)]
     pub fn value_of(&mut self, bytes: &[Byte], t: Scalar) -> Result<(Value, Tried), Stop>
         requires size { length bytes.now ≡ size_of t }
         requires made { All (λ b. IsMadeIn self.old.table b.prov) bytes.now }
@@ -321,6 +325,7 @@ impl Memory {
     }
 
     // What bytes are worth at an integer type. The names of the bytes that are read become exposed.
+    #[inline(always)]
     #[tactic(auto, using(crate::proofs::Later::later_itself, crate::proofs::Later::later_both))]
     fn integer_of(&mut self, bytes: &[Byte], kind: IntKind) -> Result<(Value, Tried), Stop>
         requires size { length bytes.now ≤ 8 }
@@ -393,6 +398,7 @@ impl Memory {
     }
 
     /// Makes the bytes at a place that was reached those of a value, marked by the type. All other bytes stay.
+    #[inline(always)]
     pub fn store(&mut self, at: &Reach, t: Scalar, v: &Value, mark: Option<u32>)
         requires reached { IsReach self.old.table at.now (size_of t) }
         requires value { IsOf t v.now }
@@ -415,6 +421,7 @@ impl Memory {
     }
 
     /// The `n` bytes at a place that was reached.
+    #[inline(always)]
     pub fn read_bytes(&self, at: &Reach, n: u64) -> Result<Vec<Byte>, NoMemory>
         requires { IsReach self.now.table at.now n }
         ensures bytes { IfOk result (λ v. v.items ≡ read self.now.bytes at.now.address n) }
@@ -425,6 +432,7 @@ impl Memory {
     }
 
     /// Makes the bytes at a place that was reached these, whole. All other bytes stay.
+    #[inline(always)]
     pub fn write_bytes(&mut self, at: &Reach, bytes: &[Byte])
         requires reached { IsReach self.old.table at.now (length bytes.now) }
         requires made { All (λ b. IsMadeIn self.old.table b.prov) bytes.now }

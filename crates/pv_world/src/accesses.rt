@@ -66,6 +66,7 @@ impl World {
 
     /// The checks of an access to `n` bytes (6.5.3.2p4, 6.2.4p2, 6.4.5p7, 6.7.3p6), with the use of the pointer for their
     /// range, which stays told where a later check ends the run.
+    #[inline(always)]
     #[tactic(auto, using(crate::proofs::Reaching::reach_goes, crate::proofs::Reaching::reach_stops, crate::proofs::Reaching::reach_settled, crate::proofs::Laters::later_itself))]
     pub fn reach(
         &mut self,

@@ -44,6 +44,7 @@ fn is_whole(prov: Prov, bytes: &[Byte]) -> bool
 }
 
 /// The name of a pointer whose bytes these are, if it was stored whole.
+#[inline(always)]
 fn stored_name(bytes: &[Byte]) -> Option<Prov>
     ensures { result ≡ whole_name bytes.now }
 {
@@ -123,6 +124,7 @@ impl World {
     }
 
     // What bytes are worth at the scalar type of a shape.
+    #[inline(always)]
     #[tactic(auto, using(crate::proofs::LoadSteps::load_ok, crate::proofs::LoadSteps::load_err, crate::proofs::Laters::later_itself, crate::proofs::Laters::later_both, crate::proofs::Laters::made_later))]
     fn scalar_in(
         &mut self,
@@ -154,6 +156,7 @@ impl World {
     }
 
     // What bytes are worth in this shape.
+    #[inline(always)]
     #[tactic(auto, using(crate::proofs::Laters::later_itself))]
     pub(crate) fn valued(
         &mut self,

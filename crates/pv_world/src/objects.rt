@@ -51,6 +51,7 @@ impl World {
     }
 
     /// The instance of an object in scope; 0 where it has none.
+    #[inline(always)]
     pub fn instance(&self, object: u32, lasting: bool) -> u64
         ensures { result ≡ instance_of self.now object lasting }
     {

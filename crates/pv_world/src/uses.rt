@@ -41,6 +41,7 @@ fn survives(memory: &Memory, candidate: Option<u64>, test: Test) -> bool
 }
 
 /// Tells the use of a name that stands for two, before it is made. A use that will find none is not told.
+#[inline(always)]
 #[tactic(auto, using(crate::proofs::Surviving::unpaired))]
 pub(crate) fn tell_use(
     told: &mut Vec<What>,

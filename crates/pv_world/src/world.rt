@@ -83,6 +83,7 @@ impl World {
     }
 
     /// The instance of an object in scope (6.2.1, 6.2.4), of a static one, or an automatic one of the innermost body.
+    #[inline(always)]
     pub fn bound_to(&self, object: u32, lasting: bool) -> Option<u64>
         ensures { result ≡ bound_to self.now object lasting }
     {
