@@ -132,7 +132,6 @@ fn write_place(
 
 impl Moment {
     /// The value of the lvalue of this type at the place (C17 6.3.2.1p2), which is the node's own read.
-    #[inline(always)]
     pub fn read(
         &mut self,
         unit: &TypedUnit,
@@ -159,7 +158,6 @@ impl Moment {
     }
 
     /// The value stored at the place (C17 6.5.16p3), which is the node's own write.
-    #[inline(always)]
     pub fn write(
         &mut self,
         unit: &TypedUnit,

@@ -120,7 +120,6 @@ pub(crate) fn wait(frames: &mut Vec<Frame>, journal: &mut Journal, a: NodeId, fr
 }
 
 /// What a frame does with the value that it waited for.
-#[inline(always)]
 pub(crate) fn resume(
     unit: &TypedUnit,
     frame: Frame,
@@ -149,7 +148,6 @@ pub(crate) fn resume(
 }
 
 /// Operations, until a turn is due or the expression has ended.
-#[inline(always)]
 #[tactic(auto, using(crate::proofs::Cases::stays_both))]
 pub(crate) fn unwind(
     unit: &TypedUnit,

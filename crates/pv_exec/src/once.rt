@@ -158,7 +158,6 @@ fn take_value(
 }
 
 /// One operation.
-#[inline(always)]
 pub fn once(
     unit: &TypedUnit,
     tasks: &mut Vec<Task>,

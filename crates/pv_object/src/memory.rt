@@ -431,6 +431,17 @@ impl Memory {
         fetch(self.alloc, &self.bytes, at.address, n)
     }
 
+    /// The bytes at a place that was reached, as many as there is room for.
+    #[inline(always)]
+    pub fn read_into(&self, at: &Reach, into: &mut [Byte])
+        requires { IsReach self.now.table at.now (length into.old) }
+        ensures bytes { into.new ≡ read self.now.bytes at.now.address (length into.old) }
+        ensures made { All (λ b. IsMadeIn self.now.table b.prov) into.new }
+    {
+        self.table.well_formed();
+        self.bytes.read(at.address, into);
+    }
+
     /// Makes the bytes at a place that was reached these, whole. All other bytes stay.
     #[inline(always)]
     pub fn write_bytes(&mut self, at: &Reach, bytes: &[Byte])

@@ -30,7 +30,7 @@ use crate::world::World;
 use pv_inst::Test;
 use pv_num::IntKind;
 use pv_object::{Asker, Pointer, Reach, Scalar, Value};
-use pv_shadow::Byte;
+use pv_shadow::{BLANK, Byte};
 use pv_watch::What;
 
 /// The address where a structure or union was read, if by an lvalue.
@@ -121,12 +121,42 @@ impl World {
         ensures memory { self.new ≡ record self.old { memory = self.new.memory } }
         ensures made { IfOk result (λ g. IsMadeWorth self.new.memory.table (worth_of g)) }
     {
+        if n <= 8 {
+            return self.value_of_few(at, n, shape, p, blame, told);
+        }
         let bytes = match self.memory.read_bytes(at, n) {
             Ok(bytes) => bytes,
             Err(_) => return Err(Failure::NoMemory),
         };
         let loaded = blame_since(&self.memory, &bytes, p.prov, blame);
         self.valued(&bytes, shape, Some(at.address), Some(blame), loaded, told)
+    }
+
+    // The same of at most eight bytes, as a scalar has: they take no memory.
+    #[tactic(auto, using(crate::proofs::LoadSteps::came_read, crate::proofs::Laters::later_itself))]
+    fn value_of_few(
+        &mut self,
+        at: &Reach,
+        n: u64,
+        shape: Shape,
+        p: Pointer,
+        blame: Blame,
+        told: &mut Vec<What>,
+    ) -> Result<Got, Failure>
+        requires few { n ≤ 8 }
+        requires reached { IsReach self.old.memory.table at.now n }
+        requires size { HasSizeOf shape n }
+        requires made { IsMadeIn self.old.memory.table p.prov }
+        ensures did { ReadsOn self.old (read self.old.memory.bytes at.now.address n) shape at.now.address p blame result self.new told.old.items told.new.items }
+        ensures later { IsLater self.old.memory.table self.new.memory.table }
+        ensures memory { self.new ≡ record self.old { memory = self.new.memory } }
+        ensures made { IfOk result (λ g. IsMadeWorth self.new.memory.table (worth_of g)) }
+    {
+        let mut room = [BLANK; 8];
+        let bytes = &mut room[..n as usize];
+        self.memory.read_into(at, bytes);
+        let loaded = blame_since(&self.memory, bytes, p.prov, blame);
+        self.valued(bytes, shape, Some(at.address), Some(blame), loaded, told)
     }
 
     /// A member of a structure or union value (6.5.2.3p3), which begins at the offset.
