@@ -1,11 +1,11 @@
 // Which accesses the effective type of an object permits (C17 6.5p6, 6.5p7).
-ghost use Rattle.std.specs.Prelude.{◌≡◌, ◌≤◌, ◌<◌, ◌^◌, length, IsTrue, IfOk, IfSome, map};
+ghost use Rattle.std.specs.Prelude.{◌≡◌, ◌≤◌, ◌<◌, ◌^◌, true, length, IsTrue, IfOk, IfSome, map};
 ghost use Rattle.std.specs.Option.{option_map};
 ghost use Rattle.pv_types.specs.Known.{tree, env};
 ghost use Rattle.pv_types.specs.Layouts.{is_complete_in, layout_in};
 ghost use Rattle.pv_types.specs.Ty.{Ty};
 ghost use Rattle.pv_layout.specs.Places.{bare};
-ghost use Rattle.pv_effect.specs.EffectiveType.{is_character, permits_declared, permits_marks};
+ghost use Rattle.pv_effect.specs.EffectiveType.{is_character, permits_marks};
 ghost use Rattle.pv_shadow.specs.Bytes.{read};
 ghost use Rattle.pv_object.specs.Memory.{IsReach};
 ghost use Rattle.pv_typed.specs.Formed.{AreKnown};
@@ -22,7 +22,7 @@ use pv_object::Reach;
 use pv_prov::NoMemory;
 use pv_shadow::Byte;
 use pv_typed::TypedUnit;
-use pv_types::{Term, TypeId, Types};
+use pv_types::{Term, TypeId};
 use pv_world::World;
 use std::alloc::Global;
 
@@ -55,24 +55,23 @@ fn type_by(unit: &TypedUnit, object: Option<u32>) -> Option<Complete>
     }
 }
 
-/// Whether a declared type permits it: an integer that is accessed at its own type, as most are, without a search.
+/// Whether an object of an integer type is accessed as a whole, at its own type. Most accesses are such, and need no search for a part.
 #[inline(always)]
 #[tactic(auto, using(crate::proofs::Allowing::whole_integer))]
-fn permits_part(types: &Types, declared: TypeId, offset: u64, want: TypeId) -> bool
-    requires declared { declared.0 < length types.now.terms }
-    requires declared_complete { IsTrue (is_complete_in (env types.now) (tree types.now declared.0)) }
-    requires declared_small { size_in types.now (tree types.now declared.0) ≤ 2 ^ 32 }
-    requires want { want.0 < length types.now.terms }
-    requires want_complete { IsTrue (is_complete_in (env types.now) (tree types.now want.0)) }
-    requires want_small { size_in types.now (tree types.now want.0) ≤ 2 ^ 32 }
-    ensures { result ≡ permits_declared (layout_in (env types.now) (tree types.now declared.0)).parts offset (tree types.now want.0) }
+fn is_whole_integer(unit: &TypedUnit, object: Option<u32>, offset: u64, want: TypeId) -> bool
+    requires { AreKnown unit.now }
+    ensures { IsTrue result → permits_object (setting_of unit.now) (type_by (setting_of unit.now) object) offset (tree unit.now.known want.0) ≡ true }
 {
-    if offset == 0 && declared.0 == want.0 {
-        if let Term::Int(_) = layer(types, want) {
-            return true;
-        }
+    let Some(o) = object else {
+        return false;
+    };
+    if offset != 0 || o >= unit.objects() || unit.object(o).t.0 != want.0 {
+        return false;
     }
-    permits_declared(types, declared, offset, want)
+    match layer(unit.types(), want) {
+        Term::Int(_) => true,
+        _ => false,
+    }
 }
 
 /// Whether what is stored in an object may be accessed through an lvalue of the type (C17 6.5p7).
@@ -84,9 +83,12 @@ fn permits_object(unit: &TypedUnit, object: Option<u32>, offset: u64, want: Type
     requires small { size_in unit.now.known (tree unit.now.known want.0) ≤ 2 ^ 32 }
     ensures { result ≡ permits_object (setting_of unit.now) (type_by (setting_of unit.now) object) offset (tree unit.now.known want.0) }
 {
+    if is_whole_integer(unit, object, offset, want) {
+        return true;
+    }
     let types = unit.types();
     match type_by(unit, object) {
-        Some(declared) => permits_part(types, declared.t, offset, want),
+        Some(declared) => permits_declared(types, declared.t, offset, want),
         None => is_character(types, want),
     }
 }

@@ -22,7 +22,7 @@ use Rattle.pv_world.specs.declared.got.Failure.{Failure}
 use Rattle.pv_world.specs.declared.got.Failure.TheVariants as failure
 use Rattle.pv_world.specs.declared.got.Shape.{Shape}
 use Rattle.pv_world.specs.declared.got.Shape.TheVariants as shape
-use Rattle.pv_world.specs.Worlds.{Scalar, Whole, World, with_table}
+use Rattle.pv_world.specs.Worlds.{Scalar, World, with_table}
 use Rattle.pv_world.specs.Telling.{telling, quiet, used, live_test, exposures, all_told, pairings, blame_of, fault_of, verdict_of}
 use Rattle.pv_world.specs.Worths.{wrong_of}
 use Rattle.pv_world.specs.Accesses.{scalar_as, scalar_by, worth_in}

@@ -1,13 +1,11 @@
 -- What the checks of an access come to, and whom a load within it blames.
-use Rattle.std.proofs.Common.{◌≡◌, ◌≢◌, ℕ, ◌-◌, ◌≤◌, Bool, true, false, cond, eqb, List, ◌++◌, Option, Some, None, Result, Ok, Err, refl, sym, ap, ◌∙◌, subst, arith}
-use Rattle.std.specs.Option.{option_map}
-use Rattle.std.specs.List.{slice_get}
+use Rattle.std.proofs.Common.{◌≡◌, ◌≢◌, ℕ, ◌-◌, ◌≤◌, Bool, true, false, cond, eqb, List, ◌++◌, Option, Some, None, Result, Ok, Err, refl, ap, ◌∙◌, subst, arith}
 use Rattle.pv_num.specs.declared.faults.Clause.{Clause}
 use Rattle.pv_prov.specs.declared.names.Prov.{Prov}
 use Rattle.pv_prov.specs.declared.names.Prov.TheVariants.{Empty, Inst, Pair}
 use Rattle.pv_prov.specs.declared.pairs.Twin.{Twin}
 use Rattle.pv_num.specs.declared.faults.Reason.TheVariants as reason
-use Rattle.pv_prov.specs.Names.{is_empty, stands, stands_of, twin_at, keeping, kept, same_name}
+use Rattle.pv_prov.specs.Names.{is_empty, stands, stands_of, twin_at, keeping, same_name}
 use Rattle.pv_inst.specs.declared.values.Tried.{Tried}
 use Rattle.pv_inst.specs.declared.values.Miss.{Miss}
 use Rattle.pv_inst.specs.declared.values.Test.TheVariants.{Range}
@@ -21,7 +19,6 @@ use Rattle.pv_object.specs.declared.values.Asker.{Asker}
 use Rattle.pv_object.specs.Memory.{Mem}
 use Rattle.pv_object.specs.Access.{reach, reach_after, is_null, fault, clause_of}
 use Rattle.pv_watch.specs.declared.event.What.{What}
-use Rattle.pv_world.specs.declared.failing.Blame.{Blame}
 use Rattle.pv_world.specs.declared.got.Failure.{Failure}
 use Rattle.pv_world.specs.Worlds.{World, with_table}
 use Rattle.pv_world.specs.Telling.{Told, telling, blame_of, pair_of, fault_of, verdict_of}

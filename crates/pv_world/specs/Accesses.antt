@@ -1,6 +1,5 @@
 -- Reads and writes of bytes (C17 6.2.6.1, 6.3.2.1p2, 6.5.16): reaching them, what they are worth, and what is stored.
 use Rattle.std.specs.Prelude.{◌≡◌, ◌≤◌, length, ℕ, ◌+◌, ◌==◌, nat_lt, Bool, false, not, ◌&&◌, List, ◌++◌, Option, Some, None, if◌then◌else◌, Result, Ok, Err, take, drop}
-use Rattle.pv_num.specs.declared.kinds.IntKind.{IntKind}
 use Rattle.pv_prov.specs.declared.names.Prov.{Prov}
 use Rattle.pv_inst.specs.declared.values.Test.TheVariants.{Range}
 use Rattle.pv_inst.specs.Table.{Table}
