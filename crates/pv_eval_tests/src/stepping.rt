@@ -82,6 +82,7 @@ pub(crate) fn machine_of(
     make_statics(rt, unit, &mut machine);
     make_literals(rt, unit, &mut machine);
     machine.waiting().clear();
+    assert!(rt; machine.is_quiet());
     machine
 }
 

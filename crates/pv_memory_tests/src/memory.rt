@@ -18,6 +18,7 @@ use pv_num::{Fault, IntKind, fits};
 use pv_object::{Asker, Memory, Pointer, Scalar, Stop, Value};
 use pv_prov::Prov;
 use pv_script::Names;
+use pv_shadow::BLANK;
 use std::alloc::Global;
 use std::cmp::Ordering;
 use std::process::Abort;
@@ -207,8 +208,8 @@ fn or_minus_one(n: Option<u8>) -> i128 {
 fn byte(rt: &impl Abort, memory: &mut Memory, p: Pointer) -> Told {
     known(rt, memory, p);
     let at = memory.reach(p, 1, 1, false, Asker::Access)?;
-    let bytes = memory.read_bytes(&at, 1).expect(rt, "no memory");
-    assert!(rt; bytes.len() == 1);
+    let mut bytes = [BLANK; 1];
+    memory.read_into(&at, &mut bytes[..]);
     let byte = bytes[0];
     let (t, j) = match byte.mark {
         Some((t, j)) => (t.into(), j.into()),
