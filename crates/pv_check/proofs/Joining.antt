@@ -4,6 +4,7 @@ use Rattle.std.proofs.Math.ListN.{drop_of_length-le}
 use Rattle.std.specs.declared.option.Option.{Option}
 use Rattle.pv_types.specs.declared.terms.TypeId.{TypeId}
 use Rattle.pv_types.specs.Ty.{Ty, Tys, VoidTy, IntTy, PointerTo, ArrayOf, StructTag, UnionTag, FunctionTy, ConstOf, NoTys, MoreTys}
+use Rattle.pv_types.specs.Adjusted.{is_adjusted, are_adjusted}
 use Rattle.pv_types.specs.Known.{Known, AllBelow, tree, trees, tys_in, env}
 use Rattle.pv_types.specs.Layouts.{Entry, layout_in, is_complete_in}
 use Rattle.pv_check.specs.Composite.{composite, composites, known_size}
@@ -35,6 +36,21 @@ mutual
 
 pub composite_same : (m : Known) (a b : ℕ) → a ≡ b → tree m a ≡ composite (tree m a) (tree m b)
 composite_same m a b e = sym (ap (λ i. composite (tree m a) (tree m i)) (sym e) ∙ composite_itself (tree m a))
+
+-- ---- a parameter's type
+
+adjusted_composite : (t u : Ty) → is_adjusted t ≡ true → is_adjusted (composite t u) ≡ true
+adjusted_composite (PointerTo t) (PointerTo u) h = refl
+adjusted_composite (ArrayOf t m) (ArrayOf u n) h = absurd cc
+adjusted_composite (FunctionTy t ts v) (FunctionTy u us w) h = absurd cc
+adjusted_composite (ConstOf t) (ConstOf u) h = adjusted_composite t u h
+adjusted_composite t u h = h
+
+pub adjusted_composites : (ts us : Tys) → IsTrue (are_adjusted ts) → IsTrue (are_adjusted (composites ts us))
+adjusted_composites NoTys us h = h
+adjusted_composites (MoreTys t ts) NoTys h = h
+adjusted_composites (MoreTys t ts) (MoreTys u us) h =
+    both_true (adjusted_composite t u (left_true (is_adjusted t) (are_adjusted ts) h)) (adjusted_composites ts us (right_true (is_adjusted t) (are_adjusted ts) h))
 
 -- ---- an array that is as types have to be
 

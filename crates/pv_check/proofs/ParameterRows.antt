@@ -3,6 +3,7 @@ use Rattle.std.proofs.Common.{◌≡◌, ℕ, zero, suc, ◌-◌, ◌+◌, ◌<�
 use Rattle.std.specs.Prelude.{if◌then◌else◌}
 use Rattle.std.proofs.lemmas.List.{take-map, length-map, length-take-le}
 use Rattle.pv_types.specs.declared.terms.TypeId.{TypeId}
+use Rattle.pv_types.specs.Adjusted.{is_adjusted}
 use Rattle.pv_types.specs.Known.{Known, tree, parameters_at}
 use Rattle.pv_types.specs.Ty.{Ty, Tys}
 use Rattle.pv_typed.specs.Adding.{with_object}
@@ -104,7 +105,7 @@ parameter_stays : (a b : Stored) → Goes a b → (p : Parameter) → ParameterK
 parameter_stays a b g p h =
     let more : length a.known.terms ≤ length b.known.terms = g.grown.terms in
     let here : p.t.0 < length a.known.terms = h.0 in
-    (omega (arith, more, here), object p.object h.1)
+    (omega (arith, more, here), object p.object h.1, ap is_adjusted (g.grown.types p.t.0 here) ∙ h.2)
   where
     object : (o : Option ℕ) → IfSome o (λ k. k < length a.objects) → IfSome o (λ k. k < length b.objects)
     object None k = tt

@@ -1,13 +1,23 @@
 -- Lists of types by their numbers.
-use Rattle.std.proofs.Common.{◌≡◌, ℕ, zero, suc, ◌+◌, ◌<◌, ◌≤◌, List, [], ◌∷◌, ◌++◌, length, take, drop, get_or, refl, sym, ap, arith, ◌∙◌}
+use Rattle.std.proofs.Common.{◌≡◌, ℕ, zero, suc, Bool, true, false, IsTrue, Some, None, if◌then◌else◌, ◌+◌, ◌<◌, ◌≤◌, List, [], ◌∷◌, ◌++◌, length, take, drop, get_or, refl, sym, ap, arith, ◌∙◌}
 use Rattle.std.proofs.lemmas.List.{take_more, map-append}
 use Rattle.pv_types.specs.declared.terms.TypeId.{TypeId}
 use Rattle.pv_types.specs.Known.{Known, tree, trees, tys_in, at, AllBelow}
-use Rattle.pv_types.specs.Ty.{Ty, Tys, NoTys, MoreTys}
+use Rattle.std.specs.declared.option.Option.{Option}
+use Rattle.pv_types.specs.Adjusted.{is_adjusted, are_adjusted}
+use Rattle.pv_types.specs.Ty.{Ty, Tys, VoidTy, IntTy, PointerTo, ArrayOf, StructTag, UnionTag, FunctionTy, ConstOf, NoTys, MoreTys}
+use Rattle.pv_typed.specs.Children.{Each}
+use Rattle.pv_typed.specs.Tables.{Stored}
 use Rattle.pv_check.specs.declared.parameters.Parameter.{Parameter}
-use Rattle.pv_check.specs.Declarators.{parameter_shown, parameters_shown}
-use Rattle.pv_check.specs.Derivations.{Parameter as WholeParameter, parameter_types}
+use Rattle.pv_check.specs.Declarators.{ParameterKnown, parameter_shown, parameters_shown}
+use Rattle.pv_check.specs.Derivations.{Parameter as WholeParameter, adjusted, parameter_types}
 use Rattle.pv_check.specs.Qualified.{unqualified}
+use Rattle.pv_check.specs.State.{and_then}
+use Rattle.pv_check.proofs.Growth.{both_true}
+
+abbrev type_or : Ty → Option Ty → Ty
+type_or d None = d
+type_or d (Some t) = t
 
 pub tys_stay : (a b : Known) (ids : List TypeId) → ((i : ℕ) → i < length a.terms → tree b i ≡ tree a i) → AllBelow (length a.terms) ids → tys_in (trees b) ids ≡ tys_in (trees a) ids
 tys_stay a b [] stays h = refl
@@ -50,3 +60,37 @@ below_drop n (suc i) (x ∷ xs) h = below_drop n i xs h.1
 pub below_more : (m n : ℕ) (ids : List TypeId) → m ≤ n → AllBelow m ids → AllBelow n ids
 below_more m n [] le h = tt
 below_more m n (x ∷ xs) le h = let here : x.0 < m = h.0 in (omega (arith, le, here), below_more m n xs le h.1)
+
+adjusted_unqualified : (t : Ty) → is_adjusted (unqualified t) ≡ is_adjusted t
+adjusted_unqualified (ConstOf t) = adjusted_unqualified t
+adjusted_unqualified VoidTy = refl
+adjusted_unqualified (IntTy k) = refl
+adjusted_unqualified (PointerTo t) = refl
+adjusted_unqualified (ArrayOf t n) = refl
+adjusted_unqualified (StructTag n) = refl
+adjusted_unqualified (UnionTag n) = refl
+adjusted_unqualified (FunctionTy t ts v) = refl
+
+-- the types that parameters have in that of their function
+pub parameters_adjusted : (m : Stored) (ps : List Parameter) → Each (ParameterKnown m) ps → IsTrue (are_adjusted (parameter_types (parameters_shown m.known ps)))
+parameters_adjusted m [] h = refl
+parameters_adjusted m (p ∷ ps) h = both_true (adjusted_unqualified (tree m.known p.t.0) ∙ h.0.2) (parameters_adjusted m ps h.1)
+
+if_adjusted : (b : Bool) (t u : Ty) → is_adjusted u ≡ b → Some t ≡ (if b then Some (ConstOf u) else None) → is_adjusted t ≡ true
+if_adjusted true t u h e = ap is_adjusted (ap (type_or t) e) ∙ h
+if_adjusted false t u h e = cc
+
+-- what a declared type becomes is no array and no function
+adjusted_from : (t u : Ty) → Some t ≡ adjusted u → is_adjusted t ≡ true
+adjusted_from t VoidTy e = ap (λ o. is_adjusted (type_or t o)) e
+adjusted_from t (IntTy k) e = ap (λ o. is_adjusted (type_or t o)) e
+adjusted_from t (PointerTo u) e = ap (λ o. is_adjusted (type_or t o)) e
+adjusted_from t (ArrayOf u n) e = ap (λ o. is_adjusted (type_or t o)) e
+adjusted_from t (StructTag n) e = ap (λ o. is_adjusted (type_or t o)) e
+adjusted_from t (UnionTag n) e = ap (λ o. is_adjusted (type_or t o)) e
+adjusted_from t (FunctionTy u us v) e = cc
+adjusted_from t (ConstOf u) e = if_adjusted (is_adjusted u) t u refl e
+
+pub adjusted_then : (t : Ty) (o : Option Ty) → Some t ≡ and_then o adjusted → IsTrue (is_adjusted t)
+adjusted_then t None e = cc
+adjusted_then t (Some u) e = adjusted_from t u e

@@ -1,9 +1,10 @@
 -- What the code has of a declarator, and what it stands for.
-use Rattle.std.specs.Prelude.{◌<◌, ℕ, Bool, Some, None, IfSome, List, [], ◌∷◌, ◌++◌, map, length}
+use Rattle.std.specs.Prelude.{◌<◌, ℕ, Bool, IsTrue, Some, None, IfSome, List, [], ◌∷◌, ◌++◌, map, length}
 use Rattle.std.specs.declared.option.Option.{Option}
 use Rattle.std.specs.declared.vec.Vec.{Vec}
 use Rattle.std.specs.declared.alloc.Global.{Global}
 use Rattle.pv_types.specs.declared.terms.TypeId.{TypeId}
+use Rattle.pv_types.specs.Adjusted.{is_adjusted}
 use Rattle.pv_types.specs.Known.{Known, tree}
 use Rattle.pv_typed.specs.Children.{Each}
 use Rattle.pv_typed.specs.Tables.{Stored}
@@ -86,9 +87,9 @@ abbrev pub after_parameters : List (List ℕ) → Bool → Raw → Stored → Op
 after_parameters texts u s m None = None
 after_parameters texts u s m (Some v) = Some (record { value = parameters_shown m.known v.items; state = state_of texts u s m })
 
--- the type and the object of a parameter are there (6.7.6.3)
+-- the type and the object of a parameter are there (6.7.6.3), and it is no array or function (p7, p8)
 abbrev pub ParameterKnown : Stored → Parameter → Type 0
-ParameterKnown m p = (p.t.0 < length m.known.terms) × IfSome p.object (λ o. o < length m.objects)
+ParameterKnown m p = (p.t.0 < length m.known.terms) × IfSome p.object (λ o. o < length m.objects) × IsTrue (is_adjusted (tree m.known p.t.0))
 
 -- what a list of parameters names is there (6.7.6.3)
 abbrev pub SignatureKnown : Stored → Signature → Type 0

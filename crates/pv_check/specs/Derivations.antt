@@ -1,7 +1,8 @@
 -- Types by declarators (C17 6.7.6, 6.7.7): what a declarator puts round the type that its specifiers name.
 use Rattle.std.specs.Prelude.{ℕ, ℤ, pos, negsuc, ◌+◌, ◌*◌, ◌^◌, nat_le, nat_lt, Bool, true, false, ◌&&◌, not, if◌then◌else◌, Some, None, is_some, List, [], ◌∷◌, ◌++◌, length}
 use Rattle.std.specs.declared.option.Option.{Option}
-use Rattle.pv_types.specs.Ty.{Ty, Tys, VoidTy, PointerTo, ArrayOf, FunctionTy, NoTys, MoreTys}
+use Rattle.pv_types.specs.Adjusted.{is_adjusted}
+use Rattle.pv_types.specs.Ty.{Ty, Tys, VoidTy, PointerTo, ArrayOf, FunctionTy, ConstOf, NoTys, MoreTys}
 use Rattle.pv_types.specs.Layouts.{Entry, layout_in, is_complete_in}
 use Rattle.pv_tree.specs.Syntax.{DeclaratorTree, DeclaredName, ParenDeclarator, Pointer, Array, FunctionDeclarator, OfDeclarator, OptionalTree, Present}
 use Rattle.pv_check.specs.Qualified.{with_const, unqualified}
@@ -98,10 +99,11 @@ abbrev pub derived : Bool → List Entry → List Derivation → Ty → Option T
 derived unsized env [] t = Some t
 derived unsized env (d ∷ ds) t = and_then (derived unsized env ds t) (step unsized env d)
 
--- 6.7.6.3p7: a parameter of array type is a pointer; p8: none is a function
+-- 6.7.6.3p7: a parameter of array type is a pointer; p8: none is a function. 6.7.3p9: no array or function type has a qualifier
 abbrev pub adjusted : Ty → Option Ty
 adjusted (ArrayOf t n) = Some (PointerTo t)
 adjusted (FunctionTy t ts v) = None
+adjusted (ConstOf t) = if is_adjusted t then Some (ConstOf t) else None
 adjusted t = Some t
 
 -- the name of a parameter (6.7.6.3), if it has one

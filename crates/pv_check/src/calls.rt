@@ -15,7 +15,6 @@ ghost use Rattle.pv_check.specs.Passing.{one_passed, trees_if};
 ghost use Rattle.pv_check.specs.Rows.{function_in, callee, with_callee, call};
 ghost use Rattle.pv_check.specs.State.{and_then, give, look};
 ghost use Rattle.pv_check.specs.Raw.{scopes_shown};
-ghost use Rattle.pv_tree.specs.Rows.{tables};
 ghost use Rattle.pv_tree.specs.Tables.{Is, is_expression, expression_at as expression_of_node};
 ghost use Rattle.pv_check.specs.Operands.{callee_of};
 
@@ -33,10 +32,10 @@ use std::alloc::Global;
 
 /// The function whose name is called, parentheses aside (C17 6.5.2.2p1).
 fn callee(s: &Scopes, u: &Unit, into: &TypedUnit, n: NodeId) -> Option<u32>
-    requires node { Is (tables u.now) is_expression n }
+    requires node { Is u.now is_expression n }
     requires open { IsOpen into.now s.now }
     ensures known { IfSome result (λ f. f < length into.now.functions) }
-    ensures value { (texts : List (List ℕ)) (hidden : Bool) → result ≡ callee (state_of texts hidden s.now into.now).scopes (expression_of_node (tables u.now).forest n) }
+    ensures value { (texts : List (List ℕ)) (hidden : Bool) → result ≡ callee (state_of texts hidden s.now into.now).scopes (expression_of_node u.now.forest n) }
 {
     match u.expr(n) {
         Expr::Name(name) => function_named(s, into, name),
@@ -65,11 +64,11 @@ pub(crate) fn used_callee(
     into: &TypedUnit,
     n: NodeId,
 ) -> Result<Option<u32>, NoMemory>
-    requires node { Is (tables u.now) is_expression n }
+    requires node { Is u.now is_expression n }
     requires open { IsOpen into.now s.old }
     ensures open { OnOk result (IsOpen into.now s.new) }
     ensures known { IfOk result (λ r. IfSome r (λ f. f < length into.now.functions)) }
-    ensures value { IfOk result (λ r. (texts : List (List ℕ)) (hidden : Bool) → after_number texts hidden s.new into.now r ≡ callee_of (expression_of_node (tables u.now).forest n) (state_of texts hidden s.old into.now)) }
+    ensures value { IfOk result (λ r. (texts : List (List ℕ)) (hidden : Bool) → after_number texts hidden s.new into.now r ≡ callee_of (expression_of_node u.now.forest n) (state_of texts hidden s.old into.now)) }
 {
     let Some(f) = callee(s, u, into, n) else {
         return Ok(None);

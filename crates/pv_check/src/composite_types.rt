@@ -1,5 +1,6 @@
 // The composite type of two compatible types (C17 6.2.7p3).
 ghost use Rattle.std.specs.Prelude.{◌≡◌, ◌<◌, ◌≤◌, Option, ℕ, length, IfOk, OnOk, IsTrue};
+ghost use Rattle.pv_types.specs.Adjusted.{are_adjusted};
 ghost use Rattle.pv_types.specs.Known.{Known, AllBelow, tree, trees, tys_in, parameters_at};
 ghost use Rattle.pv_types.specs.Compatible.{are_compatible};
 ghost use Rattle.pv_types.specs.Matching.{Matches, MatchAll};
@@ -44,7 +45,8 @@ fn known_size(m: Option<u64>, n: Option<u64>) -> Option<u64>
 
 /// The number of a list of parameters' types.
 fn listed(types: &mut Types, list: Vec<TypeId>) -> Result<u32, NoMemory>
-    requires { AllBelow (length types.old.terms) list.items }
+    requires known { AllBelow (length types.old.terms) list.items }
+    requires adjusted { IsTrue (are_adjusted (tys_in (trees types.old) list.items)) }
     ensures number { IfOk result (λ p. p < length types.new.lists) }
     ensures list { IfOk result (λ p. parameters_at types.new p ≡ tys_in (trees types.old) list.items) }
     ensures grows { OnOk result (Grows types.old types.new) }

@@ -1,7 +1,6 @@
 //! Steps of declarators (C17 6.7.6), from the name outwards.
 ghost use Rattle.std.specs.Prelude.{◌≡◌, ◌++◌, ◌∷◌, [], IfOk, ◌<◌, IfSome, Some};
 ghost use Rattle.pv_check.specs.Derivations.{size_of};
-ghost use Rattle.pv_tree.specs.Rows.{tables};
 ghost use Rattle.pv_tree.specs.Tables.{Is, is_expression, expression_at as expression_of_node, is_declarator, declarator_at, optional_at};
 ghost use Rattle.pv_check.specs.Open.{state_of, IsOpen, Goes};
 ghost use Rattle.pv_check.specs.Rows.{operand, integer_value};
@@ -60,11 +59,11 @@ pub(crate) fn integer_at(
     n: NodeId,
     unevaluated: bool,
 ) -> Result<Option<i128>, NoMemory>
-    requires node { Is (tables u.now) is_expression n }
+    requires node { Is u.now is_expression n }
     requires opened { IsOpen into.old s.old }
     ensures opened { IfOk result (λ r. IfSome r (λ k. IsOpen into.new s.new)) }
     ensures goes { IfOk result (λ r. IfSome r (λ k. Goes into.old into.new)) }
-    ensures answer { IfOk result (λ r. after_value t.now.texts unevaluated s.new into.new r ≡ integer_value (operand (types (expression_of_node (tables u.now).forest n) (state_of t.now.texts unevaluated s.old into.old)))) }
+    ensures answer { IfOk result (λ r. after_value t.now.texts unevaluated s.new into.new r ≡ integer_value (operand (types (expression_of_node u.now.forest n) (state_of t.now.texts unevaluated s.old into.old)))) }
 {
     let Some(x) = operand(s, u, t, n, unevaluated, into)? else {
         return Ok(None);
@@ -82,11 +81,11 @@ pub(crate) fn array_size(
     size: Option<NodeId>,
     unevaluated: bool,
 ) -> Result<Option<Option<u64>>, NoMemory>
-    requires node { IfSome size (λ n. Is (tables u.now) is_expression n) }
+    requires node { IfSome size (λ n. Is u.now is_expression n) }
     requires opened { IsOpen into.old s.old }
     ensures opened { IfOk result (λ r. IfSome r (λ k. IsOpen into.new s.new)) }
     ensures goes { IfOk result (λ r. IfSome r (λ k. Goes into.old into.new)) }
-    ensures answer { IfOk result (λ r. after_value t.now.texts unevaluated s.new into.new r ≡ array_size (optional_at (tables u.now).forest size) (state_of t.now.texts unevaluated s.old into.old)) }
+    ensures answer { IfOk result (λ r. after_value t.now.texts unevaluated s.new into.new r ≡ array_size (optional_at u.now.forest size) (state_of t.now.texts unevaluated s.old into.old)) }
 {
     let Some(n) = size else {
         return Ok(Some(None));
@@ -111,12 +110,12 @@ pub fn steps_of(
     n: NodeId,
     unevaluated: bool,
 ) -> Result<Option<Steps>, NoMemory>
-    requires node { Is (tables u.now) is_declarator n }
+    requires node { Is u.now is_declarator n }
     requires opened { IsOpen into.old s.old }
     ensures opened { IfOk result (λ r. IfSome r (λ k. IsOpen into.new s.new)) }
     ensures goes { IfOk result (λ r. IfSome r (λ k. Goes into.old into.new)) }
     ensures known { IfOk result (λ r. KnownSteps into.new r) }
-    ensures answer { IfOk result (λ r. after_steps t.now.texts unevaluated s.new into.new r ≡ steps (declarator_at (tables u.now).forest n) (state_of t.now.texts unevaluated s.old into.old)) }
+    ensures answer { IfOk result (λ r. after_steps t.now.texts unevaluated s.new into.new r ≡ steps (declarator_at u.now.forest n) (state_of t.now.texts unevaluated s.old into.old)) }
 {
     match form_of(u, s, into, n) {
         Form::Name => Ok(Some(Steps {
@@ -166,12 +165,12 @@ pub(crate) fn optional_steps(
     d: Option<NodeId>,
     unevaluated: bool,
 ) -> Result<Option<Steps>, NoMemory>
-    requires node { IfSome d (λ n. Is (tables u.now) is_declarator n) }
+    requires node { IfSome d (λ n. Is u.now is_declarator n) }
     requires opened { IsOpen into.old s.old }
     ensures opened { IfOk result (λ r. IfSome r (λ k. IsOpen into.new s.new)) }
     ensures goes { IfOk result (λ r. IfSome r (λ k. Goes into.old into.new)) }
     ensures known { IfOk result (λ r. KnownSteps into.new r) }
-    ensures answer { IfOk result (λ r. after_steps t.now.texts unevaluated s.new into.new r ≡ optional_steps (optional_at (tables u.now).forest d) (state_of t.now.texts unevaluated s.old into.old)) }
+    ensures answer { IfOk result (λ r. after_steps t.now.texts unevaluated s.new into.new r ≡ optional_steps (optional_at u.now.forest d) (state_of t.now.texts unevaluated s.old into.old)) }
 {
     match d {
         None => Ok(Some(Steps {

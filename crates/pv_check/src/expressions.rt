@@ -1,7 +1,6 @@
 //! Expressions (C17 6.5): their parts from left to right, and what is made of them. They call type names, and those
 //! call them for the sizes of arrays: one cycle, through three modules.
 ghost use Rattle.std.specs.Prelude.{◌≡◌, ◌<◌, false, IfOk, IfSome, OnOk, Some, length, List, ℕ};
-ghost use Rattle.pv_tree.specs.Rows.{tables};
 ghost use Rattle.pv_tree.specs.Tables.{Is, is_expression, is_declaration, expression_at as expression_of_node, declaration_at, arguments_at, HasList};
 ghost use Rattle.pv_typed.specs.Children.{Each};
 ghost use Rattle.pv_check.specs.Passing.{after_nodes};
@@ -95,10 +94,10 @@ pub fn expression(
     e: NodeId,
     into: &mut TypedUnit,
 ) -> Result<Option<NodeId>, NoMemory>
-    requires node { Is (tables u.now) is_expression e }
+    requires node { Is u.now is_expression e }
     requires open { IsOpen into.old s.old }
     ensures open { IfOk result (λ r. OpenIf into.new s.new r) }
-    ensures typed { IfOk result (λ r. after_node t.now.texts false s.new into.new r ≡ types (expression_of_node (tables u.now).forest e) (state_of t.now.texts false s.old into.old)) }
+    ensures typed { IfOk result (λ r. after_node t.now.texts false s.new into.new r ≡ types (expression_of_node u.now.forest e) (state_of t.now.texts false s.old into.old)) }
 {
     typed(s, u, t, e, false, into)
 }
@@ -113,10 +112,10 @@ fn typed(
     hidden: bool,
     into: &mut TypedUnit,
 ) -> Result<Option<NodeId>, NoMemory>
-    requires node { Is (tables u.now) is_expression e }
+    requires node { Is u.now is_expression e }
     requires open { IsOpen into.old s.old }
     ensures open { IfOk result (λ r. OpenIf into.new s.new r) }
-    ensures typed { IfOk result (λ r. after_node t.now.texts hidden s.new into.new r ≡ types (expression_of_node (tables u.now).forest e) (state_of t.now.texts hidden s.old into.old)) }
+    ensures typed { IfOk result (λ r. after_node t.now.texts hidden s.new into.new r ≡ types (expression_of_node u.now.forest e) (state_of t.now.texts hidden s.old into.old)) }
     ensures goes { IfOk result (λ r. IfSome r (λ v. Goes into.old into.new)) }
 {
     let line = u.line(e);
@@ -175,10 +174,10 @@ pub fn operand(
     hidden: bool,
     into: &mut TypedUnit,
 ) -> Result<Option<NodeId>, NoMemory>
-    requires node { Is (tables u.now) is_expression a }
+    requires node { Is u.now is_expression a }
     requires open { IsOpen into.old s.old }
     ensures open { IfOk result (λ r. OpenIf into.new s.new r) }
-    ensures typed { IfOk result (λ r. after_node t.now.texts hidden s.new into.new r ≡ operand (types (expression_of_node (tables u.now).forest a) (state_of t.now.texts hidden s.old into.old))) }
+    ensures typed { IfOk result (λ r. after_node t.now.texts hidden s.new into.new r ≡ operand (types (expression_of_node u.now.forest a) (state_of t.now.texts hidden s.old into.old))) }
     ensures goes { IfOk result (λ r. IfSome r (λ v. Goes into.old into.new)) }
 {
     let Some(x) = typed(s, u, t, a, hidden, into)? else {
@@ -200,10 +199,10 @@ fn of_one(
     hidden: bool,
     into: &mut TypedUnit,
 ) -> Result<Option<NodeId>, NoMemory>
-    requires node { Is (tables u.now) is_expression a }
+    requires node { Is u.now is_expression a }
     requires open { IsOpen into.old s.old }
     ensures open { IfOk result (λ r. OpenIf into.new s.new r) }
-    ensures typed { IfOk result (λ r. after_node t.now.texts hidden s.new into.new r ≡ and_then (types (expression_of_node (tables u.now).forest a) (state_of t.now.texts hidden s.old into.old)) (row_of_one what line)) }
+    ensures typed { IfOk result (λ r. after_node t.now.texts hidden s.new into.new r ≡ and_then (types (expression_of_node u.now.forest a) (state_of t.now.texts hidden s.old into.old)) (row_of_one what line)) }
     ensures goes { IfOk result (λ r. IfSome r (λ v. Goes into.old into.new)) }
 {
     let Some(x) = typed(s, u, t, a, hidden, into)? else {
@@ -224,10 +223,10 @@ fn first_of(
     hidden: bool,
     into: &mut TypedUnit,
 ) -> Result<Option<NodeId>, NoMemory>
-    requires node { Is (tables u.now) is_expression a }
+    requires node { Is u.now is_expression a }
     requires open { IsOpen into.old s.old }
     ensures open { IfOk result (λ r. OpenIf into.new s.new r) }
-    ensures typed { IfOk result (λ r. after_node t.now.texts hidden s.new into.new r ≡ first_operand what (types (expression_of_node (tables u.now).forest a) (state_of t.now.texts hidden s.old into.old))) }
+    ensures typed { IfOk result (λ r. after_node t.now.texts hidden s.new into.new r ≡ first_operand what (types (expression_of_node u.now.forest a) (state_of t.now.texts hidden s.old into.old))) }
     ensures goes { IfOk result (λ r. IfSome r (λ v. Goes into.old into.new)) }
 {
     match what {
@@ -249,11 +248,11 @@ fn of_two(
     hidden: bool,
     into: &mut TypedUnit,
 ) -> Result<Option<NodeId>, NoMemory>
-    requires node { Is (tables u.now) is_expression a }
-    requires node_b { Is (tables u.now) is_expression b }
+    requires node { Is u.now is_expression a }
+    requires node_b { Is u.now is_expression b }
     requires open { IsOpen into.old s.old }
     ensures open { IfOk result (λ r. OpenIf into.new s.new r) }
-    ensures typed { IfOk result (λ r. after_node t.now.texts hidden s.new into.new r ≡ of_two_operands (tables u.now).forest what line a b (state_of t.now.texts hidden s.old into.old)) }
+    ensures typed { IfOk result (λ r. after_node t.now.texts hidden s.new into.new r ≡ of_two_operands u.now.forest what line a b (state_of t.now.texts hidden s.old into.old)) }
     ensures goes { IfOk result (λ r. IfSome r (λ v. Goes into.old into.new)) }
 {
     let Some(x) = first_of(s, u, t, what, a, hidden, into)? else {
@@ -279,12 +278,12 @@ fn of_three(
     hidden: bool,
     into: &mut TypedUnit,
 ) -> Result<Option<NodeId>, NoMemory>
-    requires node { Is (tables u.now) is_expression a }
-    requires node_b { Is (tables u.now) is_expression b }
-    requires node_c { Is (tables u.now) is_expression c }
+    requires node { Is u.now is_expression a }
+    requires node_b { Is u.now is_expression b }
+    requires node_c { Is u.now is_expression c }
     requires open { IsOpen into.old s.old }
     ensures open { IfOk result (λ r. OpenIf into.new s.new r) }
-    ensures typed { IfOk result (λ r. after_node t.now.texts hidden s.new into.new r ≡ of_three_operands (tables u.now).forest line a b c (state_of t.now.texts hidden s.old into.old)) }
+    ensures typed { IfOk result (λ r. after_node t.now.texts hidden s.new into.new r ≡ of_three_operands u.now.forest line a b c (state_of t.now.texts hidden s.old into.old)) }
     ensures goes { IfOk result (λ r. IfSome r (λ v. Goes into.old into.new)) }
 {
     let Some(x) = operand(s, u, t, a, hidden, into)? else {
@@ -311,10 +310,10 @@ fn measured(
     hidden: bool,
     into: &mut TypedUnit,
 ) -> Result<Option<NodeId>, NoMemory>
-    requires node { Is (tables u.now) is_expression a }
+    requires node { Is u.now is_expression a }
     requires open { IsOpen into.old s.old }
     ensures open { IfOk result (λ r. OpenIf into.new s.new r) }
-    ensures typed { IfOk result (λ r. after_node t.now.texts hidden s.new into.new r ≡ size_of_operand (tables u.now).forest line a (state_of t.now.texts hidden s.old into.old)) }
+    ensures typed { IfOk result (λ r. after_node t.now.texts hidden s.new into.new r ≡ size_of_operand u.now.forest line a (state_of t.now.texts hidden s.old into.old)) }
     ensures goes { IfOk result (λ r. IfSome r (λ v. Goes into.old into.new)) }
 {
     let Some(x) = typed(s, u, t, a, true, into)? else {
@@ -335,10 +334,10 @@ fn sizeof_named(
     hidden: bool,
     into: &mut TypedUnit,
 ) -> Result<Option<NodeId>, NoMemory>
-    requires node { Is (tables u.now) is_declaration n }
+    requires node { Is u.now is_declaration n }
     requires open { IsOpen into.old s.old }
     ensures open { IfOk result (λ r. OpenIf into.new s.new r) }
-    ensures typed { IfOk result (λ r. after_node t.now.texts hidden s.new into.new r ≡ size_of_named_type (tables u.now).forest line n (state_of t.now.texts hidden s.old into.old)) }
+    ensures typed { IfOk result (λ r. after_node t.now.texts hidden s.new into.new r ≡ size_of_named_type u.now.forest line n (state_of t.now.texts hidden s.old into.old)) }
     ensures goes { IfOk result (λ r. IfSome r (λ v. Goes into.old into.new)) }
 {
     let Some(x) = type_named(s, u, t, n, true, into)? else {
@@ -360,11 +359,11 @@ fn cast_to(
     hidden: bool,
     into: &mut TypedUnit,
 ) -> Result<Option<NodeId>, NoMemory>
-    requires named { Is (tables u.now) is_declaration n }
-    requires node { Is (tables u.now) is_expression a }
+    requires named { Is u.now is_declaration n }
+    requires node { Is u.now is_expression a }
     requires open { IsOpen into.old s.old }
     ensures open { IfOk result (λ r. OpenIf into.new s.new r) }
-    ensures typed { IfOk result (λ r. after_node t.now.texts hidden s.new into.new r ≡ cast_to_type (tables u.now).forest line n a (state_of t.now.texts hidden s.old into.old)) }
+    ensures typed { IfOk result (λ r. after_node t.now.texts hidden s.new into.new r ≡ cast_to_type u.now.forest line n a (state_of t.now.texts hidden s.old into.old)) }
     ensures goes { IfOk result (λ r. IfSome r (λ v. Goes into.old into.new)) }
 {
     let Some(x) = type_named(s, u, t, n, hidden, into)? else {
@@ -389,11 +388,11 @@ fn call_to(
     hidden: bool,
     into: &mut TypedUnit,
 ) -> Result<Option<NodeId>, NoMemory>
-    requires node { Is (tables u.now) is_expression f }
-    requires list { HasList (tables u.now).forest (length (tables u.now).forest.trees) is_expression args }
+    requires node { Is u.now is_expression f }
+    requires list { HasList u.now.forest (length u.now.forest.trees) is_expression args }
     requires open { IsOpen into.old s.old }
     ensures open { IfOk result (λ r. OpenIf into.new s.new r) }
-    ensures typed { IfOk result (λ r. after_node t.now.texts hidden s.new into.new r ≡ call_with_list (tables u.now).forest line f args (state_of t.now.texts hidden s.old into.old)) }
+    ensures typed { IfOk result (λ r. after_node t.now.texts hidden s.new into.new r ≡ call_with_list u.now.forest line f args (state_of t.now.texts hidden s.old into.old)) }
     ensures goes { IfOk result (λ r. IfSome r (λ v. Goes into.old into.new)) }
 {
     let Some(c) = used_callee(s, u, into, f)? else {
@@ -416,11 +415,11 @@ fn arguments(
     hidden: bool,
     into: &mut TypedUnit,
 ) -> Result<Option<Vec<NodeId>>, NoMemory>
-    requires list { HasList (tables u.now).forest (length (tables u.now).forest.trees) is_expression args }
+    requires list { HasList u.now.forest (length u.now.forest.trees) is_expression args }
     requires open { IsOpen into.old s.old }
     ensures open { IfOk result (λ r. IfSome r (λ v. IsOpen into.new s.new)) }
     ensures nodes { IfOk result (λ r. IfSome r (λ v. Each (IsExpression into.new) v.items)) }
-    ensures typed { IfOk result (λ r. after_nodes t.now.texts hidden s.new into.new r ≡ arguments (arguments_at (tables u.now).forest args) (state_of t.now.texts hidden s.old into.old)) }
+    ensures typed { IfOk result (λ r. after_nodes t.now.texts hidden s.new into.new r ≡ arguments (arguments_at u.now.forest args) (state_of t.now.texts hidden s.old into.old)) }
     ensures goes { IfOk result (λ r. IfSome r (λ v. Goes into.old into.new)) }
 {
     let nodes = u.list(args);

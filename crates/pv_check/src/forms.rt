@@ -1,6 +1,5 @@
 //! What stands outermost in a declarator, abstract or not (C17 6.7.6, 6.7.7).
 ghost use Rattle.std.specs.Prelude.{◌≡◌, Bool, List, ℕ};
-ghost use Rattle.pv_tree.specs.Rows.{tables};
 ghost use Rattle.pv_tree.specs.Tables.{Is, is_declarator, declarator_at};
 ghost use Rattle.pv_check.specs.Forms.{HasFormParts, form_steps};
 ghost use Rattle.pv_check.specs.Open.{state_of};
@@ -30,9 +29,9 @@ pub(crate) enum Form {
 
 /// What stands outermost in a declarator.
 pub(crate) fn form_of(u: &Unit, s: &Scopes, into: &TypedUnit, n: NodeId) -> Form
-    requires { Is (tables u.now) is_declarator n }
-    ensures parts { HasFormParts (tables u.now).forest n.0 result }
-    ensures answer { (texts : List (List ℕ)) (h : Bool) → form_steps (tables u.now).forest result (state_of texts h s.now into.now) ≡ steps (declarator_at (tables u.now).forest n) (state_of texts h s.now into.now) }
+    requires { Is u.now is_declarator n }
+    ensures parts { HasFormParts u.now.forest n.0 result }
+    ensures answer { (texts : List (List ℕ)) (h : Bool) → form_steps u.now.forest result (state_of texts h s.now into.now) ≡ steps (declarator_at u.now.forest n) (state_of texts h s.now into.now) }
 {
     match u.declarator(n) {
         Declarator::Name(_) => Form::Name,

@@ -1,6 +1,5 @@
 //! Structures, unions and enumerations with their lists (C17 6.7.2.1, 6.7.2.2), whose members have specifiers of their own.
 ghost use Rattle.std.specs.Prelude.{◌≡◌, ◌<◌, ◌≤◌, ◌+◌, IfOk, IfSome, List, Some, pos, ℤ, length};
-ghost use Rattle.pv_tree.specs.Rows.{tables};
 ghost use Rattle.pv_tree.specs.Tables.{Is, is_expression, is_declaration, is_declarator, tree_at, trees_at, optional_at, HasList};
 ghost use Rattle.pv_types.specs.Known.{tree};
 ghost use Rattle.pv_types.specs.Ty.{IntTy};
@@ -44,14 +43,14 @@ pub(crate) fn composite_listed(
     seen: Seen,
     unevaluated: bool,
 ) -> Result<Option<Seen>, NoMemory>
-    requires list { HasList (tables u.now).forest (length (tables u.now).forest.trees) is_declaration list }
+    requires list { HasList u.now.forest (length u.now.forest.trees) is_declaration list }
     requires opened { IsOpen into.old s.old }
     requires named { IsType into.old.known seen.named }
     ensures opened { IfOk result (λ r. IfSome r (λ x. IsOpen into.new s.new)) }
     ensures goes { IfOk result (λ r. IfSome r (λ x. Goes into.old into.new)) }
     ensures known { IfOk result (λ r. IfSome r (λ x. IsType into.new.known x.named)) }
     ensures bounded { IfOk result (λ r. IfSome r (λ x. total x.words ≤ total seen.words)) }
-    ensures answer { IfOk result (λ r. after_seen t.now.texts unevaluated s.new into.new r ≡ with_composite_list (tables u.now).forest union tag list (seen_in into.old.known seen) (state_of t.now.texts unevaluated s.old into.old)) }
+    ensures answer { IfOk result (λ r. after_seen t.now.texts unevaluated s.new into.new r ≡ with_composite_list u.now.forest union tag list (seen_in into.old.known seen) (state_of t.now.texts unevaluated s.old into.old)) }
 {
     let Some(number) = opened(s, into, union, tag)? else {
         return Ok(None);
@@ -73,12 +72,12 @@ fn members(
     list: ListId,
     unevaluated: bool,
 ) -> Result<Option<MemberList>, NoMemory>
-    requires list { HasList (tables u.now).forest (length (tables u.now).forest.trees) is_declaration list }
+    requires list { HasList u.now.forest (length u.now.forest.trees) is_declaration list }
     requires opened { IsOpen into.old s.old }
     ensures opened { IfOk result (λ r. IfSome r (λ x. IsOpen into.new s.new)) }
     ensures goes { IfOk result (λ r. IfSome r (λ x. Goes into.old into.new)) }
     ensures members { IfOk result (λ r. IfSome r (AreMembers into.new.known)) }
-    ensures answer { IfOk result (λ r. after_members t.now.texts unevaluated s.new into.new r ≡ members (trees_at (tables u.now).forest list) (state_of t.now.texts unevaluated s.old into.old)) }
+    ensures answer { IfOk result (λ r. after_members t.now.texts unevaluated s.new into.new r ≡ members (trees_at u.now.forest list) (state_of t.now.texts unevaluated s.old into.old)) }
 {
     let nodes = u.list(list);
     let mut ms = no_members(s.allocator());
@@ -104,13 +103,13 @@ fn member(
     before: MemberList,
     unevaluated: bool,
 ) -> Result<Option<MemberList>, NoMemory>
-    requires node { Is (tables u.now) is_declaration n }
+    requires node { Is u.now is_declaration n }
     requires opened { IsOpen into.old s.old }
     requires members { AreMembers into.old.known before }
     ensures opened { IfOk result (λ r. IfSome r (λ x. IsOpen into.new s.new)) }
     ensures goes { IfOk result (λ r. IfSome r (λ x. Goes into.old into.new)) }
     ensures members { IfOk result (λ r. IfSome r (AreMembers into.new.known)) }
-    ensures answer { IfOk result (λ r. after_members t.now.texts unevaluated s.new into.new r ≡ member_in (tree_at (tables u.now).forest n) (members_after t.now.texts unevaluated s.old into.old before)) }
+    ensures answer { IfOk result (λ r. after_members t.now.texts unevaluated s.new into.new r ≡ member_in (tree_at u.now.forest n) (members_after t.now.texts unevaluated s.old into.old before)) }
 {
     match u.decl(n) {
         Decl::Member { specs, declarators } => {
@@ -141,14 +140,14 @@ fn member_declarators(
     before: MemberList,
     unevaluated: bool,
 ) -> Result<Option<MemberList>, NoMemory>
-    requires list { HasList (tables u.now).forest (length (tables u.now).forest.trees) is_declarator list }
+    requires list { HasList u.now.forest (length u.now.forest.trees) is_declarator list }
     requires opened { IsOpen into.old s.old }
     requires base { base.0 < length into.old.known.terms }
     requires members { AreMembers into.old.known before }
     ensures opened { IfOk result (λ r. IfSome r (λ x. IsOpen into.new s.new)) }
     ensures goes { IfOk result (λ r. IfSome r (λ x. Goes into.old into.new)) }
     ensures members { IfOk result (λ r. IfSome r (AreMembers into.new.known)) }
-    ensures answer { IfOk result (λ r. after_members t.now.texts unevaluated s.new into.new r ≡ declared_members (tables u.now).forest list (tree into.old.known base.0) (members_after t.now.texts unevaluated s.old into.old before)) }
+    ensures answer { IfOk result (λ r. after_members t.now.texts unevaluated s.new into.new r ≡ declared_members u.now.forest list (tree into.old.known base.0) (members_after t.now.texts unevaluated s.old into.old before)) }
 {
     let nodes = u.list(list);
     let mut ms = before;
@@ -175,14 +174,14 @@ fn member_declarator(
     before: MemberList,
     unevaluated: bool,
 ) -> Result<Option<MemberList>, NoMemory>
-    requires node { Is (tables u.now) is_declarator n }
+    requires node { Is u.now is_declarator n }
     requires opened { IsOpen into.old s.old }
     requires base { base.0 < length into.old.known.terms }
     requires members { AreMembers into.old.known before }
     ensures opened { IfOk result (λ r. IfSome r (λ x. IsOpen into.new s.new)) }
     ensures goes { IfOk result (λ r. IfSome r (λ x. Goes into.old into.new)) }
     ensures members { IfOk result (λ r. IfSome r (AreMembers into.new.known)) }
-    ensures answer { IfOk result (λ r. after_members t.now.texts unevaluated s.new into.new r ≡ declared_member (tables u.now).forest n (tree into.old.known base.0) (members_after t.now.texts unevaluated s.old into.old before)) }
+    ensures answer { IfOk result (λ r. after_members t.now.texts unevaluated s.new into.new r ≡ declared_member u.now.forest n (tree into.old.known base.0) (members_after t.now.texts unevaluated s.old into.old before)) }
 {
     let alloc = s.allocator();
     let Some(steps) = steps_of(alloc, u, t, s, into, n, unevaluated)? else {
@@ -205,14 +204,14 @@ pub(crate) fn enumeration_listed(
     seen: Seen,
     unevaluated: bool,
 ) -> Result<Option<Seen>, NoMemory>
-    requires list { HasList (tables u.now).forest (length (tables u.now).forest.trees) is_declaration list }
+    requires list { HasList u.now.forest (length u.now.forest.trees) is_declaration list }
     requires opened { IsOpen into.old s.old }
     requires named { IsType into.old.known seen.named }
     ensures opened { IfOk result (λ r. IfSome r (λ x. IsOpen into.new s.new)) }
     ensures goes { IfOk result (λ r. IfSome r (λ x. Goes into.old into.new)) }
     ensures known { IfOk result (λ r. IfSome r (λ x. IsType into.new.known x.named)) }
     ensures bounded { IfOk result (λ r. IfSome r (λ x. total x.words ≤ total seen.words)) }
-    ensures answer { IfOk result (λ r. after_seen t.now.texts unevaluated s.new into.new r ≡ with_enumeration_list (tables u.now).forest tag list (seen_in into.old.known seen) (state_of t.now.texts unevaluated s.old into.old)) }
+    ensures answer { IfOk result (λ r. after_seen t.now.texts unevaluated s.new into.new r ≡ with_enumeration_list u.now.forest tag list (seen_in into.old.known seen) (state_of t.now.texts unevaluated s.old into.old)) }
 {
     if !opened_enumeration(s, into, tag)? {
         return Ok(None);
@@ -234,11 +233,11 @@ fn enumerators(
     list: ListId,
     unevaluated: bool,
 ) -> Result<Option<i128>, NoMemory>
-    requires list { HasList (tables u.now).forest (length (tables u.now).forest.trees) is_declaration list }
+    requires list { HasList u.now.forest (length u.now.forest.trees) is_declaration list }
     requires opened { IsOpen into.old s.old }
     ensures opened { IfOk result (λ r. IfSome r (λ x. IsOpen into.new s.new)) }
     ensures goes { IfOk result (λ r. IfSome r (λ x. Goes into.old into.new)) }
-    ensures answer { IfOk result (λ r. after_value t.now.texts unevaluated s.new into.new r ≡ enumerators (trees_at (tables u.now).forest list) (state_of t.now.texts unevaluated s.old into.old)) }
+    ensures answer { IfOk result (λ r. after_value t.now.texts unevaluated s.new into.new r ≡ enumerators (trees_at u.now.forest list) (state_of t.now.texts unevaluated s.old into.old)) }
 {
     let nodes = u.list(list);
     let mut next = 0;
@@ -264,11 +263,11 @@ fn enumerator(
     next: i128,
     unevaluated: bool,
 ) -> Result<Option<i128>, NoMemory>
-    requires node { Is (tables u.now) is_declaration n }
+    requires node { Is u.now is_declaration n }
     requires opened { IsOpen into.old s.old }
     ensures opened { IfOk result (λ r. IfSome r (λ x. IsOpen into.new s.new)) }
     ensures goes { IfOk result (λ r. IfSome r (λ x. Goes into.old into.new)) }
-    ensures answer { IfOk result (λ r. after_value t.now.texts unevaluated s.new into.new r ≡ enumerator_in (tree_at (tables u.now).forest n) (record { value = next; state = state_of t.now.texts unevaluated s.old into.old })) }
+    ensures answer { IfOk result (λ r. after_value t.now.texts unevaluated s.new into.new r ≡ enumerator_in (tree_at u.now.forest n) (record { value = next; state = state_of t.now.texts unevaluated s.old into.old })) }
 {
     match u.decl(n) {
         Decl::Enumerator { name, value } => {
@@ -298,11 +297,11 @@ fn enumerator_value(
     next: i128,
     unevaluated: bool,
 ) -> Result<Option<i128>, NoMemory>
-    requires node { IfSome value (λ n. Is (tables u.now) is_expression n) }
+    requires node { IfSome value (λ n. Is u.now is_expression n) }
     requires opened { IsOpen into.old s.old }
     ensures opened { IfOk result (λ r. IfSome r (λ x. IsOpen into.new s.new)) }
     ensures goes { IfOk result (λ r. IfSome r (λ x. Goes into.old into.new)) }
-    ensures answer { IfOk result (λ r. after_value t.now.texts unevaluated s.new into.new r ≡ enumerator_value (optional_at (tables u.now).forest value) next (state_of t.now.texts unevaluated s.old into.old)) }
+    ensures answer { IfOk result (λ r. after_value t.now.texts unevaluated s.new into.new r ≡ enumerator_value (optional_at u.now.forest value) next (state_of t.now.texts unevaluated s.old into.old)) }
 {
     match value {
         None => Ok(Some(next)),

@@ -1,6 +1,5 @@
 //! Lists of parameters (C17 6.7.6.3), which declarators and the lists' declarators need one another for.
 ghost use Rattle.std.specs.Prelude.{◌≡◌, IfOk, IfSome, List, Some, length};
-ghost use Rattle.pv_tree.specs.Rows.{tables};
 ghost use Rattle.pv_tree.specs.Tables.{Is, is_declaration, tree_at, trees_at, HasList};
 ghost use Rattle.pv_typed.specs.Children.{Each};
 ghost use Rattle.pv_check.specs.Declarators.{after_parameter, after_parameters, after_steps, steps_shown, ParameterKnown, StepsKnown, KnownSteps, value_after};
@@ -35,13 +34,13 @@ pub(crate) fn with_parameters(
     variadic: bool,
     unevaluated: bool,
 ) -> Result<Option<Steps>, NoMemory>
-    requires list { HasList (tables u.now).forest (length (tables u.now).forest.trees) is_declaration list }
+    requires list { HasList u.now.forest (length u.now.forest.trees) is_declaration list }
     requires opened { IsOpen into.old s.old }
     requires steps { StepsKnown into.old x }
     ensures opened { IfOk result (λ r. IfSome r (λ k. IsOpen into.new s.new)) }
     ensures goes { IfOk result (λ r. IfSome r (λ k. Goes into.old into.new)) }
     ensures known { IfOk result (λ r. KnownSteps into.new r) }
-    ensures answer { IfOk result (λ r. after_steps t.now.texts unevaluated s.new into.new r ≡ with_parameter_list (tables u.now).forest list variadic (steps_shown into.old.known x) (state_of t.now.texts unevaluated s.old into.old)) }
+    ensures answer { IfOk result (λ r. after_steps t.now.texts unevaluated s.new into.new r ≡ with_parameter_list u.now.forest list variadic (steps_shown into.old.known x) (state_of t.now.texts unevaluated s.old into.old)) }
 {
     entered(s, into)?;
     let Some(ps) = parameters(alloc, u, t, s, into, list, unevaluated)? else {
@@ -62,12 +61,12 @@ fn parameters(
     list: ListId,
     unevaluated: bool,
 ) -> Result<Option<Vec<Parameter>>, NoMemory>
-    requires list { HasList (tables u.now).forest (length (tables u.now).forest.trees) is_declaration list }
+    requires list { HasList u.now.forest (length u.now.forest.trees) is_declaration list }
     requires opened { IsOpen into.old s.old }
     ensures opened { IfOk result (λ r. IfSome r (λ v. IsOpen into.new s.new)) }
     ensures goes { IfOk result (λ r. IfSome r (λ v. Goes into.old into.new)) }
     ensures known { IfOk result (λ r. IfSome r (λ v. Each (ParameterKnown into.new) v.items)) }
-    ensures answer { IfOk result (λ r. after_parameters t.now.texts unevaluated s.new into.new r ≡ parameters (trees_at (tables u.now).forest list) (state_of t.now.texts unevaluated s.old into.old)) }
+    ensures answer { IfOk result (λ r. after_parameters t.now.texts unevaluated s.new into.new r ≡ parameters (trees_at u.now.forest list) (state_of t.now.texts unevaluated s.old into.old)) }
 {
     let nodes = u.list(list);
     let mut ps = Vec::new(alloc);
@@ -93,12 +92,12 @@ fn parameter(
     n: NodeId,
     unevaluated: bool,
 ) -> Result<Option<Parameter>, NoMemory>
-    requires node { Is (tables u.now) is_declaration n }
+    requires node { Is u.now is_declaration n }
     requires opened { IsOpen into.old s.old }
     ensures opened { IfOk result (λ r. IfSome r (λ p. IsOpen into.new s.new)) }
     ensures goes { IfOk result (λ r. IfSome r (λ p. Goes into.old into.new)) }
     ensures known { IfOk result (λ r. IfSome r (ParameterKnown into.new)) }
-    ensures answer { IfOk result (λ r. (ps : List WholeParameter) → after_parameter t.now.texts unevaluated s.new into.new ps r ≡ parameter_in (tree_at (tables u.now).forest n) (value_after t.now.texts unevaluated s.old into.old ps)) }
+    ensures answer { IfOk result (λ r. (ps : List WholeParameter) → after_parameter t.now.texts unevaluated s.new into.new ps r ≡ parameter_in (tree_at u.now.forest n) (value_after t.now.texts unevaluated s.old into.old ps)) }
 {
     match u.decl(n) {
         Decl::Parameter { specs, declarator } => {

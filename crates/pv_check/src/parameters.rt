@@ -1,5 +1,6 @@
 //! Parameters of functions (C17 6.7.6.3), and the scope that a list of them leaves (C17 6.2.1p4).
-ghost use Rattle.std.specs.Prelude.{◌≡◌, ◌<◌, ◌≤◌, ◌+◌, ◌++◌, ◌∷◌, [], ℕ, Bool, List, Some, None, Option, true, false, length, IfOk, IfSome, OnOk};
+ghost use Rattle.std.specs.Prelude.{◌≡◌, ◌<◌, ◌≤◌, ◌+◌, ◌++◌, ◌∷◌, [], ℕ, Bool, List, Some, None, Option, true, false, length, IfOk, IfSome, OnOk, IsTrue};
+ghost use Rattle.pv_types.specs.Adjusted.{is_adjusted, are_adjusted};
 ghost use Rattle.pv_types.specs.Known.{Known, tree, trees, tys_in, env, parameters_at, AllBelow};
 ghost use Rattle.pv_typed.specs.Adding.{with_object};
 ghost use Rattle.pv_typed.specs.Children.{Each};
@@ -60,6 +61,13 @@ fn adjusted(types: &mut Types, t: TypeId) -> Result<Option<TypeId>, NoMemory>
             Ok(Some(r))
         }
         Term::Function { .. } => Ok(None),
+        Term::Const(inner) => {
+            if types.is_adjusted(inner) {
+                Ok(Some(t))
+            } else {
+                Ok(None)
+            }
+        }
         _ => Ok(Some(t)),
     }
 }
@@ -137,6 +145,7 @@ fn named_parameter(
 ) -> Result<Option<Parameter>, NoMemory>
     requires opened { IsOpen into.old s.old }
     requires target { t.0 < length into.old.known.terms }
+    requires adjusted { IsTrue (is_adjusted (tree into.old.known t.0)) }
     ensures opened { IfOk result (λ r. IfSome r (λ p. IsOpen into.new s.new)) }
     ensures goes { OnOk result (Goes into.old into.new) }
     ensures known { IfOk result (λ r. IfSome r (ParameterKnown into.new)) }
@@ -253,7 +262,8 @@ fn unqualified_types(
 
 /// The number of a list of types.
 fn list_number(types: &mut Types, list: Vec<TypeId>) -> Result<u32, NoMemory>
-    requires { AllBelow (length types.old.terms) list.items }
+    requires known { AllBelow (length types.old.terms) list.items }
+    requires adjusted { IsTrue (are_adjusted (tys_in (trees types.old) list.items)) }
     ensures number { IfOk result (λ p. p < length types.new.lists) }
     ensures parameters { IfOk result (λ p. parameters_at types.new p ≡ tys_in (trees types.old) list.items) }
     ensures grows { OnOk result (Grows types.old types.new) }

@@ -1,6 +1,5 @@
 //! Names that have a meaning of their own (C17 5.1.2.2.1p1, 7.21.6.3p1), and the name that a declarator declares.
 ghost use Rattle.std.specs.Prelude.{◌≡◌, ◌+◌, ℕ, Bool, List, IfSome};
-ghost use Rattle.pv_tree.specs.Rows.{tables};
 ghost use Rattle.pv_tree.specs.Tables.{Is, is_declarator, declarator_at, optional_at};
 ghost use Rattle.pv_check.specs.Derivations.{declared_name, optional_name, is_printf_declarator, may_be_variadic};
 ghost use Rattle.pv_check.specs.Open.{state_of};
@@ -45,8 +44,8 @@ fn is_printf(into: &TypedUnit, n: u32) -> bool
 
 /// The name that a declarator declares, and its line.
 pub fn declared_name(u: &Unit, n: NodeId) -> Option<(u32, u32)>
-    requires { Is (tables u.now) is_declarator n }
-    ensures { result ≡ declared_name (declarator_at (tables u.now).forest n) }
+    requires { Is u.now is_declarator n }
+    ensures { result ≡ declared_name (declarator_at u.now.forest n) }
 {
     match u.declarator(n) {
         Declarator::Name(name) => Some((name, u.line(n))),
@@ -60,8 +59,8 @@ pub fn declared_name(u: &Unit, n: NodeId) -> Option<(u32, u32)>
 
 /// The same of a declarator that may be left out.
 pub(crate) fn optional_name(u: &Unit, d: Option<NodeId>) -> Option<(u32, u32)>
-    requires { IfSome d (λ n. Is (tables u.now) is_declarator n) }
-    ensures { result ≡ optional_name (optional_at (tables u.now).forest d) }
+    requires { IfSome d (λ n. Is u.now is_declarator n) }
+    ensures { result ≡ optional_name (optional_at u.now.forest d) }
 {
     match d {
         Some(n) => declared_name(u, n),
@@ -71,8 +70,8 @@ pub(crate) fn optional_name(u: &Unit, d: Option<NodeId>) -> Option<(u32, u32)>
 
 /// Whether a declarator is the name `printf`, parentheses aside.
 fn is_printf_declarator(u: &Unit, into: &TypedUnit, n: NodeId) -> bool
-    requires { Is (tables u.now) is_declarator n }
-    ensures { result ≡ is_printf_declarator into.now.names (declarator_at (tables u.now).forest n) }
+    requires { Is u.now is_declarator n }
+    ensures { result ≡ is_printf_declarator into.now.names (declarator_at u.now.forest n) }
 {
     match u.declarator(n) {
         Declarator::Name(name) => is_printf(into, name),
@@ -89,8 +88,8 @@ pub(crate) fn may_be_variadic(
     variadic: bool,
     n: NodeId,
 ) -> bool
-    requires { Is (tables u.now) is_declarator n }
-    ensures { (texts : List (List ℕ)) (h : Bool) → result ≡ may_be_variadic variadic (declarator_at (tables u.now).forest n) (state_of texts h s.now into.now) }
+    requires { Is u.now is_declarator n }
+    ensures { (texts : List (List ℕ)) (h : Bool) → result ≡ may_be_variadic variadic (declarator_at u.now.forest n) (state_of texts h s.now into.now) }
 {
     if !variadic {
         return true;

@@ -5,7 +5,6 @@ ghost use Rattle.pv_tree.specs.Children.{HasSpecChildren};
 ghost use Rattle.pv_check.specs.ListedRows.{listed, list_of, is_unlisted, is_no_keyword, with_composite_tag, with_enumeration_tag, with_typedef_name};
 ghost use Rattle.pv_check.specs.Specifiers.{Seen as WhatIsSeen};
 ghost use Rattle.pv_check.specs.State.{State};
-ghost use Rattle.pv_tree.specs.Rows.{tables};
 ghost use Rattle.pv_tree.specs.Nodes.{specifier_of};
 ghost use Rattle.pv_tree.specs.Syntax.{Keyword};
 ghost use Rattle.pv_types.specs.Known.{Known};
@@ -242,7 +241,7 @@ pub(crate) fn specifier(
     seen: Seen,
     unevaluated: bool,
 ) -> Result<Option<Seen>, NoMemory>
-    requires node { Is (tables u.now) is_specifier n }
+    requires node { Is u.now is_specifier n }
     requires opened { IsOpen into.old s.old }
     requires named { IsType into.old.known seen.named }
     requires few { total seen.words < 2 ^ 64 - 1 }
@@ -250,7 +249,7 @@ pub(crate) fn specifier(
     ensures goes { IfOk result (λ r. IfSome r (λ x. Goes into.old into.new)) }
     ensures known { IfOk result (λ r. IfSome r (λ x. IsType into.new.known x.named)) }
     ensures bounded { IfOk result (λ r. IfSome r (λ x. total x.words ≤ total seen.words + 1)) }
-    ensures answer { IfOk result (λ r. after_seen t.now.texts unevaluated s.new into.new r ≡ specifier (specifier_at (tables u.now).forest n) (seen_in into.old.known seen) (state_of t.now.texts unevaluated s.old into.old)) }
+    ensures answer { IfOk result (λ r. after_seen t.now.texts unevaluated s.new into.new r ≡ specifier (specifier_at u.now.forest n) (seen_in into.old.known seen) (state_of t.now.texts unevaluated s.old into.old)) }
 {
     let spec = u.spec(n);
     match listed_of(spec) {
@@ -276,14 +275,14 @@ fn listed_specifier(
     seen: Seen,
     unevaluated: bool,
 ) -> Result<Option<Seen>, NoMemory>
-    requires list { HasList (tables u.now).forest (length (tables u.now).forest.trees) is_declaration (list_of x) }
+    requires list { HasList u.now.forest (length u.now.forest.trees) is_declaration (list_of x) }
     requires opened { IsOpen into.old s.old }
     requires named { IsType into.old.known seen.named }
     ensures opened { IfOk result (λ r. IfSome r (λ y. IsOpen into.new s.new)) }
     ensures goes { IfOk result (λ r. IfSome r (λ y. Goes into.old into.new)) }
     ensures known { IfOk result (λ r. IfSome r (λ y. IsType into.new.known y.named)) }
     ensures bounded { IfOk result (λ r. IfSome r (λ y. total y.words ≤ total seen.words)) }
-    ensures answer { IfOk result (λ r. after_seen t.now.texts unevaluated s.new into.new r ≡ listed (tables u.now).forest x (seen_in into.old.known seen) (state_of t.now.texts unevaluated s.old into.old)) }
+    ensures answer { IfOk result (λ r. after_seen t.now.texts unevaluated s.new into.new r ≡ listed u.now.forest x (seen_in into.old.known seen) (state_of t.now.texts unevaluated s.old into.old)) }
 {
     match x {
         Listed::Composite { union, name, list } => {
@@ -305,12 +304,12 @@ pub fn specifiers(
     list: ListId,
     unevaluated: bool,
 ) -> Result<Option<Seen>, NoMemory>
-    requires list { HasList (tables u.now).forest (length (tables u.now).forest.trees) is_specifier list }
+    requires list { HasList u.now.forest (length u.now.forest.trees) is_specifier list }
     requires opened { IsOpen into.old s.old }
     ensures opened { IfOk result (λ r. IfSome r (λ x. IsOpen into.new s.new)) }
     ensures goes { IfOk result (λ r. IfSome r (λ x. Goes into.old into.new)) }
     ensures known { IfOk result (λ r. IfSome r (λ x. IsType into.new.known x.named)) }
-    ensures answer { IfOk result (λ r. after_seen t.now.texts unevaluated s.new into.new r ≡ specifiers (trees_at (tables u.now).forest list) (state_of t.now.texts unevaluated s.old into.old)) }
+    ensures answer { IfOk result (λ r. after_seen t.now.texts unevaluated s.new into.new r ≡ specifiers (trees_at u.now.forest list) (state_of t.now.texts unevaluated s.old into.old)) }
 {
     let nodes = u.list(list);
     let mut seen = nothing_seen();

@@ -10,7 +10,6 @@ ghost use Rattle.pv_check.specs.Seeing.{seen_in, specified_if, IsSpecified};
 ghost use Rattle.pv_check.specs.Specifiers.{specified, without_storage};
 ghost use Rattle.pv_check.specs.State.{and_then};
 ghost use Rattle.pv_check.specs.Stepping.{steps_in, AreSteps};
-ghost use Rattle.pv_tree.specs.Rows.{tables};
 ghost use Rattle.pv_tree.specs.Tables.{Is, is_declaration, declaration_at, HasList, is_declarator, is_specifier, trees_at, optional_at};
 ghost use Rattle.pv_check.specs.Rows.{plain};
 ghost use Rattle.pv_check.specs.Typing.{type_named, specifiers};
@@ -107,12 +106,12 @@ pub fn specified_type(
     specs: ListId,
     unevaluated: bool,
 ) -> Result<Option<TypeId>, NoMemory>
-    requires specs { HasList (tables u.now).forest (length (tables u.now).forest.trees) is_specifier specs }
+    requires specs { HasList u.now.forest (length u.now.forest.trees) is_specifier specs }
     requires opened { IsOpen into.old s.old }
     ensures opened { IfOk result (λ r. IfSome r (λ k. IsOpen into.new s.new)) }
     ensures goes { IfOk result (λ r. IfSome r (λ k. Goes into.old into.new)) }
     ensures known { IfOk result (λ r. IsType into.new.known r) }
-    ensures answer { IfOk result (λ r. after_type t.now.texts unevaluated s.new into.new r ≡ and_then (specifiers (trees_at (tables u.now).forest specs) (state_of t.now.texts unevaluated s.old into.old)) plain) }
+    ensures answer { IfOk result (λ r. after_type t.now.texts unevaluated s.new into.new r ≡ and_then (specifiers (trees_at u.now.forest specs) (state_of t.now.texts unevaluated s.old into.old)) plain) }
 {
     let Some(seen) = specifiers(u, t, s, into, specs, unevaluated)? else {
         return Ok(None);
@@ -131,10 +130,10 @@ pub(crate) fn type_named(
     hidden: bool,
     into: &mut TypedUnit,
 ) -> Result<Option<TypeId>, NoMemory>
-    requires node { Is (tables u.now) is_declaration n }
+    requires node { Is u.now is_declaration n }
     requires open { IsOpen into.old s.old }
     ensures open { IfOk result (λ r. IfSome r (λ x. (x.0 < length into.new.known.terms) × IsOpen into.new s.new)) }
-    ensures typed { IfOk result (λ r. after_type t.now.texts hidden s.new into.new r ≡ type_named (declaration_at (tables u.now).forest n) (state_of t.now.texts hidden s.old into.old)) }
+    ensures typed { IfOk result (λ r. after_type t.now.texts hidden s.new into.new r ≡ type_named (declaration_at u.now.forest n) (state_of t.now.texts hidden s.old into.old)) }
     ensures goes { IfOk result (λ r. IfSome r (λ v. Goes into.old into.new)) }
 {
     let alloc = s.allocator();
@@ -163,13 +162,13 @@ pub(crate) fn type_name(
     declarator: Option<NodeId>,
     unevaluated: bool,
 ) -> Result<Option<TypeId>, NoMemory>
-    requires specs { HasList (tables u.now).forest (length (tables u.now).forest.trees) is_specifier specs }
-    requires declarator { IfSome declarator (λ n. Is (tables u.now) is_declarator n) }
+    requires specs { HasList u.now.forest (length u.now.forest.trees) is_specifier specs }
+    requires declarator { IfSome declarator (λ n. Is u.now is_declarator n) }
     requires opened { IsOpen into.old s.old }
     ensures opened { IfOk result (λ r. IfSome r (λ k. IsOpen into.new s.new)) }
     ensures goes { IfOk result (λ r. IfSome r (λ k. Goes into.old into.new)) }
     ensures known { IfOk result (λ r. IsType into.new.known r) }
-    ensures answer { (line : ℕ) → IfOk result (λ r. after_type t.now.texts unevaluated s.new into.new r ≡ type_of_name (tables u.now).forest line specs declarator (state_of t.now.texts unevaluated s.old into.old)) }
+    ensures answer { (line : ℕ) → IfOk result (λ r. after_type t.now.texts unevaluated s.new into.new r ≡ type_of_name u.now.forest line specs declarator (state_of t.now.texts unevaluated s.old into.old)) }
 {
     let Some(base) = specified_type(u, t, s, into, specs, unevaluated)? else {
         return Ok(None);

@@ -1,6 +1,5 @@
 //! What the expression of a small function definition is typed as, within the scope of its parameters.
 ghost use Rattle.std.specs.Prelude.{◌≡◌, []};
-ghost use Rattle.pv_tree.specs.Rows.{tables};
 ghost use Rattle.pv_tree.specs.Tables.{Is, is_declarator, is_expression, is_statement};
 ghost use Rattle.pv_typed.specs.Formed.{AreKnown};
 ghost use Rattle.pv_typed.specs.Mains.{no_tables};
@@ -38,17 +37,17 @@ fn begin(rt: &impl Abort, t: &Tokens, s: &mut Scopes, into: &mut TypedUnit)
 /// The parameters of a definition, in the scope of its body (C17 6.2.1p4).
 fn declare_parameters(
     rt: &impl Abort,
+    alloc: Global,
     u: &Unit,
     t: &Tokens,
     s: &mut Scopes,
     into: &mut TypedUnit,
     n: NodeId,
 )
-    requires node { Is (tables u.now) is_declarator n }
+    requires node { Is u.now is_declarator n }
     requires opened { IsOpen into.old s.old }
     ensures { IsOpen into.new s.new }
 {
-    let alloc = s.allocator();
     let found = steps_of(alloc, u, t, s, into, n, false).expect(rt, "no memory");
     let Some(x) = found else {
         panic!(rt; "no steps");
@@ -62,8 +61,8 @@ fn declare_parameters(
 
 /// The expression that stands alone in a block.
 fn alone_in(rt: &impl Abort, u: &Unit, block: NodeId) -> NodeId
-    requires { Is (tables u.now) is_statement block }
-    ensures { Is (tables u.now) is_expression result }
+    requires { Is u.now is_statement block }
+    ensures { Is u.now is_expression result }
 {
     let Stmt::Block(items) = u.stmt(block) else {
         panic!(rt; "no block");
@@ -88,7 +87,7 @@ fn typed(
     e: NodeId,
     out: &mut String,
 )
-    requires node { Is (tables u.now) is_expression e }
+    requires node { Is u.now is_expression e }
     requires opened { IsOpen into.old s.old }
 {
     match expression(s, u, t, e, into).expect(rt, "no memory") {
@@ -115,7 +114,7 @@ pub(crate) fn told(rt: &impl Abort, alloc: Global, source: &[u8]) -> String {
             block,
             ..
         } => {
-            declare_parameters(rt, &u, &t, &mut s, &mut into, declarator);
+            declare_parameters(rt, alloc, &u, &t, &mut s, &mut into, declarator);
             let e = alone_in(rt, &u, block);
             typed(rt, &u, &t, &mut s, &mut into, e, &mut out);
         }

@@ -26,7 +26,8 @@ use Rattle.pv_decl_forms.specs.Parts.{function_of}
 use Rattle.pv_decl_forms.specs.Pieces.{Piece, row, row_for}
 use Rattle.pv_decl_forms.specs.Reader.{specified, type_name}
 use Rattle.pv_decl_forms.specs.Answers.{seen, Answers}
-use Rattle.pv_decl.specs.Filled.{filled, opens, is_behind_open, entry}
+use Rattle.pv_decl.specs.Filled.{entry}
+use Rattle.pv_decl.specs.NameTables.{filled, NameTable, type_map, no_names, with_name, opens, is_behind_open}
 use Rattle.pv_decl_forms.specs.Givens.{AreGiven, parameter_list}
 use Rattle.pv_decl_forms.specs.TypeNames.{AreTypeNames}
 use Rattle.pv_decl_forms.proofs.Naming.{type_name_good}
@@ -46,7 +47,7 @@ sides a b = elim (leb_tells b a) [ inl l ↦ inr l.1 | inr l ↦ inl l.1 ]
 
 -- ---- places and the tokens before them
 
-not_open : (k : TokenKind) → (k ≡ kind.Mark mark.OpenParen → ⊥) → is_open k ≡ false
+pub not_open : (k : TokenKind) → (k ≡ kind.Mark mark.OpenParen → ⊥) → is_open k ≡ false
 not_open (kind.Mark mark.OpenParen) h = absurd (h refl)
 not_open _ h = refl
 
@@ -56,7 +57,7 @@ behind_it tokens at o ts e =
     let one : drop 1 (drop at tokens) ≡ ts = ap (drop 1) e in
     (omega (arith, ap length e, length-drop at tokens), sym one ∙ drop-drop 1 at tokens)
 
-open_at : (tokens : List Token) (at : ℕ) (o : Token) (ts : List Token) → drop at tokens ≡ o ∷ ts → is_behind_open tokens (suc at) ≡ is_open o.kind
+pub open_at : (tokens : List Token) (at : ℕ) (o : Token) (ts : List Token) → drop at tokens ≡ o ∷ ts → is_behind_open tokens (suc at) ≡ is_open o.kind
 open_at tokens at o ts e = ap opens e
 
 -- nothing is a type name of no tokens
@@ -342,6 +343,24 @@ pub lists_step : {S : Type 0} (typedefs : IndexSet ℕ S) (types : TypeMap) (u v
     → (items : List (Option (Option (NodeId × ℕ)))) → items ≡ lists ++ (x ∷ []) → AreGiven (filled to items) typedefs types v tokens
 lists_step typedefs types u v tokens to lists at some count given keeps x a items e =
     given_lists typedefs types u v tokens to lists (at - 1) (omega (arith, count, some)) given keeps x a items e
+
+-- ---- of the table as a whole
+
+pub table_none : (is_type : ℕ → Bool) (u : Tables) (tokens : List Token) (deep to : ℕ) (table : NameTable) → table ≡ no_names to → to ≤ length tokens
+    → IsFilled is_type u tokens deep table.to table.found to
+table_none is_type u tokens deep to table made inside = rw made (filled_none is_type u tokens deep to [] to inside refl refl)
+
+module _ {S : Type 0} (typedefs : IndexSet ℕ S) (u v : Tables) (tokens : List Token) (deep : ℕ) (table new : NameTable) (at : ℕ) (some : 0 < at)
+    (before : IsFilled (contains nat_eq typedefs) u tokens deep table.to table.found at) (keeps : Extends u v) (r : Option (NodeId × ℕ))
+    (a : Answers v is_declaration tokens r (entry (names_of (contains nat_eq typedefs) (type_map table) u.forest tokens) deep tokens (at - 1)))
+    (made : new ≡ with_name table r) where
+  pub table_step : IsFilled (contains nat_eq typedefs) v tokens deep new.to new.found (at - 1)
+  table_step = rw made (filled_step (contains nat_eq typedefs) u v tokens deep table.to table.found at some before keeps r a (table.found ++ (r ∷ [])) refl)
+
+  pub table_given : (to : ℕ) (lists : List (Option (Option (NodeId × ℕ)))) → to ≡ table.to → at + length lists ≡ to
+      → AreGiven (filled to lists) typedefs (type_map table) u tokens → AreGiven (filled to lists) typedefs (type_map new) v tokens
+  table_given to lists same count given =
+      rw made (names_step typedefs u v tokens deep table.to table.found at some before keeps r a to lists same count given (table.found ++ (r ∷ [])) refl)
 
 -- ---- the whole table
 

@@ -4,7 +4,7 @@ use Rattle.std.specs.Prelude.{slice_index_or}
 use Rattle.std.proofs.lemmas.Bool.{le-leb}
 use Rattle.std.proofs.lemmas.List.{get_or_push, get_or_append_left, get_or_past}
 use Rattle.pv_expr_forms.proofs.Naming.{leb_not}
-use Rattle.pv_decl.specs.Filled.{filled}
+use Rattle.pv_decl.specs.NameTables.{filled}
 
 module _ {A : Type 0} (last : ℕ) (found : List (Option A)) (p : ℕ) where
   pub filled_beyond : last ≤ p → filled last found p ≡ None

@@ -1,21 +1,22 @@
 //! Initializers (C17 6.7.9), and declarators with them.
-ghost use Rattle.std.specs.Prelude.{◌≡◌, ◌≤◌, length, Some, IfOk};
-ghost use Rattle.pv_tree.specs.Rows.{tables};
-ghost use Rattle.pv_tree.specs.Tables.{tree_at, is_declaration, is_declarator, is_expression, is_initializer, Is, Extends};
+ghost use Rattle.std.specs.Prelude.{Some};
+ghost use Rattle.pv_tree.specs.Tables.{tree_at, is_declaration, is_declarator, is_expression, is_initializer, Is};
 ghost use Rattle.pv_tree.specs.Places.{Initializers};
 ghost use Rattle.pv_decl_forms.specs.Parts.{assigned};
 ghost use Rattle.pv_decl_forms.specs.Pieces.{value, listed};
 ghost use Rattle.pv_decl_forms.specs.Reader.{readers, initialized};
-ghost use Rattle.pv_decl.specs.Sources.{known_names, AreKnown, ReadsFrom, RowReads, MayRead};
+ghost use Rattle.pv_expr_forms.specs.Sources.{known_names, ReadsInto};
+ghost use Rattle.pv_decl_forms.specs.Sources.{ReadsFrom, RowReads, MayRead};
+ghost use Rattle.pv_decl.specs.Sources.{IsReady};
 
-use crate::source::Source;
+use crate::declarations::Declarations;
 use pv_decl_forms::{Sign, after, braces_of, found_declaration, found_initializer};
 use pv_expr::{Level, expression};
 use pv_expr_forms::line_at;
 use pv_token::NoMemory;
 use pv_tree::{Decl, Init, NodeId, TypeReader, Unit};
 
-impl<R: TypeReader> Source<'_, R> {
+impl<R: TypeReader> Declarations<'_, R> {
     /// An initializer, and the place behind it.
     #[cycle(initializing)]
     fn initializer(
@@ -24,22 +25,20 @@ impl<R: TypeReader> Source<'_, R> {
         depth: u32,
         into: &mut Unit,
     ) -> Result<Option<(NodeId, u32)>, NoMemory>
-        requires place { at ≤ length self.now.tokens.now.tokens }
-        requires tied { AreKnown R.types self.now (tables into.old) }
-        ensures keeps { Extends (tables into.old) (tables into.new) }
-        ensures ok { ReadsFrom self.now at (tables into.new) is_initializer result (readers (known_names R.types self.now (tables into.old)) depth Initializers) }
+        requires { IsReady R.types self.now into.old at }
+        ensures { ReadsFrom self.now.source at into.old into.new is_initializer result (readers (known_names R.types self.now.source into.old) depth Initializers) }
     {
         if depth == 0 {
             return Ok(None);
         }
-        let line = line_at(self.tokens, at);
-        if let Some(inside) = after(self.tokens, at, Sign::OpenBrace) {
+        let line = line_at(self.source.tokens, at);
+        if let Some(inside) = after(self.source.tokens, at, Sign::OpenBrace) {
             let (parts, end) = self.initializers(inside, depth - 1, into)?;
-            return braces_of(self.tokens, end, &parts, line, into);
+            return braces_of(self.source.tokens, end, &parts, line, into);
         }
         match self.assigned(at, depth - 1, into)? {
             Some((value, end)) => found_initializer(
-                self.tokens,
+                self.source.tokens,
                 end,
                 Init::Expr(value),
                 line,
@@ -56,19 +55,17 @@ impl<R: TypeReader> Source<'_, R> {
         depth: u32,
         into: &mut Unit,
     ) -> Result<Option<(NodeId, u32)>, NoMemory>
-        requires place { at ≤ length self.now.tokens.now.tokens }
-        requires tied { AreKnown R.types self.now (tables into.old) }
-        ensures keeps { Extends (tables into.old) (tables into.new) }
-        ensures ok { ReadsFrom self.now at (tables into.new) is_expression result (assigned (known_names R.types self.now (tables into.old)) depth) }
+        requires { IsReady R.types self.now into.old at }
+        ensures { ReadsFrom self.now.source at into.old into.new is_expression result (assigned (known_names R.types self.now.source into.old) depth) }
     {
         expression(
-            self.tokens,
+            self.source.tokens,
             at,
             Level::Assignment,
             depth,
-            self.typedefs,
+            self.source.typedefs,
             into,
-            self.reader,
+            self.source.reader,
         )
     }
 
@@ -80,12 +77,10 @@ impl<R: TypeReader> Source<'_, R> {
         depth: u32,
         into: &mut Unit,
     ) -> Result<(Vec<NodeId>, u32), NoMemory>
-        requires place { at ≤ length self.now.tokens.now.tokens }
-        requires tied { AreKnown R.types self.now (tables into.old) }
-        ensures keeps { Extends (tables into.old) (tables into.new) }
-        ensures ok { IfOk result (λ r. RowReads self.now at (tables into.new) is_initializer r.0.items r.1 (listed (readers (known_names R.types self.now (tables into.old)) depth Initializers))) }
+        requires { IsReady R.types self.now into.old at }
+        ensures { ReadsInto into.old into.new result (λ r. RowReads self.now.source at into.new is_initializer r.0.items r.1 (listed (readers (known_names R.types self.now.source into.old) depth Initializers))) }
     {
-        let mut parts = Vec::new(*self.typedefs.allocator());
+        let mut parts = Vec::new(*self.source.typedefs.allocator());
         let mut behind = at;
         let mut next = at;
         loop {
@@ -94,7 +89,7 @@ impl<R: TypeReader> Source<'_, R> {
             };
             parts.push(found)?;
             behind = end;
-            match after(self.tokens, end, Sign::Comma) {
+            match after(self.source.tokens, end, Sign::Comma) {
                 Some(following) => next = following,
                 None => return Ok((parts, behind)),
             }
@@ -108,12 +103,10 @@ impl<R: TypeReader> Source<'_, R> {
         depth: u32,
         into: &mut Unit,
     ) -> Result<(Option<NodeId>, u32), NoMemory>
-        requires place { at ≤ length self.now.tokens.now.tokens }
-        requires tied { AreKnown R.types self.now (tables into.old) }
-        ensures keeps { Extends (tables into.old) (tables into.new) }
-        ensures ok { IfOk result (λ r. MayRead self.now at (tables into.new) is_initializer r.0 r.1 (value (readers (known_names R.types self.now (tables into.old)) depth Initializers))) }
+        requires { IsReady R.types self.now into.old at }
+        ensures { ReadsInto into.old into.new result (λ r. MayRead self.now.source at into.new is_initializer r.0 r.1 (value (readers (known_names R.types self.now.source into.old) depth Initializers))) }
     {
-        let Some(behind) = after(self.tokens, at, Sign::Equals) else {
+        let Some(behind) = after(self.source.tokens, at, Sign::Equals) else {
             return Ok((None, at));
         };
         match self.initializer(behind, depth, into)? {
@@ -131,14 +124,12 @@ impl<R: TypeReader> Source<'_, R> {
         depth: u32,
         into: &mut Unit,
     ) -> Result<Option<(NodeId, u32)>, NoMemory>
-        requires place { at ≤ length self.now.tokens.now.tokens }
-        requires tied { AreKnown R.types self.now (tables into.old) }
-        requires declarator { Is (tables into.old) is_declarator declarator }
-        ensures keeps { Extends (tables into.old) (tables into.new) }
-        ensures ok { ReadsFrom self.now at (tables into.new) is_declaration result (λ ts. Some (initialized (readers (known_names R.types self.now (tables into.old)) depth) line (tree_at (tables into.old).forest declarator) ts)) }
+        requires ready { IsReady R.types self.now into.old at }
+        requires declarator { Is into.old is_declarator declarator }
+        ensures { ReadsFrom self.now.source at into.old into.new is_declaration result (λ ts. Some (initialized (readers (known_names R.types self.now.source into.old) depth) line (tree_at into.old.forest declarator) ts)) }
     {
         let (init, end) = self.initial_value(at, depth, into)?;
         let declared = Decl::InitDeclarator { declarator, init };
-        found_declaration(self.tokens, end, declared, line, into)
+        found_declaration(self.source.tokens, end, declared, line, into)
     }
 }

@@ -3,11 +3,11 @@
 //! Of the trees that spell tokens from a place, each reader gives the one with the longest run.
 #![tactic(auto)]
 
+mod declarations;
 mod initializers;
 mod lists;
 mod parser;
 mod reading;
-mod source;
 mod type_table;
 mod values;
 

@@ -1,14 +1,15 @@
 //! Lists of parameters that are known before they are read.
-ghost use Rattle.std.specs.Prelude.{◌≡◌, ◌≤◌, [], IfSome, Some, length};
-ghost use Rattle.pv_tree.specs.Rows.{tables};
-ghost use Rattle.pv_tree.specs.Tables.{optional_at, is_declarator, Is, Extends};
+ghost use Rattle.std.specs.Prelude.{◌≡◌, ◌≤◌, [], IfSome, Some};
+ghost use Rattle.pv_tree.specs.Tables.{optional_at, is_declarator, Is};
 ghost use Rattle.pv_decl_forms.specs.Declarators.{parametrized};
 ghost use Rattle.pv_decl.specs.Filled.{list_map};
-ghost use Rattle.pv_decl.specs.Sources.{known_names, AreKnown, ReadsFrom};
+ghost use Rattle.pv_expr_forms.specs.Sources.{known_names};
+ghost use Rattle.pv_decl_forms.specs.Sources.{ReadsFrom};
 ghost use Rattle.pv_decl_forms.specs.Parts.{function_of};
 ghost use Rattle.pv_decl_forms.specs.Reader.{readers};
+ghost use Rattle.pv_decl.specs.Sources.{IsReady};
 
-use crate::source::Source;
+use crate::declarations::Declarations;
 use pv_decl_forms::{found_declarator, function_node};
 use pv_token::NoMemory;
 use pv_tree::{Declarator, NodeId, TypeReader, Unit};
@@ -52,7 +53,7 @@ impl ParameterLists {
     }
 }
 
-impl<R: TypeReader> Source<'_, R> {
+impl<R: TypeReader> Declarations<'_, R> {
     /// Parameters behind a declarator that may be left out, from behind the `(` on, where it is
     /// known which list of them begins there, if any (C17 6.7.6.3).
     ///
@@ -66,13 +67,11 @@ impl<R: TypeReader> Source<'_, R> {
         below: u32,
         into: &mut Unit,
     ) -> Result<Option<(NodeId, u32)>, NoMemory>
-        requires place { at ≤ length self.now.tokens.now.tokens }
-        requires tied { AreKnown R.types self.now (tables into.old) }
+        requires ready { IsReady R.types self.now into.old at }
         requires list { list_map self.now.lists.now at ≡ Some list }
-        requires left { IfSome left (λ n. Is (tables into.old) is_declarator n) }
+        requires left { IfSome left (λ n. Is into.old is_declarator n) }
         requires shallow { below ≤ 500 }
-        ensures keeps { Extends (tables into.old) (tables into.new) }
-        ensures ok { ReadsFrom self.now at (tables into.new) is_declarator result (parametrized (function_of line (optional_at (tables into.old).forest left)) (readers (known_names R.types self.now (tables into.old)) below)) }
+        ensures { ReadsFrom self.now.source at into.old into.new is_declarator result (parametrized (function_of line (optional_at into.old.forest left)) (readers (known_names R.types self.now.source into.old) below)) }
     {
         let Some((known, end)) = list else {
             return Ok(None);
@@ -89,6 +88,6 @@ impl<R: TypeReader> Source<'_, R> {
             return Ok(None);
         };
         let function = function_node(into, left, parameters, variadic);
-        found_declarator(self.tokens, end, function, line, into)
+        found_declarator(self.source.tokens, end, function, line, into)
     }
 }

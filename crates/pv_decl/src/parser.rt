@@ -1,26 +1,27 @@
 //! Declarations, and the heads of functions.
-ghost use Rattle.std.specs.Prelude.{◌≡◌, ◌≤◌, ℕ, All, length, None, IfOk, IfSome};
+ghost use Rattle.std.specs.Prelude.{◌≡◌, All, None, IfOk};
 ghost use Rattle.pv_tree.specs.Places.{InitDeclarators};
-ghost use Rattle.pv_tree.specs.Rows.{tables};
-ghost use Rattle.pv_tree.specs.Syntax.{DeclarationTree};
 ghost use Rattle.pv_tree.specs.Tables.{tree_at, trees_of, declaration_at, is_declaration, is_specifier, Is, Extends};
 ghost use Rattle.pv_tree.specs.TypeNames.{AreTied};
 ghost use Rattle.pv_expr_forms.specs.Known.{names_in};
+ghost use Rattle.pv_expr_forms.specs.Spelled.{IsSpelled, IsLongest, IsOnly, NothingSpells};
 ghost use Rattle.pv_decl_forms.specs.Grammar.{SpellsDeclaration};
 ghost use Rattle.pv_decl_forms.specs.Reader.{readers, after_specifiers, declaration, type_name, declared_from};
-ghost use Rattle.pv_decl.specs.Sources.{known_names, AreKnown, ReadsFrom, RowReads};
+ghost use Rattle.pv_expr_forms.specs.Sources.{known_names, ReadsInto};
+ghost use Rattle.pv_decl_forms.specs.Sources.{ReadsFrom, RowReads};
+ghost use Rattle.pv_decl.specs.Sources.{IsReady};
 
+use crate::declarations::Declarations;
 use crate::lists::ParameterLists;
-use crate::source::Source;
 use indexmap::IndexSet;
 use pv_decl_forms::{
     Form, Part, Sign, after, declaration_of, opens_block, parameter_of, type_name_of,
 };
-use pv_expr_forms::line_at;
+use pv_expr_forms::{Source, line_at};
 use pv_token::{NoMemory, Tokens};
 use pv_tree::{NodeId, TypeReader, Unit};
 
-impl<R: TypeReader> Source<'_, R> {
+impl<R: TypeReader> Declarations<'_, R> {
     // A declaration, or the head of a function, whose specifiers end at a place (C17 6.7p1, 6.9.1p1).
     fn specified(
         &self,
@@ -30,28 +31,33 @@ impl<R: TypeReader> Source<'_, R> {
         below: u32,
         into: &mut Unit,
     ) -> Result<Option<(NodeId, u32)>, NoMemory>
-        requires place { at ≤ length self.now.tokens.now.tokens }
-        requires tied { AreKnown R.types self.now (tables into.old) }
-        requires specs { All (λ n. Is (tables into.old) is_specifier n) specs.now }
-        ensures keeps { Extends (tables into.old) (tables into.new) }
-        ensures ok { ReadsFrom self.now at (tables into.new) is_declaration result (after_specifiers (readers (known_names R.types self.now (tables into.old)) below) line (trees_of (tables into.old).forest specs.now)) }
+        requires ready { IsReady R.types self.now into.old at }
+        requires specs { All (λ n. Is into.old is_specifier n) specs.now }
+        ensures { ReadsFrom self.now.source at into.old into.new is_declaration result (after_specifiers (readers (known_names R.types self.now.source into.old) below) line (trees_of into.old.forest specs.now)) }
     {
-        if after(self.tokens, at, Sign::Semicolon).is_some() {
-            return declaration_of(self.tokens, at, specs, &[], line, into);
+        if after(self.source.tokens, at, Sign::Semicolon).is_some() {
+            return declaration_of(self.source.tokens, at, specs, &[], line, into);
         }
         let Some((declarator, end)) = self.read(Part::Declarator(Form::Named), at, below, into)?
         else {
             return Ok(None);
         };
-        if opens_block(self.tokens, end) {
-            return parameter_of(self.tokens, at, specs, Some((declarator, end)), line, into);
+        if opens_block(self.source.tokens, end) {
+            return parameter_of(
+                self.source.tokens,
+                at,
+                specs,
+                Some((declarator, end)),
+                line,
+                into,
+            );
         }
-        let here = line_at(self.tokens, at);
+        let here = line_at(self.source.tokens, at);
         let Some((first, behind)) = self.initialized(end, declarator, here, below, into)? else {
             return Ok(None);
         };
         let (declared, last) = self.declared(behind, first, below, into)?;
-        declaration_of(self.tokens, last, specs, &declared, line, into)
+        declaration_of(self.source.tokens, last, specs, &declared, line, into)
     }
 
     // An init-declarator, and the place behind it (C17 6.7p1).
@@ -61,12 +67,10 @@ impl<R: TypeReader> Source<'_, R> {
         depth: u32,
         into: &mut Unit,
     ) -> Result<Option<(NodeId, u32)>, NoMemory>
-        requires place { at ≤ length self.now.tokens.now.tokens }
-        requires tied { AreKnown R.types self.now (tables into.old) }
-        ensures keeps { Extends (tables into.old) (tables into.new) }
-        ensures ok { ReadsFrom self.now at (tables into.new) is_declaration result (readers (known_names R.types self.now (tables into.old)) depth InitDeclarators) }
+        requires { IsReady R.types self.now into.old at }
+        ensures { ReadsFrom self.now.source at into.old into.new is_declaration result (readers (known_names R.types self.now.source into.old) depth InitDeclarators) }
     {
-        let line = line_at(self.tokens, at);
+        let line = line_at(self.source.tokens, at);
         match self.read(Part::Declarator(Form::Named), at, depth, into)? {
             Some((declarator, end)) => self.initialized(end, declarator, line, depth, into),
             None => Ok(None),
@@ -81,17 +85,15 @@ impl<R: TypeReader> Source<'_, R> {
         below: u32,
         into: &mut Unit,
     ) -> Result<(Vec<NodeId>, u32), NoMemory>
-        requires place { at ≤ length self.now.tokens.now.tokens }
-        requires tied { AreKnown R.types self.now (tables into.old) }
-        requires first { Is (tables into.old) is_declaration first }
-        ensures keeps { Extends (tables into.old) (tables into.new) }
-        ensures ok { IfOk result (λ r. RowReads self.now at (tables into.new) is_declaration r.0.items r.1 (declared_from (readers (known_names R.types self.now (tables into.old)) below) (tree_at (tables into.old).forest first))) }
+        requires ready { IsReady R.types self.now into.old at }
+        requires first { Is into.old is_declaration first }
+        ensures { ReadsInto into.old into.new result (λ r. RowReads self.now.source at into.new is_declaration r.0.items r.1 (declared_from (readers (known_names R.types self.now.source into.old) below) (tree_at into.old.forest first))) }
     {
-        let mut declared = Vec::new(*self.typedefs.allocator());
+        let mut declared = Vec::new(*self.source.typedefs.allocator());
         declared.push(first)?;
         let mut behind = at;
         loop {
-            let Some(next) = after(self.tokens, behind, Sign::Comma) else {
+            let Some(next) = after(self.source.tokens, behind, Sign::Comma) else {
                 return Ok((declared, behind));
             };
             let Some((found, end)) = self.init_declarator(next, below, into)? else {
@@ -108,15 +110,13 @@ impl<R: TypeReader> Source<'_, R> {
         depth: u32,
         into: &mut Unit,
     ) -> Result<Option<(NodeId, u32)>, NoMemory>
-        requires place { at ≤ length self.now.tokens.now.tokens }
-        requires tied { AreKnown R.types self.now (tables into.old) }
-        ensures keeps { Extends (tables into.old) (tables into.new) }
-        ensures ok { ReadsFrom self.now at (tables into.new) is_declaration result (declaration (known_names R.types self.now (tables into.old)) depth) }
+        requires { IsReady R.types self.now into.old at }
+        ensures { ReadsFrom self.now.source at into.old into.new is_declaration result (declaration (known_names R.types self.now.source into.old) depth) }
     {
         if depth == 0 {
             return Ok(None);
         }
-        let line = line_at(self.tokens, at);
+        let line = line_at(self.source.tokens, at);
         let (specs, next) = self.row(Part::Specifier, at, depth - 1, into)?;
         if specs.is_empty() {
             return Ok(None);
@@ -131,18 +131,16 @@ impl<R: TypeReader> Source<'_, R> {
         depth: u32,
         into: &mut Unit,
     ) -> Result<Option<(NodeId, u32)>, NoMemory>
-        requires place { at ≤ length self.now.tokens.now.tokens }
-        requires tied { AreKnown R.types self.now (tables into.old) }
-        ensures keeps { Extends (tables into.old) (tables into.new) }
-        ensures ok { ReadsFrom self.now at (tables into.new) is_declaration result (type_name (known_names R.types self.now (tables into.old)) depth) }
+        requires { IsReady R.types self.now into.old at }
+        ensures { ReadsFrom self.now.source at into.old into.new is_declaration result (type_name (known_names R.types self.now.source into.old) depth) }
     {
-        let line = line_at(self.tokens, at);
+        let line = line_at(self.source.tokens, at);
         let (specs, next) = self.row(Part::Specifier, at, depth, into)?;
         if specs.is_empty() {
             return Ok(None);
         }
         let declarator = self.read(Part::Declarator(Form::Abstract), next, depth, into)?;
-        type_name_of(self.tokens, next, &specs, declarator, line, into)
+        type_name_of(self.source.tokens, next, &specs, declarator, line, into)
     }
 }
 
@@ -163,25 +161,21 @@ pub fn declaration<R: TypeReader>(
     into: &mut Unit,
     reader: &R,
 ) -> Result<Option<(NodeId, u32)>, NoMemory>
-    requires { AreTied (R.types reader.now) (tables into.old) t.now.tokens }
+    requires { AreTied (R.types reader.now) into.old t.now.tokens }
     // Older nodes stay, also on a refusal.
-    ensures keeps { Extends (tables into.old) (tables into.new) }
+    ensures keeps { Extends into.old into.new }
     // What is found spells the tokens up to the place.
-    ensures found { let names = names_in types.now (R.types reader.now) (tables into.old) t.now.tokens in
-        IfOk result (λ r. IfSome r (λ x. Is (tables into.new) is_declaration x.0 × (at ≤ x.1) × (x.1 ≤ length t.now.tokens)
-        × SpellsDeclaration names depth t.now.tokens at x.1 (declaration_at (tables into.new).forest x.0))) }
+    ensures found { let spells = SpellsDeclaration (names_in types.now (R.types reader.now) into.old t.now.tokens) depth t.now.tokens at in
+        IfOk result (λ r. IsSpelled spells (Is into.new is_declaration) (declaration_at into.new.forest) t.now.tokens at r) }
     // No tree spells more.
-    ensures longest { let names = names_in types.now (R.types reader.now) (tables into.old) t.now.tokens in
-        IfOk result (λ r. IfSome r (λ x. (d : DeclarationTree) (end : ℕ) → at ≤ end → end ≤ length t.now.tokens
-        → SpellsDeclaration names depth t.now.tokens at end d → end ≤ x.1)) }
+    ensures longest { let spells = SpellsDeclaration (names_in types.now (R.types reader.now) into.old t.now.tokens) depth t.now.tokens at in
+        IfOk result (λ r. IsLongest spells t.now.tokens at r) }
     // No other tree spells the same.
-    ensures only { let names = names_in types.now (R.types reader.now) (tables into.old) t.now.tokens in
-        IfOk result (λ r. IfSome r (λ x. (d : DeclarationTree) → SpellsDeclaration names depth t.now.tokens at x.1 d
-        → d ≡ declaration_at (tables into.new).forest x.0)) }
+    ensures only { let spells = SpellsDeclaration (names_in types.now (R.types reader.now) into.old t.now.tokens) depth t.now.tokens at in
+        IfOk result (λ r. IsOnly spells (declaration_at into.new.forest) r) }
     // Where nothing is found, no tree spells anything.
-    ensures none { let names = names_in types.now (R.types reader.now) (tables into.old) t.now.tokens in
-        IfOk result (λ r. r ≡ None → (d : DeclarationTree) (end : ℕ) → at ≤ end → end ≤ length t.now.tokens
-        → SpellsDeclaration names depth t.now.tokens at end d → ⊥) }
+    ensures none { let spells = SpellsDeclaration (names_in types.now (R.types reader.now) into.old t.now.tokens) depth t.now.tokens at in
+        IfOk result (λ r. r ≡ None → NothingSpells spells t.now.tokens at) }
 {
     if at > t.len() {
         return Ok(None);
@@ -191,7 +185,10 @@ pub fn declaration<R: TypeReader>(
         tokens: t,
         typedefs: types,
         reader,
+    };
+    let declarations = Declarations {
+        source,
         lists: &lists,
     };
-    source.declaration(at, depth, into)
+    declarations.declaration(at, depth, into)
 }

@@ -1,18 +1,19 @@
 //! Reading the parts of declarations from the left, each with the parts within it.
-ghost use Rattle.std.specs.Prelude.{◌≡◌, ◌≤◌, length, drop, Some, IfOk, IfSome, option_and_then};
+ghost use Rattle.std.specs.Prelude.{drop, Some, IfSome, option_and_then};
 ghost use Rattle.pv_tree.specs.Places.{Specifiers, Members, Parameters};
-ghost use Rattle.pv_tree.specs.Rows.{tables};
 ghost use Rattle.pv_tree.specs.Syntax.{NoTrees};
-ghost use Rattle.pv_tree.specs.Tables.{tree_at, optional_at, is_declaration, is_declarator, is_specifier, Is, Extends};
+ghost use Rattle.pv_tree.specs.Tables.{tree_at, optional_at, is_declaration, is_declarator, is_specifier, Is};
 ghost use Rattle.pv_expr_forms.specs.Reader.{after};
 ghost use Rattle.pv_decl_forms.specs.declared.forms.Part.TheVariants as part;
 ghost use Rattle.pv_decl_forms.specs.Declarators.{consts_in_row, grown, head, longer, opened, parametrized, pointer};
 ghost use Rattle.pv_decl_forms.specs.Parts.{kind_of_part, place_of_part, word_of_tag, within, function_of};
 ghost use Rattle.pv_decl_forms.specs.Pieces.{is_open_brace, row, listed};
 ghost use Rattle.pv_decl_forms.specs.Reader.{readers, braced};
-ghost use Rattle.pv_decl.specs.Sources.{known_names, AreKnown, ReadsFrom, RowReads};
+ghost use Rattle.pv_expr_forms.specs.Sources.{known_names, ReadsInto};
+ghost use Rattle.pv_decl_forms.specs.Sources.{ReadsFrom, RowReads};
+ghost use Rattle.pv_decl.specs.Sources.{IsReady};
 
-use crate::source::Source;
+use crate::declarations::Declarations;
 use pv_decl_forms::{
     DEPTH_LIMIT, Form, Opening, Part, Sign, TagWord, after, composite, consts_in_row, enumeration,
     function_of, may_go_on, member_of, named, opening_of, opens_parameters, parameter_of,
@@ -22,7 +23,7 @@ use pv_expr_forms::{line_at, peek};
 use pv_token::NoMemory;
 use pv_tree::{NodeId, TypeReader, Unit};
 
-impl<R: TypeReader> Source<'_, R> {
+impl<R: TypeReader> Declarations<'_, R> {
     /// The longest part of at most so much depth that begins at a place, and the place behind it.
     #[cycle(reading)]
     pub(crate) fn read(
@@ -32,10 +33,8 @@ impl<R: TypeReader> Source<'_, R> {
         depth: u32,
         into: &mut Unit,
     ) -> Result<Option<(NodeId, u32)>, NoMemory>
-        requires place { at ≤ length self.now.tokens.now.tokens }
-        requires tied { AreKnown R.types self.now (tables into.old) }
-        ensures keeps { Extends (tables into.old) (tables into.new) }
-        ensures ok { ReadsFrom self.now at (tables into.new) (kind_of_part part) result (readers (known_names R.types self.now (tables into.old)) depth (place_of_part part)) }
+        requires { IsReady R.types self.now into.old at }
+        ensures { ReadsFrom self.now.source at into.old into.new (kind_of_part part) result (readers (known_names R.types self.now.source into.old) depth (place_of_part part)) }
     {
         match part {
             Part::Specifier => self.specifier(at, depth, into),
@@ -55,12 +54,10 @@ impl<R: TypeReader> Source<'_, R> {
         depth: u32,
         into: &mut Unit,
     ) -> Result<(Vec<NodeId>, u32), NoMemory>
-        requires place { at ≤ length self.now.tokens.now.tokens }
-        requires tied { AreKnown R.types self.now (tables into.old) }
-        ensures keeps { Extends (tables into.old) (tables into.new) }
-        ensures ok { IfOk result (λ r. RowReads self.now at (tables into.new) (kind_of_part part) r.0.items r.1 (row (readers (known_names R.types self.now (tables into.old)) depth (place_of_part part)) NoTrees)) }
+        requires { IsReady R.types self.now into.old at }
+        ensures { ReadsInto into.old into.new result (λ r. RowReads self.now.source at into.new (kind_of_part part) r.0.items r.1 (row (readers (known_names R.types self.now.source into.old) depth (place_of_part part)) NoTrees)) }
     {
-        let mut parts = Vec::new(*self.typedefs.allocator());
+        let mut parts = Vec::new(*self.source.typedefs.allocator());
         let mut next = at;
         loop {
             let Some((found, end)) = self.read(part, next, depth, into)? else {
@@ -80,12 +77,10 @@ impl<R: TypeReader> Source<'_, R> {
         depth: u32,
         into: &mut Unit,
     ) -> Result<(Vec<NodeId>, u32), NoMemory>
-        requires place { at ≤ length self.now.tokens.now.tokens }
-        requires tied { AreKnown R.types self.now (tables into.old) }
-        ensures keeps { Extends (tables into.old) (tables into.new) }
-        ensures ok { IfOk result (λ r. RowReads self.now at (tables into.new) (kind_of_part part) r.0.items r.1 (listed (readers (known_names R.types self.now (tables into.old)) depth (place_of_part part)))) }
+        requires { IsReady R.types self.now into.old at }
+        ensures { ReadsInto into.old into.new result (λ r. RowReads self.now.source at into.new (kind_of_part part) r.0.items r.1 (listed (readers (known_names R.types self.now.source into.old) depth (place_of_part part)))) }
     {
-        let mut parts = Vec::new(*self.typedefs.allocator());
+        let mut parts = Vec::new(*self.source.typedefs.allocator());
         let mut behind = at;
         let mut next = at;
         loop {
@@ -94,7 +89,7 @@ impl<R: TypeReader> Source<'_, R> {
             };
             parts.push(found)?;
             behind = end;
-            match after(self.tokens, end, Sign::Comma) {
+            match after(self.source.tokens, end, Sign::Comma) {
                 Some(following) => next = following,
                 None => return Ok((parts, behind)),
             }
@@ -110,21 +105,25 @@ impl<R: TypeReader> Source<'_, R> {
         depth: u32,
         into: &mut Unit,
     ) -> Result<Option<(NodeId, u32)>, NoMemory>
-        requires place { at ≤ length self.now.tokens.now.tokens }
-        requires tied { AreKnown R.types self.now (tables into.old) }
-        ensures keeps { Extends (tables into.old) (tables into.new) }
-        ensures ok { ReadsFrom self.now at (tables into.new) is_specifier result (readers (known_names R.types self.now (tables into.old)) depth Specifiers) }
+        requires { IsReady R.types self.now into.old at }
+        ensures { ReadsFrom self.now.source at into.old into.new is_specifier result (readers (known_names R.types self.now.source into.old) depth Specifiers) }
     {
-        let Some(token) = peek(self.tokens, at) else {
+        let Some(token) = peek(self.source.tokens, at) else {
             return Ok(None);
         };
         let Some(word) = tag_word(token.kind) else {
-            return plain(self.tokens, self.typedefs, at + 1, token, into);
+            return plain(
+                self.source.tokens,
+                self.source.typedefs,
+                at + 1,
+                token,
+                into,
+            );
         };
-        let (tag, next) = tag_at(self.tokens, at + 1);
+        let (tag, next) = tag_at(self.source.tokens, at + 1);
         match self.braced(next, word, tag, token.line, depth, into)? {
             Some(found) => Ok(Some(found)),
-            None => tag_alone(self.tokens, next, word, tag, token.line, into),
+            None => tag_alone(self.source.tokens, next, word, tag, token.line, into),
         }
     }
 
@@ -140,12 +139,10 @@ impl<R: TypeReader> Source<'_, R> {
         depth: u32,
         into: &mut Unit,
     ) -> Result<Option<(NodeId, u32)>, NoMemory>
-        requires place { at ≤ length self.now.tokens.now.tokens }
-        requires tied { AreKnown R.types self.now (tables into.old) }
-        ensures keeps { Extends (tables into.old) (tables into.new) }
-        ensures ok { ReadsFrom self.now at (tables into.new) is_specifier result (λ ts. option_and_then (braced (within (known_names R.types self.now (tables into.old)) depth) line (word_of_tag word) tag) (after is_open_brace ts)) }
+        requires { IsReady R.types self.now into.old at }
+        ensures { ReadsFrom self.now.source at into.old into.new is_specifier result (λ ts. option_and_then (braced (within (known_names R.types self.now.source into.old) depth) line (word_of_tag word) tag) (after is_open_brace ts)) }
     {
-        let Some(inside) = after(self.tokens, at, Sign::OpenBrace) else {
+        let Some(inside) = after(self.source.tokens, at, Sign::OpenBrace) else {
             return Ok(None);
         };
         if depth == 0 {
@@ -154,11 +151,19 @@ impl<R: TypeReader> Source<'_, R> {
         match word {
             TagWord::Enum => {
                 let (enumerators, end) = self.listed(Part::Enumerator, inside, depth - 1, into)?;
-                enumeration(self.tokens, end, tag, &enumerators, line, into)
+                enumeration(self.source.tokens, end, tag, &enumerators, line, into)
             }
             TagWord::Composite(composite_word) => {
                 let (members, end) = self.row(Part::Member, inside, depth - 1, into)?;
-                composite(self.tokens, end, composite_word, tag, &members, line, into)
+                composite(
+                    self.source.tokens,
+                    end,
+                    composite_word,
+                    tag,
+                    &members,
+                    line,
+                    into,
+                )
             }
         }
     }
@@ -171,18 +176,16 @@ impl<R: TypeReader> Source<'_, R> {
         depth: u32,
         into: &mut Unit,
     ) -> Result<Option<(NodeId, u32)>, NoMemory>
-        requires place { at ≤ length self.now.tokens.now.tokens }
-        requires tied { AreKnown R.types self.now (tables into.old) }
-        ensures keeps { Extends (tables into.old) (tables into.new) }
-        ensures ok { ReadsFrom self.now at (tables into.new) is_declaration result (readers (known_names R.types self.now (tables into.old)) depth Members) }
+        requires { IsReady R.types self.now into.old at }
+        ensures { ReadsFrom self.now.source at into.old into.new is_declaration result (readers (known_names R.types self.now.source into.old) depth Members) }
     {
-        let line = line_at(self.tokens, at);
+        let line = line_at(self.source.tokens, at);
         let (specs, next) = self.row(Part::Specifier, at, depth, into)?;
         if specs.is_empty() {
             return Ok(None);
         }
         let (declarators, end) = self.listed(Part::Declarator(Form::Named), next, depth, into)?;
-        member_of(self.tokens, end, &specs, &declarators, line, into)
+        member_of(self.source.tokens, end, &specs, &declarators, line, into)
     }
 
     // A parameter (C17 6.7.6p1).
@@ -193,21 +196,19 @@ impl<R: TypeReader> Source<'_, R> {
         depth: u32,
         into: &mut Unit,
     ) -> Result<Option<(NodeId, u32)>, NoMemory>
-        requires place { at ≤ length self.now.tokens.now.tokens }
-        requires tied { AreKnown R.types self.now (tables into.old) }
-        ensures keeps { Extends (tables into.old) (tables into.new) }
-        ensures ok { ReadsFrom self.now at (tables into.new) is_declaration result (readers (known_names R.types self.now (tables into.old)) depth Parameters) }
+        requires { IsReady R.types self.now into.old at }
+        ensures { ReadsFrom self.now.source at into.old into.new is_declaration result (readers (known_names R.types self.now.source into.old) depth Parameters) }
     {
         if depth == 0 {
             return Ok(None);
         }
-        let line = line_at(self.tokens, at);
+        let line = line_at(self.source.tokens, at);
         let (specs, next) = self.row(Part::Specifier, at, depth - 1, into)?;
         if specs.is_empty() {
             return Ok(None);
         }
         let declarator = self.read(Part::Declarator(Form::Either), next, depth - 1, into)?;
-        parameter_of(self.tokens, next, &specs, declarator, line, into)
+        parameter_of(self.source.tokens, next, &specs, declarator, line, into)
     }
 
     // A declarator, or an abstract one (C17 6.7.6, 6.7.7).
@@ -219,15 +220,13 @@ impl<R: TypeReader> Source<'_, R> {
         depth: u32,
         into: &mut Unit,
     ) -> Result<Option<(NodeId, u32)>, NoMemory>
-        requires place { at ≤ length self.now.tokens.now.tokens }
-        requires tied { AreKnown R.types self.now (tables into.old) }
-        ensures keeps { Extends (tables into.old) (tables into.new) }
-        ensures ok { ReadsFrom self.now at (tables into.new) is_declarator result (readers (known_names R.types self.now (tables into.old)) depth (place_of_part (part.Declarator form))) }
+        requires { IsReady R.types self.now into.old at }
+        ensures { ReadsFrom self.now.source at into.old into.new is_declarator result (readers (known_names R.types self.now.source into.old) depth (place_of_part (part.Declarator form))) }
     {
         if depth == 0 {
             return Ok(None);
         }
-        let line = line_at(self.tokens, at);
+        let line = line_at(self.source.tokens, at);
         match self.head(at, form, depth - 1, into)? {
             Some((first, next)) => self.grow(next, first, line, depth - 1, into),
             None => Ok(None),
@@ -244,11 +243,9 @@ impl<R: TypeReader> Source<'_, R> {
         below: u32,
         into: &mut Unit,
     ) -> Result<Option<(NodeId, u32)>, NoMemory>
-        requires place { at ≤ length self.now.tokens.now.tokens }
-        requires tied { AreKnown R.types self.now (tables into.old) }
-        requires node { Is (tables into.old) is_declarator first }
-        ensures keeps { Extends (tables into.old) (tables into.new) }
-        ensures ok { ReadsFrom self.now at (tables into.new) is_declarator result (λ ts. Some (grown (readers (known_names R.types self.now (tables into.old)) below) below line (tree_at (tables into.old).forest first) ts)) }
+        requires ready { IsReady R.types self.now into.old at }
+        requires node { Is into.old is_declarator first }
+        ensures { ReadsFrom self.now.source at into.old into.new is_declarator result (λ ts. Some (grown (readers (known_names R.types self.now.source into.old) below) below line (tree_at into.old.forest first) ts)) }
     {
         let mut left = first;
         let mut next = at;
@@ -274,16 +271,14 @@ impl<R: TypeReader> Source<'_, R> {
         below: u32,
         into: &mut Unit,
     ) -> Result<Option<(NodeId, u32)>, NoMemory>
-        requires place { at ≤ length self.now.tokens.now.tokens }
-        requires tied { AreKnown R.types self.now (tables into.old) }
-        requires node { Is (tables into.old) is_declarator left }
-        ensures keeps { Extends (tables into.old) (tables into.new) }
-        ensures ok { ReadsFrom self.now at (tables into.new) is_declarator result (longer (readers (known_names R.types self.now (tables into.old)) below) below line (tree_at (tables into.old).forest left)) }
+        requires ready { IsReady R.types self.now into.old at }
+        requires node { Is into.old is_declarator left }
+        ensures { ReadsFrom self.now.source at into.old into.new is_declarator result (longer (readers (known_names R.types self.now.source into.old) below) below line (tree_at into.old.forest left)) }
     {
         if !may_go_on(into, left, below) {
             return Ok(None);
         }
-        let Some(token) = peek(self.tokens, at) else {
+        let Some(token) = peek(self.source.tokens, at) else {
             return Ok(None);
         };
         let Some(opening) = opening_of(token.kind) else {
@@ -307,11 +302,9 @@ impl<R: TypeReader> Source<'_, R> {
         below: u32,
         into: &mut Unit,
     ) -> Result<Option<(NodeId, u32)>, NoMemory>
-        requires place { at ≤ length self.now.tokens.now.tokens }
-        requires tied { AreKnown R.types self.now (tables into.old) }
-        requires left { IfSome left (λ n. Is (tables into.old) is_declarator n) }
-        ensures keeps { Extends (tables into.old) (tables into.new) }
-        ensures ok { ReadsFrom self.now at (tables into.new) is_declarator result (parametrized (function_of line (optional_at (tables into.old).forest left)) (readers (known_names R.types self.now (tables into.old)) below)) }
+        requires ready { IsReady R.types self.now into.old at }
+        requires left { IfSome left (λ n. Is into.old is_declarator n) }
+        ensures { ReadsFrom self.now.source at into.old into.new is_declarator result (parametrized (function_of line (optional_at into.old.forest left)) (readers (known_names R.types self.now.source into.old) below)) }
     {
         if below <= DEPTH_LIMIT {
             if let Some(list) = self.lists.at(at) {
@@ -319,7 +312,7 @@ impl<R: TypeReader> Source<'_, R> {
             }
         }
         let (parts, end) = self.listed(Part::Parameter, at, below, into)?;
-        function_of(self.tokens, end, left, &parts, line, into)
+        function_of(self.source.tokens, end, left, &parts, line, into)
     }
 
     // A declarator that nothing went on from yet.
@@ -331,12 +324,10 @@ impl<R: TypeReader> Source<'_, R> {
         below: u32,
         into: &mut Unit,
     ) -> Result<Option<(NodeId, u32)>, NoMemory>
-        requires place { at ≤ length self.now.tokens.now.tokens }
-        requires tied { AreKnown R.types self.now (tables into.old) }
-        ensures keeps { Extends (tables into.old) (tables into.new) }
-        ensures ok { ReadsFrom self.now at (tables into.new) is_declarator result (head (known_names R.types self.now (tables into.old)) (readers (known_names R.types self.now (tables into.old)) below) form) }
+        requires { IsReady R.types self.now into.old at }
+        ensures { ReadsFrom self.now.source at into.old into.new is_declarator result (head (known_names R.types self.now.source into.old) (readers (known_names R.types self.now.source into.old) below) form) }
     {
-        let Some(token) = peek(self.tokens, at) else {
+        let Some(token) = peek(self.source.tokens, at) else {
             return Ok(None);
         };
         let Some(opening) = opening_of(token.kind) else {
@@ -346,7 +337,15 @@ impl<R: TypeReader> Source<'_, R> {
         let line = token.line;
         match opening {
             Opening::Name(name) => {
-                named(self.tokens, self.typedefs, next, form, name, line, into)
+                named(
+                    self.source.tokens,
+                    self.source.typedefs,
+                    next,
+                    form,
+                    name,
+                    line,
+                    into,
+                )
             }
             Opening::Star => self.pointer(next, form, line, below, into),
             Opening::Paren => self.opened(next, form, line, below, into),
@@ -364,14 +363,12 @@ impl<R: TypeReader> Source<'_, R> {
         below: u32,
         into: &mut Unit,
     ) -> Result<Option<(NodeId, u32)>, NoMemory>
-        requires place { at ≤ length self.now.tokens.now.tokens }
-        requires tied { AreKnown R.types self.now (tables into.old) }
-        ensures keeps { Extends (tables into.old) (tables into.new) }
-        ensures ok { ReadsFrom self.now at (tables into.new) is_declarator result (λ ts. pointer (readers (known_names R.types self.now (tables into.old)) below) form line (consts_in_row ts) (drop (consts_in_row ts) ts)) }
+        requires { IsReady R.types self.now into.old at }
+        ensures { ReadsFrom self.now.source at into.old into.new is_declarator result (λ ts. pointer (readers (known_names R.types self.now.source into.old) below) form line (consts_in_row ts) (drop (consts_in_row ts) ts)) }
     {
-        let (consts, behind) = consts_in_row(self.tokens, at);
+        let (consts, behind) = consts_in_row(self.source.tokens, at);
         let inner = self.read(Part::Declarator(form), behind, below, into)?;
-        pointed(self.tokens, behind, form, consts, inner, line, into)
+        pointed(self.source.tokens, behind, form, consts, inner, line, into)
     }
 
     // What stands behind the `(` that a declarator begins with: parameters, or another declarator
@@ -385,12 +382,10 @@ impl<R: TypeReader> Source<'_, R> {
         below: u32,
         into: &mut Unit,
     ) -> Result<Option<(NodeId, u32)>, NoMemory>
-        requires place { at ≤ length self.now.tokens.now.tokens }
-        requires tied { AreKnown R.types self.now (tables into.old) }
-        ensures keeps { Extends (tables into.old) (tables into.new) }
-        ensures ok { ReadsFrom self.now at (tables into.new) is_declarator result (opened (known_names R.types self.now (tables into.old)) (readers (known_names R.types self.now (tables into.old)) below) form line) }
+        requires { IsReady R.types self.now into.old at }
+        ensures { ReadsFrom self.now.source at into.old into.new is_declarator result (opened (known_names R.types self.now.source into.old) (readers (known_names R.types self.now.source into.old) below) form line) }
     {
-        if opens_parameters(self.tokens, self.typedefs, at) {
+        if opens_parameters(self.source.tokens, self.source.typedefs, at) {
             if form.allows_abstract() {
                 self.parameters(at, None, line, below, into)
             } else {
@@ -398,7 +393,7 @@ impl<R: TypeReader> Source<'_, R> {
             }
         } else {
             let inner = self.read(Part::Declarator(form), at, below, into)?;
-            parenthesized(self.tokens, inner, line, into)
+            parenthesized(self.source.tokens, inner, line, into)
         }
     }
 }

@@ -1,26 +1,25 @@
 //! The type names that stand in parentheses.
-ghost use Rattle.std.specs.Prelude.{◌≡◌, ◌<◌, ◌≤◌, ◌⊎◌, ℕ, true, false, length, drop, None, nat_eq, IfOk, IfSome};
-ghost use Rattle.indexmap.specs.IndexSet.{contains};
-ghost use Rattle.pv_tree.specs.Rows.{tables};
-ghost use Rattle.pv_tree.specs.Syntax.{DeclarationTree};
+ghost use Rattle.std.specs.Prelude.{◌≡◌, ◌<◌, ◌≤◌, ◌⊎◌, ℕ, false, length, drop, None, IfOk, IfSome};
 ghost use Rattle.pv_tree.specs.Tables.{declaration_at, is_declaration, is_declarator, Is, Extends};
 ghost use Rattle.pv_tree.specs.TypeNames.{AreTied};
 ghost use Rattle.pv_tree.specs.Units.{depth_limit};
 ghost use Rattle.pv_expr_forms.specs.Known.{names_in};
+ghost use Rattle.pv_expr_forms.specs.Spelled.{IsSpelled, IsLongest, IsOnly, NothingSpells};
 ghost use Rattle.pv_decl_forms.specs.Answers.{Answers};
-ghost use Rattle.pv_decl.specs.Filled.{type_map, list_map, is_behind_open, entry};
 ghost use Rattle.pv_decl_forms.specs.Givens.{AreGiven, parameter_list};
 ghost use Rattle.pv_decl_forms.specs.Grammar.{SpellsTypeName};
-ghost use Rattle.pv_decl_forms.specs.TypeNames.{AreTypeNames};
+ghost use Rattle.pv_decl.specs.Filled.{list_map, entry};
+ghost use Rattle.pv_decl.specs.NameTables.{type_map, no_names, with_name, is_behind_open, EachBehindOpen};
 
+use crate::declarations::Declarations;
 use crate::lists::ParameterLists;
-use crate::source::Source;
 use indexmap::IndexSet;
 use pv_decl_forms::DEPTH_LIMIT;
-use pv_expr_forms::{is_open, peek};
+use pv_expr_forms::{Source, is_open, peek};
 use pv_token::{NoMemory, Tokens};
 use pv_tree::{NodeId, TypeReader, Unit};
 use std::alloc::Global;
+use std::marker::Model;
 
 /// The type names that begin at places behind a `(` (C17 6.7.7).
 #[derive(Drop)]
@@ -31,8 +30,36 @@ pub struct TypeNames {
     found: Vec<Option<(NodeId, u32)>>,
 }
 
+impl Model for TypeNames {
+    ghost use Rattle.pv_decl.specs.NameTables.{NameTable};
+
+    ghost Value = { NameTable };
+
+    ghost view = { λ n. record { to = n.to; found = n.found.items } };
+}
+
+impl TypeNames {
+    // No type names, before a place.
+    fn new(alloc: Global, to: u32) -> TypeNames
+        ensures { result ≡ no_names to }
+    {
+        TypeNames {
+            to,
+            found: Vec::new(alloc),
+        }
+    }
+
+    // One place more, before the others. The only error is want of memory.
+    fn push(&mut self, found: Option<(NodeId, u32)>) -> Result<(), NoMemory>
+        ensures { IfOk result (λ _. self.new ≡ with_name self.old found) }
+    {
+        self.found.push(found)?;
+        Ok(())
+    }
+}
+
 impl TypeReader for TypeNames {
-    ghost use Rattle.pv_decl.specs.Filled.{type_map};
+    ghost use Rattle.pv_decl.specs.NameTables.{type_map};
 
     ghost types = { type_map };
 
@@ -73,9 +100,9 @@ fn entry(
     into: &mut Unit,
 ) -> Result<Option<(NodeId, u32)>, NoMemory>
     requires place { at ≤ length t.now.tokens }
-    requires tied { AreGiven (list_map lists.now) types.now (type_map names.now) (tables into.old) t.now.tokens }
-    ensures keeps { Extends (tables into.old) (tables into.new) }
-    ensures ok { IfOk result (λ r. Answers (tables into.new) is_declaration t.now.tokens r (entry (names_in types.now (type_map names.now) (tables into.old) t.now.tokens) depth_limit t.now.tokens at)) }
+    requires tied { AreGiven (list_map lists.now) types.now (type_map names.now) into.old t.now.tokens }
+    ensures keeps { Extends into.old into.new }
+    ensures ok { IfOk result (λ r. Answers into.new is_declaration t.now.tokens r (entry (names_in types.now (type_map names.now) into.old t.now.tokens) depth_limit t.now.tokens at)) }
 {
     if !is_behind_open(t, at) {
         return Ok(None);
@@ -84,9 +111,9 @@ fn entry(
         tokens: t,
         typedefs: types,
         reader: names,
-        lists,
     };
-    source.type_name(at, DEPTH_LIMIT, into)
+    let declarations = Declarations { source, lists };
+    declarations.type_name(at, DEPTH_LIMIT, into)
 }
 
 // The list of parameters at a place, if `(` is before it, as an abstract declarator.
@@ -99,9 +126,9 @@ fn list_entry(
     into: &mut Unit,
 ) -> Result<Option<Option<(NodeId, u32)>>, NoMemory>
     requires place { at ≤ length t.now.tokens }
-    requires tied { AreGiven (list_map lists.now) types.now (type_map names.now) (tables into.old) t.now.tokens }
-    ensures keeps { Extends (tables into.old) (tables into.new) }
-    ensures ok { IfOk result (λ r. IfSome r (λ o. Answers (tables into.new) is_declarator t.now.tokens o (parameter_list (names_in types.now (type_map names.now) (tables into.old) t.now.tokens) depth_limit (drop at t.now.tokens)))) }
+    requires tied { AreGiven (list_map lists.now) types.now (type_map names.now) into.old t.now.tokens }
+    ensures keeps { Extends into.old into.new }
+    ensures ok { IfOk result (λ r. IfSome r (λ o. Answers into.new is_declarator t.now.tokens o (parameter_list (names_in types.now (type_map names.now) into.old t.now.tokens) depth_limit (drop at t.now.tokens)))) }
 {
     if !is_behind_open(t, at) {
         return Ok(None);
@@ -110,9 +137,9 @@ fn list_entry(
         tokens: t,
         typedefs: types,
         reader: names,
-        lists,
     };
-    Ok(Some(source.parameters(at, None, 0, DEPTH_LIMIT, into)?))
+    let declarations = Declarations { source, lists };
+    Ok(Some(declarations.parameters(at, None, 0, DEPTH_LIMIT, into)?))
 }
 
 /// The longest type name of at most 500 levels of nesting that begins at each place from `from` to
@@ -120,8 +147,9 @@ fn list_entry(
 ///
 /// They are filled from the last place to the first, since a type name within another begins
 /// later. So are the lists of parameters, and a list within another is not read once more: else
-/// what stands in many of them would be read as often. `types` are the numbers of the typedef names. The nodes are added to `into`, also those
-/// that turn out to be part of no type name. The error is want of memory, or that `into` is full.
+/// what stands in many of them would be read as often. `types` are the numbers of the typedef
+/// names. The nodes are added to `into`, also those that turn out to be part of no type name. The
+/// error is want of memory, or that `into` is full.
 pub fn type_names(
     alloc: Global,
     t: &Tokens,
@@ -131,45 +159,33 @@ pub fn type_names(
     into: &mut Unit,
 ) -> Result<TypeNames, NoMemory>
     // Older nodes stay, also on a refusal.
-    ensures keeps { Extends (tables into.old) (tables into.new) }
+    ensures keeps { Extends into.old into.new }
     // Each type name is a node that spells the tokens from its place.
-    ensures tied { IfOk result (λ r. AreTied (type_map r) (tables into.new) t.now.tokens) }
-    // Each is what reading from the left gives, where those within it are the table's own.
-    ensures reads { IfOk result (λ r. AreTypeNames (contains nat_eq types.now) (type_map r) (tables into.new) t.now.tokens depth_limit from to) }
+    ensures tied { IfOk result (λ r. AreTied (type_map r) into.new t.now.tokens) }
     // What is found behind a `(` spells the tokens up to its end.
-    ensures found { IfOk result (λ r. let names = names_in types.now (type_map r) (tables into.new) t.now.tokens in
-        (at : ℕ) → from ≤ at → at < to → is_behind_open t.now.tokens at ≡ true
-        → IfSome (type_map r at) (λ x. Is (tables into.new) is_declaration x.0 × (at ≤ x.1) × (x.1 ≤ length t.now.tokens)
-        × SpellsTypeName names depth_limit t.now.tokens at x.1 (declaration_at (tables into.new).forest x.0))) }
+    ensures found { IfOk result (λ r. let spells = SpellsTypeName (names_in types.now (type_map r) into.new t.now.tokens) depth_limit t.now.tokens in
+        EachBehindOpen t.now.tokens from to (λ at. IsSpelled (spells at) (Is into.new is_declaration) (declaration_at into.new.forest) t.now.tokens at (type_map r at))) }
     // No type name spells more.
-    ensures longest { IfOk result (λ r. let names = names_in types.now (type_map r) (tables into.new) t.now.tokens in
-        (at : ℕ) → from ≤ at → at < to → is_behind_open t.now.tokens at ≡ true
-        → IfSome (type_map r at) (λ x. (d : DeclarationTree) (end : ℕ) → at ≤ end → end ≤ length t.now.tokens
-        → SpellsTypeName names depth_limit t.now.tokens at end d → end ≤ x.1)) }
+    ensures longest { IfOk result (λ r. let spells = SpellsTypeName (names_in types.now (type_map r) into.new t.now.tokens) depth_limit t.now.tokens in
+        EachBehindOpen t.now.tokens from to (λ at. IsLongest (spells at) t.now.tokens at (type_map r at))) }
     // No other type name spells the same.
-    ensures only { IfOk result (λ r. let names = names_in types.now (type_map r) (tables into.new) t.now.tokens in
-        (at : ℕ) → from ≤ at → at < to → is_behind_open t.now.tokens at ≡ true
-        → IfSome (type_map r at) (λ x. (d : DeclarationTree) → SpellsTypeName names depth_limit t.now.tokens at x.1 d
-        → d ≡ declaration_at (tables into.new).forest x.0)) }
+    ensures only { IfOk result (λ r. let spells = SpellsTypeName (names_in types.now (type_map r) into.new t.now.tokens) depth_limit t.now.tokens in
+        EachBehindOpen t.now.tokens from to (λ at. IsOnly (spells at) (declaration_at into.new.forest) (type_map r at))) }
     // Where nothing is found behind a `(`, no type name spells anything.
-    ensures none { IfOk result (λ r. let names = names_in types.now (type_map r) (tables into.new) t.now.tokens in
-        (at : ℕ) → from ≤ at → at < to → is_behind_open t.now.tokens at ≡ true
-        → type_map r at ≡ None → (d : DeclarationTree) (end : ℕ) → at ≤ end → end ≤ length t.now.tokens
-        → SpellsTypeName names depth_limit t.now.tokens at end d → ⊥) }
+    ensures none { IfOk result (λ r. let spells = SpellsTypeName (names_in types.now (type_map r) into.new t.now.tokens) depth_limit t.now.tokens in
+        EachBehindOpen t.now.tokens from to (λ at. type_map r at ≡ None → NothingSpells (spells at) t.now.tokens at)) }
     // Nothing is found at any other place.
     ensures elsewhere { IfOk result (λ r. (at : ℕ) → is_behind_open t.now.tokens at ≡ false → type_map r at ≡ None) }
     ensures outside { IfOk result (λ r. (at : ℕ) → (at < from) ⊎ (to ≤ at) → type_map r at ≡ None) }
 {
-    let mut names = TypeNames {
-        to: to.min(t.len()),
-        found: Vec::new(alloc),
-    };
-    let mut lists = ParameterLists::new(alloc, names.to);
-    let mut at = names.to;
+    let end = to.min(t.len());
+    let mut names = TypeNames::new(alloc, end);
+    let mut lists = ParameterLists::new(alloc, end);
+    let mut at = end;
     while at > from {
         at -= 1;
         let found = entry(t, at, types, &names, &lists, into)?;
-        names.found.push(found)?;
+        names.push(found)?;
         let list = list_entry(t, at, types, &names, &lists, into)?;
         lists.found.push(list)?;
     }

@@ -1,23 +1,24 @@
 //! Parts of declarations that expressions stand in.
-ghost use Rattle.std.specs.Prelude.{◌≡◌, ◌≤◌, IfSome, length, None, IfOk, if◌then◌else◌};
-ghost use Rattle.pv_tree.specs.Rows.{tables};
+ghost use Rattle.std.specs.Prelude.{IfSome, None, if◌then◌else◌};
 ghost use Rattle.pv_tree.specs.Syntax.{Absent};
-ghost use Rattle.pv_tree.specs.Tables.{optional_at, is_declaration, is_declarator, is_expression, Is, Extends};
+ghost use Rattle.pv_tree.specs.Tables.{optional_at, is_declaration, is_declarator, is_expression, Is};
 ghost use Rattle.pv_tree.specs.Places.{Constants, Enumerators};
 ghost use Rattle.pv_decl_forms.specs.Declarators.{allows_abstract, sized};
 ghost use Rattle.pv_decl_forms.specs.Parts.{array_of};
 ghost use Rattle.pv_decl_forms.specs.Pieces.{value};
 ghost use Rattle.pv_decl_forms.specs.Reader.{readers};
-ghost use Rattle.pv_decl.specs.Sources.{known_names, AreKnown, ReadsFrom, MayRead};
+ghost use Rattle.pv_expr_forms.specs.Sources.{known_names, ReadsInto};
+ghost use Rattle.pv_decl_forms.specs.Sources.{ReadsFrom, MayRead};
+ghost use Rattle.pv_decl.specs.Sources.{IsReady};
 
-use crate::source::Source;
+use crate::declarations::Declarations;
 use pv_decl_forms::{Form, Sign, after, array_of, found_declaration, name_of};
 use pv_expr::{Level, expression};
 use pv_expr_forms::{is_type, peek};
 use pv_token::NoMemory;
 use pv_tree::{Decl, NodeId, TypeReader, Unit};
 
-impl<R: TypeReader> Source<'_, R> {
+impl<R: TypeReader> Declarations<'_, R> {
     /// The conditional expression at a place, as which constant expressions are written
     /// (C17 6.6p1), and the place behind it.
     fn constant(
@@ -26,19 +27,17 @@ impl<R: TypeReader> Source<'_, R> {
         depth: u32,
         into: &mut Unit,
     ) -> Result<Option<(NodeId, u32)>, NoMemory>
-        requires place { at ≤ length self.now.tokens.now.tokens }
-        requires tied { AreKnown R.types self.now (tables into.old) }
-        ensures keeps { Extends (tables into.old) (tables into.new) }
-        ensures ok { ReadsFrom self.now at (tables into.new) is_expression result (readers (known_names R.types self.now (tables into.old)) depth Constants) }
+        requires { IsReady R.types self.now into.old at }
+        ensures { ReadsFrom self.now.source at into.old into.new is_expression result (readers (known_names R.types self.now.source into.old) depth Constants) }
     {
         expression(
-            self.tokens,
+            self.source.tokens,
             at,
             Level::Conditional,
             depth,
-            self.typedefs,
+            self.source.typedefs,
             into,
-            self.reader,
+            self.source.reader,
         )
     }
 
@@ -52,15 +51,13 @@ impl<R: TypeReader> Source<'_, R> {
         below: u32,
         into: &mut Unit,
     ) -> Result<Option<(NodeId, u32)>, NoMemory>
-        requires place { at ≤ length self.now.tokens.now.tokens }
-        requires tied { AreKnown R.types self.now (tables into.old) }
-        requires left { IfSome left (λ n. Is (tables into.old) is_declarator n) }
-        ensures keeps { Extends (tables into.old) (tables into.new) }
-        ensures ok { ReadsFrom self.now at (tables into.new) is_declarator result (sized (array_of line (optional_at (tables into.old).forest left)) (readers (known_names R.types self.now (tables into.old)) below)) }
+        requires ready { IsReady R.types self.now into.old at }
+        requires left { IfSome left (λ n. Is into.old is_declarator n) }
+        ensures { ReadsFrom self.now.source at into.old into.new is_declarator result (sized (array_of line (optional_at into.old.forest left)) (readers (known_names R.types self.now.source into.old) below)) }
     {
         match self.constant(at, below, into)? {
-            Some((size, end)) => array_of(self.tokens, end, left, Some(size), line, into),
-            None => array_of(self.tokens, at, left, None, line, into),
+            Some((size, end)) => array_of(self.source.tokens, end, left, Some(size), line, into),
+            None => array_of(self.source.tokens, at, left, None, line, into),
         }
     }
 
@@ -73,10 +70,8 @@ impl<R: TypeReader> Source<'_, R> {
         below: u32,
         into: &mut Unit,
     ) -> Result<Option<(NodeId, u32)>, NoMemory>
-        requires place { at ≤ length self.now.tokens.now.tokens }
-        requires tied { AreKnown R.types self.now (tables into.old) }
-        ensures keeps { Extends (tables into.old) (tables into.new) }
-        ensures ok { ReadsFrom self.now at (tables into.new) is_declarator result (λ ts. if allows_abstract form then sized (array_of line Absent) (readers (known_names R.types self.now (tables into.old)) below) ts else None) }
+        requires { IsReady R.types self.now into.old at }
+        ensures { ReadsFrom self.now.source at into.old into.new is_declarator result (λ ts. if allows_abstract form then sized (array_of line Absent) (readers (known_names R.types self.now.source into.old) below) ts else None) }
     {
         if form.allows_abstract() {
             self.array(at, None, line, below, into)
@@ -92,12 +87,10 @@ impl<R: TypeReader> Source<'_, R> {
         depth: u32,
         into: &mut Unit,
     ) -> Result<(Option<NodeId>, u32), NoMemory>
-        requires place { at ≤ length self.now.tokens.now.tokens }
-        requires tied { AreKnown R.types self.now (tables into.old) }
-        ensures keeps { Extends (tables into.old) (tables into.new) }
-        ensures ok { IfOk result (λ r. MayRead self.now at (tables into.new) is_expression r.0 r.1 (value (readers (known_names R.types self.now (tables into.old)) depth Constants))) }
+        requires { IsReady R.types self.now into.old at }
+        ensures { ReadsInto into.old into.new result (λ r. MayRead self.now.source at into.new is_expression r.0 r.1 (value (readers (known_names R.types self.now.source into.old) depth Constants))) }
     {
-        let Some(behind) = after(self.tokens, at, Sign::Equals) else {
+        let Some(behind) = after(self.source.tokens, at, Sign::Equals) else {
             return Ok((None, at));
         };
         match self.constant(behind, depth, into)? {
@@ -113,22 +106,20 @@ impl<R: TypeReader> Source<'_, R> {
         depth: u32,
         into: &mut Unit,
     ) -> Result<Option<(NodeId, u32)>, NoMemory>
-        requires place { at ≤ length self.now.tokens.now.tokens }
-        requires tied { AreKnown R.types self.now (tables into.old) }
-        ensures keeps { Extends (tables into.old) (tables into.new) }
-        ensures ok { ReadsFrom self.now at (tables into.new) is_declaration result (readers (known_names R.types self.now (tables into.old)) depth Enumerators) }
+        requires { IsReady R.types self.now into.old at }
+        ensures { ReadsFrom self.now.source at into.old into.new is_declaration result (readers (known_names R.types self.now.source into.old) depth Enumerators) }
     {
-        let Some(token) = peek(self.tokens, at) else {
+        let Some(token) = peek(self.source.tokens, at) else {
             return Ok(None);
         };
         let Some(name) = name_of(token.kind) else {
             return Ok(None);
         };
-        if is_type(self.typedefs, name) {
+        if is_type(self.source.typedefs, name) {
             return Ok(None);
         }
         let (value, end) = self.constant_value(at + 1, depth, into)?;
         let enumerator = Decl::Enumerator { name, value };
-        found_declaration(self.tokens, end, enumerator, token.line, into)
+        found_declaration(self.source.tokens, end, enumerator, token.line, into)
     }
 }

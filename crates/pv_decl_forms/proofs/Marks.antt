@@ -12,8 +12,8 @@ use Rattle.pv_tree.specs.Spelling.{const_tokens, comma_tokens, variadic_tokens, 
 use Rattle.pv_tree.specs.Places.{some, may_be_variadic}
 use Rattle.pv_expr_forms.specs.Reader.{is_comma, after}
 use Rattle.pv_expr_forms.proofs.Runs.{Takes, takes_then}
-use Rattle.pv_expr_forms.proofs.Steps.{guarded, followed, some_is}
-use Rattle.pv_expr_forms.proofs.Marks.{comma_is}
+use Rattle.pv_expr_forms.proofs.Steps.{followed, some_is}
+use Rattle.pv_expr_forms.proofs.Marks.{comma_is, after_is}
 use Rattle.pv_decl_forms.specs.Pieces.{is_semicolon, is_equals, is_ellipsis, is_open_brace, is_close_brace, is_const, found_in}
 use Rattle.pv_decl_forms.specs.Declarators.{variadic_at, consts_in_row}
 use Rattle.pv_decl_forms.specs.Reader.{name_of, tag_in, tag_at}
@@ -41,13 +41,6 @@ close_brace_is _ e = absurd (false≢true e)
 const_is : (k : TokenKind) → is_const k ≡ true → k ≡ kind.Word word.Const
 const_is (kind.Word word.Const) e = refl
 const_is _ e = absurd (false≢true e)
-
-after_is : (test : TokenKind → Bool) (k : TokenKind) → ((x : TokenKind) → test x ≡ true → x ≡ k) → (ts rest : List Token) → after test ts ≡ Some rest
-    → Takes (k ∷ []) ts rest
-after_is test k is [] rest e = absurd cc
-after_is test k is (t ∷ ts) rest e =
-    let g = guarded (test t.kind) (Some ts) rest e in
-    (is t.kind g.0, some_is ts rest g.1)
 
 pub comma_taken : (ts rest : List Token) → after is_comma ts ≡ Some rest → Takes (kind.Mark mark.Comma ∷ []) ts rest
 comma_taken ts rest e = after_is is_comma (kind.Mark mark.Comma) comma_is ts rest e

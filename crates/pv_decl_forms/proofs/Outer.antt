@@ -1,11 +1,10 @@
 -- Declarations, heads of functions and type names, once their parts are read.
 use Rattle.std.proofs.Common.{◌≡◌, ◌≤◌, ◌<◌, ◌-◌, ◌==◌, ℕ, zero, suc, Bool, true, false, List, [], ◌∷◌, ◌++◌, All, length, drop, Option, Some, None, Result, Ok, Err, option_and_then, refl, sym, ap, ◌∙◌, arith, sub-one, nat_eq}
-use Rattle.std.specs.Prelude.{is_some, IfOk, IfSome}
-use Rattle.std.proofs.lemmas.List.{drop_all}
+use Rattle.std.specs.Prelude.{is_some, IfOk}
 use Rattle.indexmap.specs.IndexSet.{IndexSet, contains}
 use Rattle.pv_token.specs.declared.token_table.Token.{Token}
 use Rattle.pv_tree.specs.declared.nodes.NodeId.{NodeId}
-use Rattle.pv_tree.specs.Syntax.{DeclarationTree, Declaration, Parameter, TypeName, Tree, Trees, NoTrees, Then, Present}
+use Rattle.pv_tree.specs.Syntax.{Declaration, Parameter, TypeName, Tree, Trees, NoTrees, Then, Present}
 use Rattle.pv_tree.specs.Grammar.{Names, line_here}
 use Rattle.pv_tree.specs.Places.{Specifiers, InitDeclarators, MemberDeclarators, AbstractDeclarators}
 use Rattle.pv_tree.specs.Tables.{Tables, tree_at, trees_of, declaration_at, is_declaration, is_declarator, is_specifier, Is, Extends}
@@ -14,9 +13,10 @@ use Rattle.pv_tree.proofs.Kept.{all_none, all_more}
 use Rattle.pv_expr_forms.specs.Reader.{is_comma, after}
 use Rattle.pv_expr_forms.specs.Answers.{IsBehind}
 use Rattle.pv_expr_forms.specs.Known.{names_in}
+use Rattle.pv_expr_forms.specs.Spelled.{IsSpelled, IsLongest, IsOnly, NothingSpells}
 use Rattle.pv_expr_forms.proofs.Naming.{names_kept}
 use Rattle.pv_expr_forms.proofs.Steps.{some_is}
-use Rattle.pv_decl_forms.specs.Pieces.{Piece, Reads, is_semicolon, optional, row_for, row, after_comma}
+use Rattle.pv_decl_forms.specs.Pieces.{Piece, Reads, is_semicolon, optional, row, after_comma}
 use Rattle.pv_decl_forms.specs.Grammar.{opens_block, SpellsDeclaration}
 use Rattle.pv_decl_forms.specs.Declarators.{declarator}
 use Rattle.pv_decl_forms.specs.Reader.{specified, made_of, member, enumerator, ended, initialized, init_declarator, made, leaves, with_parts, readers, type_name, declared, after_declarator, after_specifiers, declaration_with, declaration}
@@ -182,28 +182,28 @@ module _ (names : Names) (depth : ℕ) (ts : List Token) (v : Tables) (tokens : 
 
 module _ {S : Type 0} (typedefs : IndexSet ℕ S) (types : TypeMap) (u v : Tables) (tokens : List Token) (at deep : ℕ) (tied : AreTied types u tokens) (place : at ≤ length tokens)
     (r : Option (NodeId × ℕ)) (a : Answers v is_declaration tokens r (declaration (names_in typedefs types u tokens) deep (drop at tokens))) where
-  pub found : IfSome r (λ x. Is v is_declaration x.0 × (at ≤ x.1) × (x.1 ≤ length tokens) × SpellsDeclaration (names_in typedefs types u tokens) deep tokens at x.1 (declaration_at v.forest x.0))
+  pub found : IsSpelled (SpellsDeclaration (names_in typedefs types u tokens) deep tokens at) (Is v is_declaration) (declaration_at v.forest) tokens at r
   unfolding names_in
   found = declaration_found (contains nat_eq typedefs) types u v tokens at deep tied place r a
 
-  pub longest : IfSome r (λ x. (d : DeclarationTree) (end : ℕ) → at ≤ end → end ≤ length tokens → SpellsDeclaration (names_in typedefs types u tokens) deep tokens at end d → end ≤ x.1)
+  pub longest : IsLongest (SpellsDeclaration (names_in typedefs types u tokens) deep tokens at) tokens at r
   unfolding names_in
   longest = declaration_longest (contains nat_eq typedefs) types u v tokens at deep tied place r a
 
-  pub only : IfSome r (λ x. (d : DeclarationTree) → SpellsDeclaration (names_in typedefs types u tokens) deep tokens at x.1 d → d ≡ declaration_at v.forest x.0)
+  pub only : IsOnly (SpellsDeclaration (names_in typedefs types u tokens) deep tokens at) (declaration_at v.forest) r
   unfolding names_in
   only = declaration_only (contains nat_eq typedefs) types u v tokens at deep tied place r a
 
-  pub none : r ≡ None → (d : DeclarationTree) (end : ℕ) → at ≤ end → end ≤ length tokens → SpellsDeclaration (names_in typedefs types u tokens) deep tokens at end d → ⊥
+  pub none : r ≡ None → NothingSpells (SpellsDeclaration (names_in typedefs types u tokens) deep tokens at) tokens at
   unfolding names_in
   none = declaration_none (contains nat_eq typedefs) types u v tokens at deep tied place r a
 
 -- what is promised is what reading gives
 module _ {S E : Type 0} (typedefs : IndexSet ℕ S) (types : TypeMap) (u v : Tables) (tokens : List Token) (at deep : ℕ) (tied : AreTied types u tokens) (place : at ≤ length tokens) where
   pub is_read : (result : Result (Option (NodeId × ℕ)) E)
-      → IfOk result (λ r. IfSome r (λ x. Is v is_declaration x.0 × (at ≤ x.1) × (x.1 ≤ length tokens) × SpellsDeclaration (names_in typedefs types u tokens) deep tokens at x.1 (declaration_at v.forest x.0)))
-      → IfOk result (λ r. IfSome r (λ x. (d : DeclarationTree) (end : ℕ) → at ≤ end → end ≤ length tokens → SpellsDeclaration (names_in typedefs types u tokens) deep tokens at end d → end ≤ x.1))
-      → IfOk result (λ r. r ≡ None → (d : DeclarationTree) (end : ℕ) → at ≤ end → end ≤ length tokens → SpellsDeclaration (names_in typedefs types u tokens) deep tokens at end d → ⊥)
+      → IfOk result (λ r. IsSpelled (SpellsDeclaration (names_in typedefs types u tokens) deep tokens at) (Is v is_declaration) (declaration_at v.forest) tokens at r)
+      → IfOk result (λ r. IsLongest (SpellsDeclaration (names_in typedefs types u tokens) deep tokens at) tokens at r)
+      → IfOk result (λ r. r ≡ None → NothingSpells (SpellsDeclaration (names_in typedefs types u tokens) deep tokens at) tokens at)
       → IfOk result (λ r. Answers v is_declaration tokens r (declaration (names_in typedefs types u tokens) deep (drop at tokens)))
   unfolding names_in
   is_read (Ok r) f l n = declaration_read (contains nat_eq typedefs) types u v tokens at deep tied place r f l n

@@ -205,3 +205,15 @@ module _ (is_type : ℕ → Bool) (types : TypeMap) (u v : Tables) (tokens : Lis
       → end ≤ length tokens
       → SpellsTypeName (names_of is_type types u.forest tokens) deep tokens at end d → ⊥
   type_name_none r k e d end from to s = none_by tokens at Naming Named named_sound named_reach v r k e d end from to s
+
+  named_ends : (t : Tree) (rest : List Token) → Naming ≡ Some (t, rest) → (next : ℕ) × (next ≤ length tokens) × (rest ≡ drop next tokens)
+  named_ends t rest e =
+      let g = type_name_good names (IsEnd tokens) (names_spelled is_type types u tokens tied) deep (drop at tokens) t rest (at_end tokens at place) e in
+      ends_at (declaration_tokens g.tree) tokens at rest place g.takes
+
+  pub type_name_read : (r : Option (NodeId × ℕ))
+      → IfSome r (λ x. Is v is_declaration x.0 × (at ≤ x.1) × (x.1 ≤ length tokens) × SpellsTypeName (names_of is_type types u.forest tokens) deep tokens at x.1 (declaration_at v.forest x.0))
+      → IfSome r (λ x. (d : DeclarationTree) (end : ℕ) → at ≤ end → end ≤ length tokens → SpellsTypeName (names_of is_type types u.forest tokens) deep tokens at end d → end ≤ x.1)
+      → (r ≡ None → (d : DeclarationTree) (end : ℕ) → at ≤ end → end ≤ length tokens → SpellsTypeName (names_of is_type types u.forest tokens) deep tokens at end d → ⊥)
+      → Answers v is_declaration tokens r Naming
+  type_name_read r f l n = read_by tokens at Naming Named named_sound named_reach named_ends v r f l n

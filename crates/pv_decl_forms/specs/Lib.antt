@@ -7,3 +7,4 @@ pub mod Answers
 pub mod Parts
 pub mod Rows
 pub mod Givens
+pub mod Sources

@@ -4,7 +4,6 @@ ghost use Rattle.pv_tree.specs.Children.{HasDeclChildren, HasDeclaratorChildren,
 ghost use Rattle.pv_tree.specs.Depths.{declarator_depth};
 ghost use Rattle.pv_tree.specs.Nodes.{declaration_of, declarator_of, specifier_of, initializer_of};
 ghost use Rattle.pv_tree.specs.Places.{is_named, is_direct};
-ghost use Rattle.pv_tree.specs.Rows.{tables};
 ghost use Rattle.pv_tree.specs.Syntax.{OfDeclaration, OfDeclarator, OfSpecifier, OfInitializer};
 ghost use Rattle.pv_tree.specs.Tables.{declarator_at, is_declaration, is_declarator, is_specifier, is_initializer, Is, Extends};
 ghost use Rattle.pv_decl_forms.specs.Answers.{AnswersAt};
@@ -14,8 +13,8 @@ use pv_tree::{Decl, Declarator, Init, NodeId, Spec, Unit};
 
 /// Whether a declarator has a name.
 pub(crate) fn is_named(unit: &Unit, n: NodeId) -> bool
-    requires { Is (tables unit.now) is_declarator n }
-    ensures { result ≡ is_named (declarator_at (tables unit.now).forest n) }
+    requires { Is unit.now is_declarator n }
+    ensures { result ≡ is_named (declarator_at unit.now.forest n) }
 {
     match unit.declarator(n) {
         Declarator::Name(_)
@@ -29,8 +28,8 @@ pub(crate) fn is_named(unit: &Unit, n: NodeId) -> bool
 
 /// Whether brackets and parameters may follow a declarator: it begins with no `*`.
 fn is_direct(unit: &Unit, n: NodeId) -> bool
-    requires { Is (tables unit.now) is_declarator n }
-    ensures { result ≡ is_direct (declarator_at (tables unit.now).forest n) }
+    requires { Is unit.now is_declarator n }
+    ensures { result ≡ is_direct (declarator_at unit.now.forest n) }
 {
     !matches!(
         unit.declarator(n),
@@ -40,8 +39,8 @@ fn is_direct(unit: &Unit, n: NodeId) -> bool
 
 /// The depth of a declarator.
 fn depth_of(unit: &Unit, n: NodeId) -> u32
-    requires { Is (tables unit.now) is_declarator n }
-    ensures { result ≡ declarator_depth (declarator_at (tables unit.now).forest n) }
+    requires { Is unit.now is_declarator n }
+    ensures { result ≡ declarator_depth (declarator_at unit.now.forest n) }
 {
     unit.depth(n)
 }
@@ -49,8 +48,8 @@ fn depth_of(unit: &Unit, n: NodeId) -> u32
 /// Whether a declarator with brackets or parameters behind this one may stand where its parts have
 /// at most so much depth.
 pub fn may_go_on(unit: &Unit, n: NodeId, below: u32) -> bool
-    requires { Is (tables unit.now) is_declarator n }
-    ensures { result ≡ (is_direct (declarator_at (tables unit.now).forest n) && nat_le (declarator_depth (declarator_at (tables unit.now).forest n)) below) }
+    requires { Is unit.now is_declarator n }
+    ensures { result ≡ (is_direct (declarator_at unit.now.forest n) && nat_le (declarator_depth (declarator_at unit.now.forest n)) below) }
 {
     is_direct(unit, n) && depth_of(unit, n) <= below
 }
@@ -64,9 +63,9 @@ pub fn found_declarator(
     into: &mut Unit,
 ) -> Result<Option<(NodeId, u32)>, NoMemory>
     requires place { next ≤ length tokens.now.tokens }
-    requires children { HasDeclaratorChildren (tables into.old).forest (length (tables into.old).forest.trees) declarator }
-    ensures keeps { Extends (tables into.old) (tables into.new) }
-    ensures ok { AnswersAt (tables into.new) is_declarator tokens.now.tokens next result (λ ts. Some (OfDeclarator (declarator_of (tables into.old).forest line declarator), ts)) }
+    requires children { HasDeclaratorChildren into.old.forest (length into.old.forest.trees) declarator }
+    ensures keeps { Extends into.old into.new }
+    ensures ok { AnswersAt into.new is_declarator tokens.now.tokens next result (λ ts. Some (OfDeclarator (declarator_of into.old.forest line declarator), ts)) }
 {
     Ok(Some((into.add_declarator(declarator, line)?, next)))
 }
@@ -80,9 +79,9 @@ pub fn found_declaration(
     into: &mut Unit,
 ) -> Result<Option<(NodeId, u32)>, NoMemory>
     requires place { next ≤ length tokens.now.tokens }
-    requires children { HasDeclChildren (tables into.old).forest (length (tables into.old).forest.trees) declaration }
-    ensures keeps { Extends (tables into.old) (tables into.new) }
-    ensures ok { AnswersAt (tables into.new) is_declaration tokens.now.tokens next result (λ ts. Some (OfDeclaration (declaration_of (tables into.old).forest line declaration), ts)) }
+    requires children { HasDeclChildren into.old.forest (length into.old.forest.trees) declaration }
+    ensures keeps { Extends into.old into.new }
+    ensures ok { AnswersAt into.new is_declaration tokens.now.tokens next result (λ ts. Some (OfDeclaration (declaration_of into.old.forest line declaration), ts)) }
 {
     Ok(Some((into.add_decl(declaration, line)?, next)))
 }
@@ -96,9 +95,9 @@ pub fn found_specifier(
     into: &mut Unit,
 ) -> Result<Option<(NodeId, u32)>, NoMemory>
     requires place { next ≤ length tokens.now.tokens }
-    requires children { HasSpecChildren (tables into.old).forest (length (tables into.old).forest.trees) specifier }
-    ensures keeps { Extends (tables into.old) (tables into.new) }
-    ensures ok { AnswersAt (tables into.new) is_specifier tokens.now.tokens next result (λ ts. Some (OfSpecifier (specifier_of (tables into.old).forest line specifier), ts)) }
+    requires children { HasSpecChildren into.old.forest (length into.old.forest.trees) specifier }
+    ensures keeps { Extends into.old into.new }
+    ensures ok { AnswersAt into.new is_specifier tokens.now.tokens next result (λ ts. Some (OfSpecifier (specifier_of into.old.forest line specifier), ts)) }
 {
     Ok(Some((into.add_spec(specifier, line)?, next)))
 }
@@ -112,9 +111,9 @@ pub fn found_initializer(
     into: &mut Unit,
 ) -> Result<Option<(NodeId, u32)>, NoMemory>
     requires place { next ≤ length tokens.now.tokens }
-    requires children { HasInitChildren (tables into.old).forest (length (tables into.old).forest.trees) initializer }
-    ensures keeps { Extends (tables into.old) (tables into.new) }
-    ensures ok { AnswersAt (tables into.new) is_initializer tokens.now.tokens next result (λ ts. Some (OfInitializer (initializer_of (tables into.old).forest line initializer), ts)) }
+    requires children { HasInitChildren into.old.forest (length into.old.forest.trees) initializer }
+    ensures keeps { Extends into.old into.new }
+    ensures ok { AnswersAt into.new is_initializer tokens.now.tokens next result (λ ts. Some (OfInitializer (initializer_of into.old.forest line initializer), ts)) }
 {
     Ok(Some((into.add_init(initializer, line)?, next)))
 }

@@ -4,7 +4,6 @@ ghost use Rattle.pv_token.specs.declared.token_table.Token.{Token};
 ghost use Rattle.indexmap.specs.IndexSet.{contains};
 ghost use Rattle.pv_tree.specs.Children.{HasSpecChildren, HasDeclaratorChildren};
 ghost use Rattle.pv_tree.specs.Nodes.{specifier_of, declarator_of};
-ghost use Rattle.pv_tree.specs.Rows.{tables};
 ghost use Rattle.pv_tree.specs.Syntax.{OfDeclarator, Declaration, Parameter, TypeName, Composite, Enumeration, Braces, OfSpecifier, OfInitializer};
 ghost use Rattle.pv_tree.specs.Tables.{Forest, HasList, trees_of, trees_at, optional_at, is_declaration, is_declarator, is_expression, is_initializer, is_specifier, Is, Extends};
 ghost use Rattle.pv_decl_forms.specs.Answers.{seen, IsThere, Answers, AnswersAt};
@@ -56,8 +55,8 @@ pub fn plain(
     into: &mut Unit,
 ) -> Result<Option<(NodeId, u32)>, NoMemory>
     requires { at ≤ length tokens.now.tokens }
-    ensures keeps { Extends (tables into.old) (tables into.new) }
-    ensures ok { AnswersAt (tables into.new) is_specifier tokens.now.tokens at result (plain_of (contains nat_eq typedefs.now) token.line token.kind) }
+    ensures keeps { Extends into.old into.new }
+    ensures ok { AnswersAt into.new is_specifier tokens.now.tokens at result (plain_of (contains nat_eq typedefs.now) token.line token.kind) }
 {
     match token.kind {
         TokenKind::Name(name) => {
@@ -85,8 +84,8 @@ pub fn tag_alone(
     into: &mut Unit,
 ) -> Result<Option<(NodeId, u32)>, NoMemory>
     requires { at ≤ length tokens.now.tokens }
-    ensures keeps { Extends (tables into.old) (tables into.new) }
-    ensures ok { AnswersAt (tables into.new) is_specifier tokens.now.tokens at result (tag_alone line (word_of_tag word) tag) }
+    ensures keeps { Extends into.old into.new }
+    ensures ok { AnswersAt into.new is_specifier tokens.now.tokens at result (tag_alone line (word_of_tag word) tag) }
 {
     let Some(name) = tag else {
         return Ok(None);
@@ -110,9 +109,9 @@ pub fn enumeration(
     into: &mut Unit,
 ) -> Result<Option<(NodeId, u32)>, NoMemory>
     requires place { at ≤ length tokens.now.tokens }
-    requires enumerators { All (λ n. Is (tables into.old) is_declaration n) enumerators.now }
-    ensures keeps { Extends (tables into.old) (tables into.new) }
-    ensures ok { AnswersAt (tables into.new) is_specifier tokens.now.tokens at result (λ ts. listed_in_braces (λ trees comma. OfSpecifier (Enumeration line tag trees comma)) (trees_of (tables into.old).forest enumerators.now, ts)) }
+    requires enumerators { All (λ n. Is into.old is_declaration n) enumerators.now }
+    ensures keeps { Extends into.old into.new }
+    ensures ok { AnswersAt into.new is_specifier tokens.now.tokens at result (λ ts. listed_in_braces (λ trees comma. OfSpecifier (Enumeration line tag trees comma)) (trees_of into.old.forest enumerators.now, ts)) }
 {
     if enumerators.is_empty() {
         return Ok(None);
@@ -153,9 +152,9 @@ pub fn composite(
     into: &mut Unit,
 ) -> Result<Option<(NodeId, u32)>, NoMemory>
     requires place { at ≤ length tokens.now.tokens }
-    requires members { All (λ n. Is (tables into.old) is_declaration n) members.now }
-    ensures keeps { Extends (tables into.old) (tables into.new) }
-    ensures ok { AnswersAt (tables into.new) is_specifier tokens.now.tokens at result (λ ts. row_in_braces (λ trees. OfSpecifier (Composite line (word_of_composite word) tag trees)) (trees_of (tables into.old).forest members.now, ts)) }
+    requires members { All (λ n. Is into.old is_declaration n) members.now }
+    ensures keeps { Extends into.old into.new }
+    ensures ok { AnswersAt into.new is_specifier tokens.now.tokens at result (λ ts. row_in_braces (λ trees. OfSpecifier (Composite line (word_of_composite word) tag trees)) (trees_of into.old.forest members.now, ts)) }
 {
     if members.is_empty() {
         return Ok(None);
@@ -181,8 +180,8 @@ pub fn named(
     into: &mut Unit,
 ) -> Result<Option<(NodeId, u32)>, NoMemory>
     requires { at ≤ length tokens.now.tokens }
-    ensures keeps { Extends (tables into.old) (tables into.new) }
-    ensures ok { AnswersAt (tables into.new) is_declarator tokens.now.tokens at result (named_of (contains nat_eq typedefs.now) form line name) }
+    ensures keeps { Extends into.old into.new }
+    ensures ok { AnswersAt into.new is_declarator tokens.now.tokens at result (named_of (contains nat_eq typedefs.now) form line name) }
 {
     if is_type(typedefs, name) || !form.allows_name() {
         return Ok(None);
@@ -203,9 +202,9 @@ pub fn pointed(
     into: &mut Unit,
 ) -> Result<Option<(NodeId, u32)>, NoMemory>
     requires place { at ≤ length tokens.now.tokens }
-    requires within { IsThere (tables into.old) is_declarator tokens.now.tokens within }
-    ensures keeps { Extends (tables into.old) (tables into.new) }
-    ensures ok { AnswersAt (tables into.new) is_declarator tokens.now.tokens at result (λ ts. pointed form line consts ts (seen (tables into.old).forest tokens.now.tokens within)) }
+    requires within { IsThere into.old is_declarator tokens.now.tokens within }
+    ensures keeps { Extends into.old into.new }
+    ensures ok { AnswersAt into.new is_declarator tokens.now.tokens at result (λ ts. pointed form line consts ts (seen into.old.forest tokens.now.tokens within)) }
 {
     let Some((inner, end)) = within else {
         if !form.allows_abstract() {
@@ -239,9 +238,9 @@ pub fn parenthesized(
     line: u32,
     into: &mut Unit,
 ) -> Result<Option<(NodeId, u32)>, NoMemory>
-    requires { IsThere (tables into.old) is_declarator tokens.now.tokens within }
-    ensures keeps { Extends (tables into.old) (tables into.new) }
-    ensures ok { IfOk result (λ r. Answers (tables into.new) is_declarator tokens.now.tokens r (option_and_then (λ x. in_parentheses line x.0 x.1) (seen (tables into.old).forest tokens.now.tokens within))) }
+    requires { IsThere into.old is_declarator tokens.now.tokens within }
+    ensures keeps { Extends into.old into.new }
+    ensures ok { IfOk result (λ r. Answers into.new is_declarator tokens.now.tokens r (option_and_then (λ x. in_parentheses line x.0 x.1) (seen into.old.forest tokens.now.tokens within))) }
 {
     let Some((inner, end)) = within else {
         return Ok(None);
@@ -268,10 +267,10 @@ pub fn array_of(
     into: &mut Unit,
 ) -> Result<Option<(NodeId, u32)>, NoMemory>
     requires place { at ≤ length tokens.now.tokens }
-    requires left { IfSome left (λ n. Is (tables into.old) is_declarator n) }
-    requires size { IfSome size (λ n. Is (tables into.old) is_expression n) }
-    ensures keeps { Extends (tables into.old) (tables into.new) }
-    ensures ok { AnswersAt (tables into.new) is_declarator tokens.now.tokens at result (λ ts. bracketed (array_of line (optional_at (tables into.old).forest left)) (optional_at (tables into.old).forest size, ts)) }
+    requires left { IfSome left (λ n. Is into.old is_declarator n) }
+    requires size { IfSome size (λ n. Is into.old is_expression n) }
+    ensures keeps { Extends into.old into.new }
+    ensures ok { AnswersAt into.new is_declarator tokens.now.tokens at result (λ ts. bracketed (array_of line (optional_at into.old.forest left)) (optional_at into.old.forest size, ts)) }
 {
     let Some(next) = after(tokens, at, Sign::CloseBracket) else {
         return Ok(None);
@@ -303,9 +302,9 @@ pub fn function_node(
     parameters: ListId,
     variadic: bool,
 ) -> Declarator
-    requires { IfSome left (λ n. Is (tables unit.now) is_declarator n) }
-    ensures is { (line : ℕ) → OfDeclarator (declarator_of (tables unit.now).forest line result) ≡ function_of line (optional_at (tables unit.now).forest left) (trees_at (tables unit.now).forest parameters) variadic }
-    ensures children { HasList (tables unit.now).forest (length (tables unit.now).forest.trees) is_declaration parameters → HasDeclaratorChildren (tables unit.now).forest (length (tables unit.now).forest.trees) result }
+    requires { IfSome left (λ n. Is unit.now is_declarator n) }
+    ensures is { (line : ℕ) → OfDeclarator (declarator_of unit.now.forest line result) ≡ function_of line (optional_at unit.now.forest left) (trees_at unit.now.forest parameters) variadic }
+    ensures children { HasList unit.now.forest (length unit.now.forest.trees) is_declaration parameters → HasDeclaratorChildren unit.now.forest (length unit.now.forest.trees) result }
 {
     match left {
         Some(declarator) if is_named(unit, declarator) => Declarator::Function {
@@ -333,10 +332,10 @@ pub fn function_of(
     into: &mut Unit,
 ) -> Result<Option<(NodeId, u32)>, NoMemory>
     requires place { at ≤ length tokens.now.tokens }
-    requires left { IfSome left (λ n. Is (tables into.old) is_declarator n) }
-    requires parameters { All (λ n. Is (tables into.old) is_declaration n) parameters.now }
-    ensures keeps { Extends (tables into.old) (tables into.new) }
-    ensures ok { AnswersAt (tables into.new) is_declarator tokens.now.tokens at result (λ ts. with_parameters (function_of line (optional_at (tables into.old).forest left)) (trees_of (tables into.old).forest parameters.now, ts)) }
+    requires left { IfSome left (λ n. Is into.old is_declarator n) }
+    requires parameters { All (λ n. Is into.old is_declaration n) parameters.now }
+    ensures keeps { Extends into.old into.new }
+    ensures ok { AnswersAt into.new is_declarator tokens.now.tokens at result (λ ts. with_parameters (function_of line (optional_at into.old.forest left)) (trees_of into.old.forest parameters.now, ts)) }
 {
     let (variadic, end) = variadic_at(tokens, at, parameters);
     let Some(next) = after(tokens, end, Sign::CloseParen) else {
@@ -360,10 +359,10 @@ pub fn member_of(
     into: &mut Unit,
 ) -> Result<Option<(NodeId, u32)>, NoMemory>
     requires place { at ≤ length tokens.now.tokens }
-    requires specs { All (λ n. Is (tables into.old) is_specifier n) specs.now }
-    requires declarators { All (λ n. Is (tables into.old) is_declarator n) declarators.now }
-    ensures keeps { Extends (tables into.old) (tables into.new) }
-    ensures ok { AnswersAt (tables into.new) is_declaration tokens.now.tokens at result (λ ts. with_members line (trees_of (tables into.old).forest specs.now) (trees_of (tables into.old).forest declarators.now, ts)) }
+    requires specs { All (λ n. Is into.old is_specifier n) specs.now }
+    requires declarators { All (λ n. Is into.old is_declarator n) declarators.now }
+    ensures keeps { Extends into.old into.new }
+    ensures ok { AnswersAt into.new is_declaration tokens.now.tokens at result (λ ts. with_members line (trees_of into.old.forest specs.now) (trees_of into.old.forest declarators.now, ts)) }
 {
     if declarators.is_empty() {
         return Ok(None);
@@ -388,11 +387,11 @@ pub fn parameter_of(
     into: &mut Unit,
 ) -> Result<Option<(NodeId, u32)>, NoMemory>
     requires place { at ≤ length tokens.now.tokens }
-    requires specs { All (λ n. Is (tables into.old) is_specifier n) specs.now }
-    requires declarator { IsThere (tables into.old) is_declarator tokens.now.tokens declarator }
-    ensures keeps { Extends (tables into.old) (tables into.new) }
-    ensures ok { let old = (tables into.old).forest in
-        AnswersAt (tables into.new) is_declaration tokens.now.tokens at result (λ ts. made_of (Parameter line) (trees_of old specs.now) (optional ts (seen old tokens.now.tokens declarator))) }
+    requires specs { All (λ n. Is into.old is_specifier n) specs.now }
+    requires declarator { IsThere into.old is_declarator tokens.now.tokens declarator }
+    ensures keeps { Extends into.old into.new }
+    ensures ok { let old = into.old.forest in
+        AnswersAt into.new is_declaration tokens.now.tokens at result (λ ts. made_of (Parameter line) (trees_of old specs.now) (optional ts (seen old tokens.now.tokens declarator))) }
 {
     let specs = into.add_list(specs)?;
     let (declarator, end) = match declarator {
@@ -414,11 +413,11 @@ pub fn type_name_of(
     into: &mut Unit,
 ) -> Result<Option<(NodeId, u32)>, NoMemory>
     requires place { at ≤ length tokens.now.tokens }
-    requires specs { All (λ n. Is (tables into.old) is_specifier n) specs.now }
-    requires declarator { IsThere (tables into.old) is_declarator tokens.now.tokens declarator }
-    ensures keeps { Extends (tables into.old) (tables into.new) }
-    ensures ok { let old = (tables into.old).forest in
-        AnswersAt (tables into.new) is_declaration tokens.now.tokens at result (λ ts. made_of (TypeName line) (trees_of old specs.now) (optional ts (seen old tokens.now.tokens declarator))) }
+    requires specs { All (λ n. Is into.old is_specifier n) specs.now }
+    requires declarator { IsThere into.old is_declarator tokens.now.tokens declarator }
+    ensures keeps { Extends into.old into.new }
+    ensures ok { let old = into.old.forest in
+        AnswersAt into.new is_declaration tokens.now.tokens at result (λ ts. made_of (TypeName line) (trees_of old specs.now) (optional ts (seen old tokens.now.tokens declarator))) }
 {
     let specs = into.add_list(specs)?;
     let (declarator, end) = match declarator {
@@ -440,10 +439,10 @@ pub fn declaration_of(
     into: &mut Unit,
 ) -> Result<Option<(NodeId, u32)>, NoMemory>
     requires place { at ≤ length tokens.now.tokens }
-    requires specs { All (λ n. Is (tables into.old) is_specifier n) specs.now }
-    requires declared { All (λ n. Is (tables into.old) is_declaration n) declared.now }
-    ensures keeps { Extends (tables into.old) (tables into.new) }
-    ensures ok { AnswersAt (tables into.new) is_declaration tokens.now.tokens at result (ended (Declaration line (trees_of (tables into.old).forest specs.now) (trees_of (tables into.old).forest declared.now))) }
+    requires specs { All (λ n. Is into.old is_specifier n) specs.now }
+    requires declared { All (λ n. Is into.old is_declaration n) declared.now }
+    ensures keeps { Extends into.old into.new }
+    ensures ok { AnswersAt into.new is_declaration tokens.now.tokens at result (ended (Declaration line (trees_of into.old.forest specs.now) (trees_of into.old.forest declared.now))) }
 {
     let Some(end) = after(tokens, at, Sign::Semicolon) else {
         return Ok(None);
@@ -464,9 +463,9 @@ pub fn braces_of(
     into: &mut Unit,
 ) -> Result<Option<(NodeId, u32)>, NoMemory>
     requires place { at ≤ length tokens.now.tokens }
-    requires inits { All (λ n. Is (tables into.old) is_initializer n) inits.now }
-    ensures keeps { Extends (tables into.old) (tables into.new) }
-    ensures ok { AnswersAt (tables into.new) is_initializer tokens.now.tokens at result (λ ts. listed_in_braces (λ trees comma. OfInitializer (Braces line trees comma)) (trees_of (tables into.old).forest inits.now, ts)) }
+    requires inits { All (λ n. Is into.old is_initializer n) inits.now }
+    ensures keeps { Extends into.old into.new }
+    ensures ok { AnswersAt into.new is_initializer tokens.now.tokens at result (λ ts. listed_in_braces (λ trees comma. OfInitializer (Braces line trees comma)) (trees_of into.old.forest inits.now, ts)) }
 {
     if inits.is_empty() {
         return Ok(None);

@@ -1,40 +1,34 @@
 -- The members of a tag, as the table has them and as trees; the lines of those that are left.
-use Rattle.std.proofs.Common.{◌≡◌, ℕ, suc, max, ◌+◌, ◌<◌, ◌≤◌, ◌^◌, ◌==◌, Bool, true, false, cond, IsTrue, List, [], ◌∷◌, ◌++◌, length, drop, drop-cons, get_or, add-one, refl, sym, ◌∙◌, ap, subst, arith, is_some, map, append_assoc}
+use Rattle.std.proofs.Common.{◌≡◌, ℕ, suc, max, ◌+◌, ◌<◌, ◌≤◌, ◌^◌, true, IsTrue, List, ◌∷◌, ◌++◌, length, drop, drop-cons, get_or, add-one, sym, ◌∙◌, ap, subst, arith, is_some, map, append_assoc}
 use Rattle.std.specs.Int.{next_multiple_of}
 use Rattle.pv_types.specs.declared.terms.Member.{Member}
 use Rattle.pv_types.specs.declared.terms.TypeId.{TypeId}
-use Rattle.pv_types.specs.Ty.{Ty}
-use Rattle.pv_types.specs.Layouts.{Named, look, or_none, layout_in, layout_of, union_end, greatest_align, is_complete_in, AreComplete}
-use Rattle.pv_types.specs.Known.{Known, DoneTag, tree, trees, env, named, named_in, completed_in, members_in, is_union_in, MembersBelow, IsBuilt}
+use Rattle.pv_types.specs.Ty.{StructTag, UnionTag}
+use Rattle.pv_types.specs.Layouts.{look, or_none, layout_in, layout_of, union_end, greatest_align, is_complete_in, AreComplete}
+use Rattle.pv_types.specs.Known.{Known, tree, trees, env, named, named_in, members_in, is_union_in, MembersBelow, IsBuilt}
+use Rattle.pv_types.specs.Members.{placed_in}
+use Rattle.pv_types.specs.Places.{struct_places, union_places}
 use Rattle.pv_types.proofs.Fills.{union_end-ge}
 use Rattle.pv_types.proofs.Made.{made}
+use Rattle.pv_types.proofs.Placed.{named_place, struct_placed_in, union_placed_in}
 use Rattle.pv_layout.proofs.Ahead.{nobody}
 use Rattle.pv_typed.specs.Tables.{Stored, whole}
-use Rattle.pv_describe.specs.Describing.{members_of, member_line, source_name, struct_lines, union_lines, tag_texts}
-
-members_step : (b : Bool) (ts : List Ty) (ms : List Member) (xs : List Named) (ys : List Member) → xs ≡ named_in ts ys → cond b (named_in ts ms) xs ≡ named_in ts (cond b ms ys)
-members_step true ts ms xs ys e = refl
-members_step false ts ms xs ys e = e
-
--- the members of a completed tag as trees
-members_named : (ts : List Ty) (ds : List DoneTag) (n : ℕ) → members_of (completed_in ts ds) n ≡ named_in ts (members_in ds n)
-members_named ts [] n = refl
-members_named ts (d ∷ ds) n = members_step (d.tag == n) ts d.members _ _ (members_named ts ds n)
+use Rattle.pv_describe.specs.Describing.{member_line, member_lines, source_name, tag_texts}
 
 -- the text so far, and the lines of the members that are left
 abbrev pub struct_left : Stored → (text : List ℕ) (behind : ℕ) → List Member → List ℕ
-struct_left s text behind ms = text ++ struct_lines (whole s) behind (named_in (trees s.known) ms)
+struct_left s text behind ms = text ++ member_lines (whole s) (map (named_place s.known) (struct_places s.known behind ms))
 
 abbrev pub union_left : Stored → (text : List ℕ) → List Member → List ℕ
-union_left s text ms = text ++ union_lines (whole s) (named_in (trees s.known) ms)
+union_left s text ms = text ++ member_lines (whole s) (map (named_place s.known) (union_places s.known ms))
 
 pub struct_starts : (s : Stored) (tag : ℕ) (text : List ℕ) (items : List Member) → items ≡ members_in s.known.done tag
-    → struct_left s text 0 items ≡ text ++ struct_lines (whole s) 0 (members_of (whole s).completed tag)
-struct_starts s tag text items e = ap (λ ms. text ++ struct_lines (whole s) 0 (named_in (trees s.known) ms)) e ∙ ap (λ ms. text ++ struct_lines (whole s) 0 ms) (sym (members_named (trees s.known) s.known.done tag))
+    → struct_left s text 0 items ≡ text ++ member_lines (whole s) (placed_in (whole s).completed (StructTag tag))
+struct_starts s tag text items e = ap (struct_left s text 0) e ∙ ap (λ ps. text ++ member_lines (whole s) ps) (sym (struct_placed_in s.known tag))
 
 pub union_starts : (s : Stored) (tag : ℕ) (text : List ℕ) (items : List Member) → items ≡ members_in s.known.done tag
-    → union_left s text items ≡ text ++ union_lines (whole s) (members_of (whole s).completed tag)
-union_starts s tag text items e = ap (λ ms. text ++ union_lines (whole s) (named_in (trees s.known) ms)) e ∙ ap (λ ms. text ++ union_lines (whole s) ms) (sym (members_named (trees s.known) s.known.done tag))
+    → union_left s text items ≡ text ++ member_lines (whole s) (placed_in (whole s).completed (UnionTag tag))
+union_starts s tag text items e = ap (union_left s text) e ∙ ap (λ ps. text ++ member_lines (whole s) ps) (sym (union_placed_in s.known tag))
 
 -- one line more
 struct_first : (s : Stored) (text line name : List ℕ) (o p start size : ℕ) (x : Member) (ms : List Member) → line ≡ member_line name start size → name ≡ source_name (whole s) x.name
@@ -43,7 +37,7 @@ struct_first : (s : Stored) (text line name : List ℕ) (o p start size : ℕ) (
 struct_first s text line name o p start size x ms l n b z e =
     let offset = next_multiple_of o (layout_in (env s.known) (tree s.known x.t.0)).align in
     let bytes = (layout_in (env s.known) (tree s.known x.t.0)).size in
-    rw (e, l, n, b, z) (append_assoc text (member_line (source_name (whole s) x.name) offset bytes) (struct_lines (whole s) (offset + bytes) (named_in (trees s.known) ms)))
+    rw (e, l, n, b, z) (append_assoc text (member_line (source_name (whole s) x.name) offset bytes) (member_lines (whole s) (map (named_place s.known) (struct_places s.known (offset + bytes) ms))))
 
 pub struct_next : (s : Stored) (text line name : List ℕ) (o p start size i : ℕ) (items : List Member) → i < length items → line ≡ member_line name start size → name ≡ source_name (whole s) (get_or items i nobody).name
     → start ≡ next_multiple_of o (layout_in (env s.known) (tree s.known (get_or items i nobody).t.0)).align → size ≡ (layout_in (env s.known) (tree s.known (get_or items i nobody).t.0)).size → p ≡ start + size

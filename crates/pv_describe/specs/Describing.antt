@@ -1,10 +1,10 @@
 -- What the modes `check` and `layout` print of a typed unit. C17 leaves the form of such a report to an implementation (5.1.1.3).
-use Rattle.std.specs.Prelude.{◌≤◌, ◌^◌, ℕ, ◌+◌, ◌==◌, if◌then◌else◌, is_some, List, [], ◌∷◌, ◌++◌, codes, Option, Some, None}
+use Rattle.std.specs.Prelude.{◌≤◌, ◌^◌, ℕ, ◌+◌, if◌then◌else◌, is_some, List, [], ◌∷◌, ◌++◌, codes, Option, Some, None}
 use Rattle.std.specs.Fmt.{decimal}
-use Rattle.std.specs.Int.{next_multiple_of}
 use Rattle.pv_types.specs.Ty.{Ty, StructTag, UnionTag}
 use Rattle.pv_types.specs.Known.{Known, env, heading_at}
-use Rattle.pv_types.specs.Layouts.{Completed, Named, layout_in, look}
+use Rattle.pv_types.specs.Layouts.{Named, Placed, layout_in, look}
+use Rattle.pv_types.specs.Members.{placed_in}
 use Rattle.pv_typed.specs.TypedUnits.{WholeUnit, layouts, name_at}
 
 -- 5.1.1.3: the end of a line
@@ -28,11 +28,6 @@ name_if u (Some n) = source_name u n
 abbrev pub tag_name : WholeUnit → ℕ → List ℕ
 tag_name u tag = name_if u (heading_at u.headings tag).name
 
--- 6.7.2.1: the members of a tag, in the order of their declarations; none where it is not completed
-abbrev pub members_of : List Completed → ℕ → List Named
-members_of [] n = []
-members_of (d ∷ ds) n = if d.tag == n then d.members else members_of ds n
-
 -- 6.2.6.1p4, 6.2.8p1: `struct` or `union`, the tag's name, how many bytes an object takes, and what its address is a multiple of
 abbrev pub head_line : (word name : List ℕ) → (size align : ℕ) → List ℕ
 head_line word name size align = word ++ name ++ codes " size=" ++ decimal size ++ codes " align=" ++ decimal align ++ line_feed
@@ -41,17 +36,10 @@ head_line word name size align = word ++ name ++ codes " size=" ++ decimal size 
 abbrev pub member_line : (name : List ℕ) → (offset size : ℕ) → List ℕ
 member_line name offset size = codes "  " ++ name ++ codes " offset=" ++ decimal offset ++ codes " size=" ++ decimal size ++ line_feed
 
--- 6.7.2.1p15: the members of a structure in their order, each at the least aligned offset behind the one before
-abbrev pub struct_lines : WholeUnit → (behind : ℕ) → List Named → List ℕ
-struct_lines u behind [] = []
-struct_lines u behind (m ∷ ms) =
-    member_line (source_name u m.name) (next_multiple_of behind (layout_in (layouts u) m.t).align) (layout_in (layouts u) m.t).size
-    ++ struct_lines u (next_multiple_of behind (layout_in (layouts u) m.t).align + (layout_in (layouts u) m.t).size) ms
-
--- 6.7.2.1p16: the members of a union all begin where it begins
-abbrev pub union_lines : WholeUnit → List Named → List ℕ
-union_lines u [] = []
-union_lines u (m ∷ ms) = member_line (source_name u m.name) 0 (layout_in (layouts u) m.t).size ++ union_lines u ms
+-- 6.7.2.1p15, p16: the members in their order, each where it begins
+abbrev pub member_lines : WholeUnit → List (Placed Named) → List ℕ
+member_lines u [] = []
+member_lines u (p ∷ ps) = member_line (source_name u p.member.name) p.offset p.layout.size ++ member_lines u ps
 
 -- 6.2.6.1p4, 6.2.8p1: the first line of a structure or union
 abbrev pub tag_head : WholeUnit → (word : List ℕ) → ℕ → Ty → List ℕ
@@ -60,9 +48,9 @@ tag_head u word tag t = head_line word (tag_name u tag) (layout_in (layouts u) t
 -- 6.7.2.1p15, p16: a structure or union: its size and alignment, then its members; what is not complete has no layout (6.7.2.1p8)
 abbrev pub tag_text : WholeUnit → Ty → List ℕ
 tag_text u (StructTag n) =
-    if is_some (look (layouts u) n) then tag_head u (codes "struct ") n (StructTag n) ++ struct_lines u 0 (members_of u.completed n) else []
+    if is_some (look (layouts u) n) then tag_head u (codes "struct ") n (StructTag n) ++ member_lines u (placed_in u.completed (StructTag n)) else []
 tag_text u (UnionTag n) =
-    if is_some (look (layouts u) n) then tag_head u (codes "union ") n (UnionTag n) ++ union_lines u (members_of u.completed n) else []
+    if is_some (look (layouts u) n) then tag_head u (codes "union ") n (UnionTag n) ++ member_lines u (placed_in u.completed (UnionTag n)) else []
 tag_text u _ = []
 
 -- the same of several, one after the other

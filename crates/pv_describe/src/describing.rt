@@ -3,6 +3,7 @@ ghost use Rattle.std.specs.Prelude.{◌≡◌, ◌<◌, ◌≤◌, ◌+◌, ◌+
 ghost use Rattle.pv_types.specs.Ty.{StructTag, UnionTag};
 ghost use Rattle.pv_types.specs.Known.{tree, env, heading_at, is_union_in, IsBuilt};
 ghost use Rattle.pv_types.specs.Layouts.{look, or_none};
+ghost use Rattle.pv_types.specs.Members.{placed_in};
 ghost use Rattle.pv_typed.specs.Tables.{whole};
 ghost use Rattle.pv_typed.specs.Formed.{AreKnown};
 ghost use Rattle.pv_describe.specs.Describing as described;
@@ -127,7 +128,7 @@ fn add_struct_members(
     requires complete { IsTrue (is_some (look (env u.now.known) tag)) }
     requires structure { is_union_in u.now.known.done tag ≡ false }
     requires small { (or_none (look (env u.now.known) tag)).size ≤ 2 ^ 32 }
-    ensures { OnOk result (text.new.items ≡ text.old.items ++ described.struct_lines (whole u.now) 0 (described.members_of (whole u.now).completed tag)) }
+    ensures { OnOk result (text.new.items ≡ text.old.items ++ described.member_lines (whole u.now) (placed_in (whole u.now).completed (StructTag tag))) }
 {
     let types = u.types();
     let mut end = 0u64;
@@ -152,7 +153,7 @@ fn add_union_members(
     requires complete { IsTrue (is_some (look (env u.now.known) tag)) }
     requires union { is_union_in u.now.known.done tag ≡ true }
     requires small { (or_none (look (env u.now.known) tag)).size ≤ 2 ^ 32 }
-    ensures { OnOk result (text.new.items ≡ text.old.items ++ described.union_lines (whole u.now) (described.members_of (whole u.now).completed tag)) }
+    ensures { OnOk result (text.new.items ≡ text.old.items ++ described.member_lines (whole u.now) (placed_in (whole u.now).completed (UnionTag tag))) }
 {
     let types = u.types();
     for m in types.members(tag) {

@@ -1,25 +1,26 @@
 -- A search on its way down to the scalars that a byte lies in.
 use Rattle.std.proofs.Common.{◌≡◌, ℕ, ◌+◌, ◌-◌, ◌<◌, ◌≤◌, ◌^◌, Bool, true, false, ◌&&◌, ◌||◌, nat_le, nat_lt, IsTrue, List, Some, length, refl, sym, ◌∙◌, ap, arith, is_some}
-use Rattle.std.proofs.lemmas.Bool.Decides.{nat_tests}
-use Rattle.pv_num.specs.declared.kinds.IntKind.{IntKind}
-use Rattle.pv_types.specs.Ty.{Ty, VoidTy, IntTy, PointerTo, ArrayOf, StructTag, UnionTag, FunctionTy, ConstOf}
-use Rattle.pv_types.specs.Layouts.{Entry, look, or_none, layout_in, layout_of, is_complete_in, struct_parts, union_parts, repeated, part_count}
+use Rattle.pv_types.specs.Ty.{Ty, ArrayOf, StructTag, UnionTag}
+use Rattle.pv_types.specs.Layouts.{Part, Entry, look, or_none, layout_in, layout_of, is_complete_in, struct_parts, union_parts, repeated, part_count}
 use Rattle.pv_types.specs.Known.{Known, tree, env, named, is_union_in, IsBuilt}
 use Rattle.pv_types.proofs.Counted.{element_fewer}
 use Rattle.pv_types.proofs.Made.{made}
-use Rattle.pv_layout.specs.Parts.{is_scalar}
+use Rattle.pv_types.proofs.Wholes.{inner_parts}
+use Rattle.pv_types.specs.Qualifiers.{is_const}
+use Rattle.pv_layout.proofs.Stripped.{IsBlind, bare_passes, Stripped, stripped_complete, stripped_size, stripped_unqualified, stripped_inner, stripped_whole, stripped_outer, stripped_count}
 use Rattle.pv_layout.proofs.Unions.{Joins}
 use Rattle.pv_effect.specs.declared.bytes.Sought.{Sought}
 use Rattle.pv_effect.specs.declared.bytes.Sought.TheVariants.{Any, Accepting}
 use Rattle.pv_effect.specs.declared.bytes.Search.{Search}
 use Rattle.pv_effect.specs.declared.bytes.Search.TheVariants.{Settled, In}
 use Rattle.pv_effect.specs.EffectiveType.{covers, some_over}
-use Rattle.pv_effect.specs.Searches.{is_sought, passes, IsBelow}
+use Rattle.pv_effect.specs.Searches.{passes, IsBelow}
 use Rattle.pv_effect.proofs.Over.{some_over-append}
 
--- what the whole covers the byte with, what is left covers the rest with
+-- what the whole covers the byte with, what is left covers the rest with, without qualifiers around it
 pub record Descent (m : Known) (s : Sought) (t o left rest : ℕ) : Type 0 where
   pub known : left < length m.terms
+  pub unqualified : is_const (tree m left) ≡ false
   pub complete : IsTrue (is_complete_in (env m) (tree m left))
   pub small : (layout_in (env m) (tree m left)).size ≤ 2 ^ 32
   pub lower : part_count (layout_in (env m) (tree m left)) ≤ part_count (layout_in (env m) (tree m t))
@@ -53,33 +54,44 @@ array_whole m t e n o s b is same =
     ∙ no_head (covers (env m) o (record { offset = 0; t = ArrayOf (tree m e) (Some n) })) (some_over (env m) (passes m s) o (repeated n (layout_in (env m) (tree m e)).size (layout_in (env m) (tree m e)).parts)))
 
 -- qualifiers change nothing of what is sought
-sought_const : (m : Known) (s : Sought) (j : ℕ) (t : Ty) → is_sought m s j (ConstOf t) ≡ is_sought m s j t
-sought_const m Any j t = refl
-sought_const m (Accepting u k) j t = refl
-
-twice : (a r : Bool) → (a || r) ≡ (a || (a || r))
-twice true r = refl
-twice false r = refl
+passes_blind : (m : Known) (s : Sought) (j : ℕ) → IsBlind (passes m s j)
+passes_blind m Any j t = refl
+passes_blind m (Accepting u k) j t = refl
 
 -- the part that is the whole type
-abbrev first : Known → Sought → ℕ → Ty → Bool
-first m s o t = covers (env m) o (record { offset = 0; t = t }) && passes m s (o - 0) t
+abbrev first : Ty → Part
+first t = record { offset = 0; t = t }
 
-first_const : (m : Known) (s : Sought) (o : ℕ) (t : Ty) → first m s o (ConstOf t) ≡ first m s o t
-first_const m s o t = ap (λ b. covers (env m) o (record { offset = 0; t = t }) && (is_scalar t && b)) (sought_const m s (o - 0) t)
+-- nor do they change what lies over a byte
+stripped_over : (m : Known) (u t o : ℕ) (s : Sought) → Stripped m u t → some_over (env m) (passes m s) o (layout_in (env m) (tree m u)).parts ≡ some_over (env m) (passes m s) o (layout_in (env m) (tree m t)).parts
+stripped_over m u t o s h =
+    let f = passes m s in
+    let inner = inner_parts (env m) (tree m u) in
+    let cover : covers (env m) o (first (tree m u)) ≡ covers (env m) o (first (tree m t)) = ap (λ k. nat_le 0 o && nat_lt o (0 + k)) (stripped_size m u t h) in
+    let pass : f (o - 0) (tree m u) ≡ f (o - 0) (tree m t) = ap (f (o - 0)) h.is ∙ bare_passes (f (o - 0)) (passes_blind m s (o - 0)) (tree m t) in
+    ap (some_over (env m) f o) (stripped_whole m u t h)
+    ∙ ap (λ b. (b && f (o - 0) (tree m u)) || some_over (env m) f o inner) cover
+    ∙ ap (λ b. (covers (env m) o (first (tree m t)) && b) || some_over (env m) f o inner) pass
+    ∙ ap (λ ps. (covers (env m) o (first (tree m t)) && f (o - 0) (tree m t)) || some_over (env m) f o ps) (stripped_inner m u t h)
+    ∙ sym (ap (some_over (env m) f o) (stripped_outer m u t h))
 
-const_same : (m : Known) (s : Sought) (o : ℕ) (t : Ty) → some_over (env m) (passes m s) o (layout_in (env m) t).parts ≡ (first m s o (ConstOf t) || some_over (env m) (passes m s) o (layout_in (env m) t).parts)
-const_same m s o (IntTy k) = rw (first_const m s o (IntTy k)) (twice (first m s o (IntTy k)) false)
-const_same m s o (PointerTo t) = rw (first_const m s o (PointerTo t)) (twice (first m s o (PointerTo t)) false)
-const_same m s o (ConstOf t) = rw (first_const m s o (ConstOf t)) (twice (first m s o (ConstOf t)) (some_over (env m) (passes m s) o (layout_in (env m) t).parts))
-const_same m s o (ArrayOf t n) = sym (no_head (covers (env m) o (record { offset = 0; t = ConstOf (ArrayOf t n) })) _)
-const_same m s o (StructTag n) = sym (no_head (covers (env m) o (record { offset = 0; t = ConstOf (StructTag n) })) _)
-const_same m s o (UnionTag n) = sym (no_head (covers (env m) o (record { offset = 0; t = ConstOf (UnionTag n) })) _)
-const_same m s o VoidTy = sym (no_head (covers (env m) o (record { offset = 0; t = ConstOf VoidTy })) _)
-const_same m s o (FunctionTy t ts v) = sym (no_head (covers (env m) o (record { offset = 0; t = ConstOf (FunctionTy t ts v) })) _)
-
-pub const_whole : (m : Known) (t e o : ℕ) (s : Sought) → tree m t ≡ ConstOf (tree m e) → some_over (env m) (passes m s) o (layout_in (env m) (tree m e)).parts ≡ some_over (env m) (passes m s) o (layout_in (env m) (tree m t)).parts
-const_whole m t e o s is = const_same m s o (tree m e) ∙ sym (ap (λ u. some_over (env m) (passes m s) o (layout_in (env m) u).parts) is)
+-- what is left, its qualifiers aside
+pub descent_to : (m : Known) (s : Sought) (t o left rest u : ℕ) → Stripped m u left
+    → (layout_in (env m) (tree m left)).size ≤ 2 ^ 32
+    → part_count (layout_in (env m) (tree m left)) ≤ part_count (layout_in (env m) (tree m t))
+    → some_over (env m) (passes m s) o (layout_in (env m) (tree m t)).parts ≡ some_over (env m) (passes m s) rest (layout_in (env m) (tree m left)).parts
+    → Descent m s t o u rest
+descent_to m s t o left rest u h small lower same =
+    let size = stripped_size m u left h in
+    let count = stripped_count m u left h in
+    record {
+      known = h.inner;
+      unqualified = stripped_unqualified m u left h;
+      complete = stripped_complete m u left h;
+      small = omega (arith, size, small);
+      lower = omega (arith, count, lower);
+      same = same ∙ sym (stripped_over m u left rest s h);
+    }
 
 pub joins_over : (env : List Entry) (f : ℕ → Ty → Bool) (o : ℕ) → Joins (some_over env f o)
 joins_over env f o = record { none = refl; both = λ xs ys. some_over-append env f o xs ys }

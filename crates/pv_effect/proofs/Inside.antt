@@ -2,9 +2,9 @@
 use Rattle.std.proofs.Common.{◌≡◌, ℕ, zero, suc, ◌+◌, ◌*◌, ◌<◌, ◌≤◌, max, Bool, true, false, IsTrue, List, [], ◌∷◌, ◌++◌, Some, None, refl, sym, ◌∙◌, ap, subst, arith}
 use Rattle.std.specs.Int.{next_multiple_of}
 use Rattle.pv_types.specs.Ty.{Ty, VoidTy, IntTy, PointerTo, ArrayOf, StructTag, UnionTag, FunctionTy, ConstOf}
-use Rattle.pv_types.specs.Layouts.{Part, Layout, Entry, Named, look, or_none, layout_in, layout_of, is_complete_in, struct_end, union_end, end_of, struct_parts, union_parts, member_parts, tag_type, shifted, repeated, part_count, AreComplete}
+use Rattle.pv_types.specs.Layouts.{Part, Layout, Entry, Named, look, or_none, layout_in, layout_of, is_complete_in, struct_end, union_end, end_of, struct_parts, union_parts, member_parts, tag_type, shifted, repeated, part_count, behind_whole, AreComplete}
 use Rattle.pv_types.specs.Known.{Known, env, named, is_union_in, IsBuilt}
-use Rattle.pv_types.proofs.Counted.{AreFewer, element_fewer, members_fewer}
+use Rattle.pv_types.proofs.Counted.{AreFewer, const_count, element_fewer, members_fewer}
 use Rattle.pv_types.proofs.Fills.{struct_end-ge, union_end-ge, left_true, right_true, lt_true}
 use Rattle.pv_types.proofs.Made.{made}
 use Rattle.pv_effect.proofs.Over.{AreInside}
@@ -79,19 +79,33 @@ made_inside m n built there one =
     let lower : AreFewer (env m) (part_count (or_none (look (env m) n))) (named m n) = rw whole (members_fewer (env m) n (is_union_in m.done n) (named m n)) in
     tag_inside (env m) n (is_union_in m.done n) (named m n) whole (all_inside (env m) _ (named m n) h.complete lower one)
 
+-- the parts behind the whole end where the others do
+AreInside-behind : (env : List Entry) (s : ℕ) (ps : List Part) → AreInside env s ps → AreInside env s (behind_whole ps)
+AreInside-behind env s [] i = tt
+AreInside-behind env s (p ∷ ps) i = i.1
+
+-- a type whose parts have this, where those with fewer parts have it
+inside_here : (m : Known) (h : ℕ) (t : Ty) → IsBuilt m → IsTrue (is_complete_in (env m) t) → part_count (layout_in (env m) t) < suc h
+    → ((u : Ty) → IsTrue (is_complete_in (env m) u) → part_count (layout_in (env m) u) < h → AreInside (env m) (layout_in (env m) u).size (layout_in (env m) u).parts)
+    → AreInside (env m) (layout_in (env m) t).size (layout_in (env m) t).parts
+inside_here m h (IntTy k) built c lt one = (omega arith, tt)
+inside_here m h (PointerTo t) built c lt one = (omega arith, tt)
+inside_here m h (ArrayOf t None) built c lt one = cc
+inside_here m h (ArrayOf t (Some n)) built c lt one =
+    let fewer = element_fewer (env m) t n (lt_true 0 n (left_true _ (is_complete_in (env m) t) c)) in
+    (omega arith, AreInside-repeated (env m) n (layout_in (env m) t).size (layout_in (env m) t).parts (one t (right_true _ _ c) (omega (arith, lt, fewer))))
+inside_here m h (StructTag n) built c lt one = made_inside m n built c (λ u d l. one u d (omega (arith, lt, l)))
+inside_here m h (UnionTag n) built c lt one = made_inside m n built c (λ u d l. one u d (omega (arith, lt, l)))
+inside_here m h (ConstOf t) built c lt one =
+    let more = const_count t (layout_in (env m) t) in
+    let all = inside_here m h t built c (omega (arith, lt, more)) one in
+    (omega arith, AreInside-behind (env m) (layout_in (env m) t).size (layout_in (env m) t).parts all)
+inside_here m h VoidTy built c lt one = cc
+inside_here m h (FunctionTy t ts v) built c lt one = cc
+
 inside_below : (m : Known) (h : ℕ) (t : Ty) → IsBuilt m → IsTrue (is_complete_in (env m) t) → part_count (layout_in (env m) t) < h → AreInside (env m) (layout_in (env m) t).size (layout_in (env m) t).parts
 inside_below m zero t built c lt = absurd (omega arith)
-inside_below m (suc h) (IntTy k) built c lt = (omega arith, tt)
-inside_below m (suc h) (PointerTo t) built c lt = (omega arith, tt)
-inside_below m (suc h) (ArrayOf t None) built c lt = cc
-inside_below m (suc h) (ArrayOf t (Some n)) built c lt =
-    let fewer = element_fewer (env m) t n (lt_true 0 n (left_true _ (is_complete_in (env m) t) c)) in
-    (omega arith, AreInside-repeated (env m) n (layout_in (env m) t).size (layout_in (env m) t).parts (inside_below m h t built (right_true _ _ c) (omega (arith, lt, fewer))))
-inside_below m (suc h) (StructTag n) built c lt = made_inside m n built c (λ t d l. inside_below m h t built d (omega (arith, lt, l)))
-inside_below m (suc h) (UnionTag n) built c lt = made_inside m n built c (λ t d l. inside_below m h t built d (omega (arith, lt, l)))
-inside_below m (suc h) (ConstOf t) built c lt = (omega arith, inside_below m h t built c (omega (arith, lt)))
-inside_below m (suc h) VoidTy built c lt = cc
-inside_below m (suc h) (FunctionTy t ts v) built c lt = cc
+inside_below m (suc h) t built c lt = inside_here m h t built c lt (λ u d l. inside_below m h u built d l)
 
 pub inside : (m : Known) (t : Ty) → IsBuilt m → IsTrue (is_complete_in (env m) t) → AreInside (env m) (layout_in (env m) t).size (layout_in (env m) t).parts
 inside m t built c = inside_below m (suc (part_count (layout_in (env m) t))) t built c (omega arith)

@@ -1,12 +1,10 @@
 -- Equal types are of equal numbers, and integer types agree where they are the same or counterparts.
-use Rattle.std.proofs.Common.{◌≡◌, ◌≢◌, ℕ, ◌/◌, ◌<◌, ◌≤◌, ◌^◌, Bool, true, false, ◌&&◌, ◌||◌, ◌==◌, Decides, Some, None, length, refl, sym, ◌∙◌, ap, arith, rules}
+use Rattle.std.proofs.Common.{◌≡◌, ◌≢◌, ℕ, ◌<◌, Bool, true, false, ◌&&◌, ◌||◌, ◌==◌, Decides, Some, None, length, refl, sym, ◌∙◌, ap, rules}
 use Rattle.std.specs.Bool.{beq}
 use Rattle.std.specs.declared.option.Option.{Option}
 use Rattle.std.proofs.lemmas.Bool.Decides.{Decides-eqb}
 use Rattle.pv_num.specs.declared.kinds.IntKind.{IntKind}
 use Rattle.pv_types.specs.Ty.{Ty, Tys, VoidTy, IntTy, PointerTo, ArrayOf, StructTag, UnionTag, FunctionTy, ConstOf, NoTys, MoreTys}
-use Rattle.pv_num.specs.declared.kinds.IntKind.TheVariants.{Bool as BoolKind}
-use Rattle.pv_num.specs.Kinds.{width}
 use Rattle.pv_types.specs.declared.terms.Term.{Term}
 use Rattle.pv_types.specs.declared.terms.Term.TheVariants.{Int}
 use Rattle.pv_types.specs.Compatible.{same_kind, are_compatible}

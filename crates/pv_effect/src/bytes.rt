@@ -1,6 +1,7 @@
 // The scalars of a type that one byte lies in.
 ghost use Rattle.std.specs.Prelude.{◌≡◌, ◌<◌, ◌≤◌, ◌^◌, ◌+◌, ◌&&◌, ◌||◌, nat_lt, ℕ, Bool, length, IsTrue, is_some, false, true};
 ghost use Rattle.pv_types.specs.Ty.{Ty};
+ghost use Rattle.pv_types.specs.Qualifiers.{is_const};
 ghost use Rattle.pv_types.specs.Known.{tree, env, named, is_union_in, IsBuilt};
 ghost use Rattle.pv_types.specs.Layouts.{layout_in, is_complete_in, look, or_none, struct_parts, union_parts, part_count};
 ghost use Rattle.pv_layout.specs.Parts.{leaves, is_scalar};
@@ -8,7 +9,7 @@ ghost use Rattle.pv_effect.specs.EffectiveType.{some_over, accepts};
 ghost use Rattle.pv_effect.specs.Searches.{is_sought, passes, comes_to, IsBelow, is_over_type, is_over_members, element_parts};
 
 use crate::kinds::{is_character, same_or_counterpart};
-use pv_layout::{last_deep, size};
+use pv_layout::{bare, last_deep, size};
 use pv_types::{Term, TypeId, Types};
 
 /// Which scalar a byte has to lie in.
@@ -37,7 +38,8 @@ pub(crate) fn lies_in(types: &Types, t: TypeId, offset: u64, sought: Sought) -> 
     found(types, t, offset, sought)
 }
 
-/// The same: a loop down to the scalar, so that a deep type needs no deep stack.
+/// The same: a loop down to the scalar, so that a deep type needs no deep stack. Qualifiers around a type change nothing
+/// of what it looks for, and are left out.
 #[cycle(found)]
 fn found(types: &Types, t: TypeId, offset: u64, sought: Sought) -> bool
     requires known { t.0 < length types.now.terms }
@@ -45,23 +47,24 @@ fn found(types: &Types, t: TypeId, offset: u64, sought: Sought) -> bool
     requires small { (layout_in (env types.now) (tree types.now t.0)).size ≤ 2 ^ 32 }
     ensures { result ≡ some_over (env types.now) (passes types.now sought) offset (layout_in (env types.now) (tree types.now t.0)).parts }
 {
-    let mut at = t;
+    let mut at = bare(types, t);
     let mut rest = offset;
     loop {
         match below(types, at, rest, sought) {
             Search::Settled(answer) => return answer,
             Search::In { t, offset } => {
-                at = t;
+                at = bare(types, t);
                 rest = offset;
             }
         }
     }
 }
 
-/// Where in the type to look for the byte.
+/// Where in the type, which has no qualifiers around it, to look for the byte.
 #[cycle(found)]
 fn below(types: &Types, t: TypeId, offset: u64, sought: Sought) -> Search
     requires known { t.0 < length types.now.terms }
+    requires unqualified { is_const (tree types.now t.0) ≡ false }
     requires complete { IsTrue (is_complete_in (env types.now) (tree types.now t.0)) }
     requires small { (layout_in (env types.now) (tree types.now t.0)).size ≤ 2 ^ 32 }
     ensures value { comes_to (passes types.now sought) types.now result ≡ some_over (env types.now) (passes types.now sought) offset (layout_in (env types.now) (tree types.now t.0)).parts }
@@ -69,11 +72,11 @@ fn below(types: &Types, t: TypeId, offset: u64, sought: Sought) -> Search
 {
     match types.view(t) {
         Term::Array(element, Some(n)) => in_array(types, element, n, offset),
-        Term::Const(inner) => Search::In { t: inner, offset },
         Term::Struct(tag) => in_structure(types, tag, offset),
         Term::Union(tag) => in_union(types, tag, offset, sought),
         Term::Int(_) | Term::Pointer(_) => Search::Settled(in_scalar(types, t, offset, sought)),
-        Term::Void | Term::Array(_, None) | Term::Function { .. } => Search::Settled(false),
+        Term::Void | Term::Array(_, None) | Term::Function { .. } | Term::Const(_) =>
+            Search::Settled(false),
     }
 }
 

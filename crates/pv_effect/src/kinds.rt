@@ -1,26 +1,11 @@
 // What kind of type it is, qualifiers aside.
 ghost use Rattle.std.specs.Prelude.{◌≡◌, ◌<◌, ◌||◌, length};
-ghost use Rattle.pv_types.specs.Known.{tree, IsBuilt};
-ghost use Rattle.pv_layout.specs.Places.{bare};
+ghost use Rattle.pv_types.specs.Known.{tree};
 ghost use Rattle.pv_effect.specs.EffectiveType.{is_character, is_character_kind, is_composite, same_or_counterpart};
 
-use pv_layout::leaf_at;
+use pv_layout::{bare, leaf_at};
 use pv_num::IntKind;
 use pv_types::{Term, TypeId, Types};
-
-/// The type without the qualifiers around it.
-fn bare(types: &Types, t: TypeId) -> TypeId
-    requires { t.0 < length types.now.terms }
-    ensures known { result.0 < length types.now.terms }
-    ensures tree { tree types.now result.0 ≡ bare (tree types.now t.0) }
-    ensures built { IsBuilt types.now }
-{
-    let mut at = t;
-    while let Term::Const(inner) = types.view(at) {
-        at = inner;
-    }
-    at
-}
 
 /// Whether the integer type is a character type (C17 6.2.5p15).
 fn is_character_kind(kind: IntKind) -> bool

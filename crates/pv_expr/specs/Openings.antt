@@ -1,9 +1,10 @@
 -- What stands before an operand: an operator, a type name in parentheses, a parenthesis.
-use Rattle.std.specs.Prelude.{◌≡◌, ◌≤◌, ℕ, Bool, false, List, length, drop, Option, Some, MatchOption, option_and_then}
+use Rattle.std.specs.Prelude.{◌≡◌, ◌≤◌, ℕ, Bool, false, List, length, drop, Option, Some, None, MatchOption, option_and_then}
 use Rattle.pv_token.specs.declared.token_table.Token.{Token}
 use Rattle.pv_token.specs.declared.token_table.TokenKind.{TokenKind}
+use Rattle.pv_tree.specs.declared.nodes.NodeId.{NodeId}
 use Rattle.pv_tree.specs.Grammar.{Names}
-use Rattle.pv_tree.specs.Syntax.{ExpressionTree, Cast}
+use Rattle.pv_tree.specs.Syntax.{ExpressionTree, Cast, DeclarationTree}
 use Rattle.pv_tree.specs.Tables.{Forest, Tables, declaration_at, is_declaration, Is}
 use Rattle.pv_expr_forms.specs.Follows.{prefix_operand, prefixed}
 use Rattle.pv_expr_forms.specs.Parts.{leaf_of, measures_type}
@@ -37,3 +38,8 @@ abbrev pub OpensAt : Names → (is_type : ℕ → Bool) → Tables → List Toke
 OpensAt names is_type u tokens kind at below answer = let behind = drop at tokens in MatchOption answer
     ((read : Reads) (line : ℕ) → measures_type names kind behind ≡ false → leaf_of is_type line kind behind ≡ head_of names read below line kind behind)
     (λ x. ((read : Reads) (line : ℕ) → measures_type names kind behind ≡ false → opened_by u.forest read line x.0 (drop x.1 tokens) ≡ head_of names read below line kind behind) × IsOpening u x.0 × (x.1 ≤ length tokens))
+
+-- the type name (6.7.7) that is found, if one is, is a node of the unit and what reading on lists gives, and the place behind it is among the tokens
+abbrev pub IsTypeName : Tables → List Token → Option (NodeId × ℕ) → Option (DeclarationTree × List Token) → Type 0
+IsTypeName u tokens answer reading = MatchOption answer (reading ≡ None)
+    (λ x. (reading ≡ Some (declaration_at u.forest x.0, drop x.1 tokens)) × Is u is_declaration x.0 × (x.1 ≤ length tokens))

@@ -5,9 +5,9 @@
 #![tactic(auto)]
 
 mod nodes;
+mod openings;
 mod parser;
 mod reading;
-mod source;
 
 pub use parser::expression;
 pub use pv_expr_forms::Level;

@@ -1,12 +1,11 @@
 //! The finished trees of a unit, and new ones made of them.
-ghost use Rattle.std.specs.Prelude.{◌≡◌, ◌≤◌, ◌<◌, ◌+◌, ◌^◌, All, length, Some, nat_eq};
+ghost use Rattle.std.specs.Prelude.{◌≡◌, ◌≤◌, All, length, Some, nat_eq};
 ghost use Rattle.indexmap.specs.IndexSet.{contains};
 ghost use Rattle.pv_tree.specs.Children.{HasExprChildren};
 ghost use Rattle.pv_tree.specs.Depths.{expression_depth, declaration_depth};
 ghost use Rattle.pv_tree.specs.Levels.{rank};
 ghost use Rattle.pv_tree.specs.Lines.{expression_line};
 ghost use Rattle.pv_tree.specs.Nodes.{expression_of};
-ghost use Rattle.pv_tree.specs.Rows.{tables};
 ghost use Rattle.pv_tree.specs.Syntax.{Member, Arrow};
 ghost use Rattle.pv_tree.specs.Tables.{expression_at, declaration_at, arguments_of, is_expression, is_declaration, Is, Extends};
 ghost use Rattle.pv_expr_forms.specs.Follows.{joined, prefixed};
@@ -50,32 +49,32 @@ impl Opening {
 
 /// The tightest level that an expression belongs to.
 pub(crate) fn rank_of(unit: &Unit, n: NodeId) -> u8
-    requires { Is (tables unit.now) is_expression n }
-    ensures { result ≡ rank (expression_at (tables unit.now).forest n) }
+    requires { Is unit.now is_expression n }
+    ensures { result ≡ rank (expression_at unit.now.forest n) }
 {
     rank(unit.expr(n))
 }
 
 /// The depth of an expression.
 pub(crate) fn depth_of(unit: &Unit, n: NodeId) -> u32
-    requires { Is (tables unit.now) is_expression n }
-    ensures { result ≡ expression_depth (expression_at (tables unit.now).forest n) }
+    requires { Is unit.now is_expression n }
+    ensures { result ≡ expression_depth (expression_at unit.now.forest n) }
 {
     unit.depth(n)
 }
 
 /// The depth of a type name.
 pub(crate) fn type_depth(unit: &Unit, n: NodeId) -> u32
-    requires { Is (tables unit.now) is_declaration n }
-    ensures { result ≡ declaration_depth (declaration_at (tables unit.now).forest n) }
+    requires { Is unit.now is_declaration n }
+    ensures { result ≡ declaration_depth (declaration_at unit.now.forest n) }
 {
     unit.depth(n)
 }
 
 /// The line of the first token of an expression.
 pub(crate) fn line_of(unit: &Unit, n: NodeId) -> u32
-    requires { Is (tables unit.now) is_expression n }
-    ensures { result ≡ expression_line (expression_at (tables unit.now).forest n) }
+    requires { Is unit.now is_expression n }
+    ensures { result ≡ expression_line (expression_at unit.now.forest n) }
 {
     unit.line(n)
 }
@@ -89,9 +88,9 @@ pub(crate) fn found(
     into: &mut Unit,
 ) -> Result<Option<(NodeId, u32)>, NoMemory>
     requires place { next ≤ length tokens.now.tokens }
-    requires children { HasExprChildren (tables into.old).forest (length (tables into.old).forest.trees) expr }
-    ensures keeps { Extends (tables into.old) (tables into.new) }
-    ensures ok { AnswersAt (tables into.new) tokens.now.tokens next result (λ ts. Some (expression_of (tables into.old).forest line expr, ts)) }
+    requires children { HasExprChildren into.old.forest (length into.old.forest.trees) expr }
+    ensures keeps { Extends into.old into.new }
+    ensures ok { AnswersAt into.new tokens.now.tokens next result (λ ts. Some (expression_of into.old.forest line expr, ts)) }
 {
     Ok(Some((into.add_expr(expr, line)?, next)))
 }
@@ -107,8 +106,8 @@ pub(crate) fn leaf(
     into: &mut Unit,
 ) -> Result<Option<(NodeId, u32)>, NoMemory>
     requires { at ≤ length tokens.now.tokens }
-    ensures keeps { Extends (tables into.old) (tables into.new) }
-    ensures ok { AnswersAt (tables into.new) tokens.now.tokens at result (leaf_of (contains nat_eq typedefs.now) token.line token.kind) }
+    ensures keeps { Extends into.old into.new }
+    ensures ok { AnswersAt into.new tokens.now.tokens at result (leaf_of (contains nat_eq typedefs.now) token.line token.kind) }
 {
     let line = token.line;
     match token.kind {
@@ -154,9 +153,9 @@ fn close(
     into: &mut Unit,
 ) -> Result<Option<(NodeId, u32)>, NoMemory>
     requires place { at ≤ length tokens.now.tokens }
-    requires inside { Is (tables into.old) is_expression inside }
-    ensures keeps { Extends (tables into.old) (tables into.new) }
-    ensures ok { AnswersAt (tables into.new) tokens.now.tokens at result (closed line (expression_at (tables into.old).forest inside)) }
+    requires inside { Is into.old is_expression inside }
+    ensures keeps { Extends into.old into.new }
+    ensures ok { AnswersAt into.new tokens.now.tokens at result (closed line (expression_at into.old.forest inside)) }
 {
     match after_close(tokens, at) {
         Some(next) => found(tokens, next, Expr::Paren(inside), line, into),
@@ -174,10 +173,10 @@ fn index(
     into: &mut Unit,
 ) -> Result<Option<(NodeId, u32)>, NoMemory>
     requires place { at ≤ length tokens.now.tokens }
-    requires array { Is (tables into.old) is_expression array }
-    requires index { Is (tables into.old) is_expression index }
-    ensures keeps { Extends (tables into.old) (tables into.new) }
-    ensures ok { AnswersAt (tables into.new) tokens.now.tokens at result (indexed (expression_at (tables into.old).forest array) (expression_at (tables into.old).forest index)) }
+    requires array { Is into.old is_expression array }
+    requires index { Is into.old is_expression index }
+    ensures keeps { Extends into.old into.new }
+    ensures ok { AnswersAt into.new tokens.now.tokens at result (indexed (expression_at into.old.forest array) (expression_at into.old.forest index)) }
 {
     match after_bracket(tokens, at) {
         Some(next) => {
@@ -198,9 +197,9 @@ fn member(
     into: &mut Unit,
 ) -> Result<Option<(NodeId, u32)>, NoMemory>
     requires place { at ≤ length tokens.now.tokens }
-    requires whole { Is (tables into.old) is_expression whole }
-    ensures keeps { Extends (tables into.old) (tables into.new) }
-    ensures ok { AnswersAt (tables into.new) tokens.now.tokens at result (named (contains nat_eq typedefs.now) (Member (expression_line (expression_at (tables into.old).forest whole)) (expression_at (tables into.old).forest whole))) }
+    requires whole { Is into.old is_expression whole }
+    ensures keeps { Extends into.old into.new }
+    ensures ok { AnswersAt into.new tokens.now.tokens at result (named (contains nat_eq typedefs.now) (Member (expression_line (expression_at into.old.forest whole)) (expression_at into.old.forest whole))) }
 {
     match name_next(tokens, typedefs, at) {
         Some((name, next)) => {
@@ -221,9 +220,9 @@ fn arrow(
     into: &mut Unit,
 ) -> Result<Option<(NodeId, u32)>, NoMemory>
     requires place { at ≤ length tokens.now.tokens }
-    requires pointer { Is (tables into.old) is_expression pointer }
-    ensures keeps { Extends (tables into.old) (tables into.new) }
-    ensures ok { AnswersAt (tables into.new) tokens.now.tokens at result (named (contains nat_eq typedefs.now) (Arrow (expression_line (expression_at (tables into.old).forest pointer)) (expression_at (tables into.old).forest pointer))) }
+    requires pointer { Is into.old is_expression pointer }
+    ensures keeps { Extends into.old into.new }
+    ensures ok { AnswersAt into.new tokens.now.tokens at result (named (contains nat_eq typedefs.now) (Arrow (expression_line (expression_at into.old.forest pointer)) (expression_at into.old.forest pointer))) }
 {
     match name_next(tokens, typedefs, at) {
         Some((name, next)) => {
@@ -245,10 +244,10 @@ pub(crate) fn enclosed(
     into: &mut Unit,
 ) -> Result<Option<(NodeId, u32)>, NoMemory>
     requires place { at ≤ length tokens.now.tokens }
-    requires form { IsOpening (tables into.old) form }
-    requires operand { Is (tables into.old) is_expression operand }
-    ensures keeps { Extends (tables into.old) (tables into.new) }
-    ensures ok { AnswersAt (tables into.new) tokens.now.tokens at result (enclosed (tables into.old).forest line form (expression_at (tables into.old).forest operand)) }
+    requires form { IsOpening into.old form }
+    requires operand { Is into.old is_expression operand }
+    ensures keeps { Extends into.old into.new }
+    ensures ok { AnswersAt into.new tokens.now.tokens at result (enclosed into.old.forest line form (expression_at into.old.forest operand)) }
 {
     match form {
         Opening::Paren => close(tokens, at, operand, line, into),
@@ -267,8 +266,8 @@ pub(crate) fn follow_at(
     unit: &Unit,
 ) -> Option<Follow>
     requires place { at ≤ length tokens.now.tokens }
-    requires left { Is (tables unit.now) is_expression left }
-    ensures { GoesOnAt tokens.now.tokens at level below (expression_at (tables unit.now).forest left) result }
+    requires left { Is unit.now is_expression left }
+    ensures { GoesOnAt tokens.now.tokens at level below (expression_at unit.now.forest left) result }
 {
     if depth_of(unit, left) > below {
         return None;
@@ -307,9 +306,9 @@ pub(crate) fn suffixed(
     into: &mut Unit,
 ) -> Result<Option<(NodeId, u32)>, NoMemory>
     requires place { at ≤ length tokens.now.tokens }
-    requires tree { Is (tables into.old) is_expression tree }
-    ensures keeps { Extends (tables into.old) (tables into.new) }
-    ensures ok { AnswersAt (tables into.new) tokens.now.tokens at result (suffixed (contains nat_eq typedefs.now) (expression_at (tables into.old).forest tree) follow) }
+    requires tree { Is into.old is_expression tree }
+    ensures keeps { Extends into.old into.new }
+    ensures ok { AnswersAt into.new tokens.now.tokens at result (suffixed (contains nat_eq typedefs.now) (expression_at into.old.forest tree) follow) }
 {
     let line = line_of(into, tree);
     match follow {
@@ -333,10 +332,10 @@ pub(crate) fn combined(
     into: &mut Unit,
 ) -> Result<Option<(NodeId, u32)>, NoMemory>
     requires place { at ≤ length tokens.now.tokens }
-    requires left { Is (tables into.old) is_expression left }
-    requires right { Is (tables into.old) is_expression right }
-    ensures keeps { Extends (tables into.old) (tables into.new) }
-    ensures ok { AnswersAt (tables into.new) tokens.now.tokens at result (combined (expression_at (tables into.old).forest left) (expression_at (tables into.old).forest right) follow) }
+    requires left { Is into.old is_expression left }
+    requires right { Is into.old is_expression right }
+    ensures keeps { Extends into.old into.new }
+    ensures ok { AnswersAt into.new tokens.now.tokens at result (combined (expression_at into.old.forest left) (expression_at into.old.forest right) follow) }
 {
     match follow {
         Follow::Join(op) => joined(tokens, at, op, left, right, into),
@@ -355,9 +354,9 @@ fn prefixed(
     into: &mut Unit,
 ) -> Result<Option<(NodeId, u32)>, NoMemory>
     requires place { at ≤ length tokens.now.tokens }
-    requires operand { Is (tables into.old) is_expression operand }
-    ensures keeps { Extends (tables into.old) (tables into.new) }
-    ensures ok { AnswersAt (tables into.new) tokens.now.tokens at result (λ ts. Some (prefixed line op (expression_at (tables into.old).forest operand), ts)) }
+    requires operand { Is into.old is_expression operand }
+    ensures keeps { Extends into.old into.new }
+    ensures ok { AnswersAt into.new tokens.now.tokens at result (λ ts. Some (prefixed line op (expression_at into.old.forest operand), ts)) }
 {
     let expr = match op {
         Prefix::Increment => Expr::PreIncrement(operand),
@@ -379,10 +378,10 @@ fn joined(
     into: &mut Unit,
 ) -> Result<Option<(NodeId, u32)>, NoMemory>
     requires place { at ≤ length tokens.now.tokens }
-    requires left { Is (tables into.old) is_expression left }
-    requires right { Is (tables into.old) is_expression right }
-    ensures keeps { Extends (tables into.old) (tables into.new) }
-    ensures ok { AnswersAt (tables into.new) tokens.now.tokens at result (λ ts. Some (joined op (expression_at (tables into.old).forest left) (expression_at (tables into.old).forest right), ts)) }
+    requires left { Is into.old is_expression left }
+    requires right { Is into.old is_expression right }
+    ensures keeps { Extends into.old into.new }
+    ensures ok { AnswersAt into.new tokens.now.tokens at result (λ ts. Some (joined op (expression_at into.old.forest left) (expression_at into.old.forest right), ts)) }
 {
     let line = line_of(into, left);
     let expr = match op {
@@ -402,10 +401,10 @@ pub(crate) fn call(
     into: &mut Unit,
 ) -> Result<Option<(NodeId, u32)>, NoMemory>
     requires place { at ≤ length tokens.now.tokens }
-    requires callee { Is (tables into.old) is_expression callee }
-    requires arguments { All (λ n. Is (tables into.old) is_expression n) arguments.now }
-    ensures keeps { Extends (tables into.old) (tables into.new) }
-    ensures ok { AnswersAt (tables into.new) tokens.now.tokens at result (λ ts. Some (called_with (expression_at (tables into.old).forest callee) (arguments_of (tables into.old).forest arguments.now), ts)) }
+    requires callee { Is into.old is_expression callee }
+    requires arguments { All (λ n. Is into.old is_expression n) arguments.now }
+    ensures keeps { Extends into.old into.new }
+    ensures ok { AnswersAt into.new tokens.now.tokens at result (λ ts. Some (called_with (expression_at into.old.forest callee) (arguments_of into.old.forest arguments.now), ts)) }
 {
     let line = line_of(into, callee);
     let list = into.add_list(arguments)?;

@@ -1,16 +1,15 @@
 //! Expressions of a level (C17 6.5).
-ghost use Rattle.std.specs.Prelude.{◌≡◌, ◌≤◌, ℕ, length, None, IfOk, IfSome};
+ghost use Rattle.std.specs.Prelude.{◌≡◌, None, IfOk};
 ghost use Rattle.pv_tree.specs.Grammar.{Spells};
-ghost use Rattle.pv_tree.specs.Rows.{tables};
-ghost use Rattle.pv_tree.specs.Syntax.{ExpressionTree};
 ghost use Rattle.pv_tree.specs.Tables.{expression_at, is_expression, Is, Extends};
 ghost use Rattle.pv_tree.specs.TypeNames.{AreTied};
 ghost use Rattle.pv_expr_forms.specs.Known.{names_in};
 ghost use Rattle.pv_expr_forms.specs.Numbers.{level_number};
+ghost use Rattle.pv_expr_forms.specs.Spelled.{IsSpelled, IsLongest, IsOnly, NothingSpells};
 
-use crate::source::Source;
+use crate::reading::read_tree;
 use indexmap::IndexSet;
-use pv_expr_forms::Level;
+use pv_expr_forms::{Level, Source};
 use pv_token::{NoMemory, Tokens};
 use pv_tree::{NodeId, TypeReader, Unit};
 
@@ -31,25 +30,21 @@ pub fn expression<R: TypeReader>(
     into: &mut Unit,
     reader: &R,
 ) -> Result<Option<(NodeId, u32)>, NoMemory>
-    requires { AreTied (R.types reader.now) (tables into.old) t.now.tokens }
+    requires { AreTied (R.types reader.now) into.old t.now.tokens }
     // Older nodes stay, also on a refusal.
-    ensures keeps { Extends (tables into.old) (tables into.new) }
+    ensures keeps { Extends into.old into.new }
     // What is found spells the tokens up to the place.
-    ensures found { let names = names_in types.now (R.types reader.now) (tables into.old) t.now.tokens in
-        IfOk result (λ r. IfSome r (λ x. Is (tables into.new) is_expression x.0 × (at ≤ x.1) × (x.1 ≤ length t.now.tokens)
-        × Spells names (level_number level) depth t.now.tokens at x.1 (expression_at (tables into.new).forest x.0))) }
+    ensures found { let spells = Spells (names_in types.now (R.types reader.now) into.old t.now.tokens) (level_number level) depth t.now.tokens at in
+        IfOk result (λ r. IsSpelled spells (Is into.new is_expression) (expression_at into.new.forest) t.now.tokens at r) }
     // No tree spells more.
-    ensures longest { let names = names_in types.now (R.types reader.now) (tables into.old) t.now.tokens in
-        IfOk result (λ r. IfSome r (λ x. (a : ExpressionTree) (end : ℕ) → at ≤ end → end ≤ length t.now.tokens
-        → Spells names (level_number level) depth t.now.tokens at end a → end ≤ x.1)) }
+    ensures longest { let spells = Spells (names_in types.now (R.types reader.now) into.old t.now.tokens) (level_number level) depth t.now.tokens at in
+        IfOk result (λ r. IsLongest spells t.now.tokens at r) }
     // No other tree spells the same.
-    ensures only { let names = names_in types.now (R.types reader.now) (tables into.old) t.now.tokens in
-        IfOk result (λ r. IfSome r (λ x. (a : ExpressionTree) → Spells names (level_number level) depth t.now.tokens at x.1 a
-        → a ≡ expression_at (tables into.new).forest x.0)) }
+    ensures only { let spells = Spells (names_in types.now (R.types reader.now) into.old t.now.tokens) (level_number level) depth t.now.tokens at in
+        IfOk result (λ r. IsOnly spells (expression_at into.new.forest) r) }
     // Where nothing is found, no tree spells anything.
-    ensures none { let names = names_in types.now (R.types reader.now) (tables into.old) t.now.tokens in
-        IfOk result (λ r. r ≡ None → (a : ExpressionTree) (end : ℕ) → at ≤ end → end ≤ length t.now.tokens
-        → Spells names (level_number level) depth t.now.tokens at end a → ⊥) }
+    ensures none { let spells = Spells (names_in types.now (R.types reader.now) into.old t.now.tokens) (level_number level) depth t.now.tokens at in
+        IfOk result (λ r. r ≡ None → NothingSpells spells t.now.tokens at) }
 {
     if at > t.len() {
         return Ok(None);
@@ -59,5 +54,5 @@ pub fn expression<R: TypeReader>(
         typedefs: types,
         reader,
     };
-    source.read_tree(at, level.number(), depth, into)
+    read_tree(&source, at, level.number(), depth, into)
 }

@@ -34,7 +34,8 @@ text_is : (n : ℕ) (k : TokenKind) → is_text n k ≡ true → k ≡ kind.Text
 text_is n (kind.Text m) e = ap (λ (x : ℕ). kind.Text x) (eqb-true m n e)
 text_is n _ e = absurd cc
 
-after_is : (test : TokenKind → Bool) (k : TokenKind) → ((x : TokenKind) → test x ≡ true → x ≡ k) → (ts rest : List Token) → after test ts ≡ Some rest
+-- a token that is found stands there, if the test is for one kind
+pub after_is : (test : TokenKind → Bool) (k : TokenKind) → ((x : TokenKind) → test x ≡ true → x ≡ k) → (ts rest : List Token) → after test ts ≡ Some rest
     → Takes (k ∷ []) ts rest
 after_is test k is [] rest e = absurd cc
 after_is test k is (t ∷ ts) rest e =

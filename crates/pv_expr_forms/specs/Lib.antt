@@ -4,3 +4,5 @@ pub mod Known
 pub mod Numbers
 pub mod Parts
 pub mod Answers
+pub mod Spelled
+pub mod Sources

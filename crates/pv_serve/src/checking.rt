@@ -2,7 +2,6 @@
 ghost use Rattle.std.specs.Prelude.{◌^◌, ◌≤◌, List, ℕ, length, IfOk, IfErr};
 ghost use Rattle.pv_lex.specs.Lexes.{Lexes};
 ghost use Rattle.pv_lex.specs.Faults.{LiesWithin};
-ghost use Rattle.pv_tree.specs.Rows.{tables};
 ghost use Rattle.pv_tree.specs.Units.{SpellUnit};
 ghost use Rattle.pv_unit.specs.Checking.{externals_in, IsNamed};
 ghost use Rattle.pv_serve.specs.Readings.{reading_of, IsReady, IsWordOf, IsNameOf, HasParts};
@@ -99,8 +98,8 @@ fn of_unit(
     tokens: &Tokens,
     unit: &Unit,
 ) -> Result<Result<TypedUnit, Refused>, NoMemory>
-    requires { SpellUnit tokens.now.tokens (externals_in (tables unit.now)) }
-    ensures comes { IfOk result (λ r. UnitComes tokens.now (externals_in (tables unit.now)) (reading_of r)) }
+    requires { SpellUnit tokens.now.tokens (externals_in unit.now) }
+    ensures comes { IfOk result (λ r. UnitComes tokens.now (externals_in unit.now) (reading_of r)) }
     ensures parts { (source : List ℕ) → Lexes source tokens.now → IfOk result (λ r. IfErr r (HasParts source)) }
     ensures ready { IfOk result IsReady }
 {

@@ -1,2 +1,2 @@
 pub mod Behind
-pub mod Sources
+pub mod Inner

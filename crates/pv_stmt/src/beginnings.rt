@@ -1,8 +1,7 @@
 //! The first external declarations of some tokens (C17 6.9).
-ghost use Rattle.std.specs.Prelude.{◌≡◌, ◌≤◌, ℕ, List, length, None, IfOk, IfSome, nat_eq};
+ghost use Rattle.std.specs.Prelude.{◌≡◌, ◌≤◌, ℕ, List, length, None, IfOk, IfSome};
 ghost use Rattle.indexmap.specs.IndexSet.{IsEmpty};
 ghost use Rattle.pv_token.specs.declared.token_table.Token.{Token};
-ghost use Rattle.pv_tree.specs.Rows.{tables};
 ghost use Rattle.pv_tree.specs.Syntax.{DeclarationTree};
 ghost use Rattle.pv_tree.specs.Tables.{no_tables};
 ghost use Rattle.pv_tree.specs.Units.{no_types, SpellExternals, IsWhole};
@@ -37,7 +36,7 @@ fn place_behind(
     into: &mut Unit,
 ) -> Result<Option<u32>, NoMemory>
     requires types { IsEmpty types.old }
-    requires unit { tables into.old ≡ no_tables }
+    requires unit { into.old ≡ no_tables }
     ensures place { IfOk result (λ r. IfSome r (λ place. IsBehind t.now.tokens count place)) }
     ensures none { IfOk result (λ r. r ≡ None → (place : ℕ) → IsBehind t.now.tokens count place → ⊥) }
 {

@@ -1,75 +1,74 @@
 //! One external declaration: a declaration or a function definition (C17 6.9).
 ghost use Rattle.std.specs.Prelude.{◌≡◌, ◌≤◌, length, Some, None, IfOk, IfSome, nat_eq};
 ghost use Rattle.indexmap.specs.IndexSet.{contains};
-ghost use Rattle.pv_tree.specs.Rows.{tables};
 ghost use Rattle.pv_tree.specs.Tables.{is_specifier, is_declarator, is_external, Is, HasList, Extends};
 ghost use Rattle.pv_tree.specs.Units.{depth_limit};
 ghost use Rattle.pv_stmt_forms.specs.Statements.{statement};
 ghost use Rattle.pv_stmt_forms.specs.Externals.{external};
 ghost use Rattle.pv_stmt_forms.specs.Found.{IsExternalAt, function_at};
-ghost use Rattle.pv_stmt.specs.Sources.{known_names, AreKnown, ReadsFrom};
+ghost use Rattle.pv_expr_forms.specs.Sources.{known_names, IsReady};
+ghost use Rattle.pv_decl_forms.specs.Sources.{ReadsFrom};
 
-use crate::source::Source;
+use crate::parts::declaration;
+use crate::reading::statement;
 use indexmap::IndexSet;
 use pv_decl::type_names;
 use pv_decl_forms::DEPTH_LIMIT;
+use pv_expr_forms::Source;
 use pv_stmt_forms::region_end;
 use pv_token::{NoMemory, Tokens};
 use pv_tree::{Decl, ListId, NodeId, TypeReader, Unit};
 use std::alloc::Global;
 
-impl<R: TypeReader> Source<'_, R> {
-    /// The longest external declaration at a place, and the place behind it (C17 6.9p1).
-    #[tactic(auto, using(pv_expr_forms::proofs::Naming::tied_kept))]
-    fn external(&self, at: u32, into: &mut Unit) -> Result<Option<(NodeId, u32)>, NoMemory>
-        requires place { at ≤ length self.now.tokens.now.tokens }
-        requires tied { AreKnown R.types self.now (tables into.old) }
-        ensures keeps { Extends (tables into.old) (tables into.new) }
-        ensures ok { ReadsFrom self.now at (tables into.new) is_external result (external (known_names R.types self.now (tables into.old)) depth_limit) }
-    {
-        let Some((head, next)) = self.declaration(at, DEPTH_LIMIT, into)? else {
-            return Ok(None);
-        };
-        match into.decl(head) {
-            Decl::Declaration { .. } => Ok(Some((head, next))),
-            Decl::Parameter { specs, declarator } => {
-                let Some(declarator) = declarator else {
-                    return Ok(None);
-                };
-                let line = into.line(head);
-                self.function(next, specs, declarator, line, into)
-            }
-            _ => Ok(None),
+/// The longest external declaration at a place, and the place behind it (C17 6.9p1).
+fn read_external<R: TypeReader>(
+    source: &Source<'_, R>,
+    at: u32,
+    into: &mut Unit,
+) -> Result<Option<(NodeId, u32)>, NoMemory>
+    requires { IsReady R.types source.now into.old at }
+    ensures { ReadsFrom source.now at into.old into.new is_external result (external (known_names R.types source.now into.old) depth_limit) }
+{
+    let Some((head, next)) = declaration(source, at, DEPTH_LIMIT, into)? else {
+        return Ok(None);
+    };
+    match into.decl(head) {
+        Decl::Declaration { .. } => Ok(Some((head, next))),
+        Decl::Parameter { specs, declarator } => {
+            let Some(declarator) = declarator else {
+                return Ok(None);
+            };
+            let line = into.line(head);
+            function(source, next, specs, declarator, line, into)
         }
+        _ => Ok(None),
     }
+}
 
-    /// The function definition whose specifiers and declarator are nodes, and whose block begins at
-    /// a place (C17 6.9.1p1), and the place behind it.
-    fn function(
-        &self,
-        at: u32,
-        specs: ListId,
-        declarator: NodeId,
-        line: u32,
-        into: &mut Unit,
-    ) -> Result<Option<(NodeId, u32)>, NoMemory>
-        requires place { at ≤ length self.now.tokens.now.tokens }
-        requires tied { AreKnown R.types self.now (tables into.old) }
-        requires specs { HasList (tables into.old).forest (length (tables into.old).forest.trees) is_specifier specs }
-        requires declarator { Is (tables into.old) is_declarator declarator }
-        ensures keeps { Extends (tables into.old) (tables into.new) }
-        ensures ok { ReadsFrom self.now at (tables into.new) is_external result (λ ts. function_at (tables into.old).forest line specs declarator (statement (known_names R.types self.now (tables into.old)) 499 ts)) }
-    {
-        let Some((block, end)) = self.statement(at, DEPTH_LIMIT - 1, into)? else {
-            return Ok(None);
-        };
-        let function = Decl::Function {
-            specs,
-            declarator,
-            block,
-        };
-        Ok(Some((into.add_decl(function, line)?, end)))
-    }
+/// The function definition whose specifiers and declarator are nodes, and whose block begins at
+/// a place (C17 6.9.1p1), and the place behind it.
+fn function<R: TypeReader>(
+    source: &Source<'_, R>,
+    at: u32,
+    specs: ListId,
+    declarator: NodeId,
+    line: u32,
+    into: &mut Unit,
+) -> Result<Option<(NodeId, u32)>, NoMemory>
+    requires ready { IsReady R.types source.now into.old at }
+    requires specs { HasList into.old.forest (length into.old.forest.trees) is_specifier specs }
+    requires declarator { Is into.old is_declarator declarator }
+    ensures { ReadsFrom source.now at into.old into.new is_external result (λ ts. function_at into.old.forest line specs declarator (statement (known_names R.types source.now into.old) 499 ts)) }
+{
+    let Some((block, end)) = statement(source, at, DEPTH_LIMIT - 1, into)? else {
+        return Ok(None);
+    };
+    let function = Decl::Function {
+        specs,
+        declarator,
+        block,
+    };
+    Ok(Some((into.add_decl(function, line)?, end)))
 }
 
 /// The external declaration at a place and the place behind it, where type names are known up to
@@ -83,9 +82,9 @@ fn read_up_to(
     into: &mut Unit,
 ) -> Result<Option<(NodeId, u32)>, NoMemory>
     requires { at ≤ length t.now.tokens }
-    ensures keeps { Extends (tables into.old) (tables into.new) }
-    ensures found { IfOk result (λ r. IfSome r (λ x. IsExternalAt (tables into.new) (contains nat_eq types.now) t.now.tokens at (Some x))) }
-    ensures none { length t.now.tokens ≤ to → IfOk result (λ r. r ≡ None → IsExternalAt (tables into.new) (contains nat_eq types.now) t.now.tokens at None) }
+    ensures keeps { Extends into.old into.new }
+    ensures found { IfOk result (λ r. IfSome r (λ x. IsExternalAt into.new (contains nat_eq types.now) t.now.tokens at (Some x))) }
+    ensures none { length t.now.tokens ≤ to → IfOk result (λ r. r ≡ None → IsExternalAt into.new (contains nat_eq types.now) t.now.tokens at None) }
 {
     let names = type_names(alloc, t, at, to, types, into)?;
     let source = Source {
@@ -93,7 +92,7 @@ fn read_up_to(
         typedefs: types,
         reader: &names,
     };
-    source.external(at, into)
+    read_external(&source, at, into)
 }
 
 /// The external declaration at a place, and the place behind it (C17 6.9p1).
@@ -108,8 +107,8 @@ pub(crate) fn external(
     into: &mut Unit,
 ) -> Result<Option<(NodeId, u32)>, NoMemory>
     requires { at ≤ length t.now.tokens }
-    ensures keeps { Extends (tables into.old) (tables into.new) }
-    ensures ok { IfOk result (λ r. IsExternalAt (tables into.new) (contains nat_eq types.now) t.now.tokens at r) }
+    ensures keeps { Extends into.old into.new }
+    ensures ok { IfOk result (λ r. IsExternalAt into.new (contains nat_eq types.now) t.now.tokens at r) }
 {
     let to = region_end(t, at);
     let found = read_up_to(alloc, t, at, to, types, into)?;

@@ -9,7 +9,6 @@ mod external;
 mod nodes;
 mod parts;
 mod reading;
-mod source;
 mod typedefs;
 mod units;
 

@@ -1,7 +1,6 @@
 //! The typedef names that external declarations add (C17 6.7.8p3).
 ghost use Rattle.std.specs.Prelude.{◌≡◌, ℕ, OnOk, nat_eq};
 ghost use Rattle.indexmap.specs.IndexSet.{contains};
-ghost use Rattle.pv_tree.specs.Rows.{tables};
 ghost use Rattle.pv_tree.specs.Tables.{declaration_at, is_declaration, Is};
 ghost use Rattle.pv_tree.specs.Units.{with_types};
 
@@ -16,8 +15,8 @@ pub(crate) fn add_types(
     external: NodeId,
     types: &mut IndexSet<u32>,
 ) -> Result<(), NoMemory>
-    requires { Is (tables unit.now) is_declaration external }
-    ensures { OnOk result ((m : ℕ) → contains nat_eq types.new m ≡ with_types (contains nat_eq types.old) (declaration_at (tables unit.now).forest external) m) }
+    requires { Is unit.now is_declaration external }
+    ensures { OnOk result ((m : ℕ) → contains nat_eq types.new m ≡ with_types (contains nat_eq types.old) (declaration_at unit.now.forest external) m) }
 {
     match unit.decl(external) {
         Decl::Function {

@@ -2,7 +2,6 @@
 ghost use Rattle.std.specs.Prelude.{◌≡◌, ◌≤◌, ℕ, List, length, drop, Err, IfOk};
 ghost use Rattle.indexmap.specs.IndexSet.{IsEmpty};
 ghost use Rattle.pv_token.specs.declared.token_table.Token.{Token};
-ghost use Rattle.pv_tree.specs.Rows.{tables};
 ghost use Rattle.pv_tree.specs.Syntax.{DeclarationTree};
 ghost use Rattle.pv_tree.specs.Tables.{no_tables};
 ghost use Rattle.pv_tree.specs.Units.{no_types, SpellUnit, IsWhole};
@@ -47,9 +46,9 @@ fn read_all(
     into: &mut Unit,
 ) -> Result<u32, NoMemory>
     requires types { IsEmpty types.old }
-    requires unit { tables into.old ≡ no_tables }
+    requires unit { into.old ≡ no_tables }
     ensures place { IfOk result (λ end. end ≤ length t.now.tokens) }
-    ensures reads { IfOk result (λ end. ◌≡◌ {A = List DeclarationTree × List Token} (externals_of (tables into.new), drop end t.now.tokens) (units no_types t.now.tokens)) }
+    ensures reads { IfOk result (λ end. ◌≡◌ {A = List DeclarationTree × List Token} (externals_of into.new, drop end t.now.tokens) (units no_types t.now.tokens)) }
 {
     let mut at = 0;
     while let Some((declaration, end)) = external(alloc, t, at, types, into)? {
@@ -68,9 +67,9 @@ fn read_all(
 /// declarations.
 pub fn unit(alloc: Global, t: &Tokens) -> Result<Unit, SynError>
     // The external declarations spell the tokens.
-    ensures spelled { IfOk result (λ u. SpellUnit t.now.tokens (externals_of (tables u))) }
+    ensures spelled { IfOk result (λ u. SpellUnit t.now.tokens (externals_of u)) }
     // No others do.
-    ensures only { IfOk result (λ u. (ds : List DeclarationTree) → SpellUnit t.now.tokens ds → ds ≡ externals_of (tables u)) }
+    ensures only { IfOk result (λ u. (ds : List DeclarationTree) → SpellUnit t.now.tokens ds → ds ≡ externals_of u) }
     // Where it is refused, none do, and no more than so many spell the first tokens.
     ensures syntax { (whole : ℕ) → result ≡ Err (SynError.Syntax whole) → ((ds : List DeclarationTree) → SpellUnit t.now.tokens ds → ⊥) × IsWhole t.now.tokens whole }
 {

@@ -8,8 +8,8 @@ use Rattle.pv_token.specs.declared.marks.Mark.TheVariants as mark
 use Rattle.pv_tree.specs.Syntax.{Tree, Trees, OptionalTree}
 use Rattle.pv_expr_forms.specs.Reader.{is_open, after}
 use Rattle.pv_expr_forms.proofs.Runs.{Takes}
-use Rattle.pv_expr_forms.proofs.Steps.{guarded, mapped, some_is}
-use Rattle.pv_expr_forms.proofs.Marks.{open_is}
+use Rattle.pv_expr_forms.proofs.Steps.{mapped}
+use Rattle.pv_expr_forms.proofs.Marks.{open_is, after_is}
 use Rattle.pv_decl_forms.specs.Pieces.{Piece, is_close_brace}
 use Rattle.pv_decl_forms.proofs.Marks.{close_brace_taken}
 use Rattle.pv_stmt_forms.specs.Statements.{is_else, is_while, before, optional_before, block_end}
@@ -21,13 +21,6 @@ else_is _ e = absurd cc
 while_is : (k : TokenKind) → is_while k ≡ true → k ≡ kind.Word word.While
 while_is (kind.Word word.While) e = refl
 while_is _ e = absurd cc
-
-after_is : (test : TokenKind → Bool) (k : TokenKind) → ((x : TokenKind) → test x ≡ true → x ≡ k) → (ts rest : List Token) → after test ts ≡ Some rest
-    → Takes (k ∷ []) ts rest
-after_is test k is [] rest e = absurd cc
-after_is test k is (t ∷ ts) rest e =
-    let g = guarded (test t.kind) (Some ts) rest e in
-    (is t.kind g.0, some_is ts rest g.1)
 
 pub else_taken : (ts rest : List Token) → after is_else ts ≡ Some rest → Takes (kind.Word word.Else ∷ []) ts rest
 else_taken ts rest e = after_is is_else (kind.Word word.Else) else_is ts rest e

@@ -3,7 +3,6 @@ ghost use Rattle.std.specs.Prelude.{◌≡◌, ◌≤◌, ℕ, All, length, Some
 ghost use Rattle.pv_tree.specs.Children.{HasStmtChildren};
 ghost use Rattle.pv_tree.specs.Nodes.{statement_of};
 ghost use Rattle.pv_tree.specs.Places.{is_declaration_tree};
-ghost use Rattle.pv_tree.specs.Rows.{tables};
 ghost use Rattle.pv_tree.specs.Syntax.{Labelled, OfStatement};
 ghost use Rattle.pv_tree.specs.Tables.{Forest, Has, HasList, tree_at, declaration_at, statement_at, trees_of, trees_at, is_declaration, is_statement, is_item, Is, Extends};
 ghost use Rattle.pv_expr_forms.specs.Reader.{after};
@@ -18,8 +17,8 @@ use pv_tree::{Decl, ListId, NodeId, Stmt, Unit};
 
 /// Whether a node is a whole declaration, and no part or head of one.
 pub fn is_declaration(unit: &Unit, n: NodeId) -> bool
-    requires { Is (tables unit.now) is_declaration n }
-    ensures { result ≡ is_declaration_tree (declaration_at (tables unit.now).forest n) }
+    requires { Is unit.now is_declaration n }
+    ensures { result ≡ is_declaration_tree (declaration_at unit.now.forest n) }
 {
     matches!(unit.decl(n), Decl::Declaration { .. })
 }
@@ -33,9 +32,9 @@ pub fn found_statement(
     into: &mut Unit,
 ) -> Result<Option<(NodeId, u32)>, NoMemory>
     requires place { next ≤ length tokens.now.tokens }
-    requires children { HasStmtChildren (tables into.old).forest (length (tables into.old).forest.trees) statement }
-    ensures keeps { Extends (tables into.old) (tables into.new) }
-    ensures ok { AnswersAt (tables into.new) is_statement tokens.now.tokens next result (λ ts. Some (OfStatement (statement_of (tables into.old).forest line statement), ts)) }
+    requires children { HasStmtChildren into.old.forest (length into.old.forest.trees) statement }
+    ensures keeps { Extends into.old into.new }
+    ensures ok { AnswersAt into.new is_statement tokens.now.tokens next result (λ ts. Some (OfStatement (statement_of into.old.forest line statement), ts)) }
 {
     Ok(Some((into.add_stmt(statement, line)?, next)))
 }
@@ -51,9 +50,9 @@ pub fn found_before(
     into: &mut Unit,
 ) -> Result<Option<(NodeId, u32)>, NoMemory>
     requires place { at ≤ length tokens.now.tokens }
-    requires children { HasStmtChildren (tables into.old).forest (length (tables into.old).forest.trees) statement }
-    ensures keeps { Extends (tables into.old) (tables into.new) }
-    ensures ok { AnswersAt (tables into.new) is_statement tokens.now.tokens at result (λ ts. option_map (λ rest. (OfStatement (statement_of (tables into.old).forest line statement), rest)) (after (test_of sign) ts)) }
+    requires children { HasStmtChildren into.old.forest (length into.old.forest.trees) statement }
+    ensures keeps { Extends into.old into.new }
+    ensures ok { AnswersAt into.new is_statement tokens.now.tokens at result (λ ts. option_map (λ rest. (OfStatement (statement_of into.old.forest line statement), rest)) (after (test_of sign) ts)) }
 {
     match after(tokens, at, sign) {
         Some(next) => found_statement(tokens, next, statement, line, into),
@@ -83,9 +82,9 @@ pub fn block_of(
     into: &mut Unit,
 ) -> Result<Option<(NodeId, u32)>, NoMemory>
     requires place { at ≤ length tokens.now.tokens }
-    requires items { All (λ n. Is (tables into.old) is_item n) items.now }
-    ensures keeps { Extends (tables into.old) (tables into.new) }
-    ensures ok { AnswersAt (tables into.new) is_statement tokens.now.tokens at result (λ ts. block_end (enclosed within line) (trees_of (tables into.old).forest items.now, ts)) }
+    requires items { All (λ n. Is into.old is_item n) items.now }
+    ensures keeps { Extends into.old into.new }
+    ensures ok { AnswersAt into.new is_statement tokens.now.tokens at result (λ ts. block_end (enclosed within line) (trees_of into.old.forest items.now, ts)) }
 {
     let Some(end) = after(tokens, at, Sign::CloseBrace) else {
         return Ok(None);
@@ -104,10 +103,10 @@ pub fn labelled_of(
     into: &mut Unit,
 ) -> Result<Option<(NodeId, u32)>, NoMemory>
     requires place { end ≤ length tokens.now.tokens }
-    requires labels { All (λ n. Is (tables into.old) is_statement n) labels.now }
-    requires statement { Is (tables into.old) is_statement statement }
-    ensures keeps { Extends (tables into.old) (tables into.new) }
-    ensures ok { AnswersAt (tables into.new) is_statement tokens.now.tokens end result (λ ts. Some (OfStatement (Labelled line (trees_of (tables into.old).forest labels.now) (statement_at (tables into.old).forest statement)), ts)) }
+    requires labels { All (λ n. Is into.old is_statement n) labels.now }
+    requires statement { Is into.old is_statement statement }
+    ensures keeps { Extends into.old into.new }
+    ensures ok { AnswersAt into.new is_statement tokens.now.tokens end result (λ ts. Some (OfStatement (Labelled line (trees_of into.old.forest labels.now) (statement_at into.old.forest statement)), ts)) }
 {
     let labels = into.add_list(labels)?;
     let labelled = Stmt::Labelled { labels, statement };

@@ -1,7 +1,6 @@
 //! The names that declarators declare, and sets of typedef names that they are added to (C17 6.7.8p3).
 ghost use Rattle.std.specs.Prelude.{◌≡◌, ◌||◌, ℕ, length, OnOk, nat_eq};
 ghost use Rattle.indexmap.specs.IndexSet.{contains};
-ghost use Rattle.pv_tree.specs.Rows.{tables};
 ghost use Rattle.pv_tree.specs.Tables.{tree_at, declarator_at, trees_at, is_declaration, is_declarator, is_specifier, Is, HasList};
 ghost use Rattle.pv_tree.specs.Units.{declares, is_typedef, has_typedef, any_declares};
 ghost use Rattle.pv_stmt_forms.specs.Names.{IsBefore, names_there, is_name, declares_one};
@@ -22,9 +21,9 @@ enum NamePlace {
 
 /// Where the name of a declarator stands (C17 6.7.6p1).
 fn name_place(unit: &Unit, n: NodeId) -> NamePlace
-    requires { Is (tables unit.now) is_declarator n }
-    ensures names { (m : ℕ) → declares (declarator_at (tables unit.now).forest n) m ≡ names_there (tables unit.now).forest result m }
-    ensures before { IsBefore (tables unit.now) n result }
+    requires { Is unit.now is_declarator n }
+    ensures names { (m : ℕ) → declares (declarator_at unit.now.forest n) m ≡ names_there unit.now.forest result m }
+    ensures before { IsBefore unit.now n result }
 {
     match unit.declarator(n) {
         Declarator::Name(name) => NamePlace::Here(name),
@@ -38,8 +37,8 @@ fn name_place(unit: &Unit, n: NodeId) -> NamePlace
 
 /// The name that a declarator declares, unless it is abstract (C17 6.7.6p2).
 fn declared_name(unit: &Unit, declarator: NodeId) -> Option<u32>
-    requires { Is (tables unit.now) is_declarator declarator }
-    ensures { (m : ℕ) → declares (declarator_at (tables unit.now).forest declarator) m ≡ is_name result m }
+    requires { Is unit.now is_declarator declarator }
+    ensures { (m : ℕ) → declares (declarator_at unit.now.forest declarator) m ≡ is_name result m }
 {
     let mut at = declarator;
     loop {
@@ -53,16 +52,16 @@ fn declared_name(unit: &Unit, declarator: NodeId) -> Option<u32>
 
 /// Whether a specifier is `typedef`.
 fn is_typedef(unit: &Unit, n: NodeId) -> bool
-    requires { Is (tables unit.now) is_specifier n }
-    ensures { result ≡ is_typedef (tree_at (tables unit.now).forest n) }
+    requires { Is unit.now is_specifier n }
+    ensures { result ≡ is_typedef (tree_at unit.now.forest n) }
 {
     matches!(unit.spec(n), Spec::Typedef)
 }
 
 /// Whether `typedef` is among some specifiers.
 pub fn has_typedef(unit: &Unit, specs: ListId) -> bool
-    requires { HasList (tables unit.now).forest (length (tables unit.now).forest.trees) is_specifier specs }
-    ensures { result ≡ has_typedef (trees_at (tables unit.now).forest specs) }
+    requires { HasList unit.now.forest (length unit.now.forest.trees) is_specifier specs }
+    ensures { result ≡ has_typedef (trees_at unit.now.forest specs) }
 {
     let specifiers = unit.list(specs);
     for n in specifiers {
@@ -75,8 +74,8 @@ pub fn has_typedef(unit: &Unit, specs: ListId) -> bool
 
 /// Adds the name that a declarator declares.
 pub fn add_name(unit: &Unit, declarator: NodeId, types: &mut IndexSet<u32>) -> Result<(), NoMemory>
-    requires { Is (tables unit.now) is_declarator declarator }
-    ensures { OnOk result ((m : ℕ) → contains nat_eq types.new m ≡ (contains nat_eq types.old m || declares (declarator_at (tables unit.now).forest declarator) m)) }
+    requires { Is unit.now is_declarator declarator }
+    ensures { OnOk result ((m : ℕ) → contains nat_eq types.new m ≡ (contains nat_eq types.old m || declares (declarator_at unit.now.forest declarator) m)) }
 {
     match declared_name(unit, declarator) {
         Some(name) => {
@@ -89,8 +88,8 @@ pub fn add_name(unit: &Unit, declarator: NodeId, types: &mut IndexSet<u32>) -> R
 
 /// Adds the name that an init-declarator declares (C17 6.7p1).
 fn add_declared(unit: &Unit, n: NodeId, types: &mut IndexSet<u32>) -> Result<(), NoMemory>
-    requires { Is (tables unit.now) is_declaration n }
-    ensures { OnOk result ((m : ℕ) → contains nat_eq types.new m ≡ (contains nat_eq types.old m || declares_one (tree_at (tables unit.now).forest n) m)) }
+    requires { Is unit.now is_declaration n }
+    ensures { OnOk result ((m : ℕ) → contains nat_eq types.new m ≡ (contains nat_eq types.old m || declares_one (tree_at unit.now.forest n) m)) }
 {
     match unit.decl(n) {
         Decl::InitDeclarator { declarator, .. } => add_name(unit, declarator, types),
@@ -100,8 +99,8 @@ fn add_declared(unit: &Unit, n: NodeId, types: &mut IndexSet<u32>) -> Result<(),
 
 /// Adds the names that init-declarators declare.
 pub fn add_all(unit: &Unit, declared: ListId, types: &mut IndexSet<u32>) -> Result<(), NoMemory>
-    requires { HasList (tables unit.now).forest (length (tables unit.now).forest.trees) is_declaration declared }
-    ensures { OnOk result ((m : ℕ) → contains nat_eq types.new m ≡ (contains nat_eq types.old m || any_declares (trees_at (tables unit.now).forest declared) m)) }
+    requires { HasList unit.now.forest (length unit.now.forest.trees) is_declaration declared }
+    ensures { OnOk result ((m : ℕ) → contains nat_eq types.new m ≡ (contains nat_eq types.old m || any_declares (trees_at unit.now.forest declared) m)) }
 {
     let declarators = unit.list(declared);
     for n in declarators {

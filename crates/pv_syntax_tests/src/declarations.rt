@@ -1,6 +1,5 @@
 //! What no clause says: that the grammar of the definitions is C's.
 ghost use Rattle.std.specs.Prelude.{IfOk, IfSome};
-ghost use Rattle.pv_tree.specs.Rows.{tables};
 ghost use Rattle.pv_tree.specs.Tables.{Is, is_declaration};
 
 use crate::rows::{Asked, check};
@@ -112,7 +111,7 @@ t int f(int (*(*))); => 13 7
 /// The declaration that stands behind the first token, and the token behind it. The one clause spares `told` all else
 /// that `type_names` and `declaration` promise.
 fn read(alloc: Global, tokens: &Tokens, into: &mut Unit) -> Result<Option<(NodeId, u32)>, NoMemory>
-    ensures { IfOk result (λ r. IfSome r (λ x. Is (tables into.new) is_declaration x.0)) }
+    ensures { IfOk result (λ r. IfSome r (λ x. Is into.new is_declaration x.0)) }
 {
     let mut types = IndexSet::new(alloc);
     types.insert(0)?;

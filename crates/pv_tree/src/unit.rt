@@ -1,7 +1,6 @@
 //! The tables of a translation unit.
 ghost use Rattle.std.specs.Prelude.{◌≡◌, ◌<◌, ◌≤◌, ◌+◌, ◌^◌, length, Some, slice_get, IfOk, OnOk, OnErr};
 ghost use Rattle.pv_tree.specs.Tables.{Forest, Tables, no_tables, with_tree, with_list, with_external, tree_at, list_at, is_expression, is_declaration, is_declarator, is_specifier, is_initializer, is_statement, is_external, Has, HasOptional, HasList, Is};
-ghost use Rattle.pv_tree.specs.Rows.{tables};
 ghost use Rattle.pv_tree.specs.Nodes.{tree_of, expression_of, declaration_of, declarator_of, specifier_of, initializer_of, statement_of};
 ghost use Rattle.pv_tree.specs.Children.{HasChildren, HasExprChildren, HasDeclChildren, HasDeclaratorChildren, HasSpecChildren, HasInitChildren, HasStmtChildren};
 ghost use Rattle.pv_tree.specs.Depths.{tree_depth};
@@ -36,20 +35,25 @@ pub struct Unit {
 
 impl Model for Unit {
     ghost use Rattle.std.specs.Prelude.{map};
-    ghost use Rattle.pv_tree.specs.Rows.{Stored, tables, IsFormed};
+    ghost use Rattle.std.specs.Coded.{codes};
+    ghost use Rattle.pv_tree.specs.Rows.{tables, IsFormed};
+    ghost use Rattle.pv_tree.specs.Tables.{Tables};
+    ghost use Rattle.pv_tree.specs.Codes.{tables_code};
 
-    ghost Value = { Stored };
+    ghost Value = { Tables };
 
-    ghost view = { λ u. record { rows = u.rows.items; lists = map (λ l. l.items) u.lists.items; externals = u.externals.items } };
+    ghost coded = { tables_code (Prim.hlevel codes) (Prim.hlevel codes) };
 
-    ghost invariant = { λ u. IsFormed (tables (record { rows = u.rows.items; lists = map (λ l. l.items) u.lists.items; externals = u.externals.items })) u.rows.items };
+    ghost view = { λ u. tables (map (λ l. l.items) u.lists.items) u.rows.items u.externals.items };
+
+    ghost invariant = { λ u. IsFormed (tables (map (λ l. l.items) u.lists.items) u.rows.items u.externals.items) u.rows.items };
 }
 
 impl Unit {
     /// A unit without nodes, which takes no memory.
     #[tactic(auto, unfolding(crate::specs::Rows::trees_of_rows))]
     pub fn new(alloc: Global) -> Unit
-        ensures { tables result ≡ no_tables }
+        ensures { result ≡ no_tables }
     {
         Unit {
             alloc,
@@ -61,7 +65,7 @@ impl Unit {
 
     /// Keeps a list of nodes, and gives its number.
     pub fn add_list(&mut self, l: &[NodeId]) -> Result<ListId, NoMemory>
-        ensures made { IfOk result (λ i. ((tables self.new) ≡ with_list (tables self.old) l.now) × (i.0 ≡ length (tables self.old).forest.lists)) }
+        ensures made { IfOk result (λ i. (self.new ≡ with_list self.old l.now) × (i.0 ≡ length self.old.forest.lists)) }
         ensures unchanged { OnErr result (self.new ≡ self.old) }
     {
         let index = self.lists.len();
@@ -75,17 +79,17 @@ impl Unit {
 
     /// The nodes of a list, in order.
     pub fn list(&self, l: ListId) -> &[NodeId]
-        requires { l.0 < length (tables self.now).forest.lists }
-        ensures { result.now ≡ list_at (tables self.now).forest l }
+        requires { l.0 < length self.now.forest.lists }
+        ensures { result.now ≡ list_at self.now.forest l }
     {
         self.lists[l.0 as usize].as_slice()
     }
 
     // The node of a number, and what its children are.
     fn node(&self, n: NodeId) -> Node
-        requires { n.0 < length (tables self.now).forest.trees }
-        ensures tree { tree_at (tables self.now).forest n ≡ tree_of (tables self.now).forest (tree_line (tree_at (tables self.now).forest n)) result }
-        ensures children { HasChildren (tables self.now).forest n.0 result }
+        requires { n.0 < length self.now.forest.trees }
+        ensures tree { tree_at self.now.forest n ≡ tree_of self.now.forest (tree_line (tree_at self.now.forest n)) result }
+        ensures children { HasChildren self.now.forest n.0 result }
     {
         self.rows[n.0 as usize].node
     }
@@ -93,8 +97,8 @@ impl Unit {
     /// The depth of the tree that a node stands for: one more than its deepest child's, and that of
     /// its deepest child where it is a part that is no node of its own.
     pub fn depth(&self, n: NodeId) -> u32
-        requires { n.0 < length (tables self.now).forest.trees }
-        ensures value { result ≡ tree_depth (tree_at (tables self.now).forest n) }
+        requires { n.0 < length self.now.forest.trees }
+        ensures value { result ≡ tree_depth (tree_at self.now.forest n) }
         ensures bounded { result ≤ n.0 + 1 }
     {
         self.rows[n.0 as usize].depth
@@ -102,16 +106,16 @@ impl Unit {
 
     /// The line that was given when the node was added.
     pub fn line(&self, n: NodeId) -> u32
-        requires { n.0 < length (tables self.now).forest.trees }
-        ensures { result ≡ tree_line (tree_at (tables self.now).forest n) }
+        requires { n.0 < length self.now.forest.trees }
+        ensures { result ≡ tree_line (tree_at self.now.forest n) }
     {
         self.rows[n.0 as usize].line
     }
 
     // Adds a node of any kind.
     fn add(&mut self, node: Node, line: u32) -> Result<NodeId, NoMemory>
-        requires { HasChildren (tables self.old).forest (length (tables self.old).forest.trees) node }
-        ensures made { IfOk result (λ n. ((tables self.new) ≡ with_tree (tables self.old) (tree_of (tables self.old).forest line node)) × (n.0 ≡ length (tables self.old).forest.trees)) }
+        requires { HasChildren self.old.forest (length self.old.forest.trees) node }
+        ensures made { IfOk result (λ n. (self.new ≡ with_tree self.old (tree_of self.old.forest line node)) × (n.0 ≡ length self.old.forest.trees)) }
         ensures unchanged { OnErr result (self.new ≡ self.old) }
     {
         let count = self.rows.len();
@@ -125,8 +129,8 @@ impl Unit {
 
     /// Adds an expression (C17 6.5), whose first token stands on `line`.
     pub fn add_expr(&mut self, e: Expr, line: u32) -> Result<NodeId, NoMemory>
-        requires { HasExprChildren (tables self.old).forest (length (tables self.old).forest.trees) e }
-        ensures made { IfOk result (λ n. ((tables self.new) ≡ with_tree (tables self.old) (OfExpression (expression_of (tables self.old).forest line e))) × (n.0 ≡ length (tables self.old).forest.trees)) }
+        requires { HasExprChildren self.old.forest (length self.old.forest.trees) e }
+        ensures made { IfOk result (λ n. (self.new ≡ with_tree self.old (OfExpression (expression_of self.old.forest line e))) × (n.0 ≡ length self.old.forest.trees)) }
         ensures unchanged { OnErr result (self.new ≡ self.old) }
     {
         self.add(Node::Expr(e), line)
@@ -134,8 +138,8 @@ impl Unit {
 
     /// Adds a declaration, or a part of one (C17 6.7, 6.9), whose first token stands on `line`.
     pub fn add_decl(&mut self, d: Decl, line: u32) -> Result<NodeId, NoMemory>
-        requires { HasDeclChildren (tables self.old).forest (length (tables self.old).forest.trees) d }
-        ensures made { IfOk result (λ n. ((tables self.new) ≡ with_tree (tables self.old) (OfDeclaration (declaration_of (tables self.old).forest line d))) × (n.0 ≡ length (tables self.old).forest.trees)) }
+        requires { HasDeclChildren self.old.forest (length self.old.forest.trees) d }
+        ensures made { IfOk result (λ n. (self.new ≡ with_tree self.old (OfDeclaration (declaration_of self.old.forest line d))) × (n.0 ≡ length self.old.forest.trees)) }
         ensures unchanged { OnErr result (self.new ≡ self.old) }
     {
         self.add(Node::Decl(d), line)
@@ -143,8 +147,8 @@ impl Unit {
 
     /// Adds a declarator (C17 6.7.6, 6.7.7), whose first token stands on `line`.
     pub fn add_declarator(&mut self, d: Declarator, line: u32) -> Result<NodeId, NoMemory>
-        requires { HasDeclaratorChildren (tables self.old).forest (length (tables self.old).forest.trees) d }
-        ensures made { IfOk result (λ n. ((tables self.new) ≡ with_tree (tables self.old) (OfDeclarator (declarator_of (tables self.old).forest line d))) × (n.0 ≡ length (tables self.old).forest.trees)) }
+        requires { HasDeclaratorChildren self.old.forest (length self.old.forest.trees) d }
+        ensures made { IfOk result (λ n. (self.new ≡ with_tree self.old (OfDeclarator (declarator_of self.old.forest line d))) × (n.0 ≡ length self.old.forest.trees)) }
         ensures unchanged { OnErr result (self.new ≡ self.old) }
     {
         self.add(Node::Declarator(d), line)
@@ -152,8 +156,8 @@ impl Unit {
 
     /// Adds a specifier (C17 6.7p1), whose first token stands on `line`.
     pub fn add_spec(&mut self, s: Spec, line: u32) -> Result<NodeId, NoMemory>
-        requires { HasSpecChildren (tables self.old).forest (length (tables self.old).forest.trees) s }
-        ensures made { IfOk result (λ n. ((tables self.new) ≡ with_tree (tables self.old) (OfSpecifier (specifier_of (tables self.old).forest line s))) × (n.0 ≡ length (tables self.old).forest.trees)) }
+        requires { HasSpecChildren self.old.forest (length self.old.forest.trees) s }
+        ensures made { IfOk result (λ n. (self.new ≡ with_tree self.old (OfSpecifier (specifier_of self.old.forest line s))) × (n.0 ≡ length self.old.forest.trees)) }
         ensures unchanged { OnErr result (self.new ≡ self.old) }
     {
         self.add(Node::Spec(s), line)
@@ -161,8 +165,8 @@ impl Unit {
 
     /// Adds an initializer (C17 6.7.9), whose first token stands on `line`.
     pub fn add_init(&mut self, i: Init, line: u32) -> Result<NodeId, NoMemory>
-        requires { HasInitChildren (tables self.old).forest (length (tables self.old).forest.trees) i }
-        ensures made { IfOk result (λ n. ((tables self.new) ≡ with_tree (tables self.old) (OfInitializer (initializer_of (tables self.old).forest line i))) × (n.0 ≡ length (tables self.old).forest.trees)) }
+        requires { HasInitChildren self.old.forest (length self.old.forest.trees) i }
+        ensures made { IfOk result (λ n. (self.new ≡ with_tree self.old (OfInitializer (initializer_of self.old.forest line i))) × (n.0 ≡ length self.old.forest.trees)) }
         ensures unchanged { OnErr result (self.new ≡ self.old) }
     {
         self.add(Node::Init(i), line)
@@ -170,8 +174,8 @@ impl Unit {
 
     /// Adds a statement, a block or a label (C17 6.8), whose first token stands on `line`.
     pub fn add_stmt(&mut self, s: Stmt, line: u32) -> Result<NodeId, NoMemory>
-        requires { HasStmtChildren (tables self.old).forest (length (tables self.old).forest.trees) s }
-        ensures made { IfOk result (λ n. ((tables self.new) ≡ with_tree (tables self.old) (OfStatement (statement_of (tables self.old).forest line s))) × (n.0 ≡ length (tables self.old).forest.trees)) }
+        requires { HasStmtChildren self.old.forest (length self.old.forest.trees) s }
+        ensures made { IfOk result (λ n. (self.new ≡ with_tree self.old (OfStatement (statement_of self.old.forest line s))) × (n.0 ≡ length self.old.forest.trees)) }
         ensures unchanged { OnErr result (self.new ≡ self.old) }
     {
         self.add(Node::Stmt(s), line)
@@ -179,9 +183,9 @@ impl Unit {
 
     /// The node of an expression (C17 6.5).
     pub fn expr(&self, n: NodeId) -> Expr
-        requires { Is (tables self.now) is_expression n }
-        ensures tree { tree_at (tables self.now).forest n ≡ OfExpression (expression_of (tables self.now).forest (tree_line (tree_at (tables self.now).forest n)) result) }
-        ensures children { HasExprChildren (tables self.now).forest n.0 result }
+        requires { Is self.now is_expression n }
+        ensures tree { tree_at self.now.forest n ≡ OfExpression (expression_of self.now.forest (tree_line (tree_at self.now.forest n)) result) }
+        ensures children { HasExprChildren self.now.forest n.0 result }
     {
         match self.node(n) {
             Node::Expr(e) => e,
@@ -191,9 +195,9 @@ impl Unit {
 
     /// The node of a declaration, or a part of one (C17 6.7, 6.9).
     pub fn decl(&self, n: NodeId) -> Decl
-        requires { Is (tables self.now) is_declaration n }
-        ensures tree { tree_at (tables self.now).forest n ≡ OfDeclaration (declaration_of (tables self.now).forest (tree_line (tree_at (tables self.now).forest n)) result) }
-        ensures children { HasDeclChildren (tables self.now).forest n.0 result }
+        requires { Is self.now is_declaration n }
+        ensures tree { tree_at self.now.forest n ≡ OfDeclaration (declaration_of self.now.forest (tree_line (tree_at self.now.forest n)) result) }
+        ensures children { HasDeclChildren self.now.forest n.0 result }
     {
         match self.node(n) {
             Node::Decl(d) => d,
@@ -203,9 +207,9 @@ impl Unit {
 
     /// The node of a declarator (C17 6.7.6, 6.7.7).
     pub fn declarator(&self, n: NodeId) -> Declarator
-        requires { Is (tables self.now) is_declarator n }
-        ensures tree { tree_at (tables self.now).forest n ≡ OfDeclarator (declarator_of (tables self.now).forest (tree_line (tree_at (tables self.now).forest n)) result) }
-        ensures children { HasDeclaratorChildren (tables self.now).forest n.0 result }
+        requires { Is self.now is_declarator n }
+        ensures tree { tree_at self.now.forest n ≡ OfDeclarator (declarator_of self.now.forest (tree_line (tree_at self.now.forest n)) result) }
+        ensures children { HasDeclaratorChildren self.now.forest n.0 result }
     {
         match self.node(n) {
             Node::Declarator(d) => d,
@@ -215,9 +219,9 @@ impl Unit {
 
     /// The node of a specifier (C17 6.7p1).
     pub fn spec(&self, n: NodeId) -> Spec
-        requires { Is (tables self.now) is_specifier n }
-        ensures tree { tree_at (tables self.now).forest n ≡ OfSpecifier (specifier_of (tables self.now).forest (tree_line (tree_at (tables self.now).forest n)) result) }
-        ensures children { HasSpecChildren (tables self.now).forest n.0 result }
+        requires { Is self.now is_specifier n }
+        ensures tree { tree_at self.now.forest n ≡ OfSpecifier (specifier_of self.now.forest (tree_line (tree_at self.now.forest n)) result) }
+        ensures children { HasSpecChildren self.now.forest n.0 result }
     {
         match self.node(n) {
             Node::Spec(s) => s,
@@ -227,9 +231,9 @@ impl Unit {
 
     /// The node of an initializer (C17 6.7.9).
     pub fn init(&self, n: NodeId) -> Init
-        requires { Is (tables self.now) is_initializer n }
-        ensures tree { tree_at (tables self.now).forest n ≡ OfInitializer (initializer_of (tables self.now).forest (tree_line (tree_at (tables self.now).forest n)) result) }
-        ensures children { HasInitChildren (tables self.now).forest n.0 result }
+        requires { Is self.now is_initializer n }
+        ensures tree { tree_at self.now.forest n ≡ OfInitializer (initializer_of self.now.forest (tree_line (tree_at self.now.forest n)) result) }
+        ensures children { HasInitChildren self.now.forest n.0 result }
     {
         match self.node(n) {
             Node::Init(i) => i,
@@ -239,9 +243,9 @@ impl Unit {
 
     /// The node of a statement, a block or a label (C17 6.8).
     pub fn stmt(&self, n: NodeId) -> Stmt
-        requires { Is (tables self.now) is_statement n }
-        ensures tree { tree_at (tables self.now).forest n ≡ OfStatement (statement_of (tables self.now).forest (tree_line (tree_at (tables self.now).forest n)) result) }
-        ensures children { HasStmtChildren (tables self.now).forest n.0 result }
+        requires { Is self.now is_statement n }
+        ensures tree { tree_at self.now.forest n ≡ OfStatement (statement_of self.now.forest (tree_line (tree_at self.now.forest n)) result) }
+        ensures children { HasStmtChildren self.now.forest n.0 result }
     {
         match self.node(n) {
             Node::Stmt(s) => s,
@@ -251,8 +255,8 @@ impl Unit {
 
     /// Whether the node is a declaration, or a part of one: among the items of a block, a declaration (C17 6.8.2p1).
     pub fn is_declaration(&self, n: NodeId) -> bool
-        requires { n.0 < length (tables self.now).forest.trees }
-        ensures { result ≡ is_declaration (tree_at (tables self.now).forest n) }
+        requires { n.0 < length self.now.forest.trees }
+        ensures { result ≡ is_declaration (tree_at self.now.forest n) }
     {
         match self.node(n) {
             Node::Decl(_) => true,
@@ -263,24 +267,24 @@ impl Unit {
 
     /// How many external declarations there are (C17 6.9p1).
     pub fn count(&self) -> u32
-        ensures { result ≡ length (tables self.now).externals }
+        ensures { result ≡ length self.now.externals }
     {
         self.externals.len() as u32
     }
 
     /// External declaration number `i`, from 0 in the order in which they were added.
     pub fn external(&self, i: u32) -> NodeId
-        requires { i < length (tables self.now).externals }
-        ensures number { slice_get (tables self.now).externals i ≡ Some result }
-        ensures kind { Is (tables self.now) is_external result }
+        requires { i < length self.now.externals }
+        ensures number { slice_get self.now.externals i ≡ Some result }
+        ensures kind { Is self.now is_external result }
     {
         self.externals[i as usize]
     }
 
     /// Makes a function definition or a declaration the next external declaration (C17 6.9p1).
     pub fn add_external(&mut self, n: NodeId) -> Result<(), NoMemory>
-        requires { Is (tables self.old) is_external n }
-        ensures made { OnOk result ((tables self.new) ≡ with_external (tables self.old) n) }
+        requires { Is self.old is_external n }
+        ensures made { OnOk result (self.new ≡ with_external self.old n) }
         ensures unchanged { OnErr result (self.new ≡ self.old) }
     {
         if self.externals.len() >= LIMIT {

@@ -26,6 +26,9 @@ fn function_type(rt: &impl Abort, alloc: Global, u: &mut TypedUnit, int: TypeId)
     ensures known { result.0 < length u.new.known.terms }
     ensures grown { Grown u.old u.new }
 {
+    if !u.types().is_adjusted(int) {
+        panic!(rt; "a parameter that is an array or a function");
+    }
     let list = vec![in alloc; int].expect(rt, "no memory");
     let params = u.params(list).expect(rt, "no memory");
     assert!(rt; u.types().param_list(params) == [int].as_slice());

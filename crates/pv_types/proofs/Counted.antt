@@ -1,8 +1,8 @@
 -- How many parts a type has: more than each of its elements and members.
-use Rattle.std.proofs.Common.{◌≡◌, ℕ, zero, suc, ◌+◌, ◌*◌, ◌<◌, ◌≤◌, Bool, true, false, List, [], ◌∷◌, ◌++◌, Some, length, length-append, refl, ap, arith}
+use Rattle.std.proofs.Common.{◌≡◌, ℕ, zero, suc, ◌+◌, ◌*◌, ◌<◌, ◌≤◌, Bool, true, false, List, [], ◌∷◌, Some, length, length-append, refl, ap, arith}
 use Rattle.std.specs.Int.{next_multiple_of}
 use Rattle.pv_types.specs.Ty.{Ty, ArrayOf}
-use Rattle.pv_types.specs.Layouts.{Part, Entry, Named, shifted, repeated, part_count, layout_in, layout_of, struct_parts, union_parts}
+use Rattle.pv_types.specs.Layouts.{Part, Layout, Entry, Named, shifted, repeated, part_count, behind_whole, const_layout, layout_in, layout_of, struct_parts, union_parts}
 
 count_shifted : (k : ℕ) (ps : List Part) → length (shifted k ps) ≡ length ps
 count_shifted k [] = refl
@@ -45,3 +45,11 @@ union_fewer env (m ∷ ms) h lt =
 pub members_fewer : (env : List Entry) (n : ℕ) (u : Bool) (ms : List Named) → AreFewer env (part_count (layout_of env n u ms)) ms
 members_fewer env n true ms = union_fewer env ms (part_count (layout_of env n true ms)) (omega arith)
 members_fewer env n false ms = struct_fewer env ms 0 (part_count (layout_of env n false ms)) (omega arith)
+
+count_behind : (ps : List Part) → length ps ≤ suc (length (behind_whole ps))
+count_behind [] = omega arith
+count_behind (p ∷ ps) = omega arith
+
+-- `const` takes no part away
+pub const_count : (t : Ty) (l : Layout) → part_count l ≤ part_count (const_layout t l)
+const_count t l = count_behind l.parts

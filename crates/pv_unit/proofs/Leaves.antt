@@ -1,14 +1,14 @@
 -- Each part of a type has fewer parts.
-use Rattle.std.proofs.Common.{◌≡◌, ℕ, zero, suc, ◌+◌, ◌<◌, ◌≤◌, Bool, true, false, List, [], ◌∷◌, Option, Some, None, option_map, option_and_then, if◌then◌else◌, refl, sym, ◌∙◌, ap, arith, is_some}
+use Rattle.std.proofs.Common.{◌≡◌, ℕ, zero, suc, ◌+◌, ◌<◌, Bool, true, false, List, [], ◌∷◌, Option, Some, None, option_map, option_and_then, if◌then◌else◌, refl, sym, ◌∙◌, ap, arith, is_some}
 use Rattle.pv_types.specs.Ty.{Ty, VoidTy, IntTy, PointerTo, ArrayOf, StructTag, UnionTag, FunctionTy, ConstOf}
-use Rattle.pv_types.specs.Layouts.{Entry, Part, Named, part_count, layout_in, layout_of, is_complete_in, look, or_none}
+use Rattle.pv_types.specs.Layouts.{Entry, Part, Named, part_count, layout_in, layout_at, layout_of, struct_placed, union_placed, is_complete_in, look, or_none}
 use Rattle.pv_types.specs.Known.{Known, completions, trees, env, named, is_union_in, IsBuilt}
-use Rattle.pv_types.proofs.Counted.{AreFewer, element_fewer, members_fewer}
+use Rattle.pv_types.proofs.Counted.{AreFewer, const_count, element_fewer, members_fewer}
 use Rattle.pv_types.proofs.Fills.{left_true, lt_true}
 use Rattle.pv_types.proofs.Made.{made}
+use Rattle.pv_types.proofs.Placed.{members_named}
 use Rattle.pv_layout.specs.Places.{bare}
-use Rattle.pv_unit.specs.Parts.{part_number, struct_members, first_member, part_in, part_at, has_element, within, leaf_within, is_scalar}
-use Rattle.pv_unit.proofs.Members.{members_named}
+use Rattle.pv_unit.specs.Parts.{part_number, first_member, part_in, part_at, has_element, within, leaf_within, is_scalar}
 
 abbrev part_or : Part → Option Part → Part
 part_or d None = d
@@ -17,11 +17,11 @@ part_or d (Some p) = p
 first_fewer : (env : List Entry) (h : ℕ) (m : Named) (ms : List Named) → AreFewer env h (m ∷ ms) → part_count (layout_in env m.t) < h
 first_fewer env h m ms fewer = fewer.0
 
-struct_lower : (env : List Entry) (h : ℕ) (ms : List Named) (p : Part) → AreFewer env h ms → part_number 0 (struct_members env 0 ms) ≡ Some p → part_count (layout_in env p.t) < h
+struct_lower : (env : List Entry) (h : ℕ) (ms : List Named) (p : Part) → AreFewer env h ms → part_number 0 (struct_placed (layout_at env) 0 ms) ≡ Some p → part_count (layout_in env p.t) < h
 struct_lower env h [] p fewer e = cc
 struct_lower env h (m ∷ ms) p fewer e = let same = sym (ap (part_or p) e) in rw same (first_fewer env h m ms fewer)
 
-union_lower : (env : List Entry) (h : ℕ) (ms : List Named) (p : Part) → AreFewer env h ms → part_number 0 (first_member ms) ≡ Some p → part_count (layout_in env p.t) < h
+union_lower : (env : List Entry) (h : ℕ) (ms : List Named) (p : Part) → AreFewer env h ms → part_number 0 (first_member (union_placed (layout_at env) ms)) ≡ Some p → part_count (layout_in env p.t) < h
 union_lower env h [] p fewer e = cc
 union_lower env h (m ∷ ms) p fewer e = let same = sym (ap (part_or p) e) in rw same (first_fewer env h m ms fewer)
 
@@ -37,18 +37,21 @@ element_step false p q e = cc
 
 -- the first part of a complete type
 pub part_lower : (m : Known) (t : Ty) (q : Part) → IsBuilt m → is_complete_in (env m) t ≡ true → part_in (completions m) (bare t) 0 ≡ Some q → part_count (layout_in (env m) q.t) < part_count (layout_in (env m) t)
-part_lower m (ConstOf t) q built complete e = let h = part_lower m t q built complete e in omega (arith, h)
+part_lower m (ConstOf t) q built complete e =
+    let h = part_lower m t q built complete e in
+    let more = const_count t (layout_in (env m) t) in
+    omega (arith, h, more)
 part_lower m (ArrayOf t (Some n)) q built complete e =
     let same = sym (element_step (has_element (Some n) (layout_in (env m) t).size 0) _ q e) in
     rw same (element_fewer (env m) t n (lt_true 0 n (left_true _ (is_complete_in (env m) t) complete)))
 part_lower m (ArrayOf t None) q built complete e = cc
 part_lower m (StructTag n) q built complete e =
     let members = members_named (trees m) m.done n in
-    let at : part_number 0 (struct_members (env m) 0 (named m n)) ≡ Some q = sym (ap (λ ms. part_number 0 (struct_members (env m) 0 ms)) members) ∙ e in
+    let at : part_number 0 (struct_placed (layout_at (env m)) 0 (named m n)) ≡ Some q = sym (ap (λ ms. part_number 0 (struct_placed (layout_at (env m)) 0 ms)) members) ∙ e in
     struct_lower (env m) (part_count (or_none (look (env m) n))) (named m n) q (tag_fewer m n built complete) at
 part_lower m (UnionTag n) q built complete e =
     let members = members_named (trees m) m.done n in
-    let at : part_number 0 (first_member (named m n)) ≡ Some q = sym (ap (λ ms. part_number 0 (first_member ms)) members) ∙ e in
+    let at : part_number 0 (first_member (union_placed (layout_at (env m)) (named m n))) ≡ Some q = sym (ap (λ ms. part_number 0 (first_member (union_placed (layout_at (env m)) ms))) members) ∙ e in
     union_lower (env m) (part_count (or_none (look (env m) n))) (named m n) q (tag_fewer m n built complete) at
 part_lower m VoidTy q built complete e = cc
 part_lower m (IntTy k) q built complete e = cc

@@ -1,12 +1,14 @@
 -- The types of parameters that prototypes of the library have.
-use Rattle.std.proofs.Common.{◌≡◌, ℕ, ◌+◌, ◌<◌, ◌≤◌, List, [], ◌∷◌, ◌++◌, length, map, take, get_or, refl, sym, ◌∙◌, ap, arith}
+use Rattle.std.proofs.Common.{◌≡◌, ℕ, true, IsTrue, ◌+◌, ◌<◌, ◌≤◌, List, [], ◌∷◌, ◌++◌, length, map, take, get_or, refl, sym, ◌∙◌, ap, arith}
 use Rattle.std.proofs.lemmas.List.{map_push, take_all, take_more}
 use Rattle.pv_types.specs.declared.terms.TypeId.{TypeId}
+use Rattle.pv_types.specs.Adjusted.{is_adjusted, are_adjusted}
 use Rattle.pv_types.specs.Ty.{Ty, VoidTy, MoreTys}
 use Rattle.pv_types.specs.Known.{AllBelow, Known, tree, trees, tys_in}
 use Rattle.pv_check.specs.Growing.{Grows}
-use Rattle.pv_check.proofs.Growth.{same_grows, then_grows}
+use Rattle.pv_check.proofs.Growth.{both_true, same_grows, then_grows}
 use Rattle.pv_unit.specs.declared.library_types.Simple.{Simple}
+use Rattle.pv_unit.specs.declared.library_types.Simple.TheVariants as simple
 use Rattle.pv_unit.specs.Prototypes.{simple_type, simple_types}
 
 abbrev tree_of : Known → TypeId → Ty
@@ -65,3 +67,17 @@ listed_done old m xs k list h end = tys_are m list xs (h.trees ∙ ap (map simpl
 pub tys_stay : (a b : Known) (xs : List TypeId) → ((i : ℕ) → i < length a.terms → tree b i ≡ tree a i) → AllBelow (length a.terms) xs → tys_in (trees b) xs ≡ tys_in (trees a) xs
 tys_stay a b [] stands h = refl
 tys_stay a b (x ∷ xs) stands h = ap (λ (u : Ty). MoreTys u (tys_in (trees b) xs)) (stands x.0 h.0) ∙ ap (MoreTys (tree a x.0)) (tys_stay a b xs stands h.1)
+
+one_adjusted : (x : Simple) → is_adjusted (simple_type x) ≡ true
+one_adjusted simple.Void = refl
+one_adjusted simple.Int = refl
+one_adjusted simple.Size = refl
+one_adjusted simple.Bytes = refl
+one_adjusted simple.ConstantBytes = refl
+one_adjusted simple.Text = refl
+one_adjusted simple.ConstantText = refl
+
+-- none of them is an array or a function
+pub simple_adjusted : (xs : List Simple) → IsTrue (are_adjusted (simple_types xs))
+simple_adjusted [] = refl
+simple_adjusted (x ∷ xs) = both_true (one_adjusted x) (simple_adjusted xs)

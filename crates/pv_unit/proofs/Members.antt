@@ -1,34 +1,25 @@
 -- Members of structures and unions, by their numbers.
-use Rattle.std.proofs.Common.{◌≡◌, ℕ, zero, suc, max, ◌+◌, ◌<◌, ◌≤◌, ◌^◌, ◌==◌, Bool, true, false, cond, List, [], ◌∷◌, Option, Some, None, option_map, refl, sym, ◌∙◌, ap, arith, is_some, length, get_or}
+use Rattle.std.proofs.Common.{◌≡◌, ℕ, zero, suc, max, ◌+◌, ◌<◌, ◌≤◌, ◌^◌, true, false, List, [], ◌∷◌, map, Option, Some, None, option_map, refl, sym, ◌∙◌, ap, arith, is_some, length, get_or}
 use Rattle.pv_types.specs.declared.terms.Member.{Member}
 use Rattle.pv_types.specs.declared.terms.TypeId.{TypeId}
 use Rattle.pv_types.specs.Ty.{Ty, StructTag, UnionTag}
-use Rattle.pv_types.specs.Layouts.{Entry, Layout, Part, Named, Completed, layout_in, layout_of, is_complete_in, look, or_none, struct_end, union_end, AreComplete}
-use Rattle.pv_types.specs.Known.{Known, DoneTag, completions, tree, trees, env, named, named_in, completed_in, members_in, is_union_in, MembersBelow, IsBuilt}
+use Rattle.pv_types.specs.Layouts.{Entry, Layout, Part, Named, Placed, layout_in, layout_at, layout_of, struct_placed, union_placed, is_complete_in, look, or_none, struct_end, union_end, AreComplete}
+use Rattle.pv_types.specs.Known.{Known, completions, tree, trees, env, named, named_in, members_in, is_union_in, MembersBelow, IsBuilt}
 use Rattle.pv_types.proofs.Fills.{struct_end-ge, union_end-ge}
 use Rattle.pv_types.proofs.Made.{made}
+use Rattle.pv_types.proofs.Placed.{members_named, named_place, struct_named, struct_placed_in}
 use Rattle.pv_layout.specs.Places.{struct_places, place_number}
 use Rattle.pv_unit.specs.declared.parts.Subobject.{Subobject}
-use Rattle.pv_unit.specs.Parts.{part_number, struct_members, first_member, within, part_in}
-use Rattle.pv_unit.specs.Parts as parts
+use Rattle.pv_unit.specs.Parts.{part_number, first_member, within, part_in}
 use Rattle.pv_unit.specs.Subobjects.{part_of, IsInner}
-
-members_step : (b : Bool) (ts : List Ty) (ms : List Member) (xs : List Named) (ys : List Member) → xs ≡ named_in ts ys → cond b (named_in ts ms) xs ≡ named_in ts (cond b ms ys)
-members_step true ts ms xs ys e = refl
-members_step false ts ms xs ys e = e
-
--- the members of a completed tag as trees
-pub members_named : (ts : List Ty) (ds : List DoneTag) (n : ℕ) → parts.members_in (completed_in ts ds) n ≡ named_in ts (members_in ds n)
-members_named ts [] n = refl
-members_named ts (d ∷ ds) n = members_step (d.tag == n) ts d.members _ _ (members_named ts ds n)
 
 abbrev pub placed : Known → ℕ × TypeId → Part
 placed m p = record { offset = p.0; t = tree m p.1.0 }
 
-pub numbered : (m : Known) (ms : List Member) (o i : ℕ) → option_map (placed m) (place_number i (struct_places m o ms)) ≡ part_number i (struct_members (env m) o (named_in (trees m) ms))
-numbered m [] o i = refl
-numbered m (x ∷ ms) o zero = refl
-numbered m (x ∷ ms) o (suc i) = numbered m ms _ i
+pub numbered : (m : Known) (ps : List (Placed Member)) (i : ℕ) → option_map (placed m) (place_number i ps) ≡ part_number i (map (named_place m) ps)
+numbered m [] i = refl
+numbered m (p ∷ ps) zero = refl
+numbered m (p ∷ ps) (suc i) = numbered m ps i
 
 abbrev part_or : Part → Option Part → Part
 part_or d None = d
@@ -38,18 +29,13 @@ abbrev place_or : ℕ × TypeId → Option (ℕ × TypeId) → ℕ × TypeId
 place_or d None = d
 place_or d (Some p) = p
 
-none_from : (whole : Part) (ms : List Named) (i : ℕ) → 0 < i → None ≡ option_map (within whole) (part_number i (first_member ms))
-none_from whole [] i lt = refl
-none_from whole (m ∷ ms) zero lt = absurd (omega arith)
-none_from whole (m ∷ ms) (suc i) lt = refl
-
 -- where a member ends
-pub struct_inside : (env : List Entry) (ms : List Named) (o i : ℕ) (p : Part) → part_number i (struct_members env o ms) ≡ Some p → p.offset + (layout_in env p.t).size ≤ struct_end env o ms
+pub struct_inside : (env : List Entry) (ms : List Named) (o i : ℕ) (p : Part) → part_number i (struct_placed (layout_at env) o ms) ≡ Some p → p.offset + (layout_in env p.t).size ≤ struct_end env o ms
 struct_inside env [] o i p e = cc
 struct_inside env (m ∷ ms) o zero p e = let same = sym (ap (part_or p) e) in rw same (struct_end-ge env ms _)
 struct_inside env (m ∷ ms) o (suc i) p e = struct_inside env ms _ i p e
 
-pub struct_complete : (env : List Entry) (ms : List Named) (o i : ℕ) (p : Part) → AreComplete env ms → part_number i (struct_members env o ms) ≡ Some p → is_complete_in env p.t ≡ true
+pub struct_complete : (env : List Entry) (ms : List Named) (o i : ℕ) (p : Part) → AreComplete env ms → part_number i (struct_placed (layout_at env) o ms) ≡ Some p → is_complete_in env p.t ≡ true
 struct_complete env [] o i p h e = cc
 struct_complete env (m ∷ ms) o zero p h e = let same = sym (ap (part_or p) e) in rw same h.0
 struct_complete env (m ∷ ms) o (suc i) p h e = struct_complete env ms _ i p h.1 e
@@ -73,14 +59,15 @@ pub record Found (m : Known) (whole : Subobject) (t : Ty) (i : ℕ) (p : Subobje
   pub small : p.offset ≤ 2 ^ 32
 
 pub struct_part : (m : Known) (tag i : ℕ) → part_in (completions m) (StructTag tag) i ≡ option_map (placed m) (place_number i (struct_places m 0 (members_in m.done tag)))
-struct_part m tag i = ap (λ ms. part_number i (struct_members (env m) 0 ms)) (members_named (trees m) m.done tag) ∙ sym (numbered m (members_in m.done tag) 0 i)
+struct_part m tag i = ap (part_number i) (struct_placed_in m tag) ∙ sym (numbered m (struct_places m 0 (members_in m.done tag)) i)
 
 pub struct_found : (m : Known) (whole : Subobject) (tag i start : ℕ) (t : TypeId) → IsBuilt m → is_some (look (env m) tag) ≡ true → is_union_in m.done tag ≡ false
     → whole.offset + (or_none (look (env m) tag)).size ≤ 2 ^ 32 → Some (start, t) ≡ place_number i (struct_places m 0 (members_in m.done tag)) → Found m whole (StructTag tag) i (record { offset = whole.offset + start; t = t })
 struct_found m whole tag i start t built there flag small e =
     let h = made m tag built there in
     let place = sym e in
-    let part : part_number i (struct_members (env m) 0 (named m tag)) ≡ Some (placed m (start, t)) = sym (numbered m (members_in m.done tag) 0 i) ∙ ap (option_map (placed m)) place in
+    let numbers = ap (part_number i) (struct_named m 0 (members_in m.done tag)) ∙ sym (numbered m (struct_places m 0 (members_in m.done tag)) i) in
+    let part : part_number i (struct_placed (layout_at (env m)) 0 (named m tag)) ≡ Some (placed m (start, t)) = numbers ∙ ap (option_map (placed m)) place in
     let end : start + (layout_in (env m) (tree m t.0)).size ≤ struct_end (env m) 0 (named m tag) = struct_inside (env m) (named m tag) 0 i (placed m (start, t)) part in
     let size = struct_size m tag built there flag in
     record {
@@ -117,7 +104,7 @@ union_part m whole tag x ms built there flag small e =
     let known : MembersBelow (length m.terms) (x ∷ ms) = rw e at h.known in
     let complete : AreComplete (env m) (named_in (trees m) (x ∷ ms)) = rw trees_e at h.complete in
     record {
-      part = sym (ap (λ ns. option_map (within (part_of m whole)) (part_number 0 (first_member ns))) (members_named (trees m) m.done tag ∙ trees_e) ∙ ap (λ o. Some (record { offset = o; t = tree m x.t.0 })) (omega arith));
+      part = sym (ap (λ ns. option_map (within (part_of m whole)) (part_number 0 (first_member (union_placed (layout_at (env m)) ns)))) (members_named (trees m) m.done tag ∙ trees_e) ∙ ap (λ o. Some (record { offset = o; t = tree m x.t.0 })) (omega arith));
       is = record {
         known = known.0;
         complete = complete.0;

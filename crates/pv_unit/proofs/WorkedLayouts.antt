@@ -12,19 +12,14 @@ use Rattle.pv_unit.specs.Functions.{typed_external}
 use Rattle.pv_unit.specs.ValueRules.{values}
 use Rattle.pv_types.specs.Ty.{Ty, StructTag, UnionTag}
 use Rattle.pv_types.specs.Known.{heading_at}
-use Rattle.pv_types.specs.Layouts.{Part, Named, layout_in, layouts_of}
-use Rattle.pv_unit.specs.Parts.{members_in, struct_members}
+use Rattle.pv_types.specs.Layouts.{Named, Placed, layout_in, layouts_of}
+use Rattle.pv_types.specs.Members.{placed_in}
 use Rattle.pv_unit.proofs.WorkedAnswers.{nothing}
 
--- the members (6.7.2.1p15): the number of each name among the tokens, its offset and its size
-abbrev members : WholeUnit → List Named → List Part → List ℕ
-members u (m ∷ ms) (p ∷ ps) = m.name ∷ p.offset ∷ (layout_in (layouts u) p.t).size ∷ members u ms ps
-members u _ _ = []
-
--- the members of a union (6.7.2.1p16), which begin where it begins
-abbrev union_parts : List Named → List Part
-union_parts [] = []
-union_parts (m ∷ ms) = record { offset = 0; t = m.t } ∷ union_parts ms
+-- the members where they begin (6.7.2.1p15, p16): the number of each name among the tokens, its offset and its size
+abbrev members : List (Placed Named) → List ℕ
+members [] = []
+members (p ∷ ps) = p.member.name ∷ p.offset ∷ p.layout.size ∷ members ps
 
 -- the number of a tag's name among the tokens
 abbrev name_of : Option ℕ → ℕ
@@ -35,10 +30,10 @@ name_of (Some n) = n
 abbrev layout : WholeUnit → Ty → List ℕ
 layout u (StructTag n) =
     0 ∷ name_of (heading_at u.headings n).name ∷ (layout_in (layouts u) (StructTag n)).size ∷ (layout_in (layouts u) (StructTag n)).align
-    ∷ members u (members_in u.completed n) (struct_members (layouts u) 0 (members_in u.completed n))
+    ∷ members (placed_in u.completed (StructTag n))
 layout u (UnionTag n) =
     1 ∷ name_of (heading_at u.headings n).name ∷ (layout_in (layouts u) (UnionTag n)).size ∷ (layout_in (layouts u) (UnionTag n)).align
-    ∷ members u (members_in u.completed n) (union_parts (members_in u.completed n))
+    ∷ members (placed_in u.completed (UnionTag n))
 layout u _ = []
 
 -- those with a tag that are completed at file scope (6.7.2.3), in that order

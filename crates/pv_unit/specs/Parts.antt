@@ -1,35 +1,23 @@
 -- The parts of an object that the initializers of a list in braces are for (6.7.9p17 to p20).
-use Rattle.std.specs.Prelude.{ℕ, zero, suc, ◌+◌, ◌*◌, ◌^◌, ◌==◌, Bool, true, false, nat_lt, nat_le, if◌then◌else◌, List, [], ◌∷◌, Option, Some, None, option_map, option_and_then}
-use Rattle.std.specs.Int.{next_multiple_of}
+use Rattle.std.specs.Prelude.{ℕ, zero, suc, ◌+◌, ◌*◌, ◌^◌, Bool, true, false, nat_lt, nat_le, if◌then◌else◌, List, [], ◌∷◌, Option, Some, None, option_map, option_and_then}
 use Rattle.std.specs.declared.option.Option.TheVariants.{Some as Size, None as Unknown}
 use Rattle.pv_num.specs.declared.kinds.IntKind.{IntKind}
 use Rattle.pv_num.specs.declared.kinds.IntKind.TheVariants as kind
 use Rattle.pv_types.specs.Ty.{Ty, IntTy, PointerTo, ArrayOf, StructTag, UnionTag}
-use Rattle.pv_types.specs.Layouts.{Part, Entry, Named, Completed, layout_in, layouts_of, is_complete_in, part_count}
+use Rattle.pv_types.specs.Layouts.{Part, Entry, Named, Placed, Completed, layout_in, layouts_of, is_complete_in, part_count}
+use Rattle.pv_types.specs.Members.{placed_in, member_part}
 use Rattle.pv_layout.specs.Places.{bare}
 
--- 6.7.2.1p8: the members that a tag was completed with
-abbrev pub members_in : List Completed → ℕ → List Named
-members_in [] n = []
-members_in (d ∷ ds) n = if d.tag == n then d.members else members_in ds n
-
--- 6.7.2.1p15: the members of a structure in their order, each at the least aligned offset behind the one before
-abbrev pub struct_members : List Entry → ℕ → List Named → List Part
-struct_members env o [] = []
-struct_members env o (m ∷ ms) =
-    let start = next_multiple_of o (layout_in env m.t).align in
-    record { offset = start; t = m.t } ∷ struct_members env (start + (layout_in env m.t).size) ms
-
--- 6.7.9p17: of a union, the first member alone
-abbrev pub first_member : List Named → List Part
-first_member [] = []
-first_member (m ∷ ms) = record { offset = 0; t = m.t } ∷ []
-
--- 6.7.9p17: the part of this number, from 0
-abbrev pub part_number : ℕ → List Part → Option Part
+-- 6.7.9p17: of these members the part of this number, from 0
+abbrev pub part_number : ℕ → List (Placed Named) → Option Part
 part_number n [] = None
-part_number zero (p ∷ ps) = Some p
+part_number zero (p ∷ ps) = Some (member_part p)
 part_number (suc n) (p ∷ ps) = part_number n ps
+
+-- 6.7.9p17: of a union's members the first alone
+abbrev pub first_member : List (Placed Named) → List (Placed Named)
+first_member [] = []
+first_member (p ∷ ps) = p ∷ []
 
 -- 6.2.5p20, 6.5.2.1p2: the element of this number begins behind those before it
 abbrev pub element : List Entry → Ty → ℕ → Part
@@ -43,8 +31,8 @@ has_element Unknown size i = nat_le ((i + 1) * size) (2 ^ 32)
 -- 6.7.9p17: the part that initializer number i of a list is for, within a type without qualifiers
 abbrev pub part_in : List Completed → Ty → ℕ → Option Part
 part_in done (ArrayOf t n) i = if has_element n (layout_in (layouts_of done) t).size i then Some (element (layouts_of done) t i) else None
-part_in done (StructTag n) i = part_number i (struct_members (layouts_of done) 0 (members_in done n))
-part_in done (UnionTag n) i = part_number i (first_member (members_in done n))
+part_in done (StructTag n) i = part_number i (placed_in done (StructTag n))
+part_in done (UnionTag n) i = part_number i (first_member (placed_in done (UnionTag n)))
 part_in done _ i = None
 
 -- 6.7.9p17: a part of a part of an object, from the object's beginning

@@ -1,6 +1,5 @@
 //! Statements added to the tables of a unit (C17 6.8).
 ghost use Rattle.std.specs.Prelude.{◌≡◌, ◌<◌, ◌+◌, ◌++◌, ◌∷◌, [], ℕ, List, false, map, length, IfOk, IfSome, OnOk};
-ghost use Rattle.pv_tree.specs.Rows.{tables};
 ghost use Rattle.pv_tree.specs.Tables.{Is, is_declaration, declaration_at};
 ghost use Rattle.pv_typed.specs.Children.{HasKinds, HasParts};
 ghost use Rattle.pv_typed.specs.Formed.{AreObjects, DeclaresIn};
@@ -114,12 +113,12 @@ pub(crate) fn add_declaration(
     d: NodeId,
     items: &mut Vec<NodeId>,
 ) -> Result<bool, NoMemory>
-    requires node { Is (tables u.now) is_declaration d }
+    requires node { Is u.now is_declaration d }
     requires opened { IsOpen into.old s.old }
     requires items { AreStatements into.old items.old.items }
     ensures there { IfOk result (StatementsOn into.new items.new.items) }
     ensures moves { IfOk result (MovesOn into.old s.old into.new s.new) }
-    ensures typed { IfOk result (λ b. items_if t.now.texts s.new into.new items.new.items b ≡ declared_item (declaration_at (tables u.now).forest d) (items_in t.now.texts s.old into.old items.old.items)) }
+    ensures typed { IfOk result (λ b. items_if t.now.texts s.new into.new items.new.items b ≡ declared_item (declaration_at u.now.forest d) (items_in t.now.texts s.old into.old items.old.items)) }
 {
     let mut all = Vec::new(s.allocator());
     let found = block_declaration(u, t, s, into, d, &mut all)?;

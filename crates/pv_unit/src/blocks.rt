@@ -2,7 +2,6 @@
 ghost use Rattle.std.specs.Prelude.{◌≡◌, ◌<◌, ◌++◌, [], ℕ, List, is_some, false, map, IfOk, IfSome, OnOk, None, length};
 ghost use Rattle.pv_types.specs.Known.{tree};
 ghost use Rattle.pv_tree.specs.Syntax.{OfInitializer, Present};
-ghost use Rattle.pv_tree.specs.Rows.{tables};
 ghost use Rattle.pv_tree.specs.Tables.{Forest, Is, HasList, HasOptional, trees_at, declaration_at, initializer_at, optional_at, is_declaration, is_declarator, is_initializer, is_specifier};
 ghost use Rattle.pv_types.specs.Layouts.{is_complete_in};
 ghost use Rattle.pv_typed.specs.Tables.{Stored, whole};
@@ -63,12 +62,12 @@ fn with_given(
     o: u32,
     i: NodeId,
 ) -> Result<bool, NoMemory>
-    requires node { Is (tables u.now) is_initializer i }
+    requires node { Is u.now is_initializer i }
     requires opened { IsOpen into.old s.old }
     requires object { o < length into.old.objects }
     ensures opened { IfOk result (OpenOn into.new s.new) }
     ensures goes { IfOk result (GoesOn into.old into.new) }
-    ensures answer { IfOk result (λ b. state_on t.now.texts s.new into.new b ≡ with_initializer lasting o (Present (OfInitializer (initializer_at (tables u.now).forest i))) (state_of t.now.texts false s.old into.old)) }
+    ensures answer { IfOk result (λ b. state_on t.now.texts s.new into.new b ≡ with_initializer lasting o (Present (OfInitializer (initializer_at u.now.forest i))) (state_of t.now.texts false s.old into.old)) }
 {
     let has = given(u, t, s, into, lasting, o, i)?;
     if !has {
@@ -87,12 +86,12 @@ fn with_initializer(
     o: u32,
     init: Option<NodeId>,
 ) -> Result<bool, NoMemory>
-    requires init { HasOptional (tables u.now).forest (length (tables u.now).forest.trees) is_initializer init }
+    requires init { HasOptional u.now.forest (length u.now.forest.trees) is_initializer init }
     requires opened { IsOpen into.old s.old }
     requires object { o < length into.old.objects }
     ensures opened { IfOk result (OpenOn into.new s.new) }
     ensures goes { IfOk result (GoesOn into.old into.new) }
-    ensures answer { IfOk result (λ b. state_on t.now.texts s.new into.new b ≡ with_initializer lasting o (optional_at (tables u.now).forest init) (state_of t.now.texts false s.old into.old)) }
+    ensures answer { IfOk result (λ b. state_on t.now.texts s.new into.new b ≡ with_initializer lasting o (optional_at u.now.forest init) (state_of t.now.texts false s.old into.old)) }
 {
     match init {
         None => Ok(is_whole(s, into, o)),
@@ -115,13 +114,13 @@ fn block_object(
     line: u32,
     init: Option<NodeId>,
 ) -> Result<Option<u32>, NoMemory>
-    requires init { HasOptional (tables u.now).forest (length (tables u.now).forest.trees) is_initializer init }
+    requires init { HasOptional u.now.forest (length u.now.forest.trees) is_initializer init }
     requires opened { IsOpen into.old s.old }
     requires known { made.0 < length into.old.known.terms }
     ensures opened { IfOk result (λ r. IfSome r (λ o. IsOpen into.new s.new)) }
     ensures goes { IfOk result (λ r. IfSome r (λ o. Goes into.old into.new)) }
     ensures number { IfOk result (λ r. IfSome r (λ o. (o ≡ length (whole into.old).objects) × (o < length into.new.objects))) }
-    ensures answer { IfOk result (λ r. state_on t.now.texts s.new into.new (is_some r) ≡ block_object lasting (tree into.old.known made.0) (name, line) (optional_at (tables u.now).forest init) (state_of t.now.texts false s.old into.old)) }
+    ensures answer { IfOk result (λ r. state_on t.now.texts s.new into.new (is_some r) ≡ block_object lasting (tree into.old.known made.0) (name, line) (optional_at u.now.forest init) (state_of t.now.texts false s.old into.old)) }
 {
     if found(s, into, name).is_some() {
         return Ok(None);
@@ -164,15 +163,15 @@ fn block_declarator(
     init: Option<NodeId>,
     all: &mut Vec<Reached>,
 ) -> Result<bool, NoMemory>
-    requires node { Is (tables u.now) is_declarator d }
-    requires init { HasOptional (tables u.now).forest (length (tables u.now).forest.trees) is_initializer init }
+    requires node { Is u.now is_declarator d }
+    requires init { HasOptional u.now.forest (length u.now.forest.trees) is_initializer init }
     requires opened { IsOpen into.old s.old }
     requires known { base.0 < length into.old.known.terms }
     requires there { AreReached into.old all.old.items }
     ensures opened { IfOk result (OpenOn into.new s.new) }
     ensures goes { IfOk result (GoesOn into.old into.new) }
     ensures there { IfOk result (ReachedOn into.new all.new.items) }
-    ensures answer { IfOk result (λ b. reached_if t.now.texts s.new into.new all.new.items b ≡ block_declarator_at (tables u.now) lasting (tree into.old.known base.0) d init (reached_in t.now.texts s.old into.old all.old.items)) }
+    ensures answer { IfOk result (λ b. reached_if t.now.texts s.new into.new all.new.items b ≡ block_declarator_at u.now lasting (tree into.old.known base.0) d init (reached_in t.now.texts s.old into.old all.old.items)) }
 {
     let Some((name, line)) = declared_name(u, d) else {
         return Ok(false);
@@ -202,14 +201,14 @@ fn block_init_declarator(
     n: NodeId,
     all: &mut Vec<Reached>,
 ) -> Result<bool, NoMemory>
-    requires node { Is (tables u.now) is_declaration n }
+    requires node { Is u.now is_declaration n }
     requires opened { IsOpen into.old s.old }
     requires known { base.0 < length into.old.known.terms }
     requires there { AreReached into.old all.old.items }
     ensures opened { IfOk result (OpenOn into.new s.new) }
     ensures goes { IfOk result (GoesOn into.old into.new) }
     ensures there { IfOk result (ReachedOn into.new all.new.items) }
-    ensures answer { IfOk result (λ b. reached_if t.now.texts s.new into.new all.new.items b ≡ block_init_declarator_at (tables u.now) lasting (tree into.old.known base.0) n (reached_in t.now.texts s.old into.old all.old.items)) }
+    ensures answer { IfOk result (λ b. reached_if t.now.texts s.new into.new all.new.items b ≡ block_init_declarator_at u.now lasting (tree into.old.known base.0) n (reached_in t.now.texts s.old into.old all.old.items)) }
 {
     match u.decl(n) {
         Decl::InitDeclarator { declarator, init } => {
@@ -235,14 +234,14 @@ fn block_declarators(
     list: ListId,
     all: &mut Vec<Reached>,
 ) -> Result<bool, NoMemory>
-    requires list { HasList (tables u.now).forest (length (tables u.now).forest.trees) is_declaration list }
+    requires list { HasList u.now.forest (length u.now.forest.trees) is_declaration list }
     requires opened { IsOpen into.old s.old }
     requires known { base.0 < length into.old.known.terms }
     requires none { all.old.items ≡ [] }
     ensures opened { IfOk result (OpenOn into.new s.new) }
     ensures goes { IfOk result (GoesOn into.old into.new) }
     ensures there { IfOk result (ReachedOn into.new all.new.items) }
-    ensures answer { IfOk result (λ b. reached_if t.now.texts s.new into.new all.new.items b ≡ block_declarators (trees_at (tables u.now).forest list) lasting (tree into.old.known base.0) (state_of t.now.texts false s.old into.old)) }
+    ensures answer { IfOk result (λ b. reached_if t.now.texts s.new into.new all.new.items b ≡ block_declarators (trees_at u.now.forest list) lasting (tree into.old.known base.0) (state_of t.now.texts false s.old into.old)) }
 {
     let nodes = u.list(list);
     for n in nodes {
@@ -261,11 +260,11 @@ fn specifiers_alone(
     into: &mut TypedUnit,
     specs: ListId,
 ) -> Result<bool, NoMemory>
-    requires specs { HasList (tables u.now).forest (length (tables u.now).forest.trees) is_specifier specs }
+    requires specs { HasList u.now.forest (length u.now.forest.trees) is_specifier specs }
     requires opened { IsOpen into.old s.old }
     ensures opened { IfOk result (OpenOn into.new s.new) }
     ensures goes { IfOk result (GoesOn into.old into.new) }
-    ensures answer { IfOk result (λ b. reached_if t.now.texts s.new into.new [] b ≡ block_alone None (trees_at (tables u.now).forest specs) (state_of t.now.texts false s.old into.old)) }
+    ensures answer { IfOk result (λ b. reached_if t.now.texts s.new into.new [] b ≡ block_alone None (trees_at u.now.forest specs) (state_of t.now.texts false s.old into.old)) }
 {
     let before = bound(s, into);
     let Some(x) = specified(u, t, s, into, specs)? else {
@@ -285,11 +284,11 @@ fn block_alone(
     into: &mut TypedUnit,
     specs: ListId,
 ) -> Result<bool, NoMemory>
-    requires specs { HasList (tables u.now).forest (length (tables u.now).forest.trees) is_specifier specs }
+    requires specs { HasList u.now.forest (length u.now.forest.trees) is_specifier specs }
     requires opened { IsOpen into.old s.old }
     ensures opened { IfOk result (OpenOn into.new s.new) }
     ensures goes { IfOk result (GoesOn into.old into.new) }
-    ensures answer { IfOk result (λ b. reached_if t.now.texts s.new into.new [] b ≡ block_alone (only_tag (trees_at (tables u.now).forest specs)) (trees_at (tables u.now).forest specs) (state_of t.now.texts false s.old into.old)) }
+    ensures answer { IfOk result (λ b. reached_if t.now.texts s.new into.new [] b ≡ block_alone (only_tag (trees_at u.now.forest specs)) (trees_at u.now.forest specs) (state_of t.now.texts false s.old into.old)) }
 {
     match only_tag(u, specs) {
         Some((word, name)) => {
@@ -313,14 +312,14 @@ fn block_declared(
     declared: ListId,
     all: &mut Vec<Reached>,
 ) -> Result<bool, NoMemory>
-    requires specs { HasList (tables u.now).forest (length (tables u.now).forest.trees) is_specifier specs }
-    requires declared { HasList (tables u.now).forest (length (tables u.now).forest.trees) is_declaration declared }
+    requires specs { HasList u.now.forest (length u.now.forest.trees) is_specifier specs }
+    requires declared { HasList u.now.forest (length u.now.forest.trees) is_declaration declared }
     requires opened { IsOpen into.old s.old }
     requires none { all.old.items ≡ [] }
     ensures opened { IfOk result (OpenOn into.new s.new) }
     ensures goes { IfOk result (GoesOn into.old into.new) }
     ensures there { IfOk result (ReachedOn into.new all.new.items) }
-    ensures answer { IfOk result (λ b. reached_if t.now.texts s.new into.new all.new.items b ≡ block_declared (trees_at (tables u.now).forest specs) (trees_at (tables u.now).forest declared) (state_of t.now.texts false s.old into.old)) }
+    ensures answer { IfOk result (λ b. reached_if t.now.texts s.new into.new all.new.items b ≡ block_declared (trees_at u.now.forest specs) (trees_at u.now.forest declared) (state_of t.now.texts false s.old into.old)) }
 {
     let Some(x) = specified(u, t, s, into, specs)? else {
         return Ok(false);
@@ -341,13 +340,13 @@ pub(crate) fn block_declaration(
     n: NodeId,
     all: &mut Vec<Reached>,
 ) -> Result<bool, NoMemory>
-    requires node { Is (tables u.now) is_declaration n }
+    requires node { Is u.now is_declaration n }
     requires opened { IsOpen into.old s.old }
     requires none { all.old.items ≡ [] }
     ensures opened { IfOk result (OpenOn into.new s.new) }
     ensures goes { IfOk result (GoesOn into.old into.new) }
     ensures there { IfOk result (ReachedOn into.new all.new.items) }
-    ensures answer { IfOk result (λ b. reached_if t.now.texts s.new into.new all.new.items b ≡ block_declaration (declaration_at (tables u.now).forest n) (state_of t.now.texts false s.old into.old)) }
+    ensures answer { IfOk result (λ b. reached_if t.now.texts s.new into.new all.new.items b ≡ block_declaration (declaration_at u.now.forest n) (state_of t.now.texts false s.old into.old)) }
 {
     match u.decl(n) {
         Decl::Declaration { specs, declared } => {

@@ -1,7 +1,6 @@
 //! Typing a translation unit (C17 6.9).
 ghost use Rattle.std.specs.Prelude.{◌≡◌, ◌<◌, ◌≤◌, ◌^◌, ◌&&◌, nat_lt, not, ℕ, List, length, Some, is_some, IsTrue, IfOk, IfErr, OnOk};
 ghost use Rattle.pv_token.specs.Table.{Table};
-ghost use Rattle.pv_tree.specs.Rows.{tables};
 ghost use Rattle.pv_tree.specs.Syntax.{DeclarationTree};
 ghost use Rattle.pv_types.specs.Known.{env};
 ghost use Rattle.pv_types.specs.Layouts.{layout_in};
@@ -76,8 +75,8 @@ fn all_declarations(
     requires opened { IsOpen into.old s.old }
     requires entities { AreThere into.old outer.old.entities }
     ensures opened { OnOk result (IsOpen into.new s.new) }
-    ensures typed { OnOk result (IsTyped (externals_in (tables u.now)) (unit_state t.now.texts s.old into.old outer.old) (unit_state t.now.texts s.new into.new outer.new)) }
-    ensures refused { IfErr result (IsStop (externals_in (tables u.now)) (unit_state t.now.texts s.old into.old outer.old)) }
+    ensures typed { OnOk result (IsTyped (externals_in u.now) (unit_state t.now.texts s.old into.old outer.old) (unit_state t.now.texts s.new into.new outer.new)) }
+    ensures refused { IfErr result (IsStop (externals_in u.now) (unit_state t.now.texts s.old into.old outer.old)) }
 {
     let count = u.count();
     for i in 0..count {
@@ -153,11 +152,11 @@ fn filled(
     requires first { unit_state t.now.texts s.old into.old outer.old ≡ first t.now }
     requires opened { IsOpen into.old s.old }
     requires entities { AreThere into.old outer.old.entities }
-    ensures typed { OnOk result (UnitComes t.now (externals_in (tables u.now)) (Typed (whole into.new))) }
+    ensures typed { OnOk result (UnitComes t.now (externals_in u.now) (Typed (whole into.new))) }
     ensures known { OnOk result (AreKnown into.new) }
     ensures main { OnOk result (IsTrue (is_some (main_of (whole into.new)))) }
     ensures small { OnOk result ((n : ℕ) → (layout_in (env into.new.known) (StructTag n)).size ≤ 2 ^ 32) }
-    ensures refused { IfErr result (IsCause t.now (externals_in (tables u.now))) }
+    ensures refused { IfErr result (IsCause t.now (externals_in u.now)) }
     ensures named { IfErr result (IsNamed t.now) }
 {
     match all_declarations(u, t, s, into, outer) {
@@ -170,11 +169,11 @@ fn filled(
 /// and tells how many of them have one; `Unresolved` where they all have one, and an expression names what neither the
 /// unit nor the library defines; `NoMain` where neither is so, and `main` is not defined.
 pub fn check(alloc: Global, u: &Unit, t: &Tokens) -> Result<TypedUnit, CheckError>
-    ensures typed { IfOk result (λ w. UnitComes t.now (externals_in (tables u.now)) (Typed (whole w))) }
+    ensures typed { IfOk result (λ w. UnitComes t.now (externals_in u.now) (Typed (whole w))) }
     ensures known { IfOk result AreKnown }
     ensures main { IfOk result (λ w. IsTrue (is_some (main_of (whole w)))) }
     ensures small { IfOk result (λ w. (n : ℕ) → (layout_in (env w.known) (StructTag n)).size ≤ 2 ^ 32) }
-    ensures refused { IfErr result (IsCause t.now (externals_in (tables u.now))) }
+    ensures refused { IfErr result (IsCause t.now (externals_in u.now)) }
     ensures named { IfErr result (IsNamed t.now) }
 {
     let mut s = first_scopes(alloc)?;

@@ -1,6 +1,5 @@
 //! Specifiers and declarators of declarations (C17 6.7): the storage class and the type, the name and its type.
 ghost use Rattle.std.specs.Prelude.{◌≡◌, ◌<◌, ◌||◌, nat_lt, ℕ, Bool, List, IfOk, IfSome, OnOk, Some, None, false, length};
-ghost use Rattle.pv_tree.specs.Rows.{tables};
 ghost use Rattle.pv_tree.specs.Tables.{Is, HasList, tree_at, specifier_at, declarator_at, trees_at, is_declarator, is_specifier};
 ghost use Rattle.pv_tree.specs.Syntax.{Then, NoTrees};
 ghost use Rattle.pv_types.specs.Known.{Known, tree};
@@ -59,12 +58,12 @@ pub(crate) fn specified(
     into: &mut TypedUnit,
     list: ListId,
 ) -> Result<Option<Specified>, NoMemory>
-    requires list { HasList (tables u.now).forest (length (tables u.now).forest.trees) is_specifier list }
+    requires list { HasList u.now.forest (length u.now.forest.trees) is_specifier list }
     requires opened { IsOpen into.old s.old }
     ensures opened { IfOk result (λ r. IfSome r (λ x. IsOpen into.new s.new)) }
     ensures goes { IfOk result (λ r. IfSome r (λ x. Goes into.old into.new)) }
     ensures known { IfOk result (λ r. IfSome r (λ x. x.t.0 < length into.new.known.terms)) }
-    ensures answer { IfOk result (λ r. after_specified t.now.texts s.new into.new r ≡ specified_by (trees_at (tables u.now).forest list) (state_of t.now.texts false s.old into.old)) }
+    ensures answer { IfOk result (λ r. after_specified t.now.texts s.new into.new r ≡ specified_by (trees_at u.now.forest list) (state_of t.now.texts false s.old into.old)) }
 {
     let Some(seen) = read_specifiers(u, t, s, into, list, false)? else {
         return Ok(None);
@@ -83,13 +82,13 @@ pub(crate) fn type_declared(
     base: TypeId,
     d: NodeId,
 ) -> Result<Option<DeclaredType>, NoMemory>
-    requires node { Is (tables u.now) is_declarator d }
+    requires node { Is u.now is_declarator d }
     requires opened { IsOpen into.old s.old }
     requires base { base.0 < length into.old.known.terms }
     ensures opened { IfOk result (λ r. IfSome r (λ x. IsOpen into.new s.new)) }
     ensures goes { IfOk result (λ r. IfSome r (λ x. Goes into.old into.new)) }
     ensures known { IfOk result (λ r. IfSome r (λ x. x.t.0 < length into.new.known.terms)) }
-    ensures answer { IfOk result (λ r. after_declared t.now.texts s.new into.new r ≡ type_declared unsized_may_be (tree into.old.known base.0) (declarator_at (tables u.now).forest d) (state_of t.now.texts false s.old into.old)) }
+    ensures answer { IfOk result (λ r. after_declared t.now.texts s.new into.new r ≡ type_declared unsized_may_be (tree into.old.known base.0) (declarator_at u.now.forest d) (state_of t.now.texts false s.old into.old)) }
 {
     let Some(steps) = steps_of(s.allocator(), u, t, s, into, d, false)? else {
         return Ok(None);
@@ -106,8 +105,8 @@ pub(crate) fn type_declared(
 
 /// Whether a structure or a union with a tag is among the specifiers, with its members.
 fn has_list(u: &Unit, list: ListId) -> bool
-    requires { HasList (tables u.now).forest (length (tables u.now).forest.trees) is_specifier list }
-    ensures { result ≡ has_list (trees_at (tables u.now).forest list) }
+    requires { HasList u.now.forest (length u.now.forest.trees) is_specifier list }
+    ensures { result ≡ has_list (trees_at u.now.forest list) }
 {
     let nodes = u.list(list);
     for n in nodes {
@@ -120,8 +119,8 @@ fn has_list(u: &Unit, list: ListId) -> bool
 
 /// Whether the specifier is one.
 fn is_listed(u: &Unit, n: NodeId) -> bool
-    requires { Is (tables u.now) is_specifier n }
-    ensures { result ≡ is_listed (specifier_at (tables u.now).forest n) }
+    requires { Is u.now is_specifier n }
+    ensures { result ≡ is_listed (specifier_at u.now.forest n) }
 {
     match u.spec(n) {
         Spec::Struct { name, members: _ } => name.is_some(),
@@ -148,8 +147,8 @@ fn is_listed(u: &Unit, n: NodeId) -> bool
 
 /// The one tag specifier, if there is no other specifier.
 pub(crate) fn only_tag(u: &Unit, list: ListId) -> Option<(Word, u32)>
-    requires { HasList (tables u.now).forest (length (tables u.now).forest.trees) is_specifier list }
-    ensures { result ≡ only_tag (trees_at (tables u.now).forest list) }
+    requires { HasList u.now.forest (length u.now.forest.trees) is_specifier list }
+    ensures { result ≡ only_tag (trees_at u.now.forest list) }
 {
     let nodes = u.list(list);
     if nodes.len() != 1 {
@@ -160,8 +159,8 @@ pub(crate) fn only_tag(u: &Unit, list: ListId) -> Option<(Word, u32)>
 
 /// The word and the tag of a tag specifier without a list.
 fn tag_of(u: &Unit, n: NodeId) -> Option<(Word, u32)>
-    requires { Is (tables u.now) is_specifier n }
-    ensures { result ≡ only_tag (Then NoTrees (tree_at (tables u.now).forest n)) }
+    requires { Is u.now is_specifier n }
+    ensures { result ≡ only_tag (Then NoTrees (tree_at u.now.forest n)) }
 {
     match u.spec(n) {
         Spec::StructTag(name) => Some((Word::Struct, name)),
@@ -225,9 +224,9 @@ pub(crate) fn tag_alone(
 /// Whether specifiers without a declarator declare a tag or enumerators, or complete a tag (C17 6.7p2), where the
 /// innermost scope had so many names and tags before them.
 pub(crate) fn tags_alone(u: &Unit, s: &Scopes, into: &TypedUnit, list: ListId, before: u64) -> bool
-    requires list { HasList (tables u.now).forest (length (tables u.now).forest.trees) is_specifier list }
+    requires list { HasList u.now.forest (length u.now.forest.trees) is_specifier list }
     requires opened { IsOpen into.now s.now }
-    ensures { (texts : List (List ℕ)) → result ≡ (nat_lt before (bound_in (innermost (state_of texts false s.now into.now).scopes)) || has_list (trees_at (tables u.now).forest list)) }
+    ensures { (texts : List (List ℕ)) → result ≡ (nat_lt before (bound_in (innermost (state_of texts false s.now into.now).scopes)) || has_list (trees_at u.now.forest list)) }
 {
     before < s.bound() || has_list(u, list)
 }

@@ -2,7 +2,6 @@
 ghost use Rattle.std.specs.Prelude.{◌≡◌, ◌<◌, ◌&&◌, ◌||◌, not, ℕ, List, IfOk, IfSome, OnOk, Some, None, length, false, true};
 ghost use Rattle.pv_types.specs.Known.{tree};
 ghost use Rattle.pv_types.specs.Compatible.{are_compatible};
-ghost use Rattle.pv_tree.specs.Rows.{tables};
 ghost use Rattle.pv_tree.specs.Tables.{optional_at, is_initializer, initializer_at, Is, HasOptional};
 ghost use Rattle.pv_typed.specs.Tables.{whole};
 ghost use Rattle.pv_check.specs.Raw.{raw_innermost, meaning_if};

@@ -1,6 +1,5 @@
 //! Function definitions and external declarations (C17 6.9, 6.9.1).
 ghost use Rattle.std.specs.Prelude.{◌≡◌, ◌<◌, ◌+◌, ◌++◌, ◌∷◌, [], ℕ, List, false, length, IfOk, IfSome, OnOk, Some};
-ghost use Rattle.pv_tree.specs.Rows.{tables};
 ghost use Rattle.pv_tree.specs.Tables.{Is, HasList, declaration_at, declarator_at, statement_at as statement_of, trees_at, is_declarator, is_declaration, is_external, is_item, is_specifier, is_statement, tree_at};
 ghost use Rattle.pv_types.specs.Known.{tree};
 ghost use Rattle.pv_typed.specs.Children.{Each};
@@ -110,8 +109,8 @@ fn set_body(s: &Scopes, into: &mut TypedUnit, f: u32, body: NodeId)
 
 /// The items of a function's body, if it is a block.
 fn block_items(u: &Unit, n: NodeId) -> Option<ListId>
-    requires { Is (tables u.now) is_statement n }
-    ensures { IsBodyIf (tables u.now).forest n result }
+    requires { Is u.now is_statement n }
+    ensures { IsBodyIf u.now.forest n result }
 {
     match u.stmt(n) {
         Stmt::Block(list) => Some(list),
@@ -145,15 +144,15 @@ fn scoped(
     list: ListId,
     items: &mut Vec<NodeId>,
 ) -> Result<bool, NoMemory>
-    requires node { Is (tables u.now) is_statement block }
-    requires list { HasList (tables u.now).forest block.0 is_item list }
+    requires node { Is u.now is_statement block }
+    requires list { HasList u.now.forest block.0 is_item list }
     requires opened { IsOpen into.old s.old }
     requires returned { result_type.0 < length into.old.known.terms }
     requires scope { ScopeKnown into.old (raw_of scope) }
     requires empty { items.old.items ≡ [] }
     ensures there { IfOk result (StatementsOn into.new items.new.items) }
     ensures moves { IfOk result (MovesOn into.old s.old into.new s.new) }
-    ensures answer { IfOk result (λ b. items_if t.now.texts s.new into.new items.new.items b ≡ body_items_at (tables u.now) into.old.known result_type scope list (state_of t.now.texts false s.old into.old)) }
+    ensures answer { IfOk result (λ b. items_if t.now.texts s.new into.new items.new.items b ≡ body_items_at u.now into.old.known result_type scope list (state_of t.now.texts false s.old into.old)) }
 {
     let around = Place {
         result: result_type,
@@ -201,7 +200,7 @@ fn body(
     own: Signature,
     block: NodeId,
 ) -> Result<bool, NoMemory>
-    requires node { Is (tables u.now) is_statement block }
+    requires node { Is u.now is_statement block }
     requires opened { IsOpen into.old s.old }
     requires function { defined.function < length into.old.functions }
     requires returned { defined.result_type.0 < length into.old.known.terms }
@@ -209,7 +208,7 @@ fn body(
     requires entities { AreThere into.old outer.now.entities }
     ensures opened { IfOk result (OpenOn into.new s.new) }
     ensures entities { IfOk result (ThereOn into.new outer.now.entities) }
-    ensures answer { IfOk result (λ b. unit_if t.now.texts s.new into.new outer.now b ≡ typed_body (statement_of (tables u.now).forest block) (head_made t.now.texts s.old into.old outer.now defined own)) }
+    ensures answer { IfOk result (λ b. unit_if t.now.texts s.new into.new outer.now b ≡ typed_body (statement_of u.now.forest block) (head_made t.now.texts s.old into.old outer.now defined own)) }
 {
     let Some(list) = block_items(u, block) else {
         return Ok(false);
@@ -254,8 +253,8 @@ pub(crate) struct FunctionParts {
 
 /// The parts of the declaration, if it is a function definition.
 fn definition_parts(u: &Unit, d: NodeId) -> Option<FunctionParts>
-    requires { Is (tables u.now) is_declaration d }
-    ensures { ArePartsIf (tables u.now) d result }
+    requires { Is u.now is_declaration d }
+    ensures { ArePartsIf u.now d result }
 {
     match u.decl(d) {
         Decl::Function {
@@ -285,14 +284,14 @@ fn definition(
     outer: &mut Outer,
     x: FunctionParts,
 ) -> Result<bool, NoMemory>
-    requires specs { HasList (tables u.now).forest (length (tables u.now).forest.trees) is_specifier x.specs }
-    requires declarator { Is (tables u.now) is_declarator x.declarator }
-    requires block { Is (tables u.now) is_statement x.block }
+    requires specs { HasList u.now.forest (length u.now.forest.trees) is_specifier x.specs }
+    requires declarator { Is u.now is_declarator x.declarator }
+    requires block { Is u.now is_statement x.block }
     requires opened { IsOpen into.old s.old }
     requires entities { AreThere into.old outer.old.entities }
     ensures opened { IfOk result (OpenOn into.new s.new) }
     ensures entities { IfOk result (ThereOn into.new outer.new.entities) }
-    ensures answer { IfOk result (λ b. unit_if t.now.texts s.new into.new outer.new b ≡ definition_at (tables u.now) x (unit_state t.now.texts s.old into.old outer.old)) }
+    ensures answer { IfOk result (λ b. unit_if t.now.texts s.new into.new outer.new b ≡ definition_at u.now x (unit_state t.now.texts s.old into.old outer.old)) }
 {
     let Some(h) = head(u, t, s, into, outer, x.specs, x.declarator)? else {
         return Ok(false);
@@ -310,12 +309,12 @@ fn declaration(
     outer: &mut Outer,
     d: NodeId,
 ) -> Result<bool, NoMemory>
-    requires node { Is (tables u.now) is_declaration d }
+    requires node { Is u.now is_declaration d }
     requires opened { IsOpen into.old s.old }
     requires entities { AreThere into.old outer.old.entities }
     ensures opened { IfOk result (OpenOn into.new s.new) }
     ensures entities { IfOk result (ThereOn into.new outer.new.entities) }
-    ensures answer { IfOk result (λ b. unit_if t.now.texts s.new into.new outer.new b ≡ typed_declaration (declaration_at (tables u.now).forest d) (unit_state t.now.texts s.old into.old outer.old)) }
+    ensures answer { IfOk result (λ b. unit_if t.now.texts s.new into.new outer.new b ≡ typed_declaration (declaration_at u.now.forest d) (unit_state t.now.texts s.old into.old outer.old)) }
 {
     let Some(x) = definition_parts(u, d) else {
         let b = file_declaration(u, t, s, into, outer, d)?;
@@ -345,12 +344,12 @@ pub(crate) fn external(
     outer: &mut Outer,
     d: NodeId,
 ) -> Result<bool, NoMemory>
-    requires node { Is (tables u.now) is_external d }
+    requires node { Is u.now is_external d }
     requires opened { IsOpen into.old s.old }
     requires entities { AreThere into.old outer.old.entities }
     ensures opened { IfOk result (OpenOn into.new s.new) }
     ensures entities { IfOk result (ThereOn into.new outer.new.entities) }
-    ensures answer { IfOk result (λ b. unit_if t.now.texts s.new into.new outer.new b ≡ typed_external (declaration_at (tables u.now).forest d) (unit_state t.now.texts s.old into.old outer.old)) }
+    ensures answer { IfOk result (λ b. unit_if t.now.texts s.new into.new outer.new b ≡ typed_external (declaration_at u.now.forest d) (unit_state t.now.texts s.old into.old outer.old)) }
 {
     if !declaration(u, t, s, into, outer, d)? {
         return Ok(false);

@@ -1,7 +1,6 @@
 //! What an initializer gives its object (C17 6.7.9p3, p22): the type, and the stores.
 ghost use Rattle.std.specs.Prelude.{◌≡◌, ◌<◌, [], length, List, ℕ, IfOk, OnOk, Some, false, true};
 ghost use Rattle.pv_types.specs.Known.{completions, env, tree};
-ghost use Rattle.pv_tree.specs.Rows.{tables};
 ghost use Rattle.pv_tree.specs.Tables.{Forest, Is, initializer_at, is_initializer};
 ghost use Rattle.pv_typed.specs.Formed.{AreKnown, Grown};
 ghost use Rattle.pv_typed.specs.Tables.{whole};
@@ -55,8 +54,8 @@ fn can_be_initialized(types: &Types, t: TypeId) -> bool
 
 /// Whether it is a list in braces.
 fn is_braces(u: &Unit, i: NodeId) -> bool
-    requires { Is (tables u.now) is_initializer i }
-    ensures { result ≡ is_braces (initializer_at (tables u.now).forest i) }
+    requires { Is u.now is_initializer i }
+    ensures { result ≡ is_braces (initializer_at u.now.forest i) }
 {
     match u.init(i) {
         Initializer::Expr(_) => false,
@@ -78,8 +77,8 @@ fn is_filling(x: Shape) -> bool
 fn is_braced(types: &Types, u: &Unit, part: Subobject, i: NodeId) -> bool
     requires sized { AreSized types.now }
     requires part { IsPart types.now part }
-    requires node { Is (tables u.now) is_initializer i }
-    ensures { result ≡ is_braced (completions types.now) (part_of types.now part) (initializer_at (tables u.now).forest i) }
+    requires node { Is u.now is_initializer i }
+    ensures { result ≡ is_braced (completions types.now) (part_of types.now part) (initializer_at u.now.forest i) }
 {
     is_braces(u, i) || is_filling(shape_of(types, u, part, i))
 }
@@ -122,11 +121,11 @@ fn initialized_object(
     lasting: bool,
     out: &mut Vec<Init>,
 ) -> Result<Option<Completion>, NoMemory>
-    requires node { Is (tables u.now) is_initializer i }
+    requires node { Is u.now is_initializer i }
     requires opened { IsOpen into.old s.old }
     requires known { whole.0 < length into.old.known.terms }
     requires none { out.old.items ≡ [] }
-    ensures typed { IfOk result (λ r. given_if t.now.texts s.new into.new out.new.items r ≡ object_stores lasting (tree into.old.known whole.0) (initializer_at (tables u.now).forest i) (state_of t.now.texts false s.old into.old)) }
+    ensures typed { IfOk result (λ r. given_if t.now.texts s.new into.new out.new.items r ≡ object_stores lasting (tree into.old.known whole.0) (initializer_at u.now.forest i) (state_of t.now.texts false s.old into.old)) }
     ensures fills { IfOk result (FillsIf into.old into.new s.new out.new.items) }
     ensures known { IfOk result (IsGivenIf into.new) }
 {
@@ -203,12 +202,12 @@ pub(crate) fn given(
     o: u32,
     i: NodeId,
 ) -> Result<bool, NoMemory>
-    requires node { Is (tables u.now) is_initializer i }
+    requires node { Is u.now is_initializer i }
     requires opened { IsOpen into.old s.old }
     requires object { o < length into.old.objects }
     ensures opened { IfOk result (OpenOn into.new s.new) }
     ensures goes { IfOk result (GoesOn into.old into.new) }
-    ensures answer { IfOk result (λ b. state_on t.now.texts s.new into.new b ≡ object_given lasting o (initializer_at (tables u.now).forest i) (state_of t.now.texts false s.old into.old)) }
+    ensures answer { IfOk result (λ b. state_on t.now.texts s.new into.new b ≡ object_given lasting o (initializer_at u.now.forest i) (state_of t.now.texts false s.old into.old)) }
 {
     let whole = into.object(o).t;
     let mut stores = Vec::new(s.allocator());

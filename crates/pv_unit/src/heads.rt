@@ -1,6 +1,5 @@
 //! Heads of function definitions (C17 6.9.1).
 ghost use Rattle.std.specs.Prelude.{◌≡◌, ◌<◌, ◌&&◌, ◌||◌, not, ℕ, List, IfOk, IfSome, OnOk, Some, None, true, false, length, is_some};
-ghost use Rattle.pv_tree.specs.Rows.{tables};
 ghost use Rattle.pv_tree.specs.Tables.{Is, HasList, declarator_at, trees_at, is_declarator, is_specifier};
 ghost use Rattle.pv_types.specs.Known.{tree, env};
 ghost use Rattle.pv_types.specs.Layouts.{is_complete_in};
@@ -235,14 +234,14 @@ fn head_stepped(
     name: u32,
     line: u32,
 ) -> Result<Option<Heading>, NoMemory>
-    requires node { Is (tables u.now) is_declarator d }
+    requires node { Is u.now is_declarator d }
     requires opened { IsOpen into.old s.old }
     requires base { base.0 < length into.old.known.terms }
     requires entities { AreThere into.old outer.old.entities }
     ensures opened { IfOk result (λ r. IfSome r (λ h. IsOpen into.new s.new)) }
     ensures known { IfOk result (λ r. IfSome r (HeadKnown into.new)) }
     ensures entities { IfOk result (λ r. IfSome r (λ h. AreThere into.new outer.new.entities)) }
-    ensures answer { IfOk result (λ r. heading_if t.now.texts s.new into.new outer.new r ≡ head_stepped (tree into.old.known base.0) (declarator_at (tables u.now).forest d) (unit_state t.now.texts s.old into.old outer.old) (name, line)) }
+    ensures answer { IfOk result (λ r. heading_if t.now.texts s.new into.new outer.new r ≡ head_stepped (tree into.old.known base.0) (declarator_at u.now.forest d) (unit_state t.now.texts s.old into.old outer.old) (name, line)) }
 {
     let Some(steps) = steps_of(s.allocator(), u, t, s, into, d, false)? else {
         return Ok(None);
@@ -294,14 +293,14 @@ fn head_specified(
     x: Specified,
     d: NodeId,
 ) -> Result<Option<Heading>, NoMemory>
-    requires node { Is (tables u.now) is_declarator d }
+    requires node { Is u.now is_declarator d }
     requires opened { IsOpen into.old s.old }
     requires known { x.t.0 < length into.old.known.terms }
     requires entities { AreThere into.old outer.old.entities }
     ensures opened { IfOk result (λ r. IfSome r (λ h. IsOpen into.new s.new)) }
     ensures known { IfOk result (λ r. IfSome r (HeadKnown into.new)) }
     ensures entities { IfOk result (λ r. IfSome r (λ h. AreThere into.new outer.new.entities)) }
-    ensures answer { IfOk result (λ r. heading_if t.now.texts s.new into.new outer.new r ≡ head_specified (specified_in into.old.known x) (declarator_at (tables u.now).forest d) (unit_state t.now.texts s.old into.old outer.old)) }
+    ensures answer { IfOk result (λ r. heading_if t.now.texts s.new into.new outer.new r ≡ head_specified (specified_in into.old.known x) (declarator_at u.now.forest d) (unit_state t.now.texts s.old into.old outer.old)) }
 {
     if !may_head(x.storage) {
         return Ok(None);
@@ -323,14 +322,14 @@ pub(crate) fn head(
     specs: ListId,
     d: NodeId,
 ) -> Result<Option<Heading>, NoMemory>
-    requires specs { HasList (tables u.now).forest (length (tables u.now).forest.trees) is_specifier specs }
-    requires node { Is (tables u.now) is_declarator d }
+    requires specs { HasList u.now.forest (length u.now.forest.trees) is_specifier specs }
+    requires node { Is u.now is_declarator d }
     requires opened { IsOpen into.old s.old }
     requires entities { AreThere into.old outer.old.entities }
     ensures opened { IfOk result (λ r. IfSome r (λ h. IsOpen into.new s.new)) }
     ensures known { IfOk result (λ r. IfSome r (HeadKnown into.new)) }
     ensures entities { IfOk result (λ r. IfSome r (λ h. AreThere into.new outer.new.entities)) }
-    ensures answer { IfOk result (λ r. heading_if t.now.texts s.new into.new outer.new r ≡ head (trees_at (tables u.now).forest specs) (declarator_at (tables u.now).forest d) (unit_state t.now.texts s.old into.old outer.old)) }
+    ensures answer { IfOk result (λ r. heading_if t.now.texts s.new into.new outer.new r ≡ head (trees_at u.now.forest specs) (declarator_at u.now.forest d) (unit_state t.now.texts s.old into.old outer.old)) }
 {
     let Some(x) = specified(u, t, s, into, specs)? else {
         return Ok(None);

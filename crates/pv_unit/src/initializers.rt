@@ -3,7 +3,6 @@ ghost use Rattle.std.specs.Prelude.{◌≡◌, ◌<◌, ◌≤◌, ◌*◌, ◌^
 ghost use Rattle.pv_types.specs.Known.{completions, env, tree};
 ghost use Rattle.pv_types.specs.Layouts.{layout_in, is_complete_in};
 ghost use Rattle.pv_types.specs.Ty.{ArrayOf};
-ghost use Rattle.pv_tree.specs.Rows.{tables};
 ghost use Rattle.pv_tree.specs.Tables.{expression_at as expression_of, initializer_at, is_expression, is_initializer, Is};
 ghost use Rattle.pv_layout.specs.Places.{bare};
 ghost use Rattle.pv_typed.specs.Formed.{AreKnown};
@@ -68,11 +67,11 @@ fn single(
     lasting: bool,
     out: &mut Vec<Init>,
 ) -> Result<Option<u64>, NoMemory>
-    requires node { Is (tables u.now) is_expression a }
+    requires node { Is u.now is_expression a }
     requires opened { IsOpen into.old s.old }
     requires part { part.t.0 < length into.old.known.terms }
     requires stores { AreStores into.old out.old.items }
-    ensures typed { IfOk result (λ r. stores_if t.now.texts s.new into.new out.new.items r ≡ stores_by (single values lasting (part_of into.old.known part) (expression_of (tables u.now).forest a)) t.now.texts s.old into.old out.old.items) }
+    ensures typed { IfOk result (λ r. stores_if t.now.texts s.new into.new out.new.items r ≡ stores_by (single values lasting (part_of into.old.known part) (expression_of u.now.forest a)) t.now.texts s.old into.old out.old.items) }
     ensures fills { IfOk result (FillsIf into.old into.new s.new out.new.items) }
     ensures one { IfOk result (λ r. IfSome r (λ n. n ≡ 1)) }
 {
@@ -120,11 +119,11 @@ fn zero(
     lasting: bool,
     out: &mut Vec<Init>,
 ) -> Result<Option<u64>, NoMemory>
-    requires node { Is (tables u.now) is_expression a }
+    requires node { Is u.now is_expression a }
     requires opened { IsOpen into.old s.old }
     requires part { IsPart into.old.known part }
     requires stores { AreStores into.old out.old.items }
-    ensures typed { IfOk result (λ r. stores_if t.now.texts s.new into.new out.new.items r ≡ stores_by (zero values lasting (part_of into.old.known part) (expression_of (tables u.now).forest a)) t.now.texts s.old into.old out.old.items) }
+    ensures typed { IfOk result (λ r. stores_if t.now.texts s.new into.new out.new.items r ≡ stores_by (zero values lasting (part_of into.old.known part) (expression_of u.now.forest a)) t.now.texts s.old into.old out.old.items) }
     ensures fills { IfOk result (FillsIf into.old into.new s.new out.new.items) }
     ensures one { IfOk result (λ r. IfSome r (λ n. n ≡ 1)) }
 {
@@ -267,11 +266,11 @@ pub(crate) fn initializer(
     lasting: bool,
     out: &mut Vec<Init>,
 ) -> Result<Option<u64>, NoMemory>
-    requires node { Is (tables u.now) is_initializer i }
+    requires node { Is u.now is_initializer i }
     requires opened { IsOpen into.old s.old }
     requires part { IsPart into.old.known part }
     requires stores { AreStores into.old out.old.items }
-    ensures typed { IfOk result (λ r. stores_if t.now.texts s.new into.new out.new.items r ≡ stores_by (part_stores lasting (part_of into.old.known part) (initializer_at (tables u.now).forest i)) t.now.texts s.old into.old out.old.items) }
+    ensures typed { IfOk result (λ r. stores_if t.now.texts s.new into.new out.new.items r ≡ stores_by (part_stores lasting (part_of into.old.known part) (initializer_at u.now.forest i)) t.now.texts s.old into.old out.old.items) }
     ensures fills { IfOk result (FillsIf into.old into.new s.new out.new.items) }
     ensures room { IfOk result (HasSpaceIf (env into.new.known) (tree into.old.known part.t.0)) }
 {
@@ -296,11 +295,11 @@ fn each(
     lasting: bool,
     out: &mut Vec<Init>,
 ) -> Result<Option<u64>, NoMemory>
-    requires node { Is (tables u.now) is_initializer i }
+    requires node { Is u.now is_initializer i }
     requires opened { IsOpen into.old s.old }
     requires part { IsPart into.old.known part }
     requires stores { AreStores into.old out.old.items }
-    ensures typed { IfOk result (λ r. stores_if t.now.texts s.new into.new out.new.items r ≡ stores_by (list_stores lasting (part_of into.old.known part) (initializer_at (tables u.now).forest i)) t.now.texts s.old into.old out.old.items) }
+    ensures typed { IfOk result (λ r. stores_if t.now.texts s.new into.new out.new.items r ≡ stores_by (list_stores lasting (part_of into.old.known part) (initializer_at u.now.forest i)) t.now.texts s.old into.old out.old.items) }
     ensures fills { IfOk result (FillsIf into.old into.new s.new out.new.items) }
     ensures room { IfOk result (HasSpaceIf (env into.new.known) (tree into.old.known part.t.0)) }
 {

@@ -1,6 +1,5 @@
 //! Labels of a switch (C17 6.8.1, 6.8.4.2).
 ghost use Rattle.std.specs.Prelude.{false, ◌≡◌, ◌<◌, ◌++◌, ◌∷◌, [], ◌≤◌, ℕ, List, if◌then◌else◌, not, length, map, drop, IfOk, OnOk, IfSome};
-ghost use Rattle.pv_tree.specs.Rows.{tables};
 ghost use Rattle.pv_tree.specs.Tables.{statement_at as statement_of, trees_at, expression_at as expression_of, is_expression, is_statement, Is, HasList};
 ghost use Rattle.pv_typed.specs.Tables.{statement_at, expression_at, IsExpression, IsStatement};
 ghost use Rattle.pv_check.specs.Open.{state_of, IsOpen};
@@ -102,10 +101,10 @@ fn constant_label(
     line: u32,
     a: NodeId,
 ) -> Result<Option<Label>, NoMemory>
-    requires node { Is (tables u.now) is_expression a }
+    requires node { Is u.now is_expression a }
     requires opened { IsOpen into.old s.old }
     ensures moves { IfOk result (λ r. IfSome r (λ l. Moves into.old s.old into.new s.new)) }
-    ensures typed { IfOk result (λ r. label_if t.now.texts s.new into.new r ≡ and_then (valued (expression_of (tables u.now).forest a) (state_of t.now.texts false s.old into.old)) (case_label kind line)) }
+    ensures typed { IfOk result (λ r. label_if t.now.texts s.new into.new r ≡ and_then (valued (expression_of u.now.forest a) (state_of t.now.texts false s.old into.old)) (case_label kind line)) }
 {
     let Some(value) = value_of(u, t, s, into, a)? else {
         return Ok(None);
@@ -122,10 +121,10 @@ fn one_label(
     kind: IntKind,
     n: NodeId,
 ) -> Result<Option<Label>, NoMemory>
-    requires node { Is (tables u.now) is_statement n }
+    requires node { Is u.now is_statement n }
     requires opened { IsOpen into.old s.old }
     ensures moves { IfOk result (λ r. IfSome r (λ l. Moves into.old s.old into.new s.new)) }
-    ensures typed { IfOk result (λ r. label_if t.now.texts s.new into.new r ≡ typed_label kind (statement_of (tables u.now).forest n) (state_of t.now.texts false s.old into.old)) }
+    ensures typed { IfOk result (λ r. label_if t.now.texts s.new into.new r ≡ typed_label kind (statement_of u.now.forest n) (state_of t.now.texts false s.old into.old)) }
 {
     let line = u.line(n);
     match u.stmt(n) {
@@ -193,12 +192,12 @@ fn further(
     n: NodeId,
     labels: &mut Labels,
 ) -> Result<bool, NoMemory>
-    requires node { Is (tables u.now) is_statement n }
+    requires node { Is u.now is_statement n }
     requires opened { IsOpen into.old s.old }
     requires same { HasKeys labels.old }
     ensures same { OnOk result (HasKeys labels.new) }
     ensures moves { IfOk result (MovesOn into.old s.old into.new s.new) }
-    ensures typed { IfOk result (λ b. labels_if t.now.texts s.new into.new labels.new.all.items b ≡ label_behind kind (labels_of labels.old.all.items) (statement_of (tables u.now).forest n) (state_of t.now.texts false s.old into.old)) }
+    ensures typed { IfOk result (λ b. labels_if t.now.texts s.new into.new labels.new.all.items b ≡ label_behind kind (labels_of labels.old.all.items) (statement_of u.now.forest n) (state_of t.now.texts false s.old into.old)) }
 {
     let Some(found) = one_label(u, t, s, into, kind, n)? else {
         return Ok(false);
@@ -217,12 +216,12 @@ pub(crate) fn all_labels(
     list: ListId,
     labels: &mut Labels,
 ) -> Result<bool, NoMemory>
-    requires list { HasList (tables u.now).forest (length (tables u.now).forest.trees) is_statement list }
+    requires list { HasList u.now.forest (length u.now.forest.trees) is_statement list }
     requires opened { IsOpen into.old s.old }
     requires same { HasKeys labels.old }
     ensures same { OnOk result (HasKeys labels.new) }
     ensures moves { IfOk result (MovesOn into.old s.old into.new s.new) }
-    ensures typed { IfOk result (λ b. labels_if t.now.texts s.new into.new labels.new.all.items b ≡ labels_behind kind (labels_of labels.old.all.items) (trees_at (tables u.now).forest list) (state_of t.now.texts false s.old into.old)) }
+    ensures typed { IfOk result (λ b. labels_if t.now.texts s.new into.new labels.new.all.items b ≡ labels_behind kind (labels_of labels.old.all.items) (trees_at u.now.forest list) (state_of t.now.texts false s.old into.old)) }
 {
     let nodes = u.list(list);
     for node in nodes {

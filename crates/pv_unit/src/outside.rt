@@ -1,7 +1,6 @@
 //! Declarations at file scope (C17 6.7, 6.9.2).
 ghost use Rattle.std.specs.Prelude.{◌≡◌, ◌<◌, IfOk, OnOk, None, length};
 ghost use Rattle.pv_types.specs.Known.{tree};
-ghost use Rattle.pv_tree.specs.Rows.{tables};
 ghost use Rattle.pv_tree.specs.Tables.{Is, HasList, HasOptional, tree_at, trees_at, declaration_at, initializer_at, is_declaration, is_declarator, is_initializer, is_specifier};
 ghost use Rattle.pv_check.specs.Open.{IsOpen, Goes};
 ghost use Rattle.pv_check.specs.State.{and_then};
@@ -33,14 +32,14 @@ fn object_initialized(
     o: u32,
     i: NodeId,
 ) -> Result<bool, NoMemory>
-    requires node { Is (tables u.now) is_initializer i }
+    requires node { Is u.now is_initializer i }
     requires opened { IsOpen into.old s.old }
     requires object { o < length into.old.objects }
     requires entities { AreThere into.old outer.old.entities }
     ensures opened { IfOk result (OpenOn into.new s.new) }
     ensures goes { IfOk result (GoesOn into.old into.new) }
     ensures entities { IfOk result (ThereOn into.new outer.new.entities) }
-    ensures answer { IfOk result (λ b. unit_if t.now.texts s.new into.new outer.new b ≡ object_initialized (initializer_at (tables u.now).forest i) (o, unit_state t.now.texts s.old into.old outer.old)) }
+    ensures answer { IfOk result (λ b. unit_if t.now.texts s.new into.new outer.new b ≡ object_initialized (initializer_at u.now.forest i) (o, unit_state t.now.texts s.old into.old outer.old)) }
 {
     if outer.entities.is_initialized(false, o) {
         return Ok(false);
@@ -64,14 +63,14 @@ fn given_entity(
     d: DeclaredType,
     i: NodeId,
 ) -> Result<bool, NoMemory>
-    requires node { Is (tables u.now) is_initializer i }
+    requires node { Is u.now is_initializer i }
     requires opened { IsOpen into.old s.old }
     requires known { d.t.0 < length into.old.known.terms }
     requires entities { AreThere into.old outer.old.entities }
     ensures opened { IfOk result (OpenOn into.new s.new) }
     ensures goes { IfOk result (GoesOn into.old into.new) }
     ensures entities { IfOk result (ThereOn into.new outer.new.entities) }
-    ensures answer { IfOk result (λ b. unit_if t.now.texts s.new into.new outer.new b ≡ given_entity (tree into.old.known d.t.0) (name, line) (initializer_at (tables u.now).forest i) (unit_state t.now.texts s.old into.old outer.old)) }
+    ensures answer { IfOk result (λ b. unit_if t.now.texts s.new into.new outer.new b ≡ given_entity (tree into.old.known d.t.0) (name, line) (initializer_at u.now.forest i) (unit_state t.now.texts s.old into.old outer.old)) }
 {
     if is_function(into.types(), d.t) {
         return Ok(false);
@@ -96,14 +95,14 @@ fn variable_entity(
     d: DeclaredType,
     init: Option<NodeId>,
 ) -> Result<bool, NoMemory>
-    requires init { HasOptional (tables u.now).forest (length (tables u.now).forest.trees) is_initializer init }
+    requires init { HasOptional u.now.forest (length u.now.forest.trees) is_initializer init }
     requires opened { IsOpen into.old s.old }
     requires known { d.t.0 < length into.old.known.terms }
     requires entities { AreThere into.old outer.old.entities }
     ensures opened { IfOk result (OpenOn into.new s.new) }
     ensures goes { IfOk result (GoesOn into.old into.new) }
     ensures entities { IfOk result (ThereOn into.new outer.new.entities) }
-    ensures answer { IfOk result (λ b. unit_if t.now.texts s.new into.new outer.new b ≡ variable_entity_at (tables u.now) storage (type_in into.old.known d) (name, line) init (unit_state t.now.texts s.old into.old outer.old)) }
+    ensures answer { IfOk result (λ b. unit_if t.now.texts s.new into.new outer.new b ≡ variable_entity_at u.now storage (type_in into.old.known d) (name, line) init (unit_state t.now.texts s.old into.old outer.old)) }
 {
     match init {
         None => {
@@ -135,7 +134,7 @@ fn typedef_entity(
     ensures opened { OnOk result (IsOpen into.new s.new) }
     ensures goes { OnOk result (Goes into.old into.new) }
     ensures entities { OnOk result (AreThere into.new outer.new.entities) }
-    ensures answer { IfOk result (λ b. unit_if t.now.texts s.new into.new outer.new b ≡ typedef_entity_at (tables u.now) (type_in into.old.known d) (name, line) init (unit_state t.now.texts s.old into.old outer.old)) }
+    ensures answer { IfOk result (λ b. unit_if t.now.texts s.new into.new outer.new b ≡ typedef_entity_at u.now (type_in into.old.known d) (name, line) init (unit_state t.now.texts s.old into.old outer.old)) }
 {
     match init {
         None => {
@@ -159,14 +158,14 @@ fn entity_declared(
     d: DeclaredType,
     init: Option<NodeId>,
 ) -> Result<bool, NoMemory>
-    requires init { HasOptional (tables u.now).forest (length (tables u.now).forest.trees) is_initializer init }
+    requires init { HasOptional u.now.forest (length u.now.forest.trees) is_initializer init }
     requires opened { IsOpen into.old s.old }
     requires known { d.t.0 < length into.old.known.terms }
     requires entities { AreThere into.old outer.old.entities }
     ensures opened { IfOk result (OpenOn into.new s.new) }
     ensures goes { IfOk result (GoesOn into.old into.new) }
     ensures entities { IfOk result (ThereOn into.new outer.new.entities) }
-    ensures answer { IfOk result (λ b. unit_if t.now.texts s.new into.new outer.new b ≡ entity_declared_at (tables u.now) storage (type_in into.old.known d) (name, line) init (unit_state t.now.texts s.old into.old outer.old)) }
+    ensures answer { IfOk result (λ b. unit_if t.now.texts s.new into.new outer.new b ≡ entity_declared_at u.now storage (type_in into.old.known d) (name, line) init (unit_state t.now.texts s.old into.old outer.old)) }
 {
     if is_typedef(storage) {
         let b = typedef_entity(t, s, into, outer, u, name, line, d, init)?;
@@ -188,15 +187,15 @@ fn file_declarator(
     d: NodeId,
     init: Option<NodeId>,
 ) -> Result<bool, NoMemory>
-    requires node { Is (tables u.now) is_declarator d }
-    requires init { HasOptional (tables u.now).forest (length (tables u.now).forest.trees) is_initializer init }
+    requires node { Is u.now is_declarator d }
+    requires init { HasOptional u.now.forest (length u.now.forest.trees) is_initializer init }
     requires opened { IsOpen into.old s.old }
     requires known { x.t.0 < length into.old.known.terms }
     requires entities { AreThere into.old outer.old.entities }
     ensures opened { IfOk result (OpenOn into.new s.new) }
     ensures goes { IfOk result (GoesOn into.old into.new) }
     ensures entities { IfOk result (ThereOn into.new outer.new.entities) }
-    ensures answer { IfOk result (λ b. unit_if t.now.texts s.new into.new outer.new b ≡ file_declarator_at (tables u.now) (specified_in into.old.known x) d init (unit_state t.now.texts s.old into.old outer.old)) }
+    ensures answer { IfOk result (λ b. unit_if t.now.texts s.new into.new outer.new b ≡ file_declarator_at u.now (specified_in into.old.known x) d init (unit_state t.now.texts s.old into.old outer.old)) }
 {
     let Some((name, line)) = declared_name(u, d) else {
         return Ok(false);
@@ -218,14 +217,14 @@ fn file_init_declarator(
     x: Specified,
     n: NodeId,
 ) -> Result<bool, NoMemory>
-    requires node { Is (tables u.now) is_declaration n }
+    requires node { Is u.now is_declaration n }
     requires opened { IsOpen into.old s.old }
     requires known { x.t.0 < length into.old.known.terms }
     requires entities { AreThere into.old outer.old.entities }
     ensures opened { IfOk result (OpenOn into.new s.new) }
     ensures goes { IfOk result (GoesOn into.old into.new) }
     ensures entities { IfOk result (ThereOn into.new outer.new.entities) }
-    ensures answer { IfOk result (λ b. unit_if t.now.texts s.new into.new outer.new b ≡ file_init_declarator (specified_in into.old.known x) (tree_at (tables u.now).forest n) (unit_state t.now.texts s.old into.old outer.old)) }
+    ensures answer { IfOk result (λ b. unit_if t.now.texts s.new into.new outer.new b ≡ file_init_declarator (specified_in into.old.known x) (tree_at u.now.forest n) (unit_state t.now.texts s.old into.old outer.old)) }
 {
     match u.decl(n) {
         Decl::InitDeclarator { declarator, init } => {
@@ -250,14 +249,14 @@ fn file_declarators(
     x: Specified,
     list: ListId,
 ) -> Result<bool, NoMemory>
-    requires list { HasList (tables u.now).forest (length (tables u.now).forest.trees) is_declaration list }
+    requires list { HasList u.now.forest (length u.now.forest.trees) is_declaration list }
     requires opened { IsOpen into.old s.old }
     requires known { x.t.0 < length into.old.known.terms }
     requires entities { AreThere into.old outer.old.entities }
     ensures opened { IfOk result (OpenOn into.new s.new) }
     ensures goes { IfOk result (GoesOn into.old into.new) }
     ensures entities { IfOk result (ThereOn into.new outer.new.entities) }
-    ensures answer { IfOk result (λ b. unit_if t.now.texts s.new into.new outer.new b ≡ file_declarators (trees_at (tables u.now).forest list) (specified_in into.old.known x) (unit_state t.now.texts s.old into.old outer.old)) }
+    ensures answer { IfOk result (λ b. unit_if t.now.texts s.new into.new outer.new b ≡ file_declarators (trees_at u.now.forest list) (specified_in into.old.known x) (unit_state t.now.texts s.old into.old outer.old)) }
 {
     let nodes = u.list(list);
     for n in nodes {
@@ -277,13 +276,13 @@ fn specifiers_alone(
     outer: &Outer,
     specs: ListId,
 ) -> Result<bool, NoMemory>
-    requires specs { HasList (tables u.now).forest (length (tables u.now).forest.trees) is_specifier specs }
+    requires specs { HasList u.now.forest (length u.now.forest.trees) is_specifier specs }
     requires opened { IsOpen into.old s.old }
     requires entities { AreThere into.old outer.now.entities }
     ensures opened { IfOk result (OpenOn into.new s.new) }
     ensures goes { IfOk result (GoesOn into.old into.new) }
     ensures entities { IfOk result (ThereOn into.new outer.now.entities) }
-    ensures answer { IfOk result (λ b. unit_if t.now.texts s.new into.new outer.now b ≡ file_alone None (trees_at (tables u.now).forest specs) (unit_state t.now.texts s.old into.old outer.now)) }
+    ensures answer { IfOk result (λ b. unit_if t.now.texts s.new into.new outer.now b ≡ file_alone None (trees_at u.now.forest specs) (unit_state t.now.texts s.old into.old outer.now)) }
 {
     let before = bound(s, into);
     let Some(_) = specified(u, t, s, into, specs)? else {
@@ -301,13 +300,13 @@ fn file_alone(
     outer: &Outer,
     specs: ListId,
 ) -> Result<bool, NoMemory>
-    requires specs { HasList (tables u.now).forest (length (tables u.now).forest.trees) is_specifier specs }
+    requires specs { HasList u.now.forest (length u.now.forest.trees) is_specifier specs }
     requires opened { IsOpen into.old s.old }
     requires entities { AreThere into.old outer.now.entities }
     ensures opened { IfOk result (OpenOn into.new s.new) }
     ensures goes { IfOk result (GoesOn into.old into.new) }
     ensures entities { IfOk result (ThereOn into.new outer.now.entities) }
-    ensures answer { IfOk result (λ b. unit_if t.now.texts s.new into.new outer.now b ≡ file_alone (only_tag (trees_at (tables u.now).forest specs)) (trees_at (tables u.now).forest specs) (unit_state t.now.texts s.old into.old outer.now)) }
+    ensures answer { IfOk result (λ b. unit_if t.now.texts s.new into.new outer.now b ≡ file_alone (only_tag (trees_at u.now.forest specs)) (trees_at u.now.forest specs) (unit_state t.now.texts s.old into.old outer.now)) }
 {
     match only_tag(u, specs) {
         Some((word, name)) => {
@@ -331,14 +330,14 @@ fn file_declared(
     specs: ListId,
     declared: ListId,
 ) -> Result<bool, NoMemory>
-    requires specs { HasList (tables u.now).forest (length (tables u.now).forest.trees) is_specifier specs }
-    requires declared { HasList (tables u.now).forest (length (tables u.now).forest.trees) is_declaration declared }
+    requires specs { HasList u.now.forest (length u.now.forest.trees) is_specifier specs }
+    requires declared { HasList u.now.forest (length u.now.forest.trees) is_declaration declared }
     requires opened { IsOpen into.old s.old }
     requires entities { AreThere into.old outer.old.entities }
     ensures opened { IfOk result (OpenOn into.new s.new) }
     ensures goes { IfOk result (GoesOn into.old into.new) }
     ensures entities { IfOk result (ThereOn into.new outer.new.entities) }
-    ensures answer { IfOk result (λ b. unit_if t.now.texts s.new into.new outer.new b ≡ file_declared (trees_at (tables u.now).forest specs) (trees_at (tables u.now).forest declared) (unit_state t.now.texts s.old into.old outer.old)) }
+    ensures answer { IfOk result (λ b. unit_if t.now.texts s.new into.new outer.new b ≡ file_declared (trees_at u.now.forest specs) (trees_at u.now.forest declared) (unit_state t.now.texts s.old into.old outer.old)) }
 {
     let Some(x) = specified(u, t, s, into, specs)? else {
         return Ok(false);
@@ -356,13 +355,13 @@ pub(crate) fn file_declaration(
     outer: &mut Outer,
     n: NodeId,
 ) -> Result<bool, NoMemory>
-    requires node { Is (tables u.now) is_declaration n }
+    requires node { Is u.now is_declaration n }
     requires opened { IsOpen into.old s.old }
     requires entities { AreThere into.old outer.old.entities }
     ensures opened { IfOk result (OpenOn into.new s.new) }
     ensures goes { IfOk result (GoesOn into.old into.new) }
     ensures entities { IfOk result (ThereOn into.new outer.new.entities) }
-    ensures answer { IfOk result (λ b. unit_if t.now.texts s.new into.new outer.new b ≡ file_declaration (declaration_at (tables u.now).forest n) (unit_state t.now.texts s.old into.old outer.old)) }
+    ensures answer { IfOk result (λ b. unit_if t.now.texts s.new into.new outer.new b ≡ file_declaration (declaration_at u.now.forest n) (unit_state t.now.texts s.old into.old outer.old)) }
 {
     match u.decl(n) {
         Decl::Declaration { specs, declared } => {

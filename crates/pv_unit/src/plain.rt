@@ -1,6 +1,5 @@
 //! Statements that hold no statements (C17 6.8.3, 6.8.6), and the declaration of a `for`.
 ghost use Rattle.std.specs.Prelude.{false, ◌≡◌, [], ◌<◌, ℕ, List, length, IfOk, IfSome, OnOk};
-ghost use Rattle.pv_tree.specs.Rows.{tables};
 ghost use Rattle.pv_tree.specs.Tables.{statement_at as statement_of, declaration_at, tree_at, optional_at, is_expression, is_statement, is_declaration, Is, HasOptional};
 ghost use Rattle.pv_tree.specs.Syntax.{ExpressionStatement, Break, Continue, Return};
 ghost use Rattle.pv_tree.specs.Lines.{tree_line};
@@ -62,14 +61,14 @@ pub(crate) fn expression_statement(
     n: NodeId,
     a: Option<NodeId>,
 ) -> Result<Option<NodeId>, NoMemory>
-    requires node { Is (tables u.now) is_statement n }
-    requires a { HasOptional (tables u.now).forest (length (tables u.now).forest.trees) is_expression a }
-    requires is { statement_of (tables u.now).forest n ≡ ExpressionStatement (tree_line (tree_at (tables u.now).forest n)) (optional_at (tables u.now).forest a) }
+    requires node { Is u.now is_statement n }
+    requires a { HasOptional u.now.forest (length u.now.forest.trees) is_expression a }
+    requires is { statement_of u.now.forest n ≡ ExpressionStatement (tree_line (tree_at u.now.forest n)) (optional_at u.now.forest a) }
     requires opened { IsOpen into.old s.old }
     requires known { w.result.0 < length into.old.known.terms }
     ensures there { IfOk result (λ r. IfSome r (IsStatement into.new)) }
     ensures moves { IfOk result (λ r. IfSome r (λ n. Moves into.old s.old into.new s.new)) }
-    ensures typed { IfOk result (λ r. stated_if t.now.texts s.new into.new r ≡ typed_statement (around_in into.old.known w) (statement_of (tables u.now).forest n) (state_of t.now.texts false s.old into.old)) }
+    ensures typed { IfOk result (λ r. stated_if t.now.texts s.new into.new r ≡ typed_statement (around_in into.old.known w) (statement_of u.now.forest n) (state_of t.now.texts false s.old into.old)) }
 {
     let Some(value) = optional_value(u, t, s, into, a)? else {
         return Ok(None);
@@ -87,13 +86,13 @@ pub(crate) fn break_statement(
     w: Place,
     n: NodeId,
 ) -> Result<Option<NodeId>, NoMemory>
-    requires node { Is (tables u.now) is_statement n }
-    requires is { statement_of (tables u.now).forest n ≡ Break (tree_line (tree_at (tables u.now).forest n)) }
+    requires node { Is u.now is_statement n }
+    requires is { statement_of u.now.forest n ≡ Break (tree_line (tree_at u.now.forest n)) }
     requires opened { IsOpen into.old s.old }
     requires known { w.result.0 < length into.old.known.terms }
     ensures there { IfOk result (λ r. IfSome r (IsStatement into.new)) }
     ensures moves { IfOk result (λ r. IfSome r (λ n. Moves into.old s.old into.new s.new)) }
-    ensures typed { IfOk result (λ r. stated_if t.now.texts s.new into.new r ≡ typed_statement (around_in into.old.known w) (statement_of (tables u.now).forest n) (state_of t.now.texts false s.old into.old)) }
+    ensures typed { IfOk result (λ r. stated_if t.now.texts s.new into.new r ≡ typed_statement (around_in into.old.known w) (statement_of u.now.forest n) (state_of t.now.texts false s.old into.old)) }
 {
     if w.breaks {
         let made = add(s, into, TypedStmt::Break, u.line(n), &[])?;
@@ -112,13 +111,13 @@ pub(crate) fn continue_statement(
     w: Place,
     n: NodeId,
 ) -> Result<Option<NodeId>, NoMemory>
-    requires node { Is (tables u.now) is_statement n }
-    requires is { statement_of (tables u.now).forest n ≡ Continue (tree_line (tree_at (tables u.now).forest n)) }
+    requires node { Is u.now is_statement n }
+    requires is { statement_of u.now.forest n ≡ Continue (tree_line (tree_at u.now.forest n)) }
     requires opened { IsOpen into.old s.old }
     requires known { w.result.0 < length into.old.known.terms }
     ensures there { IfOk result (λ r. IfSome r (IsStatement into.new)) }
     ensures moves { IfOk result (λ r. IfSome r (λ n. Moves into.old s.old into.new s.new)) }
-    ensures typed { IfOk result (λ r. stated_if t.now.texts s.new into.new r ≡ typed_statement (around_in into.old.known w) (statement_of (tables u.now).forest n) (state_of t.now.texts false s.old into.old)) }
+    ensures typed { IfOk result (λ r. stated_if t.now.texts s.new into.new r ≡ typed_statement (around_in into.old.known w) (statement_of u.now.forest n) (state_of t.now.texts false s.old into.old)) }
 {
     if w.continues {
         let made = add(s, into, TypedStmt::Continue, u.line(n), &[])?;
@@ -138,14 +137,14 @@ pub(crate) fn return_statement(
     n: NodeId,
     a: Option<NodeId>,
 ) -> Result<Option<NodeId>, NoMemory>
-    requires node { Is (tables u.now) is_statement n }
-    requires a { HasOptional (tables u.now).forest (length (tables u.now).forest.trees) is_expression a }
-    requires is { statement_of (tables u.now).forest n ≡ Return (tree_line (tree_at (tables u.now).forest n)) (optional_at (tables u.now).forest a) }
+    requires node { Is u.now is_statement n }
+    requires a { HasOptional u.now.forest (length u.now.forest.trees) is_expression a }
+    requires is { statement_of u.now.forest n ≡ Return (tree_line (tree_at u.now.forest n)) (optional_at u.now.forest a) }
     requires opened { IsOpen into.old s.old }
     requires known { w.result.0 < length into.old.known.terms }
     ensures there { IfOk result (λ r. IfSome r (IsStatement into.new)) }
     ensures moves { IfOk result (λ r. IfSome r (λ n. Moves into.old s.old into.new s.new)) }
-    ensures typed { IfOk result (λ r. stated_if t.now.texts s.new into.new r ≡ typed_statement (around_in into.old.known w) (statement_of (tables u.now).forest n) (state_of t.now.texts false s.old into.old)) }
+    ensures typed { IfOk result (λ r. stated_if t.now.texts s.new into.new r ≡ typed_statement (around_in into.old.known w) (statement_of u.now.forest n) (state_of t.now.texts false s.old into.old)) }
 {
     let line = u.line(n);
     match a {
@@ -197,12 +196,12 @@ pub(crate) fn first_declared(
     d: NodeId,
     items: &mut Vec<NodeId>,
 ) -> Result<bool, NoMemory>
-    requires node { Is (tables u.now) is_declaration d }
+    requires node { Is u.now is_declaration d }
     requires opened { IsOpen into.old s.old }
     requires none { items.old.items ≡ [] }
     ensures there { IfOk result (StatementsOn into.new items.new.items) }
     ensures moves { IfOk result (MovesOn into.old s.old into.new s.new) }
-    ensures typed { IfOk result (λ b. items_if t.now.texts s.new into.new items.new.items b ≡ and_then (block_declaration (declaration_at (tables u.now).forest d) (state_of t.now.texts false s.old into.old)) if_automatic) }
+    ensures typed { IfOk result (λ b. items_if t.now.texts s.new into.new items.new.items b ≡ and_then (block_declaration (declaration_at u.now.forest d) (state_of t.now.texts false s.old into.old)) if_automatic) }
 {
     if !add_declaration(u, t, s, into, d, items)? {
         return Ok(false);

@@ -1,6 +1,5 @@
 //! Parts of statements that hold no statements (C17 6.8).
 ghost use Rattle.std.specs.Prelude.{false, ◌≡◌, ◌<◌, ◌&&◌, ◌==◌, ℕ, List, length, IfOk, OnOk, IfSome, Some};
-ghost use Rattle.pv_tree.specs.Rows.{tables};
 ghost use Rattle.pv_tree.specs.Tables.{expression_at as expression_of, statement_at as statement_of, tree_at, optional_at, is_expression, is_statement, Is, HasOptional};
 ghost use Rattle.pv_types.specs.Known.{tree};
 ghost use Rattle.pv_typed.specs.TypedTree.{type_of};
@@ -31,11 +30,11 @@ pub(crate) fn value_of(
     into: &mut TypedUnit,
     a: NodeId,
 ) -> Result<Option<NodeId>, NoMemory>
-    requires node { Is (tables u.now) is_expression a }
+    requires node { Is u.now is_expression a }
     requires opened { IsOpen into.old s.old }
     ensures there { IfOk result (λ r. IfSome r (IsExpression into.new)) }
     ensures moves { IfOk result (λ r. IfSome r (λ n. Moves into.old s.old into.new s.new)) }
-    ensures typed { IfOk result (λ r. after_node t.now.texts false s.new into.new r ≡ valued (expression_of (tables u.now).forest a) (state_of t.now.texts false s.old into.old)) }
+    ensures typed { IfOk result (λ r. after_node t.now.texts false s.new into.new r ≡ valued (expression_of u.now.forest a) (state_of t.now.texts false s.old into.old)) }
 {
     let r = operand(s, u, t, a, false, into)?;
     Ok(r)
@@ -58,11 +57,11 @@ pub(crate) fn condition(
     into: &mut TypedUnit,
     a: NodeId,
 ) -> Result<Option<NodeId>, NoMemory>
-    requires node { Is (tables u.now) is_expression a }
+    requires node { Is u.now is_expression a }
     requires opened { IsOpen into.old s.old }
     ensures there { IfOk result (λ r. IfSome r (IsExpression into.new)) }
     ensures moves { IfOk result (λ r. IfSome r (λ n. Moves into.old s.old into.new s.new)) }
-    ensures typed { IfOk result (λ r. after_node t.now.texts false s.new into.new r ≡ condition (expression_of (tables u.now).forest a) (state_of t.now.texts false s.old into.old)) }
+    ensures typed { IfOk result (λ r. after_node t.now.texts false s.new into.new r ≡ condition (expression_of u.now.forest a) (state_of t.now.texts false s.old into.old)) }
 {
     let Some(value) = value_of(u, t, s, into, a)? else {
         return Ok(None);
@@ -82,11 +81,11 @@ pub(crate) fn optional_value(
     into: &mut TypedUnit,
     a: Option<NodeId>,
 ) -> Result<Option<Option<NodeId>>, NoMemory>
-    requires node { HasOptional (tables u.now).forest (length (tables u.now).forest.trees) is_expression a }
+    requires node { HasOptional u.now.forest (length u.now.forest.trees) is_expression a }
     requires opened { IsOpen into.old s.old }
     ensures there { IfOk result (λ r. IfSome r (IsOptional into.new)) }
     ensures moves { IfOk result (λ r. IfSome r (λ n. Moves into.old s.old into.new s.new)) }
-    ensures typed { IfOk result (λ r. optional_if t.now.texts s.new into.new r ≡ optional valued (optional_at (tables u.now).forest a) (state_of t.now.texts false s.old into.old)) }
+    ensures typed { IfOk result (λ r. optional_if t.now.texts s.new into.new r ≡ optional valued (optional_at u.now.forest a) (state_of t.now.texts false s.old into.old)) }
 {
     let Some(node) = a else {
         return Ok(Some(None));
@@ -105,11 +104,11 @@ pub(crate) fn optional_condition(
     into: &mut TypedUnit,
     a: Option<NodeId>,
 ) -> Result<Option<Option<NodeId>>, NoMemory>
-    requires node { HasOptional (tables u.now).forest (length (tables u.now).forest.trees) is_expression a }
+    requires node { HasOptional u.now.forest (length u.now.forest.trees) is_expression a }
     requires opened { IsOpen into.old s.old }
     ensures there { IfOk result (λ r. IfSome r (IsOptional into.new)) }
     ensures moves { IfOk result (λ r. IfSome r (λ n. Moves into.old s.old into.new s.new)) }
-    ensures typed { IfOk result (λ r. optional_if t.now.texts s.new into.new r ≡ optional condition (optional_at (tables u.now).forest a) (state_of t.now.texts false s.old into.old)) }
+    ensures typed { IfOk result (λ r. optional_if t.now.texts s.new into.new r ≡ optional condition (optional_at u.now.forest a) (state_of t.now.texts false s.old into.old)) }
 {
     let Some(node) = a else {
         return Ok(Some(None));
@@ -196,12 +195,12 @@ pub(crate) fn value_returned(
     line: u32,
     a: NodeId,
 ) -> Result<Option<NodeId>, NoMemory>
-    requires node { Is (tables u.now) is_expression a }
+    requires node { Is u.now is_expression a }
     requires opened { IsOpen into.old s.old }
     requires known { returned.0 < length into.old.known.terms }
     ensures there { IfOk result (λ r. IfSome r (IsStatement into.new)) }
     ensures moves { IfOk result (λ r. IfSome r (λ n. Moves into.old s.old into.new s.new)) }
-    ensures typed { IfOk result (λ r. stated_if t.now.texts s.new into.new r ≡ and_then (valued (expression_of (tables u.now).forest a) (state_of t.now.texts false s.old into.old)) (value_returned (tree into.old.known returned.0) line)) }
+    ensures typed { IfOk result (λ r. stated_if t.now.texts s.new into.new r ≡ and_then (valued (expression_of u.now.forest a) (state_of t.now.texts false s.old into.old)) (value_returned (tree into.old.known returned.0) line)) }
 {
     let Some(value) = value_of(u, t, s, into, a)? else {
         return Ok(None);
@@ -245,11 +244,11 @@ pub(crate) fn switched(
     into: &mut TypedUnit,
     a: NodeId,
 ) -> Result<Option<Controlling>, NoMemory>
-    requires node { Is (tables u.now) is_expression a }
+    requires node { Is u.now is_expression a }
     requires opened { IsOpen into.old s.old }
     ensures there { IfOk result (λ r. IfSome r (λ x. IsExpression into.new x.value)) }
     ensures moves { IfOk result (λ r. IfSome r (λ x. Moves into.old s.old into.new s.new)) }
-    ensures typed { IfOk result (λ r. switched_if t.now.texts s.new into.new r ≡ switched (expression_of (tables u.now).forest a) (state_of t.now.texts false s.old into.old)) }
+    ensures typed { IfOk result (λ r. switched_if t.now.texts s.new into.new r ≡ switched (expression_of u.now.forest a) (state_of t.now.texts false s.old into.old)) }
 {
     let Some(found) = value_of(u, t, s, into, a)? else {
         return Ok(None);
@@ -260,8 +259,8 @@ pub(crate) fn switched(
 
 /// The labels of a statement and what stands behind them, if it has labels (C17 6.8.1).
 pub(crate) fn labelled_parts(u: &Unit, n: NodeId) -> Option<(ListId, NodeId)>
-    requires { Is (tables u.now) is_statement n }
-    ensures { IsLabelledIf (tables u.now).forest n result }
+    requires { Is u.now is_statement n }
+    ensures { IsLabelledIf u.now.forest n result }
 {
     match u.stmt(n) {
         Stmt::Labelled {
@@ -288,8 +287,8 @@ pub(crate) fn labelled_parts(u: &Unit, n: NodeId) -> Option<(ListId, NodeId)>
 
 /// The items of a switch's block, if it is one.
 pub(crate) fn block_items(u: &Unit, n: NodeId) -> Option<ListId>
-    requires { Is (tables u.now) is_statement n }
-    ensures { IsBlockIf (tables u.now).forest n result }
+    requires { Is u.now is_statement n }
+    ensures { IsBlockIf u.now.forest n result }
 {
     match u.stmt(n) {
         Stmt::SwitchBlock(items) => Some(items),

@@ -1,7 +1,6 @@
 // The shape that an initializer has.
 ghost use Rattle.std.specs.Prelude.{◌≡◌, ◌<◌, length, option_map, All};
 ghost use Rattle.pv_types.specs.Known.{completions, tree};
-ghost use Rattle.pv_tree.specs.Rows.{tables};
 ghost use Rattle.pv_tree.specs.Tables.{expression_at, initializer_at, trees_at, is_expression, is_initializer, Is, HasList};
 ghost use Rattle.pv_unit.specs.Initializers.{only, is_zero, filling, expression_shape, begins_deep, single_shape, list_shape, shape_of};
 ghost use Rattle.pv_unit.specs.Shapes.{shape_in, IsShape, IsShapeIf, IsExpressionIf};
@@ -29,9 +28,9 @@ pub(crate) enum Shape {
 
 /// The one expression of a list of initializers, if it has no more and no braces.
 fn only(u: &Unit, inits: ListId) -> Option<NodeId>
-    requires { HasList (tables u.now).forest (length (tables u.now).forest.trees) is_initializer inits }
-    ensures expression { option_map (expression_at (tables u.now).forest) result ≡ only (trees_at (tables u.now).forest inits) }
-    ensures is { IsExpressionIf (tables u.now) result }
+    requires { HasList u.now.forest (length u.now.forest.trees) is_initializer inits }
+    ensures expression { option_map (expression_at u.now.forest) result ≡ only (trees_at u.now.forest inits) }
+    ensures is { IsExpressionIf u.now result }
 {
     let list = u.list(inits);
     if list.len() != 1 {
@@ -45,8 +44,8 @@ fn only(u: &Unit, inits: ListId) -> Option<NodeId>
 
 /// Whether it is the constant 0, without a suffix.
 fn is_zero(u: &Unit, a: NodeId) -> bool
-    requires { Is (tables u.now) is_expression a }
-    ensures { result ≡ is_zero (expression_at (tables u.now).forest a) }
+    requires { Is u.now is_expression a }
+    ensures { result ≡ is_zero (expression_at u.now.forest a) }
 {
     match u.expr(a) {
         Expr::Number {
@@ -80,9 +79,9 @@ fn is_zero(u: &Unit, a: NodeId) -> bool
 
 /// The string literals that fill an array of characters, if the type is one and the expression is so.
 fn filling(u: &Unit, text: bool, a: NodeId) -> Option<Shape>
-    requires { Is (tables u.now) is_expression a }
-    ensures shape { option_map (shape_in (tables u.now).forest) result ≡ filling text (expression_at (tables u.now).forest a) }
-    ensures is { IsShapeIf (tables u.now) result }
+    requires { Is u.now is_expression a }
+    ensures shape { option_map (shape_in u.now.forest) result ≡ filling text (expression_at u.now.forest a) }
+    ensures is { IsShapeIf u.now result }
 {
     if !text {
         return None;
@@ -119,9 +118,9 @@ fn filling(u: &Unit, text: bool, a: NodeId) -> Option<Shape>
 /// The shape of one expression without braces.
 fn expression_shape(types: &Types, u: &Unit, t: TypeId, a: NodeId) -> Shape
     requires known { t.0 < length types.now.terms }
-    requires node { Is (tables u.now) is_expression a }
-    ensures shape { shape_in (tables u.now).forest result ≡ expression_shape (tree types.now t.0) (expression_at (tables u.now).forest a) }
-    ensures is { IsShape (tables u.now) result }
+    requires node { Is u.now is_expression a }
+    ensures shape { shape_in u.now.forest result ≡ expression_shape (tree types.now t.0) (expression_at u.now.forest a) }
+    ensures is { IsShape u.now result }
 {
     match filling(u, is_text(types, t), a) {
         Some(fill) => fill,
@@ -133,8 +132,8 @@ fn expression_shape(types: &Types, u: &Unit, t: TypeId, a: NodeId) -> Shape
 fn begins_deep(types: &Types, u: &Unit, part: Subobject, a: NodeId) -> bool
     requires sized { AreSized types.now }
     requires part { IsPart types.now part }
-    requires node { Is (tables u.now) is_expression a }
-    ensures { result ≡ begins_deep (completions types.now) (part_of types.now part) (expression_at (tables u.now).forest a) }
+    requires node { Is u.now is_expression a }
+    ensures { result ≡ begins_deep (completions types.now) (part_of types.now part) (expression_at u.now.forest a) }
 {
     if !is_zero(u, a) {
         return false;
@@ -149,9 +148,9 @@ fn begins_deep(types: &Types, u: &Unit, part: Subobject, a: NodeId) -> bool
 fn single_shape(types: &Types, u: &Unit, part: Subobject, a: NodeId) -> Shape
     requires sized { AreSized types.now }
     requires part { IsPart types.now part }
-    requires node { Is (tables u.now) is_expression a }
-    ensures shape { shape_in (tables u.now).forest result ≡ single_shape (completions types.now) (part_of types.now part) (expression_at (tables u.now).forest a) }
-    ensures is { IsShape (tables u.now) result }
+    requires node { Is u.now is_expression a }
+    ensures shape { shape_in u.now.forest result ≡ single_shape (completions types.now) (part_of types.now part) (expression_at u.now.forest a) }
+    ensures is { IsShape u.now result }
 {
     if let Some(fill) = filling(u, is_text(types, part.t), a) {
         return fill;
@@ -169,9 +168,9 @@ fn single_shape(types: &Types, u: &Unit, part: Subobject, a: NodeId) -> Shape
 fn list_shape(types: &Types, u: &Unit, part: Subobject, inits: ListId) -> Shape
     requires sized { AreSized types.now }
     requires part { IsPart types.now part }
-    requires list { HasList (tables u.now).forest (length (tables u.now).forest.trees) is_initializer inits }
-    ensures shape { shape_in (tables u.now).forest result ≡ list_shape (completions types.now) (part_of types.now part) (only (trees_at (tables u.now).forest inits)) }
-    ensures is { IsShape (tables u.now) result }
+    requires list { HasList u.now.forest (length u.now.forest.trees) is_initializer inits }
+    ensures shape { shape_in u.now.forest result ≡ list_shape (completions types.now) (part_of types.now part) (only (trees_at u.now.forest inits)) }
+    ensures is { IsShape u.now result }
 {
     if let Some(a) = only(u, inits) {
         return single_shape(types, u, part, a);
@@ -186,9 +185,9 @@ fn list_shape(types: &Types, u: &Unit, part: Subobject, inits: ListId) -> Shape
 pub(crate) fn shape_of(types: &Types, u: &Unit, part: Subobject, i: NodeId) -> Shape
     requires sized { AreSized types.now }
     requires part { IsPart types.now part }
-    requires node { Is (tables u.now) is_initializer i }
-    ensures shape { shape_in (tables u.now).forest result ≡ shape_of (completions types.now) (part_of types.now part) (initializer_at (tables u.now).forest i) }
-    ensures is { IsShape (tables u.now) result }
+    requires node { Is u.now is_initializer i }
+    ensures shape { shape_in u.now.forest result ≡ shape_of (completions types.now) (part_of types.now part) (initializer_at u.now.forest i) }
+    ensures is { IsShape u.now result }
 {
     match u.init(i) {
         Init::Expr(a) => expression_shape(types, u, part.t, a),

@@ -1,6 +1,5 @@
 //! Typing statements (C17 6.8).
 ghost use Rattle.std.specs.Prelude.{false, ◌≡◌, [], ◌<◌, true, length, IfOk, IfSome, OnOk};
-ghost use Rattle.pv_tree.specs.Rows.{tables};
 ghost use Rattle.pv_tree.specs.Tables.{expression_at as expression_of, statement_at as statement_of, tree_at, trees_at, is_expression, is_statement, is_declaration, is_item, Is, HasList, Has, HasOptional};
 ghost use Rattle.pv_tree.specs.Syntax.{Block, If, IfElse, While, DoWhile, Switch, Labelled};
 ghost use Rattle.pv_tree.specs.Lines.{tree_line};
@@ -38,12 +37,12 @@ fn inner(
     w: Place,
     n: NodeId,
 ) -> Result<Option<NodeId>, NoMemory>
-    requires node { Is (tables u.now) is_statement n }
+    requires node { Is u.now is_statement n }
     requires opened { IsOpen into.old s.old }
     requires known { w.result.0 < length into.old.known.terms }
     ensures there { IfOk result (λ r. IfSome r (IsStatement into.new)) }
     ensures moves { IfOk result (λ r. IfSome r (λ n. Moves into.old s.old into.new s.new)) }
-    ensures typed { IfOk result (λ r. stated_if t.now.texts s.new into.new r ≡ inner (around_in into.old.known w) (statement_of (tables u.now).forest n) (state_of t.now.texts false s.old into.old)) }
+    ensures typed { IfOk result (λ r. stated_if t.now.texts s.new into.new r ≡ inner (around_in into.old.known w) (statement_of u.now.forest n) (state_of t.now.texts false s.old into.old)) }
 {
     enter(s, into)?;
     let Some(made) = statement(u, t, s, into, w, n)? else {
@@ -65,15 +64,15 @@ fn if_statement(
     a: NodeId,
     body: NodeId,
 ) -> Result<Option<NodeId>, NoMemory>
-    requires node { Is (tables u.now) is_statement n }
-    requires condition { Is (tables u.now) is_expression a }
-    requires body { Has (tables u.now).forest n.0 is_statement body }
-    requires is { statement_of (tables u.now).forest n ≡ If (tree_line (tree_at (tables u.now).forest n)) (expression_of (tables u.now).forest a) (statement_of (tables u.now).forest body) }
+    requires node { Is u.now is_statement n }
+    requires condition { Is u.now is_expression a }
+    requires body { Has u.now.forest n.0 is_statement body }
+    requires is { statement_of u.now.forest n ≡ If (tree_line (tree_at u.now.forest n)) (expression_of u.now.forest a) (statement_of u.now.forest body) }
     requires opened { IsOpen into.old s.old }
     requires known { w.result.0 < length into.old.known.terms }
     ensures there { IfOk result (λ r. IfSome r (IsStatement into.new)) }
     ensures moves { IfOk result (λ r. IfSome r (λ n. Moves into.old s.old into.new s.new)) }
-    ensures typed { IfOk result (λ r. stated_if t.now.texts s.new into.new r ≡ scoped (around_in into.old.known w) (statement_of (tables u.now).forest n) (state_of t.now.texts false s.old into.old)) }
+    ensures typed { IfOk result (λ r. stated_if t.now.texts s.new into.new r ≡ scoped (around_in into.old.known w) (statement_of u.now.forest n) (state_of t.now.texts false s.old into.old)) }
 {
     let Some(value) = condition(u, t, s, into, a)? else {
         return Ok(None);
@@ -98,16 +97,16 @@ fn else_statement(
     body: NodeId,
     other: NodeId,
 ) -> Result<Option<NodeId>, NoMemory>
-    requires node { Is (tables u.now) is_statement n }
-    requires condition { Is (tables u.now) is_expression a }
-    requires body { Has (tables u.now).forest n.0 is_statement body }
-    requires other { Has (tables u.now).forest n.0 is_statement other }
-    requires is { statement_of (tables u.now).forest n ≡ IfElse (tree_line (tree_at (tables u.now).forest n)) (expression_of (tables u.now).forest a) (statement_of (tables u.now).forest body) (statement_of (tables u.now).forest other) }
+    requires node { Is u.now is_statement n }
+    requires condition { Is u.now is_expression a }
+    requires body { Has u.now.forest n.0 is_statement body }
+    requires other { Has u.now.forest n.0 is_statement other }
+    requires is { statement_of u.now.forest n ≡ IfElse (tree_line (tree_at u.now.forest n)) (expression_of u.now.forest a) (statement_of u.now.forest body) (statement_of u.now.forest other) }
     requires opened { IsOpen into.old s.old }
     requires known { w.result.0 < length into.old.known.terms }
     ensures there { IfOk result (λ r. IfSome r (IsStatement into.new)) }
     ensures moves { IfOk result (λ r. IfSome r (λ n. Moves into.old s.old into.new s.new)) }
-    ensures typed { IfOk result (λ r. stated_if t.now.texts s.new into.new r ≡ scoped (around_in into.old.known w) (statement_of (tables u.now).forest n) (state_of t.now.texts false s.old into.old)) }
+    ensures typed { IfOk result (λ r. stated_if t.now.texts s.new into.new r ≡ scoped (around_in into.old.known w) (statement_of u.now.forest n) (state_of t.now.texts false s.old into.old)) }
 {
     let Some(value) = condition(u, t, s, into, a)? else {
         return Ok(None);
@@ -140,15 +139,15 @@ fn while_statement(
     a: NodeId,
     body: NodeId,
 ) -> Result<Option<NodeId>, NoMemory>
-    requires node { Is (tables u.now) is_statement n }
-    requires condition { Is (tables u.now) is_expression a }
-    requires body { Has (tables u.now).forest n.0 is_statement body }
-    requires is { statement_of (tables u.now).forest n ≡ While (tree_line (tree_at (tables u.now).forest n)) (expression_of (tables u.now).forest a) (statement_of (tables u.now).forest body) }
+    requires node { Is u.now is_statement n }
+    requires condition { Is u.now is_expression a }
+    requires body { Has u.now.forest n.0 is_statement body }
+    requires is { statement_of u.now.forest n ≡ While (tree_line (tree_at u.now.forest n)) (expression_of u.now.forest a) (statement_of u.now.forest body) }
     requires opened { IsOpen into.old s.old }
     requires known { w.result.0 < length into.old.known.terms }
     ensures there { IfOk result (λ r. IfSome r (IsStatement into.new)) }
     ensures moves { IfOk result (λ r. IfSome r (λ n. Moves into.old s.old into.new s.new)) }
-    ensures typed { IfOk result (λ r. stated_if t.now.texts s.new into.new r ≡ scoped (around_in into.old.known w) (statement_of (tables u.now).forest n) (state_of t.now.texts false s.old into.old)) }
+    ensures typed { IfOk result (λ r. stated_if t.now.texts s.new into.new r ≡ scoped (around_in into.old.known w) (statement_of u.now.forest n) (state_of t.now.texts false s.old into.old)) }
 {
     let Some(value) = condition(u, t, s, into, a)? else {
         return Ok(None);
@@ -177,15 +176,15 @@ fn do_statement(
     body: NodeId,
     a: NodeId,
 ) -> Result<Option<NodeId>, NoMemory>
-    requires node { Is (tables u.now) is_statement n }
-    requires body { Has (tables u.now).forest n.0 is_statement body }
-    requires condition { Is (tables u.now) is_expression a }
-    requires is { statement_of (tables u.now).forest n ≡ DoWhile (tree_line (tree_at (tables u.now).forest n)) (statement_of (tables u.now).forest body) (expression_of (tables u.now).forest a) }
+    requires node { Is u.now is_statement n }
+    requires body { Has u.now.forest n.0 is_statement body }
+    requires condition { Is u.now is_expression a }
+    requires is { statement_of u.now.forest n ≡ DoWhile (tree_line (tree_at u.now.forest n)) (statement_of u.now.forest body) (expression_of u.now.forest a) }
     requires opened { IsOpen into.old s.old }
     requires known { w.result.0 < length into.old.known.terms }
     ensures there { IfOk result (λ r. IfSome r (IsStatement into.new)) }
     ensures moves { IfOk result (λ r. IfSome r (λ n. Moves into.old s.old into.new s.new)) }
-    ensures typed { IfOk result (λ r. stated_if t.now.texts s.new into.new r ≡ scoped (around_in into.old.known w) (statement_of (tables u.now).forest n) (state_of t.now.texts false s.old into.old)) }
+    ensures typed { IfOk result (λ r. stated_if t.now.texts s.new into.new r ≡ scoped (around_in into.old.known w) (statement_of u.now.forest n) (state_of t.now.texts false s.old into.old)) }
 {
     let around = Place {
         result: w.result,
@@ -216,17 +215,17 @@ fn for_statement(
     step: Option<NodeId>,
     body: NodeId,
 ) -> Result<Option<NodeId>, NoMemory>
-    requires node { Is (tables u.now) is_statement n }
-    requires first { HasOptional (tables u.now).forest (length (tables u.now).forest.trees) is_expression first }
-    requires a { HasOptional (tables u.now).forest (length (tables u.now).forest.trees) is_expression a }
-    requires step { HasOptional (tables u.now).forest (length (tables u.now).forest.trees) is_expression step }
-    requires body { Has (tables u.now).forest n.0 is_statement body }
-    requires is { IsFor (tables u.now).forest n first a step body }
+    requires node { Is u.now is_statement n }
+    requires first { HasOptional u.now.forest (length u.now.forest.trees) is_expression first }
+    requires a { HasOptional u.now.forest (length u.now.forest.trees) is_expression a }
+    requires step { HasOptional u.now.forest (length u.now.forest.trees) is_expression step }
+    requires body { Has u.now.forest n.0 is_statement body }
+    requires is { IsFor u.now.forest n first a step body }
     requires opened { IsOpen into.old s.old }
     requires known { w.result.0 < length into.old.known.terms }
     ensures there { IfOk result (λ r. IfSome r (IsStatement into.new)) }
     ensures moves { IfOk result (λ r. IfSome r (λ n. Moves into.old s.old into.new s.new)) }
-    ensures typed { IfOk result (λ r. stated_if t.now.texts s.new into.new r ≡ scoped (around_in into.old.known w) (statement_of (tables u.now).forest n) (state_of t.now.texts false s.old into.old)) }
+    ensures typed { IfOk result (λ r. stated_if t.now.texts s.new into.new r ≡ scoped (around_in into.old.known w) (statement_of u.now.forest n) (state_of t.now.texts false s.old into.old)) }
 {
     let Some(begin) = optional_value(u, t, s, into, first)? else {
         return Ok(None);
@@ -269,17 +268,17 @@ fn for_declaration(
     step: Option<NodeId>,
     body: NodeId,
 ) -> Result<Option<NodeId>, NoMemory>
-    requires node { Is (tables u.now) is_statement n }
-    requires declaration { Is (tables u.now) is_declaration declaration }
-    requires a { HasOptional (tables u.now).forest (length (tables u.now).forest.trees) is_expression a }
-    requires step { HasOptional (tables u.now).forest (length (tables u.now).forest.trees) is_expression step }
-    requires body { Has (tables u.now).forest n.0 is_statement body }
-    requires is { IsForDeclaration (tables u.now).forest n declaration a step body }
+    requires node { Is u.now is_statement n }
+    requires declaration { Is u.now is_declaration declaration }
+    requires a { HasOptional u.now.forest (length u.now.forest.trees) is_expression a }
+    requires step { HasOptional u.now.forest (length u.now.forest.trees) is_expression step }
+    requires body { Has u.now.forest n.0 is_statement body }
+    requires is { IsForDeclaration u.now.forest n declaration a step body }
     requires opened { IsOpen into.old s.old }
     requires known { w.result.0 < length into.old.known.terms }
     ensures there { IfOk result (λ r. IfSome r (IsStatement into.new)) }
     ensures moves { IfOk result (λ r. IfSome r (λ n. Moves into.old s.old into.new s.new)) }
-    ensures typed { IfOk result (λ r. stated_if t.now.texts s.new into.new r ≡ scoped (around_in into.old.known w) (statement_of (tables u.now).forest n) (state_of t.now.texts false s.old into.old)) }
+    ensures typed { IfOk result (λ r. stated_if t.now.texts s.new into.new r ≡ scoped (around_in into.old.known w) (statement_of u.now.forest n) (state_of t.now.texts false s.old into.old)) }
 {
     let mut items = Vec::new(s.allocator());
     if !first_declared(u, t, s, into, declaration, &mut items)? {
@@ -314,14 +313,14 @@ fn block_statement(
     n: NodeId,
     list: ListId,
 ) -> Result<Option<NodeId>, NoMemory>
-    requires node { Is (tables u.now) is_statement n }
-    requires list { HasList (tables u.now).forest n.0 is_item list }
-    requires is { statement_of (tables u.now).forest n ≡ Block (tree_line (tree_at (tables u.now).forest n)) (trees_at (tables u.now).forest list) }
+    requires node { Is u.now is_statement n }
+    requires list { HasList u.now.forest n.0 is_item list }
+    requires is { statement_of u.now.forest n ≡ Block (tree_line (tree_at u.now.forest n)) (trees_at u.now.forest list) }
     requires opened { IsOpen into.old s.old }
     requires known { w.result.0 < length into.old.known.terms }
     ensures there { IfOk result (λ r. IfSome r (IsStatement into.new)) }
     ensures moves { IfOk result (λ r. IfSome r (λ n. Moves into.old s.old into.new s.new)) }
-    ensures typed { IfOk result (λ r. stated_if t.now.texts s.new into.new r ≡ scoped (around_in into.old.known w) (statement_of (tables u.now).forest n) (state_of t.now.texts false s.old into.old)) }
+    ensures typed { IfOk result (λ r. stated_if t.now.texts s.new into.new r ≡ scoped (around_in into.old.known w) (statement_of u.now.forest n) (state_of t.now.texts false s.old into.old)) }
 {
     let mut items = Vec::new(s.allocator());
     if !all_items(u, t, s, into, w, n, list, &mut items)? {
@@ -342,13 +341,13 @@ fn item(
     n: NodeId,
     items: &mut Vec<NodeId>,
 ) -> Result<bool, NoMemory>
-    requires node { Is (tables u.now) is_item n }
+    requires node { Is u.now is_item n }
     requires opened { IsOpen into.old s.old }
     requires known { w.result.0 < length into.old.known.terms }
     requires items { AreStatements into.old items.old.items }
     ensures there { IfOk result (StatementsOn into.new items.new.items) }
     ensures moves { IfOk result (MovesOn into.old s.old into.new s.new) }
-    ensures typed { IfOk result (λ b. items_if t.now.texts s.new into.new items.new.items b ≡ typed_item (around_in into.old.known w) (tree_at (tables u.now).forest n) (items_in t.now.texts s.old into.old items.old.items)) }
+    ensures typed { IfOk result (λ b. items_if t.now.texts s.new into.new items.new.items b ≡ typed_item (around_in into.old.known w) (tree_at u.now.forest n) (items_in t.now.texts s.old into.old items.old.items)) }
 {
     if u.is_declaration(n) {
         let b = add_declaration(u, t, s, into, n, items)?;
@@ -373,14 +372,14 @@ pub(crate) fn all_items(
     list: ListId,
     items: &mut Vec<NodeId>,
 ) -> Result<bool, NoMemory>
-    requires list { HasList (tables u.now).forest n.0 is_item list }
-    requires node { Is (tables u.now) is_statement n }
+    requires list { HasList u.now.forest n.0 is_item list }
+    requires node { Is u.now is_statement n }
     requires opened { IsOpen into.old s.old }
     requires known { w.result.0 < length into.old.known.terms }
     requires empty { items.old.items ≡ [] }
     ensures there { IfOk result (StatementsOn into.new items.new.items) }
     ensures moves { IfOk result (MovesOn into.old s.old into.new s.new) }
-    ensures typed { IfOk result (λ b. items_if t.now.texts s.new into.new items.new.items b ≡ typed_items (around_in into.old.known w) (trees_at (tables u.now).forest list) (state_of t.now.texts false s.old into.old)) }
+    ensures typed { IfOk result (λ b. items_if t.now.texts s.new into.new items.new.items b ≡ typed_items (around_in into.old.known w) (trees_at u.now.forest list) (state_of t.now.texts false s.old into.old)) }
 {
     let nodes = u.list(list);
     for node in nodes {
@@ -405,17 +404,17 @@ fn under_labels(
     body: NodeId,
     labels: &mut Labels,
 ) -> Result<Option<NodeId>, NoMemory>
-    requires node { Is (tables u.now) is_statement n }
-    requires list { HasList (tables u.now).forest n.0 is_statement list }
-    requires body { Has (tables u.now).forest n.0 is_statement body }
+    requires node { Is u.now is_statement n }
+    requires list { HasList u.now.forest n.0 is_statement list }
+    requires body { Has u.now.forest n.0 is_statement body }
     requires opened { IsOpen into.old s.old }
     requires known { w.result.0 < length into.old.known.terms }
     requires same { HasKeys labels.old }
-    requires is { statement_of (tables u.now).forest n ≡ Labelled (tree_line (tree_at (tables u.now).forest n)) (trees_at (tables u.now).forest list) (statement_of (tables u.now).forest body) }
+    requires is { statement_of u.now.forest n ≡ Labelled (tree_line (tree_at u.now.forest n)) (trees_at u.now.forest list) (statement_of u.now.forest body) }
     ensures there { IfOk result (λ r. IfSome r (IsStatement into.new)) }
     ensures same { OnOk result (HasKeys labels.new) }
     ensures moves { IfOk result (λ r. IfSome r (λ n. Moves into.old s.old into.new s.new)) }
-    ensures typed { IfOk result (λ r. marked_if t.now.texts s.new into.new labels.new.all.items r ≡ labelled_statement_at (tables u.now) into.old w kind n (labels_of labels.old.all.items) (state_of t.now.texts false s.old into.old)) }
+    ensures typed { IfOk result (λ r. marked_if t.now.texts s.new into.new labels.new.all.items r ≡ labelled_statement_at u.now into.old w kind n (labels_of labels.old.all.items) (state_of t.now.texts false s.old into.old)) }
 {
     let before = labels.all.len();
     if !all_labels(u, t, s, into, kind, list, labels)? {
@@ -440,14 +439,14 @@ fn labelled(
     n: NodeId,
     labels: &mut Labels,
 ) -> Result<Option<NodeId>, NoMemory>
-    requires node { Is (tables u.now) is_statement n }
+    requires node { Is u.now is_statement n }
     requires opened { IsOpen into.old s.old }
     requires known { w.result.0 < length into.old.known.terms }
     requires same { HasKeys labels.old }
     ensures there { IfOk result (λ r. IfSome r (IsStatement into.new)) }
     ensures same { OnOk result (HasKeys labels.new) }
     ensures moves { IfOk result (λ r. IfSome r (λ n. Moves into.old s.old into.new s.new)) }
-    ensures typed { IfOk result (λ r. marked_if t.now.texts s.new into.new labels.new.all.items r ≡ labelled_statement_at (tables u.now) into.old w kind n (labels_of labels.old.all.items) (state_of t.now.texts false s.old into.old)) }
+    ensures typed { IfOk result (λ r. marked_if t.now.texts s.new into.new labels.new.all.items r ≡ labelled_statement_at u.now into.old w kind n (labels_of labels.old.all.items) (state_of t.now.texts false s.old into.old)) }
 {
     match labelled_parts(u, n) {
         Some((list, body)) => under_labels(u, t, s, into, w, kind, n, list, body, labels),
@@ -471,7 +470,7 @@ fn switch_item(
     items: &mut Vec<NodeId>,
     labels: &mut Labels,
 ) -> Result<bool, NoMemory>
-    requires node { Is (tables u.now) is_item n }
+    requires node { Is u.now is_item n }
     requires opened { IsOpen into.old s.old }
     requires known { w.result.0 < length into.old.known.terms }
     requires items { AreStatements into.old items.old.items }
@@ -479,7 +478,7 @@ fn switch_item(
     ensures there { IfOk result (StatementsOn into.new items.new.items) }
     ensures moves { IfOk result (MovesOn into.old s.old into.new s.new) }
     ensures same { OnOk result (HasKeys labels.new) }
-    ensures typed { IfOk result (λ b. body_if t.now.texts s.new into.new items.new.items labels.new.all.items b ≡ switch_item_at (tables u.now) into.old w kind n (body_in t.now.texts s.old into.old items.old.items labels.old.all.items)) }
+    ensures typed { IfOk result (λ b. body_if t.now.texts s.new into.new items.new.items labels.new.all.items b ≡ switch_item_at u.now into.old w kind n (body_in t.now.texts s.old into.old items.old.items labels.old.all.items)) }
 {
     if u.is_declaration(n) {
         let b = add_declaration(u, t, s, into, n, items)?;
@@ -506,8 +505,8 @@ fn switch_items(
     items: &mut Vec<NodeId>,
     labels: &mut Labels,
 ) -> Result<bool, NoMemory>
-    requires list { HasList (tables u.now).forest n.0 is_item list }
-    requires node { Is (tables u.now) is_statement n }
+    requires list { HasList u.now.forest n.0 is_item list }
+    requires node { Is u.now is_statement n }
     requires opened { IsOpen into.old s.old }
     requires known { w.result.0 < length into.old.known.terms }
     requires empty { items.old.items ≡ [] }
@@ -515,7 +514,7 @@ fn switch_items(
     requires same { HasKeys labels.old }
     ensures there { IfOk result (StatementsOn into.new items.new.items) }
     ensures moves { IfOk result (MovesOn into.old s.old into.new s.new) }
-    ensures typed { IfOk result (λ b. body_if t.now.texts s.new into.new items.new.items labels.new.all.items b ≡ switch_items_at (tables u.now) into.old w kind list (state_of t.now.texts false s.old into.old)) }
+    ensures typed { IfOk result (λ b. body_if t.now.texts s.new into.new items.new.items labels.new.all.items b ≡ switch_items_at u.now into.old w kind list (state_of t.now.texts false s.old into.old)) }
 {
     let nodes = u.list(list);
     for node in nodes {
@@ -537,12 +536,12 @@ fn switch_body(
     kind: IntKind,
     n: NodeId,
 ) -> Result<Option<NodeId>, NoMemory>
-    requires node { Is (tables u.now) is_statement n }
+    requires node { Is u.now is_statement n }
     requires opened { IsOpen into.old s.old }
     requires known { w.result.0 < length into.old.known.terms }
     ensures there { IfOk result (λ r. IfSome r (IsStatement into.new)) }
     ensures moves { IfOk result (λ r. IfSome r (λ n. Moves into.old s.old into.new s.new)) }
-    ensures typed { IfOk result (λ r. stated_if t.now.texts s.new into.new r ≡ switch_body (around_in into.old.known w) kind (statement_of (tables u.now).forest n) (state_of t.now.texts false s.old into.old)) }
+    ensures typed { IfOk result (λ r. stated_if t.now.texts s.new into.new r ≡ switch_body (around_in into.old.known w) kind (statement_of u.now.forest n) (state_of t.now.texts false s.old into.old)) }
 {
     let Some(list) = block_items(u, n) else {
         return Ok(None);
@@ -583,12 +582,12 @@ fn switch_block(
     kind: IntKind,
     n: NodeId,
 ) -> Result<Option<NodeId>, NoMemory>
-    requires node { Is (tables u.now) is_statement n }
+    requires node { Is u.now is_statement n }
     requires opened { IsOpen into.old s.old }
     requires known { w.result.0 < length into.old.known.terms }
     ensures there { IfOk result (λ r. IfSome r (IsStatement into.new)) }
     ensures moves { IfOk result (λ r. IfSome r (λ n. Moves into.old s.old into.new s.new)) }
-    ensures typed { IfOk result (λ r. stated_if t.now.texts s.new into.new r ≡ switch_block (around_in into.old.known w) kind (statement_of (tables u.now).forest n) (state_of t.now.texts false s.old into.old)) }
+    ensures typed { IfOk result (λ r. stated_if t.now.texts s.new into.new r ≡ switch_block (around_in into.old.known w) kind (statement_of u.now.forest n) (state_of t.now.texts false s.old into.old)) }
 {
     enter(s, into)?;
     let Some(made) = switch_body(u, t, s, into, w, kind, n)? else {
@@ -610,15 +609,15 @@ fn switch_statement(
     a: NodeId,
     body: NodeId,
 ) -> Result<Option<NodeId>, NoMemory>
-    requires node { Is (tables u.now) is_statement n }
-    requires condition { Is (tables u.now) is_expression a }
-    requires body { Has (tables u.now).forest n.0 is_statement body }
-    requires is { statement_of (tables u.now).forest n ≡ Switch (tree_line (tree_at (tables u.now).forest n)) (expression_of (tables u.now).forest a) (statement_of (tables u.now).forest body) }
+    requires node { Is u.now is_statement n }
+    requires condition { Is u.now is_expression a }
+    requires body { Has u.now.forest n.0 is_statement body }
+    requires is { statement_of u.now.forest n ≡ Switch (tree_line (tree_at u.now.forest n)) (expression_of u.now.forest a) (statement_of u.now.forest body) }
     requires opened { IsOpen into.old s.old }
     requires known { w.result.0 < length into.old.known.terms }
     ensures there { IfOk result (λ r. IfSome r (IsStatement into.new)) }
     ensures moves { IfOk result (λ r. IfSome r (λ n. Moves into.old s.old into.new s.new)) }
-    ensures typed { IfOk result (λ r. stated_if t.now.texts s.new into.new r ≡ scoped (around_in into.old.known w) (statement_of (tables u.now).forest n) (state_of t.now.texts false s.old into.old)) }
+    ensures typed { IfOk result (λ r. stated_if t.now.texts s.new into.new r ≡ scoped (around_in into.old.known w) (statement_of u.now.forest n) (state_of t.now.texts false s.old into.old)) }
 {
     let Some(controlling) = switched(u, t, s, into, a)? else {
         return Ok(None);
@@ -646,12 +645,12 @@ fn scoped(
     w: Place,
     n: NodeId,
 ) -> Result<Option<NodeId>, NoMemory>
-    requires node { Is (tables u.now) is_statement n }
+    requires node { Is u.now is_statement n }
     requires opened { IsOpen into.old s.old }
     requires known { w.result.0 < length into.old.known.terms }
     ensures there { IfOk result (λ r. IfSome r (IsStatement into.new)) }
     ensures moves { IfOk result (λ r. IfSome r (λ n. Moves into.old s.old into.new s.new)) }
-    ensures typed { IfOk result (λ r. stated_if t.now.texts s.new into.new r ≡ scoped (around_in into.old.known w) (statement_of (tables u.now).forest n) (state_of t.now.texts false s.old into.old)) }
+    ensures typed { IfOk result (λ r. stated_if t.now.texts s.new into.new r ≡ scoped (around_in into.old.known w) (statement_of u.now.forest n) (state_of t.now.texts false s.old into.old)) }
 {
     match u.stmt(n) {
         Stmt::Block(list) => block_statement(u, t, s, into, w, n, list),
@@ -693,13 +692,13 @@ fn in_scope(
     w: Place,
     n: NodeId,
 ) -> Result<Option<NodeId>, NoMemory>
-    requires node { Is (tables u.now) is_statement n }
-    requires scope { has_scope (statement_of (tables u.now).forest n) ≡ true }
+    requires node { Is u.now is_statement n }
+    requires scope { has_scope (statement_of u.now.forest n) ≡ true }
     requires opened { IsOpen into.old s.old }
     requires known { w.result.0 < length into.old.known.terms }
     ensures there { IfOk result (λ r. IfSome r (IsStatement into.new)) }
     ensures moves { IfOk result (λ r. IfSome r (λ n. Moves into.old s.old into.new s.new)) }
-    ensures typed { IfOk result (λ r. stated_if t.now.texts s.new into.new r ≡ typed_statement (around_in into.old.known w) (statement_of (tables u.now).forest n) (state_of t.now.texts false s.old into.old)) }
+    ensures typed { IfOk result (λ r. stated_if t.now.texts s.new into.new r ≡ typed_statement (around_in into.old.known w) (statement_of u.now.forest n) (state_of t.now.texts false s.old into.old)) }
 {
     enter(s, into)?;
     let Some(made) = scoped(u, t, s, into, w, n)? else {
@@ -719,12 +718,12 @@ fn statement(
     w: Place,
     n: NodeId,
 ) -> Result<Option<NodeId>, NoMemory>
-    requires node { Is (tables u.now) is_statement n }
+    requires node { Is u.now is_statement n }
     requires opened { IsOpen into.old s.old }
     requires known { w.result.0 < length into.old.known.terms }
     ensures there { IfOk result (λ r. IfSome r (IsStatement into.new)) }
     ensures moves { IfOk result (λ r. IfSome r (λ n. Moves into.old s.old into.new s.new)) }
-    ensures typed { IfOk result (λ r. stated_if t.now.texts s.new into.new r ≡ typed_statement (around_in into.old.known w) (statement_of (tables u.now).forest n) (state_of t.now.texts false s.old into.old)) }
+    ensures typed { IfOk result (λ r. stated_if t.now.texts s.new into.new r ≡ typed_statement (around_in into.old.known w) (statement_of u.now.forest n) (state_of t.now.texts false s.old into.old)) }
 {
     match u.stmt(n) {
         Stmt::Block(_)

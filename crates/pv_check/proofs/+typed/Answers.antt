@@ -7,7 +7,6 @@ use Rattle.pv_num.specs.declared.kinds.IntKind.TheVariants as kind
 use Rattle.pv_tree.specs.declared.nodes.NodeId.{NodeId}
 use Rattle.pv_tree.specs.Lines.{tree_line}
 use Rattle.pv_tree.specs.Nodes.{specifier_of}
-use Rattle.pv_tree.specs.Rows.{tables}
 use Rattle.pv_tree.specs.Syntax.{Name, Number, Character, Text, Call, Member, Arrow, Present, PostIncrement, PostDecrement, PreIncrement, PreDecrement, Unary, Index, Binary, Assign, Comma, Conditional, DeclarationTree, TypeName, Trees, OfDeclarator}
 use Rattle.pv_tree.specs.Tables.{Is, HasList, is_expression, list_at, is_declarator, as_expression, expression_at as expression_of_node, declarator_at, as_specifier, specifier_at, is_specifier, is_declaration, optional_at, tree_at, trees_at, trees_of, arguments_at, as_declaration, declaration_at}
 use Rattle.pv_types.specs.declared.terms.TypeId.{TypeId}
@@ -78,43 +77,43 @@ expressions::operand-returns-clause-goes t c = kept c.in_ok-r.r (goes_then_kept 
 
 pub expressions::typed-returns-in-PostIncrement-clause-typed : goal.expressions::typed-returns-in-PostIncrement-clause-typed
 expressions::typed-returns-in-PostIncrement-clause-typed t c =
-    typed_as c.args.t.now.texts c.args.hidden c.args.s.now c.of_one-in-PostIncrement.new.s c.args.into.now c.of_one-in-PostIncrement.new.into c.of_one-in-PostIncrement.result (ap as_expression c.in-PostIncrement.ensures.tree ∙ ap (λ (l : ℕ). PostIncrement l (expression_of_node (tables c.args.u.now).forest c.in-PostIncrement.a)) (sym c.line-line.ensures)) c.of_one-in-PostIncrement.ensures.typed
+    typed_as c.args.t.now.texts c.args.hidden c.args.s.now c.of_one-in-PostIncrement.new.s c.args.into.now c.of_one-in-PostIncrement.new.into c.of_one-in-PostIncrement.result (ap as_expression c.in-PostIncrement.ensures.tree ∙ ap (λ (l : ℕ). PostIncrement l (expression_of_node c.args.u.now.forest c.in-PostIncrement.a)) (sym c.line-line.ensures)) c.of_one-in-PostIncrement.ensures.typed
 
 pub expressions::typed-returns-in-PostDecrement-clause-typed : goal.expressions::typed-returns-in-PostDecrement-clause-typed
 expressions::typed-returns-in-PostDecrement-clause-typed t c =
-    typed_as c.args.t.now.texts c.args.hidden c.args.s.now c.of_one-in-PostDecrement.new.s c.args.into.now c.of_one-in-PostDecrement.new.into c.of_one-in-PostDecrement.result (ap as_expression c.in-PostDecrement.ensures.tree ∙ ap (λ (l : ℕ). PostDecrement l (expression_of_node (tables c.args.u.now).forest c.in-PostDecrement.a)) (sym c.line-line.ensures)) c.of_one-in-PostDecrement.ensures.typed
+    typed_as c.args.t.now.texts c.args.hidden c.args.s.now c.of_one-in-PostDecrement.new.s c.args.into.now c.of_one-in-PostDecrement.new.into c.of_one-in-PostDecrement.result (ap as_expression c.in-PostDecrement.ensures.tree ∙ ap (λ (l : ℕ). PostDecrement l (expression_of_node c.args.u.now.forest c.in-PostDecrement.a)) (sym c.line-line.ensures)) c.of_one-in-PostDecrement.ensures.typed
 
 pub expressions::typed-returns-in-PreIncrement-clause-typed : goal.expressions::typed-returns-in-PreIncrement-clause-typed
 expressions::typed-returns-in-PreIncrement-clause-typed t c =
-    typed_as c.args.t.now.texts c.args.hidden c.args.s.now c.of_one-in-PreIncrement.new.s c.args.into.now c.of_one-in-PreIncrement.new.into c.of_one-in-PreIncrement.result (ap as_expression c.in-PreIncrement.ensures.tree ∙ ap (λ (l : ℕ). PreIncrement l (expression_of_node (tables c.args.u.now).forest c.in-PreIncrement.a)) (sym c.line-line.ensures)) c.of_one-in-PreIncrement.ensures.typed
+    typed_as c.args.t.now.texts c.args.hidden c.args.s.now c.of_one-in-PreIncrement.new.s c.args.into.now c.of_one-in-PreIncrement.new.into c.of_one-in-PreIncrement.result (ap as_expression c.in-PreIncrement.ensures.tree ∙ ap (λ (l : ℕ). PreIncrement l (expression_of_node c.args.u.now.forest c.in-PreIncrement.a)) (sym c.line-line.ensures)) c.of_one-in-PreIncrement.ensures.typed
 
 pub expressions::typed-returns-in-PreDecrement-clause-typed : goal.expressions::typed-returns-in-PreDecrement-clause-typed
 expressions::typed-returns-in-PreDecrement-clause-typed t c =
-    typed_as c.args.t.now.texts c.args.hidden c.args.s.now c.of_one-in-PreDecrement.new.s c.args.into.now c.of_one-in-PreDecrement.new.into c.of_one-in-PreDecrement.result (ap as_expression c.in-PreDecrement.ensures.tree ∙ ap (λ (l : ℕ). PreDecrement l (expression_of_node (tables c.args.u.now).forest c.in-PreDecrement.a)) (sym c.line-line.ensures)) c.of_one-in-PreDecrement.ensures.typed
+    typed_as c.args.t.now.texts c.args.hidden c.args.s.now c.of_one-in-PreDecrement.new.s c.args.into.now c.of_one-in-PreDecrement.new.into c.of_one-in-PreDecrement.result (ap as_expression c.in-PreDecrement.ensures.tree ∙ ap (λ (l : ℕ). PreDecrement l (expression_of_node c.args.u.now.forest c.in-PreDecrement.a)) (sym c.line-line.ensures)) c.of_one-in-PreDecrement.ensures.typed
 
 pub expressions::typed-returns-in-Unary-clause-typed : goal.expressions::typed-returns-in-Unary-clause-typed
 expressions::typed-returns-in-Unary-clause-typed t c =
-    typed_as c.args.t.now.texts c.args.hidden c.args.s.now c.of_one-in-Unary.new.s c.args.into.now c.of_one-in-Unary.new.into c.of_one-in-Unary.result (ap as_expression c.in-Unary.ensures.tree ∙ ap (λ (l : ℕ). Unary l c.in-Unary.op (expression_of_node (tables c.args.u.now).forest c.in-Unary.a)) (sym c.line-line.ensures)) c.of_one-in-Unary.ensures.typed
+    typed_as c.args.t.now.texts c.args.hidden c.args.s.now c.of_one-in-Unary.new.s c.args.into.now c.of_one-in-Unary.new.into c.of_one-in-Unary.result (ap as_expression c.in-Unary.ensures.tree ∙ ap (λ (l : ℕ). Unary l c.in-Unary.op (expression_of_node c.args.u.now.forest c.in-Unary.a)) (sym c.line-line.ensures)) c.of_one-in-Unary.ensures.typed
 
 pub expressions::typed-returns-in-Index-clause-typed : goal.expressions::typed-returns-in-Index-clause-typed
 expressions::typed-returns-in-Index-clause-typed t c =
-    typed_as c.args.t.now.texts c.args.hidden c.args.s.now c.of_two.new.s c.args.into.now c.of_two.new.into c.of_two.result (ap as_expression c.in-Index.ensures.tree ∙ ap (λ (l : ℕ). Index l (expression_of_node (tables c.args.u.now).forest c.in-Index.a) (expression_of_node (tables c.args.u.now).forest c.in-Index.b)) (sym c.line-line.ensures)) c.of_two.ensures.typed
+    typed_as c.args.t.now.texts c.args.hidden c.args.s.now c.of_two.new.s c.args.into.now c.of_two.new.into c.of_two.result (ap as_expression c.in-Index.ensures.tree ∙ ap (λ (l : ℕ). Index l (expression_of_node c.args.u.now.forest c.in-Index.a) (expression_of_node c.args.u.now.forest c.in-Index.b)) (sym c.line-line.ensures)) c.of_two.ensures.typed
 
 pub expressions::typed-returns-in-Comma-clause-typed : goal.expressions::typed-returns-in-Comma-clause-typed
 expressions::typed-returns-in-Comma-clause-typed t c =
-    typed_as c.args.t.now.texts c.args.hidden c.args.s.now c.of_two-in-Comma.new.s c.args.into.now c.of_two-in-Comma.new.into c.of_two-in-Comma.result (ap as_expression c.in-Comma.ensures.tree ∙ ap (λ (l : ℕ). Comma l (expression_of_node (tables c.args.u.now).forest c.in-Comma.a) (expression_of_node (tables c.args.u.now).forest c.in-Comma.b)) (sym c.line-line.ensures)) c.of_two-in-Comma.ensures.typed
+    typed_as c.args.t.now.texts c.args.hidden c.args.s.now c.of_two-in-Comma.new.s c.args.into.now c.of_two-in-Comma.new.into c.of_two-in-Comma.result (ap as_expression c.in-Comma.ensures.tree ∙ ap (λ (l : ℕ). Comma l (expression_of_node c.args.u.now.forest c.in-Comma.a) (expression_of_node c.args.u.now.forest c.in-Comma.b)) (sym c.line-line.ensures)) c.of_two-in-Comma.ensures.typed
 
 pub expressions::typed-returns-in-Binary-clause-typed : goal.expressions::typed-returns-in-Binary-clause-typed
 expressions::typed-returns-in-Binary-clause-typed t c =
-    typed_as c.args.t.now.texts c.args.hidden c.args.s.now c.of_two-in-Binary.new.s c.args.into.now c.of_two-in-Binary.new.into c.of_two-in-Binary.result (ap as_expression c.in-Binary.ensures.tree ∙ ap (λ (l : ℕ). Binary l c.in-Binary.op (expression_of_node (tables c.args.u.now).forest c.in-Binary.a) (expression_of_node (tables c.args.u.now).forest c.in-Binary.b)) (sym c.line-line.ensures)) c.of_two-in-Binary.ensures.typed
+    typed_as c.args.t.now.texts c.args.hidden c.args.s.now c.of_two-in-Binary.new.s c.args.into.now c.of_two-in-Binary.new.into c.of_two-in-Binary.result (ap as_expression c.in-Binary.ensures.tree ∙ ap (λ (l : ℕ). Binary l c.in-Binary.op (expression_of_node c.args.u.now.forest c.in-Binary.a) (expression_of_node c.args.u.now.forest c.in-Binary.b)) (sym c.line-line.ensures)) c.of_two-in-Binary.ensures.typed
 
 pub expressions::typed-returns-in-Assign-clause-typed : goal.expressions::typed-returns-in-Assign-clause-typed
 expressions::typed-returns-in-Assign-clause-typed t c =
-    typed_as c.args.t.now.texts c.args.hidden c.args.s.now c.of_two-in-Assign.new.s c.args.into.now c.of_two-in-Assign.new.into c.of_two-in-Assign.result (ap as_expression c.in-Assign.ensures.tree ∙ ap (λ (l : ℕ). Assign l c.in-Assign.op (expression_of_node (tables c.args.u.now).forest c.in-Assign.a) (expression_of_node (tables c.args.u.now).forest c.in-Assign.b)) (sym c.line-line.ensures)) c.of_two-in-Assign.ensures.typed
+    typed_as c.args.t.now.texts c.args.hidden c.args.s.now c.of_two-in-Assign.new.s c.args.into.now c.of_two-in-Assign.new.into c.of_two-in-Assign.result (ap as_expression c.in-Assign.ensures.tree ∙ ap (λ (l : ℕ). Assign l c.in-Assign.op (expression_of_node c.args.u.now.forest c.in-Assign.a) (expression_of_node c.args.u.now.forest c.in-Assign.b)) (sym c.line-line.ensures)) c.of_two-in-Assign.ensures.typed
 
 pub expressions::typed-returns-in-Conditional-clause-typed : goal.expressions::typed-returns-in-Conditional-clause-typed
 expressions::typed-returns-in-Conditional-clause-typed t c =
-    typed_as c.args.t.now.texts c.args.hidden c.args.s.now c.of_three.new.s c.args.into.now c.of_three.new.into c.of_three.result (ap as_expression c.in-Conditional.ensures.tree ∙ ap (λ (l : ℕ). Conditional l (expression_of_node (tables c.args.u.now).forest c.in-Conditional.a) (expression_of_node (tables c.args.u.now).forest c.in-Conditional.b) (expression_of_node (tables c.args.u.now).forest c.in-Conditional.c)) (sym c.line-line.ensures)) c.of_three.ensures.typed
+    typed_as c.args.t.now.texts c.args.hidden c.args.s.now c.of_three.new.s c.args.into.now c.of_three.new.into c.of_three.result (ap as_expression c.in-Conditional.ensures.tree ∙ ap (λ (l : ℕ). Conditional l (expression_of_node c.args.u.now.forest c.in-Conditional.a) (expression_of_node c.args.u.now.forest c.in-Conditional.b) (expression_of_node c.args.u.now.forest c.in-Conditional.c)) (sym c.line-line.ensures)) c.of_three.ensures.typed
 
 pub expressions::typed-returns-in-Name-clause-typed : goal.expressions::typed-returns-in-Name-clause-typed
 expressions::typed-returns-in-Name-clause-typed t c =
@@ -138,7 +137,7 @@ expressions::sizeof_named-returns-clause-goes t c = kept c.in_ok-r.r (goes_then_
 
 pub type_names::type_named-returns-in-TypeName-clause-typed : goal.type_names::type_named-returns-in-TypeName-clause-typed
 type_names::type_named-returns-in-TypeName-clause-typed t c =
-    let f = (tables c.args.u.now).forest in
+    let f = c.args.u.now.forest in
     let line = tree_line (tree_at f c.args.n) in
     let at : declaration_at f c.args.n ≡ TypeName line (trees_at f c.in-TypeName.specs) (optional_at f c.in-TypeName.declarator) = ap as_declaration c.in-TypeName.ensures.tree in
     let P : DeclarationTree → Type 0 = λ x. IfOk c.type_name.result (λ r. after_type c.args.t.now.texts c.args.hidden c.type_name.new.s c.type_name.new.into r ≡ type_named x (state_of c.args.t.now.texts c.args.hidden c.args.s.now c.args.into.now)) in
@@ -146,7 +145,7 @@ type_names::type_named-returns-in-TypeName-clause-typed t c =
 
 pub expressions::typed-returns-in_ok-r-in-Call-clause-typed : goal.expressions::typed-returns-in_ok-r-in-Call-clause-typed
 expressions::typed-returns-in_ok-r-in-Call-clause-typed t c =
-    let f = (tables c.args.u.now).forest in
+    let f = c.args.u.now.forest in
     let at : expression_of_node f c.args.e ≡ Call c.line-line.result (expression_of_node f c.in-Call.f) (arguments_at f c.in-Call.args) = ap as_expression c.in-Call.ensures.tree ∙ ap (λ (l : ℕ). Call l (expression_of_node f c.in-Call.f) (arguments_at f c.in-Call.args)) (sym c.line-line.ensures) in
     c.in_ok-r-in-Call.ensures.typed ∙ ap (λ x. types x (state_of c.args.t.now.texts c.args.hidden c.args.s.now c.args.into.now)) (sym at)
 
@@ -157,27 +156,27 @@ expressions::call_to-returns-in_default-clause-typed t c =
 pub expressions::call_to-returns-in_default-2-clause-typed : goal.expressions::call_to-returns-in_default-2-clause-typed
 expressions::call_to-returns-in_default-2-clause-typed t c =
     ap (λ (o : Option (After (List TypedTree))). and_then o (call c.args.line c.in-Some.c)) (ap (after_nodes c.args.t.now.texts c.args.hidden c.arguments.new.s c.arguments.new.into) (sym c.in_default-2.is) ∙ c.in_ok-list.ensures.typed)
-    ∙ callee_some _ (with_callee (state_of c.args.t.now.texts c.args.hidden c.args.s.now c.args.into.now)) (λ d z. and_then (arguments (arguments_at (tables c.args.u.now).forest c.args.args) z) (call c.args.line d)) c.in-Some.c (state_of c.args.t.now.texts c.args.hidden c.used_callee.new.s c.args.into.now) (ap (after_number c.args.t.now.texts c.args.hidden c.used_callee.new.s c.args.into.now) (sym c.in-Some.is) ∙ c.in_ok-c.ensures.value c.args.t.now.texts c.args.hidden)
+    ∙ callee_some _ (with_callee (state_of c.args.t.now.texts c.args.hidden c.args.s.now c.args.into.now)) (λ d z. and_then (arguments (arguments_at c.args.u.now.forest c.args.args) z) (call c.args.line d)) c.in-Some.c (state_of c.args.t.now.texts c.args.hidden c.used_callee.new.s c.args.into.now) (ap (after_number c.args.t.now.texts c.args.hidden c.used_callee.new.s c.args.into.now) (sym c.in-Some.is) ∙ c.in_ok-c.ensures.value c.args.t.now.texts c.args.hidden)
 
 pub expressions::call_to-returns-clause-typed : goal.expressions::call_to-returns-clause-typed
 expressions::call_to-returns-clause-typed t c =
     c.in_ok-r.ensures.typed c.args.t.now.texts
     ∙ ap (λ (ns : List NodeId). call c.args.line c.in-Some.c (record { value = map (expression_at c.arguments.new.into) ns; state = (state_of c.args.t.now.texts c.args.hidden c.arguments.new.s c.arguments.new.into) })) c.deref.ensures.value
     ∙ ap (λ (o : Option (After (List TypedTree))). and_then o (call c.args.line c.in-Some.c)) (ap (after_nodes c.args.t.now.texts c.args.hidden c.arguments.new.s c.arguments.new.into) (sym c.in-Some-2.is) ∙ c.in_ok-list.ensures.typed)
-    ∙ callee_some _ (with_callee (state_of c.args.t.now.texts c.args.hidden c.args.s.now c.args.into.now)) (λ d z. and_then (arguments (arguments_at (tables c.args.u.now).forest c.args.args) z) (call c.args.line d)) c.in-Some.c (state_of c.args.t.now.texts c.args.hidden c.used_callee.new.s c.args.into.now) (ap (after_number c.args.t.now.texts c.args.hidden c.used_callee.new.s c.args.into.now) (sym c.in-Some.is) ∙ c.in_ok-c.ensures.value c.args.t.now.texts c.args.hidden)
+    ∙ callee_some _ (with_callee (state_of c.args.t.now.texts c.args.hidden c.args.s.now c.args.into.now)) (λ d z. and_then (arguments (arguments_at c.args.u.now.forest c.args.args) z) (call c.args.line d)) c.in-Some.c (state_of c.args.t.now.texts c.args.hidden c.used_callee.new.s c.args.into.now) (ap (after_number c.args.t.now.texts c.args.hidden c.used_callee.new.s c.args.into.now) (sym c.in-Some.is) ∙ c.in_ok-c.ensures.value c.args.t.now.texts c.args.hidden)
 
 pub expressions::call_to-returns-clause-goes : goal.expressions::call_to-returns-clause-goes
 expressions::call_to-returns-clause-goes t c = kept c.in_ok-r.r (goes_then_kept _ _ _ (there (λ v. Goes _ _) c.in-Some-2.is c.in_ok-list.ensures.goes) c.in_ok-r.ensures.kept)
 
 pub expressions::arguments-returns-in_default-clause-typed : goal.expressions::arguments-returns-in_default-clause-typed
 expressions::arguments-returns-in_default-clause-typed t c =
-    let f = (tables c.args.u.now).forest in
+    let f = c.args.u.now.forest in
     let a : After (List TypedTree) = record { value = map (expression_at c.loop-i.into) c.loop-i.list.items; state = (state_of c.args.t.now.texts c.args.hidden c.loop-i.s c.loop-i.into) } in
     no_argument_in f c.args.args c.list-nodes.result.now c.loop-i.i first (state_of c.args.t.now.texts c.args.hidden c.args.s.now c.args.into.now) a c.list-nodes.ensures c.loop-i-test.true c.loop-i.invariant.4 (ap (after_node c.args.t.now.texts c.args.hidden c.operand.new.s c.operand.new.into) (sym c.in_default.is) ∙ c.in_ok-x.ensures.typed)
 
 pub expressions::arguments-loop-i-preserved : goal.expressions::arguments-loop-i-preserved
 expressions::arguments-loop-i-preserved t c =
-    let f = (tables c.args.u.now).forest in
+    let f = c.args.u.now.forest in
     let s = (state_of c.args.t.now.texts c.args.hidden c.args.s.now c.args.into.now) in
     let m = c.loop-i.into in
     let b = c.operand.new.into in
@@ -199,14 +198,14 @@ expressions::arguments-loop-i-preserved t c =
 
 pub specifying::specifiers-returns-in_default-clause-answer : goal.specifying::specifiers-returns-in_default-clause-answer
 specifying::specifiers-returns-in_default-clause-answer t c =
-    let f = (tables c.args.u.now).forest in
+    let f = c.args.u.now.forest in
     let is : is_specifier (tree_at f (get_or c.list-nodes.result.now c.loop-i.i first)) ≡ true = search rules in
     let a : After WhatIsSeen = record { value = seen_in c.loop-i.into.known c.loop-i.seen; state = (state_of c.args.t.now.texts c.args.unevaluated c.loop-i.s c.loop-i.into) } in
     none_in specifiers specifier_in (λ before x z. refl) f c.args.list c.list-nodes.result.now c.loop-i.i first (state_of c.args.t.now.texts c.args.unevaluated c.args.s.now c.args.into.now) a c.list-nodes.ensures c.loop-i-test.true c.loop-i.invariant.5 (ap (after_seen c.args.t.now.texts c.args.unevaluated c.specifier.new.s c.specifier.new.into) (sym c.in_default.is) ∙ c.in_ok-more.ensures.answer ∙ specifier_tree (tree_at f (get_or c.list-nodes.result.now c.loop-i.i first)) a is)
 
 pub specifying::specifiers-loop-i-preserved : goal.specifying::specifiers-loop-i-preserved
 specifying::specifiers-loop-i-preserved t c =
-    let f = (tables c.args.u.now).forest in
+    let f = c.args.u.now.forest in
     let s = (state_of c.args.t.now.texts c.args.unevaluated c.args.s.now c.args.into.now) in
     let is : is_specifier (tree_at f (get_or c.list-nodes.result.now c.loop-i.i first)) ≡ true = search rules in
     let a : After WhatIsSeen = record { value = seen_in c.loop-i.into.known c.loop-i.seen; state = (state_of c.args.t.now.texts c.args.unevaluated c.loop-i.s c.loop-i.into) } in
@@ -224,13 +223,13 @@ specifying::specifiers-loop-i-preserved t c =
 
 pub specifying::specifier-returns-in_ok-r-in-Some-clause-answer : goal.specifying::specifier-returns-in_ok-r-in-Some-clause-answer
 specifying::specifier-returns-in_ok-r-in-Some-clause-answer t c =
-    let f = (tables c.args.u.now).forest in
+    let f = c.args.u.now.forest in
     let at : specifier_at f c.args.n ≡ specifier_of f (tree_line (tree_at f c.args.n)) c.spec-spec.result = ap as_specifier c.spec-spec.ensures.tree in
     c.in_ok-r-in-Some.ensures.answer ∙ sym (c.in-Some.ensures.value f (tree_line (tree_at f c.args.n)) (seen_in c.args.into.now.known c.args.seen) (state_of c.args.t.now.texts c.args.unevaluated c.args.s.now c.args.into.now)) ∙ ap (λ x. specifier x (seen_in c.args.into.now.known c.args.seen) (state_of c.args.t.now.texts c.args.unevaluated c.args.s.now c.args.into.now)) (sym at)
 
 pub specifying::specifier-returns-in_ok-r-in-None-clause-answer : goal.specifying::specifier-returns-in_ok-r-in-None-clause-answer
 specifying::specifier-returns-in_ok-r-in-None-clause-answer t c =
-    let f = (tables c.args.u.now).forest in
+    let f = c.args.u.now.forest in
     let at : specifier_at f c.args.n ≡ specifier_of f (tree_line (tree_at f c.args.n)) c.spec-spec.result = ap as_specifier c.spec-spec.ensures.tree in
     c.in_ok-r-in-None.ensures.answer f (tree_line (tree_at f c.args.n)) ∙ ap (λ x. specifier x (seen_in c.args.into.now.known c.args.seen) (state_of c.args.t.now.texts c.args.unevaluated c.args.s.now c.args.into.now)) (sym at)
 
@@ -239,12 +238,12 @@ specifying::specifier-plain_specifier-requires-clause-plain t c = c.listed_of.en
 
 pub listed::composite_listed-returns-in_default-clause-answer : goal.listed::composite_listed-returns-in_default-clause-answer
 listed::composite_listed-returns-in_default-clause-answer t c =
-    ap (λ (o : Option (After ℕ)). and_then o (λ (o : After ℕ). and_then (and_then (members (trees_at (tables c.args.u.now).forest c.args.list) o.state) some_members) (λ m. and_then (completed c.args.union c.args.tag o.value m.value m.state) (λ a. give (with_type (seen_in c.args.into.now.known c.args.seen) a.value) a.state)))) (ap (after_number c.args.t.now.texts c.args.unevaluated c.opened.new.s c.opened.new.into) (sym c.in_default.is) ∙ c.in_ok-number.ensures.answer c.args.t.now.texts c.args.unevaluated)
+    ap (λ (o : Option (After ℕ)). and_then o (λ (o : After ℕ). and_then (and_then (members (trees_at c.args.u.now.forest c.args.list) o.state) some_members) (λ m. and_then (completed c.args.union c.args.tag o.value m.value m.state) (λ a. give (with_type (seen_in c.args.into.now.known c.args.seen) a.value) a.state)))) (ap (after_number c.args.t.now.texts c.args.unevaluated c.opened.new.s c.opened.new.into) (sym c.in_default.is) ∙ c.in_ok-number.ensures.answer c.args.t.now.texts c.args.unevaluated)
 
 pub listed::composite_listed-returns-in_default-2-clause-answer : goal.listed::composite_listed-returns-in_default-2-clause-answer
 listed::composite_listed-returns-in_default-2-clause-answer t c =
     ap (λ (o : Option (After (List Named))). and_then (and_then o some_members) (λ (m : After (List Named)). and_then (completed c.args.union c.args.tag c.in-Some.number m.value m.state) (λ a. give (with_type (seen_in c.args.into.now.known c.args.seen) a.value) a.state))) (ap (after_members c.args.t.now.texts c.args.unevaluated c.members.new.s c.members.new.into) (sym c.in_default-2.is) ∙ c.in_ok-ms.ensures.answer)
-    ∙ ap (λ (o : Option (After ℕ)). and_then o (λ (o : After ℕ). and_then (and_then (members (trees_at (tables c.args.u.now).forest c.args.list) o.state) some_members) (λ m. and_then (completed c.args.union c.args.tag o.value m.value m.state) (λ a. give (with_type (seen_in c.args.into.now.known c.args.seen) a.value) a.state)))) (ap (after_number c.args.t.now.texts c.args.unevaluated c.opened.new.s c.opened.new.into) (sym c.in-Some.is) ∙ c.in_ok-number.ensures.answer c.args.t.now.texts c.args.unevaluated)
+    ∙ ap (λ (o : Option (After ℕ)). and_then o (λ (o : After ℕ). and_then (and_then (members (trees_at c.args.u.now.forest c.args.list) o.state) some_members) (λ m. and_then (completed c.args.union c.args.tag o.value m.value m.state) (λ a. give (with_type (seen_in c.args.into.now.known c.args.seen) a.value) a.state)))) (ap (after_number c.args.t.now.texts c.args.unevaluated c.opened.new.s c.opened.new.into) (sym c.in-Some.is) ∙ c.in_ok-number.ensures.answer c.args.t.now.texts c.args.unevaluated)
 
 pub listed::composite_listed-completed_seen-requires-clause-tag : goal.listed::composite_listed-completed_seen-requires-clause-tag
 listed::composite_listed-completed_seen-requires-clause-tag t c =
@@ -264,17 +263,17 @@ listed::composite_listed-returns-clause-answer t c =
     c.in_ok-r.ensures.answer c.args.t.now.texts c.args.unevaluated
     ∙ ap (λ (x : WhatIsSeen). and_then (some_members (record { value = members_shown c.members.new.into.known c.in-Some-2.ms; state = (state_of c.args.t.now.texts c.args.unevaluated c.members.new.s c.members.new.into) })) (λ m. and_then (completed c.args.union c.args.tag c.in-Some.number m.value m.state) (λ a. give (with_type x a.value) a.state))) (seen_stays c.args.into.now c.members.new.into c.args.seen goes c.requires.named)
     ∙ ap (λ (o : Option (After (List Named))). and_then (and_then o some_members) (λ (m : After (List Named)). and_then (completed c.args.union c.args.tag c.in-Some.number m.value m.state) (λ a. give (with_type (seen_in c.args.into.now.known c.args.seen) a.value) a.state))) (ap (after_members c.args.t.now.texts c.args.unevaluated c.members.new.s c.members.new.into) (sym c.in-Some-2.is) ∙ c.in_ok-ms.ensures.answer)
-    ∙ ap (λ (o : Option (After ℕ)). and_then o (λ (o : After ℕ). and_then (and_then (members (trees_at (tables c.args.u.now).forest c.args.list) o.state) some_members) (λ m. and_then (completed c.args.union c.args.tag o.value m.value m.state) (λ a. give (with_type (seen_in c.args.into.now.known c.args.seen) a.value) a.state)))) (ap (after_number c.args.t.now.texts c.args.unevaluated c.opened.new.s c.opened.new.into) (sym c.in-Some.is) ∙ c.in_ok-number.ensures.answer c.args.t.now.texts c.args.unevaluated)
+    ∙ ap (λ (o : Option (After ℕ)). and_then o (λ (o : After ℕ). and_then (and_then (members (trees_at c.args.u.now.forest c.args.list) o.state) some_members) (λ m. and_then (completed c.args.union c.args.tag o.value m.value m.state) (λ a. give (with_type (seen_in c.args.into.now.known c.args.seen) a.value) a.state)))) (ap (after_number c.args.t.now.texts c.args.unevaluated c.opened.new.s c.opened.new.into) (sym c.in-Some.is) ∙ c.in_ok-number.ensures.answer c.args.t.now.texts c.args.unevaluated)
 
 pub listed::members-returns-in_default-clause-answer : goal.listed::members-returns-in_default-clause-answer
 listed::members-returns-in_default-clause-answer t c =
-    let f = (tables c.args.u.now).forest in
+    let f = c.args.u.now.forest in
     let a : After (List Named) = record { value = members_shown c.loop-i.into.known c.loop-i.ms; state = (state_of c.args.t.now.texts c.args.unevaluated c.loop-i.s c.loop-i.into) } in
     none_in members member_in (λ before x z. refl) f c.args.list c.list-nodes.result.now c.loop-i.i first (state_of c.args.t.now.texts c.args.unevaluated c.args.s.now c.args.into.now) a c.list-nodes.ensures c.loop-i-test.true c.loop-i.invariant.4 (ap (after_members c.args.t.now.texts c.args.unevaluated c.member.new.s c.member.new.into) (sym c.in_default.is) ∙ c.in_ok-more.ensures.answer)
 
 pub listed::members-loop-i-preserved : goal.listed::members-loop-i-preserved
 listed::members-loop-i-preserved t c =
-    let f = (tables c.args.u.now).forest in
+    let f = c.args.u.now.forest in
     let s = (state_of c.args.t.now.texts c.args.unevaluated c.args.s.now c.args.into.now) in
     let a : After (List Named) = record { value = members_shown c.loop-i.into.known c.loop-i.ms; state = (state_of c.args.t.now.texts c.args.unevaluated c.loop-i.s c.loop-i.into) } in
     let goes : Goes c.loop-i.into c.member.new.into = there (λ x. Goes c.loop-i.into c.member.new.into) c.in-Some.is c.in_ok-more.ensures.goes in (
@@ -287,7 +286,7 @@ listed::members-loop-i-preserved t c =
 
 pub listed::member-returns-in_default-clause-answer : goal.listed::member-returns-in_default-clause-answer
 listed::member-returns-in_default-clause-answer t c =
-    let f = (tables c.args.u.now).forest in
+    let f = c.args.u.now.forest in
     no_type (trees_at f c.in-Member.specs) (state_of c.args.t.now.texts c.args.unevaluated c.args.s.now c.args.into.now) (λ (b : After Ty). member_declarators (trees_at f c.in-Member.declarators) b.value (members_shown c.args.into.now.known c.args.before) b.state) (ap (after_type c.args.t.now.texts c.args.unevaluated c.specified_type.new.s c.specified_type.new.into) (sym c.in_default.is) ∙ c.in_ok-base-in-Member.ensures.answer)
     ∙ ap (λ x. member_in x (record { value = (members_shown c.args.into.now.known c.args.before); state = (state_of c.args.t.now.texts c.args.unevaluated c.args.s.now c.args.into.now) })) (sym c.in-Member.ensures.tree)
 
@@ -297,7 +296,7 @@ listed::member-returns-in_ok-r-in-Member-clause-goes t c =
 
 pub listed::member-returns-in_ok-r-in-Member-clause-answer : goal.listed::member-returns-in_ok-r-in-Member-clause-answer
 listed::member-returns-in_ok-r-in-Member-clause-answer t c =
-    let f = (tables c.args.u.now).forest in
+    let f = c.args.u.now.forest in
     let st = (state_of c.args.t.now.texts c.args.unevaluated c.specified_type.new.s c.specified_type.new.into) in
     c.in_ok-r-in-Member.ensures.answer
     ∙ ap (λ ms. member_declarators (trees_at f c.in-Member.declarators) (tree c.specified_type.new.into.known c.in-Some.base.0) ms st) (list_stays c.args.into.now c.specified_type.new.into c.args.before (there (λ k. Goes c.args.into.now c.specified_type.new.into) c.in-Some.is c.in_ok-base-in-Member.ensures.goes) c.requires.members)
@@ -306,13 +305,13 @@ listed::member-returns-in_ok-r-in-Member-clause-answer t c =
 
 pub listed::member_declarators-returns-in_default-clause-answer : goal.listed::member_declarators-returns-in_default-clause-answer
 listed::member_declarators-returns-in_default-clause-answer t c =
-    let f = (tables c.args.u.now).forest in
+    let f = c.args.u.now.forest in
     let a : After (List Named) = record { value = members_shown c.loop-i.into.known c.loop-i.ms; state = (state_of c.args.t.now.texts c.args.unevaluated c.loop-i.s c.loop-i.into) } in
     none_in (λ (ts : Trees) (z : State). member_declarators ts (tree c.args.into.now.known c.args.base.0) (members_shown c.args.into.now.known c.args.before) z) (member_declarator (tree c.args.into.now.known c.args.base.0)) (λ before x z. refl) f c.args.list c.list-nodes.result.now c.loop-i.i first (state_of c.args.t.now.texts c.args.unevaluated c.args.s.now c.args.into.now) a c.list-nodes.ensures c.loop-i-test.true c.loop-i.invariant.4 (ap (after_members c.args.t.now.texts c.args.unevaluated c.member_declarator.new.s c.member_declarator.new.into) (sym c.in_default.is) ∙ c.in_ok-more.ensures.answer ∙ ap (λ (v : Ty). member_declarator v (tree_at f (get_or c.list-nodes.result.now c.loop-i.i first)) a) (c.loop-i.invariant.2.grown.types c.args.base.0 c.requires.base))
 
 pub listed::member_declarators-loop-i-preserved : goal.listed::member_declarators-loop-i-preserved
 listed::member_declarators-loop-i-preserved t c =
-    let f = (tables c.args.u.now).forest in
+    let f = c.args.u.now.forest in
     let s = (state_of c.args.t.now.texts c.args.unevaluated c.args.s.now c.args.into.now) in
     let a : After (List Named) = record { value = members_shown c.loop-i.into.known c.loop-i.ms; state = (state_of c.args.t.now.texts c.args.unevaluated c.loop-i.s c.loop-i.into) } in
     let goes : Goes c.loop-i.into c.member_declarator.new.into = there (λ x. Goes c.loop-i.into c.member_declarator.new.into) c.in-Some.is c.in_ok-more.ensures.goes in (
@@ -325,7 +324,7 @@ listed::member_declarators-loop-i-preserved t c =
 
 pub listed::member_declarator-returns-in_default-clause-answer : goal.listed::member_declarator-returns-in_default-clause-answer
 listed::member_declarator-returns-in_default-clause-answer t c =
-    let f = (tables c.args.u.now).forest in
+    let f = c.args.u.now.forest in
     let at : tree_at f c.args.n ≡ OfDeclarator (declarator_at f c.args.n) = declarator_is (tree_at f c.args.n) c.requires.node.1 in
     ap (λ (o : Option (After WholeSteps)). and_then o (member_of (declared_name (declarator_at f c.args.n)) (tree c.args.into.now.known c.args.base.0) (members_shown c.args.into.now.known c.args.before))) (ap (after_steps c.args.t.now.texts c.args.unevaluated c.steps_of.new.s c.steps_of.new.into) (sym c.in_default.is) ∙ c.in_ok-steps.ensures.answer)
     ∙ ap (λ x. member_declarator (tree c.args.into.now.known c.args.base.0) x (record { value = (members_shown c.args.into.now.known c.args.before); state = (state_of c.args.t.now.texts c.args.unevaluated c.args.s.now c.args.into.now) })) (sym at)
@@ -348,7 +347,7 @@ listed::member_declarator-returns-clause-goes t c =
 
 pub listed::member_declarator-returns-clause-answer : goal.listed::member_declarator-returns-clause-answer
 listed::member_declarator-returns-clause-answer t c =
-    let f = (tables c.args.u.now).forest in
+    let f = c.args.u.now.forest in
     let at : tree_at f c.args.n ≡ OfDeclarator (declarator_at f c.args.n) = declarator_is (tree_at f c.args.n) c.requires.node.1 in
     let goes : Goes c.args.into.now c.steps_of.new.into = (there (λ k. Goes c.args.into.now c.steps_of.new.into) c.in-Some.is c.in_ok-steps.ensures.goes) in
     let k = c.steps_of.new.into.known in
@@ -364,13 +363,13 @@ listed::member_declarator-returns-clause-answer t c =
 pub listed::enumeration_listed-returns-then-not-branch-clause-answer : goal.listed::enumeration_listed-returns-then-not-branch-clause-answer
 listed::enumeration_listed-returns-then-not-branch-clause-answer t c =
     let no : c.in_ok-opened_enumeration.field-0 ≡ false = search rules in
-    ap (λ (o : Option State). and_then o (λ (o : State). and_then (enumerators (trees_at (tables c.args.u.now).forest c.args.list) o) (λ e. give (with_type (seen_in c.args.into.now.known c.args.seen) (IntTy kind.Int)) (closed_enumeration c.args.tag e.state)))) (ap (λ (b : Bool). if b then Some (state_of c.args.t.now.texts c.args.unevaluated c.opened_enumeration.new.s c.args.into.now) else None) (sym no) ∙ c.in_ok-opened_enumeration.ensures.answer c.args.t.now.texts c.args.unevaluated)
+    ap (λ (o : Option State). and_then o (λ (o : State). and_then (enumerators (trees_at c.args.u.now.forest c.args.list) o) (λ e. give (with_type (seen_in c.args.into.now.known c.args.seen) (IntTy kind.Int)) (closed_enumeration c.args.tag e.state)))) (ap (λ (b : Bool). if b then Some (state_of c.args.t.now.texts c.args.unevaluated c.opened_enumeration.new.s c.args.into.now) else None) (sym no) ∙ c.in_ok-opened_enumeration.ensures.answer c.args.t.now.texts c.args.unevaluated)
 
 pub listed::enumeration_listed-returns-in_default-clause-answer : goal.listed::enumeration_listed-returns-in_default-clause-answer
 listed::enumeration_listed-returns-in_default-clause-answer t c =
     let yes : c.in_ok-opened_enumeration.field-0 ≡ true = search rules in
     ap (λ (o : Option (After ℤ)). and_then o (λ (e : After ℤ). give (with_type (seen_in c.args.into.now.known c.args.seen) (IntTy kind.Int)) (closed_enumeration c.args.tag e.state))) (ap (after_value c.args.t.now.texts c.args.unevaluated c.enumerators.new.s c.enumerators.new.into) (sym c.in_default.is) ∙ c.in_ok-_last.ensures.answer)
-    ∙ ap (λ (o : Option State). and_then o (λ (o : State). and_then (enumerators (trees_at (tables c.args.u.now).forest c.args.list) o) (λ e. give (with_type (seen_in c.args.into.now.known c.args.seen) (IntTy kind.Int)) (closed_enumeration c.args.tag e.state)))) (ap (λ (b : Bool). if b then Some (state_of c.args.t.now.texts c.args.unevaluated c.opened_enumeration.new.s c.args.into.now) else None) (sym yes) ∙ c.in_ok-opened_enumeration.ensures.answer c.args.t.now.texts c.args.unevaluated)
+    ∙ ap (λ (o : Option State). and_then o (λ (o : State). and_then (enumerators (trees_at c.args.u.now.forest c.args.list) o) (λ e. give (with_type (seen_in c.args.into.now.known c.args.seen) (IntTy kind.Int)) (closed_enumeration c.args.tag e.state)))) (ap (λ (b : Bool). if b then Some (state_of c.args.t.now.texts c.args.unevaluated c.opened_enumeration.new.s c.args.into.now) else None) (sym yes) ∙ c.in_ok-opened_enumeration.ensures.answer c.args.t.now.texts c.args.unevaluated)
 
 pub listed::enumeration_listed-enumeration_seen-requires-clause-named : goal.listed::enumeration_listed-enumeration_seen-requires-clause-named
 listed::enumeration_listed-enumeration_seen-requires-clause-named t c =
@@ -386,17 +385,17 @@ listed::enumeration_listed-returns-clause-answer t c =
     c.in_ok-r.ensures.answer c.args.t.now.texts c.args.unevaluated
     ∙ ap (λ (x : WhatIsSeen). give (with_type x (IntTy kind.Int)) (closed_enumeration c.args.tag (state_of c.args.t.now.texts c.args.unevaluated c.enumerators.new.s c.enumerators.new.into))) (seen_stays c.args.into.now c.enumerators.new.into c.args.seen (there (λ x. Goes c.args.into.now c.enumerators.new.into) c.in-Some.is c.in_ok-_last.ensures.goes) c.requires.named)
     ∙ ap (λ (o : Option (After ℤ)). and_then o (λ (e : After ℤ). give (with_type (seen_in c.args.into.now.known c.args.seen) (IntTy kind.Int)) (closed_enumeration c.args.tag e.state))) (ap (after_value c.args.t.now.texts c.args.unevaluated c.enumerators.new.s c.enumerators.new.into) (sym c.in-Some.is) ∙ c.in_ok-_last.ensures.answer)
-    ∙ ap (λ (o : Option State). and_then o (λ (o : State). and_then (enumerators (trees_at (tables c.args.u.now).forest c.args.list) o) (λ e. give (with_type (seen_in c.args.into.now.known c.args.seen) (IntTy kind.Int)) (closed_enumeration c.args.tag e.state)))) (ap (λ (b : Bool). if b then Some (state_of c.args.t.now.texts c.args.unevaluated c.opened_enumeration.new.s c.args.into.now) else None) (sym yes) ∙ c.in_ok-opened_enumeration.ensures.answer c.args.t.now.texts c.args.unevaluated)
+    ∙ ap (λ (o : Option State). and_then o (λ (o : State). and_then (enumerators (trees_at c.args.u.now.forest c.args.list) o) (λ e. give (with_type (seen_in c.args.into.now.known c.args.seen) (IntTy kind.Int)) (closed_enumeration c.args.tag e.state)))) (ap (λ (b : Bool). if b then Some (state_of c.args.t.now.texts c.args.unevaluated c.opened_enumeration.new.s c.args.into.now) else None) (sym yes) ∙ c.in_ok-opened_enumeration.ensures.answer c.args.t.now.texts c.args.unevaluated)
 
 pub listed::enumerators-returns-in_default-clause-answer : goal.listed::enumerators-returns-in_default-clause-answer
 listed::enumerators-returns-in_default-clause-answer t c =
-    let f = (tables c.args.u.now).forest in
+    let f = c.args.u.now.forest in
     let a : After ℤ = record { value = to_z w128 c.loop-i.next-bits; state = (state_of c.args.t.now.texts c.args.unevaluated c.loop-i.s c.loop-i.into) } in
     none_in enumerators enumerator_in (λ before x z. refl) f c.args.list c.list-nodes.result.now c.loop-i.i first (state_of c.args.t.now.texts c.args.unevaluated c.args.s.now c.args.into.now) a c.list-nodes.ensures c.loop-i-test.true c.loop-i.invariant.3 (ap (after_value c.args.t.now.texts c.args.unevaluated c.enumerator.new.s c.enumerator.new.into) (sym c.in_default.is) ∙ c.in_ok-more.ensures.answer)
 
 pub listed::enumerators-loop-i-preserved : goal.listed::enumerators-loop-i-preserved
 listed::enumerators-loop-i-preserved t c =
-    let f = (tables c.args.u.now).forest in
+    let f = c.args.u.now.forest in
     let s = (state_of c.args.t.now.texts c.args.unevaluated c.args.s.now c.args.into.now) in
     let a : After ℤ = record { value = to_z w128 c.loop-i.next-bits; state = (state_of c.args.t.now.texts c.args.unevaluated c.loop-i.s c.loop-i.into) } in
     let goes : Goes c.loop-i.into c.enumerator.new.into = there (λ x. Goes c.loop-i.into c.enumerator.new.into) c.in-Some.is c.in_ok-more.ensures.goes in (
@@ -408,20 +407,20 @@ listed::enumerators-loop-i-preserved t c =
 
 pub listed::enumerators-returns-clause-answer : goal.listed::enumerators-returns-clause-answer
 listed::enumerators-returns-clause-answer t c =
-    let f = (tables c.args.u.now).forest in
+    let f = c.args.u.now.forest in
     let le : length c.list-nodes.result.now ≤ c.loop-i.i = c.loop-i-test.false in
     c.loop-i.invariant.3
     ∙ ap (λ xs. enumerators (trees_of f xs) (state_of c.args.t.now.texts c.args.unevaluated c.args.s.now c.args.into.now)) (take_all c.loop-i.i c.list-nodes.result.now le ∙ c.list-nodes.ensures)
 
 pub listed::enumerator_value-returns-in-None-clause-answer : goal.listed::enumerator_value-returns-in-None-clause-answer
 listed::enumerator_value-returns-in-None-clause-answer t c =
-    let f = (tables c.args.u.now).forest in
+    let f = c.args.u.now.forest in
     ap (λ (v : ℤ). Some (record { value = v; state = (state_of c.args.t.now.texts c.args.unevaluated c.args.s.now c.args.into.now) })) (to_z-of_z w128 c.args.next c.ranges.next)
     ∙ ap (λ o. enumerator_value (optional_at f o) c.args.next (state_of c.args.t.now.texts c.args.unevaluated c.args.s.now c.args.into.now)) (sym c.in-None.is)
 
 pub listed::enumerator-returns-in_default-clause-answer : goal.listed::enumerator-returns-in_default-clause-answer
 listed::enumerator-returns-in_default-clause-answer t c =
-    let f = (tables c.args.u.now).forest in
+    let f = c.args.u.now.forest in
     ap (λ (o : Option (After ℤ)). and_then o (λ (b : After ℤ). enumerated c.in-Enumerator.name b.value b.state)) (ap (after_value c.args.t.now.texts c.args.unevaluated c.enumerator_value.new.s c.enumerator_value.new.into) (sym c.in_default.is) ∙ c.in_ok-k-in-Enumerator.ensures.answer ∙ ap (λ (v : ℤ). enumerator_value (optional_at f c.in-Enumerator.value) v (state_of c.args.t.now.texts c.args.unevaluated c.args.s.now c.args.into.now)) (to_z-of_z w128 c.args.next c.ranges.next))
     ∙ ap (λ x. enumerator_in x (record { value = c.args.next; state = (state_of c.args.t.now.texts c.args.unevaluated c.args.s.now c.args.into.now) })) (sym c.in-Enumerator.ensures.tree)
 
@@ -431,7 +430,7 @@ listed::enumerator-returns-in_ok-r-in-Enumerator-clause-goes t c =
 
 pub listed::enumerator-returns-in_ok-r-in-Enumerator-clause-answer : goal.listed::enumerator-returns-in_ok-r-in-Enumerator-clause-answer
 listed::enumerator-returns-in_ok-r-in-Enumerator-clause-answer t c =
-    let f = (tables c.args.u.now).forest in
+    let f = c.args.u.now.forest in
     let k : to_z w128 (of_z w128 c.in-Some.k) ≡ c.in-Some.k = to_z-of_z w128 c.in-Some.k (search rules) in
     c.in_ok-r-in-Enumerator.ensures.answer c.args.t.now.texts c.args.unevaluated
     ∙ ap (λ (v : ℤ). enumerated c.in-Enumerator.name v (state_of c.args.t.now.texts c.args.unevaluated c.enumerator_value.new.s c.enumerator_value.new.into)) k
@@ -444,17 +443,17 @@ type_names::specified_type-returns-clause-goes t c =
 
 pub type_names::specified_type-returns-clause-answer : goal.type_names::specified_type-returns-clause-answer
 type_names::specified_type-returns-clause-answer t c =
-    specified_after (trees_at (tables c.args.u.now).forest c.args.specs) (state_of c.args.t.now.texts c.args.unevaluated c.args.s.now c.args.into.now) c.args.t.now.texts c.args.unevaluated c.specifiers.new.into c.base_type.new.into c.specifiers.new.s c.in-Some.seen c.in_ok-r.r
+    specified_after (trees_at c.args.u.now.forest c.args.specs) (state_of c.args.t.now.texts c.args.unevaluated c.args.s.now c.args.into.now) c.args.t.now.texts c.args.unevaluated c.specifiers.new.into c.base_type.new.into c.specifiers.new.s c.in-Some.seen c.in_ok-r.r
     (there (λ x. IsOpen c.specifiers.new.into c.specifiers.new.s) c.in-Some.is c.in_ok-seen.ensures.opened) c.in_ok-r.ensures.goes c.in_ok-r.ensures.whole
     (ap (after_seen c.args.t.now.texts c.args.unevaluated c.specifiers.new.s c.specifiers.new.into) (sym c.in-Some.is) ∙ c.in_ok-seen.ensures.answer) c.in_ok-r.ensures.tree
 
 pub type_names::type_name-returns-in_default-clause-answer : goal.type_names::type_name-returns-in_default-clause-answer
 type_names::type_name-returns-in_default-clause-answer t c = λ line.
-    no_base (trees_at (tables c.args.u.now).forest c.args.specs) (optional_at (tables c.args.u.now).forest c.args.declarator) line (state_of c.args.t.now.texts c.args.unevaluated c.args.s.now c.args.into.now) (ap (after_type c.args.t.now.texts c.args.unevaluated c.specified_type.new.s c.specified_type.new.into) (sym c.in_default.is) ∙ c.in_ok-base.ensures.answer)
+    no_base (trees_at c.args.u.now.forest c.args.specs) (optional_at c.args.u.now.forest c.args.declarator) line (state_of c.args.t.now.texts c.args.unevaluated c.args.s.now c.args.into.now) (ap (after_type c.args.t.now.texts c.args.unevaluated c.specified_type.new.s c.specified_type.new.into) (sym c.in_default.is) ∙ c.in_ok-base.ensures.answer)
 
 pub type_names::type_name-returns-in_default-2-clause-answer : goal.type_names::type_name-returns-in_default-2-clause-answer
 type_names::type_name-returns-in_default-2-clause-answer t c = λ line.
-    none_named (trees_at (tables c.args.u.now).forest c.args.specs) (optional_at (tables c.args.u.now).forest c.args.declarator) line (state_of c.args.t.now.texts c.args.unevaluated c.args.s.now c.args.into.now) (record { value = tree c.specified_type.new.into.known c.in-Some.base.0; state = (state_of c.args.t.now.texts c.args.unevaluated c.specified_type.new.s c.specified_type.new.into) }) (ap (after_type c.args.t.now.texts c.args.unevaluated c.specified_type.new.s c.specified_type.new.into) (sym c.in-Some.is) ∙ c.in_ok-base.ensures.answer) (ap (after_steps c.args.t.now.texts c.args.unevaluated c.optional_steps.new.s c.optional_steps.new.into) (sym c.in_default-2.is) ∙ c.in_ok-steps.ensures.answer)
+    none_named (trees_at c.args.u.now.forest c.args.specs) (optional_at c.args.u.now.forest c.args.declarator) line (state_of c.args.t.now.texts c.args.unevaluated c.args.s.now c.args.into.now) (record { value = tree c.specified_type.new.into.known c.in-Some.base.0; state = (state_of c.args.t.now.texts c.args.unevaluated c.specified_type.new.s c.specified_type.new.into) }) (ap (after_type c.args.t.now.texts c.args.unevaluated c.specified_type.new.s c.specified_type.new.into) (sym c.in-Some.is) ∙ c.in_ok-base.ensures.answer) (ap (after_steps c.args.t.now.texts c.args.unevaluated c.optional_steps.new.s c.optional_steps.new.into) (sym c.in_default-2.is) ∙ c.in_ok-steps.ensures.answer)
 
 pub type_names::type_name-derived_in-requires-clause-steps : goal.type_names::type_name-derived_in-requires-clause-steps
 type_names::type_name-derived_in-requires-clause-steps t c =
@@ -470,7 +469,7 @@ type_names::type_name-returns-clause-goes t c =
 
 pub type_names::type_name-returns-clause-answer : goal.type_names::type_name-returns-clause-answer
 type_names::type_name-returns-clause-answer t c = λ line.
-    some_named (trees_at (tables c.args.u.now).forest c.args.specs) (optional_at (tables c.args.u.now).forest c.args.declarator) line (state_of c.args.t.now.texts c.args.unevaluated c.args.s.now c.args.into.now) c.args.t.now.texts c.args.unevaluated c.specified_type.new.into c.optional_steps.new.into c.derived_in.new.into c.optional_steps.new.s c.specified_type.new.s c.in-Some.base c.in-Some-2.steps c.in_ok-r.r
+    some_named (trees_at c.args.u.now.forest c.args.specs) (optional_at c.args.u.now.forest c.args.declarator) line (state_of c.args.t.now.texts c.args.unevaluated c.args.s.now c.args.into.now) c.args.t.now.texts c.args.unevaluated c.specified_type.new.into c.optional_steps.new.into c.derived_in.new.into c.optional_steps.new.s c.specified_type.new.s c.in-Some.base c.in-Some-2.steps c.in_ok-r.r
     (there (λ (x : TypeId). x.0 < length c.specified_type.new.into.known.terms) c.in-Some.is (is_type c.specified_type.new.into.known _ c.in_ok-base.ensures.known)) (there (λ x. Goes c.specified_type.new.into c.optional_steps.new.into) c.in-Some-2.is c.in_ok-steps.ensures.goes) (there (λ x. IsOpen c.optional_steps.new.into c.optional_steps.new.s) c.in-Some-2.is c.in_ok-steps.ensures.opened) c.in_ok-r.ensures.goes c.in_ok-r.ensures.whole
     (ap (after_type c.args.t.now.texts c.args.unevaluated c.specified_type.new.s c.specified_type.new.into) (sym c.in-Some.is) ∙ c.in_ok-base.ensures.answer) (ap (after_steps c.args.t.now.texts c.args.unevaluated c.optional_steps.new.s c.optional_steps.new.into) (sym c.in-Some-2.is) ∙ c.in_ok-steps.ensures.answer)
     (c.in_ok-r.ensures.tree ∙ ap (λ xs. derived false (env c.optional_steps.new.into.known) (steps_in c.optional_steps.new.into.known xs) (tree c.optional_steps.new.into.known c.in-Some.base.0)) c.deref.ensures.value)
@@ -480,7 +479,7 @@ declarators::steps_of-returns-in_ok-r-in-Paren-clause-answer t c = c.in_ok-r-in-
 
 pub declarators::steps_of-returns-in_default-clause-answer : goal.declarators::steps_of-returns-in_default-clause-answer
 declarators::steps_of-returns-in_default-clause-answer t c =
-    none_within (optional_at (tables c.args.u.now).forest c.in-Pointer.d) (state_of c.args.t.now.texts c.args.unevaluated c.args.s.now c.args.into.now) (pointed c.in-Pointer.constant)
+    none_within (optional_at c.args.u.now.forest c.in-Pointer.d) (state_of c.args.t.now.texts c.args.unevaluated c.args.s.now c.args.into.now) (pointed c.in-Pointer.constant)
     (ap (after_steps c.args.t.now.texts c.args.unevaluated c.optional_steps.new.s c.optional_steps.new.into) (sym c.in_default.is) ∙ c.in_ok-x-in-Pointer.ensures.answer)
     ∙ c.in-Pointer.ensures.answer c.args.t.now.texts c.args.unevaluated
 
@@ -491,20 +490,20 @@ declarators::steps_of-returns-in_ok-r-in-Pointer-clause-known t c =
 pub declarators::steps_of-returns-in_ok-r-in-Pointer-clause-answer : goal.declarators::steps_of-returns-in_ok-r-in-Pointer-clause-answer
 declarators::steps_of-returns-in_ok-r-in-Pointer-clause-answer t c =
     pointer_form c.optional_steps.new.into.known (state_of c.args.t.now.texts c.args.unevaluated c.optional_steps.new.s c.optional_steps.new.into) (state_of c.args.t.now.texts c.args.unevaluated c.args.s.now c.args.into.now)
-    c.in-Some.x c.in_ok-r-in-Pointer.r c.in-Pointer.constant (optional_at (tables c.args.u.now).forest c.in-Pointer.d)
+    c.in-Some.x c.in_ok-r-in-Pointer.r c.in-Pointer.constant (optional_at c.args.u.now.forest c.in-Pointer.d)
     (ap (after_steps c.args.t.now.texts c.args.unevaluated c.optional_steps.new.s c.optional_steps.new.into) (sym c.in-Some.is) ∙ c.in_ok-x-in-Pointer.ensures.answer) c.in_ok-r-in-Pointer.ensures.list c.in_ok-r-in-Pointer.ensures.signature
     ∙ c.in-Pointer.ensures.answer c.args.t.now.texts c.args.unevaluated
 
 pub declarators::steps_of-returns-in_default-2-clause-answer : goal.declarators::steps_of-returns-in_default-2-clause-answer
 declarators::steps_of-returns-in_default-2-clause-answer t c =
-    none_within (optional_at (tables c.args.u.now).forest c.in-Array.d) (state_of c.args.t.now.texts c.args.unevaluated c.args.s.now c.args.into.now) (sized (optional_at (tables c.args.u.now).forest c.in-Array.size))
+    none_within (optional_at c.args.u.now.forest c.in-Array.d) (state_of c.args.t.now.texts c.args.unevaluated c.args.s.now c.args.into.now) (sized (optional_at c.args.u.now.forest c.in-Array.size))
     (ap (after_steps c.args.t.now.texts c.args.unevaluated c.optional_steps-in-Array.new.s c.optional_steps-in-Array.new.into) (sym c.in_default-2.is) ∙ c.in_ok-x-in-Array.ensures.answer)
     ∙ c.in-Array.ensures.answer c.args.t.now.texts c.args.unevaluated
 
 pub declarators::steps_of-returns-in_default-3-clause-answer : goal.declarators::steps_of-returns-in_default-3-clause-answer
 declarators::steps_of-returns-in_default-3-clause-answer t c =
     no_size (steps_shown c.optional_steps-in-Array.new.into.known c.in-Some-2.x) (state_of c.args.t.now.texts c.args.unevaluated c.optional_steps-in-Array.new.s c.optional_steps-in-Array.new.into) (state_of c.args.t.now.texts c.args.unevaluated c.args.s.now c.args.into.now)
-    (optional_at (tables c.args.u.now).forest c.in-Array.d) (optional_at (tables c.args.u.now).forest c.in-Array.size)
+    (optional_at c.args.u.now.forest c.in-Array.d) (optional_at c.args.u.now.forest c.in-Array.size)
     (ap (after_steps c.args.t.now.texts c.args.unevaluated c.optional_steps-in-Array.new.s c.optional_steps-in-Array.new.into) (sym c.in-Some-2.is) ∙ c.in_ok-x-in-Array.ensures.answer)
     (ap (after_value c.args.t.now.texts c.args.unevaluated c.array_size.new.s c.array_size.new.into) (sym c.in_default-3.is) ∙ c.in_ok-count-in-Array.ensures.answer)
     ∙ c.in-Array.ensures.answer c.args.t.now.texts c.args.unevaluated
@@ -521,7 +520,7 @@ pub declarators::steps_of-returns-in_ok-r-in-Array-clause-answer : goal.declarat
 declarators::steps_of-returns-in_ok-r-in-Array-clause-answer t c =
     array_form c.optional_steps-in-Array.new.into c.array_size.new.into
     (state_of c.args.t.now.texts c.args.unevaluated c.array_size.new.s c.array_size.new.into) (state_of c.args.t.now.texts c.args.unevaluated c.optional_steps-in-Array.new.s c.optional_steps-in-Array.new.into) (state_of c.args.t.now.texts c.args.unevaluated c.args.s.now c.args.into.now)
-    c.in-Some-2.x c.in_ok-r-in-Array.r c.in-Some-3.count (optional_at (tables c.args.u.now).forest c.in-Array.d) (optional_at (tables c.args.u.now).forest c.in-Array.size)
+    c.in-Some-2.x c.in_ok-r-in-Array.r c.in-Some-3.count (optional_at c.args.u.now.forest c.in-Array.d) (optional_at c.args.u.now.forest c.in-Array.size)
     (there (λ k. Goes c.optional_steps-in-Array.new.into c.array_size.new.into) c.in-Some-3.is c.in_ok-count-in-Array.ensures.goes) (there (StepsKnown c.optional_steps-in-Array.new.into) c.in-Some-2.is c.in_ok-x-in-Array.ensures.known)
     (ap (after_steps c.args.t.now.texts c.args.unevaluated c.optional_steps-in-Array.new.s c.optional_steps-in-Array.new.into) (sym c.in-Some-2.is) ∙ c.in_ok-x-in-Array.ensures.answer)
     (ap (after_value c.args.t.now.texts c.args.unevaluated c.array_size.new.s c.array_size.new.into) (sym c.in-Some-3.is) ∙ c.in_ok-count-in-Array.ensures.answer) c.in_ok-r-in-Array.ensures.list c.in_ok-r-in-Array.ensures.signature
@@ -529,7 +528,7 @@ declarators::steps_of-returns-in_ok-r-in-Array-clause-answer t c =
 
 pub declarators::steps_of-returns-in_default-4-clause-answer : goal.declarators::steps_of-returns-in_default-4-clause-answer
 declarators::steps_of-returns-in_default-4-clause-answer t c =
-    none_within (optional_at (tables c.args.u.now).forest c.in-Function.d) (state_of c.args.t.now.texts c.args.unevaluated c.args.s.now c.args.into.now) (listed (trees_at (tables c.args.u.now).forest c.in-Function.list) c.in-Function.variadic)
+    none_within (optional_at c.args.u.now.forest c.in-Function.d) (state_of c.args.t.now.texts c.args.unevaluated c.args.s.now c.args.into.now) (listed (trees_at c.args.u.now.forest c.in-Function.list) c.in-Function.variadic)
     (ap (after_steps c.args.t.now.texts c.args.unevaluated c.optional_steps-in-Function.new.s c.optional_steps-in-Function.new.into) (sym c.in_default-4.is) ∙ c.in_ok-x-in-Function.ensures.answer)
     ∙ c.in-Function.ensures.answer c.args.t.now.texts c.args.unevaluated
 
@@ -540,48 +539,48 @@ declarators::steps_of-returns-in_ok-r-in-Function-clause-goes t c =
 pub declarators::steps_of-returns-in_ok-r-in-Function-clause-answer : goal.declarators::steps_of-returns-in_ok-r-in-Function-clause-answer
 declarators::steps_of-returns-in_ok-r-in-Function-clause-answer t c =
     c.in_ok-r-in-Function.ensures.answer
-    ∙ function_behind (trees_at (tables c.args.u.now).forest c.in-Function.list) c.in-Function.variadic (steps_shown c.optional_steps-in-Function.new.into.known c.in-Some-4.x) (state_of c.args.t.now.texts c.args.unevaluated c.optional_steps-in-Function.new.s c.optional_steps-in-Function.new.into) (state_of c.args.t.now.texts c.args.unevaluated c.args.s.now c.args.into.now) (optional_at (tables c.args.u.now).forest c.in-Function.d)
+    ∙ function_behind (trees_at c.args.u.now.forest c.in-Function.list) c.in-Function.variadic (steps_shown c.optional_steps-in-Function.new.into.known c.in-Some-4.x) (state_of c.args.t.now.texts c.args.unevaluated c.optional_steps-in-Function.new.s c.optional_steps-in-Function.new.into) (state_of c.args.t.now.texts c.args.unevaluated c.args.s.now c.args.into.now) (optional_at c.args.u.now.forest c.in-Function.d)
     (ap (after_steps c.args.t.now.texts c.args.unevaluated c.optional_steps-in-Function.new.s c.optional_steps-in-Function.new.into) (sym c.in-Some-4.is) ∙ c.in_ok-x-in-Function.ensures.answer)
     ∙ c.in-Function.ensures.answer c.args.t.now.texts c.args.unevaluated
 
 pub declarators::steps_of-optional_steps-requires : goal.declarators::steps_of-optional_steps-requires
 declarators::steps_of-optional_steps-requires t c =
-    let f = (tables c.args.u.now).forest in
+    let f = c.args.u.now.forest in
     let beside : above 5 c.in-Pointer.d ≤ c.args.n.0 * 8 = optional_above f is_declarator c.args.n.0 c.in-Pointer.d c.in-Pointer.ensures.parts in
     (omega (arith, c.decreases, beside), (optional_inside f is_declarator c.args.n.0 (length f.trees) c.in-Pointer.d c.requires.node.0 c.in-Pointer.ensures.parts, c.requires.opened))
 
 pub declarators::steps_of-optional_steps-requires-in-Array : goal.declarators::steps_of-optional_steps-requires-in-Array
 declarators::steps_of-optional_steps-requires-in-Array t c =
-    let f = (tables c.args.u.now).forest in
+    let f = c.args.u.now.forest in
     let beside : above 5 c.in-Array.d ≤ c.args.n.0 * 8 = optional_above f is_declarator c.args.n.0 c.in-Array.d c.in-Array.ensures.parts.0 in
     (omega (arith, c.decreases, beside), (optional_inside f is_declarator c.args.n.0 (length f.trees) c.in-Array.d c.requires.node.0 c.in-Array.ensures.parts.0, c.requires.opened))
 
 pub declarators::steps_of-array_size-requires : goal.declarators::steps_of-array_size-requires
 declarators::steps_of-array_size-requires t c =
-    let f = (tables c.args.u.now).forest in
+    let f = c.args.u.now.forest in
     let beside : above 5 c.in-Array.size ≤ c.args.n.0 * 8 = optional_above f is_expression c.args.n.0 c.in-Array.size c.in-Array.ensures.parts.1 in
     (omega (arith, c.decreases, beside), (optional_inside f is_expression c.args.n.0 (length f.trees) c.in-Array.size c.requires.node.0 c.in-Array.ensures.parts.1, there (λ k. IsOpen c.optional_steps-in-Array.new.into c.optional_steps-in-Array.new.s) c.in-Some-2.is c.in_ok-x-in-Array.ensures.opened))
 
 pub declarators::steps_of-optional_steps-requires-in-Function : goal.declarators::steps_of-optional_steps-requires-in-Function
 declarators::steps_of-optional_steps-requires-in-Function t c =
-    let f = (tables c.args.u.now).forest in
+    let f = c.args.u.now.forest in
     let beside : above 5 c.in-Function.d ≤ c.args.n.0 * 8 = optional_above f is_declarator c.args.n.0 c.in-Function.d c.in-Function.ensures.parts.0 in
     (omega (arith, c.decreases, beside), (optional_inside f is_declarator c.args.n.0 (length f.trees) c.in-Function.d c.requires.node.0 c.in-Function.ensures.parts.0, c.requires.opened))
 
 pub declarators::steps_of-with_parameters-requires : goal.declarators::steps_of-with_parameters-requires
 declarators::steps_of-with_parameters-requires t c =
-    let f = (tables c.args.u.now).forest in
+    let f = c.args.u.now.forest in
     let ch = c.in-Function.ensures.parts.1 in
     let lower : above_all (list_at f c.in-Function.list) ≤ c.args.n.0 = list_above f is_declaration c.args.n.0 c.in-Function.list ch in
     (omega (arith, c.decreases, lower), (has_within f is_declaration c.args.n.0 (length f.trees) c.in-Function.list c.requires.node.0 ch, (there (λ k. IsOpen c.optional_steps-in-Function.new.into c.optional_steps-in-Function.new.s) c.in-Some-4.is c.in_ok-x-in-Function.ensures.opened, there (StepsKnown c.optional_steps-in-Function.new.into) c.in-Some-4.is c.in_ok-x-in-Function.ensures.known)))
 
 pub parameter_lists::with_parameters-returns-in_default-clause-answer : goal.parameter_lists::with_parameters-returns-in_default-clause-answer
 parameter_lists::with_parameters-returns-in_default-clause-answer t c =
-    ap (λ (o : Option (After (List WholeParameter))). and_then o (by_function c.args.variadic (steps_shown c.args.into.now.known c.args.x))) (ap (after_parameters c.args.t.now.texts c.args.unevaluated c.parameters.new.s c.parameters.new.into) (sym c.in_default.is) ∙ c.in_ok-ps.ensures.answer ∙ ap (parameters (trees_at (tables c.args.u.now).forest c.args.list)) (c.in_ok-entered.ensures.answer c.args.t.now.texts c.args.unevaluated))
+    ap (λ (o : Option (After (List WholeParameter))). and_then o (by_function c.args.variadic (steps_shown c.args.into.now.known c.args.x))) (ap (after_parameters c.args.t.now.texts c.args.unevaluated c.parameters.new.s c.parameters.new.into) (sym c.in_default.is) ∙ c.in_ok-ps.ensures.answer ∙ ap (parameters (trees_at c.args.u.now.forest c.args.list)) (c.in_ok-entered.ensures.answer c.args.t.now.texts c.args.unevaluated))
 
 pub parameter_lists::with_parameters-by_function-requires-clause-deep : goal.parameter_lists::with_parameters-by_function-requires-clause-deep
 parameter_lists::with_parameters-by_function-requires-clause-deep t c =
-    let same = as_deep (trees_at (tables c.args.u.now).forest c.args.list) c.args.t.now.texts c.args.unevaluated c.args.into.now c.parameters.new.into c.entered.new.s c.parameters.new.s _ (ap (after_parameters c.args.t.now.texts c.args.unevaluated c.parameters.new.s c.parameters.new.into) (sym c.in-Some.is) ∙ c.in_ok-ps.ensures.answer) in
+    let same = as_deep (trees_at c.args.u.now.forest c.args.list) c.args.t.now.texts c.args.unevaluated c.args.into.now c.parameters.new.into c.entered.new.s c.parameters.new.s _ (ap (after_parameters c.args.t.now.texts c.args.unevaluated c.parameters.new.s c.parameters.new.into) (sym c.in-Some.is) ∙ c.in_ok-ps.ensures.answer) in
     let deeper = c.in_ok-entered.ensures.deeper in
     let some : 0 < length c.args.s.now.scopes = c.requires.opened.some in
     omega (arith, same, deeper, some)
@@ -598,17 +597,17 @@ pub parameter_lists::with_parameters-returns-clause-answer : goal.parameter_list
 parameter_lists::with_parameters-returns-clause-answer t c =
     c.in_ok-r.ensures.answer c.args.t.now.texts c.args.unevaluated
     ∙ ap (λ x. by_function c.args.variadic x (record { value = parameters_shown c.parameters.new.into.known c.in-Some.ps.items; state = (state_of c.args.t.now.texts c.args.unevaluated c.parameters.new.s c.parameters.new.into) })) (shown_kept c.args.into.now c.parameters.new.into c.args.x (there (λ v. Goes c.args.into.now c.parameters.new.into) c.in-Some.is c.in_ok-ps.ensures.goes) c.requires.steps)
-    ∙ ap (λ (o : Option (After (List WholeParameter))). and_then o (by_function c.args.variadic (steps_shown c.args.into.now.known c.args.x))) (ap (after_parameters c.args.t.now.texts c.args.unevaluated c.parameters.new.s c.parameters.new.into) (sym c.in-Some.is) ∙ c.in_ok-ps.ensures.answer ∙ ap (parameters (trees_at (tables c.args.u.now).forest c.args.list)) (c.in_ok-entered.ensures.answer c.args.t.now.texts c.args.unevaluated))
+    ∙ ap (λ (o : Option (After (List WholeParameter))). and_then o (by_function c.args.variadic (steps_shown c.args.into.now.known c.args.x))) (ap (after_parameters c.args.t.now.texts c.args.unevaluated c.parameters.new.s c.parameters.new.into) (sym c.in-Some.is) ∙ c.in_ok-ps.ensures.answer ∙ ap (parameters (trees_at c.args.u.now.forest c.args.list)) (c.in_ok-entered.ensures.answer c.args.t.now.texts c.args.unevaluated))
 
 pub parameter_lists::parameters-returns-in_default-clause-answer : goal.parameter_lists::parameters-returns-in_default-clause-answer
 parameter_lists::parameters-returns-in_default-clause-answer t c =
-    let f = (tables c.args.u.now).forest in
+    let f = c.args.u.now.forest in
     let a : After (List WholeParameter) = record { value = parameters_shown c.loop-i.into.known c.loop-i.ps.items; state = (state_of c.args.t.now.texts c.args.unevaluated c.loop-i.s c.loop-i.into) } in
     none_in parameters parameter_in (λ before x z. refl) f c.args.list c.list-nodes.result.now c.loop-i.i first (state_of c.args.t.now.texts c.args.unevaluated c.args.s.now c.args.into.now) a c.list-nodes.ensures c.loop-i-test.true c.loop-i.invariant.4 (ap (after_parameter c.args.t.now.texts c.args.unevaluated c.parameter.new.s c.parameter.new.into a.value) (sym c.in_default.is) ∙ c.in_ok-p.ensures.answer a.value)
 
 pub parameter_lists::parameters-loop-i-preserved : goal.parameter_lists::parameters-loop-i-preserved
 parameter_lists::parameters-loop-i-preserved t c =
-    let f = (tables c.args.u.now).forest in
+    let f = c.args.u.now.forest in
     let s = (state_of c.args.t.now.texts c.args.unevaluated c.args.s.now c.args.into.now) in
     let m = c.loop-i.into in
     let b = c.parameter.new.into in
@@ -627,13 +626,13 @@ parameter_lists::parameters-loop-i-preserved t c =
 
 pub parameter_lists::parameter-returns-in_default-clause-answer : goal.parameter_lists::parameter-returns-in_default-clause-answer
 parameter_lists::parameter-returns-in_default-clause-answer t c = λ before.
-    let f = (tables c.args.u.now).forest in
+    let f = c.args.u.now.forest in
     no_type (trees_at f c.in-Parameter.specs) (state_of c.args.t.now.texts c.args.unevaluated c.args.s.now c.args.into.now) (λ (b : After Ty). and_then (optional_steps (optional_at f c.in-Parameter.declarator) b.state) (parameter_of (optional_name (optional_at f c.in-Parameter.declarator)) b.value before)) (ap (after_type c.args.t.now.texts c.args.unevaluated c.specified_type.new.s c.specified_type.new.into) (sym c.in_default.is) ∙ c.in_ok-base-in-Parameter.ensures.answer)
     ∙ ap (λ x. parameter_in x (record { value = before; state = (state_of c.args.t.now.texts c.args.unevaluated c.args.s.now c.args.into.now) })) (sym c.in-Parameter.ensures.tree)
 
 pub parameter_lists::parameter-returns-in_default-2-clause-answer : goal.parameter_lists::parameter-returns-in_default-2-clause-answer
 parameter_lists::parameter-returns-in_default-2-clause-answer t c = λ before.
-    let f = (tables c.args.u.now).forest in
+    let f = c.args.u.now.forest in
     ap (λ (o : Option (After WholeSteps)). and_then o (parameter_of (optional_name (optional_at f c.in-Parameter.declarator)) (tree c.specified_type.new.into.known c.in-Some.base.0) before)) (ap (after_steps c.args.t.now.texts c.args.unevaluated c.optional_steps.new.s c.optional_steps.new.into) (sym c.in_default-2.is) ∙ c.in_ok-steps-in-Parameter.ensures.answer)
     ∙ with_type_then (trees_at f c.in-Parameter.specs) (state_of c.args.t.now.texts c.args.unevaluated c.args.s.now c.args.into.now) (λ (b : After Ty). and_then (optional_steps (optional_at f c.in-Parameter.declarator) b.state) (parameter_of (optional_name (optional_at f c.in-Parameter.declarator)) b.value before)) (record { value = tree c.specified_type.new.into.known c.in-Some.base.0; state = (state_of c.args.t.now.texts c.args.unevaluated c.specified_type.new.s c.specified_type.new.into) }) (ap (after_type c.args.t.now.texts c.args.unevaluated c.specified_type.new.s c.specified_type.new.into) (sym c.in-Some.is) ∙ c.in_ok-base-in-Parameter.ensures.answer)
     ∙ ap (λ x. parameter_in x (record { value = before; state = (state_of c.args.t.now.texts c.args.unevaluated c.args.s.now c.args.into.now) })) (sym c.in-Parameter.ensures.tree)
@@ -653,7 +652,7 @@ parameter_lists::parameter-returns-in_ok-r-in-Parameter-clause-goes t c =
 
 pub parameter_lists::parameter-returns-in_ok-r-in-Parameter-clause-answer : goal.parameter_lists::parameter-returns-in_ok-r-in-Parameter-clause-answer
 parameter_lists::parameter-returns-in_ok-r-in-Parameter-clause-answer t c = λ before.
-    let f = (tables c.args.u.now).forest in
+    let f = c.args.u.now.forest in
     let goes : Goes c.specified_type.new.into c.optional_steps.new.into = (there (λ x. Goes c.specified_type.new.into c.optional_steps.new.into) c.in-Some-2.is c.in_ok-steps-in-Parameter.ensures.goes) in
     let k = c.optional_steps.new.into.known in
     let st = (state_of c.args.t.now.texts c.args.unevaluated c.optional_steps.new.s c.optional_steps.new.into) in
@@ -667,61 +666,61 @@ parameter_lists::parameter-returns-in_ok-r-in-Parameter-clause-answer t c = λ b
 
 pub expressions::typed-returns-in-Member-clause-typed : goal.expressions::typed-returns-in-Member-clause-typed
 expressions::typed-returns-in-Member-clause-typed t c =
-    typed_as c.args.t.now.texts c.args.hidden c.args.s.now c.of_one.new.s c.args.into.now c.of_one.new.into c.of_one.result (ap as_expression c.in-Member.ensures.tree ∙ ap (λ (l : ℕ). Member l (expression_of_node (tables c.args.u.now).forest c.in-Member.a) c.in-Member.n) (sym c.line-line.ensures)) c.of_one.ensures.typed
+    typed_as c.args.t.now.texts c.args.hidden c.args.s.now c.of_one.new.s c.args.into.now c.of_one.new.into c.of_one.result (ap as_expression c.in-Member.ensures.tree ∙ ap (λ (l : ℕ). Member l (expression_of_node c.args.u.now.forest c.in-Member.a) c.in-Member.n) (sym c.line-line.ensures)) c.of_one.ensures.typed
 
 pub expressions::typed-returns-in-Arrow-clause-typed : goal.expressions::typed-returns-in-Arrow-clause-typed
 expressions::typed-returns-in-Arrow-clause-typed t c =
-    let f = (tables c.args.u.now).forest in
+    let f = c.args.u.now.forest in
     let at : expression_of_node f c.args.e ≡ Arrow c.line-line.result (expression_of_node f c.in-Arrow.a) c.in-Arrow.n = ap as_expression c.in-Arrow.ensures.tree ∙ ap (λ (l : ℕ). Arrow l (expression_of_node f c.in-Arrow.a) c.in-Arrow.n) (sym c.line-line.ensures) in
     let P : Option (After TypedTree) → Type 0 = λ y. IfOk c.of_one-in-Arrow.result (λ r. after_node c.args.t.now.texts c.args.hidden c.of_one-in-Arrow.new.s c.of_one-in-Arrow.new.into r ≡ y) in
     subst P (arrow_one (types (expression_of_node f c.in-Arrow.a) (state_of c.args.t.now.texts c.args.hidden c.args.s.now c.args.into.now)) c.line-line.result c.in-Arrow.n ∙ ap (λ x. types x (state_of c.args.t.now.texts c.args.hidden c.args.s.now c.args.into.now)) (sym at)) c.of_one-in-Arrow.ensures.typed
 
 pub declarators::optional_steps-returns-in_ok-r-in-Some-clause-answer : goal.declarators::optional_steps-returns-in_ok-r-in-Some-clause-answer
 declarators::optional_steps-returns-in_ok-r-in-Some-clause-answer t c =
-    let f = (tables c.args.u.now).forest in
-    let kind = there (λ k. Is (tables c.args.u.now) is_declarator k) c.in-Some.is c.requires.node in
+    let f = c.args.u.now.forest in
+    let kind = there (λ k. Is c.args.u.now is_declarator k) c.in-Some.is c.requires.node in
     c.in_ok-r-in-Some.ensures.answer
     ∙ ap (λ x. optional_steps (Present x) (state_of c.args.t.now.texts c.args.unevaluated c.args.s.now c.args.into.now)) (sym (declarator_is (tree_at f c.in-Some.n) kind.1))
     ∙ ap (λ o. optional_steps (optional_at f o) (state_of c.args.t.now.texts c.args.unevaluated c.args.s.now c.args.into.now)) (sym c.in-Some.is)
 
 pub expressions::arguments-operand-requires : goal.expressions::arguments-operand-requires
 expressions::arguments-operand-requires t c =
-    let f = (tables c.args.u.now).forest in
+    let f = c.args.u.now.forest in
     let low = lower_at f c.args.args c.list-nodes.result.now c.loop-i.i first c.list-nodes.ensures c.loop-i-test.true in
     let node = has_at f is_expression (length f.trees) c.args.args c.list-nodes.result.now c.loop-i.i first c.list-nodes.ensures c.requires.list c.loop-i-test.true in
     (omega (arith, c.decreases, low), (node, c.loop-i.invariant.1))
 
 pub listed::enumerators-enumerator-requires : goal.listed::enumerators-enumerator-requires
 listed::enumerators-enumerator-requires t c =
-    let f = (tables c.args.u.now).forest in
+    let f = c.args.u.now.forest in
     let low = lower_at f c.args.list c.list-nodes.result.now c.loop-i.i first c.list-nodes.ensures c.loop-i-test.true in
     let node = has_at f is_declaration (length f.trees) c.args.list c.list-nodes.result.now c.loop-i.i first c.list-nodes.ensures c.requires.list c.loop-i-test.true in
     (omega (arith, c.decreases, low), (node, c.loop-i.invariant.1))
 
 pub listed::members-member-requires : goal.listed::members-member-requires
 listed::members-member-requires t c =
-    let f = (tables c.args.u.now).forest in
+    let f = c.args.u.now.forest in
     let low = lower_at f c.args.list c.list-nodes.result.now c.loop-i.i first c.list-nodes.ensures c.loop-i-test.true in
     let node = has_at f is_declaration (length f.trees) c.args.list c.list-nodes.result.now c.loop-i.i first c.list-nodes.ensures c.requires.list c.loop-i-test.true in
     (omega (arith, c.decreases, low), (node, (c.loop-i.invariant.1, c.loop-i.invariant.3)))
 
 pub parameter_lists::parameters-parameter-requires : goal.parameter_lists::parameters-parameter-requires
 parameter_lists::parameters-parameter-requires t c =
-    let f = (tables c.args.u.now).forest in
+    let f = c.args.u.now.forest in
     let low = lower_at f c.args.list c.list-nodes.result.now c.loop-i.i first c.list-nodes.ensures c.loop-i-test.true in
     let node = has_at f is_declaration (length f.trees) c.args.list c.list-nodes.result.now c.loop-i.i first c.list-nodes.ensures c.requires.list c.loop-i-test.true in
     (omega (arith, c.decreases, low), (node, c.loop-i.invariant.1))
 
 pub listed::member_declarators-member_declarator-requires : goal.listed::member_declarators-member_declarator-requires
 listed::member_declarators-member_declarator-requires t c =
-    let f = (tables c.args.u.now).forest in
+    let f = c.args.u.now.forest in
     let low = lower_at f c.args.list c.list-nodes.result.now c.loop-i.i first c.list-nodes.ensures c.loop-i-test.true in
     let node = has_at f is_declarator (length f.trees) c.args.list c.list-nodes.result.now c.loop-i.i first c.list-nodes.ensures c.requires.list c.loop-i-test.true in
     (omega (arith, c.decreases, low), (node, (c.loop-i.invariant.1, (type_known c.args.into.now c.loop-i.into (Some c.args.base) c.loop-i.invariant.2 c.requires.base, c.loop-i.invariant.3))))
 
 pub specifying::specifiers-specifier-requires : goal.specifying::specifiers-specifier-requires
 specifying::specifiers-specifier-requires t c =
-    let f = (tables c.args.u.now).forest in
+    let f = c.args.u.now.forest in
     let lt : c.loop-i.i < length c.list-nodes.result.now = c.loop-i-test.true in
     let low = lower_at f c.args.list c.list-nodes.result.now c.loop-i.i first c.list-nodes.ensures lt in
     let node = has_at f is_specifier (length f.trees) c.args.list c.list-nodes.result.now c.loop-i.i first c.list-nodes.ensures c.requires.list lt in
@@ -731,7 +730,7 @@ specifying::specifiers-specifier-requires t c =
 
 pub expressions::typed-call_to-requires : goal.expressions::typed-call_to-requires
 expressions::typed-call_to-requires t c =
-    let f = (tables c.args.u.now).forest in
+    let f = c.args.u.now.forest in
     let ch = c.in-Call.ensures.children in
     let here : c.args.e.0 < length f.trees = c.requires.node.0 in
     let below : c.in-Call.f.0 < c.args.e.0 = ch.0.0 in
@@ -740,35 +739,35 @@ expressions::typed-call_to-requires t c =
 
 pub listed::member-specified_type-requires : goal.listed::member-specified_type-requires
 listed::member-specified_type-requires t c =
-    let f = (tables c.args.u.now).forest in
+    let f = c.args.u.now.forest in
     let ch = c.in-Member.ensures.children.0 in
     let lower : above_all (list_at f c.in-Member.specs) ≤ c.args.n.0 = list_above f is_specifier c.args.n.0 c.in-Member.specs ch in
     (omega (arith, c.decreases, lower), (has_within f is_specifier c.args.n.0 (length f.trees) c.in-Member.specs c.requires.node.0 ch, c.requires.opened))
 
 pub parameter_lists::parameter-specified_type-requires : goal.parameter_lists::parameter-specified_type-requires
 parameter_lists::parameter-specified_type-requires t c =
-    let f = (tables c.args.u.now).forest in
+    let f = c.args.u.now.forest in
     let ch = c.in-Parameter.ensures.children.0 in
     let lower : above_all (list_at f c.in-Parameter.specs) ≤ c.args.n.0 = list_above f is_specifier c.args.n.0 c.in-Parameter.specs ch in
     (omega (arith, c.decreases, lower), (has_within f is_specifier c.args.n.0 (length f.trees) c.in-Parameter.specs c.requires.node.0 ch, c.requires.opened))
 
 pub listed::member-member_declarators-requires : goal.listed::member-member_declarators-requires
 listed::member-member_declarators-requires t c =
-    let f = (tables c.args.u.now).forest in
+    let f = c.args.u.now.forest in
     let ch = c.in-Member.ensures.children.1 in
     let lower : above_all (list_at f c.in-Member.declarators) ≤ c.args.n.0 = list_above f is_declarator c.args.n.0 c.in-Member.declarators ch in
     (omega (arith, c.decreases, lower), (has_within f is_declarator c.args.n.0 (length f.trees) c.in-Member.declarators c.requires.node.0 ch, (there (λ k. IsOpen c.specified_type.new.into c.specified_type.new.s) c.in-Some.is c.in_ok-base-in-Member.ensures.opened, (there (λ (x : TypeId). x.0 < length c.specified_type.new.into.known.terms) c.in-Some.is (is_type c.specified_type.new.into.known _ c.in_ok-base-in-Member.ensures.known), list_known c.args.into.now c.specified_type.new.into c.args.before (there (λ k. Goes c.args.into.now c.specified_type.new.into) c.in-Some.is c.in_ok-base-in-Member.ensures.goes) c.requires.members))))
 
 pub specifying::specifier-listed_specifier-requires : goal.specifying::specifier-listed_specifier-requires
 specifying::specifier-listed_specifier-requires t c =
-    let f = (tables c.args.u.now).forest in
+    let f = c.args.u.now.forest in
     let ch = there (λ x. HasList f c.args.n.0 is_declaration (list_of x)) c.in-Some.is (c.listed_of.ensures.lists f c.args.n.0 c.spec-spec.ensures.children) in
     let lower : above_all (list_at f (list_of c.in-Some.x)) ≤ c.args.n.0 = list_above f is_declaration c.args.n.0 (list_of c.in-Some.x) ch in
     (omega (arith, c.decreases, lower), (has_within f is_declaration c.args.n.0 (length f.trees) (list_of c.in-Some.x) c.requires.node.0 ch, (c.requires.opened, c.requires.named)))
 
 pub type_names::type_named-type_name-requires : goal.type_names::type_named-type_name-requires
 type_names::type_named-type_name-requires t c =
-    let f = (tables c.args.u.now).forest in
+    let f = c.args.u.now.forest in
     let ch = c.in-TypeName.ensures.children.0 in
     let lower : above_all (list_at f c.in-TypeName.specs) ≤ c.args.n.0 = list_above f is_specifier c.args.n.0 c.in-TypeName.specs ch in
     let beside : above 5 c.in-TypeName.declarator ≤ c.args.n.0 * 8 = optional_above f is_declarator c.args.n.0 c.in-TypeName.declarator c.in-TypeName.ensures.children.1 in
@@ -777,22 +776,22 @@ type_names::type_named-type_name-requires t c =
 pub declarators::array_size-returns-in_default-2-clause-answer : goal.declarators::array_size-returns-in_default-2-clause-answer
 declarators::array_size-returns-in_default-2-clause-answer t c =
     ap (λ (o : Option (After ℤ)). and_then o known_size) (ap (after_value c.args.t.now.texts c.args.unevaluated c.integer_at.new.s c.integer_at.new.into) (sym c.in_default-2.is) ∙ c.in_ok-k.ensures.answer)
-    ∙ size_at (tables c.args.u.now).forest c.args.size c.in-Some.n (state_of c.args.t.now.texts c.args.unevaluated c.args.s.now c.args.into.now) c.in-Some.is (there (λ n. Is (tables c.args.u.now) is_expression n) c.in-Some.is c.requires.node).1
+    ∙ size_at c.args.u.now.forest c.args.size c.in-Some.n (state_of c.args.t.now.texts c.args.unevaluated c.args.s.now c.args.into.now) c.in-Some.is (there (λ n. Is c.args.u.now is_expression n) c.in-Some.is c.requires.node).1
 
 pub declarators::array_size-returns-in-Some-size_of-clause-answer : goal.declarators::array_size-returns-in-Some-size_of-clause-answer
 declarators::array_size-returns-in-Some-size_of-clause-answer t c =
     let k : to_z w128 (of_z w128 c.in-Some-2.k) ≡ c.in-Some-2.k = to_z-of_z w128 c.in-Some-2.k (search rules) in
     ap (λ (o : Option ℕ). and_then o (λ n. give (Some (Some n)) (state_of c.args.t.now.texts c.args.unevaluated c.integer_at.new.s c.integer_at.new.into))) (c.in-Some-size_of.ensures ∙ ap size_of k)
     ∙ ap (λ (o : Option (After ℤ)). and_then o known_size) (ap (after_value c.args.t.now.texts c.args.unevaluated c.integer_at.new.s c.integer_at.new.into) (sym c.in-Some-2.is) ∙ c.in_ok-k.ensures.answer)
-    ∙ size_at (tables c.args.u.now).forest c.args.size c.in-Some.n (state_of c.args.t.now.texts c.args.unevaluated c.args.s.now c.args.into.now) c.in-Some.is (there (λ n. Is (tables c.args.u.now) is_expression n) c.in-Some.is c.requires.node).1
+    ∙ size_at c.args.u.now.forest c.args.size c.in-Some.n (state_of c.args.t.now.texts c.args.unevaluated c.args.s.now c.args.into.now) c.in-Some.is (there (λ n. Is c.args.u.now is_expression n) c.in-Some.is c.requires.node).1
 
 pub declarators::array_size-returns-in-None-clause-answer : goal.declarators::array_size-returns-in-None-clause-answer
 declarators::array_size-returns-in-None-clause-answer t c =
     let k : to_z w128 (of_z w128 c.in-Some-2.k) ≡ c.in-Some-2.k = to_z-of_z w128 c.in-Some-2.k (search rules) in
     ap (λ (o : Option ℕ). and_then o (λ n. give (Some (Some n)) (state_of c.args.t.now.texts c.args.unevaluated c.integer_at.new.s c.integer_at.new.into))) (c.in-None.ensures ∙ ap size_of k)
     ∙ ap (λ (o : Option (After ℤ)). and_then o known_size) (ap (after_value c.args.t.now.texts c.args.unevaluated c.integer_at.new.s c.integer_at.new.into) (sym c.in-Some-2.is) ∙ c.in_ok-k.ensures.answer)
-    ∙ size_at (tables c.args.u.now).forest c.args.size c.in-Some.n (state_of c.args.t.now.texts c.args.unevaluated c.args.s.now c.args.into.now) c.in-Some.is (there (λ n. Is (tables c.args.u.now) is_expression n) c.in-Some.is c.requires.node).1
+    ∙ size_at c.args.u.now.forest c.args.size c.in-Some.n (state_of c.args.t.now.texts c.args.unevaluated c.args.s.now c.args.into.now) c.in-Some.is (there (λ n. Is c.args.u.now is_expression n) c.in-Some.is c.requires.node).1
 
 pub listed::enumerator_value-returns-in_ok-r-in-Some-clause-answer : goal.listed::enumerator_value-returns-in_ok-r-in-Some-clause-answer
 listed::enumerator_value-returns-in_ok-r-in-Some-clause-answer t c =
-    c.in_ok-r-in-Some.ensures.answer ∙ value_at (tables c.args.u.now).forest c.args.value c.in-Some.n c.args.next (state_of c.args.t.now.texts c.args.unevaluated c.args.s.now c.args.into.now) c.in-Some.is (there (λ n. Is (tables c.args.u.now) is_expression n) c.in-Some.is c.requires.node).1
+    c.in_ok-r-in-Some.ensures.answer ∙ value_at c.args.u.now.forest c.args.value c.in-Some.n c.args.next (state_of c.args.t.now.texts c.args.unevaluated c.args.s.now c.args.into.now) c.in-Some.is (there (λ n. Is c.args.u.now is_expression n) c.in-Some.is c.requires.node).1

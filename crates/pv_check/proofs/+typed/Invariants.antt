@@ -1,5 +1,4 @@
 use Rattle.std.proofs.Common.{◌≡◌, ◌+◌, ◌-◌, ◌*◌, ◌≤◌, max, Some, length, take, map}
-use Rattle.pv_tree.specs.Rows.{tables}
 use Rattle.pv_tree.specs.Tables.{list_at, trees_of, arguments_of}
 use Rattle.pv_types.specs.Known.{tree}
 use Rattle.pv_typed.specs.Children.{Each}
@@ -45,15 +44,15 @@ abbrev pub decreases-expressions::cast_to : goal.decreases-expressions::cast_to
 decreases-expressions::cast_to l = max l.n.0 l.a.0 * 8 + 7
 
 abbrev pub decreases-expressions::call_to : goal.decreases-expressions::call_to
-decreases-expressions::call_to l = above_all (list_at (tables l.u.now).forest l.args) * 8 + 1
+decreases-expressions::call_to l = above_all (list_at l.u.now.forest l.args) * 8 + 1
 
 abbrev pub decreases-expressions::arguments : goal.decreases-expressions::arguments
-decreases-expressions::arguments l = above_all (list_at (tables l.u.now).forest l.args) * 8
+decreases-expressions::arguments l = above_all (list_at l.u.now.forest l.args) * 8
 
 abbrev pub invariant-expressions::arguments-loop-i : goal.invariant-expressions::arguments-loop-i
 invariant-expressions::arguments-loop-i l =
     (l.i ≤ length l.nodes) × IsOpen l.into l.s × Goes l.initial.into l.into × Each (IsExpression l.into) l.list.items
-    × (Some (record { value = map (expression_at l.into) l.list.items; state = state_of l.t.texts l.hidden l.s l.into }) ≡ arguments (arguments_of (tables l.u).forest (take l.i l.nodes)) (state_of l.t.texts l.hidden l.initial.s l.initial.into))
+    × (Some (record { value = map (expression_at l.into) l.list.items; state = state_of l.t.texts l.hidden l.s l.into }) ≡ arguments (arguments_of l.u.forest (take l.i l.nodes)) (state_of l.t.texts l.hidden l.initial.s l.initial.into))
 
 abbrev pub decreases-expressions::arguments-loop-i : goal.decreases-expressions::arguments-loop-i
 decreases-expressions::arguments-loop-i l = length l.nodes - l.i
@@ -62,10 +61,10 @@ abbrev pub decreases-type_names::type_named : goal.decreases-type_names::type_na
 decreases-type_names::type_named l = l.n.0 * 8 + 6
 
 abbrev pub decreases-type_names::type_name : goal.decreases-type_names::type_name
-decreases-type_names::type_name l = max (above_all (list_at (tables l.u.now).forest l.specs) * 8 + 1) (above 5 l.declarator) + 1
+decreases-type_names::type_name l = max (above_all (list_at l.u.now.forest l.specs) * 8 + 1) (above 5 l.declarator) + 1
 
 abbrev pub decreases-type_names::specified_type : goal.decreases-type_names::specified_type
-decreases-type_names::specified_type l = above_all (list_at (tables l.u.now).forest l.specs) * 8 + 1
+decreases-type_names::specified_type l = above_all (list_at l.u.now.forest l.specs) * 8 + 1
 
 abbrev pub decreases-declarators::integer_at : goal.decreases-declarators::integer_at
 decreases-declarators::integer_at l = l.n.0 * 8 + 4
@@ -80,10 +79,10 @@ abbrev pub decreases-declarators::optional_steps : goal.decreases-declarators::o
 decreases-declarators::optional_steps l = above 5 l.d
 
 abbrev pub decreases-parameter_lists::with_parameters : goal.decreases-parameter_lists::with_parameters
-decreases-parameter_lists::with_parameters l = above_all (list_at (tables l.u.now).forest l.list) * 8 + 1
+decreases-parameter_lists::with_parameters l = above_all (list_at l.u.now.forest l.list) * 8 + 1
 
 abbrev pub decreases-parameter_lists::parameters : goal.decreases-parameter_lists::parameters
-decreases-parameter_lists::parameters l = above_all (list_at (tables l.u.now).forest l.list) * 8
+decreases-parameter_lists::parameters l = above_all (list_at l.u.now.forest l.list) * 8
 
 abbrev pub decreases-parameter_lists::parameter : goal.decreases-parameter_lists::parameter
 decreases-parameter_lists::parameter l = l.n.0 * 8 + 6
@@ -91,18 +90,18 @@ decreases-parameter_lists::parameter l = l.n.0 * 8 + 6
 abbrev pub invariant-parameter_lists::parameters-loop-i : goal.invariant-parameter_lists::parameters-loop-i
 invariant-parameter_lists::parameters-loop-i l =
     (l.i ≤ length l.nodes) × IsOpen l.into l.s × Goes l.initial.into l.into × Each (ParameterKnown l.into) l.ps.items
-    × (Some (record { value = parameters_shown l.into.known l.ps.items; state = state_of l.t.texts l.unevaluated l.s l.into }) ≡ parameters (trees_of (tables l.u).forest (take l.i l.nodes)) (state_of l.t.texts l.unevaluated l.initial.s l.initial.into))
+    × (Some (record { value = parameters_shown l.into.known l.ps.items; state = state_of l.t.texts l.unevaluated l.s l.into }) ≡ parameters (trees_of l.u.forest (take l.i l.nodes)) (state_of l.t.texts l.unevaluated l.initial.s l.initial.into))
 
 abbrev pub decreases-parameter_lists::parameters-loop-i : goal.decreases-parameter_lists::parameters-loop-i
 decreases-parameter_lists::parameters-loop-i l = length l.nodes - l.i
 
 abbrev pub decreases-specifying::specifiers : goal.decreases-specifying::specifiers
-decreases-specifying::specifiers l = above_all (list_at (tables l.u.now).forest l.list) * 8
+decreases-specifying::specifiers l = above_all (list_at l.u.now.forest l.list) * 8
 
 abbrev pub invariant-specifying::specifiers-loop-i : goal.invariant-specifying::specifiers-loop-i
 invariant-specifying::specifiers-loop-i l =
     (l.i ≤ length l.nodes) × IsOpen l.into l.s × Goes l.initial.into l.into × IsType l.into.known l.seen.named × (total l.seen.words ≤ l.i)
-    × (Some (record { value = seen_in l.into.known l.seen; state = state_of l.t.texts l.unevaluated l.s l.into }) ≡ specifiers (trees_of (tables l.u).forest (take l.i l.nodes)) (state_of l.t.texts l.unevaluated l.initial.s l.initial.into))
+    × (Some (record { value = seen_in l.into.known l.seen; state = state_of l.t.texts l.unevaluated l.s l.into }) ≡ specifiers (trees_of l.u.forest (take l.i l.nodes)) (state_of l.t.texts l.unevaluated l.initial.s l.initial.into))
 
 abbrev pub decreases-specifying::specifiers-loop-i : goal.decreases-specifying::specifiers-loop-i
 decreases-specifying::specifiers-loop-i l = length l.nodes - l.i
@@ -111,18 +110,18 @@ abbrev pub decreases-specifying::specifier : goal.decreases-specifying::specifie
 decreases-specifying::specifier l = l.n.0 * 8 + 6
 
 abbrev pub decreases-specifying::listed_specifier : goal.decreases-specifying::listed_specifier
-decreases-specifying::listed_specifier l = above_all (list_at (tables l.u.now).forest (list_of l.x)) * 8 + 2
+decreases-specifying::listed_specifier l = above_all (list_at l.u.now.forest (list_of l.x)) * 8 + 2
 
 abbrev pub decreases-listed::composite_listed : goal.decreases-listed::composite_listed
-decreases-listed::composite_listed l = above_all (list_at (tables l.u.now).forest l.list) * 8 + 1
+decreases-listed::composite_listed l = above_all (list_at l.u.now.forest l.list) * 8 + 1
 
 abbrev pub decreases-listed::members : goal.decreases-listed::members
-decreases-listed::members l = above_all (list_at (tables l.u.now).forest l.list) * 8
+decreases-listed::members l = above_all (list_at l.u.now.forest l.list) * 8
 
 abbrev pub invariant-listed::members-loop-i : goal.invariant-listed::members-loop-i
 invariant-listed::members-loop-i l =
     (l.i ≤ length l.nodes) × IsOpen l.into l.s × Goes l.initial.into l.into × AreMembers l.into.known l.ms
-    × (Some (record { value = members_shown l.into.known l.ms; state = state_of l.t.texts l.unevaluated l.s l.into }) ≡ members (trees_of (tables l.u).forest (take l.i l.nodes)) (state_of l.t.texts l.unevaluated l.initial.s l.initial.into))
+    × (Some (record { value = members_shown l.into.known l.ms; state = state_of l.t.texts l.unevaluated l.s l.into }) ≡ members (trees_of l.u.forest (take l.i l.nodes)) (state_of l.t.texts l.unevaluated l.initial.s l.initial.into))
 
 abbrev pub decreases-listed::members-loop-i : goal.decreases-listed::members-loop-i
 decreases-listed::members-loop-i l = length l.nodes - l.i
@@ -131,13 +130,13 @@ abbrev pub decreases-listed::member : goal.decreases-listed::member
 decreases-listed::member l = l.n.0 * 8 + 6
 
 abbrev pub decreases-listed::member_declarators : goal.decreases-listed::member_declarators
-decreases-listed::member_declarators l = above_all (list_at (tables l.u.now).forest l.list) * 8
+decreases-listed::member_declarators l = above_all (list_at l.u.now.forest l.list) * 8
 
 abbrev pub invariant-listed::member_declarators-loop-i : goal.invariant-listed::member_declarators-loop-i
 invariant-listed::member_declarators-loop-i l =
     (l.i ≤ length l.nodes) × IsOpen l.into l.s × Goes l.initial.into l.into × AreMembers l.into.known l.ms
     × (Some (record { value = members_shown l.into.known l.ms; state = state_of l.t.texts l.unevaluated l.s l.into })
-    ≡ member_declarators (trees_of (tables l.u).forest (take l.i l.nodes)) (tree l.initial.into.known l.base.0) (members_shown l.initial.into.known l.initial.ms) (state_of l.t.texts l.unevaluated l.initial.s l.initial.into))
+    ≡ member_declarators (trees_of l.u.forest (take l.i l.nodes)) (tree l.initial.into.known l.base.0) (members_shown l.initial.into.known l.initial.ms) (state_of l.t.texts l.unevaluated l.initial.s l.initial.into))
 
 abbrev pub decreases-listed::member_declarators-loop-i : goal.decreases-listed::member_declarators-loop-i
 decreases-listed::member_declarators-loop-i l = length l.nodes - l.i
@@ -146,15 +145,15 @@ abbrev pub decreases-listed::member_declarator : goal.decreases-listed::member_d
 decreases-listed::member_declarator l = l.n.0 * 8 + 5
 
 abbrev pub decreases-listed::enumeration_listed : goal.decreases-listed::enumeration_listed
-decreases-listed::enumeration_listed l = above_all (list_at (tables l.u.now).forest l.list) * 8 + 1
+decreases-listed::enumeration_listed l = above_all (list_at l.u.now.forest l.list) * 8 + 1
 
 abbrev pub decreases-listed::enumerators : goal.decreases-listed::enumerators
-decreases-listed::enumerators l = above_all (list_at (tables l.u.now).forest l.list) * 8
+decreases-listed::enumerators l = above_all (list_at l.u.now.forest l.list) * 8
 
 abbrev pub invariant-listed::enumerators-loop-i : goal.invariant-listed::enumerators-loop-i
 invariant-listed::enumerators-loop-i l =
     (l.i ≤ length l.nodes) × IsOpen l.into l.s × Goes l.initial.into l.into
-    × (Some (record { value = l.next; state = state_of l.t.texts l.unevaluated l.s l.into }) ≡ enumerators (trees_of (tables l.u).forest (take l.i l.nodes)) (state_of l.t.texts l.unevaluated l.initial.s l.initial.into))
+    × (Some (record { value = l.next; state = state_of l.t.texts l.unevaluated l.s l.into }) ≡ enumerators (trees_of l.u.forest (take l.i l.nodes)) (state_of l.t.texts l.unevaluated l.initial.s l.initial.into))
 
 abbrev pub decreases-listed::enumerators-loop-i : goal.decreases-listed::enumerators-loop-i
 decreases-listed::enumerators-loop-i l = length l.nodes - l.i

@@ -1,7 +1,6 @@
 //! A tree as text: each node in parentheses, its operator first.
 ghost use Rattle.std.specs.Prelude.{◌≡◌, ◌<◌, length, slice_index_or, IfSome, ℕ};
 ghost use Rattle.pv_tree.specs.Children.{HasExprChildren};
-ghost use Rattle.pv_tree.specs.Rows.{tables};
 ghost use Rattle.pv_tree.specs.Tables.{Forest, HasOptional, HasList, is_expression, is_declaration, Is};
 
 use pv_token::Tokens;
@@ -157,7 +156,7 @@ impl Printer<'_> {
     }
 
     fn type_name(&self, rt: &impl Abort, n: NodeId, out: &mut String)
-        requires { Is (tables self.now.unit.now) is_declaration n }
+        requires { Is self.now.unit.now is_declaration n }
     {
         if let Decl::TypeName { specs, .. } = self.unit.decl(n) {
             let specs = self.unit.list(specs);
@@ -195,7 +194,7 @@ impl Printer<'_> {
 
     /// A space and the text of an expression.
     pub(super) fn print(&self, rt: &impl Abort, n: NodeId, out: &mut String)
-        requires { Is (tables self.now.unit.now) is_expression n }
+        requires { Is self.now.unit.now is_expression n }
     {
         let e = self.unit.expr(n);
         put(rt, out, " (");

@@ -1,6 +1,7 @@
 // Lines of words. Types are written from their outermost layer inwards, as `*const [3]int` and `(int, ...) void`, and
 // a line is read from its end, so that a word takes what the words behind it made.
 ghost use Rattle.std.specs.Prelude.{◌≡◌, ◌<◌, ◌≤◌, ◌^◌, length, IsTrue};
+ghost use Rattle.pv_types.specs.Adjusted.{is_adjusted};
 ghost use Rattle.pv_types.specs.Known.{IsKnown, MembersBelow, NamesDiffer, named_in, trees, tree, env};
 ghost use Rattle.pv_types.specs.Layouts.{AreComplete, is_complete_in, layout_in};
 
@@ -191,6 +192,18 @@ fn are_numbered(types: &[TypeId], list: &[u32]) -> bool {
     true
 }
 
+/// The type of this number, which a parameter may have.
+fn parameter(rt: &impl Abort, types: &Types, n: u32) -> TypeId
+    ensures known { result.0 < length types.now.terms }
+    ensures adjusted { IsTrue (is_adjusted (tree types.now result.0)) }
+{
+    let t = known(rt, types, n);
+    if !types.is_adjusted(t) {
+        panic!(rt; "a parameter that is an array or a function");
+    }
+    t
+}
+
 /// Makes a list of two parameters at most.
 fn params_of(rt: &impl Abort, types: &mut Types, alloc: Global, list: &[u32]) -> u32
     ensures made { result < length types.new.lists }
@@ -198,9 +211,12 @@ fn params_of(rt: &impl Abort, types: &mut Types, alloc: Global, list: &[u32]) ->
 {
     let params = match list {
         [] => Vec::new(alloc),
-        [a] => vec![in alloc; known(rt, types, *a)].expect(rt, "no memory"),
+        [a] => vec![in alloc; parameter(rt, types, *a)].expect(rt, "no memory"),
         [a, b] => {
-            vec![in alloc; known(rt, types, *a), known(rt, types, *b)].expect(rt, "no memory")
+            vec![in alloc; parameter(rt, types, *a), parameter(rt, types, *b)].expect(
+                rt,
+                "no memory",
+            )
         }
         _ => panic!(rt; "more than two parameters"),
     };

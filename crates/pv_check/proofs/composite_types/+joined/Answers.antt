@@ -1,11 +1,12 @@
-use Rattle.std.proofs.Common.{◌≡◌, ◌<◌, ◌≤◌, length, arith, ◌∙◌, subst}
+use Rattle.std.proofs.Common.{◌≡◌, ◌<◌, ◌≤◌, IsTrue, length, arith, ◌∙◌, ap, subst}
 use Rattle.pv_types.specs.Ty.{ArrayOf, Ty}
-use Rattle.pv_types.specs.Known.{Known, tree, list_at, parameters_at}
+use Rattle.pv_types.specs.Adjusted.{are_adjusted}
+use Rattle.pv_types.specs.Known.{Known, tree, trees, tys_in, list_at, parameters_at}
 use Rattle.pv_types.specs.Matching.{Matches, MatchAll}
 use Rattle.pv_types.proofs.Matched.{matching_array, matching_parameters, matching_result}
 use Rattle.pv_check.specs.Growing.{Grows}
 use Rattle.pv_check.proofs.Growth.{then_grows}
-use Rattle.pv_check.proofs.Joining.{composite_same, sized_joined, right_at, next_at, more_at, done_at, matching_grown}
+use Rattle.pv_check.proofs.Joining.{adjusted_composites, composite_same, sized_joined, right_at, next_at, more_at, done_at, matching_grown}
 use Rattle.pv_check.proofs.composite_types.+joined.Goals as goal
 
 pub joined-returns-then-a-b-clause-tree : goal.joined-returns-then-a-b-clause-tree
@@ -37,6 +38,13 @@ joined_function-joined_list-requires t c =
     let all : MatchAll (parameters_at m c.args.left.params) (parameters_at m c.args.right.params) =
     matching_parameters (tree m c.args.left.result.0) (tree m c.args.right.result.0) (parameters_at m c.args.left.params) (parameters_at m c.args.right.params) c.args.left.variadic c.args.right.variadic c.requires.matching in
     (omega (arith, c.decreases), (c.requires.bound, (rw firsts c.requires.left.2, (rw seconds c.requires.right.2, rw (firsts, seconds) all))))
+
+pub joined_function-listed-requires-clause-adjusted : goal.joined_function-listed-requires-clause-adjusted
+joined_function-listed-requires-clause-adjusted t c =
+    let m : Known = c.args.types.now in
+    let firsts : c.deref.result.now ≡ c.param_list.result.now = c.deref.ensures.value ∙ c.in_ok-firsts.ensures.items in
+    let left : IsTrue (are_adjusted (tys_in (trees m) c.deref.result.now)) = rw firsts c.param_list.ensures.adjusted in
+    ap are_adjusted c.in_ok-list.ensures.list ∙ adjusted_composites (tys_in (trees m) c.deref.result.now) (tys_in (trees m) c.deref-2.result.now) left
 
 pub joined_function-joined-requires : goal.joined_function-joined-requires
 joined_function-joined-requires t c =

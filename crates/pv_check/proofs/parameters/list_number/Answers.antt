@@ -6,4 +6,4 @@ use Rattle.pv_check.proofs.parameters.list_number.Goals as goal
 pub returns-clause-parameters : goal.returns-clause-parameters
 returns-clause-parameters c =
     ap (tys_in (trees c.params.new.self)) c.in_ok-p.ensures.list
-    ∙ tys_stay c.args.types.now c.params.new.self c.args.list.items c.in_ok-p.ensures.stands c.requires
+    ∙ tys_stay c.args.types.now c.params.new.self c.args.list.items c.in_ok-p.ensures.stands c.requires.known

@@ -1,6 +1,6 @@
 use Rattle.std.proofs.Common.{◌≡◌, ◌∙◌, ◌<◌, ◌-◌, ℕ, zero, suc, List, drop, sym, ap, arith}
 use Rattle.pv_token.specs.declared.token_table.Token.{Token}
-use Rattle.pv_decl.specs.Filled.{is_behind_open, opens}
+use Rattle.pv_decl.specs.NameTables.{is_behind_open, opens}
 use Rattle.pv_decl.proofs.type_table.is_behind_open.Goals as goal
 
 -- the token before a place decides

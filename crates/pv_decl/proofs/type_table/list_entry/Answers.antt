@@ -4,7 +4,7 @@ use Rattle.pv_decl.proofs.Givens.{limited}
 use Rattle.pv_decl.proofs.type_table.list_entry.Goals as goal
 
 pub returns-clause-ok : goal.returns-clause-ok
-returns-clause-ok c = limited _ _ _ _ _ c.in_ok-parameters.ensures.ok
+returns-clause-ok c = limited _ _ _ _ _ c.in_ok-parameters.ensures.answer
 
 pub returns-then-not-is_behind_open-clause-keeps : goal.returns-then-not-is_behind_open-clause-keeps
 returns-then-not-is_behind_open-clause-keeps c = extends_same _
@@ -15,11 +15,8 @@ is_behind_open-requires c = c.requires.place
 pub returns-then-not-is_behind_open-clause-ok : goal.returns-then-not-is_behind_open-clause-ok
 returns-then-not-is_behind_open-clause-ok c = tt
 
-pub parameters-requires-clause-place : goal.parameters-requires-clause-place
-parameters-requires-clause-place c = c.requires.place
-
-pub parameters-requires-clause-tied : goal.parameters-requires-clause-tied
-parameters-requires-clause-tied c = c.requires.tied
+pub parameters-requires-clause-ready : goal.parameters-requires-clause-ready
+parameters-requires-clause-ready c = record { place = c.requires.place; tied = c.requires.tied }
 
 pub parameters-requires-clause-left : goal.parameters-requires-clause-left
 parameters-requires-clause-left c = tt

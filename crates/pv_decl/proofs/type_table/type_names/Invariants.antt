@@ -1,10 +1,10 @@
 use Rattle.std.proofs.Common.{◌≡◌, ◌≤◌, ◌+◌, ◌⊎◌, length, nat_eq}
 use Rattle.std.specs.Prelude.{min}
 use Rattle.indexmap.specs.IndexSet.{contains}
-use Rattle.pv_tree.specs.Rows.{tables}
 use Rattle.pv_tree.specs.Tables.{Extends}
 use Rattle.pv_tree.specs.Units.{depth_limit}
-use Rattle.pv_decl.specs.Filled.{type_map, list_map}
+use Rattle.pv_decl.specs.Filled.{list_map}
+use Rattle.pv_decl.specs.NameTables.{type_map}
 use Rattle.pv_decl_forms.specs.Givens.{AreGiven}
 use Rattle.pv_decl.proofs.Filling.{IsFilled}
 use Rattle.pv_decl.proofs.type_table.type_names.Given as goal
@@ -13,11 +13,11 @@ abbrev pub invariant-loop-at : goal.invariant-loop-at
 invariant-loop-at l =
     let tokens = l.t.tokens in
     record {
-      filled : IsFilled (contains nat_eq l.types) (tables l.into) tokens depth_limit l.names.to l.names.found.items l.at;
-      given : AreGiven (list_map l.lists) l.types (type_map l.names) (tables l.into) tokens;
+      filled : IsFilled (contains nat_eq l.types) l.into tokens depth_limit l.names.to l.names.found l.at;
+      given : AreGiven (list_map l.lists) l.types (type_map l.names) l.into tokens;
       count : l.at + length l.lists.found.items ≡ l.lists.to;
       same : l.lists.to ≡ l.names.to;
-      keeps : Extends (tables l.fn.into) (tables l.into);
+      keeps : Extends l.fn.into l.into;
       low : (l.from ≤ l.at) ⊎ (l.names.to ≤ l.at);
       cut : l.names.to ≡ min l.fn.to (length tokens);
     }

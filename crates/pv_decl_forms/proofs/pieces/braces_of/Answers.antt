@@ -1,7 +1,6 @@
 use Rattle.std.proofs.Common.{◌∙◌, sym, ap, drop}
 use Rattle.std.proofs.lemmas.Result.{IfOk-from_err}
 use Rattle.pv_tree.specs.Tables.{is_initializer}
-use Rattle.pv_tree.specs.Rows.{tables}
 use Rattle.pv_tree.specs.Syntax.{Trees, OfInitializer, Braces}
 use Rattle.pv_tree.proofs.Kept.{extends_same, extends_then}
 use Rattle.pv_expr_forms.proofs.Answered.{kept_same, kept_list}
@@ -10,12 +9,12 @@ use Rattle.pv_decl_forms.proofs.Listing.{list_made, braces_close, list_has}
 use Rattle.pv_decl_forms.proofs.pieces.braces_of.Goals as goal
 
 pub returns-in_err-inits-clause-keeps : goal.returns-in_err-inits-clause-keeps
-returns-in_err-inits-clause-keeps c = kept_same (tables c.args.into.now) (tables c.add_list.new.self) (ap tables c.in_err-inits.ensures.unchanged)
+returns-in_err-inits-clause-keeps c = kept_same c.args.into.now c.add_list.new.self (c.in_err-inits.ensures.unchanged)
 
 pub returns-clause-ok : goal.returns-clause-ok
 returns-clause-ok c =
-    let listed = list_made (tables c.args.into.now) (tables c.add_list.new.self) c.args.inits.now c.in_ok-inits.inits c.in_ok-inits.ensures.made.0 c.in_ok-inits.ensures.made.1 in
-    moved _ _ _ _ _ _ (braces_close (λ trees comma. OfInitializer (Braces c.args.line trees comma)) (tables c.args.into.now).forest c.args.inits.now (drop c.args.at c.args.tokens.now.tokens) c.comma_at-comma.result.0 (drop c.comma_at-comma.result.1 c.args.tokens.now.tokens) (drop c.in-Some.end c.args.tokens.now.tokens) _ (sym c.is_empty.ensures ∙ c.if-is_empty.false) c.comma_at-comma.ensures.is c.in-Some.ensures.0 (ap (λ (ts : Trees). OfInitializer (Braces c.args.line ts c.comma_at-comma.result.0)) listed)) c.found_initializer.ensures.ok
+    let listed = list_made c.args.into.now c.add_list.new.self c.args.inits.now c.in_ok-inits.inits c.in_ok-inits.ensures.made.0 c.in_ok-inits.ensures.made.1 in
+    moved _ _ _ _ _ _ (braces_close (λ trees comma. OfInitializer (Braces c.args.line trees comma)) c.args.into.now.forest c.args.inits.now (drop c.args.at c.args.tokens.now.tokens) c.comma_at-comma.result.0 (drop c.comma_at-comma.result.1 c.args.tokens.now.tokens) (drop c.in-Some.end c.args.tokens.now.tokens) _ (sym c.is_empty.ensures ∙ c.if-is_empty.false) c.comma_at-comma.ensures.is c.in-Some.ensures.0 (ap (λ (ts : Trees). OfInitializer (Braces c.args.line ts c.comma_at-comma.result.0)) listed)) c.found_initializer.ensures.ok
 
 pub returns-then-is_empty-clause-keeps : goal.returns-then-is_empty-clause-keeps
 returns-then-is_empty-clause-keeps c = extends_same _
@@ -33,10 +32,10 @@ pub found_initializer-requires-clause-place : goal.found_initializer-requires-cl
 found_initializer-requires-clause-place c = c.in-Some.ensures.1
 
 pub found_initializer-requires-clause-children : goal.found_initializer-requires-clause-children
-found_initializer-requires-clause-children c = list_has (tables c.args.into.now) (tables c.add_list.new.self) c.args.inits.now c.in_ok-inits.inits is_initializer c.in_ok-inits.ensures.made.0 c.in_ok-inits.ensures.made.1 c.requires.inits
+found_initializer-requires-clause-children c = list_has c.args.into.now c.add_list.new.self c.args.inits.now c.in_ok-inits.inits is_initializer c.in_ok-inits.ensures.made.0 c.in_ok-inits.ensures.made.1 c.requires.inits
 
 pub returns-clause-keeps : goal.returns-clause-keeps
-returns-clause-keeps c = extends_then _ _ _ (kept_list (tables c.args.into.now) (tables c.add_list.new.self) c.args.inits.now c.in_ok-inits.ensures.made.0) c.found_initializer.ensures.keeps
+returns-clause-keeps c = extends_then _ _ _ (kept_list c.args.into.now c.add_list.new.self c.args.inits.now c.in_ok-inits.ensures.made.0) c.found_initializer.ensures.keeps
 
 pub returns-in_err-inits-clause-ok : goal.returns-in_err-inits-clause-ok
 returns-in_err-inits-clause-ok c = IfOk-from_err _ _ c.from_residual.ensures.0

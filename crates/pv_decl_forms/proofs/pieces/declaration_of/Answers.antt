@@ -1,6 +1,5 @@
-use Rattle.std.proofs.Common.{ap, drop}
+use Rattle.std.proofs.Common.{drop}
 use Rattle.std.proofs.lemmas.Result.{IfOk-from_err}
-use Rattle.pv_tree.specs.Rows.{tables}
 use Rattle.pv_tree.specs.Tables.{trees_of, trees_at, is_specifier, is_declaration}
 use Rattle.pv_tree.proofs.Kept.{extends_then, extends_same}
 use Rattle.pv_expr_forms.proofs.Answered.{kept_same, kept_list}
@@ -9,25 +8,25 @@ use Rattle.pv_decl_forms.proofs.Listing.{first_trees, second_trees, first_has, s
 use Rattle.pv_decl_forms.proofs.pieces.declaration_of.Goals as goal
 
 pub returns-in_err-specs-clause-keeps : goal.returns-in_err-specs-clause-keeps
-returns-in_err-specs-clause-keeps c = kept_same (tables c.args.into.now) (tables c.add_list.new.self) (ap tables c.in_err-specs.ensures.unchanged)
+returns-in_err-specs-clause-keeps c = kept_same c.args.into.now c.add_list.new.self (c.in_err-specs.ensures.unchanged)
 
 pub returns-in_err-declared-clause-keeps : goal.returns-in_err-declared-clause-keeps
 returns-in_err-declared-clause-keeps c =
-    extends_then (tables c.args.into.now) (tables c.add_list.new.self) (tables c.add_list-2.new.self)
-    (kept_list (tables c.args.into.now) (tables c.add_list.new.self) c.args.specs.now c.in_ok-specs.ensures.made.0)
-    (kept_same (tables c.add_list.new.self) (tables c.add_list-2.new.self) (ap tables c.in_err-declared.ensures.unchanged))
+    extends_then c.args.into.now c.add_list.new.self c.add_list-2.new.self
+    (kept_list c.args.into.now c.add_list.new.self c.args.specs.now c.in_ok-specs.ensures.made.0)
+    (kept_same c.add_list.new.self c.add_list-2.new.self (c.in_err-declared.ensures.unchanged))
 
 pub found_declaration-requires-clause-children : goal.found_declaration-requires-clause-children
 found_declaration-requires-clause-children c = (
-  first_has (tables c.args.into.now) (tables c.add_list.new.self) (tables c.add_list-2.new.self) c.args.specs.now c.args.declared.now c.in_ok-specs.specs c.in_ok-declared.declared c.in_ok-specs.ensures.made.0 c.in_ok-specs.ensures.made.1 c.in_ok-declared.ensures.made.0 c.in_ok-declared.ensures.made.1 is_specifier c.requires.specs,
-  second_has (tables c.args.into.now) (tables c.add_list.new.self) (tables c.add_list-2.new.self) c.args.specs.now c.args.declared.now c.in_ok-specs.specs c.in_ok-declared.declared c.in_ok-specs.ensures.made.0 c.in_ok-specs.ensures.made.1 c.in_ok-declared.ensures.made.0 c.in_ok-declared.ensures.made.1 is_declaration c.requires.declared,
+  first_has c.args.into.now c.add_list.new.self c.add_list-2.new.self c.args.specs.now c.args.declared.now c.in_ok-specs.specs c.in_ok-declared.declared c.in_ok-specs.ensures.made.0 c.in_ok-specs.ensures.made.1 c.in_ok-declared.ensures.made.0 c.in_ok-declared.ensures.made.1 is_specifier c.requires.specs,
+  second_has c.args.into.now c.add_list.new.self c.add_list-2.new.self c.args.specs.now c.args.declared.now c.in_ok-specs.specs c.in_ok-declared.declared c.in_ok-specs.ensures.made.0 c.in_ok-specs.ensures.made.1 c.in_ok-declared.ensures.made.0 c.in_ok-declared.ensures.made.1 is_declaration c.requires.declared,
 )
 
 pub returns-clause-ok : goal.returns-clause-ok
 returns-clause-ok c =
-    let first = first_trees (tables c.args.into.now) (tables c.add_list.new.self) (tables c.add_list-2.new.self) c.args.specs.now c.args.declared.now c.in_ok-specs.specs c.in_ok-declared.declared c.in_ok-specs.ensures.made.0 c.in_ok-specs.ensures.made.1 c.in_ok-declared.ensures.made.0 c.in_ok-declared.ensures.made.1 in
-    let second = second_trees (tables c.args.into.now) (tables c.add_list.new.self) (tables c.add_list-2.new.self) c.args.specs.now c.args.declared.now c.in_ok-specs.specs c.in_ok-declared.declared c.in_ok-specs.ensures.made.0 c.in_ok-specs.ensures.made.1 c.in_ok-declared.ensures.made.0 c.in_ok-declared.ensures.made.1 in
-    moved _ _ _ _ _ _ (declaration_so c.args.line (trees_of (tables c.args.into.now).forest c.args.specs.now) (trees_of (tables c.args.into.now).forest c.args.declared.now) (trees_at (tables c.add_list-2.new.self).forest c.in_ok-specs.specs) (trees_at (tables c.add_list-2.new.self).forest c.in_ok-declared.declared) (drop c.args.at c.args.tokens.now.tokens) (drop c.in-Some.end c.args.tokens.now.tokens) c.in-Some.ensures.0 first second) c.found_declaration.ensures.ok
+    let first = first_trees c.args.into.now c.add_list.new.self c.add_list-2.new.self c.args.specs.now c.args.declared.now c.in_ok-specs.specs c.in_ok-declared.declared c.in_ok-specs.ensures.made.0 c.in_ok-specs.ensures.made.1 c.in_ok-declared.ensures.made.0 c.in_ok-declared.ensures.made.1 in
+    let second = second_trees c.args.into.now c.add_list.new.self c.add_list-2.new.self c.args.specs.now c.args.declared.now c.in_ok-specs.specs c.in_ok-declared.declared c.in_ok-specs.ensures.made.0 c.in_ok-specs.ensures.made.1 c.in_ok-declared.ensures.made.0 c.in_ok-declared.ensures.made.1 in
+    moved _ _ _ _ _ _ (declaration_so c.args.line (trees_of c.args.into.now.forest c.args.specs.now) (trees_of c.args.into.now.forest c.args.declared.now) (trees_at c.add_list-2.new.self.forest c.in_ok-specs.specs) (trees_at c.add_list-2.new.self.forest c.in_ok-declared.declared) (drop c.args.at c.args.tokens.now.tokens) (drop c.in-Some.end c.args.tokens.now.tokens) c.in-Some.ensures.0 first second) c.found_declaration.ensures.ok
 
 pub after-requires : goal.after-requires
 after-requires c = c.requires.place
@@ -39,7 +38,7 @@ pub found_declaration-requires-clause-place : goal.found_declaration-requires-cl
 found_declaration-requires-clause-place c = c.in-Some.ensures.1
 
 pub returns-clause-keeps : goal.returns-clause-keeps
-returns-clause-keeps c = extends_then _ _ _ (extends_then _ _ _ (kept_list (tables c.args.into.now) (tables c.add_list.new.self) c.args.specs.now c.in_ok-specs.ensures.made.0) (kept_list (tables c.add_list.new.self) (tables c.add_list-2.new.self) c.args.declared.now c.in_ok-declared.ensures.made.0)) c.found_declaration.ensures.keeps
+returns-clause-keeps c = extends_then _ _ _ (extends_then _ _ _ (kept_list c.args.into.now c.add_list.new.self c.args.specs.now c.in_ok-specs.ensures.made.0) (kept_list c.add_list.new.self c.add_list-2.new.self c.args.declared.now c.in_ok-declared.ensures.made.0)) c.found_declaration.ensures.keeps
 
 pub returns-in_err-specs-clause-ok : goal.returns-in_err-specs-clause-ok
 returns-in_err-specs-clause-ok c = IfOk-from_err _ _ c.from_residual.ensures.0

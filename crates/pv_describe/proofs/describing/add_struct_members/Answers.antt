@@ -1,4 +1,4 @@
-use Rattle.std.proofs.Common.{rules, ◌≡◌, ◌++◌, ◌+◌, ◌∙◌, ◌<◌, ap, sym, refl, length, get_or, arith}
+use Rattle.std.proofs.Common.{rules, ◌≡◌, ◌++◌, ◌+◌, ◌∙◌, ◌<◌, ap, refl, length, get_or, arith}
 use Rattle.std.specs.Int.{next_multiple_of}
 use Rattle.pv_types.specs.Known.{tree, env, members_in, IsBuilt}
 use Rattle.pv_types.specs.Layouts.{layout_in}

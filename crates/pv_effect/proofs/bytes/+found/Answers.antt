@@ -7,9 +7,10 @@ use Rattle.pv_types.proofs.Peeling.{whole_array}
 use Rattle.pv_layout.proofs.Ahead.{nobody}
 use Rattle.pv_layout.proofs.Below.{one_of}
 use Rattle.pv_layout.proofs.Unions.{around_start, around_hit, around_miss, around_same, around_next, around_none, inside_at, union_found}
+use Rattle.pv_layout.proofs.Stripped.{Stripped, stripped_count}
 use Rattle.pv_effect.specs.EffectiveType.{some_over}
 use Rattle.pv_effect.specs.Searches.{passes}
-use Rattle.pv_effect.proofs.Descents.{array_below, joins_over, struct_whole, union_whole, const_whole}
+use Rattle.pv_effect.proofs.Descents.{array_below, descent_to, joins_over, struct_whole, union_whole}
 use Rattle.pv_effect.proofs.bytes.+found.Goals as goal
 use Rattle.pv_effect.proofs.bytes.+found.Goals.{found_in_others-then-m-main+else-found, found_in_others-else-m-main}
 
@@ -36,9 +37,6 @@ below-in_union-requires t c =
     let deep : part_count (layout_in (env m) (tree m c.args.t.0)) ≡ part_count (or_none (look (env m) c.in-Union.tag)) = ap (λ x. part_count (layout_in (env m) x)) is in
     let small : (or_none (look (env m) c.in-Union.tag)).size ≤ 2 ^ 32 = rw is at c.requires.small in
     (omega (arith, deep), (c.in-Union.ensures.tagged.0, (there, (flag m c.in-Union.tag c.in-Union.ensures.built there ∙ c.in-Union.ensures.tagged.1, small))))
-
-pub below-returns-in-Const-clause-value : goal.below-returns-in-Const-clause-value
-below-returns-in-Const-clause-value t c = const_whole c.args.types.now c.args.t.0 c.in-Const.inner.0 c.args.offset c.args.sought c.in-Const.ensures.tree
 
 pub below-returns-in-Struct-clause-value : goal.below-returns-in-Struct-clause-value
 below-returns-in-Struct-clause-value t c =
@@ -144,18 +142,34 @@ pub below-in_scalar-requires-clause-small : goal.below-in_scalar-requires-clause
 below-in_scalar-requires-clause-small t c = c.requires.small
 
 pub found-loop-answer-init : goal.found-loop-answer-init
-found-loop-answer-init t c = record {
-  known = c.requires.known;
-  complete = c.requires.complete;
-  small = c.requires.small;
-  lower = omega arith;
-  same = refl;
-}
+found-loop-answer-init t c =
+    let m = c.args.types.now in
+    let h : Stripped m c.bare-at.result.0 c.args.t.0 = record { built = c.bare-at.ensures.built; inner = c.bare-at.ensures.known; known = c.requires.known; is = c.bare-at.ensures.tree; complete = c.requires.complete } in
+    descent_to m c.args.sought c.args.t.0 c.args.offset c.args.t.0 c.args.offset c.bare-at.result.0 h c.requires.small (omega arith) refl
 
 pub found-below-requires : goal.found-below-requires
 found-below-requires t c =
     let h = c.loop-answer.invariant in
-    (omega (arith, h.lower), (h.known, (h.complete, h.small)))
+    (omega (arith, h.lower), (h.known, (h.unqualified, (h.complete, h.small))))
+
+pub found-loop-answer-smaller : goal.found-loop-answer-smaller
+found-loop-answer-smaller t c =
+    let m = c.args.types.now in
+    let low = c.in-In.ensures.below in
+    let h : Stripped m c.bare-at-in-In.result.0 c.in-In.t.0 = record { built = c.bare-at-in-In.ensures.built; inner = c.bare-at-in-In.ensures.known; known = low.0; is = c.bare-at-in-In.ensures.tree; complete = low.1 } in
+    let count = stripped_count m c.bare-at-in-In.result.0 c.in-In.t.0 h in
+    let fewer = low.3 in
+    omega (arith, count, fewer)
+
+pub found-loop-answer-preserved : goal.found-loop-answer-preserved
+found-loop-answer-preserved t c =
+    let m = c.args.types.now in
+    let before = c.loop-answer.invariant in
+    let low = c.in-In.ensures.below in
+    let h : Stripped m c.bare-at-in-In.result.0 c.in-In.t.0 = record { built = c.bare-at-in-In.ensures.built; inner = c.bare-at-in-In.ensures.known; known = low.0; is = c.bare-at-in-In.ensures.tree; complete = low.1 } in
+    let fewer = low.3 in
+    let lower = before.lower in
+    descent_to m c.args.sought c.args.t.0 c.args.offset c.in-In.t.0 c.in-In.offset c.bare-at-in-In.result.0 h low.2 (omega (arith, fewer, lower)) (before.same ∙ sym c.in-In.ensures.value)
 
 pub below-returns-in-Array-default-Some-clause-below : goal.below-returns-in-Array-default-Some-clause-below
 below-returns-in-Array-default-Some-clause-below t c =

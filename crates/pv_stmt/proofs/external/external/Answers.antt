@@ -1,4 +1,3 @@
-use Rattle.pv_tree.specs.Rows.{tables}
 use Rattle.pv_tree.proofs.Kept.{extends_then}
 use Rattle.pv_stmt.proofs.external.external.Goals as goal
 
@@ -9,4 +8,4 @@ pub returns-then-is_some-clause-keeps : goal.returns-then-is_some-clause-keeps
 returns-then-is_some-clause-keeps c = c.read_up_to.ensures.keeps
 
 pub returns-clause-keeps : goal.returns-clause-keeps
-returns-clause-keeps c = extends_then (tables c.args.into.now) (tables c.read_up_to.new.into) (tables c.read_up_to-2.new.into) c.read_up_to.ensures.keeps c.read_up_to-2.ensures.keeps
+returns-clause-keeps c = extends_then c.args.into.now c.read_up_to.new.into c.read_up_to-2.new.into c.read_up_to.ensures.keeps c.read_up_to-2.ensures.keeps

@@ -1,6 +1,5 @@
 use Rattle.std.proofs.Common.{drop}
 use Rattle.pv_tree.specs.Nodes.{statement_of}
-use Rattle.pv_tree.specs.Rows.{tables}
 use Rattle.pv_tree.specs.Syntax.{OfStatement}
 use Rattle.pv_decl_forms.proofs.Answered.{moved, nothing}
 use Rattle.pv_stmt_forms.specs.Parts.{test_of}
@@ -9,10 +8,10 @@ use Rattle.pv_tree.proofs.Kept.{extends_same}
 use Rattle.pv_stmt_forms.proofs.nodes.found_before.Goals as goal
 
 pub returns-in-Some-clause-ok : goal.returns-in-Some-clause-ok
-returns-in-Some-clause-ok c = moved _ _ _ _ _ _ (sign_some (OfStatement (statement_of (tables c.args.into.now).forest c.args.line c.args.statement)) (test_of c.args.sign) (drop c.args.at c.args.tokens.now.tokens) _ c.in-Some.ensures.0) c.found_statement.ensures.ok
+returns-in-Some-clause-ok c = moved _ _ _ _ _ _ (sign_some (OfStatement (statement_of c.args.into.now.forest c.args.line c.args.statement)) (test_of c.args.sign) (drop c.args.at c.args.tokens.now.tokens) _ c.in-Some.ensures.0) c.found_statement.ensures.ok
 
 pub returns-in-None-clause-ok : goal.returns-in-None-clause-ok
-returns-in-None-clause-ok c = nothing _ _ _ _ (sign_none (OfStatement (statement_of (tables c.args.into.now).forest c.args.line c.args.statement)) (test_of c.args.sign) (drop c.args.at c.args.tokens.now.tokens) c.in-None.ensures)
+returns-in-None-clause-ok c = nothing _ _ _ _ (sign_none (OfStatement (statement_of c.args.into.now.forest c.args.line c.args.statement)) (test_of c.args.sign) (drop c.args.at c.args.tokens.now.tokens) c.in-None.ensures)
 
 pub after-requires : goal.after-requires
 after-requires c = c.requires.place

@@ -2,7 +2,6 @@ use Rattle.std.proofs.Common.{List, [], ◌≡◌, ◌<◌, ◌≤◌, IfOk, Opt
 use Rattle.pv_tree.specs.declared.nodes.NodeId.{NodeId}
 use Rattle.pv_tree.specs.Lines.{tree_line}
 use Rattle.pv_tree.specs.Syntax.{Declaration, NoTrees}
-use Rattle.pv_tree.specs.Rows.{tables}
 use Rattle.pv_tree.specs.Tables.{tree_at, trees_at, list_at, declaration_at, as_declaration}
 use Rattle.pv_check.specs.Open.{state_of}
 use Rattle.pv_check.specs.State.{After}
@@ -15,7 +14,7 @@ use Rattle.pv_unit.proofs.blocks.block_declaration.Goals as goal
 
 pub returns-then-declarators-gt0-clause-answer : goal.returns-then-declarators-gt0-clause-answer
 returns-then-declarators-gt0-clause-answer c =
-    let f = (tables c.args.u.now).forest in
+    let f = c.args.u.now.forest in
     let line = tree_line (tree_at f c.args.n) in
     let s = state_of c.args.t.now.texts false c.args.s.now c.args.into.now in
     let some : 0 < length (list_at f c.in-Declaration.declared) = subst (λ (xs : List NodeId). 0 < length xs) c.list-declarators.ensures c.if-declarators-gt0.true in
@@ -25,7 +24,7 @@ returns-then-declarators-gt0-clause-answer c =
 
 pub returns-else-declarators-gt0-clause-answer : goal.returns-else-declarators-gt0-clause-answer
 returns-else-declarators-gt0-clause-answer c =
-    let f = (tables c.args.u.now).forest in
+    let f = c.args.u.now.forest in
     let line = tree_line (tree_at f c.args.n) in
     let s = state_of c.args.t.now.texts false c.args.s.now c.args.into.now in
     let specs = trees_at f c.in-Declaration.specs in

@@ -1,6 +1,5 @@
 use Rattle.std.proofs.Common.{rules, ◌≡◌, ◌∙◌, ◌<◌, false, ap, length, get_or, arith, true}
 use Rattle.pv_tree.specs.declared.nodes.NodeId.{NodeId}
-use Rattle.pv_tree.specs.Rows.{tables}
 use Rattle.pv_tree.specs.Tables.{tree_at, trees_of}
 use Rattle.pv_types.specs.Known.{tree}
 use Rattle.pv_check.specs.Open.{state_of, IsOpen, Goes}
@@ -14,7 +13,7 @@ no_id = record { 0 = 0 }
 
 pub loop-n-preserved : goal.loop-n-preserved
 loop-n-preserved c =
-    let f = (tables c.args.u.now).forest in
+    let f = c.args.u.now.forest in
     let ns = c.list-nodes.result.now in
     let new = c.block_init_declarator.new in
     let lt : c.loop-n.n-index < length ns = omega arith in
@@ -27,7 +26,7 @@ loop-n-preserved c =
 
 pub returns-then-not-branch-clause-answer : goal.returns-then-not-branch-clause-answer
 returns-then-not-branch-clause-answer c =
-    let f = (tables c.args.u.now).forest in
+    let f = c.args.u.now.forest in
     let ns = c.list-nodes.result.now in
     let lt : c.loop-n.n-index < length ns = omega arith in
     let held : reached_if c.args.t.now.texts c.block_init_declarator.new.s c.block_init_declarator.new.into c.block_init_declarator.new.all.items false ≡ block_init_declarator c.args.lasting (tree c.loop-n.into.known c.args.base.0) (tree_at f (get_or ns c.loop-n.n-index no_id)) (reached_in c.args.t.now.texts c.loop-n.s c.loop-n.into c.loop-n.all.items) = search rules in

@@ -1,7 +1,6 @@
 use Rattle.std.proofs.Common.{rules, ◌≡◌, ◌∙◌, ◌<◌, ◌-◌, suc, ap, sym, length, take, arith, true, false, Some, None}
 use Rattle.std.proofs.lemmas.List.{length-map}
 use Rattle.pv_tree.specs.Syntax.{DeclarationTree, TypeName, NoTrees, Absent}
-use Rattle.pv_tree.specs.Rows.{tables}
 use Rattle.pv_tree.specs.Tables.{declaration_at}
 use Rattle.pv_unit.specs.Checking.{externals_in}
 use Rattle.pv_unit.specs.Definitions.{may_end}
@@ -16,7 +15,7 @@ no_tree = TypeName 0 NoTrees Absent
 
 pub returns-in-Ok-false-clause-refused : goal.returns-in-Ok-false-clause-refused
 returns-in-Ok-false-clause-refused c =
-    let u = tables c.args.u.now in
+    let u = c.args.u.now in
     let texts = c.args.t.now.texts in
     let before = unit_state texts c.args.s.now c.args.into.now c.args.outer.now in
     let s = unit_state texts c.loop-i.s c.loop-i.into c.loop-i.outer in
@@ -28,7 +27,7 @@ returns-in-Ok-false-clause-refused c =
 
 pub loop-i-preserved : goal.loop-i-preserved
 loop-i-preserved c =
-    let u = tables c.args.u.now in
+    let u = c.args.u.now in
     let texts = c.args.t.now.texts in
     let before = unit_state texts c.args.s.now c.args.into.now c.args.outer.now in
     let s = unit_state texts c.loop-i.s c.loop-i.into c.loop-i.outer in
@@ -41,7 +40,7 @@ loop-i-preserved c =
 
 pub returns-then-is_left_open-clause-refused : goal.returns-then-is_left_open-clause-refused
 returns-then-is_left_open-clause-refused c =
-    let u = tables c.args.u.now in
+    let u = c.args.u.now in
     let texts = c.args.t.now.texts in
     let before = unit_state texts c.args.s.now c.args.into.now c.args.outer.now in
     let s = unit_state texts c.loop-i.s c.loop-i.into c.loop-i.outer in
@@ -56,7 +55,7 @@ returns-then-is_left_open-clause-refused c =
 
 pub returns-clause-typed : goal.returns-clause-typed
 returns-clause-typed c =
-    let u = tables c.args.u.now in
+    let u = c.args.u.now in
     let texts = c.args.t.now.texts in
     let before = unit_state texts c.args.s.now c.args.into.now c.args.outer.now in
     let s = unit_state texts c.loop-i.s c.loop-i.into c.loop-i.outer in

@@ -1,5 +1,4 @@
 use Rattle.std.proofs.Common.{subst}
-use Rattle.pv_tree.specs.Rows.{tables}
 use Rattle.pv_typed.specs.Tables.{whole}
 use Rattle.pv_unit.specs.Checking.{externals_in}
 use Rattle.pv_unit.specs.Entities.{UnitState}
@@ -11,7 +10,7 @@ use Rattle.pv_unit.proofs.checking.filled.Goals as goal
 pub returns-in-Ok-clause-typed : goal.returns-in-Ok-clause-typed
 returns-in-Ok-clause-typed c =
     let t = c.args.t.now in
-    let ds = externals_in (tables c.args.u.now) in
+    let ds = externals_in c.args.u.now in
     let m = c.all_declarations.new.into in
     let u = unit_state t.texts c.all_declarations.new.s m c.all_declarations.new.outer in
     let typed : IsTyped ds (first t) u = subst (λ (v : UnitState). IsTyped ds v u) c.requires.first c.in-Ok.ensures.typed in
@@ -31,7 +30,7 @@ returns-in-Ok-clause-small c = small_on c.all_declarations.new.into.known c.fini
 pub returns-in-Ok-clause-refused : goal.returns-in-Ok-clause-refused
 returns-in-Ok-clause-refused c =
     let t = c.args.t.now in
-    let ds = externals_in (tables c.args.u.now) in
+    let ds = externals_in c.args.u.now in
     let m = c.all_declarations.new.into in
     let u = unit_state t.texts c.all_declarations.new.s m c.all_declarations.new.outer in
     let typed : IsTyped ds (first t) u = subst (λ (v : UnitState). IsTyped ds v u) c.requires.first c.in-Ok.ensures.typed in
@@ -41,10 +40,10 @@ pub returns-in-Err-clause-refused : goal.returns-in-Err-clause-refused
 returns-in-Err-clause-refused c =
     let t = c.args.t.now in
     let before = unit_state t.texts c.args.s.now c.args.into.now c.args.outer.now in
-    stop_cause t (externals_in (tables c.args.u.now)) before c.in-Err.e c.requires.first c.in-Err.ensures.refused
+    stop_cause t (externals_in c.args.u.now) before c.in-Err.e c.requires.first c.in-Err.ensures.refused
 
 pub returns-in-Err-clause-named : goal.returns-in-Err-clause-named
 returns-in-Err-clause-named c =
     let t = c.args.t.now in
     let before = unit_state t.texts c.args.s.now c.args.into.now c.args.outer.now in
-    stop_named t (externals_in (tables c.args.u.now)) before c.in-Err.e c.in-Err.ensures.refused
+    stop_named t (externals_in c.args.u.now) before c.in-Err.e c.in-Err.ensures.refused

@@ -1,5 +1,4 @@
 use Rattle.std.proofs.Common.{false, sym, ap, ◌∙◌}
-use Rattle.pv_tree.specs.Rows.{tables}
 use Rattle.pv_tree.specs.Tables.{trees_at}
 use Rattle.pv_check.specs.Open.{state_of, IsOpen, Goes}
 use Rattle.pv_check.specs.SeenAfter.{after_seen}
@@ -18,6 +17,6 @@ returns-clause-goes c =
 
 pub returns-clause-answer : goal.returns-clause-answer
 returns-clause-answer c =
-    specified_done c.args.t.now.texts (trees_at (tables c.args.u.now).forest c.args.list) (state_of c.args.t.now.texts false c.args.s.now c.args.into.now) c.specifiers.new.into c.concluded.new.into c.specifiers.new.s c.in-Some.seen c.in_ok-r.r
+    specified_done c.args.t.now.texts (trees_at c.args.u.now.forest c.args.list) (state_of c.args.t.now.texts false c.args.s.now c.args.into.now) c.specifiers.new.into c.concluded.new.into c.specifiers.new.s c.in-Some.seen c.in_ok-r.r
     (there (λ x. IsOpen c.specifiers.new.into c.specifiers.new.s) c.in-Some.is c.in_ok-seen.ensures.opened) c.in_ok-r.ensures.goes c.in_ok-r.ensures.whole
     (ap (after_seen c.args.t.now.texts false c.specifiers.new.s c.specifiers.new.into) (sym c.in-Some.is) ∙ c.in_ok-seen.ensures.answer) c.in_ok-r.ensures.value

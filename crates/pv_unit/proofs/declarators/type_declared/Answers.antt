@@ -1,6 +1,5 @@
 use Rattle.std.proofs.Common.{false, Some, sym, ap, ◌∙◌}
 use Rattle.pv_types.specs.Known.{env, tree}
-use Rattle.pv_tree.specs.Rows.{tables}
 use Rattle.pv_tree.specs.Tables.{declarator_at}
 use Rattle.pv_check.specs.Declarators.{after_steps}
 use Rattle.pv_check.specs.Derivations.{derived}
@@ -24,7 +23,7 @@ returns-clause-goes c =
 pub returns-clause-answer : goal.returns-clause-answer
 returns-clause-answer c =
     let m = c.steps_of.new.into.known in
-    declared_done c.args.t.now.texts c.args.unsized_may_be c.has_unsized-without_size.result c.args.base.0 (declarator_at (tables c.args.u.now).forest c.args.d) (state_of c.args.t.now.texts false c.args.s.now c.args.into.now)
+    declared_done c.args.t.now.texts c.args.unsized_may_be c.has_unsized-without_size.result c.args.base.0 (declarator_at c.args.u.now.forest c.args.d) (state_of c.args.t.now.texts false c.args.s.now c.args.into.now)
     c.args.into.now c.steps_of.new.into c.derived_in.new.into c.steps_of.new.s c.in-Some.steps (Some c.in-Some-2.made) c.requires.base
     (there (λ x. Goes c.args.into.now c.steps_of.new.into) c.in-Some.is c.in_ok-steps.ensures.goes) (there (λ x. IsOpen c.steps_of.new.into c.steps_of.new.s) c.in-Some.is c.in_ok-steps.ensures.opened) c.in_ok-made.ensures.goes c.in_ok-made.ensures.whole
     (ap (after_steps c.args.t.now.texts false c.steps_of.new.s c.steps_of.new.into) (sym c.in-Some.is) ∙ c.in_ok-steps.ensures.answer)

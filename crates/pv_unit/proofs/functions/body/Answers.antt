@@ -1,5 +1,4 @@
 use Rattle.std.proofs.Common.{rules, ◌≡◌, ◌<◌, ◌≤◌, List, length, false, Some, None, sym, subst, arith}
-use Rattle.pv_tree.specs.Rows.{tables}
 use Rattle.pv_tree.specs.Lines.{tree_line}
 use Rattle.pv_tree.specs.Syntax.{Block}
 use Rattle.pv_tree.specs.Tables.{tree_at, trees_at, statement_at, is_item, HasList}
@@ -23,7 +22,7 @@ use Rattle.pv_unit.proofs.functions.body.Goals as goal
 
 pub returns-in_default-clause-answer : goal.returns-in_default-clause-answer
 returns-in_default-clause-answer c =
-    let z = statement_at (tables c.args.u.now).forest c.args.block in
+    let z = statement_at c.args.u.now.forest c.args.block in
     let no : is_block z ≡ false = search rules in
     body_none z c.args.t.now.texts c.args.into.now c.args.s.now c.args.outer.now c.args.defined c.args.own no
 
@@ -58,7 +57,7 @@ returns-clause-opened c =
 pub returns-clause-answer : goal.returns-clause-answer
 returns-clause-answer c =
     let texts = c.args.t.now.texts in
-    let f = (tables c.args.u.now).forest in
+    let f = c.args.u.now.forest in
     let a = c.args.into.now in
     let b = c.scoped.new.into in
     let g = c.args.own in
@@ -76,7 +75,7 @@ returns-clause-answer c =
 pub returns-then-not-branch-clause-answer : goal.returns-then-not-branch-clause-answer
 returns-then-not-branch-clause-answer c =
     let texts = c.args.t.now.texts in
-    let f = (tables c.args.u.now).forest in
+    let f = c.args.u.now.forest in
     let a = c.args.into.now in
     let g = c.args.own in
     let d = c.args.defined in

@@ -1,5 +1,4 @@
 use Rattle.std.proofs.Common.{rules, ◌≡◌, ◌∙◌, ap, Some}
-use Rattle.pv_tree.specs.Rows.{tables}
 use Rattle.pv_tree.specs.Tables.{tree_at, declaration_at}
 use Rattle.pv_check.specs.Open.{Goes}
 use Rattle.pv_check.specs.State.{State, and_then}
@@ -11,7 +10,7 @@ use Rattle.pv_unit.proofs.FunctionRows.{external_is}
 use Rattle.pv_unit.proofs.functions.external.Goals as goal
 
 pub declaration-requires-clause-node : goal.declaration-requires-clause-node
-declaration-requires-clause-node c = (c.requires.node.0, external_is (tree_at (tables c.args.u.now).forest c.args.d) c.requires.node.1)
+declaration-requires-clause-node c = (c.requires.node.0, external_is (tree_at c.args.u.now.forest c.args.d) c.requires.node.1)
 
 pub returns-clause-entities : goal.returns-clause-entities
 returns-clause-entities c =
@@ -24,6 +23,6 @@ returns-clause-answer c =
     let texts = c.args.t.now.texts in
     let o = c.declaration.new.outer in
     let u = unit_state texts c.args.s.now c.args.into.now c.args.outer.now in
-    let some : Some (unit_state texts c.declaration.new.s c.declaration.new.into o) ≡ typed_declaration (declaration_at (tables c.args.u.now).forest c.args.d) u = search rules in
+    let some : Some (unit_state texts c.declaration.new.s c.declaration.new.into o) ≡ typed_declaration (declaration_at c.args.u.now.forest c.args.d) u = search rules in
     ap (λ (z : State). Some (record { state = z; entities = o.entities; unsized_typedef = o.unsized_typedef })) (c.in_ok-count.ensures.state texts)
     ∙ ap (λ q. and_then q counted) some

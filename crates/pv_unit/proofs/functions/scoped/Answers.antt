@@ -1,5 +1,4 @@
 use Rattle.std.proofs.Common.{rules, ◌≡◌, ◌∙◌, ◌<◌, ◌+◌, ap, length, false, Some, None, arith}
-use Rattle.pv_tree.specs.Rows.{tables}
 use Rattle.pv_tree.specs.Tables.{trees_at}
 use Rattle.pv_types.specs.Known.{tree}
 use Rattle.pv_check.specs.Open.{state_of}
@@ -35,7 +34,7 @@ returns-clause-moves c =
 pub returns-clause-answer : goal.returns-clause-answer
 returns-clause-answer c =
     let texts = c.args.t.now.texts in
-    let ts = trees_at (tables c.args.u.now).forest c.args.list in
+    let ts = trees_at c.args.u.now.forest c.args.list in
     let a = c.args.into.now in
     let b = c.all_items.new.into in
     let ns = c.all_items.new.items.items in
@@ -48,7 +47,7 @@ returns-clause-answer c =
 pub returns-then-not-branch-clause-answer : goal.returns-then-not-branch-clause-answer
 returns-then-not-branch-clause-answer c =
     let texts = c.args.t.now.texts in
-    let ts = trees_at (tables c.args.u.now).forest c.args.list in
+    let ts = trees_at c.args.u.now.forest c.args.list in
     let a = c.args.into.now in
     let r = body_of (tree a.known c.args.result_type.0) in
     let entered : state_of texts false c.reenter.new.s a ≡ within (scope_shown a.known (raw_of c.args.scope)) (state_of texts false c.args.s.now a) = c.in_ok-reenter.ensures.state texts in

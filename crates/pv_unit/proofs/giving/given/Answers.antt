@@ -1,5 +1,4 @@
 use Rattle.std.proofs.Common.{◌≡◌, ap, false, Some}
-use Rattle.pv_tree.specs.Rows.{tables}
 use Rattle.pv_tree.specs.Tables.{initializer_at}
 use Rattle.pv_types.specs.Known.{tree}
 use Rattle.pv_typed.specs.Tables.{whole}
@@ -27,7 +26,7 @@ returns-clause-answer c =
     let out = c.initialized_object.new.out.items in
     let texts = c.args.t.now.texts in
     let t = tree m0.known c.object.result.t.0 in
-    let i = initializer_at (tables c.args.u.now).forest c.args.i in
+    let i = initializer_at c.args.u.now.forest c.args.i in
     let st = state_of texts false c.args.s.now m0 in
     let typed : given_if texts s1 m1 out (Some c.in-Some.x) ≡ initialized_object values c.args.lasting t i st = rw c.in-Some.is at c.in_ok-x.ensures.typed in
     let same = ap (λ (x : TypedObject). x.t) c.object.ensures.object in

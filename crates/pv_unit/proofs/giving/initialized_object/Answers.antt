@@ -1,5 +1,4 @@
 use Rattle.std.proofs.Common.{rules, ◌≡◌, ◌∙◌, ap, option_map, true, false, Some, None}
-use Rattle.pv_tree.specs.Rows.{tables}
 use Rattle.pv_tree.specs.Tables.{initializer_at}
 use Rattle.pv_types.specs.Known.{completions, env, tree}
 use Rattle.pv_types.specs.Ty.{Ty}
@@ -17,7 +16,7 @@ returns-then-not-can_be_initialized-clause-typed c =
     let m0 = c.args.into.now in
     let texts = c.args.t.now.texts in
     let t = tree m0.known c.args.whole.0 in
-    let i = initializer_at (tables c.args.u.now).forest c.args.i in
+    let i = initializer_at c.args.u.now.forest c.args.i in
     let can : can_be_initialized (env m0.known) t ≡ false = search rules in
     given_refused c.args.lasting texts m0 c.args.s.now t i can
 
@@ -38,7 +37,7 @@ returns-in_default-clause-typed c =
     let m0 = c.args.into.now in
     let texts = c.args.t.now.texts in
     let t = tree m0.known c.args.whole.0 in
-    let i = initializer_at (tables c.args.u.now).forest c.args.i in
+    let i = initializer_at c.args.u.now.forest c.args.i in
     let can : can_be_initialized (env m0.known) t ≡ true = search rules in
     let st = state_of texts false c.args.s.now m0 in
     let none : None ≡ option_map (behind (stores_in m0 c.args.out.now.items)) (initialized values c.args.lasting (whole t) i st) = rw c.in_default.is at c.in_ok-count.ensures.typed in
@@ -49,7 +48,7 @@ sized-requires-clause-can c =
     let m0 = c.args.into.now in
     let texts = c.args.t.now.texts in
     let t = tree m0.known c.args.whole.0 in
-    let i = initializer_at (tables c.args.u.now).forest c.args.i in
+    let i = initializer_at c.args.u.now.forest c.args.i in
     let can : can_be_initialized (env m0.known) t ≡ true = search rules in
     let m1 = c.initializer.new.into in
     let s1 = c.initializer.new.s in
@@ -62,7 +61,7 @@ returns-clause-typed c =
     let m0 = c.args.into.now in
     let texts = c.args.t.now.texts in
     let t = tree m0.known c.args.whole.0 in
-    let i = initializer_at (tables c.args.u.now).forest c.args.i in
+    let i = initializer_at c.args.u.now.forest c.args.i in
     let can : can_be_initialized (env m0.known) t ≡ true = search rules in
     let m1 = c.initializer.new.into in
     let s1 = c.initializer.new.s in

@@ -1,7 +1,6 @@
 use Rattle.std.proofs.Common.{rules, option_map, ◌≡◌, ◌<◌, ◌∙◌, ap, length, get_or, arith, true, false, Some, None}
 use Rattle.pv_tree.specs.declared.nodes.NodeId.{NodeId}
 use Rattle.pv_tree.specs.Lines.{tree_line}
-use Rattle.pv_tree.specs.Rows.{tables}
 use Rattle.pv_tree.specs.Tables.{tree_at, initializer_at, expression_at as expression_of_node, is_initializer}
 use Rattle.pv_types.specs.Known.{completions}
 use Rattle.pv_check.specs.Open.{state_of}
@@ -20,7 +19,7 @@ no_id = record { 0 = 0 }
 
 pub each-returns-in_default-part_at-clause-typed : goal.each-returns-in_default-part_at-clause-typed
 each-returns-in_default-part_at-clause-typed t c =
-    let f = (tables c.args.u.now).forest in
+    let f = c.args.u.now.forest in
     let m0 = c.args.into.now in
     let m = c.loop-n.into in
     let texts = c.args.t.now.texts in
@@ -33,7 +32,7 @@ each-returns-in_default-part_at-clause-typed t c =
 
 pub each-returns-in_default-2-clause-typed : goal.each-returns-in_default-2-clause-typed
 each-returns-in_default-2-clause-typed t c =
-    let f = (tables c.args.u.now).forest in
+    let f = c.args.u.now.forest in
     let m0 = c.args.into.now in
     let m = c.loop-n.into in
     let texts = c.args.t.now.texts in
@@ -48,7 +47,7 @@ each-returns-in_default-2-clause-typed t c =
 
 pub each-loop-n-preserved : goal.each-loop-n-preserved
 each-loop-n-preserved t c =
-    let f = (tables c.args.u.now).forest in
+    let f = c.args.u.now.forest in
     let m0 = c.args.into.now in
     let m = c.loop-n.into in
     let texts = c.args.t.now.texts in
@@ -64,7 +63,7 @@ each-loop-n-preserved t c =
 
 pub initializer-returns-in-Zero-clause-typed : goal.initializer-returns-in-Zero-clause-typed
 initializer-returns-in-Zero-clause-typed t c =
-    let f = (tables c.args.u.now).forest in
+    let f = c.args.u.now.forest in
     let m = c.args.into.now in
     let i = initializer_at f c.args.i in
     let shape : Zero (expression_of_node f c.in-Zero.a) ≡ shape_of (completions m.known) (part_of m.known c.args.part) i = rw c.types.ensures at c.in-Zero.ensures.shape in
@@ -73,7 +72,7 @@ initializer-returns-in-Zero-clause-typed t c =
 
 pub initializer-returns-in-Each-clause-typed : goal.initializer-returns-in-Each-clause-typed
 initializer-returns-in-Each-clause-typed t c =
-    let f = (tables c.args.u.now).forest in
+    let f = c.args.u.now.forest in
     let m = c.args.into.now in
     let i = initializer_at f c.args.i in
     let shape : Each ≡ shape_of (completions m.known) (part_of m.known c.args.part) i = rw c.types.ensures at c.in-Each.ensures.shape in

@@ -1,5 +1,4 @@
 use Rattle.std.proofs.Common.{◌*◌, ◌+◌}
-use Rattle.pv_tree.specs.Rows.{tables}
 use Rattle.pv_unit.specs.Stores.{stores_in}
 use Rattle.pv_unit.proofs.Each.{Going}
 use Rattle.pv_unit.proofs.initializers.+initializing.Given as goal
@@ -12,4 +11,4 @@ decreases-each l = 2 * l.i.0
 
 abbrev pub invariant-each-loop-n : goal.invariant-each-loop-n
 invariant-each-loop-n l =
-    Going l.lasting l.t.texts l.fn.into l.fn.s l.part (tables l.u).forest l.list (stores_in l.fn.into l.fn.out.items) l.n-index l.into l.s l.out.items l.count
+    Going l.lasting l.t.texts l.fn.into l.fn.s l.part l.u.forest l.list (stores_in l.fn.into l.fn.out.items) l.n-index l.into l.s l.out.items l.count

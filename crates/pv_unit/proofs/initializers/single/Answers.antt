@@ -1,5 +1,4 @@
 use Rattle.std.proofs.Common.{rules, ◌≡◌, ◌<◌, ◌∙◌, IfSome, length, true, false, Some, None}
-use Rattle.pv_tree.specs.Rows.{tables}
 use Rattle.pv_tree.specs.Tables.{expression_at as expression_of_node, tree_at}
 use Rattle.pv_types.specs.Known.{tree}
 use Rattle.pv_layout.specs.Places.{bare}
@@ -21,7 +20,7 @@ pub returns-in_default-clause-typed : goal.returns-in_default-clause-typed
 returns-in_default-clause-typed c =
     let m0 = c.args.into.now in
     let m1 = c.operand.new.into in
-    let f = (tables c.args.u.now).forest in
+    let f = c.args.u.now.forest in
     let a = expression_of_node f c.args.a in
     let st = state_of c.args.t.now.texts false c.args.s.now m0 in
     let none : None ≡ operand (types a st) = rw c.in_default.is at c.in_ok-value.ensures.typed in
@@ -31,7 +30,7 @@ pub returns-in_default-2-clause-typed : goal.returns-in_default-2-clause-typed
 returns-in_default-2-clause-typed c =
     let m0 = c.args.into.now in
     let m1 = c.operand.new.into in
-    let f = (tables c.args.u.now).forest in
+    let f = c.args.u.now.forest in
     let a = expression_of_node f c.args.a in
     let bared : tree m1.known c.bare-target.result.0 ≡ bare (tree m1.known c.args.part.t.0) = rw c.types.ensures at c.bare-target.ensures.tree in
     let typed : after_node c.args.t.now.texts false c.operand.new.s m1 (Some c.in-Some.value) ≡ operand (types a (state_of c.args.t.now.texts false c.args.s.now m0)) = rw c.in-Some.is at c.in_ok-value.ensures.typed in
@@ -43,7 +42,7 @@ pub returns-then-not-allowed-clause-typed : goal.returns-then-not-allowed-clause
 returns-then-not-allowed-clause-typed c =
     let m0 = c.args.into.now in
     let m1 = c.operand.new.into in
-    let f = (tables c.args.u.now).forest in
+    let f = c.args.u.now.forest in
     let a = expression_of_node f c.args.a in
     let bared : tree m1.known c.bare-target.result.0 ≡ bare (tree m1.known c.args.part.t.0) = rw c.types.ensures at c.bare-target.ensures.tree in
     let typed : after_node c.args.t.now.texts false c.operand.new.s m1 (Some c.in-Some.value) ≡ operand (types a (state_of c.args.t.now.texts false c.args.s.now m0)) = rw c.in-Some.is at c.in_ok-value.ensures.typed in
@@ -58,7 +57,7 @@ pub returns-clause-typed : goal.returns-clause-typed
 returns-clause-typed c =
     let m0 = c.args.into.now in
     let m1 = c.operand.new.into in
-    let f = (tables c.args.u.now).forest in
+    let f = c.args.u.now.forest in
     let a = expression_of_node f c.args.a in
     let bared : tree m1.known c.bare-target.result.0 ≡ bare (tree m1.known c.args.part.t.0) = rw c.types.ensures at c.bare-target.ensures.tree in
     let typed : after_node c.args.t.now.texts false c.operand.new.s m1 (Some c.in-Some.value) ≡ operand (types a (state_of c.args.t.now.texts false c.args.s.now m0)) = rw c.in-Some.is at c.in_ok-value.ensures.typed in
@@ -77,7 +76,7 @@ pub returns-clause-fills : goal.returns-clause-fills
 returns-clause-fills c =
     let m0 = c.args.into.now in
     let m1 = c.operand.new.into in
-    let f = (tables c.args.u.now).forest in
+    let f = c.args.u.now.forest in
     let a = expression_of_node f c.args.a in
     let bared : tree m1.known c.bare-target.result.0 ≡ bare (tree m1.known c.args.part.t.0) = rw c.types.ensures at c.bare-target.ensures.tree in
     let typed : after_node c.args.t.now.texts false c.operand.new.s m1 (Some c.in-Some.value) ≡ operand (types a (state_of c.args.t.now.texts false c.args.s.now m0)) = rw c.in-Some.is at c.in_ok-value.ensures.typed in

@@ -1,6 +1,5 @@
 use Rattle.std.proofs.Common.{rules, ◌≡◌, ◌∙◌, ◌<◌, ap, length, get_or, arith, true, false, None}
 use Rattle.pv_tree.specs.declared.nodes.NodeId.{NodeId}
-use Rattle.pv_tree.specs.Rows.{tables}
 use Rattle.pv_tree.specs.Tables.{tree_at, trees_of, statement_at, is_statement}
 use Rattle.pv_check.specs.Open.{state_of}
 use Rattle.pv_check.specs.State.{and_then}
@@ -15,11 +14,11 @@ no_id = record { 0 = 0 }
 
 pub loop-node-init : goal.loop-node-init
 loop-node-init c =
-    (along_start c.args.t.now.texts c.args.kind (tables c.args.u.now).forest c.list-nodes.result.now c.args.s.now c.args.into.now c.args.labels.now.all.items c.requires.opened, c.requires.same)
+    (along_start c.args.t.now.texts c.args.kind c.args.u.now.forest c.list-nodes.result.now c.args.s.now c.args.into.now c.args.labels.now.all.items c.requires.opened, c.requires.same)
 
 pub returns-then-not-branch-clause-typed : goal.returns-then-not-branch-clause-typed
 returns-then-not-branch-clause-typed c =
-    let f = (tables c.args.u.now).forest in
+    let f = c.args.u.now.forest in
     let texts = c.args.t.now.texts in
     let ns = c.list-nodes.result.now in
     let lt : c.loop-node.node-index < length ns = omega arith in
@@ -30,7 +29,7 @@ returns-then-not-branch-clause-typed c =
 
 pub loop-node-preserved : goal.loop-node-preserved
 loop-node-preserved c =
-    let f = (tables c.args.u.now).forest in
+    let f = c.args.u.now.forest in
     let texts = c.args.t.now.texts in
     let ns = c.list-nodes.result.now in
     let lt : c.loop-node.node-index < length ns = omega arith in
@@ -44,7 +43,7 @@ loop-node-preserved c =
 
 pub returns-clause-typed : goal.returns-clause-typed
 returns-clause-typed c =
-    let f = (tables c.args.u.now).forest in
+    let f = c.args.u.now.forest in
     let texts = c.args.t.now.texts in
     along_done texts c.args.kind f c.list-nodes.result.now (labels_of c.args.labels.now.all.items) c.args.s.now c.loop-node.s c.args.into.now c.loop-node.into c.loop-node.node-index c.loop-node.labels.all.items c.loop-node.invariant.0 (omega arith)
     ∙ ap (λ xs. behind_labels (labels_of c.args.labels.now.all.items) (typed_labels c.args.kind (labels_of c.args.labels.now.all.items) (trees_of f xs) (state_of texts false c.args.s.now c.args.into.now))) c.list-nodes.ensures

@@ -1,9 +1,13 @@
 use Rattle.std.proofs.Common.{◌∙◌, ap}
+use Rattle.pv_types.specs.Adjusted.{are_adjusted}
 use Rattle.pv_types.specs.Known.{trees, tys_in}
 use Rattle.pv_check.proofs.Growth.{then_grows}
-use Rattle.pv_unit.proofs.ListedTypes.{tys_stay}
+use Rattle.pv_unit.proofs.ListedTypes.{simple_adjusted, tys_stay}
 use Rattle.pv_unit.proofs.MainRows.{grows_lists}
 use Rattle.pv_unit.proofs.library_types.parameters.Goals as goal
+
+pub params-requires-clause-adjusted : goal.params-requires-clause-adjusted
+params-requires-clause-adjusted c = ap are_adjusted c.in_ok-list.ensures.trees ∙ simple_adjusted c.args.xs.now
 
 pub returns-clause-parameters : goal.returns-clause-parameters
 returns-clause-parameters c =

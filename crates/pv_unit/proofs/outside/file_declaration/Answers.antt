@@ -2,7 +2,6 @@ use Rattle.std.proofs.Common.{List, ◌≡◌, ◌<◌, IfOk, Option, length, sy
 use Rattle.pv_tree.specs.declared.nodes.NodeId.{NodeId}
 use Rattle.pv_tree.specs.Lines.{tree_line}
 use Rattle.pv_tree.specs.Syntax.{Declaration}
-use Rattle.pv_tree.specs.Rows.{tables}
 use Rattle.pv_tree.specs.Tables.{tree_at, trees_at, list_at, declaration_at, as_declaration}
 use Rattle.pv_unit.specs.Entities.{UnitState}
 use Rattle.pv_unit.specs.Declarations.{file_declaration}
@@ -12,7 +11,7 @@ use Rattle.pv_unit.proofs.outside.file_declaration.Goals as goal
 
 pub returns-then-declarators-gt0-clause-answer : goal.returns-then-declarators-gt0-clause-answer
 returns-then-declarators-gt0-clause-answer c =
-    let f = (tables c.args.u.now).forest in
+    let f = c.args.u.now.forest in
     let line = tree_line (tree_at f c.args.n) in
     let u = unit_state c.args.t.now.texts c.args.s.now c.args.into.now c.args.outer.now in
     let some : 0 < length (list_at f c.in-Declaration.declared) = subst (λ (xs : List NodeId). 0 < length xs) c.list-declarators.ensures c.if-declarators-gt0.true in

@@ -1,6 +1,5 @@
 use Rattle.std.proofs.Common.{rules, ◌≡◌, ◌∙◌, ◌<◌, ap, length, get_or, arith, true, false}
 use Rattle.pv_tree.specs.declared.nodes.NodeId.{NodeId}
-use Rattle.pv_tree.specs.Rows.{tables}
 use Rattle.pv_tree.specs.Tables.{tree_at, trees_of}
 use Rattle.pv_check.specs.Open.{IsOpen, Goes}
 use Rattle.pv_unit.specs.Declarations.{file_declarators, file_init_declarator}
@@ -15,7 +14,7 @@ no_id = record { 0 = 0 }
 
 pub loop-n-preserved : goal.loop-n-preserved
 loop-n-preserved c =
-    let f = (tables c.args.u.now).forest in
+    let f = c.args.u.now.forest in
     let ns = c.list-nodes.result.now in
     let lt : c.loop-n.n-index < length ns = omega arith in
     let held : unit_if c.args.t.now.texts c.file_init_declarator.new.s c.file_init_declarator.new.into c.file_init_declarator.new.outer true ≡ file_init_declarator (specified_in c.loop-n.into.known c.args.x) (tree_at f (get_or ns c.loop-n.n-index no_id)) (unit_state c.args.t.now.texts c.loop-n.s c.loop-n.into c.loop-n.outer) = search rules in
@@ -29,7 +28,7 @@ loop-n-preserved c =
 
 pub returns-then-not-branch-clause-answer : goal.returns-then-not-branch-clause-answer
 returns-then-not-branch-clause-answer c =
-    let f = (tables c.args.u.now).forest in
+    let f = c.args.u.now.forest in
     let ns = c.list-nodes.result.now in
     let lt : c.loop-n.n-index < length ns = omega arith in
     let held : unit_if c.args.t.now.texts c.file_init_declarator.new.s c.file_init_declarator.new.into c.file_init_declarator.new.outer false ≡ file_init_declarator (specified_in c.loop-n.into.known c.args.x) (tree_at f (get_or ns c.loop-n.n-index no_id)) (unit_state c.args.t.now.texts c.loop-n.s c.loop-n.into c.loop-n.outer) = search rules in

@@ -1,6 +1,5 @@
 use Rattle.std.proofs.Common.{rules, ◌≡◌, true, false}
 use Rattle.pv_tree.specs.Lines.{tree_line}
-use Rattle.pv_tree.specs.Rows.{tables}
 use Rattle.pv_tree.specs.Tables.{tree_at, statement_at as statement_of}
 use Rattle.pv_typed.specs.Tables.{statement_at}
 use Rattle.pv_typed.specs.TypedStatement as typed
@@ -13,7 +12,7 @@ use Rattle.pv_unit.proofs.plain.continue_statement.Goals as goal
 pub returns-in_ok-made-clause-typed : goal.returns-in_ok-made-clause-typed
 returns-in_ok-made-clause-typed c =
     let texts = c.args.t.now.texts in
-    let f = (tables c.args.u.now).forest in
+    let f = c.args.u.now.forest in
     let a = c.args.into.now in
     let line = tree_line (tree_at f c.args.n) in
     let may : c.args.w.continues ≡ true = search rules in

@@ -1,6 +1,5 @@
 use Rattle.std.proofs.Common.{rules, ◌≡◌, ◌∙◌, ap, sym, Some, false}
 use Rattle.pv_tree.specs.Lines.{tree_line}
-use Rattle.pv_tree.specs.Rows.{tables}
 use Rattle.pv_tree.specs.Tables.{tree_at, optional_at}
 use Rattle.pv_typed.specs.Tables.{statement_at}
 use Rattle.pv_check.specs.Open.{state_of}
@@ -19,7 +18,7 @@ returns-clause-moves c =
 pub returns-clause-typed : goal.returns-clause-typed
 returns-clause-typed c =
     let texts = c.args.t.now.texts in
-    let f = (tables c.args.u.now).forest in
+    let f = c.args.u.now.forest in
     let b = c.optional_value.new.into in
     let s = c.optional_value.new.s in
     let line = tree_line (tree_at f c.args.n) in

@@ -1,5 +1,4 @@
 use Rattle.std.proofs.Common.{rules, ◌≡◌, ◌∙◌, ap, Some, false}
-use Rattle.pv_tree.specs.Rows.{tables}
 use Rattle.pv_tree.specs.Tables.{declaration_at}
 use Rattle.pv_check.specs.Open.{state_of}
 use Rattle.pv_check.specs.State.{and_then}
@@ -15,7 +14,7 @@ returns-clause-typed c =
     let a = c.args.into.now in
     let m = c.add_declaration.new.into in
     let s = c.add_declaration.new.s in
-    let o = block_declaration (declaration_at (tables c.args.u.now).forest c.args.d) (state_of texts false c.args.s.now a) in
-    let held : Some (items_in texts s m c.add_declaration.new.items.items) ≡ and_then (block_declaration (declaration_at (tables c.args.u.now).forest c.args.d) (state_of texts false c.args.s.now a)) (with_reached (statements_in a c.args.items.now.items)) = search rules in
+    let o = block_declaration (declaration_at c.args.u.now.forest c.args.d) (state_of texts false c.args.s.now a) in
+    let held : Some (items_in texts s m c.add_declaration.new.items.items) ≡ and_then (block_declaration (declaration_at c.args.u.now.forest c.args.d) (state_of texts false c.args.s.now a)) (with_reached (statements_in a c.args.items.now.items)) = search rules in
     first_is texts s m c.add_declaration.new.items.items c.automatic_alone.result o
     (held ∙ ap (λ xs. and_then o (with_reached (statements_in a xs))) c.requires.none) (c.automatic_alone.ensures texts)

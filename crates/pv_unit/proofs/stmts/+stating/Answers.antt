@@ -2,7 +2,6 @@ mod Loops
 use Rattle.std.proofs.Common.{rules, ◌≡◌, ◌<◌, true, false, Some, None, length, get_or, drop, sym, ap, ◌∙◌, arith}
 use Rattle.pv_tree.specs.declared.nodes.NodeId.{NodeId}
 use Rattle.pv_tree.specs.Lines.{tree_line}
-use Rattle.pv_tree.specs.Rows.{tables}
 use Rattle.pv_tree.specs.Tables.{tree_at, trees_of, trees_at, expression_at as expression_of, statement_at as statement_of, is_declaration, is_expression, is_item, as_statement}
 use Rattle.pv_typed.specs.Tables.{expression_at, statement_at, IsExpression, IsStatement}
 use Rattle.pv_typed.specs.TypedStatement as typed
@@ -29,7 +28,7 @@ no_id = record { 0 = 0 }
 pub inner-returns-in_default-clause-typed : goal.inner-returns-in_default-clause-typed
 inner-returns-in_default-clause-typed t c =
     let texts = c.args.t.now.texts in
-    let f = (tables c.args.u.now).forest in
+    let f = c.args.u.now.forest in
     let w0 = around_in c.args.into.now.known c.args.w in
     let z0 = state_of texts false c.args.s.now c.args.into.now in
     let held : None ≡ typed_statement w0 (statement_of f c.args.n) (state_of texts false c.enter.new.s c.args.into.now) = search rules in
@@ -48,7 +47,7 @@ inner-returns-clause-moves t c =
 pub inner-returns-clause-typed : goal.inner-returns-clause-typed
 inner-returns-clause-typed t c =
     let texts = c.args.t.now.texts in
-    let f = (tables c.args.u.now).forest in
+    let f = c.args.u.now.forest in
     let w0 = around_in c.args.into.now.known c.args.w in
     let z0 = state_of texts false c.args.s.now c.args.into.now in
     let held : Some (stated texts c.statement.new.s c.statement.new.into c.in-Some.made) ≡ typed_statement w0 (statement_of f c.args.n) (state_of texts false c.enter.new.s c.args.into.now) = search rules in
@@ -57,7 +56,7 @@ inner-returns-clause-typed t c =
 pub in_scope-returns-in_default-clause-typed : goal.in_scope-returns-in_default-clause-typed
 in_scope-returns-in_default-clause-typed t c =
     let texts = c.args.t.now.texts in
-    let f = (tables c.args.u.now).forest in
+    let f = c.args.u.now.forest in
     let w0 = around_in c.args.into.now.known c.args.w in
     let z0 = state_of texts false c.args.s.now c.args.into.now in
     let held : None ≡ scoped w0 (statement_of f c.args.n) (state_of texts false c.enter.new.s c.args.into.now) = search rules in
@@ -76,7 +75,7 @@ in_scope-returns-clause-moves t c =
 pub in_scope-returns-clause-typed : goal.in_scope-returns-clause-typed
 in_scope-returns-clause-typed t c =
     let texts = c.args.t.now.texts in
-    let f = (tables c.args.u.now).forest in
+    let f = c.args.u.now.forest in
     let w0 = around_in c.args.into.now.known c.args.w in
     let z0 = state_of texts false c.args.s.now c.args.into.now in
     let held : Some (stated texts c.scoped.new.s c.scoped.new.into c.in-Some.made) ≡ scoped w0 (statement_of f c.args.n) (state_of texts false c.enter.new.s c.args.into.now) = search rules in
@@ -85,7 +84,7 @@ in_scope-returns-clause-typed t c =
 pub switch_block-returns-in_default-clause-typed : goal.switch_block-returns-in_default-clause-typed
 switch_block-returns-in_default-clause-typed t c =
     let texts = c.args.t.now.texts in
-    let f = (tables c.args.u.now).forest in
+    let f = c.args.u.now.forest in
     let w0 = around_in c.args.into.now.known c.args.w in
     let z0 = state_of texts false c.args.s.now c.args.into.now in
     let held : None ≡ switch_body w0 c.args.kind (statement_of f c.args.n) (state_of texts false c.enter.new.s c.args.into.now) = search rules in
@@ -104,7 +103,7 @@ switch_block-returns-clause-moves t c =
 pub switch_block-returns-clause-typed : goal.switch_block-returns-clause-typed
 switch_block-returns-clause-typed t c =
     let texts = c.args.t.now.texts in
-    let f = (tables c.args.u.now).forest in
+    let f = c.args.u.now.forest in
     let w0 = around_in c.args.into.now.known c.args.w in
     let z0 = state_of texts false c.args.s.now c.args.into.now in
     let held : Some (stated texts c.switch_body.new.s c.switch_body.new.into c.in-Some.made) ≡ switch_body w0 c.args.kind (statement_of f c.args.n) (state_of texts false c.enter.new.s c.args.into.now) = search rules in
@@ -113,7 +112,7 @@ switch_block-returns-clause-typed t c =
 pub if_statement-returns-in_default-clause-typed : goal.if_statement-returns-in_default-clause-typed
 if_statement-returns-in_default-clause-typed t c =
     let texts = c.args.t.now.texts in
-    let f = (tables c.args.u.now).forest in
+    let f = c.args.u.now.forest in
     let w0 = around_in c.args.into.now.known c.args.w in
     let z0 = state_of texts false c.args.s.now c.args.into.now in
     let line = tree_line (tree_at f c.args.n) in
@@ -123,7 +122,7 @@ if_statement-returns-in_default-clause-typed t c =
 pub if_statement-returns-in_default-2-clause-typed : goal.if_statement-returns-in_default-2-clause-typed
 if_statement-returns-in_default-2-clause-typed t c =
     let texts = c.args.t.now.texts in
-    let f = (tables c.args.u.now).forest in
+    let f = c.args.u.now.forest in
     let w0 = around_in c.args.into.now.known c.args.w in
     let z0 = state_of texts false c.args.s.now c.args.into.now in
     let line = tree_line (tree_at f c.args.n) in
@@ -149,7 +148,7 @@ if_statement-returns-clause-moves t c =
 pub if_statement-returns-clause-typed : goal.if_statement-returns-clause-typed
 if_statement-returns-clause-typed t c =
     let texts = c.args.t.now.texts in
-    let f = (tables c.args.u.now).forest in
+    let f = c.args.u.now.forest in
     let w0 = around_in c.args.into.now.known c.args.w in
     let z0 = state_of texts false c.args.s.now c.args.into.now in
     let line = tree_line (tree_at f c.args.n) in
@@ -260,7 +259,7 @@ for_declaration-returns-clause-typed = loops.for_declaration-returns-clause-type
 pub block_statement-returns-then-not-branch-clause-typed : goal.block_statement-returns-then-not-branch-clause-typed
 block_statement-returns-then-not-branch-clause-typed t c =
     let texts = c.args.t.now.texts in
-    let f = (tables c.args.u.now).forest in
+    let f = c.args.u.now.forest in
     let w0 = around_in c.args.into.now.known c.args.w in
     let z0 = state_of texts false c.args.s.now c.args.into.now in
     let line = tree_line (tree_at f c.args.n) in
@@ -275,7 +274,7 @@ block_statement-returns-clause-moves t c =
 pub block_statement-returns-clause-typed : goal.block_statement-returns-clause-typed
 block_statement-returns-clause-typed t c =
     let texts = c.args.t.now.texts in
-    let f = (tables c.args.u.now).forest in
+    let f = c.args.u.now.forest in
     let w0 = around_in c.args.into.now.known c.args.w in
     let z0 = state_of texts false c.args.s.now c.args.into.now in
     let line = tree_line (tree_at f c.args.n) in
@@ -286,7 +285,7 @@ block_statement-returns-clause-typed t c =
 pub switch_body-returns-in_default-clause-typed : goal.switch_body-returns-in_default-clause-typed
 switch_body-returns-in_default-clause-typed t c =
     let texts = c.args.t.now.texts in
-    let f = (tables c.args.u.now).forest in
+    let f = c.args.u.now.forest in
     let w0 = around_in c.args.into.now.known c.args.w in
     let z0 = state_of texts false c.args.s.now c.args.into.now in
     let none : is_switch_block (statement_of f c.args.n) ≡ false = search rules in
@@ -295,7 +294,7 @@ switch_body-returns-in_default-clause-typed t c =
 pub switch_body-returns-then-not-branch-clause-typed : goal.switch_body-returns-then-not-branch-clause-typed
 switch_body-returns-then-not-branch-clause-typed t c =
     let texts = c.args.t.now.texts in
-    let f = (tables c.args.u.now).forest in
+    let f = c.args.u.now.forest in
     let w0 = around_in c.args.into.now.known c.args.w in
     let z0 = state_of texts false c.args.s.now c.args.into.now in
     let line = tree_line (tree_at f c.args.n) in
@@ -310,7 +309,7 @@ switch_body-returns-clause-moves t c =
 pub switch_body-returns-clause-typed : goal.switch_body-returns-clause-typed
 switch_body-returns-clause-typed t c =
     let texts = c.args.t.now.texts in
-    let f = (tables c.args.u.now).forest in
+    let f = c.args.u.now.forest in
     let w0 = around_in c.args.into.now.known c.args.w in
     let z0 = state_of texts false c.args.s.now c.args.into.now in
     let line = tree_line (tree_at f c.args.n) in
@@ -321,7 +320,7 @@ switch_body-returns-clause-typed t c =
 pub switch_statement-returns-in_default-clause-typed : goal.switch_statement-returns-in_default-clause-typed
 switch_statement-returns-in_default-clause-typed t c =
     let texts = c.args.t.now.texts in
-    let f = (tables c.args.u.now).forest in
+    let f = c.args.u.now.forest in
     let w0 = around_in c.args.into.now.known c.args.w in
     let z0 = state_of texts false c.args.s.now c.args.into.now in
     let line = tree_line (tree_at f c.args.n) in
@@ -331,7 +330,7 @@ switch_statement-returns-in_default-clause-typed t c =
 pub switch_statement-returns-in_default-2-clause-typed : goal.switch_statement-returns-in_default-2-clause-typed
 switch_statement-returns-in_default-2-clause-typed t c =
     let texts = c.args.t.now.texts in
-    let f = (tables c.args.u.now).forest in
+    let f = c.args.u.now.forest in
     let w0 = around_in c.args.into.now.known c.args.w in
     let z0 = state_of texts false c.args.s.now c.args.into.now in
     let line = tree_line (tree_at f c.args.n) in
@@ -357,7 +356,7 @@ switch_statement-returns-clause-moves t c =
 pub switch_statement-returns-clause-typed : goal.switch_statement-returns-clause-typed
 switch_statement-returns-clause-typed t c =
     let texts = c.args.t.now.texts in
-    let f = (tables c.args.u.now).forest in
+    let f = c.args.u.now.forest in
     let w0 = around_in c.args.into.now.known c.args.w in
     let z0 = state_of texts false c.args.s.now c.args.into.now in
     let line = tree_line (tree_at f c.args.n) in
@@ -372,7 +371,7 @@ switch_statement-returns-clause-typed t c =
 pub item-returns-then-is_declaration-clause-typed : goal.item-returns-then-is_declaration-clause-typed
 item-returns-then-is_declaration-clause-typed t c =
     let texts = c.args.t.now.texts in
-    let f = (tables c.args.u.now).forest in
+    let f = c.args.u.now.forest in
     let w0 = around_in c.args.into.now.known c.args.w in
     let z0 = state_of texts false c.args.s.now c.args.into.now in
     let kind : is_declaration (tree_at f c.args.n) ≡ true = search rules in
@@ -381,7 +380,7 @@ item-returns-then-is_declaration-clause-typed t c =
 pub item-returns-in_default-clause-typed : goal.item-returns-in_default-clause-typed
 item-returns-in_default-clause-typed t c =
     let texts = c.args.t.now.texts in
-    let f = (tables c.args.u.now).forest in
+    let f = c.args.u.now.forest in
     let w0 = around_in c.args.into.now.known c.args.w in
     let z0 = state_of texts false c.args.s.now c.args.into.now in
     let other : is_declaration (tree_at f c.args.n) ≡ false = search rules in
@@ -397,7 +396,7 @@ item-returns-clause-there t c =
 pub item-returns-clause-typed : goal.item-returns-clause-typed
 item-returns-clause-typed t c =
     let texts = c.args.t.now.texts in
-    let f = (tables c.args.u.now).forest in
+    let f = c.args.u.now.forest in
     let w0 = around_in c.args.into.now.known c.args.w in
     let z0 = state_of texts false c.args.s.now c.args.into.now in
     let g : Moves c.args.into.now c.args.s.now c.statement.new.into c.statement.new.s = search rules in
@@ -407,12 +406,12 @@ item-returns-clause-typed t c =
 
 pub all_items-loop-node-init : goal.all_items-loop-node-init
 all_items-loop-node-init t c =
-    items.along_start c.args.t.now.texts c.args.w (tables c.args.u.now).forest c.list-nodes.result.now c.args.s.now c.args.into.now c.args.items.now.items c.requires.opened c.requires.empty
+    items.along_start c.args.t.now.texts c.args.w c.args.u.now.forest c.list-nodes.result.now c.args.s.now c.args.into.now c.args.items.now.items c.requires.opened c.requires.empty
 
 pub all_items-loop-node-preserved : goal.all_items-loop-node-preserved
 all_items-loop-node-preserved t c =
     let texts = c.args.t.now.texts in
-    let f = (tables c.args.u.now).forest in
+    let f = c.args.u.now.forest in
     let w0 = around_in c.args.into.now.known c.args.w in
     let z0 = state_of texts false c.args.s.now c.args.into.now in
     let ns = c.list-nodes.result.now in
@@ -425,7 +424,7 @@ all_items-loop-node-preserved t c =
 pub all_items-returns-then-not-branch-clause-typed : goal.all_items-returns-then-not-branch-clause-typed
 all_items-returns-then-not-branch-clause-typed t c =
     let texts = c.args.t.now.texts in
-    let f = (tables c.args.u.now).forest in
+    let f = c.args.u.now.forest in
     let w0 = around_in c.args.into.now.known c.args.w in
     let z0 = state_of texts false c.args.s.now c.args.into.now in
     let ns = c.list-nodes.result.now in
@@ -437,7 +436,7 @@ all_items-returns-then-not-branch-clause-typed t c =
 pub all_items-returns-clause-typed : goal.all_items-returns-clause-typed
 all_items-returns-clause-typed t c =
     let texts = c.args.t.now.texts in
-    let f = (tables c.args.u.now).forest in
+    let f = c.args.u.now.forest in
     let w0 = around_in c.args.into.now.known c.args.w in
     let z0 = state_of texts false c.args.s.now c.args.into.now in
     items.along_done texts c.args.w f c.list-nodes.result.now c.args.s.now c.loop-node.s c.args.into.now c.loop-node.into c.loop-node.node-index c.loop-node.items.items c.loop-node.invariant (omega arith)
@@ -446,7 +445,7 @@ all_items-returns-clause-typed t c =
 pub under_labels-returns-then-not-branch-clause-typed : goal.under_labels-returns-then-not-branch-clause-typed
 under_labels-returns-then-not-branch-clause-typed t c =
     let texts = c.args.t.now.texts in
-    let f = (tables c.args.u.now).forest in
+    let f = c.args.u.now.forest in
     let w0 = around_in c.args.into.now.known c.args.w in
     let z0 = state_of texts false c.args.s.now c.args.into.now in
     let held : None ≡ behind_labels (labels_of c.args.labels.now.all.items) (typed_labels c.args.kind (labels_of c.args.labels.now.all.items) (trees_at f c.args.list) z0) = search rules in
@@ -455,7 +454,7 @@ under_labels-returns-then-not-branch-clause-typed t c =
 pub under_labels-returns-in_default-clause-typed : goal.under_labels-returns-in_default-clause-typed
 under_labels-returns-in_default-clause-typed t c =
     let texts = c.args.t.now.texts in
-    let f = (tables c.args.u.now).forest in
+    let f = c.args.u.now.forest in
     let w0 = around_in c.args.into.now.known c.args.w in
     let z0 = state_of texts false c.args.s.now c.args.into.now in
     let g : Moves c.args.into.now c.args.s.now c.all_labels.new.into c.all_labels.new.s = search rules in
@@ -466,7 +465,7 @@ under_labels-returns-in_default-clause-typed t c =
 pub under_labels-under-requires-clause-place : goal.under_labels-under-requires-clause-place
 under_labels-under-requires-clause-place t c =
     let texts = c.args.t.now.texts in
-    let f = (tables c.args.u.now).forest in
+    let f = c.args.u.now.forest in
     let w0 = around_in c.args.into.now.known c.args.w in
     let z0 = state_of texts false c.args.s.now c.args.into.now in
     let first : labels_if texts c.all_labels.new.s c.all_labels.new.into c.all_labels.new.labels.all.items true ≡ behind_labels (labels_of c.args.labels.now.all.items) (typed_labels c.args.kind (labels_of c.args.labels.now.all.items) (trees_at f c.args.list) z0) = search rules in
@@ -483,7 +482,7 @@ under_labels-returns-clause-moves t c =
 pub under_labels-returns-clause-typed : goal.under_labels-returns-clause-typed
 under_labels-returns-clause-typed t c =
     let texts = c.args.t.now.texts in
-    let f = (tables c.args.u.now).forest in
+    let f = c.args.u.now.forest in
     let w0 = around_in c.args.into.now.known c.args.w in
     let z0 = state_of texts false c.args.s.now c.args.into.now in
     let g : Moves c.args.into.now c.args.s.now c.all_labels.new.into c.all_labels.new.s = search rules in
@@ -497,7 +496,7 @@ under_labels-returns-clause-typed t c =
 pub labelled-returns-in_ok-made-in-None-clause-typed : goal.labelled-returns-in_ok-made-in-None-clause-typed
 labelled-returns-in_ok-made-in-None-clause-typed t c =
     let texts = c.args.t.now.texts in
-    let f = (tables c.args.u.now).forest in
+    let f = c.args.u.now.forest in
     let w0 = around_in c.args.into.now.known c.args.w in
     let z0 = state_of texts false c.args.s.now c.args.into.now in
     let none : is_labelled (statement_of f c.args.n) ≡ false = search rules in
@@ -506,7 +505,7 @@ labelled-returns-in_ok-made-in-None-clause-typed t c =
 pub switch_item-returns-then-is_declaration-clause-typed : goal.switch_item-returns-then-is_declaration-clause-typed
 switch_item-returns-then-is_declaration-clause-typed t c =
     let texts = c.args.t.now.texts in
-    let f = (tables c.args.u.now).forest in
+    let f = c.args.u.now.forest in
     let w0 = around_in c.args.into.now.known c.args.w in
     let z0 = state_of texts false c.args.s.now c.args.into.now in
     let kind : is_declaration (tree_at f c.args.n) ≡ true = search rules in
@@ -515,7 +514,7 @@ switch_item-returns-then-is_declaration-clause-typed t c =
 pub switch_item-returns-in_default-clause-typed : goal.switch_item-returns-in_default-clause-typed
 switch_item-returns-in_default-clause-typed t c =
     let texts = c.args.t.now.texts in
-    let f = (tables c.args.u.now).forest in
+    let f = c.args.u.now.forest in
     let w0 = around_in c.args.into.now.known c.args.w in
     let z0 = state_of texts false c.args.s.now c.args.into.now in
     let other : is_declaration (tree_at f c.args.n) ≡ false = search rules in
@@ -531,7 +530,7 @@ switch_item-returns-clause-there t c =
 pub switch_item-returns-clause-typed : goal.switch_item-returns-clause-typed
 switch_item-returns-clause-typed t c =
     let texts = c.args.t.now.texts in
-    let f = (tables c.args.u.now).forest in
+    let f = c.args.u.now.forest in
     let w0 = around_in c.args.into.now.known c.args.w in
     let z0 = state_of texts false c.args.s.now c.args.into.now in
     let g : Moves c.args.into.now c.args.s.now c.labelled.new.into c.labelled.new.s = search rules in
@@ -541,12 +540,12 @@ switch_item-returns-clause-typed t c =
 
 pub switch_items-loop-node-init : goal.switch_items-loop-node-init
 switch_items-loop-node-init t c =
-    switches.along_start c.args.t.now.texts c.args.w c.args.kind (tables c.args.u.now).forest c.list-nodes.result.now c.args.s.now c.args.into.now c.args.items.now.items c.args.labels.now c.requires.opened c.requires.empty c.requires.none c.requires.same
+    switches.along_start c.args.t.now.texts c.args.w c.args.kind c.args.u.now.forest c.list-nodes.result.now c.args.s.now c.args.into.now c.args.items.now.items c.args.labels.now c.requires.opened c.requires.empty c.requires.none c.requires.same
 
 pub switch_items-loop-node-preserved : goal.switch_items-loop-node-preserved
 switch_items-loop-node-preserved t c =
     let texts = c.args.t.now.texts in
-    let f = (tables c.args.u.now).forest in
+    let f = c.args.u.now.forest in
     let w0 = around_in c.args.into.now.known c.args.w in
     let z0 = state_of texts false c.args.s.now c.args.into.now in
     let ns = c.list-nodes.result.now in
@@ -559,7 +558,7 @@ switch_items-loop-node-preserved t c =
 pub switch_items-returns-then-not-branch-clause-typed : goal.switch_items-returns-then-not-branch-clause-typed
 switch_items-returns-then-not-branch-clause-typed t c =
     let texts = c.args.t.now.texts in
-    let f = (tables c.args.u.now).forest in
+    let f = c.args.u.now.forest in
     let w0 = around_in c.args.into.now.known c.args.w in
     let z0 = state_of texts false c.args.s.now c.args.into.now in
     let ns = c.list-nodes.result.now in
@@ -571,7 +570,7 @@ switch_items-returns-then-not-branch-clause-typed t c =
 pub switch_items-returns-clause-typed : goal.switch_items-returns-clause-typed
 switch_items-returns-clause-typed t c =
     let texts = c.args.t.now.texts in
-    let f = (tables c.args.u.now).forest in
+    let f = c.args.u.now.forest in
     let w0 = around_in c.args.into.now.known c.args.w in
     let z0 = state_of texts false c.args.s.now c.args.into.now in
     switches.along_done texts c.args.w c.args.kind f c.list-nodes.result.now c.args.s.now c.loop-node.s c.args.into.now c.loop-node.into c.loop-node.node-index c.loop-node.items.items c.loop-node.labels c.loop-node.invariant (omega arith)
@@ -581,14 +580,14 @@ pub if_statement-inner-requires : goal.if_statement-inner-requires
 if_statement-inner-requires t c =
     let g : Moves c.args.into.now c.args.s.now c.condition.new.into c.condition.new.s = search rules in
     let low : c.args.body.0 < c.args.n.0 = c.requires.body.0 in
-    let high : c.args.n.0 < length (tables c.args.u.now).forest.trees = c.requires.node.0 in
+    let high : c.args.n.0 < length c.args.u.now.forest.trees = c.requires.node.0 in
     (omega (arith, c.decreases, low), ((omega (arith, low, high), c.requires.body.1), (g.opened, type_stays c.args.into.now c.condition.new.into c.args.w.result.0 g.goes c.requires.known)))
 
 pub else_statement-inner-requires : goal.else_statement-inner-requires
 else_statement-inner-requires t c =
     let g : Moves c.args.into.now c.args.s.now c.condition.new.into c.condition.new.s = search rules in
     let low : c.args.body.0 < c.args.n.0 = c.requires.body.0 in
-    let high : c.args.n.0 < length (tables c.args.u.now).forest.trees = c.requires.node.0 in
+    let high : c.args.n.0 < length c.args.u.now.forest.trees = c.requires.node.0 in
     (omega (arith, c.decreases, low), ((omega (arith, low, high), c.requires.body.1), (g.opened, type_stays c.args.into.now c.condition.new.into c.args.w.result.0 g.goes c.requires.known)))
 
 pub else_statement-inner-requires-2 : goal.else_statement-inner-requires-2
@@ -596,14 +595,14 @@ else_statement-inner-requires-2 t c =
     let g : Moves c.args.into.now c.args.s.now c.condition.new.into c.condition.new.s = search rules in
     let h : Moves c.condition.new.into c.condition.new.s c.inner.new.into c.inner.new.s = search rules in
     let low : c.args.other.0 < c.args.n.0 = c.requires.other.0 in
-    let high : c.args.n.0 < length (tables c.args.u.now).forest.trees = c.requires.node.0 in
+    let high : c.args.n.0 < length c.args.u.now.forest.trees = c.requires.node.0 in
     (omega (arith, c.decreases, low), ((omega (arith, low, high), c.requires.other.1), ((moves_on c.args.into.now c.condition.new.into c.inner.new.into c.args.s.now c.condition.new.s c.inner.new.s g h).opened, type_stays c.args.into.now c.inner.new.into c.args.w.result.0 (moves_on c.args.into.now c.condition.new.into c.inner.new.into c.args.s.now c.condition.new.s c.inner.new.s g h).goes c.requires.known)))
 
 pub while_statement-inner-requires : goal.while_statement-inner-requires
 while_statement-inner-requires t c =
     let g : Moves c.args.into.now c.args.s.now c.condition.new.into c.condition.new.s = search rules in
     let low : c.args.body.0 < c.args.n.0 = c.requires.body.0 in
-    let high : c.args.n.0 < length (tables c.args.u.now).forest.trees = c.requires.node.0 in
+    let high : c.args.n.0 < length c.args.u.now.forest.trees = c.requires.node.0 in
     (omega (arith, c.decreases, low), ((omega (arith, low, high), c.requires.body.1), (g.opened, type_stays c.args.into.now c.condition.new.into c.args.w.result.0 g.goes c.requires.known)))
 
 pub for_statement-inner-requires : goal.for_statement-inner-requires
@@ -612,7 +611,7 @@ for_statement-inner-requires t c =
     let h : Moves c.optional_value.new.into c.optional_value.new.s c.optional_condition.new.into c.optional_condition.new.s = search rules in
     let k : Moves c.optional_condition.new.into c.optional_condition.new.s c.optional_value-2.new.into c.optional_value-2.new.s = search rules in
     let low : c.args.body.0 < c.args.n.0 = c.requires.body.0 in
-    let high : c.args.n.0 < length (tables c.args.u.now).forest.trees = c.requires.node.0 in
+    let high : c.args.n.0 < length c.args.u.now.forest.trees = c.requires.node.0 in
     (omega (arith, c.decreases, low), ((omega (arith, low, high), c.requires.body.1), ((moves_on c.args.into.now c.optional_value.new.into c.optional_value-2.new.into c.args.s.now c.optional_value.new.s c.optional_value-2.new.s g (moves_on c.optional_value.new.into c.optional_condition.new.into c.optional_value-2.new.into c.optional_value.new.s c.optional_condition.new.s c.optional_value-2.new.s h k)).opened, type_stays c.args.into.now c.optional_value-2.new.into c.args.w.result.0 (moves_on c.args.into.now c.optional_value.new.into c.optional_value-2.new.into c.args.s.now c.optional_value.new.s c.optional_value-2.new.s g (moves_on c.optional_value.new.into c.optional_condition.new.into c.optional_value-2.new.into c.optional_value.new.s c.optional_condition.new.s c.optional_value-2.new.s h k)).goes c.requires.known)))
 
 pub for_declaration-inner-requires : goal.for_declaration-inner-requires
@@ -621,26 +620,26 @@ for_declaration-inner-requires t c =
     let h : Moves c.first_declared.new.into c.first_declared.new.s c.optional_condition.new.into c.optional_condition.new.s = search rules in
     let k : Moves c.optional_condition.new.into c.optional_condition.new.s c.optional_value.new.into c.optional_value.new.s = search rules in
     let low : c.args.body.0 < c.args.n.0 = c.requires.body.0 in
-    let high : c.args.n.0 < length (tables c.args.u.now).forest.trees = c.requires.node.0 in
+    let high : c.args.n.0 < length c.args.u.now.forest.trees = c.requires.node.0 in
     (omega (arith, c.decreases, low), ((omega (arith, low, high), c.requires.body.1), ((moves_on c.args.into.now c.first_declared.new.into c.optional_value.new.into c.args.s.now c.first_declared.new.s c.optional_value.new.s g (moves_on c.first_declared.new.into c.optional_condition.new.into c.optional_value.new.into c.first_declared.new.s c.optional_condition.new.s c.optional_value.new.s h k)).opened, type_stays c.args.into.now c.optional_value.new.into c.args.w.result.0 (moves_on c.args.into.now c.first_declared.new.into c.optional_value.new.into c.args.s.now c.first_declared.new.s c.optional_value.new.s g (moves_on c.first_declared.new.into c.optional_condition.new.into c.optional_value.new.into c.first_declared.new.s c.optional_condition.new.s c.optional_value.new.s h k)).goes c.requires.known)))
 
 pub under_labels-statement-requires : goal.under_labels-statement-requires
 under_labels-statement-requires t c =
     let g : Moves c.args.into.now c.args.s.now c.all_labels.new.into c.all_labels.new.s = search rules in
     let low : c.args.body.0 < c.args.n.0 = c.requires.body.0 in
-    let high : c.args.n.0 < length (tables c.args.u.now).forest.trees = c.requires.node.0 in
+    let high : c.args.n.0 < length c.args.u.now.forest.trees = c.requires.node.0 in
     (omega (arith, c.decreases, low), ((omega (arith, low, high), c.requires.body.1), (g.opened, type_stays c.args.into.now c.all_labels.new.into c.args.w.result.0 g.goes c.requires.known)))
 
 pub switch_statement-switch_block-requires : goal.switch_statement-switch_block-requires
 switch_statement-switch_block-requires t c =
     let g : Moves c.args.into.now c.args.s.now c.switched.new.into c.switched.new.s = search rules in
     let low : c.args.body.0 < c.args.n.0 = c.requires.body.0 in
-    let high : c.args.n.0 < length (tables c.args.u.now).forest.trees = c.requires.node.0 in
+    let high : c.args.n.0 < length c.args.u.now.forest.trees = c.requires.node.0 in
     (omega (arith, c.decreases, low), ((omega (arith, low, high), c.requires.body.1), (g.opened, type_stays c.args.into.now c.switched.new.into c.args.w.result.0 g.goes c.requires.known)))
 
 pub all_items-item-requires : goal.all_items-item-requires
 all_items-item-requires t c =
-    let f = (tables c.args.u.now).forest in
+    let f = c.args.u.now.forest in
     let ns = c.list-nodes.result.now in
     let lt : c.loop-node.node-index < length ns = omega arith in
     let child = has_at f is_item c.args.n.0 c.args.list ns c.loop-node.node-index no_id c.list-nodes.ensures c.requires.list lt in
@@ -651,7 +650,7 @@ all_items-item-requires t c =
 
 pub switch_items-switch_item-requires : goal.switch_items-switch_item-requires
 switch_items-switch_item-requires t c =
-    let f = (tables c.args.u.now).forest in
+    let f = c.args.u.now.forest in
     let ns = c.list-nodes.result.now in
     let lt : c.loop-node.node-index < length ns = omega arith in
     let child = has_at f is_item c.args.n.0 c.args.list ns c.loop-node.node-index no_id c.list-nodes.ensures c.requires.list lt in
@@ -662,7 +661,7 @@ switch_items-switch_item-requires t c =
 
 pub scoped-block_statement-requires : goal.scoped-block_statement-requires
 scoped-block_statement-requires t c =
-    let f = (tables c.args.u.now).forest in
+    let f = c.args.u.now.forest in
     let high : c.args.n.0 < length f.trees = c.requires.node.0 in
     let ch = c.in-Block.ensures.children in
     let is = ap as_statement c.in-Block.ensures.tree in
@@ -670,7 +669,7 @@ scoped-block_statement-requires t c =
 
 pub scoped-if_statement-requires : goal.scoped-if_statement-requires
 scoped-if_statement-requires t c =
-    let f = (tables c.args.u.now).forest in
+    let f = c.args.u.now.forest in
     let high : c.args.n.0 < length f.trees = c.requires.node.0 in
     let ch = c.in-If.ensures.children in
     let is = ap as_statement c.in-If.ensures.tree in
@@ -678,7 +677,7 @@ scoped-if_statement-requires t c =
 
 pub scoped-else_statement-requires : goal.scoped-else_statement-requires
 scoped-else_statement-requires t c =
-    let f = (tables c.args.u.now).forest in
+    let f = c.args.u.now.forest in
     let high : c.args.n.0 < length f.trees = c.requires.node.0 in
     let ch = c.in-IfElse.ensures.children in
     let is = ap as_statement c.in-IfElse.ensures.tree in
@@ -686,7 +685,7 @@ scoped-else_statement-requires t c =
 
 pub scoped-while_statement-requires : goal.scoped-while_statement-requires
 scoped-while_statement-requires t c =
-    let f = (tables c.args.u.now).forest in
+    let f = c.args.u.now.forest in
     let high : c.args.n.0 < length f.trees = c.requires.node.0 in
     let ch = c.in-While.ensures.children in
     let is = ap as_statement c.in-While.ensures.tree in
@@ -694,7 +693,7 @@ scoped-while_statement-requires t c =
 
 pub scoped-do_statement-requires : goal.scoped-do_statement-requires
 scoped-do_statement-requires t c =
-    let f = (tables c.args.u.now).forest in
+    let f = c.args.u.now.forest in
     let high : c.args.n.0 < length f.trees = c.requires.node.0 in
     let ch = c.in-DoWhile.ensures.children in
     let is = ap as_statement c.in-DoWhile.ensures.tree in
@@ -702,7 +701,7 @@ scoped-do_statement-requires t c =
 
 pub scoped-for_statement-requires : goal.scoped-for_statement-requires
 scoped-for_statement-requires t c =
-    let f = (tables c.args.u.now).forest in
+    let f = c.args.u.now.forest in
     let high : c.args.n.0 < length f.trees = c.requires.node.0 in
     let ch = c.in-For.ensures.children in
     let is = ap as_statement c.in-For.ensures.tree in
@@ -710,7 +709,7 @@ scoped-for_statement-requires t c =
 
 pub scoped-for_declaration-requires : goal.scoped-for_declaration-requires
 scoped-for_declaration-requires t c =
-    let f = (tables c.args.u.now).forest in
+    let f = c.args.u.now.forest in
     let high : c.args.n.0 < length f.trees = c.requires.node.0 in
     let ch = c.in-ForDeclaration.ensures.children in
     let is = ap as_statement c.in-ForDeclaration.ensures.tree in
@@ -718,7 +717,7 @@ scoped-for_declaration-requires t c =
 
 pub scoped-switch_statement-requires : goal.scoped-switch_statement-requires
 scoped-switch_statement-requires t c =
-    let f = (tables c.args.u.now).forest in
+    let f = c.args.u.now.forest in
     let high : c.args.n.0 < length f.trees = c.requires.node.0 in
     let ch = c.in-Switch.ensures.children in
     let is = ap as_statement c.in-Switch.ensures.tree in

@@ -1,5 +1,4 @@
 use Rattle.std.proofs.Common.{◌*◌, ◌+◌}
-use Rattle.pv_tree.specs.Rows.{tables}
 use Rattle.pv_unit.proofs.ItemRows.{Along}
 use Rattle.pv_unit.proofs.SwitchRows.{Along as AlongSwitch}
 use Rattle.pv_unit.proofs.stmts.+stating.Given as goal
@@ -65,7 +64,7 @@ abbrev pub decreases-under_labels : goal.decreases-under_labels
 decreases-under_labels l = 8 * l.n.0 + 5
 
 abbrev pub invariant-all_items-loop-node : goal.invariant-all_items-loop-node
-invariant-all_items-loop-node l = Along l.t.texts l.w (tables l.u).forest l.nodes l.fn.s l.fn.into l.node-index l.s l.into l.items.items
+invariant-all_items-loop-node l = Along l.t.texts l.w l.u.forest l.nodes l.fn.s l.fn.into l.node-index l.s l.into l.items.items
 
 abbrev pub invariant-switch_items-loop-node : goal.invariant-switch_items-loop-node
-invariant-switch_items-loop-node l = AlongSwitch l.t.texts l.w l.kind (tables l.u).forest l.nodes l.fn.s l.fn.into l.node-index l.s l.into l.items.items l.labels
+invariant-switch_items-loop-node l = AlongSwitch l.t.texts l.w l.kind l.u.forest l.nodes l.fn.s l.fn.into l.node-index l.s l.into l.items.items l.labels

@@ -1,7 +1,6 @@
 -- Selections with two statements, and iterations (C17 6.8.4.1, 6.8.5): what each comes to, and that its parts are there.
 use Rattle.std.proofs.Common.{rules, ◌≡◌, false, [], Some, None, sym, ap, ◌∙◌}
 use Rattle.pv_tree.specs.Lines.{tree_line}
-use Rattle.pv_tree.specs.Rows.{tables}
 use Rattle.pv_tree.specs.Tables.{tree_at, optional_at, declaration_at, expression_at as expression_of, statement_at as statement_of}
 use Rattle.pv_typed.specs.declared.nodes.TypedStmt.TheVariants as stmt
 use Rattle.pv_typed.specs.Nodes.{statement_form}
@@ -24,7 +23,7 @@ use Rattle.pv_unit.proofs.stmts.+stating.Goals as goal
 pub while_statement-returns-in_default-clause-typed : goal.while_statement-returns-in_default-clause-typed
 while_statement-returns-in_default-clause-typed t c =
     let texts = c.args.t.now.texts in
-    let f = (tables c.args.u.now).forest in
+    let f = c.args.u.now.forest in
     let w0 = around_in c.args.into.now.known c.args.w in
     let z0 = state_of texts false c.args.s.now c.args.into.now in
     let line = tree_line (tree_at f c.args.n) in
@@ -34,7 +33,7 @@ while_statement-returns-in_default-clause-typed t c =
 pub while_statement-returns-in_default-2-clause-typed : goal.while_statement-returns-in_default-2-clause-typed
 while_statement-returns-in_default-2-clause-typed t c =
     let texts = c.args.t.now.texts in
-    let f = (tables c.args.u.now).forest in
+    let f = c.args.u.now.forest in
     let w0 = around_in c.args.into.now.known c.args.w in
     let z0 = state_of texts false c.args.s.now c.args.into.now in
     let line = tree_line (tree_at f c.args.n) in
@@ -60,7 +59,7 @@ while_statement-returns-clause-moves t c =
 pub while_statement-returns-clause-typed : goal.while_statement-returns-clause-typed
 while_statement-returns-clause-typed t c =
     let texts = c.args.t.now.texts in
-    let f = (tables c.args.u.now).forest in
+    let f = c.args.u.now.forest in
     let w0 = around_in c.args.into.now.known c.args.w in
     let z0 = state_of texts false c.args.s.now c.args.into.now in
     let line = tree_line (tree_at f c.args.n) in
@@ -75,7 +74,7 @@ while_statement-returns-clause-typed t c =
 pub do_statement-returns-in_default-clause-typed : goal.do_statement-returns-in_default-clause-typed
 do_statement-returns-in_default-clause-typed t c =
     let texts = c.args.t.now.texts in
-    let f = (tables c.args.u.now).forest in
+    let f = c.args.u.now.forest in
     let w0 = around_in c.args.into.now.known c.args.w in
     let z0 = state_of texts false c.args.s.now c.args.into.now in
     let line = tree_line (tree_at f c.args.n) in
@@ -85,7 +84,7 @@ do_statement-returns-in_default-clause-typed t c =
 pub do_statement-returns-in_default-2-clause-typed : goal.do_statement-returns-in_default-2-clause-typed
 do_statement-returns-in_default-2-clause-typed t c =
     let texts = c.args.t.now.texts in
-    let f = (tables c.args.u.now).forest in
+    let f = c.args.u.now.forest in
     let w0 = around_in c.args.into.now.known c.args.w in
     let z0 = state_of texts false c.args.s.now c.args.into.now in
     let line = tree_line (tree_at f c.args.n) in
@@ -110,7 +109,7 @@ do_statement-returns-clause-moves t c =
 pub do_statement-returns-clause-typed : goal.do_statement-returns-clause-typed
 do_statement-returns-clause-typed t c =
     let texts = c.args.t.now.texts in
-    let f = (tables c.args.u.now).forest in
+    let f = c.args.u.now.forest in
     let w0 = around_in c.args.into.now.known c.args.w in
     let z0 = state_of texts false c.args.s.now c.args.into.now in
     let line = tree_line (tree_at f c.args.n) in
@@ -124,7 +123,7 @@ do_statement-returns-clause-typed t c =
 pub else_statement-returns-in_default-clause-typed : goal.else_statement-returns-in_default-clause-typed
 else_statement-returns-in_default-clause-typed t c =
     let texts = c.args.t.now.texts in
-    let f = (tables c.args.u.now).forest in
+    let f = c.args.u.now.forest in
     let w0 = around_in c.args.into.now.known c.args.w in
     let z0 = state_of texts false c.args.s.now c.args.into.now in
     let line = tree_line (tree_at f c.args.n) in
@@ -134,7 +133,7 @@ else_statement-returns-in_default-clause-typed t c =
 pub else_statement-returns-in_default-2-clause-typed : goal.else_statement-returns-in_default-2-clause-typed
 else_statement-returns-in_default-2-clause-typed t c =
     let texts = c.args.t.now.texts in
-    let f = (tables c.args.u.now).forest in
+    let f = c.args.u.now.forest in
     let w0 = around_in c.args.into.now.known c.args.w in
     let z0 = state_of texts false c.args.s.now c.args.into.now in
     let line = tree_line (tree_at f c.args.n) in
@@ -147,7 +146,7 @@ else_statement-returns-in_default-2-clause-typed t c =
 pub else_statement-returns-in_default-3-clause-typed : goal.else_statement-returns-in_default-3-clause-typed
 else_statement-returns-in_default-3-clause-typed t c =
     let texts = c.args.t.now.texts in
-    let f = (tables c.args.u.now).forest in
+    let f = c.args.u.now.forest in
     let w0 = around_in c.args.into.now.known c.args.w in
     let z0 = state_of texts false c.args.s.now c.args.into.now in
     let line = tree_line (tree_at f c.args.n) in
@@ -179,7 +178,7 @@ else_statement-returns-clause-moves t c =
 pub else_statement-returns-clause-typed : goal.else_statement-returns-clause-typed
 else_statement-returns-clause-typed t c =
     let texts = c.args.t.now.texts in
-    let f = (tables c.args.u.now).forest in
+    let f = c.args.u.now.forest in
     let w0 = around_in c.args.into.now.known c.args.w in
     let z0 = state_of texts false c.args.s.now c.args.into.now in
     let line = tree_line (tree_at f c.args.n) in
@@ -197,7 +196,7 @@ else_statement-returns-clause-typed t c =
 pub for_statement-returns-in_default-clause-typed : goal.for_statement-returns-in_default-clause-typed
 for_statement-returns-in_default-clause-typed t c =
     let texts = c.args.t.now.texts in
-    let f = (tables c.args.u.now).forest in
+    let f = c.args.u.now.forest in
     let w0 = around_in c.args.into.now.known c.args.w in
     let z0 = state_of texts false c.args.s.now c.args.into.now in
     let line = tree_line (tree_at f c.args.n) in
@@ -207,7 +206,7 @@ for_statement-returns-in_default-clause-typed t c =
 pub for_statement-returns-in_default-2-clause-typed : goal.for_statement-returns-in_default-2-clause-typed
 for_statement-returns-in_default-2-clause-typed t c =
     let texts = c.args.t.now.texts in
-    let f = (tables c.args.u.now).forest in
+    let f = c.args.u.now.forest in
     let w0 = around_in c.args.into.now.known c.args.w in
     let z0 = state_of texts false c.args.s.now c.args.into.now in
     let line = tree_line (tree_at f c.args.n) in
@@ -218,7 +217,7 @@ for_statement-returns-in_default-2-clause-typed t c =
 pub for_statement-returns-in_default-3-clause-typed : goal.for_statement-returns-in_default-3-clause-typed
 for_statement-returns-in_default-3-clause-typed t c =
     let texts = c.args.t.now.texts in
-    let f = (tables c.args.u.now).forest in
+    let f = c.args.u.now.forest in
     let w0 = around_in c.args.into.now.known c.args.w in
     let z0 = state_of texts false c.args.s.now c.args.into.now in
     let line = tree_line (tree_at f c.args.n) in
@@ -231,7 +230,7 @@ for_statement-returns-in_default-3-clause-typed t c =
 pub for_statement-returns-in_default-4-clause-typed : goal.for_statement-returns-in_default-4-clause-typed
 for_statement-returns-in_default-4-clause-typed t c =
     let texts = c.args.t.now.texts in
-    let f = (tables c.args.u.now).forest in
+    let f = c.args.u.now.forest in
     let w0 = around_in c.args.into.now.known c.args.w in
     let z0 = state_of texts false c.args.s.now c.args.into.now in
     let line = tree_line (tree_at f c.args.n) in
@@ -270,7 +269,7 @@ for_statement-returns-clause-moves t c =
 pub for_statement-returns-clause-typed : goal.for_statement-returns-clause-typed
 for_statement-returns-clause-typed t c =
     let texts = c.args.t.now.texts in
-    let f = (tables c.args.u.now).forest in
+    let f = c.args.u.now.forest in
     let w0 = around_in c.args.into.now.known c.args.w in
     let z0 = state_of texts false c.args.s.now c.args.into.now in
     let line = tree_line (tree_at f c.args.n) in
@@ -292,7 +291,7 @@ for_statement-returns-clause-typed t c =
 pub for_declaration-returns-then-not-branch-clause-typed : goal.for_declaration-returns-then-not-branch-clause-typed
 for_declaration-returns-then-not-branch-clause-typed t c =
     let texts = c.args.t.now.texts in
-    let f = (tables c.args.u.now).forest in
+    let f = c.args.u.now.forest in
     let w0 = around_in c.args.into.now.known c.args.w in
     let z0 = state_of texts false c.args.s.now c.args.into.now in
     let line = tree_line (tree_at f c.args.n) in
@@ -302,7 +301,7 @@ for_declaration-returns-then-not-branch-clause-typed t c =
 pub for_declaration-returns-in_default-clause-typed : goal.for_declaration-returns-in_default-clause-typed
 for_declaration-returns-in_default-clause-typed t c =
     let texts = c.args.t.now.texts in
-    let f = (tables c.args.u.now).forest in
+    let f = c.args.u.now.forest in
     let w0 = around_in c.args.into.now.known c.args.w in
     let z0 = state_of texts false c.args.s.now c.args.into.now in
     let line = tree_line (tree_at f c.args.n) in
@@ -313,7 +312,7 @@ for_declaration-returns-in_default-clause-typed t c =
 pub for_declaration-returns-in_default-2-clause-typed : goal.for_declaration-returns-in_default-2-clause-typed
 for_declaration-returns-in_default-2-clause-typed t c =
     let texts = c.args.t.now.texts in
-    let f = (tables c.args.u.now).forest in
+    let f = c.args.u.now.forest in
     let w0 = around_in c.args.into.now.known c.args.w in
     let z0 = state_of texts false c.args.s.now c.args.into.now in
     let line = tree_line (tree_at f c.args.n) in
@@ -326,7 +325,7 @@ for_declaration-returns-in_default-2-clause-typed t c =
 pub for_declaration-returns-in_default-3-clause-typed : goal.for_declaration-returns-in_default-3-clause-typed
 for_declaration-returns-in_default-3-clause-typed t c =
     let texts = c.args.t.now.texts in
-    let f = (tables c.args.u.now).forest in
+    let f = c.args.u.now.forest in
     let w0 = around_in c.args.into.now.known c.args.w in
     let z0 = state_of texts false c.args.s.now c.args.into.now in
     let line = tree_line (tree_at f c.args.n) in
@@ -375,7 +374,7 @@ for_declaration-returns-clause-moves t c =
 pub for_declaration-returns-clause-typed : goal.for_declaration-returns-clause-typed
 for_declaration-returns-clause-typed t c =
     let texts = c.args.t.now.texts in
-    let f = (tables c.args.u.now).forest in
+    let f = c.args.u.now.forest in
     let w0 = around_in c.args.into.now.known c.args.w in
     let z0 = state_of texts false c.args.s.now c.args.into.now in
     let line = tree_line (tree_at f c.args.n) in
