@@ -1,0 +1,67 @@
+# For ./pvrun: the files that it reads and writes.
+
+# The folder for files of this call, in `held`.
+hold() {
+  [ -z "$held" ] || return 0
+  held=$(mktemp -d) || exit 127
+  trap 'end_trial; rm -rf "$held"' EXIT
+}
+
+can_read() { [ -r "$1" ] && [ ! -d "$1" ]; }
+
+# Whether a file can be read more than once, under its name.
+is_plain() { [ -f "$1" ] && [[ $1 != /dev/* && $1 != /proc/* ]]; }
+
+# What stands in a pipe is kept in the file HELD, up to a size that tells as much as all.
+take_pipe() { can_read "$1" && ! is_plain "$1" && hold && head -c "$3" -- "$1" >"$held/$2" 2>/dev/null; }
+
+# Whether the source has preprocessing directives. Most files without any are known by having no # at all.
+has_directives() {
+  local part=
+  if IFS= LC_ALL=C read -r -d '' -n 16384 part <"$1" || [ "${#part}" -ge 16384 ]; then
+    LC_ALL=C grep -qaE '#|%:' -- "$1" || return
+  else
+    [[ $part == *'#'* || $part == *'%:'* ]] || return
+  fi
+  LC_ALL=C awk -f "$tools/lines.awk" -f "$tools/directives.awk" <"$1"
+}
+
+# The file that the program gets, in `text`; `unread` is a file that can't be read, and `fresh` says that the text was preprocessed just now.
+take_files() {
+  local given=$source
+  text=$source unread='' fresh=''
+  # (what is preprocessed may be longer than a source)
+  take_pipe "$source" source.c 16777217 && text=$held/source.c given=-
+  can_read "$text" || unread=$source
+  [ -z "$script" ] || take_script
+  [ -z "$unread" ] || return 0
+  if [ -z "$raw" ] && { [ "${#changes[@]}" -gt 0 ] || has_directives "$text"; }; then
+    hold
+    "$tools/preprocess" "$given" "$held/text.i" ${changes[@]+"${changes[@]}"} <"$text" || exit 127
+    text=$held/text.i fresh=--fresh
+  fi
+  [ -z "$keep" ] || cat -- "$text" >"$keep" || exit 127
+}
+
+take_script() {
+  local name=${handed[script]} i
+  can_read "$name" || unread=$name
+  take_pipe "$name" script 65537 || return 0
+  handed[script]=$held/script
+  for ((i = 0; i < ${#again[@]}; i += 2)); do
+    [ "${again[i]}" != --script ] || again[i + 1]=$held/script
+  done
+}
+
+# A file that is written is none of those that are read, and can be written: looked at before a run, and before a proof.
+guard_files() {
+  local name
+  for name in "$keep" "$report"; do
+    [ -n "$name" ] || continue
+    if [ "$name" -ef "$source" ] || { [ -n "$script" ] && [ "$name" -ef "${handed[script]}" ]; }; then
+      say "'$name' is read, so it can't be written"
+      exit 127
+    fi
+    { : >>"$name"; } 2>/dev/null || { say "'$name' can't be written" && exit 127; }
+  done
+}

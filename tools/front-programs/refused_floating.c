@@ -1,0 +1,4 @@
+int main(void) {
+  double half = 0.5;
+  return half < 1;
+}

@@ -1,0 +1,5 @@
+static volatile int flag = 1;
+
+int main(void) {
+  return flag;
+}

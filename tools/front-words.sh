@@ -1,0 +1,186 @@
+# For tools/front: words, names of every kind, pipes, and machines that lack something.
+
+# ---- words that are none
+
+try_slip() {
+  local what=$1 hint=$2
+  shift 2
+  try_call "$what" 10 words "$@"
+  try "$what: hint" "pvrun: hint: $hint" "$err"
+}
+
+try_slips() {
+  local file=$work/plain.c
+  try_slip 'no word' 'no mode; try ./pvrun --help'
+  try_slip 'no such mode' "'walk' is no mode (run, check, layout, gen)" walk "$file"
+  try_slip 'a file in the place of a mode' "'a.c' is no mode; try pvrun run a.c" a.c
+  try_slip 'no file' 'run wants a file' run
+  try_slip 'an empty name' 'the name of the file is empty' check ''
+  try_slip 'an option before the file' 'the file comes first: pvrun run FILE -I' run -I headers "$file"
+  try_slip 'no such option' "'--fast' is no option of run" run "$file" --fast
+  try_slip 'a word too many' "'b.c' is no option of check" check "$file" b.c
+  try_slip "an option of run's" "'--turns' is no option of layout" layout "$file" --turns 3
+  try_slip 'no value' '--turns wants a value' run "$file" --turns
+  try_slip 'an empty folder' '-I wants a value' run "$file" -I ''
+  try_slip 'no number' "'03' is no number from 1 to 100000000 without a leading zero" run "$file" --turns 03
+  try_slip 'too great a number' "'100000001' is no number from 1 to 100000000 without a leading zero" run "$file" --turns 100000001
+  try_slip 'an option twice' '--turns stands twice' run "$file" --turns 3 --turns 4
+  try_slip 'a watcher twice' '--watch census stands twice' run "$file" --watch census --watch census
+  try_slip 'no watcher' "'all' is no watcher (explain, census, pointers)" run "$file" --watch all
+  try_slip 'a script without a name' "the name of the script's file is empty" run "$file" --script ''
+  try_slip 'gen without a number' 'gen takes one number, from 1 to 8192 without a leading zero' gen 9000
+  try_slip 'gen with an option' "gen takes no option '--raw'" gen 3 --raw
+  try_slip 'a word that can not be dropped' "'const' is no word that --drop takes away (restrict, volatile)" run "$file" --drop const
+  try_slip 'an empty name of a report' 'the name behind --report is empty' run "$file" --report ''
+}
+
+try_unread() {
+  try_call 'no such file' 11 'fault read' run "$work/none.c"
+  try 'no such file: hint' "pvrun: hint: '$work/none.c' could not be read" "$err"
+  try_call 'a folder' 11 'fault read' check "$work"
+  try_call 'no such script' 11 'fault read' run "$work/plain.c" --script "$work/none"
+  try 'no such script: hint' "pvrun: hint: '$work/none' could not be read" "$err"
+}
+
+try_told() {
+  call --help
+  try_holds '--help' 'usage: pvrun run FILE' "$out"
+  call -h
+  try_holds '-h' 'usage: pvrun run FILE' "$out"
+  call --version
+  try_holds '--version' 'Valumeiro (' "$out"
+}
+
+# ---- names
+
+# A source behind each name, with a directive: its report is the same, and words and places begin with the name as it is shown.
+try_name() {
+  local name=$1 shown=$2
+  cp "$work/unset.c" "$work/names/$name"
+  printf '#define B\nint main(void) { return 0; }\nint f(void) { return g; }\n' >"$work/names/refused $name"
+  try_call "the name '$shown'" 2 'indeterminate line=3 turn=3' run "$name"
+  try_holds "the name '$shown': words" "$shown:3: indeterminate: " "$err"
+  printf '#define A\n' >>"$name"
+  try_call "the name '$shown' with a directive" 2 '' run "$name" --keep 'kept text' --report 'kept report'
+  try "the name '$shown' with a directive: report" 'indeterminate line=3 turn=3' "$(cat 'kept report')"
+  try_holds "the name '$shown' with a directive: words" "$shown:3: indeterminate: " "$err"
+  try_call "the name '$shown', refused" 8 'refused reason=constraint index=1' check "refused $name"
+  try_holds "the name '$shown', refused: place" ':3:1: refused: constraint' "$err"
+  try_holds "the name '$shown', refused: hint" "hint: refused $shown:3: this seems" "$err"
+}
+
+try_names() {
+  local began=$PWD
+  mkdir "$work/names" && cd "$work/names" || exit 1
+  try_name 'with spaces.c' 'with spaces.c'
+  try_name "'quotes\" and \`ticks\`.c" "'quotes\" and \`ticks\`.c"
+  try_name '-leading.c' '-leading.c'
+  try_name $'line\nfeed.c' 'line?feed.c'
+  try_name '$(touch made) *.c' '$(touch made) *.c'
+  try_name 'program.c' 'program.c'
+  try_name 'a=b.c' 'a=b.c'
+  try_name $'\xc3\xa4.c' $'\xc3\xa4.c'
+  try_name 'back\slash\n.c' 'back\slash\n.c'
+  try_name 'no ending' 'no ending'
+  try 'no name was taken for a command' no "$([ -e made ] && echo yes || echo no)"
+  mkdir 'a folder; -I' && mv 'with spaces.c' 'a folder; -I/'
+  try_call 'a folder with spaces' 2 'indeterminate line=3 turn=3' run 'a folder; -I/with spaces.c'
+  cd "$began" || exit 1
+}
+
+# ---- pipes, and other ways to the files
+
+try_pipes() {
+  local began=$PWD
+  try_call 'a pipe' 0 $'hello\nexit status=3 turn=6' run <(cat "$work/hello.c")
+  try_call 'a pipe without directives' 2 'indeterminate line=3 turn=3' run <(cat "$work/unset.c")
+  try_holds 'a pipe: words' '/dev/fd/' "$err"
+  try_call 'a pipe that is refused' 8 'refused reason=constraint index=0' check <(echo 'int main(void) { return n; }')
+  try_holds 'a pipe that is refused: place' ':1:1: refused: constraint' "$err"
+  try_call 'a script from a pipe' 2 'indeterminate line=3 turn=3' run "$work/unset.c" --script <(printf 'n 1 0x30000\n')
+  try_holds 'a script from a pipe: words' '4 bytes at 0x30000' "$err"
+  call run /dev/stdin <"$work/hello.c"
+  try 'standard input' $'hello\nexit status=3 turn=6' "$out"
+  out=$(cat "$work/hello.c" | "${launcher[@]}" run /dev/stdin)
+  try 'standard input from a pipe' $'hello\nexit status=3 turn=6' "$out"
+  call check /dev/zero
+  try 'an endless file' 8 "$status"
+  cd "$work" && ln -s "$room/installed/bin/pvrun" linked
+  try 'through a link' $'hello\nexit status=3 turn=6' "$(./linked run hello.c)"
+  cd "$began" || exit 1
+}
+
+# ---- what a machine may lack
+
+# A folder with the commands that the launcher needs and those named.
+only() {
+  local name
+  rm -rf "$room/path" && mkdir "$room/path"
+  for name in bash env cat grep sed awk head tail cut wc mktemp rm readlink tr "$@"; do
+    ln -s "$(command -v "$name")" "$room/path/$name"
+  done
+}
+
+try_lacks() {
+  local kept=("${launcher[@]}")
+  only
+  launcher=(env "PATH=$room/path" "${kept[@]}")
+  try_call 'no preprocessor: no need' 2 'indeterminate line=3 turn=3' run "$work/unset.c"
+  try_holds 'no Python: words of a fault' 'a value is used that was never stored' "$err"
+  try_call 'no preprocessor' 127 '' run "$work/hello.c"
+  try_holds 'no preprocessor: words' 'there is no preprocessor' "$err"
+  try_call 'no Python: a refusal' 8 'refused reason=constraint index=0' check "$work/refused.c"
+  try_holds 'no Python: a line of words' 'without python3' "$err"
+  launcher=(env CPP=no_such_command "${kept[@]}")
+  try_call 'no such preprocessor' 127 '' run "$work/hello.c"
+  try_holds 'no such preprocessor: words' "CPP is 'no_such_command'" "$err"
+  launcher=(env NO_COLOR=1 "${kept[@]}")
+  launcher=("${kept[@]}")
+}
+
+# Each preprocessor that is there, alone.
+try_preprocessors() {
+  local name kept=("${launcher[@]}")
+  for name in 'gcc -E' 'clang -E' 'tcc -E' cpp; do
+    command -v "${name% *}" >/dev/null || continue
+    launcher=(env "CPP=$name" "${kept[@]}")
+    try_call "$name" 0 $'hello\nexit status=3 turn=6' run "$work/hello.c"
+    call run "$work/fault.c"
+    try "$name: a fault" 1 "$status"
+    try_holds "$name: the place of a fault" "$work/fault.c:4: undefined: " "$err"
+    try_call "$name: a pipe" 0 $'hello\nexit status=3 turn=6' run <(cat "$work/hello.c")
+  done
+  launcher=("${kept[@]}")
+}
+
+# Colours come on a terminal alone.
+try_colours() {
+  local shown
+  command -v script >/dev/null || return
+  shown=$(NO_COLOR='' script -qec "'${launcher[0]}' run '$work/unset.c'" /dev/null)
+  try_holds 'colours on a terminal' $'\033[1;31mindeterminate:\033[0m' "$shown"
+  shown=$(NO_COLOR=1 script -qec "'${launcher[0]}' run '$work/unset.c'" /dev/null)
+  try 'NO_COLOR' no "$([[ $shown == *$'\033'* ]] && echo yes || echo no)"
+}
+
+# README begins with an ordinary file: its text, its report and its words are those that are shown there.
+try_readme() {
+  local file=tools/front-programs/list_freed_while_walked.c line
+  call run "$file"
+  while IFS= read -r line; do
+    try "README: $line" yes "$(grep -qF -- "    $line" README.md && echo yes)"
+  done <<<"$out"$'\n'"$err"
+  try 'README: the file' "$(cat "$file")" "$(sed -n '/^```c$/,/^```$/p' README.md | sed '1d; /^```$/,$d')"
+}
+
+try_all_words() {
+  try_readme
+  try_slips
+  try_unread
+  try_told
+  try_names
+  try_pipes
+  try_lacks
+  try_preprocessors
+  try_colours
+}

@@ -1,0 +1,53 @@
+# For ./pvrun: what is said in words on standard error behind the program's answer, which stands as it is.
+
+# Behind a refusal: where it is, and hints of what is refused.
+show_place() {
+  local shown
+  shown=$(find_place)
+  # (a pipe is told by its own name, and not by that of the file that holds what it had)
+  [ "$text" = "$source" ] || shown=${shown/#"$text:"/"$source:"}
+  [ -z "$shown" ] || printf '%s\n' "$shown" >&2
+  case ${shown%%$'\n'*} in
+    *'refused: size' | *'refused: main') return ;;
+  esac
+  if command -v python3 >/dev/null; then
+    python3 "$tools/spot" "$program" "$text" "$source" >&2
+  else
+    say 'hint: without python3 the statement is not looked for'
+  fi
+}
+
+# What pvwhere says of the source. Where it is not built, nothing.
+find_place() {
+  if [ -n "$unproved" ]; then
+    place=$("$tools/unproved" pvwhere) || return
+  else
+    is_ready pvwhere || return
+  fi
+  "$place" "$text"
+}
+
+# What the answer of the program means.
+tell_meaning() {
+  case $mode$status in
+    run[1-57]) "$tools/explain-fault" $fresh "$program" "$text" "$source" "$status" ${again[@]+"${again[@]}"} ;;
+    *8) show_place ;;
+    *10) say "hint: a word isn't UTF-8" ;;
+    *11) say "hint: '$source' could not be read" ;;
+  esac
+}
+
+# The output alone goes to standard output, and the report to the file of --report. They are parted when the run has ended.
+run_apart() {
+  local begins=0
+  hold
+  . "$tools/report.sh"
+  run >"$held/written"
+  status=$?
+  if [ "$mode" = run ] && [[ $status =~ ^([0-7]|12|13)$ ]]; then
+    begins=$(report_begins "$held/written" "$status")
+    [ -n "$begins" ] || begins=$(wc -c <"$held/written")
+  fi
+  head -c "$begins" "$held/written" || { say 'the output could not be written' && status=12; }
+  [ -z "$report" ] || tail -c "+$((begins + 1))" "$held/written" >"$report" || { say "'$report' could not be written" && status=12; }
+}

@@ -1,0 +1,26 @@
+# Completion of pvrun's words for bash: sourced from a start-up file, or where bash-completion looks for it (./pvrun --install puts it there).
+
+_pvrun() {
+  local word=${COMP_WORDS[COMP_CWORD]} last=${COMP_WORDS[COMP_CWORD - 1]} first=1 mode options
+  [ "${COMP_WORDS[1]-}" = --unproved ] && first=2
+  mode=${COMP_WORDS[first]-}
+  COMPREPLY=()
+  if [ "$COMP_CWORD" = "$first" ]; then
+    options='run check layout gen'
+    [ "$first" = 2 ] || options+=' --unproved --install --help --version'
+    COMPREPLY=($(compgen -W "$options" -- "$word"))
+    return
+  fi
+  case $last in
+    --watch) COMPREPLY=($(compgen -W 'explain census pointers' -- "$word")) && return ;;
+    --drop) COMPREPLY=($(compgen -W 'restrict volatile' -- "$word")) && return ;;
+    --turns | gen) return ;;
+  esac
+  case $mode$word in
+    run-*) COMPREPLY=($(compgen -W '--script --turns --watch --raw --keep --drop --report --quiet -I -D -U' -- "$word")) ;;
+    check-* | layout-*) COMPREPLY=($(compgen -W '--raw --keep --drop --report --quiet -I -D -U' -- "$word")) ;;
+    gen*) COMPREPLY=($(compgen -W '--report --quiet' -- "$word")) ;;
+    *) compopt -o filenames 2>/dev/null; mapfile -t COMPREPLY < <(compgen -f -- "$word") ;;
+  esac
+}
+complete -F _pvrun pvrun ./pvrun

@@ -1,0 +1,76 @@
+# For ./pvrun: reads the words that it is called with.
+
+# Sets mode, source and what the options say; the first word that is none is told in `slip`. `handed` are the program's own options (the name of
+# the script's file is that numbered `script`), `again` those of them that a second run needs, `changes` the options of preprocessing.
+read_words() {
+  mode=${1-} source=${2-} slip='' handed=() again=() changes=() raw='' keep='' report='' quiet='' script=''
+  case $mode in
+    run | check | layout)
+      if [ $# -lt 2 ]; then
+        slip="$mode wants a file"
+      elif [ -z "$source" ]; then
+        slip='the name of the file is empty'
+      elif [[ $source == -* ]] && [ ! -e "$source" ]; then
+        slip="the file comes first: pvrun $mode FILE $source"
+      fi
+      ;;
+    gen) [[ $source =~ ^[1-9][0-9]{0,3}$ && $source -le 8192 ]] || slip='gen takes one number, from 1 to 8192 without a leading zero' ;;
+    '') slip='no mode; try ./pvrun --help' ;;
+    *.c | *.i) slip="'$mode' is no mode; try pvrun run $mode" ;;
+    *) slip="'$mode' is no mode (run, check, layout, gen)" ;;
+  esac
+  [ $# -le 2 ] || read_options "${@:3}"
+}
+
+read_options() {
+  while [ $# -gt 0 ] && [ -z "$slip" ]; do
+    case $mode$1 in
+      *--quiet) quiet=yes && shift && continue ;;
+      gen--report) ;;
+      gen*) slip="gen takes no option '$1'" ;;
+      *--raw) raw=yes && shift && continue ;;
+      *--report | *--keep | *--drop | *-[IDU]) ;;
+      *-[IDU]?*) changes+=("$1") && shift && continue ;;
+      run--script | run--turns | run--watch) ;;
+      *) slip="'$1' is no option of $mode" ;;
+    esac
+    if [ -z "$slip" ] && [ $# -lt 2 ]; then slip="$1 wants a value"; fi
+    [ -n "$slip" ] || read_value "$1" "$2"
+    shift $(($# < 2 ? $# : 2))
+  done
+}
+
+# An option that has a value, and the value.
+read_value() {
+  case $1 in
+    -[IDU]) [ -n "$2" ] && changes+=("$1$2") || slip="$1 wants a value" ;;
+    --drop) [[ $2 =~ ^(restrict|volatile)$ ]] && changes+=(--drop "$2") || slip="'$2' is no word that --drop takes away (restrict, volatile)" ;;
+    --keep) keep=$2 ;;
+    --report) report=$2 ;;
+    *) read_run_value "$1" "$2" && handed+=("$1" "$2") ;;
+  esac
+  case $1 in
+    --keep | --report) [ -n "$2" ] || slip="the name behind $1 is empty" ;;
+    --script | --turns) again+=("$1" "$2") ;;
+  esac
+}
+
+# An option of the program's own.
+read_run_value() {
+  local seen=" ${handed[*]-} "
+  case $1 in
+    --script)
+      [ -z "$script" ] || slip='--script stands twice'
+      [ -n "$2" ] || slip="the name of the script's file is empty"
+      script=$((${#handed[@]} + 1))
+      ;;
+    --turns)
+      [[ $seen != *' --turns '* ]] || slip='--turns stands twice'
+      [[ $2 =~ ^[1-9][0-9]{0,8}$ && $2 -le 100000000 ]] || slip="'$2' is no number from 1 to 100000000 without a leading zero"
+      ;;
+    --watch)
+      [[ $seen != *" --watch $2 "* ]] || slip="--watch $2 stands twice"
+      [[ $2 =~ ^(explain|census|pointers)$ ]] || slip="'$2' is no watcher (explain, census, pointers)"
+      ;;
+  esac
+}
