@@ -152,6 +152,7 @@ context = record {
     literals = [];
     instances = [];
     statics = [];
+    placed = [];
     tags = [];
     declarations = 0;
   };

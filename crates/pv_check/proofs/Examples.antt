@@ -5,7 +5,7 @@ use Rattle.pv_num.specs.declared.operators.UnOp.TheVariants as numeric
 use Rattle.pv_token.specs.declared.words.Word.TheVariants as word
 use Rattle.pv_tree.specs.declared.operators.UnaryOperator.TheVariants as uop
 use Rattle.pv_tree.specs.Syntax.{Name, Number, Character, Text, Paren, Index, Call, Member, Arrow, PostIncrement, PreDecrement, Unary, SizeofExpr, SizeofType, Cast, NoArguments, Argument, TypeName, AbstractParen, AbstractPointer, AbstractArray, Keyword, Tag, TypedefName, OfExpression, OfDeclarator, OfSpecifier, NoTrees, Then, Absent, Present}
-use Rattle.pv_types.specs.Ty.{VoidTy, IntTy, PointerTo, ArrayOf, StructTag, ConstOf}
+use Rattle.pv_types.specs.Ty.{VoidTy, IntTy, PointerTo, ArrayOf, StructTag, ConstOf, FunctionTy, MoreTys, NoTys}
 use Rattle.pv_types.specs.Layouts.{layouts_of}
 use Rattle.pv_types.specs.Compatible.{are_compatible}
 use Rattle.pv_typed.specs.declared.nodes.IncrementOperator.TheVariants as step
@@ -27,7 +27,7 @@ primary_expression_rows : AreTyped context (
     -- nope
     (Name 1 55, None) ∷
     -- add
-    (Name 1 39, None) ∷
+    (Name 1 39, Some (Node (FunctionTy (IntTy kind.Int) (MoreTys (IntTy kind.Int) (MoreTys (IntTy kind.Long) NoTys)) false) 1 true (typed.Function 1))) ∷
     -- 42
     (Number 1 42 true false 0, Some (int_constant 42)) ∷
     -- 2147483648

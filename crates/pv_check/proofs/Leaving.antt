@@ -16,8 +16,8 @@ use Rattle.pv_check.specs.State.{State, After, env, Meaning, ObjectName, Functio
 use Rattle.pv_check.specs.Specifiers.{Seen}
 use Rattle.pv_check.specs.Tags.{with_member, tag_named, composite_named, enumeration_named, opened, opened_named, is_open, completed, with_done, filed_with, opened_enumeration, closed_enumeration, enumerated, some_members, is_union_word, new_tag}
 use Rattle.pv_check.specs.Derivations.{Parameter as OneParameter, Steps, declared_name, optional_name, may_be_variadic, Signature, proper, with_function, with_parameter, with_object, derived, adjusted}
-use Rattle.pv_check.specs.Primary.{name_of}
-use Rattle.pv_check.specs.Rows.{operand, integer_value, plain, by_function, member_of, with_callee}
+use Rattle.pv_check.specs.Primary.{name_of, designator_of, is_of_library}
+use Rattle.pv_check.specs.Rows.{ByValue, operand, integer_value, plain, by_function, member_of, callee, called_by}
 use Rattle.pv_check.specs.Typing.{types, arguments, type_named, specifiers, specifier_in, specifier, members, member_in, member_declarators, member_declarator, enumerators, enumerator_in, enumerator_value, steps, optional_steps, array_size, parameters, parameter_in}
 
 -- where there is an answer, there are n scopes behind it
@@ -58,10 +58,19 @@ integer_leaves : (n : ℕ) (o : Option (After TypedTree)) → Leaves n o → Lea
 integer_leaves n None h = none_leaves n
 integer_leaves n (Some a) h = give_leaves n _ a.state (h.held a refl)
 
+called_leaves : (n : ℕ) (o : Option ℕ) (s : State) → length s.scopes ≡ n → (a : Option (After TypedTree)) → Leaves n a → Leaves n (called_by o s a)
+called_leaves n (Some f) s h a k = some_leaves n _ _ h
+called_leaves n None s h None k = none_leaves n
+called_leaves n None s h (Some a) k = give_leaves n (Some (ByValue a.value)) a.state (k.held a refl)
+
 name_leaves : (n line : ℕ) (m : Option Meaning) (s : State) → length s.scopes ≡ n → Leaves n (name_of line m s)
 name_leaves n line None s h = none_leaves n
 name_leaves n line (Some (ObjectName o)) s h = some_leaves n _ _ h
-name_leaves n line (Some (FunctionName f)) s h = none_leaves n
+name_leaves n line (Some (FunctionName f)) s h = by (is_of_library s f)
+  where
+    by : (b : Bool) → Leaves n (if b then None else Some (designator_of line f s))
+    by true = none_leaves n
+    by false = some_leaves n _ _ h
 name_leaves n line (Some (TypedefOf t)) s h = none_leaves n
 name_leaves n line (Some (ConstantOf v)) s h = some_leaves n _ s h
 
@@ -178,7 +187,8 @@ mutual
   types_leave (Text line first more) n s h = some_leaves n _ _ h
   types_leave (Paren line a) n s h = types_leave a n s h
   types_leave (Index line a b) n s h = then_leaves n _ _ (operand_leaves n _ (types_leave a n s h)) (λ l k. then_leaves n _ _ (operand_leaves n _ (types_leave b n l.state k)) (λ m j. give_leaves n _ m.state j))
-  types_leave (Call line f args) n s h = value_then n _ _ (λ c. then_leaves n _ _ (arguments_leave args n (with_callee s c) h) (λ m j. give_leaves n _ m.state j))
+  types_leave (Call line f args) n s h =
+      then_leaves n _ _ (called_leaves n (callee s.scopes f) s h (operand (types f s)) (operand_leaves n _ (types_leave f n s h))) (λ c k. then_leaves n _ _ (arguments_leave args n c.state k) (λ m j. give_leaves n _ m.state j))
   types_leave (Member line a k) n s h = then_leaves n _ _ (types_leave a n s h) (λ m j. give_leaves n _ m.state j)
   types_leave (Arrow line a k) n s h = then_leaves n _ _ (operand_leaves n _ (types_leave a n s h)) (λ m j. give_leaves n _ m.state j)
   types_leave (PostIncrement line a) n s h = then_leaves n _ _ (types_leave a n s h) (λ m j. give_leaves n _ m.state j)

@@ -3,6 +3,7 @@ pub mod ExampleContext
 mod Examples
 mod BinaryExamples
 mod FurtherExamples
+mod FunctionExamples
 pub mod MoreExamples
 mod CommonTypes
 mod ConditionalExamples

@@ -356,6 +356,7 @@ context = record {
     literals = [];
     instances = [];
     statics = [];
+    placed = [];
     tags = [];
     declarations = 0;
   };

@@ -11,14 +11,27 @@ use Rattle.pv_tree.specs.declared.operators.AssignOperator.TheVariants as aop
 use Rattle.pv_typed.specs.declared.nodes.IncrementOperator.TheVariants as step
 use Rattle.pv_typed.specs.TypedTree as typed
 use Rattle.pv_tree.specs.Syntax.{Name, Number, Text, Paren, Index, Call, Member, Arrow, PostIncrement, PostDecrement, PreIncrement, PreDecrement, Unary, SizeofExpr, Cast, Binary, Conditional, Assign, Comma, NoArguments, Argument, TypeName, Keyword, OfSpecifier, NoTrees, Then, Absent}
-use Rattle.pv_types.specs.Ty.{IntTy, PointerTo, ArrayOf, StructTag, UnionTag, ConstOf}
+use Rattle.pv_types.specs.Ty.{Ty, IntTy, PointerTo, ArrayOf, StructTag, UnionTag, ConstOf, FunctionTy, MoreTys, NoTys}
 use Rattle.pv_types.specs.Layouts.{layouts_of}
 use Rattle.pv_types.specs.Compatible.{are_compatible}
 use Rattle.pv_check.specs.Words.{type_of_words}
 use Rattle.pv_check.specs.Library.{library_named}
-use Rattle.pv_typed.specs.TypedTree.{Node, NoArguments as NoMore, MoreArguments as More}
+use Rattle.pv_typed.specs.TypedTree.{TypedTree, Node, Arguments, NoArguments as NoMore, MoreArguments as More}
 use Rattle.pv_check.proofs.MoreExamples.{context}
 use Rattle.pv_check.proofs.ExampleRows.{AreTyped, object, value_of_object, int_constant}
+
+-- the type of `int add(int x, long y)`, its designator, the pointer to it, and the arguments `(1, 2)`
+abbrev adds : Ty
+adds = FunctionTy (IntTy kind.Int) (MoreTys (IntTy kind.Int) (MoreTys (IntTy kind.Long) NoTys)) false
+
+abbrev add : TypedTree
+add = Node adds 1 true (typed.Function 5)
+
+abbrev to_add : TypedTree
+to_add = Node (PointerTo adds) 1 false (typed.ArrayPointer add)
+
+abbrev one_two : Arguments
+one_two = More (int_constant 1) (More (Node (IntTy kind.Long) 1 false (typed.Convert (int_constant 2))) NoMore)
 
 -- Subscripts (C17 6.5.2.1).
 subscript_operand_rows : AreTyped context (
@@ -85,9 +98,9 @@ call_operand_rows : AreTyped context (
     -- ((make))(1).x
     (Member 1 (Call 1 (Paren 1 (Paren 1 (Name 1 58))) (Argument NoArguments (Number 1 1 true false 0))) 95, Some (Node (IntTy kind.Int) 1 true (typed.MemberOfValue (Node (StructTag 1) 1 true (typed.Call 0 (More (int_constant 1) NoMore))) 0))) ∷
     -- (i, add)(1, 2)
-    (Call 1 (Paren 1 (Comma 1 (Name 1 13) (Name 1 63))) (Argument (Argument NoArguments (Number 1 1 true false 0)) (Number 1 2 true false 0)), None) ∷
+    (Call 1 (Paren 1 (Comma 1 (Name 1 13) (Name 1 63))) (Argument (Argument NoArguments (Number 1 1 true false 0)) (Number 1 2 true false 0)), Some (Node (IntTy kind.Int) 1 true (typed.CallPointer (Node (PointerTo adds) 1 true (typed.Comma (value_of_object (IntTy kind.Int) 6) to_add)) one_two))) ∷
     -- (1 ? add : add)(1, 2)
-    (Call 1 (Paren 1 (Conditional 1 (Number 1 1 true false 0) (Name 1 63) (Name 1 63))) (Argument (Argument NoArguments (Number 1 1 true false 0)) (Number 1 2 true false 0)), None) ∷
+    (Call 1 (Paren 1 (Conditional 1 (Number 1 1 true false 0) (Name 1 63) (Name 1 63))) (Argument (Argument NoArguments (Number 1 1 true false 0)) (Number 1 2 true false 0)), Some (Node (IntTy kind.Int) 1 true (typed.CallPointer (Node (PointerTo adds) 1 true (typed.Conditional (int_constant 1) to_add to_add)) one_two))) ∷
     -- total(m)
     (Call 1 (Name 1 69) (Argument NoArguments (Name 1 34)), None) ∷
     -- total(m[0])
@@ -197,7 +210,7 @@ address_operand_rows : AreTyped context (
     -- &A
     (Unary 1 uop.Address (Name 1 0), None) ∷
     -- &add
-    (Unary 1 uop.Address (Name 1 63), None) ∷
+    (Unary 1 uop.Address (Name 1 63), Some (Node (PointerTo adds) 1 true (typed.Address add))) ∷
     -- *&a
     (Unary 1 uop.Indirection (Unary 1 uop.Address (Name 1 32)), Some (Node (ArrayOf (IntTy kind.Int) (Some 3)) 1 true (typed.Indirection (Node (PointerTo (ArrayOf (IntTy kind.Int) (Some 3))) 1 true (typed.Address (object (ArrayOf (IntTy kind.Int) (Some 3)) 25)))))) ∷
     -- **m
@@ -209,11 +222,11 @@ address_operand_rows : AreTyped context (
     -- *node
     (Unary 1 uop.Indirection (Name 1 44), None) ∷
     -- *add
-    (Unary 1 uop.Indirection (Name 1 63), None) ∷
+    (Unary 1 uop.Indirection (Name 1 63), Some (Node adds 1 true (typed.Indirection to_add))) ∷
     -- (add)
-    (Paren 1 (Name 1 63), None) ∷
+    (Paren 1 (Name 1 63), Some add) ∷
     [])
-unfolding layouts_of are_compatible
+unfolding layouts_of are_compatible library_named
 address_operand_rows = refl
 
 -- The operators `+`, `-`, `~` and `!` (C17 6.5.3.3).

@@ -259,7 +259,7 @@ type_name_rows : AreTyped context (
     -- sizeof (int (void))
     (SizeofType 1 (TypeName 1 (Then NoTrees (OfSpecifier (Keyword 1 word.Int))) (Present (OfDeclarator (AbstractFunction 1 Absent (Then NoTrees (OfDeclaration (Parameter 1 (Then NoTrees (OfSpecifier (Keyword 1 word.Void))) Absent))) false)))), None) ∷
     -- sizeof (int (*)(int))
-    (SizeofType 1 (TypeName 1 (Then NoTrees (OfSpecifier (Keyword 1 word.Int))) (Present (OfDeclarator (AbstractFunction 1 (Present (OfDeclarator (AbstractParen 1 (AbstractPointer 1 0 Absent)))) (Then NoTrees (OfDeclaration (Parameter 1 (Then NoTrees (OfSpecifier (Keyword 1 word.Int))) Absent))) false)))), None) ∷
+    (SizeofType 1 (TypeName 1 (Then NoTrees (OfSpecifier (Keyword 1 word.Int))) (Present (OfDeclarator (AbstractFunction 1 (Present (OfDeclarator (AbstractParen 1 (AbstractPointer 1 0 Absent)))) (Then NoTrees (OfDeclaration (Parameter 1 (Then NoTrees (OfSpecifier (Keyword 1 word.Int))) Absent))) false)))), Some (Node (IntTy kind.ULong) 1 true (typed.Sizeof 8))) ∷
     -- sizeof (int *(*[2])[3])
     (SizeofType 1 (TypeName 1 (Then NoTrees (OfSpecifier (Keyword 1 word.Int))) (Present (OfDeclarator (AbstractPointer 1 0 (Present (OfDeclarator (AbstractArray 1 (Present (OfDeclarator (AbstractParen 1 (AbstractPointer 1 0 (Present (OfDeclarator (AbstractArray 1 Absent (Present (OfExpression (Number 1 2 true false 0)))))))))) (Present (OfExpression (Number 1 3 true false 0)))))))))), Some (Node (IntTy kind.ULong) 1 true (typed.Sizeof 16))) ∷
     -- sizeof (string)

@@ -4,10 +4,10 @@ use Rattle.pv_script.specs.declared.library.Library.{Library}
 use Rattle.pv_script.specs.declared.library.Library.TheVariants as library
 use Rattle.pv_types.specs.Layouts.{is_complete_in}
 use Rattle.pv_types.specs.Ty.{Ty, Tys, NoTys, MoreTys, FunctionTy}
-use Rattle.pv_typed.specs.TypedTree.{TypedTree, Form, Node, Call, LibraryCall, Convert, ArrayPointer, String, arguments_of, form_of, type_of}
+use Rattle.pv_typed.specs.TypedTree.{TypedTree, Form, Node, Call, CallPointer, LibraryCall, Convert, ArrayPointer, String, arguments_of, form_of, type_of}
 use Rattle.pv_typed.specs.TypedUnits.{WholeUnit, function_at, name_at, literal_at, layouts}
 use Rattle.pv_check.specs.Library.{library_named, is_format}
-use Rattle.pv_check.specs.Sorts.{is_void}
+use Rattle.pv_check.specs.Sorts.{is_void, pointed_by}
 use Rattle.pv_check.specs.Values.{written, promoted_value, assigned}
 
 -- one argument before others, where all may be passed: a list helper (6.5.2.2p4)
@@ -82,6 +82,22 @@ call_at u line f (FunctionTy t ts variadic) args =
     then called_by_name u line f t (passed ts variadic args)
     else None
 call_at u line f t args = None
+
+-- 6.5.2.2p5: a call of the function that a pointer points to, with the type of its result
+abbrev pub pointed_call : ℕ → TypedTree → Ty → Option (List TypedTree) → Option TypedTree
+pointed_call line a t None = None
+pointed_call line a t (Some args) = Some (written line t (CallPointer a (arguments_of args)))
+
+-- 6.5.2.2p1 and p5: the same as call_through, by what the pointer points to: a function that returns void or a complete object type
+abbrev pub call_to : WholeUnit → ℕ → TypedTree → Option Ty → List TypedTree → Option TypedTree
+call_to u line a (Some (FunctionTy t ts variadic)) args =
+    if is_void t || is_complete_in (layouts u) t then pointed_call line a t (passed ts variadic args) else None
+call_to u line a _ args = None
+
+-- 6.5.2.2p1: a call by a value that is a pointer to a function
+-- worked: pointer_call_rows (proofs/FunctionExamples)
+abbrev pub call_through : WholeUnit → ℕ → TypedTree → List TypedTree → Option TypedTree
+call_through u line a args = call_to u line a (pointed_by (type_of a)) args
 
 -- 6.5.2.2p1: a call by the number of the function, whose type is looked up
 abbrev pub call_of : WholeUnit → ℕ → ℕ → List TypedTree → Option TypedTree

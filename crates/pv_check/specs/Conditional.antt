@@ -4,7 +4,7 @@ use Rattle.pv_types.specs.Ty.{Ty, VoidTy, IntTy, PointerTo, StructTag, UnionTag}
 use Rattle.pv_typed.specs.TypedTree.{TypedTree, Conditional, type_of}
 use Rattle.pv_check.specs.Kinds.{common}
 use Rattle.pv_check.specs.Qualified.{unqualified, qualified_if, is_const, same}
-use Rattle.pv_check.specs.Sorts.{is_scalar, is_void, are_alike}
+use Rattle.pv_check.specs.Sorts.{is_scalar, are_alike, has_void}
 use Rattle.pv_check.specs.Composite.{composite}
 use Rattle.pv_typed.specs.Addresses.{is_null_constant}
 use Rattle.pv_check.specs.Values.{written, converted}
@@ -14,12 +14,12 @@ abbrev pub pointer_to : (const : Bool) → Ty → Ty
 pointer_to const t = PointerTo (qualified_if const t)
 
 -- 6.5.15p6: what two pointers that are no null pointer constants give: a pointer to the composite type, or to void where one
--- points to void, with the qualifiers of both
+-- points to void and the other to no function, with the qualifiers of both
 -- worked: composite_of_pointers_rows (proofs/ConditionalExamples)
 abbrev pub merged : Ty → Ty → Option Ty
 merged t u =
     if are_alike t u then Some (pointer_to (is_const t || is_const u) (composite (unqualified t) (unqualified u)))
-    else (if is_void t || is_void u then Some (pointer_to (is_const t || is_const u) VoidTy) else None)
+    else (if has_void t u then Some (pointer_to (is_const t || is_const u) VoidTy) else None)
 
 -- 6.5.15p6: with a null pointer constant, the type of the other operand; two of pointer type are two pointers
 -- worked: chosen_pointer_rows, chosen_void_pointer_rows, chosen_null_pointer_rows (proofs/ConditionalExamples)

@@ -65,9 +65,9 @@ abbrev pub size_of : ℤ → Option ℕ
 size_of (pos n) = if nat_lt 0 n && nat_le n (2 ^ 32) then Some n else None
 size_of (negsuc n) = None
 
--- 6.7.6.1: functions are not pointed to
+-- 6.7.6.1p1: a pointer to the type, `const` or not
 abbrev pub pointer_to : Bool → Ty → Option Ty
-pointer_to constant t = if is_function t then None else with_const constant (PointerTo t)
+pointer_to constant t = with_const constant (PointerTo t)
 
 -- 6.7.6.2p1: of a complete object type; no size where `unsized` says so; no more than 2 ^ 32 bytes (5.2.4.1)
 abbrev pub array_of : (unsized : Bool) → List Entry → Option ℕ → Ty → Option Ty
@@ -99,10 +99,11 @@ abbrev pub derived : Bool → List Entry → List Derivation → Ty → Option T
 derived unsized env [] t = Some t
 derived unsized env (d ∷ ds) t = and_then (derived unsized env ds t) (step unsized env d)
 
--- 6.7.6.3p7: a parameter of array type is a pointer; p8: none is a function. 6.7.3p9: no array or function type has a qualifier
+-- 6.7.6.3p7, p8: a parameter of array type is a pointer to its element, one of function type a pointer to it. 6.7.3p9: no array or
+-- function type has a qualifier
 abbrev pub adjusted : Ty → Option Ty
 adjusted (ArrayOf t n) = Some (PointerTo t)
-adjusted (FunctionTy t ts v) = None
+adjusted (FunctionTy t ts v) = Some (PointerTo (FunctionTy t ts v))
 adjusted (ConstOf t) = if is_adjusted t then Some (ConstOf t) else None
 adjusted t = Some t
 

@@ -10,6 +10,7 @@ pub mod Words
 pub mod Specifiers
 pub mod Tags
 pub mod Derivations
+pub mod Library
 pub mod Primary
 pub mod Postfix
 pub mod Unary
@@ -19,7 +20,6 @@ pub mod Growing
 pub mod Assignment
 pub mod Conditional
 pub mod Signatures
-pub mod Library
 pub mod Calls
 pub mod Rows
 pub mod Typing
@@ -37,4 +37,5 @@ pub mod MembersRead
 pub mod Passing
 pub mod ListedRows
 pub mod Operands
+pub mod Callees
 pub mod Forms

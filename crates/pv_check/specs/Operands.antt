@@ -9,7 +9,7 @@ use Rattle.pv_typed.specs.TypedTree.{TypedTree}
 use Rattle.pv_check.specs.declared.arms.Two.{Two}
 use Rattle.pv_check.specs.Arms.{first_operand, row_of_two}
 use Rattle.pv_check.specs.Derivations.{Steps}
-use Rattle.pv_check.specs.Rows.{operand, conditional, unevaluated, measured, sizeof_named, cast, callee, with_callee, call, by_function}
+use Rattle.pv_check.specs.Rows.{operand, conditional, unevaluated, measured, sizeof_named, cast, callee, Callee, called_by, call, by_function}
 use Rattle.pv_check.specs.State.{State, After, and_then, give, entered}
 use Rattle.pv_check.specs.Typing.{types, type_named, arguments, parameters}
 
@@ -37,14 +37,14 @@ abbrev pub cast_to_type : Forest → ℕ → NodeId → NodeId → State → Opt
 cast_to_type f line n a s =
     and_then (type_named (declaration_at f n) s) (λ x. and_then (operand (types (expression_at f a) x.state)) (cast line x.value))
 
--- 6.5.2.2p1: the function that is called by its name, and that it is used (6.9p5)
-abbrev pub callee_of : ExpressionTree → State → Option (After ℕ)
-callee_of e s = and_then (callee s.scopes e) (λ c. give (Some c) (with_callee s c))
+-- 6.5.2.2p1: what is called: the function by its name, which is used so (6.9p5), or the value of the callee
+abbrev pub callee_of : ExpressionTree → State → Option (After Callee)
+callee_of e s = called_by (callee s.scopes e) s (operand (types e s))
 
 -- 6.5.2.2p4: a call with a list of arguments
 abbrev pub call_with_list : Forest → ℕ → NodeId → ListId → State → Option (After TypedTree)
 call_with_list f line g args s =
-    and_then (callee s.scopes (expression_at f g)) (λ c. and_then (arguments (arguments_at f args) (with_callee s c)) (call line c))
+    and_then (callee_of (expression_at f g) s) (λ c. and_then (arguments (arguments_at f args) c.state) (call line c.value))
 
 -- 6.7.7p2: the type that specifiers and an abstract declarator name
 abbrev pub type_of_name : Forest → ℕ → ListId → Option NodeId → State → Option (After Ty)

@@ -10,7 +10,7 @@ use Rattle.pv_check.specs.declared.scopes.Tag.TheVariants as known_tag
 use Rattle.pv_check.specs.declared.scopes.Named.{Named}
 use Rattle.pv_check.specs.declared.scopes.Named.TheVariants as named
 use Rattle.pv_check.specs.declared.scopes.Scope.{Scope as KeptScope}
-use Rattle.pv_check.specs.State.{Scope, Meaning, ObjectName, FunctionName, TypedefOf, ConstantOf, TagMeaning, CompositeTag, EnumerationTag, OpenEnumeration, Used, UsedObject, UsedFunction, bound}
+use Rattle.pv_check.specs.State.{Scope, Meaning, ObjectName, FunctionName, TypedefOf, ConstantOf, TagMeaning, CompositeTag, EnumerationTag, OpenEnumeration, Used, UsedObject, UsedFunction, PointedFunction, bound}
 
 -- a scope (6.2.1p4), as it is kept: what names and tags designate is kept by numbers of tables
 pub record RawScope : Type 0 where
@@ -75,6 +75,7 @@ tag_meaning m tag.Unfinished = OpenEnumeration
 abbrev pub used_of : Named → Used
 used_of (named.Object o) = UsedObject o
 used_of (named.Function f) = UsedFunction f
+used_of (named.Pointed f) = PointedFunction f
 
 -- a name and what it designates (6.2.1p1)
 abbrev pub name_shown : Known → ℕ × Entry → ℕ × Meaning

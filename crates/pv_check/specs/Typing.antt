@@ -12,7 +12,7 @@ use Rattle.pv_check.specs.Specifiers.{Seen, nothing_seen, with_keyword, with_typ
 use Rattle.pv_check.specs.Tags.{is_union_word, tag_named, opened, some_members, completed, opened_enumeration, closed_enumeration, enumerated}
 use Rattle.pv_check.specs.Derivations.{Parameter as OneParameter, Steps, no_steps, declared_name, optional_name, may_be_variadic}
 use Rattle.pv_check.specs.Primary.{name_of, integer_of, character_of, bytes_of_text, text_of}
-use Rattle.pv_check.specs.Rows.{operand, subscript, member, arrow, increment, unary, unevaluated, measured, sizeof_named, cast, binary, conditional, assignment, comma, with_argument, callee, with_callee, call, integer_value, plain, by_pointer, by_array, by_function, known_size, named_type, member_of, parameter_of}
+use Rattle.pv_check.specs.Rows.{operand, subscript, member, arrow, increment, unary, unevaluated, measured, sizeof_named, cast, binary, conditional, assignment, comma, with_argument, callee, called_by, call, integer_value, plain, by_pointer, by_array, by_function, known_size, named_type, member_of, parameter_of}
 
 abbrev mutual
   -- 6.5: an expression's typed tree, or none where it breaks a constraint
@@ -23,7 +23,8 @@ abbrev mutual
   types (Text line first more) s = Some (text_of line (bytes_of_text s.texts first more) s)
   types (Paren line a) s = types a s
   types (Index line a i) s = and_then (operand (types a s)) (λ l. and_then (operand (types i l.state)) (subscript line l.value))
-  types (Call line f args) s = and_then (callee s.scopes f) (λ c. and_then (arguments args (with_callee s c)) (call line c))
+  types (Call line f args) s =
+      and_then (called_by (callee s.scopes f) s (operand (types f s))) (λ c. and_then (arguments args c.state) (call line c.value))
   types (Member line a n) s = and_then (types a s) (member line n)
   types (Arrow line a n) s = and_then (operand (types a s)) (arrow line n)
   types (PostIncrement line a) s = and_then (types a s) (increment line step.PostIncrement)

@@ -2,11 +2,11 @@
 use Rattle.std.specs.Prelude.{ℕ, Bool, true, false, not, ◌&&◌, ◌||◌, if◌then◌else◌, Option, Some, None, List}
 use Rattle.pv_num.specs.declared.kinds.IntKind.TheVariants.{Bool as BoolKind}
 use Rattle.pv_types.specs.Layouts.{Entry, is_complete_in}
-use Rattle.pv_types.specs.Ty.{Ty, IntTy, PointerTo, ArrayOf, StructTag, UnionTag}
+use Rattle.pv_types.specs.Ty.{Ty, IntTy, PointerTo, ArrayOf, StructTag, UnionTag, FunctionTy}
 use Rattle.pv_typed.specs.TypedTree.{TypedTree, Form, Node, Convert, Read, ArrayPointer, type_of, line_of, is_lvalue}
 use Rattle.pv_check.specs.Kinds.{promoted}
 use Rattle.pv_check.specs.Qualified.{unqualified, is_const, same}
-use Rattle.pv_check.specs.Sorts.{is_void, is_array, are_alike}
+use Rattle.pv_check.specs.Sorts.{is_array, are_alike, has_void}
 use Rattle.pv_types.specs.Qualifiers.{has_const}
 use Rattle.pv_typed.specs.Addresses.{is_null_constant}
 
@@ -19,13 +19,14 @@ written line t x = Node t line true x
 abbrev pub implied : ℕ → Ty → Form → TypedTree
 implied line t x = Node t line false x
 
--- 6.3.2.1p2 and p3: of an array the pointer to its first element, of another lvalue what it holds; 6.3.2.1p2: an incomplete type
--- has no value
+-- 6.3.2.1p2 to p4: of an array the pointer to its first element, of a function designator the pointer to the function, of another
+-- lvalue what it holds; 6.3.2.1p2: an incomplete type has no value
 abbrev pub read_at : List Entry → TypedTree → Ty → Option TypedTree
 read_at env a (ArrayOf t n) = Some (implied (line_of a) (PointerTo t) (ArrayPointer a))
+read_at env a (FunctionTy t ts v) = Some (implied (line_of a) (PointerTo (FunctionTy t ts v)) (ArrayPointer a))
 read_at env a t = if is_complete_in env t then Some (implied (line_of a) (unqualified t) (Read a)) else None
 
--- 6.3.2.1p2 and p3: the value of an lvalue, or the expression itself
+-- 6.3.2.1p2 to p4: the value of an lvalue or a designator, or the expression itself
 -- worked: unqualified_value_rows (proofs/QualifierExamples); incomplete_structure_rows, unknown_size_rows, void_expression_rows
 --   (proofs/IncompleteExamples)
 abbrev pub value_of : List Entry → TypedTree → Option TypedTree
@@ -49,10 +50,11 @@ promotion a t = a
 abbrev pub promoted_value : TypedTree → TypedTree
 promoted_value a = promotion a (type_of a)
 
--- 6.5.16.1p1: the left one of two types pointed to has the qualifiers of the right one, and they are compatible or one is void
+-- 6.5.16.1p1: the left one of two types pointed to has the qualifiers of the right one, and they are compatible, or one is void and
+-- the other no function
 -- worked: assigned_pointer_rows (proofs/QualifierExamples)
 abbrev pub may_point : Ty → Ty → Bool
-may_point t u = (is_const t || not (is_const u)) && (are_alike t u || (is_void t || is_void u))
+may_point t u = (is_const t || not (is_const u)) && (are_alike t u || has_void t u)
 
 -- 6.5.16.1p1: a value of the right type may be assigned where the left one is wanted; here null says that it is a null pointer constant
 abbrev pub may_assign : Ty → Ty → (null : Bool) → Bool

@@ -11,7 +11,9 @@ ghost use Rattle.pv_check.specs.Values.{written, converted, may_point, may_assig
 ghost use Rattle.pv_check.specs.Assignment.{assigned_to, compound_at, arithmetic_assign, shift_assign, pointer_assign, comma_of};
 
 use crate::kinds::{common, promoted};
-use crate::sorts::{are_alike, complete_pointed_by, is_const, is_void, kind_of, same, unqualified};
+use crate::sorts::{
+    are_alike, complete_pointed_by, has_void, is_const, kind_of, same, unqualified,
+};
 use crate::values::{add, converted, to_kind};
 use pv_num::{BinOp, IntKind};
 use pv_tree::NodeId;
@@ -25,7 +27,7 @@ fn may_point(types: &Types, t: TypeId, u: TypeId) -> bool
     ensures { result ≡ may_point (tree types.now t.0) (tree types.now u.0) }
 {
     let qualified = is_const(types, t) || !is_const(types, u);
-    qualified && (are_alike(types, t, u) || (is_void(types, t) || is_void(types, u)))
+    qualified && (are_alike(types, t, u) || has_void(types, t, u))
 }
 
 /// Whether a value of the right type, a null pointer constant or not, may be assigned where the left type is wanted.
@@ -109,14 +111,18 @@ fn compound_at(
     ensures kept { OnOk result (Kept into.old into.new) }
 {
     let t = unqualified(into.types(), into.type_of(a));
-    let value = to_kind(into, right, b)?;
-    let r = add(
+    let Ok(value) = to_kind(into, right, b) else {
+        return Err(NoMemory);
+    };
+    let Ok(r) = add(
         into,
         Typed::CompoundAssign(op, kind, a, value),
         t,
         line,
         true,
-    )?;
+    ) else {
+        return Err(NoMemory);
+    };
     Ok(Some(r))
 }
 

@@ -7,22 +7,22 @@ ghost use Rattle.pv_typed.specs.Tables.{Stored, whole, expression_at, list_at, I
 ghost use Rattle.pv_typed.specs.TypedTree.{form_of};
 ghost use Rattle.pv_typed.specs.TypedUnits.{function_at, name_at};
 ghost use Rattle.pv_check.specs.Arms.{after_node, OpenIf};
-ghost use Rattle.pv_check.specs.Calls.{further, passed, string_in, literal_in, is_format_literal, may_pass, library_call, program_call, called, call_of, called_by_name};
+ghost use Rattle.pv_check.specs.Calls.{further, passed, string_in, literal_in, is_format_literal, may_pass, library_call, program_call, called, call_of, called_by_name, pointed_call, call_through};
 ghost use Rattle.pv_check.specs.Kept.{Kept, expression_if};
 ghost use Rattle.pv_check.specs.Library.{library_named};
-ghost use Rattle.pv_check.specs.Open.{state_of, IsOpen, after_number};
+ghost use Rattle.pv_check.specs.Open.{state_of, IsOpen};
 ghost use Rattle.pv_check.specs.Passing.{one_passed, trees_if};
-ghost use Rattle.pv_check.specs.Rows.{function_in, callee, with_callee, call};
+ghost use Rattle.pv_check.specs.Rows.{function_in, callee, call, call_by};
 ghost use Rattle.pv_check.specs.State.{and_then, give, look};
 ghost use Rattle.pv_check.specs.Raw.{scopes_shown};
 ghost use Rattle.pv_tree.specs.Tables.{Is, is_expression, expression_at as expression_of_node};
-ghost use Rattle.pv_check.specs.Operands.{callee_of};
+ghost use Rattle.pv_check.specs.Callees.{AreCalled, CalleeKnown, callee_in};
 
 use crate::formats::{is_format, library_named};
 use crate::names::look_up;
 use crate::operators::assigned;
 use crate::scopes::{Entry, Named, Scopes};
-use crate::sorts::is_void;
+use crate::sorts::{is_void, pointed_by};
 use crate::values::{add, promoted_value};
 use pv_script::Library;
 use pv_tree::{Expr, ListId, NodeId, Unit};
@@ -57,7 +57,16 @@ fn function_named(s: &Scopes, into: &TypedUnit, name: u32) -> Option<u32>
     }
 }
 
-/// The function that is called, which counts as used.
+/// What a call calls (C17 6.5.2.2p1).
+#[derive(Clone, Copy)]
+pub(crate) enum Target {
+    /// A function, by its name.
+    Named(u32),
+    /// What a value points to.
+    Pointed(NodeId),
+}
+
+/// The function that is called by its name, which counts as used.
 pub(crate) fn used_callee(
     s: &mut Scopes,
     u: &Unit,
@@ -68,7 +77,7 @@ pub(crate) fn used_callee(
     requires open { IsOpen into.now s.old }
     ensures open { OnOk result (IsOpen into.now s.new) }
     ensures known { IfOk result (λ r. IfSome r (λ f. f < length into.now.functions)) }
-    ensures value { IfOk result (λ r. (texts : List (List ℕ)) (hidden : Bool) → after_number texts hidden s.new into.now r ≡ callee_of (expression_of_node u.now.forest n) (state_of texts hidden s.old into.now)) }
+    ensures value { IfOk result (λ r. (texts : List (List ℕ)) (hidden : Bool) → AreCalled texts hidden s.new into.now (expression_of_node u.now.forest n) (state_of texts hidden s.old into.now) r) }
 {
     let Some(f) = callee(s, u, into, n) else {
         return Ok(None);
@@ -303,12 +312,102 @@ fn call_with(
     ensures typed { IfOk result (λ r. expression_if into.new r ≡ called_by_name (whole into.old) line f (tree into.old.known t.0) (passed (parameters_at into.old.known params) variadic (map (expression_at into.old) args.now))) }
     ensures kept { OnOk result (Kept into.old into.new) }
 {
+    let Ok(types) = Vec::from_slice(alloc, into.types().param_list(params)) else {
+        return Err(NoMemory);
+    };
+    let Ok(found) = passed(alloc, into, &types, variadic, args) else {
+        return Err(NoMemory);
+    };
+    let Some(list) = found else {
+        return Ok(None);
+    };
+    let Ok(r) = called(into, line, f, t, &list) else {
+        return Err(NoMemory);
+    };
+    Ok(r)
+}
+
+/// A call of what a pointer points to, with arguments as they are passed.
+fn pointed_call(
+    into: &mut TypedUnit,
+    line: u32,
+    a: NodeId,
+    t: TypeId,
+    args: &[NodeId],
+) -> Result<Option<NodeId>, NoMemory>
+    requires known { AreKnown into.old }
+    requires callee { IsExpression into.old a }
+    requires target { t.0 < length into.old.known.terms }
+    requires nodes { Each (IsExpression into.old) args.now }
+    ensures node { IfOk result (λ r. IfSome r (λ v. IsExpression into.new v)) }
+    ensures typed { IfOk result (λ r. expression_if into.new r ≡ pointed_call line (expression_at into.old a) (tree into.old.known t.0) (Some (map (expression_at into.old) args.now))) }
+    ensures kept { OnOk result (Kept into.old into.new) }
+{
+    let l = listed(into, args)?;
+    let r = add(into, Typed::CallPointer(a, l), t, line, true)?;
+    Ok(Some(r))
+}
+
+/// A call of what a pointer points to: a function that returns the type, with parameters of these types.
+fn call_pointer(
+    alloc: Global,
+    into: &mut TypedUnit,
+    line: u32,
+    a: NodeId,
+    t: TypeId,
+    params: u32,
+    variadic: bool,
+    args: &[NodeId],
+) -> Result<Option<NodeId>, NoMemory>
+    requires known { AreKnown into.old }
+    requires callee { IsExpression into.old a }
+    requires target { t.0 < length into.old.known.terms }
+    requires list { params < length into.old.known.lists }
+    requires nodes { Each (IsExpression into.old) args.now }
+    ensures node { IfOk result (λ r. IfSome r (λ v. IsExpression into.new v)) }
+    ensures typed { IfOk result (λ r. expression_if into.new r ≡ pointed_call line (expression_at into.old a) (tree into.old.known t.0) (passed (parameters_at into.old.known params) variadic (map (expression_at into.old) args.now))) }
+    ensures kept { OnOk result (Kept into.old into.new) }
+{
     let types = Vec::from_slice(alloc, into.types().param_list(params))?;
     let Some(list) = passed(alloc, into, &types, variadic, args)? else {
         return Ok(None);
     };
-    let r = called(into, line, f, t, &list)?;
+    let r = pointed_call(into, line, a, t, &list)?;
     Ok(r)
+}
+
+/// A call by a value that is a pointer to a function (C17 6.5.2.2).
+fn call_through(
+    alloc: Global,
+    into: &mut TypedUnit,
+    line: u32,
+    a: NodeId,
+    args: &[NodeId],
+) -> Result<Option<NodeId>, NoMemory>
+    requires known { AreKnown into.old }
+    requires callee { IsExpression into.old a }
+    requires nodes { Each (IsExpression into.old) args.now }
+    ensures node { IfOk result (λ r. IfSome r (λ v. IsExpression into.new v)) }
+    ensures typed { IfOk result (λ r. expression_if into.new r ≡ call_through (whole into.old) line (expression_at into.old a) (map (expression_at into.old) args.now)) }
+    ensures kept { OnOk result (Kept into.old into.new) }
+{
+    let Some(to) = pointed_by(into.types(), into.type_of(a)) else {
+        return Ok(None);
+    };
+    match into.types().view(to) {
+        Term::Function {
+            result,
+            params,
+            variadic,
+        } => {
+            if is_void(into.types(), result) || into.types().is_complete(result) {
+                call_pointer(alloc, into, line, a, result, params, variadic, args)
+            } else {
+                Ok(None)
+            }
+        }
+        _ => Ok(None),
+    }
 }
 
 /// A call of a function, whose arguments have these values (C17 6.5.2.2).
@@ -343,22 +442,43 @@ fn call_of(
     }
 }
 
+/// A call of what is called (C17 6.5.2.2).
+fn call_by(
+    alloc: Global,
+    into: &mut TypedUnit,
+    line: u32,
+    c: Target,
+    args: &[NodeId],
+) -> Result<Option<NodeId>, NoMemory>
+    requires known { AreKnown into.old }
+    requires callee { CalleeKnown into.old c }
+    requires nodes { Each (IsExpression into.old) args.now }
+    ensures node { IfOk result (λ r. IfSome r (λ v. IsExpression into.new v)) }
+    ensures typed { IfOk result (λ r. expression_if into.new r ≡ call_by (whole into.old) line (callee_in into.old c) (map (expression_at into.old) args.now)) }
+    ensures kept { OnOk result (Kept into.old into.new) }
+{
+    match c {
+        Target::Named(f) => call_of(alloc, into, line, f, args),
+        Target::Pointed(a) => call_through(alloc, into, line, a, args),
+    }
+}
+
 /// The same beside the scopes, which stay open.
 pub(crate) fn call(
     s: &Scopes,
     hidden: bool,
     line: u32,
-    f: u32,
+    c: Target,
     args: &[NodeId],
     into: &mut TypedUnit,
 ) -> Result<Option<NodeId>, NoMemory>
     requires open { IsOpen into.old s.now }
-    requires function { f < length into.old.functions }
+    requires callee { CalleeKnown into.old c }
     requires nodes { Each (IsExpression into.old) args.now }
     ensures open { IfOk result (λ r. OpenIf into.new s.now r) }
-    ensures typed { (texts : List (List ℕ)) → IfOk result (λ r. after_node texts hidden s.now into.new r ≡ call line f (record { value = map (expression_at into.old) args.now; state = state_of texts hidden s.now into.old })) }
+    ensures typed { (texts : List (List ℕ)) → IfOk result (λ r. after_node texts hidden s.now into.new r ≡ call line (callee_in into.old c) (record { value = map (expression_at into.old) args.now; state = state_of texts hidden s.now into.old })) }
     ensures kept { OnOk result (Kept into.old into.new) }
 {
-    let r = call_of(s.allocator(), into, line, f, args)?;
+    let r = call_by(s.allocator(), into, line, c, args)?;
     Ok(r)
 }

@@ -139,19 +139,29 @@ fn joined_function(
     ensures tree { IfOk result (λ r. tree types.new r.0 ≡ composite (signature_in types.old left) (signature_in types.old right)) }
     ensures grows { OnOk result (Grows types.old types.new) }
 {
-    let firsts = Vec::from_slice(alloc, types.param_list(left.params))?;
-    let seconds = Vec::from_slice(alloc, types.param_list(right.params))?;
-    let list = joined_list(alloc, types, bound, &firsts, &seconds)?;
-    let params = listed(types, list)?;
-    let result = joined(alloc, types, left.result, right.result)?;
-    let r = interned(
-        types,
-        Term::Function {
-            result,
-            params,
-            variadic: left.variadic,
-        },
-    )?;
+    let Ok(firsts) = Vec::from_slice(alloc, types.param_list(left.params)) else {
+        return Err(NoMemory);
+    };
+    let Ok(seconds) = Vec::from_slice(alloc, types.param_list(right.params)) else {
+        return Err(NoMemory);
+    };
+    let Ok(list) = joined_list(alloc, types, bound, &firsts, &seconds) else {
+        return Err(NoMemory);
+    };
+    let Ok(params) = listed(types, list) else {
+        return Err(NoMemory);
+    };
+    let Ok(result) = joined(alloc, types, left.result, right.result) else {
+        return Err(NoMemory);
+    };
+    let whole = Term::Function {
+        result,
+        params,
+        variadic: left.variadic,
+    };
+    let Ok(r) = interned(types, whole) else {
+        return Err(NoMemory);
+    };
     Ok(r)
 }
 
@@ -175,7 +185,9 @@ fn joined_list(
     let mut list = Vec::new(alloc);
     let mut i = 0;
     while i < left.len() {
-        let one = joined(alloc, types, left[i], right[i])?;
+        let Ok(one) = joined(alloc, types, left[i], right[i]) else {
+            return Err(NoMemory);
+        };
         list.push(one)?;
         i += 1;
     }

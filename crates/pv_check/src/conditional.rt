@@ -14,7 +14,7 @@ use crate::composite_types::composite;
 use crate::interning::interned;
 use crate::kinds::common;
 use crate::qualified::qualified;
-use crate::sorts::{is_const, is_scalar, is_void, same, unqualified};
+use crate::sorts::{has_void, is_const, is_scalar, same, unqualified};
 use crate::values::{add, converted};
 use pv_tree::NodeId;
 use pv_typed::{Typed, TypedUnit, is_null_constant};
@@ -29,12 +29,15 @@ fn pointer_to(types: &mut Types, constant: bool, t: TypeId) -> Result<TypeId, No
     ensures grows { OnOk result (Grows types.old types.new) }
 {
     if constant {
-        let inner = qualified(types, t)?;
-        let r = interned(types, Term::Pointer(inner))?;
+        let Ok(inner) = qualified(types, t) else {
+            return Err(NoMemory);
+        };
+        let Ok(r) = interned(types, Term::Pointer(inner)) else {
+            return Err(NoMemory);
+        };
         return Ok(r);
     }
-    let r = interned(types, Term::Pointer(t))?;
-    Ok(r)
+    interned(types, Term::Pointer(t))
 }
 
 /// A pointer to `void`, `const` or not.
@@ -43,8 +46,12 @@ fn pointer_to_void(types: &mut Types, constant: bool) -> Result<TypeId, NoMemory
     ensures tree { IfOk result (λ r. tree types.new r.0 ≡ pointer_to constant VoidTy) }
     ensures grows { OnOk result (Grows types.old types.new) }
 {
-    let void = interned(types, Term::Void)?;
-    let r = pointer_to(types, constant, void)?;
+    let Ok(void) = interned(types, Term::Void) else {
+        return Err(NoMemory);
+    };
+    let Ok(r) = pointer_to(types, constant, void) else {
+        return Err(NoMemory);
+    };
     Ok(r)
 }
 
@@ -65,12 +72,18 @@ fn merged(
     let left = unqualified(types, t);
     let right = unqualified(types, u);
     if types.compatible(left, right) {
-        let both = composite(alloc, types, left, right)?;
-        let r = pointer_to(types, constant, both)?;
+        let Ok(both) = composite(alloc, types, left, right) else {
+            return Err(NoMemory);
+        };
+        let Ok(r) = pointer_to(types, constant, both) else {
+            return Err(NoMemory);
+        };
         return Ok(Some(r));
     }
-    if is_void(types, t) || is_void(types, u) {
-        let r = pointer_to_void(types, constant)?;
+    if has_void(types, t, u) {
+        let Ok(r) = pointer_to_void(types, constant) else {
+            return Err(NoMemory);
+        };
         return Ok(Some(r));
     }
     Ok(None)
@@ -199,9 +212,15 @@ fn chosen(
     ensures typed { IfOk result (λ r. Some (expression_at into.new r) ≡ chosen line (expression_at into.old a) (expression_at into.old b) (expression_at into.old c) (Some (tree into.old.known t.0))) }
     ensures kept { OnOk result (Kept into.old into.new) }
 {
-    let second = converted(into, t, b)?;
-    let third = converted(into, t, c)?;
-    let r = add(into, Typed::Conditional(a, second, third), t, line, true)?;
+    let Ok(second) = converted(into, t, b) else {
+        return Err(NoMemory);
+    };
+    let Ok(third) = converted(into, t, c) else {
+        return Err(NoMemory);
+    };
+    let Ok(r) = add(into, Typed::Conditional(a, second, third), t, line, true) else {
+        return Err(NoMemory);
+    };
     Ok(r)
 }
 
@@ -225,9 +244,14 @@ pub(crate) fn conditional(
     if !is_scalar(into.types(), into.type_of(a)) {
         return Ok(None);
     }
-    let Some(t) = type_of_both(alloc, into, b, c)? else {
+    let Ok(found) = type_of_both(alloc, into, b, c) else {
+        return Err(NoMemory);
+    };
+    let Some(t) = found else {
         return Ok(None);
     };
-    let r = chosen(into, line, a, b, c, t)?;
+    let Ok(r) = chosen(into, line, a, b, c, t) else {
+        return Err(NoMemory);
+    };
     Ok(Some(r))
 }

@@ -23,18 +23,19 @@ pub enum Step {
     Function { params: u32, variadic: bool },
 }
 
-/// A pointer to the type; no function is pointed to.
+/// A pointer to the type, `const` or not.
 fn pointer_to(types: &mut Types, constant: bool, t: TypeId) -> Result<Option<TypeId>, NoMemory>
     requires { t.0 < length types.old.terms }
     ensures known { IfOk result (λ r. IsType types.new r) }
     ensures tree { IfOk result (λ r. type_if types.new r ≡ pointer_to constant (tree types.old t.0)) }
     ensures grows { OnOk result (Grows types.old types.new) }
 {
-    if is_function(types, t) {
-        return Ok(None);
-    }
-    let pointer = interned(types, Term::Pointer(t))?;
-    let r = with_const(types, constant, pointer)?;
+    let Ok(pointer) = interned(types, Term::Pointer(t)) else {
+        return Err(NoMemory);
+    };
+    let Ok(r) = with_const(types, constant, pointer) else {
+        return Err(NoMemory);
+    };
     Ok(r)
 }
 

@@ -11,12 +11,13 @@ ghost use Rattle.pv_check.specs.Unary.{sizeof_type, cast_of};
 ghost use Rattle.pv_check.specs.Open.{state_of, IsOpen, Goes};
 ghost use Rattle.pv_check.specs.Arms.{after_node, OpenIf, row_of_one, row_of_two, first_operand};
 ghost use Rattle.pv_check.specs.Kept.{Kept, env_of};
-ghost use Rattle.pv_check.specs.Rows.{operand, conditional, unevaluated, measured, sizeof_named, cast, callee, with_callee, call};
+ghost use Rattle.pv_check.specs.Rows.{operand, conditional, unevaluated, measured, sizeof_named, cast, call};
 ghost use Rattle.pv_check.specs.Typing.{types, type_named, arguments};
-ghost use Rattle.pv_check.specs.Operands.{of_two_operands, of_three_operands, size_of_operand, size_of_named_type, cast_to_type, call_with_list};
+ghost use Rattle.pv_check.specs.Operands.{of_two_operands, of_three_operands, size_of_operand, size_of_named_type, cast_to_type, callee_of, call_with_list};
+ghost use Rattle.pv_check.specs.Callees.{CalledIf, after_callee};
 
 use crate::arms::{One, Two};
-use crate::calls::{call, used_callee};
+use crate::calls::{Target, call, used_callee};
 use crate::constants::{letter, number};
 use crate::names::name;
 use crate::rows::{one, three, two};
@@ -376,6 +377,31 @@ fn cast_to(
     Ok(r)
 }
 
+/// What a call calls: a function by its name, or the value of the callee (C17 6.5.2.2p1).
+#[cycle(typed)]
+fn callee_of(
+    s: &mut Scopes,
+    u: &Unit,
+    t: &Tokens,
+    f: NodeId,
+    hidden: bool,
+    into: &mut TypedUnit,
+) -> Result<Option<Target>, NoMemory>
+    requires node { Is u.now is_expression f }
+    requires open { IsOpen into.old s.old }
+    ensures open { IfOk result (λ r. CalledIf into.new s.new r) }
+    ensures typed { IfOk result (λ r. after_callee t.now.texts hidden s.new into.new r ≡ callee_of (expression_of_node u.now.forest f) (state_of t.now.texts hidden s.old into.old)) }
+    ensures goes { IfOk result (λ r. IfSome r (λ v. Goes into.old into.new)) }
+{
+    if let Some(c) = used_callee(s, u, into, f)? {
+        return Ok(Some(Target::Named(c)));
+    }
+    let Some(a) = operand(s, u, t, f, hidden, into)? else {
+        return Ok(None);
+    };
+    Ok(Some(Target::Pointed(a)))
+}
+
 /// `f ( arguments )` (C17 6.5.2.2).
 #[cycle(typed)]
 fn call_to(
@@ -395,7 +421,7 @@ fn call_to(
     ensures typed { IfOk result (λ r. after_node t.now.texts hidden s.new into.new r ≡ call_with_list u.now.forest line f args (state_of t.now.texts hidden s.old into.old)) }
     ensures goes { IfOk result (λ r. IfSome r (λ v. Goes into.old into.new)) }
 {
-    let Some(c) = used_callee(s, u, into, f)? else {
+    let Some(c) = callee_of(s, u, t, f, hidden, into)? else {
         return Ok(None);
     };
     let Some(list) = arguments(s, u, t, args, hidden, into)? else {

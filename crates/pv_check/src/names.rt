@@ -1,19 +1,21 @@
 //! Identifiers (C17 6.5.1p2).
-ghost use Rattle.std.specs.Prelude.{◌≡◌, ◌<◌, ℕ, List, Some, IfOk, IfSome, OnOk, length};
+ghost use Rattle.std.specs.Prelude.{◌≡◌, ◌<◌, ℕ, List, Some, IfOk, IfSome, OnOk, length, is_some};
 ghost use Rattle.pv_types.specs.Ty.{IntTy};
 ghost use Rattle.pv_num.specs.declared.kinds.IntKind.TheVariants.{Int};
-ghost use Rattle.pv_typed.specs.TypedTree.{Object, Constant};
-ghost use Rattle.pv_typed.specs.TypedUnits.{object_at};
+ghost use Rattle.pv_typed.specs.TypedTree.{Object, Function, Constant};
+ghost use Rattle.pv_typed.specs.TypedUnits.{object_at, function_at, name_at};
 ghost use Rattle.pv_typed.specs.Tables.{whole, expression_at, IsExpression};
 ghost use Rattle.pv_typed.specs.Formed.{AreKnown};
-ghost use Rattle.pv_check.specs.State.{look, ObjectName, ConstantOf};
-ghost use Rattle.pv_check.specs.Primary.{name_of};
-ghost use Rattle.pv_check.specs.Raw.{scopes_shown, meaning_if};
+ghost use Rattle.pv_check.specs.State.{look, ObjectName, FunctionName, ConstantOf};
+ghost use Rattle.pv_check.specs.Primary.{name_of, used_function, designator_of};
+ghost use Rattle.pv_check.specs.Library.{library_named};
+ghost use Rattle.pv_check.specs.Raw.{scopes_shown, meaning_if, used_of};
 ghost use Rattle.pv_check.specs.Open.{state_of, IsOpen, Goes, EntryKnown};
 ghost use Rattle.pv_check.specs.Arms.{after_node, OpenIf};
 ghost use Rattle.pv_check.specs.Kept.{Kept, expression_if};
 ghost use Rattle.pv_check.specs.Values.{written};
 
+use crate::formats::library_named;
 use crate::scopes::{Entry, Named, Scopes};
 use crate::values::{add, intern};
 use pv_num::IntKind;
@@ -45,8 +47,12 @@ pub(crate) fn enumerator(
     ensures typed { IfOk result (λ r. expression_if into.new r ≡ Some (written line (IntTy Int) (Constant value))) }
     ensures kept { OnOk result (Kept into.old into.new) }
 {
-    let t = intern(into, Term::Int(IntKind::Int))?;
-    let r = add(into, Typed::Constant(value), t, line, true)?;
+    let Ok(t) = intern(into, Term::Int(IntKind::Int)) else {
+        return Err(NoMemory);
+    };
+    let Ok(r) = add(into, Typed::Constant(value), t, line, true) else {
+        return Err(NoMemory);
+    };
     Ok(Some(r))
 }
 
@@ -96,7 +102,80 @@ fn named_constant(
     Ok(r)
 }
 
-/// The object or the enumerator that an identifier designates; a function's name is the callee of a call alone.
+/// Whether a function is one of the library.
+fn is_of_library(into: &TypedUnit, f: u32) -> bool
+    requires known { AreKnown into.now }
+    requires function { f < length into.now.functions }
+    ensures { result ≡ is_some (library_named (name_at (whole into.now) (function_at (whole into.now) f).name)) }
+{
+    let name = into.function(f).name;
+    library_named(into.names().text(name)).is_some()
+}
+
+/// The designator of a function.
+fn designator(into: &mut TypedUnit, line: u32, f: u32) -> Result<Option<NodeId>, NoMemory>
+    requires known { AreKnown into.old }
+    requires function { f < length into.old.functions }
+    ensures node { IfOk result (λ r. IfSome r (λ v. IsExpression into.new v)) }
+    ensures typed { IfOk result (λ r. expression_if into.new r ≡ Some (written line (function_at (whole into.old) f).t (Function f))) }
+    ensures kept { OnOk result (Kept into.old into.new) }
+{
+    let t = into.function(f).t;
+    let r = add(into, Typed::Function(f), t, line, true)?;
+    Ok(Some(r))
+}
+
+/// How a function that an expression names is noted: in the operand of `sizeof` it isn't pointed to.
+fn as_named(hidden: bool, f: u32) -> Named
+    ensures { used_of result ≡ used_function hidden f }
+{
+    if hidden {
+        Named::Function(f)
+    } else {
+        Named::Pointed(f)
+    }
+}
+
+/// A function that an identifier designates, which is pointed to, but in the operand of `sizeof`.
+fn placed_function(
+    s: &mut Scopes,
+    hidden: bool,
+    line: u32,
+    f: u32,
+    into: &mut TypedUnit,
+) -> Result<Option<NodeId>, NoMemory>
+    requires open { IsOpen into.old s.old }
+    requires function { f < length into.old.functions }
+    ensures open { IfOk result (λ r. OpenIf into.new s.new r) }
+    ensures typed { (texts : List (List ℕ)) → IfOk result (λ r. after_node texts hidden s.new into.new r ≡ Some (designator_of line f (state_of texts hidden s.old into.old))) }
+    ensures goes { OnOk result (Goes into.old into.new) }
+{
+    s.note(as_named(hidden, f))?;
+    let r = designator(into, line, f)?;
+    Ok(r)
+}
+
+/// A function that an identifier designates; one of the library is a callee alone.
+fn named_function(
+    s: &mut Scopes,
+    hidden: bool,
+    line: u32,
+    f: u32,
+    into: &mut TypedUnit,
+) -> Result<Option<NodeId>, NoMemory>
+    requires open { IsOpen into.old s.old }
+    requires function { f < length into.old.functions }
+    ensures open { IfOk result (λ r. OpenIf into.new s.new r) }
+    ensures typed { (texts : List (List ℕ)) → IfOk result (λ r. after_node texts hidden s.new into.new r ≡ name_of line (Some (FunctionName f)) (state_of texts hidden s.old into.old)) }
+    ensures goes { OnOk result (Goes into.old into.new) }
+{
+    if is_of_library(into, f) {
+        return Ok(None);
+    }
+    placed_function(s, hidden, line, f, into)
+}
+
+/// What an identifier designates: an object, an enumerator or a function.
 pub(crate) fn name(
     s: &mut Scopes,
     hidden: bool,
@@ -112,6 +191,7 @@ pub(crate) fn name(
     match look_up(s, into, n) {
         Some(Entry::Object(o)) => named_object(s, hidden, line, o, into),
         Some(Entry::Constant(value)) => named_constant(s, hidden, line, value, into),
-        Some(Entry::Function(_)) | Some(Entry::Typedef(_)) | None => Ok(None),
+        Some(Entry::Function(f)) => named_function(s, hidden, line, f, into),
+        Some(Entry::Typedef(_)) | None => Ok(None),
     }
 }

@@ -60,7 +60,10 @@ fn adjusted(types: &mut Types, t: TypeId) -> Result<Option<TypeId>, NoMemory>
             let r = interned(types, Term::Pointer(element))?;
             Ok(Some(r))
         }
-        Term::Function { .. } => Ok(None),
+        Term::Function { .. } => {
+            let r = interned(types, Term::Pointer(t))?;
+            Ok(Some(r))
+        }
         Term::Const(inner) => {
             if types.is_adjusted(inner) {
                 Ok(Some(t))
@@ -85,10 +88,15 @@ fn parameter_type(
     ensures tree { IfOk result (λ r. type_if types.new r ≡ and_then (derived true (env types.old) (steps_in types.old steps.now) (tree types.old base.0)) adjusted) }
     ensures grows { OnOk result (Grows types.old types.new) }
 {
-    let Some(t) = derived(types, true, steps, 0, base)? else {
+    let Ok(found) = derived(types, true, steps, 0, base) else {
+        return Err(NoMemory);
+    };
+    let Some(t) = found else {
         return Ok(None);
     };
-    let r = adjusted(types, t)?;
+    let Ok(r) = adjusted(types, t) else {
+        return Err(NoMemory);
+    };
     Ok(r)
 }
 

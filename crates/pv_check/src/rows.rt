@@ -39,10 +39,15 @@ fn arrow_node(
     ensures typed { IfOk result (λ r. expression_if into.new r ≡ of_value (value_of (env_of into.old) (expression_at into.old a)) (arrow_from (whole into.old).completed line name)) }
     ensures kept { OnOk result (Kept into.old into.new) }
 {
-    let Some(x) = value(into, a)? else {
+    let Ok(found) = value(into, a) else {
+        return Err(NoMemory);
+    };
+    let Some(x) = found else {
         return Ok(None);
     };
-    let r = arrow_from(into, line, name, x)?;
+    let Ok(r) = arrow_from(into, line, name, x) else {
+        return Err(NoMemory);
+    };
     Ok(r)
 }
 

@@ -47,7 +47,10 @@ pub enum TagEntry {
 #[derive(Clone, Copy)]
 pub enum Named {
     Object(u32),
+    /// A function that is called by its name, or named in the operand of `sizeof`.
     Function(u32),
+    /// A function whose pointer is evaluated (C17 6.3.2.1p4).
+    Pointed(u32),
 }
 
 /// A scope; names and tags have name spaces of their own (C17 6.2.3).

@@ -3,7 +3,7 @@ ghost use Rattle.std.specs.Prelude.{◌≡◌, ◌<◌, ◌≤◌, length, IfSom
 ghost use Rattle.pv_types.specs.Known.{tree, tree_in, trees, env, IsBuilt};
 ghost use Rattle.pv_types.specs.Layouts.{is_complete_in};
 ghost use Rattle.pv_check.specs.Qualified.{unqualified, is_const, same};
-ghost use Rattle.pv_check.specs.Sorts.{kind_of, pointed_by, is_scalar, is_void, is_composite, is_array, is_function, complete_pointed_by, are_alike};
+ghost use Rattle.pv_check.specs.Sorts.{kind_of, pointed_by, is_scalar, is_void, is_composite, is_array, is_function, points_to_function, is_void_beside, has_void, is_truth, complete_pointed_by, are_alike};
 ghost use Rattle.pv_check.specs.Shown.{type_if};
 
 use pv_num::IntKind;
@@ -131,6 +131,46 @@ pub fn same(types: &Types, t: TypeId, u: TypeId) -> bool
 {
     let _layer = types.view(t);
     t == u
+}
+
+/// Whether it is a pointer to a function (C17 6.2.5p20).
+pub(crate) fn points_to_function(types: &Types, t: TypeId) -> bool
+    requires { t.0 < length types.now.terms }
+    ensures { result ≡ points_to_function (tree types.now t.0) }
+{
+    match pointed_by(types, t) {
+        Some(to) => is_function(types, to),
+        None => false,
+    }
+}
+
+/// Whether the left one is `void`, and the right one no function (C17 6.3.2.3p1).
+pub(crate) fn is_void_beside(types: &Types, t: TypeId, u: TypeId) -> bool
+    requires left { t.0 < length types.now.terms }
+    requires right { u.0 < length types.now.terms }
+    ensures { result ≡ is_void_beside (tree types.now t.0) (tree types.now u.0) }
+{
+    is_void(types, t) && !is_function(types, u)
+}
+
+/// Whether one is `void`, and the other no function (C17 6.3.2.3p1).
+pub(crate) fn has_void(types: &Types, t: TypeId, u: TypeId) -> bool
+    requires left { t.0 < length types.now.terms }
+    requires right { u.0 < length types.now.terms }
+    ensures { result ≡ has_void (tree types.now t.0) (tree types.now u.0) }
+{
+    is_void_beside(types, t, u) || is_void_beside(types, u, t)
+}
+
+/// Whether it is `_Bool` (C17 6.2.5p6).
+pub(crate) fn is_truth(types: &Types, t: TypeId) -> bool
+    requires { t.0 < length types.now.terms }
+    ensures { result ≡ is_truth (tree types.now t.0) }
+{
+    match kind_of(types, t) {
+        Some(IntKind::Bool) => true,
+        _ => false,
+    }
 }
 
 /// Whether it is a function type (C17 6.2.5p20).

@@ -31,9 +31,15 @@ fn literal_node(into: &mut TypedUnit, line: u32, l: u32, len: u64) -> Result<Nod
     ensures typed { IfOk result (λ r. expression_at into.new r ≡ written line (ArrayOf (IntTy Char) (Some len)) (String l)) }
     ensures kept { OnOk result (Kept into.old into.new) }
 {
-    let char = intern(into, Term::Int(IntKind::Char))?;
-    let t = intern(into, Term::Array(char, Some(len)))?;
-    let r = add(into, Typed::String(l), t, line, true)?;
+    let Ok(char) = intern(into, Term::Int(IntKind::Char)) else {
+        return Err(NoMemory);
+    };
+    let Ok(t) = intern(into, Term::Array(char, Some(len))) else {
+        return Err(NoMemory);
+    };
+    let Ok(r) = add(into, Typed::String(l), t, line, true) else {
+        return Err(NoMemory);
+    };
     Ok(r)
 }
 
@@ -95,10 +101,14 @@ pub(crate) fn text(
     ensures typed { IfOk result (λ r. after_node t.now.texts hidden s.now into.new r ≡ Some (text_of line (bytes_of_text t.now.texts first more) (state_of t.now.texts hidden s.now into.old))) }
     ensures goes { OnOk result (Goes into.old into.new) }
 {
-    let bytes = bytes_of_text(s.allocator(), t, first, more)?;
+    let Ok(bytes) = bytes_of_text(s.allocator(), t, first, more) else {
+        return Err(NoMemory);
+    };
     if bytes.is_empty() || bytes.len() >= 0x1_0000_0000 {
         return Err(NoMemory);
     }
-    let r = literal(s, hidden, line, &bytes, into)?;
+    let Ok(r) = literal(s, hidden, line, &bytes, into) else {
+        return Err(NoMemory);
+    };
     Ok(r)
 }

@@ -1,7 +1,7 @@
 //! The value that is taken of an operand (C17 6.3.2.1), and conversions (C17 6.3).
-ghost use Rattle.std.specs.Prelude.{◌≡◌, ◌<◌, IfOk, IfSome, OnOk, IsTrue, length};
+ghost use Rattle.std.specs.Prelude.{◌≡◌, ◌<◌, Some, IfOk, IfSome, OnOk, IsTrue, length};
 ghost use Rattle.pv_types.specs.Known.{IsKnown, tree, tree_in, trees, env};
-ghost use Rattle.pv_types.specs.Ty.{IntTy};
+ghost use Rattle.pv_types.specs.Ty.{IntTy, PointerTo};
 ghost use Rattle.pv_check.specs.Growing.{is_sized};
 ghost use Rattle.pv_check.specs.Kept.{AreSmall};
 ghost use Rattle.pv_typed.specs.TypedTree.{Node};
@@ -9,11 +9,11 @@ ghost use Rattle.pv_typed.specs.Nodes.{form_in};
 ghost use Rattle.pv_typed.specs.Children.{HasOperands};
 ghost use Rattle.pv_typed.specs.Formed.{NamesIn};
 ghost use Rattle.pv_check.specs.Qualified.{qualified};
-ghost use Rattle.pv_typed.specs.TypedTree.{is_lvalue, type_of};
+ghost use Rattle.pv_typed.specs.TypedTree.{ArrayPointer, is_lvalue, type_of};
 ghost use Rattle.pv_typed.specs.Tables.{Stored, nodes, expression_at, IsExpression};
 ghost use Rattle.pv_typed.specs.Formed.{AreKnown};
 ghost use Rattle.pv_check.specs.Kept.{Kept, env_of, expression_if};
-ghost use Rattle.pv_check.specs.Values.{read_at, value_of, converted, promoted_value};
+ghost use Rattle.pv_check.specs.Values.{implied, read_at, value_of, converted, promoted_value};
 
 use crate::interning::interned;
 use crate::kinds::promoted;
@@ -68,21 +68,44 @@ pub(crate) fn constant(into: &mut TypedUnit, t: TypeId) -> Result<TypeId, NoMemo
     Ok(r)
 }
 
-/// Whether it is an lvalue (C17 6.3.2.1p1).
+/// Whether it is an lvalue (C17 6.3.2.1p1) or a function designator (6.3.2.1p4).
 pub(crate) fn is_lvalue(into: &TypedUnit, n: NodeId) -> bool
     requires known { AreKnown into.now }
     requires node { IsExpression into.now n }
     ensures { result ≡ is_lvalue (expression_at into.now n) }
 {
     match into.node(n) {
-        Typed::Object(_) | Typed::String(_) | Typed::Subscript(_, _) => true,
-        Typed::Member(_, _) | Typed::Arrow(_, _) => true,
+        Typed::Object(_) | Typed::Function(_) | Typed::String(_) => true,
+        Typed::Subscript(_, _) | Typed::Member(_, _) | Typed::Arrow(_, _) => true,
         Typed::Indirection(_) => !is_void(into.types(), into.type_of(n)),
         _ => false,
     }
 }
 
-/// What an lvalue holds, or the pointer to the first element of an array (C17 6.3.2.1p2, p3).
+/// The pointer that stands for a place: to the first element of an array, or to a function (C17 6.3.2.1p3, p4).
+fn pointer_to_place(
+    into: &mut TypedUnit,
+    line: u32,
+    t: TypeId,
+    n: NodeId,
+) -> Result<Option<NodeId>, NoMemory>
+    requires known { AreKnown into.old }
+    requires node { IsExpression into.old n }
+    requires target { t.0 < length into.old.known.terms }
+    ensures node { IfOk result (λ r. IfSome r (λ v. IsExpression into.new v)) }
+    ensures value { IfOk result (λ r. expression_if into.new r ≡ Some (implied line (PointerTo (tree into.old.known t.0)) (ArrayPointer (expression_at into.old n)))) }
+    ensures kept { OnOk result (Kept into.old into.new) }
+{
+    let Ok(to) = intern(into, Term::Pointer(t)) else {
+        return Err(NoMemory);
+    };
+    let Ok(r) = add(into, Typed::ArrayPointer(n), to, line, false) else {
+        return Err(NoMemory);
+    };
+    Ok(Some(r))
+}
+
+/// What an lvalue holds, or the pointer to the first element of an array, or to a function (C17 6.3.2.1p2 to p4).
 fn read(into: &mut TypedUnit, n: NodeId) -> Result<Option<NodeId>, NoMemory>
     requires known { AreKnown into.old }
     requires node { IsExpression into.old n }
@@ -93,15 +116,18 @@ fn read(into: &mut TypedUnit, n: NodeId) -> Result<Option<NodeId>, NoMemory>
     let t = into.type_of(n);
     let line = into.line_of(n);
     if let Term::Array(element, _) = into.types().view(t) {
-        let to = intern(into, Term::Pointer(element))?;
-        let r = add(into, Typed::ArrayPointer(n), to, line, false)?;
-        return Ok(Some(r));
+        return pointer_to_place(into, line, element, n);
+    }
+    if let Term::Function { .. } = into.types().view(t) {
+        return pointer_to_place(into, line, t, n);
     }
     if !into.types().is_complete(t) {
         return Ok(None);
     }
     let plain = unqualified(into.types(), t);
-    let r = add(into, Typed::Read(n), plain, line, false)?;
+    let Ok(r) = add(into, Typed::Read(n), plain, line, false) else {
+        return Err(NoMemory);
+    };
     Ok(Some(r))
 }
 
@@ -147,8 +173,12 @@ pub(crate) fn to_kind(into: &mut TypedUnit, kind: IntKind, n: NodeId) -> Result<
     ensures value { IfOk result (λ r. expression_at into.new r ≡ converted (IntTy kind) (expression_at into.old n)) }
     ensures kept { OnOk result (Kept into.old into.new) }
 {
-    let t = intern(into, Term::Int(kind))?;
-    let r = converted(into, t, n)?;
+    let Ok(t) = intern(into, Term::Int(kind)) else {
+        return Err(NoMemory);
+    };
+    let Ok(r) = converted(into, t, n) else {
+        return Err(NoMemory);
+    };
     Ok(r)
 }
 

@@ -75,8 +75,10 @@ module _ (b : Setting) (call : Calling) (t : Ty) (line : ℕ) (ls : List (List N
   begins-if (typed.Read a) = refl
   begins-if (typed.ArrayPointer a) = refl
   begins-if (typed.Convert a) = refl
+  begins-if (typed.CallPointer a l) = refl
   begins-if (typed.Constant k) = tt
   begins-if (typed.Object o) = tt
+  begins-if (typed.Function f) = tt
   begins-if (typed.String l) = tt
   begins-if (typed.Call f l) = tt
   begins-if (typed.LibraryCall f l) = tt
@@ -202,8 +204,10 @@ takes-form ls ts turn (typed.PointerAssign g a d) = refl
 takes-form ls ts turn (typed.Comma a d) = refl
 takes-form ls ts turn (typed.Constant k) = refl
 takes-form ls ts turn (typed.Object o) = refl
+takes-form ls ts turn (typed.Function f) = refl
 takes-form ls ts turn (typed.String l) = refl
 takes-form ls ts turn (typed.Call f l) = refl
+takes-form ls ts turn (typed.CallPointer a l) = refl
 takes-form ls ts turn (typed.LibraryCall f l) = refl
 takes-form ls ts turn (typed.Sizeof k) = refl
 
@@ -219,7 +223,7 @@ access-given b call u m a (Err (failure.Stop y line)) res old new s hs h k = ap 
 
 -- the setting of a unit
 abbrev some_setting : Stored → Moment → Setting
-some_setting u m = record { unit = whole u; types = u.known; bound = 0; sides = m.sides }
+some_setting u m = record { unit = whole u; types = u.known; bound = 0; sides = m.sides; zap = true }
 
 some-is : (u : Stored) (m : Moment) → IsSetting (some_setting u m) u m
 some-is u m = record { unit = refl; types = refl; sides = refl }

@@ -41,7 +41,7 @@ module _ {A : Type 0} (give : A → Worth) (b : Setting) (o : Op) (w : World) wh
 
 -- what an operation does rests on the unit and the numbers of its types alone
 abbrev plain : Setting → Setting
-plain b = record { unit = b.unit; types = b.types; bound = 0; sides = None }
+plain b = record { unit = b.unit; types = b.types; bound = 0; sides = None; zap = true }
 
 does_plain : (b : Setting) (o : Op) (w : World) → does b o w ≡ does (plain b) o w
 does_plain b (op.Converts how v) w = refl
@@ -57,13 +57,16 @@ does_plain b (op.Orders o v x) w = refl
 does_plain b (op.Equals negated v x) w = refl
 does_plain b (op.Follows nothing v) w = refl
 does_plain b (op.Selects offset v) w = refl
+does_plain b (op.Finds t v) w = refl
 does_plain b (op.TakesPart offset l v) w = refl
 does_plain b (op.Reads l place rivals) w = refl
 does_plain b (op.Writes l place v from rivals) w = refl
 does_plain b (op.NamesObject o) w = refl
 does_plain b (op.NamesLiteral l) w = refl
+does_plain b (op.NamesFunction f) w = refl
 does_plain b (op.Makes o) w = refl
 does_plain b (op.MakesLiteral l) w = refl
+does_plain b (op.MakesFunction f) w = refl
 does_plain b (op.Ends o) w = refl
 does_plain b op.BeginsBody w = refl
 does_plain b op.EndsBody w = refl
@@ -76,7 +79,7 @@ does_plain b (op.Asks f args) w = refl
 pub does_in : (b : Setting) (u : Stored) (o : Setting → Op) (w : World) → b.unit ≡ whole u → b.types ≡ u.known → o b ≡ o (plain b)
     → does b (o b) w ≡ does (setting_of u) (o (setting_of u)) w
 does_in b u o w unit types same =
-    let at : WholeUnit → Known → Setting = λ U K. record { unit = U; types = K; bound = 0; sides = None } in
+    let at : WholeUnit → Known → Setting = λ U K. record { unit = U; types = K; bound = 0; sides = None; zap = true } in
     ap (λ x. does b x w) same
     ∙ does_plain b (o (plain b)) w
     ∙ ap (λ (U : WholeUnit). does (at U b.types) (o (at U b.types)) w) unit

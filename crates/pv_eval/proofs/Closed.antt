@@ -10,20 +10,21 @@ use Rattle.pv_num.specs.declared.operators.BinOp.TheVariants as op
 use Rattle.pv_script.specs.declared.library.Library.{Library}
 use Rattle.pv_libc.specs.declared.values.Arg.{Arg}
 use Rattle.pv_typed.specs.declared.nodes.IncrementOperator.{IncrementOperator}
-use Rattle.pv_typed.specs.TypedTree.{TypedTree, Node, Constant, Object, String, Subscript, Call, LibraryCall, Member, MemberOfValue, Arrow, Increment, Address, Indirection, Unary, Not, Sizeof, Cast, Arithmetic, PointerSum, PointerDifference, PointerOrder, PointerEquality, LogicalAnd, LogicalOr, Conditional, Assign, CompoundAssign, PointerAssign, Comma, Read, ArrayPointer, Convert, Arguments, NoArguments, MoreArguments, type_of, line_of}
+use Rattle.pv_typed.specs.TypedTree.{TypedTree, Node, Constant, Object, Function, String, Subscript, Call, CallPointer, LibraryCall, Member, MemberOfValue, Arrow, Increment, Address, Indirection, Unary, Not, Sizeof, Cast, Arithmetic, PointerSum, PointerDifference, PointerOrder, PointerEquality, LogicalAnd, LogicalOr, Conditional, Assign, CompoundAssign, PointerAssign, Comma, Read, ArrayPointer, Convert, Arguments, NoArguments, MoreArguments, type_of, line_of}
 use Rattle.pv_seq.specs.Sequencing.{Access, Open, opened, beside, noted, settled, rivals}
 use Rattle.pv_world.specs.Worlds.{Worth}
 use Rattle.pv_eval.specs.States.{Setting, State, Res, Gives, then_do, tick}
 use Rattle.pv_world.specs.Worths.{int, is_true, pointer_of}
 use Rattle.pv_world.specs.declared.got.How.TheVariants.{Rounds}
-use Rattle.pv_eval.specs.TypeForms.{Lvalue, lvalue, kind_of, promoted, is_pointer, is_none, element_size}
+use Rattle.pv_eval.specs.TypeForms.{Lvalue, lvalue, kind_of, promoted, is_pointer, is_none, element_size, pointed_to}
 use Rattle.pv_eval.specs.Conversions.{how_to}
 use Rattle.pv_eval.specs.Accesses.{access_to}
-use Rattle.pv_eval.specs.Operations.{Op, Converts, Calculates, CalculatesOne, Tests, Negates, Accepts, Moves, Subtracts, Orders, Equals, Follows, Selects, TakesPart, Reads, Writes, NamesObject, NamesLiteral, Asks, act}
+use Rattle.pv_eval.specs.Operations.{Op, Converts, Calculates, CalculatesOne, Tests, Negates, Accepts, Moves, Subtracts, Orders, Equals, Follows, Selects, TakesPart, Reads, Writes, NamesObject, NamesLiteral, NamesFunction, Finds, Asks, act}
 use Rattle.pv_eval.specs.Sequenced.{Given, with_given, done, work, operand, later}
 use Rattle.pv_eval.specs.Steps.{Calling, converted, handed, reading, writing, source_of, is_unequal, is_minus, is_down, is_after, combining, stepping}
 use Rattle.pv_eval.specs.Arguments.{argument}
-use Rattle.pv_eval.specs.Evaluation.{ev, ev_call, ev_ask}
+use Rattle.pv_eval.specs.Evaluation.{ev, ev_call, ev_through, ev_ask}
+use Rattle.pv_eval.specs.Callees.{function_in}
 
 -- a relation on pieces of two runs, with the room before and after: more than the turns that may still be taken
 abbrev pub Relation : Type 1
@@ -40,7 +41,7 @@ pub record Ways (b b' : Setting) (R : Relation) : Type 1 where
 
 -- two settings of one unit
 abbrev pub beside_setting : Setting → ℕ → Option (List Bool) → Setting
-beside_setting b n sides = record { unit = b.unit; types = b.types; bound = n; sides = sides }
+beside_setting b n sides = record { unit = b.unit; types = b.types; bound = n; sides = sides; zap = b.zap }
 
 module _ (b : Setting) (n : ℕ) (sides : Option (List Bool)) {R : Relation} (w : Ways b (beside_setting b n sides) R) where
   abbrev c : Setting
@@ -90,6 +91,7 @@ module _ (b : Setting) (n : ℕ) (sides : Option (List Bool)) {R : Relation} (w 
       ev-closed (Node t line turn (Constant n)) fs = w.ticks (done-way (opened fs) (int n))
       ev-closed (Node t line turn (Sizeof n)) fs = w.ticks (done-way (opened fs) (int (pos n)))
       ev-closed (Node t line turn (Object o)) fs = w.ticks (work-way line (NamesObject o) (opened fs))
+      ev-closed (Node t line turn (Function f)) fs = w.ticks (work-way line (NamesFunction f) (opened fs))
       ev-closed (Node t line turn (String l)) fs = w.ticks (work-way line (NamesLiteral l) (opened fs))
       ev-closed (Node t line turn (Read x)) fs = operand-way (opened fs) (ev-closed x) (λ j p. reading-way (lvalue b (type_of x)) line p j done-way)
       ev-closed (Node t line turn (ArrayPointer x)) fs = operand-way (opened fs) (ev-closed x) done-way
@@ -119,11 +121,16 @@ module _ (b : Setting) (n : ℕ) (sides : Option (List Bool)) {R : Relation} (w 
       ev-closed (Node t line turn (PointerAssign g x y)) fs = w.ticks (operand-way (opened fs) (λ fs. w.less (ev-closed x fs)) (λ j p. reading-way (lvalue b (type_of x)) line p j (λ j v. operand-way j (λ fs. w.less (ev-closed y fs)) (λ j z. w.seq (w.acts line (Moves (is_minus g) true (element_size b t) v z)) (λ v. writing-way (lvalue b (type_of x)) line p v None j done-way)))))
       ev-closed (Node t line turn (Increment o x)) fs = w.ticks (operand-way (opened fs) (λ fs. w.less (ev-closed x fs)) (λ j p. reading-way (lvalue b (type_of x)) line p j (λ j v. w.seq (stepping-way line t o v) (λ z. writing-way (lvalue b (type_of x)) line p z None j (λ j z. done-way j (if is_after o then v else z))))))
       ev-closed (Node t line turn (Call f xs)) fs = w.ticks (call-closed line f [] xs (opened fs))
+      ev-closed (Node t line turn (CallPointer x xs)) fs = w.ticks (operand-way (opened fs) (λ fs. w.less (ev-closed x fs)) (λ j p. through-closed line (pointed_to (type_of x)) p [] xs j))
       ev-closed (Node t line turn (LibraryCall f xs)) fs = w.ticks (ask-closed line f [] xs (opened fs))
 
       call-closed : (line f : ℕ) (got : List Worth) (xs : Arguments) (j : Open) → R k k Given (ev_call b call line f got xs j) (ev_call c call' line f got xs j)
       call-closed line f got NoArguments j = w.seq (h f got line) (done-way (settled j))
       call-closed line f got (MoreArguments x xs) j = operand-way j (λ fs. w.less (ev-closed x fs)) (λ j v. w.seq (handed-way x v) (λ v. call-closed line f (got ++ v ∷ []) xs j))
+
+      through-closed : (line : ℕ) (t : Ty) (p : Worth) (got : List Worth) (xs : Arguments) (j : Open) → R k k Given (ev_through b call line t p got xs j) (ev_through c call' line t p got xs j)
+      through-closed line t p got NoArguments j = w.seq (w.acts line (Finds t p)) (λ f. w.seq (h (function_in f) got line) (done-way (settled j)))
+      through-closed line t p got (MoreArguments x xs) j = operand-way j (λ fs. w.less (ev-closed x fs)) (λ j v. w.seq (handed-way x v) (λ v. through-closed line t p (got ++ v ∷ []) xs j))
 
       ask-closed : (line : ℕ) (f : Library) (got : List Arg) (xs : Arguments) (j : Open) → R k k Given (ev_ask b call line f got xs j) (ev_ask c call' line f got xs j)
       ask-closed line f got NoArguments j = work-way line (Asks f got) (settled j)

@@ -5,6 +5,7 @@ use Rattle.pv_num.specs.declared.operators.BinOp.{BinOp}
 use Rattle.pv_num.specs.declared.operators.UnOp.{UnOp}
 use Rattle.pv_types.specs.Ty.{Ty}
 use Rattle.pv_tree.specs.declared.nodes.NodeId.{NodeId}
+use Rattle.pv_tree.specs.declared.nodes.ListId.{ListId}
 use Rattle.pv_typed.specs.declared.nodes.IncrementOperator.{IncrementOperator}
 use Rattle.pv_typed.specs.declared.nodes.Sign.{Sign}
 use Rattle.pv_typed.specs.declared.nodes.Typed.{Typed}
@@ -35,6 +36,7 @@ pub record IsIdle (x : Typed) : Type 0 where
   pub not-CompoundAssign : (o : BinOp) (k : IntKind) (a d : NodeId) → x ≢ typed.CompoundAssign o k a d
   pub not-PointerAssign : (g : Sign) (a d : NodeId) → x ≢ typed.PointerAssign g a d
   pub not-Increment : (o : IncrementOperator) (a : NodeId) → x ≢ typed.Increment o a
+  pub not-CallPointer : (a : NodeId) (l : ListId) → x ≢ typed.CallPointer a l
 
 module _ (b : Setting) (call : Calling) (t : Ty) (line : ℕ) (ls : List (List NodeId)) (ts : List Tree) (j : Open) (v : Worth) (s : State) where
   pub given-alone : (x : Typed) → second_operand_of x ≡ None → IsIdle x → first_after b call t line (form_in ls ts x) j v s ≡ done j v s
@@ -62,8 +64,10 @@ module _ (b : Setting) (call : Calling) (t : Ty) (line : ℕ) (ls : List (List N
   given-alone (typed.Assign a d) e h = absurd cc
   given-alone (typed.Constant k) e h = refl
   given-alone (typed.Object o) e h = refl
+  given-alone (typed.Function f) e h = refl
   given-alone (typed.String l) e h = refl
   given-alone (typed.Call f l) e h = refl
+  given-alone (typed.CallPointer a l) e h = absurd (h.not-CallPointer a l refl)
   given-alone (typed.LibraryCall f l) e h = refl
   given-alone (typed.Sizeof k) e h = refl
   given-alone (typed.Address a) e h = refl
@@ -91,8 +95,10 @@ module _ (b : Setting) (call : Calling) (t : Ty) (line : ℕ) (ls : List (List N
   second-alone (typed.Assign a d) h = absurd (h.not-Assign a d refl)
   second-alone (typed.Constant k) h = refl
   second-alone (typed.Object o) h = refl
+  second-alone (typed.Function f) h = refl
   second-alone (typed.String l) h = refl
   second-alone (typed.Call f l) h = refl
+  second-alone (typed.CallPointer a l) h = refl
   second-alone (typed.LibraryCall f l) h = refl
   second-alone (typed.Sizeof k) h = refl
   second-alone (typed.Address a) h = refl

@@ -6,6 +6,7 @@ pub mod Calls
 pub mod Numbers
 pub mod Accessing
 pub mod LibraryCalls
+mod Pointed
 pub mod Marking
 pub mod Given
 pub mod Machining

@@ -41,7 +41,7 @@ asked-last NoArguments vs v h = absurd (omega (arith, h))
 asked-last (MoreArguments x xs) [] v h = ap (λ z. argument x v ∷ z) (asked-none xs)
 asked-last (MoreArguments x xs) (w ∷ vs) v h = ap (λ z. argument x w ∷ z) (asked-last xs vs v (omega (arith, h)))
 
-map-length : (gs : List Got) → length (map worth_of gs) ≡ length gs
+pub map-length : (gs : List Got) → length (map worth_of gs) ≡ length gs
 map-length [] = refl
 map-length (g ∷ gs) = ap suc (map-length gs)
 

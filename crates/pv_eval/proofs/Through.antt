@@ -1,6 +1,6 @@
 -- Reads and writes through a type, by their guards.
 use Rattle.std.proofs.Common.{◌≡◌, ℕ, ◌≤◌, Bool, true, false, List, ◌∷◌, length, refl, sym, ap, ◌∙◌, subst, arith}
-use Rattle.std.specs.Prelude.{◌&&◌, Result, Ok, Err, IfOk, OnOk}
+use Rattle.std.specs.Prelude.{◌&&◌, nat_le, Result, Ok, Err, IfOk, OnOk}
 use Rattle.std.proofs.lemmas.Bool.{le-leb}
 use Rattle.pv_types.specs.Ty.{Ty}
 use Rattle.pv_types.specs.Known.{tree, env}
@@ -31,16 +31,25 @@ use Rattle.pv_eval.proofs.Guards.{both_of}
 
 -- the guard of an lvalue's type
 abbrev pub fits_lvalue : Stored → Ty → Bool
-fits_lvalue u t = is_complete_in (layouts (whole u)) (bare t) && is_size (size_of (setting_of u) t)
+fits_lvalue u t = is_complete_in (layouts (whole u)) (bare t) && (nat_le 1 (size_of (setting_of u) t) && is_size (size_of (setting_of u) t))
 
 pub lvalue_fits : (u : Stored) (l : Complete) → IsComplete u.known l → fits_lvalue u (tree u.known l.t.0) ≡ true
 lvalue_fits u l h =
     let t = tree u.known l.t.0 in
-    both_of (is_complete_in (layouts (whole u)) (bare t)) (is_size (size_of (setting_of u) t))
-    (bare_complete (env u.known) t ∙ h.complete) (le-leb (size_in u.known t) 4294967296 h.small)
+    let n = size_in u.known t in
+    let some : 1 ≤ n = omega (arith, h.some, h.size) in
+    both_of (is_complete_in (layouts (whole u)) (bare t)) (nat_le 1 n && is_size n)
+    (bare_complete (env u.known) t ∙ h.complete) (both_of (nat_le 1 n) (is_size n) (le-leb 1 n some) (le-leb n 4294967296 h.small))
 
 pub lvalue_unfit : (u : Stored) (t : Ty) → false ≡ (is_complete_in (env u.known) t && is_size (size_in u.known t)) → fits_lvalue u t ≡ false
-lvalue_unfit u t h = ap (λ c. c && is_size (size_in u.known t)) (bare_complete (env u.known) t) ∙ sym h
+lvalue_unfit u t h =
+    let n = size_in u.known t in
+    ap (λ c. c && (nat_le 1 n && is_size n)) (bare_complete (env u.known) t) ∙ neither (is_complete_in (env u.known) t) (nat_le 1 n) (is_size n) h
+  where
+    neither : (a b c : Bool) → false ≡ (a && c) → (a && (b && c)) ≡ false
+    neither false b c e = refl
+    neither true false c e = refl
+    neither true true c e = sym e
 
 pub left_false : (a b : Bool) → a ≡ false → (a && b) ≡ false
 left_false a b e = ap (λ x. x && b) e

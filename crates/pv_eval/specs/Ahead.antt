@@ -137,8 +137,10 @@ first_operand_of (typed.ArrayPointer a) = Some a
 first_operand_of (typed.Convert a) = Some a
 first_operand_of (typed.Constant k) = None
 first_operand_of (typed.Object o) = None
+first_operand_of (typed.Function f) = None
 first_operand_of (typed.String l) = None
 first_operand_of (typed.Call f l) = None
+first_operand_of (typed.CallPointer a l) = Some a
 first_operand_of (typed.LibraryCall f l) = None
 first_operand_of (typed.Sizeof k) = None
 

@@ -7,9 +7,9 @@ use Rattle.pv_typed.specs.declared.values.Const.{Const}
 use Rattle.pv_typed.specs.declared.values.Const.TheVariants as const
 use Rattle.pv_world.specs.Worlds.{Worth, World}
 use Rattle.pv_world.specs.Worths.{int, pointer, null_pointer}
-use Rattle.pv_world.specs.Objects.{base_in, literal_of}
+use Rattle.pv_world.specs.Objects.{base_in, literal_of, function_of}
 
--- 6.6p9: the pointer to a place in the instance of a static object or of a literal
+-- 6.6p9: the pointer to a place in the instance of a static object or of a literal, or to that of a function
 abbrev pub place_by : World → (instance offset : ℕ) → Worth
 place_by w i n = pointer (record { address = (base_in w i + n) % 2 ^ 64; prov = Inst i })
 
@@ -19,6 +19,7 @@ constant_worth w (const.Int n) = int n
 constant_worth w const.Null = pointer null_pointer
 constant_worth w (const.Address o n) = place_by w (unwrap_or (map.get w.statics o) 0) n
 constant_worth w (const.Literal l n) = place_by w (literal_of w l) n
+constant_worth w (const.Function f) = place_by w (function_of w f) 0
 
 -- the memory model: a pair that keeps its high candidate alone
 abbrev pub is_high_pair : Twin → Bool

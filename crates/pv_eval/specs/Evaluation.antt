@@ -5,18 +5,19 @@ use Rattle.std.specs.Prelude.{ℕ, pos, true, false, List, [], ◌∷◌, ◌++�
 use Rattle.pv_script.specs.declared.library.Library.{Library}
 use Rattle.pv_libc.specs.declared.values.Arg.{Arg}
 use Rattle.pv_types.specs.Ty.{Ty}
-use Rattle.pv_typed.specs.TypedTree.{TypedTree, Node, Form, Constant, Object, String, Subscript, Call, LibraryCall, Member, MemberOfValue, Arrow, Increment, Address, Indirection, Unary, Not, Sizeof, Cast, Arithmetic, PointerSum, PointerDifference, PointerOrder, PointerEquality, LogicalAnd, LogicalOr, Conditional, Assign, CompoundAssign, PointerAssign, Comma, Read, ArrayPointer, Convert, Arguments, NoArguments, MoreArguments, type_of}
+use Rattle.pv_typed.specs.TypedTree.{TypedTree, Node, Form, Constant, Object, Function, String, Subscript, Call, CallPointer, LibraryCall, Member, MemberOfValue, Arrow, Increment, Address, Indirection, Unary, Not, Sizeof, Cast, Arithmetic, PointerSum, PointerDifference, PointerOrder, PointerEquality, LogicalAnd, LogicalOr, Conditional, Assign, CompoundAssign, PointerAssign, Comma, Read, ArrayPointer, Convert, Arguments, NoArguments, MoreArguments, type_of}
 use Rattle.pv_seq.specs.Sequencing.{Access, Open, opened, settled}
 use Rattle.pv_world.specs.Worlds.{Worth}
 use Rattle.pv_eval.specs.States.{Setting, State, Res, then_do}
 use Rattle.pv_world.specs.Worths.{int, is_true}
-use Rattle.pv_eval.specs.TypeForms.{lvalue, kind_of, is_pointer, is_none, element_size}
+use Rattle.pv_eval.specs.TypeForms.{lvalue, kind_of, is_pointer, is_none, element_size, pointed_to}
 use Rattle.pv_eval.specs.Conversions.{how_to}
 use Rattle.pv_world.specs.declared.got.How.TheVariants.{Rounds}
-use Rattle.pv_eval.specs.Operations.{Converts, Calculates, CalculatesOne, Tests, Negates, Moves, Subtracts, Orders, Equals, Follows, Selects, TakesPart, NamesObject, NamesLiteral, Asks, act}
+use Rattle.pv_eval.specs.Operations.{Converts, Calculates, CalculatesOne, Tests, Negates, Moves, Subtracts, Orders, Equals, Follows, Selects, TakesPart, NamesObject, NamesLiteral, NamesFunction, Finds, Asks, act}
 use Rattle.pv_eval.specs.Sequenced.{Given, done, doing, work, operand, later}
 use Rattle.pv_eval.specs.Steps.{Calling, takes, tick_if, converted, handed, reading, writing, source_of, is_unequal, is_minus, is_after, combining, stepping}
 use Rattle.pv_eval.specs.Arguments.{argument}
+use Rattle.pv_eval.specs.Callees.{function_in}
 
 -- 6.5p1, p2: what a node gives: its turn first, then by its kind; then the arguments of a call of the program, and of the library
 unfoldable mutual
@@ -30,9 +31,10 @@ unfoldable mutual
   -- 6.5.1p2, p4
   ev_form b call t line (Object o) fs s = work b line (NamesObject o) (opened fs) s
   ev_form b call t line (String l) fs s = work b line (NamesLiteral l) (opened fs) s
+  ev_form b call t line (Function f) fs s = work b line (NamesFunction f) (opened fs) s
   -- 6.3.2.1p2
   ev_form b call t line (Read x) fs s = operand (ev b call x) (opened fs) s (λ j p s. reading b (lvalue b (type_of x)) line p j s done)
-  -- 6.3.2.1p3, 6.3, 6.5.3.2p3: the operand is all there is to do
+  -- 6.3.2.1p3, p4, 6.3, 6.5.3.2p3: the operand is all there is to do
   ev_form b call t line (ArrayPointer x) fs s = operand (ev b call x) (opened fs) s done
   ev_form b call t line (Convert x) fs s = operand (ev b call x) (opened fs) s done
   ev_form b call t line (Address x) fs s = operand (ev b call x) (opened fs) s done
@@ -98,6 +100,7 @@ unfoldable mutual
       done j (if is_after o then v else w) s))))
   -- 6.5.2.2
   ev_form b call t line (Call f xs) fs s = ev_call b call line f [] xs (opened fs) s
+  ev_form b call t line (CallPointer x xs) fs s = operand (ev b call x) (opened fs) s (λ j p s. ev_through b call line (pointed_to (type_of x)) p [] xs j s)
   ev_form b call t line (LibraryCall f xs) fs s = ev_ask b call line f [] xs (opened fs) s
 
   -- 6.5.2.2p10: the arguments that are left, each converted once it is evaluated, and after a sequence point the call
@@ -105,6 +108,13 @@ unfoldable mutual
   ev_call b call line f got NoArguments j s = then_do (call f got line s) (done (settled j))
   ev_call b call line f got (MoreArguments x xs) j s =
       operand (ev b call x) j s (λ j v s. then_do (handed b x v s) (λ v s. ev_call b call line f (got ++ v ∷ []) xs j s))
+
+  -- 6.5.2.2p1, p10: the same of a call by a value: behind the arguments it is asked which function the value points to
+  pub ev_through : Setting → Calling → ℕ → Ty → Worth → List Worth → Arguments → Open → State → Res Given
+  ev_through b call line t p got NoArguments j s =
+      then_do (act b line (Finds t p) s) (λ f s. then_do (call (function_in f) got line s) (done (settled j)))
+  ev_through b call line t p got (MoreArguments x xs) j s =
+      operand (ev b call x) j s (λ j v s. then_do (handed b x v s) (λ v s. ev_through b call line t p (got ++ v ∷ []) xs j s))
 
   -- 6.5.2.2p10, 7.1.4p1: the same of a function of the library
   pub ev_ask : Setting → Calling → ℕ → Library → List Arg → Arguments → Open → State → Res Given

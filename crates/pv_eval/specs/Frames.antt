@@ -2,20 +2,20 @@
 -- clause of evaluation.
 use Rattle.std.specs.Prelude.{ℕ, zero, suc, ◌+◌, pos, Bool, true, false, List, [], ◌∷◌, ◌++◌, None, map, length, if◌then◌else◌}
 use Rattle.pv_types.specs.Ty.{Ty, VoidTy}
-use Rattle.pv_typed.specs.TypedTree.{TypedTree, Node, Form, Constant, Subscript, Call, LibraryCall, Member, MemberOfValue, Arrow, Increment, Indirection, Unary, Not, Cast, Arithmetic, PointerSum, PointerDifference, PointerOrder, PointerEquality, LogicalAnd, LogicalOr, Conditional, Assign, CompoundAssign, PointerAssign, Comma, Read, Arguments, NoArguments, MoreArguments, type_of, line_of, form_of}
+use Rattle.pv_typed.specs.TypedTree.{TypedTree, Node, Form, Constant, Subscript, Call, CallPointer, LibraryCall, Member, MemberOfValue, Arrow, Increment, Indirection, Unary, Not, Cast, Arithmetic, PointerSum, PointerDifference, PointerOrder, PointerEquality, LogicalAnd, LogicalOr, Conditional, Assign, CompoundAssign, PointerAssign, Comma, Read, Arguments, NoArguments, MoreArguments, type_of, line_of, form_of}
 use Rattle.pv_typed.specs.Tables.{Stored, expression_at}
 use Rattle.pv_seq.specs.Sequencing.{Open, settled}
-use Rattle.pv_world.specs.Worlds.{Worth}
+use Rattle.pv_world.specs.Worlds.{Worth, Nothing}
 use Rattle.pv_eval.specs.States.{Setting, State, Res, then_do}
 use Rattle.pv_world.specs.Worths.{is_true}
 use Rattle.pv_world.specs.declared.got.How.TheVariants.{Rounds}
-use Rattle.pv_eval.specs.TypeForms.{lvalue, kind_of, is_pointer, is_none, element_size}
+use Rattle.pv_eval.specs.TypeForms.{lvalue, kind_of, is_pointer, is_none, element_size, pointed_to}
 use Rattle.pv_eval.specs.Conversions.{how_to}
 use Rattle.pv_eval.specs.Operations.{Converts, Calculates, CalculatesOne, Tests, Negates, Moves, Subtracts, Orders, Equals, Follows, Selects, TakesPart, act}
 use Rattle.pv_eval.specs.Sequenced.{Given, with_given, done, doing, work, operand, later}
 use Rattle.pv_eval.specs.Steps.{Calling, converted, handed, reading, writing, source_of, is_unequal, is_minus, is_after, combining, stepping}
 use Rattle.pv_eval.specs.Arguments.{argument}
-use Rattle.pv_eval.specs.Evaluation.{ev, ev_call, ev_ask}
+use Rattle.pv_eval.specs.Evaluation.{ev, ev_call, ev_through, ev_ask}
 use Rattle.pv_eval.specs.declared.frames.Stage.{Stage}
 use Rattle.pv_eval.specs.declared.frames.Stage.TheVariants as stage
 use Rattle.pv_eval.specs.declared.frames.Frame.{Frame}
@@ -67,6 +67,7 @@ first_after b call t line (PointerDifference x y) j v s = operand (ev b call y) 
 first_after b call t line (PointerOrder o x y) j v s = operand (ev b call y) j s (second_after b call t line (PointerOrder o x y) v)
 first_after b call t line (PointerEquality o x y) j v s = operand (ev b call y) j s (second_after b call t line (PointerEquality o x y) v)
 first_after b call t line (Assign x y) j v s = operand (ev b call y) j s (second_after b call t line (Assign x y) v)
+first_after b call t line (CallPointer x xs) j v s = ev_through b call line (pointed_to (type_of x)) v [] xs j s
 first_after b call t line (LogicalAnd x y) j v s =
     doing b line (Tests v) s (λ v s. if is_true v then later (ev b call y) (settled j) s (later_after b call t line (LogicalAnd x y) true) else done (settled j) v s)
 first_after b call t line (LogicalOr x y) j v s =
@@ -103,6 +104,8 @@ count (MoreArguments x xs) = suc (count xs)
 -- 6.5.2.2: how many arguments a node has, if it is a call
 abbrev pub arguments_count : Form → ℕ
 arguments_count (Call f xs) = count xs
+-- beside the value by which the function is called, which comes first
+arguments_count (CallPointer x xs) = suc (count xs)
 arguments_count (LibraryCall f xs) = count xs
 arguments_count _ = 0
 
@@ -112,9 +115,23 @@ asked_with NoArguments vs = []
 asked_with (MoreArguments x xs) [] = []
 asked_with (MoreArguments x xs) (v ∷ vs) = argument x v ∷ asked_with xs vs
 
+-- 6.5.2.2p1: of what a call by a value has, the value comes first
+abbrev pub callee_of : List Worth → Worth
+callee_of [] = Nothing
+callee_of (p ∷ got) = p
+
+-- 6.5.2.2p10: and the arguments behind it
+abbrev pub passed_of : List Worth → List Worth
+passed_of [] = []
+passed_of (p ∷ got) = got
+
 -- 6.5.2.2p10: with the value of argument number i
 abbrev pub argument_after : Setting → Calling → Ty → ℕ → Form → (i : ℕ) → List Worth → Open → Worth → State → Res Given
 argument_after b call t line (Call f xs) i got j v s = then_do (handed b (argument_at xs i) v s) (λ v s. ev_call b call line f (got ++ v ∷ []) (arguments_from xs (i + 1)) j s)
+-- what is called stands in front of the arguments of a call by a value
+argument_after b call t line (CallPointer x xs) zero got j v s = ev_through b call line (pointed_to (type_of x)) v [] xs j s
+argument_after b call t line (CallPointer x xs) (suc i) got j v s =
+    then_do (handed b (argument_at xs i) v s) (λ v s. ev_through b call line (pointed_to (type_of x)) (callee_of got) (passed_of got ++ v ∷ []) (arguments_from xs (suc i)) j s)
 argument_after b call t line (LibraryCall f xs) i got j v s =
     then_do (handed b (argument_at xs i) v s) (λ v s. ev_ask b call line f (asked_with xs got ++ argument (argument_at xs i) v ∷ []) (arguments_from xs (i + 1)) j s)
 argument_after b call t line _ i got j v s = done j v s

@@ -10,6 +10,7 @@ pub mod Objects
 pub mod Library
 pub mod Texts
 pub mod Stores
+pub mod Callees
 pub mod Operations
 pub mod Within
 pub mod Sequenced

@@ -31,8 +31,8 @@ pub record Machine : Type 0 where
   pub started : List Started
 
 -- 5.1.2p1: before a run nothing is started
-abbrev pub first_machine : List ScriptLine → Option (List Bool) → Machine
-first_machine script sides = record { moment = first_moment script sides; started = [] }
+abbrev pub first_machine : List ScriptLine → Option (List Bool) → (zap : Bool) → Machine
+first_machine script sides zap = record { moment = first_moment script sides zap; started = [] }
 
 -- 6.5: what is left of the innermost expression
 abbrev pub left_of : Setting → Calling → Stored → List Started → State → Res Given

@@ -7,7 +7,7 @@ use Rattle.pv_inst.specs.Placing.{Request}
 use Rattle.pv_shadow.specs.Whole.{plain}
 use Rattle.pv_types.specs.Ty.{Ty}
 use Rattle.pv_types.specs.Layouts.{is_complete_in}
-use Rattle.pv_typed.specs.TypedUnits.{TypedObject, layouts, object_at, literal_at}
+use Rattle.pv_typed.specs.TypedUnits.{TypedObject, TypedFunction, layouts, object_at, function_at, literal_at}
 use Rattle.pv_world.specs.Worlds.{Worth, Nothing, World}
 use Rattle.pv_world.specs.Telling.{quiet}
 use Rattle.pv_world.specs.Doing.{Done, Answers}
@@ -57,6 +57,16 @@ ends b o w = where_possible (is_live w (instance_for b o w)) w (object.ends_obje
 abbrev pub makes_literal : Setting → ℕ → World → Done
 makes_literal b l w =
     where_possible (nat_le 1 (length (literal_at b.unit l).bytes)) w (object.makes_literal_of l (text_of b.unit.names 0) (literal_at b.unit l).bytes w)
+
+-- 6.3.2.1p4: a function whose name isn't that of allocations, as none in a checked unit is
+abbrev pub can_place : TypedFunction → Bool
+can_place x = not (x.name == heap_name)
+
+-- 6.3.2.1p4: a function that is pointed to has an instance
+abbrev pub makes_function : Setting → ℕ → World → Done
+makes_function b f w =
+    where_possible (can_place (function_at b.unit f)) w
+    (object.makes_function f (object.function_request (function_at b.unit f).name (text_of b.unit.names (function_at b.unit f).name)) w)
 
 -- 6.7.9p10: an object that lives, with room for its type
 abbrev pub can_fill : Setting → ℕ → World → Bool

@@ -16,13 +16,15 @@ use Rattle.pv_world.specs.Telling.{quiet}
 use Rattle.pv_world.specs.Doing.{Done, Fails}
 use Rattle.pv_world.specs.Conversions.{converts, opposite, tests}
 use Rattle.pv_world.specs.Calculations.{accepts, needs, calculates, calculates_one, follows_to}
-use Rattle.pv_world.specs.Pointers.{moves, subtracts, orders, equals, selects, is_order}
-use Rattle.pv_world.specs.Objects.{names_literal, begins_body, ends_body}
+use Rattle.pv_world.specs.Pointers.{moves, subtracts, orders, equals, selects, finds, is_order}
+use Rattle.pv_world.specs.Objects.{names_literal, names_function, begins_body, ends_body}
 use Rattle.pv_eval.specs.States.{Setting, State, Res}
 use Rattle.pv_eval.specs.Acting.{acted}
 use Rattle.pv_eval.specs.TypeForms.{Lvalue}
 use Rattle.pv_eval.specs.Accesses.{reads, writes, takes_part}
-use Rattle.pv_eval.specs.Objects.{names_object, makes, ends, makes_literal, fills, puts, puts_text}
+use Rattle.pv_eval.specs.Objects.{names_object, makes, ends, makes_literal, makes_function, fills, puts, puts_text}
+use Rattle.pv_eval.specs.Callees.{may_call}
+use Rattle.pv_types.specs.Ty.{Ty}
 use Rattle.pv_eval.specs.Library.{asks}
 use Rattle.pv_eval.specs.Suiting.{knows_worth, knows_arguments, is_small, is_integer, is_promoted, is_operand, is_size, is_stored, has_part}
 
@@ -44,6 +46,8 @@ pub data Op : Type 0 where
   Equals : (negated : Bool) → Worth → Worth → Op
   Follows : (nothing : Bool) → Worth → Op
   Selects : (offset : ℕ) → Worth → Op
+  -- 6.5.2.2p1: of the function type that is called
+  Finds : Ty → Worth → Op
   TakesPart : (offset : ℕ) → Lvalue → Worth → Op
   -- 6.3.2.1p2, 6.5.16p3
   Reads : Lvalue → (place : Worth) → List Access → Op
@@ -51,8 +55,10 @@ pub data Op : Type 0 where
   -- 6.5.1, 6.2.4
   NamesObject : (object : ℕ) → Op
   NamesLiteral : (literal : ℕ) → Op
+  NamesFunction : (function : ℕ) → Op
   Makes : (object : ℕ) → Op
   MakesLiteral : (literal : ℕ) → Op
+  MakesFunction : (function : ℕ) → Op
   Ends : (object : ℕ) → Op
   BeginsBody : Op
   EndsBody : Op
@@ -76,10 +82,11 @@ suits b (Subtracts size v x) w = is_size size && (nat_le 1 size && (knows_worth 
 suits b (Orders op v x) w = is_order op && (knows_worth w.memory.table v && knows_worth w.memory.table x)
 suits b (Equals negated v x) w = knows_worth w.memory.table v && knows_worth w.memory.table x
 suits b (Selects offset v) w = knows_worth w.memory.table v
+suits b (Finds t v) w = knows_worth w.memory.table v
 suits b (TakesPart offset l v) w = is_size l.size && (has_part v offset l.size && knows_worth w.memory.table v)
-suits b (Reads l place rivals) w = (is_complete_in (layouts b.unit) l.t && is_size l.size) && knows_worth w.memory.table place
+suits b (Reads l place rivals) w = (is_complete_in (layouts b.unit) l.t && (nat_le 1 l.size && is_size l.size)) && knows_worth w.memory.table place
 suits b (Writes l place v from rivals) w =
-    (is_complete_in (layouts b.unit) l.t && is_size l.size) && (is_stored l.shape l.size v && (knows_worth w.memory.table place && knows_worth w.memory.table v))
+    (is_complete_in (layouts b.unit) l.t && (nat_le 1 l.size && is_size l.size)) && (is_stored l.shape l.size v && (knows_worth w.memory.table place && knows_worth w.memory.table v))
 suits b (Asks f args) w = knows_arguments w.memory.table args
 -- the others take every value
 suits b _ w = true
@@ -99,13 +106,16 @@ works b (Orders op v x) = orders op v x
 works b (Equals negated v x) = equals negated v x
 works b (Follows nothing v) = follows_to nothing v
 works b (Selects offset v) = selects offset v
+works b (Finds t v) = finds (may_call b t) v
 works b (TakesPart offset l v) = takes_part offset l v
 works b (Reads l place rivals) = reads b l place rivals
 works b (Writes l place v from rivals) = writes b l place v from rivals
 works b (NamesObject o) = names_object b o
 works b (NamesLiteral l) = names_literal l
+works b (NamesFunction f) = names_function f
 works b (Makes o) = makes b o
 works b (MakesLiteral l) = makes_literal b l
+works b (MakesFunction f) = makes_function b f
 works b (Ends o) = ends b o
 works b BeginsBody = begins_body
 works b EndsBody = ends_body

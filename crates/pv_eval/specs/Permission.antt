@@ -5,7 +5,7 @@ use Rattle.pv_types.specs.Layouts.{Part, layout_in}
 use Rattle.pv_effect.specs.EffectiveType.{is_character, permits_declared, permits_marks}
 use Rattle.pv_inst.specs.declared.values.Instance.{Instance}
 use Rattle.pv_inst.specs.declared.values.Kind.{Kind}
-use Rattle.pv_inst.specs.declared.values.Kind.TheVariants.{Declared, Literal, Heap}
+use Rattle.pv_inst.specs.declared.values.Kind.TheVariants.{Declared, Literal, Heap, Function}
 use Rattle.pv_inst.specs.Table.{instance_at}
 use Rattle.pv_shadow.specs.declared.byte.Byte.{Byte}
 use Rattle.pv_shadow.specs.Bytes.{read}
@@ -43,6 +43,8 @@ permits_object b (Some t) offset want = permits_declared (parts_of b t) offset w
 abbrev pub permits_in : Setting → World → Lvalue → Reach → (writes : Bool) → Kind → Bool
 permits_in b w l at writes (Declared constant) = permits_object b (type_of_instance b w at.inst) at.offset l.t
 permits_in b w l at writes Literal = is_character l.t
+-- 6.2.5p1: a function is no object: no access comes to it
+permits_in b w l at writes Function = false
 permits_in b w l at writes Heap = writes || permits_marks b.types (parts_of b l.t) (marks_of (read w.memory.bytes at.address l.size))
 
 -- 6.5p7: the same of the instance that was reached

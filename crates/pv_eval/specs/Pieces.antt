@@ -1,5 +1,5 @@
 -- Parts of the clause of evaluation (C17 6.5), one for each function of the code that makes a part: nodes are told by their numbers.
-use Rattle.std.specs.Prelude.{◌≡◌, ◌<◌, ℕ, List, [], ◌∷◌, None, Bool, true, map, length, Result, if◌then◌else◌}
+use Rattle.std.specs.Prelude.{◌≡◌, ◌<◌, ◌-◌, ℕ, List, [], ◌∷◌, None, Bool, true, map, length, Result, if◌then◌else◌}
 use Rattle.pv_num.specs.declared.kinds.IntKind.{IntKind}
 use Rattle.pv_num.specs.declared.operators.BinOp.{BinOp}
 use Rattle.pv_num.specs.declared.operators.UnOp.{UnOp}
@@ -7,7 +7,7 @@ use Rattle.pv_script.specs.declared.library.Library.{Library}
 use Rattle.pv_tree.specs.declared.nodes.NodeId.{NodeId}
 use Rattle.pv_tree.specs.declared.nodes.ListId.{ListId}
 use Rattle.pv_types.specs.Ty.{Ty}
-use Rattle.pv_typed.specs.TypedTree.{TypedTree, Arguments, type_of, line_of}
+use Rattle.pv_typed.specs.TypedTree.{CallPointer, TypedTree, Arguments, type_of, line_of}
 use Rattle.pv_typed.specs.Nodes.{form_in, arguments_in}
 use Rattle.pv_typed.specs.Tables.{Stored, nodes, expression_at, list_at}
 use Rattle.pv_typed.specs.declared.nodes.IncrementOperator.{IncrementOperator}
@@ -19,13 +19,13 @@ use Rattle.pv_world.specs.Coming.{worth_of}
 use Rattle.pv_world.specs.declared.got.Got.{Got}
 use Rattle.pv_world.specs.declared.got.How.TheVariants.{Rounds}
 use Rattle.pv_eval.specs.States.{Setting, State, Res, then_do}
-use Rattle.pv_eval.specs.TypeForms.{lvalue, kind_of, element_size}
+use Rattle.pv_eval.specs.TypeForms.{lvalue, kind_of, element_size, pointed_to}
 use Rattle.pv_eval.specs.Operations.{Accepts, Needs, Converts, Calculates, CalculatesOne, Equals, Moves, act}
 use Rattle.pv_eval.specs.Sequenced.{Given, done, work, operand}
 use Rattle.pv_eval.specs.Steps.{Calling, converted, reading, writing, source_of, is_unequal, is_minus, is_after, combining, stepping}
-use Rattle.pv_eval.specs.Evaluation.{ev, ev_form, ev_ask}
+use Rattle.pv_eval.specs.Evaluation.{ev, ev_form, ev_through, ev_ask}
 use Rattle.pv_eval.specs.Moments.{Moment, Always, state_of}
-use Rattle.pv_eval.specs.Frames.{first_after, second_after, both_after, later_after, argument_after, arguments_from, asked_with, frame_after}
+use Rattle.pv_eval.specs.Frames.{first_after, second_after, both_after, later_after, argument_after, arguments_from, callee_of, passed_of, asked_with, frame_after}
 use Rattle.pv_eval.specs.Ahead.{Led}
 use Rattle.pv_eval.specs.declared.failure.Failure.{Failure}
 use Rattle.pv_eval.specs.declared.frames.Frame.{Frame}
@@ -92,6 +92,16 @@ with_argument u n x got v b call j s =
 -- 6.5.2.2p10: the arguments of a list that are not evaluated yet
 abbrev pub arguments_left : Stored → ListId → ℕ → Arguments
 arguments_left u l i = arguments_from (arguments_in (nodes u) (list_at u l)) i
+
+-- 6.5.2.2p1, p10: a call by a value, once this value and the first of its arguments are there: the value stands first
+abbrev pub through : Stored → NodeId → NodeId → ListId → List Worth → Setting → Calling → Open → State → Res Given
+through u n a l got b call j s =
+    ev_through b call (line_of (expression_at u n)) (pointed_to (type_of (expression_at u a))) (callee_of got) (passed_of got) (arguments_left u l (length got - 1)) j s
+
+-- 6.5.2.2p1, p10: with one value more, where such a call has these
+abbrev pub with_pointed : Stored → NodeId → NodeId → ListId → List Got → Worth → Setting → Calling → Open → State → Res Given
+with_pointed u n a l got v b call j s =
+    argument_after b call (type_of (expression_at u n)) (line_of (expression_at u n)) (CallPointer (expression_at u a) (arguments_in (nodes u) (list_at u l))) (length got) (map worth_of got) j v s
 
 -- 7.1.4: a call of the library, once the first of its arguments have these values
 abbrev pub asks_with : Stored → (line : ℕ) → Library → ListId → List Got → Setting → Calling → Open → State → Res Given

@@ -1,5 +1,5 @@
 -- The same questions to the tables of a unit alone.
-use Rattle.std.specs.Prelude.{◌≡◌, ℕ, Bool, ◌<◌, ◌≤◌, ◌^◌, IsTrue, length, None}
+use Rattle.std.specs.Prelude.{◌≡◌, ℕ, Bool, ◌<◌, ◌≤◌, ◌^◌, IsTrue, length, None, true}
 use Rattle.pv_types.specs.Ty.{Ty}
 use Rattle.pv_types.specs.Known.{Known, tree, env}
 use Rattle.pv_types.specs.Layouts.{layout_in, is_complete_in}
@@ -13,7 +13,7 @@ use Rattle.pv_eval.specs.Conversions.{how_by}
 
 -- what operations look at in the setting of a run of the unit (5.1.1.1): neither the bound nor the sides
 abbrev pub setting_of : Stored → Setting
-setting_of u = record { unit = whole u; types = u.known; bound = 0; sides = None }
+setting_of u = record { unit = whole u; types = u.known; bound = 0; sides = None; zap = true }
 
 -- 6.5.3.4p2: the size of a type, by the table of types
 abbrev pub size_in : Known → Ty → ℕ

@@ -12,6 +12,8 @@ pub record Setting : Type 0 where
   pub types : Known
   pub bound : ℕ
   pub sides : Option (List Bool)
+  -- 6.2.4p2: whether a pointer to what has ended is indeterminate
+  pub zap : Bool
 
 -- what operations see and change, the bytes printed so far (7.21.6.3), the events so far, each with the length
 -- of the output when it came, and the turns taken

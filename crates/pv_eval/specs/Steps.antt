@@ -25,7 +25,7 @@ use Rattle.pv_eval.specs.Sequenced.{Given, doing}
 abbrev pub Calling : Type 0
 Calling = (function : ℕ) → List Worth → (line : ℕ) → State → Res Worth
 
--- 5.1.2.3: the turn of a node. Reads, pointers to arrays and implicit conversions take none, nor does a `*` or `[]` directly under `&`
+-- 5.1.2.3: the turn of a node. Reads, pointers to arrays and functions and implicit conversions take none, nor does a `*` or `[]` directly under `&`
 abbrev pub takes : Bool → Form → Bool
 takes turn (Read a) = false
 takes turn (ArrayPointer a) = false

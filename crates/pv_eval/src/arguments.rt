@@ -21,6 +21,7 @@ use crate::failure::Failure;
 use crate::frames::{Frame, Move, Stage};
 use crate::library::resume_library;
 use crate::moment::Moment;
+use crate::pointed_calls::resume_pointed;
 use pv_seq::Journal;
 use pv_tree::{ListId, NodeId};
 use pv_typed::{Typed, TypedUnit};
@@ -101,6 +102,7 @@ pub(crate) fn resume_argument(
                 unreachable!()
             }
         }
+        Typed::CallPointer(a, l) => resume_pointed(unit, n, a, l, got, v, moment),
         Typed::LibraryCall(_, _) => resume_library(unit, n, x, got, v, journal, moment),
         _ => unreachable!(),
     }

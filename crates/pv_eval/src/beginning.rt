@@ -47,6 +47,7 @@ pub(crate) fn begin_leaf(
         Typed::Sizeof(k) => Ok(Move::Give(size(k))),
         Typed::Object(o) => give(moment.object(unit, line, o)),
         Typed::String(l) => give(moment.literal(unit, line, l)),
+        Typed::Function(f) => give(moment.function(unit, line, f)),
         Typed::Call(f, l) => Ok(next_argument(unit, n, line, f, l, Vec::new(alloc))),
         Typed::LibraryCall(f, l) => begin_library(alloc, unit, n, line, f, l, moment),
         _ => unreachable!(),

@@ -21,7 +21,7 @@ fn place_by(p: Pointer, offset: u64) -> Got
     }))
 }
 
-/// The value of a constant (C17 6.6p7), by the places of static objects and literals.
+/// The value of a constant (C17 6.6p7), by the places of static objects, literals and functions.
 fn constant(world: &World, c: Const) -> Got
     ensures { worth_of result ≡ constant_worth world.now c }
 {
@@ -33,6 +33,7 @@ fn constant(world: &World, c: Const) -> Got
         })),
         Const::Address { object, offset } => place_by(world.object_place(object, true), offset),
         Const::Literal { text, offset } => place_by(world.literal_place(text), offset),
+        Const::Function { function } => place_by(world.function_place(function), 0),
     }
 }
 
@@ -49,7 +50,7 @@ fn is_high(world: &World, k: u64) -> bool
 }
 
 impl Moment {
-    /// The value of a constant (C17 6.6p7), by the places of static objects and literals.
+    /// The value of a constant (C17 6.6p7), by the places of static objects, literals and functions.
     pub fn constant(&self, c: Const) -> Got
         ensures { worth_of result ≡ constant_worth self.now.world c }
     {

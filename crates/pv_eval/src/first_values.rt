@@ -19,6 +19,7 @@ use crate::failure::Failure;
 use crate::frames::{Frame, Move, Stage};
 use crate::moment::Moment;
 use crate::operands::second_operand;
+use crate::pointed_calls::begin_pointed;
 use crate::values::give;
 use pv_num::UnOp;
 use pv_seq::Journal;
@@ -68,6 +69,7 @@ pub(crate) fn resume_first(
             let nothing = moment.is_none(unit, n);
             give(moment.follow(unit, line, nothing, v))
         }
+        Typed::CallPointer(a, l) => begin_pointed(unit, n, a, l, v, moment),
         Typed::MemberOfValue(_, offset) => give(moment.part(
             unit,
             line,

@@ -7,7 +7,7 @@ ghost use Rattle.pv_world.specs.Coming.{worth_of};
 ghost use Rattle.pv_eval.specs.States.{Gives};
 ghost use Rattle.pv_eval.specs.TypeForms.{lvalue, size_of};
 ghost use Rattle.pv_eval.specs.Runnable.{IsRunnable};
-ghost use Rattle.pv_eval.specs.Operations.{Makes, MakesLiteral, Ends, BeginsBody, EndsBody, Fills, Puts, PutsText, act};
+ghost use Rattle.pv_eval.specs.Operations.{Makes, MakesLiteral, MakesFunction, Ends, BeginsBody, EndsBody, Fills, Puts, PutsText, act};
 ghost use Rattle.pv_eval.specs.Moments.{Always, Made, IsMemory, Stays, state_of};
 
 use crate::failure::Failure;
@@ -49,6 +49,19 @@ impl Moment {
         let before = self.world.pairs_made();
         let mut told = Vec::new(self.alloc);
         let answer = objects::make(&mut self.world, unit, o, &mut told);
+        self.close_made(line, before, &told, answer)
+    }
+
+    /// A function that is pointed to has an instance (C17 6.3.2.1p4).
+    pub fn make_function(&mut self, unit: &TypedUnit, line: u32, f: u32) -> Result<(), Failure>
+        requires runnable { IsRunnable unit.now }
+        requires named { f < length unit.now.functions }
+        ensures made { Always unit.now self.old (λ b out es. Made (act b line (MakesFunction f) (state_of self.old out es)) result (state_of self.new out es)) }
+        ensures stays { Stays self.old self.new }
+    {
+        let before = self.world.pairs_made();
+        let mut told = Vec::new(self.alloc);
+        let answer = objects::make_function(&mut self.world, unit, f, &mut told);
         self.close_made(line, before, &told, answer)
     }
 

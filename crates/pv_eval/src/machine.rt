@@ -11,7 +11,7 @@ ghost use Rattle.pv_eval.specs.Constants.{constant_worth, high_side};
 ghost use Rattle.pv_eval.specs.Runnable.{IsRunnable};
 ghost use Rattle.pv_eval.specs.States.{Gives};
 ghost use Rattle.pv_eval.specs.TypeForms.{lvalue, size_of};
-ghost use Rattle.pv_eval.specs.Operations.{Tests, BeginsBody, EndsBody, Makes, MakesLiteral, Ends, Fills, Puts, PutsText, act};
+ghost use Rattle.pv_eval.specs.Operations.{Tests, BeginsBody, EndsBody, Makes, MakesLiteral, MakesFunction, Ends, Fills, Puts, PutsText, act};
 ghost use Rattle.pv_eval.specs.Moments.{sides_of, state_of, Always, Came, Tested, Made, Needed, IsMemory, Stays};
 ghost use Rattle.pv_eval.specs.Machines.{first_machine, ended, is_due, is_going, is_ended, is_asked, asked_arguments, asked_line, due_turns, after_first};
 ghost use Rattle.pv_eval.specs.MachineSteps.{IsBegun, IsTaken, IsAnswered, IsOpen, Fit, WentTo, KeepsSetting};
@@ -58,18 +58,20 @@ impl Model for Machine {
 }
 
 impl Machine {
-    /// Nothing made, printed, told or started; in a settled run with the sides of its pairs.
+    /// Nothing made, printed, told or started; in a settled run with the sides of its pairs. With `zap` a pointer to what
+    /// has ended is indeterminate (C17 6.2.4p2), and a use of it that asks for a live instance is undefined.
     pub fn new(
         alloc: Global,
         unit: &TypedUnit,
         script: Script,
         sides: Option<Vec<bool>>,
+        zap: bool,
     ) -> Result<Machine, Failure>
         requires runnable { IsRunnable unit.now }
-        ensures value { IfOk result (λ m. m ≡ first_machine script (sides_of sides)) }
+        ensures value { IfOk result (λ m. m ≡ first_machine script (sides_of sides) zap) }
         ensures memory { IsMemory result }
     {
-        match Moment::new(alloc, script, unit.names(), sides) {
+        match Moment::new(alloc, script, unit.names(), sides, zap) {
             Ok(moment) => Ok(Machine {
                 alloc,
                 moment,
@@ -319,6 +321,17 @@ impl Machine {
         ensures stays { Stays self.old.moment self.new.moment }
     {
         self.moment.make(unit, line, o)
+    }
+
+    /// A function that is pointed to has an instance (C17 6.3.2.1p4).
+    pub fn make_function(&mut self, unit: &TypedUnit, line: u32, f: u32) -> Result<(), Failure>
+        requires runnable { IsRunnable unit.now }
+        requires there { f < length unit.now.functions }
+        ensures made { Always unit.now self.old.moment (λ b out es. Made (act b line (MakesFunction f) (state_of self.old.moment out es)) result (state_of self.new.moment out es)) }
+        ensures started { self.new.started ≡ self.old.started }
+        ensures stays { Stays self.old.moment self.new.moment }
+    {
+        self.moment.make_function(unit, line, f)
     }
 
     /// A literal's array begins its lifetime (C17 6.4.5p6).

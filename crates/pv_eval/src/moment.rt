@@ -4,7 +4,7 @@ ghost use Rattle.pv_world.specs.Worths.{truth_int, int};
 ghost use Rattle.pv_world.specs.Coming.{Did, worth_of, no_worth};
 ghost use Rattle.pv_eval.specs.Acting.{without_use};
 ghost use Rattle.pv_eval.specs.Closings.{ClosedAs, ClosedStill, SettledAs};
-ghost use Rattle.pv_eval.specs.Moments.{marked, Came, Tested, Needed, Made, IsMemory};
+ghost use Rattle.pv_eval.specs.Moments.{marked, Came, Tested, Needed, Called, by_number, Made, IsMemory};
 
 use crate::failure::Failure;
 use crate::marked::{Marked, stamp, stamp_others};
@@ -168,6 +168,35 @@ impl Moment {
         match answer {
             Ok(n) => match self.close(line, before, told, Ok(Got::Scalar(Value::Int(n)))) {
                 Ok(_) => Ok(n),
+                Err(e) => Err(e),
+            },
+            Err(stop) => match self.close(line, before, told, Err(stop)) {
+                Ok(_) => unreachable!(),
+                Err(e) => Err(e),
+            },
+        }
+    }
+
+    /// The same of what finds a function.
+    pub(crate) fn close_called(
+        &mut self,
+        line: u32,
+        before: u64,
+        told: &[What],
+        answer: Result<u32, Fallen>,
+    ) -> Result<u32, Failure>
+        ensures called { ClosedAs line before (λ w op. Did by_number op answer w self.old.world [] told.now) (λ r s. Called r result s) self.old self.new }
+        ensures same { IfOk result (λ f. answer ≡ Ok f) }
+        ensures kept { self.new ≡ record self.old { world = self.new.world; waiting = self.new.waiting } }
+    {
+        match answer {
+            Ok(f) => match self.close(
+                line,
+                before,
+                told,
+                Ok(Got::Scalar(Value::Int(i128::from(f)))),
+            ) {
+                Ok(_) => Ok(f),
                 Err(e) => Err(e),
             },
             Err(stop) => match self.close(line, before, told, Err(stop)) {

@@ -14,7 +14,7 @@ ghost use Rattle.pv_eval.specs.Sizes.{setting_of, size_in};
 ghost use Rattle.pv_eval.specs.Objects.{heap_name};
 ghost use Rattle.pv_eval.specs.Stores.{fills_sized, stores, stores_bytes};
 ghost use Rattle.pv_eval.specs.Runnable.{IsRunnable};
-ghost use Rattle.pv_eval.specs.Operations.{Makes, MakesLiteral, Ends, Fills, Puts, PutsText, does};
+ghost use Rattle.pv_eval.specs.Operations.{Makes, MakesLiteral, MakesFunction, Ends, Fills, Puts, PutsText, does};
 
 use crate::suiting::{can_put, has_room, is_live};
 use crate::types::{align_of, is_constant, measured, number, shape, size_of};
@@ -97,6 +97,27 @@ pub(crate) fn make(
     }
     let align = align_of(unit.types(), x.t);
     make_sized(world, unit, o, x, l.size, align, told)
+}
+
+/// A function that is pointed to has an instance, where its name isn't that of allocations.
+pub(crate) fn make_function(
+    world: &mut World,
+    unit: &TypedUnit,
+    f: u32,
+    told: &mut Vec<What>,
+) -> Result<(), Fallen>
+    requires runnable { IsRunnable unit.now }
+    requires named { f < length unit.now.functions }
+    ensures { Did no_worth (does (setting_of unit.now) (MakesFunction f)) result world.old world.new told.old.items told.new.items }
+{
+    let name = unit.function(f).name;
+    if is_heap_name(unit, name) {
+        return Ok(());
+    }
+    match world.make_function(unit.names(), f, name, told) {
+        Ok(()) => Ok(()),
+        Err(e) => Err(refused(name, e)),
+    }
 }
 
 /// The array of a literal begins its lifetime, if it has bytes.

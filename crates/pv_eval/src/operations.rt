@@ -1,20 +1,20 @@
 // Operations on values (C17 6.3, 6.5), each of the node in a line: what they tell is marked.
-ghost use Rattle.std.specs.Prelude.{◌≡◌, ◌<◌, length};
+ghost use Rattle.std.specs.Prelude.{◌≡◌, ◌<◌, length, IfOk};
 ghost use Rattle.pv_types.specs.Known.{tree};
 ghost use Rattle.pv_typed.specs.TypedTree.{type_of};
 ghost use Rattle.pv_typed.specs.Tables.{Stored, expression_at, IsExpression};
 ghost use Rattle.pv_world.specs.Coming.{worth_of};
 ghost use Rattle.pv_world.specs.declared.got.How.TheVariants.{Rounds};
-ghost use Rattle.pv_eval.specs.TypeForms.{kind_of, is_pointer, is_none, element_size, lvalue};
+ghost use Rattle.pv_eval.specs.TypeForms.{kind_of, is_pointer, is_none, element_size, lvalue, pointed_to};
 ghost use Rattle.pv_eval.specs.Conversions.{how_to};
 ghost use Rattle.pv_eval.specs.Runnable.{IsRunnable};
-ghost use Rattle.pv_eval.specs.Operations.{Converts, Calculates, CalculatesOne, Tests, Negates, Moves, Subtracts, Orders, Equals, Follows, Selects, Accepts, Needs, TakesPart, NamesObject, NamesLiteral, act};
-ghost use Rattle.pv_eval.specs.Moments.{Acted, Tested, Needed, Always, Stays, state_of};
+ghost use Rattle.pv_eval.specs.Operations.{NamesFunction, Finds, Converts, Calculates, CalculatesOne, Tests, Negates, Moves, Subtracts, Orders, Equals, Follows, Selects, Accepts, Needs, TakesPart, NamesObject, NamesLiteral, act};
+ghost use Rattle.pv_eval.specs.Moments.{Acted, Tested, Needed, Called, Always, Stays, state_of};
 
 use crate::failure::Failure;
-use crate::guarded;
 use crate::moment::Moment;
 use crate::types::{element_size, how, is_none, kind, pointee, shape, size_of};
+use crate::{callees, guarded};
 use pv_num::{BinOp, IntKind, UnOp};
 use pv_object::Value;
 use pv_tree::NodeId;
@@ -332,6 +332,32 @@ impl Moment {
         let before = self.world.pairs_made();
         let told = Vec::new(self.alloc);
         self.close(line, before, &told, Ok(Got::Scalar(Value::Pointer(place))))
+    }
+
+    /// The place of a function (C17 6.5.1p2, 6.3.2.1p4).
+    pub fn function(&mut self, unit: &TypedUnit, line: u32, f: u32) -> Result<Got, Failure>
+        requires runnable { IsRunnable unit.now }
+        requires named { f < length unit.now.functions }
+        ensures acted { Acted unit.now line (λ b. NamesFunction f) result self.old self.new }
+        ensures stays { Stays self.old self.new }
+    {
+        let place = self.world.function_place(f);
+        let before = self.world.pairs_made();
+        let told = Vec::new(self.alloc);
+        self.close(line, before, &told, Ok(Got::Scalar(Value::Pointer(place))))
+    }
+
+    /// The function that a value of this type points to (C17 6.5.2.2p1).
+    pub fn find(&mut self, unit: &TypedUnit, line: u32, t: TypeId, v: &Got) -> Result<u32, Failure>
+        requires runnable { IsRunnable unit.now }
+        ensures found { Always unit.now self.old (λ b out es. Called (act b line (Finds (pointed_to (tree unit.now.known t.0)) (worth_of v.now)) (state_of self.old out es)) result (state_of self.new out es)) }
+        ensures known { IfOk result (λ f. f < length unit.now.functions) }
+        ensures stays { Stays self.old self.new }
+    {
+        let before = self.world.pairs_made();
+        let mut told = Vec::new(self.alloc);
+        let answer = callees::find(&mut self.world, unit, t, v, &mut told);
+        self.close_called(line, before, &told, answer)
     }
 
     /// The place of a literal (C17 6.5.1p4).

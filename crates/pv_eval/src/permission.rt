@@ -136,6 +136,7 @@ pub(crate) fn permits(
     match x.kind {
         Kind::Declared { .. } => Ok(permits_object(unit, world.owner(at.inst), at.offset, want)),
         Kind::Literal => Ok(is_character(unit.types(), want)),
+        Kind::Function => Ok(false),
         Kind::Heap => {
             if write {
                 Ok(true)

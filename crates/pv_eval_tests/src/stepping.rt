@@ -4,83 +4,44 @@ ghost use Rattle.pv_typed.specs.Tables.{IsExpression};
 ghost use Rattle.pv_eval.specs.MachineSteps.{Fit, WentTo};
 ghost use Rattle.pv_eval.specs.Runnable.{IsRunnable};
 
+use crate::units::{assignment, declared, literal, may_run};
 use pv_eval::{Failure, Machine, Step};
+use pv_num::IntKind;
+use pv_object::Value;
 use pv_script::Script;
 use pv_tree::NodeId;
 use pv_typed::TypedUnit;
+use pv_types::Term;
 use pv_world::Got;
 use std::alloc::Global;
 use std::process::Abort;
 
-/// A static object is made, and each of its bytes is 0 (C17 6.7.9p10).
-fn make_static(rt: &impl Abort, unit: &TypedUnit, machine: &mut Machine, o: u32)
-    requires runnable { IsRunnable unit.now }
-    requires none { machine.old.started ≡ [] }
-    ensures { machine.new.started ≡ [] }
-{
-    assert!(rt; o < unit.objects());
-    let made = machine.make(unit, 1, o);
-    assert!(rt; made.is_ok());
-    let filled = machine.fill(unit, o, Some(0));
-    assert!(rt; filled.is_ok());
-}
-
-fn make_statics(rt: &impl Abort, unit: &TypedUnit, machine: &mut Machine)
-    requires runnable { IsRunnable unit.now }
-    requires none { machine.old.started ≡ [] }
-    ensures { machine.new.started ≡ [] }
-{
-    let statics = unit.statics();
-    'objects: for i in 0..statics.len() {
-        make_static(rt, unit, machine, statics[i]);
-    }
-}
-
-fn make_literal(rt: &impl Abort, unit: &TypedUnit, machine: &mut Machine, l: u32)
-    requires runnable { IsRunnable unit.now }
-    requires none { machine.old.started ≡ [] }
-    requires there { l < length unit.now.literals }
-    ensures { machine.new.started ≡ [] }
-{
-    let made = machine.make_literal(unit, 1, l);
-    assert!(rt; made.is_ok());
-}
-
-fn make_literals(rt: &impl Abort, unit: &TypedUnit, machine: &mut Machine)
-    requires runnable { IsRunnable unit.now }
-    requires none { machine.old.started ≡ [] }
-    ensures { machine.new.started ≡ [] }
-{
-    let literals = unit.literals();
-    'literals: for i in 0..literals.len() {
-        make_literal(rt, unit, machine, literals[i]);
-    }
-}
-
 /// A machine that has made nothing.
-fn empty_machine(rt: &impl Abort, alloc: Global, unit: &TypedUnit, script: Script) -> Machine
+fn empty_machine(rt: &impl Abort, alloc: Global, unit: &TypedUnit) -> Machine
     requires { IsRunnable unit.now }
     ensures { result.started ≡ [] }
 {
-    match Machine::new(alloc, unit, script, None) {
+    match Machine::new(alloc, unit, Script::empty(alloc), None, true) {
         Ok(machine) => machine,
         Err(_) => panic!(rt; "no machine"),
     }
 }
 
-/// A machine whose static objects are there, each byte 0, and the literals.
-pub(crate) fn machine_of(
-    rt: &impl Abort,
-    alloc: Global,
-    unit: &TypedUnit,
-    script: Script,
-) -> Machine
-    requires { IsRunnable unit.now }
+/// A machine whose static object is there, each byte 0 (C17 6.7.9p10), and whose literal.
+fn machine_of(rt: &impl Abort, alloc: Global, unit: &TypedUnit, i: u32, text: u32) -> Machine
+    requires runnable { IsRunnable unit.now }
+    requires object { i < length unit.now.objects }
+    requires literal { text < length unit.now.literals }
     ensures { result.started ≡ [] }
 {
-    let mut machine = empty_machine(rt, alloc, unit, script);
-    make_statics(rt, unit, &mut machine);
-    make_literals(rt, unit, &mut machine);
+    let mut machine = empty_machine(rt, alloc, unit);
+    let made = machine.make(unit, 1, i);
+    assert!(rt; made.is_ok());
+    let filled = machine.fill(unit, i, Some(0));
+    assert!(rt; filled.is_ok());
+    let made = machine.make_literal(unit, 1, text);
+    assert!(rt; made.is_ok());
+    assert!(rt; machine.waiting().len() == 2);
     machine.waiting().clear();
     assert!(rt; machine.is_quiet());
     machine
@@ -108,7 +69,7 @@ fn turn(rt: &impl Abort, unit: &TypedUnit, machine: &mut Machine) -> Result<Step
 }
 
 /// The value of an expression, or why there is none.
-pub(crate) fn evaluate(
+fn evaluate(
     rt: &impl Abort,
     unit: &TypedUnit,
     machine: &mut Machine,
@@ -122,7 +83,7 @@ pub(crate) fn evaluate(
         Ok(()) => {}
         Err(e) => return Err(e),
     }
-    'steps: for _ in 0..100_000u32 {
+    'steps: for _ in 0..100u32 {
         match turn(rt, unit, machine) {
             Ok(step) => match step {
                 Step::More => {}
@@ -133,4 +94,21 @@ pub(crate) fn evaluate(
         }
     }
     panic!(rt; "too many steps")
+}
+
+#[test]
+fn an_assignment_is_evaluated(rt: HostRuntime) {
+    let alloc = rt.alloc();
+    let mut unit = TypedUnit::new(alloc).expect(&rt, "no memory");
+    let int = unit
+        .intern(Term::Int(IntKind::Int))
+        .expect(&rt, "no memory");
+    let i = declared(&rt, &mut unit, int);
+    let text = literal(&rt, &mut unit, int);
+    let n = assignment(&rt, &mut unit, int, i);
+    may_run(&unit);
+    let mut machine = machine_of(&rt, alloc, &unit, i, text);
+    let value = evaluate(&rt, &unit, &mut machine, n);
+    assert!(&rt; matches!(value, Ok(Got::Scalar(Value::Int(42)))));
+    assert!(&rt; machine.turns() == 3 && machine.printed().is_empty());
 }

@@ -3,7 +3,7 @@ use Rattle.std.proofs.Common.{◌≡◌, ℕ, ◌≤◌, List, [], ◌∷◌, re
 use Rattle.std.specs.Prelude.{Bool, true, false, drop, length, nat_lt, if◌then◌else◌}
 use Rattle.std.proofs.lemmas.List.{length-drop}
 use Rattle.std.proofs.lemmas.Bool.{le-ltb}
-use Rattle.pv_typed.specs.TypedTree.{TypedTree, Node, Constant, Object, String, Call, LibraryCall, Member, MemberOfValue, Arrow, Increment, Address, Unary, Not, Sizeof, Cast, Arithmetic, PointerSum, PointerDifference, PointerOrder, PointerEquality, LogicalAnd, LogicalOr, Conditional, Assign, CompoundAssign, PointerAssign, Comma, Subscript, Indirection, Read, ArrayPointer, Convert}
+use Rattle.pv_typed.specs.TypedTree.{TypedTree, Node, Constant, Object, Function, String, Call, CallPointer, LibraryCall, Member, MemberOfValue, Arrow, Increment, Address, Unary, Not, Sizeof, Cast, Arithmetic, PointerSum, PointerDifference, PointerOrder, PointerEquality, LogicalAnd, LogicalOr, Conditional, Assign, CompoundAssign, PointerAssign, Comma, Subscript, Indirection, Read, ArrayPointer, Convert}
 use Rattle.pv_typed.specs.TypedStatement.{TypedStatement, Block, Declare, Expression, Empty, If, IfElse, Switch, Case, Default, While, DoWhile, For, ForDeclaration, Continue, Break, Return}
 use Rattle.pv_typed.specs.TypedUnits.{WholeUnit, Store, StoredValue, ValueOf, TextOf, object_at}
 use Rattle.pv_typed.specs.Tables.{Stored, whole, expression_at, statement_at}
@@ -44,8 +44,10 @@ ev-out : (b : Setting) (call : Calling) (x : TypedTree) (fs : List Access) (s : 
 unfolding ev
 ev-out b call (Node t line turn (Constant n)) fs s le = no-tick b s _ le
 ev-out b call (Node t line turn (Object o)) fs s le = no-tick b s _ le
+ev-out b call (Node t line turn (Function f)) fs s le = no-tick b s _ le
 ev-out b call (Node t line turn (String l)) fs s le = no-tick b s _ le
 ev-out b call (Node t line turn (Call f xs)) fs s le = no-tick b s _ le
+ev-out b call (Node t line turn (CallPointer x xs)) fs s le = no-tick b s _ le
 ev-out b call (Node t line turn (LibraryCall f xs)) fs s le = no-tick b s _ le
 ev-out b call (Node t line turn (Member x n)) fs s le = no-tick b s _ le
 ev-out b call (Node t line turn (MemberOfValue x n)) fs s le = no-tick b s _ le

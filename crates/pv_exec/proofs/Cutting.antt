@@ -9,7 +9,8 @@ use Rattle.pv_world.specs.Worlds.{Worth, World}
 use Rattle.pv_world.specs.Doing.{Done, Answers, Fails, Breaks}
 use Rattle.pv_eval.specs.States.{Setting, State, Why, Turns, Unreached, Stopped, Res, Gives, Stops, then_do, spend, end_of}
 use Rattle.pv_eval.specs.Acting.{acted}
-use Rattle.pv_eval.specs.Operations.{Op, Converts, Calculates, CalculatesOne, Tests, Negates, Accepts, Needs, Moves, Subtracts, Orders, Equals, Follows, Selects, TakesPart, Reads, Writes, NamesObject, NamesLiteral, Makes, MakesLiteral, Ends, BeginsBody, EndsBody, Fills, Puts, PutsText, Asks, does, act}
+use Rattle.pv_eval.specs.Constants.{constant_worth}
+use Rattle.pv_eval.specs.Operations.{NamesFunction, MakesFunction, Finds, Op, Converts, Calculates, CalculatesOne, Tests, Negates, Accepts, Needs, Moves, Subtracts, Orders, Equals, Follows, Selects, TakesPart, Reads, Writes, NamesObject, NamesLiteral, Makes, MakesLiteral, Ends, BeginsBody, EndsBody, Fills, Puts, PutsText, Asks, does, act}
 use Rattle.pv_eval.proofs.Closed.{beside_setting}
 use Rattle.pv_exec.specs.declared.outcome.Outcome.TheVariants as outcome
 use Rattle.pv_exec.specs.Calls.{below}
@@ -36,13 +37,16 @@ same-does b n (Orders op v x) w = refl
 same-does b n (Equals negated v x) w = refl
 same-does b n (Follows nothing v) w = refl
 same-does b n (Selects offset v) w = refl
+same-does b n (Finds t v) w = refl
 same-does b n (TakesPart offset l v) w = refl
 same-does b n (Reads l place rivals) w = refl
 same-does b n (Writes l place v from rivals) w = refl
 same-does b n (NamesObject o) w = refl
 same-does b n (NamesLiteral l) w = refl
+same-does b n (NamesFunction f) w = refl
 same-does b n (Makes o) w = refl
 same-does b n (MakesLiteral l) w = refl
+same-does b n (MakesFunction f) w = refl
 same-does b n (Ends o) w = refl
 same-does b n BeginsBody w = refl
 same-does b n EndsBody w = refl
@@ -109,7 +113,7 @@ cutting b l le =
         less = λ h. h;
         more = λ h. h;
       };
-      reads = λ line o. record { grows = λ s. acted-grows c line (does c (o s) s.world) s; cuts = λ s. inl (same-act b l line (o s) s) };
+      reads = λ line o offset v q. record { grows = λ s. acted-grows c line (does c (Puts o offset v (constant_worth s.world q)) s.world) s; cuts = λ s. inl (same-act b l line (Puts o offset v (constant_worth s.world q)) s) };
     }
 
 -- where the first has no level left
@@ -124,11 +128,11 @@ bottom b l le k =
       again_do = λ y x. record { grows = g.again_do y x; cuts = λ s. inr tt };
     }
 
-run-cut : (u : Stored) (sides : Option (List Bool)) (script : List ScriptLine) (n l : ℕ) → n ≤ l → Cut n (run_at u sides script n) (run_at u sides script l)
+run-cut : (u : Stored) (sides : Option (List Bool)) (zap : Bool) (script : List ScriptLine) (n l : ℕ) → n ≤ l → Cut n (run_at u sides zap script n) (run_at u sides zap script l)
 unfolding run_of
-run-cut u sides script n l le =
-    let b = setting_of u n sides in
-    (run-closed b l sides (cutting b l le) n (below-closed b l sides (cutting b l le).ways (bottom b l le) n l le)).cuts (first script)
+run-cut u sides zap script n l le =
+    let b = setting_of u n sides zap in
+    (run-closed b l sides (cutting b l le) n (below-closed b l sides (cutting b l le).ways (bottom b l le) n l le)).cuts (first script zap)
 
 is-cut : (n : ℕ) (r r' : Res Worth) → EndFits n (suc n) r → Cut n r r' → IsCut n r r'
 is-cut n r r' h (inl e) = inl e
@@ -137,8 +141,8 @@ is-cut n (Stops Turns s) r' h (inr o) = inr (record { outcome = refl; taken = h.
 is-cut n (Stops Unreached s) r' h (inr o) = absurd h.1
 is-cut n (Stops (Stopped y line) s) r' h (inr o) = absurd o
 
-pub cut-law : (u : Stored) (sides : Option (List Bool)) (script : List ScriptLine) (n m : ℕ) → n ≤ m → IsCut n (run_at u sides script n) (run_at u sides script m)
-cut-law u sides script n m le = is-cut n (run_at u sides script n) (run_at u sides script m) (run-fits u n sides script) (run-cut u sides script n m le)
+pub cut-law : (u : Stored) (sides : Option (List Bool)) (zap : Bool) (script : List ScriptLine) (n m : ℕ) → n ≤ m → IsCut n (run_at u sides zap script n) (run_at u sides zap script m)
+cut-law u sides zap script n m le = is-cut n (run_at u sides zap script n) (run_at u sides zap script m) (run-fits u n sides zap script) (run-cut u sides zap script n m le)
 
 -- what a run that ends by turns leaves undone
 due-by : (n m : ℕ) (r r' : Res Worth) → n < m → TakesAll n r → TakesAll m r' → IsCut n r r' → outcome_of r ≡ Some outcome.Turns → n < (end_of r').taken
@@ -149,9 +153,9 @@ due-by n m r r' lt h g (inl e) is =
     absurd (omega (arith, lt, a, c, d))
 due-by n m r r' lt h g (inr o) is = omega (arith, o.goes_on.taken)
 
-pub due-law : (u : Stored) (sides : Option (List Bool)) (script : List ScriptLine) (n m : ℕ) → n < m → outcome_of (run_at u sides script n) ≡ Some outcome.Turns → n < (end_of (run_at u sides script m)).taken
-due-law u sides script n m lt is =
-    due-by n m (run_at u sides script n) (run_at u sides script m) lt (all-taken u n sides script) (all-taken u m sides script) (cut-law u sides script n m (omega (arith, lt))) is
+pub due-law : (u : Stored) (sides : Option (List Bool)) (zap : Bool) (script : List ScriptLine) (n m : ℕ) → n < m → outcome_of (run_at u sides zap script n) ≡ Some outcome.Turns → n < (end_of (run_at u sides zap script m)).taken
+due-law u sides zap script n m lt is =
+    due-by n m (run_at u sides zap script n) (run_at u sides zap script m) lt (all-taken u n sides zap script) (all-taken u m sides zap script) (cut-law u sides zap script n m (omega (arith, lt))) is
 
 met-by : (n : ℕ) (r r' : Res Worth) → IsWithin n (end_of r) → IsCut n r r' → n < (end_of r').taken → outcome_of r ≡ Some outcome.Turns
 met-by n r r' h (inl e) lt =
@@ -159,5 +163,5 @@ met-by n r r' h (inl e) lt =
     absurd (omega (arith, lt, a, h.taken))
 met-by n r r' h (inr o) lt = o.outcome
 
-pub met-law : (u : Stored) (sides : Option (List Bool)) (script : List ScriptLine) (n m : ℕ) → n ≤ m → n < (end_of (run_at u sides script m)).taken → outcome_of (run_at u sides script n) ≡ Some outcome.Turns
-met-law u sides script n m le lt = met-by n (run_at u sides script n) (run_at u sides script m) (within-bound u n sides script) (cut-law u sides script n m le) lt
+pub met-law : (u : Stored) (sides : Option (List Bool)) (zap : Bool) (script : List ScriptLine) (n m : ℕ) → n ≤ m → n < (end_of (run_at u sides zap script m)).taken → outcome_of (run_at u sides zap script n) ≡ Some outcome.Turns
+met-law u sides zap script n m le lt = met-by n (run_at u sides zap script n) (run_at u sides zap script m) (within-bound u n sides zap script) (cut-law u sides zap script n m le) lt

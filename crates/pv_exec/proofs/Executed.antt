@@ -12,21 +12,21 @@ use Rattle.pv_typed.specs.Mains.{main_of}
 use Rattle.pv_world.specs.Worlds.{Worth, Nothing}
 use Rattle.pv_world.specs.Worths.{is_true, int_of}
 use Rattle.pv_eval.specs.States.{Setting, State, Res, Stops, Unreached, then_do}
-use Rattle.pv_eval.specs.TypeForms.{lvalue, size_of}
+use Rattle.pv_eval.specs.TypeForms.{Lvalue, lvalue, size_of}
 use Rattle.pv_eval.specs.Constants.{constant_worth}
-use Rattle.pv_eval.specs.Operations.{Op, Tests, Accepts, Needs, Makes, MakesLiteral, Ends, BeginsBody, EndsBody, Fills, Puts, PutsText, act}
+use Rattle.pv_eval.specs.Operations.{Op, Tests, Accepts, Needs, Makes, MakesLiteral, MakesFunction, Ends, BeginsBody, EndsBody, Fills, Puts, PutsText, act}
 use Rattle.pv_eval.proofs.Closed.{Relation, Ways, beside_setting, choice, converted-way, handed-way, ev-closed}
 use Rattle.pv_exec.specs.Flows.{Flow, Falls, Breaks, Continues, Returns, Below, full, testing, falls, goes_on, switched, make_all, end_all, scoped, stores_value, store_all, begin_fill, declares, if_tested, stepped, round, round_do, returns_value}
 use Rattle.pv_exec.specs.Labels.{Target, ToCase, ToDefault, ToNone, target_of, is_target, unless_none}
 use Rattle.pv_exec.specs.Execution.{ex, exs, exs_at}
 use Rattle.pv_exec.specs.Calls.{take_params, value_by, runs_body, call_body, below}
-use Rattle.pv_exec.specs.Preparing.{make_static, make_statics, make_literals, store_constant, store_static, store_statics, initialize_statics, prepare}
+use Rattle.pv_exec.specs.Preparing.{make_static, make_statics, make_literals, make_functions, store_constant, store_static, store_statics, initialize_statics, prepare}
 use Rattle.pv_exec.specs.Run.{call_main}
 
--- and an operation whose operand is read off the state
+-- and the store of a constant, whose value is read off the world
 pub record WaysIn (b b' : Setting) (R : Relation) : Type 1 where
   pub ways : Ways b b' R
-  pub reads : {k : ℕ} (line : ℕ) (o : State → Op) → R k k Worth (λ s. act b line (o s) s) (λ s. act b' line (o s) s)
+  pub reads : {k : ℕ} (line o offset : ℕ) (l : Lvalue) (q : Const) → R k k Worth (λ s. act b line (Puts o offset l (constant_worth s.world q)) s) (λ s. act b' line (Puts o offset l (constant_worth s.world q)) s)
 
 module _ (b : Setting) (n : ℕ) (sides : Option (List Bool)) {R : Relation} (w : Ways b (beside_setting b n sides) R) where
   abbrev c : Setting
@@ -223,13 +223,17 @@ module _ (b : Setting) (n : ℕ) (sides : Option (List Bool)) {R : Relation} (i 
   statics-way [] = i.ways.gives Nothing
   statics-way (o ∷ os) = i.ways.seq (static-way o) (λ v. statics-way os)
 
+  functions-way : {k : ℕ} (fs : List ℕ) → R k k Worth (make_functions b fs) (make_functions d fs)
+  functions-way [] = i.ways.gives Nothing
+  functions-way (f ∷ fs) = i.ways.seq (i.ways.acts (function_at b.unit f).line (MakesFunction f)) (λ v. functions-way fs)
+
   literals-way : {k : ℕ} (ls : List ℕ) → R k k Worth (make_literals b ls) (make_literals d ls)
   literals-way [] = i.ways.gives Nothing
   literals-way (l ∷ ls) = i.ways.seq (i.ways.acts (literal_at b.unit l).line (MakesLiteral l)) (λ v. literals-way ls)
 
   constant-way : {k : ℕ} (o : ℕ) (x : Store) (q : Option Const) → R k k Worth (store_constant b o x q) (store_constant d o x q)
   constant-way o x None = i.ways.gives Nothing
-  constant-way o x (Some q) = i.reads x.line (λ s. Puts o x.offset (lvalue b x.t) (constant_worth s.world q))
+  constant-way o x (Some q) = i.reads x.line o x.offset (lvalue b x.t) q
 
   stored-way : {k : ℕ} (o : ℕ) (x : Store) (v : StoredValue) → R k k Worth (store_static b o x v) (store_static d o x v)
   stored-way o x (ValueOf e) = constant-way o x (constant_of b.unit e)
@@ -244,7 +248,9 @@ module _ (b : Setting) (n : ℕ) (sides : Option (List Bool)) {R : Relation} (i 
   initials-way (o ∷ os) = i.ways.seq (all-stored-way o (object_at b.unit o).inits) (λ v. initials-way os)
 
   prepare-way : {k : ℕ} → R k k Worth (prepare b) (prepare d)
-  prepare-way = i.ways.seq (statics-way b.unit.statics) (λ v. i.ways.seq (literals-way b.unit.instances) (λ v. initials-way b.unit.statics))
+  prepare-way =
+      i.ways.seq (statics-way b.unit.statics) (λ v. i.ways.seq (literals-way b.unit.instances) (λ v.
+      i.ways.seq (functions-way b.unit.placed) (λ v. initials-way b.unit.statics)))
 
   main-way : (k : ℕ) → Alike b n sides i.ways k (below b b.bound) (below d n) → (f : Option ℕ) → R (suc k) (suc k) Worth (call_main b f) (call_main d f)
   main-way k h None = i.ways.gives Nothing

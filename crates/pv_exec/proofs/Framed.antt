@@ -1,11 +1,11 @@
 -- What holds of pieces of two runs, and of the ways in which pieces are made, holds of what is left of an expression in progress.
-use Rattle.std.proofs.Common.{ℕ, ◌+◌, List, [], ◌∷◌, ◌++◌}
+use Rattle.std.proofs.Common.{ℕ, zero, suc, ◌+◌, List, [], ◌∷◌, ◌++◌}
 use Rattle.std.specs.Prelude.{Bool, true, false, if◌then◌else◌, None, map, length}
 use Rattle.std.specs.declared.option.Option.{Option}
 use Rattle.pv_types.specs.Ty.{Ty}
 use Rattle.pv_script.specs.declared.library.Library.{Library}
 use Rattle.pv_libc.specs.declared.values.Arg.{Arg}
-use Rattle.pv_typed.specs.TypedTree.{TypedTree, Form, Constant, Object, String, Subscript, Call, LibraryCall, Member, MemberOfValue, Arrow, Increment, Address, Indirection, Unary, Not, Sizeof, Cast, Arithmetic, PointerSum, PointerDifference, PointerOrder, PointerEquality, LogicalAnd, LogicalOr, Conditional, Assign, CompoundAssign, PointerAssign, Comma, Read, ArrayPointer, Convert, Arguments, NoArguments, MoreArguments, type_of, line_of, form_of}
+use Rattle.pv_typed.specs.TypedTree.{TypedTree, Form, Constant, Object, Function, String, Subscript, Call, CallPointer, LibraryCall, Member, MemberOfValue, Arrow, Increment, Address, Indirection, Unary, Not, Sizeof, Cast, Arithmetic, PointerSum, PointerDifference, PointerOrder, PointerEquality, LogicalAnd, LogicalOr, Conditional, Assign, CompoundAssign, PointerAssign, Comma, Read, ArrayPointer, Convert, Arguments, NoArguments, MoreArguments, type_of, line_of, form_of}
 use Rattle.pv_typed.specs.Tables.{Stored, expression_at}
 use Rattle.pv_seq.specs.Sequencing.{Access, Open, settled, top, below}
 use Rattle.pv_world.specs.Worlds.{Worth}
@@ -18,14 +18,15 @@ use Rattle.pv_eval.specs.declared.frames.Stage.TheVariants as stage
 use Rattle.pv_eval.specs.declared.frames.Now.{Now}
 use Rattle.pv_eval.specs.declared.frames.Now.TheVariants as now
 use Rattle.pv_eval.specs.States.{Setting, State, Res, Stops, Unreached}
-use Rattle.pv_eval.specs.TypeForms.{lvalue, kind_of, is_pointer, is_none, element_size}
+use Rattle.pv_eval.specs.TypeForms.{lvalue, kind_of, is_pointer, is_none, element_size, pointed_to}
 use Rattle.pv_eval.specs.Conversions.{how_to}
-use Rattle.pv_eval.specs.Operations.{Asks, Converts, Calculates, CalculatesOne, Tests, Negates, Moves, Subtracts, Orders, Equals, Follows, Selects, TakesPart}
+use Rattle.pv_eval.specs.Operations.{Finds, Asks, Converts, Calculates, CalculatesOne, Tests, Negates, Moves, Subtracts, Orders, Equals, Follows, Selects, TakesPart}
 use Rattle.pv_eval.specs.Sequenced.{Given, with_given}
 use Rattle.pv_eval.specs.Steps.{Calling, source_of, is_unequal, is_minus, is_after}
 use Rattle.pv_eval.specs.Arguments.{argument}
-use Rattle.pv_eval.specs.Evaluation.{ev, ev_call, ev_ask}
-use Rattle.pv_eval.specs.Frames.{second_after, both_after, later_after, first_after, argument_at, arguments_from, asked_with, argument_after, stage_after, frame_after, after}
+use Rattle.pv_eval.specs.Evaluation.{ev, ev_call, ev_through, ev_ask}
+use Rattle.pv_eval.specs.Callees.{function_in}
+use Rattle.pv_eval.specs.Frames.{second_after, both_after, later_after, first_after, argument_at, arguments_from, asked_with, argument_after, stage_after, frame_after, after, callee_of, passed_of}
 use Rattle.pv_eval.specs.Stack.{rest}
 use Rattle.pv_eval.specs.Ahead.{stack, now_does}
 use Rattle.pv_eval.specs.Machines.{Started, left_of, answered_of}
@@ -50,6 +51,11 @@ module _ (b : Setting) (n : ℕ) (sides : Option (List Bool)) {R : Relation} (w 
   call-closed line f got NoArguments j = w.seq (h f got line) (done-way b n sides w (settled j))
   call-closed line f got (MoreArguments x xs) j = operand-way b n sides w j (within x) (λ j v. w.seq (handed-way b n sides w x v) (λ v. call-closed line f (got ++ v ∷ []) xs j))
 
+  through-closed : (line : ℕ) (t : Ty) (p : Worth) (got : List Worth) (xs : Arguments) (j : Open) → R k k Given (ev_through b call line t p got xs j) (ev_through c call' line t p got xs j)
+  unfolding ev
+  through-closed line t p got NoArguments j = w.seq (w.acts line (Finds t p)) (λ f. w.seq (h (function_in f) got line) (done-way b n sides w (settled j)))
+  through-closed line t p got (MoreArguments x xs) j = operand-way b n sides w j (within x) (λ j v. w.seq (handed-way b n sides w x v) (λ v. through-closed line t p (got ++ v ∷ []) xs j))
+
   ask-closed : (line : ℕ) (f : Library) (got : List Arg) (xs : Arguments) (j : Open) → R k k Given (ev_ask b call line f got xs j) (ev_ask c call' line f got xs j)
   unfolding ev
   ask-closed line f got NoArguments j = work-way b n sides w line (Asks f got) (settled j)
@@ -58,9 +64,11 @@ module _ (b : Setting) (n : ℕ) (sides : Option (List Bool)) {R : Relation} (w 
   second-closed : (t : Ty) (line : ℕ) (x : Form) (v : Worth) (j : Open) (e : Worth) → R k k Given (second_after b call t line x v j e) (second_after c call' t line x v j e)
   second-closed t line (Constant m) v j e = done-way b n sides w j e
   second-closed t line (Object o) v j e = done-way b n sides w j e
+  second-closed t line (Function f) v j e = done-way b n sides w j e
   second-closed t line (String l) v j e = done-way b n sides w j e
   second-closed t line (Subscript x y) v j e = work-way b n sides w line (Moves false (is_pointer (type_of x)) (element_size b (if is_pointer (type_of x) then type_of x else type_of y)) v e) j
   second-closed t line (Call f xs) v j e = done-way b n sides w j e
+  second-closed t line (CallPointer x xs) v j e = done-way b n sides w j e
   second-closed t line (LibraryCall f xs) v j e = done-way b n sides w j e
   second-closed t line (Member x i) v j e = done-way b n sides w j e
   second-closed t line (MemberOfValue x i) v j e = done-way b n sides w j e
@@ -91,9 +99,11 @@ module _ (b : Setting) (n : ℕ) (sides : Option (List Bool)) {R : Relation} (w 
   both-closed : (t : Ty) (line : ℕ) (x : Form) (p v : Worth) (j : Open) (e : Worth) → R k k Given (both_after b call t line x p v j e) (both_after c call' t line x p v j e)
   both-closed t line (Constant m) p v j e = done-way b n sides w j e
   both-closed t line (Object o) p v j e = done-way b n sides w j e
+  both-closed t line (Function f) p v j e = done-way b n sides w j e
   both-closed t line (String l) p v j e = done-way b n sides w j e
   both-closed t line (Subscript x y) p v j e = done-way b n sides w j e
   both-closed t line (Call f xs) p v j e = done-way b n sides w j e
+  both-closed t line (CallPointer x xs) p v j e = done-way b n sides w j e
   both-closed t line (LibraryCall f xs) p v j e = done-way b n sides w j e
   both-closed t line (Member x i) p v j e = done-way b n sides w j e
   both-closed t line (MemberOfValue x i) p v j e = done-way b n sides w j e
@@ -124,9 +134,11 @@ module _ (b : Setting) (n : ℕ) (sides : Option (List Bool)) {R : Relation} (w 
   later-closed : (t : Ty) (line : ℕ) (x : Form) (side : Bool) (j : Open) (e : Worth) → R k k Given (later_after b call t line x side j e) (later_after c call' t line x side j e)
   later-closed t line (Constant m) side j e = done-way b n sides w j e
   later-closed t line (Object o) side j e = done-way b n sides w j e
+  later-closed t line (Function f) side j e = done-way b n sides w j e
   later-closed t line (String l) side j e = done-way b n sides w j e
   later-closed t line (Subscript x y) side j e = done-way b n sides w j e
   later-closed t line (Call f xs) side j e = done-way b n sides w j e
+  later-closed t line (CallPointer x xs) side j e = done-way b n sides w j e
   later-closed t line (LibraryCall f xs) side j e = done-way b n sides w j e
   later-closed t line (Member x i) side j e = done-way b n sides w j e
   later-closed t line (MemberOfValue x i) side j e = done-way b n sides w j e
@@ -158,9 +170,11 @@ module _ (b : Setting) (n : ℕ) (sides : Option (List Bool)) {R : Relation} (w 
   first-closed : (t : Ty) (line : ℕ) (x : Form) (j : Open) (v : Worth) → R k k Given (first_after b call t line x j v) (first_after c call' t line x j v)
   first-closed t line (Constant m) j v = done-way b n sides w j v
   first-closed t line (Object o) j v = done-way b n sides w j v
+  first-closed t line (Function f) j v = done-way b n sides w j v
   first-closed t line (String l) j v = done-way b n sides w j v
   first-closed t line (Subscript x y) j v = operand-way b n sides w j (within y) (λ j e. second-closed t line (Subscript x y) v j e)
   first-closed t line (Call f xs) j v = done-way b n sides w j v
+  first-closed t line (CallPointer x xs) j v = through-closed line (pointed_to (type_of x)) v [] xs j
   first-closed t line (LibraryCall f xs) j v = done-way b n sides w j v
   first-closed t line (Member x i) j v = work-way b n sides w line (Selects i v) j
   first-closed t line (MemberOfValue x i) j v = work-way b n sides w line (TakesPart i (lvalue b t) v) j
@@ -191,9 +205,13 @@ module _ (b : Setting) (n : ℕ) (sides : Option (List Bool)) {R : Relation} (w 
   argument-closed : (t : Ty) (line : ℕ) (x : Form) (i : ℕ) (got : List Worth) (j : Open) (v : Worth) → R k k Given (argument_after b call t line x i got j v) (argument_after c call' t line x i got j v)
   argument-closed t line (Constant m) i got j v = done-way b n sides w j v
   argument-closed t line (Object o) i got j v = done-way b n sides w j v
+  argument-closed t line (Function f) i got j v = done-way b n sides w j v
   argument-closed t line (String l) i got j v = done-way b n sides w j v
   argument-closed t line (Subscript x y) i got j v = done-way b n sides w j v
   argument-closed t line (Call f xs) i got j v = w.seq (handed-way b n sides w (argument_at xs i) v) (λ v. call-closed line f (got ++ v ∷ []) (arguments_from xs (i + 1)) j)
+  argument-closed t line (CallPointer x xs) zero got j v = through-closed line (pointed_to (type_of x)) v [] xs j
+  argument-closed t line (CallPointer x xs) (suc i) got j v =
+      w.seq (handed-way b n sides w (argument_at xs i) v) (λ v. through-closed line (pointed_to (type_of x)) (callee_of got) (passed_of got ++ v ∷ []) (arguments_from xs (suc i)) j)
   argument-closed t line (LibraryCall f xs) i got j v = w.seq (handed-way b n sides w (argument_at xs i) v) (λ v. ask-closed line f (asked_with xs got ++ argument (argument_at xs i) v ∷ []) (arguments_from xs (i + 1)) j)
   argument-closed t line (Member x m) i got j v = done-way b n sides w j v
   argument-closed t line (MemberOfValue x m) i got j v = done-way b n sides w j v

@@ -9,7 +9,8 @@ use Rattle.pv_world.specs.Doing.{Done, Answers, Fails, Breaks}
 use Rattle.pv_world.specs.Telling.{Told, verdict_of, fault_of, fault_told}
 use Rattle.pv_eval.specs.States.{Setting, State, Turns, Res, Gives, Stops, then_do, spend, end_of}
 use Rattle.pv_eval.specs.Acting.{stamped, noted, pair_count, sided, settling, by_side, answered, acted}
-use Rattle.pv_eval.specs.Operations.{does}
+use Rattle.pv_eval.specs.Constants.{constant_worth}
+use Rattle.pv_eval.specs.Operations.{Puts, does}
 use Rattle.pv_eval.proofs.Closed.{beside_setting}
 use Rattle.pv_exec.specs.Growing.{IsFrom, Grew}
 use Rattle.pv_exec.proofs.Executed.{WaysIn}
@@ -100,5 +101,5 @@ growing b = record {
     less = λ h. h;
     more = λ h. h;
   };
-  reads = λ line o s. acted-grows b line (does b (o s) s.world) s;
+  reads = λ line o offset v q s. acted-grows b line (does b (Puts o offset v (constant_worth s.world q)) s.world) s;
 }

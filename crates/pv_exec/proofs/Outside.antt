@@ -100,10 +100,10 @@ over r ended.Turns o m out es e h = record { outcome = ap outcome_of h ∙ e; en
 over r (ended.Stop y line) o m out es e h = record { outcome = ap outcome_of h ∙ e; end = ap end_of h }
 over r (ended.Failed y) o m out es e h = absurd (cc)
 
-pub run-over : {o o' : Outlet} (u : Stored) (n : ℕ) (sides : Option (List Bool)) (script : List ScriptLine) (old new : Machine) (x : Ended) → old ≡ first_machine script sides → (led : PieceLed u o o' n whole_run x old new) → EndedIs (run_of (setting_of u n sides) script) x new.moment led.bytes led.events
+pub run-over : {o o' : Outlet} (u : Stored) (n : ℕ) (sides : Option (List Bool)) (zap : Bool) (script : List ScriptLine) (old new : Machine) (x : Ended) → old ≡ first_machine script sides zap → (led : PieceLed u o o' n whole_run x old new) → EndedIs (run_of (setting_of u n sides zap) script) x new.moment led.bytes led.events
 unfolding run_of
-run-over u n sides script old new x is led =
-    let b = setting_of u n sides in
+run-over u n sides zap script old new x is led =
+    let b = setting_of u n sides zap in
     let set : IsSetting b u old.moment = record { unit = refl; types = refl; sides = sym (ap (λ (m : Machine). m.moment.sides) is) } in
     let follows = subst (λ (m : Machine). Follows m.moment 0) (sym is) refl in
     subst (λ (s : State). EndedIs (whole_run b s) x new.moment led.bytes led.events) (ap (λ (m : Machine). state_of m.moment [] []) is) (led.led b [] [] set follows refl)

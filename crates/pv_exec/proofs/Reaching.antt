@@ -15,7 +15,8 @@ use Rattle.pv_world.specs.Telling.{Told, verdict_of, fault_of, fault_told}
 use Rattle.pv_eval.specs.declared.marked.Marked.{Marked}
 use Rattle.pv_eval.specs.States.{Setting, State, Why, Turns, Unreached, Stopped, Res, Gives, Stops, then_do, spend, end_of}
 use Rattle.pv_eval.specs.Acting.{stamped, noted, pair_count, sided, settling, by_side, answered, acted}
-use Rattle.pv_eval.specs.Operations.{does}
+use Rattle.pv_eval.specs.Constants.{constant_worth}
+use Rattle.pv_eval.specs.Operations.{Puts, does}
 use Rattle.pv_eval.proofs.Closed.{beside_setting}
 use Rattle.pv_exec.specs.declared.outcome.Outcome.{Outcome}
 use Rattle.pv_exec.specs.declared.outcome.Outcome.TheVariants as outcome
@@ -97,21 +98,21 @@ fitting b = record {
     less = λ h s f r. h s f (omega (arith, r));
     more = λ {k} {j} {A} {m} {m'} h s f r. more-fits b.bound j (m s) (h s f r);
   };
-  reads = λ {k} line o s h r. acted-fits b k line (does b (o s) s.world) s h r;
+  reads = λ {k} line o offset v q s h r. acted-fits b k line (does b (Puts o offset v (constant_worth s.world q)) s.world) s h r;
 }
 
-pub run-fits : (u : Stored) (n : ℕ) (sides : Option (List Bool)) (script : List ScriptLine) → EndFits n (suc n) (run_at u sides script n)
+pub run-fits : (u : Stored) (n : ℕ) (sides : Option (List Bool)) (zap : Bool) (script : List ScriptLine) → EndFits n (suc n) (run_at u sides zap script n)
 unfolding run_of
-run-fits u n sides script =
-    let b = setting_of u n sides in
-    run-closed b n sides (fitting b) n (even-closed b n sides (fitting b).ways (λ A s h r. absurd (omega (arith, h.taken, r))) n) (first script) (record { taken = omega arith; events = tt }) (omega arith)
+run-fits u n sides zap script =
+    let b = setting_of u n sides zap in
+    run-closed b n sides (fitting b) n (even-closed b n sides (fitting b).ways (λ A s h r. absurd (omega (arith, h.taken, r))) n) (first script zap) (record { taken = omega arith; events = tt }) (omega arith)
 
 end-within : (n j : ℕ) (r : Res Worth) → EndFits n j r → IsWithin n (end_of r)
 end-within n j (Gives v s) h = h.0
 end-within n j (Stops y s) h = h.0
 
-pub within-bound : (u : Stored) (n : ℕ) (sides : Option (List Bool)) (script : List ScriptLine) → IsWithin n (end_of (run_at u sides script n))
-within-bound u n sides script = end-within n (suc n) (run_at u sides script n) (run-fits u n sides script)
+pub within-bound : (u : Stored) (n : ℕ) (sides : Option (List Bool)) (zap : Bool) (script : List ScriptLine) → IsWithin n (end_of (run_at u sides zap script n))
+within-bound u n sides zap script = end-within n (suc n) (run_at u sides zap script n) (run-fits u n sides zap script)
 
 -- no other outcome is called so
 abbrev is_turns : Option Outcome → Bool
@@ -152,5 +153,5 @@ takes-all n j (Stops Turns s) h e = h.1
 takes-all n j (Stops Unreached s) h e = absurd h.1
 takes-all n j (Stops (Stopped y line) s) h e = not-turns (stopped y line) (stopped-not y line) e
 
-pub all-taken : (u : Stored) (n : ℕ) (sides : Option (List Bool)) (script : List ScriptLine) → TakesAll n (run_at u sides script n)
-all-taken u n sides script = takes-all n (suc n) (run_at u sides script n) (run-fits u n sides script)
+pub all-taken : (u : Stored) (n : ℕ) (sides : Option (List Bool)) (zap : Bool) (script : List ScriptLine) → TakesAll n (run_at u sides zap script n)
+all-taken u n sides zap script = takes-all n (suc n) (run_at u sides zap script n) (run-fits u n sides zap script)

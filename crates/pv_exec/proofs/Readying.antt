@@ -15,7 +15,7 @@ use Rattle.pv_typed.specs.TypedUnits.{Store, StoredValue, ValueOf}
 use Rattle.pv_eval.specs.TypeForms.{lvalue}
 use Rattle.pv_eval.specs.Operations.{Puts, act}
 use Rattle.pv_eval.specs.Constants.{constant_worth}
-use Rattle.pv_exec.specs.Preparing.{make_statics, make_literals, initialize_statics, prepare, store_constant, store_static}
+use Rattle.pv_exec.specs.Preparing.{make_statics, make_literals, make_functions, initialize_statics, prepare, store_constant, store_static}
 use Rattle.pv_exec.proofs.Pieces.{made-stops, made-is}
 
 -- one more was done, and one that ends the run
@@ -44,17 +44,32 @@ static-constant b o x y e c w r s s' is what const worth h =
     ∙ ap (λ (q : Option Const). store_constant b o y q s) const
     ∙ ap (λ (w : Worth). act b y.line (Puts o y.offset (lvalue b y.t) w) s) (sym worth)) h
 
+-- what comes behind the literals, and behind the static objects
+abbrev behind-literals : Setting → Worth → State → Res Worth
+behind-literals b v s = then_do (make_functions b b.unit.placed s) (λ v s. initialize_statics b b.unit.statics s)
+
+abbrev behind-statics : Setting → Worth → State → Res Worth
+behind-statics b v s = then_do (make_literals b b.unit.instances s) (behind-literals b)
+
 -- one part before another
-pub prepare-after : (b : Setting) (s s1 s2 : State) → make_statics b b.unit.statics s ≡ Gives Nothing s1 → make_literals b b.unit.instances s1 ≡ Gives Nothing s2 → prepare b s ≡ initialize_statics b b.unit.statics s2
-prepare-after b s s1 s2 h k =
-    ap (λ (r : Res Worth). then_do r (λ v s. then_do (make_literals b b.unit.instances s) (λ v s. initialize_statics b b.unit.statics s))) h
-    ∙ ap (λ (r : Res Worth). then_do r (λ v s. initialize_statics b b.unit.statics s)) k
+pub prepare-after : (b : Setting) (s s1 s2 s3 : State) → make_statics b b.unit.statics s ≡ Gives Nothing s1 → make_literals b b.unit.instances s1 ≡ Gives Nothing s2 → make_functions b b.unit.placed s2 ≡ Gives Nothing s3
+    → prepare b s ≡ initialize_statics b b.unit.statics s3
+prepare-after b s s1 s2 s3 h k l =
+    ap (λ (r : Res Worth). then_do r (behind-statics b)) h ∙ ap (λ (r : Res Worth). then_do r (behind-literals b)) k
+    ∙ ap (λ (r : Res Worth). then_do r (λ v s. initialize_statics b b.unit.statics s)) l
 
 pub prepare-stops : (b : Setting) (e : Failure) (s s1 : State) → Made (make_statics b b.unit.statics s) (Err e) s1 → Made (prepare b s) (Err e) s1
-prepare-stops b e s s1 h = made-stops (make_statics b b.unit.statics s) (λ v s. then_do (make_literals b b.unit.instances s) (λ v s. initialize_statics b b.unit.statics s)) e s1 h
+prepare-stops b e s s1 h = made-stops (make_statics b b.unit.statics s) (behind-statics b) e s1 h
 
 pub prepare-stops-later : (b : Setting) (e : Failure) (s s1 s2 : State) → make_statics b b.unit.statics s ≡ Gives Nothing s1 → Made (make_literals b b.unit.instances s1) (Err e) s2 → Made (prepare b s) (Err e) s2
 prepare-stops-later b e s s1 s2 h k =
-    made-is (then_do (make_literals b b.unit.instances s1) (λ v s. initialize_statics b b.unit.statics s)) (prepare b s) (Err e) s2
-    (ap (λ (r : Res Worth). then_do r (λ v s. then_do (make_literals b b.unit.instances s) (λ v s. initialize_statics b b.unit.statics s))) h)
-    (made-stops (make_literals b b.unit.instances s1) (λ v s. initialize_statics b b.unit.statics s) e s2 k)
+    made-is (then_do (make_literals b b.unit.instances s1) (behind-literals b)) (prepare b s) (Err e) s2
+    (ap (λ (r : Res Worth). then_do r (behind-statics b)) h)
+    (made-stops (make_literals b b.unit.instances s1) (behind-literals b) e s2 k)
+
+pub prepare-stops-last : (b : Setting) (e : Failure) (s s1 s2 s3 : State) → make_statics b b.unit.statics s ≡ Gives Nothing s1 → make_literals b b.unit.instances s1 ≡ Gives Nothing s2
+    → Made (make_functions b b.unit.placed s2) (Err e) s3 → Made (prepare b s) (Err e) s3
+prepare-stops-last b e s s1 s2 s3 h k l =
+    made-is (then_do (make_functions b b.unit.placed s2) (λ v s. initialize_statics b b.unit.statics s)) (prepare b s) (Err e) s3
+    (ap (λ (r : Res Worth). then_do r (behind-statics b)) h ∙ ap (λ (r : Res Worth). then_do r (behind-literals b)) k)
+    (made-stops (make_functions b b.unit.placed s2) (λ v s. initialize_statics b b.unit.statics s) e s3 l)

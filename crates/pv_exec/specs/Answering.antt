@@ -91,8 +91,8 @@ error_by ended.Turns = error.NoMemory
 error_by (ended.Stop y line) = error.NoMemory
 
 -- 5.1.2.2.3p1: the state in which the run of a unit ends
-abbrev pub end_at : Stored → (bound : ℕ) → Option (List Bool) → List ScriptLine → State
-end_at u n sides script = end_of (run_of (setting_of u n sides) script)
+abbrev pub end_at : Stored → (bound : ℕ) → Option (List Bool) → (zap : Bool) → List ScriptLine → State
+end_at u n sides zap script = end_of (run_of (setting_of u n sides zap) script)
 
 -- a write failed only where the sink counts a fault more (docs/FORMATS.md, status 12)
 abbrev pub FaultCause : Result Ran RunError → (before now : ℕ) → Type 0

@@ -12,8 +12,8 @@ use Rattle.pv_exec.specs.Run.{setting_of, run_of, outcome_of}
 use Rattle.pv_exec.specs.Growing.{Grew}
 
 -- 5.1.2p1: the run of a unit with this bound
-abbrev pub run_at : Stored → Option (List Bool) → List ScriptLine → (bound : ℕ) → Res Worth
-run_at u sides script n = run_of (setting_of u n sides) script
+abbrev pub run_at : Stored → Option (List Bool) → (zap : Bool) → List ScriptLine → (bound : ℕ) → Res Worth
+run_at u sides zap script n = run_of (setting_of u n sides zap) script
 
 -- 5.1.2.3: an event that came by this turn, when so many bytes were printed at most
 abbrev pub IsUpto : (turn printed : ℕ) → Marked → Type 0

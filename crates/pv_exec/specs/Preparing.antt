@@ -1,13 +1,13 @@
--- Before the first turn (C17 5.1.2p1): static objects, literals, and static initializers.
+-- Before the first turn (C17 5.1.2p1): static objects, literals, functions, and static initializers.
 use Rattle.std.specs.Prelude.{ℕ, List, [], ◌∷◌, None, Some}
 use Rattle.std.specs.declared.option.Option.{Option}
 use Rattle.pv_typed.specs.declared.values.Const.{Const}
 use Rattle.pv_typed.specs.Addresses.{constant_of}
-use Rattle.pv_typed.specs.TypedUnits.{Store, StoredValue, ValueOf, TextOf, object_at, literal_at}
+use Rattle.pv_typed.specs.TypedUnits.{Store, StoredValue, ValueOf, TextOf, object_at, function_at, literal_at}
 use Rattle.pv_world.specs.Worlds.{Worth, Nothing}
 use Rattle.pv_eval.specs.States.{Setting, State, Res, Gives, then_do}
 use Rattle.pv_eval.specs.TypeForms.{lvalue, size_of}
-use Rattle.pv_eval.specs.Operations.{Makes, MakesLiteral, Fills, Puts, PutsText, act}
+use Rattle.pv_eval.specs.Operations.{Makes, MakesLiteral, MakesFunction, Fills, Puts, PutsText, act}
 use Rattle.pv_eval.specs.Constants.{constant_worth}
 
 -- 6.2.4p3, 6.7.9p10: an object with static storage is made, each byte 0
@@ -23,6 +23,11 @@ make_statics b (o ∷ os) s = then_do (make_static b o s) (λ v s. make_statics 
 abbrev pub make_literals : Setting → List ℕ → State → Res Worth
 make_literals b [] s = Gives Nothing s
 make_literals b (l ∷ ls) s = then_do (act b (literal_at b.unit l).line (MakesLiteral l) s) (λ v s. make_literals b ls s)
+
+-- 6.3.2.1p4: the instances of the functions that are pointed to
+abbrev pub make_functions : Setting → List ℕ → State → Res Worth
+make_functions b [] s = Gives Nothing s
+make_functions b (f ∷ fs) s = then_do (act b (function_at b.unit f).line (MakesFunction f) s) (λ v s. make_functions b fs s)
 
 -- 6.7.9p4, 6.6p7: what a static initializer stores is the value of a constant expression
 abbrev pub store_constant : Setting → (object : ℕ) → Store → Option Const → State → Res Worth
@@ -45,7 +50,9 @@ initialize_statics b [] s = Gives Nothing s
 initialize_statics b (o ∷ os) s = then_do (store_statics b o (object_at b.unit o).inits s) (λ v s. initialize_statics b os s)
 
 -- 5.1.2p1: before `main` is called: static objects are made in the order in which their names are first declared, then
--- the literals in the order of the source, and then the initializers are stored. None of it takes a turn
+-- the literals in the order of the source, then the functions that are pointed to in the order of their first declarations, and then the
+-- initializers are stored. None of it takes a turn
 abbrev pub prepare : Setting → State → Res Worth
 prepare b s =
-    then_do (make_statics b b.unit.statics s) (λ v s. then_do (make_literals b b.unit.instances s) (λ v s. initialize_statics b b.unit.statics s))
+    then_do (make_statics b b.unit.statics s) (λ v s. then_do (make_literals b b.unit.instances s) (λ v s.
+    then_do (make_functions b b.unit.placed s) (λ v s. initialize_statics b b.unit.statics s)))

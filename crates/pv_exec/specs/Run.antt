@@ -21,12 +21,12 @@ use Rattle.pv_exec.specs.Calls.{below, call_body}
 use Rattle.pv_exec.specs.Preparing.{prepare}
 
 -- what a run is given: the unit (5.1.1.1), its bound, and in a settled run the sides of its pairs
-abbrev pub setting_of : Stored → (bound : ℕ) → Option (List Bool) → Setting
-setting_of u bound sides = record { unit = whole u; types = u.known; bound = bound; sides = sides }
+abbrev pub setting_of : Stored → (bound : ℕ) → Option (List Bool) → (zap : Bool) → Setting
+setting_of u bound sides zap = record { unit = whole u; types = u.known; bound = bound; sides = sides; zap = zap }
 
 -- 5.1.2p1: nothing is made, printed or told yet, and the script says where storage instances will lie (the memory model)
-abbrev pub first : List ScriptLine → State
-first script = record { world = first_world script; output = []; events = []; taken = 0 }
+abbrev pub first : List ScriptLine → (zap : Bool) → State
+first script zap = record { world = first_world script zap; output = []; events = []; taken = 0 }
 
 -- 5.1.2.2.1p1: `main` is called, without arguments, in the line of its name
 abbrev pub call_main : Setting → Option ℕ → State → Res Worth
@@ -35,7 +35,7 @@ call_main b (Some f) s = call_body b (below b b.bound) (function_at b.unit f) []
 
 -- 5.1.2p1: the run: what comes before the first turn, and the call of `main`
 unfoldable pub run_of : Setting → List ScriptLine → Res Worth
-run_of b script = then_do (prepare b (first script)) (λ v s. call_main b (main_of b.unit) s)
+run_of b script = then_do (prepare b (first script b.zap)) (λ v s. call_main b (main_of b.unit) s)
 
 -- 5.1.2.2.3p1: a status is an `int`; typing makes sure of it
 abbrev pub status_in : ℤ → ℤ

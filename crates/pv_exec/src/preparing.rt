@@ -6,7 +6,7 @@ ghost use Rattle.pv_eval.specs.Moments.{Made};
 ghost use Rattle.pv_eval.specs.Runnable.{IsRunnable};
 ghost use Rattle.pv_exec.specs.Fits.{HasStore};
 ghost use Rattle.pv_exec.specs.Prepared.{StoresOne};
-ghost use Rattle.pv_exec.specs.Preparing.{make_static, make_statics, make_literals, store_static, store_statics, initialize_statics, prepare};
+ghost use Rattle.pv_exec.specs.Preparing.{make_static, make_statics, make_literals, make_functions, store_static, store_statics, initialize_statics, prepare};
 
 use crate::stores::init_at;
 use pv_eval::{Failure, Machine};
@@ -57,6 +57,26 @@ fn make_literals(unit: &TypedUnit, machine: &mut Machine) -> Result<(), Failure>
     'literals: while i < literals.len() {
         let l = literals[i];
         match machine.make_literal(unit, unit.literal_line(l), l) {
+            Ok(()) => {}
+            Err(e) => return Err(e),
+        }
+        i += 1;
+    }
+    Ok(())
+}
+
+// The functions that are pointed to, in the order of their first declarations (C17 6.3.2.1p4).
+fn make_functions(unit: &TypedUnit, machine: &mut Machine) -> Result<(), Failure>
+    requires runnable { IsRunnable unit.now }
+    ensures made { Always unit.now machine.old.moment (λ b out es. Made (make_functions b b.unit.placed (state_of machine.old.moment out es)) result (state_of machine.new.moment out es)) }
+    ensures started { machine.new.started ≡ machine.old.started }
+    ensures stays { Stays machine.old.moment machine.new.moment }
+{
+    let functions = unit.placed();
+    let mut i = 0;
+    'functions: while i < functions.len() {
+        let f = functions[i];
+        match machine.make_function(unit, unit.function(f).line, f) {
             Ok(()) => {}
             Err(e) => return Err(e),
         }
@@ -125,7 +145,7 @@ fn initialize_statics(unit: &TypedUnit, machine: &mut Machine) -> Result<(), Fai
     Ok(())
 }
 
-/// Static objects and literals are made, and static initializers stored.
+/// Static objects, literals and the instances of functions are made, and static initializers stored.
 pub fn prepare(unit: &TypedUnit, machine: &mut Machine) -> Result<(), Failure>
     requires runnable { IsRunnable unit.now }
     ensures made { Always unit.now machine.old.moment (λ b out es. Made (prepare b (state_of machine.old.moment out es)) result (state_of machine.new.moment out es)) }
@@ -137,6 +157,10 @@ pub fn prepare(unit: &TypedUnit, machine: &mut Machine) -> Result<(), Failure>
         Err(e) => return Err(e),
     }
     match make_literals(unit, machine) {
+        Ok(()) => {}
+        Err(e) => return Err(e),
+    }
+    match make_functions(unit, machine) {
         Ok(()) => {}
         Err(e) => return Err(e),
     }

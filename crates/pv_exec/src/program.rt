@@ -96,6 +96,7 @@ fn answer<O: Sink>(
 /// Runs a unit (C17 5.1.2): what it prints goes to the sink, and those in the hall are told of its memory.
 ///
 /// At most as many turns are taken as the bound allows. With sides, each pair stands for its side from its making.
+/// With `zap` a pointer to what has ended is indeterminate (C17 6.2.4p2), and its use undefined; without, it may be read.
 /// What is printed is written while the run goes on: less than 4096 bytes wait for the next part of the run. The hall is told
 /// of each part once its bytes were written so. A write that fails ends the run.
 pub fn run<O: Sink>(
@@ -103,6 +104,7 @@ pub fn run<O: Sink>(
     u: &TypedUnit,
     script: Script,
     bound: u64,
+    zap: bool,
     sides: Option<&[Side]>,
     out: &mut O,
     hall: &mut Hall,
@@ -110,18 +112,18 @@ pub fn run<O: Sink>(
     requires runnable { IsRunnable u.now }
     requires main { IsTrue (is_some (main_of (whole u.now))) }
     requires bound { bound ≤ 10 ^ 8 }
-    ensures ran { IfOk result (RanAs (run_of (setting_of u.now bound (highs sides.entry (λ x. x.now))) script)) }
-    ensures gains { OnOk result (Gains (O.written out.old) (O.written out.new) (end_at u.now bound (highs sides.entry (λ x. x.now)) script).output) }
-    ensures part { OnErr result (GainsPrefix (O.written out.old) (O.written out.new) (end_at u.now bound (highs sides.entry (λ x. x.now)) script).output) }
+    ensures ran { IfOk result (RanAs (run_of (setting_of u.now bound (highs sides.entry (λ x. x.now)) zap) script)) }
+    ensures gains { OnOk result (Gains (O.written out.old) (O.written out.new) (end_at u.now bound (highs sides.entry (λ x. x.now)) zap script).output) }
+    ensures part { OnErr result (GainsPrefix (O.written out.old) (O.written out.new) (end_at u.now bound (highs sides.entry (λ x. x.now)) zap script).output) }
     ensures cause { FaultCause result (O.faults out.old) (O.faults out.new) }
     ensures told { ToldOr result (outlet (O.written out.old) hall.old its_kind its_wants seen) (outlet (O.written out.new) hall.new its_kind its_wants seen)
-        (end_at u.now bound (highs sides.entry (λ x. x.now)) script) u.now.names }
+        (end_at u.now bound (highs sides.entry (λ x. x.now)) zap script) u.now.names }
 {
     let given = match given_highs(alloc, sides) {
         Some(given) => given,
         None => return Err(RunError::NoMemory),
     };
-    let mut machine = match Machine::new(alloc, u, script, given) {
+    let mut machine = match Machine::new(alloc, u, script, given, zap) {
         Ok(machine) => machine,
         Err(_) => return Err(RunError::NoMemory),
     };

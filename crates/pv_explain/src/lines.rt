@@ -20,6 +20,7 @@ fn test_word(test: u8) -> &'static [u8]
         2 => b"range",
         3 => b"block",
         4 => b"same",
+        5 => b"code",
         _ => b"?",
     }
 }

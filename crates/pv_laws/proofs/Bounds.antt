@@ -9,7 +9,8 @@ use Rattle.pv_world.specs.Worlds.{Worth, World}
 use Rattle.pv_world.specs.Doing.{Done, Answers, Fails, Breaks}
 use Rattle.pv_eval.specs.States.{Setting, State, Turns, Res, Gives, Stops, then_do, spend, end_of}
 use Rattle.pv_eval.specs.Acting.{acted}
-use Rattle.pv_eval.specs.Operations.{Op, does, act}
+use Rattle.pv_eval.specs.Constants.{constant_worth}
+use Rattle.pv_eval.specs.Operations.{Op, Puts, does, act}
 use Rattle.pv_eval.proofs.Closed.{beside_setting}
 use Rattle.pv_exec.specs.Calls.{below}
 use Rattle.pv_exec.specs.Run.{setting_of, first, run_of}
@@ -72,7 +73,7 @@ going b l le =
         less = λ h. h;
         more = λ h. h;
       };
-      reads = λ line o. record { passes = λ s. act-passes c line (o s) s; beside = λ s. inl (same-act b l line (o s) s) };
+      reads = λ line o offset v q. record { passes = λ s. act-passes c line (Puts o offset v (constant_worth s.world q)) s; beside = λ s. inl (same-act b l line (Puts o offset v (constant_worth s.world q)) s) };
     }
 
 -- where the first has no level left
@@ -86,11 +87,11 @@ bottom b l le k =
       again_do = λ y x. record { passes = g.again_do y x; beside = λ s. inr (g.again_do y x s) };
     }
 
-run-beside : (u : Stored) (sides : Option (List Bool)) (script : List ScriptLine) (n l : ℕ) → n ≤ l → let b = setting_of u n sides in Beside (Filled b) (run_at u sides script n) (run_at u sides script l)
+run-beside : (u : Stored) (sides : Option (List Bool)) (zap : Bool) (script : List ScriptLine) (n l : ℕ) → n ≤ l → let b = setting_of u n sides zap in Beside (Filled b) (run_at u sides zap script n) (run_at u sides zap script l)
 unfolding run_of
-run-beside u sides script n l le =
-    let b = setting_of u n sides in
-    (run-closed b l sides (going b l le) n (below-closed b l sides (going b l le).ways (bottom b l le) n l le)).beside (first script)
+run-beside u sides zap script n l le =
+    let b = setting_of u n sides zap in
+    (run-closed b l sides (going b l le) n (below-closed b l sides (going b l le).ways (bottom b l le) n l le)).beside (first script zap)
 
 -- what was made is there still
 abbrev pub Stay : State → State → Type 0
@@ -104,5 +105,5 @@ stay-by F r r' (inl e) = subst (λ (q : Res Worth). Stay (end_of r) (end_of q)) 
 stay-by F (Gives v s) r' (inr o) = absurd o
 stay-by F (Stops y s) r' (inr o) = led-stay F s (end_of r') o
 
-pub run-stays : (u : Stored) (sides : Option (List Bool)) (script : List ScriptLine) (n m : ℕ) → n ≤ m → Stay (end_of (run_at u sides script n)) (end_of (run_at u sides script m))
-run-stays u sides script n m le = stay-by (Filled (setting_of u n sides)) (run_at u sides script n) (run_at u sides script m) (run-beside u sides script n m le)
+pub run-stays : (u : Stored) (sides : Option (List Bool)) (zap : Bool) (script : List ScriptLine) (n m : ℕ) → n ≤ m → Stay (end_of (run_at u sides zap script n)) (end_of (run_at u sides zap script m))
+run-stays u sides zap script n m le = stay-by (Filled (setting_of u n sides zap)) (run_at u sides zap script n) (run_at u sides zap script m) (run-beside u sides zap script n m le)

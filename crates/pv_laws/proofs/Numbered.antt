@@ -62,8 +62,8 @@ sound-formed F T f s = record {
   few = s.few;
 }
 
-pub run-laid : (u : Stored) (sides : Option (List Bool)) (script : List ScriptLine) (n : ℕ) → IsLaidOut (table_at (end_of (run_at u sides script n)))
-run-laid u sides script n = sound-laid (HasNoEmptyTag u) (table_at (end_of (run_at u sides script n))) (run-sound u sides script n)
+pub run-laid : (u : Stored) (sides : Option (List Bool)) (zap : Bool) (script : List ScriptLine) (n : ℕ) → IsLaidOut (table_at (end_of (run_at u sides zap script n)))
+run-laid u sides zap script n = sound-laid (HasNoEmptyTag u) (table_at (end_of (run_at u sides zap script n))) (run-sound u sides zap script n)
 
-pub run-formed : (u : Stored) (sides : Option (List Bool)) (script : List ScriptLine) (n : ℕ) → HasNoEmptyTag u → IsWellFormed (table_at (end_of (run_at u sides script n)))
-run-formed u sides script n f = sound-formed (HasNoEmptyTag u) (table_at (end_of (run_at u sides script n))) f (run-sound u sides script n)
+pub run-formed : (u : Stored) (sides : Option (List Bool)) (zap : Bool) (script : List ScriptLine) (n : ℕ) → HasNoEmptyTag u → IsWellFormed (table_at (end_of (run_at u sides zap script n)))
+run-formed u sides zap script n f = sound-formed (HasNoEmptyTag u) (table_at (end_of (run_at u sides zap script n))) f (run-sound u sides zap script n)

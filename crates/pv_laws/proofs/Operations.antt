@@ -12,7 +12,7 @@ use Rattle.pv_object.specs.declared.values.Reach.{Reach}
 use Rattle.pv_object.specs.declared.values.Stop.{Stop}
 use Rattle.pv_object.specs.declared.values.Value.TheVariants.{Int as IntValue, Unset, Pointer as PointerValue}
 use Rattle.pv_shadow.specs.Bytes.{read}
-use Rattle.pv_typed.specs.TypedUnits.{TypedObject, layouts, object_at, literal_at}
+use Rattle.pv_typed.specs.TypedUnits.{TypedObject, layouts, object_at, function_at, literal_at}
 use Rattle.pv_script.specs.Names.{name_at as text_of}
 use Rattle.pv_script.specs.declared.library.Library.{Library}
 use Rattle.pv_seq.specs.Sequencing.{Access, conflicts}
@@ -28,17 +28,19 @@ use Rattle.pv_world.specs.Telling.{Told}
 use Rattle.pv_world.specs.Doing.{Done}
 use Rattle.pv_world.specs.Coming.{IsMadeWorth}
 use Rattle.pv_world.specs.Accesses.{is_inexact}
+use Rattle.pv_world.specs.Objects.{function_request}
 use Rattle.pv_eval.specs.States.{Setting}
 use Rattle.pv_eval.specs.TypeForms.{Lvalue, size_of}
 use Rattle.pv_eval.specs.Permission.{permits}
 use Rattle.pv_eval.specs.Accesses.{access_to, reads_permitted, reads_at, reads, writes_alone, writes_at, writes}
-use Rattle.pv_eval.specs.Objects.{where_possible, heap_name, can_make, request_of, makes, instance_for, ends, makes_literal, can_fill, can_put, can_put_text}
+use Rattle.pv_eval.specs.Objects.{where_possible, heap_name, can_make, request_of, makes, instance_for, ends, makes_literal, makes_function, can_place, can_fill, can_put, can_put_text}
+use Rattle.pv_eval.specs.Callees.{may_call}
 use Rattle.pv_eval.specs.Library.{replied, with_memory, asked, asks}
 use Rattle.pv_eval.specs.Suiting.{is_size, is_live, knows_worth}
-use Rattle.pv_eval.specs.Operations.{Op, Converts, Calculates, CalculatesOne, Tests, Negates, Accepts, Needs, Moves, Subtracts, Orders, Equals, Follows, Selects, TakesPart, Reads, Writes, NamesObject, NamesLiteral, Makes, MakesLiteral, Ends, BeginsBody, EndsBody, Fills, Puts, PutsText, Asks, suits, works, does}
+use Rattle.pv_eval.specs.Operations.{Op, Converts, Calculates, CalculatesOne, Tests, Negates, Accepts, Needs, Moves, Subtracts, Orders, Equals, Follows, Selects, Finds, TakesPart, Reads, Writes, NamesObject, NamesLiteral, NamesFunction, Makes, MakesLiteral, MakesFunction, Ends, BeginsBody, EndsBody, Fills, Puts, PutsText, Asks, suits, works, does}
 use Rattle.pv_eval.proofs.Guards.{left_of, right_of, worth_made}
 use Rattle.pv_laws.proofs.Calls.{called-leads}
-use Rattle.pv_laws.proofs.Worlds.{Onward, unless-on, tests-on, converts-on, calculates-on, calculates-one-on, follows-on, moves-on, selects-on, between-on, order-on, equals-on, reaching-on, worth-on, takes-on, object-on, literal-on, ends-on}
+use Rattle.pv_laws.proofs.Worlds.{Onward, unless-on, tests-on, converts-on, calculates-on, calculates-one-on, follows-on, moves-on, selects-on, between-on, order-on, equals-on, reaching-on, worth-on, takes-on, finds-on, object-on, function-on, literal-on, ends-on}
 use Rattle.pv_laws.proofs.Ways.{Changes}
 
 -- if every tag has a byte
@@ -120,6 +122,11 @@ module _ (b : Setting) {R : Table → Table → Type 0} (changes : Changes (Fill
       let x = object_at b.unit o in
       possible-on changes (can_make b x) w _ (λ e. object-on changes o x.lasting (request_of b x) w (made-some b x e))
 
+  function-makes : (f : ℕ) (w : World) → Onward R w (makes_function b f w)
+  function-makes f w =
+      let x = function_at b.unit f in
+      possible-on changes (can_place x) w _ (λ e. function-on changes f (function_request x.name (text_of b.unit.names x.name)) w (λ g. omega arith))
+
   literal-makes : (l : ℕ) (w : World) → Onward R w (makes_literal b l w)
   literal-makes l w =
       let bytes = (literal_at b.unit l).bytes in
@@ -157,13 +164,16 @@ module _ (b : Setting) {R : Table → Table → Type 0} (changes : Changes (Fill
   works-on (Equals negated v x) w e = equals-on changes negated v x w
   works-on (Follows nothing v) w e = follows-on changes nothing v w
   works-on (Selects offset v) w e = selects-on changes offset v w
+  works-on (Finds t v) w e = finds-on changes (may_call b t) v w
   works-on (TakesPart offset l v) w e = takes-on changes offset l.size l.shape v w
   works-on (Reads l place rivals) w e = reads-on changes b l place rivals w
   works-on (Writes l place v from rivals) w e = writes-on changes b l place v from rivals w
   works-on (NamesObject o) w e = record { leads = changes.itself }
   works-on (NamesLiteral l) w e = record { leads = changes.itself }
+  works-on (NamesFunction f) w e = record { leads = changes.itself }
   works-on (Makes o) w e = makes-on o w
   works-on (MakesLiteral l) w e = literal-makes l w
+  works-on (MakesFunction f) w e = function-makes f w
   works-on (Ends o) w e = ends-object o w
   works-on BeginsBody w e = record { leads = changes.itself }
   works-on EndsBody w e = record { leads = changes.itself }

@@ -7,7 +7,7 @@ use Rattle.pv_num.specs.Kinds.{fits_of}
 use Rattle.pv_prov.specs.declared.names.Prov.{Prov}
 use Rattle.pv_prov.specs.Names.{is_empty}
 use Rattle.pv_inst.specs.declared.values.CreateError.{CreateError}
-use Rattle.pv_inst.specs.declared.values.Test.TheVariants.{Live, Range}
+use Rattle.pv_inst.specs.declared.values.Test.TheVariants.{Live, Range, Code}
 use Rattle.pv_inst.specs.declared.values.Tried.{Tried}
 use Rattle.pv_inst.specs.declared.values.Miss.{Miss}
 use Rattle.pv_inst.specs.Table.{Table, IsMadeIn}
@@ -27,7 +27,7 @@ use Rattle.pv_object.specs.Values.{is_character}
 use Rattle.pv_object.specs.Memory.{Mem}
 use Rattle.pv_object.specs.Creating.{created, made}
 use Rattle.pv_object.specs.Loading.{value_of, integer_of, pointer_of, pointer_named, exposed_by, is_trap}
-use Rattle.pv_object.specs.Operations.{truth, equal, equal_after, recast, to_ptr, address_of, to_int, to_int_after, move_under, moved, together, order}
+use Rattle.pv_object.specs.Operations.{truth, equal, equal_after, recast, to_ptr, address_of, to_int, to_int_after, move_under, moved, code, together, order}
 use Rattle.pv_laws.proofs.Ways.{Changes}
 
 module _ {F : Type 0} {R : Table → Table → Type 0} (changes : Changes F R) where
@@ -95,6 +95,11 @@ module _ {F : Type 0} {R : Table → Table → Type 0} (changes : Changes F R) w
   move-leads c T p by =
       pair-if (is_null p) T _ _ changes.itself
       (pair-if (is_empty p.prov) T _ _ changes.itself (changes.uses T p.prov (Range (moved p.address by) 0)))
+
+  pub code-leads : (T : Table) (p : Pointer) → R T (code T p).1
+  code-leads T p =
+      pair-if (is_null p) T _ _ changes.itself
+      (pair-if (is_empty p.prov) T _ _ changes.itself (changes.uses T p.prov (Code p.address)))
 
   pub together-leads : (c : Clause) (T : Table) (p q : Pointer) → IsMadeIn T p.prov → IsMadeIn T q.prov → R T (together c T p q).1
   together-leads c T p q a b = pair-if _ T _ _ changes.itself (changes.meets T p.prov q.prov a b)

@@ -13,7 +13,8 @@ use Rattle.pv_world.specs.Telling.{Told}
 use Rattle.pv_world.specs.Doing.{Done, Answers, Fails, Breaks}
 use Rattle.pv_eval.specs.States.{Setting, State, Turns, Res, Gives, Stops, then_do, spend, end_of}
 use Rattle.pv_eval.specs.Acting.{noted, pair_count, keeps_both, one_kept, sided, by_side, answered, acted}
-use Rattle.pv_eval.specs.Operations.{Op, does}
+use Rattle.pv_eval.specs.Constants.{constant_worth}
+use Rattle.pv_eval.specs.Operations.{Op, Puts, does}
 use Rattle.pv_eval.proofs.Closed.{beside_setting}
 use Rattle.pv_eval.proofs.Guards.{left_of, right_of}
 use Rattle.pv_exec.specs.Calls.{below}
@@ -92,22 +93,22 @@ passing b = record {
     less = λ h. h;
     more = λ h. h;
   };
-  reads = λ line o s. act-passes b line (o s) s;
+  reads = λ line o offset l q s. act-passes b line (Puts o offset l (constant_worth s.world q)) s;
 }
 
 pub alike : (b : Setting) (k : ℕ) → Alike b b.bound b.sides (passing b).ways k (below b k) (below (beside_setting b b.bound b.sides) k)
 alike b k = even-closed b b.bound b.sides (passing b).ways (λ A s. led-itself) k
 
 -- the whole run
-run-passes : (u : Stored) (sides : Option (List Bool)) (script : List ScriptLine) (n : ℕ) → Passes (HasNoEmptyTag u) (first script) (end_of (run_at u sides script n))
+run-passes : (u : Stored) (sides : Option (List Bool)) (zap : Bool) (script : List ScriptLine) (n : ℕ) → Passes (HasNoEmptyTag u) (first script zap) (end_of (run_at u sides zap script n))
 unfolding run_of
-run-passes u sides script n =
-    let b = setting_of u n sides in
-    run-closed b n sides (passing b) n (alike b n) (first script)
+run-passes u sides zap script n =
+    let b = setting_of u n sides zap in
+    run-closed b n sides (passing b) n (alike b n) (first script zap)
 
 -- nothing is made yet
-first-sound : (F : Type 0) (script : List ScriptLine) → Sound F (table_at (first script)).instances (table_at (first script)).pairs
-first-sound F script = record {
+first-sound : (F : Type 0) (script : List ScriptLine) (zap : Bool) → Sound F (table_at (first script zap)).instances (table_at (first script zap)).pairs
+first-sound F script zap = record {
   placed = All-nil (Lies F);
   apart = λ i j d l h. absurd (omega (arith, h));
   met = All-nil (HasMet []);
@@ -115,5 +116,5 @@ first-sound F script = record {
   few = omega arith;
 }
 
-pub run-sound : (u : Stored) (sides : Option (List Bool)) (script : List ScriptLine) (n : ℕ) → let T = table_at (end_of (run_at u sides script n)) in Sound (HasNoEmptyTag u) T.instances T.pairs
-run-sound u sides script n = (run-passes u sides script n).sound (first-sound (HasNoEmptyTag u) script)
+pub run-sound : (u : Stored) (sides : Option (List Bool)) (zap : Bool) (script : List ScriptLine) (n : ℕ) → let T = table_at (end_of (run_at u sides zap script n)) in Sound (HasNoEmptyTag u) T.instances T.pairs
+run-sound u sides zap script n = (run-passes u sides zap script n).sound (first-sound (HasNoEmptyTag u) script zap)

@@ -29,10 +29,10 @@ use Rattle.pv_laws.proofs.Findings.{name-leads}
 use Rattle.pv_laws.proofs.Rows.{Leads, led-itself, led-trans, row-led, push-led, MayKeep, kept-led}
 
 -- a use: a pair keeps what survives, one of its two at least, and only what it kept can survive
-judged-is : (xs : List Instance) (s : Stands) (pair : Option ℕ) (t : Test) (tried : Tried) → judged xs s pair t ≡ Ok tried → (any_survives xs s t ≡ true) × (tried ≡ record { pair = pair; low = survives xs s.low t; high = survives xs s.high t })
-judged-is xs s pair t tried h = by (any_survives xs s t) _ _ refl h
+judged-is : (zap : Bool) (xs : List Instance) (s : Stands) (pair : Option ℕ) (t : Test) (tried : Tried) → judged zap xs s pair t ≡ Ok tried → (any_survives zap xs s t ≡ true) × (tried ≡ record { pair = pair; low = survives zap xs s.low t; high = survives zap xs s.high t })
+judged-is zap xs s pair t tried h = by (any_survives zap xs s t) _ _ refl h
   where
-    by : (b : Bool) (x : Tried) (m : Miss) → any_survives xs s t ≡ b → cond b (Ok x) (Err m) ≡ Ok tried → (any_survives xs s t ≡ true) × (tried ≡ x)
+    by : (b : Bool) (x : Tried) (m : Miss) → any_survives zap xs s t ≡ b → cond b (Ok x) (Err m) ≡ Ok tried → (any_survives zap xs s t ≡ true) × (tried ≡ x)
     by true x m e f = (e, cc)
     by false x m e f = absurd cc
 
@@ -40,24 +40,24 @@ one-true : (a b : Bool) → (a || b) ≡ true → (a ≡ true) ⊎ (b ≡ true)
 one-true true b e = inl refl
 one-true false b e = inr e
 
-kept-survives : (b : Bool) (i : ℕ) (xs : List Instance) (t : Test) → survives xs (cond b (Some i) None) t ≡ true → b ≡ true
-kept-survives true i xs t e = refl
-kept-survives false i xs t e = e
+kept-survives : (zap b : Bool) (i : ℕ) (xs : List Instance) (t : Test) → survives zap xs (cond b (Some i) None) t ≡ true → b ≡ true
+kept-survives zap true i xs t e = refl
+kept-survives zap false i xs t e = e
 
-low-survives : (o : Option Twin) (xs : List Instance) (t : Test) → survives xs (stands_of o).low t ≡ true → IfSome o (λ (w : Twin). IsTrue w.keeps_low)
-low-survives None xs t e = tt
-low-survives (Some w) xs t e = kept-survives w.keeps_low w.low xs t e
+low-survives : (zap : Bool) (o : Option Twin) (xs : List Instance) (t : Test) → survives zap xs (stands_of o).low t ≡ true → IfSome o (λ (w : Twin). IsTrue w.keeps_low)
+low-survives zap None xs t e = tt
+low-survives zap (Some w) xs t e = kept-survives zap w.keeps_low w.low xs t e
 
-high-survives : (o : Option Twin) (xs : List Instance) (t : Test) → survives xs (stands_of o).high t ≡ true → IfSome o (λ (w : Twin). IsTrue w.keeps_high)
-high-survives None xs t e = tt
-high-survives (Some w) xs t e = kept-survives w.keeps_high w.high xs t e
+high-survives : (zap : Bool) (o : Option Twin) (xs : List Instance) (t : Test) → survives zap xs (stands_of o).high t ≡ true → IfSome o (λ (w : Twin). IsTrue w.keeps_high)
+high-survives zap None xs t e = tt
+high-survives zap (Some w) xs t e = kept-survives zap w.keeps_high w.high xs t e
 
 use-keeps : (T : Table) (k : ℕ) (t : Test) (tried : Tried) → use_answer T (Pair k) t ≡ Ok tried → MayKeep T.pairs k tried.low tried.high
 use-keeps T k t tried e =
     let s = stands T.pairs (Pair k) in
-    let j = judged-is T.instances s (if_two k s) t tried e in
+    let j = judged-is T.zap T.instances s (if_two k s) t tried e in
     subst (λ (x : Tried). MayKeep T.pairs k x.low x.high) (sym j.1)
-    (one-true (survives T.instances s.low t) (survives T.instances s.high t) j.0, low-survives (twin_at T.pairs k) T.instances t, high-survives (twin_at T.pairs k) T.instances t)
+    (one-true (survives T.zap T.instances s.low t) (survives T.zap T.instances s.high t) j.0, low-survives T.zap (twin_at T.pairs k) T.instances t, high-survives T.zap (twin_at T.pairs k) T.instances t)
 
 -- within the addresses
 free-bounds : (base size : ℕ) → (ltb base 4096 || ltb (2 ^ 47) (base + size)) ≡ false → (4096 ≤ base) × (base + size ≤ 2 ^ 47)

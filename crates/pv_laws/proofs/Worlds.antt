@@ -1,5 +1,6 @@
 -- What each operation of a world leads to (C17 6.2.4, 6.3, 6.4.5, 6.5).
 use Rattle.std.proofs.Common.{◌≡◌, ℕ, ◌≤◌, ℤ, pos, ◌-ℤ◌, Bool, true, false, List, Option, Some, None, Result, Ok, Err, refl, take, drop}
+use Rattle.std.specs.Prelude.{unwrap_or, if◌then◌else◌}
 use Rattle.std.specs.declared.cmp.Ordering.{Ordering}
 use Rattle.pv_num.specs.declared.kinds.IntKind.{IntKind}
 use Rattle.pv_num.specs.declared.kinds.IntKind.TheVariants.{Int as IntOfInt}
@@ -25,22 +26,22 @@ use Rattle.pv_object.specs.Memory.{Mem}
 use Rattle.pv_object.specs.Access.{reach}
 use Rattle.pv_object.specs.Creating.{created}
 use Rattle.pv_object.specs.Loading.{Loaded}
-use Rattle.pv_object.specs.Operations.{truth, to_ptr, recast, to_int, shift, select, together, order, equal}
+use Rattle.pv_object.specs.Operations.{truth, to_ptr, recast, to_int, shift, select, code, together, order, equal}
 use Rattle.pv_watch.specs.declared.event.What.{What}
 use Rattle.pv_world.specs.declared.got.Shape.{Shape}
 use Rattle.pv_world.specs.declared.got.Shape.TheVariants as shape
 use Rattle.pv_world.specs.declared.got.How.{How}
 use Rattle.pv_world.specs.declared.got.How.TheVariants.{Rounds, Passes, Tests, Numbers, Points, Recasts, Voids}
 use Rattle.pv_world.specs.Worlds.{Worth, Nothing, Missing, Scalar, Whole, World, Wrong, with_table}
-use Rattle.pv_world.specs.Telling.{Told, quiet, telling, both_used}
+use Rattle.pv_world.specs.Telling.{Told, quiet, telling, used, both_used, code_test}
 use Rattle.pv_world.specs.Doing.{Done, Answers, Fails, Breaks}
-use Rattle.pv_world.specs.Worths.{truth_int, int_of, pointer_of, unless, unplain, unpresent, computed, bytes_of}
+use Rattle.pv_world.specs.Worths.{int, truth_int, int_of, pointer_of, unless, unplain, unpresent, computed, bytes_of}
 use Rattle.pv_world.specs.Conversions.{truth_by, truth_value, truth_worth, tests, number_by, pointed, recast_by, passes, converts}
 use Rattle.pv_world.specs.Calculations.{calculates, calculates_one, follows_to}
-use Rattle.pv_world.specs.Pointers.{moved_by, distance, moves, in_elements, elements_by, between_by, between, ordered_by, equal_by, equals, selects}
+use Rattle.pv_world.specs.Pointers.{moved_by, distance, moves, in_elements, elements_by, between_by, between, ordered_by, equal_by, equals, selects, unlike, found_in, found_by, finds}
 use Rattle.pv_world.specs.Accesses.{range_use, reaching_by, reaching, scalar_as, scalar_by, worth_in, takes_bytes}
-use Rattle.pv_world.specs.Objects.{object_made, makes_object, ends_instance, literal_request, literal_made, makes_literal_of}
-use Rattle.pv_laws.proofs.Pointers.{reach-leads, value-leads, truth-leads, equal-leads, to_ptr-leads, recast-leads, to_int-leads, move-leads, together-leads, order-leads, created-leads}
+use Rattle.pv_world.specs.Objects.{object_made, makes_object, ends_instance, literal_request, literal_made, makes_literal_of, function_made, makes_function, owner_of}
+use Rattle.pv_laws.proofs.Pointers.{reach-leads, value-leads, truth-leads, equal-leads, to_ptr-leads, recast-leads, to_int-leads, move-leads, code-leads, together-leads, order-leads, created-leads}
 use Rattle.pv_laws.proofs.Ways.{Changes}
 
 -- the table of the world that a doing leaves
@@ -134,6 +135,20 @@ module _ {F : Type 0} {R : Table → Table → Type 0} (changes : Changes F R) w
   pub selects-on : (offset : ℕ) (v : Worth) (w : World) → Onward R w (selects offset v w)
   selects-on offset v w = unless-on (unpresent v) w _ (moved-by w (pointer_of v) (select w.memory.table (pointer_of v) offset) (move-leads changes Indirection w.memory.table (pointer_of v) (pos offset)))
 
+  found-in : (w : World) (p : Pointer) (fits : Option ℕ → Bool) (o : Option ℕ) (us : List What) → Onward R w (found_in w p fits o us)
+  found-in w p fits o us = by (fits o)
+    where
+      by : (t : Bool) → Onward R w (if t then Answers (int (pos (unwrap_or o 0))) w (telling us) else Fails unlike (Some p.prov) w (telling us))
+      by true = record { leads = changes.itself }
+      by false = record { leads = changes.itself }
+
+  found-by : (w : World) (p : Pointer) (fits : Option ℕ → Bool) (got : Result (ℕ × Tried) Stop × Table) → R w.memory.table got.1 → Onward R w (found_by w p fits got)
+  found-by w p fits ((Ok r), T) h = record { leads = changes.trans h (found-in (with_table w T) p fits (owner_of w r.0) (used code_test r.1)).leads }
+  found-by w p fits ((Err y), T) h = record { leads = h }
+
+  pub finds-on : (fits : Option ℕ → Bool) (v : Worth) (w : World) → Onward R w (finds fits v w)
+  finds-on fits v w = unless-on (unplain v) w _ (found-by w (pointer_of v) fits (code w.memory.table (pointer_of v)) (code-leads changes w.memory.table (pointer_of v)))
+
   elements-by : (w : World) (p : Pointer) (us : List What) (o : Option ℤ) → Onward R w (elements_by w p us o)
   elements-by w p us (Some n) = record { leads = changes.itself }
   elements-by w p us None = record { leads = changes.itself }
@@ -191,6 +206,13 @@ module _ {F : Type 0} {R : Table → Table → Type 0} (changes : Changes F R) w
 
   pub object-on : (o : ℕ) (lasting : Bool) (r : Request) (w : World) → (F → 1 ≤ r.size) → Onward R w (makes_object o lasting r w)
   object-on o lasting r w some = object-made w o lasting r.name (created w.memory r) (created-leads changes w.memory r some)
+
+  function-made : (w : World) (f name : ℕ) (got : Result ℕ CreateError × Mem) → R w.memory.table got.1.table → Onward R w (function_made w f name got)
+  function-made w f name ((Ok i), M) h = record { leads = h }
+  function-made w f name ((Err e), M) h = record { leads = h }
+
+  pub function-on : (f : ℕ) (r : Request) (w : World) → (F → 1 ≤ r.size) → Onward R w (makes_function f r w)
+  function-on f r w some = function-made w f r.name (created w.memory r) (created-leads changes w.memory r some)
 
   literal-made : (w : World) (l : ℕ) (bytes : List ℕ) (got : Result ℕ CreateError × Mem) → R w.memory.table got.1.table → Onward R w (literal_made w l bytes got)
   literal-made w l bytes ((Ok i), M) h = record { leads = h }

@@ -12,29 +12,29 @@ ghost use Rattle.pv_laws.specs.Staying.{InstancesRemain, PairsSettle};
 
 /// A law: two different storage instances that live share no byte (C17 6.2.4p2), whatever the unit, the script and the sides are.
 pub fn live_instances_lie_apart()
-    ensures apart { (u : Stored) (sides : Option (List Bool)) (script : List ScriptLine) (n : ℕ) →
-        LieApart (end_of (run_at u sides script n)) }
+    ensures apart { (u : Stored) (sides : Option (List Bool)) (zap : Bool) (script : List ScriptLine) (n : ℕ) →
+        LieApart (end_of (run_at u sides zap script n)) }
 {}
 
 /// A law: the memory's table is well formed. Instances lie within the addresses, live ones lie apart and have at most 2^24 bytes,
 /// each pair of candidates keeps one at least, and its two are exposed and meet at its address. Where no structure or union of the
 /// unit is empty, each instance has a byte, too.
 pub fn memory_is_well_formed()
-    ensures laid { (u : Stored) (sides : Option (List Bool)) (script : List ScriptLine) (n : ℕ) →
-        IsLaidOut (table_at (end_of (run_at u sides script n))) }
-    ensures formed { (u : Stored) (sides : Option (List Bool)) (script : List ScriptLine) (n : ℕ) → HasNoEmptyTag u →
-        IsWellFormed (table_at (end_of (run_at u sides script n))) }
+    ensures laid { (u : Stored) (sides : Option (List Bool)) (zap : Bool) (script : List ScriptLine) (n : ℕ) →
+        IsLaidOut (table_at (end_of (run_at u sides zap script n))) }
+    ensures formed { (u : Stored) (sides : Option (List Bool)) (zap : Bool) (script : List ScriptLine) (n : ℕ) → HasNoEmptyTag u →
+        IsWellFormed (table_at (end_of (run_at u sides zap script n))) }
 {}
 
 /// A law: what was made is there ever after, under its number. No instance moves or changes its size, none that has ended lives
 /// again (C17 6.2.4p2), and what is exposed stays exposed.
 pub fn instances_stay()
-    ensures stay { (u : Stored) (sides : Option (List Bool)) (script : List ScriptLine) (n m : ℕ) → n ≤ m →
-        InstancesRemain (end_of (run_at u sides script n)) (end_of (run_at u sides script m)) }
+    ensures stay { (u : Stored) (sides : Option (List Bool)) (zap : Bool) (script : List ScriptLine) (n m : ℕ) → n ≤ m →
+        InstancesRemain (end_of (run_at u sides zap script n)) (end_of (run_at u sides zap script m)) }
 {}
 
 /// A law: a pair of candidates has the same two ever after, and what it dropped it keeps no more. So what was settled once stays so.
 pub fn pairs_stay_settled()
-    ensures settle { (u : Stored) (sides : Option (List Bool)) (script : List ScriptLine) (n m : ℕ) → n ≤ m →
-        PairsSettle (end_of (run_at u sides script n)) (end_of (run_at u sides script m)) }
+    ensures settle { (u : Stored) (sides : Option (List Bool)) (zap : Bool) (script : List ScriptLine) (n m : ℕ) → n ≤ m →
+        PairsSettle (end_of (run_at u sides zap script n)) (end_of (run_at u sides zap script m)) }
 {}

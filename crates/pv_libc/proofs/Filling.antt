@@ -1,12 +1,14 @@
--- Bytes that are filled one by one.
-use Rattle.std.proofs.Common.{◌≡◌, ℕ, suc, ◌+◌, ◌-◌, ◌<◌, [], ◌∷◌, ap, ◌∙◌, arith}
+-- Bytes that are filled with one value.
+use Rattle.std.proofs.Common.{◌≡◌, ℕ, zero, suc, [], ◌∷◌, replicate, refl, ap}
+use Rattle.std.specs.List.{repeat}
+use Rattle.pv_shadow.specs.declared.byte.Byte.{Byte}
 use Rattle.pv_object.specs.Memory.{Mem}
 use Rattle.pv_object.specs.Storing.{with_bytes}
 use Rattle.pv_libc.specs.Blocks.{filled, plain_byte}
 
-pub fill_next : (M : Mem) (a i n v : ℕ) → i < n → filled (with_bytes M (a + i) (plain_byte v ∷ [])) (a + (i + 1)) (n - (i + 1)) v ≡ filled M (a + i) (n - i) v
-fill_next M a i n v l =
-    let k = n - (i + 1) in
-    let left : suc k ≡ n - i = omega (arith, l) in
-    let place : a + (i + 1) ≡ a + i + 1 = omega arith in
-    ap (λ b. filled (with_bytes M (a + i) (plain_byte v ∷ [])) b k v) place ∙ ap (λ m. filled M (a + i) m v) left
+repeated : (n : ℕ) (b : Byte) → replicate n b ≡ repeat n (b ∷ [])
+repeated zero b = refl
+repeated (suc n) b = ap (λ bs. b ∷ bs) (repeated n b)
+
+pub all_filled : (M : Mem) (a n v : ℕ) → with_bytes M a (replicate n (plain_byte v)) ≡ filled M a n v
+all_filled M a n v = ap (with_bytes M a) (repeated n (plain_byte v))

@@ -34,7 +34,7 @@ use Rattle.pv_libc.specs.declared.values.Note.TheVariants.{Made, Ended, Exposed,
 use Rattle.pv_libc.specs.declared.values.Given.{Given}
 use Rattle.pv_libc.specs.declared.values.Reply.{Reply}
 use Rattle.pv_libc.specs.declared.values.Reply.TheVariants as reply
-use Rattle.pv_libc.specs.Steps.{Now, Did, done, next, next_by, with_notes, in_memory, about, about_by, OrNoMemory}
+use Rattle.pv_libc.specs.Steps.{Now, Did, done, next_by, with_notes, about_by, OrNoMemory}
 use Rattle.pv_libc.specs.Heap.{told_of, heap_request, granted, requested, allocated, malloc, zeroed, cleared, calloc, block_in, the_block, block_answer, block_by, block, freed, free, both, moved, resized, realloc, null}
 use Rattle.pv_libc.specs.Printing.{format_of}
 use Rattle.pv_libc.specs.Calls.{argument_at, pointer, number, size, printed, printf, called_in, called}

@@ -14,7 +14,7 @@ use Rattle.pv_object.specs.declared.values.Asker.{Asker}
 use Rattle.pv_object.specs.declared.values.Asker.TheVariants.{Text, Print}
 use Rattle.pv_object.specs.declared.values.Stop.{Stop}
 use Rattle.pv_object.specs.Memory.{Mem}
-use Rattle.pv_object.specs.Access.{reach, is_null}
+use Rattle.pv_object.specs.Access.{reach}
 use Rattle.pv_object.specs.Loading.{load}
 use Rattle.pv_object.specs.Operations.{to_int}
 use Rattle.pv_libc.specs.declared.values.Arg.{Arg}
@@ -30,9 +30,9 @@ use Rattle.pv_libc.specs.declared.formats.Within.{Within}
 use Rattle.pv_libc.specs.declared.formats.Within.TheVariants as within
 use Rattle.pv_libc.specs.declared.formats.Piece.{Piece}
 use Rattle.pv_libc.specs.declared.formats.Piece.TheVariants.{Goes, Converts, Breaks}
-use Rattle.pv_libc.specs.Steps.{Now, Did, done, halted, next, next_by, noted, in_table, in_memory, about, about_by, pair_used, used, told, reached, reached_by, further}
+use Rattle.pv_libc.specs.Steps.{Now, Did, done, next, next_by, noted, in_table, about, about_by, pair_used, used, told, reached, reached_by, further}
 use Rattle.pv_libc.specs.Characters.{character_loaded, character_in, character_at, characters_from, too_far, string_from, string_at, most}
-use Rattle.pv_libc.specs.Blocks.{copy, memset, memcmp, answers}
+use Rattle.pv_libc.specs.Blocks.{copy, memset, memcmp}
 use Rattle.pv_libc.specs.Strings.{strlen, compared_by, compared_from, strcmp, strcpy}
 use Rattle.pv_libc.specs.Formats.{piece_at}
 use Rattle.pv_libc.specs.Arguments.{number_text, number_of, string_of, address_of}

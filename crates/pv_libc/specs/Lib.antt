@@ -1,4 +1,3 @@
-pub mod Uses
 pub mod Steps
 pub mod Characters
 pub mod Blocks

@@ -48,15 +48,12 @@ pub(crate) fn within(memory: &Memory, at: &Reach, i: u64) -> Reach
 }
 
 /// Gives the `n` bytes at a place that was reached a value.
-#[tactic(auto, using(crate::proofs::Reaches::reach_within, crate::proofs::Filling::fill_next))]
+#[tactic(auto, using(crate::proofs::Filling::all_filled))]
 pub(crate) fn fill(memory: &mut Memory, at: &Reach, n: u64, v: u8)
     requires { IsReach memory.old.table at.now n }
     ensures { memory.new ≡ filled memory.old at.now.address n v }
 {
-    for i in 0..n {
-        let place = within(memory, at, i);
-        memory.write_bytes(&place, &[plain_byte(v)]);
-    }
+    memory.fill_bytes(at, n, plain_byte(v));
 }
 
 /// Whether two ranges of `n` bytes share a byte.

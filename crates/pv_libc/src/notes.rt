@@ -1,15 +1,14 @@
 // What is noted of a call: uses of names that stood for two, exposures, and the pointer whose check stops it.
 ghost use Rattle.std.specs.Prelude.{◌≡◌, ◌++◌, OnOk, IfOk};
 ghost use Rattle.pv_inst.specs.Table.{IsMadeIn};
-ghost use Rattle.pv_inst.specs.Use.{use_answer, survives};
+ghost use Rattle.pv_inst.specs.Use.{use_answer};
 ghost use Rattle.pv_object.specs.Memory.{IsReach};
 ghost use Rattle.pv_object.specs.Access.{fault, clause_of};
 ghost use Rattle.pv_object.specs.Later.{IsLater};
-ghost use Rattle.pv_libc.specs.Uses.{info_passes};
 ghost use Rattle.pv_libc.specs.Steps.{used, told, reached, with_notes, OrNoMemory};
 
 use crate::values::{Given, Note};
-use pv_inst::{Info, Kind, Test, Tried};
+use pv_inst::{Test, Tried};
 use pv_num::{Clause, Fault, Reason};
 use pv_object::{Asker, Memory, Reach, Stop};
 use pv_prov::{NoMemory, Prov};
@@ -32,34 +31,6 @@ pub(crate) fn clause_of(by: Asker) -> Clause
     }
 }
 
-/// Whether a live instance passes a test.
-fn passes(x: Info, test: Test) -> bool
-    ensures { result ≡ info_passes x test }
-{
-    match test {
-        Test::Live => true,
-        Test::Range { address, size } => {
-            x.base <= address
-                && u128::from(address) + u128::from(size) <= u128::from(x.base) + u128::from(x.size)
-        }
-        Test::Block { address } => matches!(x.kind, Kind::Heap) && x.base == address,
-    }
-}
-
-/// Whether there is such a candidate, and it passes.
-#[tactic(auto, using(crate::proofs::Surviving::gone, crate::proofs::Surviving::here))]
-fn survives(memory: &Memory, candidate: Option<u64>, test: Test) -> bool
-    ensures { result ≡ survives memory.now.table.instances candidate test }
-{
-    match candidate {
-        Some(i) => match memory.instances().info(i) {
-            Some(x) => passes(x, test),
-            None => false,
-        },
-        None => false,
-    }
-}
-
 /// Notes a use of a name that stands for two, before it is made. A use that finds none is not noted.
 #[tactic(auto, using(crate::proofs::Surviving::unpaired))]
 pub(crate) fn note_use(
@@ -76,8 +47,8 @@ pub(crate) fn note_use(
         return Ok(());
     };
     let stands = memory.instances().stands(p);
-    let low = survives(memory, stands.low, test);
-    let high = survives(memory, stands.high, test);
+    let low = memory.instances().survives(stands.low, test);
+    let high = memory.instances().survives(stands.high, test);
     if !(low || high) || stands.low.is_none() || stands.high.is_none() {
         return Ok(());
     }

@@ -1,7 +1,7 @@
 -- The texts of clauses and reasons, as reports print them.
 use Rattle.std.specs.Prelude.{ℕ, List, codes}
 use Rattle.pv_num.specs.declared.faults.Clause.{Clause}
-use Rattle.pv_num.specs.declared.faults.Clause.TheVariants.{Lifetimes, Traps, PointerToInteger, PointerToPointer, StringLiterals, Sequencing, Exceptions, EffectiveTypes, Indirection, ZeroDivisors, Quotients, AdditionOfPointers, SubtractionOfPointers, ShiftCounts, LeftShifts, OrderOfPointers, OverlappingAssignment, ConstObjects, MissingValues, LibraryArguments, Formats, Freeing, Reallocating, StringFunctions, MemcpyOverlap, StrcpyOverlap}
+use Rattle.pv_num.specs.declared.faults.Clause.TheVariants.{Lifetimes, Traps, PointerToInteger, PointerToPointer, PointerToFunction, StringLiterals, Sequencing, Exceptions, EffectiveTypes, Indirection, ZeroDivisors, Quotients, AdditionOfPointers, SubtractionOfPointers, ShiftCounts, LeftShifts, OrderOfPointers, OverlappingAssignment, ConstObjects, MissingValues, LibraryArguments, Formats, Freeing, Reallocating, StringFunctions, MemcpyOverlap, StrcpyOverlap}
 use Rattle.pv_num.specs.declared.faults.Reason.{Reason}
 use Rattle.pv_num.specs.declared.faults.Reason.TheVariants.{Ended, Trap, Range, Misaligned, Readonly, Unsequenced, Overflow, WrongType, Null, Empty, Outside, Divide, Quotient, Apart, Uneven, Count, Shift, Overlap, Value, Format, Block}
 
@@ -11,6 +11,7 @@ clause_text Lifetimes = codes "6.2.4p2"
 clause_text Traps = codes "6.2.6.1p5"
 clause_text PointerToInteger = codes "6.3.2.3p6"
 clause_text PointerToPointer = codes "6.3.2.3p7"
+clause_text PointerToFunction = codes "6.3.2.3p8"
 clause_text StringLiterals = codes "6.4.5p7"
 clause_text Sequencing = codes "6.5p2"
 clause_text Exceptions = codes "6.5p5"

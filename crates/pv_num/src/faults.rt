@@ -15,6 +15,8 @@ pub enum Clause {
     PointerToInteger,
     /// 6.3.2.3p7: a pointer is converted to a pointer type for which it is not aligned.
     PointerToPointer,
+    /// 6.3.2.3p8: a function is called through a pointer to a function of another type.
+    PointerToFunction,
     /// 6.4.5p7: a string literal's array is modified.
     StringLiterals,
     /// 6.5p2: a side effect is unsequenced relative to another one, or to a use, of the same object.
@@ -71,6 +73,7 @@ impl Clause {
             Clause::Traps => "6.2.6.1p5",
             Clause::PointerToInteger => "6.3.2.3p6",
             Clause::PointerToPointer => "6.3.2.3p7",
+            Clause::PointerToFunction => "6.3.2.3p8",
             Clause::StringLiterals => "6.4.5p7",
             Clause::Sequencing => "6.5p2",
             Clause::Exceptions => "6.5p5",

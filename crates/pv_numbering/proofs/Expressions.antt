@@ -1,6 +1,6 @@
 -- Every expression keeps moments alike: one line for each kind of node, and one lemma for each word of evaluation.
 use Rattle.std.proofs.Common.{◌≡◌, ℕ, List, [], ◌∷◌, ◌++◌, refl, sym, ap, ◌∙◌, subst}
-use Rattle.std.specs.Prelude.{Bool, true, false, if◌then◌else◌, pos, None}
+use Rattle.std.specs.Prelude.{Bool, true, false, if◌then◌else◌, pos, None, unsigned_abs}
 use Rattle.std.specs.declared.option.Option.{Option}
 use Rattle.pv_num.specs.declared.kinds.IntKind.{IntKind}
 use Rattle.pv_num.specs.declared.operators.BinOp.{BinOp}
@@ -10,23 +10,25 @@ use Rattle.pv_types.specs.Known.{Known}
 use Rattle.pv_script.specs.declared.library.Library.{Library}
 use Rattle.pv_libc.specs.declared.values.Arg.{Arg}
 use Rattle.pv_typed.specs.declared.nodes.IncrementOperator.{IncrementOperator}
-use Rattle.pv_typed.specs.TypedTree.{TypedTree, Node, Constant, Object, String, Subscript, Call, LibraryCall, Member, MemberOfValue, Arrow, Increment, Address, Indirection, Unary, Not, Sizeof, Cast, Arithmetic, PointerSum, PointerDifference, PointerOrder, PointerEquality, LogicalAnd, LogicalOr, Conditional, Assign, CompoundAssign, PointerAssign, Comma, Read, ArrayPointer, Convert, Arguments, NoArguments, MoreArguments, type_of, line_of}
+use Rattle.pv_typed.specs.TypedTree.{TypedTree, Node, Constant, Object, Function, String, Subscript, Call, CallPointer, LibraryCall, Member, MemberOfValue, Arrow, Increment, Address, Indirection, Unary, Not, Sizeof, Cast, Arithmetic, PointerSum, PointerDifference, PointerOrder, PointerEquality, LogicalAnd, LogicalOr, Conditional, Assign, CompoundAssign, PointerAssign, Comma, Read, ArrayPointer, Convert, Arguments, NoArguments, MoreArguments, type_of, line_of}
 use Rattle.pv_seq.specs.Sequencing.{Access, Open, opened, beside, noted, settled, rivals}
 use Rattle.pv_object.specs.declared.values.Pointer.{Pointer}
 use Rattle.pv_world.specs.Worlds.{Worth}
 use Rattle.pv_world.specs.Worths.{int, is_true, pointer_of}
 use Rattle.pv_world.specs.declared.got.How.TheVariants.{Rounds}
 use Rattle.pv_eval.specs.States.{Setting, State, Res}
-use Rattle.pv_eval.specs.TypeForms.{lvalue, kind_of, promoted, is_pointer, is_none, element_size}
+use Rattle.pv_eval.specs.TypeForms.{lvalue, kind_of, promoted, is_pointer, is_none, element_size, pointed_to}
 use Rattle.pv_eval.specs.Conversions.{how_to}
 use Rattle.pv_eval.specs.Accesses.{access_to}
-use Rattle.pv_eval.specs.Operations.{Op, Converts, Calculates, CalculatesOne, Tests, Negates, Accepts, Moves, Subtracts, Orders, Equals, Follows, Selects, TakesPart, Reads, Writes, NamesObject, NamesLiteral, Asks}
+use Rattle.pv_eval.specs.Operations.{Op, Converts, Calculates, CalculatesOne, Tests, Negates, Accepts, Moves, Subtracts, Orders, Equals, Follows, Selects, Finds, TakesPart, Reads, Writes, NamesObject, NamesLiteral, NamesFunction, Asks}
 use Rattle.pv_eval.specs.Sequenced.{Given, with_given, done, work, operand, later}
 use Rattle.pv_eval.specs.Steps.{Calling, converted, handed, reading, writing, source_of, is_unequal, is_minus, is_down, is_after, combining, stepping}
 use Rattle.pv_eval.specs.Arguments.{argument}
-use Rattle.pv_eval.specs.Evaluation.{ev, ev_call, ev_ask}
+use Rattle.pv_eval.specs.Evaluation.{ev, ev_call, ev_through, ev_ask}
+use Rattle.pv_eval.specs.Callees.{function_in}
 use Rattle.pv_numbering.proofs.Alike.{with_types, AlikeWorth, AlikeWorths, AlikeLvalue, AlikeGiven}
 use Rattle.pv_numbering.proofs.Acts.{ActAlike, ActsAlike}
+use Rattle.pv_numbering.proofs.Worths.{int-same}
 use Rattle.pv_numbering.proofs.Types.{AllTypes, AllArguments}
 use Rattle.pv_numbering.proofs.Pieces.{Pieces, gives, did, seq, ticks, choice, true-same, pointer-same, argument-same, source-same, either-alike, more-worths}
 
@@ -101,6 +103,11 @@ module _ {b : Setting} {m' : Known} (acts : ActsAlike b m') where
   moving-alike line minus first size fs h k = operand-alike (opened fs) h (λ j v v' e. operand-alike j k (λ j x x' i. work-alike line (Moves minus first size v x) (Moves minus first size v' x') (acts.moves minus first size v v' x x' e i) j))
 
   module _ (call call' : Calling) (h : (f : ℕ) (vs vs' : List Worth) → AlikeWorths b.types m' vs vs' → (line : ℕ) → Pieces b m' Same (call f vs line) (call' f vs' line)) where
+    -- the function that was found
+    called-alike : (f f' : Worth) → Same f f' → (got got' : List Worth) → AlikeWorths b.types m' got got' → (line : ℕ) → Pieces b m' Same (call (function_in f) got line) (call' (function_in f') got' line)
+    called-alike f f' i got got' e line =
+        subst (λ (q : ℕ). Pieces b m' Same (call (function_in f) got line) (call' q got' line)) (sym (ap unsigned_abs (int-same b.types m' f f' i))) (h (function_in f) got got' e line)
+
     mutual
       unfolding ev
 
@@ -108,6 +115,7 @@ module _ {b : Setting} {m' : Known} (acts : ActsAlike b m') where
       ev-alike (Node t line turn (Constant n)) p fs = ticks (done-alike (opened fs) (int n) (int n) refl)
       ev-alike (Node t line turn (Sizeof n)) p fs = ticks (done-alike (opened fs) (int (pos n)) (int (pos n)) refl)
       ev-alike (Node t line turn (Object o)) p fs = ticks (work-alike line (NamesObject o) (NamesObject o) (acts.names_object o) (opened fs))
+      ev-alike (Node t line turn (Function f)) p fs = ticks (work-alike line (NamesFunction f) (NamesFunction f) (acts.names_function f) (opened fs))
       ev-alike (Node t line turn (String l)) p fs = ticks (work-alike line (NamesLiteral l) (NamesLiteral l) (acts.names_literal l) (opened fs))
       ev-alike (Node t line turn (Read x)) p fs = operand-alike (opened fs) (ev-alike x p.1) (λ j v v' e. reading-alike (type_of x) (own (AlikeType b m') x p.1) line v v' e j done-alike)
       ev-alike (Node t line turn (ArrayPointer x)) p fs = operand-alike (opened fs) (ev-alike x p.1) done-alike
@@ -137,11 +145,19 @@ module _ {b : Setting} {m' : Known} (acts : ActsAlike b m') where
       ev-alike (Node t line turn (PointerAssign g x y)) p fs = ticks (operand-alike (opened fs) (ev-alike x p.1.0) (λ j q q' e. reading-alike (type_of x) (own (AlikeType b m') x p.1.0) line q q' e j (λ j v v' i. operand-alike j (ev-alike y p.1.1) (λ j z z' a. seq (did (Moves (is_minus g) true (element_size b t) v z) (Moves (is_minus g) true (element_size b t) v' z') line (acts.moves (is_minus g) true (element_size b t) v v' z z' i a)) (λ v v' i. writing-alike (type_of x) (own (AlikeType b m') x p.1.0) line q q' v v' None e i j done-alike)))))
       ev-alike (Node t line turn (Increment o x)) p fs = ticks (operand-alike (opened fs) (ev-alike x p.1) (λ j q q' e. reading-alike (type_of x) (own (AlikeType b m') x p.1) line q q' e j (λ j v v' i. seq (stepping-alike line t o v v' i) (λ z z' a. writing-alike (type_of x) (own (AlikeType b m') x p.1) line q q' z z' None e a j (λ j z z' a. done-alike j (if is_after o then v else z) (if is_after o then v' else z') (either-alike b.types m' (is_after o) v v' z z' i a))))))
       ev-alike (Node t line turn (Call f xs)) p fs = ticks (call-alike line f [] [] tt xs p.1 (opened fs))
+      ev-alike (Node t line turn (CallPointer x xs)) p fs = ticks (operand-alike (opened fs) (ev-alike x p.1.0) (λ j v v' e. through-alike line (pointed_to (type_of x)) v v' e [] [] tt xs p.1.1 j))
       ev-alike (Node t line turn (LibraryCall f xs)) p fs = ticks (ask-alike line f [] xs p.1 (opened fs))
 
       call-alike : (line f : ℕ) (got got' : List Worth) → AlikeWorths b.types m' got got' → (xs : Arguments) → AllArguments (AlikeType b m') xs → (j : Open) → Pieces b m' GivenAlike (ev_call b call line f got xs j) (ev_call c call' line f got' xs j)
       call-alike line f got got' e NoArguments p j = seq (h f got got' e line) (done-alike (settled j))
       call-alike line f got got' e (MoreArguments x xs) p j = operand-alike j (ev-alike x p.0) (λ j v v' i. seq (handed-alike x v v' i) (λ v v' i. call-alike line f (got ++ v ∷ []) (got' ++ v' ∷ []) (more-worths b.types m' got got' v v' e i) xs p.1 j))
+
+      through-alike : (line : ℕ) (t : Ty) (p p' : Worth) → Same p p' → (got got' : List Worth) → AlikeWorths b.types m' got got' → (xs : Arguments) → AllArguments (AlikeType b m') xs → (j : Open)
+          → Pieces b m' GivenAlike (ev_through b call line t p got xs j) (ev_through c call' line t p' got' xs j)
+      through-alike line t p p' k got got' e NoArguments q j =
+          seq (did (Finds t p) (Finds t p') line (acts.finds t p p' k)) (λ f f' i. seq (called-alike f f' i got got' e line) (done-alike (settled j)))
+      through-alike line t p p' k got got' e (MoreArguments x xs) q j =
+          operand-alike j (ev-alike x q.0) (λ j v v' i. seq (handed-alike x v v' i) (λ v v' i. through-alike line t p p' k (got ++ v ∷ []) (got' ++ v' ∷ []) (more-worths b.types m' got got' v v' e i) xs q.1 j))
 
       ask-alike : (line : ℕ) (f : Library) (got : List Arg) (xs : Arguments) → AllArguments (AlikeType b m') xs → (j : Open) → Pieces b m' GivenAlike (ev_ask b call line f got xs j) (ev_ask c call' line f got xs j)
       ask-alike line f got NoArguments p j = work-alike line (Asks f got) (Asks f got) (acts.asks f got) (settled j)

@@ -2,7 +2,7 @@
 use Rattle.std.proofs.Common.{Some, None}
 use Rattle.std.specs.Prelude.{Option}
 use Rattle.pv_types.specs.Ty.{Ty}
-use Rattle.pv_typed.specs.TypedTree.{TypedTree, Node, Form, Constant, Object, String, Subscript, Call, LibraryCall, Member, MemberOfValue, Arrow, Increment, Address, Indirection, Unary, Not, Sizeof, Cast, Arithmetic, PointerSum, PointerDifference, PointerOrder, PointerEquality, LogicalAnd, LogicalOr, Conditional, Assign, CompoundAssign, PointerAssign, Comma, Read, ArrayPointer, Convert, Arguments, NoArguments, MoreArguments}
+use Rattle.pv_typed.specs.TypedTree.{TypedTree, Node, Form, Constant, Object, Function, String, Subscript, Call, CallPointer, LibraryCall, Member, MemberOfValue, Arrow, Increment, Address, Indirection, Unary, Not, Sizeof, Cast, Arithmetic, PointerSum, PointerDifference, PointerOrder, PointerEquality, LogicalAnd, LogicalOr, Conditional, Assign, CompoundAssign, PointerAssign, Comma, Read, ArrayPointer, Convert, Arguments, NoArguments, MoreArguments}
 use Rattle.pv_typed.specs.TypedStatement.{TypedStatement, Block, Declare, Expression, Empty, If, IfElse, Switch, Case, Default, While, DoWhile, For, ForDeclaration, Continue, Break, Return, Statements, NoStatements, MoreStatements}
 use Rattle.pv_typed.specs.TypedUnits.{WholeUnit, Store, StoredValue, ValueOf, TextOf, TypedObject, TypedFunction}
 use Rattle.pv_numbering.proofs.Types.{AllTypes, AllForm, AllArguments, AllOption, AllStatement, AllStatements, AllValue, AllStore, AllObject, AllBody, AllUnit}
@@ -16,9 +16,11 @@ module _ (P Q R : Ty → Type 0) (join : (t : Ty) → P t → Q t → R t) where
     joined_form : (x : Form) → AllForm P x → AllForm Q x → AllForm R x
     joined_form (Constant n) h k = tt
     joined_form (Object o) h k = tt
+    joined_form (Function f) h k = tt
     joined_form (String l) h k = tt
     joined_form (Subscript x y) h k = (joined_types x h.0 k.0, joined_types y h.1 k.1)
     joined_form (Call f xs) h k = joined_arguments xs h k
+    joined_form (CallPointer x xs) h k = (joined_types x h.0 k.0, joined_arguments xs h.1 k.1)
     joined_form (LibraryCall f xs) h k = joined_arguments xs h k
     joined_form (Member x n) h k = joined_types x h k
     joined_form (MemberOfValue x n) h k = joined_types x h k

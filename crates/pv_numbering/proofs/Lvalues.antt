@@ -8,7 +8,7 @@ use Rattle.pv_effect.specs.EffectiveType.{anything, some_over, permits_byte, per
 use Rattle.pv_layout.specs.Parts.{leaves}
 use Rattle.pv_inst.specs.declared.values.Instance.{Instance}
 use Rattle.pv_inst.specs.declared.values.Kind.{Kind}
-use Rattle.pv_inst.specs.declared.values.Kind.TheVariants.{Declared, Literal, Heap}
+use Rattle.pv_inst.specs.declared.values.Kind.TheVariants.{Declared, Literal, Heap, Function}
 use Rattle.pv_inst.specs.Table.{instance_at}
 use Rattle.pv_shadow.specs.declared.byte.Byte.{Byte}
 use Rattle.pv_shadow.specs.Bytes.{Store, read, written}
@@ -56,6 +56,7 @@ module _ (b : Setting) (m' : Known) (laid : env m' ≡ env b.types) where
         → permits_in (with_types b m') (with_bytes w z) renumbered at writes kind ≡ permits_in b w l at writes kind
     kind-same w z at writes (Declared c) h = refl
     kind-same w z at writes Literal h = refl
+    kind-same w z at writes Function h = refl
     kind-same w z at writes Heap h =
         ap (λ c. writes || c)
         (bytes-same b.types m' laid (leaves (parts_of b l.t)) 0 (read w.memory.bytes at.address l.size) (read z at.address l.size) (alike_read b.types m' w.memory.bytes z at.address l.size h))

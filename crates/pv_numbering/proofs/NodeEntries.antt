@@ -10,7 +10,7 @@ use Rattle.pv_typed.specs.declared.nodes.TypedStmt.{TypedStmt}
 use Rattle.pv_typed.specs.declared.nodes.TypedStmt.TheVariants as stmt
 use Rattle.pv_typed.specs.declared.rows.What.TheVariants as what
 use Rattle.pv_typed.specs.declared.rows.Row.{Row}
-use Rattle.pv_typed.specs.TypedTree.{TypedTree, Node, Form, Constant, Object, String, Subscript, Call, LibraryCall, Member, MemberOfValue, Arrow, Increment, Address, Indirection, Unary, Not, Sizeof, Cast, Arithmetic, PointerSum, PointerDifference, PointerOrder, PointerEquality, LogicalAnd, LogicalOr, Conditional, Assign, CompoundAssign, PointerAssign, Comma, Read, ArrayPointer, Convert, Arguments, NoArguments, MoreArguments}
+use Rattle.pv_typed.specs.TypedTree.{TypedTree, Node, Form, Constant, Object, Function, String, Subscript, Call, CallPointer, LibraryCall, Member, MemberOfValue, Arrow, Increment, Address, Indirection, Unary, Not, Sizeof, Cast, Arithmetic, PointerSum, PointerDifference, PointerOrder, PointerEquality, LogicalAnd, LogicalOr, Conditional, Assign, CompoundAssign, PointerAssign, Comma, Read, ArrayPointer, Convert, Arguments, NoArguments, MoreArguments}
 use Rattle.pv_typed.specs.TypedStatement.{TypedStatement, Block, Declare, Expression, Empty, If, IfElse, Switch, Case, Default, While, DoWhile, For, ForDeclaration, Continue, Break, Return, Statements, NoStatements, MoreStatements}
 use Rattle.pv_typed.specs.Nodes.{Tree, OfExpression, OfStatement, as_expression, as_statement, at, expression_in, statement_in, optional_in, arguments_in, statements_in, list_in, form_in, statement_form, Base, tree_in}
 use Rattle.pv_typed.specs.Tables.{trees_of}
@@ -154,9 +154,13 @@ module _ (tags : List Heading) (done : List DoneTag) where
     put_form : (x : Form) → Puts form x
     put_form (Constant n) = kept form (typed.Constant n) (Constant n) (λ s. refl)
     put_form (Object o) = kept form (typed.Object o) (Object o) (λ s. refl)
+    put_form (Function f) = kept form (typed.Function f) (Function f) (λ s. refl)
     put_form (String l) = kept form (typed.String l) (String l) (λ s. refl)
     put_form (Subscript x y) = two typed.Subscript Subscript (λ s n m. refl) x y (put_expression x) (put_expression y)
     put_form (Call f xs) = made argument_list form (typed.Call f) (Call f) (λ s l. refl) xs (put_listed arguments xs (put_arguments xs))
+    put_form (CallPointer x xs) =
+        made (beside expression argument_list) form (λ p. typed.CallPointer p.0 p.1) (λ p. CallPointer p.0 p.1) (λ s p. refl) (x, xs)
+        (paired expression argument_list x xs (put_expression x) (put_listed arguments xs (put_arguments xs)))
     put_form (LibraryCall f xs) = made argument_list form (typed.LibraryCall f) (LibraryCall f) (λ s l. refl) xs (put_listed arguments xs (put_arguments xs))
     put_form (Member x k) = one (λ n. typed.Member n k) (λ x. Member x k) (λ s n. refl) x (put_expression x)
     put_form (MemberOfValue x k) = one (λ n. typed.MemberOfValue n k) (λ x. MemberOfValue x k) (λ s n. refl) x (put_expression x)

@@ -11,8 +11,8 @@ use Rattle.pv_numbering.proofs.Operations.{acts-alike}
 use Rattle.pv_numbering.proofs.Runs.{same-run}
 use Rattle.pv_numbering.proofs.Tables.{same_layouts, unit_alike, other_setting}
 
-pub same-tables : (u v : Stored) → whole u ≡ whole v → (sides : Option (List Bool)) (script : List ScriptLine) (n : ℕ) → SameRun (run_at u sides script n) (run_at v sides script n)
-same-tables u v same sides script n =
-    let b = setting_of u n sides in
-    subst (λ (c : Setting). SameRun (run_of b script) (run_of c script)) (other_setting u v same n sides)
-    (same-run b v.known (acts-alike b v.known (sym (same_layouts u v same))) (unit_alike u v same n sides) script)
+pub same-tables : (u v : Stored) → whole u ≡ whole v → (sides : Option (List Bool)) (zap : Bool) (script : List ScriptLine) (n : ℕ) → SameRun (run_at u sides zap script n) (run_at v sides zap script n)
+same-tables u v same sides zap script n =
+    let b = setting_of u n sides zap in
+    subst (λ (c : Setting). SameRun (run_of b script) (run_of c script)) (other_setting u v same n sides zap)
+    (same-run b v.known (acts-alike b v.known (sym (same_layouts u v same))) (unit_alike u v same n sides zap) script)

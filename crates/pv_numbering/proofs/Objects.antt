@@ -12,7 +12,7 @@ use Rattle.pv_shadow.specs.Whole.{plain}
 use Rattle.pv_object.specs.Memory.{Mem}
 use Rattle.pv_object.specs.Creating.{blank_in, made, cleared_in}
 use Rattle.pv_world.specs.Worlds.{World}
-use Rattle.pv_world.specs.Objects.{object_made, makes_object, ends_instance, ends_object, with_bytes, put_at, literal_bound, owning, base_in, instance_of, literal_request, literal_made, makes_literal_of, filling, fills_object, puts_bytes}
+use Rattle.pv_world.specs.Objects.{object_made, makes_object, function_made, makes_function, ends_instance, ends_object, with_bytes, put_at, literal_bound, owning, base_in, instance_of, literal_request, literal_made, makes_literal_of, filling, fills_object, puts_bytes}
 use Rattle.pv_numbering.proofs.Marks.{AlikeBytes, AlikeStores}
 use Rattle.pv_numbering.proofs.Bytes.{alike_written, alike_spread, alike_cleared, alike_replicate, alike_plain, unmarked}
 use Rattle.pv_numbering.proofs.Doing.{AlikeDone, Alikes}
@@ -56,6 +56,15 @@ module _ (m m' : Known) where
 
   pub makes_literal-alike : (l : ℕ) (text bytes : List ℕ) (w : World) (b : Store) → Alikes m m' w b → AlikeDone m m' (makes_literal_of l text bytes w) (makes_literal_of l text bytes (with_bytes w b))
   makes_literal-alike l text bytes w b h = literal_by w b l bytes (place w.memory.table (literal_request text bytes)) h
+
+  -- 6.3.2.1p4: a function that is pointed to has an instance
+  function_by : (w : World) (b : Store) (f name : ℕ) (r : Result ℕ CreateError × Table) → Alikes m m' w b
+      → AlikeDone m m' (function_made w f name (made w.memory r)) (function_made (with_bytes w b) f name (made (record w.memory { bytes = b }) r))
+  function_by w b f name (Ok i, T) h = (tt, record { bytes = blank_in (instance_at T.instances i) b; is = refl; alike = blanks_alike (instance_at T.instances i) w.memory.bytes b h }, refl)
+  function_by w b f name (Err e, T) h = (refl, refl, record { bytes = b; is = refl; alike = h }, refl)
+
+  pub makes_function-alike : (f : ℕ) (r : Request) (w : World) (b : Store) → Alikes m m' w b → AlikeDone m m' (makes_function f r w) (makes_function f r (with_bytes w b))
+  makes_function-alike f r w b h = function_by w b f r.name (place w.memory.table r) h
 
   -- 6.2.4p2
   pub ends_instance-alike : (i : ℕ) (w : World) (b : Store) → Alikes m m' w b → AlikeDone m m' (ends_instance w i) (ends_instance (with_bytes w b) i)

@@ -13,16 +13,17 @@ use Rattle.pv_world.specs.Pointers.{is_order}
 use Rattle.pv_world.specs.Objects.{with_bytes}
 use Rattle.pv_eval.specs.States.{Setting}
 use Rattle.pv_eval.specs.TypeForms.{Lvalue}
+use Rattle.pv_eval.specs.Callees.{may_call}
 use Rattle.pv_eval.specs.Suiting.{is_size, is_promoted, is_operand}
-use Rattle.pv_eval.specs.Operations.{Op, Converts, Calculates, CalculatesOne, Tests, Negates, Accepts, Needs, Moves, Subtracts, Orders, Equals, Follows, Selects, TakesPart, Reads, Writes, NamesObject, NamesLiteral, Makes, MakesLiteral, Ends, BeginsBody, EndsBody, Fills, Puts, PutsText, Asks, suits, works, does, act}
+use Rattle.pv_eval.specs.Operations.{Op, Converts, Calculates, CalculatesOne, Tests, Negates, Accepts, Needs, Moves, Subtracts, Orders, Equals, Follows, Selects, Finds, TakesPart, Reads, Writes, NamesObject, NamesLiteral, NamesFunction, MakesFunction, Makes, MakesLiteral, Ends, BeginsBody, EndsBody, Fills, Puts, PutsText, Asks, suits, works, does, act}
 use Rattle.pv_numbering.proofs.Alike.{with_types, AlikeWorth, AlikeLvalue, AlikeRes}
 use Rattle.pv_numbering.proofs.Acts.{ActAlike, ActsAlike}
 use Rattle.pv_numbering.proofs.Worths.{int-same}
 use Rattle.pv_numbering.proofs.Doing.{AlikeDone, at_one, Alikes, fails_alike}
-use Rattle.pv_numbering.proofs.Operators.{converts-alike, calculates-alike, calculates_one-alike, tests-alike, negates-alike, accepts-alike, needs-alike, follows-alike, moves-alike, subtracts-alike, orders-alike, equals-alike, selects-alike}
+use Rattle.pv_numbering.proofs.Operators.{converts-alike, calculates-alike, calculates_one-alike, tests-alike, negates-alike, accepts-alike, needs-alike, follows-alike, moves-alike, subtracts-alike, orders-alike, equals-alike, selects-alike, finds-alike}
 use Rattle.pv_numbering.proofs.Suiting.{knows-same, is_small-same, is_integer-same, has_part-same, is_stored-same}
 use Rattle.pv_numbering.proofs.Lvalues.{reads-alike, writes-alike, takes_part-alike}
-use Rattle.pv_numbering.proofs.Placing.{names_object-alike, names_literal-alike, begins_body-alike, ends_body-alike, makes-alike, ends-alike, makes_literal-alike, fills-alike, puts-alike, puts_text-alike}
+use Rattle.pv_numbering.proofs.Placing.{names_object-alike, names_literal-alike, names_function-alike, makes_function-alike, begins_body-alike, ends_body-alike, makes-alike, ends-alike, makes_literal-alike, fills-alike, puts-alike, puts_text-alike}
 use Rattle.pv_numbering.proofs.Calls.{asks-alike}
 use Rattle.pv_numbering.proofs.Acting.{acted-alike}
 
@@ -82,21 +83,24 @@ module _ (b : Setting) (m' : Known) (laid : env m' ≡ env b.types) where
         (λ w z c h. equals-alike b.types m' negated v v' x x' g f w z h);
     follows = λ nothing v v' g. act-alike (Follows nothing v) (Follows nothing v') (λ w z. refl) (λ w z c h. follows-alike b.types m' nothing v v' g w z h);
     selects = λ offset v v' g. act-alike (Selects offset v) (Selects offset v') (λ w z. knows-same b.types m' w.memory.table v v' g) (λ w z c h. selects-alike b.types m' offset v v' g w z h);
+    finds = λ t v v' g. act-alike (Finds t v) (Finds t v') (λ w z. knows-same b.types m' w.memory.table v v' g) (λ w z c h. finds-alike b.types m' (may_call b t) v v' g w z h);
     takes_part = λ offset l l' v v' e g. renumbered (λ x. TakesPart offset x v') (TakesPart offset l v) l l' e (λ k e. act-alike (TakesPart offset l v) (TakesPart offset (record l { number = k }) v')
         (λ w z. λ i. is_size l.size && (has_part-same b.types m' offset l.size v v' g i && knows-same b.types m' w.memory.table v v' g i))
         (λ w z c h. takes_part-alike b m' laid offset l (record l { number = k }) v v' e g w z h));
     reads = λ l l' p p' rivals e g. renumbered (λ x. Reads x p' rivals) (Reads l p rivals) l l' e (λ k e. act-alike (Reads l p rivals) (Reads (record l { number = k }) p' rivals)
-        (λ w z. λ i. (is_complete_in (layouts b.unit) l.t && is_size l.size) && knows-same b.types m' w.memory.table p p' g i)
+        (λ w z. λ i. (is_complete_in (layouts b.unit) l.t && (nat_le 1 l.size && is_size l.size)) && knows-same b.types m' w.memory.table p p' g i)
         (λ w z c h. reads-alike b m' laid l (record l { number = k }) p p' rivals e g w z h));
     writes = λ l l' p p' v v' from rivals e g f. renumbered (λ x. Writes x p' v' from rivals) (Writes l p v from rivals) l l' e (λ k e. act-alike (Writes l p v from rivals) (Writes (record l { number = k }) p' v' from rivals)
         (λ w z. λ i.
-        (is_complete_in (layouts b.unit) l.t && is_size l.size)
+        (is_complete_in (layouts b.unit) l.t && (nat_le 1 l.size && is_size l.size))
         && (is_stored-same b.types m' l.shape l.size v v' f i && (knows-same b.types m' w.memory.table p p' g i && knows-same b.types m' w.memory.table v v' f i)))
         (λ w z c h. writes-alike b m' laid l (record l { number = k }) p p' v v' from rivals e g f w z h));
     names_object = λ o. act-alike (NamesObject o) (NamesObject o) (λ w z. refl) (λ w z c h. names_object-alike b m' o w z h);
     names_literal = λ l. act-alike (NamesLiteral l) (NamesLiteral l) (λ w z. refl) (λ w z c h. names_literal-alike b m' l w z h);
+    names_function = λ f. act-alike (NamesFunction f) (NamesFunction f) (λ w z. refl) (λ w z c h. names_function-alike b m' f w z h);
     makes = λ o. act-alike (Makes o) (Makes o) (λ w z. refl) (λ w z c h. makes-alike b m' o w z h);
     makes_literal = λ l. act-alike (MakesLiteral l) (MakesLiteral l) (λ w z. refl) (λ w z c h. makes_literal-alike b m' l w z h);
+    makes_function = λ f. act-alike (MakesFunction f) (MakesFunction f) (λ w z. refl) (λ w z c h. makes_function-alike b m' f w z h);
     ends = λ o. act-alike (Ends o) (Ends o) (λ w z. refl) (λ w z c h. ends-alike b m' o w z h);
     begins_body = act-alike BeginsBody BeginsBody (λ w z. refl) (λ w z c h. begins_body-alike b m' w z h);
     ends_body = act-alike EndsBody EndsBody (λ w z. refl) (λ w z c h. ends_body-alike b m' w z h);

@@ -1,5 +1,5 @@
 -- Operators on values look at the table of instances alone (C17 6.3, 6.5): on worlds that are alike what they do is alike.
-use Rattle.std.proofs.Common.{◌≡◌, ℕ, ℤ, pos, ◌-ℤ◌, Bool, true, false, not, List, Option, Some, None, Result, Ok, Err, int_eq, if◌then◌else◌, refl, Ordering}
+use Rattle.std.proofs.Common.{◌≡◌, ℕ, ℤ, pos, ◌-ℤ◌, Bool, true, false, not, List, Option, Some, None, Result, Ok, Err, int_eq, if◌then◌else◌, refl, Ordering, unwrap_or}
 use Rattle.pv_num.specs.declared.kinds.IntKind.{IntKind}
 use Rattle.pv_num.specs.declared.operators.BinOp.{BinOp}
 use Rattle.pv_num.specs.declared.operators.BinOp.TheVariants as op
@@ -15,21 +15,21 @@ use Rattle.pv_object.specs.declared.values.Pointer.{Pointer}
 use Rattle.pv_object.specs.declared.values.Value.{Value}
 use Rattle.pv_object.specs.declared.values.Value.TheVariants.{Int as IntValue, Unset, Pointer as PointerValue}
 use Rattle.pv_object.specs.declared.values.Stop.{Stop}
-use Rattle.pv_object.specs.Operations.{truth, to_ptr, recast, to_int, shift, select, together, order, equal}
+use Rattle.pv_object.specs.Operations.{truth, to_ptr, recast, to_int, shift, select, code, together, order, equal}
 use Rattle.pv_watch.specs.declared.event.What.{What}
 use Rattle.pv_world.specs.declared.got.How.{How}
 use Rattle.pv_world.specs.declared.got.How.TheVariants.{Rounds, Passes, Tests, Numbers, Points, Recasts, Voids}
 use Rattle.pv_world.specs.Worlds.{Worth, World, with_table}
-use Rattle.pv_world.specs.Telling.{quiet, all_told}
+use Rattle.pv_world.specs.Telling.{quiet, telling, used, code_test, all_told}
 use Rattle.pv_world.specs.Doing.{Done, Answers}
 use Rattle.pv_world.specs.Worths.{int, truth_int, int_of, pointer_of, computed}
-use Rattle.pv_world.specs.Objects.{with_bytes}
+use Rattle.pv_world.specs.Objects.{with_bytes, owner_of}
 use Rattle.pv_world.specs.Conversions as convert
 use Rattle.pv_world.specs.Calculations as calculate
 use Rattle.pv_world.specs.Pointers as point
 use Rattle.pv_numbering.proofs.Alike.{AlikeWorth}
 use Rattle.pv_numbering.proofs.Worths.{by_worths, int-same, pointer-same}
-use Rattle.pv_numbering.proofs.Doing.{AlikeDone, at_one, at_two, Alikes, alike_world, gives_alike, does_nothing, plain_alike, present_alike, computed_alike}
+use Rattle.pv_numbering.proofs.Doing.{AlikeDone, at_one, at_two, Alikes, alike_world, gives_alike, fails_alike, either_alike, does_nothing, plain_alike, present_alike, computed_alike}
 
 module _ (m m' : Known) where
   -- what an operation comes to, by the answer of the memory below
@@ -210,6 +210,19 @@ module _ (m m' : Known) where
   equals-alike negated v v' x x' g f w b h =
       plain_alike m m' w b v v' _ _ h g (plain_alike m m' w b x x' _ _ h f
       (by_pointers (λ w p q. point.equal_by negated w p q (equal w.memory.table p q)) v v' x x' w b g f (λ p q. equal_by-alike negated w b p q (equal w.memory.table p q) h)))
+
+  found_in-alike : (w : World) (b : Store) (p : Pointer) (fits : Option ℕ → Bool) (o : Option ℕ) (us : List What) → Alikes m m' w b
+      → AlikeDone m m' (point.found_in w p fits o us) (point.found_in (with_bytes w b) p fits o us)
+  found_in-alike w b p fits o us h =
+      either_alike m m' (fits o) _ _ _ _ (gives_alike m m' (int (pos (unwrap_or o 0))) (int (pos (unwrap_or o 0))) w b (telling us) refl h) (fails_alike m m' point.unlike (Some p.prov) w b (telling us) h)
+
+  found_by-alike : (w : World) (b : Store) (p : Pointer) (fits : Option ℕ → Bool) (r : Result (ℕ × Tried) Stop × Table) → Alikes m m' w b → AlikeDone m m' (point.found_by w p fits r) (point.found_by (with_bytes w b) p fits r)
+  found_by-alike w b p fits (Ok r, T) h = found_in-alike (with_table w T) b p fits (owner_of w r.0) (used code_test r.1) h
+  found_by-alike w b p fits (Err y, T) h = (refl, refl, alike_world m m' (with_table w T) b h, refl)
+
+  pub finds-alike : (fits : Option ℕ → Bool) (v v' : Worth) → AlikeWorth m m' v v' → (w : World) (b : Store) → Alikes m m' w b → AlikeDone m m' (point.finds fits v w) (point.finds fits v' (with_bytes w b))
+  finds-alike fits v v' g w b h =
+      plain_alike m m' w b v v' _ _ h g (by_pointer (λ w p. point.found_by w p fits (code w.memory.table p)) v v' w b g (λ p. found_by-alike w b p fits (code w.memory.table p) h))
 
   pub selects-alike : (offset : ℕ) (v v' : Worth) → AlikeWorth m m' v v' → (w : World) (b : Store) → Alikes m m' w b → AlikeDone m m' (point.selects offset v w) (point.selects offset v' (with_bytes w b))
   selects-alike offset v v' g w b h =

@@ -2,23 +2,23 @@
 use Rattle.std.proofs.Common.{◌≡◌, ℕ, Bool, ◌&&◌, List, Option, None, length, nat_le, if◌then◌else◌, refl}
 use Rattle.pv_script.specs.Names.{name_at as text_of}
 use Rattle.pv_types.specs.Known.{Known}
-use Rattle.pv_typed.specs.TypedUnits.{TypedObject, object_at, literal_at}
+use Rattle.pv_typed.specs.TypedUnits.{TypedObject, TypedFunction, object_at, function_at, literal_at}
 use Rattle.pv_shadow.specs.Bytes.{Store}
 use Rattle.pv_shadow.specs.Whole.{plain}
 use Rattle.pv_world.specs.Worlds.{Worth, Nothing, World}
 use Rattle.pv_world.specs.Telling.{quiet}
 use Rattle.pv_world.specs.Doing.{Done, Answers}
 use Rattle.pv_world.specs.Accesses.{stored_as}
-use Rattle.pv_world.specs.Objects.{with_bytes, names_literal, begins_body, ends_body}
+use Rattle.pv_world.specs.Objects.{with_bytes, names_literal, names_function, function_request, begins_body, ends_body}
 use Rattle.pv_eval.specs.States.{Setting}
 use Rattle.pv_eval.specs.TypeForms.{Lvalue, size_of}
 use Rattle.pv_eval.specs.Suiting.{is_size, is_live, has_room}
-use Rattle.pv_eval.specs.Objects.{names_object, request_of, can_make, makes, instance_for, ends, makes_literal, can_fill, fills, can_put, puts, text_for, can_put_text, puts_text}
+use Rattle.pv_eval.specs.Objects.{names_object, request_of, can_make, makes, instance_for, ends, makes_literal, makes_function, can_place, can_fill, fills, can_put, puts, text_for, can_put_text, puts_text}
 use Rattle.pv_numbering.proofs.Alike.{with_types, AlikeWorth, AlikeLvalue}
 use Rattle.pv_numbering.proofs.Bytes.{alike_plain}
 use Rattle.pv_numbering.proofs.Doing.{AlikeDone, at_one, Alikes, alike_world, does_nothing, either_alike}
 use Rattle.pv_numbering.proofs.Reaching.{stored-alike}
-use Rattle.pv_numbering.proofs.Objects.{makes_object-alike, makes_literal-alike as literals-alike, ends_object-alike, puts_bytes-alike, fills_object-alike}
+use Rattle.pv_numbering.proofs.Objects.{makes_object-alike, makes_literal-alike as literals-alike, makes_function-alike as functions-alike, ends_object-alike, puts_bytes-alike, fills_object-alike}
 use Rattle.pv_numbering.proofs.Suiting.{knows-same, is_stored-same}
 
 module _ (b : Setting) (m' : Known) where
@@ -34,6 +34,9 @@ module _ (b : Setting) (m' : Known) where
 
   pub names_literal-alike : (l : ℕ) (w : World) (z : Store) → Alikes b.types m' w z → AlikeDone b.types m' (names_literal l w) (names_literal l (with_bytes w z))
   names_literal-alike l w z h = (refl, alike_world b.types m' w z h, refl)
+
+  pub names_function-alike : (f : ℕ) (w : World) (z : Store) → Alikes b.types m' w z → AlikeDone b.types m' (names_function f w) (names_function f (with_bytes w z))
+  names_function-alike f w z h = (refl, alike_world b.types m' w z h, refl)
 
   pub begins_body-alike : (w : World) (z : Store) → Alikes b.types m' w z → AlikeDone b.types m' (begins_body w) (begins_body (with_bytes w z))
   begins_body-alike w z h = (tt, record { bytes = z; is = refl; alike = h }, refl)
@@ -57,6 +60,12 @@ module _ (b : Setting) (m' : Known) where
   makes_literal-alike l w z h =
       let bytes : List ℕ = (literal_at b.unit l).bytes in
       possible-alike (nat_le 1 (length bytes)) (nat_le 1 (length bytes)) w z _ _ refl h (literals-alike b.types m' l (text_of b.unit.names 0) bytes w z h)
+
+  -- 6.3.2.1p4
+  pub makes_function-alike : (f : ℕ) (w : World) (z : Store) → Alikes b.types m' w z → AlikeDone b.types m' (makes_function b f w) (makes_function (with_types b m') f (with_bytes w z))
+  makes_function-alike f w z h =
+      let x : TypedFunction = function_at b.unit f in
+      possible-alike (can_place x) (can_place x) w z _ _ refl h (functions-alike b.types m' f (function_request x.name (text_of b.unit.names x.name)) w z h)
 
   -- 6.7.9p10
   pub fills-alike : (o : ℕ) (v : Option ℕ) (w : World) (z : Store) → Alikes b.types m' w z → AlikeDone b.types m' (fills b o v w) (fills (with_types b m') o v (with_bytes w z))

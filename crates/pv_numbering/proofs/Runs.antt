@@ -22,11 +22,11 @@ use Rattle.pv_world.specs.Objects.{with_bytes}
 use Rattle.pv_eval.specs.States.{Setting, State, Why, Turns, Unreached, Stopped, Res, Gives, Stops, then_do, end_of}
 use Rattle.pv_eval.specs.TypeForms.{lvalue, size_of, gives_none}
 use Rattle.pv_eval.specs.Constants.{constant_worth}
-use Rattle.pv_eval.specs.Operations.{Makes, MakesLiteral, BeginsBody, EndsBody, Fills, Puts, PutsText}
+use Rattle.pv_eval.specs.Operations.{Makes, MakesLiteral, MakesFunction, BeginsBody, EndsBody, Fills, Puts, PutsText}
 use Rattle.pv_exec.specs.declared.outcome.Outcome.TheVariants as outcome
 use Rattle.pv_exec.specs.Flows.{Flow, Falls, Breaks, Continues, Returns, Below}
 use Rattle.pv_exec.specs.Calls.{take_params, is_main, value_by, runs_body, call_body, below}
-use Rattle.pv_exec.specs.Preparing.{make_static, make_statics, make_literals, store_constant, store_static, store_statics, initialize_statics, prepare}
+use Rattle.pv_exec.specs.Preparing.{make_static, make_statics, make_literals, make_functions, store_constant, store_static, store_statics, initialize_statics, prepare}
 use Rattle.pv_exec.specs.Run.{first, call_main, run_of, status_of, outcome_of, sides_at}
 use Rattle.pv_numbering.proofs.Marks.{AlikeAt}
 use Rattle.pv_numbering.proofs.Alike.{with_types, AlikeWorth, AlikeWorths, AlikeState, AlikeRes}
@@ -44,13 +44,14 @@ constant-at m m' w bytes (const.Int n) = refl
 constant-at m m' w bytes const.Null = refl
 constant-at m m' w bytes (const.Address o n) = refl
 constant-at m m' w bytes (const.Literal l n) = refl
+constant-at m m' w bytes (const.Function f) = refl
 
 constant-alike : (m m' : Known) (s s' : State) (q : Const) → AlikeState m m' s s' → AlikeWorth m m' (constant_worth s.world q) (constant_worth s'.world q)
 constant-alike m m' s s' q h = subst (λ (z : State). AlikeWorth m m' (constant_worth s.world q) (constant_worth z.world q)) (sym h.is) (constant-at m m' s.world h.bytes q)
 
 -- before a run there are no bytes
-first-alike : (m m' : Known) (script : List ScriptLine) → AlikeState m m' (first script) (first script)
-first-alike m m' script = record { bytes = (first script).world.memory.bytes; is = refl; alike = λ a. subst (λ (x : Option Byte). AlikeAt m m' x x) (sym (get-empty nat_cmp a)) tt }
+first-alike : (m m' : Known) (script : List ScriptLine) (zap : Bool) → AlikeState m m' (first script zap) (first script zap)
+first-alike m m' script zap = record { bytes = (first script zap).world.memory.bytes; is = refl; alike = λ a. subst (λ (x : Option Byte). AlikeAt m m' x x) (sym (get-empty nat_cmp a)) tt }
 
 module _ {b : Setting} {m' : Known} (acts : ActsAlike b m') (unit : AllUnit (AlikeType b m') b.unit) where
   abbrev c : Setting
@@ -111,6 +112,10 @@ module _ {b : Setting} {m' : Known} (acts : ActsAlike b m') (unit : AllUnit (Ali
   statics-alike [] = gives Nothing Nothing tt
   statics-alike (o ∷ os) = seq (static-alike o) (λ v v' e. statics-alike os)
 
+  functions-alike : (fs : List ℕ) → Pieces b m' Same (make_functions b fs) (make_functions c fs)
+  functions-alike [] = gives Nothing Nothing tt
+  functions-alike (f ∷ fs) = seq (did (MakesFunction f) (MakesFunction f) (function_at b.unit f).line (acts.makes_function f)) (λ v v' e. functions-alike fs)
+
   literals-alike : (ls : List ℕ) → Pieces b m' Same (make_literals b ls) (make_literals c ls)
   literals-alike [] = gives Nothing Nothing tt
   literals-alike (l ∷ ls) = seq (did (MakesLiteral l) (MakesLiteral l) (literal_at b.unit l).line (acts.makes_literal l)) (λ v v' e. literals-alike ls)
@@ -132,7 +137,9 @@ module _ {b : Setting} {m' : Known} (acts : ActsAlike b m') (unit : AllUnit (Ali
   initials-alike (o ∷ os) = seq (all-stored o (object_at b.unit o).inits (inits-of b m' unit o)) (λ v v' e. initials-alike os)
 
   prepare-alike : Pieces b m' Same (prepare b) (prepare c)
-  prepare-alike = seq (statics-alike b.unit.statics) (λ v v' e. seq (literals-alike b.unit.instances) (λ v v' e. initials-alike b.unit.statics))
+  prepare-alike =
+      seq (statics-alike b.unit.statics) (λ v v' e. seq (literals-alike b.unit.instances) (λ v v' e.
+      seq (functions-alike b.unit.placed) (λ v v' e. initials-alike b.unit.statics)))
 
   main-alike : (f : Option ℕ) → Pieces b m' Same (call_main b f) (call_main c f)
   main-alike None = gives Nothing Nothing tt
@@ -144,7 +151,7 @@ module _ {b : Setting} {m' : Known} (acts : ActsAlike b m') (unit : AllUnit (Ali
 -- 5.1.2.3: the two runs differ in the marks of bytes alone
 pub run-alike : (b : Setting) (m' : Known) → ActsAlike b m' → AllUnit (AlikeType b m') b.unit → (script : List ScriptLine) → AlikeRes b.types m' (AlikeWorth b.types m') (run_of b script) (run_of (with_types b m') script)
 unfolding run_of
-run-alike b m' acts unit script = (whole-alike acts unit).at (first script) (first script) (first-alike b.types m' script)
+run-alike b m' acts unit script = (whole-alike acts unit).at (first script b.zap) (first script b.zap) (first-alike b.types m' script b.zap)
 
 -- the reason alone tells how a run that was stopped ended
 stopped-same : (y : Why) (s s' : State) → outcome_of (Stops y s') ≡ outcome_of (Stops y s)

@@ -22,14 +22,14 @@ same_layouts u u' same = ap layouts same
 pub types_in_table : (u : Stored) → AllUnit (InTable u.known) (whole u)
 types_in_table u = all_whole (InTable u.known) (void_in_table u.known) u (tree_in_table u.known)
 
-module _ (u u' : Stored) (same : whole u ≡ whole u') (bound : ℕ) (sides : Option (List Bool)) where
-  pub unit_alike : AllUnit (AlikeType (setting_of u bound sides) u'.known) (whole u)
+module _ (u u' : Stored) (same : whole u ≡ whole u') (bound : ℕ) (sides : Option (List Bool)) (zap : Bool) where
+  pub unit_alike : AllUnit (AlikeType (setting_of u bound sides zap) u'.known) (whole u)
   unit_alike =
-      joined_unit (InTable u.known) (InTable u'.known) (AlikeType (setting_of u bound sides) u'.known)
-      (alike_lvalue (setting_of u bound sides) u'.known) (whole u)
+      joined_unit (InTable u.known) (InTable u'.known) (AlikeType (setting_of u bound sides zap) u'.known)
+      (alike_lvalue (setting_of u bound sides zap) u'.known) (whole u)
       (types_in_table u)
       (subst (AllUnit (InTable u'.known)) (sym same) (types_in_table u'))
 
   -- the setting of the run by the other table
-  pub other_setting : with_types (setting_of u bound sides) u'.known ≡ setting_of u' bound sides
-  other_setting = ap (λ (w : WholeUnit). record { unit = w; types = u'.known; bound = bound; sides = sides }) same
+  pub other_setting : with_types (setting_of u bound sides zap) u'.known ≡ setting_of u' bound sides zap
+  other_setting = ap (λ (w : WholeUnit). record { unit = w; types = u'.known; bound = bound; sides = sides; zap = zap }) same

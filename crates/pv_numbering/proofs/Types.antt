@@ -2,7 +2,7 @@
 use Rattle.std.specs.Prelude.{Option, Some, None}
 use Rattle.pv_types.specs.Ty.{Ty}
 use Rattle.pv_typed.specs.Children.{Each}
-use Rattle.pv_typed.specs.TypedTree.{TypedTree, Node, Form, Constant, Object, String, Subscript, Call, LibraryCall, Member, MemberOfValue, Arrow, Increment, Address, Indirection, Unary, Not, Sizeof, Cast, Arithmetic, PointerSum, PointerDifference, PointerOrder, PointerEquality, LogicalAnd, LogicalOr, Conditional, Assign, CompoundAssign, PointerAssign, Comma, Read, ArrayPointer, Convert, Arguments, NoArguments, MoreArguments}
+use Rattle.pv_typed.specs.TypedTree.{TypedTree, Node, Form, Constant, Object, Function, String, Subscript, Call, CallPointer, LibraryCall, Member, MemberOfValue, Arrow, Increment, Address, Indirection, Unary, Not, Sizeof, Cast, Arithmetic, PointerSum, PointerDifference, PointerOrder, PointerEquality, LogicalAnd, LogicalOr, Conditional, Assign, CompoundAssign, PointerAssign, Comma, Read, ArrayPointer, Convert, Arguments, NoArguments, MoreArguments}
 use Rattle.pv_typed.specs.TypedStatement.{TypedStatement, Block, Declare, Expression, Empty, If, IfElse, Switch, Case, Default, While, DoWhile, For, ForDeclaration, Continue, Break, Return, Statements, NoStatements, MoreStatements}
 use Rattle.pv_typed.specs.TypedUnits.{WholeUnit, Store, StoredValue, ValueOf, TextOf, TypedObject, TypedFunction}
 
@@ -14,9 +14,11 @@ abbrev mutual
   pub AllForm : (Ty → Type 0) → Form → Type 0
   AllForm P (Constant n) = Unit {0}
   AllForm P (Object o) = Unit {0}
+  AllForm P (Function f) = Unit {0}
   AllForm P (String l) = Unit {0}
   AllForm P (Subscript x y) = AllTypes P x × AllTypes P y
   AllForm P (Call f xs) = AllArguments P xs
+  AllForm P (CallPointer x xs) = AllTypes P x × AllArguments P xs
   AllForm P (LibraryCall f xs) = AllArguments P xs
   AllForm P (Member x k) = AllTypes P x
   AllForm P (MemberOfValue x k) = AllTypes P x

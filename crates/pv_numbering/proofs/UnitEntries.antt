@@ -113,6 +113,7 @@ module _ (w : WholeUnit) where
     literals = map literal_row w.literals;
     instances = w.instances;
     statics = w.statics;
+    placed = w.placed;
     tags = entered.entry.1.1;
     declarations = w.declarations;
   }

@@ -62,9 +62,11 @@ module _ (P : Ty → Type 0) (of_void : P VoidTy) where
     all_form : (lists : List (List NodeId)) (x : Typed) → AllForm P (form_in lists ts x)
     all_form lists (typed.Constant value) = tt
     all_form lists (typed.Object o) = tt
+    all_form lists (typed.Function f) = tt
     all_form lists (typed.String l) = tt
     all_form lists (typed.Subscript a b) = (all_expression a, all_expression b)
     all_form lists (typed.Call f l) = all_arguments (list_in lists l)
+    all_form lists (typed.CallPointer a l) = (all_expression a, all_arguments (list_in lists l))
     all_form lists (typed.LibraryCall f l) = all_arguments (list_in lists l)
     all_form lists (typed.Member a offset) = all_expression a
     all_form lists (typed.MemberOfValue a offset) = all_expression a

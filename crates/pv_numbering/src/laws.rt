@@ -11,7 +11,7 @@ ghost use Rattle.pv_numbering.specs.Same.{SameRun};
 /// the unit: outcome, turns, output, events and sides are the same by all of them, at every script and bound.
 pub fn no_numbering_matters()
     ensures { (u v : Stored) → whole u ≡ whole v →
-        (sides : Option (List Bool)) (script : List ScriptLine) (n : ℕ) → SameRun (run_at u sides script n) (run_at v sides script n) }
+        (sides : Option (List Bool)) (zap : Bool) (script : List ScriptLine) (n : ℕ) → SameRun (run_at u sides zap script n) (run_at v sides zap script n) }
 {}
 
 /// A law: tables stand for each unit (C17 6.9), so that each has a run.

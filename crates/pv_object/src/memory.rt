@@ -1,5 +1,5 @@
 // The memory: its instances, accesses to them, and the steps that change its table.
-ghost use Rattle.std.specs.Prelude.{◌≡◌, ◌+◌, ◌<◌, ◌≤◌, ◌↔◌, ◌^◌, length, take, All, IfOk, IfNone, OnOk, OnErr, IsSome, true, codes, option_to_list, drop, ◌++◌, [], not};
+ghost use Rattle.std.specs.Prelude.{◌≡◌, ◌+◌, ◌<◌, ◌≤◌, ◌↔◌, ◌^◌, length, replicate, take, All, IfOk, IfNone, OnOk, OnErr, IsSome, true, codes, option_to_list, drop, ◌++◌, [], not};
 ghost use Rattle.pv_prov.specs.declared.names.Prov.{Prov};
 ghost use Rattle.pv_prov.specs.Names.{Stands_low, Stands_high, kept};
 ghost use Rattle.pv_script.specs.Names.{name_at as text_of};
@@ -19,6 +19,7 @@ ghost use Rattle.pv_object.specs.Loading.{value_of, load, exposed_by, tested, in
 ghost use Rattle.pv_object.specs.Storing.{with_bytes, stored, copied};
 ghost use Rattle.pv_object.specs.Creating.{created, without, OrSpent, HasSize};
 ghost use Rattle.pv_object.specs.Encoding.{number_in};
+ghost use Rattle.pv_shadow.specs.Whole.{pointed, little_endian};
 
 use crate::checks::{Wish, checked_in, chosen, clause_of, range_stop, undefined};
 use crate::encoding;
@@ -86,12 +87,12 @@ fn fetch(alloc: Global, bytes: &Bytes, a: u64, n: u64) -> Result<Vec<Byte>, NoMe
 
 impl Memory {
     /// The memory without instances.
-    pub fn new(alloc: Global, script: Script, names: &Names) -> Result<Self, NoMemory>
-        ensures { IfOk result (λ m. m ≡ empty_memory script) }
+    pub fn new(alloc: Global, script: Script, names: &Names, zap: bool) -> Result<Self, NoMemory>
+        ensures { IfOk result (λ m. m ≡ empty_memory script zap) }
     {
         Ok(Memory {
             alloc,
-            table: Instances::new(alloc, script, names)?,
+            table: Instances::new(alloc, script, names, zap)?,
             bytes: Bytes::new(alloc),
         })
     }
@@ -405,9 +406,32 @@ impl Memory {
         requires made { IsMadeValue self.old.table v.now }
         ensures { self.new ≡ stored self.old at.now.address t v.now mark }
     {
+        match (t, *v) {
+            (Scalar::Pointer, Value::Pointer(p)) => self.store_pointer(at, p, mark),
+            _ => self.store_bytes(at, t, v, mark),
+        }
+    }
+
+    // The same, byte by byte.
+    fn store_bytes(&mut self, at: &Reach, t: Scalar, v: &Value, mark: Option<u32>)
+        requires reached { IsReach self.old.table at.now (size_of t) }
+        requires value { IsOf t v.now }
+        requires made { IsMadeValue self.old.table v.now }
+        ensures { self.new ≡ stored self.old at.now.address t v.now mark }
+    {
         let bytes = encoding::encode(t, v, mark);
         let size = encoding::size_of(t);
         self.write_bytes(at, &bytes[..size]);
+    }
+
+    // The same of a pointer, which stays whole.
+    fn store_pointer(&mut self, at: &Reach, p: Pointer, mark: Option<u32>)
+        requires reached { IsReach self.old.table at.now 8 }
+        requires made { IsMadeIn self.old.table p.prov }
+        ensures { self.new ≡ with_bytes self.old at.now.address (pointed mark p.prov 0 (little_endian 8 p.address)) }
+    {
+        self.table.well_formed();
+        self.bytes.put_pointer(at.address, p.address, p.prov, mark);
     }
 
     /// Makes the `n` bytes at a place those that stand at another, whole. All other bytes stay.
@@ -451,5 +475,15 @@ impl Memory {
     {
         self.table.well_formed();
         self.bytes.write(at.address, bytes);
+    }
+
+    /// Makes the `n` bytes at a place that was reached all this one. All other bytes stay.
+    pub fn fill_bytes(&mut self, at: &Reach, n: u64, byte: Byte)
+        requires reached { IsReach self.old.table at.now n }
+        requires made { IsMadeIn self.old.table byte.prov }
+        ensures { self.new ≡ with_bytes self.old at.now.address (replicate n byte) }
+    {
+        self.table.well_formed();
+        self.bytes.fill(at.address, n, byte);
     }
 }

@@ -1,5 +1,5 @@
 -- What a source with its script is, and what a run of it comes to.
-use Rattle.std.proofs.Common.{◌≡◌, ℕ, Bool, ◌<◌, ◌≤◌, List, length, refl, inr, Err}
+use Rattle.std.proofs.Common.{◌≡◌, ℕ, Bool, true, ◌<◌, ◌≤◌, List, length, refl, inr, Err}
 use Rattle.std.specs.Prelude.{Option}
 use Rattle.pv_script.specs.declared.scripts.ScriptError.{ScriptError}
 use Rattle.pv_script.specs.declared.scripts.ScriptError.TheVariants as why
@@ -39,24 +39,24 @@ abbrev to_run : (source script : List ℕ) (u : Stored) (lines : List ScriptLine
 to_run source script u lines bound p = record { bound = bound; asks = refl; lines = lines; unit = whole u; short = p.short; reads = p.reads; comes = p.comes }
 
 pub ran_outcome : (source script : List ℕ) (u : Stored) (lines : List ScriptLine) (bound : ℕ) (sides : Option (List Bool)) (out : Sunk) (hall : Halls) (ran : Ran) (names : List (List ℕ))
-    → IsLoadedProgram source script u lines → IsRan out hall ran names (run_of (setting_of u bound sides) lines) u.names → IsOutcome source script bound sides out hall (judged.Ran ran names)
+    → IsLoadedProgram source script u lines → IsRan out hall ran names (run_of (setting_of u bound sides true) lines) u.names → IsOutcome source script bound sides out hall (judged.Ran ran names)
 ran_outcome source script u lines bound sides out hall ran names p h = record {
   job = to_run source script u lines bound p;
-  run = run_of (setting_of u bound sides) lines;
+  run = run_of (setting_of u bound sides true) lines;
   runs = record { tables = u; stands = refl; is = refl };
   holds = h;
 }
 
 left_run : (source script : List ℕ) (u : Stored) (lines : List ScriptLine) (bound : ℕ) (sides : Option (List Bool)) (out : Sunk) (hall : Halls) (e : RunError)
-    → IsLoadedProgram source script u lines → IsLeft out hall e (run_of (setting_of u bound sides) lines) u.names → SomeRunBy source script bound sides (IsLeft out hall e)
+    → IsLoadedProgram source script u lines → IsLeft out hall e (run_of (setting_of u bound sides true) lines) u.names → SomeRunBy source script bound sides (IsLeft out hall e)
 left_run source script u lines bound sides out hall e p h = record {
   job = to_run source script u lines bound p;
-  run = run_of (setting_of u bound sides) lines;
+  run = run_of (setting_of u bound sides true) lines;
   runs = record { tables = u; stands = refl; is = refl };
   holds = h;
 }
 
 pub left_unfinished : (source script : List ℕ) (u : Stored) (lines : List ScriptLine) (bound : ℕ) (sides : Option (List Bool)) (out : Sunk) (hall : Halls) (e : RunError)
-    → IsLoadedProgram source script u lines → IsLeft out hall e (run_of (setting_of u bound sides) lines) u.names → IsUnfinished source script bound sides out hall e
+    → IsLoadedProgram source script u lines → IsLeft out hall e (run_of (setting_of u bound sides true) lines) u.names → IsUnfinished source script bound sides out hall e
 left_unfinished source script u lines bound sides out hall error.NoMemory p h = inr (left_run source script u lines bound sides out hall error.NoMemory p h)
 left_unfinished source script u lines bound sides out hall error.WriteFault p h = left_run source script u lines bound sides out hall error.WriteFault p h

@@ -1,5 +1,5 @@
 -- What a source with a script of addresses comes to, by the task that is done with it.
-use Rattle.std.specs.Prelude.{◌≡◌, ℕ, Bool, ◌<◌, ◌≤◌, List, length, map, Ok, Err, Option, None, Some}
+use Rattle.std.specs.Prelude.{◌≡◌, ℕ, Bool, true, ◌<◌, ◌≤◌, List, length, map, Ok, Err, Option, None, Some}
 use Rattle.pv_script.specs.declared.scripts.ScriptError.{ScriptError}
 use Rattle.pv_script.specs.Lines.{ScriptLine}
 use Rattle.pv_script.specs.Scripts.{script_of}
@@ -33,7 +33,7 @@ pub record Ends (run : Res Worth) (texts : List (List ℕ)) (e : Ending) : Type 
 pub record IsRunBy (unit : WholeUnit) (lines : List ScriptLine) (bound : ℕ) (sides : Option (List Bool)) (run : Res Worth) : Type 0 where
   pub tables : Stored
   pub stands : whole tables ≡ unit
-  pub is : run ≡ run_of (setting_of tables bound sides) lines
+  pub is : run ≡ run_of (setting_of tables bound sides true) lines
 
 -- 5.1.2.3: the run of a unit, without sides: each pair of candidates is settled at its first use that tells (the memory model)
 abbrev pub IsRun : WholeUnit → List ScriptLine → (bound : ℕ) → (run : Res Worth) → Type 0

@@ -1,5 +1,5 @@
 //! What a source with its script comes to: the end of its run, or why it has none.
-ghost use Rattle.std.specs.Prelude.{◌≡◌, ◌<◌, ◌≤◌, ◌+◌, ◌++◌, ◌⊎◌, ℕ, List, length, take, None, Some, IfOk, IfErr};
+ghost use Rattle.std.specs.Prelude.{◌≡◌, ◌<◌, ◌≤◌, ◌+◌, ◌++◌, ◌⊎◌, ℕ, true, List, length, take, None, Some, IfOk, IfErr};
 ghost use Rattle.std.specs.List.{flat_map};
 ghost use Rattle.pv_script.specs.Lines.{ScriptLine};
 ghost use Rattle.pv_watch.specs.Slots.{Slot};
@@ -118,12 +118,12 @@ pub(crate) fn run_unit<O: Sink>(
     requires fit { IsFit unit }
     requires bound { IsBound bound }
     ensures ran { IfOk result (λ r. IsRan (sunk O.written O.faults out.old out.new) (halls hall.old hall.new its_kind its_wants seen)
-        r.ran r.names (run_of (setting_of unit bound (highs sides.entry (λ x. x.now))) lines) unit.names) }
+        r.ran r.names (run_of (setting_of unit bound (highs sides.entry (λ x. x.now)) true) lines) unit.names) }
     ensures left { IfErr result (λ e. IsLeft (sunk O.written O.faults out.old out.new) (halls hall.old hall.new its_kind its_wants seen)
-        e (run_of (setting_of unit bound (highs sides.entry (λ x. x.now))) lines) unit.names) }
+        e (run_of (setting_of unit bound (highs sides.entry (λ x. x.now)) true) lines) unit.names) }
     ensures cause { HasFault result (O.faults out.old) (O.faults out.new) }
 {
-    match run(alloc, &unit, lines, bound, sides, out, hall) {
+    match run(alloc, &unit, lines, bound, true, sides, out, hall) {
         Ok(ran) => {
             let names = names_of(alloc, unit);
             Ok(Named { ran, names })
@@ -151,7 +151,7 @@ pub fn one_verdict()
 /// A law: a run of the same tables, with the same script and bound, has no two ends.
 pub fn one_end()
     ensures { (u : Stored) (lines : List ScriptLine) (bound : ℕ) (names : List (List ℕ)) (e f : Ending) →
-        let run = run_of (setting_of u bound None) lines in Ends run names e → Ends run names f → e ≡ f }
+        let run = run_of (setting_of u bound None true) lines in Ends run names e → Ends run names f → e ≡ f }
 {}
 
 /// A law: of a source and of a script, one byte above the limit tells as much as all that follow.

@@ -56,16 +56,16 @@ get-put_page_in (suc n) a (x ∷ xs) m (suc i) h =
     ap (get (put_page n (a + 1) xs (put_slot m a x))) e ∙ get-put_page_in n (a + 1) xs (put_slot m a x) i (omega arith)
 
 -- a place lies in its page
-pub within_page : (q : ℕ) → q % 16 < 16
+pub within_page : (q : ℕ) → q % 256 < 256
 within_page q = omega arith
 
-same_page : (q k : ℕ) → q / 16 ≡ k → q ≡ k * 16 + q % 16
+same_page : (q k : ℕ) → q / 256 ≡ k → q ≡ k * 256 + q % 256
 same_page q k e = omega arith
 
-other_page : (q k : ℕ) → q / 16 ≢ k → IsOutside (k * 16) 16 q
-other_page q k h = ⊎_elim (λ l. inl l) (λ l. ⊎_elim (λ r. absurd (h (omega arith))) (λ r. inr r) (cases_lt q (k * 16 + 16))) (cases_lt q (k * 16))
+other_page : (q k : ℕ) → q / 256 ≢ k → IsOutside (k * 256) 256 q
+other_page q k h = ⊎_elim (λ l. inl l) (λ l. ⊎_elim (λ r. absurd (h (omega arith))) (λ r. inr r) (cases_lt q (k * 256 + 256))) (cases_lt q (k * 256))
 
-same_or_not : (k j : ℕ) → (k ≡ j) ⊎ (k ≢ j)
+pub same_or_not : (k j : ℕ) → (k ≡ j) ⊎ (k ≢ j)
 same_or_not k j = ⊎_elim (λ h. inr (λ e. omega arith)) (λ h. ⊎_elim (λ l. inr (λ e. omega arith)) (λ l. inl (omega arith)) (cases_lt j k)) (cases_lt k j)
 
 eq_true : (q k : ℕ) → q ≡ k → is_at (nat_cmp q) k ≡ true
@@ -75,24 +75,24 @@ eq_false : (q k : ℕ) → q ≢ k → is_at (nat_cmp q) k ≡ false
 eq_false q k h = unsigned_tied q k ∙ (let t : eqb q k ≡ false = grind (arith, nat_tests) in t)
 
 -- what stands at an address is what its page has there
-pub get_stored : (es : List (ℕ × List (Option Byte))) (q : ℕ) → get (stored es) q ≡ slot_of (said_at es (q / 16)) (q % 16)
+pub get_stored : (es : List (ℕ × List (Option Byte))) (q : ℕ) → get (stored es) q ≡ slot_of (said_at es (q / 256)) (q % 256)
 get_stored [] q = get-empty nat_cmp q
 get_stored (e ∷ es) q = ⊎_elim
-    (λ h. ap (get (stored (e ∷ es))) (same_page q e.0 h) ∙ get-put_page_in 16 (e.0 * 16) e.1 (stored es) (q % 16) (within_page q)
-    ∙ sym (ap (λ b. slot_of (cond b (Some e.1) (said_at es (q / 16))) (q % 16)) (eq_true (q / 16) e.0 h)))
-    (λ h. get-put_page_out 16 (e.0 * 16) e.1 (stored es) q (other_page q e.0 h) ∙ get_stored es q
-    ∙ sym (ap (λ b. slot_of (cond b (Some e.1) (said_at es (q / 16))) (q % 16)) (eq_false (q / 16) e.0 h)))
-    (same_or_not (q / 16) e.0)
+    (λ h. ap (get (stored (e ∷ es))) (same_page q e.0 h) ∙ get-put_page_in 256 (e.0 * 256) e.1 (stored es) (q % 256) (within_page q)
+    ∙ sym (ap (λ b. slot_of (cond b (Some e.1) (said_at es (q / 256))) (q % 256)) (eq_true (q / 256) e.0 h)))
+    (λ h. get-put_page_out 256 (e.0 * 256) e.1 (stored es) q (other_page q e.0 h) ∙ get_stored es q
+    ∙ sym (ap (λ b. slot_of (cond b (Some e.1) (said_at es (q / 256))) (q % 256)) (eq_false (q / 256) e.0 h)))
+    (same_or_not (q / 256) e.0)
 
 -- the places of a page from i on
-with_slots_out : (xs : List (Option Byte)) (i : ℕ) (ys : List (Option Byte)) (j : ℕ) → IsOutside i (length ys) j → slot_at (with_slots xs i ys) j ≡ slot_at xs j
+pub with_slots_out : (xs : List (Option Byte)) (i : ℕ) (ys : List (Option Byte)) (j : ℕ) → IsOutside i (length ys) j → slot_at (with_slots xs i ys) j ≡ slot_at xs j
 with_slots_out xs i [] j h = refl
 with_slots_out xs i (y ∷ ys) j h = with_slots_out (set xs i y) (i + 1) ys j (later i (length ys) j h) ∙ get_or-set_other xs i j y None (not_first i (length ys) j h)
 
 length_set : (xs : List (Option Byte)) (i : ℕ) (y : Option Byte) → length (set xs i y) ≡ length xs
 length_set xs i y = length-set xs i y
 
-with_slots_in : (xs : List (Option Byte)) (i : ℕ) (ys : List (Option Byte)) (k : ℕ) → i + length ys ≤ length xs → k < length ys → slot_at (with_slots xs i ys) (i + k) ≡ get_or ys k None
+pub with_slots_in : (xs : List (Option Byte)) (i : ℕ) (ys : List (Option Byte)) (k : ℕ) → i + length ys ≤ length xs → k < length ys → slot_at (with_slots xs i ys) (i + k) ≡ get_or ys k None
 with_slots_in xs i [] k w h = absurd (omega arith)
 with_slots_in xs i (y ∷ ys) zero w h =
     with_slots_out (set xs i y) (i + 1) ys (i + 0) (inl (omega arith)) ∙ ap (slot_at (set xs i y)) (let e : i + 0 ≡ i = omega arith in e) ∙ get_or-set_same xs i y None (omega arith)
@@ -100,6 +100,10 @@ with_slots_in xs i (y ∷ ys) (suc k) w h =
     let e : i + suc k ≡ (i + 1) + k = omega arith in
     let l = length_set xs i y in
     ap (slot_at (with_slots (set xs i y) (i + 1) ys)) e ∙ with_slots_in (set xs i y) (i + 1) ys k (omega arith) (omega arith)
+
+pub length_with : (xs : List (Option Byte)) (i : ℕ) (ys : List (Option Byte)) → length (with_slots xs i ys) ≡ length xs
+length_with xs i [] = refl
+length_with xs i (y ∷ ys) = length_with (set xs i y) (i + 1) ys ∙ length_set xs i y
 
 -- the bytes of addresses from a on, or none
 abbrev pub put_slots : Store → ℕ → List (Option Byte) → Store
@@ -121,6 +125,10 @@ pub written_slots : (m : Store) (a : ℕ) (bs : List Byte) → put_slots m a (ma
 written_slots m a [] = refl
 written_slots m a (b ∷ bs) = written_slots (insert m a b) (a + 1) bs
 
+pub filled_slots : (m : Store) (a n : ℕ) (b : Byte) → put_slots m a (replicate n (Some b)) ≡ written m a (replicate n b)
+filled_slots m a zero b = refl
+filled_slots m a (suc n) b = filled_slots (insert m a b) (a + 1) n b
+
 pub spread_slots : (m : Store) (a n : ℕ) → put_slots m a (replicate n (Some blank)) ≡ spread m a n
 spread_slots m a zero = refl
 spread_slots m a (suc n) = spread_slots (insert m a blank) (a + 1) n
@@ -131,30 +139,30 @@ cleared_slots m a (suc n) = cleared_slots (remove m a) (a + 1) n
 
 -- entries that differ in a part of one page
 module _ (es fs : List (ℕ × List (Option Byte))) (a : ℕ) (ys xs : List (Option Byte))
-    (within : a % 16 + length ys ≤ 16) (wide : length xs ≡ 16)
-    (was : (j : ℕ) → slot_of (said_at es (a / 16)) j ≡ slot_at xs j)
-    (is : (k : ℕ) → said_at fs k ≡ cond (is_at (nat_cmp (a / 16)) k) (Some (with_slots xs (a % 16) ys)) (said_at es k)) where
-  this_page : (q : ℕ) → q / 16 ≡ a / 16 → get (stored fs) q ≡ slot_at (with_slots xs (a % 16) ys) (q % 16)
-  this_page q e = get_stored fs q ∙ ap (λ o. slot_of o (q % 16)) (is (q / 16) ∙ ap (λ b. cond b (Some (with_slots xs (a % 16) ys)) (said_at es (q / 16))) (eq_true (a / 16) (q / 16) (sym e)))
+    (within : a % 256 + length ys ≤ 256) (wide : length xs ≡ 256)
+    (was : (j : ℕ) → slot_of (said_at es (a / 256)) j ≡ slot_at xs j)
+    (is : (k : ℕ) → said_at fs k ≡ cond (is_at (nat_cmp (a / 256)) k) (Some (with_slots xs (a % 256) ys)) (said_at es k)) where
+  this_page : (q : ℕ) → q / 256 ≡ a / 256 → get (stored fs) q ≡ slot_at (with_slots xs (a % 256) ys) (q % 256)
+  this_page q e = get_stored fs q ∙ ap (λ o. slot_of o (q % 256)) (is (q / 256) ∙ ap (λ b. cond b (Some (with_slots xs (a % 256) ys)) (said_at es (q / 256))) (eq_true (a / 256) (q / 256) (sym e)))
 
-  kept_there : (q : ℕ) → q / 16 ≡ a / 16 → slot_at xs (q % 16) ≡ get (stored es) q
-  kept_there q e = sym (was (q % 16)) ∙ ap (λ k. slot_of (said_at es k) (q % 16)) (sym e) ∙ sym (get_stored es q)
+  kept_there : (q : ℕ) → q / 256 ≡ a / 256 → slot_at xs (q % 256) ≡ get (stored es) q
+  kept_there q e = sym (was (q % 256)) ∙ ap (λ k. slot_of (said_at es k) (q % 256)) (sym e) ∙ sym (get_stored es q)
 
-  other : (q : ℕ) → q / 16 ≢ a / 16 → get (stored fs) q ≡ get (stored es) q
-  other q n = get_stored fs q ∙ ap (λ o. slot_of o (q % 16)) (is (q / 16) ∙ ap (λ b. cond b (Some (with_slots xs (a % 16) ys)) (said_at es (q / 16))) (eq_false (a / 16) (q / 16) (λ e. n (sym e)))) ∙ sym (get_stored es q)
+  other : (q : ℕ) → q / 256 ≢ a / 256 → get (stored fs) q ≡ get (stored es) q
+  other q n = get_stored fs q ∙ ap (λ o. slot_of o (q % 256)) (is (q / 256) ∙ ap (λ b. cond b (Some (with_slots xs (a % 256) ys)) (said_at es (q / 256))) (eq_false (a / 256) (q / 256) (λ e. n (sym e)))) ∙ sym (get_stored es q)
 
   in_range : (q i : ℕ) → i < length ys → q ≡ a + i → get (stored fs) q ≡ get (put_slots (stored es) a ys) q
   in_range q i l e =
-      let p : q / 16 ≡ a / 16 = omega arith in
-      let j : q % 16 ≡ a % 16 + i = omega arith in
-      this_page q p ∙ ap (slot_at (with_slots xs (a % 16) ys)) j ∙ with_slots_in xs (a % 16) ys i (omega arith) l
+      let p : q / 256 ≡ a / 256 = omega arith in
+      let j : q % 256 ≡ a % 256 + i = omega arith in
+      this_page q p ∙ ap (slot_at (with_slots xs (a % 256) ys)) j ∙ with_slots_in xs (a % 256) ys i (omega arith) l
       ∙ sym (ap (get (put_slots (stored es) a ys)) e ∙ put_slots_in (stored es) a ys i l)
 
   out_range : (q : ℕ) → IsOutside a (length ys) q → get (stored fs) q ≡ get (put_slots (stored es) a ys) q
   out_range q o = ⊎_elim
-      (λ e. this_page q e ∙ with_slots_out xs (a % 16) ys (q % 16) (⊎_elim (λ h. inl (omega arith)) (λ h. inr (omega arith)) o) ∙ kept_there q e ∙ sym (put_slots_out (stored es) a ys q o))
+      (λ e. this_page q e ∙ with_slots_out xs (a % 256) ys (q % 256) (⊎_elim (λ h. inl (omega arith)) (λ h. inr (omega arith)) o) ∙ kept_there q e ∙ sym (put_slots_out (stored es) a ys q o))
       (λ n. other q n ∙ sym (put_slots_out (stored es) a ys q o))
-      (same_or_not (q / 16) (a / 16))
+      (same_or_not (q / 256) (a / 256))
 
   pub changed : stored fs ≡ put_slots (stored es) a ys
   changed = alike _ _ (λ q. ⊎_elim (λ w. in_range q w.0 w.1 w.2) (λ o. out_range q o) (place_of a (length ys) q))
@@ -167,10 +175,10 @@ none_there (suc n) (suc j) = none_there n j
 
 pub dropped : (es fs : List (ℕ × List (Option Byte))) (k : ℕ) → ((j : ℕ) → slot_of (said_at es k) j ≡ None) → ((p : ℕ) → said_at fs p ≡ cond (is_at (nat_cmp k) p) None (said_at es p)) → stored fs ≡ stored es
 dropped es fs k none is = alike _ _ (λ q. ⊎_elim
-    (λ e. get_stored fs q ∙ ap (λ o. slot_of o (q % 16)) (is (q / 16) ∙ ap (λ b. cond b None (said_at es (q / 16))) (eq_true k (q / 16) (sym e)))
-    ∙ sym (get_stored es q ∙ ap (λ p. slot_of (said_at es p) (q % 16)) e ∙ none (q % 16)))
-    (λ n. get_stored fs q ∙ ap (λ o. slot_of o (q % 16)) (is (q / 16) ∙ ap (λ b. cond b None (said_at es (q / 16))) (eq_false k (q / 16) (λ e. n (sym e)))) ∙ sym (get_stored es q))
-    (same_or_not (q / 16) k))
+    (λ e. get_stored fs q ∙ ap (λ o. slot_of o (q % 256)) (is (q / 256) ∙ ap (λ b. cond b None (said_at es (q / 256))) (eq_true k (q / 256) (sym e)))
+    ∙ sym (get_stored es q ∙ ap (λ p. slot_of (said_at es p) (q % 256)) e ∙ none (q % 256)))
+    (λ n. get_stored fs q ∙ ap (λ o. slot_of o (q % 256)) (is (q / 256) ∙ ap (λ b. cond b None (said_at es (q / 256))) (eq_false k (q / 256) (λ e. n (sym e)))) ∙ sym (get_stored es q))
+    (same_or_not (q / 256) k))
 
 pub past_the_end : (xs : List (Option Byte)) (j : ℕ) → length xs ≤ j → slot_at xs j ≡ None
 past_the_end [] j h = refl
@@ -211,26 +219,42 @@ spread_step m a i n size l h =
     let f : (a + i) + n ≡ a + (i + n) = omega arith in
     sym (ap (spread m (a + i)) e ∙ spread_parts m (a + i) n (size - (i + n)) ∙ ap (λ b. spread (spread m (a + i) n) b (size - (i + n))) f)
 
+filled_parts : (m : Store) (a k r : ℕ) (b : Byte) → written m a (replicate (k + r) b) ≡ written (written m a (replicate k b)) (a + k) (replicate r b)
+filled_parts m a zero r b =
+    let z : 0 + r ≡ r = omega arith in
+    let e : a ≡ a + 0 = omega arith in
+    ap (λ n. written m a (replicate n b)) z ∙ ap (λ c. written m c (replicate r b)) e
+filled_parts m a (suc k) r b =
+    let z : suc k + r ≡ suc (k + r) = omega arith in
+    let e : (a + 1) + k ≡ a + suc k = omega arith in
+    ap (λ n. written m a (replicate n b)) z ∙ filled_parts (insert m a b) (a + 1) k r b ∙ ap (λ c. written (written (insert m a b) (a + 1) (replicate k b)) c (replicate r b)) e
+
+pub filled_step : (m : Store) (a i n size : ℕ) (b : Byte) → n ≤ size - i → i ≤ size → written (written m (a + i) (replicate n b)) (a + (i + n)) (replicate (size - (i + n)) b) ≡ written m (a + i) (replicate (size - i) b)
+filled_step m a i n size b l h =
+    let e : size - i ≡ n + (size - (i + n)) = omega arith in
+    let f : (a + i) + n ≡ a + (i + n) = omega arith in
+    sym (ap (λ k. written m (a + i) (replicate k b)) e ∙ filled_parts m (a + i) n (size - (i + n)) b ∙ ap (λ c. written (written m (a + i) (replicate n b)) c (replicate (size - (i + n)) b)) f)
+
 -- the same, as the code has it: page and place are computed, and the page's new places have a name
-pub changed_at : (es fs : List (ℕ × List (Option Byte))) (a : ℕ) (ys xs w : List (Option Byte)) (p i : ℕ) → a % 16 + length ys ≤ 16 → length xs ≡ 16
-    → p ≡ a / 16 → i ≡ a % 16 → w ≡ with_slots xs i ys → ((j : ℕ) → slot_of (said_at es p) j ≡ slot_at xs j)
+pub changed_at : (es fs : List (ℕ × List (Option Byte))) (a : ℕ) (ys xs w : List (Option Byte)) (p i : ℕ) → a % 256 + length ys ≤ 256 → length xs ≡ 256
+    → p ≡ a / 256 → i ≡ a % 256 → w ≡ with_slots xs i ys → ((j : ℕ) → slot_of (said_at es p) j ≡ slot_at xs j)
     → ((k : ℕ) → said_at fs k ≡ cond (is_at (nat_cmp p) k) (Some w) (said_at es k)) → stored fs ≡ put_slots (stored es) a ys
 changed_at es fs a ys xs w p i within wide ep ei ew was is = changed es fs a ys xs within wide
     (λ j. ap (λ k. slot_of (said_at es k) j) (sym ep) ∙ was j)
     (λ k. is k ∙ ap (λ t. cond (is_at (nat_cmp t) k) (Some w) (said_at es k)) ep
-    ∙ ap (λ t. cond (is_at (nat_cmp (a / 16)) k) (Some t) (said_at es k)) (ew ∙ ap (λ t. with_slots xs t ys) ei))
+    ∙ ap (λ t. cond (is_at (nat_cmp (a / 256)) k) (Some t) (said_at es k)) (ew ∙ ap (λ t. with_slots xs t ys) ei))
 
 -- what stands at an address of a page that is there, or of one that is not
-pub page_says : (es : List (ℕ × List (Option Byte))) (a k p i : ℕ) (xs : List (Option Byte)) → p ≡ a / 16 → i ≡ a % 16 → Some xs ≡ said_at es p → a % 16 + k < 16 → get (stored es) (a + k) ≡ slot_at xs (i + k)
+pub page_says : (es : List (ℕ × List (Option Byte))) (a k p i : ℕ) (xs : List (Option Byte)) → p ≡ a / 256 → i ≡ a % 256 → Some xs ≡ said_at es p → a % 256 + k < 256 → get (stored es) (a + k) ≡ slot_at xs (i + k)
 page_says es a k p i xs ep ei says few =
-    let e : (a + k) / 16 ≡ a / 16 = omega arith in
-    let f : (a + k) % 16 ≡ a % 16 + k = omega arith in
-    get_stored es (a + k) ∙ ap (λ q. slot_of (said_at es q) ((a + k) % 16)) (e ∙ sym ep) ∙ ap (λ o. slot_of o ((a + k) % 16)) (sym says) ∙ ap (slot_at xs) (f ∙ ap (λ j. j + k) (sym ei))
+    let e : (a + k) / 256 ≡ a / 256 = omega arith in
+    let f : (a + k) % 256 ≡ a % 256 + k = omega arith in
+    get_stored es (a + k) ∙ ap (λ q. slot_of (said_at es q) ((a + k) % 256)) (e ∙ sym ep) ∙ ap (λ o. slot_of o ((a + k) % 256)) (sym says) ∙ ap (slot_at xs) (f ∙ ap (λ j. j + k) (sym ei))
 
-pub no_page : (es : List (ℕ × List (Option Byte))) (a k p : ℕ) → p ≡ a / 16 → None ≡ said_at es p → a % 16 + k < 16 → get (stored es) (a + k) ≡ None
+pub no_page : (es : List (ℕ × List (Option Byte))) (a k p : ℕ) → p ≡ a / 256 → None ≡ said_at es p → a % 256 + k < 256 → get (stored es) (a + k) ≡ None
 no_page es a k p ep says few =
-    let e : (a + k) / 16 ≡ a / 16 = omega arith in
-    get_stored es (a + k) ∙ ap (λ q. slot_of (said_at es q) ((a + k) % 16)) (e ∙ sym ep) ∙ ap (λ o. slot_of o ((a + k) % 16)) (sym says)
+    let e : (a + k) / 256 ≡ a / 256 = omega arith in
+    get_stored es (a + k) ∙ ap (λ q. slot_of (said_at es q) ((a + k) % 256)) (e ∙ sym ep) ∙ ap (λ o. slot_of o ((a + k) % 256)) (sym says)
 
 -- where a range has bytes and its first address has none it is empty
 pub none_written : (m : Store) (a : ℕ) (bs : List Byte) → HasBytes m a (length bs) → get m (a + 0) ≡ None → m ≡ written m a bs

@@ -5,7 +5,6 @@ use pv_num::{Clause, Fault, Reason};
 use pv_script::Names;
 use pv_watch::{Attend, Event, Hall, NoMemory, Verdict, Watch, What};
 use std::alloc::Global;
-use std::test::Fail;
 
 /// A watcher of a kind that has a text of its own, with room for some events.
 #[derive(Drop)]
@@ -97,41 +96,41 @@ static EVENTS: [(What, &[u8]); 4] = [
 
 /// Two of one kind, one that wants one event, and one of a kind that is dropped.
 #[test]
-fn tells_those_who_are_present(rt: HostRuntime) -> Result<(), Fail> {
+fn tells_those_who_are_present(rt: HostRuntime) {
     let alloc = rt.alloc();
     let mut watchers: Vec<Box<dyn Watch>> = Vec::new(alloc);
-    watchers.push(Box::new(alloc, watcher_of(alloc, 7, 3, 10))?)?;
-    watchers.push(Box::new(alloc, watcher_of(alloc, 8, 1, 10))?)?;
-    watchers.push(Box::new(alloc, watcher_of(alloc, 9, 2, 0))?)?;
-    watchers.push(Box::new(alloc, watcher_of(alloc, 7, 9, 10))?)?;
-    let mut hall = Hall::new(alloc, watchers)?;
+    for (kind, wants, room) in [(7, 3, 10), (8, 1, 10), (9, 2, 0), (7, 9, 10)] {
+        assert!(rt; kind > 3 && wants > 0);
+        let watcher = Box::new(alloc, watcher_of(alloc, kind, wants, room)).expect(
+            &rt,
+            "no memory",
+        );
+        watchers.push(watcher).expect(&rt, "no memory");
+    }
+    let mut hall = Hall::new(alloc, watchers).expect(&rt, "no memory");
     hall.keep(&[8, 7]);
     let mut names = Names::new(alloc);
     for (what, name) in EVENTS {
-        names.add(name)?;
-        hall.tell(&Event { turn: 5, what }, &names)?;
+        names.add(name).expect(&rt, "no memory");
+        hall.tell(&Event { turn: 5, what }, &names)
+            .expect(&rt, "no memory");
     }
-    let texts = hall.texts(&names)?;
+    let texts = hall.texts(&names).expect(&rt, "no memory");
     let told = b"kind 7, 3 events, 3 names\nkind 8, 1 events, 1 names\nkind 7, 4 events, 4 names\n";
     assert_eq!(rt; texts.as_slice(), told.as_slice());
-    Ok(())
 }
 
 /// The third event finds no memory.
 #[test]
-fn says_that_memory_ran_out(rt: HostRuntime) -> Result<(), Fail> {
+fn says_that_memory_ran_out(rt: HostRuntime) {
     let alloc = rt.alloc();
     let mut watchers: Vec<Box<dyn Watch>> = Vec::new(alloc);
-    watchers.push(Box::new(alloc, watcher_of(alloc, 7, 9, 2))?)?;
-    let mut hall = Hall::new(alloc, watchers)?;
+    let watcher = Box::new(alloc, watcher_of(alloc, 7, 9, 2)).expect(&rt, "no memory");
+    watchers.push(watcher).expect(&rt, "no memory");
+    let mut hall = Hall::new(alloc, watchers).expect(&rt, "no memory");
     let names = Names::new(alloc);
-    let mut told = 0usize;
-    for (what, _) in EVENTS {
-        if hall.tell(&Event { turn: 1, what }, &names).is_err() {
-            break;
-        }
-        told = told.saturating_add(1);
-    }
-    assert_eq!(rt; told, 2);
-    Ok(())
+    let what = What::Ended { inst: 1 };
+    assert!(rt; hall.tell(&Event { turn: 1, what }, &names).is_ok());
+    assert!(rt; hall.tell(&Event { turn: 2, what }, &names).is_ok());
+    assert!(rt; hall.tell(&Event { turn: 3, what }, &names).is_err());
 }

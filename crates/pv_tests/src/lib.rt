@@ -15,6 +15,8 @@ mod sequences;
 #[cfg(test)]
 mod sources;
 #[cfg(test)]
+mod structures;
+#[cfg(test)]
 mod texts;
 #[cfg(test)]
 mod tokens;

@@ -1,119 +1,123 @@
-//! What no clause says of types: that they are those that a C compiler for the target has.
-//!
-//! Most rows are lines of text, such as `compatible no: *const int, *int`: `lines` reads them, and `claims` says what
-//! they mean. Here are types and their numbers, with what follows from the rules of C17 6.2.5.
-//!
-//! Every function of a crate is proved, those of its tests too. These have no clause to prove: they call with what they
-//! have tested, and stop where it is not so.
-use lines::check;
+// Types, their layouts, and through which types they are accessed. Tables of many types stand in `layer-tests`.
+//
+// Many short tests: what a test costs to prove grows faster than the number of its calls.
+ghost use Rattle.std.specs.Prelude.{◌<◌, ◌≤◌, ◌^◌, length, IsTrue};
+ghost use Rattle.pv_types.specs.Known.{tree, env};
+ghost use Rattle.pv_types.specs.Layouts.{is_complete_in, layout_in};
 
-mod claims;
-mod compatible;
-mod effects;
-mod layouts;
-mod lines;
+use crate::structures::pair;
+use pv_effect::{permits_declared, permits_marks};
+use pv_layout::{align, bare, leaf_at, measure, member, part_at, size, struct_number};
+use pv_num::IntKind;
+use pv_types::{Term, TypeId, Types};
+use std::process::Abort;
 
-/// Types that are made more than once.
-static NUMBERS: &str = "same yes: *int, *int
-same no: *int, const *int
-complete yes: const *int
-same yes: (int, int) int, (int, int) int
-same no: (int, int) int, () int
-complete no: (int, int) int";
-
-/// A structure, a union whose members are not known, and types that are made of it.
-static COMPLETENESS: &str = "layout 4 4: X0 = struct {int@0}
-complete yes: X0
-type X1 = union {}
-complete no: X1
-complete yes: *X1
-complete no: [4]X1
-complete no: void
-complete no: []*X1";
-
-/// Which types are modifiable (6.3.2.1p1), and what stands under qualifiers.
-static QUALIFIERS: &str = "constant no: int
-constant yes: const int
-constant no: *const int
-constant yes: const *int
-constant yes: [2]const int
-constant no: (const int) int
-type X0 = struct {char@0, int@4}
-type X1 = struct {const char@0, int@4}
-type X2 = struct {X0@0, [2]X1@8}
-type X3 = struct {}
-constant no: X0
-constant yes: X1
-constant yes: X2
-constant yes: [3]X2
-constant no: *X2
-constant no: X3
-bare yes: int, int
-bare yes: const const int, int
-bare no: const *const int, *int
-bare yes: const *const int, *const int
-bare yes: const [2]const int, [2]const int
-bare yes: const X2, X2";
-
+/// `int f(int, ...)`
 #[test]
-fn numbers_and_completeness(rt: HostRuntime) {
-    check(&rt, rt.alloc(), &[NUMBERS, COMPLETENESS, QUALIFIERS]);
+fn a_function_type_is_made(rt: HostRuntime) {
+    let alloc = rt.alloc();
+    let mut types = Types::new(alloc).expect(&rt, "no memory");
+    let int = types
+        .intern(Term::Int(IntKind::Int))
+        .expect(&rt, "no memory");
+    assert!(rt; types.is_adjusted(int));
+    let list = vec![in alloc; int].expect(&rt, "no memory");
+    let params = types.params(list).expect(&rt, "no memory");
+    assert!(rt; types.param_list(params) == [int].as_slice());
+    let term = Term::Function {
+        result: int,
+        params,
+        variadic: true,
+    };
+    let function = types.intern(term).expect(&rt, "no memory");
+    assert!(rt; types.has(function) && types.view(function) == term);
 }
 
-/// A structure with its members. Where they begin is kept from the time that the next type is made.
-static MEMBERS: &str = "type X0 = int
-type X1 = char
-type X2 = struct {X1@0, X0@4, X1@8}";
-
-/// What stands in each of its bytes. No line makes a type.
-static BYTES: &str = "members X2 {X1@0, X0@4, X1@8}
-suits no, no: X2 + 0, X0
-suits yes, yes: X2 + 0, X1
-suits no, no: X2 + 1, X0
-suits no, no: X2 + 1, X1
-suits no, no: X2 + 2, X0
-suits no, no: X2 + 2, X1
-suits no, no: X2 + 3, X0
-suits no, no: X2 + 3, X1
-suits yes, yes: X2 + 4, X0
-suits no, no: X2 + 4, X1
-suits no, no: X2 + 5, X0
-suits no, no: X2 + 5, X1
-suits no, no: X2 + 6, X0
-suits no, no: X2 + 6, X1
-suits no, no: X2 + 7, X0
-suits no, no: X2 + 7, X1
-suits no, no: X2 + 8, X0
-suits yes, yes: X2 + 8, X1
-suits no, no: X2 + 9, X0
-suits no, no: X2 + 9, X1
-suits no, no: X2 + 10, X0
-suits no, no: X2 + 10, X1
-suits no, no: X2 + 11, X0
-suits no, no: X2 + 11, X1
-suits no, no: X2 + 12, X0
-suits no, no: X2 + 12, X1
-suits no, no: X2 + 13, X0
-suits no, no: X2 + 13, X1";
-
-static ONE_MORE: &str = "complete yes: *X2";
-
+/// A qualified type is another one, which the qualifier can be taken from.
 #[test]
-fn members_are_found_before_their_places_are_kept(rt: HostRuntime) {
-    check(&rt, rt.alloc(), &[MEMBERS, BYTES, ONE_MORE, BYTES]);
+fn qualifiers_make_other_types(rt: HostRuntime) {
+    let mut types = Types::new(rt.alloc()).expect(&rt, "no memory");
+    let int = types
+        .intern(Term::Int(IntKind::Int))
+        .expect(&rt, "no memory");
+    let constant = types.intern(Term::Const(int)).expect(&rt, "no memory");
+    assert!(rt; types.compatible(int, int) && !types.compatible(int, constant));
+    assert!(rt; types.has_const(constant) && bare(&types, constant) == int);
 }
 
-/// A union and a structure with so many members that their names are kept from the time that the next type is made.
-static MANY: &str = "type X0 = int
-type X1 = char
-type X2 = union {X1@0, X0@0, X1@0, X1@0, X0@0, X0@0, X1@0, X0@0, X1@0, X1@0}
-type X3 = struct {X1@0, X0@4, X1@8, X1@9, X0@12, X0@16, X1@20, X0@24, X1@28, X1@29}";
-
-/// Where each stands. No line makes a type.
-static NAMES: &str = "members X2 {X1@0, X0@0, X1@0, X1@0, X0@0, X0@0, X1@0, X0@0, X1@0, X1@0}
-members X3 {X1@0, X0@4, X1@8, X1@9, X0@12, X0@16, X1@20, X0@24, X1@28, X1@29}";
-
+/// An `int` takes four bytes at addresses that four divides.
 #[test]
-fn members_are_found_before_their_names_are_kept(rt: HostRuntime) {
-    check(&rt, rt.alloc(), &[MANY, NAMES, ONE_MORE, NAMES]);
+fn an_integer_is_laid_out(rt: HostRuntime) {
+    let mut types = Types::new(rt.alloc()).expect(&rt, "no memory");
+    let int = types
+        .intern(Term::Int(IntKind::Int))
+        .expect(&rt, "no memory");
+    assert!(rt; types.is_complete(int));
+    assert!(rt; types.extent(int).align == 4 && measure(&types, int) == Some(4));
+    assert!(rt; size(&types, int) == 4 && align(&types, int) == 4);
+}
+
+/// The complete type of this number.
+fn object(rt: &impl Abort, types: &Types, t: TypeId) -> TypeId
+    ensures known { result.0 < length types.now.terms }
+    ensures complete { IsTrue (is_complete_in (env types.now) (tree types.now result.0)) }
+    ensures small { (layout_in (env types.now) (tree types.now result.0)).size ≤ 2 ^ 32 }
+{
+    assert!(rt; types.has(t));
+    assert!(rt; types.is_complete(t) && measure(types, t).is_some());
+    t
+}
+
+/// Whether the first bytes, as many as the type has, may be read through it.
+fn is_read(types: &Types, want: TypeId, marks: &[Option<(u32, u8)>]) -> bool
+    requires known { want.0 < length types.now.terms }
+    requires complete { IsTrue (is_complete_in (env types.now) (tree types.now want.0)) }
+    requires small { (layout_in (env types.now) (tree types.now want.0)).size ≤ 2 ^ 32 }
+{
+    let bytes = size(types, want) as usize;
+    bytes <= marks.len() && permits_marks(types, &marks[..bytes], want)
+}
+
+/// The byte of a `char` that was stored may be read as a `char`.
+#[test]
+fn stored_bytes_are_read_by_their_type(rt: HostRuntime) {
+    let mut types = Types::new(rt.alloc()).expect(&rt, "no memory");
+    let char = types
+        .intern(Term::Int(IntKind::Char))
+        .expect(&rt, "no memory");
+    let want = object(&rt, &types, char);
+    assert!(rt; is_read(&types, want, &[Some((char.0, 0))]));
+}
+
+/// The member of this number.
+fn numbered(types: &Types, whole: TypeId, number: u32) -> Option<(u64, TypeId)>
+    requires known { whole.0 < length types.now.terms }
+    requires complete { IsTrue (is_complete_in (env types.now) (tree types.now whole.0)) }
+    requires small { (layout_in (env types.now) (tree types.now whole.0)).size ≤ 2 ^ 32 }
+{
+    match types.view(whole) {
+        Term::Struct(tag) => struct_number(types, tag, u64::from(number)),
+        _ => None,
+    }
+}
+
+/// The second member, by its name and by its number, where gcc for x86-64 lays it.
+#[test]
+fn members_are_found(rt: HostRuntime) {
+    let mut types = Types::new(rt.alloc()).expect(&rt, "no memory");
+    let (pair, int) = pair(&rt, rt.alloc(), &mut types);
+    let whole = object(&rt, &types, pair);
+    assert!(rt; member(&types, whole, 1) == Some((4, int)));
+    assert!(rt; numbered(&types, whole, 1) == Some((4, int)));
+}
+
+/// An `int` stands at the fourth byte of the structure, and may be accessed there.
+#[test]
+fn parts_are_found(rt: HostRuntime) {
+    let mut types = Types::new(rt.alloc()).expect(&rt, "no memory");
+    let (pair, int) = pair(&rt, rt.alloc(), &mut types);
+    let whole = object(&rt, &types, pair);
+    let part = object(&rt, &types, int);
+    assert!(rt; leaf_at(&types, whole, 4, part) && part_at(&types, whole, 4, part));
+    assert!(rt; permits_declared(&types, whole, 4, part));
 }

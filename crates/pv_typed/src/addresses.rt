@@ -4,7 +4,7 @@ ghost use Rattle.std.specs.Option.{option_map};
 ghost use Rattle.std.specs.declared.option.Option.{Option};
 ghost use Rattle.pv_types.specs.Ty.{Ty};
 ghost use Rattle.pv_types.specs.Known.{tree, Known};
-ghost use Rattle.pv_typed.specs.TypedTree.{type_of, form_of};
+ghost use Rattle.pv_typed.specs.TypedTree.{type_of, form_of, is_function};
 ghost use Rattle.pv_typed.specs.TypedUnits.{object_at, literal_at};
 ghost use Rattle.pv_typed.specs.Tables.{Stored, IsExpression, expression_at, whole};
 ghost use Rattle.pv_typed.specs.Formed.{AreKnown};
@@ -171,6 +171,15 @@ fn is_pointer_at(u: &TypedUnit, e: NodeId) -> bool
     pointee(u.types(), u.type_of(e)).is_some()
 }
 
+/// Whether an expression is a function designator.
+fn is_function_at(u: &TypedUnit, e: NodeId) -> bool
+    requires node { IsExpression u.now e }
+    requires known { AreKnown u.now }
+    ensures { result ≡ is_function (type_of (expression_at u.now e)) }
+{
+    matches!(u.types().view(u.type_of(e)), Term::Function { .. })
+}
+
 /// The pointer that an expression is.
 #[cycle(address)]
 fn address(u: &TypedUnit, e: NodeId) -> Option<Const>
@@ -217,6 +226,7 @@ fn place(u: &TypedUnit, e: NodeId) -> Option<Const>
 {
     match u.node(e) {
         Typed::Object(o) => lasting_at(u, o),
+        Typed::Function(f) => Some(Const::Function { function: f }),
         Typed::String(l) => Some(Const::Literal { text: l, offset: 0 }),
         Typed::Subscript(a, b) => {
             let t = u.type_of(e);
@@ -238,7 +248,12 @@ fn place(u: &TypedUnit, e: NodeId) -> Option<Const>
             let p = address(u, a)?;
             moved(u, offset as i128, p)
         }
-        Typed::Indirection(a) => address(u, a),
+        Typed::Indirection(a) => {
+            if is_function_at(u, e) {
+                return None;
+            }
+            address(u, a)
+        }
         _ => None,
     }
 }

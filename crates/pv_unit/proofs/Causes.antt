@@ -1,5 +1,5 @@
 -- What comes of a unit, from what the parts of the code found.
-use Rattle.std.proofs.Common.{◌≡◌, ℕ, ◌≤◌, ◌^◌, List, Result, Ok, Err, IfErr, OnOk, IsTrue, is_some, sym, subst}
+use Rattle.std.proofs.Common.{◌≡◌, ℕ, ◌≤◌, ◌^◌, List, Result, Ok, Err, IfErr, OnOk, IsTrue, is_some, map, sym, ap, ◌∙◌, subst}
 use Rattle.pv_token.specs.Table.{Table}
 use Rattle.pv_tree.specs.Syntax.{DeclarationTree}
 use Rattle.pv_types.specs.Known.{Known, env}
@@ -7,15 +7,19 @@ use Rattle.pv_types.specs.Layouts.{layout_in}
 use Rattle.pv_types.specs.Ty.{StructTag}
 use Rattle.pv_typed.specs.Formed.{AreKnown, Grown}
 use Rattle.pv_typed.specs.Mains.{main_of}
-use Rattle.pv_typed.specs.Tables.{Stored}
+use Rattle.pv_typed.specs.Tables.{Stored, whole}
 use Rattle.pv_typed.specs.TypedUnits.{WholeUnit}
+use Rattle.pv_typed.proofs.Adding.{grown_trans}
 use Rattle.pv_check.specs.Growing.{AreSized}
 use Rattle.pv_check.proofs.Growth.{sized_small}
+use Rattle.pv_check.specs.Raw.{Raw, used_of}
 use Rattle.pv_unit.specs.declared.checking.CheckError.{CheckError}
 use Rattle.pv_unit.specs.declared.checking.CheckError.TheVariants as error
 use Rattle.pv_unit.specs.Checking.{IsCause, IsLack, IsNamed, IsResolved, IsStop}
 use Rattle.pv_unit.specs.Entities.{UnitState}
-use Rattle.pv_unit.specs.Units.{Breaks, IsTyped, Typed, UnitComes, finished, first}
+use Rattle.pv_unit.specs.declared.entities.Outer.{Outer}
+use Rattle.pv_unit.specs.Outside.{unit_state}
+use Rattle.pv_unit.specs.Units.{Breaks, IsTyped, Typed, UnitComes, finished, first, placed_from, statics_from, with_placed, with_statics}
 use Rattle.pv_unit.proofs.Resolutions.{main_found}
 
 pub stop_cause : (t : Table) (ds : List DeclarationTree) (u : UnitState) (e : CheckError) → u ≡ first t → IsStop ds u e → IsCause t ds e
@@ -71,3 +75,18 @@ memory_named t (Err e) h = subst (λ z. IsNamed t z) (sym h) tt
 pub resolved_on : {T E : Type 0} {P : Type 0} (r : Result T E) → P → OnOk r P
 resolved_on (Ok x) h = h
 resolved_on (Err e) h = tt
+
+-- ---- the static objects are noted, and then the functions that are pointed to
+
+pub both_noted : {T E : Type 0} (texts : List (List ℕ)) (s : Raw) (a b c : Stored) (o : Outer) (r : Result T E) → whole b ≡ with_statics (statics_from o.entities 0 (whole a).objects) (whole a)
+    → OnOk r (whole c ≡ with_placed (placed_from (map used_of s.used) 0 (whole b).functions) (whole b)) → OnOk r (whole c ≡ finished (unit_state texts s a o))
+both_noted texts s a b c o (Ok x) h k = k ∙ ap (λ (u : WholeUnit). with_placed (placed_from (map used_of s.used) 0 u.functions) u) h
+both_noted texts s a b c o (Err e) h k = tt
+
+pub types_further : {T E : Type 0} (a b c : Stored) (r : Result T E) → b.known ≡ a.known → OnOk r (c.known ≡ b.known) → OnOk r (c.known ≡ a.known)
+types_further a b c (Ok x) h k = k ∙ h
+types_further a b c (Err e) h k = tt
+
+pub grown_further : {T E : Type 0} (a b c : Stored) (r : Result T E) → Grown a b → OnOk r (Grown b c) → OnOk r (Grown a c)
+grown_further a b c (Ok x) h k = grown_trans a b c h k
+grown_further a b c (Err e) h k = tt

@@ -44,4 +44,5 @@ mod WorkedAnswers
 mod WorkedConstants
 mod WorkedDeclarations
 mod WorkedLayouts
+mod WorkedPointers
 mod WorkedUnits

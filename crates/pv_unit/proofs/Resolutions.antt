@@ -1,28 +1,22 @@
 -- Names that nothing defines, `main`, and static objects: what the code's steps come to.
-use Rattle.std.proofs.Common.{◌≡◌, ℕ, ◌+◌, ◌<◌, ◌≤◌, Bool, true, false, nat_eq, List, [], ◌∷◌, ◌++◌, Some, None, length, map, take, drop, suc, get_or, eq-eqb, refl, sym, ◌∙◌, ap, subst, arith, append_assoc}
+use Rattle.std.proofs.Common.{◌≡◌, ℕ, ◌+◌, ◌<◌, ◌≤◌, Bool, true, false, List, [], ◌∷◌, ◌++◌, Some, None, Result, Ok, Err, OnOk, length, map, take, drop, suc, get_or, refl, sym, ◌∙◌, ap, arith, append_assoc}
 use Rattle.std.specs.Prelude.{if◌then◌else◌, ◌||◌, ◌&&◌, Option, is_some, IsTrue}
 use Rattle.std.specs.Option.{option_map}
-use Rattle.std.specs.List.{list_any}
 use Rattle.std.proofs.Math.Bool.{or_assoc}
 use Rattle.std.proofs.Math.Seq.{drop-cons}
-use Rattle.std.proofs.lemmas.Bool.Decides.{nat_tests}
-use Rattle.std.proofs.lemmas.List.{drop_all, map_push, take_all, take_more}
-use Rattle.std.proofs.lemmas.List.Folds.{list_any-append}
-use Rattle.indexmap.specs.IndexSet.{insert_key}
-use Rattle.pv_typed.specs.Adding.{with_static}
+use Rattle.std.proofs.lemmas.List.{drop_all, length-map, map_push, take_more}
+use Rattle.pv_typed.specs.Adding.{with_placed as with_one_placed}
 use Rattle.pv_typed.specs.Formed.{Grown}
-use Rattle.pv_tree.specs.declared.nodes.NodeId.{NodeId}
 use Rattle.pv_typed.specs.Mains.{first_main, named_main}
-use Rattle.pv_typed.specs.Nodes.{Tree}
-use Rattle.pv_typed.specs.Tables.{Stored, body_in, whole}
-use Rattle.pv_typed.specs.TypedUnits.{TypedFunction, TypedObject, WholeUnit, no_object}
-use Rattle.pv_typed.proofs.Adding.{grown_refl, grown_trans}
+use Rattle.pv_typed.specs.Tables.{Stored, function_in, nodes, whole}
+use Rattle.pv_typed.specs.TypedUnits.{TypedFunction, WholeUnit, function_at, no_function}
+use Rattle.pv_typed.proofs.Adding.{grown_trans}
 use Rattle.pv_check.specs.declared.scopes.Named.{Named}
 use Rattle.pv_check.specs.Raw.{used_of}
-use Rattle.pv_check.specs.State.{State, Used, UsedObject, UsedFunction}
+use Rattle.pv_check.specs.State.{State, Used}
 use Rattle.pv_unit.specs.Entities.{Entity}
-use Rattle.pv_unit.specs.Resolving.{has_in}
-use Rattle.pv_unit.specs.Units.{has_main_in, is_defined, is_main_function, is_unresolved, is_used, statics_from, unresolved, uses, with_statics}
+use Rattle.pv_unit.specs.Resolving.{placed_if}
+use Rattle.pv_unit.specs.Units.{has_main_in, is_main_function, is_pointed, is_unresolved, is_used, placed_from, points, statics_from, unresolved, uses, with_placed, with_statics}
 
 -- ---- what expressions name
 
@@ -43,6 +37,16 @@ pub used_next : (f : Bool) (k : ℕ) (used : List Named) (i : ℕ) (d : Named) (
 used_next f k used i d was now lt before more =
     let u = used_of (get_or used i d) in
     more ∙ ap (λ b. b || uses f k u) before ∙ sym (used_last f k (map used_of (take i used)) u) ∙ ap (is_used f k) (sym (map_push used_of (take i used) (get_or used i d))) ∙ ap (λ us. is_used f k (map used_of us)) (sym (take_more used i d lt))
+
+pointed_last : (k : ℕ) (us : List Used) (u : Used) → is_pointed k (us ++ (u ∷ [])) ≡ (is_pointed k us || points k u)
+pointed_last k [] u = or_false (points k u)
+pointed_last k (x ∷ us) u = ap (λ b. points k x || b) (pointed_last k us u) ∙ sym (or_assoc (points k x) (is_pointed k us) (points k u))
+
+pub pointed_next : (k : ℕ) (used : List Named) (i : ℕ) (d : Named) (was now : Bool) → i < length used → was ≡ is_pointed k (map used_of (take i used)) → now ≡ (was || points k (used_of (get_or used i d)))
+    → now ≡ is_pointed k (map used_of (take (i + 1) used))
+pointed_next k used i d was now lt before more =
+    let u = used_of (get_or used i d) in
+    more ∙ ap (λ b. b || points k u) before ∙ sym (pointed_last k (map used_of (take i used)) u) ∙ ap (is_pointed k) (sym (map_push used_of (take i used) (get_or used i d))) ∙ ap (λ us. is_pointed k (map used_of us)) (sym (take_more used i d lt))
 
 -- ---- one entity after the other
 
@@ -95,6 +99,11 @@ pub main_found : (names : List (List ℕ)) (fs : List TypedFunction) → has_mai
 main_found names [] e = absurd cc
 main_found names (f ∷ fs) e = main_further names fs (is_some f.body) (named_main names f.name) (main_found names fs) e
 
+-- where one of the functions is `main`, there is one
+pub some_function : (names : List (List ℕ)) (fs : List TypedFunction) → IsTrue (is_some (first_main names fs)) → 0 < length fs
+some_function names [] h = absurd cc
+some_function names (f ∷ fs) h = omega arith
+
 -- ---- static objects
 
 -- the objects up to a number are noted, where they are static and defined
@@ -108,3 +117,52 @@ pub record Noting (m0 : Stored) (es : List Entity) (i : ℕ) (m : Stored) : Type
 nil_right : {A : Type 0} (xs : List A) → xs ≡ xs ++ []
 nil_right [] = refl
 nil_right (x ∷ xs) = ap (λ ys. x ∷ ys) (nil_right xs)
+
+-- ---- functions that are pointed to
+
+-- the functions up to a number are noted, where they are pointed to and have a body
+pub record Placing (m0 : Stored) (used : List Named) (i : ℕ) (m : Stored) : Type 0 where
+  pub grown : Grown m0 m
+  pub known : m.known ≡ m0.known
+  pub functions : (whole m).functions ≡ (whole m0).functions
+  pub counted : length m.functions ≡ length m0.functions
+  pub left : with_placed (placed_from (map used_of used) i (drop i (whole m0).functions)) (whole m) ≡ with_placed (placed_from (map used_of used) 0 (whole m0).functions) (whole m0)
+
+placed_functions : (b : Bool) (f : ℕ) (u : WholeUnit) → (placed_if b f u).functions ≡ u.functions
+placed_functions true f u = refl
+placed_functions false f u = refl
+
+placed_step : (b : Bool) (us : List Used) (i : ℕ) (rest : List TypedFunction) (u : WholeUnit)
+    → with_placed (placed_from us (i + 1) rest) (placed_if b i u) ≡ with_placed (if b then i ∷ placed_from us (i + 1) rest else placed_from us (i + 1) rest) u
+placed_step true us i rest u = ap (λ (ps : List ℕ). record u { placed = ps }) (append_assoc u.placed (i ∷ []) (placed_from us (i + 1) rest))
+placed_step false us i rest u = refl
+
+-- one function more
+pub placing_next : (m0 m n : Stored) (used : List Named) (i : ℕ) → i < length (whole m0).functions → Placing m0 used i m → Grown m n → n.known ≡ m.known
+    → whole n ≡ placed_if (is_some (function_at (whole m) i).body && is_pointed i (map used_of used)) i (whole m) → Placing m0 used (i + 1) n
+placing_next m0 m n used i lt p grown known is =
+    let us = map used_of used in
+    let fs = (whole m0).functions in
+    let f : TypedFunction = get_or fs i no_function in
+    let here : Bool = is_some (function_at (whole m) i).body && is_pointed i us in
+    let functions : (whole n).functions ≡ fs = ap (λ (u : WholeUnit). u.functions) is ∙ placed_functions here i (whole m) ∙ p.functions in
+    let as_long : length (whole n).functions ≡ length fs = ap (λ (gs : List TypedFunction). length gs) functions in
+    let before = length-map m0.functions (function_in m0.known (nodes m0)) in
+    let behind = length-map n.functions (function_in n.known (nodes n)) in
+    let step : i + 1 ≡ suc i = omega arith in record {
+      grown = grown_trans m0 m n p.grown grown;
+      known = known ∙ p.known;
+      functions = functions;
+      counted = omega (arith, as_long, before, behind);
+      left =
+          ap (λ (u : WholeUnit). with_placed (placed_from us (i + 1) (drop (i + 1) fs)) u) is
+          ∙ placed_step here us i (drop (i + 1) fs) (whole m)
+          ∙ ap (λ (gs : List TypedFunction). with_placed (if is_some (get_or gs i no_function).body && is_pointed i us then i ∷ placed_from us (i + 1) (drop (i + 1) fs) else placed_from us (i + 1) (drop (i + 1) fs)) (whole m)) p.functions
+          ∙ ap (λ (j : ℕ). with_placed (placed_from us i (f ∷ drop j fs)) (whole m)) step
+          ∙ ap (λ (gs : List TypedFunction). with_placed (placed_from us i gs) (whole m)) (sym (drop-cons fs i no_function lt))
+          ∙ p.left;
+    }
+
+pub placed_on : {T E : Type 0} (r : Result T E) (w u : WholeUnit) (f : ℕ) (b : Bool) → true ≡ b → OnOk r (w ≡ with_one_placed u f) → OnOk r (w ≡ placed_if b f u)
+placed_on (Ok x) w u f b e h = h ∙ ap (λ (c : Bool). placed_if c f u) e
+placed_on (Err x) w u f b e h = tt

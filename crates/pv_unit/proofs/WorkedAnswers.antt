@@ -115,7 +115,7 @@ judged_from look i d (e ∷ ds) (Some u) = judged_from look (i + 1) e ds (typed_
 
 -- before the first declaration
 abbrev pub nothing : List (List ℕ) → List (List ℕ) → UnitState
-nothing names texts = record { state = record { scopes = no_scope ∷ []; unit = record { names = [] ∷ [] ∷ names; headings = []; completed = []; objects = []; functions = []; literals = []; instances = []; statics = []; tags = []; declarations = 0 }; texts = texts; used = []; unevaluated = false }; entities = []; unsized_typedef = false }
+nothing names texts = record { state = record { scopes = no_scope ∷ []; unit = record { names = [] ∷ [] ∷ names; headings = []; completed = []; objects = []; functions = []; literals = []; instances = []; statics = []; placed = []; tags = []; declarations = 0 }; texts = texts; used = []; unevaluated = false }; entities = []; unsized_typedef = false }
 
 -- what comes of a unit with these names and texts
 abbrev pub judged_by : Look → List (List ℕ) → List (List ℕ) → List DeclarationTree → Answer

@@ -3,11 +3,11 @@ use Rattle.std.proofs.Common.{◌≡◌, ℕ, ◌-◌, ℤ, pos, negsuc, unsigne
 use Rattle.pv_token.specs.declared.words.Word.TheVariants as word
 use Rattle.pv_tree.specs.declared.operators.UnaryOperator.TheVariants as unary
 use Rattle.pv_tree.specs.declared.operators.BinaryOperator.TheVariants as op
-use Rattle.pv_tree.specs.Syntax.{Name, Number, Character, Text, Paren, Index, Call, Member, Arrow, PostIncrement, Unary, SizeofExpr, SizeofType, Cast, Binary, Conditional, Comma, NoArguments, DeclarationTree, Function, Declaration, InitDeclarator, MemberDeclaration, Enumerator, Parameter, TypeName, DeclaredName, ParenDeclarator, Pointer, Array, FunctionDeclarator, AbstractPointer, AbstractArray, Keyword, Composite, Enumeration, Tag, Initial, Braces, Block, Switch, SwitchBlock, Labelled, Case, Default, Return, OfExpression, OfDeclaration, OfDeclarator, OfSpecifier, OfInitializer, OfStatement, NoTrees, Then, Absent, Present}
+use Rattle.pv_tree.specs.Syntax.{Name, Number, Character, Text, Paren, Index, Call, Member, Arrow, PostIncrement, Unary, SizeofExpr, SizeofType, Cast, Binary, Conditional, Comma, NoArguments, DeclarationTree, Function, Declaration, InitDeclarator, MemberDeclaration, Enumerator, Parameter, TypeName, DeclaredName, ParenDeclarator, Pointer, Array, FunctionDeclarator, AbstractPointer, AbstractArray, Keyword, Composite, Enumeration, Tag, Initial, Braces, Block, Switch, SwitchBlock, Labelled, Case, Default, Return, OfExpression, OfDeclaration, OfDeclarator, OfSpecifier, OfInitializer, OfStatement, NoTrees, Then, Absent, Present, AbstractFunction, AbstractParen}
 use Rattle.pv_types.specs.Layouts.{layouts_of}
 use Rattle.pv_types.specs.Compatible.{are_compatible}
 use Rattle.pv_check.specs.Words.{type_of_words}
-use Rattle.pv_typed.specs.TypedUnits.{WholeUnit, StoredValue, ValueOf, TextOf, literal_at, object_at}
+use Rattle.pv_typed.specs.TypedUnits.{WholeUnit, StoredValue, ValueOf, TextOf, literal_at, object_at, function_at}
 use Rattle.pv_check.specs.Library.{library_named}
 use Rattle.pv_unit.specs.Initialized.{initialized_object}
 use Rattle.pv_unit.specs.ValueRules.{values}
@@ -28,6 +28,7 @@ coded u (Some (const.Int n)) = 0 ∷ sign_of n ∷ unsigned_abs n ∷ []
 coded u (Some (const.Address o n)) = 1 ∷ ((object_at u o).name - 2) ∷ n ∷ []
 coded u (Some (const.Literal l n)) = 2 ∷ length (literal_at u l).bytes ∷ n ∷ []
 coded u (Some const.Null) = 3 ∷ []
+coded u (Some (const.Function f)) = 4 ∷ ((function_at u f).name - 2) ∷ []
 
 -- of a static object, the constants of its stores
 abbrev constant_code : WholeUnit → Bool → StoredValue → List ℕ
@@ -40,6 +41,21 @@ constant_look u o v = constant_code u o.lasting v
 
 abbrev judged : List (List ℕ) → List (List ℕ) → List DeclarationTree → Answer
 judged names texts ds = judged_by constant_look names texts ds
+
+-- 6.6p9: addresses of functions
+function_addresses :
+    -- int one(void){return 1;} int (*p)(void) = one; int (*q)(void) = &one; long (*r)(void) = (long (*)(void))one; int (*s)(void) = 0; _Bool b = one; int main(void){return 0;}
+    (judged ((111 ∷ 110 ∷ 101 ∷ []) ∷ (112 ∷ []) ∷ (113 ∷ []) ∷ (114 ∷ []) ∷ (115 ∷ []) ∷ (98 ∷ []) ∷ (109 ∷ 97 ∷ 105 ∷ 110 ∷ []) ∷ []) ([]) ((Function 1 (Then NoTrees (OfSpecifier (Keyword 1 word.Int))) (FunctionDeclarator 1 (DeclaredName 1 0) (Then NoTrees (OfDeclaration (Parameter 1 (Then NoTrees (OfSpecifier (Keyword 1 word.Void))) Absent))) false) (Block 1 (Then NoTrees (OfStatement (Return 1 (Present (OfExpression (Number 1 1 true false 0)))))))) ∷ (Declaration 1 (Then NoTrees (OfSpecifier (Keyword 1 word.Int))) (Then NoTrees (OfDeclaration (InitDeclarator 1 (FunctionDeclarator 1 (ParenDeclarator 1 (Pointer 1 0 (DeclaredName 1 1))) (Then NoTrees (OfDeclaration (Parameter 1 (Then NoTrees (OfSpecifier (Keyword 1 word.Void))) Absent))) false) (Present (OfInitializer (Initial 1 (Name 1 0)))))))) ∷ (Declaration 1 (Then NoTrees (OfSpecifier (Keyword 1 word.Int))) (Then NoTrees (OfDeclaration (InitDeclarator 1 (FunctionDeclarator 1 (ParenDeclarator 1 (Pointer 1 0 (DeclaredName 1 2))) (Then NoTrees (OfDeclaration (Parameter 1 (Then NoTrees (OfSpecifier (Keyword 1 word.Void))) Absent))) false) (Present (OfInitializer (Initial 1 (Unary 1 unary.Address (Name 1 0))))))))) ∷ (Declaration 1 (Then NoTrees (OfSpecifier (Keyword 1 word.Long))) (Then NoTrees (OfDeclaration (InitDeclarator 1 (FunctionDeclarator 1 (ParenDeclarator 1 (Pointer 1 0 (DeclaredName 1 3))) (Then NoTrees (OfDeclaration (Parameter 1 (Then NoTrees (OfSpecifier (Keyword 1 word.Void))) Absent))) false) (Present (OfInitializer (Initial 1 (Cast 1 (TypeName 1 (Then NoTrees (OfSpecifier (Keyword 1 word.Long))) (Present (OfDeclarator (AbstractFunction 1 (Present (OfDeclarator (AbstractParen 1 (AbstractPointer 1 0 Absent)))) (Then NoTrees (OfDeclaration (Parameter 1 (Then NoTrees (OfSpecifier (Keyword 1 word.Void))) Absent))) false)))) (Name 1 0))))))))) ∷ (Declaration 1 (Then NoTrees (OfSpecifier (Keyword 1 word.Int))) (Then NoTrees (OfDeclaration (InitDeclarator 1 (FunctionDeclarator 1 (ParenDeclarator 1 (Pointer 1 0 (DeclaredName 1 4))) (Then NoTrees (OfDeclaration (Parameter 1 (Then NoTrees (OfSpecifier (Keyword 1 word.Void))) Absent))) false) (Present (OfInitializer (Initial 1 (Number 1 0 false false 0)))))))) ∷ (Declaration 1 (Then NoTrees (OfSpecifier (Keyword 1 word.Bool))) (Then NoTrees (OfDeclaration (InitDeclarator 1 (DeclaredName 1 5) (Present (OfInitializer (Initial 1 (Name 1 0)))))))) ∷ (Function 1 (Then NoTrees (OfSpecifier (Keyword 1 word.Int))) (FunctionDeclarator 1 (DeclaredName 1 6) (Then NoTrees (OfDeclaration (Parameter 1 (Then NoTrees (OfSpecifier (Keyword 1 word.Void))) Absent))) false) (Block 1 (Then NoTrees (OfStatement (Return 1 (Present (OfExpression (Number 1 0 false false 0)))))))) ∷ []) ≡ Accepted ((0 ∷ 1 ∷ 0 ∷ 8 ∷ 1 ∷ 0 ∷ 4 ∷ 0 ∷ []) ∷ (0 ∷ 1 ∷ 0 ∷ 8 ∷ 1 ∷ 0 ∷ 4 ∷ 0 ∷ []) ∷ (0 ∷ 1 ∷ 0 ∷ 8 ∷ 1 ∷ 0 ∷ 4 ∷ 0 ∷ []) ∷ (0 ∷ 1 ∷ 0 ∷ 8 ∷ 1 ∷ 0 ∷ 3 ∷ []) ∷ (0 ∷ 1 ∷ 0 ∷ 1 ∷ 1 ∷ 0 ∷ 0 ∷ 0 ∷ 1 ∷ []) ∷ []) (1 ∷ 2 ∷ 3 ∷ 4 ∷ 5 ∷ []) ([]) ((1 ∷ 1 ∷ 0 ∷ 16 ∷ 1 ∷ 1 ∷ 99 ∷ []) ∷ (1 ∷ 1 ∷ 0 ∷ 16 ∷ 1 ∷ 1 ∷ 99 ∷ []) ∷ []))
+    -- int one(void){return 1;} int (*p)(void) = *one; int main(void){return 0;}
+    × (judged ((111 ∷ 110 ∷ 101 ∷ []) ∷ (112 ∷ []) ∷ (109 ∷ 97 ∷ 105 ∷ 110 ∷ []) ∷ []) ([]) ((Function 1 (Then NoTrees (OfSpecifier (Keyword 1 word.Int))) (FunctionDeclarator 1 (DeclaredName 1 0) (Then NoTrees (OfDeclaration (Parameter 1 (Then NoTrees (OfSpecifier (Keyword 1 word.Void))) Absent))) false) (Block 1 (Then NoTrees (OfStatement (Return 1 (Present (OfExpression (Number 1 1 true false 0)))))))) ∷ (Declaration 1 (Then NoTrees (OfSpecifier (Keyword 1 word.Int))) (Then NoTrees (OfDeclaration (InitDeclarator 1 (FunctionDeclarator 1 (ParenDeclarator 1 (Pointer 1 0 (DeclaredName 1 1))) (Then NoTrees (OfDeclaration (Parameter 1 (Then NoTrees (OfSpecifier (Keyword 1 word.Void))) Absent))) false) (Present (OfInitializer (Initial 1 (Unary 1 unary.Indirection (Name 1 0))))))))) ∷ (Function 1 (Then NoTrees (OfSpecifier (Keyword 1 word.Int))) (FunctionDeclarator 1 (DeclaredName 1 2) (Then NoTrees (OfDeclaration (Parameter 1 (Then NoTrees (OfSpecifier (Keyword 1 word.Void))) Absent))) false) (Block 1 (Then NoTrees (OfStatement (Return 1 (Present (OfExpression (Number 1 0 false false 0)))))))) ∷ []) ≡ Refused 1)
+    -- int one(void){return 1;} int (*p)(void) = &*one; int main(void){return 0;}
+    × (judged ((111 ∷ 110 ∷ 101 ∷ []) ∷ (112 ∷ []) ∷ (109 ∷ 97 ∷ 105 ∷ 110 ∷ []) ∷ []) ([]) ((Function 1 (Then NoTrees (OfSpecifier (Keyword 1 word.Int))) (FunctionDeclarator 1 (DeclaredName 1 0) (Then NoTrees (OfDeclaration (Parameter 1 (Then NoTrees (OfSpecifier (Keyword 1 word.Void))) Absent))) false) (Block 1 (Then NoTrees (OfStatement (Return 1 (Present (OfExpression (Number 1 1 true false 0)))))))) ∷ (Declaration 1 (Then NoTrees (OfSpecifier (Keyword 1 word.Int))) (Then NoTrees (OfDeclaration (InitDeclarator 1 (FunctionDeclarator 1 (ParenDeclarator 1 (Pointer 1 0 (DeclaredName 1 1))) (Then NoTrees (OfDeclaration (Parameter 1 (Then NoTrees (OfSpecifier (Keyword 1 word.Void))) Absent))) false) (Present (OfInitializer (Initial 1 (Unary 1 unary.Address (Unary 1 unary.Indirection (Name 1 0)))))))))) ∷ (Function 1 (Then NoTrees (OfSpecifier (Keyword 1 word.Int))) (FunctionDeclarator 1 (DeclaredName 1 2) (Then NoTrees (OfDeclaration (Parameter 1 (Then NoTrees (OfSpecifier (Keyword 1 word.Void))) Absent))) false) (Block 1 (Then NoTrees (OfStatement (Return 1 (Present (OfExpression (Number 1 0 false false 0)))))))) ∷ []) ≡ Refused 1)
+    -- int one(void){return 1;} int (*p)(void) = 1 ? one : 0; int main(void){return 0;}
+    × (judged ((111 ∷ 110 ∷ 101 ∷ []) ∷ (112 ∷ []) ∷ (109 ∷ 97 ∷ 105 ∷ 110 ∷ []) ∷ []) ([]) ((Function 1 (Then NoTrees (OfSpecifier (Keyword 1 word.Int))) (FunctionDeclarator 1 (DeclaredName 1 0) (Then NoTrees (OfDeclaration (Parameter 1 (Then NoTrees (OfSpecifier (Keyword 1 word.Void))) Absent))) false) (Block 1 (Then NoTrees (OfStatement (Return 1 (Present (OfExpression (Number 1 1 true false 0)))))))) ∷ (Declaration 1 (Then NoTrees (OfSpecifier (Keyword 1 word.Int))) (Then NoTrees (OfDeclaration (InitDeclarator 1 (FunctionDeclarator 1 (ParenDeclarator 1 (Pointer 1 0 (DeclaredName 1 1))) (Then NoTrees (OfDeclaration (Parameter 1 (Then NoTrees (OfSpecifier (Keyword 1 word.Void))) Absent))) false) (Present (OfInitializer (Initial 1 (Conditional 1 (Number 1 1 true false 0) (Name 1 0) (Number 1 0 false false 0))))))))) ∷ (Function 1 (Then NoTrees (OfSpecifier (Keyword 1 word.Int))) (FunctionDeclarator 1 (DeclaredName 1 2) (Then NoTrees (OfDeclaration (Parameter 1 (Then NoTrees (OfSpecifier (Keyword 1 word.Void))) Absent))) false) (Block 1 (Then NoTrees (OfStatement (Return 1 (Present (OfExpression (Number 1 0 false false 0)))))))) ∷ []) ≡ Refused 1)
+    -- int one(void){return 1;} void *p = one; int main(void){return 0;}
+    × (judged ((111 ∷ 110 ∷ 101 ∷ []) ∷ (112 ∷ []) ∷ (109 ∷ 97 ∷ 105 ∷ 110 ∷ []) ∷ []) ([]) ((Function 1 (Then NoTrees (OfSpecifier (Keyword 1 word.Int))) (FunctionDeclarator 1 (DeclaredName 1 0) (Then NoTrees (OfDeclaration (Parameter 1 (Then NoTrees (OfSpecifier (Keyword 1 word.Void))) Absent))) false) (Block 1 (Then NoTrees (OfStatement (Return 1 (Present (OfExpression (Number 1 1 true false 0)))))))) ∷ (Declaration 1 (Then NoTrees (OfSpecifier (Keyword 1 word.Void))) (Then NoTrees (OfDeclaration (InitDeclarator 1 (Pointer 1 0 (DeclaredName 1 1)) (Present (OfInitializer (Initial 1 (Name 1 0)))))))) ∷ (Function 1 (Then NoTrees (OfSpecifier (Keyword 1 word.Int))) (FunctionDeclarator 1 (DeclaredName 1 2) (Then NoTrees (OfDeclaration (Parameter 1 (Then NoTrees (OfSpecifier (Keyword 1 word.Void))) Absent))) false) (Block 1 (Then NoTrees (OfStatement (Return 1 (Present (OfExpression (Number 1 0 false false 0)))))))) ∷ []) ≡ Refused 1)
+unfolding type_of_words library_named are_compatible layouts_of initialized_object values
+function_addresses = (refl, refl, refl, refl, refl)
 
 -- 6.6p9: addresses of objects and of elements
 array_addresses :

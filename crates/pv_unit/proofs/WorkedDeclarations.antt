@@ -48,7 +48,7 @@ judged_from i d [] (Some u) = ended i (external d u)
 judged_from i d (e ∷ ds) (Some u) = judged_from (i + 1) e ds (external d u)
 
 abbrev nothing : List (List ℕ) → UnitState
-nothing texts = record { state = record { scopes = no_scope ∷ []; unit = record { names = [] ∷ [] ∷ texts; headings = []; completed = []; objects = []; functions = []; literals = []; instances = []; statics = []; tags = []; declarations = 0 }; texts = []; used = []; unevaluated = false }; entities = []; unsized_typedef = false }
+nothing texts = record { state = record { scopes = no_scope ∷ []; unit = record { names = [] ∷ [] ∷ texts; headings = []; completed = []; objects = []; functions = []; literals = []; instances = []; statics = []; placed = []; tags = []; declarations = 0 }; texts = []; used = []; unevaluated = false }; entities = []; unsized_typedef = false }
 
 abbrev judged : List (List ℕ) → List DeclarationTree → Answer
 judged texts [] = Accepted []
@@ -318,9 +318,9 @@ function_types :
     -- int f(int n, int a[sizeof(int)]);
     × (judged ((102 ∷ []) ∷ (110 ∷ []) ∷ (97 ∷ []) ∷ []) ((Declaration 1 (Then NoTrees (OfSpecifier (Keyword 1 word.Int))) (Then NoTrees (OfDeclaration (InitDeclarator 1 (FunctionDeclarator 1 (DeclaredName 1 0) (Then (Then NoTrees (OfDeclaration (Parameter 1 (Then NoTrees (OfSpecifier (Keyword 1 word.Int))) (Present (OfDeclarator (DeclaredName 1 1)))))) (OfDeclaration (Parameter 1 (Then NoTrees (OfSpecifier (Keyword 1 word.Int))) (Present (OfDeclarator (Array 1 (DeclaredName 1 2) (Present (OfExpression (SizeofType 1 (TypeName 1 (Then NoTrees (OfSpecifier (Keyword 1 word.Int))) Absent)))))))))) false) Absent)))) ∷ []) ≡ Accepted ((Some (4, 4)) ∷ (Some (8, 8)) ∷ []))
     -- int f(int g(void));
-    × (judged ((102 ∷ []) ∷ (103 ∷ []) ∷ []) ((Declaration 1 (Then NoTrees (OfSpecifier (Keyword 1 word.Int))) (Then NoTrees (OfDeclaration (InitDeclarator 1 (FunctionDeclarator 1 (DeclaredName 1 0) (Then NoTrees (OfDeclaration (Parameter 1 (Then NoTrees (OfSpecifier (Keyword 1 word.Int))) (Present (OfDeclarator (FunctionDeclarator 1 (DeclaredName 1 1) (Then NoTrees (OfDeclaration (Parameter 1 (Then NoTrees (OfSpecifier (Keyword 1 word.Void))) Absent))) false)))))) false) Absent)))) ∷ []) ≡ Refused 0)
+    × (judged ((102 ∷ []) ∷ (103 ∷ []) ∷ []) ((Declaration 1 (Then NoTrees (OfSpecifier (Keyword 1 word.Int))) (Then NoTrees (OfDeclaration (InitDeclarator 1 (FunctionDeclarator 1 (DeclaredName 1 0) (Then NoTrees (OfDeclaration (Parameter 1 (Then NoTrees (OfSpecifier (Keyword 1 word.Int))) (Present (OfDeclarator (FunctionDeclarator 1 (DeclaredName 1 1) (Then NoTrees (OfDeclaration (Parameter 1 (Then NoTrees (OfSpecifier (Keyword 1 word.Void))) Absent))) false)))))) false) Absent)))) ∷ []) ≡ Accepted ((Some (8, 8)) ∷ []))
     -- int (*f)(void);
-    × (judged ((102 ∷ []) ∷ []) ((Declaration 1 (Then NoTrees (OfSpecifier (Keyword 1 word.Int))) (Then NoTrees (OfDeclaration (InitDeclarator 1 (FunctionDeclarator 1 (ParenDeclarator 1 (Pointer 1 0 (DeclaredName 1 0))) (Then NoTrees (OfDeclaration (Parameter 1 (Then NoTrees (OfSpecifier (Keyword 1 word.Void))) Absent))) false) Absent)))) ∷ []) ≡ Refused 0)
+    × (judged ((102 ∷ []) ∷ []) ((Declaration 1 (Then NoTrees (OfSpecifier (Keyword 1 word.Int))) (Then NoTrees (OfDeclaration (InitDeclarator 1 (FunctionDeclarator 1 (ParenDeclarator 1 (Pointer 1 0 (DeclaredName 1 0))) (Then NoTrees (OfDeclaration (Parameter 1 (Then NoTrees (OfSpecifier (Keyword 1 word.Void))) Absent))) false) Absent)))) ∷ []) ≡ Accepted ((Some (8, 8)) ∷ []))
     -- int f(void)(void);
     × (judged ((102 ∷ []) ∷ []) ((Declaration 1 (Then NoTrees (OfSpecifier (Keyword 1 word.Int))) (Then NoTrees (OfDeclaration (InitDeclarator 1 (FunctionDeclarator 1 (FunctionDeclarator 1 (DeclaredName 1 0) (Then NoTrees (OfDeclaration (Parameter 1 (Then NoTrees (OfSpecifier (Keyword 1 word.Void))) Absent))) false) (Then NoTrees (OfDeclaration (Parameter 1 (Then NoTrees (OfSpecifier (Keyword 1 word.Void))) Absent))) false) Absent)))) ∷ []) ≡ Refused 0)
     -- int f(void)[3];

@@ -5,7 +5,7 @@ use Rattle.pv_tree.specs.Syntax.{DeclarationTree}
 use Rattle.pv_typed.specs.Mains.{literal_text, heap_text, named_main}
 use Rattle.pv_typed.specs.TypedUnits.{WholeUnit, TypedObject, TypedFunction, name_at}
 use Rattle.pv_check.specs.Library.{library_named}
-use Rattle.pv_check.specs.State.{State, Used, UsedObject, UsedFunction, no_scope, and_then}
+use Rattle.pv_check.specs.State.{State, Used, UsedObject, UsedFunction, PointedFunction, no_scope, and_then}
 use Rattle.pv_unit.specs.Definitions.{may_end}
 use Rattle.pv_unit.specs.Entities.{Entity, UnitState, unit_name, is_entity}
 use Rattle.pv_unit.specs.Functions.{typed_external}
@@ -30,6 +30,7 @@ typed_to ds n u = if nat_lt n (length ds) then typed_first (take n ds) u else an
 abbrev pub uses : Bool → ℕ → Used → Bool
 uses false k (UsedObject o) = o == k
 uses true k (UsedFunction f) = f == k
+uses true k (PointedFunction f) = f == k
 uses _ k _ = false
 
 -- 6.9p5: one of the expressions names it; the operand of sizeof counts as well (our choice)
@@ -91,6 +92,7 @@ first t = record {
       literals = [];
       instances = [];
       statics = [];
+      placed = [];
       tags = [];
       declarations = 0;
     };
@@ -106,9 +108,31 @@ first t = record {
 abbrev pub with_statics : List ℕ → WholeUnit → WholeUnit
 with_statics os u = record u { statics = u.statics ++ os }
 
--- 6.9p1, 6.2.4p3: the unit behind the last one, with the static objects
+-- ---- functions that are pointed to
+
+-- 6.3.2.1p4: a pointer to the function is evaluated
+abbrev pub points : ℕ → Used → Bool
+points k (PointedFunction f) = f == k
+points k _ = false
+
+-- 6.3.2.1p4: so it is in one of the expressions
+abbrev pub is_pointed : ℕ → List Used → Bool
+is_pointed k [] = false
+is_pointed k (x ∷ xs) = points k x || is_pointed k xs
+
+-- 6.3.2.1p4, 6.9.1p1: those of them that the unit defines, from number k on, in the order of their first declarations
+abbrev pub placed_from : List Used → ℕ → List TypedFunction → List ℕ
+placed_from us k [] = []
+placed_from us k (f ∷ fs) = if is_some f.body && is_pointed k us then k ∷ placed_from us (k + 1) fs else placed_from us (k + 1) fs
+
+-- 6.3.2.1p4: the unit with these functions that are pointed to
+abbrev pub with_placed : List ℕ → WholeUnit → WholeUnit
+with_placed fs u = record u { placed = u.placed ++ fs }
+
+-- 6.9p1, 6.2.4p3: the unit behind the last one, with the static objects, and the functions that are pointed to
 abbrev pub finished : UnitState → WholeUnit
-finished u = with_statics (statics_from u.entities 0 u.state.unit.objects) u.state.unit
+finished u =
+    with_placed (placed_from u.state.used 0 u.state.unit.functions) (with_statics (statics_from u.entities 0 u.state.unit.objects) u.state.unit)
 
 -- 5.1.1.3p1: what comes of a unit: its typing, or why there is none
 pub data Checked : Type 0 where
@@ -128,7 +152,8 @@ abbrev pub IsTyped : List DeclarationTree → (before behind : UnitState) → Ty
 IsTyped ds before behind = typed_to ds (length ds) before ≡ Some behind
 
 -- 5.1.1.3p1, 6.9p5, 5.1.2.2.1p1: what a unit comes to: the first constraint that is broken, a name without definition, no `main`, its typing
--- worked: unresolved_names, static_objects (proofs/WorkedUnits)
+-- worked: unresolved_names, static_objects (proofs/WorkedUnits); pointed_rows, unpointed_rows, refused_rows, undefined_rows
+--   (proofs/WorkedPointers)
 abbrev pub UnitComes : Table → List DeclarationTree → Checked → Type 0
 UnitComes t ds (Constraint n) = Breaks ds (first t) n
 UnitComes t ds (Unresolved name) = (u : UnitState) × (IsTyped ds (first t) u × (unresolved u.state u.entities ≡ Some name))

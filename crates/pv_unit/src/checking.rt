@@ -1,26 +1,26 @@
 //! Typing a translation unit (C17 6.9).
-ghost use Rattle.std.specs.Prelude.{◌≡◌, ◌<◌, ◌≤◌, ◌^◌, ◌&&◌, nat_lt, not, ℕ, List, length, Some, is_some, IsTrue, IfOk, IfErr, OnOk};
+ghost use Rattle.std.specs.Prelude.{◌≡◌, ◌<◌, ◌≤◌, ◌^◌, ◌&&◌, nat_lt, not, ℕ, List, map, length, Some, is_some, IsTrue, IfOk, IfErr, OnOk};
 ghost use Rattle.pv_token.specs.Table.{Table};
 ghost use Rattle.pv_tree.specs.Syntax.{DeclarationTree};
 ghost use Rattle.pv_types.specs.Known.{env};
-ghost use Rattle.pv_types.specs.Layouts.{layout_in};
+ghost use Rattle.pv_types.specs.Layouts.{layout_in, AllFill};
 ghost use Rattle.pv_types.specs.Ty.{StructTag};
 ghost use Rattle.pv_typed.specs.Formed.{AreKnown, Grown};
 ghost use Rattle.pv_typed.specs.Mains.{main_of};
 ghost use Rattle.pv_typed.specs.Tables.{whole};
 ghost use Rattle.pv_check.specs.Open.{state_of, IsOpen};
-ghost use Rattle.pv_check.specs.Raw.{Raw};
+ghost use Rattle.pv_check.specs.Raw.{Raw, used_of};
 ghost use Rattle.pv_unit.specs.Checking.{externals_in, IsStop, IsResolved, IsLack, IsCause, IsNamed};
 ghost use Rattle.pv_unit.specs.Definitions.{may_end};
 ghost use Rattle.pv_unit.specs.Outside.{unit_state};
 ghost use Rattle.pv_unit.specs.There.{AreThere};
-ghost use Rattle.pv_unit.specs.Units.{Checked, IsTyped, Typed, UnitComes, finished, first, statics_from, with_statics};
+ghost use Rattle.pv_unit.specs.Units.{Checked, IsTyped, Typed, UnitComes, finished, first, statics_from, with_statics, placed_from, with_placed};
 ghost use Rattle.pv_unit.specs.declared.checking.CheckError.TheVariants.{NoMemory as OutOfMemory};
 
 use crate::ending::may_end;
 use crate::entities::{Entities, Outer};
 use crate::functions::external;
-use crate::resolving::{add_statics, has_main, unresolved};
+use crate::resolving::{add_placed, add_statics, has_main, unresolved};
 use crate::starting::{first_scopes, named_unit};
 use pv_check::Scopes;
 use pv_token::Tokens;
@@ -125,7 +125,33 @@ fn with_statics(into: &mut TypedUnit, outer: &Outer) -> Result<(), CheckError>
     }
 }
 
-/// Looks for names that nothing defines, and for `main`, and notes the static objects.
+/// Notes the functions that are pointed to.
+fn with_placed(s: &Scopes, into: &mut TypedUnit) -> Result<(), CheckError>
+    ensures whole { OnOk result (whole into.new ≡ with_placed (placed_from (map used_of s.now.used) 0 (whole into.old).functions) (whole into.old)) }
+    ensures types { OnOk result (into.new.known ≡ into.old.known) }
+    ensures grown { OnOk result (Grown into.old into.new) }
+    ensures refused { IfErr result (λ e. e ≡ OutOfMemory) }
+{
+    match add_placed(s, into) {
+        Ok(()) => Ok(()),
+        Err(NoMemory) => Err(CheckError::NoMemory),
+    }
+}
+
+/// Notes the static objects, and the functions that are pointed to.
+fn with_both(s: &Scopes, into: &mut TypedUnit, outer: &Outer) -> Result<(), CheckError>
+    ensures whole { (texts : List (List ℕ)) → OnOk result (whole into.new ≡ finished (unit_state texts s.now into.old outer.now)) }
+    ensures types { OnOk result (into.new.known ≡ into.old.known) }
+    ensures grown { OnOk result (Grown into.old into.new) }
+    ensures refused { IfErr result (λ e. e ≡ OutOfMemory) }
+{
+    match with_statics(into, outer) {
+        Ok(()) => with_placed(s, into),
+        Err(e) => Err(e),
+    }
+}
+
+/// Looks for names that nothing defines, and for `main`, and notes the static objects and the functions that are pointed to.
 fn finished(t: &Tokens, s: &Scopes, into: &mut TypedUnit, outer: &Outer) -> Result<(), CheckError>
     requires known { AreKnown into.old }
     ensures fine { OnOk result (IsResolved (unit_state t.now.texts s.now into.old outer.now)) }
@@ -136,7 +162,7 @@ fn finished(t: &Tokens, s: &Scopes, into: &mut TypedUnit, outer: &Outer) -> Resu
     ensures named { IfErr result (IsNamed t.now) }
 {
     match resolved(t, s, into, outer) {
-        Ok(()) => with_statics(into, outer),
+        Ok(()) => with_both(s, into, outer),
         Err(e) => Err(e),
     }
 }
@@ -165,6 +191,16 @@ fn filled(
     }
 }
 
+/// A law of the tables of types, which are those of a unit with a function: each completed structure and union has a byte.
+fn no_empty_tag(into: &TypedUnit)
+    requires known { AreKnown into.now }
+    requires main { IsTrue (is_some (main_of (whole into.now))) }
+    ensures { AllFill (env into.now.known) }
+{
+    let function = into.function(0);
+    let _layer = into.types().view(function.t);
+}
+
 /// Types a unit (C17 6.9). `Constraint` comes exactly where some of the first external declarations have no typing,
 /// and tells how many of them have one; `Unresolved` where they all have one, and an expression names what neither the
 /// unit nor the library defines; `NoMain` where neither is so, and `main` is not defined.
@@ -173,6 +209,7 @@ pub fn check(alloc: Global, u: &Unit, t: &Tokens) -> Result<TypedUnit, CheckErro
     ensures known { IfOk result AreKnown }
     ensures main { IfOk result (λ w. IsTrue (is_some (main_of (whole w)))) }
     ensures small { IfOk result (λ w. (n : ℕ) → (layout_in (env w.known) (StructTag n)).size ≤ 2 ^ 32) }
+    ensures filled { IfOk result (λ w. AllFill (env w.known)) }
     ensures refused { IfErr result (IsCause t.now (externals_in u.now)) }
     ensures named { IfErr result (IsNamed t.now) }
 {
@@ -183,7 +220,10 @@ pub fn check(alloc: Global, u: &Unit, t: &Tokens) -> Result<TypedUnit, CheckErro
         unsized_typedef: false,
     };
     match filled(u, t, &mut s, &mut into, &mut outer) {
-        Ok(()) => Ok(into),
+        Ok(()) => {
+            no_empty_tag(&into);
+            Ok(into)
+        }
         Err(e) => Err(e),
     }
 }

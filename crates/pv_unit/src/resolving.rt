@@ -1,5 +1,5 @@
 //! Names that nothing defines (C17 6.9p5), `main` (C17 5.1.2.2.1), and static objects (C17 6.2.4p3).
-ghost use Rattle.std.specs.Prelude.{◌≡◌, ◌<◌, ◌&&◌, ◌||◌, not, nat_eq, ℕ, Bool, List, true, false, length, map, None, Some, IfOk, OnOk, slice_index_or};
+ghost use Rattle.std.specs.Prelude.{◌≡◌, ◌<◌, ◌&&◌, ◌||◌, not, nat_eq, ℕ, Bool, List, true, false, length, map, None, Some, is_some, IfOk, OnOk, slice_index_or};
 ghost use Rattle.std.specs.Cmp.Lexicographic.{pointwise};
 ghost use Rattle.pv_typed.specs.Formed.{AreKnown, Grown};
 ghost use Rattle.pv_typed.specs.Mains.{main_text};
@@ -8,8 +8,9 @@ ghost use Rattle.pv_typed.specs.TypedUnits.{object_at, function_at};
 ghost use Rattle.pv_check.specs.Open.{state_of, IsOpen};
 ghost use Rattle.pv_check.specs.Raw.{Raw, used_of};
 ghost use Rattle.pv_unit.specs.Entering.{entity_of};
-ghost use Rattle.pv_unit.specs.Resolving.{has_use, AreUses};
-ghost use Rattle.pv_unit.specs.Units.{uses, is_used, is_of_library, is_unresolved, unresolved, is_main_function, has_main, is_defined, statics_from, with_statics};
+ghost use Rattle.pv_unit.specs.Resolving.{has_use, AreUses, ArePointed, placed_if};
+ghost use Rattle.pv_unit.specs.Units.{uses, is_used, is_of_library, is_unresolved, unresolved, is_main_function, has_main, is_defined, statics_from, with_statics, points, is_pointed, placed_from, with_placed};
+ghost use Rattle.std.specs.List.{list_any};
 
 use crate::entities::{Entity, Outer};
 use crate::library_names::is_of_library;
@@ -34,7 +35,7 @@ fn add_use(all: &mut Uses, what: Named) -> Result<(), NoMemory>
         Named::Object(o) => {
             all.objects.insert(o)?;
         }
-        Named::Function(f) => {
+        Named::Function(f) | Named::Pointed(f) => {
             all.functions.insert(f)?;
         }
     }
@@ -140,6 +141,66 @@ pub(crate) fn add_statics(into: &mut TypedUnit, outer: &Outer) -> Result<(), NoM
         if is_static(into, outer, o) {
             into.add_static(o)?;
         }
+    }
+    Ok(())
+}
+
+/// One more use, which may evaluate a pointer to a function.
+fn add_pointed(all: &mut IndexSet<u32>, what: Named) -> Result<(), NoMemory>
+    ensures { OnOk result ((k : ℕ) → list_any (nat_eq k) all.new.keys ≡ (list_any (nat_eq k) all.old.keys || points k (used_of what))) }
+{
+    match what {
+        Named::Pointed(f) => {
+            all.insert(f)?;
+        }
+        Named::Object(_) | Named::Function(_) => {}
+    }
+    Ok(())
+}
+
+/// The numbers of the functions to which pointers are evaluated.
+fn pointed_in(alloc: Global, used: &[Named]) -> Result<IndexSet<u32>, NoMemory>
+    ensures { IfOk result (λ s. ArePointed used.now s.keys) }
+{
+    let mut all = IndexSet::new(alloc);
+    for what in used {
+        add_pointed(&mut all, *what)?;
+    }
+    Ok(all)
+}
+
+/// Whether a pointer to a function is evaluated, and the function has a body.
+fn is_placed(s: &Scopes, into: &TypedUnit, all: &IndexSet<u32>, f: u32) -> bool
+    requires pointed { ArePointed s.now.used all.now.keys }
+    requires function { f < length into.now.functions }
+    ensures { result ≡ (is_some (function_at (whole into.now) f).body && is_pointed f (map used_of s.now.used)) }
+{
+    into.function(f).body.is_some() && all.contains(&f)
+}
+
+/// Notes a function, if it is pointed to and has a body.
+fn place_one(s: &Scopes, into: &mut TypedUnit, all: &IndexSet<u32>, f: u32) -> Result<(), NoMemory>
+    requires pointed { ArePointed s.now.used all.now.keys }
+    requires function { f < length into.old.functions }
+    ensures types { OnOk result (into.new.known ≡ into.old.known) }
+    ensures grown { OnOk result (Grown into.old into.new) }
+    ensures whole { OnOk result (whole into.new ≡ placed_if (is_some (function_at (whole into.old) f).body && is_pointed f (map used_of s.now.used)) f (whole into.old)) }
+{
+    if !is_placed(s, into, all, f) {
+        return Ok(());
+    }
+    into.add_placed(f)
+}
+
+/// Notes the functions that are pointed to and have a body, in the order of their numbers.
+pub(crate) fn add_placed(s: &Scopes, into: &mut TypedUnit) -> Result<(), NoMemory>
+    ensures types { OnOk result (into.new.known ≡ into.old.known) }
+    ensures grown { OnOk result (Grown into.old into.new) }
+    ensures whole { OnOk result (whole into.new ≡ with_placed (placed_from (map used_of s.now.used) 0 (whole into.old).functions) (whole into.old)) }
+{
+    let all = pointed_in(s.allocator(), s.used())?;
+    for f in 0..into.functions() {
+        place_one(s, into, &all, f)?;
     }
     Ok(())
 }

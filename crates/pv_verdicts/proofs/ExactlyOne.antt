@@ -1,5 +1,5 @@
 -- Each source comes to exactly one verdict (C17 5.1.1.3, 5.1.2.3).
-use Rattle.std.proofs.Common.{inl, inr, ◌≡◌, ℕ, List, None, Ok, refl, sym, ap, ◌∙◌, subst}
+use Rattle.std.proofs.Common.{inl, inr, ◌≡◌, ℕ, true, List, None, Ok, refl, sym, ap, ◌∙◌, subst}
 use Rattle.std.specs.Prelude.{◌⊎◌, map}
 use Rattle.pv_script.specs.Lines.{ScriptLine}
 use Rattle.pv_script.specs.Scripts.{script_of}
@@ -37,11 +37,11 @@ one-end : (unit : WholeUnit) (lines : List ScriptLine) (bound : ℕ) (e f : Endi
 one-end unit lines bound e f g h =
     let u = g.runs.tables in
     let v = h.runs.tables in
-    let r = run_at u None lines bound in
+    let r = run_at u None true lines bound in
     let left : Ends r unit.names e = subst (λ (x : Res Worth). Ends x unit.names e) g.runs.is g.ends in
-    let right : Ends (run_at v None lines bound) unit.names f = subst (λ (x : Res Worth). Ends x unit.names f) h.runs.is h.ends in
-    let same : SameRun r (run_at v None lines bound) = same-tables u v (g.runs.stands ∙ sym h.runs.stands) None lines bound in
-    judged.one_end r unit.names e f left (ends-too r (run_at v None lines bound) unit.names f same right)
+    let right : Ends (run_at v None true lines bound) unit.names f = subst (λ (x : Res Worth). Ends x unit.names f) h.runs.is h.ends in
+    let same : SameRun r (run_at v None true lines bound) = same-tables u v (g.runs.stands ∙ sym h.runs.stands) None true lines bound in
+    judged.one_end r unit.names e f left (ends-too r (run_at v None true lines bound) unit.names f same right)
 
 both-same : (source script : List ℕ) (t : Task) (v w : Verdict) → BothRun source script t v w → v ≡ w
 both-same source script t v w b =
@@ -60,7 +60,7 @@ one-verdict source script t v w j k = met source script t v w (judged.one_verdic
 run-ends : (source text : List ℕ) (lines : List ScriptLine) (unit : WholeUnit) → Comes source (Program unit) → script_of text ≡ Ok lines → (bound : ℕ) → (e : Ending) × RunEnds unit lines bound e
 run-ends source text lines unit c r bound =
     let tables = has_tables unit in
-    let run = run_at tables.0 None lines bound in
+    let run = run_at tables.0 None true lines bound in
     let s = end_of run in
     let o : HasOutcome run = has_outcome source text lines unit c r tables.0 tables.1 bound in (
       record { outcome = o.0; turns = s.taken; output = s.output; events = map event_of s.events; names = unit.names },

@@ -1,5 +1,6 @@
 -- How an operation of a world may end a run (C17 6.2.4, 6.3, 6.4.5, 6.5): not by a request that is denied, if none for objects and literals is.
 use Rattle.std.proofs.Common.{◌≡◌, ℕ, ℤ, pos, ◌-ℤ◌, Bool, true, false, List, Option, Some, None, Result, Ok, Err, refl, take, drop}
+use Rattle.std.specs.Prelude.{unwrap_or, if◌then◌else◌}
 use Rattle.std.specs.declared.cmp.Ordering.{Ordering}
 use Rattle.pv_num.specs.declared.kinds.IntKind.{IntKind}
 use Rattle.pv_num.specs.declared.kinds.IntKind.TheVariants.{Int as IntOfInt}
@@ -24,21 +25,21 @@ use Rattle.pv_object.specs.Memory.{Mem}
 use Rattle.pv_object.specs.Access.{reach}
 use Rattle.pv_object.specs.Creating.{created}
 use Rattle.pv_object.specs.Loading.{Loaded}
-use Rattle.pv_object.specs.Operations.{truth, to_ptr, recast, to_int, shift, select, together, order, equal}
+use Rattle.pv_object.specs.Operations.{truth, to_ptr, recast, to_int, shift, select, code, together, order, equal}
 use Rattle.pv_watch.specs.declared.event.What.{What}
 use Rattle.pv_world.specs.declared.got.Shape.{Shape}
 use Rattle.pv_world.specs.declared.got.Shape.TheVariants as shape
 use Rattle.pv_world.specs.declared.got.How.{How}
 use Rattle.pv_world.specs.declared.got.How.TheVariants.{Rounds, Passes, Tests, Numbers, Points, Recasts, Voids}
 use Rattle.pv_world.specs.Worlds.{Worth, Nothing, Missing, Scalar, Whole, World, Wrong, with_table}
-use Rattle.pv_world.specs.Telling.{Told, quiet, telling, both_used}
+use Rattle.pv_world.specs.Telling.{Told, quiet, telling, used, both_used, code_test}
 use Rattle.pv_world.specs.Doing.{Done, Answers, Fails, Breaks}
-use Rattle.pv_world.specs.Worths.{truth_int, int_of, pointer_of, unless, unplain, unpresent, computed, bytes_of}
+use Rattle.pv_world.specs.Worths.{int, truth_int, int_of, pointer_of, unless, unplain, unpresent, computed, bytes_of}
 use Rattle.pv_world.specs.Conversions.{truth_by, truth_value, truth_worth, tests, number_by, pointed, recast_by, passes, converts}
 use Rattle.pv_world.specs.Calculations.{calculates, calculates_one, follows_to}
-use Rattle.pv_world.specs.Pointers.{moved_by, distance, moves, in_elements, elements_by, between_by, between, ordered_by, equal_by, equals, selects}
+use Rattle.pv_world.specs.Pointers.{moved_by, distance, moves, in_elements, elements_by, between_by, between, ordered_by, equal_by, equals, selects, unlike, found_in, found_by, finds}
 use Rattle.pv_world.specs.Accesses.{range_use, reaching_by, reaching, scalar_as, scalar_by, worth_in, takes_bytes}
-use Rattle.pv_world.specs.Objects.{object_made, makes_object, literal_request, literal_made, makes_literal_of}
+use Rattle.pv_world.specs.Objects.{object_made, makes_object, function_made, makes_function, owner_of, literal_request, literal_made, makes_literal_of}
 use Rattle.pv_verdicts.proofs.Refusals.{FineAnswer, FineWrong, FineIf, stop-fine, plain-fine, present-fine}
 
 -- a run that ends by it has an outcome
@@ -134,6 +135,20 @@ pub moves-on : (minus first : Bool) (size : ℕ) (v x : Worth) (w : World) → G
 moves-on minus true size v x w = plain-on v w _ (plain-on x w _ (pointer-moves minus size v x w))
 moves-on minus false size v x w = plain-on v w _ (plain-on x w _ (pointer-moves minus size x v w))
 
+found-in : (w : World) (p : Pointer) (fits : Option ℕ → Bool) (o : Option ℕ) (us : List What) → Granted (found_in w p fits o us)
+found-in w p fits o us = by (fits o)
+  where
+    by : (t : Bool) → Granted (if t then Answers (int (pos (unwrap_or o 0))) w (telling us) else Fails unlike (Some p.prov) w (telling us))
+    by true = record { fine = tt }
+    by false = record { fine = tt }
+
+found-by : (w : World) (p : Pointer) (fits : Option ℕ → Bool) (got : Result (ℕ × Tried) Stop × Table) → Granted (found_by w p fits got)
+found-by w p fits ((Ok r), T) = found-in (with_table w T) p fits (owner_of w r.0) (used code_test r.1)
+found-by w p fits ((Err y), T) = record { fine = stop-fine y }
+
+pub finds-on : (fits : Option ℕ → Bool) (v : Worth) (w : World) → Granted (finds fits v w)
+finds-on fits v w = plain-on v w _ (found-by w (pointer_of v) fits (code w.memory.table (pointer_of v)))
+
 pub selects-on : (offset : ℕ) (v : Worth) (w : World) → Granted (selects offset v w)
 selects-on offset v w = present-on v w _ (moved-by w (pointer_of v) (select w.memory.table (pointer_of v) offset))
 
@@ -194,6 +209,13 @@ object-made w o lasting name ((Err e), M) f = record { fine = f }
 
 pub object-on : (o : ℕ) (lasting : Bool) (r : Request) (w : World) → FineAnswer (created w.memory r).0 → Granted (makes_object o lasting r w)
 object-on o lasting r w f = object-made w o lasting r.name (created w.memory r) f
+
+function-made : (w : World) (f name : ℕ) (got : Result ℕ CreateError × Mem) → FineAnswer got.0 → Granted (function_made w f name got)
+function-made w f name ((Ok i), M) h = record { fine = tt }
+function-made w f name ((Err e), M) h = record { fine = h }
+
+pub function-on : (f : ℕ) (r : Request) (w : World) → FineAnswer (created w.memory r).0 → Granted (makes_function f r w)
+function-on f r w h = function-made w f r.name (created w.memory r) h
 
 literal-made : (w : World) (l : ℕ) (bytes : List ℕ) (got : Result ℕ CreateError × Mem) → FineAnswer got.0 → Granted (literal_made w l bytes got)
 literal-made w l bytes ((Ok i), M) f = record { fine = tt }

@@ -12,8 +12,8 @@ use Rattle.pv_check.specs.State.{State, After, env, Meaning, ObjectName, Functio
 use Rattle.pv_check.specs.Specifiers.{Seen}
 use Rattle.pv_check.specs.Tags.{with_member, tag_named, composite_named, enumeration_named, opened, opened_named, is_open, completed, with_done, filed_with, opened_enumeration, closed_enumeration, enumerated, some_members, is_union_word}
 use Rattle.pv_check.specs.Derivations.{Parameter as OneParameter, Steps, declared_name, optional_name, may_be_variadic, Signature, proper, with_function, with_parameter, with_object, derived, adjusted}
-use Rattle.pv_check.specs.Primary.{name_of}
-use Rattle.pv_check.specs.Rows.{operand, integer_value, plain, by_function, member_of, with_callee}
+use Rattle.pv_check.specs.Primary.{name_of, is_of_library}
+use Rattle.pv_check.specs.Rows.{operand, integer_value, plain, by_function, member_of, callee, called_by}
 use Rattle.pv_check.specs.Typing.{types, arguments, type_named, specifiers, specifier_in, specifier, members, member_in, member_declarators, member_declarator, enumerators, enumerator_in, enumerator_value, steps, optional_steps, array_size, parameters, parameter_in}
 
 -- where there is an answer, the unit's names are these behind it
@@ -46,6 +46,10 @@ pub if_keeps : {A : Type 0} (n : List (List ℕ)) (b : Bool) (x : Option (After 
 if_keeps n true x h = h
 if_keeps n false x h = none_keeps n
 
+unless_keeps : {A : Type 0} (n : List (List ℕ)) (b : Bool) (x : Option (After A)) → Keeps n x → Keeps n (if b then None else x)
+unless_keeps n true x h = none_keeps n
+unless_keeps n false x h = h
+
 pub operand_keeps : (n : List (List ℕ)) (o : Option (After TypedTree)) → Keeps n o → Keeps n (operand o)
 operand_keeps n None h = none_keeps n
 operand_keeps n (Some a) h = give_keeps n _ a.state (h.held a refl)
@@ -54,10 +58,16 @@ integer_keeps : (n : List (List ℕ)) (o : Option (After TypedTree)) → Keeps n
 integer_keeps n None h = none_keeps n
 integer_keeps n (Some a) h = give_keeps n _ a.state (h.held a refl)
 
+-- 6.5.2.2p1: what a call calls
+called_keeps : (n : List (List ℕ)) (o : Option ℕ) (s : State) (a : Option (After TypedTree)) → s.unit.names ≡ n → Keeps n a → Keeps n (called_by o s a)
+called_keeps n (Some f) s a h k = some_keeps n _ _ h
+called_keeps n None s None h k = none_keeps n
+called_keeps n None s (Some a) h k = some_keeps n _ a.state (k.held a refl)
+
 name_keeps : (n : List (List ℕ)) (line : ℕ) (m : Option Meaning) (s : State) → s.unit.names ≡ n → Keeps n (name_of line m s)
 name_keeps n line None s h = none_keeps n
 name_keeps n line (Some (ObjectName o)) s h = some_keeps n _ _ h
-name_keeps n line (Some (FunctionName f)) s h = none_keeps n
+name_keeps n line (Some (FunctionName f)) s h = unless_keeps n (is_of_library s f) _ (some_keeps n _ _ h)
 name_keeps n line (Some (TypedefOf t)) s h = none_keeps n
 name_keeps n line (Some (ConstantOf v)) s h = some_keeps n _ s h
 
@@ -160,7 +170,7 @@ mutual
   types_keep (Text line first more) n s h = some_keeps n _ _ h
   types_keep (Paren line a) n s h = types_keep a n s h
   types_keep (Index line a b) n s h = then_keeps n _ _ (operand_keeps n _ (types_keep a n s h)) (λ l k. then_keeps n _ _ (operand_keeps n _ (types_keep b n l.state k)) (λ m j. give_keeps n _ m.state j))
-  types_keep (Call line f args) n s h = value_then n _ _ (λ c. then_keeps n _ _ (arguments_keep args n (with_callee s c) h) (λ m j. give_keeps n _ m.state j))
+  types_keep (Call line f args) n s h = then_keeps n _ _ (called_keeps n (callee s.scopes f) s _ h (operand_keeps n _ (types_keep f n s h))) (λ c k. then_keeps n _ _ (arguments_keep args n c.state k) (λ m j. give_keeps n _ m.state j))
   types_keep (Member line a k) n s h = then_keeps n _ _ (types_keep a n s h) (λ m j. give_keeps n _ m.state j)
   types_keep (Arrow line a k) n s h = then_keeps n _ _ (operand_keeps n _ (types_keep a n s h)) (λ m j. give_keeps n _ m.state j)
   types_keep (PostIncrement line a) n s h = then_keeps n _ _ (types_keep a n s h) (λ m j. give_keeps n _ m.state j)

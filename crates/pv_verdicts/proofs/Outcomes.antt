@@ -12,7 +12,8 @@ use Rattle.pv_world.specs.Telling.{Told}
 use Rattle.pv_world.specs.Doing.{Done, Answers, Fails, Breaks}
 use Rattle.pv_eval.specs.States.{Setting, State, Why, Turns, Unreached, Stopped, Res, Gives, Stops, then_do, spend}
 use Rattle.pv_eval.specs.Acting.{noted, pair_count, keeps_both, one_kept, by_side, answered, acted}
-use Rattle.pv_eval.specs.Operations.{Op, does}
+use Rattle.pv_eval.specs.Constants.{constant_worth}
+use Rattle.pv_eval.specs.Operations.{Op, Puts, does}
 use Rattle.pv_eval.proofs.Closed.{beside_setting}
 use Rattle.pv_exec.specs.declared.outcome.Outcome.{Outcome}
 use Rattle.pv_exec.specs.declared.outcome.Outcome.TheVariants as outcome
@@ -95,16 +96,16 @@ module _ (lines : List ScriptLine) where
         less = λ h. h;
         more = λ h. h;
       };
-      reads = λ line o s h. act-ends line (o s) s h;
+      reads = λ line o offset v q s h. act-ends line (Puts o offset v (constant_worth s.world q)) s h;
     }
 
 -- ---- the whole run
 
-run-ends : (u : Stored) (n : ℕ) (sides : Option (List Bool)) (lines : List ScriptLine) → OwnNames (whole u).names → DeniesHeap lines → Ends lines (run_at u sides lines n)
+run-ends : (u : Stored) (n : ℕ) (sides : Option (List Bool)) (zap : Bool) (lines : List ScriptLine) → OwnNames (whole u).names → DeniesHeap lines → Ends lines (run_at u sides zap lines n)
 unfolding run_of
-run-ends u n sides lines own denies =
-    let b = setting_of u n sides in
-    run-closed b n sides (going lines b own denies) n (even-closed b n sides (going lines b own denies).ways (λ A s h. tt) n) (first lines) refl
+run-ends u n sides zap lines own denies =
+    let b = setting_of u n sides zap in
+    run-closed b n sides (going lines b own denies) n (even-closed b n sides (going lines b own denies).ways (λ A s h. tt) n) (first lines zap) refl
 
 refused-some : (name : ℕ) (e : CreateError) (line : ℕ) → FineError e → (o : Outcome) × (refused name e line ≡ Some o)
 refused-some name (refusal.Storage live size) line h = (_, refl)
@@ -130,5 +131,5 @@ outcome-some n j lines (Stops Unreached s) h g = absurd h.1
 outcome-some n j lines (Stops (Stopped y line) s) h g = stopped-some y line g
 
 -- a unit that has one name of allocations, with a script that denies no other request
-pub ends-so : (u : Stored) (n : ℕ) (sides : Option (List Bool)) (lines : List ScriptLine) → OwnNames (whole u).names → DeniesHeap lines → HasOutcome (run_at u sides lines n)
-ends-so u n sides lines own denies = outcome-some n (suc n) lines (run_at u sides lines n) (run-fits u n sides lines) (run-ends u n sides lines own denies)
+pub ends-so : (u : Stored) (n : ℕ) (sides : Option (List Bool)) (zap : Bool) (lines : List ScriptLine) → OwnNames (whole u).names → DeniesHeap lines → HasOutcome (run_at u sides zap lines n)
+ends-so u n sides zap lines own denies = outcome-some n (suc n) lines (run_at u sides zap lines n) (run-fits u n sides zap lines) (run-ends u n sides zap lines own denies)

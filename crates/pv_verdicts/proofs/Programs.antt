@@ -1,5 +1,5 @@
 -- Every run of a source that is a program, with a script that has a reading, has an outcome (C17 5.1.2).
-use Rattle.std.proofs.Common.{◌≡◌, ℕ, Bool, List, Ok, sym, subst}
+use Rattle.std.proofs.Common.{◌≡◌, ℕ, Bool, true, List, Ok, sym, subst}
 use Rattle.std.specs.declared.option.Option.{Option}
 use Rattle.std.specs.Prelude.{None}
 use Rattle.pv_token.specs.Table.{Table}
@@ -42,12 +42,12 @@ program_own source unit (BadToken place h e) = absurd cc
 program_own source unit (LeftOut place word h e) = absurd cc
 program_own source unit (Lexed t l h) = tokens_own source t unit l h
 
-pub program_outcome : (source text : List ℕ) (script : List ScriptLine) (u : Stored) (sides : Option (List Bool)) (n : ℕ) → IsProgram source u → script_of text ≡ Ok script → HasOutcome (run_at u sides script n)
-program_outcome source text script u sides n p r = ends-so u n sides script (program_own source (whole u) p) (denied_heap text script r)
+pub program_outcome : (source text : List ℕ) (script : List ScriptLine) (u : Stored) (sides : Option (List Bool)) (zap : Bool) (n : ℕ) → IsProgram source u → script_of text ≡ Ok script → HasOutcome (run_at u sides zap script n)
+program_outcome source text script u sides zap n p r = ends-so u n sides zap script (program_own source (whole u) p) (denied_heap text script r)
 
 -- the same of the unit that a source is, by itself
 pub has_outcome : (source text : List ℕ) (lines : List ScriptLine) (unit : WholeUnit) → Comes source (Program unit) → script_of text ≡ Ok lines
-    → (u : Stored) → whole u ≡ unit → (n : ℕ) → HasOutcome (run_at u None lines n)
+    → (u : Stored) → whole u ≡ unit → (n : ℕ) → HasOutcome (run_at u None true lines n)
 has_outcome source text lines unit c r u e n =
     let p : IsProgram source u = subst (λ (x : WholeUnit). Comes source (Program x)) (sym e) c in
-    program_outcome source text lines u None n p r
+    program_outcome source text lines u None true n p r

@@ -9,7 +9,7 @@ use Rattle.pv_object.specs.declared.values.Reach.{Reach}
 use Rattle.pv_object.specs.declared.values.Stop.{Stop}
 use Rattle.pv_shadow.specs.Bytes.{read}
 use Rattle.pv_typed.specs.Mains.{heap_text}
-use Rattle.pv_typed.specs.TypedUnits.{TypedObject, object_at, literal_at}
+use Rattle.pv_typed.specs.TypedUnits.{TypedObject, TypedFunction, object_at, function_at, literal_at}
 use Rattle.pv_seq.specs.Sequencing.{Access, conflicts}
 use Rattle.pv_libc.specs.declared.values.Arg.{Arg}
 use Rattle.pv_libc.specs.declared.values.Reply.{Reply}
@@ -22,18 +22,19 @@ use Rattle.pv_world.specs.Conversions.{opposite}
 use Rattle.pv_world.specs.Telling.{Told}
 use Rattle.pv_world.specs.Doing.{Done}
 use Rattle.pv_world.specs.Accesses.{is_inexact}
-use Rattle.pv_world.specs.Objects.{literal_request}
+use Rattle.pv_world.specs.Objects.{literal_request, function_request}
 use Rattle.pv_eval.specs.States.{Setting}
 use Rattle.pv_eval.specs.TypeForms.{Lvalue}
 use Rattle.pv_eval.specs.Permission.{permits}
 use Rattle.pv_eval.specs.Accesses.{access_to, reads_permitted, reads_at, reads, writes_alone, writes_at, writes}
-use Rattle.pv_eval.specs.Objects.{where_possible, has_extent, heap_name, can_make, request_of, makes, instance_for, makes_literal, can_fill, can_put, can_put_text}
+use Rattle.pv_eval.specs.Objects.{where_possible, has_extent, heap_name, can_make, request_of, makes, instance_for, makes_literal, makes_function, can_place, can_fill, can_put, can_put_text}
+use Rattle.pv_eval.specs.Callees.{may_call}
 use Rattle.pv_eval.specs.Library.{replied, with_memory, asked, asks}
 use Rattle.pv_eval.specs.Suiting.{is_live}
-use Rattle.pv_eval.specs.Operations.{Op, Converts, Calculates, CalculatesOne, Tests, Negates, Accepts, Needs, Moves, Subtracts, Orders, Equals, Follows, Selects, TakesPart, Reads, Writes, NamesObject, NamesLiteral, Makes, MakesLiteral, Ends, BeginsBody, EndsBody, Fills, Puts, PutsText, Asks, suits, works, does}
+use Rattle.pv_eval.specs.Operations.{Op, Converts, Calculates, CalculatesOne, Tests, Negates, Accepts, Needs, Moves, Subtracts, Orders, Equals, Follows, Selects, Finds, TakesPart, Reads, Writes, NamesObject, NamesLiteral, NamesFunction, MakesFunction, Makes, MakesLiteral, Ends, BeginsBody, EndsBody, Fills, Puts, PutsText, Asks, suits, works, does}
 use Rattle.pv_verdicts.specs.Own.{OwnNames, DeniesHeap}
 use Rattle.pv_verdicts.proofs.Refusals.{FineReplied, stop-fine, created-fine, called-fine}
-use Rattle.pv_verdicts.proofs.Granted.{Granted, plain-on, present-on, tests-on, converts-on, calculates-on, calculates-one-on, follows-on, moves-on, selects-on, between-on, order-on, equals-on, reaching-on, worth-on, takes-on, object-on, literal-on}
+use Rattle.pv_verdicts.proofs.Granted.{Granted, plain-on, present-on, tests-on, converts-on, calculates-on, calculates-one-on, follows-on, moves-on, selects-on, between-on, order-on, equals-on, reaching-on, worth-on, takes-on, object-on, function-on, finds-on, literal-on}
 
 right_of : (a b : Bool) → (a && b) ≡ true → b ≡ true
 right_of true b e = e
@@ -99,6 +100,11 @@ module _ (b : Setting) (own : OwnNames b.unit.names) (lines : List ScriptLine) (
       let no : not (eqb 1 1) ≡ true = subst (λ n. not (eqb n 1) ≡ true) (own x.name same) free in
       absurd cc
 
+  function-other : (x : TypedFunction) → can_place x ≡ true → text_of b.unit.names x.name ≡ heap_text → ⊥
+  function-other x free same =
+      let no : not (eqb 1 1) ≡ true = subst (λ n. not (eqb n 1) ≡ true) (own x.name same) free in
+      absurd cc
+
   literal-other : text_of b.unit.names 0 ≡ heap_text → ⊥
   literal-other same = let e : ◌≡◌ {A = ℕ} 0 1 = own 0 same in absurd cc
 
@@ -112,6 +118,12 @@ module _ (b : Setting) (own : OwnNames b.unit.names) (lines : List ScriptLine) (
       let bytes = (literal_at b.unit l).bytes in
       let text = text_of b.unit.names 0 in
       possible-on (nat_le 1 (length bytes)) w _ (λ e. literal-on l text bytes w (created-fine lines w.memory (literal_request text bytes) denies s refl literal-other))
+
+  function-makes : (f : ℕ) (w : World) → w.memory.table.script ≡ lines → Granted (makes_function b f w)
+  function-makes f w s =
+      let x = function_at b.unit f in
+      let r = function_request x.name (text_of b.unit.names x.name) in
+      possible-on (can_place x) w _ (λ e. function-on f r w (created-fine lines w.memory r denies s refl (function-other x e)))
 
   works-on : (o : Op) (w : World) → w.memory.table.script ≡ lines → Granted (works b o w)
   works-on (Converts how v) w s = converts-on how v w
@@ -127,11 +139,14 @@ module _ (b : Setting) (own : OwnNames b.unit.names) (lines : List ScriptLine) (
   works-on (Equals negated v x) w s = equals-on negated v x w
   works-on (Follows nothing v) w s = follows-on nothing v w
   works-on (Selects offset v) w s = selects-on offset v w
+  works-on (Finds t v) w s = finds-on (may_call b t) v w
   works-on (TakesPart offset l v) w s = takes-on offset l.size l.shape v w
   works-on (Reads l place rivals) w s = reads-on b l place rivals w
   works-on (Writes l place v from rivals) w s = writes-on b l place v from rivals w
   works-on (NamesObject o) w s = record { fine = tt }
   works-on (NamesLiteral l) w s = record { fine = tt }
+  works-on (NamesFunction f) w s = record { fine = tt }
+  works-on (MakesFunction f) w s = function-makes f w s
   works-on (Makes o) w s = makes-on o w s
   works-on (MakesLiteral l) w s = literal-makes l w s
   works-on (Ends o) w s = possible-on (is_live w (instance_for b o w)) w _ (λ e. record { fine = tt })

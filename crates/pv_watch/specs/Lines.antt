@@ -46,7 +46,7 @@ survivors_of seen names (Some p) low high = survivors (instance_text seen names 
 
 -- the memory model: a use's test, by its number
 abbrev pub test_text : ℕ → List ℕ
-test_text n = if n == 1 then codes "live" else if n == 2 then codes "range" else if n == 3 then codes "block" else if n == 4 then codes "same" else codes "?"
+test_text n = if n == 1 then codes "live" else if n == 2 then codes "range" else if n == 3 then codes "block" else if n == 4 then codes "same" else if n == 5 then codes "code" else codes "?"
 
 -- a word and its text (docs/FORMATS.md, What watchers say; memory model)
 abbrev pub field : List ℕ → List ℕ → List ℕ

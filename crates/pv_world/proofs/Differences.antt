@@ -1,5 +1,5 @@
 -- A difference in bytes is always whole: so what two pointers settle to is known before elements are counted.
-use Rattle.std.proofs.Common.{◌≡◌, ℕ, suc, ◌/◌, ◌%◌, ◌<◌, ℤ, pos, negsuc, ◌-ℤ◌, neg_ℤ, List, ◌++◌, Option, Some, None, Result, Ok, Err, refl, sym, ap, ◌∙◌, arith}
+use Rattle.std.proofs.Common.{◌≡◌, ℕ, suc, ◌/◌, ◌%◌, ℤ, pos, negsuc, ◌-ℤ◌, neg_ℤ, List, ◌++◌, Some, None, Result, Ok, Err, refl, ap, ◌∙◌, arith}
 use Rattle.std.proofs.lemmas.List.{append-nil}
 use Rattle.std.specs.Prelude.{int_div, int_rem}
 use Rattle.pv_inst.specs.declared.values.Tried.{Tried}

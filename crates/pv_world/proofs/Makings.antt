@@ -8,7 +8,7 @@ use Rattle.pv_object.specs.Creating.{OrSpent}
 use Rattle.pv_watch.specs.declared.event.What.{What}
 use Rattle.pv_world.specs.Worlds.{Nothing, World, Halts, Refused}
 use Rattle.pv_world.specs.Telling.{made}
-use Rattle.pv_world.specs.Objects.{object_made, bind, owning}
+use Rattle.pv_world.specs.Objects.{object_made, bind, owning, function_made, function_bound}
 use Rattle.pv_world.specs.Coming.{Gave, Ended, seen, CameMade}
 
 -- one more owner that is none
@@ -36,3 +36,22 @@ made_err name refusal.Denied w v o lasting M es c h vs = refused_as name refusal
 made_err name (refusal.Range k a) w v o lasting M es c h vs = refused_as name (refusal.Range k a) w v o lasting M es c h vs
 made_err name (refusal.Misaligned k a) w v o lasting M es c h vs = refused_as name (refusal.Misaligned k a) w v o lasting M es c h vs
 made_err name (refusal.Overlap k a with) w v o lasting M es c h vs = refused_as name (refusal.Overlap k a with) w v o lasting M es c h vs
+
+pub function_ok : (w v : World) (f name i : ℕ) (M : Mem) (es fs : List What) (c : Result ℕ CreateError × Mem)
+    → OrSpent (Ok i) M c → v ≡ function_bound (owning w M i (Some f)) f i → fs ≡ es ++ made M.table i → seen es w (function_made w f name c) ≡ Gave Nothing v fs
+function_ok w v f name i M es fs (Ok j, N) h vs ts = let e : i ≡ j = let k = h.0 in cc in rw (← e, ← h.1, vs, ts) refl
+function_ok w v f name i M es fs (Err e, N) h vs ts = let k = h.0 in absurd cc
+
+function_refused : (name : ℕ) (e : CreateError) (w v : World) (f : ℕ) (M : Mem) (es : List What) (c : Result ℕ CreateError × Mem)
+    → (Err e ≡ c.0) × (M ≡ c.1) → v ≡ record w { memory = M } → seen es w (function_made w f name c) ≡ Ended (Halts (Refused name e)) v es
+function_refused name e w v f M es (Err g, N) h vs = let same : e ≡ g = let k = h.0 in cc in rw (← same, ← h.1, vs) (ap (Ended (Halts (Refused name e)) _) (append-nil (es ++ []) ∙ append-nil es))
+function_refused name e w v f M es (Ok i, N) h vs = let k = h.0 in absurd cc
+
+pub function_err : (name : ℕ) (e : CreateError) (w v : World) (f : ℕ) (M : Mem) (es : List What) (c : Result ℕ CreateError × Mem)
+    → OrSpent (Err e) M c → v ≡ record w { memory = M } → CameMade name (Err e) v es (seen es w (function_made w f name c))
+function_err name refusal.NoMemory w v f M es c h vs = tt
+function_err name (refusal.Storage live size) w v f M es c h vs = function_refused name (refusal.Storage live size) w v f M es c h vs
+function_err name refusal.Denied w v f M es c h vs = function_refused name refusal.Denied w v f M es c h vs
+function_err name (refusal.Range k a) w v f M es c h vs = function_refused name (refusal.Range k a) w v f M es c h vs
+function_err name (refusal.Misaligned k a) w v f M es c h vs = function_refused name (refusal.Misaligned k a) w v f M es c h vs
+function_err name (refusal.Overlap k a with) w v f M es c h vs = function_refused name (refusal.Overlap k a with) w v f M es c h vs

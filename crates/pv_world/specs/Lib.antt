@@ -1,13 +1,13 @@
 pub mod Worlds
 pub mod Telling
-pub mod Uses
 pub mod Doing
 pub mod Worths
 pub mod Hows
 pub mod Conversions
+pub mod Objects
 pub mod Pointers
 pub mod Calculations
-pub mod Objects
 pub mod Coming
+pub mod Callees
 pub mod Accesses
 pub mod Loads

@@ -3,7 +3,7 @@ use Rattle.std.specs.Prelude.{◌≡◌, ◌≤◌, IsSomeAnd, ℕ, ◌+◌, ◌
 use Rattle.std.specs.declared.option.Option.{Option}
 use Rattle.std.specs.FinMap as map
 use Rattle.pv_prov.specs.declared.names.Prov.TheVariants.{Empty, Inst}
-use Rattle.pv_inst.specs.declared.values.Kind.TheVariants.{Declared, Literal}
+use Rattle.pv_inst.specs.declared.values.Kind.TheVariants.{Declared, Literal, Function}
 use Rattle.pv_inst.specs.declared.values.Instance.{Instance}
 use Rattle.pv_inst.specs.declared.values.CreateError.{CreateError}
 use Rattle.pv_inst.specs.Table.{instance_at}
@@ -127,6 +127,31 @@ literal_made w l bytes (Err e, M) = Fails (Halts (Refused 0 e)) None (record w {
 -- 6.4.5p6: a literal's array is made
 abbrev pub makes_literal_of : ℕ → (text bytes : List ℕ) → World → Done
 makes_literal_of l text bytes w = literal_made w l bytes (created w.memory (literal_request text bytes))
+
+-- 6.3.2.1p4: the instance of a function
+abbrev pub function_of : World → ℕ → ℕ
+function_of w f = unwrap_or (map.get w.functions f) 0
+
+-- 6.5.1p2, 6.3.2.1p4: an identifier designates its function
+abbrev pub names_function : ℕ → World → Done
+names_function f w = Answers (pointer (address_of w (function_of w f))) w quiet
+
+-- 6.3.2.1p4: the request for the storage instance of a function (the memory model): one byte, which is never accessed
+abbrev pub function_request : (name : ℕ) (text : List ℕ) → Request
+function_request name text = record { text = text; name = name; size = 1; align = 1; kind = Function }
+
+-- 6.3.2.1p4: the function has this instance
+abbrev pub function_bound : World → ℕ → ℕ → World
+function_bound w f i = record w { functions = map.insert w.functions f i }
+
+-- 6.3.2.1p4: a function's instance, or why it has none
+abbrev pub function_made : World → ℕ → (name : ℕ) → Result ℕ CreateError × Mem → Done
+function_made w f name (Ok i, M) = Answers Nothing (function_bound (owning w M i (Some f)) f i) (telling (made M.table i))
+function_made w f name (Err e, M) = Fails (Halts (Refused name e)) None (record w { memory = M }) quiet
+
+-- 6.3.2.1p4: a function that is pointed to has an instance, which never ends
+abbrev pub makes_function : ℕ → Request → World → Done
+makes_function f r w = function_made w f r.name (created w.memory r)
 
 -- an abstract byte of this value, or of none: without provenance and mark (the memory model)
 abbrev pub filling : Option ℕ → Byte

@@ -1,22 +1,23 @@
 -- Operations on pointers (C17 6.5.2.3, 6.5.3.2, 6.5.6, 6.5.8, 6.5.9): sums, differences, comparisons, and members.
-use Rattle.std.specs.Prelude.{ℕ, ℤ, pos, neg_ℤ, ◌*ℤ◌, ◌-ℤ◌, int_div, int_rem, Bool, true, false, not, List, ◌++◌, Option, Some, None, if◌then◌else◌, Result, Ok, Err}
+use Rattle.std.specs.Prelude.{ℕ, ℤ, pos, neg_ℤ, ◌*ℤ◌, ◌-ℤ◌, int_div, int_rem, Bool, true, false, not, List, ◌++◌, Option, Some, None, if◌then◌else◌, Result, Ok, Err, unwrap_or}
 use Rattle.std.specs.Ordering.{int_eq}
 use Rattle.std.specs.declared.cmp.Ordering.{Ordering}
 use Rattle.pv_num.specs.declared.kinds.IntKind.TheVariants.{Int as IntOfInt}
 use Rattle.pv_num.specs.declared.operators.BinOp.{BinOp}
 use Rattle.pv_num.specs.declared.operators.BinOp.TheVariants.{Lt, Gt, Le, Ge}
 use Rattle.pv_num.specs.declared.faults.Fault.{Fault}
-use Rattle.pv_num.specs.declared.faults.Clause.TheVariants.{SubtractionOfPointers}
-use Rattle.pv_num.specs.declared.faults.Reason.TheVariants.{Uneven}
+use Rattle.pv_num.specs.declared.faults.Clause.TheVariants.{SubtractionOfPointers, PointerToFunction}
+use Rattle.pv_num.specs.declared.faults.Reason.TheVariants.{Uneven, WrongType}
 use Rattle.pv_num.specs.Arithmetic.{binary_of}
 use Rattle.pv_inst.specs.declared.values.Tried.{Tried}
 use Rattle.pv_inst.specs.Table.{Table}
 use Rattle.pv_object.specs.declared.values.Pointer.{Pointer}
 use Rattle.pv_object.specs.declared.values.Stop.{Stop}
-use Rattle.pv_object.specs.Operations.{shift, select, together, order, equal}
+use Rattle.pv_object.specs.Operations.{shift, select, together, order, equal, code}
 use Rattle.pv_world.specs.Worlds.{Worth, World, Wrong, with_table}
 use Rattle.pv_watch.specs.declared.event.What.{What}
-use Rattle.pv_world.specs.Telling.{quiet, telling, used, live_use, both_used, live_test, range_test}
+use Rattle.pv_world.specs.Telling.{quiet, telling, used, live_use, both_used, live_test, range_test, code_test}
+use Rattle.pv_world.specs.Objects.{owner_of}
 use Rattle.pv_world.specs.Doing.{Done, Answers, Fails}
 use Rattle.pv_world.specs.Worths.{int, pointer, truth_int, int_of, pointer_of, undefined, plain, present, wrong_of}
 
@@ -87,6 +88,23 @@ equal_by negated w p q (Err y, T) = Fails (wrong_of y) (Some p.prov) (with_table
 -- 6.5.9p6: the same of two values that are there and were set, the left one looked at first
 abbrev pub equals : (negated : Bool) → Worth → Worth → World → Done
 equals negated v x w = plain v w (λ v. plain x w (λ x. equal_by negated w (pointer_of v) (pointer_of x) (equal w.memory.table (pointer_of v) (pointer_of x))))
+
+-- 6.3.2.3p8: the function is not one of the type that is called
+abbrev pub unlike : Wrong
+unlike = undefined PointerToFunction WrongType
+
+-- 6.5.2.2p1, 6.3.2.3p8: the number of the function, where it is one that may be called so; in any case the use is told
+abbrev pub found_in : World → Pointer → (fits : Option ℕ → Bool) → Option ℕ → List What → Done
+found_in w p fits o us = if fits o then Answers (int (pos (unwrap_or o 0))) w (telling us) else Fails unlike (Some p.prov) w (telling us)
+
+-- 6.5.2.2p1: what the pointer points to, by the instance that its name is settled to
+abbrev pub found_by : World → Pointer → (fits : Option ℕ → Bool) → Result (ℕ × Tried) Stop × Table → Done
+found_by w p fits (Ok r, T) = found_in (with_table w T) p fits (owner_of w r.0) (used code_test r.1)
+found_by w p fits (Err y, T) = Fails (wrong_of y) (Some p.prov) (with_table w T) quiet
+
+-- 6.5.2.2p1: the function that is called by a value, which is there and was set; it is one of those that may be called so
+abbrev pub finds : (fits : Option ℕ → Bool) → Worth → World → Done
+finds fits v w = plain v w (λ v. found_by w (pointer_of v) fits (code w.memory.table (pointer_of v)))
 
 -- 6.5.3.2p4: without an access `*` checks nothing but that there is a value
 abbrev pub follows : Worth → World → Done

@@ -53,6 +53,10 @@ block_test = 3
 abbrev pub same_test : ℕ
 same_test = 4
 
+-- the candidate is a function that begins there (6.5.2.2p1)
+abbrev pub code_test : ℕ
+code_test = 5
+
 -- the memory model: a use that found survivors is told of where its name stood for two before it, a pair of candidates
 abbrev pub used_pair : Option ℕ → (test : ℕ) → Tried → List What
 used_pair None test tried = []

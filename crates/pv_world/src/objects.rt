@@ -2,7 +2,7 @@
 ghost use Rattle.std.specs.Prelude.{◌≡◌, ◌≤◌, ◌<◌, ◌+◌, ◌-◌, ◌++◌, ◌≢◌, Some, None, length, codes, OnOk};
 ghost use Rattle.pv_script.specs.Names.{name_at as text_of};
 ghost use Rattle.pv_inst.specs.Ending.{IsLive};
-ghost use Rattle.pv_world.specs.Objects.{instance_of, literal_of, address_of, owned_next, owning, bind, object_request, makes_object, ends_object};
+ghost use Rattle.pv_world.specs.Objects.{instance_of, literal_of, function_of, address_of, owned_next, owning, bind, object_request, makes_object, ends_object};
 ghost use Rattle.pv_world.specs.Telling.{made};
 ghost use Rattle.pv_watch.specs.declared.event.What.{What};
 ghost use Rattle.pv_world.specs.Coming.{Did, no_worth, CameMade, seen};
@@ -70,6 +70,20 @@ impl World {
         ensures { result ≡ address_of self.now (literal_of self.now literal) }
     {
         self.address_of(self.literal(literal))
+    }
+
+    /// The instance of a function.
+    pub fn function(&self, function: u32) -> u64
+        ensures { result ≡ function_of self.now function }
+    {
+        self.functions.get(function).unwrap_or(0)
+    }
+
+    /// The place of a function (6.3.2.1p4).
+    pub fn function_place(&self, function: u32) -> Pointer
+        ensures { result ≡ address_of self.now (function_of self.now function) }
+    {
+        self.address_of(self.function(function))
     }
 
     /// An object begins its lifetime (6.2.4): a new instance of this size and alignment, or why there is none.

@@ -13,8 +13,8 @@ use crate::got::Failure;
 use crate::world::World;
 use pv_inst::Tried;
 use pv_num::IntKind;
-use pv_object::{Pointer, Reach, Scalar, Value};
-use pv_prov::{NoMemory, Prov};
+use pv_object::{Reach, Scalar, Value};
+use pv_prov::Prov;
 use pv_shadow::Byte;
 use pv_watch::What;
 
@@ -49,13 +49,10 @@ impl World {
             index: None,
             mark: None,
         };
-        match vec![in self.alloc; byte; size as usize] {
-            Ok(bytes) => {
-                self.put_bytes(object, lasting, 0, &bytes);
-                Ok(())
-            }
-            Err(_) => Err(Failure::NoMemory),
-        }
+        let i = self.instance(object, lasting);
+        let at = self.place_in(i, 0, size);
+        self.memory.fill_bytes(&at, size, byte);
+        Ok(())
     }
 
     /// The bytes of an object from an offset on become these (6.7.9p11, p14, 6.9.1p10). Nothing is checked.

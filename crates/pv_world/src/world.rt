@@ -16,8 +16,8 @@ use std::alloc::Global;
 use std::collections::VecDeque;
 use std::marker::Model;
 
-/// What operations see and change: the memory, the object that each instance was made for, and the instances of the
-/// static objects, of the literals, and of the automatic objects of each body begun.
+/// What operations see and change: the memory, the object or function that each instance was made for, and the instances
+/// of the static objects, of the literals, of the functions, and of the automatic objects of each body begun.
 #[derive(Drop)]
 pub struct World {
     pub(crate) alloc: Global,
@@ -25,6 +25,7 @@ pub struct World {
     pub(crate) owners: Vec<Option<u32>>,
     pub(crate) statics: Bound,
     pub(crate) literals: Bound,
+    pub(crate) functions: Bound,
     pub(crate) bodies: VecDeque<Bound>,
 }
 
@@ -38,15 +39,15 @@ impl Model for World {
 
     ghost coded = { Prim.hlevel (codes, counts_code, store_code) };
 
-    ghost view = { λ w. record { memory = w.memory; owners = w.owners.items; statics = w.statics; literals = w.literals; bodies = w.bodies.items } };
+    ghost view = { λ w. record { memory = w.memory; owners = w.owners.items; statics = w.statics; literals = w.literals; functions = w.functions; bodies = w.bodies.items } };
 }
 
 impl World {
     /// No instance yet, and no body.
-    pub fn new(alloc: Global, script: Script, names: &Names) -> Result<Self, NoMemory>
-        ensures { IfOk result (λ w. w ≡ record { memory = empty_memory script; owners = []; statics = map.empty; literals = map.empty; bodies = [] }) }
+    pub fn new(alloc: Global, script: Script, names: &Names, zap: bool) -> Result<Self, NoMemory>
+        ensures { IfOk result (λ w. w ≡ record { memory = empty_memory script zap; owners = []; statics = map.empty; literals = map.empty; functions = map.empty; bodies = [] }) }
     {
-        let memory = match Memory::new(alloc, script, names) {
+        let memory = match Memory::new(alloc, script, names, zap) {
             Ok(memory) => memory,
             Err(NoMemory) => return Err(NoMemory),
         };
@@ -56,6 +57,7 @@ impl World {
             owners: Vec::new(alloc),
             statics: Bound::new(alloc),
             literals: Bound::new(alloc),
+            functions: Bound::new(alloc),
             bodies: VecDeque::new(alloc),
         })
     }

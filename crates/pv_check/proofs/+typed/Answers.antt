@@ -28,7 +28,7 @@ use Rattle.pv_check.specs.ListedRows.{list_of}
 use Rattle.pv_check.specs.MembersRead.{members_shown, after_members, AreMembers}
 use Rattle.pv_check.specs.Open.{state_of, IsOpen, Goes, HasTag, after_number, after_type}
 use Rattle.pv_check.specs.Passing.{after_nodes}
-use Rattle.pv_check.specs.Rows.{by_function, call, known_size, member_of, parameter_of, with_argument, with_callee}
+use Rattle.pv_check.specs.Rows.{by_function, Callee, call, known_size, member_of, operand, parameter_of, pointed_callee, with_argument}
 use Rattle.pv_check.specs.Seeing.{seen_in}
 use Rattle.pv_check.specs.SeenAfter.{after_seen}
 use Rattle.pv_check.specs.Specifiers.{Seen as WhatIsSeen, with_type}
@@ -38,7 +38,8 @@ use Rattle.pv_check.specs.Tags.{closed_enumeration, completed, enumerated, some_
 use Rattle.pv_check.specs.Typing.{types, arguments, optional_steps, type_named, specifier, specifiers, specifier_in, members, member_in, member_declarators, member_declarator, enumerators, enumerator_in, enumerator_value, parameters, parameter_in}
 use Rattle.pv_check.specs.Words.{total}
 use Rattle.pv_check.proofs.ArmLaws.{arrow_one, goes_trans, goes_then_kept}
-use Rattle.pv_check.proofs.CallRows.{callee_none, callee_some}
+use Rattle.pv_check.specs.Callees.{after_callee, callee_in, AreCalled}
+use Rattle.pv_check.proofs.CallRows.{called_there, callee_known, callee_stays, named_callee, valued_callee}
 use Rattle.pv_check.proofs.DeclaratorRows.{more_known, known_kept, shown_kept}
 use Rattle.pv_check.proofs.FormRows.{array_form, function_behind, listed, no_size, none_within, pointer_form, sized}
 use Rattle.pv_check.proofs.Descending.{above, above_all, has_at, list_above, lower_at, optional_above, optional_inside}
@@ -46,7 +47,7 @@ use Rattle.pv_check.proofs.Leaving.{as_deep}
 use Rattle.pv_check.proofs.ListRows.{one_more, none_in, argument_more, no_argument_in, if_goes, has_within, declarator_is, size_at, value_at}
 use Rattle.pv_check.proofs.NodeRows.{typed_as}
 use Rattle.pv_check.proofs.MemberRows.{list_known, list_stays}
-use Rattle.pv_check.proofs.Opening.{open_goes, has_tag_stays, then_goes}
+use Rattle.pv_check.proofs.Opening.{open_goes, has_tag_stays, same_goes, then_goes}
 use Rattle.pv_check.proofs.ParameterRows.{parameters_known, parameters_stay}
 use Rattle.pv_check.proofs.PassingRows.{nodes_known, nodes_stay}
 use Rattle.pv_check.proofs.SeenRows.{is_type, seen_stays, type_known}
@@ -151,22 +152,75 @@ expressions::typed-returns-in_ok-r-in-Call-clause-typed t c =
 
 pub expressions::call_to-returns-in_default-clause-typed : goal.expressions::call_to-returns-in_default-clause-typed
 expressions::call_to-returns-in_default-clause-typed t c =
-    callee_none _ _ _ (ap (after_number c.args.t.now.texts c.args.hidden c.used_callee.new.s c.args.into.now) (sym c.in_default.is) ∙ c.in_ok-c.ensures.value c.args.t.now.texts c.args.hidden)
+    ap (λ (o : Option (After Callee)). and_then o (λ d. and_then (arguments (arguments_at c.args.u.now.forest c.args.args) d.state) (call c.args.line d.value)))
+    (ap (after_callee c.args.t.now.texts c.args.hidden c.callee_of.new.s c.callee_of.new.into) (sym c.in_default.is) ∙ c.in_ok-c.ensures.typed)
 
 pub expressions::call_to-returns-in_default-2-clause-typed : goal.expressions::call_to-returns-in_default-2-clause-typed
 expressions::call_to-returns-in_default-2-clause-typed t c =
-    ap (λ (o : Option (After (List TypedTree))). and_then o (call c.args.line c.in-Some.c)) (ap (after_nodes c.args.t.now.texts c.args.hidden c.arguments.new.s c.arguments.new.into) (sym c.in_default-2.is) ∙ c.in_ok-list.ensures.typed)
-    ∙ callee_some _ (with_callee (state_of c.args.t.now.texts c.args.hidden c.args.s.now c.args.into.now)) (λ d z. and_then (arguments (arguments_at c.args.u.now.forest c.args.args) z) (call c.args.line d)) c.in-Some.c (state_of c.args.t.now.texts c.args.hidden c.used_callee.new.s c.args.into.now) (ap (after_number c.args.t.now.texts c.args.hidden c.used_callee.new.s c.args.into.now) (sym c.in-Some.is) ∙ c.in_ok-c.ensures.value c.args.t.now.texts c.args.hidden)
+    ap (λ (o : Option (After (List TypedTree))). and_then o (call c.args.line (callee_in c.callee_of.new.into c.in-Some.c))) (ap (after_nodes c.args.t.now.texts c.args.hidden c.arguments.new.s c.arguments.new.into) (sym c.in_default-2.is) ∙ c.in_ok-list.ensures.typed)
+    ∙ ap (λ (o : Option (After Callee)). and_then o (λ d. and_then (arguments (arguments_at c.args.u.now.forest c.args.args) d.state) (call c.args.line d.value)))
+    (ap (after_callee c.args.t.now.texts c.args.hidden c.callee_of.new.s c.callee_of.new.into) (sym c.in-Some.is) ∙ c.in_ok-c.ensures.typed)
 
 pub expressions::call_to-returns-clause-typed : goal.expressions::call_to-returns-clause-typed
 expressions::call_to-returns-clause-typed t c =
     c.in_ok-r.ensures.typed c.args.t.now.texts
-    ∙ ap (λ (ns : List NodeId). call c.args.line c.in-Some.c (record { value = map (expression_at c.arguments.new.into) ns; state = (state_of c.args.t.now.texts c.args.hidden c.arguments.new.s c.arguments.new.into) })) c.deref.ensures.value
-    ∙ ap (λ (o : Option (After (List TypedTree))). and_then o (call c.args.line c.in-Some.c)) (ap (after_nodes c.args.t.now.texts c.args.hidden c.arguments.new.s c.arguments.new.into) (sym c.in-Some-2.is) ∙ c.in_ok-list.ensures.typed)
-    ∙ callee_some _ (with_callee (state_of c.args.t.now.texts c.args.hidden c.args.s.now c.args.into.now)) (λ d z. and_then (arguments (arguments_at c.args.u.now.forest c.args.args) z) (call c.args.line d)) c.in-Some.c (state_of c.args.t.now.texts c.args.hidden c.used_callee.new.s c.args.into.now) (ap (after_number c.args.t.now.texts c.args.hidden c.used_callee.new.s c.args.into.now) (sym c.in-Some.is) ∙ c.in_ok-c.ensures.value c.args.t.now.texts c.args.hidden)
+    ∙ ap (λ (ns : List NodeId). call c.args.line (callee_in c.arguments.new.into c.in-Some.c) (record { value = map (expression_at c.arguments.new.into) ns; state = (state_of c.args.t.now.texts c.args.hidden c.arguments.new.s c.arguments.new.into) })) c.deref.ensures.value
+    ∙ ap (λ (d : Callee). call c.args.line d (record { value = map (expression_at c.arguments.new.into) c.in-Some-2.list.items; state = (state_of c.args.t.now.texts c.args.hidden c.arguments.new.s c.arguments.new.into) })) (callee_stays _ _ c.in-Some.c (there (λ v. Goes _ _) c.in-Some-2.is c.in_ok-list.ensures.goes).grown (called_there c.callee_of.new.into c.callee_of.new.s _ c.in-Some.c c.in-Some.is c.in_ok-c.ensures.open).0)
+    ∙ ap (λ (o : Option (After (List TypedTree))). and_then o (call c.args.line (callee_in c.callee_of.new.into c.in-Some.c))) (ap (after_nodes c.args.t.now.texts c.args.hidden c.arguments.new.s c.arguments.new.into) (sym c.in-Some-2.is) ∙ c.in_ok-list.ensures.typed)
+    ∙ ap (λ (o : Option (After Callee)). and_then o (λ d. and_then (arguments (arguments_at c.args.u.now.forest c.args.args) d.state) (call c.args.line d.value)))
+    (ap (after_callee c.args.t.now.texts c.args.hidden c.callee_of.new.s c.callee_of.new.into) (sym c.in-Some.is) ∙ c.in_ok-c.ensures.typed)
 
 pub expressions::call_to-returns-clause-goes : goal.expressions::call_to-returns-clause-goes
-expressions::call_to-returns-clause-goes t c = kept c.in_ok-r.r (goes_then_kept _ _ _ (there (λ v. Goes _ _) c.in-Some-2.is c.in_ok-list.ensures.goes) c.in_ok-r.ensures.kept)
+expressions::call_to-returns-clause-goes t c =
+    kept c.in_ok-r.r (goes_then_kept _ _ _ (goes_trans _ _ _ (there (λ v. Goes _ _) c.in-Some.is c.in_ok-c.ensures.goes) (there (λ v. Goes _ _) c.in-Some-2.is c.in_ok-list.ensures.goes)) c.in_ok-r.ensures.kept)
+
+pub expressions::call_to-call-requires-clause-callee : goal.expressions::call_to-call-requires-clause-callee
+expressions::call_to-call-requires-clause-callee t c =
+    callee_known c.callee_of.new.into c.arguments.new.into c.in-Some.c (there (λ v. Goes _ _) c.in-Some-2.is c.in_ok-list.ensures.goes).grown (called_there c.callee_of.new.into c.callee_of.new.s _ c.in-Some.c c.in-Some.is c.in_ok-c.ensures.open).0
+
+pub expressions::call_to-callee_of-requires : goal.expressions::call_to-callee_of-requires
+expressions::call_to-callee_of-requires t c = (omega (arith, c.decreases), (c.requires.node, c.requires.open))
+
+pub expressions::call_to-arguments-requires : goal.expressions::call_to-arguments-requires
+expressions::call_to-arguments-requires t c = (omega (arith, c.decreases), (c.requires.list, (called_there c.callee_of.new.into c.callee_of.new.s _ c.in-Some.c c.in-Some.is c.in_ok-c.ensures.open).1))
+
+pub expressions::callee_of-operand-requires : goal.expressions::callee_of-operand-requires
+expressions::callee_of-operand-requires t c = (omega (arith, c.decreases), (c.requires.node, c.in_ok-c.ensures.open))
+
+pub expressions::callee_of-returns-in-Some-clause-open : goal.expressions::callee_of-returns-in-Some-clause-open
+expressions::callee_of-returns-in-Some-clause-open t c = (there (λ f. f < length c.args.into.now.functions) c.in-Some.is c.in_ok-c.ensures.known, c.in_ok-c.ensures.open)
+
+pub expressions::callee_of-returns-in-Some-clause-typed : goal.expressions::callee_of-returns-in-Some-clause-typed
+expressions::callee_of-returns-in-Some-clause-typed t c =
+    let e = expression_of_node c.args.u.now.forest c.args.f in
+    let before = state_of c.args.t.now.texts c.args.hidden c.args.s.now c.args.into.now in
+    let is = subst (λ o. AreCalled c.args.t.now.texts c.args.hidden c.used_callee.new.s c.args.into.now e before o) c.in-Some.is (c.in_ok-c.ensures.value c.args.t.now.texts c.args.hidden) in
+    named_callee c.args.t.now.texts c.args.hidden c.used_callee.new.s c.args.into.now e before c.in-Some.c (operand (types e before)) is
+
+pub expressions::callee_of-returns-in-Some-clause-goes : goal.expressions::callee_of-returns-in-Some-clause-goes
+expressions::callee_of-returns-in-Some-clause-goes t c = same_goes c.args.into.now
+
+pub expressions::callee_of-returns-in_default-2-clause-typed : goal.expressions::callee_of-returns-in_default-2-clause-typed
+expressions::callee_of-returns-in_default-2-clause-typed t c =
+    let e = expression_of_node c.args.u.now.forest c.args.f in
+    let before = state_of c.args.t.now.texts c.args.hidden c.args.s.now c.args.into.now in
+    let is = subst (λ o. AreCalled c.args.t.now.texts c.args.hidden c.used_callee.new.s c.args.into.now e before o) c.in_default.is (c.in_ok-c.ensures.value c.args.t.now.texts c.args.hidden) in
+    ap pointed_callee (ap (after_node c.args.t.now.texts c.args.hidden c.operand.new.s c.operand.new.into) (sym c.in_default-2.is) ∙ c.in_ok-a.ensures.typed)
+    ∙ valued_callee c.args.t.now.texts c.args.hidden c.used_callee.new.s c.args.into.now e before (λ z. operand (types e z)) is
+
+pub expressions::callee_of-returns-clause-open : goal.expressions::callee_of-returns-clause-open
+expressions::callee_of-returns-clause-open t c = subst (λ o. OpenIf c.operand.new.into c.operand.new.s o) c.in-Some-2.is c.in_ok-a.ensures.open
+
+pub expressions::callee_of-returns-clause-typed : goal.expressions::callee_of-returns-clause-typed
+expressions::callee_of-returns-clause-typed t c =
+    let e = expression_of_node c.args.u.now.forest c.args.f in
+    let before = state_of c.args.t.now.texts c.args.hidden c.args.s.now c.args.into.now in
+    let is = subst (λ o. AreCalled c.args.t.now.texts c.args.hidden c.used_callee.new.s c.args.into.now e before o) c.in_default.is (c.in_ok-c.ensures.value c.args.t.now.texts c.args.hidden) in
+    ap pointed_callee (ap (after_node c.args.t.now.texts c.args.hidden c.operand.new.s c.operand.new.into) (sym c.in-Some-2.is) ∙ c.in_ok-a.ensures.typed)
+    ∙ valued_callee c.args.t.now.texts c.args.hidden c.used_callee.new.s c.args.into.now e before (λ z. operand (types e z)) is
+
+pub expressions::callee_of-returns-clause-goes : goal.expressions::callee_of-returns-clause-goes
+expressions::callee_of-returns-clause-goes t c = there (λ v. Goes _ _) c.in-Some-2.is c.in_ok-a.ensures.goes
 
 pub expressions::arguments-returns-in_default-clause-typed : goal.expressions::arguments-returns-in_default-clause-typed
 expressions::arguments-returns-in_default-clause-typed t c =
@@ -735,7 +789,7 @@ expressions::typed-call_to-requires t c =
     let here : c.args.e.0 < length f.trees = c.requires.node.0 in
     let below : c.in-Call.f.0 < c.args.e.0 = ch.0.0 in
     let lower : above_all (list_at f c.in-Call.args) ≤ c.args.e.0 = list_above f is_expression c.args.e.0 c.in-Call.args ch.1 in
-    (omega (arith, c.decreases, lower), ((omega (arith, below, here), ch.0.1), (has_within f is_expression c.args.e.0 (length f.trees) c.in-Call.args c.requires.node.0 ch.1, c.requires.open)))
+    (omega (arith, c.decreases, lower, below), ((omega (arith, below, here), ch.0.1), (has_within f is_expression c.args.e.0 (length f.trees) c.in-Call.args c.requires.node.0 ch.1, c.requires.open)))
 
 pub listed::member-specified_type-requires : goal.listed::member-specified_type-requires
 listed::member-specified_type-requires t c =

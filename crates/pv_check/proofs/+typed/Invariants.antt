@@ -44,7 +44,10 @@ abbrev pub decreases-expressions::cast_to : goal.decreases-expressions::cast_to
 decreases-expressions::cast_to l = max l.n.0 l.a.0 * 8 + 7
 
 abbrev pub decreases-expressions::call_to : goal.decreases-expressions::call_to
-decreases-expressions::call_to l = above_all (list_at l.u.now.forest l.args) * 8 + 1
+decreases-expressions::call_to l = max (l.f.0 * 8 + 6) (above_all (list_at l.u.now.forest l.args) * 8 + 1)
+
+abbrev pub decreases-expressions::callee_of : goal.decreases-expressions::callee_of
+decreases-expressions::callee_of l = l.f.0 * 8 + 5
 
 abbrev pub decreases-expressions::arguments : goal.decreases-expressions::arguments
 decreases-expressions::arguments l = above_all (list_at l.u.now.forest l.args) * 8

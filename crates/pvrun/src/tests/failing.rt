@@ -1,6 +1,6 @@
 //! Files and sinks that fail at one of their calls.
 
-use super::{Devices, Input, SHORTEST, alone, expect, text, told};
+use super::{Devices, SHORTEST, alone, expect, text, told, with_script};
 use std::alloc::Global;
 use std::process::Abort;
 use std::test::*;
@@ -39,10 +39,7 @@ const FAULTS: &str = r#"
 
 #[test]
 fn a_call_that_fails_is_told(rt: HostRuntime) {
-    let input = Input {
-        source: PRINTS.as_bytes(),
-        script: b"x 1 0x20000\n",
-    };
+    let input = with_script(PRINTS);
     for line in FAULTS.lines() {
         if let Some((call, wanted)) = line.split_once(" => ") {
             let (read, call) = number_of(call);

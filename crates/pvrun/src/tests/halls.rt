@@ -1,5 +1,5 @@
 //! Halls that the program itself doesn't make.
-use super::{expect, text, watched_rows, words_of};
+use super::{expect, text, words_of};
 use pv_explain::{Census, Explain, Pointers};
 use pv_script::{MemFiles, MemSink, Names};
 use pv_serve::serve;
@@ -87,6 +87,31 @@ const PRINTS: &str = r#"int printf(const char *, ...);
 int main(void){int i; for (i = 0; i < 1000; i++) printf("0123456789"); { int z; } return 0;}
 "#;
 
+// A program that is run with a hall of one census, which wants two events: what is told of it.
+const FEW: (&str, &str) = (
+    r#"int x = 5;
+int main(void) {
+  int *p = &x;
+  int *q;
+  unsigned char *s = (unsigned char *)&p;
+  unsigned char *d = (unsigned char *)&q;
+  int i;
+  for (i = 0; i < 8; i = i + 1)
+    d[i] = s[i];
+  return *q;
+}
+"#,
+    r#"0 exit status=5 turn=150
+create 2
+end 0
+expose 0
+pair 0
+use 0
+fault 0
+cut
+"#,
+);
+
 const ALL: &str = "run a.c --watch explain --watch census --watch pointers";
 
 // What is told of a source before these watchers, over a sink of which these writes fail.
@@ -152,7 +177,7 @@ fn a_watcher_without_memory_ends_the_call(rt: HostRuntime) {
 #[test]
 fn a_watcher_leaves_when_it_has_seen_enough(rt: HostRuntime) {
     let alloc = rt.alloc();
-    let (source, wanted) = watched_rows::FEW;
+    let (source, wanted) = FEW;
     let mut watchers: Vec<Box<dyn Watch>> = Vec::new(alloc);
     let boxed = Box::new(alloc, Census::new(alloc, 2)).expect(&rt, "no memory");
     watchers.push(boxed).expect(&rt, "no memory");

@@ -33,6 +33,10 @@ pub returns-in-String-clause-led : goal.returns-in-String-clause-led
 unfolding ev
 returns-in-String-clause-led c = λ b out es hs hl call t j js. rw (c.in-String.is, c.give-in-String.ensures) (came-given b call c.args.unit.now c.literal.result _ (opened j.foes ∷ js) _ (c.literal.ensures.acted b out es hs hl))
 
+pub returns-in-Function-clause-led : goal.returns-in-Function-clause-led
+unfolding ev
+returns-in-Function-clause-led c = λ b out es hs hl call t j js. rw (c.in-Function.is, c.give-in-Function.ensures) (came-given b call c.args.unit.now c.function.result _ (opened j.foes ∷ js) _ (c.function.ensures.acted b out es hs hl))
+
 pub returns-in-Call-clause-led : goal.returns-in-Call-clause-led
 unfolding ev
 returns-in-Call-clause-led c = λ b out es hs hl call t j js.

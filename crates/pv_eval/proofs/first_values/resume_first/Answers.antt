@@ -93,4 +93,5 @@ returns-in-None-clause-led c = λ b out es hs hl call.
       not-CompoundAssign = c.in_default.not-CompoundAssign;
       not-PointerAssign = c.in_default.not-PointerAssign;
       not-Increment = c.in_default.not-Increment;
+      not-CallPointer = c.in_default.not-CallPointer;
     })

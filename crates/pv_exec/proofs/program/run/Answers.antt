@@ -11,11 +11,11 @@ pub returns-in-Some-outcome_by-clause-ran : goal.returns-in-Some-outcome_by-clau
 returns-in-Some-outcome_by-clause-ran g c =
     let u = c.args.u.now in
     let hs = highs c.args.sides (λ x. x.now) in
-    let R = run_of (setting_of u c.args.bound hs) c.args.script in
+    let R = run_of (setting_of u c.args.bound hs c.args.zap) c.args.script in
     let m = c.run_unit-ended.new.machine in
     let x = c.run_unit-ended.result in
     let led = c.run_unit-ended.ensures.ended in
-    let e = run-over u c.args.bound hs c.args.script c.in-Ok.machine m x (c.in-Ok.ensures.value ∙ ap (first_machine c.args.script) c.in-Some.ensures) led in
+    let e = run-over u c.args.bound hs c.args.zap c.args.script c.in-Ok.machine m x (c.in-Ok.ensures.value ∙ ap (λ hs. first_machine c.args.script hs c.args.zap) c.in-Some.ensures) led in
     let o = c.in-Some-outcome_by.outcome in
     let v = over R x o m.moment led.bytes led.events (sym c.in-Some-outcome_by.ensures) e in
     ran-as R o m.moment led.bytes led.events c.answer.result v c.answer.ensures.ran
@@ -24,11 +24,11 @@ pub returns-in-Some-outcome_by-clause-gains : goal.returns-in-Some-outcome_by-cl
 returns-in-Some-outcome_by-clause-gains g c =
     let u = c.args.u.now in
     let hs = highs c.args.sides (λ x. x.now) in
-    let R = run_of (setting_of u c.args.bound hs) c.args.script in
+    let R = run_of (setting_of u c.args.bound hs c.args.zap) c.args.script in
     let m = c.run_unit-ended.new.machine in
     let x = c.run_unit-ended.result in
     let led = c.run_unit-ended.ensures.ended in
-    let e = run-over u c.args.bound hs c.args.script c.in-Ok.machine m x (c.in-Ok.ensures.value ∙ ap (first_machine c.args.script) c.in-Some.ensures) led in
+    let e = run-over u c.args.bound hs c.args.zap c.args.script c.in-Ok.machine m x (c.in-Ok.ensures.value ∙ ap (λ hs. first_machine c.args.script hs c.args.zap) c.in-Some.ensures) led in
     let o = c.in-Some-outcome_by.outcome in
     let v = over R x o m.moment led.bytes led.events (sym c.in-Some-outcome_by.ensures) e in
     gained R o m.moment led.bytes led.events c.answer.result _ _ _ v led.streams.gains c.answer.ensures.gains
@@ -37,11 +37,11 @@ pub returns-in-Some-outcome_by-clause-part : goal.returns-in-Some-outcome_by-cla
 returns-in-Some-outcome_by-clause-part g c =
     let u = c.args.u.now in
     let hs = highs c.args.sides (λ x. x.now) in
-    let R = run_of (setting_of u c.args.bound hs) c.args.script in
+    let R = run_of (setting_of u c.args.bound hs c.args.zap) c.args.script in
     let m = c.run_unit-ended.new.machine in
     let x = c.run_unit-ended.result in
     let led = c.run_unit-ended.ensures.ended in
-    let e = run-over u c.args.bound hs c.args.script c.in-Ok.machine m x (c.in-Ok.ensures.value ∙ ap (first_machine c.args.script) c.in-Some.ensures) led in
+    let e = run-over u c.args.bound hs c.args.zap c.args.script c.in-Ok.machine m x (c.in-Ok.ensures.value ∙ ap (λ hs. first_machine c.args.script hs c.args.zap) c.in-Some.ensures) led in
     let o = c.in-Some-outcome_by.outcome in
     let v = over R x o m.moment led.bytes led.events (sym c.in-Some-outcome_by.ensures) e in
     gained-part R o m.moment led.bytes led.events c.answer.result _ _ _ v led.streams.gains c.answer.ensures.part
@@ -53,11 +53,11 @@ pub returns-in-Some-outcome_by-clause-told : goal.returns-in-Some-outcome_by-cla
 returns-in-Some-outcome_by-clause-told g c =
     let u = c.args.u.now in
     let hs = highs c.args.sides (λ x. x.now) in
-    let R = run_of (setting_of u c.args.bound hs) c.args.script in
+    let R = run_of (setting_of u c.args.bound hs c.args.zap) c.args.script in
     let m = c.run_unit-ended.new.machine in
     let x = c.run_unit-ended.result in
     let led = c.run_unit-ended.ensures.ended in
-    let e = run-over u c.args.bound hs c.args.script c.in-Ok.machine m x (c.in-Ok.ensures.value ∙ ap (first_machine c.args.script) c.in-Some.ensures) led in
+    let e = run-over u c.args.bound hs c.args.zap c.args.script c.in-Ok.machine m x (c.in-Ok.ensures.value ∙ ap (λ hs. first_machine c.args.script hs c.args.zap) c.in-Some.ensures) led in
     let o = c.in-Some-outcome_by.outcome in
     let v = over R x o m.moment led.bytes led.events (sym c.in-Some-outcome_by.ensures) e in
     let a = outlet (g.O.Sink.written c.args.out.now) c.args.hall.now (λ z. (goal.Watch-dyn g z).its_kind z.1) (λ z. (goal.Watch-dyn g z).its_wants z.1) (λ z. (goal.Watch-dyn g z).seen z.1) in
@@ -69,22 +69,22 @@ pub returns-clause-part : goal.returns-clause-part
 returns-clause-part g c =
     let u = c.args.u.now in
     let hs = highs c.args.sides (λ x. x.now) in
-    let R = run_of (setting_of u c.args.bound hs) c.args.script in
+    let R = run_of (setting_of u c.args.bound hs c.args.zap) c.args.script in
     let m = c.run_unit-ended.new.machine in
     let x = c.run_unit-ended.result in
     let led = c.run_unit-ended.ensures.ended in
-    let e = run-over u c.args.bound hs c.args.script c.in-Ok.machine m x (c.in-Ok.ensures.value ∙ ap (first_machine c.args.script) c.in-Some.ensures) led in
+    let e = run-over u c.args.bound hs c.args.zap c.args.script c.in-Ok.machine m x (c.in-Ok.ensures.value ∙ ap (λ hs. first_machine c.args.script hs c.args.zap) c.in-Some.ensures) led in
     lost-part R x m.moment led.bytes led.events u.names (outlet (g.O.Sink.written c.args.out.now) c.args.hall.now (λ z. (goal.Watch-dyn g z).its_kind z.1) (λ z. (goal.Watch-dyn g z).its_wants z.1) (λ z. (goal.Watch-dyn g z).seen z.1)) (outlet (g.O.Sink.written c.run_unit-ended.new.out) c.run_unit-ended.new.hall (λ z. (goal.Watch-dyn g z).its_kind z.1) (λ z. (goal.Watch-dyn g z).its_wants z.1) (λ z. (goal.Watch-dyn g z).seen z.1)) e led.streams
 
 pub returns-clause-told : goal.returns-clause-told
 returns-clause-told g c =
     let u = c.args.u.now in
     let hs = highs c.args.sides (λ x. x.now) in
-    let R = run_of (setting_of u c.args.bound hs) c.args.script in
+    let R = run_of (setting_of u c.args.bound hs c.args.zap) c.args.script in
     let m = c.run_unit-ended.new.machine in
     let x = c.run_unit-ended.result in
     let led = c.run_unit-ended.ensures.ended in
-    let e = run-over u c.args.bound hs c.args.script c.in-Ok.machine m x (c.in-Ok.ensures.value ∙ ap (first_machine c.args.script) c.in-Some.ensures) led in
+    let e = run-over u c.args.bound hs c.args.zap c.args.script c.in-Ok.machine m x (c.in-Ok.ensures.value ∙ ap (λ hs. first_machine c.args.script hs c.args.zap) c.in-Some.ensures) led in
     let a = outlet (g.O.Sink.written c.args.out.now) c.args.hall.now (λ z. (goal.Watch-dyn g z).its_kind z.1) (λ z. (goal.Watch-dyn g z).its_wants z.1) (λ z. (goal.Watch-dyn g z).seen z.1) in
     let q = outlet (g.O.Sink.written c.run_unit-ended.new.out) c.run_unit-ended.new.hall (λ z. (goal.Watch-dyn g z).its_kind z.1) (λ z. (goal.Watch-dyn g z).its_wants z.1) (λ z. (goal.Watch-dyn g z).seen z.1) in
     subst (λ (y : RunError). ToldOr (Err y) a q (end_of R) u.names) (sym c.error_by.ensures) (lost-told R x m.moment led.bytes led.events u.names a q e led.streams)

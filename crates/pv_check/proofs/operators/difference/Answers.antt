@@ -1,0 +1,11 @@
+use Rattle.pv_check.proofs.Keeping.{kept_trans}
+use Rattle.pv_check.proofs.operators.difference.Goals as goal
+
+pub pointer_difference-requires-clause-known : goal.pointer_difference-requires-clause-known
+pointer_difference-requires-clause-known c = c.in-Ok.ensures.kept.grown.known c.requires.known
+
+pub returns-clause-node : goal.returns-clause-node
+returns-clause-node c = c.in-Ok-pointer_difference.ensures.node
+
+pub returns-clause-kept : goal.returns-clause-kept
+returns-clause-kept c = kept_trans _ _ _ c.in-Ok.ensures.kept c.in-Ok-pointer_difference.ensures.kept

@@ -1,7 +1,0 @@
-use Rattle.std.proofs.Common.{take, All}
-use Rattle.pv_object.specs.Values.{IsMadeValue}
-use Rattle.pv_libc_tests.proofs.bench.all_known.Given as goal
-
--- the names of those that were asked are made
-abbrev pub invariant-loop-i : goal.invariant-loop-i
-invariant-loop-i g l = All (λ a. IsMadeValue l.memory.table a.value) (take l.i l.args)

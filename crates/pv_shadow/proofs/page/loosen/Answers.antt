@@ -1,0 +1,37 @@
+use Rattle.std.proofs.Common.{◌≡◌, ◌+◌, ◌<◌, get_or, set, Some, sym, ap, subst, ◌∙◌, inl, inr, ⊎_elim, arith}
+use Rattle.std.proofs.lemmas.List.{get_or-set_same, get_or-set_other, length-set}
+use Rattle.pv_shadow.specs.declared.packed.Packed.{Packed}
+use Rattle.pv_shadow.specs.Packed.{unpacked, absent, cell_byte}
+use Rattle.pv_shadow.proofs.Pages.{same_or_not}
+use Rattle.pv_shadow.proofs.Cells.{loosened}
+use Rattle.pv_shadow.proofs.page.loosen.Goals as goal
+
+pub loop-j-preserved : goal.loop-j-preserved
+loop-j-preserved c =
+    let head : Packed = get_or c.args.slots.now c.args.g absent in
+    let behind : Packed = get_or c.args.slots.now (c.args.g + 1) absent in
+    record {
+      long = length-set c.loop-j.slots (c.args.g + c.loop-j.j) c.pack.result ∙ c.loop-j.invariant.long;
+      bytes = λ k h. ⊎_elim
+          (λ e. ap (λ q. unpacked (get_or (set c.loop-j.slots (c.args.g + c.loop-j.j) c.pack.result) (c.args.g + q) absent)) e
+          ∙ ap unpacked (get_or-set_same c.loop-j.slots (c.args.g + c.loop-j.j) c.pack.result absent (omega (arith, c.loop-j.invariant.long, c.requires.first)))
+          ∙ c.pack.ensures.is ∙ ap Some c.cell_byte.ensures ∙ ap (λ q. Some (cell_byte head behind.name q)) (sym e))
+          (λ n. ap unpacked (get_or-set_other c.loop-j.slots (c.args.g + c.loop-j.j) (c.args.g + k) c.pack.result absent (λ e. n (omega arith)))
+          ∙ c.loop-j.invariant.bytes k (omega arith))
+          (same_or_not k c.loop-j.j);
+      loose = λ k h. ⊎_elim
+          (λ e. subst (λ (y : Packed). y.kind < 64) (sym (ap (λ q. get_or (set c.loop-j.slots (c.args.g + c.loop-j.j) c.pack.result) (c.args.g + q) absent) e
+          ∙ get_or-set_same c.loop-j.slots (c.args.g + c.loop-j.j) c.pack.result absent (omega (arith, c.loop-j.invariant.long, c.requires.first)))) c.pack.ensures.loose)
+          (λ n. subst (λ (y : Packed). y.kind < 64) (sym (get_or-set_other c.loop-j.slots (c.args.g + c.loop-j.j) (c.args.g + k) c.pack.result absent (λ e. n (omega arith))))
+          (c.loop-j.invariant.loose k (omega arith)))
+          (same_or_not k c.loop-j.j);
+      others = λ q o. get_or-set_other c.loop-j.slots (c.args.g + c.loop-j.j) q c.pack.result absent (⊎_elim (λ l. λ e. omega arith) (λ r. λ e. omega arith) o)
+          ∙ c.loop-j.invariant.others q (⊎_elim (λ l. inl l) (λ r. inr (omega arith)) o);
+    }
+
+pub returns-clause-same : goal.returns-clause-same
+returns-clause-same c =
+    let z : c.args.g + 0 ≡ c.args.g = omega arith in
+    loosened c.args.slots.now c.loop-j.slots c.args.g c.requires.first c.requires.cell (λ k h. c.loop-j.invariant.bytes k (omega arith))
+    (subst (λ q. (get_or c.loop-j.slots q absent).kind < 64) z (c.loop-j.invariant.loose 0 (omega arith)))
+    (λ q o. c.loop-j.invariant.others q (⊎_elim (λ l. inl l) (λ r. inr (omega arith)) o))

@@ -1,0 +1,20 @@
+use Rattle.std.proofs.Common.{◌∙◌, sym, ap}
+use Rattle.pv_types.specs.Known.{env}
+use Rattle.pv_types.specs.Layouts.{layout_in, is_complete_in}
+use Rattle.pv_types.proofs.Made.{flag}
+use Rattle.pv_tests.proofs.types.numbered.Goals as goal
+
+pub struct_number-requires-clause-complete : goal.struct_number-requires-clause-complete
+struct_number-requires-clause-complete c =
+    let m = c.args.types.now in
+    let same = ap (is_complete_in (env m)) (sym c.in-Struct.ensures.tree) in
+    rw same c.requires.complete
+
+pub struct_number-requires-clause-structure : goal.struct_number-requires-clause-structure
+struct_number-requires-clause-structure c = flag c.args.types.now c.in-Struct.tag c.in-Struct.ensures.built (struct_number-requires-clause-complete c) ∙ c.in-Struct.ensures.tagged.1
+
+pub struct_number-requires-clause-small : goal.struct_number-requires-clause-small
+struct_number-requires-clause-small c =
+    let m = c.args.types.now in
+    let same = ap (λ t. (layout_in (env m) t).size) (sym c.in-Struct.ensures.tree) in
+    rw same c.requires.small
