@@ -11,6 +11,8 @@ mod numbers;
 #[cfg(test)]
 mod outside;
 #[cfg(test)]
+mod scripts;
+#[cfg(test)]
 mod sequences;
 #[cfg(test)]
 mod sources;
