@@ -41,6 +41,12 @@ all_followed_cut = refl
 all_followed : text_of 3 100 all_seen texts ≡ Some ((lines (((codes "pair " ++ (decimal 1)) ++ (codes " turn=" ++ (decimal 4)) ++ (codes " address=" ++ (address_text 4100)) ++ (codes " low=" ++ (codes "x#" ++ decimal 1)) ++ (codes " high=" ++ (codes "y#" ++ decimal 1))) ∷ ((codes "use " ++ (decimal 1)) ++ (codes " turn=" ++ (decimal 5)) ++ (codes " test=" ++ (codes "live")) ++ (codes " left=" ++ ((codes "x#" ++ decimal 1) ++ codes "," ++ (codes "y#" ++ decimal 1)))) ∷ ((codes "use " ++ (decimal 1)) ++ (codes " turn=" ++ (decimal 6)) ++ (codes " test=" ++ (codes "range")) ++ (codes " left=" ++ (codes "x#" ++ decimal 1))) ∷ [])) ++ [])
 all_followed = refl
 
+all_journaled_cut : text_of 4 9 all_seen texts ≡ Some (lines (((codes "create " ++ (codes "x#" ++ decimal 1)) ++ (codes " turn=" ++ (decimal 1)) ++ (codes " base=" ++ (address_text 4096)) ++ (codes " size=" ++ (decimal 4))) ∷ ((codes "create " ++ (codes "y#" ++ decimal 1)) ++ (codes " turn=" ++ (decimal 2)) ++ (codes " base=" ++ (address_text 4100)) ++ (codes " size=" ++ (decimal 4))) ∷ ((codes "expose " ++ (codes "x#" ++ decimal 1)) ++ (codes " turn=" ++ (decimal 3))) ∷ ((codes "expose " ++ (codes "y#" ++ decimal 1)) ++ (codes " turn=" ++ (decimal 3))) ∷ ((codes "pair " ++ (decimal 1)) ++ (codes " turn=" ++ (decimal 4)) ++ (codes " address=" ++ (address_text 4100)) ++ (codes " low=" ++ (codes "x#" ++ decimal 1)) ++ (codes " high=" ++ (codes "y#" ++ decimal 1))) ∷ ((codes "use " ++ (decimal 1)) ++ (codes " turn=" ++ (decimal 5)) ++ (codes " test=" ++ (codes "live")) ++ (codes " left=" ++ ((codes "x#" ++ decimal 1) ++ codes "," ++ (codes "y#" ++ decimal 1)))) ∷ ((codes "use " ++ (decimal 1)) ++ (codes " turn=" ++ (decimal 6)) ++ (codes " test=" ++ (codes "range")) ++ (codes " left=" ++ (codes "x#" ++ decimal 1))) ∷ ((codes "end " ++ (codes "y#" ++ decimal 1)) ++ (codes " turn=" ++ (decimal 7))) ∷ (codes "fault" ++ (codes " turn=" ++ (decimal 8))) ∷ []) ++ line (codes "events " ++ decimal 9))
+all_journaled_cut = refl
+
+all_journaled : text_of 4 100 all_seen texts ≡ Some (lines (((codes "create " ++ (codes "x#" ++ decimal 1)) ++ (codes " turn=" ++ (decimal 1)) ++ (codes " base=" ++ (address_text 4096)) ++ (codes " size=" ++ (decimal 4))) ∷ ((codes "create " ++ (codes "y#" ++ decimal 1)) ++ (codes " turn=" ++ (decimal 2)) ++ (codes " base=" ++ (address_text 4100)) ++ (codes " size=" ++ (decimal 4))) ∷ ((codes "expose " ++ (codes "x#" ++ decimal 1)) ++ (codes " turn=" ++ (decimal 3))) ∷ ((codes "expose " ++ (codes "y#" ++ decimal 1)) ++ (codes " turn=" ++ (decimal 3))) ∷ ((codes "pair " ++ (decimal 1)) ++ (codes " turn=" ++ (decimal 4)) ++ (codes " address=" ++ (address_text 4100)) ++ (codes " low=" ++ (codes "x#" ++ decimal 1)) ++ (codes " high=" ++ (codes "y#" ++ decimal 1))) ∷ ((codes "use " ++ (decimal 1)) ++ (codes " turn=" ++ (decimal 5)) ++ (codes " test=" ++ (codes "live")) ++ (codes " left=" ++ ((codes "x#" ++ decimal 1) ++ codes "," ++ (codes "y#" ++ decimal 1)))) ∷ ((codes "use " ++ (decimal 1)) ++ (codes " turn=" ++ (decimal 6)) ++ (codes " test=" ++ (codes "range")) ++ (codes " left=" ++ (codes "x#" ++ decimal 1))) ∷ ((codes "end " ++ (codes "y#" ++ decimal 1)) ++ (codes " turn=" ++ (decimal 7))) ∷ (codes "fault" ++ (codes " turn=" ++ (decimal 8))) ∷ []) ++ line (codes "events " ++ decimal 9))
+all_journaled = refl
+
 abbrev unknown_seen : List Event
 unknown_seen = event 1 (Made 1 5 1 0 1) ∷ event 2 (Ended 9) ∷ event 3 (Tried 4 9 true true) ∷ event 4 (Pair 1 0 9 1) ∷ event 5 (Made 1 0 2 16 8) ∷ event 6 (Exposed 1) ∷ event 7 (Tried 1 4 false false) ∷ []
 
@@ -61,6 +67,9 @@ unknown_followed_cut = refl
 
 unknown_followed : text_of 3 100 unknown_seen texts ≡ Some ((lines (((codes "use " ++ (decimal 4)) ++ (codes " turn=" ++ (decimal 3)) ++ (codes " test=" ++ (codes "?")) ++ (codes " left=" ++ ((codes "?") ++ codes "," ++ (codes "?")))) ∷ ((codes "pair " ++ (decimal 1)) ++ (codes " turn=" ++ (decimal 4)) ++ (codes " address=" ++ (codes "(nil)")) ++ (codes " low=" ++ (codes "?")) ++ (codes " high=" ++ (codes "?"))) ∷ ((codes "use " ++ (decimal 1)) ++ (codes " turn=" ++ (decimal 7)) ++ (codes " test=" ++ (codes "same")) ++ (codes " left=" ++ (codes ""))) ∷ [])) ++ [])
 unknown_followed = refl
+
+unknown_journaled : text_of 4 100 unknown_seen texts ≡ Some (lines (((codes "create " ++ (codes "?")) ++ (codes " turn=" ++ (decimal 1)) ++ (codes " base=" ++ (codes "(nil)")) ++ (codes " size=" ++ (decimal 1))) ∷ ((codes "end " ++ (codes "?")) ++ (codes " turn=" ++ (decimal 2))) ∷ ((codes "use " ++ (decimal 4)) ++ (codes " turn=" ++ (decimal 3)) ++ (codes " test=" ++ (codes "?")) ++ (codes " left=" ++ ((codes "?") ++ codes "," ++ (codes "?")))) ∷ ((codes "pair " ++ (decimal 1)) ++ (codes " turn=" ++ (decimal 4)) ++ (codes " address=" ++ (codes "(nil)")) ++ (codes " low=" ++ (codes "?")) ++ (codes " high=" ++ (codes "?"))) ∷ ((codes "create " ++ (codes "?")) ++ (codes " turn=" ++ (decimal 5)) ++ (codes " base=" ++ (address_text 16)) ++ (codes " size=" ++ (decimal 8))) ∷ ((codes "expose " ++ (codes "?")) ++ (codes " turn=" ++ (decimal 6))) ∷ ((codes "use " ++ (decimal 1)) ++ (codes " turn=" ++ (decimal 7)) ++ (codes " test=" ++ (codes "same")) ++ (codes " left=" ++ (codes ""))) ∷ []) ++ line (codes "events " ++ decimal 7))
+unknown_journaled = refl
 
 abbrev faults_seen : List Event
 faults_seen = event 1 (Made 1 0 1 4096 4) ∷ event 2 (Fault Undecided None None None) ∷ event 3 (Fault Undecided (Some 1) None None) ∷ event 4 (Ended 1) ∷ []
@@ -94,3 +103,6 @@ none_counted = refl
 
 none_followed : text_of 3 100 none_seen texts ≡ Some (([]) ++ [])
 none_followed = refl
+
+none_journaled : text_of 4 100 none_seen texts ≡ Some (lines ([]) ++ line (codes "events " ++ decimal 0))
+none_journaled = refl

@@ -109,6 +109,17 @@ explained seen names (Some s) = event_lines seen names (concerning s false seen)
 abbrev pub explain_text : List Event → List (List ℕ) → List ℕ
 explain_text seen names = explained seen names (first_told suspects_of seen)
 
+-- ---- kind 4: all that was seen, and how much it was
+
+-- the line behind all others: how many events of the memory model were seen (docs/FORMATS.md, Journals)
+abbrev pub last_line : ℕ → List ℕ
+last_line n = line (codes "events " ++ decimal n)
+
+-- a line for each event of the memory model that was seen, and how many there are (docs/FORMATS.md, Journals)
+-- worked: all_journaled, all_journaled_cut, unknown_journaled, none_journaled
+abbrev pub journal_text : List Event → List (List ℕ) → List ℕ
+journal_text seen names = event_lines seen names seen ++ last_line (length seen)
+
 -- ---- all of them
 
 -- as many events as wanted were seen, so that later ones may be missing (docs/FORMATS.md, What watchers say; memory model)
@@ -121,4 +132,5 @@ text_of kind wants seen names =
     if kind == 1 then Some (explain_text seen names ++ cut wants seen)
     else if kind == 2 then Some (census_text seen ++ cut wants seen)
     else if kind == 3 then Some (pointers_text seen names ++ cut wants seen)
+    else if kind == 4 then Some (journal_text seen names)
     else None

@@ -31,7 +31,8 @@ pub trait Watch: Drop {
     /// How many events it wants to see.
     ghost its_wants: { Self → ℕ };
 
-    /// Which kind of watcher it is: 1 explains a fault, 2 counts events, 3 follows pairs; the texts of other kinds are their own.
+    /// Which kind of watcher it is: 1 explains a fault, 2 counts events, 3 follows pairs, 4 keeps a journal of them all; the texts of
+    /// other kinds are their own.
     fn kind(&self) -> u8
         ensures { result ≡ its_kind self.now };
 
