@@ -115,6 +115,18 @@ fn hold_a_pointer(rt: &impl Abort, memory: &mut Memory) {
     assert!(rt; load(rt, memory, SECOND, Scalar::Pointer) == Value::Pointer(SECOND));
 }
 
+/// Where it stands there is one whole pointer, to what is live.
+fn ask_for_a_pointer(rt: &impl Abort, memory: &mut Memory) {
+    let at = reach(rt, memory, FIRST, false);
+    let Some(whole) = memory.whole_pointer(&at) else {
+        panic!(rt; "no whole pointer");
+    };
+    let Ok((value, _)) = memory.tested(whole) else {
+        panic!(rt; "it has ended");
+    };
+    assert!(rt; value == Value::Pointer(SECOND));
+}
+
 /// The same by a list of bytes.
 fn write_bytes_of_a_pointer(rt: &impl Abort, memory: &mut Memory) {
     let at = reach(rt, memory, FIRST, false);
@@ -130,5 +142,6 @@ fn bytes_hold_numbers_and_pointers(rt: HostRuntime) {
     hold_a_number(&rt, &mut memory);
     look_at_bytes(&rt, &mut memory);
     hold_a_pointer(&rt, &mut memory);
+    ask_for_a_pointer(&rt, &mut memory);
     write_bytes_of_a_pointer(&rt, &mut memory);
 }

@@ -15,7 +15,7 @@ use Rattle.pv_inst.specs.Exposure.{expose}
 use Rattle.pv_inst.specs.Finding.{name_at, after_name, found_at}
 use Rattle.pv_shadow.specs.declared.byte.Byte.{Byte}
 use Rattle.pv_shadow.specs.Bytes.{read}
-use Rattle.pv_shadow.specs.Whole.{whole_name}
+use Rattle.pv_shadow.specs.Whole.{whole_name, pointer_in}
 use Rattle.pv_object.specs.declared.values.Pointer.{Pointer}
 use Rattle.pv_object.specs.declared.values.Scalar.{Scalar}
 use Rattle.pv_object.specs.declared.values.Scalar.TheVariants as scalar
@@ -50,6 +50,10 @@ pointer_named T None a = tested (after_name T a) (record { address = a; prov = n
 -- which the number finds (of two instances, the next pair). None where a byte has no value.
 abbrev pub loaded_name : Table → List Byte → Option Prov
 loaded_name T bytes = option_map (λ a. unwrap_or (whole_name bytes) (name_at T a)) (number_in bytes)
+
+-- the memory model: the pointer that bytes are which were stored as one and are whole, before its live test
+abbrev pub whole_pointer : List Byte → Option Pointer
+whole_pointer bytes = option_map (λ x. record { address = x.0; prov = x.1 }) (pointer_in bytes)
 
 -- 6.2.6.1p5, 3.19.2: what bytes are worth at a pointer type; indeterminate where one has no value
 abbrev pub pointer_of : Table → List Byte → Option ℕ → Loaded

@@ -1,5 +1,5 @@
 // The memory: its instances, accesses to them, and the steps that change its table.
-ghost use Rattle.std.specs.Prelude.{◌≡◌, ◌+◌, ◌<◌, ◌≤◌, ◌↔◌, ◌^◌, length, replicate, take, All, IfOk, IfNone, OnOk, OnErr, IsSome, true, codes, option_to_list, drop, ◌++◌, [], not};
+ghost use Rattle.std.specs.Prelude.{◌≡◌, ◌+◌, ◌<◌, ◌≤◌, ◌↔◌, ◌^◌, length, replicate, take, All, IfOk, IfSome, IfNone, OnOk, OnErr, IsSome, true, codes, option_to_list, drop, ◌++◌, [], not};
 ghost use Rattle.pv_prov.specs.declared.names.Prov.{Prov};
 ghost use Rattle.pv_prov.specs.Names.{Stands_low, Stands_high, kept};
 ghost use Rattle.pv_script.specs.Names.{name_at as text_of};
@@ -15,7 +15,7 @@ ghost use Rattle.pv_object.specs.Later.{IsLater};
 ghost use Rattle.pv_object.specs.Values.{IsOf, IsMadeValue};
 ghost use Rattle.pv_object.specs.Encoding.{size_of, encode};
 ghost use Rattle.pv_object.specs.Access.{reach};
-ghost use Rattle.pv_object.specs.Loading.{value_of, load, exposed_by, tested, integer_of, loaded_name, pointer_of, MakesPair, FitsTwo, OrNoPair};
+ghost use Rattle.pv_object.specs.Loading.{value_of, load, exposed_by, tested, integer_of, loaded_name, whole_pointer, pointer_of, MakesPair, FitsTwo, OrNoPair};
 ghost use Rattle.pv_object.specs.Storing.{with_bytes, stored, copied};
 ghost use Rattle.pv_object.specs.Creating.{created, without, OrSpent, HasSize};
 ghost use Rattle.pv_object.specs.Encoding.{number_in};
@@ -325,6 +325,22 @@ impl Memory {
         }
     }
 
+    /// The pointer that the eight bytes at a place are, before its live test: some exactly where they were stored as one
+    /// pointer and are whole. No byte is handed over.
+    #[inline(always)]
+    #[tactic(auto, using(crate::proofs::Wholes::whole_is, crate::proofs::Wholes::none_is))]
+    pub fn whole_pointer(&self, at: &Reach) -> Option<Pointer>
+        requires { IsReach self.now.table at.now 8 }
+        ensures answer { result ≡ whole_pointer (read self.now.bytes at.now.address 8) }
+        ensures made { IfSome result (λ p. IsMadeIn self.now.table p.prov) }
+    {
+        self.table.well_formed();
+        match self.bytes.pointer(at.address) {
+            Some((address, prov)) => Some(Pointer { address, prov }),
+            None => None,
+        }
+    }
+
     // What bytes are worth at an integer type. The names of the bytes that are read become exposed.
     #[inline(always)]
     #[tactic(auto, using(crate::proofs::Later::later_itself, crate::proofs::Later::later_both))]
@@ -384,8 +400,8 @@ impl Memory {
         }
     }
 
-    // The live test on a pointer just loaded.
-    fn tested(&mut self, p: Pointer) -> Result<(Value, Tried), Stop>
+    /// The value of a pointer that was just loaded: it passes the live test, or its instances have ended (6.2.4p2).
+    pub fn tested(&mut self, p: Pointer) -> Result<(Value, Tried), Stop>
         requires { IsMadeIn self.old.table p.prov }
         ensures answer { result ≡ (tested self.old.table p).0 }
         ensures state { self.new ≡ with_table self.old (tested self.old.table p).1 }

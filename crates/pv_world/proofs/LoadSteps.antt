@@ -13,8 +13,9 @@ use Rattle.pv_object.specs.declared.values.Pointer.{Pointer}
 use Rattle.pv_object.specs.declared.values.Value.{Value}
 use Rattle.pv_object.specs.declared.values.Stop.{Stop}
 use Rattle.pv_object.specs.declared.values.Stop.TheVariants as stop
-use Rattle.pv_object.specs.Memory.{Mem}
-use Rattle.pv_object.specs.Loading.{Loaded, OrNoPair}
+use Rattle.pv_object.specs.Memory.{Mem, with_table as with_instances}
+use Rattle.pv_object.specs.Loading.{Loaded, OrNoPair, whole_pointer, tested}
+use Rattle.pv_object.proofs.Wholes.{whole_parts, whole_load}
 use Rattle.pv_watch.specs.declared.event.What.{What}
 use Rattle.pv_world.specs.declared.failing.Blame.{Blame}
 use Rattle.pv_world.specs.declared.got.Got.{Got}
@@ -52,6 +53,21 @@ load_err P f stop.NoMemory w v s o q U es fs L h vs n F = rw (n refl) tt
 load_err P f (stop.Undefined g) w v s o q U es fs L h vs n F = fails_as f (stop.Undefined g) w v s o q U es fs L h vs F
 load_err P f stop.Indeterminate w v s o q U es fs L h vs n F = fails_as f stop.Indeterminate w v s o q U es fs L h vs F
 load_err P f stop.Undecided w v s o q U es fs L h vs n F = fails_as f stop.Undecided w v s o q U es fs L h vs F
+
+-- the same of a pointer that was stored whole, of which no pair is made
+pub whole_ok : (w v : World) (o q : Option Blame) (x : Value × Tried) (p : Pointer) (m : Mem) (es fs : List What)
+    → Ok x ≡ (tested w.memory.table p).0 → m ≡ with_instances w.memory (tested w.memory.table p).1
+    → v ≡ with_table w (all_told m.table) → fs ≡ es ++ pairings w.memory.table m.table ++ used live_test x.1 ++ exposures m.table
+    → loaded_seen es w shape.Pointer o q (tested w.memory.table p) ≡ Gave (Scalar x.0) v fs
+whole_ok w v o q x p m es fs r t vs ts =
+    load_ok ⊥ w v shape.Pointer o q x m.table es fs (tested w.memory.table p) (r, ap (λ (n : Mem). n.table) t) vs ts
+
+pub whole_err : (f : Failure) (y : Stop) (w v : World) (o q : Option Blame) (p : Pointer) (m : Mem) (es fs : List What)
+    → Err y ≡ (tested w.memory.table p).0 → m ≡ with_instances w.memory (tested w.memory.table p).1
+    → v ≡ with_table w m.table → Faulted f (wrong_of y) fs (es ++ fault_of (stop_blame shape.Pointer y o q) (verdict_of (wrong_of y)))
+    → Came worth_of (Err f) v fs (loaded_seen es w shape.Pointer o q (tested w.memory.table p))
+whole_err f y w v o q p m es fs r t vs F =
+    fails_as f y w v shape.Pointer o q m.table es fs (tested w.memory.table p) (r, ap (λ (n : Mem). n.table) t) vs F
 
 four : (es us ps xs ys : List What) → es ++ (us ++ ps ++ xs ++ ys) ≡ es ++ us ++ ps ++ xs ++ ys
 four es us ps xs ys =
@@ -98,3 +114,15 @@ pub came_read : (r : Result Got Failure) (w v : World) (bs fs : List What) (byte
 came_read r w v bs fs bytes s a p b q qs h = λ w0 t es us T B E.
     let F : List What → Type 0 = λ l. Came worth_of r v fs (valued_seen l w bytes s (Some a) (Some b) q) in
     came_valued r w0 w v es us fs bytes s (Some a) (Some p.prov) (Some b) q (ap Some B) (qs w0.memory t T B) (subst F E h)
+
+-- the value of a pointer that was reached, and was stored whole
+pub came_whole : (r : Result Got Failure) (w v : World) (bs fs : List What) (bytes : List Byte) (a : ℕ) (p q : Pointer) (b c : Blame)
+    → Some q ≡ whole_pointer bytes
+    → ((M : Mem) (t : Result Tried Miss) → w.memory.table ≡ settled M.table p.prov t → b ≡ blame_of M p.prov → c ≡ blame_of M q.prov)
+    → Came worth_of r v fs (loaded_seen bs w shape.Pointer (Some b) (Some c) (tested w.memory.table q)) → ReadsOn w bytes shape.Pointer a p b r v bs fs
+came_whole r w v bs fs bytes a p q b c e blamed h =
+    let L : Loaded → Type 0 = λ l. Came worth_of r v fs (loaded_seen bs w shape.Pointer (Some b) (Some c) l) in
+    let named = (whole_parts bytes q e).1 in
+    came_read r w v bs fs bytes shape.Pointer a p b (Some c)
+    (λ M t T B. ap Some (blamed M t T B) ∙ sym (ap (option_map (blame_of M)) named))
+    (subst L (sym (whole_load w.memory.table bytes q e)) h)

@@ -11,6 +11,7 @@ ghost use Rattle.pv_object.specs.Memory.{IsReach};
 ghost use Rattle.pv_object.specs.Values.{IsOf, IsMadeValue};
 ghost use Rattle.pv_object.specs.Encoding.{size_of};
 ghost use Rattle.pv_object.specs.Later.{IsLater};
+ghost use Rattle.pv_world.specs.declared.got.Shape.{Shape};
 ghost use Rattle.pv_world.specs.Worlds.{World as Seen, with_table};
 ghost use Rattle.pv_world.specs.Worths.{origin_of};
 ghost use Rattle.pv_world.specs.Telling.{Told, telling, quiet, blame_of};
@@ -22,7 +23,7 @@ ghost use Rattle.pv_world.specs.Coming.{Came, Did, seen, worth_of, IsMadeWorth};
 
 use crate::failing::{Blame, blame_of, fail, stopped};
 use crate::got::{Failure, Got, Shape};
-use crate::loads::{blame_of_bytes, blame_since};
+use crate::loads::{blame_of_bytes, blame_since, blame_within};
 use crate::moving::RANGE_TEST;
 use crate::operands::missing;
 use crate::uses::tell_use;
@@ -121,6 +122,9 @@ impl World {
         ensures memory { self.new ≡ record self.old { memory = self.new.memory } }
         ensures made { IfOk result (λ g. IsMadeWorth self.new.memory.table (worth_of g)) }
     {
+        if let Shape::Pointer = shape {
+            return self.value_of_pointer(at, p, blame, told);
+        }
         if n <= 8 {
             return self.value_of_few(at, n, shape, p, blame, told);
         }
@@ -130,6 +134,29 @@ impl World {
         };
         let loaded = blame_since(&self.memory, &bytes, p.prov, blame);
         self.valued(&bytes, shape, Some(at.address), Some(blame), loaded, told)
+    }
+
+    // The same of a pointer, for which memory is asked first: where it was stored whole, its bytes aren't looked at.
+    #[tactic(auto, using(crate::proofs::Laters::later_itself))]
+    fn value_of_pointer(
+        &mut self,
+        at: &Reach,
+        p: Pointer,
+        blame: Blame,
+        told: &mut Vec<What>,
+    ) -> Result<Got, Failure>
+        requires reached { IsReach self.old.memory.table at.now 8 }
+        requires made { IsMadeIn self.old.memory.table p.prov }
+        ensures did { ReadsOn self.old (read self.old.memory.bytes at.now.address 8) Shape.Pointer at.now.address p blame result self.new told.old.items told.new.items }
+        ensures later { IsLater self.old.memory.table self.new.memory.table }
+        ensures memory { self.new ≡ record self.old { memory = self.new.memory } }
+        ensures made { IfOk result (λ g. IsMadeWorth self.new.memory.table (worth_of g)) }
+    {
+        let Some(whole) = self.memory.whole_pointer(at) else {
+            return self.value_of_few(at, 8, Shape::Pointer, p, blame, told);
+        };
+        let loaded = blame_within(&self.memory, whole.prov, p.prov, blame);
+        self.value_of_whole(whole, blame, loaded, told)
     }
 
     // The same of at most eight bytes, as a scalar has: they take no memory.

@@ -1,5 +1,5 @@
 // What bytes are worth (6.2.6.1p5), with what is told of it, and whom a stop blames.
-ghost use Rattle.std.specs.Prelude.{◌≡◌, ◌≤◌, ◌+◌, ◌++◌, All, length, drop, Result, OnOk, IfOk};
+ghost use Rattle.std.specs.Prelude.{◌≡◌, ◌≤◌, ◌+◌, ◌++◌, All, length, drop, Result, Some, OnOk, IfOk};
 ghost use Rattle.std.specs.Option.{option_map};
 ghost use Rattle.pv_inst.specs.declared.values.Tried.{Tried};
 ghost use Rattle.pv_inst.specs.declared.values.Miss.{Miss};
@@ -9,7 +9,8 @@ ghost use Rattle.pv_shadow.specs.Whole.{is_whole, whole_name};
 ghost use Rattle.pv_object.specs.Memory.{Mem};
 ghost use Rattle.pv_object.specs.Later.{IsLater};
 ghost use Rattle.pv_object.specs.Encoding.{size_of};
-ghost use Rattle.pv_object.specs.Loading.{value_of as load_of};
+ghost use Rattle.pv_object.specs.Loading.{value_of as load_of, tested};
+ghost use Rattle.pv_world.specs.declared.got.Shape.{Shape};
 ghost use Rattle.pv_world.specs.Worlds.{with_table};
 ghost use Rattle.pv_world.specs.Telling.{used, live_test, exposures, all_told, each_paired, blame_of};
 ghost use Rattle.pv_world.specs.Accesses.{HasSizeOf};
@@ -22,7 +23,7 @@ use crate::operands::LIVE_TEST;
 use crate::telling::{tell_pairs, tell_used};
 use crate::world::World;
 use pv_inst::Tried;
-use pv_object::{Memory, Scalar, Stop};
+use pv_object::{Memory, Pointer, Scalar, Stop};
 use pv_prov::{NoMemory, Prov, same_name};
 use pv_shadow::Byte;
 use pv_watch::What;
@@ -70,8 +71,20 @@ pub(crate) fn blame_of_bytes(memory: &Memory, bytes: &[Byte]) -> Option<Blame>
     }
 }
 
-/// The same within an access through a name that stood for the blamed candidates until then: a name that is not that one
-/// stands for what it stood for.
+/// Whom a load of a pointer of the name `q` blames by its live test, within an access through a name that stood for the
+/// blamed candidates until then: a name that is not that one stands for what it stood for.
+pub(crate) fn blame_within(memory: &Memory, q: Prov, p: Prov, blame: Blame) -> Blame
+    requires loaded { IsMadeIn memory.now.table q }
+    requires used { IsMadeIn memory.now.table p }
+    ensures { (M : Mem) (t : Result Tried Miss) → memory.now.table ≡ settled M.table p t → blame ≡ blame_of M p → result ≡ blame_of M q }
+{
+    if same_name(q, p) {
+        return blame;
+    }
+    blame_of(memory, q)
+}
+
+/// The same of bytes, where they are those of a pointer that was stored whole.
 pub(crate) fn blame_since(memory: &Memory, bytes: &[Byte], p: Prov, blame: Blame) -> Option<Blame>
     requires made { All (λ b. IsMadeIn memory.now.table b.prov) bytes.now }
     requires used { IsMadeIn memory.now.table p }
@@ -80,10 +93,7 @@ pub(crate) fn blame_since(memory: &Memory, bytes: &[Byte], p: Prov, blame: Blame
     let Some(q) = stored_name(bytes) else {
         return None;
     };
-    if same_name(q, p) {
-        return Some(blame);
-    }
-    Some(blame_of(memory, q))
+    Some(blame_within(memory, q, p, blame))
 }
 
 /// Whom a stop of a load blames.
@@ -150,6 +160,35 @@ impl World {
             },
             Err(stop) => {
                 let blame = stop_blame(shape, stop, accessed, loaded);
+                Err(stopped(told, stop, blame))
+            }
+        }
+    }
+
+    // What a pointer that was stored whole is worth: its live test decides.
+    #[inline(always)]
+    #[tactic(auto, using(crate::proofs::LoadSteps::whole_ok, crate::proofs::LoadSteps::whole_err, crate::proofs::Laters::later_itself, crate::proofs::Laters::later_both, crate::proofs::Laters::made_later))]
+    pub(crate) fn value_of_whole(
+        &mut self,
+        q: Pointer,
+        accessed: Blame,
+        loaded: Blame,
+        told: &mut Vec<What>,
+    ) -> Result<Got, Failure>
+        requires { IsMadeIn self.old.memory.table q.prov }
+        ensures did { Came worth_of result self.new told.new.items (loaded_seen told.old.items self.old Shape.Pointer (Some accessed) (Some loaded) (tested self.old.memory.table q)) }
+        ensures later { IsLater self.old.memory.table self.new.memory.table }
+        ensures memory { self.new ≡ record self.old { memory = self.new.memory } }
+        ensures made { IfOk result (λ g. IsMadeWorth self.new.memory.table (worth_of g)) }
+    {
+        let before = self.memory.instances().pairs_made();
+        match self.memory.tested(q) {
+            Ok((v, tried)) => match self.tell_load(told, before, tried) {
+                Ok(()) => Ok(Got::Scalar(v)),
+                Err(_) => Err(Failure::NoMemory),
+            },
+            Err(stop) => {
+                let blame = stop_blame(Shape::Pointer, stop, Some(accessed), Some(loaded));
                 Err(stopped(told, stop, blame))
             }
         }
