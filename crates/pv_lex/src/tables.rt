@@ -1,5 +1,6 @@
 //! Looking up what stands in the tables.
-ghost use Rattle.std.specs.Prelude.{◌≡◌, ◌≤◌, length, map, IfSome};
+ghost use Rattle.std.specs.Prelude.{◌≡◌, ◌≤◌, length, map, nat_eq, IfSome};
+ghost use Rattle.std.specs.List.{starts_with};
 ghost use Rattle.std.specs.Option.{option_map};
 ghost use Rattle.pv_lex.specs.Tables.{first_row, row_of};
 
@@ -7,6 +8,18 @@ ghost use Rattle.pv_lex.specs.Tables.{first_row, row_of};
 pub(crate) struct Row<T: Copy> {
     pub text: &'static [u8],
     pub value: T,
+}
+
+// Whether a spelling stands at the front of the text. Nearly all rows of a table have another first byte, so that one is
+// looked at first.
+#[inline(always)]
+fn stands_at(text: &[u8], spelling: &[u8]) -> bool
+    ensures { result ≡ starts_with nat_eq text.now spelling.now }
+{
+    if !text.is_empty() && !spelling.is_empty() && text[0] != spelling[0] {
+        return false;
+    }
+    text.starts_with(spelling)
 }
 
 /// The first row whose spelling stands at the front of the text: the spelling's length, and what
@@ -18,7 +31,7 @@ pub(crate) fn first_row<T: Copy>(rows: &[Row<T>], text: &[u8]) -> Option<(usize,
     let mut i = 0;
     while i < rows.len() {
         let row = &rows[i];
-        if text.starts_with(row.text) {
+        if stands_at(text, row.text) {
             return Some((row.text.len(), row.value));
         }
         i += 1;
