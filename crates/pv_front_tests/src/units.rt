@@ -6,7 +6,7 @@ ghost use Rattle.pv_typed.specs.Formed.{AreKnown, Grown};
 ghost use Rattle.pv_typed.specs.Mains.{main_of};
 ghost use Rattle.pv_front_tests.specs.Ready.{IsReady};
 
-use pv_num::IntKind;
+use pv_num::{BinOp, IntKind};
 use pv_script::Library;
 use pv_tree::NodeId;
 use pv_typed::{
@@ -64,6 +64,18 @@ fn a_constant_has_its_value(rt: HostRuntime) {
     let seven = number(&rt, &mut u, int, 7);
     assert!(rt; matches!(constant(&u, seven), Some(Const::Int(7))));
     assert!(rt; integer(&u, seven) == Some(7) && !is_null_constant(&u, seven));
+}
+
+/// `7 + 7` has three turns.
+#[test]
+fn a_sum_is_plain(rt: HostRuntime) {
+    let mut u = TypedUnit::new(rt.alloc()).expect(&rt, "no memory");
+    let int = u.intern(Term::Int(IntKind::Int)).expect(&rt, "no memory");
+    let seven = number(&rt, &mut u, int, 7);
+    let sum = u
+        .add_node(Typed::Arithmetic(BinOp::Add, seven, seven), int, 3, true)
+        .expect(&rt, "no memory");
+    assert!(rt; u.plain_turns(seven) == Some(1) && u.plain_turns(sum) == Some(3));
 }
 
 /// `int x = 7;`
@@ -166,7 +178,7 @@ fn a_call_has_its_arguments(rt: HostRuntime) {
         .expect(&rt, "no memory");
     assert!(rt; u.children(l).len() == 1 && u.type_of(exit) == int);
     assert!(rt; matches!(u.node(exit), Typed::LibraryCall(Library::Exit, _)));
-    assert!(rt; u.line_of(exit) == 6 && !u.counts(exit));
+    assert!(rt; u.line_of(exit) == 6 && !u.counts(exit) && u.plain_turns(exit).is_none());
 }
 
 /// A block that declares an object.

@@ -12,6 +12,7 @@ use Rattle.pv_typed.specs.declared.rows.What.TheVariants as what
 use Rattle.pv_typed.specs.declared.rows.Row.{Row}
 use Rattle.pv_typed.specs.TypedTree.{TypedTree, Node, Form, Constant, Object, Function, String, Subscript, Call, CallPointer, LibraryCall, Member, MemberOfValue, Arrow, Increment, Address, Indirection, Unary, Not, Sizeof, Cast, Arithmetic, PointerSum, PointerDifference, PointerOrder, PointerEquality, LogicalAnd, LogicalOr, Conditional, Assign, CompoundAssign, PointerAssign, Comma, Read, ArrayPointer, Convert, Arguments, NoArguments, MoreArguments}
 use Rattle.pv_typed.specs.TypedStatement.{TypedStatement, Block, Declare, Expression, Empty, If, IfElse, Switch, Case, Default, While, DoWhile, For, ForDeclaration, Continue, Break, Return, Statements, NoStatements, MoreStatements}
+use Rattle.pv_typed.specs.Plain.{plain_turns}
 use Rattle.pv_typed.specs.Nodes.{Tree, OfExpression, OfStatement, as_expression, as_statement, at, expression_in, statement_in, optional_in, arguments_in, statements_in, list_in, form_in, statement_form, Base, tree_in}
 use Rattle.pv_typed.specs.Tables.{trees_of}
 use Rattle.pv_numbering.proofs.Entries.{NodeTables, Filled, Puts, longer_same, longer_push, filled_on, kept, made, beside, paired, found, found_built}
@@ -148,7 +149,7 @@ module _ (tags : List Heading) (done : List DoneTag) where
     put_expression (Node t line turn x) =
         made tree_at expression (λ n. n) as_expression (λ s n. refl) (OfExpression (Node t line turn x))
         (put_row (OfExpression (Node t line turn x))
-        (made (beside type_at form) row_tree (λ p. record { what = what.Expression p.1 p.0 turn; line = line }) (λ p. OfExpression (Node p.0 line turn p.1)) (λ s p. refl) (t, x)
+        (made (beside type_at form) row_tree (λ p. record { what = what.Expression p.1 p.0 turn (plain_turns (Node t line turn x)); line = line }) (λ p. OfExpression (Node p.0 line turn p.1)) (λ s p. refl) (t, x)
         (paired type_at form t x (put_type t) (put_form x))))
 
     put_form : (x : Form) → Puts form x

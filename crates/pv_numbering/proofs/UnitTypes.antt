@@ -116,7 +116,7 @@ module _ (P : Ty → Type 0) (of_void : P VoidTy) where
 -- the table's rows, and then its objects and functions
 module _ (P : Ty → Type 0) (of_void : P VoidTy) (s : Stored) (of_tree : (i : ℕ) → P (tree s.known i)) where
   all_what : (ts : List Tree) → Each (AllTree P) ts → (line : ℕ) (w : What) → AllTree P (what_in (base s) ts line w)
-  all_what ts h line (what.Expression x t counts) = (of_tree t.0, all_form P of_void ts h s.lists x)
+  all_what ts h line (what.Expression x t counts plain) = (of_tree t.0, all_form P of_void ts h s.lists x)
   all_what ts h line (what.Statement x declared) = all_statement_form P of_void ts h s.lists line (slice_index_or s.blocks declared []) x
 
   all_rows : (rows : List Row) → Each (AllTree P) (trees_of (base s) rows)
