@@ -28,6 +28,11 @@ pub mod Lists
 pub mod MainRows
 pub mod Members
 pub mod Moving
+pub mod Named
+pub mod NamedBlocks
+pub mod NamedGiven
+pub mod NamedStatements
+pub mod NamedUnits
 pub mod Naming
 pub mod PlaceRows
 pub mod PlainRows

@@ -10,6 +10,7 @@ pub mod Entities
 pub mod Giving
 pub mod Functions
 pub mod Heads
+pub mod Identifiers
 pub mod Initialized
 pub mod Initializers
 pub mod Library

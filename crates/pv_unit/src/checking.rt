@@ -12,6 +12,7 @@ ghost use Rattle.pv_check.specs.Open.{state_of, IsOpen};
 ghost use Rattle.pv_check.specs.Raw.{Raw, used_of};
 ghost use Rattle.pv_unit.specs.Checking.{externals_in, IsStop, IsResolved, IsLack, IsCause, IsNamed};
 ghost use Rattle.pv_unit.specs.Definitions.{may_end};
+ghost use Rattle.pv_unit.specs.Identifiers.{HasIdentifiers};
 ghost use Rattle.pv_unit.specs.Outside.{unit_state};
 ghost use Rattle.pv_unit.specs.There.{AreThere};
 ghost use Rattle.pv_unit.specs.Units.{Checked, IsTyped, Typed, UnitComes, finished, first, statics_from, with_statics, placed_from, with_placed};
@@ -207,6 +208,7 @@ fn no_empty_tag(into: &TypedUnit)
 pub fn check(alloc: Global, u: &Unit, t: &Tokens) -> Result<TypedUnit, CheckError>
     ensures typed { IfOk result (λ w. UnitComes t.now (externals_in u.now) (Typed (whole w))) }
     ensures known { IfOk result AreKnown }
+    ensures identified { IfOk result (λ w. HasIdentifiers t.now (whole w)) }
     ensures main { IfOk result (λ w. IsTrue (is_some (main_of (whole w)))) }
     ensures small { IfOk result (λ w. (n : ℕ) → (layout_in (env w.known) (StructTag n)).size ≤ 2 ^ 32) }
     ensures filled { IfOk result (λ w. AllFill (env w.known)) }

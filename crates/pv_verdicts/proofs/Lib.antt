@@ -1,8 +1,3 @@
-pub mod Named
-pub mod NamedGiven
-pub mod NamedBlocks
-pub mod NamedStatements
-pub mod NamedUnits
 pub mod Tokens
 pub mod Places
 pub mod Scripted

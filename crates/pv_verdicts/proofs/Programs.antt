@@ -15,7 +15,7 @@ use Rattle.pv_serve.specs.Readings.{Program}
 use Rattle.pv_serve.specs.Comes.{Comes, BadByte, BadToken, LeftOut, Lexed, TokensCome, NoUnit, Spelled, UnitComes, Breaks, Lacks, Mainless, Typed}
 use Rattle.pv_verdicts.specs.Own.{OwnNames}
 use Rattle.pv_verdicts.specs.Endings.{IsProgram, HasOutcome}
-use Rattle.pv_verdicts.proofs.NamedUnits.{unit_names}
+use Rattle.pv_unit.proofs.NamedUnits.{unit_names}
 use Rattle.pv_verdicts.proofs.Tokens.{lexed_own}
 use Rattle.pv_verdicts.proofs.Places.{denied_heap}
 use Rattle.pv_verdicts.proofs.Outcomes.{ends-so}

@@ -1,18 +1,19 @@
--- No identifier of a source is the name of allocations (C17 6.4.2.1): it begins with a letter or `_`.
-use Rattle.std.proofs.Common.{◌≡◌, ℕ, zero, suc, ◌-◌, Bool, true, false, ◌&&◌, ◌||◌, List, [], ◌∷◌, ◌++◌, length, take, drop, Option, Some, None, refl, sym, ap, ◌∙◌, subst}
-use Rattle.std.specs.Prelude.{if◌then◌else◌, nat_eq, nat_le, option_map, codes}
-use Rattle.std.specs.List.{list_any, starts_with}
-use Rattle.std.specs.Char.{is_ascii_digit}
+-- Each name of a source is an identifier (C17 6.4.2.1), as a script reads it, and so none is the name of allocations.
+use Rattle.std.proofs.Common.{◌≡◌, ℕ, zero, suc, ◌-◌, Bool, true, false, ◌&&◌, ◌||◌, List, [], ◌∷◌, ◌++◌, length, take, drop, Option, Some, None, refl, sym, subst}
+use Rattle.std.specs.Prelude.{cond, if◌then◌else◌, nat_eq, nat_le, option_map, codes}
+use Rattle.std.specs.List.{list_all, list_any, starts_with}
+use Rattle.std.specs.Char.{is_ascii_digit, is_ascii_alphanumeric}
+use Rattle.std.specs.Int.{is_in_range}
 use Rattle.std.specs.Cmp.Lexicographic.{pointwise}
 use Rattle.pv_token.specs.declared.words.Word.{Word}
 use Rattle.pv_token.specs.declared.marks.Mark.{Mark}
 use Rattle.pv_token.specs.Said.{Said, Keyword, Name, Number, Character, Text, Punctuator, Spelt}
 use Rattle.pv_token.specs.Table.{Table, names_with, names_from}
 use Rattle.pv_typed.specs.Mains.{literal_text, heap_text}
-use Rattle.pv_lex.specs.Bytes.{is_white, is_letter, front, behind, begins, full_stop, single_quote, double_quote, number_sign, zero_digit}
+use Rattle.pv_lex.specs.Bytes.{is_white, is_letter, is_in, underscore, run, front, behind, begins, full_stop, single_quote, double_quote, number_sign, zero_digit}
 use Rattle.pv_lex.specs.Tables.{row_of, first_row}
 use Rattle.pv_lex.specs.Pieces.{What, White, Comment, Marker, Spelling, Piece, Stand, End, Bad, Here, ◌>>=◌, or_bad, token}
-use Rattle.pv_lex.specs.Words.{keyword_or_name, word_at}
+use Rattle.pv_lex.specs.Words.{keyword_or_name, word_at, is_wide, is_quote, words as keywords}
 use Rattle.pv_lex.specs.Constants.{suffixes, fits_constant, sized, number_of, constant_of, number_at, value_from}
 use Rattle.pv_lex.specs.Characters.{character_at, closed_character, character_constant, characters, string_literal}
 use Rattle.pv_lex.specs.Comments.{behind_close, block_comment}
@@ -22,15 +23,16 @@ use Rattle.pv_lex.specs.Stands.{stands}
 use Rattle.pv_lex.specs.Rows.{Place, start, behind_piece, Row, spelt_here, spelt}
 use Rattle.pv_lex.specs.Lexes.{Lexes}
 use Rattle.pv_script.specs.Names.{name_at}
+use Rattle.pv_script.specs.Words as words
 use Rattle.pv_verdicts.specs.Own.{OwnNames}
 
--- this text is none of allocations
-abbrev Other : List ℕ → Type 0
-Other text = text ≡ heap_text → ⊥
+-- the text is an identifier
+abbrev pub IsText : List ℕ → Type 0
+IsText text = words.is_identifier text ≡ true
 
--- an identifier is none; of other tokens nothing is asked
+-- that of a name is one; of other tokens nothing is asked
 abbrev Plain : Said → Type 0
-Plain (Name text) = Other text
+Plain (Name text) = IsText text
 Plain (Keyword w) = Unit {0}
 Plain (Number value decimal unsigned longs) = Unit {0}
 Plain (Character value) = Unit {0}
@@ -68,17 +70,61 @@ record IsStand (s : Stand) : Type 0 where
 
 -- ---- words
 
-at_sign : is_letter 64 ≡ false
-at_sign = refl
+-- the bytes of words, by which of four classes a byte is of: digits, capitals, small letters, `_`
+letter_of : (u l n : Bool) → ((u || l) || n) ≡ true → (l || (u || n)) ≡ true
+letter_of u true n e = refl
+letter_of true false n e = refl
+letter_of false false n e = e
 
-front_other : (n b : ℕ) (bs : List ℕ) → is_letter b ≡ true → Other (take n (b ∷ bs))
-front_other zero b bs l e = absurd cc
-front_other (suc n) b bs l e =
-    let same : b ≡ 64 = cc in
-    let no : false ≡ true = sym at_sign ∙ ap is_letter (sym same) ∙ l in
-    absurd cc
+word_of : (d u l n : Bool) → (((d || u) || l) || n) ≡ true → ((l || (u || n)) || d) ≡ true
+word_of d u true n e = refl
+word_of d true false n e = refl
+word_of d false false true e = refl
+word_of true false false false e = refl
+word_of false false false false e = e
 
-word_plain : (word after : List ℕ) (o : Option (Option Word)) → Other word → IsStand (keyword_or_name word after o)
+first_of : (d u l n : Bool) → ((u || l) || n) ≡ true → (((d || u) || l) || n) ≡ true
+first_of true u l n e = refl
+first_of false u l n e = e
+
+abbrev word_byte : ℕ → Bool
+word_byte c = words.is_letter c || words.is_digit c
+
+abbrev lexer_byte : ℕ → Bool
+lexer_byte c = is_ascii_alphanumeric c || nat_eq c underscore
+
+letter_same : (c : ℕ) → is_letter c ≡ true → words.is_letter c ≡ true
+letter_same c = letter_of (is_in_range 65 90 c) (is_in_range 97 122 c) (nat_eq c underscore)
+
+byte_same : (c : ℕ) → lexer_byte c ≡ true → word_byte c ≡ true
+byte_same c = word_of (is_in_range 48 57 c) (is_in_range 65 90 c) (is_in_range 97 122 c) (nat_eq c underscore)
+
+letter_byte : (c : ℕ) → is_letter c ≡ true → lexer_byte c ≡ true
+letter_byte c = first_of (is_in_range 48 57 c) (is_in_range 65 90 c) (is_in_range 97 122 c) (nat_eq c underscore)
+
+both : (a b : Bool) → a ≡ true → b ≡ true → (a && b) ≡ true
+both true b e g = g
+both false b e g = absurd cc
+
+-- of whatever class the bytes are
+run_words : (k : _) (bs : List ℕ) → ((c : ℕ) → is_in k c ≡ true → word_byte c ≡ true) → list_all word_byte (take (run k bs) bs) ≡ true
+unfolding run
+run_words k [] f = refl
+run_words k (b ∷ bs) f = here (is_in k b) (f b) (run_words k bs f)
+  where
+    here : (x : Bool) → (x ≡ true → word_byte b ≡ true) → list_all word_byte (take (run k bs) bs) ≡ true → list_all word_byte (take (cond x (suc (run k bs)) 0) (b ∷ bs)) ≡ true
+    here true g h = both (word_byte b) (list_all word_byte (take (run k bs) bs)) (g refl) h
+    here false g h = refl
+
+front_text : (k : _) (b : ℕ) (bs : List ℕ) → ((c : ℕ) → is_in k c ≡ true → word_byte c ≡ true) → is_in k b ≡ true → is_letter b ≡ true → IsText (front k (b ∷ bs))
+unfolding run
+front_text k b bs f e l =
+    let rest = run_words k bs f in
+    let all = both (word_byte b) (list_all word_byte (take (run k bs) bs)) (f b e) rest in
+    let text : IsText (b ∷ take (run k bs) bs) = both (words.is_letter b) (list_all word_byte (b ∷ take (run k bs) bs)) (letter_same b l) all in
+    subst (λ x. IsText (take (cond x (suc (run k bs)) 0) (b ∷ bs))) (sym e) text
+
+word_plain : (word after : List ℕ) (o : Option (Option Word)) → IsText word → IsStand (keyword_or_name word after o)
 word_plain word after None h = record { held = h }
 word_plain word after (Some None) h = record { held = tt }
 word_plain word after (Some (Some w)) h = record { held = tt }
@@ -91,13 +137,18 @@ stand_when : (b : Bool) (x y : Stand) → (b ≡ true → IsStand x) → IsStand
 stand_when true x y h g = h refl
 stand_when false x y h g = g
 
-stand_where : (b : Bool) (x y : Stand) → PlainStand x → IsStand y → IsStand (if b then x else y)
-stand_where true x y h g = record { held = h }
-stand_where false x y h g = g
+bad_stand : (f : _) → IsStand (Bad f)
+bad_stand f = record { held = tt }
+
+word_of_class : (k : _) (b : ℕ) (bs : List ℕ) (x : Stand) → IsStand x → ((c : ℕ) → is_in k c ≡ true → word_byte c ≡ true) → is_in k b ≡ true → is_letter b ≡ true
+    → IsStand (if is_wide (front k (b ∷ bs)) && begins is_quote (behind k (b ∷ bs)) then x else keyword_or_name (front k (b ∷ bs)) (behind k (b ∷ bs)) (row_of keywords (front k (b ∷ bs))))
+word_of_class k b bs x h f e l =
+    let text = front k (b ∷ bs) in
+    stand_if (is_wide text && begins is_quote (behind k (b ∷ bs))) x _ h (word_plain text (behind k (b ∷ bs)) (row_of keywords text) (front_text k b bs f e l))
 
 word_stand : (b : ℕ) (bs : List ℕ) → is_letter b ≡ true → IsStand (word_at (b ∷ bs))
 unfolding word_at
-word_stand b bs l = search (stand_where, word_plain, front_other, l)
+word_stand b bs l = word_of_class _ b bs _ (bad_stand _) byte_same (letter_byte b l) l
 
 -- ---- constants
 
@@ -201,9 +252,9 @@ stand_plain fresh (b ∷ bs) =
 
 -- ---- the table's names
 
-abbrev AllOther : List (List ℕ) → Type 0
-AllOther [] = Unit {0}
-AllOther (x ∷ xs) = Other x × AllOther xs
+abbrev pub AllTexts : List (List ℕ) → Type 0
+AllTexts [] = Unit {0}
+AllTexts (x ∷ xs) = IsText x × AllTexts xs
 
 abbrev AllPlain : List Spelt → Type 0
 AllPlain [] = Unit {0}
@@ -213,25 +264,25 @@ plain_append : (xs ys : List Spelt) → AllPlain xs → AllPlain ys → AllPlain
 plain_append [] ys h g = g
 plain_append (x ∷ xs) ys h g = (h.0, plain_append xs ys h.1 g)
 
-other_append : (xs ys : List (List ℕ)) → AllOther xs → AllOther ys → AllOther (xs ++ ys)
-other_append [] ys h g = g
-other_append (x ∷ xs) ys h g = (h.0, other_append xs ys h.1 g)
+texts_append : (xs ys : List (List ℕ)) → AllTexts xs → AllTexts ys → AllTexts (xs ++ ys)
+texts_append [] ys h g = g
+texts_append (x ∷ xs) ys h g = (h.0, texts_append xs ys h.1 g)
 
-name_other : (b : Bool) (names : List (List ℕ)) (text : List ℕ) → AllOther names → Other text → AllOther (if b then names else names ++ text ∷ [])
-name_other true names text h g = h
-name_other false names text h g = other_append names (text ∷ []) h (g, tt)
+name_text : (b : Bool) (names : List (List ℕ)) (text : List ℕ) → AllTexts names → IsText text → AllTexts (if b then names else names ++ text ∷ [])
+name_text true names text h g = h
+name_text false names text h g = texts_append names (text ∷ []) h (g, tt)
 
-said_other : (names : List (List ℕ)) (s : Said) → AllOther names → Plain s → AllOther (names_with names s)
-said_other names (Name text) h g = name_other (list_any (pointwise nat_eq text) names) names text h g
-said_other names (Keyword w) h g = h
-said_other names (Number value decimal unsigned longs) h g = h
-said_other names (Character value) h g = h
-said_other names (Text bytes) h g = h
-said_other names (Punctuator m) h g = h
+said_text : (names : List (List ℕ)) (s : Said) → AllTexts names → Plain s → AllTexts (names_with names s)
+said_text names (Name text) h g = name_text (list_any (pointwise nat_eq text) names) names text h g
+said_text names (Keyword w) h g = h
+said_text names (Number value decimal unsigned longs) h g = h
+said_text names (Character value) h g = h
+said_text names (Text bytes) h g = h
+said_text names (Punctuator m) h g = h
 
-from_other : (names : List (List ℕ)) (ss : List Spelt) → AllOther names → AllPlain ss → AllOther (names_from names ss)
-from_other names [] h g = h
-from_other names (s ∷ ss) h g = from_other (names_with names s.said) ss (said_other names s.said h g.0) g.1
+from_texts : (names : List (List ℕ)) (ss : List Spelt) → AllTexts names → AllPlain ss → AllTexts (names_from names ss)
+from_texts names [] h g = h
+from_texts names (s ∷ ss) h g = from_texts (names_with names s.said) ss (said_text names s.said h g.0) g.1
 
 here_plain : (start line : ℕ) (w : What) → PlainWhat w → AllPlain (spelt_here start line w)
 here_plain start line (White b) h = tt
@@ -245,21 +296,24 @@ row_spelt whole p q (x ∷ xs) h =
     let what : PlainWhat x.what = subst PlainStand h.0 (stand_plain p.fresh p.text).held in
     plain_append (spelt_here (whole - length p.text) p.line x.what) (spelt whole (behind_piece x p) xs) (here_plain (whole - length p.text) p.line x.what what) (row_spelt whole (behind_piece x p) q xs h.1)
 
-lexed_other : (source : List ℕ) (t : Table) → Lexes source t → AllOther t.names
-lexed_other source t h =
+pub lexed_texts : (source : List ℕ) (t : Table) → Lexes source t → AllTexts t.names
+lexed_texts source t h =
     let ss = spelt (length source) (start source) h.pieces in
-    subst AllOther (sym h.tells.names) (from_other [] ss tt (row_spelt (length source) (start source) h.last h.pieces h.row))
+    subst AllTexts (sym h.tells.names) (from_texts [] ss tt (row_spelt (length source) (start source) h.last h.pieces h.row))
 
 -- the unit's names
-other_at : (names : List (List ℕ)) (i : ℕ) → AllOther names → name_at names i ≡ heap_text → ⊥
+not_heap : (text : List ℕ) → IsText text → text ≡ heap_text → ⊥
+not_heap text h e = let no : false ≡ true = subst IsText e h in absurd cc
+
+other_at : (names : List (List ℕ)) (i : ℕ) → AllTexts names → name_at names i ≡ heap_text → ⊥
 other_at [] i h e = absurd cc
-other_at (x ∷ xs) zero h e = h.0 e
+other_at (x ∷ xs) zero h e = not_heap x h.0 e
 other_at (x ∷ xs) (suc i) h e = other_at xs i h.1 e
 
-own_of : (names : List (List ℕ)) → AllOther names → OwnNames (literal_text ∷ heap_text ∷ names)
+own_of : (names : List (List ℕ)) → AllTexts names → OwnNames (literal_text ∷ heap_text ∷ names)
 own_of names h zero e = absurd cc
 own_of names h (suc zero) e = refl
 own_of names h (suc (suc i)) e = absurd (other_at names i h e)
 
 pub lexed_own : (source : List ℕ) (t : Table) → Lexes source t → OwnNames (literal_text ∷ heap_text ∷ t.names)
-lexed_own source t h = own_of t.names (lexed_other source t h)
+lexed_own source t h = own_of t.names (lexed_texts source t h)

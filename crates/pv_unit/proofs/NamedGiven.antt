@@ -1,5 +1,5 @@
--- Typing an initializer leaves the names of the unit as they were (C17 6.7.9).
-use Rattle.std.proofs.Common.{◌≡◌, ℕ, Bool, true, false, Option, Some, None, List, length, refl, sym, ap, ◌∙◌}
+-- Typing an initializer leaves the names of the unit as they were, and each new object has the name of an identifier (C17 6.4.2.1, 6.7.9).
+use Rattle.std.proofs.Common.{◌≡◌, ℕ, Bool, true, false, Option, Some, None, List, length, refl, subst}
 use Rattle.std.specs.Prelude.{if◌then◌else◌, option_map, option_and_then}
 use Rattle.pv_tree.specs.Syntax.{ExpressionTree, InitializerTree, Initial, Braces, OfExpression, OfDeclaration, OfDeclarator, OfSpecifier, OfInitializer, OfStatement, Trees, NoTrees, Then}
 use Rattle.pv_tree.specs.Lines.{expression_line}
@@ -15,24 +15,24 @@ use Rattle.pv_unit.specs.Rules.{Rules, After}
 use Rattle.pv_unit.specs.Parts.{part_at, can_be_initialized}
 use Rattle.pv_unit.specs.Initializers.{Stores, Shape, Fill, Single, Zero, Each, Wrong, shape_of, formed, filled_type, characters, single, valued, as_constant, allowed, unqualified, zero_leaf, joined}
 use Rattle.pv_unit.specs.Initialized as init
-use Rattle.pv_unit.specs.Initialized.{Given, each_initialized, initialized_object, given, is_braced, whole}
+use Rattle.pv_unit.specs.Initialized.{each_initialized, initialized_object, given, is_braced, whole}
 use Rattle.pv_unit.specs.ValueRules.{values, lifted, lowered, initialized}
-use Rattle.pv_verdicts.proofs.Named.{Keeps, operand_keeps, types_keep}
+use Rattle.pv_unit.proofs.Named.{AreNamed, Keeps, operand_keeps, types_keep}
 
--- where there is an answer, the unit's names are these behind it
+-- where there is an answer, the unit is named so behind it
 record Holds {A : Type 0} (n : List (List ℕ)) (o : Option (After State A)) : Type 0 where
-  pub held : (a : After State A) → o ≡ Some a → a.state.unit.names ≡ n
+  pub held : (a : After State A) → o ≡ Some a → AreNamed n a.state.unit
 
 none_holds : {A : Type 0} (n : List (List ℕ)) → Holds {A = A} n None
 none_holds n = record { held = λ a e. absurd cc }
 
-some_holds : {A : Type 0} (n : List (List ℕ)) (x : A) (s : State) → s.unit.names ≡ n → Holds n (Some (record { value = x; state = s }))
+some_holds : {A : Type 0} (n : List (List ℕ)) (x : A) (s : State) → AreNamed n s.unit → Holds n (Some (record { value = x; state = s }))
 some_holds {A} n x s h = record { held = λ a e. same a e }
   where
-    same : (a : After State A) → Some (record { value = x; state = s }) ≡ Some a → a.state.unit.names ≡ n
-    same a e = let f : record { value = x; state = s } ≡ a = cc in sym (ap (λ (y : After State A). y.state.unit.names) f) ∙ h
+    same : (a : After State A) → Some (record { value = x; state = s }) ≡ Some a → AreNamed n a.state.unit
+    same a e = let f : record { value = x; state = s } ≡ a = cc in subst (λ (y : After State A). AreNamed n y.state.unit) f h
 
-then_holds : {A B : Type 0} (n : List (List ℕ)) (o : Option (After State A)) (f : After State A → Option (After State B)) → Holds n o → ((a : After State A) → a.state.unit.names ≡ n → Holds n (f a)) → Holds n (option_and_then f o)
+then_holds : {A B : Type 0} (n : List (List ℕ)) (o : Option (After State A)) (f : After State A → Option (After State B)) → Holds n o → ((a : After State A) → AreNamed n a.state.unit → Holds n (f a)) → Holds n (option_and_then f o)
 then_holds n None f h k = none_holds n
 then_holds n (Some a) f h k = k a (h.held a refl)
 
@@ -40,11 +40,11 @@ value_then : {A B : Type 0} (n : List (List ℕ)) (o : Option A) (f : A → Opti
 value_then n None f k = none_holds n
 value_then n (Some a) f k = k a
 
-map_holds : {A B : Type 0} (n : List (List ℕ)) (o : Option (After State A)) (f : After State A → After State B) → Holds n o → ((a : After State A) → a.state.unit.names ≡ n → (f a).state.unit.names ≡ n) → Holds n (option_map f o)
+map_holds : {A B : Type 0} (n : List (List ℕ)) (o : Option (After State A)) (f : After State A → After State B) → Holds n o → ((a : After State A) → AreNamed n a.state.unit → AreNamed n (f a).state.unit) → Holds n (option_map f o)
 map_holds n None f h k = none_holds n
 map_holds n (Some a) f h k = some_holds n (f a).value (f a).state (k a (h.held a refl))
 
-value_map : {A B : Type 0} (n : List (List ℕ)) (o : Option A) (f : A → After State B) → ((a : A) → (f a).state.unit.names ≡ n) → Holds n (option_map f o)
+value_map : {A B : Type 0} (n : List (List ℕ)) (o : Option A) (f : A → After State B) → ((a : A) → AreNamed n (f a).state.unit) → Holds n (option_map f o)
 value_map n None f k = none_holds n
 value_map n (Some a) f k = some_holds n (f a).value (f a).state (k a)
 
@@ -54,21 +54,21 @@ if_holds n false o h = none_holds n
 
 -- ---- the stores of a shape
 
--- the rules leave the names as they were
+-- the rules leave it so
 record AllHold (r : Rules State) : Type 0 where
-  pub operand : (a : ExpressionTree) (n : List (List ℕ)) (s : State) → s.unit.names ≡ n → Holds n (r.operand a s)
-  pub string : (line first more : ℕ) (n : List (List ℕ)) (s : State) → s.unit.names ≡ n → (r.string line first more s).state.unit.names ≡ n
+  pub operand : (a : ExpressionTree) (n : List (List ℕ)) (s : State) → AreNamed n s.unit → Holds n (r.operand a s)
+  pub string : (line first more : ℕ) (n : List (List ℕ)) (s : State) → AreNamed n s.unit → AreNamed n (r.string line first more s).state.unit
 
-constant_holds : (r : Rules State) (lasting : Bool) (p : Part) (line : ℕ) (s : State) (e : TypedTree) (n : List (List ℕ)) → s.unit.names ≡ n → Holds n (as_constant r lasting p line s e)
+constant_holds : (r : Rules State) (lasting : Bool) (p : Part) (line : ℕ) (s : State) (e : TypedTree) (n : List (List ℕ)) → AreNamed n s.unit → Holds n (as_constant r lasting p line s e)
 constant_holds r lasting p line s e n h = if_holds n (allowed r lasting s e) _ (some_holds n _ s h)
 
-single_holds : (r : Rules State) (d : AllHold r) (lasting : Bool) (p : Part) (a : ExpressionTree) (n : List (List ℕ)) (s : State) → s.unit.names ≡ n → Holds n (single r lasting p a s)
+single_holds : (r : Rules State) (d : AllHold r) (lasting : Bool) (p : Part) (a : ExpressionTree) (n : List (List ℕ)) (s : State) → AreNamed n s.unit → Holds n (single r lasting p a s)
 single_holds r d lasting p a n s h =
     then_holds n (r.operand a s) (valued r lasting p (expression_line a)) (d.operand a n s h)
     (λ x k. value_then n (r.assigned x.state (bare p.t) x.value) (as_constant r lasting (unqualified p) (expression_line a) x.state)
     (λ e. constant_holds r lasting (unqualified p) (expression_line a) x.state e n k))
 
-formed_holds : (r : Rules State) (d : AllHold r) (lasting : Bool) (p : Part) (n : List (List ℕ)) (s : State) (each : Option (After State Stores)) (x : Shape) → s.unit.names ≡ n → Holds n each → Holds n (formed r lasting p s each x)
+formed_holds : (r : Rules State) (d : AllHold r) (lasting : Bool) (p : Part) (n : List (List ℕ)) (s : State) (each : Option (After State Stores)) (x : Shape) → AreNamed n s.unit → Holds n each → Holds n (formed r lasting p s each x)
 formed_holds r d lasting p n s each (Fill line first more) h k =
     value_map n (filled_type (bare p.t) (length (r.string line first more s).value.characters)) (characters p line (r.string line first more s)) (λ t. d.string line first more n s h)
 formed_holds r d lasting p n s each (Single a) h k = single_holds r d lasting p a n s h
@@ -80,12 +80,12 @@ abbrev next : Rules State → Bool → Part → InitializerTree → After State 
 next r lasting p i done = option_and_then (λ q. option_map (joined done.value) (init.initialized r lasting q i done.state)) (part_at (r.completed done.state) p done.value.count)
 
 mutual
-  tree_holds : (r : Rules State) (d : AllHold r) (lasting : Bool) (i : InitializerTree) (p : Part) (n : List (List ℕ)) (s : State) → s.unit.names ≡ n → Holds n (init.initialized r lasting p i s)
+  tree_holds : (r : Rules State) (d : AllHold r) (lasting : Bool) (i : InitializerTree) (p : Part) (n : List (List ℕ)) (s : State) → AreNamed n s.unit → Holds n (init.initialized r lasting p i s)
   tree_holds r d lasting (Initial line a) p n s h = formed_holds r d lasting p n s None (shape_of (r.completed s) p (Initial line a)) h (none_holds n)
   tree_holds r d lasting (Braces line inits comma) p n s h =
       formed_holds r d lasting p n s (each_initialized r lasting p inits s) (shape_of (r.completed s) p (Braces line inits comma)) h (each_holds r d lasting inits p n s h)
 
-  each_holds : (r : Rules State) (d : AllHold r) (lasting : Bool) (ts : Trees) (p : Part) (n : List (List ℕ)) (s : State) → s.unit.names ≡ n → Holds n (each_initialized r lasting p ts s)
+  each_holds : (r : Rules State) (d : AllHold r) (lasting : Bool) (ts : Trees) (p : Part) (n : List (List ℕ)) (s : State) → AreNamed n s.unit → Holds n (each_initialized r lasting p ts s)
   each_holds r d lasting NoTrees p n s h = some_holds n _ s h
   each_holds r d lasting (Then before (OfInitializer i)) p n s h =
       then_holds n (each_initialized r lasting p before s) (next r lasting p i) (each_holds r d lasting before p n s h)
@@ -114,14 +114,14 @@ lowered_keeps : {A : Type 0} (n : List (List ℕ)) (o : Option (After State A)) 
 lowered_keeps n None h = record { held = λ a e. absurd cc }
 lowered_keeps {A} n (Some x) h = record { held = λ a e. same a e }
   where
-    same : (a : check.After A) → lowered (Some x) ≡ Some a → a.state.unit.names ≡ n
-    same a e = let f : record { value = x.value; state = x.state } ≡ a = cc in sym (ap (λ (y : check.After A). y.state.unit.names) f) ∙ h.held x refl
+    same : (a : check.After A) → lowered (Some x) ≡ Some a → AreNamed n a.state.unit
+    same a e = let f : record { value = x.value; state = x.state } ≡ a = cc in subst (λ (y : check.After A). AreNamed n y.state.unit) f (h.held x refl)
 
-object_holds : (r : Rules State) (d : AllHold r) (lasting : Bool) (t : Ty) (i : InitializerTree) (n : List (List ℕ)) (s : State) → s.unit.names ≡ n → Holds n (initialized_object r lasting t i s)
+object_holds : (r : Rules State) (d : AllHold r) (lasting : Bool) (t : Ty) (i : InitializerTree) (n : List (List ℕ)) (s : State) → AreNamed n s.unit → Holds n (initialized_object r lasting t i s)
 unfolding initialized_object
 object_holds r d lasting t i n s h =
     if_holds n (can_be_initialized (layouts_of (r.completed s)) t) _
     (map_holds n (init.initialized r lasting (whole t) i s) (given t (is_braced (r.completed s) (whole t) i)) (tree_holds r d lasting i (whole t) n s h) (λ a j. j))
 
-pub initialized_keeps : (lasting : Bool) (t : Ty) (i : InitializerTree) (n : List (List ℕ)) (s : State) → s.unit.names ≡ n → Keeps n (initialized lasting t i s)
+pub initialized_keeps : (lasting : Bool) (t : Ty) (i : InitializerTree) (n : List (List ℕ)) (s : State) → AreNamed n s.unit → Keeps n (initialized lasting t i s)
 initialized_keeps lasting t i n s h = lowered_keeps n (initialized_object values lasting t i s) (object_holds values values_hold lasting t i n s h)
