@@ -35,3 +35,5 @@ pub mod Streaming
 pub mod MainPieces
 pub mod Reaching
 pub mod Cutting
+pub mod Memory
+pub mod Settling

@@ -1,6 +1,6 @@
 -- How the statements of a run begin and end.
 use Rattle.std.proofs.Common.{◌≡◌, ℕ, ◌+◌, ◌<◌, List, [], ◌∷◌, ◌++◌, append-nil, Some, None, refl, sym, ap, ◌∙◌, subst, arith, true, false}
-use Rattle.std.specs.Prelude.{Bool, Err, length, suc, if◌then◌else◌}
+use Rattle.std.specs.Prelude.{Bool, Err, length, suc, if◌then◌else◌, is_some, IsTrue}
 use Rattle.std.specs.Option.{option_map}
 use Rattle.std.proofs.lemmas.List.{length-map}
 use Rattle.std.specs.declared.option.Option.{Option}
@@ -159,6 +159,11 @@ main-there names (g ∷ fs) f e = let l = one-there (named_main names g.name) (f
 
 pub main-in : (u : Stored) (f : ℕ) → main_of (whole u) ≡ Some f → f < length u.functions
 main-in u f e = let l = main-there (whole u).names (whole u).functions f e in omega (arith, l, length-map u.functions (function_in u.known (nodes u)))
+
+-- a unit with `main` has a function
+pub some-function : (u : Stored) (o : Option ℕ) → main_of (whole u) ≡ o → IsTrue (is_some o) → 0 < length u.functions
+some-function u None e h = absurd cc
+some-function u (Some f) e h = let l = main-in u f e in omega (arith, l)
 
 -- the whole run
 pub unit-ends : (b : Setting) (f : ℕ) (s s1 : State) → prepare b s ≡ Gives Nothing s1 → main_of b.unit ≡ Some f → then_do (prepare b s) (λ v s. call_main b (main_of b.unit) s) ≡ call_body b (below b b.bound) (function_at b.unit f) [] (function_at b.unit f).line s1

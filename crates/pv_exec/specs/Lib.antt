@@ -23,6 +23,9 @@ pub mod Streaming
 pub mod Running
 pub mod Growing
 pub mod Laws
+pub mod Laying
+pub mod Staying
 pub mod Sided
 pub mod Ending
 pub mod Answering
+pub mod Settling

@@ -29,7 +29,7 @@ mod task;
 mod turning;
 mod values;
 
-pub use laws::{lesser_bound_cuts, turns_keep_the_bound};
+pub use laws::{late_settling_is_right, lesser_bound_cuts, turns_keep_the_bound};
 pub use outcome::Outcome;
 pub use program::{Ran, RunError, run};
 pub use sides::{Side, Sides};

@@ -1,5 +1,5 @@
 //! The run of a unit.
-ghost use Rattle.std.specs.Prelude.{◌≡◌, ◌≤◌, ◌^◌, IsTrue, is_some, IfOk, OnOk, OnErr, map};
+ghost use Rattle.std.specs.Prelude.{◌≡◌, ◌≤◌, ◌^◌, IsTrue, is_some, IfNone, IfOk, OnOk, OnErr, map};
 ghost use Rattle.pv_script.specs.Outside.{Gains, GainsPrefix};
 ghost use Rattle.pv_typed.specs.Mains.{main_of};
 ghost use Rattle.pv_typed.specs.Tables.{whole};
@@ -7,10 +7,12 @@ ghost use Rattle.pv_eval.specs.Runnable.{IsRunnable};
 ghost use Rattle.pv_exec.specs.Run.{setting_of, run_of};
 ghost use Rattle.pv_exec.specs.Streaming.{event_of};
 ghost use Rattle.pv_exec.specs.Answering.{RanAs, RanAt, ToldOr, RestTold, FaultCause, error_of, error_by, end_at, highs, hall_slots, outlet};
+ghost use Rattle.pv_exec.specs.Settling.{SettlesAlike, IsUndefinedByAll};
 
 use crate::delivering::{Undelivered, finish};
 use crate::endings::outcome_by;
 use crate::given::given_highs;
+use crate::laws::no_empty_tag;
 use crate::outcome::Outcome;
 use crate::running::{Ended, run_unit};
 use crate::sides::{Side, Sides, sides_of};
@@ -118,7 +120,10 @@ pub fn run<O: Sink>(
     ensures cause { FaultCause result (O.faults out.old) (O.faults out.new) }
     ensures told { ToldOr result (outlet (O.written out.old) hall.old its_kind its_wants seen) (outlet (O.written out.new) hall.new its_kind its_wants seen)
         (end_at u.now bound (highs sides.entry (λ x. x.now)) zap script) u.now.names }
+    ensures late { IfOk result (λ ran. IfNone sides.entry (SettlesAlike u.now bound zap script ran)) }
+    ensures sooner { IfOk result (λ ran. IfNone sides.entry (IsUndefinedByAll u.now bound zap script ran)) }
 {
+    no_empty_tag(u);
     let given = match given_highs(alloc, sides) {
         Some(given) => given,
         None => return Err(RunError::NoMemory),

@@ -16,10 +16,10 @@ use Rattle.pv_exec.specs.Calls.{below}
 use Rattle.pv_exec.specs.Run.{setting_of, first, run_of}
 use Rattle.pv_exec.specs.Laws.{run_at}
 use Rattle.pv_exec.proofs.Executed.{WaysIn, Alike, below-closed, run-closed}
-use Rattle.pv_laws.specs.Staying.{InstancesRemain, PairsSettle}
-use Rattle.pv_laws.proofs.Rows.{led-itself}
-use Rattle.pv_laws.proofs.Operations.{Filled}
-use Rattle.pv_laws.proofs.Runs.{Passes, tick-passes, seq-passes, act-passes, alike}
+use Rattle.pv_exec.specs.Staying.{InstancesRemain, PairsSettle}
+use Rattle.pv_exec.proofs.Memory.Rows.{led-itself}
+use Rattle.pv_exec.proofs.Memory.Operations.{Filled}
+use Rattle.pv_exec.proofs.Memory.Runs.{Passes, tick-passes, seq-passes, act-passes, alike}
 
 -- no operation looks at the bound
 same-does : (b : Setting) (n : ℕ) (o : Op) (w : World) → does (beside_setting b n b.sides) o w ≡ does b o w

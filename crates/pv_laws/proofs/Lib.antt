@@ -1,13 +1,2 @@
-pub mod Rows
-pub mod Ways
-pub mod Findings
-pub mod Tables
-pub mod Pointers
-pub mod Printing
-pub mod Library
-pub mod Calls
-pub mod Worlds
-pub mod Operations
-pub mod Runs
 pub mod Numbered
 pub mod Bounds

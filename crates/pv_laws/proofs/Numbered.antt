@@ -11,9 +11,9 @@ use Rattle.pv_inst.proofs.Rows.{row_found}
 use Rattle.pv_typed.specs.Tables.{Stored}
 use Rattle.pv_eval.specs.States.{end_of}
 use Rattle.pv_exec.specs.Laws.{run_at}
-use Rattle.pv_laws.specs.Laying.{table_at, AreApart, IsLaidOut, HasNoEmptyTag}
-use Rattle.pv_laws.proofs.Rows.{Lies, Sound}
-use Rattle.pv_laws.proofs.Runs.{run-sound}
+use Rattle.pv_exec.specs.Laying.{table_at, AreApart, IsLaidOut, HasNoEmptyTag}
+use Rattle.pv_exec.proofs.Memory.Rows.{Lies, Sound}
+use Rattle.pv_exec.proofs.Memory.Runs.{run-sound}
 
 turned : (x y : Instance) → Apart x y → Apart y x
 turned x y h = λ a b. ⊎_elim (λ l. inr l) (λ l. inl l) (h b a)

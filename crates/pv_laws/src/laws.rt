@@ -7,8 +7,8 @@ ghost use Rattle.pv_inst.specs.Kept.{IsWellFormed};
 ghost use Rattle.pv_typed.specs.Tables.{Stored};
 ghost use Rattle.pv_eval.specs.States.{end_of};
 ghost use Rattle.pv_exec.specs.Laws.{run_at};
-ghost use Rattle.pv_laws.specs.Laying.{table_at, LieApart, IsLaidOut, HasNoEmptyTag};
-ghost use Rattle.pv_laws.specs.Staying.{InstancesRemain, PairsSettle};
+ghost use Rattle.pv_exec.specs.Laying.{table_at, LieApart, IsLaidOut, HasNoEmptyTag};
+ghost use Rattle.pv_exec.specs.Staying.{InstancesRemain, PairsSettle};
 
 /// A law: two different storage instances that live share no byte (C17 6.2.4p2), whatever the unit, the script and the sides are.
 pub fn live_instances_lie_apart()

@@ -23,8 +23,8 @@ use Rattle.pv_exec.proofs.Executed.{WaysIn, even-closed, run-closed}
 use Rattle.pv_exec.proofs.Reaching.{EndFits, run-fits}
 use Rattle.pv_verdicts.specs.Own.{OwnNames, DeniesHeap}
 use Rattle.pv_verdicts.specs.Endings.{HasOutcome}
-use Rattle.pv_laws.proofs.Worlds.{Onward}
-use Rattle.pv_laws.proofs.Operations.{Filled, does-on}
+use Rattle.pv_exec.proofs.Memory.Worlds.{Onward}
+use Rattle.pv_exec.proofs.Memory.Operations.{Filled, does-on}
 use Rattle.pv_verdicts.proofs.Scripted.{Same, scripted}
 use Rattle.pv_verdicts.proofs.Refusals.{FineError, FineWrong}
 use Rattle.pv_verdicts.proofs.Granted.{Granted}

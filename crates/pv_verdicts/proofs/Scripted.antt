@@ -18,7 +18,7 @@ use Rattle.pv_inst.specs.Exposure.{exposing, expose_one, expose}
 use Rattle.pv_inst.specs.Ending.{ending}
 use Rattle.pv_inst.specs.Finding.{found_at, table_by}
 use Rattle.pv_inst.specs.Placing.{Request, place, place_said, place_at, unless_overlap, first_overlap, rounded}
-use Rattle.pv_laws.proofs.Ways.{Changes}
+use Rattle.pv_exec.proofs.Memory.Ways.{Changes}
 
 -- the second table has the script of the first one
 pub record Same (T U : Table) : Type 0 where

@@ -5,6 +5,7 @@ use Rattle.pv_exec.specs.declared.program.RunError.{RunError}
 use Rattle.pv_exec.specs.Run.{setting_of, run_of}
 use Rattle.pv_exec.specs.Answering.{ToldOr, end_of, highs, outlet}
 use Rattle.pv_exec.proofs.Outside.{run-over, over, streams-over, ran-as, gained, gained-part, told-end, fault-later, lost-part, lost-told}
+use Rattle.pv_exec.proofs.Settling.Clauses.{late-answer, sooner-answer}
 use Rattle.pv_exec.proofs.program.run.Goals as goal
 
 pub returns-in-Some-outcome_by-clause-ran : goal.returns-in-Some-outcome_by-clause-ran
@@ -88,3 +89,9 @@ returns-clause-told g c =
     let a = outlet (g.O.Sink.written c.args.out.now) c.args.hall.now (λ z. (goal.Watch-dyn g z).its_kind z.1) (λ z. (goal.Watch-dyn g z).its_wants z.1) (λ z. (goal.Watch-dyn g z).seen z.1) in
     let q = outlet (g.O.Sink.written c.run_unit-ended.new.out) c.run_unit-ended.new.hall (λ z. (goal.Watch-dyn g z).its_kind z.1) (λ z. (goal.Watch-dyn g z).its_wants z.1) (λ z. (goal.Watch-dyn g z).seen z.1) in
     subst (λ (y : RunError). ToldOr (Err y) a q (end_of R) u.names) (sym c.error_by.ensures) (lost-told R x m.moment led.bytes led.events u.names a q e led.streams)
+
+pub returns-in-Some-outcome_by-clause-late : goal.returns-in-Some-outcome_by-clause-late
+returns-in-Some-outcome_by-clause-late g c = late-answer c.args.u.now c.no_empty_tag.ensures c.args.bound c.args.zap c.args.script c.args.sides (λ x. x.now) c.answer.result (returns-in-Some-outcome_by-clause-ran g c)
+
+pub returns-in-Some-outcome_by-clause-sooner : goal.returns-in-Some-outcome_by-clause-sooner
+returns-in-Some-outcome_by-clause-sooner g c = sooner-answer c.args.u.now c.no_empty_tag.ensures c.args.bound c.args.zap c.args.script c.args.sides (λ x. x.now) c.answer.result (returns-in-Some-outcome_by-clause-ran g c)

@@ -15,7 +15,7 @@ use Rattle.pv_inst.specs.Table.{Table, instance_at}
 use Rattle.pv_inst.specs.Finding.{reaches, begins, number_of, both_found, table_by, fitting, after_name}
 use Rattle.pv_inst.specs.Kept.{Apart, Disjoint, Meet, AreMet}
 use Rattle.pv_inst.proofs.Meetings.{met_added}
-use Rattle.pv_laws.proofs.Rows.{Leads, led-itself, pairs-led, added-settle}
+use Rattle.pv_exec.proofs.Memory.Rows.{Leads, led-itself, pairs-led, added-settle}
 
 abbrev no_instance : Instance
 no_instance = record { name = 0; k = 0; base = 0; size = 0; kind = Heap; live = false; exposed = false }

@@ -24,8 +24,8 @@ use Rattle.pv_libc.specs.Blocks.{copy, memset, memcmp}
 use Rattle.pv_libc.specs.Strings.{strlen, compared_by, compared_from, strcmp, strcpy}
 use Rattle.pv_libc.specs.Heap.{told_of, heap_request, granted, requested, allocated, malloc, zeroed, cleared, calloc, block_by, block, freed, free, both, moved, resized, realloc}
 use Rattle.pv_libc.specs.Calls.{argument_at, number, size, called_in, called}
-use Rattle.pv_laws.proofs.Ways.{Ways, Steps, next-steps, about-steps, step-if, reached-steps, at-steps, row-steps, text-steps}
-use Rattle.pv_laws.proofs.Printing.{printf-steps}
+use Rattle.pv_exec.proofs.Memory.Ways.{Ways, Steps, next-steps, about-steps, step-if, reached-steps, at-steps, row-steps, text-steps}
+use Rattle.pv_exec.proofs.Memory.Printing.{printf-steps}
 
 some-size : (n : ℕ) → eqb n 0 ≡ false → 1 ≤ n
 some-size n e = grind (arith, nat_tests)

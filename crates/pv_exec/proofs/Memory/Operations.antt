@@ -39,9 +39,9 @@ use Rattle.pv_eval.specs.Library.{replied, with_memory, asked, asks}
 use Rattle.pv_eval.specs.Suiting.{is_size, is_live, knows_worth}
 use Rattle.pv_eval.specs.Operations.{Op, Converts, Calculates, CalculatesOne, Tests, Negates, Accepts, Needs, Moves, Subtracts, Orders, Equals, Follows, Selects, Finds, TakesPart, Reads, Writes, NamesObject, NamesLiteral, NamesFunction, Makes, MakesLiteral, MakesFunction, Ends, BeginsBody, EndsBody, Fills, Puts, PutsText, Asks, suits, works, does}
 use Rattle.pv_eval.proofs.Guards.{left_of, right_of, worth_made}
-use Rattle.pv_laws.proofs.Calls.{called-leads}
-use Rattle.pv_laws.proofs.Worlds.{Onward, unless-on, tests-on, converts-on, calculates-on, calculates-one-on, follows-on, moves-on, selects-on, between-on, order-on, equals-on, reaching-on, worth-on, takes-on, finds-on, object-on, function-on, literal-on, ends-on}
-use Rattle.pv_laws.proofs.Ways.{Changes}
+use Rattle.pv_exec.proofs.Memory.Calls.{called-leads}
+use Rattle.pv_exec.proofs.Memory.Worlds.{Onward, unless-on, tests-on, converts-on, calculates-on, calculates-one-on, follows-on, moves-on, selects-on, between-on, order-on, equals-on, reaching-on, worth-on, takes-on, finds-on, object-on, function-on, literal-on, ends-on}
+use Rattle.pv_exec.proofs.Memory.Ways.{Changes}
 
 -- if every tag has a byte
 abbrev pub Filled : Setting → Type 0

@@ -17,7 +17,7 @@ use Rattle.pv_inst.proofs.Rows.{IsRow}
 use Rattle.pv_inst.proofs.Together.{slice_get-set_here, slice_get-set_other}
 use Rattle.pv_inst.proofs.Meetings.{same_or_not, met_set, met_push, met_kept}
 use Rattle.pv_inst.proofs.Apartness.{apart_set, apart_fresh, none_nearest}
-use Rattle.pv_laws.specs.Staying.{StaysAs, Remains, AllRemain, SettlesFrom, Settles, AllSettle}
+use Rattle.pv_exec.specs.Staying.{StaysAs, Remains, AllRemain, SettlesFrom, Settles, AllSettle}
 
 -- an instance lies within the addresses; it has a byte, if every type has (F)
 pub record Lies (F : Type 0) (x : Instance) : Type 0 where

@@ -24,9 +24,9 @@ use Rattle.pv_inst.specs.Placing.{Request, place, place_said, place_at, unless_o
 use Rattle.pv_inst.specs.Ending.{ended, ending, over}
 use Rattle.pv_inst.proofs.Rows.{row_found}
 use Rattle.pv_inst.proofs.Together.{Common, common_found, left_can, right_can}
-use Rattle.pv_laws.proofs.Ways.{Changes}
-use Rattle.pv_laws.proofs.Findings.{name-leads}
-use Rattle.pv_laws.proofs.Rows.{Leads, led-itself, led-trans, row-led, push-led, MayKeep, kept-led}
+use Rattle.pv_exec.proofs.Memory.Ways.{Changes}
+use Rattle.pv_exec.proofs.Memory.Findings.{name-leads}
+use Rattle.pv_exec.proofs.Memory.Rows.{Leads, led-itself, led-trans, row-led, push-led, MayKeep, kept-led}
 
 -- a use: a pair keeps what survives, one of its two at least, and only what it kept can survive
 judged-is : (zap : Bool) (xs : List Instance) (s : Stands) (pair : Option ℕ) (t : Test) (tried : Tried) → judged zap xs s pair t ≡ Ok tried → (any_survives zap xs s t ≡ true) × (tried ≡ record { pair = pair; low = survives zap xs s.low t; high = survives zap xs s.high t })

@@ -11,7 +11,7 @@ use Rattle.pv_libc.specs.Formats.{piece_at, number_piece, percent_piece}
 use Rattle.pv_libc.specs.Arguments.{string_of, address_of}
 use Rattle.pv_libc.specs.Printing.{number_done, string_done, address_by, address_done, given_of, Printed, piece_done, printed_from, format_of}
 use Rattle.pv_libc.specs.Calls.{pointer, offer, printed, printf}
-use Rattle.pv_laws.proofs.Ways.{Ways, Steps, next-steps, about-steps, text-steps}
+use Rattle.pv_exec.proofs.Memory.Ways.{Ways, Steps, next-steps, about-steps, text-steps}
 
 -- 7.21.6.1p4: what holds of the place in the format that a step leads to
 abbrev There : (Printed → Type 0) → Result Printed Stop → Type 0

@@ -28,7 +28,7 @@ use Rattle.pv_object.specs.Memory.{Mem}
 use Rattle.pv_object.specs.Creating.{created, made}
 use Rattle.pv_object.specs.Loading.{value_of, integer_of, pointer_of, pointer_named, exposed_by, is_trap}
 use Rattle.pv_object.specs.Operations.{truth, equal, equal_after, recast, to_ptr, address_of, to_int, to_int_after, move_under, moved, code, together, order}
-use Rattle.pv_laws.proofs.Ways.{Changes}
+use Rattle.pv_exec.proofs.Memory.Ways.{Changes}
 
 module _ {F : Type 0} {R : Table → Table → Type 0} (changes : Changes F R) where
   pair-if : {A : Type 0} (b : Bool) (T : Table) (w v : A × Table) → R T w.1 → R T v.1 → R T (cond b w v).1

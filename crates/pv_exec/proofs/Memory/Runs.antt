@@ -21,11 +21,11 @@ use Rattle.pv_exec.specs.Calls.{below}
 use Rattle.pv_exec.specs.Run.{setting_of, first, run_of}
 use Rattle.pv_exec.specs.Laws.{run_at}
 use Rattle.pv_exec.proofs.Executed.{WaysIn, Alike, even-closed, run-closed}
-use Rattle.pv_laws.specs.Laying.{table_at, HasNoEmptyTag}
-use Rattle.pv_laws.proofs.Rows.{Lies, Sound, Leads, led-itself, led-trans, kept-led}
-use Rattle.pv_laws.proofs.Tables.{leading}
-use Rattle.pv_laws.proofs.Worlds.{Onward}
-use Rattle.pv_laws.proofs.Operations.{Filled, does-on}
+use Rattle.pv_exec.specs.Laying.{table_at, HasNoEmptyTag}
+use Rattle.pv_exec.proofs.Memory.Rows.{Lies, Sound, Leads, led-itself, led-trans, kept-led}
+use Rattle.pv_exec.proofs.Memory.Tables.{leading}
+use Rattle.pv_exec.proofs.Memory.Worlds.{Onward}
+use Rattle.pv_exec.proofs.Memory.Operations.{Filled, does-on}
 
 -- from one moment to another
 abbrev pub Passes : Type 0 → State → State → Type 0
@@ -107,7 +107,7 @@ run-passes u sides zap script n =
     run-closed b n sides (passing b) n (alike b n) (first script zap)
 
 -- nothing is made yet
-first-sound : (F : Type 0) (script : List ScriptLine) (zap : Bool) → Sound F (table_at (first script zap)).instances (table_at (first script zap)).pairs
+pub first-sound : (F : Type 0) (script : List ScriptLine) (zap : Bool) → Sound F (table_at (first script zap)).instances (table_at (first script zap)).pairs
 first-sound F script zap = record {
   placed = All-nil (Lies F);
   apart = λ i j d l h. absurd (omega (arith, h));

@@ -41,8 +41,8 @@ use Rattle.pv_world.specs.Calculations.{calculates, calculates_one, follows_to}
 use Rattle.pv_world.specs.Pointers.{moved_by, distance, moves, in_elements, elements_by, between_by, between, ordered_by, equal_by, equals, selects, unlike, found_in, found_by, finds}
 use Rattle.pv_world.specs.Accesses.{range_use, reaching_by, reaching, scalar_as, scalar_by, worth_in, takes_bytes}
 use Rattle.pv_world.specs.Objects.{object_made, makes_object, ends_instance, literal_request, literal_made, makes_literal_of, function_made, makes_function, owner_of}
-use Rattle.pv_laws.proofs.Pointers.{reach-leads, value-leads, truth-leads, equal-leads, to_ptr-leads, recast-leads, to_int-leads, move-leads, code-leads, together-leads, order-leads, created-leads}
-use Rattle.pv_laws.proofs.Ways.{Changes}
+use Rattle.pv_exec.proofs.Memory.Pointers.{reach-leads, value-leads, truth-leads, equal-leads, to_ptr-leads, recast-leads, to_int-leads, move-leads, code-leads, together-leads, order-leads, created-leads}
+use Rattle.pv_exec.proofs.Memory.Ways.{Changes}
 
 -- the table of the world that a doing leaves
 abbrev pub left : Done → Table

@@ -5,7 +5,7 @@ use Rattle.pv_prov.specs.Names.{twin_at}
 use Rattle.pv_inst.specs.declared.values.Instance.{Instance}
 use Rattle.pv_inst.specs.Table.{instance_at}
 use Rattle.pv_eval.specs.States.{State}
-use Rattle.pv_laws.specs.Laying.{table_at}
+use Rattle.pv_exec.specs.Laying.{table_at}
 
 -- 6.2.4p2: an instance has a constant address and size, and lives no more once it has ended; what is exposed stays exposed (the memory
 -- model)

@@ -5,9 +5,9 @@ use Rattle.pv_inst.specs.Table.{Table}
 use Rattle.pv_object.specs.Memory.{Mem}
 use Rattle.pv_libc.specs.declared.values.Arg.{Arg}
 use Rattle.pv_libc.specs.Calls.{called}
-use Rattle.pv_laws.proofs.Ways.{Changes, Ways}
-use Rattle.pv_laws.proofs.Library.{called-closed}
-use Rattle.pv_laws.proofs.Pointers.{reach-leads, value-leads, to_int-leads, created-leads}
+use Rattle.pv_exec.proofs.Memory.Ways.{Changes, Ways}
+use Rattle.pv_exec.proofs.Memory.Library.{called-closed}
+use Rattle.pv_exec.proofs.Memory.Pointers.{reach-leads, value-leads, to_int-leads, created-leads}
 
 along : {F : Type 0} {R : Table → Table → Type 0} → Changes F R → Ways R
 along changes = record {

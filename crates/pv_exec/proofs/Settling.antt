@@ -1,0 +1,26 @@
+-- A run, and the same run with each pair of candidates on its side from its making (the memory model).
+pub mod Sides
+pub mod Uses
+pub mod Exposures
+pub mod Finding
+pub mod Along
+pub mod Pointers
+pub mod Same
+pub mod Meeting
+pub mod Reaching
+pub mod Starts
+pub mod Doings
+pub mod Worlds
+pub mod Accesses
+pub mod Callees
+pub mod Operations
+pub mod Acting
+pub mod Runs
+pub mod Steps
+pub mod Heap
+pub mod Library
+pub mod Printing
+pub mod Asks
+pub mod Laws
+pub mod Clauses
+pub mod Examples
