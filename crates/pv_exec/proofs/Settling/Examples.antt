@@ -6,8 +6,8 @@ use Rattle.pv_inst.specs.declared.values.Instance.{Instance}
 use Rattle.pv_num.specs.declared.kinds.IntKind.TheVariants.{Int}
 use Rattle.pv_types.specs.Ty.{IntTy}
 use Rattle.pv_inst.specs.declared.values.Kind.{Kind}
-use Rattle.pv_inst.specs.declared.values.Kind.TheVariants.{Declared, Literal, Heap}
-use Rattle.pv_inst.specs.declared.values.Test.TheVariants.{Live, Range}
+use Rattle.pv_inst.specs.declared.values.Kind.TheVariants.{Declared, Literal, Heap, Function}
+use Rattle.pv_inst.specs.declared.values.Test.TheVariants.{Live, Range, Code}
 use Rattle.pv_inst.specs.declared.values.Miss.TheVariants.{Ended, Outside}
 use Rattle.pv_inst.specs.Table.{Table}
 use Rattle.pv_inst.specs.Use.{use_answer}
@@ -93,3 +93,16 @@ late-reads b = refl
 
 high-stops : (b : Setting) → answers (reads b no_bytes (pointer (record { address = 65540; prov = Pair 1 })) [] (on_world (true ∷ []) border)) ≡ false
 high-stops b = refl
+
+-- where an allocation ends and a function begins a call means the function; settled to the allocation it is undefined (6.5.2.2p1)
+abbrev callee : Table
+callee = record (row true) { instances = alike 65536 Heap ∷ record { name = 1; k = 1; base = 65540; size = 1; kind = Function; live = true; exposed = true } ∷ [] }
+
+late-calls : use_answer callee (Pair 1) (Code 65540) ≡ Ok (record { pair = Some 1; low = false; high = true })
+late-calls = refl
+
+high-calls : use_answer (on_table (true ∷ []) callee) (Pair 1) (Code 65540) ≡ Ok (record { pair = None; low = false; high = true })
+high-calls = refl
+
+low-calls : use_answer (on_table (false ∷ []) callee) (Pair 1) (Code 65540) ≡ Err Outside
+low-calls = refl

@@ -1,5 +1,5 @@
 -- Late settling is right (the memory model): what a run ends with is its outcome.
-use Rattle.std.proofs.Common.{◌≡◌, IfSome, IsSomeAnd}
+use Rattle.std.proofs.Common.{IfSome, IsSomeAnd}
 use Rattle.pv_inst.specs.declared.values.CreateError.TheVariants as refusal
 use Rattle.pv_world.specs.Worlds.{Worth, Undefined, Undecided, Halts, Indeterminate, Exits, Aborts, Refused, SidesEnded}
 use Rattle.pv_eval.specs.States.{Res, Gives, Stops, Turns, Unreached, Stopped}
