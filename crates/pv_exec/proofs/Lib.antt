@@ -31,6 +31,7 @@ pub mod Framed
 pub mod Heading
 pub mod Growing
 pub mod Adding
+pub mod Stages
 pub mod Streaming
 pub mod MainPieces
 pub mod Reaching

@@ -1,5 +1,5 @@
 -- The call of `main` and the whole run, from how the statements ended.
-use Rattle.std.proofs.Common.{◌≡◌, ℕ, List, [], ◌++◌, None, Some, sym, ap, ◌∙◌, subst}
+use Rattle.std.proofs.Common.{◌≡◌, ℕ, zero, List, [], ◌++◌, None, Some, refl, sym, ap, ◌∙◌, subst, arith}
 use Rattle.std.specs.Prelude.{length, Result, Ok, Err}
 use Rattle.pv_typed.specs.TypedUnits.{WholeUnit, function_at}
 use Rattle.pv_typed.specs.Mains.{main_of}
@@ -8,6 +8,7 @@ use Rattle.pv_world.specs.Worlds.{Worth}
 use Rattle.pv_world.specs.Coming.{wrong_for}
 use Rattle.pv_world.specs.declared.got.Cause.{Cause}
 use Rattle.pv_eval.specs.declared.failure.Failure.{Failure}
+use Rattle.pv_eval.specs.declared.failure.Failure.TheVariants as failure
 use Rattle.pv_eval.specs.declared.marked.Marked.{Marked}
 use Rattle.pv_eval.specs.States.{Setting, State, Turns, Stopped, Res, then_do}
 use Rattle.pv_eval.specs.Moments.{IsSetting, Follows, Stays, Always, Made, state_of}
@@ -24,11 +25,26 @@ use Rattle.pv_exec.specs.Called.{begun, BodyIs}
 use Rattle.pv_exec.specs.Preparing.{prepare}
 use Rattle.pv_exec.specs.Tasks.{left}
 use Rattle.pv_exec.specs.declared.delivering.Undelivered.TheVariants as undelivered
-use Rattle.pv_exec.specs.Streaming.{Outlet, DeliveryCause}
-use Rattle.pv_exec.specs.Running.{LastOr, StatementsLed, EndLed, PieceLed, ends_call, ended_by, failed, main_called, whole_run, IsCalm}
+use Rattle.pv_exec.specs.Streaming.{Outlet, DeliveryCause, failing}
+use Rattle.pv_exec.specs.Stages.{bounded, IsStaged, StandsLast, StandsOr}
+use Rattle.pv_exec.specs.Running.{LastOr, StatementsLed, StatementsCut, EndLed, PieceLed, PieceCut, ends_call, ended_by, failed, main_called, whole_run, IsCalm}
 use Rattle.pv_exec.proofs.Pieces.{setting-stays, before-stays}
+use Rattle.pv_exec.proofs.Stages.{stands-first}
 use Rattle.pv_exec.proofs.Streaming.{streams-fail, streams-first, setting-apart, total-apart}
 use Rattle.pv_exec.proofs.Mains.{holds-first, left_by, main-begins, main-not-begun, main-left, main-stops, main-valued, main-lost, ended-is, ended-nothing, unit-ends, unit-stops}
+
+-- what took no turn more, and no write failed
+stands-calm : (x : Ended) (stage : ℕ → State) (k k' : ℕ) (bytes : List ℕ) (events : List Marked) → IsCalm x → k' ≡ k → StandsLast stage k bytes events → StandsOr (failed x) stage k' bytes events
+stands-calm (ending.Value v) stage k k' bytes events q e h = subst (λ (i : ℕ). StandsLast stage i bytes events) (sym e) h
+stands-calm ending.Turns stage k k' bytes events q e h = subst (λ (i : ℕ). StandsLast stage i bytes events) (sym e) h
+stands-calm (ending.Stop y line) stage k k' bytes events q e h = subst (λ (i : ℕ). StandsLast stage i bytes events) (sym e) h
+stands-calm (ending.Failed undelivered.NoMemory) stage k k' bytes events q e h = tt
+stands-calm (ending.Failed undelivered.WriteFault) stage k k' bytes events q e h = absurd q
+
+-- what ended before the first turn
+stands-none : (e : Failure) (stage : ℕ → State) (k : ℕ) → k ≡ 0 → (stage zero).output ≡ [] → (stage zero).events ≡ [] → StandsOr (failed (ended_by e)) stage k [] []
+stands-none failure.NoMemory stage k z o v = tt
+stands-none (failure.Stop y line) stage k z o v = record { stages = 0; stands = stands-first stage 0 refl o v; last = omega (arith, z) }
 
 module _ (o o' : Outlet) (u : Stored) (n f line : ℕ) (d : Doing) (old m1 m2 : Machine) (made : Always u old.moment (λ b out es. Made (begun b line (function_at (whole u) f) [] (state_of old.moment out es)) (Ok tt) (state_of m1.moment out es))) (there : line ≡ (function_at (whole u) f).line) (st : Stays old.moment m1.moment) (fresh : old.moment.taken ≡ 0) (none : m1.started ≡ []) (body : BodyIs u f d) where
   begins : (b : Setting) (out : List ℕ) (es : List Marked) → IsSetting b u old.moment → Follows old.moment (length out) → main_called f b (state_of old.moment out es) ≡ then_do (runs_body b (below b b.bound) (function_at b.unit f).body (state_of m1.moment out es)) (left_by b f (function_at b.unit f).line)
@@ -40,9 +56,29 @@ module _ (o o' : Outlet) (u : Stored) (n f line : ℕ) (d : Doing) (old m1 m2 : 
       led.led b out es (setting-stays b u old.moment m1.moment st hs) (before-stays old.moment m1.moment out st hl) (left (runs_body b (below b b.bound) (function_at b.unit f).body s1)) q
       (holds-first b u f d m1.started s1 hs.unit body none (st.taken ∙ fresh))
 
+  -- how far they let the run out
+  staged : (b : Setting) (stage : ℕ → State) → IsSetting b u old.moment → Follows old.moment 0 → IsStaged (PieceCut b (main_called f) old) stage → IsStaged (StatementsCut b u d m1) stage
+  staged b stage hs hl sg = record {
+    output = sg.output;
+    events = sg.events;
+    cut = λ j s w.
+        let c = bounded b j in
+        let hc : IsSetting c u old.moment = record { unit = hs.unit; types = hs.types; sides = hs.sides } in
+        let F = function_at c.unit f in
+        let s1 = state_of m1.moment [] [] in
+        let m = runs_body c (below c c.bound) F.body s1 in
+        sg.cut j s (main-stops m (left_by c f F.line) Turns s (main_called f c (state_of old.moment [] [])) (begins c [] [] hc hl)
+        (w (left m) (holds-first c u f d m1.started s1 hs.unit body none (st.taken ∙ fresh))));
+    behind = sg.behind;
+  }
+
+  stands-so : (r : Result Last Undelivered) (led : StatementsLed u o o' n d r m1 m2) (b : Setting) (stage : ℕ → State) → IsSetting b u old.moment → Follows old.moment 0 → IsStaged (PieceCut b (main_called f) old) stage → StandsOr (failing r) stage m2.moment.taken led.bytes led.events
+  stands-so r led b stage hs hl sg =
+      led.stands b stage (setting-stays b u old.moment m1.moment st hs) (before-stays old.moment m1.moment [] st hl) (staged b stage hs hl sg)
+
   -- its body was left
-  pub piece-left : (fl : Flow) (x : Ended) (m3 : Machine) → StatementsLed u o o' n d (Ok (last.Left fl)) m1 m2 → EndLed u f fl x m2 m3 → PieceLed u o o' n (main_called f) x old m3
-  piece-left fl x m3 led e = record {
+  pub piece-left : (fl : Flow) (x : Ended) (m3 : Machine) → StatementsLed u o o' n d (Ok (last.Left fl)) m1 m2 → EndLed u f fl x m2 m3 → IsCalm x → m3.moment.taken ≡ m2.moment.taken → PieceLed u o o' n (main_called f) x old m3
+  piece-left fl x m3 led e calm same = record {
     bytes = led.bytes;
     events = led.events;
     streams = streams-fail (failed x) led.streams;
@@ -57,17 +93,19 @@ module _ (o o' : Outlet) (u : Stored) (n f line : ℕ) (d : Doing) (old m1 m2 : 
         ended-is (ends_call b f F.line fl s2) (main_called f b (state_of old.moment out es)) x m3.moment out' es'
         (main-left b f F.line fl m s2 (main_called f b (state_of old.moment out es)) (begins b out es hs hl) (statements (Ok (last.Left fl)) led b out es hs hl q))
         (e b out' es' (setting-apart b u led.bytes m1.moment m2.moment led.keeps hs1) (total-apart out led.bytes m1.moment m2.moment led.keeps hl1) F.line);
+    stands = λ b stage hs hl sg. stands-calm x stage m2.moment.taken m3.moment.taken led.bytes led.events calm same (stands-so (Ok (last.Left fl)) led b stage hs hl sg);
   }
 
   -- no statement ends with the value of an expression
-  pub piece-valued : (x : Ended) → StatementsLed u o o' n d (Ok last.Valued) m1 m2 → PieceLed u o o' n (main_called f) x old m2
-  piece-valued x led = record {
+  pub piece-valued : (x : Ended) → StatementsLed u o o' n d (Ok last.Valued) m1 m2 → IsCalm x → PieceLed u o o' n (main_called f) x old m2
+  piece-valued x led calm = record {
     bytes = led.bytes;
     events = led.events;
     streams = streams-fail (failed x) led.streams;
     led = λ b out es hs hl q.
         let m = runs_body b (below b b.bound) (function_at b.unit f).body (state_of m1.moment out es) in
         main-valued m (ended m2.started) (state_of m2.moment (out ++ led.bytes) (es ++ led.events)) (statements (Ok last.Valued) led b out es hs hl q);
+    stands = λ b stage hs hl sg. stands-calm x stage m2.moment.taken m2.moment.taken led.bytes led.events calm refl (stands-so (Ok last.Valued) led b stage hs hl sg);
   }
 
   pub piece-turns : StatementsLed u o o' n d (Ok last.Turns) m1 m2 → PieceLed u o o' n (main_called f) ending.Turns old m2
@@ -79,6 +117,7 @@ module _ (o o' : Outlet) (u : Stored) (n f line : ℕ) (d : Doing) (old m1 m2 : 
         let F = function_at b.unit f in
         let m = runs_body b (below b b.bound) F.body (state_of m1.moment out es) in
         main-stops m (left_by b f F.line) Turns (state_of m2.moment (out ++ led.bytes) (es ++ led.events)) (main_called f b (state_of old.moment out es)) (begins b out es hs hl) (statements (Ok last.Turns) led b out es hs hl q);
+    stands = stands-so (Ok last.Turns) led;
   }
 
   pub piece-stops : (y : Cause) (at : ℕ) → StatementsLed u o o' n d (Ok (last.Stop y at)) m1 m2 → PieceLed u o o' n (main_called f) (ending.Stop y at) old m2
@@ -90,6 +129,7 @@ module _ (o o' : Outlet) (u : Stored) (n f line : ℕ) (d : Doing) (old m1 m2 : 
         let F = function_at b.unit f in
         let m = runs_body b (below b b.bound) F.body (state_of m1.moment out es) in
         main-stops m (left_by b f F.line) (Stopped (wrong_for y) at) (state_of m2.moment (out ++ led.bytes) (es ++ led.events)) (main_called f b (state_of old.moment out es)) (begins b out es hs hl) (statements (Ok (last.Stop y at)) led b out es hs hl q);
+    stands = stands-so (Ok (last.Stop y at)) led;
   }
 
   -- they could not go on
@@ -102,17 +142,19 @@ module _ (o o' : Outlet) (u : Stored) (n f line : ℕ) (d : Doing) (old m1 m2 : 
         let F = function_at b.unit f in
         let m = runs_body b (below b b.bound) F.body (state_of m1.moment out es) in
         main-lost b f F.line m (main_called f b (state_of old.moment out es)) (out ++ led.bytes) (es ++ led.events) (begins b out es hs hl) (statements (Err e) led b out es hs hl q);
+    stands = stands-so (Err e) led;
   }
 
 -- the body did not begin
-pub piece-unbegun : (o : Outlet) (u : Stored) (n f line : ℕ) (old m1 : Machine) (e : Failure) → Always u old.moment (λ b out es. Made (begun b line (function_at (whole u) f) [] (state_of old.moment out es)) (Err e) (state_of m1.moment out es)) → line ≡ (function_at (whole u) f).line → PieceLed u o o n (main_called f) (ended_by e) old m1
-piece-unbegun o u n f line old m1 e made there = record {
+pub piece-unbegun : (o : Outlet) (u : Stored) (n f line : ℕ) (old m1 : Machine) (e : Failure) → Always u old.moment (λ b out es. Made (begun b line (function_at (whole u) f) [] (state_of old.moment out es)) (Err e) (state_of m1.moment out es)) → line ≡ (function_at (whole u) f).line → m1.moment.taken ≡ 0 → PieceLed u o o n (main_called f) (ended_by e) old m1
+piece-unbegun o u n f line old m1 e made there fresh = record {
   bytes = [];
   events = [];
   streams = streams-first o u.names (failed (ended_by e));
   led = λ b out es hs hl q.
       ended-nothing (main_called f b (state_of old.moment out es)) (ended_by e) m1.moment out es
       (main-not-begun b u f line old.moment m1.moment out es e hs.unit (there ∙ ap (λ (w : WholeUnit). (function_at w f).line) (sym hs.unit)) (made b out es hs hl));
+  stands = λ b stage hs hl sg. stands-none e stage m1.moment.taken fresh sg.output sg.events;
 }
 
 -- the whole run
@@ -127,14 +169,24 @@ piece-whole u n f x old m1 m2 made is st led = record {
       ended-is (main_called f b s1) (whole_run b s) x m2.moment (out ++ led.bytes) (es ++ led.events)
       (unit-ends b f s s1 (made b out es hs hl) (ap main_of hs.unit ∙ is))
       (led.led b out es (setting-stays b u old.moment m1.moment st hs) (before-stays old.moment m1.moment out st hl) q);
+  stands = λ b stage hs hl sg. led.stands b stage (setting-stays b u old.moment m1.moment st hs) (before-stays old.moment m1.moment [] st hl) (record {
+    output = sg.output;
+    events = sg.events;
+    cut = λ j s w.
+        let c = bounded b j in
+        let hc : IsSetting c u old.moment = record { unit = hs.unit; types = hs.types; sides = hs.sides } in
+        sg.cut j s (unit-ends c f (state_of old.moment [] []) (state_of m1.moment [] []) (made c [] [] hc hl) (ap main_of hs.unit ∙ is) ∙ w);
+    behind = sg.behind;
+  });
 }
 
-pub piece-unprepared : (o : Outlet) (u : Stored) (n : ℕ) (old m1 : Machine) (e : Failure) → Always u old.moment (λ b out es. Made (prepare b (state_of old.moment out es)) (Err e) (state_of m1.moment out es)) → PieceLed u o o n whole_run (ended_by e) old m1
-piece-unprepared o u n old m1 e made = record {
+pub piece-unprepared : (o : Outlet) (u : Stored) (n : ℕ) (old m1 : Machine) (e : Failure) → Always u old.moment (λ b out es. Made (prepare b (state_of old.moment out es)) (Err e) (state_of m1.moment out es)) → m1.moment.taken ≡ 0 → PieceLed u o o n whole_run (ended_by e) old m1
+piece-unprepared o u n old m1 e made fresh = record {
   bytes = [];
   events = [];
   streams = streams-first o u.names (failed (ended_by e));
   led = λ b out es hs hl q. ended-nothing (whole_run b (state_of old.moment out es)) (ended_by e) m1.moment out es (unit-stops b e old.moment m1.moment out es (made b out es hs hl));
+  stands = λ b stage hs hl sg. stands-none e stage m1.moment.taken fresh sg.output sg.events;
 }
 
 -- the same by equal names

@@ -1,9 +1,9 @@
 -- What the outside of a run has seen of it.
-use Rattle.std.proofs.Common.{◌≡◌, ℕ, ◌+◌, ◌-◌, ◌<◌, ◌≤◌, List, [], ◌∷◌, ◌++◌, append_assoc, None, Some, refl, sym, ap, ◌∙◌, subst, arith}
+use Rattle.std.proofs.Common.{◌≡◌, ℕ, zero, suc, ◌+◌, ◌-◌, ◌^◌, ◌<◌, ◌≤◌, List, [], ◌∷◌, ◌++◌, append_assoc, length-append, None, Some, refl, sym, ap, ◌∙◌, subst, arith}
 use Rattle.std.specs.Prelude.{Bool, map, take, drop, length, get_or}
 use Rattle.std.specs.List.{AllZip}
 use Rattle.std.specs.declared.option.Option.{Option}
-use Rattle.std.proofs.lemmas.List.{take_more, map-append, take-append-drop}
+use Rattle.std.proofs.lemmas.List.{take_more, map-append, take-append-drop, length-take}
 use Rattle.std.proofs.Math.Seq.{take-add}
 use Rattle.pv_watch.specs.declared.event.Event.{Event}
 use Rattle.pv_watch.specs.declared.event.What.TheVariants as what
@@ -12,7 +12,7 @@ use Rattle.pv_world.specs.Worlds.{Worth}
 use Rattle.pv_script.specs.Lines.{ScriptLine}
 use Rattle.pv_typed.specs.Tables.{Stored}
 use Rattle.pv_eval.specs.declared.marked.Marked.{Marked}
-use Rattle.pv_eval.specs.States.{State, Res, end_of}
+use Rattle.pv_eval.specs.States.{State, Turns, Res, Stops, end_of}
 use Rattle.pv_typed.specs.Children.{Each}
 use Rattle.pv_eval.specs.Moments.{Moment, IsSetting, Follows, state_of}
 use Rattle.pv_eval.specs.Machines.{Machine, first_machine}
@@ -22,19 +22,24 @@ use Rattle.pv_exec.specs.declared.running.Ended.TheVariants as ended
 use Rattle.pv_exec.specs.Run.{setting_of, run_of, outcome_of}
 use Rattle.pv_exec.specs.declared.delivering.Undelivered.TheVariants as undelivered
 use Rattle.pv_exec.specs.declared.program.RunError.TheVariants as error
-use Rattle.pv_exec.specs.Streaming.{Outlet, IsNear, event_of, FirstTold, FirstWritten, Streams, Begins}
-use Rattle.pv_exec.specs.Running.{EndedIs, PieceLed, failed, whole_run}
+use Rattle.pv_exec.specs.Streaming.{Outlet, IsNear, IsFar, event_of, FirstTold, FirstWritten, BlockPart, Streams, Begins}
+use Rattle.pv_exec.specs.Words.{FitsWords}
+use Rattle.pv_exec.specs.Laws.{run_at, IsUpto}
+use Rattle.pv_exec.specs.Stages.{stage_of, IsBehind, IsStaged, StandsLast, StandsOr}
+use Rattle.pv_exec.specs.Running.{EndedIs, PieceLed, PieceCut, failed, whole_run}
 use Rattle.pv_exec.specs.Ending.{outcome_by}
 use Rattle.pv_exec.specs.declared.program.Ran.{Ran}
 use Rattle.pv_exec.specs.declared.program.RunError.{RunError}
 use Rattle.std.specs.Prelude.{Result, Ok, Err, IfOk, OnOk, OnErr}
 use Rattle.pv_script.specs.Outside.{Gains, GainsPrefix}
-use Rattle.pv_script.proofs.GainsLemmas.{gains_both, gains_same, prefix_next}
-use Rattle.pv_exec.proofs.Growing.{each-append}
+use Rattle.pv_script.proofs.GainsLemmas.{gains_both, gains_same}
+use Rattle.pv_exec.proofs.Growing.{each-append, each-weaker}
+use Rattle.pv_exec.proofs.Reaching.{within-bound}
+use Rattle.pv_exec.proofs.Stages.{let-out-last}
 use Rattle.pv_exec.proofs.Streaming.{told-all, near-part, rose-both}
 use Rattle.pv_exec.specs.Sided.{side_of}
 use Rattle.pv_exec.specs.Run.{sides_at}
-use Rattle.pv_exec.specs.Answering.{RanAs, RanAt, ToldOr, RestTold, FaultCause, error_by}
+use Rattle.pv_exec.specs.Answering.{RanAs, RanAt, ToldOr, StreamedOr, RestTold, FaultCause, error_by}
 
 -- one event more is told
 pub told-more : (old mid new : List Slot) (es : List Event) (e : Event) (names : List (List ℕ)) → Told old es names mid → AllZip (After e names) mid new → Told old (es ++ e ∷ []) names new
@@ -51,15 +56,33 @@ told-next old mid new es i ns names h lt is k =
     (sym (map-append event_of (take i es) (m ∷ [])) ∙ ap (map event_of) (sym (take_more es i no_event lt)))
     (told-more old mid new (map event_of (take i es)) m.event names h (subst (λ (xs : List (List ℕ)). AllZip (After m.event xs) mid new) is k))
 
+pub words-next : (i : ℕ) (events : List Marked) → Each FitsWords (take i events) → i < length events → FitsWords (get_or events i no_event) → Each FitsWords (take (i + 1) events)
+words-next i events h lt fit =
+    let m = get_or events i no_event in
+    subst (λ (xs : List Marked). Each FitsWords xs) (sym (take_more events i no_event lt)) (each-append FitsWords (take i events) (m ∷ []) h (fit, tt))
+
 -- the first event that was not told yet was told
-pub first-told : (i : ℕ) (events : List Marked) (written : ℕ) (old mid new : List Slot) (ns names : List (List ℕ)) → FirstTold i events written old mid names → i < length events → (get_or events i no_event).mark ≤ written + 4095 → ns ≡ names → AllZip (After (get_or events i no_event).event ns) mid new → FirstTold (i + 1) events written old new names
-first-told i events written old mid new ns names h lt near is k =
+pub first-told : (i : ℕ) (events : List Marked) (written : ℕ) (old mid new : List Slot) (ns names : List (List ℕ)) → FirstTold i events written old mid names → i < length events → (get_or events i no_event).mark ≤ written + 4095 → FitsWords (get_or events i no_event) → ns ≡ names → AllZip (After (get_or events i no_event).event ns) mid new → FirstTold (i + 1) events written old new names
+first-told i events written old mid new ns names h lt near fit is k =
     let m = get_or events i no_event in
     record {
       most = omega (arith, lt);
       told = told-next old mid new events i ns names h.told lt is k;
       near = subst (λ (xs : List Marked). Each (IsNear written) xs) (sym (take_more events i no_event lt)) (each-append (IsNear written) (take i events) (m ∷ []) h.near (near, tt));
+      words = words-next i events h.words lt fit;
     }
+
+-- the first event that was not told is far
+pub far-here : (i written : ℕ) (events : List Marked) → i < length events → written + 4095 < (get_or events i no_event).mark → (get_or events i no_event).mark < 2 ^ 64 → IsFar written (drop i events)
+far-here i written [] lt far fit = absurd (omega (arith, lt))
+far-here zero written (m ∷ ms) lt far fit = (far, fit)
+far-here (suc i) written (m ∷ ms) lt far fit = far-here i written ms (omega (arith, lt)) far fit
+
+pub far-none : (i written : ℕ) (events : List Marked) → length events ≤ i → IsFar written (drop i events)
+far-none zero written [] le = tt
+far-none (suc i) written [] le = tt
+far-none zero written (m ∷ ms) le = absurd (omega (arith, le))
+far-none (suc i) written (m ∷ ms) le = far-none i written ms (omega (arith, le))
 
 -- what was written first is a first part
 pub first-part : (n : ℕ) (bytes : List ℕ) (a b : Option (List ℕ)) → FirstWritten n bytes a b → GainsPrefix a b bytes
@@ -82,12 +105,32 @@ minus-same i = omega arith
 pub next-block : (i : ℕ) (bytes : List ℕ) (a b c : Option (List ℕ)) → FirstWritten i bytes a b → i + 4096 ≤ length bytes → Gains b c (take (i + 4096 - i) (drop i bytes)) → FirstWritten (i + 4096) bytes a c
 next-block i bytes a b c h le g = record {
   most = le;
+  blocks = h.blocks + 1;
+  whole = omega (arith, h.whole);
   gains = gains_same (ap (λ (n : ℕ). take i bytes ++ take n (drop i bytes)) (minus-same i) ∙ sym (take-add i 4096 bytes)) (gains_both h.gains g);
 }
 
-pub part-block : (i : ℕ) (bytes : List ℕ) (a b c : Option (List ℕ)) → FirstWritten i bytes a b → GainsPrefix b c (take (i + 4096 - i) (drop i bytes)) → GainsPrefix a c bytes
-part-block i bytes a b c h p =
-    prefix_next (drop (i + 4096 - i) (drop i bytes)) bytes (ap (λ (xs : List ℕ). take i bytes ++ xs) (take-append-drop (i + 4096 - i) (drop i bytes)) ∙ take-append-drop i bytes) h.gains p
+pub block-part : (i : ℕ) (bytes : List ℕ) (a b c : Option (List ℕ)) → FirstWritten i bytes a b → i + 4096 ≤ length bytes → GainsPrefix b c (take (i + 4096 - i) (drop i bytes)) → BlockPart a c bytes
+block-part i bytes a b c h le p =
+    let n = i + 4096 - i in
+    let rest = drop n (drop i bytes) in
+    let block : length (p.part ++ p.rest) ≡ length (take n (drop i bytes)) = ap length p.whole in
+    let here = length-take i bytes in
+    let long = length-append (take i bytes) p.part in
+    let parts = length-append p.part p.rest in
+    let most = length-take n (drop i bytes) in
+    record {
+      part = record {
+        part = take i bytes ++ p.part;
+        rest = p.rest ++ rest;
+        whole = append_assoc (take i bytes) p.part (p.rest ++ rest) ∙ ap (λ (l : List ℕ). take i bytes ++ l) (sym (append_assoc p.part p.rest rest) ∙ ap (λ (l : List ℕ). l ++ rest) p.whole ∙ take-append-drop n (drop i bytes)) ∙ take-append-drop i bytes;
+        gains = gains_both h.gains p.gains;
+      };
+      blocks = h.blocks;
+      begun = omega (arith, long, here, h.whole, le);
+      block = omega (arith, long, here, h.whole, le, block, parts, most, minus-same i);
+      full = omega (arith, h.whole, le);
+    }
 
 -- a run that has ended
 pub record Over (r : Res Worth) (o : Outcome) (s : State) : Type 0 where
@@ -162,6 +205,7 @@ told-end R o m out es names (Err error.WriteFault) a b c v h p k =
       all = over-events R o m out es v;
       told = subst (λ (s : List Slot). Told a.hall (map event_of es) names s) (sym k) h.told;
       near = near-part out p.part es h.near;
+      words = h.words;
     }
 told-end R o m out es names (Err error.NoMemory) a b c v h p k = tt
 
@@ -206,7 +250,63 @@ lost-told-by R (ended.Failed undelivered.WriteFault) out es names a b q k = reco
   all = q.events;
   told = k.told;
   near = k.near;
+  words = k.words;
 }
 
 pub lost-told : (R : Res Worth) (x : Ended) (m : Moment) (out : List ℕ) (es : List Marked) (names : List (List ℕ)) (a b : Outlet) → EndedIs R x m out es → Streams (failed x) a b names out es → ToldOr (lost x) a b (end_of R) names
 lost-told R x m out es names a b h k = lost-told-by R x out es names a b (lost-begins R x m out es h) k
+
+-- the stages of the run
+behind-stage : (u : Stored) (sides : Option (List Bool)) (zap : Bool) (script : List ScriptLine) (k : ℕ) → Each (IsBehind (length (stage_of u sides zap script k).output)) (stage_of u sides zap script k).events
+behind-stage u sides zap script zero = tt
+behind-stage u sides zap script (suc n) =
+    let s = end_of (run_at u sides zap script n) in
+    each-weaker (IsUpto s.taken (length s.output)) (IsBehind (length s.output)) s.events (λ x q. q.1) (within-bound u n sides zap script).events
+
+staged-run : (u : Stored) (n : ℕ) (sides : Option (List Bool)) (zap : Bool) (script : List ScriptLine) (old : Machine) → old ≡ first_machine script sides zap → IsStaged (PieceCut (setting_of u n sides zap) whole_run old) (stage_of u sides zap script)
+unfolding run_of
+staged-run u n sides zap script old is = record {
+  output = refl;
+  events = refl;
+  cut = λ j s h. ap end_of (subst (λ (q : State). whole_run (setting_of u j sides zap) q ≡ Stops Turns s) (ap (λ (m : Machine). state_of m.moment [] []) is) h);
+  behind = behind-stage u sides zap script;
+}
+
+pub run-stands : {o o' : Outlet} (u : Stored) (n : ℕ) (sides : Option (List Bool)) (zap : Bool) (script : List ScriptLine) (old new : Machine) (x : Ended) → old ≡ first_machine script sides zap → (led : PieceLed u o o' n whole_run x old new) → StandsOr (failed x) (stage_of u sides zap script) new.moment.taken led.bytes led.events
+run-stands u n sides zap script old new x is led =
+    let b = setting_of u n sides zap in
+    let set : IsSetting b u old.moment = record { unit = refl; types = refl; sides = sym (ap (λ (m : Machine). m.moment.sides) is) } in
+    let follows = subst (λ (m : Machine). Follows m.moment 0) (sym is) refl in
+    led.stands b (stage_of u sides zap script) set follows (staged-run u n sides zap script old is)
+
+-- a run with an outcome took all its turns
+pub stands-over : (x : Ended) (o : Outcome) (stage : ℕ → State) (k : ℕ) (out : List ℕ) (es : List Marked) → outcome_by x ≡ Some o → StandsOr (failed x) stage k out es → StandsLast stage k out es
+stands-over (ended.Value v) o stage k out es e h = h
+stands-over ended.Turns o stage k out es e h = h
+stands-over (ended.Stop y line) o stage k out es e h = h
+stands-over (ended.Failed y) o stage k out es e h = absurd (cc)
+
+-- how far it was let out where what was left could not be written
+pub streamed-end : (R : Res Worth) (o : Outcome) (m : Moment) (out : List ℕ) (es : List Marked) (names : List (List ℕ)) (r : Result Ran RunError) (stage : ℕ → State) (a b c : Outlet) → Over R o (state_of m out es) → StandsLast stage m.taken out es → Streams None a b names out es → OnErr r (GainsPrefix b.sink c.sink m.printed) → RestTold r b.hall c.hall (map event_of m.waiting) names → StreamedOr r a c stage (end_of R).taken names
+streamed-end R o m out es names (Ok ran) stage a b c v s h p k = tt
+streamed-end R o m out es names (Err error.WriteFault) stage a b c v s h p k = record {
+  written = out ++ p.part;
+  gains = gains_both h.gains p.gains;
+  events = es;
+  told = subst (λ (z : List Slot). Told a.hall (map event_of es) names z) (sym k) h.told;
+  let_out = let-out-last stage (end_of R).taken out p.part es (subst (λ (i : ℕ). StandsLast stage i out es) (sym (ap (λ (s : State). s.taken) v.end)) s);
+}
+streamed-end R o m out es names (Err error.NoMemory) stage a b c v s h p k = tt
+
+-- where it went no further
+pub streamed-lost : (R : Res Worth) (x : Ended) (k : ℕ) (out : List ℕ) (es : List Marked) (names : List (List ℕ)) (stage : ℕ → State) (a b : Outlet) → StandsOr (failed x) stage k out es → Streams (failed x) a b names out es → StreamedOr (lost x) a b stage (end_of R).taken names
+streamed-lost R (ended.Value v) k out es names stage a b s h = tt
+streamed-lost R ended.Turns k out es names stage a b s h = tt
+streamed-lost R (ended.Stop y line) k out es names stage a b s h = tt
+streamed-lost R (ended.Failed undelivered.NoMemory) k out es names stage a b s h = tt
+streamed-lost R (ended.Failed undelivered.WriteFault) k out es names stage a b s h = record { written = out; gains = h.gains; events = es; told = h.told; let_out = s (end_of R).taken }
+
+-- the numbers of all its events
+pub words-end : (R : Res Worth) (o : Outcome) (m : Moment) (out : List ℕ) (es : List Marked) (r : Result Ran RunError) → Over R o (state_of m out es) → Each FitsWords es → OnOk r (Each FitsWords m.waiting) → OnOk r (Each FitsWords (end_of R).events)
+words-end R o m out es (Ok ran) v h k = subst (λ (xs : List Marked). Each FitsWords xs) (over-events R o m out es v) (each-append FitsWords es m.waiting h k)
+words-end R o m out es (Err e) v h k = tt

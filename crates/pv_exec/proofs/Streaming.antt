@@ -1,8 +1,9 @@
 -- What has left a run, piece after piece.
-use Rattle.std.proofs.Common.{◌≡◌, ℕ, ◌+◌, ◌≤◌, List, [], ◌∷◌, ◌++◌, append_assoc, append-nil, length-append, refl, sym, ap, ◌∙◌, subst, arith}
-use Rattle.std.specs.Prelude.{length, take, drop, map, None, Some, Ok, Err}
+use Rattle.std.proofs.Common.{◌≡◌, ℕ, suc, ◌+◌, ◌^◌, ◌<◌, ◌≤◌, List, [], ◌∷◌, ◌++◌, append_assoc, append-nil, length-append, refl, sym, ap, ◌∙◌, subst, arith, true, false}
+use Rattle.std.specs.Prelude.{Bool, ◌==◌, ◌&&◌, length, take, drop, map, None, Some, Ok, Err}
 use Rattle.std.specs.declared.option.Option.{Option}
 use Rattle.std.proofs.lemmas.List.{take-append-drop, length-take, map-append}
+use Rattle.std.proofs.lemmas.Bool.{eqb-true}
 use Rattle.pv_script.specs.Outside.{Rose, Gains, GainsPrefix}
 use Rattle.pv_script.proofs.GainsLemmas.{gains_nothing, gains_both}
 use Rattle.pv_typed.specs.Children.{Each}
@@ -25,8 +26,13 @@ use Rattle.pv_exec.specs.Tasks.{Reached}
 use Rattle.pv_exec.specs.Works.{Holds}
 use Rattle.pv_exec.specs.Fits.{Runs}
 use Rattle.pv_exec.specs.Turning.{AdvancedLed}
-use Rattle.pv_exec.specs.Streaming.{Outlet, IsNear, event_of, HasWritten, HasTold, Delivered, DeliveredOr, Streams, Begins}
-use Rattle.pv_exec.specs.Running.{KeepsApart, StatementsLed}
+use Rattle.pv_exec.specs.Streaming.{Outlet, IsNear, event_of, IsFar, HasWritten, HasTold, Delivered, DeliveredOr, Streams, Begins}
+use Rattle.pv_exec.specs.Words.{FitsWords}
+use Rattle.pv_exec.specs.Works.{due}
+use Rattle.pv_exec.specs.Stages.{bounded, IsStaged, Stands, StandsOr}
+use Rattle.pv_exec.specs.Running.{KeepsApart, StatementsCut, StatementsLed}
+use Rattle.pv_exec.proofs.Bounds.{holds-out, has-stores}
+use Rattle.pv_exec.proofs.Stages.{stands-first, stands-next, let-out-block}
 use Rattle.pv_exec.proofs.Growing.{each-append, each-weaker, Grows}
 use Rattle.pv_exec.proofs.Adding.{holds-grow}
 
@@ -54,8 +60,8 @@ delivered-same n k old mid new h g =
     e ∙ sym (ap (λ (q : Machine). with_kept old q.moment.printed q.moment.waiting) e)
 
 -- both parts have left
-pub delivered : {o o' : Outlet} {names : List (List ℕ)} (n w w' : ℕ) (old mid new : Machine) → HasWritten n o.sink o'.sink old mid → w' ≤ w + n → HasTold w' o.hall o'.hall names mid new → Delivered o o' names w w' old new
-delivered {o} {o'} {names} n w w' old mid new h l k =
+pub delivered : {o o' : Outlet} {names : List (List ℕ)} (n w w' : ℕ) (old mid new : Machine) → HasWritten n o.sink o'.sink old mid → w' ≤ w + n → (w' + 1 < 2 ^ 64 → w' ≡ w + n) → HasTold w' o.hall o'.hall names mid new → Delivered o o' names w w' old new
+delivered {o} {o'} {names} n w w' old mid new h l x k =
     let ps = old.moment.printed in
     let es = old.moment.waiting in
     let waits : mid.moment.waiting ≡ es = ap (λ (m : Machine). m.moment.waiting) h.left in
@@ -63,16 +69,59 @@ delivered {o} {o'} {names} n w w' old mid new h l k =
     let final : new.moment.printed ≡ mid.moment.printed = ap (λ (m : Machine). m.moment.printed) k.left in
     let left : new.moment.waiting ≡ drop k.count mid.moment.waiting = ap (λ (m : Machine). m.moment.waiting) k.left in
     let fs = mid.moment.waiting in
+    let parts : length ps ≡ length (take n ps) + length (drop n ps) = ap length (sym (take-append-drop n ps)) ∙ length-append (take n ps) (drop n ps) in
+    let rest : length new.moment.printed ≡ length (drop n ps) = ap length (final ∙ kept) in
     record {
       bytes = take n ps;
       printed = sym (take-append-drop n ps) ∙ ap (λ (xs : List ℕ). take n ps ++ xs) (sym (final ∙ kept));
       gains = h.first.gains;
       counts = omega (arith, l, length-take n ps, h.first.most);
+      exact = λ lt. omega (arith, x lt, length-take n ps, h.first.most);
+      blocks = h.first.blocks;
+      whole = omega (arith, h.first.whole, length-take n ps, h.first.most);
+      few = omega (arith, parts, rest, h.few, length-take n ps, h.first.most);
       events = take k.count fs;
       waiting = sym waits ∙ sym (take-append-drop k.count fs) ∙ ap (λ (xs : List Marked). take k.count fs ++ xs) (sym left);
       told = k.first.told;
       near = k.first.near;
+      words = k.first.words;
+      far = subst (λ (xs : List Marked). IsFar w' xs) (sym left) k.far;
       same = delivered-same n k.count old mid new h.left k.left;
+    }
+
+-- where nothing is printed and none waits
+none-there : {A : Type 0} (xs : List A) → length xs ≡ 0 → xs ≡ []
+none-there [] e = refl
+none-there (x ∷ xs) e = absurd (omega (arith, e))
+
+left-true : (a b : Bool) → (a && b) ≡ true → a ≡ true
+left-true true b e = refl
+left-true false b e = e
+
+right-true : (a b : Bool) → (a && b) ≡ true → b ≡ true
+right-true true b e = e
+right-true false b e = let z : false ≡ true = e in absurd (cc)
+
+pub delivered-quiet : (o : Outlet) (names : List (List ℕ)) (w : ℕ) (m : Machine) → (length m.moment.printed == 0 && length m.moment.waiting == 0) ≡ true → Delivered o o names w w m m
+delivered-quiet o names w m e =
+    let none : length m.moment.printed ≡ 0 = eqb-true (length m.moment.printed) 0 (left-true (length m.moment.printed == 0) (length m.moment.waiting == 0) e) in
+    let waits : m.moment.waiting ≡ [] = none-there m.moment.waiting (eqb-true (length m.moment.waiting) 0 (right-true (length m.moment.printed == 0) (length m.moment.waiting == 0) e)) in
+    record {
+      bytes = [];
+      printed = refl;
+      gains = gains_nothing o.sink;
+      counts = omega arith;
+      exact = λ lt. omega arith;
+      blocks = 0;
+      whole = refl;
+      few = omega (arith, none);
+      events = [];
+      waiting = refl;
+      told = refl;
+      near = tt;
+      words = tt;
+      far = subst (λ (xs : List Marked). IsFar w xs) (sym waits) tt;
+      same = refl;
     }
 
 -- the state of a run stays while bytes and events leave it
@@ -125,11 +174,11 @@ begins-later out es s t h g = record {
 -- what holds of a run that goes on holds of one that can't
 pub streams-fail : {o o' : Outlet} {names : List (List ℕ)} {bytes : List ℕ} {events : List Marked} (x : Option Undelivered) → Streams None o o' names bytes events → Streams x o o' names bytes events
 streams-fail None h = h
-streams-fail (Some undelivered.WriteFault) h = record { gains = h.gains; told = h.told; near = h.near }
-streams-fail (Some undelivered.NoMemory) h = record { gains = h.gains; told = tt; near = h.near }
+streams-fail (Some undelivered.WriteFault) h = record { gains = h.gains; told = h.told; near = h.near; words = h.words }
+streams-fail (Some undelivered.NoMemory) h = record { gains = h.gains; told = tt; near = h.near; words = h.words }
 
 pub streams-first : (o : Outlet) (names : List (List ℕ)) (x : Option Undelivered) → Streams x o o names [] []
-streams-first o names x = streams-fail x (record { gains = gains_nothing o.sink; told = refl; near = tt })
+streams-first o names x = streams-fail x (record { gains = gains_nothing o.sink; told = refl; near = tt; words = tt })
 
 pub near-part : (bytes part : List ℕ) (es : List Marked) → Each (IsNear (length bytes)) es → Each (IsNear (length (bytes ++ part))) es
 near-part bytes part es h = near-later (length bytes) (length (bytes ++ part)) es (omega (arith, length-append bytes part)) h
@@ -141,34 +190,41 @@ streams-on {o} {o1} {o2} {names} {w} {w'} bytes events h l d =
       gains = gains_both h.gains d.gains;
       told = told-all o.hall o1.hall o2.hall events d.events names h.told d.told;
       near = each-append (IsNear (length all)) events d.events (near-part bytes d.bytes events h.near) (near-later w' (length all) d.events (omega (arith, l, d.counts, length-append bytes d.bytes)) d.near);
+      words = each-append FitsWords events d.events h.words d.words;
     }
 
--- a run in progress, with what has left it
-pub record Streaming (u : Stored) (before now : Outlet) (n written : ℕ) (d0 d : Doing) (tasks : List Task) (old m : Machine) : Type 0 where
+-- a run in progress, with what has left it, and the stage whose bytes and events those are
+pub record Streaming (u : Stored) (before now : Outlet) (n written stages : ℕ) (d0 d : Doing) (tasks : List Task) (old m : Machine) : Type 0 where
   pub bytes : List ℕ
   pub events : List Marked
   pub streams : Streams None before now u.names bytes events
   pub counts : written ≤ length bytes
+  pub exact : written + 1 < 2 ^ 64 → written ≡ length bytes
   pub keeps : KeepsApart bytes old.moment m.moment
-  pub held : Always u old.moment (λ b out es. (all : Res Reached) → b.bound ≡ n → Holds b u all [] old.started d0 (state_of old.moment out es) → Holds b u all tasks m.started d (state_of m.moment (out ++ bytes) (es ++ events)))
+  pub within : m.moment.taken ≤ n
+  pub held : Always u old.moment (λ b out es. (all : Res Reached) → m.moment.taken ≤ b.bound → Holds b u all [] old.started d0 (state_of old.moment out es) → Holds b u all tasks m.started d (state_of m.moment (out ++ bytes) (es ++ events)))
+  pub stands : (b : Setting) (stage : ℕ → State) → IsSetting b u old.moment → Follows old.moment 0 → IsStaged (StatementsCut b u d0 old) stage → Stands stage stages bytes events
 
 state-first : (m : Moment) (out : List ℕ) (es : List Marked) → state_of m out es ≡ state_of m (out ++ []) (es ++ [])
 state-first m out es =
     ap (λ (q : List ℕ). made m.world (q ++ m.printed) (es ++ m.waiting) m.taken) (sym (append-nil out))
     ∙ ap (λ (q : List Marked). made m.world ((out ++ []) ++ m.printed) (q ++ m.waiting) m.taken) (sym (append-nil es))
 
-streaming-begun : (u : Stored) (o : Outlet) (n : ℕ) (d : Doing) (m : Machine) → Streaming u o o n 0 d d [] m m
-streaming-begun u o n d m = record {
+streaming-begun : (u : Stored) (o : Outlet) (n : ℕ) (d : Doing) (m : Machine) → m.moment.taken ≡ 0 → Streaming u o o n 0 m.moment.taken d d [] m m
+streaming-begun u o n d m fresh = record {
   bytes = [];
   events = [];
   streams = streams-first o u.names None;
   counts = omega arith;
+  exact = λ lt. refl;
   keeps = record { total = λ t f. omega (arith, f); sides = refl };
+  within = omega (arith, fresh);
   held = λ b out es hs hl all q h. subst (λ (s : State). Holds b u all [] m.started d s) (state-first m.moment out es) h;
+  stands = λ b stage hs hl st. stands-first stage m.moment.taken fresh st.output st.events;
 }
 
-pub streaming-first : (u : Stored) (o : Outlet) (n : ℕ) (d : Doing) (ts : List Task) (m : Machine) → ts ≡ [] → Streaming u o o n 0 d d ts m m
-streaming-first u o n d ts m e = subst (λ (xs : List Task). Streaming u o o n 0 d d xs m m) (sym e) (streaming-begun u o n d m)
+pub streaming-first : (u : Stored) (o : Outlet) (n : ℕ) (d : Doing) (ts : List Task) (m : Machine) → m.moment.taken ≡ 0 → ts ≡ [] → Streaming u o o n 0 m.moment.taken d d ts m m
+streaming-first u o n d ts m fresh e = subst (λ (xs : List Task). Streaming u o o n 0 m.moment.taken d d xs m m) (sym e) (streaming-begun u o n d m fresh)
 
 pub runs-first-of-all : (u : Stored) (d : Doing) (ts : List Task) (es : List Started) → ts ≡ [] → Runs u [] es d → Runs u ts es d
 runs-first-of-all u d ts es e h = subst (λ (xs : List Task). Runs u xs es d) (sym e) h
@@ -183,16 +239,23 @@ total-apart out bytes m n h f = subst (λ (t : ℕ). Follows n t) (sym (length-a
 keeps-on : (bytes : List ℕ) (l m n : Moment) → KeepsApart bytes l m → KeepsSetting m n → KeepsApart bytes l n
 keeps-on bytes l m n h k = record { total = λ t f. k.total (t + length bytes) (h.total t f); sides = k.sides ∙ h.sides }
 
--- a part of the run
-pub streaming-on : {o o' : Outlet} (u : Stored) (n w : ℕ) (d0 d e : Doing) (ts ts' : List Task) (old m m' : Machine) → Streaming u o o' n w d0 d ts old m → AdvancedLed u n d (advance.On e) ts ts' m m' → KeepsSetting m.moment m'.moment → Streaming u o o' n w d0 e ts' old m'
-streaming-on u n w d0 d e ts ts' old m m' h led k = record {
-  bytes = h.bytes;
-  events = h.events;
-  streams = h.streams;
-  counts = h.counts;
-  keeps = keeps-on h.bytes old.moment m.moment m'.moment h.keeps k;
-  held = λ b out es hs hl all q g. led b (out ++ h.bytes) (es ++ h.events) (setting-apart b u h.bytes old.moment m.moment h.keeps hs) (total-apart out h.bytes old.moment m.moment h.keeps hl) all q (h.held b out es hs hl all q g);
-}
+-- a turn of the run
+pub streaming-on : {o o' : Outlet} (u : Stored) (n w : ℕ) (d0 d e : Doing) (ts ts' : List Task) (old m m' : Machine) → Streaming u o o' n w (suc m.moment.taken) d0 d ts old m → AdvancedLed u n d (advance.On e) ts ts' m m' → KeepsSetting m.moment m'.moment → m'.moment.taken ≡ m.moment.taken + 1 → m'.moment.taken ≤ n → Streaming u o o' n w m'.moment.taken d0 e ts' old m'
+streaming-on u n w d0 d e ts ts' old m m' h led k one le =
+    let next : suc m.moment.taken ≡ m'.moment.taken = omega (arith, one) in
+    record {
+      bytes = h.bytes;
+      events = h.events;
+      streams = h.streams;
+      counts = h.counts;
+      exact = h.exact;
+      keeps = keeps-on h.bytes old.moment m.moment m'.moment h.keeps k;
+      within = le;
+      held = λ b out es hs hl all q g.
+          led b (out ++ h.bytes) (es ++ h.events) (setting-apart b u h.bytes old.moment m.moment h.keeps hs) (total-apart out h.bytes old.moment m.moment h.keeps hl) all q
+          (h.held b out es hs hl all (omega (arith, one, q)) g);
+      stands = λ b stage hs hl st. subst (λ (i : ℕ). Stands stage i h.bytes h.events) next (h.stands b stage hs hl st);
+    }
 
 -- what has left moves the counts
 delivered-total : {o o' : Outlet} {names : List (List ℕ)} {w w' : ℕ} (bytes : List ℕ) (l : Moment) (m m' : Machine) → KeepsApart bytes l m.moment → (d : Delivered o o' names w w' m m') → KeepsApart (bytes ++ d.bytes) l m'.moment
@@ -204,18 +267,41 @@ delivered-total bytes l m m' h d =
       sides = ap (λ (q : Machine). q.moment.sides) d.same ∙ h.sides;
     }
 
-pub streaming-delivered : {o o1 o2 : Outlet} (u : Stored) (n w w' : ℕ) (d0 d : Doing) (ts : List Task) (old m m' : Machine) → Streaming u o o1 n w d0 d ts old m → Delivered o1 o2 u.names w w' m m' → Streaming u o o2 n w' d0 d ts old m'
-streaming-delivered u n w w' d0 d ts old m m' h k =
-    let started : m'.started ≡ m.started = ap (λ (q : Machine). q.started) k.same in
+-- where another turn is due the run is at its next stage
+stage-here : {o o' : Outlet} (u : Stored) (n w k : ℕ) (d0 d : Doing) (ts : List Task) (old m : Machine) → Runs u ts m.started d → due m.started d ≡ 1 → (h : Streaming u o o' n w k d0 d ts old m) → (b : Setting) (stage : ℕ → State) → IsSetting b u old.moment → Follows old.moment 0 → IsStaged (StatementsCut b u d0 old) stage → stage (suc m.moment.taken) ≡ state_of m.moment h.bytes h.events
+stage-here u n w k d0 d ts old m runs one h b stage hs hl st =
+    let j = m.moment.taken in
+    let c = bounded b j in
+    let s = state_of m.moment h.bytes h.events in
+    st.cut j s (λ all g. holds-out c u all ts m.started d s one (has-stores c u m.started d hs.unit runs.doing_fits) (omega arith)
+    (h.held c [] [] (record { unit = hs.unit; types = hs.types; sides = hs.sides }) hl all (omega arith) g))
+
+held-delivered : {o o1 o2 : Outlet} (u : Stored) (n w w' k : ℕ) (d0 d : Doing) (ts : List Task) (old m m' : Machine) (h : Streaming u o o1 n w k d0 d ts old m) (x : Delivered o1 o2 u.names w w' m m') → Always u old.moment (λ b out es. (all : Res Reached) → m.moment.taken ≤ b.bound → Holds b u all [] old.started d0 (state_of old.moment out es) → Holds b u all ts m'.started d (state_of m'.moment (out ++ (h.bytes ++ x.bytes)) (es ++ (h.events ++ x.events))))
+held-delivered u n w w' k d0 d ts old m m' h x b out es hs hl all q g =
+    let started : m'.started ≡ m.started = ap (λ (q : Machine). q.started) x.same in
+    subst (λ (xs : List Started). Holds b u all ts xs d (state_of m'.moment (out ++ (h.bytes ++ x.bytes)) (es ++ (h.events ++ x.events)))) (sym started)
+    (subst (λ (s : State). Holds b u all ts m.started d s) (sym (state-same out h.bytes es h.events m m' x)) (h.held b out es hs hl all q g))
+
+pub streaming-delivered : {o o1 o2 : Outlet} (u : Stored) (n w w' k : ℕ) (d0 d : Doing) (ts : List Task) (old m m' : Machine) → Runs u ts m.started d → due m.started d ≡ 1 → Streaming u o o1 n w k d0 d ts old m → Delivered o1 o2 u.names w w' m m' → Streaming u o o2 n w' (suc m'.moment.taken) d0 d ts old m'
+streaming-delivered u n w w' k d0 d ts old m m' runs one h x =
+    let taken : m'.moment.taken ≡ m.moment.taken = ap (λ (q : Machine). q.moment.taken) x.same in
+    let long = length-append h.bytes x.bytes in
+    let exact : w' + 1 < 2 ^ 64 → w' ≡ length (h.bytes ++ x.bytes) = λ lt. let e = x.exact lt in omega (arith, e, h.exact (omega (arith, e, lt)), long) in
     record {
-      bytes = h.bytes ++ k.bytes;
-      events = h.events ++ k.events;
-      streams = streams-on h.bytes h.events h.streams h.counts k;
-      counts = omega (arith, h.counts, k.counts, length-append h.bytes k.bytes);
-      keeps = delivered-total h.bytes old.moment m m' h.keeps k;
-      held = λ b out es hs hl all q g.
-          subst (λ (xs : List Started). Holds b u all ts xs d (state_of m'.moment (out ++ (h.bytes ++ k.bytes)) (es ++ (h.events ++ k.events)))) (sym started)
-          (subst (λ (s : State). Holds b u all ts m.started d s) (sym (state-same out h.bytes es h.events m m' k)) (h.held b out es hs hl all q g));
+      bytes = h.bytes ++ x.bytes;
+      events = h.events ++ x.events;
+      streams = streams-on h.bytes h.events h.streams h.counts x;
+      counts = omega (arith, h.counts, x.counts, long);
+      exact = exact;
+      keeps = delivered-total h.bytes old.moment m m' h.keeps x;
+      within = omega (arith, taken, h.within);
+      held = λ b out es hs hl all q g. held-delivered u n w w' k d0 d ts old m m' h x b out es hs hl all (omega (arith, q, taken)) g;
+      stands = λ b stage hs hl st.
+          let here = stage-here u n w k d0 d ts old m runs one h b stage hs hl st in
+          let there : stage (suc m'.moment.taken) ≡ state_of m'.moment (h.bytes ++ x.bytes) (h.events ++ x.events) =
+          ap (λ (i : ℕ). stage (suc i)) taken ∙ here ∙ sym (state-same [] h.bytes [] h.events m m' x) in
+          stands-next stage (suc m'.moment.taken) w' (h.bytes ++ x.bytes) (h.events ++ x.events) m'.moment (h.stands b stage hs hl st).blocks x.blocks there
+          (let whole = (h.stands b stage hs hl st).whole in omega (arith, whole, x.whole, long)) x.few x.far (st.behind (suc m'.moment.taken)) exact;
     }
 
 -- what has left changes nothing else
@@ -225,29 +311,34 @@ fit-delivered u m m' d h = subst (λ (xs : List Started). Fit u xs) (sym (ap (λ
 pub runs-delivered : {o o' : Outlet} {names : List (List ℕ)} {w w' : ℕ} (u : Stored) (ts : List Task) (d : Doing) (m m' : Machine) → Delivered o o' names w w' m m' → Runs u ts m.started d → Runs u ts m'.started d
 runs-delivered u ts d m m' k h = subst (λ (xs : List Started). Runs u ts xs d) (sym (ap (λ (q : Machine). q.started) k.same)) h
 
+pub due-delivered : {o o' : Outlet} {names : List (List ℕ)} {w w' : ℕ} (d : Doing) (m m' : Machine) → Delivered o o' names w w' m m' → due m.started d ≡ 1 → due m'.started d ≡ 1
+due-delivered d m m' k h = ap (λ (q : Machine). due q.started d) k.same ∙ h
+
 -- how the statements ended
-pub led-last : {o o' : Outlet} (u : Stored) (n w : ℕ) (d0 d : Doing) (l : Last) (ts ts' : List Task) (old m m' : Machine) → Streaming u o o' n w d0 d ts old m → AdvancedLed u n d (advance.Last l) ts ts' m m' → KeepsSetting m.moment m'.moment → StatementsLed u o o' n d0 (Ok l) old m'
-led-last u n w d0 d l ts ts' old m m' h led k = record {
+pub led-last : {o o' : Outlet} (u : Stored) (n w : ℕ) (d0 d : Doing) (l : Last) (ts ts' : List Task) (old m m' : Machine) → Streaming u o o' n w (suc m.moment.taken) d0 d ts old m → AdvancedLed u n d (advance.Last l) ts ts' m m' → KeepsSetting m.moment m'.moment → m'.moment.taken ≤ m.moment.taken + 1 → StatementsLed u o o' n d0 (Ok l) old m'
+led-last u n w d0 d l ts ts' old m m' h led k le = record {
   bytes = h.bytes;
   events = h.events;
   streams = h.streams;
   keeps = keeps-on h.bytes old.moment m.moment m'.moment h.keeps k;
-  led = λ b out es hs hl all q g. led b (out ++ h.bytes) (es ++ h.events) (setting-apart b u h.bytes old.moment m.moment h.keeps hs) (total-apart out h.bytes old.moment m.moment h.keeps hl) all q (h.held b out es hs hl all q g);
+  led = λ b out es hs hl all q g. led b (out ++ h.bytes) (es ++ h.events) (setting-apart b u h.bytes old.moment m.moment h.keeps hs) (total-apart out h.bytes old.moment m.moment h.keeps hl) all q (h.held b out es hs hl all (omega (arith, q, h.within)) g);
+  stands = λ b stage hs hl st. record { stages = suc m.moment.taken; stands = h.stands b stage hs hl st; last = omega (arith, le) };
 }
 
--- where they could not go on
-pub led-lost : {o o' : Outlet} (u : Stored) (n w : ℕ) (d0 d : Doing) (ts : List Task) (old m m' : Machine) (e : Undelivered) → Streaming u o o' n w d0 d ts old m → StatementsLed u o o' n d0 (Err e) old m'
-led-lost u n w d0 d ts old m m' e h = record {
+-- where memory ran out
+pub led-lost : {o o' : Outlet} (u : Stored) (n w k : ℕ) (d0 d : Doing) (ts : List Task) (old m m' : Machine) → Streaming u o o' n w k d0 d ts old m → StatementsLed u o o' n d0 (Err undelivered.NoMemory) old m'
+led-lost u n w k d0 d ts old m m' h = record {
   bytes = h.bytes;
   events = h.events;
-  streams = streams-fail (Some e) h.streams;
+  streams = streams-fail (Some undelivered.NoMemory) h.streams;
   keeps = tt;
-  led = λ b out es hs hl all q g. begins-all (out ++ h.bytes) (es ++ h.events) m.moment (end_of all) (holds-grow b u all ts m.started d (state_of m.moment (out ++ h.bytes) (es ++ h.events)) (h.held b out es hs hl all q g));
+  led = λ b out es hs hl all q g. begins-all (out ++ h.bytes) (es ++ h.events) m.moment (end_of all) (holds-grow b u all ts m.started d (state_of m.moment (out ++ h.bytes) (es ++ h.events)) (h.held b out es hs hl all (omega (arith, q, h.within)) g));
+  stands = λ b stage hs hl st. tt;
 }
 
 -- where what they print and tell could not be delivered
 part-of : (o1 o2 : Outlet) (e : Undelivered) (names : List (List ℕ)) (w w' : ℕ) (m m' : Machine) → DeliveredOr (Some e) o1 o2 names w w' m m' → GainsPrefix o1.sink o2.sink m.moment.printed
-part-of o1 o2 undelivered.WriteFault names w w' m m' h = h.0
+part-of o1 o2 undelivered.WriteFault names w w' m m' h = h.0.part
 part-of o1 o2 undelivered.NoMemory names w w' m m' h = h
 
 streams-part : (o o1 o2 : Outlet) (e : Undelivered) (names : List (List ℕ)) (w w' : ℕ) (m m' : Machine) (bytes part : List ℕ) (events : List Marked) → Streams None o o1 names bytes events → DeliveredOr (Some e) o1 o2 names w w' m m' → Gains o1.sink o2.sink part → Streams (Some e) o o2 names (bytes ++ part) events
@@ -255,20 +346,31 @@ streams-part o o1 o2 undelivered.WriteFault names w w' m m' bytes part events h 
   gains = gains_both h.gains g;
   told = subst (λ (s : List Slot). Told o.hall (map event_of events) names s) (sym d.1) h.told;
   near = near-part bytes part events h.near;
+  words = h.words;
 }
 streams-part o o1 o2 undelivered.NoMemory names w w' m m' bytes part events h d g = record {
   gains = gains_both h.gains g;
   told = tt;
   near = near-part bytes part events h.near;
+  words = h.words;
 }
 
-pub led-undelivered : (o o1 o2 : Outlet) (u : Stored) (n w w' : ℕ) (d0 d : Doing) (ts : List Task) (old m m' : Machine) (e : Undelivered) → Streaming u o o1 n w d0 d ts old m → DeliveredOr (Some e) o1 o2 u.names w w' m m' → StatementsLed u o o2 n d0 (Err e) old m'
-led-undelivered o o1 o2 u n w w' d0 d ts old m m' e h k =
+-- how far they were let out then
+stands-part : (o o1 o2 : Outlet) (u : Stored) (n w w' : ℕ) (d0 d : Doing) (ts : List Task) (old m m' : Machine) (e : Undelivered) → Runs u ts m.started d → due m.started d ≡ 1 → (h : Streaming u o o1 n w m.moment.taken d0 d ts old m) (x : DeliveredOr (Some e) o1 o2 u.names w w' m m') → (b : Setting) (stage : ℕ → State) → IsSetting b u old.moment → Follows old.moment 0 → IsStaged (StatementsCut b u d0 old) stage → StandsOr (Some e) stage m'.moment.taken (h.bytes ++ (part-of o1 o2 e u.names w w' m m' x).part) h.events
+unfolding part-of
+stands-part o o1 o2 u n w w' d0 d ts old m m' undelivered.NoMemory runs one h x b stage hs hl st = tt
+stands-part o o1 o2 u n w w' d0 d ts old m m' undelivered.WriteFault runs one h x b stage hs hl st =
+    λ last. let-out-block stage m.moment.taken last h.bytes m.moment.printed h.events o1.sink o2.sink (h.stands b stage hs hl st) x.0
+    (ap (λ (s : State). s.output) (stage-here u n w m.moment.taken d0 d ts old m runs one h b stage hs hl st))
+
+pub led-undelivered : (o o1 o2 : Outlet) (u : Stored) (n w w' : ℕ) (d0 d : Doing) (ts : List Task) (old m m' : Machine) (e : Undelivered) → Runs u ts m.started d → due m.started d ≡ 1 → Streaming u o o1 n w m.moment.taken d0 d ts old m → DeliveredOr (Some e) o1 o2 u.names w w' m m' → StatementsLed u o o2 n d0 (Err e) old m'
+led-undelivered o o1 o2 u n w w' d0 d ts old m m' e runs one h k =
     let p = part-of o1 o2 e u.names w w' m m' k in
     record {
       bytes = h.bytes ++ p.part;
       events = h.events;
       streams = streams-part o o1 o2 e u.names w w' m m' h.bytes p.part h.events h.streams k p.gains;
       keeps = tt;
-      led = λ b out es hs hl all q g. begins-part out h.bytes p.part p.rest (es ++ h.events) m.moment (end_of all) p.whole (holds-grow b u all ts m.started d (state_of m.moment (out ++ h.bytes) (es ++ h.events)) (h.held b out es hs hl all q g));
+      led = λ b out es hs hl all q g. begins-part out h.bytes p.part p.rest (es ++ h.events) m.moment (end_of all) p.whole (holds-grow b u all ts m.started d (state_of m.moment (out ++ h.bytes) (es ++ h.events)) (h.held b out es hs hl all (omega (arith, q, h.within)) g));
+      stands = λ b stage hs hl st. stands-part o o1 o2 u n w w' d0 d ts old m m' e runs one h k b stage hs hl st;
     }

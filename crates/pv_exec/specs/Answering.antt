@@ -26,6 +26,8 @@ use Rattle.pv_exec.specs.declared.running.Ended.{Ended}
 use Rattle.pv_exec.specs.declared.running.Ended.TheVariants as ended
 use Rattle.pv_exec.specs.Run.{setting_of, run_of, outcome_of, sides_at}
 use Rattle.pv_exec.specs.Streaming.{Outlet, IsNear, event_of}
+use Rattle.pv_exec.specs.Words.{FitsWords}
+use Rattle.pv_exec.specs.Stages.{LetOut}
 use Rattle.pv_exec.specs.Sided.{side_of, is_high}
 
 -- the sides that are given, each by whether it is the high one (the memory model: a pair of candidates)
@@ -65,12 +67,27 @@ pub record ToldPart (before now : Outlet) (end : State) (names : List (List ℕ)
   pub all : events ++ untold ≡ end.events
   pub told : Told before.hall (map event_of events) names now.hall
   pub near : Each (IsNear (length written)) events
+  pub words : Each FitsWords events
 
 -- 5.1.2.3p6: those who watch were told of the run, or of a first part of it where a write failed
 abbrev pub ToldOr : Result Ran RunError → Outlet → Outlet → State → List (List ℕ) → Type 0
 ToldOr (Ok ran) before now end names = Told before.hall (map event_of end.events) names now.hall
 ToldOr (Err error.WriteFault) before now end names = ToldPart before now end names
 ToldOr (Err error.NoMemory) before now end names = Unit {0}
+
+-- where a write failed: what was written and told, and how far the run was let out so (7.21.3p3)
+pub record LeftAt (before now : Outlet) (stage : ℕ → State) (taken : ℕ) (names : List (List ℕ)) : Type 0 where
+  pub written : List ℕ
+  pub gains : Gains before.sink now.sink written
+  pub events : List Marked
+  pub told : Told before.hall (map event_of events) names now.hall
+  pub let_out : LetOut stage taken written events
+
+-- 5.1.2.3p6, 7.21.3p3: nothing was held back for longer than its block took to be full, which shows where a write fails
+abbrev pub StreamedOr : Result Ran RunError → (before now : Outlet) → (stage : ℕ → State) → (taken : ℕ) → List (List ℕ) → Type 0
+StreamedOr (Ok ran) before now stage taken names = Unit {0}
+StreamedOr (Err error.WriteFault) before now stage taken names = LeftAt before now stage taken names
+StreamedOr (Err error.NoMemory) before now stage taken names = Unit {0}
 
 -- 5.1.2.3p6: once the run is over, what waited was told; where a write failed nothing
 abbrev pub RestTold : Result Ran RunError → List Slot → List Slot → List Event → List (List ℕ) → Type 0

@@ -19,12 +19,14 @@ pub mod Prepared
 pub mod Run
 pub mod Putting
 pub mod Turning
+pub mod Words
 pub mod Streaming
-pub mod Running
 pub mod Growing
 pub mod Laws
 pub mod Laying
 pub mod Staying
+pub mod Stages
+pub mod Running
 pub mod Sided
 pub mod Ending
 pub mod Answering

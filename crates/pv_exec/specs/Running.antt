@@ -10,7 +10,7 @@ use Rattle.pv_eval.specs.declared.failure.Failure.{Failure}
 use Rattle.pv_eval.specs.declared.failure.Failure.TheVariants as failure
 use Rattle.pv_eval.specs.declared.marked.Marked.{Marked}
 use Rattle.pv_eval.specs.States.{Setting, State, Turns, Stopped, Res, Gives, Stops, then_do, end_of}
-use Rattle.pv_eval.specs.Moments.{Moment, Follows, Always, state_of}
+use Rattle.pv_eval.specs.Moments.{Moment, IsSetting, Follows, Always, state_of}
 use Rattle.pv_eval.specs.Operations.{EndsBody, act}
 use Rattle.pv_eval.specs.Machines.{Machine}
 use Rattle.pv_exec.specs.declared.delivering.Undelivered.{Undelivered}
@@ -28,6 +28,7 @@ use Rattle.pv_exec.specs.Tasks.{Reached}
 use Rattle.pv_exec.specs.Works.{flow_of, Holds}
 use Rattle.pv_exec.specs.Turning.{LastIs}
 use Rattle.pv_exec.specs.Streaming.{Outlet, Streams, Begins, failing}
+use Rattle.pv_exec.specs.Stages.{bounded, IsStaged, StandsOr}
 
 -- the setting stays (the memory model: the sides of a settled run), and of what was printed (7.21.6.3) these bytes have left
 pub record KeepsApart (bytes : List ℕ) (old new : Moment) : Type 0 where
@@ -39,6 +40,10 @@ abbrev pub LastOr : Res Reached → Result Last Undelivered → Machine → List
 LastOr all (Ok l) m out es = LastIs all l m.started (state_of m.moment out es)
 LastOr all (Err e) m out es = Begins out es (end_of all)
 
+-- under this bound (5.1.2.3p1) the statements are cut off in this state, whatever was asked for with them
+abbrev pub StatementsCut : Setting → Stored → Doing → Machine → (bound : ℕ) → State → Type 0
+StatementsCut b u d old n s = (all : Res Reached) → Holds (bounded b n) u all [] old.started d (state_of old.moment [] []) → all ≡ Stops Turns s
+
 -- how the statements ended (6.8p2), with what has left the run meanwhile (5.1.2.3p6)
 pub record StatementsLed (u : Stored) (before now : Outlet) (n : ℕ) (d : Doing) (r : Result Last Undelivered) (old new : Machine) : Type 0 where
   pub bytes : List ℕ
@@ -46,6 +51,7 @@ pub record StatementsLed (u : Stored) (before now : Outlet) (n : ℕ) (d : Doing
   pub streams : Streams (failing r) before now u.names bytes events
   pub keeps : OnOk r (KeepsApart bytes old.moment new.moment)
   pub led : Always u old.moment (λ b out es. (all : Res Reached) → b.bound ≡ n → Holds b u all [] old.started d (state_of old.moment out es) → LastOr all r new (out ++ bytes) (es ++ events))
+  pub stands : (b : Setting) (stage : ℕ → State) → IsSetting b u old.moment → Follows old.moment 0 → IsStaged (StatementsCut b u d old) stage → StandsOr (failing r) stage new.moment.taken bytes events
 
 -- how a run ended where an operation failed (as by undefined behaviour, 3.4.3) before there was a value
 abbrev pub ended_by : Failure → Ended
@@ -82,12 +88,17 @@ ends_call b f line fl s = then_do (end_all b (function_at b.unit f).params s) (�
 abbrev pub EndLed : Stored → (function : ℕ) → Flow → Ended → Machine → Machine → Type 0
 EndLed u f fl r old new = Always u old.moment (λ b out es. (line : ℕ) → EndedIs (ends_call b f line fl (state_of old.moment out es)) r new.moment out es)
 
+-- under this bound (5.1.2.3p1) a piece of the run is cut off in this state
+abbrev pub PieceCut : Setting → (piece : Setting → State → Res Worth) → Machine → (bound : ℕ) → State → Type 0
+PieceCut b piece old n s = piece (bounded b n) (state_of old.moment [] []) ≡ Stops Turns s
+
 -- how a piece of the run ended (5.1.2.3), with what has left the run meanwhile (5.1.2.3p6)
 pub record PieceLed (u : Stored) (before now : Outlet) (n : ℕ) (piece : Setting → State → Res Worth) (r : Ended) (old new : Machine) : Type 0 where
   pub bytes : List ℕ
   pub events : List Marked
   pub streams : Streams (failed r) before now u.names bytes events
   pub led : Always u old.moment (λ b out es. b.bound ≡ n → EndedIs (piece b (state_of old.moment out es)) r new.moment (out ++ bytes) (es ++ events))
+  pub stands : (b : Setting) (stage : ℕ → State) → IsSetting b u old.moment → Follows old.moment 0 → IsStaged (PieceCut b piece old) stage → StandsOr (failed r) stage new.moment.taken bytes events
 
 -- 5.1.2.2.1p1: the call of `main`
 abbrev pub main_called : (function : ℕ) → Setting → State → Res Worth

@@ -1,5 +1,5 @@
 -- How output and events leave a run while it goes on (C17 5.1.2.3p6, 7.21.3): bytes go to the sink, events to the hall.
-use Rattle.std.specs.Prelude.{◌≡◌, ℕ, ◌+◌, ◌≤◌, List, ◌++◌, length, take, drop, map, None, Some, Result, Ok, Err}
+use Rattle.std.specs.Prelude.{◌≡◌, ℕ, ◌+◌, ◌*◌, ◌^◌, ◌<◌, ◌≤◌, List, [], ◌∷◌, ◌++◌, length, take, drop, map, None, Some, Result, Ok, Err}
 use Rattle.std.specs.declared.option.Option.{Option}
 use Rattle.pv_script.specs.Outside.{Rose, Gains, GainsPrefix}
 use Rattle.pv_typed.specs.Children.{Each}
@@ -8,6 +8,7 @@ use Rattle.pv_watch.specs.declared.event.Event.{Event}
 use Rattle.pv_eval.specs.declared.marked.Marked.{Marked}
 use Rattle.pv_eval.specs.Machines.{Machine}
 use Rattle.pv_eval.specs.States.{State}
+use Rattle.pv_exec.specs.Words.{FitsWords}
 use Rattle.pv_exec.specs.declared.delivering.Undelivered.{Undelivered}
 use Rattle.pv_exec.specs.declared.delivering.Undelivered.TheVariants as undelivered
 
@@ -19,6 +20,11 @@ event_of m = m.event
 abbrev pub IsNear : (written : ℕ) → Marked → Type 0
 IsNear n m = m.mark ≤ n + 4095
 
+-- 7.21.3p3: the first of these events, if there is one, came when at least 4096 bytes more were printed than these
+abbrev pub IsFar : (written : ℕ) → List Marked → Type 0
+IsFar n [] = Unit {0}
+IsFar n (m ∷ ms) = (n + 4095 < m.mark) × (m.mark < 2 ^ 64)
+
 -- what the outside has (5.1.2.3p6): the bytes that the sink tells, and the hall
 pub record Outlet : Type 0 where
   pub sink : Option (List ℕ)
@@ -29,14 +35,25 @@ abbrev pub failing : {A : Type 0} → Result A Undelivered → Option Undelivere
 failing (Ok a) = None
 failing (Err e) = Some e
 
--- 7.21.3p3: the first n of the bytes that are buffered were written
+-- 7.21.3p3: the first n of the bytes that are buffered were written, by blocks of 4096
 pub record FirstWritten (n : ℕ) (bytes : List ℕ) (before now : Option (List ℕ)) : Type 0 where
   pub most : n ≤ length bytes
   pub gains : Gains before now (take n bytes)
+  pub blocks : ℕ
+  pub whole : n ≡ 4096 * blocks
 
--- 7.21.3p3: they are not kept any more
+-- 7.21.3p3: where a write failed a first part was written: so many blocks, and at most the next one, which is full
+pub record BlockPart (before now : Option (List ℕ)) (bytes : List ℕ) : Type 0 where
+  pub part : GainsPrefix before now bytes
+  pub blocks : ℕ
+  pub begun : 4096 * blocks ≤ length part.part
+  pub block : length part.part ≤ 4096 * blocks + 4096
+  pub full : 4096 * blocks + 4096 ≤ length bytes
+
+-- 7.21.3p3: they are not kept any more, and fewer than 4096 are
 pub record HasWritten (n : ℕ) (before now : Option (List ℕ)) (old new : Machine) : Type 0 where
   pub first : FirstWritten n old.moment.printed before now
+  pub few : length old.moment.printed < n + 4096
   pub left : new ≡ record old { moment = record old.moment { printed = drop n old.moment.printed } }
 
 -- the first n events were told, each near to what is written (7.21.3p3)
@@ -44,29 +61,38 @@ pub record FirstTold (n : ℕ) (events : List Marked) (written : ℕ) (old new :
   pub most : n ≤ length events
   pub told : Told old (map event_of (take n events)) names new
   pub near : Each (IsNear written) (take n events)
+  pub words : Each FitsWords (take n events)
 
 -- they do not wait any more: told as near as output is buffered (7.21.3p3)
 pub record HasTold (written : ℕ) (before now : List Slot) (names : List (List ℕ)) (old new : Machine) : Type 0 where
   pub count : ℕ
   pub first : FirstTold count old.moment.waiting written before now names
+  pub far : IsFar written (drop count old.moment.waiting)
   pub left : new ≡ record old { moment = record old.moment { waiting = drop count old.moment.waiting } }
 
--- 5.1.2.3p6, 7.21.3p3: of what is kept a first part has left, bytes and events
+-- 5.1.2.3p6, 7.21.3p3: of what is kept a first part has left, bytes and events. Fewer than 4096 bytes are kept, and no event that came
+-- within the next 4095 bytes behind those that were written; a count that is as great as a number can be says nothing of them.
 pub record Delivered (before now : Outlet) (names : List (List ℕ)) (count counted : ℕ) (old new : Machine) : Type 0 where
   pub bytes : List ℕ
   pub printed : old.moment.printed ≡ bytes ++ new.moment.printed
   pub gains : Gains before.sink now.sink bytes
   pub counts : counted ≤ count + length bytes
+  pub exact : counted + 1 < 2 ^ 64 → counted ≡ count + length bytes
+  pub blocks : ℕ
+  pub whole : length bytes ≡ 4096 * blocks
+  pub few : length new.moment.printed < 4096
   pub events : List Marked
   pub waiting : old.moment.waiting ≡ events ++ new.moment.waiting
   pub told : Told before.hall (map event_of events) names now.hall
   pub near : Each (IsNear counted) events
+  pub words : Each FitsWords events
+  pub far : IsFar counted new.moment.waiting
   pub same : new ≡ record old { moment = record old.moment { printed = new.moment.printed; waiting = new.moment.waiting } }
 
 -- or it has not: of the bytes a first part was written (5.1.2.3p6), and where a write failed nothing was told
 abbrev pub DeliveredOr : Option Undelivered → Outlet → Outlet → List (List ℕ) → (count counted : ℕ) → Machine → Machine → Type 0
 DeliveredOr None before now names count counted old new = Delivered before now names count counted old new
-DeliveredOr (Some undelivered.WriteFault) before now names count counted old new = GainsPrefix before.sink now.sink old.moment.printed × (now.hall ≡ before.hall)
+DeliveredOr (Some undelivered.WriteFault) before now names count counted old new = BlockPart before.sink now.sink old.moment.printed × (now.hall ≡ before.hall)
 DeliveredOr (Some undelivered.NoMemory) before now names count counted old new = GainsPrefix before.sink now.sink old.moment.printed
 
 -- the sink's count of faults never falls, and a write failed only where it rose (docs/FORMATS.md, status 12)
@@ -102,6 +128,7 @@ pub record Streams (x : Option Undelivered) (before now : Outlet) (names : List 
   pub gains : Gains before.sink now.sink bytes
   pub told : ToldUnless x before.hall (map event_of events) names now.hall
   pub near : Each (IsNear (length bytes)) events
+  pub words : Each FitsWords events
 
 -- 5.1.2.3p6: a state's output and events begin with these
 pub record Begins (written : List ℕ) (told : List Marked) (s : State) : Type 0 where

@@ -1,5 +1,5 @@
 -- Turns of a run (C17 5.1.2.3p1), and how its statements end: bridges from the code's loop over turns.
-use Rattle.std.specs.Prelude.{◌≡◌, ℕ, ◌+◌, ◌-◌, ◌*◌, ◌<◌, List, Result, Ok, Err}
+use Rattle.std.specs.Prelude.{◌≡◌, ℕ, ◌+◌, ◌≤◌, List, Result, Ok, Err}
 use Rattle.pv_typed.specs.Tables.{Stored}
 use Rattle.pv_world.specs.Coming.{wrong_for}
 use Rattle.pv_eval.specs.declared.failure.Failure.{Failure}
@@ -49,28 +49,24 @@ LastIs all last.Valued es s = all ≡ Gives (Valued (ended es)) s
 LastIs all last.Turns es s = all ≡ Stops Turns s
 LastIs all (last.Stop y line) es s = all ≡ Stops (Stopped (wrong_for y) line) s
 
--- 5.1.2.3: what a part of the run leads to, where this is the bound
+-- 5.1.2.3: what a turn leads to: where the run goes on, under whatever bound allows the turn, else where this is the bound
 abbrev pub AdvancedLed : Stored → (bound : ℕ) → Doing → Advanced → (before behind : List Task) → Machine → Machine → Type 0
 AdvancedLed u n d (advance.On e) ts ts' old new =
-    Always u old.moment (λ b out es. (all : Res Reached) → b.bound ≡ n →
+    Always u old.moment (λ b out es. (all : Res Reached) → new.moment.taken ≤ b.bound →
     Holds b u all ts old.started d (state_of old.moment out es) → Holds b u all ts' new.started e (state_of new.moment out es))
 AdvancedLed u n d (advance.Last l) ts ts' old new =
     Always u old.moment (λ b out es. (all : Res Reached) → b.bound ≡ n →
     Holds b u all ts old.started d (state_of old.moment out es) → LastIs all l new.started (state_of new.moment out es))
 AdvancedLed u n d advance.NoMemory ts ts' old new = Unit {0}
 
--- where the run goes on, what waits names what is there (6.8)
+-- where the run goes on, what waits names what is there (6.8), and another turn is due (5.1.2.3p1)
 abbrev pub AdvancedRuns : Stored → List Task → List Started → Advanced → Type 0
-AdvancedRuns u ts es (advance.On d) = Runs u ts es d × Fit u es
+AdvancedRuns u ts es (advance.On d) = Runs u ts es d × Fit u es × (due es d ≡ 1)
 AdvancedRuns u ts es (advance.Last l) = Unit {0}
 AdvancedRuns u ts es advance.NoMemory = Unit {0}
 
--- 5.1.2.3p1: twice the turns that are left, and one more where none is due
-abbrev pub turn_measure : (bound taken : ℕ) → List Started → Doing → ℕ
-turn_measure n taken es d = 2 * (n - taken) + (1 - due es d)
-
--- 5.1.2.3p1: where the run goes on, fewer turns are left
-abbrev pub AdvancedPace : (before bound taken : ℕ) → List Started → Advanced → Type 0
-AdvancedPace m n taken es (advance.On d) = turn_measure n taken es d < m
-AdvancedPace m n taken es (advance.Last l) = Unit {0}
-AdvancedPace m n taken es advance.NoMemory = Unit {0}
+-- 5.1.2.3p1: where the run goes on, one turn was taken, within the bound; where it is over, at most one
+abbrev pub AdvancedPace : (bound before behind : ℕ) → Advanced → Type 0
+AdvancedPace n k k' (advance.On d) = (k' ≡ k + 1) × (k' ≤ n)
+AdvancedPace n k k' (advance.Last l) = k' ≤ k + 1
+AdvancedPace n k k' advance.NoMemory = Unit {0}

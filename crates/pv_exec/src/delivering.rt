@@ -1,12 +1,15 @@
 // What the outside of a run sees of it: bytes that are printed, and events. Both leave the run while it goes on, so that a run
 // keeps no more of them than what one library call makes.
-ghost use Rattle.std.specs.Prelude.{◌≡◌, ◌≤◌, length, drop, IfOk, OnOk, OnErr, map};
+ghost use Rattle.std.specs.Prelude.{◌≡◌, ◌+◌, ◌<◌, ◌≤◌, length, drop, IfOk, OnOk, OnErr, map};
 ghost use Rattle.pv_script.specs.Outside.{Gains, GainsPrefix, HasCause};
+ghost use Rattle.pv_typed.specs.Children.{Each};
 ghost use Rattle.pv_watch.specs.Slots.{Told};
 ghost use Rattle.pv_eval.specs.Runnable.{IsRunnable};
 ghost use Rattle.pv_exec.specs.Answering.{hall_slots, outlet};
-ghost use Rattle.pv_exec.specs.Streaming.{event_of, FirstWritten, HasWritten, FirstTold, HasTold, DeliveredOr, DeliveryCause, failing, Finished, FinishedTold};
+ghost use Rattle.pv_exec.specs.Streaming.{event_of, FirstWritten, BlockPart, HasWritten, FirstTold, IsFar, HasTold, DeliveredOr, DeliveryCause, failing, Finished, FinishedTold};
+ghost use Rattle.pv_exec.specs.Words.{FitsWords};
 
+use crate::words::fits_words;
 use pv_eval::{Machine, Marked};
 use pv_script::{Failed, Sink, write_all};
 use pv_typed::TypedUnit;
@@ -34,7 +37,8 @@ fn take_off<T: Drop>(list: &mut Vec<T>, count: usize)
 // Writes 4096 bytes, and again while as many are left: how many were written.
 fn write_blocks<O: Sink>(kept: &[u8], out: &mut O) -> Result<usize, Failed>
     ensures ok { IfOk result (λ n. FirstWritten n kept.now (O.written out.old) (O.written out.new)) }
-    ensures err { OnErr result (GainsPrefix (O.written out.old) (O.written out.new) kept.now) }
+    ensures few { IfOk result (λ n. length kept.now < n + 4096) }
+    ensures err { OnErr result (BlockPart (O.written out.old) (O.written out.new) kept.now) }
     ensures cause { HasCause (O.faults out.old) (O.faults out.new) result }
 {
     let mut at = 0;
@@ -49,7 +53,7 @@ fn write_blocks<O: Sink>(kept: &[u8], out: &mut O) -> Result<usize, Failed>
 #[inline(always)]
 fn write_kept<O: Sink>(machine: &mut Machine, out: &mut O) -> Result<usize, Failed>
     ensures ok { IfOk result (λ n. HasWritten n (O.written out.old) (O.written out.new) machine.old machine.new) }
-    ensures err { OnErr result (GainsPrefix (O.written out.old) (O.written out.new) machine.old.moment.printed) }
+    ensures err { OnErr result (BlockPart (O.written out.old) (O.written out.new) machine.old.moment.printed) }
     ensures cause { HasCause (O.faults out.old) (O.faults out.new) result }
 {
     let n = write_blocks(machine.printed().as_slice(), out)?;
@@ -67,11 +71,13 @@ fn tell_near(
     hall: &mut Hall,
 ) -> Result<usize, NoMemory>
     requires runnable { IsRunnable unit.now }
-    ensures { IfOk result (λ n. FirstTold n events.now written (hall_slots hall.old its_kind its_wants seen) (hall_slots hall.new its_kind its_wants seen) unit.now.names) }
+    ensures told { IfOk result (λ n. FirstTold n events.now written (hall_slots hall.old its_kind its_wants seen) (hall_slots hall.new its_kind its_wants seen) unit.now.names) }
+    ensures far { IfOk result (λ n. IsFar written (drop n events.now)) }
 {
     let most = written.saturating_add(4095);
     let mut i = 0;
     'events: while i < events.len() {
+        fits_words(&events[i]);
         if events[i].mark > most {
             return Ok(i);
         }
@@ -100,6 +106,7 @@ fn tell_waiting(
 
 /// While 4096 bytes or more are kept of what is printed, the first 4096 are written. Then the events that wait are told.
 ///
+/// So fewer than 4096 bytes are kept afterwards, and no event waits that came within the 4095 bytes behind those that were written.
 /// The count is that of the bytes written so far, or less where it is greater than a number can be.
 pub fn deliver<O: Sink>(
     unit: &TypedUnit,
@@ -129,10 +136,12 @@ pub fn deliver<O: Sink>(
 // Tells these events, in order.
 fn tell(unit: &TypedUnit, events: &[Marked], hall: &mut Hall) -> Result<(), NoMemory>
     requires runnable { IsRunnable unit.now }
-    ensures { OnOk result (Told (hall_slots hall.old its_kind its_wants seen) (map event_of events.now) unit.now.names (hall_slots hall.new its_kind its_wants seen)) }
+    ensures words { OnOk result (Each FitsWords events.now) }
+    ensures told { OnOk result (Told (hall_slots hall.old its_kind its_wants seen) (map event_of events.now) unit.now.names (hall_slots hall.new its_kind its_wants seen)) }
 {
     let mut i = 0;
     'events: while i < events.len() {
+        fits_words(&events[i]);
         hall.tell(&events[i].event, unit.names())?;
         i += 1;
     }
@@ -159,6 +168,7 @@ pub fn finish<O: Sink>(
 ) -> Result<(), Undelivered>
     requires runnable { IsRunnable unit.now }
     ensures written { Finished (failing result) (O.written out.old) (O.written out.new) machine.old.moment.printed }
+    ensures words { OnOk result (Each FitsWords machine.old.moment.waiting) }
     ensures told { FinishedTold (failing result) (hall_slots hall.old its_kind its_wants seen) (hall_slots hall.new its_kind its_wants seen) (map event_of machine.old.moment.waiting) unit.now.names }
     ensures cause { DeliveryCause (failing result) (O.faults out.old) (O.faults out.new) }
 {

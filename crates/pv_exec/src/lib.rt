@@ -28,6 +28,7 @@ mod switches;
 mod task;
 mod turning;
 mod values;
+mod words;
 
 pub use laws::{late_settling_is_right, lesser_bound_cuts, turns_keep_the_bound};
 pub use outcome::Outcome;

@@ -1,12 +1,15 @@
 //! The run of a unit.
 ghost use Rattle.std.specs.Prelude.{◌≡◌, ◌≤◌, ◌^◌, IsTrue, is_some, IfNone, IfOk, OnOk, OnErr, map};
 ghost use Rattle.pv_script.specs.Outside.{Gains, GainsPrefix};
+ghost use Rattle.pv_typed.specs.Children.{Each};
 ghost use Rattle.pv_typed.specs.Mains.{main_of};
 ghost use Rattle.pv_typed.specs.Tables.{whole};
 ghost use Rattle.pv_eval.specs.Runnable.{IsRunnable};
 ghost use Rattle.pv_exec.specs.Run.{setting_of, run_of};
+ghost use Rattle.pv_exec.specs.Stages.{stage_of};
 ghost use Rattle.pv_exec.specs.Streaming.{event_of};
-ghost use Rattle.pv_exec.specs.Answering.{RanAs, RanAt, ToldOr, RestTold, FaultCause, error_of, error_by, end_at, highs, hall_slots, outlet};
+ghost use Rattle.pv_exec.specs.Words.{FitsWords};
+ghost use Rattle.pv_exec.specs.Answering.{RanAs, RanAt, ToldOr, StreamedOr, RestTold, FaultCause, error_of, error_by, end_at, highs, hall_slots, outlet};
 ghost use Rattle.pv_exec.specs.Settling.{SettlesAlike, IsUndefinedByAll};
 
 use crate::delivering::{Undelivered, finish};
@@ -79,6 +82,7 @@ fn answer<O: Sink>(
     ensures part { OnErr result (GainsPrefix (O.written out.old) (O.written out.new) machine.old.moment.printed) }
     ensures cause { FaultCause result (O.faults out.old) (O.faults out.new) }
     ensures told { RestTold result (hall_slots hall.old its_kind its_wants seen) (hall_slots hall.new its_kind its_wants seen) (map event_of machine.old.moment.waiting) unit.now.names }
+    ensures words { OnOk result (Each FitsWords machine.old.moment.waiting) }
 {
     let turns = machine.turns();
     let sides = match sides_of(alloc, machine) {
@@ -99,8 +103,9 @@ fn answer<O: Sink>(
 ///
 /// At most as many turns are taken as the bound allows. With sides, each pair stands for its side from its making.
 /// With `zap` a pointer to what has ended is indeterminate (C17 6.2.4p2), and its use undefined; without, it may be read.
-/// What is printed is written while the run goes on: less than 4096 bytes wait for the next part of the run. The hall is told
-/// of each part once its bytes were written so. A write that fails ends the run.
+/// What is printed is written while the run goes on, by blocks of 4096 bytes: before each turn fewer bytes than that are kept, and
+/// the hall was told of all that happened. A write that fails ends the run: the hall was told of all up to some turn, and the block
+/// of that write became full in the next one, or the run was over.
 pub fn run<O: Sink>(
     alloc: Global,
     u: &TypedUnit,
@@ -122,6 +127,9 @@ pub fn run<O: Sink>(
         (end_at u.now bound (highs sides.entry (λ x. x.now)) zap script) u.now.names }
     ensures late { IfOk result (λ ran. IfNone sides.entry (SettlesAlike u.now bound zap script ran)) }
     ensures sooner { IfOk result (λ ran. IfNone sides.entry (IsUndefinedByAll u.now bound zap script ran)) }
+    ensures streams { StreamedOr result (outlet (O.written out.old) hall.old its_kind its_wants seen) (outlet (O.written out.new) hall.new its_kind its_wants seen)
+        (stage_of u.now (highs sides.entry (λ x. x.now)) zap script) (end_at u.now bound (highs sides.entry (λ x. x.now)) zap script).taken u.now.names }
+    ensures words { OnOk result (Each FitsWords (end_at u.now bound (highs sides.entry (λ x. x.now)) zap script).events) }
 {
     no_empty_tag(u);
     let given = match given_highs(alloc, sides) {

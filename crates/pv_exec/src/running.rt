@@ -6,6 +6,7 @@ ghost use Rattle.pv_eval.specs.MachineSteps.{Fit};
 ghost use Rattle.pv_eval.specs.Runnable.{IsRunnable};
 ghost use Rattle.pv_exec.specs.Answering.{outlet};
 ghost use Rattle.pv_exec.specs.Fits.{Runs};
+ghost use Rattle.pv_exec.specs.Works.{due};
 ghost use Rattle.pv_exec.specs.Streaming.{failing, DeliveryCause};
 ghost use Rattle.pv_exec.specs.Running.{StatementsLed, EndLed, PieceLed, IsCalm, main_called, whole_run, ended_by, failed};
 
@@ -42,7 +43,7 @@ fn ended_by(e: Failure) -> Ended
     }
 }
 
-// Statements, until no task waits. What they print and tell is delivered after each part.
+// Statements, until no task waits. What they print and tell is delivered before each turn.
 fn run_statements<O: Sink>(
     alloc: Global,
     unit: &TypedUnit,
@@ -56,6 +57,8 @@ fn run_statements<O: Sink>(
     requires bound { bound ≤ 10 ^ 8 }
     requires runs { Runs unit.now [] machine.old.started doing }
     requires fit { Fit unit.now machine.old.started }
+    requires due { due machine.old.started doing ≡ 1 }
+    requires fresh { machine.old.moment.taken ≡ 0 }
     ensures ended { StatementsLed unit.now (outlet (O.written out.old) hall.old its_kind its_wants seen) (outlet (O.written out.new) hall.new its_kind its_wants seen) bound doing result machine.old machine.new }
     ensures cause { DeliveryCause (failing result) (O.faults out.old) (O.faults out.new) }
 {
@@ -63,14 +66,14 @@ fn run_statements<O: Sink>(
     let mut doing = doing;
     let mut written = 0;
     'statements: loop {
+        match deliver(unit, machine, &mut written, out, hall) {
+            Ok(()) => {}
+            Err(e) => return Err(e),
+        }
         match advance(unit, &mut tasks, doing, bound, machine) {
             Advanced::On(next) => doing = next,
             Advanced::Last(last) => return Ok(last),
             Advanced::NoMemory => return Err(Undelivered::NoMemory),
-        }
-        match deliver(unit, machine, &mut written, out, hall) {
-            Ok(()) => {}
-            Err(e) => return Err(e),
         }
     }
 }
@@ -81,6 +84,7 @@ fn end_main(unit: &TypedUnit, f: u32, flow: Flow, machine: &mut Machine) -> Ende
     requires there { f < length unit.now.functions }
     ensures ended { EndLed unit.now f flow result machine.old machine.new }
     ensures calm { IsCalm result }
+    ensures taken { machine.new.moment.taken ≡ machine.old.moment.taken }
 {
     let ended = end_each(unit, unit.params_of(f), machine);
     if ended.is_err() {

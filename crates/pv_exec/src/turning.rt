@@ -4,7 +4,7 @@ ghost use Rattle.pv_eval.specs.MachineSteps.{Fit, KeepsSetting};
 ghost use Rattle.pv_eval.specs.Runnable.{IsRunnable};
 ghost use Rattle.pv_exec.specs.Works.{due};
 ghost use Rattle.pv_exec.specs.Fits.{Runs, AfterRuns};
-ghost use Rattle.pv_exec.specs.Turning.{SettledLed, advanced_by, AdvancedLed, DueAfter, AdvancedRuns, AdvancedPace, turn_measure};
+ghost use Rattle.pv_exec.specs.Turning.{SettledLed, advanced_by, AdvancedLed, DueAfter, AdvancedRuns, AdvancedPace};
 
 use crate::once::{After, once};
 use crate::task::{Doing, Flow, Task};
@@ -90,7 +90,7 @@ fn next_of(after: Result<After, Failure>) -> Advanced
     }
 }
 
-/// The turn that is due, unless the bound is met, or what comes before the next one.
+/// The turn that is due, unless the bound is met, and the operations that come before the next one.
 pub fn advance(
     unit: &TypedUnit,
     tasks: &mut Vec<Task>,
@@ -102,16 +102,19 @@ pub fn advance(
     requires bound { bound ≤ 10 ^ 8 }
     requires runs { Runs unit.now tasks.old.items machine.old.started doing }
     requires fit { Fit unit.now machine.old.started }
+    requires due { due machine.old.started doing ≡ 1 }
     ensures holds { AdvancedLed unit.now bound doing result tasks.old.items tasks.new.items machine.old machine.new }
     ensures setting { KeepsSetting machine.old.moment machine.new.moment }
     ensures runs { AdvancedRuns unit.now tasks.new.items machine.new.started result }
-    ensures pace { AdvancedPace (turn_measure bound machine.old.moment.taken machine.old.started doing) bound machine.new.moment.taken machine.new.started result }
+    ensures pace { AdvancedPace bound machine.old.moment.taken machine.new.moment.taken result }
 {
-    if !is_due(&doing, machine) {
-        return next_of(settle(unit, tasks, doing, machine));
-    }
     if machine.turns() >= bound {
         return Advanced::Last(Last::Turns);
     }
-    next_of(once(unit, tasks, doing, machine))
+    match once(unit, tasks, doing, machine) {
+        Ok(After::On(next)) => next_of(settle(unit, tasks, next, machine)),
+        Ok(After::Ended(flow)) => Advanced::Last(Last::Left(flow)),
+        Ok(After::Valued) => Advanced::Last(Last::Valued),
+        Err(e) => next_of(Err(e)),
+    }
 }

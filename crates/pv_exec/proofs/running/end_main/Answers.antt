@@ -34,3 +34,6 @@ returns-clause-ended c = λ b out es hs hl line.
 
 pub returns-then-is_err-clause-ended : goal.returns-then-is_err-clause-ended
 returns-then-is_err-clause-ended c = λ b out es hs hl line. end-lost b c.args.f line c.args.flow c.args.machine.now.moment out es
+
+pub returns-clause-taken : goal.returns-clause-taken
+returns-clause-taken c = c.end_body.ensures.stays.taken ∙ c.end_each-ended.ensures.stays.taken

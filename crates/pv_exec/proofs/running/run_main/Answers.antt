@@ -12,7 +12,7 @@ pub returns-in-Err-clause-ended : goal.returns-in-Err-clause-ended
 returns-in-Err-clause-ended g c =
     let line = sym (ap (λ (x : TypedFunction). x.line) c.function.ensures.function) in
     piece-as c.args.unit.now c.args.bound (main_called c.args.f) (ended_by c.in-Err.e) c.ended_by.result c.args.machine.now c.begin_function.new.machine c.ended_by.ensures
-    (piece-unbegun _ c.args.unit.now c.args.bound c.args.f c.function.result.line c.args.machine.now c.begin_function.new.machine c.in-Err.e c.in-Err.ensures.made line)
+    (piece-unbegun _ c.args.unit.now c.args.bound c.args.f c.function.result.line c.args.machine.now c.begin_function.new.machine c.in-Err.e c.in-Err.ensures.made line (c.in-Err.ensures.stays.taken ∙ c.requires.fresh))
 
 pub returns-in-Ok-Left-clause-ended : goal.returns-in-Ok-Left-clause-ended
 returns-in-Ok-Left-clause-ended g c =
@@ -21,7 +21,7 @@ returns-in-Ok-Left-clause-ended g c =
     let m2 = c.run_statements.new.machine in
     let line = sym (ap (λ (x : TypedFunction). x.line) c.function.ensures.function) in
     piece-left _ _ u c.args.bound c.args.f c.function.result.line c.body_of.result c.args.machine.now m1 m2 c.in-Ok.ensures.made line c.in-Ok.ensures.stays c.requires.fresh (c.in-Ok.ensures.started ∙ c.requires.none) c.body_of.ensures.does
-    c.in-Ok-Left.flow c.end_main.result c.end_main.new.machine (led-as u c.args.bound c.body_of.result _ _ m1 m2 c.in-Ok-Left.field-0-is c.in-Ok-Left.ensures.ended) c.end_main.ensures.ended
+    c.in-Ok-Left.flow c.end_main.result c.end_main.new.machine (led-as u c.args.bound c.body_of.result _ _ m1 m2 c.in-Ok-Left.field-0-is c.in-Ok-Left.ensures.ended) c.end_main.ensures.ended c.end_main.ensures.calm c.end_main.ensures.taken
 
 pub returns-in-Ok-Valued-clause-ended : goal.returns-in-Ok-Valued-clause-ended
 returns-in-Ok-Valued-clause-ended g c =
@@ -30,7 +30,7 @@ returns-in-Ok-Valued-clause-ended g c =
     let m2 = c.run_statements.new.machine in
     let line = sym (ap (λ (x : TypedFunction). x.line) c.function.ensures.function) in
     piece-valued _ _ u c.args.bound c.args.f c.function.result.line c.body_of.result c.args.machine.now m1 m2 c.in-Ok.ensures.made line c.in-Ok.ensures.stays c.requires.fresh (c.in-Ok.ensures.started ∙ c.requires.none) c.body_of.ensures.does
-    _ (led-as u c.args.bound c.body_of.result _ _ m1 m2 c.in-Ok-Valued.field-0-is c.in-Ok-Valued.ensures.ended)
+    _ (led-as u c.args.bound c.body_of.result _ _ m1 m2 c.in-Ok-Valued.field-0-is c.in-Ok-Valued.ensures.ended) tt
 
 pub returns-in-Ok-Turns-clause-ended : goal.returns-in-Ok-Turns-clause-ended
 returns-in-Ok-Turns-clause-ended g c =
@@ -60,3 +60,9 @@ returns-in-Err-run_statements-clause-ended g c =
 
 pub returns-in-Ok-Left-clause-cause : goal.returns-in-Ok-Left-clause-cause
 returns-in-Ok-Left-clause-cause g c = cause-calm c.end_main.result _ _ c.end_main.ensures.calm c.in-Ok-Left.ensures.cause
+
+pub run_statements-requires-clause-due : goal.run_statements-requires-clause-due
+run_statements-requires-clause-due g c = c.body_of.ensures.does.counts c.begin_function.new.machine.started
+
+pub run_statements-requires-clause-fresh : goal.run_statements-requires-clause-fresh
+run_statements-requires-clause-fresh g c = c.in-Ok.ensures.stays.taken ∙ c.requires.fresh
