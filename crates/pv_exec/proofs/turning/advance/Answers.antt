@@ -1,6 +1,7 @@
 use Rattle.std.proofs.Common.{sym, subst, arith, Ok, Err}
 use Rattle.pv_eval.specs.Moments.{state_of}
 use Rattle.pv_exec.specs.declared.once.After.{After}
+use Rattle.pv_exec.specs.declared.once.After.TheVariants as after
 use Rattle.pv_exec.specs.declared.turning.Advanced.{Advanced}
 use Rattle.pv_exec.specs.Leading.{OnceLed}
 use Rattle.pv_exec.specs.Turning.{AdvancedLed, AdvancedRuns, AdvancedPace}
@@ -54,7 +55,7 @@ returns-in-Ok-Ended-clause-holds c =
     let ts' = c.once.new.tasks.items in
     let old = c.args.machine.now in
     let new = c.once.new.machine in
-    once-led u c.args.bound d _ ts ts' old new (omega (arith, c.if-turns-bound.false, c.turns.ensures)) c.once.ensures.taken
+    once-led u c.args.bound d (Ok (after.Ended c.in-Ok-Ended.flow)) ts ts' old new (omega (arith, c.if-turns-bound.false, c.turns.ensures)) c.once.ensures.taken
     (subst (λ (x : After). OnceLed u d (Ok x) ts ts' old new) c.in-Ok-Ended.field-0-is c.in-Ok-Ended.ensures.holds)
 
 pub returns-in-Ok-Valued-clause-holds : goal.returns-in-Ok-Valued-clause-holds
@@ -65,7 +66,7 @@ returns-in-Ok-Valued-clause-holds c =
     let ts' = c.once.new.tasks.items in
     let old = c.args.machine.now in
     let new = c.once.new.machine in
-    once-led u c.args.bound d _ ts ts' old new (omega (arith, c.if-turns-bound.false, c.turns.ensures)) c.once.ensures.taken
+    once-led u c.args.bound d (Ok after.Valued) ts ts' old new (omega (arith, c.if-turns-bound.false, c.turns.ensures)) c.once.ensures.taken
     (subst (λ (x : After). OnceLed u d (Ok x) ts ts' old new) c.in-Ok-Valued.field-0-is c.in-Ok-Valued.ensures.holds)
 
 pub returns-in-Err-clause-holds : goal.returns-in-Err-clause-holds
