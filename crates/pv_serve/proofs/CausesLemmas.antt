@@ -1,5 +1,5 @@
 -- The rows of the table, from what the parts of the call come to.
-use Rattle.std.proofs.Common.{◌≡◌, ◌≢◌, ◌⊎◌, ℕ, ◌+◌, ◌<◌, ◌≤◌, List, [], ◌++◌, take, refl, sym, ap, ◌∙◌, subst, inl, inr, arith}
+use Rattle.std.proofs.Common.{◌≡◌, ◌≢◌, ◌⊎◌, ℕ, ◌+◌, ◌<◌, ◌≤◌, Bool, List, [], ◌++◌, take, refl, sym, ap, ◌∙◌, subst, inl, inr, arith}
 use Rattle.std.specs.Prelude.{Option, Some, None, IfSome, IsSome, IsNone, Result, Ok, Err, IfOk, Vec}
 use Rattle.std.specs.declared.alloc.Global.{Global}
 use Rattle.std.specs.List.{filter}
@@ -14,7 +14,7 @@ use Rattle.pv_serve.specs.declared.tasks.Judgement.{Judgement}
 use Rattle.pv_serve.specs.declared.tasks.Judgement.TheVariants as judgement
 use Rattle.pv_serve.specs.declared.error.NoMemory.{NoMemory}
 use Rattle.pv_serve.specs.Verdicts.{Course, course_of}
-use Rattle.pv_serve.specs.Jobs.{Job, FileJob, Files, Generated, task_of, watched_of, kinds_of}
+use Rattle.pv_serve.specs.Jobs.{Job, FileJob, Files, Generated, task_of, sides_of, watched_of, kinds_of}
 use Rattle.pv_serve.specs.Words.{job, generated, file_job, either}
 use Rattle.pv_serve.specs.Comes.{source_limit}
 use Rattle.pv_serve.specs.Judged.{Judged, SomeRun, script_limit}
@@ -34,18 +34,18 @@ has_report : (j : Judgement) (shown : Shown) (hall : Halls) (P : List ℕ → Ty
     → HasReport hall.old hall.new (answer_of (verdict_of j shown)) P
 has_report j shown hall P told r = record { told = told; text = r.text; is = r.is shown; holds = r.holds }
 
-printed_verdict : (source script : List ℕ) (t : Task) (j : Judgement) (out report : Sunk) (hall : Halls) (status : ℕ)
-    → IsJudged source script t out hall j → Reported j hall.new report status
-    → status ≢ 12 → status ≢ 13 → SomeVerdict source script t (IsTold out report hall status)
-printed_verdict source script t j out report hall status is told not12 not13 = record {
+printed_verdict : (source script : List ℕ) (t : Task) (sides : Option (List Bool)) (j : Judgement) (out report : Sunk) (hall : Halls) (status : ℕ)
+    → IsJudged source script t sides out hall j → Reported j hall.new report status
+    → status ≢ 12 → status ≢ 13 → SomeVerdict source script t sides (IsTold out report hall status)
+printed_verdict source script t sides j out report hall status is told not12 not13 = record {
   verdict = verdict_of j is.shown;
   judged = is.judged;
   answered = record { status_is = told.status_is is.shown not12 not13; output = is.gains; whole = has_report j is.shown hall (Wrote report) is.told (told.whole not12 not13) };
 }
 
-pub answered_by : (source script : List ℕ) (t : Task) (j : Judgement) (out report : Sunk) (hall : Halls) (status : ℕ)
-    → IsJudged source script t out hall j → Reported j hall.new report status → Answered source script t out report hall status
-answered_by source script t j out report hall status is told = record {
+pub answered_by : (source script : List ℕ) (t : Task) (sides : Option (List Bool)) (j : Judgement) (out report : Sunk) (hall : Halls) (status : ℕ)
+    → IsJudged source script t sides out hall j → Reported j hall.new report status → Answered source script t sides out report hall status
+answered_by source script t sides j out report hall status is told = record {
   no_read_fault = told.no_read_fault;
   no_words = told.no_words;
   write_fault = λ h. inr (told.write_fault h);
@@ -54,9 +54,9 @@ answered_by source script t j out report hall status is told = record {
     judged = is.judged;
     answered = record { whole = is.gains; begun = has_report j is.shown hall (WrotePrefix report) is.told (told.begun h) };
   });
-  printed = λ h. printed_part source script t (verdict_of j is.shown) out is.judged is.gains;
+  printed = λ h. printed_part source script t sides (verdict_of j is.shown) out is.judged is.gains;
   no_memory = told.no_memory;
-  told = printed_verdict source script t j out report hall status is told;
+  told = printed_verdict source script t sides j out report hall status is told;
 }
 
 -- ---- the report on a judgement
@@ -106,9 +106,9 @@ reported_by j new report text status result line is own told lost = record {
   whole = λ not12 not13. record { text = text; is = line; holds = (told not12).1 };
 }
 
-pub answered_no_memory : (source script : List ℕ) (t : Task) (out report : Sunk) (hall : Halls) → IsCutOff source script t out hall error.NoMemory
-    → report.new ≡ report.old → Answered source script t out report hall 13
-answered_no_memory source script t out report hall cut same = record {
+pub answered_no_memory : (source script : List ℕ) (t : Task) (sides : Option (List Bool)) (out report : Sunk) (hall : Halls) → IsCutOff source script t sides out hall error.NoMemory
+    → report.new ≡ report.old → Answered source script t sides out report hall 13
+answered_no_memory source script t sides out report hall cut same = record {
   no_read_fault = λ h. absurd cc;
   no_words = λ h. absurd cc;
   write_fault = λ h. absurd cc;
@@ -118,13 +118,13 @@ answered_no_memory source script t out report hall cut same = record {
   told = λ not12 not13. absurd (not13 refl);
 }
 
-pub answered_write_fault : (source script : List ℕ) (t : Task) (out report : Sunk) (hall : Halls) → IsCutOff source script t out hall error.WriteFault
-    → SinkRose out → report.new ≡ report.old → Answered source script t out report hall 12
-answered_write_fault source script t out report hall cut rose same = record {
+pub answered_write_fault : (source script : List ℕ) (t : Task) (sides : Option (List Bool)) (out report : Sunk) (hall : Halls) → IsCutOff source script t sides out hall error.WriteFault
+    → SinkRose out → report.new ≡ report.old → Answered source script t sides out report hall 12
+answered_write_fault source script t sides out report hall cut rose same = record {
   no_read_fault = λ h. absurd cc;
   no_words = λ h. absurd cc;
   write_fault = λ h. inl rose;
-  wrote = λ h. inr (record { job = cut.job; run = cut.run; runs = cut.runs; holds = record { part = cut.holds; nothing = nothing report same } });
+  wrote = λ h. inr (record { plan = cut.plan; asks = cut.asks; job = cut.job; run = cut.run; runs = cut.runs; holds = record { part = cut.holds; nothing = nothing report same } });
   printed = λ h. absurd cc;
   no_memory = λ h. absurd cc;
   told = λ not12 not13. absurd (not12 refl);
@@ -141,43 +141,43 @@ of_files j held P Q f h =
     if_some (held j.file) (λ all. IfSome (needed all (script_held j.script held)) (P all)) (λ all. IfSome (needed all (script_held j.script held)) (Q all))
     (λ all. if_some (needed all (script_held j.script held)) (P all) (Q all) (f all)) h
 
-verdict_told : (all text source script : List ℕ) (t : Task) (P Q : Answer → Type 0) → ((a : Answer) → P a → Q a) → (source ≡ take (source_limit + 1) all) × (script ≡ take (script_limit + 1) text)
-    → SomeVerdict source script t P → SomeVerdict all text t Q
-verdict_told all text source script t P Q f is v = record {
+verdict_told : (all text source script : List ℕ) (t : Task) (sides : Option (List Bool)) (P Q : Answer → Type 0) → ((a : Answer) → P a → Q a) → (source ≡ take (source_limit + 1) all) × (script ≡ take (script_limit + 1) text)
+    → SomeVerdict source script t sides P → SomeVerdict all text t sides Q
+verdict_told all text source script t sides P Q f is v = record {
   verdict = v.verdict;
-  judged = more_decides all text t v.verdict
-      (subst (λ (s : List ℕ). Judged s (take (script_limit + 1) text) t v.verdict) is.0 (subst (λ (s : List ℕ). Judged source s t v.verdict) is.1 v.judged));
+  judged = more_decides all text t sides v.verdict
+      (subst (λ (s : List ℕ). Judged s (take (script_limit + 1) text) t sides v.verdict) is.0 (subst (λ (s : List ℕ). Judged source s t sides v.verdict) is.1 v.judged));
   answered = f (answer_of v.verdict) v.answered;
 }
 
-run_told : (all text source script : List ℕ) (t : Task) (P : State → List (List ℕ) → Type 0) → (source ≡ take (source_limit + 1) all) × (script ≡ take (script_limit + 1) text)
-    → SomeRun source script t P → SomeRun all text t P
-run_told all text source script t P is v =
-    more_runs all text t P (subst (λ (s : List ℕ). SomeRun s (take (script_limit + 1) text) t P) is.0 (subst (λ (s : List ℕ). SomeRun source s t P) is.1 v))
+run_told : (all text source script : List ℕ) (t : Task) (sides : Option (List Bool)) (P : State → List (List ℕ) → Type 0) → (source ≡ take (source_limit + 1) all) × (script ≡ take (script_limit + 1) text)
+    → SomeRun source script t sides P → SomeRun all text t sides P
+run_told all text source script t sides P is v =
+    more_runs all text t sides P (subst (λ (s : List ℕ). SomeRun s (take (script_limit + 1) text) t sides P) is.0 (subst (λ (s : List ℕ). SomeRun source s t sides P) is.1 v))
 
 of_verdict : (j : Job) (held : List ℕ → Option (List ℕ)) (source script : List ℕ) (P Q : Answer → Type 0) → ((a : Answer) → P a → Q a)
-    → IsSource j held source script → SomeVerdict source script (task_of j) P → OfSource j held (λ all text. SomeVerdict all text (task_of j) Q)
+    → IsSource j held source script → SomeVerdict source script (task_of j) (sides_of j) P → OfSource j held (λ all text. SomeVerdict all text (task_of j) (sides_of j) Q)
 of_verdict (Files j) held source script P Q f is v =
-    of_files j held (λ all text. (source ≡ take (source_limit + 1) all) × (script ≡ take (script_limit + 1) text)) (λ all text. SomeVerdict all text j.task Q)
-    (λ all text read. verdict_told all text source script j.task P Q f read v) is
+    of_files j held (λ all text. (source ≡ take (source_limit + 1) all) × (script ≡ take (script_limit + 1) text)) (λ all text. SomeVerdict all text j.task j.sides Q)
+    (λ all text read. verdict_told all text source script j.task j.sides P Q f read v) is
 of_verdict (Generated n) held source script P Q f is v =
-    let w : SomeVerdict source script (task_of (Generated n)) Q = record { verdict = v.verdict; judged = v.judged; answered = f (answer_of v.verdict) v.answered } in
-    subst (λ (s : List ℕ). SomeVerdict s [] (task_of (Generated n)) Q) is.0 (subst (λ (s : List ℕ). SomeVerdict source s (task_of (Generated n)) Q) is.1 w)
+    let w : SomeVerdict source script (task_of (Generated n)) None Q = record { verdict = v.verdict; judged = v.judged; answered = f (answer_of v.verdict) v.answered } in
+    subst (λ (s : List ℕ). SomeVerdict s [] (task_of (Generated n)) None Q) is.0 (subst (λ (s : List ℕ). SomeVerdict source s (task_of (Generated n)) None Q) is.1 w)
 
 of_run : (j : Job) (held : List ℕ → Option (List ℕ)) (source script : List ℕ) (P : State → List (List ℕ) → Type 0)
-    → IsSource j held source script → SomeRun source script (task_of j) P → OfSource j held (λ all text. SomeRun all text (task_of j) P)
+    → IsSource j held source script → SomeRun source script (task_of j) (sides_of j) P → OfSource j held (λ all text. SomeRun all text (task_of j) (sides_of j) P)
 of_run (Files j) held source script P is v =
-    of_files j held (λ all text. (source ≡ take (source_limit + 1) all) × (script ≡ take (script_limit + 1) text)) (λ all text. SomeRun all text j.task P)
-    (λ all text read. run_told all text source script j.task P read v) is
+    of_files j held (λ all text. (source ≡ take (source_limit + 1) all) × (script ≡ take (script_limit + 1) text)) (λ all text. SomeRun all text j.task j.sides P)
+    (λ all text read. run_told all text source script j.task j.sides P read v) is
 of_run (Generated n) held source script P is v =
-    subst (λ (s : List ℕ). SomeRun s [] (task_of (Generated n)) P) is.0 (subst (λ (s : List ℕ). SomeRun source s (task_of (Generated n)) P) is.1 v)
+    subst (λ (s : List ℕ). SomeRun s [] (task_of (Generated n)) None P) is.0 (subst (λ (s : List ℕ). SomeRun source s (task_of (Generated n)) None P) is.1 v)
 
 some_asked : (words : List (List ℕ)) (held : List ℕ → Option (List ℕ)) (j : Job) (source script : List ℕ) (P Q : Answer → Type 0) → ((a : Answer) → P a → Q a) → job words ≡ Some j
-    → IsSource j held source script → SomeVerdict source script (task_of j) P → SomeAnswer (job words) held Q
+    → IsSource j held source script → SomeVerdict source script (task_of j) (sides_of j) P → SomeAnswer (job words) held Q
 some_asked words held j source script P Q f e is v = subst (λ (o : Option Job). SomeAnswer o held Q) (sym e) (of_verdict j held source script P Q f is v)
 
 some_end : (words : List (List ℕ)) (held : List ℕ → Option (List ℕ)) (j : Job) (source script : List ℕ) (P : State → List (List ℕ) → Type 0) → job words ≡ Some j
-    → IsSource j held source script → SomeRun source script (task_of j) P → SomeEnd (job words) held P
+    → IsSource j held source script → SomeRun source script (task_of j) (sides_of j) P → SomeEnd (job words) held P
 some_end words held j source script P e is v = subst (λ (o : Option Job). SomeEnd o held P) (sym e) (of_run j held source script P is v)
 
 -- ---- the table
@@ -195,7 +195,7 @@ abbrev halls_of : Call → Halls
 halls_of c = record { old = kept c; new = c.hall.new }
 
 table_of_answer : (c : Call) (j : Job) (source script : List ℕ) → job c.words ≡ Some j → IsSource j c.held source script
-    → Answered source script (task_of j) c.out c.report (halls_of c) c.status → Table c
+    → Answered source script (task_of j) (sides_of j) c.out c.report (halls_of c) c.status → Table c
 table_of_answer c j source script e is r = record {
   read_fault = λ h. absurd (r.no_read_fault h);
   write_fault = λ h. record {
@@ -226,7 +226,7 @@ complete c t = complete_of c t (cases_eq c.status 11) (cases_eq c.status 12) (ca
 
 -- a call that was answered
 served_by_answer : (c : Call) (j : Job) (source script : List ℕ) → job c.words ≡ Some j → IsSource j c.held source script
-    → Answered source script (task_of j) c.out c.report (halls_of c) c.status → Served c
+    → Answered source script (task_of j) (sides_of j) c.out c.report (halls_of c) c.status → Served c
 served_by_answer c j source script e is r =
     let t = table_of_answer c j source script e is r in
     record {
@@ -288,16 +288,16 @@ pub served_by_files : (c : Call) (j : FileJob) (mid : List Slot) → job c.words
     → FilesServed j c.held c.faults_old c.faults_new c.out c.report (record { old = mid; new = c.hall.new }) c.status → Served c
 served_by_files c j mid e is (WereRead source script given answered) =
     served_by_answer c (Files j) source script e given
-    (subst (λ (k : List Slot). Answered source script j.task c.out c.report (record { old = k; new = c.hall.new }) c.status) (kept_is c (Files j) mid e is) answered)
+    (subst (λ (k : List Slot). Answered source script j.task j.sides c.out c.report (record { old = k; new = c.hall.new }) c.status) (kept_is c (Files j) mid e is) answered)
 served_by_files c j mid e is (WereLost rose same stays told lost) = served_by_fault c (Files j) e rose same (stays ∙ kept_is c (Files j) mid e is) told lost
 served_by_files c j mid e is (HadNoRoom status same kept) = served_by_nothing c (Files j) e status same kept
 
 -- a call that asks for a generated source
 pub served_by_number : (c : Call) (n : ℕ) → job c.words ≡ Some (Generated n)
-    → Answered (source_text n) [] (task_of (Generated n)) c.out c.report (kept_halls (Generated n) c.hall) c.status → Served c
+    → Answered (source_text n) [] (task_of (Generated n)) None c.out c.report (kept_halls (Generated n) c.hall) c.status → Served c
 served_by_number c n e answered =
     served_by_answer c (Generated n) (source_text n) [] e (refl, refl)
-    (subst (λ (k : List Slot). Answered (source_text n) [] (task_of (Generated n)) c.out c.report (record { old = k; new = c.hall.new }) c.status)
+    (subst (λ (k : List Slot). Answered (source_text n) [] (task_of (Generated n)) None c.out c.report (record { old = k; new = c.hall.new }) c.status)
     (kept_is c (Generated n) (kept_by (Some (Generated n)) c.hall.old) e refl) answered)
 
 -- words that are no job

@@ -10,3 +10,4 @@ pub mod FilesLemmas
 pub mod CausesLemmas
 pub mod ReportLemmas
 pub mod WatchingLemmas
+pub mod SidesLemmas

@@ -1,5 +1,5 @@
 -- What a source with its script is, and what a run of it comes to.
-use Rattle.std.proofs.Common.{◌≡◌, ℕ, Bool, true, ◌<◌, ◌≤◌, List, length, refl, inr, Err}
+use Rattle.std.proofs.Common.{◌≡◌, ℕ, Bool, ◌<◌, ◌≤◌, List, length, refl, inr, Err}
 use Rattle.std.specs.Prelude.{Option}
 use Rattle.pv_script.specs.declared.scripts.ScriptError.{ScriptError}
 use Rattle.pv_script.specs.declared.scripts.ScriptError.TheVariants as why
@@ -10,7 +10,6 @@ use Rattle.pv_exec.specs.Run.{setting_of, run_of}
 use Rattle.pv_exec.specs.declared.program.Ran.{Ran}
 use Rattle.pv_exec.specs.declared.program.RunError.{RunError}
 use Rattle.pv_exec.specs.declared.program.RunError.TheVariants as error
-use Rattle.pv_serve.specs.declared.words.Task.TheVariants as task
 use Rattle.pv_serve.specs.declared.checking.Refused.TheVariants as refused
 use Rattle.pv_serve.specs.declared.loading.Loaded.TheVariants as loaded
 use Rattle.pv_serve.specs.declared.judging.Judged.TheVariants as judged
@@ -19,44 +18,44 @@ use Rattle.pv_serve.specs.Judged.{Oversize, Unread, IsToRun}
 use Rattle.pv_serve.specs.Outside.{Sunk, Halls}
 use Rattle.pv_serve.specs.Loading.{IsLoadedProgram, IsLoaded}
 use Rattle.pv_serve.specs.Settling.{SomeRunBy, IsRan, IsQuiet, IsOutcome, IsLeft, IsUnfinished}
-use Rattle.pv_serve.proofs.RunLemmas.{nothing, beyond, script_refused}
+use Rattle.pv_serve.proofs.RunLemmas.{nothing, beyond, script_refused, is_run}
 
 -- ---- a source or a script that is refused
 
 pub too_long : (source script : List ℕ) → 1048576 < length source → IsLoaded source script (loaded.Source refused.Size)
-too_long source script long = record { judged = λ t. Oversize (beyond (length source) long) refl; parts = tt }
+too_long source script long = record { judged = λ t sides. Oversize (beyond (length source) long) refl; parts = tt }
 
 pub refused_script : (source script : List ℕ) (e : ScriptError) → (e ≡ why.NoMemory → ⊥) → length source ≤ source_limit
     → OrNoMemory {A = List ScriptLine} (λ s. s) (Err e) (script_of script) → IsLoaded source script (loaded.Script e)
-refused_script source script e some short is = record { judged = λ t. Unread e short (script_refused e (script_of script) some is) refl; some = some }
+refused_script source script e some short is = record { judged = λ t sides. Unread e short (script_refused e (script_of script) some is) refl; some = some }
 
 pub quiet : (out : Sunk) (hall : Halls) → out.new ≡ out.old → hall.new ≡ hall.old → IsQuiet out hall
 quiet out hall same stays = record { gains = nothing out same; told = stays }
 
 -- ---- a program
 
-abbrev to_run : (source script : List ℕ) (u : Stored) (lines : List ScriptLine) (bound : ℕ) → IsLoadedProgram source script u lines → IsToRun source script (task.Run bound)
-to_run source script u lines bound p = record { bound = bound; asks = refl; lines = lines; unit = whole u; short = p.short; reads = p.reads; comes = p.comes }
+abbrev to_run : (source script : List ℕ) (u : Stored) (lines : List ScriptLine) → IsLoadedProgram source script u lines → IsToRun source script
+to_run source script u lines p = record { lines = lines; unit = whole u; short = p.short; reads = p.reads; comes = p.comes }
 
-pub ran_outcome : (source script : List ℕ) (u : Stored) (lines : List ScriptLine) (bound : ℕ) (sides : Option (List Bool)) (out : Sunk) (hall : Halls) (ran : Ran) (names : List (List ℕ))
-    → IsLoadedProgram source script u lines → IsRan out hall ran names (run_of (setting_of u bound sides true) lines) u.names → IsOutcome source script bound sides out hall (judged.Ran ran names)
-ran_outcome source script u lines bound sides out hall ran names p h = record {
-  job = to_run source script u lines bound p;
-  run = run_of (setting_of u bound sides true) lines;
-  runs = record { tables = u; stands = refl; is = refl };
+pub ran_outcome : (source script : List ℕ) (u : Stored) (lines : List ScriptLine) (bound : ℕ) (zap : Bool) (sides : Option (List Bool)) (out : Sunk) (hall : Halls) (ran : Ran) (names : List (List ℕ))
+    → IsLoadedProgram source script u lines → IsRan out hall ran names (run_of (setting_of u bound sides zap) lines) u.names → IsOutcome source script bound zap sides out hall (judged.Ran ran names)
+ran_outcome source script u lines bound zap sides out hall ran names p h = record {
+  job = to_run source script u lines p;
+  run = run_of (setting_of u bound sides zap) lines;
+  runs = is_run u lines bound zap sides;
   holds = h;
 }
 
-left_run : (source script : List ℕ) (u : Stored) (lines : List ScriptLine) (bound : ℕ) (sides : Option (List Bool)) (out : Sunk) (hall : Halls) (e : RunError)
-    → IsLoadedProgram source script u lines → IsLeft out hall e (run_of (setting_of u bound sides true) lines) u.names → SomeRunBy source script bound sides (IsLeft out hall e)
-left_run source script u lines bound sides out hall e p h = record {
-  job = to_run source script u lines bound p;
-  run = run_of (setting_of u bound sides true) lines;
-  runs = record { tables = u; stands = refl; is = refl };
+left_run : (source script : List ℕ) (u : Stored) (lines : List ScriptLine) (bound : ℕ) (zap : Bool) (sides : Option (List Bool)) (out : Sunk) (hall : Halls) (e : RunError)
+    → IsLoadedProgram source script u lines → IsLeft out hall e (run_of (setting_of u bound sides zap) lines) u.names → SomeRunBy source script bound zap sides (IsLeft out hall e)
+left_run source script u lines bound zap sides out hall e p h = record {
+  job = to_run source script u lines p;
+  run = run_of (setting_of u bound sides zap) lines;
+  runs = is_run u lines bound zap sides;
   holds = h;
 }
 
-pub left_unfinished : (source script : List ℕ) (u : Stored) (lines : List ScriptLine) (bound : ℕ) (sides : Option (List Bool)) (out : Sunk) (hall : Halls) (e : RunError)
-    → IsLoadedProgram source script u lines → IsLeft out hall e (run_of (setting_of u bound sides true) lines) u.names → IsUnfinished source script bound sides out hall e
-left_unfinished source script u lines bound sides out hall error.NoMemory p h = inr (left_run source script u lines bound sides out hall error.NoMemory p h)
-left_unfinished source script u lines bound sides out hall error.WriteFault p h = left_run source script u lines bound sides out hall error.WriteFault p h
+pub left_unfinished : (source script : List ℕ) (u : Stored) (lines : List ScriptLine) (bound : ℕ) (zap : Bool) (sides : Option (List Bool)) (out : Sunk) (hall : Halls) (e : RunError)
+    → IsLoadedProgram source script u lines → IsLeft out hall e (run_of (setting_of u bound sides zap) lines) u.names → IsUnfinished source script bound zap sides out hall e
+left_unfinished source script u lines bound zap sides out hall error.NoMemory p h = inr (left_run source script u lines bound zap sides out hall error.NoMemory p h)
+left_unfinished source script u lines bound zap sides out hall error.WriteFault p h = left_run source script u lines bound zap sides out hall error.WriteFault p h

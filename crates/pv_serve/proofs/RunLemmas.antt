@@ -1,6 +1,6 @@
 -- What a judgement is, from what the parts of the judging answer.
-use Rattle.std.proofs.Common.{◌≡◌, ◌⊎◌, ℕ, ◌<◌, ◌≤◌, List, [], length, refl, sym, ap, ◌∙◌, subst, arith, inl, inr}
-use Rattle.std.specs.Prelude.{Result, Ok, Err, IfOk, IfErr, Option, None, map}
+use Rattle.std.proofs.Common.{◌≡◌, ◌⊎◌, ℕ, ◌<◌, ◌≤◌, Bool, List, [], length, refl, sym, ap, ◌∙◌, subst, arith, inl, inr}
+use Rattle.std.specs.Prelude.{Result, Ok, Err, IfOk, IfErr, Option, None, Some, map, is_none}
 use Rattle.std.proofs.lemmas.Option.{get_or_from_slice_get, slice_get_within}
 use Rattle.pv_script.specs.Outside.{Gains}
 use Rattle.pv_script.specs.declared.scripts.ScriptError.{ScriptError}
@@ -16,21 +16,22 @@ use Rattle.pv_typed.specs.Formed.{AreKnown}
 use Rattle.pv_world.specs.Worlds.{Worth}
 use Rattle.pv_eval.specs.States.{Res, State}
 use Rattle.pv_eval.specs.Runnable.{IsRunnable}
+use Rattle.pv_exec.specs.Run.{setting_of, run_of}
 use Rattle.pv_exec.specs.declared.program.Ran.{Ran}
 use Rattle.pv_exec.specs.declared.program.RunError.{RunError}
 use Rattle.pv_exec.specs.declared.program.RunError.TheVariants as error
 use Rattle.pv_exec.specs.Streaming.{event_of}
-use Rattle.pv_exec.specs.Answering.{ToldOr, FaultCause, end_of}
+use Rattle.pv_exec.specs.Answering.{RanAs, ToldOr, FaultCause, end_of}
 use Rattle.pv_describe.specs.Describing.{check_text, layout_text}
 use Rattle.pv_serve.specs.declared.words.Task.{Task}
 use Rattle.pv_serve.specs.declared.words.Task.TheVariants as task
 use Rattle.pv_serve.specs.declared.tasks.Judgement.{Judgement}
 use Rattle.pv_serve.specs.declared.tasks.Judgement.TheVariants as judgement
-use Rattle.pv_serve.specs.Jobs.{IsTask, IsBound}
-use Rattle.pv_serve.specs.Verdicts.{Verdict, Described, Course, course_of}
+use Rattle.pv_serve.specs.Jobs.{IsTask}
+use Rattle.pv_serve.specs.Verdicts.{Verdict, Ending, Settled, Described, Course, course_of}
 use Rattle.pv_serve.specs.Readings.{Program}
 use Rattle.pv_serve.specs.Comes.{Comes, source_limit}
-use Rattle.pv_serve.specs.Judged.{Judged, Oversize, Unread, Unfit, Fit, UnitGives, IsRun, SomeRun}
+use Rattle.pv_serve.specs.Judged.{Judged, Oversize, Unread, Unfit, Fit, UnitGives, IsRunBy, RunEnds, Plan, late_plan, settled_plan, plan_of, SomeRun}
 use Rattle.pv_serve.specs.Outside.{Sunk, Wrote, WrotePrefix, Halls}
 use Rattle.pv_serve.specs.Judging.{Shown, nothing_shown, ending_of, verdict_of, output_of, IsJudged, BeganOutput, LeftPart, IsCutOff, UnitJudged, UnitRun, UnitCutOff, HasFault}
 use Rattle.pv_serve.specs.Settling.{IsRan, IsLeft}
@@ -52,23 +53,68 @@ runnable u k = record {
 abbrev pub shown_by : Res Worth → Shown
 shown_by run = record { output = (end_of run).output; events = map event_of (end_of run).events }
 
-pub run_judged : (u : Stored) (lines : List ScriptLine) (bound : ℕ) (out : Sunk) (hall : Halls) (run : Res Worth) (ran : Ran) (names : List (List ℕ))
-    → IsRun (whole u) lines bound run → IsRan out hall ran names run u.names → UnitJudged (whole u) lines (task.Run bound) out hall (judgement.Ran ran names bound)
-run_judged u lines bound out hall run ran names runs is = record {
+-- the run of these tables is one of the unit that they stand for
+pub is_run : (u : Stored) (lines : List ScriptLine) (bound : ℕ) (zap : Bool) (sides : Option (List Bool)) → IsRunBy (whole u) lines bound zap sides (run_of (setting_of u bound sides zap) lines)
+is_run u lines bound zap sides = record { tables = u; stands = refl; is = refl }
+
+run_ends : (unit : WholeUnit) (lines : List ScriptLine) (bound : ℕ) (zap : Bool) (sides : Option (List Bool)) (run : Res Worth) (ran : Ran) (names : List (List ℕ))
+    → IsRunBy unit lines bound zap sides run → RanAs run ran → names ≡ unit.names → RunEnds unit lines bound zap sides (ending_of ran names (shown_by run))
+run_ends unit lines bound zap sides run ran names runs is named = record {
+  run = run;
+  runs = runs;
+  ends = record { outcome = is.outcome; turns = is.turns; output = refl; events = refl; sides = is.sides; names = named };
+}
+
+pub run_judged : (u : Stored) (lines : List ScriptLine) (bound : ℕ) (zap : Bool) (out : Sunk) (hall : Halls) (run : Res Worth) (ran : Ran) (names : List (List ℕ))
+    → IsRunBy (whole u) lines bound zap None run → IsRan out hall ran names run u.names → UnitJudged (whole u) lines (task.Run bound zap) None out hall (judgement.Ran ran names bound)
+run_judged u lines bound zap out hall run ran names runs is = record {
   shown = shown_by run;
-  gives = (
-    ending_of ran names (shown_by run),
-    record { run = run; runs = runs; ends = record { outcome = is.ended.outcome; turns = is.ended.turns; output = refl; events = refl; names = is.named } },
-    refl,
-  );
+  gives = (ending_of ran names (shown_by run), run_ends (whole u) lines bound zap None run ran names runs is.ended is.named, refl);
   gains = is.gains;
   told = subst (λ (texts : List (List ℕ)). Told hall.old (map event_of (end_of run).events) texts hall.new) (sym is.named) is.told;
 }
 
-pub run_cut_off : (u : Stored) (lines : List ScriptLine) (bound : ℕ) (out : Sunk) (hall : Halls) (run : Res Worth) (e : RunError) → IsRun (whole u) lines bound run
-    → IsLeft out hall e run u.names → UnitCutOff (whole u) lines (task.Run bound) out hall e
-run_cut_off u lines bound out hall run error.NoMemory runs left = inr (record { bound = bound; asks = refl; run = run; runs = runs; holds = left })
-run_cut_off u lines bound out hall run error.WriteFault runs left = record { bound = bound; asks = refl; run = run; runs = runs; holds = left }
+pub run_cut_off : (unit : WholeUnit) (lines : List ScriptLine) (bound : ℕ) (zap : Bool) (out : Sunk) (hall : Halls) (run : Res Worth) (e : RunError) → IsRunBy unit lines bound zap None run
+    → IsLeft out hall e run unit.names → UnitCutOff unit lines (task.Run bound zap) None out hall e
+run_cut_off unit lines bound zap out hall run error.NoMemory runs left = inr (record { plan = late_plan bound zap; asks = refl; run = run; runs = runs; holds = left })
+run_cut_off unit lines bound zap out hall run error.WriteFault runs left = record { plan = late_plan bound zap; asks = refl; run = run; runs = runs; holds = left }
+
+-- ---- settled runs, which nobody watches
+
+pub settled_judged : (u : Stored) (lines : List ScriptLine) (bound : ℕ) (zap : Bool) (sides : Option (List Bool)) (out : Sunk) (nobody hall : Halls) (run : Res Worth) (ran : Ran) (names : List (List ℕ)) (listed : Bool)
+    → hall.new ≡ hall.old → listed ≡ is_none sides → IsRunBy (whole u) lines bound zap sides run → IsRan out nobody ran names run u.names
+    → UnitJudged (whole u) lines (task.Settle bound zap) sides out hall (judgement.Settled ran names bound listed)
+settled_judged u lines bound zap sides out nobody hall run ran names listed same told runs is = record {
+  shown = shown_by run;
+  gives = (ending_of ran names (shown_by run), run_ends (whole u) lines bound zap sides run ran names runs is.ended is.named, ap (λ (b : Bool). Settled (ending_of ran names (shown_by run)) bound b) told);
+  gains = is.gains;
+  told = same;
+}
+
+-- of what a settled run left nothing was told
+told_nothing : (out : Sunk) (nobody hall : Halls) (end : State) (names : List (List ℕ)) → hall.new ≡ hall.old → LeftPart out nobody end names → LeftPart out hall end names
+told_nothing out nobody hall end names same left = record {
+  written = left.written;
+  unwritten = left.unwritten;
+  output = left.output;
+  gains = left.gains;
+  events = [];
+  untold = end.events;
+  all = refl;
+  told = same;
+  near = tt;
+}
+
+pub settled_cut_off : (unit : WholeUnit) (lines : List ScriptLine) (bound : ℕ) (zap : Bool) (sides : Option (List Bool)) (out : Sunk) (nobody hall : Halls) (run : Res Worth) (e : RunError)
+    → hall.new ≡ hall.old → IsRunBy unit lines bound zap sides run → IsLeft out nobody e run unit.names → UnitCutOff unit lines (task.Settle bound zap) sides out hall e
+settled_cut_off unit lines bound zap sides out nobody hall run error.NoMemory same runs left = inr (record { plan = settled_plan bound zap sides; asks = refl; run = run; runs = runs; holds = left })
+settled_cut_off unit lines bound zap sides out nobody hall run error.WriteFault same runs left = record {
+  plan = settled_plan bound zap sides;
+  asks = refl;
+  run = run;
+  runs = runs;
+  holds = told_nothing out nobody hall (end_of run) unit.names same left;
+}
 
 -- what a run that was cut off left, as the run says it
 pub left_by : (out : Sunk) (hall : Halls) (run : Res Worth) (names : List (List ℕ)) (e : RunError) → WrotePrefix out (end_of run).output
@@ -99,9 +145,9 @@ quiet_gains v out same q = subst (λ (bytes : List ℕ). Wrote out bytes) (sym q
 quiet_told : (v : Verdict) (hall : Halls) → hall.new ≡ hall.old → IsQuiet v → AreTold (course_of v) hall.old hall.new
 quiet_told v hall same q = subst (λ (c : Option Course). AreTold c hall.old hall.new) (sym q.1) same
 
-unit_described : (unit : WholeUnit) (lines : List ScriptLine) (t : Task) (out : Sunk) (hall : Halls) (j : Judgement) → IsUntouched out hall
-    → UnitGives unit lines t (verdict_of j nothing_shown) → IsQuiet (verdict_of j nothing_shown) → UnitJudged unit lines t out hall j
-unit_described unit lines t out hall j same gives none = record {
+unit_described : (unit : WholeUnit) (lines : List ScriptLine) (t : Task) (sides : Option (List Bool)) (out : Sunk) (hall : Halls) (j : Judgement) → IsUntouched out hall
+    → UnitGives unit lines t sides (verdict_of j nothing_shown) → IsQuiet (verdict_of j nothing_shown) → UnitJudged unit lines t sides out hall j
+unit_described unit lines t sides out hall j same gives none = record {
   shown = nothing_shown;
   gives = gives;
   gains = quiet_gains (verdict_of j nothing_shown) out same.0 none;
@@ -111,76 +157,106 @@ unit_described unit lines t out hall j same gives none = record {
 is_quiet : (v : Verdict) (text : List ℕ) → v ≡ Described text → IsQuiet v
 is_quiet v text e = (ap output_of e, ap course_of e)
 
-described_judged : (unit : WholeUnit) (lines : List ScriptLine) (t : Task) (out : Sunk) (hall : Halls) (r : Result Judgement RunError) (want : List ℕ) → IsUntouched out hall
-    → UnitGives unit lines t (Described want) → IfOk r (λ j. verdict_of j nothing_shown ≡ Described want) → IfOk r (UnitJudged unit lines t out hall)
-described_judged unit lines t out hall (Ok j) want same gives e =
-    unit_described unit lines t out hall j same (subst (UnitGives unit lines t) (sym e) gives) (is_quiet (verdict_of j nothing_shown) want e)
-described_judged unit lines t out hall (Err x) want same gives e = tt
+described_judged : (unit : WholeUnit) (lines : List ScriptLine) (t : Task) (sides : Option (List Bool)) (out : Sunk) (hall : Halls) (r : Result Judgement RunError) (want : List ℕ) → IsUntouched out hall
+    → UnitGives unit lines t sides (Described want) → IfOk r (λ j. verdict_of j nothing_shown ≡ Described want) → IfOk r (UnitJudged unit lines t sides out hall)
+described_judged unit lines t sides out hall (Ok j) want same gives e =
+    unit_described unit lines t sides out hall j same (subst (UnitGives unit lines t sides) (sym e) gives) (is_quiet (verdict_of j nothing_shown) want e)
+described_judged unit lines t sides out hall (Err x) want same gives e = tt
 
-gives_check : (unit : WholeUnit) (lines : List ScriptLine) (t : Task) → t ≡ task.Check → UnitGives unit lines t (Described (check_text unit))
-gives_check unit lines t is = subst (λ (k : Task). UnitGives unit lines k (Described (check_text unit))) (sym is) refl
+gives_check : (unit : WholeUnit) (lines : List ScriptLine) (t : Task) (sides : Option (List Bool)) → t ≡ task.Check → UnitGives unit lines t sides (Described (check_text unit))
+gives_check unit lines t sides is = subst (λ (k : Task). UnitGives unit lines k sides (Described (check_text unit))) (sym is) refl
 
-gives_layout : (unit : WholeUnit) (lines : List ScriptLine) (t : Task) → t ≡ task.Layout → UnitGives unit lines t (Described (layout_text unit))
-gives_layout unit lines t is = subst (λ (k : Task). UnitGives unit lines k (Described (layout_text unit))) (sym is) refl
+gives_layout : (unit : WholeUnit) (lines : List ScriptLine) (t : Task) (sides : Option (List Bool)) → t ≡ task.Layout → UnitGives unit lines t sides (Described (layout_text unit))
+gives_layout unit lines t sides is = subst (λ (k : Task). UnitGives unit lines k sides (Described (layout_text unit))) (sym is) refl
 
-pub check_judged : (unit : WholeUnit) (lines : List ScriptLine) (t : Task) (out : Sunk) (hall : Halls) (r : Result Judgement RunError) → IsUntouched out hall → t ≡ task.Check
-    → IfOk r (λ j. verdict_of j nothing_shown ≡ Described (check_text unit)) → IfOk r (UnitJudged unit lines t out hall)
-check_judged unit lines t out hall r same is e = described_judged unit lines t out hall r (check_text unit) same (gives_check unit lines t is) e
+pub check_judged : (unit : WholeUnit) (lines : List ScriptLine) (t : Task) (sides : Option (List Bool)) (out : Sunk) (hall : Halls) (r : Result Judgement RunError) → IsUntouched out hall → t ≡ task.Check
+    → IfOk r (λ j. verdict_of j nothing_shown ≡ Described (check_text unit)) → IfOk r (UnitJudged unit lines t sides out hall)
+check_judged unit lines t sides out hall r same is e = described_judged unit lines t sides out hall r (check_text unit) same (gives_check unit lines t sides is) e
 
-pub layout_judged : (unit : WholeUnit) (lines : List ScriptLine) (t : Task) (out : Sunk) (hall : Halls) (r : Result Judgement RunError) → IsUntouched out hall → t ≡ task.Layout
-    → IfOk r (λ j. verdict_of j nothing_shown ≡ Described (layout_text unit)) → IfOk r (UnitJudged unit lines t out hall)
-layout_judged unit lines t out hall r same is e = described_judged unit lines t out hall r (layout_text unit) same (gives_layout unit lines t is) e
+pub layout_judged : (unit : WholeUnit) (lines : List ScriptLine) (t : Task) (sides : Option (List Bool)) (out : Sunk) (hall : Halls) (r : Result Judgement RunError) → IsUntouched out hall → t ≡ task.Layout
+    → IfOk r (λ j. verdict_of j nothing_shown ≡ Described (layout_text unit)) → IfOk r (UnitJudged unit lines t sides out hall)
+layout_judged unit lines t sides out hall r same is e = described_judged unit lines t sides out hall r (layout_text unit) same (gives_layout unit lines t sides is) e
 
-pub memory_cut_unit : (unit : WholeUnit) (lines : List ScriptLine) (t : Task) (out : Sunk) (hall : Halls) (r : Result Judgement RunError) → IsUntouched out hall
-    → IfErr r (λ e. e ≡ error.NoMemory) → IfErr r (UnitCutOff unit lines t out hall)
-memory_cut_unit unit lines t out hall (Ok j) same e = tt
-memory_cut_unit unit lines t out hall (Err error.NoMemory) same e = inl (nothing out same.0)
-memory_cut_unit unit lines t out hall (Err error.WriteFault) same e = absurd cc
+pub memory_cut_unit : (unit : WholeUnit) (lines : List ScriptLine) (t : Task) (sides : Option (List Bool)) (out : Sunk) (hall : Halls) (r : Result Judgement RunError) → IsUntouched out hall
+    → IfErr r (λ e. e ≡ error.NoMemory) → IfErr r (UnitCutOff unit lines t sides out hall)
+memory_cut_unit unit lines t sides out hall (Ok j) same e = tt
+memory_cut_unit unit lines t sides out hall (Err error.NoMemory) same e = inl (nothing out same.0)
+memory_cut_unit unit lines t sides out hall (Err error.WriteFault) same e = absurd cc
 
--- the task of a run
-pub task_judged : (unit : WholeUnit) (lines : List ScriptLine) (t : Task) (bound : ℕ) (out : Sunk) (hall : Halls) (r : Result Judgement RunError) → t ≡ task.Run bound
-    → IfOk r (UnitJudged unit lines (task.Run bound) out hall) → IfOk r (UnitJudged unit lines t out hall)
-task_judged unit lines t bound out hall r is h = subst (λ (k : Task). IfOk r (UnitJudged unit lines k out hall)) (sym is) h
+-- the task of a run, which no sides change
+run_any : (unit : WholeUnit) (lines : List ScriptLine) (bound : ℕ) (zap : Bool) (sides : Option (List Bool)) (out : Sunk) (hall : Halls) (r : Result Judgement RunError)
+    → IfOk r (UnitJudged unit lines (task.Run bound zap) None out hall) → IfOk r (UnitJudged unit lines (task.Run bound zap) sides out hall)
+run_any unit lines bound zap sides out hall (Ok j) h = record { shown = h.shown; gives = h.gives; gains = h.gains; told = h.told }
+run_any unit lines bound zap sides out hall (Err e) h = tt
 
-pub task_cut : (unit : WholeUnit) (lines : List ScriptLine) (t : Task) (bound : ℕ) (out : Sunk) (hall : Halls) (r : Result Judgement RunError) → t ≡ task.Run bound
-    → IfErr r (UnitCutOff unit lines (task.Run bound) out hall) → IfErr r (UnitCutOff unit lines t out hall)
-task_cut unit lines t bound out hall r is h = subst (λ (k : Task). IfErr r (UnitCutOff unit lines k out hall)) (sym is) h
+cut_any : (unit : WholeUnit) (lines : List ScriptLine) (bound : ℕ) (zap : Bool) (sides : Option (List Bool)) (P : State → List (List ℕ) → Type 0)
+    → UnitRun unit lines (task.Run bound zap) None P → UnitRun unit lines (task.Run bound zap) sides P
+cut_any unit lines bound zap sides P h = record { plan = h.plan; asks = h.asks; run = h.run; runs = h.runs; holds = h.holds }
 
-pub task_bound : (t : Task) (bound : ℕ) → t ≡ task.Run bound → IsTask t → IsBound bound
-task_bound t bound is h = subst IsTask is h
+run_cut_any : (unit : WholeUnit) (lines : List ScriptLine) (bound : ℕ) (zap : Bool) (sides : Option (List Bool)) (out : Sunk) (hall : Halls) (r : Result Judgement RunError)
+    → IfErr r (UnitCutOff unit lines (task.Run bound zap) None out hall) → IfErr r (UnitCutOff unit lines (task.Run bound zap) sides out hall)
+run_cut_any unit lines bound zap sides out hall (Ok j) h = tt
+run_cut_any unit lines bound zap sides out hall (Err error.WriteFault) h = cut_any unit lines bound zap sides (LeftPart out hall) h
+run_cut_any unit lines bound zap sides out hall (Err error.NoMemory) h = elim h [
+  | inl none ↦ inl none
+  | inr p ↦ inr (cut_any unit lines bound zap sides (BeganOutput out) p)
+]
+
+-- what holds of a task, by its name
+pub task_judged : (unit : WholeUnit) (lines : List ScriptLine) (t k : Task) (sides : Option (List Bool)) (out : Sunk) (hall : Halls) (r : Result Judgement RunError) → t ≡ k
+    → IfOk r (UnitJudged unit lines k sides out hall) → IfOk r (UnitJudged unit lines t sides out hall)
+task_judged unit lines t k sides out hall r is h = subst (λ (x : Task). IfOk r (UnitJudged unit lines x sides out hall)) (sym is) h
+
+pub task_cut : (unit : WholeUnit) (lines : List ScriptLine) (t k : Task) (sides : Option (List Bool)) (out : Sunk) (hall : Halls) (r : Result Judgement RunError) → t ≡ k
+    → IfErr r (UnitCutOff unit lines k sides out hall) → IfErr r (UnitCutOff unit lines t sides out hall)
+task_cut unit lines t k sides out hall r is h = subst (λ (x : Task). IfErr r (UnitCutOff unit lines x sides out hall)) (sym is) h
+
+pub run_task_judged : (unit : WholeUnit) (lines : List ScriptLine) (t : Task) (bound : ℕ) (zap : Bool) (sides : Option (List Bool)) (out : Sunk) (hall : Halls) (r : Result Judgement RunError)
+    → t ≡ task.Run bound zap → IfOk r (UnitJudged unit lines (task.Run bound zap) None out hall) → IfOk r (UnitJudged unit lines t sides out hall)
+run_task_judged unit lines t bound zap sides out hall r is h = task_judged unit lines t (task.Run bound zap) sides out hall r is (run_any unit lines bound zap sides out hall r h)
+
+pub run_task_cut : (unit : WholeUnit) (lines : List ScriptLine) (t : Task) (bound : ℕ) (zap : Bool) (sides : Option (List Bool)) (out : Sunk) (hall : Halls) (r : Result Judgement RunError)
+    → t ≡ task.Run bound zap → IfErr r (UnitCutOff unit lines (task.Run bound zap) None out hall) → IfErr r (UnitCutOff unit lines t sides out hall)
+run_task_cut unit lines t bound zap sides out hall r is h = task_cut unit lines t (task.Run bound zap) sides out hall r is (run_cut_any unit lines bound zap sides out hall r h)
+
+pub task_bound : (t k : Task) → t ≡ k → IsTask t → IsTask k
+task_bound t k is h = subst IsTask is h
 
 -- ---- a source that is a program
 
-pub judged_fit : (source script : List ℕ) (lines : List ScriptLine) (unit : WholeUnit) (t : Task) (out : Sunk) (hall : Halls) (r : Result Judgement RunError)
+pub judged_fit : (source script : List ℕ) (lines : List ScriptLine) (unit : WholeUnit) (t : Task) (sides : Option (List Bool)) (out : Sunk) (hall : Halls) (r : Result Judgement RunError)
     → length source ≤ source_limit → script_of script ≡ Ok lines → Comes source (Program unit)
-    → IfOk r (UnitJudged unit lines t out hall) → IfOk r (IsJudged source script t out hall)
-judged_fit source script lines unit t out hall (Ok j) short e c u = record { shown = u.shown; judged = Fit lines unit short e c u.gives; gains = u.gains; told = u.told }
-judged_fit source script lines unit t out hall (Err x) short e c u = tt
+    → IfOk r (UnitJudged unit lines t sides out hall) → IfOk r (IsJudged source script t sides out hall)
+judged_fit source script lines unit t sides out hall (Ok j) short e c u = record { shown = u.shown; judged = Fit lines unit short e c u.gives; gains = u.gains; told = u.told }
+judged_fit source script lines unit t sides out hall (Err x) short e c u = tt
 
-part_fit : (source script : List ℕ) (lines : List ScriptLine) (unit : WholeUnit) (t : Task) (P : State → List (List ℕ) → Type 0)
-    → length source ≤ source_limit → script_of script ≡ Ok lines → Comes source (Program unit) → UnitRun unit lines t P → SomeRun source script t P
-part_fit source script lines unit t P short e c p = record {
-  job = record { bound = p.bound; asks = p.asks; lines = lines; unit = unit; short = short; reads = e; comes = c };
+part_fit : (source script : List ℕ) (lines : List ScriptLine) (unit : WholeUnit) (t : Task) (sides : Option (List Bool)) (P : State → List (List ℕ) → Type 0)
+    → length source ≤ source_limit → script_of script ≡ Ok lines → Comes source (Program unit) → UnitRun unit lines t sides P → SomeRun source script t sides P
+part_fit source script lines unit t sides P short e c p = record {
+  plan = p.plan;
+  asks = p.asks;
+  job = record { lines = lines; unit = unit; short = short; reads = e; comes = c };
   run = p.run;
   runs = p.runs;
   holds = p.holds;
 }
 
-pub cut_fit : (source script : List ℕ) (lines : List ScriptLine) (unit : WholeUnit) (t : Task) (out : Sunk) (hall : Halls) (r : Result Judgement RunError)
+pub cut_fit : (source script : List ℕ) (lines : List ScriptLine) (unit : WholeUnit) (t : Task) (sides : Option (List Bool)) (out : Sunk) (hall : Halls) (r : Result Judgement RunError)
     → length source ≤ source_limit → script_of script ≡ Ok lines → Comes source (Program unit)
-    → IfErr r (UnitCutOff unit lines t out hall) → IfErr r (IsCutOff source script t out hall)
-cut_fit source script lines unit t out hall (Ok j) short e c u = tt
-cut_fit source script lines unit t out hall (Err error.WriteFault) short e c u = part_fit source script lines unit t (LeftPart out hall) short e c u
-cut_fit source script lines unit t out hall (Err error.NoMemory) short e c u = elim u [
+    → IfErr r (UnitCutOff unit lines t sides out hall) → IfErr r (IsCutOff source script t sides out hall)
+cut_fit source script lines unit t sides out hall (Ok j) short e c u = tt
+cut_fit source script lines unit t sides out hall (Err error.WriteFault) short e c u = part_fit source script lines unit t sides (LeftPart out hall) short e c u
+cut_fit source script lines unit t sides out hall (Err error.NoMemory) short e c u = elim u [
   | inl none ↦ inl none
-  | inr p ↦ inr (part_fit source script lines unit t (BeganOutput out) short e c p)
+  | inr p ↦ inr (part_fit source script lines unit t sides (BeganOutput out) short e c p)
 ]
 
 -- ---- a source or a script that is refused
 
-pub judged_nothing : (source script : List ℕ) (t : Task) (out : Sunk) (hall : Halls) (j : Judgement) → IsUntouched out hall → Judged source script t (verdict_of j nothing_shown)
-    → output_of (verdict_of j nothing_shown) ≡ [] → course_of (verdict_of j nothing_shown) ≡ None → IsJudged source script t out hall j
-judged_nothing source script t out hall j same judged none untold = record {
+pub judged_nothing : (source script : List ℕ) (t : Task) (sides : Option (List Bool)) (out : Sunk) (hall : Halls) (j : Judgement) → IsUntouched out hall
+    → Judged source script t sides (verdict_of j nothing_shown) → output_of (verdict_of j nothing_shown) ≡ [] → course_of (verdict_of j nothing_shown) ≡ None
+    → IsJudged source script t sides out hall j
+judged_nothing source script t sides out hall j same judged none untold = record {
   shown = nothing_shown;
   judged = judged;
   gains = quiet_gains (verdict_of j nothing_shown) out same.0 (none, untold);
@@ -209,21 +285,32 @@ memory_fault before now (Err error.WriteFault) e = absurd cc
 nothing_printed : (v w : Verdict) (out : Sunk) → v ≡ w → output_of w ≡ [] → Wrote out (output_of v) → Wrote out []
 nothing_printed v w out e none g = subst (λ (bytes : List ℕ). Wrote out bytes) (ap output_of e ∙ none) g
 
-unit_printed : (source script : List ℕ) (t : Task) (v : Verdict) (lines : List ScriptLine) (unit : WholeUnit) (out : Sunk) → length source ≤ source_limit
-    → script_of script ≡ Ok lines → Comes source (Program unit) → UnitGives unit lines t v → Wrote out (output_of v)
-    → Wrote out [] ⊎ SomeRun source script t (BeganOutput out)
-unit_printed source script (task.Run bound) v lines unit out short e c g gains = inr (record {
-  job = record { bound = bound; asks = refl; lines = lines; unit = unit; short = short; reads = e; comes = c };
-  run = g.1.run;
-  runs = g.1.runs;
-  holds = subst (λ (bytes : List ℕ). WrotePrefix out bytes) (ap output_of g.2 ∙ g.1.ends.output) (prefix_whole gains);
-})
-unit_printed source script task.Check v lines unit out short e c g gains = inl (nothing_printed v (Described (check_text unit)) out g refl gains)
-unit_printed source script task.Layout v lines unit out short e c g gains = inl (nothing_printed v (Described (layout_text unit)) out g refl gains)
+-- the output of a run that ended, as a part of what it prints
+run_printed : (source script : List ℕ) (t : Task) (sides : Option (List Bool)) (plan : Plan) (v : Verdict) (e : Ending) (lines : List ScriptLine) (unit : WholeUnit) (out : Sunk)
+    → length source ≤ source_limit → script_of script ≡ Ok lines → Comes source (Program unit) → plan_of t sides ≡ Some plan
+    → RunEnds unit lines plan.bound plan.zap plan.sides e → output_of v ≡ e.output → Wrote out (output_of v) → SomeRun source script t sides (BeganOutput out)
+run_printed source script t sides plan v e lines unit out short reads c asks r same gains = record {
+  plan = plan;
+  asks = asks;
+  job = record { lines = lines; unit = unit; short = short; reads = reads; comes = c };
+  run = r.run;
+  runs = r.runs;
+  holds = subst (λ (bytes : List ℕ). WrotePrefix out bytes) (same ∙ r.ends.output) (prefix_whole gains);
+}
 
-pub printed_part : (source script : List ℕ) (t : Task) (v : Verdict) (out : Sunk) → Judged source script t v → Wrote out (output_of v)
-    → Wrote out [] ⊎ SomeRun source script t (BeganOutput out)
-printed_part source script t v out (Oversize l p) gains = inl (nothing_printed v _ out p refl gains)
-printed_part source script t v out (Unread y l e p) gains = inl (nothing_printed v _ out p refl gains)
-printed_part source script t v out (Unfit ls r l e c p) gains = inl (nothing_printed v _ out p refl gains)
-printed_part source script t v out (Fit ls u l e c g) gains = unit_printed source script t v ls u out l e c g gains
+unit_printed : (source script : List ℕ) (t : Task) (sides : Option (List Bool)) (v : Verdict) (lines : List ScriptLine) (unit : WholeUnit) (out : Sunk) → length source ≤ source_limit
+    → script_of script ≡ Ok lines → Comes source (Program unit) → UnitGives unit lines t sides v → Wrote out (output_of v)
+    → Wrote out [] ⊎ SomeRun source script t sides (BeganOutput out)
+unit_printed source script (task.Run bound zap) sides v lines unit out short e c g gains =
+    inr (run_printed source script (task.Run bound zap) sides (late_plan bound zap) v g.0 lines unit out short e c refl g.1 (ap output_of g.2) gains)
+unit_printed source script (task.Settle bound zap) sides v lines unit out short e c g gains =
+    inr (run_printed source script (task.Settle bound zap) sides (settled_plan bound zap sides) v g.0 lines unit out short e c refl g.1 (ap output_of g.2) gains)
+unit_printed source script task.Check sides v lines unit out short e c g gains = inl (nothing_printed v (Described (check_text unit)) out g refl gains)
+unit_printed source script task.Layout sides v lines unit out short e c g gains = inl (nothing_printed v (Described (layout_text unit)) out g refl gains)
+
+pub printed_part : (source script : List ℕ) (t : Task) (sides : Option (List Bool)) (v : Verdict) (out : Sunk) → Judged source script t sides v → Wrote out (output_of v)
+    → Wrote out [] ⊎ SomeRun source script t sides (BeganOutput out)
+printed_part source script t sides v out (Oversize l p) gains = inl (nothing_printed v _ out p refl gains)
+printed_part source script t sides v out (Unread y l e p) gains = inl (nothing_printed v _ out p refl gains)
+printed_part source script t sides v out (Unfit ls r l e c p) gains = inl (nothing_printed v _ out p refl gains)
+printed_part source script t sides v out (Fit ls u l e c g) gains = unit_printed source script t sides v ls u out l e c g gains

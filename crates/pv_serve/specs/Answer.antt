@@ -1,10 +1,10 @@
 -- The answer that a source with its script, or words that are no job, must get.
-use Rattle.std.specs.Prelude.{ℕ, List, [], length, nat_lt, Option, Some, None, IfSome, if◌then◌else◌}
+use Rattle.std.specs.Prelude.{ℕ, Bool, List, [], length, nat_lt, Option, Some, None, IfSome, if◌then◌else◌}
 use Rattle.pv_watch.specs.Slots.{Slot}
 use Rattle.pv_gen.specs.Source.{source_text}
 use Rattle.pv_eval.specs.States.{State}
 use Rattle.pv_serve.specs.declared.words.Task.{Task}
-use Rattle.pv_serve.specs.Jobs.{Job, Files, Generated, task_of}
+use Rattle.pv_serve.specs.Jobs.{Job, Files, Generated, task_of, sides_of}
 use Rattle.pv_serve.specs.Verdicts.{Verdict, Course, course_of}
 use Rattle.pv_serve.specs.Comes.{source_limit}
 use Rattle.pv_serve.specs.Judged.{Judged, SomeRun}
@@ -36,9 +36,9 @@ pub record HasReport (kept new : List Slot) (a : Answer) (P : List ℕ → Type 
   pub holds : P text
 
 -- 5.1.1.3p1, 5.1.2.3: there is a verdict on the source with this script, and of its answer P holds
-pub record SomeVerdict (source script : List ℕ) (task : Task) (P : Answer → Type 0) : Type 0 where
+pub record SomeVerdict (source script : List ℕ) (task : Task) (sides : Option (List Bool)) (P : Answer → Type 0) : Type 0 where
   pub verdict : Verdict
-  pub judged : Judged source script task verdict
+  pub judged : Judged source script task sides verdict
   pub answered : P (answer_of verdict)
 
 -- docs/FORMATS.md, Scripts of addresses (the memory model): the bytes of the script that a job names, where they are told; one that names none has none
@@ -50,18 +50,21 @@ script_held (Some name) held = held name
 abbrev pub needed : (source : List ℕ) → Option (List ℕ) → Option (List ℕ)
 needed source script = if nat_lt source_limit (length source) then Some [] else script
 
--- docs/FORMATS.md, Words (5.1.2.2.1p2): of the source of a job and its script, where they are told, P holds; nothing is said where a file that is needed isn't told.
--- A source that is generated has no script.
+-- docs/FORMATS.md, Words (5.1.2.2.1p2): of the source in a file and its script, where they are told, P holds; nothing is said where a file that is needed isn't told
+abbrev pub OfFiles : (file : List ℕ) (script : Option (List ℕ)) (held : List ℕ → Option (List ℕ)) → ((source text : List ℕ) → Type 0) → Type 0
+OfFiles file script held P = IfSome (held file) (λ source. IfSome (needed source (script_held script held)) (P source))
+
+-- docs/FORMATS.md, Words (5.1.2.2.1p2): the same of a job's source. A source that is generated has no script.
 abbrev pub OfSource : Job → (held : List ℕ → Option (List ℕ)) → ((source script : List ℕ) → Type 0) → Type 0
-OfSource (Files job) held P = IfSome (held job.file) (λ source. IfSome (needed source (script_held job.script held)) (λ script. P source script))
+OfSource (Files job) held P = OfFiles job.file job.script held P
 OfSource (Generated number) held P = P (source_text number) []
 
 -- 5.1.1.3p1, 5.1.2.3: there is an answer to the job, and of it P holds
 abbrev pub SomeAnswer : Option Job → (held : List ℕ → Option (List ℕ)) → (Answer → Type 0) → Type 0
 SomeAnswer None held P = P no_job
-SomeAnswer (Some job) held P = OfSource job held (λ source script. SomeVerdict source script (task_of job) P)
+SomeAnswer (Some job) held P = OfSource job held (λ source script. SomeVerdict source script (task_of job) (sides_of job) P)
 
 -- 5.1.2.3: the job is a run, and of the state in which it ends P holds
 abbrev pub SomeEnd : Option Job → (held : List ℕ → Option (List ℕ)) → (State → List (List ℕ) → Type 0) → Type 0
 SomeEnd None held P = ⊥
-SomeEnd (Some job) held P = OfSource job held (λ source script. SomeRun source script (task_of job) P)
+SomeEnd (Some job) held P = OfSource job held (λ source script. SomeRun source script (task_of job) (sides_of job) P)

@@ -5,11 +5,12 @@ use Rattle.pv_serve.specs.declared.words.Task.TheVariants as task
 use Rattle.pv_serve.specs.declared.words.Watched.{Watched}
 
 -- docs/FORMATS.md: a task for the source of this file, with the script of that file, if one is named, which says where storage instances
--- lie (the memory model), and the watchers that are asked for
+-- lie, the sides of pairs of candidates, of each whether it is the high one, if any are given (the memory model), and the watchers that are asked for
 pub record FileJob : Type 0 where
   pub file : List ℕ
   pub script : Option (List ℕ)
   pub task : Task
+  pub sides : Option (List Bool)
   pub watched : Watched
 
 -- docs/FORMATS.md, Words (5.1.2.2.1p2): a job: a file's, or the run of the source that is generated for this number
@@ -22,19 +23,29 @@ abbrev pub script_files : Option (List ℕ) → List (List ℕ)
 script_files None = []
 script_files (Some name) = name ∷ []
 
--- docs/FORMATS.md, Words (5.1.2.2.1p2): the names of the files that a job reads: its source's, and its script's, if there is one
+-- docs/FORMATS.md, Words (5.1.2.2.1p2): the name of a source's file, and that of its script's, if there is one
+abbrev pub files_named : (file : List ℕ) (script : Option (List ℕ)) → List (List ℕ)
+files_named file script = file ∷ script_files script
+
+-- docs/FORMATS.md, Words (5.1.2.2.1p2): the names of the files that a job reads
 abbrev pub files_of : Job → List (List ℕ)
-files_of (Files j) = j.file ∷ script_files j.script
+files_of (Files j) = files_named j.file j.script
 files_of (Generated n) = []
 
 -- docs/FORMATS.md, Words (5.1.2.2.1p2): as many turns has a run whose words do not say how many, and that of a generated source
 abbrev pub default_turns : ℕ
 default_turns = 1000000
 
--- docs/FORMATS.md, Words (5.1.2.2.1p2): what is to be done with a job's source; a generated one is run
+-- docs/FORMATS.md, Words (5.1.2.2.1p2): what is to be done with a job's source; a generated one is run, and a pointer to what has ended is
+-- indeterminate (6.2.4p2)
 abbrev pub task_of : Job → Task
 task_of (Files j) = j.task
-task_of (Generated n) = task.Run default_turns
+task_of (Generated n) = task.Run default_turns true
+
+-- docs/FORMATS.md, Words (the memory model): the sides that a job gives
+abbrev pub sides_of : Job → Option (List Bool)
+sides_of (Files j) = j.sides
+sides_of (Generated n) = None
 
 -- 5.1.2.3p1: a run takes a turn at a time; its bound is from 1 to 100000000 (docs/FORMATS.md)
 abbrev pub IsBound : ℕ → Type 0
@@ -42,7 +53,8 @@ IsBound n = (0 < n) × (n ≤ 100000000)
 
 -- docs/FORMATS.md, Words (5.1.2.2.1p2): a task whose bound, if it is a run, is one
 abbrev pub IsTask : Task → Type 0
-IsTask (task.Run bound) = IsBound bound
+IsTask (task.Run bound zap) = IsBound bound
+IsTask (task.Settle bound zap) = IsBound bound
 IsTask task.Check = Unit {0}
 IsTask task.Layout = Unit {0}
 

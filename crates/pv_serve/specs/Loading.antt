@@ -1,5 +1,5 @@
 -- What a source with its script is, before anything is done with it: a program with a reading of its script, or a refusal.
-use Rattle.std.specs.Prelude.{◌≡◌, ◌≢◌, ℕ, ◌≤◌, List, length, Ok}
+use Rattle.std.specs.Prelude.{◌≡◌, ◌≢◌, ℕ, Bool, ◌≤◌, List, length, Option, Ok}
 use Rattle.pv_script.specs.declared.scripts.ScriptError.{ScriptError}
 use Rattle.pv_script.specs.declared.scripts.ScriptError.TheVariants as script
 use Rattle.pv_script.specs.Lines.{ScriptLine}
@@ -16,12 +16,12 @@ use Rattle.pv_serve.specs.Judged.{Judged}
 
 -- 5.1.1.3p1: a source that is refused for this reason, whatever is to be done with it
 pub record IsSourceRefused (source text : List ℕ) (why : declared.Refused) : Type 0 where
-  pub judged : (t : Task) → Judged source text t (Refused (refusal_of why))
+  pub judged : (t : Task) (sides : Option (List Bool)) → Judged source text t sides (Refused (refusal_of why))
   pub parts : HasParts source why
 
 -- docs/FORMATS.md, Scripts of addresses (the memory model): a script that is refused for this reason, which is not want of memory
 pub record IsScriptRefused (source text : List ℕ) (why : ScriptError) : Type 0 where
-  pub judged : (t : Task) → Judged source text t (Script why)
+  pub judged : (t : Task) (sides : Option (List Bool)) → Judged source text t sides (Script why)
   pub some : why ≢ script.NoMemory
 
 -- 6.9: a source that is the program which these tables stand for, with a script of addresses (the memory model) that has these lines

@@ -1,6 +1,6 @@
 -- The line that tells a verdict, and the status that goes with it. C17 leaves the form of a diagnostic message (5.1.1.3p1) and of what is told of
 -- a run's end (7.22.4.4p5) to its implementation: docs/FORMATS.md has the rules.
-use Rattle.std.specs.Prelude.{ℕ, ℤ, List, [], ◌∷◌, ◌++◌, codes}
+use Rattle.std.specs.Prelude.{ℕ, ℤ, Bool, true, false, ◌&&◌, List, [], ◌∷◌, ◌++◌, map, codes, if◌then◌else◌}
 use Rattle.std.specs.Fmt.{decimal, signed_decimal}
 use Rattle.pv_num.specs.declared.faults.Fault.{Fault}
 use Rattle.pv_num.specs.declared.faults.Reason.{Reason}
@@ -10,7 +10,9 @@ use Rattle.pv_script.specs.declared.scripts.ScriptError.TheVariants as script
 use Rattle.pv_script.specs.Names.{name_at}
 use Rattle.pv_exec.specs.declared.outcome.Outcome.{Outcome}
 use Rattle.pv_exec.specs.declared.outcome.Outcome.TheVariants as outcome
-use Rattle.pv_serve.specs.Verdicts.{Verdict, Ended, Described, Refused, Script, Refusal, Size, Byte, Token, Profile, Syntax, Constraint, Unresolved, NoMain}
+use Rattle.pv_exec.specs.declared.sides.Side.{Side}
+use Rattle.pv_exec.specs.declared.sides.Side.TheVariants.{Low, High}
+use Rattle.pv_serve.specs.Verdicts.{Verdict, Ended, Settled, Described, Refused, Script, Refusal, Size, Byte, Token, Profile, Syntax, Constraint, Unresolved, NoMain}
 
 -- 7.21.2p2: a line ends with a line feed
 abbrev pub line_feed : List ℕ
@@ -56,6 +58,37 @@ outcome_line outcome.Turns names turns bound = codes "turns bound=" ++ decimal b
 outcome_line (outcome.Abort line) names turns bound = at_line (codes "abort") line turns
 outcome_line (outcome.SidesEnded pair) names turns bound = codes "sides ended pair=" ++ decimal pair ++ line_feed
 
+-- the memory model: the sides of a run are told unless it ended at an operation without defined behaviour (3.4.3), or at one that two pairs left undecided
+-- (6.5.6p9, 6.5.8p5)
+abbrev pub is_decided : Outcome → Bool
+is_decided (outcome.Exit status) = true
+is_decided (outcome.Undefined fault line) = false
+is_decided (outcome.Indeterminate line) = true
+is_decided (outcome.Undecided line) = false
+is_decided (outcome.Placement reason name k line) = true
+is_decided (outcome.Storage live size line) = true
+is_decided outcome.Turns = true
+is_decided (outcome.Abort line) = true
+is_decided (outcome.SidesEnded pair) = true
+
+-- the memory model: the letter of a side of a pair of candidates: `l`, `h`
+abbrev pub letter_of : Side → ℕ
+letter_of Low = 108
+letter_of High = 104
+
+-- the memory model: one letter a pair in the order of their numbers, or `-` where there is none
+abbrev pub letters_of : List Side → List ℕ
+letters_of [] = codes "-"
+letters_of (side ∷ sides) = letter_of side ∷ map letter_of sides
+
+-- the memory model: the sides to which the pairs of a run were settled, the low one where a pair stands for both still
+abbrev pub sides_line : List Side → List ℕ
+sides_line sides = codes "sides " ++ letters_of sides ++ line_feed
+
+-- the memory model: the line of the sides, where they are listed and the run ended so that they say something
+abbrev pub listed_sides : (listed : Bool) → Outcome → List Side → List ℕ
+listed_sides listed o sides = if listed && is_decided o then sides_line sides else []
+
 -- 6.4.1: a word that is of C17 and not of the language that is run
 abbrev pub profile_line : (place : ℕ) (word : List ℕ) → List ℕ
 profile_line place word = codes "refused reason=profile at=" ++ decimal place ++ codes " word=" ++ word ++ line_feed
@@ -91,6 +124,7 @@ script_line script.NoMemory = []
 -- 5.1.1.3p1, 5.1.2.3: what is told of a verdict; a text that describes a source is told as it is
 abbrev pub report_line : Verdict → List ℕ
 report_line (Ended e bound) = outcome_line e.outcome e.names e.turns bound
+report_line (Settled e bound listed) = outcome_line e.outcome e.names e.turns bound ++ listed_sides listed e.outcome e.sides
 report_line (Described text) = text
 report_line (Refused refusal) = refusal_line refusal
 report_line (Script why) = script_line why
@@ -110,6 +144,7 @@ outcome_status (outcome.SidesEnded pair) = 14
 -- 7.22.4.4p5: the status that the program ends with (docs/FORMATS.md); the one that the source's `main` returned is in the line alone
 abbrev pub status_of : Verdict → ℕ
 status_of (Ended e bound) = outcome_status e.outcome
+status_of (Settled e bound listed) = outcome_status e.outcome
 status_of (Described text) = 0
 status_of (Refused refusal) = 8
 status_of (Script why) = 9

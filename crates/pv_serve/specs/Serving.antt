@@ -1,5 +1,5 @@
 -- What the parts of the top call come to, before those who watch.
-use Rattle.std.specs.Prelude.{◌≡◌, ◌≢◌, ◌⊎◌, ℕ, ◌+◌, List, [], ◌++◌, take, Option, Some}
+use Rattle.std.specs.Prelude.{◌≡◌, ◌≢◌, ◌⊎◌, ℕ, ◌+◌, Bool, List, [], ◌++◌, take, Option, Some}
 use Rattle.pv_watch.specs.Slots.{Slot, SayAll}
 use Rattle.pv_gen.specs.Source.{source_text}
 use Rattle.pv_serve.specs.declared.words.Task.{Task}
@@ -12,20 +12,20 @@ use Rattle.pv_serve.specs.Outside.{Sunk, SinkRose, Wrote, WrotePrefix, Halls}
 use Rattle.pv_serve.specs.Judging.{Shown, verdict_of, BeganOutput}
 use Rattle.pv_serve.specs.Report.{status_of, report_line, fault_line}
 use Rattle.pv_serve.specs.Watching.{IsReport, kept_by}
-use Rattle.pv_serve.specs.Answer.{Answer, HasReport, OfSource, SomeVerdict}
+use Rattle.pv_serve.specs.Answer.{Answer, HasReport, OfFiles, SomeVerdict}
 use Rattle.pv_serve.specs.Causes.{JobRose, WroteReport, WroteOutput}
 
 -- docs/FORMATS.md, What watchers say (the memory model): the hall once those whom the job keeps are kept, and as the call leaves it
 abbrev pub kept_halls : Job → Halls → Halls
 kept_halls j hall = record { old = kept_by (Some j) hall.old; new = hall.new }
 
--- 5.2.4.1: what was read of a job's files, where they are told: the bytes up to one above the limit
-abbrev pub IsGiven : FileJob → (held : List ℕ → Option (List ℕ)) → (source script : List ℕ) → Type 0
-IsGiven job held source script = OfSource (Files job) held (λ all text. (source ≡ take (source_limit + 1) all) × (script ≡ take (script_limit + 1) text))
+-- 5.2.4.1: what was read of a source's file and its script's, where they are told: the bytes up to one above the limit of each
+abbrev pub AreRead : (file : List ℕ) (script : Option (List ℕ)) (held : List ℕ → Option (List ℕ)) (source text : List ℕ) → Type 0
+AreRead file script held source text = OfFiles file script held (λ all rest. (source ≡ take (source_limit + 1) all) × (text ≡ take (script_limit + 1) rest))
 
 -- 5.2.4.1: what a job's source and script are, as far as they are needed
 abbrev pub IsSource : Job → (held : List ℕ → Option (List ℕ)) → (source script : List ℕ) → Type 0
-IsSource (Files job) held source script = IsGiven job held source script
+IsSource (Files job) held source script = AreRead job.file job.script held source script
 IsSource (Generated number) held source script = (source ≡ source_text number) × (script ≡ [])
 
 -- docs/FORMATS.md, The report (5.1.1.3p1): the report on a judgement has this text, whatever its run printed and told
@@ -59,20 +59,20 @@ pub record IsTold (out report : Sunk) (hall : Halls) (status : ℕ) (a : Answer)
   pub whole : HasReport hall.old hall.new a (Wrote report)
 
 -- docs/FORMATS.md, The report (5.1.2.3p7): the answer to a source with its script, by the status, before those who watch
-pub record Answered (source script : List ℕ) (t : Task) (out report : Sunk) (hall : Halls) (status : ℕ) : Type 0 where
+pub record Answered (source script : List ℕ) (t : Task) (sides : Option (List Bool)) (out report : Sunk) (hall : Halls) (status : ℕ) : Type 0 where
   pub no_read_fault : status ≢ 11
   pub no_words : status ≢ 10
   pub write_fault : status ≡ 12 → SinkRose out ⊎ SinkRose report
-  pub wrote : status ≡ 12 → SomeVerdict source script t (WroteReport out report hall.old hall.new)
-      ⊎ SomeRun source script t (WroteOutput out report hall.old hall.new)
-  pub printed : status ≡ 13 → Wrote out [] ⊎ SomeRun source script t (BeganOutput out)
+  pub wrote : status ≡ 12 → SomeVerdict source script t sides (WroteReport out report hall.old hall.new)
+      ⊎ SomeRun source script t sides (WroteOutput out report hall.old hall.new)
+  pub printed : status ≡ 13 → Wrote out [] ⊎ SomeRun source script t sides (BeganOutput out)
   pub no_memory : status ≡ 13 → Wrote report []
-  pub told : status ≢ 12 → status ≢ 13 → SomeVerdict source script t (IsTold out report hall status)
+  pub told : status ≢ 12 → status ≢ 13 → SomeVerdict source script t sides (IsTold out report hall status)
 
 -- docs/FORMATS.md: what came of the files that are asked for: they were read, and the source was answered; one could not be read (7.21.8.1p3), and
 -- `fault read` is the report; or there was no memory for them
 pub data FilesServed (job : FileJob) (held : List ℕ → Option (List ℕ)) (faults_old faults_new : List ℕ → ℕ) (out report : Sunk) (hall : Halls) (status : ℕ) : Type 0 where
-  WereRead : (source script : List ℕ) → IsGiven job held source script → Answered source script job.task out report hall status
+  WereRead : (source script : List ℕ) → AreRead job.file job.script held source script → Answered source script job.task job.sides out report hall status
       → FilesServed job held faults_old faults_new out report hall status
   WereLost : JobRose (Some (Files job)) faults_old faults_new → out.new ≡ out.old → hall.new ≡ hall.old → (status ≢ 12 → (status ≡ 11) × Wrote report fault_line)
       → (status ≡ 12 → SinkRose report × WrotePrefix report fault_line) → FilesServed job held faults_old faults_new out report hall status

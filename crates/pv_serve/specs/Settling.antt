@@ -9,7 +9,6 @@ use Rattle.pv_exec.specs.declared.program.RunError.{RunError}
 use Rattle.pv_exec.specs.declared.program.RunError.TheVariants as error
 use Rattle.pv_exec.specs.Streaming.{event_of}
 use Rattle.pv_exec.specs.Answering.{RanAs, end_of}
-use Rattle.pv_serve.specs.declared.words.Task.TheVariants as task
 use Rattle.pv_serve.specs.declared.judging.Judged as declared
 use Rattle.pv_serve.specs.declared.judging.Judged.TheVariants as judged
 use Rattle.pv_serve.specs.Readings.{refusal_of}
@@ -19,12 +18,12 @@ use Rattle.pv_serve.specs.Outside.{Sunk, Wrote, WrotePrefix, Halls}
 use Rattle.pv_serve.specs.Judging.{LeftPart}
 use Rattle.pv_serve.specs.Loading.{IsSourceRefused, IsScriptRefused}
 
--- 5.1.2.3: the source is run, with so many turns at most and with these sides, if there are any (the memory model), and of its run, with the names
--- of its unit (6.4.2.1), P holds
-pub record SomeRunBy (source script : List ℕ) (bound : ℕ) (sides : Option (List Bool)) (P : Res Worth → List (List ℕ) → Type 0) : Type 0 where
-  pub job : IsToRun source script (task.Run bound)
+-- 5.1.2.3: the source is run, with so many turns at most, with a pointer to what has ended indeterminate (6.2.4p2) or not, and with these sides, if
+-- there are any (the memory model), and of its run, with the names of its unit (6.4.2.1), P holds
+pub record SomeRunBy (source script : List ℕ) (bound : ℕ) (zap : Bool) (sides : Option (List Bool)) (P : Res Worth → List (List ℕ) → Type 0) : Type 0 where
+  pub job : IsToRun source script
   pub run : Res Worth
-  pub runs : IsRunBy job.unit job.lines bound sides run
+  pub runs : IsRunBy job.unit job.lines bound zap sides run
   pub holds : P run job.unit.names
 
 -- 5.1.2.3p6: what is told of a run, in a unit with these names: how it ended (5.1.2.2.3p1), at which turn, and to which side each of its pairs was
@@ -41,10 +40,10 @@ pub record IsQuiet (out : Sunk) (hall : Halls) : Type 0 where
   pub told : hall.new ≡ hall.old
 
 -- 5.1.1.3p1, 5.1.2.3: what a source with its script comes to: the end of its run, or the first refusal
-abbrev pub IsOutcome : (source script : List ℕ) (bound : ℕ) (sides : Option (List Bool)) (out : Sunk) (hall : Halls) → declared.Judged → Type 0
-IsOutcome source script bound sides out hall (judged.Ran ran names) = SomeRunBy source script bound sides (IsRan out hall ran names)
-IsOutcome source script bound sides out hall (judged.Source why) = IsSourceRefused source script why × IsQuiet out hall
-IsOutcome source script bound sides out hall (judged.Script why) = IsScriptRefused source script why × IsQuiet out hall
+abbrev pub IsOutcome : (source script : List ℕ) (bound : ℕ) (zap : Bool) (sides : Option (List Bool)) (out : Sunk) (hall : Halls) → declared.Judged → Type 0
+IsOutcome source script bound zap sides out hall (judged.Ran ran names) = SomeRunBy source script bound zap sides (IsRan out hall ran names)
+IsOutcome source script bound zap sides out hall (judged.Source why) = IsSourceRefused source script why × IsQuiet out hall
+IsOutcome source script bound zap sides out hall (judged.Script why) = IsScriptRefused source script why × IsQuiet out hall
 
 -- 7.21.3p3: what left a run that was cut off: where memory ran out, a first part of what is printed; where a write failed, that and a first part of
 -- what is told
@@ -53,9 +52,9 @@ IsLeft out hall error.NoMemory run names = WrotePrefix out (end_of run).output
 IsLeft out hall error.WriteFault run names = LeftPart out hall (end_of run) names
 
 -- 7.21.3p3: there is no outcome: a run was cut off, or memory ran out before there was one
-abbrev pub IsUnfinished : (source script : List ℕ) (bound : ℕ) (sides : Option (List Bool)) (out : Sunk) (hall : Halls) → RunError → Type 0
-IsUnfinished source script bound sides out hall error.NoMemory = Wrote out [] ⊎ SomeRunBy source script bound sides (IsLeft out hall error.NoMemory)
-IsUnfinished source script bound sides out hall error.WriteFault = SomeRunBy source script bound sides (IsLeft out hall error.WriteFault)
+abbrev pub IsUnfinished : (source script : List ℕ) (bound : ℕ) (zap : Bool) (sides : Option (List Bool)) (out : Sunk) (hall : Halls) → RunError → Type 0
+IsUnfinished source script bound zap sides out hall error.NoMemory = Wrote out [] ⊎ SomeRunBy source script bound zap sides (IsLeft out hall error.NoMemory)
+IsUnfinished source script bound zap sides out hall error.WriteFault = SomeRunBy source script bound zap sides (IsLeft out hall error.WriteFault)
 
 -- ---- the report
 

@@ -1,12 +1,15 @@
 -- What the words of the command line ask for (5.1.2.2.1p2: a program's parameters). Which words there are is this program's own: docs/FORMATS.md
 -- has the rules.
-use Rattle.std.specs.Prelude.{◌≡◌, ℕ, ◌+◌, ◌-◌, ◌*◌, Bool, List, [], ◌∷◌, length, map, Option, Some, None, IfSome, MatchOption, if◌then◌else◌, ◌==◌, nat_le, nat_lt, codes, option_map, option_and_then, unwrap_or, String, string_bytes, true}
+use Rattle.std.specs.Prelude.{◌≡◌, ℕ, ◌+◌, ◌-◌, ◌*◌, ◌&&◌, ◌||◌, Bool, List, [], ◌∷◌, length, map, Option, Some, None, IfSome, MatchOption, if◌then◌else◌, ◌==◌, nat_le, nat_lt, codes, option_map, option_and_then, unwrap_or, String, string_bytes, true, false}
+use Rattle.std.specs.List.{list_all}
 use Rattle.std.specs.Str.{bytes_eq}
 use Rattle.std.specs.Char.{is_ascii_digit}
 use Rattle.std.specs.declared.alloc.Global.{Global}
 use Rattle.pv_serve.specs.declared.words.Task.{Task}
 use Rattle.pv_serve.specs.declared.words.Task.TheVariants as task
 use Rattle.pv_serve.specs.declared.words.Watched.{Watched}
+use Rattle.pv_serve.specs.declared.words.Mode.{Mode}
+use Rattle.pv_serve.specs.declared.words.Mode.TheVariants as whose
 use Rattle.pv_serve.specs.declared.words.Asked.{Asked}
 use Rattle.pv_serve.specs.declared.words.Options.{Options as ReadOptions}
 use Rattle.pv_serve.specs.Jobs.{FileJob, Job, Files, Generated, default_turns, nobody, IsBound}
@@ -36,35 +39,74 @@ number_to most (d ∷ ds) = if d == 48 then None else up_to most (digits_from 0 
 abbrev pub turns_of : List ℕ → Option ℕ
 turns_of digits = number_to 100000000 digits
 
+-- ---- the values of options
+
+-- docs/FORMATS.md, Words (5.1.2.2.1p2): the value of `--zap`: whether a pointer to what has ended is indeterminate (6.2.4p2)
+abbrev pub zap_of : List ℕ → Option Bool
+zap_of word = if bytes_eq word (codes "on") then Some true else if bytes_eq word (codes "off") then Some false else None
+
+-- docs/FORMATS.md, Words (the memory model: sides of a pair): the letter `l` is the low side, `h` the high one
+abbrev pub is_side : ℕ → Bool
+is_side letter = letter == 108 || letter == 104
+
+-- docs/FORMATS.md, Words (the memory model: sides of pairs): the value of `--sides`: `-` for no sides, or one or more letters
+abbrev pub are_sides : List ℕ → Bool
+are_sides word = bytes_eq word (codes "-") || nat_lt 0 (length word) && list_all is_side word
+
+-- docs/FORMATS.md, Words (the memory model: sides of pairs): the sides that it says, of each whether it is the high one
+abbrev pub sides_in : List ℕ → List Bool
+sides_in word = if bytes_eq word (codes "-") then [] else map (λ letter. letter == 104) word
+
 -- ---- options
 
--- docs/FORMATS.md, Words (5.1.2.2.1p2): what the options of a run say: the script's file, the bound, and the watchers
+-- docs/FORMATS.md, Words (5.1.2.2.1p2): what the options of a run or of a settled run say: the script's file, the bound, whether a pointer to what has
+-- ended is indeterminate (6.2.4p2), the sides of pairs (the memory model), and the watchers
 pub record Options : Type 0 where
   pub script : Option (List ℕ)
   pub turns : Option ℕ
+  pub zap : Option Bool
+  pub sides : Option (List Bool)
   pub watched : Watched
 
--- docs/FORMATS.md, Words (5.1.2.2.1p2): without an option there is no script, no bound is said, and nobody watches
+-- docs/FORMATS.md, Words (5.1.2.2.1p2): without an option there is no script, nothing else is said, and nobody watches
 abbrev pub no_options : Options
-no_options = record { script = None; turns = None; watched = nobody }
+no_options = record { script = None; turns = None; zap = None; sides = None; watched = nobody }
 
 -- docs/FORMATS.md, Words (5.1.2.2.1p2): a script's file is named once at most, by at least one byte
-abbrev pub script_once : Option (List ℕ) → Option ℕ → Watched → List ℕ → Option Options
-script_once (Some other) turns watched name = None
-script_once None turns watched name = if nat_lt 0 (length name) then Some (record { script = Some name; turns = turns; watched = watched }) else None
+abbrev pub script_once : Option (List ℕ) → Options → List ℕ → Option Options
+script_once (Some other) o name = None
+script_once None o name = if nat_lt 0 (length name) then Some (record o { script = Some name }) else None
 
 -- docs/FORMATS.md, Words (5.1.2.2.1p2): `--script` with this value
 abbrev pub with_script : Options → List ℕ → Option Options
-with_script o name = script_once o.script o.turns o.watched name
+with_script o name = script_once o.script o name
 
 -- docs/FORMATS.md, Words (5.1.2.2.1p2): a bound is given once at most
-abbrev pub turns_once : Option (List ℕ) → Option ℕ → Watched → List ℕ → Option Options
-turns_once script (Some other) watched digits = None
-turns_once script None watched digits = option_map (λ n. record { script = script; turns = Some n; watched = watched }) (turns_of digits)
+abbrev pub turns_once : Option ℕ → Options → List ℕ → Option Options
+turns_once (Some other) o digits = None
+turns_once None o digits = option_map (λ n. record o { turns = Some n }) (turns_of digits)
 
 -- docs/FORMATS.md, Words (5.1.2.2.1p2): `--turns` with this value
 abbrev pub with_turns : Options → List ℕ → Option Options
-with_turns o digits = turns_once o.script o.turns o.watched digits
+with_turns o digits = turns_once o.turns o digits
+
+-- docs/FORMATS.md, Words (5.1.2.2.1p2): `--zap` stands once at most
+abbrev pub zap_once : Option Bool → Options → List ℕ → Option Options
+zap_once (Some other) o word = None
+zap_once None o word = option_map (λ z. record o { zap = Some z }) (zap_of word)
+
+-- docs/FORMATS.md, Words (5.1.2.2.1p2): `--zap` with this value
+abbrev pub with_zap : Options → List ℕ → Option Options
+with_zap o word = zap_once o.zap o word
+
+-- docs/FORMATS.md, Words (the memory model): sides are given once at most
+abbrev pub sides_once : Option (List Bool) → Options → List ℕ → Option Options
+sides_once (Some other) o word = None
+sides_once None o word = if are_sides word then Some (record o { sides = Some (sides_in word) }) else None
+
+-- docs/FORMATS.md, Words (the memory model): `--sides` with this value
+abbrev pub with_sides : Options → List ℕ → Option Options
+with_sides o word = sides_once o.sides o word
 
 -- docs/FORMATS.md, Words (5.1.2.2.1p2): each watcher is asked for once at most
 abbrev pub watch_once : (wanted : Bool) → Watched → Option Watched
@@ -79,44 +121,67 @@ one_more w word =
 
 -- docs/FORMATS.md, Words (5.1.2.2.1p2): `--watch` with this value
 abbrev pub with_watch : Options → List ℕ → Option Options
-with_watch o word = option_map (λ w. record { script = o.script; turns = o.turns; watched = w }) (one_more o.watched word)
+with_watch o word = option_map (λ w. record o { watched = w }) (one_more o.watched word)
+
+-- docs/FORMATS.md, Words (5.1.2.2.1p2): the option that a mode has by itself: `run` has watchers, `settle` has sides (the memory model)
+abbrev pub with_own : Mode → Options → (name value : List ℕ) → Option Options
+with_own whose.Run o name value = if bytes_eq name (codes "--watch") then with_watch o value else None
+with_own whose.Settle o name value = if bytes_eq name (codes "--sides") then with_sides o value else None
 
 -- docs/FORMATS.md, Words (5.1.2.2.1p2): one option more: its word and its value
-abbrev pub with_option : Options → (name value : List ℕ) → Option Options
-with_option o name value =
+abbrev pub with_option : Mode → Options → (name value : List ℕ) → Option Options
+with_option m o name value =
     if bytes_eq name (codes "--script") then with_script o value
     else if bytes_eq name (codes "--turns") then with_turns o value
-    else if bytes_eq name (codes "--watch") then with_watch o value else None
+    else if bytes_eq name (codes "--zap") then with_zap o value else with_own m o name value
 
 -- docs/FORMATS.md, Words (5.1.2.2.1p2): options in any order, each a word and its value
-abbrev pub options : Options → List (List ℕ) → Option Options
-options o [] = Some o
-options o (name ∷ []) = None
-options o (name ∷ value ∷ rest) = option_and_then (λ p. options p rest) (with_option o name value)
+abbrev pub options : Mode → Options → List (List ℕ) → Option Options
+options m o [] = Some o
+options m o (name ∷ []) = None
+options m o (name ∷ value ∷ rest) = option_and_then (λ p. options m p rest) (with_option m o name value)
 
 -- ---- jobs
 
+-- docs/FORMATS.md, Words (5.1.2.2.1p2): the bound that the options say, or that of a run whose options don't
+abbrev pub bound_said : Options → ℕ
+bound_said o = unwrap_or o.turns default_turns
+
+-- docs/FORMATS.md, Words (6.2.4p2): whether a pointer to what has ended is indeterminate; it is, unless the options say that it isn't
+abbrev pub zap_said : Options → Bool
+zap_said o = unwrap_or o.zap true
+
 -- docs/FORMATS.md, Words (5.1.2.2.1p2): a run of this file, as its options say
 abbrev pub run_by : (file : List ℕ) → Options → FileJob
-run_by file o = record { file = file; script = o.script; task = task.Run (unwrap_or o.turns default_turns); watched = o.watched }
+run_by file o = record { file = file; script = o.script; task = task.Run (bound_said o) (zap_said o); sides = None; watched = o.watched }
 
 -- docs/FORMATS.md, Words (5.1.2.2.1p2): `run FILE` with these words behind it
 abbrev pub run_of : (file : List ℕ) → List (List ℕ) → Option FileJob
-run_of file rest = option_map (run_by file) (options no_options rest)
+run_of file rest = option_map (run_by file) (options whose.Run no_options rest)
+
+-- docs/FORMATS.md, Words (the memory model): a settled run of this file, as its options say
+abbrev pub settled_by : (file : List ℕ) → Options → FileJob
+settled_by file o = record { file = file; script = o.script; task = task.Settle (bound_said o) (zap_said o); sides = o.sides; watched = nobody }
+
+-- docs/FORMATS.md, Words (the memory model): `settle FILE` with these words behind it
+abbrev pub settle_of : (file : List ℕ) → List (List ℕ) → Option FileJob
+settle_of file rest = option_map (settled_by file) (options whose.Settle no_options rest)
 
 -- docs/FORMATS.md, Words (5.1.2.2.1p2): what describes a source has no options
 abbrev pub described : Task → (file : List ℕ) → List (List ℕ) → Option FileJob
-described t file [] = Some (record { file = file; script = None; task = t; watched = nobody })
+described t file [] = Some (record { file = file; script = None; task = t; sides = None; watched = nobody })
 described t file (word ∷ words) = None
 
 -- docs/FORMATS.md, Words (5.1.2.2.1p2): what a mode asks of a file, with these words behind it
 abbrev pub asked : (mode file : List ℕ) → List (List ℕ) → Option FileJob
 asked mode file rest =
     if bytes_eq mode (codes "run") then run_of file rest
+    else if bytes_eq mode (codes "settle") then settle_of file rest
     else if bytes_eq mode (codes "check") then described task.Check file rest
     else if bytes_eq mode (codes "layout") then described task.Layout file rest else None
 
--- docs/FORMATS.md, Words (5.1.2.2.1p2): `run FILE` with `--script F`, `--turns N` and `--watch W` or without, `check FILE`, `layout FILE`, where FILE and F have a byte
+-- docs/FORMATS.md, Words (5.1.2.2.1p2): `run FILE` with `--script F`, `--turns N`, `--zap V` and `--watch W` or without, `settle FILE` with `--script F`,
+-- `--turns N`, `--zap V` and `--sides S` or without, `check FILE`, `layout FILE`, where FILE and F have a byte
 abbrev pub file_job : List (List ℕ) → Option FileJob
 file_job [] = None
 file_job (mode ∷ []) = None
@@ -142,7 +207,13 @@ job words = either (generated words) (file_job words)
 
 -- docs/FORMATS.md, Words (5.1.2.2.1p2): the job that was read of the words
 abbrev pub asked_job : Asked → FileJob
-asked_job a = record { file = a.file.now; script = option_map (λ s. s.now) a.script; task = a.task; watched = a.watched }
+asked_job a = record {
+  file = a.file.now;
+  script = option_map (λ s. s.now) a.script;
+  task = a.task;
+  sides = option_map (λ s. sides_in s.now) a.sides;
+  watched = a.watched;
+}
 
 -- docs/FORMATS.md, Words (5.1.2.2.1p2): it is the job that the words ask for, or they ask for none
 abbrev pub IsAsked : Option Asked → (wanted : Option FileJob) → Type 0
@@ -150,7 +221,13 @@ IsAsked read wanted = MatchOption read (wanted ≡ None) (λ a. wanted ≡ Some 
 
 -- docs/FORMATS.md, Words (5.1.2.2.1p2): the options that were read
 abbrev pub options_read : ReadOptions → Options
-options_read o = record { script = option_map (λ s. s.now) o.script; turns = o.turns; watched = o.watched }
+options_read o = record {
+  script = option_map (λ s. s.now) o.script;
+  turns = o.turns;
+  zap = o.zap;
+  sides = option_map (λ s. sides_in s.now) o.sides;
+  watched = o.watched;
+}
 
 -- docs/FORMATS.md, Words (5.1.2.2.1p2): they are the options that the words say, or the words are no options
 abbrev pub AreOptions : Option ReadOptions → (wanted : Option Options) → Type 0

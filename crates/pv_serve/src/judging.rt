@@ -1,5 +1,6 @@
 //! What a source with its script comes to: the end of its run, or why it has none.
-ghost use Rattle.std.specs.Prelude.{◌≡◌, ◌<◌, ◌≤◌, ◌+◌, ◌++◌, ◌⊎◌, ℕ, true, List, length, take, None, Some, IfOk, IfErr};
+ghost use Rattle.std.specs.Prelude.{◌≡◌, ◌<◌, ◌≤◌, ◌+◌, ◌++◌, ◌⊎◌, ℕ, Bool, List, length, take, Some, IfOk, IfErr};
+ghost use Rattle.std.specs.declared.option.Option.{Option};
 ghost use Rattle.std.specs.List.{flat_map};
 ghost use Rattle.pv_script.specs.Lines.{ScriptLine};
 ghost use Rattle.pv_watch.specs.Slots.{Slot};
@@ -41,8 +42,9 @@ pub enum Judged {
 
 /// Runs a source with a script of addresses (C17 5.1.2). What the run prints goes to `out`, and those in the hall are told of its memory.
 ///
-/// At most as many turns are taken as the bound allows. Without sides each pair of candidates is settled at the first use that tells them
-/// apart. With sides each stands for its side from its making, and a run that makes more pairs ends at the first that has none.
+/// At most as many turns are taken as the bound allows. With `zap` a pointer to what has ended is indeterminate (C17 6.2.4p2), and its use
+/// undefined; without, it may be read. Without sides each pair of candidates is settled at the first use that tells them apart. With sides each
+/// stands for its side from its making, and a run that makes more pairs ends at the first that has none.
 ///
 /// A source that is too long is refused before its script is read, the script before the source is.
 pub fn judge<O: Sink>(
@@ -50,20 +52,21 @@ pub fn judge<O: Sink>(
     source: &[u8],
     script: &[u8],
     bound: u64,
+    zap: bool,
     sides: Option<&[Side]>,
     out: &mut O,
     hall: &mut Hall,
 ) -> Result<Judged, RunError>
     requires { IsBound bound }
-    ensures judged { IfOk result (IsOutcome source.now script.now bound (highs sides.entry (λ x. x.now))
+    ensures judged { IfOk result (IsOutcome source.now script.now bound zap (highs sides.entry (λ x. x.now))
         (sunk O.written O.faults out.old out.new) (halls hall.old hall.new its_kind its_wants seen)) }
-    ensures part { IfErr result (IsUnfinished source.now script.now bound (highs sides.entry (λ x. x.now))
+    ensures part { IfErr result (IsUnfinished source.now script.now bound zap (highs sides.entry (λ x. x.now))
         (sunk O.written O.faults out.old out.new) (halls hall.old hall.new its_kind its_wants seen)) }
     ensures cause { HasFault result (O.faults out.old) (O.faults out.new) }
 {
     match load(alloc, source, script) {
         Ok(Loaded::Program { unit, lines }) => {
-            run_program(alloc, unit, lines, bound, sides, out, hall)
+            run_program(alloc, unit, lines, bound, zap, sides, out, hall)
         }
         Ok(Loaded::Source(why)) => Ok(Judged::Source(why)),
         Ok(Loaded::Script(why)) => Ok(Judged::Script(why)),
@@ -77,19 +80,20 @@ fn run_program<O: Sink>(
     unit: TypedUnit,
     lines: Script,
     bound: u64,
+    zap: bool,
     sides: Option<&[Side]>,
     out: &mut O,
     hall: &mut Hall,
 ) -> Result<Judged, RunError>
     requires fit { IsFit unit }
     requires bound { IsBound bound }
-    ensures judged { (source script : List ℕ) → IsLoadedProgram source script unit lines → IfOk result (IsOutcome source script bound
+    ensures judged { (source script : List ℕ) → IsLoadedProgram source script unit lines → IfOk result (IsOutcome source script bound zap
         (highs sides.entry (λ x. x.now)) (sunk O.written O.faults out.old out.new) (halls hall.old hall.new its_kind its_wants seen)) }
-    ensures part { (source script : List ℕ) → IsLoadedProgram source script unit lines → IfErr result (IsUnfinished source script bound
+    ensures part { (source script : List ℕ) → IsLoadedProgram source script unit lines → IfErr result (IsUnfinished source script bound zap
         (highs sides.entry (λ x. x.now)) (sunk O.written O.faults out.old out.new) (halls hall.old hall.new its_kind its_wants seen)) }
     ensures cause { HasFault result (O.faults out.old) (O.faults out.new) }
 {
-    match run_unit(alloc, unit, lines, bound, sides, out, hall) {
+    match run_unit(alloc, unit, lines, bound, zap, sides, out, hall) {
         Ok(named) => Ok(Judged::Ran {
             ran: named.ran,
             names: named.names,
@@ -111,6 +115,7 @@ pub(crate) fn run_unit<O: Sink>(
     unit: TypedUnit,
     lines: Script,
     bound: u64,
+    zap: bool,
     sides: Option<&[Side]>,
     out: &mut O,
     hall: &mut Hall,
@@ -118,12 +123,12 @@ pub(crate) fn run_unit<O: Sink>(
     requires fit { IsFit unit }
     requires bound { IsBound bound }
     ensures ran { IfOk result (λ r. IsRan (sunk O.written O.faults out.old out.new) (halls hall.old hall.new its_kind its_wants seen)
-        r.ran r.names (run_of (setting_of unit bound (highs sides.entry (λ x. x.now)) true) lines) unit.names) }
+        r.ran r.names (run_of (setting_of unit bound (highs sides.entry (λ x. x.now)) zap) lines) unit.names) }
     ensures left { IfErr result (λ e. IsLeft (sunk O.written O.faults out.old out.new) (halls hall.old hall.new its_kind its_wants seen)
-        e (run_of (setting_of unit bound (highs sides.entry (λ x. x.now)) true) lines) unit.names) }
+        e (run_of (setting_of unit bound (highs sides.entry (λ x. x.now)) zap) lines) unit.names) }
     ensures cause { HasFault result (O.faults out.old) (O.faults out.new) }
 {
-    match run(alloc, &unit, lines, bound, true, sides, out, hall) {
+    match run(alloc, &unit, lines, bound, zap, sides, out, hall) {
         Ok(ran) => {
             let names = names_of(alloc, unit);
             Ok(Named { ran, names })
@@ -140,26 +145,27 @@ fn names_of(alloc: Global, unit: TypedUnit) -> Names
     mem::replace(unit.names_mut(), Names::new(alloc))
 }
 
-/// A law: a source comes to one verdict, with each script and whatever is done with it. If it is run, its verdict is an end of that run.
+/// A law: a source comes to one verdict, with each script, whatever is done with it and whatever sides are given. If it is run, its verdict is an end of
+/// that run.
 pub fn one_verdict()
-    ensures some { (source script : List ℕ) (t : Task)
-        → ((v : Verdict) × HasVerdict source script t v) ⊎ IsLeftToRun source script t }
-    ensures one { (source script : List ℕ) (t : Task) (v w : Verdict)
-        → HasVerdict source script t v → HasVerdict source script t w → (v ≡ w) ⊎ BothRun source script t v w }
+    ensures some { (source script : List ℕ) (t : Task) (sides : Option (List Bool))
+        → ((v : Verdict) × HasVerdict source script t sides v) ⊎ IsLeftToRun source script t sides }
+    ensures one { (source script : List ℕ) (t : Task) (sides : Option (List Bool)) (v w : Verdict)
+        → HasVerdict source script t sides v → HasVerdict source script t sides w → (v ≡ w) ⊎ BothRun source script t sides v w }
 {}
 
-/// A law: a run of the same tables, with the same script and bound, has no two ends.
+/// A law: a run of the same tables, with the same script, bound, `zap` and sides, has no two ends.
 pub fn one_end()
-    ensures { (u : Stored) (lines : List ScriptLine) (bound : ℕ) (names : List (List ℕ)) (e f : Ending) →
-        let run = run_of (setting_of u bound None true) lines in Ends run names e → Ends run names f → e ≡ f }
+    ensures { (u : Stored) (lines : List ScriptLine) (bound : ℕ) (zap : Bool) (sides : Option (List Bool)) (names : List (List ℕ)) (e f : Ending) →
+        let run = run_of (setting_of u bound sides zap) lines in Ends run names e → Ends run names f → e ≡ f }
 {}
 
 /// A law: of a source and of a script, one byte above the limit tells as much as all that follow.
 pub fn first_bytes_decide()
-    ensures more { (all text : List ℕ) (t : Task) (v : Verdict) →
-        HasVerdict (take (source_limit + 1) all) (take (script_limit + 1) text) t v → HasVerdict all text t v }
-    ensures fewer { (all text : List ℕ) (t : Task) (v : Verdict) →
-        HasVerdict all text t v → HasVerdict (take (source_limit + 1) all) (take (script_limit + 1) text) t v }
+    ensures more { (all text : List ℕ) (t : Task) (sides : Option (List Bool)) (v : Verdict) →
+        HasVerdict (take (source_limit + 1) all) (take (script_limit + 1) text) t sides v → HasVerdict all text t sides v }
+    ensures fewer { (all text : List ℕ) (t : Task) (sides : Option (List Bool)) (v : Verdict) →
+        HasVerdict all text t sides v → HasVerdict (take (source_limit + 1) all) (take (script_limit + 1) text) t sides v }
 {}
 
 /// A law: watchers that had seen nothing before a run say behind its line, in their order, each the text of its kind over the first

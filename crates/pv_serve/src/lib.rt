@@ -2,23 +2,29 @@
 //!
 //! [`serve`] does all that the program does, over whatever files and sinks it is handed: it reads the words, the source
 //! and its script of addresses, judges them, and reports. [`judge`] goes from the bytes of a source to the end of its run,
-//! which [`line`] and [`status`] tell, and [`check`] to its typing.
+//! which [`line`] and [`status`] tell, and [`check`] to its typing. What a program with other words needs of these stands
+//! by itself: [`read_job`], [`tell`] and [`number_to`].
 #![tactic(auto)]
 
 mod checking;
 mod error;
 mod judging;
 mod loading;
+mod reading;
 mod report;
 mod serving;
+mod sides;
 mod tasks;
+mod telling;
 mod text;
 mod words;
 
-pub use checking::{Refused, check};
+pub use checking::{Refused, SOURCE_LIMIT, check};
 pub use error::NoMemory;
 pub use judging::{Judged, judge};
+pub use reading::{JobText, SCRIPT_LIMIT, read_job};
 pub use report::{line, status};
-pub use serving::{NO_MEMORY, serve, serve_calmly};
+pub use serving::{serve, serve_calmly};
+pub use telling::{NO_JOB, NO_MEMORY, READ_FAULT, WRITE_FAULT, tell};
 pub use text::Text;
-pub use words::{Task, Watched};
+pub use words::{DEFAULT_TURNS, MOST_TURNS, Task, Watched, number_to};

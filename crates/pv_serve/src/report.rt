@@ -1,5 +1,5 @@
 // The report: one line, and the status that goes with it.
-ghost use Rattle.std.specs.Prelude.{◌≡◌, ◌<◌, ◌⊎◌, List, ℕ, IfOk, string_bytes};
+ghost use Rattle.std.specs.Prelude.{◌≡◌, ◌<◌, ◌⊎◌, ◌++◌, List, ℕ, IfOk, string_bytes};
 ghost use Rattle.pv_script.specs.Names.{name_at};
 ghost use Rattle.pv_serve.specs.Report as specified;
 ghost use Rattle.pv_serve.specs.Readings.{refusal_of, lexical_refusal, typing_refusal};
@@ -10,7 +10,7 @@ use crate::NoMemory;
 use crate::checking::Refused;
 use crate::judging::Judged;
 use crate::tasks::Judgement;
-use pv_exec::{Outcome, Ran};
+use pv_exec::{Outcome, Ran, Side, Sides};
 use pv_lex::LexError;
 use pv_num::{Fault, Reason};
 use pv_script::{Names, ScriptError};
@@ -38,6 +38,7 @@ pub(crate) fn task_status(judgement: &Judgement) -> u8
         Judgement::Script(_) => 9,
         Judgement::Described { .. } => 0,
         Judgement::Ran { ran, .. } => run_status(ran.outcome),
+        Judgement::Settled { ran, .. } => run_status(ran.outcome),
     }
 }
 
@@ -70,13 +71,19 @@ pub fn line(alloc: Global, j: &Judged, bound: u64) -> Result<Vec<u8>, NoMemory>
     }
 }
 
-/// The line that tells a judgement, with its line feed; of a source that is described, its text. The only error is want
-/// of memory.
+/// The line that tells a judgement, with its line feed, and behind it the line of its sides where they are listed; of a source that is described,
+/// its text. The only error is want of memory.
 pub(crate) fn task_line(alloc: Global, judgement: &Judgement) -> Result<Vec<u8>, NoMemory>
     ensures { (shown : Shown) → IfOk result (λ v. v.items ≡ specified.report_line (verdict_of judgement.now shown)) }
 {
     match judgement {
         Judgement::Ran { ran, names, bound } => run_line(alloc, ran, names, *bound),
+        Judgement::Settled {
+            ran,
+            names,
+            bound,
+            listed,
+        } => settled_lines(alloc, ran, names, *bound, *listed),
         Judgement::Described { text } => Ok(Vec::from_slice(alloc, text)?),
         Judgement::Source(refused) => refusal_line(alloc, refused),
         Judgement::Script(why) => script_line(alloc, *why),
@@ -111,6 +118,80 @@ fn run_line(alloc: Global, ran: &Ran, names: &Names, bound: u64) -> Result<Vec<u
         Outcome::SidesEnded { pair } => {
             Ok(format!(in alloc; "sides ended pair={pair}\n")?.into_bytes())
         }
+    }
+}
+
+// The line of a settled run, and behind it that of its sides, where they are listed and say something.
+fn settled_lines(
+    alloc: Global,
+    ran: &Ran,
+    names: &Names,
+    bound: u64,
+    listed: bool,
+) -> Result<Vec<u8>, NoMemory>
+    ensures { IfOk result (λ v. v.items ≡ specified.outcome_line ran.now.outcome names.now ran.now.turns bound
+        ++ specified.listed_sides listed ran.now.outcome ran.now.sides) }
+{
+    let mut text = run_line(alloc, ran, names, bound)?;
+    if listed && is_decided(ran.outcome) {
+        let line = sides_line(alloc, &ran.sides)?;
+        text.extend_from_slice(line.as_slice())?;
+    }
+    Ok(text)
+}
+
+// Whether the sides of a run that ended so are told.
+fn is_decided(outcome: Outcome) -> bool
+    ensures { result ≡ specified.is_decided outcome }
+{
+    match outcome {
+        Outcome::Exit { .. } => true,
+        Outcome::Undefined { .. } => false,
+        Outcome::Indeterminate { .. } => true,
+        Outcome::Undecided { .. } => false,
+        Outcome::Placement { .. } => true,
+        Outcome::Storage { .. } => true,
+        Outcome::Turns => true,
+        Outcome::Abort { .. } => true,
+        Outcome::SidesEnded { .. } => true,
+    }
+}
+
+// The line of the sides of a run.
+fn sides_line(alloc: Global, sides: &Sides) -> Result<Vec<u8>, NoMemory>
+    ensures { IfOk result (λ v. v.items ≡ specified.sides_line sides.now) }
+{
+    let letters = letters_of(alloc, sides)?;
+    let mut line = Vec::from_slice(alloc, b"sides ")?;
+    line.extend_from_slice(letters.as_slice())?;
+    line.push(b'\n')?;
+    Ok(line)
+}
+
+// A letter for each side, or `-` where there is none.
+fn letters_of(alloc: Global, sides: &Sides) -> Result<Vec<u8>, NoMemory>
+    ensures { IfOk result (λ v. v.items ≡ specified.letters_of sides.now) }
+{
+    let count = sides.len();
+    if count == 0 {
+        return Ok(Vec::from_slice(alloc, b"-")?);
+    }
+    let mut letters = Vec::new(alloc);
+    let mut k = 0;
+    'sides: while k < count {
+        letters.push(letter_of(sides.at(k)))?;
+        k += 1;
+    }
+    Ok(letters)
+}
+
+// The letter of a side.
+fn letter_of(side: Side) -> u8
+    ensures { result ≡ specified.letter_of side }
+{
+    match side {
+        Side::Low => b'l',
+        Side::High => b'h',
     }
 }
 

@@ -1,42 +1,29 @@
 // The top call: what one call of the program does from its words to its status.
-ghost use Rattle.std.specs.Prelude.{◌≡◌, ◌≢◌, ◌⊎◌, ◌+◌, ◌<◌, ◌≤◌, ⊤, ℕ, [], List, take, Some, IfSome, option_map, IsNone, IfOk, OnOk, IsErrOf};
+ghost use Rattle.std.specs.Prelude.{◌≡◌, ◌⊎◌, ◌<◌, ◌≤◌, ⊤, ℕ, true, [], List, None, Some, IsNone, IfOk, OnOk};
 ghost use Rattle.std.specs.List.{filter};
-ghost use Rattle.pv_script.specs.Outside.{Rose, Gains, GainsPrefix};
 ghost use Rattle.pv_watch.specs.Slots.{is_kept};
 ghost use Rattle.pv_gen.specs.Source.{source_text};
-ghost use Rattle.pv_exec.specs.Answering.{hall_slots};
-ghost use Rattle.pv_serve.specs.Jobs.{IsTask, Files as JobOfFiles, Generated, script_files, kinds_of, default_turns};
+ghost use Rattle.pv_exec.specs.Answering.{hall_slots, highs};
+ghost use Rattle.pv_serve.specs.Jobs.{IsTask, Generated, kinds_of, default_turns};
 ghost use Rattle.pv_serve.specs.Words.{texts, file_job as file_job_of, job as job_of, asked_job};
-ghost use Rattle.pv_serve.specs.Comes.{source_limit};
-ghost use Rattle.pv_serve.specs.Judged.{script_limit};
-ghost use Rattle.pv_serve.specs.Answer.{SomeAnswer, script_held};
+ghost use Rattle.pv_serve.specs.Answer.{SomeAnswer};
 ghost use Rattle.pv_serve.specs.Outside.{sunk, halls};
-ghost use Rattle.pv_serve.specs.Causes.{Call, Served, IsAnswer, AnyRose, JobRose};
-ghost use Rattle.pv_serve.specs.Serving.{Answered, FilesServed, HasStory, Reported, IsGiven, IsReportOn, kept_halls};
+ghost use Rattle.pv_serve.specs.Causes.{Call, Served, IsAnswer};
+ghost use Rattle.pv_serve.specs.Serving.{Answered, FilesServed, HasStory, Reported, IsReportOn, kept_halls};
 ghost use Rattle.pv_script.specs.Memory.{calm_held, calm_written};
 
 use crate::NoMemory;
-use crate::checking::SOURCE_LIMIT;
+use crate::reading::{JobText, read_job};
 use crate::report::{task_line, task_status};
+use crate::sides::sides_in;
 use crate::tasks::{Judgement, judge_task};
+use crate::telling::{NO_JOB, NO_MEMORY, READ_FAULT, WRITE_FAULT, tell};
 use crate::words::{Asked, COUNTED, DEFAULT_TURNS, Task, Watched, file_job, generated, kinds_of};
-use pv_exec::RunError;
+use pv_exec::{RunError, Side};
 use pv_gen::source;
-use pv_script::{CalmFiles, CalmSink, Files, Names, ReadError, Sink, read_all, write_all};
+use pv_script::{CalmFiles, CalmSink, Files, Names, ReadError, Sink};
 use pv_watch::{Hall, Watch};
 use std::alloc::Global;
-
-const NO_JOB: u8 = 10;
-
-const READ_FAULT: u8 = 11;
-
-const WRITE_FAULT: u8 = 12;
-
-/// The status where memory ran out.
-pub const NO_MEMORY: u8 = 13;
-
-/// The most bytes that a script may have.
-const SCRIPT_LIMIT: usize = 65_536;
 
 /// Does all that the program does, and answers its status.
 ///
@@ -120,7 +107,7 @@ fn run_generated<O: Sink, R: Sink>(
     hall: &mut Hall,
 ) -> u8
     requires number { (0 < number) × (number ≤ 8192) }
-    ensures { Answered (source_text number) [] (Task.Run default_turns)
+    ensures { Answered (source_text number) [] (Task.Run default_turns true) None
         (sunk O.written O.faults out.old out.new) (sunk R.written R.faults report.old report.new)
         (kept_halls (Generated number) (halls hall.old hall.new its_kind its_wants seen)) result }
 {
@@ -130,9 +117,10 @@ fn run_generated<O: Sink, R: Sink>(
     }
     let task = Task::Run {
         bound: DEFAULT_TURNS,
+        zap: true,
     };
     match source(alloc, number) {
-        Ok(text) => answer(alloc, text.as_slice(), b"", task, out, report, hall),
+        Ok(text) => answer(alloc, text.as_slice(), b"", task, None, out, report, hall),
         Err(_) => NO_MEMORY,
     }
 }
@@ -152,97 +140,57 @@ fn run_files<F: Files, O: Sink, R: Sink>(
         (halls hall.old hall.new its_kind its_wants seen) result }
     ensures files_same { (n : List ℕ) → F.held files.new n ≡ F.held files.old n }
 {
-    match read_given(alloc, files, asked) {
+    match read_job(alloc, files, asked.file, asked.script) {
         Err(ReadError::NoMemory) => NO_MEMORY,
         Err(ReadError::Fault) => tell(report, b"fault read\n", READ_FAULT),
-        Ok(given) => answer(
-            alloc,
-            given.source.as_slice(),
-            given.script.as_slice(),
-            asked.task,
-            out,
-            report,
-            hall,
-        ),
+        Ok(text) => answer_asked(alloc, asked, &text, out, report, hall),
     }
 }
 
-// The bytes of a job's files, up to one above what each may have.
-#[derive(Drop)]
-struct Given {
-    source: Vec<u8>,
-    script: Vec<u8>,
-}
-
-// Reads a job's files.
-fn read_given<F: Files>(alloc: Global, files: &mut F, asked: Asked<'_>) -> Result<Given, ReadError>
-    ensures read { IfOk result (λ g. IsGiven (asked_job asked.entry) (F.held files.old) g.source.items g.script.items) }
-    ensures same { (n : List ℕ) → F.held files.new n ≡ F.held files.old n }
-    ensures cause { IsErrOf result ReadError.Fault →
-        JobRose (Some (JobOfFiles (asked_job asked.entry))) (F.faults files.old) (F.faults files.new) }
-{
-    match read_all(alloc, files, asked.file, SOURCE_LIMIT) {
-        Ok(source) => with_script(alloc, files, asked, source),
-        Err(error) => Err(error),
-    }
-}
-
-// Reads the script too, unless the source is too long.
-fn with_script<F: Files>(
+// Answers the source and the script that were read of a file, by the sides that are asked for, if there are any.
+fn answer_asked<O: Sink, R: Sink>(
     alloc: Global,
-    files: &mut F,
     asked: Asked<'_>,
-    source: Vec<u8>,
-) -> Result<Given, ReadError>
-    requires { IfSome (F.held files.old asked.file.now) (λ all. source.items ≡ take (source_limit + 1) all) }
-    ensures read { IfOk result (λ g. IsGiven (asked_job asked.entry) (F.held files.old) g.source.items g.script.items) }
-    ensures same { (n : List ℕ) → F.held files.new n ≡ F.held files.old n }
-    ensures cause { IsErrOf result ReadError.Fault →
-        AnyRose (script_files (asked_job asked.entry).script) (F.faults files.old) (F.faults files.new) }
+    text: &JobText,
+    out: &mut O,
+    report: &mut R,
+    hall: &mut Hall,
+) -> u8
+    requires { IsTask asked.task }
+    ensures { Answered text.now.source.items text.now.script.items asked.entry.task (asked_job asked.entry).sides
+        (sunk O.written O.faults out.old out.new) (sunk R.written R.faults report.old report.new)
+        (halls hall.old hall.new its_kind its_wants seen) result }
 {
-    if source.len() > SOURCE_LIMIT {
-        let script = Vec::new(alloc);
-        return Ok(Given { source, script });
-    }
-    match script_given(alloc, files, asked.script) {
-        Ok(script) => Ok(Given { source, script }),
-        Err(error) => Err(error),
+    let source = text.source.as_slice();
+    let script = text.script.as_slice();
+    let Some(word) = asked.sides else {
+        return answer(alloc, source, script, asked.task, None, out, report, hall);
+    };
+    match sides_in(alloc, word) {
+        Ok(sides) => {
+            let sides = Some(sides.as_slice());
+            answer(alloc, source, script, asked.task, sides, out, report, hall)
+        }
+        Err(_) => NO_MEMORY,
     }
 }
 
-// Reads a script, if one is named; where none is, it has no bytes.
-fn script_given<F: Files>(
-    alloc: Global,
-    files: &mut F,
-    name: Option<&str>,
-) -> Result<Vec<u8>, ReadError>
-    ensures read { IfOk result (λ v. IfSome (script_held (option_map (λ s. s.now) name.entry) (F.held files.old))
-        (λ text. v.items ≡ take (script_limit + 1) text)) }
-    ensures same { (n : List ℕ) → F.held files.new n ≡ F.held files.old n }
-    ensures cause { IsErrOf result ReadError.Fault →
-        AnyRose (script_files (option_map (λ s. s.now) name.entry)) (F.faults files.old) (F.faults files.new) }
-{
-    match name {
-        Some(name) => read_all(alloc, files, name, SCRIPT_LIMIT),
-        None => Ok(Vec::new(alloc)),
-    }
-}
-
-// Judges a source with its script before those who watch, and reports.
+// Judges a source with its script and sides, if there are any, before those who watch, and reports.
 fn answer<O: Sink, R: Sink>(
     alloc: Global,
     source: &[u8],
     script: &[u8],
     task: Task,
+    sides: Option<&[Side]>,
     out: &mut O,
     report: &mut R,
     hall: &mut Hall,
 ) -> u8
     requires { IsTask task }
-    ensures { Answered source.now script.now task (sunk O.written O.faults out.old out.new)
+    ensures { Answered source.now script.now task (highs sides.entry (λ x. x.now)) (sunk O.written O.faults out.old out.new)
         (sunk R.written R.faults report.old report.new) (halls hall.old hall.new its_kind its_wants seen) result }
 {
-    match judge_task(alloc, source, script, task, out, hall) {
+    match judge_task(alloc, source, script, task, sides, out, hall) {
         Err(RunError::NoMemory) => NO_MEMORY,
         Err(RunError::WriteFault) => WRITE_FAULT,
         Ok(judgement) => told(alloc, &judgement, report, hall),
@@ -267,6 +215,7 @@ fn report_of(alloc: Global, judgement: &Judgement, hall: &Hall) -> Result<Vec<u8
     let text = task_line(alloc, judgement)?;
     match judgement {
         Judgement::Ran { names, .. } => with_story(text, names, hall),
+        Judgement::Settled { .. } => Ok(text),
         Judgement::Described { .. } => Ok(text),
         Judgement::Source(_) => Ok(text),
         Judgement::Script(_) => Ok(text),
@@ -281,20 +230,6 @@ fn with_story(line: Vec<u8>, names: &Names, hall: &Hall) -> Result<Vec<u8>, NoMe
     let story = hall.texts(names)?;
     text.extend_from_slice(story.as_slice())?;
     Ok(text)
-}
-
-// Writes a line of the report.
-fn tell<R: Sink>(report: &mut R, text: &[u8], status: u8) -> u8
-    requires { status ≢ 12 }
-    ensures told { result ≢ 12 → (result ≡ status)
-        × Gains (R.written report.old) (R.written report.new) text.now }
-    ensures fault { result ≡ 12 → Rose (R.faults report.old) (R.faults report.new)
-        × GainsPrefix (R.written report.old) (R.written report.new) text.now }
-{
-    match write_all(report, text) {
-        Ok(()) => status,
-        Err(_) => WRITE_FAULT,
-    }
 }
 
 /// [`serve`] over files and sinks that never fail: an answer with all its bytes, or want of memory, for any words and files.

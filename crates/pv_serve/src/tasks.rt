@@ -1,11 +1,12 @@
 //! What a source with its script comes to by a task: it is run, or described, or refused.
-ghost use Rattle.std.specs.Prelude.{◌≡◌, ℕ, List, IfOk, IfErr};
+ghost use Rattle.std.specs.Prelude.{◌≡◌, ℕ, List, None, IfOk, IfErr};
 ghost use Rattle.pv_typed.specs.Tables.{whole};
 ghost use Rattle.pv_describe.specs.Describing as describing;
+ghost use Rattle.pv_exec.specs.Answering.{highs};
 ghost use Rattle.pv_serve.specs.Jobs.{IsTask, IsBound};
 ghost use Rattle.pv_serve.specs.Verdicts.{Described};
 ghost use Rattle.pv_serve.specs.Readings.{IsFit};
-ghost use Rattle.pv_serve.specs.Outside.{sunk, halls};
+ghost use Rattle.pv_serve.specs.Outside.{Halls, sunk, halls};
 ghost use Rattle.pv_serve.specs.Judging.{IsJudged, IsCutOff, nothing_shown, verdict_of, UnitJudged, UnitCutOff, HasFault};
 
 use crate::NoMemory;
@@ -14,7 +15,7 @@ use crate::judging::run_unit;
 use crate::loading::{Loaded, load};
 use crate::words::Task;
 use pv_describe::{check_text, layout_text};
-use pv_exec::{Ran, RunError};
+use pv_exec::{Ran, RunError, Side};
 use pv_script::{Names, Script, ScriptError, Sink};
 use pv_typed::TypedUnit;
 use pv_watch::{Hall, Watch};
@@ -24,34 +25,50 @@ use std::alloc::Global;
 #[derive(Drop)]
 pub(crate) enum Judgement {
     /// The unit, which has these names, was run, with at most so many turns.
-    Ran { ran: Ran, names: Names, bound: u64 },
+    Ran {
+        ran: Ran,
+        names: Names,
+        bound: u64,
+    },
+    /// The same of a run that is settled, or whose sides are listed.
+    Settled {
+        ran: Ran,
+        names: Names,
+        bound: u64,
+        listed: bool,
+    },
     /// It has a typing, and this text tells of it.
-    Described { text: Vec<u8> },
+    Described {
+        text: Vec<u8>,
+    },
     /// The source is refused.
     Source(Refused),
     /// The script is refused.
     Script(ScriptError),
 }
 
-/// Judges a source with a script of addresses: runs it, or describes it. What the run prints goes to `out`, and those in the hall are told
-/// of its memory.
+/// Judges a source with a script of addresses: runs it, settles it, by sides if any are given, or describes it. What the run prints goes to `out`,
+/// and those in the hall are told of the memory of a run, and not of that of a settled one.
 pub(crate) fn judge_task<O: Sink>(
     alloc: Global,
     source: &[u8],
     script: &[u8],
     task: Task,
+    sides: Option<&[Side]>,
     out: &mut O,
     hall: &mut Hall,
 ) -> Result<Judgement, RunError>
     requires { IsTask task }
-    ensures judged { IfOk result (IsJudged source.now script.now task
+    ensures judged { IfOk result (IsJudged source.now script.now task (highs sides.entry (λ x. x.now))
         (sunk O.written O.faults out.old out.new) (halls hall.old hall.new its_kind its_wants seen)) }
-    ensures part { IfErr result (IsCutOff source.now script.now task
+    ensures part { IfErr result (IsCutOff source.now script.now task (highs sides.entry (λ x. x.now))
         (sunk O.written O.faults out.old out.new) (halls hall.old hall.new its_kind its_wants seen)) }
     ensures cause { HasFault result (O.faults out.old) (O.faults out.new) }
 {
     match load(alloc, source, script) {
-        Ok(Loaded::Program { unit, lines }) => judge_unit(alloc, unit, lines, task, out, hall),
+        Ok(Loaded::Program { unit, lines }) => {
+            judge_unit(alloc, unit, lines, task, sides, out, hall)
+        }
         Ok(Loaded::Source(why)) => Ok(Judgement::Source(why)),
         Ok(Loaded::Script(why)) => Ok(Judgement::Script(why)),
         Err(NoMemory) => Err(RunError::NoMemory),
@@ -64,19 +81,21 @@ fn judge_unit<O: Sink>(
     unit: TypedUnit,
     lines: Script,
     task: Task,
+    sides: Option<&[Side]>,
     out: &mut O,
     hall: &mut Hall,
 ) -> Result<Judgement, RunError>
     requires fit { IsFit unit }
     requires task { IsTask task }
-    ensures judged { IfOk result (UnitJudged (whole unit) lines task
+    ensures judged { IfOk result (UnitJudged (whole unit) lines task (highs sides.entry (λ x. x.now))
         (sunk O.written O.faults out.old out.new) (halls hall.old hall.new its_kind its_wants seen)) }
-    ensures part { IfErr result (UnitCutOff (whole unit) lines task
+    ensures part { IfErr result (UnitCutOff (whole unit) lines task (highs sides.entry (λ x. x.now))
         (sunk O.written O.faults out.old out.new) (halls hall.old hall.new its_kind its_wants seen)) }
     ensures cause { HasFault result (O.faults out.old) (O.faults out.new) }
 {
     match task {
-        Task::Run { bound } => run_late(alloc, unit, lines, bound, out, hall),
+        Task::Run { bound, zap } => run_watched(alloc, unit, lines, bound, zap, out, hall),
+        Task::Settle { bound, zap } => run_settled(alloc, unit, lines, bound, zap, sides, out),
         Task::Check => checked(alloc, &unit),
         Task::Layout => laid_out(alloc, &unit),
     }
@@ -111,28 +130,62 @@ fn described(text: Result<Vec<u8>, pv_types::NoMemory>) -> Result<Judgement, Run
     }
 }
 
-// Runs a unit without sides.
-fn run_late<O: Sink>(
+// Runs a unit before those who watch.
+fn run_watched<O: Sink>(
     alloc: Global,
     unit: TypedUnit,
     lines: Script,
     bound: u64,
+    zap: bool,
     out: &mut O,
     hall: &mut Hall,
 ) -> Result<Judgement, RunError>
     requires fit { IsFit unit }
     requires bound { IsBound bound }
-    ensures judged { IfOk result (UnitJudged (whole unit) lines (Task.Run bound)
+    ensures judged { IfOk result (UnitJudged (whole unit) lines (Task.Run bound zap) None
         (sunk O.written O.faults out.old out.new) (halls hall.old hall.new its_kind its_wants seen)) }
-    ensures part { IfErr result (UnitCutOff (whole unit) lines (Task.Run bound)
+    ensures part { IfErr result (UnitCutOff (whole unit) lines (Task.Run bound zap) None
         (sunk O.written O.faults out.old out.new) (halls hall.old hall.new its_kind its_wants seen)) }
     ensures cause { HasFault result (O.faults out.old) (O.faults out.new) }
 {
-    match run_unit(alloc, unit, lines, bound, None, out, hall) {
+    match run_unit(alloc, unit, lines, bound, zap, None, out, hall) {
         Ok(named) => Ok(Judgement::Ran {
             ran: named.ran,
             names: named.names,
             bound,
+        }),
+        Err(error) => Err(error),
+    }
+}
+
+// Runs a unit before nobody, settled by these sides, or late where none are given.
+fn run_settled<O: Sink>(
+    alloc: Global,
+    unit: TypedUnit,
+    lines: Script,
+    bound: u64,
+    zap: bool,
+    sides: Option<&[Side]>,
+    out: &mut O,
+) -> Result<Judgement, RunError>
+    requires fit { IsFit unit }
+    requires bound { IsBound bound }
+    ensures judged { (hall : Halls) → hall.new ≡ hall.old → IfOk result (UnitJudged (whole unit) lines (Task.Settle bound zap)
+        (highs sides.entry (λ x. x.now)) (sunk O.written O.faults out.old out.new) hall) }
+    ensures part { (hall : Halls) → hall.new ≡ hall.old → IfErr result (UnitCutOff (whole unit) lines (Task.Settle bound zap)
+        (highs sides.entry (λ x. x.now)) (sunk O.written O.faults out.old out.new) hall) }
+    ensures cause { HasFault result (O.faults out.old) (O.faults out.new) }
+{
+    let mut nobody = match Hall::new(alloc, Vec::new(alloc)) {
+        Ok(hall) => hall,
+        Err(_) => return Err(RunError::NoMemory),
+    };
+    match run_unit(alloc, unit, lines, bound, zap, sides, out, &mut nobody) {
+        Ok(named) => Ok(Judgement::Settled {
+            ran: named.ran,
+            names: named.names,
+            bound,
+            listed: sides.is_none(),
         }),
         Err(error) => Err(error),
     }

@@ -1,5 +1,6 @@
 // The words of the command line (C17 5.1.2.2.1).
-ghost use Rattle.std.specs.Prelude.{◌≡◌, ◌<◌, ◌≤◌, ◌&&◌, ◌++◌, nat_lt, length, codes, IfSome, OnOk, IfOk, string_bytes};
+ghost use Rattle.std.specs.Prelude.{◌≡◌, ◌<◌, ◌≤◌, ◌&&◌, ◌||◌, ◌++◌, nat_lt, length, codes, IfSome, OnOk, IfOk, string_bytes};
+ghost use Rattle.std.specs.List.{list_all};
 ghost use Rattle.std.specs.Str.{bytes_eq};
 ghost use Rattle.pv_serve.specs.Words as specified;
 ghost use Rattle.pv_serve.specs.Jobs.{IsTask, if_wanted, kinds_of};
@@ -7,8 +8,8 @@ ghost use Rattle.pv_serve.specs.Words.{IsAsked, AreOptions, AreBounded};
 
 use std::alloc::{AllocError, Global};
 
-// The largest value of `--turns`.
-const MOST_TURNS: u64 = 100_000_000;
+/// The largest value of `--turns`.
+pub const MOST_TURNS: u64 = 100_000_000;
 
 /// The turns of a run whose words do not say.
 pub const DEFAULT_TURNS: u64 = 1_000_000;
@@ -19,8 +20,11 @@ const MOST_GENERATED: u64 = 8_192;
 /// What is to be done with a source.
 #[derive(Clone, Copy)]
 pub enum Task {
-    /// It is run, with at most so many turns.
-    Run { bound: u64 },
+    /// It is run, with at most so many turns; with `zap` a pointer to what has ended is indeterminate (C17 6.2.4p2).
+    Run { bound: u64, zap: bool },
+    /// The same, and the side of each pair of candidates is told, unless the sides are given: then each pair stands for its side from
+    /// its making.
+    Settle { bound: u64, zap: bool },
     /// It is read and typed, and the number of its external declarations is told.
     Check,
     /// The same, and the layouts of its structures and unions are told.
@@ -70,7 +74,8 @@ pub fn kinds_of(alloc: Global, watched: Watched) -> Result<Vec<u8>, AllocError>
     Ok(kinds)
 }
 
-/// What is asked of a file: a task, the file that holds the source, the file that holds the script of addresses, if there is one, and watchers.
+/// What is asked of a file: a task, the file that holds the source, the file that holds the script of addresses, if there is one, sides and
+/// watchers.
 #[derive(Clone, Copy)]
 pub struct Asked<'a> {
     /// The name of the file, of at least one byte.
@@ -79,15 +84,26 @@ pub struct Asked<'a> {
     pub script: Option<&'a str>,
     /// What is to be done with the source.
     pub task: Task,
+    /// The sides of pairs: `-`, or a letter `l` or `h` for each.
+    pub sides: Option<&'a str>,
     /// Who watches its run.
     pub watched: Watched,
 }
 
-// What the options of a run say, as far as they are read.
+/// The modes whose words have options.
+#[derive(Clone, Copy)]
+pub enum Mode {
+    Run,
+    Settle,
+}
+
+// What the options say, as far as they are read.
 #[derive(Clone, Copy)]
 struct Options<'a> {
     script: Option<&'a str>,
     turns: Option<u64>,
+    zap: Option<bool>,
+    sides: Option<&'a str>,
     watched: Watched,
 }
 
@@ -117,10 +133,10 @@ fn source_number(text: &str) -> Option<u32>
     Some(number as u32)
 }
 
-/// What the words ask of a file, if they do: `run FILE` with options, `check FILE` or `layout FILE`.
+/// What the words ask of a file, if they do: `run FILE` or `settle FILE` with options, `check FILE` or `layout FILE`.
 ///
-/// The options of a run are `--script F` and `--turns N`, each at most once, and `--watch W`, at most once for each of `explain`, `census`
-/// and `pointers`, in any order.
+/// The options of both are `--script F`, `--turns N` and `--zap V`, each at most once, in any order. A run has `--watch W` too, at most once for
+/// each of `explain`, `census` and `pointers`, and a settled run `--sides S`, at most once.
 pub fn file_job(words: &[String]) -> Option<Asked<'_>>
     ensures words { IsAsked result (specified.file_job (specified.texts words.now)) }
     ensures turns { IfSome result (λ j. IsTask j.task) }
@@ -144,6 +160,7 @@ fn asked_by<'a>(mode: &str, file: &'a str, rest: &'a [String]) -> Option<Asked<'
 {
     match mode {
         "run" => run_of(file, rest),
+        "settle" => settle_of(file, rest),
         "check" => described(Task::Check, file, rest),
         "layout" => described(Task::Layout, file, rest),
         _ => None,
@@ -155,19 +172,49 @@ fn run_of<'a>(file: &'a str, rest: &'a [String]) -> Option<Asked<'a>>
     ensures words { IsAsked result (specified.run_of file.now (specified.texts rest.now)) }
     ensures turns { IfSome result (λ j. IsTask j.task) }
 {
-    let none = Options {
-        script: None,
-        turns: None,
-        watched: NOBODY,
-    };
-    let options = all_options(none, rest)?;
-    let bound = options.turns.unwrap_or(DEFAULT_TURNS);
+    let options = all_options(Mode::Run, no_options(), rest)?;
     Some(Asked {
         file,
         script: options.script,
-        task: Task::Run { bound },
+        task: Task::Run {
+            bound: options.turns.unwrap_or(DEFAULT_TURNS),
+            zap: options.zap.unwrap_or(true),
+        },
+        sides: None,
         watched: options.watched,
     })
+}
+
+// A settled run of a file, with these options.
+fn settle_of<'a>(file: &'a str, rest: &'a [String]) -> Option<Asked<'a>>
+    ensures words { IsAsked result (specified.settle_of file.now (specified.texts rest.now)) }
+    ensures turns { IfSome result (λ j. IsTask j.task) }
+{
+    let options = all_options(Mode::Settle, no_options(), rest)?;
+    Some(Asked {
+        file,
+        script: options.script,
+        task: Task::Settle {
+            bound: options.turns.unwrap_or(DEFAULT_TURNS),
+            zap: options.zap.unwrap_or(true),
+        },
+        sides: options.sides,
+        watched: NOBODY,
+    })
+}
+
+// No option was read yet.
+fn no_options<'a>() -> Options<'a>
+    ensures said { specified.options_read result ≡ specified.no_options }
+    ensures turns { AreBounded result.turns }
+{
+    Options {
+        script: None,
+        turns: None,
+        zap: None,
+        sides: None,
+        watched: NOBODY,
+    }
 }
 
 // What describes a file has no options.
@@ -181,6 +228,7 @@ fn described<'a>(task: Task, file: &'a str, rest: &[String]) -> Option<Asked<'a>
             file,
             script: None,
             task,
+            sides: None,
             watched: NOBODY,
         }),
         _ => None,
@@ -188,32 +236,62 @@ fn described<'a>(task: Task, file: &'a str, rest: &[String]) -> Option<Asked<'a>
 }
 
 // What the options say, behind those that were read: pairs of a word and its value.
-fn all_options<'a>(given: Options<'a>, words: &'a [String]) -> Option<Options<'a>>
+fn all_options<'a>(mode: Mode, given: Options<'a>, words: &'a [String]) -> Option<Options<'a>>
     requires { AreBounded given.turns }
     ensures words { AreOptions result
-        (specified.options (specified.options_read given.entry) (specified.texts words.now)) }
+        (specified.options mode (specified.options_read given.entry) (specified.texts words.now)) }
     ensures turns { IfSome result (λ o. AreBounded o.turns) }
 {
     match words {
         [] => Some(given),
         [name, value, rest @ ..] => {
-            all_options(with_option(given, name.as_str(), value.as_str())?, rest)
+            let more = with_option(mode, given, name.as_str(), value.as_str())?;
+            all_options(mode, more, rest)
         }
         _ => None,
     }
 }
 
 // One option more.
-fn with_option<'a>(given: Options<'a>, name: &str, value: &'a str) -> Option<Options<'a>>
+fn with_option<'a>(
+    mode: Mode,
+    given: Options<'a>,
+    name: &str,
+    value: &'a str,
+) -> Option<Options<'a>>
     requires { AreBounded given.turns }
-    ensures words { AreOptions result (specified.with_option (specified.options_read given.entry) name.now value.now) }
+    ensures words { AreOptions result (specified.with_option mode (specified.options_read given.entry) name.now value.now) }
     ensures turns { IfSome result (λ o. AreBounded o.turns) }
 {
     match name {
         "--script" => with_script(given, value),
         "--turns" => with_turns(given, value),
-        "--watch" => with_watch(given, value),
-        _ => None,
+        "--zap" => with_zap(given, value),
+        _ => with_own(mode, given, name, value),
+    }
+}
+
+// The option that a mode has by itself.
+fn with_own<'a>(mode: Mode, given: Options<'a>, name: &str, value: &'a str) -> Option<Options<'a>>
+    requires { AreBounded given.turns }
+    ensures words { AreOptions result (specified.with_own mode (specified.options_read given.entry) name.now value.now) }
+    ensures turns { IfSome result (λ o. AreBounded o.turns) }
+{
+    match mode {
+        Mode::Run => {
+            if name == "--watch" {
+                with_watch(given, value)
+            } else {
+                None
+            }
+        }
+        Mode::Settle => {
+            if name == "--sides" {
+                with_sides(given, value)
+            } else {
+                None
+            }
+        }
     }
 }
 
@@ -231,8 +309,7 @@ fn with_script<'a>(given: Options<'a>, name: &'a str) -> Option<Options<'a>>
             } else {
                 Some(Options {
                     script: Some(name),
-                    turns: given.turns,
-                    watched: given.watched,
+                    ..given
                 })
             }
         }
@@ -249,12 +326,77 @@ fn with_turns<'a>(given: Options<'a>, text: &str) -> Option<Options<'a>>
         None => {
             let turns = turns_of(text)?;
             Some(Options {
-                script: given.script,
                 turns: Some(turns),
-                watched: given.watched,
+                ..given
             })
         }
     }
+}
+
+// Whether a pointer to what has ended is indeterminate, which is said at most once.
+fn with_zap<'a>(given: Options<'a>, word: &str) -> Option<Options<'a>>
+    requires { AreBounded given.turns }
+    ensures words { AreOptions result (specified.with_zap (specified.options_read given.entry) word.now) }
+    ensures turns { IfSome result (λ o. AreBounded o.turns) }
+{
+    match given.zap {
+        Some(_) => None,
+        None => {
+            let zap = zap_of(word)?;
+            Some(Options {
+                zap: Some(zap),
+                ..given
+            })
+        }
+    }
+}
+
+// The value of `--zap`.
+fn zap_of(word: &str) -> Option<bool>
+    ensures { result ≡ specified.zap_of word.now }
+{
+    match word {
+        "on" => Some(true),
+        "off" => Some(false),
+        _ => None,
+    }
+}
+
+// The sides of pairs, which are given at most once.
+fn with_sides<'a>(given: Options<'a>, word: &'a str) -> Option<Options<'a>>
+    requires { AreBounded given.turns }
+    ensures words { AreOptions result (specified.with_sides (specified.options_read given.entry) word.now) }
+    ensures turns { IfSome result (λ o. AreBounded o.turns) }
+{
+    match given.sides {
+        Some(_) => None,
+        None => {
+            if are_sides(word) {
+                Some(Options {
+                    sides: Some(word),
+                    ..given
+                })
+            } else {
+                None
+            }
+        }
+    }
+}
+
+// Whether a word says sides: `-`, or one or more letters `l` and `h`.
+fn are_sides(word: &str) -> bool
+    ensures { result ≡ specified.are_sides word.now }
+{
+    word == "-" || !word.is_empty() && are_letters(word.as_bytes())
+}
+
+// Whether all of these are letters of sides.
+fn are_letters(letters: &[u8]) -> bool
+    ensures { result ≡ list_all specified.is_side letters.now }
+{
+    letters
+        .iter()
+        .all(|letter| *letter == b'l' || *letter == b'h')
 }
 
 // A watcher more, which is asked for at most once.
@@ -264,11 +406,7 @@ fn with_watch<'a>(given: Options<'a>, word: &str) -> Option<Options<'a>>
     ensures turns { IfSome result (λ o. AreBounded o.turns) }
 {
     let watched = one_more(given.watched, word)?;
-    Some(Options {
-        script: given.script,
-        turns: given.turns,
-        watched,
-    })
+    Some(Options { watched, ..given })
 }
 
 // The same watchers and one more, which was not among them.

@@ -1,7 +1,6 @@
 -- Every run of a source that is a program, with a script that has a reading, has an outcome (C17 5.1.2).
-use Rattle.std.proofs.Common.{◌≡◌, ℕ, Bool, true, List, Ok, sym, subst}
+use Rattle.std.proofs.Common.{◌≡◌, ℕ, Bool, List, Ok, sym, subst}
 use Rattle.std.specs.declared.option.Option.{Option}
-use Rattle.std.specs.Prelude.{None}
 use Rattle.pv_token.specs.Table.{Table}
 use Rattle.pv_lex.specs.Lexes.{Lexes}
 use Rattle.pv_tree.specs.Syntax.{DeclarationTree}
@@ -47,7 +46,7 @@ program_outcome source text script u sides zap n p r = ends-so u n sides zap scr
 
 -- the same of the unit that a source is, by itself
 pub has_outcome : (source text : List ℕ) (lines : List ScriptLine) (unit : WholeUnit) → Comes source (Program unit) → script_of text ≡ Ok lines
-    → (u : Stored) → whole u ≡ unit → (n : ℕ) → HasOutcome (run_at u None true lines n)
-has_outcome source text lines unit c r u e n =
+    → (u : Stored) → whole u ≡ unit → (sides : Option (List Bool)) (zap : Bool) (n : ℕ) → HasOutcome (run_at u sides zap lines n)
+has_outcome source text lines unit c r u e sides zap n =
     let p : IsProgram source u = subst (λ (x : WholeUnit). Comes source (Program x)) (sym e) c in
-    program_outcome source text lines u None true n p r
+    program_outcome source text lines u sides zap n p r

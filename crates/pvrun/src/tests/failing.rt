@@ -24,11 +24,14 @@ const FAULTS: &str = r#"
 1 0 0 check a.c => 11 fault read
 3 0 0 check a.c => 0 checked declarations=2
 2 0 0 layout a.c => 11 fault read
-1 0 0 settle a.c => 10 words
+1 0 0 settle a.c => 11 fault read
+3 0 0 settle a.c --script s --sides l => 11 fault read
 1 0 2 run a.c => 12 fau
 3 0 2 run a.c --script s => 12 fau
 0 0 2 check a.c => 12 che
-0 0 2 settle a.c => 12 wor
+0 0 2 settle => 12 wor
+0 0 2 settle a.c => 12 abcdefexi
+0 2 0 settle a.c => 12 abc
 0 1 0 run a.c => 12
 0 2 0 run a.c => 12 abc
 0 3 0 run a.c => 0 abcdefexit status=0 turn=6

@@ -1,4 +1,4 @@
-//! The call from the bytes of a source to the end of its run, with sides, which no words give, and without them.
+//! The call from the bytes of a source to the end of its run, with sides and without them.
 
 use super::{expect, text};
 use pv_exec::Side;
@@ -73,6 +73,7 @@ fn told(rt: &impl Abort, alloc: Global, sides: Option<&str>) -> String {
         PAIR.as_bytes(),
         BESIDE.as_bytes(),
         BOUND,
+        true,
         sides.map(|_| given.as_slice()),
         &mut out,
         &mut hall,

@@ -40,7 +40,9 @@ run a.c --script s --script s => 10 words
 run a.c --script s --turns => 10 words
 run a.c --turns 3 --script s s => 10 words
 run a.c --sides l => 10 words
-run a.c --zap on => 10 words
+run a.c --zap on => 0 exit status=0 turn=3
+run a.c --zap off => 0 exit status=0 turn=3
+run a.c --zap => 10 words
 --turns 3 run a.c => 10 words
 run --script s a.c => 10 words
 run  --turns 3 => 10 words
@@ -49,7 +51,10 @@ check  => 10 words
 check a.c --turns 3 => 10 words
 check a.c --script s => 10 words
 layout a.c --script s => 10 words
-settle a.c => 10 words
+settle a.c --sides - => 0 exit status=0 turn=3
+settle a.c --zap off --sides h => 0 exit status=0 turn=3
+settle a.c --sides lx => 10 words
+settle a.c --sides l --sides l => 10 words
 run a.c --watch => 10 words
 run a.c --watch  => 10 words
 run a.c --watch journal => 10 words
@@ -69,7 +74,7 @@ run a.c --watch census --turns 0 => 10 words
 run a.c --turns 3 --watch => 10 words
 run a.c --script s --watch => 10 words
 run a.c --watch census --sides l => 10 words
-run a.c --watch census --zap on => 10 words
+run a.c --watch census --zap => 10 words
 --watch census run a.c => 10 words
 run --watch census a.c => 10 words
 run  --watch census => 10 words

@@ -7,7 +7,7 @@ run_unit-requires g c = c.requires
 
 pub returns-in-Ok : goal.returns-in-Ok
 returns-in-Ok g c = record {
-  judged = λ source script is. ran_outcome source script _ _ _ _ _ _ _ _ is c.in-Ok.ensures.ran;
+  judged = λ source script is. ran_outcome source script _ _ _ _ _ _ _ _ _ is c.in-Ok.ensures.ran;
   part = λ source script is. tt;
   cause = tt;
 }
@@ -15,6 +15,6 @@ returns-in-Ok g c = record {
 pub returns-in-Err : goal.returns-in-Err
 returns-in-Err g c = record {
   judged = λ source script is. tt;
-  part = λ source script is. left_unfinished source script _ _ _ _ (sunk g.O.Sink.written g.O.Sink.faults _ _) _ _ is c.in-Err.ensures.left;
+  part = λ source script is. left_unfinished source script _ _ _ _ _ (sunk g.O.Sink.written g.O.Sink.faults _ _) _ _ is c.in-Err.ensures.left;
   cause = c.in-Err.ensures.cause;
 }

@@ -16,7 +16,7 @@ returns-in-Ok-Ok c = λ script is. record {
 
 pub returns-in-Ok-Err : goal.returns-in-Ok-Err
 returns-in-Ok-Err c = λ script is. record {
-  judged = λ t. Unfit _ _ (within _ c.requires) is (rw c.in-Ok-Err.field-0-is at c.in-Ok-Err.ensures.comes) refl;
+  judged = λ t sides. Unfit _ _ (within _ c.requires) is (rw c.in-Ok-Err.field-0-is at c.in-Ok-Err.ensures.comes) refl;
   parts = rw c.in-Ok-Err.field-0-is at c.in-Ok-Err.ensures.parts;
 }
 

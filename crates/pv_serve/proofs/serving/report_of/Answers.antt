@@ -5,6 +5,9 @@ use Rattle.pv_serve.proofs.serving.report_of.Goals as goal
 pub returns-in-Ran : goal.returns-in-Ran
 returns-in-Ran g c = run_report _ _ _ _ _ _ _ c.in-Ran.is c.in_ok-text.ensures c.with_story.ensures
 
+pub returns-in-Settled : goal.returns-in-Settled
+returns-in-Settled g c = quiet_report _ _ _ _ c.in-Settled.is (λ shown. refl) c.in_ok-text.ensures
+
 pub returns-in-Described : goal.returns-in-Described
 returns-in-Described g c = quiet_report _ _ _ _ c.in-Described.is (λ shown. refl) c.in_ok-text.ensures
 

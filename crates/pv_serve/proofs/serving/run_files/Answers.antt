@@ -2,11 +2,11 @@ use Rattle.std.proofs.Common.{refl}
 use Rattle.pv_serve.specs.Serving.{WereRead, WereLost, HadNoRoom}
 use Rattle.pv_serve.proofs.serving.run_files.Goals as goal
 
-pub answer-requires : goal.answer-requires
-answer-requires g c = c.requires.task
+pub answer_asked-requires : goal.answer_asked-requires
+answer_asked-requires g c = c.requires.task
 
 pub returns-in-Ok-clause-served : goal.returns-in-Ok-clause-served
-returns-in-Ok-clause-served g c = WereRead _ _ (rw (c.as_slice.ensures.value, c.as_slice-in-Ok.ensures.value) c.in-Ok.ensures.read) c.answer.ensures
+returns-in-Ok-clause-served g c = WereRead _ _ c.in-Ok.ensures.read c.answer_asked.ensures
 
 pub returns-in-Ok-clause-files_same : goal.returns-in-Ok-clause-files_same
 returns-in-Ok-clause-files_same g c = c.in-Ok.ensures.same

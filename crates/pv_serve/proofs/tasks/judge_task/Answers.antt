@@ -11,21 +11,21 @@ pub returns-in-Ok-Program : goal.returns-in-Ok-Program
 returns-in-Ok-Program g c =
     let p = (rw c.in-Ok-Program.field-0-is at c.in-Ok-Program.ensures) in
     record {
-      judged = judged_fit _ _ _ _ _ _ _ _ p.short p.reads p.comes c.judge_unit.ensures.judged;
-      part = cut_fit _ _ _ _ _ (sunk g.O.Sink.written g.O.Sink.faults _ _) _ _ p.short p.reads p.comes c.judge_unit.ensures.part;
+      judged = judged_fit _ _ _ _ _ _ _ _ _ p.short p.reads p.comes c.judge_unit.ensures.judged;
+      part = cut_fit _ _ _ _ _ _ (sunk g.O.Sink.written g.O.Sink.faults _ _) _ _ p.short p.reads p.comes c.judge_unit.ensures.part;
       cause = c.judge_unit.ensures.cause;
     }
 
 pub returns-in-Ok-Source : goal.returns-in-Ok-Source
 returns-in-Ok-Source g c = record {
-  judged = judged_nothing _ _ _ _ _ _ (refl, refl) ((rw c.in-Ok-Source.field-0-is at c.in-Ok-Source.ensures).judged _) refl refl;
+  judged = judged_nothing _ _ _ _ _ _ _ (refl, refl) ((rw c.in-Ok-Source.field-0-is at c.in-Ok-Source.ensures).judged _ _) refl refl;
   part = tt;
   cause = tt;
 }
 
 pub returns-in-Ok-Script : goal.returns-in-Ok-Script
 returns-in-Ok-Script g c = record {
-  judged = judged_nothing _ _ _ _ _ _ (refl, refl) ((rw c.in-Ok-Script.field-0-is at c.in-Ok-Script.ensures).judged _) refl refl;
+  judged = judged_nothing _ _ _ _ _ _ _ (refl, refl) ((rw c.in-Ok-Script.field-0-is at c.in-Ok-Script.ensures).judged _ _) refl refl;
   part = tt;
   cause = tt;
 }

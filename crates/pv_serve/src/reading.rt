@@ -1,0 +1,76 @@
+//! Reading the files that a job names: its source, and its script of addresses.
+ghost use Rattle.std.specs.Prelude.{◌≡◌, ℕ, ◌+◌, ◌≤◌, List, take, IfOk, IfSome, IsErrOf, option_map};
+ghost use Rattle.pv_serve.specs.Jobs.{files_named, script_files};
+ghost use Rattle.pv_serve.specs.Judged.{script_limit};
+ghost use Rattle.pv_serve.specs.Answer.{script_held};
+ghost use Rattle.pv_serve.specs.Causes.{AnyRose};
+ghost use Rattle.pv_serve.specs.Serving.{AreRead};
+
+use crate::checking::SOURCE_LIMIT;
+use pv_script::{Files, ReadError, read_all};
+use std::alloc::Global;
+
+/// The most bytes that a script of addresses may have.
+pub const SCRIPT_LIMIT: usize = 65_536;
+
+/// The bytes of a source and of its script, of each up to one above what it may have: they decide as much as all would.
+#[derive(Drop)]
+pub struct JobText {
+    pub source: Vec<u8>,
+    pub script: Vec<u8>,
+}
+
+/// Reads the source in a file, and then its script, if a file is named for it; where none is, the script has no bytes.
+///
+/// The script of a source that is too long is not read. A fault is that of one of the files that are named.
+pub fn read_job<F: Files>(
+    alloc: Global,
+    files: &mut F,
+    source: &str,
+    script: Option<&str>,
+) -> Result<JobText, ReadError>
+    ensures read { IfOk result (λ t. AreRead source.now (option_map (λ s. s.now) script.entry) (F.held files.old)
+        t.source.items t.script.items) }
+    ensures same { (n : List ℕ) → F.held files.new n ≡ F.held files.old n }
+    ensures later { (n : List ℕ) → F.faults files.old n ≤ F.faults files.new n }
+    ensures cause { IsErrOf result ReadError.Fault →
+        AnyRose (files_named source.now (option_map (λ s. s.now) script.entry)) (F.faults files.old) (F.faults files.new) }
+{
+    let bytes = match read_all(alloc, files, source, SOURCE_LIMIT) {
+        Ok(bytes) => bytes,
+        Err(error) => return Err(error),
+    };
+    if bytes.len() > SOURCE_LIMIT {
+        let script = Vec::new(alloc);
+        return Ok(JobText {
+            source: bytes,
+            script,
+        });
+    }
+    match script_given(alloc, files, script) {
+        Ok(script) => Ok(JobText {
+            source: bytes,
+            script,
+        }),
+        Err(error) => Err(error),
+    }
+}
+
+// Reads a script, if one is named; where none is, it has no bytes.
+fn script_given<F: Files>(
+    alloc: Global,
+    files: &mut F,
+    name: Option<&str>,
+) -> Result<Vec<u8>, ReadError>
+    ensures read { IfOk result (λ v. IfSome (script_held (option_map (λ s. s.now) name.entry) (F.held files.old))
+        (λ text. v.items ≡ take (script_limit + 1) text)) }
+    ensures same { (n : List ℕ) → F.held files.new n ≡ F.held files.old n }
+    ensures later { (n : List ℕ) → F.faults files.old n ≤ F.faults files.new n }
+    ensures cause { IsErrOf result ReadError.Fault →
+        AnyRose (script_files (option_map (λ s. s.now) name.entry)) (F.faults files.old) (F.faults files.new) }
+{
+    match name {
+        Some(name) => read_all(alloc, files, name, SCRIPT_LIMIT),
+        None => Ok(Vec::new(alloc)),
+    }
+}
