@@ -12,7 +12,7 @@ try_slip() {
 try_slips() {
   local file=$work/plain.c
   try_slip 'no word' 'no mode; try ./pvrun --help'
-  try_slip 'no such mode' "'walk' is no mode (run, check, layout, gen)" walk "$file"
+  try_slip 'no such mode' "'walk' is no mode (run, settle, check, layout, gen)" walk "$file"
   try_slip 'a file in the place of a mode' "'a.c' is no mode; try pvrun run a.c" a.c
   try_slip 'no file' 'run wants a file' run
   try_slip 'an empty name' 'the name of the file is empty' check ''
@@ -27,6 +27,13 @@ try_slips() {
   try_slip 'an option twice' '--turns stands twice' run "$file" --turns 3 --turns 4
   try_slip 'a watcher twice' '--watch census stands twice' run "$file" --watch census --watch census
   try_slip 'no watcher' "'all' is no watcher (explain, census, pointers)" run "$file" --watch all
+  try_slip 'zap twice' '--zap stands twice' run "$file" --zap on --zap off
+  try_slip 'neither on nor off' "'no' is neither on nor off" settle "$file" --zap no
+  try_slip 'sides twice' '--sides stands twice' settle "$file" --sides l --sides h
+  try_slip 'a letter of no side' "'lx' is neither - nor letters l and h" settle "$file" --sides lx
+  try_slip 'no letter' "'' is neither - nor letters l and h" settle "$file" --sides ''
+  try_slip "an option of settle's" "'--sides' is no option of run" run "$file" --sides l
+  try_slip 'nobody watches a settled run' "'--watch' is no option of settle" settle "$file" --watch census
   try_slip 'a script without a name' "the name of the script's file is empty" run "$file" --script ''
   try_slip 'gen without a number' 'gen takes one number, from 1 to 8192 without a leading zero' gen 9000
   try_slip 'gen with an option' "gen takes no option '--raw'" gen 3 --raw

@@ -30,10 +30,11 @@ find_place() {
 # What the answer of the program means.
 tell_meaning() {
   case $mode$status in
-    run[1-57]) "$tools/explain-fault" $fresh "$program" "$text" "$source" "$status" ${again[@]+"${again[@]}"} ;;
+    run[1-57] | settle[1-57]) [ -n "$sided" ] || "$tools/explain-fault" $fresh "$program" "$text" "$source" "$status" ${again[@]+"${again[@]}"} ;;
     *8) show_place ;;
     *10) say "hint: a word isn't UTF-8" ;;
     *11) say "hint: '$source' could not be read" ;;
+    *14) say 'hint: the run made a pair for which --sides has no letter' ;;
   esac
 }
 
@@ -44,7 +45,7 @@ run_apart() {
   . "$tools/report.sh"
   run >"$held/written"
   status=$?
-  if [ "$mode" = run ] && [[ $status =~ ^([0-7]|12|13)$ ]]; then
+  if [[ $mode =~ ^(run|settle)$ && $status =~ ^([0-7]|1[234])$ ]]; then
     begins=$(report_begins "$held/written" "$status")
     [ -n "$begins" ] || begins=$(wc -c <"$held/written")
   fi

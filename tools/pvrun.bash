@@ -6,18 +6,20 @@ _pvrun() {
   mode=${COMP_WORDS[first]-}
   COMPREPLY=()
   if [ "$COMP_CWORD" = "$first" ]; then
-    options='run check layout gen'
+    options='run settle check layout gen'
     [ "$first" = 2 ] || options+=' --unproved --install --help --version'
     COMPREPLY=($(compgen -W "$options" -- "$word"))
     return
   fi
   case $last in
     --watch) COMPREPLY=($(compgen -W 'explain census pointers' -- "$word")) && return ;;
+    --zap) COMPREPLY=($(compgen -W 'on off' -- "$word")) && return ;;
     --drop) COMPREPLY=($(compgen -W 'restrict volatile' -- "$word")) && return ;;
-    --turns | gen) return ;;
+    --turns | --sides | gen) return ;;
   esac
   case $mode$word in
-    run-*) COMPREPLY=($(compgen -W '--script --turns --watch --raw --keep --drop --report --quiet -I -D -U' -- "$word")) ;;
+    run-*) COMPREPLY=($(compgen -W '--script --turns --zap --watch --raw --keep --drop --report --quiet -I -D -U' -- "$word")) ;;
+    settle-*) COMPREPLY=($(compgen -W '--script --turns --zap --sides --raw --keep --drop --report --quiet -I -D -U' -- "$word")) ;;
     check-* | layout-*) COMPREPLY=($(compgen -W '--raw --keep --drop --report --quiet -I -D -U' -- "$word")) ;;
     gen*) COMPREPLY=($(compgen -W '--report --quiet' -- "$word")) ;;
     *) compopt -o filenames 2>/dev/null; mapfile -t COMPREPLY < <(compgen -f -- "$word") ;;

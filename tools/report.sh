@@ -11,13 +11,14 @@ report_shape() {
     5) echo 'storage live=[0-9]+ size=[0-9]+ line=[0-9]+ turn=[0-9]+$' ;;
     6) echo 'turns bound=[0-9]+$' ;;
     7) echo 'abort line=[0-9]+ turn=[0-9]+$' ;;
+    14) echo 'sides ended pair=[0-9]+$' ;;
   esac
 }
 
 # How many bytes stand before the report in the file WRITTEN, which a run with this status wrote; nothing where there is no report.
 #
-# The report is the last line of that shape, or the end of it, since output need not end its line. No line of a watcher has such a shape, and
-# none holds another one within it.
+# The report is the last line of that shape, or the end of it, since output need not end its line. No line of a watcher has such a shape, nor has that
+# of sides, and none holds another one within it.
 report_begins() {
   local written=$1 shape
   shape=$(report_shape "$2")

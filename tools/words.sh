@@ -1,11 +1,12 @@
 # For ./pvrun: reads the words that it is called with.
 
 # Sets mode, source and what the options say; the first word that is none is told in `slip`. `handed` are the program's own options (the name of
-# the script's file is that numbered `script`), `again` those of them that a second run needs, `changes` the options of preprocessing.
+# the script's file is that numbered `script`), `again` those of them that a second run needs (which can't be made where there are sides:
+# `sided`), `changes` the options of preprocessing.
 read_words() {
-  mode=${1-} source=${2-} slip='' handed=() again=() changes=() raw='' keep='' report='' quiet='' script=''
+  mode=${1-} source=${2-} slip='' handed=() again=() changes=() raw='' keep='' report='' quiet='' script='' sided=''
   case $mode in
-    run | check | layout)
+    run | settle | check | layout)
       if [ $# -lt 2 ]; then
         slip="$mode wants a file"
       elif [ -z "$source" ]; then
@@ -17,7 +18,7 @@ read_words() {
     gen) [[ $source =~ ^[1-9][0-9]{0,3}$ && $source -le 8192 ]] || slip='gen takes one number, from 1 to 8192 without a leading zero' ;;
     '') slip='no mode; try ./pvrun --help' ;;
     *.c | *.i) slip="'$mode' is no mode; try pvrun run $mode" ;;
-    *) slip="'$mode' is no mode (run, check, layout, gen)" ;;
+    *) slip="'$mode' is no mode (run, settle, check, layout, gen)" ;;
   esac
   [ $# -le 2 ] || read_options "${@:3}"
 }
@@ -31,7 +32,8 @@ read_options() {
       *--raw) raw=yes && shift && continue ;;
       *--report | *--keep | *--drop | *-[IDU]) ;;
       *-[IDU]?*) changes+=("$1") && shift && continue ;;
-      run--script | run--turns | run--watch) ;;
+      run--script | run--turns | run--zap | run--watch) ;;
+      settle--script | settle--turns | settle--zap | settle--sides) ;;
       *) slip="'$1' is no option of $mode" ;;
     esac
     if [ -z "$slip" ] && [ $# -lt 2 ]; then slip="$1 wants a value"; fi
@@ -51,7 +53,8 @@ read_value() {
   esac
   case $1 in
     --keep | --report) [ -n "$2" ] || slip="the name behind $1 is empty" ;;
-    --script | --turns) again+=("$1" "$2") ;;
+    --script | --turns | --zap) again+=("$1" "$2") ;;
+    --sides) sided=yes ;;
   esac
 }
 
@@ -67,6 +70,14 @@ read_run_value() {
     --turns)
       [[ $seen != *' --turns '* ]] || slip='--turns stands twice'
       [[ $2 =~ ^[1-9][0-9]{0,8}$ && $2 -le 100000000 ]] || slip="'$2' is no number from 1 to 100000000 without a leading zero"
+      ;;
+    --zap)
+      [[ $seen != *' --zap '* ]] || slip='--zap stands twice'
+      [[ $2 =~ ^(on|off)$ ]] || slip="'$2' is neither on nor off"
+      ;;
+    --sides)
+      [[ $seen != *' --sides '* ]] || slip='--sides stands twice'
+      [[ $2 =~ ^(-|[lh]+)$ ]] || slip="'$2' is neither - nor letters l and h"
       ;;
     --watch)
       [[ $seen != *" --watch $2 "* ]] || slip="--watch $2 stands twice"
