@@ -103,6 +103,7 @@ told_nothing out nobody hall end names same left = record {
   all = refl;
   told = same;
   near = tt;
+  words = tt;
 }
 
 pub settled_cut_off : (unit : WholeUnit) (lines : List ScriptLine) (bound : ℕ) (zap : Bool) (sides : Option (List Bool)) (out : Sunk) (nobody hall : Halls) (run : Res Worth) (e : RunError)
