@@ -13,7 +13,7 @@ struct Counting {
     wants: u64,
     room: usize,
     seen: Vec<Event>,
-    ghost own: { 3 < kind },
+    ghost own: { 4 < kind },
     ghost some: { 0 < wants },
 }
 
@@ -53,7 +53,7 @@ impl Watch for Counting {
 }
 
 fn watcher_of(alloc: Global, kind: u8, wants: u64, room: usize) -> Counting
-    requires own { 3 < kind }
+    requires own { 4 < kind }
     requires some { 0 < wants }
 {
     Counting {
@@ -100,7 +100,7 @@ fn tells_those_who_are_present(rt: HostRuntime) {
     let alloc = rt.alloc();
     let mut watchers: Vec<Box<dyn Watch>> = Vec::new(alloc);
     for (kind, wants, room) in [(7, 3, 10), (8, 1, 10), (9, 2, 0), (7, 9, 10)] {
-        assert!(rt; kind > 3 && wants > 0);
+        assert!(rt; kind > 4 && wants > 0);
         let watcher = Box::new(alloc, watcher_of(alloc, kind, wants, room)).expect(
             &rt,
             "no memory",
