@@ -13,7 +13,7 @@ use Rattle.pv_serve.specs.declared.words.Task.{Task}
 use Rattle.pv_serve.specs.declared.tasks.Judgement.{Judgement}
 use Rattle.pv_serve.specs.declared.tasks.Judgement.TheVariants as judgement
 use Rattle.pv_serve.specs.declared.error.NoMemory.{NoMemory}
-use Rattle.pv_serve.specs.Verdicts.{Course, course_of}
+use Rattle.pv_serve.specs.Verdicts.{Verdict, Course, course_of}
 use Rattle.pv_serve.specs.Jobs.{Job, FileJob, Files, Generated, task_of, sides_of, watched_of, kinds_of}
 use Rattle.pv_serve.specs.Words.{job, generated, file_job, either}
 use Rattle.pv_serve.specs.Comes.{source_limit}
@@ -25,6 +25,7 @@ use Rattle.pv_serve.specs.Watching.{AreTold, IsReport, kept_by}
 use Rattle.pv_serve.specs.Answer.{Answer, answer_of, no_job, HasReport, OfSource, needed, script_held, SomeVerdict, SomeAnswer, SomeEnd}
 use Rattle.pv_serve.specs.Causes.{Call, Table, IsAnswer, JobRose, WroteReport, WroteOutput, Complete, Served, kept}
 use Rattle.pv_serve.specs.Serving.{kept_halls, IsSource, IsReportOn, HasStory, SomeReport, Reported, IsTold, Answered, FilesServed, WereRead, WereLost, HadNoRoom}
+use Rattle.pv_serve.proofs.LateLemmas.{right_of}
 use Rattle.pv_serve.proofs.Limits.{more_decides, more_runs}
 use Rattle.pv_serve.proofs.RunLemmas.{nothing, printed_part}
 
@@ -40,6 +41,7 @@ printed_verdict : (source script : List ℕ) (t : Task) (sides : Option (List Bo
 printed_verdict source script t sides j out report hall status is told not12 not13 = record {
   verdict = verdict_of j is.shown;
   judged = is.judged;
+  right = is.right;
   answered = record { status_is = told.status_is is.shown not12 not13; output = is.gains; whole = has_report j is.shown hall (Wrote report) is.told (told.whole not12 not13) };
 }
 
@@ -52,6 +54,7 @@ answered_by source script t sides j out report hall status is told = record {
   wrote = λ h. inl (record {
     verdict = verdict_of j is.shown;
     judged = is.judged;
+    right = is.right;
     answered = record { whole = is.gains; begun = has_report j is.shown hall (WrotePrefix report) is.told (told.begun h) };
   });
   printed = λ h. printed_part source script t sides (verdict_of j is.shown) out is.judged is.gains;
@@ -141,12 +144,17 @@ of_files j held P Q f h =
     if_some (held j.file) (λ all. IfSome (needed all (script_held j.script held)) (P all)) (λ all. IfSome (needed all (script_held j.script held)) (Q all))
     (λ all. if_some (needed all (script_held j.script held)) (P all) (Q all) (f all)) h
 
+judged_told : (all text source script : List ℕ) (t : Task) → (source ≡ take (source_limit + 1) all) × (script ≡ take (script_limit + 1) text)
+    → (sides : Option (List Bool)) (v : Verdict) → Judged source script t sides v → Judged all text t sides v
+judged_told all text source script t is sides v judged = more_decides all text t sides v
+    (subst (λ (s : List ℕ). Judged s (take (script_limit + 1) text) t sides v) is.0 (subst (λ (s : List ℕ). Judged source s t sides v) is.1 judged))
+
 verdict_told : (all text source script : List ℕ) (t : Task) (sides : Option (List Bool)) (P Q : Answer → Type 0) → ((a : Answer) → P a → Q a) → (source ≡ take (source_limit + 1) all) × (script ≡ take (script_limit + 1) text)
     → SomeVerdict source script t sides P → SomeVerdict all text t sides Q
 verdict_told all text source script t sides P Q f is v = record {
   verdict = v.verdict;
-  judged = more_decides all text t sides v.verdict
-      (subst (λ (s : List ℕ). Judged s (take (script_limit + 1) text) t sides v.verdict) is.0 (subst (λ (s : List ℕ). Judged source s t sides v.verdict) is.1 v.judged));
+  judged = judged_told all text source script t is sides v.verdict v.judged;
+  right = right_of (Judged source script t) (Judged all text t) (judged_told all text source script t is) v.verdict v.right;
   answered = f (answer_of v.verdict) v.answered;
 }
 
@@ -161,7 +169,7 @@ of_verdict (Files j) held source script P Q f is v =
     of_files j held (λ all text. (source ≡ take (source_limit + 1) all) × (script ≡ take (script_limit + 1) text)) (λ all text. SomeVerdict all text j.task j.sides Q)
     (λ all text read. verdict_told all text source script j.task j.sides P Q f read v) is
 of_verdict (Generated n) held source script P Q f is v =
-    let w : SomeVerdict source script (task_of (Generated n)) None Q = record { verdict = v.verdict; judged = v.judged; answered = f (answer_of v.verdict) v.answered } in
+    let w : SomeVerdict source script (task_of (Generated n)) None Q = record { verdict = v.verdict; judged = v.judged; right = v.right; answered = f (answer_of v.verdict) v.answered } in
     subst (λ (s : List ℕ). SomeVerdict s [] (task_of (Generated n)) None Q) is.0 (subst (λ (s : List ℕ). SomeVerdict source s (task_of (Generated n)) None Q) is.1 w)
 
 of_run : (j : Job) (held : List ℕ → Option (List ℕ)) (source script : List ℕ) (P : State → List (List ℕ) → Type 0)

@@ -4,6 +4,7 @@ pub mod TypedLemmas
 pub mod ComesLemmas
 pub mod JudgedLemmas
 pub mod Limits
+pub mod LateLemmas
 pub mod RunLemmas
 pub mod LoadLemmas
 pub mod FilesLemmas

@@ -1,6 +1,6 @@
 -- What a source with its script is, and what a run of it comes to.
-use Rattle.std.proofs.Common.{◌≡◌, ℕ, Bool, ◌<◌, ◌≤◌, List, length, refl, inr, Err}
-use Rattle.std.specs.Prelude.{Option}
+use Rattle.std.proofs.Common.{◌≡◌, ℕ, Bool, ◌<◌, ◌≤◌, List, [], length, refl, inr, Err}
+use Rattle.std.specs.Prelude.{Option, None, Some, IfNone, map}
 use Rattle.pv_script.specs.declared.scripts.ScriptError.{ScriptError}
 use Rattle.pv_script.specs.declared.scripts.ScriptError.TheVariants as why
 use Rattle.pv_script.specs.Lines.{ScriptLine}
@@ -10,6 +10,11 @@ use Rattle.pv_exec.specs.Run.{setting_of, run_of}
 use Rattle.pv_exec.specs.declared.program.Ran.{Ran}
 use Rattle.pv_exec.specs.declared.program.RunError.{RunError}
 use Rattle.pv_exec.specs.declared.program.RunError.TheVariants as error
+use Rattle.pv_exec.specs.declared.sides.Side.{Side}
+use Rattle.pv_exec.specs.Answering.{highs}
+use Rattle.pv_exec.specs.Laws.{run_at}
+use Rattle.pv_exec.specs.Settling.{SettlesAlike, IsUndefinedByAll}
+use Rattle.pv_exec.specs.Sided.{is_high}
 use Rattle.pv_serve.specs.declared.checking.Refused.TheVariants as refused
 use Rattle.pv_serve.specs.declared.loading.Loaded.TheVariants as loaded
 use Rattle.pv_serve.specs.declared.judging.Judged.TheVariants as judged
@@ -17,7 +22,7 @@ use Rattle.pv_serve.specs.Comes.{source_limit}
 use Rattle.pv_serve.specs.Judged.{Oversize, Unread, IsToRun}
 use Rattle.pv_serve.specs.Outside.{Sunk, Halls}
 use Rattle.pv_serve.specs.Loading.{IsLoadedProgram, IsLoaded}
-use Rattle.pv_serve.specs.Settling.{SomeRunBy, IsRan, IsQuiet, IsOutcome, IsLeft, IsUnfinished}
+use Rattle.pv_serve.specs.Settling.{SomeRunBy, IsRan, IsQuiet, IsOutcome, IsLeft, IsUnfinished, IsSettledAgain, IsUndefinedBy}
 use Rattle.pv_serve.proofs.RunLemmas.{nothing, beyond, script_refused, is_run}
 
 -- ---- a source or a script that is refused
@@ -59,3 +64,46 @@ pub left_unfinished : (source script : List ℕ) (u : Stored) (lines : List Scri
     → IsLoadedProgram source script u lines → IsLeft out hall e (run_of (setting_of u bound sides zap) lines) u.names → IsUnfinished source script bound zap sides out hall e
 left_unfinished source script u lines bound zap sides out hall error.NoMemory p h = inr (left_run source script u lines bound zap sides out hall error.NoMemory p h)
 left_unfinished source script u lines bound zap sides out hall error.WriteFault p h = left_run source script u lines bound zap sides out hall error.WriteFault p h
+
+-- ---- late settling
+
+settled_again : (source script : List ℕ) (u : Stored) (lines : List ScriptLine) (bound : ℕ) (zap : Bool) (out : Sunk) (hall : Halls) (ran : Ran) (names : List (List ℕ))
+    → IsLoadedProgram source script u lines → IsRan out hall ran names (run_at u None zap lines bound) u.names → SettlesAlike u bound zap lines ran
+    → IsSettledAgain source script bound zap out (judged.Ran ran names)
+settled_again source script u lines bound zap out hall ran names p is alike = λ decided. record {
+  job = to_run source script u lines p;
+  run = run_at u None zap lines bound;
+  runs = is_run u lines bound zap None;
+  holds = record {
+    ended = is.ended;
+    gains = is.gains;
+    again = record {
+      job = to_run source script u lines p;
+      run = run_at u (Some (map is_high ran.sides)) zap lines bound;
+      runs = is_run u lines bound zap (Some (map is_high ran.sides));
+      holds = alike decided;
+    };
+  };
+}
+
+undefined_by : (source script : List ℕ) (u : Stored) (lines : List ScriptLine) (bound : ℕ) (zap : Bool) (ran : Ran) → IsLoadedProgram source script u lines
+    → IsUndefinedByAll u bound zap lines ran → IsUndefinedBy source script bound zap (judged.Ran ran [])
+undefined_by source script u lines bound zap ran p all = λ undefined sides many. record {
+  job = to_run source script u lines p;
+  run = run_at u (Some sides) zap lines bound;
+  runs = is_run u lines bound zap (Some sides);
+  holds = all undefined sides many;
+}
+
+-- as clauses of `judge`, whatever sides it is given
+pub late_program : {R : Type 0} (source script : List ℕ) (u : Stored) (lines : List ScriptLine) (bound : ℕ) (zap : Bool) (sides : Option R) (view : R → List Side) (out : Sunk) (hall : Halls)
+    (ran : Ran) (names : List (List ℕ)) → IsLoadedProgram source script u lines → IsRan out hall ran names (run_of (setting_of u bound (highs sides view) zap) lines) u.names
+    → IfNone sides (SettlesAlike u bound zap lines ran) → IfNone sides (IsSettledAgain source script bound zap out (judged.Ran ran names))
+late_program source script u lines bound zap None view out hall ran names p is alike = settled_again source script u lines bound zap out hall ran names p is alike
+late_program source script u lines bound zap (Some r) view out hall ran names p is alike = tt
+
+-- of the names nothing is said, so what holds of none holds of any
+pub sooner_program : {R : Type 0} (source script : List ℕ) (u : Stored) (lines : List ScriptLine) (bound : ℕ) (zap : Bool) (sides : Option R) (ran : Ran)
+    → IsLoadedProgram source script u lines → IfNone sides (IsUndefinedByAll u bound zap lines ran) → IfNone sides (IsUndefinedBy source script bound zap (judged.Ran ran []))
+sooner_program source script u lines bound zap None ran p all = undefined_by source script u lines bound zap ran p all
+sooner_program source script u lines bound zap (Some r) ran p all = tt

@@ -1,6 +1,6 @@
 -- What a judgement is, from what the parts of the judging answer.
 use Rattle.std.proofs.Common.{◌≡◌, ◌⊎◌, ℕ, ◌<◌, ◌≤◌, Bool, List, [], length, refl, sym, ap, ◌∙◌, subst, arith, inl, inr}
-use Rattle.std.specs.Prelude.{Result, Ok, Err, IfOk, IfErr, Option, None, Some, map, is_none}
+use Rattle.std.specs.Prelude.{Result, Ok, Err, IfOk, IfErr, IfNone, Option, None, Some, map, is_none}
 use Rattle.std.proofs.lemmas.Option.{get_or_from_slice_get, slice_get_within}
 use Rattle.pv_script.specs.Outside.{Gains}
 use Rattle.pv_script.specs.declared.scripts.ScriptError.{ScriptError}
@@ -22,6 +22,8 @@ use Rattle.pv_exec.specs.declared.program.RunError.{RunError}
 use Rattle.pv_exec.specs.declared.program.RunError.TheVariants as error
 use Rattle.pv_exec.specs.Streaming.{event_of}
 use Rattle.pv_exec.specs.Answering.{RanAs, ToldOr, FaultCause, end_of}
+use Rattle.pv_exec.specs.Laws.{run_at}
+use Rattle.pv_exec.specs.Settling.{SettlesAlike, IsUndefinedByAll}
 use Rattle.pv_describe.specs.Describing.{check_text, layout_text}
 use Rattle.pv_serve.specs.declared.words.Task.{Task}
 use Rattle.pv_serve.specs.declared.words.Task.TheVariants as task
@@ -34,9 +36,11 @@ use Rattle.pv_serve.specs.Comes.{Comes, source_limit}
 use Rattle.pv_serve.specs.Judged.{Judged, Oversize, Unread, Unfit, Fit, UnitGives, IsRunBy, RunEnds, Plan, late_plan, settled_plan, plan_of, SomeRun}
 use Rattle.pv_serve.specs.Outside.{Sunk, Wrote, WrotePrefix, Halls}
 use Rattle.pv_serve.specs.Judging.{Shown, nothing_shown, ending_of, verdict_of, output_of, IsJudged, BeganOutput, LeftPart, IsCutOff, UnitJudged, UnitRun, UnitCutOff, HasFault}
+use Rattle.pv_serve.specs.LateSettling.{SettlesRight}
 use Rattle.pv_serve.specs.Settling.{IsRan, IsLeft}
 use Rattle.pv_serve.specs.Watching.{AreTold}
 use Rattle.pv_serve.proofs.ComesLemmas.{source_limit_is}
+use Rattle.pv_serve.proofs.LateLemmas.{right_of, settled_right}
 
 -- ---- tables that are known can be run
 
@@ -70,6 +74,7 @@ pub run_judged : (u : Stored) (lines : List ScriptLine) (bound : ℕ) (zap : Boo
 run_judged u lines bound zap out hall run ran names runs is = record {
   shown = shown_by run;
   gives = (ending_of ran names (shown_by run), run_ends (whole u) lines bound zap None run ran names runs is.ended is.named, refl);
+  right = tt;
   gains = is.gains;
   told = subst (λ (texts : List (List ℕ)). Told hall.old (map event_of (end_of run).events) texts hall.new) (sym is.named) is.told;
 }
@@ -81,15 +86,23 @@ run_cut_off unit lines bound zap out hall run error.WriteFault runs left = recor
 
 -- ---- settled runs, which nobody watches
 
-pub settled_judged : (u : Stored) (lines : List ScriptLine) (bound : ℕ) (zap : Bool) (sides : Option (List Bool)) (out : Sunk) (nobody hall : Halls) (run : Res Worth) (ran : Ran) (names : List (List ℕ)) (listed : Bool)
-    → hall.new ≡ hall.old → listed ≡ is_none sides → IsRunBy (whole u) lines bound zap sides run → IsRan out nobody ran names run u.names
+pub settled_judged : (u : Stored) (lines : List ScriptLine) (bound : ℕ) (zap : Bool) (sides : Option (List Bool)) (out : Sunk) (nobody hall : Halls) (ran : Ran) (names : List (List ℕ)) (listed : Bool)
+    → hall.new ≡ hall.old → listed ≡ is_none sides → IsRan out nobody ran names (run_at u sides zap lines bound) u.names
+    → IfNone sides (SettlesAlike u bound zap lines ran) → IfNone sides (IsUndefinedByAll u bound zap lines ran)
     → UnitJudged (whole u) lines (task.Settle bound zap) sides out hall (judgement.Settled ran names bound listed)
-settled_judged u lines bound zap sides out nobody hall run ran names listed same told runs is = record {
-  shown = shown_by run;
-  gives = (ending_of ran names (shown_by run), run_ends (whole u) lines bound zap sides run ran names runs is.ended is.named, ap (λ (b : Bool). Settled (ending_of ran names (shown_by run)) bound b) told);
-  gains = is.gains;
-  told = same;
-}
+settled_judged u lines bound zap sides out nobody hall ran names listed same told is alike all =
+    let run = run_at u sides zap lines bound in
+    record {
+      shown = shown_by run;
+      gives = (
+        ending_of ran names (shown_by run),
+        run_ends (whole u) lines bound zap sides run ran names (is_run u lines bound zap sides) is.ended is.named,
+        ap (λ (b : Bool). Settled (ending_of ran names (shown_by run)) bound b) told,
+      );
+      right = settled_right u lines bound zap sides ran names (shown_by run) listed told is.ended refl is.named alike all;
+      gains = is.gains;
+      told = same;
+    }
 
 -- of what a settled run left nothing was told
 told_nothing : (out : Sunk) (nobody hall : Halls) (end : State) (names : List (List ℕ)) → hall.new ≡ hall.old → LeftPart out nobody end names → LeftPart out hall end names
@@ -147,10 +160,12 @@ quiet_told : (v : Verdict) (hall : Halls) → hall.new ≡ hall.old → IsQuiet 
 quiet_told v hall same q = subst (λ (c : Option Course). AreTold c hall.old hall.new) (sym q.1) same
 
 unit_described : (unit : WholeUnit) (lines : List ScriptLine) (t : Task) (sides : Option (List Bool)) (out : Sunk) (hall : Halls) (j : Judgement) → IsUntouched out hall
-    → UnitGives unit lines t sides (verdict_of j nothing_shown) → IsQuiet (verdict_of j nothing_shown) → UnitJudged unit lines t sides out hall j
-unit_described unit lines t sides out hall j same gives none = record {
+    → UnitGives unit lines t sides (verdict_of j nothing_shown) → SettlesRight (UnitGives unit lines t) (verdict_of j nothing_shown) → IsQuiet (verdict_of j nothing_shown)
+    → UnitJudged unit lines t sides out hall j
+unit_described unit lines t sides out hall j same gives right none = record {
   shown = nothing_shown;
   gives = gives;
+  right = right;
   gains = quiet_gains (verdict_of j nothing_shown) out same.0 none;
   told = quiet_told (verdict_of j nothing_shown) hall same.1 none;
 }
@@ -161,7 +176,8 @@ is_quiet v text e = (ap output_of e, ap course_of e)
 described_judged : (unit : WholeUnit) (lines : List ScriptLine) (t : Task) (sides : Option (List Bool)) (out : Sunk) (hall : Halls) (r : Result Judgement RunError) (want : List ℕ) → IsUntouched out hall
     → UnitGives unit lines t sides (Described want) → IfOk r (λ j. verdict_of j nothing_shown ≡ Described want) → IfOk r (UnitJudged unit lines t sides out hall)
 described_judged unit lines t sides out hall (Ok j) want same gives e =
-    unit_described unit lines t sides out hall j same (subst (UnitGives unit lines t sides) (sym e) gives) (is_quiet (verdict_of j nothing_shown) want e)
+    unit_described unit lines t sides out hall j same (subst (UnitGives unit lines t sides) (sym e) gives)
+    (subst (λ (v : Verdict). SettlesRight (UnitGives unit lines t) v) (sym e) tt) (is_quiet (verdict_of j nothing_shown) want e)
 described_judged unit lines t sides out hall (Err x) want same gives e = tt
 
 gives_check : (unit : WholeUnit) (lines : List ScriptLine) (t : Task) (sides : Option (List Bool)) → t ≡ task.Check → UnitGives unit lines t sides (Described (check_text unit))
@@ -187,7 +203,7 @@ memory_cut_unit unit lines t sides out hall (Err error.WriteFault) same e = absu
 -- the task of a run, which no sides change
 run_any : (unit : WholeUnit) (lines : List ScriptLine) (bound : ℕ) (zap : Bool) (sides : Option (List Bool)) (out : Sunk) (hall : Halls) (r : Result Judgement RunError)
     → IfOk r (UnitJudged unit lines (task.Run bound zap) None out hall) → IfOk r (UnitJudged unit lines (task.Run bound zap) sides out hall)
-run_any unit lines bound zap sides out hall (Ok j) h = record { shown = h.shown; gives = h.gives; gains = h.gains; told = h.told }
+run_any unit lines bound zap sides out hall (Ok j) h = record { shown = h.shown; gives = h.gives; right = h.right; gains = h.gains; told = h.told }
 run_any unit lines bound zap sides out hall (Err e) h = tt
 
 cut_any : (unit : WholeUnit) (lines : List ScriptLine) (bound : ℕ) (zap : Bool) (sides : Option (List Bool)) (P : State → List (List ℕ) → Type 0)
@@ -228,7 +244,13 @@ task_bound t k is h = subst IsTask is h
 pub judged_fit : (source script : List ℕ) (lines : List ScriptLine) (unit : WholeUnit) (t : Task) (sides : Option (List Bool)) (out : Sunk) (hall : Halls) (r : Result Judgement RunError)
     → length source ≤ source_limit → script_of script ≡ Ok lines → Comes source (Program unit)
     → IfOk r (UnitJudged unit lines t sides out hall) → IfOk r (IsJudged source script t sides out hall)
-judged_fit source script lines unit t sides out hall (Ok j) short e c u = record { shown = u.shown; judged = Fit lines unit short e c u.gives; gains = u.gains; told = u.told }
+judged_fit source script lines unit t sides out hall (Ok j) short e c u = record {
+  shown = u.shown;
+  judged = Fit lines unit short e c u.gives;
+  right = right_of (UnitGives unit lines t) (Judged source script t) (λ given v gives. Fit lines unit short e c gives) (verdict_of j u.shown) u.right;
+  gains = u.gains;
+  told = u.told;
+}
 judged_fit source script lines unit t sides out hall (Err x) short e c u = tt
 
 part_fit : (source script : List ℕ) (lines : List ScriptLine) (unit : WholeUnit) (t : Task) (sides : Option (List Bool)) (P : State → List (List ℕ) → Type 0)
@@ -255,11 +277,12 @@ cut_fit source script lines unit t sides out hall (Err error.NoMemory) short e c
 -- ---- a source or a script that is refused
 
 pub judged_nothing : (source script : List ℕ) (t : Task) (sides : Option (List Bool)) (out : Sunk) (hall : Halls) (j : Judgement) → IsUntouched out hall
-    → Judged source script t sides (verdict_of j nothing_shown) → output_of (verdict_of j nothing_shown) ≡ [] → course_of (verdict_of j nothing_shown) ≡ None
-    → IsJudged source script t sides out hall j
-judged_nothing source script t sides out hall j same judged none untold = record {
+    → Judged source script t sides (verdict_of j nothing_shown) → SettlesRight (Judged source script t) (verdict_of j nothing_shown)
+    → output_of (verdict_of j nothing_shown) ≡ [] → course_of (verdict_of j nothing_shown) ≡ None → IsJudged source script t sides out hall j
+judged_nothing source script t sides out hall j same judged right none untold = record {
   shown = nothing_shown;
   judged = judged;
+  right = right;
   gains = quiet_gains (verdict_of j nothing_shown) out same.0 (none, untold);
   told = quiet_told (verdict_of j nothing_shown) hall same.1 (none, untold);
 }

@@ -9,6 +9,7 @@ use Rattle.pv_serve.specs.Verdicts.{Verdict, Course, course_of}
 use Rattle.pv_serve.specs.Comes.{source_limit}
 use Rattle.pv_serve.specs.Judged.{Judged, SomeRun}
 use Rattle.pv_serve.specs.Judging.{output_of}
+use Rattle.pv_serve.specs.LateSettling.{SettlesRight}
 use Rattle.pv_serve.specs.Report.{status_of, report_line, words_line}
 use Rattle.pv_serve.specs.Watching.{AreTold, IsReport}
 
@@ -35,10 +36,11 @@ pub record HasReport (kept new : List Slot) (a : Answer) (P : List ℕ → Type 
   pub is : IsReport a.course new a.line text
   pub holds : P text
 
--- 5.1.1.3p1, 5.1.2.3: there is a verdict on the source with this script, and of its answer P holds
+-- 5.1.1.3p1, 5.1.2.3: there is a verdict on the source with this script, what it says of sides is right (the memory model), and of its answer P holds
 pub record SomeVerdict (source script : List ℕ) (task : Task) (sides : Option (List Bool)) (P : Answer → Type 0) : Type 0 where
   pub verdict : Verdict
   pub judged : Judged source script task sides verdict
+  pub right : SettlesRight (Judged source script task) verdict
   pub answered : P (answer_of verdict)
 
 -- docs/FORMATS.md, Scripts of addresses (the memory model): the bytes of the script that a job names, where they are told; one that names none has none

@@ -16,6 +16,7 @@ use Rattle.pv_serve.specs.declared.tasks.Judgement.TheVariants as judgement
 use Rattle.pv_serve.specs.Verdicts.{Verdict, Ending, Ended, Settled, Described, Refused, Script, course_of}
 use Rattle.pv_serve.specs.Readings.{refusal_of}
 use Rattle.pv_serve.specs.Judged.{Judged, Plan, plan_of, SomeRun, UnitGives, IsRunBy}
+use Rattle.pv_serve.specs.LateSettling.{SettlesRight}
 use Rattle.pv_serve.specs.Outside.{Sunk, Wrote, WrotePrefix, Halls}
 use Rattle.pv_serve.specs.Watching.{AreTold}
 
@@ -48,10 +49,12 @@ output_of (Described text) = []
 output_of (Refused refusal) = []
 output_of (Script why) = []
 
--- 5.1.2.3p6: a judgement is the verdict; the sink gained what was printed, and those who watch were told what happened (the memory model)
+-- 5.1.2.3p6: a judgement is the verdict, and what it says of sides is right (the memory model); the sink gained what was printed, and those who watch were
+-- told what happened
 pub record IsJudged (source script : List ℕ) (t : Task) (sides : Option (List Bool)) (out : Sunk) (hall : Halls) (j : Judgement) : Type 0 where
   pub shown : Shown
   pub judged : Judged source script t sides (verdict_of j shown)
+  pub right : SettlesRight (Judged source script t) (verdict_of j shown)
   pub gains : Wrote out (output_of (verdict_of j shown))
   pub told : AreTold (course_of (verdict_of j shown)) hall.old hall.new
 
@@ -73,6 +76,7 @@ IsCutOff source script t sides out hall error.WriteFault = SomeRun source script
 pub record UnitJudged (unit : WholeUnit) (lines : List ScriptLine) (t : Task) (sides : Option (List Bool)) (out : Sunk) (hall : Halls) (j : Judgement) : Type 0 where
   pub shown : Shown
   pub gives : UnitGives unit lines t sides (verdict_of j shown)
+  pub right : SettlesRight (UnitGives unit lines t) (verdict_of j shown)
   pub gains : Wrote out (output_of (verdict_of j shown))
   pub told : AreTold (course_of (verdict_of j shown)) hall.old hall.new
 

@@ -5,6 +5,7 @@ pub mod Readings
 pub mod Comes
 pub mod Judged
 pub mod Report
+pub mod LateSettling
 pub mod Watching
 pub mod Outside
 pub mod Judging

@@ -1,6 +1,6 @@
 -- What `judge` answers of a source with its script: how its run ended, whose pairs of candidates are settled late or, with sides, at their making
 -- (the memory model), or why it has none (5.1.1.3p1).
-use Rattle.std.specs.Prelude.{◌≡◌, ◌⊎◌, ℕ, Bool, List, [], map, Option}
+use Rattle.std.specs.Prelude.{◌≡◌, ◌⊎◌, ℕ, ◌≤◌, Bool, List, [], length, map, Option, None, Some}
 use Rattle.pv_watch.specs.Slots.{Told}
 use Rattle.pv_world.specs.Worlds.{Worth}
 use Rattle.pv_eval.specs.States.{Res}
@@ -8,6 +8,8 @@ use Rattle.pv_exec.specs.declared.program.Ran.{Ran}
 use Rattle.pv_exec.specs.declared.program.RunError.{RunError}
 use Rattle.pv_exec.specs.declared.program.RunError.TheVariants as error
 use Rattle.pv_exec.specs.Streaming.{event_of}
+use Rattle.pv_exec.specs.Sided.{is_high}
+use Rattle.pv_exec.specs.Settling.{IsDecided, IsUndefined, EndsAlike, EndsBy}
 use Rattle.pv_exec.specs.Answering.{RanAs, end_of}
 use Rattle.pv_serve.specs.declared.judging.Judged as declared
 use Rattle.pv_serve.specs.declared.judging.Judged.TheVariants as judged
@@ -55,6 +57,28 @@ IsLeft out hall error.WriteFault run names = LeftPart out hall (end_of run) name
 abbrev pub IsUnfinished : (source script : List ℕ) (bound : ℕ) (zap : Bool) (sides : Option (List Bool)) (out : Sunk) (hall : Halls) → RunError → Type 0
 IsUnfinished source script bound zap sides out hall error.NoMemory = Wrote out [] ⊎ SomeRunBy source script bound zap sides (IsLeft out hall error.NoMemory)
 IsUnfinished source script bound zap sides out hall error.WriteFault = SomeRunBy source script bound zap sides (IsLeft out hall error.WriteFault)
+
+-- ---- late settling is right (the memory model)
+
+-- 5.1.2.3p6: the run of which this is told, and whose output the sink gained; the run by the sides that are told, from their making (the memory model), ends
+-- alike: in the same way, at the same turn, with the same output
+pub record IsAgain (source script : List ℕ) (bound : ℕ) (zap : Bool) (out : Sunk) (ran : Ran) (run : Res Worth) : Type 0 where
+  pub ended : RanAs run ran
+  pub gains : Wrote out (end_of run).output
+  pub again : SomeRunBy source script bound zap (Some (map is_high ran.sides)) (λ settled texts. EndsAlike run settled)
+
+-- the memory model: a run that ended neither undefined nor undecided is the one that its own sides settle
+abbrev pub IsSettledAgain : (source script : List ℕ) (bound : ℕ) (zap : Bool) (out : Sunk) → declared.Judged → Type 0
+IsSettledAgain source script bound zap out (judged.Ran ran names) = IsDecided ran.outcome → SomeRunBy source script bound zap None (λ run texts. IsAgain source script bound zap out ran run)
+IsSettledAgain source script bound zap out (judged.Source why) = Unit {0}
+IsSettledAgain source script bound zap out (judged.Script why) = Unit {0}
+
+-- 3.4.3, the memory model: one that ended undefined ends undefined by every list with a side for each of its pairs, no later; of the others nothing is said
+abbrev pub IsUndefinedBy : (source script : List ℕ) (bound : ℕ) (zap : Bool) → declared.Judged → Type 0
+IsUndefinedBy source script bound zap (judged.Ran ran names) = IsUndefined ran.outcome → (sides : List Bool) → length ran.sides ≤ length sides
+    → SomeRunBy source script bound zap (Some sides) (λ run texts. EndsBy ran.turns run)
+IsUndefinedBy source script bound zap (judged.Source why) = Unit {0}
+IsUndefinedBy source script bound zap (judged.Script why) = Unit {0}
 
 -- ---- the report
 

@@ -1,5 +1,5 @@
 //! What a source with its script comes to: the end of its run, or why it has none.
-ghost use Rattle.std.specs.Prelude.{◌≡◌, ◌<◌, ◌≤◌, ◌+◌, ◌++◌, ◌⊎◌, ℕ, Bool, List, length, take, Some, IfOk, IfErr};
+ghost use Rattle.std.specs.Prelude.{◌≡◌, ◌<◌, ◌≤◌, ◌+◌, ◌++◌, ◌⊎◌, ℕ, Bool, List, length, take, Some, IfNone, IfOk, IfErr};
 ghost use Rattle.std.specs.declared.option.Option.{Option};
 ghost use Rattle.std.specs.List.{flat_map};
 ghost use Rattle.pv_script.specs.Lines.{ScriptLine};
@@ -7,6 +7,7 @@ ghost use Rattle.pv_watch.specs.Slots.{Slot};
 ghost use Rattle.pv_typed.specs.Tables.{Stored};
 ghost use Rattle.pv_exec.specs.Run.{setting_of, run_of};
 ghost use Rattle.pv_exec.specs.Answering.{highs};
+ghost use Rattle.pv_exec.specs.Settling.{SettlesAlike, IsUndefinedByAll};
 ghost use Rattle.pv_serve.specs.Jobs.{IsBound};
 ghost use Rattle.pv_serve.specs.Verdicts.{Verdict, Ending, Course};
 ghost use Rattle.pv_serve.specs.Readings.{IsFit};
@@ -15,7 +16,7 @@ ghost use Rattle.pv_serve.specs.Judged.{Judged as HasVerdict, Ends, IsLeftToRun,
 ghost use Rattle.pv_serve.specs.Outside.{sunk, halls};
 ghost use Rattle.pv_serve.specs.Judging.{HasFault};
 ghost use Rattle.pv_serve.specs.Loading.{IsLoadedProgram};
-ghost use Rattle.pv_serve.specs.Settling.{IsRan, IsOutcome, IsLeft, IsUnfinished};
+ghost use Rattle.pv_serve.specs.Settling.{IsRan, IsOutcome, IsLeft, IsUnfinished, IsSettledAgain, IsUndefinedBy};
 ghost use Rattle.pv_serve.specs.Watching.{AreFresh, AreTold, IsReport, stories};
 
 use crate::NoMemory;
@@ -47,6 +48,9 @@ pub enum Judged {
 /// stands for its side from its making, and a run that makes more pairs ends at the first that has none.
 ///
 /// A source that is too long is refused before its script is read, the script before the source is.
+///
+/// Late settling is right: without sides, a run that ends neither undefined nor undecided ends alike where it is given the sides that it ended
+/// with; one that ends undefined does so by every list with a side for each of its pairs, no later.
 pub fn judge<O: Sink>(
     alloc: Global,
     source: &[u8],
@@ -63,6 +67,9 @@ pub fn judge<O: Sink>(
     ensures part { IfErr result (IsUnfinished source.now script.now bound zap (highs sides.entry (λ x. x.now))
         (sunk O.written O.faults out.old out.new) (halls hall.old hall.new its_kind its_wants seen)) }
     ensures cause { HasFault result (O.faults out.old) (O.faults out.new) }
+    ensures late { IfOk result (λ j. IfNone sides.entry
+        (IsSettledAgain source.now script.now bound zap (sunk O.written O.faults out.old out.new) j)) }
+    ensures sooner { IfOk result (λ j. IfNone sides.entry (IsUndefinedBy source.now script.now bound zap j)) }
 {
     match load(alloc, source, script) {
         Ok(Loaded::Program { unit, lines }) => {
@@ -92,6 +99,10 @@ fn run_program<O: Sink>(
     ensures part { (source script : List ℕ) → IsLoadedProgram source script unit lines → IfErr result (IsUnfinished source script bound zap
         (highs sides.entry (λ x. x.now)) (sunk O.written O.faults out.old out.new) (halls hall.old hall.new its_kind its_wants seen)) }
     ensures cause { HasFault result (O.faults out.old) (O.faults out.new) }
+    ensures late { (source script : List ℕ) → IsLoadedProgram source script unit lines → IfOk result (λ j. IfNone sides.entry
+        (IsSettledAgain source script bound zap (sunk O.written O.faults out.old out.new) j)) }
+    ensures sooner { (source script : List ℕ) → IsLoadedProgram source script unit lines → IfOk result (λ j. IfNone sides.entry
+        (IsUndefinedBy source script bound zap j)) }
 {
     match run_unit(alloc, unit, lines, bound, zap, sides, out, hall) {
         Ok(named) => Ok(Judged::Ran {
@@ -127,6 +138,8 @@ pub(crate) fn run_unit<O: Sink>(
     ensures left { IfErr result (λ e. IsLeft (sunk O.written O.faults out.old out.new) (halls hall.old hall.new its_kind its_wants seen)
         e (run_of (setting_of unit bound (highs sides.entry (λ x. x.now)) zap) lines) unit.names) }
     ensures cause { HasFault result (O.faults out.old) (O.faults out.new) }
+    ensures late { IfOk result (λ r. IfNone sides.entry (SettlesAlike unit bound zap lines r.ran)) }
+    ensures sooner { IfOk result (λ r. IfNone sides.entry (IsUndefinedByAll unit bound zap lines r.ran)) }
 {
     match run(alloc, &unit, lines, bound, zap, sides, out, hall) {
         Ok(ran) => {

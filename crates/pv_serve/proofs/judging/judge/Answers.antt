@@ -1,5 +1,6 @@
 use Rattle.std.proofs.Common.{refl, inl}
 use Rattle.pv_script.proofs.GainsLemmas.{gains_nothing}
+use Rattle.pv_serve.proofs.LateLemmas.{if_none}
 use Rattle.pv_serve.proofs.LoadLemmas.{quiet}
 use Rattle.pv_serve.proofs.judging.judge.Goals as goal
 
@@ -11,6 +12,8 @@ returns-in-Ok-Program g c = record {
   judged = c.run_program.ensures.judged _ _ (rw c.in-Ok-Program.field-0-is at c.in-Ok-Program.ensures);
   part = c.run_program.ensures.part _ _ (rw c.in-Ok-Program.field-0-is at c.in-Ok-Program.ensures);
   cause = c.run_program.ensures.cause;
+  late = c.run_program.ensures.late _ _ (rw c.in-Ok-Program.field-0-is at c.in-Ok-Program.ensures);
+  sooner = c.run_program.ensures.sooner _ _ (rw c.in-Ok-Program.field-0-is at c.in-Ok-Program.ensures);
 }
 
 pub returns-in-Ok-Source : goal.returns-in-Ok-Source
@@ -18,6 +21,8 @@ returns-in-Ok-Source g c = record {
   judged = ((rw c.in-Ok-Source.field-0-is at c.in-Ok-Source.ensures), quiet _ _ refl refl);
   part = tt;
   cause = tt;
+  late = if_none _ _ tt;
+  sooner = if_none _ _ tt;
 }
 
 pub returns-in-Ok-Script : goal.returns-in-Ok-Script
@@ -25,6 +30,8 @@ returns-in-Ok-Script g c = record {
   judged = ((rw c.in-Ok-Script.field-0-is at c.in-Ok-Script.ensures), quiet _ _ refl refl);
   part = tt;
   cause = tt;
+  late = if_none _ _ tt;
+  sooner = if_none _ _ tt;
 }
 
 pub returns-in-Err : goal.returns-in-Err
@@ -32,4 +39,6 @@ returns-in-Err g c = record {
   judged = tt;
   part = inl (gains_nothing _);
   cause = tt;
+  late = tt;
+  sooner = tt;
 }

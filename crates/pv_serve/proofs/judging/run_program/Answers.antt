@@ -1,5 +1,5 @@
 use Rattle.pv_serve.specs.Outside.{sunk}
-use Rattle.pv_serve.proofs.LoadLemmas.{ran_outcome, left_unfinished}
+use Rattle.pv_serve.proofs.LoadLemmas.{ran_outcome, left_unfinished, late_program, sooner_program}
 use Rattle.pv_serve.proofs.judging.run_program.Goals as goal
 
 pub run_unit-requires : goal.run_unit-requires
@@ -10,6 +10,8 @@ returns-in-Ok g c = record {
   judged = λ source script is. ran_outcome source script _ _ _ _ _ _ _ _ _ is c.in-Ok.ensures.ran;
   part = λ source script is. tt;
   cause = tt;
+  late = λ source script is. late_program source script _ _ _ _ _ _ _ _ _ _ is c.in-Ok.ensures.ran c.in-Ok.ensures.late;
+  sooner = λ source script is. sooner_program source script _ _ _ _ _ _ is c.in-Ok.ensures.sooner;
 }
 
 pub returns-in-Err : goal.returns-in-Err
@@ -17,4 +19,6 @@ returns-in-Err g c = record {
   judged = λ source script is. tt;
   part = λ source script is. left_unfinished source script _ _ _ _ _ (sunk g.O.Sink.written g.O.Sink.faults _ _) _ _ is c.in-Err.ensures.left;
   cause = c.in-Err.ensures.cause;
+  late = λ source script is. tt;
+  sooner = λ source script is. tt;
 }

@@ -11,6 +11,8 @@ returns-in-Ok g c = record {
   ran = record { ended = c.in-Ok.ensures.ran; gains = c.in-Ok.ensures.gains; told = c.in-Ok.ensures.told; named = c.names_of-names.ensures };
   left = tt;
   cause = tt;
+  late = c.in-Ok.ensures.late;
+  sooner = c.in-Ok.ensures.sooner;
 }
 
 pub returns-in-Err : goal.returns-in-Err
@@ -18,4 +20,6 @@ returns-in-Err g c = record {
   ran = tt;
   left = left_by (sunk g.O.Sink.written g.O.Sink.faults _ _) _ _ _ _ c.in-Err.ensures.part c.in-Err.ensures.told;
   cause = fault_of Named _ _ _ c.in-Err.ensures.cause;
+  late = tt;
+  sooner = tt;
 }

@@ -18,14 +18,14 @@ returns-in-Ok-Program g c =
 
 pub returns-in-Ok-Source : goal.returns-in-Ok-Source
 returns-in-Ok-Source g c = record {
-  judged = judged_nothing _ _ _ _ _ _ _ (refl, refl) ((rw c.in-Ok-Source.field-0-is at c.in-Ok-Source.ensures).judged _ _) refl refl;
+  judged = judged_nothing _ _ _ _ _ _ _ (refl, refl) ((rw c.in-Ok-Source.field-0-is at c.in-Ok-Source.ensures).judged _ _) tt refl refl;
   part = tt;
   cause = tt;
 }
 
 pub returns-in-Ok-Script : goal.returns-in-Ok-Script
 returns-in-Ok-Script g c = record {
-  judged = judged_nothing _ _ _ _ _ _ _ (refl, refl) ((rw c.in-Ok-Script.field-0-is at c.in-Ok-Script.ensures).judged _ _) refl refl;
+  judged = judged_nothing _ _ _ _ _ _ _ (refl, refl) ((rw c.in-Ok-Script.field-0-is at c.in-Ok-Script.ensures).judged _ _) tt refl refl;
   part = tt;
   cause = tt;
 }

@@ -1,6 +1,7 @@
 use Rattle.std.proofs.Common.{inl}
 use Rattle.pv_script.proofs.GainsLemmas.{gains_nothing}
 use Rattle.pv_serve.specs.Outside.{sunk}
+use Rattle.pv_serve.proofs.LateLemmas.{none_highs}
 use Rattle.pv_serve.proofs.RunLemmas.{is_run, settled_judged, settled_cut_off}
 use Rattle.pv_serve.proofs.SidesLemmas.{are_listed}
 use Rattle.pv_serve.proofs.tasks.run_settled.Goals as goal
@@ -17,7 +18,8 @@ returns-in-Err g c = record {
 
 pub returns-in-Ok-run_unit : goal.returns-in-Ok-run_unit
 returns-in-Ok-run_unit g c = record {
-  judged = λ hall same. settled_judged c.args.unit c.args.lines c.args.bound _ _ _ _ hall _ _ _ _ same (are_listed _ _ _ c.is_none.ensures) (is_run _ _ _ _ _) c.in-Ok-run_unit.ensures.ran;
+  judged = λ hall same. settled_judged c.args.unit c.args.lines c.args.bound _ _ _ _ hall _ _ _ same (are_listed _ _ _ c.is_none.ensures) c.in-Ok-run_unit.ensures.ran
+      (none_highs _ _ _ c.in-Ok-run_unit.ensures.late) (none_highs _ _ _ c.in-Ok-run_unit.ensures.sooner);
   part = λ hall same. tt;
   cause = tt;
 }
