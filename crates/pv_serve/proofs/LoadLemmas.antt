@@ -11,8 +11,9 @@ use Rattle.pv_exec.specs.declared.program.Ran.{Ran}
 use Rattle.pv_exec.specs.declared.program.RunError.{RunError}
 use Rattle.pv_exec.specs.declared.program.RunError.TheVariants as error
 use Rattle.pv_exec.specs.declared.sides.Side.{Side}
-use Rattle.pv_exec.specs.Answering.{highs}
+use Rattle.pv_exec.specs.Answering.{highs, end_at}
 use Rattle.pv_exec.specs.Laws.{run_at}
+use Rattle.pv_exec.specs.Stages.{stage_of}
 use Rattle.pv_exec.specs.Settling.{SettlesAlike, IsUndefinedByAll}
 use Rattle.pv_exec.specs.Sided.{is_high}
 use Rattle.pv_serve.specs.declared.checking.Refused.TheVariants as refused
@@ -22,7 +23,7 @@ use Rattle.pv_serve.specs.Comes.{source_limit}
 use Rattle.pv_serve.specs.Judged.{Oversize, Unread, IsToRun}
 use Rattle.pv_serve.specs.Outside.{Sunk, Halls}
 use Rattle.pv_serve.specs.Loading.{IsLoadedProgram, IsLoaded}
-use Rattle.pv_serve.specs.Settling.{SomeRunBy, IsRan, IsQuiet, IsOutcome, IsLeft, IsUnfinished, IsSettledAgain, IsUndefinedBy}
+use Rattle.pv_serve.specs.Settling.{SomeRunBy, IsRan, IsQuiet, IsOutcome, IsLeft, IsUnfinished, HasLetOut, IsStreamed, IsSettledAgain, IsUndefinedBy}
 use Rattle.pv_serve.proofs.RunLemmas.{nothing, beyond, script_refused, is_run}
 
 -- ---- a source or a script that is refused
@@ -64,6 +65,17 @@ pub left_unfinished : (source script : List ℕ) (u : Stored) (lines : List Scri
     → IsLoadedProgram source script u lines → IsLeft out hall e (run_of (setting_of u bound sides zap) lines) u.names → IsUnfinished source script bound zap sides out hall e
 left_unfinished source script u lines bound zap sides out hall error.NoMemory p h = inr (left_run source script u lines bound zap sides out hall error.NoMemory p h)
 left_unfinished source script u lines bound zap sides out hall error.WriteFault p h = left_run source script u lines bound zap sides out hall error.WriteFault p h
+
+pub let_out_streamed : (source script : List ℕ) (u : Stored) (lines : List ScriptLine) (bound : ℕ) (zap : Bool) (sides : Option (List Bool)) (out : Sunk) (hall : Halls) (e : RunError)
+    → IsLoadedProgram source script u lines → HasLetOut out hall (stage_of u sides zap lines) (end_at u bound sides zap lines).taken u.names e
+    → IsStreamed source script bound zap sides out hall e
+let_out_streamed source script u lines bound zap sides out hall error.NoMemory p left = tt
+let_out_streamed source script u lines bound zap sides out hall error.WriteFault p left = record {
+  job = to_run source script u lines p;
+  tables = u;
+  stands = refl;
+  left = left;
+}
 
 -- ---- late settling
 

@@ -21,7 +21,7 @@ use Rattle.pv_exec.specs.declared.program.Ran.{Ran}
 use Rattle.pv_exec.specs.declared.program.RunError.{RunError}
 use Rattle.pv_exec.specs.declared.program.RunError.TheVariants as error
 use Rattle.pv_exec.specs.Streaming.{event_of}
-use Rattle.pv_exec.specs.Answering.{RanAs, ToldOr, FaultCause, end_of}
+use Rattle.pv_exec.specs.Answering.{RanAs, ToldOr, StreamedOr, FaultCause, end_of}
 use Rattle.pv_exec.specs.Laws.{run_at}
 use Rattle.pv_exec.specs.Settling.{SettlesAlike, IsUndefinedByAll}
 use Rattle.pv_describe.specs.Describing.{check_text, layout_text}
@@ -37,7 +37,7 @@ use Rattle.pv_serve.specs.Judged.{Judged, Oversize, Unread, Unfit, Fit, UnitGive
 use Rattle.pv_serve.specs.Outside.{Sunk, Wrote, WrotePrefix, Halls}
 use Rattle.pv_serve.specs.Judging.{Shown, nothing_shown, ending_of, verdict_of, output_of, IsJudged, BeganOutput, LeftPart, IsCutOff, UnitJudged, UnitRun, UnitCutOff, HasFault}
 use Rattle.pv_serve.specs.LateSettling.{SettlesRight}
-use Rattle.pv_serve.specs.Settling.{IsRan, IsLeft}
+use Rattle.pv_serve.specs.Settling.{IsRan, IsLeft, HasLetOut}
 use Rattle.pv_serve.specs.Watching.{AreTold}
 use Rattle.pv_serve.proofs.ComesLemmas.{source_limit_is}
 use Rattle.pv_serve.proofs.LateLemmas.{right_of, settled_right}
@@ -135,6 +135,12 @@ pub left_by : (out : Sunk) (hall : Halls) (run : Res Worth) (names : List (List 
     → ToldOr (Err e) (record { sink = out.old; hall = hall.old }) (record { sink = out.new; hall = hall.new }) (end_of run) names → IsLeft out hall e run names
 left_by out hall run names error.NoMemory part told = part
 left_by out hall run names error.WriteFault part told = told
+
+-- how far a run that was cut off was let out, as the run says it
+pub let_out_by : (out : Sunk) (hall : Halls) (stage : ℕ → State) (taken : ℕ) (names : List (List ℕ)) (e : RunError)
+    → StreamedOr (Err e) (record { sink = out.old; hall = hall.old }) (record { sink = out.new; hall = hall.new }) stage taken names → HasLetOut out hall stage taken names e
+let_out_by out hall stage taken names error.NoMemory streamed = tt
+let_out_by out hall stage taken names error.WriteFault streamed = streamed
 
 pub fault_of : (A : Type 0) (e : RunError) (before now : ℕ) → FaultCause (Err e) before now → HasFault {A = A} (Err e) before now
 fault_of A error.NoMemory before now f = tt

@@ -1,16 +1,20 @@
 -- What `judge` answers of a source with its script: how its run ended, whose pairs of candidates are settled late or, with sides, at their making
 -- (the memory model), or why it has none (5.1.1.3p1).
 use Rattle.std.specs.Prelude.{◌≡◌, ◌⊎◌, ℕ, ◌≤◌, Bool, List, [], length, map, Option, None, Some}
+use Rattle.pv_typed.specs.Children.{Each}
+use Rattle.pv_typed.specs.Tables.{Stored, whole}
 use Rattle.pv_watch.specs.Slots.{Told}
 use Rattle.pv_world.specs.Worlds.{Worth}
-use Rattle.pv_eval.specs.States.{Res}
+use Rattle.pv_eval.specs.States.{State, Res}
 use Rattle.pv_exec.specs.declared.program.Ran.{Ran}
 use Rattle.pv_exec.specs.declared.program.RunError.{RunError}
 use Rattle.pv_exec.specs.declared.program.RunError.TheVariants as error
 use Rattle.pv_exec.specs.Streaming.{event_of}
 use Rattle.pv_exec.specs.Sided.{is_high}
 use Rattle.pv_exec.specs.Settling.{IsDecided, IsUndefined, EndsAlike, EndsBy}
-use Rattle.pv_exec.specs.Answering.{RanAs, end_of}
+use Rattle.pv_exec.specs.Answering.{RanAs, LeftAt, end_of, end_at}
+use Rattle.pv_exec.specs.Stages.{stage_of}
+use Rattle.pv_exec.specs.Words.{FitsWords}
 use Rattle.pv_serve.specs.declared.judging.Judged as declared
 use Rattle.pv_serve.specs.declared.judging.Judged.TheVariants as judged
 use Rattle.pv_serve.specs.Readings.{refusal_of}
@@ -29,11 +33,12 @@ pub record SomeRunBy (source script : List ℕ) (bound : ℕ) (zap : Bool) (side
   pub holds : P run job.unit.names
 
 -- 5.1.2.3p6: what is told of a run, in a unit with these names: how it ended (5.1.2.2.3p1), at which turn, and to which side each of its pairs was
--- settled (the memory model). The sink gained all that it printed, and those who watch were told all that happened in its memory.
+-- settled (the memory model). The sink gained all that it printed, and those who watch were told all that happened in its memory, in numbers of 64 bits.
 pub record IsRan (out : Sunk) (hall : Halls) (ran : Ran) (names : List (List ℕ)) (run : Res Worth) (texts : List (List ℕ)) : Type 0 where
   pub ended : RanAs run ran
   pub gains : Wrote out (end_of run).output
   pub told : Told hall.old (map event_of (end_of run).events) texts hall.new
+  pub words : Each FitsWords (end_of run).events
   pub named : names ≡ texts
 
 -- 5.1.1.3p1: there is no run: nothing was printed, and nobody was told of anything
@@ -57,6 +62,27 @@ IsLeft out hall error.WriteFault run names = LeftPart out hall (end_of run) name
 abbrev pub IsUnfinished : (source script : List ℕ) (bound : ℕ) (zap : Bool) (sides : Option (List Bool)) (out : Sunk) (hall : Halls) → RunError → Type 0
 IsUnfinished source script bound zap sides out hall error.NoMemory = Wrote out [] ⊎ SomeRunBy source script bound zap sides (IsLeft out hall error.NoMemory)
 IsUnfinished source script bound zap sides out hall error.WriteFault = SomeRunBy source script bound zap sides (IsLeft out hall error.WriteFault)
+
+-- ---- a run is let out by blocks while it goes on
+
+-- 7.21.3p3: where a write failed, what was written and told of a run with these stages, which takes so many turns in all
+abbrev pub HasLetOut : (out : Sunk) (hall : Halls) (stage : ℕ → State) (taken : ℕ) (names : List (List ℕ)) → RunError → Type 0
+HasLetOut out hall stage taken names error.NoMemory = Unit {0}
+HasLetOut out hall stage taken names error.WriteFault =
+    LeftAt (record { sink = out.old; hall = hall.old }) (record { sink = out.new; hall = hall.new }) stage taken names
+
+-- 5.1.2.3p6, 7.21.3p3: the same of the source's run: whole blocks and a part of the next one were written, and all events were told up to the stage behind
+-- which that block was full, or all turns were taken
+pub record IsLetOut (source script : List ℕ) (bound : ℕ) (zap : Bool) (sides : Option (List Bool)) (out : Sunk) (hall : Halls) (e : RunError) : Type 0 where
+  pub job : IsToRun source script
+  pub tables : Stored
+  pub stands : whole tables ≡ job.unit
+  pub left : HasLetOut out hall (stage_of tables sides zap job.lines) (end_at tables bound sides zap job.lines).taken job.unit.names e
+
+-- 7.21.3p3: of want of memory nothing is said
+abbrev pub IsStreamed : (source script : List ℕ) (bound : ℕ) (zap : Bool) (sides : Option (List Bool)) (out : Sunk) (hall : Halls) → RunError → Type 0
+IsStreamed source script bound zap sides out hall error.NoMemory = Unit {0}
+IsStreamed source script bound zap sides out hall error.WriteFault = IsLetOut source script bound zap sides out hall error.WriteFault
 
 -- ---- late settling is right (the memory model)
 

@@ -6,8 +6,9 @@ ghost use Rattle.pv_script.specs.Lines.{ScriptLine};
 ghost use Rattle.pv_watch.specs.Slots.{Slot};
 ghost use Rattle.pv_typed.specs.Tables.{Stored};
 ghost use Rattle.pv_exec.specs.Run.{setting_of, run_of};
-ghost use Rattle.pv_exec.specs.Answering.{highs};
+ghost use Rattle.pv_exec.specs.Answering.{highs, end_at};
 ghost use Rattle.pv_exec.specs.Settling.{SettlesAlike, IsUndefinedByAll};
+ghost use Rattle.pv_exec.specs.Stages.{stage_of};
 ghost use Rattle.pv_serve.specs.Jobs.{IsBound};
 ghost use Rattle.pv_serve.specs.Verdicts.{Verdict, Ending, Course};
 ghost use Rattle.pv_serve.specs.Readings.{IsFit};
@@ -16,7 +17,7 @@ ghost use Rattle.pv_serve.specs.Judged.{Judged as HasVerdict, Ends, IsLeftToRun,
 ghost use Rattle.pv_serve.specs.Outside.{sunk, halls};
 ghost use Rattle.pv_serve.specs.Judging.{HasFault};
 ghost use Rattle.pv_serve.specs.Loading.{IsLoadedProgram};
-ghost use Rattle.pv_serve.specs.Settling.{IsRan, IsOutcome, IsLeft, IsUnfinished, IsSettledAgain, IsUndefinedBy};
+ghost use Rattle.pv_serve.specs.Settling.{IsRan, IsOutcome, IsLeft, IsUnfinished, HasLetOut, IsStreamed, IsSettledAgain, IsUndefinedBy};
 ghost use Rattle.pv_serve.specs.Watching.{AreFresh, AreTold, IsReport, stories};
 
 use crate::NoMemory;
@@ -51,6 +52,9 @@ pub enum Judged {
 ///
 /// Late settling is right: without sides, a run that ends neither undefined nor undecided ends alike where it is given the sides that it ended
 /// with; one that ends undefined does so by every list with a side for each of its pairs, no later.
+///
+/// What is printed is written by blocks of 4096 bytes while the run goes on. Where a write fails, those in the hall were told of all that
+/// happened up to some turn, and the block of that write became full in the next one, or the run was over.
 pub fn judge<O: Sink>(
     alloc: Global,
     source: &[u8],
@@ -70,6 +74,8 @@ pub fn judge<O: Sink>(
     ensures late { IfOk result (λ j. IfNone sides.entry
         (IsSettledAgain source.now script.now bound zap (sunk O.written O.faults out.old out.new) j)) }
     ensures sooner { IfOk result (λ j. IfNone sides.entry (IsUndefinedBy source.now script.now bound zap j)) }
+    ensures streams { IfErr result (IsStreamed source.now script.now bound zap (highs sides.entry (λ x. x.now))
+        (sunk O.written O.faults out.old out.new) (halls hall.old hall.new its_kind its_wants seen)) }
 {
     match load(alloc, source, script) {
         Ok(Loaded::Program { unit, lines }) => {
@@ -103,6 +109,8 @@ fn run_program<O: Sink>(
         (IsSettledAgain source script bound zap (sunk O.written O.faults out.old out.new) j)) }
     ensures sooner { (source script : List ℕ) → IsLoadedProgram source script unit lines → IfOk result (λ j. IfNone sides.entry
         (IsUndefinedBy source script bound zap j)) }
+    ensures streams { (source script : List ℕ) → IsLoadedProgram source script unit lines → IfErr result (IsStreamed source script bound zap
+        (highs sides.entry (λ x. x.now)) (sunk O.written O.faults out.old out.new) (halls hall.old hall.new its_kind its_wants seen)) }
 {
     match run_unit(alloc, unit, lines, bound, zap, sides, out, hall) {
         Ok(named) => Ok(Judged::Ran {
@@ -140,6 +148,8 @@ pub(crate) fn run_unit<O: Sink>(
     ensures cause { HasFault result (O.faults out.old) (O.faults out.new) }
     ensures late { IfOk result (λ r. IfNone sides.entry (SettlesAlike unit bound zap lines r.ran)) }
     ensures sooner { IfOk result (λ r. IfNone sides.entry (IsUndefinedByAll unit bound zap lines r.ran)) }
+    ensures streams { IfErr result (HasLetOut (sunk O.written O.faults out.old out.new) (halls hall.old hall.new its_kind its_wants seen)
+        (stage_of unit (highs sides.entry (λ x. x.now)) zap lines) (end_at unit bound (highs sides.entry (λ x. x.now)) zap lines).taken unit.names) }
 {
     match run(alloc, &unit, lines, bound, zap, sides, out, hall) {
         Ok(ran) => {

@@ -14,6 +14,7 @@ returns-in-Ok-Program g c = record {
   cause = c.run_program.ensures.cause;
   late = c.run_program.ensures.late _ _ (rw c.in-Ok-Program.field-0-is at c.in-Ok-Program.ensures);
   sooner = c.run_program.ensures.sooner _ _ (rw c.in-Ok-Program.field-0-is at c.in-Ok-Program.ensures);
+  streams = c.run_program.ensures.streams _ _ (rw c.in-Ok-Program.field-0-is at c.in-Ok-Program.ensures);
 }
 
 pub returns-in-Ok-Source : goal.returns-in-Ok-Source
@@ -23,6 +24,7 @@ returns-in-Ok-Source g c = record {
   cause = tt;
   late = if_none _ _ tt;
   sooner = if_none _ _ tt;
+  streams = tt;
 }
 
 pub returns-in-Ok-Script : goal.returns-in-Ok-Script
@@ -32,6 +34,7 @@ returns-in-Ok-Script g c = record {
   cause = tt;
   late = if_none _ _ tt;
   sooner = if_none _ _ tt;
+  streams = tt;
 }
 
 pub returns-in-Err : goal.returns-in-Err
@@ -41,4 +44,5 @@ returns-in-Err g c = record {
   cause = tt;
   late = tt;
   sooner = tt;
+  streams = tt;
 }

@@ -1,5 +1,5 @@
 use Rattle.pv_serve.specs.Outside.{sunk}
-use Rattle.pv_serve.proofs.LoadLemmas.{ran_outcome, left_unfinished, late_program, sooner_program}
+use Rattle.pv_serve.proofs.LoadLemmas.{ran_outcome, left_unfinished, let_out_streamed, late_program, sooner_program}
 use Rattle.pv_serve.proofs.judging.run_program.Goals as goal
 
 pub run_unit-requires : goal.run_unit-requires
@@ -12,6 +12,7 @@ returns-in-Ok g c = record {
   cause = tt;
   late = λ source script is. late_program source script _ _ _ _ _ _ _ _ _ _ is c.in-Ok.ensures.ran c.in-Ok.ensures.late;
   sooner = λ source script is. sooner_program source script _ _ _ _ _ _ is c.in-Ok.ensures.sooner;
+  streams = λ source script is. tt;
 }
 
 pub returns-in-Err : goal.returns-in-Err
@@ -21,4 +22,5 @@ returns-in-Err g c = record {
   cause = c.in-Err.ensures.cause;
   late = λ source script is. tt;
   sooner = λ source script is. tt;
+  streams = λ source script is. let_out_streamed source script _ _ _ _ _ (sunk g.O.Sink.written g.O.Sink.faults _ _) _ _ is c.in-Err.ensures.streams;
 }
