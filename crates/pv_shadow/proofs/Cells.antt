@@ -1,5 +1,5 @@
 -- What a page keeps packed, in cells or loose, is what its places are.
-use Rattle.std.proofs.Common.{◌≡◌, ◌≢◌, ℕ, zero, suc, ◌+◌, ◌-◌, ◌*◌, ◌/◌, ◌%◌, ◌<◌, ◌≤◌, true, false, cond, leb, length, set, get_or, map, replicate, drop, List, [], ◌∷◌, Option, Some, None, IsSomeAnd, refl, sym, ap, ◌∙◌, subst, ◌⊎◌, inl, inr, ⊎_elim, arith}
+use Rattle.std.proofs.Common.{◌≡◌, ◌≢◌, ℕ, zero, suc, ◌+◌, ◌-◌, ◌*◌, ◌/◌, ◌%◌, ◌<◌, ◌≤◌, ◌==◌, true, false, cond, leb, length, set, get_or, map, replicate, drop, List, [], ◌∷◌, Option, Some, None, IsSomeAnd, refl, sym, ap, ◌∙◌, subst, ◌⊎◌, inl, inr, ⊎_elim, arith}
 use Rattle.std.proofs.lemmas.Bool.{cases_lt}
 use Rattle.std.proofs.lemmas.Bool.Decides.{nat_tests}
 use Rattle.std.proofs.lemmas.List.{get_or-set_same, get_or-set_other, length-set, ext_get_or, get_or-replicate}
@@ -7,11 +7,11 @@ use Rattle.pv_prov.specs.declared.names.Prov.{Prov}
 use Rattle.pv_prov.specs.declared.names.Prov.TheVariants.{Empty, Inst, Pair}
 use Rattle.pv_shadow.specs.declared.byte.Byte.{Byte}
 use Rattle.pv_shadow.specs.declared.packed.Packed.{Packed}
-use Rattle.pv_shadow.specs.Packed.{unpacked, absent, digit_at, name_in, head_of, cell_byte, cell_or, first_of, seen_at, seen_from, seen, IsByteOf, IsCell}
+use Rattle.pv_shadow.specs.Packed.{unpacked, number_if, pair_if, absent, digit_at, name_in, head_of, cell_byte, cell_or, first_of, seen_at, seen_from, seen, IsByteOf, IsCell}
 use Rattle.pv_shadow.specs.Pages.{slot_at, with_slots}
 use Rattle.pv_shadow.specs.Whole.{little_endian, mark_at, pointed}
 use Rattle.pv_shadow.proofs.Ranges.{IsOutside, place_of}
-use Rattle.pv_shadow.proofs.Pages.{same_or_not, with_slots_in, with_slots_out, length_with, fill_step, write_step}
+use Rattle.pv_shadow.proofs.Pages.{same_or_not, with_slots_in, with_slots_out, length_with, fill_step, write_step, past_the_end}
 
 length_from : (n i : ℕ) (xs : List Packed) → length (seen_from n i xs) ≡ n
 length_from zero i xs = refl
@@ -65,6 +65,23 @@ none_seen = seen_is (replicate 256 absent) (replicate 256 None) refl (λ i h.
     no_slot zero i = refl
     no_slot (suc n) zero = refl
     no_slot (suc n) (suc i) = no_slot n i
+
+-- where nothing is kept, no byte is seen
+no_byte : (x : Packed) → x.kind ≡ 0 → unpacked x ≡ None
+no_byte x e = ap (λ k. cond (k == 0) None (Some (record {
+  value = number_if (x.kind / 2 % 2) x.value;
+  prov = name_in (x.kind / 16) x.name;
+  index = number_if (x.kind / 4 % 2) x.index;
+  mark = pair_if (x.kind / 8 % 2) x.mark x.place;
+}))) e
+
+pub none_kept : (xs : List Packed) → ((j : ℕ) → j < 256 → (get_or xs j absent).kind ≡ 0) → (j : ℕ) → slot_at (seen xs) j ≡ None
+none_kept xs none j = ⊎_elim
+    (λ h.
+    let k : (get_or xs (first_of j) absent).kind ≡ 0 = none (first_of j) (omega arith) in
+    seen_slot xs j h ∙ at_loose xs j (omega (arith, k)) ∙ no_byte (get_or xs j absent) (none j h))
+    (λ h. past_the_end (seen xs) j (omega (arith, seen_length xs)))
+    (cases_lt j 256)
 
 -- two places that are not of one group
 apart : (i q : ℕ) → first_of q ≢ first_of i → (first_of q ≢ i) × (first_of q + 1 ≢ i) × (q ≢ i)

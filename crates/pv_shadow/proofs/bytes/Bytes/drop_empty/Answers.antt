@@ -1,7 +1,0 @@
-use Rattle.std.proofs.Common.{sym, ap, ◌∙◌}
-use Rattle.pv_shadow.proofs.Pages.{slot_of, dropped}
-use Rattle.pv_shadow.proofs.bytes.Bytes.drop_empty.Goals as goal
-
-pub returns-then-is_empty : goal.returns-then-is_empty
-returns-then-is_empty c = rw (← c.self.view_is) (dropped c.self.inside.pages.entries c.remove.new.self.entries c.args.k
-    (λ j. ap (λ o. slot_of o j) (sym c.in-Some.ensures.value) ∙ c.is_empty.ensures c.if-is_empty.true j) c.remove.ensures.updates.0)
