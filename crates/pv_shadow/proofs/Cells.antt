@@ -1,8 +1,8 @@
 -- What a page keeps packed, in cells or loose, is what its places are.
-use Rattle.std.proofs.Common.{◌≡◌, ◌≢◌, ℕ, zero, suc, ◌+◌, ◌-◌, ◌*◌, ◌/◌, ◌%◌, ◌<◌, ◌≤◌, ◌==◌, true, false, cond, leb, length, set, get_or, map, replicate, drop, List, [], ◌∷◌, Option, Some, None, IsSomeAnd, refl, sym, ap, ◌∙◌, subst, ◌⊎◌, inl, inr, ⊎_elim, arith}
+use Rattle.std.proofs.Common.{◌≡◌, ◌≢◌, ℕ, zero, suc, ◌+◌, ◌-◌, ◌/◌, ◌%◌, ◌<◌, ◌≤◌, ◌==◌, true, false, cond, leb, length, set, get_or, map, replicate, List, Option, Some, None, IsSomeAnd, refl, sym, ap, ◌∙◌, subst, inl, inr, ⊎_elim, arith}
 use Rattle.std.proofs.lemmas.Bool.{cases_lt}
 use Rattle.std.proofs.lemmas.Bool.Decides.{nat_tests}
-use Rattle.std.proofs.lemmas.List.{get_or-set_same, get_or-set_other, length-set, ext_get_or, get_or-replicate}
+use Rattle.std.proofs.lemmas.List.{get_or-set_same, get_or-set_other, length-set, ext_get_or}
 use Rattle.pv_prov.specs.declared.names.Prov.{Prov}
 use Rattle.pv_prov.specs.declared.names.Prov.TheVariants.{Empty, Inst, Pair}
 use Rattle.pv_shadow.specs.declared.byte.Byte.{Byte}
@@ -10,8 +10,8 @@ use Rattle.pv_shadow.specs.declared.packed.Packed.{Packed}
 use Rattle.pv_shadow.specs.Packed.{unpacked, number_if, pair_if, absent, digit_at, name_in, head_of, cell_byte, cell_or, first_of, seen_at, seen_from, seen, IsByteOf, IsCell}
 use Rattle.pv_shadow.specs.Pages.{slot_at, with_slots}
 use Rattle.pv_shadow.specs.Whole.{little_endian, mark_at, pointed}
-use Rattle.pv_shadow.proofs.Ranges.{IsOutside, place_of}
-use Rattle.pv_shadow.proofs.Pages.{same_or_not, with_slots_in, with_slots_out, length_with, fill_step, write_step, past_the_end}
+use Rattle.pv_shadow.proofs.Ranges.{IsOutside}
+use Rattle.pv_shadow.proofs.Pages.{same_or_not, with_slots_in, with_slots_out, length_with, past_the_end}
 
 length_from : (n i : ℕ) (xs : List Packed) → length (seen_from n i xs) ≡ n
 length_from zero i xs = refl

@@ -12,9 +12,9 @@ returns c = c.drop_bare.ensures ∙ elim c.match-get_mut.branch [
       let there = subst (λ (o : Option (List (Option Byte))). IsSome o) w.in-Some.ensures.value refl in
       let gone : List (Option Byte) = replicate c.args.n None in
       let few : length gone ≡ c.args.n = length-replicate c.args.n None in
-      rw (w.self-inside-is, ← c.self.view_is) (changed_at c.self.inside.pages.entries (c.get_mut.follows.lender w.fill.new.self).entries c.args.a gone w.in-Some.page.now w.fill.new.self
-      c.page_of.result w.place_of.result (omega (arith, few)) w.fill.ensures.width c.page_of.ensures w.place_of.ensures.place w.fill.ensures.slots
-      (λ j. ap (λ o. slot_of o j) (sym w.in-Some.ensures.value)) ((c.get_mut.follows.holds w.fill.new.self).3 there).0
+      rw (w.self-inside-is, ← c.self.view_is) (changed_at c.self.inside.pages.entries (c.get_mut.follows.lender w.clear.new.self).entries c.args.a gone w.in-Some.page.now w.clear.new.self
+      c.page_of.result w.place_of.result (omega (arith, few)) w.clear.ensures.width c.page_of.ensures w.place_of.ensures.place w.clear.ensures.slots
+      (λ j. ap (λ o. slot_of o j) (sym w.in-Some.ensures.value)) ((c.get_mut.follows.holds w.clear.new.self).3 there).0
       ∙ cleared_slots (stored c.self.inside.pages.entries) c.args.a c.args.n)
   | in-None w ↦
       let same : c.get_mut.follows.lender-at-none.entries ≡ c.self.inside.pages.entries = ap (λ m. m.entries) c.get_mut.follows.holds-at-none in
