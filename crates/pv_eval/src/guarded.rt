@@ -59,6 +59,7 @@ pub(crate) fn convert(
 }
 
 /// An operator on two integers (C17 6.5.5 to 6.5.12).
+#[inline(always)]
 pub(crate) fn calculate(
     op: BinOp,
     kind: IntKind,

@@ -429,6 +429,7 @@ impl Memory {
     }
 
     // The same, byte by byte.
+    #[inline(always)]
     fn store_bytes(&mut self, at: &Reach, t: Scalar, v: &Value, mark: Option<u32>)
         requires reached { IsReach self.old.table at.now (size_of t) }
         requires value { IsOf t v.now }

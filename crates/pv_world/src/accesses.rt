@@ -160,6 +160,7 @@ impl World {
     }
 
     // The same of at most eight bytes, as a scalar has: they take no memory.
+    #[inline(always)]
     #[tactic(auto, using(crate::proofs::LoadSteps::came_read, crate::proofs::Laters::later_itself))]
     fn value_of_few(
         &mut self,

@@ -107,6 +107,7 @@ impl World {
     }
 
     /// A scalar value is stored in an object (6.7.9p11, 6.9.1p10), with this mark. Nothing is checked.
+    #[inline(always)]
     pub fn put_scalar(
         &mut self,
         object: u32,
