@@ -20,9 +20,9 @@ use Rattle.pv_serve.specs.Comes.{source_limit}
 use Rattle.pv_serve.specs.Judged.{Judged, SomeRun, script_limit}
 use Rattle.pv_serve.specs.Outside.{Sunk, SinkRose, Wrote, WrotePrefix, Halls}
 use Rattle.pv_serve.specs.Judging.{Shown, verdict_of, IsJudged, BeganOutput, IsCutOff}
-use Rattle.pv_serve.specs.Report.{fault_line, words_line, report_line, status_of}
+use Rattle.pv_serve.specs.Report.{fault_line, report_line, status_of}
 use Rattle.pv_serve.specs.Watching.{AreTold, IsReport, kept_by}
-use Rattle.pv_serve.specs.Answer.{Answer, answer_of, no_job, HasReport, OfSource, needed, script_held, SomeVerdict, SomeAnswer, SomeEnd}
+use Rattle.pv_serve.specs.Answer.{Answer, answer_of, HasReport, OfSource, needed, script_held, SomeVerdict, SomeAnswer, SomeEnd}
 use Rattle.pv_serve.specs.Causes.{Call, Table, IsAnswer, JobRose, WroteReport, WroteOutput, Complete, Served, kept}
 use Rattle.pv_serve.specs.Serving.{kept_halls, IsSource, IsReportOn, HasStory, SomeReport, Reported, IsTold, Answered, FilesServed, WereRead, WereLost, HadNoRoom}
 use Rattle.pv_serve.proofs.LateLemmas.{right_of}

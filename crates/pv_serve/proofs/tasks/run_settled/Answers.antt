@@ -19,7 +19,7 @@ returns-in-Err g c = record {
 pub returns-in-Ok-run_unit : goal.returns-in-Ok-run_unit
 returns-in-Ok-run_unit g c = record {
   judged = λ hall same. settled_judged c.args.unit c.args.lines c.args.bound _ _ _ _ hall _ _ _ same (are_listed _ _ _ c.is_none.ensures) c.in-Ok-run_unit.ensures.ran
-      (none_highs _ _ _ c.in-Ok-run_unit.ensures.late) (none_highs _ _ _ c.in-Ok-run_unit.ensures.sooner);
+      (none_highs c.args.sides (λ x. x.now) _ c.in-Ok-run_unit.ensures.late) (none_highs c.args.sides (λ x. x.now) _ c.in-Ok-run_unit.ensures.sooner);
   part = λ hall same. tt;
   cause = tt;
 }
