@@ -1,0 +1,9 @@
+pub mod Journals
+pub mod Obeying
+pub mod Lines
+pub mod Answers
+pub mod Reading
+pub mod Views
+pub mod Keyed
+pub mod Indexed
+pub mod Standing

@@ -1,0 +1,31 @@
+-- Lines of a journal whose names go by their numbers, as rows.
+use Rattle.std.specs.Prelude.{ℕ, List, map, Option, Some, None}
+use Rattle.std.specs.Option.{option_map}
+use Rattle.pv_script.specs.Names.{name_at}
+use Rattle.pv_journal.specs.Journals.{Id, Fact, Row}
+use Rattle.pv_journal.specs.Journals as fact
+use Rattle.pv_journal.specs.declared.line.Key.{Key}
+use Rattle.pv_journal.specs.declared.line.Line.{Line}
+use Rattle.pv_journal.specs.declared.line.Said.{Said}
+use Rattle.pv_journal.specs.declared.line.Said.TheVariants.{Made, Ended, Exposed, Pair, Used, Fault}
+
+-- the memory model: an instance by the text of its name
+abbrev pub id_under : List (List ℕ) → Key → Id
+id_under names key = record { name = name_at names key.name; k = key.k }
+
+-- the memory model: what a line says, by the texts of names
+abbrev pub fact_under : List (List ℕ) → Said → Fact
+fact_under names (Made key base size) = fact.Made (id_under names key) base size
+fact_under names (Ended key) = fact.Ended (id_under names key)
+fact_under names (Exposed key) = fact.Exposed (id_under names key)
+fact_under names (Pair pair address low high) = fact.Paired pair address (id_under names low) (id_under names high)
+fact_under names (Used pair test first second) = fact.Used pair test (id_under names first) (option_map (id_under names) second)
+fact_under names Fault = fact.Fault
+
+-- the memory model: the line of a journal, by the texts of names
+abbrev pub row_under : List (List ℕ) → Line → Row
+row_under names line = record { turn = line.turn; says = fact_under names line.what }
+
+-- the memory model: lines in order, by the texts of names
+abbrev pub rows_under : List (List ℕ) → List Line → List Row
+rows_under names lines = map (row_under names) lines
