@@ -1,0 +1,27 @@
+pub mod Parts
+pub mod Telling
+pub mod Rows
+pub mod Uses
+pub mod Sames
+pub mod Makings
+pub mod Exposures
+pub mod Calling
+pub mod Changes
+pub mod Requests
+pub mod Beside
+pub mod Numbering
+pub mod Doings
+pub mod Accesses
+pub mod Noting
+pub mod Printing
+pub mod Libraries
+pub mod Working
+pub mod Lines
+pub mod Knowing
+pub mod Journaling
+pub mod Turning
+pub mod Running
+pub mod Identifiers
+pub mod Namings
+pub mod FirstTurns
+mod JournalExamples
