@@ -56,7 +56,7 @@ take_script() {
 # A file that is written is none of those that are read, and can be written: looked at before a run, and before a proof.
 guard_files() {
   local name
-  for name in "$keep" "$report"; do
+  for name in "$keep" "$report" "$sarif"; do
     [ -n "$name" ] || continue
     if [ "$name" -ef "$source" ] || { [ -n "$script" ] && [ "$name" -ef "${handed[script]}" ]; }; then
       say "'$name' is read, so it can't be written"

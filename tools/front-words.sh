@@ -39,6 +39,7 @@ try_slips() {
   try_slip 'gen with an option' "gen takes no option '--raw'" gen 3 --raw
   try_slip 'a word that can not be dropped' "'const' is no word that --drop takes away (restrict, volatile)" run "$file" --drop const
   try_slip 'an empty name of a report' 'the name behind --report is empty' run "$file" --report ''
+  try_slip 'an empty name of a SARIF' 'the name behind --sarif is empty' run "$file" --sarif ''
 }
 
 try_unread() {

@@ -38,7 +38,8 @@ tell_meaning() {
   esac
 }
 
-# The output alone goes to standard output, and the report to the file of --report. They are parted when the run has ended.
+# The output alone goes to standard output, and the report to the file of --report; with --sarif alone both go to standard output. They are parted
+# when the run has ended.
 run_apart() {
   local begins=0
   hold
@@ -49,6 +50,15 @@ run_apart() {
     begins=$(report_begins "$held/written" "$status")
     [ -n "$begins" ] || begins=$(wc -c <"$held/written")
   fi
+  tail -c "+$((begins + 1))" "$held/written" >"$held/report"
+  [ -n "$report$quiet" ] || begins=$(wc -c <"$held/written")
   head -c "$begins" "$held/written" || { say 'the output could not be written' && status=12; }
-  [ -z "$report" ] || tail -c "+$((begins + 1))" "$held/written" >"$report" || { say "'$report' could not be written" && status=12; }
+  [ -z "$report" ] || cat "$held/report" >"$report" || { say "'$report' could not be written" && status=12; }
+  [ -z "$sarif" ] || write_sarif
+}
+
+# The report as SARIF, in the file of --sarif.
+write_sarif() {
+  command -v python3 >/dev/null || { say "without python3 '$sarif' can't be written" && status=12 && return; }
+  python3 "$tools/suite" --of "$held/report" "$source" --sarif "$sarif" || { say "'$sarif' could not be written" && status=12; }
 }

@@ -18,7 +18,7 @@ _pvrun() {
     --turns | --sides | gen) return ;;
   esac
   case $mode$word in
-    run-*) COMPREPLY=($(compgen -W '--script --turns --zap --watch --raw --keep --drop --report --quiet -I -D -U' -- "$word")) ;;
+    run-*) COMPREPLY=($(compgen -W '--script --turns --zap --watch --raw --keep --drop --report --sarif --quiet -I -D -U' -- "$word")) ;;
     settle-*) COMPREPLY=($(compgen -W '--script --turns --zap --sides --raw --keep --drop --report --quiet -I -D -U' -- "$word")) ;;
     check-* | layout-*) COMPREPLY=($(compgen -W '--raw --keep --drop --report --quiet -I -D -U' -- "$word")) ;;
     gen*) COMPREPLY=($(compgen -W '--report --quiet' -- "$word")) ;;

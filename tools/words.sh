@@ -4,7 +4,7 @@
 # the script's file is that numbered `script`), `again` those of them that a second run needs (which can't be made where there are sides:
 # `sided`), `changes` the options of preprocessing.
 read_words() {
-  mode=${1-} source=${2-} slip='' handed=() again=() changes=() raw='' keep='' report='' quiet='' script='' sided=''
+  mode=${1-} source=${2-} slip='' handed=() again=() changes=() raw='' keep='' report='' sarif='' quiet='' script='' sided=''
   case $mode in
     run | settle | check | layout)
       if [ $# -lt 2 ]; then
@@ -32,7 +32,7 @@ read_options() {
       *--raw) raw=yes && shift && continue ;;
       *--report | *--keep | *--drop | *-[IDU]) ;;
       *-[IDU]?*) changes+=("$1") && shift && continue ;;
-      run--script | run--turns | run--zap | run--watch) ;;
+      run--script | run--turns | run--zap | run--watch | run--sarif) ;;
       settle--script | settle--turns | settle--zap | settle--sides) ;;
       *) slip="'$1' is no option of $mode" ;;
     esac
@@ -49,10 +49,11 @@ read_value() {
     --drop) [[ $2 =~ ^(restrict|volatile)$ ]] && changes+=(--drop "$2") || slip="'$2' is no word that --drop takes away (restrict, volatile)" ;;
     --keep) keep=$2 ;;
     --report) report=$2 ;;
+    --sarif) sarif=$2 ;;
     *) read_run_value "$1" "$2" && handed+=("$1" "$2") ;;
   esac
   case $1 in
-    --keep | --report) [ -n "$2" ] || slip="the name behind $1 is empty" ;;
+    --keep | --report | --sarif) [ -n "$2" ] || slip="the name behind $1 is empty" ;;
     --script | --turns | --zap) again+=("$1" "$2") ;;
     --sides) sided=yes ;;
   esac

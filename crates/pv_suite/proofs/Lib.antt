@@ -1,0 +1,6 @@
+pub mod RoseLemmas
+pub mod FilesLemmas
+pub mod CaseLemmas
+pub mod WalkLemmas
+pub mod ListLemmas
+pub mod CauseLemmas

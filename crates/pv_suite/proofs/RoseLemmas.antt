@@ -1,0 +1,82 @@
+-- Which files' counts of faults rose.
+use Rattle.std.proofs.Common.{◌≡◌, ℕ, zero, suc, ◌<◌, ◌≤◌, List, [], ◌∷◌, ◌++◌, length, get_or, refl, sym, ap, ◌∙◌, subst, arith}
+use Rattle.std.specs.Prelude.{Option, Some, Any, Result, Err, option_map}
+use Rattle.std.specs.List.{flat_map}
+use Rattle.std.proofs.lemmas.List.{length-append, get_or_append_left}
+use Rattle.pv_script.specs.Outside.{Rose}
+use Rattle.pv_serve.specs.Jobs.{script_files}
+use Rattle.pv_serve.specs.Causes.{AnyRose}
+use Rattle.pv_cases.specs.Cases.{SuiteCase}
+use Rattle.pv_suite.specs.Causes.{case_files}
+
+-- ---- some of a list
+
+pub any_first : (P : List ℕ → Type 0) (x : List ℕ) (xs : List (List ℕ)) → P x → Any P (x ∷ xs)
+any_first P x xs p = (0, x, omega arith, refl, p)
+
+any_later : (P : List ℕ → Type 0) (x : List ℕ) (xs : List (List ℕ)) → Any P xs → Any P (x ∷ xs)
+any_later P x xs a = (suc a.0, a.1, omega (arith, a.2), a.3, a.4)
+
+any_map : (P Q : List ℕ → Type 0) (xs : List (List ℕ)) → ((x : List ℕ) → P x → Q x) → Any P xs → Any Q xs
+any_map P Q xs f a = (a.0, a.1, a.2, a.3, f a.1 a.4)
+
+any_left : (P : List ℕ → Type 0) (xs ys : List (List ℕ)) → Any P xs → Any P (xs ++ ys)
+any_left P xs ys a = (a.0, a.1, omega (arith, a.2, length-append xs ys), get_or_append_left xs ys a.1 a.0 a.2 ∙ a.3, a.4)
+
+any_right : (P : List ℕ → Type 0) (xs ys : List (List ℕ)) → Any P ys → Any P (xs ++ ys)
+any_right P [] ys a = a
+any_right P (x ∷ xs) ys a = any_later P x (xs ++ ys) (any_right P xs ys a)
+
+any_flat : (P : List ℕ → Type 0) (cs : List SuiteCase) (i : ℕ) (d : SuiteCase) → i < length cs → Any P (case_files (get_or cs i d)) → Any P (flat_map case_files cs)
+any_flat P [] i d lt a = absurd (omega arith)
+any_flat P (c ∷ cs) zero d lt a = any_left P (case_files c) (flat_map case_files cs) a
+any_flat P (c ∷ cs) (suc i) d lt a = any_right P (case_files c) (flat_map case_files cs) (any_flat P cs i d (omega arith) a)
+
+-- ---- counts
+
+pub rose_within : (old mid between new : ℕ) → old ≤ mid → between ≤ new → Rose mid between → Rose old new
+rose_within old mid between new before behind rose = omega arith
+
+pub any_within : (names : List (List ℕ)) (old mid between new : List ℕ → ℕ) → ((n : List ℕ) → old n ≤ mid n) → ((n : List ℕ) → between n ≤ new n) → AnyRose names mid between
+    → AnyRose names old new
+any_within names old mid between new before behind any =
+    any_map (λ n. Rose (mid n) (between n)) (λ n. Rose (old n) (new n)) names (λ n rose. rose_within (old n) (mid n) (between n) (new n) (before n) (behind n) rose) any
+
+-- of one of all cases, whose files were read after others
+pub case_rose : (cs : List SuiteCase) (i : ℕ) (c : SuiteCase) (old mid new : List ℕ → ℕ) → i < length cs → c ≡ get_or cs i c → ((n : List ℕ) → old n ≤ mid n)
+    → AnyRose (case_files c) mid new → AnyRose (flat_map case_files cs) old new
+case_rose cs i c old mid new lt at later any =
+    any_flat (λ n. Rose (old n) (new n)) cs i c lt
+    (subst (λ (d : SuiteCase). AnyRose (case_files d) old new) at (any_within (case_files c) old mid new new later (λ n. omega arith) any))
+
+-- ---- the files of a case
+
+pub source_rose : (c : SuiteCase) (old new : List ℕ → ℕ) → Rose (old c.source) (new c.source) → AnyRose (case_files c) old new
+source_rose c old new rose = any_first (λ n. Rose (old n) (new n)) c.source (script_files c.script ++ script_files c.output) rose
+
+pub script_rose : (c : SuiteCase) (old mid new : List ℕ → ℕ) → ((n : List ℕ) → old n ≤ mid n) → AnyRose (script_files c.script) mid new → AnyRose (case_files c) old new
+script_rose c old mid new later any =
+    any_later (λ n. Rose (old n) (new n)) c.source (script_files c.script ++ script_files c.output)
+    (any_left (λ n. Rose (old n) (new n)) (script_files c.script) (script_files c.output) (any_within (script_files c.script) old mid new new later (λ n. omega arith) any))
+
+pub output_rose : (c : SuiteCase) (old mid between new : List ℕ → ℕ) → ((n : List ℕ) → old n ≤ mid n) → ((n : List ℕ) → mid n ≤ between n) → AnyRose (script_files c.output) between new
+    → AnyRose (case_files c) old new
+output_rose c old mid between new first later any =
+    any_later (λ n. Rose (old n) (new n)) c.source (script_files c.script ++ script_files c.output)
+    (any_right (λ n. Rose (old n) (new n)) (script_files c.script) (script_files c.output)
+    (any_within (script_files c.output) old between new new (λ n. omega (arith, first n, later n)) (λ n. omega arith) any))
+
+-- the file that may be named, by what its reference stands for
+pub named_rose : {R : Type 0} (view : R → List ℕ) (o : Option R) (x : R) (old new : List ℕ → ℕ) → o ≡ Some x → Rose (old (view x)) (new (view x))
+    → AnyRose (script_files (option_map view o)) old new
+named_rose {R = R} view o x old new e rose =
+    subst (λ (p : Option R). AnyRose (script_files (option_map view p)) old new) (sym e) (any_first (λ n. Rose (old n) (new n)) (view x) [] rose)
+
+-- ---- errors
+
+err_same : {A E : Type 0} (e f : E) → ◌≡◌ {A = Result A E} (Err e) (Err f) → e ≡ f
+err_same e f same = cc
+
+-- the same error, of another result
+pub other_err : {A B E : Type 0} (e f : E) → ◌≡◌ {A = Result A E} (Err e) (Err f) → ◌≡◌ {A = Result B E} (Err e) (Err f)
+other_err {A = A} {B = B} {E = E} e f same = let is : e ≡ f = err_same {A = A} {E = E} e f same in ap (λ (x : E). Err x) is
