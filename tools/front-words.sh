@@ -12,7 +12,7 @@ try_slip() {
 try_slips() {
   local file=$work/plain.c
   try_slip 'no word' 'no mode; try ./pvrun --help'
-  try_slip 'no such mode' "'walk' is no mode (run, settle, check, layout, gen)" walk "$file"
+  try_slip 'no such mode' "'walk' is no mode (run, settle, check, layout, gen, replay)" walk "$file"
   try_slip 'a file in the place of a mode' "'a.c' is no mode; try pvrun run a.c" a.c
   try_slip 'no file' 'run wants a file' run
   try_slip 'an empty name' 'the name of the file is empty' check ''
@@ -181,6 +181,29 @@ try_readme() {
   try 'README: the file' "$(cat "$file")" "$(sed -n '/^```c$/,/^```$/p' README.md | sed '1d; /^```$/,$d')"
 }
 
+# ---- journals
+
+try_journals() {
+  local journal=$work/journal
+  try_call 'a journal' 0 $'create n#1 turn=1 base=0x10000 size=4\nfault turn=3\nevents 2' replay write "$work/unset.c"
+  cp "$room/out" "$journal"
+  try_call 'a journal is checked' 0 'journal ok events=2' replay check "$journal"
+  sed -i 1d "$journal"
+  try_call 'a journal without its first line' 17 'journal bad line=2' replay check "$journal"
+  printf '#define N 0\nint main(void) { return N; }\n' >"$work/nothing.c"
+  try_call 'a journal of a file with a directive' 0 'events 0' replay write "$work/nothing.c"
+  try_call 'a journal of a part of a run' 0 $'create n#1 turn=1 base=0x20000 size=4\nevents 1' replay write "$work/unset.c" --turns 1 --script <(echo n 1 0x20000)
+  try_call 'a journal of what is refused' 8 'refused reason=constraint index=0' replay write "$work/refused.c"
+  try_holds 'a journal of what is refused: place' 'refused: constraint' "$err"
+  try_call 'a journal of no file' 11 'fault read' replay write "$work/none.c"
+  try_call 'no journal' 11 'fault read' replay check "$work/none"
+  try_slip 'a journal, and nothing to do with it' 'replay writes or checks: pvrun replay write FILE, pvrun replay check FILE' replay "$journal"
+  try_slip 'no file for a journal' 'replay write wants a file' replay write
+  try_slip "an option of run's for a journal" "'--zap' is no option of replay write" replay write "$work/unset.c" --zap off
+  try_slip 'a word too many for a journal' "'b.c' is no option of replay write" replay write "$work/unset.c" b.c
+  try_slip 'two journals' 'replay check wants a file, and no word more' replay check "$journal" "$journal"
+}
+
 try_all_words() {
   try_readme
   try_slips
@@ -191,4 +214,5 @@ try_all_words() {
   try_lacks
   try_preprocessors
   try_colours
+  try_journals
 }

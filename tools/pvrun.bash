@@ -6,9 +6,13 @@ _pvrun() {
   mode=${COMP_WORDS[first]-}
   COMPREPLY=()
   if [ "$COMP_CWORD" = "$first" ]; then
-    options='run settle check layout gen'
+    options='run settle check layout gen replay'
     [ "$first" = 2 ] || options+=' --unproved --install --help --version'
     COMPREPLY=($(compgen -W "$options" -- "$word"))
+    return
+  fi
+  if [ "$mode" = replay ] && [ "$COMP_CWORD" = $((first + 1)) ]; then
+    COMPREPLY=($(compgen -W 'write check' -- "$word"))
     return
   fi
   case $last in
@@ -21,6 +25,7 @@ _pvrun() {
     run-*) COMPREPLY=($(compgen -W '--script --turns --zap --watch --raw --keep --drop --report --sarif --quiet -I -D -U' -- "$word")) ;;
     settle-*) COMPREPLY=($(compgen -W '--script --turns --zap --sides --raw --keep --drop --report --quiet -I -D -U' -- "$word")) ;;
     check-* | layout-*) COMPREPLY=($(compgen -W '--raw --keep --drop --report --quiet -I -D -U' -- "$word")) ;;
+    replay-*) COMPREPLY=($(compgen -W '--script --turns --raw --keep --drop -I -D -U' -- "$word")) ;;
     gen*) COMPREPLY=($(compgen -W '--report --quiet' -- "$word")) ;;
     *) compopt -o filenames 2>/dev/null; mapfile -t COMPREPLY < <(compgen -f -- "$word") ;;
   esac

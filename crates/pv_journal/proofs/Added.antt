@@ -1,5 +1,5 @@
 -- Names that are added leave what is under names as it is.
-use Rattle.std.proofs.Common.{◌≡◌, ℕ, zero, suc, ◌+◌, ◌<◌, ◌≤◌, Bool, true, false, cond, List, [], ◌∷◌, ◌++◌, length, All, Option, Some, None, Result, Ok, Err, OnOk, OnErr, ◌⊎◌, inl, inr, get_or, refl, sym, ap, ◌∙◌, arith, subst, append_assoc, append-nil, length-append}
+use Rattle.std.proofs.Common.{◌≡◌, ℕ, ◌+◌, ◌<◌, ◌≤◌, Bool, true, false, cond, List, [], ◌∷◌, ◌++◌, length, All, Option, Some, None, ◌⊎◌, inl, inr, refl, sym, ap, ◌∙◌, arith, subst, append_assoc, append-nil, length-append}
 use Rattle.std.specs.List.{list_any, slice_get}
 use Rattle.std.proofs.lemmas.Bool.{cases_lt}
 use Rattle.std.proofs.lemmas.List.{get_or_push}
@@ -12,21 +12,17 @@ use Rattle.std.specs.Option.{option_map}
 use Rattle.pv_journal.specs.Journals.{Id}
 use Rattle.pv_journal.specs.Journals as fact
 use Rattle.pv_journal.specs.Views.{id_of, fact_of}
-use Rattle.pv_journal.specs.Lines.{id_under, fact_under, rows_under}
+use Rattle.pv_journal.specs.Lines.{id_under, rows_under, IsNamedIf, AreNamed, IsLineNamed}
 use Rattle.pv_journal.specs.declared.reading.Called.{Called}
 use Rattle.pv_journal.specs.declared.reading.Told.{Told}
 use Rattle.pv_journal.specs.declared.reading.Told.TheVariants as told
-use Rattle.pv_journal.specs.Standing.{held_under, bond_under, state_under, IsOnly, HasText, HaveTexts, IsHeldKnown, IsBondKnown, IsSaidKnown, IsLineKnown, IsKnown, IsMore, IsCalled, IsCalledIf, IsNumbered}
-use Rattle.pv_journal.specs.Obeying.{State}
-use Rattle.pv_journal.specs.Obeying as state
+use Rattle.pv_journal.specs.Standing.{state_under, IsOnly, HasText, HaveTexts, IsSaidKnown, IsLineKnown, IsKnown, IsMore, IsCalled, IsCalledIf, IsNumbered}
 use Rattle.pv_journal.specs.declared.line.Key.{Key}
 use Rattle.pv_journal.specs.declared.line.Line.{Line}
 use Rattle.pv_journal.specs.declared.line.Said.{Said}
 use Rattle.pv_journal.specs.declared.line.Said.TheVariants.{Made, Ended, Exposed, Pair, Used, Fault}
-use Rattle.pv_journal.specs.declared.held.Held.{Held}
-use Rattle.pv_journal.specs.declared.bonds.Bond.{Bond}
 use Rattle.pv_journal.specs.declared.standing.Standing.{Standing}
-use Rattle.pv_journal.proofs.Texts.{name_more, id_more, held_more, bonds_more, fact_more, rows_more}
+use Rattle.pv_journal.proofs.Texts.{name_more, id_more, held_more, bonds_more, rows_more}
 
 pub more_itself : (names : List (List ℕ)) → IsMore names names
 more_itself names = record { more = []; whole = sym (append-nil names); only = λ n l o. o }
@@ -58,11 +54,6 @@ more_text names text = by (list_any (pointwise nat_eq text) names) refl
     by : (b : Bool) → list_any (pointwise nat_eq text) names ≡ b → IsMore names (cond b names (names ++ text ∷ []))
     by true e = more_itself names
     by false e = more_pushed names text e
-
--- what an insertion of a text leaves, whether or not it ran out of memory
-pub more_added : {A E : Type 0} (r : Result A E) (old new : List (List ℕ)) (text : List ℕ) → OnOk r (new ≡ with_text old text) → OnErr r (new ≡ old) → IsMore old new
-more_added (Ok x) old new text h g = subst (IsMore old) (sym h) (more_text old text)
-more_added (Err e) old new text h g = subst (IsMore old) (sym g) (more_itself old)
 
 pub name_kept : (old new : List (List ℕ)) → IsMore old new → (i : ℕ) → i < length old → name_at new i ≡ name_at old i
 name_kept old new m i h = ap (λ l. name_at l i) m.whole ∙ name_more old m.more i h
@@ -104,6 +95,22 @@ rows_kept old new lines m all = ap (λ l. rows_under l lines) m.whole ∙ rows_m
 
 pub lines_kept : (old new : List (List ℕ)) (lines : List Line) → IsMore old new → All (IsLineKnown old) lines → All (IsLineKnown new) lines
 lines_kept old new lines m all = λ i d l. said_kept old new _ m (all i d l)
+
+-- what has a text has the number of a name
+second_named : (names : List (List ℕ)) (key : Option Key) → HaveTexts names key → IsNamedIf names key
+second_named names None h = tt
+second_named names (Some key) h = h.within
+
+said_named : (names : List (List ℕ)) (what : Said) → IsSaidKnown names what → AreNamed names what
+said_named names (Made key base size) h = h.within
+said_named names (Ended key) h = h.within
+said_named names (Exposed key) h = h.within
+said_named names (Pair pair address low high) h = (h.0.within, h.1.within)
+said_named names (Used pair test first second) h = (h.0.within, second_named names second h.1)
+said_named names Fault h = tt
+
+pub lines_named : (names : List (List ℕ)) (lines : List Line) → All (IsLineKnown names) lines → All (IsLineNamed names) lines
+lines_named names lines all = λ i d l. said_named names _ (all i d l)
 
 -- ---- names by number
 

@@ -1,17 +1,16 @@
 -- What is done by the numbers of names is what a line does by their texts.
-use Rattle.std.proofs.Common.{◌≡◌, ℕ, zero, suc, ◌+◌, ◌-◌, ◌<◌, ◌^◌, Bool, true, false, ◌&&◌, ◌||◌, ◌==◌, eqb, ltb, leb, cond, not, List, [], ◌∷◌, ◌++◌, codes, length, get_or, map, All, Option, Some, None, Result, Ok, Err, IfOk, refl, sym, ap, ◌∙◌, arith, subst}
+use Rattle.std.proofs.Common.{◌≡◌, ℕ, ◌+◌, ◌-◌, ◌<◌, ◌^◌, Bool, true, false, ◌&&◌, ◌||◌, eqb, ltb, leb, cond, not, List, [], ◌∷◌, ◌++◌, codes, length, get_or, map, All, Option, Some, None, Result, Ok, Err, IfOk, refl, sym, ap, ◌∙◌, arith, subst}
 use Rattle.std.proofs.lemmas.Bool.{false≢true}
 use Rattle.std.proofs.lemmas.Bool.Decides.{nat_tests}
 use Rattle.std.proofs.lemmas.Option.{slice_get-map, slice_get_within, get_or_from_slice_get, option_and_then_some, same_Some}
 use Rattle.std.proofs.lemmas.List.{map-append, map-set, length-map}
 use Rattle.std.proofs.lemmas.List.Elements.{All-push, All-set}
 use Rattle.std.proofs.lemmas.List.Sums.{sum_by-cons, sum_by-set}
-use Rattle.std.specs.List.{position, slice_get, slice_set, list_all, list_any, sum_by}
+use Rattle.std.specs.List.{position, slice_get, slice_set, sum_by}
 use Rattle.std.specs.Option.{option_and_then, option_map}
 use Rattle.std.specs.Str.{bytes_eq}
 use Rattle.pv_script.specs.Names.{name_at}
 use Rattle.pv_script.specs.Words.{is_name}
-use Rattle.pv_journal.specs.Journals.{Id}
 use Rattle.pv_journal.specs.Journals as fact
 use Rattle.pv_journal.specs.Obeying.{State, is_id, at_held, held_at, is_live, is_open, end_at, expose_at, with_held, left_of, may_leave, use_at, keeping, after_fact}
 use Rattle.pv_journal.specs.Obeying as state

@@ -1,14 +1,13 @@
 -- What is written of a line is read.
-use Rattle.std.proofs.Common.{◌≡◌, ℕ, zero, suc, ◌+◌, ◌<◌, ◌≤◌, ◌^◌, Bool, true, false, ◌&&◌, ◌||◌, ◌==◌, eqb, not, List, [], ◌∷◌, ◌++◌, codes, take, drop, length, Option, Some, None, refl, sym, ap, ◌∙◌, arith, lit<}
+use Rattle.std.proofs.Common.{◌≡◌, ℕ, ◌+◌, ◌<◌, ◌^◌, true, false, eqb, not, List, [], ◌∷◌, ◌++◌, codes, Option, Some, None, refl, ap, ◌∙◌, lit<}
 use Rattle.std.specs.List.{list_all, slice_split, join_with_byte}
 use Rattle.std.specs.Option.{option_and_then, option_map}
-use Rattle.std.specs.Str.{bytes_eq}
 use Rattle.std.specs.Fmt.{decimal}
 use Rattle.pv_print.specs.Texts.{address_text}
 use Rattle.pv_script.specs.Words.{is_name}
 use Rattle.pv_watch.specs.Lines.{test_text}
 use Rattle.pv_journal.specs.Journals.{Id, Fact, Made, Ended, Exposed, Paired, Used, Fault, Row, id_text, left_text, fact_words, row_text}
-use Rattle.pv_journal.specs.Reading.{decimal_in, address_in, behind, number_behind, address_behind, id_by, id_of, id_in, id_behind, test_in, ids_of, ids_behind, at_turn, said_in_2, said_in_3, made_in, used_in, said_in_5, paired_in, said_in_6, said_by, said}
+use Rattle.pv_journal.specs.Reading.{number_behind, address_behind, id_of, id_in, id_behind, test_in, ids_of, ids_behind, at_turn, said_by, said}
 use Rattle.pv_journal.proofs.Numbers.{decimal_is_read, address_is_read}
 use Rattle.pv_journal.proofs.Splits.{Lacks, Lacking, lacks-append, lacks-cons, cut_is, joined_lack}
 use Rattle.pv_journal.proofs.Letters.{is_plain, Stranger, plain_lacks, name_plain, decimal_lacks, number_lacks, address_lacks, id_lacks}

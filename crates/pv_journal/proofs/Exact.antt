@@ -1,20 +1,18 @@
 -- A text is one journal, or bad at one line, and not both.
-use Rattle.std.proofs.Common.{◌≡◌, ℕ, zero, suc, ◌+◌, ◌-◌, ◌<◌, ◌≤◌, ◌^◌, Bool, true, false, ◌&&◌, ◌||◌, ◌==◌, eqb, cond, not, List, [], ◌∷◌, ◌++◌, codes, length, Option, Some, None, Result, Ok, Err, refl, sym, ap, ◌∙◌, arith, lit<, subst, IsSome, append_assoc, append-nil, length-append}
+use Rattle.std.proofs.Common.{◌≡◌, ℕ, ◌+◌, ◌-◌, ◌<◌, ◌^◌, Bool, true, false, eqb, cond, List, [], ◌∷◌, ◌++◌, codes, length, Option, Some, None, Result, Ok, Err, refl, sym, ap, ◌∙◌, arith, lit<, subst, IsSome, append_assoc, append-nil, length-append}
 use Rattle.std.proofs.lemmas.Bool.{false≢true}
 use Rattle.std.proofs.lemmas.Slice.Eq.{bytes_eq-Decides}
 use Rattle.std.proofs.lemmas.Option.{option_and_then_some, none-some, same_Some}
-use Rattle.std.specs.List.{slice_split, join_with_byte}
+use Rattle.std.specs.List.{slice_split}
 use Rattle.std.specs.Option.{option_and_then, option_map}
 use Rattle.std.specs.Str.{bytes_eq}
 use Rattle.std.specs.Fmt.{decimal}
-use Rattle.pv_journal.specs.Journals.{Id, Fact, Row, row_text, rows_text, last_text, journal_text}
-use Rattle.pv_journal.specs.Obeying.{State, at_first, after, after_all, Obeys, IsJournal, IsStuck, Here, Behind, IsBad}
+use Rattle.pv_journal.specs.Journals.{Row, row_text, rows_text, last_text}
+use Rattle.pv_journal.specs.Obeying.{State, at_first, after, after_all, IsJournal, IsStuck, Here, Behind, IsBad}
 use Rattle.pv_journal.specs.Reading.{said, said_by, taken, taken_or, is_end, judged_from, judged}
 use Rattle.pv_journal.proofs.Splits.{cut_is}
 use Rattle.pv_journal.proofs.Letters.{decimal_lacks}
-use Rattle.pv_journal.proofs.Facts.{said_was}
-use Rattle.pv_journal.proofs.Complete.{Fits, row_is_read}
-use Rattle.pv_journal.proofs.Passing.{Stands, first_stands, row_passes, length-snoc}
+use Rattle.pv_journal.proofs.Passing.{row_passes, length-snoc}
 use Rattle.pv_journal.proofs.Judging.{Walk, next_is, last_is, some_piece, cut_front, after_all-snoc, rows_text-snoc, first_walk, taken_was, none_of}
 
 -- ---- a row is no last line

@@ -1,15 +1,14 @@
 -- What is read of the words of a line was written so: whole lines.
-use Rattle.std.proofs.Common.{◌≡◌, ℕ, Bool, true, false, cond, eqb, List, [], ◌∷◌, ◌++◌, codes, Option, Some, None, refl, sym, ap, ◌∙◌}
+use Rattle.std.proofs.Common.{◌≡◌, ℕ, true, eqb, List, [], ◌∷◌, ◌++◌, codes, Option, Some, None, refl, sym, ap, ◌∙◌}
 use Rattle.std.proofs.lemmas.Slice.Eq.{bytes_eq-Decides}
 use Rattle.std.proofs.lemmas.Option.{option_and_then_some, none-some, same_Some}
-use Rattle.std.specs.Option.{option_and_then, option_map}
 use Rattle.std.specs.Str.{bytes_eq}
 use Rattle.std.specs.Fmt.{decimal}
 use Rattle.std.specs.List.{slice_split, join_with_byte}
 use Rattle.pv_print.specs.Texts.{address_text}
 use Rattle.pv_watch.specs.Lines.{test_text}
 use Rattle.pv_journal.specs.Journals.{Id, Fact, Made, Ended, Exposed, Paired, Used, Fault, Row, id_text, left_text, fact_words, row_text}
-use Rattle.pv_journal.specs.Reading.{decimal_in, address_in, behind, number_behind, address_behind, id_in, id_behind, test_in, ids_of, ids_behind, at_turn, said_in_2, said_in_3, made_in, used_in, said_in_5, paired_in, said_in_6, said_by, said}
+use Rattle.pv_journal.specs.Reading.{decimal_in, behind, number_behind, address_behind, id_in, id_behind, test_in, ids_of, ids_behind, at_turn, said_in_2, said_in_3, said_in_5, said_in_6, said_by, said}
 use Rattle.pv_journal.proofs.Numbers.{decimal_was_read}
 use Rattle.pv_journal.proofs.Splits.{joined_again}
 use Rattle.pv_journal.proofs.Sound.{map_some, if_some, either_some, behind_was, number_was, address_was, id_was, id_behind_was}

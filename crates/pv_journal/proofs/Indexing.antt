@@ -1,5 +1,5 @@
 -- What is kept beside the instances, before and after each change of their list.
-use Rattle.std.proofs.Common.{◌≡◌, ℕ, zero, suc, ◌+◌, ◌-◌, ◌<◌, ◌≤◌, ◌^◌, max, Bool, true, false, ◌&&◌, not, cond, eqb, ltb, leb, List, [], ◌∷◌, ◌++◌, length, get_or, set, Option, Some, None, refl, sym, ap, ◌∙◌, subst, ◌⊎◌, inl, inr, ⊎_elim, arith, nat_cmp}
+use Rattle.std.proofs.Common.{◌≡◌, ℕ, zero, suc, ◌+◌, ◌-◌, ◌<◌, ◌≤◌, ◌^◌, max, Bool, true, false, ◌&&◌, not, cond, eqb, ltb, leb, List, [], ◌∷◌, ◌++◌, length, get_or, set, Some, None, refl, sym, ap, ◌∙◌, subst, ◌⊎◌, ⊎_elim, arith, nat_cmp}
 use Rattle.std.proofs.lemmas.Bool.{and_parts, cases_lt, false≢true}
 use Rattle.std.proofs.lemmas.Bool.Decides.{Decides-eqb, nat_tests}
 use Rattle.std.proofs.lemmas.Option.{none-some}
@@ -8,14 +8,14 @@ use Rattle.std.proofs.lemmas.List.Sums.{sum_by_push}
 use Rattle.std.specs.BTreeMap.{is_at}
 use Rattle.std.specs.Ordering.{is_lt}
 use Rattle.std.specs.declared.cmp.Ordering.TheVariants.{Less, Equal, Greater}
-use Rattle.std.specs.List.{slice_get, slice_set, position, list_all, list_any, sum_by}
-use Rattle.pv_journal.specs.Keyed.{same_key, is_of, exceeded_by, shares_bytes, live_size, fresh, may_make}
-use Rattle.pv_journal.specs.Indexed.{said_at, greatest, AreDistinct, AreIndexed, IsFree}
+use Rattle.std.specs.List.{slice_get, slice_set, list_all, list_any, sum_by}
+use Rattle.pv_journal.specs.Keyed.{exceeded_by, shares_bytes, live_size, fresh, may_make}
+use Rattle.pv_journal.specs.Indexed.{said_at, greatest, AreIndexed, IsFree}
 use Rattle.pv_journal.specs.declared.line.Key.{Key}
 use Rattle.pv_journal.specs.declared.held.Held.{Held}
 use Rattle.pv_journal.proofs.Passing.{at_most, below}
 use Rattle.pv_journal.proofs.Changed.{ended_sum, exposed_sum, lives_if}
-use Rattle.pv_journal.proofs.Indices.{raised, greatest_push, greatest_set, exceeds_by, distinct_push, distinct_set, living_push, living_kept, living_over}
+use Rattle.pv_journal.proofs.Indices.{greatest_push, greatest_set, exceeds_by, distinct_push, distinct_set, living_push, living_kept, living_over}
 
 -- ---- no instance
 

@@ -1,16 +1,15 @@
 -- What the indices of instances say is what a search of the list says.
-use Rattle.std.proofs.Common.{◌≡◌, ℕ, zero, suc, ◌+◌, ◌-◌, ◌<◌, ◌≤◌, max, Bool, true, false, ◌&&◌, ◌||◌, cond, eqb, ltb, leb, not, List, [], ◌∷◌, ◌++◌, length, get_or, set, Option, Some, None, refl, sym, ap, ◌∙◌, subst, ◌⊎◌, inl, inr, ⊎_elim, arith, position, nat_cmp, IsSome}
+use Rattle.std.proofs.Common.{◌≡◌, ℕ, zero, suc, ◌+◌, ◌-◌, ◌<◌, ◌≤◌, max, Bool, true, false, ◌&&◌, ◌||◌, cond, eqb, ltb, not, List, [], ◌∷◌, ◌++◌, length, get_or, set, Option, Some, None, refl, sym, ap, ◌∙◌, subst, ◌⊎◌, inl, inr, ⊎_elim, arith, position, nat_cmp, IsSome}
 use Rattle.std.proofs.lemmas.Bool.{false≢true, and_parts, and_from, cases_lt, cases_eq}
 use Rattle.std.proofs.lemmas.Bool.Decides.{Decides-eqb, nat_tests}
 use Rattle.std.proofs.lemmas.Option.{none-some, same_Some, slice_get_within, get_or_from_slice_get, slice_get-get_or}
 use Rattle.std.proofs.lemmas.List.Sums.{position_or_len_is}
 use Rattle.std.specs.Cmp.{nat_cmp_total, eq_by_cmp_equiv}
 use Rattle.std.specs.BTreeMap.{is_at}
-use Rattle.std.specs.Map.{lookup}
-use Rattle.std.specs.List.{position_or_len, slice_get, slice_set, list_all, list_any, sum_by}
+use Rattle.std.specs.List.{position_or_len, slice_get, list_all, list_any}
 use Rattle.pv_journal.specs.declared.line.Key.{Key}
 use Rattle.pv_journal.specs.declared.held.Held.{Held}
-use Rattle.pv_journal.specs.Keyed.{same_key, is_of, exceeded_by, shares_bytes, live_size}
+use Rattle.pv_journal.specs.Keyed.{same_key, is_of, exceeded_by, shares_bytes}
 use Rattle.pv_journal.specs.Indexed.{greatest, Stands, AreLiving, AreDistinct, said_at}
 
 -- ---- rows of a list with one more, or with one changed
@@ -85,21 +84,6 @@ pub exceeds_by : (key : Key) (xs : List Held) → 1 ≤ key.k → list_all (exce
 exceeds_by key [] h = let e : ltb 0 key.k ≡ true = grind (arith, nat_tests) in sym e
 exceeds_by key (x ∷ xs) h = ap (λ b. exceeded_by key x && b) (exceeds_by key xs h) ∙ below_both (eqb x.key.name key.name) x.key.k (greatest key.name xs) key.k
 
--- an instance of the name has at most the greatest number
-pub at_most_greatest : (n : ℕ) (xs : List Held) (k : ℕ) (x : Held) → slice_get xs k ≡ Some x → x.key.name ≡ n → x.key.k ≤ greatest n xs
-at_most_greatest n [] k x h e = absurd (none-some x h)
-at_most_greatest n (z ∷ zs) zero x h e =
-    let same : z ≡ x = same_Some z x h in
-    let t : eqb z.key.name n ≡ true = (Decides-eqb z.key.name n).1 (ap (λ (w : Held). w.key.name) same ∙ e) in
-    let q : z.key.k ≡ x.key.k = ap (λ (w : Held). w.key.k) same in
-    let g : raised n z (greatest n zs) ≡ max z.key.k (greatest n zs) = ap (λ b. cond b (max z.key.k (greatest n zs)) (greatest n zs)) t in
-    omega (arith, q, g)
-at_most_greatest n (z ∷ zs) (suc k) x h e = by (eqb z.key.name n) (at_most_greatest n zs k x h e)
-  where
-    by : (b : Bool) → x.key.k ≤ greatest n zs → x.key.k ≤ cond b (max z.key.k (greatest n zs)) (greatest n zs)
-    by true l = omega (arith, l)
-    by false l = l
-
 -- ---- where an instance stands
 
 pub same_key_is : (a b : Key) → same_key a b ≡ true → a ≡ b
@@ -108,10 +92,6 @@ same_key_is a b h =
     let k = (Decides-eqb a.k b.k).0 p.0 in
     let n = (Decides-eqb a.name b.name).0 p.1 in
     λ i. record { name = n i; k = k i }
-
-pub same_key_of : (a b : Key) → a ≡ b → same_key a b ≡ true
-same_key_of a b e =
-    and_from (eqb a.k b.k) (eqb a.name b.name) ((Decides-eqb a.k b.k).1 (ap (λ (x : Key). x.k) e)) ((Decides-eqb a.name b.name).1 (ap (λ (x : Key). x.name) e))
 
 refuted : (b : Bool) → (b ≡ true → ⊥) → b ≡ false
 refuted true h = absurd (h refl)

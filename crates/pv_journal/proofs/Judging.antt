@@ -1,26 +1,23 @@
 -- What is judged line by line is a journal, or wrong at that line.
-use Rattle.std.proofs.Common.{◌≡◌, ℕ, zero, suc, ◌+◌, ◌-◌, ◌<◌, ◌≤◌, ◌^◌, Bool, true, false, ◌&&◌, ◌||◌, ◌==◌, eqb, cond, not, List, [], ◌∷◌, ◌++◌, codes, length, get_or, drop, Option, Some, None, Result, Ok, Err, refl, sym, ap, ◌∙◌, arith, lit<, subst, IsSome, append_assoc, append-nil, length-append}
-use Rattle.std.proofs.lemmas.Bool.Decides.{Decides-eqb, nat_tests}
-use Rattle.std.proofs.lemmas.Bool.{and_parts, and_from, false≢true}
+use Rattle.std.proofs.Common.{◌≡◌, ℕ, ◌+◌, ◌-◌, ◌<◌, ◌≤◌, ◌^◌, Bool, true, false, eqb, cond, List, [], ◌∷◌, ◌++◌, codes, length, get_or, drop, Option, Some, None, Result, Ok, Err, refl, sym, ap, ◌∙◌, arith, lit<, subst, IsSome, append_assoc, length-append}
+use Rattle.std.proofs.lemmas.Bool.Decides.{Decides-eqb}
+use Rattle.std.proofs.lemmas.Bool.{false≢true}
 use Rattle.std.proofs.lemmas.Slice.Eq.{bytes_eq-Decides}
 use Rattle.std.proofs.lemmas.Option.{option_and_then_some, none-some, same_Some}
 use Rattle.std.proofs.lemmas.List.Splits.{length-slice_split}
-use Rattle.std.specs.List.{slice_split, join_with_byte, list_all, onto_first}
+use Rattle.std.specs.List.{slice_split, onto_first}
 use Rattle.std.specs.Option.{option_and_then, option_map}
 use Rattle.std.specs.Str.{bytes_eq}
 use Rattle.std.specs.Fmt.{decimal}
-use Rattle.pv_journal.specs.Journals.{Id, Fact, Row, row_text, rows_text, last_text, journal_text}
-use Rattle.pv_journal.specs.Obeying.{State, at_first, after, after_all, Obeys, IsJournal, IsStuck, Here, Behind, IsBad}
+use Rattle.pv_journal.specs.Journals.{Row, row_text, rows_text, last_text}
+use Rattle.pv_journal.specs.Obeying.{State, at_first, after, after_all, Obeys, IsJournal, Here, Behind, IsBad}
 use Rattle.pv_journal.specs.Reading.{said, taken, taken_or, is_end, judged_from, judged}
-use Rattle.pv_journal.proofs.Splits.{Lacks, lacks-append, lacks-cons, first_cut, joined_again}
-use Rattle.pv_journal.proofs.Letters.{decimal_lacks, plain_lacks}
+use Rattle.pv_journal.proofs.Splits.{Lacks, lacks-append, first_cut, joined_again}
+use Rattle.pv_journal.proofs.Letters.{decimal_lacks}
 use Rattle.pv_journal.proofs.Sound.{map_some}
 use Rattle.pv_journal.proofs.Facts.{said_was}
-use Rattle.pv_journal.proofs.Complete.{Fits, row_is_read, row_lacks}
+use Rattle.pv_journal.proofs.Complete.{row_is_read, row_lacks}
 use Rattle.pv_journal.proofs.Passing.{Stands, first_stands, row_passes, length-snoc}
-
-is_feed : ℕ → Bool
-is_feed b = eqb b 10
 
 -- ---- pieces of a text
 

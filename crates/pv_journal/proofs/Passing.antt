@@ -1,18 +1,18 @@
 -- A line that passes fits, and what it leaves stands.
-use Rattle.std.proofs.Common.{◌≡◌, ℕ, zero, suc, ◌+◌, ◌-◌, ◌<◌, ◌≤◌, ◌^◌, Bool, true, false, ◌&&◌, ◌||◌, ◌==◌, eqb, leb, ltb, cond, not, List, [], ◌∷◌, ◌++◌, codes, length, get_or, set, All, Option, Some, None, refl, sym, ap, ◌∙◌, arith, lit<, subst, IsSome, length-append}
+use Rattle.std.proofs.Common.{◌≡◌, ℕ, zero, suc, ◌+◌, ◌-◌, ◌<◌, ◌≤◌, ◌^◌, Bool, true, false, ◌&&◌, ◌||◌, eqb, leb, ltb, cond, not, List, [], ◌∷◌, ◌++◌, codes, length, get_or, set, All, Option, Some, None, refl, sym, ap, arith, subst, length-append}
 use Rattle.std.proofs.lemmas.Bool.Decides.{nat_tests, Decides-eqb}
-use Rattle.std.proofs.lemmas.Bool.{and_parts, and_from, false≢true}
+use Rattle.std.proofs.lemmas.Bool.{and_parts, false≢true}
 use Rattle.std.proofs.lemmas.Slice.Eq.{bytes_eq-Decides}
-use Rattle.std.proofs.lemmas.Option.{option_and_then_some, none-some, same_Some, slice_get_within}
+use Rattle.std.proofs.lemmas.Option.{option_and_then_some, same_Some, slice_get_within}
 use Rattle.std.proofs.lemmas.List.Elements.{All-set, All-push, All-nil}
 use Rattle.std.proofs.lemmas.List.Quantifiers.{position-Some}
-use Rattle.std.specs.List.{position, slice_get, slice_set, sum_by}
+use Rattle.std.specs.List.{slice_get, slice_set}
 use Rattle.std.specs.Option.{option_and_then}
 use Rattle.std.specs.Str.{bytes_eq}
 use Rattle.pv_script.specs.Words.{is_name}
 use Rattle.pv_watch.specs.Lines.{test_text}
 use Rattle.pv_journal.specs.Journals.{Id, Fact, Made, Ended, Exposed, Paired, Used, Fault, Row}
-use Rattle.pv_journal.specs.Obeying.{Held, Bond, State, at_first, same_id, place_of, held_at, is_live, is_open, ends_at, begins_at, is_id, left_of, may_leave, may_make, may_pair, with_held, keeping, end_at, expose_at, at_held, use_at, after_fact, after, after_all}
+use Rattle.pv_journal.specs.Obeying.{Held, Bond, State, at_first, same_id, place_of, held_at, is_open, ends_at, begins_at, is_id, left_of, may_leave, may_make, may_pair, with_held, keeping, end_at, expose_at, at_held, after_fact, after}
 use Rattle.pv_journal.specs.Reading.{test_in}
 use Rattle.pv_journal.proofs.Splits.{Lacks}
 use Rattle.pv_journal.proofs.Letters.{Stranger, plain_lacks}

@@ -1,16 +1,15 @@
 -- What is searched by the numbers of names is what is searched by their texts.
-use Rattle.std.proofs.Common.{◌≡◌, ℕ, zero, suc, ◌+◌, ◌<◌, Bool, true, false, ◌&&◌, ◌||◌, ◌==◌, eqb, ltb, cond, not, List, [], ◌∷◌, ◌++◌, length, map, get_or, All, Option, Some, None, refl, sym, ap, ◌∙◌, arith}
+use Rattle.std.proofs.Common.{◌≡◌, ℕ, zero, suc, ◌+◌, ◌<◌, Bool, true, false, ◌&&◌, ◌||◌, eqb, ltb, cond, not, List, [], ◌∷◌, ◌++◌, length, map, get_or, All, Option, Some, None, refl, sym, ap, ◌∙◌, arith}
 use Rattle.std.proofs.lemmas.Bool.Decides.{Decides-eqb}
-use Rattle.std.proofs.lemmas.Bool.{false≢true}
 use Rattle.std.proofs.lemmas.Slice.Eq.{bytes_eq-Decides}
 use Rattle.std.specs.Option.{option_map}
-use Rattle.std.specs.List.{position, position_or_len, prefix_len, list_all, list_any}
+use Rattle.std.specs.List.{position, prefix_len, list_all, list_any}
 use Rattle.std.specs.Str.{bytes_eq}
 use Rattle.pv_script.specs.Names.{name_at}
 use Rattle.pv_journal.specs.Obeying.{same_id, place_of, exceeds, overlaps, left_of}
 use Rattle.pv_journal.specs.Keyed.{same_key, is_of, exceeded_by, shares_bytes, left_by}
 use Rattle.pv_journal.specs.Journals as fact
-use Rattle.pv_journal.specs.Lines.{id_under, fact_under, row_under, rows_under}
+use Rattle.pv_journal.specs.Lines.{id_under, fact_under, rows_under}
 use Rattle.pv_journal.specs.Standing.{held_under, bond_under, HasText, HaveTexts, IsHeldKnown, IsBondKnown, IsSaidKnown, IsLineKnown}
 use Rattle.pv_journal.specs.declared.line.Key.{Key}
 use Rattle.pv_journal.specs.declared.line.Line.{Line}

@@ -1,5 +1,5 @@
 -- The walk of the checker over the pieces of a text.
-use Rattle.std.proofs.Common.{◌≡◌, ℕ, zero, suc, ◌+◌, ◌-◌, ◌<◌, ◌≤◌, ◌^◌, Bool, true, false, cond, eqb, not, ltb, leb, ◌&&◌, List, [], ◌∷◌, ◌++◌, codes, length, get_or, take, drop, map, All, Option, Some, None, Result, Ok, Err, IfOk, IfErr, refl, sym, ap, ◌∙◌, arith, subst}
+use Rattle.std.proofs.Common.{◌≡◌, ℕ, ◌+◌, ◌-◌, ◌<◌, ◌≤◌, ◌^◌, Bool, true, false, cond, eqb, not, ltb, leb, ◌&&◌, List, [], ◌∷◌, ◌++◌, codes, length, take, drop, All, Option, Some, None, Result, Ok, Err, IfOk, IfErr, refl, sym, ap, ◌∙◌, arith, subst}
 use Rattle.std.proofs.lemmas.Bool.{false≢true}
 use Rattle.std.proofs.lemmas.Bool.Decides.{Decides-eqb, nat_tests}
 use Rattle.std.proofs.lemmas.Slice.Eq.{bytes_eq-Decides}
@@ -14,7 +14,7 @@ use Rattle.std.specs.Option.{option_and_then, option_map}
 use Rattle.std.specs.Str.{bytes_eq}
 use Rattle.std.specs.Fmt.{decimal}
 use Rattle.pv_journal.specs.Journals.{Row, last_text}
-use Rattle.pv_journal.specs.Obeying.{State, at_first, after, after_fact, IsJournal, IsBad}
+use Rattle.pv_journal.specs.Obeying.{State, at_first, after, after_fact, IsJournal}
 use Rattle.pv_journal.specs.Reading.{behind, decimal_in, number_behind, said, taken, taken_or, first_line, is_end, judged_from, judged}
 use Rattle.pv_journal.specs.Keyed.{may_follow}
 use Rattle.pv_journal.specs.Lines.{fact_under, row_under, rows_under}
@@ -29,7 +29,7 @@ use Rattle.pv_journal.proofs.Numbers.{decimal_is_read}
 use Rattle.pv_journal.proofs.Sound.{number_was, map_some, if_some}
 use Rattle.pv_journal.proofs.Splits.{joined_again}
 use Rattle.pv_journal.proofs.Passing.{length-snoc, below}
-use Rattle.pv_journal.proofs.Judging.{Answers, verdict_is, some_piece}
+use Rattle.pv_journal.proofs.Judging.{Answers, some_piece}
 use Rattle.pv_journal.proofs.Added.{state_kept, known_kept, rows_kept, lines_kept}
 
 -- ---- the last line
@@ -188,9 +188,6 @@ starts names s lines pieces k e none = record {
 }
 
 module _ (names : List (List ℕ)) (s : Standing) (lines : List Line) (rest : List (List ℕ)) (n : ℕ) (wanted : Result (List Row) ℕ) (g : Goes names s lines rest n wanted) where
-  pub ends_empty : rest ≡ [] → wanted ≡ Err n
-  ends_empty e = sym g.same ∙ ap (judged_from n (state_under names s) (rows_under names lines)) e
-
   pub ends_here : (p : List ℕ) → rest ≡ p ∷ [] → wanted ≡ Err n
   ends_here p e = sym g.same ∙ ap (judged_from n (state_under names s) (rows_under names lines)) e
 

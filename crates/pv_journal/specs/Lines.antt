@@ -1,5 +1,5 @@
 -- Lines of a journal whose names go by their numbers, as rows.
-use Rattle.std.specs.Prelude.{ℕ, List, map, Option, Some, None}
+use Rattle.std.specs.Prelude.{ℕ, ◌<◌, List, length, map, Option, Some, None}
 use Rattle.std.specs.Option.{option_map}
 use Rattle.pv_script.specs.Names.{name_at}
 use Rattle.pv_journal.specs.Journals.{Id, Fact, Row}
@@ -29,3 +29,23 @@ row_under names line = record { turn = line.turn; says = fact_under names line.w
 -- the memory model: lines in order, by the texts of names
 abbrev pub rows_under : List (List ℕ) → List Line → List Row
 rows_under names lines = map (row_under names) lines
+
+-- the memory model: the number is that of a name
+abbrev pub IsNamed : List (List ℕ) → Key → Type 0
+IsNamed names key = key.name < length names
+
+abbrev pub IsNamedIf : List (List ℕ) → Option Key → Type 0
+IsNamedIf names None = Unit {0}
+IsNamedIf names (Some key) = IsNamed names key
+
+-- the memory model: each instance of a line has one of these names
+abbrev pub AreNamed : List (List ℕ) → Said → Type 0
+AreNamed names (Made key base size) = IsNamed names key
+AreNamed names (Ended key) = IsNamed names key
+AreNamed names (Exposed key) = IsNamed names key
+AreNamed names (Pair pair address low high) = IsNamed names low × IsNamed names high
+AreNamed names (Used pair test first second) = IsNamed names first × IsNamedIf names second
+AreNamed names Fault = Unit {0}
+
+abbrev pub IsLineNamed : List (List ℕ) → Line → Type 0
+IsLineNamed names line = AreNamed names line.what

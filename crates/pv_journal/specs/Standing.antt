@@ -4,7 +4,7 @@ use Rattle.std.specs.Option.{option_map}
 use Rattle.std.specs.Str.{bytes_eq}
 use Rattle.pv_script.specs.Names.{name_at}
 use Rattle.pv_journal.specs.Journals.{Id, Fact, Row}
-use Rattle.pv_journal.specs.Obeying.{State, after_fact, after}
+use Rattle.pv_journal.specs.Obeying.{State, after}
 use Rattle.pv_journal.specs.Obeying as state
 use Rattle.pv_journal.specs.Reading.{taken}
 use Rattle.pv_journal.specs.Lines.{id_under, fact_under, row_under, rows_under}

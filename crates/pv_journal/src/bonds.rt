@@ -1,6 +1,6 @@
 // The pairs of candidates that lines have made, and their uses.
 ghost use Rattle.std.specs.Prelude.{◌≡◌, ◌<◌, Bool, All, [], length, slice_get, slice_set, Some, IfOk};
-ghost use Rattle.pv_journal.specs.Keyed.{left_by, Left, lives, opens, ends_at, begins_at, leaves, held_by, may_pair, with_pair, kept_by, asked, kept_in, use_in, used};
+ghost use Rattle.pv_journal.specs.Keyed.{left_by, Left, lives, opens, ends_at, begins_at, leaves, may_pair, with_pair, kept_by, asked, kept_in, use_in, used};
 ghost use Rattle.pv_journal.specs.Standing.{IsBondKnown, HasText, is_heap};
 
 use crate::held::{Held, Instances, same_key};

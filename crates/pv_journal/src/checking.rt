@@ -1,12 +1,12 @@
 // The journal that a text is, or its first line that is wrong.
-ghost use Rattle.std.specs.Prelude.{◌≡◌, ◌<◌, ◌^◌, ◌==◌, ℕ, length, position, IfSome, IfOk, IfErr};
+ghost use Rattle.std.specs.Prelude.{◌≡◌, ◌<◌, ◌^◌, ◌==◌, ℕ, All, length, position, IfSome, IfOk, IfErr};
 ghost use Rattle.std.specs.Option.{option_map};
 ghost use Rattle.std.specs.Str.{bytes_eq};
 ghost use Rattle.pv_script.specs.Names.{name_at};
 ghost use Rattle.pv_journal.specs.Journals.{last_text};
 ghost use Rattle.pv_journal.specs.Obeying.{IsJournal};
 ghost use Rattle.pv_journal.specs.Reading.{first_line, judged};
-ghost use Rattle.pv_journal.specs.Lines.{rows_under};
+ghost use Rattle.pv_journal.specs.Lines.{rows_under, IsLineNamed};
 ghost use Rattle.pv_journal.specs.Standing.{Judges, IsMore};
 ghost use Rattle.pv_journal.specs.Answers.{IsFault};
 
@@ -55,6 +55,7 @@ fn is_text(bytes: &[u8])
 /// The lines of a text, or its first line that is wrong.
 fn lines_in(alloc: Global, bytes: &[u8], names: &mut Names) -> Result<Vec<Line>, JournalError>
     ensures judges { Judges names.new (λ v. v.items) (judged bytes.now) result }
+    ensures named { IfOk result (λ v. All (IsLineNamed names.new) v.items) }
     ensures more { IsMore names.old names.new }
 {
     let mut standing = Standing::new(alloc);
@@ -90,6 +91,7 @@ fn lines_in(alloc: Global, bytes: &[u8], names: &mut Names) -> Result<Vec<Line>,
 /// text is the journal of lines that obey, and `Bad` exactly where it is none (see `one_verdict`).
 pub fn check(alloc: Global, bytes: &[u8], names: &mut Names) -> Result<Vec<Line>, JournalError>
     ensures lines { IfOk result (λ v. IsJournal (rows_under names.new v.items) bytes.now) }
+    ensures named { IfOk result (λ v. All (IsLineNamed names.new) v.items) }
     ensures bad { IfErr result (IsFault bytes.now) }
     ensures names { (i : ℕ) → i < length names.old → name_at names.new i ≡ name_at names.old i }
 {

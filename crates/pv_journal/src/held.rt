@@ -1,5 +1,5 @@
 // The instances that lines have made, in their order, with what finds them.
-ghost use Rattle.std.specs.Prelude.{◌≡◌, ◌+◌, ◌<◌, ◌≤◌, ◌^◌, ◌++◌, ◌∷◌, ℕ, [], length, get_or, true, position, slice_get, None, Some, IsSome, IfSome, IfNone, IfOk, OnOk, sum_by};
+ghost use Rattle.std.specs.Prelude.{◌≡◌, ◌+◌, ◌<◌, ◌≤◌, ◌^◌, ◌++◌, ◌∷◌, ℕ, [], length, get_or, position, slice_get, None, Some, IsSome, IfSome, IfNone, IfOk, OnOk, sum_by};
 ghost use Rattle.std.specs.Ordering.{nat_cmp};
 ghost use Rattle.std.specs.BTreeMap.{get};
 ghost use Rattle.std.specs.List.{list_any, list_all};

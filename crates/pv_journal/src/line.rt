@@ -26,15 +26,16 @@ pub enum Said {
     Exposed {
         key: Key,
     },
-    /// An integer becomes a pointer where one instance, `low`, ends and another, `high`, begins. Pairs are numbered from 1.
+    /// An integer becomes a pointer where one instance, `low`, ends and another, `high`, begins. Pairs are numbered
+    /// from 1.
     Pair {
         pair: u64,
         address: u64,
         low: Key,
         high: Key,
     },
-    /// A pointer of a pair is used: which test was made (1 for `live`, 2 `range`, 3 `block`, 4 `same`, 5 `code`), and which candidates
-    /// passed it, one or two.
+    /// A pointer of a pair is used: which test was made (1 for `live`, 2 `range`, 3 `block`, 4 `same`, 5 `code`), and
+    /// which candidates passed it, one or two.
     Used {
         pair: u64,
         test: u8,

@@ -1,5 +1,5 @@
 // Names of instances by their numbers.
-ghost use Rattle.std.specs.Prelude.{◌≡◌, IfOk};
+ghost use Rattle.std.specs.Prelude.{IfOk};
 ghost use Rattle.std.specs.Option.{option_map};
 ghost use Rattle.pv_journal.specs.Views.{id_of, fact_of};
 ghost use Rattle.pv_journal.specs.Standing.{IsCalled, IsCalledIf, IsNumbered, IsMore};

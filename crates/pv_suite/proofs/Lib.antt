@@ -1,3 +1,4 @@
+pub mod Examples
 pub mod RoseLemmas
 pub mod FilesLemmas
 pub mod CaseLemmas

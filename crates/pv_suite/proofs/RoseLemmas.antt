@@ -11,9 +11,6 @@ use Rattle.pv_suite.specs.Causes.{case_files}
 
 -- ---- some of a list
 
-pub any_first : (P : List ℕ → Type 0) (x : List ℕ) (xs : List (List ℕ)) → P x → Any P (x ∷ xs)
-any_first P x xs p = (0, x, omega arith, refl, p)
-
 any_later : (P : List ℕ → Type 0) (x : List ℕ) (xs : List (List ℕ)) → Any P xs → Any P (x ∷ xs)
 any_later P x xs a = (suc a.0, a.1, omega (arith, a.2), a.3, a.4)
 
@@ -51,9 +48,6 @@ case_rose cs i c old mid new lt at later any =
 
 -- ---- the files of a case
 
-pub source_rose : (c : SuiteCase) (old new : List ℕ → ℕ) → Rose (old c.source) (new c.source) → AnyRose (case_files c) old new
-source_rose c old new rose = any_first (λ n. Rose (old n) (new n)) c.source (script_files c.script ++ script_files c.output) rose
-
 pub script_rose : (c : SuiteCase) (old mid new : List ℕ → ℕ) → ((n : List ℕ) → old n ≤ mid n) → AnyRose (script_files c.script) mid new → AnyRose (case_files c) old new
 script_rose c old mid new later any =
     any_later (λ n. Rose (old n) (new n)) c.source (script_files c.script ++ script_files c.output)
@@ -65,12 +59,6 @@ output_rose c old mid between new first later any =
     any_later (λ n. Rose (old n) (new n)) c.source (script_files c.script ++ script_files c.output)
     (any_right (λ n. Rose (old n) (new n)) (script_files c.script) (script_files c.output)
     (any_within (script_files c.output) old between new new (λ n. omega (arith, first n, later n)) (λ n. omega arith) any))
-
--- the file that may be named, by what its reference stands for
-pub named_rose : {R : Type 0} (view : R → List ℕ) (o : Option R) (x : R) (old new : List ℕ → ℕ) → o ≡ Some x → Rose (old (view x)) (new (view x))
-    → AnyRose (script_files (option_map view o)) old new
-named_rose {R = R} view o x old new e rose =
-    subst (λ (p : Option R). AnyRose (script_files (option_map view p)) old new) (sym e) (any_first (λ n. Rose (old n) (new n)) (view x) [] rose)
 
 -- ---- errors
 

@@ -7,6 +7,8 @@
 #[cfg(test)]
 mod halls;
 #[cfg(test)]
+mod journals;
+#[cfg(test)]
 mod numbers;
 #[cfg(test)]
 mod outside;

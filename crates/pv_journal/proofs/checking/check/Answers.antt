@@ -8,6 +8,9 @@ pub returns-clause-lines : goal.returns-clause-lines
 returns-clause-lines c =
     judged_lines c.lines_in.new.names (λ v. v.items) c.args.bytes.now (judged c.args.bytes.now) c.lines_in.result (verdict_is c.args.bytes.now c.is_text.ensures) c.lines_in.ensures.judges
 
+pub returns-clause-named : goal.returns-clause-named
+returns-clause-named c = c.lines_in.ensures.named
+
 pub returns-clause-bad : goal.returns-clause-bad
 returns-clause-bad c =
     judged_fault c.lines_in.new.names (λ v. v.items) c.args.bytes.now (judged c.args.bytes.now) c.lines_in.result (verdict_is c.args.bytes.now c.is_text.ensures) c.lines_in.ensures.judges

@@ -1,7 +1,7 @@
 use Rattle.std.proofs.Common.{◌≡◌, length, subst, arith}
 use Rattle.pv_journal.specs.Reading.{judged}
 use Rattle.pv_journal.specs.Standing.{state_under, Takes}
-use Rattle.pv_journal.proofs.Added.{more_itself, more_both}
+use Rattle.pv_journal.proofs.Added.{more_itself, more_both, lines_named}
 use Rattle.pv_journal.proofs.Walking.{begins, text_out, text_well, text_behind, text_bad, text_goes, text_shorter}
 use Rattle.pv_journal.proofs.checking.lines_in.Goals as goal
 
@@ -15,6 +15,9 @@ pub returns-then-is_empty-clause-judges : goal.returns-then-is_empty-clause-judg
 returns-then-is_empty-clause-judges c =
     let counts : c.len-count.result ≡ length c.loop-text.lines.items = omega (arith, c.loop-text.lines.ok.0, c.len-count.ensures) in
     text_well c.loop-text.names c.loop-text.standing c.loop-text.lines.items c.loop-text.rest.now (judged c.args.bytes.now) c.loop-text.invariant.goes c.len-count.result counts c.in-Some.text.now c.in-Some.behind.now c.in-Some.ensures c.if-is_last.ensures c.if-is_empty.ensures
+
+pub returns-then-is_empty-clause-named : goal.returns-then-is_empty-clause-named
+returns-then-is_empty-clause-named c = lines_named c.loop-text.names c.loop-text.lines.items c.loop-text.invariant.goes.lines_known
 
 pub returns-then-is_empty-clause-more : goal.returns-then-is_empty-clause-more
 returns-then-is_empty-clause-more c = c.loop-text.invariant.more

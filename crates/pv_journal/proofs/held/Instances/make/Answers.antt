@@ -1,4 +1,4 @@
-use Rattle.std.proofs.Common.{Bool, Some, None, cond, [], ◌∷◌, ◌++◌, sym, ap, ◌∙◌}
+use Rattle.std.proofs.Common.{Some, None, cond, [], ◌∷◌, ◌++◌, sym, ap, ◌∙◌}
 use Rattle.pv_journal.specs.Keyed.{fresh}
 use Rattle.pv_journal.proofs.Indexing.{free_by}
 use Rattle.pv_journal.proofs.held.Instances.make.Goals as goal

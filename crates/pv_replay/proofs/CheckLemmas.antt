@@ -1,0 +1,43 @@
+-- The answer to a text, and that it has one at most.
+use Rattle.std.proofs.Common.{◌≡◌, ℕ, ◌^◌, ◌<◌, ◌≤◌, List, length, sym, ap, ◌∙◌, arith}
+use Rattle.std.specs.Prelude.{Result, Ok, Err, IfOk}
+use Rattle.std.proofs.lemmas.List.{length-map}
+use Rattle.pv_journal.specs.Journals.{Row}
+use Rattle.pv_journal.specs.Obeying.{IsJournal, IsBad}
+use Rattle.pv_journal.specs.declared.line.Line.{Line}
+use Rattle.pv_journal.specs.Lines.{row_under, rows_under}
+use Rattle.pv_replay.specs.declared.error.NoMemory.{NoMemory}
+use Rattle.pv_replay.specs.declared.reply.Reply.{Reply}
+use Rattle.pv_replay.specs.Answering.{reply_view}
+use Rattle.pv_replay.specs.Answers.{Answer, IsChecked, TooLong, Obeyed, Broken, accepted, rejected}
+
+short : (n : ℕ) → n ≤ 16777216 → n < 2 ^ 64
+short n le = omega arith
+
+-- by the laws of journals: a text is the journal of one list of lines at most, wrong at one line at most, and not both
+pub one_answer : ((bytes : List ℕ) (rows others : List Row) → length bytes < 2 ^ 64 → IsJournal rows bytes → IsJournal others bytes → rows ≡ others)
+    → ((bytes : List ℕ) (m n : ℕ) → length bytes < 2 ^ 64 → IsBad bytes m → IsBad bytes n → m ≡ n)
+    → ((bytes : List ℕ) (rows : List Row) (n : ℕ) → length bytes < 2 ^ 64 → IsJournal rows bytes → IsBad bytes n → ⊥)
+    → (bytes : List ℕ) (a b : Answer) → IsChecked bytes a → IsChecked bytes b → a ≡ b
+one_answer lines line apart bytes a b (TooLong more is) (TooLong more' is') = is ∙ sym is'
+one_answer lines line apart bytes a b (TooLong more is) (Obeyed rows few journal is') = absurd (omega arith)
+one_answer lines line apart bytes a b (TooLong more is) (Broken n few bad is') = absurd (omega arith)
+one_answer lines line apart bytes a b (Obeyed rows few journal is) (TooLong more is') = absurd (omega arith)
+one_answer lines line apart bytes a b (Obeyed rows few journal is) (Obeyed others few' journal' is') =
+    is ∙ ap (λ (rs : List Row). accepted (length rs)) (lines bytes rows others (short (length bytes) few) journal journal') ∙ sym is'
+one_answer lines line apart bytes a b (Obeyed rows few journal is) (Broken n few' bad is') = absurd (apart bytes rows n (short (length bytes) few) journal bad)
+one_answer lines line apart bytes a b (Broken n few bad is) (TooLong more is') = absurd (omega arith)
+one_answer lines line apart bytes a b (Broken n few bad is) (Obeyed rows few' journal is') = absurd (apart bytes rows n (short (length bytes) few) journal bad)
+one_answer lines line apart bytes a b (Broken n few bad is) (Broken m few' bad' is') = is ∙ ap rejected (line bytes n m (short (length bytes) few) bad bad') ∙ sym is'
+
+-- what is told of a journal: as many rows as lines
+pub obeyed : (bytes : List ℕ) (names : List (List ℕ)) (lines : List Line) (n : ℕ) (r : Result Reply NoMemory) → length bytes ≤ 16777216 → IsJournal (rows_under names lines) bytes → n ≡ length lines
+    → IfOk r (λ a. reply_view a ≡ accepted n) → IfOk r (λ a. IsChecked bytes (reply_view a))
+obeyed bytes names lines n (Err e) few is count told = tt
+obeyed bytes names lines n (Ok a) few is count told = Obeyed (rows_under names lines) few is (told ∙ ap accepted (count ∙ sym (length-map lines (row_under names))))
+
+-- what is told of a text with this wrong line
+pub broken : (bytes : List ℕ) (line : ℕ) (r : Result Reply NoMemory) → length bytes ≤ 16777216 → IsBad bytes line
+    → IfOk r (λ a. reply_view a ≡ rejected line) → IfOk r (λ a. IsChecked bytes (reply_view a))
+broken bytes line (Err e) few bad told = tt
+broken bytes line (Ok a) few bad told = Broken line few bad told

@@ -1,0 +1,6 @@
+pub mod JournalLemmas
+pub mod RunLemmas
+pub mod FileLemmas
+pub mod CheckLemmas
+pub mod CauseLemmas
+pub mod WordsLemmas

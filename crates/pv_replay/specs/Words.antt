@@ -1,0 +1,115 @@
+-- What the words of the command line ask for (5.1.2.2.1p2: a program's parameters). Which words there are is this program's own: docs/FORMATS.md
+-- has the rules.
+use Rattle.std.specs.Prelude.{◌≡◌, ℕ, List, [], ◌∷◌, length, Option, Some, None, MatchOption, if◌then◌else◌, nat_lt, codes, option_map, option_and_then, unwrap_or}
+use Rattle.std.specs.Str.{bytes_eq}
+use Rattle.pv_serve.specs.Jobs.{default_turns, files_named, IsBound}
+use Rattle.pv_serve.specs.Words.{turns_of}
+use Rattle.pv_replay.specs.declared.words.Asked.{Asked}
+use Rattle.pv_replay.specs.declared.words.Asked.TheVariants as asked_for
+use Rattle.pv_replay.specs.declared.words.RunAsked.{RunAsked}
+use Rattle.pv_replay.specs.declared.words.Options.{Options as ReadOptions}
+
+-- docs/FORMATS.md, Journals (5.1.2.3): a run: of the source in this file, with the script of addresses in that file, if one is named, and with so many turns at most
+pub record RunJob : Type 0 where
+  pub file : List ℕ
+  pub script : Option (List ℕ)
+  pub bound : ℕ
+
+-- docs/FORMATS.md, Journals (5.1.2.2.1p2): a job: the journal of a run is written, or the one in this file is checked
+pub data Job : Type 0 where
+  Write : (run : RunJob) → Job
+  Check : (file : List ℕ) → Job
+
+-- docs/FORMATS.md, Journals (5.1.2.2.1p2): the names of the files that a job reads
+abbrev pub files_of : Job → List (List ℕ)
+files_of (Write run) = files_named run.file run.script
+files_of (Check file) = file ∷ []
+
+-- ---- options
+
+-- docs/FORMATS.md, Journals (5.1.2.2.1p2): what the options of a run say: the script's file and the bound, each if it is given
+pub record Options : Type 0 where
+  pub script : Option (List ℕ)
+  pub turns : Option ℕ
+
+-- docs/FORMATS.md, Journals (5.1.2.2.1p2): nothing is said
+abbrev pub no_options : Options
+no_options = record { script = None; turns = None }
+
+-- docs/FORMATS.md, Journals (5.1.2.2.1p2): a script's file is named once at most, by at least one byte
+abbrev pub script_once : Option (List ℕ) → Options → List ℕ → Option Options
+script_once (Some other) o name = None
+script_once None o name = if nat_lt 0 (length name) then Some (record o { script = Some name }) else None
+
+-- docs/FORMATS.md, Journals (5.1.2.2.1p2): a bound is given once at most
+abbrev pub turns_once : Option ℕ → Options → List ℕ → Option Options
+turns_once (Some other) o digits = None
+turns_once None o digits = option_map (λ n. record o { turns = Some n }) (turns_of digits)
+
+-- docs/FORMATS.md, Journals (5.1.2.2.1p2): one option more: its word and its value
+abbrev pub with_option : Options → (name value : List ℕ) → Option Options
+with_option o name value =
+    if bytes_eq name (codes "--script") then script_once o.script o value
+    else if bytes_eq name (codes "--turns") then turns_once o.turns o value else None
+
+-- docs/FORMATS.md, Journals (5.1.2.2.1p2): options in any order, each a word and its value
+abbrev pub options : Options → List (List ℕ) → Option Options
+options o [] = Some o
+options o (name ∷ []) = None
+options o (name ∷ value ∷ rest) = option_and_then (λ p. options p rest) (with_option o name value)
+
+-- ---- jobs
+
+-- docs/FORMATS.md, Journals (5.1.2.3): a run of this file, as its options say
+abbrev pub run_by : (file : List ℕ) → Options → RunJob
+run_by file o = record { file = file; script = o.script; bound = unwrap_or o.turns default_turns }
+
+-- docs/FORMATS.md, Journals (5.1.2.2.1p2): `write FILE` with these words behind it
+abbrev pub write_of : (file : List ℕ) → List (List ℕ) → Option Job
+write_of file rest = option_map (λ o. Write (run_by file o)) (options no_options rest)
+
+-- docs/FORMATS.md, Journals (5.1.2.2.1p2): `check FILE` has no options
+abbrev pub check_of : (file : List ℕ) → List (List ℕ) → Option Job
+check_of file [] = Some (Check file)
+check_of file (word ∷ words) = None
+
+-- docs/FORMATS.md, Journals (5.1.2.2.1p2): what a mode asks of a file, with these words behind it
+abbrev pub asked : (mode file : List ℕ) → List (List ℕ) → Option Job
+asked mode file rest =
+    if bytes_eq mode (codes "write") then write_of file rest
+    else if bytes_eq mode (codes "check") then check_of file rest else None
+
+-- 5.1.2.2.1p2: the job that the words ask for, if they do: `write FILE` with `--script F` and `--turns N` or without, or `check FILE`, where FILE and F have
+-- a byte; anything else is no job (docs/FORMATS.md)
+abbrev pub job : List (List ℕ) → Option Job
+job [] = None
+job (mode ∷ []) = None
+job (mode ∷ file ∷ rest) = if nat_lt 0 (length file) then asked mode file rest else None
+
+-- ---- what the code reads
+
+-- docs/FORMATS.md, Journals (5.1.2.3): the run that was read of the words
+abbrev pub run_job : RunAsked → RunJob
+run_job r = record { file = r.file.now; script = option_map (λ s. s.now) r.script; bound = r.turns }
+
+-- docs/FORMATS.md, Journals (5.1.2.2.1p2): the job that was read of the words
+abbrev pub asked_job : Asked → Job
+asked_job (asked_for.Write run) = Write (run_job run)
+asked_job (asked_for.Check file) = Check file.now
+
+-- docs/FORMATS.md, Journals (5.1.2.2.1p2): it is the job that the words ask for, or they ask for none
+abbrev pub IsAsked : Option Asked → (wanted : Option Job) → Type 0
+IsAsked read wanted = MatchOption read (wanted ≡ None) (λ a. wanted ≡ Some (asked_job a))
+
+-- 5.1.2.3p1: the bound of a run is one
+abbrev pub IsBounded : Asked → Type 0
+IsBounded (asked_for.Write run) = IsBound run.turns
+IsBounded (asked_for.Check file) = Unit {0}
+
+-- docs/FORMATS.md, Journals (5.1.2.2.1p2): the options that were read
+abbrev pub options_read : ReadOptions → Options
+options_read o = record { script = option_map (λ s. s.now) o.script; turns = o.turns }
+
+-- docs/FORMATS.md, Journals (5.1.2.2.1p2): they are the options that the words say, or the words are no options
+abbrev pub AreOptions : Option ReadOptions → (wanted : Option Options) → Type 0
+AreOptions read wanted = MatchOption read (wanted ≡ None) (λ o. wanted ≡ Some (options_read o))

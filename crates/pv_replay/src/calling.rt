@@ -1,0 +1,167 @@
+//! The top call: what one call of the program does from its words to its status.
+ghost use Rattle.std.specs.Prelude.{◌≡◌, ◌⊎◌, ◌≤◌, ◌∷◌, [], ℕ, List, Some, IsNone};
+ghost use Rattle.pv_script.specs.Memory.{calm_held, calm_written};
+ghost use Rattle.pv_watch.specs.Slots.{Present};
+ghost use Rattle.pv_exec.specs.Answering.{hall_slots};
+ghost use Rattle.pv_serve.specs.Jobs.{IsBound};
+ghost use Rattle.pv_serve.specs.Words.{texts};
+ghost use Rattle.pv_serve.specs.Outside.{sunk};
+ghost use Rattle.pv_replay.specs.Words.{job, run_job, Write, Check};
+ghost use Rattle.pv_replay.specs.Answers.{SomeAnswer, IsWritten, IsChecked};
+ghost use Rattle.pv_replay.specs.Causes.{Call, Answered, IsAnswer};
+ghost use Rattle.pv_replay.specs.Answering.{JobServed, TextServed, IsHanded, IsOwn, read_fault, reply_view};
+
+use crate::checking::{JOURNAL_LIMIT, checked};
+use crate::reply::Reply;
+use crate::words::{Asked, RunAsked, job_asked};
+use crate::writing::journal_of;
+use pv_script::{CalmFiles, CalmSink, Files, ReadError, Sink, read_all};
+use pv_serve::{JobText, NO_JOB, NO_MEMORY, READ_FAULT, read_job, tell};
+use pv_watch::{Hall, Watch};
+use std::alloc::Global;
+
+/// Does all that the program does, and answers its status.
+///
+/// The words are those behind the program's name: `write FILE` writes the journal of the run of the source in that file, `check FILE` tells
+/// whether that file holds a journal that obeys the memory model, or its first line that is wrong. The report is made whole before its first
+/// byte goes out.
+///
+/// The hall has one watcher, which keeps a journal, has seen nothing, and wants 65536 events; it is told of a run, if there is one.
+///
+/// | status | when |
+/// |---|---|
+/// | 0 | a journal is written, however its run ended; or the file holds a journal that obeys |
+/// | 8 | the source is refused |
+/// | 9 | the script is refused |
+/// | 10 | the words are no job |
+/// | 11 | a file that the words name could not be read |
+/// | 12 | the report could not be written |
+/// | 13 | memory ran out, which may come wherever the words are a job |
+/// | 17 | the file holds no journal that obeys: the first line that is wrong is told |
+/// | 18 | the file that is to be checked has more than 16777216 bytes |
+pub fn replay<F: Files, R: Sink>(
+    alloc: Global,
+    words: &[String],
+    files: &mut F,
+    report: &mut R,
+    hall: &mut Hall,
+) -> u8
+    requires hall { hall_slots hall.old its_kind its_wants seen ≡ Present 4 65536 [] ∷ [] }
+    ensures answered { let call : Call = record {
+      words = texts words.now;
+      held = F.held files.old;
+      faults_old = F.faults files.old;
+      faults_new = F.faults files.new;
+      report = sunk R.written R.faults report.old report.new;
+      status = result;
+    } in Answered call }
+    ensures files_same { (n : List ℕ) → F.held files.new n ≡ F.held files.old n }
+
+    // Where the words are no job, no file is read.
+    ensures unread { IsNone (job (texts words.now)) → files.new ≡ files.old }
+{
+    match job_asked(words) {
+        Some(Asked::Write(run)) => write_journal(alloc, run, files, report, hall),
+        Some(Asked::Check(name)) => check_journal(alloc, name, files, report),
+        None => tell(report, b"words\n", NO_JOB),
+    }
+}
+
+// Writes the journal of a run of a file.
+fn write_journal<F: Files, R: Sink>(
+    alloc: Global,
+    run: RunAsked<'_>,
+    files: &mut F,
+    report: &mut R,
+    hall: &mut Hall,
+) -> u8
+    requires bound { IsBound run.turns }
+    requires hall { hall_slots hall.old its_kind its_wants seen ≡ Present 4 65536 [] ∷ [] }
+    ensures served { JobServed (Write (run_job run.entry)) (F.held files.old) (F.faults files.old) (F.faults files.new)
+        (sunk R.written R.faults report.old report.new) result }
+    ensures files_same { (n : List ℕ) → F.held files.new n ≡ F.held files.old n }
+{
+    match read_job(alloc, files, run.file, run.script) {
+        Err(ReadError::NoMemory) => NO_MEMORY,
+        Err(ReadError::Fault) => tell_fault(report),
+        Ok(text) => write_text(alloc, &text, run.turns, report, hall),
+    }
+}
+
+// Writes the journal of the run of a source with its script.
+fn write_text<R: Sink>(
+    alloc: Global,
+    text: &JobText,
+    turns: u64,
+    report: &mut R,
+    hall: &mut Hall,
+) -> u8
+    requires bound { IsBound turns }
+    requires hall { hall_slots hall.old its_kind its_wants seen ≡ Present 4 65536 [] ∷ [] }
+    ensures { TextServed (IsWritten text.now.source.items text.now.script.items turns)
+        (sunk R.written R.faults report.old report.new) result }
+{
+    match journal_of(alloc, text, turns, hall) {
+        Ok(reply) => tell_reply(&reply, report),
+        Err(_) => NO_MEMORY,
+    }
+}
+
+// Checks the journal in a file.
+fn check_journal<F: Files, R: Sink>(alloc: Global, name: &str, files: &mut F, report: &mut R) -> u8
+    ensures served { JobServed (Check name.now) (F.held files.old) (F.faults files.old) (F.faults files.new)
+        (sunk R.written R.faults report.old report.new) result }
+    ensures files_same { (n : List ℕ) → F.held files.new n ≡ F.held files.old n }
+{
+    match read_all(alloc, files, name, JOURNAL_LIMIT) {
+        Err(ReadError::NoMemory) => NO_MEMORY,
+        Err(ReadError::Fault) => tell_fault(report),
+        Ok(bytes) => check_text(alloc, bytes.as_slice(), report),
+    }
+}
+
+// Checks a text.
+fn check_text<R: Sink>(alloc: Global, bytes: &[u8], report: &mut R) -> u8
+    ensures { TextServed (IsChecked bytes.now) (sunk R.written R.faults report.old report.new) result }
+{
+    match checked(alloc, bytes) {
+        Ok(reply) => tell_reply(&reply, report),
+        Err(_) => NO_MEMORY,
+    }
+}
+
+// Writes what is to be told, and answers its status.
+fn tell_reply<R: Sink>(reply: &Reply, report: &mut R) -> u8
+    requires { IsOwn reply.now.status }
+    ensures { IsHanded (sunk R.written R.faults report.old report.new) result (reply_view reply.now) }
+{
+    tell(report, reply.text.as_slice(), reply.status)
+}
+
+// Tells that a file could not be read.
+fn tell_fault<R: Sink>(report: &mut R) -> u8
+    ensures { IsHanded (sunk R.written R.faults report.old report.new) result read_fault }
+{
+    tell(report, b"fault read\n", READ_FAULT)
+}
+
+/// [`replay`] over files and a sink that never fail: the answer with all its bytes, or want of memory, for any words and files.
+pub fn replay_calmly(
+    alloc: Global,
+    words: &[String],
+    files: &mut CalmFiles,
+    report: &mut CalmSink,
+    hall: &mut Hall,
+) -> u8
+    requires hall { hall_slots hall.old its_kind its_wants seen ≡ Present 4 65536 [] ∷ [] }
+    ensures { let call : Call = record {
+      words = texts words.now;
+      held = λ n. Some (calm_held files.old n);
+      faults_old = λ _. 0;
+      faults_new = λ _. 0;
+      report = sunk calm_written (λ _. 0) report.old report.new;
+      status = result;
+    } in (result ≡ 13) ⊎ SomeAnswer (job call.words) call.held (IsAnswer call) }
+{
+    replay(alloc, words, files, report, hall)
+}
