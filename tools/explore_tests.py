@@ -266,8 +266,10 @@ def try_files(tests: Tests) -> None:
 def try_interrupt(tests: Tests) -> None:
     """Ctrl-C in the middle of a search shows what was found by then."""
     path = tests.file("long.c", "int x, y; int main(void) { while (1) ; return x + y; }\n")
-    words = [*tests.words, path, "--turns", "1000000", "--jobs", "1"]
-    with subprocess.Popen(words, stdout=subprocess.PIPE, stderr=subprocess.PIPE, encoding="utf-8", start_new_session=True) as tool:
+    words = [*tests.words, path, "--turns", "5000000", "--jobs", "1"]
+    # what is begun in the background of a shell ignores the signal, and hands that on
+    heard = {"preexec_fn": lambda: signal.signal(signal.SIGINT, signal.SIG_DFL)}
+    with subprocess.Popen(words, stdout=subprocess.PIPE, stderr=subprocess.PIPE, encoding="utf-8", start_new_session=True, **heard) as tool:
         time.sleep(3)
         os.killpg(tool.pid, signal.SIGINT)
         out, err = tool.communicate()
