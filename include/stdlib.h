@@ -147,11 +147,15 @@ static void __sink(char *__base, size_t __at, size_t __count, size_t __size, cha
   }
 }
 
+/* An element is put aside in an allocation, since a copy within an object of characters would make characters of what it is copied to
+   (C17 6.5p6). Where there is no memory for one, the program is aborted. */
 static void qsort(void *__base, size_t __count, size_t __size, int (*__compare)(const void *, const void *)) {
   if (__count < 2)
     return;
   char *__elements = __base;
   char *__aside = malloc(__size);
+  if (!__aside)
+    abort();
   for (size_t __at = __count / 2; __at > 0; __at--)
     __sink(__elements, __at - 1, __count, __size, __aside, __compare);
   for (size_t __last = __count - 1; __last > 0; __last--) {
