@@ -1,6 +1,7 @@
 """The self-test of tools/suite: lists that are run in parts and at once, and the forms of their reports."""
 import json
 import os
+import shutil
 import subprocess
 import sys
 import tempfile
@@ -120,6 +121,34 @@ def try_calls(tried, program):
     tried.same("one program that ended", [], json.loads(read("sarif"))["runs"][0]["results"])
 
 
+def try_hosts(tried, program):
+    """Parts on the machines of a file, of which `:` is this one; others want ssh, and are tried by hand."""
+    def said(*words):
+        """Returns the status of a call, its report, and what it said beside."""
+        tool = [sys.executable, os.path.join(HERE, "suite"), "list", "--program", program, *words]
+        done = subprocess.run(tool, stdin=subprocess.DEVNULL, stdout=subprocess.PIPE, stderr=subprocess.PIPE, check=False)
+        return done.returncode, done.stdout, done.stderr.decode()
+    for name, text in (("here", "# this machine\n:\n"), ("nowhere", "# no machine\n")):
+        with open(name, "w", encoding="ascii") as file:
+            file.write(text)
+    tried.same("hosts: no file", (2, b"", "suite: gone: No such file or directory\n"), said("--hosts", "gone"))
+    tried.same("hosts: no machine", (2, b"", "suite: nowhere names no machine\n"), said("--hosts", "nowhere"))
+    if not shutil.which("parallel"):
+        tried.same("hosts: no GNU parallel", (2, b"", "suite: --hosts wants GNU parallel (the package parallel of Debian)\n"), said("--hosts", "here"))
+        return
+    status, report, _ = said("--jobs", "1")
+    for jobs in ("1", "3"):
+        tried.same(f"hosts: this machine, {jobs} at once", (status, report), said("--hosts", "here", "--jobs", jobs)[:2])
+    with open("list", "rb") as file:
+        text = file.read()
+    with open("list", "wb") as file:
+        file.write(text.rstrip(b"\n") + b"\n../elsewhere.c - - 9 x\n")
+    why = "suite: ../elsewhere.c lies elsewhere: with --hosts a list names files below the folder where it is run\n"
+    tried.same("hosts: a file elsewhere", (2, b"", why), said("--hosts", "here"))
+    with open("list", "wb") as file:
+        file.write(text)
+
+
 def read(name):
     """Returns the text of a file."""
     with open(name, encoding="utf-8") as file:
@@ -186,6 +215,7 @@ def self_test(program, run, parts_of):
         try_adapters(tried)
         try_lists(tried, program, run)
         try_calls(tried, program)
+        try_hosts(tried, program)
         os.chdir(HERE)
     print(f"{tried.passed} passed, {tried.failed} failed")
     return 1 if tried.failed else 0
