@@ -34,6 +34,7 @@ rows_under names lines = map (row_under names) lines
 abbrev pub IsNamed : List (List ℕ) → Key → Type 0
 IsNamed names key = key.name < length names
 
+-- the memory model: the same of a candidate that a use may leave or not
 abbrev pub IsNamedIf : List (List ℕ) → Option Key → Type 0
 IsNamedIf names None = Unit {0}
 IsNamedIf names (Some key) = IsNamed names key
@@ -47,5 +48,6 @@ AreNamed names (Pair pair address low high) = IsNamed names low × IsNamed names
 AreNamed names (Used pair test first second) = IsNamed names first × IsNamedIf names second
 AreNamed names Fault = Unit {0}
 
+-- the memory model: the same of a line with its turn (5.1.2.3)
 abbrev pub IsLineNamed : List (List ℕ) → Line → Type 0
 IsLineNamed names line = AreNamed names line.what

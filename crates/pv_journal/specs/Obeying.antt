@@ -29,6 +29,7 @@ pub record State : Type 0 where
   pub turn : ℕ
   pub over : Bool
 
+-- the memory model: before the first line nothing was made, and no turn taken (5.1.2.3)
 abbrev pub at_first : State
 at_first = record { held = []; bonds = []; turn = 0; over = false }
 
@@ -54,11 +55,12 @@ abbrev pub is_open : Option Held → Bool
 is_open None = false
 is_open (Some x) = x.live && x.exposed
 
--- the memory model: it ends at the address, or begins there
+-- the memory model: it ends at the address
 abbrev pub ends_at : Option Held → ℕ → Bool
 ends_at None a = false
 ends_at (Some x) a = x.base + x.size == a
 
+-- the memory model: it begins at the address
 abbrev pub begins_at : Option Held → ℕ → Bool
 begins_at None a = false
 begins_at (Some x) a = x.base == a
@@ -103,10 +105,11 @@ may_leave xs b test low high =
     else if test == 5 then not (low && high)
     else test == 2 || test == 4))
 
--- the memory model: the state where the instance at a place became x, and where a pair keeps these two
+-- the memory model: the state where the instance at a place became x
 abbrev pub with_held : State → ℕ → Held → State
 with_held s i x = record s { held = slice_set s.held i x }
 
+-- the memory model: a pair that keeps these of its two candidates
 abbrev pub keeping : Bond → Bool × Bool → Bond
 keeping b kept = record b { keeps_low = kept.0; keeps_high = kept.1 }
 
