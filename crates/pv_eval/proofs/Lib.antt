@@ -22,3 +22,11 @@ pub mod Replies
 pub mod Printing
 pub mod Sides
 pub mod Still
+pub mod PlainSteps
+pub mod PlainNumbers
+pub mod PlainReads
+pub mod PlainPointers
+pub mod PlainBytes
+pub mod PlainPlaces
+pub mod PlainStores
+pub mod Wholes

@@ -30,3 +30,5 @@ pub mod Constants
 pub mod Machines
 pub mod MachineSteps
 pub mod Progress
+pub mod Plainly
+pub mod AtOnce

@@ -1,5 +1,5 @@
 // The machine of expressions: the moment, and the expressions that were started.
-ghost use Rattle.std.specs.Prelude.{◌≡◌, ℕ, ◌+◌, ◌<◌, ◌^◌, ◌==◌, ◌&&◌, true, length, map, IfOk, OnOk};
+ghost use Rattle.std.specs.Prelude.{◌≡◌, ℕ, ◌+◌, ◌<◌, ◌≤◌, ◌^◌, ◌==◌, ◌&&◌, true, false, length, map, IfOk, OnOk};
 ghost use Rattle.std.specs.Borrow.{Lends, sem};
 ghost use Rattle.pv_eval.specs.Rows.{bytes_row, events_row};
 ghost use Rattle.pv_eval.specs.contracts.machine.Machine.{the_row};
@@ -17,6 +17,7 @@ ghost use Rattle.pv_eval.specs.Machines.{first_machine, ended, is_due, is_going,
 ghost use Rattle.pv_eval.specs.MachineSteps.{IsBegun, IsTaken, IsAnswered, IsOpen, Fit, WentTo, KeepsSetting};
 ghost use Rattle.pv_eval.specs.Pieces.{handed_at, needed_of};
 ghost use Rattle.pv_eval.specs.Progress.{StepsMachine, MadeAnywhere};
+ghost use Rattle.pv_eval.specs.AtOnce.{EvaluatedFirst, CutFirst};
 
 use crate::converting::{hand_on, need};
 use crate::failure::Failure;
@@ -166,6 +167,28 @@ impl Machine {
         match self.started.front_mut() {
             Some(e) => e.step(self.alloc, unit, &mut self.moment),
             None => unreachable!(),
+        }
+    }
+
+    /// The whole of the innermost expression at once, where it was just begun, is plain but for a store at its root, where
+    /// nothing stops it, and where its turns are within the bound. Then it has ended, with its value; its turns were taken,
+    /// nothing was printed, and nothing happened that is told. False where that is not so: then nothing has changed.
+    pub fn whole(&mut self, unit: &TypedUnit, bound: u64) -> bool
+        requires runnable { IsRunnable unit.now }
+        requires fit { Fit unit.now self.old.started }
+        ensures whole { result ≡ true → EvaluatedFirst unit.now self.old self.new }
+        ensures cut { result ≡ true → CutFirst unit.now self.old self.new }
+        ensures more { result ≡ true → self.old.moment.taken < self.new.moment.taken }
+        ensures within { result ≡ true → self.new.moment.taken ≤ bound }
+        ensures ended { result ≡ true → is_ended self.new.started ≡ true }
+        ensures others { after_first self.new.started ≡ after_first self.old.started }
+        ensures fit { Fit unit.now self.new.started }
+        ensures same { result ≡ false → self.new ≡ self.old }
+        ensures stays { KeepsSetting self.old.moment self.new.moment }
+    {
+        match self.started.front_mut() {
+            Some(e) => e.whole(unit, bound, &mut self.moment),
+            None => false,
         }
     }
 

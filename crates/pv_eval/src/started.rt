@@ -1,5 +1,5 @@
 // Expressions that were started.
-ghost use Rattle.std.specs.Prelude.{◌≡◌, ◌+◌, ◌<◌, ◌^◌, ◌∷◌, [], List, length, map, true, false, IfOk, OnOk};
+ghost use Rattle.std.specs.Prelude.{◌≡◌, ◌+◌, ◌<◌, ◌≤◌, ◌^◌, ◌∷◌, [], List, length, map, true, false, IfOk, OnOk};
 ghost use Rattle.pv_typed.specs.Tables.{Stored};
 ghost use Rattle.pv_seq.specs.Sequencing.{opened, settled, top, below};
 ghost use Rattle.pv_world.specs.Coming.{worth_of};
@@ -9,6 +9,7 @@ ghost use Rattle.pv_eval.specs.Ahead.{Matched};
 ghost use Rattle.pv_eval.specs.Machines.{Started as Expression, value_at, is_due_at, is_value, is_call_at, turns_at, arguments_at, line_at};
 ghost use Rattle.pv_eval.specs.MachineSteps.{StartedFits, WentTo, step_at, KeepsSetting};
 ghost use Rattle.pv_eval.specs.Progress.{StepsExpression};
+ghost use Rattle.pv_eval.specs.AtOnce.{EvaluatedWhole, CutWhole};
 
 use crate::failure::Failure;
 use crate::frames::{Frame, Now, Step};
@@ -77,6 +78,8 @@ pub(crate) struct Started {
     root: NodeId,
     held: Box<Held>,
     place: Now,
+    /// Whether it was just begun: nothing waits in it, and its node is due.
+    fresh: bool,
 }
 
 impl Model for Started {
@@ -88,7 +91,11 @@ impl Model for Started {
 
     ghost view = { λ e. record { root = e.root; frames = e.held.value.frames.items; opens = e.held.value.journal; place = e.place } };
 
-    ghost invariant = { λ e. is_due_at e.place ≡ false → Matched e.held.value.frames.items e.held.value.journal };
+    ghost use Rattle.std.specs.Prelude.{true, [], ◌∷◌};
+    ghost use Rattle.pv_seq.specs.Sequencing.{opened};
+    ghost use Rattle.pv_eval.specs.declared.frames.Now.TheVariants.{Due};
+
+    ghost invariant = { λ e. (is_due_at e.place ≡ false → Matched e.held.value.frames.items e.held.value.journal) × (e.fresh ≡ true → (e.held.value.frames.items ≡ []) × (e.held.value.journal ≡ opened [] ∷ []) × (e.place ≡ Due e.root)) };
 }
 
 impl Started {
@@ -106,6 +113,7 @@ impl Started {
             root: n,
             held,
             place: Now::Due(n),
+            fresh: true,
         })
     }
 
@@ -126,6 +134,7 @@ impl Started {
         ensures taken { moment.new.taken ≡ moment.old.taken + turns_at self.old.place }
         ensures setting { KeepsSetting moment.old moment.new }
     {
+        self.fresh = false;
         let place = std::mem::replace(&mut self.place, Now::Due(self.root));
         let held = &mut *self.held;
         match running::step(
@@ -142,6 +151,34 @@ impl Started {
                 Ok(led)
             }
             Err(e) => Err(e),
+        }
+    }
+
+    /// The whole expression at once, where it was just begun, is plain but for a store at its root, where nothing stops it,
+    /// and where its turns are within the bound. False where that is not so: then nothing has changed.
+    pub(crate) fn whole(&mut self, unit: &TypedUnit, bound: u64, moment: &mut Moment) -> bool
+        requires runnable { IsRunnable unit.now }
+        requires fits { StartedFits unit.now self.old }
+        ensures whole { result ≡ true → EvaluatedWhole unit.now self.old self.new moment.old moment.new }
+        ensures cut { result ≡ true → CutWhole unit.now self.old moment.old moment.new }
+        ensures more { result ≡ true → moment.old.taken < moment.new.taken }
+        ensures within { result ≡ true → moment.new.taken ≤ bound }
+        ensures ended { result ≡ true → is_value self.new.place ≡ true }
+        ensures fits { StartedFits unit.now self.new }
+        ensures same { result ≡ false → self.new ≡ self.old }
+        ensures unmoved { result ≡ false → moment.new ≡ moment.old }
+        ensures setting { KeepsSetting moment.old moment.new }
+    {
+        if !self.fresh {
+            return false;
+        }
+        match moment.whole(unit, self.root, bound) {
+            Some(v) => {
+                self.fresh = false;
+                self.place = Now::Value(v);
+                true
+            }
+            None => false,
         }
     }
 
@@ -188,6 +225,7 @@ impl Started {
         ensures kept { self.new ≡ record self.old { place = self.new.place } }
         ensures fits { (u : Stored) → StartedFits u self.old → StartedFits u self.new }
     {
+        self.fresh = false;
         match std::mem::replace(&mut self.place, Now::Due(self.root)) {
             Now::Asked(f, args, line) => {
                 self.place = Now::Asked(f, Vec::new(alloc), line);
@@ -206,6 +244,7 @@ impl Started {
         ensures ended { is_value self.new.place ≡ true }
         ensures fits { (u : Stored) → StartedFits u self.old → StartedFits u self.new }
     {
+        self.fresh = false;
         self.held.journal.settle();
         self.place = Now::Value(v);
     }

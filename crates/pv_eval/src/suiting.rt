@@ -157,7 +157,7 @@ pub(crate) fn can_order(world: &World, op: BinOp, v: &Got, x: &Got) -> bool
 }
 
 /// Whether the integer promotions leave the kind as it is (C17 6.3.1.1p2).
-fn is_promoted(kind: IntKind) -> bool
+pub(crate) fn is_promoted(kind: IntKind) -> bool
     ensures value { result ≡ is_promoted kind }
     ensures promoted { result ≡ true → IsPromoted kind }
 {
@@ -178,7 +178,7 @@ fn is_count(n: i128) -> bool
 
 /// Whether a number is one that the right operand of an operator may be.
 #[tactic(auto, using(crate::proofs::Guards::operand_is))]
-fn is_operand(op: BinOp, kind: IntKind, n: i128) -> bool
+pub(crate) fn is_operand(op: BinOp, kind: IntKind, n: i128) -> bool
     ensures value { result ≡ is_operand op kind n }
     ensures operand { result ≡ true → IsOperand op kind n }
 {

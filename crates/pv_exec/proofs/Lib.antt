@@ -23,6 +23,7 @@ pub mod Finding
 pub mod Params
 pub mod Bounds
 pub mod Turns
+pub mod AtOnce
 pub mod Readying
 pub mod Mains
 pub mod Outside

@@ -41,6 +41,24 @@ stands-next stage k w bytes events m a c here whole few far behind exact =
       few = omega (arith, out, few);
     }
 
+-- so do all stages in which nothing more was printed or told
+pub stands-cut : (stage : ℕ → State) (k t : ℕ) (bytes : List ℕ) (events : List Marked) (m : Moment) → ((j : ℕ) → k ≤ j → j < t → stage (suc j) ≡ state_of (record m { taken = j }) bytes events) → k < t → Stands stage (suc k) bytes events → Stands stage t bytes events
+stands-cut stage k zero bytes events m f lt h = absurd (omega (arith, lt))
+stands-cut stage k (suc j) bytes events m f lt h =
+    let here : stage (suc k) ≡ state_of (record m { taken = k }) bytes events = f k (omega arith) lt in
+    let there : stage (suc j) ≡ state_of (record m { taken = j }) bytes events = f j (omega (arith, lt)) (omega arith) in
+    let long : length (stage (suc j)).output ≡ length (stage (suc k)).output = ap (λ (s : State). length s.output) there ∙ sym (ap (λ (s : State). length s.output) here) in
+    record {
+      blocks = h.blocks;
+      whole = h.whole;
+      told = h.told ∙ ap (λ (s : State). s.events) here ∙ sym (ap (λ (s : State). s.events) there);
+      few = omega (arith, long, h.few);
+    }
+
+pub stands-last : (stage : ℕ → State) (k t : ℕ) (bytes : List ℕ) (events : List Marked) (m : Moment) (q : Bool) → nat_lt k t ≡ q → ((j : ℕ) → k ≤ j → j < t → stage (suc j) ≡ state_of (record m { taken = j }) bytes events) → Stands stage (suc k) bytes events → StandsLast stage t bytes events
+stands-last stage k t bytes events m true is f h = record { stages = t; stands = stands-cut stage k t bytes events m f (ltb-true k t is) h; last = omega arith }
+stands-last stage k t bytes events m false is f h = record { stages = suc k; stands = h; last = let le = ltb-false k t is in omega (arith, le) }
+
 -- a block that was full in the next stage could not be written
 pub let-out-block : (stage : ℕ → State) (k last : ℕ) (bytes printed : List ℕ) (events : List Marked) (a b : Option (List ℕ)) → Stands stage k bytes events → (p : BlockPart a b printed) → (stage (suc k)).output ≡ bytes ++ printed → LetOut stage last (bytes ++ p.part.part) events
 let-out-block stage k last bytes printed events a b h p out =

@@ -25,14 +25,14 @@ use Rattle.pv_exec.specs.declared.task.Doing.{Doing}
 use Rattle.pv_exec.specs.Tasks.{Reached}
 use Rattle.pv_exec.specs.Works.{Holds}
 use Rattle.pv_exec.specs.Fits.{Runs}
-use Rattle.pv_exec.specs.Turning.{AdvancedLed}
+use Rattle.pv_exec.specs.Turning.{AdvancedLed, CutBefore}
 use Rattle.pv_exec.specs.Streaming.{Outlet, IsNear, event_of, IsFar, HasWritten, HasTold, Delivered, DeliveredOr, Streams, Begins}
 use Rattle.pv_exec.specs.Words.{FitsWords}
 use Rattle.pv_exec.specs.Works.{due}
 use Rattle.pv_exec.specs.Stages.{bounded, IsStaged, Stands, StandsOr}
 use Rattle.pv_exec.specs.Running.{KeepsApart, StatementsCut, StatementsLed}
 use Rattle.pv_exec.proofs.Bounds.{holds-out, has-stores}
-use Rattle.pv_exec.proofs.Stages.{stands-first, stands-next, let-out-block}
+use Rattle.pv_exec.proofs.Stages.{stands-first, stands-next, stands-cut, stands-last, let-out-block}
 use Rattle.pv_exec.proofs.Growing.{each-append, each-weaker, Grows}
 use Rattle.pv_exec.proofs.Adding.{holds-grow}
 
@@ -239,10 +239,18 @@ total-apart out bytes m n h f = subst (λ (t : ℕ). Follows n t) (sym (length-a
 keeps-on : (bytes : List ℕ) (l m n : Moment) → KeepsApart bytes l m → KeepsSetting m n → KeepsApart bytes l n
 keeps-on bytes l m n h k = record { total = λ t f. k.total (t + length bytes) (h.total t f); sides = k.sides ∙ h.sides }
 
--- a turn of the run
-pub streaming-on : {o o' : Outlet} (u : Stored) (n w : ℕ) (d0 d e : Doing) (ts ts' : List Task) (old m m' : Machine) → Streaming u o o' n w (suc m.moment.taken) d0 d ts old m → AdvancedLed u n d (advance.On e) ts ts' m m' → KeepsSetting m.moment m'.moment → m'.moment.taken ≡ m.moment.taken + 1 → m'.moment.taken ≤ n → Streaming u o o' n w m'.moment.taken d0 e ts' old m'
-streaming-on u n w d0 d e ts ts' old m m' h led k one le =
-    let next : suc m.moment.taken ≡ m'.moment.taken = omega (arith, one) in
+-- the stages in which nothing was printed or told
+stages-cut : {o o' : Outlet} (u : Stored) (n w k : ℕ) (d0 d : Doing) (ts : List Task) (old m m' : Machine) → (h : Streaming u o o' n w k d0 d ts old m) → CutBefore u d ts m m' → (b : Setting) (stage : ℕ → State) → IsSetting b u old.moment → Follows old.moment 0 → IsStaged (StatementsCut b u d0 old) stage
+    → (j : ℕ) → m.moment.taken ≤ j → j < m'.moment.taken → stage (suc j) ≡ state_of (record m.moment { taken = j }) h.bytes h.events
+stages-cut u n w k d0 d ts old m m' h cut b stage hs hl st j low high =
+    let c = bounded b j in
+    let hc : IsSetting c u old.moment = record { unit = hs.unit; types = hs.types; sides = hs.sides } in
+    st.cut j (state_of (record m.moment { taken = j }) h.bytes h.events)
+    (λ all g. cut c h.bytes h.events (setting-apart c u h.bytes old.moment m.moment h.keeps hc) (total-apart [] h.bytes old.moment m.moment h.keeps hl) all low high (h.held c [] [] hc hl all low g))
+
+-- turns of the run
+pub streaming-on : {o o' : Outlet} (u : Stored) (n w : ℕ) (d0 d e : Doing) (ts ts' : List Task) (old m m' : Machine) → Streaming u o o' n w (suc m.moment.taken) d0 d ts old m → AdvancedLed u n d (advance.On e) ts ts' m m' → CutBefore u d ts m m' → KeepsSetting m.moment m'.moment → m.moment.taken < m'.moment.taken → m'.moment.taken ≤ n → Streaming u o o' n w m'.moment.taken d0 e ts' old m'
+streaming-on u n w d0 d e ts ts' old m m' h led cut k more le =
     record {
       bytes = h.bytes;
       events = h.events;
@@ -253,8 +261,9 @@ streaming-on u n w d0 d e ts ts' old m m' h led k one le =
       within = le;
       held = λ b out es hs hl all q g.
           led b (out ++ h.bytes) (es ++ h.events) (setting-apart b u h.bytes old.moment m.moment h.keeps hs) (total-apart out h.bytes old.moment m.moment h.keeps hl) all q
-          (h.held b out es hs hl all (omega (arith, one, q)) g);
-      stands = λ b stage hs hl st. subst (λ (i : ℕ). Stands stage i h.bytes h.events) next (h.stands b stage hs hl st);
+          (h.held b out es hs hl all (omega (arith, more, q)) g);
+      stands = λ b stage hs hl st.
+          stands-cut stage m.moment.taken m'.moment.taken h.bytes h.events m.moment (stages-cut u n w (suc m.moment.taken) d0 d ts old m m' h cut b stage hs hl st) more (h.stands b stage hs hl st);
     }
 
 -- what has left moves the counts
@@ -315,14 +324,15 @@ pub due-delivered : {o o' : Outlet} {names : List (List ℕ)} {w w' : ℕ} (d : 
 due-delivered d m m' k h = ap (λ (q : Machine). due q.started d) k.same ∙ h
 
 -- how the statements ended
-pub led-last : {o o' : Outlet} (u : Stored) (n w : ℕ) (d0 d : Doing) (l : Last) (ts ts' : List Task) (old m m' : Machine) → Streaming u o o' n w (suc m.moment.taken) d0 d ts old m → AdvancedLed u n d (advance.Last l) ts ts' m m' → KeepsSetting m.moment m'.moment → m'.moment.taken ≤ m.moment.taken + 1 → StatementsLed u o o' n d0 (Ok l) old m'
-led-last u n w d0 d l ts ts' old m m' h led k le = record {
+pub led-last : {o o' : Outlet} (u : Stored) (n w : ℕ) (d0 d : Doing) (l : Last) (ts ts' : List Task) (old m m' : Machine) → Streaming u o o' n w (suc m.moment.taken) d0 d ts old m → AdvancedLed u n d (advance.Last l) ts ts' m m' → CutBefore u d ts m m' → KeepsSetting m.moment m'.moment → StatementsLed u o o' n d0 (Ok l) old m'
+led-last u n w d0 d l ts ts' old m m' h led cut k = record {
   bytes = h.bytes;
   events = h.events;
   streams = h.streams;
   keeps = keeps-on h.bytes old.moment m.moment m'.moment h.keeps k;
   led = λ b out es hs hl all q g. led b (out ++ h.bytes) (es ++ h.events) (setting-apart b u h.bytes old.moment m.moment h.keeps hs) (total-apart out h.bytes old.moment m.moment h.keeps hl) all q (h.held b out es hs hl all (omega (arith, q, h.within)) g);
-  stands = λ b stage hs hl st. record { stages = suc m.moment.taken; stands = h.stands b stage hs hl st; last = omega (arith, le) };
+  stands = λ b stage hs hl st.
+      stands-last stage m.moment.taken m'.moment.taken h.bytes h.events m.moment _ refl (stages-cut u n w (suc m.moment.taken) d0 d ts old m m' h cut b stage hs hl st) (h.stands b stage hs hl st);
 }
 
 -- where memory ran out

@@ -1,5 +1,5 @@
 -- Parts of a run between turns.
-use Rattle.std.proofs.Common.{◌≡◌, ℕ, ◌+◌, ◌<◌, List, sym, ap, ◌∙◌, arith}
+use Rattle.std.proofs.Common.{◌≡◌, ℕ, ◌+◌, ◌<◌, ◌≤◌, List, sym, ap, ◌∙◌, arith}
 use Rattle.std.specs.Prelude.{Bool, true, false, Result, Ok, Err, OnOk, length, if◌then◌else◌}
 use Rattle.pv_typed.specs.Tables.{Stored}
 use Rattle.pv_eval.specs.declared.failure.Failure.{Failure}
@@ -10,6 +10,8 @@ use Rattle.pv_eval.specs.Machines.{Machine, Started}
 use Rattle.pv_eval.specs.MachineSteps.{Fit, KeepsSetting}
 use Rattle.pv_exec.specs.declared.once.After.{After}
 use Rattle.pv_exec.specs.declared.once.After.TheVariants as after
+use Rattle.pv_exec.specs.declared.turning.Advanced.{Advanced}
+use Rattle.pv_exec.specs.declared.turning.Advanced.TheVariants as advance
 use Rattle.pv_exec.specs.declared.task.Task.{Task}
 use Rattle.pv_exec.specs.declared.task.Doing.{Doing}
 use Rattle.pv_exec.specs.Works.{due}
@@ -51,9 +53,7 @@ settled-runs u ts es (Ok after.Valued) h f e = tt
 settled-runs u ts es (Err (failure.Stop y line)) h f e = tt
 settled-runs u ts es (Err failure.NoMemory) h f e = tt
 
-pub turn-pace : (n k k' : ℕ) (r : Result After Failure) → k < n → k' ≡ k + 1 → AdvancedPace n k k' (advanced_by r)
-turn-pace n k k' (Ok (after.On d)) lt e = (e, omega (arith, lt, e))
-turn-pace n k k' (Ok (after.Ended fl)) lt e = omega (arith, e)
-turn-pace n k k' (Ok after.Valued) lt e = omega (arith, e)
-turn-pace n k k' (Err (failure.Stop y line)) lt e = omega (arith, e)
-turn-pace n k k' (Err failure.NoMemory) lt e = tt
+pub pace-of : (n k k' : ℕ) (a : Advanced) → k < k' → k' ≤ n → AdvancedPace n k k' a
+pace-of n k k' (advance.On d) lt le = (lt, le)
+pace-of n k k' (advance.Last l) lt le = tt
+pace-of n k k' advance.NoMemory lt le = tt

@@ -1,5 +1,5 @@
 -- Turns of a run (C17 5.1.2.3p1), and how its statements end: bridges from the code's loop over turns.
-use Rattle.std.specs.Prelude.{◌≡◌, ℕ, ◌+◌, ◌≤◌, List, Result, Ok, Err}
+use Rattle.std.specs.Prelude.{◌≡◌, ℕ, ◌<◌, ◌≤◌, List, Result, Ok, Err}
 use Rattle.pv_typed.specs.Tables.{Stored}
 use Rattle.pv_world.specs.Coming.{wrong_for}
 use Rattle.pv_eval.specs.declared.failure.Failure.{Failure}
@@ -16,6 +16,7 @@ use Rattle.pv_exec.specs.declared.turning.Advanced.{Advanced}
 use Rattle.pv_exec.specs.declared.turning.Advanced.TheVariants as advance
 use Rattle.pv_exec.specs.declared.task.Task.{Task}
 use Rattle.pv_exec.specs.declared.task.Doing.{Doing}
+use Rattle.pv_exec.specs.declared.task.Doing.TheVariants as doing
 use Rattle.pv_exec.specs.Tasks.{Reached, Left, Valued}
 use Rattle.pv_exec.specs.Works.{flow_of, due, Holds}
 use Rattle.pv_exec.specs.Leading.{HoldsAfter}
@@ -65,8 +66,20 @@ AdvancedRuns u ts es (advance.On d) = Runs u ts es d × Fit u es × (due es d �
 AdvancedRuns u ts es (advance.Last l) = Unit {0}
 AdvancedRuns u ts es advance.NoMemory = Unit {0}
 
--- 5.1.2.3p1: where the run goes on, one turn was taken, within the bound; where it is over, at most one
+-- 5.1.2.3p1: where the run goes on, turns were taken, within the bound
 abbrev pub AdvancedPace : (bound before behind : ℕ) → Advanced → Type 0
-AdvancedPace n k k' (advance.On d) = (k' ≡ k + 1) × (k' ≤ n)
-AdvancedPace n k k' (advance.Last l) = k' ≤ k + 1
+AdvancedPace n k k' (advance.On d) = (k < k') × (k' ≤ n)
+AdvancedPace n k k' (advance.Last l) = Unit {0}
 AdvancedPace n k k' advance.NoMemory = Unit {0}
+
+-- 6.8p4: an expression that is due has its value, with all its turns
+abbrev pub AtOnceLed : Stored → Doing → List Task → Machine → Machine → Type 0
+AtOnceLed u d ts old new =
+    Always u old.moment (λ b out es. (all : Res Reached) → new.moment.taken ≤ b.bound →
+    Holds b u all ts old.started d (state_of old.moment out es) → Holds b u all ts new.started doing.Evaluated (state_of new.moment out es))
+
+-- 5.1.2.3p1: and under each bound that is met before the turns that were taken, the run stops there, and nothing else has changed
+abbrev pub CutBefore : Stored → Doing → List Task → Machine → Machine → Type 0
+CutBefore u d ts old new =
+    Always u old.moment (λ b out es. (all : Res Reached) → old.moment.taken ≤ b.bound → b.bound < new.moment.taken →
+    Holds b u all ts old.started d (state_of old.moment out es) → all ≡ Stops Turns (state_of (record old.moment { taken = b.bound }) out es))

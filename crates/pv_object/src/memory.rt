@@ -172,6 +172,13 @@ impl Memory {
         self.table.side(pair, high);
     }
 
+    /// Whether each instance that became exposed was given.
+    pub fn is_told(&self) -> bool
+        ensures { result ≡ true → self.now.table.pending ≡ [] }
+    {
+        self.table.is_told()
+    }
+
     /// The next instance that became exposed and was not given yet.
     pub fn next_exposed(&mut self) -> Option<u64>
         ensures given { self.old.table.pending ≡ option_to_list result ++ self.new.table.pending }

@@ -32,7 +32,7 @@ statements-preserved g c =
     let inv = c.statements.invariant in
     let out = streaming-delivered u c.args.bound c.statements.written c.deliver.new.written m1.moment.taken c.args.doing c.statements.doing c.statements.tasks.items m0 m1 m2 inv.runs inv.due inv.streamed c.in-Ok.ensures.delivered in
     record {
-      streamed = streaming-on u c.args.bound c.deliver.new.written c.args.doing c.statements.doing c.in-On.next c.statements.tasks.items c.advance.new.tasks.items m0 m2 m3 out c.in-On.ensures.holds c.advance.ensures.setting c.in-On.ensures.pace.0 c.in-On.ensures.pace.1;
+      streamed = streaming-on u c.args.bound c.deliver.new.written c.args.doing c.statements.doing c.in-On.next c.statements.tasks.items c.advance.new.tasks.items m0 m2 m3 out c.in-On.ensures.holds c.advance.ensures.cut c.advance.ensures.setting c.in-On.ensures.pace.0 c.in-On.ensures.pace.1;
       later = omega (arith, inv.later, c.deliver.ensures.cause.later);
       fit = c.in-On.ensures.runs.1;
       runs = c.in-On.ensures.runs.0;
@@ -52,7 +52,7 @@ returns-in-Last-clause-ended g c =
     let m2 = c.deliver.new.machine in
     let inv = c.statements.invariant in
     let out = streaming-delivered u c.args.bound c.statements.written c.deliver.new.written m1.moment.taken c.args.doing c.statements.doing c.statements.tasks.items m0 m1 m2 inv.runs inv.due inv.streamed c.in-Ok.ensures.delivered in
-    led-last u c.args.bound c.deliver.new.written c.args.doing c.statements.doing c.in-Last.last c.statements.tasks.items c.advance.new.tasks.items m0 m2 c.advance.new.machine out c.in-Last.ensures.holds c.advance.ensures.setting c.in-Last.ensures.pace
+    led-last u c.args.bound c.deliver.new.written c.args.doing c.statements.doing c.in-Last.last c.statements.tasks.items c.advance.new.tasks.items m0 m2 c.advance.new.machine out c.in-Last.ensures.holds c.advance.ensures.cut c.advance.ensures.setting
 
 pub returns-in-NoMemory-clause-ended : goal.returns-in-NoMemory-clause-ended
 returns-in-NoMemory-clause-ended g c =

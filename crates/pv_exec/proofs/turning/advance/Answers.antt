@@ -1,13 +1,16 @@
-use Rattle.std.proofs.Common.{sym, subst, arith, Ok, Err}
+use Rattle.std.proofs.Common.{◌≡◌, ◌+◌, ◌<◌, sym, subst, arith}
 use Rattle.pv_eval.specs.Moments.{state_of}
-use Rattle.pv_exec.specs.declared.once.After.{After}
-use Rattle.pv_exec.specs.declared.once.After.TheVariants as after
+use Rattle.pv_eval.specs.Machines.{Machine}
+use Rattle.pv_eval.specs.MachineSteps.{Fit, KeepsSetting}
 use Rattle.pv_exec.specs.declared.turning.Advanced.{Advanced}
-use Rattle.pv_exec.specs.Leading.{OnceLed}
-use Rattle.pv_exec.specs.Turning.{AdvancedLed, AdvancedRuns, AdvancedPace}
+use Rattle.pv_exec.specs.declared.task.Doing.TheVariants.{Evaluated}
+use Rattle.pv_exec.specs.Works.{due}
+use Rattle.pv_exec.specs.Fits.{Runs}
+use Rattle.pv_exec.specs.Turning.{AdvancedLed, AdvancedRuns, AdvancedPace, CutBefore}
 use Rattle.pv_exec.proofs.Bounds.{holds-out, has-stores}
 use Rattle.pv_exec.proofs.Pieces.{keeps-both}
-use Rattle.pv_exec.proofs.Turns.{settled-led, settled-runs, once-led, turn-pace}
+use Rattle.pv_exec.proofs.Turns.{settled-runs, pace-of}
+use Rattle.pv_exec.proofs.AtOnce.{at-once-settled, cut-settled, cut-turn, cut-none, runs-at-once}
 use Rattle.pv_exec.proofs.turning.advance.Goals as goal
 
 pub returns-then-turns-bound-clause-holds : goal.returns-then-turns-bound-clause-holds
@@ -16,73 +19,78 @@ returns-then-turns-bound-clause-holds c = λ b out es hs hl all e h.
     let old = c.args.machine.now in
     holds-out b u all c.args.tasks.now.items old.started c.args.doing (state_of old.moment out es) c.requires.due (has-stores b u old.started c.args.doing hs.unit c.requires.runs.doing_fits) (omega (arith, e, c.if-turns-bound.true, c.turns.ensures)) h
 
-pub returns-in-Ok-On-clause-holds : goal.returns-in-Ok-On-clause-holds
-returns-in-Ok-On-clause-holds c =
+pub returns-then-turns-bound-clause-cut : goal.returns-then-turns-bound-clause-cut
+returns-then-turns-bound-clause-cut c = cut-none c.args.unit.now c.args.doing c.args.tasks.now.items c.args.machine.now
+
+pub settle-requires-clause-runs : goal.settle-requires-clause-runs
+settle-requires-clause-runs c = runs-at-once c.args.unit.now c.args.tasks.now.items c.args.machine.now.started c.at_once.new.machine.started c.args.doing c.requires.runs (c.at_once.ensures.others c.if-at_once.true) (c.at_once.ensures.ended c.if-at_once.true)
+
+pub returns-then-at_once-clause-holds : goal.returns-then-at_once-clause-holds
+returns-then-at_once-clause-holds c =
     let u = c.args.unit.now in
     let n = c.args.bound in
     let d = c.args.doing in
     let ts = c.args.tasks.now.items in
-    let tm = c.once.new.tasks.items in
     let ts' = c.settle.new.tasks.items in
     let old = c.args.machine.now in
-    let mid = c.once.new.machine in
+    let mid = c.at_once.new.machine in
     let new = c.settle.new.machine in
     subst (λ (a : Advanced). AdvancedLed u n d a ts ts' old new) (sym c.next_of.ensures)
-    (settled-led u n d c.in-Ok-On.next c.settle.result ts tm ts' old mid new (omega (arith, c.if-turns-bound.false, c.turns.ensures)) c.once.ensures.taken c.settle.ensures.taken c.once.ensures.setting
-    (subst (λ (x : After). OnceLed u d (Ok x) ts tm old mid) c.in-Ok-On.field-0-is c.in-Ok-On.ensures.holds) c.settle.ensures.holds)
+    (at-once-settled u n d c.settle.result ts ts' old mid new (c.at_once.ensures.within c.if-at_once.true) c.settle.ensures.taken c.at_once.ensures.setting (c.at_once.ensures.led ts c.if-at_once.true) c.settle.ensures.holds)
 
-pub returns-in-Ok-On-clause-setting : goal.returns-in-Ok-On-clause-setting
-returns-in-Ok-On-clause-setting c = keeps-both c.args.machine.now.moment c.once.new.machine.moment c.settle.new.machine.moment c.once.ensures.setting c.settle.ensures.setting
+pub returns-then-at_once-clause-setting : goal.returns-then-at_once-clause-setting
+returns-then-at_once-clause-setting c = keeps-both c.args.machine.now.moment c.at_once.new.machine.moment c.settle.new.machine.moment c.at_once.ensures.setting c.settle.ensures.setting
 
-pub returns-in-Ok-On-clause-runs : goal.returns-in-Ok-On-clause-runs
-returns-in-Ok-On-clause-runs c =
+pub returns-then-at_once-clause-runs : goal.returns-then-at_once-clause-runs
+returns-then-at_once-clause-runs c =
     let new = c.settle.new.machine in
     subst (λ (a : Advanced). AdvancedRuns c.args.unit.now c.settle.new.tasks.items new.started a) (sym c.next_of.ensures)
     (settled-runs c.args.unit.now c.settle.new.tasks.items new.started c.settle.result c.settle.ensures.runs c.settle.ensures.fit c.settle.ensures.due)
 
-pub returns-in-Ok-On-clause-pace : goal.returns-in-Ok-On-clause-pace
-returns-in-Ok-On-clause-pace c =
-    let k = c.args.machine.now.moment.taken in
-    let k' = c.settle.new.machine.moment.taken in
-    subst (λ (a : Advanced). AdvancedPace c.args.bound k k' a) (sym c.next_of.ensures)
-    (turn-pace c.args.bound k k' c.settle.result (omega (arith, c.if-turns-bound.false, c.turns.ensures)) (omega (arith, c.settle.ensures.taken, c.once.ensures.taken, c.requires.due)))
+pub returns-then-at_once-clause-cut : goal.returns-then-at_once-clause-cut
+returns-then-at_once-clause-cut c =
+    let ts = c.args.tasks.now.items in
+    cut-settled c.args.unit.now c.args.doing ts c.args.machine.now c.at_once.new.machine c.settle.new.machine c.settle.ensures.taken (c.at_once.ensures.cut ts c.if-at_once.true)
 
-pub returns-in-Ok-Ended-clause-holds : goal.returns-in-Ok-Ended-clause-holds
-returns-in-Ok-Ended-clause-holds c =
+pub returns-then-at_once-clause-pace : goal.returns-then-at_once-clause-pace
+returns-then-at_once-clause-pace c =
+    let more = c.at_once.ensures.more c.if-at_once.true in
+    let within = c.at_once.ensures.within c.if-at_once.true in
+    pace-of c.args.bound c.args.machine.now.moment.taken c.settle.new.machine.moment.taken c.next_of.result (omega (arith, c.settle.ensures.taken, more)) (omega (arith, c.settle.ensures.taken, within))
+
+pub turn-requires-clause-runs : goal.turn-requires-clause-runs
+turn-requires-clause-runs c = subst (λ (q : Machine). Runs c.args.unit.now c.args.tasks.now.items q.started c.args.doing) (sym (c.at_once.ensures.same c.if-at_once.false)) c.requires.runs
+
+pub turn-requires-clause-due : goal.turn-requires-clause-due
+turn-requires-clause-due c = subst (λ (q : Machine). due q.started c.args.doing ≡ 1) (sym (c.at_once.ensures.same c.if-at_once.false)) c.requires.due
+
+pub turn-requires-clause-room : goal.turn-requires-clause-room
+turn-requires-clause-room c =
+    let room : c.args.machine.now.moment.taken < c.args.bound = omega (arith, c.if-turns-bound.false, c.turns.ensures) in
+    subst (λ (q : Machine). q.moment.taken < c.args.bound) (sym (c.at_once.ensures.same c.if-at_once.false)) room
+
+pub returns-clause-holds : goal.returns-clause-holds
+returns-clause-holds c =
+    subst (λ (q : Machine). AdvancedLed c.args.unit.now c.args.bound c.args.doing c.turn.result c.args.tasks.now.items c.turn.new.tasks.items q c.turn.new.machine) (c.at_once.ensures.same c.if-at_once.false) c.turn.ensures.holds
+
+pub returns-clause-setting : goal.returns-clause-setting
+returns-clause-setting c = subst (λ (q : Machine). KeepsSetting q.moment c.turn.new.machine.moment) (c.at_once.ensures.same c.if-at_once.false) c.turn.ensures.setting
+
+pub returns-clause-cut : goal.returns-clause-cut
+returns-clause-cut c =
     let u = c.args.unit.now in
     let d = c.args.doing in
     let ts = c.args.tasks.now.items in
-    let ts' = c.once.new.tasks.items in
     let old = c.args.machine.now in
-    let new = c.once.new.machine in
-    once-led u c.args.bound d (Ok (after.Ended c.in-Ok-Ended.flow)) ts ts' old new (omega (arith, c.if-turns-bound.false, c.turns.ensures)) c.once.ensures.taken
-    (subst (λ (x : After). OnceLed u d (Ok x) ts ts' old new) c.in-Ok-Ended.field-0-is c.in-Ok-Ended.ensures.holds)
+    let mid = c.at_once.new.machine in
+    let new = c.turn.new.machine in
+    let same : mid ≡ old = c.at_once.ensures.same c.if-at_once.false in
+    let one : new.moment.taken ≡ old.moment.taken + 1 = subst (λ (q : Machine). new.moment.taken ≡ q.moment.taken + 1) same c.turn.ensures.taken in
+    cut-turn u d ts old new c.requires.due c.requires.runs.doing_fits one
 
-pub returns-in-Ok-Valued-clause-holds : goal.returns-in-Ok-Valued-clause-holds
-returns-in-Ok-Valued-clause-holds c =
-    let u = c.args.unit.now in
-    let d = c.args.doing in
-    let ts = c.args.tasks.now.items in
-    let ts' = c.once.new.tasks.items in
+pub returns-clause-pace : goal.returns-clause-pace
+returns-clause-pace c =
     let old = c.args.machine.now in
-    let new = c.once.new.machine in
-    once-led u c.args.bound d (Ok after.Valued) ts ts' old new (omega (arith, c.if-turns-bound.false, c.turns.ensures)) c.once.ensures.taken
-    (subst (λ (x : After). OnceLed u d (Ok x) ts ts' old new) c.in-Ok-Valued.field-0-is c.in-Ok-Valued.ensures.holds)
-
-pub returns-in-Err-clause-holds : goal.returns-in-Err-clause-holds
-returns-in-Err-clause-holds c =
-    let u = c.args.unit.now in
-    let d = c.args.doing in
-    let ts = c.args.tasks.now.items in
-    let ts' = c.once.new.tasks.items in
-    let old = c.args.machine.now in
-    let new = c.once.new.machine in
-    subst (λ (a : Advanced). AdvancedLed u c.args.bound d a ts ts' old new) (sym c.next_of-in-Err.ensures)
-    (once-led u c.args.bound d (Err c.in-Err.e) ts ts' old new (omega (arith, c.if-turns-bound.false, c.turns.ensures)) c.once.ensures.taken c.in-Err.ensures.holds)
-
-pub returns-in-Err-clause-pace : goal.returns-in-Err-clause-pace
-returns-in-Err-clause-pace c =
-    let k = c.args.machine.now.moment.taken in
-    let k' = c.once.new.machine.moment.taken in
-    subst (λ (a : Advanced). AdvancedPace c.args.bound k k' a) (sym c.next_of-in-Err.ensures)
-    (turn-pace c.args.bound k k' (Err c.in-Err.e) (omega (arith, c.if-turns-bound.false, c.turns.ensures)) (omega (arith, c.once.ensures.taken, c.requires.due)))
+    let new = c.turn.new.machine in
+    let one : new.moment.taken ≡ old.moment.taken + 1 = subst (λ (q : Machine). new.moment.taken ≡ q.moment.taken + 1) (c.at_once.ensures.same c.if-at_once.false) c.turn.ensures.taken in
+    pace-of c.args.bound old.moment.taken new.moment.taken c.turn.result (omega (arith, one)) (omega (arith, one, c.if-turns-bound.false, c.turns.ensures))

@@ -1,0 +1,267 @@
+-- Operations on integers that give a value, tell nothing and leave the world as it is.
+use Rattle.std.proofs.Common.{◌≡◌, ℕ, ◌++◌, Bool, true, false, List, [], ◌∷◌, length, refl, sym, ap, ◌∙◌, arith, subst, Some, None, append-nil}
+use Rattle.std.proofs.lemmas.Bool.{le-ltb}
+use Rattle.std.specs.Ordering.{int_eq}
+use Rattle.std.specs.Prelude.{ℤ, pos, not, ◌&&◌, Option, IfSome, nat_lt, slice_get, if◌then◌else◌, Ok}
+use Rattle.pv_num.specs.declared.kinds.IntKind.{IntKind}
+use Rattle.pv_num.specs.declared.operators.BinOp.{BinOp}
+use Rattle.pv_num.specs.Kinds.{fits_of, convert_of}
+use Rattle.pv_num.specs.declared.operators.UnOp.{UnOp}
+use Rattle.pv_num.specs.Arithmetic.{binary_of, unary_of}
+use Rattle.pv_effect.specs.EffectiveType.{is_character_kind}
+use Rattle.pv_tree.specs.declared.nodes.NodeId.{NodeId}
+use Rattle.pv_types.specs.Ty.{Ty}
+use Rattle.pv_typed.specs.declared.nodes.Typed.{Typed}
+use Rattle.pv_typed.specs.declared.nodes.Typed.TheVariants as typed
+use Rattle.pv_typed.specs.TypedTree.{TypedTree, Node, Form, Convert, type_of, form_of}
+use Rattle.pv_typed.specs.TypedUnits.{layouts, object_at}
+use Rattle.pv_typed.specs.Tables.{Stored, nodes, whole, expression_at}
+use Rattle.pv_seq.specs.Sequencing.{opened}
+use Rattle.pv_world.specs.Worlds.{Worth, World}
+use Rattle.pv_world.specs.declared.got.Shape.{Shape}
+use Rattle.pv_world.specs.declared.got.Shape.TheVariants as shape
+use Rattle.pv_world.specs.declared.got.How.TheVariants.{Rounds, Passes}
+use Rattle.pv_world.specs.Worths.{int, pointer, missing_value, computed}
+use Rattle.pv_world.specs.Calculations.{calculates, calculates_one, follows_to}
+use Rattle.pv_world.specs.Conversions.{opposite}
+use Rattle.pv_world.specs.Objects.{address_of, instance_of}
+use Rattle.pv_world.specs.Telling.{quiet}
+use Rattle.pv_world.specs.Doing.{Done, Answers, Fails}
+use Rattle.pv_eval.specs.declared.marked.Marked.{Marked}
+use Rattle.pv_eval.specs.States.{Setting, State, Res, Gives, then_do}
+use Rattle.pv_eval.specs.Acting.{noted, pair_count, by_side, answered, acted}
+use Rattle.pv_eval.specs.Operations.{Op, Converts, Calculates, CalculatesOne, Negates, Follows, Selects, NamesObject, does, act}
+use Rattle.pv_eval.specs.Sequenced.{done, work}
+use Rattle.pv_eval.specs.Steps.{converted}
+use Rattle.pv_eval.specs.Evaluation.{ev}
+use Rattle.pv_eval.specs.TypeForms.{kind_of, shape_of, pointed_to, is_none}
+use Rattle.pv_eval.specs.Conversions.{how_to_int, how_by, how_to}
+use Rattle.pv_eval.specs.Suiting.{is_small, is_promoted, is_operand}
+use Rattle.pv_eval.proofs.Guards.{both_of}
+use Rattle.pv_eval.specs.declared.plain.Found.{Found}
+use Rattle.pv_eval.specs.declared.plain.Found.TheVariants as found
+use Rattle.pv_eval.specs.Plainly.{setting_by, turned, has_read, GivesAlone, GivesWith, GivesWithBoth, AlwaysGives, GivesAt, IsConverted, pointer_at, found_worth}
+
+pub not_less : (n : ℕ) → nat_lt n n ≡ false
+not_less n = le-ltb n n (omega arith)
+
+module _ (w : World) (out : List ℕ) (es : List Marked) (n : ℕ) where
+  noted_quiet : noted w quiet (turned w out es n) ≡ turned w out es n
+  noted_quiet = ap (λ (o : List ℕ). turned w o (es ++ []) n) (append-nil out) ∙ ap (λ (e : List Marked). turned w out e n) (append-nil es)
+
+  answered_quiet : (sides : Option (List Bool)) (v : Worth) (line : ℕ) → answered sides v line w quiet (turned w out es n) ≡ Gives v (turned w out es n)
+  answered_quiet None v line = ap (Gives v) noted_quiet
+  answered_quiet (Some sides) v line =
+      ap (λ c. if c then by_side (slice_get sides (pair_count w)) v line w quiet (turned w out es n) else Gives v (noted w quiet (turned w out es n))) (not_less (pair_count w))
+      ∙ ap (Gives v) noted_quiet
+
+  -- an operation that tells nothing gives its value in the state as it is
+  pub act_gives : (b : Setting) (line : ℕ) (op : Op) (v : Worth) → does b op w ≡ Answers v w quiet → act b line op (turned w out es n) ≡ Gives v (turned w out es n)
+  act_gives b line op v h = ap (λ d. acted b line d (turned w out es n)) h ∙ answered_quiet b.sides v line
+
+-- the same operands
+pub calculates_same : (op : BinOp) (k : IntKind) (x y left right : ℤ) (v : Worth) → x ≡ left → y ≡ right → AlwaysGives (λ b. Calculates op k (int x) (int y)) v → AlwaysGives (λ b. Calculates op k (int left) (int right)) v
+calculates_same op k x y left right v e f h =
+    subst (λ (n : ℤ). AlwaysGives (λ b. Calculates op k (int n) (int right)) v) e (subst (λ (n : ℤ). AlwaysGives (λ b. Calculates op k (int x) (int n)) v) f h)
+
+-- what is calculated of two operands that fit
+pub calculated_some : (op : BinOp) (k : IntKind) (x y z : ℤ) (r : Option ℤ) → is_promoted k ≡ true → fits_of k x ≡ true → is_operand op k y ≡ true → binary_of op k x y ≡ Ok z → IfSome r (λ q. q ≡ z)
+    → IfSome r (λ q. AlwaysGives (λ b. Calculates op k (int x) (int y)) (int q))
+calculated_some op k x y z None e f g h i = tt
+calculated_some op k x y z (Some q) e f g h i = λ b w.
+    ap (λ c. if c then calculates op k (int x) (int y) w else Fails missing_value None w quiet) (both_of (is_promoted k && fits_of k x) (is_operand op k y) (both_of (is_promoted k) (fits_of k x) e f) g)
+    ∙ ap (computed w) h
+    ∙ ap (λ (n : ℤ). Answers (int n) w quiet) (sym i)
+
+-- a conversion between integer types
+module _ (x : ℤ) (small : is_small (int x) ≡ true) (b : Setting) (w : World) where
+  rounds : (k : IntKind) → does b (Converts (Rounds k) (int x)) w ≡ Answers (int (convert_of k x)) w quiet
+  rounds k = ap (λ c. if c then Answers (int (convert_of k x)) w quiet else Fails missing_value None w quiet) (both_of (is_small (int x)) true small refl)
+
+  passes_on : (k : IntKind) → does b (Converts (Passes k) (int x)) w ≡ Answers (int (convert_of k x)) w quiet
+  passes_on k = ap (λ c. if c then Answers (int (convert_of k x)) w quiet else Fails missing_value None w quiet) (both_of (is_small (int x)) true small refl)
+
+  rounds_or : (c : Bool) (k : IntKind) → does b (Converts (if c then Passes k else Rounds k) (int x)) w ≡ Answers (int (convert_of k x)) w quiet
+  rounds_or true k = passes_on k
+  rounds_or false k = rounds k
+
+  between_integers : (implied : Bool) (j k : IntKind) → does b (Converts (how_to_int implied (shape.Int j) k) (int x)) w ≡ Answers (int (convert_of k x)) w quiet
+  between_integers true j k = rounds_or (is_character_kind j && is_character_kind k) k
+  between_integers false j k = rounds k
+
+pub rounded_some : (from to : Ty) (j k : IntKind) (x z : ℤ) (r : Option ℤ) → shape_of from ≡ shape.Int j → shape_of to ≡ shape.Int k → z ≡ convert_of k x → is_small (int x) ≡ true → IfSome r (λ q. q ≡ z)
+    → (implied : Bool) → IfSome r (λ q. AlwaysGives (λ b. Converts (how_to b implied from to) (int x)) (int q))
+rounded_some from to j k x z None e f g small h implied = tt
+rounded_some from to j k x z (Some q) e f g small h implied = λ b w.
+    ap (λ (s : Shape). does b (Converts (how_by (layouts b.unit) implied s (shape_of to) (pointed_to to)) (int x)) w) e
+    ∙ ap (λ (s : Shape). does b (Converts (how_by (layouts b.unit) implied (shape.Int j) s (pointed_to to)) (int x)) w) f
+    ∙ between_integers x small b w implied j k
+    ∙ ap (λ (n : ℤ). Answers (int n) w quiet) (sym (h ∙ g))
+
+-- the operand of a node, converted by its own node
+converted_at : (x i : TypedTree) (v z : Worth) → form_of x ≡ Convert i → AlwaysGives (λ b. Converts (how_to b true (type_of i) (type_of x)) v) z → IsConverted x v z
+converted_at (Node t line turn f) (Node s m k y) v z e h = λ b w out es n.
+    ap (λ (g : Form). converted b (Node t line turn g) v (turned w out es n)) e
+    ∙ act_gives w out es n b line (Converts (how_to b true s t) v) z (h b w)
+
+pub converted_some : (x i : TypedTree) (from to : Ty) (v : Worth) (k : ℤ) (r : Option ℤ) → form_of x ≡ Convert i → from ≡ type_of i → to ≡ type_of x → v ≡ int k
+    → IfSome r (λ z. AlwaysGives (λ b. Converts (how_to b true from to) (int k)) (int z)) → IfSome r (λ z. IsConverted x v (int z))
+converted_some x i from to v k None form e f g h = tt
+converted_some x i from to v k (Some z) form e f g h =
+    subst (λ y. IsConverted x y (int z)) (sym g)
+    (converted_at x i (int k) (int z) form
+    (subst (λ (t : Ty). AlwaysGives (λ b. Converts (how_to b true t (type_of x)) (int k)) (int z)) e
+    (subst (λ (t : Ty). AlwaysGives (λ b. Converts (how_to b true from t) (int k)) (int z)) f h)))
+
+-- an operator on two integers
+pub gives_calculated : (u : Stored) (w : World) (t : Ty) (op : BinOp) (a d : NodeId) (k : IntKind) (x y left right v : Worth) → IsConverted (expression_at u a) x left → IsConverted (expression_at u d) y right
+    → k ≡ kind_of (type_of (expression_at u a)) → AlwaysGives (λ b. Calculates op k left right) v → GivesWithBoth u w t (typed.Arithmetic op a d) x y v
+gives_calculated u w t op a d k x y left right v hx hy e h = record {
+  turns = λ turn. refl;
+  gives = λ call bound sides zap line fs gs out es n hf ha.
+      let b = setting_by u bound sides zap in
+      let s = turned w out es n in
+      let j = has_read fs gs in
+      let kind = kind_of (type_of (expression_at u a)) in
+      record {
+        all = gs;
+        reads = ha;
+        is =
+            ap (λ r. then_do r (λ v s. then_do (converted b (expression_at u d) y s) (λ z s. work b line (Calculates op kind v z) j s))) (hx b w out es n)
+            ∙ ap (λ r. then_do r (λ z s. work b line (Calculates op kind left z) j s)) (hy b w out es n)
+            ∙ ap (λ (i : IntKind). work b line (Calculates op i left right) j s) (sym e)
+            ∙ ap (λ r. then_do r (done j)) (act_gives w out es n b line (Calculates op k left right) v (h b w));
+      };
+}
+
+-- nodes without operands, of what may have been found
+pub constant_some : (u : Stored) (w : World) (x : Typed) (k : ℤ) (r : Option Found) → x ≡ typed.Constant k → IfSome r (λ v. found_worth v ≡ int k) → IfSome r (λ v. GivesAlone u w x (found_worth v))
+unfolding ev
+constant_some u w x k None is h = tt
+constant_some u w x k (Some v) is h = subst (λ y. GivesAlone u w y (found_worth v)) (sym is) (record {
+  turns = λ turn. refl;
+  takes = λ turn. refl;
+  gives = λ call bound sides zap t line fs out es n. ap (λ z. done (opened fs) z (turned w out es n)) (sym h);
+})
+
+pub size_some : (u : Stored) (w : World) (x : Typed) (k : ℕ) (r : Option Found) → x ≡ typed.Sizeof k → IfSome r (λ v. found_worth v ≡ int (pos k)) → IfSome r (λ v. GivesAlone u w x (found_worth v))
+unfolding ev
+size_some u w x k None is h = tt
+size_some u w x k (Some v) is h = subst (λ y. GivesAlone u w y (found_worth v)) (sym is) (record {
+  turns = λ turn. refl;
+  takes = λ turn. refl;
+  gives = λ call bound sides zap t line fs out es n. ap (λ z. done (opened fs) z (turned w out es n)) (sym h);
+})
+
+pub object_some : (u : Stored) (w : World) (x : Typed) (o : ℕ) (lasting : Bool) (r : Option Found) → x ≡ typed.Object o → (object_at (whole u) o).lasting ≡ lasting
+    → IfSome r (λ v. found_worth v ≡ pointer (address_of w (instance_of w o lasting))) → IfSome r (λ v. GivesAlone u w x (found_worth v))
+unfolding ev
+object_some u w x o lasting None is same h = tt
+object_some u w x o lasting (Some v) is same h = subst (λ y. GivesAlone u w y (found_worth v)) (sym is) (record {
+  turns = λ turn. refl;
+  takes = λ turn. refl;
+  gives = λ call bound sides zap t line fs out es n.
+      let b = setting_by u bound sides zap in
+      ap (λ r. then_do r (done (opened fs)))
+      (act_gives w out es n b line (NamesObject o) (found_worth v)
+      (ap (λ (l : Bool). Answers (pointer (address_of w (instance_of w o l))) w quiet) same ∙ ap (λ z. Answers z w quiet) (sym h)));
+})
+
+-- nodes that give the value of their operand
+pub array_given : (u : Stored) (w : World) (t : Ty) (x : Typed) (a : NodeId) (v : Worth) → x ≡ typed.ArrayPointer a → GivesWith u w t x v v
+array_given u w t x a v is = subst (λ y. GivesWith u w t y v v) (sym is) (record { turns = λ turn. refl; gives = λ call bound sides zap line fs gs out es n hf hg. record { all = gs; reads = hg; is = refl } })
+
+pub convert_given : (u : Stored) (w : World) (t : Ty) (x : Typed) (a : NodeId) (v : Worth) → x ≡ typed.Convert a → GivesWith u w t x v v
+convert_given u w t x a v is = subst (λ y. GivesWith u w t y v v) (sym is) (record { turns = λ turn. refl; gives = λ call bound sides zap line fs gs out es n hf hg. record { all = gs; reads = hg; is = refl } })
+
+pub address_given : (u : Stored) (w : World) (t : Ty) (x : Typed) (a : NodeId) (v : Worth) → x ≡ typed.Address a → GivesWith u w t x v v
+address_given u w t x a v is = subst (λ y. GivesWith u w t y v v) (sym is) (record { turns = λ turn. refl; gives = λ call bound sides zap line fs gs out es n hf hg. record { all = gs; reads = hg; is = refl } })
+
+-- nodes with one operand, of an operation that gives a value whatever the setting
+module _ (u : Stored) (w : World) (t : Ty) where
+  pub followed_given : (x : Typed) (a : NodeId) (v : Found) → x ≡ typed.Indirection a → is_none t ≡ false → GivesWith u w t x (found_worth v) (found_worth v)
+  followed_given x a v is e = subst (λ y. GivesWith u w t y (found_worth v) (found_worth v)) (sym is) (record {
+    turns = λ turn. refl;
+    gives = λ call bound sides zap line fs gs out es n hf hg. record {
+      all = gs;
+      reads = hg;
+      is = ap (λ r. then_do r (done (has_read fs gs))) (act_gives w out es n (setting_by u bound sides zap) line (Follows (is_none t) (found_worth v)) (found_worth v) (follows_found (setting_by u bound sides zap) v));
+    };
+  })
+    where
+      follows_found : (b : Setting) (v : Found) → does b (Follows (is_none t) (found_worth v)) w ≡ Answers (found_worth v) w quiet
+      follows_found b (found.Number k) = ap (λ c. follows_to c (int k) w) e
+      follows_found b (found.Place p) = ap (λ c. follows_to c (pointer (pointer_at p)) w) e
+
+  pub member_given : (x : Typed) (a : NodeId) (offset : ℕ) (first v : Worth) → x ≡ typed.Member a offset → GivesAt w (λ b. Selects offset first) v → GivesWith u w t x first v
+  member_given x a offset first v is h = subst (λ y. GivesWith u w t y first v) (sym is) (record {
+    turns = λ turn. refl;
+    gives = λ call bound sides zap line fs gs out es n hf hg. record {
+      all = gs;
+      reads = hg;
+      is = ap (λ r. then_do r (done (has_read fs gs))) (act_gives w out es n (setting_by u bound sides zap) line (Selects offset first) v (h (setting_by u bound sides zap)));
+    };
+  })
+
+  pub arrow_given : (x : Typed) (a : NodeId) (offset : ℕ) (first v : Worth) → x ≡ typed.Arrow a offset → GivesAt w (λ b. Selects offset first) v → GivesWith u w t x first v
+  arrow_given x a offset first v is h = subst (λ y. GivesWith u w t y first v) (sym is) (record {
+    turns = λ turn. refl;
+    gives = λ call bound sides zap line fs gs out es n hf hg. record {
+      all = gs;
+      reads = hg;
+      is = ap (λ r. then_do r (done (has_read fs gs))) (act_gives w out es n (setting_by u bound sides zap) line (Selects offset first) v (h (setting_by u bound sides zap)));
+    };
+  })
+
+  pub not_given : (x : Typed) (a : NodeId) (first v : Worth) → x ≡ typed.Not a → AlwaysGives (λ b. Negates first) v → GivesWith u w t x first v
+  not_given x a first v is h = subst (λ y. GivesWith u w t y first v) (sym is) (record {
+    turns = λ turn. refl;
+    gives = λ call bound sides zap line fs gs out es n hf hg. record {
+      all = gs;
+      reads = hg;
+      is = ap (λ r. then_do r (done (has_read fs gs))) (act_gives w out es n (setting_by u bound sides zap) line (Negates first) v (h (setting_by u bound sides zap) w));
+    };
+  })
+
+  pub unary_given : (op : UnOp) (a : NodeId) (k : IntKind) (first operand v : Worth) → k ≡ kind_of t → IsConverted (expression_at u a) first operand → AlwaysGives (λ b. CalculatesOne op k operand) v → GivesWith u w t (typed.Unary op a) first v
+  unary_given op a k first operand v e hx h = record {
+    turns = λ turn. refl;
+    gives = λ call bound sides zap line fs gs out es n hf hg.
+        let b = setting_by u bound sides zap in
+        let s = turned w out es n in
+        let j = has_read fs gs in
+        record {
+          all = gs;
+          reads = hg;
+          is =
+              ap (λ r. then_do r (λ v s. work b line (CalculatesOne op (kind_of t) v) j s)) (hx b w out es n)
+              ∙ ap (λ (i : IntKind). work b line (CalculatesOne op i operand) j s) (sym e)
+              ∙ ap (λ r. then_do r (done j)) (act_gives w out es n b line (CalculatesOne op k operand) v (h b w));
+        };
+  }
+
+  pub cast_given : (a : NodeId) (from : Ty) (first v : Worth) → from ≡ type_of (expression_at u a) → AlwaysGives (λ b. Converts (how_to b false from t) first) v → GivesWith u w t (typed.Cast a) first v
+  cast_given a from first v e h = record {
+    turns = λ turn. refl;
+    gives = λ call bound sides zap line fs gs out es n hf hg.
+        let b = setting_by u bound sides zap in
+        record {
+          all = gs;
+          reads = hg;
+          is =
+              ap (λ r. then_do r (done (has_read fs gs)))
+              (act_gives w out es n b line (Converts (how_to b false (type_of (expression_at u a)) t) first) v
+              (ap (λ (s : Ty). does b (Converts (how_to b false s t) first) w) (sym e) ∙ h b w));
+        };
+  }
+
+-- what is calculated of one operand that fits
+pub calculated_one_some : (op : UnOp) (k : IntKind) (x z : ℤ) (r : Option ℤ) → is_promoted k ≡ true → fits_of k x ≡ true → unary_of op k x ≡ Ok z → IfSome r (λ q. q ≡ z) → IfSome r (λ q. AlwaysGives (λ b. CalculatesOne op k (int x)) (int q))
+calculated_one_some op k x z None e f h i = tt
+calculated_one_some op k x z (Some q) e f h i = λ b w.
+    ap (λ c. if c then calculates_one op k (int x) w else Fails missing_value None w quiet) (both_of (is_promoted k) (fits_of k x) e f)
+    ∙ ap (computed w) h
+    ∙ ap (λ (n : ℤ). Answers (int n) w quiet) (sym i)
+
+pub negated_gives : (x : ℤ) (c : Bool) → int_eq x (pos 0) ≡ c → AlwaysGives (λ b. Negates (int x)) (opposite (not c))
+negated_gives x c e = λ b w. ap (λ d. Answers (opposite (not d)) w quiet) e

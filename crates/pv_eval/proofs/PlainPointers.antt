@@ -1,0 +1,147 @@
+-- Reads of pointers that were stored whole, which pass all their checks and leave the world as it is.
+use Rattle.std.proofs.Common.{◌≡◌, ℕ, ◌+◌, ◌++◌, ◌-◌, ◌%◌, ◌≤◌, Bool, true, false, List, [], ◌∷◌, length, drop, refl, sym, ap, ◌∙◌, arith, subst, Some, None}
+use Rattle.std.specs.Prelude.{ℤ, pos, not, is_some, ◌||◌, ◌&&◌, ◌==◌, nat_le, Option, IfSome, if◌then◌else◌, Result, Ok, Err}
+use Rattle.std.specs.List.{list_any}
+use Rattle.std.proofs.lemmas.Bool.{le-leb}
+use Rattle.std.proofs.lemmas.List.{drop_all}
+use Rattle.pv_num.specs.declared.kinds.IntKind.{IntKind}
+use Rattle.pv_num.specs.declared.faults.Clause.TheVariants as clause
+use Rattle.pv_num.specs.declared.faults.Clause.TheVariants.{EffectiveTypes, Sequencing}
+use Rattle.pv_num.specs.declared.faults.Reason.TheVariants as reason
+use Rattle.pv_num.specs.declared.faults.Reason.TheVariants.{WrongType, Unsequenced}
+use Rattle.pv_num.specs.Kinds.{convert_of}
+use Rattle.std.specs.Option.{option_map, option_and_then}
+use Rattle.pv_prov.specs.declared.names.Prov.{Prov}
+use Rattle.pv_prov.specs.declared.names.Prov.TheVariants.{Inst}
+use Rattle.pv_prov.specs.Names.{alone}
+use Rattle.pv_inst.specs.declared.values.Info.{Info}
+use Rattle.pv_inst.specs.declared.values.Instance.{Instance}
+use Rattle.pv_inst.specs.declared.values.Test.TheVariants.{Live, Range}
+use Rattle.pv_inst.specs.declared.values.Miss.TheVariants.{Ended}
+use Rattle.pv_inst.specs.Table.{Table, instance_at}
+use Rattle.pv_inst.specs.Infos.{info_of}
+use Rattle.pv_inst.specs.Use.{holds, passes, made_passes, any_survives, miss_of, use_answer, untried}
+use Rattle.pv_shadow.specs.declared.byte.Byte.{Byte}
+use Rattle.pv_shadow.specs.Bytes.{read}
+use Rattle.pv_shadow.specs.Whole.{whole_name}
+use Rattle.pv_object.specs.declared.values.Pointer.{Pointer}
+use Rattle.pv_object.specs.declared.values.Reach.{Reach}
+use Rattle.pv_object.specs.declared.values.Stop.{Stop}
+use Rattle.pv_object.specs.declared.values.Value.TheVariants.{Int as IntValue, Pointer as PointerValue}
+use Rattle.pv_object.specs.declared.values.Asker.TheVariants.{Access as AccessAsker}
+use Rattle.pv_object.specs.Memory.{IsReachIn}
+use Rattle.pv_object.specs.Access.{fault, is_null, reach_after, checked_in, or_stop, write_stop, readonly_stop, reach}
+use Rattle.pv_object.specs.Encoding.{number_in}
+use Rattle.pv_object.specs.Loading.{Loaded, is_trap, integer_of, exposed_by, pointer_of, pointer_named, tested, live_answer, whole_pointer}
+use Rattle.pv_types.specs.Ty.{Ty}
+use Rattle.pv_tree.specs.declared.nodes.NodeId.{NodeId}
+use Rattle.pv_typed.specs.declared.nodes.Typed.{Typed}
+use Rattle.pv_typed.specs.declared.nodes.Typed.TheVariants as typed
+use Rattle.pv_typed.specs.TypedTree.{type_of}
+use Rattle.pv_typed.specs.Tables.{Stored, expression_at}
+use Rattle.pv_seq.specs.Sequencing.{Access, clash, overlap, conflicts, rivals, noted}
+use Rattle.pv_watch.specs.declared.event.What.{What}
+use Rattle.pv_world.specs.declared.got.Shape.{Shape}
+use Rattle.pv_world.specs.declared.got.Shape.TheVariants as shape
+use Rattle.pv_world.specs.Worlds.{Worth, World, with_table}
+use Rattle.pv_world.specs.Worths.{int, pointer, missing_value, undefined}
+use Rattle.pv_world.specs.Telling.{Told, quiet, telling, uses, range_test, each_paired, each_exposed, exposures, pairings}
+use Rattle.pv_world.specs.Doing.{Done, Answers, Fails}
+use Rattle.pv_world.specs.Accesses.{range_use, reaching_by, scalar_by, worth_in}
+use Rattle.pv_eval.specs.States.{Setting, then_do}
+use Rattle.pv_eval.specs.TypeForms.{Lvalue, lvalue, shape_of}
+use Rattle.pv_eval.specs.Sizes.{setting_of}
+use Rattle.pv_eval.specs.Suiting.{knows}
+use Rattle.pv_eval.specs.Permission.{permits}
+use Rattle.pv_eval.specs.Accesses.{access_to, reads_permitted, reads_at, reads}
+use Rattle.pv_eval.specs.Operations.{Reads}
+use Rattle.pv_eval.specs.Sequenced.{done}
+use Rattle.pv_eval.specs.Plainly.{setting_by, turned, AreReads, has_read, GivesWith, ReadsFrom, alone_tried, HasReached, IsPlainNumber}
+use Rattle.pv_inst.proofs.Rows.{row_found}
+use Rattle.pv_eval.proofs.Guards.{both_of}
+use Rattle.pv_eval.proofs.Through.{fits_lvalue, right_false}
+use Rattle.pv_eval.proofs.PlainSteps.{reads_both}
+use Rattle.pv_eval.proofs.PlainNumbers.{act_gives}
+use Rattle.pv_eval.proofs.PlainReads.{told_live, no_clash}
+
+-- a live instance passes the live test
+live_passes : (zap live : Bool) → live ≡ true → (not zap || live) ≡ true
+live_passes true live e = e
+live_passes false live e = refl
+
+module _ (T : Table) (i : ℕ) (y : Info) (there : info_of (instance_at T.instances i) ≡ Some y) where
+  lives_by : (o : Option Instance) → info_of o ≡ Some y → made_passes T.zap o Live ≡ true
+  lives_by None h = absurd cc
+  lives_by (Some x) h = let t = told_live x y h in live_passes T.zap x.live t.live
+
+  used_live : use_answer T (Inst i) Live ≡ Ok alone_tried
+  used_live =
+      ap (λ c. if c || false then Ok (record { pair = None; low = c; high = false }) else Err (if any_survives true T.instances (alone i) Live then miss_of Live else Ended))
+      (lives_by (instance_at T.instances i) there)
+
+pub live_used : (T : Table) (i : ℕ) (o : Option Info) → o ≡ info_of (instance_at T.instances i) → is_some o ≡ true → use_answer T (Inst i) Live ≡ Ok alone_tried
+live_used T i None e h = absurd cc
+live_used T i (Some y) e h = used_live T i y (sym e)
+
+-- bytes that are a pointer stored whole have its address, and its name
+whole_parts : (n : Option ℕ) (m : Option Prov) (q : Pointer) → option_map (λ (x : ℕ × Prov). record { address = x.0; prov = x.1 }) (option_and_then (λ a. option_map (λ p. (a, p)) m) n) ≡ Some q → (n ≡ Some q.address) × (m ≡ Some q.prov)
+whole_parts None m q h = absurd cc
+whole_parts (Some a) None q h = absurd cc
+whole_parts (Some a) (Some r) q h =
+    let e : record { address = a; prov = r } ≡ q = cc in
+    (ap (λ (z : Pointer). Some z.address) e, ap (λ (z : Pointer). Some z.prov) e)
+
+-- a load of such bytes, where the name is that of one live instance
+module _ (w : World) (bytes : List Byte) (q : Pointer) (j : ℕ) (p : Pointer) (whole : whole_pointer bytes ≡ Some q) (name : q.prov ≡ Inst j) (live : use_answer w.memory.table (Inst j) Live ≡ Ok alone_tried) (all : w.memory.table.pending ≡ []) where
+  abbrev T : Table
+  T = w.memory.table
+
+  abbrev there : Pointer
+  there = record { address = q.address; prov = Inst j }
+
+  abbrev named : Prov → Loaded
+  named r = tested T (record { address = q.address; prov = r })
+
+  pointer_is : pointer_of T bytes (number_in bytes) ≡ (Ok (PointerValue there, alone_tried), T)
+  pointer_is =
+      let parts = whole_parts (number_in bytes) (whole_name bytes) q whole in
+      ap (pointer_of T bytes) parts.0
+      ∙ ap (λ m. pointer_named T m q.address) parts.1
+      ∙ ap named name
+      ∙ ap (λ x. (live_answer there x, T)) live
+
+  pub pointer_given : scalar_by w bytes shape.Pointer (Some p.prov) quiet (pointer_of T bytes (number_in bytes)) ≡ Answers (pointer there) w quiet
+  pointer_given =
+      ap (scalar_by w bytes shape.Pointer (Some p.prov) quiet) pointer_is
+      ∙ ap (λ (xs : List ℕ). Answers (pointer there) (with_table w (record T { pending = xs })) (telling ([] ++ pairings T T ++ [] ++ exposures T))) (sym all)
+      ∙ ap (λ ts. Answers (pointer there) w (telling ([] ++ each_paired T (length T.pairs + 1) ts ++ [] ++ exposures T))) (drop_all (length T.pairs) T.pairs (omega arith))
+      ∙ ap (λ (xs : List ℕ). Answers (pointer there) w (telling ([] ++ [] ++ [] ++ each_exposed xs))) all
+
+-- a read of a pointer that was reached, is permitted and was stored whole
+module _ (u : Stored) (w : World) (t : Ty) (p : Pointer) (at : Reach) (form : shape_of t ≡ shape.Pointer) (fits : fits_lvalue u t ≡ true) (known : knows w.memory.table p.prov ≡ true) where
+  abbrev l : Lvalue
+  l = lvalue (setting_of u) t
+
+  abbrev bytes_there : List Byte
+  bytes_there = read w.memory.bytes at.address l.size
+
+  pub pointer_read : (q : Pointer) (j : ℕ) → HasReached w.memory.table p l.size l.align false at → permits (setting_of u) w l at false ≡ true → w.memory.table.pending ≡ [] → whole_pointer bytes_there ≡ Some q → q.prov ≡ Inst j → use_answer w.memory.table (Inst j) Live ≡ Ok alone_tried
+      → ReadsFrom u w t p (pointer (record { address = q.address; prov = Inst j }))
+  pointer_read q j reached permitted all whole name live = λ bound sides zap rs hr.
+      let b = setting_by u bound sides zap in
+      ap (λ c. if c then reads b l (pointer p) rs w else Fails missing_value None w quiet) (both_of (fits_lvalue u t) (knows w.memory.table p.prov) fits known)
+      ∙ ap (λ x. reaching_by w p (range_use w.memory.table p l.size) x (reads_at b l p rs)) reached.is
+      ∙ ap (λ x. reads_at b l p rs at w (telling (uses range_test x))) reached.used
+      ∙ ap (λ c. if c then reads_permitted l p rs at w quiet else Fails (undefined EffectiveTypes WrongType) (Some p.prov) w quiet) permitted
+      ∙ ap (λ c. if c then Fails (undefined Sequencing Unsequenced) (Some p.prov) w quiet else worth_in w bytes_there l.shape (Some at.address) (Some p.prov) quiet) (no_clash (access_to l p false) rs refl hr)
+      ∙ ap (λ (s : Shape). worth_in w bytes_there s (Some at.address) (Some p.prov) quiet) form
+      ∙ pointer_given w bytes_there q j p whole name live all
+
+pub pointer_some : (u : Stored) (w : World) (t : Ty) (p : Pointer) (spot : Reach) (size align : ℕ) (q : Pointer) (j : ℕ) → shape_of t ≡ shape.Pointer → fits_lvalue u t ≡ true
+    → size ≡ (lvalue (setting_of u) t).size → align ≡ (lvalue (setting_of u) t).align → HasReached w.memory.table p size align false spot → permits (setting_of u) w (lvalue (setting_of u) t) spot false ≡ true
+    → w.memory.table.pending ≡ [] → whole_pointer (read w.memory.bytes spot.address size) ≡ Some q → q.prov ≡ Inst j → use_answer w.memory.table (Inst j) Live ≡ Ok alone_tried → ReadsFrom u w t p (pointer (record { address = q.address; prov = Inst j }))
+pointer_some u w t p spot size align q j form fits es ea reached permitted all whole name live =
+    let l = lvalue (setting_of u) t in
+    pointer_read u w t p spot form fits reached.known q j
+    (subst (λ (n : ℕ). HasReached w.memory.table p l.size n false spot) ea (subst (λ (n : ℕ). HasReached w.memory.table p n align false spot) es reached))
+    permitted all (subst (λ (n : ℕ). whole_pointer (read w.memory.bytes spot.address n) ≡ Some q) es whole) name live

@@ -1,0 +1,229 @@
+-- A plain expression, node by node: what its operands give, and then what it gives itself.
+use Rattle.std.proofs.Common.{◌≡◌, ℕ, ◌+◌, ◌++◌, ◌<◌, ◌≤◌, Bool, true, false, List, [], ◌∷◌, refl, sym, ap, ◌∙◌, arith, subst, Some, None, ⊎_elim}
+use Rattle.std.specs.Prelude.{Option, IfSome, if◌then◌else◌}
+use Rattle.std.proofs.lemmas.Bool.{lt-ltb, le-ltb, cases_lt}
+use Rattle.pv_tree.specs.declared.nodes.NodeId.{NodeId}
+use Rattle.pv_types.specs.Ty.{Ty}
+use Rattle.pv_typed.specs.declared.nodes.Typed.{Typed}
+use Rattle.pv_typed.specs.TypedTree.{TypedTree, Node, Form, type_of, line_of, form_of, takes_turn}
+use Rattle.pv_typed.specs.Tables.{Stored, nodes, expression_at}
+use Rattle.pv_typed.specs.Plain.{counted, both, turns_of, turns_of_form}
+use Rattle.pv_seq.specs.Sequencing.{Access, Open, opened}
+use Rattle.pv_world.specs.Worlds.{Worth, World}
+use Rattle.pv_eval.specs.declared.marked.Marked.{Marked}
+use Rattle.pv_eval.specs.States.{Setting, State, Res, Stops, Turns, then_do, spend}
+use Rattle.pv_eval.specs.Sequenced.{Given, with_given, operand}
+use Rattle.pv_eval.specs.Steps.{Calling, takes, tick_if}
+use Rattle.pv_eval.specs.Evaluation.{ev, ev_form}
+use Rattle.pv_eval.specs.Frames.{first_after, second_after}
+use Rattle.pv_eval.specs.Ahead.{first_operand_of, second_operand_of}
+use Rattle.pv_eval.specs.Plainly.{setting_by, turned, AreReads, has_read, OnlyReads, Yields, form_by, turns_at, GivesAlone, GivesWith, GivesWithBoth, found_worth}
+use Rattle.pv_eval.specs.declared.plain.Found.{Found}
+use Rattle.pv_eval.proofs.Cases.{ev-node, begins, goes-on}
+
+-- what holds of what was found
+pub some_map : {A : Type 0} (P Q : A → Type 0) (r : Option A) → ((a : A) → P a → Q a) → IfSome r P → IfSome r Q
+some_map P Q None f h = tt
+some_map P Q (Some a) f h = f a h
+
+pub reads_both : (xs ys : List Access) → AreReads xs → AreReads ys → AreReads (xs ++ ys)
+reads_both [] ys h k = k
+reads_both (x ∷ xs) ys h k = (h.0, reads_both xs ys h.1 k)
+
+-- the same piece of the run, and the same number of turns
+pub only_from : (r r' : Res Given) (v : Worth) (s : State) → r ≡ r' → OnlyReads r' v s → OnlyReads r v s
+only_from r r' v s e h = record { all = h.all; reads = h.reads; is = e ∙ h.is }
+
+-- a number of turns with that of a node, where it takes one
+abbrev pub with_turn : Bool → ℕ → ℕ
+with_turn true n = n + 1
+with_turn false n = n
+
+counted_some : (c : Bool) (k : ℕ) → counted c (Some k) ≡ Some (with_turn c k)
+counted_some true k = refl
+counted_some false k = refl
+
+turn_first : (c : Bool) (n k : ℕ) → with_turn c n + k ≡ n + with_turn c k
+turn_first true n k = omega arith
+turn_first false n k = refl
+
+turn_room : (c : Bool) (n k bound : ℕ) → n + with_turn c k ≤ bound → with_turn c n + k ≤ bound
+turn_room true n k bound h = omega (arith, h)
+turn_room false n k bound h = h
+
+turns_node : (x : TypedTree) → turns_of x ≡ turns_of_form (takes_turn x) (form_of x)
+turns_node (Node t line turn f) = refl
+
+module _ (u : Stored) (w : World) (call : Calling) (bound : ℕ) (sides : Option (List Bool)) (zap : Bool) (out : List ℕ) (es : List Marked) where
+  abbrev b : Setting
+  b = setting_by u bound sides zap
+
+  -- the turn of a node is taken
+  ticked : {A : Type 0} (c : Bool) (n : ℕ) (go : State → Res A) → with_turn c n ≤ bound → tick_if c b (turned w out es n) go ≡ go (turned w out es (with_turn c n))
+  ticked true n go h = ap (λ t. if t then go (spend (turned w out es n)) else Stops Turns (turned w out es n)) (lt-ltb n bound (omega (arith, h)))
+  ticked false n go h = refl
+
+  -- or there is none left, or too few behind it
+  stopped : {A : Type 0} (c : Bool) (n k : ℕ) (go : State → Res A) → n ≤ bound → bound < n + with_turn c k
+      → (with_turn c n ≤ bound → bound < with_turn c n + k → go (turned w out es (with_turn c n)) ≡ Stops Turns (turned w out es bound)) → tick_if c b (turned w out es n) go ≡ Stops Turns (turned w out es bound)
+  stopped false n k go low high h = h low high
+  stopped true n k go low high h =
+      ⊎_elim
+      (λ lt. ticked true n go (omega (arith, lt)) ∙ h (omega (arith, lt)) (omega (arith, high)))
+      (λ le.
+      let last : n ≡ bound = omega (arith, low, le) in
+      ap (λ t. if t then go (spend (turned w out es n)) else Stops Turns (turned w out es n)) (le-ltb n bound le) ∙ ap (λ m. Stops Turns (turned w out es m)) last)
+      (cases_lt n bound)
+
+  -- an operand, and then what follows
+  pub operand_only : (x : TypedTree) (first v : Worth) (y : Yields u w x first) (fs gs : List Access) (n : ℕ) (go : Open → Worth → State → Res Given) (s : State) → AreReads fs → AreReads gs → n + y.turns ≤ bound
+      → ((more : List Access) → AreReads more → OnlyReads (go (has_read fs (gs ++ more)) first (turned w out es (n + y.turns))) v s)
+      → OnlyReads (operand (ev b call x) (has_read fs gs) (turned w out es n) go) v s
+  operand_only x first v y fs gs n go s hf hg room k =
+      let g = y.gives call bound sides zap (fs ++ gs) out es n (reads_both fs gs hf hg) room in
+      let h = k g.all g.reads in
+      record {
+        all = h.all;
+        reads = h.reads;
+        is = ap (λ r. then_do r (λ (g : Given) s. go (with_given (has_read fs gs) g) g.value s)) g.is ∙ h.is;
+      }
+
+  -- an operand that stops, or what follows it
+  pub operand_stops : (x : TypedTree) (first : Worth) (y : Yields u w x first) (fs gs : List Access) (n k : ℕ) (go : Open → Worth → State → Res Given) → AreReads fs → AreReads gs → n ≤ bound → bound < n + (y.turns + k)
+      → (n + y.turns ≤ bound → (more : List Access) → AreReads more → go (has_read fs (gs ++ more)) first (turned w out es (n + y.turns)) ≡ Stops Turns (turned w out es bound))
+      → operand (ev b call x) (has_read fs gs) (turned w out es n) go ≡ Stops Turns (turned w out es bound)
+  operand_stops x first y fs gs n k go hf hg low high h =
+      let after = λ (r : Res Given). then_do r (λ (g : Given) s. go (with_given (has_read fs gs) g) g.value s) in
+      ⊎_elim
+      (λ lt. ap after (y.stops call bound sides zap (fs ++ gs) out es n (reads_both fs gs hf hg) low lt))
+      (λ le.
+      let g = y.gives call bound sides zap (fs ++ gs) out es n (reads_both fs gs hf hg) le in
+      ap after g.is ∙ h le g.all g.reads)
+      (cases_lt bound (n + y.turns))
+
+  -- a node begins: its turn first
+  pub node_begun : (x : TypedTree) (f : Form) (fs : List Access) (n k : ℕ) → form_of x ≡ f → n + with_turn (takes (takes_turn x) f) k ≤ bound
+      → ev b call x fs (turned w out es n) ≡ ev_form b call (type_of x) (line_of x) f fs (turned w out es (with_turn (takes (takes_turn x) f) n))
+  node_begun x f fs n k form room =
+      ev-node b call fs x (turned w out es n)
+      ∙ ap (λ (g : Form). tick_if (takes (takes_turn x) g) b (turned w out es n) (ev_form b call (type_of x) (line_of x) g fs)) form
+      ∙ ticked (takes (takes_turn x) f) n (ev_form b call (type_of x) (line_of x) f fs) (omega (arith, turn_room (takes (takes_turn x) f) n k bound room))
+
+  -- or it stops
+  pub node_stops : (x : TypedTree) (f : Form) (fs : List Access) (n k : ℕ) → form_of x ≡ f → n ≤ bound → bound < n + with_turn (takes (takes_turn x) f) k
+      → (with_turn (takes (takes_turn x) f) n ≤ bound → bound < with_turn (takes (takes_turn x) f) n + k
+      → ev_form b call (type_of x) (line_of x) f fs (turned w out es (with_turn (takes (takes_turn x) f) n)) ≡ Stops Turns (turned w out es bound))
+      → ev b call x fs (turned w out es n) ≡ Stops Turns (turned w out es bound)
+  node_stops x f fs n k form low high h =
+      ev-node b call fs x (turned w out es n)
+      ∙ ap (λ (g : Form). tick_if (takes (takes_turn x) g) b (turned w out es n) (ev_form b call (type_of x) (line_of x) g fs)) form
+      ∙ stopped (takes (takes_turn x) f) n k (ev_form b call (type_of x) (line_of x) f fs) low high h
+
+  -- the turn of the node comes before those of its operands
+  in_order : (r : Res Given) (v : Worth) (c : Bool) (n k : ℕ) → OnlyReads r v (turned w out es (with_turn c n + k)) → OnlyReads r v (turned w out es (n + with_turn c k))
+  in_order r v c n k h = subst (λ m. OnlyReads r v (turned w out es m)) (turn_first c n k) h
+
+module _ (u : Stored) (w : World) (n : NodeId) (x : Typed) (form : form_of (expression_at u n) ≡ form_by u x) where
+  abbrev tree : TypedTree
+  tree = expression_at u n
+
+  abbrev takes_one : Bool
+  takes_one = takes (takes_turn tree) (form_by u x)
+
+  turns_are : (o : Option ℕ) (k : ℕ) → ((turn : Bool) → turns_of_form turn (form_by u x) ≡ counted (takes turn (form_by u x)) o) → o ≡ Some k → turns_of tree ≡ Some (with_turn takes_one k)
+  turns_are o k h e =
+      turns_node tree
+      ∙ ap (turns_of_form (takes_turn tree)) form
+      ∙ h (takes_turn tree)
+      ∙ ap (counted takes_one) e
+      ∙ counted_some takes_one k
+
+  -- a node without operands
+  pub yields_alone : (v : Worth) → GivesAlone u w x v → Yields u w tree v
+  yields_alone v h = record {
+    turns = 1;
+    are = turns_node tree ∙ ap (turns_of_form (takes_turn tree)) form ∙ h.turns (takes_turn tree);
+    gives = λ call bound sides zap fs out es m hf room. record {
+      all = [];
+      reads = tt;
+      is =
+          let one : with_turn takes_one 0 ≡ 1 = ap (λ c. with_turn c 0) (h.takes (takes_turn tree)) in
+          let at : with_turn takes_one m ≡ m + 1 = ap (λ c. with_turn c m) (h.takes (takes_turn tree)) in
+          node_begun u w call bound sides zap out es tree (form_by u x) fs m 0 form (omega (arith, one, room))
+          ∙ ap (λ k. ev_form (setting_by u bound sides zap) call (type_of tree) (line_of tree) (form_by u x) fs (turned w out es k)) at
+          ∙ h.gives call bound sides zap (type_of tree) (line_of tree) fs out es (m + 1);
+    };
+    stops = λ call bound sides zap fs out es m hf low high.
+        let one : with_turn takes_one 0 ≡ 1 = ap (λ c. with_turn c 0) (h.takes (takes_turn tree)) in
+        node_stops u w call bound sides zap out es tree (form_by u x) fs m 0 form low (omega (arith, one, high)) (λ below above. absurd (omega (arith, below, above)));
+  }
+
+  -- a node with one operand
+  pub yields_with : (a : NodeId) (first v : Worth) → first_operand_of x ≡ Some a → Yields u w (expression_at u a) first → GivesWith u w (type_of tree) x first v → Yields u w tree v
+  yields_with a first v has y h = record {
+    turns = with_turn takes_one y.turns;
+    are = turns_are (turns_at u (first_operand_of x)) y.turns h.turns (ap (turns_at u) has ∙ y.are);
+    gives = λ call bound sides zap fs out es m hf room.
+        let c = takes_one in
+        let b = setting_by u bound sides zap in
+        in_order u w call bound sides zap out es _ v c m y.turns
+        (only_from _ _ v _
+        (node_begun u w call bound sides zap out es tree (form_by u x) fs m y.turns form room
+        ∙ begins b call (type_of tree) (line_of tree) u.lists (nodes u) fs (turned w out es (with_turn c m)) x a has)
+        (operand_only u w call bound sides zap out es (expression_at u a) first v y fs [] (with_turn c m) (first_after b call (type_of tree) (line_of tree) (form_by u x)) _ hf tt (turn_room c m y.turns bound room)
+        (λ more hm. h.gives call bound sides zap (line_of tree) fs more out es (with_turn c m + y.turns) hf hm)));
+    stops = λ call bound sides zap fs out es m hf low high.
+        let b = setting_by u bound sides zap in
+        let n = with_turn takes_one m in
+        node_stops u w call bound sides zap out es tree (form_by u x) fs m y.turns form low high (λ below above.
+        begins b call (type_of tree) (line_of tree) u.lists (nodes u) fs (turned w out es n) x a has
+        ∙ operand_stops u w call bound sides zap out es (expression_at u a) first y fs [] n 0 (first_after b call (type_of tree) (line_of tree) (form_by u x)) hf tt below (omega (arith, above)) (λ le more hm. absurd (omega (arith, le, above))));
+  }
+
+  -- a node with two operands
+  pub yields_with_both : (a d : NodeId) (first second v : Worth) → first_operand_of x ≡ Some a → second_operand_of x ≡ Some d → Yields u w (expression_at u a) first → Yields u w (expression_at u d) second
+      → GivesWithBoth u w (type_of tree) x first second v → Yields u w tree v
+  yields_with_both a d first second v has also y z h = record {
+    turns = with_turn takes_one (y.turns + z.turns);
+    are = turns_are (both (turns_at u (first_operand_of x)) (turns_at u (second_operand_of x))) (y.turns + z.turns) h.turns
+        (ap (λ o. both o (turns_at u (second_operand_of x))) (ap (turns_at u) has ∙ y.are) ∙ ap (both (Some y.turns)) (ap (turns_at u) also ∙ z.are));
+    gives = λ call bound sides zap fs out es m hf room.
+        let c = takes_one in
+        let b = setting_by u bound sides zap in
+        let left = turn_room c m (y.turns + z.turns) bound room in
+        let last : with_turn c m + y.turns + z.turns ≡ with_turn c m + (y.turns + z.turns) = omega arith in
+        in_order u w call bound sides zap out es _ v c m (y.turns + z.turns)
+        (subst (λ k. OnlyReads (ev b call tree fs (turned w out es m)) v (turned w out es k)) last
+        (only_from _ _ v _
+        (node_begun u w call bound sides zap out es tree (form_by u x) fs m (y.turns + z.turns) form room
+        ∙ begins b call (type_of tree) (line_of tree) u.lists (nodes u) fs (turned w out es (with_turn c m)) x a has)
+        (operand_only u w call bound sides zap out es (expression_at u a) first v y fs [] (with_turn c m) (first_after b call (type_of tree) (line_of tree) (form_by u x)) _ hf tt (omega (arith, left))
+        (λ more hm. only_from _ _ v _
+        (goes-on b call (type_of tree) (line_of tree) u.lists (nodes u) fs (turned w out es (with_turn c m + y.turns)) (has_read fs more) first x d also)
+        (operand_only u w call bound sides zap out es (expression_at u d) second v z fs more (with_turn c m + y.turns) (second_after b call (type_of tree) (line_of tree) (form_by u x) first) _ hf hm (omega (arith, left))
+        (λ rest hr. h.gives call bound sides zap (line_of tree) fs (more ++ rest) out es (with_turn c m + y.turns + z.turns) hf (reads_both more rest hm hr)))))));
+    stops = λ call bound sides zap fs out es m hf low high.
+        let b = setting_by u bound sides zap in
+        let n = with_turn takes_one m in
+        node_stops u w call bound sides zap out es tree (form_by u x) fs m (y.turns + z.turns) form low high (λ below above.
+        begins b call (type_of tree) (line_of tree) u.lists (nodes u) fs (turned w out es n) x a has
+        ∙ operand_stops u w call bound sides zap out es (expression_at u a) first y fs [] n z.turns (first_after b call (type_of tree) (line_of tree) (form_by u x)) hf tt below above (λ le more hm.
+        goes-on b call (type_of tree) (line_of tree) u.lists (nodes u) fs (turned w out es (n + y.turns)) (has_read fs more) first x d also
+        ∙ operand_stops u w call bound sides zap out es (expression_at u d) second z fs more (n + y.turns) 0 (second_after b call (type_of tree) (line_of tree) (form_by u x) first) hf hm le (omega (arith, above))
+        (λ more' rest hr. absurd (omega (arith, more', above)))));
+  }
+
+  -- the same of what may have been found
+  pub alone_some : (r : Option Found) → IfSome r (λ v. GivesAlone u w x (found_worth v)) → IfSome r (λ v. Yields u w tree (found_worth v))
+  alone_some None h = tt
+  alone_some (Some v) h = yields_alone (found_worth v) h
+
+  pub with_some : (a : NodeId) (first : Found) (r : Option Found) → first_operand_of x ≡ Some a → Yields u w (expression_at u a) (found_worth first)
+      → IfSome r (λ v. GivesWith u w (type_of tree) x (found_worth first) (found_worth v)) → IfSome r (λ v. Yields u w tree (found_worth v))
+  with_some a first None has y h = tt
+  with_some a first (Some v) has y h = yields_with a (found_worth first) (found_worth v) has y h
+
+  pub both_some : (a d : NodeId) (first second : Found) (r : Option Found) → first_operand_of x ≡ Some a → second_operand_of x ≡ Some d → Yields u w (expression_at u a) (found_worth first)
+      → Yields u w (expression_at u d) (found_worth second) → IfSome r (λ v. GivesWithBoth u w (type_of tree) x (found_worth first) (found_worth second) (found_worth v)) → IfSome r (λ v. Yields u w tree (found_worth v))
+  both_some a d first second None has also y z h = tt
+  both_some a d first second (Some v) has also y z h = yields_with_both a d (found_worth first) (found_worth second) (found_worth v) has also y z h

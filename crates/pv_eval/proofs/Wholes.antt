@@ -1,0 +1,62 @@
+-- Full expressions that are evaluated at once.
+use Rattle.std.proofs.Common.{◌≡◌, ℕ, ◌+◌, ◌++◌, ◌≤◌, List, [], ◌∷◌, refl, sym, ap, ◌∙◌, arith, subst, Some}
+use Rattle.pv_tree.specs.declared.nodes.NodeId.{NodeId}
+use Rattle.pv_typed.specs.Tables.{Stored, expression_at}
+use Rattle.pv_seq.specs.Sequencing.{Open, opened}
+use Rattle.pv_world.specs.Worlds.{Worth}
+use Rattle.pv_eval.specs.declared.frames.Frame.{Frame}
+use Rattle.pv_eval.specs.declared.frames.Now.{Now}
+use Rattle.pv_eval.specs.declared.frames.Now.TheVariants.{Due}
+use Rattle.pv_eval.specs.declared.marked.Marked.{Marked}
+use Rattle.pv_eval.specs.States.{Setting, State, Stops, Turns, then_do}
+use Rattle.pv_eval.specs.Steps.{Calling}
+use Rattle.pv_eval.specs.Evaluation.{ev}
+use Rattle.pv_eval.specs.Stack.{rest}
+use Rattle.pv_eval.specs.Frames.{after}
+use Rattle.pv_eval.specs.Ahead.{ahead}
+use Rattle.pv_eval.specs.Moments.{Moment, IsSetting, state_of}
+use Rattle.pv_eval.specs.Plainly.{setting_by, turned, GivesValue, whole_turns, Performs}
+use Rattle.pv_eval.specs.AtOnce.{Evaluated, Cut}
+
+same_number : (j k : ℕ) → Some j ≡ Some k → j ≡ k
+same_number j k e = cc
+
+pub evaluated : (u : Stored) (n : NodeId) (k : ℕ) (v : Worth) (old new : Moment) → Performs u old.world new.world (expression_at u n) v → whole_turns (expression_at u n) ≡ Some k
+    → new ≡ record old { world = new.world; taken = old.taken + k } → Evaluated u n v old new
+evaluated u n k v old new h turns is = λ b out es hs hl call room.
+    let x = expression_at u n in
+    let count : h.turns ≡ k = same_number h.turns k (sym h.are ∙ turns) in
+    let taken : new.taken ≡ old.taken + h.turns = ap (λ (m : Moment). m.taken) is ∙ ap (λ j. old.taken + j) (sym count) in
+    let setting : setting_by u b.bound b.sides b.zap ≡ b = λ i. record { unit = sym hs.unit i; types = sym hs.types i; bound = b.bound; sides = b.sides; zap = b.zap } in
+    let after : turned new.world (out ++ old.printed) (es ++ old.waiting) (old.taken + h.turns) ≡ state_of new out es =
+    ap (λ j. turned new.world (out ++ old.printed) (es ++ old.waiting) (old.taken + j)) count ∙ ap (λ (m : Moment). state_of m out es) (sym is) in
+    subst (λ (s : State). GivesValue (ev b call x [] (state_of old out es)) v s) after
+    (subst (λ (c : Setting). GivesValue (ev c call x [] (state_of old out es)) v (turned new.world (out ++ old.printed) (es ++ old.waiting) (old.taken + h.turns))) setting
+    (h.gives call b.bound b.sides b.zap (out ++ old.printed) (es ++ old.waiting) old.taken (omega (arith, taken, room))))
+
+pub cut_off : (u : Stored) (n : NodeId) (k : ℕ) (v : Worth) (old new : Moment) → Performs u old.world new.world (expression_at u n) v → whole_turns (expression_at u n) ≡ Some k
+    → new ≡ record old { world = new.world; taken = old.taken + k } → Cut u n old new
+cut_off u n k v old new h turns is = λ b out es hs hl call low high.
+    let x = expression_at u n in
+    let count : h.turns ≡ k = same_number h.turns k (sym h.are ∙ turns) in
+    let taken : new.taken ≡ old.taken + h.turns = ap (λ (m : Moment). m.taken) is ∙ ap (λ j. old.taken + j) (sym count) in
+    let setting : setting_by u b.bound b.sides b.zap ≡ b = λ i. record { unit = sym hs.unit i; types = sym hs.types i; bound = b.bound; sides = b.sides; zap = b.zap } in
+    subst (λ (c : Setting). ev c call x [] (state_of old out es) ≡ Stops Turns (state_of (record old { taken = b.bound }) out es)) setting
+    (h.stops call b.bound b.sides b.zap (out ++ old.printed) (es ++ old.waiting) old.taken low (omega (arith, taken, high)))
+
+-- an expression that was just begun
+pub begun_whole : (b : Setting) (call : Calling) (u : Stored) (fs : List Frame) (js : List Open) (place : Now) (n : NodeId) (s s' : State) (v : Worth) → fs ≡ [] → js ≡ opened [] ∷ [] → place ≡ Due n
+    → GivesValue (ev b call (expression_at u n) [] s) v s' → GivesValue (ahead b call u fs js place s) v s'
+begun_whole b call u fs js place n s s' v e f g h =
+    let here : GivesValue (ahead b call u [] (opened [] ∷ []) (Due n) s) v s' = record { given = h.given; value = h.value; is = ap (λ r. then_do r (rest (after b call u) [])) h.is } in
+    subst (λ (gs : List Frame). GivesValue (ahead b call u gs js place s) v s') (sym e)
+    (subst (λ (ks : List Open). GivesValue (ahead b call u [] ks place s) v s') (sym f)
+    (subst (λ (p : Now). GivesValue (ahead b call u [] (opened [] ∷ []) p s) v s') (sym g) here))
+
+pub begun_cut : (b : Setting) (call : Calling) (u : Stored) (fs : List Frame) (js : List Open) (place : Now) (n : NodeId) (s s' : State) → fs ≡ [] → js ≡ opened [] ∷ [] → place ≡ Due n
+    → ev b call (expression_at u n) [] s ≡ Stops Turns s' → ahead b call u fs js place s ≡ Stops Turns s'
+begun_cut b call u fs js place n s s' e f g h =
+    ap (λ (gs : List Frame). ahead b call u gs js place s) e
+    ∙ ap (λ (ks : List Open). ahead b call u [] ks place s) f
+    ∙ ap (λ (p : Now). ahead b call u [] (opened [] ∷ []) p s) g
+    ∙ ap (λ r. then_do r (rest (after b call u) [])) h

@@ -1,0 +1,44 @@
+-- Full expressions that are evaluated at once (C17 6.8p4): bridges from the code to evaluation. Each is said for every bound that allows
+-- the turns that were taken (5.1.2.3p1).
+use Rattle.std.specs.Prelude.{◌≡◌, ◌<◌, ◌≤◌, []}
+use Rattle.pv_tree.specs.declared.nodes.NodeId.{NodeId}
+use Rattle.pv_typed.specs.Tables.{Stored, expression_at}
+use Rattle.pv_world.specs.Worlds.{Worth}
+use Rattle.pv_eval.specs.States.{Stops, Turns}
+use Rattle.pv_eval.specs.Steps.{Calling}
+use Rattle.pv_eval.specs.Evaluation.{ev}
+use Rattle.pv_eval.specs.Moments.{Moment, Always, state_of}
+use Rattle.pv_eval.specs.Ahead.{ahead}
+use Rattle.pv_eval.specs.Machines.{Machine, Started, left_of, value_at, ended}
+use Rattle.pv_eval.specs.Plainly.{GivesValue}
+
+-- 6.8p4: the full expression has this value
+abbrev pub Evaluated : Stored → NodeId → Worth → (old new : Moment) → Type 0
+Evaluated u n v old new =
+    Always u old (λ b out es. (call : Calling) → new.taken ≤ b.bound → GivesValue (ev b call (expression_at u n) [] (state_of old out es)) v (state_of new out es))
+
+-- the same of an expression that was started
+abbrev pub EvaluatedWhole : Stored → (was now : Started) → (old new : Moment) → Type 0
+EvaluatedWhole u e f old new =
+    Always u old (λ b out es. (call : Calling) → new.taken ≤ b.bound → GivesValue (ahead b call u e.frames e.opens e.place (state_of old out es)) (value_at f.place) (state_of new out es))
+
+-- the same of the innermost expression
+abbrev pub EvaluatedFirst : Stored → (old new : Machine) → Type 0
+EvaluatedFirst u old new =
+    Always u old.moment (λ b out es. (call : Calling) → new.moment.taken ≤ b.bound → GivesValue (left_of b call u old.started (state_of old.moment out es)) (ended new.started) (state_of new.moment out es))
+
+-- 5.1.2.3p1: and under each bound that is met before that, the run stops there: nothing was printed or told, and nothing has changed
+abbrev pub Cut : Stored → NodeId → (old new : Moment) → Type 0
+Cut u n old new =
+    Always u old (λ b out es. (call : Calling) → old.taken ≤ b.bound → b.bound < new.taken → ev b call (expression_at u n) [] (state_of old out es) ≡ Stops Turns (state_of (record old { taken = b.bound }) out es))
+
+-- the same of an expression that was started
+abbrev pub CutWhole : Stored → (was : Started) → (old new : Moment) → Type 0
+CutWhole u e old new =
+    Always u old (λ b out es. (call : Calling) → old.taken ≤ b.bound → b.bound < new.taken → ahead b call u e.frames e.opens e.place (state_of old out es) ≡ Stops Turns (state_of (record old { taken = b.bound }) out es))
+
+-- the same of the innermost expression
+abbrev pub CutFirst : Stored → (old new : Machine) → Type 0
+CutFirst u old new =
+    Always u old.moment (λ b out es. (call : Calling) → old.moment.taken ≤ b.bound → b.bound < new.moment.taken
+    → left_of b call u old.started (state_of old.moment out es) ≡ Stops Turns (state_of (record old.moment { taken = b.bound }) out es))

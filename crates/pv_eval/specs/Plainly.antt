@@ -1,0 +1,184 @@
+-- What plain expressions (6.5) give from a world, where nothing stops them: no event is told, no byte is printed, the world stays as it is,
+-- and all their accesses are reads. A bridge from the code that finds such values to evaluation, whose definition it names.
+use Rattle.std.specs.Prelude.{◌≡◌, ℕ, ℤ, ◌+◌, ◌<◌, ◌≤◌, Bool, true, false, List, [], ◌∷◌, Option, Some, None, Ok}
+use Rattle.pv_tree.specs.declared.nodes.NodeId.{NodeId}
+use Rattle.pv_types.specs.Ty.{Ty}
+use Rattle.pv_prov.specs.declared.names.Prov.TheVariants.{Inst}
+use Rattle.pv_typed.specs.declared.nodes.Typed.{Typed}
+use Rattle.pv_typed.specs.TypedTree.{TypedTree, Node, Form, Assign}
+use Rattle.pv_typed.specs.Nodes.{form_in}
+use Rattle.pv_typed.specs.Tables.{Stored, whole, nodes, expression_at}
+use Rattle.pv_typed.specs.Plain.{counted, both, turns_of, turns_of_form}
+use Rattle.pv_seq.specs.Sequencing.{Access, Open, opened}
+use Rattle.pv_inst.specs.declared.values.Test.TheVariants.{Range}
+use Rattle.pv_inst.specs.declared.values.Tried.{Tried}
+use Rattle.pv_inst.specs.Table.{Table}
+use Rattle.pv_inst.specs.Use.{use_answer}
+use Rattle.pv_shadow.specs.declared.byte.Byte.{Byte}
+use Rattle.pv_object.specs.declared.values.Pointer.{Pointer}
+use Rattle.pv_object.specs.declared.values.Reach.{Reach}
+use Rattle.pv_object.specs.declared.values.Asker.TheVariants.{Access as AccessAsker}
+use Rattle.pv_num.specs.declared.faults.Clause.{Clause}
+use Rattle.pv_object.specs.Access.{reach}
+use Rattle.pv_object.specs.Operations.{move_under}
+use Rattle.pv_object.specs.Encoding.{number_in}
+use Rattle.pv_object.specs.Loading.{exposed_by}
+use Rattle.pv_world.specs.Worlds.{Worth, World}
+use Rattle.pv_world.specs.Worths.{int, pointer}
+use Rattle.pv_world.specs.Objects.{put_at}
+use Rattle.pv_world.specs.Telling.{quiet}
+use Rattle.pv_world.specs.Doing.{Answers}
+use Rattle.pv_eval.specs.declared.plain.Found.{Found}
+use Rattle.pv_eval.specs.declared.plain.Found.TheVariants as found
+use Rattle.pv_eval.specs.declared.plain.Spot.{Spot}
+use Rattle.pv_eval.specs.declared.marked.Marked.{Marked}
+use Rattle.pv_eval.specs.States.{Setting, State, Res, Gives, Stops, Turns}
+use Rattle.pv_eval.specs.TypeForms.{lvalue}
+use Rattle.pv_eval.specs.Suiting.{knows}
+use Rattle.pv_eval.specs.Operations.{Op, Reads, Writes, does}
+use Rattle.pv_eval.specs.Sequenced.{Given, done}
+use Rattle.pv_eval.specs.Steps.{Calling, takes, converted}
+use Rattle.pv_eval.specs.Evaluation.{ev, ev_form}
+use Rattle.pv_eval.specs.Frames.{first_after, second_after}
+use Rattle.pv_eval.specs.Ahead.{first_operand_of, second_operand_of}
+
+-- the setting of a run of the unit (5.1.1.1), with this bound, these sides and this reading of pointers to what has ended
+abbrev pub setting_by : Stored → (bound : ℕ) → (sides : Option (List Bool)) → (zap : Bool) → Setting
+setting_by u n sides zap = record { unit = whole u; types = u.known; bound = n; sides = sides; zap = zap }
+
+-- the state of a run with this world, this output and these events, after so many turns (5.1.2.3)
+abbrev pub turned : World → List ℕ → List Marked → (taken : ℕ) → State
+turned w out es n = record { world = w; output = out; events = es; taken = n }
+
+-- 6.5p2: none of the accesses writes, so that no two of them conflict
+abbrev pub AreReads : List Access → Type 0
+AreReads [] = Unit {0}
+AreReads (a ∷ gs) = (a.writes ≡ false) × AreReads gs
+
+-- 6.5p2: a node in progress that has only read
+abbrev pub has_read : (foes all : List Access) → Open
+has_read fs gs = record { foes = fs; all = gs; loose = [] }
+
+-- a piece of the run gives this value by reads alone (6.5p2), and leaves this state
+pub record OnlyReads (r : Res Given) (v : Worth) (s : State) : Type 0 where
+  pub all : List Access
+  pub reads : AreReads all
+  pub is : r ≡ Gives (record { value = v; all = all; loose = [] }) s
+
+-- 6.5p1: from this world the expression gives this value, in as many turns as a plain expression takes, wherever it stands among
+-- expressions that only read, and whatever was printed and told before
+pub record Yields (u : Stored) (w : World) (x : TypedTree) (v : Worth) : Type 0 where
+  pub turns : ℕ
+  pub are : turns_of x ≡ Some turns
+  pub gives : (call : Calling) (bound : ℕ) (sides : Option (List Bool)) (zap : Bool) (fs : List Access) (out : List ℕ) (es : List Marked) (n : ℕ) → AreReads fs → n + turns ≤ bound
+      → OnlyReads (ev (setting_by u bound sides zap) call x fs (turned w out es n)) v (turned w out es (n + turns))
+  -- and where fewer turns are left, it stops behind the last of them (5.1.2.3p1)
+  pub stops : (call : Calling) (bound : ℕ) (sides : Option (List Bool)) (zap : Bool) (fs : List Access) (out : List ℕ) (es : List Marked) (n : ℕ) → AreReads fs → n ≤ bound → bound < n + turns
+      → ev (setting_by u bound sides zap) call x fs (turned w out es n) ≡ Stops Turns (turned w out es bound)
+
+-- what a row stands for (6.5)
+abbrev pub form_by : Stored → Typed → Form
+form_by u x = form_in u.lists (nodes u) x
+
+-- 6.5p1: a node without operands gives this value
+pub record GivesAlone (u : Stored) (w : World) (x : Typed) (v : Worth) : Type 0 where
+  pub turns : (turn : Bool) → turns_of_form turn (form_by u x) ≡ Some 1
+  pub takes : (turn : Bool) → takes turn (form_by u x) ≡ true
+  pub gives : (call : Calling) (bound : ℕ) (sides : Option (List Bool)) (zap : Bool) (t : Ty) (line : ℕ) (fs : List Access) (out : List ℕ) (es : List Marked) (n : ℕ)
+      → ev_form (setting_by u bound sides zap) call t line (form_by u x) fs (turned w out es n) ≡ done (opened fs) v (turned w out es n)
+
+-- the turns of an operand, where it is plain: a helper of sums
+abbrev pub turns_at : Stored → Option NodeId → Option ℕ
+turns_at u None = None
+turns_at u (Some a) = turns_of (expression_at u a)
+
+-- 6.5p1: a node of this type gives this value, once its one operand has given its own
+pub record GivesWith (u : Stored) (w : World) (t : Ty) (x : Typed) (first v : Worth) : Type 0 where
+  pub turns : (turn : Bool) → turns_of_form turn (form_by u x) ≡ counted (takes turn (form_by u x)) (turns_at u (first_operand_of x))
+  pub gives : (call : Calling) (bound : ℕ) (sides : Option (List Bool)) (zap : Bool) (line : ℕ) (fs gs : List Access) (out : List ℕ) (es : List Marked) (n : ℕ) → AreReads fs → AreReads gs
+      → OnlyReads (first_after (setting_by u bound sides zap) call t line (form_by u x) (has_read fs gs) first (turned w out es n)) v (turned w out es n)
+
+-- 6.5p1: the same of a node with two operands
+pub record GivesWithBoth (u : Stored) (w : World) (t : Ty) (x : Typed) (first second v : Worth) : Type 0 where
+  pub turns : (turn : Bool) → turns_of_form turn (form_by u x) ≡ counted (takes turn (form_by u x)) (both (turns_at u (first_operand_of x)) (turns_at u (second_operand_of x)))
+  pub gives : (call : Calling) (bound : ℕ) (sides : Option (List Bool)) (zap : Bool) (line : ℕ) (fs gs : List Access) (out : List ℕ) (es : List Marked) (n : ℕ) → AreReads fs → AreReads gs
+      → OnlyReads (second_after (setting_by u bound sides zap) call t line (form_by u x) first (has_read fs gs) second (turned w out es n)) v (turned w out es n)
+
+-- a piece of the run gives this value and leaves this state, whatever its accesses are
+pub record GivesValue (r : Res Given) (v : Worth) (s : State) : Type 0 where
+  pub given : Given
+  pub value : given.value ≡ v
+  pub is : r ≡ Gives given s
+
+-- 6.8p4: how many turns a full expression takes that is plain but for a store at its root (6.5.16.1)
+abbrev pub whole_turns : TypedTree → Option ℕ
+whole_turns (Node t line turn (Assign x y)) = counted true (both (turns_of x) (turns_of y))
+whole_turns x = turns_of x
+
+-- 6.8p4: from this world the full expression gives this value, in as many turns, and leaves that world
+pub record Performs (u : Stored) (w new : World) (x : TypedTree) (v : Worth) : Type 0 where
+  pub turns : ℕ
+  pub are : whole_turns x ≡ Some turns
+  pub gives : (call : Calling) (bound : ℕ) (sides : Option (List Bool)) (zap : Bool) (out : List ℕ) (es : List Marked) (n : ℕ) → n + turns ≤ bound
+      → GivesValue (ev (setting_by u bound sides zap) call x [] (turned w out es n)) v (turned new out es (n + turns))
+  pub stops : (call : Calling) (bound : ℕ) (sides : Option (List Bool)) (zap : Bool) (out : List ℕ) (es : List Marked) (n : ℕ) → n ≤ bound → bound < n + turns
+      → ev (setting_by u bound sides zap) call x [] (turned w out es n) ≡ Stops Turns (turned w out es bound)
+
+-- an operation gives this value, tells nothing and leaves the world as it is (5.1.2.3p2), whatever the world
+abbrev pub AlwaysGives : (Setting → Op) → Worth → Type 0
+AlwaysGives op v = (b : Setting) (w : World) → does b (op b) w ≡ Answers v w quiet
+
+-- the same from this world
+abbrev pub GivesAt : World → (Setting → Op) → Worth → Type 0
+GivesAt w op v = (b : Setting) → does b (op b) w ≡ Answers v w quiet
+
+-- 6.3p1: an operand's value, converted where its node is an implicit conversion, whatever the state
+abbrev pub IsConverted : TypedTree → (before behind : Worth) → Type 0
+IsConverted x v z = (b : Setting) (w : World) (out : List ℕ) (es : List Marked) (n : ℕ) → converted b x v (turned w out es n) ≡ Gives z (turned w out es n)
+
+-- a place in an instance, as a pointer (the memory model)
+abbrev pub pointer_at : Spot → Pointer
+pointer_at p = record { address = p.address; prov = Inst p.inst }
+
+-- what was found, as what an expression gives (6.5p1)
+abbrev pub found_worth : Found → Worth
+found_worth (found.Number n) = int n
+found_worth (found.Place p) = pointer (pointer_at p)
+
+-- 6.3.2.1p2: a read of an lvalue of this type gives this value from this world, against accesses that only read
+abbrev pub ReadsFrom : Stored → World → Ty → Pointer → Worth → Type 0
+ReadsFrom u w t p v =
+    (bound : ℕ) (sides : Option (List Bool)) (zap : Bool) (others : List Access) → AreReads others
+    → does (setting_by u bound sides zap) (Reads (lvalue (setting_by u bound sides zap) t) (pointer p) others) w ≡ Answers v w quiet
+
+-- 6.5.16p3: a write of this value through an lvalue of this type stores these bytes, where no other access is near
+abbrev pub WritesTo : Stored → World → Ty → Pointer → Worth → List Byte → Type 0
+WritesTo u w t p v bytes =
+    (bound : ℕ) (sides : Option (List Bool)) (zap : Bool)
+    → does (setting_by u bound sides zap) (Writes (lvalue (setting_by u bound sides zap) t) (pointer p) v None []) w ≡ Answers v (put_at w p.address bytes) quiet
+
+-- 6.5.16p3: the same, and the world in which it was stored
+pub record StoresAt (u : Stored) (w : World) (t : Ty) (p : Pointer) (v : Worth) (new : World) : Type 0 where
+  pub bytes : List Byte
+  pub writes : WritesTo u w t p v bytes
+  pub is : new ≡ put_at w p.address bytes
+
+-- what the use of a name finds that is that of one live instance (the memory model)
+abbrev pub alone_tried : Tried
+alone_tried = record { pair = None; low = true; high = false }
+
+-- 6.5.3.2p4, 6.2.4p2: an access to so many bytes by a pointer to one instance passes its checks, and the table stays
+pub record HasReached (T : Table) (p : Pointer) (n align : ℕ) (write : Bool) (at : Reach) : Type 0 where
+  pub known : knows T p.prov ≡ true
+  pub address : at.address ≡ p.address
+  pub used : use_answer T p.prov (Range p.address n) ≡ Ok alone_tried
+  pub is : reach T p n align write AccessAsker ≡ (Ok at, T)
+
+-- 6.5.6p8: a pointer to one instance moves so many bytes on, to where it may point, and the table stays
+pub record HasMoved (c : Clause) (T : Table) (p : Pointer) (by : ℤ) (q : Pointer) : Type 0 where
+  pub known : knows T p.prov ≡ true
+  pub is : move_under c T p by ≡ (Ok (q, alone_tried), T)
+
+-- 6.2.6.1p4: bytes that are this number, and have no names, so that nothing is exposed by reading them (the memory model)
+abbrev pub IsPlainNumber : List Byte → ℕ → Type 0
+IsPlainNumber bytes n = (number_in bytes ≡ Some n) × ((T : Table) → exposed_by T bytes ≡ T)

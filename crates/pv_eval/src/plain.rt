@@ -1,0 +1,125 @@
+// Plain expressions (C17 6.5) without a machine: what one gives from a world, where nothing stops it.
+ghost use Rattle.std.specs.Prelude.{◌≡◌, IfSome};
+ghost use Rattle.pv_typed.specs.TypedTree.{type_of};
+ghost use Rattle.pv_typed.specs.Formed.{AreKnown, NamesIn};
+ghost use Rattle.pv_typed.specs.Children.{HasOperands};
+ghost use Rattle.pv_typed.specs.Tables.{expression_at, IsExpression};
+ghost use Rattle.pv_eval.specs.Plainly.{Yields, GivesAlone, GivesWith, GivesWithBoth, found_worth};
+
+use crate::operands::{first_operand, second_operand};
+use crate::plain_numbers::{arithmetic, cast, integer, natural, negated, unary};
+use crate::plain_places::{object, part, subscript, summed};
+use crate::plain_reads::read;
+use crate::types::is_none;
+use pv_tree::NodeId;
+use pv_typed::{Typed, TypedUnit};
+use pv_world::World;
+use std::alloc::Global;
+
+/// A place in a storage instance, or one past its last byte.
+#[derive(Clone, Copy)]
+pub(crate) struct Spot {
+    /// The number of the instance.
+    pub(crate) inst: u64,
+    /// The address.
+    pub(crate) address: u64,
+}
+
+/// What a plain expression gives.
+#[derive(Clone, Copy)]
+pub(crate) enum Found {
+    /// An integer.
+    Number(i64),
+    /// A place, which a pointer is too.
+    Place(Spot),
+}
+
+/// A node without operands.
+fn alone(unit: &TypedUnit, world: &World, x: Typed) -> Option<Found>
+    requires { NamesIn unit.now x }
+    ensures { IfSome result (λ v. GivesAlone unit.now world.now x (found_worth v)) }
+{
+    match x {
+        Typed::Constant(k) => integer(k),
+        Typed::Sizeof(k) => natural(k),
+        Typed::Object(o) => object(world, o, unit.object(o).lasting),
+        _ => None,
+    }
+}
+
+/// A node of this type whose one operand has given a value.
+fn with_one(
+    alloc: Global,
+    unit: &TypedUnit,
+    world: &World,
+    n: NodeId,
+    x: Typed,
+    first: Found,
+) -> Option<Found>
+    requires known { AreKnown unit.now }
+    requires there { IsExpression unit.now n }
+    requires operands { HasOperands unit.now.rows unit.now.lists n.0 x }
+    ensures { IfSome result (λ v. GivesWith unit.now world.now (type_of (expression_at unit.now n)) x (found_worth first) (found_worth v)) }
+{
+    match x {
+        Typed::Read(a) => read(alloc, unit, world, a, first),
+        Typed::ArrayPointer(_) | Typed::Convert(_) | Typed::Address(_) => Some(first),
+        Typed::Indirection(_) => {
+            if is_none(unit.types(), unit.type_of(n)) {
+                None
+            } else {
+                Some(first)
+            }
+        }
+        Typed::Member(_, offset) => part(world, first, offset),
+        Typed::Arrow(_, offset) => part(world, first, offset),
+        Typed::Unary(op, a) => unary(unit, op, n, a, first),
+        Typed::Not(_) => negated(first),
+        Typed::Cast(a) => cast(unit, n, a, first),
+        _ => None,
+    }
+}
+
+/// A node of this type whose two operands have given values.
+fn with_both(
+    unit: &TypedUnit,
+    world: &World,
+    n: NodeId,
+    x: Typed,
+    first: Found,
+    second: Found,
+) -> Option<Found>
+    requires known { AreKnown unit.now }
+    requires there { IsExpression unit.now n }
+    requires operands { HasOperands unit.now.rows unit.now.lists n.0 x }
+    ensures { IfSome result (λ v. GivesWithBoth unit.now world.now (type_of (expression_at unit.now n)) x (found_worth first) (found_worth second) (found_worth v)) }
+{
+    match x {
+        Typed::Arithmetic(op, a, d) => arithmetic(unit, op, a, d, first, second),
+        Typed::Subscript(a, _) => subscript(unit, world, a, first, second),
+        Typed::PointerSum(sign, a, _) => summed(unit, world, n, sign, a, first, second),
+        _ => None,
+    }
+}
+
+/// What a plain expression gives from this world, where nothing stops it, and where that is a number of 64 bits with a
+/// sign, or a place.
+///
+/// `None` says nothing: the machine of expressions finds the same, or why there is no value. Nothing changes in any case.
+#[tactic(auto, using(crate::proofs::PlainSteps::alone_some, crate::proofs::PlainSteps::with_some, crate::proofs::PlainSteps::both_some))]
+pub(crate) fn value(alloc: Global, unit: &TypedUnit, world: &World, n: NodeId) -> Option<Found>
+    requires known { AreKnown unit.now }
+    requires there { IsExpression unit.now n }
+    ensures { IfSome result (λ v. Yields unit.now world.now (expression_at unit.now n) (found_worth v)) }
+{
+    let x = unit.node(n);
+    let Some(a) = first_operand(x) else {
+        return alone(unit, world, x);
+    };
+    let first = value(alloc, unit, world, a)?;
+    let Some(d) = second_operand(x) else {
+        return with_one(alloc, unit, world, n, x, first);
+    };
+    let second = value(alloc, unit, world, d)?;
+    with_both(unit, world, n, x, first, second)
+}

@@ -1,0 +1,196 @@
+// Integers of plain expressions (C17 6.3, 6.5.3.3, 6.5.5 to 6.5.12), where they are numbers of 64 bits with a sign.
+ghost use Rattle.std.specs.Prelude.{◌≡◌, pos, Bool, IfSome};
+ghost use Rattle.pv_types.specs.Ty.{Ty};
+ghost use Rattle.pv_types.specs.Known.{tree};
+ghost use Rattle.pv_typed.specs.declared.nodes.Typed.{Typed as Row};
+ghost use Rattle.pv_typed.specs.TypedTree.{type_of};
+ghost use Rattle.pv_typed.specs.Tables.{expression_at, IsExpression};
+ghost use Rattle.pv_world.specs.Worlds.{World as Seen};
+ghost use Rattle.pv_world.specs.Worths.{int};
+ghost use Rattle.pv_eval.specs.Conversions.{how_to};
+ghost use Rattle.pv_eval.specs.Suiting.{is_small};
+ghost use Rattle.pv_eval.specs.Operations.{Calculates, CalculatesOne, Converts, Negates};
+ghost use Rattle.pv_eval.specs.Plainly.{IsConverted, AlwaysGives, GivesWith, GivesWithBoth, found_worth};
+
+use crate::plain::Found;
+use crate::suiting::{is_operand, is_promoted};
+use crate::types::{kind, shape};
+use pv_num::{BinOp, IntKind, UnOp, binary, convert, fits};
+use pv_tree::NodeId;
+use pv_typed::{Typed, TypedUnit};
+use pv_types::TypeId;
+use pv_world::Shape;
+
+/// The number, where it has 64 bits with a sign.
+pub(crate) fn small(k: i128) -> Option<i64>
+    ensures { IfSome result (λ x. x ≡ k) }
+{
+    if -0x8000_0000_0000_0000 <= k && k <= 0x7fff_ffff_ffff_ffff {
+        Some(k as i64)
+    } else {
+        None
+    }
+}
+
+/// The same as what an expression gives.
+pub(crate) fn integer(k: i128) -> Option<Found>
+    ensures { IfSome result (λ v. found_worth v ≡ int k) }
+{
+    match small(k) {
+        Some(x) => Some(Found::Number(x)),
+        None => None,
+    }
+}
+
+/// A size as what an expression gives.
+pub(crate) fn natural(k: u64) -> Option<Found>
+    ensures { IfSome result (λ v. found_worth v ≡ int (pos k)) }
+{
+    if k <= 0x7fff_ffff_ffff_ffff {
+        Some(Found::Number(k as i64))
+    } else {
+        None
+    }
+}
+
+/// The number that was found, if it is one.
+pub(crate) fn number(v: Found) -> Option<i64>
+    ensures { IfSome result (λ x. found_worth v ≡ int x) }
+{
+    match v {
+        Found::Number(x) => Some(x),
+        Found::Place(_) => None,
+    }
+}
+
+/// Whether a number can be converted (C17 6.3.1.3p1), as each of 64 bits can.
+pub(crate) fn is_small(x: i64) -> bool
+    ensures { result ≡ is_small (int x) }
+{
+    let n = i128::from(x);
+    -0x1_0000_0000_0000_0000 <= n && n <= 0x1_0000_0000_0000_0000
+}
+
+/// A number converted from an integer type to an integer type (C17 6.3.1.2, 6.3.1.3).
+pub(crate) fn rounded(unit: &TypedUnit, from: TypeId, to: TypeId, x: i64) -> Option<i64>
+    ensures { (implied : Bool) → IfSome result (λ z. AlwaysGives (λ b. Converts (how_to b implied (tree unit.now.known from.0) (tree unit.now.known to.0)) (int x)) (int z)) }
+{
+    let Shape::Int(_) = shape(unit.types(), from) else {
+        return None;
+    };
+    let Shape::Int(kind) = shape(unit.types(), to) else {
+        return None;
+    };
+    if !is_small(x) {
+        return None;
+    }
+    small(convert(kind, i128::from(x)))
+}
+
+/// The value of an operand that is an integer, converted where its node is an implicit conversion.
+pub(crate) fn converted(unit: &TypedUnit, a: NodeId, v: Found) -> Option<i64>
+    requires { IsExpression unit.now a }
+    ensures { IfSome result (λ z. IsConverted (expression_at unit.now a) (found_worth v) (int z)) }
+{
+    let x = number(v)?;
+    match unit.node(a) {
+        Typed::Convert(inner) => rounded(unit, unit.type_of(inner), unit.type_of(a), x),
+        _ => Some(x),
+    }
+}
+
+/// An operator on two integers.
+fn calculated(op: BinOp, kind: IntKind, x: i64, y: i64) -> Option<i64>
+    ensures { IfSome result (λ z. AlwaysGives (λ b. Calculates op kind (int x) (int y)) (int z)) }
+{
+    let left = i128::from(x);
+    let right = i128::from(y);
+    if !is_promoted(kind) {
+        return None;
+    }
+    if !fits(kind, left) {
+        return None;
+    }
+    if !is_operand(op, kind, right) {
+        return None;
+    }
+    match binary(op, kind, left, right) {
+        Ok(z) => small(z),
+        Err(_) => None,
+    }
+}
+
+/// The operator of a node on its two operands, each converted where that is implied.
+#[tactic(auto, using(crate::proofs::PlainNumbers::gives_calculated))]
+pub(crate) fn arithmetic(
+    unit: &TypedUnit,
+    op: BinOp,
+    a: NodeId,
+    d: NodeId,
+    first: Found,
+    second: Found,
+) -> Option<Found>
+    requires left { IsExpression unit.now a }
+    requires right { IsExpression unit.now d }
+    ensures { (w : Seen) (t : Ty) → IfSome result (λ v. GivesWithBoth unit.now w t (Row.Arithmetic op a d) (found_worth first) (found_worth second) (found_worth v)) }
+{
+    let x = converted(unit, a, first)?;
+    let y = converted(unit, d, second)?;
+    match calculated(op, kind(unit.types(), unit.type_of(a)), x, y) {
+        Some(z) => Some(Found::Number(z)),
+        None => None,
+    }
+}
+
+/// The operator of a node of this type on its one operand, which is converted where that is implied.
+pub(crate) fn unary(unit: &TypedUnit, op: UnOp, n: NodeId, a: NodeId, first: Found) -> Option<Found>
+    requires there { IsExpression unit.now n }
+    requires operand { IsExpression unit.now a }
+    ensures { (w : Seen) → IfSome result (λ v. GivesWith unit.now w (type_of (expression_at unit.now n)) (Row.Unary op a) (found_worth first) (found_worth v)) }
+{
+    let x = converted(unit, a, first)?;
+    match calculated_one(op, kind(unit.types(), unit.type_of(n)), x) {
+        Some(z) => Some(Found::Number(z)),
+        None => None,
+    }
+}
+
+/// An operator on one integer.
+fn calculated_one(op: UnOp, kind: IntKind, x: i64) -> Option<i64>
+    ensures { IfSome result (λ z. AlwaysGives (λ b. CalculatesOne op kind (int x)) (int z)) }
+{
+    let operand = i128::from(x);
+    if !is_promoted(kind) {
+        return None;
+    }
+    if !fits(kind, operand) {
+        return None;
+    }
+    match pv_num::unary(op, kind, operand) {
+        Ok(z) => small(z),
+        Err(_) => None,
+    }
+}
+
+/// Whether an integer is 0, as the `!` of a node gives it (C17 6.5.3.3p5).
+pub(crate) fn negated(first: Found) -> Option<Found>
+    ensures { IfSome result (λ v. AlwaysGives (λ b. Negates (found_worth first)) (found_worth v)) }
+{
+    match first {
+        Found::Number(x) => Some(Found::Number(if x == 0 { 1 } else { 0 })),
+        Found::Place(_) => None,
+    }
+}
+
+/// The integer of a node's one operand, converted to the node's type by a cast.
+pub(crate) fn cast(unit: &TypedUnit, n: NodeId, a: NodeId, first: Found) -> Option<Found>
+    requires there { IsExpression unit.now n }
+    requires operand { IsExpression unit.now a }
+    ensures { (w : Seen) → IfSome result (λ v. GivesWith unit.now w (type_of (expression_at unit.now n)) (Row.Cast a) (found_worth first) (found_worth v)) }
+{
+    let x = number(first)?;
+    match rounded(unit, unit.type_of(a), unit.type_of(n), x) {
+        Some(z) => Some(Found::Number(z)),
+        None => None,
+    }
+}

@@ -1,0 +1,234 @@
+// Integers and pointers that plain expressions read (C17 6.3.2.1p2).
+ghost use Rattle.std.specs.Prelude.{◌≡◌, ◌≤◌, true, ◌&&◌, IfSome, is_some, [], Ok};
+ghost use Rattle.pv_prov.specs.declared.names.Prov.TheVariants.{Inst};
+ghost use Rattle.pv_inst.specs.declared.values.Test.TheVariants.{Live};
+ghost use Rattle.pv_inst.specs.Use.{is_function, use_answer};
+ghost use Rattle.pv_types.specs.Ty.{Ty};
+ghost use Rattle.pv_types.specs.Known.{tree};
+ghost use Rattle.pv_shadow.specs.Bytes.{read};
+ghost use Rattle.pv_object.specs.Memory.{IsReach};
+ghost use Rattle.pv_object.specs.Access.{readonly_stop};
+ghost use Rattle.pv_object.specs.Loading.{is_trap};
+ghost use Rattle.pv_typed.specs.declared.nodes.Typed.{Typed as Row};
+ghost use Rattle.pv_typed.specs.Formed.{AreKnown};
+ghost use Rattle.pv_typed.specs.Tables.{IsExpression};
+ghost use Rattle.pv_world.specs.Worths.{int, pointer};
+ghost use Rattle.pv_world.specs.declared.got.Shape.{Shape as Form};
+ghost use Rattle.pv_eval.specs.TypeForms.{shape_of};
+ghost use Rattle.pv_eval.specs.Sizes.{IsComplete};
+ghost use Rattle.pv_eval.specs.Plainly.{GivesWith, ReadsFrom, HasReached, IsPlainNumber, alone_tried, found_worth, pointer_at};
+
+use crate::permission::permits;
+use crate::plain::{Found, Spot};
+use crate::plain_bytes::plain_number;
+use crate::plain_numbers::small;
+use crate::types::{Complete, align_of, measured, shape};
+use pv_inst::{Kind, Tried};
+use pv_num::{IntKind, convert};
+use pv_object::Reach;
+use pv_prov::Prov;
+use pv_shadow::BLANK;
+use pv_tree::NodeId;
+use pv_typed::TypedUnit;
+use pv_world::{Shape, World};
+use std::alloc::Global;
+
+/// What the use of a name finds that is the name of one live instance.
+const ALONE: Tried = Tried {
+    pair: None,
+    low: true,
+    high: false,
+};
+
+/// Whether an instance is a function, which is never read.
+fn is_function(kind: Kind) -> bool
+    ensures { result ≡ is_function kind }
+{
+    match kind {
+        Kind::Function => true,
+        Kind::Declared { .. } | Kind::Literal | Kind::Heap => false,
+    }
+}
+
+/// Whether a number is no value of the type (C17 6.2.6.1p5).
+fn traps(kind: IntKind, number: u64) -> bool
+    ensures { result ≡ is_trap kind number }
+{
+    match kind {
+        IntKind::Bool => number > 1,
+        _ => false,
+    }
+}
+
+/// Whether no byte of an instance may be written (C17 6.4.5p7, 6.7.3p6).
+fn is_readonly(kind: Kind) -> bool
+    ensures { result ≡ is_some (readonly_stop kind) }
+{
+    match kind {
+        Kind::Literal => true,
+        Kind::Declared { constant } => constant,
+        Kind::Heap | Kind::Function => false,
+    }
+}
+
+/// Whether it is a write, and what is written to is read-only.
+fn is_stopped(write: bool, kind: Kind) -> bool
+    ensures { result ≡ (write && is_some (readonly_stop kind)) }
+{
+    write && is_readonly(kind)
+}
+
+/// Where an access to so many bytes goes, if it passes its checks (C17 6.5.3.2p4, 6.2.4p2, 6.4.5p7, 6.7.3p6).
+pub(crate) fn reached(world: &World, p: Spot, n: u64, align: u64, write: bool) -> Option<Reach>
+    requires { 1 ≤ align }
+    ensures reached { IfSome result (λ at. HasReached world.now.memory.table (pointer_at p) n align write at) }
+    ensures within { IfSome result (λ at. IsReach world.now.memory.table at n) }
+{
+    let x = world.memory().instances().info(p.inst)?;
+    if p.address < x.base {
+        return None;
+    }
+    let offset = p.address - x.base;
+    if offset > x.size {
+        return None;
+    }
+    if n > x.size - offset {
+        return None;
+    }
+    if p.address % align != 0 {
+        return None;
+    }
+    if is_function(x.kind) {
+        return None;
+    }
+    if is_stopped(write, x.kind) {
+        return None;
+    }
+    Some(Reach {
+        inst: p.inst,
+        offset,
+        address: p.address,
+        tried: ALONE,
+    })
+}
+
+/// The number in so many bytes that were reached.
+fn number_at(world: &World, at: &Reach, n: u64) -> Option<u64>
+    requires few { n ≤ 8 }
+    requires reached { IsReach world.now.memory.table at.now n }
+    ensures { IfSome result (λ k. IsPlainNumber (read world.now.memory.bytes at.now.address n) k) }
+{
+    let mut bytes = [BLANK; 8];
+    world.memory().read_into(at, &mut bytes[..n as usize]);
+    plain_number(&bytes[..n as usize])
+}
+
+/// Whether each instance that became exposed was told of.
+fn is_told(world: &World) -> bool
+    ensures { result ≡ true → world.now.memory.table.pending ≡ [] }
+{
+    world.memory().is_told()
+}
+
+/// The integer of this kind at a place, if nothing keeps it from being read.
+fn load(
+    alloc: Global,
+    unit: &TypedUnit,
+    world: &World,
+    l: Complete,
+    kind: IntKind,
+    p: Spot,
+) -> Option<i64>
+    requires known { AreKnown unit.now }
+    requires complete { IsComplete unit.now.known l }
+    requires form { shape_of (tree unit.now.known l.t.0) ≡ Form.Int kind }
+    ensures { IfSome result (λ x. ReadsFrom unit.now world.now (tree unit.now.known l.t.0) (pointer_at p) (int x)) }
+{
+    if l.size > 8 {
+        return None;
+    }
+    let at = reached(world, p, l.size, align_of(unit.types(), l.t), false)?;
+    let Ok(true) = permits(alloc, unit, world, &at, l, false) else {
+        return None;
+    };
+    if !is_told(world) {
+        return None;
+    }
+    let number = number_at(world, &at, l.size)?;
+    if traps(kind, number) {
+        return None;
+    }
+    small(convert(kind, i128::from(number)))
+}
+
+/// Whether an instance is live.
+fn is_live(world: &World, inst: u64) -> bool
+    ensures { result ≡ true → use_answer world.now.memory.table (Inst inst) Live ≡ Ok alone_tried }
+{
+    world.memory().instances().info(inst).is_some()
+}
+
+/// The pointer at a place, if it was stored whole, points into a live instance, and nothing keeps it from being read.
+fn load_pointer(
+    alloc: Global,
+    unit: &TypedUnit,
+    world: &World,
+    l: Complete,
+    p: Spot,
+) -> Option<Spot>
+    requires known { AreKnown unit.now }
+    requires complete { IsComplete unit.now.known l }
+    requires form { shape_of (tree unit.now.known l.t.0) ≡ Form.Pointer }
+    ensures { IfSome result (λ q. ReadsFrom unit.now world.now (tree unit.now.known l.t.0) (pointer_at p) (pointer (pointer_at q))) }
+{
+    if l.size != 8 {
+        return None;
+    }
+    let at = reached(world, p, 8, align_of(unit.types(), l.t), false)?;
+    let Ok(true) = permits(alloc, unit, world, &at, l, false) else {
+        return None;
+    };
+    if !is_told(world) {
+        return None;
+    }
+    let there = world.memory().whole_pointer(&at)?;
+    let Prov::Inst(inst) = there.prov else {
+        return None;
+    };
+    if !is_live(world, inst) {
+        return None;
+    }
+    Some(Spot {
+        inst,
+        address: there.address,
+    })
+}
+
+/// What a node reads at the place that its operand gave.
+pub(crate) fn read(
+    alloc: Global,
+    unit: &TypedUnit,
+    world: &World,
+    a: NodeId,
+    place: Found,
+) -> Option<Found>
+    requires known { AreKnown unit.now }
+    requires there { IsExpression unit.now a }
+    ensures { (t : Ty) → IfSome result (λ v. GivesWith unit.now world.now t (Row.Read a) (found_worth place) (found_worth v)) }
+{
+    let Found::Place(p) = place else {
+        return None;
+    };
+    let l = measured(unit.types(), unit.type_of(a))?;
+    match shape(unit.types(), l.t) {
+        Shape::Int(kind) => {
+            let x = load(alloc, unit, world, l, kind, p)?;
+            Some(Found::Number(x))
+        }
+        Shape::Pointer => {
+            let q = load_pointer(alloc, unit, world, l, p)?;
+            Some(Found::Place(q))
+        }
+        Shape::Whole => None,
+    }
+}

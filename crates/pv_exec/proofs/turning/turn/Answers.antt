@@ -1,0 +1,71 @@
+use Rattle.std.proofs.Common.{sym, subst, arith, Ok, Err}
+use Rattle.pv_eval.specs.Moments.{state_of}
+use Rattle.pv_exec.specs.declared.once.After.{After}
+use Rattle.pv_exec.specs.declared.once.After.TheVariants as after
+use Rattle.pv_exec.specs.declared.turning.Advanced.{Advanced}
+use Rattle.pv_exec.specs.Leading.{OnceLed}
+use Rattle.pv_exec.specs.Turning.{AdvancedLed, AdvancedRuns, AdvancedPace}
+use Rattle.pv_exec.proofs.Bounds.{holds-out, has-stores}
+use Rattle.pv_exec.proofs.Pieces.{keeps-both}
+use Rattle.pv_exec.proofs.Turns.{settled-led, settled-runs, once-led}
+use Rattle.pv_exec.proofs.turning.turn.Goals as goal
+
+pub returns-in-Ok-On-clause-holds : goal.returns-in-Ok-On-clause-holds
+returns-in-Ok-On-clause-holds c =
+    let u = c.args.unit.now in
+    let n = c.args.bound in
+    let d = c.args.doing in
+    let ts = c.args.tasks.now.items in
+    let tm = c.once.new.tasks.items in
+    let ts' = c.settle.new.tasks.items in
+    let old = c.args.machine.now in
+    let mid = c.once.new.machine in
+    let new = c.settle.new.machine in
+    subst (λ (a : Advanced). AdvancedLed u n d a ts ts' old new) (sym c.next_of.ensures)
+    (settled-led u n d c.in-Ok-On.next c.settle.result ts tm ts' old mid new c.requires.room c.once.ensures.taken c.settle.ensures.taken c.once.ensures.setting
+    (subst (λ (x : After). OnceLed u d (Ok x) ts tm old mid) c.in-Ok-On.field-0-is c.in-Ok-On.ensures.holds) c.settle.ensures.holds)
+
+pub returns-in-Ok-On-clause-setting : goal.returns-in-Ok-On-clause-setting
+returns-in-Ok-On-clause-setting c = keeps-both c.args.machine.now.moment c.once.new.machine.moment c.settle.new.machine.moment c.once.ensures.setting c.settle.ensures.setting
+
+pub returns-in-Ok-On-clause-runs : goal.returns-in-Ok-On-clause-runs
+returns-in-Ok-On-clause-runs c =
+    let new = c.settle.new.machine in
+    subst (λ (a : Advanced). AdvancedRuns c.args.unit.now c.settle.new.tasks.items new.started a) (sym c.next_of.ensures)
+    (settled-runs c.args.unit.now c.settle.new.tasks.items new.started c.settle.result c.settle.ensures.runs c.settle.ensures.fit c.settle.ensures.due)
+
+pub returns-in-Ok-On-clause-taken : goal.returns-in-Ok-On-clause-taken
+returns-in-Ok-On-clause-taken c = omega (arith, c.settle.ensures.taken, c.once.ensures.taken, c.requires.due)
+
+pub returns-in-Ok-Ended-clause-holds : goal.returns-in-Ok-Ended-clause-holds
+returns-in-Ok-Ended-clause-holds c =
+    let u = c.args.unit.now in
+    let d = c.args.doing in
+    let ts = c.args.tasks.now.items in
+    let ts' = c.once.new.tasks.items in
+    let old = c.args.machine.now in
+    let new = c.once.new.machine in
+    once-led u c.args.bound d (Ok (after.Ended c.in-Ok-Ended.flow)) ts ts' old new c.requires.room c.once.ensures.taken
+    (subst (λ (x : After). OnceLed u d (Ok x) ts ts' old new) c.in-Ok-Ended.field-0-is c.in-Ok-Ended.ensures.holds)
+
+pub returns-in-Ok-Valued-clause-holds : goal.returns-in-Ok-Valued-clause-holds
+returns-in-Ok-Valued-clause-holds c =
+    let u = c.args.unit.now in
+    let d = c.args.doing in
+    let ts = c.args.tasks.now.items in
+    let ts' = c.once.new.tasks.items in
+    let old = c.args.machine.now in
+    let new = c.once.new.machine in
+    once-led u c.args.bound d (Ok after.Valued) ts ts' old new c.requires.room c.once.ensures.taken
+    (subst (λ (x : After). OnceLed u d (Ok x) ts ts' old new) c.in-Ok-Valued.field-0-is c.in-Ok-Valued.ensures.holds)
+
+pub returns-in-Err-clause-holds : goal.returns-in-Err-clause-holds
+returns-in-Err-clause-holds c =
+    let u = c.args.unit.now in
+    let d = c.args.doing in
+    let ts = c.args.tasks.now.items in
+    let ts' = c.once.new.tasks.items in
+    let old = c.args.machine.now in
+    let new = c.once.new.machine in
+    subst (λ (a : Advanced). AdvancedLed u c.args.bound d a ts ts' old new) (sym c.next_of-in-Err.ensures)
+    (once-led u c.args.bound d (Err c.in-Err.e) ts ts' old new c.requires.room c.once.ensures.taken c.in-Err.ensures.holds)
