@@ -8,20 +8,20 @@ use Rattle.pv_journal.specs.Keyed.{exceeded_by, shares_bytes, live_size}
 use Rattle.pv_journal.specs.declared.line.Key.{Key}
 use Rattle.pv_journal.specs.declared.held.Held.{Held}
 
--- what an ordered map says of a number
+-- the memory model: what an ordered map of beginnings and ends says of an address
 abbrev pub said_at : List (ℕ × ℕ) → ℕ → Option ℕ
 said_at es q = lookup (is_at (nat_cmp q)) es
 
--- the greatest number of a name, 0 where no instance has it
+-- the memory model: the greatest number of a name, 0 where no instance has it
 abbrev pub greatest : ℕ → List Held → ℕ
 greatest n [] = 0
 greatest n (h ∷ hs) = if h.key.name == n then max h.key.k (greatest n hs) else greatest n hs
 
--- no two instances are one
+-- the memory model: no two instances have one name and one number
 abbrev pub AreDistinct : List Held → Type 0
 AreDistinct xs = (j k : ℕ) (x y : Held) → j < k → slice_get xs j ≡ Some x → slice_get xs k ≡ Some y → x.key ≡ y.key → ⊥
 
--- a live instance begins and ends here
+-- 6.2.4p2: a live instance begins and ends here
 pub record Stands (xs : List Held) (b e : ℕ) : Type 0 where
   pub place : ℕ
   pub inst : Held
@@ -30,7 +30,7 @@ pub record Stands (xs : List Held) (b e : ℕ) : Type 0 where
   pub base : inst.base ≡ b
   pub end : inst.base + inst.size ≡ e
 
--- the entries are where live instances begin and end; these have bytes and share none
+-- 6.2.4p2: the entries are where live instances begin and end; these have bytes and share none
 pub record AreLiving (xs : List Held) (es : List (ℕ × ℕ)) : Type 0 where
   pub there : (k : ℕ) (x : Held) → slice_get xs k ≡ Some x → x.live ≡ true → said_at es x.base ≡ Some (x.base + x.size)
   pub only : (b e : ℕ) → said_at es b ≡ Some e → Stands xs b e
@@ -38,14 +38,14 @@ pub record AreLiving (xs : List Held) (es : List (ℕ × ℕ)) : Type 0 where
   pub apart : (j k : ℕ) (x y : Held) → (j ≡ k → ⊥) → slice_get xs j ≡ Some x → slice_get xs k ≡ Some y → x.live ≡ true → y.live ≡ true
       → (x.base + x.size ≤ y.base) ⊎ (y.base + y.size ≤ x.base)
 
--- what is kept beside the instances: the sum of the live bytes, the greatest number of each name, where live ones begin and end
+-- the memory model: what is kept beside the instances: the sum of the live bytes, the greatest number of each name, where live ones begin and end
 pub record AreIndexed (xs : List Held) (live : ℕ) (top : ℕ → ℕ) (es : List (ℕ × ℕ)) : Type 0 where
   pub sum : live ≡ sum_by live_size xs
   pub tops : (n : ℕ) → top n ≡ greatest n xs
   pub distinct : AreDistinct xs
   pub living : AreLiving xs es
 
--- an instance that may be made
+-- 6.2.4p2, the memory model: an instance that may be made
 pub record IsFree (xs : List Held) (key : Key) (base size : ℕ) : Type 0 where
   pub number : 1 ≤ key.k
   pub exceeds : list_all (exceeded_by key) xs ≡ true

@@ -5,7 +5,7 @@ use Rattle.pv_journal.specs.declared.line.Key.{Key}
 use Rattle.pv_journal.specs.declared.held.Held.{Held}
 use Rattle.pv_journal.specs.declared.bonds.Bond.{Bond}
 
--- it passed, and this is left; or it did not pass
+-- the memory model: a line passed, and this is left; or it did not pass
 abbrev pub Left : {A : Type 0} → Bool → A → Option A → Type 0
 Left true new wanted = wanted ≡ Some new
 Left false new wanted = wanted ≡ None
@@ -16,13 +16,15 @@ may_follow over last turn = not over && nat_le last turn
 
 -- ---- instances
 
+-- the memory model: two are one instance: the same number of the same name
 abbrev pub same_key : Key → Key → Bool
 same_key a b = a.k == b.k && a.name == b.name
 
+-- the memory model: the instance is that of the key
 abbrev pub is_of : Key → Held → Bool
 is_of key h = same_key h.key key
 
--- the instance has another name, or a number below
+-- the memory model: the instance has another name, or a number below
 abbrev pub exceeded_by : Key → Held → Bool
 exceeded_by key h = not (h.key.name == key.name) || nat_lt h.key.k key.k
 
@@ -72,25 +74,28 @@ abbrev pub opens : Option Held → Bool
 opens None = false
 opens (Some x) = x.live && x.exposed
 
--- it ends at the address, or begins there
+-- the memory model: it ends at the address
 abbrev pub ends_at : Option Held → ℕ → Bool
 ends_at None a = false
 ends_at (Some x) a = x.base + x.size == a
 
+-- the memory model: it begins at the address
 abbrev pub begins_at : Option Held → ℕ → Bool
 begins_at None a = false
 begins_at (Some x) a = x.base == a
 
 -- ---- pairs
 
--- which of the two a use leaves
+-- the memory model: which of the two a use leaves
 abbrev pub left_by : Bond → Key → Option Key → Option (Bool × Bool)
 left_by b first None = if same_key first b.low then Some (true, false) else if same_key first b.high then Some (false, true) else None
 left_by b first (Some second) = if same_key first b.low && same_key second b.high then Some (true, true) else None
 
+-- the memory model: a pair that was just made keeps both
 abbrev pub bonded : (address : ℕ) → (low high : Key) → Bond
 bonded address low high = record { address = address; low = low; high = high; keeps_low = true; keeps_high = true }
 
+-- the memory model: two that live, are exposed and meet at the address may be a pair
 abbrev pub may_pair : List Held → (low high : Key) → (address : ℕ) → Bool
 may_pair xs low high address =
     opens (held_by xs low) && (opens (held_by xs high) && (ends_at (held_by xs low) address && begins_at (held_by xs high) address))
@@ -111,7 +116,7 @@ leaves a b heap test low high =
 abbrev pub kept_by : Bond → Bool × Bool → Bond
 kept_by b kept = record b { keeps_low = kept.0; keeps_high = kept.1 }
 
--- the candidate whose name the test for an allocation looks at
+-- the memory model: the candidate whose name the test for an allocation (7.22.3) looks at
 abbrev pub asked : Bond → (low : Bool) → Key
 asked b low = if low then b.low else b.high
 
@@ -128,6 +133,6 @@ use_by xs heap bs i test first second b =
 abbrev pub use_in : List Held → (Key → Bool) → List Bond → ℕ → (test : ℕ) → Key → Option Key → Option (List Bond)
 use_in xs heap bs i test first second = option_and_then (use_by xs heap bs i test first second) (slice_get bs i)
 
--- the same by the pair's number, from 1
+-- the memory model: the same by the pair's number, from 1
 abbrev pub used : List Held → (Key → Bool) → List Bond → (pair test : ℕ) → Key → Option Key → Option (List Bond)
 used xs heap bs pair test first second = if nat_le 1 pair then use_in xs heap bs (pair - 1) test first second else None

@@ -20,12 +20,15 @@ use Rattle.pv_journal.specs.declared.standing.Standing.{Standing}
 
 -- ---- under texts of names
 
+-- the memory model: an instance, by the texts of names
 abbrev pub held_under : List (List ℕ) → Held → state.Held
 held_under names h = record { id = id_under names h.key; base = h.base; size = h.size; live = h.live; exposed = h.exposed }
 
+-- the memory model: a pair, by the texts of names
 abbrev pub bond_under : List (List ℕ) → Bond → state.Bond
 bond_under names b = record { address = b.address; low = id_under names b.low; high = id_under names b.high; keeps_low = b.keeps_low; keeps_high = b.keeps_high }
 
+-- the memory model: what lines leave, by the texts of names
 abbrev pub state_under : List (List ℕ) → Standing → State
 state_under names s = record { held = map (held_under names) s.held; bonds = map (bond_under names) s.bonds; turn = s.turn; over = s.over }
 
@@ -60,26 +63,27 @@ IsSaidKnown names Fault = Unit {0}
 abbrev pub IsLineKnown : List (List ℕ) → Line → Type 0
 IsLineKnown names line = IsSaidKnown names line.what
 
--- the instance is called so
+-- the memory model: the instance is called so
 pub record IsCalled (names : List (List ℕ)) (id : Id) (key : Key) : Type 0 where
   pub same : id_under names key ≡ id
   pub known : HasText names key
 
+-- the memory model: the same of a candidate that a use may leave or not
 pub record IsCalledIf (names : List (List ℕ)) (id : Option Id) (key : Option Key) : Type 0 where
   pub same : option_map (id_under names) key ≡ id
   pub known : HaveTexts names key
 
--- a line says so
+-- the memory model: a line says so
 pub record IsNumbered (names : List (List ℕ)) (told : Fact) (what : Said) : Type 0 where
   pub same : fact_under names what ≡ told
   pub known : IsSaidKnown names what
 
--- each name in the state has a text
+-- the memory model: each name in the state has a text
 pub record IsKnown (names : List (List ℕ)) (s : Standing) : Type 0 where
   pub held : All (IsHeldKnown names) s.held
   pub bonds : All (IsBondKnown names) s.bonds
 
--- names were added; all that were there have their numbers, and no text that had one number has two
+-- 6.4.2.1p6: names were added; all that were there have their numbers, and no text that had one number has two
 pub record IsMore (old new : List (List ℕ)) : Type 0 where
   pub more : List (List ℕ)
   pub whole : new ≡ old ++ more
@@ -91,22 +95,22 @@ is_heap names key = bytes_eq (name_at names key.name) (codes "@heap")
 
 -- ---- what a line does
 
--- it passed, and this is left; or it did not pass
+-- the memory model: a line passed, and this is left; or it did not pass
 abbrev pub Leaves : List (List ℕ) → Bool → Standing → Option State → Type 0
 Leaves names true new wanted = (wanted ≡ Some (state_under names new)) × IsKnown names new
 Leaves names false new wanted = wanted ≡ None
 
--- a row passes from this state, and leaves that one, as the line with names by number; or it does not pass
+-- the memory model: a row passes from this state, and leaves that one, as the line with names by number; or it does not pass
 abbrev pub Passes : State → Row → List (List ℕ) → Standing → Option Line → Type 0
 Passes s row names new None = after s row ≡ None
 Passes s row names new (Some line) = (after s row ≡ Some (state_under names new)) × (row_under names line ≡ row) × IsLineKnown names line × IsKnown names new
 
--- the same of a text
+-- the memory model: the same of a text
 abbrev pub Takes : State → List ℕ → List (List ℕ) → Standing → Option Line → Type 0
 Takes s text names new None = taken s text ≡ None
 Takes s text names new (Some line) = (taken s text ≡ Some (row_under names line, state_under names new)) × IsLineKnown names line × IsKnown names new
 
--- these lines, or the first that is wrong; after want of memory nothing is said
+-- the memory model: these lines, or the first that is wrong; after want of memory nothing is said
 abbrev pub Judges : {A : Type 0} → List (List ℕ) → (A → List Line) → Result (List Row) ℕ → Result A JournalError → Type 0
 Judges names items wanted (Ok lines) = wanted ≡ Ok (rows_under names (items lines))
 Judges names items wanted (Err (error.Bad line)) = wanted ≡ Err line

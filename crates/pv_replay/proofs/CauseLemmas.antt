@@ -9,6 +9,7 @@ use Rattle.pv_serve.specs.Causes.{AnyRose}
 use Rattle.pv_replay.specs.Words.{Job, Write, Check, files_of, job}
 use Rattle.pv_replay.specs.Answers.{Answer, IsWritten, IsChecked, SomeOf, JobAnswer, SomeAnswer}
 use Rattle.pv_replay.specs.Causes.{Call, Table, IsAnswer, JobRose, Complete, Answered}
+use Rattle.pv_replay.specs.Obeying.{IsRunJournal, WroteJournal, WritesJournals}
 use Rattle.pv_replay.specs.Answering.{IsOwn, IsHanded, read_fault, JobServed, WasTold, WasLost, HadNoRoom}
 use Rattle.pv_replay.proofs.FileLemmas.{if_some, of_files}
 
@@ -95,8 +96,25 @@ answered_by c j e t not10 = record {
 }
 
 pub answered_by_job : (c : Call) (j : Job) → job c.words ≡ Some j → JobServed j c.held c.faults_old c.faults_new c.report c.status → Answered c
-answered_by_job c j e (WasTold a is own handed) =
+answered_by_job c j e (WasTold a is obeyed own handed) =
     answered_by c j e (told_table c j a e is own handed) (λ h. own.no_words (sym (handed.told (λ k. two_apart c.status 10 12 (omega arith) h k)).0 ∙ h))
 answered_by_job c j e (WasLost rose handed) =
     answered_by c j e (lost_table c j e rose handed) (λ h. two_apart c.status 10 11 (omega arith) h (handed.told (λ k. two_apart c.status 10 12 (omega arith) h k)).0)
 answered_by_job c j e (HadNoRoom is same) = answered_by c j e (room_table c j e is same) (λ h. two_apart c.status 10 13 (omega arith) h is)
+
+-- ---- what `write` writes
+
+job_writes : (j : Job) (held : List ℕ → Option (List ℕ)) (faults_old faults_new : List ℕ → ℕ) (report : Sunk) (status : ℕ) → JobServed j held faults_old faults_new report status
+    → WritesJournals (Some j) held report status
+job_writes (Check file) held fo fn report status served = tt
+job_writes (Write run) held fo fn report status (WasTold a is obeyed own handed) = λ zero.
+    let told = handed.told (λ twelve. two_apart status 0 12 (omega arith) zero twelve) in
+    of_files run.file run.script held (λ source script. IsRunJournal source script run.bound a.text) (λ source script. WroteJournal report source script run.bound)
+    (λ source script journal. record { text = a.text; is = journal; wrote = told.1 }) (obeyed (sym told.0 ∙ zero))
+job_writes (Write run) held fo fn report status (WasLost rose handed) = λ zero.
+    absurd (two_apart status 0 11 (omega arith) zero (handed.told (λ twelve. two_apart status 0 12 (omega arith) zero twelve)).0)
+job_writes (Write run) held fo fn report status (HadNoRoom is same) = λ zero. absurd (two_apart status 0 13 (omega arith) zero is)
+
+pub writes_journals : (o : Option Job) (j : Job) (held : List ℕ → Option (List ℕ)) (faults_old faults_new : List ℕ → ℕ) (report : Sunk) (status : ℕ) → o ≡ Some j
+    → JobServed j held faults_old faults_new report status → WritesJournals o held report status
+writes_journals o j held fo fn report status e served = subst (λ (k : Option Job). WritesJournals k held report status) (sym e) (job_writes j held fo fn report status served)

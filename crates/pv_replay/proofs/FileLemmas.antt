@@ -6,6 +6,7 @@ use Rattle.std.proofs.lemmas.List.{length-take, take_all}
 use Rattle.pv_script.specs.Outside.{Rose}
 use Rattle.pv_serve.specs.declared.words.Task.TheVariants as task
 use Rattle.pv_serve.specs.Comes.{source_limit}
+use Rattle.pv_serve.specs.Verdicts.{Verdict, Ended}
 use Rattle.pv_serve.specs.Judged.{Judged, script_limit}
 use Rattle.pv_serve.specs.Outside.{Sunk}
 use Rattle.pv_serve.specs.Answer.{OfFiles, needed, script_held}
@@ -14,7 +15,8 @@ use Rattle.pv_serve.specs.Serving.{AreRead}
 use Rattle.pv_serve.proofs.Limits.{more_decides}
 use Rattle.pv_replay.specs.Words.{RunJob, Write, Check}
 use Rattle.pv_replay.specs.Answers.{Answer, IsWritten, IsChecked, TooLong, Obeyed, Broken, SomeOf}
-use Rattle.pv_replay.specs.Answering.{TextServed, IsServed, NoRoom, JobServed, WasTold, HadNoRoom}
+use Rattle.pv_replay.specs.Obeying.{IsRunJournal}
+use Rattle.pv_replay.specs.Answering.{IsRunAnswer, TextServed, IsServed, NoRoom, JobServed, WasTold, HadNoRoom}
 
 pub if_some : (o : Option (List ℕ)) (P Q : List ℕ → Type 0) → ((x : List ℕ) → P x → Q x) → IfSome o P → IfSome o Q
 if_some None P Q f h = tt
@@ -28,22 +30,40 @@ of_files file script held P Q f h =
 
 -- ---- a source and its script
 
+all_judged : (all rest source text : List ℕ) (bound : ℕ) (v : Verdict) → source ≡ take (source_limit + 1) all → text ≡ take (script_limit + 1) rest
+    → Judged source text (task.Run bound true) None v → Judged all rest (task.Run bound true) None v
+all_judged all rest source text bound v first second is =
+    more_decides all rest (task.Run bound true) None v
+    (subst (λ (s : List ℕ). Judged s (take (script_limit + 1) rest) (task.Run bound true) None v) first
+    (subst (λ (t : List ℕ). Judged source t (task.Run bound true) None v) second is))
+
 all_written : (all rest source text : List ℕ) (bound : ℕ) (a : Answer) → source ≡ take (source_limit + 1) all → text ≡ take (script_limit + 1) rest → IsWritten source text bound a
     → IsWritten all rest bound a
 all_written all rest source text bound a first second is = record {
   verdict = is.verdict;
-  judged = more_decides all rest (task.Run bound true) None is.verdict
-      (subst (λ (s : List ℕ). Judged s (take (script_limit + 1) rest) (task.Run bound true) None is.verdict) first
-      (subst (λ (t : List ℕ). Judged source t (task.Run bound true) None is.verdict) second is.judged));
+  judged = all_judged all rest source text bound is.verdict first second is.judged;
   is = is.is;
 }
 
+all_journal : (all rest source text : List ℕ) (bound : ℕ) (bytes : List ℕ) → source ≡ take (source_limit + 1) all → text ≡ take (script_limit + 1) rest
+    → IsRunJournal source text bound bytes → IsRunJournal all rest bound bytes
+all_journal all rest source text bound bytes first second is = record {
+  ending = is.ending;
+  judged = all_judged all rest source text bound (Ended is.ending bound) first second is.judged;
+  told = is.told;
+  rows = is.rows;
+  obey = is.obey;
+  checked = is.checked;
+}
+
 pub write_served : (run : RunJob) (held : List ℕ → Option (List ℕ)) (source text : List ℕ) (faults_old faults_new : List ℕ → ℕ) (report : Sunk) (status : ℕ)
-    → AreRead run.file run.script held source text → TextServed (IsWritten source text run.bound) report status → JobServed (Write run) held faults_old faults_new report status
+    → AreRead run.file run.script held source text → TextServed (IsRunAnswer source text run.bound) report status → JobServed (Write run) held faults_old faults_new report status
 write_served run held source text fo fn report status read (IsServed a is own handed) =
     WasTold a (of_files run.file run.script held (λ all rest. (source ≡ take (source_limit + 1) all) × (text ≡ take (script_limit + 1) rest))
     (λ all rest. SomeOf (IsWritten all rest run.bound) (λ (b : Answer). a ≡ b))
-    (λ all rest r. record { answer = a; is = all_written all rest source text run.bound a r.0 r.1 is; holds = refl }) read) own handed
+    (λ all rest r. record { answer = a; is = all_written all rest source text run.bound a r.0 r.1 is.written; holds = refl }) read)
+    (λ zero. of_files run.file run.script held (λ all rest. (source ≡ take (source_limit + 1) all) × (text ≡ take (script_limit + 1) rest))
+    (λ all rest. IsRunJournal all rest run.bound a.text) (λ all rest r. all_journal all rest source text run.bound a.text r.0 r.1 (is.journal zero)) read) own handed
 write_served run held source text fo fn report status read (NoRoom is none) = HadNoRoom is none
 
 -- ---- a journal
@@ -68,5 +88,5 @@ pub check_served : (file : List ℕ) (held : List ℕ → Option (List ℕ)) (by
     → IfSome (held file) (λ all. bytes ≡ take (16777216 + 1) all) → TextServed (IsChecked bytes) report status → JobServed (Check file) held faults_old faults_new report status
 check_served file held bytes fo fn report status read (IsServed a is own handed) =
     WasTold a (if_some (held file) (λ all. bytes ≡ take (16777216 + 1) all) (λ all. SomeOf (IsChecked all) (λ (b : Answer). a ≡ b))
-    (λ all r. record { answer = a; is = all_checked all bytes a r is; holds = refl }) read) own handed
+    (λ all r. record { answer = a; is = all_checked all bytes a r is; holds = refl }) read) tt own handed
 check_served file held bytes fo fn report status read (NoRoom is none) = HadNoRoom is none

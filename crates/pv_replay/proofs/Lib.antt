@@ -1,4 +1,5 @@
 pub mod JournalLemmas
+pub mod ObeyLemmas
 pub mod RunLemmas
 pub mod FileLemmas
 pub mod CheckLemmas

@@ -7,9 +7,10 @@ ghost use Rattle.pv_serve.specs.Jobs.{IsBound};
 ghost use Rattle.pv_serve.specs.Words.{texts};
 ghost use Rattle.pv_serve.specs.Outside.{sunk};
 ghost use Rattle.pv_replay.specs.Words.{job, run_job, Write, Check};
-ghost use Rattle.pv_replay.specs.Answers.{SomeAnswer, IsWritten, IsChecked};
+ghost use Rattle.pv_replay.specs.Answers.{SomeAnswer, IsChecked};
 ghost use Rattle.pv_replay.specs.Causes.{Call, Answered, IsAnswer};
-ghost use Rattle.pv_replay.specs.Answering.{JobServed, TextServed, IsHanded, IsOwn, read_fault, reply_view};
+ghost use Rattle.pv_replay.specs.Obeying.{WritesJournals};
+ghost use Rattle.pv_replay.specs.Answering.{JobServed, TextServed, IsRunAnswer, IsHanded, IsOwn, read_fault, reply_view};
 
 use crate::checking::{JOURNAL_LIMIT, checked};
 use crate::reply::Reply;
@@ -25,6 +26,8 @@ use std::alloc::Global;
 /// The words are those behind the program's name: `write FILE` writes the journal of the run of the source in that file, `check FILE` tells
 /// whether that file holds a journal that obeys the memory model, or its first line that is wrong. The report is made whole before its first
 /// byte goes out.
+///
+/// What is written of a run obeys: `check` accepts it, unless it has more bytes than a journal that is checked may have.
 ///
 /// The hall has one watcher, which keeps a journal, has seen nothing, and wants 65536 events; it is told of a run, if there is one.
 ///
@@ -55,6 +58,9 @@ pub fn replay<F: Files, R: Sink>(
       report = sunk R.written R.faults report.old report.new;
       status = result;
     } in Answered call }
+
+    // What `write` writes of a run `check` accepts.
+    ensures accepted { WritesJournals (job (texts words.now)) (F.held files.old) (sunk R.written R.faults report.old report.new) result }
     ensures files_same { (n : List ℕ) → F.held files.new n ≡ F.held files.old n }
 
     // Where the words are no job, no file is read.
@@ -98,7 +104,7 @@ fn write_text<R: Sink>(
 ) -> u8
     requires bound { IsBound turns }
     requires hall { hall_slots hall.old its_kind its_wants seen ≡ Present 4 65536 [] ∷ [] }
-    ensures { TextServed (IsWritten text.now.source.items text.now.script.items turns)
+    ensures { TextServed (IsRunAnswer text.now.source.items text.now.script.items turns)
         (sunk R.written R.faults report.old report.new) result }
 {
     match journal_of(alloc, text, turns, hall) {

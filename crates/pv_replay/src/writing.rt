@@ -4,8 +4,7 @@ ghost use Rattle.pv_watch.specs.Slots.{Present};
 ghost use Rattle.pv_exec.specs.Answering.{hall_slots};
 ghost use Rattle.pv_serve.specs.Jobs.{IsBound};
 ghost use Rattle.pv_serve.specs.Settling.{line_of, status_by};
-ghost use Rattle.pv_replay.specs.Answers.{IsWritten};
-ghost use Rattle.pv_replay.specs.Answering.{reply_view, IsOwn};
+ghost use Rattle.pv_replay.specs.Answering.{reply_view, IsOwn, IsRunAnswer};
 
 use crate::error::NoMemory;
 use crate::nowhere::Nowhere;
@@ -17,8 +16,8 @@ use std::alloc::Global;
 // The status of a journal that is written, however its run ended.
 const WRITTEN: u8 = 0;
 
-/// Runs a source with its script before the watcher in the hall, with at most so many turns: its journal, or the line of the refusal. What
-/// the run prints is dropped. The only error is want of memory.
+/// Runs a source with its script before the watcher in the hall, with at most so many turns: its journal, of lines that obey, or the line of
+/// the refusal. What the run prints is dropped. The only error is want of memory.
 pub fn journal_of(
     alloc: Global,
     text: &JobText,
@@ -27,7 +26,7 @@ pub fn journal_of(
 ) -> Result<Reply, NoMemory>
     requires bound { IsBound turns }
     requires hall { hall_slots hall.old its_kind its_wants seen ≡ Present 4 65536 [] ∷ [] }
-    ensures written { IfOk result (λ a. IsWritten text.now.source.items text.now.script.items turns (reply_view a)) }
+    ensures written { IfOk result (λ a. IsRunAnswer text.now.source.items text.now.script.items turns (reply_view a)) }
     ensures own { IfOk result (λ a. IsOwn a.status) }
 {
     let source = text.source.as_slice();

@@ -49,6 +49,7 @@ ran_outcome source script u lines bound zap sides out hall ran names p h = recor
   job = to_run source script u lines p;
   run = run_of (setting_of u bound sides zap) lines;
   runs = is_run u lines bound zap sides;
+  fit = p.fit;
   holds = h;
 }
 
@@ -58,6 +59,7 @@ left_run source script u lines bound zap sides out hall e p h = record {
   job = to_run source script u lines p;
   run = run_of (setting_of u bound sides zap) lines;
   runs = is_run u lines bound zap sides;
+  fit = p.fit;
   holds = h;
 }
 
@@ -86,6 +88,7 @@ settled_again source script u lines bound zap out hall ran names p is alike = λ
   job = to_run source script u lines p;
   run = run_at u None zap lines bound;
   runs = is_run u lines bound zap None;
+  fit = p.fit;
   holds = record {
     ended = is.ended;
     gains = is.gains;
@@ -93,6 +96,7 @@ settled_again source script u lines bound zap out hall ran names p is alike = λ
       job = to_run source script u lines p;
       run = run_at u (Some (map is_high ran.sides)) zap lines bound;
       runs = is_run u lines bound zap (Some (map is_high ran.sides));
+      fit = p.fit;
       holds = alike decided;
     };
   };
@@ -104,6 +108,7 @@ undefined_by source script u lines bound zap ran p all = λ undefined sides many
   job = to_run source script u lines p;
   run = run_at u (Some sides) zap lines bound;
   runs = is_run u lines bound zap (Some sides);
+  fit = p.fit;
   holds = all undefined sides many;
 }
 

@@ -58,7 +58,7 @@ abbrev pub shown_by : Res Worth → Shown
 shown_by run = record { output = (end_of run).output; events = map event_of (end_of run).events }
 
 -- the run of these tables is one of the unit that they stand for
-pub is_run : (u : Stored) (lines : List ScriptLine) (bound : ℕ) (zap : Bool) (sides : Option (List Bool)) → IsRunBy (whole u) lines bound zap sides (run_of (setting_of u bound sides zap) lines)
+abbrev pub is_run : (u : Stored) (lines : List ScriptLine) (bound : ℕ) (zap : Bool) (sides : Option (List Bool)) → IsRunBy (whole u) lines bound zap sides (run_of (setting_of u bound sides zap) lines)
 is_run u lines bound zap sides = record { tables = u; stands = refl; is = refl }
 
 run_ends : (unit : WholeUnit) (lines : List ScriptLine) (bound : ℕ) (zap : Bool) (sides : Option (List Bool)) (run : Res Worth) (ran : Ran) (names : List (List ℕ))

@@ -9,6 +9,7 @@ use Rattle.pv_typed.specs.Tables.{Stored, whole}
 use Rattle.pv_typed.specs.Formed.{AreKnown}
 use Rattle.pv_typed.specs.Mains.{main_of}
 use Rattle.pv_describe.specs.Describing.{AreSmall}
+use Rattle.pv_exec.specs.Laying.{HasNoEmptyTag}
 use Rattle.pv_unit.specs.declared.checking.CheckError.{CheckError}
 use Rattle.pv_unit.specs.declared.checking.CheckError.TheVariants as typing
 use Rattle.pv_serve.specs.declared.checking.Refused.TheVariants as refused
@@ -48,11 +49,13 @@ abbrev pub reading_of : Result Stored declared.Refused → Reading
 reading_of (Ok unit) = Program (whole unit)
 reading_of (Err why) = Bad (refusal_of why)
 
--- 6.9: tables that can be run and described: what they name is there, `main` is defined (5.1.2.2.1), and no type is too large (5.2.4.1)
+-- 6.9: tables that can be run and described: what they name is there, `main` is defined (5.1.2.2.1), no type is too large (5.2.4.1), and each structure
+-- and union has a byte (6.7.2.1p8)
 pub record IsFit (unit : Stored) : Type 0 where
   pub known : AreKnown unit
   pub main : IsTrue (is_some (main_of (whole unit)))
   pub small : AreSmall unit.known
+  pub filled : HasNoEmptyTag unit
 
 -- 6.9: tables that the code answers are such
 abbrev pub IsReady : Result Stored declared.Refused → Type 0

@@ -17,7 +17,7 @@ use Rattle.pv_exec.specs.Stages.{stage_of}
 use Rattle.pv_exec.specs.Words.{FitsWords}
 use Rattle.pv_serve.specs.declared.judging.Judged as declared
 use Rattle.pv_serve.specs.declared.judging.Judged.TheVariants as judged
-use Rattle.pv_serve.specs.Readings.{refusal_of}
+use Rattle.pv_serve.specs.Readings.{refusal_of, IsFit}
 use Rattle.pv_serve.specs.Judged.{IsToRun, IsRunBy}
 use Rattle.pv_serve.specs.Report.{outcome_line, refusal_line, script_line, outcome_status}
 use Rattle.pv_serve.specs.Outside.{Sunk, Wrote, WrotePrefix, Halls}
@@ -25,11 +25,12 @@ use Rattle.pv_serve.specs.Judging.{LeftPart}
 use Rattle.pv_serve.specs.Loading.{IsSourceRefused, IsScriptRefused}
 
 -- 5.1.2.3: the source is run, with so many turns at most, with a pointer to what has ended indeterminate (6.2.4p2) or not, and with these sides, if
--- there are any (the memory model), and of its run, with the names of its unit (6.4.2.1), P holds
+-- there are any (the memory model), by tables that are fit to be run (6.9), and of its run, with the names of its unit (6.4.2.1), P holds
 pub record SomeRunBy (source script : List ℕ) (bound : ℕ) (zap : Bool) (sides : Option (List Bool)) (P : Res Worth → List (List ℕ) → Type 0) : Type 0 where
   pub job : IsToRun source script
   pub run : Res Worth
   pub runs : IsRunBy job.unit job.lines bound zap sides run
+  pub fit : IsFit runs.tables
   pub holds : P run job.unit.names
 
 -- 5.1.2.3p6: what is told of a run, in a unit with these names: how it ended (5.1.2.2.3p1), at which turn, and to which side each of its pairs was

@@ -1,9 +1,9 @@
-use Rattle.pv_replay.proofs.RunLemmas.{ran_written, source_told, script_told}
+use Rattle.pv_replay.proofs.RunLemmas.{ran_answer, source_told, script_told}
 use Rattle.pv_replay.proofs.writing.journal_of.Goals as goal
 
 pub returns-in-Ran-clause-written : goal.returns-in-Ran-clause-written
 returns-in-Ran-clause-written g c =
-    ran_written c.args.text.now.source.items c.args.text.now.script.items _ _ _ _ _ _ _ c.requires.hall c.in-Ran.is
+    ran_answer c.args.text.now.source.items c.args.text.now.script.items _ _ _ _ _ _ _ c.requires.hall c.in-Ran.is
     (rw c.as_slice-script.ensures.value at (rw c.as_slice-source.ensures.value at c.in-Ok.ensures.judged)) c.in_ok-texts-in-Ran.ensures
 
 pub returns-in-Source-clause-written : goal.returns-in-Source-clause-written

@@ -10,7 +10,7 @@ pub returns-in-Ok-clause-parts : goal.returns-in-Ok-clause-parts
 returns-in-Ok-clause-parts c = λ source lexed. tt
 
 pub returns-in-Ok-clause-ready : goal.returns-in-Ok-clause-ready
-returns-in-Ok-clause-ready c = record { known = c.in-Ok.ensures.known; main = c.in-Ok.ensures.main; small = c.in-Ok.ensures.small }
+returns-in-Ok-clause-ready c = record { known = c.in-Ok.ensures.known; main = c.in-Ok.ensures.main; small = c.in-Ok.ensures.small; filled = c.in-Ok.ensures.filled }
 
 pub name_of-requires : goal.name_of-requires
 name_of-requires c = c.in-Err.ensures.named
