@@ -1,0 +1,9 @@
+mod Examples
+pub mod Lists
+pub mod Places
+pub mod Recording
+pub mod Walks
+pub mod Parting
+pub mod Turns
+pub mod WordSteps
+pub mod LineSteps

@@ -1,0 +1,7 @@
+use Rattle.std.proofs.Common.{leb, rules}
+use Rattle.std.proofs.lemmas.List.Sorted.{IsPartitionPoint-from_clause, IsPartitionedBy-leb}
+use Rattle.pv_shown.proofs.moving.above.Goals as goal
+
+pub returns-clause-point : goal.returns-clause-point
+returns-clause-point c =
+    IsPartitionPoint-from_clause (λ l. leb l.turn c.args.n) _ _ c.partition_point.ensures.partitioned (IsPartitionedBy-leb (λ l. l.turn) _ c.args.n c.requires) (λ a r q k. search rules)

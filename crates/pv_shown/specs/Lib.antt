@@ -1,0 +1,4 @@
+pub mod Commands
+pub mod Shown
+pub mod Views
+pub mod Recorded

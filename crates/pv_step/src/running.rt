@@ -1,0 +1,159 @@
+//! What commands show of a source's run.
+ghost use Rattle.std.specs.Prelude.{◌≡◌, ◌<◌, ◌∷◌, ◌^◌, [], length, List, IfOk, OnOk};
+ghost use Rattle.pv_watch.specs.Slots.{Present};
+ghost use Rattle.pv_exec.specs.Answering.{hall_slots};
+ghost use Rattle.pv_serve.specs.Settling.{line_of, status_by};
+ghost use Rattle.pv_journal.specs.Journals.{Row};
+ghost use Rattle.pv_journal.specs.Obeying.{IsJournal};
+ghost use Rattle.pv_shown.specs.Shown.{report_of};
+ghost use Rattle.pv_step.specs.Answers as specified;
+ghost use Rattle.pv_step.specs.Answers.{IsStepped, IsLookedAt, run_of, refused_by};
+ghost use Rattle.pv_step.specs.Answering.{reply_view, IsOwn};
+
+use crate::error::NoMemory;
+use crate::nowhere::Nowhere;
+use crate::reading::StepText;
+use crate::reply::Reply;
+use pv_exec::{Outcome, Ran};
+use pv_journal::check;
+use pv_script::Names;
+use pv_serve::{Judged, judge, line, status};
+use pv_shown::{Command, CommandError, commands, refusal, report};
+use pv_watch::{Hall, Watch};
+use std::alloc::Global;
+
+// As many turns as there are positions.
+const TURNS: u64 = 1_000_000;
+
+// The status of a run that is shown, however it ended.
+const SHOWN: u8 = 0;
+
+// The status of commands that have no reading.
+const REFUSED: u8 = 19;
+
+/// The answer to a source with its script and a file of commands. The only error is want of memory.
+pub fn answer(alloc: Global, text: &StepText, hall: &mut Hall) -> Result<Reply, NoMemory>
+    requires { hall_slots hall.old its_kind its_wants seen ≡ Present 4 18446744073709551615 [] ∷ [] }
+    ensures stepped { IfOk result (λ a. IsStepped text.now.source.items text.now.script.items text.now.commands.items (reply_view a)) }
+    ensures own { IfOk result (λ a. IsOwn a.status) }
+{
+    match commands(alloc, text.commands.as_slice()) {
+        Ok(commands) => look(alloc, text, commands.as_slice(), hall),
+        Err(error) => refuse(alloc, error),
+    }
+}
+
+// What is told of commands that have no reading; want of memory is no reason for that.
+fn refuse(alloc: Global, error: CommandError) -> Result<Reply, NoMemory>
+    ensures told { IfOk result (λ a. reply_view a ≡ refused_by error) }
+    ensures memory { error ≡ CommandError.NoMemory → OnOk result ⊥ }
+    ensures own { IfOk result (λ a. a.status ≡ 19) }
+{
+    match error {
+        CommandError::NoMemory => Err(NoMemory),
+        _ => refuse_by(alloc, error),
+    }
+}
+
+fn refuse_by(alloc: Global, error: CommandError) -> Result<Reply, NoMemory>
+    ensures told { IfOk result (λ a. reply_view a ≡ refused_by error) }
+    ensures own { IfOk result (λ a. a.status ≡ 19) }
+{
+    let text = refusal(alloc, error)?;
+    Ok(Reply {
+        status: REFUSED,
+        text,
+    })
+}
+
+// Runs a source with its script before the watcher in the hall, and shows what commands ask for. What the run prints is dropped.
+fn look(
+    alloc: Global,
+    text: &StepText,
+    commands: &[Command],
+    hall: &mut Hall,
+) -> Result<Reply, NoMemory>
+    requires { hall_slots hall.old its_kind its_wants seen ≡ Present 4 18446744073709551615 [] ∷ [] }
+    ensures looked { IfOk result (λ a. IsLookedAt text.now.source.items text.now.script.items commands.now (reply_view a)) }
+    ensures own { IfOk result (λ a. IsOwn a.status) }
+{
+    let source = text.source.as_slice();
+    let script = text.script.as_slice();
+    let mut output = Nowhere;
+    let Ok(judged) = judge(alloc, source, script, TURNS, true, None, &mut output, hall) else {
+        return Err(NoMemory);
+    };
+    let told = line(alloc, &judged, TURNS)?;
+    match &judged {
+        Judged::Ran { ran, names } => {
+            let text = hall.texts(names)?;
+            let journal = text.as_slice();
+            is_text(journal);
+            let line = told.as_slice();
+            show(alloc, ran, journal, line, commands)
+        }
+        Judged::Source(_) => Ok(Reply {
+            status: status(&judged),
+            text: told,
+        }),
+        Judged::Script(_) => Ok(Reply {
+            status: status(&judged),
+            text: told,
+        }),
+    }
+}
+
+// The length of a text is a number of the machine. Nothing is done here.
+fn is_text(bytes: &[u8])
+    ensures { length bytes.now < 2 ^ 64 }
+{
+    let _ = bytes.iter();
+}
+
+// Shows what commands ask for of a run that ended so, by its journal and its line. What a run tells of its memory obeys the memory model, so its
+// journal has no line that is wrong.
+fn show(
+    alloc: Global,
+    ran: &Ran,
+    journal: &[u8],
+    line: &[u8],
+    commands: &[Command],
+) -> Result<Reply, NoMemory>
+    ensures shown { IfOk result (λ a. (rows : List Row) × IsJournal rows journal.now × (reply_view a
+        ≡ record { status = 0; text = report_of (run_of ran.now.turns ran.now.outcome line.now rows) commands.now })) }
+    ensures own { IfOk result (λ a. a.status ≡ 0) }
+{
+    let mut names = Names::new(alloc);
+    let Ok(lines) = check(alloc, journal, &mut names) else {
+        return Err(NoMemory);
+    };
+    let ran = pv_shown::Ran {
+        names: &names,
+        lines: lines.as_slice(),
+        taken: ran.turns,
+        by_turns: is_turns(ran.outcome),
+        line,
+    };
+    let text = report(alloc, ran, commands)?;
+    Ok(Reply {
+        status: SHOWN,
+        text,
+    })
+}
+
+// Whether a run ended because one more turn was due.
+fn is_turns(outcome: Outcome) -> bool
+    ensures { result ≡ specified.is_turns outcome }
+{
+    match outcome {
+        Outcome::Exit { .. } => false,
+        Outcome::Undefined { .. } => false,
+        Outcome::Indeterminate { .. } => false,
+        Outcome::Undecided { .. } => false,
+        Outcome::Placement { .. } => false,
+        Outcome::Storage { .. } => false,
+        Outcome::Turns => true,
+        Outcome::Abort { .. } => false,
+        Outcome::SidesEnded { .. } => false,
+    }
+}
