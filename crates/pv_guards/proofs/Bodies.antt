@@ -1,0 +1,202 @@
+-- Calls of a unit's functions, and what lies below at every level, with the guards and without (C17 6.5.2.2, 6.8.5, 6.9.1).
+use Rattle.std.proofs.Common.{◌≡◌, ℕ, zero, suc, Bool, true, false, List, [], ◌∷◌, ◌++◌, Some, None, refl, sym, ap, ◌∙◌, subst, inl, inr}
+use Rattle.std.specs.Prelude.{pos, if◌then◌else◌, unwrap_or}
+use Rattle.std.specs.declared.option.Option.{Option}
+use Rattle.std.specs.FinMap as map
+use Rattle.pv_num.specs.declared.kinds.IntKind.TheVariants.{Int}
+use Rattle.pv_types.specs.Ty.{Ty, Tys, NoTys, MoreTys, VoidTy, IntTy, PointerTo, ArrayOf, StructTag, UnionTag, FunctionTy, ConstOf}
+use Rattle.pv_layout.specs.Places.{bare}
+use Rattle.pv_prov.specs.declared.names.Prov.TheVariants.{Inst}
+use Rattle.pv_inst.specs.Table.{Table, IsNumber}
+use Rattle.pv_typed.specs.TypedStatement.{TypedStatement}
+use Rattle.pv_typed.specs.TypedUnits.{TypedFunction, layouts, object_at, function_at}
+use Rattle.pv_world.specs.Worlds.{Worth, Nothing, Missing, World, Bindings}
+use Rattle.pv_world.specs.Worths.{int}
+use Rattle.pv_world.specs.Objects.{instance_of, without_first}
+use Rattle.pv_eval.specs.States.{Setting, State, Res, Gives, Stops}
+use Rattle.pv_eval.specs.TypeForms.{lvalue, gives_none}
+use Rattle.pv_eval.specs.Acting.{sided}
+use Rattle.pv_eval.specs.Operations.{Makes, BeginsBody, EndsBody, Puts, works, act}
+use Rattle.pv_exec.specs.Flows.{Flow, Falls, Breaks, Continues, Returns, Below, end_all}
+use Rattle.pv_exec.specs.Execution.{ex}
+use Rattle.pv_exec.specs.Calls.{take_params, is_main, value_at_end, value_by, runs_body, call_body, below}
+use Rattle.pv_guards.specs.Worths.{IsOfType}
+use Rattle.pv_guards.specs.Typed.{IsIn, AreLike, AreAllLike, IsSignature}
+use Rattle.pv_guards.specs.Soundness.{Value, AreValues, IsSound, IsAfter}
+use Rattle.pv_guards.specs.Plain.{act_plainly}
+use Rattle.pv_guards.specs.PlainExecution as plain
+use Rattle.pv_guards.specs.TypedStatements.{AreParameters, IsResult, IsDefinition, IsTypedFunction, IsTypedUnit}
+use Rattle.pv_guards.specs.Laws.{GivesSound, CallsAgree}
+use Rattle.pv_guards.proofs.Numbers.{zero_fits}
+use Rattle.pv_guards.proofs.Fair.{Keeps}
+use Rattle.pv_guards.proofs.Results.{Answering}
+use Rattle.pv_guards.proofs.Leaving.{after-both, instance-same, value-later}
+use Rattle.pv_guards.proofs.Acting.{sides-keep}
+use Rattle.pv_guards.proofs.Sure.{Lands, Sure, sure-seq, sure-more, sure-tick, acted-lands}
+use Rattle.pv_guards.proofs.Objects.{Within, puts-holds, makes-sure, within-sided}
+use Rattle.pv_guards.proofs.Statements.{from-bare, to-bare, none-nothing, value-missing, moved-in, before-in, FlowOf, flow-later, EndsIn, Level, piece, end-sure, inv-less, ex-sure, round-sure, round_do-sure}
+
+signature-of : (x t : Ty) (ts : Tys) → IsSignature x t ts → (r : Ty) × (us : Tys) × (x ≡ FunctionTy r us false) × AreLike r t × AreAllLike ts us
+signature-of (FunctionTy r us false) t ts h = (r, us, refl, h.0, h.1)
+signature-of (FunctionTy r us true) t ts h = absurd h
+signature-of VoidTy t ts h = absurd h
+signature-of (IntTy k) t ts h = absurd h
+signature-of (PointerTo a) t ts h = absurd h
+signature-of (ArrayOf a n) t ts h = absurd h
+signature-of (StructTag n) t ts h = absurd h
+signature-of (UnionTag n) t ts h = absurd h
+signature-of (ConstOf a) t ts h = absurd h
+
+values-like : (b : Setting) (w : World) (ts us : Tys) (vs : List Worth) → AreAllLike ts us → AreValues b w ts vs → AreValues b w us vs
+values-like b w NoTys NoTys vs h g = g
+values-like b w NoTys (MoreTys u us) vs h g = absurd h
+values-like b w (MoreTys t ts) NoTys vs h g = absurd h
+values-like b w (MoreTys t ts) (MoreTys u us) [] h g = absurd g
+values-like b w (MoreTys t ts) (MoreTys u us) (v ∷ vs) h g =
+    ((to-bare (layouts b.unit) u v ((h.0 (layouts b.unit) v).0 (from-bare (layouts b.unit) t v g.0.0)), g.0.1), g.1, values-like b w ts us vs h.1 g.2)
+
+-- 6.9.1p10: the parameters of a call whose arguments had their values in an earlier world
+module _ (b : Setting) (rest : List Bindings) (w0 : World) where
+  put-sure : (os : List ℕ) (line o : ℕ) (v : Worth) (t : Ty) (s : State) → Value b w0 t v → Within b os rest w0 s.world → Sure (λ x z. Within b os rest w0 z) (act b line (Puts o 0 (lvalue b (object_at b.unit o).t) v) s) (act_plainly b line (Puts o 0 (lvalue b (object_at b.unit o).t) v) s)
+  put-sure os line o v t s g i =
+      let l = lvalue b (object_at b.unit o).t in
+      sure-more _ (λ x z. Within b os rest w0 z) (act b line (Puts o 0 l v) s) (act_plainly b line (Puts o 0 l v) s) (λ x z p. p.1)
+      (piece b rest w0 os (λ x z. Unit {0}) (act b line (Puts o 0 l v)) (act_plainly b line (Puts o 0 l v)) s i
+      (puts-holds b os line o 0 l v s.world (λ z a. value-later w0.memory.table z.memory.table (λ p h. a.made p (i.later.made p h)) v g.1)))
+
+  params-sure : (line : ℕ) (os ps : List ℕ) (ts : Tys) (vs : List Worth) → AreParameters b.unit ps ts → AreValues b w0 ts vs → (s : State) → Within b os rest w0 s.world
+      → Sure (λ x z. Within b (ps ++ os) rest w0 z) (take_params b line ps vs s) (plain.take_params b line ps vs s)
+  params-sure line os [] NoTys vs h g s i = (refl, i)
+  params-sure line os [] (MoreTys t ts) vs h g s i = absurd h
+  params-sure line os (o ∷ ps) NoTys vs h g s i = absurd h
+  params-sure line os (o ∷ ps) (MoreTys t ts) [] h g s i = absurd g
+  params-sure line os (o ∷ ps) (MoreTys t ts) (v ∷ vs) h g s i =
+      sure-seq (λ x z. Within b (o ∷ os) rest w0 z) (λ x z. Within b (o ∷ ps ++ os) rest w0 z) (act b line (Makes o) s) (act_plainly b line (Makes o) s) _ _ (makes-sure b os rest w0 line o s h.0 i) (λ x y k.
+      sure-seq (λ x z. Within b (o ∷ os) rest w0 z) (λ x z. Within b (o ∷ ps ++ os) rest w0 z) (act b line (Puts o 0 (lvalue b (object_at b.unit o).t) v) y) (act_plainly b line (Puts o 0 (lvalue b (object_at b.unit o).t) v) y) _ _ (put-sure (o ∷ os) line o v (bare t) y g.0 k) (λ x z q.
+      sure-more (λ x z. Within b (ps ++ o ∷ os) rest w0 z) (λ x z. Within b (o ∷ ps ++ os) rest w0 z) (take_params b line ps vs z) (plain.take_params b line ps vs z)
+      (λ x y n. inv-less b rest w0 (o ∷ ps ++ os) (ps ++ o ∷ os) y (moved-in o ps os) n) (params-sure line (o ∷ os) ps ts vs h.1 g.2 z q)))
+
+-- 6.9.1: a body begins and ends
+module _ (b : Setting) (os : List ℕ) (w : World) (s : IsSound b os w) where
+  static-there : (z : World) → z.statics ≡ w.statics → z.memory ≡ w.memory → (o : ℕ) (c : Bool) → (object_at b.unit o).lasting ≡ c → IsIn o (if c then b.unit.statics else []) → IsNumber z.memory.table.instances (instance_of z o c)
+  static-there z es em o true t g =
+      let N : Table → ℕ → Type 0 = λ T i. IsNumber T.instances i in
+      let old : IsNumber w.memory.table.instances (instance_of w o true) = subst (λ c. IsNumber w.memory.table.instances (instance_of w o c)) t (s.objects o (subst (λ c. IsIn o (if c then b.unit.statics else os)) (sym t) g)) in
+      subst (λ M. N M.table (unwrap_or (map.get z.statics o) 0)) (sym em) (subst (λ m. IsNumber w.memory.table.instances (unwrap_or (map.get m o) 0)) (sym es) old)
+  static-there z es em o false t g = absurd g
+
+  body-begins : Within b [] w.bodies w (record w { bodies = map.empty ∷ w.bodies })
+  body-begins = record {
+    later = record { made = λ p h. h; statics = refl; literals = refl; functions = refl };
+    sound = record {
+      laid = s.laid;
+      bytes = s.bytes;
+      objects = λ o g. static-there (record w { bodies = map.empty ∷ w.bodies }) refl refl o (object_at b.unit o).lasting refl g;
+      literals = s.literals;
+      functions = s.functions;
+    };
+    body = (map.empty, refl);
+  }
+
+  -- behind the call the caller's objects are in scope again
+  abbrev Back : World → Worth → World → Type 0
+  Back t v z = IsAfter w z × IsSound b os z × Keeps t.memory.table z.memory.table
+
+  body-ends : (ps : List ℕ) (t : World) → Within b ps w.bodies w t → Back t Nothing (record t { bodies = without_first t.bodies })
+  body-ends ps t h =
+      let z : World = record t { bodies = without_first t.bodies } in
+      let a : IsAfter w z = record { made = h.later.made; statics = h.later.statics; literals = h.later.literals; functions = h.later.functions; bodies = ap without_first h.body.1 } in
+      let N : ℕ → Type 0 = λ i. IsNumber z.memory.table.instances i in
+      let sound : IsSound b os z = record {
+        laid = h.sound.laid;
+        bytes = h.sound.bytes;
+        objects = λ o g. subst N (sym (instance-same w z a o (object_at b.unit o).lasting)) (h.later.made (Inst (instance_of w o (object_at b.unit o).lasting)) (s.objects o g));
+        literals = h.sound.literals;
+        functions = h.sound.functions;
+      } in
+      (a, sound, λ p k. k)
+
+  back-sided : (t : World) (v : Worth) (z : World) (k : ℕ) (high : Bool) → Back t v z → Back t v (sided z k high)
+  back-sided t v z k high h = let g = sides-keep b os z k high h.1 in (after-both h.0 g.0, g.1, λ p q. g.0.made p (h.2 p q))
+
+  ends-sure : (ps : List ℕ) (line : ℕ) (t : State) → Within b ps w.bodies w t.world → Sure (Back t.world) (act b line EndsBody t) (act_plainly b line EndsBody t)
+  ends-sure ps line t h = (refl, acted-lands b (Back t.world) (back-sided t.world) line (works b EndsBody t.world) t (body-ends ps t.world h))
+
+  begins-sure : (line : ℕ) (t : State) → t.world ≡ w → Sure (λ v z. Within b [] w.bodies w z) (act b line BeginsBody t) (act_plainly b line BeginsBody t)
+  begins-sure line t e =
+      (refl, acted-lands b (λ v z. Within b [] w.bodies w z) (within-sided b [] w.bodies w) line (works b BeginsBody t.world) t (subst (λ x. Answering (λ v z. Within b [] w.bodies w z) (works b BeginsBody x)) (sym e) body-begins))
+
+module _ (b : Setting) (unit : IsTypedUnit b.unit) where
+  -- 6.9.1p12: what there is where the `}` is reached
+  end-value : (x : TypedFunction) (r : Ty) (us : Tys) → IsTypedFunction b.unit x r us → x.t ≡ FunctionTy r us false → (z : World) → Value b z r (value_at_end b x)
+  end-value x r us f e z = by (is_main b.unit x) refl (gives_none x.t) refl
+    where
+      by : (c : Bool) → is_main b.unit x ≡ c → (d : Bool) → gives_none x.t ≡ d → Value b z r (if c then int (pos 0) else (if d then Nothing else Missing))
+      by true p d q = (from-bare (layouts b.unit) r (int (pos 0)) (subst (λ t. IsOfType (layouts b.unit) t (int (pos 0))) (sym (f.main p)) (zero_fits Int)), tt)
+      by false p true q = (none-nothing (layouts b.unit) r (sym (ap gives_none e) ∙ q), tt)
+      by false p false q = missing f.result
+        where
+          missing : IsResult r → Value b z r Missing
+          missing (inl n) = let k : true ≡ false = sym n ∙ (sym (ap gives_none e) ∙ q) in absurd cc
+          missing (inr v) = (from-bare (layouts b.unit) r Missing (value-missing (layouts b.unit) (bare r) v), tt)
+
+  flow-value : (x : TypedFunction) (r : Ty) (us : Tys) → IsTypedFunction b.unit x r us → x.t ≡ FunctionTy r us false → (fl : Flow) (z : World) → FlowOf b r fl z → Value b z r (value_by b x fl)
+  flow-value x r us f e (Returns v) z h = h
+  flow-value x r us f e Falls z h = end-value x r us f e z
+  flow-value x r us f e Breaks z h = end-value x r us f e z
+  flow-value x r us f e Continues z h = end-value x r us f e z
+
+  module _ (u u' : Below) (level : Level b u u') where
+    -- 6.9.1p10, p11: the parameters, and then the body
+    taken-sure : (rest : List Bindings) (w0 : World) (r : Ty) (us : Tys) (ps : List ℕ) (x : Option TypedStatement) → IsDefinition b.unit r us ps x → (line : ℕ) (vs : List Worth) → AreValues b w0 us vs → (s : State) → Within b [] rest w0 s.world
+        → Sure (λ v z. Within b ps rest w0 z) (take_params b line ps vs s) (plain.take_params b line ps vs s)
+    taken-sure rest w0 r us ps (Some x) d line vs g s i =
+        sure-more (λ v z. Within b (ps ++ []) rest w0 z) (λ v z. Within b ps rest w0 z) (take_params b line ps vs s) (plain.take_params b line ps vs s)
+        (λ v z q. inv-less b rest w0 ps (ps ++ []) z (before-in ps) q) (params-sure b rest w0 line [] ps us vs d.0 g s i)
+    taken-sure rest w0 r us ps None d line vs g s i =
+        subst (λ os. Sure (λ v z. Within b os rest w0 z) (take_params b line os vs s) (plain.take_params b line os vs s)) (sym d) (refl, i)
+
+    runs-sure : (rest : List Bindings) (w0 : World) (r : Ty) (us : Tys) (ps : List ℕ) (x : Option TypedStatement) → IsDefinition b.unit r us ps x → (s : State) → Within b ps rest w0 s.world → Sure (EndsIn b rest w0 r ps) (runs_body b u x s) (plain.runs_body b u' x s)
+    runs-sure rest w0 r us ps None h s i = sure-tick b (EndsIn b rest w0 r ps) s (λ s. Gives Falls s) (λ s. Gives Falls s) (refl, (i, tt))
+    runs-sure rest w0 r us ps (Some x) h s i = ex-sure b rest w0 unit.characters u u' level r ps x h.1 s i
+
+    -- a call of a function with this result and these parameters
+    abbrev Called : List ℕ → Ty → World → Worth → World → Type 0
+    Called os t w v z = Value b z t v × IsSound b os z × IsAfter w z
+
+    pub call-sure : (os : List ℕ) (x : TypedFunction) (r : Ty) (us : Tys) → IsTypedFunction b.unit x r us → x.t ≡ FunctionTy r us false → (vs : List Worth) (line : ℕ) (s : State) → AreValues b s.world us vs → IsSound b os s.world → Sure (Called os r s.world) (call_body b u x vs line s) (plain.call_body b u' x vs line s)
+    call-sure os x r us f e vs line s g sound =
+        let w = s.world in
+        let rest = w.bodies in
+        let ps = x.params in
+        sure-seq (λ v z. Within b [] rest w z) (Called os r w) (act b line BeginsBody s) (act_plainly b line BeginsBody s) _ _ (begins-sure b os w sound line s refl) (λ v t i.
+        sure-seq (λ v z. Within b ps rest w z) (Called os r w) (take_params b line ps vs t) (plain.take_params b line ps vs t) _ _ (taken-sure rest w r us ps x.body f.definition line vs g t i) (λ v t i.
+        sure-seq (EndsIn b rest w r ps) (Called os r w) (runs_body b u x.body t) (plain.runs_body b u' x.body t) _ _ (runs-sure rest w r us ps x.body f.definition t i) (λ fl t i.
+        sure-seq (λ v z. Within b ps rest w z × Keeps t.world.memory.table z.memory.table) (Called os r w) (end_all b ps t) (plain.end_all b ps t) _ _ (end-sure b rest w ps ps t i.0) (λ v y k.
+        sure-seq (Back b os w sound y.world) (Called os r w) (act b line EndsBody y) (act_plainly b line EndsBody y) _ _ (ends-sure b os w sound ps line y k.0) (λ v q h.
+        (refl, (flow-value x r us f e fl q.world (flow-later b r fl y.world q.world h.2 (flow-later b r fl t.world y.world k.1 i.1)), h.1, h.0)))))))
+
+    given-sound : (os : List ℕ) (r t : Ty) (w : World) (x : Res Worth) → AreLike r t → Lands (Called os r w) x → GivesSound b os (λ v. v) t w x
+    given-sound os r t w (Gives v s) l h = (((l (layouts b.unit) v).0 h.0.0, h.0.1), h.1, h.2)
+    given-sound os r t w (Stops y s) l h = tt
+
+    calls-agree : (os : List ℕ) → CallsAgree b os (λ f vs line s. call_body b u (function_at b.unit f) vs line s) (λ f vs line s. plain.call_body b u' (function_at b.unit f) vs line s)
+    calls-agree os f line t ts vs s h g sound =
+        let x = function_at b.unit f in
+        let sg = signature-of x.t t ts h.1 in
+        let p = call-sure os x sg.0 sg.1 (unit.functions f sg.0 sg.1 h.0 sg.2) sg.2 vs line s (values-like b s.world ts sg.1 vs sg.4 g) sound in
+        (p.0, given-sound os sg.0 t s.world (call_body b u x vs line s) sg.3 p.1)
+
+  -- every level
+  pub levels : (k : ℕ) → Level b (below b k) (plain.below b k)
+  unfolding below plain.below
+  levels zero = record { call = λ os f line t ts vs s h g sound. (refl, tt); again = λ rest w0 r os c step x hc hs hx s i. (refl, tt); again_do = λ rest w0 r os x c hx hc s i. (refl, tt) }
+  levels (suc k) =
+      let l = levels k in
+      let u : Below = below b k in
+      let u' : Below = plain.below b k in
+      record {
+        call = λ os. calls-agree u u' l os;
+        again = λ rest w0 r os c step x hc hs hx s i. round-sure b rest w0 unit.characters u u' l r os c step (ex b u x) (plain.ex b u' x) (u.again c step x) (u'.again c step x) hc hs (λ s i. ex-sure b rest w0 unit.characters u u' l r os x hx s i) (λ s i. l.again rest w0 r os c step x hc hs hx s i) s i;
+        again_do = λ rest w0 r os x c hx hc s i. round_do-sure b rest w0 unit.characters u u' l r os c (ex b u x) (plain.ex b u' x) (u.again_do x c) (u'.again_do x c) hc (λ s i. ex-sure b rest w0 unit.characters u u' l r os x hx s i) (λ s i. l.again_do rest w0 r os x c hx hc s i) s i;
+      }

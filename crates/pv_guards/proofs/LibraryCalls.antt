@@ -1,0 +1,179 @@
+-- What holds of a memory and itself, and of a memory before and behind each way in which a step of a call changes it, holds of every call
+-- of the library (C17 7.21.6, 7.22.3, 7.24). Only memory management functions make and end instances (7.22.3).
+use Rattle.std.proofs.Common.{◌≡◌, ℕ, zero, suc, ◌+◌, ◌*◌, ◌<◌, ◌≤◌, ◌∷◌, ◌++◌, map, pos, negsuc, ℤ, Bool, true, false, not, cond, eqb, List, [], length, Option, Some, None, Result, Ok, Err, refl, arith}
+use Rattle.std.proofs.lemmas.Bool.Decides.{nat_tests}
+use Rattle.pv_num.specs.declared.faults.Clause.{Clause}
+use Rattle.pv_num.specs.declared.faults.Clause.TheVariants as clause
+use Rattle.pv_inst.specs.declared.values.Info.{Info}
+use Rattle.pv_inst.specs.declared.values.Test.TheVariants.{Block}
+use Rattle.pv_inst.specs.declared.values.CreateError.{CreateError}
+use Rattle.pv_inst.specs.declared.values.CreateError.TheVariants as error
+use Rattle.pv_inst.specs.Use.{use_answer}
+use Rattle.pv_object.specs.declared.values.Asker.TheVariants.{Text}
+use Rattle.pv_object.specs.Memory.{Mem}
+use Rattle.pv_object.specs.Access.{is_null}
+use Rattle.pv_object.specs.Creating.{created}
+use Rattle.pv_script.specs.declared.library.Library.{Library}
+use Rattle.pv_script.specs.declared.library.Library.TheVariants as library
+use Rattle.pv_libc.specs.declared.values.Arg.{Arg}
+use Rattle.pv_libc.specs.declared.values.Reply.{Reply}
+use Rattle.pv_libc.specs.Steps.{Now, Did, reached}
+use Rattle.pv_libc.specs.Characters.{character_at, characters_from, most, string_at}
+use Rattle.pv_libc.specs.Blocks.{plain_byte, filled, copy, memset, memcmp}
+use Rattle.std.specs.List.{repeat}
+use Rattle.std.specs.Prelude.{min}
+use Rattle.pv_num.specs.declared.kinds.IntKind.TheVariants.{UChar}
+use Rattle.pv_num.specs.Kinds.{bits_of}
+use Rattle.pv_typed.specs.Children.{Each}
+use Rattle.pv_guards.proofs.Characters.{string-small}
+use Rattle.pv_libc.specs.Strings.{strlen, compared_by, compared_from, strcmp, strcpy}
+use Rattle.pv_libc.specs.Heap.{told_of, heap_request, granted, requested, allocated, malloc, zeroed, cleared, calloc, block_by, block, freed, free, both, moved, resized, realloc}
+use Rattle.pv_libc.specs.Calls.{argument_at, number, size, called_in, called}
+use Rattle.pv_guards.proofs.LibraryWays.{Ways, IsCharacter, when-steps, Steps, next-steps, about-steps, step-if, reached-steps, at-steps, row-steps, text-steps}
+use Rattle.pv_guards.proofs.LibraryPrinting.{printf-steps}
+
+some-size : (n : ℕ) → eqb n 0 ≡ false → 1 ≤ n
+some-size n e = grind (arith, nat_tests)
+
+-- 7.24.1p3: characters
+plain-character : (v : ℕ) → v < 256 → IsCharacter (plain_byte v)
+plain-character v h = record { number = v; value = refl; small = h; nameless = refl }
+
+characters-plain : (vs : List ℕ) → Each (λ (v : ℕ). v < 256) vs → Each IsCharacter (map plain_byte vs)
+characters-plain [] h = tt
+characters-plain (v ∷ vs) h = (plain-character v h.0, characters-plain vs h.1)
+
+zero-behind : (vs : List ℕ) → Each (λ (v : ℕ). v < 256) vs → Each (λ (v : ℕ). v < 256) (vs ++ 0 ∷ [])
+zero-behind [] h = (omega arith, tt)
+zero-behind (v ∷ vs) h = (h.0, zero-behind vs h.1)
+
+repeated : (n v : ℕ) → v < 256 → Each IsCharacter (repeat n (plain_byte v ∷ []))
+repeated zero v h = tt
+repeated (suc n) v h = (plain-character v h, repeated n v h)
+
+character-bits : (c : ℤ) → bits_of UChar c < 256
+character-bits (pos a) = omega arith
+character-bits (negsuc a) = omega arith
+
+module _ {R : Mem → Mem → Type 0} (w : Ways R) where
+  filled-step : (a n v : ℕ) (M : Mem) → v < 256 → R M (filled M a n v)
+  filled-step a n v M h = w.stores M a (repeat n (plain_byte v ∷ [])) (repeated n v h)
+
+  -- blocks
+  copy-steps : (apart : Bool) (to from : _) (n : ℕ) (S : Now) → Steps w S (copy apart to from n S)
+  copy-steps apart to from n S =
+      next-steps w S (reached Text true to n S) _ (reached-steps w Text true to n S) (λ t T.
+      next-steps w T (reached Text false from n T) _ (reached-steps w Text false from n T) (λ f U. step-if w U _ _ _ w.itself (w.copies U.memory t.address f.address n)))
+
+  memset-steps : (g : _) (c : ℤ) (n : ℕ) (S : Now) → Steps w S (memset g c n S)
+  memset-steps g c n S = next-steps w S (reached Text true g n S) _ (reached-steps w Text true g n S) (λ r T. filled-step r.address n (bits_of UChar c) T.memory (character-bits c))
+
+  memcmp-steps : (p q : _) (n : ℕ) (S : Now) → Steps w S (memcmp p q n S)
+  memcmp-steps p q n S =
+      next-steps w S (reached Text false p n S) _ (reached-steps w Text false p n S) (λ l T.
+      next-steps w T (reached Text false q n T) _ (reached-steps w Text false q n T) (λ r U.
+      next-steps w U (characters_from n p l.address [] U) _ (row-steps w n p l.address [] U) (λ ls V.
+      next-steps w V (characters_from n q r.address [] V) _ (row-steps w n q r.address [] V) (λ rs W. w.itself))))
+
+  -- strings
+  strlen-steps : (g : _) (S : Now) → Steps w S (strlen g S)
+  strlen-steps g S = next-steps w S (string_at Text g S) _ (text-steps w Text g S) (λ s T. w.itself)
+
+  by-steps : (a b : ℕ) (S : Now) (rest : Did Reply) → Steps w S rest → Steps w S (compared_by a b S rest)
+  by-steps a b S rest h = step-if w S (not (eqb a b)) _ _ w.itself (step-if w S (eqb a 0) _ _ w.itself h)
+
+  compared-steps : (n : ℕ) (p q : _) (i : ℕ) (S : Now) → Steps w S (compared_from n p q i S)
+  compared-steps zero p q i S = w.itself
+  compared-steps (suc n) p q i S =
+      next-steps w S (character_at Text p i S) _ (at-steps w Text p i S) (λ a T.
+      next-steps w T (character_at Text q i T) _ (at-steps w Text q i T) (λ b U. by-steps a b U (compared_from n p q (i + 1) U) (compared-steps n p q (i + 1) U)))
+
+  strcmp-steps : (p q : _) (S : Now) → Steps w S (strcmp p q S)
+  strcmp-steps p q S = compared-steps most p q 0 S
+
+  strcpy-steps : (to from : _) (S : Now) → Steps w S (strcpy to from S)
+  strcpy-steps to from S =
+      when-steps w (Each (λ (v : ℕ). v < 256)) S (string_at Text from S) _ (text-steps w Text from S) (string-small Text from S) (λ s T q.
+      next-steps w T (reached Text true to (length s + 1) T) _ (reached-steps w Text true to (length s + 1) T) (λ t U. step-if w U _ _ _ w.itself (w.stores U.memory t.address (map plain_byte (s ++ 0 ∷ [])) (characters-plain (s ++ 0 ∷ []) (zero-behind s q)))))
+
+  -- memory management
+  granted-steps : (S : Now) (o : Result ℕ CreateError × Mem) → R S.memory o.1 → Steps w S (granted S o)
+  granted-steps S ((Ok i), N) h = h
+  granted-steps S ((Err error.Denied), N) h = h
+  granted-steps S ((Err error.NoMemory), N) h = h
+  granted-steps S ((Err (error.Storage live wanted)), N) h = h
+  granted-steps S ((Err (error.Range k a)), N) h = h
+  granted-steps S ((Err (error.Misaligned k a)), N) h = h
+  granted-steps S ((Err (error.Overlap k a with)), N) h = h
+
+  requested-by : (S : Now) (b : Bool) (d e : Did (Result ℕ Reply)) → Steps w S d → (b ≡ false → Steps w S e) → Steps w S (cond b d e)
+  requested-by S true d e h g = h
+  requested-by S false d e h g = g refl
+
+  requested-steps : (n : ℕ) (S : Now) → Steps w S (requested n S)
+  requested-steps n S =
+      requested-by S (eqb n 0) _ (granted S (created S.memory (heap_request n))) w.itself
+      (λ e. granted-steps S (created S.memory (heap_request n)) (w.makes S.memory (heap_request n) (some-size n e)))
+
+  allocated-steps : (r : Result ℕ Reply) (S : Now) → Steps w S (allocated r S)
+  allocated-steps (Err x) S = w.itself
+  allocated-steps (Ok i) S = w.itself
+
+  malloc-steps : (n : ℕ) (S : Now) → Steps w S (malloc n S)
+  malloc-steps n S = next-steps w S (requested n S) allocated (requested-steps n S) allocated-steps
+
+  zeroed-closed : (i : ℕ) (o : Option Info) (M : Mem) → R M (zeroed i o M)
+  zeroed-closed i None M = w.itself
+  zeroed-closed i (Some x) M = filled-step x.base x.size 0 M (omega arith)
+
+  cleared-steps : (r : Result ℕ Reply) (S : Now) → Steps w S (cleared r S)
+  cleared-steps (Err x) S = w.itself
+  cleared-steps (Ok i) S = zeroed-closed i (told_of S.memory i) S.memory
+
+  calloc-steps : (count n : ℕ) (S : Now) → Steps w S (calloc count n S)
+  calloc-steps count n S = next-steps w S (requested (count * n) S) cleared (requested-steps (count * n) S) cleared-steps
+
+  block-steps : (c : Clause) (g : _) (S : Now) → Steps w S (block c g S)
+  block-steps c g S =
+      let t = Block g.pointer.address in
+      about-steps w S g.stopped (block_by c g S (use_answer S.memory.table g.pointer.prov t)) (w.uses S.memory g.pointer.prov t)
+
+  free-steps : (g : _) (S : Now) → Steps w S (free g S)
+  free-steps g S = step-if w S (is_null g.pointer) _ _ w.itself (next-steps w S (block clause.Freeing g S) freed (block-steps clause.Freeing g S) (λ i T. w.ends T.memory i))
+
+  both-closed : (o p : Option Info) (M : Mem) → R M (both o p M)
+  both-closed (Some x) (Some y) M = w.copies M y.base x.base (min x.size y.size)
+  both-closed (Some x) None M = w.itself
+  both-closed None (Some y) M = w.itself
+  both-closed None None M = w.itself
+
+  moved-steps : (i : ℕ) (r : Result ℕ Reply) (S : Now) → Steps w S (moved i r S)
+  moved-steps i (Err x) S = w.itself
+  moved-steps i (Ok j) S = w.trans (both-closed (told_of S.memory i) (told_of S.memory j) S.memory) (w.ends (both (told_of S.memory i) (told_of S.memory j) S.memory) i)
+
+  resized-steps : (n i : ℕ) (S : Now) → Steps w S (resized n i S)
+  resized-steps n i S = step-if w S (eqb n 0) _ _ w.itself (next-steps w S (requested n S) (moved i) (requested-steps n S) (moved-steps i))
+
+  realloc-steps : (g : _) (n : ℕ) (S : Now) → Steps w S (realloc g n S)
+  realloc-steps g n S =
+      step-if w S (is_null g.pointer) _ _ (malloc-steps n S) (next-steps w S (block clause.Reallocating g S) (resized n) (block-steps clause.Reallocating g S) (λ i T. resized-steps n i T))
+
+  -- each function
+  pub called-steps : (f : Library) (a : List Arg) (S : Now) → Steps w S (called_in f a S)
+  called-steps library.Malloc a S = malloc-steps (size a 0) S
+  called-steps library.Calloc a S = calloc-steps (size a 0) (size a 1) S
+  called-steps library.Free a S = free-steps (argument_at a 0 S.memory) S
+  called-steps library.Realloc a S = realloc-steps (argument_at a 0 S.memory) (size a 1) S
+  called-steps library.Memcpy a S = copy-steps true (argument_at a 0 S.memory) (argument_at a 1 S.memory) (size a 2) S
+  called-steps library.Memmove a S = copy-steps false (argument_at a 0 S.memory) (argument_at a 1 S.memory) (size a 2) S
+  called-steps library.Memset a S = memset-steps (argument_at a 0 S.memory) (number a 1) (size a 2) S
+  called-steps library.Memcmp a S = memcmp-steps (argument_at a 0 S.memory) (argument_at a 1 S.memory) (size a 2) S
+  called-steps library.Strlen a S = strlen-steps (argument_at a 0 S.memory) S
+  called-steps library.Strcmp a S = strcmp-steps (argument_at a 0 S.memory) (argument_at a 1 S.memory) S
+  called-steps library.Strcpy a S = strcpy-steps (argument_at a 0 S.memory) (argument_at a 1 S.memory) S
+  called-steps library.Exit a S = w.itself
+  called-steps library.Abort a S = w.itself
+  called-steps library.Printf a S = printf-steps w a S
+
+  pub called-closed : (f : Library) (args : List Arg) (M : Mem) → R M (called f args M).after.memory
+  called-closed f args M = called-steps f args (record { memory = M; notes = [] })

@@ -1,0 +1,113 @@
+-- The ways in which a step of a call of the library changes a memory: its table, and its bytes (C17 7.1.4, 7.22.3, 7.24), and steps of a call
+-- along them.
+use Rattle.std.proofs.Common.{ℕ, zero, suc, ◌+◌, ◌≡◌, ◌<◌, ◌≤◌, Some, Bool, true, false, cond, eqb, List, [], ◌∷◌, ◌++◌, length, Result, Ok, Err}
+use Rattle.pv_num.specs.declared.kinds.IntKind.{IntKind}
+use Rattle.pv_num.specs.declared.kinds.IntKind.TheVariants.{UChar}
+use Rattle.pv_prov.specs.declared.names.Prov.{Prov}
+use Rattle.pv_prov.specs.declared.names.Prov.TheVariants.{Empty}
+use Rattle.pv_inst.specs.declared.values.Test.{Test}
+use Rattle.pv_inst.specs.Use.{use_answer, settled}
+use Rattle.pv_inst.specs.Placing.{Request}
+use Rattle.pv_shadow.specs.declared.byte.Byte.{Byte}
+use Rattle.pv_shadow.specs.Bytes.{read}
+use Rattle.pv_object.specs.declared.values.Pointer.{Pointer}
+use Rattle.pv_object.specs.declared.values.Scalar.{Scalar}
+use Rattle.pv_object.specs.declared.values.Scalar.TheVariants as scalar
+use Rattle.pv_object.specs.declared.values.Asker.{Asker}
+use Rattle.pv_object.specs.declared.values.Stop.{Stop}
+use Rattle.pv_object.specs.Memory.{Mem}
+use Rattle.pv_object.specs.Access.{reach}
+use Rattle.pv_object.specs.Creating.{created}
+use Rattle.pv_object.specs.Loading.{load, value_of}
+use Rattle.pv_object.specs.Operations.{to_int}
+use Rattle.pv_libc.specs.declared.values.Note.{Note}
+use Rattle.pv_libc.specs.Steps.{Now, Did, next, next_by, about, about_by, reached, reached_by, further}
+use Rattle.pv_libc.specs.Characters.{character_in, character_loaded, character_at, characters_from, string_from, most, string_at}
+use Rattle.pv_object.specs.Memory.{with_table}
+use Rattle.pv_object.specs.Creating.{without}
+use Rattle.pv_object.specs.Storing.{with_bytes, copied}
+use Rattle.pv_typed.specs.Children.{Each}
+
+-- 7.1.1p1: the byte of a character: a value, and no name
+pub record IsCharacter (x : Byte) : Type 0 where
+  pub number : ℕ
+  pub value : x.value ≡ Some number
+  pub small : number < 256
+  pub nameless : x.prov ≡ Empty
+
+-- the ways in which a step of a call changes a memory
+pub record Ways (R : Mem → Mem → Type 0) : Type 0 where
+  pub itself : {M : Mem} → R M M
+  pub trans : {M N O : Mem} → R M N → R N O → R M O
+  pub told : (M : Mem) → R M (with_table M (record M.table { pending = [] }))
+  pub uses : (M : Mem) (p : Prov) (t : Test) → R M (with_table M (settled M.table p (use_answer M.table p t)))
+  pub reaches : (M : Mem) (p : Pointer) (n align : ℕ) (write : Bool) (by : Asker) → R M (with_table M (reach M.table p n align write by).1)
+  pub loads : (M : Mem) (bytes : List Byte) (t : Scalar) → R M (with_table M (value_of M.table bytes t).1)
+  pub numbers : (M : Mem) (p : Pointer) (k : IntKind) → R M (with_table M (to_int M.table p k).1)
+  pub makes : (M : Mem) (r : Request) → 1 ≤ r.size → R M (created M r).1
+  pub ends : (M : Mem) (i : ℕ) → R M (without M i)
+  -- characters are stored, or bytes are copied whole
+  pub stores : (M : Mem) (a : ℕ) (bytes : List Byte) → Each IsCharacter bytes → R M (with_bytes M a bytes)
+  pub copies : (M : Mem) (to from n : ℕ) → R M (copied M to from n)
+
+-- what is known of a step's answer
+abbrev pub When : {A : Type 0} → (A → Type 0) → Result A Stop → Type 0
+When P (Ok a) = P a
+When P (Err y) = Unit {0}
+
+module _ {R : Mem → Mem → Type 0} (w : Ways R) where
+  -- a step of a call, from where it stands
+  abbrev pub Steps : {A : Type 0} → Now → Did A → Type 0
+  Steps S d = R S.memory d.after.memory
+
+  next-by : {A B : Type 0} (S : Now) (r : Result A Stop) (d : Did A) (rest : A → Now → Did B) → Steps S d → ((a : A) (T : Now) → Steps T (rest a T)) → Steps S (next_by r d rest)
+  next-by S (Ok a) d rest h g = w.trans h (g a d.after)
+  next-by S (Err stop) d rest h g = h
+
+  pub next-steps : {A B : Type 0} (S : Now) (d : Did A) (rest : A → Now → Did B) → Steps S d → ((a : A) (T : Now) → Steps T (rest a T)) → Steps S (next d rest)
+  next-steps S d rest h g = next-by S d.answer d rest h g
+
+  when-by : {A B : Type 0} (P : A → Type 0) (S : Now) (r : Result A Stop) (d : Did A) (rest : A → Now → Did B) → Steps S d → When P r → ((a : A) (T : Now) → P a → Steps T (rest a T)) → Steps S (next_by r d rest)
+  when-by P S (Ok a) d rest h p g = w.trans h (g a d.after p)
+  when-by P S (Err stop) d rest h p g = h
+
+  pub when-steps : {A B : Type 0} (P : A → Type 0) (S : Now) (d : Did A) (rest : A → Now → Did B) → Steps S d → When P d.answer → ((a : A) (T : Now) → P a → Steps T (rest a T)) → Steps S (next d rest)
+  when-steps P S d rest h p g = when-by P S d.answer d rest h p g
+
+  about-by : {A : Type 0} (S : Now) (r : Result A Stop) (note : Note) (d : Did A) → Steps S d → Steps S (about_by r note d)
+  about-by S (Ok a) note d h = h
+  about-by S (Err stop) note d h = h
+
+  pub about-steps : {A : Type 0} (S : Now) (note : Note) (d : Did A) → Steps S d → Steps S (about note d)
+  about-steps S note d h = about-by S d.answer note d h
+
+  pub step-if : {A : Type 0} (S : Now) (b : Bool) (d e : Did A) → Steps S d → Steps S e → Steps S (cond b d e)
+  step-if S true d e h g = h
+  step-if S false d e h g = g
+
+  -- accesses (7.24.1p2, 7.1.4p1). A pointer with its note has a type of the library's own, which can't be named here: `_` stands for it
+  pub reached-steps : (by : Asker) (write : Bool) (g : _) (n : ℕ) (S : Now) → Steps S (reached by write g n S)
+  reached-steps by write g n S =
+      about-steps S g.stopped (reached_by by write g n S (reach S.memory.table g.pointer n 1 write by)) (w.reaches S.memory g.pointer n 1 write by)
+
+  -- characters (7.24.1p3)
+  in-steps : (g : _) (a : ℕ) (S : Now) → Steps S (character_in g a S)
+  in-steps g a S =
+      about-steps S g.stopped (character_loaded S (load S.memory a (scalar.Int UChar)))
+      (w.trans (w.loads S.memory (read S.memory.bytes a 1) (scalar.Int UChar)) (w.told (with_table S.memory (load S.memory a (scalar.Int UChar)).1)))
+
+  pub at-steps : (by : Asker) (g : _) (i : ℕ) (S : Now) → Steps S (character_at by g i S)
+  at-steps by g i S = next-steps S (reached by false (further g i) 1 S) _ (reached-steps by false (further g i) 1 S) (λ r T. in-steps g r.address T)
+
+  pub row-steps : (n : ℕ) (g : _) (a : ℕ) (read : List ℕ) (S : Now) → Steps S (characters_from n g a read S)
+  row-steps zero g a read S = w.itself
+  row-steps (suc n) g a read S = next-steps S (character_in g a S) _ (in-steps g a S) (λ c T. row-steps n g (a + 1) (read ++ c ∷ []) T)
+
+  -- strings (7.1.1p1)
+  string-steps : (n : ℕ) (by : Asker) (g : _) (read : List ℕ) (S : Now) → Steps S (string_from n by g read S)
+  string-steps zero by g read S = w.itself
+  string-steps (suc n) by g read S =
+      next-steps S (character_at by g (length read) S) _ (at-steps by g (length read) S) (λ c T. step-if T (eqb c 0) _ _ w.itself (string-steps n by g (read ++ c ∷ []) T))
+
+  pub text-steps : (by : Asker) (g : _) (S : Now) → Steps S (string_at by g S)
+  text-steps by g S = string-steps most by g [] S

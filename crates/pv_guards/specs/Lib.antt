@@ -1,0 +1,12 @@
+pub mod Worths
+pub mod Typed
+pub mod Fair
+pub mod Soundness
+pub mod Plain
+pub mod PlainSteps
+pub mod PlainEvaluation
+pub mod PlainExecution
+pub mod PlainRun
+pub mod Promises
+pub mod TypedStatements
+pub mod Laws
