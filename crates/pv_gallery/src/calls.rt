@@ -1,4 +1,4 @@
-//! What both loops need: names of the folder's files, and one call of `serve`.
+//! What the rows need: the names of their files, and one call of `serve`.
 
 use pv_explain::{Census, Explain, Pointers};
 use pv_script::MemSink;
