@@ -115,11 +115,11 @@ def try_programs(tests: Tests) -> None:
 
 
 def try_readme(tests: Tests) -> None:
-    """The output that README shows is a part of what is told."""
-    section = text(f"{HERE}/../README.md").split("\n## The placement that goes wrong\n")[1].split("\n## ")[0]
+    """The output that docs/EXPLORE.md shows is a part of what is told."""
+    section = text(f"{HERE}/../docs/EXPLORE.md").split("\n## What it shows\n")[1].split("\n## ")[0]
     block = "".join(line[4:] + "\n" for line in section.splitlines() if line.startswith("    "))
     told = tests.call("tools/explore-programs/cached_by_address.c", cwd=f"{HERE}/..")
-    tests.holds("README", len(block) > 300 and block in told.out, told.out)
+    tests.holds("docs/EXPLORE.md", len(block) > 300 and block in told.out, told.out)
 
 
 # ---- what is tried

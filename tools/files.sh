@@ -4,7 +4,6 @@
 hold() {
   [ -z "$held" ] || return 0
   held=$(mktemp -d) || exit 127
-  trap 'end_trial; rm -rf "$held"' EXIT
 }
 
 can_read() { [ -r "$1" ] && [ ! -d "$1" ]; }
@@ -13,34 +12,46 @@ can_read() { [ -r "$1" ] && [ ! -d "$1" ]; }
 is_plain() { [ -f "$1" ] && [[ $1 != /dev/* && $1 != /proc/* ]]; }
 
 # What stands in a pipe is kept in the file HELD, up to a size that tells as much as all.
-take_pipe() { can_read "$1" && ! is_plain "$1" && hold && head -c "$3" -- "$1" >"$held/$2" 2>/dev/null; }
+take_pipe() {
+  can_read "$1" && ! is_plain "$1" && hold || return
+  attend head -c "$3" -- "$1" >"$held/$2" 2>/dev/null && return
+  # (what can't be read is the program's to tell)
+  [ ! -s "$held/$2" ] && echo 2>/dev/null >"$held/$2" && return 1
+  say "what '$1' holds could not be kept in a file"
+  exit 127
+}
+
+# How many bytes of a source are looked at: more than a source has, since what is preprocessed may be longer.
+most_bytes=16777217
+
+# The first bytes of a file, up to that many.
+first_of() { head -c "$most_bytes" -- "$1" 2>/dev/null; }
 
 # Whether the source has preprocessing directives. Most files without any are known by having no # at all.
 has_directives() {
   local part=
-  if IFS= LC_ALL=C read -r -d '' -n 16384 part <"$1" || [ "${#part}" -ge 16384 ]; then
-    LC_ALL=C grep -qaE '#|%:' -- "$1" || return
+  if IFS= LC_ALL=C read -r -d '' -n 16384 part 2>/dev/null <"$1" || [ "${#part}" -ge 16384 ]; then
+    first_of "$1" | LC_ALL=C grep -qaE '#|%:' || return
   else
     [[ $part == *'#'* || $part == *'%:'* ]] || return
   fi
-  LC_ALL=C awk -f "$tools/lines.awk" -f "$tools/directives.awk" <"$1"
+  first_of "$1" | LC_ALL=C awk -f "$tools/lines.awk" -f "$tools/directives.awk" >/dev/null
 }
 
 # The file that the program gets, in `text`; `unread` is a file that can't be read, and `fresh` says that the text was preprocessed just now.
 take_files() {
   local given=$source
   text=$source unread='' fresh=''
-  # (what is preprocessed may be longer than a source)
-  take_pipe "$source" source.c 16777217 && text=$held/source.c given=-
+  take_pipe "$source" source.c "$most_bytes" && text=$held/source.c given=-
   can_read "$text" || unread=$source
   [ -z "$script" ] || take_script
   [ -z "$unread" ] || return 0
   if [ -z "$raw" ] && { [ "${#changes[@]}" -gt 0 ] || has_directives "$text"; }; then
     hold
-    "$tools/preprocess" "$given" "$held/text.i" ${changes[@]+"${changes[@]}"} <"$text" || exit 127
+    attend "$tools/preprocess" "$given" "$held/text.i" ${changes[@]+"${changes[@]}"} <"$text" || exit 127
     text=$held/text.i fresh=--fresh
   fi
-  [ -z "$keep" ] || cat -- "$text" >"$keep" || exit 127
+  [ -z "$keep" ] || attend cat -- "$text" >"$keep" || exit 127
 }
 
 take_script() {
@@ -62,6 +73,7 @@ guard_files() {
       say "'$name' is read, so it can't be written"
       exit 127
     fi
-    { : >>"$name"; } 2>/dev/null || { say "'$name' can't be written" && exit 127; }
+    # (who reads a pipe would take this for the end)
+    [ -p "$name" ] || { : >>"$name"; } 2>/dev/null || { say "'$name' can't be written" && exit 127; }
   done
 }

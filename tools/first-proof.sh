@@ -7,7 +7,7 @@ prove_first() {
   try_meanwhile </dev/null &
   trial=$!
   set +m
-  nice -n 3 "$tools/prove" pvrun
+  attend nice -n 3 "$tools/prove" pvrun
   status=$?
   end_trial
   [ "$status" = 0 ] || exit "$status"
@@ -54,8 +54,9 @@ refuse() {
     is_ready pvrun || program=
   fi
   [ -n "$program" ] || { say "$why; so nothing is proved or run" && exit 125; }
-  "$program" "$@"
+  attend "$program" "$@"
   status=$?
   case $status in 10 | 11) say "hint: $why" ;; esac
+  [ "$status" -le 128 ] || tell_signal "$status"
   exit "$status"
 }

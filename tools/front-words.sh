@@ -12,7 +12,7 @@ try_slip() {
 try_slips() {
   local file=$work/plain.c
   try_slip 'no word' 'no mode; try ./pvrun --help'
-  try_slip 'no such mode' "'walk' is no mode (run, settle, check, layout, gen, replay)" walk "$file"
+  try_slip 'no such mode' "'walk' is no mode (run, settle, check, layout, gen, replay, step)" walk "$file"
   try_slip 'a file in the place of a mode' "'a.c' is no mode; try pvrun run a.c" a.c
   try_slip 'no file' 'run wants a file' run
   try_slip 'an empty name' 'the name of the file is empty' check ''
@@ -171,14 +171,16 @@ try_colours() {
   try 'NO_COLOR' no "$([[ $shown == *$'\033'* ]] && echo yes || echo no)"
 }
 
-# README begins with an ordinary file: its text, its report and its words are those that are shown there.
+# README begins with an ordinary file: the end of its text, its report and its words are those that are shown there.
 try_readme() {
-  local file=tools/front-programs/list_freed_while_walked.c line
+  local file=$work/list.c line shown
+  cp tools/front-programs/list_freed_while_walked.c "$file"
   call run "$file"
   while IFS= read -r line; do
-    try "README: $line" yes "$(grep -qF -- "    $line" README.md && echo yes)"
+    try "README: $line" yes "$(grep -qF -- "    ${line#"$work/"}" README.md && echo yes)"
   done <<<"$out"$'\n'"$err"
-  try 'README: the file' "$(cat "$file")" "$(sed -n '/^```c$/,/^```$/p' README.md | sed '1d; /^```$/,$d')"
+  shown=$(sed -n '/^```c$/,/^```$/p' README.md | sed '1d; /^```$/,$d')
+  try 'README: the file' yes "$([ -n "$shown" ] && [[ $(cat "$file") == *"$shown" ]] && echo yes)"
 }
 
 # ---- journals

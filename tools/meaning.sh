@@ -11,7 +11,7 @@ show_place() {
     *'refused: size' | *'refused: main') return ;;
   esac
   if command -v python3 >/dev/null; then
-    python3 "$tools/spot" "$program" "$text" "$source" >&2
+    attend python3 "$tools/spot" "$program" "$text" "$source" >&2
   else
     say 'hint: without python3 the statement is not looked for'
   fi
@@ -24,13 +24,13 @@ find_place() {
   else
     is_ready pvwhere || return
   fi
-  "$place" "$text"
+  attend "$place" "$text"
 }
 
 # What the answer of the program means.
 tell_meaning() {
   case $mode$status in
-    run[1-57] | settle[1-57]) [ -n "$sided" ] || "$tools/explain-fault" $fresh "$program" "$text" "$source" "$status" ${again[@]+"${again[@]}"} ;;
+    run[1-57] | settle[1-57]) [ -n "$sided" ] || attend "$tools/explain-fault" $fresh "$program" "$text" "$source" "$status" ${again[@]+"${again[@]}"} ;;
     *8) show_place ;;
     *10) say "hint: a word isn't UTF-8" ;;
     *11) say "hint: '$source' could not be read" ;;
@@ -46,19 +46,19 @@ run_apart() {
   . "$tools/report.sh"
   run >"$held/written"
   status=$?
-  if [[ $mode =~ ^(run|settle)$ && $status =~ ^([0-7]|1[234])$ ]]; then
+  if [[ $mode =~ ^(run|settle)$ && $status =~ ^([0-7]|1[234])$ || $status -gt 128 ]]; then
     begins=$(report_begins "$held/written" "$status")
     [ -n "$begins" ] || begins=$(wc -c <"$held/written")
   fi
   tail -c "+$((begins + 1))" "$held/written" >"$held/report"
   [ -n "$report$quiet" ] || begins=$(wc -c <"$held/written")
-  head -c "$begins" "$held/written" || { say 'the output could not be written' && status=12; }
-  [ -z "$report" ] || cat "$held/report" >"$report" || { say "'$report' could not be written" && status=12; }
+  attend head -c "$begins" "$held/written" || { say 'the output could not be written' && status=12; }
+  [ -z "$report" ] || attend cat "$held/report" >"$report" || { say "'$report' could not be written" && status=12; }
   [ -z "$sarif" ] || write_sarif
 }
 
 # The report as SARIF, in the file of --sarif.
 write_sarif() {
   command -v python3 >/dev/null || { say "without python3 '$sarif' can't be written" && status=12 && return; }
-  python3 "$tools/suite" --of "$held/report" "$source" --sarif "$sarif" || { say "'$sarif' could not be written" && status=12; }
+  attend python3 "$tools/suite" --of "$held/report" "$source" --sarif "$sarif" 2>/dev/null || { say "'$sarif' could not be written" && status=12; }
 }

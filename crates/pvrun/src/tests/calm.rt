@@ -2,7 +2,7 @@
 
 use super::words::WORDS;
 use super::{Input, SHORTEST, alone, text, with_script, words_of};
-use pv_explain::Census;
+use pv_explain::{Census, Explain, Pointers};
 use pv_script::{CalmFiles, CalmSink};
 use pv_serve::{NoMemory, serve_calmly};
 use pv_watch::{Hall, Watch};
@@ -38,7 +38,7 @@ fn calmly_told(alloc: Global, input: Input<'_>, words: &str) -> Result<String, N
     text(alloc, status, out.bytes(), report.bytes())
 }
 
-// The status of a call over devices that never fail, before one who counts.
+// The status of a call over devices that never fail, before the program's three watchers.
 fn served_calmly(
     alloc: Global,
     words: &[String],
@@ -47,7 +47,9 @@ fn served_calmly(
     report: &mut CalmSink,
 ) -> Result<u8, NoMemory> {
     let mut watchers: Vec<Box<dyn Watch>> = Vec::new(alloc);
+    watchers.push(Box::new(alloc, Explain::new(alloc, 65_536))?)?;
     watchers.push(Box::new(alloc, Census::new(alloc, u64::MAX))?)?;
+    watchers.push(Box::new(alloc, Pointers::new(alloc, 65_536))?)?;
     let mut hall = Hall::new(alloc, watchers)?;
     Ok(serve_calmly(alloc, words, files, out, report, &mut hall))
 }
@@ -89,4 +91,155 @@ fn is_told_or_nothing(rt: &impl Abort, alloc: Global, source: &str, wanted: &str
             );
         }
     }
+}
+
+// A whole program: words, the script, the source, the status, the output, and the report with the texts of those who watch.
+#[derive(Clone, Copy)]
+struct Whole {
+    words: &'static str,
+    script: &'static str,
+    source: &'static str,
+    status: &'static str,
+    output: &'static str,
+    report: &'static str,
+}
+
+// Programs that make pairs, allocate, print, and reach what has ended, and what an independent executor of the same rules tells of them.
+const WHOLE: [Whole; 4] = [
+    Whole {
+        words: "run a.c --script s --watch pointers",
+        script: "x 1 0x20000\ny 1 0x20004\n",
+        source: r#"int printf(const char *, ...);
+int x = 1, y = 2;
+int main(void) {
+  unsigned long a = (unsigned long)(&x + 1);
+  unsigned long b = (unsigned long)&y;
+  int *p = (int *)a;
+  *p = 11;
+  printf("%d %d %d\n", x, y, a == b);
+  return 0;
+}
+"#,
+        status: "0 ",
+        output: "1 11 1\n",
+        report: r#"exit status=0 turn=29
+pair 1 turn=14 address=0x20004 low=x#1 high=y#1
+use 1 turn=18 test=live left=x#1,y#1
+use 1 turn=19 test=range left=y#1
+"#,
+    },
+    Whole {
+        words: "run a.c --script s --watch pointers",
+        script: "x 1 0x20000\ny 1 0x20004\n",
+        source: r#"void *memcpy(void *, const void *, unsigned long);
+int x = 1, y = 2;
+int main(void) {
+  unsigned long a = (unsigned long)(&x + 1), b = (unsigned long)&y;
+  int *p = (int *)a, *q = (int *)b, *r;
+  memcpy(&r, &p, 4);
+  memcpy((char *)&r + 4, (char *)&q + 4, 4);
+  *r = 7;
+  return y;
+}
+"#,
+        status: "0 ",
+        output: "",
+        report: r#"exit status=7 turn=44
+pair 1 turn=14 address=0x20004 low=x#1 high=y#1
+pair 2 turn=17 address=0x20004 low=x#1 high=y#1
+pair 3 turn=41 address=0x20004 low=x#1 high=y#1
+use 3 turn=41 test=live left=x#1,y#1
+use 3 turn=42 test=range left=y#1
+"#,
+    },
+    Whole {
+        words: "run a.c",
+        script: "",
+        source: r#"void *malloc(unsigned long);
+void free(void *);
+int printf(const char *, ...);
+typedef unsigned long word;
+struct node { int v; word link; };
+static struct node *step(struct node *at, word from) {
+  return (struct node *)(at->link ^ from);
+}
+static void walk(struct node *at) {
+  word from = 0;
+  while (at) {
+    struct node *next = step(at, from);
+    printf("%d\n", at->v);
+    from = (word)at;
+    at = next;
+  }
+}
+int main(void) {
+  struct node *n[3];
+  int i;
+  for (i = 0; i < 3; i++) {
+    n[i] = malloc(sizeof(struct node));
+    n[i]->v = i + 1;
+  }
+  n[0]->link = (word)n[1];
+  n[1]->link = (word)n[0] ^ (word)n[2];
+  n[2]->link = (word)n[1];
+  walk(n[0]);
+  walk(n[2]);
+  for (i = 0; i < 3; i++)
+    free(n[i]);
+  return 0;
+}
+"#,
+        status: "0 ",
+        output: "1\n2\n3\n3\n2\n1\n",
+        report: "exit status=0 turn=330\n",
+    },
+    Whole {
+        words: "run a.c --script s --watch explain",
+        script: "a 1 0x20000\nb 1 0x20000\n",
+        source: r#"int main(void) {
+  int *p;
+  { int a = 1; p = &a; }
+  { int b = 2; }
+  return *p;
+}
+"#,
+        status: "1 ",
+        output: "",
+        report: r#"undefined clause=6.2.4p2 reason=ended line=5 turn=15
+create a#1 turn=2 base=0x20000 size=4
+end a#1 turn=9
+fault turn=15
+"#,
+    },
+];
+
+// Where memory is wanting in a longer run, nothing is reported, and a first part of the output stands.
+#[test]
+fn want_of_memory_leaves_a_part_of_the_output(rt: HostRuntime) {
+    for whole in &WHOLE {
+        is_whole_or_cut_off(&rt, rt.alloc(), *whole);
+    }
+}
+
+fn is_whole_or_cut_off(rt: &impl Abort, alloc: Global, whole: Whole) {
+    let input = Input {
+        source: whole.source.as_bytes(),
+        script: whole.script.as_bytes(),
+    };
+    // Memory that is wanting outside of the call says nothing of it.
+    if let Ok(told) = calmly_told(alloc, input, whole.words) {
+        let is_right = match told.strip_prefix("13 ") {
+            Some(part) => whole.output.starts_with(part),
+            None => is_told_of(told.as_str(), whole),
+        };
+        assert!(rt; is_right, "{}: {told:?}", whole.source);
+    }
+}
+
+// Whether a text is the status, the output and the report.
+fn is_told_of(told: &str, whole: Whole) -> bool {
+    let Some(rest) = told.strip_prefix(whole.status) else {
+        return false;
+    };
+    rest.strip_prefix(whole.output) == Some(whole.report)
 }

@@ -139,3 +139,44 @@ fn output_is_cut_off(rt: &impl Abort, alloc: Global, devices: Devices, room: usi
     let wanted = wanted.expect(rt, "no memory");
     expect(rt, TENS, "cut off", told.as_str(), wanted.as_str());
 }
+
+// The report is refused at its first call, behind all of the output, which stands.
+#[test]
+fn output_stands_before_a_report_that_is_refused(rt: HostRuntime) {
+    let devices = Devices {
+        read: 0,
+        out: 0,
+        write: 1,
+        most: 4096,
+    };
+    let tens = "0123456789"
+        .repeat(rt.alloc(), 1000)
+        .expect(&rt, "no memory");
+    let told = told(&rt, rt.alloc(), alone(TENS.as_bytes()), "run a.c", devices);
+    let wanted = text(rt.alloc(), 12, tens.as_bytes(), b"").expect(&rt, "no memory");
+    expect(
+        &rt,
+        TENS,
+        "a report is refused",
+        told.as_str(),
+        wanted.as_str(),
+    );
+}
+
+// A program that prints without end.
+const ENDLESS: &str =
+    r#"int printf(const char *, ...); int main(void){for(;;) printf("0123456789");}"#;
+
+// It ends with the first block that is refused, whatever the bound is.
+#[test]
+fn a_write_that_is_refused_ends_an_endless_run(rt: HostRuntime) {
+    let devices = Devices {
+        read: 0,
+        out: 1,
+        write: 0,
+        most: 4096,
+    };
+    let words = "run a.c --turns 100000000";
+    let told = told(&rt, rt.alloc(), alone(ENDLESS.as_bytes()), words, devices);
+    expect(&rt, ENDLESS, words, told.as_str(), "12 ");
+}

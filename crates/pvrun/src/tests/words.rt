@@ -1,6 +1,6 @@
 //! Words, and what an independent executor of the same rules reports of them.
 
-use super::{SHORTEST, SOUND, told, with_script};
+use super::{Input, SHORTEST, SOUND, expect, told, with_script};
 use std::test::*;
 
 /// Lines of words, for the source [`super::SHORTEST`] as `a.c` and a script of one line as `s`. A space at the end leaves an
@@ -118,5 +118,32 @@ fn words_are_told(rt: HostRuntime) {
                 "{words}: {told:?}"
             );
         }
+    }
+}
+
+// A zero byte is in no line of a script, but in what says nothing.
+#[test]
+fn a_zero_byte_in_a_script_is_told(rt: HostRuntime) {
+    let rows: [(&[u8], &str); 3] = [
+        (
+            b"x 1 0x20000\ny 1 0x2\x000004\n",
+            "9 script reason=line line=2\n",
+        ),
+        (b"x 1 0x20000\n\x00\n", "9 script reason=line line=2\n"),
+        (b"# \x00\ny 1 0x20004\n", "0 exit status=0 turn=3\n"),
+    ];
+    for (script, wanted) in &rows {
+        let input = Input {
+            source: SHORTEST.as_bytes(),
+            script,
+        };
+        let told = told(&rt, rt.alloc(), input, "run a.c --script s", SOUND);
+        expect(
+            &rt,
+            "a zero byte",
+            "run a.c --script s",
+            told.as_str(),
+            wanted,
+        );
     }
 }

@@ -1,0 +1,63 @@
+# For ./pvrun, tools/preprocess and tools/explain-fault: commands that end with the shell that began them, and what is said of a program that a
+# signal ended. A shell that waits for a command hears of a signal only when that command has ended, so what may take long is a job here.
+
+# Runs a command with this shell's standard input. Its status is the command's, and 128 + N where signal N ended that.
+#
+# A job of a script ignores INT and has an empty input where nobody undoes it; and what bash says itself of one that a signal ended is left out.
+attend() {
+  if { : <&0; } 2>/dev/null; then
+    (trap - INT QUIT TERM HUP PIPE && exec "$@") <&0 &
+  else
+    (trap - INT QUIT TERM HUP PIPE && exec "$@") <&- &
+  fi
+  wait "$!" 2>/dev/null
+}
+
+# The same for a command with children that hear of no signal: all of them are one group.
+attend_group() {
+  set -m
+  "$@" &
+  set +m
+  wait "$!" 2>/dev/null
+}
+
+# Lets INT, TERM and HUP end this shell when what it began has ended. `leave` is what it does whenever it ends: it removes what it made.
+hear_signals() {
+  local name
+  trap leave EXIT
+  for name in INT TERM HUP; do
+    trap "end_by $name" "$name"
+  done
+}
+
+# Ends what this shell began, and then this shell, by the signal that came.
+end_by() {
+  local job
+  trap '' INT TERM HUP
+  for job in $(jobs -p); do
+    kill -TERM -- "-$job" 2>/dev/null || kill -TERM "$job" 2>/dev/null
+  done
+  wait 2>/dev/null
+  leave
+  trap - EXIT INT TERM HUP
+  kill -s "$1" "$BASHPID"
+}
+
+# How many kilobytes of stack are enough for every program, with room to spare.
+stack_enough=1024
+
+# Says which signal ended the program, by its status, and what that comes from where it is known.
+tell_signal() {
+  local name stack why=''
+  name=$(kill -l "$1")
+  stack=$(ulimit -s)
+  case $name in
+    SEGV | BUS)
+      [ "$stack" = unlimited ] || [ "$stack" -ge "$stack_enough" ] ||
+        why=": its stack was full, since 'ulimit -s' is $stack kilobytes here, and $stack_enough are enough"
+      ;;
+    KILL) why=', as a machine does that has no memory left' ;;
+    XCPU) why=": the time that 'ulimit -t' gives had passed" ;;
+  esac
+  say "the program was ended by the signal $name$why; so there is no report"
+}
