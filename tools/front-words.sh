@@ -180,7 +180,7 @@ try_readme() {
     try "README: $line" yes "$(grep -qF -- "    ${line#"$work/"}" README.md && echo yes)"
   done <<<"$out"$'\n'"$err"
   shown=$(sed -n '/^```c$/,/^```$/p' README.md | sed '1d; /^```$/,$d')
-  try 'README: the file' yes "$([ -n "$shown" ] && [[ $(cat "$file") == *"$shown" ]] && echo yes)"
+  try 'README: the file' yes "$([ -n "$shown" ] && [[ $(cat "$file") == *"$shown"* ]] && echo yes)"
 }
 
 # ---- journals
