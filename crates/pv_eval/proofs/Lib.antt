@@ -29,4 +29,5 @@ pub mod PlainPointers
 pub mod PlainBytes
 pub mod PlainPlaces
 pub mod PlainStores
+pub mod PlainUpdates
 pub mod Wholes

@@ -1,5 +1,5 @@
 -- Operations on integers that give a value, tell nothing and leave the world as it is.
-use Rattle.std.proofs.Common.{◌≡◌, ℕ, ◌++◌, Bool, true, false, List, [], ◌∷◌, length, refl, sym, ap, ◌∙◌, arith, subst, Some, None, append-nil}
+use Rattle.std.proofs.Common.{◌≡◌, ℕ, ◌++◌, Bool, true, false, List, [], refl, sym, ap, ◌∙◌, arith, subst, Some, None, append-nil}
 use Rattle.std.proofs.lemmas.Bool.{le-ltb}
 use Rattle.std.specs.Ordering.{int_eq}
 use Rattle.std.specs.Prelude.{ℤ, pos, not, ◌&&◌, Option, IfSome, nat_lt, slice_get, if◌then◌else◌, Ok}
@@ -15,7 +15,7 @@ use Rattle.pv_typed.specs.declared.nodes.Typed.{Typed}
 use Rattle.pv_typed.specs.declared.nodes.Typed.TheVariants as typed
 use Rattle.pv_typed.specs.TypedTree.{TypedTree, Node, Form, Convert, type_of, form_of}
 use Rattle.pv_typed.specs.TypedUnits.{layouts, object_at}
-use Rattle.pv_typed.specs.Tables.{Stored, nodes, whole, expression_at}
+use Rattle.pv_typed.specs.Tables.{Stored, whole, expression_at}
 use Rattle.pv_seq.specs.Sequencing.{opened}
 use Rattle.pv_world.specs.Worlds.{Worth, World}
 use Rattle.pv_world.specs.declared.got.Shape.{Shape}
@@ -26,9 +26,9 @@ use Rattle.pv_world.specs.Calculations.{calculates, calculates_one, follows_to}
 use Rattle.pv_world.specs.Conversions.{opposite}
 use Rattle.pv_world.specs.Objects.{address_of, instance_of}
 use Rattle.pv_world.specs.Telling.{quiet}
-use Rattle.pv_world.specs.Doing.{Done, Answers, Fails}
+use Rattle.pv_world.specs.Doing.{Answers, Fails}
 use Rattle.pv_eval.specs.declared.marked.Marked.{Marked}
-use Rattle.pv_eval.specs.States.{Setting, State, Res, Gives, then_do}
+use Rattle.pv_eval.specs.States.{Setting, Gives, then_do}
 use Rattle.pv_eval.specs.Acting.{noted, pair_count, by_side, answered, acted}
 use Rattle.pv_eval.specs.Operations.{Op, Converts, Calculates, CalculatesOne, Negates, Follows, Selects, NamesObject, does, act}
 use Rattle.pv_eval.specs.Sequenced.{done, work}
@@ -64,6 +64,11 @@ pub calculates_same : (op : BinOp) (k : IntKind) (x y left right : ℤ) (v : Wor
 calculates_same op k x y left right v e f h =
     subst (λ (n : ℤ). AlwaysGives (λ b. Calculates op k (int n) (int right)) v) e (subst (λ (n : ℤ). AlwaysGives (λ b. Calculates op k (int x) (int n)) v) f h)
 
+pub operated_some : (op : BinOp) (k : IntKind) (v w : Found) (x y left right : ℤ) (z : Worth) → found_worth v ≡ int left → found_worth w ≡ int right → x ≡ left → y ≡ right → AlwaysGives (λ b. Calculates op k (int x) (int y)) z
+    → AlwaysGives (λ b. Calculates op k (found_worth v) (found_worth w)) z
+operated_some op k v w x y left right z ev ew e f h =
+    subst (λ q. AlwaysGives (λ b. Calculates op k q (found_worth w)) z) (sym ev) (subst (λ q. AlwaysGives (λ b. Calculates op k (int left) q) z) (sym ew) (calculates_same op k x y left right z e f h))
+
 -- what is calculated of two operands that fit
 pub calculated_some : (op : BinOp) (k : IntKind) (x y z : ℤ) (r : Option ℤ) → is_promoted k ≡ true → fits_of k x ≡ true → is_operand op k y ≡ true → binary_of op k x y ≡ Ok z → IfSome r (λ q. q ≡ z)
     → IfSome r (λ q. AlwaysGives (λ b. Calculates op k (int x) (int y)) (int q))
@@ -75,7 +80,7 @@ calculated_some op k x y z (Some q) e f g h i = λ b w.
 
 -- a conversion between integer types
 module _ (x : ℤ) (small : is_small (int x) ≡ true) (b : Setting) (w : World) where
-  rounds : (k : IntKind) → does b (Converts (Rounds k) (int x)) w ≡ Answers (int (convert_of k x)) w quiet
+  pub rounds : (k : IntKind) → does b (Converts (Rounds k) (int x)) w ≡ Answers (int (convert_of k x)) w quiet
   rounds k = ap (λ c. if c then Answers (int (convert_of k x)) w quiet else Fails missing_value None w quiet) (both_of (is_small (int x)) true small refl)
 
   passes_on : (k : IntKind) → does b (Converts (Passes k) (int x)) w ≡ Answers (int (convert_of k x)) w quiet
@@ -97,6 +102,14 @@ rounded_some from to j k x z (Some q) e f g small h implied = λ b w.
     ∙ ap (λ (s : Shape). does b (Converts (how_by (layouts b.unit) implied (shape.Int j) s (pointed_to to)) (int x)) w) f
     ∙ between_integers x small b w implied j k
     ∙ ap (λ (n : ℤ). Answers (int n) w quiet) (sym (h ∙ g))
+
+pub kept_some : (k : IntKind) (v : Found) (x z : ℤ) (r : Option Found) → found_worth v ≡ int x → is_small (int x) ≡ true → z ≡ convert_of k x → IfSome r (λ q. found_worth q ≡ int z)
+    → IfSome r (λ q. AlwaysGives (λ b. Converts (Rounds k) (found_worth v)) (found_worth q))
+kept_some k v x z None e small f h = tt
+kept_some k v x z (Some q) e small f h = λ b w.
+    ap (λ y. does b (Converts (Rounds k) y) w) e
+    ∙ rounds x small b w k
+    ∙ ap (λ y. Answers y w quiet) (ap int (sym f) ∙ sym h)
 
 -- the operand of a node, converted by its own node
 converted_at : (x i : TypedTree) (v z : Worth) → form_of x ≡ Convert i → AlwaysGives (λ b. Converts (how_to b true (type_of i) (type_of x)) v) z → IsConverted x v z

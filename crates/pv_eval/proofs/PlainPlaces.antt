@@ -1,18 +1,16 @@
 -- Pointers that move within their instance, and leave the world as it is.
-use Rattle.std.proofs.Common.{◌≡◌, ℕ, ◌+◌, ◌≤◌, Bool, true, false, List, [], refl, sym, ap, ◌∙◌, arith, subst, Some, None}
-use Rattle.std.specs.Prelude.{ℤ, pos, ◌&&◌, ◌==◌, Option, IfSome, if◌then◌else◌, Result, Ok, Err}
+use Rattle.std.proofs.Common.{◌≡◌, ℕ, ◌+◌, ◌≤◌, Bool, true, false, refl, sym, ap, ◌∙◌, arith, Some, None}
+use Rattle.std.specs.Prelude.{ℤ, pos, ◌&&◌, ◌==◌, Option, IfSome, if◌then◌else◌, Err}
 use Rattle.pv_num.specs.declared.faults.Clause.{Clause}
 use Rattle.pv_num.specs.declared.faults.Clause.TheVariants as clause
 use Rattle.pv_num.specs.declared.faults.Reason.TheVariants as reason
 use Rattle.pv_prov.specs.declared.names.Prov.TheVariants.{Inst}
 use Rattle.pv_inst.specs.declared.values.Info.{Info}
 use Rattle.pv_inst.specs.declared.values.Kind.{Kind}
-use Rattle.pv_inst.specs.declared.values.Tried.{Tried}
 use Rattle.pv_inst.specs.Table.{Table, instance_at}
 use Rattle.pv_inst.specs.Infos.{info_of}
 use Rattle.pv_inst.specs.Use.{is_function, holds}
 use Rattle.pv_object.specs.declared.values.Pointer.{Pointer}
-use Rattle.pv_object.specs.declared.values.Stop.{Stop}
 use Rattle.pv_object.specs.Access.{fault}
 use Rattle.pv_object.specs.Operations.{moved, moved_by, moved_to, move_under}
 use Rattle.pv_tree.specs.declared.nodes.NodeId.{NodeId}
@@ -24,18 +22,18 @@ use Rattle.pv_typed.specs.Tables.{Stored, expression_at}
 use Rattle.pv_world.specs.Worlds.{Worth, World}
 use Rattle.pv_world.specs.Worths.{int, pointer, missing_value}
 use Rattle.pv_world.specs.Telling.{quiet}
-use Rattle.pv_world.specs.Doing.{Answers, Fails}
+use Rattle.pv_world.specs.Doing.{Fails}
 use Rattle.pv_world.specs.Pointers.{distance, moves, selects, moved_by as moved_so}
-use Rattle.pv_eval.specs.States.{Setting, then_do}
+use Rattle.pv_eval.specs.States.{then_do}
 use Rattle.pv_eval.specs.TypeForms.{is_pointer, element_size}
 use Rattle.pv_eval.specs.Sizes.{setting_of}
-use Rattle.pv_eval.specs.Suiting.{knows, knows_worth, is_small, is_size}
+use Rattle.pv_eval.specs.Suiting.{knows_worth, is_small, is_size}
 use Rattle.pv_eval.specs.Operations.{Moves, Selects, does}
 use Rattle.pv_eval.specs.Sequenced.{done}
 use Rattle.pv_eval.specs.Steps.{is_minus}
 use Rattle.pv_eval.specs.declared.plain.Found.{Found}
 use Rattle.pv_eval.specs.declared.plain.Spot.{Spot}
-use Rattle.pv_eval.specs.Plainly.{setting_by, has_read, GivesAt, GivesWithBoth, HasMoved, alone_tried, found_worth, pointer_at}
+use Rattle.pv_eval.specs.Plainly.{setting_by, has_read, GivesAt, GivesWithBoth, HasMoved, found_worth, pointer_at}
 use Rattle.pv_eval.proofs.Guards.{both_of}
 use Rattle.pv_eval.proofs.Through.{right_false}
 use Rattle.pv_eval.proofs.PlainReads.{used, live_known}

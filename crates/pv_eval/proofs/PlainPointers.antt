@@ -1,67 +1,45 @@
 -- Reads of pointers that were stored whole, which pass all their checks and leave the world as it is.
-use Rattle.std.proofs.Common.{◌≡◌, ℕ, ◌+◌, ◌++◌, ◌-◌, ◌%◌, ◌≤◌, Bool, true, false, List, [], ◌∷◌, length, drop, refl, sym, ap, ◌∙◌, arith, subst, Some, None}
-use Rattle.std.specs.Prelude.{ℤ, pos, not, is_some, ◌||◌, ◌&&◌, ◌==◌, nat_le, Option, IfSome, if◌then◌else◌, Result, Ok, Err}
-use Rattle.std.specs.List.{list_any}
-use Rattle.std.proofs.lemmas.Bool.{le-leb}
+use Rattle.std.proofs.Common.{◌≡◌, ℕ, ◌+◌, ◌++◌, Bool, true, false, List, [], length, refl, sym, ap, ◌∙◌, arith, subst, Some, None}
+use Rattle.std.specs.Prelude.{not, is_some, ◌||◌, Option, if◌then◌else◌, Ok, Err}
 use Rattle.std.proofs.lemmas.List.{drop_all}
-use Rattle.pv_num.specs.declared.kinds.IntKind.{IntKind}
-use Rattle.pv_num.specs.declared.faults.Clause.TheVariants as clause
 use Rattle.pv_num.specs.declared.faults.Clause.TheVariants.{EffectiveTypes, Sequencing}
-use Rattle.pv_num.specs.declared.faults.Reason.TheVariants as reason
 use Rattle.pv_num.specs.declared.faults.Reason.TheVariants.{WrongType, Unsequenced}
-use Rattle.pv_num.specs.Kinds.{convert_of}
 use Rattle.std.specs.Option.{option_map, option_and_then}
 use Rattle.pv_prov.specs.declared.names.Prov.{Prov}
 use Rattle.pv_prov.specs.declared.names.Prov.TheVariants.{Inst}
 use Rattle.pv_prov.specs.Names.{alone}
 use Rattle.pv_inst.specs.declared.values.Info.{Info}
 use Rattle.pv_inst.specs.declared.values.Instance.{Instance}
-use Rattle.pv_inst.specs.declared.values.Test.TheVariants.{Live, Range}
+use Rattle.pv_inst.specs.declared.values.Test.TheVariants.{Live}
 use Rattle.pv_inst.specs.declared.values.Miss.TheVariants.{Ended}
 use Rattle.pv_inst.specs.Table.{Table, instance_at}
 use Rattle.pv_inst.specs.Infos.{info_of}
-use Rattle.pv_inst.specs.Use.{holds, passes, made_passes, any_survives, miss_of, use_answer, untried}
+use Rattle.pv_inst.specs.Use.{made_passes, any_survives, miss_of, use_answer}
 use Rattle.pv_shadow.specs.declared.byte.Byte.{Byte}
 use Rattle.pv_shadow.specs.Bytes.{read}
 use Rattle.pv_shadow.specs.Whole.{whole_name}
 use Rattle.pv_object.specs.declared.values.Pointer.{Pointer}
 use Rattle.pv_object.specs.declared.values.Reach.{Reach}
-use Rattle.pv_object.specs.declared.values.Stop.{Stop}
-use Rattle.pv_object.specs.declared.values.Value.TheVariants.{Int as IntValue, Pointer as PointerValue}
-use Rattle.pv_object.specs.declared.values.Asker.TheVariants.{Access as AccessAsker}
-use Rattle.pv_object.specs.Memory.{IsReachIn}
-use Rattle.pv_object.specs.Access.{fault, is_null, reach_after, checked_in, or_stop, write_stop, readonly_stop, reach}
+use Rattle.pv_object.specs.declared.values.Value.TheVariants.{Pointer as PointerValue}
 use Rattle.pv_object.specs.Encoding.{number_in}
-use Rattle.pv_object.specs.Loading.{Loaded, is_trap, integer_of, exposed_by, pointer_of, pointer_named, tested, live_answer, whole_pointer}
+use Rattle.pv_object.specs.Loading.{Loaded, pointer_of, pointer_named, tested, live_answer, whole_pointer}
 use Rattle.pv_types.specs.Ty.{Ty}
-use Rattle.pv_tree.specs.declared.nodes.NodeId.{NodeId}
-use Rattle.pv_typed.specs.declared.nodes.Typed.{Typed}
-use Rattle.pv_typed.specs.declared.nodes.Typed.TheVariants as typed
-use Rattle.pv_typed.specs.TypedTree.{type_of}
-use Rattle.pv_typed.specs.Tables.{Stored, expression_at}
-use Rattle.pv_seq.specs.Sequencing.{Access, clash, overlap, conflicts, rivals, noted}
-use Rattle.pv_watch.specs.declared.event.What.{What}
+use Rattle.pv_typed.specs.Tables.{Stored}
 use Rattle.pv_world.specs.declared.got.Shape.{Shape}
 use Rattle.pv_world.specs.declared.got.Shape.TheVariants as shape
-use Rattle.pv_world.specs.Worlds.{Worth, World, with_table}
-use Rattle.pv_world.specs.Worths.{int, pointer, missing_value, undefined}
-use Rattle.pv_world.specs.Telling.{Told, quiet, telling, uses, range_test, each_paired, each_exposed, exposures, pairings}
-use Rattle.pv_world.specs.Doing.{Done, Answers, Fails}
+use Rattle.pv_world.specs.Worlds.{World, with_table}
+use Rattle.pv_world.specs.Worths.{pointer, missing_value, undefined}
+use Rattle.pv_world.specs.Telling.{quiet, telling, uses, range_test, each_paired, each_exposed, exposures, pairings}
+use Rattle.pv_world.specs.Doing.{Answers, Fails}
 use Rattle.pv_world.specs.Accesses.{range_use, reaching_by, scalar_by, worth_in}
-use Rattle.pv_eval.specs.States.{Setting, then_do}
 use Rattle.pv_eval.specs.TypeForms.{Lvalue, lvalue, shape_of}
 use Rattle.pv_eval.specs.Sizes.{setting_of}
 use Rattle.pv_eval.specs.Suiting.{knows}
 use Rattle.pv_eval.specs.Permission.{permits}
 use Rattle.pv_eval.specs.Accesses.{access_to, reads_permitted, reads_at, reads}
-use Rattle.pv_eval.specs.Operations.{Reads}
-use Rattle.pv_eval.specs.Sequenced.{done}
-use Rattle.pv_eval.specs.Plainly.{setting_by, turned, AreReads, has_read, GivesWith, ReadsFrom, alone_tried, HasReached, IsPlainNumber}
-use Rattle.pv_inst.proofs.Rows.{row_found}
+use Rattle.pv_eval.specs.Plainly.{setting_by, ReadsFrom, alone_tried, HasReached}
 use Rattle.pv_eval.proofs.Guards.{both_of}
-use Rattle.pv_eval.proofs.Through.{fits_lvalue, right_false}
-use Rattle.pv_eval.proofs.PlainSteps.{reads_both}
-use Rattle.pv_eval.proofs.PlainNumbers.{act_gives}
+use Rattle.pv_eval.proofs.Through.{fits_lvalue}
 use Rattle.pv_eval.proofs.PlainReads.{told_live, no_clash}
 
 -- a live instance passes the live test

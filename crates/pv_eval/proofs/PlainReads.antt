@@ -1,5 +1,5 @@
 -- Reads of integers that pass all their checks, and leave the world as it is.
-use Rattle.std.proofs.Common.{◌≡◌, ℕ, ◌+◌, ◌++◌, ◌-◌, ◌%◌, ◌≤◌, Bool, true, false, List, [], ◌∷◌, length, drop, refl, sym, ap, ◌∙◌, arith, subst, Some, None}
+use Rattle.std.proofs.Common.{◌≡◌, ℕ, ◌+◌, ◌++◌, ◌-◌, ◌%◌, ◌≤◌, Bool, true, false, List, [], ◌∷◌, length, refl, sym, ap, ◌∙◌, arith, subst, Some, None}
 use Rattle.std.specs.Prelude.{ℤ, pos, not, is_some, ◌||◌, ◌&&◌, ◌==◌, nat_le, Option, IfSome, if◌then◌else◌, Result, Ok, Err}
 use Rattle.std.specs.List.{list_any}
 use Rattle.std.proofs.lemmas.Bool.{le-leb}
@@ -25,27 +25,24 @@ use Rattle.pv_object.specs.declared.values.Pointer.{Pointer}
 use Rattle.pv_object.specs.declared.values.Reach.{Reach}
 use Rattle.pv_object.specs.declared.values.Stop.{Stop}
 use Rattle.pv_object.specs.declared.values.Value.TheVariants.{Int as IntValue}
-use Rattle.pv_object.specs.declared.values.Asker.TheVariants.{Access as AccessAsker}
 use Rattle.pv_object.specs.Memory.{IsReachIn}
-use Rattle.pv_object.specs.Access.{fault, is_null, reach_after, checked_in, or_stop, write_stop, readonly_stop, reach}
+use Rattle.pv_object.specs.Access.{fault, reach_after, checked_in, or_stop, write_stop, readonly_stop}
 use Rattle.pv_object.specs.Encoding.{number_in}
 use Rattle.pv_object.specs.Loading.{is_trap, integer_of, exposed_by}
 use Rattle.pv_types.specs.Ty.{Ty}
 use Rattle.pv_tree.specs.declared.nodes.NodeId.{NodeId}
-use Rattle.pv_typed.specs.declared.nodes.Typed.{Typed}
 use Rattle.pv_typed.specs.declared.nodes.Typed.TheVariants as typed
 use Rattle.pv_typed.specs.TypedTree.{type_of}
 use Rattle.pv_typed.specs.Tables.{Stored, expression_at}
 use Rattle.pv_seq.specs.Sequencing.{Access, clash, overlap, conflicts, rivals, noted}
-use Rattle.pv_watch.specs.declared.event.What.{What}
 use Rattle.pv_world.specs.declared.got.Shape.{Shape}
 use Rattle.pv_world.specs.declared.got.Shape.TheVariants as shape
 use Rattle.pv_world.specs.Worlds.{Worth, World, with_table}
-use Rattle.pv_world.specs.Worths.{int, pointer, missing_value, undefined}
-use Rattle.pv_world.specs.Telling.{Told, quiet, telling, uses, range_test, each_paired, each_exposed, exposures, pairings}
-use Rattle.pv_world.specs.Doing.{Done, Answers, Fails}
+use Rattle.pv_world.specs.Worths.{int, pointer, pointer_of, missing_value, undefined}
+use Rattle.pv_world.specs.Telling.{quiet, telling, uses, range_test, each_paired, each_exposed, exposures, pairings}
+use Rattle.pv_world.specs.Doing.{Answers, Fails}
 use Rattle.pv_world.specs.Accesses.{range_use, reaching_by, scalar_by, worth_in}
-use Rattle.pv_eval.specs.States.{Setting, then_do}
+use Rattle.pv_eval.specs.States.{then_do}
 use Rattle.pv_eval.specs.TypeForms.{Lvalue, lvalue, shape_of}
 use Rattle.pv_eval.specs.Sizes.{setting_of}
 use Rattle.pv_eval.specs.Suiting.{knows}
@@ -53,7 +50,8 @@ use Rattle.pv_eval.specs.Permission.{permits}
 use Rattle.pv_eval.specs.Accesses.{access_to, reads_permitted, reads_at, reads}
 use Rattle.pv_eval.specs.Operations.{Reads}
 use Rattle.pv_eval.specs.Sequenced.{done}
-use Rattle.pv_eval.specs.Plainly.{setting_by, turned, AreReads, has_read, GivesWith, ReadsFrom, alone_tried, HasReached, IsPlainNumber}
+use Rattle.pv_eval.specs.declared.plain.Found.{Found}
+use Rattle.pv_eval.specs.Plainly.{setting_by, AreReads, has_read, GivesWith, ReadsFrom, alone_tried, HasReached, IsPlainNumber, found_worth}
 use Rattle.pv_inst.proofs.Rows.{row_found}
 use Rattle.pv_eval.proofs.Guards.{both_of}
 use Rattle.pv_eval.proofs.Through.{fits_lvalue, right_false}
@@ -201,15 +199,16 @@ module _ (u : Stored) (w : World) (t : Ty) (k : IntKind) (p : Pointer) (at : Rea
       ∙ ap (λ (s : Shape). worth_in w bytes_there s (Some at.address) (Some p.prov) quiet) form
       ∙ scalar_given w bytes_there k p m z is trap value all
 
-pub read_some : (u : Stored) (w : World) (t : Ty) (k : IntKind) (p : Pointer) (spot : Reach) (size align m : ℕ) (z : ℤ) (r : Option ℤ) → shape_of t ≡ shape.Int k → fits_lvalue u t ≡ true
+pub read_some : (u : Stored) (w : World) (t : Ty) (k : IntKind) (p : Pointer) (spot : Reach) (size align m : ℕ) (z : ℤ) (r : Option Found) → shape_of t ≡ shape.Int k → fits_lvalue u t ≡ true
     → size ≡ (lvalue (setting_of u) t).size → align ≡ (lvalue (setting_of u) t).align → HasReached w.memory.table p size align false spot → permits (setting_of u) w (lvalue (setting_of u) t) spot false ≡ true
-    → w.memory.table.pending ≡ [] → IsPlainNumber (read w.memory.bytes spot.address size) m → is_trap k m ≡ false → z ≡ convert_of k (pos m) → IfSome r (λ q. q ≡ z) → IfSome r (λ q. ReadsFrom u w t p (int q))
+    → w.memory.table.pending ≡ [] → IsPlainNumber (read w.memory.bytes spot.address size) m → is_trap k m ≡ false → z ≡ convert_of k (pos m) → IfSome r (λ q. found_worth q ≡ int z) → IfSome r (λ q. ReadsFrom u w t p (found_worth q))
 read_some u w t k p spot size align m z None form fits es ea reached permitted all is trap value h = tt
 read_some u w t k p spot size align m z (Some q) form fits es ea reached permitted all is trap value h =
     let l = lvalue (setting_of u) t in
-    number_read u w t k p spot form fits reached.known m q
+    subst (ReadsFrom u w t p) (sym h)
+    (number_read u w t k p spot form fits reached.known m z
     (subst (λ (n : ℕ). HasReached w.memory.table p l.size n false spot) ea (subst (λ (n : ℕ). HasReached w.memory.table p n align false spot) es reached))
-    permitted all (subst (λ (n : ℕ). IsPlainNumber (read w.memory.bytes spot.address n) m) es is) trap (h ∙ value)
+    permitted all (subst (λ (n : ℕ). IsPlainNumber (read w.memory.bytes spot.address n) m) es is) trap value)
 
 -- a node that reads it
 pub read_given : (u : Stored) (w : World) (t : Ty) (a : NodeId) (p : Pointer) (v : Worth) → ReadsFrom u w (type_of (expression_at u a)) p v → GivesWith u w t (typed.Read a) (pointer p) v
@@ -227,3 +226,8 @@ read_given u w t a p v h = record {
             (act_gives w out es n b line (Reads l (pointer p) (rivals j)) v (h bound sides zap (fs ++ []) (reads_both fs [] hf tt)));
       };
 }
+
+pub reads_given : (u : Stored) (w : World) (t : Ty) (a : NodeId) (place : Worth) (r : Option Found) → IfSome r (λ v. place ≡ pointer (pointer_of place)) → IfSome r (λ v. ReadsFrom u w (type_of (expression_at u a)) (pointer_of place) (found_worth v))
+    → IfSome r (λ v. GivesWith u w t (typed.Read a) place (found_worth v))
+reads_given u w t a place None e h = tt
+reads_given u w t a place (Some v) e h = subst (λ q. GivesWith u w t (typed.Read a) q (found_worth v)) (sym e) (read_given u w t a (pointer_of place) (found_worth v) h)

@@ -1,14 +1,13 @@
 -- A plain expression, node by node: what its operands give, and then what it gives itself.
-use Rattle.std.proofs.Common.{◌≡◌, ℕ, ◌+◌, ◌++◌, ◌<◌, ◌≤◌, Bool, true, false, List, [], ◌∷◌, refl, sym, ap, ◌∙◌, arith, subst, Some, None, ⊎_elim}
+use Rattle.std.proofs.Common.{◌≡◌, ℕ, ◌+◌, ◌++◌, ◌<◌, ◌≤◌, Bool, true, false, List, [], ◌∷◌, refl, ap, ◌∙◌, arith, subst, Some, None, ⊎_elim}
 use Rattle.std.specs.Prelude.{Option, IfSome, if◌then◌else◌}
 use Rattle.std.proofs.lemmas.Bool.{lt-ltb, le-ltb, cases_lt}
 use Rattle.pv_tree.specs.declared.nodes.NodeId.{NodeId}
-use Rattle.pv_types.specs.Ty.{Ty}
 use Rattle.pv_typed.specs.declared.nodes.Typed.{Typed}
 use Rattle.pv_typed.specs.TypedTree.{TypedTree, Node, Form, type_of, line_of, form_of, takes_turn}
 use Rattle.pv_typed.specs.Tables.{Stored, nodes, expression_at}
 use Rattle.pv_typed.specs.Plain.{counted, both, turns_of, turns_of_form}
-use Rattle.pv_seq.specs.Sequencing.{Access, Open, opened}
+use Rattle.pv_seq.specs.Sequencing.{Access, Open}
 use Rattle.pv_world.specs.Worlds.{Worth, World}
 use Rattle.pv_eval.specs.declared.marked.Marked.{Marked}
 use Rattle.pv_eval.specs.States.{Setting, State, Res, Stops, Turns, then_do, spend}

@@ -1,6 +1,6 @@
 -- Full expressions that are plain but for a store at their root.
 use Rattle.std.proofs.Common.{◌≡◌, ℕ, ◌+◌, ◌++◌, ◌≤◌, Bool, true, false, List, [], ◌∷◌, refl, sym, ap, ◌∙◌, arith, subst, Some, None, append-nil}
-use Rattle.std.specs.Prelude.{ℤ, ◌&&◌, nat_le, Option, nat_lt, slice_get, if◌then◌else◌}
+use Rattle.std.specs.Prelude.{◌&&◌, nat_le, Option, IfSome, slice_get, if◌then◌else◌}
 use Rattle.pv_num.specs.declared.faults.Clause.TheVariants.{EffectiveTypes}
 use Rattle.pv_num.specs.declared.faults.Reason.TheVariants.{WrongType}
 use Rattle.pv_prov.specs.declared.names.Prov.TheVariants.{Inst}
@@ -10,13 +10,13 @@ use Rattle.pv_shadow.specs.declared.byte.Byte.{Byte}
 use Rattle.pv_object.specs.declared.values.Pointer.{Pointer}
 use Rattle.pv_object.specs.declared.values.Reach.{Reach}
 use Rattle.pv_typed.specs.declared.nodes.Typed.TheVariants as typed
-use Rattle.pv_typed.specs.TypedTree.{TypedTree, Node, Form, Assign, Read, type_of, line_of, form_of, takes_turn}
+use Rattle.pv_typed.specs.TypedTree.{TypedTree, Node, Form, Assign, CompoundAssign, PointerAssign, Increment, Read, type_of, line_of, form_of}
 use Rattle.pv_typed.specs.Tables.{Stored, nodes, expression_at}
-use Rattle.pv_typed.specs.Plain.{counted, both, capped, turns_of, turns_of_form}
+use Rattle.pv_typed.specs.Plain.{counted, both, capped, turns_of}
 use Rattle.pv_seq.specs.Sequencing.{Access, Open, rivals, noted}
 use Rattle.pv_world.specs.declared.got.Shape.{Shape}
 use Rattle.pv_world.specs.Worlds.{Worth, World}
-use Rattle.pv_world.specs.Worths.{int, pointer, missing_value, undefined, present, origin_of}
+use Rattle.pv_world.specs.Worths.{int, pointer, missing_value, undefined, present}
 use Rattle.pv_world.specs.Objects.{put_at}
 use Rattle.pv_world.specs.Telling.{quiet, telling, uses, range_test}
 use Rattle.pv_world.specs.Doing.{Done, Answers, Fails}
@@ -33,19 +33,22 @@ use Rattle.pv_eval.specs.Permission.{permits}
 use Rattle.pv_eval.specs.Accesses.{access_to, writes_permitted, writes_at, writes_to, writes}
 use Rattle.pv_eval.specs.Operations.{Op, Writes, does, act}
 use Rattle.pv_eval.specs.Sequenced.{Given, with_given, done, operand}
-use Rattle.pv_eval.specs.Steps.{Calling, converted, source_of, writing}
-use Rattle.pv_eval.specs.Evaluation.{ev, ev_form}
+use Rattle.pv_eval.specs.Steps.{Calling, source_of, writing}
+use Rattle.pv_eval.specs.Evaluation.{ev}
 use Rattle.pv_eval.specs.Frames.{first_after, second_after}
 use Rattle.pv_eval.specs.Plainly.{setting_by, turned, AreReads, has_read, Yields, form_by, GivesValue, whole_turns, Performs, WritesTo, StoresAt, IsConverted, HasReached, found_worth}
 use Rattle.pv_eval.proofs.Cases.{begins, goes-on}
 use Rattle.pv_eval.proofs.Guards.{both_of}
 use Rattle.pv_eval.proofs.Through.{fits_lvalue}
-use Rattle.pv_eval.proofs.PlainSteps.{reads_both, node_begun, node_stops, operand_stops}
+use Rattle.pv_eval.proofs.PlainSteps.{node_begun, node_stops, operand_stops}
 use Rattle.pv_eval.proofs.PlainNumbers.{not_less}
 
 -- an expression that is plain
 turns_plain : (x : TypedTree) (k : ℕ) → turns_of x ≡ Some k → whole_turns x ≡ Some k
 turns_plain (Node t line turn (Assign a d)) k e = absurd cc
+turns_plain (Node t line turn (CompoundAssign o i a d)) k e = absurd cc
+turns_plain (Node t line turn (PointerAssign sign a d)) k e = absurd cc
+turns_plain (Node t line turn (Increment o a)) k e = absurd cc
 turns_plain (Node t line turn f) k e = e
 
 pub performs_plain : (u : Stored) (w new : World) (x : TypedTree) (v : Worth) → new ≡ w → Yields u w x v → Performs u w new x v
@@ -70,11 +73,22 @@ capped_some (Some n) k e = by (nat_le n 1000) e
 pub plain_whole : (x : TypedTree) (k : ℕ) → Some k ≡ capped (turns_of x) → whole_turns x ≡ Some k
 plain_whole x k e = turns_plain x k (capped_some (turns_of x) k e)
 
-pub assign_whole : (x y z : TypedTree) (j k : ℕ) → form_of x ≡ Assign y z → Some j ≡ capped (turns_of y) → Some k ≡ capped (turns_of z) → whole_turns x ≡ Some (j + k + 1)
-assign_whole (Node t line turn f) y z j k form e h =
-    ap (λ (g : Form). whole_turns (Node t line turn g)) form
-    ∙ ap (λ o. counted true (both o (turns_of z))) (capped_some (turns_of y) j e)
+-- the turns of operands, and that of their node
+pub both_turns : (y z : TypedTree) (j k : ℕ) → Some j ≡ capped (turns_of y) → Some k ≡ capped (turns_of z) → counted true (both (turns_of y) (turns_of z)) ≡ Some (j + k + 1)
+both_turns y z j k e h =
+    ap (λ o. counted true (both o (turns_of z))) (capped_some (turns_of y) j e)
     ∙ ap (λ o. counted true (both (Some j) o)) (capped_some (turns_of z) k h)
+
+pub one_turns : (y : TypedTree) (j : ℕ) → Some j ≡ capped (turns_of y) → counted true (turns_of y) ≡ Some (j + 1)
+one_turns y j e = ap (counted true) (capped_some (turns_of y) j e)
+
+-- the turns of a root, by its form
+pub root_whole : (x : TypedTree) (f : Form) (o : Option ℕ) → form_of x ≡ f → ((t : Ty) (line : ℕ) (turn : Bool) → whole_turns (Node t line turn f) ≡ o) → whole_turns x ≡ o
+root_whole (Node t line turn g) f o form h = ap (λ (q : Form). whole_turns (Node t line turn q)) form ∙ h t line turn
+
+pub root_some : (x : TypedTree) (f : Form) (o r : Option ℕ) → form_of x ≡ f → ((t : Ty) (line : ℕ) (turn : Bool) → whole_turns (Node t line turn f) ≡ o) → IfSome r (λ k. o ≡ Some k) → IfSome r (λ k. whole_turns x ≡ Some k)
+root_some x f o None form h e = tt
+root_some x f o (Some k) form h e = root_whole x f o form h ∙ e
 
 -- a store that tells nothing
 module _ (w : World) (a : ℕ) (bytes : List Byte) (out : List ℕ) (es : List Marked) (n : ℕ) where
@@ -90,7 +104,7 @@ module _ (w : World) (a : ℕ) (bytes : List Byte) (out : List ℕ) (es : List M
       ap (λ c. if c then by_side (slice_get sides (pair_count w)) v line new quiet (turned w out es n) else Gives v (told_of new quiet (turned w out es n))) (not_less (pair_count w))
       ∙ ap (Gives v) told_nothing
 
-  act_puts : (b : Setting) (line : ℕ) (op : Op) (v : Worth) → does b op w ≡ Answers v new quiet → act b line op (turned w out es n) ≡ Gives v (turned new out es n)
+  pub act_puts : (b : Setting) (line : ℕ) (op : Op) (v : Worth) → does b op w ≡ Answers v new quiet → act b line op (turned w out es n) ≡ Gives v (turned new out es n)
   act_puts b line op v h = ap (λ d. acted b line d (turned w out es n)) h ∙ answered_put b.sides v line
 
 -- the operand of a store was read from no structure
@@ -99,11 +113,11 @@ from_nowhere (Node t line turn (Read a)) (found.Number k) = refl
 from_nowhere (Node t line turn (Read a)) (found.Place p) = refl
 from_nowhere (Node t line turn f) v = refl
 
-value_from : (r r' : Res Given) (v : Worth) (s : State) → r ≡ r' → GivesValue r' v s → GivesValue r v s
+pub value_from : (r r' : Res Given) (v : Worth) (s : State) → r ≡ r' → GivesValue r' v s → GivesValue r v s
 value_from r r' v s e h = record { given = h.given; value = h.value; is = e ∙ h.is }
 
 -- an operand, and then what follows
-operand_value : (u : Stored) (w : World) (call : Calling) (bound : ℕ) (sides : Option (List Bool)) (zap : Bool) (out : List ℕ) (es : List Marked) (x : TypedTree) (first v : Worth) (y : Yields u w x first) (gs : List Access) (n : ℕ)
+pub operand_value : (u : Stored) (w : World) (call : Calling) (bound : ℕ) (sides : Option (List Bool)) (zap : Bool) (out : List ℕ) (es : List Marked) (x : TypedTree) (first v : Worth) (y : Yields u w x first) (gs : List Access) (n : ℕ)
     (go : Open → Worth → State → Res Given) (s : State) → AreReads gs → n + y.turns ≤ bound
     → ((more : List Access) → AreReads more → GivesValue (go (has_read [] (gs ++ more)) first (turned w out es (n + y.turns))) v s)
     → GivesValue (operand (ev (setting_by u bound sides zap) call x) (has_read [] gs) (turned w out es n) go) v s

@@ -1,5 +1,5 @@
 -- Full expressions that are evaluated at once.
-use Rattle.std.proofs.Common.{◌≡◌, ℕ, ◌+◌, ◌++◌, ◌≤◌, List, [], ◌∷◌, refl, sym, ap, ◌∙◌, arith, subst, Some}
+use Rattle.std.proofs.Common.{◌≡◌, ℕ, ◌+◌, ◌++◌, List, [], ◌∷◌, sym, ap, ◌∙◌, arith, subst, Some}
 use Rattle.pv_tree.specs.declared.nodes.NodeId.{NodeId}
 use Rattle.pv_typed.specs.Tables.{Stored, expression_at}
 use Rattle.pv_seq.specs.Sequencing.{Open, opened}
@@ -7,14 +7,13 @@ use Rattle.pv_world.specs.Worlds.{Worth}
 use Rattle.pv_eval.specs.declared.frames.Frame.{Frame}
 use Rattle.pv_eval.specs.declared.frames.Now.{Now}
 use Rattle.pv_eval.specs.declared.frames.Now.TheVariants.{Due}
-use Rattle.pv_eval.specs.declared.marked.Marked.{Marked}
 use Rattle.pv_eval.specs.States.{Setting, State, Stops, Turns, then_do}
 use Rattle.pv_eval.specs.Steps.{Calling}
 use Rattle.pv_eval.specs.Evaluation.{ev}
 use Rattle.pv_eval.specs.Stack.{rest}
 use Rattle.pv_eval.specs.Frames.{after}
 use Rattle.pv_eval.specs.Ahead.{ahead}
-use Rattle.pv_eval.specs.Moments.{Moment, IsSetting, state_of}
+use Rattle.pv_eval.specs.Moments.{Moment, state_of}
 use Rattle.pv_eval.specs.Plainly.{setting_by, turned, GivesValue, whole_turns, Performs}
 use Rattle.pv_eval.specs.AtOnce.{Evaluated, Cut}
 

@@ -5,7 +5,8 @@ use Rattle.pv_tree.specs.declared.nodes.NodeId.{NodeId}
 use Rattle.pv_types.specs.Ty.{Ty}
 use Rattle.pv_prov.specs.declared.names.Prov.TheVariants.{Inst}
 use Rattle.pv_typed.specs.declared.nodes.Typed.{Typed}
-use Rattle.pv_typed.specs.TypedTree.{TypedTree, Node, Form, Assign}
+use Rattle.pv_typed.specs.declared.nodes.IncrementOperator.{IncrementOperator}
+use Rattle.pv_typed.specs.TypedTree.{TypedTree, Node, Form, Assign, CompoundAssign, PointerAssign, Increment}
 use Rattle.pv_typed.specs.Nodes.{form_in}
 use Rattle.pv_typed.specs.Tables.{Stored, whole, nodes, expression_at}
 use Rattle.pv_typed.specs.Plain.{counted, both, turns_of, turns_of_form}
@@ -18,6 +19,8 @@ use Rattle.pv_shadow.specs.declared.byte.Byte.{Byte}
 use Rattle.pv_object.specs.declared.values.Pointer.{Pointer}
 use Rattle.pv_object.specs.declared.values.Reach.{Reach}
 use Rattle.pv_object.specs.declared.values.Asker.TheVariants.{Access as AccessAsker}
+use Rattle.pv_num.specs.declared.kinds.IntKind.{IntKind}
+use Rattle.pv_num.specs.declared.operators.BinOp.{BinOp}
 use Rattle.pv_num.specs.declared.faults.Clause.{Clause}
 use Rattle.pv_object.specs.Access.{reach}
 use Rattle.pv_object.specs.Operations.{move_under}
@@ -32,12 +35,13 @@ use Rattle.pv_eval.specs.declared.plain.Found.{Found}
 use Rattle.pv_eval.specs.declared.plain.Found.TheVariants as found
 use Rattle.pv_eval.specs.declared.plain.Spot.{Spot}
 use Rattle.pv_eval.specs.declared.marked.Marked.{Marked}
-use Rattle.pv_eval.specs.States.{Setting, State, Res, Gives, Stops, Turns}
+use Rattle.pv_world.specs.declared.got.How.TheVariants.{Rounds}
+use Rattle.pv_eval.specs.States.{Setting, State, Res, Gives, Stops, Turns, then_do}
 use Rattle.pv_eval.specs.TypeForms.{lvalue}
 use Rattle.pv_eval.specs.Suiting.{knows}
-use Rattle.pv_eval.specs.Operations.{Op, Reads, Writes, does}
+use Rattle.pv_eval.specs.Operations.{Op, Converts, Reads, Writes, does, act}
 use Rattle.pv_eval.specs.Sequenced.{Given, done}
-use Rattle.pv_eval.specs.Steps.{Calling, takes, converted}
+use Rattle.pv_eval.specs.Steps.{Calling, takes, converted, combining, stepping}
 use Rattle.pv_eval.specs.Evaluation.{ev, ev_form}
 use Rattle.pv_eval.specs.Frames.{first_after, second_after}
 use Rattle.pv_eval.specs.Ahead.{first_operand_of, second_operand_of}
@@ -110,9 +114,13 @@ pub record GivesValue (r : Res Given) (v : Worth) (s : State) : Type 0 where
   pub value : given.value ≡ v
   pub is : r ≡ Gives given s
 
--- 6.8p4: how many turns a full expression takes that is plain but for a store at its root (6.5.16.1)
+-- 6.8p4: how many turns a full expression takes that is plain but for a store at its root (6.5.16.1), which may read the same lvalue
+-- first (6.5.2.4, 6.5.3.1, 6.5.16.2)
 abbrev pub whole_turns : TypedTree → Option ℕ
 whole_turns (Node t line turn (Assign x y)) = counted true (both (turns_of x) (turns_of y))
+whole_turns (Node t line turn (CompoundAssign o k x y)) = counted true (both (turns_of x) (turns_of y))
+whole_turns (Node t line turn (PointerAssign sign x y)) = counted true (both (turns_of x) (turns_of y))
+whole_turns (Node t line turn (Increment o x)) = counted true (turns_of x)
 whole_turns x = turns_of x
 
 -- 6.8p4: from this world the full expression gives this value, in as many turns, and leaves that world
@@ -139,6 +147,19 @@ IsConverted x v z = (b : Setting) (w : World) (out : List ℕ) (es : List Marked
 -- a place in an instance, as a pointer (the memory model)
 abbrev pub pointer_at : Spot → Pointer
 pointer_at p = record { address = p.address; prov = Inst p.inst }
+
+-- 6.5.2.4p2, 6.5.3.1p2: a value of this type that is stepped gives this value, from this world, and leaves the state as it is
+abbrev pub StepsTo : Stored → World → Ty → IncrementOperator → (before behind : Worth) → Type 0
+StepsTo u w t o v z =
+    (bound : ℕ) (sides : Option (List Bool)) (zap : Bool) (line : ℕ) (out : List ℕ) (es : List Marked) (n : ℕ)
+    → stepping (setting_by u bound sides zap) line t o v (turned w out es n) ≡ Gives z (turned w out es n)
+
+-- 6.5.16.2p3: what was read, converted, and the value of the operand with it, combined and converted back, give this value in any
+-- state, which stays as it is; said of whatever comes behind
+abbrev pub CombinesTo : TypedTree → BinOp → (kind back : IntKind) → (read second z : Worth) → Type 0
+CombinesTo x o k back v w z =
+    (b : Setting) (world : World) (line : ℕ) (out : List ℕ) (es : List Marked) (n : ℕ) (go : Worth → State → Res Given)
+    → then_do (act b line (Converts (Rounds k) v) (turned world out es n)) (λ v s. then_do (converted b x w s) (λ w s. then_do (combining b line o k back v w s) go)) ≡ go z (turned world out es n)
 
 -- what was found, as what an expression gives (6.5p1)
 abbrev pub found_worth : Found → Worth

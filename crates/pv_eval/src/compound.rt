@@ -455,7 +455,7 @@ fn step_value(
 }
 
 /// The operator that adds 1 or takes it off.
-fn operator(o: IncrementOperator) -> BinOp
+pub(crate) fn operator(o: IncrementOperator) -> BinOp
     ensures { result ≡ (if is_down o then BinOp.Sub else BinOp.Add) }
 {
     match o {
@@ -467,7 +467,7 @@ fn operator(o: IncrementOperator) -> BinOp
 }
 
 /// Whether 1 is taken off.
-fn down(o: IncrementOperator) -> bool
+pub(crate) fn down(o: IncrementOperator) -> bool
     ensures { result ≡ is_down o }
 {
     match o {
@@ -479,7 +479,7 @@ fn down(o: IncrementOperator) -> bool
 }
 
 /// Whether the operator stands behind its operand, and gives the old value.
-fn after(o: IncrementOperator) -> bool
+pub(crate) fn after(o: IncrementOperator) -> bool
     ensures { result ≡ is_after o }
 {
     match o {

@@ -31,6 +31,7 @@ mod plain_numbers;
 mod plain_places;
 mod plain_reads;
 mod plain_stores;
+mod plain_updates;
 mod plain_whole;
 mod pointed_calls;
 mod reading;

@@ -1,5 +1,5 @@
 // Plain expressions (C17 6.5) without a machine: what one gives from a world, where nothing stops it.
-ghost use Rattle.std.specs.Prelude.{◌≡◌, IfSome};
+ghost use Rattle.std.specs.Prelude.{IfSome};
 ghost use Rattle.pv_typed.specs.TypedTree.{type_of};
 ghost use Rattle.pv_typed.specs.Formed.{AreKnown, NamesIn};
 ghost use Rattle.pv_typed.specs.Children.{HasOperands};

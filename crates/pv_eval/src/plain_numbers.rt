@@ -7,6 +7,7 @@ ghost use Rattle.pv_typed.specs.TypedTree.{type_of};
 ghost use Rattle.pv_typed.specs.Tables.{expression_at, IsExpression};
 ghost use Rattle.pv_world.specs.Worlds.{World as Seen};
 ghost use Rattle.pv_world.specs.Worths.{int};
+ghost use Rattle.pv_world.specs.declared.got.How.TheVariants.{Rounds};
 ghost use Rattle.pv_eval.specs.Conversions.{how_to};
 ghost use Rattle.pv_eval.specs.Suiting.{is_small};
 ghost use Rattle.pv_eval.specs.Operations.{Calculates, CalculatesOne, Converts, Negates};
@@ -170,6 +171,29 @@ fn calculated_one(op: UnOp, kind: IntKind, x: i64) -> Option<i64>
         Ok(z) => small(z),
         Err(_) => None,
     }
+}
+
+/// An operator on two numbers that were found.
+pub(crate) fn operated(op: BinOp, kind: IntKind, v: Found, w: Found) -> Option<Found>
+    ensures { IfSome result (λ z. AlwaysGives (λ b. Calculates op kind (found_worth v) (found_worth w)) (found_worth z)) }
+{
+    let x = number(v)?;
+    let y = number(w)?;
+    match calculated(op, kind, x, y) {
+        Some(z) => Some(Found::Number(z)),
+        None => None,
+    }
+}
+
+/// A number that was found, converted to a kind (C17 6.3.1.2, 6.3.1.3).
+pub(crate) fn kept(kind: IntKind, v: Found) -> Option<Found>
+    ensures { IfSome result (λ z. AlwaysGives (λ b. Converts (Rounds kind) (found_worth v)) (found_worth z)) }
+{
+    let x = number(v)?;
+    if !is_small(x) {
+        return None;
+    }
+    integer(convert(kind, i128::from(x)))
 }
 
 /// Whether an integer is 0, as the `!` of a node gives it (C17 6.5.3.3p5).

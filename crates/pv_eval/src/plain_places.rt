@@ -94,7 +94,13 @@ fn distance(minus: bool, size: u64, n: i128) -> i128
 }
 
 /// A place moved by so many elements of this size.
-fn element(world: &World, minus: bool, size: u64, place: Found, index: Found) -> Option<Found>
+pub(crate) fn element(
+    world: &World,
+    minus: bool,
+    size: u64,
+    place: Found,
+    index: Found,
+) -> Option<Found>
     requires { size ≤ 2 ^ 32 }
     ensures { IfSome result (λ v. GivesAt world.now (λ b. Moves minus true size (found_worth place) (found_worth index)) (found_worth v)) }
 {
@@ -113,7 +119,7 @@ fn element(world: &World, minus: bool, size: u64, place: Found, index: Found) ->
 }
 
 /// The size of what a pointer of the type points to, if it is a pointer type.
-fn pointed_size(unit: &TypedUnit, t: TypeId) -> Option<u64>
+pub(crate) fn pointed_size(unit: &TypedUnit, t: TypeId) -> Option<u64>
     ensures pointer { IfSome result (λ n. is_pointer (tree unit.now.known t.0) ≡ true) }
     ensures size { IfSome result (λ n. n ≡ element_in unit.now.known (tree unit.now.known t.0)) }
     ensures small { IfSome result (λ n. n ≤ 2 ^ 32) }

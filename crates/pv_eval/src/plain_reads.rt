@@ -11,8 +11,9 @@ ghost use Rattle.pv_object.specs.Access.{readonly_stop};
 ghost use Rattle.pv_object.specs.Loading.{is_trap};
 ghost use Rattle.pv_typed.specs.declared.nodes.Typed.{Typed as Row};
 ghost use Rattle.pv_typed.specs.Formed.{AreKnown};
-ghost use Rattle.pv_typed.specs.Tables.{IsExpression};
-ghost use Rattle.pv_world.specs.Worths.{int, pointer};
+ghost use Rattle.pv_typed.specs.TypedTree.{type_of};
+ghost use Rattle.pv_typed.specs.Tables.{expression_at, IsExpression};
+ghost use Rattle.pv_world.specs.Worths.{pointer, pointer_of};
 ghost use Rattle.pv_world.specs.declared.got.Shape.{Shape as Form};
 ghost use Rattle.pv_eval.specs.TypeForms.{shape_of};
 ghost use Rattle.pv_eval.specs.Sizes.{IsComplete};
@@ -21,7 +22,7 @@ ghost use Rattle.pv_eval.specs.Plainly.{GivesWith, ReadsFrom, HasReached, IsPlai
 use crate::permission::permits;
 use crate::plain::{Found, Spot};
 use crate::plain_bytes::plain_number;
-use crate::plain_numbers::small;
+use crate::plain_numbers::integer;
 use crate::types::{Complete, align_of, measured, shape};
 use pv_inst::{Kind, Tried};
 use pv_num::{IntKind, convert};
@@ -138,11 +139,11 @@ fn load(
     l: Complete,
     kind: IntKind,
     p: Spot,
-) -> Option<i64>
+) -> Option<Found>
     requires known { AreKnown unit.now }
     requires complete { IsComplete unit.now.known l }
     requires form { shape_of (tree unit.now.known l.t.0) ≡ Form.Int kind }
-    ensures { IfSome result (λ x. ReadsFrom unit.now world.now (tree unit.now.known l.t.0) (pointer_at p) (int x)) }
+    ensures { IfSome result (λ v. ReadsFrom unit.now world.now (tree unit.now.known l.t.0) (pointer_at p) (found_worth v)) }
 {
     if l.size > 8 {
         return None;
@@ -158,7 +159,7 @@ fn load(
     if traps(kind, number) {
         return None;
     }
-    small(convert(kind, i128::from(number)))
+    integer(convert(kind, i128::from(number)))
 }
 
 /// Whether an instance is live.
@@ -175,11 +176,11 @@ fn load_pointer(
     world: &World,
     l: Complete,
     p: Spot,
-) -> Option<Spot>
+) -> Option<Found>
     requires known { AreKnown unit.now }
     requires complete { IsComplete unit.now.known l }
     requires form { shape_of (tree unit.now.known l.t.0) ≡ Form.Pointer }
-    ensures { IfSome result (λ q. ReadsFrom unit.now world.now (tree unit.now.known l.t.0) (pointer_at p) (pointer (pointer_at q))) }
+    ensures { IfSome result (λ v. ReadsFrom unit.now world.now (tree unit.now.known l.t.0) (pointer_at p) (found_worth v)) }
 {
     if l.size != 8 {
         return None;
@@ -198,10 +199,34 @@ fn load_pointer(
     if !is_live(world, inst) {
         return None;
     }
-    Some(Spot {
+    Some(Found::Place(Spot {
         inst,
         address: there.address,
-    })
+    }))
+}
+
+/// What is read at the place that a node designates, through the node's type.
+pub(crate) fn read_at(
+    alloc: Global,
+    unit: &TypedUnit,
+    world: &World,
+    a: NodeId,
+    place: Found,
+) -> Option<Found>
+    requires known { AreKnown unit.now }
+    requires there { IsExpression unit.now a }
+    ensures place { IfSome result (λ v. found_worth place ≡ pointer (pointer_of (found_worth place))) }
+    ensures reads { IfSome result (λ v. ReadsFrom unit.now world.now (type_of (expression_at unit.now a)) (pointer_of (found_worth place)) (found_worth v)) }
+{
+    let Found::Place(p) = place else {
+        return None;
+    };
+    let l = measured(unit.types(), unit.type_of(a))?;
+    match shape(unit.types(), l.t) {
+        Shape::Int(kind) => load(alloc, unit, world, l, kind, p),
+        Shape::Pointer => load_pointer(alloc, unit, world, l, p),
+        Shape::Whole => None,
+    }
 }
 
 /// What a node reads at the place that its operand gave.
@@ -216,19 +241,5 @@ pub(crate) fn read(
     requires there { IsExpression unit.now a }
     ensures { (t : Ty) → IfSome result (λ v. GivesWith unit.now world.now t (Row.Read a) (found_worth place) (found_worth v)) }
 {
-    let Found::Place(p) = place else {
-        return None;
-    };
-    let l = measured(unit.types(), unit.type_of(a))?;
-    match shape(unit.types(), l.t) {
-        Shape::Int(kind) => {
-            let x = load(alloc, unit, world, l, kind, p)?;
-            Some(Found::Number(x))
-        }
-        Shape::Pointer => {
-            let q = load_pointer(alloc, unit, world, l, p)?;
-            Some(Found::Place(q))
-        }
-        Shape::Whole => None,
-    }
+    read_at(alloc, unit, world, a, place)
 }

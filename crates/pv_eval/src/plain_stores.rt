@@ -1,13 +1,15 @@
-// Full expressions that are plain but for a store at their root (C17 6.5.16.1).
-ghost use Rattle.std.specs.Prelude.{◌≡◌, true, false, Some, IfSome, IfNone};
+// Stores of what plain expressions give (C17 6.5.16p3, 6.5.16.1).
+ghost use Rattle.std.specs.Prelude.{◌≡◌, true, false, IfSome, IfNone};
 ghost use Rattle.pv_types.specs.Known.{tree};
 ghost use Rattle.pv_typed.specs.Formed.{AreKnown};
-ghost use Rattle.pv_typed.specs.TypedTree.{type_of};
-ghost use Rattle.pv_typed.specs.Tables.{expression_at, IsExpression};
+ghost use Rattle.pv_typed.specs.declared.nodes.Typed.{Typed as Row};
+ghost use Rattle.pv_typed.specs.Nodes.{form_in};
+ghost use Rattle.pv_typed.specs.TypedTree.{form_of, type_of};
+ghost use Rattle.pv_typed.specs.Tables.{nodes, expression_at, IsExpression};
 ghost use Rattle.pv_world.specs.Worths.{pointer, pointer_of};
 ghost use Rattle.pv_world.specs.Coming.{worth_of};
 ghost use Rattle.pv_eval.specs.Sizes.{IsComplete};
-ghost use Rattle.pv_eval.specs.Plainly.{Performs, IsConverted, StoresAt, whole_turns, found_worth, pointer_at};
+ghost use Rattle.pv_eval.specs.Plainly.{Performs, IsConverted, StoresAt, found_worth, pointer_at};
 
 use crate::permission::permits;
 use crate::plain::{Found, Spot, value};
@@ -36,7 +38,7 @@ pub(crate) fn got(v: Found) -> Got
 }
 
 /// The value of an operand, converted where its node is an implicit conversion between integers.
-fn converted_value(unit: &TypedUnit, d: NodeId, v: Found) -> Option<Found>
+pub(crate) fn converted_value(unit: &TypedUnit, d: NodeId, v: Found) -> Option<Found>
     requires { IsExpression unit.now d }
     ensures { IfSome result (λ z. IsConverted (expression_at unit.now d) (found_worth v) (found_worth z)) }
 {
@@ -77,7 +79,7 @@ fn store(alloc: Global, unit: &TypedUnit, world: &mut World, l: Complete, p: Spo
 }
 
 /// The assignment of a value to the place of the first operand, if nothing keeps it from being stored.
-fn assigned(
+pub(crate) fn assigned(
     alloc: Global,
     unit: &TypedUnit,
     world: &mut World,
@@ -100,40 +102,23 @@ fn assigned(
     store(alloc, unit, world, l, p, v)
 }
 
-/// How many turns a full expression takes that is plain but for a store at its root.
-pub(crate) fn whole_turns(unit: &TypedUnit, n: NodeId) -> Option<u64>
-    requires { IsExpression unit.now n }
-    ensures { IfSome result (λ k. whole_turns (expression_at unit.now n) ≡ Some k) }
-{
-    match unit.node(n) {
-        Typed::Assign(a, d) => {
-            let left = unit.plain_turns(a)?;
-            let right = unit.plain_turns(d)?;
-            Some(u64::from(left) + u64::from(right) + 1)
-        }
-        _ => {
-            let turns = unit.plain_turns(n)?;
-            Some(u64::from(turns))
-        }
-    }
-}
-
-/// The value of a full expression that is plain but for a store at its root, which is made; `None` where it is not found:
-/// then nothing has changed.
-pub(crate) fn perform(
+/// The assignment of a plain expression's value to a plain lvalue (C17 6.5.16.1), as a full expression; `None` where it is not
+/// made: then nothing has changed.
+pub(crate) fn assign(
     alloc: Global,
     unit: &TypedUnit,
     world: &mut World,
     n: NodeId,
+    a: NodeId,
+    d: NodeId,
 ) -> Option<Found>
     requires known { AreKnown unit.now }
-    requires there { IsExpression unit.now n }
+    requires left { IsExpression unit.now a }
+    requires right { IsExpression unit.now d }
+    requires form { form_of (expression_at unit.now n) ≡ form_in unit.now.lists (nodes unit.now) (Row.Assign a d) }
     ensures some { IfSome result (λ v. Performs unit.now world.old world.new (expression_at unit.now n) (found_worth v)) }
     ensures none { IfNone result (world.new ≡ world.old) }
 {
-    let Typed::Assign(a, d) = unit.node(n) else {
-        return value(alloc, unit, world, n);
-    };
     let place = value(alloc, unit, world, a)?;
     let second = value(alloc, unit, world, d)?;
     let v = converted_value(unit, d, second)?;

@@ -1,15 +1,77 @@
 // Full expressions at once (C17 6.8p4): their values and their turns, without a machine, where nothing stops them.
-ghost use Rattle.std.specs.Prelude.{◌≡◌, ◌<◌, ◌≤◌, IfSome, IfNone};
-ghost use Rattle.pv_typed.specs.Tables.{IsExpression};
+ghost use Rattle.std.specs.Prelude.{◌≡◌, ◌<◌, ◌≤◌, true, Some, IfSome, IfNone};
+ghost use Rattle.pv_typed.specs.Formed.{AreKnown};
+ghost use Rattle.pv_typed.specs.Plain.{counted, both, turns_of};
+ghost use Rattle.pv_typed.specs.Tables.{expression_at, IsExpression};
 ghost use Rattle.pv_world.specs.Coming.{worth_of};
 ghost use Rattle.pv_eval.specs.Runnable.{IsRunnable};
+ghost use Rattle.pv_eval.specs.Plainly.{Performs, whole_turns, found_worth};
 ghost use Rattle.pv_eval.specs.AtOnce.{Evaluated, Cut};
 
 use crate::moment::Moment;
-use crate::plain_stores::{got, perform, whole_turns};
+use crate::plain::{Found, value};
+use crate::plain_stores::{assign, got};
+use crate::plain_updates::{compound_assign, increment, pointer_assign};
 use pv_tree::NodeId;
-use pv_typed::TypedUnit;
-use pv_world::Got;
+use pv_typed::{Typed, TypedUnit};
+use pv_world::{Got, World};
+use std::alloc::Global;
+
+/// The turns of two plain operands, and that of their node.
+fn turns_of_both(unit: &TypedUnit, a: NodeId, d: NodeId) -> Option<u64>
+    requires left { IsExpression unit.now a }
+    requires right { IsExpression unit.now d }
+    ensures { IfSome result (λ k. counted true (both (turns_of (expression_at unit.now a)) (turns_of (expression_at unit.now d))) ≡ Some k) }
+{
+    let left = unit.plain_turns(a)?;
+    let right = unit.plain_turns(d)?;
+    Some(u64::from(left) + u64::from(right) + 1)
+}
+
+/// The turns of a plain operand, and that of its node.
+fn turns_of_one(unit: &TypedUnit, a: NodeId) -> Option<u64>
+    requires { IsExpression unit.now a }
+    ensures { IfSome result (λ k. counted true (turns_of (expression_at unit.now a)) ≡ Some k) }
+{
+    let turns = unit.plain_turns(a)?;
+    Some(u64::from(turns) + 1)
+}
+
+/// How many turns a full expression takes that is plain but for a store at its root.
+fn whole_turns(unit: &TypedUnit, n: NodeId) -> Option<u64>
+    requires { IsExpression unit.now n }
+    ensures { IfSome result (λ k. whole_turns (expression_at unit.now n) ≡ Some k) }
+{
+    match unit.node(n) {
+        Typed::Assign(a, d) => turns_of_both(unit, a, d),
+        Typed::CompoundAssign(_, _, a, d) => turns_of_both(unit, a, d),
+        Typed::PointerAssign(_, a, d) => turns_of_both(unit, a, d),
+        Typed::Increment(_, a) => turns_of_one(unit, a),
+        _ => {
+            let turns = unit.plain_turns(n)?;
+            Some(u64::from(turns))
+        }
+    }
+}
+
+/// The value of a full expression that is plain but for a store at its root, which is made; `None` where it is not found:
+/// then nothing has changed.
+fn perform(alloc: Global, unit: &TypedUnit, world: &mut World, n: NodeId) -> Option<Found>
+    requires known { AreKnown unit.now }
+    requires there { IsExpression unit.now n }
+    ensures some { IfSome result (λ v. Performs unit.now world.old world.new (expression_at unit.now n) (found_worth v)) }
+    ensures none { IfNone result (world.new ≡ world.old) }
+{
+    match unit.node(n) {
+        Typed::Assign(a, d) => assign(alloc, unit, world, n, a, d),
+        Typed::CompoundAssign(op, at, a, d) => {
+            compound_assign(alloc, unit, world, n, op, at, a, d)
+        }
+        Typed::PointerAssign(sign, a, d) => pointer_assign(alloc, unit, world, n, sign, a, d),
+        Typed::Increment(o, a) => increment(alloc, unit, world, n, o, a),
+        _ => value(alloc, unit, world, n),
+    }
+}
 
 impl Moment {
     /// Evaluates a full expression at once, where it is plain but for a store at its root, where nothing stops it, and

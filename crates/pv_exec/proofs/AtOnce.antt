@@ -1,5 +1,5 @@
 -- An expression that is evaluated at once, within a run.
-use Rattle.std.proofs.Common.{◌≡◌, ℕ, ◌+◌, ◌<◌, ◌≤◌, Bool, true, false, List, refl, sym, ap, ◌∙◌, subst, arith}
+use Rattle.std.proofs.Common.{◌≡◌, ℕ, ◌+◌, ◌<◌, ◌≤◌, Bool, true, false, List, sym, ap, ◌∙◌, subst, arith}
 use Rattle.std.specs.Prelude.{reverse, Result, Ok, Err, length, if◌then◌else◌}
 use Rattle.std.proofs.lemmas.List.Elements.{All-weaker}
 use Rattle.pv_typed.specs.Tables.{Stored}
@@ -18,7 +18,7 @@ use Rattle.pv_exec.specs.declared.task.Doing.{Doing}
 use Rattle.pv_exec.specs.declared.task.Doing.TheVariants as doing
 use Rattle.pv_exec.specs.Tasks.{Reached, Valued}
 use Rattle.pv_exec.specs.Calls.{below}
-use Rattle.pv_exec.specs.Works.{does, due, others, after_work, Standing, Holds}
+use Rattle.pv_exec.specs.Works.{does, due, others, after_work, Standing}
 use Rattle.pv_exec.specs.Fits.{Runs, DoingFits, TasksStand}
 use Rattle.pv_eval.specs.Plainly.{GivesValue}
 use Rattle.pv_eval.specs.AtOnce.{EvaluatedFirst, CutFirst}

@@ -3,7 +3,6 @@ ghost use Rattle.std.specs.Prelude.{◌≡◌, ◌+◌, ◌<◌, ◌≤◌, ◌^
 ghost use Rattle.pv_eval.specs.MachineSteps.{Fit, KeepsSetting};
 ghost use Rattle.pv_eval.specs.Runnable.{IsRunnable};
 ghost use Rattle.pv_eval.specs.Machines.{is_ended, after_first};
-ghost use Rattle.pv_eval.specs.AtOnce.{EvaluatedFirst, CutFirst};
 ghost use Rattle.pv_exec.specs.Works.{due, others};
 ghost use Rattle.pv_exec.specs.Fits.{Runs, AfterRuns};
 ghost use Rattle.pv_exec.specs.Turning.{SettledLed, advanced_by, AdvancedLed, AtOnceLed, CutBefore, DueAfter, AdvancedRuns, AdvancedPace};

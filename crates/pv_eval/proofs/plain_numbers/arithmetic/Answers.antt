@@ -1,4 +1,4 @@
-use Rattle.std.proofs.Common.{◌≡◌, FitsSigned, rules, sym, ap, ◌∙◌, subst, ℤ, w64, to_z, of_z}
+use Rattle.std.proofs.Common.{FitsSigned, rules, sym, ap, ◌∙◌, subst, ℤ, w64, to_z, of_z}
 use Rattle.std.proofs.lemmas.Int.{to_z-of_z}
 use Rattle.pv_types.specs.Known.{Known, tree}
 use Rattle.pv_typed.specs.declared.nodes.Typed.TheVariants.{Arithmetic}

@@ -1,4 +1,4 @@
-use Rattle.std.proofs.Common.{◌≡◌, FitsSigned, rules, sym, subst, ℤ, false, w64, to_z, of_z}
+use Rattle.std.proofs.Common.{FitsSigned, rules, sym, subst, ℤ, false, w64, to_z, of_z}
 use Rattle.std.proofs.lemmas.Int.{to_z-of_z}
 use Rattle.pv_types.specs.Ty.{Ty}
 use Rattle.pv_types.specs.Known.{tree}

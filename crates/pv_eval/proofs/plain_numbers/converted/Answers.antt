@@ -1,4 +1,4 @@
-use Rattle.std.proofs.Common.{◌≡◌, IfSome, FitsSigned, rules, sym, ap, ◌∙◌, subst, ℤ, true, w64}
+use Rattle.std.proofs.Common.{IfSome, FitsSigned, rules, subst, ℤ, true, w64}
 use Rattle.std.proofs.lemmas.Int.{to_z-of_z}
 use Rattle.pv_types.specs.Known.{tree}
 use Rattle.pv_typed.specs.Tables.{expression_at}

@@ -1,4 +1,4 @@
-use Rattle.std.proofs.Common.{◌≡◌, ◌^◌, Some, FitsSigned, rules, sym, ap, ◌∙◌, subst, ℤ, true, w64, to_z, of_z}
+use Rattle.std.proofs.Common.{◌^◌, Some, FitsSigned, rules, sym, ap, ◌∙◌, subst, ℤ, true, w64, to_z, of_z}
 use Rattle.std.specs.Int.{w128}
 use Rattle.std.proofs.lemmas.Int.{to_z-of_z}
 use Rattle.std.proofs.lemmas.Bool.{le-leb}

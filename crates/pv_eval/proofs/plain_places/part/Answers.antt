@@ -1,4 +1,4 @@
-use Rattle.std.proofs.Common.{◌≡◌, Some, FitsSigned, rules, sym, ap, ◌∙◌, subst, ℤ, w64, to_z, of_z}
+use Rattle.std.proofs.Common.{Some, FitsSigned, rules, sym, ap, ◌∙◌, subst, ℤ, w64, to_z, of_z}
 use Rattle.std.specs.Int.{w128}
 use Rattle.std.proofs.lemmas.Int.{to_z-of_z}
 use Rattle.pv_num.specs.declared.faults.Clause.TheVariants.{Indirection}

@@ -6,7 +6,8 @@ use Rattle.pv_num.specs.Kinds.{convert_of}
 use Rattle.pv_types.specs.Known.{Known, tree, env}
 use Rattle.pv_types.specs.Layouts.{layout_in}
 use Rattle.pv_eval.specs.TypeForms.{alignment_by}
-use Rattle.pv_eval.specs.Plainly.{pointer_at}
+use Rattle.pv_world.specs.Worths.{int}
+use Rattle.pv_eval.specs.Plainly.{pointer_at, found_worth}
 use Rattle.pv_eval.proofs.Through.{lvalue_fits}
 use Rattle.pv_eval.proofs.PlainReads.{read_some}
 use Rattle.pv_eval.proofs.plain_reads.load.Goals as goal
@@ -22,7 +23,7 @@ returns c =
     c.align_of.ensures.align
     ∙ ap (λ (m : Known). alignment_by (env m) (tree m c.args.l.t.0)) c.types.ensures
     ∙ ap (λ (b : Bool). if b then (layout_in (env u.known) t).align else 1) c.requires.complete.complete in
-    read_some u w t c.args.kind (pointer_at c.args.p) c.in_ok-at.at c.args.l.size c.align_of.result c.in_ok-number.number c.convert.result c.small.result c.requires.form (lvalue_fits u c.args.l c.requires.complete)
+    read_some u w t c.args.kind (pointer_at c.args.p) c.in_ok-at.at c.args.l.size c.align_of.result c.in_ok-number.number c.convert.result c.integer.result c.requires.form (lvalue_fits u c.args.l c.requires.complete)
     c.requires.complete.size align c.in_ok-at.ensures.reached (sym c.in-Ok-true.ensures ∙ c.in-Ok-true.field-0-test) (c.is_told.ensures c.if-not-is_told.false) c.in_ok-number.ensures (sym c.traps.ensures ∙ c.if-traps.false)
     (c.convert.ensures.value ∙ ap (convert_of c.args.kind) (to_z-of_z w128 c.from.result f ∙ c.from.ensures))
-    (subst (λ (z : ℤ). IfSome c.small.result (λ q. q ≡ z)) (to_z-of_z w128 c.convert.result fz) c.small.ensures)
+    (subst (λ (z : ℤ). IfSome c.integer.result (λ q. found_worth q ≡ int z)) (to_z-of_z w128 c.convert.result fz) c.integer.ensures)

@@ -1,12 +1,11 @@
 use Rattle.std.proofs.Common.{◌≡◌, ◌+◌, ◌<◌, sym, subst, arith}
 use Rattle.pv_eval.specs.Moments.{state_of}
 use Rattle.pv_eval.specs.Machines.{Machine}
-use Rattle.pv_eval.specs.MachineSteps.{Fit, KeepsSetting}
+use Rattle.pv_eval.specs.MachineSteps.{KeepsSetting}
 use Rattle.pv_exec.specs.declared.turning.Advanced.{Advanced}
-use Rattle.pv_exec.specs.declared.task.Doing.TheVariants.{Evaluated}
 use Rattle.pv_exec.specs.Works.{due}
 use Rattle.pv_exec.specs.Fits.{Runs}
-use Rattle.pv_exec.specs.Turning.{AdvancedLed, AdvancedRuns, AdvancedPace, CutBefore}
+use Rattle.pv_exec.specs.Turning.{AdvancedLed, AdvancedRuns}
 use Rattle.pv_exec.proofs.Bounds.{holds-out, has-stores}
 use Rattle.pv_exec.proofs.Pieces.{keeps-both}
 use Rattle.pv_exec.proofs.Turns.{settled-runs, pace-of}

@@ -1,11 +1,9 @@
 use Rattle.std.proofs.Common.{sym, subst, arith, Ok, Err}
-use Rattle.pv_eval.specs.Moments.{state_of}
 use Rattle.pv_exec.specs.declared.once.After.{After}
 use Rattle.pv_exec.specs.declared.once.After.TheVariants as after
 use Rattle.pv_exec.specs.declared.turning.Advanced.{Advanced}
 use Rattle.pv_exec.specs.Leading.{OnceLed}
-use Rattle.pv_exec.specs.Turning.{AdvancedLed, AdvancedRuns, AdvancedPace}
-use Rattle.pv_exec.proofs.Bounds.{holds-out, has-stores}
+use Rattle.pv_exec.specs.Turning.{AdvancedLed, AdvancedRuns}
 use Rattle.pv_exec.proofs.Pieces.{keeps-both}
 use Rattle.pv_exec.proofs.Turns.{settled-led, settled-runs, once-led}
 use Rattle.pv_exec.proofs.turning.turn.Goals as goal

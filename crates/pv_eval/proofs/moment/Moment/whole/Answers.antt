@@ -1,4 +1,4 @@
-use Rattle.std.proofs.Common.{◌≡◌, ◌+◌, refl, sym, subst}
+use Rattle.std.proofs.Common.{◌+◌, refl, sym, subst}
 use Rattle.pv_world.specs.Worlds.{Worth}
 use Rattle.pv_eval.specs.Moments.{Moment, sides_of}
 use Rattle.pv_eval.specs.Plainly.{found_worth}

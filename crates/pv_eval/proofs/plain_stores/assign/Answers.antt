@@ -4,13 +4,13 @@ use Rattle.pv_world.specs.Worlds.{Worth}
 use Rattle.pv_world.specs.Worths.{pointer_of}
 use Rattle.pv_eval.specs.Plainly.{Yields, found_worth}
 use Rattle.pv_eval.proofs.PlainStores.{performs_assign}
-use Rattle.pv_eval.proofs.plain_stores.perform.Goals as goal
+use Rattle.pv_eval.proofs.plain_stores.assign.Goals as goal
 
 pub returns-then-assigned-clause-some : goal.returns-then-assigned-clause-some
 returns-then-assigned-clause-some c =
     let u = c.args.unit.now in
     let w = c.args.world.now in
     let place = found_worth c.in_ok-place.place in
-    performs_assign u w c.assigned.new.world c.args.n c.in-Assign.a c.in-Assign.d (pointer_of place) c.in_ok-second.second c.in_ok-v.v c.in-Assign.ensures.form
-    (subst (λ (v : Worth). Yields u w (expression_at u c.in-Assign.a) v) (c.assigned.ensures.place c.if-assigned.true) c.in_ok-place.ensures) c.in_ok-second.ensures c.in_ok-v.ensures
+    performs_assign u w c.assigned.new.world c.args.n c.args.a c.args.d (pointer_of place) c.in_ok-second.second c.in_ok-v.v c.requires.form
+    (subst (λ (v : Worth). Yields u w (expression_at u c.args.a) v) (c.assigned.ensures.place c.if-assigned.true) c.in_ok-place.ensures) c.in_ok-second.ensures c.in_ok-v.ensures
     (c.assigned.ensures.stored c.if-assigned.true)

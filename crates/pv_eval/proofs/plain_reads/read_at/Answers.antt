@@ -1,0 +1,29 @@
+use Rattle.std.proofs.Common.{sym, ap, ◌∙◌, subst}
+use Rattle.std.specs.Prelude.{IfSome}
+use Rattle.pv_types.specs.declared.terms.TypeId.{TypeId}
+use Rattle.pv_types.specs.Ty.{Ty}
+use Rattle.pv_types.specs.Known.{tree}
+use Rattle.pv_typed.specs.TypedTree.{type_of}
+use Rattle.pv_typed.specs.Tables.{expression_at}
+use Rattle.pv_world.specs.Worths.{pointer_of}
+use Rattle.pv_eval.specs.declared.plain.Found.{Found}
+use Rattle.pv_eval.specs.Plainly.{ReadsFrom, found_worth, pointer_at}
+use Rattle.pv_eval.proofs.plain_reads.read_at.Goals as goal
+
+pub returns-in-Int-clause-reads : goal.returns-in-Int-clause-reads
+returns-in-Int-clause-reads c =
+    let u = c.args.unit.now in
+    let w = c.args.world.now in
+    let r = c.load.result in
+    let same = ap (λ (q : TypeId). tree u.known q.0) c.in_ok-l.ensures.same ∙ c.type_of.ensures.tree in
+    subst (λ (q : Found). IfSome r (λ v. ReadsFrom u w (type_of (expression_at u c.args.a)) (pointer_of (found_worth q)) (found_worth v))) (sym c.in-Place.is)
+    (subst (λ (z : Ty). IfSome r (λ v. ReadsFrom u w z (pointer_at c.in-Place.p) (found_worth v))) same c.load.ensures)
+
+pub returns-in-Pointer-clause-reads : goal.returns-in-Pointer-clause-reads
+returns-in-Pointer-clause-reads c =
+    let u = c.args.unit.now in
+    let w = c.args.world.now in
+    let r = c.load_pointer.result in
+    let same = ap (λ (q : TypeId). tree u.known q.0) c.in_ok-l.ensures.same ∙ c.type_of.ensures.tree in
+    subst (λ (q : Found). IfSome r (λ v. ReadsFrom u w (type_of (expression_at u c.args.a)) (pointer_of (found_worth q)) (found_worth v))) (sym c.in-Place.is)
+    (subst (λ (z : Ty). IfSome r (λ v. ReadsFrom u w z (pointer_at c.in-Place.p) (found_worth v))) same c.load_pointer.ensures)

@@ -1,0 +1,165 @@
+// Plain lvalues that are read and written back (C17 6.5.2.4, 6.5.3.1, 6.5.16.2), as full expressions.
+ghost use Rattle.std.specs.Prelude.{◌≡◌, IfSome, IfNone, if◌then◌else◌};
+ghost use Rattle.pv_typed.specs.declared.nodes.Typed.{Typed as Row};
+ghost use Rattle.pv_typed.specs.Formed.{AreKnown};
+ghost use Rattle.pv_typed.specs.Nodes.{form_in};
+ghost use Rattle.pv_typed.specs.TypedTree.{form_of, type_of};
+ghost use Rattle.pv_typed.specs.Tables.{nodes, expression_at, IsExpression};
+ghost use Rattle.pv_eval.specs.TypeForms.{kind_of};
+ghost use Rattle.pv_eval.specs.Steps.{is_after};
+ghost use Rattle.pv_eval.specs.Plainly.{Performs, StepsTo, CombinesTo, found_worth};
+
+use crate::compound::{after, down, operator};
+use crate::plain::{Found, value};
+use crate::plain_numbers::{kept, operated};
+use crate::plain_places::{element, pointed_size};
+use crate::plain_reads::read_at;
+use crate::plain_stores::{assigned, converted_value};
+use crate::types::{kind, promoted, shape};
+use crate::values::minus;
+use pv_num::{BinOp, IntKind};
+use pv_tree::NodeId;
+use pv_typed::{IncrementOperator, Sign, TypedUnit};
+use pv_world::{Shape, World};
+use std::alloc::Global;
+
+/// 1 added to a value of the node's type, or taken off it (C17 6.5.2.4p2, 6.5.3.1p2).
+fn stepped(
+    unit: &TypedUnit,
+    world: &World,
+    n: NodeId,
+    o: IncrementOperator,
+    v: Found,
+) -> Option<Found>
+    requires { IsExpression unit.now n }
+    ensures { IfSome result (λ z. StepsTo unit.now world.now (type_of (expression_at unit.now n)) o (found_worth v) (found_worth z)) }
+{
+    let t = unit.type_of(n);
+    match shape(unit.types(), t) {
+        Shape::Int(kind) => {
+            let sum = operated(operator(o), promoted(kind), v, Found::Number(1))?;
+            kept(kind, sum)
+        }
+        Shape::Pointer => {
+            let size = pointed_size(unit, t)?;
+            element(world, down(o), size, v, Found::Number(1))
+        }
+        Shape::Whole => None,
+    }
+}
+
+/// What `++` or `--` gives, by the value before and the one behind (C17 6.5.2.4p2, p3, 6.5.3.1p2).
+fn chosen(o: IncrementOperator, v: Found, z: Found) -> Found
+    ensures { found_worth result ≡ (if is_after o then found_worth v else found_worth z) }
+{
+    if after(o) { v } else { z }
+}
+
+/// `++` and `--` of a plain lvalue, as a full expression; `None` where nothing is stored: then nothing has changed.
+pub(crate) fn increment(
+    alloc: Global,
+    unit: &TypedUnit,
+    world: &mut World,
+    n: NodeId,
+    o: IncrementOperator,
+    a: NodeId,
+) -> Option<Found>
+    requires known { AreKnown unit.now }
+    requires there { IsExpression unit.now n }
+    requires left { IsExpression unit.now a }
+    requires form { form_of (expression_at unit.now n) ≡ form_in unit.now.lists (nodes unit.now) (Row.Increment o a) }
+    ensures some { IfSome result (λ v. Performs unit.now world.old world.new (expression_at unit.now n) (found_worth v)) }
+    ensures none { IfNone result (world.new ≡ world.old) }
+{
+    let place = value(alloc, unit, world, a)?;
+    let v = read_at(alloc, unit, world, a, place)?;
+    let z = stepped(unit, world, n, o, v)?;
+    if assigned(alloc, unit, world, a, place, z) {
+        Some(chosen(o, v, z))
+    } else {
+        None
+    }
+}
+
+/// The operator of a compound assignment on what was read and the value of its right operand, both converted to the operator's
+/// kind, and the result converted back to the kind of the node's type (C17 6.5.16.2p3).
+fn combined(
+    unit: &TypedUnit,
+    n: NodeId,
+    op: BinOp,
+    at: IntKind,
+    d: NodeId,
+    v: Found,
+    second: Found,
+) -> Option<Found>
+    requires there { IsExpression unit.now n }
+    requires right { IsExpression unit.now d }
+    ensures { IfSome result (λ z. CombinesTo (expression_at unit.now d) op at (kind_of (type_of (expression_at unit.now n))) (found_worth v) (found_worth second) (found_worth z)) }
+{
+    let left = kept(at, v)?;
+    let right = converted_value(unit, d, second)?;
+    let z = operated(op, at, left, right)?;
+    kept(kind(unit.types(), unit.type_of(n)), z)
+}
+
+/// The compound assignment of a plain expression's value to a plain lvalue of an integer type, as a full expression; `None` where
+/// nothing is stored: then nothing has changed.
+pub(crate) fn compound_assign(
+    alloc: Global,
+    unit: &TypedUnit,
+    world: &mut World,
+    n: NodeId,
+    op: BinOp,
+    at: IntKind,
+    a: NodeId,
+    d: NodeId,
+) -> Option<Found>
+    requires known { AreKnown unit.now }
+    requires there { IsExpression unit.now n }
+    requires left { IsExpression unit.now a }
+    requires right { IsExpression unit.now d }
+    requires form { form_of (expression_at unit.now n) ≡ form_in unit.now.lists (nodes unit.now) (Row.CompoundAssign op at a d) }
+    ensures some { IfSome result (λ v. Performs unit.now world.old world.new (expression_at unit.now n) (found_worth v)) }
+    ensures none { IfNone result (world.new ≡ world.old) }
+{
+    let place = value(alloc, unit, world, a)?;
+    let v = read_at(alloc, unit, world, a, place)?;
+    let second = value(alloc, unit, world, d)?;
+    let z = combined(unit, n, op, at, d, v, second)?;
+    if assigned(alloc, unit, world, a, place, z) {
+        Some(z)
+    } else {
+        None
+    }
+}
+
+/// A plain lvalue of a pointer type that is moved by a plain expression's value (C17 6.5.16.2p1), as a full expression; `None`
+/// where nothing is stored: then nothing has changed.
+pub(crate) fn pointer_assign(
+    alloc: Global,
+    unit: &TypedUnit,
+    world: &mut World,
+    n: NodeId,
+    sign: Sign,
+    a: NodeId,
+    d: NodeId,
+) -> Option<Found>
+    requires known { AreKnown unit.now }
+    requires there { IsExpression unit.now n }
+    requires left { IsExpression unit.now a }
+    requires right { IsExpression unit.now d }
+    requires form { form_of (expression_at unit.now n) ≡ form_in unit.now.lists (nodes unit.now) (Row.PointerAssign sign a d) }
+    ensures some { IfSome result (λ v. Performs unit.now world.old world.new (expression_at unit.now n) (found_worth v)) }
+    ensures none { IfNone result (world.new ≡ world.old) }
+{
+    let size = pointed_size(unit, unit.type_of(n))?;
+    let place = value(alloc, unit, world, a)?;
+    let v = read_at(alloc, unit, world, a, place)?;
+    let second = value(alloc, unit, world, d)?;
+    let z = element(world, minus(sign), size, v, second)?;
+    if assigned(alloc, unit, world, a, place, z) {
+        Some(z)
+    } else {
+        None
+    }
+}
