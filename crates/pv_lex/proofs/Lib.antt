@@ -1,5 +1,6 @@
 pub mod Runs
 pub mod Rows
+pub mod Beginnings
 pub mod Values
 pub mod Joining
 pub mod Closing

@@ -1,5 +1,5 @@
 //! Words and punctuators, and what may stand at a place of the source.
-ghost use Rattle.std.specs.Prelude.{◌≡◌, ◌≤◌, ◌^◌, length, IfOk, IfSome, drop};
+ghost use Rattle.std.specs.Prelude.{◌≡◌, ◌≤◌, ◌^◌, ◌&&◌, length, IfOk, IfSome, drop};
 ghost use Rattle.std.specs.Option.{option_map};
 ghost use Rattle.pv_lex.specs.Bytes.{begins};
 ghost use Rattle.pv_lex.specs.Tables.{first_row, row_of};
@@ -9,9 +9,8 @@ ghost use Rattle.pv_lex.specs.Stands.{stands};
 ghost use Rattle.pv_lex.specs.Views.{stand_of};
 
 use crate::bytes::{Class, is_letter, run};
-use crate::marks::MARKS;
 use crate::tables::{first_row, row_of};
-use crate::words::WORDS;
+use crate::{marks, words};
 use pv_token::{Kind, Mark, Word};
 
 /// Why no piece begins at a place.
@@ -59,6 +58,16 @@ fn is_wide(word: &[u8]) -> bool
         || word == b"u8".as_slice()
 }
 
+/// Is a word the prefix of the literal that follows it? Few words stand before a quote, which is looked for first.
+fn is_prefix(word: &[u8], after: &[u8]) -> bool
+    ensures { result ≡ (is_wide word.now && begins is_quote after.now) }
+{
+    if !begins_quote(after) {
+        return false;
+    }
+    is_wide(word)
+}
+
 /// Does a literal begin here?
 fn begins_quote(text: &[u8]) -> bool
     ensures { result ≡ begins is_quote text.now }
@@ -73,7 +82,7 @@ pub(crate) fn word(text: &[u8]) -> Standing<'_>
     ensures { stand_of result ≡ word_at text.now }
 {
     let (word, after) = text.split_at(run(Class::Word, text));
-    if is_wide(word) && begins_quote(after) {
+    if is_prefix(word, after) {
         return Standing::Bad(Fault::Profile(word.len() as u32));
     }
     match keyword(word) {
@@ -83,19 +92,69 @@ pub(crate) fn word(text: &[u8]) -> Standing<'_>
     }
 }
 
-/// The keyword of this spelling, `Some(None)` for one that the profile leaves out.
+/// The keyword of this spelling, `Some(None)` for one that the profile leaves out. Its first byte decides which it may be.
 fn keyword(word: &[u8]) -> Option<Option<Word>>
     ensures { result ≡ row_of words word.now }
 {
-    row_of(&WORDS, word)
+    if word.is_empty() {
+        return None;
+    }
+    match word[0] {
+        b'_' => row_of(&words::UNDER_UNDERSCORE, word),
+        b'a' => row_of(&words::UNDER_A, word),
+        b'b' => row_of(&words::UNDER_B, word),
+        b'c' => row_of(&words::UNDER_C, word),
+        b'd' => row_of(&words::UNDER_D, word),
+        b'e' => row_of(&words::UNDER_E, word),
+        b'f' => row_of(&words::UNDER_F, word),
+        b'g' => row_of(&words::UNDER_G, word),
+        b'i' => row_of(&words::UNDER_I, word),
+        b'l' => row_of(&words::UNDER_L, word),
+        b'r' => row_of(&words::UNDER_R, word),
+        b's' => row_of(&words::UNDER_S, word),
+        b't' => row_of(&words::UNDER_T, word),
+        b'u' => row_of(&words::UNDER_U, word),
+        b'v' => row_of(&words::UNDER_V, word),
+        b'w' => row_of(&words::UNDER_W, word),
+        _ => None,
+    }
 }
 
-/// The longest punctuator at the front, with its length.
+/// The longest punctuator at the front, with its length. Its first byte decides which it may be.
 fn front_mark(text: &[u8]) -> Option<(usize, Mark)>
     ensures row { result ≡ option_map (λ r. (length r.0, r.1)) (first_row marks text.now) }
     ensures within { IfSome result (λ r. r.0 ≤ length text.now) }
 {
-    first_row(&MARKS, text)
+    if text.is_empty() {
+        return None;
+    }
+    match text[0] {
+        b'[' => Some((1, Mark::OpenBracket)),
+        b']' => Some((1, Mark::CloseBracket)),
+        b'(' => Some((1, Mark::OpenParen)),
+        b')' => Some((1, Mark::CloseParen)),
+        b'{' => Some((1, Mark::OpenBrace)),
+        b'}' => Some((1, Mark::CloseBrace)),
+        b'~' => Some((1, Mark::Tilde)),
+        b'?' => Some((1, Mark::Question)),
+        b';' => Some((1, Mark::Semicolon)),
+        b',' => Some((1, Mark::Comma)),
+        b'.' => first_row(&marks::DOT, text),
+        b'<' => first_row(&marks::LESS, text),
+        b'>' => first_row(&marks::GREATER, text),
+        b'-' => first_row(&marks::MINUS, text),
+        b'+' => first_row(&marks::PLUS, text),
+        b'=' => first_row(&marks::EQUAL, text),
+        b'!' => first_row(&marks::NOT, text),
+        b'&' => first_row(&marks::AND, text),
+        b'|' => first_row(&marks::OR, text),
+        b'*' => first_row(&marks::STAR, text),
+        b'/' => first_row(&marks::SLASH, text),
+        b'%' => first_row(&marks::PERCENT, text),
+        b'^' => first_row(&marks::CARET, text),
+        b':' => first_row(&marks::COLON, text),
+        _ => None,
+    }
 }
 
 /// A punctuator at the front (C17 6.4.6).

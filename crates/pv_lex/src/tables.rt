@@ -10,20 +10,9 @@ pub(crate) struct Row<T: Copy> {
     pub value: T,
 }
 
-// Whether a spelling stands at the front of the text. Nearly all rows of a table have another first byte, so that one is
-// looked at first.
-#[inline(always)]
-fn stands_at(text: &[u8], spelling: &[u8]) -> bool
-    ensures { result ≡ starts_with nat_eq text.now spelling.now }
-{
-    if !text.is_empty() && !spelling.is_empty() && text[0] != spelling[0] {
-        return false;
-    }
-    text.starts_with(spelling)
-}
-
 /// The first row whose spelling stands at the front of the text: the spelling's length, and what
-/// it stands for.
+/// it stands for. A table is mostly known where it is called, and short.
+#[inline(always)]
 pub(crate) fn first_row<T: Copy>(rows: &[Row<T>], text: &[u8]) -> Option<(usize, T)>
     ensures row { result ≡ option_map (λ r. (length r.0, r.1)) (first_row (map (λ r. (r.text.now, r.value)) rows.now) text.now) }
     ensures within { IfSome result (λ r. r.0 ≤ length text.now) }
@@ -31,7 +20,7 @@ pub(crate) fn first_row<T: Copy>(rows: &[Row<T>], text: &[u8]) -> Option<(usize,
     let mut i = 0;
     while i < rows.len() {
         let row = &rows[i];
-        if stands_at(text, row.text) {
+        if text.starts_with(row.text) {
             return Some((row.text.len(), row.value));
         }
         i += 1;
@@ -40,6 +29,7 @@ pub(crate) fn first_row<T: Copy>(rows: &[Row<T>], text: &[u8]) -> Option<(usize,
 }
 
 /// What the row whose spelling is the whole text stands for.
+#[inline(always)]
 pub(crate) fn row_of<T: Copy>(rows: &[Row<T>], text: &[u8]) -> Option<T>
     ensures { result ≡ row_of (map (λ r. (r.text.now, r.value)) rows.now) text.now }
 {
