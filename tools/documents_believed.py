@@ -20,6 +20,8 @@ MUTUAL = re.compile(r"^(?:abbrev |unfoldable |opaque )*mutual$")
 WORD = re.compile(r"(?<![^\s()\[\]{},;λ])([^\s()\[\]{},;.:λ]+)")
 QUALIFIED = re.compile(r"(?<![\w.])(\w+\.[^\s()\[\]{},;.:λ]+)")
 LABEL = re.compile(r"([{;]\s*)[^\s()\[\]{},;.:=]+(\s*=\s)")
+# A string, or a comment to the end of the line: two hyphens within a string begin none.
+UNREAD = re.compile(r'"(?:[^"\\]|\\.)*"|--.*')
 HEADS = ("use ", "pub use ", "pub mod ", "mod ", "infix", "--", "{-", "#")
 
 
@@ -166,8 +168,8 @@ def parts_of_operator(name: str) -> list[str]:
 
 
 def blocks(text: str) -> Iterator[tuple[list[str], int, str]]:
-    """Yields each definition of a file, or each group that is one: its names, its first line, its text without comments."""
-    rows = [it.partition("--")[0].rstrip() for it in text.split("\n")]
+    """Yields each definition of a file, or each group that is one: its names, its first line, its text without comments and strings."""
+    rows = [UNREAD.sub(lambda it: '""' if it[0][0] == '"' else "", row).rstrip() for row in text.split("\n")]
     starts = [at for at, row in enumerate(rows) if row and not row.startswith((" ", *HEADS))]
     groups: list[tuple[list[str], int, list[str]]] = []
     for at, start in enumerate(starts):

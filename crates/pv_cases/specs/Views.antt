@@ -1,4 +1,4 @@
--- What the code's cases and answers stand for (5.1.2.3).
+-- A bridge: what the code's cases and answers stand for (5.1.2.3).
 use Rattle.std.specs.Prelude.{◌≡◌, ◌<◌, ◌≤◌, Result, Ok, Err, option_map}
 use Rattle.pv_cases.specs.declared.lines.Parted.{Parted}
 use Rattle.pv_cases.specs.declared.list.Case.{Case}

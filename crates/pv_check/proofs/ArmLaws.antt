@@ -1,10 +1,12 @@
 -- From what the operands of an expression are typed as to what the expression is.
 use Rattle.std.proofs.Common.{◌≡◌, ℕ, Bool, List, Option, Some, None, IfSome, refl, ◌∙◌, ap}
 use Rattle.pv_tree.specs.declared.nodes.NodeId.{NodeId}
-use Rattle.pv_types.specs.Known.{env, heading_at, parameters_at}
+use Rattle.pv_types.specs.Known.{env, heading_at}
+use Rattle.pv_types.specs.Formed.{parameters_at}
 use Rattle.pv_typed.specs.TypedTree.{TypedTree}
 use Rattle.pv_typed.specs.TypedUnits.{WholeUnit, layouts}
-use Rattle.pv_typed.specs.Tables.{Stored, expression_at, IsExpression}
+use Rattle.pv_typed.specs.Tables.{Stored}
+use Rattle.pv_typed.specs.NodeTrees.{expression_at, IsExpression}
 use Rattle.pv_check.specs.State.{State, After, give, and_then}
 use Rattle.pv_check.specs.Postfix.{arrow_from}
 use Rattle.pv_check.specs.Unary.{of_value}

@@ -3,9 +3,9 @@ use Rattle.std.proofs.Common.{◌≡◌, ℕ, ◌*◌, ◌<◌, ◌≤◌, ◌^�
 use Rattle.std.specs.Prelude.{if◌then◌else◌}
 use Rattle.pv_types.specs.declared.terms.Member.{Member}
 use Rattle.pv_types.specs.Ty.{Ty, VoidTy, IntTy, PointerTo, ArrayOf, StructTag, UnionTag, FunctionTy, ConstOf}
-use Rattle.pv_types.specs.Known.{Known, DoneTag, heading_at, parameters_at, env, tree, trees, named_in, MembersBelow}
-use Rattle.pv_types.specs.Layouts.{Entry, Layout, Named, AreComplete, look, or_none, layout_in, is_complete_in, tag_type}
-use Rattle.pv_types.specs.Kept.{up_to}
+use Rattle.pv_types.specs.Known.{Known, DoneTag, heading_at, env, tree, trees, named_in}
+use Rattle.pv_types.specs.Formed.{parameters_at, MembersBelow, AreComplete}
+use Rattle.pv_types.specs.Layouts.{Entry, Layout, Named, look, or_none, layout_in, is_complete_in, tag_type, up_to}
 use Rattle.pv_types.proofs.Built.{entry_of, env-complete}
 use Rattle.pv_types.proofs.LayoutLaws.{layout-append, complete-append, look-last, AreComplete-append}
 use Rattle.pv_typed.specs.Tables.{Stored}

@@ -4,8 +4,9 @@ use Rattle.std.proofs.Math.ListN.{drop_of_length-le}
 use Rattle.std.specs.declared.option.Option.{Option}
 use Rattle.pv_types.specs.declared.terms.TypeId.{TypeId}
 use Rattle.pv_types.specs.Ty.{Ty, Tys, VoidTy, IntTy, PointerTo, ArrayOf, StructTag, UnionTag, FunctionTy, ConstOf, NoTys, MoreTys}
-use Rattle.pv_types.specs.Adjusted.{is_adjusted, are_adjusted}
-use Rattle.pv_types.specs.Known.{Known, AllBelow, tree, trees, tys_in, env}
+use Rattle.pv_types.specs.Adjusted.{is_adjusted}
+use Rattle.pv_types.specs.Formed.{are_adjusted, AllBelow}
+use Rattle.pv_types.specs.Known.{Known, tree, trees, tys_in, env}
 use Rattle.pv_types.specs.Layouts.{Entry, layout_in, is_complete_in}
 use Rattle.pv_check.specs.Composite.{composite, composites, known_size}
 use Rattle.pv_check.specs.Growing.{HasMore, AreSized, is_sized, Grows}

@@ -1,6 +1,7 @@
 -- One more literal in the tables.
 use Rattle.std.proofs.Common.{◌≡◌, ℕ, Bool, List, sym, ◌∙◌, ap, subst}
-use Rattle.pv_types.specs.Known.{Known, env, heading_at, parameters_at}
+use Rattle.pv_types.specs.Known.{Known, env, heading_at}
+use Rattle.pv_types.specs.Formed.{parameters_at}
 use Rattle.pv_typed.specs.TypedUnits.{WholeUnit}
 use Rattle.pv_typed.specs.Tables.{Stored, whole}
 use Rattle.pv_typed.specs.Formed.{Grown}

@@ -8,8 +8,9 @@ use Rattle.std.proofs.lemmas.List.{map-append}
 use Rattle.indexmap.specs.IndexSet.{insert_key}
 use Rattle.pv_types.specs.declared.terms.Member.{Member}
 use Rattle.pv_types.specs.declared.terms.TypeId.{TypeId}
-use Rattle.pv_types.specs.Known.{Known, env, tree, trees, named_in, MembersBelow, NamesDiffer, IsNewName, at}
-use Rattle.pv_types.specs.Layouts.{Entry, Named, AreComplete, is_complete_in}
+use Rattle.pv_types.specs.Known.{Known, env, tree, trees, named_in, at}
+use Rattle.pv_types.specs.Formed.{MembersBelow, NamesDiffer, IsNewName, AreComplete}
+use Rattle.pv_types.specs.Layouts.{Entry, Named, is_complete_in}
 use Rattle.pv_types.specs.Ty.{Ty}
 use Rattle.pv_typed.specs.Tables.{Stored, whole}
 use Rattle.pv_check.specs.declared.composites.MemberList.{MemberList}

@@ -4,9 +4,8 @@ use Rattle.std.specs.Prelude.{if◌then◌else◌}
 use Rattle.pv_types.specs.Known.{Known, Heading, env, heading_at}
 use Rattle.pv_types.specs.Layouts.{Entry as LayoutEntry}
 use Rattle.pv_check.proofs.Growth.{env_more}
-use Rattle.pv_typed.specs.Children.{Each}
+use Rattle.pv_typed.specs.Known.{Each, AreKnown}
 use Rattle.pv_typed.specs.Tables.{Stored, whole}
-use Rattle.pv_typed.specs.Formed.{AreKnown}
 use Rattle.pv_typed.proofs.Adding.{grown_refl, grown_trans}
 use Rattle.pv_typed.proofs.Each.{each_weaker, each_at, map_same}
 use Rattle.pv_check.specs.declared.scopes.Entry.{Entry}

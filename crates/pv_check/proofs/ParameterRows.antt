@@ -4,10 +4,11 @@ use Rattle.std.specs.Prelude.{if◌then◌else◌}
 use Rattle.std.proofs.lemmas.List.{take-map, length-map, length-take-le}
 use Rattle.pv_types.specs.declared.terms.TypeId.{TypeId}
 use Rattle.pv_types.specs.Adjusted.{is_adjusted}
-use Rattle.pv_types.specs.Known.{Known, tree, parameters_at}
+use Rattle.pv_types.specs.Known.{Known, tree}
+use Rattle.pv_types.specs.Formed.{parameters_at}
 use Rattle.pv_types.specs.Ty.{Ty, Tys}
-use Rattle.pv_typed.specs.Adding.{with_object}
-use Rattle.pv_typed.specs.Children.{Each}
+use Rattle.pv_typed.specs.Entries.{with_object}
+use Rattle.pv_typed.specs.Known.{Each}
 use Rattle.pv_typed.specs.Tables.{Stored, whole, object_in, nodes}
 use Rattle.pv_typed.specs.TypedUnits.{WholeUnit}
 use Rattle.pv_typed.proofs.Each.{each_weaker, map_same}

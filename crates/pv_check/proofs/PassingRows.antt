@@ -5,9 +5,10 @@ use Rattle.pv_tree.specs.declared.nodes.ListId.{ListId}
 use Rattle.pv_types.specs.declared.terms.TypeId.{TypeId}
 use Rattle.pv_types.specs.Known.{tys_in}
 use Rattle.pv_types.specs.Ty.{Ty, Tys, NoTys, MoreTys}
-use Rattle.pv_typed.specs.Children.{Each}
+use Rattle.pv_typed.specs.Known.{Each}
 use Rattle.pv_typed.specs.Nodes.{expression_in, arguments_in, list_in, Tree}
-use Rattle.pv_typed.specs.Tables.{Stored, IsExpression, expression_at, list_at, nodes}
+use Rattle.pv_typed.specs.Tables.{Stored, nodes}
+use Rattle.pv_typed.specs.NodeTrees.{IsExpression, expression_at, list_at}
 use Rattle.pv_typed.specs.TypedTree.{TypedTree, MoreArguments, arguments_of}
 use Rattle.pv_typed.specs.Children.{is_expression}
 use Rattle.pv_typed.specs.declared.rows.Row.{Row}

@@ -5,7 +5,7 @@ use Rattle.pv_types.specs.Known.{Known, tree, heading_at}
 use Rattle.pv_types.specs.Ty.{Ty}
 use Rattle.pv_types.specs.Layouts.{tag_type}
 use Rattle.pv_types.specs.declared.terms.TypeId.{TypeId}
-use Rattle.pv_typed.specs.Adding.{with_heading}
+use Rattle.pv_typed.specs.Entries.{with_heading}
 use Rattle.pv_typed.specs.Tables.{Stored, whole}
 use Rattle.pv_typed.specs.TypedUnits.{WholeUnit}
 use Rattle.pv_check.specs.declared.scopes.TagEntry.{TagEntry}

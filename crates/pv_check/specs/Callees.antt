@@ -1,7 +1,8 @@
--- What a call calls, as the code has it: the number of a function, or of the node of a value.
+-- A bridge: what a call calls, as the code has it: the number of a function, or of the node of a value.
 use Rattle.std.specs.Prelude.{◌≡◌, ℕ, ◌<◌, Bool, Option, Some, None, List, length}
 use Rattle.pv_tree.specs.Syntax.{ExpressionTree}
-use Rattle.pv_typed.specs.Tables.{Stored, expression_at, IsExpression}
+use Rattle.pv_typed.specs.Tables.{Stored}
+use Rattle.pv_typed.specs.NodeTrees.{expression_at, IsExpression}
 use Rattle.pv_check.specs.declared.calls.Target.{Target as Called}
 use Rattle.pv_check.specs.declared.calls.Target.TheVariants as called
 use Rattle.pv_check.specs.Open.{state_of, IsOpen}

@@ -1,4 +1,4 @@
--- What the code has of a declarator, and what it stands for.
+-- A bridge: what the code has of a declarator, and what it stands for.
 use Rattle.std.specs.Prelude.{◌<◌, ℕ, Bool, IsTrue, Some, None, IfSome, List, [], ◌∷◌, ◌++◌, map, length}
 use Rattle.std.specs.declared.option.Option.{Option}
 use Rattle.std.specs.declared.vec.Vec.{Vec}
@@ -6,7 +6,7 @@ use Rattle.std.specs.declared.alloc.Global.{Global}
 use Rattle.pv_types.specs.declared.terms.TypeId.{TypeId}
 use Rattle.pv_types.specs.Adjusted.{is_adjusted}
 use Rattle.pv_types.specs.Known.{Known, tree}
-use Rattle.pv_typed.specs.Children.{Each}
+use Rattle.pv_typed.specs.Known.{Each}
 use Rattle.pv_typed.specs.Tables.{Stored}
 use Rattle.pv_check.specs.declared.declarators.Steps.{Steps}
 use Rattle.pv_check.specs.declared.derivations.Step.{Step}

@@ -1,4 +1,4 @@
--- 6.7.6, 6.7.7: the steps of a declarator by what stands outermost in it, abstract or not.
+-- A bridge: 6.7.6, 6.7.7: the steps of a declarator by what stands outermost in it, abstract or not.
 use Rattle.std.specs.Prelude.{ℕ, Bool, Some, None}
 use Rattle.std.specs.declared.option.Option.{Option}
 use Rattle.pv_tree.specs.Tables.{Forest, Has, HasList, HasOptional, declarator_at, is_declaration, is_declarator, is_expression, optional_at, trees_at}

@@ -1,9 +1,10 @@
--- A table of types that has more types than before, and what typing keeps true of it.
+-- A bridge: a table of types that has more types than before, and what typing keeps true of it.
 use Rattle.std.specs.Prelude.{◌≡◌, ℕ, ◌<◌, ◌≤◌, ◌^◌, nat_le, Bool, true, ◌&&◌, Some, None, List, ◌++◌, length, IsTrue}
 use Rattle.std.specs.declared.option.Option.{Option}
 use Rattle.pv_types.specs.declared.terms.TypeId.{TypeId}
 use Rattle.pv_types.specs.Ty.{Ty, ArrayOf, StructTag, UnionTag, ConstOf}
-use Rattle.pv_types.specs.Known.{Known, completions, parameters_at, env, tree}
+use Rattle.pv_types.specs.Known.{Known, env, tree}
+use Rattle.pv_types.specs.Formed.{completions, parameters_at}
 use Rattle.pv_types.specs.Layouts.{Entry, layout_in, is_complete_in}
 
 -- what stood in the table stands for the same, and no tag was made or completed

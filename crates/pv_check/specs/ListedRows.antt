@@ -1,4 +1,4 @@
--- Specifiers with a list, as the code takes them apart.
+-- A bridge: specifiers with a list, as the code takes them apart.
 use Rattle.std.specs.Prelude.{ℕ, Bool, true, false, Option, List}
 use Rattle.pv_num.specs.declared.kinds.IntKind.TheVariants as kind
 use Rattle.pv_tree.specs.declared.nodes.ListId.{ListId}

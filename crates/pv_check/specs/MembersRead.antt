@@ -1,9 +1,10 @@
--- Members that were read.
+-- A bridge: members that were read.
 use Rattle.std.specs.Prelude.{◌≡◌, ℕ, Bool, Some, None, List, length, map}
 use Rattle.std.specs.declared.option.Option.{Option}
 use Rattle.pv_types.specs.declared.terms.Member.{Member}
-use Rattle.pv_types.specs.Known.{Known, env, trees, named_in, MembersBelow, NamesDiffer}
-use Rattle.pv_types.specs.Layouts.{Named, AreComplete}
+use Rattle.pv_types.specs.Known.{Known, env, trees, named_in}
+use Rattle.pv_types.specs.Formed.{MembersBelow, NamesDiffer, AreComplete}
+use Rattle.pv_types.specs.Layouts.{Named}
 use Rattle.pv_typed.specs.Tables.{Stored}
 use Rattle.pv_check.specs.declared.composites.MemberList.{MemberList}
 use Rattle.pv_check.specs.Open.{state_of}

@@ -1,12 +1,13 @@
--- What the scopes and the tables stand for together, and what typing keeps true of them.
+-- A bridge: what the scopes and the tables stand for together, and what typing keeps true of them.
 use Rattle.std.specs.Prelude.{◌≡◌, ℕ, ◌<◌, Bool, if◌then◌else◌, Some, None, List, map, length}
 use Rattle.std.specs.declared.option.Option.{Option}
 use Rattle.pv_types.specs.declared.terms.TypeId.{TypeId}
-use Rattle.pv_types.specs.Known.{tree, env, heading_at, parameters_at}
+use Rattle.pv_types.specs.Known.{tree, env, heading_at}
+use Rattle.pv_types.specs.Formed.{parameters_at}
 use Rattle.pv_types.specs.Ty.{Ty}
-use Rattle.pv_typed.specs.Children.{Each}
+use Rattle.pv_typed.specs.Known.{Each, AreKnown}
 use Rattle.pv_typed.specs.Tables.{Stored, whole}
-use Rattle.pv_typed.specs.Formed.{AreKnown, Grown}
+use Rattle.pv_typed.specs.Formed.{Grown}
 use Rattle.pv_check.specs.declared.scopes.Entry.{Entry}
 use Rattle.pv_check.specs.declared.scopes.Entry.TheVariants as entry
 use Rattle.pv_check.specs.declared.scopes.TagEntry.{TagEntry}

@@ -1,4 +1,4 @@
--- Expressions as the code types them: by the numbers of the nodes that their operands are.
+-- A bridge: expressions as the code types them: by the numbers of the nodes that their operands are.
 use Rattle.std.specs.Prelude.{ℕ, Bool, Option, Some}
 use Rattle.pv_tree.specs.declared.nodes.NodeId.{NodeId}
 use Rattle.pv_tree.specs.declared.nodes.ListId.{ListId}

@@ -1,10 +1,11 @@
--- Arguments one by one, as the code passes them.
+-- A bridge: arguments one by one, as the code passes them.
 use Rattle.std.specs.Prelude.{ℕ, Bool, true, false, Option, Some, None, List, map}
 use Rattle.std.specs.declared.vec.Vec.{Vec}
 use Rattle.std.specs.declared.alloc.Global.{Global}
 use Rattle.pv_tree.specs.declared.nodes.NodeId.{NodeId}
 use Rattle.pv_types.specs.Ty.{Tys, NoTys, MoreTys}
-use Rattle.pv_typed.specs.Tables.{Stored, expression_at}
+use Rattle.pv_typed.specs.Tables.{Stored}
+use Rattle.pv_typed.specs.NodeTrees.{expression_at}
 use Rattle.pv_typed.specs.TypedTree.{TypedTree}
 use Rattle.pv_check.specs.Calls.{further}
 use Rattle.pv_check.specs.declared.formats.Place.{Place}

@@ -1,4 +1,4 @@
--- The scopes as they are kept: types are numbers of a table.
+-- A bridge: the scopes as they are kept: types are numbers of a table.
 use Rattle.std.specs.Prelude.{ℕ, ◌-◌, Option, Some, None, List, [], length, map, set, slice_index_or}
 use Rattle.pv_types.specs.Known.{Known, tree, heading_at}
 use Rattle.pv_check.specs.declared.scopes.Entry.{Entry}

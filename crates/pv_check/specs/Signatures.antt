@@ -1,7 +1,8 @@
--- The outermost layer of a function type in the table of types.
+-- A bridge: the outermost layer of a function type in the table of types.
 use Rattle.std.specs.Prelude.{ℕ, ◌<◌, length}
 use Rattle.pv_types.specs.Ty.{Ty, FunctionTy}
-use Rattle.pv_types.specs.Known.{Known, AllBelow, list_at, parameters_at, tree}
+use Rattle.pv_types.specs.Known.{Known, list_at, tree}
+use Rattle.pv_types.specs.Formed.{AllBelow, parameters_at}
 use Rattle.pv_check.specs.declared.composite_types.Signature.{Signature}
 
 -- what a layer of a function type (6.7.6.3) says, of parts below n

@@ -2,8 +2,8 @@
 ghost use Rattle.std.specs.Prelude.{◌≡◌, ◌<◌, IfOk, IfSome, OnOk, length, Some, None, if◌then◌else◌};
 ghost use Rattle.pv_types.specs.Known.{tree};
 ghost use Rattle.pv_typed.specs.TypedTree.{type_of, Assign, CompoundAssign, PointerAssign};
-ghost use Rattle.pv_typed.specs.Tables.{expression_at, IsExpression};
-ghost use Rattle.pv_typed.specs.Formed.{AreKnown};
+ghost use Rattle.pv_typed.specs.NodeTrees.{expression_at, IsExpression};
+ghost use Rattle.pv_typed.specs.Known.{AreKnown};
 ghost use Rattle.pv_check.specs.Kept.{Kept, env_of, expression_if};
 ghost use Rattle.pv_types.specs.Ty.{IntTy};
 ghost use Rattle.pv_check.specs.Qualified.{unqualified};

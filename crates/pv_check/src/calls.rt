@@ -1,9 +1,10 @@
 //! Calls of functions (C17 6.5.2.2) whose arguments are typed.
 ghost use Rattle.std.specs.Prelude.{◌≡◌, ◌<◌, ◌≤◌, ℕ, Bool, List, Some, map, drop, length, IfOk, IfSome, OnOk};
-ghost use Rattle.pv_types.specs.Known.{tree, trees, tys_in, parameters_at, AllBelow};
-ghost use Rattle.pv_typed.specs.Children.{Each};
-ghost use Rattle.pv_typed.specs.Formed.{AreKnown};
-ghost use Rattle.pv_typed.specs.Tables.{Stored, whole, expression_at, list_at, IsExpression};
+ghost use Rattle.pv_types.specs.Known.{tree, trees, tys_in};
+ghost use Rattle.pv_types.specs.Formed.{parameters_at, AllBelow};
+ghost use Rattle.pv_typed.specs.Known.{Each, AreKnown};
+ghost use Rattle.pv_typed.specs.Tables.{Stored, whole};
+ghost use Rattle.pv_typed.specs.NodeTrees.{expression_at, list_at, IsExpression};
 ghost use Rattle.pv_typed.specs.TypedTree.{form_of};
 ghost use Rattle.pv_typed.specs.TypedUnits.{function_at, name_at};
 ghost use Rattle.pv_check.specs.Arms.{after_node, OpenIf};

@@ -1,10 +1,12 @@
 // Members of structures and unions, and their completion (C17 6.7.2.1).
 ghost use Rattle.std.specs.Prelude.{◌≡◌, ◌&&◌, ◌<◌, ◌≤◌, ◌^◌, ◌++◌, ◌∷◌, [], ℕ, Bool, List, Option, nat_le, length, map, IfOk, OnOk, IfSome, IsTrue, Some, None};
-ghost use Rattle.pv_types.specs.Known.{tree, trees, env, named_in, members_in, heading_at, MembersBelow, NamesDiffer};
-ghost use Rattle.pv_types.specs.Layouts.{look, is_complete_in, AreComplete, layout_in, tag_type};
+ghost use Rattle.pv_types.specs.Known.{tree, trees, env, named_in, heading_at};
+ghost use Rattle.pv_types.specs.Formed.{members_in, MembersBelow, NamesDiffer, AreComplete};
+ghost use Rattle.pv_types.specs.Layouts.{look, is_complete_in, layout_in, tag_type};
 ghost use Rattle.pv_typed.specs.Tables.{Stored, whole};
-ghost use Rattle.pv_typed.specs.Formed.{AreKnown, Grown};
-ghost use Rattle.pv_typed.specs.Adding.{with_completed};
+ghost use Rattle.pv_typed.specs.Formed.{Grown};
+ghost use Rattle.pv_typed.specs.Known.{AreKnown};
+ghost use Rattle.pv_typed.specs.Entries.{with_completed};
 ghost use Rattle.pv_check.specs.Growing.{AreSized, IsType};
 ghost use Rattle.pv_check.specs.Open.{state_of, IsOpen, Goes, HasTag, after_type};
 ghost use Rattle.pv_check.specs.Tags.{filed_with, some_members, completed, is_new_member, with_member};
@@ -12,7 +14,7 @@ ghost use Rattle.pv_check.specs.Raw.{Raw};
 ghost use Rattle.pv_check.specs.MembersRead.{members_if, members_shown, after_members, AreMembers, members_after};
 ghost use Rattle.pv_types.specs.Ty.{Ty};
 ghost use Rattle.pv_check.specs.Derivations.{Signature};
-ghost use Rattle.pv_check.specs.Words.{total};
+ghost use Rattle.pv_check.specs.WordRows.{total};
 ghost use Rattle.pv_check.specs.Rows.{member_of};
 ghost use Rattle.pv_check.specs.Seeing.{seen_in};
 ghost use Rattle.pv_check.specs.SeenAfter.{after_seen};

@@ -9,7 +9,7 @@ ghost use Rattle.pv_check.specs.Seeing.{seen_in};
 ghost use Rattle.pv_check.specs.SeenAfter.{after_seen};
 ghost use Rattle.pv_check.specs.Specifiers.{with_type};
 ghost use Rattle.pv_check.specs.State.{give};
-ghost use Rattle.pv_check.specs.Words.{total};
+ghost use Rattle.pv_check.specs.WordRows.{total};
 ghost use Rattle.pv_check.specs.Tags.{opened_enumeration, closed_enumeration, may_enumerate, enumerated};
 ghost use Rattle.pv_num.specs.declared.kinds.IntKind.TheVariants as kind;
 ghost use Rattle.pv_num.specs.Kinds.{fits_of};

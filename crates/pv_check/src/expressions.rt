@@ -2,9 +2,9 @@
 //! call them for the sizes of arrays: one cycle, through three modules.
 ghost use Rattle.std.specs.Prelude.{◌≡◌, ◌<◌, false, IfOk, IfSome, OnOk, Some, length, List, ℕ};
 ghost use Rattle.pv_tree.specs.Tables.{Is, is_expression, is_declaration, expression_at as expression_of_node, declaration_at, arguments_at, HasList};
-ghost use Rattle.pv_typed.specs.Children.{Each};
+ghost use Rattle.pv_typed.specs.Known.{Each};
 ghost use Rattle.pv_check.specs.Passing.{after_nodes};
-ghost use Rattle.pv_typed.specs.Tables.{expression_at, IsExpression};
+ghost use Rattle.pv_typed.specs.NodeTrees.{expression_at, IsExpression};
 ghost use Rattle.pv_types.specs.Known.{tree};
 ghost use Rattle.pv_check.specs.State.{and_then, give};
 ghost use Rattle.pv_check.specs.Unary.{sizeof_type, cast_of};

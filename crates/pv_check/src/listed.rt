@@ -14,7 +14,7 @@ ghost use Rattle.pv_check.specs.Specifiers.{with_type};
 ghost use Rattle.pv_check.specs.State.{and_then, give};
 ghost use Rattle.pv_check.specs.Tags.{opened, some_members, completed, opened_enumeration, closed_enumeration};
 ghost use Rattle.pv_check.specs.Typing.{members, member_in, member_declarators, member_declarator, enumerators, enumerator_in, enumerator_value};
-ghost use Rattle.pv_check.specs.Words.{total};
+ghost use Rattle.pv_check.specs.WordRows.{total};
 ghost use Rattle.pv_check.specs.ListedRows.{with_composite_list, with_enumeration_list, declared_members, declared_member};
 
 use crate::composites::{MemberList, completed_seen, member_of, no_members};

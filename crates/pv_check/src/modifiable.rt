@@ -1,7 +1,7 @@
 // Lvalues that may be changed (C17 6.3.2.1p1).
 ghost use Rattle.std.specs.Prelude.{◌≡◌};
-ghost use Rattle.pv_typed.specs.Tables.{expression_at, IsExpression};
-ghost use Rattle.pv_typed.specs.Formed.{AreKnown};
+ghost use Rattle.pv_typed.specs.NodeTrees.{expression_at, IsExpression};
+ghost use Rattle.pv_typed.specs.Known.{AreKnown};
 ghost use Rattle.pv_check.specs.Kept.{env_of};
 ghost use Rattle.pv_check.specs.Values.{is_modifiable};
 

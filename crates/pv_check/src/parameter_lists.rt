@@ -1,7 +1,7 @@
 //! Lists of parameters (C17 6.7.6.3), which declarators and the lists' declarators need one another for.
 ghost use Rattle.std.specs.Prelude.{◌≡◌, IfOk, IfSome, List, Some, length};
 ghost use Rattle.pv_tree.specs.Tables.{Is, is_declaration, tree_at, trees_at, HasList};
-ghost use Rattle.pv_typed.specs.Children.{Each};
+ghost use Rattle.pv_typed.specs.Known.{Each};
 ghost use Rattle.pv_check.specs.Declarators.{after_parameter, after_parameters, after_steps, steps_shown, ParameterKnown, StepsKnown, KnownSteps, value_after};
 ghost use Rattle.pv_check.specs.Derivations.{Parameter as WholeParameter};
 ghost use Rattle.pv_check.specs.Open.{state_of, IsOpen, Goes};

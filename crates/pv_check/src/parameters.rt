@@ -1,13 +1,13 @@
 //! Parameters of functions (C17 6.7.6.3), and the scope that a list of them leaves (C17 6.2.1p4).
 ghost use Rattle.std.specs.Prelude.{◌≡◌, ◌<◌, ◌≤◌, ◌+◌, ◌++◌, ◌∷◌, [], ℕ, Bool, List, Some, None, Option, true, false, length, IfOk, IfSome, OnOk, IsTrue};
-ghost use Rattle.pv_types.specs.Adjusted.{is_adjusted, are_adjusted};
-ghost use Rattle.pv_types.specs.Known.{Known, tree, trees, tys_in, env, parameters_at, AllBelow};
-ghost use Rattle.pv_typed.specs.Adding.{with_object};
-ghost use Rattle.pv_typed.specs.Children.{Each};
-ghost use Rattle.pv_typed.specs.Formed.{AreKnown, Grown};
+ghost use Rattle.pv_types.specs.Adjusted.{is_adjusted};
+ghost use Rattle.pv_types.specs.Formed.{are_adjusted, parameters_at, AllBelow};
+ghost use Rattle.pv_types.specs.Known.{Known, tree, trees, tys_in, env};
+ghost use Rattle.pv_typed.specs.Entries.{with_object};
+ghost use Rattle.pv_typed.specs.Known.{Each, AreKnown};
+ghost use Rattle.pv_typed.specs.Formed.{Grown};
 ghost use Rattle.pv_typed.specs.Tables.{Stored, whole};
-ghost use Rattle.pv_check.specs.Declarators.{parameter_shown, parameters_shown, signature_shown, signature_if, steps_shown, parameters_if};
-ghost use Rattle.pv_check.specs.Declarators.{after_parameter, after_steps, parameters_after, with_parameter_of_type, parameter_from, ParameterKnown, SignatureKnown, StepsKnown, KnownSteps};
+ghost use Rattle.pv_check.specs.Declarators.{parameter_shown, parameters_shown, signature_shown, signature_if, steps_shown, parameters_if, after_parameter, after_steps, parameters_after, with_parameter_of_type, parameter_from, ParameterKnown, SignatureKnown, StepsKnown, KnownSteps};
 ghost use Rattle.pv_check.specs.Derivations.{Parameter as WholeParameter, Signature as WholeSignature, derived, adjusted, with_parameter, means_none, no_void, proper, parameter_types, nearest};
 ghost use Rattle.pv_check.specs.Growing.{AreSized, Grows, IsType, type_if};
 ghost use Rattle.pv_check.specs.Open.{state_of, IsOpen, Goes};

@@ -1,7 +1,8 @@
 //! What an expression makes of its typed operands, beside the scopes, which stay open.
 ghost use Rattle.std.specs.Prelude.{◌≡◌, Bool, IfOk, IfSome, OnOk, Some, List, ℕ};
-ghost use Rattle.pv_typed.specs.Formed.{AreKnown};
-ghost use Rattle.pv_typed.specs.Tables.{whole, expression_at, IsExpression};
+ghost use Rattle.pv_typed.specs.Known.{AreKnown};
+ghost use Rattle.pv_typed.specs.Tables.{whole};
+ghost use Rattle.pv_typed.specs.NodeTrees.{expression_at, IsExpression};
 ghost use Rattle.pv_check.specs.State.{and_then};
 ghost use Rattle.pv_check.specs.Arms.{after_node, OpenIf, row_of_one, row_of_two, operand_after, conditional_from};
 ghost use Rattle.pv_check.specs.Assignment.{assign_of};

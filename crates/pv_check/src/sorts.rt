@@ -1,6 +1,7 @@
 //! What sort of type an expression has, qualifiers aside (C17 6.2.5).
 ghost use Rattle.std.specs.Prelude.{◌≡◌, ◌<◌, ◌≤◌, length, IfSome, IsTrue};
-ghost use Rattle.pv_types.specs.Known.{tree, tree_in, trees, env, IsBuilt};
+ghost use Rattle.pv_types.specs.Known.{tree, tree_in, trees, env};
+ghost use Rattle.pv_types.specs.Formed.{IsBuilt};
 ghost use Rattle.pv_types.specs.Layouts.{is_complete_in};
 ghost use Rattle.pv_check.specs.Qualified.{unqualified, is_const, same};
 ghost use Rattle.pv_check.specs.Sorts.{kind_of, pointed_by, is_scalar, is_void, is_composite, is_array, is_function, points_to_function, is_void_beside, has_void, is_truth, complete_pointed_by, are_alike};

@@ -3,8 +3,8 @@ ghost use Rattle.std.specs.Prelude.{◌≡◌, ◌<◌, ◌≤◌, ◌+◌, ◌-
 ghost use Rattle.pv_tree.specs.Tables.{Forest, Is, HasList, is_specifier, is_declaration, specifier_at, trees_at};
 ghost use Rattle.pv_tree.specs.Children.{HasSpecChildren};
 ghost use Rattle.pv_check.specs.ListedRows.{listed, list_of, is_unlisted, is_no_keyword, with_composite_tag, with_enumeration_tag, with_typedef_name};
-ghost use Rattle.pv_check.specs.Specifiers.{Seen as WhatIsSeen};
-ghost use Rattle.pv_check.specs.State.{State};
+ghost use Rattle.pv_check.specs.Specifiers.{Seen as WhatIsSeen, typedef_of, with_type};
+ghost use Rattle.pv_check.specs.State.{State, and_then, give, look, look_tag};
 ghost use Rattle.pv_tree.specs.Nodes.{specifier_of};
 ghost use Rattle.pv_tree.specs.Syntax.{Keyword};
 ghost use Rattle.pv_types.specs.Known.{Known};
@@ -12,11 +12,9 @@ ghost use Rattle.pv_check.specs.Open.{state_of, IsOpen, Goes, EntryKnown};
 ghost use Rattle.pv_check.specs.Raw.{meaning_if};
 ghost use Rattle.pv_typed.specs.Tables.{Stored};
 ghost use Rattle.pv_check.specs.Growing.{IsType, type_if};
-ghost use Rattle.pv_check.specs.Words.{total};
+ghost use Rattle.pv_check.specs.WordRows.{total};
 ghost use Rattle.pv_check.specs.Seeing.{seen_in};
 ghost use Rattle.pv_check.specs.SeenAfter.{after_seen};
-ghost use Rattle.pv_check.specs.Specifiers.{typedef_of, with_type};
-ghost use Rattle.pv_check.specs.State.{and_then, give, look, look_tag};
 ghost use Rattle.pv_check.specs.Tags.{composite_named, enumeration_named};
 ghost use Rattle.pv_check.specs.Typing.{specifier, specifiers};
 

@@ -1,11 +1,13 @@
 // Structures, unions and enumerations: what declares a tag and what it names (C17 6.7.2.3).
 ghost use Rattle.std.specs.Bool.{beq};
 ghost use Rattle.std.specs.Prelude.{◌≡◌, ◌&&◌, ◌<◌, ◌≤◌, ◌+◌, ◌++◌, ◌∷◌, [], ℕ, Bool, List, Some, None, length, IfOk, OnOk, IfSome, IsTrue};
-ghost use Rattle.pv_types.specs.Known.{IsKnown, heading_at, tree, trees, tree_in, env, members_in};
+ghost use Rattle.pv_types.specs.Known.{heading_at, tree, trees, tree_in, env};
+ghost use Rattle.pv_types.specs.Formed.{IsKnown, members_in};
 ghost use Rattle.pv_types.specs.Layouts.{tag_type, look};
 ghost use Rattle.pv_typed.specs.Tables.{Stored, whole};
-ghost use Rattle.pv_typed.specs.Formed.{AreKnown, Grown};
-ghost use Rattle.pv_typed.specs.Adding.{with_heading};
+ghost use Rattle.pv_typed.specs.Formed.{Grown};
+ghost use Rattle.pv_typed.specs.Known.{AreKnown};
+ghost use Rattle.pv_typed.specs.Entries.{with_heading};
 ghost use Rattle.pv_check.specs.Growing.{AreSized, is_sized, IsType};
 ghost use Rattle.pv_check.specs.Raw.{Raw, tag_meaning_if};
 ghost use Rattle.pv_check.specs.Open.{state_of, IsOpen, Goes, HasTag, TagKnown, after_type, after_number};

@@ -2,7 +2,7 @@
 ghost use Rattle.std.specs.Prelude.{◌≡◌, ◌<◌, ◌≤◌, length, Some, None, IfOk, OnOk, false, IfSome, ℕ};
 ghost use Rattle.pv_types.specs.Known.{tree, env};
 ghost use Rattle.pv_typed.specs.Tables.{whole};
-ghost use Rattle.pv_typed.specs.Formed.{AreKnown};
+ghost use Rattle.pv_typed.specs.Known.{AreKnown};
 ghost use Rattle.pv_check.specs.Derivations.{derived};
 ghost use Rattle.pv_check.specs.Growing.{AreSized, IsType, type_if};
 ghost use Rattle.pv_check.specs.Open.{IsOpen, Goes, state_of, after_type};

@@ -1,18 +1,18 @@
 //! The value that is taken of an operand (C17 6.3.2.1), and conversions (C17 6.3).
 ghost use Rattle.std.specs.Prelude.{◌≡◌, ◌<◌, Some, IfOk, IfSome, OnOk, IsTrue, length};
-ghost use Rattle.pv_types.specs.Known.{IsKnown, tree, tree_in, trees, env};
+ghost use Rattle.pv_types.specs.Known.{tree, tree_in, trees, env};
+ghost use Rattle.pv_types.specs.Formed.{IsKnown};
 ghost use Rattle.pv_types.specs.Ty.{IntTy, PointerTo};
 ghost use Rattle.pv_check.specs.Growing.{is_sized};
-ghost use Rattle.pv_check.specs.Kept.{AreSmall};
-ghost use Rattle.pv_typed.specs.TypedTree.{Node};
+ghost use Rattle.pv_check.specs.Kept.{AreSmall, Kept, env_of, expression_if};
+ghost use Rattle.pv_typed.specs.TypedTree.{Node, ArrayPointer, is_lvalue, type_of};
 ghost use Rattle.pv_typed.specs.Nodes.{form_in};
 ghost use Rattle.pv_typed.specs.Children.{HasOperands};
 ghost use Rattle.pv_typed.specs.Formed.{NamesIn};
 ghost use Rattle.pv_check.specs.Qualified.{qualified};
-ghost use Rattle.pv_typed.specs.TypedTree.{ArrayPointer, is_lvalue, type_of};
-ghost use Rattle.pv_typed.specs.Tables.{Stored, nodes, expression_at, IsExpression};
-ghost use Rattle.pv_typed.specs.Formed.{AreKnown};
-ghost use Rattle.pv_check.specs.Kept.{Kept, env_of, expression_if};
+ghost use Rattle.pv_typed.specs.Tables.{Stored, nodes};
+ghost use Rattle.pv_typed.specs.NodeTrees.{expression_at, IsExpression};
+ghost use Rattle.pv_typed.specs.Known.{AreKnown};
 ghost use Rattle.pv_check.specs.Values.{implied, read_at, value_of, converted, promoted_value};
 
 use crate::interning::interned;

@@ -1,7 +1,7 @@
 // Which type the type words among specifiers name (C17 6.7.2p2).
 ghost use Rattle.std.specs.Prelude.{◌≡◌, ◌<◌, ◌≤◌, ◌+◌, ◌-◌, ◌^◌, length};
-ghost use Rattle.pv_check.specs.Words.{with_word, same_words, total, type_of_words};
-ghost use Rattle.pv_check.specs.WordRows.{found, base_if};
+ghost use Rattle.pv_check.specs.Words.{with_word, same_words, type_of_words};
+ghost use Rattle.pv_check.specs.WordRows.{total, found, base_if};
 
 use pv_num::IntKind;
 use pv_token::Word;

@@ -12,7 +12,8 @@ use Rattle.pv_token.specs.declared.marks.Mark.TheVariants as mark
 use Rattle.pv_tree.specs.declared.nodes.NodeId.{NodeId}
 use Rattle.pv_tree.specs.Syntax.{DeclarationTree, Tree, Absent}
 use Rattle.pv_tree.specs.Spelling.{declaration_tokens}
-use Rattle.pv_tree.specs.Grammar.{Names, kinds}
+use Rattle.pv_tree.specs.Grammar.{kinds}
+use Rattle.pv_tree.specs.Spells.{Names}
 use Rattle.pv_tree.specs.Tables.{Tables, tree_at, as_declaration, is_declaration, is_declarator, Extends}
 use Rattle.pv_tree.specs.TypeNames.{TypeMap, type_seen, names_of, IsTied, AreTied}
 use Rattle.pv_tree.specs.Units.{depth_limit}

@@ -11,7 +11,7 @@ use Rattle.pv_tree.specs.declared.nodes.ListId.{ListId}
 use Rattle.pv_tree.specs.declared.nodes.NodeId.{NodeId}
 use Rattle.pv_tree.specs.Depths.{tree_depth, trees_depth}
 use Rattle.pv_tree.specs.Fitting.{ListFits}
-use Rattle.pv_tree.specs.Grammar.{Names, Fits}
+use Rattle.pv_tree.specs.Spells.{Names, Fits}
 use Rattle.pv_tree.specs.Nodes.{declarator_of}
 use Rattle.pv_tree.specs.Places.{Parameters, may_be_variadic}
 use Rattle.pv_tree.specs.Spelling.{listed_tokens, variadic_tokens}

@@ -1,8 +1,8 @@
--- What a table that is filled from the last place back has at a place, as what reading on lists gives.
+-- A bridge: what a table that is filled from the last place back has at a place, as what reading on lists gives.
 use Rattle.std.specs.Prelude.{ℕ, List, drop, Option, None, if◌then◌else◌}
 use Rattle.pv_token.specs.declared.token_table.Token.{Token}
 use Rattle.pv_tree.specs.declared.nodes.NodeId.{NodeId}
-use Rattle.pv_tree.specs.Grammar.{Names}
+use Rattle.pv_tree.specs.Spells.{Names}
 use Rattle.pv_decl.specs.declared.lists.ParameterLists.{ParameterLists}
 use Rattle.pv_decl.specs.NameTables.{filled, is_behind_open}
 use Rattle.pv_decl_forms.specs.Pieces.{Piece}

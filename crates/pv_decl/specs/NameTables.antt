@@ -1,4 +1,4 @@
--- A table of the type names that stand in parentheses (6.5.3p1, 6.5.4p1).
+-- A bridge: a table of the type names that stand in parentheses (6.5.3p1, 6.5.4p1).
 use Rattle.std.specs.Prelude.{◌≡◌, ◌≤◌, ◌<◌, ℕ, zero, suc, ◌-◌, nat_le, Bool, true, false, List, [], ◌∷◌, ◌++◌, drop, Option, None, if◌then◌else◌, slice_index_or}
 use Rattle.pv_token.specs.declared.token_table.Token.{Token}
 use Rattle.pv_tree.specs.declared.nodes.NodeId.{NodeId}

@@ -1,4 +1,4 @@
--- What is known where declarations are read.
+-- A bridge: what is known where declarations are read.
 use Rattle.std.specs.Prelude.{◌≤◌, ℕ, length}
 use Rattle.pv_tree.specs.Tables.{Tables}
 use Rattle.pv_tree.specs.TypeNames.{TypeMap}

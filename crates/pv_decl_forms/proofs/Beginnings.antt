@@ -9,7 +9,7 @@ use Rattle.pv_token.specs.declared.words.Word.TheVariants as word
 use Rattle.pv_token.specs.declared.marks.Mark.TheVariants as mark
 use Rattle.pv_tree.specs.Syntax.{InitDeclarator, Parameter, DeclaratorTree, DeclaredName, ParenDeclarator, Pointer, Array, FunctionDeclarator, AbstractParen, AbstractPointer, AbstractArray, AbstractFunction, SpecifierTree, Keyword, Composite, Enumeration, Tag, TypedefName, OfDeclaration, OfDeclarator, OfSpecifier, Trees, NoTrees, Then, Absent, Present}
 use Rattle.pv_tree.specs.Spelling.{declarator_tokens, specifier_tokens, trees_tokens, listed_tokens, variadic_tokens, optional_tokens, value_tokens}
-use Rattle.pv_tree.specs.Grammar.{Names, begins_specifiers, kind_begins_type, begins_type, Fits}
+use Rattle.pv_tree.specs.Spells.{Names, begins_specifiers, kind_begins_type, begins_type, Fits}
 use Rattle.pv_tree.specs.Places.{Specifiers, InitDeclarators, MemberDeclarators, Parameters, is_plain_word, is_composite_word, is_tag_word, some, may_be_variadic}
 use Rattle.pv_tree.specs.Fitting.{DeclaratorFits, SpecifierFits, RowFits, ListFits}
 use Rattle.pv_expr_forms.specs.Reader.{is_close}

@@ -8,7 +8,7 @@ use Rattle.pv_token.specs.declared.words.Word.{Word}
 use Rattle.pv_token.specs.declared.words.Word.TheVariants as word
 use Rattle.pv_tree.specs.declared.nodes.NodeId.{NodeId}
 use Rattle.pv_tree.specs.Syntax.{Composite, Enumeration, OfSpecifier, Trees, NoTrees}
-use Rattle.pv_tree.specs.Grammar.{Names}
+use Rattle.pv_tree.specs.Spells.{Names}
 use Rattle.pv_tree.specs.Places.{Place, Specifiers, Members, Enumerators}
 use Rattle.pv_tree.specs.Tables.{Tables, is_specifier}
 use Rattle.pv_tree.specs.TypeNames.{TypeMap, names_of}

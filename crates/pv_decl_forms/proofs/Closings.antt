@@ -6,7 +6,7 @@ use Rattle.pv_token.specs.declared.marks.Mark.TheVariants as mark
 use Rattle.pv_tree.specs.Syntax.{Tree, Trees, NoTrees}
 use Rattle.pv_tree.specs.Depths.{trees_depth}
 use Rattle.pv_tree.specs.Spelling.{trees_tokens, listed_tokens, comma_tokens, variadic_tokens}
-use Rattle.pv_tree.specs.Grammar.{Names, Fits}
+use Rattle.pv_tree.specs.Spells.{Names, Fits}
 use Rattle.pv_tree.specs.Places.{Place, Parameters, some, may_be_variadic}
 use Rattle.pv_tree.specs.Fitting.{RowFits, ListFits}
 use Rattle.pv_expr_forms.specs.Reader.{is_comma, is_close, after}

@@ -7,7 +7,7 @@ use Rattle.pv_tree.specs.declared.nodes.NodeId.{NodeId}
 use Rattle.pv_tree.specs.Syntax.{ExpressionTree, Enumerator, Tree, OfExpression, OfDeclaration, OptionalTree, Absent, Present}
 use Rattle.pv_tree.specs.Tables.{Tables, tree_at, as_expression, optional_at, is_expression, is_declarator, Is, Extends}
 use Rattle.pv_tree.specs.Places.{Constants, Enumerators}
-use Rattle.pv_tree.specs.Grammar.{Names}
+use Rattle.pv_tree.specs.Spells.{Names}
 use Rattle.pv_tree.specs.TypeNames.{TypeMap, names_of}
 use Rattle.pv_tree.proofs.Kept.{tree_kept}
 use Rattle.pv_expr_forms.specs.Reader.{read, after}

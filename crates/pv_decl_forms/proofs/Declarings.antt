@@ -8,7 +8,8 @@ use Rattle.pv_token.specs.declared.marks.Mark.TheVariants as mark
 use Rattle.pv_tree.specs.Syntax.{DeclarationTree, Declaration, Parameter, DeclaratorTree, Tree, OfDeclaration, OfDeclarator, Trees, NoTrees, Then, OptionalTree, Absent, Present}
 use Rattle.pv_tree.specs.Depths.{declaration_depth, declarator_depth, trees_depth}
 use Rattle.pv_tree.specs.Spelling.{declaration_tokens, declarator_tokens, trees_tokens, listed_tokens}
-use Rattle.pv_tree.specs.Grammar.{Names, line_here, Fits}
+use Rattle.pv_tree.specs.Grammar.{line_here}
+use Rattle.pv_tree.specs.Spells.{Names, Fits}
 use Rattle.pv_tree.specs.Places.{Specifiers, InitDeclarators, MemberDeclarators, Initializers, is_named, some}
 use Rattle.pv_tree.specs.Fitting.{DeclarationFits, DeclaratorFits, RowFits, ListFits, past}
 use Rattle.pv_expr_forms.specs.Follows.{or_else}

@@ -9,7 +9,8 @@ use Rattle.pv_token.specs.declared.marks.Mark.TheVariants as mark
 use Rattle.pv_tree.specs.Syntax.{DeclaratorTree, DeclaredName, ParenDeclarator, Pointer, Array, FunctionDeclarator, AbstractParen, AbstractPointer, AbstractArray, AbstractFunction, Tree, OfDeclarator, Absent, Present}
 use Rattle.pv_tree.specs.Depths.{declarator_depth}
 use Rattle.pv_tree.specs.Spelling.{declarator_tokens, optional_tokens, listed_tokens, variadic_tokens, const_tokens}
-use Rattle.pv_tree.specs.Grammar.{Names, line_here, Fits}
+use Rattle.pv_tree.specs.Grammar.{line_here}
+use Rattle.pv_tree.specs.Spells.{Names, Fits}
 use Rattle.pv_tree.specs.Places.{Parameters, Constants, stands, is_named, is_abstract, is_direct}
 use Rattle.pv_tree.specs.Fitting.{ListFits, OptionalFits, past}
 use Rattle.pv_expr_forms.specs.Reader.{is_close, after}

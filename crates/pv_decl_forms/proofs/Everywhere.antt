@@ -8,7 +8,8 @@ use Rattle.pv_token.specs.declared.marks.Mark.TheVariants as mark
 use Rattle.pv_tree.specs.Syntax.{InitDeclarator, MemberDeclaration, Enumerator, Parameter, DeclaratorTree, DeclaredName, ParenDeclarator, Pointer, Array, FunctionDeclarator, AbstractParen, AbstractPointer, AbstractArray, AbstractFunction, InitializerTree, Initial, Braces, SpecifierTree, Keyword, Composite, Enumeration, Tag, TypedefName, OfExpression, OfDeclaration, OfDeclarator, OfSpecifier, OfInitializer, Trees, OptionalTree, Absent, Present}
 use Rattle.pv_tree.specs.Depths.{initializer_depth, specifier_depth, declarator_depth, trees_depth, optional_depth}
 use Rattle.pv_tree.specs.Spelling.{declarator_tokens, specifier_tokens, trees_tokens, listed_tokens, value_tokens}
-use Rattle.pv_tree.specs.Grammar.{Names, line_here, Fits}
+use Rattle.pv_tree.specs.Grammar.{line_here}
+use Rattle.pv_tree.specs.Spells.{Names, Fits}
 use Rattle.pv_tree.specs.Places.{Place, Specifiers, InitDeclarators, Members, MemberDeclarators, Enumerators, Parameters, Initializers, Constants, AbstractDeclarators, ParameterDeclarators, is_named, some}
 use Rattle.pv_tree.specs.Fitting.{DeclaratorFits, SpecifierFits, RowFits, ListFits, OptionalFits, past}
 use Rattle.pv_expr_forms.specs.Reader.{after}

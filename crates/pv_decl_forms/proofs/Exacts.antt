@@ -7,7 +7,7 @@ use Rattle.pv_token.specs.declared.marks.Mark.TheVariants as mark
 use Rattle.pv_tree.specs.Syntax.{Tree, Trees, NoTrees, Then, OptionalTree, Absent, Present}
 use Rattle.pv_tree.specs.Depths.{tree_depth, trees_depth, optional_depth}
 use Rattle.pv_tree.specs.Spelling.{tree_tokens, trees_tokens, listed_tokens, optional_tokens, value_tokens, variadic_tokens}
-use Rattle.pv_tree.specs.Grammar.{Names, Fits}
+use Rattle.pv_tree.specs.Spells.{Names, Fits}
 use Rattle.pv_tree.specs.Places.{Place, Specifiers, Members, MemberDeclarators, Constants, stands, some, may_be_variadic}
 use Rattle.pv_tree.specs.Fitting.{TreeFits, RowFits, ListFits, OptionalFits}
 use Rattle.pv_expr_forms.specs.Reader.{is_comma, is_bracket, after}

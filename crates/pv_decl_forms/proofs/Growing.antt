@@ -9,7 +9,8 @@ use Rattle.pv_token.specs.declared.marks.Mark.TheVariants as mark
 use Rattle.pv_tree.specs.declared.nodes.NodeId.{NodeId}
 use Rattle.pv_tree.specs.Syntax.{Tree, OptionalTree, Absent, Present}
 use Rattle.pv_tree.specs.Depths.{declarator_depth}
-use Rattle.pv_tree.specs.Grammar.{Names, line_here}
+use Rattle.pv_tree.specs.Grammar.{line_here}
+use Rattle.pv_tree.specs.Spells.{Names}
 use Rattle.pv_tree.specs.Places.{Parameters, is_direct}
 use Rattle.pv_tree.specs.Tables.{Tables, tree_at, as_declarator, optional_at, trees_of, is_declaration, is_declarator, Is, Extends}
 use Rattle.pv_tree.specs.TypeNames.{TypeMap, names_of, AreTied}

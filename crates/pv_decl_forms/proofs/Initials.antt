@@ -6,7 +6,8 @@ use Rattle.pv_tree.specs.Syntax.{InitDeclarator, Initial, Braces, Tree, OfExpres
 use Rattle.pv_tree.specs.Tables.{Tables, tree_at, as_expression, as_declarator, expression_at, declarator_at, optional_at, is_expression, is_declarator, is_initializer, Is, Extends}
 use Rattle.pv_tree.proofs.Kept.{tree_kept}
 use Rattle.pv_tree.specs.Places.{Initializers}
-use Rattle.pv_tree.specs.Grammar.{Names, line_here}
+use Rattle.pv_tree.specs.Grammar.{line_here}
+use Rattle.pv_tree.specs.Spells.{Names}
 use Rattle.pv_expr_forms.specs.Reader.{Read, read, after}
 use Rattle.pv_expr_forms.specs.Answers.{Answers as ExpressionAnswers}
 use Rattle.pv_expr_forms.proofs.Listing.{read_end}

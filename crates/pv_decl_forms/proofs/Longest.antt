@@ -9,7 +9,8 @@ use Rattle.pv_token.specs.declared.marks.Mark.TheVariants as mark
 use Rattle.pv_tree.specs.Syntax.{DeclaratorTree, AbstractPointer, Pointer, Tree, OfDeclarator, Trees, Then, Absent, Present}
 use Rattle.pv_tree.specs.Depths.{declarator_depth}
 use Rattle.pv_tree.specs.Spelling.{declarator_tokens, tree_tokens, listed_tokens, optional_tokens, variadic_tokens, const_tokens}
-use Rattle.pv_tree.specs.Grammar.{Names, line_here, Fits}
+use Rattle.pv_tree.specs.Grammar.{line_here}
+use Rattle.pv_tree.specs.Spells.{Names, Fits}
 use Rattle.pv_tree.specs.Places.{AbstractDeclarators, stands, is_abstract, is_direct}
 use Rattle.pv_tree.specs.Fitting.{TreeFits, DeclaratorFits}
 use Rattle.pv_expr_forms.proofs.Runs.{Takes, takes_parts, takes_rest, takes_length}

@@ -4,7 +4,8 @@ use Rattle.indexmap.specs.IndexSet.{IndexSet}
 use Rattle.pv_token.specs.declared.token_table.Token.{Token}
 use Rattle.pv_tree.specs.declared.nodes.NodeId.{NodeId}
 use Rattle.pv_tree.specs.Syntax.{Parameter, Tree, Trees, NoTrees}
-use Rattle.pv_tree.specs.Grammar.{Names, line_here}
+use Rattle.pv_tree.specs.Grammar.{line_here}
+use Rattle.pv_tree.specs.Spells.{Names}
 use Rattle.pv_tree.specs.Places.{Specifiers, Members, MemberDeclarators, ParameterDeclarators, Parameters, some}
 use Rattle.pv_tree.specs.Tables.{Tables, trees_of, is_specifier, is_declarator, Extends}
 use Rattle.pv_tree.specs.TypeNames.{TypeMap, AreTied}

@@ -9,7 +9,8 @@ use Rattle.pv_token.specs.declared.marks.Mark.TheVariants as mark
 use Rattle.pv_tree.specs.Syntax.{DeclarationTree, TypeName, DeclaratorTree, SpecifierTree, Keyword, Composite, Enumeration, Tag, TypedefName, Tree, OfDeclaration, OfDeclarator, OfSpecifier, Trees, NoTrees, Then, Absent, Present}
 use Rattle.pv_tree.specs.Depths.{declaration_depth, specifier_depth, trees_depth}
 use Rattle.pv_tree.specs.Spelling.{declaration_tokens, specifier_tokens, tree_tokens, trees_tokens, listed_tokens, comma_tokens}
-use Rattle.pv_tree.specs.Grammar.{Names, line_here, Fits}
+use Rattle.pv_tree.specs.Grammar.{line_here}
+use Rattle.pv_tree.specs.Spells.{Names, Fits}
 use Rattle.pv_tree.specs.Places.{Specifiers, Members, Enumerators, AbstractDeclarators, stands, is_type_name, is_tag_word, some}
 use Rattle.pv_tree.specs.Fitting.{TreeFits, DeclarationFits, SpecifierFits, RowFits}
 use Rattle.pv_expr_forms.specs.Follows.{or_else}

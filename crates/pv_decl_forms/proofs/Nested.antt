@@ -9,7 +9,8 @@ use Rattle.pv_token.specs.declared.marks.Mark.TheVariants as mark
 use Rattle.pv_tree.specs.Syntax.{ExpressionTree, DeclarationTree, TypeName, Tree, Trees, OfDeclaration}
 use Rattle.pv_tree.specs.Depths.{expression_depth, declaration_depth}
 use Rattle.pv_tree.specs.Spelling.{expression_tokens, declaration_tokens, trees_tokens, listed_tokens, variadic_tokens, optional_tokens}
-use Rattle.pv_tree.specs.Grammar.{Names, kind_begins_type, begins_type, line_here, IsTypeName, FitsBy, Fits}
+use Rattle.pv_tree.specs.Grammar.{line_here, FitsBy}
+use Rattle.pv_tree.specs.Spells.{Names, kind_begins_type, begins_type, IsTypeName, Fits}
 use Rattle.pv_tree.specs.Tables.{as_declaration}
 use Rattle.pv_tree.specs.Places.{Parameters, is_type_name}
 use Rattle.pv_tree.specs.Fitting.{DeclarationFits, TypeNameFits}

@@ -11,7 +11,8 @@ use Rattle.pv_tree.specs.Syntax.{ExpressionTree, Parameter, SpecifierTree, Keywo
 use Rattle.pv_tree.specs.Depths.{expression_depth, specifier_depth, initializer_depth, trees_depth, optional_depth}
 use Rattle.pv_tree.specs.Levels.{rank}
 use Rattle.pv_tree.specs.Spelling.{expression_tokens, specifier_tokens, initializer_tokens, trees_tokens, listed_tokens, optional_tokens, tag_tokens, comma_tokens}
-use Rattle.pv_tree.specs.Grammar.{Names, line_here, Fits}
+use Rattle.pv_tree.specs.Grammar.{line_here}
+use Rattle.pv_tree.specs.Spells.{Names, Fits}
 use Rattle.pv_tree.specs.Places.{Specifiers, Members, Enumerators, Initializers, Constants, ParameterDeclarators, stands, is_plain_word, is_composite_word, is_tag_word, some}
 use Rattle.pv_tree.specs.Fitting.{SpecifierFits, InitializerFits, RowFits, ListFits, OptionalFits, past}
 use Rattle.pv_expr_forms.specs.Reader.{after, read}

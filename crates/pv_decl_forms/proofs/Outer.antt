@@ -5,7 +5,8 @@ use Rattle.indexmap.specs.IndexSet.{IndexSet, contains}
 use Rattle.pv_token.specs.declared.token_table.Token.{Token}
 use Rattle.pv_tree.specs.declared.nodes.NodeId.{NodeId}
 use Rattle.pv_tree.specs.Syntax.{Declaration, Parameter, TypeName, Tree, Trees, NoTrees, Then, Present}
-use Rattle.pv_tree.specs.Grammar.{Names, line_here}
+use Rattle.pv_tree.specs.Grammar.{line_here}
+use Rattle.pv_tree.specs.Spells.{Names}
 use Rattle.pv_tree.specs.Places.{Specifiers, InitDeclarators, MemberDeclarators, AbstractDeclarators}
 use Rattle.pv_tree.specs.Tables.{Tables, tree_at, trees_of, declaration_at, is_declaration, is_declarator, is_specifier, Is, Extends}
 use Rattle.pv_tree.specs.TypeNames.{TypeMap, AreTied}

@@ -6,7 +6,8 @@ use Rattle.pv_token.specs.declared.marks.Mark.TheVariants as mark
 use Rattle.pv_tree.specs.Syntax.{DeclarationTree, MemberDeclaration, Enumerator, DeclaratorTree, Tree, OfDeclaration, OfDeclarator, Trees, NoTrees, OptionalTree}
 use Rattle.pv_tree.specs.Depths.{trees_depth, optional_depth}
 use Rattle.pv_tree.specs.Spelling.{tree_tokens, trees_tokens, listed_tokens, optional_tokens, value_tokens, declarator_tokens, comma_tokens}
-use Rattle.pv_tree.specs.Grammar.{Names, line_here, Fits}
+use Rattle.pv_tree.specs.Grammar.{line_here}
+use Rattle.pv_tree.specs.Spells.{Names, Fits}
 use Rattle.pv_tree.specs.Places.{Place, Specifiers, InitDeclarators, Members, MemberDeclarators, Enumerators, Initializers, Constants, some}
 use Rattle.pv_tree.specs.Fitting.{RowFits, ListFits, OptionalFits, past}
 use Rattle.pv_expr_forms.specs.Follows.{or_else}

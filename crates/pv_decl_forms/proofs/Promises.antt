@@ -7,7 +7,7 @@ use Rattle.pv_tree.specs.declared.nodes.NodeId.{NodeId}
 use Rattle.pv_tree.specs.Syntax.{DeclarationTree, Tree, OfExpression, OfStatement, OfDeclaration, OfDeclarator, OfSpecifier, OfInitializer}
 use Rattle.pv_tree.specs.Tables.{Tables, tree_at, as_declaration, declaration_at, is_declaration, Is}
 use Rattle.pv_tree.specs.Spelling.{declaration_tokens}
-use Rattle.pv_tree.specs.Grammar.{Names}
+use Rattle.pv_tree.specs.Spells.{Names}
 use Rattle.pv_tree.specs.TypeNames.{TypeMap, names_of, AreTied}
 use Rattle.pv_expr_forms.proofs.Spans.{IsEnd, names_spelled, at_end, takes_spelled, spelled_taken, ends_at}
 use Rattle.pv_decl_forms.specs.Pieces.{Piece}

@@ -3,7 +3,7 @@ use Rattle.std.proofs.Common.{◌≡◌, ◌≤◌, ◌<◌, ℕ, zero, suc, Lis
 use Rattle.std.proofs.lemmas.List.{length-drop}
 use Rattle.pv_token.specs.declared.token_table.Token.{Token}
 use Rattle.pv_tree.specs.Syntax.{Tree, Trees}
-use Rattle.pv_tree.specs.Grammar.{Names}
+use Rattle.pv_tree.specs.Spells.{Names}
 use Rattle.pv_tree.specs.Places.{Place, Specifiers, Members, Enumerators, Parameters, Initializers}
 use Rattle.pv_expr_forms.proofs.Heads.{IsSpelled}
 use Rattle.pv_expr_forms.proofs.Spans.{IsEnd, at_end}

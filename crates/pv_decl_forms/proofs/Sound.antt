@@ -11,7 +11,8 @@ use Rattle.pv_token.specs.declared.marks.Mark.TheVariants as mark
 use Rattle.pv_tree.specs.Syntax.{ExpressionTree, Parameter, Keyword, Composite, Enumeration, Tag, TypedefName, Initial, Braces, Tree, OfExpression, OfSpecifier, OfInitializer, NoTrees}
 use Rattle.pv_tree.specs.Levels.{rank}
 use Rattle.pv_tree.specs.Spelling.{trees_tokens, listed_tokens, comma_tokens, tag_tokens}
-use Rattle.pv_tree.specs.Grammar.{Names, line_here, Fits}
+use Rattle.pv_tree.specs.Grammar.{line_here}
+use Rattle.pv_tree.specs.Spells.{Names, Fits}
 use Rattle.pv_tree.specs.Places.{Place, Specifiers, Members, MemberDeclarators, Enumerators, Parameters, Initializers, Constants, AbstractDeclarators, ParameterDeclarators, is_plain_word, is_composite_word, is_tag_word}
 use Rattle.pv_tree.specs.Fitting.{RowFits, ListFits, past}
 use Rattle.pv_expr_forms.specs.Reader.{after, read}

@@ -10,7 +10,7 @@ use Rattle.pv_token.specs.declared.marks.Mark.TheVariants as mark
 use Rattle.pv_tree.specs.Syntax.{DeclarationTree, DeclaratorTree, Tree, OfDeclaration, OfDeclarator, OfSpecifier, Trees, NoTrees, OptionalTree, Absent, Present}
 use Rattle.pv_tree.specs.Depths.{trees_depth, optional_depth}
 use Rattle.pv_tree.specs.Spelling.{tree_tokens, trees_tokens, optional_tokens, tag_tokens}
-use Rattle.pv_tree.specs.Grammar.{Names, begins_type, Fits}
+use Rattle.pv_tree.specs.Spells.{Names, begins_type, Fits}
 use Rattle.pv_tree.specs.Places.{Place, Specifiers, Members, stands, is_plain_word, is_composite_word, is_tag_word, some}
 use Rattle.pv_tree.specs.Fitting.{TreeFits, RowFits, OptionalFits, past}
 use Rattle.pv_expr_forms.specs.Reader.{after}

@@ -8,7 +8,7 @@ use Rattle.pv_token.specs.declared.words.Word.{Word}
 use Rattle.pv_token.specs.declared.words.Word.TheVariants as word
 use Rattle.pv_token.specs.declared.marks.Mark.TheVariants as mark
 use Rattle.pv_tree.specs.Syntax.{TypedefName, Tree, OfSpecifier, Trees, NoTrees}
-use Rattle.pv_tree.specs.Grammar.{Names, begins_specifiers, kind_begins_type, begins_type}
+use Rattle.pv_tree.specs.Spells.{Names, begins_specifiers, kind_begins_type, begins_type}
 use Rattle.pv_tree.specs.Places.{Place, Specifiers, InitDeclarators, Members, MemberDeclarators, Enumerators, Parameters, Initializers, Constants, AbstractDeclarators, ParameterDeclarators, is_plain_word, is_tag_word}
 use Rattle.pv_expr_forms.specs.Reader.{Reads as Expressing, head_of as begun_of, head as begun, deeper, fronted, read}
 use Rattle.pv_expr_forms.proofs.Ends.{goes_level, Stops as Ends}

@@ -9,7 +9,8 @@ use Rattle.pv_token.specs.declared.marks.Mark.TheVariants as mark
 use Rattle.pv_tree.specs.Syntax.{DeclaratorTree, DeclaredName, AbstractArray, AbstractFunction, Tree, OfDeclarator, Trees, OptionalTree, Absent}
 use Rattle.pv_tree.specs.Depths.{declarator_depth, optional_depth, trees_depth}
 use Rattle.pv_tree.specs.Spelling.{declarator_tokens, optional_tokens, listed_tokens, variadic_tokens, const_tokens}
-use Rattle.pv_tree.specs.Grammar.{Names, begins_type, line_here, Fits}
+use Rattle.pv_tree.specs.Grammar.{line_here}
+use Rattle.pv_tree.specs.Spells.{Names, begins_type, Fits}
 use Rattle.pv_tree.specs.Places.{Place, Specifiers, InitDeclarators, Members, Enumerators, MemberDeclarators, AbstractDeclarators, ParameterDeclarators, Parameters, Initializers, Constants, stands, is_named, is_direct, may_be_variadic}
 use Rattle.pv_tree.specs.Fitting.{DeclaratorFits, OptionalFits, ListFits, past}
 use Rattle.pv_expr_forms.specs.Reader.{is_close}

@@ -6,7 +6,7 @@ use Rattle.pv_token.specs.declared.token_table.TokenKind.TheVariants as kind
 use Rattle.pv_token.specs.declared.words.Word.TheVariants as word
 use Rattle.pv_token.specs.declared.marks.Mark.TheVariants as mark
 use Rattle.pv_tree.specs.Syntax.{Name, Declaration, InitDeclarator, MemberDeclaration, Parameter, TypeName, DeclaredName, FunctionDeclarator, AbstractParen, AbstractPointer, AbstractFunction, Keyword, Composite, Initial, OfDeclaration, OfDeclarator, OfSpecifier, OfInitializer, Trees, NoTrees, Then, Absent, Present}
-use Rattle.pv_tree.specs.Grammar.{Names}
+use Rattle.pv_tree.specs.Spells.{Names}
 use Rattle.pv_expr_forms.specs.Reader.{read, deeper, head, head_of, grown, grown_for, longer, tried}
 use Rattle.pv_decl_forms.specs.Pieces.{value, row, row_for, after_comma, listed}
 use Rattle.pv_decl_forms.specs.Declarators.{variadic_at, closed, with_parameters, parametrized, pointed, pointer, in_parentheses, opened, head_of as first_of, head as first, tried as gone, longer as next, grown_for as gone_for, grown as all, declarator}

@@ -1,4 +1,4 @@
--- What a function of the reader answers, as what reading on lists gives.
+-- A bridge: what a function of the reader answers, as what reading on lists gives.
 use Rattle.std.specs.Prelude.{◌≡◌, ◌≤◌, ℕ, Bool, List, length, drop, Option, Some, None, Result, IfOk}
 use Rattle.pv_token.specs.declared.token_table.Token.{Token}
 use Rattle.pv_tree.specs.declared.nodes.NodeId.{NodeId}

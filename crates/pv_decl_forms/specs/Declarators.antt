@@ -1,4 +1,4 @@
--- Reading a declarator, a name's or an abstract one, from the left, on lists (6.7.6, 6.7.7).
+-- A bridge: reading a declarator, a name's or an abstract one, from the left, on lists (6.7.6, 6.7.7).
 use Rattle.std.specs.Prelude.{ℕ, zero, suc, Bool, true, false, ◌&&◌, ◌||◌, nat_le, List, [], ◌∷◌, drop, Some, None, option_map, option_and_then, if◌then◌else◌}
 use Rattle.pv_token.specs.declared.token_table.Token.{Token}
 use Rattle.pv_token.specs.declared.token_table.TokenKind.{TokenKind}
@@ -6,7 +6,8 @@ use Rattle.pv_token.specs.declared.token_table.TokenKind.TheVariants as kind
 use Rattle.pv_token.specs.declared.marks.Mark.TheVariants as mark
 use Rattle.pv_tree.specs.Syntax.{DeclaredName, ParenDeclarator, Pointer, Array, FunctionDeclarator, AbstractParen, AbstractPointer, AbstractArray, AbstractFunction, Tree, OfDeclarator, Trees, OptionalTree, Absent, Present}
 use Rattle.pv_tree.specs.Depths.{declarator_depth}
-use Rattle.pv_tree.specs.Grammar.{Names, kind_begins_type, line_here}
+use Rattle.pv_tree.specs.Grammar.{line_here}
+use Rattle.pv_tree.specs.Spells.{Names, kind_begins_type}
 use Rattle.pv_tree.specs.Tables.{as_declarator}
 use Rattle.pv_tree.specs.Places.{Place, MemberDeclarators, AbstractDeclarators, ParameterDeclarators, Parameters, Constants, is_named, is_direct, some}
 use Rattle.pv_expr_forms.specs.Reader.{is_close, is_bracket, is_comma, after}

@@ -1,9 +1,9 @@
--- What is given where a part of a declaration is read: the type names that a reader has, and the lists of parameters that are known.
+-- A bridge: what is given where a part of a declaration is read: the type names that a reader has, and the lists of parameters that are known.
 use Rattle.std.specs.Prelude.{◌≡◌, ℕ, Option, Some, List, drop}
 use Rattle.indexmap.specs.IndexSet.{IndexSet}
 use Rattle.pv_token.specs.declared.token_table.Token.{Token}
 use Rattle.pv_tree.specs.declared.nodes.NodeId.{NodeId}
-use Rattle.pv_tree.specs.Grammar.{Names}
+use Rattle.pv_tree.specs.Spells.{Names}
 use Rattle.pv_tree.specs.Syntax.{Absent}
 use Rattle.pv_tree.specs.Tables.{Tables, is_declarator}
 use Rattle.pv_tree.specs.TypeNames.{TypeMap, AreTied}

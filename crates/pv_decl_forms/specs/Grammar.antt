@@ -1,10 +1,11 @@
--- What it is for a declaration, for the head of a function and for a type name to spell a run of tokens.
+-- A bridge: what it is for a declaration, for the head of a function and for a type name to spell a run of tokens.
 use Rattle.std.specs.Prelude.{◌≡◌, ◌≤◌, ℕ, Bool, true, false, ◌&&◌, List, [], ◌∷◌, drop, slice_range}
 use Rattle.pv_token.specs.declared.token_table.Token.{Token}
 use Rattle.pv_tree.specs.Syntax.{DeclarationTree, Declaration, Parameter, OfDeclarator, Present}
 use Rattle.pv_tree.specs.Depths.{declaration_depth}
 use Rattle.pv_tree.specs.Spelling.{declaration_tokens}
-use Rattle.pv_tree.specs.Grammar.{Names, Fits, kinds}
+use Rattle.pv_tree.specs.Grammar.{kinds}
+use Rattle.pv_tree.specs.Spells.{Names, Fits}
 use Rattle.pv_tree.specs.Places.{is_named, is_type_name}
 use Rattle.pv_tree.specs.Fitting.{DeclarationFits}
 use Rattle.pv_decl_forms.specs.Pieces.{is_open_brace}

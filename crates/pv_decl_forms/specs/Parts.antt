@@ -1,4 +1,4 @@
--- What the code asks for by names of its own, in the words of the reader.
+-- A bridge: what the code asks for by names of its own, in the words of the reader.
 use Rattle.std.specs.Prelude.{ℕ, zero, suc, Bool, false, List, [], ◌∷◌, Option, Some, None, option_map, if◌then◌else◌}
 use Rattle.pv_token.specs.declared.token_table.Token.{Token}
 use Rattle.pv_token.specs.declared.token_table.TokenKind.{TokenKind}
@@ -11,7 +11,7 @@ use Rattle.pv_tree.specs.declared.nodes.Spec.TheVariants as spec
 use Rattle.pv_tree.specs.Syntax.{DeclaredName, AbstractArray, AbstractFunction, Keyword, TypedefName, Tree, OfExpression, OfDeclarator, OfSpecifier, Trees, OptionalTree, Absent, Present}
 use Rattle.pv_tree.specs.Tables.{is_declaration, is_declarator, is_specifier}
 use Rattle.pv_tree.specs.Places.{Place, Specifiers, Members, Enumerators, Parameters, is_plain_word}
-use Rattle.pv_tree.specs.Grammar.{Names}
+use Rattle.pv_tree.specs.Spells.{Names}
 use Rattle.pv_expr_forms.specs.Reader.{is_close, is_bracket, is_comma, read}
 use Rattle.pv_decl_forms.specs.declared.forms.Form.{Form}
 use Rattle.pv_decl_forms.specs.declared.forms.Opening.{Opening}

@@ -1,4 +1,4 @@
--- Parts read one after another, on lists: rows, lists with commas, parts that may be left out.
+-- A bridge: parts read one after another, on lists: rows, lists with commas, parts that may be left out.
 use Rattle.std.specs.Prelude.{ℕ, zero, suc, Bool, true, false, List, length, Option, Some, None, option_and_then}
 use Rattle.pv_token.specs.declared.token_table.Token.{Token}
 use Rattle.pv_token.specs.declared.token_table.TokenKind.{TokenKind}

@@ -1,4 +1,4 @@
--- Reading specifiers, declarations and type names from the left, on lists (6.7, 6.9.1): the longest of at most so much depth. A node takes its
+-- A bridge: reading specifiers, declarations and type names from the left, on lists (6.7, 6.9.1): the longest of at most so much depth. A node takes its
 -- parts from one level of depth less, what is no node takes them from its own.
 use Rattle.std.specs.Prelude.{◌≡◌, ℕ, zero, suc, Bool, List, [], ◌∷◌, Option, Some, None, option_map, option_and_then, if◌then◌else◌}
 use Rattle.pv_token.specs.declared.token_table.Token.{Token}
@@ -8,7 +8,8 @@ use Rattle.pv_token.specs.declared.words.Word.{Word}
 use Rattle.pv_token.specs.declared.words.Word.TheVariants as word
 use Rattle.pv_token.specs.declared.marks.Mark.TheVariants as mark
 use Rattle.pv_tree.specs.Syntax.{DeclarationTree, Declaration, InitDeclarator, MemberDeclaration, Enumerator, Parameter, TypeName, Keyword, Composite, Enumeration, Tag, TypedefName, Initial, Braces, Tree, OfExpression, OfDeclaration, OfSpecifier, OfInitializer, Trees, NoTrees, Then, OptionalTree, Present}
-use Rattle.pv_tree.specs.Grammar.{Names, line_here}
+use Rattle.pv_tree.specs.Grammar.{line_here}
+use Rattle.pv_tree.specs.Spells.{Names}
 use Rattle.pv_tree.specs.Tables.{as_declarator, as_declaration}
 use Rattle.pv_tree.specs.Places.{Specifiers, InitDeclarators, Members, MemberDeclarators, Enumerators, Parameters, Initializers, Constants, AbstractDeclarators, ParameterDeclarators, is_plain_word, is_tag_word, some}
 use Rattle.pv_expr_forms.specs.Follows.{or_else}

@@ -1,4 +1,4 @@
--- What a function that reads several parts, or one that may be left out, answers, as what reading on lists gives.
+-- A bridge: what a function that reads several parts, or one that may be left out, answers, as what reading on lists gives.
 use Rattle.std.specs.Prelude.{◌≡◌, ◌≤◌, ℕ, Bool, List, All, length, drop, Option, IfSome}
 use Rattle.pv_token.specs.declared.token_table.Token.{Token}
 use Rattle.pv_tree.specs.declared.nodes.NodeId.{NodeId}

@@ -1,4 +1,4 @@
--- What is read of the tokens that a reader is given, as trees of a kind.
+-- A bridge: what is read of the tokens that a reader is given, as trees of a kind.
 use Rattle.std.specs.Prelude.{ℕ, Bool, List, Option, Result}
 use Rattle.pv_token.specs.declared.token_table.Token.{Token}
 use Rattle.pv_tree.specs.declared.nodes.NodeId.{NodeId}

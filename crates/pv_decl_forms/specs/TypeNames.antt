@@ -1,4 +1,4 @@
--- What a table of type names has at each place (6.7.7).
+-- A bridge: what a table of type names has at each place (6.7.7).
 use Rattle.std.specs.Prelude.{◌≡◌, ◌≤◌, ◌<◌, ◌⊎◌, ℕ, suc, Bool, None, List, ◌∷◌, drop}
 use Rattle.pv_token.specs.declared.token_table.Token.{Token}
 use Rattle.pv_token.specs.declared.token_table.TokenKind.TheVariants as kind

@@ -1,8 +1,8 @@
 -- What the modes `check` and `layout` print of a typed unit. C17 leaves the form of such a report to an implementation (5.1.1.3).
-use Rattle.std.specs.Prelude.{◌≤◌, ◌^◌, ℕ, ◌+◌, if◌then◌else◌, is_some, List, [], ◌∷◌, ◌++◌, codes, Option, Some, None}
+use Rattle.std.specs.Prelude.{ℕ, ◌+◌, if◌then◌else◌, is_some, List, [], ◌∷◌, ◌++◌, codes, Option, Some, None}
 use Rattle.std.specs.Fmt.{decimal}
 use Rattle.pv_types.specs.Ty.{Ty, StructTag, UnionTag}
-use Rattle.pv_types.specs.Known.{Known, env, heading_at}
+use Rattle.pv_types.specs.Known.{heading_at}
 use Rattle.pv_types.specs.Layouts.{Named, Placed, layout_in, look}
 use Rattle.pv_types.specs.Members.{placed_in}
 use Rattle.pv_typed.specs.TypedUnits.{WholeUnit, layouts, name_at}
@@ -61,7 +61,3 @@ tag_texts u (t ∷ ts) = tag_text u t ++ tag_texts u ts
 -- 6.7.2.3: the structures and unions with a tag that are completed at file scope, in that order
 abbrev pub layout_text : WholeUnit → List ℕ
 layout_text u = tag_texts u u.tags
-
--- 5.2.4.1: no structure or union takes more than 2^32 bytes
-abbrev pub AreSmall : Known → Type 0
-AreSmall m = (n : ℕ) → (layout_in (env m) (StructTag n)).size ≤ 2 ^ 32

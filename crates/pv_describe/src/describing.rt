@@ -1,13 +1,14 @@
 // What the modes `check` and `layout` print.
 ghost use Rattle.std.specs.Prelude.{◌≡◌, ◌<◌, ◌≤◌, ◌+◌, ◌++◌, ◌^◌, length, codes, is_some, IsTrue, IfOk, OnOk, true, false};
 ghost use Rattle.pv_types.specs.Ty.{StructTag, UnionTag};
-ghost use Rattle.pv_types.specs.Known.{tree, env, heading_at, is_union_in, IsBuilt};
+ghost use Rattle.pv_types.specs.Known.{tree, env, heading_at};
+ghost use Rattle.pv_types.specs.Formed.{is_union_in, IsBuilt};
 ghost use Rattle.pv_types.specs.Layouts.{look, or_none};
 ghost use Rattle.pv_types.specs.Members.{placed_in};
 ghost use Rattle.pv_typed.specs.Tables.{whole};
-ghost use Rattle.pv_typed.specs.Formed.{AreKnown};
+ghost use Rattle.pv_typed.specs.Known.{AreKnown};
 ghost use Rattle.pv_describe.specs.Describing as described;
-ghost use Rattle.pv_describe.specs.Describing.{AreSmall};
+ghost use Rattle.pv_describe.specs.Bounds.{AreSmall};
 
 use crate::lines::{head_line, member_line};
 use pv_layout::{align, size};

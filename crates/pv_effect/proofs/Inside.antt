@@ -2,8 +2,9 @@
 use Rattle.std.proofs.Common.{◌≡◌, ℕ, zero, suc, ◌+◌, ◌*◌, ◌<◌, ◌≤◌, max, Bool, true, false, IsTrue, List, [], ◌∷◌, ◌++◌, Some, None, refl, sym, ◌∙◌, ap, subst, arith}
 use Rattle.std.specs.Int.{next_multiple_of}
 use Rattle.pv_types.specs.Ty.{Ty, VoidTy, IntTy, PointerTo, ArrayOf, StructTag, UnionTag, FunctionTy, ConstOf}
-use Rattle.pv_types.specs.Layouts.{Part, Layout, Entry, Named, look, or_none, layout_in, layout_of, is_complete_in, struct_end, union_end, end_of, struct_parts, union_parts, member_parts, tag_type, shifted, repeated, part_count, behind_whole, AreComplete}
-use Rattle.pv_types.specs.Known.{Known, env, named, is_union_in, IsBuilt}
+use Rattle.pv_types.specs.Layouts.{Part, Layout, Entry, Named, look, or_none, layout_in, layout_of, is_complete_in, struct_end, union_end, end_of, struct_parts, union_parts, member_parts, tag_type, shifted, repeated, part_count, behind_whole}
+use Rattle.pv_types.specs.Formed.{AreComplete, named, is_union_in, IsBuilt}
+use Rattle.pv_types.specs.Known.{Known, env}
 use Rattle.pv_types.proofs.Counted.{AreFewer, const_count, element_fewer, members_fewer}
 use Rattle.pv_types.proofs.Fills.{struct_end-ge, union_end-ge, left_true, right_true, lt_true}
 use Rattle.pv_types.proofs.Made.{made}

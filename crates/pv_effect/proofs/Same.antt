@@ -9,10 +9,10 @@ use Rattle.pv_types.specs.declared.terms.Term.{Term}
 use Rattle.pv_types.specs.declared.terms.Term.TheVariants.{Int}
 use Rattle.pv_types.specs.Compatible.{same_kind, are_compatible}
 use Rattle.pv_types.specs.Layouts.{layout_in}
-use Rattle.pv_types.specs.Known.{Known, IsBuilt, tree, trees, tree_in, env}
+use Rattle.pv_types.specs.Known.{Known, tree, trees, tree_in, env}
+use Rattle.pv_types.specs.Formed.{IsBuilt}
 use Rattle.pv_types.proofs.Injective.{trees_differ}
-use Rattle.pv_layout.specs.Places.{bare}
-use Rattle.pv_layout.specs.Parts.{some_at, leaves, agrees, are_counterparts}
+use Rattle.pv_layout.specs.Parts.{bare, some_at, leaves, agrees, are_counterparts}
 use Rattle.pv_layout.proofs.Ahead.{bare_no}
 use Rattle.pv_effect.specs.EffectiveType.{same_size, same_type, same_types}
 

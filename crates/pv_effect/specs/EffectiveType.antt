@@ -8,8 +8,7 @@ use Rattle.pv_types.specs.Ty.{Ty, Tys, VoidTy, IntTy, PointerTo, ArrayOf, Struct
 use Rattle.pv_types.specs.Compatible.{same_kind}
 use Rattle.pv_types.specs.Layouts.{Part, Entry, layout_in}
 use Rattle.pv_types.specs.Known.{Known, tree, env}
-use Rattle.pv_layout.specs.Places.{bare}
-use Rattle.pv_layout.specs.Parts.{some_at, leaves, agrees, suits, are_counterparts}
+use Rattle.pv_layout.specs.Parts.{bare, some_at, leaves, agrees, suits, are_counterparts}
 
 -- 6.2.5p15: `char`, `signed char` and `unsigned char`
 abbrev pub is_character_kind : IntKind → Bool

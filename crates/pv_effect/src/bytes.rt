@@ -2,7 +2,8 @@
 ghost use Rattle.std.specs.Prelude.{◌≡◌, ◌<◌, ◌≤◌, ◌^◌, ◌+◌, ◌&&◌, ◌||◌, nat_lt, ℕ, Bool, length, IsTrue, is_some, false, true};
 ghost use Rattle.pv_types.specs.Ty.{Ty};
 ghost use Rattle.pv_types.specs.Qualifiers.{is_const};
-ghost use Rattle.pv_types.specs.Known.{tree, env, named, is_union_in, IsBuilt};
+ghost use Rattle.pv_types.specs.Known.{tree, env};
+ghost use Rattle.pv_types.specs.Formed.{named, is_union_in, IsBuilt};
 ghost use Rattle.pv_types.specs.Layouts.{layout_in, is_complete_in, look, or_none, struct_parts, union_parts, part_count};
 ghost use Rattle.pv_layout.specs.Parts.{leaves, is_scalar};
 ghost use Rattle.pv_effect.specs.EffectiveType.{some_over, accepts};

@@ -5,8 +5,10 @@ use Rattle.pv_tree.specs.declared.nodes.NodeId.{NodeId}
 use Rattle.pv_typed.specs.declared.nodes.Typed.{Typed}
 use Rattle.pv_typed.specs.TypedTree.{type_of, line_of, form_of}
 use Rattle.pv_typed.specs.Nodes.{form_in}
-use Rattle.pv_typed.specs.Tables.{Stored, nodes, expression_at}
-use Rattle.pv_seq.specs.Sequencing.{Access, Open, top, noted}
+use Rattle.pv_typed.specs.Tables.{Stored, nodes}
+use Rattle.pv_typed.specs.NodeTrees.{expression_at}
+use Rattle.pv_seq.specs.Sequencing.{Access, Open, noted}
+use Rattle.pv_seq.specs.Rivals.{top}
 use Rattle.pv_world.specs.Worlds.{Worth}
 use Rattle.pv_world.specs.declared.got.Got.{Got}
 use Rattle.pv_world.specs.Coming.{worth_of}

@@ -7,7 +7,7 @@ use Rattle.pv_types.specs.Ty.{Ty, IntTy}
 use Rattle.pv_types.specs.Compatible.{are_compatible}
 use Rattle.pv_types.specs.Known.{Known, tree, env}
 use Rattle.pv_types.specs.Layouts.{is_complete_in}
-use Rattle.pv_layout.specs.Places.{bare}
+use Rattle.pv_layout.specs.Parts.{bare}
 use Rattle.pv_layout.proofs.Ahead.{bare_size, bare_complete}
 use Rattle.pv_inst.specs.declared.values.Instance.{Instance}
 use Rattle.pv_inst.specs.declared.values.Info.{Info}

@@ -8,8 +8,10 @@ use Rattle.pv_typed.specs.declared.nodes.Typed.{Typed}
 use Rattle.pv_typed.specs.declared.nodes.Typed.TheVariants as typed
 use Rattle.pv_typed.specs.TypedTree.{Arguments, NoArguments, MoreArguments, Call, type_of, line_of, form_of}
 use Rattle.pv_typed.specs.Nodes.{Tree, form_in, expression_in, arguments_in}
-use Rattle.pv_typed.specs.Tables.{Stored, nodes, expression_at, list_at}
-use Rattle.pv_seq.specs.Sequencing.{Open, top}
+use Rattle.pv_typed.specs.Tables.{Stored, nodes}
+use Rattle.pv_typed.specs.NodeTrees.{expression_at, list_at}
+use Rattle.pv_seq.specs.Sequencing.{Open}
+use Rattle.pv_seq.specs.Rivals.{top}
 use Rattle.pv_world.specs.Worlds.{Worth}
 use Rattle.pv_eval.specs.States.{Setting, State, then_do}
 use Rattle.pv_eval.specs.Sequenced.{operand}

@@ -1,17 +1,20 @@
 -- The first operations of nodes, one case for each kind.
 use Rattle.std.proofs.Common.{◌≡◌, ℕ, ◌+◌, ◌++◌, ◌<◌, List, [], ◌∷◌, refl, sym, ap, ◌∙◌, arith, subst, Some, None}
-use Rattle.std.specs.Prelude.{ℤ, Bool, true, false, if◌then◌else◌, Result, Ok, Err, Option}
+use Rattle.std.specs.Prelude.{ℤ, Bool, true, false, if◌then◌else◌, Result, Ok, Err, Option, reverse, ◌-◌, IfSome, IfOk, ◌≤◌}
 use Rattle.std.proofs.lemmas.Bool.{lt-ltb}
 use Rattle.pv_types.specs.Ty.{Ty}
 use Rattle.pv_tree.specs.declared.nodes.NodeId.{NodeId}
 use Rattle.pv_typed.specs.declared.nodes.Typed.{Typed}
 use Rattle.pv_typed.specs.declared.nodes.Typed.TheVariants as typed
-use Rattle.pv_typed.specs.TypedTree.{TypedTree, Node, type_of, line_of, form_of, takes_turn}
+use Rattle.pv_typed.specs.TypedTree.{TypedTree, Node, type_of, line_of, form_of}
+use Rattle.pv_typed.specs.Trees.{takes_turn}
 use Rattle.pv_typed.specs.Nodes.{Tree, form_in, expression_in}
-use Rattle.pv_typed.specs.Tables.{Stored, nodes, expression_at, whole, IsExpression}
+use Rattle.pv_typed.specs.Tables.{Stored, nodes, whole}
+use Rattle.pv_typed.specs.NodeTrees.{expression_at, IsExpression}
 use Rattle.pv_typed.specs.Children.{HasKind, HasOperands}
 use Rattle.pv_eval.specs.declared.frames.Stage.{Stage}
-use Rattle.pv_seq.specs.Sequencing.{Access, Open, opened, top, below, noted, joined}
+use Rattle.pv_seq.specs.Sequencing.{Access, Open, opened, noted, joined}
+use Rattle.pv_seq.specs.Rivals.{top, below}
 use Rattle.pv_world.specs.Worlds.{Worth}
 use Rattle.pv_eval.specs.States.{Setting, State, Res, Gives, Stops, Turns, then_do, spend}
 use Rattle.pv_eval.specs.Sequenced.{Given, done, operand}
@@ -26,18 +29,14 @@ use Rattle.pv_eval.specs.declared.frames.Stage.TheVariants as stage
 use Rattle.std.proofs.Common.{length}
 use Rattle.pv_world.specs.Coming.{worth_of}
 use Rattle.pv_eval.specs.Moments.{Moment, IsSetting, Follows, Stays, Came, Needed, Tested, Noted}
-use Rattle.pv_eval.specs.Frames.{first_after, second_after, stage_after, frame_after}
-use Rattle.std.specs.Prelude.{reverse}
+use Rattle.pv_eval.specs.Frames.{first_after, second_after, stage_after, frame_after, after}
 use Rattle.std.proofs.Common.{length-append}
 use Rattle.std.proofs.lemmas.List.{reverse-append}
 use Rattle.pv_eval.specs.Stack.{rest}
 use Rattle.pv_eval.specs.declared.frames.Now.{Now}
 use Rattle.pv_eval.specs.declared.frames.Now.TheVariants.{Value, Due}
-use Rattle.std.specs.Prelude.{◌-◌}
-use Rattle.pv_eval.specs.Frames.{after}
 use Rattle.pv_eval.specs.Ahead.{ahead, zip, stack, Kept, means, Led, first_operand_of, second_operand_of, takes_of, given, IsChoice}
 use Rattle.pv_eval.specs.Operations.{Tests, act}
-use Rattle.std.specs.Prelude.{IfSome, IfOk, ◌≤◌}
 
 -- a node with operands begins with the first one
 module _ (b : Setting) (call : Calling) (t : Ty) (line : ℕ) (ls : List (List NodeId)) (ts : List Tree) (fs : List Access) (s : State) where

@@ -10,7 +10,7 @@ use Rattle.pv_num.specs.declared.kinds.IntKind.{IntKind}
 use Rattle.pv_num.specs.declared.operators.BinOp.{BinOp}
 use Rattle.pv_num.specs.declared.operators.BinOp.TheVariants as op
 use Rattle.pv_num.specs.Kinds.{Fits, fits_of, least, greatest}
-use Rattle.pv_num.specs.Arithmetic.{IsOperand}
+use Rattle.pv_num.specs.Operands.{IsOperand}
 use Rattle.pv_prov.specs.declared.names.Prov.{Prov}
 use Rattle.pv_prov.specs.declared.names.Prov.TheVariants.{Empty, Inst, Pair}
 use Rattle.pv_inst.specs.declared.values.Instance.{Instance}
@@ -22,15 +22,15 @@ use Rattle.pv_object.specs.declared.values.Scalar.{Scalar}
 use Rattle.pv_object.specs.declared.values.Scalar.TheVariants as scalar
 use Rattle.pv_object.specs.declared.values.Value.{Value}
 use Rattle.pv_object.specs.declared.values.Value.TheVariants.{Int as IntValue, Unset, Pointer as PointerValue}
-use Rattle.pv_object.specs.Values.{IsOf, IsMadeValue}
+use Rattle.pv_object.specs.Values.{IsOf}
+use Rattle.pv_object.specs.Answers.{IsMadeValue}
 use Rattle.pv_libc.specs.declared.values.Arg.{Arg}
 use Rattle.pv_world.specs.declared.got.Shape.{Shape}
 use Rattle.pv_world.specs.declared.got.Shape.TheVariants as shape
 use Rattle.pv_world.specs.Worlds.{Worth, Nothing, Missing, Scalar as ScalarWorth, Whole, World}
-use Rattle.pv_world.specs.Worths.{int_of, IsSmall}
-use Rattle.pv_world.specs.Objects.{HasRoom}
+use Rattle.pv_world.specs.Worths.{int_of}
+use Rattle.pv_world.specs.Preconditions.{IsSmall, HasRoom, HasPart, HasSizeOf, IsStored}
 use Rattle.pv_world.specs.Coming.{IsMadeWorth}
-use Rattle.pv_world.specs.Accesses.{HasPart, HasSizeOf, IsStored}
 use Rattle.pv_eval.specs.Suiting.{knows, knows_value, knows_bytes, knows_worth, knows_arguments, is_small, is_count, is_operand, is_of, is_stored, has_part, live_in, has_room, room_in}
 
 pub left_of : (a b : Bool) → (a && b) ≡ true → a ≡ true

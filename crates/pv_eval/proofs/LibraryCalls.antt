@@ -9,8 +9,10 @@ use Rattle.pv_typed.specs.declared.nodes.Typed.{Typed}
 use Rattle.pv_typed.specs.declared.nodes.Typed.TheVariants as typed
 use Rattle.pv_typed.specs.TypedTree.{Form, Arguments, NoArguments, MoreArguments, Call, LibraryCall, type_of, line_of, form_of}
 use Rattle.pv_typed.specs.Nodes.{Tree, form_in, arguments_in}
-use Rattle.pv_typed.specs.Tables.{Stored, nodes, expression_at, list_at, IsExpression}
-use Rattle.pv_typed.specs.Children.{Each, HasKind, HasKinds}
+use Rattle.pv_typed.specs.Tables.{Stored, nodes}
+use Rattle.pv_typed.specs.NodeTrees.{expression_at, list_at, IsExpression}
+use Rattle.pv_typed.specs.Children.{HasKind, HasKinds}
+use Rattle.pv_typed.specs.Known.{Each}
 use Rattle.pv_seq.specs.Sequencing.{Open}
 use Rattle.pv_world.specs.Worlds.{Worth}
 use Rattle.pv_world.specs.declared.got.Got.{Got}

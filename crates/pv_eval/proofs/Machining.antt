@@ -2,7 +2,8 @@
 use Rattle.std.proofs.Common.{◌≡◌, List, [], ◌∷◌, refl, sym, ap, subst, arith}
 use Rattle.std.specs.Prelude.{ℤ, true, false, length, Result, Ok, Err, IfOk, slice_index_or, slice_set}
 use Rattle.pv_typed.specs.Tables.{Stored}
-use Rattle.pv_seq.specs.Sequencing.{Open, below}
+use Rattle.pv_seq.specs.Sequencing.{Open}
+use Rattle.pv_seq.specs.Rivals.{below}
 use Rattle.pv_world.specs.Worlds.{Worth}
 use Rattle.pv_world.specs.declared.got.Got.{Got}
 use Rattle.pv_eval.specs.States.{Setting, State, Res}

@@ -8,9 +8,9 @@ use Rattle.std.proofs.lemmas.Bool.Decides.{Decides-eqb}
 use Rattle.std.proofs.lemmas.Grind.{common_steps}
 use Rattle.std.proofs.lemmas.List.Sums.{passes_at_first, fails_before_first}
 use Rattle.pv_types.specs.Ty.{Ty, VoidTy, IntTy, PointerTo, ArrayOf, StructTag, UnionTag, FunctionTy, ConstOf}
-use Rattle.pv_types.specs.Known.{Known, tree, trees, env, IsBuilt}
-use Rattle.pv_types.specs.Kept.{up_to}
-use Rattle.pv_types.specs.Layouts.{Layout, Entry, look, or_none, layout_in, is_complete_in}
+use Rattle.pv_types.specs.Known.{Known, tree, trees, env}
+use Rattle.pv_types.specs.Formed.{IsBuilt}
+use Rattle.pv_types.specs.Layouts.{up_to, Layout, Entry, look, or_none, layout_in, is_complete_in}
 use Rattle.pv_types.proofs.Trees.{length-trees}
 use Rattle.pv_types.proofs.Peeling.{positive_align}
 use Rattle.pv_effect.specs.EffectiveType.{same_type}

@@ -15,7 +15,8 @@ use Rattle.pv_typed.specs.declared.nodes.Typed.{Typed}
 use Rattle.pv_typed.specs.declared.nodes.Typed.TheVariants as typed
 use Rattle.pv_typed.specs.TypedTree.{TypedTree, Node, Form, Convert, type_of, form_of}
 use Rattle.pv_typed.specs.TypedUnits.{layouts, object_at}
-use Rattle.pv_typed.specs.Tables.{Stored, whole, expression_at}
+use Rattle.pv_typed.specs.Tables.{Stored, whole}
+use Rattle.pv_typed.specs.NodeTrees.{expression_at}
 use Rattle.pv_seq.specs.Sequencing.{opened}
 use Rattle.pv_world.specs.Worlds.{Worth, World}
 use Rattle.pv_world.specs.declared.got.Shape.{Shape}

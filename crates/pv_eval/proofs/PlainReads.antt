@@ -25,7 +25,7 @@ use Rattle.pv_object.specs.declared.values.Pointer.{Pointer}
 use Rattle.pv_object.specs.declared.values.Reach.{Reach}
 use Rattle.pv_object.specs.declared.values.Stop.{Stop}
 use Rattle.pv_object.specs.declared.values.Value.TheVariants.{Int as IntValue}
-use Rattle.pv_object.specs.Memory.{IsReachIn}
+use Rattle.pv_object.specs.Reaching.{IsReachIn}
 use Rattle.pv_object.specs.Access.{fault, reach_after, checked_in, or_stop, write_stop, readonly_stop}
 use Rattle.pv_object.specs.Encoding.{number_in}
 use Rattle.pv_object.specs.Loading.{is_trap, integer_of, exposed_by}
@@ -33,7 +33,8 @@ use Rattle.pv_types.specs.Ty.{Ty}
 use Rattle.pv_tree.specs.declared.nodes.NodeId.{NodeId}
 use Rattle.pv_typed.specs.declared.nodes.Typed.TheVariants as typed
 use Rattle.pv_typed.specs.TypedTree.{type_of}
-use Rattle.pv_typed.specs.Tables.{Stored, expression_at}
+use Rattle.pv_typed.specs.Tables.{Stored}
+use Rattle.pv_typed.specs.NodeTrees.{expression_at}
 use Rattle.pv_seq.specs.Sequencing.{Access, clash, overlap, conflicts, rivals, noted}
 use Rattle.pv_world.specs.declared.got.Shape.{Shape}
 use Rattle.pv_world.specs.declared.got.Shape.TheVariants as shape

@@ -4,8 +4,10 @@ use Rattle.std.specs.Prelude.{Option, IfSome, if◌then◌else◌}
 use Rattle.std.proofs.lemmas.Bool.{lt-ltb, le-ltb, cases_lt}
 use Rattle.pv_tree.specs.declared.nodes.NodeId.{NodeId}
 use Rattle.pv_typed.specs.declared.nodes.Typed.{Typed}
-use Rattle.pv_typed.specs.TypedTree.{TypedTree, Node, Form, type_of, line_of, form_of, takes_turn}
-use Rattle.pv_typed.specs.Tables.{Stored, nodes, expression_at}
+use Rattle.pv_typed.specs.TypedTree.{TypedTree, Node, Form, type_of, line_of, form_of}
+use Rattle.pv_typed.specs.Trees.{takes_turn}
+use Rattle.pv_typed.specs.Tables.{Stored, nodes}
+use Rattle.pv_typed.specs.NodeTrees.{expression_at}
 use Rattle.pv_typed.specs.Plain.{counted, both, turns_of, turns_of_form}
 use Rattle.pv_seq.specs.Sequencing.{Access, Open}
 use Rattle.pv_world.specs.Worlds.{Worth, World}

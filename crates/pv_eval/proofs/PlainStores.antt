@@ -11,7 +11,8 @@ use Rattle.pv_object.specs.declared.values.Pointer.{Pointer}
 use Rattle.pv_object.specs.declared.values.Reach.{Reach}
 use Rattle.pv_typed.specs.declared.nodes.Typed.TheVariants as typed
 use Rattle.pv_typed.specs.TypedTree.{TypedTree, Node, Form, Assign, CompoundAssign, PointerAssign, Increment, Read, type_of, line_of, form_of}
-use Rattle.pv_typed.specs.Tables.{Stored, nodes, expression_at}
+use Rattle.pv_typed.specs.Tables.{Stored, nodes}
+use Rattle.pv_typed.specs.NodeTrees.{expression_at}
 use Rattle.pv_typed.specs.Plain.{counted, both, capped, turns_of}
 use Rattle.pv_seq.specs.Sequencing.{Access, Open, rivals, noted}
 use Rattle.pv_world.specs.declared.got.Shape.{Shape}

@@ -11,8 +11,10 @@ use Rattle.pv_typed.specs.declared.nodes.IncrementOperator.{IncrementOperator}
 use Rattle.pv_typed.specs.declared.nodes.Sign.{Sign}
 use Rattle.pv_typed.specs.declared.nodes.Typed.{Typed}
 use Rattle.pv_typed.specs.declared.nodes.Typed.TheVariants as typed
-use Rattle.pv_typed.specs.TypedTree.{TypedTree, Node, type_of, line_of, form_of, takes_turn}
-use Rattle.pv_typed.specs.Tables.{Stored, nodes, expression_at}
+use Rattle.pv_typed.specs.TypedTree.{TypedTree, Node, type_of, line_of, form_of}
+use Rattle.pv_typed.specs.Trees.{takes_turn}
+use Rattle.pv_typed.specs.Tables.{Stored, nodes}
+use Rattle.pv_typed.specs.NodeTrees.{expression_at}
 use Rattle.pv_typed.specs.Plain.{counted, both, turns_of}
 use Rattle.pv_seq.specs.Sequencing.{Open, noted}
 use Rattle.pv_world.specs.declared.got.How.TheVariants.{Rounds}

@@ -7,8 +7,10 @@ use Rattle.pv_tree.specs.declared.nodes.NodeId.{NodeId}
 use Rattle.pv_tree.specs.declared.nodes.ListId.{ListId}
 use Rattle.pv_typed.specs.TypedTree.{TypedTree, Form, Arguments, NoArguments, MoreArguments, CallPointer, type_of, line_of, form_of}
 use Rattle.pv_typed.specs.Nodes.{Tree, arguments_in}
-use Rattle.pv_typed.specs.Tables.{Stored, nodes, expression_at, list_at}
-use Rattle.pv_seq.specs.Sequencing.{Open, top, settled}
+use Rattle.pv_typed.specs.Tables.{Stored, nodes}
+use Rattle.pv_typed.specs.NodeTrees.{expression_at, list_at}
+use Rattle.pv_seq.specs.Sequencing.{Open, settled}
+use Rattle.pv_seq.specs.Rivals.{top}
 use Rattle.pv_world.specs.Worlds.{Worth, Nothing}
 use Rattle.pv_world.specs.declared.got.Got.{Got}
 use Rattle.pv_world.specs.Coming.{worth_of}

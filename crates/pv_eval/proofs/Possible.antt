@@ -3,7 +3,7 @@ use Rattle.std.proofs.Common.{◌≡◌, ℕ, suc, ◌+◌, Bool, List, [], ◌�
 use Rattle.std.specs.Prelude.{Ok, Err, ◌&&◌, take}
 use Rattle.pv_types.specs.Ty.{Ty}
 use Rattle.pv_types.specs.Known.{Known, tree}
-use Rattle.pv_types.specs.Kept.{up_to}
+use Rattle.pv_types.specs.Layouts.{up_to}
 use Rattle.pv_inst.specs.declared.values.CreateError.{CreateError}
 use Rattle.pv_inst.specs.declared.values.CreateError.TheVariants as refusal
 use Rattle.pv_shadow.specs.declared.byte.Byte.{Byte}
@@ -20,7 +20,8 @@ use Rattle.pv_world.specs.Telling.{quiet}
 use Rattle.pv_world.specs.Doing.{Done, Answers}
 use Rattle.pv_world.specs.Coming.{Came, CameMade, Did, Seen, Gave, seen, no_worth}
 use Rattle.pv_world.specs.declared.got.Shape.{Shape}
-use Rattle.pv_world.specs.Accesses.{HasSizeOf, stored_as}
+use Rattle.pv_world.specs.Accesses.{stored_as}
+use Rattle.pv_world.specs.Preconditions.{HasSizeOf}
 use Rattle.pv_world.specs.Objects.{instance_of, puts_bytes}
 use Rattle.pv_eval.specs.TypeForms.{Lvalue, lvalue, shape_of}
 use Rattle.pv_eval.specs.Sizes.{setting_of, size_in, number_in}

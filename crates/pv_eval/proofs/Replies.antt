@@ -16,8 +16,9 @@ use Rattle.pv_libc.specs.declared.values.Note.{Note}
 use Rattle.pv_libc.specs.declared.values.Note.TheVariants as note
 use Rattle.pv_libc.specs.declared.values.Reply.{Reply}
 use Rattle.pv_libc.specs.declared.values.Reply.TheVariants as reply
-use Rattle.pv_libc.specs.Steps.{Now, with_notes, OrNoMemory, Did as Step}
-use Rattle.pv_libc.specs.Calls.{called, output, behind}
+use Rattle.pv_libc.specs.Steps.{Now, with_notes, Did as Step}
+use Rattle.pv_libc.specs.Answers.{OrNoMemory, behind}
+use Rattle.pv_libc.specs.Calls.{called, output}
 use Rattle.pv_libc.specs.Makings.{AreLive}
 use Rattle.pv_watch.specs.declared.event.What.{What}
 use Rattle.pv_world.specs.declared.got.Got.{Got}
@@ -31,7 +32,8 @@ use Rattle.pv_world.specs.Coming.{Came, Did, Faulted, Gave, Ended, seen, worth_o
 use Rattle.pv_eval.specs.States.{Setting}
 use Rattle.pv_eval.specs.Frames.{asked_with}
 use Rattle.pv_eval.specs.Suiting.{knows_arguments}
-use Rattle.pv_eval.specs.Library.{noted_as, all_noted, blame_in, with_memory, come_to, asked, asks}
+use Rattle.pv_eval.specs.Library.{noted_as, all_noted, blame_in, with_memory, asked, asks}
+use Rattle.pv_eval.specs.Moments.{come_to}
 use Rattle.pv_eval.specs.Operations.{Asks, does}
 use Rattle.pv_eval.specs.Texts.{text_in, silent, UnlessNoMemory, Wrote}
 use Rattle.pv_eval.proofs.Chosen.{failed}

@@ -3,7 +3,8 @@ use Rattle.std.proofs.Common.{◌≡◌, ℕ, Bool, true, false, List, [], ◌�
 use Rattle.std.specs.Prelude.{Option, find, cond, ◌||◌}
 use Rattle.std.specs.List.{list_any}
 use Rattle.pv_seq.specs.declared.error.SeqStop.TheVariants.{Conflict}
-use Rattle.pv_seq.specs.Sequencing.{Access, Open, clash, rivals, conflicts, first_rival, Tells}
+use Rattle.pv_seq.specs.Sequencing.{Access, Open, clash, rivals, conflicts}
+use Rattle.pv_seq.specs.Rivals.{first_rival, Tells}
 
 passes_none : {A : Type 0} (x : A) (t r : Bool) (o : Option A) → (o ≡ None → r ≡ false) → cond t (Some x) o ≡ None → (t || r) ≡ false
 passes_none x true r o h e = absurd cc

@@ -10,7 +10,7 @@ use Rattle.pv_types.specs.Known.{Known, tree}
 use Rattle.pv_types.specs.Layouts.{layout_in}
 use Rattle.pv_typed.specs.TypedUnits.{WholeUnit, layouts}
 use Rattle.pv_typed.specs.Tables.{Stored, whole}
-use Rattle.pv_world.specs.Accesses.{HasSizeOf}
+use Rattle.pv_world.specs.Preconditions.{HasSizeOf}
 use Rattle.pv_eval.specs.States.{Setting}
 use Rattle.pv_eval.specs.TypeForms.{shape_of, size_of, pointed_to, element_size}
 use Rattle.pv_eval.specs.Conversions.{how_by, how_to}

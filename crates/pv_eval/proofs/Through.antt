@@ -5,11 +5,12 @@ use Rattle.std.proofs.lemmas.Bool.{le-leb}
 use Rattle.pv_types.specs.Ty.{Ty}
 use Rattle.pv_types.specs.Known.{tree, env}
 use Rattle.pv_types.specs.Layouts.{is_complete_in, layout_in}
-use Rattle.pv_layout.specs.Places.{bare}
+use Rattle.pv_layout.specs.Parts.{bare}
 use Rattle.pv_layout.proofs.Ahead.{bare_complete}
 use Rattle.pv_typed.specs.TypedUnits.{WholeUnit, layouts}
 use Rattle.pv_typed.specs.Tables.{Stored, whole}
-use Rattle.pv_seq.specs.Sequencing.{Access, Open, access_of, noted, top, below}
+use Rattle.pv_seq.specs.Sequencing.{Access, Open, access_of, noted}
+use Rattle.pv_seq.specs.Rivals.{top, below}
 use Rattle.pv_object.specs.declared.values.Pointer.{Pointer}
 use Rattle.pv_world.specs.declared.got.Got.{Got}
 use Rattle.pv_world.specs.declared.got.Failure.{Failure as Fallen}
@@ -18,7 +19,7 @@ use Rattle.pv_world.specs.declared.got.Shape.TheVariants as shape
 use Rattle.pv_world.specs.Worlds.{Worth, Nothing, Missing, Scalar, Whole, World}
 use Rattle.pv_world.specs.Worths.{present}
 use Rattle.pv_world.specs.Doing.{Done}
-use Rattle.pv_world.specs.Accesses.{IsStored}
+use Rattle.pv_world.specs.Preconditions.{IsStored}
 use Rattle.pv_eval.specs.declared.failure.Failure.{Failure}
 use Rattle.pv_eval.specs.declared.types.Complete.{Complete}
 use Rattle.pv_eval.specs.States.{Setting}

@@ -1,7 +1,8 @@
 -- Full expressions that are evaluated at once.
 use Rattle.std.proofs.Common.{◌≡◌, ℕ, ◌+◌, ◌++◌, List, [], ◌∷◌, sym, ap, ◌∙◌, arith, subst, Some}
 use Rattle.pv_tree.specs.declared.nodes.NodeId.{NodeId}
-use Rattle.pv_typed.specs.Tables.{Stored, expression_at}
+use Rattle.pv_typed.specs.Tables.{Stored}
+use Rattle.pv_typed.specs.NodeTrees.{expression_at}
 use Rattle.pv_seq.specs.Sequencing.{Open, opened}
 use Rattle.pv_world.specs.Worlds.{Worth}
 use Rattle.pv_eval.specs.declared.frames.Frame.{Frame}

@@ -2,11 +2,13 @@
 use Rattle.std.specs.Prelude.{◌≡◌, ◌+◌, ◌<◌, Bool, true, false, List, [], ◌∷◌, length, map, reverse, Result, Ok, Err, Some, None}
 use Rattle.std.specs.declared.option.Option.{Option}
 use Rattle.pv_tree.specs.declared.nodes.NodeId.{NodeId}
-use Rattle.pv_typed.specs.Tables.{Stored, expression_at, IsExpression}
+use Rattle.pv_typed.specs.Tables.{Stored}
+use Rattle.pv_typed.specs.NodeTrees.{expression_at, IsExpression}
 use Rattle.pv_typed.specs.declared.nodes.Typed.{Typed}
 use Rattle.pv_typed.specs.declared.nodes.Typed.TheVariants as typed
 use Rattle.pv_world.specs.declared.got.Got.{Got}
-use Rattle.pv_seq.specs.Sequencing.{Open, opened, settled, top, below}
+use Rattle.pv_seq.specs.Sequencing.{Open, opened, settled}
+use Rattle.pv_seq.specs.Rivals.{top, below}
 use Rattle.pv_eval.specs.States.{Setting, State, Stopped, Res, Stops, then_do}
 use Rattle.pv_eval.specs.Sequenced.{Given, done, operand, later}
 use Rattle.pv_eval.specs.Steps.{Calling}

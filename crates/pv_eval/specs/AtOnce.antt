@@ -2,7 +2,8 @@
 -- the turns that were taken (5.1.2.3p1).
 use Rattle.std.specs.Prelude.{◌≡◌, ◌<◌, ◌≤◌, []}
 use Rattle.pv_tree.specs.declared.nodes.NodeId.{NodeId}
-use Rattle.pv_typed.specs.Tables.{Stored, expression_at}
+use Rattle.pv_typed.specs.Tables.{Stored}
+use Rattle.pv_typed.specs.NodeTrees.{expression_at}
 use Rattle.pv_world.specs.Worlds.{Worth}
 use Rattle.pv_eval.specs.States.{Stops, Turns}
 use Rattle.pv_eval.specs.Steps.{Calling}

@@ -1,5 +1,5 @@
 -- Constants that initializers store (C17 6.6p7), and which side a pair keeps.
-use Rattle.std.specs.Prelude.{ℕ, ◌+◌, ◌%◌, ◌^◌, Bool, true, not, unwrap_or, slice_index_or}
+use Rattle.std.specs.Prelude.{ℕ, ◌+◌, ◌%◌, ◌^◌, Bool, not, unwrap_or}
 use Rattle.std.specs.FinMap as map
 use Rattle.pv_prov.specs.declared.pairs.Twin.{Twin}
 use Rattle.pv_prov.specs.declared.names.Prov.TheVariants.{Inst}
@@ -24,7 +24,3 @@ constant_worth w (const.Function f) = place_by w (function_of w f) 0
 -- the memory model: a pair that keeps its high candidate alone
 abbrev pub is_high_pair : Twin → Bool
 is_high_pair t = not t.keeps_low
-
--- the memory model: whether a pair of candidates keeps its high one alone
-abbrev pub high_side : World → (pair : ℕ) → Bool
-high_side w k = is_high_pair (slice_index_or w.memory.table.pairs k (record { low = 0; high = 0; keeps_low = true; keeps_high = true }))

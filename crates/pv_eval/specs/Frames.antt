@@ -1,9 +1,10 @@
--- What a node does with the values of its operands: one clause for each operand of each kind, whose body is a part of the
+-- A bridge: what a node does with the values of its operands: one clause for each operand of each kind, whose body is a part of the
 -- clause of evaluation.
 use Rattle.std.specs.Prelude.{ℕ, zero, suc, ◌+◌, pos, Bool, true, false, List, [], ◌∷◌, ◌++◌, None, map, length, if◌then◌else◌}
 use Rattle.pv_types.specs.Ty.{Ty, VoidTy}
 use Rattle.pv_typed.specs.TypedTree.{TypedTree, Node, Form, Constant, Subscript, Call, CallPointer, LibraryCall, Member, MemberOfValue, Arrow, Increment, Indirection, Unary, Not, Cast, Arithmetic, PointerSum, PointerDifference, PointerOrder, PointerEquality, LogicalAnd, LogicalOr, Conditional, Assign, CompoundAssign, PointerAssign, Comma, Read, Arguments, NoArguments, MoreArguments, type_of, line_of, form_of}
-use Rattle.pv_typed.specs.Tables.{Stored, expression_at}
+use Rattle.pv_typed.specs.Tables.{Stored}
+use Rattle.pv_typed.specs.NodeTrees.{expression_at}
 use Rattle.pv_seq.specs.Sequencing.{Open, settled}
 use Rattle.pv_world.specs.Worlds.{Worth, Nothing}
 use Rattle.pv_eval.specs.States.{Setting, State, Res, then_do}

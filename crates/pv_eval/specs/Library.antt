@@ -15,7 +15,7 @@ use Rattle.pv_watch.specs.declared.event.What.{What}
 use Rattle.pv_watch.specs.declared.event.What.TheVariants as what
 use Rattle.pv_world.specs.declared.failing.Blame.{Blame}
 use Rattle.pv_world.specs.Worlds.{World, Nothing, Scalar, Halts, Exits, Aborts, Refused}
-use Rattle.pv_world.specs.Telling.{Told, quiet, used, made}
+use Rattle.pv_world.specs.Telling.{Told, used, made}
 use Rattle.pv_world.specs.Doing.{Done, Answers, Fails, Breaks}
 use Rattle.pv_world.specs.Worths.{wrong_of}
 
@@ -53,11 +53,6 @@ replied (reply.Value v) w t = Answers (Scalar v) w t
 replied (reply.Exit n) w t = Fails (Halts (Exits n)) None w t
 replied reply.Abort w t = Fails (Halts Aborts) None w t
 replied (reply.Placement e) w t = Fails (Halts (Refused 1 e)) None w t
-
--- 7.1.4: what a call comes to in this world, beside what happened within it
-abbrev pub come_to : Option Blame → Result Reply Stop → World → Done
-come_to b (Ok r) w = replied r w quiet
-come_to b (Err y) w = Breaks (wrong_of y) b w quiet
 
 -- 7.1.4: the same, with the memory that it leaves and what it tells; one that stops prints nothing
 abbrev pub asked : World → (text : List ℕ) → Result Reply Stop → Now → Done

@@ -1,9 +1,11 @@
 -- What a call of the machine of expressions comes to (C17 6.5): a bridge from the expressions that the code has started to evaluation.
 use Rattle.std.specs.Prelude.{◌≡◌, ℕ, ◌<◌, true, List, [], ◌∷◌, length, All, Result, Ok, Err}
 use Rattle.pv_tree.specs.declared.nodes.NodeId.{NodeId}
-use Rattle.pv_typed.specs.Children.{Each}
-use Rattle.pv_typed.specs.Tables.{Stored, IsExpression}
-use Rattle.pv_seq.specs.Sequencing.{opened, settled, top, below}
+use Rattle.pv_typed.specs.Known.{Each}
+use Rattle.pv_typed.specs.Tables.{Stored}
+use Rattle.pv_typed.specs.NodeTrees.{IsExpression}
+use Rattle.pv_seq.specs.Sequencing.{opened, settled}
+use Rattle.pv_seq.specs.Rivals.{top, below}
 use Rattle.pv_world.specs.Worlds.{Worth}
 use Rattle.pv_world.specs.Coming.{wrong_for}
 use Rattle.pv_eval.specs.States.{Setting, State, Stopped, Res, Gives, Stops, then_do}

@@ -4,7 +4,8 @@ use Rattle.std.specs.declared.option.Option.{Option}
 use Rattle.pv_script.specs.Lines.{ScriptLine}
 use Rattle.pv_tree.specs.declared.nodes.NodeId.{NodeId}
 use Rattle.pv_typed.specs.Tables.{Stored}
-use Rattle.pv_seq.specs.Sequencing.{Open, settled, top, below}
+use Rattle.pv_seq.specs.Sequencing.{Open, settled}
+use Rattle.pv_seq.specs.Rivals.{top, below}
 use Rattle.pv_world.specs.Worlds.{Worth, Nothing}
 use Rattle.pv_world.specs.Coming.{worth_of}
 use Rattle.pv_eval.specs.States.{Setting, State, Unreached, Res, Stops, then_do}

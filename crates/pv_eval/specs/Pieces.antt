@@ -1,4 +1,4 @@
--- Parts of the clause of evaluation (C17 6.5), one for each function of the code that makes a part: nodes are told by their numbers.
+-- A bridge: parts of the clause of evaluation (C17 6.5), one for each function of the code that makes a part: nodes are told by their numbers.
 use Rattle.std.specs.Prelude.{◌≡◌, ◌<◌, ◌-◌, ℕ, List, [], ◌∷◌, None, Bool, true, map, length, Result, if◌then◌else◌}
 use Rattle.pv_num.specs.declared.kinds.IntKind.{IntKind}
 use Rattle.pv_num.specs.declared.operators.BinOp.{BinOp}
@@ -9,11 +9,13 @@ use Rattle.pv_tree.specs.declared.nodes.ListId.{ListId}
 use Rattle.pv_types.specs.Ty.{Ty}
 use Rattle.pv_typed.specs.TypedTree.{CallPointer, TypedTree, Arguments, type_of, line_of}
 use Rattle.pv_typed.specs.Nodes.{form_in, arguments_in}
-use Rattle.pv_typed.specs.Tables.{Stored, nodes, expression_at, list_at}
+use Rattle.pv_typed.specs.Tables.{Stored, nodes}
+use Rattle.pv_typed.specs.NodeTrees.{expression_at, list_at}
 use Rattle.pv_typed.specs.declared.nodes.IncrementOperator.{IncrementOperator}
 use Rattle.pv_typed.specs.declared.nodes.Sign.{Sign}
 use Rattle.pv_typed.specs.declared.nodes.Typed.{Typed}
-use Rattle.pv_seq.specs.Sequencing.{Access, Open, opened, top}
+use Rattle.pv_seq.specs.Sequencing.{Access, Open, opened}
+use Rattle.pv_seq.specs.Rivals.{top}
 use Rattle.pv_world.specs.Worlds.{Worth}
 use Rattle.pv_world.specs.Coming.{worth_of}
 use Rattle.pv_world.specs.declared.got.Got.{Got}

@@ -1,4 +1,4 @@
--- What plain expressions (6.5) give from a world, where nothing stops them: no event is told, no byte is printed, the world stays as it is,
+-- A bridge: what plain expressions (6.5) give from a world, where nothing stops them: no event is told, no byte is printed, the world stays as it is,
 -- and all their accesses are reads. A bridge from the code that finds such values to evaluation, whose definition it names.
 use Rattle.std.specs.Prelude.{◌≡◌, ℕ, ℤ, ◌+◌, ◌<◌, ◌≤◌, Bool, true, false, List, [], ◌∷◌, Option, Some, None, Ok}
 use Rattle.pv_tree.specs.declared.nodes.NodeId.{NodeId}
@@ -8,7 +8,8 @@ use Rattle.pv_typed.specs.declared.nodes.Typed.{Typed}
 use Rattle.pv_typed.specs.declared.nodes.IncrementOperator.{IncrementOperator}
 use Rattle.pv_typed.specs.TypedTree.{TypedTree, Node, Form, Assign, CompoundAssign, PointerAssign, Increment}
 use Rattle.pv_typed.specs.Nodes.{form_in}
-use Rattle.pv_typed.specs.Tables.{Stored, whole, nodes, expression_at}
+use Rattle.pv_typed.specs.Tables.{Stored, whole, nodes}
+use Rattle.pv_typed.specs.NodeTrees.{expression_at}
 use Rattle.pv_typed.specs.Plain.{counted, both, turns_of, turns_of_form}
 use Rattle.pv_seq.specs.Sequencing.{Access, Open, opened}
 use Rattle.pv_inst.specs.declared.values.Test.TheVariants.{Range}

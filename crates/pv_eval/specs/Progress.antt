@@ -1,7 +1,8 @@
 -- How the code goes on with an expression (C17 6.5), frame by frame: bridges from its stacks to what is ahead.
 use Rattle.std.specs.Prelude.{◌≡◌, ◌<◌, ℕ, true, List, ◌∷◌, Result}
 use Rattle.pv_typed.specs.Tables.{Stored}
-use Rattle.pv_seq.specs.Sequencing.{Open, top, below}
+use Rattle.pv_seq.specs.Sequencing.{Open}
+use Rattle.pv_seq.specs.Rivals.{top, below}
 use Rattle.pv_eval.specs.States.{Setting, State, Res, then_do}
 use Rattle.pv_eval.specs.Sequenced.{Given}
 use Rattle.pv_eval.specs.Steps.{Calling}

@@ -1,9 +1,8 @@
--- What is asked of a unit that is run.
-use Rattle.std.specs.Prelude.{◌≡◌, ◌<◌, length}
-use Rattle.std.specs.Prelude.{codes}
+-- A bridge: what is asked of a unit that is run.
+use Rattle.std.specs.Prelude.{◌≡◌, ◌<◌, length, codes}
 use Rattle.pv_script.specs.Names.{name_at as text_of}
 use Rattle.pv_typed.specs.Tables.{Stored}
-use Rattle.pv_typed.specs.Formed.{AreKnown}
+use Rattle.pv_typed.specs.Known.{AreKnown}
 
 -- its entries have types and names that are there. The instances of literals (6.4.5p6) are named `@lit`, those of allocations
 -- (7.22.3) `@heap`

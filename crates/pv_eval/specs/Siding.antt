@@ -1,5 +1,5 @@
 -- Which side a pair keeps that an operation made, in a settled run: bridges to the code.
-use Rattle.std.specs.Prelude.{◌≡◌, ℕ, Bool, true, false, nat_lt, List, Option, Some, None, slice_get, Result, Ok, Err}
+use Rattle.std.specs.Prelude.{◌≡◌, ℕ, Bool, true, false, nat_lt, List, Option, Some, None, slice_get, Result, Ok, Err, slice_index_or}
 use Rattle.pv_world.specs.Worlds.{Worth, World}
 use Rattle.pv_world.specs.Telling.{Told}
 use Rattle.pv_world.specs.Coming.{wrong_for}
@@ -9,6 +9,7 @@ use Rattle.pv_eval.specs.declared.siding.Side.{Side}
 use Rattle.pv_eval.specs.declared.siding.Side.TheVariants.{Free, Ended, Keeps}
 use Rattle.pv_eval.specs.States.{State, Stopped, Res, Gives, Stops}
 use Rattle.pv_eval.specs.Acting.{noted, by_side}
+use Rattle.pv_eval.specs.Constants.{is_high_pair}
 
 -- the memory model: any side, where the run isn't settled, or no pair was made; none, where the list has ended; else that of the list
 abbrev pub side_by : (made : Bool) → Option Bool → Side
@@ -32,3 +33,7 @@ abbrev pub Settled : Worth → Res Worth → Result (Unit {0}) Failure → State
 Settled v r (Ok u) s = r ≡ Gives v s
 Settled v r (Err (failure.Stop y line)) s = r ≡ Stops (Stopped (wrong_for y) line) s
 Settled v r (Err failure.NoMemory) s = Unit {0}
+
+-- the memory model: whether a pair of candidates keeps its high one alone
+abbrev pub high_side : World → (pair : ℕ) → Bool
+high_side w k = is_high_pair (slice_index_or w.memory.table.pairs k (record { low = 0; high = 0; keeps_low = true; keeps_high = true }))

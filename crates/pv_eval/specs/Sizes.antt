@@ -1,9 +1,9 @@
--- The same questions to the tables of a unit alone.
+-- A bridge: the same questions to the tables of a unit alone.
 use Rattle.std.specs.Prelude.{◌≡◌, ℕ, Bool, ◌<◌, ◌≤◌, ◌^◌, IsTrue, length, None, true}
 use Rattle.pv_types.specs.Ty.{Ty}
 use Rattle.pv_types.specs.Known.{Known, tree, env}
 use Rattle.pv_types.specs.Layouts.{layout_in, is_complete_in}
-use Rattle.pv_layout.specs.Places.{bare}
+use Rattle.pv_layout.specs.Parts.{bare}
 use Rattle.pv_typed.specs.Tables.{Stored, whole}
 use Rattle.pv_world.specs.declared.got.How.{How}
 use Rattle.pv_eval.specs.declared.types.Complete.{Complete}

@@ -1,4 +1,4 @@
--- The meaning of a stack, whatever its frames are: the specified rest of the run. The innermost frame comes first.
+-- A bridge: the meaning of a stack, whatever its frames are: the specified rest of the run. The innermost frame comes first.
 use Rattle.std.specs.Prelude.{List, [], ◌∷◌}
 use Rattle.pv_eval.specs.States.{State, Res, Gives, then_do}
 

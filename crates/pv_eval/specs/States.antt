@@ -1,9 +1,12 @@
 -- What a run has at a moment, what it is given, and how a piece of it ends.
-use Rattle.std.specs.Prelude.{ℕ, ◌+◌, Bool, List, Option, nat_lt, if◌then◌else◌}
+use Rattle.std.specs.Prelude.{ℕ, ◌+◌, Bool, List, Option, nat_lt, if◌then◌else◌, []}
+use Rattle.std.specs.FinMap.{empty}
 use Rattle.pv_types.specs.Known.{Known}
+use Rattle.pv_script.specs.Lines.{ScriptLine}
 use Rattle.pv_typed.specs.TypedUnits.{WholeUnit}
-use Rattle.pv_eval.specs.declared.marked.Marked.{Marked}
+use Rattle.pv_object.specs.Memory.{empty_memory}
 use Rattle.pv_world.specs.Worlds.{World, Wrong}
+use Rattle.pv_eval.specs.declared.marked.Marked.{Marked}
 
 -- what is given and never changes: the unit (5.1.1.1), the numbers of its types, by which bytes are marked (6.5p6), how many
 -- turns it may take, and in a settled run the side of each pair (the memory model), true for the high one
@@ -51,3 +54,7 @@ tick b s go = if nat_lt s.taken b.bound then go (spend s) else Stops Turns s
 abbrev pub end_of : {A : Type 0} → Res A → State
 end_of (Gives a s) = s
 end_of (Stops w s) = s
+
+-- 5.1.2: before a run nothing is made, printed or told
+abbrev pub first_world : List ScriptLine → (zap : Bool) → World
+first_world script zap = record { memory = empty_memory script zap; owners = []; statics = empty; literals = empty; functions = empty; bodies = [] }

@@ -1,4 +1,4 @@
--- Stores in objects without a unit (C17 6.7.9, 6.9.1p10): the object, its bytes and their size are told.
+-- A bridge: stores in objects without a unit (C17 6.7.9, 6.9.1p10): the object, its bytes and their size are told.
 use Rattle.std.specs.Prelude.{ℕ, Bool, ◌&&◌, List, Option, length}
 use Rattle.pv_shadow.specs.declared.byte.Byte.{Byte}
 use Rattle.pv_world.specs.declared.got.Shape.{Shape}

@@ -1,4 +1,4 @@
--- What operations print (C17 7.21.6.3), and what they do beside that.
+-- A bridge: what operations print (C17 7.21.6.3), and what they do beside that.
 use Rattle.std.specs.Prelude.{◌≡◌, ℕ, List, ◌++◌, length, Result, Err}
 use Rattle.pv_watch.specs.declared.event.What.{What}
 use Rattle.pv_world.specs.declared.got.Got.{Got}

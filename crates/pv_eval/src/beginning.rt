@@ -1,10 +1,12 @@
 // The first operation of a node.
 ghost use Rattle.std.specs.Prelude.{◌≡◌, ℕ, ◌+◌, ◌<◌, ◌^◌, None, true};
-ghost use Rattle.pv_typed.specs.TypedTree.{form_of, line_of, takes_turn};
+ghost use Rattle.pv_typed.specs.TypedTree.{form_of, line_of};
+ghost use Rattle.pv_typed.specs.Trees.{takes_turn};
 ghost use Rattle.pv_typed.specs.Nodes.{form_in};
 ghost use Rattle.pv_typed.specs.Formed.{NamesIn};
 ghost use Rattle.pv_typed.specs.Children.{HasOperands};
-ghost use Rattle.pv_typed.specs.Tables.{nodes, expression_at, IsExpression};
+ghost use Rattle.pv_typed.specs.Tables.{nodes};
+ghost use Rattle.pv_typed.specs.NodeTrees.{expression_at, IsExpression};
 ghost use Rattle.pv_eval.specs.Steps.{takes};
 ghost use Rattle.pv_eval.specs.Runnable.{IsRunnable};
 ghost use Rattle.pv_eval.specs.Moments.{Stays, Follows};

@@ -2,7 +2,8 @@
 ghost use Rattle.std.specs.Prelude.{◌≡◌, ◌+◌, ◌<◌, ◌%◌, ◌^◌, length};
 ghost use Rattle.pv_world.specs.Worths.{pointer};
 ghost use Rattle.pv_world.specs.Coming.{worth_of};
-ghost use Rattle.pv_eval.specs.Constants.{constant_worth, high_side};
+ghost use Rattle.pv_eval.specs.Constants.{constant_worth};
+ghost use Rattle.pv_eval.specs.Siding.{high_side};
 
 use crate::moment::Moment;
 use crate::values::integer;

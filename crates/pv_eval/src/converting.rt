@@ -1,5 +1,5 @@
 // Implicit conversions of operands (C17 6.3), made by the node above.
-ghost use Rattle.pv_typed.specs.Tables.{expression_at, IsExpression};
+ghost use Rattle.pv_typed.specs.NodeTrees.{expression_at, IsExpression};
 ghost use Rattle.pv_eval.specs.States.{then_do};
 ghost use Rattle.pv_eval.specs.Steps.{handed, converted};
 ghost use Rattle.pv_eval.specs.Operations.{Accepts, act};

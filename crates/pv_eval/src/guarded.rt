@@ -1,7 +1,7 @@
 // Operations on values that may be other than what typing promises: then they end the run as on a value that is missing.
 ghost use Rattle.std.specs.Prelude.{◌≡◌, ◌≤◌, ◌++◌, ◌^◌, None};
 ghost use Rattle.pv_world.specs.Hows.{IsHow};
-ghost use Rattle.pv_world.specs.Accesses.{HasSizeOf};
+ghost use Rattle.pv_world.specs.Preconditions.{HasSizeOf};
 ghost use Rattle.pv_world.specs.Worlds.{World as Seen};
 ghost use Rattle.pv_world.specs.Worths.{int, truth_int, missing_value};
 ghost use Rattle.pv_world.specs.Telling.{fault_of, verdict_of};

@@ -1,9 +1,10 @@
 // What a node does with the value of an operand after a sequence point.
 ghost use Rattle.std.specs.Prelude.{List};
 ghost use Rattle.pv_typed.specs.Children.{HasOperands};
-ghost use Rattle.pv_typed.specs.Tables.{IsExpression};
+ghost use Rattle.pv_typed.specs.NodeTrees.{IsExpression};
 ghost use Rattle.pv_eval.specs.Sequenced.{work};
-ghost use Rattle.pv_seq.specs.Sequencing.{Open, top};
+ghost use Rattle.pv_seq.specs.Sequencing.{Open};
+ghost use Rattle.pv_seq.specs.Rivals.{top};
 ghost use Rattle.pv_eval.specs.Steps.{Calling};
 ghost use Rattle.pv_eval.specs.Operations.{Tests};
 ghost use Rattle.pv_world.specs.Coming.{worth_of};

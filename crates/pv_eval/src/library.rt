@@ -3,8 +3,9 @@ ghost use Rattle.std.specs.Prelude.{◌≡◌, ◌<◌, ◌≤◌, length, true,
 ghost use Rattle.pv_typed.specs.TypedTree.{form_of, line_of, LibraryCall};
 ghost use Rattle.pv_typed.specs.Nodes.{form_in, arguments_in};
 ghost use Rattle.pv_typed.specs.Children.{HasOperands, HasKinds};
-ghost use Rattle.pv_typed.specs.Tables.{nodes, expression_at, list_at, IsExpression};
-ghost use Rattle.pv_seq.specs.Sequencing.{below};
+ghost use Rattle.pv_typed.specs.Tables.{nodes};
+ghost use Rattle.pv_typed.specs.NodeTrees.{expression_at, list_at, IsExpression};
+ghost use Rattle.pv_seq.specs.Rivals.{below};
 ghost use Rattle.pv_world.specs.Coming.{worth_of};
 ghost use Rattle.pv_eval.specs.Runnable.{IsRunnable};
 ghost use Rattle.pv_eval.specs.Moments.{Stays};

@@ -1,7 +1,8 @@
 // Which operands a node has, and whether it takes a turn.
 ghost use Rattle.std.specs.Prelude.{◌≡◌, ◌<◌, List, true, IfSome, IfNone};
-ghost use Rattle.pv_typed.specs.TypedTree.{form_of, takes_turn};
-ghost use Rattle.pv_typed.specs.Tables.{expression_at, IsExpression};
+ghost use Rattle.pv_typed.specs.TypedTree.{form_of};
+ghost use Rattle.pv_typed.specs.Trees.{takes_turn};
+ghost use Rattle.pv_typed.specs.NodeTrees.{expression_at, IsExpression};
 ghost use Rattle.pv_eval.specs.States.{Setting, State};
 ghost use Rattle.pv_seq.specs.Sequencing.{Access};
 ghost use Rattle.pv_eval.specs.Steps.{Calling, takes};

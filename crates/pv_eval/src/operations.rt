@@ -2,7 +2,8 @@
 ghost use Rattle.std.specs.Prelude.{◌≡◌, ◌<◌, length, IfOk};
 ghost use Rattle.pv_types.specs.Known.{tree};
 ghost use Rattle.pv_typed.specs.TypedTree.{type_of};
-ghost use Rattle.pv_typed.specs.Tables.{Stored, expression_at, IsExpression};
+ghost use Rattle.pv_typed.specs.Tables.{Stored};
+ghost use Rattle.pv_typed.specs.NodeTrees.{expression_at, IsExpression};
 ghost use Rattle.pv_world.specs.Coming.{worth_of};
 ghost use Rattle.pv_world.specs.declared.got.How.TheVariants.{Rounds};
 ghost use Rattle.pv_eval.specs.TypeForms.{kind_of, is_pointer, is_none, element_size, lvalue, pointed_to};

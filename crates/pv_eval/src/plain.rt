@@ -1,9 +1,10 @@
 // Plain expressions (C17 6.5) without a machine: what one gives from a world, where nothing stops it.
 ghost use Rattle.std.specs.Prelude.{IfSome};
 ghost use Rattle.pv_typed.specs.TypedTree.{type_of};
-ghost use Rattle.pv_typed.specs.Formed.{AreKnown, NamesIn};
+ghost use Rattle.pv_typed.specs.Formed.{NamesIn};
+ghost use Rattle.pv_typed.specs.Known.{AreKnown};
 ghost use Rattle.pv_typed.specs.Children.{HasOperands};
-ghost use Rattle.pv_typed.specs.Tables.{expression_at, IsExpression};
+ghost use Rattle.pv_typed.specs.NodeTrees.{expression_at, IsExpression};
 ghost use Rattle.pv_eval.specs.Plainly.{Yields, GivesAlone, GivesWith, GivesWithBoth, found_worth};
 
 use crate::operands::{first_operand, second_operand};

@@ -4,7 +4,7 @@ ghost use Rattle.pv_types.specs.Ty.{Ty};
 ghost use Rattle.pv_types.specs.Known.{tree};
 ghost use Rattle.pv_typed.specs.declared.nodes.Typed.{Typed as Row};
 ghost use Rattle.pv_typed.specs.TypedTree.{type_of};
-ghost use Rattle.pv_typed.specs.Tables.{expression_at, IsExpression};
+ghost use Rattle.pv_typed.specs.NodeTrees.{expression_at, IsExpression};
 ghost use Rattle.pv_world.specs.Worlds.{World as Seen};
 ghost use Rattle.pv_world.specs.Worths.{int};
 ghost use Rattle.pv_world.specs.declared.got.How.TheVariants.{Rounds};

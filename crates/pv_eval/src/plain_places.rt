@@ -7,7 +7,7 @@ ghost use Rattle.pv_types.specs.Known.{tree};
 ghost use Rattle.pv_object.specs.Operations.{moved};
 ghost use Rattle.pv_typed.specs.declared.nodes.Typed.{Typed as Row};
 ghost use Rattle.pv_typed.specs.TypedTree.{type_of};
-ghost use Rattle.pv_typed.specs.Tables.{expression_at, IsExpression};
+ghost use Rattle.pv_typed.specs.NodeTrees.{expression_at, IsExpression};
 ghost use Rattle.pv_world.specs.Worths.{pointer};
 ghost use Rattle.pv_world.specs.Objects.{address_of, instance_of};
 ghost use Rattle.pv_world.specs.Pointers.{distance};

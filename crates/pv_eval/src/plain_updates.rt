@@ -1,10 +1,11 @@
 // Plain lvalues that are read and written back (C17 6.5.2.4, 6.5.3.1, 6.5.16.2), as full expressions.
 ghost use Rattle.std.specs.Prelude.{◌≡◌, IfSome, IfNone, if◌then◌else◌};
 ghost use Rattle.pv_typed.specs.declared.nodes.Typed.{Typed as Row};
-ghost use Rattle.pv_typed.specs.Formed.{AreKnown};
+ghost use Rattle.pv_typed.specs.Known.{AreKnown};
 ghost use Rattle.pv_typed.specs.Nodes.{form_in};
 ghost use Rattle.pv_typed.specs.TypedTree.{form_of, type_of};
-ghost use Rattle.pv_typed.specs.Tables.{nodes, expression_at, IsExpression};
+ghost use Rattle.pv_typed.specs.Tables.{nodes};
+ghost use Rattle.pv_typed.specs.NodeTrees.{expression_at, IsExpression};
 ghost use Rattle.pv_eval.specs.TypeForms.{kind_of};
 ghost use Rattle.pv_eval.specs.Steps.{is_after};
 ghost use Rattle.pv_eval.specs.Plainly.{Performs, StepsTo, CombinesTo, found_worth};

@@ -3,7 +3,8 @@ ghost use Rattle.std.specs.Prelude.{◌≡◌, ◌≤◌, length, true, map, [],
 ghost use Rattle.pv_typed.specs.TypedTree.{form_of, CallPointer};
 ghost use Rattle.pv_typed.specs.Nodes.{arguments_in};
 ghost use Rattle.pv_typed.specs.Children.{HasKinds};
-ghost use Rattle.pv_typed.specs.Tables.{nodes, expression_at, list_at, IsExpression};
+ghost use Rattle.pv_typed.specs.Tables.{nodes};
+ghost use Rattle.pv_typed.specs.NodeTrees.{expression_at, list_at, IsExpression};
 ghost use Rattle.pv_world.specs.Coming.{worth_of};
 ghost use Rattle.pv_eval.specs.Runnable.{IsRunnable};
 ghost use Rattle.pv_eval.specs.Moments.{Stays};

@@ -1,9 +1,10 @@
 // Reads and writes as operations of a node (C17 6.3.2.1p2, 6.5.16).
 ghost use Rattle.std.specs.Prelude.{◌≡◌, ◌≤◌, ◌∷◌, length, true, false, IfOk, OnOk};
-ghost use Rattle.pv_typed.specs.Formed.{AreKnown};
+ghost use Rattle.pv_typed.specs.Known.{AreKnown};
 ghost use Rattle.pv_typed.specs.TypedTree.{type_of};
-ghost use Rattle.pv_typed.specs.Tables.{expression_at, IsExpression};
-ghost use Rattle.pv_seq.specs.Sequencing.{top, below, noted, rivals};
+ghost use Rattle.pv_typed.specs.NodeTrees.{expression_at, IsExpression};
+ghost use Rattle.pv_seq.specs.Sequencing.{noted, rivals};
+ghost use Rattle.pv_seq.specs.Rivals.{top, below};
 ghost use Rattle.pv_world.specs.Worths.{pointer_of};
 ghost use Rattle.pv_world.specs.Coming.{Did, worth_of};
 ghost use Rattle.pv_eval.specs.TypeForms.{lvalue};

@@ -1,9 +1,12 @@
 // The stack of nodes that wait, and one step.
 ghost use Rattle.std.specs.Prelude.{◌≡◌, ◌+◌, ◌<◌, ◌≤◌, ◌^◌, [], length, All, true, false, IfOk, IfErr, IsTrue};
-ghost use Rattle.pv_typed.specs.TypedTree.{form_of, takes_turn};
-ghost use Rattle.pv_typed.specs.Tables.{Stored, expression_at, IsExpression};
+ghost use Rattle.pv_typed.specs.TypedTree.{form_of};
+ghost use Rattle.pv_typed.specs.Trees.{takes_turn};
+ghost use Rattle.pv_typed.specs.Tables.{Stored};
+ghost use Rattle.pv_typed.specs.NodeTrees.{expression_at, IsExpression};
 ghost use Rattle.pv_eval.specs.States.{Setting, State};
-ghost use Rattle.pv_seq.specs.Sequencing.{opened, top, below};
+ghost use Rattle.pv_seq.specs.Sequencing.{opened};
+ghost use Rattle.pv_seq.specs.Rivals.{top, below};
 ghost use Rattle.pv_eval.specs.Steps.{Calling, takes};
 ghost use Rattle.pv_world.specs.Coming.{worth_of};
 ghost use Rattle.pv_eval.specs.Runnable.{IsRunnable};

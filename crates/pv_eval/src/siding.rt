@@ -1,6 +1,7 @@
 // In a settled run each pair keeps one of its two from its making on.
 ghost use Rattle.std.specs.Prelude.{◌≡◌, ◌≤◌, true};
-ghost use Rattle.pv_prov.specs.Names.{twin_at, Stands_low, Stands_high};
+ghost use Rattle.pv_prov.specs.Names.{twin_at};
+ghost use Rattle.pv_prov.specs.Made.{Stands_low, Stands_high};
 ghost use Rattle.pv_inst.specs.Table.{IsMadeIn};
 ghost use Rattle.pv_eval.specs.Acting.{keeps_both, sided};
 ghost use Rattle.pv_eval.specs.Moments.{sides_of};

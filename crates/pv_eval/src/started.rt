@@ -1,7 +1,8 @@
 // Expressions that were started.
 ghost use Rattle.std.specs.Prelude.{◌≡◌, ◌+◌, ◌<◌, ◌≤◌, ◌^◌, ◌∷◌, [], List, length, map, true, false, IfOk, OnOk};
 ghost use Rattle.pv_typed.specs.Tables.{Stored};
-ghost use Rattle.pv_seq.specs.Sequencing.{opened, settled, top, below};
+ghost use Rattle.pv_seq.specs.Sequencing.{opened, settled};
+ghost use Rattle.pv_seq.specs.Rivals.{top, below};
 ghost use Rattle.pv_world.specs.Coming.{worth_of};
 ghost use Rattle.pv_eval.specs.Runnable.{IsRunnable};
 ghost use Rattle.pv_eval.specs.Moments.{IsMemory};

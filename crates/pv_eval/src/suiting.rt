@@ -1,14 +1,15 @@
 // Whether values are what typing promises of the operands of operations. A checked unit never comes to anything else.
 ghost use Rattle.std.specs.Prelude.{◌≡◌, ◌&&◌, ◌≤◌, ◌^◌, All, length, true, nat_le};
 ghost use Rattle.pv_num.specs.Kinds.{Fits, fits_of};
-ghost use Rattle.pv_num.specs.Arithmetic.{IsPromoted, IsOperand};
-ghost use Rattle.pv_object.specs.Values.{IsOf, IsMadeValue};
+ghost use Rattle.pv_num.specs.Arithmetic.{IsPromoted};
+ghost use Rattle.pv_num.specs.Operands.{IsOperand};
+ghost use Rattle.pv_object.specs.Values.{IsOf};
+ghost use Rattle.pv_object.specs.Answers.{IsMadeValue};
 ghost use Rattle.pv_object.specs.declared.values.Scalar.TheVariants as scalar;
-ghost use Rattle.pv_inst.specs.Ending.{IsLive};
-ghost use Rattle.pv_world.specs.Worths.{int_of, IsSmall};
-ghost use Rattle.pv_world.specs.Objects.{HasRoom};
+ghost use Rattle.pv_inst.specs.Answers.{IsLive};
+ghost use Rattle.pv_world.specs.Worths.{int_of};
+ghost use Rattle.pv_world.specs.Preconditions.{IsSmall, HasRoom, HasPart, HasSizeOf, IsStored};
 ghost use Rattle.pv_world.specs.Pointers.{is_order};
-ghost use Rattle.pv_world.specs.Accesses.{HasPart, HasSizeOf, IsStored};
 ghost use Rattle.pv_world.specs.Coming.{worth_of, IsMadeWorth};
 ghost use Rattle.pv_eval.specs.Suiting.{knows, knows_value, knows_bytes, knows_worth, knows_arguments, is_small, is_promoted, is_count, is_operand, is_of, is_stored, has_part, is_live, has_room};
 

@@ -2,8 +2,8 @@
 ghost use Rattle.std.specs.Prelude.{◌≡◌, ◌<◌, length, pos, IfOk, if◌then◌else◌};
 ghost use Rattle.pv_world.specs.Worths.{int, truth_int, origin_of};
 ghost use Rattle.pv_typed.specs.TypedTree.{type_of};
-ghost use Rattle.pv_typed.specs.Formed.{AreKnown};
-ghost use Rattle.pv_typed.specs.Tables.{expression_at, IsExpression};
+ghost use Rattle.pv_typed.specs.Known.{AreKnown};
+ghost use Rattle.pv_typed.specs.NodeTrees.{expression_at, IsExpression};
 ghost use Rattle.pv_eval.specs.Steps.{source_of, is_minus, is_unequal};
 ghost use Rattle.pv_types.specs.Known.{tree};
 ghost use Rattle.pv_world.specs.Coming.{worth_of};

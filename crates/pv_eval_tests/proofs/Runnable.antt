@@ -4,7 +4,7 @@ use Rattle.std.specs.List.{slice_get}
 use Rattle.std.proofs.lemmas.Option.{none-some, get_or_from_slice_get}
 use Rattle.pv_typed.specs.Mains.{literal_text, heap_text}
 use Rattle.pv_typed.specs.Tables.{Stored}
-use Rattle.pv_typed.specs.Formed.{AreKnown}
+use Rattle.pv_typed.specs.Known.{AreKnown}
 use Rattle.pv_eval.specs.Runnable.{IsRunnable}
 
 there : (names : List (List ℕ)) (i : ℕ) (text : List ℕ) → slice_get names i ≡ Some text → i < length names

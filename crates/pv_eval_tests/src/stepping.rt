@@ -1,6 +1,6 @@
 // The machine, run on one expression.
 ghost use Rattle.std.specs.Prelude.{◌≡◌, ◌<◌, [], length, IfOk, OnOk};
-ghost use Rattle.pv_typed.specs.Tables.{IsExpression};
+ghost use Rattle.pv_typed.specs.NodeTrees.{IsExpression};
 ghost use Rattle.pv_eval.specs.MachineSteps.{Fit, WentTo};
 ghost use Rattle.pv_eval.specs.Runnable.{IsRunnable};
 

@@ -1,7 +1,8 @@
 // A unit that is made by hand: `int i;`, and in it the expression `i = 42`.
 ghost use Rattle.std.specs.Prelude.{◌<◌, ◌≤◌, length};
-ghost use Rattle.pv_typed.specs.Tables.{IsExpression};
-ghost use Rattle.pv_typed.specs.Formed.{AreKnown, Grown};
+ghost use Rattle.pv_typed.specs.NodeTrees.{IsExpression};
+ghost use Rattle.pv_typed.specs.Formed.{Grown};
+ghost use Rattle.pv_typed.specs.Known.{AreKnown};
 ghost use Rattle.pv_eval.specs.Runnable.{IsRunnable};
 ghost use Rattle.pv_eval_tests.specs.Ready.{IsReady};
 

@@ -3,11 +3,13 @@ use Rattle.std.proofs.Common.{◌≡◌, ℕ, ◌≤◌, List, [], ◌∷◌, re
 use Rattle.std.specs.Prelude.{Bool, true, false, drop, length, nat_lt, if◌then◌else◌}
 use Rattle.std.proofs.lemmas.List.{length-drop}
 use Rattle.std.proofs.lemmas.Bool.{le-ltb}
-use Rattle.pv_typed.specs.TypedTree.{TypedTree, Node, Constant, Object, Function, String, Call, CallPointer, LibraryCall, Member, MemberOfValue, Arrow, Increment, Address, Unary, Not, Sizeof, Cast, Arithmetic, PointerSum, PointerDifference, PointerOrder, PointerEquality, LogicalAnd, LogicalOr, Conditional, Assign, CompoundAssign, PointerAssign, Comma, Subscript, Indirection, Read, ArrayPointer, Convert}
+use Rattle.pv_typed.specs.TypedTree.{TypedTree, Node, Constant, Object, Function, String, Call, CallPointer, LibraryCall, Member, MemberOfValue, Arrow, Increment, Address, Unary, Not, Sizeof, Cast, Arithmetic, PointerSum, PointerDifference, PointerOrder, PointerEquality, LogicalAnd, LogicalOr, Conditional, Assign, CompoundAssign, PointerAssign, Comma, Subscript, Indirection, Read, ArrayPointer, Convert, type_of}
 use Rattle.pv_typed.specs.TypedStatement.{TypedStatement, Block, Declare, Expression, Empty, If, IfElse, Switch, Case, Default, While, DoWhile, For, ForDeclaration, Continue, Break, Return}
 use Rattle.pv_typed.specs.TypedUnits.{WholeUnit, Store, StoredValue, ValueOf, TextOf, object_at}
-use Rattle.pv_typed.specs.Tables.{Stored, whole, expression_at, statement_at}
-use Rattle.pv_seq.specs.Sequencing.{Access, Open, opened, beside, top, below as opens_below}
+use Rattle.pv_typed.specs.Tables.{Stored, whole}
+use Rattle.pv_typed.specs.NodeTrees.{expression_at, statement_at}
+use Rattle.pv_seq.specs.Sequencing.{Access, Open, opened, beside}
+use Rattle.pv_seq.specs.Rivals.{top, below as opens_below}
 use Rattle.pv_world.specs.Worlds.{Worth}
 use Rattle.pv_eval.specs.declared.frames.Now.{Now}
 use Rattle.pv_eval.specs.declared.frames.Now.TheVariants as now
@@ -17,7 +19,6 @@ use Rattle.pv_eval.specs.Steps.{Calling, reading}
 use Rattle.pv_eval.specs.Evaluation.{ev}
 use Rattle.pv_eval.specs.Operations.{Moves, Follows}
 use Rattle.pv_eval.specs.TypeForms.{lvalue, is_pointer, is_none, element_size}
-use Rattle.pv_typed.specs.TypedTree.{type_of}
 use Rattle.pv_eval.specs.Stack.{rest}
 use Rattle.pv_eval.specs.Frames.{after}
 use Rattle.pv_eval.specs.Ahead.{now_does, stack}

@@ -5,11 +5,13 @@ use Rattle.std.specs.declared.option.Option.{Option}
 use Rattle.pv_tree.specs.declared.nodes.NodeId.{NodeId}
 use Rattle.pv_typed.specs.TypedStatement.{TypedStatement}
 use Rattle.pv_eval.specs.declared.marked.Marked.{Marked}
-use Rattle.pv_eval.specs.Moments.{Moment, state_of}
+use Rattle.pv_eval.specs.Moments.{Moment, state_of, Made}
 use Rattle.pv_typed.specs.TypedUnits.{WholeUnit, function_at}
-use Rattle.pv_typed.specs.Tables.{Stored, whole, statement_at}
+use Rattle.pv_typed.specs.Tables.{Stored, whole}
+use Rattle.pv_typed.specs.NodeTrees.{statement_at}
 use Rattle.pv_world.specs.Worlds.{Worth, Nothing}
-use Rattle.pv_seq.specs.Sequencing.{Open, settled, top, below as opens_below}
+use Rattle.pv_seq.specs.Sequencing.{Open, settled}
+use Rattle.pv_seq.specs.Rivals.{top, below as opens_below}
 use Rattle.pv_eval.specs.declared.failure.Failure.{Failure}
 use Rattle.pv_eval.specs.declared.failure.Failure.TheVariants as failure
 use Rattle.pv_eval.specs.declared.frames.Frame.{Frame}
@@ -24,7 +26,6 @@ use Rattle.pv_eval.specs.Frames.{after}
 use Rattle.pv_eval.specs.Ahead.{now_does, stack}
 use Rattle.pv_eval.specs.Machines.{Started, answered_of, left_of, after_first, asked_arguments, asked_line, value_at, is_value}
 use Rattle.pv_eval.specs.MachineSteps.{IsTaken, IsAnswered}
-use Rattle.pv_eval.specs.Moments.{Made}
 use Rattle.pv_exec.specs.declared.task.Doing.{Doing}
 use Rattle.pv_exec.specs.declared.task.Task.TheVariants as task
 use Rattle.pv_exec.specs.declared.task.Doing.TheVariants as doing

@@ -3,7 +3,8 @@ use Rattle.std.proofs.Common.{◌≡◌, ℕ, ◌+◌, ◌<◌, ◌≤◌, List,
 use Rattle.std.specs.Prelude.{true, false, Err, if◌then◌else◌}
 use Rattle.pv_tree.specs.declared.nodes.NodeId.{NodeId}
 use Rattle.pv_typed.specs.TypedTree.{line_of}
-use Rattle.pv_typed.specs.Tables.{Stored, nodes, expression_at, statement_at}
+use Rattle.pv_typed.specs.Tables.{Stored, nodes}
+use Rattle.pv_typed.specs.NodeTrees.{expression_at, statement_at}
 use Rattle.pv_world.specs.Worlds.{Worth}
 use Rattle.pv_world.specs.Worths.{is_true, truth_int}
 use Rattle.pv_eval.specs.declared.failure.Failure.{Failure}

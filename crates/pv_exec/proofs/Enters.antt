@@ -4,12 +4,13 @@ use Rattle.std.specs.Prelude.{Option, Bool, Result, Ok, Err, if◌then◌else◌
 use Rattle.std.proofs.lemmas.Bool.{lt-ltb}
 use Rattle.pv_tree.specs.declared.nodes.NodeId.{NodeId}
 use Rattle.pv_typed.specs.TypedTree.{TypedTree, line_of}
-use Rattle.pv_typed.specs.TypedStatement.{TypedStatement, Block, Declare, Expression, Empty, If, IfElse, Switch, Case, Default, While, DoWhile, For, ForDeclaration, Continue, Break, Return, Statements, declared_of, statement_line}
-use Rattle.pv_typed.specs.Tables.{Stored, nodes, list_at, statement_at}
+use Rattle.pv_typed.specs.TypedStatement.{TypedStatement, Block, Declare, Expression, Empty, If, IfElse, Switch, Case, Default, While, DoWhile, For, ForDeclaration, Continue, Break, Return, Statements}
+use Rattle.pv_typed.specs.Trees.{declared_of, statement_line}
+use Rattle.pv_typed.specs.Tables.{Stored, nodes}
+use Rattle.pv_typed.specs.NodeTrees.{list_at, statement_at}
 use Rattle.pv_typed.specs.Nodes.{statements_in}
 use Rattle.pv_tree.specs.declared.nodes.ListId.{ListId}
-use Rattle.pv_eval.specs.Moments.{Made}
-use Rattle.pv_eval.specs.Moments.{Moment, state_of}
+use Rattle.pv_eval.specs.Moments.{Made, Moment, state_of}
 use Rattle.pv_eval.specs.Operations.{Tests, Accepts, act}
 use Rattle.pv_eval.specs.States.{Setting, State, Res, Gives, Stops, Turns, then_do, spend}
 use Rattle.pv_eval.specs.Steps.{converted}

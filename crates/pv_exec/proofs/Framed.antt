@@ -6,8 +6,10 @@ use Rattle.pv_types.specs.Ty.{Ty}
 use Rattle.pv_script.specs.declared.library.Library.{Library}
 use Rattle.pv_libc.specs.declared.values.Arg.{Arg}
 use Rattle.pv_typed.specs.TypedTree.{TypedTree, Form, Constant, Object, Function, String, Subscript, Call, CallPointer, LibraryCall, Member, MemberOfValue, Arrow, Increment, Address, Indirection, Unary, Not, Sizeof, Cast, Arithmetic, PointerSum, PointerDifference, PointerOrder, PointerEquality, LogicalAnd, LogicalOr, Conditional, Assign, CompoundAssign, PointerAssign, Comma, Read, ArrayPointer, Convert, Arguments, NoArguments, MoreArguments, type_of, line_of, form_of}
-use Rattle.pv_typed.specs.Tables.{Stored, expression_at}
-use Rattle.pv_seq.specs.Sequencing.{Access, Open, settled, top, below}
+use Rattle.pv_typed.specs.Tables.{Stored}
+use Rattle.pv_typed.specs.NodeTrees.{expression_at}
+use Rattle.pv_seq.specs.Sequencing.{Access, Open, settled}
+use Rattle.pv_seq.specs.Rivals.{top, below}
 use Rattle.pv_world.specs.Worlds.{Worth}
 use Rattle.pv_world.specs.Worths.{is_true}
 use Rattle.pv_world.specs.Coming.{worth_of}

@@ -3,9 +3,11 @@ use Rattle.std.proofs.Common.{ℕ, List, [], ◌∷◌}
 use Rattle.std.specs.Prelude.{Bool, drop, None, Some}
 use Rattle.std.specs.declared.option.Option.{Option}
 use Rattle.pv_typed.specs.TypedTree.{TypedTree, line_of}
-use Rattle.pv_typed.specs.TypedStatement.{TypedStatement, Statements, declared_of, statement_line}
+use Rattle.pv_typed.specs.TypedStatement.{TypedStatement, Statements}
+use Rattle.pv_typed.specs.Trees.{declared_of, statement_line}
 use Rattle.pv_typed.specs.TypedUnits.{Store, StoredValue, ValueOf, TextOf, object_at, function_at}
-use Rattle.pv_typed.specs.Tables.{Stored, statement_at}
+use Rattle.pv_typed.specs.Tables.{Stored}
+use Rattle.pv_typed.specs.NodeTrees.{statement_at}
 use Rattle.pv_world.specs.Worlds.{Worth, Nothing}
 use Rattle.pv_world.specs.Worths.{is_true, int_of}
 use Rattle.pv_eval.specs.States.{Setting, State, Res, Stops, Unreached}

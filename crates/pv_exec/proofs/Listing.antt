@@ -6,7 +6,8 @@ use Rattle.pv_tree.specs.declared.nodes.ListId.{ListId}
 use Rattle.pv_typed.specs.TypedStatement.{TypedStatement, Block, Declare, Expression, Empty, If, IfElse, Switch, Case, Default, While, DoWhile, For, ForDeclaration, Continue, Break, Return, Statements, MoreStatements}
 use Rattle.pv_typed.specs.TypedUnits.{object_at}
 use Rattle.pv_typed.specs.Nodes.{statements_in}
-use Rattle.pv_typed.specs.Tables.{Stored, nodes, list_at, statement_at}
+use Rattle.pv_typed.specs.Tables.{Stored, nodes}
+use Rattle.pv_typed.specs.NodeTrees.{list_at, statement_at}
 use Rattle.pv_world.specs.Worlds.{Worth, Nothing}
 use Rattle.pv_eval.specs.States.{Setting, State, Res, Gives, Stops, then_do}
 use Rattle.pv_eval.specs.Machines.{Started}

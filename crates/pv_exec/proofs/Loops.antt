@@ -3,9 +3,10 @@ use Rattle.std.proofs.Common.{◌≡◌, ℕ, ◌+◌, ◌<◌, ◌≤◌, List,
 use Rattle.std.specs.Prelude.{Bool, Result, Err, if◌then◌else◌}
 use Rattle.pv_tree.specs.declared.nodes.NodeId.{NodeId}
 use Rattle.pv_typed.specs.TypedTree.{line_of}
-use Rattle.pv_typed.specs.Tables.{Stored, expression_at, statement_at}
+use Rattle.pv_typed.specs.Tables.{Stored}
+use Rattle.pv_typed.specs.NodeTrees.{expression_at, statement_at}
 use Rattle.pv_eval.specs.Evaluation.{ev}
-use Rattle.pv_eval.specs.Machines.{left_of, due_turns, is_due_at, after_first}
+use Rattle.pv_eval.specs.Machines.{left_of, due_turns, is_due_at, after_first, Started}
 use Rattle.pv_eval.specs.MachineSteps.{IsBegun}
 use Rattle.pv_eval.specs.Moments.{Tested}
 use Rattle.pv_eval.specs.Operations.{Tests, act}
@@ -21,7 +22,6 @@ use Rattle.pv_eval.specs.declared.failure.Failure.TheVariants as failure
 use Rattle.pv_eval.specs.declared.frames.Now.TheVariants as now
 use Rattle.pv_eval.specs.Ahead.{ahead}
 use Rattle.pv_exec.specs.declared.task.Flow.TheVariants as code_flow
-use Rattle.pv_eval.specs.Machines.{Started}
 use Rattle.pv_exec.specs.declared.task.Task.{Task}
 use Rattle.pv_exec.specs.declared.task.Task.TheVariants as task
 use Rattle.pv_exec.specs.declared.task.Doing.{Doing}

@@ -25,7 +25,8 @@ use Rattle.pv_exec.specs.Called.{begun, BodyIs}
 use Rattle.pv_exec.specs.Preparing.{prepare}
 use Rattle.pv_exec.specs.Tasks.{left}
 use Rattle.pv_exec.specs.declared.delivering.Undelivered.TheVariants as undelivered
-use Rattle.pv_exec.specs.Streaming.{Outlet, DeliveryCause, failing}
+use Rattle.pv_exec.specs.Streaming.{DeliveryCause, failing}
+use Rattle.pv_exec.specs.Outlets.{Outlet}
 use Rattle.pv_exec.specs.Stages.{bounded, IsStaged, StandsLast, StandsOr}
 use Rattle.pv_exec.specs.Running.{LastOr, StatementsLed, StatementsCut, EndLed, PieceLed, PieceCut, ends_call, ended_by, failed, main_called, whole_run, IsCalm}
 use Rattle.pv_exec.proofs.Pieces.{setting-stays, before-stays}

@@ -2,7 +2,8 @@
 use Rattle.std.proofs.Common.{◌≡◌, ℕ, ◌+◌, ◌<◌, List, refl, ap, arith}
 use Rattle.pv_tree.specs.declared.nodes.NodeId.{NodeId}
 use Rattle.pv_tree.specs.declared.nodes.ListId.{ListId}
-use Rattle.pv_typed.specs.Tables.{Stored, statement_at}
+use Rattle.pv_typed.specs.Tables.{Stored}
+use Rattle.pv_typed.specs.NodeTrees.{statement_at}
 use Rattle.pv_eval.specs.States.{Setting, State}
 use Rattle.pv_eval.specs.Machines.{Started}
 use Rattle.pv_exec.specs.declared.task.Task.TheVariants as task

@@ -1,6 +1,6 @@
 -- What the outside of a run has seen of it.
 use Rattle.std.proofs.Common.{◌≡◌, ℕ, zero, suc, ◌+◌, ◌-◌, ◌^◌, ◌<◌, ◌≤◌, List, [], ◌∷◌, ◌++◌, append_assoc, length-append, None, Some, refl, sym, ap, ◌∙◌, subst, arith}
-use Rattle.std.specs.Prelude.{Bool, map, take, drop, length, get_or}
+use Rattle.std.specs.Prelude.{Bool, map, take, drop, length, get_or, Result, Ok, Err, IfOk, OnOk, OnErr}
 use Rattle.std.specs.List.{AllZip}
 use Rattle.std.specs.declared.option.Option.{Option}
 use Rattle.std.proofs.lemmas.List.{take_more, map-append, take-append-drop, length-take}
@@ -13,16 +13,17 @@ use Rattle.pv_script.specs.Lines.{ScriptLine}
 use Rattle.pv_typed.specs.Tables.{Stored}
 use Rattle.pv_eval.specs.declared.marked.Marked.{Marked}
 use Rattle.pv_eval.specs.States.{State, Turns, Res, Stops, end_of}
-use Rattle.pv_typed.specs.Children.{Each}
+use Rattle.pv_typed.specs.Known.{Each}
 use Rattle.pv_eval.specs.Moments.{Moment, IsSetting, Follows, state_of}
 use Rattle.pv_eval.specs.Machines.{Machine, first_machine}
 use Rattle.pv_exec.specs.declared.outcome.Outcome.{Outcome}
 use Rattle.pv_exec.specs.declared.running.Ended.{Ended}
 use Rattle.pv_exec.specs.declared.running.Ended.TheVariants as ended
-use Rattle.pv_exec.specs.Run.{setting_of, run_of, outcome_of}
+use Rattle.pv_exec.specs.Run.{setting_of, run_of, outcome_of, sides_at}
 use Rattle.pv_exec.specs.declared.delivering.Undelivered.TheVariants as undelivered
 use Rattle.pv_exec.specs.declared.program.RunError.TheVariants as error
-use Rattle.pv_exec.specs.Streaming.{Outlet, IsNear, IsFar, event_of, FirstTold, FirstWritten, BlockPart, Streams, Begins}
+use Rattle.pv_exec.specs.Streaming.{IsFar, FirstTold, FirstWritten, BlockPart, Streams, Begins}
+use Rattle.pv_exec.specs.Outlets.{Outlet, IsNear, event_of}
 use Rattle.pv_exec.specs.Words.{FitsWords}
 use Rattle.pv_exec.specs.Laws.{run_at, IsUpto}
 use Rattle.pv_exec.specs.Stages.{stage_of, IsBehind, IsStaged, StandsLast, StandsOr}
@@ -30,7 +31,6 @@ use Rattle.pv_exec.specs.Running.{EndedIs, PieceLed, PieceCut, failed, whole_run
 use Rattle.pv_exec.specs.Ending.{outcome_by}
 use Rattle.pv_exec.specs.declared.program.Ran.{Ran}
 use Rattle.pv_exec.specs.declared.program.RunError.{RunError}
-use Rattle.std.specs.Prelude.{Result, Ok, Err, IfOk, OnOk, OnErr}
 use Rattle.pv_script.specs.Outside.{Gains, GainsPrefix}
 use Rattle.pv_script.proofs.GainsLemmas.{gains_both, gains_same}
 use Rattle.pv_exec.proofs.Growing.{each-append, each-weaker}
@@ -38,7 +38,6 @@ use Rattle.pv_exec.proofs.Reaching.{within-bound}
 use Rattle.pv_exec.proofs.Stages.{let-out-last}
 use Rattle.pv_exec.proofs.Streaming.{told-all, near-part, rose-both}
 use Rattle.pv_exec.specs.Sided.{side_of}
-use Rattle.pv_exec.specs.Run.{sides_at}
 use Rattle.pv_exec.specs.Answering.{RanAs, RanAt, ToldOr, StreamedOr, RestTold, FaultCause, error_by}
 
 -- one event more is told

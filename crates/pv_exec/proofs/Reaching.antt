@@ -6,7 +6,7 @@ use Rattle.std.proofs.lemmas.Bool.{ltb-true, ltb-false}
 use Rattle.pv_script.specs.Lines.{ScriptLine}
 use Rattle.pv_inst.specs.declared.values.CreateError.{CreateError}
 use Rattle.pv_inst.specs.declared.values.CreateError.TheVariants as refusal
-use Rattle.pv_typed.specs.Children.{Each}
+use Rattle.pv_typed.specs.Known.{Each}
 use Rattle.pv_typed.specs.Tables.{Stored}
 use Rattle.pv_watch.specs.declared.event.What.{What}
 use Rattle.pv_world.specs.Worlds.{Worth, World, Wrong, Undefined, Undecided, Halts, Indeterminate, Exits, Aborts, Refused, SidesEnded}

@@ -2,8 +2,9 @@
 use Rattle.std.proofs.Common.{◌≡◌, ℕ, List, Some, None, sym, ap, ◌∙◌}
 use Rattle.std.specs.Prelude.{Err}
 use Rattle.pv_tree.specs.declared.nodes.NodeId.{NodeId}
-use Rattle.pv_typed.specs.TypedStatement.{statement_line}
-use Rattle.pv_typed.specs.Tables.{Stored, expression_at, statement_at}
+use Rattle.pv_typed.specs.Trees.{statement_line}
+use Rattle.pv_typed.specs.Tables.{Stored}
+use Rattle.pv_typed.specs.NodeTrees.{expression_at, statement_at}
 use Rattle.pv_world.specs.Worlds.{Worth}
 use Rattle.pv_world.specs.Coming.{worth_of}
 use Rattle.pv_world.specs.declared.got.Got.{Got}

@@ -3,8 +3,9 @@ use Rattle.std.proofs.Common.{◌≡◌, ℕ, ◌+◌, ◌<◌, List, Some, None
 use Rattle.std.specs.Prelude.{ℤ, Bool, true, false, Err, if◌then◌else◌, nat_lt}
 use Rattle.pv_tree.specs.declared.nodes.NodeId.{NodeId}
 use Rattle.pv_typed.specs.TypedTree.{line_of}
-use Rattle.pv_typed.specs.TypedStatement.{declared_of}
-use Rattle.pv_typed.specs.Tables.{Stored, expression_at, statement_at}
+use Rattle.pv_typed.specs.Trees.{declared_of}
+use Rattle.pv_typed.specs.Tables.{Stored}
+use Rattle.pv_typed.specs.NodeTrees.{expression_at, statement_at}
 use Rattle.pv_world.specs.Worlds.{Worth}
 use Rattle.pv_world.specs.Worths.{int, int_of}
 use Rattle.pv_eval.specs.declared.failure.Failure.{Failure}

@@ -6,7 +6,7 @@ use Rattle.std.proofs.lemmas.List.{take-append-drop, length-take, map-append}
 use Rattle.std.proofs.lemmas.Bool.{eqb-true}
 use Rattle.pv_script.specs.Outside.{Rose, Gains, GainsPrefix}
 use Rattle.pv_script.proofs.GainsLemmas.{gains_nothing, gains_both}
-use Rattle.pv_typed.specs.Children.{Each}
+use Rattle.pv_typed.specs.Known.{Each}
 use Rattle.pv_typed.specs.Tables.{Stored}
 use Rattle.pv_watch.specs.declared.event.Event.{Event}
 use Rattle.pv_watch.specs.Slots.{Slot, Told}
@@ -23,12 +23,12 @@ use Rattle.pv_exec.specs.declared.turning.Advanced.TheVariants as advance
 use Rattle.pv_exec.specs.declared.task.Task.{Task}
 use Rattle.pv_exec.specs.declared.task.Doing.{Doing}
 use Rattle.pv_exec.specs.Tasks.{Reached}
-use Rattle.pv_exec.specs.Works.{Holds}
+use Rattle.pv_exec.specs.Works.{Holds, due}
 use Rattle.pv_exec.specs.Fits.{Runs}
 use Rattle.pv_exec.specs.Turning.{AdvancedLed, CutBefore}
-use Rattle.pv_exec.specs.Streaming.{Outlet, IsNear, event_of, IsFar, HasWritten, HasTold, Delivered, DeliveredOr, Streams, Begins}
+use Rattle.pv_exec.specs.Streaming.{IsFar, HasWritten, HasTold, Delivered, DeliveredOr, Streams, Begins}
+use Rattle.pv_exec.specs.Outlets.{Outlet, IsNear, event_of}
 use Rattle.pv_exec.specs.Words.{FitsWords}
-use Rattle.pv_exec.specs.Works.{due}
 use Rattle.pv_exec.specs.Stages.{bounded, IsStaged, Stands, StandsOr}
 use Rattle.pv_exec.specs.Running.{KeepsApart, StatementsCut, StatementsLed}
 use Rattle.pv_exec.proofs.Bounds.{holds-out, has-stores}

@@ -1,14 +1,12 @@
--- What `run` answers, of the run that is defined.
-use Rattle.std.specs.Prelude.{◌≡◌, ℕ, Bool, List, ◌++◌, length, None, Some, map, Result, Ok, Err}
+-- A bridge: what `run` answers, of the run that is defined.
+use Rattle.std.specs.Prelude.{◌≡◌, ℕ, Bool, List, None, Some, map, Result, Ok, Err}
 use Rattle.std.specs.declared.option.Option.{Option}
 use Rattle.pv_script.specs.Lines.{ScriptLine}
 use Rattle.pv_script.specs.Outside.{Rose, Gains}
-use Rattle.pv_typed.specs.Children.{Each}
 use Rattle.pv_typed.specs.Tables.{Stored}
 use Rattle.pv_watch.specs.declared.event.Event.{Event}
 use Rattle.pv_watch.specs.declared.hall.Hall.{Hall}
-use Rattle.pv_watch.specs.Halls.{slots_in}
-use Rattle.pv_watch.specs.Slots.{Slot, watcher, Told}
+use Rattle.pv_watch.specs.Slots.{Slot, Told}
 use Rattle.pv_world.specs.Worlds.{Worth}
 use Rattle.pv_eval.specs.declared.marked.Marked.{Marked}
 use Rattle.pv_eval.specs.Moments.{Moment}
@@ -25,8 +23,7 @@ use Rattle.pv_exec.specs.declared.delivering.Undelivered.TheVariants as undelive
 use Rattle.pv_exec.specs.declared.running.Ended.{Ended}
 use Rattle.pv_exec.specs.declared.running.Ended.TheVariants as ended
 use Rattle.pv_exec.specs.Run.{setting_of, run_of, outcome_of, sides_at}
-use Rattle.pv_exec.specs.Streaming.{Outlet, IsNear, event_of}
-use Rattle.pv_exec.specs.Words.{FitsWords}
+use Rattle.pv_exec.specs.Outlets.{Outlet, event_of, hall_slots, ToldPart}
 use Rattle.pv_exec.specs.Stages.{LetOut}
 use Rattle.pv_exec.specs.Sided.{side_of, is_high}
 
@@ -47,27 +44,9 @@ pub record RanAt (o : Outcome) (m : Moment) (ran : Ran) : Type 0 where
   pub turns : ran.turns ≡ m.taken
   pub sides : ran.sides ≡ map side_of (map is_high_pair m.world.memory.table.pairs)
 
--- what the outside has (5.1.2.3p6): a hall as a list of slots, by what the trait of its watchers says
-abbrev pub hall_slots : {X : Type 0} {P : X → Type 0} → Hall X P → ((x : X) × P x → ℕ) → ((x : X) × P x → ℕ) → ((x : X) × P x → List Event) → List Slot
-hall_slots h kind wants seen = slots_in (watcher (λ b. kind (b.vtable, b.value)) (λ b. wants (b.vtable, b.value)) (λ b. seen (b.vtable, b.value))) h
-
 -- what the outside has (5.1.2.3p6), by what the sink tells and by its hall
 abbrev pub outlet : {X : Type 0} {P : X → Type 0} → Option (List ℕ) → Hall X P → ((x : X) × P x → ℕ) → ((x : X) × P x → ℕ) → ((x : X) × P x → List Event) → Outlet
 outlet sink h kind wants seen = record { sink = sink; hall = hall_slots h kind wants seen }
-
--- where a write failed: what was written of the output, as many bytes as the sink gained, and what was told of the events; each of
--- those came when at most 4095 bytes more were printed than were written (7.21.3p3)
-pub record ToldPart (before now : Outlet) (end : State) (names : List (List ℕ)) : Type 0 where
-  pub written : List ℕ
-  pub unwritten : List ℕ
-  pub output : written ++ unwritten ≡ end.output
-  pub gains : Gains before.sink now.sink written
-  pub events : List Marked
-  pub untold : List Marked
-  pub all : events ++ untold ≡ end.events
-  pub told : Told before.hall (map event_of events) names now.hall
-  pub near : Each (IsNear (length written)) events
-  pub words : Each FitsWords events
 
 -- 5.1.2.3p6: those who watch were told of the run, or of a first part of it where a write failed
 abbrev pub ToldOr : Result Ran RunError → Outlet → Outlet → State → List (List ℕ) → Type 0

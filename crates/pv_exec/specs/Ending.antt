@@ -1,4 +1,4 @@
--- How the code answers how a run ended.
+-- A bridge: how the code answers how a run ended.
 use Rattle.std.specs.Prelude.{None, Some}
 use Rattle.std.specs.declared.option.Option.{Option}
 use Rattle.pv_world.specs.Coming.{worth_of, wrong_for}

@@ -1,4 +1,4 @@
--- What a statement does once its turn is taken.
+-- A bridge: what a statement does once its turn is taken.
 use Rattle.std.specs.Prelude.{Bool, true, false, Some, if◌then◌else◌}
 use Rattle.pv_typed.specs.TypedStatement.{TypedStatement, Block, Expression, If, IfElse, Switch, Case, Default, While, DoWhile, For, ForDeclaration, Continue, Break, Return}
 use Rattle.pv_eval.specs.States.{Setting, State, Res, Gives, then_do}

@@ -3,11 +3,12 @@ use Rattle.std.specs.Prelude.{◌≡◌, ℕ, ◌<◌, true, false, List, [], �
 use Rattle.pv_tree.specs.declared.nodes.NodeId.{NodeId}
 use Rattle.pv_tree.specs.declared.nodes.ListId.{ListId}
 use Rattle.pv_typed.specs.Children.{HasKinds}
-use Rattle.pv_typed.specs.TypedStatement.{is_scope_tree}
+use Rattle.pv_typed.specs.Trees.{is_scope_tree}
 use Rattle.pv_typed.specs.TypedUnits.{object_at}
-use Rattle.pv_typed.specs.Tables.{Stored, whole, IsStatement, statement_at}
+use Rattle.pv_typed.specs.Tables.{Stored, whole}
+use Rattle.pv_typed.specs.NodeTrees.{IsStatement, statement_at}
 use Rattle.pv_eval.specs.declared.failure.Failure.{Failure}
-use Rattle.pv_eval.specs.Machines.{Started}
+use Rattle.pv_eval.specs.Machines.{Started, is_going, is_ended}
 use Rattle.pv_exec.specs.declared.once.After.{After}
 use Rattle.pv_exec.specs.declared.once.After.TheVariants as after
 use Rattle.pv_exec.specs.declared.task.Task.{Task}
@@ -16,7 +17,6 @@ use Rattle.pv_exec.specs.declared.task.Doing.{Doing}
 use Rattle.pv_exec.specs.declared.task.Doing.TheVariants as doing
 use Rattle.pv_exec.specs.declared.task.Way.{Way}
 use Rattle.pv_exec.specs.declared.task.Way.TheVariants as way
-use Rattle.pv_eval.specs.Machines.{is_going, is_ended}
 use Rattle.pv_exec.specs.Works.{others, passed}
 
 -- 6.8.2p1: a list of statements of the unit

@@ -1,6 +1,6 @@
 -- What comes later in a run comes to what there is: bytes that were printed and events that came stay as they are (C17 5.1.2.3).
 use Rattle.std.specs.Prelude.{◌≡◌, ℕ, ◌≤◌, List, ◌++◌}
-use Rattle.pv_typed.specs.Children.{Each}
+use Rattle.pv_typed.specs.Known.{Each}
 use Rattle.pv_eval.specs.declared.marked.Marked.{Marked}
 use Rattle.pv_eval.specs.States.{State}
 

@@ -4,7 +4,8 @@ use Rattle.std.specs.declared.option.Option.{Option}
 use Rattle.pv_tree.specs.declared.nodes.ListId.{ListId}
 use Rattle.pv_typed.specs.TypedStatement.{TypedStatement, Declare}
 use Rattle.pv_typed.specs.TypedUnits.{object_at}
-use Rattle.pv_typed.specs.Tables.{Stored, IsStatement, statement_at}
+use Rattle.pv_typed.specs.Tables.{Stored}
+use Rattle.pv_typed.specs.NodeTrees.{IsStatement, statement_at}
 use Rattle.pv_eval.specs.declared.failure.Failure.{Failure}
 use Rattle.pv_eval.specs.States.{Setting, State, Res, Gives, then_do}
 use Rattle.pv_exec.specs.declared.lists.Item.{Item}

@@ -5,7 +5,7 @@ use Rattle.pv_types.specs.Known.{env}
 use Rattle.pv_prov.specs.Twins.{KeepsOne}
 use Rattle.pv_inst.specs.declared.values.Instance.{Instance}
 use Rattle.pv_inst.specs.Table.{Table, instance_at, live_bytes}
-use Rattle.pv_inst.specs.Kept.{Apart, HasMet}
+use Rattle.pv_inst.specs.WellFormed.{Apart, HasMet}
 use Rattle.pv_typed.specs.Tables.{Stored}
 use Rattle.pv_eval.specs.States.{State}
 

@@ -1,8 +1,9 @@
 -- What operations lead to: bridges from the code's ways to the rest of the run (C17 5.1.2.3, 6.8).
 use Rattle.std.specs.Prelude.{◌≡◌, ℕ, ◌+◌, ◌<◌, ◌≤◌, List, map, reverse, All, Result, Ok, Err}
 use Rattle.pv_tree.specs.declared.nodes.NodeId.{NodeId}
-use Rattle.pv_typed.specs.TypedStatement.{declared_of}
-use Rattle.pv_typed.specs.Tables.{Stored, statement_at}
+use Rattle.pv_typed.specs.Trees.{declared_of}
+use Rattle.pv_typed.specs.Tables.{Stored}
+use Rattle.pv_typed.specs.NodeTrees.{statement_at}
 use Rattle.pv_world.specs.Worlds.{Worth}
 use Rattle.pv_world.specs.Coming.{wrong_for}
 use Rattle.pv_eval.specs.declared.failure.Failure.{Failure}

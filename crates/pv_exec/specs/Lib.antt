@@ -2,7 +2,9 @@ pub mod Flows
 pub mod Labels
 pub mod Execution
 pub mod Calls
+pub mod Outlets
 pub mod Parts
+pub mod SettledRuns
 pub mod Tasks
 pub mod Works
 pub mod Leading

@@ -1,4 +1,4 @@
--- How many operations may come before the next turn (C17 5.1.2.3p1): the measure by which the code's loop comes to it.
+-- A bridge: how many operations may come before the next turn (C17 5.1.2.3p1): the measure by which the code's loop comes to it.
 use Rattle.std.specs.Prelude.{◌≡◌, ℕ, ◌+◌, ◌*◌, ◌<◌, Bool, true, false, List, length, Result, Ok, Err, nat_eq, if◌then◌else◌}
 use Rattle.pv_eval.specs.declared.failure.Failure.{Failure}
 use Rattle.pv_eval.specs.Machines.{Started, due_turns}

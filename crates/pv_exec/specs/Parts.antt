@@ -1,4 +1,4 @@
--- Parts of statements: loops (C17 6.8.5) and selections (6.8.4), and what is left of each once an expression of it has a value or its
+-- A bridge: parts of statements: loops (C17 6.8.5) and selections (6.8.4), and what is left of each once an expression of it has a value or its
 -- body was left. Each clause is a part of the clause of execution.
 use Rattle.std.specs.Prelude.{ℕ, ℤ, List, None, Some, if◌then◌else◌}
 use Rattle.std.specs.declared.option.Option.{Option}

@@ -1,4 +1,4 @@
--- Stores of initializers as the code makes them: the value of the first of those that are left is there.
+-- A bridge: stores of initializers as the code makes them: the value of the first of those that are left is there.
 use Rattle.std.specs.Prelude.{ℕ, ◌+◌, ◌<◌, List, [], ◌∷◌, drop, Result}
 use Rattle.pv_typed.specs.TypedUnits.{Store, object_at}
 use Rattle.pv_typed.specs.Tables.{Stored}

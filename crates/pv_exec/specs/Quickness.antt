@@ -1,4 +1,4 @@
--- How soon an operation ends a statement or an expression, or comes to a turn (C17 5.1.2.3p1): for the code's loop over operations.
+-- A bridge: how soon an operation ends a statement or an expression, or comes to a turn (C17 5.1.2.3p1): for the code's loop over operations.
 use Rattle.std.specs.Prelude.{◌≡◌, List, Result, Ok, Err}
 use Rattle.pv_eval.specs.declared.failure.Failure.{Failure}
 use Rattle.pv_eval.specs.Machines.{Started, due_turns}

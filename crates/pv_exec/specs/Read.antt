@@ -3,9 +3,11 @@ use Rattle.std.specs.Prelude.{None, Some, List, Bool, true, false}
 use Rattle.std.specs.declared.option.Option.{Option}
 use Rattle.pv_tree.specs.declared.nodes.NodeId.{NodeId}
 use Rattle.pv_tree.specs.declared.nodes.ListId.{ListId}
-use Rattle.pv_typed.specs.TypedStatement.{TypedStatement, Statements, declared_of}
+use Rattle.pv_typed.specs.TypedStatement.{TypedStatement, Statements}
+use Rattle.pv_typed.specs.Trees.{declared_of}
 use Rattle.pv_typed.specs.Nodes.{Tree, expression_in, statement_in, statements_in, list_in}
-use Rattle.pv_typed.specs.Tables.{Stored, IsExpression, IsStatement}
+use Rattle.pv_typed.specs.Tables.{Stored}
+use Rattle.pv_typed.specs.NodeTrees.{IsExpression, IsStatement}
 use Rattle.pv_exec.specs.declared.parts.DoParts.{DoParts}
 use Rattle.pv_exec.specs.declared.parts.ChoiceParts.{ChoiceParts}
 use Rattle.pv_exec.specs.declared.task.Doing.TheVariants as doing

@@ -12,8 +12,7 @@ use Rattle.pv_typed.specs.Mains.{main_of}
 use Rattle.pv_typed.specs.Tables.{Stored, whole}
 use Rattle.pv_world.specs.Worlds.{Worth, Nothing, Wrong, Undefined, Undecided, Halts, Halt, Indeterminate, Exits, Aborts, Refused, SidesEnded}
 use Rattle.pv_world.specs.Worths.{int_of}
-use Rattle.pv_eval.specs.States.{Setting, State, Turns, Unreached, Stopped, Res, Gives, Stops, then_do}
-use Rattle.pv_eval.specs.Moments.{first_world}
+use Rattle.pv_eval.specs.States.{Setting, State, Turns, Unreached, Stopped, Res, Gives, Stops, then_do, first_world}
 use Rattle.pv_eval.specs.Constants.{is_high_pair}
 use Rattle.pv_exec.specs.declared.outcome.Outcome.{Outcome}
 use Rattle.pv_exec.specs.declared.outcome.Outcome.TheVariants as outcome

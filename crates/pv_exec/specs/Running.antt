@@ -27,7 +27,8 @@ use Rattle.pv_exec.specs.Run.{call_main}
 use Rattle.pv_exec.specs.Tasks.{Reached}
 use Rattle.pv_exec.specs.Works.{flow_of, Holds}
 use Rattle.pv_exec.specs.Turning.{LastIs}
-use Rattle.pv_exec.specs.Streaming.{Outlet, Streams, Begins, failing}
+use Rattle.pv_exec.specs.Streaming.{Streams, Begins, failing}
+use Rattle.pv_exec.specs.Outlets.{Outlet}
 use Rattle.pv_exec.specs.Stages.{bounded, IsStaged, StandsOr}
 
 -- the setting stays (the memory model: the sides of a settled run), and of what was printed (7.21.6.3) these bytes have left

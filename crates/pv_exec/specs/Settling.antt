@@ -1,5 +1,5 @@
 -- When a pair of candidates is settled (the memory model): by the uses of its name, or from its making by a list of sides. Both come to the same.
-use Rattle.std.specs.Prelude.{◌≡◌, ℕ, ◌≤◌, Bool, List, length, map, None, Some, IfSome, IsSomeAnd}
+use Rattle.std.specs.Prelude.{◌≡◌, ℕ, ◌≤◌, Bool, List, length, None, Some, IfSome, IsSomeAnd}
 use Rattle.pv_script.specs.Lines.{ScriptLine}
 use Rattle.pv_typed.specs.Tables.{Stored}
 use Rattle.pv_world.specs.Worlds.{Worth}
@@ -7,9 +7,7 @@ use Rattle.pv_eval.specs.States.{Res, end_of}
 use Rattle.pv_eval.specs.Acting.{pair_count}
 use Rattle.pv_exec.specs.declared.outcome.Outcome.{Outcome}
 use Rattle.pv_exec.specs.declared.outcome.Outcome.TheVariants as outcome
-use Rattle.pv_exec.specs.declared.program.Ran.{Ran}
 use Rattle.pv_exec.specs.Run.{outcome_of, sides_at}
-use Rattle.pv_exec.specs.Sided.{is_high}
 use Rattle.pv_exec.specs.Laws.{run_at}
 use Rattle.pv_exec.specs.Laying.{HasNoEmptyTag}
 
@@ -34,15 +32,6 @@ pub record EndsAlike (r r' : Res Worth) : Type 0 where
 pub record EndsBy (turn : ℕ) (r : Res Worth) : Type 0 where
   pub undefined : IsSomeAnd (outcome_of r) IsUndefined
   pub turns : (end_of r).taken ≤ turn
-
--- 5.1.2.3p6, the memory model: where a run without sides is decided, the run that settles each pair at its making, to the side that this
--- one ended with, ends alike
-abbrev pub SettlesAlike : Stored → (bound : ℕ) → (zap : Bool) → List ScriptLine → Ran → Type 0
-SettlesAlike u n zap script ran = IsDecided ran.outcome → EndsAlike (run_at u None zap script n) (run_at u (Some (map is_high ran.sides)) zap script n)
-
--- 3.4.3, the memory model: where it is undefined, so is the run by every list with a side for each of its pairs, at a turn that is no later
-abbrev pub IsUndefinedByAll : Stored → (bound : ℕ) → (zap : Bool) → List ScriptLine → Ran → Type 0
-IsUndefinedByAll u n zap script ran = IsUndefined ran.outcome → (sides : List Bool) → length ran.sides ≤ length sides → EndsBy ran.turns (run_at u (Some sides) zap script n)
 
 -- 5.1.2.3p6, the memory model: the first of these of every run
 abbrev pub LateIsSettled : Type 0

@@ -1,8 +1,8 @@
--- How far a run was let out when a write failed (C17 5.1.2.3p6, 7.21.3p3): its stages, and what had left it in which of them.
+-- A bridge: how far a run was let out when a write failed (C17 5.1.2.3p6, 7.21.3p3): its stages, and what had left it in which of them.
 use Rattle.std.specs.Prelude.{◌≡◌, ◌⊎◌, ℕ, zero, suc, ◌+◌, ◌*◌, ◌<◌, ◌≤◌, Bool, List, [], length, None, Some}
 use Rattle.std.specs.declared.option.Option.{Option}
 use Rattle.pv_script.specs.Lines.{ScriptLine}
-use Rattle.pv_typed.specs.Children.{Each}
+use Rattle.pv_typed.specs.Known.{Each}
 use Rattle.pv_typed.specs.Tables.{Stored}
 use Rattle.pv_eval.specs.declared.marked.Marked.{Marked}
 use Rattle.pv_eval.specs.States.{Setting, State, end_of}

@@ -1,8 +1,8 @@
--- How output and events leave a run while it goes on (C17 5.1.2.3p6, 7.21.3): bytes go to the sink, events to the hall.
+-- A bridge: how output and events leave a run while it goes on (C17 5.1.2.3p6, 7.21.3): bytes go to the sink, events to the hall.
 use Rattle.std.specs.Prelude.{◌≡◌, ℕ, ◌+◌, ◌*◌, ◌^◌, ◌<◌, ◌≤◌, List, [], ◌∷◌, ◌++◌, length, take, drop, map, None, Some, Result, Ok, Err}
 use Rattle.std.specs.declared.option.Option.{Option}
 use Rattle.pv_script.specs.Outside.{Rose, Gains, GainsPrefix}
-use Rattle.pv_typed.specs.Children.{Each}
+use Rattle.pv_typed.specs.Known.{Each}
 use Rattle.pv_watch.specs.Slots.{Slot, Told}
 use Rattle.pv_watch.specs.declared.event.Event.{Event}
 use Rattle.pv_eval.specs.declared.marked.Marked.{Marked}
@@ -11,24 +11,12 @@ use Rattle.pv_eval.specs.States.{State}
 use Rattle.pv_exec.specs.Words.{FitsWords}
 use Rattle.pv_exec.specs.declared.delivering.Undelivered.{Undelivered}
 use Rattle.pv_exec.specs.declared.delivering.Undelivered.TheVariants as undelivered
-
--- an event without its mark, which says how much was printed (7.21.6.3) when it came
-abbrev pub event_of : Marked → Event
-event_of m = m.event
-
--- 7.21.3p3: output is buffered: the event came when at most 4095 bytes more were printed than these
-abbrev pub IsNear : (written : ℕ) → Marked → Type 0
-IsNear n m = m.mark ≤ n + 4095
+use Rattle.pv_exec.specs.Outlets.{event_of, IsNear, Outlet}
 
 -- 7.21.3p3: the first of these events, if there is one, came when at least 4096 bytes more were printed than these
 abbrev pub IsFar : (written : ℕ) → List Marked → Type 0
 IsFar n [] = Unit {0}
 IsFar n (m ∷ ms) = (n + 4095 < m.mark) × (m.mark < 2 ^ 64)
-
--- what the outside has (5.1.2.3p6): the bytes that the sink tells, and the hall
-pub record Outlet : Type 0 where
-  pub sink : Option (List ℕ)
-  pub hall : List Slot
 
 -- why a part could not be delivered (docs/FORMATS.md, status 12 and 13)
 abbrev pub failing : {A : Type 0} → Result A Undelivered → Option Undelivered

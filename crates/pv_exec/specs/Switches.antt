@@ -4,8 +4,10 @@ use Rattle.std.specs.declared.option.Option.{Option}
 use Rattle.std.specs.Ordering.{int_eq}
 use Rattle.pv_tree.specs.declared.nodes.NodeId.{NodeId}
 use Rattle.pv_tree.specs.declared.nodes.ListId.{ListId}
-use Rattle.pv_typed.specs.TypedStatement.{TypedStatement, Statements, declared_of}
-use Rattle.pv_typed.specs.Tables.{Stored, expression_at, statement_at, IsExpression, IsStatement}
+use Rattle.pv_typed.specs.TypedStatement.{TypedStatement, Statements}
+use Rattle.pv_typed.specs.Trees.{declared_of}
+use Rattle.pv_typed.specs.Tables.{Stored}
+use Rattle.pv_typed.specs.NodeTrees.{expression_at, statement_at, IsExpression, IsStatement}
 use Rattle.pv_eval.specs.States.{Setting, State}
 use Rattle.pv_exec.specs.declared.switches.Label.{Label}
 use Rattle.pv_exec.specs.declared.switches.Label.TheVariants as label

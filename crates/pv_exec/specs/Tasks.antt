@@ -1,12 +1,14 @@
--- What a task does with what it waits for: one clause for each kind, whose body is a part of the clause of execution.
+-- A bridge: what a task does with what it waits for: one clause for each kind, whose body is a part of the clause of execution.
 use Rattle.std.specs.Prelude.{ℕ, Bool, true, false, List, [], ◌∷◌, None, Some, drop, if◌then◌else◌}
 use Rattle.std.specs.declared.option.Option.{Option}
 use Rattle.pv_tree.specs.declared.nodes.ListId.{ListId}
 use Rattle.pv_typed.specs.TypedTree.{TypedTree}
-use Rattle.pv_typed.specs.TypedStatement.{TypedStatement, ForDeclaration, Return, Statements, declared_of, statement_line}
+use Rattle.pv_typed.specs.TypedStatement.{TypedStatement, ForDeclaration, Return, Statements}
+use Rattle.pv_typed.specs.Trees.{declared_of, statement_line}
 use Rattle.pv_typed.specs.TypedUnits.{Store, StoredValue, ValueOf, TextOf, object_at, function_at}
 use Rattle.pv_typed.specs.Nodes.{statements_in}
-use Rattle.pv_typed.specs.Tables.{Stored, nodes, statement_at, list_at}
+use Rattle.pv_typed.specs.Tables.{Stored, nodes}
+use Rattle.pv_typed.specs.NodeTrees.{statement_at, list_at}
 use Rattle.pv_world.specs.Worlds.{Worth, Nothing}
 use Rattle.pv_eval.specs.States.{Setting, State, Res, Gives, then_do}
 use Rattle.pv_eval.specs.TypeForms.{lvalue}

@@ -1,9 +1,10 @@
 -- The meaning of a run in progress: a bridge from the code's tasks to execution (C17 6.8).
 use Rattle.std.specs.Prelude.{◌≡◌, ℕ, ◌+◌, ◌<◌, ◌≤◌, Bool, true, false, List, [], ◌∷◌, map, reverse, All, drop, if◌then◌else◌}
-use Rattle.pv_typed.specs.TypedStatement.{declared_of}
+use Rattle.pv_typed.specs.Trees.{declared_of}
 use Rattle.pv_typed.specs.TypedUnits.{object_at}
-use Rattle.pv_typed.specs.Tables.{Stored, statement_at}
-use Rattle.pv_eval.specs.Machines.{left_of, ended, due_turns, after_first}
+use Rattle.pv_typed.specs.Tables.{Stored}
+use Rattle.pv_typed.specs.NodeTrees.{statement_at}
+use Rattle.pv_eval.specs.Machines.{left_of, ended, due_turns, after_first, Started}
 use Rattle.pv_eval.specs.States.{Setting, State, Res, Gives, then_do, tick}
 use Rattle.pv_exec.specs.Execution.{ex, exs}
 use Rattle.pv_exec.specs.Calls.{below}
@@ -11,7 +12,6 @@ use Rattle.pv_exec.specs.Flows.{scoped, store_all}
 use Rattle.pv_world.specs.Coming.{worth_of}
 use Rattle.pv_eval.specs.Stack.{rest}
 use Rattle.pv_exec.specs.Flows as execution
-use Rattle.pv_eval.specs.Machines.{Started}
 use Rattle.pv_exec.specs.declared.task.Flow.{Flow}
 use Rattle.pv_exec.specs.declared.task.Flow.TheVariants as flow
 use Rattle.pv_exec.specs.declared.task.Task.{Task}

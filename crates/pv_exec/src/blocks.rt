@@ -1,10 +1,9 @@
 // Blocks: their objects, and the statements of lists.
 ghost use Rattle.std.specs.Prelude.{◌≡◌, ◌+◌, ◌<◌};
-ghost use Rattle.pv_typed.specs.TypedStatement.{declared_of};
-ghost use Rattle.pv_typed.specs.Tables.{statement_at};
+ghost use Rattle.pv_typed.specs.Trees.{declared_of};
+ghost use Rattle.pv_typed.specs.NodeTrees.{statement_at};
 ghost use Rattle.pv_typed.specs.Formed.{AreObjects};
-ghost use Rattle.pv_eval.specs.Moments.{Made, IsMemory};
-ghost use Rattle.pv_eval.specs.Moments.{Always, state_of, Stays};
+ghost use Rattle.pv_eval.specs.Moments.{Made, IsMemory, Always, state_of, Stays};
 ghost use Rattle.pv_eval.specs.Runnable.{IsRunnable};
 ghost use Rattle.pv_exec.specs.Flows.{make_all, end_all};
 ghost use Rattle.pv_exec.specs.Fits.{IsScope};

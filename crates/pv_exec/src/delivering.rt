@@ -1,12 +1,14 @@
 // What the outside of a run sees of it: bytes that are printed, and events. Both leave the run while it goes on, so that a run
 // keeps no more of them than what one library call makes.
 ghost use Rattle.std.specs.Prelude.{◌≡◌, ◌+◌, ◌<◌, ◌≤◌, length, drop, IfOk, OnOk, OnErr, map};
-ghost use Rattle.pv_script.specs.Outside.{Gains, GainsPrefix, HasCause};
-ghost use Rattle.pv_typed.specs.Children.{Each};
+ghost use Rattle.pv_script.specs.Outside.{Gains, GainsPrefix};
+ghost use Rattle.pv_script.specs.Transfers.{HasCause};
+ghost use Rattle.pv_typed.specs.Known.{Each};
 ghost use Rattle.pv_watch.specs.Slots.{Told};
 ghost use Rattle.pv_eval.specs.Runnable.{IsRunnable};
-ghost use Rattle.pv_exec.specs.Answering.{hall_slots, outlet};
-ghost use Rattle.pv_exec.specs.Streaming.{event_of, FirstWritten, BlockPart, HasWritten, FirstTold, IsFar, HasTold, DeliveredOr, DeliveryCause, failing, Finished, FinishedTold};
+ghost use Rattle.pv_exec.specs.Answering.{outlet};
+ghost use Rattle.pv_exec.specs.Outlets.{hall_slots, event_of};
+ghost use Rattle.pv_exec.specs.Streaming.{FirstWritten, BlockPart, HasWritten, FirstTold, IsFar, HasTold, DeliveredOr, DeliveryCause, failing, Finished, FinishedTold};
 ghost use Rattle.pv_exec.specs.Words.{FitsWords};
 
 use crate::words::fits_words;

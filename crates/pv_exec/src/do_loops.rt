@@ -1,6 +1,6 @@
 // Loops whose condition comes last (C17 6.8.5.2).
 ghost use Rattle.std.specs.Prelude.{◌≡◌, true, OnOk};
-ghost use Rattle.pv_typed.specs.Tables.{IsStatement};
+ghost use Rattle.pv_typed.specs.NodeTrees.{IsStatement};
 ghost use Rattle.pv_eval.specs.Moments.{Stays};
 ghost use Rattle.pv_eval.specs.MachineSteps.{Fit};
 ghost use Rattle.pv_eval.specs.Machines.{is_ended, after_first};

@@ -1,8 +1,10 @@
 // The turns of statements.
 ghost use Rattle.std.specs.Prelude.{◌≡◌, ℕ, ◌+◌, ◌<◌, ◌^◌, true, false, OnOk, IfSome, None};
 ghost use Rattle.pv_typed.specs.Nodes.{statements_in};
-ghost use Rattle.pv_typed.specs.TypedStatement.{Block, Switch, statement_line, declared_of};
-ghost use Rattle.pv_typed.specs.Tables.{nodes, list_at, expression_at, statement_at, IsExpression, IsStatement};
+ghost use Rattle.pv_typed.specs.TypedStatement.{Block, Switch};
+ghost use Rattle.pv_typed.specs.Trees.{statement_line, declared_of};
+ghost use Rattle.pv_typed.specs.Tables.{nodes};
+ghost use Rattle.pv_typed.specs.NodeTrees.{list_at, expression_at, statement_at, IsExpression, IsStatement};
 ghost use Rattle.pv_eval.specs.MachineSteps.{Fit, KeepsSetting};
 ghost use Rattle.pv_eval.specs.Moments.{Stays};
 ghost use Rattle.pv_eval.specs.States.{Setting, State};

@@ -1,10 +1,9 @@
 // The statements of lists (C17 6.8.2), and the declarations of a `for`.
 ghost use Rattle.std.specs.Prelude.{◌≡◌, ◌<◌, length, OnOk, IfOk, IfSome, None};
 ghost use Rattle.pv_typed.specs.TypedUnits.{object_at};
-ghost use Rattle.pv_typed.specs.Tables.{statement_at, IsStatement};
-ghost use Rattle.pv_eval.specs.Moments.{Stays, Always, state_of};
+ghost use Rattle.pv_typed.specs.NodeTrees.{statement_at, IsStatement};
+ghost use Rattle.pv_eval.specs.Moments.{Stays, Always, state_of, IsMemory, Made};
 ghost use Rattle.pv_eval.specs.MachineSteps.{Fit};
-ghost use Rattle.pv_eval.specs.Moments.{IsMemory, Made};
 ghost use Rattle.pv_eval.specs.Runnable.{IsRunnable};
 ghost use Rattle.pv_exec.specs.Leading.{FlowLed, DoingLed};
 ghost use Rattle.pv_exec.specs.Fits.{WayFitsOr, HasList};

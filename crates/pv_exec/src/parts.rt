@@ -1,8 +1,9 @@
 // Parts of statements.
 ghost use Rattle.std.specs.Prelude.{◌≡◌, IfSome, None, Some, true};
-ghost use Rattle.pv_typed.specs.TypedStatement.{is_scope_tree};
+ghost use Rattle.pv_typed.specs.Trees.{is_scope_tree};
 ghost use Rattle.pv_typed.specs.Nodes.{optional_in};
-ghost use Rattle.pv_typed.specs.Tables.{nodes, statement_at, IsExpression, IsStatement};
+ghost use Rattle.pv_typed.specs.Tables.{nodes};
+ghost use Rattle.pv_typed.specs.NodeTrees.{statement_at, IsExpression, IsStatement};
 ghost use Rattle.pv_exec.specs.Parts.{do_of, choice_of, items_of};
 ghost use Rattle.pv_exec.specs.Tasks.{returned_of, declarations_of};
 ghost use Rattle.pv_exec.specs.Fits.{HasList};

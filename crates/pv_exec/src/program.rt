@@ -1,16 +1,16 @@
 //! The run of a unit.
 ghost use Rattle.std.specs.Prelude.{◌≡◌, ◌≤◌, ◌^◌, IsTrue, is_some, IfNone, IfOk, OnOk, OnErr, map};
 ghost use Rattle.pv_script.specs.Outside.{Gains, GainsPrefix};
-ghost use Rattle.pv_typed.specs.Children.{Each};
+ghost use Rattle.pv_typed.specs.Known.{Each};
 ghost use Rattle.pv_typed.specs.Mains.{main_of};
 ghost use Rattle.pv_typed.specs.Tables.{whole};
 ghost use Rattle.pv_eval.specs.Runnable.{IsRunnable};
 ghost use Rattle.pv_exec.specs.Run.{setting_of, run_of};
 ghost use Rattle.pv_exec.specs.Stages.{stage_of};
-ghost use Rattle.pv_exec.specs.Streaming.{event_of};
+ghost use Rattle.pv_exec.specs.Outlets.{event_of, hall_slots};
 ghost use Rattle.pv_exec.specs.Words.{FitsWords};
-ghost use Rattle.pv_exec.specs.Answering.{RanAs, RanAt, ToldOr, StreamedOr, RestTold, FaultCause, error_of, error_by, end_at, highs, hall_slots, outlet};
-ghost use Rattle.pv_exec.specs.Settling.{SettlesAlike, IsUndefinedByAll};
+ghost use Rattle.pv_exec.specs.Answering.{RanAs, RanAt, ToldOr, StreamedOr, RestTold, FaultCause, error_of, error_by, end_at, highs, outlet};
+ghost use Rattle.pv_exec.specs.SettledRuns.{SettlesAlike, IsUndefinedByAll};
 
 use crate::delivering::{Undelivered, finish};
 use crate::endings::outcome_by;

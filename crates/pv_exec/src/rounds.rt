@@ -1,6 +1,7 @@
 // Further rounds of loops whose condition comes first.
 ghost use Rattle.std.specs.Prelude.{◌≡◌, ℕ, ◌+◌, ◌<◌, ◌≤◌, OnOk, IfSome, true};
-ghost use Rattle.pv_typed.specs.Tables.{nodes, statement_at, IsExpression, IsStatement};
+ghost use Rattle.pv_typed.specs.Tables.{nodes};
+ghost use Rattle.pv_typed.specs.NodeTrees.{statement_at, IsExpression, IsStatement};
 ghost use Rattle.pv_typed.specs.Nodes.{optional_in};
 ghost use Rattle.pv_eval.specs.MachineSteps.{Fit};
 ghost use Rattle.pv_eval.specs.Machines.{ended, is_ended, after_first};

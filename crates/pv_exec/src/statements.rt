@@ -1,7 +1,8 @@
 // The first operations of statements.
 ghost use Rattle.std.specs.Prelude.{◌≡◌, ℕ, ◌+◌, ◌<◌, true, false, OnOk, IfSome, None};
 ghost use Rattle.pv_typed.specs.Nodes.{optional_in};
-ghost use Rattle.pv_typed.specs.Tables.{Stored, nodes, expression_at, statement_at, IsExpression, IsStatement};
+ghost use Rattle.pv_typed.specs.Tables.{Stored, nodes};
+ghost use Rattle.pv_typed.specs.NodeTrees.{expression_at, statement_at, IsExpression, IsStatement};
 ghost use Rattle.pv_eval.specs.MachineSteps.{Fit};
 ghost use Rattle.pv_eval.specs.States.{Setting, State, Res, then_do};
 ghost use Rattle.pv_exec.specs.Calls.{below};

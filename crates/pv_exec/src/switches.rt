@@ -1,6 +1,6 @@
 // Labels of a `switch`, and the jump to one of them (C17 6.8.4.2).
 ghost use Rattle.std.specs.Prelude.{◌≡◌, ◌+◌, ◌<◌, ◌^◌, ℕ, List, true, false, OnOk, IfSome, None};
-ghost use Rattle.pv_typed.specs.Tables.{expression_at, statement_at, IsExpression, IsStatement};
+ghost use Rattle.pv_typed.specs.NodeTrees.{expression_at, statement_at, IsExpression, IsStatement};
 ghost use Rattle.pv_eval.specs.States.{Setting, State};
 ghost use Rattle.pv_eval.specs.Moments.{Stays};
 ghost use Rattle.pv_eval.specs.Machines.{Started, is_ended, after_first};

@@ -1,6 +1,6 @@
 // What tasks do with the values of expressions.
 ghost use Rattle.std.specs.Prelude.{◌≡◌, true, OnOk, IfOk};
-ghost use Rattle.pv_typed.specs.Tables.{IsStatement};
+ghost use Rattle.pv_typed.specs.NodeTrees.{IsStatement};
 ghost use Rattle.pv_eval.specs.Moments.{Stays, IsMemory};
 ghost use Rattle.pv_eval.specs.MachineSteps.{Fit};
 ghost use Rattle.pv_eval.specs.Machines.{is_ended, after_first};

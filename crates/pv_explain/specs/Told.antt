@@ -1,4 +1,4 @@
--- What is told of a run.
+-- A bridge: what is told of a run.
 use Rattle.std.specs.Prelude.{ℕ, List, codes, Option, Some, None}
 use Rattle.pv_watch.specs.declared.event.Event.{Event}
 use Rattle.pv_watch.specs.Lines.{instance_text}

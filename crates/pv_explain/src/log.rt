@@ -13,7 +13,7 @@ pub(crate) struct Log {
 }
 
 impl Log {
-    ghost use Rattle.pv_watch.specs.Seen.{Sees};
+    ghost use Rattle.pv_watch.specs.Adding.{Sees};
     ghost use Rattle.pv_watch.specs.Texts.{cut};
 
     /// Nothing is seen yet, which takes no memory.

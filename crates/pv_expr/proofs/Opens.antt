@@ -6,7 +6,7 @@ use Rattle.pv_token.specs.declared.token_table.TokenKind.TheVariants as kind
 use Rattle.pv_token.specs.declared.marks.Mark.TheVariants as mark
 use Rattle.pv_tree.specs.declared.nodes.NodeId.{NodeId}
 use Rattle.pv_tree.specs.Syntax.{ExpressionTree, Tree, Cast}
-use Rattle.pv_tree.specs.Grammar.{Names, begins_type}
+use Rattle.pv_tree.specs.Spells.{Names, begins_type}
 use Rattle.pv_tree.specs.Tables.{Forest, Tables, as_declaration, expression_at, declaration_at, is_declaration, Extends}
 use Rattle.pv_tree.proofs.Kept.{tree_kept, is_kept}
 use Rattle.pv_expr_forms.specs.declared.follows.Prefix.{Prefix}

@@ -1,7 +1,7 @@
--- What goes on from a tree, by whether an operand is read for it.
+-- A bridge: what goes on from a tree, by whether an operand is read for it.
 use Rattle.std.specs.Prelude.{◌≡◌, ◌<◌, ◌+◌, ◌^◌, ℕ, Bool, List, length, drop, Option, Some, None, MatchOption}
 use Rattle.pv_token.specs.declared.token_table.Token.{Token}
-use Rattle.pv_tree.specs.Grammar.{Names}
+use Rattle.pv_tree.specs.Spells.{Names}
 use Rattle.pv_tree.specs.Syntax.{ExpressionTree, ArgumentTrees, Call, Member, Arrow, PostIncrement, PostDecrement}
 use Rattle.pv_tree.specs.Lines.{expression_line}
 use Rattle.pv_expr_forms.specs.declared.follows.Follow.{Follow}

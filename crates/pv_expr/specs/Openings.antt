@@ -1,9 +1,9 @@
--- What stands before an operand: an operator, a type name in parentheses, a parenthesis.
+-- A bridge: what stands before an operand: an operator, a type name in parentheses, a parenthesis.
 use Rattle.std.specs.Prelude.{◌≡◌, ◌≤◌, ℕ, Bool, false, List, length, drop, Option, Some, None, MatchOption, option_and_then}
 use Rattle.pv_token.specs.declared.token_table.Token.{Token}
 use Rattle.pv_token.specs.declared.token_table.TokenKind.{TokenKind}
 use Rattle.pv_tree.specs.declared.nodes.NodeId.{NodeId}
-use Rattle.pv_tree.specs.Grammar.{Names}
+use Rattle.pv_tree.specs.Spells.{Names}
 use Rattle.pv_tree.specs.Syntax.{ExpressionTree, Cast, DeclarationTree}
 use Rattle.pv_tree.specs.Tables.{Forest, Tables, declaration_at, is_declaration, Is}
 use Rattle.pv_expr_forms.specs.Follows.{prefix_operand, prefixed}

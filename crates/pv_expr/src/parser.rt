@@ -1,6 +1,6 @@
 //! Expressions of a level (C17 6.5).
 ghost use Rattle.std.specs.Prelude.{◌≡◌, None, IfOk};
-ghost use Rattle.pv_tree.specs.Grammar.{Spells};
+ghost use Rattle.pv_tree.specs.Spells.{Spells};
 ghost use Rattle.pv_tree.specs.Tables.{expression_at, is_expression, Is, Extends};
 ghost use Rattle.pv_tree.specs.TypeNames.{AreTied};
 ghost use Rattle.pv_expr_forms.specs.Known.{names_in};

@@ -10,7 +10,7 @@ use Rattle.pv_tree.specs.declared.nodes.ListId.{ListId}
 use Rattle.pv_tree.specs.Syntax.{ExpressionTree, Call, Tree, OfExpression}
 use Rattle.pv_tree.specs.Nodes.{expression_of}
 use Rattle.pv_tree.specs.Tables.{Tables, as_expression, expression_at, arguments_of, with_tree, with_list, is_expression, Is, Extends}
-use Rattle.pv_tree.specs.Grammar.{Names}
+use Rattle.pv_tree.specs.Spells.{Names}
 use Rattle.pv_tree.proofs.Kept.{tree_new, is_new, is_kept, tree_kept, extends_same, extends_tree, extends_list}
 use Rattle.pv_expr_forms.specs.Reader.{Read, Reads, read, deeper, longer, grown}
 use Rattle.pv_expr_forms.specs.Answers.{seen, IsThere, Answers}

@@ -10,7 +10,7 @@ use Rattle.pv_tree.specs.declared.operators.UnaryOperator.TheVariants as unary
 use Rattle.pv_tree.specs.Syntax.{ExpressionTree, Name, Number, Character, Text, Paren, Index, Call, Member, Arrow, PostIncrement, PostDecrement, PreIncrement, PreDecrement, Unary, SizeofExpr, SizeofType, Cast, Binary, Conditional, Assign, Comma, ArgumentTrees, NoArguments, Argument}
 use Rattle.pv_tree.specs.Levels.{unary_mark, rank}
 use Rattle.pv_tree.specs.Spelling.{expression_tokens, arguments_tokens}
-use Rattle.pv_tree.specs.Grammar.{Names, kind_begins_type, begins_type, Fits, FitsArguments}
+use Rattle.pv_tree.specs.Spells.{Names, kind_begins_type, begins_type, Fits, FitsArguments}
 use Rattle.pv_expr_forms.specs.Reader.{is_open, is_close, opens_type}
 use Rattle.pv_expr_forms.proofs.Runs.{Takes, takes_parts}
 use Rattle.pv_expr_forms.proofs.Operators.{binary_rank_in}

@@ -6,7 +6,7 @@ use Rattle.pv_tree.specs.declared.nodes.NodeId.{NodeId}
 use Rattle.pv_tree.specs.Syntax.{ExpressionTree, ArgumentTrees, NoArguments, Argument, Call}
 use Rattle.pv_tree.specs.Lines.{expression_line}
 use Rattle.pv_tree.specs.Tables.{Tables, expression_at, arguments_of, is_expression, Is, Extends}
-use Rattle.pv_tree.specs.Grammar.{Names}
+use Rattle.pv_tree.specs.Spells.{Names}
 use Rattle.pv_tree.specs.TypeNames.{TypeMap, AreTied}
 use Rattle.pv_tree.proofs.Kept.{extends_then}
 use Rattle.pv_expr_forms.specs.Reader.{Read, is_close, is_comma, after, further, arguments, called, read}

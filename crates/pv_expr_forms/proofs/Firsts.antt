@@ -8,7 +8,7 @@ use Rattle.pv_token.specs.declared.words.Word.TheVariants as word
 use Rattle.pv_token.specs.declared.marks.Mark.TheVariants as mark
 use Rattle.pv_tree.specs.Syntax.{ExpressionTree, SizeofType, Cast, DeclarationTree}
 use Rattle.pv_tree.specs.Depths.{declaration_depth}
-use Rattle.pv_tree.specs.Grammar.{Names, begins_type}
+use Rattle.pv_tree.specs.Spells.{Names, begins_type}
 use Rattle.pv_expr_forms.specs.declared.follows.Prefix.{Prefix}
 use Rattle.pv_expr_forms.specs.Follows.{prefix_of}
 use Rattle.pv_expr_forms.specs.Reader.{Read, Reads, is_open, is_close, after, closed, cast_to, opened, fronted, measured, sized, head_of, selected_by, selected}

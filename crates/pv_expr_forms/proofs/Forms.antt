@@ -11,7 +11,7 @@ use Rattle.pv_tree.specs.Syntax.{ExpressionTree, Name, Number, Character, Text, 
 use Rattle.pv_tree.specs.Depths.{expression_depth, declaration_depth}
 use Rattle.pv_tree.specs.Lines.{expression_line}
 use Rattle.pv_tree.specs.Levels.{rank}
-use Rattle.pv_tree.specs.Grammar.{Names, begins_type}
+use Rattle.pv_tree.specs.Spells.{Names, begins_type}
 use Rattle.pv_expr_forms.specs.declared.follows.Prefix.{Prefix}
 use Rattle.pv_expr_forms.specs.declared.follows.Prefix.TheVariants as prefix
 use Rattle.pv_expr_forms.specs.declared.follows.Join.{Join}

@@ -10,7 +10,8 @@ use Rattle.pv_tree.specs.Depths.{expression_depth, arguments_depth}
 use Rattle.pv_tree.specs.Lines.{expression_line}
 use Rattle.pv_tree.specs.Levels.{rank}
 use Rattle.pv_tree.specs.Spelling.{expression_tokens, arguments_tokens, before_argument}
-use Rattle.pv_tree.specs.Grammar.{Names, behind, Fits, FitsArguments}
+use Rattle.pv_tree.specs.Grammar.{behind}
+use Rattle.pv_tree.specs.Spells.{Names, Fits, FitsArguments}
 use Rattle.pv_expr_forms.specs.declared.follows.Join.{Join}
 use Rattle.pv_expr_forms.specs.declared.follows.Follow.{Follow}
 use Rattle.pv_expr_forms.specs.declared.follows.Follow.TheVariants as follow

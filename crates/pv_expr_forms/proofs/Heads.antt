@@ -10,7 +10,7 @@ use Rattle.pv_tree.specs.Syntax.{ExpressionTree, Name, Number, Character, Text, 
 use Rattle.pv_tree.specs.Depths.{expression_depth}
 use Rattle.pv_tree.specs.Levels.{rank}
 use Rattle.pv_tree.specs.Spelling.{expression_tokens, declaration_tokens}
-use Rattle.pv_tree.specs.Grammar.{Names, begins_type, IsTypeName, Fits}
+use Rattle.pv_tree.specs.Spells.{Names, begins_type, IsTypeName, Fits}
 use Rattle.pv_expr_forms.specs.declared.follows.Prefix.{Prefix}
 use Rattle.pv_expr_forms.specs.declared.follows.Prefix.TheVariants as prefix
 use Rattle.pv_expr_forms.specs.Follows.{prefix_token, prefix_of, prefix_operand, prefixed}

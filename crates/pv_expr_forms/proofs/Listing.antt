@@ -8,7 +8,7 @@ use Rattle.pv_tree.specs.declared.nodes.NodeId.{NodeId}
 use Rattle.pv_tree.specs.Syntax.{ExpressionTree, ArgumentTrees, NoArguments, Argument, Call, Tree}
 use Rattle.pv_tree.specs.Lines.{expression_line}
 use Rattle.pv_tree.specs.Tables.{Tables, as_expression, expression_at, arguments_of, is_expression, Is, Extends}
-use Rattle.pv_tree.specs.Grammar.{Names}
+use Rattle.pv_tree.specs.Spells.{Names}
 use Rattle.pv_tree.proofs.Forming.{fold_push}
 use Rattle.pv_tree.proofs.Kept.{tree_kept, is_kept}
 use Rattle.pv_expr_forms.specs.Reader.{Reads, is_close, after, arguments, arguments_for, called, head, deeper, read}

@@ -10,7 +10,8 @@ use Rattle.pv_tree.specs.Depths.{expression_depth, declaration_depth}
 use Rattle.pv_tree.specs.Lines.{expression_line}
 use Rattle.pv_tree.specs.Levels.{rank}
 use Rattle.pv_tree.specs.Spelling.{text_tokens, expression_tokens, declaration_tokens}
-use Rattle.pv_tree.specs.Grammar.{Names, line_here, behind, IsTypeName, Fits}
+use Rattle.pv_tree.specs.Grammar.{line_here, behind}
+use Rattle.pv_tree.specs.Spells.{Names, IsTypeName, Fits}
 use Rattle.pv_expr_forms.specs.declared.follows.Prefix.{Prefix}
 use Rattle.pv_expr_forms.specs.declared.follows.Prefix.TheVariants as prefix
 use Rattle.pv_expr_forms.specs.declared.follows.Join.{Join}

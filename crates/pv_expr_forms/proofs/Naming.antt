@@ -11,7 +11,8 @@ use Rattle.pv_tree.specs.Syntax.{Tree, DeclarationTree}
 use Rattle.pv_tree.specs.Depths.{declaration_depth}
 use Rattle.pv_tree.specs.Spelling.{declaration_tokens}
 use Rattle.pv_tree.specs.Tables.{Tables, as_declaration, declaration_at, is_declaration, Is, Extends}
-use Rattle.pv_tree.specs.Grammar.{Names, kinds}
+use Rattle.pv_tree.specs.Grammar.{kinds}
+use Rattle.pv_tree.specs.Spells.{Names}
 use Rattle.pv_tree.specs.TypeNames.{TypeMap, names_of, type_seen, AreTied}
 use Rattle.pv_tree.proofs.Kept.{tree_kept, is_kept}
 use Rattle.pv_expr_forms.specs.Reader.{is_close, after}

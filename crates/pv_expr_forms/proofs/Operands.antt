@@ -4,7 +4,7 @@ use Rattle.pv_token.specs.declared.token_table.Token.{Token}
 use Rattle.pv_tree.specs.declared.nodes.NodeId.{NodeId}
 use Rattle.pv_tree.specs.Syntax.{ExpressionTree, Conditional}
 use Rattle.pv_tree.specs.Lines.{expression_line}
-use Rattle.pv_tree.specs.Grammar.{Names}
+use Rattle.pv_tree.specs.Spells.{Names}
 use Rattle.pv_tree.specs.Tables.{Tables, expression_at, is_expression, Is, Extends}
 use Rattle.pv_expr_forms.specs.declared.follows.Follow.{Follow}
 use Rattle.pv_expr_forms.specs.declared.follows.Follow.TheVariants as follow

@@ -5,7 +5,7 @@ use Rattle.indexmap.specs.IndexSet.{IndexSet, contains}
 use Rattle.pv_token.specs.declared.token_table.Token.{Token}
 use Rattle.pv_tree.specs.declared.nodes.NodeId.{NodeId}
 use Rattle.pv_tree.specs.Tables.{Tables, expression_at, is_expression, Is}
-use Rattle.pv_tree.specs.Grammar.{Spells}
+use Rattle.pv_tree.specs.Spells.{Spells}
 use Rattle.pv_tree.specs.TypeNames.{TypeMap, AreTied}
 use Rattle.pv_expr_forms.specs.Answers.{Answers}
 use Rattle.pv_expr_forms.specs.Known.{names_in}

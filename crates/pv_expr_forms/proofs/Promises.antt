@@ -7,7 +7,7 @@ use Rattle.pv_tree.specs.declared.nodes.NodeId.{NodeId}
 use Rattle.pv_tree.specs.Syntax.{ExpressionTree}
 use Rattle.pv_tree.specs.Tables.{Tables, expression_at, is_expression, Is}
 use Rattle.pv_tree.specs.Spelling.{expression_tokens}
-use Rattle.pv_tree.specs.Grammar.{Spells}
+use Rattle.pv_tree.specs.Spells.{Spells}
 use Rattle.pv_tree.specs.TypeNames.{TypeMap, names_of, AreTied}
 use Rattle.pv_expr_forms.specs.Reader.{Read, read}
 use Rattle.pv_expr_forms.specs.Answers.{Answers}

@@ -9,7 +9,7 @@ use Rattle.pv_tree.specs.declared.nodes.NodeId.{NodeId}
 use Rattle.pv_tree.specs.Syntax.{ExpressionTree, Cast, Tree}
 use Rattle.pv_tree.specs.Depths.{expression_depth}
 use Rattle.pv_tree.specs.Levels.{rank}
-use Rattle.pv_tree.specs.Grammar.{Names, begins_type}
+use Rattle.pv_tree.specs.Spells.{Names, begins_type}
 use Rattle.pv_tree.specs.Tables.{Tables, as_declaration, expression_at, declaration_at, is_expression, is_declaration, Is, Extends}
 use Rattle.pv_tree.specs.TypeNames.{TypeMap, names_of, AreTied}
 use Rattle.pv_tree.proofs.Kept.{tree_kept}

@@ -5,7 +5,7 @@ use Rattle.pv_token.specs.declared.token_table.Token.{Token}
 use Rattle.pv_tree.specs.Syntax.{ExpressionTree}
 use Rattle.pv_tree.specs.Levels.{rank}
 use Rattle.pv_tree.specs.Spelling.{expression_tokens}
-use Rattle.pv_tree.specs.Grammar.{Names}
+use Rattle.pv_tree.specs.Spells.{Names}
 use Rattle.pv_expr_forms.specs.Reader.{Reads, head, grown, deeper, read}
 use Rattle.pv_expr_forms.proofs.Runs.{takes_length, takes_known}
 use Rattle.pv_expr_forms.proofs.Steps.{guarded, followed, some_is, Shortens}

@@ -7,7 +7,7 @@ use Rattle.pv_token.specs.declared.token_table.TokenKind.TheVariants as kind
 use Rattle.pv_tree.specs.Syntax.{ExpressionTree, Call, Member, Arrow, PostIncrement, PostDecrement, Conditional, ArgumentTrees, NoArguments, Argument}
 use Rattle.pv_tree.specs.Depths.{expression_depth}
 use Rattle.pv_tree.specs.Lines.{expression_line}
-use Rattle.pv_tree.specs.Grammar.{Names}
+use Rattle.pv_tree.specs.Spells.{Names}
 use Rattle.pv_expr_forms.specs.declared.follows.Join.{Join}
 use Rattle.pv_expr_forms.specs.declared.follows.Join.TheVariants as join
 use Rattle.pv_expr_forms.specs.declared.follows.Follow.{Follow}

@@ -9,7 +9,8 @@ use Rattle.pv_tree.specs.Depths.{expression_depth}
 use Rattle.pv_tree.specs.Lines.{expression_line}
 use Rattle.pv_tree.specs.Levels.{rank}
 use Rattle.pv_tree.specs.Spelling.{expression_tokens}
-use Rattle.pv_tree.specs.Grammar.{Names, line_here, behind, Fits}
+use Rattle.pv_tree.specs.Grammar.{line_here, behind}
+use Rattle.pv_tree.specs.Spells.{Names, Fits}
 use Rattle.pv_expr_forms.specs.declared.follows.Prefix.{Prefix}
 use Rattle.pv_expr_forms.specs.declared.follows.Prefix.TheVariants as prefix
 use Rattle.pv_expr_forms.specs.declared.follows.Join.{Join}

@@ -9,7 +9,8 @@ use Rattle.pv_tree.specs.Depths.{expression_depth, arguments_depth}
 use Rattle.pv_tree.specs.Lines.{expression_line}
 use Rattle.pv_tree.specs.Levels.{rank}
 use Rattle.pv_tree.specs.Spelling.{expression_tokens, arguments_tokens, before_argument}
-use Rattle.pv_tree.specs.Grammar.{Names, line_here, Fits, FitsArguments}
+use Rattle.pv_tree.specs.Grammar.{line_here}
+use Rattle.pv_tree.specs.Spells.{Names, Fits, FitsArguments}
 use Rattle.pv_expr_forms.specs.declared.follows.Prefix.TheVariants as prefix
 use Rattle.pv_expr_forms.specs.declared.follows.Join.TheVariants as join
 use Rattle.pv_expr_forms.specs.declared.follows.Follow.TheVariants as follow

@@ -11,7 +11,8 @@ use Rattle.pv_tree.specs.Depths.{expression_depth, arguments_depth}
 use Rattle.pv_tree.specs.Lines.{expression_line}
 use Rattle.pv_tree.specs.Levels.{rank}
 use Rattle.pv_tree.specs.Spelling.{text_tokens, expression_tokens, arguments_tokens, declaration_tokens}
-use Rattle.pv_tree.specs.Grammar.{Names, begins_type, line_here, behind, IsTypeName}
+use Rattle.pv_tree.specs.Grammar.{line_here, behind}
+use Rattle.pv_tree.specs.Spells.{Names, begins_type, IsTypeName}
 use Rattle.pv_expr_forms.specs.declared.follows.Prefix.{Prefix}
 use Rattle.pv_expr_forms.specs.declared.follows.Join.{Join}
 use Rattle.pv_expr_forms.specs.declared.follows.Follow.{Follow}

@@ -1,4 +1,4 @@
--- The operators by their tokens: the level of the whole and the loosest levels of its operands (6.5.2 to 6.5.17).
+-- A bridge: the operators by their tokens: the level of the whole and the loosest levels of its operands (6.5.2 to 6.5.17).
 use Rattle.std.specs.Prelude.{ℕ, suc, Option, Some, None, option_map}
 use Rattle.pv_token.specs.declared.token_table.TokenKind.{TokenKind}
 use Rattle.pv_token.specs.declared.token_table.TokenKind.TheVariants as kind

@@ -1,4 +1,4 @@
--- The levels that a caller may ask for, by their numbers.
+-- A bridge: the levels that a caller may ask for, by their numbers.
 use Rattle.std.specs.Prelude.{ℕ}
 use Rattle.pv_expr_forms.specs.declared.levels.Level.{Level}
 use Rattle.pv_expr_forms.specs.declared.levels.Level.TheVariants as level

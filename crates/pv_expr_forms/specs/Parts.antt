@@ -1,4 +1,4 @@
--- Parts of a reading that read no expression.
+-- A bridge: parts of a reading that read no expression.
 use Rattle.std.specs.Prelude.{ℕ, suc, Bool, false, nat_le, List, [], ◌∷◌, drop, Option, Some, None, option_map, option_and_then, if◌then◌else◌}
 use Rattle.pv_token.specs.declared.token_table.Token.{Token}
 use Rattle.pv_token.specs.declared.token_table.TokenKind.{TokenKind}
@@ -6,7 +6,7 @@ use Rattle.pv_token.specs.declared.token_table.TokenKind.TheVariants as kind
 use Rattle.pv_token.specs.declared.words.Word.TheVariants as word
 use Rattle.pv_tree.specs.Syntax.{ExpressionTree, Name, Number, Character, Text, DeclarationTree}
 use Rattle.pv_tree.specs.Depths.{declaration_depth}
-use Rattle.pv_tree.specs.Grammar.{Names}
+use Rattle.pv_tree.specs.Spells.{Names}
 use Rattle.pv_expr_forms.specs.Reader.{Read, is_close, is_text, after, texts_in_row, opens_type}
 
 -- a name that is no typedef name, a constant or string literals in a row (6.5.1p1)

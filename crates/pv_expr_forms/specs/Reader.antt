@@ -1,4 +1,4 @@
--- Reading an expression from the left, on lists: the longest of a level and of at most so much depth (6.5).
+-- A bridge: reading an expression from the left, on lists: the longest of a level and of at most so much depth (6.5).
 use Rattle.std.specs.Prelude.{ℕ, zero, suc, Bool, true, false, ◌&&◌, ◌==◌, nat_le, List, [], ◌∷◌, length, drop, Option, Some, None, option_map, option_and_then, if◌then◌else◌}
 use Rattle.pv_token.specs.declared.token_table.Token.{Token}
 use Rattle.pv_token.specs.declared.token_table.TokenKind.{TokenKind}
@@ -9,7 +9,7 @@ use Rattle.pv_tree.specs.Syntax.{ExpressionTree, Name, Number, Character, Text, 
 use Rattle.pv_tree.specs.Depths.{expression_depth, declaration_depth}
 use Rattle.pv_tree.specs.Lines.{expression_line}
 use Rattle.pv_tree.specs.Levels.{rank}
-use Rattle.pv_tree.specs.Grammar.{Names, begins_type}
+use Rattle.pv_tree.specs.Spells.{Names, begins_type}
 use Rattle.pv_expr_forms.specs.declared.follows.Prefix.{Prefix}
 use Rattle.pv_expr_forms.specs.declared.follows.Prefix.TheVariants as prefix
 use Rattle.pv_expr_forms.specs.declared.follows.Follow.{Follow}

@@ -1,8 +1,8 @@
--- The tokens that a reader is given with what is known of the names among them, and what is read of these.
+-- A bridge: the tokens that a reader is given with what is known of the names among them, and what is read of these.
 use Rattle.std.specs.Prelude.{◌≤◌, ℕ, List, length, drop, Option, Result, IfOk}
 use Rattle.pv_token.specs.declared.token_table.Token.{Token}
 use Rattle.pv_tree.specs.declared.nodes.NodeId.{NodeId}
-use Rattle.pv_tree.specs.Grammar.{Names}
+use Rattle.pv_tree.specs.Spells.{Names}
 use Rattle.pv_tree.specs.Tables.{Tables, Extends}
 use Rattle.pv_tree.specs.TypeNames.{TypeMap, AreTied}
 use Rattle.pv_expr_forms.specs.declared.source.Source.{Source}

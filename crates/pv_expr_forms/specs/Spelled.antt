@@ -1,4 +1,4 @@
--- Of the trees that spell tokens from a place, the one that is found: `spells end tree` says that a tree spells those from the place to
+-- A bridge: of the trees that spell tokens from a place, the one that is found: `spells end tree` says that a tree spells those from the place to
 -- before the end.
 use Rattle.std.specs.Prelude.{◌≡◌, ◌≤◌, ℕ, List, length, Option, IfSome}
 use Rattle.pv_token.specs.declared.token_table.Token.{Token}

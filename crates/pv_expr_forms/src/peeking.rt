@@ -1,7 +1,8 @@
 //! What the tokens from a place are, as far as that takes no expression to be read.
 ghost use Rattle.std.specs.Prelude.{◌≡◌, ◌<◌, ◌≤◌, ◌+◌, ◌^◌, [], ◌∷◌, length, drop, Some, None, MatchOption, true, nat_eq};
 ghost use Rattle.indexmap.specs.IndexSet.{contains};
-ghost use Rattle.pv_tree.specs.Grammar.{begins_specifiers, begins_type, line_here};
+ghost use Rattle.pv_tree.specs.Grammar.{line_here};
+ghost use Rattle.pv_tree.specs.Spells.{begins_specifiers, begins_type};
 ghost use Rattle.pv_tree.specs.Tables.{Tables};
 ghost use Rattle.pv_tree.specs.TypeNames.{TypeMap};
 ghost use Rattle.pv_expr_forms.specs.Reader.{is_open, is_close, is_bracket, is_colon, is_comma, after, texts_in_row, opens_type};

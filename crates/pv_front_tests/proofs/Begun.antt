@@ -2,8 +2,8 @@
 use Rattle.std.proofs.Common.{◌≡◌, [], ◌∷◌, ◌++◌, Result, Ok, refl, sym, subst, ap, ◌∙◌, arith}
 use Rattle.std.specs.Prelude.{OnOk}
 use Rattle.pv_types.specs.Layouts.{layouts_of}
-use Rattle.pv_typed.specs.Formed.{AreKnown}
-use Rattle.pv_typed.specs.Mains.{no_tables}
+use Rattle.pv_typed.specs.Known.{AreKnown}
+use Rattle.pv_typed.specs.Formed.{no_tables}
 use Rattle.pv_typed.specs.Tables.{Stored}
 use Rattle.pv_check.specs.Growing.{AreSized}
 use Rattle.pv_check.specs.Open.{IsOpen}

@@ -7,7 +7,7 @@ use Rattle.std.proofs.lemmas.Option.{get_or_from_slice_get}
 use Rattle.pv_typed.specs.TypedUnits.{WholeUnit, TypedFunction}
 use Rattle.pv_typed.specs.declared.entries.Function.{Function}
 use Rattle.pv_typed.specs.Tables.{Stored, whole, nodes, function_in}
-use Rattle.pv_typed.specs.Adding.{with_function}
+use Rattle.pv_typed.specs.Entries.{with_function}
 use Rattle.pv_typed.specs.Mains.{main_text, named_main, first_main, main_of}
 
 named : (names : List (List ℕ)) (n : ℕ) → slice_get names n ≡ Some main_text → named_main names n ≡ true

@@ -1,6 +1,6 @@
 // A structure's tag in a typed unit, from its first mention on.
 ghost use Rattle.std.specs.Prelude.{◌<◌, ◌≡◌, [], IsTrue, length};
-ghost use Rattle.pv_types.specs.Known.{members_in};
+ghost use Rattle.pv_types.specs.Formed.{members_in};
 ghost use Rattle.pv_typed.specs.Formed.{Grown};
 ghost use Rattle.pv_front_tests.specs.Ready.{IsReady};
 

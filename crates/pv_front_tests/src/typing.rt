@@ -1,9 +1,9 @@
 //! What an expression is typed as, within the scope of an empty file.
 ghost use Rattle.std.specs.Prelude.{◌≡◌, []};
 ghost use Rattle.pv_tree.specs.Tables.{Is, is_expression};
-ghost use Rattle.pv_typed.specs.Formed.{AreKnown};
-ghost use Rattle.pv_typed.specs.Mains.{no_tables};
-ghost use Rattle.pv_typed.specs.Tables.{IsExpression};
+ghost use Rattle.pv_typed.specs.Known.{AreKnown};
+ghost use Rattle.pv_typed.specs.Formed.{no_tables};
+ghost use Rattle.pv_typed.specs.NodeTrees.{IsExpression};
 ghost use Rattle.pv_check.specs.Open.{IsOpen};
 
 use crate::readers::{lexed, read_expression};

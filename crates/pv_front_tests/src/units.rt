@@ -1,8 +1,10 @@
 // What a typed unit holds, by the calls that make it and read it. Short tests: what one costs to prove grows faster than
 // the number of its calls.
 ghost use Rattle.std.specs.Prelude.{◌<◌, IsTrue, is_some, length};
-ghost use Rattle.pv_typed.specs.Tables.{IsExpression, whole};
-ghost use Rattle.pv_typed.specs.Formed.{AreKnown, Grown};
+ghost use Rattle.pv_typed.specs.Tables.{whole};
+ghost use Rattle.pv_typed.specs.NodeTrees.{IsExpression};
+ghost use Rattle.pv_typed.specs.Formed.{Grown};
+ghost use Rattle.pv_typed.specs.Known.{AreKnown};
 ghost use Rattle.pv_typed.specs.Mains.{main_of};
 ghost use Rattle.pv_front_tests.specs.Ready.{IsReady};
 

@@ -19,7 +19,7 @@ use Rattle.pv_libc.specs.declared.values.Note.{Note}
 use Rattle.pv_libc.specs.Steps.{Now, Did, next, next_by, about, about_by, reached, further}
 use Rattle.pv_libc.specs.Characters.{character_of, character_loaded, character_in, character_at, string_from, most, string_at}
 use Rattle.pv_shadow.specs.Bytes.{read}
-use Rattle.pv_typed.specs.Children.{Each}
+use Rattle.pv_typed.specs.Known.{Each}
 use Rattle.pv_guards.proofs.LibraryWays.{When}
 
 -- a step, and another one behind it

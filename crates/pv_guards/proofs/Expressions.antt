@@ -10,7 +10,7 @@ use Rattle.pv_typed.specs.declared.nodes.IncrementOperator.{IncrementOperator}
 use Rattle.pv_typed.specs.TypedUnits.{layouts}
 use Rattle.pv_guards.proofs.Numbers.{promoted_widens, promoted_is, one_fits}
 use Rattle.pv_types.specs.Ty.{Ty, Tys, NoTys, MoreTys, VoidTy, IntTy, PointerTo, ArrayOf, StructTag, UnionTag, FunctionTy, ConstOf}
-use Rattle.pv_layout.specs.Places.{bare}
+use Rattle.pv_layout.specs.Parts.{bare}
 use Rattle.pv_typed.specs.TypedTree.{TypedTree, Node, Form, Arguments, NoArguments, MoreArguments, line_of, Constant, Object, Function, String, Subscript, Call, CallPointer, LibraryCall, Member, MemberOfValue, Arrow, Increment, Address, Indirection, Unary, Not, Sizeof, Cast, Arithmetic, PointerSum, PointerDifference, PointerOrder, PointerEquality, LogicalAnd, LogicalOr, Conditional, Assign, CompoundAssign, PointerAssign, Comma, Read, ArrayPointer, Convert, type_of, is_void}
 use Rattle.pv_seq.specs.Sequencing.{Access, Open, opened, settled, beside, rivals, noted}
 use Rattle.pv_world.specs.declared.got.How.TheVariants.{Rounds}
@@ -27,7 +27,7 @@ use Rattle.pv_eval.specs.Arguments.{argument}
 use Rattle.pv_eval.specs.Callees.{function_in}
 use Rattle.pv_eval.specs.Library.{asks}
 use Rattle.pv_libc.specs.declared.values.Arg.{Arg}
-use Rattle.pv_typed.specs.Children.{Each}
+use Rattle.pv_typed.specs.Known.{Each}
 use Rattle.pv_eval.specs.Operations as op
 use Rattle.pv_eval.specs.Operations.{Op, act}
 use Rattle.pv_guards.specs.Plain.{act_plainly}

@@ -21,7 +21,7 @@ use Rattle.pv_object.specs.declared.values.Scalar.TheVariants as scalar
 use Rattle.pv_object.specs.declared.values.Value.{Value}
 use Rattle.pv_object.specs.declared.values.Value.TheVariants.{Int as IntValue, Unset, Pointer as PointerValue}
 use Rattle.pv_object.specs.Encoding.{encode, unset_byte, number_in}
-use Rattle.pv_typed.specs.Children.{Each}
+use Rattle.pv_typed.specs.Known.{Each}
 use Rattle.pv_guards.specs.Fair.{IsFair, AreFair, IsFairPointer, IsFairValue}
 
 -- names that were made are made in the later table

@@ -1,8 +1,7 @@
 -- What each operation of an expression leaves: a later world that is as sound, and a value of its type (C17 6.3, 6.5).
 use Rattle.std.proofs.Common.{◌≡◌, ℕ, zero, suc, ◌+◌, ◌<◌, ◌≤◌, ◌^◌, Bool, true, false, List, [], ◌∷◌, length, take, drop, Option, Some, None, Result, Ok, Err, refl, sym, ap, ◌∙◌, subst, arith, inl, inr}
-use Rattle.std.specs.Prelude.{unwrap_or, if◌then◌else◌}
+use Rattle.std.specs.Prelude.{unwrap_or, if◌then◌else◌, pos}
 use Rattle.std.specs.FinMap as map
-use Rattle.std.specs.Prelude.{pos}
 use Rattle.std.proofs.lemmas.Bool.{false≢true}
 use Rattle.pv_num.specs.declared.kinds.IntKind.{IntKind}
 use Rattle.pv_num.specs.declared.kinds.IntKind.TheVariants.{Int, Long}
@@ -12,7 +11,7 @@ use Rattle.pv_libc.specs.declared.values.Arg.{Arg}
 use Rattle.pv_inst.specs.declared.values.Tried.{Tried}
 use Rattle.pv_types.specs.Ty.{Ty, VoidTy, IntTy, PointerTo, ArrayOf, StructTag, UnionTag, FunctionTy, ConstOf}
 use Rattle.pv_types.specs.Layouts.{layout_in}
-use Rattle.pv_layout.specs.Places.{bare}
+use Rattle.pv_layout.specs.Parts.{bare}
 use Rattle.pv_inst.specs.declared.values.Instance.{Instance}
 use Rattle.pv_inst.specs.Infos.{base_of}
 use Rattle.pv_inst.specs.Table.{Table, instance_at, IsNumber}
@@ -28,7 +27,7 @@ use Rattle.pv_object.specs.declared.values.Value.TheVariants.{Int as IntValue, U
 use Rattle.pv_object.specs.Access.{reach}
 use Rattle.pv_object.specs.Operations.{code}
 use Rattle.pv_seq.specs.Sequencing.{Access, conflicts}
-use Rattle.pv_typed.specs.Children.{Each}
+use Rattle.pv_typed.specs.Known.{Each}
 use Rattle.pv_typed.specs.TypedUnits.{layouts, object_at}
 use Rattle.pv_watch.specs.declared.event.What.{What}
 use Rattle.pv_world.specs.declared.got.Shape.{Shape}

@@ -24,7 +24,7 @@ use Rattle.std.specs.List.{repeat}
 use Rattle.std.specs.Prelude.{min}
 use Rattle.pv_num.specs.declared.kinds.IntKind.TheVariants.{UChar}
 use Rattle.pv_num.specs.Kinds.{bits_of}
-use Rattle.pv_typed.specs.Children.{Each}
+use Rattle.pv_typed.specs.Known.{Each}
 use Rattle.pv_guards.proofs.Characters.{string-small}
 use Rattle.pv_libc.specs.Strings.{strlen, compared_by, compared_from, strcmp, strcpy}
 use Rattle.pv_libc.specs.Heap.{told_of, heap_request, granted, requested, allocated, malloc, zeroed, cleared, calloc, block_by, block, freed, free, both, moved, resized, realloc}

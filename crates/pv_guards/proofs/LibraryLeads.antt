@@ -44,7 +44,7 @@ use Rattle.pv_libc.specs.Blocks.{plain_byte, share, copy, memset, memcmp, differ
 use Rattle.pv_libc.specs.Strings.{strlen, compared_by, compared_from, strcpy}
 use Rattle.pv_libc.specs.Heap.{told_of, base_of, heap_request, granted, requested, allocated, malloc, zeroed, cleared, calloc, block_by, block, freed, free, both, moved, resized, realloc}
 use Rattle.pv_libc.specs.Calls.{value_in, pointer_in, pointer, argument_at, number, size, printed, printf, called, output}
-use Rattle.pv_typed.specs.Children.{Each}
+use Rattle.pv_typed.specs.Known.{Each}
 use Rattle.pv_exec.specs.Laying.{IsLaidOut}
 use Rattle.pv_exec.proofs.Memory.Rows.{Leads as Led, led-itself, led-trans}
 use Rattle.pv_exec.proofs.Memory.Pointers.{reach-leads, value-leads, to_int-leads}

@@ -15,18 +15,16 @@ use Rattle.pv_object.specs.declared.values.Scalar.{Scalar}
 use Rattle.pv_object.specs.declared.values.Scalar.TheVariants as scalar
 use Rattle.pv_object.specs.declared.values.Asker.{Asker}
 use Rattle.pv_object.specs.declared.values.Stop.{Stop}
-use Rattle.pv_object.specs.Memory.{Mem}
+use Rattle.pv_object.specs.Memory.{Mem, with_table}
 use Rattle.pv_object.specs.Access.{reach}
-use Rattle.pv_object.specs.Creating.{created}
+use Rattle.pv_object.specs.Creating.{created, without}
 use Rattle.pv_object.specs.Loading.{load, value_of}
 use Rattle.pv_object.specs.Operations.{to_int}
 use Rattle.pv_libc.specs.declared.values.Note.{Note}
 use Rattle.pv_libc.specs.Steps.{Now, Did, next, next_by, about, about_by, reached, reached_by, further}
 use Rattle.pv_libc.specs.Characters.{character_in, character_loaded, character_at, characters_from, string_from, most, string_at}
-use Rattle.pv_object.specs.Memory.{with_table}
-use Rattle.pv_object.specs.Creating.{without}
 use Rattle.pv_object.specs.Storing.{with_bytes, copied}
-use Rattle.pv_typed.specs.Children.{Each}
+use Rattle.pv_typed.specs.Known.{Each}
 
 -- 7.1.1p1: the byte of a character: a value, and no name
 pub record IsCharacter (x : Byte) : Type 0 where

@@ -15,7 +15,7 @@ use Rattle.pv_shadow.specs.declared.byte.Byte.{Byte}
 use Rattle.pv_shadow.specs.Whole.{plain}
 use Rattle.pv_object.specs.Creating.{made}
 use Rattle.pv_object.proofs.Born.{born}
-use Rattle.pv_typed.specs.Children.{Each}
+use Rattle.pv_typed.specs.Known.{Each}
 use Rattle.pv_typed.specs.TypedUnits.{layouts, object_at, literal_at}
 use Rattle.pv_world.specs.Worlds.{Worth, Nothing, World, Bindings}
 use Rattle.pv_world.specs.Doing.{Done}

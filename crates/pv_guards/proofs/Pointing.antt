@@ -29,7 +29,7 @@ use Rattle.pv_object.specs.Access.{is_null}
 use Rattle.pv_object.specs.Loading.{Loaded, live_answer, pointer_named, pointer_of, is_trap, integer_of, value_of}
 use Rattle.pv_object.specs.Operations.{address_of, moved_by, move_under, moved, both_or_stop, together}
 use Rattle.pv_object.proofs.Later.{made_later, settled_later}
-use Rattle.pv_typed.specs.Children.{Each}
+use Rattle.pv_typed.specs.Known.{Each}
 use Rattle.pv_guards.specs.Fair.{IsFair, IsFairPointer, IsFairValue}
 use Rattle.pv_guards.proofs.Fair.{number-small, whole-fair}
 use Rattle.pv_guards.proofs.Found.{name-fair, range-low}

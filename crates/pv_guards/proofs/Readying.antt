@@ -20,9 +20,9 @@ use Rattle.pv_script.specs.Names.{name_at as text_of}
 use Rattle.pv_typed.specs.declared.values.Const.{Const}
 use Rattle.pv_typed.specs.declared.values.Const.TheVariants as const
 use Rattle.pv_typed.specs.Addresses.{constant_of}
-use Rattle.pv_typed.specs.Children.{Each}
+use Rattle.pv_typed.specs.Known.{Each}
 use Rattle.pv_typed.specs.Mains.{main_of}
-use Rattle.pv_typed.specs.TypedUnits.{Store, StoredValue, ValueOf, TextOf, object_at, function_at, literal_at}
+use Rattle.pv_typed.specs.TypedUnits.{Store, StoredValue, ValueOf, TextOf, object_at, function_at, literal_at, layouts}
 use Rattle.pv_world.specs.Worlds.{Worth, World}
 use Rattle.pv_world.specs.Doing.{Done}
 use Rattle.pv_world.specs.Accesses.{stored_as}
@@ -44,7 +44,6 @@ use Rattle.pv_laws.proofs.Numbered.{sound-laid}
 use Rattle.pv_prov.specs.Names.{twin_at}
 use Rattle.pv_num.specs.declared.kinds.IntKind.TheVariants.{Int}
 use Rattle.pv_object.specs.declared.values.Scalar.TheVariants as scalar
-use Rattle.pv_typed.specs.TypedUnits.{layouts}
 use Rattle.pv_guards.specs.Worths.{IsScalar, IsOfType}
 use Rattle.pv_guards.specs.Fair.{IsFair, AreFair}
 use Rattle.pv_guards.specs.Typed.{IsIn}

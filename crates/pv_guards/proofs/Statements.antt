@@ -6,8 +6,8 @@ use Rattle.std.proofs.lemmas.Option.{none-some}
 use Rattle.pv_num.specs.declared.kinds.IntKind.TheVariants.{Int}
 use Rattle.pv_types.specs.Ty.{Ty, VoidTy, IntTy, PointerTo, ArrayOf, StructTag, UnionTag, FunctionTy, ConstOf}
 use Rattle.pv_types.specs.Layouts.{Entry}
-use Rattle.pv_layout.specs.Places.{bare}
-use Rattle.pv_typed.specs.Children.{Each}
+use Rattle.pv_layout.specs.Parts.{bare}
+use Rattle.pv_typed.specs.Known.{Each}
 use Rattle.pv_typed.specs.TypedTree.{TypedTree, line_of}
 use Rattle.pv_typed.specs.TypedStatement.{TypedStatement, Block, Declare, Expression, Empty, If, IfElse, Switch, Case, Default, While, DoWhile, For, ForDeclaration, Continue, Break, Return, Statements, NoStatements, MoreStatements}
 use Rattle.pv_typed.specs.TypedUnits.{TypedObject, Store, StoredValue, ValueOf, TextOf, layouts, object_at, literal_at}

@@ -9,7 +9,7 @@ use Rattle.pv_num.specs.Kinds.{fits_of}
 use Rattle.pv_num.specs.Arithmetic.{IsPromoted}
 use Rattle.pv_types.specs.Ty.{Ty, VoidTy, IntTy, PointerTo, ArrayOf, StructTag, UnionTag, FunctionTy, ConstOf}
 use Rattle.pv_types.specs.Layouts.{Entry, is_complete_in}
-use Rattle.pv_layout.specs.Places.{bare}
+use Rattle.pv_layout.specs.Parts.{bare}
 use Rattle.pv_typed.specs.TypedUnits.{layouts}
 use Rattle.pv_seq.specs.Sequencing.{Access}
 use Rattle.pv_object.specs.declared.values.Scalar.TheVariants as scalar
@@ -22,7 +22,7 @@ use Rattle.pv_object.specs.declared.values.Value.{Value}
 use Rattle.pv_object.specs.declared.values.Value.TheVariants.{Int as IntValue, Unset, Pointer as PointerValue}
 use Rattle.pv_script.specs.declared.library.Library.{Library}
 use Rattle.pv_libc.specs.declared.values.Arg.{Arg}
-use Rattle.pv_typed.specs.Children.{Each}
+use Rattle.pv_typed.specs.Known.{Each}
 use Rattle.pv_world.specs.Worlds.{Worth, Nothing, Missing, Scalar, Whole, World}
 use Rattle.pv_world.specs.Worths.{int_of, missing_value}
 use Rattle.pv_world.specs.Telling.{quiet}

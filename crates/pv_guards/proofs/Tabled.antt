@@ -13,7 +13,7 @@ use Rattle.pv_num.specs.Arithmetic.{one_if, binary_of}
 use Rattle.pv_num.proofs.Congruence.{equal_fits}
 use Rattle.pv_types.specs.Ty.{Ty, VoidTy, IntTy, PointerTo, ArrayOf, StructTag, UnionTag, FunctionTy, ConstOf}
 use Rattle.pv_types.specs.Layouts.{layout_in}
-use Rattle.pv_layout.specs.Places.{bare}
+use Rattle.pv_layout.specs.Parts.{bare}
 use Rattle.pv_effect.specs.EffectiveType.{is_character_kind}
 use Rattle.pv_prov.specs.declared.names.Prov.{Prov}
 use Rattle.pv_prov.specs.declared.names.Prov.TheVariants.{Empty, Inst, Pair}
@@ -33,7 +33,7 @@ use Rattle.pv_object.specs.declared.values.Value.TheVariants.{Int as IntValue, U
 use Rattle.pv_object.specs.Values.{is_character}
 use Rattle.pv_object.specs.Loading.{Loaded, value_of as load_of}
 use Rattle.pv_object.specs.Operations.{truth, recast, to_int, to_int_after, exposed_to, shift, select, together, order, equal}
-use Rattle.pv_typed.specs.Children.{Each}
+use Rattle.pv_typed.specs.Known.{Each}
 use Rattle.pv_typed.specs.TypedUnits.{layouts}
 use Rattle.pv_watch.specs.declared.event.What.{What}
 use Rattle.pv_world.specs.declared.got.Shape.{Shape}

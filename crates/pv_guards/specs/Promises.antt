@@ -5,7 +5,7 @@ use Rattle.pv_num.specs.declared.kinds.IntKind.TheVariants.{Int, Long}
 use Rattle.pv_num.specs.Kinds.{Fits}
 use Rattle.pv_num.specs.Arithmetic.{IsPromoted, yielded_kind}
 use Rattle.pv_types.specs.Ty.{Ty, VoidTy, IntTy, PointerTo}
-use Rattle.pv_layout.specs.Places.{bare}
+use Rattle.pv_layout.specs.Parts.{bare}
 use Rattle.pv_typed.specs.TypedUnits.{layouts}
 use Rattle.pv_world.specs.declared.got.How.{How}
 use Rattle.pv_world.specs.declared.got.How.TheVariants.{Rounds}
@@ -16,7 +16,7 @@ use Rattle.pv_eval.specs.TypeForms.{lvalue, size_of}
 use Rattle.pv_eval.specs.Conversions.{how_to}
 use Rattle.pv_eval.specs.Operations.{Op, Converts, Calculates, CalculatesOne, Tests, Negates, Accepts, Needs, Moves, Subtracts, Orders, Equals, Follows, Selects, TakesPart, Reads, Writes, NamesObject, NamesLiteral, NamesFunction, Asks}
 use Rattle.pv_libc.specs.declared.values.Arg.{Arg}
-use Rattle.pv_typed.specs.Children.{Each}
+use Rattle.pv_typed.specs.Known.{Each}
 use Rattle.pv_guards.specs.Typed.{IsSized, IsValueType, IsIntegerType, IsTag, MayBeRight, MayCast, IsResultOf, IsIn, IsInScope}
 use Rattle.pv_guards.specs.Fair.{IsArgument}
 use Rattle.pv_guards.specs.Soundness.{Value}

@@ -5,11 +5,11 @@ use Rattle.pv_num.specs.declared.kinds.IntKind.TheVariants.{Int}
 use Rattle.pv_num.specs.Arithmetic.{IsPromoted}
 use Rattle.pv_types.specs.Ty.{Ty, Tys, NoTys, MoreTys, IntTy, FunctionTy}
 use Rattle.pv_types.specs.Layouts.{layout_in, is_complete_in}
-use Rattle.pv_layout.specs.Places.{bare}
+use Rattle.pv_layout.specs.Parts.{bare}
 use Rattle.pv_typed.specs.declared.values.Const.{Const}
 use Rattle.pv_typed.specs.declared.values.Const.TheVariants as const
 use Rattle.pv_typed.specs.Addresses.{constant_of}
-use Rattle.pv_typed.specs.Children.{Each}
+use Rattle.pv_typed.specs.Known.{Each}
 use Rattle.pv_typed.specs.Mains.{main_of, named_main}
 use Rattle.pv_typed.specs.TypedTree.{TypedTree, type_of}
 use Rattle.pv_typed.specs.TypedStatement.{TypedStatement, Block, Declare, Expression, Empty, If, IfElse, Switch, Case, Default, While, DoWhile, For, ForDeclaration, Continue, Break, Return, Statements, NoStatements, MoreStatements}

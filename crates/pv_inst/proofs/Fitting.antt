@@ -10,7 +10,8 @@ use Rattle.std.proofs.lemmas.List.Quantifiers.{position-Some}
 use Rattle.pv_prov.specs.declared.names.Stands.{Stands}
 use Rattle.pv_inst.specs.declared.values.Instance.{Instance}
 use Rattle.pv_inst.specs.Finding.{reaches, begins, number_of, both_found, fitting}
-use Rattle.pv_inst.specs.Kept.{fits, AreAll, Apart, Disjoint, IsPlaced}
+use Rattle.pv_inst.specs.Kept.{fits, AreAll}
+use Rattle.pv_inst.specs.WellFormed.{Apart, Disjoint, IsPlaced}
 use Rattle.pv_inst.proofs.Rows.{IsRow, row_found}
 
 pub and_left : (a b : Bool) → (a && b) ≡ true → a ≡ true

@@ -14,8 +14,8 @@ use Rattle.pv_inst.specs.declared.values.Test.TheVariants.{Live, Range, Block, C
 use Rattle.pv_inst.specs.declared.values.Tried.{Tried}
 use Rattle.pv_inst.specs.declared.values.Miss.{Miss}
 use Rattle.pv_inst.specs.Table.{Table, IsMadeIn}
-use Rattle.pv_inst.specs.Use.{survives, any_survives, judged, if_two, use_answer, settled, tried_by}
-use Rattle.pv_inst.specs.Same.{CanKeep}
+use Rattle.pv_inst.specs.Use.{survives, any_survives, judged, if_two, use_answer, settled}
+use Rattle.pv_inst.specs.Answers.{tried_by, CanKeep}
 use Rattle.pv_inst.proofs.Together.{slice_get-set_here, or_cases}
 
 judged_ok : (zap : Bool) (xs : List Instance) (s : Stands) (pair : Option ℕ) (t : Test) (tried : Tried) → judged zap xs s pair t ≡ Ok tried → (any_survives zap xs s t ≡ true) × (tried ≡ record { pair = pair; low = survives zap xs s.low t; high = survives zap xs s.high t })

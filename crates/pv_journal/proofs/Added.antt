@@ -7,7 +7,8 @@ use Rattle.std.proofs.lemmas.Option.{slice_get_within, get_or_from_slice_get}
 use Rattle.pv_script.proofs.Named.{differs}
 use Rattle.std.specs.Prelude.{nat_eq}
 use Rattle.std.specs.Cmp.Lexicographic.{pointwise}
-use Rattle.pv_script.specs.Names.{name_at, with_text}
+use Rattle.pv_script.specs.Names.{name_at}
+use Rattle.pv_script.specs.Texts.{with_text}
 use Rattle.std.specs.Option.{option_map}
 use Rattle.pv_journal.specs.Journals.{Id}
 use Rattle.pv_journal.specs.Journals as fact

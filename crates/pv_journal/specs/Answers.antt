@@ -1,4 +1,4 @@
--- What a checker of journals answers.
+-- A bridge: what a checker of journals answers.
 use Rattle.std.specs.Prelude.{ℕ, List}
 use Rattle.pv_journal.specs.Obeying.{IsBad}
 use Rattle.pv_journal.specs.declared.error.JournalError.{JournalError}

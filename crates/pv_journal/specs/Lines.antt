@@ -1,4 +1,4 @@
--- Lines of a journal whose names go by their numbers, as rows.
+-- A bridge: lines of a journal whose names go by their numbers, as rows.
 use Rattle.std.specs.Prelude.{ℕ, ◌<◌, List, length, map, Option, Some, None}
 use Rattle.std.specs.Option.{option_map}
 use Rattle.pv_script.specs.Names.{name_at}

@@ -15,9 +15,10 @@ use Rattle.pv_inst.specs.declared.values.Miss.{Miss}
 use Rattle.pv_inst.specs.declared.values.Test.TheVariants.{Live}
 use Rattle.pv_inst.specs.Table.{Table, instance_at, IsMadeIn}
 use Rattle.pv_inst.specs.Use.{settled, if_two, survives, made_passes}
-use Rattle.pv_inst.specs.Same.{in_common, is_number, tried_beside, CanKeep, same_miss, same_state, after_same, after_left, same_left, same_right}
+use Rattle.pv_inst.specs.Same.{in_common, is_number, tried_beside, same_miss, same_state, after_same, after_left, same_left, same_right}
+use Rattle.pv_inst.specs.Answers.{CanKeep}
 use Rattle.pv_inst.specs.Infos.{base_of}
-use Rattle.pv_inst.specs.Kept.{HasMet}
+use Rattle.pv_inst.specs.WellFormed.{HasMet}
 use Rattle.pv_inst.proofs.Together.{Common, common_found, left_can, right_can}
 use Rattle.pv_watch.specs.declared.event.What.{What}
 use Rattle.pv_watch.specs.declared.event.What.TheVariants as what

@@ -4,7 +4,7 @@ use Rattle.std.specs.List.{filter}
 use Rattle.std.specs.declared.option.Option.{Option}
 use Rattle.std.proofs.lemmas.Bool.Decides.{nat_tests}
 use Rattle.pv_script.specs.Lines.{ScriptLine}
-use Rattle.pv_typed.specs.Children.{Each}
+use Rattle.pv_typed.specs.Known.{Each}
 use Rattle.pv_typed.specs.Tables.{Stored}
 use Rattle.pv_watch.specs.declared.event.Event.{Event}
 use Rattle.pv_world.specs.Worlds.{Worth}
@@ -14,7 +14,7 @@ use Rattle.pv_exec.specs.declared.outcome.Outcome.TheVariants as outcome
 use Rattle.pv_exec.specs.Growing.{IsFrom}
 use Rattle.pv_exec.specs.Laws.{run_at, IsUpto, IsCut}
 use Rattle.pv_exec.specs.Run.{outcome_of}
-use Rattle.pv_exec.specs.Streaming.{event_of}
+use Rattle.pv_exec.specs.Outlets.{event_of}
 use Rattle.pv_exec.proofs.Cutting.{cut-law, met-law}
 use Rattle.pv_exec.proofs.Reaching.{within-bound, all-taken}
 use Rattle.pv_journal_laws.specs.Runs.{is_upto}

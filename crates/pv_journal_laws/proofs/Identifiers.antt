@@ -8,7 +8,7 @@ use Rattle.std.specs.Char.{is_ascii_digit}
 use Rattle.std.specs.Cmp.Lexicographic.{pointwise}
 use Rattle.std.proofs.lemmas.Bool.{false≢true, and_from}
 use Rattle.pv_script.specs.Words.{is_identifier, is_letter as is_first, is_digit}
-use Rattle.pv_typed.specs.Children.{Each}
+use Rattle.pv_typed.specs.Known.{Each}
 use Rattle.pv_token.specs.declared.marks.Mark.{Mark}
 use Rattle.pv_token.specs.declared.words.Word.{Word}
 use Rattle.pv_token.specs.Said.{Said, Name, Text, Keyword, Number, Character, Punctuator, Spelt, as_char}

@@ -23,7 +23,8 @@ use Rattle.pv_inst.specs.declared.values.CreateError.TheVariants as error
 use Rattle.pv_inst.specs.Table.{Table, instance_at}
 use Rattle.pv_inst.specs.Use.{use_answer, settled}
 use Rattle.pv_inst.specs.Infos.{info_of}
-use Rattle.pv_inst.specs.Ending.{IsLive, ended}
+use Rattle.pv_inst.specs.Ending.{ended}
+use Rattle.pv_inst.specs.Answers.{IsLive}
 use Rattle.pv_inst.specs.Placing.{Request, place}
 use Rattle.pv_shadow.specs.declared.byte.Byte.{Byte}
 use Rattle.pv_shadow.specs.Bytes.{read}

@@ -8,8 +8,7 @@ use Rattle.std.proofs.lemmas.Slice.Eq.{bytes_eq-Decides}
 use Rattle.pv_script.specs.Words.{is_name, is_identifier}
 use Rattle.pv_script.specs.Names.{name_at as text_of}
 use Rattle.pv_tree.specs.Syntax.{DeclarationTree}
-use Rattle.pv_typed.specs.Children.{Each}
-use Rattle.pv_typed.specs.Formed.{AreKnown}
+use Rattle.pv_typed.specs.Known.{Each, AreKnown}
 use Rattle.pv_typed.specs.Mains.{literal_text, heap_text}
 use Rattle.pv_typed.specs.Tables.{Stored, whole}
 use Rattle.pv_typed.specs.TypedUnits.{WholeUnit, TypedObject, TypedFunction}

@@ -6,7 +6,7 @@ use Rattle.std.proofs.lemmas.Bool.Decides.{nat_tests}
 use Rattle.std.proofs.lemmas.Option.{same_Some}
 use Rattle.std.specs.List.{slice_get}
 use Rattle.std.specs.Option.{option_map, option_and_then}
-use Rattle.pv_typed.specs.Children.{Each}
+use Rattle.pv_typed.specs.Known.{Each}
 use Rattle.pv_watch.specs.declared.event.Event.{Event}
 use Rattle.pv_watch.specs.declared.event.What.{What}
 use Rattle.pv_watch.specs.declared.event.What.TheVariants as what
@@ -14,7 +14,7 @@ use Rattle.pv_watch.specs.declared.event.Verdict.{Verdict}
 use Rattle.pv_world.specs.Telling.{fault_of}
 use Rattle.pv_world.specs.declared.failing.Blame.{Blame}
 use Rattle.pv_eval.specs.Acting.{stamped}
-use Rattle.pv_exec.specs.Streaming.{event_of}
+use Rattle.pv_exec.specs.Outlets.{event_of}
 use Rattle.pv_journal.specs.Journals.{Id, Fact, Made, Ended, Exposed, Paired, Used, Fault}
 use Rattle.pv_journal_laws.specs.Runs.{FitsLine}
 use Rattle.pv_journal.specs.Obeying.{Held, Bond, State, after, after_fact, may_make, may_pair, end_at, expose_at, at_held, with_held, place_of, use_at, keeping, left_of, may_leave}

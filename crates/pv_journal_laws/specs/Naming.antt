@@ -3,7 +3,7 @@
 use Rattle.std.specs.Prelude.{◌≡◌, ◌<◌, ℕ, true, List, length, codes}
 use Rattle.pv_script.specs.Words.{is_name}
 use Rattle.pv_script.specs.Names.{name_at as text_of}
-use Rattle.pv_typed.specs.Children.{Each}
+use Rattle.pv_typed.specs.Known.{Each}
 use Rattle.pv_typed.specs.TypedUnits.{WholeUnit, TypedObject, TypedFunction}
 
 -- the number is that of a text, and that is a name which instances may have (6.2.1, 6.4.5p6, 7.22.3)

@@ -12,7 +12,7 @@ use Rattle.pv_eval.specs.States.{State, Res, end_of}
 use Rattle.pv_exec.specs.declared.outcome.Outcome.TheVariants as outcome
 use Rattle.pv_exec.specs.Run.{outcome_of}
 use Rattle.pv_exec.specs.Laws.{run_at}
-use Rattle.pv_exec.specs.Streaming.{event_of}
+use Rattle.pv_exec.specs.Outlets.{event_of}
 use Rattle.pv_journal.specs.Journals.{Row}
 use Rattle.pv_journal.specs.Obeying.{IsJournal}
 

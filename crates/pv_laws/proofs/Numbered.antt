@@ -6,7 +6,7 @@ use Rattle.pv_script.specs.Lines.{ScriptLine}
 use Rattle.pv_prov.specs.declared.pairs.Twin.{Twin}
 use Rattle.pv_inst.specs.declared.values.Instance.{Instance}
 use Rattle.pv_inst.specs.Table.{Table, instance_at}
-use Rattle.pv_inst.specs.Kept.{Apart, IsWellFormed}
+use Rattle.pv_inst.specs.WellFormed.{Apart, IsWellFormed}
 use Rattle.pv_inst.proofs.Rows.{row_found}
 use Rattle.pv_typed.specs.Tables.{Stored}
 use Rattle.pv_eval.specs.States.{end_of}

@@ -3,7 +3,7 @@
 ghost use Rattle.std.specs.Prelude.{ℕ, ◌≤◌, Bool, List};
 ghost use Rattle.std.specs.declared.option.Option.{Option};
 ghost use Rattle.pv_script.specs.Lines.{ScriptLine};
-ghost use Rattle.pv_inst.specs.Kept.{IsWellFormed};
+ghost use Rattle.pv_inst.specs.WellFormed.{IsWellFormed};
 ghost use Rattle.pv_typed.specs.Tables.{Stored};
 ghost use Rattle.pv_eval.specs.States.{end_of};
 ghost use Rattle.pv_exec.specs.Laws.{run_at};

@@ -3,10 +3,10 @@ use Rattle.std.proofs.Common.{◌≡◌, ℕ, suc, ◌<◌, Bool, false, ◌&&�
 use Rattle.pv_types.specs.Ty.{Ty, VoidTy, IntTy, PointerTo, ArrayOf, StructTag, UnionTag, FunctionTy, ConstOf}
 use Rattle.pv_types.specs.Qualifiers.{is_const}
 use Rattle.pv_types.specs.Layouts.{Entry, layout_in, is_complete_in, part_count}
-use Rattle.pv_types.specs.Known.{Known, tree, env, IsBuilt}
+use Rattle.pv_types.specs.Known.{Known, tree, env}
+use Rattle.pv_types.specs.Formed.{IsBuilt}
 use Rattle.pv_types.proofs.Wholes.{inner_parts, BeginsWhole, begins_whole}
-use Rattle.pv_layout.specs.Places.{bare}
-use Rattle.pv_layout.specs.Parts.{some_at}
+use Rattle.pv_layout.specs.Parts.{bare, some_at}
 use Rattle.pv_layout.specs.declared.wanted.Sought.{Sought}
 use Rattle.pv_layout.specs.declared.wanted.Sought.TheVariants.{Leaf, Part as Whole}
 use Rattle.pv_layout.specs.Searches.{passes}

@@ -6,9 +6,11 @@ use Rattle.pv_lex.specs.declared.pieces.Fault.TheVariants as fault
 use Rattle.pv_lex.specs.Pieces.{Piece, End, Bad, Here}
 use Rattle.pv_lex.specs.Stands.{stands}
 use Rattle.pv_lex.specs.Rows.{Place, start, behind_piece, Row, spelt, spelt_here}
-use Rattle.pv_token.specs.Table.{Table, Tells, Adds}
+use Rattle.pv_token.specs.Table.{Table, Tells}
+use Rattle.pv_token.specs.Kept.{Adds}
 use Rattle.pv_lex.specs.Lexes.{Lexes}
-use Rattle.pv_lex.specs.Faults.{LexFault, error_of}
+use Rattle.pv_lex.specs.Faults.{LexFault}
+use Rattle.pv_lex.specs.Views.{error_of}
 
 row_more : (p q : Place) (xs : List Piece) (x : Piece) → Row p xs q → stands q.fresh q.text ≡ Here x → Row p (xs ++ x ∷ []) (behind_piece x q)
 row_more p q [] x row here = (subst (λ (r : Place). stands r.fresh r.text ≡ Here x) (sym row) here, ap (behind_piece x) row)

@@ -6,7 +6,8 @@ use Rattle.pv_lex.specs.Stands.{stands}
 use Rattle.pv_lex.specs.Rows.{Place, start, behind_piece, Row, spelt}
 use Rattle.pv_token.specs.Table.{Table, Tells}
 use Rattle.pv_lex.specs.Lexes.{Lexes}
-use Rattle.pv_lex.specs.Faults.{FaultAt, LexFault, error_of}
+use Rattle.pv_lex.specs.Faults.{FaultAt, LexFault}
+use Rattle.pv_lex.specs.Views.{error_of}
 use Rattle.pv_lex.specs.declared.pieces.Fault.TheVariants as fault
 use Rattle.pv_lex.specs.declared.error.LexError.{LexError}
 use Rattle.pv_lex.specs.declared.error.LexError.TheVariants as error

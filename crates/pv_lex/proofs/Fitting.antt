@@ -10,8 +10,9 @@ use Rattle.pv_token.specs.Said.{Said, Keyword, Name, Number, Character, Text, Pu
 use Rattle.pv_lex.specs.Pieces.{What, White, Comment, Marker, Spelling, Piece, Bad}
 use Rattle.pv_lex.specs.Stands.{stands}
 use Rattle.pv_lex.specs.Rows.{Place, start, behind_piece, Row, spelt, spelt_here}
-use Rattle.pv_token.specs.Table.{Table, HasRoom, Tells, spelt_of, with_name, names_with, names_from, text_of, texts_of}
-use Rattle.pv_lex.specs.Faults.{error_of, LiesWithin}
+use Rattle.pv_token.specs.Table.{Table, Tells, spelt_of, with_name, names_with, names_from, text_of, texts_of}
+use Rattle.pv_token.specs.Kept.{HasRoom}
+use Rattle.pv_lex.specs.Views.{error_of, LiesWithin}
 use Rattle.pv_lex.proofs.Moving.{Within, moves_stands}
 use Rattle.pv_lex.proofs.Cutting.{Cut}
 

@@ -1,11 +1,12 @@
 //! From the bytes of a source to its tokens.
 ghost use Rattle.std.specs.Prelude.{◌≡◌, ◌++◌, [], Bool, ◌≤◌, ◌<◌, ◌^◌, length, IfOk, OnOk, IfErr, List, ℕ, ◌⊎◌, true, false, Some, slice_get, slice_index, nat_eq};
 ghost use Rattle.pv_lex.specs.Rows.{Place, Row, start, bytes_of_row, line_behind, fresh_behind, spelt_here};
-ghost use Rattle.pv_token.specs.Table.{Table, HasRoom, KnowsAll, Adds};
+ghost use Rattle.pv_token.specs.Table.{Table};
+ghost use Rattle.pv_token.specs.Kept.{HasRoom, KnowsAll, Adds};
 ghost use Rattle.pv_lex.specs.Lexes.{Lexes};
 ghost use Rattle.pv_lex.specs.declared.error.LexError.{LexError};
-ghost use Rattle.pv_lex.specs.Faults.{LexFault, LiesWithin, IsFaultOf, HasBadByte, error_of};
-ghost use Rattle.pv_lex.specs.Views.{what_of};
+ghost use Rattle.pv_lex.specs.Faults.{LexFault, IsFaultOf, HasBadByte};
+ghost use Rattle.pv_lex.specs.Views.{LiesWithin, error_of, what_of};
 ghost use Rattle.pv_lex.specs.Pieces.{Piece, Here};
 ghost use Rattle.pv_lex.specs.Stands.{stands};
 ghost use Rattle.pv_lex.specs.Spellings.{IsSpelling, IsLongest};

@@ -6,7 +6,7 @@ ghost use Rattle.pv_lex.specs.Tables.{row_of};
 ghost use Rattle.pv_lex.specs.Pieces.{or_bad};
 ghost use Rattle.pv_lex.specs.Views.{stand_of};
 ghost use Rattle.pv_lex.specs.Constants.{suffixes, digit_value, value_from, number_of, constant_of, number_at, sized};
-ghost use Rattle.pv_token.specs.Said.{said_of};
+ghost use Rattle.pv_token.specs.Views.{said_of};
 
 use crate::bytes::{Class, run};
 use crate::pieces::{Fault, Found, Standing};

@@ -19,7 +19,8 @@ use Rattle.pv_inst.specs.declared.values.CreateError.TheVariants as error
 use Rattle.pv_inst.specs.Table.{Table, instance_at}
 use Rattle.pv_inst.specs.Use.{use_answer, settled}
 use Rattle.pv_inst.specs.Infos.{info_of}
-use Rattle.pv_inst.specs.Ending.{IsLive, ended}
+use Rattle.pv_inst.specs.Ending.{ended}
+use Rattle.pv_inst.specs.Answers.{IsLive}
 use Rattle.pv_inst.specs.Placing.{Request, place}
 use Rattle.pv_object.specs.declared.values.Pointer.{Pointer}
 use Rattle.pv_object.specs.declared.values.Stop.{Stop}
@@ -34,7 +35,8 @@ use Rattle.pv_libc.specs.declared.values.Note.TheVariants.{Made, Ended, Exposed,
 use Rattle.pv_libc.specs.declared.values.Given.{Given}
 use Rattle.pv_libc.specs.declared.values.Reply.{Reply}
 use Rattle.pv_libc.specs.declared.values.Reply.TheVariants as reply
-use Rattle.pv_libc.specs.Steps.{Now, Did, done, next_by, with_notes, about_by, OrNoMemory}
+use Rattle.pv_libc.specs.Steps.{Now, Did, done, next_by, with_notes, about_by}
+use Rattle.pv_libc.specs.Answers.{OrNoMemory}
 use Rattle.pv_libc.specs.Heap.{told_of, heap_request, granted, requested, allocated, malloc, zeroed, cleared, calloc, block_in, the_block, block_answer, block_by, block, freed, free, both, moved, resized, realloc, null}
 use Rattle.pv_libc.specs.Printing.{format_of}
 use Rattle.pv_libc.specs.Calls.{argument_at, pointer, number, size, printed, printf, called_in, called}

@@ -2,7 +2,7 @@
 use Rattle.std.proofs.Common.{◌≡◌, List, map, drop, All, sym, subst}
 use Rattle.std.proofs.lemmas.List.Elements.{All-map, All-drop}
 use Rattle.pv_object.specs.Memory.{Mem}
-use Rattle.pv_object.specs.Values.{IsMadeValue}
+use Rattle.pv_object.specs.Answers.{IsMadeValue}
 use Rattle.pv_libc.specs.declared.values.Arg.{Arg}
 use Rattle.pv_libc.specs.declared.values.Offered.{Offered}
 use Rattle.pv_libc.specs.Calls.{offer}

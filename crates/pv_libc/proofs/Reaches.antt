@@ -5,11 +5,11 @@ use Rattle.pv_inst.specs.declared.values.Instance.{Instance}
 use Rattle.pv_inst.specs.declared.values.Info.{Info}
 use Rattle.pv_inst.specs.Table.{Table, instance_at}
 use Rattle.pv_inst.specs.Infos.{info_of}
-use Rattle.pv_inst.specs.Ending.{IsLive}
-use Rattle.pv_inst.specs.Kept.{IsWellFormed}
+use Rattle.pv_inst.specs.Answers.{IsLive}
+use Rattle.pv_inst.specs.WellFormed.{IsWellFormed}
 use Rattle.pv_inst.specs.Use.{untried}
 use Rattle.pv_object.specs.declared.values.Reach.{Reach}
-use Rattle.pv_object.specs.Memory.{IsReach, IsReachIn}
+use Rattle.pv_object.specs.Reaching.{IsReach, IsReachIn}
 
 bound_in : (o : Option Instance) (T : Table) (r : Reach) (n : ℕ) → IsWellFormed T → instance_at T.instances r.inst ≡ o → IsReachIn o r n → r.address + n ≤ 2 ^ 47
 bound_in None T r n w e h = absurd h

@@ -7,7 +7,8 @@ use Rattle.pv_object.specs.declared.values.Value.TheVariants as value
 use Rattle.pv_libc.specs.declared.values.Given.{Given}
 use Rattle.pv_libc.specs.declared.values.Reply.{Reply}
 use Rattle.pv_libc.specs.declared.values.Reply.TheVariants as reply
-use Rattle.pv_libc.specs.Steps.{Now, Did, done, next, OrNoMemory}
+use Rattle.pv_libc.specs.Steps.{Now, Did, done, next}
+use Rattle.pv_libc.specs.Answers.{OrNoMemory}
 use Rattle.pv_libc.specs.Characters.{character_in, character_at, characters_from, string_from}
 use Rattle.pv_libc.specs.Blocks.{sign_of}
 use Rattle.pv_libc.specs.Strings.{compared_by, compared_from}

@@ -9,8 +9,8 @@ use Rattle.pv_libc.specs.declared.values.Note.{Note}
 use Rattle.pv_libc.specs.declared.values.Given.{Given}
 use Rattle.pv_libc.specs.declared.values.Reply.{Reply}
 use Rattle.pv_libc.specs.Heap.{block, realloc, resized, malloc}
-use Rattle.pv_libc.specs.Steps.{Now, Did, next, next_by, with_notes, OrNoMemory}
-use Rattle.pv_libc.specs.Calls.{behind}
+use Rattle.pv_libc.specs.Steps.{Now, Did, next, next_by, with_notes}
+use Rattle.pv_libc.specs.Answers.{OrNoMemory, behind}
 
 -- equations are enough
 pub or_is : {A : Type 0} (r : Result A Stop) (S : Now) (d : Did A) → r ≡ d.answer → S ≡ d.after → OrNoMemory r S d

@@ -1,5 +1,5 @@
 -- A call of a library function: its reply, the memory after it, and what it prints.
-use Rattle.std.specs.Prelude.{ℕ, ℤ, pos, List, [], ◌++◌, drop, length, map, slice_get, Option, None, Some, Result, Ok, Err, if◌then◌else◌}
+use Rattle.std.specs.Prelude.{ℕ, ℤ, pos, List, [], drop, length, map, slice_get, Option, None, Some, Result, Ok, Err, if◌then◌else◌}
 use Rattle.pv_num.specs.declared.kinds.IntKind.TheVariants.{Int, ULong}
 use Rattle.pv_num.specs.Kinds.{bits_of, convert_of, fits_of}
 use Rattle.pv_prov.specs.declared.names.Prov.{Prov}
@@ -127,7 +127,3 @@ output_in _ a S = []
 -- 7.21.6.3p2: the bytes that a call prints
 abbrev pub output : Library → List Arg → Mem → List ℕ
 output f args M = output_in f args (with_notes M [])
-
--- the same, with its notes behind those that there were
-abbrev pub behind : {A : Type 0} → List Note → Did A → Did A
-behind before d = record d { after = record d.after { notes = before ++ d.after.notes } }

@@ -1,3 +1,4 @@
+pub mod Answers
 pub mod Steps
 pub mod Characters
 pub mod Blocks

@@ -1,7 +1,7 @@
--- What a call makes is there when it ends (C17 7.22.3p1: an allocation lives until it is deallocated).
+-- A bridge: what a call makes is there when it ends (C17 7.22.3p1: an allocation lives until it is deallocated).
 use Rattle.std.specs.Prelude.{List, All, Result, Err}
 use Rattle.pv_inst.specs.declared.values.Instance.{Instance}
-use Rattle.pv_inst.specs.Ending.{IsLive}
+use Rattle.pv_inst.specs.Answers.{IsLive}
 use Rattle.pv_object.specs.declared.values.Stop.{Stop}
 use Rattle.pv_object.specs.declared.values.Stop.TheVariants.{NoMemory}
 use Rattle.pv_object.specs.Memory.{Mem}

@@ -1,5 +1,5 @@
 -- A step of a call, and one step behind another.
-use Rattle.std.specs.Prelude.{◌≡◌, ℕ, ◌+◌, ◌-◌, ◌^◌, min, Bool, List, [], ◌∷◌, ◌++◌, map, Option, None, Some, Result, Ok, Err}
+use Rattle.std.specs.Prelude.{ℕ, ◌+◌, ◌-◌, ◌^◌, min, Bool, List, [], ◌∷◌, ◌++◌, map, Option, None, Some, Result, Ok, Err}
 use Rattle.pv_inst.specs.declared.values.Tried.{Tried}
 use Rattle.pv_inst.specs.declared.values.Miss.{Miss}
 use Rattle.pv_inst.specs.declared.values.Test.TheVariants.{Range}
@@ -7,7 +7,6 @@ use Rattle.pv_inst.specs.Table.{Table}
 use Rattle.pv_inst.specs.Use.{use_answer}
 use Rattle.pv_object.specs.declared.values.Reach.{Reach}
 use Rattle.pv_object.specs.declared.values.Stop.{Stop}
-use Rattle.pv_object.specs.declared.values.Stop.TheVariants.{NoMemory}
 use Rattle.pv_object.specs.declared.values.Asker.{Asker}
 use Rattle.pv_object.specs.Memory.{Mem, with_table}
 use Rattle.pv_object.specs.Access.{reach}
@@ -98,13 +97,3 @@ reached by write g n S = about g.stopped (reached_by by write g n S (reach S.mem
 -- 6.5.6p8: the pointer so many bytes further on; where there is no such address, the last one, which lies in no instance
 abbrev pub further : Given → ℕ → Given
 further g i = record g { pointer = record g.pointer { address = min (g.pointer.address + i) (2 ^ 64 - 1) } }
-
--- this answer, and this is left; or no memory was had, and nothing is said
-abbrev pub OrNoMemory : {A : Type 0} → Result A Stop → Now → Did A → Type 0
-OrNoMemory (Err NoMemory) S wanted = Unit {0}
-OrNoMemory r S wanted = (r ≡ wanted.answer) × (S ≡ wanted.after)
-
--- an answer that is worth another one
-abbrev pub worth : {A B : Type 0} → (A → B) → Result A Stop → Result B Stop
-worth f (Ok a) = Ok (f a)
-worth f (Err stop) = Err stop

@@ -1,14 +1,15 @@
 // Functions on ranges of bytes (7.24.2.1, 7.24.2.2, 7.24.4.1, 7.24.6.1).
 ghost use Rattle.std.specs.Prelude.{◌≡◌, ◌+◌, [], ◌∷◌, ◌++◌, map, length};
 ghost use Rattle.pv_inst.specs.Table.{IsMadeIn};
-ghost use Rattle.pv_object.specs.Memory.{IsReach};
+ghost use Rattle.pv_object.specs.Reaching.{IsReach};
 ghost use Rattle.pv_object.specs.Later.{IsLater};
 ghost use Rattle.pv_object.specs.Storing.{with_bytes};
 ghost use Rattle.pv_object.specs.declared.values.Value.TheVariants as value;
 ghost use Rattle.pv_libc.specs.declared.values.Reply.TheVariants as reply;
 ghost use Rattle.pv_libc.specs.Blocks.{filled, share, plain_byte, copy, memset, memcmp, difference};
 ghost use Rattle.pv_libc.specs.Characters.{characters_from};
-ghost use Rattle.pv_libc.specs.Steps.{with_notes, OrNoMemory, worth};
+ghost use Rattle.pv_libc.specs.Steps.{with_notes};
+ghost use Rattle.pv_libc.specs.Answers.{OrNoMemory, worth};
 
 use crate::characters::character_in;
 use crate::notes::{reached, undefined};

@@ -4,13 +4,14 @@ ghost use Rattle.pv_num.specs.Kinds.{convert_of};
 ghost use Rattle.pv_num.specs.declared.kinds.IntKind.TheVariants as kind;
 ghost use Rattle.pv_script.specs.Names.{name_at as text_of};
 ghost use Rattle.pv_inst.specs.Table.{IsMadeIn};
-ghost use Rattle.pv_object.specs.Values.{IsMadeValue};
+ghost use Rattle.pv_object.specs.Answers.{IsMadeValue};
 ghost use Rattle.pv_object.specs.declared.values.Value.TheVariants as value;
 ghost use Rattle.pv_libc.specs.declared.values.Reply.TheVariants as reply;
-ghost use Rattle.pv_libc.specs.Steps.{with_notes, OrNoMemory, worth};
+ghost use Rattle.pv_libc.specs.Steps.{with_notes};
+ghost use Rattle.pv_libc.specs.Answers.{OrNoMemory, worth, behind};
 ghost use Rattle.pv_libc.specs.Makings.{AreLive, UnlessNoMemory};
 ghost use Rattle.pv_script.specs.declared.library.Library.TheVariants as library;
-ghost use Rattle.pv_libc.specs.Calls.{number, size, status, pointer_in, stopped, argument_at, offer, printed, called, called_in, output, output_in, behind};
+ghost use Rattle.pv_libc.specs.Calls.{number, size, status, pointer_in, stopped, argument_at, offer, printed, called, called_in, output, output_in};
 
 use crate::blocks::{copy, memcmp, memset};
 use crate::heap::{calloc, free, malloc, realloc};

@@ -1,9 +1,10 @@
 // Characters as the library reads them: checked one by one, and what a read exposes is noted at once.
 ghost use Rattle.std.specs.Prelude.{◌≡◌, ◌<◌, length, IfOk};
 ghost use Rattle.pv_inst.specs.Table.{IsMadeIn};
-ghost use Rattle.pv_object.specs.Memory.{IsReach};
+ghost use Rattle.pv_object.specs.Reaching.{IsReach};
 ghost use Rattle.pv_object.specs.Later.{IsLater};
-ghost use Rattle.pv_libc.specs.Steps.{further, with_notes, OrNoMemory, worth};
+ghost use Rattle.pv_libc.specs.Steps.{further, with_notes};
+ghost use Rattle.pv_libc.specs.Answers.{OrNoMemory, worth};
 ghost use Rattle.pv_libc.specs.Characters.{character_in, character_at, most, string_at};
 
 use crate::notes::{clause_of, note_exposed, reached, undefined};

@@ -2,7 +2,7 @@
 ghost use Rattle.std.specs.Prelude.{◌≡◌, ℕ, ◌<◌, [], ◌∷◌, ◌++◌, length, codes, IfOk, OnOk};
 ghost use Rattle.pv_script.specs.Names.{name_at as text_of};
 ghost use Rattle.pv_inst.specs.Table.{IsMadeIn};
-ghost use Rattle.pv_inst.specs.Ending.{IsLive};
+ghost use Rattle.pv_inst.specs.Answers.{IsLive};
 ghost use Rattle.pv_inst.specs.Infos.{info_of};
 ghost use Rattle.pv_inst.specs.Use.{untried, use_answer, settled};
 ghost use Rattle.pv_inst.specs.declared.values.Test.TheVariants.{Block};
@@ -10,7 +10,8 @@ ghost use Rattle.pv_object.specs.Memory.{with_table};
 ghost use Rattle.pv_object.specs.Creating.{without};
 ghost use Rattle.pv_libc.specs.declared.values.Note.TheVariants.{Ended};
 ghost use Rattle.pv_object.specs.Access.{chosen};
-ghost use Rattle.pv_libc.specs.Steps.{with_notes, OrNoMemory};
+ghost use Rattle.pv_libc.specs.Steps.{with_notes};
+ghost use Rattle.pv_libc.specs.Answers.{OrNoMemory};
 ghost use Rattle.pv_libc.specs.Heap.{told_of, block_stop, block_answer, pointer_to, requested, block, malloc, calloc, free, realloc, resized, both};
 ghost use Rattle.pv_libc.specs.Blocks.{filled};
 

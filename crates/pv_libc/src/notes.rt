@@ -2,10 +2,11 @@
 ghost use Rattle.std.specs.Prelude.{◌≡◌, ◌++◌, OnOk, IfOk};
 ghost use Rattle.pv_inst.specs.Table.{IsMadeIn};
 ghost use Rattle.pv_inst.specs.Use.{use_answer};
-ghost use Rattle.pv_object.specs.Memory.{IsReach};
+ghost use Rattle.pv_object.specs.Reaching.{IsReach};
 ghost use Rattle.pv_object.specs.Access.{fault, clause_of};
 ghost use Rattle.pv_object.specs.Later.{IsLater};
-ghost use Rattle.pv_libc.specs.Steps.{used, told, reached, with_notes, OrNoMemory};
+ghost use Rattle.pv_libc.specs.Steps.{used, told, reached, with_notes};
+ghost use Rattle.pv_libc.specs.Answers.{OrNoMemory};
 
 use crate::values::{Given, Note};
 use pv_inst::{Test, Tried};

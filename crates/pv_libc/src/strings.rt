@@ -1,7 +1,8 @@
 // Functions on strings (7.24.2.3, 7.24.4.2, 7.24.6.3).
 ghost use Rattle.std.specs.Prelude.{◌≡◌};
 ghost use Rattle.pv_inst.specs.Table.{IsMadeIn};
-ghost use Rattle.pv_libc.specs.Steps.{with_notes, OrNoMemory};
+ghost use Rattle.pv_libc.specs.Steps.{with_notes};
+ghost use Rattle.pv_libc.specs.Answers.{OrNoMemory};
 ghost use Rattle.pv_object.specs.declared.values.Value.TheVariants as value;
 ghost use Rattle.pv_libc.specs.declared.values.Reply.TheVariants as reply;
 ghost use Rattle.pv_libc.specs.Blocks.{sign_of};

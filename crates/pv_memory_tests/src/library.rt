@@ -1,6 +1,6 @@
 // Calls of the library.
 ghost use Rattle.std.specs.Prelude.{◌↔◌, IsTrue, All};
-ghost use Rattle.pv_object.specs.Values.{IsMadeValue};
+ghost use Rattle.pv_object.specs.Answers.{IsMadeValue};
 
 use crate::scripts::names;
 use pv_libc::{Arg, Note, Reply, Shape, call};

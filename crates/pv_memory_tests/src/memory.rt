@@ -3,7 +3,7 @@ ghost use Rattle.std.specs.Prelude.{◌≡◌};
 ghost use Rattle.pv_inst.specs.Table.{IsMadeIn};
 ghost use Rattle.pv_object.specs.Encoding.{size_of};
 ghost use Rattle.pv_object.specs.Later.{IsLater};
-ghost use Rattle.pv_object.specs.Memory.{IsReach};
+ghost use Rattle.pv_object.specs.Reaching.{IsReach};
 
 use crate::scripts::{names, neighbours};
 use pv_inst::Kind;

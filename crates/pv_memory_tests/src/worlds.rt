@@ -1,6 +1,6 @@
 // The objects of a run, and values that are read from them and stored there.
 ghost use Rattle.pv_inst.specs.Table.{IsMadeIn};
-ghost use Rattle.pv_world.specs.Accesses.{HasSizeOf};
+ghost use Rattle.pv_world.specs.Preconditions.{HasSizeOf};
 ghost use Rattle.pv_world.specs.Coming.{worth_of, IsMadeWorth};
 
 use crate::memory::FIRST;

@@ -7,7 +7,8 @@ use Rattle.pv_num.specs.declared.kinds.IntKind.{IntKind}
 use Rattle.pv_num.specs.declared.kinds.IntKind.TheVariants.{Bool as BoolKind, Char, SChar, UChar, Short, UShort, Int, UInt, Long, ULong, LLong, ULLong}
 use Rattle.std.proofs.Math.IntN.{suc_ℤ, suc_ℤ-*ℤ}
 use Rattle.std.proofs.lemmas.Nat.{pow_pos}
-use Rattle.pv_num.specs.Kinds.{Fits, width, is_signed, convert_of, truth_of, bits_of, modulus_of, from_bits_of, IsCongruent, IsConversion}
+use Rattle.pv_num.specs.Kinds.{Fits, width, is_signed, convert_of, truth_of, bits_of, modulus_of, from_bits_of}
+use Rattle.pv_num.specs.Operands.{IsCongruent, IsConversion}
 
 convert_fits : (k : IntKind) (n : ℤ) → Fits k (convert_of k n)
 convert_fits BoolKind (pos zero) = grind (arith, ints)

@@ -1,5 +1,5 @@
 -- The operators of 6.5.3.3 and 6.5.5 to 6.5.12 on whole numbers: a number, or the fault.
-use Rattle.std.specs.Prelude.{ℕ, ◌-◌, ◌^◌, ◌≤◌, Bool, true, false, not, ◌&&◌, if◌then◌else◌, ℤ, pos, neg_ℤ, ◌-ℤ◌, ◌+ℤ◌, ◌*ℤ◌, ◌≤ℤ◌, unsigned_abs, int_le, int_lt, int_div, int_rem, bit_and, bit_or, bit_xor, Ok, Err}
+use Rattle.std.specs.Prelude.{ℕ, ◌-◌, ◌^◌, ◌≤◌, Bool, true, false, not, ◌&&◌, if◌then◌else◌, ℤ, pos, neg_ℤ, ◌-ℤ◌, ◌+ℤ◌, ◌*ℤ◌, unsigned_abs, int_le, int_lt, int_div, int_rem, bit_and, bit_or, bit_xor, Ok, Err}
 use Rattle.std.specs.Int.{int_div_euclid}
 use Rattle.std.specs.Ordering.{int_eq}
 use Rattle.std.specs.declared.result.Result.{Result}
@@ -12,7 +12,7 @@ use Rattle.pv_num.specs.declared.operators.UnOp.TheVariants.{Plus, Minus, Flip}
 use Rattle.pv_num.specs.declared.faults.Fault.{Fault}
 use Rattle.pv_num.specs.declared.faults.Clause.TheVariants.{Exceptions, ZeroDivisors, Quotients, ShiftCounts, LeftShifts}
 use Rattle.pv_num.specs.declared.faults.Reason.TheVariants.{Overflow, Divide, Quotient, Count, Shift}
-use Rattle.pv_num.specs.Kinds.{width, is_signed, modulus_of, fits_of, bits_of, from_bits_of, Fits}
+use Rattle.pv_num.specs.Kinds.{width, is_signed, modulus_of, fits_of, bits_of, from_bits_of}
 
 -- 6.3.1.1p2: the kinds that the integer promotions leave as they are
 abbrev pub IsPromoted : IntKind → Type 0
@@ -131,9 +131,3 @@ yielded_kind Ge k = Int
 yielded_kind Eq k = Int
 yielded_kind Ne k = Int
 yielded_kind _ k = k
-
--- 6.5.5 to 6.5.12: what the right operand may be: a member of the kind, and for a shift (6.5.7p3) a member of any promoted kind
-abbrev pub IsOperand : BinOp → IntKind → ℤ → Type 0
-IsOperand Shl k b = (neg_ℤ (pos (2 ^ 63)) ≤ℤ b) × (b ≤ℤ pos (2 ^ 64 - 1))
-IsOperand Shr k b = (neg_ℤ (pos (2 ^ 63)) ≤ℤ b) × (b ≤ℤ pos (2 ^ 64 - 1))
-IsOperand _ k b = Fits k b

@@ -1,5 +1,5 @@
 -- Integer kinds: their widths, their members, and conversion to them.
-use Rattle.std.specs.Prelude.{◌≡◌, ◌↔◌, ℕ, zero, ◌-◌, ◌/◌, ◌^◌, Bool, true, false, ◌&&◌, if◌then◌else◌, nat_le, ℤ, pos, neg_ℤ, ◌-ℤ◌, ◌+ℤ◌, ◌*ℤ◌, ◌≤ℤ◌, unsigned_abs, int_le}
+use Rattle.std.specs.Prelude.{ℕ, zero, ◌-◌, ◌/◌, ◌^◌, Bool, true, false, ◌&&◌, if◌then◌else◌, nat_le, ℤ, pos, neg_ℤ, ◌-ℤ◌, ◌≤ℤ◌, unsigned_abs, int_le}
 use Rattle.std.specs.Int.{int_rem_euclid}
 use Rattle.pv_num.specs.declared.kinds.IntKind.{IntKind}
 use Rattle.pv_num.specs.declared.kinds.IntKind.TheVariants.{Bool as BoolKind, Char, SChar, UChar, Short, UShort, Int, UInt, Long, ULong, LLong, ULLong}
@@ -72,17 +72,3 @@ truth_of _ = pos 1
 abbrev pub convert_of : IntKind → ℤ → ℤ
 convert_of BoolKind n = truth_of n
 convert_of k n = from_bits_of k (bits_of k n)
-
--- 6.3.1.3p2: m and n differ by a multiple of d
-abbrev pub IsCongruent : ℕ → ℤ → ℤ → Type 0
-IsCongruent d m n = (q : ℤ) × (m ≡ n +ℤ q *ℤ pos d)
-
--- 6.3.1.2 and 6.3.1.3: what a member of the kind has to be in order to be n converted: at `_Bool` zero exactly
--- for zero, else congruent to n modulo 2 ^ width
-abbrev pub IsConversion : IntKind → ℤ → ℤ → Type 0
-IsConversion BoolKind n m = (m ≡ pos 0) ↔ (n ≡ pos 0)
-IsConversion k n m = IsCongruent (modulus_of k) n m
-
--- 6.3.1.3p1: the numbers that may be converted, which every operand and every difference of two addresses is among
-abbrev pub IsConvertible : ℤ → Type 0
-IsConvertible n = (neg_ℤ (pos (2 ^ 64)) ≤ℤ n) × (n ≤ℤ pos (2 ^ 64))

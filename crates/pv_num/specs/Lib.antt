@@ -1,3 +1,4 @@
 pub mod Arithmetic
 pub mod Kinds
+pub mod Operands
 pub mod Texts

@@ -1,6 +1,7 @@
 // Integer kinds: what fits them, and conversion to them.
 ghost use Rattle.std.specs.Prelude.{◌≡◌, ◌↔◌, ◌<◌, pos, IsTrue};
-ghost use Rattle.pv_num.specs.Kinds.{least, greatest, Fits, fits_of, convert_of, modulus_of, is_signed, width, bits_of, from_bits_of, IsConversion, IsConvertible};
+ghost use Rattle.pv_num.specs.Kinds.{least, greatest, Fits, fits_of, convert_of, modulus_of, is_signed, width, bits_of, from_bits_of};
+ghost use Rattle.pv_num.specs.Operands.{IsConversion, IsConvertible};
 
 /// An integer type of the target (6.2.5), without its qualifiers.
 ///

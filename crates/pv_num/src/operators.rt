@@ -1,7 +1,8 @@
 // The operators on integer kinds.
 ghost use Rattle.std.specs.Prelude.{◌≡◌, ◌&&◌, if◌then◌else◌, int_le, ◌+ℤ◌, ◌-ℤ◌, ◌^◌, ◌-◌, ◌*◌, ◌<◌, ◌≤◌, ◌≤ℤ◌, ◌<ℤ◌, unsigned_abs, ◌*ℤ◌, pos, neg_ℤ, IsFalse, IfOk, Ok, Err, int_div, int_rem, bit_and, bit_or, bit_xor};
-ghost use Rattle.pv_num.specs.Kinds.{Fits, fits_of, modulus_of, width, bits_of, IsConvertible};
-ghost use Rattle.pv_num.specs.Arithmetic.{IsPromoted, IsOperand, binary_of, unary_of, exact_of, quotient_of, remainder_of, shift_left_of, shift_right_of, bitwise_of, complement_of, one_if, yielded_kind, is_zero, is_count, shift_range};
+ghost use Rattle.pv_num.specs.Kinds.{Fits, fits_of, modulus_of, width, bits_of};
+ghost use Rattle.pv_num.specs.Operands.{IsConvertible, IsOperand};
+ghost use Rattle.pv_num.specs.Arithmetic.{IsPromoted, binary_of, unary_of, exact_of, quotient_of, remainder_of, shift_left_of, shift_right_of, bitwise_of, complement_of, one_if, yielded_kind, is_zero, is_count, shift_range};
 
 use crate::faults::{Clause, Fault, Reason};
 use crate::kinds::{IntKind, bit_count, bits, fits, from_bits, is_signed, modulus};

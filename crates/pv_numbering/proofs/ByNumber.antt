@@ -2,7 +2,7 @@
 use Rattle.std.proofs.Common.{ℕ, zero, suc, List, [], ◌∷◌, get_or, refl}
 use Rattle.pv_types.specs.Ty.{Ty, VoidTy}
 use Rattle.pv_types.specs.Known.{Known}
-use Rattle.pv_typed.specs.Children.{Each}
+use Rattle.pv_typed.specs.Known.{Each}
 use Rattle.pv_typed.proofs.Each.{each_weaker}
 use Rattle.pv_typed.specs.TypedUnits.{TypedObject, TypedFunction, no_object, no_function, object_at, function_at}
 use Rattle.pv_world.specs.Worlds.{Worth}

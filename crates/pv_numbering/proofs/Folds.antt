@@ -1,7 +1,7 @@
 -- What each step of a fold keeps, the whole fold keeps; and what holds of each of a list.
 use Rattle.std.proofs.Common.{ℕ, zero, suc, List, [], ◌∷◌, ◌++◌, map, get_or}
 use Rattle.std.specs.List.{fold}
-use Rattle.pv_typed.specs.Children.{Each}
+use Rattle.pv_typed.specs.Known.{Each}
 
 -- a table that is made entry by entry, each from those before it
 pub fold_keeps : {N T : Type 0} (make : List T → N → T) (Q : N → Type 0) (Kept : List T → Type 0)

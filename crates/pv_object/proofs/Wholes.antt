@@ -5,10 +5,12 @@ use Rattle.std.proofs.lemmas.Option.{none-some}
 use Rattle.pv_prov.specs.declared.names.Prov.{Prov}
 use Rattle.pv_inst.specs.Table.{Table}
 use Rattle.pv_shadow.specs.declared.byte.Byte.{Byte}
-use Rattle.pv_shadow.specs.Whole.{number_in, whole_name, pointer_in}
+use Rattle.pv_shadow.specs.Whole.{whole_name}
+use Rattle.pv_shadow.specs.Readings.{number_in, pointer_in}
 use Rattle.pv_object.specs.declared.values.Pointer.{Pointer}
 use Rattle.pv_object.specs.declared.values.Scalar.TheVariants as scalar
-use Rattle.pv_object.specs.Loading.{whole_pointer, value_of, pointer_of, pointer_named, tested}
+use Rattle.pv_object.specs.Loading.{value_of, pointer_of, pointer_named, tested}
+use Rattle.pv_object.specs.Loads.{whole_pointer}
 use Rattle.pv_object.proofs.Contents.{whole_made}
 
 -- an address and a name are a pointer

@@ -1,5 +1,5 @@
 -- A load (C17 6.3.2.1p2, 6.2.6.1p5): its last checks, the exposures, the value, and the live test on a loaded pointer.
-use Rattle.std.specs.Prelude.{◌≡◌, ℕ, pos, Bool, false, nat_lt, List, [], ◌∷◌, Option, None, Some, Result, Ok, Err, if◌then◌else◌, IsSome, IsSomeAnd, unwrap_or, option_map}
+use Rattle.std.specs.Prelude.{ℕ, pos, Bool, false, nat_lt, List, [], ◌∷◌, Option, None, Some, Result, Ok, Err, if◌then◌else◌}
 use Rattle.pv_num.specs.declared.kinds.IntKind.{IntKind}
 use Rattle.pv_num.specs.declared.kinds.IntKind.TheVariants.{Bool as BoolKind, Char, SChar, UChar, Short, UShort, Int, UInt, Long, ULong, LLong, ULLong}
 use Rattle.pv_num.specs.declared.faults.Clause.TheVariants as clause
@@ -12,17 +12,17 @@ use Rattle.pv_inst.specs.declared.values.Miss.{Miss}
 use Rattle.pv_inst.specs.Table.{Table}
 use Rattle.pv_inst.specs.Use.{use_answer, settled, untried}
 use Rattle.pv_inst.specs.Exposure.{expose}
-use Rattle.pv_inst.specs.Finding.{name_at, after_name, found_at}
+use Rattle.pv_inst.specs.Finding.{name_at, after_name}
 use Rattle.pv_shadow.specs.declared.byte.Byte.{Byte}
 use Rattle.pv_shadow.specs.Bytes.{read}
-use Rattle.pv_shadow.specs.Whole.{whole_name, pointer_in}
+use Rattle.pv_shadow.specs.Whole.{whole_name}
 use Rattle.pv_object.specs.declared.values.Pointer.{Pointer}
 use Rattle.pv_object.specs.declared.values.Scalar.{Scalar}
 use Rattle.pv_object.specs.declared.values.Scalar.TheVariants as scalar
 use Rattle.pv_object.specs.declared.values.Value.{Value}
 use Rattle.pv_object.specs.declared.values.Value.TheVariants as value
 use Rattle.pv_object.specs.declared.values.Stop.{Stop}
-use Rattle.pv_object.specs.declared.values.Stop.TheVariants.{Indeterminate, NoMemory}
+use Rattle.pv_object.specs.declared.values.Stop.TheVariants.{Indeterminate}
 use Rattle.pv_object.specs.Values.{is_character}
 use Rattle.pv_object.specs.Encoding.{size_of, number_in}
 use Rattle.pv_object.specs.Access.{fault}
@@ -45,15 +45,6 @@ tested T p = (live_answer p (use_answer T p.prov Live), settled T p.prov (use_an
 abbrev pub pointer_named : Table → Option Prov → ℕ → Loaded
 pointer_named T (Some p) a = tested T (record { address = a; prov = p })
 pointer_named T None a = tested (after_name T a) (record { address = a; prov = name_at T a })
-
--- The memory model: the name that a pointer has which these bytes are, before its live test: that of a pointer stored whole, or else that
--- which the number finds (of two instances, the next pair). None where a byte has no value.
-abbrev pub loaded_name : Table → List Byte → Option Prov
-loaded_name T bytes = option_map (λ a. unwrap_or (whole_name bytes) (name_at T a)) (number_in bytes)
-
--- the memory model: the pointer that bytes are which were stored as one and are whole, before its live test
-abbrev pub whole_pointer : List Byte → Option Pointer
-whole_pointer bytes = option_map (λ x. record { address = x.0; prov = x.1 }) (pointer_in bytes)
 
 -- 6.2.6.1p5, 3.19.2: what bytes are worth at a pointer type; indeterminate where one has no value
 abbrev pub pointer_of : Table → List Byte → Option ℕ → Loaded
@@ -96,17 +87,3 @@ value_of T bytes scalar.Pointer = pointer_of T bytes (number_in bytes)
 -- 6.3.2.1p2: a load reads the bytes from its address on. All bytes stay
 abbrev pub load : Mem → ℕ → Scalar → Loaded
 load M a t = value_of M.table (read M.bytes a (size_of t)) t
-
--- the memory model: two instances fit at the number
-abbrev pub FitsTwo : Table → ℕ → Type 0
-FitsTwo T a = IsSome (found_at T a).high
-
--- the memory model: the bytes are no whole pointer, and a number at which two instances fit
-abbrev pub MakesPair : Table → List Byte → Scalar → Type 0
-MakesPair T bytes (scalar.Int k) = ⊥
-MakesPair T bytes scalar.Pointer = (whole_name bytes ≡ None) × IsSomeAnd (number_in bytes) (FitsTwo T)
-
--- this answer and this table; or no memory, only where a pair of candidates is made (memory model), and nothing changed
-abbrev pub OrNoPair : {A : Type 0} → Type 0 → Result A Stop → Table → Table → Result A Stop × Table → Type 0
-OrNoPair two (Err NoMemory) old new wanted = (new ≡ old) × two
-OrNoPair two r old new wanted = (r ≡ wanted.0) × (new ≡ wanted.1)

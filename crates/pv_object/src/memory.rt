@@ -1,24 +1,28 @@
 // The memory: its instances, accesses to them, and the steps that change its table.
 ghost use Rattle.std.specs.Prelude.{◌≡◌, ◌+◌, ◌<◌, ◌≤◌, ◌↔◌, ◌^◌, length, replicate, take, All, IfOk, IfSome, IfNone, OnOk, OnErr, IsSome, true, codes, option_to_list, drop, ◌++◌, [], not};
 ghost use Rattle.pv_prov.specs.declared.names.Prov.{Prov};
-ghost use Rattle.pv_prov.specs.Names.{Stands_low, Stands_high, kept};
+ghost use Rattle.pv_prov.specs.Names.{kept};
+ghost use Rattle.pv_prov.specs.Made.{Stands_low, Stands_high};
 ghost use Rattle.pv_script.specs.Names.{name_at as text_of};
 ghost use Rattle.pv_inst.specs.Table.{IsMadeIn};
 ghost use Rattle.pv_inst.specs.Use.{use_answer, settled, is_heap};
 ghost use Rattle.pv_inst.specs.Same.{same_answer, after_same};
-ghost use Rattle.pv_inst.specs.Ending.{IsLive};
+ghost use Rattle.pv_inst.specs.Answers.{IsLive};
 ghost use Rattle.pv_inst.specs.Exposure.{expose};
 ghost use Rattle.pv_inst.specs.Finding.{name_at, after_name, found_at};
-ghost use Rattle.pv_shadow.specs.Bytes.{HasBytes, read};
-ghost use Rattle.pv_object.specs.Memory.{Mem, with_table, empty_memory, IsReach};
+ghost use Rattle.pv_shadow.specs.Bytes.{read};
+ghost use Rattle.pv_shadow.specs.Readings.{HasBytes};
+ghost use Rattle.pv_object.specs.Memory.{Mem, with_table, empty_memory};
+ghost use Rattle.pv_object.specs.Reaching.{IsReach};
 ghost use Rattle.pv_object.specs.Later.{IsLater};
-ghost use Rattle.pv_object.specs.Values.{IsOf, IsMadeValue};
-ghost use Rattle.pv_object.specs.Encoding.{size_of, encode};
+ghost use Rattle.pv_object.specs.Values.{IsOf};
+ghost use Rattle.pv_object.specs.Answers.{IsMadeValue, stored, OrSpent, HasSize};
+ghost use Rattle.pv_object.specs.Encoding.{size_of, encode, number_in};
 ghost use Rattle.pv_object.specs.Access.{reach};
-ghost use Rattle.pv_object.specs.Loading.{value_of, load, exposed_by, tested, integer_of, loaded_name, whole_pointer, pointer_of, MakesPair, FitsTwo, OrNoPair};
-ghost use Rattle.pv_object.specs.Storing.{with_bytes, stored, copied};
-ghost use Rattle.pv_object.specs.Creating.{created, without, OrSpent, HasSize};
-ghost use Rattle.pv_object.specs.Encoding.{number_in};
+ghost use Rattle.pv_object.specs.Loading.{value_of, load, exposed_by, tested, integer_of, pointer_of};
+ghost use Rattle.pv_object.specs.Loads.{loaded_name, whole_pointer, MakesPair, FitsTwo, OrNoPair};
+ghost use Rattle.pv_object.specs.Storing.{with_bytes, copied};
+ghost use Rattle.pv_object.specs.Creating.{created, without};
 ghost use Rattle.pv_shadow.specs.Whole.{pointed, little_endian};
 
 use crate::checks::{Wish, checked_in, chosen, clause_of, range_stop, undefined};
@@ -51,7 +55,8 @@ impl Model for Memory {
     ghost use Rattle.std.specs.Coded.{codes};
     ghost use Rattle.pv_inst.specs.CountsCode.{counts_code};
     ghost use Rattle.pv_object.specs.Codes.{store_code};
-    ghost use Rattle.pv_object.specs.Memory.{Mem, HasLiveBytes};
+    ghost use Rattle.pv_object.specs.Memory.{Mem};
+    ghost use Rattle.pv_object.specs.Reaching.{HasLiveBytes};
 
     ghost Value = { Mem };
 

@@ -5,16 +5,16 @@ use Rattle.pv_token.specs.Table.{Table}
 use Rattle.pv_lex.specs.Lexes.{Lexes}
 use Rattle.pv_tree.specs.Syntax.{DeclarationTree}
 use Rattle.pv_script.specs.Lines.{ScriptLine}
-use Rattle.pv_typed.specs.Children.{Each}
-use Rattle.pv_typed.specs.Formed.{AreKnown}
+use Rattle.pv_typed.specs.Known.{Each, AreKnown}
 use Rattle.pv_typed.specs.Tables.{Stored, whole}
 use Rattle.pv_typed.specs.TypedUnits.{WholeUnit}
 use Rattle.pv_unit.specs.Units as checked
 use Rattle.pv_world.specs.Worlds.{Worth}
 use Rattle.pv_eval.specs.States.{Res, end_of}
-use Rattle.pv_exec.specs.Streaming.{event_of}
+use Rattle.pv_exec.specs.Outlets.{event_of}
 use Rattle.pv_exec.specs.Words.{FitsWords}
-use Rattle.pv_serve.specs.Readings.{Program, IsFit}
+use Rattle.pv_serve.specs.Readings.{Program}
+use Rattle.pv_serve.specs.Loading.{IsFit}
 use Rattle.pv_serve.specs.Comes.{Comes, BadByte, BadToken, LeftOut, Lexed, TokensCome, NoUnit, Spelled, UnitComes, Breaks, Lacks, Mainless, Typed}
 use Rattle.pv_serve.specs.Judged.{IsRunBy}
 use Rattle.pv_journal_laws.specs.Naming.{HasNames}

@@ -4,7 +4,7 @@ use Rattle.std.specs.Prelude.{None, Result, Ok, Err, IfOk}
 use Rattle.pv_script.specs.declared.scripts.ScriptError.{ScriptError}
 use Rattle.pv_watch.specs.Slots.{Present, Told, SayAll}
 use Rattle.pv_exec.specs.Answering.{end_of}
-use Rattle.pv_exec.specs.Streaming.{event_of}
+use Rattle.pv_exec.specs.Outlets.{event_of}
 use Rattle.pv_exec.specs.declared.program.Ran.{Ran}
 use Rattle.pv_exec.specs.declared.outcome.Outcome.{Outcome}
 use Rattle.pv_exec.specs.declared.outcome.Outcome.TheVariants as outcome
@@ -15,7 +15,7 @@ use Rattle.pv_serve.specs.Judged.{Fit}
 use Rattle.pv_serve.specs.Judging.{ending_of}
 use Rattle.pv_serve.specs.declared.checking.Refused.{Refused}
 use Rattle.pv_serve.specs.Verdicts as verdict
-use Rattle.pv_serve.specs.Readings.{refusal_of}
+use Rattle.pv_serve.specs.Loading.{refusal_of}
 use Rattle.pv_serve.specs.Report.{outcome_status}
 use Rattle.pv_serve.specs.Settling.{SomeRunBy, IsRan, IsOutcome, line_of, status_by}
 use Rattle.pv_serve.specs.Outside.{Sunk, Halls}

@@ -1,4 +1,4 @@
--- What the parts of the top call come to.
+-- A bridge: what the parts of the top call come to.
 use Rattle.std.specs.Prelude.{◌≡◌, ◌≢◌, ℕ, List, Option}
 use Rattle.pv_serve.specs.Report.{fault_line}
 use Rattle.pv_serve.specs.Outside.{Sunk, SinkRose, Wrote, WrotePrefix}

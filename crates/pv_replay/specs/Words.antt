@@ -1,13 +1,9 @@
 -- What the words of the command line ask for (5.1.2.2.1p2: a program's parameters). Which words there are is this program's own: docs/FORMATS.md
 -- has the rules.
-use Rattle.std.specs.Prelude.{◌≡◌, ℕ, List, [], ◌∷◌, length, Option, Some, None, MatchOption, if◌then◌else◌, nat_lt, codes, option_map, option_and_then, unwrap_or}
+use Rattle.std.specs.Prelude.{ℕ, List, [], ◌∷◌, length, Option, Some, None, if◌then◌else◌, nat_lt, codes, option_map, option_and_then, unwrap_or}
 use Rattle.std.specs.Str.{bytes_eq}
-use Rattle.pv_serve.specs.Jobs.{default_turns, files_named, IsBound}
 use Rattle.pv_serve.specs.Words.{turns_of}
-use Rattle.pv_replay.specs.declared.words.Asked.{Asked}
-use Rattle.pv_replay.specs.declared.words.Asked.TheVariants as asked_for
-use Rattle.pv_replay.specs.declared.words.RunAsked.{RunAsked}
-use Rattle.pv_replay.specs.declared.words.Options.{Options as ReadOptions}
+use Rattle.pv_serve.specs.Jobs.{default_turns, files_named}
 
 -- docs/FORMATS.md, Journals (5.1.2.3): a run: of the source in this file, with the script of addresses in that file, if one is named, and with so many turns at most
 pub record RunJob : Type 0 where
@@ -85,31 +81,3 @@ abbrev pub job : List (List ℕ) → Option Job
 job [] = None
 job (mode ∷ []) = None
 job (mode ∷ file ∷ rest) = if nat_lt 0 (length file) then asked mode file rest else None
-
--- ---- what the code reads
-
--- docs/FORMATS.md, Journals (5.1.2.3): the run that was read of the words
-abbrev pub run_job : RunAsked → RunJob
-run_job r = record { file = r.file.now; script = option_map (λ s. s.now) r.script; bound = r.turns }
-
--- docs/FORMATS.md, Journals (5.1.2.2.1p2): the job that was read of the words
-abbrev pub asked_job : Asked → Job
-asked_job (asked_for.Write run) = Write (run_job run)
-asked_job (asked_for.Check file) = Check file.now
-
--- docs/FORMATS.md, Journals (5.1.2.2.1p2): it is the job that the words ask for, or they ask for none
-abbrev pub IsAsked : Option Asked → (wanted : Option Job) → Type 0
-IsAsked read wanted = MatchOption read (wanted ≡ None) (λ a. wanted ≡ Some (asked_job a))
-
--- 5.1.2.3p1: the bound of a run is one
-abbrev pub IsBounded : Asked → Type 0
-IsBounded (asked_for.Write run) = IsBound run.turns
-IsBounded (asked_for.Check file) = Unit {0}
-
--- docs/FORMATS.md, Journals (5.1.2.2.1p2): the options that were read
-abbrev pub options_read : ReadOptions → Options
-options_read o = record { script = option_map (λ s. s.now) o.script; turns = o.turns }
-
--- docs/FORMATS.md, Journals (5.1.2.2.1p2): they are the options that the words say, or the words are no options
-abbrev pub AreOptions : Option ReadOptions → (wanted : Option Options) → Type 0
-AreOptions read wanted = MatchOption read (wanted ≡ None) (λ o. wanted ≡ Some (options_read o))

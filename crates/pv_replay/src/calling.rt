@@ -1,12 +1,13 @@
 //! The top call: what one call of the program does from its words to its status.
 ghost use Rattle.std.specs.Prelude.{◌≡◌, ◌⊎◌, ◌≤◌, ◌∷◌, [], ℕ, List, Some, IsNone};
-ghost use Rattle.pv_script.specs.Memory.{calm_held, calm_written};
+ghost use Rattle.pv_script.specs.Calm.{calm_held, calm_written};
 ghost use Rattle.pv_watch.specs.Slots.{Present};
-ghost use Rattle.pv_exec.specs.Answering.{hall_slots};
-ghost use Rattle.pv_serve.specs.Jobs.{IsBound};
+ghost use Rattle.pv_exec.specs.Outlets.{hall_slots};
+ghost use Rattle.pv_serve.specs.ReadWords.{IsBound};
 ghost use Rattle.pv_serve.specs.Words.{texts};
 ghost use Rattle.pv_serve.specs.Outside.{sunk};
-ghost use Rattle.pv_replay.specs.Words.{job, run_job, Write, Check};
+ghost use Rattle.pv_replay.specs.Words.{job, Write, Check};
+ghost use Rattle.pv_replay.specs.ReadWords.{run_job};
 ghost use Rattle.pv_replay.specs.Answers.{SomeAnswer, IsChecked};
 ghost use Rattle.pv_replay.specs.Causes.{Call, Answered, IsAnswer};
 ghost use Rattle.pv_replay.specs.Obeying.{WritesJournals};

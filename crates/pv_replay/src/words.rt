@@ -1,8 +1,10 @@
 //! The words of the command line (C17 5.1.2.2.1).
 ghost use Rattle.std.specs.Prelude.{◌≡◌, IfSome};
-ghost use Rattle.pv_serve.specs.Words.{texts, AreBounded};
+ghost use Rattle.pv_serve.specs.Words.{texts};
+ghost use Rattle.pv_serve.specs.ReadWords.{AreBounded};
 ghost use Rattle.pv_replay.specs.Words as specified;
-ghost use Rattle.pv_replay.specs.Words.{IsAsked, IsBounded, AreOptions};
+ghost use Rattle.pv_replay.specs.ReadWords as read_words;
+ghost use Rattle.pv_replay.specs.ReadWords.{IsAsked, IsBounded, AreOptions};
 
 use pv_serve::{DEFAULT_TURNS, MOST_TURNS, number_to};
 
@@ -89,7 +91,7 @@ fn check_of<'a>(file: &'a str, rest: &[String]) -> Option<Asked<'a>>
 
 // No option was read yet.
 fn no_options<'a>() -> Options<'a>
-    ensures said { specified.options_read result ≡ specified.no_options }
+    ensures said { read_words.options_read result ≡ specified.no_options }
     ensures turns { AreBounded result.turns }
 {
     Options {
@@ -101,7 +103,7 @@ fn no_options<'a>() -> Options<'a>
 // What the options say, behind those that were read: pairs of a word and its value.
 fn all_options<'a>(given: Options<'a>, words: &'a [String]) -> Option<Options<'a>>
     requires { AreBounded given.turns }
-    ensures words { AreOptions result (specified.options (specified.options_read given.entry) (texts words.now)) }
+    ensures words { AreOptions result (specified.options (read_words.options_read given.entry) (texts words.now)) }
     ensures turns { IfSome result (λ o. AreBounded o.turns) }
 {
     match words {
@@ -117,7 +119,7 @@ fn all_options<'a>(given: Options<'a>, words: &'a [String]) -> Option<Options<'a
 // One option more.
 fn with_option<'a>(given: Options<'a>, name: &str, value: &'a str) -> Option<Options<'a>>
     requires { AreBounded given.turns }
-    ensures words { AreOptions result (specified.with_option (specified.options_read given.entry) name.now value.now) }
+    ensures words { AreOptions result (specified.with_option (read_words.options_read given.entry) name.now value.now) }
     ensures turns { IfSome result (λ o. AreBounded o.turns) }
 {
     match name {
@@ -131,7 +133,7 @@ fn with_option<'a>(given: Options<'a>, name: &str, value: &'a str) -> Option<Opt
 fn with_script<'a>(given: Options<'a>, name: &'a str) -> Option<Options<'a>>
     requires { AreBounded given.turns }
     ensures words { AreOptions result
-        (specified.script_once (specified.options_read given.entry).script (specified.options_read given.entry) name.now) }
+        (specified.script_once (read_words.options_read given.entry).script (read_words.options_read given.entry) name.now) }
     ensures turns { IfSome result (λ o. AreBounded o.turns) }
 {
     match given.script {
@@ -152,7 +154,7 @@ fn with_script<'a>(given: Options<'a>, name: &'a str) -> Option<Options<'a>>
 // The bound, which is given at most once.
 fn with_turns<'a>(given: Options<'a>, text: &str) -> Option<Options<'a>>
     ensures words { AreOptions result
-        (specified.turns_once (specified.options_read given.entry).turns (specified.options_read given.entry) text.now) }
+        (specified.turns_once (read_words.options_read given.entry).turns (read_words.options_read given.entry) text.now) }
     ensures turns { IfSome result (λ o. AreBounded o.turns) }
 {
     match given.turns {

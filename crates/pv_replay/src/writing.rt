@@ -1,8 +1,8 @@
 //! The journal of a source's run.
 ghost use Rattle.std.specs.Prelude.{◌≡◌, ◌∷◌, [], IfOk};
 ghost use Rattle.pv_watch.specs.Slots.{Present};
-ghost use Rattle.pv_exec.specs.Answering.{hall_slots};
-ghost use Rattle.pv_serve.specs.Jobs.{IsBound};
+ghost use Rattle.pv_exec.specs.Outlets.{hall_slots};
+ghost use Rattle.pv_serve.specs.ReadWords.{IsBound};
 ghost use Rattle.pv_serve.specs.Settling.{line_of, status_by};
 ghost use Rattle.pv_replay.specs.Answering.{reply_view, IsOwn, IsRunAnswer};
 

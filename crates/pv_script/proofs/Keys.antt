@@ -19,7 +19,8 @@ use Rattle.pv_script.specs.Lines.{ScriptLine}
 use Rattle.pv_script.specs.Places.{place_of}
 use Rattle.pv_script.specs.Numbered.{numbered}
 use Rattle.pv_script.specs.Scripts.{NumberedLine, first_same}
-use Rattle.pv_script.specs.Names.{name_at, with_text}
+use Rattle.pv_script.specs.Names.{name_at}
+use Rattle.pv_script.specs.Texts.{with_text}
 use Rattle.pv_script.specs.Indexed.{found, first_place, has_key, key_cmp, IsNamed, IsIndexed}
 
 -- what a script says, and which line says the same, are of the first line found

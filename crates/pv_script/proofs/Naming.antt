@@ -7,7 +7,7 @@ use Rattle.std.specs.BTreeMap.{is_at}
 use Rattle.std.specs.Cmp.Lexicographic.{slice_cmp}
 use Rattle.std.specs.Str.{bytes_eq}
 use Rattle.std.proofs.lemmas.Map.Text.{is_eq-slice_cmp}
-use Rattle.pv_script.specs.Memory.{bytes_under}
+use Rattle.pv_script.specs.Calm.{bytes_under}
 
 -- the names of a map's entries, with their bytes
 abbrev pub named_bytes : List (String Global × Vec ℕ Global) → List (List ℕ × List ℕ)

@@ -1,4 +1,4 @@
--- How the lines of a script are found: by the number of the name, and the count.
+-- A bridge: how the lines of a script are found: by the number of the name, and the count.
 use Rattle.std.specs.Prelude.{◌≡◌, ℕ, ◌+◌, ◌==◌, ◌&&◌, Bool, List, [], ◌∷◌, Option, None, Some, if◌then◌else◌, All, slice_get}
 use Rattle.std.specs.Option.{option_map}
 use Rattle.std.specs.declared.cmp.Ordering.{Ordering}

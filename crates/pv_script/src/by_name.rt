@@ -1,6 +1,6 @@
 // The files in memory, by name.
 ghost use Rattle.std.specs.Prelude.{◌≡◌, ◌≢◌, ℕ, Some, List, [], option_map, OnOk, OnErr};
-ghost use Rattle.pv_script.specs.Memory.{bytes_under};
+ghost use Rattle.pv_script.specs.Calm.{bytes_under};
 
 use crate::NoMemory;
 use std::alloc::Global;

@@ -1,4 +1,4 @@
--- What the index knows of the first accesses in a list: a narrow one is found at each of its bytes, a wide one by its number.
+-- A bridge: what the index knows of the first accesses in a list: a narrow one is found at each of its bytes, a wide one by its number.
 use Rattle.std.specs.Prelude.{◌≡◌, ℕ, ◌<◌, ◌≤◌, true, false, Bool, ◌&&◌, nat_lt, nat_le, List, length, get_or}
 use Rattle.pv_seq.specs.Sequencing.{Access, clash}
 use Rattle.pv_seq.specs.Marks.{AllMarked}

@@ -1,4 +1,4 @@
--- Accesses found by address: a pair of a byte and of an access's number is in a set where the access touches the byte.
+-- A bridge: accesses found by address: a pair of a byte and of an access's number is in a set where the access touches the byte.
 use Rattle.std.specs.Prelude.{◌≡◌, ℕ, ◌+◌, ◌<◌, ◌≤◌, true, false, Bool}
 use Rattle.std.specs.Ordering.{nat_cmp, ordering_then}
 use Rattle.std.specs.declared.cmp.Ordering.{Ordering}

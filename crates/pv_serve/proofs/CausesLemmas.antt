@@ -13,13 +13,13 @@ use Rattle.pv_serve.specs.declared.words.Task.{Task}
 use Rattle.pv_serve.specs.declared.tasks.Judgement.{Judgement}
 use Rattle.pv_serve.specs.declared.tasks.Judgement.TheVariants as judgement
 use Rattle.pv_serve.specs.declared.error.NoMemory.{NoMemory}
-use Rattle.pv_serve.specs.Verdicts.{Verdict, Course, course_of}
+use Rattle.pv_serve.specs.Verdicts.{Verdict, Course, course_of, BeganOutput}
 use Rattle.pv_serve.specs.Jobs.{Job, FileJob, Files, Generated, task_of, sides_of, watched_of, kinds_of}
 use Rattle.pv_serve.specs.Words.{job, generated, file_job, either}
 use Rattle.pv_serve.specs.Comes.{source_limit}
 use Rattle.pv_serve.specs.Judged.{Judged, SomeRun, script_limit}
 use Rattle.pv_serve.specs.Outside.{Sunk, SinkRose, Wrote, WrotePrefix, Halls}
-use Rattle.pv_serve.specs.Judging.{Shown, verdict_of, IsJudged, BeganOutput, IsCutOff}
+use Rattle.pv_serve.specs.Judging.{Shown, verdict_of, IsJudged, IsCutOff}
 use Rattle.pv_serve.specs.Report.{fault_line, report_line, status_of}
 use Rattle.pv_serve.specs.Watching.{AreTold, IsReport, kept_by}
 use Rattle.pv_serve.specs.Answer.{Answer, answer_of, HasReport, OfSource, needed, script_held, SomeVerdict, SomeAnswer, SomeEnd}

@@ -17,7 +17,8 @@ use Rattle.pv_lex.proofs.Exactly.{either_error, one_table, one_error, no_error}
 use Rattle.std.specs.Prelude.{Result, Ok, Err, IfOk}
 use Rattle.pv_serve.specs.declared.checking.Refused.{Refused as Answered}
 use Rattle.pv_serve.specs.Verdicts.{Size, Byte, Token, Profile, Syntax, NoMain}
-use Rattle.pv_serve.specs.Readings.{Reading, Bad, reading_of, lexical_refusal, IsWordOf}
+use Rattle.pv_serve.specs.Readings.{Reading, Bad}
+use Rattle.pv_serve.specs.Loading.{reading_of, lexical_refusal, IsWordOf}
 use Rattle.pv_serve.specs.Comes.{UnitComes, TokensCome, NoUnit, Spelled, Comes, BadByte, BadToken, LeftOut, Lexed, Reads, Long, Short, source_limit}
 
 one_count : (tokens : List LexToken) (m n : ℕ) → IsWhole tokens m → IsWhole tokens n → m ≡ n

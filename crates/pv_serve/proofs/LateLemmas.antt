@@ -11,9 +11,10 @@ use Rattle.pv_exec.specs.declared.sides.Side.{Side}
 use Rattle.pv_exec.specs.Answering.{RanAs, highs, end_of}
 use Rattle.pv_exec.specs.Laws.{run_at}
 use Rattle.pv_exec.specs.Run.{outcome_of, sides_at}
-use Rattle.pv_exec.specs.Settling.{IsUndefined, SettlesAlike, IsUndefinedByAll}
+use Rattle.pv_exec.specs.Settling.{IsUndefined}
+use Rattle.pv_exec.specs.SettledRuns.{SettlesAlike, IsUndefinedByAll}
 use Rattle.pv_exec.specs.Sided.{is_high, side_of}
-use Rattle.pv_exec.specs.Streaming.{event_of}
+use Rattle.pv_exec.specs.Outlets.{event_of}
 use Rattle.pv_serve.specs.declared.words.Task.TheVariants as task
 use Rattle.pv_serve.specs.Verdicts.{Verdict, Ending, Ended, Settled, Described, Refused, Script}
 use Rattle.pv_serve.specs.Judged.{UnitGives}

@@ -4,7 +4,8 @@ use Rattle.std.specs.Prelude.{Option, None, Some, IfNone, map}
 use Rattle.pv_script.specs.declared.scripts.ScriptError.{ScriptError}
 use Rattle.pv_script.specs.declared.scripts.ScriptError.TheVariants as why
 use Rattle.pv_script.specs.Lines.{ScriptLine}
-use Rattle.pv_script.specs.Scripts.{script_of, OrNoMemory}
+use Rattle.pv_script.specs.Scripts.{script_of}
+use Rattle.pv_script.specs.LineView.{OrNoMemory}
 use Rattle.pv_typed.specs.Tables.{Stored, whole}
 use Rattle.pv_exec.specs.Run.{setting_of, run_of}
 use Rattle.pv_exec.specs.declared.program.Ran.{Ran}
@@ -14,7 +15,7 @@ use Rattle.pv_exec.specs.declared.sides.Side.{Side}
 use Rattle.pv_exec.specs.Answering.{highs, end_at}
 use Rattle.pv_exec.specs.Laws.{run_at}
 use Rattle.pv_exec.specs.Stages.{stage_of}
-use Rattle.pv_exec.specs.Settling.{SettlesAlike, IsUndefinedByAll}
+use Rattle.pv_exec.specs.SettledRuns.{SettlesAlike, IsUndefinedByAll}
 use Rattle.pv_exec.specs.Sided.{is_high}
 use Rattle.pv_serve.specs.declared.checking.Refused.TheVariants as refused
 use Rattle.pv_serve.specs.declared.loading.Loaded.TheVariants as loaded

@@ -6,13 +6,14 @@ use Rattle.pv_script.specs.Outside.{Gains}
 use Rattle.pv_script.specs.declared.scripts.ScriptError.{ScriptError}
 use Rattle.pv_script.specs.declared.scripts.ScriptError.TheVariants as why
 use Rattle.pv_script.specs.Lines.{ScriptLine}
-use Rattle.pv_script.specs.Scripts.{script_of, OrNoMemory}
+use Rattle.pv_script.specs.Scripts.{script_of}
+use Rattle.pv_script.specs.LineView.{OrNoMemory}
 use Rattle.pv_script.proofs.GainsLemmas.{gains_nothing, prefix_whole}
 use Rattle.pv_watch.specs.Slots.{Told}
 use Rattle.pv_typed.specs.TypedUnits.{WholeUnit}
 use Rattle.pv_typed.specs.Mains.{literal_text, heap_text}
 use Rattle.pv_typed.specs.Tables.{Stored, whole}
-use Rattle.pv_typed.specs.Formed.{AreKnown}
+use Rattle.pv_typed.specs.Known.{AreKnown}
 use Rattle.pv_world.specs.Worlds.{Worth}
 use Rattle.pv_eval.specs.States.{Res, State}
 use Rattle.pv_eval.specs.Runnable.{IsRunnable}
@@ -20,22 +21,22 @@ use Rattle.pv_exec.specs.Run.{setting_of, run_of}
 use Rattle.pv_exec.specs.declared.program.Ran.{Ran}
 use Rattle.pv_exec.specs.declared.program.RunError.{RunError}
 use Rattle.pv_exec.specs.declared.program.RunError.TheVariants as error
-use Rattle.pv_exec.specs.Streaming.{event_of}
+use Rattle.pv_exec.specs.Outlets.{event_of}
 use Rattle.pv_exec.specs.Answering.{RanAs, ToldOr, StreamedOr, FaultCause, end_of}
 use Rattle.pv_exec.specs.Laws.{run_at}
-use Rattle.pv_exec.specs.Settling.{SettlesAlike, IsUndefinedByAll}
+use Rattle.pv_exec.specs.SettledRuns.{SettlesAlike, IsUndefinedByAll}
 use Rattle.pv_describe.specs.Describing.{check_text, layout_text}
 use Rattle.pv_serve.specs.declared.words.Task.{Task}
 use Rattle.pv_serve.specs.declared.words.Task.TheVariants as task
 use Rattle.pv_serve.specs.declared.tasks.Judgement.{Judgement}
 use Rattle.pv_serve.specs.declared.tasks.Judgement.TheVariants as judgement
-use Rattle.pv_serve.specs.Jobs.{IsTask}
-use Rattle.pv_serve.specs.Verdicts.{Verdict, Ending, Settled, Described, Course, course_of}
+use Rattle.pv_serve.specs.ReadWords.{IsTask}
+use Rattle.pv_serve.specs.Verdicts.{Verdict, Ending, Settled, Described, Course, course_of, output_of, BeganOutput}
 use Rattle.pv_serve.specs.Readings.{Program}
 use Rattle.pv_serve.specs.Comes.{Comes, source_limit}
 use Rattle.pv_serve.specs.Judged.{Judged, Oversize, Unread, Unfit, Fit, UnitGives, IsRunBy, RunEnds, Plan, late_plan, settled_plan, plan_of, SomeRun}
 use Rattle.pv_serve.specs.Outside.{Sunk, Wrote, WrotePrefix, Halls}
-use Rattle.pv_serve.specs.Judging.{Shown, nothing_shown, ending_of, verdict_of, output_of, IsJudged, BeganOutput, LeftPart, IsCutOff, UnitJudged, UnitRun, UnitCutOff, HasFault}
+use Rattle.pv_serve.specs.Judging.{Shown, nothing_shown, ending_of, verdict_of, IsJudged, LeftPart, IsCutOff, UnitJudged, UnitRun, UnitCutOff, HasFault}
 use Rattle.pv_serve.specs.LateSettling.{SettlesRight}
 use Rattle.pv_serve.specs.Settling.{IsRan, IsLeft, HasLetOut}
 use Rattle.pv_serve.specs.Watching.{AreTold}

@@ -11,7 +11,8 @@ use Rattle.pv_unit.specs.Units.{Checked}
 use Rattle.pv_unit.specs.Units as checked
 use Rattle.pv_unit.proofs.Answering.{one_answer, some_answer}
 use Rattle.pv_serve.specs.Verdicts.{Constraint, Unresolved, NoMain}
-use Rattle.pv_serve.specs.Readings.{Reading, Program, Bad, typing_refusal, IsNameOf}
+use Rattle.pv_serve.specs.Readings.{Reading, Program, Bad}
+use Rattle.pv_serve.specs.Loading.{typing_refusal, IsNameOf}
 use Rattle.pv_serve.specs.Comes.{UnitComes, Breaks, Lacks, Mainless, Typed, token_name}
 
 -- what a typing's answer says

@@ -5,10 +5,9 @@ use Rattle.pv_gen.specs.Source.{source_text}
 use Rattle.pv_eval.specs.States.{State}
 use Rattle.pv_serve.specs.declared.words.Task.{Task}
 use Rattle.pv_serve.specs.Jobs.{Job, Files, Generated, task_of, sides_of}
-use Rattle.pv_serve.specs.Verdicts.{Verdict, Course, course_of}
+use Rattle.pv_serve.specs.Verdicts.{Verdict, Course, course_of, output_of}
 use Rattle.pv_serve.specs.Comes.{source_limit}
 use Rattle.pv_serve.specs.Judged.{Judged, SomeRun}
-use Rattle.pv_serve.specs.Judging.{output_of}
 use Rattle.pv_serve.specs.LateSettling.{SettlesRight}
 use Rattle.pv_serve.specs.Report.{status_of, report_line, words_line}
 use Rattle.pv_serve.specs.Watching.{AreTold, IsReport}

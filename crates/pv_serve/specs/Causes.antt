@@ -5,12 +5,12 @@ use Rattle.std.specs.Prelude.{◌≡◌, ◌≢◌, ◌⊎◌, ℕ, List, [], Op
 use Rattle.pv_script.specs.Outside.{Rose}
 use Rattle.pv_watch.specs.Slots.{Slot}
 use Rattle.pv_eval.specs.States.{State}
-use Rattle.pv_exec.specs.Answering.{ToldPart}
+use Rattle.pv_exec.specs.Outlets.{ToldPart}
 use Rattle.pv_serve.specs.Jobs.{Job, files_of}
 use Rattle.pv_serve.specs.Words.{job}
 use Rattle.pv_serve.specs.Report.{fault_line}
 use Rattle.pv_serve.specs.Outside.{Sunk, SinkRose, Wrote, WrotePrefix, Halls}
-use Rattle.pv_serve.specs.Judging.{BeganOutput}
+use Rattle.pv_serve.specs.Verdicts.{BeganOutput}
 use Rattle.pv_serve.specs.Watching.{kept_by}
 use Rattle.pv_serve.specs.Answer.{Answer, HasReport, SomeAnswer, SomeEnd}
 

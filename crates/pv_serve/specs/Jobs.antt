@@ -1,5 +1,5 @@
 -- What may be asked of the program. What a program's parameters (5.1.2.2.1p2) mean is its own: docs/FORMATS.md has the rules.
-use Rattle.std.specs.Prelude.{◌≤◌, ◌<◌, ℕ, Bool, List, [], ◌∷◌, ◌++◌, Option, Some, None, if◌then◌else◌, true, false}
+use Rattle.std.specs.Prelude.{ℕ, Bool, List, [], ◌∷◌, ◌++◌, Option, Some, None, if◌then◌else◌, true, false}
 use Rattle.pv_serve.specs.declared.words.Task.{Task}
 use Rattle.pv_serve.specs.declared.words.Task.TheVariants as task
 use Rattle.pv_serve.specs.declared.words.Watched.{Watched}
@@ -46,19 +46,6 @@ task_of (Generated n) = task.Run default_turns true
 abbrev pub sides_of : Job → Option (List Bool)
 sides_of (Files j) = j.sides
 sides_of (Generated n) = None
-
--- 5.1.2.3p1: a run takes a turn at a time; its bound is from 1 to 100000000 (docs/FORMATS.md)
-abbrev pub IsBound : ℕ → Type 0
-IsBound n = (0 < n) × (n ≤ 100000000)
-
--- docs/FORMATS.md, Words (5.1.2.2.1p2): a task whose bound, if it is a run, is one
-abbrev pub IsTask : Task → Type 0
-IsTask (task.Run bound zap) = IsBound bound
-IsTask (task.Settle bound zap) = IsBound bound
-IsTask task.Check = Unit {0}
-IsTask task.Layout = Unit {0}
-
--- ---- watchers
 
 -- docs/FORMATS.md, What watchers say (the memory model): no watcher
 abbrev pub nobody : Watched

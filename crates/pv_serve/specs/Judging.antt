@@ -1,4 +1,4 @@
--- What the judging functions answer: a verdict, or what a call that was cut off left of one (5.1.2.3).
+-- A bridge: what the judging functions answer: a verdict, or what a call that was cut off left of one (5.1.2.3).
 use Rattle.std.specs.Prelude.{◌≡◌, ◌⊎◌, ℕ, Bool, List, [], Option, Some, Result, Ok, Err}
 use Rattle.pv_script.specs.Outside.{Rose}
 use Rattle.pv_watch.specs.declared.event.Event.{Event}
@@ -9,15 +9,16 @@ use Rattle.pv_eval.specs.States.{Res, State}
 use Rattle.pv_exec.specs.declared.program.RunError.{RunError}
 use Rattle.pv_exec.specs.declared.program.RunError.TheVariants as error
 use Rattle.pv_exec.specs.declared.program.Ran.{Ran}
-use Rattle.pv_exec.specs.Answering.{end_of, ToldPart}
+use Rattle.pv_exec.specs.Answering.{end_of}
+use Rattle.pv_exec.specs.Outlets.{ToldPart}
 use Rattle.pv_serve.specs.declared.words.Task.{Task}
 use Rattle.pv_serve.specs.declared.tasks.Judgement.{Judgement}
 use Rattle.pv_serve.specs.declared.tasks.Judgement.TheVariants as judgement
-use Rattle.pv_serve.specs.Verdicts.{Verdict, Ending, Ended, Settled, Described, Refused, Script, course_of}
-use Rattle.pv_serve.specs.Readings.{refusal_of}
+use Rattle.pv_serve.specs.Verdicts.{Verdict, Ending, Ended, Settled, Described, Refused, Script, course_of, output_of, BeganOutput}
+use Rattle.pv_serve.specs.Loading.{refusal_of}
 use Rattle.pv_serve.specs.Judged.{Judged, Plan, plan_of, SomeRun, UnitGives, IsRunBy}
 use Rattle.pv_serve.specs.LateSettling.{SettlesRight}
-use Rattle.pv_serve.specs.Outside.{Sunk, Wrote, WrotePrefix, Halls}
+use Rattle.pv_serve.specs.Outside.{Sunk, Wrote, Halls}
 use Rattle.pv_serve.specs.Watching.{AreTold}
 
 -- 5.1.2.3p6: what left a run: the bytes that it printed, and its events (the memory model)
@@ -41,14 +42,6 @@ verdict_of (judgement.Described text) shown = Described text.items
 verdict_of (judgement.Source why) shown = Refused (refusal_of why)
 verdict_of (judgement.Script why) shown = Script why
 
--- 5.1.2.3p6: what a run printed; nothing else prints
-abbrev pub output_of : Verdict → List ℕ
-output_of (Ended e bound) = e.output
-output_of (Settled e bound listed) = e.output
-output_of (Described text) = []
-output_of (Refused refusal) = []
-output_of (Script why) = []
-
 -- 5.1.2.3p6: a judgement is the verdict, and what it says of sides is right (the memory model); the sink gained what was printed, and those who watch were
 -- told what happened
 pub record IsJudged (source script : List ℕ) (t : Task) (sides : Option (List Bool)) (out : Sunk) (hall : Halls) (j : Judgement) : Type 0 where
@@ -57,10 +50,6 @@ pub record IsJudged (source script : List ℕ) (t : Task) (sides : Option (List 
   pub right : SettlesRight (Judged source script t) (verdict_of j shown)
   pub gains : Wrote out (output_of (verdict_of j shown))
   pub told : AreTold (course_of (verdict_of j shown)) hall.old hall.new
-
--- 7.21.3p3: a sink gained a first part of what the run printed
-abbrev pub BeganOutput : (out : Sunk) → State → (names : List (List ℕ)) → Type 0
-BeganOutput out end names = WrotePrefix out end.output
 
 -- 7.21.3p3: a first part of what is printed left the run, and a first part of what is told
 abbrev pub LeftPart : (out : Sunk) (hall : Halls) → State → (names : List (List ℕ)) → Type 0

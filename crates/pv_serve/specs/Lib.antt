@@ -1,4 +1,5 @@
 pub mod Jobs
+pub mod ReadWords
 pub mod Words
 pub mod Verdicts
 pub mod Readings

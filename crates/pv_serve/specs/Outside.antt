@@ -5,7 +5,7 @@ use Rattle.pv_script.specs.Outside.{Rose, Gains, GainsPrefix}
 use Rattle.pv_watch.specs.declared.event.Event.{Event}
 use Rattle.pv_watch.specs.declared.hall.Hall.{Hall}
 use Rattle.pv_watch.specs.Slots.{Slot}
-use Rattle.pv_exec.specs.Answering.{hall_slots}
+use Rattle.pv_exec.specs.Outlets.{hall_slots}
 
 -- 7.21.2p2: a sink before a call and after it: its bytes in their order, where it tells them, and how many of its writes failed (7.21.8.2p3)
 pub record Sunk : Type 0 where

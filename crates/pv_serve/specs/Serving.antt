@@ -1,15 +1,15 @@
--- What the parts of the top call come to, before those who watch.
+-- A bridge: what the parts of the top call come to, before those who watch.
 use Rattle.std.specs.Prelude.{◌≡◌, ◌≢◌, ◌⊎◌, ℕ, ◌+◌, Bool, List, [], ◌++◌, take, Option, Some}
 use Rattle.pv_watch.specs.Slots.{Slot, SayAll}
 use Rattle.pv_gen.specs.Source.{source_text}
 use Rattle.pv_serve.specs.declared.words.Task.{Task}
 use Rattle.pv_serve.specs.declared.tasks.Judgement.{Judgement}
 use Rattle.pv_serve.specs.Jobs.{Job, FileJob, Files, Generated}
-use Rattle.pv_serve.specs.Verdicts.{course_of}
+use Rattle.pv_serve.specs.Verdicts.{course_of, BeganOutput}
 use Rattle.pv_serve.specs.Comes.{source_limit}
 use Rattle.pv_serve.specs.Judged.{script_limit, SomeRun}
 use Rattle.pv_serve.specs.Outside.{Sunk, SinkRose, Wrote, WrotePrefix, Halls}
-use Rattle.pv_serve.specs.Judging.{Shown, verdict_of, BeganOutput}
+use Rattle.pv_serve.specs.Judging.{Shown, verdict_of}
 use Rattle.pv_serve.specs.Report.{status_of, report_line, fault_line}
 use Rattle.pv_serve.specs.Watching.{IsReport, kept_by}
 use Rattle.pv_serve.specs.Answer.{Answer, HasReport, OfFiles, SomeVerdict}

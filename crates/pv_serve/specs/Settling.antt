@@ -1,7 +1,7 @@
--- What `judge` answers of a source with its script: how its run ended, whose pairs of candidates are settled late or, with sides, at their making
+-- A bridge: what `judge` answers of a source with its script: how its run ended, whose pairs of candidates are settled late or, with sides, at their making
 -- (the memory model), or why it has none (5.1.1.3p1).
 use Rattle.std.specs.Prelude.{◌≡◌, ◌⊎◌, ℕ, ◌≤◌, Bool, List, [], length, map, Option, None, Some}
-use Rattle.pv_typed.specs.Children.{Each}
+use Rattle.pv_typed.specs.Known.{Each}
 use Rattle.pv_typed.specs.Tables.{Stored, whole}
 use Rattle.pv_watch.specs.Slots.{Told}
 use Rattle.pv_world.specs.Worlds.{Worth}
@@ -9,7 +9,7 @@ use Rattle.pv_eval.specs.States.{State, Res}
 use Rattle.pv_exec.specs.declared.program.Ran.{Ran}
 use Rattle.pv_exec.specs.declared.program.RunError.{RunError}
 use Rattle.pv_exec.specs.declared.program.RunError.TheVariants as error
-use Rattle.pv_exec.specs.Streaming.{event_of}
+use Rattle.pv_exec.specs.Outlets.{event_of}
 use Rattle.pv_exec.specs.Sided.{is_high}
 use Rattle.pv_exec.specs.Settling.{IsDecided, IsUndefined, EndsAlike, EndsBy}
 use Rattle.pv_exec.specs.Answering.{RanAs, LeftAt, end_of, end_at}
@@ -17,12 +17,11 @@ use Rattle.pv_exec.specs.Stages.{stage_of}
 use Rattle.pv_exec.specs.Words.{FitsWords}
 use Rattle.pv_serve.specs.declared.judging.Judged as declared
 use Rattle.pv_serve.specs.declared.judging.Judged.TheVariants as judged
-use Rattle.pv_serve.specs.Readings.{refusal_of, IsFit}
+use Rattle.pv_serve.specs.Loading.{refusal_of, IsFit, IsSourceRefused, IsScriptRefused}
 use Rattle.pv_serve.specs.Judged.{IsToRun, IsRunBy}
 use Rattle.pv_serve.specs.Report.{outcome_line, refusal_line, script_line, outcome_status}
 use Rattle.pv_serve.specs.Outside.{Sunk, Wrote, WrotePrefix, Halls}
 use Rattle.pv_serve.specs.Judging.{LeftPart}
-use Rattle.pv_serve.specs.Loading.{IsSourceRefused, IsScriptRefused}
 
 -- 5.1.2.3: the source is run, with so many turns at most, with a pointer to what has ended indeterminate (6.2.4p2) or not, and with these sides, if
 -- there are any (the memory model), by tables that are fit to be run (6.9), and of its run, with the names of its unit (6.4.2.1), P holds

@@ -1,8 +1,8 @@
 -- What the words of the command line ask for (5.1.2.2.1p2: a program's parameters). Which words there are is this program's own: docs/FORMATS.md
 -- has the rules.
-use Rattle.std.specs.Prelude.{◌≡◌, ℕ, ◌+◌, ◌-◌, ◌*◌, ◌&&◌, ◌||◌, Bool, List, [], ◌∷◌, length, map, Option, Some, None, IfSome, MatchOption, if◌then◌else◌, ◌==◌, nat_le, nat_lt, codes, option_map, option_and_then, unwrap_or, String, string_bytes, true, false}
-use Rattle.std.specs.List.{list_all}
+use Rattle.std.specs.Prelude.{ℕ, ◌+◌, ◌-◌, ◌*◌, Bool, List, [], ◌∷◌, length, map, Option, Some, None, if◌then◌else◌, ◌==◌, nat_le, nat_lt, codes, option_map, option_and_then, unwrap_or, String, string_bytes, true, false, ◌||◌, ◌&&◌}
 use Rattle.std.specs.Str.{bytes_eq}
+use Rattle.std.specs.List.{list_all}
 use Rattle.std.specs.Char.{is_ascii_digit}
 use Rattle.std.specs.declared.alloc.Global.{Global}
 use Rattle.pv_serve.specs.declared.words.Task.{Task}
@@ -10,9 +10,7 @@ use Rattle.pv_serve.specs.declared.words.Task.TheVariants as task
 use Rattle.pv_serve.specs.declared.words.Watched.{Watched}
 use Rattle.pv_serve.specs.declared.words.Mode.{Mode}
 use Rattle.pv_serve.specs.declared.words.Mode.TheVariants as whose
-use Rattle.pv_serve.specs.declared.words.Asked.{Asked}
-use Rattle.pv_serve.specs.declared.words.Options.{Options as ReadOptions}
-use Rattle.pv_serve.specs.Jobs.{FileJob, Job, Files, Generated, default_turns, nobody, IsBound}
+use Rattle.pv_serve.specs.Jobs.{FileJob, Job, Files, Generated, default_turns, nobody}
 
 -- 5.1.2.2.1p2: a word is a string: the bytes of each
 abbrev pub texts : List (String Global) → List (List ℕ)
@@ -204,35 +202,3 @@ abbrev pub job : List (List ℕ) → Option Job
 job words = either (generated words) (file_job words)
 
 -- ---- what the code reads
-
--- docs/FORMATS.md, Words (5.1.2.2.1p2): the job that was read of the words
-abbrev pub asked_job : Asked → FileJob
-asked_job a = record {
-  file = a.file.now;
-  script = option_map (λ s. s.now) a.script;
-  task = a.task;
-  sides = option_map (λ s. sides_in s.now) a.sides;
-  watched = a.watched;
-}
-
--- docs/FORMATS.md, Words (5.1.2.2.1p2): it is the job that the words ask for, or they ask for none
-abbrev pub IsAsked : Option Asked → (wanted : Option FileJob) → Type 0
-IsAsked read wanted = MatchOption read (wanted ≡ None) (λ a. wanted ≡ Some (asked_job a))
-
--- docs/FORMATS.md, Words (5.1.2.2.1p2): the options that were read
-abbrev pub options_read : ReadOptions → Options
-options_read o = record {
-  script = option_map (λ s. s.now) o.script;
-  turns = o.turns;
-  zap = o.zap;
-  sides = option_map (λ s. sides_in s.now) o.sides;
-  watched = o.watched;
-}
-
--- docs/FORMATS.md, Words (5.1.2.2.1p2): they are the options that the words say, or the words are no options
-abbrev pub AreOptions : Option ReadOptions → (wanted : Option Options) → Type 0
-AreOptions read wanted = MatchOption read (wanted ≡ None) (λ o. wanted ≡ Some (options_read o))
-
--- docs/FORMATS.md, Words (5.1.2.2.1p2): a bound that is given is one
-abbrev pub AreBounded : Option ℕ → Type 0
-AreBounded turns = IfSome turns IsBound

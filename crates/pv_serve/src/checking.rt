@@ -1,10 +1,10 @@
 //! What a source is: a unit that has a typing, or why it is none.
 ghost use Rattle.std.specs.Prelude.{◌^◌, ◌≤◌, List, ℕ, length, IfOk, IfErr};
 ghost use Rattle.pv_lex.specs.Lexes.{Lexes};
-ghost use Rattle.pv_lex.specs.Faults.{LiesWithin};
+ghost use Rattle.pv_lex.specs.Views.{LiesWithin};
 ghost use Rattle.pv_tree.specs.Units.{SpellUnit};
 ghost use Rattle.pv_unit.specs.Checking.{externals_in, IsNamed};
-ghost use Rattle.pv_serve.specs.Readings.{reading_of, IsReady, IsWordOf, IsNameOf, HasParts};
+ghost use Rattle.pv_serve.specs.Loading.{reading_of, IsReady, IsWordOf, IsNameOf, HasParts};
 ghost use Rattle.pv_serve.specs.Comes.{Comes, TokensCome, UnitComes, Reads};
 
 use crate::NoMemory;

@@ -1,7 +1,8 @@
 //! What a source with its script is, before anything is done with it.
 ghost use Rattle.std.specs.Prelude.{◌^◌, ◌≡◌, ◌≤◌, ℕ, List, length, Ok, Err, IfOk};
 ghost use Rattle.pv_script.specs.Lines.{ScriptLine};
-ghost use Rattle.pv_script.specs.Scripts.{script_of, OrNoMemory};
+ghost use Rattle.pv_script.specs.Scripts.{script_of};
+ghost use Rattle.pv_script.specs.LineView.{OrNoMemory};
 ghost use Rattle.pv_serve.specs.Comes.{source_limit};
 ghost use Rattle.pv_serve.specs.Loading.{IsLoaded};
 

@@ -2,7 +2,7 @@
 ghost use Rattle.std.specs.Prelude.{◌≡◌, ◌<◌, ◌⊎◌, ◌++◌, List, ℕ, IfOk, string_bytes};
 ghost use Rattle.pv_script.specs.Names.{name_at};
 ghost use Rattle.pv_serve.specs.Report as specified;
-ghost use Rattle.pv_serve.specs.Readings.{refusal_of, lexical_refusal, typing_refusal};
+ghost use Rattle.pv_serve.specs.Loading.{refusal_of, lexical_refusal, typing_refusal};
 ghost use Rattle.pv_serve.specs.Judging.{Shown, verdict_of};
 ghost use Rattle.pv_serve.specs.Settling.{line_of, status_by};
 

@@ -3,14 +3,16 @@ ghost use Rattle.std.specs.Prelude.{◌≡◌, ◌⊎◌, ◌<◌, ◌≤◌, �
 ghost use Rattle.std.specs.List.{filter};
 ghost use Rattle.pv_watch.specs.Slots.{is_kept};
 ghost use Rattle.pv_gen.specs.Source.{source_text};
-ghost use Rattle.pv_exec.specs.Answering.{hall_slots, highs};
-ghost use Rattle.pv_serve.specs.Jobs.{IsTask, Generated, kinds_of, default_turns};
-ghost use Rattle.pv_serve.specs.Words.{texts, file_job as file_job_of, job as job_of, asked_job};
+ghost use Rattle.pv_exec.specs.Answering.{highs};
+ghost use Rattle.pv_exec.specs.Outlets.{hall_slots};
+ghost use Rattle.pv_serve.specs.Jobs.{Generated, kinds_of, default_turns};
+ghost use Rattle.pv_serve.specs.ReadWords.{IsTask, asked_job};
+ghost use Rattle.pv_serve.specs.Words.{texts, file_job as file_job_of, job as job_of};
 ghost use Rattle.pv_serve.specs.Answer.{SomeAnswer};
 ghost use Rattle.pv_serve.specs.Outside.{sunk, halls};
 ghost use Rattle.pv_serve.specs.Causes.{Call, Served, IsAnswer};
 ghost use Rattle.pv_serve.specs.Serving.{Answered, FilesServed, HasStory, Reported, IsReportOn, kept_halls};
-ghost use Rattle.pv_script.specs.Memory.{calm_held, calm_written};
+ghost use Rattle.pv_script.specs.Calm.{calm_held, calm_written};
 
 use crate::NoMemory;
 use crate::reading::{JobText, read_job};

@@ -3,9 +3,9 @@ ghost use Rattle.std.specs.Prelude.{◌≡◌, ℕ, List, None, IfOk, IfErr};
 ghost use Rattle.pv_typed.specs.Tables.{whole};
 ghost use Rattle.pv_describe.specs.Describing as describing;
 ghost use Rattle.pv_exec.specs.Answering.{highs};
-ghost use Rattle.pv_serve.specs.Jobs.{IsTask, IsBound};
+ghost use Rattle.pv_serve.specs.ReadWords.{IsTask, IsBound};
 ghost use Rattle.pv_serve.specs.Verdicts.{Described};
-ghost use Rattle.pv_serve.specs.Readings.{IsFit};
+ghost use Rattle.pv_serve.specs.Loading.{IsFit};
 ghost use Rattle.pv_serve.specs.Outside.{Halls, sunk, halls};
 ghost use Rattle.pv_serve.specs.Judging.{IsJudged, IsCutOff, nothing_shown, verdict_of, UnitJudged, UnitCutOff, HasFault};
 

@@ -3,8 +3,9 @@ ghost use Rattle.std.specs.Prelude.{◌≡◌, ◌<◌, ◌≤◌, ◌&&◌, ◌
 ghost use Rattle.std.specs.List.{list_all};
 ghost use Rattle.std.specs.Str.{bytes_eq};
 ghost use Rattle.pv_serve.specs.Words as specified;
-ghost use Rattle.pv_serve.specs.Jobs.{IsTask, if_wanted, kinds_of};
-ghost use Rattle.pv_serve.specs.Words.{IsAsked, AreOptions, AreBounded};
+ghost use Rattle.pv_serve.specs.ReadWords as read_words;
+ghost use Rattle.pv_serve.specs.Jobs.{if_wanted, kinds_of};
+ghost use Rattle.pv_serve.specs.ReadWords.{IsTask, IsAsked, AreOptions, AreBounded};
 
 use std::alloc::{AllocError, Global};
 
@@ -205,7 +206,7 @@ fn settle_of<'a>(file: &'a str, rest: &'a [String]) -> Option<Asked<'a>>
 
 // No option was read yet.
 fn no_options<'a>() -> Options<'a>
-    ensures said { specified.options_read result ≡ specified.no_options }
+    ensures said { read_words.options_read result ≡ specified.no_options }
     ensures turns { AreBounded result.turns }
 {
     Options {
@@ -239,7 +240,7 @@ fn described<'a>(task: Task, file: &'a str, rest: &[String]) -> Option<Asked<'a>
 fn all_options<'a>(mode: Mode, given: Options<'a>, words: &'a [String]) -> Option<Options<'a>>
     requires { AreBounded given.turns }
     ensures words { AreOptions result
-        (specified.options mode (specified.options_read given.entry) (specified.texts words.now)) }
+        (specified.options mode (read_words.options_read given.entry) (specified.texts words.now)) }
     ensures turns { IfSome result (λ o. AreBounded o.turns) }
 {
     match words {
@@ -260,7 +261,7 @@ fn with_option<'a>(
     value: &'a str,
 ) -> Option<Options<'a>>
     requires { AreBounded given.turns }
-    ensures words { AreOptions result (specified.with_option mode (specified.options_read given.entry) name.now value.now) }
+    ensures words { AreOptions result (specified.with_option mode (read_words.options_read given.entry) name.now value.now) }
     ensures turns { IfSome result (λ o. AreBounded o.turns) }
 {
     match name {
@@ -274,7 +275,7 @@ fn with_option<'a>(
 // The option that a mode has by itself.
 fn with_own<'a>(mode: Mode, given: Options<'a>, name: &str, value: &'a str) -> Option<Options<'a>>
     requires { AreBounded given.turns }
-    ensures words { AreOptions result (specified.with_own mode (specified.options_read given.entry) name.now value.now) }
+    ensures words { AreOptions result (specified.with_own mode (read_words.options_read given.entry) name.now value.now) }
     ensures turns { IfSome result (λ o. AreBounded o.turns) }
 {
     match mode {
@@ -298,7 +299,7 @@ fn with_own<'a>(mode: Mode, given: Options<'a>, name: &str, value: &'a str) -> O
 // The script's file, which is named at most once.
 fn with_script<'a>(given: Options<'a>, name: &'a str) -> Option<Options<'a>>
     requires { AreBounded given.turns }
-    ensures words { AreOptions result (specified.with_script (specified.options_read given.entry) name.now) }
+    ensures words { AreOptions result (specified.with_script (read_words.options_read given.entry) name.now) }
     ensures turns { IfSome result (λ o. AreBounded o.turns) }
 {
     match given.script {
@@ -318,7 +319,7 @@ fn with_script<'a>(given: Options<'a>, name: &'a str) -> Option<Options<'a>>
 
 // The bound, which is given at most once.
 fn with_turns<'a>(given: Options<'a>, text: &str) -> Option<Options<'a>>
-    ensures words { AreOptions result (specified.with_turns (specified.options_read given.entry) text.now) }
+    ensures words { AreOptions result (specified.with_turns (read_words.options_read given.entry) text.now) }
     ensures turns { IfSome result (λ o. AreBounded o.turns) }
 {
     match given.turns {
@@ -336,7 +337,7 @@ fn with_turns<'a>(given: Options<'a>, text: &str) -> Option<Options<'a>>
 // Whether a pointer to what has ended is indeterminate, which is said at most once.
 fn with_zap<'a>(given: Options<'a>, word: &str) -> Option<Options<'a>>
     requires { AreBounded given.turns }
-    ensures words { AreOptions result (specified.with_zap (specified.options_read given.entry) word.now) }
+    ensures words { AreOptions result (specified.with_zap (read_words.options_read given.entry) word.now) }
     ensures turns { IfSome result (λ o. AreBounded o.turns) }
 {
     match given.zap {
@@ -365,7 +366,7 @@ fn zap_of(word: &str) -> Option<bool>
 // The sides of pairs, which are given at most once.
 fn with_sides<'a>(given: Options<'a>, word: &'a str) -> Option<Options<'a>>
     requires { AreBounded given.turns }
-    ensures words { AreOptions result (specified.with_sides (specified.options_read given.entry) word.now) }
+    ensures words { AreOptions result (specified.with_sides (read_words.options_read given.entry) word.now) }
     ensures turns { IfSome result (λ o. AreBounded o.turns) }
 {
     match given.sides {
@@ -402,7 +403,7 @@ fn are_letters(letters: &[u8]) -> bool
 // A watcher more, which is asked for at most once.
 fn with_watch<'a>(given: Options<'a>, word: &str) -> Option<Options<'a>>
     requires { AreBounded given.turns }
-    ensures words { AreOptions result (specified.with_watch (specified.options_read given.entry) word.now) }
+    ensures words { AreOptions result (specified.with_watch (read_words.options_read given.entry) word.now) }
     ensures turns { IfSome result (λ o. AreBounded o.turns) }
 {
     let watched = one_more(given.watched, word)?;

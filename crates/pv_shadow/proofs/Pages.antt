@@ -7,7 +7,8 @@ use Rattle.std.specs.Cmp.{unsigned_tied}
 use Rattle.std.specs.FinMap.{get, get-empty, insert, remove}
 use Rattle.std.specs.BTreeMap.{is_at}
 use Rattle.pv_shadow.specs.declared.byte.Byte.{Byte}
-use Rattle.pv_shadow.specs.Bytes.{Store, HasBytes, HasNone, blank, byte_at, read, written, spread, cleared}
+use Rattle.pv_shadow.specs.Bytes.{Store, blank, byte_at, read, written, spread, cleared}
+use Rattle.pv_shadow.specs.Readings.{HasBytes, HasNone}
 use Rattle.pv_shadow.specs.Pages.{slot_at, with_slots, put_slot, put_page, stored}
 use Rattle.std.specs.Map.{lookup}
 use Rattle.pv_shadow.proofs.Ranges.{IsOutside, alike, place_of, get-insert_here, get-insert_other, get-remove_here, get-remove_other, get-cleared_in, get-cleared_out}

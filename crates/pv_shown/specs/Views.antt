@@ -1,4 +1,4 @@
--- What the code's answers stand for (5.1.2.3).
+-- A bridge: what the code's answers stand for (5.1.2.3).
 use Rattle.std.specs.Prelude.{◌≡◌, Result, Ok, Err}
 use Rattle.pv_journal.specs.Lines.{rows_under}
 use Rattle.pv_shown.specs.declared.reading.CommandError.{CommandError}

@@ -9,7 +9,7 @@ use Rattle.pv_watch.specs.Lines.{event_lines, event_line, what_text}
 use Rattle.pv_watch.specs.Texts.{journal_text, last_line}
 use Rattle.pv_watch.specs.Slots.{Present, Told, SayAll}
 use Rattle.pv_exec.specs.Answering.{end_of}
-use Rattle.pv_exec.specs.Streaming.{event_of}
+use Rattle.pv_exec.specs.Outlets.{event_of}
 use Rattle.pv_exec.specs.declared.program.Ran.{Ran}
 use Rattle.pv_serve.specs.declared.words.Task.TheVariants as task
 use Rattle.pv_serve.specs.declared.judging.Judged as declared
@@ -18,7 +18,7 @@ use Rattle.pv_serve.specs.Judged.{Fit}
 use Rattle.pv_serve.specs.Judging.{ending_of}
 use Rattle.pv_serve.specs.declared.checking.Refused.{Refused}
 use Rattle.pv_serve.specs.Verdicts as verdict
-use Rattle.pv_serve.specs.Readings.{refusal_of}
+use Rattle.pv_serve.specs.Loading.{refusal_of}
 use Rattle.pv_serve.specs.Report.{outcome_line}
 use Rattle.pv_serve.specs.Settling.{SomeRunBy, IsRan, IsOutcome, line_of, status_by}
 use Rattle.pv_serve.specs.Outside.{Sunk, Halls}

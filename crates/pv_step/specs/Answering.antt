@@ -1,4 +1,4 @@
--- What the parts of the top call come to.
+-- A bridge: what the parts of the top call come to.
 use Rattle.std.specs.Prelude.{◌≡◌, ◌≢◌, ℕ, ◌+◌, List, take, Option}
 use Rattle.pv_serve.specs.Comes.{source_limit}
 use Rattle.pv_serve.specs.Judged.{script_limit}

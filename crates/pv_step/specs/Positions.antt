@@ -1,4 +1,4 @@
--- A position beside the run with that bound on its turns (5.1.2.3p1).
+-- A bridge: a position beside the run with that bound on its turns (5.1.2.3p1).
 use Rattle.std.specs.Prelude.{ℕ, true, List, None, map}
 use Rattle.pv_script.specs.Lines.{ScriptLine}
 use Rattle.pv_typed.specs.Tables.{Stored}
@@ -6,7 +6,7 @@ use Rattle.pv_watch.specs.declared.event.Event.{Event}
 use Rattle.pv_world.specs.Worlds.{Worth}
 use Rattle.pv_eval.specs.States.{Res, end_of}
 use Rattle.pv_exec.specs.Laws.{run_at}
-use Rattle.pv_exec.specs.Streaming.{event_of}
+use Rattle.pv_exec.specs.Outlets.{event_of}
 use Rattle.pv_serve.specs.Verdicts.{Ending}
 use Rattle.pv_serve.specs.Judged.{Ends}
 use Rattle.pv_shown.specs.Commands.{last_position}

@@ -1,9 +1,8 @@
 -- What the words of the command line ask for (5.1.2.2.1p2: a program's parameters). Which words there are is this program's own: docs/FORMATS.md
 -- has the rules.
-use Rattle.std.specs.Prelude.{◌≡◌, ℕ, ◌&&◌, List, [], ◌∷◌, ◌++◌, length, Option, Some, None, MatchOption, if◌then◌else◌, nat_lt, codes, option_map}
+use Rattle.std.specs.Prelude.{ℕ, ◌&&◌, List, [], ◌∷◌, ◌++◌, length, Option, Some, None, if◌then◌else◌, nat_lt, codes, option_map}
 use Rattle.std.specs.Str.{bytes_eq}
 use Rattle.pv_serve.specs.Jobs.{files_named}
-use Rattle.pv_step.specs.declared.words.Asked.{Asked}
 
 -- docs/FORMATS.md, Commands (5.1.2.3): the source in this file is run, with the script of addresses in that file, if one is named, and the commands in a third look at
 -- its run
@@ -41,11 +40,3 @@ job (file ∷ []) = None
 job (file ∷ commands ∷ rest) = asked file commands rest
 
 -- ---- what the code reads
-
--- docs/FORMATS.md, Commands (5.1.2.2.1p2): the job that was read of the words
-abbrev pub asked_job : Asked → StepJob
-asked_job a = record { file = a.file.now; commands = a.commands.now; script = option_map (λ s. s.now) a.script }
-
--- docs/FORMATS.md, Commands (5.1.2.2.1p2): it is the job that the words ask for, or they ask for none
-abbrev pub IsAsked : Option Asked → (wanted : Option StepJob) → Type 0
-IsAsked read wanted = MatchOption read (wanted ≡ None) (λ a. wanted ≡ Some (asked_job a))

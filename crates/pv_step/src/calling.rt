@@ -1,11 +1,12 @@
 //! The top call: what one call of the program does from its words to its status.
 ghost use Rattle.std.specs.Prelude.{◌≡◌, ◌⊎◌, ◌∷◌, [], ℕ, List, Some, IsNone};
-ghost use Rattle.pv_script.specs.Memory.{calm_held, calm_written};
+ghost use Rattle.pv_script.specs.Calm.{calm_held, calm_written};
 ghost use Rattle.pv_watch.specs.Slots.{Present};
-ghost use Rattle.pv_exec.specs.Answering.{hall_slots};
+ghost use Rattle.pv_exec.specs.Outlets.{hall_slots};
 ghost use Rattle.pv_serve.specs.Words.{texts};
 ghost use Rattle.pv_serve.specs.Outside.{sunk};
-ghost use Rattle.pv_step.specs.Words.{job, asked_job};
+ghost use Rattle.pv_step.specs.Words.{job};
+ghost use Rattle.pv_step.specs.ReadWords.{asked_job};
 ghost use Rattle.pv_step.specs.Answers.{SomeAnswer};
 ghost use Rattle.pv_step.specs.Causes.{Call, Answered, IsAnswer};
 ghost use Rattle.pv_step.specs.Answering.{JobServed, TextServed, IsHanded, IsOwn, read_fault, reply_view};

@@ -5,7 +5,8 @@ ghost use Rattle.pv_serve.specs.Jobs.{script_files};
 ghost use Rattle.pv_serve.specs.Judged.{script_limit};
 ghost use Rattle.pv_serve.specs.Answer.{script_held};
 ghost use Rattle.pv_serve.specs.Causes.{AnyRose};
-ghost use Rattle.pv_step.specs.Words.{files_of, asked_job};
+ghost use Rattle.pv_step.specs.Words.{files_of};
+ghost use Rattle.pv_step.specs.ReadWords.{asked_job};
 ghost use Rattle.pv_step.specs.Answering.{AreRead};
 
 use crate::words::Asked;

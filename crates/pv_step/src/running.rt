@@ -1,7 +1,7 @@
 //! What commands show of a source's run.
 ghost use Rattle.std.specs.Prelude.{◌≡◌, ◌<◌, ◌∷◌, ◌^◌, [], length, List, IfOk, OnOk};
 ghost use Rattle.pv_watch.specs.Slots.{Present};
-ghost use Rattle.pv_exec.specs.Answering.{hall_slots};
+ghost use Rattle.pv_exec.specs.Outlets.{hall_slots};
 ghost use Rattle.pv_serve.specs.Settling.{line_of, status_by};
 ghost use Rattle.pv_journal.specs.Journals.{Row};
 ghost use Rattle.pv_journal.specs.Obeying.{IsJournal};

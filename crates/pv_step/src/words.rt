@@ -2,7 +2,7 @@
 ghost use Rattle.std.specs.Prelude.{◌≡◌, MatchOption, None, Some, option_map};
 ghost use Rattle.pv_serve.specs.Words.{texts};
 ghost use Rattle.pv_step.specs.Words as specified;
-ghost use Rattle.pv_step.specs.Words.{IsAsked};
+ghost use Rattle.pv_step.specs.ReadWords.{IsAsked};
 
 /// What is asked for: the run of a source is looked at by commands.
 #[derive(Clone, Copy)]

@@ -1,4 +1,4 @@
--- What reads the statements within a statement.
+-- A bridge: what reads the statements within a statement.
 use Rattle.std.specs.Prelude.{ℕ, List}
 use Rattle.pv_token.specs.declared.token_table.Token.{Token}
 use Rattle.pv_tree.specs.Tables.{Tables}

@@ -1,7 +1,8 @@
 //! One external declaration: a declaration or a function definition (C17 6.9).
 ghost use Rattle.std.specs.Prelude.{◌≡◌, ◌≤◌, length, Some, None, IfOk, IfSome, nat_eq};
 ghost use Rattle.indexmap.specs.IndexSet.{contains};
-ghost use Rattle.pv_tree.specs.Tables.{is_specifier, is_declarator, is_external, Is, HasList, Extends};
+ghost use Rattle.pv_tree.specs.Tables.{is_specifier, is_declarator, Is, HasList, Extends};
+ghost use Rattle.pv_tree.specs.Syntax.{is_external};
 ghost use Rattle.pv_tree.specs.Units.{depth_limit};
 ghost use Rattle.pv_stmt_forms.specs.Statements.{statement};
 ghost use Rattle.pv_stmt_forms.specs.Externals.{external};

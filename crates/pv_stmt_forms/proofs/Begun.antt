@@ -6,7 +6,8 @@ use Rattle.pv_token.specs.declared.token_table.TokenKind.TheVariants as kind
 use Rattle.pv_token.specs.declared.words.Word.TheVariants as word
 use Rattle.pv_token.specs.declared.marks.Mark.TheVariants as mark
 use Rattle.pv_tree.specs.Syntax.{Break, Continue, OfStatement}
-use Rattle.pv_tree.specs.Grammar.{Names, begins_type, line_here}
+use Rattle.pv_tree.specs.Grammar.{line_here}
+use Rattle.pv_tree.specs.Spells.{Names, begins_type}
 use Rattle.pv_expr_forms.specs.Reader.{after}
 use Rattle.pv_expr_forms.proofs.Steps.{some_is}
 use Rattle.pv_decl_forms.specs.Pieces.{Piece, is_semicolon, is_open_brace}

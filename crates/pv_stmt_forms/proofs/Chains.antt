@@ -9,7 +9,8 @@ use Rattle.pv_token.specs.declared.token_table.TokenKind.TheVariants as kind
 use Rattle.pv_token.specs.declared.words.Word.TheVariants as word
 use Rattle.pv_tree.specs.declared.nodes.NodeId.{NodeId}
 use Rattle.pv_tree.specs.Syntax.{If, IfElse, While, Switch, DoWhile, Labelled, ExpressionStatement, Return, Case, Default, Tree, OfExpression, OfDeclaration, OfStatement, Trees, NoTrees, OptionalTree}
-use Rattle.pv_tree.specs.Grammar.{Names, line_here}
+use Rattle.pv_tree.specs.Grammar.{line_here}
+use Rattle.pv_tree.specs.Spells.{Names}
 use Rattle.pv_tree.specs.Places.{is_declaration_tree, ends_open, some}
 use Rattle.pv_tree.specs.Tables.{Tables, tree_at, as_expression, as_declaration, as_statement, expression_at, statement_at, optional_at, is_expression, is_declaration, is_statement, is_item, HasOptional, Is, Extends}
 use Rattle.pv_tree.specs.TypeNames.{TypeMap, AreTied}

@@ -8,7 +8,8 @@ use Rattle.pv_token.specs.declared.marks.Mark.TheVariants as mark
 use Rattle.pv_tree.specs.Syntax.{ExpressionTree, DeclarationTree, Declaration, StatementTree, ExpressionStatement, If, IfElse, While, DoWhile, For, ForDeclaration, Switch, Break, Continue, Return, Tree, OfExpression, OfDeclaration, OfStatement, OptionalTree, Absent, Present}
 use Rattle.pv_tree.specs.Depths.{expression_depth, declaration_depth, statement_depth, optional_depth}
 use Rattle.pv_tree.specs.Spelling.{ended, in_parens, expression_tokens, declaration_tokens, statement_tokens, optional_tokens}
-use Rattle.pv_tree.specs.Grammar.{Names, line_here, Fits}
+use Rattle.pv_tree.specs.Grammar.{line_here}
+use Rattle.pv_tree.specs.Spells.{Names, Fits}
 use Rattle.pv_tree.specs.Tables.{as_statement}
 use Rattle.pv_tree.specs.Places.{Expressions, is_whole_statement, is_switch_block, is_declaration_tree, ends_open}
 use Rattle.pv_tree.specs.Fitting.{DeclarationFits, StatementFits, OptionalFits, past}

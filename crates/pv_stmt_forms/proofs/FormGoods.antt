@@ -8,7 +8,7 @@ use Rattle.pv_token.specs.declared.marks.Mark.TheVariants as mark
 use Rattle.pv_tree.specs.Syntax.{ExpressionStatement, If, IfElse, While, DoWhile, For, ForDeclaration, Switch, Break, Continue, Return, Tree, OfStatement, OptionalTree}
 use Rattle.pv_tree.specs.Depths.{expression_depth}
 use Rattle.pv_tree.specs.Spelling.{ended, in_parens, expression_tokens, declaration_tokens, statement_tokens, optional_tokens}
-use Rattle.pv_tree.specs.Grammar.{Names, begins_type, Fits}
+use Rattle.pv_tree.specs.Spells.{Names, begins_type, Fits}
 use Rattle.pv_tree.specs.Tables.{as_expression, as_declaration, as_statement}
 use Rattle.pv_tree.specs.Places.{Expressions, ends_open}
 use Rattle.pv_tree.specs.Fitting.{StatementFits, DeclarationFits, OptionalFits, past}

@@ -4,7 +4,7 @@ use Rattle.pv_token.specs.declared.token_table.Token.{Token}
 use Rattle.pv_tree.specs.Syntax.{Tree, Trees, NoTrees, Then}
 use Rattle.pv_tree.specs.Depths.{tree_depth, trees_depth}
 use Rattle.pv_tree.specs.Spelling.{tree_tokens, trees_tokens}
-use Rattle.pv_tree.specs.Grammar.{Names, Fits}
+use Rattle.pv_tree.specs.Spells.{Names, Fits}
 use Rattle.pv_tree.specs.Places.{Place, stands}
 use Rattle.pv_tree.specs.Fitting.{TreeFits, RowFits}
 use Rattle.pv_expr_forms.proofs.Runs.{Takes, takes_parts, takes_rest}

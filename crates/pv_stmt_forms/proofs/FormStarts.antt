@@ -9,7 +9,7 @@ use Rattle.pv_tree.specs.Syntax.{ExpressionTree, Binary, DeclarationTree, Declar
 use Rattle.pv_tree.specs.Depths.{expression_depth}
 use Rattle.pv_tree.specs.Levels.{rank}
 use Rattle.pv_tree.specs.Spelling.{ended, in_parens, expression_tokens, declaration_tokens, statement_tokens, trees_tokens, listed_tokens, optional_tokens}
-use Rattle.pv_tree.specs.Grammar.{Names, kind_begins_type, begins_type, Fits}
+use Rattle.pv_tree.specs.Spells.{Names, kind_begins_type, begins_type, Fits}
 use Rattle.pv_tree.specs.Places.{Labels, Expressions, is_whole_statement, is_declaration_tree, some}
 use Rattle.pv_tree.specs.Fitting.{DeclarationFits, StatementFits, RowFits, OptionalFits}
 use Rattle.pv_expr_forms.specs.Reader.{Reads as Expressing, head_of as begun_of, head as begun, deeper, fronted, read}

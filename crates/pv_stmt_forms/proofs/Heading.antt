@@ -5,7 +5,7 @@ use Rattle.pv_token.specs.declared.token_table.Token.{Token}
 use Rattle.pv_token.specs.declared.token_table.TokenKind.{TokenKind}
 use Rattle.pv_tree.specs.declared.nodes.NodeId.{NodeId}
 use Rattle.pv_tree.specs.Syntax.{For, ForDeclaration, Tree, OfStatement, OptionalTree}
-use Rattle.pv_tree.specs.Grammar.{Names, begins_type}
+use Rattle.pv_tree.specs.Spells.{Names, begins_type}
 use Rattle.pv_tree.specs.Tables.{Tables, as_declaration, as_statement, optional_at, is_expression, is_declaration, HasOptional, Extends}
 use Rattle.pv_tree.specs.TypeNames.{TypeMap, AreTied}
 use Rattle.pv_tree.proofs.Kept.{tree_kept, is_kept}

@@ -3,7 +3,8 @@ use Rattle.std.proofs.Common.{◌≡◌, ℕ, true, List, Some}
 use Rattle.pv_token.specs.declared.token_table.Token.{Token}
 use Rattle.pv_tree.specs.declared.nodes.NodeId.{NodeId}
 use Rattle.pv_tree.specs.Syntax.{Labelled, Tree, OfStatement, Trees, NoTrees}
-use Rattle.pv_tree.specs.Grammar.{Names, line_here}
+use Rattle.pv_tree.specs.Grammar.{line_here}
+use Rattle.pv_tree.specs.Spells.{Names}
 use Rattle.pv_tree.specs.Places.{some}
 use Rattle.pv_tree.specs.Tables.{Forest, as_statement, trees_of}
 use Rattle.pv_decl_forms.specs.Pieces.{Piece, row}

@@ -1,11 +1,10 @@
 -- What is spelled as an external declaration is read, whatever follows.
 use Rattle.std.proofs.Common.{◌≡◌, ◌≤◌, ℕ, zero, suc, true, false, List, [], ◌∷◌, ◌++◌, Some, refl, ap, subst, ◌∙◌, arith}
 use Rattle.pv_token.specs.declared.token_table.Token.{Token}
-use Rattle.pv_tree.specs.Syntax.{DeclarationTree, Function, Declaration, Parameter, DeclaratorTree, Block, OfDeclaration, OfDeclarator, Trees, Present}
+use Rattle.pv_tree.specs.Syntax.{DeclarationTree, Function, Declaration, Parameter, DeclaratorTree, Block, OfDeclaration, OfDeclarator, Trees, Present, is_external}
 use Rattle.pv_tree.specs.Depths.{declaration_depth}
 use Rattle.pv_tree.specs.Spelling.{declaration_tokens, declarator_tokens, statement_tokens, trees_tokens}
-use Rattle.pv_tree.specs.Grammar.{Names, Fits}
-use Rattle.pv_tree.specs.Tables.{is_external}
+use Rattle.pv_tree.specs.Spells.{Names, Fits}
 use Rattle.pv_tree.specs.Fitting.{DeclarationFits, StatementFits, past}
 use Rattle.pv_expr_forms.proofs.Runs.{Takes, takes_then, takes_parts, takes_rest}
 use Rattle.pv_expr_forms.proofs.Heads.{IsSpelled}

@@ -4,11 +4,11 @@ use Rattle.std.proofs.lemmas.Bool.{and_parts}
 use Rattle.std.proofs.lemmas.List.{length-append}
 use Rattle.pv_token.specs.declared.token_table.Token.{Token}
 use Rattle.pv_token.specs.declared.token_table.TokenKind.{TokenKind}
-use Rattle.pv_tree.specs.Syntax.{DeclarationTree, Function, Declaration, Parameter, DeclaratorTree, Block, Tree, OfDeclaration, OfDeclarator, OfStatement, Trees, NoTrees, Present}
+use Rattle.pv_tree.specs.Syntax.{DeclarationTree, Function, Declaration, Parameter, DeclaratorTree, Block, Tree, OfDeclaration, OfDeclarator, OfStatement, Trees, NoTrees, Present, is_external}
 use Rattle.pv_tree.specs.Depths.{declaration_depth}
 use Rattle.pv_tree.specs.Spelling.{declaration_tokens, declarator_tokens, statement_tokens, trees_tokens}
-use Rattle.pv_tree.specs.Grammar.{Names, Fits}
-use Rattle.pv_tree.specs.Tables.{as_declaration, as_statement, is_external}
+use Rattle.pv_tree.specs.Spells.{Names, Fits}
+use Rattle.pv_tree.specs.Tables.{as_declaration, as_statement}
 use Rattle.pv_tree.specs.Places.{is_block, is_named}
 use Rattle.pv_tree.specs.Fitting.{DeclarationFits, StatementFits, past}
 use Rattle.pv_expr_forms.proofs.Runs.{Takes, takes_then, takes_parts, takes_rest}

@@ -9,10 +9,10 @@ use Rattle.pv_tree.specs.declared.nodes.NodeId.{NodeId}
 use Rattle.pv_tree.specs.declared.nodes.ListId.{ListId}
 use Rattle.pv_tree.specs.declared.nodes.Decl.{Decl}
 use Rattle.pv_tree.specs.declared.nodes.Decl.TheVariants as decl
-use Rattle.pv_tree.specs.Syntax.{DeclarationTree, Function, Declaration, Parameter, DeclaratorTree, Tree, OfDeclaration, OfDeclarator, Trees, Present}
-use Rattle.pv_tree.specs.Tables.{Forest, Tables, with_tree, with_external, as_declaration, as_declarator, tree_at, trees_of, trees_at, declaration_at, declarator_at, statement_at, is_declaration, is_declarator, is_specifier, is_statement, is_external, Has, HasOptional, HasList, Is, Extends}
+use Rattle.pv_tree.specs.Syntax.{DeclarationTree, Function, Declaration, Parameter, DeclaratorTree, Tree, OfDeclaration, OfDeclarator, Trees, Present, is_external}
+use Rattle.pv_tree.specs.Tables.{Forest, Tables, with_tree, with_external, as_declaration, as_declarator, tree_at, trees_of, trees_at, declaration_at, declarator_at, statement_at, is_declaration, is_declarator, is_specifier, is_statement, Has, HasOptional, HasList, Is, Extends}
 use Rattle.pv_tree.specs.Nodes.{declaration_of}
-use Rattle.pv_tree.specs.Grammar.{Names}
+use Rattle.pv_tree.specs.Spells.{Names}
 use Rattle.pv_tree.specs.TypeNames.{TypeMap, names_of, type_seen, AreTied}
 use Rattle.pv_tree.specs.Units.{depth_limit, no_types, with_types, SpellUnit, IsWhole}
 use Rattle.pv_tree.proofs.Kept.{tree_kept, list_kept, is_kept}

@@ -8,7 +8,7 @@ use Rattle.pv_tree.specs.Syntax.{ExpressionTree, OfExpression, OptionalTree, Abs
 use Rattle.pv_tree.specs.Depths.{expression_depth, optional_depth}
 use Rattle.pv_tree.specs.Levels.{rank}
 use Rattle.pv_tree.specs.Spelling.{in_parens, expression_tokens, optional_tokens}
-use Rattle.pv_tree.specs.Grammar.{Names, Fits}
+use Rattle.pv_tree.specs.Spells.{Names, Fits}
 use Rattle.pv_tree.specs.Places.{Expressions}
 use Rattle.pv_tree.specs.Fitting.{OptionalFits, past}
 use Rattle.pv_expr_forms.specs.Reader.{is_open, is_close}

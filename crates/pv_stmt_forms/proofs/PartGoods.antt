@@ -8,7 +8,7 @@ use Rattle.pv_tree.specs.Syntax.{ExpressionTree, DeclarationTree, StatementTree,
 use Rattle.pv_tree.specs.Depths.{expression_depth, declaration_depth, statement_depth, optional_depth}
 use Rattle.pv_tree.specs.Levels.{rank}
 use Rattle.pv_tree.specs.Spelling.{ended, in_parens, expression_tokens, declaration_tokens, statement_tokens, optional_tokens}
-use Rattle.pv_tree.specs.Grammar.{Names, Fits}
+use Rattle.pv_tree.specs.Spells.{Names, Fits}
 use Rattle.pv_tree.specs.Tables.{as_expression, as_declaration, as_statement}
 use Rattle.pv_tree.specs.Places.{Place, Expressions, BlockItems, SwitchItems, Labels, is_declaration_tree, is_whole_statement, is_switch_block}
 use Rattle.pv_tree.specs.Fitting.{DeclarationFits, StatementFits, OptionalFits, past}

@@ -8,7 +8,8 @@ use Rattle.pv_token.specs.declared.marks.Mark.TheVariants as mark
 use Rattle.pv_tree.specs.declared.nodes.NodeId.{NodeId}
 use Rattle.pv_tree.specs.Syntax.{DeclarationTree, Tree, OfDeclaration}
 use Rattle.pv_tree.specs.Depths.{declaration_depth}
-use Rattle.pv_tree.specs.Grammar.{Names, FitsBy}
+use Rattle.pv_tree.specs.Grammar.{FitsBy}
+use Rattle.pv_tree.specs.Spells.{Names}
 use Rattle.pv_tree.specs.Tables.{Forest, Tables, as_declaration}
 use Rattle.pv_tree.specs.TypeNames.{TypeMap, type_seen, names_of, AreTied}
 use Rattle.pv_tree.specs.Fitting.{DeclarationFits, TypeNameFits}

@@ -8,7 +8,8 @@ use Rattle.pv_token.specs.declared.words.Word.TheVariants as word
 use Rattle.pv_token.specs.declared.marks.Mark.TheVariants as mark
 use Rattle.pv_tree.specs.Syntax.{ExpressionTree, While, DoWhile, For, ForDeclaration, Switch, Labelled, Case, Default, Break, Continue, Return, ExpressionStatement, Tree, OfExpression, OfStatement, Trees, NoTrees, OptionalTree}
 use Rattle.pv_tree.specs.Spelling.{declaration_tokens}
-use Rattle.pv_tree.specs.Grammar.{Names, begins_type, line_here}
+use Rattle.pv_tree.specs.Grammar.{line_here}
+use Rattle.pv_tree.specs.Spells.{Names, begins_type}
 use Rattle.pv_tree.specs.Tables.{Tables, as_expression, as_declaration, as_statement}
 use Rattle.pv_tree.specs.TypeNames.{TypeMap, AreTied}
 use Rattle.pv_tree.specs.Places.{is_declaration_tree, ends_open, some}

@@ -9,7 +9,8 @@ use Rattle.pv_tree.specs.Syntax.{ExpressionTree, DeclarationTree, StatementTree,
 use Rattle.pv_tree.specs.Depths.{expression_depth, statement_depth, trees_depth, tree_depth}
 use Rattle.pv_tree.specs.Levels.{rank}
 use Rattle.pv_tree.specs.Spelling.{expression_tokens, statement_tokens, tree_tokens, trees_tokens}
-use Rattle.pv_tree.specs.Grammar.{Names, begins_type, line_here, Fits}
+use Rattle.pv_tree.specs.Grammar.{line_here}
+use Rattle.pv_tree.specs.Spells.{Names, begins_type, Fits}
 use Rattle.pv_tree.specs.Places.{BlockItems, SwitchItems, Labels, Expressions, stands, is_declaration_tree, is_whole_statement, is_switch_block, ends_open, some}
 use Rattle.pv_tree.specs.Fitting.{StatementFits, TreeFits, RowFits, past}
 use Rattle.pv_expr_forms.specs.Reader.{is_colon}

@@ -7,7 +7,8 @@ use Rattle.pv_token.specs.declared.words.Word.TheVariants as word
 use Rattle.pv_token.specs.declared.marks.Mark.TheVariants as mark
 use Rattle.pv_tree.specs.Syntax.{DeclarationTree, StatementTree, Block, SwitchBlock, Labelled, Case, Default, Tree, OfDeclaration, OfStatement, Trees, NoTrees, Then}
 use Rattle.pv_tree.specs.Spelling.{expression_tokens, statement_tokens, trees_tokens}
-use Rattle.pv_tree.specs.Grammar.{Names, begins_type, line_here, Fits}
+use Rattle.pv_tree.specs.Grammar.{line_here}
+use Rattle.pv_tree.specs.Spells.{Names, begins_type, Fits}
 use Rattle.pv_tree.specs.Tables.{as_expression, as_declaration, as_statement}
 use Rattle.pv_tree.specs.Places.{Place, BlockItems, SwitchItems, Labels, Expressions, stands, is_declaration_tree, is_whole_statement, stands_item, some}
 use Rattle.pv_tree.specs.Fitting.{StatementFits, past}

@@ -1,8 +1,8 @@
--- Reading external declarations from the left, on lists (6.9).
+-- A bridge: reading external declarations from the left, on lists (6.9).
 use Rattle.std.specs.Prelude.{ℕ, zero, suc, Bool, List, [], ◌∷◌, length, Option, Some, None, option_map, option_and_then}
 use Rattle.pv_token.specs.declared.token_table.Token.{Token}
 use Rattle.pv_tree.specs.Syntax.{DeclarationTree, Function, Declaration, Parameter, Tree, OfDeclaration, OfDeclarator, Present}
-use Rattle.pv_tree.specs.Grammar.{Names}
+use Rattle.pv_tree.specs.Spells.{Names}
 use Rattle.pv_tree.specs.Tables.{as_statement}
 use Rattle.pv_tree.specs.Units.{depth_limit, with_types}
 use Rattle.pv_decl_forms.specs.Pieces.{Piece}

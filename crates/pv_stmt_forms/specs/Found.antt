@@ -1,10 +1,10 @@
--- What the readers of external declarations answer, as what reading on lists gives (6.9).
+-- A bridge: what the readers of external declarations answer, as what reading on lists gives (6.9).
 use Rattle.std.specs.Prelude.{◌≡◌, ℕ, Bool, List, Option, drop, option_map}
 use Rattle.pv_token.specs.declared.token_table.Token.{Token}
 use Rattle.pv_tree.specs.declared.nodes.ListId.{ListId}
 use Rattle.pv_tree.specs.declared.nodes.NodeId.{NodeId}
-use Rattle.pv_tree.specs.Syntax.{DeclaratorTree, Function, OfDeclaration, Trees}
-use Rattle.pv_tree.specs.Tables.{Forest, Tables, as_statement, declarator_at, trees_at, is_external}
+use Rattle.pv_tree.specs.Syntax.{DeclaratorTree, Function, OfDeclaration, Trees, is_external}
+use Rattle.pv_tree.specs.Tables.{Forest, Tables, as_statement, declarator_at, trees_at}
 use Rattle.pv_tree.specs.TypeNames.{type_seen}
 use Rattle.pv_decl_forms.specs.Answers.{IsThere}
 use Rattle.pv_decl_forms.specs.Pieces.{Piece}

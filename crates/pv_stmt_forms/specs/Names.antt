@@ -1,4 +1,4 @@
--- The names that declarators and declarations declare, in the words of the code (6.7.6p2, 6.7.8p3).
+-- A bridge: the names that declarators and declarations declare, in the words of the code (6.7.6p2, 6.7.8p3).
 use Rattle.std.specs.Prelude.{◌<◌, ◌==◌, ℕ, Bool, false, Option, Some, None}
 use Rattle.pv_tree.specs.declared.nodes.NodeId.{NodeId}
 use Rattle.pv_tree.specs.Syntax.{InitDeclarator, Tree, OfDeclaration}

@@ -1,4 +1,4 @@
--- What the code asks for by names of its own, in the words of the reader.
+-- A bridge: what the code asks for by names of its own, in the words of the reader.
 use Rattle.std.specs.Prelude.{◌≡◌, ◌≤◌, ℕ, Bool, List, length, drop, Option, Some, None, option_map}
 use Rattle.pv_token.specs.declared.token_table.Token.{Token}
 use Rattle.pv_token.specs.declared.token_table.TokenKind.{TokenKind}
@@ -7,7 +7,7 @@ use Rattle.pv_token.specs.declared.words.Word.TheVariants as word
 use Rattle.pv_token.specs.declared.marks.Mark.TheVariants as mark
 use Rattle.pv_tree.specs.declared.nodes.NodeId.{NodeId}
 use Rattle.pv_tree.specs.Syntax.{Block, SwitchBlock, For, ForDeclaration, Tree, OfStatement, Trees, NoTrees, OptionalTree}
-use Rattle.pv_tree.specs.Grammar.{Names}
+use Rattle.pv_tree.specs.Spells.{Names}
 use Rattle.pv_tree.specs.Tables.{Forest, Tables, as_statement, declaration_at, optional_at, is_expression, is_declaration, Has, HasOptional}
 use Rattle.pv_expr_forms.specs.Reader.{is_open, is_close, is_colon}
 use Rattle.pv_decl_forms.specs.Pieces.{Piece, is_semicolon, is_open_brace, is_close_brace, row}

@@ -1,4 +1,4 @@
--- Where an external declaration may end, as far as its braces and semicolons tell (6.7p1, 6.9.1p1).
+-- A bridge: where an external declaration may end, as far as its braces and semicolons tell (6.7p1, 6.9.1p1).
 use Rattle.std.specs.Prelude.{◌≡◌, ◌-◌, ◌<◌, ℕ, zero, suc, Bool, true, false, List, [], ◌∷◌, IsSomeAnd, slice_get}
 use Rattle.pv_token.specs.declared.token_table.Token.{Token}
 use Rattle.pv_token.specs.declared.token_table.TokenKind.{TokenKind}

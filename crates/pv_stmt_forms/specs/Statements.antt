@@ -1,4 +1,4 @@
--- Reading statements from the left, on lists (6.8): the longest of at most so much depth. A node takes its parts from one level of depth less;
+-- A bridge: reading statements from the left, on lists (6.8): the longest of at most so much depth. A node takes its parts from one level of depth less;
 -- labels, which are no nodes, from its own.
 use Rattle.std.specs.Prelude.{ℕ, zero, suc, Bool, true, false, List, [], ◌∷◌, Option, Some, None, option_map, option_and_then, if◌then◌else◌}
 use Rattle.pv_token.specs.declared.token_table.Token.{Token}
@@ -7,7 +7,8 @@ use Rattle.pv_token.specs.declared.token_table.TokenKind.TheVariants as kind
 use Rattle.pv_token.specs.declared.words.Word.TheVariants as word
 use Rattle.pv_token.specs.declared.marks.Mark.TheVariants as mark
 use Rattle.pv_tree.specs.Syntax.{Block, ExpressionStatement, If, IfElse, While, DoWhile, For, ForDeclaration, Switch, SwitchBlock, Labelled, Case, Default, Break, Continue, Return, Tree, OfExpression, OfStatement, Trees, NoTrees, OptionalTree}
-use Rattle.pv_tree.specs.Grammar.{Names, begins_type, line_here}
+use Rattle.pv_tree.specs.Grammar.{line_here}
+use Rattle.pv_tree.specs.Spells.{Names, begins_type}
 use Rattle.pv_tree.specs.Tables.{as_expression, as_declaration, as_statement}
 use Rattle.pv_tree.specs.Places.{is_declaration_tree, ends_open, some}
 use Rattle.pv_expr_forms.specs.Reader.{is_open, is_close, is_colon, after, read}

@@ -1,4 +1,4 @@
--- What a unit's tables hold, as external declarations.
+-- A bridge: what a unit's tables hold, as external declarations.
 use Rattle.std.specs.Prelude.{List, map}
 use Rattle.pv_tree.specs.Syntax.{DeclarationTree}
 use Rattle.pv_tree.specs.Tables.{Tables, declaration_at}

@@ -4,7 +4,7 @@ use Rattle.std.specs.Prelude.{Option, Some, None}
 use Rattle.pv_num.specs.declared.faults.Clause.{Clause}
 use Rattle.pv_script.specs.Outside.{Gains}
 use Rattle.pv_exec.specs.Answering.{end_of}
-use Rattle.pv_exec.specs.Streaming.{event_of}
+use Rattle.pv_exec.specs.Outlets.{event_of}
 use Rattle.pv_exec.specs.declared.program.Ran.{Ran}
 use Rattle.pv_serve.specs.declared.words.Task.TheVariants as task
 use Rattle.pv_serve.specs.declared.judging.Judged as declared
@@ -12,7 +12,7 @@ use Rattle.pv_serve.specs.declared.judging.Judged.TheVariants as judged
 use Rattle.pv_serve.specs.Judged.{Judged, Fit, script_limit}
 use Rattle.pv_serve.specs.Judging.{ending_of}
 use Rattle.pv_serve.specs.Verdicts.{Ended, Refused, Script}
-use Rattle.pv_serve.specs.Readings.{refusal_of}
+use Rattle.pv_serve.specs.Loading.{refusal_of}
 use Rattle.pv_serve.specs.Settling.{SomeRunBy, IsRan, IsOutcome, line_of}
 use Rattle.pv_serve.specs.Outside.{Sunk, Halls, Wrote}
 use Rattle.pv_serve.proofs.Limits.{more_decides}

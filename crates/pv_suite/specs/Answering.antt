@@ -1,4 +1,4 @@
--- What the parts of the top call come to.
+-- A bridge: what the parts of the top call come to.
 use Rattle.std.specs.Prelude.{◌≡◌, ◌≢◌, ◌⊎◌, ℕ, ◌+◌, true, false, List, take, map, Option, Some, None, IfSome, option_map, Vec}
 use Rattle.std.specs.declared.alloc.Global.{Global}
 use Rattle.pv_num.specs.declared.faults.Clause.{Clause}

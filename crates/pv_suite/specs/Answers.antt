@@ -7,9 +7,8 @@ use Rattle.pv_cases.specs.declared.list.ListError.{ListError}
 use Rattle.pv_cases.specs.Cases.{SuiteCase, cases_of}
 use Rattle.pv_cases.specs.Suites.{Gave, Wanted, CaseTold, told_of, suite_text, suite_status, list_line, long_line}
 use Rattle.pv_serve.specs.declared.words.Task.TheVariants as task
-use Rattle.pv_serve.specs.Verdicts.{Verdict, Ended, Settled, Described, Refused, Script}
+use Rattle.pv_serve.specs.Verdicts.{Verdict, Ended, Settled, Described, Refused, Script, output_of}
 use Rattle.pv_serve.specs.Judged.{Judged}
-use Rattle.pv_serve.specs.Judging.{output_of}
 use Rattle.pv_serve.specs.Report.{report_line, words_line}
 use Rattle.pv_serve.specs.Answer.{script_held}
 

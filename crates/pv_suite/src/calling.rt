@@ -1,6 +1,6 @@
 //! The top call: what one call of the program does from its words to its status.
 ghost use Rattle.std.specs.Prelude.{◌≡◌, ◌≢◌, ◌⊎◌, ◌≤◌, ℕ, List, Some, IsNone};
-ghost use Rattle.pv_script.specs.Memory.{calm_held, calm_written};
+ghost use Rattle.pv_script.specs.Calm.{calm_held, calm_written};
 ghost use Rattle.pv_serve.specs.Words.{texts};
 ghost use Rattle.pv_serve.specs.Outside.{sunk};
 ghost use Rattle.pv_suite.specs.Words.{list_of};

@@ -1,6 +1,6 @@
 //! Running the source of a case (C17 5.1.2.3).
 ghost use Rattle.std.specs.Prelude.{◌≡◌, option_map, IfOk};
-ghost use Rattle.pv_serve.specs.Jobs.{IsBound};
+ghost use Rattle.pv_serve.specs.ReadWords.{IsBound};
 ghost use Rattle.pv_cases.specs.Views.{case_view, IsBounded, told_view};
 ghost use Rattle.pv_cases.specs.Suites.{told_of, Gave};
 ghost use Rattle.pv_suite.specs.Answers.{CaseComes, broken_by, wanted_of};

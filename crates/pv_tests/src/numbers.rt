@@ -1,8 +1,8 @@
 // What C17 gives at the edges of every kind: from a reference in another language, and from a C compiler
 // where C defines the value.
 ghost use Rattle.std.specs.Prelude.{IsTrue};
-ghost use Rattle.pv_num.specs.Arithmetic.{IsPromoted, IsOperand};
-ghost use Rattle.pv_num.specs.Kinds.{IsConvertible};
+ghost use Rattle.pv_num.specs.Arithmetic.{IsPromoted};
+ghost use Rattle.pv_num.specs.Operands.{IsOperand, IsConvertible};
 
 use Call::{Binary, Convert, Fits, Unary};
 use pv_num::BinOp::{Add, And, Div, Eq, Ge, Gt, Le, Lt, Mul, Ne, Or, Rem, Shl, Shr, Sub, Xor};

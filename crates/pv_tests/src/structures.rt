@@ -1,6 +1,6 @@
 // The structure of two members that tests of types look at.
 ghost use Rattle.std.specs.Prelude.{◌<◌, ◌≡◌, [], length, IsTrue};
-ghost use Rattle.pv_types.specs.Known.{members_in};
+ghost use Rattle.pv_types.specs.Formed.{members_in};
 
 use pv_num::IntKind;
 use pv_types::{Member, Term, TypeId, Types};

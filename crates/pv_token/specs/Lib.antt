@@ -1,2 +1,4 @@
+pub mod Kept
 pub mod Said
 pub mod Table
+pub mod Views

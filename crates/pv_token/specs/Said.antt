@@ -2,8 +2,6 @@
 use Rattle.std.specs.Prelude.{ℕ, Bool, List, if◌then◌else◌, nat_lt, ℤ, pos, ◌-ℤ◌}
 use Rattle.pv_token.specs.declared.words.Word.{Word}
 use Rattle.pv_token.specs.declared.marks.Mark.{Mark}
-use Rattle.pv_token.specs.declared.kinds.Kind.{Kind}
-use Rattle.pv_token.specs.declared.kinds.Kind.TheVariants as kind
 
 -- What a token says (6.4p1): a keyword, an identifier, a constant, the decoded bytes of a string literal, a punctuator.
 pub data Said : Type 0 where
@@ -23,12 +21,3 @@ pub record Spelt : Type 0 where
 -- The value of a character constant is its byte as a `char`, which is signed here, as an `int` (6.4.4.4p10).
 abbrev pub as_char : ℕ → ℤ
 as_char b = if nat_lt b 128 then pos b else (pos b -ℤ pos 256)
-
--- What a token says (6.4p1), as the code has it: a character constant by its byte.
-abbrev pub said_of : Kind → Said
-said_of (kind.Keyword w) = Keyword w
-said_of (kind.Name text) = Name text.now
-said_of (kind.Number value decimal unsigned longs) = Number value decimal unsigned longs
-said_of (kind.Character b) = Character (as_char b)
-said_of (kind.Text bytes) = Text bytes.items
-said_of (kind.Punctuator m) = Punctuator m

@@ -1,5 +1,5 @@
 -- The table of tokens, with their names and literals.
-use Rattle.std.specs.Prelude.{◌≡◌, ℕ, ◌+◌, ◌<◌, ◌^◌, if◌then◌else◌, List, [], ◌∷◌, ◌++◌, length, map, Option, Some, option_map, nat_eq, slice_get}
+use Rattle.std.specs.Prelude.{◌≡◌, ℕ, if◌then◌else◌, List, [], ◌∷◌, ◌++◌, length, map, Option, Some, option_map, nat_eq, slice_get}
 use Rattle.std.specs.List.{range_with_len, list_any, flat_map}
 use Rattle.std.specs.Cmp.Lexicographic.{pointwise}
 use Rattle.pv_token.specs.declared.token_table.Token.{Token}
@@ -13,12 +13,6 @@ pub record Table : Type 0 where
   pub names : List (List ℕ)
   pub texts : List (List ℕ)
 
--- One more token, name or literal still has a number that is a `u32`: a source may have as many as it has bytes (5.2.4.1p1).
-pub record HasRoom (t : Table) : Type 0 where
-  pub tokens : length t.tokens + 1 < 2 ^ 32
-  pub names : length t.names + 1 < 2 ^ 32
-  pub texts : length t.texts + 1 < 2 ^ 32
-
 -- What a token says, with its identifier or its literal looked up (6.4p1).
 abbrev pub says : (names texts : List (List ℕ)) → TokenKind → Option Said
 says names texts (kind.Word w) = Some (Keyword w)
@@ -31,19 +25,6 @@ says names texts (kind.Mark m) = Some (Punctuator m)
 -- A token of the table as a token of the source (6.4p1).
 abbrev pub spelt_of : (names texts : List (List ℕ)) → Token → Option Spelt
 spelt_of names texts t = option_map (λ s. record { said = s; start = t.start; line = t.line }) (says names texts t.kind)
-
--- The number of a token's identifier or literal is one of the table's (6.4.2.1, 6.4.5).
-abbrev pub IsKnown : Table → TokenKind → Type 0
-IsKnown t (kind.Word w) = Unit {0}
-IsKnown t (kind.Name n) = n < length t.names
-IsKnown t (kind.Number value decimal unsigned longs) = Unit {0}
-IsKnown t (kind.Character value) = Unit {0}
-IsKnown t (kind.Text n) = n < length t.texts
-IsKnown t (kind.Mark m) = Unit {0}
-
--- Every token's number may be looked up (6.4p1).
-abbrev pub KnowsAll : Table → Type 0
-KnowsAll t = (i : ℕ) (k : Token) → slice_get t.tokens i ≡ Some k → IsKnown t k.kind
 
 -- A name that is new goes behind the others; two identifiers are one where all bytes are the same (6.4.2.1p5).
 abbrev pub with_name : List (List ℕ) → List ℕ → List (List ℕ)
@@ -91,13 +72,3 @@ pub record Tells (t : Table) (ss : List Spelt) : Type 0 where
   pub names : t.names ≡ names_from [] ss
   pub texts : t.texts ≡ texts_of ss
   pub in_order : flat_map (λ k. text_number k.kind) t.tokens ≡ range_with_len 0 (length t.texts)
-
--- The new table tells what the old one told, and then these tokens (6.4p1).
-abbrev pub Adds : (old new : Table) → List Spelt → Type 0
-Adds old new more = (ss : List Spelt) → Tells old ss → Tells new (ss ++ more)
-
--- A token with its identifier or its literal kept in the table (6.4p1): behind any tokens, wherever it begins, it adds what it says.
-abbrev pub Keeps : (names new_names texts new_texts : List (List ℕ)) → TokenKind → Said → Type 0
-Keeps names new_names texts new_texts k said = (tokens : List Token) (start line : ℕ) →
-    Adds (record { tokens = tokens; names = names; texts = texts }) (record { tokens = tokens ++ record { kind = k; start = start; line = line } ∷ []; names = new_names; texts = new_texts })
-    (record { said = said; start = start; line = line } ∷ [])

@@ -1,7 +1,9 @@
 //! The tokens of a source, with their names and literals.
 ghost use Rattle.std.specs.Prelude.{◌≡◌, ◌≤◌, ◌<◌, ◌+◌, ◌^◌, List, [], ◌∷◌, ◌++◌, length, map, Some, slice_get, slice_index, IfOk, OnOk, OnErr};
-ghost use Rattle.pv_token.specs.Said.{Spelt, as_char, said_of};
-ghost use Rattle.pv_token.specs.Table.{Table, HasRoom, Adds, Keeps, with_name};
+ghost use Rattle.pv_token.specs.Said.{Spelt, as_char};
+ghost use Rattle.pv_token.specs.Views.{said_of};
+ghost use Rattle.pv_token.specs.Table.{Table, with_name};
+ghost use Rattle.pv_token.specs.Kept.{HasRoom, Adds, Keeps};
 
 use crate::error::NoMemory;
 use crate::kinds::Kind;

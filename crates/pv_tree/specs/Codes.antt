@@ -1,4 +1,4 @@
--- A tree is what its steps make, so it has a code; and so have a unit's tables.
+-- A bridge: a tree is what its steps make, so it has a code; and so have a unit's tables.
 use Rattle.std.proofs.Common.{◌∙◌, ap}
 use Rattle.std.specs.Prelude.{◌≡◌, refl, ℕ, List, [], ◌∷◌}
 use Rattle.std.specs.Coded.{Coded, code_by, coded_list, coded×}

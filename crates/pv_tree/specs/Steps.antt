@@ -1,4 +1,4 @@
--- The code of a tree: steps, each of which makes a tree of those that were made before it. By it a proof tells trees apart.
+-- A bridge: the code of a tree: steps, each of which makes a tree of those that were made before it. By it a proof tells trees apart.
 use Rattle.std.specs.Prelude.{ℕ, ℤ, Bool, Option, List, [], ◌∷◌}
 use Rattle.pv_token.specs.declared.words.Word.{Word}
 use Rattle.pv_tree.specs.declared.operators.UnaryOperator.{UnaryOperator}

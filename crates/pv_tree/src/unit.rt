@@ -1,11 +1,11 @@
 //! The tables of a translation unit.
 ghost use Rattle.std.specs.Prelude.{◌≡◌, ◌<◌, ◌≤◌, ◌+◌, ◌^◌, length, Some, slice_get, IfOk, OnOk, OnErr};
-ghost use Rattle.pv_tree.specs.Tables.{Forest, Tables, no_tables, with_tree, with_list, with_external, tree_at, list_at, is_expression, is_declaration, is_declarator, is_specifier, is_initializer, is_statement, is_external, Has, HasOptional, HasList, Is};
+ghost use Rattle.pv_tree.specs.Tables.{Forest, Tables, no_tables, with_tree, with_list, with_external, tree_at, list_at, is_expression, is_declaration, is_declarator, is_specifier, is_initializer, is_statement, Has, HasOptional, HasList, Is};
+ghost use Rattle.pv_tree.specs.Syntax.{is_external, OfExpression, OfDeclaration, OfDeclarator, OfSpecifier, OfInitializer, OfStatement};
 ghost use Rattle.pv_tree.specs.Nodes.{tree_of, expression_of, declaration_of, declarator_of, specifier_of, initializer_of, statement_of};
 ghost use Rattle.pv_tree.specs.Children.{HasChildren, HasExprChildren, HasDeclChildren, HasDeclaratorChildren, HasSpecChildren, HasInitChildren, HasStmtChildren};
 ghost use Rattle.pv_tree.specs.Depths.{tree_depth};
-ghost use Rattle.pv_tree.specs.Lines.{tree_line};
-ghost use Rattle.pv_tree.specs.Syntax.{OfExpression, OfDeclaration, OfDeclarator, OfSpecifier, OfInitializer, OfStatement};
+ghost use Rattle.pv_tree.specs.TreeLines.{tree_line};
 
 use crate::nodes::{Decl, Declarator, Expr, Init, ListId, Node, NodeId, Spec, Stmt};
 use pv_token::NoMemory;

@@ -6,7 +6,8 @@ use Rattle.pv_typed.specs.declared.nodes.Typed.{Typed}
 use Rattle.pv_typed.specs.declared.nodes.Typed.TheVariants as typed
 use Rattle.pv_typed.specs.Plain.{counted, both, turns_of, turns_of_form, capped}
 use Rattle.pv_typed.specs.Nodes.{Tree, expression_in, form_in}
-use Rattle.pv_typed.specs.Children.{Each, operands}
+use Rattle.pv_typed.specs.Children.{operands}
+use Rattle.pv_typed.specs.Known.{Each}
 use Rattle.pv_typed.specs.Turns.{turns_in}
 
 -- ---- the turns of the operands

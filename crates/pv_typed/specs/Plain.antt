@@ -1,4 +1,4 @@
--- Plain expressions (6.5): what they give is read off the abstract machine as it is (5.1.2.3), and how many turns they take does not hang
+-- A bridge: plain expressions (6.5): what they give is read off the abstract machine as it is (5.1.2.3), and how many turns they take does not hang
 -- on any value. The form of each node decides, and not its type; a node of another form is not plain:
 -- a call (6.5.2.2) runs a function; an assignment (6.5.16), `++` and `--` (6.5.2.4, 6.5.3.1) have a side effect; of `&&`, `||` and `?:`
 -- (6.5.13 to 6.5.15) some operands are not evaluated, so their turns hang on values; the left operand of a comma (6.5.17) is there for

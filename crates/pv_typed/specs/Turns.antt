@@ -1,4 +1,4 @@
--- The turns that the rows of a table keep: what `Plain` says of trees, said of rows by the rows of the operands.
+-- A bridge: the turns that the rows of a table keep: what `Plain` says of trees, said of rows by the rows of the operands.
 use Rattle.std.specs.Prelude.{◌≡◌, ℕ, Bool, true, Option, Some, None, List}
 use Rattle.pv_tree.specs.declared.nodes.NodeId.{NodeId}
 use Rattle.pv_typed.specs.declared.nodes.Typed.{Typed}

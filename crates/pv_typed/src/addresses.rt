@@ -6,10 +6,12 @@ ghost use Rattle.pv_types.specs.Ty.{Ty};
 ghost use Rattle.pv_types.specs.Known.{tree, Known};
 ghost use Rattle.pv_typed.specs.TypedTree.{type_of, form_of, is_function};
 ghost use Rattle.pv_typed.specs.TypedUnits.{object_at, literal_at};
-ghost use Rattle.pv_typed.specs.Tables.{Stored, IsExpression, expression_at, whole};
-ghost use Rattle.pv_typed.specs.Formed.{AreKnown};
-ghost use Rattle.pv_typed.specs.Constants.{IsNumber, integer};
-ghost use Rattle.pv_typed.specs.Addresses.{pointee, is_pointer, size_in, or_zero, within, moved, signed, stepped, added, null_if, lasting_at, address, place, constant_of, is_null_constant, is_null, truth_in, IsPlace, IsDistance};
+ghost use Rattle.pv_typed.specs.Tables.{Stored, whole};
+ghost use Rattle.pv_typed.specs.NodeTrees.{IsExpression, expression_at};
+ghost use Rattle.pv_typed.specs.Known.{AreKnown};
+ghost use Rattle.pv_typed.specs.Constants.{integer};
+ghost use Rattle.pv_typed.specs.Places.{IsNumber, IsPlace, IsDistance};
+ghost use Rattle.pv_typed.specs.Addresses.{pointee, is_pointer, size_in, or_zero, within, moved, signed, stepped, added, null_if, lasting_at, address, place, constant_of, is_null_constant, is_null, truth_in};
 
 use crate::nodes::{Sign, Typed};
 use crate::numbers::{integer, kind_at};

@@ -3,7 +3,7 @@ ghost use Rattle.std.specs.Prelude.{◌≡◌, ◌<◌, ◌+◌, Some, length};
 ghost use Rattle.pv_typed.specs.Plain.{counted, both, capped, plain_turns};
 ghost use Rattle.pv_typed.specs.Children.{HasOperands};
 ghost use Rattle.pv_typed.specs.Turns.{turns_in, turns_kept};
-ghost use Rattle.pv_typed.specs.Tables.{IsExpression, expression_at};
+ghost use Rattle.pv_typed.specs.NodeTrees.{IsExpression, expression_at};
 
 use crate::nodes::Typed;
 use crate::rows::What;

@@ -4,7 +4,8 @@ use Rattle.std.specs.declared.option.Option.{Option}
 use Rattle.pv_types.specs.declared.terms.Member.{Member}
 use Rattle.pv_types.specs.Ty.{Ty}
 use Rattle.pv_types.specs.Layouts.{Entry}
-use Rattle.pv_types.specs.Known.{Known, DoneTag, AreLaid, IsBuilt, IsNewName, NamesDiffer, members_in, trees, env}
+use Rattle.pv_types.specs.Known.{Known, DoneTag, trees, env}
+use Rattle.pv_types.specs.Formed.{AreLaid, IsBuilt, IsNewName, NamesDiffer, members_in}
 use Rattle.pv_types.specs.Numbers.{number_of}
 use Rattle.pv_types.proofs.Walks.{either_list}
 

@@ -3,7 +3,8 @@ use Rattle.std.proofs.Common.{◌≡◌, ◌≢◌, ℕ, zero, suc, ◌*◌, ◌
 use Rattle.std.specs.Int.{next_multiple_of}
 use Rattle.pv_types.specs.declared.terms.Member.{Member}
 use Rattle.pv_types.specs.Ty.{Ty, ArrayOf}
-use Rattle.pv_types.specs.Known.{Known, MembersBelow, tree, trees, env, named_in}
+use Rattle.pv_types.specs.Known.{Known, tree, trees, env, named_in}
+use Rattle.pv_types.specs.Formed.{MembersBelow}
 use Rattle.pv_types.specs.Layouts.{Entry, Part, Named, layout_in, layout_of, shifted, repeated, union_parts, struct_parts}
 use Rattle.pv_types.specs.Qualifiers.{is_const, some_const, has_const}
 

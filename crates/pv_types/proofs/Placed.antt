@@ -4,7 +4,8 @@ use Rattle.std.specs.Int.{next_multiple_of}
 use Rattle.pv_types.specs.declared.terms.Member.{Member}
 use Rattle.pv_types.specs.Ty.{Ty, StructTag, UnionTag}
 use Rattle.pv_types.specs.Layouts.{Named, Placed, layout_in, layout_at, struct_placed, union_placed}
-use Rattle.pv_types.specs.Known.{Known, DoneTag, completions, completed_in, named_in, members_in, tree, trees, env}
+use Rattle.pv_types.specs.Known.{Known, DoneTag, completed_in, named_in, tree, trees, env}
+use Rattle.pv_types.specs.Formed.{completions, members_in}
 use Rattle.pv_types.specs.Members.{completed_members, placed_in}
 use Rattle.pv_types.specs.Places.{struct_places, union_places}
 

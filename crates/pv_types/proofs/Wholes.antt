@@ -5,7 +5,8 @@ use Rattle.pv_types.specs.declared.terms.Term.{Term}
 use Rattle.pv_types.specs.declared.terms.Term.TheVariants.{Void, Int, Pointer, Array, Struct, Union, Function, Const}
 use Rattle.pv_types.specs.Ty.{Ty, IntTy, ArrayOf, ConstOf}
 use Rattle.pv_types.specs.Layouts.{Part, Entry, Named, look, or_none, layout_in, layout_of, is_complete_in, tag_type, behind_whole}
-use Rattle.pv_types.specs.Known.{Known, tree, trees, tree_in, term_at, IsTagged, env, named, is_union_in, IsBuilt}
+use Rattle.pv_types.specs.Known.{Known, tree, trees, tree_in, env}
+use Rattle.pv_types.specs.Formed.{term_at, IsTagged, named, is_union_in, IsBuilt}
 use Rattle.pv_types.proofs.Made.{made, flag}
 
 -- the parts of the elements or members

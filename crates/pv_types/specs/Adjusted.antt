@@ -1,6 +1,6 @@
 -- Types that parameters may have (6.7.6.3).
-use Rattle.std.specs.Prelude.{Bool, true, false, ◌&&◌}
-use Rattle.pv_types.specs.Ty.{Ty, Tys, VoidTy, IntTy, PointerTo, ArrayOf, StructTag, UnionTag, FunctionTy, ConstOf, NoTys, MoreTys}
+use Rattle.std.specs.Prelude.{Bool, true, false}
+use Rattle.pv_types.specs.Ty.{Ty, VoidTy, IntTy, PointerTo, ArrayOf, StructTag, UnionTag, FunctionTy, ConstOf}
 
 -- 6.7.6.3p7, p8: no parameter's type is an array or function type, qualifiers aside: one that is declared so is a pointer
 abbrev pub is_adjusted : Ty → Bool
@@ -12,8 +12,3 @@ is_adjusted (StructTag n) = true
 is_adjusted (UnionTag n) = true
 is_adjusted (FunctionTy t ts v) = false
 is_adjusted (ConstOf t) = is_adjusted t
-
--- 6.7.6.3p7, p8: so it is with each of the types
-abbrev pub are_adjusted : Tys → Bool
-are_adjusted NoTys = true
-are_adjusted (MoreTys t ts) = is_adjusted t && are_adjusted ts

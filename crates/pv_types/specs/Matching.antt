@@ -1,4 +1,4 @@
--- Types that are compatible, but for qualifiers around them (6.2.7).
+-- A bridge: types that are compatible, but for qualifiers around them (6.2.7).
 use Rattle.std.specs.Prelude.{◌≡◌, true}
 use Rattle.pv_types.specs.declared.compatibility.Qualifier.{Qualifier}
 use Rattle.pv_types.specs.Ty.{Ty, Tys}

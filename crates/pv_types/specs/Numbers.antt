@@ -1,4 +1,4 @@
--- Which member of a structure or union a name is.
+-- A bridge: which member of a structure or union a name is.
 use Rattle.std.specs.Prelude.{ℕ, suc, ◌==◌, if◌then◌else◌, Some, None, List, [], ◌∷◌}
 use Rattle.std.specs.declared.option.Option.{Option}
 use Rattle.std.specs.Option.{option_map}

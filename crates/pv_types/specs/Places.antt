@@ -1,11 +1,12 @@
--- Where the members of the structures and unions of a table stand.
+-- A bridge: where the members of the structures and unions of a table stand.
 use Rattle.std.specs.Prelude.{◌≡◌, ℕ, ◌+◌, ◌<◌, ◌&&◌, if◌then◌else◌, nat_le, nat_lt, Some, None, List, [], ◌∷◌, length, slice_index_or}
 use Rattle.std.specs.declared.option.Option.{Option}
 use Rattle.pv_types.specs.declared.terms.Member.{Member}
 use Rattle.pv_types.specs.declared.terms.TypeId.{TypeId}
 use Rattle.pv_types.specs.declared.types.Tag.{Tag}
 use Rattle.pv_types.specs.Layouts.{Layout, Placed, layout_in, struct_placed, union_placed}
-use Rattle.pv_types.specs.Known.{Known, tree, env, members_in}
+use Rattle.pv_types.specs.Known.{Known, tree, env}
+use Rattle.pv_types.specs.Formed.{members_in}
 
 -- 6.7.2.1p9: the layout of a member's type
 abbrev pub member_layout : Known → Member → Layout

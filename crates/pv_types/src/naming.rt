@@ -1,6 +1,6 @@
 // Which member of a structure or union has a name.
 ghost use Rattle.std.specs.Prelude.{◌≡◌, ◌<◌, IsTrue, Some, length};
-ghost use Rattle.pv_types.specs.Known.{members_in, NamesDiffer};
+ghost use Rattle.pv_types.specs.Formed.{members_in, NamesDiffer};
 ghost use Rattle.pv_types.specs.Numbers.{number_of};
 
 use crate::terms::{Member, NoMemory};

@@ -11,7 +11,7 @@ use Rattle.pv_check.specs.Open.{state_of, EntryKnown, NameKnown, IsOpen}
 use Rattle.pv_check.specs.State.{State, Scope}
 use Rattle.pv_check.proofs.Opening.{inner_known}
 use Rattle.pv_check.proofs.Showing.{innermost_shown}
-use Rattle.pv_typed.specs.Children.{Each}
+use Rattle.pv_typed.specs.Known.{Each}
 use Rattle.pv_unit.specs.Statements.{is_automatic, are_automatic, automatic_alone}
 
 abbrev pub what_at : List (ℕ × Entry) → ℕ → Option Entry

@@ -5,13 +5,14 @@ use Rattle.std.specs.Cmp.Lexicographic.{pointwise}
 use Rattle.std.specs.List.{list_any, slice_get}
 use Rattle.std.proofs.lemmas.List.{take_all, take_more}
 use Rattle.std.proofs.lemmas.Option.{get_or_from_slice_get, slice_get_within}
-use Rattle.pv_script.specs.Names.{with_text}
+use Rattle.pv_script.specs.Texts.{with_text}
 use Rattle.pv_token.specs.Table.{Table}
 use Rattle.pv_types.specs.Known.{env}
 use Rattle.pv_types.specs.Layouts.{layouts_of}
 use Rattle.pv_types.specs.Ty.{StructTag}
-use Rattle.pv_typed.specs.Formed.{AreKnown, Grown}
-use Rattle.pv_typed.specs.Mains.{no_tables, literal_text, heap_text}
+use Rattle.pv_typed.specs.Formed.{Grown, no_tables}
+use Rattle.pv_typed.specs.Known.{AreKnown}
+use Rattle.pv_typed.specs.Mains.{literal_text, heap_text}
 use Rattle.pv_typed.specs.Tables.{Stored, whole}
 use Rattle.pv_typed.specs.TypedUnits.{WholeUnit}
 use Rattle.pv_check.specs.Growing.{AreSized, is_sized}

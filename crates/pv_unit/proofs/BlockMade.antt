@@ -4,11 +4,13 @@ use Rattle.std.proofs.lemmas.List.{take_more, take-map, length-map}
 use Rattle.pv_tree.specs.declared.nodes.NodeId.{NodeId}
 use Rattle.pv_tree.specs.declared.nodes.ListId.{ListId}
 use Rattle.pv_typed.specs.declared.nodes.TypedStmt.TheVariants as stmt
-use Rattle.pv_typed.specs.Children.{Each, HasKind, HasKinds, HasParts, present}
+use Rattle.pv_typed.specs.Children.{HasKind, HasKinds, HasParts, present}
+use Rattle.pv_typed.specs.Known.{Each}
 use Rattle.pv_typed.specs.Formed.{AreObjects}
 use Rattle.pv_typed.proofs.Each.{each_append}
 use Rattle.pv_typed.specs.Nodes.{statements_in as trees_in, optional_in as trees_optional, statement_form, list_in}
-use Rattle.pv_typed.specs.Tables.{Stored, nodes, list_at, statement_at, IsStatement}
+use Rattle.pv_typed.specs.Tables.{Stored, nodes}
+use Rattle.pv_typed.specs.NodeTrees.{list_at, statement_at, IsStatement}
 use Rattle.pv_typed.specs.TypedStatement.{TypedStatement, Statements, MoreStatements, Declare, For, ForDeclaration, statements_of}
 use Rattle.pv_types.specs.Known.{Known}
 use Rattle.pv_check.specs.Raw.{Raw, RawScope, scope_shown, scopes_shown}

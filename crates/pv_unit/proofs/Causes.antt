@@ -5,7 +5,8 @@ use Rattle.pv_tree.specs.Syntax.{DeclarationTree}
 use Rattle.pv_types.specs.Known.{Known, env}
 use Rattle.pv_types.specs.Layouts.{layout_in}
 use Rattle.pv_types.specs.Ty.{StructTag}
-use Rattle.pv_typed.specs.Formed.{AreKnown, Grown}
+use Rattle.pv_typed.specs.Formed.{Grown}
+use Rattle.pv_typed.specs.Known.{AreKnown}
 use Rattle.pv_typed.specs.Mains.{main_of}
 use Rattle.pv_typed.specs.Tables.{Stored, whole}
 use Rattle.pv_typed.specs.TypedUnits.{WholeUnit}

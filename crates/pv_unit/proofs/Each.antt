@@ -6,7 +6,8 @@ use Rattle.pv_tree.specs.declared.nodes.ListId.{ListId}
 use Rattle.pv_tree.specs.Syntax.{Tree, OfExpression, OfDeclaration, OfDeclarator, OfSpecifier, OfInitializer, OfStatement, Trees, NoTrees, Then, InitializerTree, Initial, Braces}
 use Rattle.pv_tree.specs.Tables.{Forest, tree_at, trees_of, trees_at, list_at, initializer_at, as_initializer, is_initializer}
 use Rattle.pv_types.specs.Layouts.{Part}
-use Rattle.pv_types.specs.Known.{completions, tree, env}
+use Rattle.pv_types.specs.Known.{tree, env}
+use Rattle.pv_types.specs.Formed.{completions}
 use Rattle.pv_types.specs.Ty.{Ty}
 use Rattle.pv_typed.specs.declared.entries.Init.{Init}
 use Rattle.pv_typed.specs.Tables.{Stored}
@@ -19,7 +20,8 @@ use Rattle.pv_unit.specs.declared.parts.Subobject.{Subobject}
 use Rattle.pv_unit.specs.Rules.{Rules, After}
 use Rattle.pv_unit.specs.Parts.{part_at}
 use Rattle.pv_unit.specs.Initializers.{Shape, Stores, joined, formed, shape_of}
-use Rattle.pv_unit.specs.Initialized.{initialized, each_initialized, each_of}
+use Rattle.pv_unit.specs.Initialized.{initialized, each_initialized}
+use Rattle.pv_unit.specs.RuleParts.{each_of}
 use Rattle.pv_unit.specs.Stores.{AreStores, Fills, behind, stores_if, stores_in}
 use Rattle.pv_unit.specs.Subobjects.{part_of, HasSpace, IsPart}
 use Rattle.pv_unit.specs.ValueRules.{values}

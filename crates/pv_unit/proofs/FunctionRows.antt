@@ -3,15 +3,15 @@ use Rattle.std.proofs.Common.{◌≡◌, ℕ, zero, suc, ◌+◌, ◌<◌, ◌�
 use Rattle.std.specs.Prelude.{is_some}
 use Rattle.std.proofs.lemmas.List.{length_push, map_push}
 use Rattle.pv_tree.specs.declared.nodes.NodeId.{NodeId}
-use Rattle.pv_tree.specs.Syntax.{Tree, OfExpression, OfDeclaration, OfDeclarator, OfSpecifier, OfInitializer, OfStatement, Trees}
-use Rattle.pv_tree.specs.Syntax.{StatementTree, Block, ExpressionStatement, If, IfElse, While, DoWhile, For, ForDeclaration, Switch, SwitchBlock, Labelled, Case, Default, Break, Continue, Return}
-use Rattle.pv_tree.specs.Syntax.{DeclarationTree, Function, Declaration, InitDeclarator, MemberDeclaration, Enumerator, Parameter, TypeName}
-use Rattle.pv_tree.specs.Tables.{is_declaration, is_external}
+use Rattle.pv_tree.specs.Syntax.{Tree, OfExpression, OfDeclaration, OfDeclarator, OfSpecifier, OfInitializer, OfStatement, Trees, is_external, StatementTree, Block, ExpressionStatement, If, IfElse, While, DoWhile, For, ForDeclaration, Switch, SwitchBlock, Labelled, Case, Default, Break, Continue, Return, DeclarationTree, Function, Declaration, InitDeclarator, MemberDeclaration, Enumerator, Parameter, TypeName}
+use Rattle.pv_tree.specs.Tables.{is_declaration}
 use Rattle.pv_types.specs.Known.{Known, tree}
 use Rattle.pv_typed.specs.declared.entries.Function.{Function as FunctionRow}
-use Rattle.pv_typed.specs.Adding.{with_function_at, with_param}
+use Rattle.pv_typed.specs.Adding.{with_param}
+use Rattle.pv_typed.specs.Entries.{with_function_at}
 use Rattle.pv_typed.specs.Headed.{list_of}
-use Rattle.pv_typed.specs.Tables.{Stored, whole, nodes, function_in, statement_at}
+use Rattle.pv_typed.specs.Tables.{Stored, whole, nodes, function_in}
+use Rattle.pv_typed.specs.NodeTrees.{statement_at}
 use Rattle.pv_typed.specs.TypedStatement.{TypedStatement}
 use Rattle.pv_typed.specs.TypedUnits.{TypedFunction, WholeUnit, function_at}
 use Rattle.pv_typed.proofs.Each.{each_append}

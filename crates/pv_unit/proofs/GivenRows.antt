@@ -4,12 +4,13 @@ use Rattle.std.specs.Prelude.{if◌then◌else◌}
 use Rattle.std.proofs.Math.Seq.{drop-cons}
 use Rattle.std.proofs.lemmas.List.{drop_all, get_or-set_same, length-map, set-get_or, set-set}
 use Rattle.pv_tree.specs.Syntax.{InitializerTree}
-use Rattle.pv_types.specs.Known.{Known, completions, env, tree}
+use Rattle.pv_types.specs.Known.{Known, env, tree}
+use Rattle.pv_types.specs.Formed.{completions}
 use Rattle.pv_types.specs.Layouts.{Completed, layouts_of}
 use Rattle.pv_types.specs.Ty.{Ty, VoidTy, IntTy, PointerTo, ArrayOf, StructTag, UnionTag, FunctionTy, ConstOf}
 use Rattle.pv_typed.specs.declared.entries.Init.{Init}
 use Rattle.pv_typed.specs.declared.entries.Object.{Object}
-use Rattle.pv_typed.specs.Adding.{stored_in, with_object_at, with_store}
+use Rattle.pv_typed.specs.Entries.{stored_in, with_object_at, with_store}
 use Rattle.pv_typed.specs.Formed.{Grown}
 use Rattle.pv_typed.specs.Headed.{list_of}
 use Rattle.pv_typed.specs.Tables.{Stored, nodes, object_in, store_in, whole as whole_of}

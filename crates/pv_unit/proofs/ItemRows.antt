@@ -5,7 +5,8 @@ use Rattle.pv_tree.specs.declared.nodes.NodeId.{NodeId}
 use Rattle.pv_tree.specs.Syntax.{DeclarationTree, Tree, OfExpression, OfDeclaration, OfDeclarator, OfSpecifier, OfInitializer, OfStatement}
 use Rattle.pv_tree.specs.Tables.{Forest, tree_at, trees_of, as_statement, as_declaration, is_item, is_declaration}
 use Rattle.pv_typed.specs.TypedStatement.{TypedStatement}
-use Rattle.pv_typed.specs.Tables.{Stored, statement_at, IsStatement}
+use Rattle.pv_typed.specs.Tables.{Stored}
+use Rattle.pv_typed.specs.NodeTrees.{statement_at, IsStatement}
 use Rattle.pv_check.specs.Raw.{Raw, scopes_shown}
 use Rattle.pv_check.specs.Open.{state_of, IsOpen, Goes}
 use Rattle.pv_check.specs.State.{State, After, and_then}

@@ -2,12 +2,13 @@
 use Rattle.std.proofs.Common.{◌≡◌, ℕ, zero, suc, ◌+◌, ◌<◌, Bool, true, false, List, [], ◌∷◌, Option, Some, None, option_map, option_and_then, if◌then◌else◌, refl, sym, ◌∙◌, ap, arith, is_some}
 use Rattle.pv_types.specs.Ty.{Ty, VoidTy, IntTy, PointerTo, ArrayOf, StructTag, UnionTag, FunctionTy, ConstOf}
 use Rattle.pv_types.specs.Layouts.{Entry, Part, Named, part_count, layout_in, layout_at, layout_of, struct_placed, union_placed, is_complete_in, look, or_none}
-use Rattle.pv_types.specs.Known.{Known, completions, trees, env, named, is_union_in, IsBuilt}
+use Rattle.pv_types.specs.Known.{Known, trees, env}
+use Rattle.pv_types.specs.Formed.{completions, named, is_union_in, IsBuilt}
 use Rattle.pv_types.proofs.Counted.{AreFewer, const_count, element_fewer, members_fewer}
 use Rattle.pv_types.proofs.Fills.{left_true, lt_true}
 use Rattle.pv_types.proofs.Made.{made}
 use Rattle.pv_types.proofs.Placed.{members_named}
-use Rattle.pv_layout.specs.Places.{bare}
+use Rattle.pv_layout.specs.Parts.{bare}
 use Rattle.pv_unit.specs.Parts.{part_number, first_member, part_in, part_at, has_element, within, leaf_within, is_scalar}
 
 abbrev part_or : Part → Option Part → Part

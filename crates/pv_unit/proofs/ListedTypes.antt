@@ -2,9 +2,10 @@
 use Rattle.std.proofs.Common.{◌≡◌, ℕ, true, IsTrue, ◌+◌, ◌<◌, ◌≤◌, List, [], ◌∷◌, ◌++◌, length, map, take, get_or, refl, sym, ◌∙◌, ap, arith}
 use Rattle.std.proofs.lemmas.List.{map_push, take_all, take_more}
 use Rattle.pv_types.specs.declared.terms.TypeId.{TypeId}
-use Rattle.pv_types.specs.Adjusted.{is_adjusted, are_adjusted}
+use Rattle.pv_types.specs.Adjusted.{is_adjusted}
+use Rattle.pv_types.specs.Formed.{are_adjusted, AllBelow}
 use Rattle.pv_types.specs.Ty.{Ty, VoidTy, MoreTys}
-use Rattle.pv_types.specs.Known.{AllBelow, Known, tree, trees, tys_in}
+use Rattle.pv_types.specs.Known.{Known, tree, trees, tys_in}
 use Rattle.pv_check.specs.Growing.{Grows}
 use Rattle.pv_check.proofs.Growth.{both_true, same_grows, then_grows}
 use Rattle.pv_unit.specs.declared.library_types.Simple.{Simple}

@@ -1,6 +1,7 @@
 -- A table of types with one more list of parameters.
 use Rattle.std.proofs.Common.{◌≡◌, ℕ, ◌<◌, length, ap, arith}
-use Rattle.pv_types.specs.Known.{Known, ExtendsLists, completions, parameters_at, tree}
+use Rattle.pv_types.specs.Known.{Known, tree}
+use Rattle.pv_types.specs.Formed.{ExtendsLists, completions, parameters_at}
 use Rattle.pv_check.specs.Growing.{Grows}
 use Rattle.pv_check.proofs.Growth.{more_lists, env_more}
 

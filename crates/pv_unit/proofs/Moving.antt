@@ -6,7 +6,8 @@ use Rattle.pv_tree.specs.Tables.{Forest, Has}
 use Rattle.pv_typed.specs.declared.rows.Row.{Row}
 use Rattle.pv_types.specs.Ty.{Ty}
 use Rattle.pv_typed.specs.Children.{is_expression}
-use Rattle.pv_typed.specs.Tables.{Stored, expression_at, statement_at, IsExpression, IsStatement}
+use Rattle.pv_typed.specs.Tables.{Stored}
+use Rattle.pv_typed.specs.NodeTrees.{expression_at, statement_at, IsExpression, IsStatement}
 use Rattle.pv_typed.specs.TypedStatement.{TypedStatement}
 use Rattle.pv_check.specs.Raw.{Raw}
 use Rattle.pv_check.specs.State.{State, and_then, give}

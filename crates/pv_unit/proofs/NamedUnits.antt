@@ -8,8 +8,7 @@ use Rattle.pv_tree.specs.Syntax.{DeclarationTree, Function as FunctionTree, Decl
 use Rattle.pv_types.specs.Ty.{Ty, FunctionTy}
 use Rattle.pv_types.specs.Compatible.{are_compatible}
 use Rattle.pv_typed.specs.Adding.{taking}
-use Rattle.pv_typed.specs.Children.{Each}
-use Rattle.pv_typed.specs.Formed.{AreKnown}
+use Rattle.pv_typed.specs.Known.{Each, AreKnown}
 use Rattle.pv_typed.specs.Tables.{Stored, whole, nodes, object_in, function_in}
 use Rattle.pv_typed.specs.TypedStatement.{TypedStatement}
 use Rattle.pv_typed.specs.TypedUnits.{WholeUnit, TypedObject, TypedFunction, object_at, function_at}

@@ -8,13 +8,13 @@ use Rattle.pv_typed.specs.declared.entries.Function.{Function}
 use Rattle.pv_typed.specs.Headed.{list_of}
 use Rattle.pv_typed.specs.Tables.{Stored, whole, nodes, object_in, function_in}
 use Rattle.pv_typed.specs.TypedUnits.{TypedObject, TypedFunction, object_at, function_at}
-use Rattle.pv_typed.specs.Adding.{with_object, with_object_at, with_function, with_function_at}
+use Rattle.pv_typed.specs.Entries.{with_object, with_object_at, with_function, with_function_at}
 use Rattle.pv_check.specs.declared.scopes.Entry.{Entry}
 use Rattle.pv_check.specs.declared.scopes.Entry.TheVariants as entry
 use Rattle.pv_check.specs.State.{find, bound, innermost, with_innermost, bind}
 use Rattle.pv_check.specs.Raw.{Raw, no_raw, with_name, raw_innermost, meaning_in, used_of}
 use Rattle.pv_check.specs.Open.{state_of, EntryKnown, ScopeKnown, IsOpen, Goes}
-use Rattle.pv_typed.specs.Children.{Each}
+use Rattle.pv_typed.specs.Known.{Each}
 use Rattle.pv_typed.proofs.Each.{each_at}
 use Rattle.pv_check.proofs.Opening.{open_goes, open_name, scopes_stay}
 use Rattle.pv_check.proofs.Showing.{name_bound_shown}

@@ -5,7 +5,7 @@ use Rattle.std.specs.Option.{option_map}
 use Rattle.std.proofs.Math.Bool.{or_assoc}
 use Rattle.std.proofs.Math.Seq.{drop-cons}
 use Rattle.std.proofs.lemmas.List.{drop_all, length-map, map_push, take_more}
-use Rattle.pv_typed.specs.Adding.{with_placed as with_one_placed}
+use Rattle.pv_typed.specs.Entries.{with_placed as with_one_placed}
 use Rattle.pv_typed.specs.Formed.{Grown}
 use Rattle.pv_typed.specs.Mains.{first_main, named_main}
 use Rattle.pv_typed.specs.Tables.{Stored, function_in, nodes, whole}

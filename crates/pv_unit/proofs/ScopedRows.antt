@@ -6,7 +6,8 @@ use Rattle.pv_tree.specs.Syntax.{ExpressionTree, StatementTree, Block, Expressio
 use Rattle.pv_typed.specs.TypedTree.{TypedTree}
 use Rattle.pv_typed.specs.TypedStatement.{TypedStatement, statements_of}
 use Rattle.pv_typed.specs.TypedStatement as typed
-use Rattle.pv_typed.specs.Tables.{Stored, expression_at, statement_at, IsExpression}
+use Rattle.pv_typed.specs.Tables.{Stored}
+use Rattle.pv_typed.specs.NodeTrees.{expression_at, statement_at, IsExpression}
 use Rattle.pv_check.specs.Raw.{Raw}
 use Rattle.pv_check.specs.Open.{state_of, IsOpen, Goes}
 use Rattle.pv_check.specs.State.{State, After, and_then, entered, left}

@@ -2,16 +2,19 @@
 use Rattle.std.proofs.Common.{◌≡◌, ℕ, ◌<◌, ◌≤◌, Bool, true, false, List, [], ◌∷◌, ◌++◌, Some, None, length, if◌then◌else◌, option_map, option_and_then, Result, Ok, Err, IfOk, refl, sym, ◌∙◌, ap, arith}
 use Rattle.pv_tree.specs.declared.nodes.NodeId.{NodeId}
 use Rattle.pv_tree.specs.Syntax.{ExpressionTree, Tree, OfExpression, OfDeclaration, OfDeclarator, OfSpecifier, OfInitializer, OfStatement}
-use Rattle.pv_tree.specs.Lines.{expression_line, tree_line}
+use Rattle.pv_tree.specs.Lines.{expression_line}
+use Rattle.pv_tree.specs.TreeLines.{tree_line}
 use Rattle.pv_tree.specs.Tables.{as_expression, is_expression}
 use Rattle.pv_types.specs.declared.terms.TypeId.{TypeId}
-use Rattle.pv_types.specs.Known.{completions, tree}
+use Rattle.pv_types.specs.Known.{tree}
+use Rattle.pv_types.specs.Formed.{completions}
 use Rattle.pv_types.specs.Layouts.{Part}
 use Rattle.pv_types.specs.Ty.{Ty}
-use Rattle.pv_layout.specs.Places.{bare}
+use Rattle.pv_layout.specs.Parts.{bare}
 use Rattle.pv_typed.specs.declared.entries.Init.{Init}
 use Rattle.pv_typed.specs.declared.entries.InitValue.TheVariants as value
-use Rattle.pv_typed.specs.Tables.{Stored, nodes, store_in, expression_at, IsExpression}
+use Rattle.pv_typed.specs.Tables.{Stored, nodes, store_in}
+use Rattle.pv_typed.specs.NodeTrees.{expression_at, IsExpression}
 use Rattle.pv_typed.specs.TypedTree.{TypedTree}
 use Rattle.pv_typed.specs.TypedUnits.{Store, ValueOf}
 use Rattle.pv_check.specs.Arms.{after_node}

@@ -1,10 +1,10 @@
--- The rules of declarations and statements (C17 6.7 to 6.9) over the nodes that the code reads: each is the rule of the nodes' trees.
+-- A bridge: the rules of declarations and statements (C17 6.7 to 6.9) over the nodes that the code reads: each is the rule of the nodes' trees.
 use Rattle.std.specs.Prelude.{◌≡◌, ℕ, Bool, List, Option}
 use Rattle.pv_num.specs.declared.kinds.IntKind.{IntKind}
 use Rattle.pv_tree.specs.declared.nodes.NodeId.{NodeId}
 use Rattle.pv_tree.specs.declared.nodes.ListId.{ListId}
 use Rattle.pv_tree.specs.Syntax.{For, ForDeclaration}
-use Rattle.pv_tree.specs.Lines.{tree_line}
+use Rattle.pv_tree.specs.TreeLines.{tree_line}
 use Rattle.pv_tree.specs.Tables.{Forest, Tables, tree_at, trees_at, declaration_at, declarator_at, statement_at, optional_at}
 use Rattle.pv_types.specs.declared.terms.TypeId.{TypeId}
 use Rattle.pv_types.specs.Known.{Known, tree}

@@ -1,9 +1,9 @@
--- What the code that types the body of a function has and answers.
+-- A bridge: what the code that types the body of a function has and answers.
 use Rattle.std.specs.Prelude.{◌≡◌, ℕ, Bool, true, false, List, Option, Some, None}
 use Rattle.pv_tree.specs.declared.nodes.NodeId.{NodeId}
 use Rattle.pv_tree.specs.declared.nodes.ListId.{ListId}
 use Rattle.pv_tree.specs.Syntax.{StatementTree, Block, DeclarationTree, Function}
-use Rattle.pv_tree.specs.Lines.{tree_line}
+use Rattle.pv_tree.specs.TreeLines.{tree_line}
 use Rattle.pv_tree.specs.Tables.{Tables, Is, Forest, tree_at, trees_at, declaration_at, declarator_at, statement_at, is_declarator, is_item, is_specifier, is_statement, HasList}
 use Rattle.pv_types.specs.Known.{tree}
 use Rattle.pv_typed.specs.Tables.{Stored}

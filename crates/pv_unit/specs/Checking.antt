@@ -1,4 +1,4 @@
--- What the answer of the typing of a unit stands for.
+-- A bridge: what the answer of the typing of a unit stands for.
 use Rattle.std.specs.Prelude.{◌≡◌, ◌<◌, Some, None, true, false, List, map, length}
 use Rattle.pv_token.specs.Table.{Table}
 use Rattle.pv_tree.specs.Syntax.{DeclarationTree}

@@ -10,7 +10,7 @@ use Rattle.pv_check.specs.State.{State, After, Scope, Meaning, TypedefOf, and_th
 use Rattle.pv_check.specs.declared.specifiers.Storage.{Storage}
 use Rattle.pv_check.specs.declared.specifiers.Storage.TheVariants as storage
 use Rattle.pv_check.specs.Specifiers.{Specified, specified}
-use Rattle.pv_check.specs.Tags.{tag_alone, composite_named}
+use Rattle.pv_check.specs.Tags.{tag_alone}
 use Rattle.pv_check.specs.Texts.{is_main}
 use Rattle.pv_check.specs.Derivations.{Derivation, ByArray, declared_name, derived}
 use Rattle.pv_check.specs.Typing.{specifiers, steps}
@@ -41,10 +41,6 @@ has_list (Then before _) = has_list before
 abbrev pub only_tag : Trees → Option (Word × ℕ)
 only_tag (Then NoTrees (OfSpecifier (Tag line w n))) = Some (w, n)
 only_tag _ = None
-
--- 6.7.2.3p7: `struct n ;` or `union n ;`, which is about the innermost scope
-abbrev pub composite_alone : (union : Bool) → ℕ → State → Option State
-composite_alone union n s = and_then (composite_named union n (find (innermost s.scopes).tags n) s) (λ a. Some a.state)
 
 -- 6.7p2: it declares a tag or enumerators, or completes a tag
 abbrev pub declares_something : Trees → State → State → Bool
@@ -104,11 +100,6 @@ abbrev pub typedef_declared : ℕ → Ty → Bool → UnitState → Option UnitS
 typedef_declared n t unsized u =
     if is_main u.state.unit.names (unit_name n) && not (is_function t && are_compatible t main_type) then None
     else typedef_found n t (record u { unsized_typedef = u.unsized_typedef || unsized })
-
--- 6.7.1p5: the storage-class specifier `typedef`
-abbrev pub is_typedef : Storage → Bool
-is_typedef storage.Typedef = true
-is_typedef _ = false
 
 -- 6.7.1p1: the storage-class specifier `extern`
 abbrev pub is_extern : Storage → Bool

@@ -1,4 +1,4 @@
--- What the answers of the code that types declarators stand for.
+-- A bridge: what the answers of the code that types declarators stand for.
 use Rattle.std.specs.Prelude.{ℕ, Bool, true, false, List, Option, Some, None}
 use Rattle.pv_types.specs.Known.{Known, tree}
 use Rattle.pv_typed.specs.Tables.{Stored}

@@ -1,4 +1,4 @@
--- What is kept of the objects and functions of file scope.
+-- A bridge: what is kept of the objects and functions of file scope.
 use Rattle.std.specs.Prelude.{false}
 use Rattle.pv_unit.specs.declared.entities.Entity.{Entity}
 use Rattle.pv_unit.specs.Entities.{Entity as WholeEntity}

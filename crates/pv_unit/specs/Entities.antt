@@ -81,10 +81,6 @@ abbrev pub with_new_object : ℕ → ℕ → Ty → UnitState → ℕ × UnitSta
 with_new_object n line t u =
     (length u.state.unit.objects, record u { state = new_object n line t true u.state; entities = u.entities ++ (entity n false (length u.state.unit.objects) ∷ []) })
 
--- 6.7p4, 6.2.7p4: an object that is declared once more, with a compatible type: its type is then the composite one
-abbrev pub object_composed : ℕ → Ty → State → Option State
-object_composed o t s = if are_compatible (object_at s.unit o).t t then Some (with_object_type o (composite (object_at s.unit o).t t) s) else None
-
 -- 6.7p4: all its declarations have compatible types; 6.2.7p4: its type is then the composite one; 6.2.3p1: the name stands for
 -- nothing else
 abbrev pub object_again : Option Meaning → ℕ → ℕ → Ty → UnitState → Option (ℕ × UnitState)
@@ -114,10 +110,6 @@ with_new_function n line t u = (
   length u.state.unit.functions,
   record u { state = new_function n line t u.state; entities = u.entities ++ (entity n true (length u.state.unit.functions) ∷ []) },
 )
-
--- 6.7p4, 6.2.7p4: a function that is declared once more, with a compatible type: its type is then the composite one
-abbrev pub function_composed : ℕ → Ty → State → Option State
-function_composed f t s = if are_compatible (function_at s.unit f).t t then Some (with_function_type f (composite (function_at s.unit f).t t) s) else None
 
 -- 6.7p4: all its declarations have compatible types; 6.2.7p4: its type is then the composite one
 abbrev pub function_again : Option Meaning → ℕ → ℕ → Ty → UnitState → Option (ℕ × UnitState)

@@ -1,8 +1,8 @@
--- What the answers of the code that gives an object its initializer stand for (C17 6.7.9).
+-- A bridge: what the answers of the code that gives an object its initializer stand for (C17 6.7.9).
 use Rattle.std.specs.Prelude.{ℕ, false, ◌<◌, length, List, [], ◌∷◌, Option, Some, None}
 use Rattle.pv_types.specs.Known.{tree}
 use Rattle.pv_typed.specs.declared.entries.Init.{Init}
-use Rattle.pv_typed.specs.Adding.{with_store}
+use Rattle.pv_typed.specs.Entries.{with_store}
 use Rattle.pv_typed.specs.Tables.{Stored}
 use Rattle.pv_typed.specs.TypedUnits.{Store, WholeUnit}
 use Rattle.pv_check.specs.Raw.{Raw}

@@ -1,7 +1,7 @@
--- What the code that types the heads of function definitions has and answers.
+-- A bridge: what the code that types the heads of function definitions has and answers.
 use Rattle.std.specs.Prelude.{◌≡◌, ℕ, ◌<◌, List, length, Option, Some, None}
 use Rattle.pv_types.specs.Known.{Known, tree}
-use Rattle.pv_typed.specs.Children.{Each}
+use Rattle.pv_typed.specs.Known.{Each}
 use Rattle.pv_typed.specs.Tables.{Stored}
 use Rattle.pv_check.specs.declared.parameters.Parameter.{Parameter}
 use Rattle.pv_check.specs.Declarators.{parameters_shown, signature_shown, SignatureKnown}

@@ -1,7 +1,7 @@
--- Which names the objects and the functions of a unit have (C17 6.4.2.1).
+-- A bridge: which names the objects and the functions of a unit have (C17 6.4.2.1).
 use Rattle.std.specs.Prelude.{◌≡◌, ◌<◌, ℕ, ◌∷◌, length}
 use Rattle.pv_token.specs.Table.{Table}
-use Rattle.pv_typed.specs.Children.{Each}
+use Rattle.pv_typed.specs.Known.{Each}
 use Rattle.pv_typed.specs.Mains.{literal_text, heap_text}
 use Rattle.pv_typed.specs.TypedUnits.{WholeUnit, TypedObject, TypedFunction}
 use Rattle.pv_unit.specs.Entities.{unit_name}

@@ -20,6 +20,7 @@ pub mod Places
 pub mod Prototypes
 pub mod Reaching
 pub mod Resolving
+pub mod RuleParts
 pub mod Rules
 pub mod Scoped
 pub mod Shapes

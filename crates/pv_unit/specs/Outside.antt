@@ -1,4 +1,4 @@
--- What the code that types declarations at file scope has and answers.
+-- A bridge: what the code that types declarations at file scope has and answers.
 use Rattle.std.specs.Prelude.{ℕ, Bool, true, false, List, Option, Some, None}
 use Rattle.pv_typed.specs.Tables.{Stored}
 use Rattle.pv_check.specs.Raw.{Raw}

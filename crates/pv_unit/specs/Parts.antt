@@ -6,7 +6,7 @@ use Rattle.pv_num.specs.declared.kinds.IntKind.TheVariants as kind
 use Rattle.pv_types.specs.Ty.{Ty, IntTy, PointerTo, ArrayOf, StructTag, UnionTag}
 use Rattle.pv_types.specs.Layouts.{Part, Entry, Named, Placed, Completed, layout_in, layouts_of, is_complete_in, part_count}
 use Rattle.pv_types.specs.Members.{placed_in, member_part}
-use Rattle.pv_layout.specs.Places.{bare}
+use Rattle.pv_layout.specs.Parts.{bare}
 
 -- 6.7.9p17: of these members the part of this number, from 0
 abbrev pub part_number : ℕ → List (Placed Named) → Option Part

@@ -1,4 +1,4 @@
--- Where an object or a function of file scope stands among all, and what stands there.
+-- A bridge: where an object or a function of file scope stands among all, and what stands there.
 use Rattle.std.specs.Prelude.{◌≡◌, ℕ, suc, nat_eq, Bool, true, false, ◌||◌, if◌then◌else◌, List, [], ◌∷◌, Option, Some, None, set, slice_index_or}
 use Rattle.std.specs.Option.{option_map}
 use Rattle.pv_check.specs.State.{find}

@@ -1,4 +1,4 @@
--- The types in the library's prototypes, as the code names them.
+-- A bridge: the types in the library's prototypes, as the code names them.
 use Rattle.std.specs.Prelude.{List, [], ◌∷◌, Bool, if◌then◌else◌}
 use Rattle.pv_types.specs.Ty.{Ty, Tys, VoidTy, ConstOf, NoTys, MoreTys}
 use Rattle.pv_unit.specs.declared.library_types.Simple.{Simple}

@@ -1,6 +1,6 @@
--- The automatic objects that the code of a declaration in a block reaches.
+-- A bridge: the automatic objects that the code of a declaration in a block reaches.
 use Rattle.std.specs.Prelude.{ℕ, ◌<◌, Bool, true, false, List, map, length, Option, Some, None}
-use Rattle.pv_typed.specs.Children.{Each}
+use Rattle.pv_typed.specs.Known.{Each}
 use Rattle.pv_typed.specs.Tables.{Stored}
 use Rattle.pv_check.specs.Raw.{Raw}
 use Rattle.pv_check.specs.Open.{state_of}

@@ -1,7 +1,7 @@
--- What the code that looks for names without a definition has.
+-- A bridge: what the code that looks for names without a definition has.
 use Rattle.std.specs.Prelude.{◌≡◌, ℕ, Bool, true, false, if◌then◌else◌, nat_eq, List, map}
 use Rattle.std.specs.List.{list_any}
-use Rattle.pv_typed.specs.Adding.{with_placed}
+use Rattle.pv_typed.specs.Entries.{with_placed}
 use Rattle.pv_typed.specs.TypedUnits.{WholeUnit}
 use Rattle.pv_check.specs.declared.scopes.Named.{Named}
 use Rattle.pv_check.specs.Raw.{used_of}

@@ -1,4 +1,4 @@
--- Typing a statement that has a scope, within this scope (C17 6.8.2, 6.8.4p3, 6.8.5p5), part by part as the code does.
+-- A bridge: typing a statement that has a scope, within this scope (C17 6.8.2, 6.8.4p3, 6.8.5p5), part by part as the code does.
 use Rattle.std.specs.Prelude.{ℕ, Bool, true, false, List, [], ◌∷◌, ◌++◌, Option, Some, None}
 use Rattle.pv_num.specs.declared.kinds.IntKind.{IntKind}
 use Rattle.pv_tree.specs.Syntax.{ExpressionTree, StatementTree, Block, If, IfElse, While, DoWhile, For, ForDeclaration, Switch, SwitchBlock, Labelled, OptionalTree}

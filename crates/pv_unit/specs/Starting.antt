@@ -1,8 +1,8 @@
--- The tables and the scopes before the first declaration of a unit.
+-- A bridge: the tables and the scopes before the first declaration of a unit.
 use Rattle.std.specs.Prelude.{◌≡◌, ℕ, List, ◌∷◌, [], ◌++◌}
 use Rattle.pv_token.specs.Table.{Table}
-use Rattle.pv_typed.specs.Formed.{AreKnown}
-use Rattle.pv_typed.specs.Mains.{no_tables}
+use Rattle.pv_typed.specs.Known.{AreKnown}
+use Rattle.pv_typed.specs.Formed.{no_tables}
 use Rattle.pv_typed.specs.Tables.{Stored, whole}
 use Rattle.pv_typed.specs.TypedUnits.{WholeUnit}
 use Rattle.pv_check.specs.Raw.{Raw, no_raw}

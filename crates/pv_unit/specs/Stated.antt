@@ -1,11 +1,12 @@
--- What the code that types statements has and answers.
+-- A bridge: what the code that types statements has and answers.
 use Rattle.std.specs.Prelude.{◌≡◌, ℕ, Bool, true, false, List, [], ◌∷◌, map, length, Option, Some, None}
 use Rattle.pv_tree.specs.declared.nodes.NodeId.{NodeId}
 use Rattle.pv_types.specs.Known.{Known, tree}
-use Rattle.pv_typed.specs.Children.{Each}
+use Rattle.pv_typed.specs.Known.{Each}
 use Rattle.pv_typed.specs.TypedTree.{TypedTree}
 use Rattle.pv_typed.specs.TypedStatement.{TypedStatement}
-use Rattle.pv_typed.specs.Tables.{Stored, expression_at, statement_at, IsExpression, IsStatement}
+use Rattle.pv_typed.specs.Tables.{Stored}
+use Rattle.pv_typed.specs.NodeTrees.{expression_at, statement_at, IsExpression, IsStatement}
 use Rattle.pv_check.specs.Raw.{Raw}
 use Rattle.pv_check.specs.Open.{state_of, IsOpen, Goes}
 use Rattle.pv_check.specs.State.{After}

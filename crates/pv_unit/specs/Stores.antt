@@ -1,7 +1,7 @@
--- The stores of initializers as the code keeps them, and what the answers of the code that types an initializer stand for.
+-- A bridge: the stores of initializers as the code keeps them, and what the answers of the code that types an initializer stand for.
 use Rattle.std.specs.Prelude.{ℕ, false, ◌<◌, length, List, ◌++◌, map, Option, Some, None, option_map}
 use Rattle.pv_typed.specs.declared.entries.Init.{Init}
-use Rattle.pv_typed.specs.Children.{Each}
+use Rattle.pv_typed.specs.Known.{Each}
 use Rattle.pv_typed.specs.Formed.{HasValue}
 use Rattle.pv_typed.specs.Tables.{Stored, nodes, store_in}
 use Rattle.pv_typed.specs.TypedUnits.{Store}

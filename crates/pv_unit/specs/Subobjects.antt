@@ -1,4 +1,4 @@
--- What a part of an object that the code goes to stands for.
+-- A bridge: what a part of an object that the code goes to stands for.
 use Rattle.std.specs.Prelude.{◌≡◌, ◌⊎◌, ℕ, ◌+◌, ◌*◌, ◌<◌, ◌≤◌, ◌^◌, ◌==◌, Bool, true, ◌&&◌, nat_le, if◌then◌else◌, length, List, Option, Some, None}
 use Rattle.pv_types.specs.Ty.{Ty, ArrayOf}
 use Rattle.pv_types.specs.Known.{Known, tree, env}

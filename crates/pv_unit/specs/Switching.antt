@@ -1,12 +1,13 @@
--- What the answers of the code that types a switch stand for.
+-- A bridge: what the answers of the code that types a switch stand for.
 use Rattle.std.specs.Prelude.{◌≡◌, ℕ, ℤ, Bool, true, false, List, map, Option, Some, None, if◌then◌else◌, ◌++◌, ◌∷◌, []}
 use Rattle.pv_num.specs.declared.kinds.IntKind.{IntKind}
 use Rattle.pv_tree.specs.declared.nodes.NodeId.{NodeId}
 use Rattle.pv_tree.specs.declared.nodes.ListId.{ListId}
 use Rattle.pv_tree.specs.Syntax.{StatementTree, Trees, SwitchBlock, Labelled}
-use Rattle.pv_tree.specs.Lines.{tree_line}
+use Rattle.pv_tree.specs.TreeLines.{tree_line}
 use Rattle.pv_tree.specs.Tables.{Forest, tree_at, trees_at, statement_at as statement_of, is_item, is_statement, Has, HasList}
-use Rattle.pv_typed.specs.Tables.{Stored, expression_at, statement_at}
+use Rattle.pv_typed.specs.Tables.{Stored}
+use Rattle.pv_typed.specs.NodeTrees.{expression_at, statement_at}
 use Rattle.pv_check.specs.Raw.{Raw}
 use Rattle.pv_check.specs.Open.{state_of}
 use Rattle.pv_check.specs.State.{State, After, and_then, give}

@@ -1,4 +1,4 @@
--- The objects and functions that declarations at file scope declare are in the tables.
+-- A bridge: the objects and functions that declarations at file scope declare are in the tables.
 use Rattle.std.specs.Prelude.{ℕ, ◌<◌, Bool, true, false, List, [], ◌∷◌, length}
 use Rattle.pv_typed.specs.Tables.{Stored}
 use Rattle.pv_unit.specs.Entities.{Entity}

@@ -2,19 +2,17 @@
 use Rattle.std.specs.Prelude.{ℕ, Bool, false, Option, Some, None, is_some, List, ◌++◌, length, set}
 use Rattle.pv_tree.specs.Syntax.{InitializerTree}
 use Rattle.pv_types.specs.Ty.{Ty}
-use Rattle.pv_types.specs.Layouts.{Part}
 use Rattle.pv_typed.specs.TypedUnits.{object_at}
 use Rattle.pv_typed.specs.Adding.{with_literal}
 use Rattle.pv_typed.specs.Addresses.{constant_of}
-use Rattle.pv_check.specs.State.{State, and_then}
+use Rattle.pv_check.specs.State.{State}
 use Rattle.pv_check.specs.State as check
 use Rattle.pv_check.specs.Typing.{types}
 use Rattle.pv_check.specs.Rows.{operand}
 use Rattle.pv_check.specs.Values.{assigned}
 use Rattle.pv_check.specs.Primary.{bytes_of_text}
-use Rattle.pv_unit.specs.Initializers.{Stores}
 use Rattle.pv_unit.specs.Rules.{Rules, After, StringLiteral}
-use Rattle.pv_unit.specs.Initialized.{Given, each_of, initialized_object, initialized as part_initialized}
+use Rattle.pv_unit.specs.Initialized.{Given, initialized_object}
 
 -- an answer of the typing of expressions (6.5) as one of initializers (6.7.9)
 abbrev pub lifted : {A : Type 0} → Option (check.After A) → Option (After State A)
@@ -46,14 +44,6 @@ values = record {
 abbrev pub object_stores : (lasting : Bool) → Ty → InitializerTree → State → Option (After State Given)
 object_stores lasting t i s = initialized_object values lasting t i s
 
--- 6.7.9p11 to p17: the stores of an initializer into a part of an object
-abbrev pub part_stores : (lasting : Bool) → Part → InitializerTree → State → Option (After State Stores)
-part_stores lasting p i s = part_initialized values lasting p i s
-
--- 6.7.9p16: those of a list in braces
-abbrev pub list_stores : (lasting : Bool) → Part → InitializerTree → State → Option (After State Stores)
-list_stores lasting p i s = each_of values lasting p i s
-
 -- 6.7.9: the initializer of an object of this type
 abbrev pub initialized : (lasting : Bool) → Ty → InitializerTree → State → Option (check.After Given)
 initialized lasting t i s = lowered (object_stores lasting t i s)
@@ -61,7 +51,3 @@ initialized lasting t i s = lowered (object_stores lasting t i s)
 -- 6.7.9: the object has its type, and the stores of its initializer behind those that it has: none, since it is initialized once
 abbrev pub with_given : ℕ → Given → State → State
 with_given o x s = record s { unit = record s.unit { objects = set s.unit.objects o (record (object_at s.unit o) { t = x.t; braced = x.braced; inits = (object_at s.unit o).inits ++ x.stores }) } }
-
--- 6.7.9: an object with what its initializer gives it
-abbrev pub object_given : (lasting : Bool) → ℕ → InitializerTree → State → Option State
-object_given lasting o i s = and_then (initialized lasting (object_at s.unit o).t i s) (λ f. Some (with_given o f.value f.state))

@@ -2,7 +2,7 @@
 ghost use Rattle.std.specs.Prelude.{◌≡◌, ◌<◌, ◌&&◌, ◌||◌, not, false, ℕ, List, length};
 ghost use Rattle.pv_types.specs.Known.{tree, env};
 ghost use Rattle.pv_types.specs.Layouts.{is_complete_in};
-ghost use Rattle.pv_typed.specs.Formed.{AreKnown};
+ghost use Rattle.pv_typed.specs.Known.{AreKnown};
 ghost use Rattle.pv_check.specs.Open.{state_of};
 ghost use Rattle.pv_check.specs.Raw.{Raw};
 ghost use Rattle.pv_unit.specs.Definitions.{is_sized, entity_type, is_finished, are_finished, may_end};

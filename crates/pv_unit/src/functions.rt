@@ -1,9 +1,11 @@
 //! Function definitions and external declarations (C17 6.9, 6.9.1).
 ghost use Rattle.std.specs.Prelude.{◌≡◌, ◌<◌, ◌+◌, ◌++◌, ◌∷◌, [], ℕ, List, false, length, IfOk, IfSome, OnOk, Some};
-ghost use Rattle.pv_tree.specs.Tables.{Is, HasList, declaration_at, declarator_at, statement_at as statement_of, trees_at, is_declarator, is_declaration, is_external, is_item, is_specifier, is_statement, tree_at};
+ghost use Rattle.pv_tree.specs.Tables.{Is, HasList, declaration_at, declarator_at, statement_at as statement_of, trees_at, is_declarator, is_declaration, is_item, is_specifier, is_statement, tree_at};
+ghost use Rattle.pv_tree.specs.Syntax.{is_external};
 ghost use Rattle.pv_types.specs.Known.{tree};
-ghost use Rattle.pv_typed.specs.Children.{Each};
-ghost use Rattle.pv_typed.specs.Tables.{Stored, statement_at, IsStatement};
+ghost use Rattle.pv_typed.specs.Known.{Each};
+ghost use Rattle.pv_typed.specs.Tables.{Stored};
+ghost use Rattle.pv_typed.specs.NodeTrees.{statement_at, IsStatement};
 ghost use Rattle.pv_check.specs.Declarators.{parameters_shown, ParameterKnown, SignatureKnown};
 ghost use Rattle.pv_check.specs.Open.{state_of, IsOpen, Goes, ScopeKnown};
 ghost use Rattle.pv_check.specs.Raw.{raw_of, scope_shown};

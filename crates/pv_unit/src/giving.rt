@@ -1,8 +1,10 @@
 //! What an initializer gives its object (C17 6.7.9p3, p22): the type, and the stores.
 ghost use Rattle.std.specs.Prelude.{◌≡◌, ◌<◌, [], length, List, ℕ, IfOk, OnOk, Some, false, true};
-ghost use Rattle.pv_types.specs.Known.{completions, env, tree};
+ghost use Rattle.pv_types.specs.Known.{env, tree};
+ghost use Rattle.pv_types.specs.Formed.{completions};
 ghost use Rattle.pv_tree.specs.Tables.{Forest, Is, initializer_at, is_initializer};
-ghost use Rattle.pv_typed.specs.Formed.{AreKnown, Grown};
+ghost use Rattle.pv_typed.specs.Formed.{Grown};
+ghost use Rattle.pv_typed.specs.Known.{AreKnown};
 ghost use Rattle.pv_typed.specs.Tables.{whole};
 ghost use Rattle.pv_check.specs.Growing.{AreSized};
 ghost use Rattle.pv_check.specs.Kept.{Kept};
@@ -14,7 +16,8 @@ ghost use Rattle.pv_unit.specs.Parts.{can_be_initialized, sized};
 ghost use Rattle.pv_unit.specs.Shapes.{shape_in};
 ghost use Rattle.pv_unit.specs.Stores.{AreStores, FillsIf, stores_in};
 ghost use Rattle.pv_unit.specs.Subobjects.{part_of, HasSpace, IsPart};
-ghost use Rattle.pv_unit.specs.ValueRules.{with_given, object_stores, object_given};
+ghost use Rattle.pv_unit.specs.ValueRules.{with_given, object_stores};
+ghost use Rattle.pv_unit.specs.RuleParts.{object_given};
 
 use crate::initializers::{array_of, initializer};
 use crate::parts::Subobject;

@@ -1,12 +1,13 @@
 //! Typing initializers (C17 6.7.9).
 ghost use Rattle.std.specs.Prelude.{◌≡◌, ◌<◌, ◌≤◌, ◌*◌, ◌^◌, length, List, ℕ, IfOk, IfSome, OnOk, Some, false, option_map, true};
-ghost use Rattle.pv_types.specs.Known.{completions, env, tree};
+ghost use Rattle.pv_types.specs.Known.{env, tree};
+ghost use Rattle.pv_types.specs.Formed.{completions};
 ghost use Rattle.pv_types.specs.Layouts.{layout_in, is_complete_in};
 ghost use Rattle.pv_types.specs.Ty.{ArrayOf};
 ghost use Rattle.pv_tree.specs.Tables.{expression_at as expression_of, initializer_at, is_expression, is_initializer, Is};
-ghost use Rattle.pv_layout.specs.Places.{bare};
-ghost use Rattle.pv_typed.specs.Formed.{AreKnown};
-ghost use Rattle.pv_typed.specs.Tables.{expression_at, IsExpression};
+ghost use Rattle.pv_layout.specs.Parts.{bare};
+ghost use Rattle.pv_typed.specs.Known.{AreKnown};
+ghost use Rattle.pv_typed.specs.NodeTrees.{expression_at, IsExpression};
 ghost use Rattle.pv_check.specs.Growing.{AreSized, IsType, type_if};
 ghost use Rattle.pv_check.specs.Kept.{Kept, expression_if};
 ghost use Rattle.pv_check.specs.Open.{state_of, IsOpen, Goes};
@@ -17,7 +18,8 @@ ghost use Rattle.pv_unit.specs.Initializers.{allowed, single, zero, zero_leaf, f
 ghost use Rattle.pv_unit.specs.Parts.{is_text};
 ghost use Rattle.pv_unit.specs.Stores.{AreStores, FillsIf, stores_if, stores_by};
 ghost use Rattle.pv_unit.specs.Subobjects.{part_of, HasSpaceIf, IsPart, IsInnerIf};
-ghost use Rattle.pv_unit.specs.ValueRules.{filling_text, values, part_stores, list_stores};
+ghost use Rattle.pv_unit.specs.ValueRules.{filling_text, values};
+ghost use Rattle.pv_unit.specs.RuleParts.{part_stores, list_stores};
 
 use crate::parts::{LARGEST, Subobject, first_leaf, part_at};
 use crate::shapes::{Shape, shape_of};

@@ -1,7 +1,7 @@
 //! Labels of a switch (C17 6.8.1, 6.8.4.2).
 ghost use Rattle.std.specs.Prelude.{false, ◌≡◌, ◌<◌, ◌++◌, ◌∷◌, [], ◌≤◌, ℕ, List, if◌then◌else◌, not, length, map, drop, IfOk, OnOk, IfSome};
 ghost use Rattle.pv_tree.specs.Tables.{statement_at as statement_of, trees_at, expression_at as expression_of, is_expression, is_statement, Is, HasList};
-ghost use Rattle.pv_typed.specs.Tables.{statement_at, expression_at, IsExpression, IsStatement};
+ghost use Rattle.pv_typed.specs.NodeTrees.{statement_at, expression_at, IsExpression, IsStatement};
 ghost use Rattle.pv_check.specs.Open.{state_of, IsOpen};
 ghost use Rattle.pv_check.specs.State.{and_then};
 ghost use Rattle.pv_unit.specs.Stated.{Moves, MovesOn};

@@ -2,7 +2,8 @@
 ghost use Rattle.std.specs.Prelude.{◌≡◌, ◌<◌, length, map, IfOk, OnOk};
 ghost use Rattle.pv_num.specs.declared.kinds.IntKind.TheVariants.{Char};
 ghost use Rattle.pv_types.specs.Ty.{FunctionTy, IntTy, PointerTo, VoidTy};
-ghost use Rattle.pv_types.specs.Known.{AllBelow, parameters_at, tree, trees, tys_in};
+ghost use Rattle.pv_types.specs.Known.{tree, trees, tys_in};
+ghost use Rattle.pv_types.specs.Formed.{AllBelow, parameters_at};
 ghost use Rattle.pv_check.specs.Growing.{Grows};
 ghost use Rattle.pv_unit.specs.Library.{prototype};
 ghost use Rattle.pv_unit.specs.Prototypes.{constant_if, simple_type, simple_types};

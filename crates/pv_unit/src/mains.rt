@@ -2,10 +2,11 @@
 ghost use Rattle.std.specs.Prelude.{◌≡◌, ◌<◌, false, length, IfOk, OnOk};
 ghost use Rattle.pv_num.specs.declared.kinds.IntKind.TheVariants.{Int};
 ghost use Rattle.pv_types.specs.Ty.{IntTy, FunctionTy, NoTys};
-ghost use Rattle.pv_types.specs.Known.{tree, parameters_at};
+ghost use Rattle.pv_types.specs.Known.{tree};
+ghost use Rattle.pv_types.specs.Formed.{parameters_at};
 ghost use Rattle.pv_types.specs.Compatible.{are_compatible};
 ghost use Rattle.pv_typed.specs.Tables.{whole};
-ghost use Rattle.pv_typed.specs.Formed.{AreKnown};
+ghost use Rattle.pv_typed.specs.Known.{AreKnown};
 ghost use Rattle.pv_check.specs.Growing.{Grows};
 ghost use Rattle.pv_check.specs.Open.{IsOpen, Goes};
 ghost use Rattle.pv_unit.specs.Library.{main_type};

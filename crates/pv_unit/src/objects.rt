@@ -2,14 +2,15 @@
 ghost use Rattle.std.specs.Prelude.{◌≡◌, ◌<◌, ◌+◌, ◌++◌, ◌∷◌, [], ℕ, Bool, List, None, Some, IfOk, IfSome, IsTrue, OnOk, true, if◌then◌else◌, length};
 ghost use Rattle.pv_types.specs.Known.{tree};
 ghost use Rattle.pv_types.specs.Compatible.{are_compatible};
-ghost use Rattle.pv_typed.specs.Formed.{AreKnown};
+ghost use Rattle.pv_typed.specs.Known.{AreKnown};
 ghost use Rattle.pv_typed.specs.Tables.{whole};
 ghost use Rattle.pv_check.specs.Composite.{composite};
 ghost use Rattle.pv_check.specs.Open.{state_of, after_nothing, IsOpen, Goes, EntryKnown};
 ghost use Rattle.pv_check.specs.Growing.{type_if};
 ghost use Rattle.pv_check.specs.Raw.{raw_innermost, meaning_if, with_name};
 ghost use Rattle.pv_check.specs.State.{find, innermost, TypedefOf, bind};
-ghost use Rattle.pv_unit.specs.Entities.{new_object, new_function, with_object_type, with_function_type, object_composed, function_composed};
+ghost use Rattle.pv_unit.specs.Entities.{new_object, new_function, with_object_type, with_function_type};
+ghost use Rattle.pv_unit.specs.RuleParts.{object_composed, function_composed};
 
 use pv_check::{Entry, Scopes, composite};
 use pv_typed::{Function, Object, TypedUnit};

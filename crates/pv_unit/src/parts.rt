@@ -1,7 +1,8 @@
 // The parts of an object that initializers are for.
 ghost use Rattle.std.specs.Prelude.{◌≡◌, ◌<◌, ◌≤◌, ◌+◌, ◌*◌, ◌^◌, length, IsTrue, is_some, option_map, false, true};
-ghost use Rattle.pv_types.specs.Known.{tree, trees, tree_in, env, members_in, is_union_in, completions, PartsBelow, IsTagged, IsBuilt};
-ghost use Rattle.pv_layout.specs.Places.{bare};
+ghost use Rattle.pv_types.specs.Known.{tree, trees, tree_in, env};
+ghost use Rattle.pv_types.specs.Formed.{members_in, is_union_in, completions, PartsBelow, IsTagged, IsBuilt};
+ghost use Rattle.pv_layout.specs.Parts.{bare};
 ghost use Rattle.pv_types.specs.Layouts.{layout_in, is_complete_in, look, or_none};
 ghost use Rattle.pv_unit.specs.Parts.{is_scalar, is_aggregate, character_layer, is_character_kind, is_text, within, has_element, part_in, part_at, first_leaf};
 ghost use Rattle.pv_types.specs.Ty.{ArrayOf, StructTag, UnionTag};

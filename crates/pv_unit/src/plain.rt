@@ -2,8 +2,8 @@
 ghost use Rattle.std.specs.Prelude.{false, ◌≡◌, [], ◌<◌, ℕ, List, length, IfOk, IfSome, OnOk};
 ghost use Rattle.pv_tree.specs.Tables.{statement_at as statement_of, declaration_at, tree_at, optional_at, is_expression, is_statement, is_declaration, Is, HasOptional};
 ghost use Rattle.pv_tree.specs.Syntax.{ExpressionStatement, Break, Continue, Return};
-ghost use Rattle.pv_tree.specs.Lines.{tree_line};
-ghost use Rattle.pv_typed.specs.Tables.{statement_at, IsStatement};
+ghost use Rattle.pv_tree.specs.TreeLines.{tree_line};
+ghost use Rattle.pv_typed.specs.NodeTrees.{statement_at, IsStatement};
 ghost use Rattle.pv_check.specs.Open.{state_of, IsOpen, EntryKnown};
 ghost use Rattle.pv_check.specs.Raw.{meaning_in};
 ghost use Rattle.pv_check.specs.State.{and_then};

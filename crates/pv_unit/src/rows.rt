@@ -3,7 +3,7 @@ ghost use Rattle.std.specs.Prelude.{false, ◌≡◌, ◌<◌, ◌&&◌, ◌==�
 ghost use Rattle.pv_tree.specs.Tables.{expression_at as expression_of, statement_at as statement_of, tree_at, optional_at, is_expression, is_statement, Is, HasOptional};
 ghost use Rattle.pv_types.specs.Known.{tree};
 ghost use Rattle.pv_typed.specs.TypedTree.{type_of};
-ghost use Rattle.pv_typed.specs.Tables.{expression_at, IsExpression, IsStatement};
+ghost use Rattle.pv_typed.specs.NodeTrees.{expression_at, IsExpression, IsStatement};
 ghost use Rattle.pv_check.specs.Arms.{after_node};
 ghost use Rattle.pv_check.specs.Kept.{expression_if};
 ghost use Rattle.pv_check.specs.Open.{state_of, IsOpen};

@@ -1,6 +1,7 @@
 // The shape that an initializer has.
 ghost use Rattle.std.specs.Prelude.{◌≡◌, ◌<◌, length, option_map, All};
-ghost use Rattle.pv_types.specs.Known.{completions, tree};
+ghost use Rattle.pv_types.specs.Known.{tree};
+ghost use Rattle.pv_types.specs.Formed.{completions};
 ghost use Rattle.pv_tree.specs.Tables.{expression_at, initializer_at, trees_at, is_expression, is_initializer, Is, HasList};
 ghost use Rattle.pv_unit.specs.Initializers.{only, is_zero, filling, expression_shape, begins_deep, single_shape, list_shape, shape_of};
 ghost use Rattle.pv_unit.specs.Shapes.{shape_in, IsShape, IsShapeIf, IsExpressionIf};

@@ -9,7 +9,7 @@ use Rattle.pv_eval.specs.States.{Res, end_of}
 use Rattle.pv_exec.specs.Run.{sides_at}
 use Rattle.pv_exec.specs.Sided.{side_of}
 use Rattle.pv_exec.specs.Laws.{run_at}
-use Rattle.pv_exec.specs.Streaming.{event_of}
+use Rattle.pv_exec.specs.Outlets.{event_of}
 use Rattle.pv_numbering.specs.Same.{SameRun}
 use Rattle.pv_numbering.proofs.Numbering.{same-tables}
 use Rattle.pv_numbering.proofs.UnitEntries.{has_tables}

@@ -1,4 +1,4 @@
--- Which names of a unit stand for allocations, and which requests a script denies (C17 7.22.3).
+-- A bridge: which names of a unit stand for allocations, and which requests a script denies (C17 7.22.3).
 use Rattle.std.specs.Prelude.{◌≡◌, ℕ, List, Some}
 use Rattle.pv_script.specs.declared.script.Place.TheVariants.{Null}
 use Rattle.pv_script.specs.Lines.{ScriptLine}

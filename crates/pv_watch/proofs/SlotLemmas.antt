@@ -2,7 +2,8 @@
 use Rattle.std.proofs.Common.{◌≡◌, ℕ, zero, suc, ◌+◌, ◌<◌, List, [], ◌∷◌, ◌++◌, Bool, true, false, cond, map, take, drop, set, get_or, length, refl, sym, subst, ◌∙◌, ap, arith}
 use Rattle.std.specs.List.{filter, AllZip}
 use Rattle.std.proofs.lemmas.List.{map-set, length-map, take_all, append-nil, append_assoc, take_more, map-append}
-use Rattle.pv_watch.specs.Slots.{Slot, slots, Says, Adds, SayAll}
+use Rattle.pv_watch.specs.Slots.{Slot, slots, Says, SayAll}
+use Rattle.pv_watch.specs.Adding.{Adds}
 use Rattle.pv_watch.specs.declared.seats.Seat.TheVariants.{In}
 
 kept_or_not : {X Y : Type 0} (f : X → Y) (b : Bool) (x : X) (xs : List X) (ys : List Y) → map f xs ≡ ys → map f (cond b (x ∷ xs) xs) ≡ cond b (f x ∷ ys) ys

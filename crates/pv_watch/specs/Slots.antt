@@ -41,12 +41,6 @@ abbrev pub Says : List (List ℕ) → Slot → List ℕ → Type 0
 Says names (Present kind wants seen) text = IsText kind wants seen names text
 Says names (Left kind text) said = said ≡ text
 
--- the text of a slot was added (docs/FORMATS.md, What watchers say; memory model)
-pub record Adds (names : List (List ℕ)) (slot : Slot) (old new : List ℕ) : Type 0 where
-  pub text : List ℕ
-  pub says : Says names slot text
-  pub whole : new ≡ old ++ text
-
 -- the texts of all slots in order (docs/FORMATS.md, What watchers say; memory model)
 abbrev pub SayAll : List (List ℕ) → List Slot → List ℕ → Type 0
 SayAll names [] text = text ≡ []

@@ -7,17 +7,6 @@ use Rattle.pv_watch.specs.declared.event.What.{What}
 use Rattle.pv_watch.specs.declared.event.What.TheVariants.{Made, Ended, Exposed, Pair, Tried, Fault}
 use Rattle.pv_watch.specs.Lines.{first_told, line, event_lines}
 
--- ---- kind 2: how many events of each kind were seen
-
--- the memory model: the kinds of events
-abbrev pub word_of : What → List ℕ
-word_of (Made inst name k base size) = codes "create"
-word_of (Ended inst) = codes "end"
-word_of (Exposed inst) = codes "expose"
-word_of (Pair pair address low high) = codes "pair"
-word_of (Tried pair test low high) = codes "use"
-word_of (Fault verdict low high pair) = codes "fault"
-
 -- which of the memory model's six kinds of events
 abbrev pub place_of : What → ℕ
 place_of (Made inst name k base size) = 0

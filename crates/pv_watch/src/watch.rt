@@ -21,7 +21,8 @@ pub enum Attend {
 pub trait Watch: Drop {
     ghost use Rattle.std.specs.Prelude.{ℕ, List};
     ghost use Rattle.pv_watch.specs.declared.event.Event.{Event};
-    ghost use Rattle.pv_watch.specs.Seen.{Sees, IsText};
+    ghost use Rattle.pv_watch.specs.Seen.{IsText};
+    ghost use Rattle.pv_watch.specs.Adding.{Sees};
 
     /// The events that it has seen, in order.
     ghost seen: { Self → List Event };

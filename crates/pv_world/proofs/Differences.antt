@@ -6,7 +6,7 @@ use Rattle.pv_inst.specs.declared.values.Tried.{Tried}
 use Rattle.pv_inst.specs.Table.{Table}
 use Rattle.pv_object.specs.declared.values.Pointer.{Pointer}
 use Rattle.pv_object.specs.declared.values.Stop.{Stop}
-use Rattle.pv_object.specs.Operations.{subtract_by}
+use Rattle.pv_object.specs.Answers.{subtract_by}
 use Rattle.pv_watch.specs.declared.event.What.{What}
 use Rattle.pv_world.specs.Worlds.{World, with_table}
 use Rattle.pv_world.specs.Telling.{both_used, fault_told}

@@ -9,7 +9,7 @@ use Rattle.pv_inst.specs.Table.{Table, IsMadeIn}
 use Rattle.pv_shadow.specs.declared.byte.Byte.{Byte}
 use Rattle.pv_shadow.specs.Whole.{plain}
 use Rattle.pv_object.specs.Memory.{Mem}
-use Rattle.pv_object.specs.Creating.{OrSpent}
+use Rattle.pv_object.specs.Answers.{OrSpent}
 use Rattle.pv_watch.specs.declared.event.What.{What}
 use Rattle.pv_world.specs.Worlds.{Nothing, World, Halts, Refused}
 use Rattle.pv_world.specs.Telling.{made}

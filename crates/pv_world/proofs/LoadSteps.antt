@@ -14,7 +14,8 @@ use Rattle.pv_object.specs.declared.values.Value.{Value}
 use Rattle.pv_object.specs.declared.values.Stop.{Stop}
 use Rattle.pv_object.specs.declared.values.Stop.TheVariants as stop
 use Rattle.pv_object.specs.Memory.{Mem, with_table as with_instances}
-use Rattle.pv_object.specs.Loading.{Loaded, OrNoPair, whole_pointer, tested}
+use Rattle.pv_object.specs.Loading.{Loaded, tested}
+use Rattle.pv_object.specs.Loads.{OrNoPair, whole_pointer}
 use Rattle.pv_object.proofs.Wholes.{whole_parts, whole_load}
 use Rattle.pv_watch.specs.declared.event.What.{What}
 use Rattle.pv_world.specs.declared.failing.Blame.{Blame}

@@ -4,7 +4,7 @@ use Rattle.std.proofs.lemmas.List.{append_assoc, append-nil, length-append}
 use Rattle.pv_inst.specs.declared.values.CreateError.{CreateError}
 use Rattle.pv_inst.specs.declared.values.CreateError.TheVariants as refusal
 use Rattle.pv_object.specs.Memory.{Mem}
-use Rattle.pv_object.specs.Creating.{OrSpent}
+use Rattle.pv_object.specs.Answers.{OrSpent}
 use Rattle.pv_watch.specs.declared.event.What.{What}
 use Rattle.pv_world.specs.Worlds.{Nothing, World, Halts, Refused}
 use Rattle.pv_world.specs.Telling.{made}

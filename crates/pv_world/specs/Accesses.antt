@@ -1,5 +1,5 @@
 -- Reads and writes of bytes (C17 6.2.6.1, 6.3.2.1p2, 6.5.16): reaching them, what they are worth, and what is stored.
-use Rattle.std.specs.Prelude.{◌≡◌, ◌≤◌, length, ℕ, ◌+◌, ◌==◌, nat_lt, Bool, false, not, ◌&&◌, List, ◌++◌, Option, Some, None, if◌then◌else◌, Result, Ok, Err, take, drop}
+use Rattle.std.specs.Prelude.{ℕ, ◌+◌, ◌==◌, nat_lt, Bool, false, not, ◌&&◌, List, ◌++◌, Option, Some, None, if◌then◌else◌, Result, Ok, Err, take, drop}
 use Rattle.pv_prov.specs.declared.names.Prov.{Prov}
 use Rattle.pv_inst.specs.declared.values.Test.TheVariants.{Range}
 use Rattle.pv_inst.specs.Table.{Table}
@@ -12,14 +12,14 @@ use Rattle.pv_object.specs.declared.values.Reach.{Reach}
 use Rattle.pv_object.specs.declared.values.Stop.{Stop}
 use Rattle.pv_object.specs.declared.values.Stop.TheVariants.{Undefined as UndefinedStop}
 use Rattle.pv_object.specs.declared.values.Asker.TheVariants.{Access}
-use Rattle.pv_object.specs.Values.{is_character, IsOf}
-use Rattle.pv_object.specs.Encoding.{encode, size_of}
+use Rattle.pv_object.specs.Values.{is_character}
+use Rattle.pv_object.specs.Encoding.{encode}
 use Rattle.pv_object.specs.Access.{reach}
 use Rattle.pv_object.specs.Loading.{Loaded, value_of as load_of}
 use Rattle.pv_watch.specs.declared.event.What.{What}
 use Rattle.pv_world.specs.declared.got.Shape.{Shape}
 use Rattle.pv_world.specs.declared.got.Shape.TheVariants as shape
-use Rattle.pv_world.specs.Worlds.{Worth, Nothing, Missing, Scalar, Whole, World, with_table}
+use Rattle.pv_world.specs.Worlds.{Worth, Scalar, Whole, World, with_table}
 use Rattle.pv_world.specs.Telling.{Told, quiet, telling, uses, used, live_test, range_test, exposures, all_told, pairings}
 use Rattle.pv_world.specs.Doing.{Done, Answers, Fails}
 use Rattle.pv_world.specs.Worths.{present, wrong_of, value_of, bytes_of}
@@ -82,27 +82,3 @@ is_inexact (Some b) a n = not (a == b) && (nat_lt a (b + n) && nat_lt b (a + n))
 -- 6.5.2.3p3: a member of a structure or union value
 abbrev pub takes_bytes : (offset size : ℕ) → Shape → Worth → World → Done
 takes_bytes offset size s v w = present v w (λ v. worth_in w (take size (drop offset (bytes_of v))) s None None quiet)
-
--- 6.2.6.1p4: what is asked of bytes: they are as many as the scalar has
-abbrev pub HasSizeOf : Shape → ℕ → Type 0
-HasSizeOf (shape.Int k) n = n ≡ size_of (scalar.Int k)
-HasSizeOf shape.Pointer n = n ≡ size_of scalar.Pointer
-HasSizeOf shape.Whole n = Unit {0}
-
--- 6.5.2.3p3: and of a value whose part is taken: if it is there, it is a structure or union that has these bytes
-abbrev pub HasPart : Worth → (offset size : ℕ) → Type 0
-HasPart (Whole bs a) offset size = offset + size ≤ length bs
-HasPart Missing offset size = Unit {0}
-HasPart Nothing offset size = ⊥
-HasPart (Scalar v) offset size = ⊥
-
--- 6.2.6.1p4: and of a value that is stored in so many bytes: it is of this shape
-abbrev pub IsStored : Shape → ℕ → Worth → Type 0
-IsStored shape.Whole n (Whole bs a) = n ≡ length bs
-IsStored (shape.Int k) n (Scalar v) = (n ≡ size_of (scalar.Int k)) × IsOf (scalar.Int k) v
-IsStored shape.Pointer n (Scalar v) = (n ≡ size_of scalar.Pointer) × IsOf scalar.Pointer v
-IsStored shape.Whole n (Scalar v) = ⊥
-IsStored (shape.Int k) n (Whole bs a) = ⊥
-IsStored shape.Pointer n (Whole bs a) = ⊥
-IsStored s n Nothing = ⊥
-IsStored s n Missing = ⊥

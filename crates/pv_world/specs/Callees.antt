@@ -1,4 +1,4 @@
--- What a call that asks for the function behind a pointer comes to: its caller says which functions may be called so.
+-- A bridge: what a call that asks for the function behind a pointer comes to: its caller says which functions may be called so.
 use Rattle.std.specs.Prelude.{◌≡◌, ℕ, pos, Bool, List, ◌++◌, Option, Some, Result, Ok, Err, unwrap_or, if◌then◌else◌}
 use Rattle.pv_object.specs.declared.values.Pointer.{Pointer}
 use Rattle.pv_object.specs.Operations.{code}

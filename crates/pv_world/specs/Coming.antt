@@ -1,10 +1,10 @@
--- What a call of an operation comes to: its answer, the world after it, and what was told by then.
+-- A bridge: what a call of an operation comes to: its answer, the world after it, and what was told by then.
 use Rattle.std.specs.Prelude.{◌≡◌, ℕ, List, [], ◌∷◌, ◌++◌, Result, Ok, Err, All}
 use Rattle.pv_inst.specs.Table.{Table, IsMadeIn}
 use Rattle.pv_inst.specs.declared.values.CreateError.{CreateError}
 use Rattle.pv_inst.specs.declared.values.CreateError.TheVariants as refusal
 use Rattle.pv_shadow.specs.declared.byte.Byte.{Byte}
-use Rattle.pv_object.specs.Values.{IsMadeValue}
+use Rattle.pv_object.specs.Answers.{IsMadeValue}
 use Rattle.pv_watch.specs.declared.event.What.{What}
 use Rattle.pv_world.specs.declared.got.Got.{Got}
 use Rattle.pv_world.specs.declared.got.Got.TheVariants as got
@@ -81,3 +81,7 @@ abbrev pub CameMade : (name : ℕ) → Result (Unit {0}) CreateError → World �
 CameMade name (Ok u) w es s = s ≡ Gave Nothing w es
 CameMade name (Err refusal.NoMemory) w es s = Unit {0}
 CameMade name (Err e) w es s = s ≡ Ended (Halts (Refused name e)) w es
+
+-- the candidate is an allocation that begins there (7.22.3.3p2)
+abbrev pub block_test : ℕ
+block_test = 3

@@ -1,4 +1,4 @@
--- How values are converted (C17 6.3).
+-- A bridge: how values are converted (C17 6.3).
 use Rattle.std.specs.Prelude.{◌≤◌}
 use Rattle.pv_world.specs.declared.got.How.{How}
 use Rattle.pv_world.specs.declared.got.How.TheVariants.{Rounds, Passes, Tests, Numbers, Points, Recasts, Voids}

@@ -1,3 +1,4 @@
+pub mod Preconditions
 pub mod Worlds
 pub mod Telling
 pub mod Doing

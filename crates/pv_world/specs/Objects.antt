@@ -1,10 +1,9 @@
 -- Objects and literals: their instances, their places, and the stores of initialisers and parameters.
-use Rattle.std.specs.Prelude.{◌≡◌, ◌≤◌, IsSomeAnd, ℕ, ◌+◌, ◌-◌, Bool, true, false, List, [], ◌∷◌, ◌++◌, length, replicate, Some, None, if◌then◌else◌, ◌==◌, slice_index_or, Result, Ok, Err, unwrap_or}
+use Rattle.std.specs.Prelude.{ℕ, ◌+◌, ◌-◌, Bool, true, false, List, [], ◌∷◌, ◌++◌, length, replicate, Some, None, if◌then◌else◌, ◌==◌, slice_index_or, Result, Ok, Err, unwrap_or}
 use Rattle.std.specs.declared.option.Option.{Option}
 use Rattle.std.specs.FinMap as map
 use Rattle.pv_prov.specs.declared.names.Prov.TheVariants.{Empty, Inst}
 use Rattle.pv_inst.specs.declared.values.Kind.TheVariants.{Declared, Literal, Function}
-use Rattle.pv_inst.specs.declared.values.Instance.{Instance}
 use Rattle.pv_inst.specs.declared.values.CreateError.{CreateError}
 use Rattle.pv_inst.specs.Table.{instance_at}
 use Rattle.pv_inst.specs.Infos.{base_of}
@@ -177,7 +176,3 @@ without_first (m ∷ ms) = ms
 -- 6.9.1: a body ends
 abbrev pub ends_body : World → Done
 ends_body w = Answers Nothing (record w { bodies = without_first w.bodies }) quiet
-
--- 6.2.4p2: so many bytes of a live instance, from an offset on
-abbrev pub HasRoom : World → (i offset n : ℕ) → Type 0
-HasRoom w i offset n = IsSomeAnd (instance_at w.memory.table.instances i) (λ (x : Instance). (x.live ≡ true) × (offset + n ≤ x.size))

@@ -45,10 +45,6 @@ live_test = 1
 abbrev pub range_test : ℕ
 range_test = 2
 
--- the candidate is an allocation that begins there (7.22.3.3p2)
-abbrev pub block_test : ℕ
-block_test = 3
-
 -- the candidate is one of the other operand too (6.5.8p5, 6.5.6p9)
 abbrev pub same_test : ℕ
 same_test = 4

@@ -1,7 +1,8 @@
 // Operators on integers (6.5.3.3, 6.5.5 to 6.5.12), which look at no world.
 ghost use Rattle.std.specs.Prelude.{◌≡◌};
 ghost use Rattle.pv_num.specs.Kinds.{Fits};
-ghost use Rattle.pv_num.specs.Arithmetic.{IsOperand, IsPromoted};
+ghost use Rattle.pv_num.specs.Arithmetic.{IsPromoted};
+ghost use Rattle.pv_num.specs.Operands.{IsOperand};
 ghost use Rattle.pv_world.specs.Worlds.{World as Seen};
 ghost use Rattle.pv_world.specs.Worths.{int_of};
 ghost use Rattle.pv_world.specs.Calculations.{calculates, calculates_one, needs};

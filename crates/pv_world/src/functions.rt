@@ -1,7 +1,7 @@
 // The instances of functions that are pointed to (6.3.2.1p4), and the function that a pointer points to (6.5.2.2p1).
 ghost use Rattle.std.specs.Prelude.{◌≡◌, ◌<◌, ◌++◌, ◌≢◌, Some, ℕ, Bool, codes, length, OnOk, IfOk, Option};
 ghost use Rattle.pv_script.specs.Names.{name_at as text_of};
-ghost use Rattle.pv_inst.specs.Ending.{IsLive};
+ghost use Rattle.pv_inst.specs.Answers.{IsLive};
 ghost use Rattle.pv_object.specs.Later.{IsLater};
 ghost use Rattle.pv_world.specs.Objects.{owning, function_bound, function_request, makes_function};
 ghost use Rattle.pv_world.specs.Telling.{made};

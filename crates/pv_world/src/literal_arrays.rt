@@ -2,8 +2,8 @@
 ghost use Rattle.std.specs.Prelude.{◌≡◌, ◌≤◌, ◌<◌, ◌+◌, ◌-◌, ◌++◌, ◌≢◌, Some, None, length, codes, OnOk, IfOk};
 ghost use Rattle.pv_script.specs.Names.{name_at as text_of};
 ghost use Rattle.pv_shadow.specs.Whole.{plain};
-ghost use Rattle.pv_object.specs.Creating.{HasSize};
-ghost use Rattle.pv_inst.specs.Ending.{IsLive};
+ghost use Rattle.pv_object.specs.Answers.{HasSize};
+ghost use Rattle.pv_inst.specs.Answers.{IsLive};
 ghost use Rattle.pv_world.specs.Objects.{owning, bind, makes_literal_of, literal_bound, with_characters};
 ghost use Rattle.pv_world.specs.Telling.{made};
 ghost use Rattle.pv_watch.specs.declared.event.What.{What};

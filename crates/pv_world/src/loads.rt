@@ -13,7 +13,7 @@ ghost use Rattle.pv_object.specs.Loading.{value_of as load_of, tested};
 ghost use Rattle.pv_world.specs.declared.got.Shape.{Shape};
 ghost use Rattle.pv_world.specs.Worlds.{with_table};
 ghost use Rattle.pv_world.specs.Telling.{used, live_test, exposures, all_told, each_paired, blame_of};
-ghost use Rattle.pv_world.specs.Accesses.{HasSizeOf};
+ghost use Rattle.pv_world.specs.Preconditions.{HasSizeOf};
 ghost use Rattle.pv_world.specs.Loads.{stop_blame, loaded_seen, valued_seen};
 ghost use Rattle.pv_world.specs.Coming.{Came, worth_of, IsMadeWorth};
 

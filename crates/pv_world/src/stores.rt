@@ -1,10 +1,12 @@
 // Stores of initialisers and parameters, which check nothing.
 ghost use Rattle.std.specs.Prelude.{◌≡◌, ◌<◌, ◌+◌, ◌-◌, List, None, length, All, true};
 ghost use Rattle.pv_inst.specs.Table.{IsMadeIn};
-ghost use Rattle.pv_object.specs.Memory.{IsReach};
-ghost use Rattle.pv_object.specs.Values.{IsOf, IsMadeValue};
+ghost use Rattle.pv_object.specs.Reaching.{IsReach};
+ghost use Rattle.pv_object.specs.Values.{IsOf};
+ghost use Rattle.pv_object.specs.Answers.{IsMadeValue};
 ghost use Rattle.pv_object.specs.Encoding.{size_of, encode};
-ghost use Rattle.pv_world.specs.Objects.{instance_of, fills_object, put_at, base_in, HasRoom};
+ghost use Rattle.pv_world.specs.Objects.{instance_of, fills_object, put_at, base_in};
+ghost use Rattle.pv_world.specs.Preconditions.{HasRoom};
 ghost use Rattle.pv_world.specs.Telling.{made};
 ghost use Rattle.pv_watch.specs.declared.event.What.{What};
 ghost use Rattle.pv_world.specs.Coming.{Did, no_worth};

@@ -1,6 +1,6 @@
 // What is told of operations: uses, makings, exposures and new pairs.
 ghost use Rattle.std.specs.Prelude.{◌≡◌, ◌+◌, ◌≤◌, ◌++◌, [], ◌∷◌, OnOk, length, drop};
-ghost use Rattle.pv_inst.specs.Ending.{IsLive};
+ghost use Rattle.pv_inst.specs.Answers.{IsLive};
 ghost use Rattle.pv_object.specs.Memory.{with_table};
 ghost use Rattle.pv_world.specs.Telling.{used, made, exposures, all_told, each_paired};
 

@@ -6,11 +6,13 @@ use Rattle.pv_where.specs.Texts.{place_text}
 use Rattle.pv_typed.specs.Tables.{Stored, whole}
 use Rattle.pv_serve.specs.declared.checking.Refused.{Refused}
 use Rattle.pv_serve.specs.Verdicts.{Refusal}
-use Rattle.pv_serve.specs.Readings.{Reading, Program, Bad, refusal_of, reading_of}
+use Rattle.pv_serve.specs.Readings.{Reading, Program, Bad}
+use Rattle.pv_serve.specs.Loading.{refusal_of, reading_of}
 use Rattle.pv_serve.specs.Comes.{source_limit, Comes, Reads, Long, Short}
 use Rattle.pv_serve.proofs.Limits.{was_short, was_long}
 use Rattle.pvwhere.specs.Places.{first_bytes, IsPlace, IsRefused}
-use Rattle.pvwhere.specs.Answers.{Answer, told_by, word_of, Gets, Nothing, ItsPlace}
+use Rattle.pvwhere.specs.Answers.{Answer, word_of, Gets, Nothing, ItsPlace}
+use Rattle.pvwhere.specs.Answering.{told_by}
 
 -- ---- one byte above the limit
 

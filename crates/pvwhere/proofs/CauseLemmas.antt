@@ -9,9 +9,9 @@ use Rattle.pv_serve.specs.Report.{fault_line}
 use Rattle.pv_serve.specs.Outside.{Sunk, SinkRose, Wrote, WrotePrefix}
 use Rattle.pv_serve.proofs.ComesLemmas.{source_limit_is}
 use Rattle.pvwhere.specs.Words.{file_of}
-use Rattle.pvwhere.specs.Answers.{Answer, Gets, SomeGets, SomeAnswer, no_job, told_by}
+use Rattle.pvwhere.specs.Answers.{Answer, Gets, SomeGets, SomeAnswer, no_job}
+use Rattle.pvwhere.specs.Answering.{told_by, IsTold, SourceAnswered, IsRead, FileAnswered, WasRead, WasLost, HadNoRoom}
 use Rattle.pvwhere.specs.Causes.{Call, Table, IsAnswer, NameRose, Complete, Answered}
-use Rattle.pvwhere.specs.Answering.{IsTold, SourceAnswered, IsRead, FileAnswered, WasRead, WasLost, HadNoRoom}
 use Rattle.pvwhere.proofs.AnswerLemmas.{more_gets}
 
 nothing : (s : Sunk) → s.new ≡ s.old → Wrote s []

@@ -13,10 +13,12 @@ use Rattle.pv_unit.specs.declared.checking.CheckError.{CheckError}
 use Rattle.pv_unit.specs.declared.checking.CheckError.TheVariants as typing
 use Rattle.pv_serve.specs.declared.checking.Refused.{Refused}
 use Rattle.pv_serve.specs.Verdicts.{Refusal, Size, Byte, Token, Profile, Syntax, Constraint, Unresolved, NoMain}
-use Rattle.pv_serve.specs.Readings.{Reading, Program, Bad, refusal_of, typing_refusal}
+use Rattle.pv_serve.specs.Readings.{Reading, Program, Bad}
+use Rattle.pv_serve.specs.Loading.{refusal_of, typing_refusal}
 use Rattle.pv_serve.specs.Comes.{source_limit, Breaks, Lacks, Mainless, Typed, TokensCome, NoUnit, Spelled, Comes, BadByte, BadToken, LeftOut, Lexed, Reads, Long, Short}
 use Rattle.pv_serve.proofs.ComesLemmas.{source_limit_is}
-use Rattle.pvwhere.specs.Places.{first_bytes, start_of, first_named, BeginsWith, StandsBehind, IsFirstNamed, IsPlace, IsRefused, SomePlace}
+use Rattle.pvwhere.specs.Places.{first_bytes, start_of, first_named, StandsBehind, IsFirstNamed, IsPlace, IsRefused, SomePlace}
+use Rattle.pvwhere.specs.Answering.{BeginsWith}
 use Rattle.pvwhere.proofs.TokenLemmas.{lexed_within, start_within, named_within}
 
 -- ---- the first bytes

@@ -1,10 +1,13 @@
--- What the parts of the top call come to.
-use Rattle.std.specs.Prelude.{◌≡◌, ◌≢◌, ℕ, ◌+◌, List, [], take, Option, IfSome}
+-- A bridge: what the parts of the top call come to.
+use Rattle.std.specs.Prelude.{◌≡◌, ◌≢◌, ℕ, ◌+◌, List, [], take, Option, IfSome, Some, None}
+use Rattle.pv_token.specs.Table.{Table}
+use Rattle.pv_lex.specs.Lexes.{Lexes}
+use Rattle.pv_stmt.specs.Behind.{SomeBehind}
 use Rattle.pv_script.specs.Outside.{Rose}
 use Rattle.pv_serve.specs.Comes.{source_limit}
 use Rattle.pv_serve.specs.Report.{fault_line}
 use Rattle.pv_serve.specs.Outside.{Sunk, SinkRose, Wrote, WrotePrefix}
-use Rattle.pvwhere.specs.Answers.{Answer, SomeGets}
+use Rattle.pvwhere.specs.Answers.{Answer, SomeGets, nothing_told}
 
 -- all that is written, and the status (docs/FORMATS.md, Where a refusal is; 5.1.1.3)
 pub record IsTold (out : Sunk) (status : ℕ) (a : Answer) : Type 0 where
@@ -31,3 +34,14 @@ pub data FileAnswered (name : List ℕ) (held : List ℕ → Option (List ℕ)) 
   WasLost : Rose (faults_old name) (faults_new name) → (status ≢ 12 → (status ≡ 11) × Wrote out fault_line)
       → (status ≡ 12 → SinkRose out × WrotePrefix out fault_line) → FileAnswered name held faults_old faults_new out status
   HadNoRoom : status ≡ 13 → out.new ≡ out.old → FileAnswered name held faults_old faults_new out status
+
+-- What is told by a text, or by none (5.1.1.3p1).
+abbrev pub told_by : Option (List ℕ) → Answer
+told_by None = nothing_told
+told_by (Some text) = record { status = 8; text = text }
+
+-- A source begins with so many external declarations (6.9p1).
+pub record BeginsWith (source : List ℕ) (n : ℕ) : Type 0 where
+  pub tokens : Table
+  pub lexed : Lexes source tokens
+  pub some : SomeBehind tokens.tokens n

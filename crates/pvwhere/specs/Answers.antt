@@ -36,11 +36,6 @@ nothing_told = record { status = 0; text = [] }
 abbrev pub refused_at : (name source : List ℕ) → Refusal → (place : ℕ) → Answer
 refused_at name source refusal place = record { status = 8; text = place_text name (first_bytes source) place (word_of refusal) }
 
--- What is told by a text, or by none (5.1.1.3p1).
-abbrev pub told_by : Option (List ℕ) → Answer
-told_by None = nothing_told
-told_by (Some text) = record { status = 8; text = text }
-
 -- What a source under this name gets (5.1.1.3p1): it is a program, or it is refused for a reason that has a place.
 pub data Gets (name source : List ℕ) (a : Answer) : Type 0 where
   Nothing : (unit : WholeUnit) → Reads source (Program unit) → a ≡ nothing_told → Gets name source a

@@ -6,7 +6,7 @@ use Rattle.pv_token.specs.declared.token_table.TokenKind.{TokenKind}
 use Rattle.pv_token.specs.declared.token_table.TokenKind.TheVariants as kind
 use Rattle.pv_token.specs.Table.{Table}
 use Rattle.pv_lex.specs.Lexes.{Lexes}
-use Rattle.pv_stmt.specs.Behind.{IsBehind, SomeBehind}
+use Rattle.pv_stmt.specs.Behind.{IsBehind}
 use Rattle.pv_serve.specs.Verdicts.{Refusal, Size, Byte, Token, Profile, Syntax, Constraint, Unresolved, NoMain}
 use Rattle.pv_serve.specs.Readings.{Bad}
 use Rattle.pv_serve.specs.Comes.{source_limit, Reads}
@@ -33,12 +33,6 @@ is_named names text (kind.Mark m) = false
 abbrev pub first_named : (end : ℕ) → (names : List (List ℕ)) → (text : List ℕ) → List LexToken → ℕ
 first_named end names text [] = end
 first_named end names text (t ∷ ts) = if is_named names text t.kind then t.start else first_named end names text ts
-
--- A source begins with so many external declarations (6.9p1).
-pub record BeginsWith (source : List ℕ) (n : ℕ) : Type 0 where
-  pub tokens : Table
-  pub lexed : Lexes source tokens
-  pub some : SomeBehind tokens.tokens n
 
 -- What stands behind the first n external declarations (6.9p1) begins at this place: the token behind them, or the end of the source.
 pub record StandsBehind (source : List ℕ) (n place : ℕ) : Type 0 where

@@ -1,11 +1,12 @@
 //! Where a refusal is (C17 5.1.1.3).
 ghost use Rattle.std.specs.Prelude.{◌≡◌, ◌^◌, ◌≤◌, ℕ, List, length, drop, IfOk};
-ghost use Rattle.pv_token.specs.Table.{IsKnown, KnowsAll};
+ghost use Rattle.pv_token.specs.Kept.{IsKnown, KnowsAll};
 ghost use Rattle.pv_lex.specs.Lexes.{Lexes};
 ghost use Rattle.pv_serve.specs.Verdicts.{Refusal};
-ghost use Rattle.pv_serve.specs.Readings.{refusal_of, lexical_refusal, typing_refusal};
+ghost use Rattle.pv_serve.specs.Loading.{refusal_of, lexical_refusal, typing_refusal};
 ghost use Rattle.pvwhere.specs.Places as specified;
-ghost use Rattle.pvwhere.specs.Places.{IsPlace, IsRefused, BeginsWith, StandsBehind, IsFirstNamed, SomePlace};
+ghost use Rattle.pvwhere.specs.Places.{IsPlace, IsRefused, StandsBehind, IsFirstNamed, SomePlace};
+ghost use Rattle.pvwhere.specs.Answering.{BeginsWith};
 
 use crate::error::NoMemory;
 use pv_lex::{LexError, TokenKind, Tokens, tokens};

@@ -1,8 +1,10 @@
 //! What is told of a source: nothing, or the lines of its refusal's place.
 ghost use Rattle.std.specs.Prelude.{◌≡◌, ℕ, List, Some, option_map, IfOk};
-ghost use Rattle.pv_serve.specs.Readings.{Bad, refusal_of, lexical_refusal, typing_refusal};
+ghost use Rattle.pv_serve.specs.Readings.{Bad};
+ghost use Rattle.pv_serve.specs.Loading.{refusal_of, lexical_refusal, typing_refusal};
 ghost use Rattle.pv_serve.specs.Comes.{Reads};
-ghost use Rattle.pvwhere.specs.Answers.{Answer, Gets, SomeGets, told_by, word_of};
+ghost use Rattle.pvwhere.specs.Answers.{Answer, Gets, SomeGets, word_of};
+ghost use Rattle.pvwhere.specs.Answering.{told_by};
 
 use crate::error::NoMemory;
 use crate::places::{first_bytes, place};

@@ -5,7 +5,7 @@ use Rattle.std.proofs.lemmas.List.{map-append, take_all}
 use Rattle.std.specs.Int.{w128}
 use Rattle.pv_num.specs.declared.kinds.IntKind.TheVariants as kind
 use Rattle.pv_tree.specs.declared.nodes.NodeId.{NodeId}
-use Rattle.pv_tree.specs.Lines.{tree_line}
+use Rattle.pv_tree.specs.TreeLines.{tree_line}
 use Rattle.pv_tree.specs.Nodes.{specifier_of}
 use Rattle.pv_tree.specs.Syntax.{Name, Number, Character, Text, Call, Member, Arrow, Present, PostIncrement, PostDecrement, PreIncrement, PreDecrement, Unary, Index, Binary, Assign, Comma, Conditional, DeclarationTree, TypeName, Trees, OfDeclarator}
 use Rattle.pv_tree.specs.Tables.{Is, HasList, is_expression, list_at, is_declarator, as_expression, expression_at as expression_of_node, declarator_at, as_specifier, specifier_at, is_specifier, is_declaration, optional_at, tree_at, trees_at, trees_of, arguments_at, as_declaration, declaration_at}
@@ -13,8 +13,8 @@ use Rattle.pv_types.specs.declared.terms.TypeId.{TypeId}
 use Rattle.pv_types.specs.Known.{env, tree}
 use Rattle.pv_types.specs.Layouts.{Named}
 use Rattle.pv_types.specs.Ty.{Ty, IntTy}
-use Rattle.pv_typed.specs.Children.{Each}
-use Rattle.pv_typed.specs.Tables.{expression_at, IsExpression}
+use Rattle.pv_typed.specs.Known.{Each}
+use Rattle.pv_typed.specs.NodeTrees.{expression_at, IsExpression}
 use Rattle.pv_typed.specs.TypedTree.{TypedTree}
 use Rattle.pv_typed.proofs.Each.{each_append}
 use Rattle.pv_check.specs.declared.derivations.Step.{Step}
@@ -36,7 +36,7 @@ use Rattle.pv_check.specs.State.{State, After, and_then, give}
 use Rattle.pv_check.specs.Stepping.{steps_in, AreSteps}
 use Rattle.pv_check.specs.Tags.{closed_enumeration, completed, enumerated, some_members}
 use Rattle.pv_check.specs.Typing.{types, arguments, optional_steps, type_named, specifier, specifiers, specifier_in, members, member_in, member_declarators, member_declarator, enumerators, enumerator_in, enumerator_value, parameters, parameter_in}
-use Rattle.pv_check.specs.Words.{total}
+use Rattle.pv_check.specs.WordRows.{total}
 use Rattle.pv_check.proofs.ArmLaws.{arrow_one, goes_trans, goes_then_kept}
 use Rattle.pv_check.specs.Callees.{after_callee, callee_in, AreCalled}
 use Rattle.pv_check.proofs.CallRows.{called_there, callee_known, callee_stays, named_callee, valued_callee}

@@ -1,8 +1,8 @@
 use Rattle.std.proofs.Common.{◌≡◌, ◌+◌, ◌-◌, ◌*◌, ◌≤◌, max, Some, length, take, map}
 use Rattle.pv_tree.specs.Tables.{list_at, trees_of, arguments_of}
 use Rattle.pv_types.specs.Known.{tree}
-use Rattle.pv_typed.specs.Children.{Each}
-use Rattle.pv_typed.specs.Tables.{expression_at, IsExpression}
+use Rattle.pv_typed.specs.Known.{Each}
+use Rattle.pv_typed.specs.NodeTrees.{expression_at, IsExpression}
 use Rattle.pv_check.specs.Declarators.{parameters_shown, ParameterKnown}
 use Rattle.pv_check.specs.Growing.{IsType}
 use Rattle.pv_check.specs.ListedRows.{list_of}
@@ -10,7 +10,7 @@ use Rattle.pv_check.specs.MembersRead.{members_shown, AreMembers}
 use Rattle.pv_check.specs.Open.{state_of, IsOpen, Goes}
 use Rattle.pv_check.specs.Seeing.{seen_in}
 use Rattle.pv_check.specs.Typing.{arguments, specifiers, members, member_declarators, enumerators, parameters}
-use Rattle.pv_check.specs.Words.{total}
+use Rattle.pv_check.specs.WordRows.{total}
 use Rattle.pv_check.proofs.Descending.{above, above_all}
 use Rattle.pv_check.proofs.+typed.Given as goal
 

@@ -8,11 +8,12 @@ use Rattle.std.proofs.lemmas.List.Quantifiers.{all_pairs_push}
 use Rattle.std.proofs.lemmas.List.Sums.{sum_by-set, sum_by_push}
 use Rattle.pv_prov.specs.declared.pairs.Twin.{Twin}
 use Rattle.pv_prov.specs.Twins.{KeepsOne}
-use Rattle.pv_prov.specs.Names.{twin_at, keeping, kept, added, Stands_low, Stands_high}
+use Rattle.pv_prov.specs.Names.{twin_at, keeping, kept, added}
+use Rattle.pv_prov.specs.Made.{Stands_low, Stands_high}
 use Rattle.pv_inst.specs.declared.values.Instance.{Instance}
 use Rattle.pv_inst.specs.Table.{Table, instance_at, with_instance, live_size, live_bytes}
 use Rattle.pv_inst.specs.Placing.{first_overlap}
-use Rattle.pv_inst.specs.Kept.{Apart, HasMet}
+use Rattle.pv_inst.specs.WellFormed.{Apart, HasMet}
 use Rattle.pv_inst.proofs.Rows.{IsRow}
 use Rattle.pv_inst.proofs.Together.{slice_get-set_here, slice_get-set_other}
 use Rattle.pv_inst.proofs.Meetings.{same_or_not, met_set, met_push, met_kept}

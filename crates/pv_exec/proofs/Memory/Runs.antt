@@ -6,7 +6,7 @@ use Rattle.std.proofs.lemmas.List.Elements.{All-nil}
 use Rattle.pv_script.specs.Lines.{ScriptLine}
 use Rattle.pv_prov.specs.declared.pairs.Twin.{Twin}
 use Rattle.pv_prov.specs.Names.{twin_at}
-use Rattle.pv_inst.specs.Kept.{HasMet}
+use Rattle.pv_inst.specs.WellFormed.{HasMet}
 use Rattle.pv_typed.specs.Tables.{Stored}
 use Rattle.pv_world.specs.Worlds.{Worth, World}
 use Rattle.pv_world.specs.Telling.{Told}

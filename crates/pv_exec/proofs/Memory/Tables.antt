@@ -16,7 +16,8 @@ use Rattle.pv_inst.specs.declared.values.Tried.{Tried}
 use Rattle.pv_inst.specs.declared.values.Miss.{Miss}
 use Rattle.pv_inst.specs.Table.{Table, instance_at, with_instance, live_bytes, count_of, IsMadeIn}
 use Rattle.pv_inst.specs.Use.{survives, any_survives, judged, if_two, use_answer, settled}
-use Rattle.pv_inst.specs.Same.{after_same, same_state, same_miss, same_left, same_right, after_left, CanKeep}
+use Rattle.pv_inst.specs.Same.{after_same, same_state, same_miss, same_left, same_right, after_left}
+use Rattle.pv_inst.specs.Answers.{CanKeep}
 use Rattle.pv_inst.specs.Exposure.{expose, expose_one, exposing, shown}
 use Rattle.pv_inst.specs.declared.values.CreateError.{CreateError}
 use Rattle.pv_inst.specs.declared.values.CreateError.TheVariants.{Range, Misaligned}

@@ -14,7 +14,8 @@ use Rattle.pv_exec.specs.Sided.{side_of, is_high}
 use Rattle.pv_exec.specs.Answering.{RanAs, highs}
 use Rattle.pv_exec.specs.Laws.{run_at}
 use Rattle.pv_exec.specs.Laying.{HasNoEmptyTag}
-use Rattle.pv_exec.specs.Settling.{IsDecided, IsUndefined, EndsAlike, EndsBy, SettlesAlike, IsUndefinedByAll}
+use Rattle.pv_exec.specs.Settling.{IsDecided, IsUndefined, EndsAlike, EndsBy}
+use Rattle.pv_exec.specs.SettledRuns.{SettlesAlike, IsUndefinedByAll}
 use Rattle.pv_exec.proofs.Settling.Laws.{late-law, sooner-law}
 
 high-is : (bs : List Bool) → map is_high (map side_of bs) ≡ bs

@@ -11,7 +11,7 @@ use Rattle.pv_inst.specs.declared.values.Test.{Test}
 use Rattle.pv_inst.specs.declared.values.Test.TheVariants.{Block, Code}
 use Rattle.pv_inst.specs.declared.values.Tried.{Tried}
 use Rattle.pv_inst.specs.Table.{Table, instance_at}
-use Rattle.pv_inst.specs.Kept.{Meet, HasMet}
+use Rattle.pv_inst.specs.WellFormed.{Meet, HasMet}
 use Rattle.pv_inst.specs.Use.{made_passes, if_two, use_answer, is_heap, is_function, empty_answer, passes}
 use Rattle.pv_inst.proofs.Rows.{row_found}
 use Rattle.pv_object.specs.Access.{chosen}

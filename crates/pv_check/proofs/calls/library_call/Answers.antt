@@ -2,7 +2,7 @@ use Rattle.std.proofs.Common.{◌≡◌, Bool, true, Some, None, map, sym, ap, �
 use Rattle.std.specs.Prelude.{if◌then◌else◌}
 use Rattle.pv_types.specs.Known.{tree}
 use Rattle.pv_types.specs.Ty.{Ty}
-use Rattle.pv_typed.specs.Tables.{expression_at}
+use Rattle.pv_typed.specs.NodeTrees.{expression_at}
 use Rattle.pv_typed.specs.TypedTree.{Node, Arguments, arguments_of, LibraryCall}
 use Rattle.pv_check.proofs.PassingRows.{list_shown}
 use Rattle.pv_check.proofs.calls.library_call.Goals as goal

@@ -3,8 +3,8 @@ use Rattle.std.proofs.lemmas.List.{map-append}
 use Rattle.pv_tree.specs.declared.nodes.NodeId.{NodeId}
 use Rattle.pv_types.specs.Known.{trees, tys_in}
 use Rattle.pv_types.specs.Ty.{Tys}
-use Rattle.pv_typed.specs.Children.{Each}
-use Rattle.pv_typed.specs.Tables.{expression_at, IsExpression}
+use Rattle.pv_typed.specs.Known.{Each}
+use Rattle.pv_typed.specs.NodeTrees.{expression_at, IsExpression}
 use Rattle.pv_typed.specs.TypedTree.{TypedTree}
 use Rattle.pv_typed.proofs.Each.{each_at, each_append}
 use Rattle.pv_check.specs.Calls.{passed}

@@ -1,8 +1,7 @@
 use Rattle.std.proofs.Common.{◌≡◌, ◌-◌, ◌≤◌, length, map, drop}
 use Rattle.pv_types.specs.Known.{trees, tys_in}
-use Rattle.pv_typed.specs.Children.{Each}
-use Rattle.pv_typed.specs.Formed.{AreKnown}
-use Rattle.pv_typed.specs.Tables.{expression_at, IsExpression}
+use Rattle.pv_typed.specs.Known.{Each, AreKnown}
+use Rattle.pv_typed.specs.NodeTrees.{expression_at, IsExpression}
 use Rattle.pv_check.specs.Calls.{passed}
 use Rattle.pv_check.specs.Kept.{Kept}
 use Rattle.pv_check.proofs.PassingRows.{joined}

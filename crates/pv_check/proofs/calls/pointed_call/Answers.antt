@@ -1,7 +1,7 @@
 use Rattle.std.proofs.Common.{true, Some, map, ap, ◌∙◌}
 use Rattle.pv_types.specs.Known.{tree}
 use Rattle.pv_types.specs.Ty.{Ty}
-use Rattle.pv_typed.specs.Tables.{expression_at}
+use Rattle.pv_typed.specs.NodeTrees.{expression_at}
 use Rattle.pv_typed.specs.TypedTree.{TypedTree, Node, Arguments, arguments_of, CallPointer}
 use Rattle.pv_check.proofs.PassingRows.{list_shown}
 use Rattle.pv_check.proofs.calls.pointed_call.Goals as goal

@@ -1,7 +1,7 @@
 use Rattle.std.proofs.Common.{true, Some, map, ap, ◌∙◌}
 use Rattle.pv_types.specs.Known.{tree}
 use Rattle.pv_types.specs.Ty.{Ty}
-use Rattle.pv_typed.specs.Tables.{expression_at}
+use Rattle.pv_typed.specs.NodeTrees.{expression_at}
 use Rattle.pv_typed.specs.TypedTree.{Node, Arguments, arguments_of, Call}
 use Rattle.pv_check.proofs.PassingRows.{list_shown}
 use Rattle.pv_check.proofs.calls.program_call.Goals as goal

@@ -1,8 +1,9 @@
 use Rattle.std.proofs.Common.{rules, ◌≡◌, ◌&&◌, Bool, true, Some, None, Option, List, length, subst, sym, ap, ◌∙◌}
 use Rattle.std.specs.Prelude.{if◌then◌else◌, ◌∷◌, ◌++◌, []}
 use Rattle.pv_types.specs.declared.terms.Member.{Member}
-use Rattle.pv_types.specs.Known.{env, tree, trees, named_in, MembersBelow, NamesDiffer}
-use Rattle.pv_types.specs.Layouts.{Named, AreComplete, is_complete_in}
+use Rattle.pv_types.specs.Known.{env, tree, trees, named_in}
+use Rattle.pv_types.specs.Formed.{MembersBelow, NamesDiffer, AreComplete}
+use Rattle.pv_types.specs.Layouts.{Named, is_complete_in}
 use Rattle.pv_check.specs.Tags.{is_new_member}
 use Rattle.pv_check.proofs.Growth.{left_true, right_true}
 use Rattle.pv_check.proofs.MemberRows.{named_append, below_append, complete_append, differ_append, new_any_types}

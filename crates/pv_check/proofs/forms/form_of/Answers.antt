@@ -1,6 +1,6 @@
 use Rattle.std.proofs.Common.{Option, nat_lt, sym, ap, ◌∙◌}
 use Rattle.pv_tree.specs.Tables.{as_declarator, optional_at, declarator_at, tree_at, trees_at}
-use Rattle.pv_tree.specs.Lines.{tree_line}
+use Rattle.pv_tree.specs.TreeLines.{tree_line}
 use Rattle.pv_check.specs.Derivations.{Steps}
 use Rattle.pv_check.specs.Forms.{pointed}
 use Rattle.pv_check.specs.Open.{state_of}

@@ -1,5 +1,5 @@
 use Rattle.std.proofs.Common.{◌≡◌, ◌∙◌, IsTrue, sym, ap, subst}
-use Rattle.pv_types.specs.Adjusted.{are_adjusted}
+use Rattle.pv_types.specs.Formed.{are_adjusted}
 use Rattle.pv_types.specs.Known.{Known, trees, tys_in}
 use Rattle.pv_check.specs.Declarators.{parameters_shown}
 use Rattle.pv_check.specs.Derivations.{parameter_types}

@@ -1,5 +1,6 @@
 use Rattle.std.proofs.Common.{◌<◌, length, sym, ap, subst, arith, ◌∙◌, rules}
-use Rattle.pv_types.specs.Known.{trees, tys_in, AllBelow}
+use Rattle.pv_types.specs.Known.{trees, tys_in}
+use Rattle.pv_types.specs.Formed.{AllBelow}
 use Rattle.pv_check.proofs.TypeLists.{below_push, list_more}
 use Rattle.pv_check.proofs.parameters.unqualified_types.Goals as goal
 

@@ -1,5 +1,6 @@
 use Rattle.std.proofs.Common.{◌≡◌, ◌-◌, ◌≤◌, length, take}
-use Rattle.pv_types.specs.Known.{trees, tys_in, AllBelow}
+use Rattle.pv_types.specs.Known.{trees, tys_in}
+use Rattle.pv_types.specs.Formed.{AllBelow}
 use Rattle.pv_check.specs.Declarators.{parameters_shown}
 use Rattle.pv_check.specs.Derivations.{parameter_types}
 use Rattle.pv_check.proofs.parameters.unqualified_types.Given as goal

@@ -1,6 +1,6 @@
 use Rattle.std.proofs.Common.{◌≡◌, ◌+◌, ◌∷◌, ◌∙◌, ◌||◌, Bool, false, List, ap, sym, drop}
 use Rattle.pv_token.specs.declared.token_table.Token.{Token}
-use Rattle.pv_tree.specs.Grammar.{Names, begins_type, kind_begins_type}
+use Rattle.pv_tree.specs.Spells.{Names, begins_type, kind_begins_type}
 use Rattle.pv_expr_forms.specs.Known.{names_in}
 use Rattle.pv_expr_forms.specs.Reader.{is_close}
 use Rattle.pv_decl_forms.specs.Declarators.{opens_parameters}

@@ -1,6 +1,7 @@
 use Rattle.std.proofs.Common.{rules, ◌≡◌, ◌++◌, ◌+◌, ◌∙◌, ◌<◌, ap, refl, length, get_or, arith}
 use Rattle.std.specs.Int.{next_multiple_of}
-use Rattle.pv_types.specs.Known.{tree, env, members_in, IsBuilt}
+use Rattle.pv_types.specs.Known.{tree, env}
+use Rattle.pv_types.specs.Formed.{members_in, IsBuilt}
 use Rattle.pv_types.specs.Layouts.{layout_in}
 use Rattle.pv_layout.proofs.Ahead.{nobody, ahead_start, ahead_next, next_at}
 use Rattle.pv_describe.specs.Describing.{member_line}

@@ -1,5 +1,5 @@
 use Rattle.std.proofs.Common.{◌∙◌, ◌<◌, ap, length, arith}
-use Rattle.pv_types.specs.Known.{members_in, IsBuilt}
+use Rattle.pv_types.specs.Formed.{members_in, IsBuilt}
 use Rattle.pv_describe.proofs.Members.{left_start, one_at, union_starts}
 use Rattle.pv_describe.proofs.describing.add_union_members.Goals as goal
 

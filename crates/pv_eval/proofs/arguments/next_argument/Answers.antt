@@ -2,7 +2,8 @@ use Rattle.std.proofs.Common.{arith}
 use Rattle.std.proofs.lemmas.Grind.{common_steps}
 use Rattle.pv_eval.specs.Evaluation.{ev}
 use Rattle.pv_eval.proofs.Calls.{next-one, next-none}
-use Rattle.pv_typed.specs.Tables.{expression_at, nodes, list_at}
+use Rattle.pv_typed.specs.Tables.{nodes}
+use Rattle.pv_typed.specs.NodeTrees.{expression_at, list_at}
 use Rattle.pv_typed.specs.TypedTree.{form_of}
 use Rattle.pv_eval.proofs.LibraryCalls.{child-there, call-more}
 use Rattle.pv_eval.proofs.arguments.next_argument.Goals as goal

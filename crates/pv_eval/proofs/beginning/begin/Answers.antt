@@ -1,7 +1,7 @@
 use Rattle.std.proofs.Common.{◌∷◌, sym, ap, ◌∙◌, subst, length}
 use Rattle.pv_seq.specs.Sequencing.{opened}
 use Rattle.pv_typed.specs.TypedTree.{type_of}
-use Rattle.pv_typed.specs.Tables.{expression_at}
+use Rattle.pv_typed.specs.NodeTrees.{expression_at}
 use Rattle.pv_typed.specs.Nodes.{form_in}
 use Rattle.pv_eval.specs.Evaluation.{ev_form}
 use Rattle.pv_typed.specs.Tables.{nodes}

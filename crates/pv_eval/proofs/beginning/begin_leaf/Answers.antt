@@ -11,7 +11,8 @@ use Rattle.std.proofs.Common.{◌∙◌}
 use Rattle.std.specs.Prelude.{map, length}
 use Rattle.pv_eval.specs.Frames.{arguments_from}
 use Rattle.pv_typed.specs.Nodes.{arguments_in}
-use Rattle.pv_typed.specs.Tables.{nodes, list_at}
+use Rattle.pv_typed.specs.Tables.{nodes}
+use Rattle.pv_typed.specs.NodeTrees.{list_at}
 use Rattle.pv_eval.proofs.Cases.{came-given}
 use Rattle.pv_eval.proofs.beginning.begin_leaf.Goals as goal
 

@@ -3,9 +3,10 @@ use Rattle.std.specs.Prelude.{true, false, Err}
 use Rattle.pv_typed.specs.Nodes.{form_in}
 use Rattle.pv_eval.specs.Frames.{first_after}
 use Rattle.pv_eval.specs.Ahead.{Led}
-use Rattle.pv_seq.specs.Sequencing.{top}
+use Rattle.pv_seq.specs.Rivals.{top}
 use Rattle.pv_typed.specs.TypedTree.{type_of}
-use Rattle.pv_typed.specs.Tables.{expression_at, nodes}
+use Rattle.pv_typed.specs.Tables.{nodes}
+use Rattle.pv_typed.specs.NodeTrees.{expression_at}
 use Rattle.pv_eval.specs.States.{Gives}
 use Rattle.pv_world.specs.Worths.{truth_int}
 use Rattle.pv_eval.specs.declared.frames.Stage.TheVariants.{Later}

@@ -1,14 +1,13 @@
 use Rattle.std.proofs.Common.{true, None, subst}
-use Rattle.pv_seq.specs.Sequencing.{top}
+use Rattle.pv_seq.specs.Rivals.{top}
 use Rattle.pv_typed.specs.TypedTree.{type_of}
-use Rattle.pv_typed.specs.Tables.{expression_at}
+use Rattle.pv_typed.specs.NodeTrees.{expression_at}
 use Rattle.pv_world.specs.Coming.{worth_of}
-use Rattle.pv_eval.specs.TypeForms.{lvalue}
+use Rattle.pv_eval.specs.TypeForms.{lvalue, element_size}
 use Rattle.pv_eval.specs.Moments.{state_of}
 use Rattle.pv_eval.proofs.Cases.{came-stops, led-then, setting-stays, before-stays}
 use Rattle.std.specs.Prelude.{Err}
 use Rattle.pv_eval.specs.States.{then_do}
-use Rattle.pv_eval.specs.TypeForms.{element_size}
 use Rattle.pv_eval.specs.Operations.{Moves, act}
 use Rattle.pv_eval.specs.Sequenced.{done}
 use Rattle.pv_eval.specs.Steps.{writing}

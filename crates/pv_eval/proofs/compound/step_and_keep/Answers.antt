@@ -1,7 +1,7 @@
 use Rattle.std.proofs.Common.{None, subst}
-use Rattle.pv_seq.specs.Sequencing.{top}
+use Rattle.pv_seq.specs.Rivals.{top}
 use Rattle.pv_typed.specs.TypedTree.{type_of}
-use Rattle.pv_typed.specs.Tables.{expression_at}
+use Rattle.pv_typed.specs.NodeTrees.{expression_at}
 use Rattle.pv_world.specs.Coming.{worth_of}
 use Rattle.pv_eval.specs.TypeForms.{lvalue}
 use Rattle.pv_eval.specs.Moments.{state_of}

@@ -2,7 +2,7 @@ use Rattle.std.proofs.Common.{sym, ◌∙◌, subst}
 use Rattle.std.specs.Prelude.{pos, true}
 use Rattle.pv_types.specs.Known.{tree}
 use Rattle.pv_typed.specs.TypedTree.{type_of}
-use Rattle.pv_typed.specs.Tables.{expression_at}
+use Rattle.pv_typed.specs.NodeTrees.{expression_at}
 use Rattle.pv_world.specs.Coming.{worth_of}
 use Rattle.pv_world.specs.Worths.{int}
 use Rattle.pv_eval.specs.TypeForms.{kind_of, promoted, element_size}

@@ -3,9 +3,10 @@ use Rattle.std.specs.Prelude.{true, false, []}
 use Rattle.pv_eval.specs.declared.frames.Stage.TheVariants.{Later, Second}
 use Rattle.pv_eval.specs.Sequenced.{operand}
 use Rattle.pv_eval.specs.Evaluation.{ev}
-use Rattle.pv_seq.specs.Sequencing.{top}
+use Rattle.pv_seq.specs.Rivals.{top}
 use Rattle.pv_typed.specs.TypedTree.{type_of, line_of}
-use Rattle.pv_typed.specs.Tables.{expression_at, nodes}
+use Rattle.pv_typed.specs.Tables.{nodes}
+use Rattle.pv_typed.specs.NodeTrees.{expression_at}
 use Rattle.pv_world.specs.Worths.{pointer_of}
 use Rattle.pv_eval.specs.TypeForms.{lvalue}
 use Rattle.pv_eval.specs.Accesses.{access_to}

@@ -1,7 +1,7 @@
 use Rattle.std.proofs.Common.{ℕ, sym, ◌∙◌, subst}
 use Rattle.pv_types.specs.Known.{tree}
 use Rattle.pv_world.specs.declared.got.Shape.{Shape}
-use Rattle.pv_world.specs.Accesses.{HasSizeOf}
+use Rattle.pv_world.specs.Preconditions.{HasSizeOf}
 use Rattle.pv_eval.specs.TypeForms.{shape_of}
 use Rattle.pv_eval.specs.Sizes.{size_in}
 use Rattle.pv_eval.proofs.Numbers.{kept}

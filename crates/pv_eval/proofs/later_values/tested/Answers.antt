@@ -1,5 +1,5 @@
 use Rattle.std.proofs.Common.{ap, sym, ◌∙◌}
-use Rattle.pv_seq.specs.Sequencing.{top}
+use Rattle.pv_seq.specs.Rivals.{top}
 use Rattle.pv_eval.specs.Sequenced.{done}
 use Rattle.pv_world.specs.Worths.{truth_int}
 use Rattle.pv_eval.specs.Moments.{state_of}

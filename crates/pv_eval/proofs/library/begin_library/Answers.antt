@@ -2,16 +2,16 @@ use Rattle.std.proofs.Common.{sym, ap, ◌∙◌, ◌∷◌, arith, length}
 use Rattle.std.specs.Prelude.{map}
 use Rattle.std.proofs.lemmas.Grind.{common_steps}
 use Rattle.pv_seq.specs.Sequencing.{opened}
-use Rattle.pv_typed.specs.TypedTree.{Arguments}
+use Rattle.pv_typed.specs.TypedTree.{Arguments, form_of}
 use Rattle.pv_typed.specs.Nodes.{arguments_in}
-use Rattle.pv_typed.specs.Tables.{expression_at, nodes, list_at}
+use Rattle.pv_typed.specs.Tables.{nodes}
+use Rattle.pv_typed.specs.NodeTrees.{expression_at, list_at}
 use Rattle.pv_world.specs.Coming.{worth_of}
 use Rattle.pv_eval.specs.Evaluation.{ev, ev_ask}
 use Rattle.pv_eval.specs.Moments.{state_of}
 use Rattle.pv_eval.specs.Frames.{arguments_from, asked_with}
 use Rattle.pv_eval.proofs.Cases.{came-given, led-from}
 use Rattle.pv_eval.proofs.LibraryCalls.{asked-none, next-asked, all-asked}
-use Rattle.pv_typed.specs.TypedTree.{form_of}
 use Rattle.pv_eval.proofs.LibraryCalls.{child-there, library-more}
 use Rattle.pv_eval.proofs.library.begin_library.Goals as goal
 

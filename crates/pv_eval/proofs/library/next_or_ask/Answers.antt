@@ -1,7 +1,9 @@
 use Rattle.std.proofs.Common.{sym, ◌∷◌, arith}
 use Rattle.std.proofs.lemmas.Grind.{common_steps}
-use Rattle.pv_seq.specs.Sequencing.{top, settled}
-use Rattle.pv_typed.specs.Tables.{expression_at, nodes, list_at}
+use Rattle.pv_seq.specs.Sequencing.{settled}
+use Rattle.pv_seq.specs.Rivals.{top}
+use Rattle.pv_typed.specs.Tables.{nodes}
+use Rattle.pv_typed.specs.NodeTrees.{expression_at, list_at}
 use Rattle.pv_eval.specs.Evaluation.{ev}
 use Rattle.pv_eval.specs.Moments.{state_of}
 use Rattle.pv_eval.proofs.Cases.{came-given, led-from}

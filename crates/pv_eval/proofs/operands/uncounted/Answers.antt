@@ -1,7 +1,9 @@
 use Rattle.std.proofs.Common.{◌≡◌, sym, ap, ◌∙◌}
 use Rattle.std.specs.Prelude.{false}
-use Rattle.pv_typed.specs.TypedTree.{takes_turn, form_of}
-use Rattle.pv_typed.specs.Tables.{expression_at, nodes}
+use Rattle.pv_typed.specs.TypedTree.{form_of}
+use Rattle.pv_typed.specs.Trees.{takes_turn}
+use Rattle.pv_typed.specs.Tables.{nodes}
+use Rattle.pv_typed.specs.NodeTrees.{expression_at}
 use Rattle.pv_eval.specs.Steps.{takes}
 use Rattle.pv_eval.specs.Ahead.{takes_of}
 use Rattle.pv_eval.proofs.Cases.{waits-at-once, takes-form, if-some}

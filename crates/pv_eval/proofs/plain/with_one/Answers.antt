@@ -1,5 +1,5 @@
 use Rattle.pv_typed.specs.TypedTree.{type_of}
-use Rattle.pv_typed.specs.Tables.{expression_at}
+use Rattle.pv_typed.specs.NodeTrees.{expression_at}
 use Rattle.pv_eval.specs.Operations.{Negates, Selects}
 use Rattle.pv_eval.specs.Plainly.{AlwaysGives, GivesAt, GivesWith, found_worth}
 use Rattle.pv_eval.proofs.PlainSteps.{some_map}

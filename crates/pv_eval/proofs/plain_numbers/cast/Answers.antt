@@ -4,7 +4,7 @@ use Rattle.pv_types.specs.Ty.{Ty}
 use Rattle.pv_types.specs.Known.{tree}
 use Rattle.pv_typed.specs.declared.nodes.Typed.TheVariants.{Cast}
 use Rattle.pv_typed.specs.TypedTree.{type_of}
-use Rattle.pv_typed.specs.Tables.{expression_at}
+use Rattle.pv_typed.specs.NodeTrees.{expression_at}
 use Rattle.pv_world.specs.Worlds.{Worth}
 use Rattle.pv_world.specs.Worths.{int}
 use Rattle.pv_eval.specs.Conversions.{how_to}

@@ -1,7 +1,7 @@
 use Rattle.std.proofs.Common.{IfSome, FitsSigned, rules, subst, ℤ, true, w64}
 use Rattle.std.proofs.lemmas.Int.{to_z-of_z}
 use Rattle.pv_types.specs.Known.{tree}
-use Rattle.pv_typed.specs.Tables.{expression_at}
+use Rattle.pv_typed.specs.NodeTrees.{expression_at}
 use Rattle.pv_world.specs.Worths.{int}
 use Rattle.pv_eval.specs.Conversions.{how_to}
 use Rattle.pv_eval.specs.Operations.{Converts}

@@ -3,7 +3,7 @@ use Rattle.std.proofs.lemmas.Int.{to_z-of_z}
 use Rattle.pv_types.specs.Known.{Known, tree}
 use Rattle.pv_typed.specs.declared.nodes.Typed.TheVariants.{Unary}
 use Rattle.pv_typed.specs.TypedTree.{type_of}
-use Rattle.pv_typed.specs.Tables.{expression_at}
+use Rattle.pv_typed.specs.NodeTrees.{expression_at}
 use Rattle.pv_world.specs.Worths.{int}
 use Rattle.pv_eval.specs.TypeForms.{kind_of}
 use Rattle.pv_eval.specs.Operations.{CalculatesOne}

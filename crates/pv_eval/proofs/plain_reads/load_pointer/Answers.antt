@@ -1,7 +1,7 @@
 use Rattle.std.proofs.Common.{◌≡◌, ◌∙◌, sym, ap}
 use Rattle.std.specs.Prelude.{Bool, if◌then◌else◌}
 use Rattle.pv_shadow.specs.Bytes.{read}
-use Rattle.pv_object.specs.Loading.{whole_pointer}
+use Rattle.pv_object.specs.Loads.{whole_pointer}
 use Rattle.pv_object.specs.Memory.{Mem}
 use Rattle.pv_types.specs.Known.{Known, tree, env}
 use Rattle.pv_types.specs.Layouts.{layout_in}

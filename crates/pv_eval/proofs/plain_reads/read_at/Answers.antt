@@ -4,7 +4,7 @@ use Rattle.pv_types.specs.declared.terms.TypeId.{TypeId}
 use Rattle.pv_types.specs.Ty.{Ty}
 use Rattle.pv_types.specs.Known.{tree}
 use Rattle.pv_typed.specs.TypedTree.{type_of}
-use Rattle.pv_typed.specs.Tables.{expression_at}
+use Rattle.pv_typed.specs.NodeTrees.{expression_at}
 use Rattle.pv_world.specs.Worths.{pointer_of}
 use Rattle.pv_eval.specs.declared.plain.Found.{Found}
 use Rattle.pv_eval.specs.Plainly.{ReadsFrom, found_worth, pointer_at}

@@ -3,7 +3,7 @@ use Rattle.std.specs.Prelude.{if◌then◌else◌}
 use Rattle.pv_types.specs.Known.{Known, tree, env}
 use Rattle.pv_types.specs.Layouts.{layout_in}
 use Rattle.pv_world.specs.declared.got.Shape.{Shape}
-use Rattle.pv_world.specs.Accesses.{HasSizeOf}
+use Rattle.pv_world.specs.Preconditions.{HasSizeOf}
 use Rattle.pv_world.specs.Coming.{worth_of}
 use Rattle.pv_eval.specs.TypeForms.{shape_of, alignment_by}
 use Rattle.pv_eval.specs.Sizes.{size_in, number_in}

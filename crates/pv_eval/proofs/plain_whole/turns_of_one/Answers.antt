@@ -1,5 +1,5 @@
 use Rattle.std.proofs.Common.{◌≡◌, ◌+◌, ap, ◌∙◌, arith, Some}
-use Rattle.pv_typed.specs.Tables.{expression_at}
+use Rattle.pv_typed.specs.NodeTrees.{expression_at}
 use Rattle.pv_eval.proofs.PlainStores.{one_turns}
 use Rattle.pv_eval.proofs.plain_whole.turns_of_one.Goals as goal
 

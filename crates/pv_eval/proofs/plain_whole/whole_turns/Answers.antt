@@ -1,5 +1,5 @@
 use Rattle.std.proofs.Common.{◌≡◌, refl, true, ap, ◌∙◌, arith, Some}
-use Rattle.pv_typed.specs.Tables.{expression_at}
+use Rattle.pv_typed.specs.NodeTrees.{expression_at}
 use Rattle.pv_typed.specs.Plain.{counted, both, turns_of}
 use Rattle.pv_eval.proofs.PlainStores.{plain_whole, root_some}
 use Rattle.pv_eval.proofs.plain_whole.whole_turns.Goals as goal

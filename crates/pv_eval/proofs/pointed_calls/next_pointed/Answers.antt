@@ -1,9 +1,10 @@
 use Rattle.std.proofs.Common.{◌≡◌, ◌-◌, suc, arith, length, ◌∙◌, ap, Err}
 use Rattle.std.specs.Prelude.{map}
 use Rattle.std.proofs.lemmas.Grind.{common_steps}
-use Rattle.pv_seq.specs.Sequencing.{top}
+use Rattle.pv_seq.specs.Rivals.{top}
 use Rattle.pv_typed.specs.TypedTree.{form_of, line_of, type_of}
-use Rattle.pv_typed.specs.Tables.{expression_at, nodes, list_at}
+use Rattle.pv_typed.specs.Tables.{nodes}
+use Rattle.pv_typed.specs.NodeTrees.{expression_at, list_at}
 use Rattle.pv_types.specs.Known.{tree}
 use Rattle.pv_world.specs.Coming.{worth_of}
 use Rattle.pv_eval.specs.TypeForms.{pointed_to}

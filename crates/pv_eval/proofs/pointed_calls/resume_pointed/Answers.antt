@@ -1,10 +1,11 @@
 use Rattle.std.proofs.Common.{◌≡◌, ◌-◌, ◌<◌, ◌∷◌, ◌++◌, [], ℕ, suc, arith, length, sym, ap, ◌∙◌, subst, Err}
 use Rattle.std.specs.Prelude.{map}
 use Rattle.std.proofs.lemmas.Grind.{common_steps}
-use Rattle.pv_seq.specs.Sequencing.{top}
+use Rattle.pv_seq.specs.Rivals.{top}
 use Rattle.pv_typed.specs.TypedTree.{type_of, line_of, CallPointer}
 use Rattle.pv_typed.specs.Nodes.{arguments_in}
-use Rattle.pv_typed.specs.Tables.{expression_at, nodes, list_at}
+use Rattle.pv_typed.specs.Tables.{nodes}
+use Rattle.pv_typed.specs.NodeTrees.{expression_at, list_at}
 use Rattle.pv_world.specs.Coming.{worth_of}
 use Rattle.pv_eval.specs.Moments.{state_of}
 use Rattle.pv_eval.specs.Frames.{argument_after}

@@ -1,17 +1,17 @@
 use Rattle.std.proofs.Common.{◌≡◌, ℕ, ◌∷◌, true, sym, ap, ◌∙◌, subst}
-use Rattle.std.specs.Prelude.{OnOk}
+use Rattle.std.specs.Prelude.{OnOk, ◌&&◌}
 use Rattle.pv_types.specs.Known.{Known, tree}
 use Rattle.pv_object.specs.declared.values.Pointer.{Pointer}
-use Rattle.pv_seq.specs.Sequencing.{Access, access_of, noted, rivals, top, below}
+use Rattle.pv_seq.specs.Sequencing.{Access, access_of, noted, rivals}
+use Rattle.pv_seq.specs.Rivals.{top, below}
 use Rattle.pv_world.specs.declared.got.Shape.{Shape}
 use Rattle.pv_world.specs.Worlds.{Worth}
 use Rattle.pv_world.specs.Worths.{pointer_of}
 use Rattle.pv_world.specs.Doing.{Done}
-use Rattle.pv_world.specs.Accesses.{IsStored, HasSizeOf}
+use Rattle.pv_world.specs.Preconditions.{IsStored, HasSizeOf}
 use Rattle.pv_world.specs.Coming.{Did, Came, seen, worth_of}
 use Rattle.pv_eval.specs.TypeForms.{lvalue, shape_of}
 use Rattle.pv_eval.specs.Suiting.{is_stored, knows_worth}
-use Rattle.std.specs.Prelude.{◌&&◌}
 use Rattle.pv_eval.specs.Sizes.{setting_of, size_in}
 use Rattle.pv_eval.specs.Accesses.{writes_to}
 use Rattle.pv_eval.specs.Operations.{Writes}

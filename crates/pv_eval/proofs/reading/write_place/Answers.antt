@@ -1,14 +1,14 @@
 use Rattle.std.proofs.Common.{◌≡◌, ◌∷◌, true, false, subst}
-use Rattle.std.specs.Prelude.{OnOk}
+use Rattle.std.specs.Prelude.{OnOk, ◌&&◌}
 use Rattle.pv_types.specs.declared.terms.TypeId.{TypeId}
 use Rattle.pv_types.specs.Known.{Known, tree, env}
 use Rattle.pv_types.specs.Layouts.{is_complete_in}
-use Rattle.pv_seq.specs.Sequencing.{noted, rivals, top, below}
+use Rattle.pv_seq.specs.Sequencing.{noted, rivals}
+use Rattle.pv_seq.specs.Rivals.{top, below}
 use Rattle.pv_world.specs.Worths.{pointer_of}
 use Rattle.pv_world.specs.Coming.{Did, worth_of}
 use Rattle.pv_eval.specs.TypeForms.{lvalue}
 use Rattle.pv_eval.specs.Suiting.{is_size}
-use Rattle.std.specs.Prelude.{◌&&◌}
 use Rattle.pv_eval.specs.Sizes.{setting_of, size_in, IsComplete}
 use Rattle.pv_eval.specs.Accesses.{access_to}
 use Rattle.pv_eval.specs.Operations.{Writes, does}

@@ -1,6 +1,6 @@
 use Rattle.std.proofs.Common.{refl, sym, ap, ◌∙◌}
-use Rattle.pv_typed.specs.Tables.{expression_at}
-use Rattle.pv_seq.specs.Sequencing.{top, below}
+use Rattle.pv_typed.specs.NodeTrees.{expression_at}
+use Rattle.pv_seq.specs.Rivals.{top, below}
 use Rattle.pv_eval.specs.States.{then_do}
 use Rattle.pv_eval.specs.Sequenced.{operand}
 use Rattle.pv_eval.specs.Evaluation.{ev}

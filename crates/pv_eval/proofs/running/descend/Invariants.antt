@@ -1,6 +1,7 @@
 use Rattle.std.proofs.Common.{◌≡◌, ◌≤◌, length, All}
-use Rattle.pv_typed.specs.Tables.{IsExpression}
-use Rattle.pv_seq.specs.Sequencing.{top, opened}
+use Rattle.pv_typed.specs.NodeTrees.{IsExpression}
+use Rattle.pv_seq.specs.Sequencing.{opened}
+use Rattle.pv_seq.specs.Rivals.{top}
 use Rattle.pv_eval.specs.States.{Setting, State}
 use Rattle.pv_eval.specs.Steps.{Calling}
 use Rattle.pv_eval.specs.declared.frames.Now.TheVariants.{Due}

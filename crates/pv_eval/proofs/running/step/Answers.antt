@@ -1,8 +1,9 @@
 use Rattle.std.proofs.Common.{◌+◌, ap, sym, ◌∙◌, ◌∷◌, length, subst}
 use Rattle.std.specs.Prelude.{Ok, Err}
-use Rattle.pv_typed.specs.Tables.{expression_at}
+use Rattle.pv_typed.specs.NodeTrees.{expression_at}
 use Rattle.pv_eval.specs.Evaluation.{ev}
-use Rattle.pv_seq.specs.Sequencing.{top, below, opened}
+use Rattle.pv_seq.specs.Sequencing.{opened}
+use Rattle.pv_seq.specs.Rivals.{top, below}
 use Rattle.pv_eval.specs.declared.frames.Move.TheVariants.{Give}
 use Rattle.pv_eval.specs.Moments.{state_of}
 use Rattle.pv_eval.specs.Ahead.{ahead, Led}

@@ -1,5 +1,5 @@
 use Rattle.std.proofs.Common.{subst}
-use Rattle.pv_seq.specs.Sequencing.{top}
+use Rattle.pv_seq.specs.Rivals.{top}
 use Rattle.pv_eval.specs.Operations.{Equals}
 use Rattle.pv_eval.specs.Ahead.{Led, given}
 use Rattle.pv_eval.specs.Sequenced.{work}

@@ -1,7 +1,8 @@
 use Rattle.std.proofs.Common.{subst}
-use Rattle.pv_seq.specs.Sequencing.{top}
+use Rattle.pv_seq.specs.Rivals.{top}
 use Rattle.pv_typed.specs.TypedTree.{type_of, line_of}
-use Rattle.pv_typed.specs.Tables.{expression_at, nodes}
+use Rattle.pv_typed.specs.Tables.{nodes}
+use Rattle.pv_typed.specs.NodeTrees.{expression_at}
 use Rattle.pv_eval.specs.TypeForms.{element_size}
 use Rattle.pv_eval.specs.Operations.{Subtracts, Moves}
 use Rattle.std.specs.Prelude.{false}

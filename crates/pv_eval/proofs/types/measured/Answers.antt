@@ -1,6 +1,6 @@
 use Rattle.std.proofs.Common.{◌≡◌, Some, sym, ap, ◌∙◌, arith}
 use Rattle.pv_types.specs.declared.extent.Extent.{Extent}
-use Rattle.pv_types.specs.Kept.{up_to}
+use Rattle.pv_types.specs.Layouts.{up_to}
 use Rattle.pv_types.specs.Known.{tree}
 use Rattle.pv_types.proofs.Peeling.{positive_size}
 use Rattle.pv_eval.specs.Sizes.{size_in}

@@ -1,8 +1,8 @@
 use Rattle.std.proofs.Common.{◌∙◌, ap, sym, Err}
 use Rattle.std.specs.Prelude.{slice_index, drop}
 use Rattle.pv_typed.specs.TypedUnits.{TypedObject, WholeUnit, object_at}
-use Rattle.pv_typed.specs.TypedStatement.{declared_of}
-use Rattle.pv_typed.specs.Tables.{statement_at}
+use Rattle.pv_typed.specs.Trees.{declared_of}
+use Rattle.pv_typed.specs.NodeTrees.{statement_at}
 use Rattle.pv_eval.specs.Moments.{state_of}
 use Rattle.pv_exec.specs.Flows.{make_all}
 use Rattle.pv_exec.proofs.Pieces.{setting-stays, before-stays, made-is, stays_both}

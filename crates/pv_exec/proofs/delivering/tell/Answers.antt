@@ -3,9 +3,8 @@ use Rattle.std.specs.Prelude.{List, map}
 use Rattle.std.proofs.lemmas.List.{take_all}
 use Rattle.pv_watch.specs.Slots.{Told}
 use Rattle.pv_eval.specs.declared.marked.Marked.{Marked}
-use Rattle.pv_exec.specs.Answering.{hall_slots}
-use Rattle.pv_exec.specs.Streaming.{event_of}
-use Rattle.pv_typed.specs.Children.{Each}
+use Rattle.pv_exec.specs.Outlets.{hall_slots, event_of}
+use Rattle.pv_typed.specs.Known.{Each}
 use Rattle.pv_exec.specs.Words.{FitsWords}
 use Rattle.pv_exec.proofs.Outside.{told-next, words-next}
 use Rattle.pv_exec.proofs.delivering.tell.Goals as goal

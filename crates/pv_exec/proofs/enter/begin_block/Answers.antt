@@ -1,6 +1,7 @@
 use Rattle.std.proofs.Common.{◌+◌, ◌<◌, arith}
 use Rattle.pv_typed.specs.Nodes.{statements_in}
-use Rattle.pv_typed.specs.Tables.{nodes, list_at}
+use Rattle.pv_typed.specs.Tables.{nodes}
+use Rattle.pv_typed.specs.NodeTrees.{list_at}
 use Rattle.pv_eval.specs.Moments.{state_of}
 use Rattle.pv_exec.proofs.Enters.{block-enters, block-stops, started-same}
 use Rattle.pv_exec.proofs.enter.begin_block.Goals as goal

@@ -1,5 +1,5 @@
 use Rattle.std.proofs.Common.{sym, ◌∙◌, arith}
-use Rattle.pv_typed.specs.Tables.{expression_at, statement_at}
+use Rattle.pv_typed.specs.NodeTrees.{expression_at, statement_at}
 use Rattle.pv_exec.proofs.Enters.{switch-enters, switch-leaves}
 use Rattle.pv_exec.proofs.enter.begin_switch.Goals as goal
 

@@ -2,7 +2,8 @@ use Rattle.std.proofs.Common.{◌≡◌, ◌+◌, [], ◌∙◌, ap, sym, arith}
 use Rattle.std.specs.Prelude.{slice_index_or}
 use Rattle.std.proofs.lemmas.Grind.{common_steps}
 use Rattle.pv_typed.specs.TypedUnits.{WholeUnit, object_at}
-use Rattle.pv_typed.specs.Tables.{nodes, whole, list_at, store_in}
+use Rattle.pv_typed.specs.Tables.{nodes, whole, store_in}
+use Rattle.pv_typed.specs.NodeTrees.{list_at}
 use Rattle.pv_eval.specs.Moments.{state_of}
 use Rattle.pv_exec.specs.Flows.{begin_fill}
 use Rattle.pv_exec.proofs.Pieces.{setting-stays, before-stays, made-ok, stays_both}

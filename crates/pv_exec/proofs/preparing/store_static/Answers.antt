@@ -2,7 +2,8 @@ use Rattle.std.proofs.Common.{◌∙◌, ◌+◌, ap, sym, subst, ◌∷◌, ◌
 use Rattle.std.specs.Prelude.{drop}
 use Rattle.pv_typed.specs.declared.entries.InitValue.{InitValue}
 use Rattle.pv_typed.specs.TypedUnits.{WholeUnit, object_at}
-use Rattle.pv_typed.specs.Tables.{nodes, store_in, value_in, expression_at}
+use Rattle.pv_typed.specs.Tables.{nodes, store_in, value_in}
+use Rattle.pv_typed.specs.NodeTrees.{expression_at}
 use Rattle.pv_typed.specs.Addresses.{constant_of}
 use Rattle.pv_world.specs.Coming.{worth_of}
 use Rattle.pv_eval.specs.Moments.{state_of}

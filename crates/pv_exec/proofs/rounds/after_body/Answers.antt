@@ -1,5 +1,5 @@
 use Rattle.std.proofs.Common.{ap}
-use Rattle.pv_typed.specs.Tables.{statement_at}
+use Rattle.pv_typed.specs.NodeTrees.{statement_at}
 use Rattle.pv_exec.specs.Calls.{below}
 use Rattle.pv_exec.specs.declared.task.Flow.{Flow}
 use Rattle.pv_exec.specs.declared.task.Flow.TheVariants as flow

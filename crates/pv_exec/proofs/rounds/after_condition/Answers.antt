@@ -1,15 +1,14 @@
 use Rattle.std.proofs.Common.{◌∙◌, ap, sym, subst, arith, Ok, List}
 use Rattle.std.specs.Prelude.{Bool}
-use Rattle.pv_eval.specs.Machines.{ended, after_first}
+use Rattle.pv_eval.specs.Machines.{ended, after_first, Started}
 use Rattle.pv_eval.specs.Moments.{Tested, state_of}
 use Rattle.pv_eval.specs.Operations.{Tests, act}
 use Rattle.pv_exec.specs.Calls.{below}
-use Rattle.pv_typed.specs.Tables.{statement_at}
+use Rattle.pv_typed.specs.NodeTrees.{statement_at}
 use Rattle.pv_exec.specs.declared.task.Task.TheVariants as task
 use Rattle.pv_exec.specs.declared.task.Doing.TheVariants as doing
 use Rattle.pv_exec.specs.declared.task.Way.TheVariants as way
 use Rattle.pv_exec.specs.declared.task.Flow.TheVariants as flow
-use Rattle.pv_eval.specs.Machines.{Started}
 use Rattle.pv_exec.specs.Parts.{Loop, line_of_condition, tested, loop_of}
 use Rattle.pv_exec.specs.Tasks.{left}
 use Rattle.pv_exec.specs.Leading.{Leads}

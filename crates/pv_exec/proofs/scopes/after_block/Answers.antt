@@ -1,6 +1,6 @@
 use Rattle.std.proofs.Common.{◌∙◌, ap, sym, arith}
-use Rattle.pv_typed.specs.TypedStatement.{declared_of}
-use Rattle.pv_typed.specs.Tables.{statement_at}
+use Rattle.pv_typed.specs.Trees.{declared_of}
+use Rattle.pv_typed.specs.NodeTrees.{statement_at}
 use Rattle.pv_eval.specs.Moments.{state_of}
 use Rattle.pv_eval.specs.States.{Gives, then_do}
 use Rattle.pv_exec.specs.Flows.{end_all}

@@ -1,17 +1,17 @@
 use Rattle.std.proofs.Common.{◌∙◌, ◌+◌, ◌≡◌, ◌∷◌, ap, sym, subst, arith, refl}
 use Rattle.std.specs.Prelude.{drop}
 use Rattle.pv_typed.specs.TypedUnits.{WholeUnit, object_at}
-use Rattle.pv_typed.specs.Tables.{nodes, store_in, value_in, expression_at}
+use Rattle.pv_typed.specs.Tables.{nodes, store_in, value_in}
+use Rattle.pv_typed.specs.NodeTrees.{expression_at}
 use Rattle.pv_world.specs.Worlds.{Nothing}
 use Rattle.pv_eval.specs.Moments.{Moment, state_of}
-use Rattle.pv_eval.specs.States.{State, Gives}
+use Rattle.pv_eval.specs.States.{State, Gives, then_do}
 use Rattle.pv_eval.specs.TypeForms.{size_of}
 use Rattle.pv_eval.specs.Operations.{PutsText, act}
 use Rattle.pv_exec.specs.declared.task.Doing.TheVariants as doing
 use Rattle.pv_exec.specs.declared.task.Task.TheVariants as task
 use Rattle.pv_exec.specs.Flows.{full}
 use Rattle.pv_exec.specs.Calls.{below}
-use Rattle.pv_eval.specs.States.{then_do}
 use Rattle.pv_exec.specs.Tasks.{after_value}
 use Rattle.pv_exec.specs.Works.{does}
 use Rattle.pv_exec.proofs.Storing.{store-value, store-text, text-stops, goes-to}

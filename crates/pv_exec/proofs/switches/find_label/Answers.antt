@@ -1,6 +1,6 @@
 use Rattle.std.proofs.Common.{◌+◌, ◌∙◌, sym, arith}
 use Rattle.std.specs.Prelude.{slice_index_or}
-use Rattle.pv_typed.specs.Tables.{list_at}
+use Rattle.pv_typed.specs.NodeTrees.{list_at}
 use Rattle.pv_exec.specs.Switches.{target}
 use Rattle.pv_exec.proofs.Elements.{item-at, items-end}
 use Rattle.pv_exec.proofs.Finding.{some-no, some-yes, some-end, at-no, at-yes}

@@ -1,5 +1,5 @@
 use Rattle.std.proofs.Common.{◌≡◌}
-use Rattle.pv_typed.specs.Tables.{statement_at, IsStatement}
+use Rattle.pv_typed.specs.NodeTrees.{statement_at, IsStatement}
 use Rattle.pv_exec.specs.Labels.{is_target}
 use Rattle.pv_exec.specs.Switches.{target}
 use Rattle.pv_exec.proofs.switches.has_label.Given as goal

@@ -1,5 +1,5 @@
 use Rattle.std.proofs.Common.{◌<◌, ◌∙◌, Some, IfSome, length, sym, ap, subst}
-use Rattle.pv_types.specs.Known.{members_in}
+use Rattle.pv_types.specs.Formed.{members_in}
 use Rattle.pv_types.proofs.Numbered.{named_below}
 use Rattle.pv_layout.specs.Places.{member_at}
 use Rattle.pv_layout.proofs.Numbers.{at_beginning, union_named}

@@ -1,6 +1,7 @@
 use Rattle.std.proofs.Common.{rules, ◌≡◌, ◌<◌, ◌+◌, ◌-◌, ℕ, List, [], ◌∷◌, ◌++◌, Ok, Err, sym, ap, ◌∙◌, subst}
 use Rattle.pv_object.proofs.Later.{later_both, reach_later}
-use Rattle.pv_libc.specs.Steps.{Did, with_notes, OrNoMemory}
+use Rattle.pv_libc.specs.Steps.{Did, with_notes}
+use Rattle.pv_libc.specs.Answers.{OrNoMemory}
 use Rattle.pv_libc.specs.Characters.{character_in, characters_from}
 use Rattle.pv_libc.proofs.Running.{characters_stop, characters_next}
 use Rattle.pv_libc.proofs.blocks.characters.Goals as goal

@@ -1,5 +1,5 @@
 use Rattle.std.proofs.Common.{◌≡◌, ◌+◌, ◌-◌, []}
-use Rattle.pv_object.specs.Memory.{IsReach}
+use Rattle.pv_object.specs.Reaching.{IsReach}
 use Rattle.pv_object.specs.Later.{IsLater}
 use Rattle.pv_libc.specs.Steps.{with_notes}
 use Rattle.pv_libc.specs.Characters.{characters_from}

@@ -1,6 +1,7 @@
 use Rattle.std.proofs.Common.{rules, ◌≡◌, ◌<◌, ◌+◌, ◌-◌, ℕ, List, [], ◌∷◌, ◌++◌, length, eqb, true, false, Ok, Err, refl, sym, ap, ◌∙◌, subst, arith, length-append}
 use Rattle.pv_object.proofs.Later.{made_later, later_both}
-use Rattle.pv_libc.specs.Steps.{Did, with_notes, OrNoMemory}
+use Rattle.pv_libc.specs.Steps.{Did, with_notes}
+use Rattle.pv_libc.specs.Answers.{OrNoMemory}
 use Rattle.pv_libc.specs.Characters.{most, string_from}
 use Rattle.pv_libc.proofs.Running.{string_stops, string_ends, string_next}
 use Rattle.pv_libc.proofs.characters.string_at.Goals as goal

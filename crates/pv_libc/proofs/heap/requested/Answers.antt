@@ -2,7 +2,7 @@ use Rattle.std.proofs.Common.{sym, subst}
 use Rattle.pv_script.specs.Names.{name_at as text_of}
 use Rattle.pv_inst.specs.declared.values.Kind.TheVariants.{Heap}
 use Rattle.pv_inst.specs.Placing.{Request}
-use Rattle.pv_inst.specs.Ending.{IsLive}
+use Rattle.pv_inst.specs.Answers.{IsLive}
 use Rattle.pv_object.specs.Memory.{Mem}
 use Rattle.pv_libc.proofs.Kept.{created_live}
 use Rattle.pv_libc.proofs.heap.requested.Goals as goal

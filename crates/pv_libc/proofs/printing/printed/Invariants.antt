@@ -1,5 +1,5 @@
 use Rattle.std.proofs.Common.{◌≡◌, ◌≤◌, [], drop, length, All}
-use Rattle.pv_object.specs.Values.{IsMadeValue}
+use Rattle.pv_object.specs.Answers.{IsMadeValue}
 use Rattle.pv_libc.specs.Steps.{with_notes}
 use Rattle.pv_libc.specs.declared.formats.Within.TheVariants as within
 use Rattle.pv_libc.specs.Printing.{printed_from}

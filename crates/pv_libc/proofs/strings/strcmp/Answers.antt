@@ -1,6 +1,7 @@
 use Rattle.std.proofs.Common.{rules, ◌≡◌, ◌<◌, ◌+◌, ◌-◌, eqb, true, false, Ok, Err, pos, refl, sym, ap, ◌∙◌, subst}
 use Rattle.pv_object.proofs.Later.{made_later}
-use Rattle.pv_libc.specs.Steps.{Did, with_notes, OrNoMemory}
+use Rattle.pv_libc.specs.Steps.{Did, with_notes}
+use Rattle.pv_libc.specs.Answers.{OrNoMemory}
 use Rattle.pv_libc.specs.declared.values.Reply.{Reply}
 use Rattle.pv_libc.specs.declared.values.Reply.TheVariants as reply
 use Rattle.pv_object.specs.declared.values.Value.TheVariants as value

@@ -1,7 +1,7 @@
 use Rattle.std.proofs.Common.{rules, ◌≡◌, ◌<◌, ◌≤◌, length, All, subst}
 use Rattle.std.proofs.lemmas.List.{take_all}
 use Rattle.std.proofs.lemmas.List.Elements.{All-more}
-use Rattle.pv_object.specs.Values.{IsMadeValue}
+use Rattle.pv_object.specs.Answers.{IsMadeValue}
 use Rattle.pv_libc.specs.declared.values.Arg.{Arg}
 use Rattle.pv_memory_tests.proofs.library.known.Goals as goal
 

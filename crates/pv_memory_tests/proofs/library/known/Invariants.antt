@@ -1,5 +1,5 @@
 use Rattle.std.proofs.Common.{take, All}
-use Rattle.pv_object.specs.Values.{IsMadeValue}
+use Rattle.pv_object.specs.Answers.{IsMadeValue}
 use Rattle.pv_memory_tests.proofs.library.known.Given as goal
 
 -- the names of those that were asked are made

@@ -6,7 +6,8 @@ use Rattle.pv_num.specs.declared.faults.Fault.{Fault}
 use Rattle.pv_num.specs.declared.kinds.IntKind.{IntKind}
 use Rattle.pv_num.specs.declared.operators.BinOp.{BinOp}
 use Rattle.pv_num.specs.declared.operators.BinOp.TheVariants.{Add, Sub, Mul, Div, Rem, Shl, Shr}
-use Rattle.pv_num.specs.Arithmetic.{IsOperand, binary_of}
+use Rattle.pv_num.specs.Arithmetic.{binary_of}
+use Rattle.pv_num.specs.Operands.{IsOperand}
 use Rattle.pv_num.proofs.operators.computed.Goals as goal
 
 -- the answer of an operator is that of the one that was asked for, under the operands' own names

@@ -1,6 +1,7 @@
 use Rattle.std.proofs.Common.{sym, subst}
 use Rattle.std.specs.Prelude.{Option}
-use Rattle.pv_replay.specs.Words.{Options, AreOptions}
+use Rattle.pv_replay.specs.Words.{Options}
+use Rattle.pv_replay.specs.ReadWords.{AreOptions}
 use Rattle.pv_replay.proofs.WordsLemmas.{two_more, one_left}
 use Rattle.pv_replay.proofs.words.+all_options.Goals as goal
 

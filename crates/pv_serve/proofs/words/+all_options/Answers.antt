@@ -1,6 +1,7 @@
 use Rattle.std.proofs.Common.{sym, subst}
 use Rattle.std.specs.Prelude.{Option}
-use Rattle.pv_serve.specs.Words.{Options, AreOptions}
+use Rattle.pv_serve.specs.Words.{Options}
+use Rattle.pv_serve.specs.ReadWords.{AreOptions}
 use Rattle.pv_serve.proofs.WordsLemmas.{two_more, one_left}
 use Rattle.pv_serve.proofs.words.+all_options.Goals as goal
 

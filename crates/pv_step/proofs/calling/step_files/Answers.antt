@@ -1,5 +1,5 @@
 use Rattle.std.proofs.Common.{refl}
-use Rattle.pv_step.specs.Words.{asked_job}
+use Rattle.pv_step.specs.ReadWords.{asked_job}
 use Rattle.pv_step.specs.Answering.{WasLost}
 use Rattle.pv_step.proofs.FileLemmas.{text_served}
 use Rattle.pv_step.proofs.calling.step_files.Goals as goal

@@ -1,4 +1,4 @@
-use Rattle.pv_step.specs.Words.{asked_job}
+use Rattle.pv_step.specs.ReadWords.{asked_job}
 use Rattle.pv_step.proofs.FileLemmas.{files_read}
 use Rattle.pv_step.proofs.RoseLemmas.{script_rose, commands_rose, other_err}
 use Rattle.pv_step.proofs.reading.read_files.Goals as goal

@@ -18,7 +18,7 @@ use Rattle.pv_stmt_forms.proofs.Begun.{statement_zero, switch_zero, statement_en
 use Rattle.pv_stmt_forms.proofs.Heading.{for_shut, for_none, for_so, for_children, head_there}
 use Rattle.pv_stmt_forms.proofs.Labelling.{labelled_as}
 use Rattle.pv_decl_forms.proofs.Listing.{some_of, none_of}
-use Rattle.pv_tree.specs.Grammar.{Names}
+use Rattle.pv_tree.specs.Spells.{Names}
 use Rattle.pv_tree.specs.declared.nodes.NodeId.{NodeId}
 use Rattle.pv_stmt_forms.specs.declared.forms.StatementForm.TheVariants as form
 use Rattle.pv_stmt_forms.specs.declared.forms.Within.TheVariants as within

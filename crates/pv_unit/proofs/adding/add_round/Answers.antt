@@ -1,5 +1,5 @@
 use Rattle.std.proofs.Common.{ap, ◌∙◌}
-use Rattle.pv_typed.specs.Tables.{statement_at}
+use Rattle.pv_typed.specs.NodeTrees.{statement_at}
 use Rattle.pv_typed.specs.TypedStatement.{ForDeclaration, statements_of}
 use Rattle.pv_unit.specs.Stated.{statements_in, optional_in}
 use Rattle.pv_unit.proofs.BlockMade.{listed_there, objects_there, round_parts, round_form}

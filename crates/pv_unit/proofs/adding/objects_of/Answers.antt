@@ -1,6 +1,6 @@
 use Rattle.std.proofs.Common.{rules, ◌≡◌, ◌<◌, ◌++◌, length, get_or, arith}
 use Rattle.pv_tree.specs.declared.nodes.NodeId.{NodeId}
-use Rattle.pv_typed.specs.Tables.{statement_at, IsStatement}
+use Rattle.pv_typed.specs.NodeTrees.{statement_at, IsStatement}
 use Rattle.pv_typed.proofs.Each.{each_at}
 use Rattle.pv_unit.specs.Statements.{declared_by}
 use Rattle.pv_unit.proofs.BlockMade.{declared_more}

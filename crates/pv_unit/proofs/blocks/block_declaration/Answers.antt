@@ -1,6 +1,6 @@
 use Rattle.std.proofs.Common.{List, [], ◌≡◌, ◌<◌, ◌≤◌, IfOk, Option, false, length, sym, ap, subst, ◌∙◌}
 use Rattle.pv_tree.specs.declared.nodes.NodeId.{NodeId}
-use Rattle.pv_tree.specs.Lines.{tree_line}
+use Rattle.pv_tree.specs.TreeLines.{tree_line}
 use Rattle.pv_tree.specs.Syntax.{Declaration, NoTrees}
 use Rattle.pv_tree.specs.Tables.{tree_at, trees_at, list_at, declaration_at, as_declaration}
 use Rattle.pv_check.specs.Open.{state_of}

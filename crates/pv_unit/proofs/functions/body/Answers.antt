@@ -1,9 +1,9 @@
 use Rattle.std.proofs.Common.{rules, ◌≡◌, ◌<◌, ◌≤◌, List, length, false, Some, None, sym, subst, arith}
-use Rattle.pv_tree.specs.Lines.{tree_line}
+use Rattle.pv_tree.specs.TreeLines.{tree_line}
 use Rattle.pv_tree.specs.Syntax.{Block}
 use Rattle.pv_tree.specs.Tables.{tree_at, trees_at, statement_at, is_item, HasList}
 use Rattle.pv_types.specs.Known.{tree}
-use Rattle.pv_typed.specs.Children.{Each}
+use Rattle.pv_typed.specs.Known.{Each}
 use Rattle.pv_check.specs.declared.parameters.Parameter.{Parameter}
 use Rattle.pv_check.specs.Declarators.{ParameterKnown, parameters_shown}
 use Rattle.pv_check.specs.Open.{state_of}

@@ -1,6 +1,7 @@
 use Rattle.std.proofs.Common.{rules, ◌≡◌, ◌∙◌, ap, option_map, true, false, Some, None}
 use Rattle.pv_tree.specs.Tables.{initializer_at}
-use Rattle.pv_types.specs.Known.{completions, env, tree}
+use Rattle.pv_types.specs.Known.{env, tree}
+use Rattle.pv_types.specs.Formed.{completions}
 use Rattle.pv_types.specs.Ty.{Ty}
 use Rattle.pv_check.specs.Open.{state_of}
 use Rattle.pv_unit.specs.Initialized.{initialized, is_braced, whole}

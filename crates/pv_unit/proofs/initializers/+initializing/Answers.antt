@@ -1,8 +1,8 @@
 use Rattle.std.proofs.Common.{rules, option_map, ◌≡◌, ◌<◌, ◌∙◌, ap, length, get_or, arith, true, false, Some, None}
 use Rattle.pv_tree.specs.declared.nodes.NodeId.{NodeId}
-use Rattle.pv_tree.specs.Lines.{tree_line}
+use Rattle.pv_tree.specs.TreeLines.{tree_line}
 use Rattle.pv_tree.specs.Tables.{tree_at, initializer_at, expression_at as expression_of_node, is_initializer}
-use Rattle.pv_types.specs.Known.{completions}
+use Rattle.pv_types.specs.Formed.{completions}
 use Rattle.pv_check.specs.Open.{state_of}
 use Rattle.pv_unit.specs.Initializers.{Each, Zero, shape_of}
 use Rattle.pv_unit.specs.Initialized.{initialized}

@@ -1,6 +1,6 @@
 use Rattle.std.proofs.Common.{rules, ◌≡◌, ◌≤◌, ◌^◌, true}
 use Rattle.pv_types.specs.Known.{env, tree}
-use Rattle.pv_layout.specs.Places.{bare}
+use Rattle.pv_layout.specs.Parts.{bare}
 use Rattle.pv_unit.specs.Parts.{character_layer}
 use Rattle.pv_unit.proofs.Texts.{small_text}
 use Rattle.pv_unit.proofs.initializers.filled_type.Goals as goal

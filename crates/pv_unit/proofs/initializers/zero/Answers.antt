@@ -1,6 +1,6 @@
 use Rattle.std.proofs.Common.{◌≡◌, ap, option_map, Some, None}
 use Rattle.pv_tree.specs.Tables.{expression_at as expression_of_node}
-use Rattle.pv_types.specs.Known.{completions}
+use Rattle.pv_types.specs.Formed.{completions}
 use Rattle.pv_unit.specs.Initializers.{zero_leaf}
 use Rattle.pv_unit.specs.Stores.{behind, stores_in}
 use Rattle.pv_unit.specs.Subobjects.{part_of}

@@ -1,5 +1,5 @@
 use Rattle.std.proofs.Common.{rules, ◌≡◌, ◌∙◌, ◌<◌, arith}
-use Rattle.pv_typed.specs.Tables.{statement_at}
+use Rattle.pv_typed.specs.NodeTrees.{statement_at}
 use Rattle.pv_typed.specs.TypedStatement as typed
 use Rattle.pv_unit.proofs.LabelRows.{case_step, default_step}
 use Rattle.pv_unit.proofs.Moving.{moves_on}

@@ -1,5 +1,5 @@
 use Rattle.std.proofs.Common.{◌≡◌, ◌≤◌, ℕ, List, false, length, drop}
-use Rattle.pv_typed.specs.Tables.{statement_at, IsStatement}
+use Rattle.pv_typed.specs.NodeTrees.{statement_at, IsStatement}
 use Rattle.pv_check.specs.Open.{state_of}
 use Rattle.pv_unit.specs.Statements.{under}
 use Rattle.pv_unit.specs.Stated.{Moves}

@@ -1,5 +1,5 @@
 use Rattle.std.proofs.Common.{◌∙◌, ap}
-use Rattle.pv_types.specs.Adjusted.{are_adjusted}
+use Rattle.pv_types.specs.Formed.{are_adjusted}
 use Rattle.pv_types.specs.Known.{trees, tys_in}
 use Rattle.pv_check.proofs.Growth.{then_grows}
 use Rattle.pv_unit.proofs.ListedTypes.{simple_adjusted, tys_stay}

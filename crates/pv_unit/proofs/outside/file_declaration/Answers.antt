@@ -1,6 +1,6 @@
 use Rattle.std.proofs.Common.{List, ◌≡◌, ◌<◌, IfOk, Option, length, sym, ap, subst, ◌∙◌}
 use Rattle.pv_tree.specs.declared.nodes.NodeId.{NodeId}
-use Rattle.pv_tree.specs.Lines.{tree_line}
+use Rattle.pv_tree.specs.TreeLines.{tree_line}
 use Rattle.pv_tree.specs.Syntax.{Declaration}
 use Rattle.pv_tree.specs.Tables.{tree_at, trees_at, list_at, declaration_at, as_declaration}
 use Rattle.pv_unit.specs.Entities.{UnitState}

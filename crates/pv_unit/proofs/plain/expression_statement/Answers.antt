@@ -1,7 +1,7 @@
 use Rattle.std.proofs.Common.{rules, ◌≡◌, ◌∙◌, ap, sym, Some, false}
-use Rattle.pv_tree.specs.Lines.{tree_line}
+use Rattle.pv_tree.specs.TreeLines.{tree_line}
 use Rattle.pv_tree.specs.Tables.{tree_at, optional_at}
-use Rattle.pv_typed.specs.Tables.{statement_at}
+use Rattle.pv_typed.specs.NodeTrees.{statement_at}
 use Rattle.pv_check.specs.Open.{state_of}
 use Rattle.pv_unit.specs.Stated.{around_in, optional_in, Moves}
 use Rattle.pv_unit.specs.Statements.{optional, valued}

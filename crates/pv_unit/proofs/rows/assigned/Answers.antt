@@ -2,7 +2,7 @@ use Rattle.std.proofs.Common.{Some, None, ap, ◌∙◌, false}
 use Rattle.std.specs.Prelude.{if◌then◌else◌}
 use Rattle.pv_types.specs.Known.{tree}
 use Rattle.pv_typed.specs.TypedTree.{type_of}
-use Rattle.pv_typed.specs.Tables.{expression_at}
+use Rattle.pv_typed.specs.NodeTrees.{expression_at}
 use Rattle.pv_check.specs.Qualified.{unqualified}
 use Rattle.pv_check.specs.Values.{may_assign, converted}
 use Rattle.pv_check.proofs.ArmLaws.{goes_kept}

@@ -2,7 +2,7 @@ use Rattle.std.proofs.Common.{rules, ◌≡◌, ◌∙◌, Some, false}
 use Rattle.pv_types.specs.Known.{tree}
 use Rattle.pv_typed.specs.TypedStatement.{Return}
 use Rattle.pv_typed.specs.TypedTree.{TypedTree}
-use Rattle.pv_typed.specs.Tables.{expression_at, statement_at}
+use Rattle.pv_typed.specs.NodeTrees.{expression_at, statement_at}
 use Rattle.pv_check.specs.Open.{state_of}
 use Rattle.pv_check.specs.Sorts.{is_void}
 use Rattle.pv_check.specs.State.{give}

@@ -2,7 +2,7 @@ use Rattle.std.proofs.Common.{rules, ◌≡◌, ◌∙◌, ap, sym, Bool, Some, 
 use Rattle.std.specs.Prelude.{if◌then◌else◌}
 use Rattle.pv_types.specs.Known.{tree}
 use Rattle.pv_typed.specs.TypedStatement.{Return}
-use Rattle.pv_typed.specs.Tables.{statement_at}
+use Rattle.pv_typed.specs.NodeTrees.{statement_at}
 use Rattle.pv_check.specs.Open.{state_of}
 use Rattle.pv_check.specs.Sorts.{is_void}
 use Rattle.pv_check.specs.State.{give}

@@ -1,9 +1,9 @@
 mod Loops
 use Rattle.std.proofs.Common.{rules, ◌≡◌, ◌<◌, true, false, Some, None, length, get_or, drop, sym, ap, ◌∙◌, arith}
 use Rattle.pv_tree.specs.declared.nodes.NodeId.{NodeId}
-use Rattle.pv_tree.specs.Lines.{tree_line}
+use Rattle.pv_tree.specs.TreeLines.{tree_line}
 use Rattle.pv_tree.specs.Tables.{tree_at, trees_of, trees_at, expression_at as expression_of, statement_at as statement_of, is_declaration, is_expression, is_item, as_statement}
-use Rattle.pv_typed.specs.Tables.{expression_at, statement_at, IsExpression, IsStatement}
+use Rattle.pv_typed.specs.NodeTrees.{expression_at, statement_at, IsExpression, IsStatement}
 use Rattle.pv_typed.specs.TypedStatement as typed
 use Rattle.pv_check.specs.Open.{state_of}
 use Rattle.pv_check.specs.State.{entered}

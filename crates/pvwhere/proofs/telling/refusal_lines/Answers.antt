@@ -1,4 +1,4 @@
-use Rattle.pv_serve.specs.Readings.{refusal_of}
+use Rattle.pv_serve.specs.Loading.{refusal_of}
 use Rattle.pvwhere.proofs.PlaceLemmas.{place_within}
 use Rattle.pvwhere.proofs.AnswerLemmas.{is_refused, gets_lines}
 use Rattle.pvwhere.proofs.telling.refusal_lines.Goals as goal

@@ -1,6 +1,6 @@
 use Rattle.std.proofs.Common.{ap, ◌∙◌}
 use Rattle.pv_typed.specs.TypedTree.{line_of}
-use Rattle.pv_typed.specs.Tables.{expression_at}
+use Rattle.pv_typed.specs.NodeTrees.{expression_at}
 use Rattle.pv_eval.specs.States.{then_do}
 use Rattle.pv_eval.specs.Steps.{converted}
 use Rattle.pv_eval.specs.Operations.{Needs, act}

@@ -1,6 +1,7 @@
 use Rattle.std.proofs.Common.{ap, ◌∙◌, map}
 use Rattle.pv_typed.specs.Nodes.{arguments_in}
-use Rattle.pv_typed.specs.Tables.{nodes, list_at}
+use Rattle.pv_typed.specs.Tables.{nodes}
+use Rattle.pv_typed.specs.NodeTrees.{list_at}
 use Rattle.pv_world.specs.Coming.{worth_of}
 use Rattle.pv_eval.specs.Frames.{asked_with}
 use Rattle.pv_eval.specs.Operations.{Asks, does}

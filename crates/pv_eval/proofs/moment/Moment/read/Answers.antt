@@ -1,11 +1,12 @@
 use Rattle.std.proofs.Common.{false, refl, subst}
 use Rattle.pv_types.specs.Ty.{Ty}
 use Rattle.pv_types.specs.Known.{tree}
-use Rattle.pv_seq.specs.Sequencing.{rivals, top}
+use Rattle.pv_seq.specs.Sequencing.{rivals}
+use Rattle.pv_seq.specs.Rivals.{top}
 use Rattle.pv_world.specs.Worths.{pointer_of}
 use Rattle.pv_world.specs.Coming.{Did, worth_of}
 use Rattle.pv_typed.specs.TypedTree.{type_of}
-use Rattle.pv_typed.specs.Tables.{expression_at}
+use Rattle.pv_typed.specs.NodeTrees.{expression_at}
 use Rattle.pv_eval.specs.TypeForms.{lvalue}
 use Rattle.pv_eval.specs.Sizes.{setting_of}
 use Rattle.pv_eval.specs.Accesses.{access_to}

@@ -1,6 +1,6 @@
 use Rattle.std.proofs.Common.{List, All, sym, subst, deque_len, deque_capacity}
 use Rattle.pv_prov.specs.declared.pairs.Twin.{Twin}
-use Rattle.pv_inst.specs.Kept.{HasMet}
+use Rattle.pv_inst.specs.WellFormed.{HasMet}
 use Rattle.pv_inst.proofs.Meetings.{kept_pairs, met_kept}
 use Rattle.pv_inst.proofs.instances.Instances.keep.Goals as goal
 

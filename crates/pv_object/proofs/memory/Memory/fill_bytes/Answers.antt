@@ -3,8 +3,10 @@ use Rattle.std.proofs.lemmas.List.{length-replicate}
 use Rattle.std.proofs.lemmas.List.Elements.{All-replicate}
 use Rattle.pv_inst.specs.Table.{IsMadeIn}
 use Rattle.pv_shadow.specs.declared.byte.Byte.{Byte}
-use Rattle.pv_shadow.specs.Bytes.{Store, HasBytes}
-use Rattle.pv_object.specs.Memory.{Mem, HasLiveBytes, IsReach}
+use Rattle.pv_shadow.specs.Bytes.{Store}
+use Rattle.pv_shadow.specs.Readings.{HasBytes}
+use Rattle.pv_object.specs.Memory.{Mem}
+use Rattle.pv_object.specs.Reaching.{HasLiveBytes, IsReach}
 use Rattle.pv_object.proofs.Contents.{reached_bytes, written_live}
 use Rattle.pv_object.proofs.memory.Memory.fill_bytes.Goals as goal
 

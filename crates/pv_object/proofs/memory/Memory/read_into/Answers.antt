@@ -1,7 +1,8 @@
 use Rattle.std.proofs.Common.{All, List, length, sym, subst}
 use Rattle.pv_inst.specs.Table.{IsMadeIn}
 use Rattle.pv_shadow.specs.declared.byte.Byte.{Byte}
-use Rattle.pv_object.specs.Memory.{Mem, IsReach}
+use Rattle.pv_object.specs.Memory.{Mem}
+use Rattle.pv_object.specs.Reaching.{IsReach}
 use Rattle.pv_object.proofs.Contents.{reached_bytes, read_made}
 use Rattle.pv_object.proofs.memory.Memory.read_into.Goals as goal
 

@@ -3,7 +3,8 @@ use Rattle.pv_prov.specs.declared.names.Prov.TheVariants.{Pair}
 use Rattle.pv_inst.specs.declared.values.Tried.{Tried}
 use Rattle.pv_inst.specs.Table.{Table}
 use Rattle.pv_object.specs.Later.{IsLater}
-use Rattle.pv_object.specs.Memory.{Mem, HasLiveBytes}
+use Rattle.pv_object.specs.Memory.{Mem}
+use Rattle.pv_object.specs.Reaching.{HasLiveBytes}
 use Rattle.pv_object.proofs.Later.{settled_later, live_bytes_later}
 use Rattle.pv_object.proofs.memory.Memory.side.Goals as goal
 

@@ -2,7 +2,8 @@ use Rattle.std.proofs.Common.{sym, subst}
 use Rattle.pv_prov.specs.declared.names.Prov.{Prov}
 use Rattle.pv_inst.specs.Table.{IsMadeIn}
 use Rattle.pv_shadow.specs.Bytes.{read}
-use Rattle.pv_object.specs.Memory.{Mem, IsReach}
+use Rattle.pv_object.specs.Memory.{Mem}
+use Rattle.pv_object.specs.Reaching.{IsReach}
 use Rattle.pv_object.proofs.Contents.{reached_bytes, read_made}
 use Rattle.pv_object.proofs.Wholes.{whole_is, pointer_made}
 use Rattle.pv_object.proofs.memory.Memory.whole_pointer.Goals as goal

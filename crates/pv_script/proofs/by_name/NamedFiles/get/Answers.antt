@@ -1,5 +1,5 @@
 use Rattle.std.proofs.Common.{ℕ, Some, Vec, Global, option_map, sym, ap, ◌∙◌}
-use Rattle.pv_script.specs.Memory.{bytes_under}
+use Rattle.pv_script.specs.Calm.{bytes_under}
 use Rattle.pv_script.proofs.Naming.{under_is}
 use Rattle.pv_script.proofs.by_name.NamedFiles.get.Goals as goal
 

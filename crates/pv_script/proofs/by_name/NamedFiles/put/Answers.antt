@@ -1,7 +1,7 @@
 use Rattle.std.proofs.Common.{◌≡◌, ℕ, Some, Vec, Global, option_map, sym, ap, ◌∙◌, arith}
 use Rattle.std.specs.BTreeMap.{get_by_text}
 use Rattle.std.proofs.lemmas.Map.Text.{text_keys}
-use Rattle.pv_script.specs.Memory.{bytes_under}
+use Rattle.pv_script.specs.Calm.{bytes_under}
 use Rattle.pv_script.proofs.Naming.{under_is}
 use Rattle.pv_script.proofs.by_name.NamedFiles.put.Goals as goal
 

@@ -1,5 +1,6 @@
 use Rattle.std.proofs.Common.{◌≡◌, ◌+◌, ◌-◌, replicate, ap, sym, subst, ◌∙◌, arith}
-use Rattle.pv_shadow.specs.Bytes.{Store, HasBytes, written}
+use Rattle.pv_shadow.specs.Bytes.{Store, written}
+use Rattle.pv_shadow.specs.Readings.{HasBytes}
 use Rattle.pv_shadow.proofs.Pages.{filled_step}
 use Rattle.pv_shadow.proofs.Ranges.{has_part, has_written}
 use Rattle.pv_shadow.proofs.bytes.Bytes.fill.Goals as goal

@@ -1,5 +1,6 @@
 use Rattle.std.proofs.Common.{◌≡◌, ◌+◌, ◌-◌, ◌≤◌, replicate}
-use Rattle.pv_shadow.specs.Bytes.{HasBytes, written}
+use Rattle.pv_shadow.specs.Bytes.{written}
+use Rattle.pv_shadow.specs.Readings.{HasBytes}
 use Rattle.pv_shadow.proofs.bytes.Bytes.fill.Given as goal
 
 -- what is left to fill leaves what the whole leaves, and all has its bytes still

@@ -1,7 +1,7 @@
 use Rattle.std.proofs.Common.{◌≡◌, ℕ, List, length, replicate, Option, Some, IsSome, sym, ap, subst, ◌∙◌, refl, arith}
 use Rattle.std.proofs.lemmas.List.{length-replicate}
 use Rattle.pv_shadow.specs.declared.byte.Byte.{Byte}
-use Rattle.pv_shadow.specs.Bytes.{HasBytes}
+use Rattle.pv_shadow.specs.Readings.{HasBytes}
 use Rattle.pv_shadow.specs.Pages.{stored}
 use Rattle.pv_shadow.proofs.Pages.{slot_of, no_page, none_written, changed_at, filled_slots}
 use Rattle.pv_shadow.proofs.bytes.Bytes.fill_within.Goals.{in-Some, in-None}

@@ -1,5 +1,6 @@
 use Rattle.std.proofs.Common.{◌+◌, drop, length, ap, ◌∙◌, sym, subst, arith}
-use Rattle.pv_shadow.specs.Bytes.{Store, HasBytes, written}
+use Rattle.pv_shadow.specs.Bytes.{Store, written}
+use Rattle.pv_shadow.specs.Readings.{HasBytes}
 use Rattle.pv_shadow.proofs.Ranges.{written-more, has_insert}
 use Rattle.pv_shadow.proofs.bytes.Bytes.write_singly.Goals as goal
 

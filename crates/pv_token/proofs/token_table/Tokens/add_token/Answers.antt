@@ -1,7 +1,9 @@
 use Rattle.std.proofs.Common.{List, [], ◌∷◌, ◌++◌, map, sym, ap, ◌∙◌, subst}
 use Rattle.pv_token.specs.declared.token_table.Token.{Token}
-use Rattle.pv_token.specs.Said.{Spelt, said_of}
-use Rattle.pv_token.specs.Table.{Table, Adds}
+use Rattle.pv_token.specs.Said.{Spelt}
+use Rattle.pv_token.specs.Views.{said_of}
+use Rattle.pv_token.specs.Table.{Table}
+use Rattle.pv_token.specs.Kept.{Adds}
 use Rattle.pv_token.proofs.token_table.Tokens.add_token.Goals as goal
 
 pub returns-clause-told : goal.returns-clause-told

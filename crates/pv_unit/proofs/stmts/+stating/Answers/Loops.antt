@@ -1,10 +1,11 @@
 -- Selections with two statements, and iterations (C17 6.8.4.1, 6.8.5): what each comes to, and that its parts are there.
 use Rattle.std.proofs.Common.{rules, ◌≡◌, false, [], Some, None, sym, ap, ◌∙◌}
-use Rattle.pv_tree.specs.Lines.{tree_line}
+use Rattle.pv_tree.specs.TreeLines.{tree_line}
 use Rattle.pv_tree.specs.Tables.{tree_at, optional_at, declaration_at, expression_at as expression_of, statement_at as statement_of}
 use Rattle.pv_typed.specs.declared.nodes.TypedStmt.TheVariants as stmt
 use Rattle.pv_typed.specs.Nodes.{statement_form}
-use Rattle.pv_typed.specs.Tables.{nodes, expression_at, statement_at, IsExpression, IsStatement}
+use Rattle.pv_typed.specs.Tables.{nodes}
+use Rattle.pv_typed.specs.NodeTrees.{expression_at, statement_at, IsExpression, IsStatement}
 use Rattle.pv_typed.specs.TypedStatement.{statements_of}
 use Rattle.pv_typed.specs.TypedStatement as typed
 use Rattle.pv_check.specs.Open.{state_of}

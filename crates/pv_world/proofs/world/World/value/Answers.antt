@@ -1,6 +1,6 @@
 use Rattle.std.proofs.Common.{ℕ, length, sym, ap, ◌∙◌, subst}
 use Rattle.pv_shadow.proofs.Ranges.{length-read}
-use Rattle.pv_world.specs.Accesses.{HasSizeOf}
+use Rattle.pv_world.specs.Preconditions.{HasSizeOf}
 use Rattle.pv_world.proofs.world.World.value.Goals as goal
 
 pub valued-requires-clause-size : goal.valued-requires-clause-size

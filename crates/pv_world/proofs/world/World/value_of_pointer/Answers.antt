@@ -4,7 +4,7 @@ use Rattle.pv_inst.specs.declared.values.Miss.{Miss}
 use Rattle.pv_inst.specs.Use.{settled}
 use Rattle.pv_shadow.specs.Bytes.{read}
 use Rattle.pv_object.specs.Memory.{Mem}
-use Rattle.pv_object.specs.Loading.{whole_pointer}
+use Rattle.pv_object.specs.Loads.{whole_pointer}
 use Rattle.pv_world.specs.Worlds.{World}
 use Rattle.pv_world.specs.Telling.{blame_of}
 use Rattle.pv_world.proofs.LoadSteps.{came_whole}
