@@ -11,7 +11,7 @@ use Rattle.pv_script.specs.declared.library.Library.{Library}
 use Rattle.pv_libc.specs.declared.values.Arg.{Arg}
 use Rattle.pv_typed.specs.declared.nodes.IncrementOperator.{IncrementOperator}
 use Rattle.pv_typed.specs.TypedTree.{TypedTree, Node, Constant, Object, Function, String, Subscript, Call, CallPointer, LibraryCall, Member, MemberOfValue, Arrow, Increment, Address, Indirection, Unary, Not, Sizeof, Cast, Arithmetic, PointerSum, PointerDifference, PointerOrder, PointerEquality, LogicalAnd, LogicalOr, Conditional, Assign, CompoundAssign, PointerAssign, Comma, Read, ArrayPointer, Convert, Arguments, NoArguments, MoreArguments, type_of, line_of}
-use Rattle.pv_seq.specs.Sequencing.{Access, Open, opened, beside, noted, settled, rivals}
+use Rattle.pv_seq.specs.Sequencing.{Access, Open, opened, beside, noted, sequence_point, rivals}
 use Rattle.pv_world.specs.Worlds.{Worth}
 use Rattle.pv_eval.specs.States.{Setting, State, Res, Gives, then_do, tick}
 use Rattle.pv_world.specs.Worths.{int, is_true, pointer_of}
@@ -112,10 +112,10 @@ module _ (b : Setting) (n : ℕ) (sides : Option (List Bool)) {R : Relation} (w 
       ev-closed (Node t line turn (PointerDifference x y)) fs = w.ticks (operand-way (opened fs) (λ fs. w.less (ev-closed x fs)) (λ j v. operand-way j (λ fs. w.less (ev-closed y fs)) (λ j z. work-way line (Subtracts (element_size b (type_of x)) v z) j)))
       ev-closed (Node t line turn (PointerOrder o x y)) fs = w.ticks (operand-way (opened fs) (λ fs. w.less (ev-closed x fs)) (λ j v. operand-way j (λ fs. w.less (ev-closed y fs)) (λ j z. work-way line (Orders o v z) j)))
       ev-closed (Node t line turn (PointerEquality o x y)) fs = w.ticks (operand-way (opened fs) (λ fs. w.less (ev-closed x fs)) (λ j v. operand-way j (λ fs. w.less (ev-closed y fs)) (λ j z. w.seq (converted-way x v) (λ v. w.seq (converted-way y z) (λ z. work-way line (Equals (is_unequal o) v z) j)))))
-      ev-closed (Node t line turn (LogicalAnd x y)) fs = w.ticks (operand-way (opened fs) (λ fs. w.less (ev-closed x fs)) (λ j v. w.seq (w.acts line (Tests v)) (λ v. choice (is_true v) (later-way (settled j) (λ fs. w.less (ev-closed y fs)) (λ j z. work-way line (Tests z) j)) (done-way (settled j) v))))
-      ev-closed (Node t line turn (LogicalOr x y)) fs = w.ticks (operand-way (opened fs) (λ fs. w.less (ev-closed x fs)) (λ j v. w.seq (w.acts line (Tests v)) (λ v. choice (is_true v) (done-way (settled j) v) (later-way (settled j) (λ fs. w.less (ev-closed y fs)) (λ j z. work-way line (Tests z) j)))))
-      ev-closed (Node t line turn (Conditional x y z)) fs = w.ticks (operand-way (opened fs) (λ fs. w.less (ev-closed x fs)) (λ j v. w.seq (w.acts line (Tests v)) (λ v. choice (is_true v) (later-way (settled j) (λ fs. w.less (ev-closed y fs)) (λ j q. w.seq (converted-way y q) (done-way j))) (later-way (settled j) (λ fs. w.less (ev-closed z fs)) (λ j q. w.seq (converted-way z q) (done-way j))))))
-      ev-closed (Node t line turn (Comma x y)) fs = w.ticks (operand-way (opened fs) (λ fs. w.less (ev-closed x fs)) (λ j v. later-way (settled j) (λ fs. w.less (ev-closed y fs)) done-way))
+      ev-closed (Node t line turn (LogicalAnd x y)) fs = w.ticks (operand-way (opened fs) (λ fs. w.less (ev-closed x fs)) (λ j v. w.seq (w.acts line (Tests v)) (λ v. choice (is_true v) (later-way (sequence_point j) (λ fs. w.less (ev-closed y fs)) (λ j z. work-way line (Tests z) j)) (done-way (sequence_point j) v))))
+      ev-closed (Node t line turn (LogicalOr x y)) fs = w.ticks (operand-way (opened fs) (λ fs. w.less (ev-closed x fs)) (λ j v. w.seq (w.acts line (Tests v)) (λ v. choice (is_true v) (done-way (sequence_point j) v) (later-way (sequence_point j) (λ fs. w.less (ev-closed y fs)) (λ j z. work-way line (Tests z) j)))))
+      ev-closed (Node t line turn (Conditional x y z)) fs = w.ticks (operand-way (opened fs) (λ fs. w.less (ev-closed x fs)) (λ j v. w.seq (w.acts line (Tests v)) (λ v. choice (is_true v) (later-way (sequence_point j) (λ fs. w.less (ev-closed y fs)) (λ j q. w.seq (converted-way y q) (done-way j))) (later-way (sequence_point j) (λ fs. w.less (ev-closed z fs)) (λ j q. w.seq (converted-way z q) (done-way j))))))
+      ev-closed (Node t line turn (Comma x y)) fs = w.ticks (operand-way (opened fs) (λ fs. w.less (ev-closed x fs)) (λ j v. later-way (sequence_point j) (λ fs. w.less (ev-closed y fs)) done-way))
       ev-closed (Node t line turn (Assign x y)) fs = w.ticks (operand-way (opened fs) (λ fs. w.less (ev-closed x fs)) (λ j p. operand-way j (λ fs. w.less (ev-closed y fs)) (λ j v. w.seq (converted-way y v) (λ v. writing-way (lvalue b (type_of x)) line p v (source_of y v) j done-way))))
       ev-closed (Node t line turn (CompoundAssign o q x y)) fs = w.ticks (operand-way (opened fs) (λ fs. w.less (ev-closed x fs)) (λ j p. reading-way (lvalue b (type_of x)) line p j (λ j v. operand-way j (λ fs. w.less (ev-closed y fs)) (λ j z. w.seq (w.acts line (Converts (Rounds q) v)) (λ v. w.seq (converted-way y z) (λ z. w.seq (combining-way line o q (kind_of t) v z) (λ v. writing-way (lvalue b (type_of x)) line p v None j done-way)))))))
       ev-closed (Node t line turn (PointerAssign g x y)) fs = w.ticks (operand-way (opened fs) (λ fs. w.less (ev-closed x fs)) (λ j p. reading-way (lvalue b (type_of x)) line p j (λ j v. operand-way j (λ fs. w.less (ev-closed y fs)) (λ j z. w.seq (w.acts line (Moves (is_minus g) true (element_size b t) v z)) (λ v. writing-way (lvalue b (type_of x)) line p v None j done-way)))))
@@ -125,13 +125,13 @@ module _ (b : Setting) (n : ℕ) (sides : Option (List Bool)) {R : Relation} (w 
       ev-closed (Node t line turn (LibraryCall f xs)) fs = w.ticks (ask-closed line f [] xs (opened fs))
 
       call-closed : (line f : ℕ) (got : List Worth) (xs : Arguments) (j : Open) → R k k Given (ev_call b call line f got xs j) (ev_call c call' line f got xs j)
-      call-closed line f got NoArguments j = w.seq (h f got line) (done-way (settled j))
+      call-closed line f got NoArguments j = w.seq (h f got line) (done-way (sequence_point j))
       call-closed line f got (MoreArguments x xs) j = operand-way j (λ fs. w.less (ev-closed x fs)) (λ j v. w.seq (handed-way x v) (λ v. call-closed line f (got ++ v ∷ []) xs j))
 
       through-closed : (line : ℕ) (t : Ty) (p : Worth) (got : List Worth) (xs : Arguments) (j : Open) → R k k Given (ev_through b call line t p got xs j) (ev_through c call' line t p got xs j)
-      through-closed line t p got NoArguments j = w.seq (w.acts line (Finds t p)) (λ f. w.seq (h (function_in f) got line) (done-way (settled j)))
+      through-closed line t p got NoArguments j = w.seq (w.acts line (Finds t p)) (λ f. w.seq (h (function_in f) got line) (done-way (sequence_point j)))
       through-closed line t p got (MoreArguments x xs) j = operand-way j (λ fs. w.less (ev-closed x fs)) (λ j v. w.seq (handed-way x v) (λ v. through-closed line t p (got ++ v ∷ []) xs j))
 
       ask-closed : (line : ℕ) (f : Library) (got : List Arg) (xs : Arguments) (j : Open) → R k k Given (ev_ask b call line f got xs j) (ev_ask c call' line f got xs j)
-      ask-closed line f got NoArguments j = work-way line (Asks f got) (settled j)
+      ask-closed line f got NoArguments j = work-way line (Asks f got) (sequence_point j)
       ask-closed line f got (MoreArguments x xs) j = operand-way j (λ fs. w.less (ev-closed x fs)) (λ j v. w.seq (handed-way x v) (λ v. ask-closed line f (got ++ argument x v ∷ []) xs j))

@@ -9,7 +9,7 @@ use Rattle.pv_typed.specs.TypedTree.{TypedTree, Form, Arguments, NoArguments, Mo
 use Rattle.pv_typed.specs.Nodes.{Tree, arguments_in}
 use Rattle.pv_typed.specs.Tables.{Stored, nodes}
 use Rattle.pv_typed.specs.NodeTrees.{expression_at, list_at}
-use Rattle.pv_seq.specs.Sequencing.{Open, settled}
+use Rattle.pv_seq.specs.Sequencing.{Open, sequence_point}
 use Rattle.pv_seq.specs.Rivals.{top}
 use Rattle.pv_world.specs.Worlds.{Worth, Nothing}
 use Rattle.pv_world.specs.declared.got.Got.{Got}
@@ -128,7 +128,7 @@ passed-removed (g ∷ gs) rest h e = ap (map worth_of) (sym e)
 -- which function is called, once all arguments are there
 module _ (b : Setting) (call : Calling) (u : Stored) (line line' : ℕ) (t t' : Ty) (p p' : Worth) (args args' : List Worth) (j : Open) (s : State) (el : line' ≡ line) (et : t' ≡ t) (ep : p ≡ p') (ea : args ≡ args') where
   asks : List Worth → ℕ → Worth → State → Res Given
-  asks vs k f s = then_do (call (function_in f) vs k s) (done (settled j))
+  asks vs k f s = then_do (call (function_in f) vs k s) (done (sequence_point j))
 
   asked-function : ev_through b call line t p args NoArguments j s ≡ then_do (act b line' (Finds t' p') s) (asks args' line')
   unfolding ev asks
@@ -138,7 +138,7 @@ module _ (b : Setting) (call : Calling) (u : Stored) (line line' : ℕ) (t t' : 
       ∙ ap (λ x. then_do (act b line' (Finds t' x) s) (asks args line')) ep
       ∙ ap (λ vs. then_do (act b line' (Finds t' p') s) (asks vs line')) ea
 
-  pub pointed-asked : (f : ℕ) (s' : State) → act b line' (Finds t' p') s ≡ Gives (by_number f) s' → ev_through b call line t p args NoArguments j s ≡ then_do (call f args' line' s') (done (settled j))
+  pub pointed-asked : (f : ℕ) (s' : State) → act b line' (Finds t' p') s ≡ Gives (by_number f) s' → ev_through b call line t p args NoArguments j s ≡ then_do (call f args' line' s') (done (sequence_point j))
   unfolding asks
   pointed-asked f s' h = asked-function ∙ ap (λ (r : Res Worth). then_do r (asks args' line')) h
 

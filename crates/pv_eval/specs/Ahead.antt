@@ -7,7 +7,7 @@ use Rattle.pv_typed.specs.NodeTrees.{expression_at, IsExpression}
 use Rattle.pv_typed.specs.declared.nodes.Typed.{Typed}
 use Rattle.pv_typed.specs.declared.nodes.Typed.TheVariants as typed
 use Rattle.pv_world.specs.declared.got.Got.{Got}
-use Rattle.pv_seq.specs.Sequencing.{Open, opened, settled}
+use Rattle.pv_seq.specs.Sequencing.{Open, opened, sequence_point}
 use Rattle.pv_seq.specs.Rivals.{top, below}
 use Rattle.pv_eval.specs.States.{Setting, State, Stopped, Res, Stops, then_do}
 use Rattle.pv_eval.specs.Sequenced.{Given, done, operand, later}
@@ -42,13 +42,13 @@ abbrev pub means : Setting → Calling → Stored → Move → Open → State �
 means b call u (move.Give v) j s = done j (worth_of v) s
 means b call u (move.Operand n f) j s = operand (ev b call (expression_at u n)) j s (frame_after b call u f)
 means b call u (move.Later n f) j s = later (ev b call (expression_at u n)) j s (frame_after b call u f)
-means b call u (move.Ask f args line) j s = then_do (call f (map worth_of args.items) line s) (done (settled j))
+means b call u (move.Ask f args line) j s = then_do (call f (map worth_of args.items) line s) (done (sequence_point j))
 
 -- 6.5p1: what is left of the innermost node
 abbrev pub now_does : Setting → Calling → Stored → Now → Open → State → Res Given
 now_does b call u (now.Due n) j s = ev b call (expression_at u n) j.foes s
 now_does b call u (now.Value v) j s = done j (worth_of v) s
-now_does b call u (now.Asked f args line) j s = then_do (call f (map worth_of args.items) line s) (done (settled j))
+now_does b call u (now.Asked f args line) j s = then_do (call f (map worth_of args.items) line s) (done (sequence_point j))
 
 -- 6.5p1: what is left of the expression: the innermost node, and then those that wait for its value
 abbrev pub ahead : Setting → Calling → Stored → List Frame → List Open → Now → State → Res Given

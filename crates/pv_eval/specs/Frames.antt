@@ -5,7 +5,7 @@ use Rattle.pv_types.specs.Ty.{Ty, VoidTy}
 use Rattle.pv_typed.specs.TypedTree.{TypedTree, Node, Form, Constant, Subscript, Call, CallPointer, LibraryCall, Member, MemberOfValue, Arrow, Increment, Indirection, Unary, Not, Cast, Arithmetic, PointerSum, PointerDifference, PointerOrder, PointerEquality, LogicalAnd, LogicalOr, Conditional, Assign, CompoundAssign, PointerAssign, Comma, Read, Arguments, NoArguments, MoreArguments, type_of, line_of, form_of}
 use Rattle.pv_typed.specs.Tables.{Stored}
 use Rattle.pv_typed.specs.NodeTrees.{expression_at}
-use Rattle.pv_seq.specs.Sequencing.{Open, settled}
+use Rattle.pv_seq.specs.Sequencing.{Open, sequence_point}
 use Rattle.pv_world.specs.Worlds.{Worth, Nothing}
 use Rattle.pv_eval.specs.States.{Setting, State, Res, then_do}
 use Rattle.pv_world.specs.Worths.{is_true}
@@ -70,14 +70,14 @@ first_after b call t line (PointerEquality o x y) j v s = operand (ev b call y) 
 first_after b call t line (Assign x y) j v s = operand (ev b call y) j s (second_after b call t line (Assign x y) v)
 first_after b call t line (CallPointer x xs) j v s = ev_through b call line (pointed_to (type_of x)) v [] xs j s
 first_after b call t line (LogicalAnd x y) j v s =
-    doing b line (Tests v) s (λ v s. if is_true v then later (ev b call y) (settled j) s (later_after b call t line (LogicalAnd x y) true) else done (settled j) v s)
+    doing b line (Tests v) s (λ v s. if is_true v then later (ev b call y) (sequence_point j) s (later_after b call t line (LogicalAnd x y) true) else done (sequence_point j) v s)
 first_after b call t line (LogicalOr x y) j v s =
-    doing b line (Tests v) s (λ v s. if is_true v then done (settled j) v s else later (ev b call y) (settled j) s (later_after b call t line (LogicalOr x y) true))
+    doing b line (Tests v) s (λ v s. if is_true v then done (sequence_point j) v s else later (ev b call y) (sequence_point j) s (later_after b call t line (LogicalOr x y) true))
 first_after b call t line (Conditional x y z) j v s =
     doing b line (Tests v) s (λ v s. if is_true v
-    then later (ev b call y) (settled j) s (later_after b call t line (Conditional x y z) true)
-    else later (ev b call z) (settled j) s (later_after b call t line (Conditional x y z) false))
-first_after b call t line (Comma x y) j v s = later (ev b call y) (settled j) s (later_after b call t line (Comma x y) true)
+    then later (ev b call y) (sequence_point j) s (later_after b call t line (Conditional x y z) true)
+    else later (ev b call z) (sequence_point j) s (later_after b call t line (Conditional x y z) false))
+first_after b call t line (Comma x y) j v s = later (ev b call y) (sequence_point j) s (later_after b call t line (Comma x y) true)
 first_after b call t line (CompoundAssign o k x y) j p s = reading b (lvalue b (type_of x)) line p j s (λ j v s. operand (ev b call y) j s (both_after b call t line (CompoundAssign o k x y) p v))
 first_after b call t line (PointerAssign sign x y) j p s = reading b (lvalue b (type_of x)) line p j s (λ j v s. operand (ev b call y) j s (both_after b call t line (PointerAssign sign x y) p v))
 first_after b call t line (Increment o x) j p s =

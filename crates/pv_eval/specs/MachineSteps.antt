@@ -4,7 +4,7 @@ use Rattle.pv_tree.specs.declared.nodes.NodeId.{NodeId}
 use Rattle.pv_typed.specs.Known.{Each}
 use Rattle.pv_typed.specs.Tables.{Stored}
 use Rattle.pv_typed.specs.NodeTrees.{IsExpression}
-use Rattle.pv_seq.specs.Sequencing.{opened, settled}
+use Rattle.pv_seq.specs.Sequencing.{opened, sequence_point}
 use Rattle.pv_seq.specs.Rivals.{top, below}
 use Rattle.pv_world.specs.Worlds.{Worth}
 use Rattle.pv_world.specs.Coming.{wrong_for}
@@ -34,7 +34,7 @@ IsTaken (e ∷ es) (f ∷ fs) = (e.frames ≡ f.frames) × (e.opens ≡ f.opens)
 
 -- 6.5.2.2p5, p10: a call was answered: it has this value, and what its arguments wrote is complete
 abbrev pub IsAnswered : Worth → List Started → List Started → Type 0
-IsAnswered v (e ∷ es) (f ∷ fs) = (e.frames ≡ f.frames) × (e.opens ≡ settled (top f.opens) ∷ below f.opens) × (value_at e.place ≡ v) × (is_value e.place ≡ true) × (es ≡ fs)
+IsAnswered v (e ∷ es) (f ∷ fs) = (e.frames ≡ f.frames) × (e.opens ≡ sequence_point (top f.opens) ∷ below f.opens) × (value_at e.place ≡ v) × (is_value e.place ≡ true) × (es ≡ fs)
 IsAnswered v _ old = ⊥
 
 -- the nodes that are named are expressions of the unit (6.5), and each that waits has its accesses (6.5p2)

@@ -4,7 +4,7 @@ use Rattle.std.specs.declared.option.Option.{Option}
 use Rattle.pv_script.specs.Lines.{ScriptLine}
 use Rattle.pv_tree.specs.declared.nodes.NodeId.{NodeId}
 use Rattle.pv_typed.specs.Tables.{Stored}
-use Rattle.pv_seq.specs.Sequencing.{Open, settled}
+use Rattle.pv_seq.specs.Sequencing.{Open, sequence_point}
 use Rattle.pv_seq.specs.Rivals.{top, below}
 use Rattle.pv_world.specs.Worlds.{Worth, Nothing}
 use Rattle.pv_world.specs.Coming.{worth_of}
@@ -43,7 +43,7 @@ left_of b call u (e ∷ es) s = ahead b call u e.frames e.opens e.place s
 -- 6.5.2.2: what is left of it once a call has given its value
 abbrev pub answered_of : Setting → Calling → Stored → List Started → Worth → State → Res Given
 answered_of b call u [] v s = Stops Unreached s
-answered_of b call u (e ∷ es) v s = then_do (done (settled (top e.opens)) v s) (rest (after b call u) (stack e.frames (below e.opens)))
+answered_of b call u (e ∷ es) v s = then_do (done (sequence_point (top e.opens)) v s) (rest (after b call u) (stack e.frames (below e.opens)))
 
 -- 6.5p1: the value of an expression that has ended
 abbrev pub value_at : Now → Worth

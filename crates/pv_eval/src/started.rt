@@ -1,7 +1,7 @@
 // Expressions that were started.
 ghost use Rattle.std.specs.Prelude.{◌≡◌, ◌+◌, ◌<◌, ◌≤◌, ◌^◌, ◌∷◌, [], List, length, map, true, false, IfOk, OnOk};
 ghost use Rattle.pv_typed.specs.Tables.{Stored};
-ghost use Rattle.pv_seq.specs.Sequencing.{opened, settled};
+ghost use Rattle.pv_seq.specs.Sequencing.{opened, sequence_point};
 ghost use Rattle.pv_seq.specs.Rivals.{top, below};
 ghost use Rattle.pv_world.specs.Coming.{worth_of};
 ghost use Rattle.pv_eval.specs.Runnable.{IsRunnable};
@@ -240,7 +240,7 @@ impl Started {
     pub(crate) fn answer(&mut self, v: Got)
         requires { Matched self.old.frames self.old.opens }
         ensures frames { self.new.frames ≡ self.old.frames }
-        ensures opens { self.new.opens ≡ settled (top self.old.opens) ∷ below self.old.opens }
+        ensures opens { self.new.opens ≡ sequence_point (top self.old.opens) ∷ below self.old.opens }
         ensures value { value_at self.new.place ≡ worth_of v }
         ensures ended { is_value self.new.place ≡ true }
         ensures fits { (u : Stored) → StartedFits u self.old → StartedFits u self.new }

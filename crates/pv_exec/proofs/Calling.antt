@@ -10,7 +10,7 @@ use Rattle.pv_typed.specs.TypedUnits.{WholeUnit, function_at}
 use Rattle.pv_typed.specs.Tables.{Stored, whole}
 use Rattle.pv_typed.specs.NodeTrees.{statement_at}
 use Rattle.pv_world.specs.Worlds.{Worth, Nothing}
-use Rattle.pv_seq.specs.Sequencing.{Open, settled}
+use Rattle.pv_seq.specs.Sequencing.{Open, sequence_point}
 use Rattle.pv_seq.specs.Rivals.{top, below as opens_below}
 use Rattle.pv_eval.specs.declared.failure.Failure.{Failure}
 use Rattle.pv_eval.specs.declared.failure.Failure.TheVariants as failure
@@ -57,8 +57,8 @@ pub taken-same : (b : Setting) (call : Calling) (u : Stored) (new old : List Sta
 taken-same b call u [] old h = absurd h
 taken-same b call u (e ∷ es) [] h = absurd h
 taken-same b call u (e ∷ es) (f ∷ fs) h =
-    ap (λ (fr : List Frame). λ (v : Worth) (s : State). then_do (done (settled (top e.opens)) v s) (rest (after b call u) (stack fr (opens_below e.opens)))) h.0
-    ∙ ap (λ (op : List Open). λ (v : Worth) (s : State). then_do (done (settled (top op)) v s) (rest (after b call u) (stack f.frames (opens_below op)))) h.1
+    ap (λ (fr : List Frame). λ (v : Worth) (s : State). then_do (done (sequence_point (top e.opens)) v s) (rest (after b call u) (stack fr (opens_below e.opens)))) h.0
+    ∙ ap (λ (op : List Open). λ (v : Worth) (s : State). then_do (done (sequence_point (top op)) v s) (rest (after b call u) (stack f.frames (opens_below op)))) h.1
 
 pub taken-rest : (new old : List Started) → IsTaken new old → after_first new ≡ after_first old
 taken-rest [] old h = absurd h
@@ -116,7 +116,7 @@ pub answered-left : (b : Setting) (call : Calling) (u : Stored) (v : Worth) (new
 answered-left b call u v [] old s h = absurd h
 answered-left b call u v (e ∷ es) [] s h = absurd h
 answered-left b call u v (e ∷ es) (f ∷ fs) s h =
-    let j = settled (top f.opens) in
+    let j = sequence_point (top f.opens) in
     ap (λ (m : Res Given). then_do m (rest (after b call u) (stack f.frames (opens_below f.opens)))) (sym (value-now b call u e.place j v s h.3 h.2))
     ∙ ap (λ (fr : List Frame). then_do (now_does b call u e.place j s) (rest (after b call u) (stack fr (opens_below f.opens)))) (sym h.0)
     ∙ ap (λ (op : List Open). then_do (now_does b call u e.place (top op) s) (rest (after b call u) (stack e.frames (opens_below op)))) (sym h.1)

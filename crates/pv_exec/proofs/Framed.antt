@@ -8,7 +8,7 @@ use Rattle.pv_libc.specs.declared.values.Arg.{Arg}
 use Rattle.pv_typed.specs.TypedTree.{TypedTree, Form, Constant, Object, Function, String, Subscript, Call, CallPointer, LibraryCall, Member, MemberOfValue, Arrow, Increment, Address, Indirection, Unary, Not, Sizeof, Cast, Arithmetic, PointerSum, PointerDifference, PointerOrder, PointerEquality, LogicalAnd, LogicalOr, Conditional, Assign, CompoundAssign, PointerAssign, Comma, Read, ArrayPointer, Convert, Arguments, NoArguments, MoreArguments, type_of, line_of, form_of}
 use Rattle.pv_typed.specs.Tables.{Stored}
 use Rattle.pv_typed.specs.NodeTrees.{expression_at}
-use Rattle.pv_seq.specs.Sequencing.{Access, Open, settled}
+use Rattle.pv_seq.specs.Sequencing.{Access, Open, sequence_point}
 use Rattle.pv_seq.specs.Rivals.{top, below}
 use Rattle.pv_world.specs.Worlds.{Worth}
 use Rattle.pv_world.specs.Worths.{is_true}
@@ -50,17 +50,17 @@ module _ (b : Setting) (n : ℕ) (sides : Option (List Bool)) {R : Relation} (w 
   -- the arguments that are left, and the call
   call-closed : (line f : ℕ) (got : List Worth) (xs : Arguments) (j : Open) → R k k Given (ev_call b call line f got xs j) (ev_call c call' line f got xs j)
   unfolding ev
-  call-closed line f got NoArguments j = w.seq (h f got line) (done-way b n sides w (settled j))
+  call-closed line f got NoArguments j = w.seq (h f got line) (done-way b n sides w (sequence_point j))
   call-closed line f got (MoreArguments x xs) j = operand-way b n sides w j (within x) (λ j v. w.seq (handed-way b n sides w x v) (λ v. call-closed line f (got ++ v ∷ []) xs j))
 
   through-closed : (line : ℕ) (t : Ty) (p : Worth) (got : List Worth) (xs : Arguments) (j : Open) → R k k Given (ev_through b call line t p got xs j) (ev_through c call' line t p got xs j)
   unfolding ev
-  through-closed line t p got NoArguments j = w.seq (w.acts line (Finds t p)) (λ f. w.seq (h (function_in f) got line) (done-way b n sides w (settled j)))
+  through-closed line t p got NoArguments j = w.seq (w.acts line (Finds t p)) (λ f. w.seq (h (function_in f) got line) (done-way b n sides w (sequence_point j)))
   through-closed line t p got (MoreArguments x xs) j = operand-way b n sides w j (within x) (λ j v. w.seq (handed-way b n sides w x v) (λ v. through-closed line t p (got ++ v ∷ []) xs j))
 
   ask-closed : (line : ℕ) (f : Library) (got : List Arg) (xs : Arguments) (j : Open) → R k k Given (ev_ask b call line f got xs j) (ev_ask c call' line f got xs j)
   unfolding ev
-  ask-closed line f got NoArguments j = work-way b n sides w line (Asks f got) (settled j)
+  ask-closed line f got NoArguments j = work-way b n sides w line (Asks f got) (sequence_point j)
   ask-closed line f got (MoreArguments x xs) j = operand-way b n sides w j (within x) (λ j v. w.seq (handed-way b n sides w x v) (λ v. ask-closed line f (got ++ argument x v ∷ []) xs j))
 
   second-closed : (t : Ty) (line : ℕ) (x : Form) (v : Worth) (j : Open) (e : Worth) → R k k Given (second_after b call t line x v j e) (second_after c call' t line x v j e)
@@ -193,13 +193,13 @@ module _ (b : Setting) (n : ℕ) (sides : Option (List Bool)) {R : Relation} (w 
   first-closed t line (PointerDifference x y) j v = operand-way b n sides w j (within y) (λ j e. second-closed t line (PointerDifference x y) v j e)
   first-closed t line (PointerOrder o x y) j v = operand-way b n sides w j (within y) (λ j e. second-closed t line (PointerOrder o x y) v j e)
   first-closed t line (PointerEquality o x y) j v = operand-way b n sides w j (within y) (λ j e. second-closed t line (PointerEquality o x y) v j e)
-  first-closed t line (LogicalAnd x y) j v = w.seq (w.acts line (Tests v)) (λ v. choice b n sides w (is_true v) (later-way b n sides w (settled j) (within y) (λ j e. later-closed t line (LogicalAnd x y) true j e)) (done-way b n sides w (settled j) v))
-  first-closed t line (LogicalOr x y) j v = w.seq (w.acts line (Tests v)) (λ v. choice b n sides w (is_true v) (done-way b n sides w (settled j) v) (later-way b n sides w (settled j) (within y) (λ j e. later-closed t line (LogicalOr x y) true j e)))
-  first-closed t line (Conditional x y z) j v = w.seq (w.acts line (Tests v)) (λ v. choice b n sides w (is_true v) (later-way b n sides w (settled j) (within y) (λ j e. later-closed t line (Conditional x y z) true j e)) (later-way b n sides w (settled j) (within z) (λ j e. later-closed t line (Conditional x y z) false j e)))
+  first-closed t line (LogicalAnd x y) j v = w.seq (w.acts line (Tests v)) (λ v. choice b n sides w (is_true v) (later-way b n sides w (sequence_point j) (within y) (λ j e. later-closed t line (LogicalAnd x y) true j e)) (done-way b n sides w (sequence_point j) v))
+  first-closed t line (LogicalOr x y) j v = w.seq (w.acts line (Tests v)) (λ v. choice b n sides w (is_true v) (done-way b n sides w (sequence_point j) v) (later-way b n sides w (sequence_point j) (within y) (λ j e. later-closed t line (LogicalOr x y) true j e)))
+  first-closed t line (Conditional x y z) j v = w.seq (w.acts line (Tests v)) (λ v. choice b n sides w (is_true v) (later-way b n sides w (sequence_point j) (within y) (λ j e. later-closed t line (Conditional x y z) true j e)) (later-way b n sides w (sequence_point j) (within z) (λ j e. later-closed t line (Conditional x y z) false j e)))
   first-closed t line (Assign x y) j v = operand-way b n sides w j (within y) (λ j e. second-closed t line (Assign x y) v j e)
   first-closed t line (CompoundAssign o q x y) j v = reading-way b n sides w (lvalue b (type_of x)) line v j (λ j p. operand-way b n sides w j (within y) (λ j e. both-closed t line (CompoundAssign o q x y) v p j e))
   first-closed t line (PointerAssign g x y) j v = reading-way b n sides w (lvalue b (type_of x)) line v j (λ j p. operand-way b n sides w j (within y) (λ j e. both-closed t line (PointerAssign g x y) v p j e))
-  first-closed t line (Comma x y) j v = later-way b n sides w (settled j) (within y) (λ j e. later-closed t line (Comma x y) true j e)
+  first-closed t line (Comma x y) j v = later-way b n sides w (sequence_point j) (within y) (λ j e. later-closed t line (Comma x y) true j e)
   first-closed t line (Read x) j v = reading-way b n sides w (lvalue b (type_of x)) line v j (done-way b n sides w)
   first-closed t line (ArrayPointer x) j v = done-way b n sides w j v
   first-closed t line (Convert x) j v = done-way b n sides w j v
@@ -258,7 +258,7 @@ module _ (b : Setting) (n : ℕ) (sides : Option (List Bool)) {R : Relation} (w 
   now-closed : (u : Stored) (p : Now) (j : Open) → R k k Given (now_does b call u p j) (now_does c call' u p j)
   now-closed u (now.Due x) j = within (expression_at u x) j.foes
   now-closed u (now.Value v) j = done-way b n sides w j (worth_of v)
-  now-closed u (now.Asked f args line) j = w.seq (h f (map worth_of args.items) line) (done-way b n sides w (settled j))
+  now-closed u (now.Asked f args line) j = w.seq (h f (map worth_of args.items) line) (done-way b n sides w (sequence_point j))
 
   pub left-closed : ((A : Type 0) → R k k A (λ s. Stops Unreached s) (λ s. Stops Unreached s)) → (u : Stored) (es : List Started) → R k k Given (left_of b call u es) (left_of c call' u es)
   left-closed stop u [] = stop Given
@@ -266,4 +266,4 @@ module _ (b : Setting) (n : ℕ) (sides : Option (List Bool)) {R : Relation} (w 
 
   pub answered-closed : ((A : Type 0) → R k k A (λ s. Stops Unreached s) (λ s. Stops Unreached s)) → (u : Stored) (es : List Started) (v : Worth) → R k k Given (answered_of b call u es v) (answered_of c call' u es v)
   answered-closed stop u [] v = stop Given
-  answered-closed stop u (e ∷ es) v = w.seq (done-way b n sides w (settled (top e.opens)) v) (λ g. frames-closed u (stack e.frames (below e.opens)) g)
+  answered-closed stop u (e ∷ es) v = w.seq (done-way b n sides w (sequence_point (top e.opens)) v) (λ g. frames-closed u (stack e.frames (below e.opens)) g)

@@ -12,7 +12,7 @@ use Rattle.pv_guards.proofs.Numbers.{promoted_widens, promoted_is, one_fits}
 use Rattle.pv_types.specs.Ty.{Ty, Tys, NoTys, MoreTys, VoidTy, IntTy, PointerTo, ArrayOf, StructTag, UnionTag, FunctionTy, ConstOf}
 use Rattle.pv_layout.specs.Parts.{bare}
 use Rattle.pv_typed.specs.TypedTree.{TypedTree, Node, Form, Arguments, NoArguments, MoreArguments, line_of, Constant, Object, Function, String, Subscript, Call, CallPointer, LibraryCall, Member, MemberOfValue, Arrow, Increment, Address, Indirection, Unary, Not, Sizeof, Cast, Arithmetic, PointerSum, PointerDifference, PointerOrder, PointerEquality, LogicalAnd, LogicalOr, Conditional, Assign, CompoundAssign, PointerAssign, Comma, Read, ArrayPointer, Convert, type_of, is_void}
-use Rattle.pv_seq.specs.Sequencing.{Access, Open, opened, settled, beside, rivals, noted}
+use Rattle.pv_seq.specs.Sequencing.{Access, Open, opened, sequence_point, beside, rivals, noted}
 use Rattle.pv_world.specs.declared.got.How.TheVariants.{Rounds}
 use Rattle.pv_world.specs.Worlds.{Worth, Nothing, Missing, Scalar, Whole, World}
 use Rattle.pv_world.specs.Worths.{int, is_true, pointer_of, value_of}
@@ -426,7 +426,7 @@ module _ (b : Setting) (os : List ℕ)
           (subst (λ u. Promised b os m (op.Calculates o (kind_of u) v x) t) (sym h.3.1) (h.0, h.1, h.6, λ n g. g, h.7, order.keeps (IntTy h.0) v n p, s, h.8))))))
       form-typed t line (Comma a d) h fs w =
           operand-way w (given_type a) t (opened fs) (ev b call a) (plainly.ev b call' a) _ _ (λ fs. ev-typed a h.0 fs w) (λ j v z f q.
-          later-way z (given_type d) t (settled j) (ev b call d) (plainly.ev b call' d) done done (λ fs. ev-typed d h.2 fs z) (λ j x y g r.
+          later-way z (given_type d) t (sequence_point j) (ev b call d) (plainly.ev b call' d) done done (λ fs. ev-typed d h.2 fs z) (λ j x y g r.
           done-holds order y t j x (own-value d t h.3 y x r)))
       form-typed t line (Assign a d) h fs w =
           operand-way w (given_type a) t (opened fs) (ev b call a) (plainly.ev b call' a) _ _ (λ fs. ev-typed a h.0 fs w) (λ j p z f q.
@@ -496,21 +496,21 @@ module _ (b : Setting) (os : List ℕ)
           operand-way w (given_type a) t (opened fs) (ev b call a) (plainly.ev b call' a) _ _ (λ fs. ev-typed a h.0 fs w) (λ j v z f q.
           doing-way z line (op.Tests v) t t _ _ (given_type a, q, h.6) (λ v y g r.
           choice order (Gave order t) y (is_true v) _ _ _ _
-          (later-way y (given_type d) t (settled j) (ev b call d) (plainly.ev b call' d) _ _ (λ fs. ev-typed d h.2 fs y) (λ j x k i p. work-way k line (op.Tests x) t j (given_type d, p, h.6)))
-          (done-holds order y t (settled j) v r)))
+          (later-way y (given_type d) t (sequence_point j) (ev b call d) (plainly.ev b call' d) _ _ (λ fs. ev-typed d h.2 fs y) (λ j x k i p. work-way k line (op.Tests x) t j (given_type d, p, h.6)))
+          (done-holds order y t (sequence_point j) v r)))
       form-typed t line (LogicalOr a d) h fs w =
           operand-way w (given_type a) t (opened fs) (ev b call a) (plainly.ev b call' a) _ _ (λ fs. ev-typed a h.0 fs w) (λ j v z f q.
           doing-way z line (op.Tests v) t t _ _ (given_type a, q, h.6) (λ v y g r.
           choice order (Gave order t) y (is_true v) _ _ _ _
-          (done-holds order y t (settled j) v r)
-          (later-way y (given_type d) t (settled j) (ev b call d) (plainly.ev b call' d) _ _ (λ fs. ev-typed d h.2 fs y) (λ j x k i p. work-way k line (op.Tests x) t j (given_type d, p, h.6)))))
+          (done-holds order y t (sequence_point j) v r)
+          (later-way y (given_type d) t (sequence_point j) (ev b call d) (plainly.ev b call' d) _ _ (λ fs. ev-typed d h.2 fs y) (λ j x k i p. work-way k line (op.Tests x) t j (given_type d, p, h.6)))))
       form-typed t line (Conditional a d c) h fs w =
           operand-way w (given_type a) t (opened fs) (ev b call a) (plainly.ev b call' a) _ _ (λ fs. ev-typed a h.0 fs w) (λ j v z f q.
           doing-way z line (op.Tests v) (IntTy Int) t _ _ (given_type a, q, refl) (λ v y g r.
           choice order (Gave order t) y (is_true v) _ _ _ _
-          (later-way y (given_type d) t (settled j) (ev b call d) (plainly.ev b call' d) _ _ (λ fs. ev-typed d h.3 fs y) (λ j x k i p.
+          (later-way y (given_type d) t (sequence_point j) (ev b call d) (plainly.ev b call' d) _ _ (λ fs. ev-typed d h.3 fs y) (λ j x k i p.
           seq order (Is t) (Gave order t) k (converted b d x) (plain.converted b d x) (done j) (done j) (converted-way d t k x h.3 h.4 p) (λ x m n s. done-holds order m t j x s)))
-          (later-way y (given_type c) t (settled j) (ev b call c) (plainly.ev b call' c) _ _ (λ fs. ev-typed c h.5 fs y) (λ j x k i p.
+          (later-way y (given_type c) t (sequence_point j) (ev b call c) (plainly.ev b call' c) _ _ (λ fs. ev-typed c h.5 fs y) (λ j x k i p.
           seq order (Is t) (Gave order t) k (converted b c x) (plain.converted b c x) (done j) (done j) (converted-way c t k x h.5 h.6 p) (λ x m n s. done-holds order m t j x s)))))
       form-typed t line (CompoundAssign o k a d) h fs w =
           let valued : IsValueType t = subst IsValueType (sym h.6) tt in
@@ -542,8 +542,8 @@ module _ (b : Setting) (os : List ℕ)
       -- 6.5.2.2p10: the arguments that are left, and the call
       call-typed : (t : Ty) (line f : ℕ) (us : Tys) (got : List Worth) (xs : Arguments) → ArePassed b.unit os us false xs → (j : Open) (w : World) → ((z : World) → To w z → (rest : List Worth) → AreValues b z us rest → Holds order (Is t) z (call f (got ++ rest) line) (call' f (got ++ rest) line)) → Typed t w (ev_call b call line f got xs j) (plainly.ev_call b call' line f got xs j)
       call-typed t line f NoTys got NoArguments h j w k =
-          seq order (Is t) (Gave order t) w (call f got line) (call' f got line) (done (settled j)) (done (settled j))
-          (subst (λ vs. Holds order (Is t) w (call f vs line) (call' f vs line)) (append-nil got) (k w order.here [] tt)) (λ v z g q. done-holds order z t (settled j) v q)
+          seq order (Is t) (Gave order t) w (call f got line) (call' f got line) (done (sequence_point j)) (done (sequence_point j))
+          (subst (λ vs. Holds order (Is t) w (call f vs line) (call' f vs line)) (append-nil got) (k w order.here [] tt)) (λ v z g q. done-holds order z t (sequence_point j) v q)
       call-typed t line f (MoreTys u us) got NoArguments h j w k = absurd h
       call-typed t line f NoTys got (MoreArguments x xs) h j w k = absurd h
       call-typed t line f (MoreTys u us) got (MoreArguments x xs) h j w k =
@@ -558,8 +558,8 @@ module _ (b : Setting) (os : List ℕ)
           → Typed t w (ev_through b call line r p got xs j) (plainly.ev_through b call' line r p got xs j)
       through-typed t line r p NoTys got NoArguments h j w v k =
           seq order (λ f z. MayBeCalled b r f z) (Gave order t) w (act b line (op.Finds r p)) (act_plainly b line (op.Finds r p)) _ _ (acting.finds-way b os line r r p w v) (λ f z g q.
-          seq order (Is t) (Gave order t) z (call (function_in f) got line) (call' (function_in f) got line) (done (settled j)) (done (settled j))
-          (subst (λ vs. Holds order (Is t) z (call (function_in f) vs line) (call' (function_in f) vs line)) (append-nil got) (k z g [] tt f q)) (λ x y i m. done-holds order y t (settled j) x m))
+          seq order (Is t) (Gave order t) z (call (function_in f) got line) (call' (function_in f) got line) (done (sequence_point j)) (done (sequence_point j))
+          (subst (λ vs. Holds order (Is t) z (call (function_in f) vs line) (call' (function_in f) vs line)) (append-nil got) (k z g [] tt f q)) (λ x y i m. done-holds order y t (sequence_point j) x m))
       through-typed t line r p (MoreTys u us) got NoArguments h j w v k = absurd h
       through-typed t line r p NoTys got (MoreArguments x xs) h j w v k = absurd h
       through-typed t line r p (MoreTys u us) got (MoreArguments x xs) h j w v k =
@@ -570,7 +570,7 @@ module _ (b : Setting) (os : List ℕ)
 
       -- 7.1.4p1: the same of a function of the library
       ask-typed : (t : Ty) (line : ℕ) (f : Library) (us : Tys) (variadic : Bool) (got : List Arg) (xs : Arguments) → IsResultOf f t → ArePassed b.unit os us variadic xs → (j : Open) (w : World) → Each (λ (x : Arg). IsArgument w.memory.table x.value) got → Typed t w (ev_ask b call line f got xs j) (plainly.ev_ask b call' line f got xs j)
-      ask-typed t line f NoTys variadic got NoArguments r h j w k = work-way w line (op.Asks f got) t (settled j) (r, k)
+      ask-typed t line f NoTys variadic got NoArguments r h j w k = work-way w line (op.Asks f got) t (sequence_point j) (r, k)
       ask-typed t line f (MoreTys u us) variadic got NoArguments r h j w k = absurd h
       ask-typed t line f NoTys false got (MoreArguments x xs) r h j w k = absurd h
       ask-typed t line f NoTys true got (MoreArguments x xs) r h j w k =

@@ -4,7 +4,7 @@ use Rattle.pv_script.specs.declared.library.Library.{Library}
 use Rattle.pv_libc.specs.declared.values.Arg.{Arg}
 use Rattle.pv_types.specs.Ty.{Ty}
 use Rattle.pv_typed.specs.TypedTree.{TypedTree, Node, Form, Constant, Object, Function, String, Subscript, Call, CallPointer, LibraryCall, Member, MemberOfValue, Arrow, Increment, Address, Indirection, Unary, Not, Sizeof, Cast, Arithmetic, PointerSum, PointerDifference, PointerOrder, PointerEquality, LogicalAnd, LogicalOr, Conditional, Assign, CompoundAssign, PointerAssign, Comma, Read, ArrayPointer, Convert, Arguments, NoArguments, MoreArguments, type_of}
-use Rattle.pv_seq.specs.Sequencing.{Access, Open, opened, settled}
+use Rattle.pv_seq.specs.Sequencing.{Access, Open, opened, sequence_point}
 use Rattle.pv_world.specs.Worlds.{Worth}
 use Rattle.pv_eval.specs.States.{Setting, State, Res, then_do}
 use Rattle.pv_world.specs.Worths.{int, is_true}
@@ -70,17 +70,17 @@ abbrev mutual
   -- 6.5.13p4, 6.5.14p4, 6.5.15p4, 6.5.17p2: a sequence point after the first operand
   ev_form b call t line (LogicalAnd x y) fs s =
       operand (ev b call x) (opened fs) s (λ j v s. doing b line (Tests v) s (λ v s.
-      if is_true v then later (ev b call y) (settled j) s (λ j w s. work b line (Tests w) j s) else done (settled j) v s))
+      if is_true v then later (ev b call y) (sequence_point j) s (λ j w s. work b line (Tests w) j s) else done (sequence_point j) v s))
   ev_form b call t line (LogicalOr x y) fs s =
       operand (ev b call x) (opened fs) s (λ j v s. doing b line (Tests v) s (λ v s.
-      if is_true v then done (settled j) v s else later (ev b call y) (settled j) s (λ j w s. work b line (Tests w) j s)))
+      if is_true v then done (sequence_point j) v s else later (ev b call y) (sequence_point j) s (λ j w s. work b line (Tests w) j s)))
   ev_form b call t line (Conditional x y z) fs s =
       operand (ev b call x) (opened fs) s (λ j v s. doing b line (Tests v) s (λ v s.
       if is_true v
-      then later (ev b call y) (settled j) s (λ j w s. then_do (converted b y w s) (done j))
-      else later (ev b call z) (settled j) s (λ j w s. then_do (converted b z w s) (done j))))
+      then later (ev b call y) (sequence_point j) s (λ j w s. then_do (converted b y w s) (done j))
+      else later (ev b call z) (sequence_point j) s (λ j w s. then_do (converted b z w s) (done j))))
   ev_form b call t line (Comma x y) fs s =
-      operand (ev b call x) (opened fs) s (λ j v s. later (ev b call y) (settled j) s done)
+      operand (ev b call x) (opened fs) s (λ j v s. later (ev b call y) (sequence_point j) s done)
   -- 6.5.16p3, 6.5.16.1, 6.5.16.2p3
   ev_form b call t line (Assign x y) fs s =
       operand (ev b call x) (opened fs) s (λ j p s. operand (ev b call y) j s (λ j v s.
@@ -105,19 +105,19 @@ abbrev mutual
 
   -- 6.5.2.2p10: the arguments that are left, each converted once it is evaluated, and after a sequence point the call
   pub ev_call : Setting → Calling → ℕ → ℕ → List Worth → Arguments → Open → State → Res Given
-  ev_call b call line f got NoArguments j s = then_do (call f got line s) (done (settled j))
+  ev_call b call line f got NoArguments j s = then_do (call f got line s) (done (sequence_point j))
   ev_call b call line f got (MoreArguments x xs) j s =
       operand (ev b call x) j s (λ j v s. then_do (handed b x v s) (λ v s. ev_call b call line f (got ++ v ∷ []) xs j s))
 
   -- 6.5.2.2p1, p10: the same of a call by a value: behind the arguments it is asked which function the value points to
   pub ev_through : Setting → Calling → ℕ → Ty → Worth → List Worth → Arguments → Open → State → Res Given
   ev_through b call line t p got NoArguments j s =
-      then_do (act_plainly b line (Finds t p) s) (λ f s. then_do (call (function_in f) got line s) (done (settled j)))
+      then_do (act_plainly b line (Finds t p) s) (λ f s. then_do (call (function_in f) got line s) (done (sequence_point j)))
   ev_through b call line t p got (MoreArguments x xs) j s =
       operand (ev b call x) j s (λ j v s. then_do (handed b x v s) (λ v s. ev_through b call line t p (got ++ v ∷ []) xs j s))
 
   -- 6.5.2.2p10, 7.1.4p1: the same of a function of the library
   pub ev_ask : Setting → Calling → ℕ → Library → List Arg → Arguments → Open → State → Res Given
-  ev_ask b call line f got NoArguments j s = work b line (Asks f got) (settled j) s
+  ev_ask b call line f got NoArguments j s = work b line (Asks f got) (sequence_point j) s
   ev_ask b call line f got (MoreArguments x xs) j s =
       operand (ev b call x) j s (λ j v s. then_do (handed b x v s) (λ v s. ev_ask b call line f (got ++ argument x v ∷ []) xs j s))

@@ -11,7 +11,7 @@ use Rattle.pv_script.specs.declared.library.Library.{Library}
 use Rattle.pv_libc.specs.declared.values.Arg.{Arg}
 use Rattle.pv_typed.specs.declared.nodes.IncrementOperator.{IncrementOperator}
 use Rattle.pv_typed.specs.TypedTree.{TypedTree, Node, Constant, Object, Function, String, Subscript, Call, CallPointer, LibraryCall, Member, MemberOfValue, Arrow, Increment, Address, Indirection, Unary, Not, Sizeof, Cast, Arithmetic, PointerSum, PointerDifference, PointerOrder, PointerEquality, LogicalAnd, LogicalOr, Conditional, Assign, CompoundAssign, PointerAssign, Comma, Read, ArrayPointer, Convert, Arguments, NoArguments, MoreArguments, type_of, line_of}
-use Rattle.pv_seq.specs.Sequencing.{Access, Open, opened, beside, noted, settled, rivals}
+use Rattle.pv_seq.specs.Sequencing.{Access, Open, opened, beside, noted, sequence_point, rivals}
 use Rattle.pv_object.specs.declared.values.Pointer.{Pointer}
 use Rattle.pv_world.specs.Worlds.{Worth}
 use Rattle.pv_world.specs.Worths.{int, is_true, pointer_of}
@@ -136,10 +136,10 @@ module _ {b : Setting} {m' : Known} (acts : ActsAlike b m') where
       ev-alike (Node t line turn (PointerDifference x y)) p fs = ticks (operand-alike (opened fs) (ev-alike x p.1.0) (λ j v v' e. operand-alike j (ev-alike y p.1.1) (λ j z z' i. work-alike line (Subtracts (element_size b (type_of x)) v z) (Subtracts (element_size b (type_of x)) v' z') (acts.subtracts (element_size b (type_of x)) v v' z z' e i) j)))
       ev-alike (Node t line turn (PointerOrder o x y)) p fs = ticks (operand-alike (opened fs) (ev-alike x p.1.0) (λ j v v' e. operand-alike j (ev-alike y p.1.1) (λ j z z' i. work-alike line (Orders o v z) (Orders o v' z') (acts.orders o v v' z z' e i) j)))
       ev-alike (Node t line turn (PointerEquality o x y)) p fs = ticks (operand-alike (opened fs) (ev-alike x p.1.0) (λ j v v' e. operand-alike j (ev-alike y p.1.1) (λ j z z' i. seq (converted-alike x v v' e) (λ v v' e. seq (converted-alike y z z' i) (λ z z' i. work-alike line (Equals (is_unequal o) v z) (Equals (is_unequal o) v' z') (acts.equals (is_unequal o) v v' z z' e i) j)))))
-      ev-alike (Node t line turn (LogicalAnd x y)) p fs = ticks (operand-alike (opened fs) (ev-alike x p.1.0) (λ j v v' e. seq (did (Tests v) (Tests v') line (acts.tests v v' e)) (λ v v' e. choice (is_true v) (is_true v') (true-same b.types m' v v' e) (later-alike (settled j) (ev-alike y p.1.1) (λ j z z' i. work-alike line (Tests z) (Tests z') (acts.tests z z' i) j)) (done-alike (settled j) v v' e))))
-      ev-alike (Node t line turn (LogicalOr x y)) p fs = ticks (operand-alike (opened fs) (ev-alike x p.1.0) (λ j v v' e. seq (did (Tests v) (Tests v') line (acts.tests v v' e)) (λ v v' e. choice (is_true v) (is_true v') (true-same b.types m' v v' e) (done-alike (settled j) v v' e) (later-alike (settled j) (ev-alike y p.1.1) (λ j z z' i. work-alike line (Tests z) (Tests z') (acts.tests z z' i) j)))))
-      ev-alike (Node t line turn (Conditional x y z)) p fs = ticks (operand-alike (opened fs) (ev-alike x p.1.0) (λ j v v' e. seq (did (Tests v) (Tests v') line (acts.tests v v' e)) (λ v v' e. choice (is_true v) (is_true v') (true-same b.types m' v v' e) (later-alike (settled j) (ev-alike y p.1.1) (λ j q q' i. seq (converted-alike y q q' i) (done-alike j))) (later-alike (settled j) (ev-alike z p.1.2) (λ j q q' i. seq (converted-alike z q q' i) (done-alike j))))))
-      ev-alike (Node t line turn (Comma x y)) p fs = ticks (operand-alike (opened fs) (ev-alike x p.1.0) (λ j v v' e. later-alike (settled j) (ev-alike y p.1.1) done-alike))
+      ev-alike (Node t line turn (LogicalAnd x y)) p fs = ticks (operand-alike (opened fs) (ev-alike x p.1.0) (λ j v v' e. seq (did (Tests v) (Tests v') line (acts.tests v v' e)) (λ v v' e. choice (is_true v) (is_true v') (true-same b.types m' v v' e) (later-alike (sequence_point j) (ev-alike y p.1.1) (λ j z z' i. work-alike line (Tests z) (Tests z') (acts.tests z z' i) j)) (done-alike (sequence_point j) v v' e))))
+      ev-alike (Node t line turn (LogicalOr x y)) p fs = ticks (operand-alike (opened fs) (ev-alike x p.1.0) (λ j v v' e. seq (did (Tests v) (Tests v') line (acts.tests v v' e)) (λ v v' e. choice (is_true v) (is_true v') (true-same b.types m' v v' e) (done-alike (sequence_point j) v v' e) (later-alike (sequence_point j) (ev-alike y p.1.1) (λ j z z' i. work-alike line (Tests z) (Tests z') (acts.tests z z' i) j)))))
+      ev-alike (Node t line turn (Conditional x y z)) p fs = ticks (operand-alike (opened fs) (ev-alike x p.1.0) (λ j v v' e. seq (did (Tests v) (Tests v') line (acts.tests v v' e)) (λ v v' e. choice (is_true v) (is_true v') (true-same b.types m' v v' e) (later-alike (sequence_point j) (ev-alike y p.1.1) (λ j q q' i. seq (converted-alike y q q' i) (done-alike j))) (later-alike (sequence_point j) (ev-alike z p.1.2) (λ j q q' i. seq (converted-alike z q q' i) (done-alike j))))))
+      ev-alike (Node t line turn (Comma x y)) p fs = ticks (operand-alike (opened fs) (ev-alike x p.1.0) (λ j v v' e. later-alike (sequence_point j) (ev-alike y p.1.1) done-alike))
       ev-alike (Node t line turn (Assign x y)) p fs = ticks (operand-alike (opened fs) (ev-alike x p.1.0) (λ j q q' e. operand-alike j (ev-alike y p.1.1) (λ j v v' i. seq (converted-alike y v v' i) (λ v v' i. assigning-alike (type_of x) (own (AlikeType b m') x p.1.0) line y q q' v v' e i j))))
       ev-alike (Node t line turn (CompoundAssign o k x y)) p fs = ticks (operand-alike (opened fs) (ev-alike x p.1.0) (λ j q q' e. reading-alike (type_of x) (own (AlikeType b m') x p.1.0) line q q' e j (λ j v v' i. operand-alike j (ev-alike y p.1.1) (λ j z z' a. seq (did (Converts (Rounds k) v) (Converts (Rounds k) v') line (acts.converts (Rounds k) v v' i)) (λ v v' i. seq (converted-alike y z z' a) (λ z z' a. seq (combining-alike line o k (kind_of t) v v' z z' i a) (λ v v' i. writing-alike (type_of x) (own (AlikeType b m') x p.1.0) line q q' v v' None e i j done-alike)))))))
       ev-alike (Node t line turn (PointerAssign g x y)) p fs = ticks (operand-alike (opened fs) (ev-alike x p.1.0) (λ j q q' e. reading-alike (type_of x) (own (AlikeType b m') x p.1.0) line q q' e j (λ j v v' i. operand-alike j (ev-alike y p.1.1) (λ j z z' a. seq (did (Moves (is_minus g) true (element_size b t) v z) (Moves (is_minus g) true (element_size b t) v' z') line (acts.moves (is_minus g) true (element_size b t) v v' z z' i a)) (λ v v' i. writing-alike (type_of x) (own (AlikeType b m') x p.1.0) line q q' v v' None e i j done-alike)))))
@@ -149,16 +149,16 @@ module _ {b : Setting} {m' : Known} (acts : ActsAlike b m') where
       ev-alike (Node t line turn (LibraryCall f xs)) p fs = ticks (ask-alike line f [] xs p.1 (opened fs))
 
       call-alike : (line f : ℕ) (got got' : List Worth) → AlikeWorths b.types m' got got' → (xs : Arguments) → AllArguments (AlikeType b m') xs → (j : Open) → Pieces b m' GivenAlike (ev_call b call line f got xs j) (ev_call c call' line f got' xs j)
-      call-alike line f got got' e NoArguments p j = seq (h f got got' e line) (done-alike (settled j))
+      call-alike line f got got' e NoArguments p j = seq (h f got got' e line) (done-alike (sequence_point j))
       call-alike line f got got' e (MoreArguments x xs) p j = operand-alike j (ev-alike x p.0) (λ j v v' i. seq (handed-alike x v v' i) (λ v v' i. call-alike line f (got ++ v ∷ []) (got' ++ v' ∷ []) (more-worths b.types m' got got' v v' e i) xs p.1 j))
 
       through-alike : (line : ℕ) (t : Ty) (p p' : Worth) → Same p p' → (got got' : List Worth) → AlikeWorths b.types m' got got' → (xs : Arguments) → AllArguments (AlikeType b m') xs → (j : Open)
           → Pieces b m' GivenAlike (ev_through b call line t p got xs j) (ev_through c call' line t p' got' xs j)
       through-alike line t p p' k got got' e NoArguments q j =
-          seq (did (Finds t p) (Finds t p') line (acts.finds t p p' k)) (λ f f' i. seq (called-alike f f' i got got' e line) (done-alike (settled j)))
+          seq (did (Finds t p) (Finds t p') line (acts.finds t p p' k)) (λ f f' i. seq (called-alike f f' i got got' e line) (done-alike (sequence_point j)))
       through-alike line t p p' k got got' e (MoreArguments x xs) q j =
           operand-alike j (ev-alike x q.0) (λ j v v' i. seq (handed-alike x v v' i) (λ v v' i. through-alike line t p p' k (got ++ v ∷ []) (got' ++ v' ∷ []) (more-worths b.types m' got got' v v' e i) xs q.1 j))
 
       ask-alike : (line : ℕ) (f : Library) (got : List Arg) (xs : Arguments) → AllArguments (AlikeType b m') xs → (j : Open) → Pieces b m' GivenAlike (ev_ask b call line f got xs j) (ev_ask c call' line f got xs j)
-      ask-alike line f got NoArguments p j = work-alike line (Asks f got) (Asks f got) (acts.asks f got) (settled j)
+      ask-alike line f got NoArguments p j = work-alike line (Asks f got) (Asks f got) (acts.asks f got) (sequence_point j)
       ask-alike line f got (MoreArguments x xs) p j = operand-alike j (ev-alike x p.0) (λ j v v' i. seq (handed-alike x v v' i) (λ v v' i. subst (λ (z : Arg). Pieces b m' GivenAlike (ev_ask b call line f (got ++ argument x v ∷ []) xs j) (ev_ask c call' line f (got ++ z ∷ []) xs j)) (sym (argument-same b.types m' x v v' i)) (ask-alike line f (got ++ argument x v ∷ []) xs p.1 j)))
