@@ -2,7 +2,7 @@ use Rattle.std.proofs.Common.{◌∙◌, sym, ap}
 use Rattle.pv_types.specs.Known.{env}
 use Rattle.pv_types.specs.Layouts.{layout_in, is_complete_in}
 use Rattle.pv_types.proofs.Made.{flag}
-use Rattle.pv_tests.proofs.types.numbered.Goals as goal
+use Rattle.pv_type_tests.proofs.types.numbered.Goals as goal
 
 pub struct_number-requires-clause-complete : goal.struct_number-requires-clause-complete
 struct_number-requires-clause-complete c =
