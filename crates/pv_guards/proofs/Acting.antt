@@ -24,6 +24,7 @@ use Rattle.pv_guards.specs.Fair.{IsArgument}
 use Rattle.pv_guards.specs.Soundness.{Value, IsSound, IsAfter}
 use Rattle.pv_guards.specs.Plain.{plainly, act_plainly}
 use Rattle.pv_guards.specs.Promises.{Promised}
+use Rattle.pv_guards.proofs.Living.{same-live}
 use Rattle.pv_guards.proofs.Made.{led-changes}
 use Rattle.pv_guards.proofs.Suits.{finds-it, fair-known}
 use Rattle.pv_guards.proofs.Promised.{promised}
@@ -52,7 +53,10 @@ module _ (b : Setting) (os : List ℕ) where
 
   -- in a settled run
   side-if : (c : Bool) (w : World) (k : ℕ) (high : Bool) → IsSound b os w → Led ⊥ w.memory.table (if c then one_kept w k high else w).memory.table → IsAfter w (if c then one_kept w k high else w) × IsSound b os (if c then one_kept w k high else w)
-  side-if true w k high s l = (after-table b os w s (one_kept w k high) l refl, sound-table b os w s (one_kept w k high) l refl)
+  side-if true w k high s l =
+      let z = one_kept w k high in
+      let a = same-live w.memory.table z.memory.table refl in
+      (after-table b os w s z l a refl, sound-table b os w s z l a refl)
   side-if false w k high s l = (order.here, s)
 
   pub sides-keep : (w : World) (k : ℕ) (high : Bool) → IsSound b os w → IsAfter w (sided w k high) × IsSound b os (sided w k high)

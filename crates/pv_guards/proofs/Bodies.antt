@@ -1,39 +1,39 @@
 -- Calls of a unit's functions, and what lies below at every level, with the guards and without (C17 6.5.2.2, 6.8.5, 6.9.1).
-use Rattle.std.proofs.Common.{◌≡◌, ℕ, zero, suc, Bool, true, false, List, [], ◌∷◌, ◌++◌, Some, None, refl, sym, ap, ◌∙◌, subst, inl, inr}
-use Rattle.std.specs.Prelude.{pos, if◌then◌else◌, unwrap_or}
+use Rattle.std.proofs.Common.{◌≡◌, ℕ, zero, suc, Bool, true, false, List, [], ◌∷◌, ◌++◌, Some, None, refl, sym, ap, ◌∙◌, subst, inl, inr, arith}
+use Rattle.std.specs.Prelude.{pos, is_some, if◌then◌else◌}
 use Rattle.std.specs.declared.option.Option.{Option}
 use Rattle.std.specs.FinMap as map
 use Rattle.pv_num.specs.declared.kinds.IntKind.TheVariants.{Int}
 use Rattle.pv_types.specs.Ty.{Ty, Tys, NoTys, MoreTys, VoidTy, IntTy, PointerTo, ArrayOf, StructTag, UnionTag, FunctionTy, ConstOf}
 use Rattle.pv_layout.specs.Parts.{bare}
-use Rattle.pv_prov.specs.declared.names.Prov.TheVariants.{Inst}
-use Rattle.pv_inst.specs.Table.{Table, IsNumber}
 use Rattle.pv_typed.specs.TypedStatement.{TypedStatement}
 use Rattle.pv_typed.specs.TypedUnits.{TypedFunction, layouts, object_at, function_at}
 use Rattle.pv_world.specs.Worlds.{Worth, Nothing, Missing, World, Bindings}
 use Rattle.pv_world.specs.Worths.{int}
 use Rattle.pv_world.specs.Objects.{instance_of, without_first}
 use Rattle.pv_eval.specs.States.{Setting, State, Res, Gives, Stops}
-use Rattle.pv_eval.specs.TypeForms.{lvalue, gives_none}
+use Rattle.pv_typed.specs.Known.{Each}
+use Rattle.pv_eval.specs.TypeForms.{lvalue, size_of, gives_none}
 use Rattle.pv_eval.specs.Acting.{sided}
 use Rattle.pv_eval.specs.Operations.{Makes, BeginsBody, EndsBody, Puts, works, act}
 use Rattle.pv_exec.specs.Flows.{Flow, Falls, Breaks, Continues, Returns, Below, end_all}
 use Rattle.pv_exec.specs.Execution.{ex}
 use Rattle.pv_exec.specs.Calls.{take_params, is_main, value_at_end, value_by, runs_body, call_body, below}
-use Rattle.pv_guards.specs.Worths.{IsOfType}
+use Rattle.pv_guards.specs.Worths.{IsOfType, IsThere}
 use Rattle.pv_guards.specs.Typed.{IsIn, AreLike, AreAllLike, IsSignature}
-use Rattle.pv_guards.specs.Soundness.{Value, AreValues, IsSound, IsAfter}
+use Rattle.pv_guards.specs.Soundness.{Value, AreValues, IsHome, IsSound, IsAfter}
 use Rattle.pv_guards.specs.Plain.{act_plainly}
 use Rattle.pv_guards.specs.PlainExecution as plain
-use Rattle.pv_guards.specs.TypedStatements.{AreParameters, IsResult, IsDefinition, IsTypedFunction, IsTypedUnit}
+use Rattle.pv_guards.specs.TypedStatements.{IsMakeable, IsParameter, AreParameters, IsResult, IsDefinition, IsTypedFunction, IsTypedUnit}
 use Rattle.pv_guards.specs.Laws.{GivesSound, CallsAgree}
 use Rattle.pv_guards.proofs.Numbers.{zero_fits}
 use Rattle.pv_guards.proofs.Fair.{Keeps}
 use Rattle.pv_guards.proofs.Results.{Answering}
-use Rattle.pv_guards.proofs.Leaving.{after-both, instance-same, value-later}
+use Rattle.pv_guards.proofs.Living.{all-same}
+use Rattle.pv_guards.proofs.Leaving.{after-both, homes-later, apart-later, value-later}
 use Rattle.pv_guards.proofs.Acting.{sides-keep}
-use Rattle.pv_guards.proofs.Sure.{Lands, Sure, sure-seq, sure-more, sure-tick, acted-lands}
-use Rattle.pv_guards.proofs.Objects.{Within, puts-holds, makes-sure, within-sided}
+use Rattle.pv_guards.proofs.Sure.{Lands, Sure, sure-seq, sure-more, acted-lands}
+use Rattle.pv_guards.proofs.Objects.{Within, in-scope, puts-holds, makes-sure, within-sided}
 use Rattle.pv_guards.proofs.Statements.{from-bare, to-bare, none-nothing, value-missing, moved-in, before-in, FlowOf, flow-later, EndsIn, Level, piece, end-sure, inv-less, ex-sure, round-sure, round_do-sure}
 
 signature-of : (x t : Ty) (ts : Tys) → IsSignature x t ts → (r : Ty) × (us : Tys) × (x ≡ FunctionTy r us false) × AreLike r t × AreAllLike ts us
@@ -57,12 +57,16 @@ values-like b w (MoreTys t ts) (MoreTys u us) (v ∷ vs) h g =
 
 -- 6.9.1p10: the parameters of a call whose arguments had their values in an earlier world
 module _ (b : Setting) (rest : List Bindings) (w0 : World) where
-  put-sure : (os : List ℕ) (line o : ℕ) (v : Worth) (t : Ty) (s : State) → Value b w0 t v → Within b os rest w0 s.world → Sure (λ x z. Within b os rest w0 z) (act b line (Puts o 0 (lvalue b (object_at b.unit o).t) v) s) (act_plainly b line (Puts o 0 (lvalue b (object_at b.unit o).t) v) s)
-  put-sure os line o v t s g i =
-      let l = lvalue b (object_at b.unit o).t in
+  put-sure : (os : List ℕ) (line o : ℕ) (v : Worth) (t : Ty) (s : State) → IsIn o os → IsParameter b.unit o t → Value b w0 (bare t) v → IsThere v → Within b os rest w0 s.world
+      → Sure (λ x z. Within b os rest w0 z) (act b line (Puts o 0 (lvalue b (object_at b.unit o).t) v) s) (act_plainly b line (Puts o 0 (lvalue b (object_at b.unit o).t) v) s)
+  put-sure os line o v t s among m g there i =
+      let u = (object_at b.unit o).t in
+      let l = lvalue b u in
+      let env = layouts b.unit in
+      let typed : IsOfType env (bare u) v = to-bare env u v ((m.1 env v).0 (from-bare env t v g.0)) in
       sure-more _ (λ x z. Within b os rest w0 z) (act b line (Puts o 0 l v) s) (act_plainly b line (Puts o 0 l v) s) (λ x z p. p.1)
       (piece b rest w0 os (λ x z. Unit {0}) (act b line (Puts o 0 l v)) (act_plainly b line (Puts o 0 l v)) s i
-      (puts-holds b os line o 0 l v s.world (λ z a. value-later w0.memory.table z.memory.table (λ p h. a.made p (i.later.made p h)) v g.1)))
+      (puts-holds b os line o s.world (in-scope b os o m.0.storage among) m.0.small 0 u v (omega arith) m.2 there (λ z a. (typed, value-later w0.memory.table z.memory.table (λ p h. a.made p (i.later.made p h)) v g.1))))
 
   params-sure : (line : ℕ) (os ps : List ℕ) (ts : Tys) (vs : List Worth) → AreParameters b.unit ps ts → AreValues b w0 ts vs → (s : State) → Within b os rest w0 s.world
       → Sure (λ x z. Within b (ps ++ os) rest w0 z) (take_params b line ps vs s) (plain.take_params b line ps vs s)
@@ -71,60 +75,88 @@ module _ (b : Setting) (rest : List Bindings) (w0 : World) where
   params-sure line os (o ∷ ps) NoTys vs h g s i = absurd h
   params-sure line os (o ∷ ps) (MoreTys t ts) [] h g s i = absurd g
   params-sure line os (o ∷ ps) (MoreTys t ts) (v ∷ vs) h g s i =
-      sure-seq (λ x z. Within b (o ∷ os) rest w0 z) (λ x z. Within b (o ∷ ps ++ os) rest w0 z) (act b line (Makes o) s) (act_plainly b line (Makes o) s) _ _ (makes-sure b os rest w0 line o s h.0 i) (λ x y k.
-      sure-seq (λ x z. Within b (o ∷ os) rest w0 z) (λ x z. Within b (o ∷ ps ++ os) rest w0 z) (act b line (Puts o 0 (lvalue b (object_at b.unit o).t) v) y) (act_plainly b line (Puts o 0 (lvalue b (object_at b.unit o).t) v) y) _ _ (put-sure (o ∷ os) line o v (bare t) y g.0 k) (λ x z q.
+      sure-seq (λ x z. Within b (o ∷ os) rest w0 z) (λ x z. Within b (o ∷ ps ++ os) rest w0 z) (act b line (Makes o) s) (act_plainly b line (Makes o) s) _ _ (makes-sure b os rest w0 line o s h.0.0 i) (λ x y k.
+      sure-seq (λ x z. Within b (o ∷ os) rest w0 z) (λ x z. Within b (o ∷ ps ++ os) rest w0 z) (act b line (Puts o 0 (lvalue b (object_at b.unit o).t) v) y) (act_plainly b line (Puts o 0 (lvalue b (object_at b.unit o).t) v) y) _ _ (put-sure (o ∷ os) line o v t y (inl refl) h.0 g.0 g.1 k) (λ x z q.
       sure-more (λ x z. Within b (ps ++ o ∷ os) rest w0 z) (λ x z. Within b (o ∷ ps ++ os) rest w0 z) (take_params b line ps vs z) (plain.take_params b line ps vs z)
       (λ x y n. inv-less b rest w0 (o ∷ ps ++ os) (ps ++ o ∷ os) y (moved-in o ps os) n) (params-sure line (o ∷ os) ps ts vs h.1 g.2 z q)))
 
 -- 6.9.1: a body begins and ends
 module _ (b : Setting) (os : List ℕ) (w : World) (s : IsSound b os w) where
-  static-there : (z : World) → z.statics ≡ w.statics → z.memory ≡ w.memory → (o : ℕ) (c : Bool) → (object_at b.unit o).lasting ≡ c → IsIn o (if c then b.unit.statics else []) → IsNumber z.memory.table.instances (instance_of z o c)
-  static-there z es em o true t g =
-      let N : Table → ℕ → Type 0 = λ T i. IsNumber T.instances i in
-      let old : IsNumber w.memory.table.instances (instance_of w o true) = subst (λ c. IsNumber w.memory.table.instances (instance_of w o c)) t (s.objects o (subst (λ c. IsIn o (if c then b.unit.statics else os)) (sym t) g)) in
-      subst (λ M. N M.table (unwrap_or (map.get z.statics o) 0)) (sym em) (subst (λ m. IsNumber w.memory.table.instances (unwrap_or (map.get m o) 0)) (sym es) old)
-  static-there z es em o false t g = absurd g
+  -- 6.2.4p3: static objects alone are in scope where a body begins
+  static-scope : (o : ℕ) (c : Bool) → IsIn o (if c then b.unit.statics else []) → IsIn o (if c then b.unit.statics else os)
+  static-scope o true h = h
+  static-scope o false h = absurd h
 
-  body-begins : Within b [] w.bodies w (record w { bodies = map.empty ∷ w.bodies })
+  abbrev inner : World
+  inner = record w { bodies = map.empty ∷ w.bodies }
+
+  inner-same : (o : ℕ) (c : Bool) → IsIn o (if c then b.unit.statics else []) → instance_of inner o c ≡ instance_of w o c
+  inner-same o true h = refl
+  inner-same o false h = absurd h
+
+  body-begins : Within b [] w.bodies w inner
   body-begins = record {
-    later = record { made = λ p h. h; statics = refl; literals = refl; functions = refl };
+    later = record { made = λ p h. h; lives = all-same w.memory.table; statics = refl; literals = refl; functions = refl };
     sound = record {
       laid = s.laid;
       bytes = s.bytes;
-      objects = λ o g. static-there (record w { bodies = map.empty ∷ w.bodies }) refl refl o (object_at b.unit o).lasting refl g;
+      objects = λ o g.
+          let c = (object_at b.unit o).lasting in
+          let n = size_of b (object_at b.unit o).t in
+          subst (λ i. IsHome w.memory.table i n) (sym (inner-same o c g)) (s.objects o (static-scope o c g));
+      apart = λ o q g k e.
+          let c = (object_at b.unit o).lasting in
+          let d = (object_at b.unit q).lasting in
+          s.apart o q (static-scope o c g) (static-scope q d k) (sym (inner-same o c g) ∙ e ∙ inner-same q d k);
       literals = s.literals;
       functions = s.functions;
+      code = s.code;
+      owned = s.owned;
     };
     body = (map.empty, refl);
+    own = λ o h e. absurd h;
   }
 
   -- behind the call the caller's objects are in scope again
   abbrev Back : World → Worth → World → Type 0
   Back t v z = IsAfter w z × IsSound b os z × Keeps t.memory.table z.memory.table
 
-  body-ends : (ps : List ℕ) (t : World) → Within b ps w.bodies w t → Back t Nothing (record t { bodies = without_first t.bodies })
-  body-ends ps t h =
+  body-ends : (t : World) → Within b [] w.bodies w t → Back t Nothing (record t { bodies = without_first t.bodies })
+  body-ends t h =
       let z : World = record t { bodies = without_first t.bodies } in
-      let a : IsAfter w z = record { made = h.later.made; statics = h.later.statics; literals = h.later.literals; functions = h.later.functions; bodies = ap without_first h.body.1 } in
-      let N : ℕ → Type 0 = λ i. IsNumber z.memory.table.instances i in
+      let a : IsAfter w z = record { made = h.later.made; lives = h.later.lives; statics = h.later.statics; literals = h.later.literals; functions = h.later.functions; bodies = ap without_first h.body.1 } in
       let sound : IsSound b os z = record {
         laid = h.sound.laid;
         bytes = h.sound.bytes;
-        objects = λ o g. subst N (sym (instance-same w z a o (object_at b.unit o).lasting)) (h.later.made (Inst (instance_of w o (object_at b.unit o).lasting)) (s.objects o g));
+        objects = homes-later b os w z a.statics a.bodies a.lives s;
+        apart = apart-later b os w z a.statics a.bodies s;
         literals = h.sound.literals;
         functions = h.sound.functions;
+        code = h.sound.code;
+        owned = h.sound.owned;
       } in
       (a, sound, λ p k. k)
 
   back-sided : (t : World) (v : Worth) (z : World) (k : ℕ) (high : Bool) → Back t v z → Back t v (sided z k high)
   back-sided t v z k high h = let g = sides-keep b os z k high h.1 in (after-both h.0 g.0, g.1, λ p q. g.0.made p (h.2 p q))
 
-  ends-sure : (ps : List ℕ) (line : ℕ) (t : State) → Within b ps w.bodies w t.world → Sure (Back t.world) (act b line EndsBody t) (act_plainly b line EndsBody t)
-  ends-sure ps line t h = (refl, acted-lands b (Back t.world) (back-sided t.world) line (works b EndsBody t.world) t (body-ends ps t.world h))
+  leaves-sure : (line : ℕ) (t : State) → Within b [] w.bodies w t.world → Sure (Back t.world) (act b line EndsBody t) (act_plainly b line EndsBody t)
+  leaves-sure line t h = (refl, acted-lands b (Back t.world) (back-sided t.world) line (works b EndsBody t.world) t (body-ends t.world h))
 
   begins-sure : (line : ℕ) (t : State) → t.world ≡ w → Sure (λ v z. Within b [] w.bodies w z) (act b line BeginsBody t) (act_plainly b line BeginsBody t)
   begins-sure line t e =
       (refl, acted-lands b (λ v z. Within b [] w.bodies w z) (within-sided b [] w.bodies w) line (works b BeginsBody t.world) t (subst (λ x. Answering (λ v z. Within b [] w.bodies w z) (works b BeginsBody x)) (sym e) body-begins))
+
+-- 6.9.1p10: the objects of parameters can be made
+makeable : (b : Setting) (ps : List ℕ) (ts : Tys) → AreParameters b.unit ps ts → Each (IsMakeable b.unit false) ps
+makeable b [] ts h = tt
+makeable b (o ∷ ps) NoTys h = absurd h
+makeable b (o ∷ ps) (MoreTys t ts) h = (h.0.0, makeable b ps ts h.1)
+
+none-behind : (os : List ℕ) (n : ℕ) → IsIn n (os ++ []) → IsIn n os
+none-behind [] n h = h
+none-behind (o ∷ os) n (inl e) = inl e
+none-behind (o ∷ os) n (inr h) = inr (none-behind os n h)
 
 module _ (b : Setting) (unit : IsTypedUnit b.unit) where
   -- 6.9.1p12: what there is where the `}` is reached
@@ -156,24 +188,32 @@ module _ (b : Setting) (unit : IsTypedUnit b.unit) where
     taken-sure rest w0 r us ps None d line vs g s i =
         subst (λ os. Sure (λ v z. Within b os rest w0 z) (take_params b line os vs s) (plain.take_params b line os vs s)) (sym d) (refl, i)
 
-    runs-sure : (rest : List Bindings) (w0 : World) (r : Ty) (us : Tys) (ps : List ℕ) (x : Option TypedStatement) → IsDefinition b.unit r us ps x → (s : State) → Within b ps rest w0 s.world → Sure (EndsIn b rest w0 r ps) (runs_body b u x s) (plain.runs_body b u' x s)
-    runs-sure rest w0 r us ps None h s i = sure-tick b (EndsIn b rest w0 r ps) s (λ s. Gives Falls s) (λ s. Gives Falls s) (refl, (i, tt))
-    runs-sure rest w0 r us ps (Some x) h s i = ex-sure b rest w0 unit.characters u u' level r ps x h.1 s i
+    runs-sure : (rest : List Bindings) (w0 : World) (r : Ty) (us : Tys) (ps : List ℕ) (x : Option TypedStatement) → is_some x ≡ true → IsDefinition b.unit r us ps x → (s : State) → Within b ps rest w0 s.world → Sure (EndsIn b rest w0 r ps) (runs_body b u x s) (plain.runs_body b u' x s)
+    runs-sure rest w0 r us ps None there h s i = absurd cc
+    runs-sure rest w0 r us ps (Some x) there h s i = ex-sure b rest w0 unit.characters u u' level r ps x h.2 s i
+
+    -- 6.2.4p6: the parameters end
+    ended-sure : (rest : List Bindings) (w0 : World) (r : Ty) (us : Tys) (ps : List ℕ) (x : Option TypedStatement) → IsDefinition b.unit r us ps x → (s : State) → Within b ps rest w0 s.world
+        → Sure (λ v z. Within b [] rest w0 z × Keeps s.world.memory.table z.memory.table) (end_all b ps s) (plain.end_all b ps s)
+    ended-sure rest w0 r us ps (Some x) d s i =
+        end-sure b rest w0 [] ps (makeable b ps us d.0) d.1 s (inv-less b rest w0 (ps ++ []) ps s.world (λ n k. none-behind ps n k) i)
+    ended-sure rest w0 r us ps None d s i =
+        subst (λ os. Within b os rest w0 s.world → Sure (λ v z. Within b [] rest w0 z × Keeps s.world.memory.table z.memory.table) (end_all b os s) (plain.end_all b os s)) (sym d) (λ k. (refl, (k, λ p g. g))) i
 
     -- a call of a function with this result and these parameters
     abbrev Called : List ℕ → Ty → World → Worth → World → Type 0
     Called os t w v z = Value b z t v × IsSound b os z × IsAfter w z
 
-    pub call-sure : (os : List ℕ) (x : TypedFunction) (r : Ty) (us : Tys) → IsTypedFunction b.unit x r us → x.t ≡ FunctionTy r us false → (vs : List Worth) (line : ℕ) (s : State) → AreValues b s.world us vs → IsSound b os s.world → Sure (Called os r s.world) (call_body b u x vs line s) (plain.call_body b u' x vs line s)
-    call-sure os x r us f e vs line s g sound =
+    pub call-sure : (os : List ℕ) (x : TypedFunction) (r : Ty) (us : Tys) → IsTypedFunction b.unit x r us → x.t ≡ FunctionTy r us false → is_some x.body ≡ true → (vs : List Worth) (line : ℕ) (s : State) → AreValues b s.world us vs → IsSound b os s.world → Sure (Called os r s.world) (call_body b u x vs line s) (plain.call_body b u' x vs line s)
+    call-sure os x r us f e there vs line s g sound =
         let w = s.world in
         let rest = w.bodies in
         let ps = x.params in
         sure-seq (λ v z. Within b [] rest w z) (Called os r w) (act b line BeginsBody s) (act_plainly b line BeginsBody s) _ _ (begins-sure b os w sound line s refl) (λ v t i.
         sure-seq (λ v z. Within b ps rest w z) (Called os r w) (take_params b line ps vs t) (plain.take_params b line ps vs t) _ _ (taken-sure rest w r us ps x.body f.definition line vs g t i) (λ v t i.
-        sure-seq (EndsIn b rest w r ps) (Called os r w) (runs_body b u x.body t) (plain.runs_body b u' x.body t) _ _ (runs-sure rest w r us ps x.body f.definition t i) (λ fl t i.
-        sure-seq (λ v z. Within b ps rest w z × Keeps t.world.memory.table z.memory.table) (Called os r w) (end_all b ps t) (plain.end_all b ps t) _ _ (end-sure b rest w ps ps t i.0) (λ v y k.
-        sure-seq (Back b os w sound y.world) (Called os r w) (act b line EndsBody y) (act_plainly b line EndsBody y) _ _ (ends-sure b os w sound ps line y k.0) (λ v q h.
+        sure-seq (EndsIn b rest w r ps) (Called os r w) (runs_body b u x.body t) (plain.runs_body b u' x.body t) _ _ (runs-sure rest w r us ps x.body there f.definition t i) (λ fl t i.
+        sure-seq (λ v z. Within b [] rest w z × Keeps t.world.memory.table z.memory.table) (Called os r w) (end_all b ps t) (plain.end_all b ps t) _ _ (ended-sure rest w r us ps x.body f.definition t i.0) (λ v y k.
+        sure-seq (Back b os w sound y.world) (Called os r w) (act b line EndsBody y) (act_plainly b line EndsBody y) _ _ (leaves-sure b os w sound line y k.0) (λ v q h.
         (refl, (flow-value x r us f e fl q.world (flow-later b r fl y.world q.world h.2 (flow-later b r fl t.world y.world k.1 i.1)), h.1, h.0)))))))
 
     given-sound : (os : List ℕ) (r t : Ty) (w : World) (x : Res Worth) → AreLike r t → Lands (Called os r w) x → GivesSound b os (λ v. v) t w x
@@ -183,8 +223,8 @@ module _ (b : Setting) (unit : IsTypedUnit b.unit) where
     calls-agree : (os : List ℕ) → CallsAgree b os (λ f vs line s. call_body b u (function_at b.unit f) vs line s) (λ f vs line s. plain.call_body b u' (function_at b.unit f) vs line s)
     calls-agree os f line t ts vs s h g sound =
         let x = function_at b.unit f in
-        let sg = signature-of x.t t ts h.1 in
-        let p = call-sure os x sg.0 sg.1 (unit.functions f sg.0 sg.1 h.0 sg.2) sg.2 vs line s (values-like b s.world ts sg.1 vs sg.4 g) sound in
+        let sg = signature-of x.t t ts h.2 in
+        let p = call-sure os x sg.0 sg.1 (unit.functions f sg.0 sg.1 h.0 sg.2) sg.2 h.1 vs line s (values-like b s.world ts sg.1 vs sg.4 g) sound in
         (p.0, given-sound os sg.0 t s.world (call_body b u x vs line s) sg.3 p.1)
 
   -- every level

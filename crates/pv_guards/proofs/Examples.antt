@@ -13,7 +13,7 @@ use Rattle.pv_typed.specs.Mains.{literal_text, heap_text, main_text}
 use Rattle.pv_typed.specs.TypedTree.{TypedTree, Node, Constant, Object, Call, Read, Assign, Arithmetic, NoArguments, MoreArguments}
 use Rattle.pv_typed.specs.TypedStatement.{TypedStatement, Block, Declare, Expression, Return, NoStatements, MoreStatements}
 use Rattle.pv_typed.specs.TypedUnits.{WholeUnit, TypedObject, TypedFunction, layouts, function_at, literal_at}
-use Rattle.pv_guards.specs.Typed.{IsSized, AreLike, IsFunction}
+use Rattle.pv_guards.specs.Typed.{IsSized, AreLike, HasBody, IsFunction}
 use Rattle.pv_guards.specs.TypedStatements.{IsMakeable, IsTypedStatement, IsTypedFunction, IsTypedUnit}
 use Rattle.pv_guards.proofs.Numbers.{one_in}
 use Rattle.std.proofs.lemmas.Int.{ints}
@@ -75,16 +75,17 @@ forty-one : Fits Int (pos 41)
 forty-one = (grind (arith, ints), grind (arith, ints))
 
 f-typed : IsTypedStatement unit int (1 ∷ []) f_body
-f-typed = (tt, (((Int, Int, (inl refl, refl, refl, int-sized, tt), (refl, refl), (Int, refl, one_in Int), (refl, refl), omega arith, refl, refl), (refl, refl)), tt))
+f-typed = (tt, tt, (((Int, Int, (inl refl, refl, refl, int-sized, tt), (refl, refl), (Int, refl, one_in Int), (refl, refl), omega arith, refl, refl), (refl, refl)), tt))
 
 f-called : IsFunction unit 1 int (MoreTys int NoTys)
-f-called = (omega arith, (like-itself int, (like-itself int, tt)))
+f-called = (omega arith, refl, (like-itself int, (like-itself int, tt)))
 
 main-typed : IsTypedStatement unit int [] main_body
 main-typed = (
   (x-makeable, tt),
+  (λ h. h, tt),
   (
-    tt,
+    (inl refl, x-makeable, tt),
     (
       (inl refl, refl, (MoreTys int NoTys, f-called, ((Int, refl, forty-one), (refl, refl), tt, tt)), (refl, refl), refl, int-sized, tt),
       (((inl refl, refl, refl, int-sized, tt), (refl, refl)), tt),
@@ -106,8 +107,8 @@ typed-as x t r ts e h = subst (λ q. IsTypedFunction unit x q ts) (ap result_of 
 
 functions-typed : (f : ℕ) (r : Ty) (ts : Tys) → f < length unit.functions → (function_at unit f).t ≡ FunctionTy r ts false → IsTypedFunction unit (function_at unit f) r ts
 functions-typed zero r ts l e = typed-as (function_at unit 0) taking_int r ts e (record { result = inr tt; main = λ m. refl; definition = refl })
-functions-typed (suc zero) r ts l e = typed-as (function_at unit 1) taking_int r ts e (record { result = inr tt; main = λ m. refl; definition = ((a-makeable, tt), f-typed) })
-functions-typed (suc (suc zero)) r ts l e = typed-as (function_at unit 2) (FunctionTy int NoTys false) r ts e (record { result = inr tt; main = λ m. refl; definition = (tt, main-typed) })
+functions-typed (suc zero) r ts l e = typed-as (function_at unit 1) taking_int r ts e (record { result = inr tt; main = λ m. refl; definition = (((a-makeable, like-itself int, tt), tt), (λ h. h, tt), f-typed) })
+functions-typed (suc (suc zero)) r ts l e = typed-as (function_at unit 2) (FunctionTy int NoTys false) r ts e (record { result = inr tt; main = λ m. refl; definition = (tt, tt, main-typed) })
 functions-typed (suc (suc (suc f))) r ts l e = absurd (omega (arith, l))
 
 same-main : (f : ℕ) → Some 2 ≡ Some f → 2 ≡ f
@@ -121,7 +122,7 @@ no-characters (suc l) = tt
 pub unit-typed : IsTypedUnit unit
 unit-typed = record {
   functions = functions-typed;
-  main = λ f e. subst (λ f. (f < length unit.functions) × ((r : Ty) × ((function_at unit f).t ≡ FunctionTy r NoTys false) × (bare r ≡ int))) (same-main f e) (omega arith, (int, refl, refl));
+  main = λ f e. subst (λ f. (f < length unit.functions) × HasBody unit f × ((r : Ty) × ((function_at unit f).t ≡ FunctionTy r NoTys false) × (bare r ≡ int))) (same-main f e) (omega arith, refl, (int, refl, refl));
   characters = no-characters;
   literals = λ l h. absurd h;
   statics = λ o h. absurd h;

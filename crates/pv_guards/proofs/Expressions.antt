@@ -441,7 +441,7 @@ module _ (b : Setting) (os : List ℕ)
           subst (λ x. Typed t z (ev_through b call line (pointed_to x) p [] xs j) (plainly.ev_through b call' line (pointed_to x) p [] xs j)) (sym h.3.0.1)
           (through-typed t line ft p h.1 [] xs h.5 j z (own-value a (PointerTo ft) h.3 z p q) (λ y g rest k f r.
           weaker order (Is h.0) (Is t) (λ v x m. ((h.4 (layouts b.unit) v).0 m.0, m.1)) y (call (function_in f) rest line) (call' (function_in f) rest line)
-          (calls line (function_in f) h.0 h.1 rest y (called-function b h.0 h.1 (function_in f) r) k))))
+          (calls line (function_in f) h.0 h.1 rest y (called-function b h.0 h.1 (function_in f) r.0 r.1) k))))
       form-typed t line (LibraryCall f xs) h fs w = ask-typed t line f h.0 h.1 [] xs h.2 h.3 (opened fs) w tt
       form-typed t line (ArrayPointer a) h fs w =
           operand-way w (given_type a) t (opened fs) (ev b call a) (plainly.ev b call' a) done done (λ fs. ev-typed a h.0 fs w) (λ j v z f q.

@@ -1,6 +1,6 @@
 -- What each operation of an expression leaves: a later world that is as sound, and a value of its type (C17 6.3, 6.5).
-use Rattle.std.proofs.Common.{◌≡◌, ℕ, zero, suc, ◌+◌, ◌<◌, ◌≤◌, ◌^◌, Bool, true, false, List, [], ◌∷◌, length, take, drop, Option, Some, None, Result, Ok, Err, refl, sym, ap, ◌∙◌, subst, arith, inl, inr}
-use Rattle.std.specs.Prelude.{unwrap_or, if◌then◌else◌, pos}
+use Rattle.std.proofs.Common.{◌≡◌, ℕ, zero, suc, ◌+◌, ◌<◌, ◌≤◌, ◌^◌, Bool, true, false, List, [], ◌∷◌, length, take, drop, Option, Some, None, Result, Ok, Err, IfOk, refl, sym, ap, ◌∙◌, subst, arith, inl, inr}
+use Rattle.std.specs.Prelude.{unwrap_or, if◌then◌else◌, ◌-◌, ◌==◌, slice_index_or, pos}
 use Rattle.std.specs.FinMap as map
 use Rattle.std.proofs.lemmas.Bool.{false≢true}
 use Rattle.pv_num.specs.declared.kinds.IntKind.{IntKind}
@@ -43,6 +43,7 @@ use Rattle.pv_world.specs.Objects.{bound_in, instance_of, literal_of, function_o
 use Rattle.pv_world.specs.Accesses.{reaching_by, range_use, mark_of, stored_as, is_inexact}
 use Rattle.pv_eval.specs.States.{Setting}
 use Rattle.pv_eval.specs.TypeForms.{lvalue, size_of}
+use Rattle.pv_eval.specs.Objects.{instance_for}
 use Rattle.pv_eval.specs.Permission.{permits}
 use Rattle.pv_eval.specs.Callees.{may_call, function_in}
 use Rattle.pv_eval.specs.Library.{asks}
@@ -54,12 +55,14 @@ use Rattle.pv_exec.proofs.Memory.Pointers.{reach-leads}
 use Rattle.pv_exec.proofs.Memory.Worlds.{Onward}
 use Rattle.pv_exec.proofs.Memory.Operations.{does-on}
 use Rattle.pv_guards.specs.Worths.{IsScalar, IsWhole, IsOfType, IsThere}
-use Rattle.pv_guards.specs.Typed.{IsTag, IsValueType}
+use Rattle.pv_guards.specs.Typed.{IsTag, IsValueType, HasBody, IsInScope}
 use Rattle.pv_guards.specs.Fair.{IsFair, AreFair, IsFairValue, IsArgument}
-use Rattle.pv_guards.specs.Soundness.{Value, IsFairWorth, IsSound, IsAfter}
+use Rattle.pv_guards.specs.Soundness.{Value, IsFairWorth, IsHome, IsCode, IsSound, AllLiveStill, IsAfter}
 use Rattle.pv_guards.specs.Plain.{plainly}
 use Rattle.pv_guards.specs.Promises.{Promised}
 use Rattle.pv_guards.proofs.Fair.{Keeps, bytes-later, store-later, read-fair, take-fair, drop-fair, written-fair, encode-fair}
+use Rattle.pv_guards.proofs.Living.{all-same, all-on, home-number, home-later, code-earlier, longer-live, reach-live, code-live}
+use Rattle.pv_guards.proofs.Chosen.{code-found}
 use Rattle.pv_guards.proofs.Made.{instance-there, number-led, made-led, laid-led, led-changes}
 use Rattle.pv_guards.proofs.Results.{Answering, unless-answers, answers-more, calculates-gives, one-gives}
 use Rattle.pv_guards.proofs.Tabled.{TabledIn, tests-gives, truth-value, opposite-value, converts-gives, moves-gives, selects-gives, subtracts-gives, orders-gives, equals-gives, follows-gives, worth-gives}
@@ -98,11 +101,12 @@ stored-fair U number shape.Whole v h = whole-fair U v h
 
 -- sound worlds in their order
 pub after-itself : {w : World} → IsAfter w w
-after-itself = record { made = λ p h. h; statics = refl; literals = refl; functions = refl; bodies = refl }
+after-itself {w} = record { made = λ p h. h; lives = all-same w.memory.table; statics = refl; literals = refl; functions = refl; bodies = refl }
 
 pub after-both : {w t z : World} → IsAfter w t → IsAfter t z → IsAfter w z
-after-both h g = record {
+after-both {w} {t} {z} h g = record {
   made = λ p k. g.made p (h.made p k);
+  lives = all-on w.memory.table t.memory.table z.memory.table h.lives g.lives;
   statics = g.statics ∙ h.statics;
   literals = g.literals ∙ h.literals;
   functions = g.functions ∙ h.functions;
@@ -116,24 +120,43 @@ ordered b os = record {
   keeps = λ {w} {t} u v g h. (h.0, value-later w.memory.table t.memory.table g.made v h.1);
 }
 
-pub instance-same : (w z : World) → IsAfter w z → (o : ℕ) (lasting : Bool) → instance_of z o lasting ≡ instance_of w o lasting
-instance-same w z h o true = ap (λ m. unwrap_or (map.get m o) 0) h.statics
-instance-same w z h o false = ap (λ ms. unwrap_or (bound_in ms o) 0) h.bodies
+-- 6.5p6: the object or the function that an instance was made for, of so many owners
+abbrev owner_in : List (Option ℕ) → ℕ → Option ℕ
+owner_in os i = if i == 0 then None else slice_index_or os (i - 1) None
 
-pub sound-after : (b : Setting) (os : List ℕ) (w z : World) → Led ⊥ w.memory.table z.memory.table → IsAfter w z → AreFair z.memory.table z.memory.bytes → IsSound b os w → IsSound b os z
-sound-after b os w z l h f s =
+pub instance-same : (w z : World) → z.statics ≡ w.statics → z.bodies ≡ w.bodies → (o : ℕ) (lasting : Bool) → instance_of z o lasting ≡ instance_of w o lasting
+instance-same w z es eb o true = ap (λ m. unwrap_or (map.get m o) 0) es
+instance-same w z es eb o false = ap (λ ms. unwrap_or (bound_in ms o) 0) eb
+
+-- 6.2.4p2: objects live on in their instances
+pub homes-later : (b : Setting) (os : List ℕ) (w z : World) → z.statics ≡ w.statics → z.bodies ≡ w.bodies → AllLiveStill w.memory.table z.memory.table → IsSound b os w
+    → (o : ℕ) → IsInScope b.unit os o → IsHome z.memory.table (instance_for b o z) (size_of b (object_at b.unit o).t)
+homes-later b os w z es eb l s o g =
+    let n = size_of b (object_at b.unit o).t in
+    subst (λ i. IsHome z.memory.table i n) (sym (instance-same w z es eb o (object_at b.unit o).lasting)) (home-later w.memory.table z.memory.table l (instance_for b o w) n (s.objects o g))
+
+pub apart-later : (b : Setting) (os : List ℕ) (w z : World) → z.statics ≡ w.statics → z.bodies ≡ w.bodies → IsSound b os w
+    → (o q : ℕ) → IsInScope b.unit os o → IsInScope b.unit os q → instance_for b o z ≡ instance_for b q z → o ≡ q
+apart-later b os w z es eb s o q g k e =
+    s.apart o q g k (sym (instance-same w z es eb o (object_at b.unit o).lasting) ∙ e ∙ instance-same w z es eb q (object_at b.unit q).lasting)
+
+pub sound-after : (b : Setting) (os : List ℕ) (w z : World) → Led ⊥ w.memory.table z.memory.table → IsAfter w z → z.owners ≡ w.owners → AreFair z.memory.table z.memory.bytes → IsSound b os w → IsSound b os z
+sound-after b os w z l h same f s =
     let N : ℕ → Type 0 = λ i. IsNumber z.memory.table.instances i in
     record {
       laid = laid-led w.memory.table z.memory.table l s.laid;
       bytes = f;
-      objects = λ o g. subst N (sym (instance-same w z h o (object_at b.unit o).lasting)) (number-led w.memory.table z.memory.table l _ (s.objects o g));
+      objects = homes-later b os w z h.statics h.bodies h.lives s;
+      apart = apart-later b os w z h.statics h.bodies s;
       literals = λ i g. subst N (sym (ap (λ m. unwrap_or (map.get m i) 0) h.literals)) (number-led w.memory.table z.memory.table l _ (s.literals i g));
       functions = λ i g. subst N (sym (ap (λ m. unwrap_or (map.get m i) 0) h.functions)) (number-led w.memory.table z.memory.table l _ (s.functions i g));
+      code = λ i g c e. s.code i g (code-earlier w.memory.table z.memory.table h.lives i c) (sym (ap (λ (os : List (Option ℕ)). owner_in os i) same) ∙ e);
+      owned = let more = longer-live w.memory.table z.memory.table h.lives in let owners : length z.owners ≡ length w.owners = ap length same in let few = s.owned in omega (arith, more, owners, few);
     }
 
--- 6.5.2.2p1, 6.3.2.3p8: a function that may be called so
+-- 6.5.2.2p1, 6.3.2.3p8, 6.9p5: a function that may be called so, and is defined
 abbrev pub MayBeCalled : Setting → Ty → Worth → World → Type 0
-MayBeCalled b t v z = may_call b t (Some (function_in v)) ≡ true
+MayBeCalled b t v z = (may_call b t (Some (function_in v)) ≡ true) × HasBody b.unit (function_in v)
 
 module _ (b : Setting) (os : List ℕ) (w : World) (sound : IsSound b os w) where
   abbrev T : Table
@@ -143,33 +166,34 @@ module _ (b : Setting) (os : List ℕ) (w : World) (sound : IsSound b os w) wher
   abbrev pub Leaving : (Worth → World → Type 0) → Worth → World → Type 0
   Leaving Q v z = IsAfter w z × IsSound b os z × Q v z
 
-  pub after-table : (z : World) → Led ⊥ T z.memory.table → z ≡ with_table w z.memory.table → IsAfter w z
-  after-table z l e = record {
+  pub after-table : (z : World) → Led ⊥ T z.memory.table → AllLiveStill T z.memory.table → z ≡ with_table w z.memory.table → IsAfter w z
+  after-table z l a e = record {
     made = made-led T z.memory.table l;
+    lives = a;
     statics = ap (λ (x : World). x.statics) e;
     literals = ap (λ (x : World). x.literals) e;
     functions = ap (λ (x : World). x.functions) e;
     bodies = ap (λ (x : World). x.bodies) e;
   }
 
-  pub sound-table : (z : World) → Led ⊥ T z.memory.table → z ≡ with_table w z.memory.table → IsSound b os z
-  sound-table z l e =
-      sound-after b os w z l (after-table z l e)
+  pub sound-table : (z : World) → Led ⊥ T z.memory.table → AllLiveStill T z.memory.table → z ≡ with_table w z.memory.table → IsSound b os z
+  sound-table z l a e =
+      sound-after b os w z l (after-table z l a e) (ap (λ (x : World). x.owners) e)
       (subst (λ m. AreFair z.memory.table m) (sym (ap (λ (x : World). x.memory.bytes) e)) (store-later T z.memory.table (made-led T z.memory.table l) w.memory.bytes sound.bytes)) sound
 
-  pub leaves-tabled : (Q : Worth → World → Type 0) (d : Done) → Onward (Led ⊥) w d → Answering (λ v z. (z ≡ with_table w z.memory.table) × Q v z) d → Answering (Leaving Q) d
-  leaves-tabled Q (Answers v z t) l h = (after-table z l.leads h.0, sound-table z l.leads h.0, h.1)
+  pub leaves-tabled : (Q : Worth → World → Type 0) (d : Done) → Onward (Led ⊥) w d → Answering (λ v z. (z ≡ with_table w z.memory.table) × AllLiveStill T z.memory.table × Q v z) d → Answering (Leaving Q) d
+  leaves-tabled Q (Answers v z t) l h = (after-table z l.leads h.1 h.0, sound-table z l.leads h.1 h.0, h.2)
   leaves-tabled Q (Fails y p z t) l h = tt
   leaves-tabled Q (Breaks y p z t) l h = tt
 
-  -- bindings stay, and bytes are fair
+  -- bindings stay, instances live still, and bytes are fair
   abbrev pub Keeping : (Worth → World → Type 0) → Worth → World → Type 0
-  Keeping Q v z = (z.statics ≡ w.statics) × (z.literals ≡ w.literals) × (z.functions ≡ w.functions) × (z.bodies ≡ w.bodies) × AreFair z.memory.table z.memory.bytes × Q v z
+  Keeping Q v z = (z.owners ≡ w.owners) × (z.statics ≡ w.statics) × (z.literals ≡ w.literals) × (z.functions ≡ w.functions) × (z.bodies ≡ w.bodies) × AllLiveStill T z.memory.table × AreFair z.memory.table z.memory.bytes × Q v z
 
   pub leaves-keeping : (Q : Worth → World → Type 0) (d : Done) → Onward (Led ⊥) w d → Answering (Keeping Q) d → Answering (Leaving Q) d
   leaves-keeping Q (Answers v z t) l h =
-      let a : IsAfter w z = record { made = made-led T z.memory.table l.leads; statics = h.0; literals = h.1; functions = h.2; bodies = h.3 } in
-      (a, sound-after b os w z l.leads a h.4 sound, h.5)
+      let a : IsAfter w z = record { made = made-led T z.memory.table l.leads; lives = h.5; statics = h.1; literals = h.2; functions = h.3; bodies = h.4 } in
+      (a, sound-after b os w z l.leads a h.0 h.6 sound, h.7)
   leaves-keeping Q (Fails y p z t) l h = tt
   leaves-keeping Q (Breaks y p z t) l h = tt
 
@@ -181,9 +205,9 @@ module _ (b : Setting) (os : List ℕ) (w : World) (sound : IsSound b os w) wher
   answers-if Q false d e h g = g
 
   -- accesses
-  reaching-gives : (Q : Worth → World → Type 0) (p : Pointer) (us : List What) (got : Result Reach Stop × Table) (go : Reach → World → Told → Done) → Led ⊥ T got.1 → ((at : Reach) (U : Table) → Led ⊥ T U → Answering Q (go at (with_table w U) (telling us))) → Answering Q (reaching_by w p us got go)
-  reaching-gives Q p us (Ok at, U) go l h = h at U l
-  reaching-gives Q p us (Err y, U) go l h = tt
+  reaching-gives : (Q : Worth → World → Type 0) (p : Pointer) (us : List What) (got : Result Reach Stop × Table) (go : Reach → World → Told → Done) → Led ⊥ T got.1 → AllLiveStill T got.1 → ((at : Reach) (U : Table) → Led ⊥ T U → AllLiveStill T U → Answering Q (go at (with_table w U) (telling us))) → Answering Q (reaching_by w p us got go)
+  reaching-gives Q p us (Ok at, U) go l a h = h at U l a
+  reaching-gives Q p us (Err y, U) go l a h = tt
 
   reached : (p : Pointer) (n align : ℕ) (write : Bool) → Led ⊥ T (reach T p n align write ByAccess).1
   reached p n align write = reach-leads (led-changes b) T p n align write ByAccess
@@ -192,12 +216,15 @@ module _ (b : Setting) (os : List ℕ) (w : World) (sound : IsSound b os w) wher
   reads-gives u place rivals valued =
       let p = pointer_of place in
       let l = lvalue b u in
-      reaching-gives (TabledIn b w (bare u)) p (range_use T p l.size) (reach T p l.size l.align false ByAccess) (reads_at b l p rivals) (reached p l.size l.align false) (λ at U led.
+      reaching-gives (TabledIn b w (bare u)) p (range_use T p l.size) (reach T p l.size l.align false ByAccess) (reads_at b l p rivals) (reached p l.size l.align false) (reach-live T p l.size l.align false ByAccess) (λ at U led lives.
       let z = with_table w U in
-      let s = sound-table z led refl in
+      let s = sound-table z led lives refl in
       answers-if (TabledIn b w (bare u)) (permits b z l at false) _ _
       (answers-if (TabledIn b w (bare u)) (conflicts (access_to l p false) rivals) _ _ tt
-      (worth-gives b z (λ i x e. (s.laid.within i x e).upto) u (read z.memory.bytes at.address l.size) (Some at.address) (Some p.prov) (telling (range_use T p l.size)) valued (length-read z.memory.bytes at.address l.size) (read-fair U z.memory.bytes at.address l.size s.bytes))) tt)
+      (answers-more (TabledIn b z (bare u)) (TabledIn b w (bare u)) (further U lives) _ (worth-gives b z (λ i x e. (s.laid.within i x e).upto) u (read z.memory.bytes at.address l.size) (Some at.address) (Some p.prov) (telling (range_use T p l.size)) valued (length-read z.memory.bytes at.address l.size) (read-fair U z.memory.bytes at.address l.size s.bytes)))) tt)
+    where
+      further : (U : Table) → AllLiveStill T U → (v : Worth) (z : World) → TabledIn b (with_table w U) (bare u) v z → TabledIn b w (bare u) v z
+      further U l v z h = (h.0, all-on T U z.memory.table l h.1, h.2)
 
   writes-gives : (u : Ty) (place v : Worth) (from : Option ℕ) (rivals : List Access) → Value b w (bare u) v → Answering (Keeping (λ v z. Value b z (bare u) v)) (writes b (lvalue b u) place v from rivals w)
   writes-gives u place v from rivals h =
@@ -205,14 +232,14 @@ module _ (b : Setting) (os : List ℕ) (w : World) (sound : IsSound b os w) wher
       let l = lvalue b u in
       let Q : Worth → World → Type 0 = Keeping (λ v z. Value b z (bare u) v) in
       unless-answers Q (unpresent v) w _
-      (reaching-gives Q p (range_use T p l.size) (reach T p l.size l.align true ByAccess) (writes_at b l p v from rivals) (reached p l.size l.align true) (λ at U led.
+      (reaching-gives Q p (range_use T p l.size) (reach T p l.size l.align true ByAccess) (writes_at b l p v from rivals) (reached p l.size l.align true) (reach-live T p l.size l.align true ByAccess) (λ at U led lives.
       let z = with_table w U in
-      let s = sound-table z led refl in
+      let s = sound-table z led lives refl in
       let f = value-later T U (made-led T U led) v h.1 in
       answers-if Q (permits b z l at true) _ _
       (answers-if Q (conflicts (access_to l p true) rivals) _ _ tt
       (answers-if Q (is_inexact from p.address l.size) _ _ tt
-      (refl, refl, refl, refl, written-fair U z.memory.bytes at.address (stored_as l.number l.shape v) s.bytes (stored-fair U l.number l.shape v f), (h.0, f)))) tt))
+      (refl, refl, refl, refl, refl, lives, written-fair U z.memory.bytes at.address (stored_as l.number l.shape v) s.bytes (stored-fair U l.number l.shape v f), (h.0, f)))) tt))
 
   -- parts of a structure or union
   take-length : (n : ℕ) (bs : List Byte) → n ≤ length bs → length (take n bs) ≡ n
@@ -259,7 +286,7 @@ module _ (b : Setting) (os : List ℕ) (w : World) (sound : IsSound b os w) wher
       let base : base_in w i ≡ x.0.base = ap base_of x.1 in
       let low : base_in w i < 2 ^ 48 = omega (arith, l, base) in
       let all : base_in w i < 2 ^ 64 = omega (arith, low) in
-      subst (λ y. TabledIn b w y (pointer (address_of w i)) w) (sym e) (refl, (all, (h, λ q. low)))
+      subst (λ y. TabledIn b w y (pointer (address_of w i)) w) (sym e) (refl, all-same T, (all, (h, λ q. low)))
 
   -- each operation
   int-fair : (k : IntKind) (U : Table) (v : Worth) → IsScalar (scalar.Int k) v → IsFairWorth U v
@@ -271,7 +298,7 @@ module _ (b : Setting) (os : List ℕ) (w : World) (sound : IsSound b os w) wher
   int-fair k U (Whole bs a) h = absurd h
 
   kind-tabled : (k : IntKind) (v : Worth) (z : World) → IsScalar (scalar.Int k) v × (z ≡ w) → TabledIn b w (IntTy k) v z
-  kind-tabled k v z h = subst (λ x. TabledIn b w (IntTy k) v x) (sym h.1) (refl, (h.0, int-fair k T v h.0))
+  kind-tabled k v z h = subst (λ x. TabledIn b w (IntTy k) v x) (sym h.1) (refl, all-same T, (h.0, int-fair k T v h.0))
 
   abbrev Val : Ty → Worth → World → Type 0
   Val t v z = Value b z t v
@@ -291,8 +318,8 @@ module _ (b : Setting) (os : List ℕ) (w : World) (sound : IsSound b os w) wher
       leaves (op.CalculatesOne o k v) t (IntTy k) h h.2 (answers-more _ _ (kind-tabled k) (plainly b (op.CalculatesOne o k v) w) (one-gives o k v w h.0 h.1.0))
   answers (op.Tests v) t h a = leaves (op.Tests v) t (IntTy Int) h h.2 (tests-gives b w within (IntTy Int) truth_int v (truth-value b w within Int))
   answers (op.Negates v) t h a = leaves (op.Negates v) t (IntTy Int) h h.2 (tests-gives b w within (IntTy Int) opposite v (opposite-value b w within Int))
-  answers (op.Accepts v) t h a = leaves (op.Accepts v) t t h refl (unless-answers (TabledIn b w t) (unpresent v) w _ (refl, h))
-  answers (op.Needs v) t h a = leaves (op.Needs v) t t h refl (unless-answers (TabledIn b w t) (unplain v) w _ (refl, h.2))
+  answers (op.Accepts v) t h a = leaves (op.Accepts v) t t h refl (unless-answers (TabledIn b w t) (unpresent v) w _ (refl, all-same T, h))
+  answers (op.Needs v) t h a = leaves (op.Needs v) t t h refl (unless-answers (TabledIn b w t) (unplain v) w _ (refl, all-same T, h.2))
   answers (op.Moves minus first size v x) t h a = leaves (op.Moves minus first size v x) t (PointerTo h.2) h h.6 (moves-gives b w within minus first size h.0 h.1 h.2 v x h.3 h.4)
   answers (op.Subtracts size v x) t h a = leaves (op.Subtracts size v x) t (IntTy Long) h h.6 (subtracts-gives b w within size h.0 h.1 v x h.4 h.2 h.3)
   answers (op.Orders o v x) t h a = leaves (op.Orders o v x) t (IntTy Int) h h.5 (orders-gives b w within o v x h.4)
@@ -307,7 +334,7 @@ module _ (b : Setting) (os : List ℕ) (w : World) (sound : IsSound b os w) wher
       leaves-keeping (Val t) (plainly b (op.Writes l place v from rivals) w) (onward (op.Writes l place v from rivals) t h)
       (subst (λ y. Answering (Keeping (Val y)) (writes b l place v from rivals w)) (sym h.4)
       (subst (λ x. Answering (Keeping (Val (bare h.0))) (writes b x place v from rivals w)) (sym h.1) (writes-gives h.0 place v from rivals (subst (λ y. Value b w y v) h.4 h.6))))
-  answers (op.NamesObject o) t h a = leaves (op.NamesObject o) t t h refl (place-gives (instance_of w o (object_at b.unit o).lasting) t h.0 h.1 (sound.objects o h.2))
+  answers (op.NamesObject o) t h a = leaves (op.NamesObject o) t t h refl (place-gives (instance_of w o (object_at b.unit o).lasting) t h.0 h.1 (home-number T (instance_for b o w) (size_of b (object_at b.unit o).t) (sound.objects o h.2)))
   answers (op.NamesLiteral l) t h a = leaves (op.NamesLiteral l) t t h refl (place-gives (literal_of w l) t h.0 h.1 (sound.literals l h.2))
   answers (op.NamesFunction f) t h a = leaves (op.NamesFunction f) t t h refl (place-gives (function_of w f) t h.0 h.1 (sound.functions f h.2))
   answers (op.Asks f args) t h a = leaves-keeping (Val t) (asks f args w) (onward (op.Asks f args) t h) (a f args h)
@@ -326,25 +353,25 @@ module _ (b : Setting) (os : List ℕ) (w : World) (sound : IsSound b os w) wher
   abbrev There : Ty → Worth → World → Type 0
   There t v z = Value b z t v × IsThere v
 
-  present-there : (t : Ty) (v : Worth) → Value b w t v → Answering (λ v z. (z ≡ with_table w z.memory.table) × There t v z) (accepts v w)
+  present-there : (t : Ty) (v : Worth) → Value b w t v → Answering (λ v z. (z ≡ with_table w z.memory.table) × AllLiveStill T z.memory.table × There t v z) (accepts v w)
   present-there t Missing h = tt
-  present-there t Nothing h = (refl, (h, tt))
-  present-there t (Scalar v) h = (refl, (h, tt))
-  present-there t (Whole bs a) h = (refl, (h, tt))
+  present-there t Nothing h = (refl, all-same T, (h, tt))
+  present-there t (Scalar v) h = (refl, all-same T, (h, tt))
+  present-there t (Whole bs a) h = (refl, all-same T, (h, tt))
 
   pub accepted : (t : Ty) (v : Worth) → Value b w t v → Answering (Leaving (There t)) (plainly b (op.Accepts v) w)
   accepted t v h = leaves-tabled (There t) (accepts v w) (onward (op.Accepts v) t h) (present-there t v h)
 
-  found-fits : (t : Ty) (p : Pointer) (U : Table) (o : Option ℕ) (us : List What) (c : Bool) → may_call b t o ≡ c → Answering (λ v z. (z ≡ with_table w z.memory.table) × MayBeCalled b t v z) (if c then Answers (int (pos (unwrap_or o 0))) (with_table w U) (telling us) else Fails unlike (Some p.prov) (with_table w U) (telling us))
-  found-fits t p U o us false e = tt
-  found-fits t p U None us true e = absurd (false≢true e)
-  found-fits t p U (Some f) us true e = (refl, e)
+  found-fits : (t : Ty) (p : Pointer) (U : Table) (o : Option ℕ) (us : List What) (c : Bool) → AllLiveStill T U → may_call b t o ≡ c → ((f : ℕ) → o ≡ Some f → HasBody b.unit f) → Answering (λ v z. (z ≡ with_table w z.memory.table) × AllLiveStill T z.memory.table × MayBeCalled b t v z) (if c then Answers (int (pos (unwrap_or o 0))) (with_table w U) (telling us) else Fails unlike (Some p.prov) (with_table w U) (telling us))
+  found-fits t p U o us false l e h = tt
+  found-fits t p U None us true l e h = absurd (false≢true e)
+  found-fits t p U (Some f) us true l e h = (refl, l, (e, h f refl))
 
-  found-by : (t : Ty) (p : Pointer) (got : Result (ℕ × Tried) Stop × Table) → Answering (λ v z. (z ≡ with_table w z.memory.table) × MayBeCalled b t v z) (found_by w p (may_call b t) got)
-  found-by t p (Ok r, U) = found-fits t p U (owner_of w r.0) (used code_test r.1) (may_call b t (owner_of w r.0)) refl
-  found-by t p (Err y, U) = tt
+  found-by : (t : Ty) (p : Pointer) (got : Result (ℕ × Tried) Stop × Table) → AllLiveStill T got.1 → IfOk got.0 (λ (r : ℕ × Tried). IsCode T r.0) → Answering (λ v z. (z ≡ with_table w z.memory.table) × AllLiveStill T z.memory.table × MayBeCalled b t v z) (found_by w p (may_call b t) got)
+  found-by t p (Ok r, U) l c = found-fits t p U (owner_of w r.0) (used code_test r.1) (may_call b t (owner_of w r.0)) l refl (λ f e. sound.code r.0 f c e)
+  found-by t p (Err y, U) l c = tt
 
   pub found : (t : Ty) (v : Worth) → Onward (Led ⊥) w (finds (may_call b t) v w) → Answering (Leaving (MayBeCalled b t)) (finds (may_call b t) v w)
   found t v l =
       leaves-tabled (MayBeCalled b t) (finds (may_call b t) v w) l
-      (unless-answers _ (unplain v) w _ (found-by t (pointer_of v) (code w.memory.table (pointer_of v))))
+      (unless-answers _ (unplain v) w _ (found-by t (pointer_of v) (code w.memory.table (pointer_of v)) (code-live w.memory.table (pointer_of v)) (code-found w.memory.table (pointer_of v))))

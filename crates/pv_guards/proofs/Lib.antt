@@ -4,6 +4,8 @@ pub mod Fair
 pub mod Found
 pub mod Pointing
 pub mod Differences
+pub mod Living
+pub mod Chosen
 pub mod Made
 pub mod Suits
 pub mod Promised
@@ -17,10 +19,12 @@ pub mod Expressions
 pub mod LibraryWays
 pub mod Characters
 pub mod LibraryPrinting
+pub mod Allocations
 pub mod LibraryCalls
 pub mod LibraryLeads
 pub mod Concluding
 pub mod Sure
+pub mod Possible
 pub mod Objects
 pub mod Statements
 pub mod Bodies

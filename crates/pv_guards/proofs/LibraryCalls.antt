@@ -1,6 +1,6 @@
 -- What holds of a memory and itself, and of a memory before and behind each way in which a step of a call changes it, holds of every call
 -- of the library (C17 7.21.6, 7.22.3, 7.24). Only memory management functions make and end instances (7.22.3).
-use Rattle.std.proofs.Common.{◌≡◌, ℕ, zero, suc, ◌+◌, ◌*◌, ◌<◌, ◌≤◌, ◌∷◌, ◌++◌, map, pos, negsuc, ℤ, Bool, true, false, not, cond, eqb, List, [], length, Option, Some, None, Result, Ok, Err, refl, arith}
+use Rattle.std.proofs.Common.{◌≡◌, ℕ, zero, suc, ◌+◌, ◌*◌, ◌<◌, ◌≤◌, ◌∷◌, ◌++◌, map, pos, negsuc, ℤ, Bool, true, false, not, cond, eqb, List, [], length, Option, Some, None, Result, Ok, Err, refl, sym, subst, arith}
 use Rattle.std.proofs.lemmas.Bool.Decides.{nat_tests}
 use Rattle.pv_num.specs.declared.faults.Clause.{Clause}
 use Rattle.pv_num.specs.declared.faults.Clause.TheVariants as clause
@@ -31,6 +31,8 @@ use Rattle.pv_libc.specs.Heap.{told_of, heap_request, granted, requested, alloca
 use Rattle.pv_libc.specs.Calls.{argument_at, number, size, called_in, called}
 use Rattle.pv_guards.proofs.LibraryWays.{Ways, IsCharacter, when-steps, Steps, next-steps, about-steps, step-if, reached-steps, at-steps, row-steps, text-steps}
 use Rattle.pv_guards.proofs.LibraryPrinting.{printf-steps}
+use Rattle.pv_guards.proofs.Living.{IsAllocation}
+use Rattle.pv_guards.proofs.Allocations.{block-is, requested-is, both-table}
 
 some-size : (n : ℕ) → eqb n 0 ≡ false → 1 ≤ n
 some-size n e = grind (arith, nat_tests)
@@ -93,7 +95,7 @@ module _ {R : Mem → Mem → Type 0} (w : Ways R) where
 
   strcpy-steps : (to from : _) (S : Now) → Steps w S (strcpy to from S)
   strcpy-steps to from S =
-      when-steps w (Each (λ (v : ℕ). v < 256)) S (string_at Text from S) _ (text-steps w Text from S) (string-small Text from S) (λ s T q.
+      when-steps w (λ s T. Each (λ (v : ℕ). v < 256) s) S (string_at Text from S) _ (text-steps w Text from S) (string-small Text from S) (λ s T q.
       next-steps w T (reached Text true to (length s + 1) T) _ (reached-steps w Text true to (length s + 1) T) (λ t U. step-if w U _ _ _ w.itself (w.stores U.memory t.address (map plain_byte (s ++ 0 ∷ [])) (characters-plain (s ++ 0 ∷ []) (zero-behind s q)))))
 
   -- memory management
@@ -113,7 +115,7 @@ module _ {R : Mem → Mem → Type 0} (w : Ways R) where
   requested-steps : (n : ℕ) (S : Now) → Steps w S (requested n S)
   requested-steps n S =
       requested-by S (eqb n 0) _ (granted S (created S.memory (heap_request n))) w.itself
-      (λ e. granted-steps S (created S.memory (heap_request n)) (w.makes S.memory (heap_request n) (some-size n e)))
+      (λ e. granted-steps S (created S.memory (heap_request n)) (w.makes S.memory (heap_request n) (some-size n e) refl))
 
   allocated-steps : (r : Result ℕ Reply) (S : Now) → Steps w S (allocated r S)
   allocated-steps (Err x) S = w.itself
@@ -139,7 +141,7 @@ module _ {R : Mem → Mem → Type 0} (w : Ways R) where
       about-steps w S g.stopped (block_by c g S (use_answer S.memory.table g.pointer.prov t)) (w.uses S.memory g.pointer.prov t)
 
   free-steps : (g : _) (S : Now) → Steps w S (free g S)
-  free-steps g S = step-if w S (is_null g.pointer) _ _ w.itself (next-steps w S (block clause.Freeing g S) freed (block-steps clause.Freeing g S) (λ i T. w.ends T.memory i))
+  free-steps g S = step-if w S (is_null g.pointer) _ _ w.itself (when-steps w (λ i T. IsAllocation T.memory.table i) S (block clause.Freeing g S) freed (block-steps clause.Freeing g S) (block-is clause.Freeing g S) (λ i T h. w.ends T.memory i h))
 
   both-closed : (o p : Option Info) (M : Mem) → R M (both o p M)
   both-closed (Some x) (Some y) M = w.copies M y.base x.base (min x.size y.size)
@@ -147,16 +149,19 @@ module _ {R : Mem → Mem → Type 0} (w : Ways R) where
   both-closed None (Some y) M = w.itself
   both-closed None None M = w.itself
 
-  moved-steps : (i : ℕ) (r : Result ℕ Reply) (S : Now) → Steps w S (moved i r S)
-  moved-steps i (Err x) S = w.itself
-  moved-steps i (Ok j) S = w.trans (both-closed (told_of S.memory i) (told_of S.memory j) S.memory) (w.ends (both (told_of S.memory i) (told_of S.memory j) S.memory) i)
+  moved-steps : (i : ℕ) (r : Result ℕ Reply) (S : Now) → IsAllocation S.memory.table i → Steps w S (moved i r S)
+  moved-steps i (Err x) S h = w.itself
+  moved-steps i (Ok j) S h =
+      let M = both (told_of S.memory i) (told_of S.memory j) S.memory in
+      w.trans (both-closed (told_of S.memory i) (told_of S.memory j) S.memory) (w.ends M i (subst (λ T. IsAllocation T i) (sym (both-table (told_of S.memory i) (told_of S.memory j) S.memory)) h))
 
-  resized-steps : (n i : ℕ) (S : Now) → Steps w S (resized n i S)
-  resized-steps n i S = step-if w S (eqb n 0) _ _ w.itself (next-steps w S (requested n S) (moved i) (requested-steps n S) (moved-steps i))
+  resized-steps : (n i : ℕ) (S : Now) → IsAllocation S.memory.table i → Steps w S (resized n i S)
+  resized-steps n i S h =
+      step-if w S (eqb n 0) _ _ w.itself (when-steps w (λ r T. IsAllocation T.memory.table i) S (requested n S) (moved i) (requested-steps n S) (requested-is n i S h) (λ r T k. moved-steps i r T k))
 
   realloc-steps : (g : _) (n : ℕ) (S : Now) → Steps w S (realloc g n S)
   realloc-steps g n S =
-      step-if w S (is_null g.pointer) _ _ (malloc-steps n S) (next-steps w S (block clause.Reallocating g S) (resized n) (block-steps clause.Reallocating g S) (λ i T. resized-steps n i T))
+      step-if w S (is_null g.pointer) _ _ (malloc-steps n S) (when-steps w (λ i T. IsAllocation T.memory.table i) S (block clause.Reallocating g S) (resized n) (block-steps clause.Reallocating g S) (block-is clause.Reallocating g S) (λ i T h. resized-steps n i T h))
 
   -- each function
   pub called-steps : (f : Library) (a : List Arg) (S : Now) → Steps w S (called_in f a S)

@@ -58,7 +58,7 @@ use Rattle.pv_typed.specs.TypedUnits.{layouts}
 use Rattle.pv_guards.specs.Worths.{IsOfType}
 use Rattle.pv_guards.specs.Typed.{IsResultOf}
 use Rattle.pv_guards.specs.Fair.{IsFair, AreFair, IsFairPointer, IsFairValue, IsArgument}
-use Rattle.pv_guards.specs.Soundness.{IsSound}
+use Rattle.pv_guards.specs.Soundness.{IsSound, AllLiveStill}
 use Rattle.pv_guards.specs.Soundness as sound
 use Rattle.pv_guards.specs.Promises.{Promised}
 use Rattle.pv_eval.specs.Operations.{Asks}
@@ -66,18 +66,21 @@ use Rattle.pv_guards.proofs.Fair.{Keeps, store-later, read-fair, written-fair, s
 use Rattle.pv_guards.proofs.Made.{instance-there, number-of, made-led, laid-led, led-changes}
 use Rattle.pv_guards.proofs.Results.{Answering}
 use Rattle.pv_guards.proofs.LibraryWays.{Ways, IsCharacter, When}
+use Rattle.pv_guards.proofs.Living.{all-same, all-on, same-live, uses-live, reach-live, value-live, to_int-live, place-live, ended-live}
+use Rattle.pv_guards.proofs.Allocations.{both-table}
 use Rattle.pv_guards.proofs.LibraryCalls.{called-closed}
 use Rattle.pv_guards.proofs.Characters.{when-all, string-short}
 use Rattle.pv_guards.proofs.Leaving.{Keeping, value-later}
 
--- from a memory to a later one, whose bytes are as fair
+-- from a memory to a later one, whose bytes are as fair, and in which what is no allocation lives still
 pub record Onto (b : Setting) (M N : Mem) : Type 0 where
   pub led : Led ⊥ M.table N.table
+  pub live : AllLiveStill M.table N.table
   pub fair : AreFair M.table M.bytes → AreFair N.table N.bytes
 
 module _ (b : Setting) where
-  table-onto : (M : Mem) (U : Table) → Led ⊥ M.table U → Onto b M (with_table M U)
-  table-onto M U l = record { led = l; fair = λ h. store-later M.table U (made-led M.table U l) M.bytes h }
+  table-onto : (M : Mem) (U : Table) → Led ⊥ M.table U → AllLiveStill M.table U → Onto b M (with_table M U)
+  table-onto M U l a = record { led = l; live = a; fair = λ h. store-later M.table U (made-led M.table U l) M.bytes h }
 
   characters-fair : (T : Table) (bytes : List Byte) → Each IsCharacter bytes → Each (IsFair T) bytes
   characters-fair T [] h = tt
@@ -87,27 +90,27 @@ module _ (b : Setting) where
   blank-fair T None m h = h
   blank-fair T (Some x) m h = spread-fair T m x.base x.size h
 
-  cleared-in-fair : (T : Table) (o : Option Instance) (m : Store) → AreFair T m → AreFair T (cleared_in o m)
+  pub cleared-in-fair : (T : Table) (o : Option Instance) (m : Store) → AreFair T m → AreFair T (cleared_in o m)
   cleared-in-fair T None m h = h
   cleared-in-fair T (Some x) m h = cleared-fair T m x.base x.size h
 
-  made-onto : (M : Mem) (w : Result ℕ CreateError × Table) → Led ⊥ M.table w.1 → Onto b M (made M w).1
-  made-onto M (Ok i, U) l = record { led = l; fair = λ h. blank-fair U (instance_at U.instances i) M.bytes (store-later M.table U (made-led M.table U l) M.bytes h) }
-  made-onto M (Err e, U) l = table-onto M U l
+  made-onto : (M : Mem) (w : Result ℕ CreateError × Table) → Led ⊥ M.table w.1 → AllLiveStill M.table w.1 → Onto b M (made M w).1
+  made-onto M (Ok i, U) l a = record { led = l; live = a; fair = λ h. blank-fair U (instance_at U.instances i) M.bytes (store-later M.table U (made-led M.table U l) M.bytes h) }
+  made-onto M (Err e, U) l a = table-onto M U l a
 
   pub onward : Ways (Onto b)
   onward = record {
-    itself = record { led = led-itself; fair = λ h. h };
-    trans = λ h g. record { led = led-trans h.led g.led; fair = λ f. g.fair (h.fair f) };
-    told = λ M. table-onto M (record M.table { pending = [] }) led-itself;
-    uses = λ M p t. table-onto M _ (use-leads M.table p t);
-    reaches = λ M p n align write by. table-onto M _ (reach-leads (led-changes b) M.table p n align write by);
-    loads = λ M bytes t. table-onto M _ (value-leads (led-changes b) M.table bytes t);
-    numbers = λ M p k. table-onto M _ (to_int-leads (led-changes b) M.table p k);
-    makes = λ M r some. made-onto M (place M.table r) (place-leads M.table r (λ x. absurd x));
-    ends = λ M i. record { led = ended-leads M.table i; fair = λ h. cleared-in-fair (ended M.table i) (instance_at M.table.instances i) M.bytes (store-later M.table (ended M.table i) (made-led M.table (ended M.table i) (ended-leads M.table i)) M.bytes h) };
-    stores = λ M a bytes c. record { led = led-itself; fair = λ h. written-fair M.table M.bytes a bytes h (characters-fair M.table bytes c) };
-    copies = λ M to from n. record { led = led-itself; fair = λ h. written-fair M.table M.bytes to (read M.bytes from n) h (read-fair M.table M.bytes from n h) };
+    itself = λ {M}. record { led = led-itself; live = all-same M.table; fair = λ h. h };
+    trans = λ {M} {N} {O} h g. record { led = led-trans h.led g.led; live = all-on M.table N.table O.table h.live g.live; fair = λ f. g.fair (h.fair f) };
+    told = λ M. table-onto M (record M.table { pending = [] }) led-itself (same-live M.table (record M.table { pending = [] }) refl);
+    uses = λ M p t. table-onto M _ (use-leads M.table p t) (uses-live M.table p (use_answer M.table p t));
+    reaches = λ M p n align write by. table-onto M _ (reach-leads (led-changes b) M.table p n align write by) (reach-live M.table p n align write by);
+    loads = λ M bytes t. table-onto M _ (value-leads (led-changes b) M.table bytes t) (value-live M.table bytes t);
+    numbers = λ M p k. table-onto M _ (to_int-leads (led-changes b) M.table p k) (to_int-live M.table p k);
+    makes = λ M r some none. made-onto M (place M.table r) (place-leads M.table r (λ x. absurd x)) (place-live M.table r none);
+    ends = λ M i a. record { led = ended-leads M.table i; live = ended-live M.table i a; fair = λ h. cleared-in-fair (ended M.table i) (instance_at M.table.instances i) M.bytes (store-later M.table (ended M.table i) (made-led M.table (ended M.table i) (ended-leads M.table i)) M.bytes h) };
+    stores = λ M a bytes c. record { led = led-itself; live = all-same M.table; fair = λ h. written-fair M.table M.bytes a bytes h (characters-fair M.table bytes c) };
+    copies = λ M to from n. record { led = led-itself; live = all-same M.table; fair = λ h. written-fair M.table M.bytes to (read M.bytes from n) h (read-fair M.table M.bytes from n h) };
   }
 
   pub call-fair : (f : Library) (args : List Arg) (M : Mem) → AreFair M.table M.bytes → AreFair (called f args M).after.memory.table (called f args M).after.memory.bytes
@@ -240,12 +243,6 @@ module _ (b : Setting) where
     calloc-replies : (count n : ℕ) (S : Now) → IsLaidOut S.memory.table → Leaves Replies (calloc count n S)
     calloc-replies count n S h = leaves-next Granted Replies (requested (count * n) S) cleared (requested-gives (count * n) S h) (λ r V g. cleared-replies r V g)
 
-    both-table : (o p : Option Info) (M : Mem) → (both o p M).table ≡ M.table
-    both-table (Some x) (Some y) M = refl
-    both-table (Some x) None M = refl
-    both-table None (Some y) M = refl
-    both-table None None M = refl
-
     moved-replies : (i : ℕ) (r : Result ℕ Reply) (S : Now) → Granted r S → Leaves Replies (moved i r S)
     moved-replies i (Err r) S h = h
     moved-replies i (Ok j) S h =
@@ -364,20 +361,20 @@ module _ (b : Setting) (os : List ℕ) (w : World) (s : IsSound b os w) where
   abbrev Q : Ty → Worth → World → Type 0
   Q t = Keeping b os w s (λ v z. sound.Value b z t v)
 
-  replied-gives : (t : Ty) (r : Reply) (S : Now) (told : Told) → Keeps w.memory.table S.memory.table → AreFair S.memory.table S.memory.bytes → Fitting b t w.memory.table S.memory.table r → Answering (Q t) (replied r (with_memory w S.memory) told)
-  replied-gives t reply.Nothing S told k f h = subst (λ u. Q u Nothing (with_memory w S.memory)) (sym h) (refl, refl, refl, refl, f, (tt, tt))
-  replied-gives t (reply.Value v) S told k f (h, inl g) = (refl, refl, refl, refl, f, (h (layouts b.unit), value-later w.memory.table S.memory.table k (Scalar v) g))
-  replied-gives t (reply.Value v) S told k f (h, inr g) = (refl, refl, refl, refl, f, (h (layouts b.unit), g))
-  replied-gives t (reply.Exit n) S told k f h = tt
-  replied-gives t reply.Abort S told k f h = tt
-  replied-gives t (reply.Placement e) S told k f h = tt
+  replied-gives : (t : Ty) (r : Reply) (S : Now) (told : Told) → Keeps w.memory.table S.memory.table → AllLiveStill w.memory.table S.memory.table → AreFair S.memory.table S.memory.bytes → Fitting b t w.memory.table S.memory.table r → Answering (Q t) (replied r (with_memory w S.memory) told)
+  replied-gives t reply.Nothing S told k a f h = subst (λ u. Q u Nothing (with_memory w S.memory)) (sym h) (refl, refl, refl, refl, refl, a, f, (tt, tt))
+  replied-gives t (reply.Value v) S told k a f (h, inl g) = (refl, refl, refl, refl, refl, a, f, (h (layouts b.unit), value-later w.memory.table S.memory.table k (Scalar v) g))
+  replied-gives t (reply.Value v) S told k a f (h, inr g) = (refl, refl, refl, refl, refl, a, f, (h (layouts b.unit), g))
+  replied-gives t (reply.Exit n) S told k a f h = tt
+  replied-gives t reply.Abort S told k a f h = tt
+  replied-gives t (reply.Placement e) S told k a f h = tt
 
-  asked-gives : (t : Ty) (text : List ℕ) (r : Result Reply Stop) (S : Now) → Keeps w.memory.table S.memory.table → AreFair S.memory.table S.memory.bytes → When (λ r. Fitting b t w.memory.table S.memory.table r) r → Answering (Q t) (asked w text r S)
-  asked-gives t text (Ok r) S k f h = replied-gives t r S _ k f h
-  asked-gives t text (Err y) S k f h = tt
+  asked-gives : (t : Ty) (text : List ℕ) (r : Result Reply Stop) (S : Now) → Keeps w.memory.table S.memory.table → AllLiveStill w.memory.table S.memory.table → AreFair S.memory.table S.memory.bytes → When (λ r. Fitting b t w.memory.table S.memory.table r) r → Answering (Q t) (asked w text r S)
+  asked-gives t text (Ok r) S k a f h = replied-gives t r S _ k a f h
+  asked-gives t text (Err y) S k a f h = tt
 
   pub asks-gives : (f : Library) (args : List Arg) (t : Ty) → Promised b os w (Asks f args) t → Answering (Q t) (asks f args w)
   asks-gives f args t h =
       asked-gives t (output f args w.memory) (called f args w.memory).answer (called f args w.memory).after
       (made-led w.memory.table (called f args w.memory).after.memory.table (called-leads (led-changes b) f args w.memory))
-      (call-fair b f args w.memory s.bytes) (call-replies b f args w.memory t h.0 h.1 s.laid)
+      (called-closed (onward b) f args w.memory).live (call-fair b f args w.memory s.bytes) (call-replies b f args w.memory t h.0 h.1 s.laid)

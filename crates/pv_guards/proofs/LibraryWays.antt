@@ -6,7 +6,7 @@ use Rattle.pv_num.specs.declared.kinds.IntKind.TheVariants.{UChar}
 use Rattle.pv_prov.specs.declared.names.Prov.{Prov}
 use Rattle.pv_prov.specs.declared.names.Prov.TheVariants.{Empty}
 use Rattle.pv_inst.specs.declared.values.Test.{Test}
-use Rattle.pv_inst.specs.Use.{use_answer, settled}
+use Rattle.pv_inst.specs.Use.{use_answer, settled, is_function}
 use Rattle.pv_inst.specs.Placing.{Request}
 use Rattle.pv_shadow.specs.declared.byte.Byte.{Byte}
 use Rattle.pv_shadow.specs.Bytes.{read}
@@ -25,6 +25,7 @@ use Rattle.pv_libc.specs.Steps.{Now, Did, next, next_by, about, about_by, reache
 use Rattle.pv_libc.specs.Characters.{character_in, character_loaded, character_at, characters_from, string_from, most, string_at}
 use Rattle.pv_object.specs.Storing.{with_bytes, copied}
 use Rattle.pv_typed.specs.Known.{Each}
+use Rattle.pv_guards.proofs.Living.{IsAllocation}
 
 -- 7.1.1p1: the byte of a character: a value, and no name
 pub record IsCharacter (x : Byte) : Type 0 where
@@ -42,8 +43,10 @@ pub record Ways (R : Mem → Mem → Type 0) : Type 0 where
   pub reaches : (M : Mem) (p : Pointer) (n align : ℕ) (write : Bool) (by : Asker) → R M (with_table M (reach M.table p n align write by).1)
   pub loads : (M : Mem) (bytes : List Byte) (t : Scalar) → R M (with_table M (value_of M.table bytes t).1)
   pub numbers : (M : Mem) (p : Pointer) (k : IntKind) → R M (with_table M (to_int M.table p k).1)
-  pub makes : (M : Mem) (r : Request) → 1 ≤ r.size → R M (created M r).1
-  pub ends : (M : Mem) (i : ℕ) → R M (without M i)
+  -- 7.22.3p1: what is made is no function
+  pub makes : (M : Mem) (r : Request) → 1 ≤ r.size → is_function r.kind ≡ false → R M (created M r).1
+  -- 7.22.3.3p2: only an allocation ends
+  pub ends : (M : Mem) (i : ℕ) → IsAllocation M.table i → R M (without M i)
   -- characters are stored, or bytes are copied whole
   pub stores : (M : Mem) (a : ℕ) (bytes : List Byte) → Each IsCharacter bytes → R M (with_bytes M a bytes)
   pub copies : (M : Mem) (to from n : ℕ) → R M (copied M to from n)
@@ -65,11 +68,11 @@ module _ {R : Mem → Mem → Type 0} (w : Ways R) where
   pub next-steps : {A B : Type 0} (S : Now) (d : Did A) (rest : A → Now → Did B) → Steps S d → ((a : A) (T : Now) → Steps T (rest a T)) → Steps S (next d rest)
   next-steps S d rest h g = next-by S d.answer d rest h g
 
-  when-by : {A B : Type 0} (P : A → Type 0) (S : Now) (r : Result A Stop) (d : Did A) (rest : A → Now → Did B) → Steps S d → When P r → ((a : A) (T : Now) → P a → Steps T (rest a T)) → Steps S (next_by r d rest)
+  when-by : {A B : Type 0} (P : A → Now → Type 0) (S : Now) (r : Result A Stop) (d : Did A) (rest : A → Now → Did B) → Steps S d → When (λ a. P a d.after) r → ((a : A) (T : Now) → P a T → Steps T (rest a T)) → Steps S (next_by r d rest)
   when-by P S (Ok a) d rest h p g = w.trans h (g a d.after p)
   when-by P S (Err stop) d rest h p g = h
 
-  pub when-steps : {A B : Type 0} (P : A → Type 0) (S : Now) (d : Did A) (rest : A → Now → Did B) → Steps S d → When P d.answer → ((a : A) (T : Now) → P a → Steps T (rest a T)) → Steps S (next d rest)
+  pub when-steps : {A B : Type 0} (P : A → Now → Type 0) (S : Now) (d : Did A) (rest : A → Now → Did B) → Steps S d → When (λ a. P a d.after) d.answer → ((a : A) (T : Now) → P a T → Steps T (rest a T)) → Steps S (next d rest)
   when-steps P S d rest h p g = when-by P S d.answer d rest h p g
 
   about-by : {A : Type 0} (S : Now) (r : Result A Stop) (note : Note) (d : Did A) → Steps S d → Steps S (about_by r note d)

@@ -1,50 +1,54 @@
 -- What operations on objects leave: bodies, and the objects in scope (C17 6.2.4, 6.7.9, 6.9.1).
-use Rattle.std.proofs.Common.{◌≡◌, ◌≢◌, ℕ, zero, suc, ◌+◌, ◌<◌, ◌^◌, Bool, true, false, not, cond, eqb, List, [], ◌∷◌, take, replicate, Option, Some, None, Result, Ok, Err, refl, sym, ap, ◌∙◌, subst, arith, ◌⊎◌, inl, inr}
-use Rattle.std.specs.Prelude.{unwrap_or, if◌then◌else◌, ◌==◌}
+use Rattle.std.proofs.Common.{◌≡◌, ◌≢◌, ℕ, zero, suc, ◌+◌, ◌<◌, ◌≤◌, ◌^◌, Bool, true, false, cond, eqb, List, [], ◌∷◌, ◌++◌, length, length-append, take, replicate, Option, Some, None, Result, Ok, Err, refl, sym, ap, ◌∙◌, subst, arith, ◌⊎◌, inl, inr}
+use Rattle.std.specs.Prelude.{unwrap_or, if◌then◌else◌, ◌-◌, ◌==◌, slice_index_or}
 use Rattle.std.specs.FinMap as map
 use Rattle.std.specs.FinMap.{get-insert}
 use Rattle.std.specs.Cmp.{nat_cmp_total, unsigned_tied}
-use Rattle.std.proofs.lemmas.Bool.{le-leb}
 use Rattle.std.proofs.lemmas.Bool.Decides.{nat_tests}
-use Rattle.pv_types.specs.Layouts.{layout_in, is_complete_in}
+use Rattle.pv_types.specs.Ty.{Ty}
+use Rattle.pv_layout.specs.Parts.{bare}
 use Rattle.pv_inst.specs.declared.values.CreateError.{CreateError}
 use Rattle.pv_inst.specs.Table.{Table, instance_at, IsNumber}
 use Rattle.pv_inst.specs.Placing.{Request, place}
+use Rattle.pv_inst.specs.Ending.{ended}
+use Rattle.pv_inst.specs.Use.{is_heap, is_function}
 use Rattle.pv_inst.proofs.Apartness.{same_or_not}
 use Rattle.pv_shadow.specs.declared.byte.Byte.{Byte}
 use Rattle.pv_shadow.specs.Whole.{plain}
-use Rattle.pv_object.specs.Creating.{made}
-use Rattle.pv_object.proofs.Born.{born}
+use Rattle.pv_object.specs.Memory.{Mem}
+use Rattle.pv_object.specs.Creating.{made, without}
+use Rattle.pv_object.proofs.Born.{IsBorn, born}
 use Rattle.pv_typed.specs.Known.{Each}
-use Rattle.pv_typed.specs.TypedUnits.{layouts, object_at, literal_at}
-use Rattle.pv_world.specs.Worlds.{Worth, Nothing, World, Bindings}
-use Rattle.pv_world.specs.Doing.{Done}
-use Rattle.pv_world.specs.Objects.{fills_object, puts_bytes, ends_object, bound_in, bind_in, bind, owning, instance_of, base_in, object_made, makes_object, filling}
+use Rattle.pv_typed.specs.TypedUnits.{object_at, literal_at}
+use Rattle.pv_world.specs.Worlds.{Worth, World, Bindings}
+use Rattle.pv_world.specs.Objects.{bind, bound_in, bind_in, owned_next, owning, owner_of, instance_of, base_in, object_made, makes_object, filling}
 use Rattle.pv_eval.specs.States.{Setting, State}
 use Rattle.pv_eval.specs.Acting.{sided}
-use Rattle.pv_eval.specs.TypeForms.{Lvalue, size_of}
+use Rattle.pv_eval.specs.TypeForms.{lvalue, size_of}
 use Rattle.pv_world.specs.Accesses.{stored_as}
-use Rattle.pv_eval.specs.Suiting.{is_size, is_live}
-use Rattle.pv_eval.specs.Objects.{where_possible, heap_name, has_extent, can_make, request_of, instance_for, can_fill, can_put, can_put_text, text_for}
-use Rattle.pv_eval.specs.Operations.{Makes, Ends, Fills, Puts, PutsText, works, act}
+use Rattle.pv_eval.specs.Objects.{request_of, instance_for, text_for}
+use Rattle.pv_eval.specs.Operations.{Op, Makes, Ends, Fills, Puts, PutsText, does, act}
 use Rattle.pv_exec.proofs.Memory.Rows.{Leads as Led}
-use Rattle.pv_exec.proofs.Memory.Tables.{place-leads}
+use Rattle.pv_exec.proofs.Memory.Tables.{place-leads, ended-leads}
+use Rattle.pv_exec.proofs.Memory.Worlds.{Onward}
 use Rattle.pv_exec.proofs.Memory.Operations.{does-on}
+use Rattle.pv_guards.specs.Worths.{IsThere}
 use Rattle.pv_guards.specs.Fair.{IsFair}
-use Rattle.pv_guards.specs.Typed.{IsIn}
-use Rattle.pv_guards.specs.Soundness.{IsFairWorth, IsSound, IsAfter}
+use Rattle.pv_guards.specs.Typed.{IsIn, IsInScope, IsValueType}
+use Rattle.pv_guards.specs.Soundness.{Value, IsHomeIn, IsHome, IsCode, LiveStill, AllLiveStill, IsSound, IsAfter}
 use Rattle.pv_guards.specs.TypedStatements.{IsMakeable}
-use Rattle.pv_guards.specs.Plain.{act_plainly}
-use Rattle.pv_guards.proofs.Numbers.{both}
+use Rattle.pv_guards.specs.Plain.{plainly, act_plainly}
 use Rattle.pv_guards.proofs.Found.{no-name}
 use Rattle.pv_guards.proofs.Fair.{Keeps, store-later, written-fair, plain-fair}
+use Rattle.pv_guards.proofs.Living.{all-same, all-on, place-live, IsNext, next-made, next-home, home-later, none-earlier, new-other, ended-others, ended-code, ended-none, ended-length, code-earlier, not-code}
 use Rattle.pv_guards.proofs.Made.{number-of, number-led, made-led, laid-led, led-changes}
+use Rattle.pv_guards.proofs.Possible.{makes-same, ends-same, fills-same, puts-same, text-same}
 use Rattle.pv_guards.proofs.Results.{Answering}
 use Rattle.pv_guards.proofs.Triples.{Holds}
-use Rattle.pv_guards.proofs.Leaving.{ordered, Keeping, leaves-keeping, stored-fair}
+use Rattle.pv_guards.proofs.Leaving.{ordered, instance-same, Keeping, leaves-keeping, stored-fair}
 use Rattle.pv_guards.proofs.Acting.{acts-so, sides-keep}
-use Rattle.pv_guards.proofs.LibraryLeads.{onward, blank-fair}
-use Rattle.pv_guards.proofs.Sure.{Sure, acted-lands}
+use Rattle.pv_guards.proofs.LibraryLeads.{blank-fair, cleared-in-fair}
+use Rattle.pv_guards.proofs.Sure.{Sure, does-sure}
 
 -- 6.9.1: a body has begun, above these
 abbrev pub InBody : List Bindings → World → Type 0
@@ -53,30 +57,55 @@ InBody rest z = (m : Bindings) × (z.bodies ≡ m ∷ rest)
 -- a later world, whose bodies may be others
 pub record IsLater (w z : World) : Type 0 where
   pub made : Keeps w.memory.table z.memory.table
+  pub lives : AllLiveStill w.memory.table z.memory.table
   pub statics : z.statics ≡ w.statics
   pub literals : z.literals ≡ w.literals
   pub functions : z.functions ≡ w.functions
 
--- within a body: a later world than that in which it was begun, which is sound
+-- within a body: a later world than that in which it was begun, which is sound; the body's own objects were made since
 pub record Within (b : Setting) (os : List ℕ) (rest : List Bindings) (w z : World) : Type 0 where
   pub later : IsLater w z
   pub sound : IsSound b os z
   pub body : InBody rest z
+  pub own : (o : ℕ) → IsIn o os → (object_at b.unit o).lasting ≡ false → instance_at w.memory.table.instances (instance_for b o z) ≡ None
 
 pub later-after : {w y z : World} → IsLater w y → IsAfter y z → IsLater w z
-later-after h g = record { made = λ p k. g.made p (h.made p k); statics = g.statics ∙ h.statics; literals = g.literals ∙ h.literals; functions = g.functions ∙ h.functions }
+later-after {w} {y} {z} h g = record {
+  made = λ p k. g.made p (h.made p k);
+  lives = all-on w.memory.table y.memory.table z.memory.table h.lives g.lives;
+  statics = g.statics ∙ h.statics;
+  literals = g.literals ∙ h.literals;
+  functions = g.functions ∙ h.functions;
+}
 
 -- fewer objects are in scope
-pub sound-less : (b : Setting) (os ds : List ℕ) (w : World) → ((n : ℕ) → IsIn n os → IsIn n ds) → IsSound b ds w → IsSound b os w
-sound-less b os ds w f s = record { laid = s.laid; bytes = s.bytes; objects = λ o h. s.objects o (by o (object_at b.unit o).lasting h); literals = s.literals; functions = s.functions }
+pub scope-more : (b : Setting) (os ds : List ℕ) → ((n : ℕ) → IsIn n os → IsIn n ds) → (o : ℕ) → IsInScope b.unit os o → IsInScope b.unit ds o
+scope-more b os ds f o h = by (object_at b.unit o).lasting h
   where
-    by : (o : ℕ) (c : Bool) → IsIn o (if c then b.unit.statics else os) → IsIn o (if c then b.unit.statics else ds)
-    by o true h = h
-    by o false h = f o h
+    by : (c : Bool) → IsIn o (if c then b.unit.statics else os) → IsIn o (if c then b.unit.statics else ds)
+    by true h = h
+    by false h = f o h
 
-possible : (Q : Worth → World → Type 0) (c : Bool) (w : World) (d : Done) → Answering Q d → Q Nothing w → Answering Q (where_possible c w d)
-possible Q true w d h g = h
-possible Q false w d h g = g
+pub sound-less : (b : Setting) (os ds : List ℕ) (w : World) → ((n : ℕ) → IsIn n os → IsIn n ds) → IsSound b ds w → IsSound b os w
+sound-less b os ds w f s = record {
+  laid = s.laid;
+  bytes = s.bytes;
+  objects = λ o h. s.objects o (scope-more b os ds f o h);
+  apart = λ o q h g e. s.apart o q (scope-more b os ds f o h) (scope-more b os ds f q g) e;
+  literals = s.literals;
+  functions = s.functions;
+  code = s.code;
+  owned = s.owned;
+}
+
+-- what is the body's own stays so
+pub own-after : (b : Setting) (os : List ℕ) (w y z : World) → IsAfter y z → ((o : ℕ) → IsIn o os → (object_at b.unit o).lasting ≡ false → instance_at w.memory.table.instances (instance_for b o y) ≡ None)
+    → (o : ℕ) → IsIn o os → (object_at b.unit o).lasting ≡ false → instance_at w.memory.table.instances (instance_for b o z) ≡ None
+own-after b os w y z g h o k a = ap (instance_at w.memory.table.instances) (instance-same y z g.statics g.bodies o (object_at b.unit o).lasting) ∙ h o k a
+
+-- 6.2.4p5: an automatic object in scope
+pub in-scope : (b : Setting) (os : List ℕ) (o : ℕ) → (object_at b.unit o).lasting ≡ false → IsIn o os → IsInScope b.unit os o
+in-scope b os o e h = subst (λ c. IsIn o (if c then b.unit.statics else os)) (sym e) h
 
 pub filling-fair-of : (T : Table) (v : Option ℕ) → ((n : ℕ) → v ≡ Some n → n < 256) → IsFair T (filling v)
 filling-fair-of T v h = record { value = h; named = tt; high = λ i n p e f k. absurd (no-name p) }
@@ -90,59 +119,123 @@ take-small zero vs h = tt
 take-small (suc n) [] h = tt
 take-small (suc n) (v ∷ vs) h = (h.0, take-small n vs h.1)
 
+-- 6.7.9: stores into an object in scope, which lives
 module _ (b : Setting) (os : List ℕ) where
   abbrev Any : Worth → World → Type 0
   Any v z = Unit {0}
 
-  -- operations that keep bindings
-  module _ (w : World) (s : IsSound b os w) where
-    abbrev Q : Worth → World → Type 0
-    Q = Keeping b os w s Any
-
-    stays : Q Nothing w
-    stays = (refl, refl, refl, refl, s.bytes, tt)
-
-    pub fills-keeps : (o : ℕ) (v : Option ℕ) → ((n : ℕ) → v ≡ Some n → n < 256) → Answering Q (works b (Fills o v) w)
-    fills-keeps o v h =
-        possible Q (can_fill b o w) w (fills_object o (object_at b.unit o).lasting (size_of b (object_at b.unit o).t) v w)
-        (refl, refl, refl, refl, written-fair w.memory.table w.memory.bytes (base_in w (instance_of w o (object_at b.unit o).lasting)) (replicate (size_of b (object_at b.unit o).t) (filling v)) s.bytes (all-fair-of w.memory.table (size_of b (object_at b.unit o).t) (filling v) (filling-fair-of w.memory.table v h)), tt) stays
-
-    pub puts-keeps : (o offset : ℕ) (l : Lvalue) (v : Worth) → IsFairWorth w.memory.table v → Answering Q (works b (Puts o offset l v) w)
-    puts-keeps o offset l v h =
-        possible Q (can_put b o offset l v w) w (puts_bytes o (object_at b.unit o).lasting offset (stored_as l.number l.shape v) w)
-        (refl, refl, refl, refl, written-fair w.memory.table w.memory.bytes (base_in w (instance_of w o (object_at b.unit o).lasting) + offset) (stored_as l.number l.shape v) s.bytes (stored-fair w.memory.table l.number l.shape v h), tt) stays
-
-    pub text-keeps : (o offset size l : ℕ) → Each (λ (v : ℕ). v < 256) (literal_at b.unit l).bytes → Answering Q (works b (PutsText o offset size l) w)
-    text-keeps o offset size l h =
-        possible Q (can_put_text b o offset size l w) w (puts_bytes o (object_at b.unit o).lasting offset (plain None 0 (text_for b size l)) w)
-        (refl, refl, refl, refl, written-fair w.memory.table w.memory.bytes (base_in w (instance_of w o (object_at b.unit o).lasting) + offset) (plain None 0 (text_for b size l)) s.bytes (plain-fair w.memory.table None 0 (text_for b size l) (take-small size (literal_at b.unit l).bytes h)), tt) stays
-
-    pub ends-keeps : (o : ℕ) → Answering Q (works b (Ends o) w)
-    ends-keeps o =
-        possible Q (is_live w (instance_for b o w)) w (ends_object o (object_at b.unit o).lasting w)
-        (refl, refl, refl, refl, ((onward b).ends w.memory (instance_for b o w)).fair s.bytes, tt) stays
-
   keeps-any : (v : Worth) (w z : World) → IsAfter w z → Any v w → Any v z
   keeps-any v w z g h = tt
 
-  pub fills-holds : (line o : ℕ) (v : Option ℕ) (w : World) → ((n : ℕ) → v ≡ Some n → n < 256) → Holds (ordered b os) Any w (act b line (Fills o v)) (act_plainly b line (Fills o v))
-  fills-holds line o v w h = acts-so b os Any keeps-any line (Fills o v) w (λ z g s. (refl, leaves-keeping b os z s Any (works b (Fills o v) z) (does-on b (led-changes b) (Fills o v) z) (fills-keeps z s o v h)))
+  stores-so : (line : ℕ) (op : Op) (w : World) → ((z : World) (g : IsAfter w z) (s : IsSound b os z) → (does b op z ≡ plainly b op z) × Answering (Keeping b os z s Any) (plainly b op z)) → Holds (ordered b os) Any w (act b line op) (act_plainly b line op)
+  stores-so line op w h =
+      acts-so b os Any keeps-any line op w (λ z g s.
+      let p = h z g s in
+      (p.0, leaves-keeping b os z s Any (plainly b op z) (subst (λ d. Onward (Led ⊥) z d) p.0 (does-on b (led-changes b) op z)) p.1))
 
-  pub puts-holds : (line o offset : ℕ) (l : Lvalue) (v : Worth) (w : World) → ((z : World) → IsAfter w z → IsFairWorth z.memory.table v) → Holds (ordered b os) Any w (act b line (Puts o offset l v)) (act_plainly b line (Puts o offset l v))
-  puts-holds line o offset l v w h = acts-so b os Any keeps-any line (Puts o offset l v) w (λ z g s. (refl, leaves-keeping b os z s Any (works b (Puts o offset l v) z) (does-on b (led-changes b) (Puts o offset l v) z) (puts-keeps z s o offset l v (h z g))))
+  module _ (line o : ℕ) (w : World) (scope : IsInScope b.unit os o) (small : size_of b (object_at b.unit o).t ≤ 2 ^ 32) where
+    pub fills-holds : (v : Option ℕ) → ((n : ℕ) → v ≡ Some n → n < 256) → Holds (ordered b os) Any w (act b line (Fills o v)) (act_plainly b line (Fills o v))
+    fills-holds v h =
+        stores-so line (Fills o v) w (λ z g s.
+        let T = z.memory.table in
+        let n = size_of b (object_at b.unit o).t in (
+          fills-same b z o (s.objects o scope) v small,
+          (refl, refl, refl, refl, refl, all-same T, written-fair T z.memory.bytes (base_in z (instance_of z o (object_at b.unit o).lasting)) (replicate n (filling v)) s.bytes (all-fair-of T n (filling v) (filling-fair-of T v h)), tt),
+        ))
 
-  pub text-holds : (line o offset size l : ℕ) (w : World) → Each (λ (v : ℕ). v < 256) (literal_at b.unit l).bytes → Holds (ordered b os) Any w (act b line (PutsText o offset size l)) (act_plainly b line (PutsText o offset size l))
-  text-holds line o offset size l w h = acts-so b os Any keeps-any line (PutsText o offset size l) w (λ z g s. (refl, leaves-keeping b os z s Any (works b (PutsText o offset size l) z) (does-on b (led-changes b) (PutsText o offset size l) z) (text-keeps z s o offset size l h)))
+    pub puts-holds : (offset : ℕ) (t : Ty) (v : Worth) → offset + size_of b t ≤ size_of b (object_at b.unit o).t → IsValueType (bare t) → IsThere v → ((z : World) → IsAfter w z → Value b z (bare t) v)
+        → Holds (ordered b os) Any w (act b line (Puts o offset (lvalue b t) v)) (act_plainly b line (Puts o offset (lvalue b t) v))
+    puts-holds offset t v lies valued there h =
+        stores-so line (Puts o offset (lvalue b t) v) w (λ z g s.
+        let T = z.memory.table in
+        let l = lvalue b t in
+        let f = h z g in (
+          puts-same b z o (s.objects o scope) offset t v small lies valued f there,
+          (refl, refl, refl, refl, refl, all-same T, written-fair T z.memory.bytes (base_in z (instance_of z o (object_at b.unit o).lasting) + offset) (stored_as l.number l.shape v) s.bytes (stored-fair T l.number l.shape v f.1), tt),
+        ))
 
-  pub ends-holds : (line o : ℕ) (w : World) → Holds (ordered b os) Any w (act b line (Ends o)) (act_plainly b line (Ends o))
-  ends-holds line o w = acts-so b os Any keeps-any line (Ends o) w (λ z g s. (refl, leaves-keeping b os z s Any (works b (Ends o) z) (does-on b (led-changes b) (Ends o) z) (ends-keeps z s o)))
+    pub text-holds : (offset size l : ℕ) → offset + size ≤ size_of b (object_at b.unit o).t → Each (λ (v : ℕ). v < 256) (literal_at b.unit l).bytes
+        → Holds (ordered b os) Any w (act b line (PutsText o offset size l)) (act_plainly b line (PutsText o offset size l))
+    text-holds offset size l lies h =
+        stores-so line (PutsText o offset size l) w (λ z g s.
+        let T = z.memory.table in (
+          text-same b z o (s.objects o scope) offset size l small lies,
+          (refl, refl, refl, refl, refl, all-same T, written-fair T z.memory.bytes (base_in z (instance_of z o (object_at b.unit o).lasting) + offset) (plain None 0 (text_for b size l)) s.bytes (plain-fair T None 0 (text_for b size l) (take-small size (literal_at b.unit l).bytes h)), tt),
+        ))
 
--- an instance that was made has a number
+-- an instance that was made has a number, and is new
 pub placed-number : (T : Table) (r : Request) (w : Result ℕ CreateError × Table) → place T r ≡ w → (i : ℕ) → w.0 ≡ Ok i → IsNumber w.1.instances i
 placed-number T r (Ok j, U) e i f =
     let n = born T U r i (sym f ∙ ap (λ (x : Result ℕ CreateError × Table). x.0) (sym e)) (ap (λ (x : Result ℕ CreateError × Table). x.1) (sym e)) in
     number-of U.instances i n.inst n.is
 placed-number T r (Err y, U) e i f = absurd cc
+
+pub placed-born : (T : Table) (r : Request) (w : Result ℕ CreateError × Table) → place T r ≡ w → (i : ℕ) → w.0 ≡ Ok i → IsBorn T w.1 i
+placed-born T r (Ok j, U) e i f = born T U r i (sym f ∙ ap (λ (x : Result ℕ CreateError × Table). x.0) (sym e)) (ap (λ (x : Result ℕ CreateError × Table). x.1) (sym e))
+placed-born T r (Err y, U) e i f = absurd cc
+
+pub placed-new : (T : Table) (r : Request) (w : Result ℕ CreateError × Table) → place T r ≡ w → (i : ℕ) → w.0 ≡ Ok i → instance_at T.instances i ≡ None
+placed-new T r w e i f = (placed-born T r w e i f).was
+
+-- the owners of instances: of the next one this, and of the others what they had
+none-owned : (m k : ℕ) (o : Option ℕ) → k ≢ m → slice_index_or (replicate m None ++ o ∷ []) k None ≡ None
+none-owned zero zero o d = absurd (d refl)
+none-owned zero (suc zero) o d = refl
+none-owned zero (suc (suc k)) o d = refl
+none-owned (suc m) zero o d = refl
+none-owned (suc m) (suc k) o d = none-owned m k o (λ e. d (ap suc e))
+
+others-owned : (os : List (Option ℕ)) (m k : ℕ) (o : Option ℕ) → k ≢ length os + m → slice_index_or ((os ++ replicate m None) ++ o ∷ []) k None ≡ slice_index_or os k None
+others-owned [] m k o d = none-owned m k o (λ e. d (omega (arith, e)))
+others-owned (x ∷ os) m zero o d = refl
+others-owned (x ∷ os) m (suc k) o d = others-owned os m k o (λ e. d (omega (arith, e)))
+
+next-owned : (os : List (Option ℕ)) (m k : ℕ) (o : Option ℕ) → k ≡ length os + m → slice_index_or ((os ++ replicate m None) ++ o ∷ []) k None ≡ o
+next-owned [] zero zero o e = refl
+next-owned [] zero (suc k) o e = absurd (omega (arith, e))
+next-owned [] (suc m) zero o e = absurd (omega (arith, e))
+next-owned [] (suc m) (suc k) o e = next-owned [] m k o (omega (arith, e))
+next-owned (x ∷ os) m zero o e = absurd (omega (arith, e))
+next-owned (x ∷ os) m (suc k) o e = next-owned os m k o (omega (arith, e))
+
+abbrev nones : ℕ → List (Option ℕ)
+nones m = replicate m None
+
+nones-length : (m : ℕ) → length (nones m) ≡ m
+nones-length zero = refl
+nones-length (suc m) = ap suc (nones-length m)
+
+owners-length : (os : List (Option ℕ)) (m : ℕ) (o : Option ℕ) → length ((os ++ replicate m None) ++ o ∷ []) ≡ length os + m + 1
+owners-length os m o =
+    let a = length-append (os ++ replicate m None) (o ∷ []) in
+    let c = length-append os (replicate m None) in
+    let d = nones-length m in
+    omega (arith, a, c, d)
+
+not-zero : (j : ℕ) → (j == 0) ≡ false → 1 ≤ j
+not-zero j e = grind (arith, nat_tests)
+
+-- 6.5p6: the world in which the next instance was made for this
+module _ (z : World) (M : Mem) (i : ℕ) (o : Option ℕ) (n : ℕ) (number : i ≡ n + 1) (few : length z.owners ≤ n) where
+  same-number : (j : ℕ) → 1 ≤ j → j - 1 ≡ length z.owners + (i - 1 - length z.owners) → j ≡ i
+  same-number j l f = omega (arith, l, f, number, few)
+
+  pub owner-other : (j : ℕ) → j ≢ i → owner_of (owning z M i o) j ≡ owner_of z j
+  owner-other j d = by (j == 0) refl
+    where
+      by : (c : Bool) → (j == 0) ≡ c → (if c then None else slice_index_or (owned_next z.owners (i - 1) o) (j - 1) None) ≡ (if c then None else slice_index_or z.owners (j - 1) None)
+      by true e = refl
+      by false e = others-owned z.owners (i - 1 - length z.owners) (j - 1) o (λ f. d (same-number j (not-zero j e) f))
+
+  pub owner-next : owner_of (owning z M i o) i ≡ o
+  owner-next =
+      let some : (i == 0) ≡ false = grind (arith, nat_tests) in
+      let at : i - 1 ≡ length z.owners + (i - 1 - length z.owners) = omega (arith, number, few) in
+      ap (λ c. if c then None else slice_index_or (owned_next z.owners (i - 1) o) (i - 1) None) some
+      ∙ next-owned z.owners (i - 1 - length z.owners) (i - 1) o at
+
+  pub owners-more : length (owning z M i o).owners ≡ n + 1
+  owners-more = let l = owners-length z.owners (i - 1 - length z.owners) o in omega (arith, l, number, few)
 
 -- a binding that was made
 get-here : (m : Bindings) (o i q : ℕ) → q ≡ o → map.get (map.insert m o i) q ≡ Some i
@@ -151,76 +244,195 @@ get-here m o i q h = let t : eqb q o ≡ true = grind (arith, nat_tests) in get-
 get-other : (m : Bindings) (o i q : ℕ) → q ≢ o → map.get (map.insert m o i) q ≡ map.get m q
 get-other m o i q h = let t : eqb q o ≡ false = grind (arith, nat_tests) in get-insert nat_cmp_total m o i q ∙ ap (λ t. cond t (Some i) (map.get m q)) (unsigned_tied q o ∙ t)
 
-pub inserted : (P : ℕ → Type 0) (m : Bindings) (o i q : ℕ) → P i → (q ≢ o → P (unwrap_or (map.get m q) 0)) → P (unwrap_or (map.get (map.insert m o i) q) 0)
+-- 6.2.4p2: the number that a binding gives an object
+abbrev pub bound_number : Bindings → ℕ → ℕ
+bound_number m q = unwrap_or (map.get m q) 0
+
+pub bound-here : (m : Bindings) (o i q : ℕ) → q ≡ o → bound_number (map.insert m o i) q ≡ i
+bound-here m o i q h = ap (λ x. unwrap_or x 0) (get-here m o i q h)
+
+pub bound-other : (m : Bindings) (o i q : ℕ) → q ≢ o → bound_number (map.insert m o i) q ≡ bound_number m q
+bound-other m o i q h = ap (λ x. unwrap_or x 0) (get-other m o i q h)
+
+pub inserted : (P : ℕ → Type 0) (m : Bindings) (o i q : ℕ) → P i → (q ≢ o → P (bound_number m q)) → P (bound_number (map.insert m o i) q)
 inserted P m o i q h g = by (same_or_not q o)
   where
-    by : (q ≡ o) ⊎ (q ≢ o) → P (unwrap_or (map.get (map.insert m o i) q) 0)
-    by (inl e) = subst (λ x. P (unwrap_or x 0)) (sym (get-here m o i q e)) h
-    by (inr n) = subst (λ x. P (unwrap_or x 0)) (sym (get-other m o i q n)) (g n)
-
--- 6.2.4p2: an object that can be made is made
-pub can-be-made : (b : Setting) (lasting : Bool) (o : ℕ) → IsMakeable b.unit lasting o → can_make b (object_at b.unit o) ≡ true
-can-be-made b lasting o h =
-    let t = (object_at b.unit o).t in
-    let different : ((object_at b.unit o).name == heap_name) ≡ false = name-differs (object_at b.unit o).name h.named in
-    both (has_extent b t) (not ((object_at b.unit o).name == heap_name))
-    (both (is_complete_in (layouts b.unit) t) (is_size (layout_in (layouts b.unit) t).size) h.complete (le-leb (layout_in (layouts b.unit) t).size (2 ^ 32) h.small)) (ap not different)
-  where
-    name-differs : (n : ℕ) → n ≢ heap_name → (n == heap_name) ≡ false
-    name-differs n h = grind (arith, nat_tests)
-
-pub made-if : (Q : Worth → World → Type 0) (c : Bool) (w : World) (d : Done) → c ≡ true → Answering Q d → Answering Q (where_possible c w d)
-made-if Q true w d e h = h
-made-if Q false w d e h = absurd cc
+    by : (q ≡ o) ⊎ (q ≢ o) → P (bound_number (map.insert m o i) q)
+    by (inl e) = subst P (sym (bound-here m o i q e)) h
+    by (inr n) = subst P (sym (bound-other m o i q n)) (g n)
 
 -- a side of a pair changes no binding
 pub within-sided : (b : Setting) (os : List ℕ) (rest : List Bindings) (w : World) (v : Worth) (z : World) (k : ℕ) (high : Bool) → Within b os rest w z → Within b os rest w (sided z k high)
 within-sided b os rest w v z k high h =
     let g = sides-keep b os z k high h.sound in
-    record { later = later-after h.later g.0; sound = g.1; body = (h.body.0, g.0.bodies ∙ h.body.1) }
+    record { later = later-after h.later g.0; sound = g.1; body = (h.body.0, g.0.bodies ∙ h.body.1); own = own-after b os w z (sided z k high) g.0 h.own }
 
 module _ (b : Setting) (os : List ℕ) (rest : List Bindings) (w : World) where
-  -- 6.2.4p2, p6: an automatic object begins
+  -- 6.2.4p2, p6: an automatic object begins, in an instance of its own
   module _ (z : World) (h : Within b os rest w z) (o : ℕ) (automatic : (object_at b.unit o).lasting ≡ false) where
-    bound-now : (i : ℕ) (U : Table) (y : World) → Led ⊥ z.memory.table U → IsNumber U.instances i → y.memory.table ≡ U → y.statics ≡ z.statics → y.bodies ≡ bind_in z.bodies o i → (q : ℕ) (c : Bool) → (object_at b.unit q).lasting ≡ c → IsIn q (if c then b.unit.statics else o ∷ os) → IsNumber U.instances (instance_of y q c)
-    bound-now i U y l n e es eb q true t g =
-        let old : IsNumber U.instances (instance_of z q true) = number-led z.memory.table U l _ (subst (λ c. IsNumber z.memory.table.instances (instance_of z q c)) t (h.sound.objects q (subst (λ c. IsIn q (if c then b.unit.statics else os)) (sym t) g))) in
-        subst (λ m. IsNumber U.instances (unwrap_or (map.get m q) 0)) (sym es) old
-    bound-now i U y l n e es eb q false t g =
-        let N : ℕ → Type 0 = λ i. IsNumber U.instances i in
-        let bodies : y.bodies ≡ map.insert h.body.0 o i ∷ rest = eb ∙ ap (λ ms. bind_in ms o i) h.body.1 in
-        subst (λ ms. N (unwrap_or (bound_in ms q) 0)) (sym bodies)
-        (inserted N h.body.0 o i q n (λ d.
-        let old : IsNumber z.memory.table.instances (instance_of z q false) = subst (λ c. IsNumber z.memory.table.instances (instance_of z q c)) t (h.sound.objects q (subst (λ c. IsIn q (if c then b.unit.statics else os)) (sym t) (still d g))) in
-        subst (λ ms. N (unwrap_or (bound_in ms q) 0)) h.body.1 (number-led z.memory.table U l _ old)))
-      where
-        still : q ≢ o → (q ≡ o) ⊎ IsIn q os → IsIn q os
-        still d (inl e) = absurd (d e)
-        still d (inr k) = k
+    module _ (i : ℕ) (y : World) (statics : y.statics ≡ z.statics) (bodies : y.bodies ≡ bind_in z.bodies o i) where
+      abbrev Numbered : ℕ → Type 0
+      Numbered q = ((q ≡ o) × (instance_for b q y ≡ i)) ⊎ (IsInScope b.unit os q × (instance_for b q y ≡ instance_for b q z))
 
-    begun : (name : ℕ) (r : Request) (got : Result ℕ CreateError × Table) → place z.memory.table r ≡ got → Led ⊥ z.memory.table got.1 → Answering (λ v y. Within b (o ∷ os) rest w y) (object_made z o false name (made z.memory got))
-    begun name r (Ok i, U) e l =
-        let y = bind (owning z (made z.memory (Ok i, U)).1 i (Some o)) o false i in
+      own-bodies : y.bodies ≡ map.insert h.body.0 o i ∷ rest
+      own-bodies = bodies ∙ ap (λ ms. bind_in ms o i) h.body.1
+
+      number-here : (q : ℕ) → q ≡ o → instance_for b q y ≡ i
+      number-here q e =
+          ap (λ c. instance_of y q c) (ap (λ n. (object_at b.unit n).lasting) e ∙ automatic) ∙ ap (λ ms. unwrap_or (bound_in ms q) 0) own-bodies ∙ bound-here h.body.0 o i q e
+
+      number-other : (q : ℕ) (c : Bool) → q ≢ o → IsIn q (if c then b.unit.statics else o ∷ os) → IsIn q (if c then b.unit.statics else os) × (instance_of y q c ≡ instance_of z q c)
+      number-other q true d g = (g, ap (λ m. bound_number m q) statics)
+      number-other q false d g =
+          (still d g, ap (λ ms. unwrap_or (bound_in ms q) 0) own-bodies ∙ bound-other h.body.0 o i q d ∙ sym (ap (λ ms. unwrap_or (bound_in ms q) 0) h.body.1))
+        where
+          still : q ≢ o → (q ≡ o) ⊎ IsIn q os → IsIn q os
+          still d (inl e) = absurd (d e)
+          still d (inr k) = k
+
+      numbered : (q : ℕ) → IsInScope b.unit (o ∷ os) q → Numbered q
+      numbered q g = by (same_or_not q o)
+        where
+          by : (q ≡ o) ⊎ (q ≢ o) → Numbered q
+          by (inl e) = inl (e, number-here q e)
+          by (inr d) = inr (number-other q (object_at b.unit q).lasting d g)
+
+      module _ (U : Table) (lives : AllLiveStill z.memory.table U) (new : instance_at z.memory.table.instances i ≡ None) (home : IsHome U i (size_of b (object_at b.unit o).t)) where
+        homes-now : (q : ℕ) → IsInScope b.unit (o ∷ os) q → IsHome U (instance_for b q y) (size_of b (object_at b.unit q).t)
+        homes-now q g = by (numbered q g)
+          where
+            by : Numbered q → IsHome U (instance_for b q y) (size_of b (object_at b.unit q).t)
+            by (inl (e, f)) = subst (λ k. IsHome U k (size_of b (object_at b.unit q).t)) (sym f) (subst (λ n. IsHome U i (size_of b (object_at b.unit n).t)) (sym e) home)
+            by (inr (k, f)) =
+                let n = size_of b (object_at b.unit q).t in
+                subst (λ k. IsHome U k n) (sym f) (home-later z.memory.table U lives (instance_for b q z) n (h.sound.objects q k))
+
+        old-other : (q : ℕ) → IsInScope b.unit os q → instance_for b q z ≢ i
+        old-other q k = new-other z.memory.table i (instance_for b q z) (size_of b (object_at b.unit q).t) new (h.sound.objects q k)
+
+        apart-now : (q r : ℕ) → IsInScope b.unit (o ∷ os) q → IsInScope b.unit (o ∷ os) r → instance_for b q y ≡ instance_for b r y → q ≡ r
+        apart-now q r g k e = by (numbered q g) (numbered r k)
+          where
+            by : Numbered q → Numbered r → q ≡ r
+            by (inl (x, f)) (inl (u, g)) = x ∙ sym u
+            by (inl (x, f)) (inr (k, g)) = absurd (old-other r k (sym g ∙ sym e ∙ f))
+            by (inr (k, g)) (inl (x, f)) = absurd (old-other q k (sym g ∙ e ∙ f))
+            by (inr (k, f)) (inr (l, g)) = h.sound.apart q r k l (sym f ∙ e ∙ g)
+
+        own-now : (q : ℕ) → IsIn q (o ∷ os) → (object_at b.unit q).lasting ≡ false → instance_at w.memory.table.instances (instance_for b q y) ≡ None
+        own-now q g a = by (numbered q (in-scope b (o ∷ os) q a g))
+          where
+            by : Numbered q → instance_at w.memory.table.instances (instance_for b q y) ≡ None
+            by (inl (e, f)) = ap (instance_at w.memory.table.instances) f ∙ none-earlier w.memory.table z.memory.table h.later.lives i new
+            by (inr (k, f)) = ap (instance_at w.memory.table.instances) f ∙ h.own q (subst (λ c. IsIn q (if c then b.unit.statics else os)) a k) a
+
+    begun : (name : ℕ) (r : Request) (got : Result ℕ CreateError × Table) → r.size ≡ size_of b (object_at b.unit o).t → is_heap r.kind ≡ false → is_function r.kind ≡ false → place z.memory.table r ≡ got → Led ⊥ z.memory.table got.1 → AllLiveStill z.memory.table got.1 → ((i : ℕ) → got.0 ≡ Ok i → IsNext z.memory.table r i got.1)
+        → Answering (λ v y. Within b (o ∷ os) rest w y) (object_made z o false name (made z.memory got))
+    begun name r (Ok i, U) large object stored e l a next =
+        let M = (made z.memory (Ok i, U)).1 in
+        let y = bind (owning z M i (Some o)) o false i in
+        let new = placed-new z.memory.table r (Ok i, U) e i refl in
+        let n = next i refl in
+        let home : IsHome U i (size_of b (object_at b.unit o).t) = subst (λ k. IsHome U i k) large (next-home z.memory.table U r i object n) in
         record {
-          later = record { made = λ p k. made-led z.memory.table U l p (h.later.made p k); statics = h.later.statics; literals = h.later.literals; functions = h.later.functions };
+          later = record {
+            made = λ p k. made-led z.memory.table U l p (h.later.made p k);
+            lives = all-on w.memory.table z.memory.table U h.later.lives a;
+            statics = h.later.statics;
+            literals = h.later.literals;
+            functions = h.later.functions;
+          };
           sound = record {
             laid = laid-led z.memory.table U l h.sound.laid;
             bytes = blank-fair b U (instance_at U.instances i) z.memory.bytes (store-later z.memory.table U (made-led z.memory.table U l) z.memory.bytes h.sound.bytes);
-            objects = λ q g. bound-now i U y l (placed-number z.memory.table r (Ok i, U) e i refl) refl refl refl q (object_at b.unit q).lasting refl g;
+            objects = homes-now i y refl refl U a new home;
+            apart = apart-now i y refl refl U a new home;
             literals = λ q g. number-led z.memory.table U l _ (h.sound.literals q g);
             functions = λ q g. number-led z.memory.table U l _ (h.sound.functions q g);
+            code = λ j f c g.
+                let d : j ≢ i = λ s. not-code U i n.inst n.is (ap is_function n.kind ∙ stored) (subst (λ k. IsCode U k) s c) in
+                h.sound.code j f (code-earlier z.memory.table U a j c) (sym (owner-other z M i (Some o) (length z.memory.table.instances) n.number h.sound.owned j d) ∙ g);
+            owned = let more = owners-more z M i (Some o) (length z.memory.table.instances) n.number h.sound.owned in let long = n.longer in omega (arith, more, long);
           };
           body = (map.insert h.body.0 o i, ap (λ ms. bind_in ms o i) h.body.1);
+          own = own-now i y refl refl U a new home;
         }
-    begun name r (Err y, U) e l = tt
+    begun name r (Err y, U) large object stored e l a next = tt
 
-    object-begins : IsMakeable b.unit false o → Answering (λ v y. Within b (o ∷ os) rest w y) (works b (Makes o) z)
-    object-begins m =
+    object-begins : Answering (λ v y. Within b (o ∷ os) rest w y) (plainly b (Makes o) z)
+    object-begins =
         let x = object_at b.unit o in
-        made-if (λ v y. Within b (o ∷ os) rest w y) (can_make b x) z (makes_object o x.lasting (request_of b x) z) (can-be-made b false o m)
-        (subst (λ c. Answering (λ v y. Within b (o ∷ os) rest w y) (makes_object o c (request_of b x) z)) (sym automatic)
-        (begun (request_of b x).name (request_of b x) (place z.memory.table (request_of b x)) refl (place-leads z.memory.table (request_of b x) (λ y. absurd y))))
+        let r = request_of b x in
+        let T = z.memory.table in
+        subst (λ c. Answering (λ v y. Within b (o ∷ os) rest w y) (makes_object o c r z)) (sym automatic)
+        (begun r.name r (place T r) refl refl refl refl (place-leads T r (λ y. absurd y)) (place-live T r refl) (next-made T r))
 
   pub makes-sure : (line o : ℕ) (s : State) → IsMakeable b.unit false o → Within b os rest w s.world → Sure (λ v z. Within b (o ∷ os) rest w z) (act b line (Makes o) s) (act_plainly b line (Makes o) s)
   makes-sure line o s m h =
-      (refl, acted-lands b (λ v z. Within b (o ∷ os) rest w z) (within-sided b (o ∷ os) rest w) line (works b (Makes o) s.world) s (object-begins s.world h o m.storage m))
+      does-sure b (λ v z. Within b (o ∷ os) rest w z) (within-sided b (o ∷ os) rest w) line (Makes o) s (makes-same b s.world o false m) (object-begins s.world h o m.storage)
+
+  -- 6.2.4p2, p6: an automatic object ends; all others live on
+  module _ (z : World) (d : ℕ) (automatic : (object_at b.unit d).lasting ≡ false) (other : IsIn d os → ⊥) (h : Within b (d ∷ os) rest w z) where
+    abbrev number : ℕ
+    number = instance_for b d z
+
+    abbrev left : World
+    left = record z { memory = without z.memory number }
+
+    wider : (o : ℕ) → IsInScope b.unit os o → IsInScope b.unit (d ∷ os) o
+    wider o g = scope-more b os (d ∷ os) (λ n k. inr k) o g
+
+    not-this : (o : ℕ) (c : Bool) → (object_at b.unit o).lasting ≡ c → IsIn o (if c then b.unit.statics else os) → o ≢ d
+    not-this o true e g f = let p : true ≡ false = sym e ∙ ap (λ n. (object_at b.unit n).lasting) f ∙ automatic in absurd (no-name p)
+    not-this o false e g f = other (subst (λ n. IsIn n os) f g)
+
+    other-number : (o : ℕ) → IsInScope b.unit os o → instance_for b o z ≢ number
+    other-number o g e = not-this o (object_at b.unit o).lasting refl g (h.sound.apart o d (wider o g) (in-scope b (d ∷ os) d automatic (inl refl)) e)
+
+    homes-left : (o : ℕ) → IsInScope b.unit os o → IsHome left.memory.table (instance_for b o z) (size_of b (object_at b.unit o).t)
+    homes-left o g =
+        let n = size_of b (object_at b.unit o).t in
+        subst (λ x. IsHomeIn x n) (sym (ended-others z.memory.table number (instance_for b o z) (other-number o g))) (h.sound.objects o (wider o g))
+
+    lives-left : AllLiveStill w.memory.table left.memory.table
+    lives-left j = by (same_or_not j number)
+      where
+        by : (j ≡ number) ⊎ (j ≢ number) → LiveStill (instance_at w.memory.table.instances j) (instance_at left.memory.table.instances j)
+        by (inl e) =
+            let none = ap (instance_at w.memory.table.instances) e ∙ h.own d (inl refl) automatic in
+            subst (λ x. LiveStill x (instance_at left.memory.table.instances j)) (sym none)
+            (ended-none z.memory.table number j (subst (λ x. LiveStill x (instance_at z.memory.table.instances j)) none (h.later.lives j)))
+        by (inr n) = subst (λ x. LiveStill (instance_at w.memory.table.instances j) x) (sym (ended-others z.memory.table number j n)) (h.later.lives j)
+
+    object-ends : Within b os rest w left × Keeps z.memory.table left.memory.table
+    object-ends =
+        let T = z.memory.table in
+        let U = ended T number in
+        let l : Led ⊥ T U = ended-leads T number in
+        let keeps = made-led T U l in (
+          record {
+            later = record { made = λ p k. keeps p (h.later.made p k); lives = lives-left; statics = h.later.statics; literals = h.later.literals; functions = h.later.functions };
+            sound = record {
+              laid = laid-led T U l h.sound.laid;
+              bytes = cleared-in-fair b U (instance_at T.instances number) z.memory.bytes (store-later T U keeps z.memory.bytes h.sound.bytes);
+              objects = homes-left;
+              apart = λ o q g k e. h.sound.apart o q (wider o g) (wider q k) e;
+              literals = λ q g. number-led T U l _ (h.sound.literals q g);
+              functions = λ q g. number-led T U l _ (h.sound.functions q g);
+              code = λ j f c e. h.sound.code j f (ended-code T number j c) e;
+              owned = let more = ended-length T number in let few = h.sound.owned in omega (arith, more, few);
+            };
+            body = h.body;
+            own = λ o g a. h.own o (inr g) a;
+          },
+          keeps,
+        )
+
+  pub ends-sure : (line d : ℕ) (s : State) → IsMakeable b.unit false d → (IsIn d os → ⊥) → Within b (d ∷ os) rest w s.world
+      → Sure (λ v z. Within b os rest w z × Keeps s.world.memory.table z.memory.table) (act b line (Ends d) s) (act_plainly b line (Ends d) s)
+  ends-sure line d s m other h =
+      does-sure b (λ v z. Within b os rest w z × Keeps s.world.memory.table z.memory.table) closed line (Ends d) s
+      (ends-same b s.world d (h.sound.objects d (in-scope b (d ∷ os) d m.storage (inl refl)))) (object-ends s.world d m.storage other h)
+    where
+      closed : (v : Worth) (z : World) (k : ℕ) (high : Bool) → Within b os rest w z × Keeps s.world.memory.table z.memory.table → Within b os rest w (sided z k high) × Keeps s.world.memory.table (sided z k high).memory.table
+      closed v z k high q = (within-sided b os rest w v z k high q.0, λ p g. (sides-keep b os z k high q.0.sound).0.made p (q.1 p g))

@@ -9,7 +9,7 @@ use Rattle.pv_types.specs.Compatible.{FunctionForm, same_kind, with_const, is_co
 use Rattle.pv_typed.specs.TypedUnits.{function_at}
 use Rattle.pv_eval.specs.States.{Setting}
 use Rattle.pv_eval.specs.Callees.{may_call}
-use Rattle.pv_guards.specs.Typed.{AreLike, AreAllLike, IsSignature, IsFunction}
+use Rattle.pv_guards.specs.Typed.{AreLike, AreAllLike, IsSignature, HasBody, IsFunction}
 
 right-of : (a b : Bool) → (a && b) ≡ true → b ≡ true
 right-of true b e = e
@@ -128,9 +128,9 @@ signed q p (FunctionTy a us false) r ts h k e =
     (like-alike _ _ a r (right-of (all_alike (forms_of us) (forms_of ts)) _ both), all-like us ts (left-of (all_alike (forms_of us) (forms_of ts)) _ both))
 
 -- 6.3.2.3p8: a function that may be called so is one with such a result and such parameters
-pub called-function : (b : Setting) (r : Ty) (ts : Tys) (f : ℕ) → may_call b (FunctionTy r ts false) (Some f) ≡ true → IsFunction b.unit f r ts
+pub called-function : (b : Setting) (r : Ty) (ts : Tys) (f : ℕ) → may_call b (FunctionTy r ts false) (Some f) ≡ true → HasBody b.unit f → IsFunction b.unit f r ts
 unfolding are_compatible
-called-function b r ts f e =
+called-function b r ts f e h =
     let few = left-of (nat_lt f (length b.unit.functions)) (are_compatible (function_at b.unit f).t (FunctionTy r ts false)) e in
     let like = right-of (nat_lt f (length b.unit.functions)) (are_compatible (function_at b.unit f).t (FunctionTy r ts false)) e in
-    (ltb-true f (length b.unit.functions) few, signed _ _ (function_at b.unit f).t r ts refl refl like)
+    (ltb-true f (length b.unit.functions) few, h, signed _ _ (function_at b.unit f).t r ts refl refl like)

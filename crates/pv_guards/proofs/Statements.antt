@@ -30,7 +30,7 @@ use Rattle.pv_guards.specs.PlainSteps as plainly
 use Rattle.pv_guards.specs.PlainEvaluation as expressions
 use Rattle.pv_guards.specs.PlainExecution as plain
 use Rattle.pv_guards.specs.Promises.{Promised}
-use Rattle.pv_guards.specs.TypedStatements.{IsMakeable, IsCondition, MayBeCondition, MayBeTyped, IsReturned, IsInitializer, AreInitializers, IsTypedStatement, AreTypedStatements}
+use Rattle.pv_guards.specs.TypedStatements.{IsMakeable, AreNew, IsCondition, MayBeCondition, MayBeTyped, IsReturned, LiesIn, IsInitializer, AreInitializers, IsTypedStatement, AreTypedStatements}
 use Rattle.pv_guards.specs.Laws.{CallsAgree}
 use Rattle.pv_guards.proofs.Fair.{Keeps}
 use Rattle.pv_guards.proofs.Triples.{Holds, Gave}
@@ -39,7 +39,7 @@ use Rattle.pv_guards.proofs.Acting as acting
 use Rattle.pv_guards.proofs.Expressions.{converted-way}
 use Rattle.pv_guards.proofs.Concluding.{asked, typed}
 use Rattle.pv_guards.proofs.Sure.{Sure, sure-seq, sure-more, sure-if, sure-tick, lands-more, after-lands, holds-sure}
-use Rattle.pv_guards.proofs.Objects.{Within, later-after, sound-less, fills-holds, puts-holds, text-holds, ends-holds, makes-sure}
+use Rattle.pv_guards.proofs.Objects.{Within, later-after, sound-less, own-after, in-scope, fills-holds, puts-holds, text-holds, makes-sure, ends-sure}
 
 -- values of types, qualifiers aside
 pub from-bare : (env : List Entry) (t : Ty) (v : Worth) → IsOfType env (bare t) v → IsOfType env t v
@@ -88,10 +88,6 @@ moved-in d (e ∷ ds) os n (inl x) = inr (moved-in d ds os n (inl x))
 moved-in d (e ∷ ds) os n (inr (inl y)) = inl y
 moved-in d (e ∷ ds) os n (inr (inr z)) = inr (moved-in d ds os n (inr z))
 
-behind-in : (ds os : List ℕ) (n : ℕ) → IsIn n os → IsIn n (ds ++ os)
-behind-in [] os n h = h
-behind-in (d ∷ ds) os n h = inr (behind-in ds os n h)
-
 pub before-in : (ds : List ℕ) (n : ℕ) → IsIn n ds → IsIn n (ds ++ [])
 before-in (d ∷ ds) n (inl e) = inl e
 before-in (d ∷ ds) n (inr h) = inr (before-in ds n h)
@@ -130,10 +126,10 @@ module _ (b : Setting) (rest : List Bindings) (w0 : World) where
   E r os fl z = EndsIn b rest w0 r os fl z
 
   inv-after : (os : List ℕ) (w z : World) → Inv os w → IsAfter w z → IsSound b os z → Inv os z
-  inv-after os w z h g s = record { later = later-after h.later g; sound = s; body = (h.body.0, g.bodies ∙ h.body.1) }
+  inv-after os w z h g s = record { later = later-after h.later g; sound = s; body = (h.body.0, g.bodies ∙ h.body.1); own = own-after b os w0 w z g h.own }
 
   pub inv-less : (os ds : List ℕ) (z : World) → ((n : ℕ) → IsIn n os → IsIn n ds) → Inv ds z → Inv os z
-  inv-less os ds z f h = record { later = h.later; sound = sound-less b os ds z f h.sound; body = h.body }
+  inv-less os ds z f h = record { later = h.later; sound = sound-less b os ds z f h.sound; body = h.body; own = λ o k a. h.own o (f o k) a }
 
   -- a piece of an expression
   abbrev Kept : {A : Type 0} → List ℕ → World → (A → World → Type 0) → A → World → Type 0
@@ -153,19 +149,20 @@ module _ (b : Setting) (rest : List Bindings) (w0 : World) where
       (makes-sure b os rest w0 (object_at b.unit d).line d s m.0 h) (λ v t k.
       sure-more (λ v z. Inv (ds ++ d ∷ os) z) (λ v z. Inv (d ∷ ds ++ os) z) (make_all b ds t) (plain.make_all b ds t) (λ v z q. inv-less (d ∷ ds ++ os) (ds ++ d ∷ os) z (moved-in d ds os) q) (make-sure (d ∷ os) ds m.1 t k))
 
-  pub end-sure : (os ds : List ℕ) (s : State) → Inv os s.world → Sure (λ v z. Inv os z × Keeps s.world.memory.table z.memory.table) (end_all b ds s) (plain.end_all b ds s)
-  end-sure os [] s h = (refl, (h, λ p k. k))
-  end-sure os (d ∷ ds) s h =
-      sure-seq (Kept os s.world (λ v z. Unit {0})) (λ v z. Inv os z × Keeps s.world.memory.table z.memory.table) (act b (object_at b.unit d).line (Ends d) s) (act_plainly b (object_at b.unit d).line (Ends d) s) _ _
-      (piece os (λ v z. Unit {0}) (act b (object_at b.unit d).line (Ends d)) (act_plainly b (object_at b.unit d).line (Ends d)) s h (ends-holds b os (object_at b.unit d).line d s.world)) (λ v t k.
-      sure-more _ (λ v z. Inv os z × Keeps s.world.memory.table z.memory.table) (end_all b ds t) (plain.end_all b ds t) (λ v z q. (q.0, λ p g. q.1 p (k.0.made p g))) (end-sure os ds t k.1))
+  pub end-sure : (os ds : List ℕ) → Each (IsMakeable b.unit false) ds → AreNew ds os → (s : State) → Inv (ds ++ os) s.world → Sure (λ v z. Inv os z × Keeps s.world.memory.table z.memory.table) (end_all b ds s) (plain.end_all b ds s)
+  end-sure os [] m n s h = (refl, (h, λ p k. k))
+  end-sure os (d ∷ ds) m n s h =
+      let line = (object_at b.unit d).line in
+      sure-seq (λ v z. Inv (ds ++ os) z × Keeps s.world.memory.table z.memory.table) (λ v z. Inv os z × Keeps s.world.memory.table z.memory.table) (act b line (Ends d) s) (act_plainly b line (Ends d) s) _ _
+      (ends-sure b (ds ++ os) rest w0 line d s m.0 n.0 h) (λ v t k.
+      sure-more _ (λ v z. Inv os z × Keeps s.world.memory.table z.memory.table) (end_all b ds t) (plain.end_all b ds t) (λ v z q. (q.0, λ p g. q.1 p (k.1 p g))) (end-sure os ds m.1 n.1 t k.0))
 
-  scoped-sure : (r : Ty) (os ds : List ℕ) (m m' : State → Res Flow) → Each (IsMakeable b.unit false) ds → ((s : State) → Inv (ds ++ os) s.world → Sure (E r (ds ++ os)) (m s) (m' s)) → (s : State) → Inv os s.world → Sure (E r os) (scoped b ds m s) (plain.scoped b ds m' s)
-  scoped-sure r os ds m m' h g s i =
+  scoped-sure : (r : Ty) (os ds : List ℕ) (m m' : State → Res Flow) → Each (IsMakeable b.unit false) ds → AreNew ds os → ((s : State) → Inv (ds ++ os) s.world → Sure (E r (ds ++ os)) (m s) (m' s)) → (s : State) → Inv os s.world → Sure (E r os) (scoped b ds m s) (plain.scoped b ds m' s)
+  scoped-sure r os ds m m' h new g s i =
       sure-seq (λ v z. Inv (ds ++ os) z) (E r os) (make_all b ds s) (plain.make_all b ds s) _ _ (make-sure os ds h s i) (λ v t k.
       sure-seq (E r (ds ++ os)) (E r os) (m t) (m' t) _ _ (g t k) (λ fl y q.
-      sure-seq (λ v z. Inv (ds ++ os) z × Keeps y.world.memory.table z.memory.table) (E r os) (end_all b ds y) (plain.end_all b ds y) _ _ (end-sure (ds ++ os) ds y q.0) (λ v x n.
-      (refl, (inv-less os (ds ++ os) x.world (behind-in ds os) n.0, flow-later b r fl y.world x.world n.1 q.1)))))
+      sure-seq (λ v z. Inv os z × Keeps y.world.memory.table z.memory.table) (E r os) (end_all b ds y) (plain.end_all b ds y) _ _ (end-sure os ds h new y q.0) (λ v x n.
+      (refl, (n.0, flow-later b r fl y.world x.world n.1 q.1)))))
 
   falling : (r : Ty) (os : List ℕ) (fl : Flow) (m m' : State → Res Flow) → ((s : State) → Inv os s.world → Sure (E r os) (m s) (m' s)) → (s : State) → E r os fl s.world → Sure (E r os) (falls fl m s) (falls fl m' s)
   falling r os Falls m m' h s i = h s i.0
@@ -247,8 +244,8 @@ module _ (b : Setting) (rest : List Bindings) (w0 : World) where
     accept-sure : (os : List ℕ) (line : ℕ) (t : Ty) (v : Worth) (s : State) → Value b s.world t v → Inv os s.world → Sure (Kept os s.world (λ v z. Value b z t v × IsThere v)) (act b line (Accepts v) s) (act_plainly b line (Accepts v) s)
     accept-sure os line t v s g i = piece os (λ v z. Value b z t v × IsThere v) (act b line (Accepts v)) (act_plainly b line (Accepts v)) s i (acting.accepts-way b os line t v s.world g)
 
-    value-sure : (os : List ℕ) (o : ℕ) (x : Store) (v : StoredValue) → IsInitializer b.unit os x.t v → (s : State) → Inv os s.world → Sure (λ v z. Inv os z) (stores_value b u.call o x v s) (plain.stores_value b u'.call o x v s)
-    value-sure os o x (ValueOf e) h s i =
+    value-sure : (os : List ℕ) (o : ℕ) (x : Store) (v : StoredValue) → IsIn o os → IsMakeable b.unit false o → LiesIn b.unit o x → IsInitializer b.unit os x.t v → (s : State) → Inv os s.world → Sure (λ v z. Inv os z) (stores_value b u.call o x v s) (plain.stores_value b u'.call o x v s)
+    value-sure os o x (ValueOf e) among m lies h s i =
         sure-tick b (λ v z. Inv os z) s
         (λ s. then_do (full b u.call e s) (λ v s. then_do (handed b e v s) (λ v s. act b x.line (Puts o x.offset (lvalue b x.t) v) s)))
         (λ s. then_do (plain.full b u'.call e s) (λ v s. then_do (plainly.handed b e v s) (λ v s. act_plainly b x.line (Puts o x.offset (lvalue b x.t) v) s)))
@@ -257,32 +254,32 @@ module _ (b : Setting) (rest : List Bindings) (w0 : World) where
         (sure-seq (Kept os t.world (λ v z. Value b z (bare x.t) v)) (Kept os t.world (λ v z. Value b z (bare x.t) v × IsThere v)) (converted b e v t) (plainly.converted b e v t) _ _ (converted-sure os e (bare x.t) v t h.0 h.1 k.2 k.1) (λ v y q.
         sure-more _ (Kept os t.world (λ v z. Value b z (bare x.t) v × IsThere v)) (act b (line_of e) (Accepts v) y) (act_plainly b (line_of e) (Accepts v) y) (λ v z p. (after-both q.0 p.0, p.1, p.2)) (accept-sure os (line_of e) (bare x.t) v y q.2 q.1))) (λ v y q.
         sure-more _ (λ v z. Inv os z) (act b x.line (Puts o x.offset (lvalue b x.t) v) y) (act_plainly b x.line (Puts o x.offset (lvalue b x.t) v) y) (λ v z p. p.1)
-        (piece os (λ v z. Unit {0}) (act b x.line (Puts o x.offset (lvalue b x.t) v)) (act_plainly b x.line (Puts o x.offset (lvalue b x.t) v)) y q.1 (puts-holds b os x.line o x.offset (lvalue b x.t) v y.world (λ z g. value-later y.world.memory.table z.memory.table g.made v q.2.0.1))))))
-    value-sure os o x (TextOf l) h s i =
+        (piece os (λ v z. Unit {0}) (act b x.line (Puts o x.offset (lvalue b x.t) v)) (act_plainly b x.line (Puts o x.offset (lvalue b x.t) v)) y q.1 (puts-holds b os x.line o y.world (in-scope b os o m.storage among) m.small x.offset x.t v lies h.2 q.2.1 (λ z g. (q.2.0.0, value-later y.world.memory.table z.memory.table g.made v q.2.0.1)))))))
+    value-sure os o x (TextOf l) among m lies h s i =
         sure-tick b (λ v z. Inv os z) s (act b x.line (PutsText o x.offset (size_of b x.t) l)) (act_plainly b x.line (PutsText o x.offset (size_of b x.t) l))
         (sure-more _ (λ v z. Inv os z) (act b x.line (PutsText o x.offset (size_of b x.t) l) (spend s)) (act_plainly b x.line (PutsText o x.offset (size_of b x.t) l) (spend s)) (λ v z p. p.1)
-        (piece os (λ v z. Unit {0}) (act b x.line (PutsText o x.offset (size_of b x.t) l)) (act_plainly b x.line (PutsText o x.offset (size_of b x.t) l)) (spend s) i (text-holds b os x.line o x.offset (size_of b x.t) l s.world (characters l))))
+        (piece os (λ v z. Unit {0}) (act b x.line (PutsText o x.offset (size_of b x.t) l)) (act_plainly b x.line (PutsText o x.offset (size_of b x.t) l)) (spend s) i (text-holds b os x.line o s.world (in-scope b os o m.storage among) m.small x.offset (size_of b x.t) l lies (characters l))))
 
-    stores-sure : (os : List ℕ) (o : ℕ) (xs : List Store) → AreInitializers b.unit os xs → (s : State) → Inv os s.world → Sure (λ v z. Inv os z) (store_all b u.call o xs s) (plain.store_all b u'.call o xs s)
-    stores-sure os o [] h s i = (refl, i)
-    stores-sure os o (x ∷ xs) h s i = sure-seq (λ v z. Inv os z) (λ v z. Inv os z) (stores_value b u.call o x x.what s) (plain.stores_value b u'.call o x x.what s) _ _ (value-sure os o x x.what h.0 s i) (λ v t k. stores-sure os o xs h.1 t k)
+    stores-sure : (os : List ℕ) (o : ℕ) (xs : List Store) → IsIn o os → IsMakeable b.unit false o → AreInitializers b.unit os o xs → (s : State) → Inv os s.world → Sure (λ v z. Inv os z) (store_all b u.call o xs s) (plain.store_all b u'.call o xs s)
+    stores-sure os o [] among m h s i = (refl, i)
+    stores-sure os o (x ∷ xs) among m h s i = sure-seq (λ v z. Inv os z) (λ v z. Inv os z) (stores_value b u.call o x x.what s) (plain.stores_value b u'.call o x x.what s) _ _ (value-sure os o x x.what among m h.0.0 h.0.1 s i) (λ v t k. stores-sure os o xs among m h.1 t k)
 
     some-zero : (n : ℕ) → Some 0 ≡ Some n → n < 256
     some-zero n e = let same : 0 ≡ n = cc in subst (λ k. k < 256) same (omega arith)
 
-    fill-it : (os : List ℕ) (line o : ℕ) (v : Option ℕ) → ((n : ℕ) → v ≡ Some n → n < 256) → (s : State) → Inv os s.world → Sure (λ v z. Inv os z) (act b line (Fills o v) s) (act_plainly b line (Fills o v) s)
-    fill-it os line o v h s i =
-        sure-more _ (λ v z. Inv os z) (act b line (Fills o v) s) (act_plainly b line (Fills o v) s) (λ v z p. p.1) (piece os (λ v z. Unit {0}) (act b line (Fills o v)) (act_plainly b line (Fills o v)) s i (fills-holds b os line o v s.world h))
+    fill-it : (os : List ℕ) (line o : ℕ) (v : Option ℕ) → IsIn o os → IsMakeable b.unit false o → ((n : ℕ) → v ≡ Some n → n < 256) → (s : State) → Inv os s.world → Sure (λ v z. Inv os z) (act b line (Fills o v) s) (act_plainly b line (Fills o v) s)
+    fill-it os line o v among m h s i =
+        sure-more _ (λ v z. Inv os z) (act b line (Fills o v) s) (act_plainly b line (Fills o v) s) (λ v z p. p.1) (piece os (λ v z. Unit {0}) (act b line (Fills o v)) (act_plainly b line (Fills o v)) s i (fills-holds b os line o s.world (in-scope b os o m.storage among) m.small v h))
 
-    fill-sure : (os : List ℕ) (o : ℕ) (braced : Bool) (xs : List Store) (s : State) → Inv os s.world → Sure (λ v z. Inv os z) (begin_fill b o braced xs s) (plain.begin_fill b o braced xs s)
-    fill-sure os o true xs s i = fill-it os (object_at b.unit o).line o (Some 0) some-zero s i
-    fill-sure os o false [] s i = fill-it os (object_at b.unit o).line o None (λ n e. absurd (none-some n e)) s i
-    fill-sure os o false (x ∷ xs) s i = (refl, i)
+    fill-sure : (os : List ℕ) (o : ℕ) (braced : Bool) (xs : List Store) → IsIn o os → IsMakeable b.unit false o → (s : State) → Inv os s.world → Sure (λ v z. Inv os z) (begin_fill b o braced xs s) (plain.begin_fill b o braced xs s)
+    fill-sure os o true xs among m s i = fill-it os (object_at b.unit o).line o (Some 0) among m some-zero s i
+    fill-sure os o false [] among m s i = fill-it os (object_at b.unit o).line o None among m (λ n e. absurd (none-some n e)) s i
+    fill-sure os o false (x ∷ xs) among m s i = (refl, i)
 
-    declares-sure : (os : List ℕ) (o : ℕ) (x : TypedObject) → AreInitializers b.unit os x.inits → (s : State) → Inv os s.world → Sure (λ fl z. Inv os z) (declares b u.call o x s) (plain.declares b u'.call o x s)
-    declares-sure os o x h s i =
-        sure-seq (λ v z. Inv os z) (λ fl z. Inv os z) (begin_fill b o x.braced x.inits s) (plain.begin_fill b o x.braced x.inits s) _ _ (fill-sure os o x.braced x.inits s i) (λ v t k.
-        sure-seq (λ v z. Inv os z) (λ fl z. Inv os z) (store_all b u.call o x.inits t) (plain.store_all b u'.call o x.inits t) _ _ (stores-sure os o x.inits h t k) (λ v y q. (refl, q)))
+    declares-sure : (os : List ℕ) (o : ℕ) (x : TypedObject) → IsIn o os → IsMakeable b.unit false o → AreInitializers b.unit os o x.inits → (s : State) → Inv os s.world → Sure (λ fl z. Inv os z) (declares b u.call o x s) (plain.declares b u'.call o x s)
+    declares-sure os o x among m h s i =
+        sure-seq (λ v z. Inv os z) (λ fl z. Inv os z) (begin_fill b o x.braced x.inits s) (plain.begin_fill b o x.braced x.inits s) _ _ (fill-sure os o x.braced x.inits among m s i) (λ v t k.
+        sure-seq (λ v z. Inv os z) (λ fl z. Inv os z) (store_all b u.call o x.inits t) (plain.store_all b u'.call o x.inits t) _ _ (stores-sure os o x.inits among m h t k) (λ v y q. (refl, q)))
 
     returns-sure : (r : Ty) (os : List ℕ) (x : Option TypedTree) (line : ℕ) → IsReturned b.unit r os x → (s : State) → Inv os s.world → Sure (E r os) (returns_value b u.call x line s) (plain.returns_value b u'.call x line s)
     returns-sure r os None line h s i = (refl, (i, (none-nothing (layouts b.unit) r h, tt)))
@@ -297,7 +294,7 @@ module _ (b : Setting) (rest : List Bindings) (w0 : World) where
 
       -- every statement
       pub ex-sure : (r : Ty) (os : List ℕ) (x : TypedStatement) → IsTypedStatement b.unit r os x → (s : State) → Inv os s.world → Sure (E r os) (ex b u x s) (plain.ex b u' x s)
-      ex-sure r os (Block line ds xs) h s i = sure-tick b (E r os) s (λ s. scoped b ds (λ s. exs b u xs s) s) (λ s. plain.scoped b ds (λ s. plain.exs b u' xs s) s) (scoped-sure r os ds (exs b u xs) (plain.exs b u' xs) h.0 (λ s i. exs-sure r (ds ++ os) xs h.1 s i) (spend s) i)
+      ex-sure r os (Block line ds xs) h s i = sure-tick b (E r os) s (λ s. scoped b ds (λ s. exs b u xs s) s) (λ s. plain.scoped b ds (λ s. plain.exs b u' xs s) s) (scoped-sure r os ds (exs b u xs) (plain.exs b u' xs) h.0 h.1 (λ s i. exs-sure r (ds ++ os) xs h.2 s i) (spend s) i)
       ex-sure r os (Declare line o) h s i = absurd h
       ex-sure r os (Expression line x) h s i = sure-tick b (E r os) s (λ s. nothing_done (full b u.call x s)) (λ s. nothing_done (plain.full b u'.call x s)) (sure-seq (Kept os s.world (λ v z. Value b z (given_type x) v)) (E r os) (full b u.call x (spend s)) (plain.full b u'.call x (spend s)) _ _ (full-sure os x h (spend s) i) (λ v t k. (refl, (k.1, tt))))
       ex-sure r os (Empty line) h s i = sure-tick b (E r os) s (λ s. Gives Falls s) (λ s. Gives Falls s) (refl, (i, tt))
@@ -310,7 +307,7 @@ module _ (b : Setting) (rest : List Bindings) (w0 : World) where
           sure-seq (Kept os y.world (λ v z. Value b z (IntTy h.0) v)) (E r os) (act b (line_of c) (Needs v) y) (act_plainly b (line_of c) (Needs v) y) _ _ (act-sure os (line_of c) (Needs v) (IntTy h.0) y q.1 (h.0, refl, q.2)) (λ v x p.
           unless-way r os (target_of (int_of v) xs) (λ s. tick b s (λ s. then_do (scoped b ds (λ s. exs_at b u (target_of (int_of v) xs) xs s) s) switched)) (λ s. tick b s (λ s. then_do (plain.scoped b ds (λ s. plain.exs_at b u' (target_of (int_of v) xs) xs s) s) switched)) (λ s i. sure-tick b (E r os) s (λ s. then_do (scoped b ds (λ s. exs_at b u (target_of (int_of v) xs) xs s) s) switched) (λ s. then_do (plain.scoped b ds (λ s. plain.exs_at b u' (target_of (int_of v) xs) xs s) s) switched)
           (sure-seq (E r os) (E r os) (scoped b ds (λ s. exs_at b u (target_of (int_of v) xs) xs s) (spend s)) (plain.scoped b ds (λ s. plain.exs_at b u' (target_of (int_of v) xs) xs s) (spend s)) _ _
-          (scoped-sure r os ds (exs_at b u (target_of (int_of v) xs) xs) (plain.exs_at b u' (target_of (int_of v) xs) xs) h.4 (λ s i. at-sure (target_of (int_of v) xs) r (ds ++ os) xs h.5 s i) (spend s) i) (λ fl y q. switching r os fl y q))) x p.1))))
+          (scoped-sure r os ds (exs_at b u (target_of (int_of v) xs) xs) (plain.exs_at b u' (target_of (int_of v) xs) xs) h.4 h.5 (λ s i. at-sure (target_of (int_of v) xs) r (ds ++ os) xs h.6 s i) (spend s) i) (λ fl y q. switching r os fl y q))) x p.1))))
       ex-sure r os (Switch line c (Declare l o)) h s i = absurd h
       ex-sure r os (Switch line c (Expression l y)) h s i = absurd h
       ex-sure r os (Switch line c (Empty l)) h s i = absurd h
@@ -333,8 +330,8 @@ module _ (b : Setting) (rest : List Bindings) (w0 : World) where
       ex-sure r os (For line first c step x) h s i =
           sure-tick b (E r os) s (λ s. stepped b u.call first (λ s. round b u.call c step (λ s. ex b u x s) (u.again c step x) s) s) (λ s. plain.stepped b u'.call first (λ s. plain.round b u'.call c step (λ s. plain.ex b u' x s) (u'.again c step x) s) s) (stepped-sure r os first (λ s. round b u.call c step (λ s. ex b u x s) (u.again c step x) s) (λ s. plain.round b u'.call c step (λ s. plain.ex b u' x s) (u'.again c step x) s) h.0 (λ s i. round-sure r os c step (ex b u x) (plain.ex b u' x) (u.again c step x) (u'.again c step x) h.1 h.2 (λ s i. ex-sure r os x h.3 s i) (λ s i. level.again rest w0 r os c step x h.1 h.2 h.3 s i) s i) (spend s) i)
       ex-sure r os (ForDeclaration line ds xs c step x) h s i =
-          sure-tick b (E r os) s (λ s. scoped b ds (λ s. then_do (exs b u xs s) (λ fl s. falls fl (λ s. round b u.call c step (λ s. ex b u x s) (u.again c step x) s) s)) s) (λ s. plain.scoped b ds (λ s. then_do (plain.exs b u' xs s) (λ fl s. falls fl (λ s. plain.round b u'.call c step (λ s. plain.ex b u' x s) (u'.again c step x) s) s)) s) (scoped-sure r os ds (λ s. then_do (exs b u xs s) (λ fl s. falls fl (λ s. round b u.call c step (λ s. ex b u x s) (u.again c step x) s) s)) (λ s. then_do (plain.exs b u' xs s) (λ fl s. falls fl (λ s. plain.round b u'.call c step (λ s. plain.ex b u' x s) (u'.again c step x) s) s)) h.0 (λ s i. in-turn r (ds ++ os) (exs b u xs s) (plain.exs b u' xs s) (λ s. round b u.call c step (λ s. ex b u x s) (u.again c step x) s) (λ s. plain.round b u'.call c step (λ s. plain.ex b u' x s) (u'.again c step x) s) (exs-sure r (ds ++ os) xs h.1 s i)
-          (λ s i. round-sure r (ds ++ os) c step (ex b u x) (plain.ex b u' x) (u.again c step x) (u'.again c step x) h.2 h.3 (λ s i. ex-sure r (ds ++ os) x h.4 s i) (λ s i. level.again rest w0 r (ds ++ os) c step x h.2 h.3 h.4 s i) s i)) (spend s) i)
+          sure-tick b (E r os) s (λ s. scoped b ds (λ s. then_do (exs b u xs s) (λ fl s. falls fl (λ s. round b u.call c step (λ s. ex b u x s) (u.again c step x) s) s)) s) (λ s. plain.scoped b ds (λ s. then_do (plain.exs b u' xs s) (λ fl s. falls fl (λ s. plain.round b u'.call c step (λ s. plain.ex b u' x s) (u'.again c step x) s) s)) s) (scoped-sure r os ds (λ s. then_do (exs b u xs s) (λ fl s. falls fl (λ s. round b u.call c step (λ s. ex b u x s) (u.again c step x) s) s)) (λ s. then_do (plain.exs b u' xs s) (λ fl s. falls fl (λ s. plain.round b u'.call c step (λ s. plain.ex b u' x s) (u'.again c step x) s) s)) h.0 h.1 (λ s i. in-turn r (ds ++ os) (exs b u xs s) (plain.exs b u' xs s) (λ s. round b u.call c step (λ s. ex b u x s) (u.again c step x) s) (λ s. plain.round b u'.call c step (λ s. plain.ex b u' x s) (u'.again c step x) s) (exs-sure r (ds ++ os) xs h.2 s i)
+          (λ s i. round-sure r (ds ++ os) c step (ex b u x) (plain.ex b u' x) (u.again c step x) (u'.again c step x) h.3 h.4 (λ s i. ex-sure r (ds ++ os) x h.5 s i) (λ s i. level.again rest w0 r (ds ++ os) c step x h.3 h.4 h.5 s i) s i)) (spend s) i)
       ex-sure r os (Continue line) h s i = sure-tick b (E r os) s (λ s. Gives Continues s) (λ s. Gives Continues s) (refl, (i, tt))
       ex-sure r os (Break line) h s i = sure-tick b (E r os) s (λ s. Gives Breaks s) (λ s. Gives Breaks s) (refl, (i, tt))
       ex-sure r os (Return line x) h s i = sure-tick b (E r os) s (λ s. returns_value b u.call x line s) (λ s. plain.returns_value b u'.call x line s) (returns-sure r os x line h (spend s) i)
@@ -342,7 +339,7 @@ module _ (b : Setting) (rest : List Bindings) (w0 : World) where
       -- the statements of a list
       exs-sure : (r : Ty) (os : List ℕ) (xs : Statements) → AreTypedStatements b.unit r os xs → (s : State) → Inv os s.world → Sure (E r os) (exs b u xs s) (plain.exs b u' xs s)
       exs-sure r os NoStatements h s i = (refl, (i, tt))
-      exs-sure r os (MoreStatements (Declare line o) xs) h s i = sure-seq (λ fl z. Inv os z) (E r os) (declares b u.call o (object_at b.unit o) s) (plain.declares b u'.call o (object_at b.unit o) s) _ _ (declares-sure os o (object_at b.unit o) h.0 s i) (λ fl t k. exs-sure r os xs h.1 t k)
+      exs-sure r os (MoreStatements (Declare line o) xs) h s i = sure-seq (λ fl z. Inv os z) (E r os) (declares b u.call o (object_at b.unit o) s) (plain.declares b u'.call o (object_at b.unit o) s) _ _ (declares-sure os o (object_at b.unit o) h.0.0 h.0.1 h.0.2 s i) (λ fl t k. exs-sure r os xs h.1 t k)
       exs-sure r os (MoreStatements (Block l ds ys) xs) h s i = in-turn r os (ex b u (Block l ds ys) s) (plain.ex b u' (Block l ds ys) s) (exs b u xs) (plain.exs b u' xs) (ex-sure r os (Block l ds ys) h.0 s i) (λ s i. exs-sure r os xs h.1 s i)
       exs-sure r os (MoreStatements (Expression l y) xs) h s i = in-turn r os (ex b u (Expression l y) s) (plain.ex b u' (Expression l y) s) (exs b u xs) (plain.exs b u' xs) (ex-sure r os (Expression l y) h.0 s i) (λ s i. exs-sure r os xs h.1 s i)
       exs-sure r os (MoreStatements (Empty l) xs) h s i = in-turn r os (ex b u (Empty l) s) (plain.ex b u' (Empty l) s) (exs b u xs) (plain.exs b u' xs) (ex-sure r os (Empty l) h.0 s i) (λ s i. exs-sure r os xs h.1 s i)

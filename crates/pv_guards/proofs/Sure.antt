@@ -1,12 +1,14 @@
 -- Two pieces of a run that are the same from a state on, and what holds where they give something (C17 5.1.2.3).
-use Rattle.std.proofs.Common.{◌≡◌, ℕ, Bool, true, false, List, Option, Some, None, refl, subst}
+use Rattle.std.proofs.Common.{◌≡◌, ℕ, Bool, true, false, List, Option, Some, None, refl, sym, ap, subst}
 use Rattle.std.specs.Prelude.{nat_lt, if◌then◌else◌, slice_get}
 use Rattle.pv_world.specs.Worlds.{Worth, World}
 use Rattle.pv_world.specs.Telling.{Told}
 use Rattle.pv_world.specs.Doing.{Done, Answers, Fails, Breaks}
 use Rattle.pv_eval.specs.States.{Setting, State, Res, Gives, Stops, Turns, then_do, tick, spend}
 use Rattle.pv_eval.specs.Acting.{acted, answered, by_side, sided, pair_count, noted}
+use Rattle.pv_eval.specs.Operations.{Op, does, act}
 use Rattle.pv_guards.specs.Soundness.{IsSound, IsAfter}
+use Rattle.pv_guards.specs.Plain.{plainly, act_plainly}
 use Rattle.pv_guards.proofs.Results.{Answering}
 use Rattle.pv_guards.proofs.Triples.{Holds, After}
 use Rattle.pv_guards.proofs.Leaving.{ordered, after-itself}
@@ -70,3 +72,7 @@ module _ (b : Setting) (R : Worth → World → Type 0) (closed : (v : Worth) (z
   acted-lands line (Answers v z told) s h = answered-lands b.sides v line z told s h
   acted-lands line (Fails y p z told) s h = tt
   acted-lands line (Breaks y p z told) s h = tt
+
+  -- an operation that does what its rule says
+  pub does-sure : (line : ℕ) (o : Op) (s : State) → does b o s.world ≡ plainly b o s.world → Answering R (plainly b o s.world) → Sure R (act b line o s) (act_plainly b line o s)
+  does-sure line o s e h = (ap (λ d. acted b line d s) e, subst (λ d. Lands R (acted b line d s)) (sym e) (acted-lands line (plainly b o s.world) s h))

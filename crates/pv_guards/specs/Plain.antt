@@ -1,13 +1,29 @@
--- What operations do without the guards on their operands (C17 6.3, 6.5, 6.7.9, 7).
-use Rattle.std.specs.Prelude.{ℕ}
+-- What operations do without their guards (C17 6.2.4, 6.3, 6.5, 6.7.9, 7).
+use Rattle.std.specs.Prelude.{ℕ, None}
+use Rattle.pv_script.specs.Names.{name_at as text_of}
+use Rattle.pv_shadow.specs.Whole.{plain}
+use Rattle.pv_typed.specs.TypedUnits.{object_at, function_at, literal_at}
 use Rattle.pv_world.specs.Worlds.{Worth, World}
 use Rattle.pv_world.specs.Doing.{Done}
+use Rattle.pv_world.specs.Accesses.{stored_as}
+use Rattle.pv_world.specs.Objects.{makes_object, makes_literal_of, makes_function, function_request, ends_object, fills_object, puts_bytes}
 use Rattle.pv_eval.specs.States.{Setting, State, Res}
+use Rattle.pv_eval.specs.TypeForms.{size_of}
 use Rattle.pv_eval.specs.Acting.{acted}
-use Rattle.pv_eval.specs.Operations.{Op, works}
+use Rattle.pv_eval.specs.Objects.{request_of, text_for}
+use Rattle.pv_eval.specs.Operations.{Op, Makes, MakesLiteral, MakesFunction, Ends, Fills, Puts, PutsText, works}
 
--- each operation does what its rule says (6.3, 6.5, 6.7.9, 7), and it is not asked whether its operands are of their types
+-- each operation does what its rule says (6.2.4, 6.3, 6.5, 6.7.9, 7). It is not asked whether its operands are of their types, and not whether
+-- an object has a complete type and is made, lives, and has room for what is stored
 abbrev pub plainly : Setting → Op → World → Done
+plainly b (Makes o) w = makes_object o (object_at b.unit o).lasting (request_of b (object_at b.unit o)) w
+plainly b (MakesLiteral l) w = makes_literal_of l (text_of b.unit.names 0) (literal_at b.unit l).bytes w
+plainly b (MakesFunction f) w = makes_function f (function_request (function_at b.unit f).name (text_of b.unit.names (function_at b.unit f).name)) w
+plainly b (Ends o) w = ends_object o (object_at b.unit o).lasting w
+plainly b (Fills o v) w = fills_object o (object_at b.unit o).lasting (size_of b (object_at b.unit o).t) v w
+plainly b (Puts o offset l v) w = puts_bytes o (object_at b.unit o).lasting offset (stored_as l.number l.shape v) w
+plainly b (PutsText o offset size l) w = puts_bytes o (object_at b.unit o).lasting offset (plain None 0 (text_for b size l)) w
+-- no other operation asks for more than suiting operands
 plainly b op w = works b op w
 
 -- the same in the state of a run (5.1.2.3)

@@ -90,8 +90,8 @@ unfoldable mutual
   pub ex : Setting → Below → TypedStatement → State → Res Flow
   -- 6.8.2p2
   ex b u (Block line os xs) s = tick b s (λ s. scoped b os (λ s. exs b u xs s) s)
-  -- a declaration stands in a list alone
-  ex b u (Declare line o) s = tick b s (λ s. Gives Falls s)
+  -- a declaration stands in a list alone: there is no rule for another one
+  ex b u (Declare line o) s = Stops Unreached s
   ex b u (Expression line x) s = tick b s (λ s. nothing_done (full b u.call x s))
   ex b u (Empty line) s = tick b s (λ s. Gives Falls s)
   ex b u (If line c x) s = tick b s (λ s. then_do (testing b u.call c s) (λ v s. if is_true v then ex b u x s else Gives Falls s))
@@ -99,7 +99,8 @@ unfoldable mutual
   ex b u (Switch line c (Block m os xs)) s =
       tick b s (λ s. then_do (full b u.call c s) (λ v s. then_do (converted b c v s) (λ v s. then_do (act_plainly b (line_of c) (Needs v) s) (λ v s.
       unless_none (target_of (int_of v) xs) (λ s. tick b s (λ s. then_do (scoped b os (λ s. exs_at b u (target_of (int_of v) xs) xs s) s) switched)) s))))
-  ex b u (Switch line c x) s = tick b s (λ s. Gives Falls s)
+  -- nor for a `switch` whose body is no block
+  ex b u (Switch line c x) s = Stops Unreached s
   ex b u (Case line n x) s = ex b u x s
   ex b u (Default line x) s = ex b u x s
   ex b u (While line c x) s = tick b s (λ s. round b u.call (Some c) None (λ s. ex b u x s) (u.again (Some c) None x) s)
@@ -127,13 +128,13 @@ unfoldable mutual
 -- 6.5.2.2p4, 6.9.1p10: each parameter is made and gets its argument
 abbrev pub take_params : Setting → (line : ℕ) → List ℕ → List Worth → State → Res Worth
 take_params b line [] vs s = Gives Nothing s
-take_params b line (o ∷ os) [] s = Gives Nothing s
+take_params b line (o ∷ os) [] s = Stops Unreached s
 take_params b line (o ∷ os) (v ∷ vs) s =
     then_do (act_plainly b line (Makes o) s) (λ x s. then_do (act_plainly b line (Puts o 0 (lvalue b (object_at b.unit o).t) v) s) (λ x s. take_params b line os vs s))
 
--- 6.9p3, p5: a function that is called is defined; the body of another one would be an empty statement
+-- 6.9p3, p5: a function that is called is defined: there is no rule for another one
 abbrev pub runs_body : Setting → Below → Option TypedStatement → State → Res Flow
-runs_body b u None s = tick b s (λ s. Gives Falls s)
+runs_body b u None s = Stops Unreached s
 runs_body b u (Some x) s = ex b u x s
 
 -- 6.5.2.2p4, 6.9.1p10, p11: a call: the parameters are made, the body is executed, and the parameters end (6.2.4p6)

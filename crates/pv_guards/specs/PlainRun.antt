@@ -7,7 +7,7 @@ use Rattle.pv_typed.specs.Addresses.{constant_of}
 use Rattle.pv_typed.specs.Mains.{main_of}
 use Rattle.pv_typed.specs.TypedUnits.{Store, StoredValue, ValueOf, TextOf, object_at, function_at, literal_at}
 use Rattle.pv_world.specs.Worlds.{Worth, Nothing}
-use Rattle.pv_eval.specs.States.{Setting, State, Res, Gives, then_do}
+use Rattle.pv_eval.specs.States.{Setting, State, Res, Gives, Stops, Unreached, then_do}
 use Rattle.pv_eval.specs.TypeForms.{lvalue, size_of}
 use Rattle.pv_eval.specs.Operations.{Makes, MakesLiteral, MakesFunction, Fills, Puts, PutsText}
 use Rattle.pv_eval.specs.Constants.{constant_worth}
@@ -34,9 +34,9 @@ abbrev pub make_functions : Setting → List ℕ → State → Res Worth
 make_functions b [] s = Gives Nothing s
 make_functions b (f ∷ fs) s = then_do (act_plainly b (function_at b.unit f).line (MakesFunction f) s) (λ v s. make_functions b fs s)
 
--- 6.7.9p4, 6.6p7: what a static initializer stores is the value of a constant expression
+-- 6.7.9p4, 6.6p7: what a static initializer stores is the value of a constant expression: there is no rule for another one
 abbrev pub store_constant : Setting → (object : ℕ) → Store → Option Const → State → Res Worth
-store_constant b o x None s = Gives Nothing s
+store_constant b o x None s = Stops Unreached s
 store_constant b o x (Some c) s = act_plainly b x.line (Puts o x.offset (lvalue b x.t) (constant_worth s.world c)) s
 
 -- 6.7.9p4, p14: such a value, or a string's characters

@@ -1,5 +1,5 @@
 -- A typed tree that is well typed, told of the tree alone (C17 6.5): what evaluation asks of each kind of node.
-use Rattle.std.specs.Prelude.{◌≡◌, ◌⊎◌, ◌↔◌, ℕ, ◌+◌, ◌<◌, ◌≤◌, ◌^◌, pos, Bool, true, false, List, [], ◌∷◌, length, if◌then◌else◌}
+use Rattle.std.specs.Prelude.{◌≡◌, ◌⊎◌, ◌↔◌, ℕ, ◌+◌, ◌<◌, ◌≤◌, ◌^◌, pos, Bool, true, false, List, [], ◌∷◌, length, is_some, if◌then◌else◌}
 use Rattle.pv_num.specs.declared.kinds.IntKind.{IntKind}
 use Rattle.pv_num.specs.declared.kinds.IntKind.TheVariants.{Bool as BoolKind, Int, Long, ULong}
 use Rattle.pv_num.specs.declared.operators.BinOp.{BinOp}
@@ -109,9 +109,13 @@ abbrev pub IsSignature : Ty → Ty → Tys → Type 0
 IsSignature (FunctionTy r us false) t ts = AreLike r t × AreAllLike ts us
 IsSignature _ t ts = ⊥
 
--- 6.5.2.2p1: a function of the unit, with such a result and such parameters
+-- 6.9p3, p5: a function that the unit defines
+abbrev pub HasBody : WholeUnit → ℕ → Type 0
+HasBody u f = is_some (function_at u f).body ≡ true
+
+-- 6.5.2.2p1, 6.9p5: a function that the unit defines, with such a result and such parameters
 abbrev pub IsFunction : WholeUnit → ℕ → Ty → Tys → Type 0
-IsFunction u f t ts = (f < length u.functions) × IsSignature (function_at u f).t t ts
+IsFunction u f t ts = (f < length u.functions) × HasBody u f × IsSignature (function_at u f).t t ts
 
 -- 7: the type of the result of each function of the library: a pointer, a number, or nothing
 abbrev pub IsResultOf : Library → Ty → Type 0

@@ -1,9 +1,10 @@
 -- Typed statements and units that are well typed, told of the trees alone (C17 6.7, 6.8, 6.9): what execution asks of each.
-use Rattle.std.specs.Prelude.{◌≡◌, ◌≢◌, ◌⊎◌, ℕ, ◌<◌, ◌≤◌, ◌^◌, Bool, true, false, Option, List, [], ◌∷◌, ◌++◌, length, Some, None}
+use Rattle.std.specs.Prelude.{◌≡◌, ◌≢◌, ◌⊎◌, ℕ, ◌+◌, ◌<◌, ◌≤◌, ◌^◌, Bool, true, false, Option, List, [], ◌∷◌, ◌++◌, length, Some, None}
 use Rattle.pv_num.specs.declared.kinds.IntKind.{IntKind}
 use Rattle.pv_num.specs.declared.kinds.IntKind.TheVariants.{Int}
+use Rattle.pv_num.specs.Kinds.{Fits}
 use Rattle.pv_num.specs.Arithmetic.{IsPromoted}
-use Rattle.pv_types.specs.Ty.{Ty, Tys, NoTys, MoreTys, IntTy, FunctionTy}
+use Rattle.pv_types.specs.Ty.{Ty, Tys, NoTys, MoreTys, IntTy, PointerTo, FunctionTy}
 use Rattle.pv_types.specs.Layouts.{layout_in, is_complete_in}
 use Rattle.pv_layout.specs.Parts.{bare}
 use Rattle.pv_typed.specs.declared.values.Const.{Const}
@@ -16,7 +17,7 @@ use Rattle.pv_typed.specs.TypedStatement.{TypedStatement, Block, Declare, Expres
 use Rattle.pv_typed.specs.TypedUnits.{WholeUnit, TypedFunction, Store, StoredValue, ValueOf, TextOf, layouts, object_at, function_at, literal_at}
 use Rattle.pv_eval.specs.TypeForms.{is_none}
 use Rattle.pv_eval.specs.Objects.{heap_name}
-use Rattle.pv_guards.specs.Typed.{IsTyped, HasType, HasValue, IsScalarType, IsValueType, IsIn}
+use Rattle.pv_guards.specs.Typed.{IsTyped, HasType, HasValue, IsScalarType, IsValueType, AreLike, HasBody, IsIn}
 
 -- 6.2.4, 6.7p7: an object that can be made: of a complete type of at most 2 ^ 32 bytes, under a name of its own
 pub record IsMakeable (u : WholeUnit) (lasting : Bool) (o : ℕ) : Type 0 where
@@ -24,6 +25,11 @@ pub record IsMakeable (u : WholeUnit) (lasting : Bool) (o : ℕ) : Type 0 where
   pub complete : is_complete_in (layouts u) (object_at u o).t ≡ true
   pub small : (layout_in (layouts u) (object_at u o).t).size ≤ 2 ^ 32
   pub named : (object_at u o).name ≢ heap_name
+
+-- 6.2.4, 6.7p3: each of these objects is declared once, and not among those that live already
+abbrev pub AreNew : List ℕ → (automatic : List ℕ) → Type 0
+AreNew [] os = Unit {0}
+AreNew (d ∷ ds) os = (IsIn d (ds ++ os) → ⊥) × AreNew ds os
 
 -- 6.8.4.1p1, 6.8.5p2: a controlling expression
 abbrev pub IsCondition : WholeUnit → (automatic : List ℕ) → TypedTree → Type 0
@@ -44,19 +50,27 @@ abbrev pub IsReturned : WholeUnit → Ty → (automatic : List ℕ) → Option T
 IsReturned u r os None = is_none r ≡ true
 IsReturned u r os (Some x) = IsTyped u os x × HasType x (bare r)
 
+-- 6.7.9p2: what is stored at one place of an initializer lies within the object
+abbrev pub LiesIn : WholeUnit → (object : ℕ) → Store → Type 0
+LiesIn u o x = x.offset + (layout_in (layouts u) x.t).size ≤ (layout_in (layouts u) (object_at u o).t).size
+
 -- 6.7.9p11: what an initializer stores, which is a value of the type, or a string
 abbrev pub IsInitializer : WholeUnit → (automatic : List ℕ) → Ty → StoredValue → Type 0
-IsInitializer u os t (ValueOf e) = IsTyped u os e × HasType e (bare t)
+IsInitializer u os t (ValueOf e) = IsTyped u os e × HasType e (bare t) × IsValueType (bare t)
 IsInitializer u os t (TextOf l) = Unit {0}
 
 -- 6.7.9: all stores of an object's initializer
-abbrev pub AreInitializers : WholeUnit → (automatic : List ℕ) → List Store → Type 0
-AreInitializers u os xs = Each (λ (x : Store). IsInitializer u os x.t x.what) xs
+abbrev pub AreInitializers : WholeUnit → (automatic : List ℕ) → (object : ℕ) → List Store → Type 0
+AreInitializers u os o xs = Each (λ (x : Store). LiesIn u o x × IsInitializer u os x.t x.what) xs
+
+-- 6.8p3, 6.7.9: a declaration that is reached is that of an object of a block around it
+abbrev pub IsDeclared : WholeUnit → (automatic : List ℕ) → ℕ → Type 0
+IsDeclared u os o = IsIn o os × IsMakeable u false o × AreInitializers u os o (object_at u o).inits
 
 abbrev mutual
   -- 6.8: a statement of a function with this result
   pub IsTypedStatement : WholeUnit → Ty → (automatic : List ℕ) → TypedStatement → Type 0
-  IsTypedStatement u r os (Block line ds xs) = Each (IsMakeable u false) ds × AreTypedStatements u r (ds ++ os) xs
+  IsTypedStatement u r os (Block line ds xs) = Each (IsMakeable u false) ds × AreNew ds os × AreTypedStatements u r (ds ++ os) xs
   -- a declaration stands in a list alone
   IsTypedStatement u r os (Declare line o) = ⊥
   IsTypedStatement u r os (Expression line x) = IsTyped u os x
@@ -64,7 +78,7 @@ abbrev mutual
   IsTypedStatement u r os (If line c x) = IsCondition u os c × IsTypedStatement u r os x
   IsTypedStatement u r os (IfElse line c x y) = IsCondition u os c × IsTypedStatement u r os x × IsTypedStatement u r os y
   IsTypedStatement u r os (Switch line c (Block m ds xs)) =
-      (k : IntKind) × IsTyped u os c × HasType c (IntTy k) × IsPromoted k × Each (IsMakeable u false) ds × AreTypedStatements u r (ds ++ os) xs
+      (k : IntKind) × IsTyped u os c × HasType c (IntTy k) × IsPromoted k × Each (IsMakeable u false) ds × AreNew ds os × AreTypedStatements u r (ds ++ os) xs
   IsTypedStatement u r os (Switch line c x) = ⊥
   IsTypedStatement u r os (Case line n x) = IsTypedStatement u r os x
   IsTypedStatement u r os (Default line x) = IsTypedStatement u r os x
@@ -72,7 +86,7 @@ abbrev mutual
   IsTypedStatement u r os (DoWhile line x c) = IsTypedStatement u r os x × IsCondition u os c
   IsTypedStatement u r os (For line first c step x) = MayBeTyped u os first × MayBeCondition u os c × MayBeTyped u os step × IsTypedStatement u r os x
   IsTypedStatement u r os (ForDeclaration line ds xs c step x) =
-      Each (IsMakeable u false) ds × AreTypedStatements u r (ds ++ os) xs × MayBeCondition u (ds ++ os) c × MayBeTyped u (ds ++ os) step × IsTypedStatement u r (ds ++ os) x
+      Each (IsMakeable u false) ds × AreNew ds os × AreTypedStatements u r (ds ++ os) xs × MayBeCondition u (ds ++ os) c × MayBeTyped u (ds ++ os) step × IsTypedStatement u r (ds ++ os) x
   IsTypedStatement u r os (Continue line) = Unit {0}
   IsTypedStatement u r os (Break line) = Unit {0}
   IsTypedStatement u r os (Return line x) = IsReturned u r os x
@@ -80,13 +94,17 @@ abbrev mutual
   -- 6.8.2: the statements of a list, and declarations
   pub AreTypedStatements : WholeUnit → Ty → (automatic : List ℕ) → Statements → Type 0
   AreTypedStatements u r os NoStatements = Unit {0}
-  AreTypedStatements u r os (MoreStatements (Declare line o) xs) = AreInitializers u os (object_at u o).inits × AreTypedStatements u r os xs
+  AreTypedStatements u r os (MoreStatements (Declare line o) xs) = IsDeclared u os o × AreTypedStatements u r os xs
   AreTypedStatements u r os (MoreStatements x xs) = IsTypedStatement u r os x × AreTypedStatements u r os xs
+
+-- 6.9.1p7, p10: the object of a parameter has the values of its type
+abbrev pub IsParameter : WholeUnit → ℕ → Ty → Type 0
+IsParameter u o t = IsMakeable u false o × AreLike t (object_at u o).t × IsValueType (bare (object_at u o).t)
 
 -- 6.9.1p10: the objects of parameters, one for each type
 abbrev pub AreParameters : WholeUnit → List ℕ → Tys → Type 0
 AreParameters u [] NoTys = Unit {0}
-AreParameters u (o ∷ os) (MoreTys t ts) = IsMakeable u false o × AreParameters u os ts
+AreParameters u (o ∷ os) (MoreTys t ts) = IsParameter u o t × AreParameters u os ts
 AreParameters u _ _ = ⊥
 
 -- 6.9.1p3: what a function gives: nothing, or a value
@@ -96,7 +114,7 @@ IsResult r = (is_none r ≡ true) ⊎ IsValueType (bare r)
 -- 6.9.1: a function that is defined has an object for each parameter, and a body; another one has neither
 abbrev pub IsDefinition : WholeUnit → Ty → Tys → (parameters : List ℕ) → Option TypedStatement → Type 0
 IsDefinition u r ts ps None = ps ≡ []
-IsDefinition u r ts ps (Some x) = AreParameters u ps ts × IsTypedStatement u r ps x
+IsDefinition u r ts ps (Some x) = AreParameters u ps ts × AreNew ps [] × IsTypedStatement u r ps x
 
 -- 6.9.1, 5.1.2.2.1p1: a function with this result and these parameters; `main` gives an `int`
 pub record IsTypedFunction (u : WholeUnit) (x : TypedFunction) (r : Ty) (ts : Tys) : Type 0 where
@@ -113,19 +131,32 @@ IsPlaced u (const.Function f) = IsIn f u.placed
 IsPlaced u (const.Int n) = Unit {0}
 IsPlaced u const.Null = Unit {0}
 
--- 6.7.9p4: what an initializer of an object with static storage stores
-abbrev pub IsConstant : WholeUnit → StoredValue → Type 0
-IsConstant u (ValueOf e) = (c : Const) → constant_of u e ≡ Some c → IsPlaced u c
-IsConstant u (TextOf l) = Unit {0}
+-- 6.6p7: the type of a constant: a number fits its integer type, and the others are pointers
+abbrev pub IsConstantOf : Const → Ty → Type 0
+IsConstantOf (const.Int n) t = (k : IntKind) × (t ≡ IntTy k) × Fits k n
+IsConstantOf const.Null t = (s : Ty) × (t ≡ PointerTo s)
+IsConstantOf (const.Address o n) t = (s : Ty) × (t ≡ PointerTo s)
+IsConstantOf (const.Literal l n) t = (s : Ty) × (t ≡ PointerTo s)
+IsConstantOf (const.Function f) t = (s : Ty) × (t ≡ PointerTo s)
+
+-- 6.7.9p4: what an initializer of an object with static storage stores: a constant of the type, or a string
+abbrev pub IsConstant : WholeUnit → Ty → StoredValue → Type 0
+IsConstant u t (ValueOf e) = (c : Const) × (constant_of u e ≡ Some c) × IsPlaced u c × IsConstantOf c (bare t)
+IsConstant u t (TextOf l) = Unit {0}
+
+-- 6.7.9p4: all stores of such an initializer
+abbrev pub AreConstants : WholeUnit → (object : ℕ) → List Store → Type 0
+AreConstants u o xs = Each (λ (x : Store). LiesIn u o x × IsConstant u x.t x.what) xs
 
 -- 6.9: a unit that is well typed
 pub record IsTypedUnit (u : WholeUnit) : Type 0 where
   pub functions : (f : ℕ) (r : Ty) (ts : Tys) → f < length u.functions → (function_at u f).t ≡ FunctionTy r ts false → IsTypedFunction u (function_at u f) r ts
-  -- 5.1.2.2.1p1: `main` has no parameters here, and gives an `int`
-  pub main : (f : ℕ) → main_of u ≡ Some f → (f < length u.functions) × ((r : Ty) × ((function_at u f).t ≡ FunctionTy r NoTys false) × (bare r ≡ IntTy Int))
+  -- 5.1.2.2.1p1: `main` is defined, has no parameters here, and gives an `int`
+  pub main : (f : ℕ) → main_of u ≡ Some f → (f < length u.functions) × HasBody u f × ((r : Ty) × ((function_at u f).t ≡ FunctionTy r NoTys false) × (bare r ≡ IntTy Int))
   -- 6.4.5p6: a literal's characters, and its zero
   pub characters : (l : ℕ) → Each (λ (v : ℕ). v < 256) (literal_at u l).bytes
   pub literals : (l : ℕ) → IsIn l u.instances → 1 ≤ length (literal_at u l).bytes
   pub statics : (o : ℕ) → IsIn o u.statics → IsMakeable u true o
-  pub constants : (o : ℕ) → IsIn o u.statics → Each (λ (x : Store). IsConstant u x.what) (object_at u o).inits
-  pub placed : (f : ℕ) → IsIn f u.placed → (function_at u f).name ≢ heap_name
+  pub constants : (o : ℕ) → IsIn o u.statics → AreConstants u o (object_at u o).inits
+  -- 6.3.2.1p4, 6.9p5: a function that is pointed to is defined
+  pub placed : (f : ℕ) → IsIn f u.placed → ((function_at u f).name ≢ heap_name) × HasBody u f

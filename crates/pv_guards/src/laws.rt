@@ -22,8 +22,9 @@ ghost use Rattle.pv_guards.specs.Promises.{Promised};
 ghost use Rattle.pv_guards.specs.PlainRun as plain;
 ghost use Rattle.pv_guards.specs.Laws.{CallsAgree, MeetsNoGuard, GivesItsType, DoesItsRule};
 
-/// A law: a run of a well-typed unit (C17 5.1.2) meets no guard on operands: it is the run of the rules alone, whatever the script, the
-/// sides, the bound and zap are. So no verdict of such a run ever comes from an operand that isn't of its expression's type.
+/// A law: a run of a well-typed unit (C17 5.1.2) meets no guard: it is the run of the rules alone, whatever the script, the sides, the
+/// bound and zap are. So no verdict of such a run ever comes from an operand that isn't of its expression's type, and each object that
+/// the run makes, fills, stores to or ends (6.2.4, 6.7.9, 6.9.1p10) can be made, or lives and has room.
 /// And what `main` gives is an `int` (5.1.2.2.3p1).
 pub fn typed_units_meet_no_guard()
     ensures same { (u : Stored) → IsTypedUnit (whole u) → (sides : Option (List Bool)) (zap : Bool) (script : List ScriptLine) (n : ℕ) →
