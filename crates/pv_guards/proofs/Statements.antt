@@ -1,5 +1,5 @@
 -- Typed statements and calls of functions are executed with the guards as without them (C17 6.5.2.2, 6.8).
-use Rattle.std.proofs.Common.{◌≡◌, ℕ, ◌<◌, Bool, true, false, List, [], ◌∷◌, ◌++◌, Some, None, refl, ◌∙◌, subst, inl, inr, arith}
+use Rattle.std.proofs.Common.{◌≡◌, ℕ, ◌<◌, ℤ, Bool, true, false, ◌||◌, List, [], ◌∷◌, ◌++◌, Some, None, refl, sym, ◌∙◌, subst, inl, inr, arith}
 use Rattle.std.specs.Prelude.{if◌then◌else◌}
 use Rattle.std.specs.declared.option.Option.{Option}
 use Rattle.std.proofs.lemmas.Option.{none-some}
@@ -20,7 +20,8 @@ use Rattle.pv_eval.specs.Steps.{converted, handed}
 use Rattle.pv_eval.specs.Evaluation.{ev}
 use Rattle.pv_eval.specs.Operations.{Op, Tests, Accepts, Needs, Makes, Ends, Fills, Puts, PutsText, act}
 use Rattle.pv_exec.specs.Flows.{Flow, Falls, Breaks, Continues, Returns, Below, full, nothing_done, testing, falls, goes_on, switched, make_all, end_all, scoped, stores_value, store_all, begin_fill, declares, if_tested, stepped, round, round_do, returns_value}
-use Rattle.pv_exec.specs.Labels.{Target, ToCase, ToDefault, ToNone, target_of, is_target, unless_none}
+use Rattle.pv_exec.specs.Labels.{Target, ToCase, ToDefault, ToNone, some_case, some_default, target_of, is_target, unless_none}
+use Rattle.pv_exec.specs.Switches.{some_target}
 use Rattle.pv_exec.specs.Execution.{ex, exs, exs_at}
 use Rattle.pv_guards.specs.Worths.{IsOfType, IsThere}
 use Rattle.pv_guards.specs.Typed.{IsTyped, HasType, IsValueType, IsIn, given_type}
@@ -110,6 +111,37 @@ flow-later b r Continues w z k h = tt
 abbrev pub EndsIn : (b : Setting) (rest : List Bindings) (w0 : World) → Ty → (automatic : List ℕ) → Flow → World → Type 0
 EndsIn b rest w0 r os fl z = Within b os rest w0 z × FlowOf b r fl z
 
+-- 6.8.4.2p5: the label to which a `switch` jumps is among the labels of its body
+abbrev Found : Target → Statements → Type 0
+Found ToNone xs = Unit {0}
+Found (ToCase v) xs = some_case v xs ≡ true
+Found ToDefault xs = some_default xs ≡ true
+
+target-found : (v : ℤ) (xs : Statements) → Found (target_of v xs) xs
+target-found v xs = by (some_case v xs) (some_default xs) refl refl
+  where
+    by : (c d : Bool) → some_case v xs ≡ c → some_default xs ≡ d → Found (if c then ToCase v else (if d then ToDefault else ToNone)) xs
+    by true d e f = e
+    by false true e f = f
+    by false false e f = tt
+
+some-first : (at : Target) (x : TypedStatement) (xs : Statements) → some_target at (MoreStatements x xs) ≡ (is_target at x || some_target at xs)
+some-first (ToCase v) x xs = refl
+some-first ToDefault x xs = refl
+some-first ToNone x xs = refl
+
+right-or : (c d : Bool) → (c || d) ≡ true → c ≡ false → d ≡ true
+right-or false d e f = e
+right-or true d e f = absurd cc
+
+found-behind : (at : Target) (x : TypedStatement) (xs : Statements) → some_target at (MoreStatements x xs) ≡ true → is_target at x ≡ false → some_target at xs ≡ true
+found-behind at x xs e f = right-or (is_target at x) (some_target at xs) (sym (some-first at x xs) ∙ e) f
+
+none-found : (at : Target) → some_target at NoStatements ≡ true → ⊥
+none-found (ToCase v) e = absurd cc
+none-found ToDefault e = absurd cc
+none-found ToNone e = absurd cc
+
 -- what lies below, with the guards and without
 pub record Level (b : Setting) (u u' : Below) : Type 0 where
   pub call : (os : List ℕ) → CallsAgree b os u.call u'.call
@@ -182,10 +214,10 @@ module _ (b : Setting) (rest : List Bindings) (w0 : World) where
   switching r os Continues s i = (refl, i)
   switching r os (Returns v) s i = (refl, i)
 
-  unless-way : (r : Ty) (os : List ℕ) (t : Target) (m m' : State → Res Flow) → ((s : State) → Inv os s.world → Sure (E r os) (m s) (m' s)) → (s : State) → Inv os s.world → Sure (E r os) (unless_none t m s) (unless_none t m' s)
-  unless-way r os ToNone m m' h s i = (refl, (i, tt))
-  unless-way r os (ToCase v) m m' h s i = h s i
-  unless-way r os ToDefault m m' h s i = h s i
+  unless-way : (r : Ty) (os : List ℕ) (t : Target) (xs : Statements) (m m' : State → Res Flow) → Found t xs → (some_target t xs ≡ true → (s : State) → Inv os s.world → Sure (E r os) (m s) (m' s)) → (s : State) → Inv os s.world → Sure (E r os) (unless_none t m s) (unless_none t m' s)
+  unless-way r os ToNone xs m m' found h s i = (refl, (i, tt))
+  unless-way r os (ToCase v) xs m m' found h s i = h found s i
+  unless-way r os ToDefault xs m m' found h s i = h found s i
 
   in-turn : (r : Ty) (os : List ℕ) (q q' : Res Flow) (m m' : State → Res Flow) → Sure (E r os) q q' → ((s : State) → Inv os s.world → Sure (E r os) (m s) (m' s)) → Sure (E r os) (then_do q (λ fl s. falls fl (λ s. m s) s)) (then_do q' (λ fl s. falls fl (λ s. m' s) s))
   in-turn r os q q' m m' h g = sure-seq (E r os) (E r os) q q' _ _ h (λ fl t k. falling r os fl m m' g t k)
@@ -198,6 +230,10 @@ module _ (b : Setting) (rest : List Bindings) (w0 : World) where
   no-target (ToCase v) l o = refl
   no-target ToDefault l o = refl
   no-target ToNone l o = refl
+
+  sure-found : {A : Type 0} (R : A → World → Type 0) (c : Bool) (r r' q q' : Res A) → Sure R r r' → (c ≡ false → Sure R q q') → Sure R (if c then r else q) (if c then r' else q')
+  sure-found R true r r' q q' h g = h
+  sure-found R false r r' q q' h g = g refl
 
   not-so : {A : Type 0} (R : A → World → Type 0) (c : Bool) (r r' q q' : Res A) → c ≡ false → Sure R q q' → Sure R (if c then r else q) (if c then r' else q')
   not-so R false r r' q q' e h = h
@@ -305,9 +341,9 @@ module _ (b : Setting) (rest : List Bindings) (w0 : World) where
           (sure-seq (Kept os s.world (λ v z. Value b z (given_type c) v)) (E r os) (full b u.call c (spend s)) (plain.full b u'.call c (spend s)) _ _ (full-sure os c h.1 (spend s) i) (λ v t k.
           sure-seq (Kept os t.world (λ v z. Value b z (IntTy h.0) v)) (E r os) (converted b c v t) (plainly.converted b c v t) _ _ (converted-sure os c (IntTy h.0) v t h.1 h.2 k.2 k.1) (λ v y q.
           sure-seq (Kept os y.world (λ v z. Value b z (IntTy h.0) v)) (E r os) (act b (line_of c) (Needs v) y) (act_plainly b (line_of c) (Needs v) y) _ _ (act-sure os (line_of c) (Needs v) (IntTy h.0) y q.1 (h.0, refl, q.2)) (λ v x p.
-          unless-way r os (target_of (int_of v) xs) (λ s. tick b s (λ s. then_do (scoped b ds (λ s. exs_at b u (target_of (int_of v) xs) xs s) s) switched)) (λ s. tick b s (λ s. then_do (plain.scoped b ds (λ s. plain.exs_at b u' (target_of (int_of v) xs) xs s) s) switched)) (λ s i. sure-tick b (E r os) s (λ s. then_do (scoped b ds (λ s. exs_at b u (target_of (int_of v) xs) xs s) s) switched) (λ s. then_do (plain.scoped b ds (λ s. plain.exs_at b u' (target_of (int_of v) xs) xs s) s) switched)
+          unless-way r os (target_of (int_of v) xs) xs (λ s. tick b s (λ s. then_do (scoped b ds (λ s. exs_at b u (target_of (int_of v) xs) xs s) s) switched)) (λ s. tick b s (λ s. then_do (plain.scoped b ds (λ s. plain.exs_at b u' (target_of (int_of v) xs) xs s) s) switched)) (target-found (int_of v) xs) (λ found s i. sure-tick b (E r os) s (λ s. then_do (scoped b ds (λ s. exs_at b u (target_of (int_of v) xs) xs s) s) switched) (λ s. then_do (plain.scoped b ds (λ s. plain.exs_at b u' (target_of (int_of v) xs) xs s) s) switched)
           (sure-seq (E r os) (E r os) (scoped b ds (λ s. exs_at b u (target_of (int_of v) xs) xs s) (spend s)) (plain.scoped b ds (λ s. plain.exs_at b u' (target_of (int_of v) xs) xs s) (spend s)) _ _
-          (scoped-sure r os ds (exs_at b u (target_of (int_of v) xs) xs) (plain.exs_at b u' (target_of (int_of v) xs) xs) h.4 h.5 (λ s i. at-sure (target_of (int_of v) xs) r (ds ++ os) xs h.6 s i) (spend s) i) (λ fl y q. switching r os fl y q))) x p.1))))
+          (scoped-sure r os ds (exs_at b u (target_of (int_of v) xs) xs) (plain.exs_at b u' (target_of (int_of v) xs) xs) h.4 h.5 (λ s i. at-sure (target_of (int_of v) xs) r (ds ++ os) xs found h.6 s i) (spend s) i) (λ fl y q. switching r os fl y q))) x p.1))))
       ex-sure r os (Switch line c (Declare l o)) h s i = absurd h
       ex-sure r os (Switch line c (Expression l y)) h s i = absurd h
       ex-sure r os (Switch line c (Empty l)) h s i = absurd h
@@ -357,21 +393,21 @@ module _ (b : Setting) (rest : List Bindings) (w0 : World) where
       exs-sure r os (MoreStatements (Return l y) xs) h s i = in-turn r os (ex b u (Return l y) s) (plain.ex b u' (Return l y) s) (exs b u xs) (plain.exs b u' xs) (ex-sure r os (Return l y) h.0 s i) (λ s i. exs-sure r os xs h.1 s i)
 
       -- the same from a label on
-      at-sure : (at : Target) (r : Ty) (os : List ℕ) (xs : Statements) → AreTypedStatements b.unit r os xs → (s : State) → Inv os s.world → Sure (E r os) (exs_at b u at xs s) (plain.exs_at b u' at xs s)
-      at-sure at r os NoStatements h s i = (refl, (i, tt))
-      at-sure at r os (MoreStatements (Declare line o) xs) h s i = not-so (E r os) (is_target at (Declare line o)) (then_do (ex b u (Declare line o) s) (λ fl s. falls fl (λ s. exs b u xs s) s)) (then_do (plain.ex b u' (Declare line o) s) (λ fl s. falls fl (λ s. plain.exs b u' xs s) s)) (exs_at b u at xs s) (plain.exs_at b u' at xs s) (no-target at line o) (at-sure at r os xs h.1 s i)
-      at-sure at r os (MoreStatements (Block l ds ys) xs) h s i = sure-if (E r os) (is_target at (Block l ds ys)) (then_do (ex b u (Block l ds ys) s) (λ fl s. falls fl (λ s. exs b u xs s) s)) (then_do (plain.ex b u' (Block l ds ys) s) (λ fl s. falls fl (λ s. plain.exs b u' xs s) s)) (exs_at b u at xs s) (plain.exs_at b u' at xs s) (in-turn r os (ex b u (Block l ds ys) s) (plain.ex b u' (Block l ds ys) s) (exs b u xs) (plain.exs b u' xs) (ex-sure r os (Block l ds ys) h.0 s i) (λ s i. exs-sure r os xs h.1 s i)) (at-sure at r os xs h.1 s i)
-      at-sure at r os (MoreStatements (Expression l y) xs) h s i = sure-if (E r os) (is_target at (Expression l y)) (then_do (ex b u (Expression l y) s) (λ fl s. falls fl (λ s. exs b u xs s) s)) (then_do (plain.ex b u' (Expression l y) s) (λ fl s. falls fl (λ s. plain.exs b u' xs s) s)) (exs_at b u at xs s) (plain.exs_at b u' at xs s) (in-turn r os (ex b u (Expression l y) s) (plain.ex b u' (Expression l y) s) (exs b u xs) (plain.exs b u' xs) (ex-sure r os (Expression l y) h.0 s i) (λ s i. exs-sure r os xs h.1 s i)) (at-sure at r os xs h.1 s i)
-      at-sure at r os (MoreStatements (Empty l) xs) h s i = sure-if (E r os) (is_target at (Empty l)) (then_do (ex b u (Empty l) s) (λ fl s. falls fl (λ s. exs b u xs s) s)) (then_do (plain.ex b u' (Empty l) s) (λ fl s. falls fl (λ s. plain.exs b u' xs s) s)) (exs_at b u at xs s) (plain.exs_at b u' at xs s) (in-turn r os (ex b u (Empty l) s) (plain.ex b u' (Empty l) s) (exs b u xs) (plain.exs b u' xs) (ex-sure r os (Empty l) h.0 s i) (λ s i. exs-sure r os xs h.1 s i)) (at-sure at r os xs h.1 s i)
-      at-sure at r os (MoreStatements (If l y z) xs) h s i = sure-if (E r os) (is_target at (If l y z)) (then_do (ex b u (If l y z) s) (λ fl s. falls fl (λ s. exs b u xs s) s)) (then_do (plain.ex b u' (If l y z) s) (λ fl s. falls fl (λ s. plain.exs b u' xs s) s)) (exs_at b u at xs s) (plain.exs_at b u' at xs s) (in-turn r os (ex b u (If l y z) s) (plain.ex b u' (If l y z) s) (exs b u xs) (plain.exs b u' xs) (ex-sure r os (If l y z) h.0 s i) (λ s i. exs-sure r os xs h.1 s i)) (at-sure at r os xs h.1 s i)
-      at-sure at r os (MoreStatements (IfElse l y z q) xs) h s i = sure-if (E r os) (is_target at (IfElse l y z q)) (then_do (ex b u (IfElse l y z q) s) (λ fl s. falls fl (λ s. exs b u xs s) s)) (then_do (plain.ex b u' (IfElse l y z q) s) (λ fl s. falls fl (λ s. plain.exs b u' xs s) s)) (exs_at b u at xs s) (plain.exs_at b u' at xs s) (in-turn r os (ex b u (IfElse l y z q) s) (plain.ex b u' (IfElse l y z q) s) (exs b u xs) (plain.exs b u' xs) (ex-sure r os (IfElse l y z q) h.0 s i) (λ s i. exs-sure r os xs h.1 s i)) (at-sure at r os xs h.1 s i)
-      at-sure at r os (MoreStatements (Switch l y z) xs) h s i = sure-if (E r os) (is_target at (Switch l y z)) (then_do (ex b u (Switch l y z) s) (λ fl s. falls fl (λ s. exs b u xs s) s)) (then_do (plain.ex b u' (Switch l y z) s) (λ fl s. falls fl (λ s. plain.exs b u' xs s) s)) (exs_at b u at xs s) (plain.exs_at b u' at xs s) (in-turn r os (ex b u (Switch l y z) s) (plain.ex b u' (Switch l y z) s) (exs b u xs) (plain.exs b u' xs) (ex-sure r os (Switch l y z) h.0 s i) (λ s i. exs-sure r os xs h.1 s i)) (at-sure at r os xs h.1 s i)
-      at-sure at r os (MoreStatements (Case l m y) xs) h s i = sure-if (E r os) (is_target at (Case l m y)) (then_do (ex b u (Case l m y) s) (λ fl s. falls fl (λ s. exs b u xs s) s)) (then_do (plain.ex b u' (Case l m y) s) (λ fl s. falls fl (λ s. plain.exs b u' xs s) s)) (exs_at b u at xs s) (plain.exs_at b u' at xs s) (in-turn r os (ex b u (Case l m y) s) (plain.ex b u' (Case l m y) s) (exs b u xs) (plain.exs b u' xs) (ex-sure r os (Case l m y) h.0 s i) (λ s i. exs-sure r os xs h.1 s i)) (at-sure at r os xs h.1 s i)
-      at-sure at r os (MoreStatements (Default l y) xs) h s i = sure-if (E r os) (is_target at (Default l y)) (then_do (ex b u (Default l y) s) (λ fl s. falls fl (λ s. exs b u xs s) s)) (then_do (plain.ex b u' (Default l y) s) (λ fl s. falls fl (λ s. plain.exs b u' xs s) s)) (exs_at b u at xs s) (plain.exs_at b u' at xs s) (in-turn r os (ex b u (Default l y) s) (plain.ex b u' (Default l y) s) (exs b u xs) (plain.exs b u' xs) (ex-sure r os (Default l y) h.0 s i) (λ s i. exs-sure r os xs h.1 s i)) (at-sure at r os xs h.1 s i)
-      at-sure at r os (MoreStatements (While l y z) xs) h s i = sure-if (E r os) (is_target at (While l y z)) (then_do (ex b u (While l y z) s) (λ fl s. falls fl (λ s. exs b u xs s) s)) (then_do (plain.ex b u' (While l y z) s) (λ fl s. falls fl (λ s. plain.exs b u' xs s) s)) (exs_at b u at xs s) (plain.exs_at b u' at xs s) (in-turn r os (ex b u (While l y z) s) (plain.ex b u' (While l y z) s) (exs b u xs) (plain.exs b u' xs) (ex-sure r os (While l y z) h.0 s i) (λ s i. exs-sure r os xs h.1 s i)) (at-sure at r os xs h.1 s i)
-      at-sure at r os (MoreStatements (DoWhile l y z) xs) h s i = sure-if (E r os) (is_target at (DoWhile l y z)) (then_do (ex b u (DoWhile l y z) s) (λ fl s. falls fl (λ s. exs b u xs s) s)) (then_do (plain.ex b u' (DoWhile l y z) s) (λ fl s. falls fl (λ s. plain.exs b u' xs s) s)) (exs_at b u at xs s) (plain.exs_at b u' at xs s) (in-turn r os (ex b u (DoWhile l y z) s) (plain.ex b u' (DoWhile l y z) s) (exs b u xs) (plain.exs b u' xs) (ex-sure r os (DoWhile l y z) h.0 s i) (λ s i. exs-sure r os xs h.1 s i)) (at-sure at r os xs h.1 s i)
-      at-sure at r os (MoreStatements (For l f y t z) xs) h s i = sure-if (E r os) (is_target at (For l f y t z)) (then_do (ex b u (For l f y t z) s) (λ fl s. falls fl (λ s. exs b u xs s) s)) (then_do (plain.ex b u' (For l f y t z) s) (λ fl s. falls fl (λ s. plain.exs b u' xs s) s)) (exs_at b u at xs s) (plain.exs_at b u' at xs s) (in-turn r os (ex b u (For l f y t z) s) (plain.ex b u' (For l f y t z) s) (exs b u xs) (plain.exs b u' xs) (ex-sure r os (For l f y t z) h.0 s i) (λ s i. exs-sure r os xs h.1 s i)) (at-sure at r os xs h.1 s i)
-      at-sure at r os (MoreStatements (ForDeclaration l ds ys y t z) xs) h s i = sure-if (E r os) (is_target at (ForDeclaration l ds ys y t z)) (then_do (ex b u (ForDeclaration l ds ys y t z) s) (λ fl s. falls fl (λ s. exs b u xs s) s)) (then_do (plain.ex b u' (ForDeclaration l ds ys y t z) s) (λ fl s. falls fl (λ s. plain.exs b u' xs s) s)) (exs_at b u at xs s) (plain.exs_at b u' at xs s) (in-turn r os (ex b u (ForDeclaration l ds ys y t z) s) (plain.ex b u' (ForDeclaration l ds ys y t z) s) (exs b u xs) (plain.exs b u' xs) (ex-sure r os (ForDeclaration l ds ys y t z) h.0 s i) (λ s i. exs-sure r os xs h.1 s i)) (at-sure at r os xs h.1 s i)
-      at-sure at r os (MoreStatements (Continue l) xs) h s i = sure-if (E r os) (is_target at (Continue l)) (then_do (ex b u (Continue l) s) (λ fl s. falls fl (λ s. exs b u xs s) s)) (then_do (plain.ex b u' (Continue l) s) (λ fl s. falls fl (λ s. plain.exs b u' xs s) s)) (exs_at b u at xs s) (plain.exs_at b u' at xs s) (in-turn r os (ex b u (Continue l) s) (plain.ex b u' (Continue l) s) (exs b u xs) (plain.exs b u' xs) (ex-sure r os (Continue l) h.0 s i) (λ s i. exs-sure r os xs h.1 s i)) (at-sure at r os xs h.1 s i)
-      at-sure at r os (MoreStatements (Break l) xs) h s i = sure-if (E r os) (is_target at (Break l)) (then_do (ex b u (Break l) s) (λ fl s. falls fl (λ s. exs b u xs s) s)) (then_do (plain.ex b u' (Break l) s) (λ fl s. falls fl (λ s. plain.exs b u' xs s) s)) (exs_at b u at xs s) (plain.exs_at b u' at xs s) (in-turn r os (ex b u (Break l) s) (plain.ex b u' (Break l) s) (exs b u xs) (plain.exs b u' xs) (ex-sure r os (Break l) h.0 s i) (λ s i. exs-sure r os xs h.1 s i)) (at-sure at r os xs h.1 s i)
-      at-sure at r os (MoreStatements (Return l y) xs) h s i = sure-if (E r os) (is_target at (Return l y)) (then_do (ex b u (Return l y) s) (λ fl s. falls fl (λ s. exs b u xs s) s)) (then_do (plain.ex b u' (Return l y) s) (λ fl s. falls fl (λ s. plain.exs b u' xs s) s)) (exs_at b u at xs s) (plain.exs_at b u' at xs s) (in-turn r os (ex b u (Return l y) s) (plain.ex b u' (Return l y) s) (exs b u xs) (plain.exs b u' xs) (ex-sure r os (Return l y) h.0 s i) (λ s i. exs-sure r os xs h.1 s i)) (at-sure at r os xs h.1 s i)
+      at-sure : (at : Target) (r : Ty) (os : List ℕ) (xs : Statements) → some_target at xs ≡ true → AreTypedStatements b.unit r os xs → (s : State) → Inv os s.world → Sure (E r os) (exs_at b u at xs s) (plain.exs_at b u' at xs s)
+      at-sure at r os NoStatements found h s i = absurd (none-found at found)
+      at-sure at r os (MoreStatements (Declare line o) xs) found h s i = not-so (E r os) (is_target at (Declare line o)) (then_do (ex b u (Declare line o) s) (λ fl s. falls fl (λ s. exs b u xs s) s)) (then_do (plain.ex b u' (Declare line o) s) (λ fl s. falls fl (λ s. plain.exs b u' xs s) s)) (exs_at b u at xs s) (plain.exs_at b u' at xs s) (no-target at line o) (at-sure at r os xs (found-behind at (Declare line o) xs found (no-target at line o)) h.1 s i)
+      at-sure at r os (MoreStatements (Block l ds ys) xs) found h s i = sure-found (E r os) (is_target at (Block l ds ys)) (then_do (ex b u (Block l ds ys) s) (λ fl s. falls fl (λ s. exs b u xs s) s)) (then_do (plain.ex b u' (Block l ds ys) s) (λ fl s. falls fl (λ s. plain.exs b u' xs s) s)) (exs_at b u at xs s) (plain.exs_at b u' at xs s) (in-turn r os (ex b u (Block l ds ys) s) (plain.ex b u' (Block l ds ys) s) (exs b u xs) (plain.exs b u' xs) (ex-sure r os (Block l ds ys) h.0 s i) (λ s i. exs-sure r os xs h.1 s i)) (λ other. at-sure at r os xs (found-behind at (Block l ds ys) xs found other) h.1 s i)
+      at-sure at r os (MoreStatements (Expression l y) xs) found h s i = sure-found (E r os) (is_target at (Expression l y)) (then_do (ex b u (Expression l y) s) (λ fl s. falls fl (λ s. exs b u xs s) s)) (then_do (plain.ex b u' (Expression l y) s) (λ fl s. falls fl (λ s. plain.exs b u' xs s) s)) (exs_at b u at xs s) (plain.exs_at b u' at xs s) (in-turn r os (ex b u (Expression l y) s) (plain.ex b u' (Expression l y) s) (exs b u xs) (plain.exs b u' xs) (ex-sure r os (Expression l y) h.0 s i) (λ s i. exs-sure r os xs h.1 s i)) (λ other. at-sure at r os xs (found-behind at (Expression l y) xs found other) h.1 s i)
+      at-sure at r os (MoreStatements (Empty l) xs) found h s i = sure-found (E r os) (is_target at (Empty l)) (then_do (ex b u (Empty l) s) (λ fl s. falls fl (λ s. exs b u xs s) s)) (then_do (plain.ex b u' (Empty l) s) (λ fl s. falls fl (λ s. plain.exs b u' xs s) s)) (exs_at b u at xs s) (plain.exs_at b u' at xs s) (in-turn r os (ex b u (Empty l) s) (plain.ex b u' (Empty l) s) (exs b u xs) (plain.exs b u' xs) (ex-sure r os (Empty l) h.0 s i) (λ s i. exs-sure r os xs h.1 s i)) (λ other. at-sure at r os xs (found-behind at (Empty l) xs found other) h.1 s i)
+      at-sure at r os (MoreStatements (If l y z) xs) found h s i = sure-found (E r os) (is_target at (If l y z)) (then_do (ex b u (If l y z) s) (λ fl s. falls fl (λ s. exs b u xs s) s)) (then_do (plain.ex b u' (If l y z) s) (λ fl s. falls fl (λ s. plain.exs b u' xs s) s)) (exs_at b u at xs s) (plain.exs_at b u' at xs s) (in-turn r os (ex b u (If l y z) s) (plain.ex b u' (If l y z) s) (exs b u xs) (plain.exs b u' xs) (ex-sure r os (If l y z) h.0 s i) (λ s i. exs-sure r os xs h.1 s i)) (λ other. at-sure at r os xs (found-behind at (If l y z) xs found other) h.1 s i)
+      at-sure at r os (MoreStatements (IfElse l y z q) xs) found h s i = sure-found (E r os) (is_target at (IfElse l y z q)) (then_do (ex b u (IfElse l y z q) s) (λ fl s. falls fl (λ s. exs b u xs s) s)) (then_do (plain.ex b u' (IfElse l y z q) s) (λ fl s. falls fl (λ s. plain.exs b u' xs s) s)) (exs_at b u at xs s) (plain.exs_at b u' at xs s) (in-turn r os (ex b u (IfElse l y z q) s) (plain.ex b u' (IfElse l y z q) s) (exs b u xs) (plain.exs b u' xs) (ex-sure r os (IfElse l y z q) h.0 s i) (λ s i. exs-sure r os xs h.1 s i)) (λ other. at-sure at r os xs (found-behind at (IfElse l y z q) xs found other) h.1 s i)
+      at-sure at r os (MoreStatements (Switch l y z) xs) found h s i = sure-found (E r os) (is_target at (Switch l y z)) (then_do (ex b u (Switch l y z) s) (λ fl s. falls fl (λ s. exs b u xs s) s)) (then_do (plain.ex b u' (Switch l y z) s) (λ fl s. falls fl (λ s. plain.exs b u' xs s) s)) (exs_at b u at xs s) (plain.exs_at b u' at xs s) (in-turn r os (ex b u (Switch l y z) s) (plain.ex b u' (Switch l y z) s) (exs b u xs) (plain.exs b u' xs) (ex-sure r os (Switch l y z) h.0 s i) (λ s i. exs-sure r os xs h.1 s i)) (λ other. at-sure at r os xs (found-behind at (Switch l y z) xs found other) h.1 s i)
+      at-sure at r os (MoreStatements (Case l m y) xs) found h s i = sure-found (E r os) (is_target at (Case l m y)) (then_do (ex b u (Case l m y) s) (λ fl s. falls fl (λ s. exs b u xs s) s)) (then_do (plain.ex b u' (Case l m y) s) (λ fl s. falls fl (λ s. plain.exs b u' xs s) s)) (exs_at b u at xs s) (plain.exs_at b u' at xs s) (in-turn r os (ex b u (Case l m y) s) (plain.ex b u' (Case l m y) s) (exs b u xs) (plain.exs b u' xs) (ex-sure r os (Case l m y) h.0 s i) (λ s i. exs-sure r os xs h.1 s i)) (λ other. at-sure at r os xs (found-behind at (Case l m y) xs found other) h.1 s i)
+      at-sure at r os (MoreStatements (Default l y) xs) found h s i = sure-found (E r os) (is_target at (Default l y)) (then_do (ex b u (Default l y) s) (λ fl s. falls fl (λ s. exs b u xs s) s)) (then_do (plain.ex b u' (Default l y) s) (λ fl s. falls fl (λ s. plain.exs b u' xs s) s)) (exs_at b u at xs s) (plain.exs_at b u' at xs s) (in-turn r os (ex b u (Default l y) s) (plain.ex b u' (Default l y) s) (exs b u xs) (plain.exs b u' xs) (ex-sure r os (Default l y) h.0 s i) (λ s i. exs-sure r os xs h.1 s i)) (λ other. at-sure at r os xs (found-behind at (Default l y) xs found other) h.1 s i)
+      at-sure at r os (MoreStatements (While l y z) xs) found h s i = sure-found (E r os) (is_target at (While l y z)) (then_do (ex b u (While l y z) s) (λ fl s. falls fl (λ s. exs b u xs s) s)) (then_do (plain.ex b u' (While l y z) s) (λ fl s. falls fl (λ s. plain.exs b u' xs s) s)) (exs_at b u at xs s) (plain.exs_at b u' at xs s) (in-turn r os (ex b u (While l y z) s) (plain.ex b u' (While l y z) s) (exs b u xs) (plain.exs b u' xs) (ex-sure r os (While l y z) h.0 s i) (λ s i. exs-sure r os xs h.1 s i)) (λ other. at-sure at r os xs (found-behind at (While l y z) xs found other) h.1 s i)
+      at-sure at r os (MoreStatements (DoWhile l y z) xs) found h s i = sure-found (E r os) (is_target at (DoWhile l y z)) (then_do (ex b u (DoWhile l y z) s) (λ fl s. falls fl (λ s. exs b u xs s) s)) (then_do (plain.ex b u' (DoWhile l y z) s) (λ fl s. falls fl (λ s. plain.exs b u' xs s) s)) (exs_at b u at xs s) (plain.exs_at b u' at xs s) (in-turn r os (ex b u (DoWhile l y z) s) (plain.ex b u' (DoWhile l y z) s) (exs b u xs) (plain.exs b u' xs) (ex-sure r os (DoWhile l y z) h.0 s i) (λ s i. exs-sure r os xs h.1 s i)) (λ other. at-sure at r os xs (found-behind at (DoWhile l y z) xs found other) h.1 s i)
+      at-sure at r os (MoreStatements (For l f y t z) xs) found h s i = sure-found (E r os) (is_target at (For l f y t z)) (then_do (ex b u (For l f y t z) s) (λ fl s. falls fl (λ s. exs b u xs s) s)) (then_do (plain.ex b u' (For l f y t z) s) (λ fl s. falls fl (λ s. plain.exs b u' xs s) s)) (exs_at b u at xs s) (plain.exs_at b u' at xs s) (in-turn r os (ex b u (For l f y t z) s) (plain.ex b u' (For l f y t z) s) (exs b u xs) (plain.exs b u' xs) (ex-sure r os (For l f y t z) h.0 s i) (λ s i. exs-sure r os xs h.1 s i)) (λ other. at-sure at r os xs (found-behind at (For l f y t z) xs found other) h.1 s i)
+      at-sure at r os (MoreStatements (ForDeclaration l ds ys y t z) xs) found h s i = sure-found (E r os) (is_target at (ForDeclaration l ds ys y t z)) (then_do (ex b u (ForDeclaration l ds ys y t z) s) (λ fl s. falls fl (λ s. exs b u xs s) s)) (then_do (plain.ex b u' (ForDeclaration l ds ys y t z) s) (λ fl s. falls fl (λ s. plain.exs b u' xs s) s)) (exs_at b u at xs s) (plain.exs_at b u' at xs s) (in-turn r os (ex b u (ForDeclaration l ds ys y t z) s) (plain.ex b u' (ForDeclaration l ds ys y t z) s) (exs b u xs) (plain.exs b u' xs) (ex-sure r os (ForDeclaration l ds ys y t z) h.0 s i) (λ s i. exs-sure r os xs h.1 s i)) (λ other. at-sure at r os xs (found-behind at (ForDeclaration l ds ys y t z) xs found other) h.1 s i)
+      at-sure at r os (MoreStatements (Continue l) xs) found h s i = sure-found (E r os) (is_target at (Continue l)) (then_do (ex b u (Continue l) s) (λ fl s. falls fl (λ s. exs b u xs s) s)) (then_do (plain.ex b u' (Continue l) s) (λ fl s. falls fl (λ s. plain.exs b u' xs s) s)) (exs_at b u at xs s) (plain.exs_at b u' at xs s) (in-turn r os (ex b u (Continue l) s) (plain.ex b u' (Continue l) s) (exs b u xs) (plain.exs b u' xs) (ex-sure r os (Continue l) h.0 s i) (λ s i. exs-sure r os xs h.1 s i)) (λ other. at-sure at r os xs (found-behind at (Continue l) xs found other) h.1 s i)
+      at-sure at r os (MoreStatements (Break l) xs) found h s i = sure-found (E r os) (is_target at (Break l)) (then_do (ex b u (Break l) s) (λ fl s. falls fl (λ s. exs b u xs s) s)) (then_do (plain.ex b u' (Break l) s) (λ fl s. falls fl (λ s. plain.exs b u' xs s) s)) (exs_at b u at xs s) (plain.exs_at b u' at xs s) (in-turn r os (ex b u (Break l) s) (plain.ex b u' (Break l) s) (exs b u xs) (plain.exs b u' xs) (ex-sure r os (Break l) h.0 s i) (λ s i. exs-sure r os xs h.1 s i)) (λ other. at-sure at r os xs (found-behind at (Break l) xs found other) h.1 s i)
+      at-sure at r os (MoreStatements (Return l y) xs) found h s i = sure-found (E r os) (is_target at (Return l y)) (then_do (ex b u (Return l y) s) (λ fl s. falls fl (λ s. exs b u xs s) s)) (then_do (plain.ex b u' (Return l y) s) (λ fl s. falls fl (λ s. plain.exs b u' xs s) s)) (exs_at b u at xs s) (plain.exs_at b u' at xs s) (in-turn r os (ex b u (Return l y) s) (plain.ex b u' (Return l y) s) (exs b u xs) (plain.exs b u' xs) (ex-sure r os (Return l y) h.0 s i) (λ s i. exs-sure r os xs h.1 s i)) (λ other. at-sure at r os xs (found-behind at (Return l y) xs found other) h.1 s i)

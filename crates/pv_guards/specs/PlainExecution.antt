@@ -1,5 +1,5 @@
 -- Execution of statements and calls of functions (6.5.2.2, 6.8) without the guards: the text of pv_exec's definition, over operations as their
--- rules have them.
+-- rules have them. Where C has no rule there is no outcome.
 use Rattle.std.specs.Prelude.{ℕ, zero, suc, Bool, true, false, List, [], ◌∷◌, Some, None, if◌then◌else◌}
 use Rattle.std.specs.declared.option.Option.{Option}
 use Rattle.pv_typed.specs.TypedTree.{TypedTree, line_of}
@@ -90,7 +90,7 @@ unfoldable mutual
   pub ex : Setting → Below → TypedStatement → State → Res Flow
   -- 6.8.2p2
   ex b u (Block line os xs) s = tick b s (λ s. scoped b os (λ s. exs b u xs s) s)
-  -- a declaration stands in a list alone: there is no rule for another one
+  -- a declaration stands in a list alone (6.8.2p1): there is no rule for another one
   ex b u (Declare line o) s = Stops Unreached s
   ex b u (Expression line x) s = tick b s (λ s. nothing_done (full b u.call x s))
   ex b u (Empty line) s = tick b s (λ s. Gives Falls s)
@@ -99,7 +99,7 @@ unfoldable mutual
   ex b u (Switch line c (Block m os xs)) s =
       tick b s (λ s. then_do (full b u.call c s) (λ v s. then_do (converted b c v s) (λ v s. then_do (act_plainly b (line_of c) (Needs v) s) (λ v s.
       unless_none (target_of (int_of v) xs) (λ s. tick b s (λ s. then_do (scoped b os (λ s. exs_at b u (target_of (int_of v) xs) xs s) s) switched)) s))))
-  -- nor for a `switch` whose body is no block
+  -- 6.8.4.2: nor for a `switch` whose body is no block, which has no label
   ex b u (Switch line c x) s = Stops Unreached s
   ex b u (Case line n x) s = ex b u x s
   ex b u (Default line x) s = ex b u x s
@@ -121,7 +121,7 @@ unfoldable mutual
 
   -- 6.8.4.2p4, p5: the same, from the statement with the label on; what stands before it isn't reached
   pub exs_at : Setting → Below → Target → Statements → State → Res Flow
-  exs_at b u at NoStatements s = Gives Falls s
+  exs_at b u at NoStatements s = Stops Unreached s
   exs_at b u at (MoreStatements x xs) s =
       if is_target at x then then_do (ex b u x s) (λ fl s. falls fl (λ s. exs b u xs s) s) else exs_at b u at xs s
 

@@ -1,4 +1,5 @@
--- The run of a unit (5.1.2) without the guards: the text of pv_exec's definition, over operations as their rules have them.
+-- The run of a unit (5.1.2) without the guards: the text of pv_exec's definition, over operations as their rules have them. Where C has no
+-- rule there is no outcome.
 use Rattle.std.specs.Prelude.{ℕ, List, [], ◌∷◌, None, Some}
 use Rattle.std.specs.declared.option.Option.{Option}
 use Rattle.pv_script.specs.Lines.{ScriptLine}

@@ -46,11 +46,12 @@ IsHomeIn (Some x) n = (x.live ≡ true) × (is_heap x.kind ≡ false) × (x.size
 abbrev pub IsHome : Table → (i size : ℕ) → Type 0
 IsHome T i n = IsHomeIn (instance_at T.instances i) n
 
--- 6.3.2.1p4: the instance with this number is that of a function
+-- 6.3.2.1p4: an instance that is that of a function
 abbrev pub IsCodeIn : Option Instance → Type 0
 IsCodeIn None = ⊥
 IsCodeIn (Some x) = is_function x.kind ≡ true
 
+-- 6.3.2.1p4: so it is with the instance of this number
 abbrev pub IsCode : Table → ℕ → Type 0
 IsCode T i = IsCodeIn (instance_at T.instances i)
 
@@ -66,6 +67,7 @@ pub record IsSound (b : Setting) (os : List ℕ) (w : World) : Type 0 where
   pub functions : (f : ℕ) → IsIn f b.unit.placed → IsNumber w.memory.table.instances (function_of w f)
   -- 6.3.2.1p4, 6.9p5: an instance of a function is that of one that is defined
   pub code : (i f : ℕ) → IsCode w.memory.table i → owner_of w i ≡ Some f → HasBody b.unit f
+  -- 6.5p6: what instances were made for is known of no more than there are
   pub owned : length w.owners ≤ length w.memory.table.instances
 
 -- 6.2.4p2, 7.22.3.3p2: an instance is as large as it was, and lives still, unless it is an allocation: no call of the library ends another one

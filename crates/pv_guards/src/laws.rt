@@ -1,5 +1,5 @@
 // Laws over the definitions of evaluation and of a run, each a function without work.
-ghost use Rattle.std.specs.Prelude.{◌≡◌, ℕ, Bool, List, Some};
+ghost use Rattle.std.specs.Prelude.{◌≡◌, ◌≢◌, ℕ, Bool, List, Some};
 ghost use Rattle.std.specs.declared.option.Option.{Option};
 ghost use Rattle.pv_script.specs.Lines.{ScriptLine};
 ghost use Rattle.pv_num.specs.declared.kinds.IntKind.TheVariants.{Int};
@@ -9,7 +9,7 @@ ghost use Rattle.pv_typed.specs.TypedUnits.{layouts};
 ghost use Rattle.pv_typed.specs.Tables.{Stored, whole};
 ghost use Rattle.pv_typed.specs.TypedTree.{TypedTree};
 ghost use Rattle.pv_world.specs.Worlds.{Worth, World};
-ghost use Rattle.pv_eval.specs.States.{Setting, State, Gives};
+ghost use Rattle.pv_eval.specs.States.{Setting, State, Gives, Stops, Unreached};
 ghost use Rattle.pv_eval.specs.Steps.{Calling};
 ghost use Rattle.pv_eval.specs.Operations.{Op};
 ghost use Rattle.pv_exec.specs.Run.{setting_of};
@@ -25,10 +25,13 @@ ghost use Rattle.pv_guards.specs.Laws.{CallsAgree, MeetsNoGuard, GivesItsType, D
 /// A law: a run of a well-typed unit (C17 5.1.2) meets no guard: it is the run of the rules alone, whatever the script, the sides, the
 /// bound and zap are. So no verdict of such a run ever comes from an operand that isn't of its expression's type, and each object that
 /// the run makes, fills, stores to or ends (6.2.4, 6.7.9, 6.9.1p10) can be made, or lives and has room.
+/// The run of the rules has no outcome where C has no rule, as for a call of a function without a body (6.9p5): it never comes to that.
 /// And what `main` gives is an `int` (5.1.2.2.3p1).
 pub fn typed_units_meet_no_guard()
     ensures same { (u : Stored) → IsTypedUnit (whole u) → (sides : Option (List Bool)) (zap : Bool) (script : List ScriptLine) (n : ℕ) →
         run_at u sides zap script n ≡ plain.run_of (setting_of u n sides zap) script }
+    ensures ruled { (u : Stored) → IsTypedUnit (whole u) → (sides : Option (List Bool)) (zap : Bool) (script : List ScriptLine) (n : ℕ) (s : State) →
+        plain.run_of (setting_of u n sides zap) script ≢ Stops Unreached s }
     ensures status { (u : Stored) → IsTypedUnit (whole u) → (f : ℕ) → main_of (whole u) ≡ Some f → (sides : Option (List Bool)) (zap : Bool) (script : List ScriptLine) (n : ℕ) →
         (v : Worth) (s : State) → run_at u sides zap script n ≡ Gives v s → IsOfType (layouts (whole u)) (IntTy Int) v }
 {}
