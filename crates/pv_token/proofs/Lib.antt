@@ -1,2 +1,3 @@
 pub mod Growing
+pub mod Shortened
 pub mod Telling

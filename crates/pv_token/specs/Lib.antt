@@ -1,4 +1,5 @@
 pub mod Kept
 pub mod Said
+pub mod Short
 pub mod Table
 pub mod Views

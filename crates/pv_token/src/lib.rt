@@ -6,6 +6,7 @@
 mod error;
 mod kinds;
 mod marks;
+mod short;
 mod token_table;
 mod words;
 

@@ -2,12 +2,14 @@
 ghost use Rattle.std.specs.Prelude.{◌≡◌, ◌≤◌, ◌<◌, ◌+◌, ◌^◌, List, [], ◌∷◌, ◌++◌, length, map, Some, slice_get, slice_index, IfOk, OnOk, OnErr};
 ghost use Rattle.pv_token.specs.Said.{Spelt, as_char};
 ghost use Rattle.pv_token.specs.Views.{said_of};
+ghost use Rattle.pv_token.specs.Short.{AreShort, token_of};
 ghost use Rattle.pv_token.specs.Table.{Table, with_name};
 ghost use Rattle.pv_token.specs.Kept.{HasRoom, Adds, Keeps};
 
 use crate::error::NoMemory;
 use crate::kinds::Kind;
 use crate::marks::Mark;
+use crate::short::{ShortToken, kind_of, short_kind};
 use crate::words::Word;
 use indexmap::IndexSet;
 use std::alloc::Global;
@@ -48,10 +50,12 @@ pub struct Token {
     pub line: u32,
 }
 
-/// The tokens of a source, with the names and the string literals that they stand for.
+/// The tokens of a source, with the names and the string literals that they stand for. Each token takes 16 bytes; the
+/// values of integer constants from 2^32 on stand in a list of their own.
 #[derive(Drop)]
 pub struct Tokens {
-    tokens: Vec<Token>,
+    tokens: Vec<ShortToken>,
+    values: Vec<u64>,
     names: IndexSet<Vec<u8>>,
     texts: Vec<Vec<u8>>,
 }
@@ -59,9 +63,9 @@ pub struct Tokens {
 impl Model for Tokens {
     ghost Value = { Table };
 
-    ghost invariant = { λ t. (length t.tokens.items < 2 ^ 32) × (length t.names.keys < 2 ^ 32) × (length t.texts.items < 2 ^ 32) };
+    ghost invariant = { λ t. AreShort t.values.items t.tokens.items × (length t.names.keys < 2 ^ 32) × (length t.texts.items < 2 ^ 32) };
 
-    ghost view = { λ t. record { tokens = t.tokens.items; names = map (λ v. v.items) t.names.keys; texts = map (λ v. v.items) t.texts.items } };
+    ghost view = { λ t. record { tokens = map (token_of t.values.items) t.tokens.items; names = map (λ v. v.items) t.names.keys; texts = map (λ v. v.items) t.texts.items } };
 }
 
 /// The number of a name: that of an equal one, or the next. A name that is known takes no memory.
@@ -144,6 +148,7 @@ impl Tokens {
     {
         Tokens {
             tokens: Vec::new(alloc),
+            values: Vec::new(alloc),
             names: IndexSet::new(alloc),
             texts: Vec::new(alloc),
         }
@@ -163,8 +168,14 @@ impl Tokens {
         ensures unchanged { OnErr result (self.new ≡ self.old) }
     {
         self.tokens.reserve(1)?;
+        self.values.reserve(1)?;
         let kind = keep(alloc, &mut self.names, &mut self.texts, kind)?;
-        self.tokens.push_reserved(Token { kind, start, line });
+        let short = short_kind(&mut self.values, kind);
+        self.tokens.push_reserved(ShortToken {
+            kind: short,
+            start,
+            line,
+        });
         Ok(())
     }
 
@@ -180,7 +191,12 @@ impl Tokens {
         requires { i < length self.now.tokens }
         ensures { slice_get self.now.tokens i ≡ Some result }
     {
-        self.tokens[i as usize]
+        let token = self.tokens[i as usize];
+        Token {
+            kind: kind_of(self.values.as_slice(), token.kind),
+            start: token.start,
+            line: token.line,
+        }
     }
 
     /// How many names there are: names have the numbers below it.
