@@ -8,6 +8,7 @@ ghost use Rattle.pv_tree.specs.Depths.{tree_depth};
 ghost use Rattle.pv_tree.specs.TreeLines.{tree_line};
 
 use crate::nodes::{Decl, Declarator, Expr, Init, ListId, Node, NodeId, Spec, Stmt};
+use crate::rows::{Row, Rows};
 use pv_token::NoMemory;
 use std::alloc::Global;
 use std::marker::Model;
@@ -15,20 +16,12 @@ use std::marker::Model;
 /// A table numbered by `u32` has room for so many entries.
 const LIMIT: usize = 0xffff_ffff;
 
-/// A node, the line of its first token and the depth of its tree.
-#[derive(Clone, Copy)]
-struct Row {
-    node: Node,
-    line: u32,
-    depth: u32,
-}
-
 /// The nodes of a translation unit (C17 6.9), the lists of their children, and its external
 /// declarations.
 #[derive(Drop)]
 pub struct Unit {
     alloc: Global,
-    rows: Vec<Row>,
+    rows: Rows,
     lists: Vec<Vec<NodeId>>,
     externals: Vec<NodeId>,
 }
@@ -44,9 +37,9 @@ impl Model for Unit {
 
     ghost coded = { tables_code (Prim.hlevel codes) (Prim.hlevel codes) };
 
-    ghost view = { λ u. tables (map (λ l. l.items) u.lists.items) u.rows.items u.externals.items };
+    ghost view = { λ u. tables (map (λ l. l.items) u.lists.items) u.rows u.externals.items };
 
-    ghost invariant = { λ u. IsFormed (tables (map (λ l. l.items) u.lists.items) u.rows.items u.externals.items) u.rows.items };
+    ghost invariant = { λ u. IsFormed (tables (map (λ l. l.items) u.lists.items) u.rows u.externals.items) u.rows };
 }
 
 impl Unit {
@@ -57,7 +50,7 @@ impl Unit {
     {
         Unit {
             alloc,
-            rows: Vec::new(alloc),
+            rows: Rows::new(alloc),
             lists: Vec::new(alloc),
             externals: Vec::new(alloc),
         }
@@ -91,7 +84,7 @@ impl Unit {
         ensures tree { tree_at self.now.forest n ≡ tree_of self.now.forest (tree_line (tree_at self.now.forest n)) result }
         ensures children { HasChildren self.now.forest n.0 result }
     {
-        self.rows[n.0 as usize].node
+        self.rows.node(n.0)
     }
 
     /// The depth of the tree that a node stands for: one more than its deepest child's, and that of
@@ -101,7 +94,7 @@ impl Unit {
         ensures value { result ≡ tree_depth (tree_at self.now.forest n) }
         ensures bounded { result ≤ n.0 + 1 }
     {
-        self.rows[n.0 as usize].depth
+        self.rows.depth(n.0)
     }
 
     /// The line that was given when the node was added.
@@ -109,7 +102,7 @@ impl Unit {
         requires { n.0 < length self.now.forest.trees }
         ensures { result ≡ tree_line (tree_at self.now.forest n) }
     {
-        self.rows[n.0 as usize].line
+        self.rows.line(n.0)
     }
 
     // Adds a node of any kind.
