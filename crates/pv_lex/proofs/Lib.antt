@@ -1,6 +1,7 @@
 pub mod Runs
 pub mod Rows
 pub mod Beginnings
+pub mod Pairs
 pub mod Values
 pub mod Joining
 pub mod Closing

@@ -1,5 +1,6 @@
 //! What stands at a place of the source.
-ghost use Rattle.std.specs.Prelude.{IsFalse, ◌≡◌, ◌≤◌, ◌<◌, ◌^◌, ◌&&◌, length, drop, slice_index, nat_eq, IfOk};
+ghost use Rattle.std.specs.Prelude.{IsTrue, IsFalse, ◌≡◌, ◌≤◌, ◌<◌, ◌^◌, ◌&&◌, length, drop, slice_index, nat_eq, [], ◌∷◌, IfOk};
+ghost use Rattle.std.specs.List.{starts_with};
 ghost use Rattle.std.specs.Option.{option_map};
 ghost use Rattle.std.specs.Char.{is_ascii_digit};
 ghost use Rattle.pv_lex.specs.Bytes.{begins, is_white, is_letter};
@@ -61,16 +62,28 @@ fn marked(fresh: bool, text: &[u8]) -> Standing<'_>
     if b == b'#' {
         return marker_or_bad(if fresh { marker(rest) } else { None });
     }
-    if text.starts_with(b"//") {
+    if begins_pair(text, b'/', b'/') {
         return Standing::Here(Found::Comment(0), behind(rest, run(Class::InLine, rest)));
     }
-    if text.starts_with(b"/*") {
+    if begins_pair(text, b'/', b'*') {
         return block_comment(behind(rest, 1));
     }
-    if begins_fraction(text) || text.starts_with(b"%:") {
+    if begins_fraction(text) || begins_pair(text, b'%', b':') {
         return Standing::Bad(Fault::BadToken);
     }
     mark(text)
+}
+
+/// Whether the text begins with these two characters. The second is looked at only where the first is there.
+fn begins_pair(text: &[u8], first: u8, second: u8) -> bool
+    requires { 0 < length text.now }
+    ensures value { result ≡ starts_with nat_eq text.now (first ∷ second ∷ []) }
+    ensures bound { IsTrue result → 1 < length text.now }
+{
+    if text[0] == first {
+        return text.len() > 1 && text[1] == second;
+    }
+    false
 }
 
 /// A dot before a digit, with which a floating constant begins (C17 6.4.4.2p1).
