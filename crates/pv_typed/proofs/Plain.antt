@@ -1,5 +1,5 @@
 -- The turns that a row keeps are those of the expression that it stands for.
-use Rattle.std.proofs.Common.{◌≡◌, ◌<◌, ◌≤◌, ℕ, Bool, zero, suc, true, Option, length, get_or, sym, ap, ◌∙◌, arith}
+use Rattle.std.proofs.Common.{◌≡◌, ◌<◌, ◌≤◌, ℕ, Bool, zero, suc, true, Option, length, sym, ap, ◌∙◌, arith}
 use Rattle.pv_tree.specs.declared.nodes.NodeId.{NodeId}
 use Rattle.pv_types.specs.declared.terms.TypeId.{TypeId}
 use Rattle.pv_typed.specs.declared.nodes.Typed.{Typed}
@@ -15,7 +15,6 @@ use Rattle.pv_typed.specs.NodeTrees.{expression_at, IsExpression}
 use Rattle.pv_typed.specs.Formed.{IsFormed}
 use Rattle.pv_typed.proofs.Turning.{turns_same, turns_capped, turns_formed}
 use Rattle.pv_typed.proofs.Growing.{row_shown}
-use Rattle.pv_typed.proofs.Reading.{row_is}
 
 module _ (s : Stored) where
   abbrev Shown : NodeId → Type 0
@@ -43,6 +42,6 @@ module _ (s : Stored) where
   turns_shown formed n h = turns_upto formed (length s.rows) n (omega arith) h
 
   -- the same, where the row was read
-  pub turns_read : (formed : IsFormed s) (n : NodeId) (r : Row) → IsExpression s n → r ≡ get_or s.rows n.0 r → (x : Typed) (t : TypeId) (counts : Bool) (plain : Option ℕ) → r.what ≡ what.Expression x t counts plain
+  pub turns_read : (formed : IsFormed s) (n : NodeId) (r : Row) → IsExpression s n → row_at s.rows n.0 ≡ r → (x : Typed) (t : TypeId) (counts : Bool) (plain : Option ℕ) → r.what ≡ what.Expression x t counts plain
       → plain ≡ plain_turns (expression_at s n)
-  turns_read formed n r h read x t counts plain e = ap kept_in (sym e) ∙ ap (λ (q : Row). kept_in q.what) (sym (row_is s n r formed h.0 read)) ∙ turns_shown formed n h
+  turns_read formed n r h read x t counts plain e = ap kept_in (sym e) ∙ ap (λ (q : Row). kept_in q.what) (sym read) ∙ turns_shown formed n h

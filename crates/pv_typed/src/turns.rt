@@ -60,7 +60,7 @@ impl TypedUnit {
         requires { IsExpression self.now n }
         ensures { result ≡ plain_turns (expression_at self.now n) }
     {
-        match self.rows[n.0 as usize].what {
+        match self.rows.at(n.0).what {
             What::Expression { plain, .. } => plain,
             What::Statement { .. } => unreachable!(),
         }
@@ -71,7 +71,7 @@ impl TypedUnit {
         requires { n.0 < length self.now.rows }
         ensures { result ≡ turns_kept self.now.rows n }
     {
-        match self.rows[n.0 as usize].what {
+        match self.rows.at(n.0).what {
             What::Expression { plain, .. } => plain,
             What::Statement { .. } => None,
         }
