@@ -9,7 +9,7 @@ ghost use Rattle.pv_typed.specs.TypedTree.{Node, ArrayPointer, is_lvalue, type_o
 ghost use Rattle.pv_typed.specs.Nodes.{form_in};
 ghost use Rattle.pv_typed.specs.Children.{HasOperands};
 ghost use Rattle.pv_typed.specs.Formed.{NamesIn};
-ghost use Rattle.pv_check.specs.Qualified.{qualified};
+ghost use Rattle.pv_check.specs.Qualified.{qualified, same};
 ghost use Rattle.pv_typed.specs.Tables.{Stored, nodes};
 ghost use Rattle.pv_typed.specs.NodeTrees.{expression_at, IsExpression};
 ghost use Rattle.pv_typed.specs.Known.{AreKnown};
@@ -22,7 +22,7 @@ use crate::sorts::{is_void, same, unqualified};
 use pv_num::IntKind;
 use pv_tree::NodeId;
 use pv_typed::{Typed, TypedUnit};
-use pv_types::{NoMemory, Term, TypeId};
+use pv_types::{NoMemory, Term, TypeId, Types};
 
 /// The number of a type.
 pub(crate) fn intern(into: &mut TypedUnit, term: Term) -> Result<TypeId, NoMemory>
@@ -165,7 +165,24 @@ pub(crate) fn converted(into: &mut TypedUnit, t: TypeId, n: NodeId) -> Result<No
     Ok(r)
 }
 
-/// A value converted to an integer type.
+/// Whether it is this integer type.
+fn has_kind(types: &Types, t: TypeId, kind: IntKind) -> bool
+    requires { t.0 < length types.now.terms }
+    ensures { result ≡ same (tree types.now t.0) (IntTy kind) }
+{
+    match types.view(t) {
+        Term::Int(k) => k == kind,
+        Term::Void
+        | Term::Pointer(_)
+        | Term::Array(_, _)
+        | Term::Struct(_)
+        | Term::Union(_)
+        | Term::Function { .. }
+        | Term::Const(_) => false,
+    }
+}
+
+/// A value converted to an integer type. The type is looked up only where the value has another one.
 pub(crate) fn to_kind(into: &mut TypedUnit, kind: IntKind, n: NodeId) -> Result<NodeId, NoMemory>
     requires known { AreKnown into.old }
     requires node { IsExpression into.old n }
@@ -173,6 +190,9 @@ pub(crate) fn to_kind(into: &mut TypedUnit, kind: IntKind, n: NodeId) -> Result<
     ensures value { IfOk result (λ r. expression_at into.new r ≡ converted (IntTy kind) (expression_at into.old n)) }
     ensures kept { OnOk result (Kept into.old into.new) }
 {
+    if has_kind(into.types(), into.type_of(n), kind) {
+        return Ok(n);
+    }
     let Ok(t) = intern(into, Term::Int(kind)) else {
         return Err(NoMemory);
     };
