@@ -22,12 +22,15 @@ pub mod Replies
 pub mod Printing
 pub mod Sides
 pub mod Still
+pub mod Scalars
 pub mod PlainSteps
 pub mod PlainNumbers
 pub mod PlainReads
 pub mod PlainPointers
 pub mod PlainBytes
 pub mod PlainPlaces
+pub mod PlainConversions
+pub mod PlainComparisons
 pub mod PlainStores
 pub mod PlainUpdates
 pub mod Wholes

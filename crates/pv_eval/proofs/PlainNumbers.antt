@@ -1,8 +1,7 @@
 -- Operations on integers that give a value, tell nothing and leave the world as it is.
 use Rattle.std.proofs.Common.{◌≡◌, ℕ, ◌++◌, Bool, true, false, List, [], refl, sym, ap, ◌∙◌, arith, subst, Some, None, append-nil}
 use Rattle.std.proofs.lemmas.Bool.{le-ltb}
-use Rattle.std.specs.Ordering.{int_eq}
-use Rattle.std.specs.Prelude.{ℤ, pos, not, ◌&&◌, Option, IfSome, nat_lt, slice_get, if◌then◌else◌, Ok}
+use Rattle.std.specs.Prelude.{ℤ, pos, ◌&&◌, Option, IfSome, nat_lt, slice_get, if◌then◌else◌, Ok}
 use Rattle.pv_num.specs.declared.kinds.IntKind.{IntKind}
 use Rattle.pv_num.specs.declared.operators.BinOp.{BinOp}
 use Rattle.pv_num.specs.Kinds.{fits_of, convert_of}
@@ -22,9 +21,8 @@ use Rattle.pv_world.specs.Worlds.{Worth, World}
 use Rattle.pv_world.specs.declared.got.Shape.{Shape}
 use Rattle.pv_world.specs.declared.got.Shape.TheVariants as shape
 use Rattle.pv_world.specs.declared.got.How.TheVariants.{Rounds, Passes}
-use Rattle.pv_world.specs.Worths.{int, pointer, missing_value, computed}
+use Rattle.pv_world.specs.Worths.{int, pointer, null_pointer, missing_value, computed}
 use Rattle.pv_world.specs.Calculations.{calculates, calculates_one, follows_to}
-use Rattle.pv_world.specs.Conversions.{opposite}
 use Rattle.pv_world.specs.Objects.{address_of, instance_of}
 use Rattle.pv_world.specs.Telling.{quiet}
 use Rattle.pv_world.specs.Doing.{Answers, Fails}
@@ -113,7 +111,7 @@ kept_some k v x z (Some q) e small f h = λ b w.
     ∙ ap (λ y. Answers y w quiet) (ap int (sym f) ∙ sym h)
 
 -- the operand of a node, converted by its own node
-converted_at : (x i : TypedTree) (v z : Worth) → form_of x ≡ Convert i → AlwaysGives (λ b. Converts (how_to b true (type_of i) (type_of x)) v) z → IsConverted x v z
+pub converted_at : (x i : TypedTree) (v z : Worth) → form_of x ≡ Convert i → AlwaysGives (λ b. Converts (how_to b true (type_of i) (type_of x)) v) z → IsConverted x v z
 converted_at (Node t line turn f) (Node s m k y) v z e h = λ b w out es n.
     ap (λ (g : Form). converted b (Node t line turn g) v (turned w out es n)) e
     ∙ act_gives w out es n b line (Converts (how_to b true s t) v) z (h b w)
@@ -206,6 +204,7 @@ module _ (u : Stored) (w : World) (t : Ty) where
       follows_found : (b : Setting) (v : Found) → does b (Follows (is_none t) (found_worth v)) w ≡ Answers (found_worth v) w quiet
       follows_found b (found.Number k) = ap (λ c. follows_to c (int k) w) e
       follows_found b (found.Place p) = ap (λ c. follows_to c (pointer (pointer_at p)) w) e
+      follows_found b found.Null = ap (λ c. follows_to c (pointer null_pointer) w) e
 
   pub member_given : (x : Typed) (a : NodeId) (offset : ℕ) (first v : Worth) → x ≡ typed.Member a offset → GivesAt w (λ b. Selects offset first) v → GivesWith u w t x first v
   member_given x a offset first v is h = subst (λ y. GivesWith u w t y first v) (sym is) (record {
@@ -227,13 +226,13 @@ module _ (u : Stored) (w : World) (t : Ty) where
     };
   })
 
-  pub not_given : (x : Typed) (a : NodeId) (first v : Worth) → x ≡ typed.Not a → AlwaysGives (λ b. Negates first) v → GivesWith u w t x first v
+  pub not_given : (x : Typed) (a : NodeId) (first v : Worth) → x ≡ typed.Not a → GivesAt w (λ b. Negates first) v → GivesWith u w t x first v
   not_given x a first v is h = subst (λ y. GivesWith u w t y first v) (sym is) (record {
     turns = λ turn. refl;
     gives = λ call bound sides zap line fs gs out es n hf hg. record {
       all = gs;
       reads = hg;
-      is = ap (λ r. then_do r (done (has_read fs gs))) (act_gives w out es n (setting_by u bound sides zap) line (Negates first) v (h (setting_by u bound sides zap) w));
+      is = ap (λ r. then_do r (done (has_read fs gs))) (act_gives w out es n (setting_by u bound sides zap) line (Negates first) v (h (setting_by u bound sides zap)));
     };
   })
 
@@ -276,6 +275,3 @@ calculated_one_some op k x z (Some q) e f h i = λ b w.
     ap (λ c. if c then calculates_one op k (int x) w else Fails missing_value None w quiet) (both_of (is_promoted k) (fits_of k x) e f)
     ∙ ap (computed w) h
     ∙ ap (λ (n : ℤ). Answers (int n) w quiet) (sym i)
-
-pub negated_gives : (x : ℤ) (c : Bool) → int_eq x (pos 0) ≡ c → AlwaysGives (λ b. Negates (int x)) (opposite (not c))
-negated_gives x c e = λ b w. ap (λ d. Answers (opposite (not d)) w quiet) e

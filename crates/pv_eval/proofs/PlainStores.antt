@@ -17,7 +17,7 @@ use Rattle.pv_typed.specs.Plain.{counted, both, capped, turns_of}
 use Rattle.pv_seq.specs.Sequencing.{Access, Open, rivals, noted}
 use Rattle.pv_world.specs.declared.got.Shape.{Shape}
 use Rattle.pv_world.specs.Worlds.{Worth, World}
-use Rattle.pv_world.specs.Worths.{int, pointer, missing_value, undefined, present}
+use Rattle.pv_world.specs.Worths.{int, pointer, null_pointer, missing_value, undefined, present}
 use Rattle.pv_world.specs.Objects.{put_at}
 use Rattle.pv_world.specs.Telling.{quiet, telling, uses, range_test}
 use Rattle.pv_world.specs.Doing.{Done, Answers, Fails}
@@ -112,6 +112,7 @@ module _ (w : World) (a : ℕ) (bytes : List Byte) (out : List ℕ) (es : List M
 from_nowhere : (x : TypedTree) (v : Found) → source_of x (found_worth v) ≡ None
 from_nowhere (Node t line turn (Read a)) (found.Number k) = refl
 from_nowhere (Node t line turn (Read a)) (found.Place p) = refl
+from_nowhere (Node t line turn (Read a)) found.Null = refl
 from_nowhere (Node t line turn f) v = refl
 
 pub value_from : (r r' : Res Given) (v : Worth) (s : State) → r ≡ r' → GivesValue r' v s → GivesValue r v s
@@ -204,6 +205,7 @@ module _ (u : Stored) (w : World) (t : Ty) (p : Pointer) (at : Reach) (fits : fi
       → (is_stored l.shape l.size (found_worth v) && (knows_worth w.memory.table (pointer p) && knows_worth w.memory.table (found_worth v))) ≡ true → WritesTo u w t p (found_worth v) (stored (found_worth v))
   written (found.Number k) = written_by (int k) (λ go. refl)
   written (found.Place q) = written_by (pointer (record { address = q.address; prov = Inst q.inst })) (λ go. refl)
+  written found.Null = written_by (pointer null_pointer) (λ go. refl)
 
 pub store_given : (u : Stored) (w : World) (t : Ty) (p : Pointer) (at : Reach) (v : Found) → fits_lvalue u t ≡ true → (form : Shape) (size align number : ℕ) (place value : Worth) (later : World)
     → form ≡ (lvalue (setting_of u) t).shape → size ≡ (lvalue (setting_of u) t).size → align ≡ (lvalue (setting_of u) t).align → number ≡ (lvalue (setting_of u) t).number → place ≡ pointer p → value ≡ found_worth v

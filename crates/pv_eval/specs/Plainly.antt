@@ -12,10 +12,10 @@ use Rattle.pv_typed.specs.Tables.{Stored, whole, nodes}
 use Rattle.pv_typed.specs.NodeTrees.{expression_at}
 use Rattle.pv_typed.specs.Plain.{counted, both, turns_of, turns_of_form}
 use Rattle.pv_seq.specs.Sequencing.{Access, Open, opened}
-use Rattle.pv_inst.specs.declared.values.Test.TheVariants.{Range}
+use Rattle.pv_inst.specs.declared.values.Test.TheVariants.{Live, Range}
 use Rattle.pv_inst.specs.declared.values.Tried.{Tried}
 use Rattle.pv_inst.specs.Table.{Table}
-use Rattle.pv_inst.specs.Use.{use_answer}
+use Rattle.pv_inst.specs.Use.{use_answer, settled}
 use Rattle.pv_shadow.specs.declared.byte.Byte.{Byte}
 use Rattle.pv_object.specs.declared.values.Pointer.{Pointer}
 use Rattle.pv_object.specs.declared.values.Reach.{Reach}
@@ -28,7 +28,7 @@ use Rattle.pv_object.specs.Operations.{move_under}
 use Rattle.pv_object.specs.Encoding.{number_in}
 use Rattle.pv_object.specs.Loading.{exposed_by}
 use Rattle.pv_world.specs.Worlds.{Worth, World}
-use Rattle.pv_world.specs.Worths.{int, pointer}
+use Rattle.pv_world.specs.Worths.{int, pointer, null_pointer}
 use Rattle.pv_world.specs.Objects.{put_at}
 use Rattle.pv_world.specs.Telling.{quiet}
 use Rattle.pv_world.specs.Doing.{Answers}
@@ -166,6 +166,7 @@ CombinesTo x o k back v w z =
 abbrev pub found_worth : Found → Worth
 found_worth (found.Number n) = int n
 found_worth (found.Place p) = pointer (pointer_at p)
+found_worth found.Null = pointer null_pointer
 
 -- 6.3.2.1p2: a read of an lvalue of this type gives this value from this world, against accesses that only read
 abbrev pub ReadsFrom : Stored → World → Ty → Pointer → Worth → Type 0
@@ -195,6 +196,17 @@ pub record HasReached (T : Table) (p : Pointer) (n align : ℕ) (write : Bool) (
   pub address : at.address ≡ p.address
   pub used : use_answer T p.prov (Range p.address n) ≡ Ok alone_tried
   pub is : reach T p n align write AccessAsker ≡ (Ok at, T)
+
+-- 6.2.4p2, 6.5.9p6: a pointer with this address passes its live test, and the table stays: it is null, or into one live instance
+pub record IsLooked (T : Table) (v : Worth) (a : ℕ) : Type 0 where
+  pub named : Pointer
+  pub is : v ≡ pointer named
+  pub address : named.address ≡ a
+  pub known : knows T named.prov ≡ true
+  pub tried : Tried
+  pub used : use_answer T named.prov Live ≡ Ok tried
+  pub single : tried.pair ≡ None
+  pub stays : settled T named.prov (Ok tried) ≡ T
 
 -- 6.5.6p8: a pointer to one instance moves so many bytes on, to where it may point, and the table stays
 pub record HasMoved (c : Clause) (T : Table) (p : Pointer) (by : ℤ) (q : Pointer) : Type 0 where

@@ -1,6 +1,6 @@
 -- A bridge: the same questions to the tables of a unit alone.
-use Rattle.std.specs.Prelude.{◌≡◌, ℕ, Bool, ◌<◌, ◌≤◌, ◌^◌, IsTrue, length, None, true}
-use Rattle.pv_types.specs.Ty.{Ty}
+use Rattle.std.specs.Prelude.{◌≡◌, ℕ, Bool, ◌<◌, ◌≤◌, ◌^◌, IsTrue, length, None, true, false}
+use Rattle.pv_types.specs.Ty.{Ty, PointerTo}
 use Rattle.pv_types.specs.Known.{Known, tree, env}
 use Rattle.pv_types.specs.Layouts.{layout_in, is_complete_in}
 use Rattle.pv_layout.specs.Parts.{bare}
@@ -46,3 +46,8 @@ pub record IsComplete (m : Known) (l : Complete) : Type 0 where
   pub size : l.size ≡ size_in m (tree m l.t.0)
   pub small : size_in m (tree m l.t.0) ≤ 2 ^ 32
   pub some : 1 ≤ l.size
+
+-- 6.2.5p20: a pointer type without qualifiers
+abbrev pub points : Ty → Bool
+points (PointerTo t) = true
+points _ = false

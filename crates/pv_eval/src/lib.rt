@@ -27,6 +27,8 @@ mod operations;
 mod permission;
 mod plain;
 mod plain_bytes;
+mod plain_comparisons;
+mod plain_conversions;
 mod plain_numbers;
 mod plain_places;
 mod plain_reads;

@@ -8,7 +8,9 @@ ghost use Rattle.pv_typed.specs.NodeTrees.{expression_at, IsExpression};
 ghost use Rattle.pv_eval.specs.Plainly.{Yields, GivesAlone, GivesWith, GivesWithBoth, found_worth};
 
 use crate::operands::{first_operand, second_operand};
-use crate::plain_numbers::{arithmetic, cast, integer, natural, negated, unary};
+use crate::plain_comparisons::{equality, negated};
+use crate::plain_conversions::cast;
+use crate::plain_numbers::{arithmetic, integer, natural, unary};
 use crate::plain_places::{object, part, subscript, summed};
 use crate::plain_reads::read;
 use crate::types::is_none;
@@ -33,6 +35,8 @@ pub(crate) enum Found {
     Number(i64),
     /// A place, which a pointer is too.
     Place(Spot),
+    /// The null pointer.
+    Null,
 }
 
 /// A node without operands.
@@ -75,7 +79,7 @@ fn with_one(
         Typed::Member(_, offset) => part(world, first, offset),
         Typed::Arrow(_, offset) => part(world, first, offset),
         Typed::Unary(op, a) => unary(unit, op, n, a, first),
-        Typed::Not(_) => negated(first),
+        Typed::Not(_) => negated(world, first),
         Typed::Cast(a) => cast(unit, n, a, first),
         _ => None,
     }
@@ -99,6 +103,7 @@ fn with_both(
         Typed::Arithmetic(op, a, d) => arithmetic(unit, op, a, d, first, second),
         Typed::Subscript(a, _) => subscript(unit, world, a, first, second),
         Typed::PointerSum(sign, a, _) => summed(unit, world, n, sign, a, first, second),
+        Typed::PointerEquality(op, a, d) => equality(unit, world, op, a, d, first, second),
         _ => None,
     }
 }

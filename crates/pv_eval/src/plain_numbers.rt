@@ -10,7 +10,7 @@ ghost use Rattle.pv_world.specs.Worths.{int};
 ghost use Rattle.pv_world.specs.declared.got.How.TheVariants.{Rounds};
 ghost use Rattle.pv_eval.specs.Conversions.{how_to};
 ghost use Rattle.pv_eval.specs.Suiting.{is_small};
-ghost use Rattle.pv_eval.specs.Operations.{Calculates, CalculatesOne, Converts, Negates};
+ghost use Rattle.pv_eval.specs.Operations.{Calculates, CalculatesOne, Converts};
 ghost use Rattle.pv_eval.specs.Plainly.{IsConverted, AlwaysGives, GivesWith, GivesWithBoth, found_worth};
 
 use crate::plain::Found;
@@ -61,6 +61,7 @@ pub(crate) fn number(v: Found) -> Option<i64>
     match v {
         Found::Number(x) => Some(x),
         Found::Place(_) => None,
+        Found::Null => None,
     }
 }
 
@@ -194,27 +195,4 @@ pub(crate) fn kept(kind: IntKind, v: Found) -> Option<Found>
         return None;
     }
     integer(convert(kind, i128::from(x)))
-}
-
-/// Whether an integer is 0, as the `!` of a node gives it (C17 6.5.3.3p5).
-pub(crate) fn negated(first: Found) -> Option<Found>
-    ensures { IfSome result (λ v. AlwaysGives (λ b. Negates (found_worth first)) (found_worth v)) }
-{
-    match first {
-        Found::Number(x) => Some(Found::Number(if x == 0 { 1 } else { 0 })),
-        Found::Place(_) => None,
-    }
-}
-
-/// The integer of a node's one operand, converted to the node's type by a cast.
-pub(crate) fn cast(unit: &TypedUnit, n: NodeId, a: NodeId, first: Found) -> Option<Found>
-    requires there { IsExpression unit.now n }
-    requires operand { IsExpression unit.now a }
-    ensures { (w : Seen) → IfSome result (λ v. GivesWith unit.now w (type_of (expression_at unit.now n)) (Row.Cast a) (found_worth first) (found_worth v)) }
-{
-    let x = number(first)?;
-    match rounded(unit, unit.type_of(a), unit.type_of(n), x) {
-        Some(z) => Some(Found::Number(z)),
-        None => None,
-    }
 }

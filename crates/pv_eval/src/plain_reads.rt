@@ -4,7 +4,8 @@ ghost use Rattle.pv_prov.specs.declared.names.Prov.TheVariants.{Inst};
 ghost use Rattle.pv_inst.specs.declared.values.Test.TheVariants.{Live};
 ghost use Rattle.pv_inst.specs.Use.{is_function, use_answer};
 ghost use Rattle.pv_types.specs.Ty.{Ty};
-ghost use Rattle.pv_types.specs.Known.{tree};
+ghost use Rattle.pv_types.specs.Known.{tree, env};
+ghost use Rattle.pv_types.specs.Layouts.{layout_in};
 ghost use Rattle.pv_shadow.specs.Bytes.{read};
 ghost use Rattle.pv_object.specs.Reaching.{IsReach};
 ghost use Rattle.pv_object.specs.Access.{readonly_stop};
@@ -17,16 +18,17 @@ ghost use Rattle.pv_world.specs.Worths.{pointer, pointer_of};
 ghost use Rattle.pv_world.specs.declared.got.Shape.{Shape as Form};
 ghost use Rattle.pv_eval.specs.TypeForms.{shape_of};
 ghost use Rattle.pv_eval.specs.Sizes.{IsComplete};
-ghost use Rattle.pv_eval.specs.Plainly.{GivesWith, ReadsFrom, HasReached, IsPlainNumber, alone_tried, found_worth, pointer_at};
+ghost use Rattle.pv_eval.specs.Suiting.{knows};
+ghost use Rattle.pv_eval.specs.Plainly.{GivesWith, ReadsFrom, HasReached, IsLooked, IsPlainNumber, alone_tried, found_worth, pointer_at};
 
 use crate::permission::permits;
 use crate::plain::{Found, Spot};
 use crate::plain_bytes::plain_number;
 use crate::plain_numbers::integer;
-use crate::types::{Complete, align_of, measured, shape};
+use crate::types::{AccessedType, accessed};
 use pv_inst::{Kind, Tried};
 use pv_num::{IntKind, convert};
-use pv_object::Reach;
+use pv_object::{Pointer, Reach};
 use pv_prov::Prov;
 use pv_shadow::BLANK;
 use pv_tree::NodeId;
@@ -136,26 +138,28 @@ fn load(
     alloc: Global,
     unit: &TypedUnit,
     world: &World,
-    l: Complete,
+    x: AccessedType,
     kind: IntKind,
     p: Spot,
 ) -> Option<Found>
     requires known { AreKnown unit.now }
-    requires complete { IsComplete unit.now.known l }
-    requires form { shape_of (tree unit.now.known l.t.0) ≡ Form.Int kind }
-    ensures { IfSome result (λ v. ReadsFrom unit.now world.now (tree unit.now.known l.t.0) (pointer_at p) (found_worth v)) }
+    requires complete { IsComplete unit.now.known x.l }
+    requires align { x.align ≡ (layout_in (env unit.now.known) (tree unit.now.known x.l.t.0)).align }
+    requires some { 1 ≤ x.align }
+    requires form { shape_of (tree unit.now.known x.l.t.0) ≡ Form.Int kind }
+    ensures { IfSome result (λ v. ReadsFrom unit.now world.now (tree unit.now.known x.l.t.0) (pointer_at p) (found_worth v)) }
 {
-    if l.size > 8 {
+    if x.l.size > 8 {
         return None;
     }
-    let at = reached(world, p, l.size, align_of(unit.types(), l.t), false)?;
-    let Ok(true) = permits(alloc, unit, world, &at, l, false) else {
+    let at = reached(world, p, x.l.size, x.align, false)?;
+    let Ok(true) = permits(alloc, unit, world, &at, x.l, false) else {
         return None;
     };
     if !is_told(world) {
         return None;
     }
-    let number = number_at(world, &at, l.size)?;
+    let number = number_at(world, &at, x.l.size)?;
     if traps(kind, number) {
         return None;
     }
@@ -163,46 +167,76 @@ fn load(
 }
 
 /// Whether an instance is live.
-fn is_live(world: &World, inst: u64) -> bool
-    ensures { result ≡ true → use_answer world.now.memory.table (Inst inst) Live ≡ Ok alone_tried }
+pub(crate) fn is_live(world: &World, inst: u64) -> bool
+    ensures used { result ≡ true → use_answer world.now.memory.table (Inst inst) Live ≡ Ok alone_tried }
+    ensures known { result ≡ true → knows world.now.memory.table (Inst inst) ≡ true }
 {
     world.memory().instances().info(inst).is_some()
 }
 
-/// The pointer at a place, if it was stored whole, points into a live instance, and nothing keeps it from being read.
+/// A place in a live instance, which a pointer with this name and address points to.
+fn live_place(world: &World, inst: u64, address: u64) -> Option<Found>
+    ensures value { IfSome result (λ v. found_worth v ≡ pointer (record { address = address; prov = Inst inst })) }
+    ensures looked { IfSome result (λ v. IsLooked world.now.memory.table (pointer (record { address = address; prov = Inst inst })) address) }
+{
+    if is_live(world, inst) {
+        Some(Found::Place(Spot { inst, address }))
+    } else {
+        None
+    }
+}
+
+/// The null pointer, which a pointer with the empty name is that has the address 0 (C17 6.3.2.3p3).
+fn null_place(world: &World, address: u64) -> Option<Found>
+    ensures value { IfSome result (λ v. found_worth v ≡ pointer (record { address = address; prov = Prov.Empty })) }
+    ensures looked { IfSome result (λ v. IsLooked world.now.memory.table (pointer (record { address = address; prov = Prov.Empty })) address) }
+{
+    if address == 0 {
+        Some(Found::Null)
+    } else {
+        None
+    }
+}
+
+/// What a pointer is that was stored, if it is null or points into a live instance.
+fn pointed(world: &World, p: Pointer) -> Option<Found>
+    ensures value { IfSome result (λ v. found_worth v ≡ pointer p) }
+    ensures looked { IfSome result (λ v. IsLooked world.now.memory.table (pointer p) p.address) }
+{
+    match p.prov {
+        Prov::Inst(inst) => live_place(world, inst, p.address),
+        Prov::Empty => null_place(world, p.address),
+        Prov::Pair(_) => None,
+    }
+}
+
+/// The pointer at a place, if it was stored whole, is null or points into a live instance, and nothing keeps it from being read.
 fn load_pointer(
     alloc: Global,
     unit: &TypedUnit,
     world: &World,
-    l: Complete,
+    x: AccessedType,
     p: Spot,
 ) -> Option<Found>
     requires known { AreKnown unit.now }
-    requires complete { IsComplete unit.now.known l }
-    requires form { shape_of (tree unit.now.known l.t.0) ≡ Form.Pointer }
-    ensures { IfSome result (λ v. ReadsFrom unit.now world.now (tree unit.now.known l.t.0) (pointer_at p) (found_worth v)) }
+    requires complete { IsComplete unit.now.known x.l }
+    requires align { x.align ≡ (layout_in (env unit.now.known) (tree unit.now.known x.l.t.0)).align }
+    requires some { 1 ≤ x.align }
+    requires form { shape_of (tree unit.now.known x.l.t.0) ≡ Form.Pointer }
+    ensures { IfSome result (λ v. ReadsFrom unit.now world.now (tree unit.now.known x.l.t.0) (pointer_at p) (found_worth v)) }
 {
-    if l.size != 8 {
+    if x.l.size != 8 {
         return None;
     }
-    let at = reached(world, p, 8, align_of(unit.types(), l.t), false)?;
-    let Ok(true) = permits(alloc, unit, world, &at, l, false) else {
+    let at = reached(world, p, 8, x.align, false)?;
+    let Ok(true) = permits(alloc, unit, world, &at, x.l, false) else {
         return None;
     };
     if !is_told(world) {
         return None;
     }
     let there = world.memory().whole_pointer(&at)?;
-    let Prov::Inst(inst) = there.prov else {
-        return None;
-    };
-    if !is_live(world, inst) {
-        return None;
-    }
-    Some(Found::Place(Spot {
-        inst,
-        address: there.address,
-    }))
+    pointed(world, there)
 }
 
 /// What is read at the place that a node designates, through the node's type.
@@ -221,10 +255,10 @@ pub(crate) fn read_at(
     let Found::Place(p) = place else {
         return None;
     };
-    let l = measured(unit.types(), unit.type_of(a))?;
-    match shape(unit.types(), l.t) {
-        Shape::Int(kind) => load(alloc, unit, world, l, kind, p),
-        Shape::Pointer => load_pointer(alloc, unit, world, l, p),
+    let x = accessed(unit.types(), unit.type_of(a))?;
+    match x.form {
+        Shape::Int(kind) => load(alloc, unit, world, x, kind, p),
+        Shape::Pointer => load_pointer(alloc, unit, world, x, p),
         Shape::Whole => None,
     }
 }

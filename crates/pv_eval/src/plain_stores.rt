@@ -1,6 +1,7 @@
 // Stores of what plain expressions give (C17 6.5.16p3, 6.5.16.1).
-ghost use Rattle.std.specs.Prelude.{◌≡◌, true, false, IfSome, IfNone};
-ghost use Rattle.pv_types.specs.Known.{tree};
+ghost use Rattle.std.specs.Prelude.{◌≡◌, ◌≤◌, true, false, IfSome, IfNone};
+ghost use Rattle.pv_types.specs.Known.{tree, env};
+ghost use Rattle.pv_types.specs.Layouts.{layout_in};
 ghost use Rattle.pv_typed.specs.Known.{AreKnown};
 ghost use Rattle.pv_typed.specs.declared.nodes.Typed.{Typed as Row};
 ghost use Rattle.pv_typed.specs.Nodes.{form_in};
@@ -9,19 +10,20 @@ ghost use Rattle.pv_typed.specs.Tables.{nodes};
 ghost use Rattle.pv_typed.specs.NodeTrees.{expression_at, IsExpression};
 ghost use Rattle.pv_world.specs.Worths.{pointer, pointer_of};
 ghost use Rattle.pv_world.specs.Coming.{worth_of};
+ghost use Rattle.pv_eval.specs.TypeForms.{shape_of};
 ghost use Rattle.pv_eval.specs.Sizes.{IsComplete};
-ghost use Rattle.pv_eval.specs.Plainly.{Performs, IsConverted, StoresAt, found_worth, pointer_at};
+ghost use Rattle.pv_eval.specs.Plainly.{Performs, StoresAt, found_worth, pointer_at};
 
 use crate::permission::permits;
 use crate::plain::{Found, Spot, value};
-use crate::plain_numbers::converted;
+use crate::plain_conversions::converted_value;
 use crate::plain_reads::reached;
 use crate::suiting::can_write;
-use crate::types::{Complete, align_of, measured, number, shape};
+use crate::types::{AccessedType, accessed, number};
 use pv_object::{Pointer, Value};
 use pv_prov::Prov;
 use pv_tree::NodeId;
-use pv_typed::{Typed, TypedUnit};
+use pv_typed::TypedUnit;
 use pv_world::{Got, World};
 use std::alloc::Global;
 
@@ -35,47 +37,43 @@ pub(crate) fn got(v: Found) -> Got
             address: p.address,
             prov: Prov::Inst(p.inst),
         })),
-    }
-}
-
-/// The value of an operand, converted where its node is an implicit conversion between integers.
-pub(crate) fn converted_value(unit: &TypedUnit, d: NodeId, v: Found) -> Option<Found>
-    requires { IsExpression unit.now d }
-    ensures { IfSome result (λ z. IsConverted (expression_at unit.now d) (found_worth v) (found_worth z)) }
-{
-    if let Found::Place(_) = v {
-        return match unit.node(d) {
-            Typed::Convert(_) => None,
-            _ => Some(v),
-        };
-    }
-    match converted(unit, d, v) {
-        Some(x) => Some(Found::Number(x)),
-        None => None,
+        Found::Null => Got::Scalar(Value::Pointer(Pointer {
+            address: 0,
+            prov: Prov::Empty,
+        })),
     }
 }
 
 /// The value is stored at a place, if nothing keeps it from being stored (C17 6.5.16p3).
-fn store(alloc: Global, unit: &TypedUnit, world: &mut World, l: Complete, p: Spot, v: Found) -> bool
+fn store(
+    alloc: Global,
+    unit: &TypedUnit,
+    world: &mut World,
+    x: AccessedType,
+    p: Spot,
+    v: Found,
+) -> bool
     requires known { AreKnown unit.now }
-    requires complete { IsComplete unit.now.known l }
-    ensures stored { result ≡ true → StoresAt unit.now world.old (tree unit.now.known l.t.0) (pointer_at p) (found_worth v) world.new }
+    requires complete { IsComplete unit.now.known x.l }
+    requires align { x.align ≡ (layout_in (env unit.now.known) (tree unit.now.known x.l.t.0)).align }
+    requires some { 1 ≤ x.align }
+    requires form { x.form ≡ shape_of (tree unit.now.known x.l.t.0) }
+    ensures stored { result ≡ true → StoresAt unit.now world.old (tree unit.now.known x.l.t.0) (pointer_at p) (found_worth v) world.new }
     ensures same { result ≡ false → world.new ≡ world.old }
 {
-    let types = unit.types();
     let place = got(Found::Place(p));
     let stored = got(v);
-    let form = shape(types, l.t);
-    if !can_write(world, form, l.size, &place, &stored) {
+    if !can_write(world, x.form, x.l.size, &place, &stored) {
         return false;
     }
-    let Some(at) = reached(world, p, l.size, align_of(types, l.t), true) else {
+    let Some(at) = reached(world, p, x.l.size, x.align, true) else {
         return false;
     };
-    let Ok(true) = permits(alloc, unit, world, &at, l, true) else {
+    let Ok(true) = permits(alloc, unit, world, &at, x.l, true) else {
         return false;
     };
-    world.store(&at, l.size, number(types, l.t), form, &stored);
+    let number = number(unit.types(), x.l.t);
+    world.store(&at, x.l.size, number, x.form, &stored);
     true
 }
 
@@ -97,10 +95,10 @@ pub(crate) fn assigned(
     let Found::Place(p) = place else {
         return false;
     };
-    let Some(l) = measured(unit.types(), unit.type_of(a)) else {
+    let Some(x) = accessed(unit.types(), unit.type_of(a)) else {
         return false;
     };
-    store(alloc, unit, world, l, p, v)
+    store(alloc, unit, world, x, p, v)
 }
 
 /// The assignment of a plain expression's value to a plain lvalue (C17 6.5.16.1), as a full expression; `None` where it is not

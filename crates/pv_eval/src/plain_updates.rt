@@ -12,10 +12,11 @@ ghost use Rattle.pv_eval.specs.Plainly.{Performs, StepsTo, CombinesTo, found_wor
 
 use crate::compound::{after, down, operator};
 use crate::plain::{Found, value};
+use crate::plain_conversions::converted_value;
 use crate::plain_numbers::{kept, operated};
 use crate::plain_places::{element, pointed_size};
 use crate::plain_reads::read_at;
-use crate::plain_stores::{assigned, converted_value};
+use crate::plain_stores::assigned;
 use crate::types::{kind, promoted, shape};
 use crate::values::minus;
 use pv_num::{BinOp, IntKind};

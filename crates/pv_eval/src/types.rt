@@ -1,7 +1,8 @@
 // What operations ask of a type (C17 6.2.5, 6.3, 6.5.3.4). A number that is that of no type is as `void`.
-ghost use Rattle.std.specs.Prelude.{◌≡◌, ◌≤◌, ◌<◌, ◌^◌, ◌&&◌, true, length, IfSome, IfNone, is_some};
-ghost use Rattle.pv_types.specs.Ty.{VoidTy};
-ghost use Rattle.pv_types.specs.Layouts.{up_to, is_complete_in};
+ghost use Rattle.std.specs.Prelude.{◌≡◌, ◌≤◌, ◌<◌, ◌^◌, ◌/◌, ◌&&◌, true, length, IsTrue, IfSome, IfNone, is_some};
+ghost use Rattle.pv_num.specs.Kinds.{width};
+ghost use Rattle.pv_types.specs.Ty.{VoidTy, IntTy};
+ghost use Rattle.pv_types.specs.Layouts.{up_to, is_complete_in, layout_in};
 ghost use Rattle.pv_types.specs.Known.{tree, trees, env, tree_in};
 ghost use Rattle.pv_types.specs.Formed.{PartsBelow};
 ghost use Rattle.pv_effect.specs.EffectiveType.{is_character_kind, is_character};
@@ -9,7 +10,7 @@ ghost use Rattle.pv_world.specs.Hows.{IsHow};
 ghost use Rattle.pv_eval.specs.TypeForms.{alignment_by, shape_of, kind_of, promoted, is_pointer, is_none, is_constant, pointed_to};
 ghost use Rattle.pv_eval.specs.Conversions.{how_to_int};
 ghost use Rattle.pv_eval.specs.Suiting.{is_size};
-ghost use Rattle.pv_eval.specs.Sizes.{size_in, number_in, alignment_in, how_in, element_in, IsComplete};
+ghost use Rattle.pv_eval.specs.Sizes.{size_in, number_in, alignment_in, how_in, element_in, IsComplete, points};
 
 use pv_layout::{bare, measure};
 use pv_num::IntKind;
@@ -178,6 +179,98 @@ pub(crate) fn align_of(types: &Types, t: TypeId) -> u64
         types.extent(t).align
     } else {
         1
+    }
+}
+
+/// How many bytes an integer of this kind takes, which is its alignment too (C17 6.2.6.1, 6.2.8).
+fn bytes_of(kind: IntKind) -> u64
+    ensures size { result ≡ width kind / 8 }
+    ensures some { 1 ≤ result }
+    ensures few { result ≤ 8 }
+{
+    match kind {
+        IntKind::Bool | IntKind::Char | IntKind::SChar | IntKind::UChar => 1,
+        IntKind::Short | IntKind::UShort => 2,
+        IntKind::Int | IntKind::UInt => 4,
+        IntKind::Long | IntKind::ULong | IntKind::LLong | IntKind::ULLong => 8,
+    }
+}
+
+/// A complete object type as an access looks at it: its size, what its address is a multiple of, and how its bytes are looked at.
+#[derive(Clone, Copy)]
+pub(crate) struct AccessedType {
+    pub(crate) l: Complete,
+    pub(crate) align: u64,
+    pub(crate) form: Shape,
+}
+
+/// The type as an access looks at it, by a search through its layers.
+fn accessed_by_layers(types: &Types, t: TypeId) -> Option<AccessedType>
+    ensures same { IfSome result (λ x. x.l.t ≡ t) }
+    ensures complete { IfSome result (λ x. IsComplete types.now x.l) }
+    ensures align { IfSome result (λ x. x.align ≡ (layout_in (env types.now) (tree types.now x.l.t.0)).align) }
+    ensures some { IfSome result (λ x. 1 ≤ x.align) }
+    ensures form { IfSome result (λ x. x.form ≡ shape_of (tree types.now x.l.t.0)) }
+{
+    let l = measured(types, t)?;
+    Some(AccessedType {
+        l,
+        align: align_of(types, t),
+        form: shape(types, t),
+    })
+}
+
+/// An integer type without `const` as an access looks at it.
+fn accessed_integer(types: &Types, t: TypeId, kind: IntKind) -> Option<AccessedType>
+    requires known { t.0 < length types.now.terms }
+    requires integer { tree types.now t.0 ≡ IntTy kind }
+    ensures same { IfSome result (λ x. x.l.t ≡ t) }
+    ensures complete { IfSome result (λ x. IsComplete types.now x.l) }
+    ensures align { IfSome result (λ x. x.align ≡ (layout_in (env types.now) (tree types.now x.l.t.0)).align) }
+    ensures some { IfSome result (λ x. 1 ≤ x.align) }
+    ensures form { IfSome result (λ x. x.form ≡ shape_of (tree types.now x.l.t.0)) }
+{
+    let size = bytes_of(kind);
+    Some(AccessedType {
+        l: Complete { t, size },
+        align: size,
+        form: Shape::Int(kind),
+    })
+}
+
+/// A pointer type without `const` as an access looks at it.
+fn accessed_pointer(types: &Types, t: TypeId) -> Option<AccessedType>
+    requires known { t.0 < length types.now.terms }
+    requires pointer { IsTrue (points (tree types.now t.0)) }
+    ensures same { IfSome result (λ x. x.l.t ≡ t) }
+    ensures complete { IfSome result (λ x. IsComplete types.now x.l) }
+    ensures align { IfSome result (λ x. x.align ≡ (layout_in (env types.now) (tree types.now x.l.t.0)).align) }
+    ensures some { IfSome result (λ x. 1 ≤ x.align) }
+    ensures form { IfSome result (λ x. x.form ≡ shape_of (tree types.now x.l.t.0)) }
+{
+    Some(AccessedType {
+        l: Complete { t, size: 8 },
+        align: 8,
+        form: Shape::Pointer,
+    })
+}
+
+/// The type as an access looks at it, where it is a complete object type of at most 2^32 bytes. Most are integer or pointer
+/// types without `const`, and need no search.
+pub(crate) fn accessed(types: &Types, t: TypeId) -> Option<AccessedType>
+    ensures same { IfSome result (λ x. x.l.t ≡ t) }
+    ensures complete { IfSome result (λ x. IsComplete types.now x.l) }
+    ensures align { IfSome result (λ x. x.align ≡ (layout_in (env types.now) (tree types.now x.l.t.0)).align) }
+    ensures some { IfSome result (λ x. 1 ≤ x.align) }
+    ensures form { IfSome result (λ x. x.form ≡ shape_of (tree types.now x.l.t.0)) }
+{
+    if !types.has(t) {
+        return None;
+    }
+    match types.view(t) {
+        Term::Int(kind) => accessed_integer(types, t, kind),
+        Term::Pointer(_) => accessed_pointer(types, t),
+        _ => accessed_by_layers(types, t),
     }
 }
 

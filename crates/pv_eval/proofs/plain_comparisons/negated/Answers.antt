@@ -1,0 +1,16 @@
+use Rattle.std.proofs.Common.{FitsSigned, rules, sym, ap, ◌∙◌, subst, ℤ, w64}
+use Rattle.std.specs.Ordering.{int_eq}
+use Rattle.std.specs.Prelude.{pos}
+use Rattle.std.proofs.lemmas.Int.{to_z-of_z}
+use Rattle.pv_world.specs.Worths.{truth_int}
+use Rattle.pv_eval.specs.declared.plain.Found.{Found}
+use Rattle.pv_eval.specs.Operations.{Negates}
+use Rattle.pv_eval.specs.Plainly.{GivesAt, found_worth}
+use Rattle.pv_eval.proofs.PlainComparisons.{number_negated}
+use Rattle.pv_eval.proofs.plain_comparisons.negated.Goals as goal
+
+pub returns-in-Number : goal.returns-in-Number
+returns-in-Number c =
+    let fits : FitsSigned w64 c.in-Number.x = search rules in
+    subst (λ (q : Found). GivesAt c.args.world.now (λ b. Negates (found_worth q)) (found_worth c.truth.result)) (sym c.in-Number.is)
+    (number_negated c.args.world.now c.in-Number.x (found_worth c.truth.result) (c.truth.ensures ∙ ap truth_int c.is_zero.ensures ∙ ap (λ (x : ℤ). truth_int (int_eq x (pos 0))) (to_z-of_z w64 c.in-Number.x fits)))
