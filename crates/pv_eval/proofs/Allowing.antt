@@ -1,14 +1,18 @@
 -- What an effective type permits, of a live instance.
-use Rattle.std.proofs.Common.{◌≡◌, ℕ, true, IsTrue, Some, None, refl, sym, ap, ◌∙◌, subst}
-use Rattle.std.specs.Prelude.{if◌then◌else◌}
+use Rattle.std.proofs.Common.{◌≡◌, ℕ, ◌*◌, ◌/◌, ◌%◌, ◌<◌, ◌≤◌, ◌^◌, ◌==◌, Bool, true, false, ◌&&◌, ◌||◌, List, [], ◌∷◌, IsTrue, Some, None, refl, sym, ap, ◌∙◌, subst, arith, mul-le-mul_right}
+use Rattle.std.specs.Prelude.{nat_le, if◌then◌else◌}
+use Rattle.std.proofs.lemmas.Bool.{lt-ltb, le-leb}
+use Rattle.pv_num.specs.Kinds.{width}
 use Rattle.pv_num.specs.declared.kinds.IntKind.{IntKind}
 use Rattle.pv_num.specs.declared.kinds.IntKind.TheVariants as kind
-use Rattle.pv_types.specs.Ty.{Ty, IntTy}
+use Rattle.pv_types.specs.Ty.{Ty, IntTy, ArrayOf}
 use Rattle.pv_types.specs.Compatible.{are_compatible}
 use Rattle.pv_types.specs.Known.{Known, tree, env}
-use Rattle.pv_types.specs.Layouts.{is_complete_in}
-use Rattle.pv_layout.specs.Parts.{bare}
+use Rattle.pv_types.specs.Layouts.{Part, repeated, is_complete_in}
+use Rattle.pv_layout.specs.Parts.{bare, some_at, leaves, agrees, is_scalar}
 use Rattle.pv_layout.proofs.Ahead.{bare_size, bare_complete}
+use Rattle.pv_layout.proofs.PartLaws.{at_repeated, some_leaf}
+use Rattle.pv_effect.specs.EffectiveType.{is_character}
 use Rattle.pv_inst.specs.declared.values.Instance.{Instance}
 use Rattle.pv_inst.specs.declared.values.Info.{Info}
 use Rattle.pv_typed.specs.Tables.{Stored, whole}
@@ -56,3 +60,68 @@ whole_integer u o offset w k zero same form =
     subst (λ (n : ℕ). P (object_at (whole u) o).t n (tree u.known w)) (sym zero)
     (subst (λ (t : Ty). P t 0 (tree u.known w)) (sym same)
     (subst (λ (t : Ty). P t 0 t) (sym form) (own-kind b k)))
+
+-- an element of an array of integers, at that type
+agrees-itself : (k : IntKind) → agrees (IntTy k) (IntTy k) ≡ true
+unfolding are_compatible
+agrees-itself kind.Bool = refl
+agrees-itself kind.Char = refl
+agrees-itself kind.SChar = refl
+agrees-itself kind.UChar = refl
+agrees-itself kind.Short = refl
+agrees-itself kind.UShort = refl
+agrees-itself kind.Int = refl
+agrees-itself kind.UInt = refl
+agrees-itself kind.Long = refl
+agrees-itself kind.ULong = refl
+agrees-itself kind.LLong = refl
+agrees-itself kind.ULLong = refl
+
+no-whole : (h g : Bool) → ((h && false) || g) ≡ g
+no-whole true g = refl
+no-whole false g = refl
+
+true-or : (c x : Bool) → x ≡ true → (if c then true else x) ≡ true
+true-or true x e = refl
+true-or false x e = e
+
+abbrev one_part : Ty → List Part
+one_part t = record { offset = 0; t = t } ∷ []
+
+abbrev array_parts : Ty → (n size : ℕ) → List Part
+array_parts t n s = record { offset = 0; t = ArrayOf t (Some n) } ∷ repeated n s (one_part t)
+
+element-leaf : (k : IntKind) (n s o : ℕ) → 0 < s → o % s ≡ 0 → o / s < n → some_at (agrees (IntTy k)) o (leaves (array_parts (IntTy k) n s)) ≡ true
+element-leaf k n s o some begins within =
+    let g : Ty → Bool = λ t. is_scalar t && agrees (IntTy k) t in
+    let one = one_part (IntTy k) in
+    some_leaf (agrees (IntTy k)) o (array_parts (IntTy k) n s)
+    ∙ no-whole (0 == o) (some_at g o (repeated n s one))
+    ∙ at_repeated g s o one n some (some, tt)
+    ∙ ap (λ b. b && some_at g (o % s) one) (lt-ltb (o / s) n within)
+    ∙ ap (λ m. some_at g m one) begins
+    ∙ ap (λ b. (0 == 0 && b) || false) (agrees-itself k)
+
+array-extent : (b : Setting) (k : IntKind) (n s : ℕ) → s ≡ width k / 8 → s ≤ 8 → 0 < n → n ≤ 2 ^ 29 → has_extent b (ArrayOf (IntTy k) (Some n)) ≡ true
+array-extent b k n s size few some most =
+    let big : n * s ≤ (2 ^ 29) * s = mul-le-mul_right s most in
+    let small : n * s ≤ 2 ^ 32 = omega (arith, big, few) in
+    ap (λ c. (c && true) && nat_le (n * (width k / 8)) (2 ^ 32)) (lt-ltb 0 n some)
+    ∙ ap (λ m. nat_le (n * m) (2 ^ 32)) (sym size)
+    ∙ le-leb (n * s) (2 ^ 32) small
+
+whole-element : (b : Setting) (k : IntKind) (n s o : ℕ) → s ≡ width k / 8 → 1 ≤ s → s ≤ 8 → o % s ≡ 0 → o / s < n → n ≤ 2 ^ 29
+    → permits_object b (if has_extent b (ArrayOf (IntTy k) (Some n)) then Some (ArrayOf (IntTy k) (Some n)) else None) o (IntTy k) ≡ true
+whole-element b k n s o size some few begins within most =
+    let t = ArrayOf (IntTy k) (Some n) in
+    ap (λ c. permits_object b (if c then Some t else None) o (IntTy k)) (array-extent b k n s size few (omega (arith, within)) most)
+    ∙ true-or (is_character (IntTy k)) (some_at (agrees (IntTy k)) o (leaves (array_parts (IntTy k) n (width k / 8))))
+    (subst (λ m. some_at (agrees (IntTy k)) o (leaves (array_parts (IntTy k) n m)) ≡ true) size (element-leaf k n s o some begins within))
+
+pub element_permitted : (u : Stored) (o offset w e : ℕ) (k : IntKind) (n s : ℕ) → (object_at (whole u) o).t ≡ ArrayOf (tree u.known e) (Some n) → e ≡ w → tree u.known w ≡ IntTy k → s ≡ width k / 8 → 1 ≤ s → s ≤ 8 → offset % s ≡ 0 → offset / s < n → n ≤ 2 ^ 29
+    → permits_object (setting_of u) (type_by (setting_of u) (Some o)) offset (tree u.known w) ≡ true
+element_permitted u o offset w e k n s same own form size some few begins within most =
+    let b = setting_of u in
+    let P : Ty → Ty → Type 0 = λ t want. permits_object b (if has_extent b t then Some t else None) offset want ≡ true in
+    subst (λ (t : Ty). P t (tree u.known w)) (sym (same ∙ ap (λ i. ArrayOf (tree u.known i) (Some n)) own))
+    (subst (λ (t : Ty). P (ArrayOf t (Some n)) t) (sym form) (whole-element b k n s offset size some few begins within most))

@@ -1,12 +1,13 @@
 -- Integer and pointer types as accesses look at them.
-use Rattle.std.proofs.Common.{◌≡◌, ℕ, ◌<◌, ◌≤◌, IsTrue, List, length, refl, sym, ap, ◌∙◌, arith}
-use Rattle.std.specs.Prelude.{◌/◌}
+use Rattle.std.proofs.Common.{◌≡◌, ℕ, ◌<◌, ◌≤◌, ◌^◌, IsTrue, List, length, Some, None, refl, sym, ap, ◌∙◌, arith}
+use Rattle.std.specs.Prelude.{◌/◌, if◌then◌else◌}
+use Rattle.std.proofs.lemmas.Bool.{le-leb}
 use Rattle.pv_num.specs.declared.kinds.IntKind.{IntKind}
 use Rattle.pv_num.specs.Kinds.{width}
 use Rattle.pv_types.specs.Ty.{Ty, VoidTy, IntTy, PointerTo, ArrayOf, StructTag, UnionTag, FunctionTy, ConstOf}
 use Rattle.pv_types.specs.declared.terms.TypeId.{TypeId}
 use Rattle.pv_types.specs.Known.{Known, tree, env}
-use Rattle.pv_types.specs.Layouts.{Entry, is_complete_in, layout_in}
+use Rattle.pv_types.specs.Layouts.{Entry, up_to, is_complete_in, layout_in}
 use Rattle.pv_world.specs.declared.got.Shape.TheVariants as shape
 use Rattle.pv_eval.specs.TypeForms.{shape_of}
 use Rattle.pv_eval.specs.Sizes.{size_in, IsComplete, points}
@@ -15,6 +16,11 @@ pub integer_complete : (m : Known) (t : TypeId) (k : IntKind) (n : ℕ) → t.0 
 integer_complete m t k n known e sized some few =
     let size : size_in m (tree m t.0) ≡ n = ap (size_in m) e ∙ sym sized in
     record { known = known; complete = ap (is_complete_in (env m)) e; size = sym size; small = omega (arith, size, few); some = some }
+
+pub integer_size : (m : Known) (i : ℕ) (k : IntKind) (n : ℕ) → tree m i ≡ IntTy k → n ≡ width k / 8 → n ≤ 8 → Some n ≡ up_to (size_in m (tree m i))
+integer_size m i k n e sized few =
+    let size : size_in m (tree m i) ≡ n = ap (size_in m) e ∙ sym sized in
+    sym (ap up_to size ∙ ap (λ c. if c then Some n else None) (le-leb n (2 ^ 32) (omega (arith, few))))
 
 pub integer_align : (m : Known) (i : ℕ) (k : IntKind) (n : ℕ) → tree m i ≡ IntTy k → n ≡ width k / 8 → n ≡ (layout_in (env m) (tree m i)).align
 integer_align m i k n e sized = sized ∙ ap (λ (t : Ty). (layout_in (env m) t).align) (sym e)

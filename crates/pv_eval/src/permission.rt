@@ -14,7 +14,7 @@ ghost use Rattle.pv_eval.specs.TypeForms.{lvalue};
 ghost use Rattle.pv_eval.specs.Sizes.{setting_of, size_in, IsComplete};
 ghost use Rattle.pv_eval.specs.Permission.{marks_of, permits_object, type_by, permits};
 
-use crate::types::{Complete, is_character, layer, measured};
+use crate::types::{Complete, bytes_of, is_character, layer, measured};
 use pv_effect::{permits_declared, permits_marks};
 use pv_inst::Kind;
 use pv_layout::bare;
@@ -74,6 +74,35 @@ fn is_whole_integer(unit: &TypedUnit, object: Option<u32>, offset: u64, want: Ty
     }
 }
 
+/// Whether an element of an array of integers is accessed as a whole, at its own type. Such accesses are frequent, and need no
+/// search for a part.
+#[inline(always)]
+fn is_element(unit: &TypedUnit, object: Option<u32>, offset: u64, want: TypeId) -> bool
+    requires { AreKnown unit.now }
+    ensures { IsTrue result → permits_object (setting_of unit.now) (type_by (setting_of unit.now) object) offset (tree unit.now.known want.0) ≡ true }
+{
+    let Some(o) = object else {
+        return false;
+    };
+    if o >= unit.objects() {
+        return false;
+    }
+    let Term::Array(element, Some(n)) = layer(unit.types(), unit.object(o).t) else {
+        return false;
+    };
+    let Term::Int(kind) = layer(unit.types(), want) else {
+        return false;
+    };
+    if element.0 != want.0 || n > 0x2000_0000 {
+        return false;
+    }
+    let size = bytes_of(kind);
+    if offset % size != 0 || offset / size >= n {
+        return false;
+    }
+    true
+}
+
 /// Whether what is stored in an object may be accessed through an lvalue of the type (C17 6.5p7).
 #[inline(always)]
 fn permits_object(unit: &TypedUnit, object: Option<u32>, offset: u64, want: TypeId) -> bool
@@ -83,7 +112,7 @@ fn permits_object(unit: &TypedUnit, object: Option<u32>, offset: u64, want: Type
     requires small { size_in unit.now.known (tree unit.now.known want.0) ≤ 2 ^ 32 }
     ensures { result ≡ permits_object (setting_of unit.now) (type_by (setting_of unit.now) object) offset (tree unit.now.known want.0) }
 {
-    if is_whole_integer(unit, object, offset, want) {
+    if is_whole_integer(unit, object, offset, want) || is_element(unit, object, offset, want) {
         return true;
     }
     let types = unit.types();

@@ -131,9 +131,20 @@ pub(crate) fn is_character(types: &Types, t: TypeId) -> bool
 }
 
 /// How many bytes an object of the type takes, where that is at most 2^32; 0, where the type is not complete
-/// (C17 6.2.6.1p4).
-#[tactic(auto, using(crate::proofs::Numbers::no_size))]
+/// (C17 6.2.6.1p4). Most are integer or pointer types, and need no search.
 pub(crate) fn size_of(types: &Types, t: TypeId) -> Option<u64>
+    ensures { result ≡ up_to (size_in types.now (tree types.now t.0)) }
+{
+    match layer(types, t) {
+        Term::Int(kind) => Some(bytes_of(kind)),
+        Term::Pointer(_) => Some(8),
+        _ => searched_size(types, t),
+    }
+}
+
+/// The same, by a search through the layers of the type.
+#[tactic(auto, using(crate::proofs::Numbers::no_size))]
+fn searched_size(types: &Types, t: TypeId) -> Option<u64>
     ensures { result ≡ up_to (size_in types.now (tree types.now t.0)) }
 {
     if is_complete(types, t) {
@@ -183,7 +194,7 @@ pub(crate) fn align_of(types: &Types, t: TypeId) -> u64
 }
 
 /// How many bytes an integer of this kind takes, which is its alignment too (C17 6.2.6.1, 6.2.8).
-fn bytes_of(kind: IntKind) -> u64
+pub(crate) fn bytes_of(kind: IntKind) -> u64
     ensures size { result ≡ width kind / 8 }
     ensures some { 1 ≤ result }
     ensures few { result ≤ 8 }
