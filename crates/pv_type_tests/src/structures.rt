@@ -25,7 +25,7 @@ pub(crate) fn pair(rt: &impl Abort, alloc: Global, types: &mut Types) -> (TypeId
         .expect(rt, "no memory");
     let tag = types.tag(Some(7), false).expect(rt, "no memory");
     let pair = types.intern(Term::Struct(tag)).expect(rt, "no memory");
-    assert!(rt; types.tag_name(tag) == Some(7));
+    assert!(rt; types.tag_name(tag) == Some(7) && !types.is_union(tag));
     assert!(rt; is_open(types, tag));
     assert!(rt; types.is_complete(char) && types.is_complete(int));
     let members = vec![in alloc; Member { name: 0, t: char }, Member { name: 1, t: int }].expect(

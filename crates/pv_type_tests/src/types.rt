@@ -121,3 +121,48 @@ fn parts_are_found(rt: HostRuntime) {
     assert!(rt; leaf_at(&types, whole, 4, part) && part_at(&types, whole, 4, part));
     assert!(rt; permits_declared(&types, whole, 4, part));
 }
+
+/// The member that holds the byte at an offset: where it begins, and its type.
+fn held(types: &Types, whole: TypeId, offset: u64) -> Option<(u64, TypeId)>
+    requires known { whole.0 < length types.now.terms }
+    requires complete { IsTrue (is_complete_in (env types.now) (tree types.now whole.0)) }
+    requires small { (layout_in (env types.now) (tree types.now whole.0)).size ≤ 2 ^ 32 }
+{
+    match types.view(whole) {
+        Term::Struct(tag) => types.member_over(tag, offset),
+        _ => None,
+    }
+}
+
+/// Its second member holds the sixth byte, and none the second one, which is padding.
+#[test]
+fn members_hold_bytes(rt: HostRuntime) {
+    let mut types = Types::new(rt.alloc()).expect(&rt, "no memory");
+    let (pair, int) = pair(&rt, rt.alloc(), &mut types);
+    let whole = object(&rt, &types, pair);
+    assert!(rt; held(&types, whole, 5) == Some((4, int)) && held(&types, whole, 1).is_none());
+}
+
+/// The number of the member of this name, and where it begins, if that is kept.
+fn looked_up(types: &Types, whole: TypeId, name: u32) -> Option<(u64, Option<u64>)>
+    requires known { whole.0 < length types.now.terms }
+{
+    let Term::Struct(tag) = types.view(whole) else {
+        return None;
+    };
+    let number = types.member_named(tag, name)?;
+    Some((number, types.member_start(tag, number)))
+}
+
+/// Where the members begin is kept from the next type on that is made.
+#[test]
+fn members_are_looked_up(rt: HostRuntime) {
+    let mut types = Types::new(rt.alloc()).expect(&rt, "no memory");
+    let (pair, _) = pair(&rt, rt.alloc(), &mut types);
+    assert!(rt; types.has(pair));
+    assert!(rt; looked_up(&types, pair, 1) == Some((1, None)));
+    let whole = object(&rt, &types, pair);
+    let _ = types.intern(Term::Pointer(whole)).expect(&rt, "no memory");
+    assert!(rt; types.has(pair));
+    assert!(rt; looked_up(&types, pair, 1) == Some((1, Some(4))));
+}
