@@ -1,5 +1,8 @@
-// The files and the output of the system, and a sink with its room.
-use pv_script::{CalmSink, DiskFiles, Failed, Files, Printed, Sink};
+// The files and the output of the system, those in memory that fail by a list of numbers, and a sink with its room.
+use pv_script::{
+    CalmSink, DiskFiles, Failed, Files, MemFiles, MemSink, Printed, ReadError, Sink, read_all,
+    write_all,
+};
 use std::io;
 use std::process::Abort;
 
@@ -41,4 +44,27 @@ fn a_file_is_read_on(rt: HostRuntime) {
 fn real_output_is_written(rt: HostRuntime) {
     let mut out = Printed::new(io::writer(&rt));
     assert!(rt; out.write(b"words\n").expect(&rt, "output") == 6);
+}
+
+/// A file of six bytes is read up to a limit and one byte more. The third read of all fails.
+#[test]
+fn a_file_is_read_up_to_a_limit(rt: HostRuntime) {
+    let mut files = MemFiles::new(rt.alloc(), &[3]).expect(&rt, "no memory");
+    files.put("a.c", b"abcdef").expect(&rt, "no memory");
+    let whole = read_all(rt.alloc(), &mut files, "a.c", 10);
+    assert!(rt; matches!(&whole, Ok(bytes) if bytes.as_slice() == b"abcdef".as_slice()));
+    let failed = read_all(rt.alloc(), &mut files, "a.c", 10);
+    assert!(rt; matches!(&failed, Err(ReadError::Fault)));
+    let part = read_all(rt.alloc(), &mut files, "a.c", 3);
+    assert!(rt; matches!(&part, Ok(bytes) if bytes.as_slice() == b"abcd".as_slice()));
+}
+
+/// A sink takes two bytes a write. The fourth write fails.
+#[test]
+fn all_bytes_are_written_or_some(rt: HostRuntime) {
+    let mut sink = MemSink::new(rt.alloc(), 2, &[4]).expect(&rt, "no memory");
+    assert!(rt; write_all(&mut sink, b"abcde").is_ok());
+    assert!(rt; sink.bytes() == b"abcde".as_slice());
+    assert!(rt; write_all(&mut sink, b"fg").is_err());
+    assert!(rt; sink.bytes() == b"abcde".as_slice());
 }
