@@ -4,7 +4,7 @@ use pv_script::Names;
 use std::process::Abort;
 
 /// What another implementation tells of a run that compares a pointer to an object that has ended.
-static WHOLE: &str = "create p#1 turn=1 base=0x10000 size=8
+pub(crate) static WHOLE: &str = "create p#1 turn=1 base=0x10000 size=8
 create a#1 turn=2 base=0x20000 size=4
 end a#1 turn=9
 create b#1 turn=10 base=0x20000 size=4
