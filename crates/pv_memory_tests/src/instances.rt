@@ -14,6 +14,7 @@ fn settle(rt: &impl Abort, pairs: &mut Pairs) {
     let k = pairs.make(3, 4).expect(rt, "no memory");
     assert!(rt; k == 1 && pairs.len() == 1);
     pairs.keep(k, false, true);
+    pairs.well_formed();
     assert!(rt; pairs.stands(Prov::Pair(k)).high == Some(4));
     let twin = pairs.twin(k).expect(rt, "no pair");
     assert!(rt; twin.low == 3 && !twin.keeps_low);
@@ -67,6 +68,21 @@ fn tell(rt: &impl Abort, table: &Instances) {
     let info = table.info(2).expect(rt, "no live instance");
     assert!(rt; info.name == 3 && info.size == 8);
     assert!(rt; table.base(2) == 0x20008);
+}
+
+/// Which tests the second object would pass, where nothing is used, and nothing waits to be told.
+fn ask(rt: &impl Abort, table: &Instances) {
+    let within = Test::Range {
+        address: 0x2000c,
+        size: 4,
+    };
+    let beyond = Test::Range {
+        address: 0x2000c,
+        size: 8,
+    };
+    table.well_formed();
+    assert!(rt; table.survives(Some(2), within) && !table.survives(Some(2), beyond));
+    assert!(rt; table.is_told() && !table.survives(None, Test::Live));
 }
 
 /// The name that a number finds where both objects were exposed: a new pair, which is known.
@@ -152,6 +168,7 @@ fn end(rt: &impl Abort, table: &mut Instances) {
 fn instances_are_made_found_and_ended(rt: HostRuntime) {
     let mut table = touching(&rt, rt.alloc());
     tell(&rt, &table);
+    ask(&rt, &table);
     expose(&rt, &mut table, Prov::Inst(1));
     expose(&rt, &mut table, Prov::Inst(2));
     assert!(&rt; table.next_exposed() == Some(1));

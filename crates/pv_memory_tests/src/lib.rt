@@ -6,6 +6,8 @@
 #![tactic(auto)]
 
 #[cfg(test)]
+mod functions;
+#[cfg(test)]
 mod instances;
 #[cfg(test)]
 mod library;

@@ -11,7 +11,7 @@ use pv_num::IntKind;
 use pv_object::{Asker, Memory, Pointer, Reach, Scalar, Value};
 use pv_prov::Prov;
 use pv_script::Names;
-use pv_shadow::BLANK;
+use pv_shadow::{BLANK, Byte};
 use std::alloc::Global;
 use std::process::Abort;
 
@@ -136,6 +136,19 @@ fn write_bytes_of_a_pointer(rt: &impl Abort, memory: &mut Memory) {
     memory.write_bytes(&at, &bytes[..]);
 }
 
+/// All bytes of an object become one.
+fn fill(rt: &impl Abort, memory: &mut Memory) {
+    let at = reach(rt, memory, FIRST, true);
+    let one = Byte {
+        value: Some(1),
+        ..BLANK
+    };
+    assert!(rt; memory.instances().knows(one.prov));
+    memory.fill_bytes(&at, 8, one);
+    let ones = Value::Int(0x0101_0101_0101_0101);
+    assert!(rt; load(rt, memory, FIRST, Scalar::Int(IntKind::Long)) == ones);
+}
+
 #[test]
 fn bytes_hold_numbers_and_pointers(rt: HostRuntime) {
     let mut memory = touching(&rt, rt.alloc());
@@ -144,4 +157,5 @@ fn bytes_hold_numbers_and_pointers(rt: HostRuntime) {
     hold_a_pointer(&rt, &mut memory);
     ask_for_a_pointer(&rt, &mut memory);
     write_bytes_of_a_pointer(&rt, &mut memory);
+    fill(&rt, &mut memory);
 }

@@ -1,8 +1,8 @@
 // Operations on the pointers of a memory.
 use crate::memory::{FIRST, SECOND, known, touching};
 use pv_inst::Miss;
-use pv_num::IntKind;
-use pv_object::{Memory, Pointer};
+use pv_num::{IntKind, Reason};
+use pv_object::{Memory, Pointer, Stop};
 use pv_prov::Prov;
 use std::cmp::Ordering;
 use std::process::Abort;
@@ -30,6 +30,13 @@ fn look_at_one(rt: &impl Abort, memory: &mut Memory) {
     assert!(rt; !FIRST.is_null());
 }
 
+/// A pointer to an object is none to a function.
+fn look_for_a_function(rt: &impl Abort, memory: &mut Memory) {
+    known(rt, memory, FIRST);
+    let answer = memory.code(FIRST);
+    assert!(rt; matches!(answer, Err(Stop::Undefined(fault)) if fault.reason == Reason::Outside));
+}
+
 /// Two pointers are compared.
 fn compare(rt: &impl Abort, memory: &mut Memory) {
     known(rt, memory, FIRST);
@@ -47,7 +54,7 @@ fn find(rt: &impl Abort, memory: &mut Memory) {
     assert!(rt; matches!(memory.to_int(FIRST, IntKind::ULong), Ok((0x20000, _))));
     known(rt, memory, SECOND);
     assert!(rt; memory.to_int(SECOND, IntKind::ULong).is_ok());
-    assert!(rt; memory.next_exposed() == Some(1));
+    assert!(rt; !memory.is_told() && memory.next_exposed() == Some(1));
     assert!(rt; matches!(memory.to_ptr(0x20008), Ok(p) if p.prov == Prov::Pair(1)));
 }
 
@@ -82,6 +89,7 @@ fn pointers_are_operands(rt: HostRuntime) {
     let mut memory = touching(&rt, rt.alloc());
     move_within(&rt, &mut memory);
     look_at_one(&rt, &mut memory);
+    look_for_a_function(&rt, &mut memory);
     compare(&rt, &mut memory);
     find(&rt, &mut memory);
     settle(&rt, &mut memory);
