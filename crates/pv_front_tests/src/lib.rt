@@ -6,11 +6,15 @@
 #![tactic(auto)]
 
 #[cfg(test)]
+mod library_names;
+#[cfg(test)]
 mod nodes;
 #[cfg(test)]
 mod readers;
 #[cfg(test)]
 mod scopes;
+#[cfg(test)]
+mod sorts;
 #[cfg(test)]
 mod tags;
 #[cfg(test)]

@@ -139,7 +139,7 @@ fn main_is_found(rt: HostRuntime) {
     assert!(rt; u.main() == main);
 }
 
-/// A function with a parameter, that gets another line.
+/// A function with a parameter, that gets another line and is pointed to.
 #[test]
 fn a_function_has_its_parameters(rt: HostRuntime) {
     let mut u = TypedUnit::new(rt.alloc()).expect(&rt, "no memory");
@@ -157,6 +157,8 @@ fn a_function_has_its_parameters(rt: HostRuntime) {
     assert!(rt; u.functions() == 1 && u.function(f).line == 8);
     u.add_param(f, n).expect(&rt, "no memory");
     assert!(rt; u.params_of(f) == [n].as_slice());
+    u.add_placed(f).expect(&rt, "no memory");
+    assert!(rt; u.placed() == [f].as_slice());
 }
 
 /// The literal `"ab"` on line 9.
