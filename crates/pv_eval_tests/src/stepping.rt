@@ -96,6 +96,18 @@ fn evaluate(
     panic!(rt; "too many steps")
 }
 
+/// The turn of a statement, and the end of the object.
+fn end(rt: &impl Abort, unit: &TypedUnit, machine: &mut Machine, i: u32)
+    requires runnable { IsRunnable unit.now }
+    requires object { i < length unit.now.objects }
+{
+    assert!(rt; machine.turns() < 100_000_000);
+    machine.tick();
+    let ended = machine.finish(unit, i);
+    assert!(rt; ended.is_ok());
+    assert!(rt; machine.waiting().len() == 1);
+}
+
 #[test]
 fn an_assignment_is_evaluated(rt: HostRuntime) {
     let alloc = rt.alloc();
@@ -111,4 +123,6 @@ fn an_assignment_is_evaluated(rt: HostRuntime) {
     let value = evaluate(&rt, &unit, &mut machine, n);
     assert!(&rt; matches!(value, Ok(Got::Scalar(Value::Int(42)))));
     assert!(&rt; machine.turns() == 3 && machine.printed().is_empty());
+    end(&rt, &unit, &mut machine, i);
+    assert!(&rt; machine.turns() == 4);
 }
