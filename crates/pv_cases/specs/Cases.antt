@@ -47,6 +47,7 @@ pub record Cut : Type 0 where
   pub word : List ℕ
   pub rest : List ℕ
 
+-- 5.2.1p3: a space
 abbrev pub is_space : ℕ → Bool
 is_space b = b == 32
 
@@ -61,10 +62,19 @@ case_by source script output bound expected =
     then option_map (λ n. record { source = source; script = named script; output = named output; bound = n; expected = expected }) (bound_in bound)
     else None
 
+-- docs/FORMATS.md, Suites: first the one, and where it is there, the other on what it gave (5.1.2.3)
+infixl 10 ◌>>=◌
+abbrev pub ◌>>=◌ : {A B : Type 0} → Option A → (A → Option B) → Option B
+o >>= f = option_and_then f o
+
 -- docs/FORMATS.md, Suites: they stand in this order, with one space between two (5.2.1p3); EXPECTED goes on to the end of the line
 abbrev pub case_in : List ℕ → Option SuiteCase
-case_in line = option_and_then (λ (a : Cut). option_and_then (λ (b : Cut). option_and_then (λ (c : Cut).
-    option_and_then (λ (d : Cut). case_by a.word b.word c.word d.word d.rest) (cut c.rest)) (cut b.rest)) (cut a.rest)) (cut line)
+case_in line = do
+  a ← cut line
+  b ← cut a.rest
+  c ← cut b.rest
+  d ← cut c.rest
+  case_by a.word b.word c.word d.word d.rest
 
 -- ---- lists
 

@@ -49,6 +49,7 @@ abbrev pub command_at : (line : List ℕ) → Option ℕ → Option Command
 command_at line None = one_word line
 command_at line (Some at) = two_words (take at line) (drop (at + 1) line)
 
+-- 5.2.1p3: a space
 abbrev pub is_space : ℕ → Bool
 is_space b = b == 32
 
@@ -68,6 +69,7 @@ abbrev pub after_command : Option Command → (n : ℕ) → (earlier : List Comm
 after_command None n earlier = Err (error.BadLine n)
 after_command (Some c) n earlier = Ok (earlier ++ c ∷ [])
 
+-- docs/FORMATS.md, Commands: the commands so far, and that of this line, which is number n (5.1.2.3)
 abbrev pub after_line : (n : ℕ) (line : List ℕ) → (earlier : List Command) → Result (List Command) CommandError
 after_line n line earlier = after_command (command_in line) n earlier
 

@@ -46,9 +46,7 @@ moved r n (command.Step m) = min (n + m) last_position
 moved r n (command.Back m) = max (n - m) 1
 moved r n command.Next = next_turn n r.rows
 moved r n command.Prev = last_turn n n r.rows
-moved r n command.List = n
-moved r n command.Pairs = n
-moved r n (command.At a) = n
+moved r n _ = n
 
 -- docs/FORMATS.md, Commands: how the run with the bound n ends (5.1.2.3)
 abbrev pub where_text : Run → (n : ℕ) → List ℕ
@@ -124,14 +122,10 @@ at_text xs a = flat_map (inside_line a) (by_base (filter (reaches a) xs)) ++ cou
 
 -- docs/FORMATS.md, Commands: what a command prints at the position to which it moved (5.1.2.3)
 abbrev pub shown : Run → (n : ℕ) → Command → List ℕ
-shown r n (command.Go m) = where_text r n
-shown r n (command.Step m) = where_text r n
-shown r n (command.Back m) = where_text r n
-shown r n command.Next = where_text r n
-shown r n command.Prev = where_text r n
 shown r n command.List = list_text (state_at r.rows n).held
 shown r n command.Pairs = pairs_text (state_at r.rows n).bonds
 shown r n (command.At a) = at_text (state_at r.rows n).held a
+shown r n _ = where_text r n
 
 -- docs/FORMATS.md, Commands: what commands print from a position on, in their order (5.1.2.3)
 abbrev pub shown_from : Run → (n : ℕ) → List Command → List ℕ
