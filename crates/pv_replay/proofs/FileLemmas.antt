@@ -8,15 +8,16 @@ use Rattle.pv_serve.specs.declared.words.Task.TheVariants as task
 use Rattle.pv_serve.specs.Comes.{source_limit}
 use Rattle.pv_serve.specs.Verdicts.{Verdict, Ended}
 use Rattle.pv_serve.specs.Judged.{Judged, script_limit}
-use Rattle.pv_serve.specs.Outside.{Sunk}
+use Rattle.pv_serve.specs.Outside.{AnyRose, Sunk}
 use Rattle.pv_serve.specs.Answer.{OfFiles, needed, script_held}
-use Rattle.pv_serve.specs.Causes.{AnyRose}
+use Rattle.pv_serve.specs.Replies.{Reply}
+use Rattle.pv_serve.specs.Replying.{WasTold, WasLost, HadNoRoom}
 use Rattle.pv_serve.specs.Serving.{AreRead}
 use Rattle.pv_serve.proofs.Limits.{more_decides}
 use Rattle.pv_replay.specs.Words.{RunJob, Write, Check}
-use Rattle.pv_replay.specs.Answers.{Answer, IsWritten, IsChecked, TooLong, Obeyed, Broken, SomeOf}
+use Rattle.pv_replay.specs.Answers.{IsWritten, IsChecked, TooLong, Obeyed, Broken}
 use Rattle.pv_replay.specs.Obeying.{IsRunJournal}
-use Rattle.pv_replay.specs.Answering.{IsRunAnswer, TextServed, IsServed, NoRoom, JobServed, WasTold, HadNoRoom}
+use Rattle.pv_replay.specs.Answering.{IsRunReply, TextServed, JobServed}
 
 pub if_some : (o : Option (List ℕ)) (P Q : List ℕ → Type 0) → ((x : List ℕ) → P x → Q x) → IfSome o P → IfSome o Q
 if_some None P Q f h = tt
@@ -37,7 +38,7 @@ all_judged all rest source text bound v first second is =
     (subst (λ (s : List ℕ). Judged s (take (script_limit + 1) rest) (task.Run bound true) None v) first
     (subst (λ (t : List ℕ). Judged source t (task.Run bound true) None v) second is))
 
-all_written : (all rest source text : List ℕ) (bound : ℕ) (a : Answer) → source ≡ take (source_limit + 1) all → text ≡ take (script_limit + 1) rest → IsWritten source text bound a
+all_written : (all rest source text : List ℕ) (bound : ℕ) (a : Reply) → source ≡ take (source_limit + 1) all → text ≡ take (script_limit + 1) rest → IsWritten source text bound a
     → IsWritten all rest bound a
 all_written all rest source text bound a first second is = record {
   verdict = is.verdict;
@@ -57,14 +58,16 @@ all_journal all rest source text bound bytes first second is = record {
 }
 
 pub write_served : (run : RunJob) (held : List ℕ → Option (List ℕ)) (source text : List ℕ) (faults_old faults_new : List ℕ → ℕ) (report : Sunk) (status : ℕ)
-    → AreRead run.file run.script held source text → TextServed (IsRunAnswer source text run.bound) report status → JobServed (Write run) held faults_old faults_new report status
-write_served run held source text fo fn report status read (IsServed a is own handed) =
-    WasTold a (of_files run.file run.script held (λ all rest. (source ≡ take (source_limit + 1) all) × (text ≡ take (script_limit + 1) rest))
-    (λ all rest. SomeOf (IsWritten all rest run.bound) (λ (b : Answer). a ≡ b))
-    (λ all rest r. record { answer = a; is = all_written all rest source text run.bound a r.0 r.1 is.written; holds = refl }) read)
-    (λ zero. of_files run.file run.script held (λ all rest. (source ≡ take (source_limit + 1) all) × (text ≡ take (script_limit + 1) rest))
-    (λ all rest. IsRunJournal all rest run.bound a.text) (λ all rest r. all_journal all rest source text run.bound a.text r.0 r.1 (is.journal zero)) read) own handed
-write_served run held source text fo fn report status read (NoRoom is none) = HadNoRoom is none
+    → AreRead run.file run.script held source text → TextServed (IsRunReply source text run.bound) report status → JobServed (Write run) held faults_old faults_new report status
+write_served run held source text fo fn report status read (WasTold a is own handed) =
+    WasTold a (
+      of_files run.file run.script held (λ all rest. (source ≡ take (source_limit + 1) all) × (text ≡ take (script_limit + 1) rest)) (λ all rest. IsWritten all rest run.bound a)
+          (λ all rest r. all_written all rest source text run.bound a r.0 r.1 is.written) read,
+      λ zero. of_files run.file run.script held (λ all rest. (source ≡ take (source_limit + 1) all) × (text ≡ take (script_limit + 1) rest))
+          (λ all rest. IsRunJournal all rest run.bound a.text) (λ all rest r. all_journal all rest source text run.bound a.text r.0 r.1 (is.journal zero)) read,
+    ) own handed
+write_served run held source text fo fn report status read (WasLost failed handed) = absurd failed
+write_served run held source text fo fn report status read (HadNoRoom is none) = HadNoRoom is none
 
 -- ---- a journal
 
@@ -72,13 +75,13 @@ write_served run held source text fo fn report status read (NoRoom is none) = Ha
 pub one_rose : (file : List ℕ) (old new : List ℕ → ℕ) → Rose (old file) (new file) → AnyRose (file ∷ []) old new
 one_rose file old new rose = (0, file, omega arith, refl, rose)
 
-longer_checked : (all bytes : List ℕ) (a : Answer) → 16777216 < length all → length bytes ≡ 16777217 → IsChecked bytes a → IsChecked all a
+longer_checked : (all bytes : List ℕ) (a : Reply) → 16777216 < length all → length bytes ≡ 16777217 → IsChecked bytes a → IsChecked all a
 longer_checked all bytes a long e (TooLong more is) = TooLong long is
 longer_checked all bytes a long e (Obeyed rows few journal is) = absurd (omega arith)
 longer_checked all bytes a long e (Broken line few bad is) = absurd (omega arith)
 
 -- a byte above the limit tells as much as all that follow
-all_checked : (all bytes : List ℕ) (a : Answer) → bytes ≡ take (16777216 + 1) all → IsChecked bytes a → IsChecked all a
+all_checked : (all bytes : List ℕ) (a : Reply) → bytes ≡ take (16777216 + 1) all → IsChecked bytes a → IsChecked all a
 all_checked all bytes a read is = elim (cases_lt 16777216 (length all)) [
   | inl long ↦ longer_checked all bytes a long (ap length read ∙ (omega (arith, length-take (16777216 + 1) all))) is
   | inr short ↦ subst (λ (b : List ℕ). IsChecked b a) (read ∙ take_all (16777216 + 1) all (omega arith)) is
@@ -86,7 +89,7 @@ all_checked all bytes a read is = elim (cases_lt 16777216 (length all)) [
 
 pub check_served : (file : List ℕ) (held : List ℕ → Option (List ℕ)) (bytes : List ℕ) (faults_old faults_new : List ℕ → ℕ) (report : Sunk) (status : ℕ)
     → IfSome (held file) (λ all. bytes ≡ take (16777216 + 1) all) → TextServed (IsChecked bytes) report status → JobServed (Check file) held faults_old faults_new report status
-check_served file held bytes fo fn report status read (IsServed a is own handed) =
-    WasTold a (if_some (held file) (λ all. bytes ≡ take (16777216 + 1) all) (λ all. SomeOf (IsChecked all) (λ (b : Answer). a ≡ b))
-    (λ all r. record { answer = a; is = all_checked all bytes a r is; holds = refl }) read) tt own handed
-check_served file held bytes fo fn report status read (NoRoom is none) = HadNoRoom is none
+check_served file held bytes fo fn report status read (WasTold a is own handed) =
+    WasTold a (if_some (held file) (λ all. bytes ≡ take (16777216 + 1) all) (λ all. IsChecked all a) (λ all r. all_checked all bytes a r is) read, tt) own handed
+check_served file held bytes fo fn report status read (WasLost failed handed) = absurd failed
+check_served file held bytes fo fn report status read (HadNoRoom is none) = HadNoRoom is none

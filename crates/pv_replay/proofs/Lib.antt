@@ -1,4 +1,3 @@
-pub mod JournalLemmas
 pub mod ObeyLemmas
 pub mod RunLemmas
 pub mod FileLemmas

@@ -1,6 +1,5 @@
 pub mod ReadWords
 pub mod Words
 pub mod Answers
-pub mod Causes
 pub mod Obeying
 pub mod Answering

@@ -2,8 +2,8 @@
 -- has the rules.
 use Rattle.std.specs.Prelude.{ℕ, List, [], ◌∷◌, length, Option, Some, None, if◌then◌else◌, nat_lt, codes, option_map, option_and_then, unwrap_or}
 use Rattle.std.specs.Str.{bytes_eq}
-use Rattle.pv_serve.specs.Words.{turns_of}
 use Rattle.pv_serve.specs.Jobs.{default_turns, files_named}
+use Rattle.pv_serve.specs.Words.{turns_of, once, file_name}
 
 -- docs/FORMATS.md, Journals (5.1.2.3): a run: of the source in this file, with the script of addresses in that file, if one is named, and with so many turns at most
 pub record RunJob : Type 0 where
@@ -32,21 +32,19 @@ pub record Options : Type 0 where
 abbrev pub no_options : Options
 no_options = record { script = None; turns = None }
 
--- docs/FORMATS.md, Journals (5.1.2.2.1p2): a script's file is named once at most, by at least one byte
-abbrev pub script_once : Option (List ℕ) → Options → List ℕ → Option Options
-script_once (Some other) o name = None
-script_once None o name = if nat_lt 0 (length name) then Some (record o { script = Some name }) else None
+-- docs/FORMATS.md, Journals (5.1.2.2.1p2): `--script` with this value, once at most
+abbrev pub with_script : Options → List ℕ → Option Options
+with_script o word = option_map (λ name. record o { script = Some name }) (once o.script (file_name word))
 
--- docs/FORMATS.md, Journals (5.1.2.2.1p2): a bound is given once at most
-abbrev pub turns_once : Option ℕ → Options → List ℕ → Option Options
-turns_once (Some other) o digits = None
-turns_once None o digits = option_map (λ n. record o { turns = Some n }) (turns_of digits)
+-- docs/FORMATS.md, Journals (5.1.2.2.1p2): `--turns` with this value, once at most
+abbrev pub with_turns : Options → List ℕ → Option Options
+with_turns o word = option_map (λ n. record o { turns = Some n }) (once o.turns (turns_of word))
 
 -- docs/FORMATS.md, Journals (5.1.2.2.1p2): one option more: its word and its value
 abbrev pub with_option : Options → (name value : List ℕ) → Option Options
 with_option o name value =
-    if bytes_eq name (codes "--script") then script_once o.script o value
-    else if bytes_eq name (codes "--turns") then turns_once o.turns o value else None
+    if bytes_eq name (codes "--script") then with_script o value
+    else if bytes_eq name (codes "--turns") then with_turns o value else None
 
 -- docs/FORMATS.md, Journals (5.1.2.2.1p2): options in any order, each a word and its value
 abbrev pub options : Options → List (List ℕ) → Option Options
@@ -67,7 +65,7 @@ write_of file rest = option_map (λ o. Write (run_by file o)) (options no_option
 -- docs/FORMATS.md, Journals (5.1.2.2.1p2): `check FILE` has no options
 abbrev pub check_of : (file : List ℕ) → List (List ℕ) → Option Job
 check_of file [] = Some (Check file)
-check_of file (word ∷ words) = None
+check_of file _ = None
 
 -- docs/FORMATS.md, Journals (5.1.2.2.1p2): what a mode asks of a file, with these words behind it
 abbrev pub asked : (mode file : List ℕ) → List (List ℕ) → Option Job
@@ -78,6 +76,5 @@ asked mode file rest =
 -- 5.1.2.2.1p2: the job that the words ask for, if they do: `write FILE` with `--script F` and `--turns N` or without, or `check FILE`, where FILE and F have
 -- a byte; anything else is no job (docs/FORMATS.md)
 abbrev pub job : List (List ℕ) → Option Job
-job [] = None
-job (mode ∷ []) = None
 job (mode ∷ file ∷ rest) = if nat_lt 0 (length file) then asked mode file rest else None
+job _ = None

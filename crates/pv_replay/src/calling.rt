@@ -6,19 +6,18 @@ ghost use Rattle.pv_exec.specs.Outlets.{hall_slots};
 ghost use Rattle.pv_serve.specs.ReadWords.{IsBound};
 ghost use Rattle.pv_serve.specs.Words.{texts};
 ghost use Rattle.pv_serve.specs.Outside.{sunk};
+ghost use Rattle.pv_serve.specs.Replies.{ReplyCall, Replied, SomeReply, IsReplied};
 ghost use Rattle.pv_replay.specs.Words.{job, Write, Check};
 ghost use Rattle.pv_replay.specs.ReadWords.{run_job};
-ghost use Rattle.pv_replay.specs.Answers.{SomeAnswer, IsChecked};
-ghost use Rattle.pv_replay.specs.Causes.{Call, Answered, IsAnswer};
+ghost use Rattle.pv_replay.specs.Answers.{IsChecked, service};
 ghost use Rattle.pv_replay.specs.Obeying.{WritesJournals};
-ghost use Rattle.pv_replay.specs.Answering.{JobServed, TextServed, IsRunAnswer, IsHanded, IsOwn, read_fault, reply_view};
+ghost use Rattle.pv_replay.specs.Answering.{JobServed, TextServed, IsRunReply};
 
 use crate::checking::{JOURNAL_LIMIT, checked};
-use crate::reply::Reply;
 use crate::words::{Asked, RunAsked, job_asked};
 use crate::writing::journal_of;
 use pv_script::{CalmFiles, CalmSink, Files, ReadError, Sink, read_all};
-use pv_serve::{JobText, NO_JOB, NO_MEMORY, READ_FAULT, read_job, tell};
+use pv_serve::{JobText, NO_JOB, NO_MEMORY, READ_FAULT, read_job, tell, tell_reply};
 use pv_watch::{Hall, Watch};
 use std::alloc::Global;
 
@@ -32,17 +31,7 @@ use std::alloc::Global;
 ///
 /// The hall has one watcher, which keeps a journal, has seen nothing, and wants 65536 events; it is told of a run, if there is one.
 ///
-/// | status | when |
-/// |---|---|
-/// | 0 | a journal is written, however its run ended; or the file holds a journal that obeys |
-/// | 8 | the source is refused |
-/// | 9 | the script is refused |
-/// | 10 | the words are no job |
-/// | 11 | a file that the words name could not be read |
-/// | 12 | the report could not be written |
-/// | 13 | memory ran out, which may come wherever the words are a job |
-/// | 17 | the file holds no journal that obeys: the first line that is wrong is told |
-/// | 18 | the file that is to be checked has more than 16777216 bytes |
+/// What each status says is told in docs/FORMATS.md, Writing and checking journals.
 pub fn replay<F: Files, R: Sink>(
     alloc: Global,
     words: &[String],
@@ -51,14 +40,14 @@ pub fn replay<F: Files, R: Sink>(
     hall: &mut Hall,
 ) -> u8
     requires hall { hall_slots hall.old its_kind its_wants seen ≡ Present 4 65536 [] ∷ [] }
-    ensures answered { let call : Call = record {
+    ensures answered { let call : ReplyCall = record {
       words = texts words.now;
       held = F.held files.old;
       faults_old = F.faults files.old;
       faults_new = F.faults files.new;
       report = sunk R.written R.faults report.old report.new;
       status = result;
-    } in Answered call }
+    } in Replied service call }
 
     // What `write` writes of a run `check` accepts.
     ensures accepted { WritesJournals (job (texts words.now)) (F.held files.old) (sunk R.written R.faults report.old report.new) result }
@@ -90,7 +79,7 @@ fn write_journal<F: Files, R: Sink>(
 {
     match read_job(alloc, files, run.file, run.script) {
         Err(ReadError::NoMemory) => NO_MEMORY,
-        Err(ReadError::Fault) => tell_fault(report),
+        Err(ReadError::Fault) => tell(report, b"fault read\n", READ_FAULT),
         Ok(text) => write_text(alloc, &text, run.turns, report, hall),
     }
 }
@@ -105,11 +94,11 @@ fn write_text<R: Sink>(
 ) -> u8
     requires bound { IsBound turns }
     requires hall { hall_slots hall.old its_kind its_wants seen ≡ Present 4 65536 [] ∷ [] }
-    ensures { TextServed (IsRunAnswer text.now.source.items text.now.script.items turns)
+    ensures { TextServed (IsRunReply text.now.source.items text.now.script.items turns)
         (sunk R.written R.faults report.old report.new) result }
 {
     match journal_of(alloc, text, turns, hall) {
-        Ok(reply) => tell_reply(&reply, report),
+        Ok(reply) => tell_reply(report, &reply),
         Err(_) => NO_MEMORY,
     }
 }
@@ -122,7 +111,7 @@ fn check_journal<F: Files, R: Sink>(alloc: Global, name: &str, files: &mut F, re
 {
     match read_all(alloc, files, name, JOURNAL_LIMIT) {
         Err(ReadError::NoMemory) => NO_MEMORY,
-        Err(ReadError::Fault) => tell_fault(report),
+        Err(ReadError::Fault) => tell(report, b"fault read\n", READ_FAULT),
         Ok(bytes) => check_text(alloc, bytes.as_slice(), report),
     }
 }
@@ -132,24 +121,9 @@ fn check_text<R: Sink>(alloc: Global, bytes: &[u8], report: &mut R) -> u8
     ensures { TextServed (IsChecked bytes.now) (sunk R.written R.faults report.old report.new) result }
 {
     match checked(alloc, bytes) {
-        Ok(reply) => tell_reply(&reply, report),
+        Ok(reply) => tell_reply(report, &reply),
         Err(_) => NO_MEMORY,
     }
-}
-
-// Writes what is to be told, and answers its status.
-fn tell_reply<R: Sink>(reply: &Reply, report: &mut R) -> u8
-    requires { IsOwn reply.now.status }
-    ensures { IsHanded (sunk R.written R.faults report.old report.new) result (reply_view reply.now) }
-{
-    tell(report, reply.text.as_slice(), reply.status)
-}
-
-// Tells that a file could not be read.
-fn tell_fault<R: Sink>(report: &mut R) -> u8
-    ensures { IsHanded (sunk R.written R.faults report.old report.new) result read_fault }
-{
-    tell(report, b"fault read\n", READ_FAULT)
 }
 
 /// [`replay`] over files and a sink that never fail: the answer with all its bytes, or want of memory, for any words and files.
@@ -161,14 +135,14 @@ pub fn replay_calmly(
     hall: &mut Hall,
 ) -> u8
     requires hall { hall_slots hall.old its_kind its_wants seen ≡ Present 4 65536 [] ∷ [] }
-    ensures { let call : Call = record {
+    ensures { let call : ReplyCall = record {
       words = texts words.now;
       held = λ n. Some (calm_held files.old n);
       faults_old = λ _. 0;
       faults_new = λ _. 0;
       report = sunk calm_written (λ _. 0) report.old report.new;
       status = result;
-    } in (result ≡ 13) ⊎ SomeAnswer (job call.words) call.held (IsAnswer call) }
+    } in (result ≡ 13) ⊎ SomeReply service call (IsReplied call) }
 {
     replay(alloc, words, files, report, hall)
 }

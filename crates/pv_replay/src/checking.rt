@@ -1,13 +1,14 @@
 //! The check of a journal.
 ghost use Rattle.std.specs.Prelude.{◌≡◌, ℕ, List, IfOk};
+ghost use Rattle.pv_serve.specs.Replies as replies;
+ghost use Rattle.pv_serve.specs.Replying.{reply_view, IsOwn};
 ghost use Rattle.pv_replay.specs.Answers as specified;
-ghost use Rattle.pv_replay.specs.Answers.{Answer, IsChecked};
-ghost use Rattle.pv_replay.specs.Answering.{reply_view, IsOwn};
+ghost use Rattle.pv_replay.specs.Answers.{IsChecked};
 
 use crate::error::NoMemory;
-use crate::reply::Reply;
 use pv_journal::{JournalError, check};
 use pv_script::Names;
+use pv_serve::Reply;
 use std::alloc::Global;
 
 /// The most bytes that a journal may have.
@@ -68,7 +69,7 @@ fn rejected(alloc: Global, line: u64) -> Result<Reply, NoMemory>
 
 /// A law: a text gets one answer at most. So each status comes exactly where its own case of the definition holds.
 pub fn one_answer()
-    ensures { (bytes : List ℕ) (a b : Answer) → IsChecked bytes a → IsChecked bytes b → a ≡ b }
+    ensures { (bytes : List ℕ) (a b : replies.Reply) → IsChecked bytes a → IsChecked bytes b → a ≡ b }
 {
     pv_journal::one_verdict();
 }

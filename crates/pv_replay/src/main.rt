@@ -6,8 +6,6 @@
 mod calling;
 mod checking;
 mod error;
-mod nowhere;
-mod reply;
 mod words;
 mod writing;
 

@@ -132,8 +132,7 @@ fn with_option<'a>(given: Options<'a>, name: &str, value: &'a str) -> Option<Opt
 // The script's file, which is named at most once.
 fn with_script<'a>(given: Options<'a>, name: &'a str) -> Option<Options<'a>>
     requires { AreBounded given.turns }
-    ensures words { AreOptions result
-        (specified.script_once (read_words.options_read given.entry).script (read_words.options_read given.entry) name.now) }
+    ensures words { AreOptions result (specified.with_script (read_words.options_read given.entry) name.now) }
     ensures turns { IfSome result (λ o. AreBounded o.turns) }
 {
     match given.script {
@@ -153,8 +152,7 @@ fn with_script<'a>(given: Options<'a>, name: &'a str) -> Option<Options<'a>>
 
 // The bound, which is given at most once.
 fn with_turns<'a>(given: Options<'a>, text: &str) -> Option<Options<'a>>
-    ensures words { AreOptions result
-        (specified.turns_once (read_words.options_read given.entry).turns (read_words.options_read given.entry) text.now) }
+    ensures words { AreOptions result (specified.with_turns (read_words.options_read given.entry) text.now) }
     ensures turns { IfSome result (λ o. AreBounded o.turns) }
 {
     match given.turns {

@@ -3,13 +3,13 @@ ghost use Rattle.std.specs.Prelude.{◌≡◌, ◌∷◌, [], IfOk};
 ghost use Rattle.pv_watch.specs.Slots.{Present};
 ghost use Rattle.pv_exec.specs.Outlets.{hall_slots};
 ghost use Rattle.pv_serve.specs.ReadWords.{IsBound};
-ghost use Rattle.pv_serve.specs.Settling.{line_of, status_by};
-ghost use Rattle.pv_replay.specs.Answering.{reply_view, IsOwn, IsRunAnswer};
+ghost use Rattle.pv_serve.specs.Judging.{Shown, verdict_of};
+ghost use Rattle.pv_serve.specs.Report.{report_line, status_of};
+ghost use Rattle.pv_serve.specs.Replying.{reply_view, IsOwn};
+ghost use Rattle.pv_replay.specs.Answering.{IsRunReply};
 
 use crate::error::NoMemory;
-use crate::nowhere::Nowhere;
-use crate::reply::Reply;
-use pv_serve::{JobText, Judged, judge, line, status};
+use pv_serve::{JobText, Judgement, Nowhere, Reply, judge, line, status};
 use pv_watch::{Hall, Watch};
 use std::alloc::Global;
 
@@ -26,33 +26,33 @@ pub fn journal_of(
 ) -> Result<Reply, NoMemory>
     requires bound { IsBound turns }
     requires hall { hall_slots hall.old its_kind its_wants seen ≡ Present 4 65536 [] ∷ [] }
-    ensures written { IfOk result (λ a. IsRunAnswer text.now.source.items text.now.script.items turns (reply_view a)) }
+    ensures written { IfOk result (λ a. IsRunReply text.now.source.items text.now.script.items turns (reply_view a)) }
     ensures own { IfOk result (λ a. IsOwn a.status) }
 {
     let source = text.source.as_slice();
     let script = text.script.as_slice();
     let mut output = Nowhere;
-    let Ok(judged) = judge(alloc, source, script, turns, true, None, &mut output, hall) else {
+    let Ok(judgement) = judge(alloc, source, script, turns, true, None, &mut output, hall) else {
         return Err(NoMemory);
     };
-    match &judged {
-        Judged::Ran { names, .. } => Ok(Reply {
+    match &judgement {
+        Judgement::Ran { names, .. } => Ok(Reply {
             status: WRITTEN,
             text: hall.texts(names)?,
         }),
-        Judged::Source(_) => refusal(alloc, &judged, turns),
-        Judged::Script(_) => refusal(alloc, &judged, turns),
+        _ => refusal(alloc, &judgement),
     }
 }
 
-// The line that tells what was judged, and its status. The only error is want of memory.
-fn refusal(alloc: Global, judged: &Judged, turns: u64) -> Result<Reply, NoMemory>
-    ensures reply { IfOk result (λ a. reply_view a ≡ record { status = status_by judged.now; text = line_of judged.now turns }) }
+// The line that tells a judgement, and its status. The only error is want of memory.
+fn refusal(alloc: Global, judgement: &Judgement) -> Result<Reply, NoMemory>
+    ensures reply { (shown : Shown) → IfOk result (λ a. reply_view a
+        ≡ record { status = status_of (verdict_of judgement.now shown); text = report_line (verdict_of judgement.now shown) }) }
     ensures own { IfOk result (λ a. IsOwn a.status) }
 {
-    let text = line(alloc, judged, turns)?;
+    let text = line(alloc, judgement)?;
     Ok(Reply {
-        status: status(judged),
+        status: status(judgement),
         text,
     })
 }

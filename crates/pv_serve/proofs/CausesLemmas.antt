@@ -1,33 +1,35 @@
 -- The rows of the table, from what the parts of the call come to.
 use Rattle.std.proofs.Common.{◌≡◌, ◌≢◌, ◌⊎◌, ℕ, ◌+◌, ◌<◌, ◌≤◌, Bool, List, [], ◌++◌, take, refl, sym, ap, ◌∙◌, subst, inl, inr, arith}
-use Rattle.std.specs.Prelude.{Option, Some, None, IfSome, IsSome, IsNone, Result, Ok, Err, IfOk, Vec}
+use Rattle.std.specs.Prelude.{Option, Some, None, IfSome, IsSomeAnd, Result, Ok, Err, IfOk, Vec}
 use Rattle.std.specs.declared.alloc.Global.{Global}
 use Rattle.std.specs.List.{filter}
-use Rattle.std.proofs.lemmas.Bool.{cases_eq}
 use Rattle.pv_watch.specs.Slots.{Slot, is_kept}
 use Rattle.pv_gen.specs.Source.{source_text}
 use Rattle.pv_eval.specs.States.{State}
 use Rattle.pv_exec.specs.declared.program.RunError.TheVariants as error
 use Rattle.pv_exec.specs.declared.program.Ran.{Ran}
 use Rattle.pv_serve.specs.declared.words.Task.{Task}
-use Rattle.pv_serve.specs.declared.tasks.Judgement.{Judgement}
-use Rattle.pv_serve.specs.declared.tasks.Judgement.TheVariants as judgement
+use Rattle.pv_serve.specs.declared.judging.Judgement.{Judgement}
+use Rattle.pv_serve.specs.declared.judging.Judgement.TheVariants as judgement
 use Rattle.pv_serve.specs.declared.error.NoMemory.{NoMemory}
 use Rattle.pv_serve.specs.Verdicts.{Verdict, Course, course_of, BeganOutput}
-use Rattle.pv_serve.specs.Jobs.{Job, FileJob, Files, Generated, task_of, sides_of, watched_of, kinds_of}
+use Rattle.pv_serve.specs.Jobs.{Job, FileJob, Files, Generated, files_of, task_of, sides_of, watched_of, kinds_of}
 use Rattle.pv_serve.specs.Words.{job, generated, file_job, either}
 use Rattle.pv_serve.specs.Comes.{source_limit}
 use Rattle.pv_serve.specs.Judged.{Judged, SomeRun, script_limit}
-use Rattle.pv_serve.specs.Outside.{Sunk, SinkRose, Wrote, WrotePrefix, Halls}
+use Rattle.pv_serve.specs.Outside.{AnyRose, Sunk, SinkRose, Wrote, WrotePrefix, Halls}
+use Rattle.pv_serve.specs.Owed.{Table}
+use Rattle.pv_serve.specs.Replying.{IsHanded}
 use Rattle.pv_serve.specs.Judging.{Shown, verdict_of, IsJudged, IsCutOff}
-use Rattle.pv_serve.specs.Report.{fault_line, report_line, status_of}
+use Rattle.pv_serve.specs.Report.{fault_line, words_line, report_line, status_of}
 use Rattle.pv_serve.specs.Watching.{AreTold, IsReport, kept_by}
-use Rattle.pv_serve.specs.Answer.{Answer, answer_of, HasReport, OfSource, needed, script_held, SomeVerdict, SomeAnswer, SomeEnd}
-use Rattle.pv_serve.specs.Causes.{Call, Table, IsAnswer, JobRose, WroteReport, WroteOutput, Complete, Served, kept}
+use Rattle.pv_serve.specs.Answer.{Answer, answer_of, no_job, read_fault, HasReport, OfSource, needed, script_held, SomeVerdict, SomeAnswer, SomeEnd}
+use Rattle.pv_serve.specs.Causes.{Call, IsAnswer, WroteReport, WroteOutput, facts_of, Served, kept}
 use Rattle.pv_serve.specs.Serving.{kept_halls, IsSource, IsReportOn, HasStory, SomeReport, Reported, IsTold, Answered, FilesServed, WereRead, WereLost, HadNoRoom}
 use Rattle.pv_serve.proofs.LateLemmas.{right_of}
 use Rattle.pv_serve.proofs.Limits.{more_decides, more_runs}
 use Rattle.pv_serve.proofs.RunLemmas.{nothing, printed_part}
+use Rattle.pv_serve.proofs.OwedLemmas.{is_some, owed_by, owed_by_nothing, owed_by_fault, owed_by_words, none_failed}
 
 -- ---- the answer to a source, from its judgement and the report on that
 
@@ -97,16 +99,15 @@ own_status status n above below (inl few) e = omega arith
 own_status status n above below (inr last) e = omega arith
 
 pub reported_by : (j : Judgement) (new : List Slot) (report : Sunk) (text : List ℕ) (status result : ℕ) → IsReportOn j new text
-    → ((shown : Shown) → status ≡ status_of (verdict_of j shown)) → (status < 10) ⊎ (status ≡ 14)
-    → (result ≢ 12 → (result ≡ status) × Wrote report text) → (result ≡ 12 → SinkRose report × WrotePrefix report text) → Reported j new report result
-reported_by j new report text status result line is own told lost = record {
-  no_read_fault = λ h. own_status status 11 (omega arith) (omega arith) own (sym (told (λ k. absurd cc)).0 ∙ h);
-  no_words = λ h. own_status status 10 (omega arith) (omega arith) own (sym (told (λ k. absurd cc)).0 ∙ h);
-  write_fault = λ h. (lost h).0;
-  begun = λ h. record { text = text; is = line; holds = (lost h).1 };
-  no_memory = λ h. absurd (own_status status 13 (omega arith) (omega arith) own (sym (told (λ k. absurd cc)).0 ∙ h));
-  status_is = λ shown not12 not13. (told not12).0 ∙ is shown;
-  whole = λ not12 not13. record { text = text; is = line; holds = (told not12).1 };
+    → ((shown : Shown) → status ≡ status_of (verdict_of j shown)) → (status < 10) ⊎ (status ≡ 14) → IsHanded report result (record { status = status; text = text }) → Reported j new report result
+reported_by j new report text status result line is own handed = record {
+  no_read_fault = λ h. own_status status 11 (omega arith) (omega arith) own (sym (handed.told (λ k. absurd cc)).0 ∙ h);
+  no_words = λ h. own_status status 10 (omega arith) (omega arith) own (sym (handed.told (λ k. absurd cc)).0 ∙ h);
+  write_fault = λ h. (handed.fault h).0;
+  begun = λ h. record { text = text; is = line; holds = (handed.fault h).1 };
+  no_memory = λ h. absurd (own_status status 13 (omega arith) (omega arith) own (sym (handed.told (λ k. absurd cc)).0 ∙ h));
+  status_is = λ shown not12 not13. (handed.told not12).0 ∙ is shown;
+  whole = λ not12 not13. record { text = text; is = line; holds = (handed.told not12).1 };
 }
 
 pub answered_no_memory : (source script : List ℕ) (t : Task) (sides : Option (List Bool)) (out report : Sunk) (hall : Halls) → IsCutOff source script t sides out hall error.NoMemory
@@ -190,101 +191,98 @@ some_end words held j source script P e is v = subst (λ (o : Option Job). SomeE
 
 -- ---- the table
 
-is_some : (o : Option Job) (j : Job) → o ≡ Some j → IsSome o
-is_some None j e = absurd (cc)
-is_some (Some i) j e = refl
-
-is_none : (o : Option Job) (j : Job) → o ≡ Some j → IsNone o → ⊥
-is_none None j e n = cc
-is_none (Some i) j e n = cc
-
 -- the hall once those whom the job keeps are kept
 abbrev halls_of : Call → Halls
 halls_of c = record { old = kept c; new = c.hall.new }
 
+-- a call that was answered
 table_of_answer : (c : Call) (j : Job) (source script : List ℕ) → job c.words ≡ Some j → IsSource j c.held source script
-    → Answered source script (task_of j) (sides_of j) c.out c.report (halls_of c) c.status → Table c
+    → Answered source script (task_of j) (sides_of j) c.out c.report (halls_of c) c.status → Table (facts_of c) c.status
 table_of_answer c j source script e is r = record {
   read_fault = λ h. absurd (r.no_read_fault h);
-  write_fault = λ h. record {
-    cause = r.write_fault h;
-    wrote = elim (r.wrote h) [
+  write_fault = λ h. (
+    r.write_fault h,
+    inl (elim (r.wrote h) [
       | inl v ↦ inl (some_asked c.words c.held j source script (WroteReport c.out c.report (kept c) c.hall.new) (WroteReport c.out c.report (kept c) c.hall.new) (λ a w. w) e is v)
-      | inr p ↦ inr (inl (some_end c.words c.held j source script (WroteOutput c.out c.report (kept c) c.hall.new) e is p))
-    ];
-  };
-  no_memory = λ h. record {
-    is_job = is_some (job c.words) j e;
-    out = elim (r.printed h) [ inl none ↦ inl none | inr p ↦ inr (some_end c.words c.held j source script (BeganOutput c.out) e is p) ];
-    report = r.no_memory h;
-  };
+      | inr p ↦ inr (some_end c.words c.held j source script (WroteOutput c.out c.report (kept c) c.hall.new) e is p)
+    ]),
+  );
+  no_memory = λ h. (
+    is_some (job c.words) j e,
+    record {
+      out = elim (r.printed h) [ inl none ↦ inl none | inr p ↦ inr (some_end c.words c.held j source script (BeganOutput c.out) e is p) ];
+      report = r.no_memory h;
+    },
+  );
   every_other = λ not11 not12 not13. some_asked c.words c.held j source script (IsTold c.out c.report (halls_of c) c.status) (IsAnswer c)
       (λ a w. record { status = w.status_is; out = w.output; report = w.whole }) e is (r.told not12 not13);
 }
 
-complete_of : (c : Call) → Table c → (c.status ≡ 11) ⊎ (c.status ≢ 11) → (c.status ≡ 12) ⊎ (c.status ≢ 12) → (c.status ≡ 13) ⊎ (c.status ≢ 13) → Complete c
-complete_of c t (inl is11) b d files out report = absurd (files (t.read_fault is11).cause)
-complete_of c t (inr not11) (inl is12) d files out report = absurd (elim (t.write_fault is12).cause [ inl rose ↦ out rose | inr rose ↦ report rose ])
-complete_of c t (inr not11) (inr not12) (inl is13) files out report = inl is13
-complete_of c t (inr not11) (inr not12) (inr not13) files out report = inr (t.every_other not11 not12 not13)
-
--- completeness follows from the table
-pub complete : (c : Call) → Table c → Complete c
-complete c t = complete_of c t (cases_eq c.status 11) (cases_eq c.status 12) (cases_eq c.status 13)
-
--- a call that was answered
 served_by_answer : (c : Call) (j : Job) (source script : List ℕ) → job c.words ≡ Some j → IsSource j c.held source script
     → Answered source script (task_of j) (sides_of j) c.out c.report (halls_of c) c.status → Served c
-served_by_answer c j source script e is r =
-    let t = table_of_answer c j source script e is r in
-    record {
-      table = t;
-      words = record { only = λ h. absurd (r.no_words h); no_job = λ n. absurd (is_none (job c.words) j e n) };
-      complete = complete c t;
-    }
+served_by_answer c j source script e is r = owed_by (facts_of c) j c.status e (table_of_answer c j source script e is r) (λ h. r.no_words h)
 
-two_apart : (n a b : ℕ) → a < b → n ≡ a → n ≡ b → ⊥
-two_apart n a b lt p q = omega arith
+-- a report that is one line, of a call that leaves those who watch as they were
+line_report : (kept new : List Slot) (a : Answer) (P : List ℕ → Type 0) → a.course ≡ None → new ≡ kept → P a.line → HasReport kept new a P
+line_report kept new a P none stays holds = record {
+  told = subst (λ (o : Option Course). AreTold o kept new) (sym none) stays;
+  text = a.line;
+  is = subst (λ (o : Option Course). IsReport o new a.line a.line) (sym none) refl;
+  holds = holds;
+}
 
 -- a call whose files could not be read
-fault_table : (c : Call) (j : Job) → job c.words ≡ Some j → JobRose (Some j) c.faults_old c.faults_new → c.out.new ≡ c.out.old → c.hall.new ≡ kept c
-    → (c.status ≢ 12 → (c.status ≡ 11) × Wrote c.report fault_line) → (c.status ≡ 12 → SinkRose c.report × WrotePrefix c.report fault_line) → Table c
-fault_table c j e rose same stays told lost =
-    let cause = subst (λ (o : Option Job). JobRose o c.faults_old c.faults_new) (sym e) rose in
-    record {
-      read_fault = λ h. record { cause = cause; out = nothing c.out same; report = (told (λ k. two_apart c.status 11 12 (omega arith) h k)).1; hall = stays };
-      write_fault = λ h. record { cause = inr (lost h).0; wrote = inr (inr (record { cause = cause; out = nothing c.out same; report = (lost h).1; hall = stays })) };
-      no_memory = λ h. absurd (two_apart c.status 11 13 (omega arith) (told (λ k. two_apart c.status 12 13 (omega arith) k h)).0 h);
-      every_other = λ not11 not12 not13. absurd (not11 (told not12).0);
-    }
-
-served_by_fault : (c : Call) (j : Job) → job c.words ≡ Some j → JobRose (Some j) c.faults_old c.faults_new → c.out.new ≡ c.out.old → c.hall.new ≡ kept c
-    → (c.status ≢ 12 → (c.status ≡ 11) × Wrote c.report fault_line) → (c.status ≡ 12 → SinkRose c.report × WrotePrefix c.report fault_line) → Served c
-served_by_fault c j e rose same stays told lost =
-    let t = fault_table c j e rose same stays told lost in
-    record {
-      table = t;
-      words = record {
-        only = λ h. absurd (two_apart c.status 10 11 (omega arith) h (told (λ k. two_apart c.status 10 12 (omega arith) h k)).0);
-        no_job = λ n. absurd (is_none (job c.words) j e n);
-      };
-      complete = complete c t;
-    }
+served_by_fault : (c : Call) (j : Job) → job c.words ≡ Some j → AnyRose (files_of j) c.faults_old c.faults_new → c.out.new ≡ c.out.old → c.hall.new ≡ kept c
+    → IsHanded c.report c.status (record { status = 11; text = fault_line }) → Served c
+served_by_fault c j e rose same stays handed =
+    owed_by_fault (facts_of c) j c.status e (subst (λ (o : Option Job). IsSomeAnd o (λ i. AnyRose (files_of i) c.faults_old c.faults_new)) (sym e) rose)
+    (λ not12. (
+      (handed.told not12).0,
+      record {
+        status = (handed.told not12).0;
+        out = nothing c.out same;
+        report = line_report (kept c) c.hall.new read_fault (Wrote c.report) refl stays (handed.told not12).1;
+      },
+    ))
+    (λ h. (
+      inr (handed.fault h).0,
+      record {
+        whole = nothing c.out same;
+        begun = line_report (kept c) c.hall.new read_fault (WrotePrefix c.report) refl stays (handed.fault h).1;
+      },
+    ))
 
 -- a call for whose files there was no memory
 pub served_by_nothing : (c : Call) (j : Job) → job c.words ≡ Some j → c.status ≡ 13 → c.out.new ≡ c.out.old → c.report.new ≡ c.report.old → Served c
-served_by_nothing c j e is same kept =
-    let t : Table c = record {
-      read_fault = λ h. absurd (two_apart c.status 11 13 (omega arith) h is);
-      write_fault = λ h. absurd (two_apart c.status 12 13 (omega arith) h is);
-      no_memory = λ h. record { is_job = is_some (job c.words) j e; out = inl (nothing c.out same); report = nothing c.report kept };
-      every_other = λ not11 not12 not13. absurd (not13 is);
-    } in
-    record {
-      table = t;
-      words = record { only = λ h. absurd (two_apart c.status 10 13 (omega arith) h is); no_job = λ n. absurd (is_none (job c.words) j e n) };
-      complete = complete c t;
-    }
+served_by_nothing c j e is same kept = owed_by_nothing (facts_of c) j c.status e is (record { out = inl (nothing c.out same); report = nothing c.report kept })
+
+-- words that are no job
+pub served_by_words : (c : Call) → job c.words ≡ None → c.out.new ≡ c.out.old → c.hall.new ≡ c.hall.old → IsHanded c.report c.status (record { status = 10; text = words_line }) → Served c
+served_by_words c e same stays handed =
+    let left : c.hall.new ≡ kept c = stays ∙ sym (ap (λ (o : Option Job). kept_by o c.hall.old) e) in
+    owed_by_words (facts_of c) c.status e
+    (λ not12. (
+      (handed.told not12).0,
+      subst (λ (o : Option Job). SomeAnswer o c.held (IsAnswer c)) (sym e) (record {
+        status = (handed.told not12).0;
+        out = nothing c.out same;
+        report = line_report (kept c) c.hall.new no_job (Wrote c.report) refl left (handed.told not12).1;
+      }),
+    ))
+    (λ h. (
+      inr (handed.fault h).0,
+      (handed.fault h).0,
+      inl (subst (λ (o : Option Job). SomeAnswer o c.held (WroteReport c.out c.report (kept c) c.hall.new)) (sym e) (record {
+        whole = nothing c.out same;
+        begun = line_report (kept c) c.hall.new no_job (WrotePrefix c.report) refl left (handed.fault h).1;
+      })),
+    ))
+
+-- devices that never fail
+pub served_calmly : (c : Call) → ((names : List (List ℕ)) → AnyRose names c.faults_old c.faults_new → ⊥) → (SinkRose c.out → ⊥) → (SinkRose c.report → ⊥) → Served c
+    → (c.status ≡ 13) ⊎ SomeAnswer (job c.words) c.held (IsAnswer c)
+served_calmly c reads out report served =
+    served.complete (none_failed (job c.words) (λ j. AnyRose (files_of j) c.faults_old c.faults_new) (λ j. reads (files_of j))) (λ failed. elim failed [ inl rose ↦ out rose | inr rose ↦ report rose ])
 
 -- ---- those who are kept
 
@@ -297,7 +295,7 @@ pub served_by_files : (c : Call) (j : FileJob) (mid : List Slot) → job c.words
 served_by_files c j mid e is (WereRead source script given answered) =
     served_by_answer c (Files j) source script e given
     (subst (λ (k : List Slot). Answered source script j.task j.sides c.out c.report (record { old = k; new = c.hall.new }) c.status) (kept_is c (Files j) mid e is) answered)
-served_by_files c j mid e is (WereLost rose same stays told lost) = served_by_fault c (Files j) e rose same (stays ∙ kept_is c (Files j) mid e is) told lost
+served_by_files c j mid e is (WereLost rose same stays handed) = served_by_fault c (Files j) e rose same (stays ∙ kept_is c (Files j) mid e is) handed
 served_by_files c j mid e is (HadNoRoom status same kept) = served_by_nothing c (Files j) e status same kept
 
 -- a call that asks for a generated source
@@ -308,11 +306,12 @@ served_by_number c n e answered =
     (subst (λ (k : List Slot). Answered (source_text n) [] (task_of (Generated n)) None c.out c.report (record { old = k; new = c.hall.new }) c.status)
     (kept_is c (Generated n) (kept_by (Some (Generated n)) c.hall.old) e refl) answered)
 
--- words that are no job
+-- which job the words are
 pub job_files : (words : List (List ℕ)) (j : FileJob) → generated words ≡ None → file_job words ≡ Some j → job words ≡ Some (Files j)
 job_files words j none e = ap (λ (o : Option ℕ). either o (file_job words)) none ∙ ap (λ (o : Option FileJob). either None o) e
 
 pub job_number : (words : List (List ℕ)) (n : ℕ) → generated words ≡ Some n → job words ≡ Some (Generated n)
 job_number words n e = ap (λ (o : Option ℕ). either o (file_job words)) e
 
--- ---- words that are no job
+pub job_none : (words : List (List ℕ)) → generated words ≡ None → file_job words ≡ None → job words ≡ None
+job_none words none e = ap (λ (o : Option ℕ). either o (file_job words)) none ∙ ap (λ (o : Option FileJob). either None o) e

@@ -10,16 +10,18 @@ use Rattle.pv_tree.specs.Syntax.{DeclarationTree}
 use Rattle.pv_tree.specs.Units.{SpellUnit, IsWhole}
 use Rattle.pv_stmt.specs.declared.units.SynError.{SynError}
 use Rattle.pv_stmt.specs.declared.units.SynError.TheVariants as syn
+use Rattle.pv_typed.specs.TypedUnits.{WholeUnit}
 use Rattle.pv_typed.specs.Tables.{Stored}
+use Rattle.pv_unit.specs.Units as checked
 use Rattle.pv_serve.proofs.UnitLemmas.{either_unit, one_unit}
 use Rattle.pv_serve.proofs.TypedLemmas.{unit_comes, unit_comes_to_one}
 use Rattle.pv_lex.proofs.Exactly.{either_error, one_table, one_error, no_error}
 use Rattle.std.specs.Prelude.{Result, Ok, Err, IfOk}
 use Rattle.pv_serve.specs.declared.checking.Refused.{Refused as Answered}
 use Rattle.pv_serve.specs.Verdicts.{Size, Byte, Token, Profile, Syntax, NoMain}
-use Rattle.pv_serve.specs.Readings.{Reading, Bad}
+use Rattle.pv_serve.specs.Readings.{Reading, Program, Bad}
 use Rattle.pv_serve.specs.Loading.{reading_of, lexical_refusal, IsWordOf}
-use Rattle.pv_serve.specs.Comes.{UnitComes, TokensCome, NoUnit, Spelled, Comes, BadByte, BadToken, LeftOut, Lexed, Reads, Long, Short, source_limit}
+use Rattle.pv_serve.specs.Comes.{UnitComes, Breaks, Lacks, Mainless, Typed, TokensCome, NoUnit, Spelled, Comes, BadByte, BadToken, LeftOut, Lexed, Reads, Long, Short, source_limit}
 
 one_count : (tokens : List LexToken) (m n : ℕ) → IsWhole tokens m → IsWhole tokens n → m ≡ n
 one_count tokens m n a b =
@@ -79,6 +81,25 @@ comes_to_some source = elim (either_error source) as (λ _. (r : Reading) × Com
   | inl t ↦ let c = tokens_come t.0 in (c.0, Lexed t.0 t.1 c.1)
   | inr f ↦ error_comes source f.0 f.1 f.2
 ]
+
+-- ---- a source that is a program has tokens, and they spell a unit that has this typing
+
+unit_typed : (tokens : Table) (ds : List DeclarationTree) (unit : WholeUnit) → UnitComes tokens ds (Program unit) → checked.UnitComes tokens ds (checked.Typed unit)
+unit_typed tokens ds unit (Breaks index h e) = absurd cc
+unit_typed tokens ds unit (Lacks name h e) = absurd cc
+unit_typed tokens ds unit (Mainless h e) = absurd cc
+unit_typed tokens ds unit (Typed other h e) = let typed : other ≡ unit = cc in subst (λ (u : WholeUnit). checked.UnitComes tokens ds (checked.Typed u)) typed h
+
+tokens_typed : (tokens : Table) (unit : WholeUnit) → TokensCome tokens (Program unit) → (ds : List DeclarationTree) × checked.UnitComes tokens ds (checked.Typed unit)
+tokens_typed tokens unit (NoUnit whole none h e) = absurd cc
+tokens_typed tokens unit (Spelled ds h u) = (ds, unit_typed tokens ds unit u)
+
+pub program_typed : (source : List ℕ) (unit : WholeUnit) → Comes source (Program unit)
+    → (tokens : Table) × (ds : List DeclarationTree) × Lexes source tokens × checked.UnitComes tokens ds (checked.Typed unit)
+program_typed source unit (BadByte place h e) = absurd cc
+program_typed source unit (BadToken place h e) = absurd cc
+program_typed source unit (LeftOut place word h e) = absurd cc
+program_typed source unit (Lexed tokens l h) = let d = tokens_typed tokens unit h in (tokens, d.0, l, d.1)
 
 -- ---- for the code that types
 

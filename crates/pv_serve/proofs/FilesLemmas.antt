@@ -9,7 +9,7 @@ use Rattle.pv_serve.specs.Jobs.{files_named, script_files}
 use Rattle.pv_serve.specs.Comes.{source_limit}
 use Rattle.pv_serve.specs.Judged.{script_limit}
 use Rattle.pv_serve.specs.Answer.{needed, script_held}
-use Rattle.pv_serve.specs.Causes.{AnyRose}
+use Rattle.pv_serve.specs.Outside.{AnyRose}
 use Rattle.pv_serve.specs.Serving.{AreRead}
 use Rattle.pv_serve.proofs.ComesLemmas.{source_limit_is}
 use Rattle.pv_serve.proofs.Limits.{script_limit_is, was_long, was_short}

@@ -7,8 +7,11 @@ pub mod Limits
 pub mod LateLemmas
 pub mod RunLemmas
 pub mod LoadLemmas
+pub mod OutcomeLemmas
 pub mod FilesLemmas
+pub mod OwedLemmas
 pub mod CausesLemmas
+pub mod RepliesLemmas
 pub mod ReportLemmas
 pub mod WatchingLemmas
 pub mod SidesLemmas

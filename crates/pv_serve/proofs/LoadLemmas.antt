@@ -19,7 +19,7 @@ use Rattle.pv_exec.specs.SettledRuns.{SettlesAlike, IsUndefinedByAll}
 use Rattle.pv_exec.specs.Sided.{is_high}
 use Rattle.pv_serve.specs.declared.checking.Refused.TheVariants as refused
 use Rattle.pv_serve.specs.declared.loading.Loaded.TheVariants as loaded
-use Rattle.pv_serve.specs.declared.judging.Judged.TheVariants as judged
+use Rattle.pv_serve.specs.declared.judging.Judgement.TheVariants as judgement
 use Rattle.pv_serve.specs.Comes.{source_limit}
 use Rattle.pv_serve.specs.Judged.{Oversize, Unread, IsToRun}
 use Rattle.pv_serve.specs.Outside.{Sunk, Halls}
@@ -45,14 +45,17 @@ abbrev to_run : (source script : List ℕ) (u : Stored) (lines : List ScriptLine
 to_run source script u lines p = record { lines = lines; unit = whole u; short = p.short; reads = p.reads; comes = p.comes }
 
 pub ran_outcome : (source script : List ℕ) (u : Stored) (lines : List ScriptLine) (bound : ℕ) (zap : Bool) (sides : Option (List Bool)) (out : Sunk) (hall : Halls) (ran : Ran) (names : List (List ℕ))
-    → IsLoadedProgram source script u lines → IsRan out hall ran names (run_of (setting_of u bound sides zap) lines) u.names → IsOutcome source script bound zap sides out hall (judged.Ran ran names)
-ran_outcome source script u lines bound zap sides out hall ran names p h = record {
-  job = to_run source script u lines p;
-  run = run_of (setting_of u bound sides zap) lines;
-  runs = is_run u lines bound zap sides;
-  fit = p.fit;
-  holds = h;
-}
+    → IsLoadedProgram source script u lines → IsRan out hall ran names (run_of (setting_of u bound sides zap) lines) u.names → IsOutcome source script bound zap sides out hall (judgement.Ran ran names bound)
+ran_outcome source script u lines bound zap sides out hall ran names p h = (
+  refl,
+  record {
+    job = to_run source script u lines p;
+    run = run_of (setting_of u bound sides zap) lines;
+    runs = is_run u lines bound zap sides;
+    fit = p.fit;
+    holds = h;
+  },
+)
 
 left_run : (source script : List ℕ) (u : Stored) (lines : List ScriptLine) (bound : ℕ) (zap : Bool) (sides : Option (List Bool)) (out : Sunk) (hall : Halls) (e : RunError)
     → IsLoadedProgram source script u lines → IsLeft out hall e (run_of (setting_of u bound sides zap) lines) u.names → SomeRunBy source script bound zap sides (IsLeft out hall e)
@@ -84,7 +87,7 @@ let_out_streamed source script u lines bound zap sides out hall error.WriteFault
 
 settled_again : (source script : List ℕ) (u : Stored) (lines : List ScriptLine) (bound : ℕ) (zap : Bool) (out : Sunk) (hall : Halls) (ran : Ran) (names : List (List ℕ))
     → IsLoadedProgram source script u lines → IsRan out hall ran names (run_at u None zap lines bound) u.names → SettlesAlike u bound zap lines ran
-    → IsSettledAgain source script bound zap out (judged.Ran ran names)
+    → IsSettledAgain source script bound zap out (judgement.Ran ran names bound)
 settled_again source script u lines bound zap out hall ran names p is alike = λ decided. record {
   job = to_run source script u lines p;
   run = run_at u None zap lines bound;
@@ -104,7 +107,7 @@ settled_again source script u lines bound zap out hall ran names p is alike = λ
 }
 
 undefined_by : (source script : List ℕ) (u : Stored) (lines : List ScriptLine) (bound : ℕ) (zap : Bool) (ran : Ran) → IsLoadedProgram source script u lines
-    → IsUndefinedByAll u bound zap lines ran → IsUndefinedBy source script bound zap (judged.Ran ran [])
+    → IsUndefinedByAll u bound zap lines ran → IsUndefinedBy source script bound zap (judgement.Ran ran [] bound)
 undefined_by source script u lines bound zap ran p all = λ undefined sides many. record {
   job = to_run source script u lines p;
   run = run_at u (Some sides) zap lines bound;
@@ -116,12 +119,12 @@ undefined_by source script u lines bound zap ran p all = λ undefined sides many
 -- as clauses of `judge`, whatever sides it is given
 pub late_program : {R : Type 0} (source script : List ℕ) (u : Stored) (lines : List ScriptLine) (bound : ℕ) (zap : Bool) (sides : Option R) (view : R → List Side) (out : Sunk) (hall : Halls)
     (ran : Ran) (names : List (List ℕ)) → IsLoadedProgram source script u lines → IsRan out hall ran names (run_of (setting_of u bound (highs sides view) zap) lines) u.names
-    → IfNone sides (SettlesAlike u bound zap lines ran) → IfNone sides (IsSettledAgain source script bound zap out (judged.Ran ran names))
+    → IfNone sides (SettlesAlike u bound zap lines ran) → IfNone sides (IsSettledAgain source script bound zap out (judgement.Ran ran names bound))
 late_program source script u lines bound zap None view out hall ran names p is alike = settled_again source script u lines bound zap out hall ran names p is alike
 late_program source script u lines bound zap (Some r) view out hall ran names p is alike = tt
 
 -- of the names nothing is said, so what holds of none holds of any
 pub sooner_program : {R : Type 0} (source script : List ℕ) (u : Stored) (lines : List ScriptLine) (bound : ℕ) (zap : Bool) (sides : Option R) (ran : Ran)
-    → IsLoadedProgram source script u lines → IfNone sides (IsUndefinedByAll u bound zap lines ran) → IfNone sides (IsUndefinedBy source script bound zap (judged.Ran ran []))
+    → IsLoadedProgram source script u lines → IfNone sides (IsUndefinedByAll u bound zap lines ran) → IfNone sides (IsUndefinedBy source script bound zap (judgement.Ran ran [] bound))
 sooner_program source script u lines bound zap None ran p all = undefined_by source script u lines bound zap ran p all
 sooner_program source script u lines bound zap (Some r) ran p all = tt

@@ -28,8 +28,8 @@ use Rattle.pv_exec.specs.SettledRuns.{SettlesAlike, IsUndefinedByAll}
 use Rattle.pv_describe.specs.Describing.{check_text, layout_text}
 use Rattle.pv_serve.specs.declared.words.Task.{Task}
 use Rattle.pv_serve.specs.declared.words.Task.TheVariants as task
-use Rattle.pv_serve.specs.declared.tasks.Judgement.{Judgement}
-use Rattle.pv_serve.specs.declared.tasks.Judgement.TheVariants as judgement
+use Rattle.pv_serve.specs.declared.judging.Judgement.{Judgement}
+use Rattle.pv_serve.specs.declared.judging.Judgement.TheVariants as judgement
 use Rattle.pv_serve.specs.ReadWords.{IsTask}
 use Rattle.pv_serve.specs.Verdicts.{Verdict, Ending, Settled, Described, Course, course_of, output_of, BeganOutput}
 use Rattle.pv_serve.specs.Readings.{Program}
@@ -62,7 +62,7 @@ shown_by run = record { output = (end_of run).output; events = map event_of (end
 abbrev pub is_run : (u : Stored) (lines : List ScriptLine) (bound : ℕ) (zap : Bool) (sides : Option (List Bool)) → IsRunBy (whole u) lines bound zap sides (run_of (setting_of u bound sides zap) lines)
 is_run u lines bound zap sides = record { tables = u; stands = refl; is = refl }
 
-run_ends : (unit : WholeUnit) (lines : List ScriptLine) (bound : ℕ) (zap : Bool) (sides : Option (List Bool)) (run : Res Worth) (ran : Ran) (names : List (List ℕ))
+pub run_ends : (unit : WholeUnit) (lines : List ScriptLine) (bound : ℕ) (zap : Bool) (sides : Option (List Bool)) (run : Res Worth) (ran : Ran) (names : List (List ℕ))
     → IsRunBy unit lines bound zap sides run → RanAs run ran → names ≡ unit.names → RunEnds unit lines bound zap sides (ending_of ran names (shown_by run))
 run_ends unit lines bound zap sides run ran names runs is named = record {
   run = run;

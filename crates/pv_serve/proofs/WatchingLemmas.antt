@@ -4,9 +4,9 @@ use Rattle.std.specs.Prelude.{Option, Some, None, IfSome, IsTrue, is_some, unwra
 use Rattle.std.specs.List.{AllZip}
 use Rattle.std.proofs.lemmas.Bool.{cases_eq}
 use Rattle.std.proofs.lemmas.Bool.Decides.{nat_tests}
-use Rattle.std.proofs.lemmas.List.{take_all, length-append}
+use Rattle.std.proofs.lemmas.List.{take_all, length-append, append-nil}
 use Rattle.pv_watch.specs.declared.event.Event.{Event}
-use Rattle.pv_watch.specs.Texts.{text_of}
+use Rattle.pv_watch.specs.Texts.{text_of, journal_text}
 use Rattle.pv_watch.specs.Seen.{IsText}
 use Rattle.pv_watch.specs.Slots.{Slot, Present, Left, Stays, After, Told, Says, SayAll}
 use Rattle.pv_serve.specs.Verdicts.{Course}
@@ -14,19 +14,21 @@ use Rattle.pv_serve.specs.Watching.{AreFresh, AreTold, IsReport, story_of, stori
 
 -- ---- the text of a kind that is specified
 
-has_text : (kind wants : ℕ) (seen : List Event) (names : List (List ℕ)) → 0 < kind → kind ≤ 3 → (kind ≡ 1) ⊎ (kind ≢ 1) → (kind ≡ 2) ⊎ (kind ≢ 2) → IsTrue (is_some (text_of kind wants seen names))
-has_text kind wants seen names some few (inl e) b = subst (λ (k : ℕ). IsTrue (is_some (text_of k wants seen names))) (sym e) refl
-has_text kind wants seen names some few (inr not1) (inl e) = subst (λ (k : ℕ). IsTrue (is_some (text_of k wants seen names))) (sym e) refl
-has_text kind wants seen names some few (inr not1) (inr not2) =
-    let e : kind ≡ 3 = omega (arith, not1, not2) in
+has_text : (kind wants : ℕ) (seen : List Event) (names : List (List ℕ)) → 0 < kind → kind ≤ 4 → (kind ≡ 1) ⊎ (kind ≢ 1) → (kind ≡ 2) ⊎ (kind ≢ 2) → (kind ≡ 3) ⊎ (kind ≢ 3)
+    → IsTrue (is_some (text_of kind wants seen names))
+has_text kind wants seen names some few (inl e) b d = subst (λ (k : ℕ). IsTrue (is_some (text_of k wants seen names))) (sym e) refl
+has_text kind wants seen names some few (inr not1) (inl e) d = subst (λ (k : ℕ). IsTrue (is_some (text_of k wants seen names))) (sym e) refl
+has_text kind wants seen names some few (inr not1) (inr not2) (inl e) = subst (λ (k : ℕ). IsTrue (is_some (text_of k wants seen names))) (sym e) refl
+has_text kind wants seen names some few (inr not1) (inr not2) (inr not3) =
+    let e : kind ≡ 4 = omega (arith, not1, not2, not3) in
     subst (λ (k : ℕ). IsTrue (is_some (text_of k wants seen names))) (sym e) refl
 
 if_has : (o : Option (List ℕ)) (t : List ℕ) → IsTrue (is_some o) → IfSome o (λ u. t ≡ u) → t ≡ unwrap_or o []
 if_has None t some h = absurd cc
 if_has (Some u) t some h = h
 
-text_is : (kind wants : ℕ) (seen : List Event) (names : List (List ℕ)) (t : List ℕ) → 0 < kind → kind ≤ 3 → IsText kind wants seen names t → t ≡ unwrap_or (text_of kind wants seen names) []
-text_is kind wants seen names t some few h = if_has (text_of kind wants seen names) t (has_text kind wants seen names some few (cases_eq kind 1) (cases_eq kind 2)) h
+text_is : (kind wants : ℕ) (seen : List Event) (names : List (List ℕ)) (t : List ℕ) → 0 < kind → kind ≤ 4 → IsText kind wants seen names t → t ≡ unwrap_or (text_of kind wants seen names) []
+text_is kind wants seen names t some few h = if_has (text_of kind wants seen names) t (has_text kind wants seen names some few (cases_eq kind 1) (cases_eq kind 2) (cases_eq kind 3)) h
 
 -- ---- one watcher
 
@@ -42,10 +44,6 @@ take_front : (n : ℕ) (xs ys : List Event) → length xs ≡ n → take n (xs +
 take_front n [] ys e = subst (λ (k : ℕ). take k ys ≡ []) e refl
 take_front n (x ∷ xs) ys e = subst (λ (k : ℕ). take k (x ∷ (xs ++ ys)) ≡ x ∷ xs) e (ap (λ (zs : List Event). x ∷ zs) (take_front (length xs) xs ys refl))
 
-append_none : (xs : List Event) → xs ++ [] ≡ xs
-append_none [] = refl
-append_none (x ∷ xs) = ap (λ (zs : List Event). x ∷ zs) (append_none xs)
-
 less : (n m w : ℕ) → m ≡ n + 1 → n < w → (m == w) ≡ false → m < w
 less n m w e lt ne = grind (arith, nat_tests)
 
@@ -59,7 +57,7 @@ tells_by : (kind wants : ℕ) (seen events : List Event) (names : List (List ℕ
 tells_by kind wants seen events names t e h = subst (λ (xs : List Event). t ≡ unwrap_or (text_of kind wants xs names) []) (sym e) h
 
 -- it has seen one event more, and goes on or has left
-tells_next : (b : Bool) (kind wants : ℕ) (seen : List Event) (e : Event) (es : List Event) (names : List (List ℕ)) (next now : Slot) (t : List ℕ) → 0 < kind → kind ≤ 3
+tells_next : (b : Bool) (kind wants : ℕ) (seen : List Event) (e : Event) (es : List Event) (names : List (List ℕ)) (next now : Slot) (t : List ℕ) → 0 < kind → kind ≤ 4
     → length seen < wants → (length (seen ++ e ∷ []) == wants) ≡ b → Stays b kind wants (seen ++ e ∷ []) names next → ToldOne names next es now → Says names now t
     → ((more : List Event) → length more < wants → ToldOne names (Present kind wants more) es now → Tells kind wants (more ++ es) names t)
     → Tells kind wants ((seen ++ e ∷ []) ++ es) names t
@@ -71,10 +69,10 @@ tells_next true kind wants seen e es names (Left k text) now t some few room is 
 tells_next false kind wants seen e es names next now t some few room is h told says go =
     go (seen ++ e ∷ []) (less (length seen) (length (seen ++ e ∷ [])) wants (length-append seen (e ∷ [])) room is) (subst (λ (s : Slot). ToldOne names s es now) h told)
 
-tells_one : (kind wants : ℕ) (seen events : List Event) (names : List (List ℕ)) (now : Slot) (t : List ℕ) → 0 < kind → kind ≤ 3 → length seen < wants
+tells_one : (kind wants : ℕ) (seen events : List Event) (names : List (List ℕ)) (now : Slot) (t : List ℕ) → 0 < kind → kind ≤ 4 → length seen < wants
     → ToldOne names (Present kind wants seen) events now → Says names now t → Tells kind wants (seen ++ events) names t
 tells_one kind wants seen [] names now t some few room told says =
-    tells_by kind wants seen (seen ++ []) names t (take_all wants (seen ++ []) (omega (arith, room, length-append {A = Event} seen [])) ∙ append_none seen)
+    tells_by kind wants seen (seen ++ []) names t (take_all wants (seen ++ []) (omega (arith, room, length-append {A = Event} seen [])) ∙ append-nil seen)
     (text_is kind wants seen names t some few (subst (λ (s : Slot). Says names s t) told says))
 tells_one kind wants seen (e ∷ es) names now t some few room told says =
     subst (λ (xs : List Event). Tells kind wants xs names t) (append_assoc seen (e ∷ []) es)
@@ -121,3 +119,10 @@ all_tell c ((Present kind wants seen) ∷ xs) new text fresh told says =
 
 pub watchers_tell : (kept new : List Slot) (c : Course) (line text : List ℕ) → AreFresh kept → AreTold (Some c) kept new → IsReport (Some c) new line text → text ≡ line ++ stories c kept
 watchers_tell kept new c line text fresh told report = report.2 ∙ ap (λ (bytes : List ℕ). line ++ bytes) (all_tell c kept new report.0 fresh told report.1)
+
+-- one that keeps a journal, and nobody else
+pub journal_told : (wants : ℕ) (events : List Event) (names : List (List ℕ)) (old new : List Slot) (text : List ℕ) → 0 < wants → old ≡ Present 4 wants [] ∷ [] → Told old events names new
+    → SayAll names new text → text ≡ journal_text (take wants events) names
+journal_told wants events names old new text some first told says =
+    all_tell (record { events = events; names = names }) (Present 4 wants [] ∷ []) new text (refl, some, omega arith, omega arith, tt)
+    (subst (λ (ss : List Slot). Told ss events names new) first told) says ∙ append-nil (journal_text (take wants events) names)

@@ -1,5 +1,5 @@
 -- The answer that a source with its script, or words that are no job, must get.
-use Rattle.std.specs.Prelude.{ℕ, Bool, List, [], length, nat_lt, Option, Some, None, IfSome, if◌then◌else◌}
+use Rattle.std.specs.Prelude.{ℕ, Bool, List, [], length, nat_lt, Option, Some, None, IfSome, IsSomeAnd, if◌then◌else◌}
 use Rattle.pv_watch.specs.Slots.{Slot}
 use Rattle.pv_gen.specs.Source.{source_text}
 use Rattle.pv_eval.specs.States.{State}
@@ -9,7 +9,7 @@ use Rattle.pv_serve.specs.Verdicts.{Verdict, Course, course_of, output_of}
 use Rattle.pv_serve.specs.Comes.{source_limit}
 use Rattle.pv_serve.specs.Judged.{Judged, SomeRun}
 use Rattle.pv_serve.specs.LateSettling.{SettlesRight}
-use Rattle.pv_serve.specs.Report.{status_of, report_line, words_line}
+use Rattle.pv_serve.specs.Report.{status_of, report_line, words_line, fault_line}
 use Rattle.pv_serve.specs.Watching.{AreTold, IsReport}
 
 -- 7.22.4.4p5: the status that the program ends with, what it prints (5.1.2.3p6), the line of its report (docs/FORMATS.md), and the run that it
@@ -27,6 +27,10 @@ answer_of verdict = record { status = status_of verdict; out = output_of verdict
 -- docs/FORMATS.md, Words (5.1.2.2.1p2): the answer to words that are no job
 abbrev pub no_job : Answer
 no_job = record { status = 10; out = []; line = words_line; course = None }
+
+-- docs/FORMATS.md, The report (7.21.8.1p3): the answer where a file that the words name could not be read
+abbrev pub read_fault : Answer
+read_fault = record { status = 11; out = []; line = fault_line; course = None }
 
 -- docs/FORMATS.md, What watchers say (the memory model): those who watch were told of the answer, and of its report, their texts behind its line, P holds
 pub record HasReport (kept new : List Slot) (a : Answer) (P : List ℕ → Type 0) : Type 0 where
@@ -67,5 +71,4 @@ SomeAnswer (Some job) held P = OfSource job held (λ source script. SomeVerdict 
 
 -- 5.1.2.3: the job is a run, and of the state in which it ends P holds
 abbrev pub SomeEnd : Option Job → (held : List ℕ → Option (List ℕ)) → (State → List (List ℕ) → Type 0) → Type 0
-SomeEnd None held P = ⊥
-SomeEnd (Some job) held P = OfSource job held (λ source script. SomeRun source script (task_of job) (sides_of job) P)
+SomeEnd asked held P = IsSomeAnd asked (λ job. OfSource job held (λ source script. SomeRun source script (task_of job) (sides_of job) P))

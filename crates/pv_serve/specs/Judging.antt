@@ -12,8 +12,8 @@ use Rattle.pv_exec.specs.declared.program.Ran.{Ran}
 use Rattle.pv_exec.specs.Answering.{end_of}
 use Rattle.pv_exec.specs.Outlets.{ToldPart}
 use Rattle.pv_serve.specs.declared.words.Task.{Task}
-use Rattle.pv_serve.specs.declared.tasks.Judgement.{Judgement}
-use Rattle.pv_serve.specs.declared.tasks.Judgement.TheVariants as judgement
+use Rattle.pv_serve.specs.declared.judging.Judgement.{Judgement}
+use Rattle.pv_serve.specs.declared.judging.Judgement.TheVariants as judgement
 use Rattle.pv_serve.specs.Verdicts.{Verdict, Ending, Ended, Settled, Described, Refused, Script, course_of, output_of, BeganOutput}
 use Rattle.pv_serve.specs.Loading.{refusal_of}
 use Rattle.pv_serve.specs.Judged.{Judged, Plan, plan_of, SomeRun, UnitGives, IsRunBy}

@@ -3,7 +3,7 @@
 use Rattle.std.specs.Prelude.{◌≡◌, ℕ, ◌≤◌, Bool, true, false, List, length, map, Option, Some}
 use Rattle.pv_exec.specs.Settling.{IsDecided, IsUndefined}
 use Rattle.pv_exec.specs.Sided.{is_high}
-use Rattle.pv_serve.specs.Verdicts.{Verdict, Ending, Ended, Settled, Described, Refused, Script}
+use Rattle.pv_serve.specs.Verdicts.{Verdict, Ending, Settled}
 
 -- ---- of whatever gives verdicts, a source (5.1.1.1) or a unit, by the sides that are given
 
@@ -33,8 +33,4 @@ pub record IsRight (Gives : Option (List Bool) → Verdict → Type 0) (bound : 
 -- the memory model: that is so of a verdict that lists its sides; of any other nothing is said
 abbrev pub SettlesRight : (Gives : Option (List Bool) → Verdict → Type 0) → Verdict → Type 0
 SettlesRight Gives (Settled e bound true) = IsRight Gives bound e
-SettlesRight Gives (Settled e bound false) = Unit {0}
-SettlesRight Gives (Ended e bound) = Unit {0}
-SettlesRight Gives (Described text) = Unit {0}
-SettlesRight Gives (Refused refusal) = Unit {0}
-SettlesRight Gives (Script why) = Unit {0}
+SettlesRight Gives _ = Unit {0}

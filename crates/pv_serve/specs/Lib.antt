@@ -5,10 +5,14 @@ pub mod Verdicts
 pub mod Readings
 pub mod Comes
 pub mod Judged
+pub mod OneVerdict
 pub mod Report
 pub mod LateSettling
 pub mod Watching
 pub mod Outside
+pub mod Owed
+pub mod Replies
+pub mod Replying
 pub mod Judging
 pub mod Loading
 pub mod Settling

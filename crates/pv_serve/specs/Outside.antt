@@ -1,11 +1,15 @@
--- What one call of the program does to its outside: the sinks before it and after it, and those who watch. C17 leaves the outside of a
+-- What one call of a program does to its outside: the files, the sinks before it and after it, and those who watch. C17 leaves the outside of a
 -- program to its implementation (5.1.2.3p7); what a sink and a watcher tell is this program's own (docs/FORMATS.md).
-use Rattle.std.specs.Prelude.{ℕ, List, Option}
+use Rattle.std.specs.Prelude.{ℕ, List, Option, Any}
 use Rattle.pv_script.specs.Outside.{Rose, Gains, GainsPrefix}
 use Rattle.pv_watch.specs.declared.event.Event.{Event}
 use Rattle.pv_watch.specs.declared.hall.Hall.{Hall}
 use Rattle.pv_watch.specs.Slots.{Slot}
 use Rattle.pv_exec.specs.Outlets.{hall_slots}
+
+-- 7.21.8.1p3: a read of one of these files failed
+abbrev pub AnyRose : (names : List (List ℕ)) → (old new : List ℕ → ℕ) → Type 0
+AnyRose names old new = Any (λ name. Rose (old name) (new name)) names
 
 -- 7.21.2p2: a sink before a call and after it: its bytes in their order, where it tells them, and how many of its writes failed (7.21.8.2p3)
 pub record Sunk : Type 0 where

@@ -61,15 +61,9 @@ outcome_line (outcome.SidesEnded pair) names turns bound = codes "sides ended pa
 -- the memory model: the sides of a run are told unless it ended at an operation without defined behaviour (3.4.3), or at one that two pairs left undecided
 -- (6.5.6p9, 6.5.8p5)
 abbrev pub is_decided : Outcome → Bool
-is_decided (outcome.Exit status) = true
 is_decided (outcome.Undefined fault line) = false
-is_decided (outcome.Indeterminate line) = true
 is_decided (outcome.Undecided line) = false
-is_decided (outcome.Placement reason name k line) = true
-is_decided (outcome.Storage live size line) = true
-is_decided outcome.Turns = true
-is_decided (outcome.Abort line) = true
-is_decided (outcome.SidesEnded pair) = true
+is_decided _ = true
 
 -- the memory model: the letter of a side of a pair of candidates: `l`, `h`
 abbrev pub letter_of : Side → ℕ

@@ -15,11 +15,10 @@ use Rattle.pv_exec.specs.Settling.{IsDecided, IsUndefined, EndsAlike, EndsBy}
 use Rattle.pv_exec.specs.Answering.{RanAs, LeftAt, end_of, end_at}
 use Rattle.pv_exec.specs.Stages.{stage_of}
 use Rattle.pv_exec.specs.Words.{FitsWords}
-use Rattle.pv_serve.specs.declared.judging.Judged as declared
-use Rattle.pv_serve.specs.declared.judging.Judged.TheVariants as judged
-use Rattle.pv_serve.specs.Loading.{refusal_of, IsFit, IsSourceRefused, IsScriptRefused}
+use Rattle.pv_serve.specs.declared.judging.Judgement.{Judgement}
+use Rattle.pv_serve.specs.declared.judging.Judgement.TheVariants as judgement
+use Rattle.pv_serve.specs.Loading.{IsFit, IsSourceRefused, IsScriptRefused}
 use Rattle.pv_serve.specs.Judged.{IsToRun, IsRunBy}
-use Rattle.pv_serve.specs.Report.{outcome_line, refusal_line, script_line, outcome_status}
 use Rattle.pv_serve.specs.Outside.{Sunk, Wrote, WrotePrefix, Halls}
 use Rattle.pv_serve.specs.Judging.{LeftPart}
 
@@ -46,11 +45,13 @@ pub record IsQuiet (out : Sunk) (hall : Halls) : Type 0 where
   pub gains : Wrote out []
   pub told : hall.new ≡ hall.old
 
--- 5.1.1.3p1, 5.1.2.3: what a source with its script comes to: the end of its run, or the first refusal
-abbrev pub IsOutcome : (source script : List ℕ) (bound : ℕ) (zap : Bool) (sides : Option (List Bool)) (out : Sunk) (hall : Halls) → declared.Judged → Type 0
-IsOutcome source script bound zap sides out hall (judged.Ran ran names) = SomeRunBy source script bound zap sides (IsRan out hall ran names)
-IsOutcome source script bound zap sides out hall (judged.Source why) = IsSourceRefused source script why × IsQuiet out hall
-IsOutcome source script bound zap sides out hall (judged.Script why) = IsScriptRefused source script why × IsQuiet out hall
+-- 5.1.1.3p1, 5.1.2.3: what a source with its script comes to: the end of its run with this bound, or the first refusal
+abbrev pub IsOutcome : (source script : List ℕ) (bound : ℕ) (zap : Bool) (sides : Option (List Bool)) (out : Sunk) (hall : Halls) → Judgement → Type 0
+IsOutcome source script bound zap sides out hall (judgement.Ran ran names most) = (most ≡ bound) × SomeRunBy source script bound zap sides (IsRan out hall ran names)
+IsOutcome source script bound zap sides out hall (judgement.Settled ran names most listed) = ⊥
+IsOutcome source script bound zap sides out hall (judgement.Described text) = ⊥
+IsOutcome source script bound zap sides out hall (judgement.Source why) = IsSourceRefused source script why × IsQuiet out hall
+IsOutcome source script bound zap sides out hall (judgement.Script why) = IsScriptRefused source script why × IsQuiet out hall
 
 -- 7.21.3p3: what left a run that was cut off: where memory ran out, a first part of what is printed; where a write failed, that and a first part of
 -- what is told
@@ -94,28 +95,12 @@ pub record IsAgain (source script : List ℕ) (bound : ℕ) (zap : Bool) (out : 
   pub again : SomeRunBy source script bound zap (Some (map is_high ran.sides)) (λ settled texts. EndsAlike run settled)
 
 -- the memory model: a run that ended neither undefined nor undecided is the one that its own sides settle
-abbrev pub IsSettledAgain : (source script : List ℕ) (bound : ℕ) (zap : Bool) (out : Sunk) → declared.Judged → Type 0
-IsSettledAgain source script bound zap out (judged.Ran ran names) = IsDecided ran.outcome → SomeRunBy source script bound zap None (λ run texts. IsAgain source script bound zap out ran run)
-IsSettledAgain source script bound zap out (judged.Source why) = Unit {0}
-IsSettledAgain source script bound zap out (judged.Script why) = Unit {0}
+abbrev pub IsSettledAgain : (source script : List ℕ) (bound : ℕ) (zap : Bool) (out : Sunk) → Judgement → Type 0
+IsSettledAgain source script bound zap out (judgement.Ran ran names most) = IsDecided ran.outcome → SomeRunBy source script bound zap None (λ run texts. IsAgain source script bound zap out ran run)
+IsSettledAgain source script bound zap out _ = Unit {0}
 
 -- 3.4.3, the memory model: one that ended undefined ends undefined by every list with a side for each of its pairs, no later; of the others nothing is said
-abbrev pub IsUndefinedBy : (source script : List ℕ) (bound : ℕ) (zap : Bool) → declared.Judged → Type 0
-IsUndefinedBy source script bound zap (judged.Ran ran names) = IsUndefined ran.outcome → (sides : List Bool) → length ran.sides ≤ length sides
+abbrev pub IsUndefinedBy : (source script : List ℕ) (bound : ℕ) (zap : Bool) → Judgement → Type 0
+IsUndefinedBy source script bound zap (judgement.Ran ran names most) = IsUndefined ran.outcome → (sides : List Bool) → length ran.sides ≤ length sides
     → SomeRunBy source script bound zap (Some sides) (λ run texts. EndsBy ran.turns run)
-IsUndefinedBy source script bound zap (judged.Source why) = Unit {0}
-IsUndefinedBy source script bound zap (judged.Script why) = Unit {0}
-
--- ---- the report
-
--- docs/FORMATS.md: the line that tells what `judge` answers, for a run with this bound on its turns (5.1.2.3p1)
-abbrev pub line_of : declared.Judged → (bound : ℕ) → List ℕ
-line_of (judged.Ran ran names) bound = outcome_line ran.outcome names ran.turns bound
-line_of (judged.Source why) bound = refusal_line (refusal_of why)
-line_of (judged.Script why) bound = script_line why
-
--- docs/FORMATS.md: the status that goes with it (7.22.4.4p5)
-abbrev pub status_by : declared.Judged → ℕ
-status_by (judged.Ran ran names) = outcome_status ran.outcome
-status_by (judged.Source why) = 8
-status_by (judged.Script why) = 9
+IsUndefinedBy source script bound zap _ = Unit {0}

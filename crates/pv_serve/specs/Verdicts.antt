@@ -49,18 +49,13 @@ pub record Course : Type 0 where
 -- 5.1.2.3: what is told of the run that a verdict is the end of; a source that is refused or described has none, and a settled run has nobody who watches
 abbrev pub course_of : Verdict → Option Course
 course_of (Ended e bound) = Some (record { events = e.events; names = e.names })
-course_of (Settled e bound listed) = None
-course_of (Described text) = None
-course_of (Refused refusal) = None
-course_of (Script why) = None
+course_of _ = None
 
 -- 5.1.2.3p6: what a run printed; nothing else prints
 abbrev pub output_of : Verdict → List ℕ
 output_of (Ended e bound) = e.output
 output_of (Settled e bound listed) = e.output
-output_of (Described text) = []
-output_of (Refused refusal) = []
-output_of (Script why) = []
+output_of _ = []
 
 -- 7.21.3p3: a sink gained a first part of what the run printed
 abbrev pub BeganOutput : (out : Sunk) → State → (names : List (List ℕ)) → Type 0

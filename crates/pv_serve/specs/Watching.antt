@@ -27,7 +27,7 @@ IsReport (Some c) hall line text = (story : List ℕ) × SayAll c.names hall sto
 abbrev pub AreFresh : List Slot → Type 0
 AreFresh [] = Unit {0}
 AreFresh ((Left kind text) ∷ slots) = ⊥
-AreFresh ((Present kind wants seen) ∷ slots) = (seen ≡ []) × (0 < wants) × (0 < kind) × (kind ≤ 3) × AreFresh slots
+AreFresh ((Present kind wants seen) ∷ slots) = (seen ≡ []) × (0 < wants) × (0 < kind) × (kind ≤ 4) × AreFresh slots
 
 -- docs/FORMATS.md, What watchers say (the memory model): the text of a watcher's kind over the first events, as many as it wants, or all where there are fewer
 abbrev pub story_of : Course → Slot → List ℕ

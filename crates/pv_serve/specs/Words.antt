@@ -70,41 +70,30 @@ pub record Options : Type 0 where
 abbrev pub no_options : Options
 no_options = record { script = None; turns = None; zap = None; sides = None; watched = nobody }
 
--- docs/FORMATS.md, Words (5.1.2.2.1p2): a script's file is named once at most, by at least one byte
-abbrev pub script_once : Option (List ℕ) → Options → List ℕ → Option Options
-script_once (Some other) o name = None
-script_once None o name = if nat_lt 0 (length name) then Some (record o { script = Some name }) else None
+-- docs/FORMATS.md, Words (5.1.2.2.1p2): what an option says that stands once at most
+abbrev pub once : {A : Type 0} → (before said : Option A) → Option A
+once None said = said
+once (Some other) said = None
+
+-- docs/FORMATS.md, Words (5.1.2.2.1p2): the name of a file has a byte
+abbrev pub file_name : List ℕ → Option (List ℕ)
+file_name word = if nat_lt 0 (length word) then Some word else None
 
 -- docs/FORMATS.md, Words (5.1.2.2.1p2): `--script` with this value
 abbrev pub with_script : Options → List ℕ → Option Options
-with_script o name = script_once o.script o name
-
--- docs/FORMATS.md, Words (5.1.2.2.1p2): a bound is given once at most
-abbrev pub turns_once : Option ℕ → Options → List ℕ → Option Options
-turns_once (Some other) o digits = None
-turns_once None o digits = option_map (λ n. record o { turns = Some n }) (turns_of digits)
+with_script o word = option_map (λ name. record o { script = Some name }) (once o.script (file_name word))
 
 -- docs/FORMATS.md, Words (5.1.2.2.1p2): `--turns` with this value
 abbrev pub with_turns : Options → List ℕ → Option Options
-with_turns o digits = turns_once o.turns o digits
-
--- docs/FORMATS.md, Words (5.1.2.2.1p2): `--zap` stands once at most
-abbrev pub zap_once : Option Bool → Options → List ℕ → Option Options
-zap_once (Some other) o word = None
-zap_once None o word = option_map (λ z. record o { zap = Some z }) (zap_of word)
+with_turns o word = option_map (λ n. record o { turns = Some n }) (once o.turns (turns_of word))
 
 -- docs/FORMATS.md, Words (5.1.2.2.1p2): `--zap` with this value
 abbrev pub with_zap : Options → List ℕ → Option Options
-with_zap o word = zap_once o.zap o word
-
--- docs/FORMATS.md, Words (the memory model): sides are given once at most
-abbrev pub sides_once : Option (List Bool) → Options → List ℕ → Option Options
-sides_once (Some other) o word = None
-sides_once None o word = if are_sides word then Some (record o { sides = Some (sides_in word) }) else None
+with_zap o word = option_map (λ zap. record o { zap = Some zap }) (once o.zap (zap_of word))
 
 -- docs/FORMATS.md, Words (the memory model): `--sides` with this value
 abbrev pub with_sides : Options → List ℕ → Option Options
-with_sides o word = sides_once o.sides o word
+with_sides o word = option_map (λ sides. record o { sides = Some sides }) (once o.sides (if are_sides word then Some (sides_in word) else None))
 
 -- docs/FORMATS.md, Words (5.1.2.2.1p2): each watcher is asked for once at most
 abbrev pub watch_once : (wanted : Bool) → Watched → Option Watched
@@ -168,7 +157,7 @@ settle_of file rest = option_map (settled_by file) (options whose.Settle no_opti
 -- docs/FORMATS.md, Words (5.1.2.2.1p2): what describes a source has no options
 abbrev pub described : Task → (file : List ℕ) → List (List ℕ) → Option FileJob
 described t file [] = Some (record { file = file; script = None; task = t; sides = None; watched = nobody })
-described t file (word ∷ words) = None
+described t file _ = None
 
 -- docs/FORMATS.md, Words (5.1.2.2.1p2): what a mode asks of a file, with these words behind it
 abbrev pub asked : (mode file : List ℕ) → List (List ℕ) → Option FileJob
@@ -181,16 +170,13 @@ asked mode file rest =
 -- docs/FORMATS.md, Words (5.1.2.2.1p2): `run FILE` with `--script F`, `--turns N`, `--zap V` and `--watch W` or without, `settle FILE` with `--script F`,
 -- `--turns N`, `--zap V` and `--sides S` or without, `check FILE`, `layout FILE`, where FILE and F have a byte
 abbrev pub file_job : List (List ℕ) → Option FileJob
-file_job [] = None
-file_job (mode ∷ []) = None
 file_job (mode ∷ file ∷ rest) = if nat_lt 0 (length file) then asked mode file rest else None
+file_job _ = None
 
 -- docs/FORMATS.md, Words (5.1.2.2.1p2): `gen N`, with N from 1 to 8192
 abbrev pub generated : List (List ℕ) → Option ℕ
-generated [] = None
-generated (mode ∷ []) = None
 generated (mode ∷ number ∷ []) = if bytes_eq mode (codes "gen") then number_to 8192 number else None
-generated (mode ∷ number ∷ word ∷ rest) = None
+generated _ = None
 
 -- docs/FORMATS.md, Words (5.1.2.2.1p2): the job of a generated source, or a file's
 abbrev pub either : Option ℕ → Option FileJob → Option Job

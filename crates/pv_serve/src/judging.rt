@@ -13,7 +13,8 @@ ghost use Rattle.pv_serve.specs.ReadWords.{IsBound};
 ghost use Rattle.pv_serve.specs.Verdicts.{Verdict, Ending, Course};
 ghost use Rattle.pv_serve.specs.Loading.{IsFit, IsLoadedProgram};
 ghost use Rattle.pv_serve.specs.Comes.{source_limit};
-ghost use Rattle.pv_serve.specs.Judged.{Judged as HasVerdict, Ends, IsLeftToRun, BothRun, script_limit};
+ghost use Rattle.pv_serve.specs.Judged.{Judged, Ends, script_limit};
+ghost use Rattle.pv_serve.specs.OneVerdict.{IsLeftToRun, BothRun};
 ghost use Rattle.pv_serve.specs.Outside.{sunk, halls};
 ghost use Rattle.pv_serve.specs.Judging.{HasFault};
 ghost use Rattle.pv_serve.specs.Settling.{IsRan, IsOutcome, IsLeft, IsUnfinished, HasLetOut, IsStreamed, IsSettledAgain, IsUndefinedBy};
@@ -32,9 +33,24 @@ use std::mem;
 
 /// What a source and its script come to.
 #[derive(Drop)]
-pub enum Judged {
-    /// The unit, which has these names, was run.
-    Ran { ran: Ran, names: Names },
+pub enum Judgement {
+    /// The unit, which has these names, was run, with at most so many turns.
+    Ran {
+        ran: Ran,
+        names: Names,
+        bound: u64,
+    },
+    /// The same of a run that is settled, with its sides listed behind its line or not.
+    Settled {
+        ran: Ran,
+        names: Names,
+        bound: u64,
+        listed: bool,
+    },
+    /// The unit has a typing, and this text tells of it.
+    Described {
+        text: Vec<u8>,
+    },
     /// The source is refused.
     Source(Refused),
     /// The script is refused.
@@ -63,7 +79,7 @@ pub fn judge<O: Sink>(
     sides: Option<&[Side]>,
     out: &mut O,
     hall: &mut Hall,
-) -> Result<Judged, RunError>
+) -> Result<Judgement, RunError>
     requires { IsBound bound }
     ensures judged { IfOk result (IsOutcome source.now script.now bound zap (highs sides.entry (λ x. x.now))
         (sunk O.written O.faults out.old out.new) (halls hall.old hall.new its_kind its_wants seen)) }
@@ -80,8 +96,8 @@ pub fn judge<O: Sink>(
         Ok(Loaded::Program { unit, lines }) => {
             run_program(alloc, unit, lines, bound, zap, sides, out, hall)
         }
-        Ok(Loaded::Source(why)) => Ok(Judged::Source(why)),
-        Ok(Loaded::Script(why)) => Ok(Judged::Script(why)),
+        Ok(Loaded::Source(why)) => Ok(Judgement::Source(why)),
+        Ok(Loaded::Script(why)) => Ok(Judgement::Script(why)),
         Err(NoMemory) => Err(RunError::NoMemory),
     }
 }
@@ -96,7 +112,7 @@ fn run_program<O: Sink>(
     sides: Option<&[Side]>,
     out: &mut O,
     hall: &mut Hall,
-) -> Result<Judged, RunError>
+) -> Result<Judgement, RunError>
     requires fit { IsFit unit }
     requires bound { IsBound bound }
     ensures judged { (source script : List ℕ) → IsLoadedProgram source script unit lines → IfOk result (IsOutcome source script bound zap
@@ -112,9 +128,10 @@ fn run_program<O: Sink>(
         (highs sides.entry (λ x. x.now)) (sunk O.written O.faults out.old out.new) (halls hall.old hall.new its_kind its_wants seen)) }
 {
     match run_unit(alloc, unit, lines, bound, zap, sides, out, hall) {
-        Ok(named) => Ok(Judged::Ran {
+        Ok(named) => Ok(Judgement::Ran {
             ran: named.ran,
             names: named.names,
+            bound,
         }),
         Err(error) => Err(error),
     }
@@ -171,9 +188,9 @@ fn names_of(alloc: Global, unit: TypedUnit) -> Names
 /// that run.
 pub fn one_verdict()
     ensures some { (source script : List ℕ) (t : Task) (sides : Option (List Bool))
-        → ((v : Verdict) × HasVerdict source script t sides v) ⊎ IsLeftToRun source script t sides }
+        → ((v : Verdict) × Judged source script t sides v) ⊎ IsLeftToRun source script t sides }
     ensures one { (source script : List ℕ) (t : Task) (sides : Option (List Bool)) (v w : Verdict)
-        → HasVerdict source script t sides v → HasVerdict source script t sides w → (v ≡ w) ⊎ BothRun source script t sides v w }
+        → Judged source script t sides v → Judged source script t sides w → (v ≡ w) ⊎ BothRun source script t sides v w }
 {}
 
 /// A law: a run of the same tables, with the same script, bound, `zap` and sides, has no two ends.
@@ -185,9 +202,9 @@ pub fn one_end()
 /// A law: of a source and of a script, one byte above the limit tells as much as all that follow.
 pub fn first_bytes_decide()
     ensures more { (all text : List ℕ) (t : Task) (sides : Option (List Bool)) (v : Verdict) →
-        HasVerdict (take (source_limit + 1) all) (take (script_limit + 1) text) t sides v → HasVerdict all text t sides v }
+        Judged (take (source_limit + 1) all) (take (script_limit + 1) text) t sides v → Judged all text t sides v }
     ensures fewer { (all text : List ℕ) (t : Task) (sides : Option (List Bool)) (v : Verdict) →
-        HasVerdict all text t sides v → HasVerdict (take (source_limit + 1) all) (take (script_limit + 1) text) t sides v }
+        Judged all text t sides v → Judged (take (source_limit + 1) all) (take (script_limit + 1) text) t sides v }
 {}
 
 /// A law: watchers that had seen nothing before a run say behind its line, in their order, each the text of its kind over the first

@@ -3,10 +3,11 @@
 //! [`serve`] does all that the program does, over whatever files and sinks it is handed: it reads the words, the source
 //! and its script of addresses, judges them, and reports. [`judge`] goes from the bytes of a source to the end of its run,
 //! which [`line`] and [`status`] tell, and [`check`] to its typing. What a program with other words needs of these stands
-//! by itself: [`read_job`], [`tell`] and [`number_to`].
+//! by itself: [`read_job`], [`read_script`], [`tell`], [`tell_reply`], [`number_to`] and [`Nowhere`].
 #![tactic(auto)]
 
 mod checking;
+mod discarding;
 mod error;
 mod judging;
 mod loading;
@@ -20,11 +21,12 @@ mod text;
 mod words;
 
 pub use checking::{Refused, SOURCE_LIMIT, check};
+pub use discarding::Nowhere;
 pub use error::NoMemory;
-pub use judging::{Judged, judge};
-pub use reading::{JobText, SCRIPT_LIMIT, read_job};
+pub use judging::{Judgement, judge};
+pub use reading::{JobText, SCRIPT_LIMIT, read_job, read_script};
 pub use report::{line, status};
 pub use serving::{serve, serve_calmly};
-pub use telling::{NO_JOB, NO_MEMORY, READ_FAULT, WRITE_FAULT, tell};
+pub use telling::{NO_JOB, NO_MEMORY, READ_FAULT, Reply, WRITE_FAULT, tell, tell_reply};
 pub use text::Text;
 pub use words::{DEFAULT_TURNS, MOST_TURNS, Task, Watched, number_to};

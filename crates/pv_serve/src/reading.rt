@@ -3,7 +3,7 @@ ghost use Rattle.std.specs.Prelude.{◌≡◌, ℕ, ◌+◌, ◌≤◌, List, ta
 ghost use Rattle.pv_serve.specs.Jobs.{files_named, script_files};
 ghost use Rattle.pv_serve.specs.Judged.{script_limit};
 ghost use Rattle.pv_serve.specs.Answer.{script_held};
-ghost use Rattle.pv_serve.specs.Causes.{AnyRose};
+ghost use Rattle.pv_serve.specs.Outside.{AnyRose};
 ghost use Rattle.pv_serve.specs.Serving.{AreRead};
 
 use crate::checking::SOURCE_LIMIT;
@@ -47,7 +47,7 @@ pub fn read_job<F: Files>(
             script,
         });
     }
-    match script_given(alloc, files, script) {
+    match read_script(alloc, files, script) {
         Ok(script) => Ok(JobText {
             source: bytes,
             script,
@@ -56,8 +56,8 @@ pub fn read_job<F: Files>(
     }
 }
 
-// Reads a script, if one is named; where none is, it has no bytes.
-fn script_given<F: Files>(
+/// Reads a script, if a file is named for it; where none is, it has no bytes. A fault is that of this file.
+pub fn read_script<F: Files>(
     alloc: Global,
     files: &mut F,
     name: Option<&str>,

@@ -4,12 +4,10 @@ ghost use Rattle.pv_script.specs.Names.{name_at};
 ghost use Rattle.pv_serve.specs.Report as specified;
 ghost use Rattle.pv_serve.specs.Loading.{refusal_of, lexical_refusal, typing_refusal};
 ghost use Rattle.pv_serve.specs.Judging.{Shown, verdict_of};
-ghost use Rattle.pv_serve.specs.Settling.{line_of, status_by};
 
 use crate::NoMemory;
 use crate::checking::Refused;
-use crate::judging::Judged;
-use crate::tasks::Judgement;
+use crate::judging::Judgement;
 use pv_exec::{Outcome, Ran, Side, Sides};
 use pv_lex::LexError;
 use pv_num::{Fault, Reason};
@@ -17,19 +15,8 @@ use pv_script::{Names, ScriptError};
 use pv_unit::CheckError;
 use std::alloc::Global;
 
-/// The status that goes with what a source comes to; it takes no memory.
-pub fn status(j: &Judged) -> u8
-    ensures { result ≡ status_by j.now }
-{
-    match j {
-        Judged::Ran { ran, .. } => run_status(ran.outcome),
-        Judged::Source(_) => 8,
-        Judged::Script(_) => 9,
-    }
-}
-
-/// The status of a judgement.
-pub(crate) fn task_status(judgement: &Judgement) -> u8
+/// The status that goes with a judgement; it takes no memory.
+pub fn status(judgement: &Judgement) -> u8
     ensures value { (shown : Shown) → result ≡ specified.status_of (verdict_of judgement.now shown) }
     ensures own { (result < 10) ⊎ (result ≡ 14) }
 {
@@ -60,20 +47,9 @@ fn run_status(outcome: Outcome) -> u8
     }
 }
 
-/// The line that tells what a source comes to, with its line feed, of a run with this bound. The only error is want of memory.
-pub fn line(alloc: Global, j: &Judged, bound: u64) -> Result<Vec<u8>, NoMemory>
-    ensures { IfOk result (λ v. v.items ≡ line_of j.now bound) }
-{
-    match j {
-        Judged::Ran { ran, names } => run_line(alloc, ran, names, bound),
-        Judged::Source(refused) => refusal_line(alloc, refused),
-        Judged::Script(why) => script_line(alloc, *why),
-    }
-}
-
 /// The line that tells a judgement, with its line feed, and behind it the line of its sides where they are listed; of a source that is described,
 /// its text. The only error is want of memory.
-pub(crate) fn task_line(alloc: Global, judgement: &Judgement) -> Result<Vec<u8>, NoMemory>
+pub fn line(alloc: Global, judgement: &Judgement) -> Result<Vec<u8>, NoMemory>
     ensures { (shown : Shown) → IfOk result (λ v. v.items ≡ specified.report_line (verdict_of judgement.now shown)) }
 {
     match judgement {

@@ -15,10 +15,11 @@ ghost use Rattle.pv_serve.specs.Serving.{Answered, FilesServed, HasStory, Report
 ghost use Rattle.pv_script.specs.Calm.{calm_held, calm_written};
 
 use crate::NoMemory;
+use crate::judging::Judgement;
 use crate::reading::{JobText, read_job};
-use crate::report::{task_line, task_status};
+use crate::report::{line, status};
 use crate::sides::sides_in;
-use crate::tasks::{Judgement, judge_task};
+use crate::tasks::judge_task;
 use crate::telling::{NO_JOB, NO_MEMORY, READ_FAULT, WRITE_FAULT, tell};
 use crate::words::{Asked, COUNTED, DEFAULT_TURNS, Task, Watched, file_job, generated, kinds_of};
 use pv_exec::{RunError, Side};
@@ -36,23 +37,7 @@ use std::alloc::Global;
 ///
 /// The premise on the hall asks for nothing: by it the proof is one for whatever watchers a caller puts there.
 ///
-/// | status | when |
-/// |---|---|
-/// | 0 | the source's `main` returned, or `exit` was called (C17 5.1.2.2.3, 7.22.4.4); the line has the value. Or the source has a typing, and was to be described |
-/// | 1 | an operation had no defined behaviour (3.4.3) |
-/// | 2 | an operation met an object whose value is indeterminate (3.19.2) |
-/// | 3 | two operands have two instances in common, under different names (6.5.6p9, 6.5.8p5) |
-/// | 4 | the script has a place for an instance that can't be given |
-/// | 5 | the live instances would take more storage than there is |
-/// | 6 | the turns that the words allow were taken, and another was due |
-/// | 7 | `abort` was called (7.22.4.1) |
-/// | 8 | the source is refused |
-/// | 9 | the script is refused |
-/// | 10 | the words are no job |
-/// | 11 | a file that the job names could not be read |
-/// | 12 | the output or the report could not be written |
-/// | 13 | memory ran out, which may come wherever the words are a job |
-/// | 14 | a pair was made for which no side is given |
+/// What each status says is told in docs/FORMATS.md, The report.
 pub fn serve<F: Files, O: Sink, R: Sink>(
     alloc: Global,
     words: &[String],
@@ -206,7 +191,7 @@ fn told<R: Sink>(alloc: Global, judgement: &Judgement, report: &mut R, hall: &Ha
 {
     match report_of(alloc, judgement, hall) {
         Err(_) => NO_MEMORY,
-        Ok(text) => tell(report, text.as_slice(), task_status(judgement)),
+        Ok(text) => tell(report, text.as_slice(), status(judgement)),
     }
 }
 
@@ -214,7 +199,7 @@ fn told<R: Sink>(alloc: Global, judgement: &Judgement, report: &mut R, hall: &Ha
 fn report_of(alloc: Global, judgement: &Judgement, hall: &Hall) -> Result<Vec<u8>, NoMemory>
     ensures { IfOk result (λ v. IsReportOn judgement.now (hall_slots hall.now its_kind its_wants seen) v.items) }
 {
-    let text = task_line(alloc, judgement)?;
+    let text = line(alloc, judgement)?;
     match judgement {
         Judgement::Ran { names, .. } => with_story(text, names, hall),
         Judgement::Settled { .. } => Ok(text),

@@ -10,42 +10,15 @@ ghost use Rattle.pv_serve.specs.Outside.{Halls, sunk, halls};
 ghost use Rattle.pv_serve.specs.Judging.{IsJudged, IsCutOff, nothing_shown, verdict_of, UnitJudged, UnitCutOff, HasFault};
 
 use crate::NoMemory;
-use crate::checking::Refused;
-use crate::judging::run_unit;
+use crate::judging::{Judgement, run_unit};
 use crate::loading::{Loaded, load};
 use crate::words::Task;
 use pv_describe::{check_text, layout_text};
-use pv_exec::{Ran, RunError, Side};
-use pv_script::{Names, Script, ScriptError, Sink};
+use pv_exec::{RunError, Side};
+use pv_script::{Script, Sink};
 use pv_typed::TypedUnit;
 use pv_watch::{Hall, Watch};
 use std::alloc::Global;
-
-/// What a source and its script come to by a task.
-#[derive(Drop)]
-pub(crate) enum Judgement {
-    /// The unit, which has these names, was run, with at most so many turns.
-    Ran {
-        ran: Ran,
-        names: Names,
-        bound: u64,
-    },
-    /// The same of a run that is settled, or whose sides are listed.
-    Settled {
-        ran: Ran,
-        names: Names,
-        bound: u64,
-        listed: bool,
-    },
-    /// It has a typing, and this text tells of it.
-    Described {
-        text: Vec<u8>,
-    },
-    /// The source is refused.
-    Source(Refused),
-    /// The script is refused.
-    Script(ScriptError),
-}
 
 /// Judges a source with a script of addresses: runs it, settles it, by sides if any are given, or describes it. What the run prints goes to `out`,
 /// and those in the hall are told of the memory of a run, and not of that of a settled one.

@@ -1,5 +1,5 @@
 -- From what was read of files to what they hold.
-use Rattle.std.proofs.Common.{◌≡◌, inl, inr, ℕ, ◌+◌, Bool, true, cond, List, [], take, length, ltb, refl, sym, ap, ◌∙◌, subst, arith}
+use Rattle.std.proofs.Common.{◌≡◌, inl, inr, ℕ, ◌+◌, Bool, true, cond, List, [], take, length, ltb, sym, ap, ◌∙◌, subst, arith}
 use Rattle.std.specs.Prelude.{Option, Some, None, IfSome, Result, Ok, Err}
 use Rattle.std.proofs.lemmas.Bool.{lt-ltb, cases_lt}
 use Rattle.std.proofs.lemmas.List.{length-take, take_all}
@@ -8,6 +8,8 @@ use Rattle.pv_serve.specs.Comes.{source_limit}
 use Rattle.pv_serve.specs.Judged.{Judged, script_limit}
 use Rattle.pv_serve.specs.Outside.{Sunk}
 use Rattle.pv_serve.specs.Answer.{script_held}
+use Rattle.pv_serve.specs.Replies.{Reply}
+use Rattle.pv_serve.specs.Replying.{WasTold, WasLost, HadNoRoom}
 use Rattle.pv_serve.proofs.ComesLemmas.{source_limit_is}
 use Rattle.pv_serve.proofs.Limits.{more_decides}
 use Rattle.pv_shown.specs.declared.reading.Command.{Command}
@@ -16,8 +18,8 @@ use Rattle.pv_shown.specs.declared.reading.CommandError.TheVariants as error
 use Rattle.pv_shown.specs.Commands.{commands_of, commands_limit, lines_of, after_lines, last_position}
 use Rattle.pv_step.specs.declared.reading.StepText.{StepText}
 use Rattle.pv_step.specs.Words.{StepJob}
-use Rattle.pv_step.specs.Answers.{Answer, OfFiles, IsStepped, IsBy, SomeOf}
-use Rattle.pv_step.specs.Answering.{AreRead, TextServed, IsServed, NoRoom, JobServed, WasTold, HadNoRoom}
+use Rattle.pv_step.specs.Answers.{OfFiles, IsStepped, IsBy}
+use Rattle.pv_step.specs.Answering.{AreRead, TextServed, JobServed}
 
 -- ---- what the files hold
 
@@ -65,7 +67,7 @@ commands_decide all = elim (cases_lt commands_limit (length all)) [
     too_long text is = ap (λ (b : Bool). cond b (Err error.Size) (after_lines 1 (lines_of text) [])) is
 
 -- of the source and its script
-all_looked : (all rest source script : List ℕ) (cs : Result (List Command) CommandError) (a : Answer) → source ≡ take (source_limit + 1) all → script ≡ take (script_limit + 1) rest
+all_looked : (all rest source script : List ℕ) (cs : Result (List Command) CommandError) (a : Reply) → source ≡ take (source_limit + 1) all → script ≡ take (script_limit + 1) rest
     → IsBy source script cs a → IsBy all rest cs a
 all_looked all rest source script (Err e) a first second is = is
 all_looked all rest source script (Ok cs) a first second is = record {
@@ -76,7 +78,7 @@ all_looked all rest source script (Ok cs) a first second is = record {
   shown = is.shown;
 }
 
-all_stepped : (all rest lines : List ℕ) (t : StepText) (a : Answer) → t.source.items ≡ take (source_limit + 1) all → t.script.items ≡ take (script_limit + 1) rest
+all_stepped : (all rest lines : List ℕ) (t : StepText) (a : Reply) → t.source.items ≡ take (source_limit + 1) all → t.script.items ≡ take (script_limit + 1) rest
     → t.commands.items ≡ take (commands_limit + 1) lines → IsStepped t.source.items t.script.items t.commands.items a → IsStepped all rest lines a
 all_stepped all rest lines t a first second third is =
     subst (λ (cs : Result (List Command) CommandError). IsBy all rest cs a) (ap commands_of third ∙ commands_decide lines)
@@ -85,9 +87,9 @@ all_stepped all rest lines t a first second third is =
 -- what came of what was read is what comes of the files
 pub text_served : (j : StepJob) (held : List ℕ → Option (List ℕ)) (t : StepText) (faults_old faults_new : List ℕ → ℕ) (report : Sunk) (status : ℕ) → AreRead j held t.source.items t.script.items t.commands.items → TextServed t report status
     → JobServed j held faults_old faults_new report status
-text_served j held t fo fn report status read (IsServed a is own handed) =
+text_served j held t fo fn report status read (WasTold a is own handed) =
     WasTold a (of_files j held
     (λ all rest lines. (t.source.items ≡ take (source_limit + 1) all) × (t.script.items ≡ take (script_limit + 1) rest) × (t.commands.items ≡ take (commands_limit + 1) lines))
-    (λ all rest lines. SomeOf (IsStepped all rest lines) (λ (b : Answer). a ≡ b))
-    (λ all rest lines r. record { answer = a; is = all_stepped all rest lines t a r.0 r.1 r.2 is; holds = refl }) read) own handed
-text_served j held t fo fn report status read (NoRoom is none) = HadNoRoom is none
+    (λ all rest lines. IsStepped all rest lines a) (λ all rest lines r. all_stepped all rest lines t a r.0 r.1 r.2 is) read) own handed
+text_served j held t fo fn report status read (WasLost failed handed) = absurd failed
+text_served j held t fo fn report status read (HadNoRoom is none) = HadNoRoom is none

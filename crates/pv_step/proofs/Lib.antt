@@ -1,6 +1,4 @@
-pub mod JournalLemmas
 pub mod RoseLemmas
 pub mod FileLemmas
 pub mod RunLemmas
-pub mod CauseLemmas
 pub mod PositionLemmas

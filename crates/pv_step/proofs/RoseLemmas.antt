@@ -4,7 +4,7 @@ use Rattle.std.specs.Prelude.{Any, Result, Err}
 use Rattle.std.proofs.lemmas.List.{length-append, get_or_append_left}
 use Rattle.pv_script.specs.Outside.{Rose}
 use Rattle.pv_serve.specs.Jobs.{script_files}
-use Rattle.pv_serve.specs.Causes.{AnyRose}
+use Rattle.pv_serve.specs.Outside.{AnyRose}
 use Rattle.pv_step.specs.Words.{StepJob, files_of}
 
 -- ---- some of a list

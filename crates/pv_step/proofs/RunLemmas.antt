@@ -3,25 +3,41 @@ use Rattle.std.proofs.Common.{◌≡◌, ℕ, ◌+◌, ◌<◌, ◌≤◌, ◌^�
 use Rattle.std.specs.Prelude.{None, Result, Ok, Err, IfOk, OnOk}
 use Rattle.std.specs.Fmt.{decimal}
 use Rattle.std.proofs.lemmas.List.{length-append, length-take, take_all}
-use Rattle.pv_script.specs.declared.scripts.ScriptError.{ScriptError}
 use Rattle.pv_watch.specs.declared.event.Event.{Event}
 use Rattle.pv_watch.specs.Lines.{event_lines, event_line, what_text}
 use Rattle.pv_watch.specs.Texts.{journal_text, last_line}
 use Rattle.pv_watch.specs.Slots.{Present, Told, SayAll}
-use Rattle.pv_exec.specs.Answering.{end_of}
+use Rattle.pv_script.specs.Lines.{ScriptLine}
+use Rattle.pv_typed.specs.Known.{Each}
+use Rattle.pv_typed.specs.Tables.{whole}
+use Rattle.pv_typed.specs.TypedUnits.{WholeUnit}
+use Rattle.pv_world.specs.Worlds.{Worth}
+use Rattle.pv_eval.specs.States.{Res, end_of}
 use Rattle.pv_exec.specs.Outlets.{event_of}
+use Rattle.pv_exec.specs.Words.{FitsWords}
 use Rattle.pv_exec.specs.declared.program.Ran.{Ran}
+use Rattle.pv_serve.specs.Readings.{Program}
+use Rattle.pv_serve.specs.Loading.{IsFit, refusal_of}
+use Rattle.pv_serve.specs.Comes.{Comes}
+use Rattle.pv_serve.specs.Judged.{IsRunBy}
+use Rattle.pv_serve.proofs.ComesLemmas.{program_typed}
+use Rattle.pv_journal_laws.specs.Runs.{run_end, events_at, TellsAJournal}
+use Rattle.pv_journal_laws.proofs.Namings.{units_named}
+use Rattle.pv_journal_laws.proofs.Running.{run_tells_first, words_fit}
 use Rattle.pv_serve.specs.declared.words.Task.TheVariants as task
-use Rattle.pv_serve.specs.declared.judging.Judged as declared
-use Rattle.pv_serve.specs.declared.judging.Judged.TheVariants as judged
-use Rattle.pv_serve.specs.Judged.{Fit}
-use Rattle.pv_serve.specs.Judging.{ending_of}
-use Rattle.pv_serve.specs.declared.checking.Refused.{Refused}
+use Rattle.pv_serve.specs.declared.judging.Judgement.{Judgement}
+use Rattle.pv_serve.specs.declared.judging.Judgement.TheVariants as judgement
+use Rattle.pv_serve.specs.Judging.{Shown, nothing_shown, ending_of, verdict_of}
 use Rattle.pv_serve.specs.Verdicts as verdict
-use Rattle.pv_serve.specs.Loading.{refusal_of}
-use Rattle.pv_serve.specs.Report.{outcome_line}
-use Rattle.pv_serve.specs.Settling.{SomeRunBy, IsRan, IsOutcome, line_of, status_by}
+use Rattle.pv_serve.specs.Report.{report_line, status_of}
+use Rattle.pv_serve.specs.Settling.{IsOutcome}
 use Rattle.pv_serve.specs.Outside.{Sunk, Halls}
+use Rattle.pv_serve.specs.declared.telling.Reply as code
+use Rattle.pv_serve.specs.Replies.{Reply}
+use Rattle.pv_serve.specs.Replying.{IsOwn, reply_view}
+use Rattle.pv_serve.proofs.OutcomeLemmas.{judged_of}
+use Rattle.pv_serve.proofs.RepliesLemmas.{small, large}
+use Rattle.pv_serve.proofs.WatchingLemmas.{journal_told}
 use Rattle.pv_journal.specs.Journals.{Row}
 use Rattle.pv_journal.specs.Obeying.{IsJournal}
 use Rattle.pv_shown.specs.declared.reading.Command.{Command}
@@ -31,10 +47,7 @@ use Rattle.pv_shown.specs.Commands.{last_position}
 use Rattle.pv_shown.specs.Shown.{report_of}
 use Rattle.pv_shown.specs.Views.{OrNoMemory}
 use Rattle.pv_step.specs.declared.error.NoMemory.{NoMemory}
-use Rattle.pv_step.specs.declared.reply.Reply.{Reply}
-use Rattle.pv_step.specs.Answers.{Answer, IsLookedAt, IsBy, refused_by, run_of}
-use Rattle.pv_step.specs.Answering.{IsOwn, reply_view}
-use Rattle.pv_step.proofs.JournalLemmas.{journal_told}
+use Rattle.pv_step.specs.Answers.{IsLookedAt, IsBy, refused_by, run_of}
 
 -- ---- a journal has no more events than bytes
 
@@ -62,110 +75,104 @@ all_told events names text is few =
 
 -- ---- a run
 
-run_shown : (source script : List ℕ) (cs : List Command) (out : Sunk) (hall : Halls) (ran : Ran) (names : List (List ℕ)) (journal line : List ℕ) (a : Answer) → hall.old ≡ Present 4 18446744073709551615 [] ∷ []
-    → SomeRunBy source script 1000000 true None (IsRan out hall ran names) → SayAll names hall.new journal → length journal < 2 ^ 64 → line ≡ outcome_line ran.outcome names ran.turns 1000000
+-- what a run tells of its memory is the journal of lines that obey (the memory model)
+run_obeys : (source : List ℕ) (unit : WholeUnit) (lines : List ScriptLine) (run : Res Worth) (names : List (List ℕ)) (runs : IsRunBy unit lines 1000000 true None run) → Comes source (Program unit)
+    → IsFit runs.tables → Each FitsWords (end_of run).events → names ≡ unit.names → TellsAJournal (take 18446744073709551615 (map event_of (end_of run).events)) names
+run_obeys source unit lines run names runs comes fit words named =
+    let u = runs.tables in
+    let typed = program_typed source (whole u) (subst (λ (w : WholeUnit). Comes source (Program w)) (sym runs.stands) comes) in
+    let told : TellsAJournal (take 18446744073709551615 (events_at u lines 1000000)) u.names =
+    run_tells_first u lines 1000000 18446744073709551615 (units_named source typed.0 typed.1 u typed.2 typed.3 fit.known) fit.filled
+    (words_fit (run_end u lines 1000000).events (subst (λ (r : Res Worth). Each FitsWords (end_of r).events) runs.is words)) in
+    subst (λ (ns : List (List ℕ)). TellsAJournal (take 18446744073709551615 (map event_of (end_of run).events)) ns) (ap (λ (w : WholeUnit). w.names) runs.stands ∙ sym named)
+    (subst (λ (r : Res Worth). TellsAJournal (take 18446744073709551615 (map event_of (end_of r).events)) u.names) (sym runs.is) told)
+
+pub ran_journal : (source script : List ℕ) (out : Sunk) (hall : Halls) (j : Judgement) (ran : Ran) (names : List (List ℕ)) (most : ℕ) (text journal : List ℕ)
+    → journal ≡ text → hall.old ≡ Present 4 18446744073709551615 [] ∷ [] → j ≡ judgement.Ran ran names most → IsOutcome source script 1000000 true None out hall j → SayAll names hall.new text
+    → (rows : List Row) × IsJournal rows journal
+ran_journal source script out hall j ran names most text journal whole first same is says =
+    let r = (subst (λ (k : Judgement). IsOutcome source script 1000000 true None out hall k) same is).1 in
+    let events = map event_of (end_of r.run).events in
+    let heard = subst (λ (ns : List (List ℕ)). Told hall.old events ns hall.new) (sym r.holds.named) r.holds.told in
+    let told = journal_told 18446744073709551615 events names hall.old hall.new text (omega arith) first heard says in
+    let lines = run_obeys source r.job.unit r.job.lines r.run names r.runs r.job.comes r.fit r.holds.words r.holds.named in
+    (lines.0, subst (λ (bytes : List ℕ). IsJournal lines.0 bytes) (sym (whole ∙ told)) lines.1)
+
+run_shown : (source script : List ℕ) (cs : List Command) (out : Sunk) (hall : Halls) (ran : Ran) (names : List (List ℕ)) (most : ℕ) (journal line : List ℕ) (a : Reply)
+    → hall.old ≡ Present 4 18446744073709551615 [] ∷ [] → IsOutcome source script 1000000 true None out hall (judgement.Ran ran names most) → SayAll names hall.new journal → length journal < 2 ^ 64
+    → ((shown : Shown) → line ≡ report_line (verdict_of (judgement.Ran ran names most) shown))
     → (rows : List Row) × IsJournal rows journal × (a ≡ record { status = 0; text = report_of (run_of ran.turns ran.outcome line rows) cs }) → IsLookedAt source script cs a
-run_shown source script cs out hall ran names journal line a first is says few told shown =
-    let events = map event_of (end_of is.run).events in
-    let ending = ending_of ran names (record { output = (end_of is.run).output; events = events }) in
-    let seen = subst (λ (ns : List (List ℕ)). Told hall.old events ns hall.new) (sym is.holds.named) is.holds.told in
-    let whole : journal ≡ journal_text events names = all_told events names journal (journal_told events names hall.old hall.new journal first seen says) few in
+run_shown source script cs out hall ran names most journal line a first is says few told shown =
+    let j = judged_of source script 1000000 true out hall (judgement.Ran ran names most) is in
+    let events = j.shown.events in
+    let whole : journal ≡ journal_text events names =
+    all_told events names journal (journal_told 18446744073709551615 events names hall.old hall.new journal (omega arith) first j.told says) few in
     record {
-      verdict = verdict.Ended ending 1000000;
-      judged = Fit is.job.lines is.job.unit is.job.short is.job.reads is.job.comes (
-        ending,
-        record {
-          run = is.run;
-          runs = is.runs;
-          ends = record {
-            outcome = is.holds.ended.outcome;
-            turns = is.holds.ended.turns;
-            output = refl;
-            events = refl;
-            sides = is.holds.ended.sides;
-            names = is.holds.named;
-          };
-        },
-        refl,
-      );
+      verdict = verdict.Ended (ending_of ran names j.shown) most;
+      judged = j.judged;
       shown = (
         shown.0,
         subst (IsJournal shown.0) whole shown.1,
-        shown.2 ∙ ap (λ (l : List ℕ). record { status = 0; text = report_of (run_of ran.turns ran.outcome l shown.0) cs }) told,
+        shown.2 ∙ ap (λ (l : List ℕ). record { status = 0; text = report_of (run_of ran.turns ran.outcome l shown.0) cs }) (told j.shown),
       );
     }
 
 -- what is shown of the run that was made
-pub ran_shown : (source script : List ℕ) (cs : List Command) (out : Sunk) (hall : Halls) (j : declared.Judged) (ran : Ran) (names : List (List ℕ)) (text told journal line : List ℕ) (r : Result Reply NoMemory)
-    → journal ≡ text → line ≡ told → hall.old ≡ Present 4 18446744073709551615 [] ∷ [] → j ≡ judged.Ran ran names → IsOutcome source script 1000000 true None out hall j → SayAll names hall.new text → length journal < 2 ^ 64
-    → told ≡ line_of j 1000000
+pub ran_shown : (source script : List ℕ) (cs : List Command) (out : Sunk) (hall : Halls) (j : Judgement) (ran : Ran) (names : List (List ℕ)) (most : ℕ) (text told journal line : List ℕ) (r : Result code.Reply NoMemory)
+    → journal ≡ text → line ≡ told → hall.old ≡ Present 4 18446744073709551615 [] ∷ [] → j ≡ judgement.Ran ran names most → IsOutcome source script 1000000 true None out hall j
+    → SayAll names hall.new text → length journal < 2 ^ 64 → ((shown : Shown) → told ≡ report_line (verdict_of j shown))
     → IfOk r (λ a. (rows : List Row) × IsJournal rows journal × (reply_view a ≡ record { status = 0; text = report_of (run_of ran.turns ran.outcome line rows) cs }))
     → IfOk r (λ a. IsLookedAt source script cs (reply_view a))
-ran_shown source script cs out hall j ran names text told journal line (Err e) whole all first same is says few tells shown = tt
-ran_shown source script cs out hall j ran names text told journal line (Ok a) whole all first same is says few tells shown =
-    run_shown source script cs out hall ran names journal line (reply_view a) first (subst (λ (k : declared.Judged). IsOutcome source script 1000000 true None out hall k) same is) (subst (SayAll names hall.new) (sym whole) says) few
-    (all ∙ tells ∙ ap (λ (k : declared.Judged). line_of k 1000000) same) shown
+ran_shown source script cs out hall j ran names most text told journal line (Err e) whole all first same is says few tells shown = tt
+ran_shown source script cs out hall j ran names most text told journal line (Ok a) whole all first same is says few tells shown =
+    run_shown source script cs out hall ran names most journal line (reply_view a) first (subst (λ (k : Judgement). IsOutcome source script 1000000 true None out hall k) same is)
+    (subst (SayAll names hall.new) (sym whole) says) few (λ left. all ∙ tells left ∙ ap (λ (k : Judgement). report_line (verdict_of k left)) same) shown
 
 -- ---- a refusal, of the source or of the script
 
-refusal_by : (source script : List ℕ) (cs : List Command) (out : Sunk) (hall : Halls) (j k : declared.Judged) (status : ℕ) (text : List ℕ) → j ≡ k → IsOutcome source script 1000000 true None out hall j
-    → status ≡ status_by j → text ≡ line_of j 1000000
-    → (IsOutcome source script 1000000 true None out hall k → ◌≡◌ {A = Answer} (record { status = status; text = text }) (record { status = status_by k; text = line_of k 1000000 })
-    → IsLookedAt source script cs (record { status = status; text = text })) → IsLookedAt source script cs (record { status = status; text = text })
-refusal_by source script cs out hall j k status text e is s t go =
-    go (subst (λ (l : declared.Judged). IsOutcome source script 1000000 true None out hall l) e is)
-    (λ i. record { status = (s ∙ ap status_by e) i; text = (t ∙ ap (λ (l : declared.Judged). line_of l 1000000) e) i })
-
-pub source_told : (source script : List ℕ) (cs : List Command) (out : Sunk) (hall : Halls) (j : declared.Judged) (why : Refused) (status : ℕ) (text : List ℕ) → j ≡ judged.Source why
-    → IsOutcome source script 1000000 true None out hall j → status ≡ status_by j → text ≡ line_of j 1000000 → IsLookedAt source script cs (record { status = status; text = text })
-source_told source script cs out hall j why status text e is s t =
-    refusal_by source script cs out hall j (judged.Source why) status text e is s t
-    (λ refused same. record { verdict = verdict.Refused (refusal_of why); judged = refused.0.judged (task.Run last_position true) None; shown = same })
-
-pub script_told : (source script : List ℕ) (cs : List Command) (out : Sunk) (hall : Halls) (j : declared.Judged) (why : ScriptError) (status : ℕ) (text : List ℕ) → j ≡ judged.Script why
-    → IsOutcome source script 1000000 true None out hall j → status ≡ status_by j → text ≡ line_of j 1000000 → IsLookedAt source script cs (record { status = status; text = text })
-script_told source script cs out hall j why status text e is s t =
-    refusal_by source script cs out hall j (judged.Script why) status text e is s t
-    (λ refused same. record { verdict = verdict.Script why; judged = refused.0.judged (task.Run last_position true) None; shown = same })
+pub refusal_shown : (source script : List ℕ) (cs : List Command) (out : Sunk) (hall : Halls) (j : Judgement) (status : ℕ) (text : List ℕ)
+    → ((ran : Ran) (names : List (List ℕ)) (most : ℕ) → j ≡ judgement.Ran ran names most → ⊥) → IsOutcome source script 1000000 true None out hall j
+    → ((shown : Shown) → status ≡ status_of (verdict_of j shown)) → ((shown : Shown) → text ≡ report_line (verdict_of j shown)) → IsLookedAt source script cs (record { status = status; text = text })
+refusal_shown source script cs out hall (judgement.Ran ran names most) status text not is s t = absurd (not ran names most refl)
+refusal_shown source script cs out hall (judgement.Settled ran names most listed) status text not is s t = absurd is
+refusal_shown source script cs out hall (judgement.Described described) status text not is s t = absurd is
+refusal_shown source script cs out hall (judgement.Source why) status text not is s t = record {
+  verdict = verdict.Refused (refusal_of why);
+  judged = is.0.judged (task.Run last_position true) None;
+  shown = λ i. record { status = s nothing_shown i; text = t nothing_shown i };
+}
+refusal_shown source script cs out hall (judgement.Script why) status text not is s t = record {
+  verdict = verdict.Script why;
+  judged = is.0.judged (task.Run last_position true) None;
+  shown = λ i. record { status = s nothing_shown i; text = t nothing_shown i };
+}
 
 -- ---- statuses
 
-small : (s : ℕ) → s < 10 → IsOwn s
-small s lt = record { no_words = λ e. omega arith; no_read_fault = λ e. omega arith; no_write_fault = λ e. omega arith; no_want = λ e. omega arith }
-
-large : (s : ℕ) → 13 < s → IsOwn s
-large s lt = record { no_words = λ e. omega arith; no_read_fault = λ e. omega arith; no_write_fault = λ e. omega arith; no_want = λ e. omega arith }
-
-pub own_shown : {E : Type 0} (r : Result Reply E) → IfOk r (λ a. a.status ≡ 0) → IfOk r (λ a. IsOwn a.status)
+pub own_shown : {E : Type 0} (r : Result code.Reply E) → IfOk r (λ a. a.status ≡ 0) → IfOk r (λ a. IsOwn a.status)
 own_shown (Err e) h = tt
 own_shown (Ok a) h = small a.status (omega (arith, h))
 
-pub own_source : (j : declared.Judged) (why : Refused) (status : ℕ) → j ≡ judged.Source why → status ≡ status_by j → IsOwn status
-own_source j why status e s = let is : status ≡ 8 = s ∙ ap status_by e in small status (omega (arith, is))
-
-pub own_script : (j : declared.Judged) (why : ScriptError) (status : ℕ) → j ≡ judged.Script why → status ≡ status_by j → IsOwn status
-own_script j why status e s = let is : status ≡ 9 = s ∙ ap status_by e in small status (omega (arith, is))
-
 -- ---- by the commands
 
-pub by_commands : (source script : List ℕ) (cs : List Command) (w : Result (List Command) CommandError) (r : Result Reply NoMemory) → Ok cs ≡ w → IfOk r (λ a. IsLookedAt source script cs (reply_view a))
+pub by_commands : (source script : List ℕ) (cs : List Command) (w : Result (List Command) CommandError) (r : Result code.Reply NoMemory) → Ok cs ≡ w → IfOk r (λ a. IsLookedAt source script cs (reply_view a))
     → IfOk r (λ a. IsBy source script w (reply_view a))
 by_commands source script cs w r e h = subst (λ (v : Result (List Command) CommandError). IfOk r (λ a. IsBy source script v (reply_view a))) e h
 
-refused_so : (source script : List ℕ) (e : CommandError) (w : Result (List Command) CommandError) (r : Result Reply NoMemory) → Err e ≡ w → IfOk r (λ a. reply_view a ≡ refused_by e)
+refused_so : (source script : List ℕ) (e : CommandError) (w : Result (List Command) CommandError) (r : Result code.Reply NoMemory) → Err e ≡ w → IfOk r (λ a. reply_view a ≡ refused_by e)
     → IfOk r (λ a. IsBy source script w (reply_view a))
 refused_so source script e w r same told = subst (λ (v : Result (List Command) CommandError). IfOk r (λ a. IsBy source script v (reply_view a))) same told
 
-none_told : (source script : List ℕ) (w : Result (List Command) CommandError) (r : Result Reply NoMemory) → OnOk r ⊥ → IfOk r (λ a. IsBy source script w (reply_view a))
+none_told : (source script : List ℕ) (w : Result (List Command) CommandError) (r : Result code.Reply NoMemory) → OnOk r ⊥ → IfOk r (λ a. IsBy source script w (reply_view a))
 none_told source script w (Err e) h = tt
 none_told source script w (Ok a) h = absurd h
 
-pub by_refusal : {A : Type 0} (source script : List ℕ) (e : CommandError) (w : Result (List Command) CommandError) (r : Result Reply NoMemory) (f : A → List Command) → OrNoMemory f (Err e) w
+pub by_refusal : {A : Type 0} (source script : List ℕ) (e : CommandError) (w : Result (List Command) CommandError) (r : Result code.Reply NoMemory) (f : A → List Command) → OrNoMemory f (Err e) w
     → IfOk r (λ a. reply_view a ≡ refused_by e) → (e ≡ error.NoMemory → OnOk r ⊥) → IfOk r (λ a. IsBy source script w (reply_view a))
 by_refusal source script error.Size w r f same told memory = refused_so source script error.Size w r same told
 by_refusal source script (error.BadLine n) w r f same told memory = refused_so source script (error.BadLine n) w r same told
 by_refusal source script error.NoMemory w r f same told memory = none_told source script w r (memory refl)
 
-pub own_refusal : {E : Type 0} (r : Result Reply E) → IfOk r (λ a. a.status ≡ 19) → IfOk r (λ a. IsOwn a.status)
+pub own_refusal : {E : Type 0} (r : Result code.Reply E) → IfOk r (λ a. a.status ≡ 19) → IfOk r (λ a. IsOwn a.status)
 own_refusal (Err e) h = tt
 own_refusal (Ok a) h = large a.status (omega (arith, h))

@@ -22,9 +22,8 @@ script_by word name = if bytes_eq word (codes "--script") && nat_lt 0 (length na
 -- docs/FORMATS.md, Commands (5.1.2.2.1p2): the script's file, if the words behind the two files name one; `--script F` is all that may stand there
 abbrev pub script_in : List (List ℕ) → Option (Option (List ℕ))
 script_in [] = Some None
-script_in (word ∷ []) = None
 script_in (word ∷ name ∷ []) = script_by word name
-script_in (word ∷ name ∷ more ∷ others) = None
+script_in _ = None
 
 -- docs/FORMATS.md, Commands (5.1.2.2.1p2): what two files, each of whose names has a byte, and the words behind them ask for
 abbrev pub asked : (file commands : List ℕ) → List (List ℕ) → Option StepJob
@@ -35,8 +34,7 @@ asked file commands rest =
 
 -- docs/FORMATS.md, Commands (5.1.2.2.1p2): what the words ask for, if they do: `SOURCE COMMANDS`, with `--script F` behind them or without
 abbrev pub job : List (List ℕ) → Option StepJob
-job [] = None
-job (file ∷ []) = None
 job (file ∷ commands ∷ rest) = asked file commands rest
+job _ = None
 
 -- ---- what the code reads

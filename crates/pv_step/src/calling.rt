@@ -5,18 +5,17 @@ ghost use Rattle.pv_watch.specs.Slots.{Present};
 ghost use Rattle.pv_exec.specs.Outlets.{hall_slots};
 ghost use Rattle.pv_serve.specs.Words.{texts};
 ghost use Rattle.pv_serve.specs.Outside.{sunk};
+ghost use Rattle.pv_serve.specs.Replies.{ReplyCall, Replied, SomeReply, IsReplied};
 ghost use Rattle.pv_step.specs.Words.{job};
 ghost use Rattle.pv_step.specs.ReadWords.{asked_job};
-ghost use Rattle.pv_step.specs.Answers.{SomeAnswer};
-ghost use Rattle.pv_step.specs.Causes.{Call, Answered, IsAnswer};
-ghost use Rattle.pv_step.specs.Answering.{JobServed, TextServed, IsHanded, IsOwn, read_fault, reply_view};
+ghost use Rattle.pv_step.specs.Answers.{service};
+ghost use Rattle.pv_step.specs.Answering.{JobServed, TextServed};
 
 use crate::reading::{StepText, read_files};
-use crate::reply::Reply;
 use crate::running::answer;
 use crate::words::{Asked, job_asked};
 use pv_script::{CalmFiles, CalmSink, Files, ReadError, Sink};
-use pv_serve::{NO_JOB, NO_MEMORY, READ_FAULT, tell};
+use pv_serve::{NO_JOB, NO_MEMORY, READ_FAULT, tell, tell_reply};
 use pv_watch::{Hall, Watch};
 use std::alloc::Global;
 
@@ -29,16 +28,7 @@ use std::alloc::Global;
 ///
 /// The hall has one watcher, which keeps a journal, has seen nothing, and wants as many events as can be counted; it is told of the run, if there is one.
 ///
-/// | status | when |
-/// |---|---|
-/// | 0 | the commands are answered, however the run ended |
-/// | 8 | the source is refused |
-/// | 9 | the script is refused |
-/// | 10 | the words are no job |
-/// | 11 | a file that the words name could not be read |
-/// | 12 | the report could not be written |
-/// | 13 | memory ran out, which may come wherever the words are a job |
-/// | 19 | the commands have more than 65536 bytes, or a line that is none |
+/// What each status says is told in docs/FORMATS.md, Commands.
 pub fn step<F: Files, R: Sink>(
     alloc: Global,
     words: &[String],
@@ -47,14 +37,14 @@ pub fn step<F: Files, R: Sink>(
     hall: &mut Hall,
 ) -> u8
     requires hall { hall_slots hall.old its_kind its_wants seen ≡ Present 4 18446744073709551615 [] ∷ [] }
-    ensures answered { let call : Call = record {
+    ensures answered { let call : ReplyCall = record {
       words = texts words.now;
       held = F.held files.old;
       faults_old = F.faults files.old;
       faults_new = F.faults files.new;
       report = sunk R.written R.faults report.old report.new;
       status = result;
-    } in Answered call }
+    } in Replied service call }
     ensures files_same { (n : List ℕ) → F.held files.new n ≡ F.held files.old n }
 
     // Where the words are no job, no file is read.
@@ -81,7 +71,7 @@ fn step_files<F: Files, R: Sink>(
 {
     match read_files(alloc, asked, files) {
         Err(ReadError::NoMemory) => NO_MEMORY,
-        Err(ReadError::Fault) => tell_fault(report),
+        Err(ReadError::Fault) => tell(report, b"fault read\n", READ_FAULT),
         Ok(text) => step_text(alloc, &text, report, hall),
     }
 }
@@ -92,24 +82,9 @@ fn step_text<R: Sink>(alloc: Global, text: &StepText, report: &mut R, hall: &mut
     ensures { TextServed text.now (sunk R.written R.faults report.old report.new) result }
 {
     match answer(alloc, text, hall) {
-        Ok(reply) => tell_reply(&reply, report),
+        Ok(reply) => tell_reply(report, &reply),
         Err(_) => NO_MEMORY,
     }
-}
-
-// Writes what is to be told, and answers its status.
-fn tell_reply<R: Sink>(reply: &Reply, report: &mut R) -> u8
-    requires { IsOwn reply.now.status }
-    ensures { IsHanded (sunk R.written R.faults report.old report.new) result (reply_view reply.now) }
-{
-    tell(report, reply.text.as_slice(), reply.status)
-}
-
-// Tells that a file could not be read.
-fn tell_fault<R: Sink>(report: &mut R) -> u8
-    ensures { IsHanded (sunk R.written R.faults report.old report.new) result read_fault }
-{
-    tell(report, b"fault read\n", READ_FAULT)
 }
 
 /// [`step`] over files and a sink that never fail: the answer with all its bytes, or want of memory, for any words and files.
@@ -121,14 +96,14 @@ pub fn step_calmly(
     hall: &mut Hall,
 ) -> u8
     requires hall { hall_slots hall.old its_kind its_wants seen ≡ Present 4 18446744073709551615 [] ∷ [] }
-    ensures { let call : Call = record {
+    ensures { let call : ReplyCall = record {
       words = texts words.now;
       held = λ n. Some (calm_held files.old n);
       faults_old = λ _. 0;
       faults_new = λ _. 0;
       report = sunk calm_written (λ _. 0) report.old report.new;
       status = result;
-    } in (result ≡ 13) ⊎ SomeAnswer (job call.words) call.held (IsAnswer call) }
+    } in (result ≡ 13) ⊎ SomeReply service call (IsReplied call) }
 {
     step(alloc, words, files, report, hall)
 }

@@ -5,10 +5,8 @@
 
 mod calling;
 mod error;
-mod nowhere;
 mod positions;
 mod reading;
-mod reply;
 mod running;
 mod words;
 

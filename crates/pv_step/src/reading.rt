@@ -1,17 +1,14 @@
 //! The files that are asked for.
-ghost use Rattle.std.specs.Prelude.{◌≡◌, ◌≤◌, ◌+◌, ℕ, List, take, option_map, IfOk, IfSome, IsErrOf};
+ghost use Rattle.std.specs.Prelude.{◌≡◌, ◌≤◌, ℕ, List, take, IfOk, IfSome, IsErrOf};
 ghost use Rattle.pv_script.specs.Outside.{Rose};
-ghost use Rattle.pv_serve.specs.Jobs.{script_files};
-ghost use Rattle.pv_serve.specs.Judged.{script_limit};
-ghost use Rattle.pv_serve.specs.Answer.{script_held};
-ghost use Rattle.pv_serve.specs.Causes.{AnyRose};
+ghost use Rattle.pv_serve.specs.Outside.{AnyRose};
 ghost use Rattle.pv_step.specs.Words.{files_of};
 ghost use Rattle.pv_step.specs.ReadWords.{asked_job};
 ghost use Rattle.pv_step.specs.Answering.{AreRead};
 
 use crate::words::Asked;
 use pv_script::{Files, ReadError, read_all};
-use pv_serve::{SCRIPT_LIMIT, SOURCE_LIMIT};
+use pv_serve::{SOURCE_LIMIT, read_script};
 use pv_shown::COMMANDS_LIMIT;
 use std::alloc::Global;
 
@@ -38,7 +35,7 @@ pub fn read_files<F: Files>(
         Ok(source) => source,
         Err(error) => return Err(error),
     };
-    let script = match read_script(alloc, asked.script, files) {
+    let script = match read_script(alloc, files, asked.script) {
         Ok(script) => script,
         Err(error) => return Err(error),
     };
@@ -49,25 +46,6 @@ pub fn read_files<F: Files>(
             commands,
         }),
         Err(error) => Err(error),
-    }
-}
-
-// Reads a script, if one is named; where none is, it has no bytes.
-fn read_script<F: Files>(
-    alloc: Global,
-    name: Option<&str>,
-    files: &mut F,
-) -> Result<Vec<u8>, ReadError>
-    ensures read { IfOk result (λ v. IfSome (script_held (option_map (λ s. s.now) name.entry) (F.held files.old))
-        (λ text. v.items ≡ take (script_limit + 1) text)) }
-    ensures same { (n : List ℕ) → F.held files.new n ≡ F.held files.old n }
-    ensures later { (n : List ℕ) → F.faults files.old n ≤ F.faults files.new n }
-    ensures cause { IsErrOf result ReadError.Fault →
-        AnyRose (script_files (option_map (λ s. s.now) name.entry)) (F.faults files.old) (F.faults files.new) }
-{
-    match name {
-        Some(name) => read_all(alloc, files, name, SCRIPT_LIMIT),
-        None => Ok(Vec::new(alloc)),
     }
 }
 

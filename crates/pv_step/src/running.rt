@@ -2,22 +2,19 @@
 ghost use Rattle.std.specs.Prelude.{◌≡◌, ◌<◌, ◌∷◌, ◌^◌, [], length, List, IfOk, OnOk};
 ghost use Rattle.pv_watch.specs.Slots.{Present};
 ghost use Rattle.pv_exec.specs.Outlets.{hall_slots};
-ghost use Rattle.pv_serve.specs.Settling.{line_of, status_by};
+ghost use Rattle.pv_serve.specs.Replying.{reply_view, IsOwn};
 ghost use Rattle.pv_journal.specs.Journals.{Row};
 ghost use Rattle.pv_journal.specs.Obeying.{IsJournal};
 ghost use Rattle.pv_shown.specs.Shown.{report_of};
 ghost use Rattle.pv_step.specs.Answers as specified;
 ghost use Rattle.pv_step.specs.Answers.{IsStepped, IsLookedAt, run_of, refused_by};
-ghost use Rattle.pv_step.specs.Answering.{reply_view, IsOwn};
 
 use crate::error::NoMemory;
-use crate::nowhere::Nowhere;
 use crate::reading::StepText;
-use crate::reply::Reply;
 use pv_exec::{Outcome, Ran};
-use pv_journal::check;
+use pv_journal::{JournalError, check, one_verdict};
 use pv_script::Names;
-use pv_serve::{Judged, judge, line, status};
+use pv_serve::{Judgement, Nowhere, Reply, judge, line, status};
 use pv_shown::{Command, CommandError, commands, refusal, report};
 use pv_watch::{Hall, Watch};
 use std::alloc::Global;
@@ -80,24 +77,20 @@ fn look(
     let source = text.source.as_slice();
     let script = text.script.as_slice();
     let mut output = Nowhere;
-    let Ok(judged) = judge(alloc, source, script, TURNS, true, None, &mut output, hall) else {
+    let Ok(judgement) = judge(alloc, source, script, TURNS, true, None, &mut output, hall) else {
         return Err(NoMemory);
     };
-    let told = line(alloc, &judged, TURNS)?;
-    match &judged {
-        Judged::Ran { ran, names } => {
+    let told = line(alloc, &judgement)?;
+    match &judgement {
+        Judgement::Ran { ran, names, .. } => {
             let text = hall.texts(names)?;
             let journal = text.as_slice();
             is_text(journal);
             let line = told.as_slice();
             show(alloc, ran, journal, line, commands)
         }
-        Judged::Source(_) => Ok(Reply {
-            status: status(&judged),
-            text: told,
-        }),
-        Judged::Script(_) => Ok(Reply {
-            status: status(&judged),
+        _ => Ok(Reply {
+            status: status(&judgement),
             text: told,
         }),
     }
@@ -110,8 +103,8 @@ fn is_text(bytes: &[u8])
     let _ = bytes.iter();
 }
 
-// Shows what commands ask for of a run that ended so, by its journal and its line. What a run tells of its memory obeys the memory model, so its
-// journal has no line that is wrong.
+// Shows what commands ask for of a run that ended so, by its journal and its line. The only error is want of memory: what a run tells of its memory
+// obeys the memory model, so no line of its journal is wrong.
 fn show(
     alloc: Global,
     ran: &Ran,
@@ -119,13 +112,20 @@ fn show(
     line: &[u8],
     commands: &[Command],
 ) -> Result<Reply, NoMemory>
+    requires { (rows : List Row) × IsJournal rows journal.now }
     ensures shown { IfOk result (λ a. (rows : List Row) × IsJournal rows journal.now × (reply_view a
         ≡ record { status = 0; text = report_of (run_of ran.now.turns ran.now.outcome line.now rows) commands.now })) }
     ensures own { IfOk result (λ a. a.status ≡ 0) }
 {
     let mut names = Names::new(alloc);
-    let Ok(lines) = check(alloc, journal, &mut names) else {
-        return Err(NoMemory);
+    let lines = match check(alloc, journal, &mut names) {
+        Ok(lines) => lines,
+        Err(JournalError::NoMemory) => return Err(NoMemory),
+        Err(JournalError::Bad { .. }) => {
+            one_verdict();
+            is_text(journal);
+            unreachable!()
+        }
     };
     let ran = pv_shown::Ran {
         names: &names,

@@ -1,25 +1,22 @@
 -- What one case comes to.
-use Rattle.std.proofs.Common.{◌≡◌, ℕ, ◌+◌, true, false, List, [], take, map, refl, sym, ap, ◌∙◌, subst}
+use Rattle.std.proofs.Common.{◌≡◌, ℕ, ◌+◌, true, false, List, [], take, sym, ap, ◌∙◌, subst}
 use Rattle.std.specs.Prelude.{Option, Some, None}
 use Rattle.pv_num.specs.declared.faults.Clause.{Clause}
 use Rattle.pv_script.specs.Outside.{Gains}
-use Rattle.pv_exec.specs.Answering.{end_of}
-use Rattle.pv_exec.specs.Outlets.{event_of}
-use Rattle.pv_exec.specs.declared.program.Ran.{Ran}
 use Rattle.pv_serve.specs.declared.words.Task.TheVariants as task
-use Rattle.pv_serve.specs.declared.judging.Judged as declared
-use Rattle.pv_serve.specs.declared.judging.Judged.TheVariants as judged
-use Rattle.pv_serve.specs.Judged.{Judged, Fit, script_limit}
-use Rattle.pv_serve.specs.Judging.{ending_of}
-use Rattle.pv_serve.specs.Verdicts.{Ended, Refused, Script}
-use Rattle.pv_serve.specs.Loading.{refusal_of}
-use Rattle.pv_serve.specs.Settling.{SomeRunBy, IsRan, IsOutcome, line_of}
+use Rattle.pv_serve.specs.declared.judging.Judgement.{Judgement}
+use Rattle.pv_serve.specs.Judged.{Judged, script_limit}
+use Rattle.pv_serve.specs.Judging.{Shown, verdict_of}
+use Rattle.pv_serve.specs.Verdicts.{output_of}
+use Rattle.pv_serve.specs.Report.{report_line}
+use Rattle.pv_serve.specs.Settling.{IsOutcome}
 use Rattle.pv_serve.specs.Outside.{Sunk, Halls, Wrote}
 use Rattle.pv_serve.proofs.Limits.{more_decides}
+use Rattle.pv_serve.proofs.OutcomeLemmas.{judged_of}
 use Rattle.pv_cases.specs.Cases.{SuiteCase}
 use Rattle.pv_cases.specs.Suites.{Gave, CaseTold, told_of}
-use Rattle.pv_suite.specs.Answers.{Given, CaseComes, is_long, wanted_of}
-use Rattle.pv_suite.specs.Answering.{AreRead, IsRead, IsCaseOf, clause_by}
+use Rattle.pv_suite.specs.Answers.{Given, CaseComes, clause_of, is_long, wanted_of}
+use Rattle.pv_suite.specs.Answering.{AreRead, IsRead, IsCaseOf}
 use Rattle.pv_suite.proofs.FilesLemmas.{same_length, same_output}
 
 -- ---- from what `judge` answers
@@ -29,50 +26,18 @@ gained : (out : Sunk) (bytes output : List ℕ) → out.old ≡ Some [] → out.
 gained out bytes output empty now wrote =
     (subst (λ (n : Option (List ℕ)). Gains (Some []) n bytes) now (subst (λ (o : Option (List ℕ)). Gains o out.new bytes) empty wrote)).adds
 
-run_comes : (source script : List ℕ) (bound : ℕ) (out : Sunk) (hall : Halls) (ran : Ran) (names : List (List ℕ)) (line output : List ℕ) (clause : Option Clause) → out.old ≡ Some [] → out.new ≡ Some output
-    → SomeRunBy source script bound true None (IsRan out hall ran names) → line ≡ line_of (judged.Ran ran names) bound → clause ≡ clause_by (judged.Ran ran names)
-    → CaseComes source script bound (record { line = line; output = output; clause = clause })
-run_comes source script bound out hall ran names line output clause empty now is told broken =
-    let ending = ending_of ran names (record { output = output; events = map event_of (end_of is.run).events }) in
-    record {
-      verdict = Ended ending bound;
-      judged = Fit is.job.lines is.job.unit is.job.short is.job.reads is.job.comes (
-        ending,
-        record {
-          run = is.run;
-          runs = is.runs;
-          ends = record {
-            outcome = is.holds.ended.outcome;
-            turns = is.holds.ended.turns;
-            output = gained out (end_of is.run).output output empty now is.holds.gains;
-            events = refl;
-            sides = is.holds.ended.sides;
-            names = is.holds.named;
-          };
-        },
-        refl,
-      );
-      is = λ i. record { line = told i; output = output; clause = broken i };
-    }
-
 -- the line, the output and the clause of what `judge` answers are those of a verdict
-pub comes_by : (source script : List ℕ) (bound : ℕ) (out : Sunk) (hall : Halls) (j : declared.Judged) (line output : List ℕ) (clause : Option Clause) → out.old ≡ Some [] → out.new ≡ Some output
-    → IsOutcome source script bound true None out hall j → line ≡ line_of j bound → clause ≡ clause_by j → CaseComes source script bound (record { line = line; output = output; clause = clause })
-comes_by source script bound out hall (judged.Ran ran names) line output clause empty now is told broken =
-    run_comes source script bound out hall ran names line output clause empty now is told broken
-comes_by source script bound out hall (judged.Source why) line output clause empty now is told broken =
-    let none = gained out [] output empty now is.1.gains in
+pub comes_by : (source script : List ℕ) (bound : ℕ) (out : Sunk) (hall : Halls) (j : Judgement) (line output : List ℕ) (clause : Option Clause) → out.old ≡ Some [] → out.new ≡ Some output
+    → IsOutcome source script bound true None out hall j → ((shown : Shown) → line ≡ report_line (verdict_of j shown)) → ((shown : Shown) → clause ≡ clause_of (verdict_of j shown))
+    → CaseComes source script bound (record { line = line; output = output; clause = clause })
+comes_by source script bound out hall j line output clause empty now is told broken =
+    let judged = judged_of source script bound true out hall j is in
+    let verdict = verdict_of j judged.shown in
+    let printed : output ≡ output_of verdict = gained out (output_of verdict) output empty now judged.gains in
     record {
-      verdict = Refused (refusal_of why);
-      judged = is.0.judged (task.Run bound true) None;
-      is = λ i. record { line = told i; output = none i; clause = broken i };
-    }
-comes_by source script bound out hall (judged.Script why) line output clause empty now is told broken =
-    let none = gained out [] output empty now is.1.gains in
-    record {
-      verdict = Script why;
-      judged = is.0.judged (task.Run bound true) None;
-      is = λ i. record { line = told i; output = none i; clause = broken i };
+      verdict = verdict;
+      judged = judged.judged;
+      is = λ i. record { line = told judged.shown i; output = printed i; clause = broken judged.shown i };
     }
 
 -- ---- for the code that compares

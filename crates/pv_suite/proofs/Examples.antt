@@ -9,7 +9,8 @@ use Rattle.pv_cases.specs.Cases.{SuiteCase, cases_of}
 use Rattle.pv_cases.specs.Suites.{long_line, list_line}
 use Rattle.pv_serve.specs.Report.{words_line}
 use Rattle.pv_suite.specs.Words.{list_of}
-use Rattle.pv_suite.specs.Answers.{Given, given_of, is_long, broken_by, Came, LongOutput, TooLong, CasesCome, Answer, no_job, refused_by, answer_of}
+use Rattle.pv_serve.specs.Replies.{no_job}
+use Rattle.pv_suite.specs.Answers.{Given, given_of, is_long, broken_by, Came, LongOutput, TooLong, CasesCome, refused_by, reply_of}
 use Rattle.pv_suite.specs.Causes.{list_files}
 
 -- ---- words (worked: list_of)
@@ -39,7 +40,7 @@ listed : (list_files (cases_of (codes "a.c s - 9 x\n#\nb.c - o 9 y")) ≡ codes 
     × (list_files (cases_of (codes "a.c s")) ≡ [])
 listed = (refl, refl)
 
--- ---- what all cases come to (worked: CasesCome, answer_of)
+-- ---- what all cases come to (worked: CasesCome, reply_of)
 
 -- an output that is too long is refused before the source of the next case, which isn't told
 long_first : (output : List ℕ) → is_long (Some output) ≡ true
@@ -50,7 +51,7 @@ long_first output long = TooLong long refl
 untold : (came : Came) → CasesCome (held []) 1 (a_case (codes "b.c") None (Some (codes "o")) ∷ []) came
 untold came = tt
 
-refusals : (answer_of (LongOutput 2) ≡ record { status = 16; text = long_line 2 }) × (refused_by error.Size ≡ record { status = 16; text = codes "list reason=size\n" })
+refusals : (reply_of (LongOutput 2) ≡ record { status = 16; text = long_line 2 }) × (refused_by error.Size ≡ record { status = 16; text = codes "list reason=size\n" })
     × (no_job ≡ record { status = 10; text = codes "words\n" })
 refusals = (refl, refl, refl)
 

@@ -50,7 +50,7 @@ joined : (source script : Option (List ℕ)) (output : Option (Option (List ℕ)
     → IfSome source (λ all. a ≡ take 1048577 all) → IfSome script (λ all. b ≡ take (script_limit + 1) all)
     → IfSome output (λ (h : Option (List ℕ)). c ≡ option_map (λ (all : List ℕ). take (output_limit + 1) all) h)
     → IsRead (option_and_then (λ (s : List ℕ). option_and_then (λ (t : List ℕ).
-    option_map (λ (o : Option (List ℕ)). record { source = s; script = t; output = o }) output) script) source) (record { source = a; script = b; output = c })
+    option_and_then (λ (o : Option (List ℕ)). Some (record { source = s; script = t; output = o })) output) script) source) (record { source = a; script = b; output = c })
 joined None script output a b c p q r = tt
 joined (Some s) None output a b c p q r = tt
 joined (Some s) (Some t) None a b c p q r = tt

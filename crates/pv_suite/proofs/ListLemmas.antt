@@ -4,16 +4,18 @@ use Rattle.std.specs.Prelude.{Option, Some, None, IfSome, Result, Ok, Err, IfOk,
 use Rattle.std.specs.List.{slice_split, flat_map}
 use Rattle.std.proofs.lemmas.Bool.{lt-ltb, cases_lt}
 use Rattle.std.proofs.lemmas.List.{length-take, take_all}
-use Rattle.pv_serve.specs.Outside.{Sunk}
-use Rattle.pv_serve.specs.Causes.{AnyRose}
+use Rattle.pv_serve.specs.Outside.{AnyRose, Sunk}
+use Rattle.pv_serve.specs.Replies.{Reply}
+use Rattle.pv_serve.specs.Replying.{IsOwn}
+use Rattle.pv_serve.proofs.RepliesLemmas.{more_replied, small, large}
 use Rattle.pv_cases.specs.declared.list.ListError.{ListError}
 use Rattle.pv_cases.specs.declared.list.ListError.TheVariants as error
 use Rattle.pv_cases.specs.Cases.{SuiteCase, cases_of, after_lines}
 use Rattle.pv_cases.specs.Suites.{CaseTold, all_passed, suite_status}
 use Rattle.pv_cases.specs.Views.{OrNoMemory}
-use Rattle.pv_suite.specs.Answers.{Answer, Came, AllTold, LongOutput, SomeCame, ListAnswer, answer_of, refused_by}
-use Rattle.pv_suite.specs.Causes.{case_files, list_files, CaseRose}
-use Rattle.pv_suite.specs.Answering.{ReadServed, IsServed, CaseLost, NoRoom, ListServed, WasTold, WasLost, HadNoRoom, IsOwn}
+use Rattle.pv_suite.specs.Answers.{Came, AllTold, LongOutput, IsListReply, IsReply, refused_by, reply_of}
+use Rattle.pv_suite.specs.Causes.{case_files, list_files, CaseRose, ListRose}
+use Rattle.pv_suite.specs.Answering.{ReadServed, ListServed}
 use Rattle.pv_suite.proofs.RoseLemmas.{any_within}
 use Rattle.pv_suite.proofs.WalkLemmas.{same_held}
 
@@ -27,11 +29,12 @@ list_cut all = elim (cases_lt 65536 (length all)) [
   | inr short ↦ ap cases_of (take_all 65537 all (omega arith))
 ]
 
-answered : (name : Option (List ℕ)) (list : List ℕ) (old mid : List ℕ → Option (List ℕ)) (P : Answer → Type 0) → mid ≡ old → IfSome name (λ all. list ≡ take 65537 all)
-    → ListAnswer (cases_of list) mid P → IfSome name (λ all. ListAnswer (cases_of all) old P)
-answered None list old mid P same read is = tt
-answered (Some all) list old mid P same read is =
-    subst (λ (r : Result (List SuiteCase) ListError). ListAnswer r old P) (ap cases_of read ∙ list_cut all) (subst (λ (h : List ℕ → Option (List ℕ)). ListAnswer (cases_of list) h P) same is)
+answered : (name : Option (List ℕ)) (list : List ℕ) (old mid : List ℕ → Option (List ℕ)) (reply : Reply) → mid ≡ old → IfSome name (λ all. list ≡ take 65537 all)
+    → IsListReply (cases_of list) mid reply → IfSome name (λ all. IsListReply (cases_of all) old reply)
+answered None list old mid reply same read is = tt
+answered (Some all) list old mid reply same read is =
+    subst (λ (r : Result (List SuiteCase) ListError). IsListReply r old reply) (ap cases_of read ∙ list_cut all)
+    (subst (λ (h : List ℕ → Option (List ℕ)). IsListReply (cases_of list) h reply) same is)
 
 rose : (name : Option (List ℕ)) (list : List ℕ) (old mid new : List ℕ → ℕ) → ((n : List ℕ) → old n ≤ mid n) → IfSome name (λ all. list ≡ take 65537 all)
     → AnyRose (list_files (cases_of list)) mid new → CaseRose name old new
@@ -44,37 +47,29 @@ rose (Some all) list old mid new later read any =
 pub list_served : (name list : List ℕ) (old mid : List ℕ → Option (List ℕ)) (faults_old faults_mid faults_new : List ℕ → ℕ) (report : Sunk) (status : ℕ)
     → ((n : List ℕ) → mid n ≡ old n) → ((n : List ℕ) → faults_old n ≤ faults_mid n) → IfSome (old name) (λ all. list ≡ take 65537 all)
     → ReadServed list mid faults_mid faults_new report status → ListServed name old faults_old faults_new report status
-list_served name list old mid fo fm fn report status same later read (IsServed a is own w) =
-    WasTold a (answered (old name) list old mid (λ (b : Answer). a ≡ b) (same_held old mid same) read is) own w
-list_served name list old mid fo fm fn report status same later read (CaseLost any w) = WasLost (inr (rose (old name) list fo fm fn later read any)) w
-list_served name list old mid fo fm fn report status same later read (NoRoom is none) = HadNoRoom is none
+list_served name list old mid fo fm fn report status same later read served =
+    more_replied (IsListReply (cases_of list) mid) (IsReply name old) (AnyRose (list_files (cases_of list)) fm fn) (ListRose name old fo fn) report status
+    (λ reply is. answered (old name) list old mid reply (same_held old mid same) read is) (λ any. inr (rose (old name) list fo fm fn later read any)) served
 
 -- ---- for the code that answers a list
 
--- by the cases that it has
-pub cases_answered : {A E : Type 0} (view : A → Answer) (w : Result (List SuiteCase) ListError) (cs : List SuiteCase) (held : List ℕ → Option (List ℕ)) (r : Result A E) → Ok cs ≡ w
-    → IfOk r (λ a. SomeCame held cs (λ (b : Answer). view a ≡ b)) → IfOk r (λ a. ListAnswer w held (λ (b : Answer). view a ≡ b))
-cases_answered view w cs held (Err e) is come = tt
-cases_answered view w cs held (Ok a) is come = subst (λ (x : Result (List SuiteCase) ListError). ListAnswer x held (λ (b : Answer). view a ≡ b)) is come
+-- by its reading: the cases that it has, or the reason for which it has none
+pub by_reading : {A E : Type 0} (view : A → Reply) (w x : Result (List SuiteCase) ListError) (held : List ℕ → Option (List ℕ)) (r : Result A E) → x ≡ w
+    → IfOk r (λ a. IsListReply x held (view a)) → IfOk r (λ a. IsListReply w held (view a))
+by_reading view w x held r is told = subst (λ (y : Result (List SuiteCase) ListError). IfOk r (λ a. IsListReply y held (view a))) is told
 
 pub cases_rose : (w : Result (List SuiteCase) ListError) (cs : List SuiteCase) (old new : List ℕ → ℕ) → Ok cs ≡ w → AnyRose (flat_map case_files cs) old new → AnyRose (list_files w) old new
 cases_rose w cs old new is any = subst (λ (x : Result (List SuiteCase) ListError). AnyRose (list_files x) old new) is any
-
--- by the reason for which it has none
-told_by : {A E : Type 0} (view : A → Answer) (w : Result (List SuiteCase) ListError) (e : ListError) (held : List ℕ → Option (List ℕ)) (r : Result A E) → Err e ≡ w
-    → IfOk r (λ a. view a ≡ refused_by e) → IfOk r (λ a. ListAnswer w held (λ (b : Answer). view a ≡ b))
-told_by view w e held (Err x) is told = tt
-told_by view w e held (Ok a) is told = subst (λ (x : Result (List SuiteCase) ListError). ListAnswer x held (λ (b : Answer). view a ≡ b)) is told
 
 none_told : {A E : Type 0} (P : A → Type 0) (r : Result A E) (x : E) → r ≡ Err x → IfOk r P
 none_told P (Err y) x is = tt
 none_told P (Ok a) x is = absurd cc
 
-pub refused_answered : {A E B : Type 0} (view : A → Answer) (w : Result (List SuiteCase) ListError) (e : ListError) (held : List ℕ → Option (List ℕ)) (f : B → List SuiteCase) (r : Result A E) (x : E)
-    → OrNoMemory f (Err e) w → IfOk r (λ a. view a ≡ refused_by e) → (e ≡ error.NoMemory → r ≡ Err x) → IfOk r (λ a. ListAnswer w held (λ (b : Answer). view a ≡ b))
-refused_answered view w error.Size held f r x is told memory = told_by view w error.Size held r is told
-refused_answered view w (error.BadLine n) held f r x is told memory = told_by view w (error.BadLine n) held r is told
-refused_answered view w error.NoMemory held f r x is told memory = none_told (λ a. ListAnswer w held (λ (b : Answer). view a ≡ b)) r x (memory refl)
+pub refused_answered : {A E B : Type 0} (view : A → Reply) (w : Result (List SuiteCase) ListError) (e : ListError) (held : List ℕ → Option (List ℕ)) (f : B → List SuiteCase) (r : Result A E) (x : E)
+    → OrNoMemory f (Err e) w → IfOk r (λ a. view a ≡ refused_by e) → (e ≡ error.NoMemory → r ≡ Err x) → IfOk r (λ a. IsListReply w held (view a))
+refused_answered view w error.Size held f r x is told memory = by_reading view w (Err error.Size) held r is told
+refused_answered view w (error.BadLine n) held f r x is told memory = by_reading view w (Err (error.BadLine n)) held r is told
+refused_answered view w error.NoMemory held f r x is told memory = none_told (λ a. IsListReply w held (view a)) r x (memory refl)
 
 -- ---- the statuses of a list
 
@@ -82,13 +77,13 @@ own_status : (ts : List CaseTold) → IsOwn (suite_status ts)
 own_status ts = by (all_passed ts)
   where
     by : (b : Bool) → IsOwn (if b then 0 else 15)
-    by true = inl refl
-    by false = inr (inl refl)
+    by true = small 0 (omega arith)
+    by false = large 15 (omega arith)
 
-own_answer : (came : Came) → IsOwn (answer_of came).status
-own_answer (AllTold ts) = own_status ts
-own_answer (LongOutput n) = inr (inr refl)
+own_reply : (came : Came) → IsOwn (reply_of came).status
+own_reply (AllTold ts) = own_status ts
+own_reply (LongOutput n) = large 16 (omega arith)
 
-pub list_own : (r : Result (List SuiteCase) ListError) (held : List ℕ → Option (List ℕ)) (a : Answer) → ListAnswer r held (λ (b : Answer). a ≡ b) → IsOwn a.status
-list_own (Err e) held a is = inr (inr (ap (λ (b : Answer). b.status) is))
-list_own (Ok cs) held a is = subst (λ (b : Answer). IsOwn b.status) (sym is.holds) (own_answer is.came)
+pub list_own : (r : Result (List SuiteCase) ListError) (held : List ℕ → Option (List ℕ)) (reply : Reply) → IsListReply r held reply → IsOwn reply.status
+list_own (Err e) held reply is = subst (λ (b : Reply). IsOwn b.status) (sym is) (large 16 (omega arith))
+list_own (Ok cs) held reply is = subst (λ (b : Reply). IsOwn b.status) (sym is.2) (own_reply is.0)

@@ -5,7 +5,7 @@ use Rattle.std.specs.List.{flat_map}
 use Rattle.std.proofs.lemmas.List.{length-append, get_or_append_left}
 use Rattle.pv_script.specs.Outside.{Rose}
 use Rattle.pv_serve.specs.Jobs.{script_files}
-use Rattle.pv_serve.specs.Causes.{AnyRose}
+use Rattle.pv_serve.specs.Outside.{AnyRose}
 use Rattle.pv_cases.specs.Cases.{SuiteCase}
 use Rattle.pv_suite.specs.Causes.{case_files}
 

@@ -1,14 +1,11 @@
 -- A bridge: what the parts of the top call come to.
-use Rattle.std.specs.Prelude.{◌≡◌, ◌≢◌, ◌⊎◌, ℕ, ◌+◌, true, false, List, take, map, Option, Some, None, IfSome, option_map, Vec}
+use Rattle.std.specs.Prelude.{◌≡◌, ℕ, ◌+◌, true, false, List, take, map, Option, Some, None, IfSome, option_map, Vec}
 use Rattle.std.specs.declared.alloc.Global.{Global}
-use Rattle.pv_num.specs.declared.faults.Clause.{Clause}
 use Rattle.pv_script.specs.Memory.{mem_written}
-use Rattle.pv_serve.specs.declared.judging.Judged as declared
-use Rattle.pv_serve.specs.declared.judging.Judged.TheVariants as judged
 use Rattle.pv_serve.specs.Comes.{source_limit}
 use Rattle.pv_serve.specs.Judged.{script_limit}
-use Rattle.pv_serve.specs.Report.{fault_line}
-use Rattle.pv_serve.specs.Outside.{Sunk, SinkRose, Wrote, WrotePrefix}
+use Rattle.pv_serve.specs.Outside.{AnyRose, Sunk}
+use Rattle.pv_serve.specs.Replying.{JobReplied}
 use Rattle.pv_cases.specs.Cases.{SuiteCase, cases_of}
 use Rattle.pv_cases.specs.Suites.{Gave, CaseTold, told_of}
 use Rattle.pv_cases.specs.Views.{told_view}
@@ -16,9 +13,7 @@ use Rattle.pv_suite.specs.declared.files.CaseText.{CaseText}
 use Rattle.pv_suite.specs.declared.running.Ended.{Ended}
 use Rattle.pv_suite.specs.declared.walking.Walked.{Walked}
 use Rattle.pv_suite.specs.declared.walking.Walked.TheVariants as walked
-use Rattle.pv_suite.specs.declared.answering.Answered.{Answered}
-use Rattle.pv_suite.specs.Answers.{Given, Came, AllTold, LongOutput, CaseComes, Answer, ListAnswer, broken_by, is_long, wanted_of, output_limit}
-use Rattle.pv_serve.specs.Causes.{AnyRose}
+use Rattle.pv_suite.specs.Answers.{Given, Came, AllTold, LongOutput, CaseComes, IsListReply, IsReply, is_long, wanted_of, output_limit}
 use Rattle.pv_suite.specs.Causes.{ListRose, list_files}
 
 -- ---- files
@@ -38,12 +33,6 @@ abbrev pub IsRead : Option Given → (read : Given) → Type 0
 IsRead held read = IfSome held (λ (g : Given). AreRead g read)
 
 -- ---- runs
-
--- 3.4.3: the clause that what `judge` answers breaks, if it has no defined behaviour
-abbrev pub clause_by : declared.Judged → Option Clause
-clause_by (judged.Ran ran names) = broken_by ran.outcome
-clause_by (judged.Source why) = None
-clause_by (judged.Script why) = None
 
 -- 5.1.2.3: what the code says of how a case ended
 abbrev pub ended_view : Ended → Gave
@@ -70,37 +59,15 @@ abbrev pub walked_view : Walked → Came
 walked_view (walked.All told) = AllTold (map told_view told.items)
 walked_view (walked.Long number) = LongOutput number
 
--- ---- answers
+-- ---- replies
 
--- 7.22.4.4p5: the code's answer
-abbrev pub answered_view : Answered → Answer
-answered_view a = record { status = a.status; text = a.text.items }
-
--- docs/FORMATS.md, Suites: the statuses of a list (7.22.4.4p5)
-abbrev pub IsOwn : ℕ → Type 0
-IsOwn status = (status ≡ 0) ⊎ ((status ≡ 15) ⊎ (status ≡ 16))
-
--- 7.22.4.4p5: an answer is written, with its status; or a write failed, and a first part was written (7.21.8.2p3)
-pub record IsWritten (report : Sunk) (status : ℕ) (a : Answer) : Type 0 where
-  pub told : status ≢ 12 → (status ≡ a.status) × Wrote report a.text
-  pub lost : status ≡ 12 → SinkRose report × WrotePrefix report a.text
-
--- docs/FORMATS.md, Suites: the answer where a read failed (7.21.8.1p3)
-abbrev pub read_fault : Answer
-read_fault = record { status = 11; text = fault_line }
-
--- docs/FORMATS.md, Suites: what came of a list (5.1.2.3) of which this was read: it was answered; a file that it names could not be read (7.21.8.1p3); or there
+-- docs/FORMATS.md, Suites: what came of a list (5.1.2.3) of which this was read: it got a reply; a file that it names could not be read (7.21.8.1p3); or there
 -- was no memory
-pub data ReadServed (list : List ℕ) (held : List ℕ → Option (List ℕ)) (faults_old faults_new : List ℕ → ℕ) (report : Sunk) (status : ℕ) : Type 0 where
-  IsServed : (a : Answer) → ListAnswer (cases_of list) held (λ (b : Answer). a ≡ b) → IsOwn a.status → IsWritten report status a
-      → ReadServed list held faults_old faults_new report status
-  CaseLost : AnyRose (list_files (cases_of list)) faults_old faults_new → IsWritten report status read_fault → ReadServed list held faults_old faults_new report status
-  NoRoom : status ≡ 13 → report.new ≡ report.old → ReadServed list held faults_old faults_new report status
+abbrev pub ReadServed : (list : List ℕ) (held : List ℕ → Option (List ℕ)) (faults_old faults_new : List ℕ → ℕ) (report : Sunk) (status : ℕ) → Type 0
+ReadServed list held faults_old faults_new report status =
+    JobReplied (IsListReply (cases_of list) held) (AnyRose (list_files (cases_of list)) faults_old faults_new) report status
 
--- docs/FORMATS.md, Suites: what came of a list (5.1.2.3): it was answered; a file could not be read (7.21.8.1p3), the list or one that it names; or there
--- was no memory
-pub data ListServed (name : List ℕ) (held : List ℕ → Option (List ℕ)) (faults_old faults_new : List ℕ → ℕ) (report : Sunk) (status : ℕ) : Type 0 where
-  WasTold : (a : Answer) → IfSome (held name) (λ (list : List ℕ). ListAnswer (cases_of list) held (λ (b : Answer). a ≡ b)) → IsOwn a.status
-      → IsWritten report status a → ListServed name held faults_old faults_new report status
-  WasLost : ListRose (Some name) held faults_old faults_new → IsWritten report status read_fault → ListServed name held faults_old faults_new report status
-  HadNoRoom : status ≡ 13 → report.new ≡ report.old → ListServed name held faults_old faults_new report status
+-- docs/FORMATS.md, Suites: what came of the list in a file (5.1.2.3): it got a reply; a file could not be read (7.21.8.1p3), the list or one that it names; or
+-- there was no memory
+abbrev pub ListServed : (name : List ℕ) (held : List ℕ → Option (List ℕ)) (faults_old faults_new : List ℕ → ℕ) (report : Sunk) (status : ℕ) → Type 0
+ListServed name held faults_old faults_new report status = JobReplied (IsReply name held) (ListRose name held faults_old faults_new) report status

@@ -1,16 +1,17 @@
--- The answer that a list of cases, or words that are no job, must get.
-use Rattle.std.specs.Prelude.{◌≡◌, ℕ, ◌+◌, Bool, true, false, List, [], ◌∷◌, length, nat_lt, Option, Some, None, Result, Ok, Err, IfSome, option_map, option_and_then}
+-- The reply that a list of cases must get.
+use Rattle.std.specs.Prelude.{◌≡◌, ℕ, ◌+◌, Bool, true, false, List, [], ◌∷◌, length, nat_lt, Option, Some, None, Result, Ok, Err, IfSome, option_map}
 use Rattle.pv_num.specs.declared.faults.Clause.{Clause}
 use Rattle.pv_exec.specs.declared.outcome.Outcome.{Outcome}
 use Rattle.pv_exec.specs.declared.outcome.Outcome.TheVariants as outcome
 use Rattle.pv_cases.specs.declared.list.ListError.{ListError}
-use Rattle.pv_cases.specs.Cases.{SuiteCase, cases_of}
+use Rattle.pv_cases.specs.Cases.{SuiteCase, ◌>>=◌, cases_of}
 use Rattle.pv_cases.specs.Suites.{Gave, Wanted, CaseTold, told_of, suite_text, suite_status, list_line, long_line}
 use Rattle.pv_serve.specs.declared.words.Task.TheVariants as task
-use Rattle.pv_serve.specs.Verdicts.{Verdict, Ended, Settled, Described, Refused, Script, output_of}
+use Rattle.pv_serve.specs.Verdicts.{Verdict, Ended, Settled, output_of}
 use Rattle.pv_serve.specs.Judged.{Judged}
-use Rattle.pv_serve.specs.Report.{report_line, words_line}
+use Rattle.pv_serve.specs.Report.{report_line}
 use Rattle.pv_serve.specs.Answer.{script_held}
+use Rattle.pv_serve.specs.Replies.{Reply}
 
 -- ---- a case
 
@@ -32,9 +33,11 @@ output_held (Some name) held = option_map (λ (bytes : List ℕ). Some bytes) (h
 
 -- 7.21.3p8: the same of all files of a case
 abbrev pub given_of : SuiteCase → (held : List ℕ → Option (List ℕ)) → Option Given
-given_of c held = option_and_then (λ (source : List ℕ). option_and_then (λ (script : List ℕ).
-    option_map (λ (output : Option (List ℕ)). record { source = source; script = script; output = output }) (output_held c.output held))
-    (script_held c.script held)) (held c.source)
+given_of c held = do
+  source ← held c.source
+  script ← script_held c.script held
+  output ← output_held c.output held
+  Some (record { source = source; script = script; output = output })
 
 -- 5.2.4.1: the output of a case is too long to be compared
 abbrev pub is_long : Option (List ℕ) → Bool
@@ -43,23 +46,14 @@ is_long (Some output) = nat_lt output_limit (length output)
 
 -- 3.4.3: the clause that the end of a run breaks, if it has no defined behaviour
 abbrev pub broken_by : Outcome → Option Clause
-broken_by (outcome.Exit status) = None
 broken_by (outcome.Undefined fault line) = Some fault.clause
-broken_by (outcome.Indeterminate line) = None
-broken_by (outcome.Undecided line) = None
-broken_by (outcome.Placement reason name k line) = None
-broken_by (outcome.Storage live size line) = None
-broken_by outcome.Turns = None
-broken_by (outcome.Abort line) = None
-broken_by (outcome.SidesEnded pair) = None
+broken_by _ = None
 
 -- 3.4.3: the same of a verdict
 abbrev pub clause_of : Verdict → Option Clause
 clause_of (Ended e bound) = broken_by e.outcome
 clause_of (Settled e bound listed) = broken_by e.outcome
-clause_of (Described text) = None
-clause_of (Refused refusal) = None
-clause_of (Script why) = None
+clause_of _ = None
 
 -- 5.1.2.3: what a case came to, by the verdict on its source: the first line of its report, its output, and its clause
 abbrev pub gave_of : Verdict → Gave
@@ -100,38 +94,22 @@ abbrev pub CasesCome : (held : List ℕ → Option (List ℕ)) (n : ℕ) → Lis
 CasesCome held n [] came = came ≡ AllTold []
 CasesCome held n (c ∷ cs) came = IfSome (given_of c held) (λ (g : Given). FirstComes n c g (CasesCome held (n + 1) cs) came)
 
--- ---- answers
+-- ---- replies
 
--- 7.22.4.4p5: the status that the program ends with, and what it writes (docs/FORMATS.md, Suites)
-pub record Answer : Type 0 where
-  pub status : ℕ
-  pub text : List ℕ
-
--- 5.1.2.2.1p2: the answer to words that are no job
-abbrev pub no_job : Answer
-no_job = record { status = 10; text = words_line }
-
--- 5.1.1.3p1: the answer to a list that has no reading
-abbrev pub refused_by : ListError → Answer
+-- 5.1.1.3p1: the reply to a list that has no reading
+abbrev pub refused_by : ListError → Reply
 refused_by e = record { status = 16; text = list_line e }
 
--- docs/FORMATS.md, Suites: the answer to a list whose cases came to this (5.1.2.3)
-abbrev pub answer_of : Came → Answer
-answer_of (AllTold told) = record { status = suite_status told; text = suite_text told }
-answer_of (LongOutput n) = record { status = 16; text = long_line n }
+-- docs/FORMATS.md, Suites: the reply to a list whose cases came to this (5.1.2.3)
+abbrev pub reply_of : Came → Reply
+reply_of (AllTold told) = record { status = suite_status told; text = suite_text told }
+reply_of (LongOutput n) = record { status = 16; text = long_line n }
 
--- docs/FORMATS.md, Suites: the cases come to something (5.1.2.3), and of the answer P holds
-pub record SomeCame (held : List ℕ → Option (List ℕ)) (cases : List SuiteCase) (P : Answer → Type 0) : Type 0 where
-  pub came : Came
-  pub come : CasesCome held 1 cases came
-  pub holds : P (answer_of came)
+-- docs/FORMATS.md, Suites: a reply to a list with this reading, or with none: its cases come to something (5.1.2.3)
+abbrev pub IsListReply : Result (List SuiteCase) ListError → (held : List ℕ → Option (List ℕ)) → Reply → Type 0
+IsListReply (Err e) held reply = reply ≡ refused_by e
+IsListReply (Ok cases) held reply = (came : Came) × CasesCome held 1 cases came × (reply ≡ reply_of came)
 
--- docs/FORMATS.md, Suites: there is an answer to a list with this reading, or with none (5.1.2.3), and of it P holds
-abbrev pub ListAnswer : Result (List SuiteCase) ListError → (held : List ℕ → Option (List ℕ)) → (Answer → Type 0) → Type 0
-ListAnswer (Err e) held P = P (refused_by e)
-ListAnswer (Ok cases) held P = SomeCame held cases P
-
--- docs/FORMATS.md, Suites: there is an answer to the job (5.1.2.2.1p2), and of it P holds; nothing is said where the list isn't told
-abbrev pub SomeAnswer : Option (List ℕ) → (held : List ℕ → Option (List ℕ)) → (Answer → Type 0) → Type 0
-SomeAnswer None held P = P no_job
-SomeAnswer (Some name) held P = IfSome (held name) (λ (list : List ℕ). ListAnswer (cases_of list) held P)
+-- docs/FORMATS.md, Suites: a reply to the list in a file (5.1.2.2.1p2); nothing is said where the list isn't told
+abbrev pub IsReply : (name : List ℕ) → (held : List ℕ → Option (List ℕ)) → Reply → Type 0
+IsReply name held reply = IfSome (held name) (λ (list : List ℕ). IsListReply (cases_of list) held reply)

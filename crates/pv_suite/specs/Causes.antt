@@ -1,26 +1,14 @@
--- What one call of the program owes to whoever looks at its files and its report: which status comes when, what was written then, and
--- what may have failed. C17 leaves the outside of a program to its implementation (5.1.2.3p7).
-use Rattle.std.specs.Prelude.{◌≡◌, ◌≢◌, ◌⊎◌, ℕ, List, [], ◌∷◌, ◌++◌, Option, Some, None, Result, Ok, Err, IsSome, IsNone}
+-- What the program of suites does for its words, and which reads may have failed. C17 leaves the outside of a program to its implementation (5.1.2.3p7).
+use Rattle.std.specs.Prelude.{◌⊎◌, ℕ, List, [], ◌∷◌, ◌++◌, Option, Some, None, Result, Ok, Err}
 use Rattle.std.specs.List.{flat_map}
 use Rattle.pv_script.specs.Outside.{Rose}
 use Rattle.pv_cases.specs.declared.list.ListError.{ListError}
 use Rattle.pv_cases.specs.Cases.{SuiteCase, cases_of}
 use Rattle.pv_serve.specs.Jobs.{script_files}
-use Rattle.pv_serve.specs.Report.{fault_line}
-use Rattle.pv_serve.specs.Outside.{Sunk, SinkRose, Wrote, WrotePrefix}
-use Rattle.pv_serve.specs.Causes.{AnyRose}
+use Rattle.pv_serve.specs.Outside.{AnyRose}
+use Rattle.pv_serve.specs.Replies.{Service}
 use Rattle.pv_suite.specs.Words.{list_of}
-use Rattle.pv_suite.specs.Answers.{Answer, SomeAnswer}
-
--- one call: its words (5.1.2.2.1p2), what the files hold under each name (7.21.3p8) with the counts of reads that failed (7.21.8.1p3), the report,
--- and the status (7.22.4.4p5)
-pub record Call : Type 0 where
-  pub words : List (List ℕ)
-  pub held : List ℕ → Option (List ℕ)
-  pub faults_old : List ℕ → ℕ
-  pub faults_new : List ℕ → ℕ
-  pub report : Sunk
-  pub status : ℕ
+use Rattle.pv_suite.specs.Answers.{IsReply}
 
 -- 7.21.3p8: the files that a case names: its source's, and those of its script and its output, if there are such
 abbrev pub case_files : SuiteCase → List (List ℕ)
@@ -37,57 +25,9 @@ CaseRose None old new = (file : List ℕ) × Rose (old file) (new file)
 CaseRose (Some list) old new = AnyRose (list_files (cases_of list)) old new
 
 -- 7.21.8.1p3: a read of the list failed, or of a file that it names
-abbrev pub ListRose : Option (List ℕ) → (held : List ℕ → Option (List ℕ)) → (old new : List ℕ → ℕ) → Type 0
-ListRose None held old new = ⊥
-ListRose (Some name) held old new = Rose (old name) (new name) ⊎ CaseRose (held name) old new
+abbrev pub ListRose : (name : List ℕ) → (held : List ℕ → Option (List ℕ)) → (old new : List ℕ → ℕ) → Type 0
+ListRose name held old new = Rose (old name) (new name) ⊎ CaseRose (held name) old new
 
--- 7.21.8.1p3: the same of the files of a call
-abbrev pub FilesRose : Call → Type 0
-FilesRose c = ListRose (list_of c.words) c.held c.faults_old c.faults_new
-
--- docs/FORMATS.md, Suites: status 11: a file could not be read (7.21.8.1p3), and `fault read` is the report
-pub record ReadFault (c : Call) : Type 0 where
-  pub cause : FilesRose c
-  pub report : Wrote c.report fault_line
-
--- docs/FORMATS.md, Suites: status 12: a read failed (7.21.8.1p3), and a write of `fault read` too (7.21.8.2p3)
-pub record LostReadFault (c : Call) : Type 0 where
-  pub cause : FilesRose c
-  pub report : WrotePrefix c.report fault_line
-
--- docs/FORMATS.md, Suites: status 12: a write failed (7.21.8.2p3): that of the report, or of `fault read`
-pub record WriteFault (c : Call) : Type 0 where
-  pub cause : SinkRose c.report
-  pub wrote : SomeAnswer (list_of c.words) c.held (λ (a : Answer). WrotePrefix c.report a.text) ⊎ LostReadFault c
-
--- docs/FORMATS.md, Suites: status 13: memory ran out, and nothing is written (5.1.2.3p7)
-pub record NoMemory (c : Call) : Type 0 where
-  pub is_job : IsSome (list_of c.words)
-  pub report : Wrote c.report []
-
--- docs/FORMATS.md, Suites: any other status, with all of the report (5.1.2.3)
-pub record IsAnswer (c : Call) (a : Answer) : Type 0 where
-  pub status : c.status ≡ a.status
-  pub report : Wrote c.report a.text
-
--- docs/FORMATS.md, Suites: what each status says (7.22.4.4p5). The last row holds whatever the counts did.
-pub record Table (c : Call) : Type 0 where
-  pub read_fault : c.status ≡ 11 → ReadFault c
-  pub write_fault : c.status ≡ 12 → WriteFault c
-  pub no_memory : c.status ≡ 13 → NoMemory c
-  pub every_other : c.status ≢ 11 → c.status ≢ 12 → c.status ≢ 13 → SomeAnswer (list_of c.words) c.held (IsAnswer c)
-
--- Status 10 comes exactly where the words (5.1.2.2.1p2) are no job, whatever the files tell; in its place 12, where `words` can't be written.
-pub record WordsDecide (c : Call) : Type 0 where
-  pub only : c.status ≡ 10 → IsNone (list_of c.words)
-  pub no_job : IsNone (list_of c.words) → (c.status ≡ 10) ⊎ ((c.status ≡ 12) × SinkRose c.report)
-
--- Where no count rose (7.21.1p2), the answer is the specified one, with all its bytes, or want of memory.
-abbrev pub Complete : Call → Type 0
-Complete c = ¬ FilesRose c → ¬ SinkRose c.report → (c.status ≡ 13) ⊎ SomeAnswer (list_of c.words) c.held (IsAnswer c)
-
--- all that a call owes (docs/FORMATS.md, Suites; 5.1.2.3p7)
-pub record Owed (c : Call) : Type 0 where
-  pub table : Table c
-  pub words : WordsDecide c
-  pub complete : Complete c
+-- docs/FORMATS.md, Suites (5.1.2.3): what the program does for its words
+abbrev pub service : Service (List ℕ)
+service = record { job = list_of; ReadFailed = λ name c. ListRose name c.held c.faults_old c.faults_new; IsReply = IsReply }

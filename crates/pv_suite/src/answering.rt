@@ -1,32 +1,27 @@
-//! The answer to a list.
-ghost use Rattle.std.specs.Prelude.{◌≡◌, ◌≤◌, ℕ, List, map, All, IfOk, IsErrOf};
+//! The reply to a list.
+ghost use Rattle.std.specs.Prelude.{◌≡◌, ◌≤◌, ℕ, List, map, All, Ok, IfOk, IsErrOf};
 ghost use Rattle.std.specs.List.{flat_map};
-ghost use Rattle.pv_serve.specs.Causes.{AnyRose};
+ghost use Rattle.pv_serve.specs.Outside.{AnyRose};
+ghost use Rattle.pv_serve.specs.Replying.{reply_view};
 ghost use Rattle.pv_cases.specs.Cases.{cases_of};
 ghost use Rattle.pv_cases.specs.Views.{case_view, told_view, IsBounded};
-ghost use Rattle.pv_suite.specs.Answers.{AllTold, LongOutput, ListAnswer, SomeCame, answer_of, refused_by};
+ghost use Rattle.pv_suite.specs.Answers.{AllTold, LongOutput, IsListReply, refused_by, reply_of};
 ghost use Rattle.pv_suite.specs.Causes.{case_files, list_files};
-ghost use Rattle.pv_suite.specs.Answering.{answered_view, walked_view};
+ghost use Rattle.pv_suite.specs.Answering.{walked_view};
 
 use crate::error::{NoMemory, Unanswered};
 use crate::walking::{Walked, walk};
 use pv_cases::{Case, ListError, Told, cases, long_output, refusal, report, status};
 use pv_script::Files;
+use pv_serve::Reply;
 use std::alloc::Global;
 
 // The status of a list that is refused.
 const REFUSED: u8 = 16;
 
-/// A text of the report, and the status that goes with it.
-#[derive(Drop)]
-pub struct Answered {
-    pub status: u8,
-    pub text: Vec<u8>,
-}
-
 /// Answers a list: runs its cases, if it has a reading.
-pub fn answer<F: Files>(alloc: Global, list: &[u8], files: &mut F) -> Result<Answered, Unanswered>
-    ensures answered { IfOk result (λ a. ListAnswer (cases_of list.now) (F.held files.old) (λ b. answered_view a ≡ b)) }
+pub fn answer<F: Files>(alloc: Global, list: &[u8], files: &mut F) -> Result<Reply, Unanswered>
+    ensures reply { IfOk result (λ r. IsListReply (cases_of list.now) (F.held files.old) (reply_view r)) }
     ensures same { (n : List ℕ) → F.held files.new n ≡ F.held files.old n }
     ensures later { (n : List ℕ) → F.faults files.old n ≤ F.faults files.new n }
     ensures cause { IsErrOf result Unanswered.Fault → AnyRose (list_files (cases_of list.now)) (F.faults files.old) (F.faults files.new) }
@@ -42,9 +37,9 @@ fn answer_cases<F: Files>(
     alloc: Global,
     cases: &[Case<'_>],
     files: &mut F,
-) -> Result<Answered, Unanswered>
+) -> Result<Reply, Unanswered>
     requires { All IsBounded cases.now }
-    ensures answered { IfOk result (λ a. SomeCame (F.held files.old) (map case_view cases.now) (λ b. answered_view a ≡ b)) }
+    ensures reply { IfOk result (λ r. IsListReply (Ok (map case_view cases.now)) (F.held files.old) (reply_view r)) }
     ensures same { (n : List ℕ) → F.held files.new n ≡ F.held files.old n }
     ensures later { (n : List ℕ) → F.faults files.old n ≤ F.faults files.new n }
     ensures cause { IsErrOf result Unanswered.Fault →
@@ -55,14 +50,14 @@ fn answer_cases<F: Files>(
         Err(error) => return Err(error),
     };
     match report_on(alloc, &walked) {
-        Ok(answered) => Ok(answered),
+        Ok(reply) => Ok(reply),
         Err(NoMemory) => Err(Unanswered::NoMemory),
     }
 }
 
-// The answer to a list whose cases came to this. The only error is want of memory.
-fn report_on(alloc: Global, walked: &Walked) -> Result<Answered, NoMemory>
-    ensures { IfOk result (λ a. answered_view a ≡ answer_of (walked_view walked.now)) }
+// The reply to a list whose cases came to this. The only error is want of memory.
+fn report_on(alloc: Global, walked: &Walked) -> Result<Reply, NoMemory>
+    ensures { IfOk result (λ r. reply_view r ≡ reply_of (walked_view walked.now)) }
 {
     match walked {
         Walked::All(told) => report_all(alloc, told),
@@ -71,28 +66,28 @@ fn report_on(alloc: Global, walked: &Walked) -> Result<Answered, NoMemory>
 }
 
 // The report of all cases, and its status.
-fn report_all(alloc: Global, told: &[Told]) -> Result<Answered, NoMemory>
-    ensures { IfOk result (λ a. answered_view a ≡ answer_of (AllTold (map told_view told.now))) }
+fn report_all(alloc: Global, told: &[Told]) -> Result<Reply, NoMemory>
+    ensures { IfOk result (λ r. reply_view r ≡ reply_of (AllTold (map told_view told.now))) }
 {
     let text = report(alloc, told)?;
     let status = status(told);
-    Ok(Answered { status, text })
+    Ok(Reply { status, text })
 }
 
 // What is told where the output of the case of this number is too long.
-fn refuse_long(alloc: Global, number: u64) -> Result<Answered, NoMemory>
-    ensures { IfOk result (λ a. answered_view a ≡ answer_of (LongOutput number)) }
+fn refuse_long(alloc: Global, number: u64) -> Result<Reply, NoMemory>
+    ensures { IfOk result (λ r. reply_view r ≡ reply_of (LongOutput number)) }
 {
     let text = long_output(alloc, number)?;
-    Ok(Answered {
+    Ok(Reply {
         status: REFUSED,
         text,
     })
 }
 
 // What is told of a list without a reading, and its status; want of memory is no reason for that.
-fn refuse(alloc: Global, error: ListError) -> Result<Answered, Unanswered>
-    ensures answered { IfOk result (λ a. answered_view a ≡ refused_by error) }
+fn refuse(alloc: Global, error: ListError) -> Result<Reply, Unanswered>
+    ensures reply { IfOk result (λ r. reply_view r ≡ refused_by error) }
     ensures memory { error ≡ ListError.NoMemory → result ≡ Err Unanswered.NoMemory }
     ensures cause { IsErrOf result Unanswered.Fault → ⊥ }
 {
@@ -102,12 +97,12 @@ fn refuse(alloc: Global, error: ListError) -> Result<Answered, Unanswered>
     }
 }
 
-fn refuse_by(alloc: Global, error: ListError) -> Result<Answered, Unanswered>
-    ensures answered { IfOk result (λ a. answered_view a ≡ refused_by error) }
+fn refuse_by(alloc: Global, error: ListError) -> Result<Reply, Unanswered>
+    ensures reply { IfOk result (λ r. reply_view r ≡ refused_by error) }
     ensures cause { IsErrOf result Unanswered.Fault → ⊥ }
 {
     match refusal(alloc, error) {
-        Ok(text) => Ok(Answered {
+        Ok(text) => Ok(Reply {
             status: REFUSED,
             text,
         }),

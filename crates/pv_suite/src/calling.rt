@@ -3,17 +3,17 @@ ghost use Rattle.std.specs.Prelude.{◌≡◌, ◌≢◌, ◌⊎◌, ◌≤◌, 
 ghost use Rattle.pv_script.specs.Calm.{calm_held, calm_written};
 ghost use Rattle.pv_serve.specs.Words.{texts};
 ghost use Rattle.pv_serve.specs.Outside.{sunk};
+ghost use Rattle.pv_serve.specs.Replies.{ReplyCall, Replied, SomeReply, IsReplied};
 ghost use Rattle.pv_suite.specs.Words.{list_of};
-ghost use Rattle.pv_suite.specs.Answers.{SomeAnswer};
-ghost use Rattle.pv_suite.specs.Causes.{Call, Owed, IsAnswer};
-ghost use Rattle.pv_suite.specs.Answering.{ListServed, ReadServed, IsOwn, IsWritten, answered_view, read_fault};
+ghost use Rattle.pv_suite.specs.Causes.{service};
+ghost use Rattle.pv_suite.specs.Answering.{ListServed, ReadServed};
 
-use crate::answering::{Answered, answer};
+use crate::answering::answer;
 use crate::error::Unanswered;
 use crate::words::list_asked;
 use pv_cases::LIST_LIMIT;
 use pv_script::{CalmFiles, CalmSink, Files, ReadError, Sink, read_all};
-use pv_serve::{NO_JOB, NO_MEMORY, READ_FAULT, tell};
+use pv_serve::{NO_JOB, NO_MEMORY, READ_FAULT, tell, tell_reply};
 use std::alloc::Global;
 
 /// Does all that the program does, and answers its status.
@@ -21,29 +21,21 @@ use std::alloc::Global;
 /// The words are those behind the program's name: the name of a list's file, and no more. The report is made whole before its first byte
 /// goes out.
 ///
-/// | status | when |
-/// |---|---|
-/// | 0 | all cases of the list passed |
-/// | 10 | the words are no job |
-/// | 11 | a file could not be read: the list, or one that it names |
-/// | 12 | the report could not be written |
-/// | 13 | memory ran out, which may come wherever the words are a job |
-/// | 15 | some case failed |
-/// | 16 | the list is refused: its size, its first line that has no reading, or its first case whose output is too long |
+/// What each status says is told in docs/FORMATS.md, Suites.
 pub fn suite<F: Files, R: Sink>(
     alloc: Global,
     words: &[String],
     files: &mut F,
     report: &mut R,
 ) -> u8
-    ensures answered { let call : Call = record {
+    ensures answered { let call : ReplyCall = record {
       words = texts words.now;
       held = F.held files.old;
       faults_old = F.faults files.old;
       faults_new = F.faults files.new;
       report = sunk R.written R.faults report.old report.new;
       status = result;
-    } in Owed call }
+    } in Replied service call }
     ensures files_same { (n : List ℕ) → F.held files.new n ≡ F.held files.old n }
 
     // Where the words are no job, no file is read.
@@ -63,7 +55,7 @@ fn suite_in<F: Files, R: Sink>(alloc: Global, name: &str, files: &mut F, report:
 {
     match read_all(alloc, files, name, LIST_LIMIT) {
         Err(ReadError::NoMemory) => NO_MEMORY,
-        Err(ReadError::Fault) => tell_fault(report),
+        Err(ReadError::Fault) => tell(report, b"fault read\n", READ_FAULT),
         Ok(list) => suite_of(alloc, list.as_slice(), files, report),
     }
 }
@@ -77,24 +69,9 @@ fn suite_of<F: Files, R: Sink>(alloc: Global, list: &[u8], files: &mut F, report
 {
     match answer(alloc, list, files) {
         Err(Unanswered::NoMemory) => NO_MEMORY,
-        Err(Unanswered::Fault) => tell_fault(report),
-        Ok(answered) => tell_answer(&answered, report),
+        Err(Unanswered::Fault) => tell(report, b"fault read\n", READ_FAULT),
+        Ok(reply) => tell_reply(report, &reply),
     }
-}
-
-// Writes an answer, and answers its status.
-fn tell_answer<R: Sink>(answered: &Answered, report: &mut R) -> u8
-    requires { IsOwn answered.now.status }
-    ensures { IsWritten (sunk R.written R.faults report.old report.new) result (answered_view answered.now) }
-{
-    tell(report, answered.text.as_slice(), answered.status)
-}
-
-// Tells that a file could not be read.
-fn tell_fault<R: Sink>(report: &mut R) -> u8
-    ensures { IsWritten (sunk R.written R.faults report.old report.new) result read_fault }
-{
-    tell(report, b"fault read\n", READ_FAULT)
 }
 
 /// [`suite`] over files and a sink that never fail: the answer with all its bytes, or want of memory, for any words and files.
@@ -104,14 +81,14 @@ pub fn suite_calmly(
     files: &mut CalmFiles,
     report: &mut CalmSink,
 ) -> u8
-    ensures { let call : Call = record {
+    ensures { let call : ReplyCall = record {
       words = texts words.now;
       held = λ n. Some (calm_held files.old n);
       faults_old = λ _. 0;
       faults_new = λ _. 0;
       report = sunk calm_written (λ _. 0) report.old report.new;
       status = result;
-    } in (result ≡ 13) ⊎ SomeAnswer (list_of call.words) call.held (IsAnswer call) }
+    } in (result ≡ 13) ⊎ SomeReply service call (IsReplied call) }
 {
     suite(alloc, words, files, report)
 }

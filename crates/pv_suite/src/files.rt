@@ -2,9 +2,7 @@
 ghost use Rattle.std.specs.Prelude.{◌≡◌, ◌≤◌, ◌+◌, ℕ, nat_lt, List, length, take, option_map, Some, IfOk, IfSome, IsErrOf};
 ghost use Rattle.pv_script.specs.Outside.{Rose};
 ghost use Rattle.pv_serve.specs.Jobs.{script_files};
-ghost use Rattle.pv_serve.specs.Judged.{script_limit};
-ghost use Rattle.pv_serve.specs.Answer.{script_held};
-ghost use Rattle.pv_serve.specs.Causes.{AnyRose};
+ghost use Rattle.pv_serve.specs.Outside.{AnyRose};
 ghost use Rattle.pv_cases.specs.Views.{case_view};
 ghost use Rattle.pv_suite.specs.Answers.{given_of, is_long, output_held, output_limit};
 ghost use Rattle.pv_suite.specs.Causes.{case_files};
@@ -12,7 +10,7 @@ ghost use Rattle.pv_suite.specs.Answering.{text_view, IsRead};
 
 use pv_cases::Case;
 use pv_script::{Files, ReadError, read_all};
-use pv_serve::{SCRIPT_LIMIT, SOURCE_LIMIT};
+use pv_serve::{SOURCE_LIMIT, read_script};
 use std::alloc::Global;
 
 /// The most bytes that a file with a case's output may have.
@@ -42,7 +40,7 @@ pub fn read_case<F: Files>(
         Ok(source) => source,
         Err(error) => return Err(error),
     };
-    let script = match read_script(alloc, case.script, files) {
+    let script = match read_script(alloc, files, case.script) {
         Ok(script) => script,
         Err(error) => return Err(error),
     };
@@ -53,25 +51,6 @@ pub fn read_case<F: Files>(
             output,
         }),
         Err(error) => Err(error),
-    }
-}
-
-// Reads a script, if one is named; where none is, it has no bytes.
-fn read_script<F: Files>(
-    alloc: Global,
-    name: Option<&str>,
-    files: &mut F,
-) -> Result<Vec<u8>, ReadError>
-    ensures read { IfOk result (λ v. IfSome (script_held (option_map (λ s. s.now) name.entry) (F.held files.old))
-        (λ text. v.items ≡ take (script_limit + 1) text)) }
-    ensures same { (n : List ℕ) → F.held files.new n ≡ F.held files.old n }
-    ensures later { (n : List ℕ) → F.faults files.old n ≤ F.faults files.new n }
-    ensures cause { IsErrOf result ReadError.Fault →
-        AnyRose (script_files (option_map (λ s. s.now) name.entry)) (F.faults files.old) (F.faults files.new) }
-{
-    match name {
-        Some(name) => read_all(alloc, files, name, SCRIPT_LIMIT),
-        None => Ok(Vec::new(alloc)),
     }
 }
 

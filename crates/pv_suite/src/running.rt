@@ -1,10 +1,12 @@
 //! Running the source of a case (C17 5.1.2.3).
 ghost use Rattle.std.specs.Prelude.{◌≡◌, option_map, IfOk};
 ghost use Rattle.pv_serve.specs.ReadWords.{IsBound};
+ghost use Rattle.pv_serve.specs.Judging.{Shown, verdict_of};
 ghost use Rattle.pv_cases.specs.Views.{case_view, IsBounded, told_view};
 ghost use Rattle.pv_cases.specs.Suites.{told_of, Gave};
+ghost use Rattle.pv_suite.specs.Answers as specified;
 ghost use Rattle.pv_suite.specs.Answers.{CaseComes, broken_by, wanted_of};
-ghost use Rattle.pv_suite.specs.Answering.{text_view, ended_view, clause_by};
+ghost use Rattle.pv_suite.specs.Answering.{text_view, ended_view};
 
 use crate::error::NoMemory;
 use crate::files::CaseText;
@@ -12,7 +14,7 @@ use pv_cases::{Case, Expected, Got, Told, compare};
 use pv_exec::Outcome;
 use pv_num::Clause;
 use pv_script::MemSink;
-use pv_serve::{Judged, judge, line};
+use pv_serve::{Judgement, judge, line};
 use pv_watch::Hall;
 use std::alloc::Global;
 
@@ -73,7 +75,7 @@ fn run_source(alloc: Global, source: &[u8], script: &[u8], bound: u64) -> Result
 {
     let mut output = MemSink::new(alloc, usize::MAX, &[])?;
     let mut hall = Hall::new(alloc, Vec::new(alloc))?;
-    let Ok(judged) = judge(
+    let Ok(judgement) = judge(
         alloc,
         source,
         script,
@@ -85,22 +87,24 @@ fn run_source(alloc: Global, source: &[u8], script: &[u8], bound: u64) -> Result
     ) else {
         return Err(NoMemory);
     };
-    let line = line(alloc, &judged, bound)?;
+    let line = line(alloc, &judgement)?;
     Ok(Ended {
         line,
         output,
-        clause: clause_of(&judged),
+        clause: clause_of(&judgement),
     })
 }
 
 // The clause by which an end is undefined, if it is.
-fn clause_of(judged: &Judged) -> Option<Clause>
-    ensures { result ≡ clause_by judged.now }
+fn clause_of(judgement: &Judgement) -> Option<Clause>
+    ensures { (shown : Shown) → result ≡ specified.clause_of (verdict_of judgement.now shown) }
 {
-    match judged {
-        Judged::Ran { ran, .. } => clause_at(ran.outcome),
-        Judged::Source(_) => None,
-        Judged::Script(_) => None,
+    match judgement {
+        Judgement::Ran { ran, .. } => clause_at(ran.outcome),
+        Judgement::Settled { ran, .. } => clause_at(ran.outcome),
+        Judgement::Described { .. } => None,
+        Judgement::Source(_) => None,
+        Judgement::Script(_) => None,
     }
 }
 

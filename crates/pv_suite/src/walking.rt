@@ -1,7 +1,7 @@
 //! The cases of a list, in their order.
 ghost use Rattle.std.specs.Prelude.{◌≡◌, ◌≤◌, ◌<◌, ◌+◌, ℕ, List, map, option_map, All, IfOk, IsErrOf, slice_get, Some, length};
 ghost use Rattle.std.specs.List.{flat_map};
-ghost use Rattle.pv_serve.specs.Causes.{AnyRose};
+ghost use Rattle.pv_serve.specs.Outside.{AnyRose};
 ghost use Rattle.pv_cases.specs.Views.{case_view, IsBounded, told_view};
 ghost use Rattle.pv_suite.specs.Answers.{CasesCome, given_of};
 ghost use Rattle.pv_suite.specs.Causes.{case_files};

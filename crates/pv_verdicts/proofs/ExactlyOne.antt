@@ -15,7 +15,8 @@ use Rattle.pv_numbering.proofs.Numbering.{same-tables}
 use Rattle.pv_numbering.proofs.UnitEntries.{has_tables}
 use Rattle.pv_serve.specs.declared.words.Task.{Task}
 use Rattle.pv_serve.specs.Verdicts.{Verdict, Ending}
-use Rattle.pv_serve.specs.Judged.{Judged, Ends, RunEnds, verdict_by, IsLeftToRun, BothRun}
+use Rattle.pv_serve.specs.Judged.{Judged, Ends, RunEnds}
+use Rattle.pv_serve.specs.OneVerdict.{verdict_by, IsLeftToRun, BothRun}
 use Rattle.pv_serve.specs.Comes.{Comes}
 use Rattle.pv_serve.specs.Readings.{Program}
 use Rattle.pv_serve.proofs.JudgedLemmas as judged

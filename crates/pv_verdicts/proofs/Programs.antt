@@ -11,7 +11,8 @@ use Rattle.pv_typed.specs.Tables.{Stored, whole}
 use Rattle.pv_unit.specs.Units as checked
 use Rattle.pv_exec.specs.Laws.{run_at}
 use Rattle.pv_serve.specs.Readings.{Program}
-use Rattle.pv_serve.specs.Comes.{Comes, BadByte, BadToken, LeftOut, Lexed, TokensCome, NoUnit, Spelled, UnitComes, Breaks, Lacks, Mainless, Typed}
+use Rattle.pv_serve.specs.Comes.{Comes}
+use Rattle.pv_serve.proofs.ComesLemmas.{program_typed}
 use Rattle.pv_verdicts.specs.Own.{OwnNames}
 use Rattle.pv_verdicts.specs.Endings.{IsProgram, HasOutcome}
 use Rattle.pv_unit.proofs.NamedUnits.{unit_names}
@@ -22,24 +23,9 @@ use Rattle.pv_verdicts.proofs.Outcomes.{ends-so}
 typed_own : (source : List ℕ) (t : Table) (ds : List DeclarationTree) (unit : WholeUnit) → Lexes source t → checked.UnitComes t ds (checked.Typed unit) → OwnNames unit.names
 typed_own source t ds unit l h = subst OwnNames (sym (unit_names t ds unit h)) (lexed_own source t l)
 
-unit_own : (source : List ℕ) (t : Table) (ds : List DeclarationTree) (unit : WholeUnit) → Lexes source t → UnitComes t ds (Program unit) → OwnNames unit.names
-unit_own source t ds unit l (Breaks index h e) = absurd cc
-unit_own source t ds unit l (Lacks name h e) = absurd cc
-unit_own source t ds unit l (Mainless h e) = absurd cc
-unit_own source t ds unit l (Typed w h e) =
-    let same : w ≡ unit = cc in
-    subst (λ (x : WholeUnit). OwnNames x.names) same (typed_own source t ds w l h)
-
-tokens_own : (source : List ℕ) (t : Table) (unit : WholeUnit) → Lexes source t → TokensCome t (Program unit) → OwnNames unit.names
-tokens_own source t unit l (NoUnit n none h e) = absurd cc
-tokens_own source t unit l (Spelled ds h u) = unit_own source t ds unit l u
-
 -- of the names of a program one alone is that of allocations
 pub program_own : (source : List ℕ) (unit : WholeUnit) → Comes source (Program unit) → OwnNames unit.names
-program_own source unit (BadByte place h e) = absurd cc
-program_own source unit (BadToken place h e) = absurd cc
-program_own source unit (LeftOut place word h e) = absurd cc
-program_own source unit (Lexed t l h) = tokens_own source t unit l h
+program_own source unit comes = let p = program_typed source unit comes in typed_own source p.0 p.1 unit p.2 p.3
 
 pub program_outcome : (source text : List ℕ) (script : List ScriptLine) (u : Stored) (sides : Option (List Bool)) (zap : Bool) (n : ℕ) → IsProgram source u → script_of text ≡ Ok script → HasOutcome (run_at u sides zap script n)
 program_outcome source text script u sides zap n p r = ends-so u n sides zap script (program_own source (whole u) p) (denied_heap text script r)

@@ -9,9 +9,10 @@ use Rattle.pv_serve.specs.Verdicts.{Refusal}
 use Rattle.pv_serve.specs.Readings.{Reading, Program, Bad}
 use Rattle.pv_serve.specs.Loading.{refusal_of, reading_of}
 use Rattle.pv_serve.specs.Comes.{source_limit, Comes, Reads, Long, Short}
+use Rattle.pv_serve.specs.Replies.{Reply}
 use Rattle.pv_serve.proofs.Limits.{was_short, was_long}
 use Rattle.pvwhere.specs.Places.{first_bytes, IsPlace, IsRefused}
-use Rattle.pvwhere.specs.Answers.{Answer, word_of, Gets, Nothing, ItsPlace}
+use Rattle.pvwhere.specs.Answers.{word_of, Gets, Nothing, ItsPlace}
 use Rattle.pvwhere.specs.Answering.{told_by}
 
 -- ---- one byte above the limit
@@ -25,7 +26,7 @@ more_reads all r (Short short c) =
     let less = was_short source_limit all short in
     Short less (subst (λ (s : List ℕ). Comes s r) (take_all (source_limit + 1) all (omega arith)) c)
 
-pub more_gets : (name all : List ℕ) (a : Answer) → Gets name (take (source_limit + 1) all) a → Gets name all a
+pub more_gets : (name all : List ℕ) (a : Reply) → Gets name (take (source_limit + 1) all) a → Gets name all a
 more_gets name all a (Nothing unit reads e) = Nothing unit (more_reads all (Program unit) reads) e
 more_gets name all a (ItsPlace refusal place reads is e) =
     ItsPlace refusal place (more_reads all (Bad refusal) reads) (subst (λ (s : List ℕ). IsPlace s refusal place) (same_first all) is)

@@ -1,5 +1,4 @@
 pub mod Words
 pub mod Places
 pub mod Answers
-pub mod Causes
 pub mod Answering

@@ -22,12 +22,8 @@ start_of end (t ∷ ts) = t.start
 
 -- A token is the identifier of this spelling (6.4.2.1).
 abbrev pub is_named : (names : List (List ℕ)) → (text : List ℕ) → TokenKind → Bool
-is_named names text (kind.Word w) = false
 is_named names text (kind.Name n) = bytes_eq (slice_index_or names n []) text
-is_named names text (kind.Number value decimal unsigned longs) = false
-is_named names text (kind.Character value) = false
-is_named names text (kind.Text n) = false
-is_named names text (kind.Mark m) = false
+is_named names text _ = false
 
 -- The place of the first token that is this identifier (6.4.2.1); the end of the source where none is.
 abbrev pub first_named : (end : ℕ) → (names : List (List ℕ)) → (text : List ℕ) → List LexToken → ℕ

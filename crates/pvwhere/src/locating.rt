@@ -1,55 +1,39 @@
 //! The top call: what one call of the program does from its words to its status.
-ghost use Rattle.std.specs.Prelude.{◌≡◌, ◌≢◌, ◌⊎◌, ℕ, List, Some, IsNone};
-ghost use Rattle.pv_script.specs.Outside.{Rose, Gains, GainsPrefix};
+ghost use Rattle.std.specs.Prelude.{◌≡◌, ◌⊎◌, ℕ, List, Some, IsNone};
 ghost use Rattle.pv_script.specs.Calm.{calm_held, calm_written};
 ghost use Rattle.pv_serve.specs.Words.{texts};
 ghost use Rattle.pv_serve.specs.Outside.{sunk};
+ghost use Rattle.pv_serve.specs.Replies.{ReplyCall, Replied, SomeReply, IsReplied};
 ghost use Rattle.pvwhere.specs.Words.{file_of};
-ghost use Rattle.pvwhere.specs.Answers.{SomeAnswer};
-ghost use Rattle.pvwhere.specs.Causes.{Call, Answered, IsAnswer};
-ghost use Rattle.pvwhere.specs.Answering.{FileAnswered, SourceAnswered};
+ghost use Rattle.pvwhere.specs.Answers.{service};
+ghost use Rattle.pvwhere.specs.Answering.{FileServed, SourceServed};
 
 use crate::places::SOURCE_LIMIT;
 use crate::telling::told;
 use crate::words::file_asked;
-use pv_script::{CalmFiles, CalmSink, Files, ReadError, Sink, read_all, write_all};
+use pv_script::{CalmFiles, CalmSink, Files, ReadError, Sink, read_all};
+use pv_serve::{NO_JOB, NO_MEMORY, READ_FAULT, tell};
 use std::alloc::Global;
 
 const NOT_REFUSED: u8 = 0;
 
 const REFUSED: u8 = 8;
 
-const NO_JOB: u8 = 10;
-
-const READ_FAULT: u8 = 11;
-
-const WRITE_FAULT: u8 = 12;
-
-/// The status where memory ran out.
-pub const NO_MEMORY: u8 = 13;
-
 /// Does all that the program does, and answers its status.
 ///
 /// The words are those behind the program's name: the name of a file, and no more. What is told goes to `out`, and is made whole before its
 /// first byte goes out.
 ///
-/// | status | when |
-/// |---|---|
-/// | 0 | the file's source is not refused; nothing is told |
-/// | 8 | it is refused; the lines of the refusal's place are told |
-/// | 10 | the words are no job |
-/// | 11 | the file could not be read |
-/// | 12 | what is told could not be written |
-/// | 13 | memory ran out, which may come wherever the words are a job |
+/// What each status says is told in docs/FORMATS.md, Where a refusal is.
 pub fn locate<F: Files, O: Sink>(alloc: Global, words: &[String], files: &mut F, out: &mut O) -> u8
-    ensures answered { let call : Call = record {
+    ensures answered { let call : ReplyCall = record {
       words = texts words.now;
       held = F.held files.old;
       faults_old = F.faults files.old;
       faults_new = F.faults files.new;
-      out = sunk O.written O.faults out.old out.new;
+      report = sunk O.written O.faults out.old out.new;
       status = result;
-    } in Answered call }
+    } in Replied service call }
     ensures files_same { (n : List ℕ) → F.held files.new n ≡ F.held files.old n }
 
     // Where the words are no job, no file is read.
@@ -63,7 +47,7 @@ pub fn locate<F: Files, O: Sink>(alloc: Global, words: &[String], files: &mut F,
 
 // Tells where the source in a file is refused.
 fn locate_in<F: Files, O: Sink>(alloc: Global, name: &str, files: &mut F, out: &mut O) -> u8
-    ensures answered { FileAnswered name.now (F.held files.old) (F.faults files.old) (F.faults files.new)
+    ensures served { FileServed name.now (F.held files.old) (F.faults files.old) (F.faults files.new)
         (sunk O.written O.faults out.old out.new) result }
     ensures files_same { (n : List ℕ) → F.held files.new n ≡ F.held files.old n }
 {
@@ -76,27 +60,12 @@ fn locate_in<F: Files, O: Sink>(alloc: Global, name: &str, files: &mut F, out: &
 
 // Tells where a source is refused.
 fn answer<O: Sink>(alloc: Global, name: &str, source: &[u8], out: &mut O) -> u8
-    ensures { SourceAnswered name.now source.now
-        (sunk O.written O.faults out.old out.new) result }
+    ensures { SourceServed name.now source.now (sunk O.written O.faults out.old out.new) result }
 {
     match told(alloc, name, source) {
         Err(_) => NO_MEMORY,
         Ok(None) => NOT_REFUSED,
         Ok(Some(text)) => tell(out, text.as_slice(), REFUSED),
-    }
-}
-
-// Writes what is told.
-fn tell<O: Sink>(out: &mut O, text: &[u8], status: u8) -> u8
-    requires { status ≢ 12 }
-    ensures told { result ≢ 12 → (result ≡ status)
-        × Gains (O.written out.old) (O.written out.new) text.now }
-    ensures fault { result ≡ 12 → Rose (O.faults out.old) (O.faults out.new)
-        × GainsPrefix (O.written out.old) (O.written out.new) text.now }
-{
-    match write_all(out, text) {
-        Ok(()) => status,
-        Err(_) => WRITE_FAULT,
     }
 }
 
@@ -107,19 +76,14 @@ pub fn locate_calmly(
     files: &mut CalmFiles,
     out: &mut CalmSink,
 ) -> u8
-    ensures { let call : Call = record {
+    ensures { let call : ReplyCall = record {
       words = texts words.now;
       held = λ n. Some (calm_held files.old n);
       faults_old = λ _. 0;
       faults_new = λ _. 0;
-      out = record {
-        old = calm_written out.old;
-        new = calm_written out.new;
-        faults_old = 0;
-        faults_new = 0;
-      };
+      report = sunk calm_written (λ _. 0) out.old out.new;
       status = result;
-    } in (result ≡ 13) ⊎ SomeAnswer (file_of call.words) call.held (IsAnswer call) }
+    } in (result ≡ 13) ⊎ SomeReply service call (IsReplied call) }
 {
     locate(alloc, words, files, out)
 }

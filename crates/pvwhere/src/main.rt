@@ -10,9 +10,10 @@ mod telling;
 mod words;
 
 use error::NoMemory;
-pub use locating::{NO_MEMORY, locate, locate_calmly};
+pub use locating::{locate, locate_calmly};
 pub use places::one_place;
 use pv_script::{DiskFiles, Printed};
+use pv_serve::NO_MEMORY;
 use std::alloc::Global;
 use std::process::ExitCode;
 use std::rt::{Env, Files};

@@ -3,7 +3,8 @@ ghost use Rattle.std.specs.Prelude.{◌≡◌, ℕ, List, Some, option_map, IfOk
 ghost use Rattle.pv_serve.specs.Readings.{Bad};
 ghost use Rattle.pv_serve.specs.Loading.{refusal_of, lexical_refusal, typing_refusal};
 ghost use Rattle.pv_serve.specs.Comes.{Reads};
-ghost use Rattle.pvwhere.specs.Answers.{Answer, Gets, SomeGets, word_of};
+ghost use Rattle.pv_serve.specs.Replies.{Reply};
+ghost use Rattle.pvwhere.specs.Answers.{Gets, word_of};
 ghost use Rattle.pvwhere.specs.Answering.{told_by};
 
 use crate::error::NoMemory;
@@ -81,6 +82,6 @@ fn unit_word(fault: CheckError) -> &'static str
 
 /// A law: a source gets one answer.
 pub fn one_answer()
-    ensures some { (name source : List ℕ) → SomeGets name source (λ _. Unit {0}) }
-    ensures one { (name source : List ℕ) (a b : Answer) → Gets name source a → Gets name source b → a ≡ b }
+    ensures some { (name source : List ℕ) → (reply : Reply) × Gets name source reply }
+    ensures one { (name source : List ℕ) (a b : Reply) → Gets name source a → Gets name source b → a ≡ b }
 {}

@@ -4,7 +4,7 @@ use super::{expect, text};
 use pv_exec::Side;
 use pv_explain::Pointers;
 use pv_script::MemSink;
-use pv_serve::{Judged, NoMemory, judge, line, status};
+use pv_serve::{Judgement, NoMemory, judge, line, status};
 use pv_watch::{Hall, Watch};
 use std::alloc::Global;
 use std::process::Abort;
@@ -43,9 +43,9 @@ fn sides_of(alloc: Global, letters: &str) -> Result<Vec<Side>, NoMemory> {
 }
 
 // What is told of a judgement: the status, the output, the line, and the sides of its run.
-fn told_of(alloc: Global, judged: &Judged, out: &[u8]) -> Result<String, NoMemory> {
-    let mut report = line(alloc, judged, BOUND)?;
-    if let Judged::Ran { ran, .. } = judged {
+fn told_of(alloc: Global, judgement: &Judgement, out: &[u8]) -> Result<String, NoMemory> {
+    let mut report = line(alloc, judgement)?;
+    if let Judgement::Ran { ran, .. } = judgement {
         report.extend_from_slice(b"sides ")?;
         for i in 0..ran.sides.len() {
             report.push(if ran.sides.at(i) == Side::High {
@@ -56,7 +56,7 @@ fn told_of(alloc: Global, judged: &Judged, out: &[u8]) -> Result<String, NoMemor
         }
         report.push(b'\n')?;
     }
-    text(alloc, status(judged), out, report.as_slice())
+    text(alloc, status(judgement), out, report.as_slice())
 }
 
 // What is told of the program with a pair before one who follows its pairs, where the run has these sides, if any are given: a
@@ -68,7 +68,7 @@ fn told(rt: &impl Abort, alloc: Global, sides: Option<&str>) -> String {
     let mut hall = Hall::new(alloc, watchers).expect(rt, "no memory");
     let mut out = MemSink::new(alloc, 4096, &[]).expect(rt, "no memory");
     let given = sides_of(alloc, sides.unwrap_or("")).expect(rt, "no memory");
-    let judged = judge(
+    let judgement = judge(
         alloc,
         PAIR.as_bytes(),
         BESIDE.as_bytes(),
@@ -79,7 +79,7 @@ fn told(rt: &impl Abort, alloc: Global, sides: Option<&str>) -> String {
         &mut hall,
     )
     .expect(rt, "no outcome");
-    told_of(alloc, &judged, out.bytes()).expect(rt, "no memory")
+    told_of(alloc, &judgement, out.bytes()).expect(rt, "no memory")
 }
 
 #[test]

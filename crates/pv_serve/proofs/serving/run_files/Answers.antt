@@ -13,7 +13,7 @@ returns-in-Ok-clause-files_same g c = c.in-Ok.ensures.same
 
 pub returns-in-Err-Fault-clause-served : goal.returns-in-Err-Fault-clause-served
 returns-in-Err-Fault-clause-served g c =
-    WereLost ((rw c.in-Err-Fault.field-0-is at c.in-Err-Fault.ensures.cause) refl) refl refl c.tell.ensures.told c.tell.ensures.fault
+    WereLost ((rw c.in-Err-Fault.field-0-is at c.in-Err-Fault.ensures.cause) refl) refl refl c.tell.ensures
 
 pub returns-in-Err-Fault-clause-files_same : goal.returns-in-Err-Fault-clause-files_same
 returns-in-Err-Fault-clause-files_same g c = c.in-Err-Fault.ensures.same

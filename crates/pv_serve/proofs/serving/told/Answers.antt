@@ -7,4 +7,4 @@ returns-in-Err g c = reported_nothing _ _ _ refl
 
 pub returns-in-Ok : goal.returns-in-Ok
 returns-in-Ok g c =
-    reported_by c.args.judgement.now _ _ c.as_slice.result.now _ _ (rw c.as_slice.ensures.value c.in-Ok.ensures) c.task_status.ensures.value c.task_status.ensures.own c.tell.ensures.told c.tell.ensures.fault
+    reported_by c.args.judgement.now _ _ c.as_slice.result.now _ _ (rw c.as_slice.ensures.value c.in-Ok.ensures) c.status.ensures.value c.status.ensures.own c.tell.ensures

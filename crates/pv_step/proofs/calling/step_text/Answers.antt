@@ -1,5 +1,8 @@
-use Rattle.pv_step.specs.Answering.{IsServed}
+use Rattle.pv_serve.specs.Replying.{WasTold}
 use Rattle.pv_step.proofs.calling.step_text.Goals as goal
 
+pub tell_reply-requires : goal.tell_reply-requires
+tell_reply-requires g c = c.in-Ok.ensures.own.no_write_fault
+
 pub returns-in-Ok : goal.returns-in-Ok
-returns-in-Ok g c = IsServed _ c.in-Ok.ensures.stepped c.in-Ok.ensures.own c.tell_reply.ensures
+returns-in-Ok g c = WasTold _ c.in-Ok.ensures.stepped c.in-Ok.ensures.own c.tell_reply.ensures

@@ -1,5 +1,9 @@
-use Rattle.pvwhere.proofs.CauseLemmas.{answered_by_file}
+use Rattle.pv_serve.proofs.RepliesLemmas.{replied_by, replied_by_words}
+use Rattle.pvwhere.specs.Answers.{service}
 use Rattle.pvwhere.proofs.locating.locate.Goals as goal
 
 pub returns-in-Some-clause-answered : goal.returns-in-Some-clause-answered
-returns-in-Some-clause-answered g c = answered_by_file _ _ c.in-Some.ensures c.locate_in.ensures.answered
+returns-in-Some-clause-answered g c = replied_by service _ _ c.in-Some.ensures c.locate_in.ensures.served
+
+pub returns-in-None-clause-answered : goal.returns-in-None-clause-answered
+returns-in-None-clause-answered g c = replied_by_words service _ c.in-None.ensures c.tell.ensures

@@ -1,6 +1,6 @@
 use Rattle.std.proofs.Common.{rules}
 use Rattle.pv_serve.proofs.FilesLemmas.{script_some, script_none, rose_some}
-use Rattle.pv_step.proofs.reading.read_script.Goals as goal
+use Rattle.pv_serve.proofs.reading.read_script.Goals as goal
 
 pub returns-in-Some-clause-read : goal.returns-in-Some-clause-read
 returns-in-Some-clause-read g c = script_some (λ s. s.now) _ _ _ _ c.in-Some.is c.read_all.ensures.bytes
