@@ -1,0 +1,19 @@
+pub mod Types
+pub mod Operands
+pub mod Conversions
+pub mod Promotions
+pub mod UnaryRows
+pub mod BinaryRows
+pub mod MemberRows
+pub mod PostfixRows
+pub mod AssignmentRows
+pub mod Composites
+pub mod ConditionalRows
+pub mod CallRows
+pub mod PrimaryRows
+pub mod Changes
+pub mod Moving
+pub mod DeclaredTypes
+pub mod TagRows
+pub mod Walk
+mod Examples

@@ -1,0 +1,4 @@
+pub mod Proper
+pub mod Later
+pub mod Characters
+pub mod ProperStates
