@@ -30,3 +30,4 @@ pub mod Statements
 pub mod Bodies
 pub mod Readying
 pub mod Examples
+pub mod Laid

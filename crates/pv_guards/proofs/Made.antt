@@ -17,7 +17,7 @@ use Rattle.pv_exec.proofs.Memory.Rows.{Sound, Leads, led-itself, led-trans}
 use Rattle.pv_exec.proofs.Memory.Findings.{name-leads}
 use Rattle.pv_exec.proofs.Memory.Tables.{use-leads, same-leads, expose-leads, ended-leads, place-leads}
 use Rattle.pv_exec.proofs.Memory.Operations.{Filled}
-use Rattle.pv_laws.proofs.Numbered.{sound-laid}
+use Rattle.pv_guards.proofs.Laid.{sound-laid}
 use Rattle.pv_guards.proofs.Fair.{Keeps}
 
 slice-there : {A : Type 0} (xs : List A) (k : ℕ) → k < length xs → (x : A) × (slice_get xs k ≡ Some x)

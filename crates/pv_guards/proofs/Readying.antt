@@ -43,7 +43,7 @@ use Rattle.pv_exec.specs.Run.{first, call_main, run_of}
 use Rattle.pv_exec.proofs.Memory.Rows.{Leads as Led}
 use Rattle.pv_exec.proofs.Memory.Tables.{place-leads}
 use Rattle.pv_exec.proofs.Memory.Runs.{first-sound}
-use Rattle.pv_laws.proofs.Numbered.{sound-laid}
+use Rattle.pv_guards.proofs.Laid.{sound-laid}
 use Rattle.pv_prov.specs.Names.{twin_at}
 use Rattle.pv_num.specs.declared.kinds.IntKind.TheVariants.{Int}
 use Rattle.pv_object.specs.declared.values.Scalar.TheVariants as scalar
