@@ -61,7 +61,7 @@ head_refused texts a s o t ts v n line ps g same may =
     (ap (may_be_defined (state_of texts false s a) n t v) same ∙ may))
 
 pub head_done : (texts : List (List ℕ)) (a b : Stored) (s : Raw) (o : Outer) (base t n line : ℕ) (ds : List Derivation) (g : Signature) (r : Option (Head × UnitState))
-    → IsOpen a s → Goes a b → whole b ≡ whole a → Some (tree b.known t) ≡ derived true (env a.known) ds (tree a.known base)
+    → IsOpen a s → Goes a b → whole b ≡ whole a → Some (tree b.known t) ≡ derived false (env a.known) ds (tree a.known base)
     → r ≡ head_of (tree b.known t) g (n, line) (unit_state texts s b o)
     → r ≡ head_derived (tree a.known base) ds g (n, line) (unit_state texts s a o)
 head_done texts a b s o base t n line ds g r h goes same made is =

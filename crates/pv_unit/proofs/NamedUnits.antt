@@ -186,7 +186,7 @@ head_of_held _ g k n u h = tt
 stepped_held : (t : Ty) (d : DeclaratorTree) (n : List (List ℕ)) (u : UnitState) (k : ℕ × ℕ) → AreNamed n u.state.unit → Held beside n (head_stepped t d u k)
 stepped_held t d n u k h =
     after_held beside n (steps d u.state) _ (steps_keep d n u.state h)
-    (λ a j. value_held beside n a.value.signature _ (λ (g : Signature). value_held beside n (derived true (env a.state) a.value.list t) _ (λ (made : Ty). head_of_held made g k n (record u { state = a.state }) j)))
+    (λ a j. value_held beside n a.value.signature _ (λ (g : Signature). value_held beside n (derived false (env a.state) a.value.list t) _ (λ (made : Ty). head_of_held made g k n (record u { state = a.state }) j)))
 
 head_held : (specs : Trees) (d : DeclaratorTree) (n : List (List ℕ)) (u : UnitState) → AreNamed n u.state.unit → Held beside n (head specs d u)
 head_held specs d n u h =

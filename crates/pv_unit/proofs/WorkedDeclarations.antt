@@ -419,8 +419,12 @@ function_definitions :
     × (judged ((116 ∷ []) ∷ (102 ∷ []) ∷ (97 ∷ []) ∷ (98 ∷ []) ∷ []) ((Declaration 1 (Then (Then NoTrees (OfSpecifier (Keyword 1 word.Typedef))) (OfSpecifier (Keyword 1 word.Int))) (Then NoTrees (OfDeclaration (InitDeclarator 1 (Array 1 (DeclaredName 1 0) (Present (OfExpression (Number 1 2 true false 0)))) Absent)))) ∷ (Function 1 (Then NoTrees (OfSpecifier (Keyword 1 word.Int))) (FunctionDeclarator 1 (DeclaredName 1 1) (Then NoTrees (OfDeclaration (Parameter 1 (Then NoTrees (OfSpecifier (TypedefName 1 0))) (Present (OfDeclarator (DeclaredName 1 2)))))) false) (Block 1 (Then NoTrees (OfDeclaration (Declaration 1 (Then NoTrees (OfSpecifier (Keyword 1 word.Int))) (Then NoTrees (OfDeclaration (InitDeclarator 1 (Array 1 (DeclaredName 1 3) (Present (OfExpression (SizeofExpr 1 (Name 1 2))))) Absent)))))))) ∷ []) ≡ Accepted ((Some (8, 8)) ∷ (Some (32, 4)) ∷ []))
     -- int f(int main) { }
     × (judged ((102 ∷ []) ∷ (109 ∷ 97 ∷ 105 ∷ 110 ∷ []) ∷ []) ((Function 1 (Then NoTrees (OfSpecifier (Keyword 1 word.Int))) (FunctionDeclarator 1 (DeclaredName 1 0) (Then NoTrees (OfDeclaration (Parameter 1 (Then NoTrees (OfSpecifier (Keyword 1 word.Int))) (Present (OfDeclarator (DeclaredName 1 1)))))) false) (Block 1 NoTrees)) ∷ []) ≡ Accepted ((Some (4, 4)) ∷ []))
+    -- int (*f(void))[] { }
+    × (judged ((102 ∷ []) ∷ []) ((Function 1 (Then NoTrees (OfSpecifier (Keyword 1 word.Int))) (Array 1 (ParenDeclarator 1 (Pointer 1 0 (FunctionDeclarator 1 (DeclaredName 1 0) (Then NoTrees (OfDeclaration (Parameter 1 (Then NoTrees (OfSpecifier (Keyword 1 word.Void))) Absent))) false))) Absent) (Block 1 NoTrees)) ∷ []) ≡ Refused 0)
+    -- int (*f(int a[]))[3] { }
+    × (judged ((102 ∷ []) ∷ (97 ∷ []) ∷ []) ((Function 1 (Then NoTrees (OfSpecifier (Keyword 1 word.Int))) (Array 1 (ParenDeclarator 1 (Pointer 1 0 (FunctionDeclarator 1 (DeclaredName 1 0) (Then NoTrees (OfDeclaration (Parameter 1 (Then NoTrees (OfSpecifier (Keyword 1 word.Int))) (Present (OfDeclarator (Array 1 (DeclaredName 1 1) Absent)))))) false))) (Present (OfExpression (Number 1 3 true false 0)))) (Block 1 NoTrees)) ∷ []) ≡ Accepted ((Some (8, 8)) ∷ []))
 unfolding type_of_words library_named are_compatible layouts_of initialized_object values
-function_definitions = (refl, refl, refl, refl, refl, refl, refl, refl, refl, refl, refl, refl, refl, refl, refl, refl, refl, refl, refl, refl, refl, refl, refl)
+function_definitions = (refl, refl, refl, refl, refl, refl, refl, refl, refl, refl, refl, refl, refl, refl, refl, refl, refl, refl, refl, refl, refl, refl, refl, refl, refl)
 
 -- 5.1.2.2.1p1: `main`
 main_functions :

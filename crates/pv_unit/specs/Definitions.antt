@@ -63,9 +63,9 @@ abbrev pub may_head : Storage → Bool
 may_head storage.Typedef = false
 may_head _ = true
 
--- 6.7.6p4: the type that the declarator gives
+-- 6.7.6p4, 6.7.6.2p1: the type that the declarator gives, in which `[]` stands in parameters alone (our choice)
 abbrev pub head_derived : Ty → List Derivation → Signature → ℕ × ℕ → UnitState → Option (Head × UnitState)
-head_derived t ds g n u = and_then (derived true (env u.state) ds t) (λ made. head_of made g n u)
+head_derived t ds g n u = and_then (derived false (env u.state) ds t) (λ made. head_of made g n u)
 
 -- 6.9.1p2, p5: a list of parameters stands next to the name, and no typedef name gives the type
 abbrev pub head_signed : Ty → Steps → ℕ × ℕ → UnitState → Option (Head × UnitState)

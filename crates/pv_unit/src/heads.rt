@@ -208,7 +208,7 @@ pub(crate) fn head_derived(
     ensures entities { OnOk result (AreThere into.new outer.new.entities) }
     ensures answer { IfOk result (HeadWith parameters.now (λ g. head_derived (tree into.old.known base.0) (steps_in into.old.known steps.now) g (name, line)) s.old into.old outer.old s.new into.new outer.new) }
 {
-    let Some(t) = derived_in(into, true, steps, base)? else {
+    let Some(t) = derived_in(into, false, steps, base)? else {
         return Ok(None);
     };
     let r = head_of(s, into, outer, t, parameters, name, line)?;
