@@ -27,7 +27,11 @@ abbrev pub trees_if : Stored → Option (Vec NodeId Global) → Option (List Typ
 trees_if m None = None
 trees_if m (Some v) = Some (map (expression_at m) v.items)
 
--- arguments, and the state after them (6.5.2.2p4)
+-- arguments that were typed, and the state after them (6.5.2.2p4)
+abbrev pub arguments_after : List (List ℕ) → Bool → Raw → Stored → List NodeId → After (List TypedTree)
+arguments_after texts unevaluated s m args = record { value = map (expression_at m) args; state = state_of texts unevaluated s m }
+
+-- the arguments of an answer of the code, and the state after them (6.5.2.2p4)
 abbrev pub after_nodes : List (List ℕ) → Bool → Raw → Stored → Option (Vec NodeId Global) → Option (After (List TypedTree))
 after_nodes texts u s m None = None
 after_nodes texts u s m (Some v) = Some (record { value = map (expression_at m) v.items; state = state_of texts u s m })

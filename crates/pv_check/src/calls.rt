@@ -12,7 +12,7 @@ ghost use Rattle.pv_check.specs.Calls.{further, passed, string_in, literal_in, i
 ghost use Rattle.pv_check.specs.Kept.{Kept, expression_if};
 ghost use Rattle.pv_check.specs.Library.{library_named};
 ghost use Rattle.pv_check.specs.Open.{state_of, IsOpen};
-ghost use Rattle.pv_check.specs.Passing.{one_passed, trees_if};
+ghost use Rattle.pv_check.specs.Passing.{one_passed, trees_if, arguments_after};
 ghost use Rattle.pv_check.specs.Rows.{function_in, callee, call, call_by};
 ghost use Rattle.pv_check.specs.State.{and_then, give, look};
 ghost use Rattle.pv_check.specs.Raw.{scopes_shown};
@@ -477,7 +477,7 @@ pub(crate) fn call(
     requires callee { CalleeKnown into.old c }
     requires nodes { Each (IsExpression into.old) args.now }
     ensures open { IfOk result (λ r. OpenIf into.new s.now r) }
-    ensures typed { (texts : List (List ℕ)) → IfOk result (λ r. after_node texts hidden s.now into.new r ≡ call line (callee_in into.old c) (record { value = map (expression_at into.old) args.now; state = state_of texts hidden s.now into.old })) }
+    ensures typed { (texts : List (List ℕ)) → IfOk result (λ r. after_node texts hidden s.now into.new r ≡ call line (callee_in into.old c) (arguments_after texts hidden s.now into.old args.now)) }
     ensures kept { OnOk result (Kept into.old into.new) }
 {
     let r = call_by(s.allocator(), into, line, c, args)?;
