@@ -13,6 +13,13 @@ attend() {
   wait "$!" 2>/dev/null
 }
 
+# The same for a program of the project. Unless the caller says otherwise, its C library moves a block of a megabyte or more as a whole where that
+# grows. Left to itself it does so only until the first one is given back; then it copies the tables of a long source again and again, and keeps
+# the room that they leave: a quarter more memory. What is free behind all else is kept up to 64 megabytes, as it would be then.
+attend_program() {
+  MALLOC_MMAP_THRESHOLD_=${MALLOC_MMAP_THRESHOLD_:-1048576} MALLOC_TRIM_THRESHOLD_=${MALLOC_TRIM_THRESHOLD_:-67108864} attend "$@"
+}
+
 # The same for a command with children that hear of no signal: all of them are one group.
 attend_group() {
   set -m

@@ -41,7 +41,7 @@ refuse_beside() {
   shift
   is_ready "$other" || [ -n "$unproved" ] || { say "$why; so nothing is proved or run" && exit 125; }
   find_beside "$other"
-  attend "$found" "$@"
+  attend_program "$found" "$@"
   status=$?
   case $status in 10 | 11) say "hint: $why" ;; esac
   [ "$status" -le 128 ] || tell_signal "$status"

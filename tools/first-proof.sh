@@ -54,7 +54,7 @@ refuse() {
     is_ready pvrun || program=
   fi
   [ -n "$program" ] || { say "$why; so nothing is proved or run" && exit 125; }
-  attend "$program" "$@"
+  attend_program "$program" "$@"
   status=$?
   case $status in 10 | 11) say "hint: $why" ;; esac
   [ "$status" -le 128 ] || tell_signal "$status"

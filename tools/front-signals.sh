@@ -1,10 +1,25 @@
-# For tools/front: programs that a signal ends, launchers that one ends, and the run turn by turn.
+# For tools/front: what programs are told as they begin, programs that a signal ends, launchers that one ends, and the run turn by turn.
 
 # The launcher over something else in the place of pvrun.
 instead() {
   rm -rf "$work/other" && cp -r "$room/installed" "$work/other"
   printf '#!/usr/bin/env bash\n%s\n' "$1" >"$work/other/lib/valumeiro/pvrun"
   launcher=("$work/other/bin/pvrun")
+}
+
+# What each mode's program is told of how memory is taken; what the caller has said of that stands.
+try_memory() {
+  local kept=("${launcher[@]}") mode
+  instead 'echo "$MALLOC_MMAP_THRESHOLD_ $MALLOC_TRIM_THRESHOLD_"'
+  cp "$work/other/lib/valumeiro/pvrun" "$work/other/lib/valumeiro/pv_replay"
+  launcher=(env -u MALLOC_MMAP_THRESHOLD_ -u MALLOC_TRIM_THRESHOLD_ "$work/other/bin/pvrun")
+  for mode in run settle check layout 'replay write' 'replay check'; do
+    try_call "how memory is taken: $mode" 0 '1048576 67108864' $mode "$work/plain.c"
+  done
+  try_call 'how memory is taken: gen' 0 '1048576 67108864' gen 3
+  launcher=(env MALLOC_MMAP_THRESHOLD_=4096 MALLOC_TRIM_THRESHOLD_=0 "$work/other/bin/pvrun")
+  try_call 'how memory is taken: what the caller has said' 0 '4096 0' check "$work/plain.c"
+  launcher=("${kept[@]}")
 }
 
 # What is said of a program that a signal ended.
@@ -93,6 +108,7 @@ indeterminate line=3 turn=3  $work/unset.c:3: return n;" "$out"
 }
 
 try_all_signals() {
+  try_memory
   try_ended
   try_signals
   try_steps

@@ -24,7 +24,7 @@ find_place() {
   else
     is_ready pvwhere || return
   fi
-  attend "$place" "$text"
+  attend_program "$place" "$text"
 }
 
 # What the answer of the program means.

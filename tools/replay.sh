@@ -7,7 +7,7 @@ write_journal() {
   take_files
   [ -z "$unread" ] || refuse_beside "'$unread' could not be read" write "$source" ${handed[@]+"${handed[@]}"}
   find_beside pv_replay
-  attend "$found" write "$text" ${handed[@]+"${handed[@]}"}
+  attend_program "$found" write "$text" ${handed[@]+"${handed[@]}"}
   end_beside "$?"
 }
 
@@ -16,7 +16,7 @@ check_journal() {
   [ -n "$1" ] || refuse_beside 'the name of the file is empty' check "$@"
   can_read "$1" || refuse_beside "'$1' could not be read" check "$@"
   find_beside pv_replay
-  attend "$found" check "$1"
+  attend_program "$found" check "$1"
   end_beside "$?"
 }
 

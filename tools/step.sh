@@ -21,6 +21,6 @@ step() {
   fi
   # (what is typed may be interrupted; that ends no session)
   trap '' INT
-  attend python3 "$tools/step" "$stepper" "$replayer" "$text" "$source" ${handed[@]+"${handed[@]}"}
+  attend_program python3 "$tools/step" "$stepper" "$replayer" "$text" "$source" ${handed[@]+"${handed[@]}"}
   end_beside "$?"
 }
