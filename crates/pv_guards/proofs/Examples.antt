@@ -75,7 +75,7 @@ forty-one : Fits Int (pos 41)
 forty-one = (grind (arith, ints), grind (arith, ints))
 
 f-typed : IsTypedStatement unit int (1 ∷ []) f_body
-f-typed = (tt, tt, (((Int, Int, (inl refl, refl, refl, int-sized, tt), (refl, refl), (Int, refl, one_in Int), (refl, refl), omega arith, refl, refl), (refl, refl)), tt))
+f-typed = (tt, tt, ((int, (Int, Int, (inl refl, refl, refl, int-sized, tt), (refl, refl), (Int, refl, one_in Int), (refl, refl), omega arith, refl, refl), (refl, refl), like-itself int), tt))
 
 f-called : IsFunction unit 1 int (MoreTys int NoTys)
 f-called = (omega arith, refl, (like-itself int, (like-itself int, tt)))
@@ -88,7 +88,7 @@ main-typed = (
     (inl refl, x-makeable, tt),
     (
       (inl refl, refl, (MoreTys int NoTys, f-called, ((Int, refl, forty-one), (refl, refl), tt, tt)), (refl, refl), refl, int-sized, tt),
-      (((inl refl, refl, refl, int-sized, tt), (refl, refl)), tt),
+      ((int, (inl refl, refl, refl, int-sized, tt), (refl, refl), like-itself int), tt),
     ),
   ),
 )

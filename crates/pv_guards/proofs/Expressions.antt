@@ -436,12 +436,13 @@ module _ (b : Setting) (os : List ℕ)
           (type_of a, refl, h.5, subst IsValueType h.4 h.6, h.4, order.keeps (PointerTo (type_of a)) p (order.on g i) (place-value a h.1 z p q), s) (λ j v y g r. done-holds order y t j v r))))
       form-typed t line (Call f xs) h fs w = call-typed t line f h.0 [] xs h.2 (opened fs) w (λ z g rest k. calls line f t h.0 rest z h.1 k)
       form-typed t line (CallPointer a xs) h fs w =
-          let ft = FunctionTy h.0 h.1 false in
-          operand-way w (given_type a) t (opened fs) (ev b call a) (plainly.ev b call' a) _ _ (λ fs. ev-typed a h.2 fs w) (λ j p z f q.
-          subst (λ x. Typed t z (ev_through b call line (pointed_to x) p [] xs j) (plainly.ev_through b call' line (pointed_to x) p [] xs j)) (sym h.3.0.1)
-          (through-typed t line ft p h.1 [] xs h.5 j z (own-value a (PointerTo ft) h.3 z p q) (λ y g rest k f r.
-          weaker order (Is h.0) (Is t) (λ v x m. ((h.4 (layouts b.unit) v).0 m.0, m.1)) y (call (function_in f) rest line) (call' (function_in f) rest line)
-          (calls line (function_in f) h.0 h.1 rest y (called-function b h.0 h.1 (function_in f) r.0 r.1) k))))
+          let ft = FunctionTy h.0 h.1 h.2 in
+          operand-way w (given_type a) t (opened fs) (ev b call a) (plainly.ev b call' a) _ _ (λ fs. ev-typed a h.3 fs w) (λ j p z f q.
+          subst (λ x. Typed t z (ev_through b call line (pointed_to x) p [] xs j) (plainly.ev_through b call' line (pointed_to x) p [] xs j)) (sym h.4.0.1)
+          (through-typed t line ft p h.1 h.2 [] xs h.6 j z (own-value a (PointerTo ft) h.4 z p q) (λ y g rest k f r.
+          let one = called-function b h.0 h.1 h.2 (function_in f) r.0 r.1 h.7 in
+          weaker order (Is h.0) (Is t) (λ v x m. ((h.5 (layouts b.unit) v).0 m.0, m.1)) y (call (function_in f) rest line) (call' (function_in f) rest line)
+          (calls line (function_in f) h.0 h.1 rest y one.0 (k one.1)))))
       form-typed t line (LibraryCall f xs) h fs w = ask-typed t line f h.0 h.1 [] xs h.2 h.3 (opened fs) w tt
       form-typed t line (ArrayPointer a) h fs w =
           operand-way w (given_type a) t (opened fs) (ev b call a) (plainly.ev b call' a) done done (λ fs. ev-typed a h.0 fs w) (λ j v z f q.
@@ -553,20 +554,25 @@ module _ (b : Setting) (os : List ℕ)
           subst (λ vs. Holds order (Is t) m (call f vs line) (call' f vs line)) (sym (append_assoc got (v ∷ []) rest)) (k m (order.on g (order.on i n)) (v ∷ rest) (order.keeps (bare u) v n p.0, p.1, r)))))
 
       -- 6.5.2.2p1, p10: the same of a call by a value: behind the arguments its function is found
-      through-typed : (t : Ty) (line : ℕ) (r : Ty) (p : Worth) (us : Tys) (got : List Worth) (xs : Arguments) → ArePassed b.unit os us false xs → (j : Open) (w : World) → Value b w (PointerTo r) p
-          → ((z : World) → To w z → (rest : List Worth) → AreValues b z us rest → (f : Worth) → MayBeCalled b r f z → Holds order (Is t) z (call (function_in f) (got ++ rest) line) (call' (function_in f) (got ++ rest) line))
+      through-typed : (t : Ty) (line : ℕ) (r : Ty) (p : Worth) (us : Tys) (variadic : Bool) (got : List Worth) (xs : Arguments) → ArePassed b.unit os us variadic xs → (j : Open) (w : World) → Value b w (PointerTo r) p
+          → ((z : World) → To w z → (rest : List Worth) → (variadic ≡ false → AreValues b z us rest) → (f : Worth) → MayBeCalled b r f z → Holds order (Is t) z (call (function_in f) (got ++ rest) line) (call' (function_in f) (got ++ rest) line))
           → Typed t w (ev_through b call line r p got xs j) (plainly.ev_through b call' line r p got xs j)
-      through-typed t line r p NoTys got NoArguments h j w v k =
+      through-typed t line r p NoTys variadic got NoArguments h j w v k =
           seq order (λ f z. MayBeCalled b r f z) (Gave order t) w (act b line (op.Finds r p)) (act_plainly b line (op.Finds r p)) _ _ (acting.finds-way b os line r r p w v) (λ f z g q.
           seq order (Is t) (Gave order t) z (call (function_in f) got line) (call' (function_in f) got line) (done (sequence_point j)) (done (sequence_point j))
-          (subst (λ vs. Holds order (Is t) z (call (function_in f) vs line) (call' (function_in f) vs line)) (append-nil got) (k z g [] tt f q)) (λ x y i m. done-holds order y t (sequence_point j) x m))
-      through-typed t line r p (MoreTys u us) got NoArguments h j w v k = absurd h
-      through-typed t line r p NoTys got (MoreArguments x xs) h j w v k = absurd h
-      through-typed t line r p (MoreTys u us) got (MoreArguments x xs) h j w v k =
+          (subst (λ vs. Holds order (Is t) z (call (function_in f) vs line) (call' (function_in f) vs line)) (append-nil got) (k z g [] (λ e. tt) f q)) (λ x y i m. done-holds order y t (sequence_point j) x m))
+      through-typed t line r p (MoreTys u us) variadic got NoArguments h j w v k = absurd h
+      through-typed t line r p NoTys false got (MoreArguments x xs) h j w v k = absurd h
+      through-typed t line r p NoTys true got (MoreArguments x xs) h j w v k =
+          operand-way w (given_type x) t j (ev b call x) (plainly.ev b call' x) _ _ (λ fs. ev-typed x h.0 fs w) (λ j y z g q.
+          seq order (λ v w. Value b w (type_of x) v × IsThere v) (Gave order t) z (handed b x y) (plain.handed b x y) _ _ (handed-way x (type_of x) z y h.0 h.1 q) (λ y m i n.
+          through-typed t line r p NoTys true (got ++ y ∷ []) xs h.3 j m (order.keeps (PointerTo r) p (order.on g i) v) (λ a c rest d f e.
+          subst (λ vs. Holds order (Is t) a (call (function_in f) vs line) (call' (function_in f) vs line)) (sym (append_assoc got (y ∷ []) rest)) (k a (order.on g (order.on i c)) (y ∷ rest) (λ s. absurd cc) f e))))
+      through-typed t line r p (MoreTys u us) variadic got (MoreArguments x xs) h j w v k =
           operand-way w (given_type x) t j (ev b call x) (plainly.ev b call' x) _ _ (λ fs. ev-typed x h.0 fs w) (λ j y z g q.
           seq order (λ v w. Value b w (bare u) v × IsThere v) (Gave order t) z (handed b x y) (plain.handed b x y) _ _ (handed-way x (bare u) z y h.0 h.1 q) (λ y m i n.
-          through-typed t line r p us (got ++ y ∷ []) xs h.3 j m (order.keeps (PointerTo r) p (order.on g i) v) (λ a c rest d f e.
-          subst (λ vs. Holds order (Is t) a (call (function_in f) vs line) (call' (function_in f) vs line)) (sym (append_assoc got (y ∷ []) rest)) (k a (order.on g (order.on i c)) (y ∷ rest) (order.keeps (bare u) y c n.0, n.1, d) f e))))
+          through-typed t line r p us variadic (got ++ y ∷ []) xs h.3 j m (order.keeps (PointerTo r) p (order.on g i) v) (λ a c rest d f e.
+          subst (λ vs. Holds order (Is t) a (call (function_in f) vs line) (call' (function_in f) vs line)) (sym (append_assoc got (y ∷ []) rest)) (k a (order.on g (order.on i c)) (y ∷ rest) (λ s. (order.keeps (bare u) y c n.0, n.1, d s)) f e))))
 
       -- 7.1.4p1: the same of a function of the library
       ask-typed : (t : Ty) (line : ℕ) (f : Library) (us : Tys) (variadic : Bool) (got : List Arg) (xs : Arguments) → IsResultOf f t → ArePassed b.unit os us variadic xs → (j : Open) (w : World) → Each (λ (x : Arg). IsArgument w.memory.table x.value) got → Typed t w (ev_ask b call line f got xs j) (plainly.ev_ask b call' line f got xs j)

@@ -9,7 +9,7 @@ use Rattle.pv_types.specs.Compatible.{FunctionForm, same_kind, with_const, is_co
 use Rattle.pv_typed.specs.TypedUnits.{function_at}
 use Rattle.pv_eval.specs.States.{Setting}
 use Rattle.pv_eval.specs.Callees.{may_call}
-use Rattle.pv_guards.specs.Typed.{AreLike, AreAllLike, IsSignature, HasBody, IsFunction}
+use Rattle.pv_guards.specs.Typed.{AreLike, AreAllLike, IsSignature, HasBody, IsFunction, AreFixed}
 
 right-of : (a b : Bool) → (a && b) ≡ true → b ≡ true
 right-of true b e = e
@@ -99,38 +99,52 @@ all-like (MoreTys t ts) (MoreTys u us) e =
     (turned t u (like-alike _ _ t u (left-of _ (all_alike (forms_of ts) (forms_of us)) e)), all-like ts us (right-of _ (all_alike (forms_of ts) (forms_of us)) e))
 
 -- a function type has no qualifier of its own
-no-constant : (q p : _) (t r : Ty) (ts : Tys) → is_constant q ≡ true → with_const q ≡ q → alike (form_of q t) (FunctionForm false (form_of p r) (forms_of ts) false) ≡ true → ⊥
-no-constant q p VoidTy r ts h k e = absurd cc
-no-constant q p (IntTy j) r ts h k e = absurd cc
-no-constant q p (PointerTo a) r ts h k e = absurd cc
-no-constant q p (ArrayOf a m) r ts h k e = absurd cc
-no-constant q p (StructTag m) r ts h k e = absurd cc
-no-constant q p (UnionTag m) r ts h k e = absurd cc
-no-constant q p (FunctionTy a us c) r ts h k e =
-    let f = left-of (beq (is_constant q) false) (beq c false) (left-of (beq (is_constant q) false && beq c false) _ e) in
+no-constant : (q p : _) (t r : Ty) (ts : Tys) (v : Bool) → is_constant q ≡ true → with_const q ≡ q → alike (form_of q t) (FunctionForm false (form_of p r) (forms_of ts) v) ≡ true → ⊥
+no-constant q p VoidTy r ts v h k e = absurd cc
+no-constant q p (IntTy j) r ts v h k e = absurd cc
+no-constant q p (PointerTo a) r ts v h k e = absurd cc
+no-constant q p (ArrayOf a m) r ts v h k e = absurd cc
+no-constant q p (StructTag m) r ts v h k e = absurd cc
+no-constant q p (UnionTag m) r ts v h k e = absurd cc
+no-constant q p (FunctionTy a us c) r ts v h k e =
+    let f = left-of (beq (is_constant q) false) (beq c v) (left-of (beq (is_constant q) false && beq c v) _ e) in
     let g : beq true false ≡ true = subst (λ x. beq x false ≡ true) h f in
     absurd cc
-no-constant q p (ConstOf a) r ts h k e = no-constant q p a r ts h k (subst (λ x. alike (form_of x a) (FunctionForm false (form_of p r) (forms_of ts) false) ≡ true) k e)
+no-constant q p (ConstOf a) r ts v h k e = no-constant q p a r ts v h k (subst (λ x. alike (form_of x a) (FunctionForm false (form_of p r) (forms_of ts) v) ≡ true) k e)
 
-signed : (q p : _) (t r : Ty) (ts : Tys) → is_constant (with_const q) ≡ true → with_const (with_const q) ≡ with_const q → alike (form_of q t) (FunctionForm false (form_of p r) (forms_of ts) false) ≡ true → IsSignature t r ts
-signed q p VoidTy r ts h k e = absurd cc
-signed q p (IntTy j) r ts h k e = absurd cc
-signed q p (PointerTo a) r ts h k e = absurd cc
-signed q p (ArrayOf a m) r ts h k e = absurd cc
-signed q p (StructTag m) r ts h k e = absurd cc
-signed q p (UnionTag m) r ts h k e = absurd cc
-signed q p (ConstOf a) r ts h k e = absurd (no-constant (with_const q) p a r ts h k e)
-signed q p (FunctionTy a us true) r ts h k e =
+-- a function type that has `...` where the type has it
+abbrev IsSigned : Bool → Ty → Ty → Tys → Type 0
+IsSigned false t r ts = IsSignature t r ts
+IsSigned true t r ts = (a : Ty) × (us : Tys) × (t ≡ FunctionTy a us true)
+
+signed : (q p : _) (t r : Ty) (ts : Tys) (v : Bool) → is_constant (with_const q) ≡ true → with_const (with_const q) ≡ with_const q → alike (form_of q t) (FunctionForm false (form_of p r) (forms_of ts) v) ≡ true → IsSigned v t r ts
+signed q p VoidTy r ts v h k e = absurd cc
+signed q p (IntTy j) r ts v h k e = absurd cc
+signed q p (PointerTo a) r ts v h k e = absurd cc
+signed q p (ArrayOf a m) r ts v h k e = absurd cc
+signed q p (StructTag m) r ts v h k e = absurd cc
+signed q p (UnionTag m) r ts v h k e = absurd cc
+signed q p (ConstOf a) r ts v h k e = absurd (no-constant (with_const q) p a r ts v h k e)
+signed q p (FunctionTy a us true) r ts true h k e = (a, us, refl)
+signed q p (FunctionTy a us true) r ts false h k e =
     let g : beq true false ≡ true = right-of (beq (is_constant q) false) (beq true false) (left-of (beq (is_constant q) false && beq true false) _ e) in
     absurd cc
-signed q p (FunctionTy a us false) r ts h k e =
+signed q p (FunctionTy a us false) r ts true h k e =
+    let g : beq false true ≡ true = right-of (beq (is_constant q) false) (beq false true) (left-of (beq (is_constant q) false && beq false true) _ e) in
+    absurd cc
+signed q p (FunctionTy a us false) r ts false h k e =
     let both = right-of (beq (is_constant q) false && beq false false) _ e in
     (like-alike _ _ a r (right-of (all_alike (forms_of us) (forms_of ts)) _ both), all-like us ts (left-of (all_alike (forms_of us) (forms_of ts)) _ both))
 
--- 6.3.2.3p8: a function that may be called so is one with such a result and such parameters
-pub called-function : (b : Setting) (r : Ty) (ts : Tys) (f : ℕ) → may_call b (FunctionTy r ts false) (Some f) ≡ true → HasBody b.unit f → IsFunction b.unit f r ts
+-- 6.3.2.3p8, 6.5.2.2p9: a function that may be called so is one with such a result and such parameters, and has no `...`
+fixed : (b : Setting) (r : Ty) (ts : Tys) (v : Bool) (f : ℕ) → IsSigned v (function_at b.unit f).t r ts → HasBody b.unit f → (v ≡ true → AreFixed b.unit) → (IsSignature (function_at b.unit f).t r ts) × (v ≡ false)
+fixed b r ts false f s h k = (s, refl)
+fixed b r ts true f s h k = absurd (k refl f s.0 s.1 h s.2)
+
+pub called-function : (b : Setting) (r : Ty) (ts : Tys) (v : Bool) (f : ℕ) → may_call b (FunctionTy r ts v) (Some f) ≡ true → HasBody b.unit f → (v ≡ true → AreFixed b.unit) → IsFunction b.unit f r ts × (v ≡ false)
 unfolding are_compatible
-called-function b r ts f e h =
-    let few = left-of (nat_lt f (length b.unit.functions)) (are_compatible (function_at b.unit f).t (FunctionTy r ts false)) e in
-    let like = right-of (nat_lt f (length b.unit.functions)) (are_compatible (function_at b.unit f).t (FunctionTy r ts false)) e in
-    (ltb-true f (length b.unit.functions) few, h, signed _ _ (function_at b.unit f).t r ts refl refl like)
+called-function b r ts v f e h k =
+    let few = left-of (nat_lt f (length b.unit.functions)) (are_compatible (function_at b.unit f).t (FunctionTy r ts v)) e in
+    let like = right-of (nat_lt f (length b.unit.functions)) (are_compatible (function_at b.unit f).t (FunctionTy r ts v)) e in
+    let one = fixed b r ts v f (signed _ _ (function_at b.unit f).t r ts v refl refl like) h k in
+    ((ltb-true f (length b.unit.functions) few, h, one.0), one.1)

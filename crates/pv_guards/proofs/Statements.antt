@@ -320,10 +320,10 @@ module _ (b : Setting) (rest : List Bindings) (w0 : World) where
     returns-sure : (r : Ty) (os : List ℕ) (x : Option TypedTree) (line : ℕ) → IsReturned b.unit r os x → (s : State) → Inv os s.world → Sure (E r os) (returns_value b u.call x line s) (plain.returns_value b u'.call x line s)
     returns-sure r os None line h s i = (refl, (i, (none-nothing (layouts b.unit) r h, tt)))
     returns-sure r os (Some x) line h s i =
-        sure-seq (Kept os s.world (λ v z. Value b z (given_type x) v)) (E r os) (full b u.call x s) (plain.full b u'.call x s) _ _ (full-sure os x h.0 s i) (λ v t k.
-        sure-seq (Kept os t.world (λ v z. Value b z (bare r) v)) (E r os) (converted b x v t) (plainly.converted b x v t) _ _ (converted-sure os x (bare r) v t h.0 h.1 k.2 k.1) (λ v y q.
-        sure-seq (Kept os y.world (λ v z. Value b z (bare r) v × IsThere v)) (E r os) (act b line (Accepts v) y) (act_plainly b line (Accepts v) y) _ _ (accept-sure os line (bare r) v y q.2 q.1) (λ v x p.
-        (refl, (p.1, (from-bare (layouts b.unit) r v p.2.0.0, p.2.0.1))))))
+        sure-seq (Kept os s.world (λ v z. Value b z (given_type x) v)) (E r os) (full b u.call x s) (plain.full b u'.call x s) _ _ (full-sure os x h.1 s i) (λ v t k.
+        sure-seq (Kept os t.world (λ v z. Value b z (bare h.0) v)) (E r os) (converted b x v t) (plainly.converted b x v t) _ _ (converted-sure os x (bare h.0) v t h.1 h.2 k.2 k.1) (λ v y q.
+        sure-seq (Kept os y.world (λ v z. Value b z (bare h.0) v × IsThere v)) (E r os) (act b line (Accepts v) y) (act_plainly b line (Accepts v) y) _ _ (accept-sure os line (bare h.0) v y q.2 q.1) (λ v x p.
+        (refl, (p.1, ((h.3 (layouts b.unit) v).0 (from-bare (layouts b.unit) h.0 v p.2.0.0), p.2.0.1))))))
 
     mutual
       unfolding ex plain.ex

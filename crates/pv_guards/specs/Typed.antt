@@ -1,5 +1,5 @@
 -- A typed tree that is well typed, told of the tree alone (C17 6.5): what evaluation asks of each kind of node.
-use Rattle.std.specs.Prelude.{◌≡◌, ◌⊎◌, ◌↔◌, ℕ, ◌+◌, ◌<◌, ◌≤◌, ◌^◌, pos, Bool, true, false, List, [], ◌∷◌, length, is_some, if◌then◌else◌}
+use Rattle.std.specs.Prelude.{◌≡◌, ◌≢◌, ◌⊎◌, ◌↔◌, ℕ, ◌+◌, ◌<◌, ◌≤◌, ◌^◌, pos, Bool, true, false, List, [], ◌∷◌, length, is_some, if◌then◌else◌}
 use Rattle.pv_num.specs.declared.kinds.IntKind.{IntKind}
 use Rattle.pv_num.specs.declared.kinds.IntKind.TheVariants.{Bool as BoolKind, Int, Long, ULong}
 use Rattle.pv_num.specs.declared.operators.BinOp.{BinOp}
@@ -117,6 +117,10 @@ HasBody u f = is_some (function_at u f).body ≡ true
 abbrev pub IsFunction : WholeUnit → ℕ → Ty → Tys → Type 0
 IsFunction u f t ts = (f < length u.functions) × HasBody u f × IsSignature (function_at u f).t t ts
 
+-- 6.9.1: no function that the unit defines has a type with `...`
+abbrev pub AreFixed : WholeUnit → Type 0
+AreFixed u = (f : ℕ) (r : Ty) (ts : Tys) → HasBody u f → (function_at u f).t ≢ FunctionTy r ts true
+
 -- 7: the type of the result of each function of the library: a pointer, a number, or nothing
 abbrev pub IsResultOf : Library → Ty → Type 0
 IsResultOf library.Malloc t = (s : Ty) × (t ≡ PointerTo s)
@@ -205,8 +209,10 @@ abbrev mutual
       (s : Ty) × IsTyped u os a × IsPlace a × IsTyped u os b × HasValue b (type_of b) × IsIntegerType (type_of b) × (t ≡ PointerTo s) × (t ≡ bare (type_of a)) × IsSized (layouts u) s × IsSized (layouts u) (type_of a)
   IsTypedForm u os t (Increment op a) = IsTyped u os a × IsPlace a × (t ≡ bare (type_of a)) × MayStep (layouts u) t × IsSized (layouts u) (type_of a)
   IsTypedForm u os t (Call f xs) = (ts : Tys) × IsFunction u f t ts × ArePassed u os ts false xs
+  -- 6.5.2.2p9: by a type with `...` no function is called that the unit defines
   IsTypedForm u os t (CallPointer a xs) =
-      (r : Ty) × (ts : Tys) × IsTyped u os a × HasValue a (PointerTo (FunctionTy r ts false)) × AreLike r t × ArePassed u os ts false xs
+      (r : Ty) × (ts : Tys) × (variadic : Bool) × IsTyped u os a × HasValue a (PointerTo (FunctionTy r ts variadic)) × AreLike r t
+      × ArePassed u os ts variadic xs × (variadic ≡ true → AreFixed u)
   IsTypedForm u os t (LibraryCall f xs) = (ts : Tys) × (variadic : Bool) × IsResultOf f t × ArePassed u os ts variadic xs
 
   -- 6.5.2.2p2, p7: each argument has its parameter's type; further ones are promoted

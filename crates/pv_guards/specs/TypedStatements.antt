@@ -45,10 +45,10 @@ abbrev pub MayBeTyped : WholeUnit → (automatic : List ℕ) → Option TypedTre
 MayBeTyped u os None = Unit {0}
 MayBeTyped u os (Some x) = IsTyped u os x
 
--- 6.8.6.4p1, p3: a `return` in a function with this result
+-- 6.8.6.4p1, p3: a `return` in a function with this result, which is like that of the function's definition (6.2.7p4, 6.9.1p3)
 abbrev pub IsReturned : WholeUnit → Ty → (automatic : List ℕ) → Option TypedTree → Type 0
 IsReturned u r os None = is_none r ≡ true
-IsReturned u r os (Some x) = IsTyped u os x × HasType x (bare r)
+IsReturned u r os (Some x) = (q : Ty) × IsTyped u os x × HasType x (bare q) × AreLike q r
 
 -- 6.7.9p2: what is stored at one place of an initializer lies within the object
 abbrev pub LiesIn : WholeUnit → (object : ℕ) → Store → Type 0

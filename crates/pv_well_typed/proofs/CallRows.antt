@@ -137,10 +137,12 @@ module _ (E : Type 0) (v : WholeUnit) (os : List ℕ) where
             typed = λ i. (
               t,
               ts,
+              false,
               callee.typed i,
               has-value-as E v os a (PointerTo (FunctionTy t ts false)) callee called,
               like-itself t,
               subst (λ b. ArePassed v os ts b (arguments_of xs)) h.2 (passed-row ts c args all xs p i),
+              λ e. absurd cc,
             );
             proper = h.1;
             valued = λ n. (refl, h.0);
