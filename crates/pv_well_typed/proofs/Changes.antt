@@ -10,7 +10,7 @@ use Rattle.pv_types.proofs.LayoutLaws.{layouts-push, look-append, look-last, com
 use Rattle.pv_typed.specs.Adding.{with_literal}
 use Rattle.pv_typed.specs.Known.{Each}
 use Rattle.pv_typed.proofs.Each.{each_weaker, each_append, each_left}
-use Rattle.pv_typed.specs.TypedUnits.{WholeUnit, TypedObject, Literal, no_literal, layouts}
+use Rattle.pv_typed.specs.TypedUnits.{WholeUnit, TypedObject, Literal, no_literal, no_object, layouts}
 use Rattle.pv_check.specs.Primary.{with_use, text_of}
 use Rattle.pv_check.specs.State.{State, Scope, no_scope, Meaning, TagMeaning, Used, find, bound, or_else, look, look_tag, look_by, names_in, tags_in, innermost, bind, bind_tag, entered}
 use Rattle.pv_guards.specs.Typed.{IsIn}
@@ -26,7 +26,7 @@ before-at z [] ys i lt = absurd (omega (arith, lt))
 before-at z (x ∷ xs) ys zero lt = refl
 before-at z (x ∷ xs) ys (suc i) lt = before-at z xs ys i (omega (arith, lt))
 
-below-append : {A : Type 0} (xs ys : List A) (i : ℕ) → i < length xs → i < length (xs ++ ys)
+pub below-append : {A : Type 0} (xs ys : List A) (i : ℕ) → i < length xs → i < length (xs ++ ys)
 below-append xs ys i lt = let l = length-append xs ys in omega (arith, l, lt)
 
 in-left : (xs ys : List ℕ) (n : ℕ) → IsIn n xs → IsIn n (xs ++ ys)
@@ -34,7 +34,7 @@ in-left [] ys n h = absurd h
 in-left (x ∷ xs) ys n (inl e) = inl e
 in-left (x ∷ xs) ys n (inr h) = inr (in-left xs ys n h)
 
-each-set : {A : Type 0} (P : A → Type 0) (xs : List A) (i : ℕ) (y : A) → Each P xs → P y → Each P (set xs i y)
+pub each-set : {A : Type 0} (P : A → Type 0) (xs : List A) (i : ℕ) (y : A) → Each P xs → P y → Each P (set xs i y)
 each-set P [] i y h p = tt
 each-set P (x ∷ xs) zero y h p = (p, h.1)
 each-set P (x ∷ xs) (suc i) y h p = (h.0, each-set P xs i y h.1 p)
@@ -47,7 +47,7 @@ take-set (x ∷ xs) (suc i) y = ap (λ ys. x ∷ ys) (take-set xs i y)
 
 -- ---- names
 
-each-bound : {M : Type 0} (P : M → Type 0) (n : ℕ) (m : M) (es : List (ℕ × M)) → P m → Each (λ (e : ℕ × M). P e.1) es → Each (λ (e : ℕ × M). P e.1) (bound n m es)
+pub each-bound : {M : Type 0} (P : M → Type 0) (n : ℕ) (m : M) (es : List (ℕ × M)) → P m → Each (λ (e : ℕ × M). P e.1) es → Each (λ (e : ℕ × M). P e.1) (bound n m es)
 each-bound P n m [] p h = (p, tt)
 each-bound {M} P n m (e ∷ es) p h = by (nat_eq n e.0) (each-bound P n m es p h.1)
   where
@@ -63,7 +63,7 @@ find-each {M} P n (x ∷ es) h m e = by (nat_eq n x.0) (find-each P n es h.1 m) 
     by true rest e = let q : x.1 ≡ m = cc in subst P q h.0
     by false rest e = rest e
 
-look-each : {M : Type 0} (f : Scope → List (ℕ × M)) (P : M → Type 0) (n : ℕ) (ss : List Scope) → Each (λ (x : Scope). Each (λ (e : ℕ × M). P e.1) (f x)) ss → (m : M) → look_by f ss n ≡ Some m → P m
+pub look-each : {M : Type 0} (f : Scope → List (ℕ × M)) (P : M → Type 0) (n : ℕ) (ss : List Scope) → Each (λ (x : Scope). Each (λ (e : ℕ × M). P e.1) (f x)) ss → (m : M) → look_by f ss n ≡ Some m → P m
 look-each f P n [] h m e = absurd cc
 look-each {M} f P n (s ∷ ss) h m e = by (look_by f ss n) (look-each f P n ss h.1 m) e
   where
@@ -166,13 +166,14 @@ module _ (v : WholeUnit) where
   use-proper s x h = record { unit = h.unit; some = h.some; scopes = h.scopes }
 
   -- 6.4.5: a string literal
-  literal-later : (u : WholeUnit) (x : Literal) (b : Bool) → IsLaterUnit (with_literal u x b) v → IsLaterUnit u v
+  pub literal-later : (u : WholeUnit) (x : Literal) (b : Bool) → IsLaterUnit (with_literal u x b) v → IsLaterUnit u v
   literal-later u x b l = record {
     layouts = l.layouts;
     headings = l.headings;
     functions = λ f lt. let g = l.functions f lt in record { there = g.there; named = g.named; signed = g.signed };
     literals = λ n lt. l.literals n (below-append u.literals (x ∷ []) n lt) ∙ before-at no_literal u.literals (x ∷ []) n lt;
     instances = λ n i. l.instances n (kept b n i);
+    lasting = l.lasting;
   }
     where
       kept : (b : Bool) (n : ℕ) → IsIn n u.instances → IsIn n (if b then u.instances ++ (length u.literals ∷ []) else u.instances)
@@ -197,6 +198,7 @@ module _ (v : WholeUnit) where
       functions = λ f lt. let g = l.unit.functions f lt in record { there = g.there; named = g.named; signed = g.signed };
       literals = l.unit.literals;
       instances = l.unit.instances;
+      lasting = λ o lt. l.unit.lasting o (below-append s.unit.objects (x ∷ []) o lt) ∙ ap (λ (y : TypedObject). y.lasting) (before-at no_object s.unit.objects (x ∷ []) o lt);
     };
     used = l.used;
   }
@@ -220,6 +222,7 @@ module _ (v : WholeUnit) where
       functions = λ f lt. let g = l.unit.functions f lt in record { there = g.there; named = g.named; signed = g.signed };
       literals = l.unit.literals;
       instances = l.unit.instances;
+      lasting = l.unit.lasting;
     };
     used = l.used;
   }
@@ -239,6 +242,7 @@ module _ (v : WholeUnit) where
       functions = λ f lt. let g = l.unit.functions f lt in record { there = g.there; named = g.named; signed = g.signed };
       literals = l.unit.literals;
       instances = l.unit.instances;
+      lasting = l.unit.lasting;
     };
     used = l.used;
   }
@@ -263,6 +267,7 @@ module _ (v : WholeUnit) where
       functions = λ f lt. let g = l.unit.functions f lt in record { there = g.there; named = g.named; signed = g.signed };
       literals = l.unit.literals;
       instances = l.unit.instances;
+      lasting = l.unit.lasting;
     };
     used = l.used;
   }

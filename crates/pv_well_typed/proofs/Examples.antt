@@ -82,6 +82,7 @@ later = record {
     functions = λ f lt. absurd (omega (arith, lt));
     literals = λ l lt. refl;
     instances = λ l h. h;
+    lasting = λ o lt. refl;
   };
   used = (λ e. absurd (no-static e), (λ e. absurd (no-static e), tt));
 }

@@ -13,7 +13,18 @@ pub mod CallRows
 pub mod PrimaryRows
 pub mod Changes
 pub mod Moving
+pub mod SourceCharacters
 pub mod DeclaredTypes
 pub mod TagRows
 pub mod Walk
 mod Examples
+pub mod UnitChanges
+pub mod StatementRows
+pub mod StatementWalk
+pub mod BlockRows
+pub mod LoopRows
+pub mod SwitchRows
+pub mod StatementGives
+pub mod PartRows
+pub mod ConstantRows
+pub mod InitializerGives

@@ -19,15 +19,15 @@ use Rattle.pv_well_typed.proofs.Operands.{some-same}
 use Rattle.pv_well_typed.proofs.UnaryRows.{both-true}
 
 -- a member that was found: its type is complete, and its bytes lie before the end
-record IsFound (v : WholeUnit) (es : List Entry) (end : ℕ) (p : Part) : Type 0 where
-  proper : IsProper v p.t
-  complete : is_complete_in es p.t ≡ true
-  within : p.offset + (layout_in es p.t).size ≤ end
+pub record IsFound (v : WholeUnit) (es : List Entry) (end : ℕ) (p : Part) : Type 0 where
+  pub proper : IsProper v p.t
+  pub complete : is_complete_in es p.t ≡ true
+  pub within : p.offset + (layout_in es p.t).size ≤ end
 
-found-before : (v : WholeUnit) (es : List Entry) (m n : ℕ) (p : Part) → m ≤ n → IsFound v es m p → IsFound v es n p
+pub found-before : (v : WholeUnit) (es : List Entry) (m n : ℕ) (p : Part) → m ≤ n → IsFound v es m p → IsFound v es n p
 found-before v es m n p le h = let w = h.within in record { proper = h.proper; complete = h.complete; within = omega (arith, le, w) }
 
-found-as : (v : WholeUnit) (es : List Entry) (n : ℕ) (q p : Part) → IsFound v es n q → Some q ≡ Some p → IsFound v es n p
+pub found-as : (v : WholeUnit) (es : List Entry) (n : ℕ) (q p : Part) → IsFound v es n q → Some q ≡ Some p → IsFound v es n p
 found-as v es n q p h e = subst (IsFound v es n) (some-same q p e) h
 
 struct-found : (v : WholeUnit) (es : List Entry) (name o : ℕ) (ms : List Named) → Each (IsMember v es) ms → (p : Part) → member_named name (struct_placed (layout_at es) o ms) ≡ Some p → IsFound v es (struct_end es o ms) p
@@ -54,13 +54,13 @@ union-found v es name o (m ∷ ms) h p e = by (m.name == name) (union-found v es
     by false rest e = rest e
 
 -- the members of a tag: those that it was completed with, or none
-record HasMembers (v : WholeUnit) (es : List Entry) (n : ℕ) (ms : List Named) : Type 0 where
-  union : Bool
-  word : (heading_at v.headings n).union ≡ union
-  laid : look es n ≡ Some (layout_of es n union ms)
-  members : Each (IsMember v es) ms
+pub record HasMembers (v : WholeUnit) (es : List Entry) (n : ℕ) (ms : List Named) : Type 0 where
+  pub union : Bool
+  pub word : (heading_at v.headings n).union ≡ union
+  pub laid : look es n ≡ Some (layout_of es n union ms)
+  pub members : Each (IsMember v es) ms
 
-members-of : (v : WholeUnit) (es : List Entry) (ds : List Completed) (n : ℕ) → Each (IsCompleted v es) ds → (completed_members ds n ≡ []) ⊎ HasMembers v es n (completed_members ds n)
+pub members-of : (v : WholeUnit) (es : List Entry) (ds : List Completed) (n : ℕ) → Each (IsCompleted v es) ds → (completed_members ds n ≡ []) ⊎ HasMembers v es n (completed_members ds n)
 members-of v es [] n h = inl refl
 members-of v es (d ∷ ds) n h = by (d.tag == n) refl (members-of v es ds n h.1)
   where
@@ -76,15 +76,15 @@ members-of v es (d ∷ ds) n h = by (d.tag == n) refl (members-of v es ds n h.1)
         })
     by false e rest = rest
 
-none-found : (p : Part) → None ≡ Some p → ⊥
+pub none-found : (p : Part) → None ≡ Some p → ⊥
 none-found p e = absurd cc
 
-struct-size : (es : List Entry) (n : ℕ) (u : Bool) (ms : List Named) → look es n ≡ Some (layout_of es n u ms) → u ≡ false → struct_end es 0 ms ≤ (or_none (look es n)).size
+pub struct-size : (es : List Entry) (n : ℕ) (u : Bool) (ms : List Named) → look es n ≡ Some (layout_of es n u ms) → u ≡ false → struct_end es 0 ms ≤ (or_none (look es n)).size
 struct-size es n u ms e f =
     let size : (or_none (look es n)).size ≡ (layout_of es n false ms).size = ap (λ o. (or_none o).size) e ∙ ap (λ b. (layout_of es n b ms).size) f in
     omega (arith, size)
 
-union-size : (es : List Entry) (n : ℕ) (u : Bool) (ms : List Named) → look es n ≡ Some (layout_of es n u ms) → u ≡ true → union_end es 0 ms ≤ (or_none (look es n)).size
+pub union-size : (es : List Entry) (n : ℕ) (u : Bool) (ms : List Named) → look es n ≡ Some (layout_of es n u ms) → u ≡ true → union_end es 0 ms ≤ (or_none (look es n)).size
 union-size es n u ms e f =
     let size : (or_none (look es n)).size ≡ (layout_of es n true ms).size = ap (λ o. (or_none o).size) e ∙ ap (λ b. (layout_of es n b ms).size) f in
     omega (arith, size)

@@ -1,18 +1,30 @@
 -- What typing does to its state, and what it gives (C17 6.5, 6.7): a unit that is later than the state behind is later than the one before.
-use Rattle.std.proofs.Common.{◌≡◌, ℕ, zero, suc, ◌<◌, ◌≤◌, ◌-◌, Bool, true, false, Option, Some, None, List, [], ◌∷◌, ◌++◌, length, take, set, refl, sym, ap, subst, ◌∙◌, arith, length-append, length-set, append_assoc, append-nil}
+use Rattle.std.proofs.Common.{◌≡◌, ℕ, zero, suc, ◌<◌, ◌≤◌, ◌-◌, ◌+◌, Bool, true, false, Option, Some, None, List, [], ◌∷◌, ◌++◌, length, take, set, get_or, refl, sym, ap, subst, ◌∙◌, arith, length-append, length-set, append_assoc, append-nil, ◌⊎◌, inl, inr}
 use Rattle.std.specs.Prelude.{if◌then◌else◌}
-use Rattle.pv_types.specs.Layouts.{Entry}
+use Rattle.pv_types.specs.Layouts.{Entry, Layout, up_to, layout_in, is_complete_in}
+use Rattle.pv_types.proofs.LayoutLaws.{layout-append, complete-append}
+use Rattle.pv_types.specs.Ty.{Ty}
 use Rattle.pv_typed.specs.Known.{Each}
+use Rattle.pv_typed.proofs.Each.{each_append}
+use Rattle.pv_typed.specs.Addresses.{size_in, or_zero}
 use Rattle.pv_typed.specs.TypedTree.{TypedTree}
-use Rattle.pv_typed.specs.TypedUnits.{WholeUnit}
+use Rattle.pv_typed.specs.TypedUnits.{WholeUnit, TypedObject, Literal, Store, no_literal, layouts, object_at}
 use Rattle.pv_check.specs.Rows.{operand, integer_value}
-use Rattle.pv_check.specs.State.{State, After, Scope, no_scope, and_then, give, env, entered, left}
+use Rattle.pv_check.specs.State.{State, Used, UsedObject, UsedFunction, PointedFunction, Meaning, ObjectName, FunctionName, TypedefOf, ConstantOf, After, Scope, no_scope, and_then, give, env, entered, left}
 use Rattle.pv_check.specs.Values.{value_of}
 use Rattle.pv_typed.specs.Constants.{integer}
+use Rattle.pv_guards.specs.TypedStatements.{IsConstant}
 use Rattle.pv_well_typed.specs.Later.{IsFinished, Later}
 use Rattle.pv_well_typed.specs.ProperStates.{IsScope, IsProperState, AreVisible}
 use Rattle.pv_well_typed.proofs.Changes.{take-set}
 use Rattle.pv_well_typed.proofs.Operands.{IsExpression, IsOperand, value-row, some-same}
+
+-- the layouts of completed tags are those of before, perhaps with more behind
+abbrev pub Grows : List Entry → List Entry → Type 0
+Grows es fs = (more : List Entry) × (fs ≡ es ++ more)
+
+pub then-grows : (es fs gs : List Entry) → Grows es fs → Grows fs gs → Grows es gs
+then-grows es fs gs h g = (h.0 ++ g.0, g.1 ∙ ap (λ (xs : List Entry). xs ++ g.0) h.1 ∙ append_assoc es h.0 g.0)
 
 -- 6.2.1p4: there are as many scopes, and those around the innermost are the same
 pub record Outer (ss ts : List Scope) : Type 0 where
@@ -31,12 +43,37 @@ then-outer ss ts us h g = record {
 pub set-outer : (ss : List Scope) (x : Scope) → Outer ss (set ss (length ss - 1) x)
 set-outer ss x = record { deep = length-set ss (length ss - 1) x; same = take-set ss (length ss - 1) x }
 
--- the layouts of completed tags are those of before, perhaps with more behind
-abbrev pub Grows : List Entry → List Entry → Type 0
-Grows es fs = (more : List Entry) × (fs ≡ es ++ more)
+-- ---- 6.2.1, 6.4.5, 6.9p5: what typing keeps of what it has seen
 
-pub then-grows : (es fs gs : List Entry) → Grows es fs → Grows fs gs → Grows es gs
-then-grows es fs gs h g = (h.0 ++ g.0, g.1 ∙ ap (λ (xs : List Entry). xs ++ g.0) h.1 ∙ append_assoc es h.0 g.0)
+-- a function that a name stands for is there
+abbrev pub IsKnownMeaning : (functions : ℕ) → Meaning → Type 0
+IsKnownMeaning n (ObjectName o) = Unit {0}
+IsKnownMeaning n (FunctionName f) = f < n
+IsKnownMeaning n (TypedefOf t) = Unit {0}
+IsKnownMeaning n (ConstantOf k) = Unit {0}
+
+abbrev pub AreKnownNames : (functions : ℕ) → Scope → Type 0
+AreKnownNames n x = Each (λ (e : ℕ × Meaning). IsKnownMeaning n e.1) x.names
+
+-- 6.9p5: an expression names a function that is there
+abbrev pub IsKnownUse : (functions : ℕ) → Used → Type 0
+IsKnownUse n (UsedObject o) = Unit {0}
+IsKnownUse n (UsedFunction f) = f < n
+IsKnownUse n (PointedFunction f) = f < n
+
+abbrev pub AreBytes : List ℕ → Type 0
+AreBytes bs = Each (λ b. b < 256) bs
+
+-- functions that names stand for and that expressions named, the texts of the source, and string literals, of which an instance has its zero (6.4.5p6)
+pub record IsOrderly (functions : ℕ) (scopes : List Scope) (used : List Used) (texts : List (List ℕ)) (literals : List Literal) (instances : List ℕ) : Type 0 where
+  pub names : Each (AreKnownNames functions) scopes
+  pub uses : Each (IsKnownUse functions) used
+  pub sources : Each AreBytes texts
+  pub written : Each (λ (x : Literal). AreBytes x.bytes) literals
+  pub ended : Each (λ l. 1 ≤ length (get_or literals l no_literal).bytes) instances
+
+abbrev pub Orderly : State → Type 0
+Orderly s = IsOrderly (length s.unit.functions) s.scopes s.used s.texts s.unit.literals s.unit.instances
 
 -- typing goes from one state to another. F: it isn't a list of parameters, whose objects stand in their own scope
 pub record Moves (F : Type 0) (v : WholeUnit) (os : List ℕ) (s t : State) : Type 0 where
@@ -45,15 +82,59 @@ pub record Moves (F : Type 0) (v : WholeUnit) (os : List ℕ) (s t : State) : Ty
   pub grows : Grows (env s) (env t)
   pub names : F → AreVisible v os s.scopes → AreVisible v os t.scopes
   pub evaluated : t.unevaluated ≡ s.unevaluated
-  pub functions : length s.unit.functions ≤ length t.unit.functions
+  pub functions : t.unit.functions ≡ s.unit.functions
+  pub orderly : Orderly s → Orderly t
+  pub count : length s.unit.objects ≤ length t.unit.objects
+  pub older : (o : ℕ) → o < length s.unit.objects → object_at t.unit o ≡ object_at s.unit o
+
+-- 6.7.9p4, p11: stores of an initializer that are constants of their types, and lie within an object of this type
+abbrev pub AreConstantStores : WholeUnit → Ty → List Store → Type 0
+AreConstantStores v t xs = Each (λ (x : Store). (x.offset + (layout_in (layouts v) x.t).size ≤ (layout_in (layouts v) t).size) × IsConstant v x.t x.what) xs
+
+-- 6.2.4p3, 6.7p7: an object with static storage has a complete type, and is initialized with constants
+pub record IsStatic (v : WholeUnit) (x : TypedObject) : Type 0 where
+  pub complete : is_complete_in (layouts v) x.t ≡ true
+  pub constants : AreConstantStores v x.t x.inits
+
+-- 6.2.7p4: each object is as large in the later unit as it is here, where its type is complete
+abbrev pub Grown : WholeUnit → State → Type 0
+Grown v t = (o : ℕ) → o < length t.unit.objects → or_zero (size_in t.unit (object_at t.unit o).t) ≤ or_zero (size_in v (object_at v o).t)
+
+-- the objects with static storage that typing makes between two states are so
+abbrev pub StaticsMade : WholeUnit → (before behind : State) → Type 0
+StaticsMade v s t = Grown v t → (o : ℕ) → length s.unit.objects ≤ o → o < length t.unit.objects → (object_at t.unit o).lasting ≡ true → IsStatic v (object_at t.unit o)
+
+size-more : (es more : List Entry) (t : Ty)
+    → or_zero (if is_complete_in es t then up_to (layout_in es t).size else None) ≤ or_zero (if is_complete_in (es ++ more) t then up_to (layout_in (es ++ more) t).size else None)
+size-more es more t = by (is_complete_in es t) refl
+  where
+    by : (b : Bool) → is_complete_in es t ≡ b → or_zero (if b then up_to (layout_in es t).size else None) ≤ or_zero (if is_complete_in (es ++ more) t then up_to (layout_in (es ++ more) t).size else None)
+    by false e = omega arith
+    by true e =
+        subst (λ c. or_zero (up_to (layout_in es t).size) ≤ or_zero (if c then up_to (layout_in (es ++ more) t).size else None)) (sym (complete-append es more t e ∙ e))
+        (subst (λ (l : Layout). or_zero (up_to (layout_in es t).size) ≤ or_zero (up_to l.size)) (sym (layout-append es more t e)) (omega arith))
+
+-- 6.2.7p3: a type that is complete stays so, with its size
+pub size-grown : (es fs : List Entry) (t : Ty) → Grows es fs
+    → or_zero (if is_complete_in es t then up_to (layout_in es t).size else None) ≤ or_zero (if is_complete_in fs t then up_to (layout_in fs t).size else None)
+size-grown es fs t g =
+    subst (λ (xs : List Entry). or_zero (if is_complete_in es t then up_to (layout_in es t).size else None) ≤ or_zero (if is_complete_in xs t then up_to (layout_in xs t).size else None)) (sym g.1) (size-more es g.0 t)
+
+-- what typing makes between two states
+abbrev pub HasMade : WholeUnit → (before behind : State) → Type 0
+HasMade v s t = StaticsMade v s t
+
+-- where no object is made
+pub none-made : (v : WholeUnit) (s t : State) → length t.unit.objects ≡ length s.unit.objects → HasMade v s t
+none-made v s t e k o from below lasting = absurd (omega (arith, from, below, e))
 
 -- what is typed has Q, in a state that is later, where P was known before and the types are as declarations make them
 pub record Gives {A : Type 0} (F : Type 0) (v : WholeUnit) (os : List ℕ) (P : Type 0) (s : State) (Q : After A → Type 0) (o : Option (After A)) : Type 0 where
-  pub held : (a : After A) → o ≡ Some a → Moves F v os s a.state × (Later a.state v → P → IsProperState v s → IsProperState v a.state × Q a)
+  pub held : (a : After A) → o ≡ Some a → Moves F v os s a.state × (Later a.state v → P → IsProperState v s → IsProperState v a.state × Q a × HasMade v s a.state)
 
 module _ (F : Type 0) (v : WholeUnit) (os : List ℕ) where
   pub same-moves : (s : State) → Moves F v os s s
-  same-moves s = record { later = λ l. l; outer = same-outer s.scopes; grows = ([], sym (append-nil (env s))); names = λ f h. h; evaluated = refl; functions = omega arith }
+  same-moves s = record { later = λ l. l; outer = same-outer s.scopes; grows = ([], sym (append-nil (env s))); names = λ f h. h; evaluated = refl; functions = refl; orderly = λ h. h; count = omega arith; older = λ o lt. refl }
 
   pub then-moves : (s t u : State) → Moves F v os s t → Moves F v os t u → Moves F v os s u
   then-moves s t u h g = record {
@@ -62,33 +143,56 @@ module _ (F : Type 0) (v : WholeUnit) (os : List ℕ) where
     grows = then-grows (env s) (env t) (env u) h.grows g.grows;
     names = λ f k. g.names f (h.names f k);
     evaluated = g.evaluated ∙ h.evaluated;
-    functions = let x = h.functions in let y = g.functions in omega (arith, x, y);
+    functions = g.functions ∙ h.functions;
+    orderly = λ k. g.orderly (h.orderly k);
+    count = let x = h.count in let y = g.count in omega (arith, x, y);
+    older = λ o lt. let x = h.count in g.older o (omega (arith, x, lt)) ∙ h.older o lt;
   }
+
+  pub grown-before : (t u : State) → Moves F v os t u → Grown v u → Grown v t
+  grown-before t u m k o lt =
+      let few = m.count in
+      let wide = k o (omega (arith, lt, few)) in
+      let same = subst (λ (x : TypedObject). or_zero (size_in u.unit x.t) ≤ or_zero (size_in v (object_at v o).t)) (m.older o lt) wide in
+      let more = size-grown (env t) (env u) (object_at t.unit o).t m.grows in
+      omega (arith, same, more)
+
+  pub then-made : (s t u : State) → Moves F v os t u → HasMade v s t → HasMade v t u → HasMade v s u
+  then-made s t u m h g k o from below lasting = by (either o (length t.unit.objects))
+    where
+      either : (o n : ℕ) → (o < n) ⊎ (n ≤ o)
+      either o n = grind arith
+
+      by : (o < length t.unit.objects) ⊎ (length t.unit.objects ≤ o) → IsStatic v (object_at u.unit o)
+      by (inl lt) = subst (IsStatic v) (sym (m.older o lt)) (h (grown-before t u m k) o from lt (sym (ap (λ (x : TypedObject). x.lasting) (m.older o lt)) ∙ lasting))
+      by (inr le) = g k o le below lasting
 
   pub gives-none : {A : Type 0} (P : Type 0) (s : State) (Q : After A → Type 0) → Gives F v os P s Q None
   gives-none P s Q = record { held = λ a e. absurd cc }
 
-  pub gives-some : {A : Type 0} (P : Type 0) (s : State) (Q : After A → Type 0) (x : After A) → Moves F v os s x.state → (Later x.state v → P → IsProperState v s → IsProperState v x.state × Q x)
+  pub gives-some : {A : Type 0} (P : Type 0) (s : State) (Q : After A → Type 0) (x : After A) → Moves F v os s x.state → (Later x.state v → P → IsProperState v s → IsProperState v x.state × Q x × HasMade v s x.state)
       → Gives F v os P s Q (Some x)
-  gives-some {A} P s Q x m h = record { held = λ a e. subst (λ (b : After A). Moves F v os s b.state × (Later b.state v → P → IsProperState v s → IsProperState v b.state × Q b)) (some-same x a e) (m, h) }
+  gives-some {A} P s Q x m h = record { held = λ a e. subst (λ (b : After A). Moves F v os s b.state × (Later b.state v → P → IsProperState v s → IsProperState v b.state × Q b × HasMade v s b.state)) (some-same x a e) (m, h) }
 
   -- in the state that there is
   pub gives-here : {A : Type 0} (P : Type 0) (s : State) (Q : After A → Type 0) (o : Option A) → ((x : A) → o ≡ Some x → Later s v → P → IsProperState v s → Q (record { value = x; state = s })) → Gives F v os P s Q (give o s)
   gives-here P s Q None h = gives-none P s Q
-  gives-here P s Q (Some x) h = gives-some P s Q (record { value = x; state = s }) (same-moves s) (λ l p g. (g, h x refl l p g))
+  gives-here P s Q (Some x) h = gives-some P s Q (record { value = x; state = s }) (same-moves s) (λ l p g. (g, h x refl l p g, none-made v s s refl))
 
   pub gives-then : {A B : Type 0} (P : Type 0) (s : State) (Q : After A → Type 0) (R : After B → Type 0) (o : Option (After A)) (f : After A → Option (After B))
       → Gives F v os P s Q o → ((a : After A) → Moves F v os s a.state → Gives F v os (P × Q a) a.state R (f a)) → Gives F v os P s R (and_then o f)
   gives-then P s Q R None f h k = gives-none P s R
   gives-then {A} {B} P s Q R (Some a) f h k = record { held = λ b e. next b e }
     where
-      first : Moves F v os s a.state × (Later a.state v → P → IsProperState v s → IsProperState v a.state × Q a)
+      first : Moves F v os s a.state × (Later a.state v → P → IsProperState v s → IsProperState v a.state × Q a × HasMade v s a.state)
       first = h.held a refl
 
-      next : (b : After B) → f a ≡ Some b → Moves F v os s b.state × (Later b.state v → P → IsProperState v s → IsProperState v b.state × R b)
+      next : (b : After B) → f a ≡ Some b → Moves F v os s b.state × (Later b.state v → P → IsProperState v s → IsProperState v b.state × R b × HasMade v s b.state)
       next b e =
-          let second = (k a first.0).held b e in
-          (then-moves s a.state b.state first.0 second.0, λ l p g. let q = first.1 (second.0.later l) p g in second.1 l (p, q.1) q.0)
+          let second = (k a first.0).held b e in (
+            then-moves s a.state b.state first.0 second.0,
+            λ l p g. let q = first.1 (second.0.later l) p g in let r = second.1 l (p, q.1) q.0 in (r.0, r.1, then-made s a.state b.state second.0 q.2 r.2),
+          )
 
   -- behind something that is no state
   pub gives-value : {A B : Type 0} (P : Type 0) (s : State) (R : After B → Type 0) (o : Option A) (f : A → Option (After B)) → ((x : A) → o ≡ Some x → Gives F v os P s R (f x)) → Gives F v os P s R (and_then o f)
@@ -104,24 +208,24 @@ module _ (F : Type 0) (v : WholeUnit) (os : List ℕ) where
   gives-unless P s Q false o h = h refl
 
   -- a state that was gone to before, in which R is known
-  pub gives-from : {A : Type 0} (P R : Type 0) (s t : State) (Q : After A → Type 0) (o : Option (After A)) → Moves F v os s t → (Later t v → P → IsProperState v s → IsProperState v t × R) → Gives F v os R t Q o → Gives F v os P s Q o
+  pub gives-from : {A : Type 0} (P R : Type 0) (s t : State) (Q : After A → Type 0) (o : Option (After A)) → Moves F v os s t → (Later t v → P → IsProperState v s → IsProperState v t × R × HasMade v s t) → Gives F v os R t Q o → Gives F v os P s Q o
   gives-from {A} P R s t Q o m h k = record { held = λ a e. next a e }
     where
-      next : (a : After A) → o ≡ Some a → Moves F v os s a.state × (Later a.state v → P → IsProperState v s → IsProperState v a.state × Q a)
+      next : (a : After A) → o ≡ Some a → Moves F v os s a.state × (Later a.state v → P → IsProperState v s → IsProperState v a.state × Q a × HasMade v s a.state)
       next a e =
           let r = k.held a e in
-          (then-moves s t a.state m r.0, λ l p g. let z = h (r.0.later l) p g in r.1 l z.1 z.0)
+          (then-moves s t a.state m r.0, λ l p g. let z = h (r.0.later l) p g in let w = r.1 l z.1 z.0 in (w.0, w.1, then-made s t a.state r.0 z.2 w.2))
 
 -- less is asked, more is known before
 pub gives-weaker : {A : Type 0} (F G P R : Type 0) (v : WholeUnit) (os : List ℕ) (s : State) (Q T : After A → Type 0) (o : Option (After A))
     → (G → F) → (R → P) → ((a : After A) → Q a → T a) → Gives F v os P s Q o → Gives G v os R s T o
 gives-weaker {A} F G P R v os s Q T o g p w h = record { held = λ a e. next a e }
   where
-    next : (a : After A) → o ≡ Some a → Moves G v os s a.state × (Later a.state v → R → IsProperState v s → IsProperState v a.state × T a)
+    next : (a : After A) → o ≡ Some a → Moves G v os s a.state × (Later a.state v → R → IsProperState v s → IsProperState v a.state × T a × HasMade v s a.state)
     next a e =
         let r = h.held a e in (
-          record { later = r.0.later; outer = r.0.outer; grows = r.0.grows; names = λ x. r.0.names (g x); evaluated = r.0.evaluated; functions = r.0.functions },
-          λ l q k. let z = r.1 l (p q) k in (z.0, w a z.1),
+          record { later = r.0.later; outer = r.0.outer; grows = r.0.grows; names = λ x. r.0.names (g x); evaluated = r.0.evaluated; functions = r.0.functions; orderly = r.0.orderly; count = r.0.count; older = r.0.older },
+          λ l q k. let z = r.1 l (p q) k in (z.0, w a z.1, z.2),
         )
 
 -- ---- 6.3.2.1p2: the value of an operand
@@ -131,29 +235,33 @@ module _ (E F : Type 0) (v : WholeUnit) (os : List ℕ) (done : IsFinished v) wh
   gives-operand P s None h = gives-none F v os P s (λ a. IsOperand E v os a.value)
   gives-operand P s (Some a) h = record { held = λ b e. next b e }
     where
-      first : Moves F v os s a.state × (Later a.state v → P → IsProperState v s → IsProperState v a.state × IsExpression E v os a.value)
+      first : Moves F v os s a.state × (Later a.state v → P → IsProperState v s → IsProperState v a.state × IsExpression E v os a.value × HasMade v s a.state)
       first = h.held a refl
 
       given : Gives F v os (P × IsExpression E v os a.value) a.state (λ b. IsOperand E v os b.value) (give (value_of (env a.state) a.value) a.state)
       given = gives-here F v os (P × IsExpression E v os a.value) a.state (λ b. IsOperand E v os b.value) (value_of (env a.state) a.value)
           (λ x e l p g. value-row E v os done (env a.state) l.unit.layouts a.value p.1 x e)
 
-      next : (b : After TypedTree) → give (value_of (env a.state) a.value) a.state ≡ Some b → Moves F v os s b.state × (Later b.state v → P → IsProperState v s → IsProperState v b.state × IsOperand E v os b.value)
+      next : (b : After TypedTree) → give (value_of (env a.state) a.value) a.state ≡ Some b → Moves F v os s b.state × (Later b.state v → P → IsProperState v s → IsProperState v b.state × IsOperand E v os b.value × HasMade v s b.state)
       next b e =
-          let second = given.held b e in
-          (then-moves F v os s a.state b.state first.0 second.0, λ l p g. let q = first.1 (second.0.later l) p g in second.1 l (p, q.1) q.0)
+          let second = given.held b e in (
+            then-moves F v os s a.state b.state first.0 second.0,
+            λ l p g. let q = first.1 (second.0.later l) p g in let r = second.1 l (p, q.1) q.0 in (r.0, r.1, then-made F v os s a.state b.state second.0 q.2 r.2),
+          )
 
   pub gives-integer : (P : Type 0) (s : State) (Q : After TypedTree → Type 0) (o : Option (After TypedTree)) → Gives F v os P s Q o → Gives F v os P s (λ a. Unit {0}) (integer_value o)
   gives-integer P s Q None h = gives-none F v os P s (λ a. Unit {0})
   gives-integer P s Q (Some a) h = record { held = λ b e. next b e }
     where
-      first : Moves F v os s a.state × (Later a.state v → P → IsProperState v s → IsProperState v a.state × Q a)
+      first : Moves F v os s a.state × (Later a.state v → P → IsProperState v s → IsProperState v a.state × Q a × HasMade v s a.state)
       first = h.held a refl
 
-      next : (b : After _) → give (integer a.value) a.state ≡ Some b → Moves F v os s b.state × (Later b.state v → P → IsProperState v s → IsProperState v b.state × Unit {0})
+      next : (b : After _) → give (integer a.value) a.state ≡ Some b → Moves F v os s b.state × (Later b.state v → P → IsProperState v s → IsProperState v b.state × Unit {0} × HasMade v s b.state)
       next b e =
-          let second = (gives-here F v os P a.state (λ b. Unit {0}) (integer a.value) (λ x e l p g. tt)).held b e in
-          (then-moves F v os s a.state b.state first.0 second.0, λ l p g. second.1 l p (first.1 (second.0.later l) p g).0)
+          let second = (gives-here F v os P a.state (λ b. Unit {0}) (integer a.value) (λ x e l p g. tt)).held b e in (
+            then-moves F v os s a.state b.state first.0 second.0,
+            λ l p g. let q = first.1 (second.0.later l) p g in let r = second.1 l p q.0 in (r.0, r.1, then-made F v os s a.state b.state second.0 q.2 r.2),
+          )
 
 -- ---- 6.7.6.3, 6.2.1p4: a list of parameters in a scope of its own, which ends with it
 
@@ -161,10 +269,22 @@ pub take-all : {A : Type 0} (xs ys : List A) → take (length xs) (xs ++ ys) ≡
 take-all [] ys = refl
 take-all (x ∷ xs) ys = ap (λ zs. x ∷ zs) (take-all xs ys)
 
-each-take : {A : Type 0} (P : A → Type 0) (n : ℕ) (xs : List A) → Each P xs → Each P (take n xs)
+pub each-take : {A : Type 0} (P : A → Type 0) (n : ℕ) (xs : List A) → Each P xs → Each P (take n xs)
 each-take P zero xs h = tt
 each-take P (suc n) [] h = tt
 each-take P (suc n) (x ∷ xs) h = (h.0, each-take P n xs h.1)
+
+pub entered-orderly : (s : State) → Orderly s → Orderly (entered s)
+entered-orderly s h = record {
+  names = each_append (AreKnownNames (length s.unit.functions)) s.scopes (no_scope ∷ []) h.names (tt, tt);
+  uses = h.uses;
+  sources = h.sources;
+  written = h.written;
+  ended = h.ended;
+}
+
+left-orderly : (t : State) → Orderly t → Orderly (left t)
+left-orderly t h = record { names = each-take (AreKnownNames (length t.unit.functions)) (length t.scopes - 1) t.scopes h.names; uses = h.uses; sources = h.sources; written = h.written; ended = h.ended }
 
 -- behind it the scopes are those of before
 pub left-scopes : (ss ts : List Scope) → Outer (ss ++ (no_scope ∷ [])) ts → take (length ts - 1) ts ≡ ss
@@ -184,6 +304,9 @@ left-moves F G v os s t m =
       names = λ f h. subst (AreVisible v os) (sym same) h;
       evaluated = m.evaluated;
       functions = m.functions;
+      orderly = λ h. left-orderly t (m.orderly (entered-orderly s h));
+      count = m.count;
+      older = m.older;
     }
 
 pub left-proper : (v : WholeUnit) (s t : State) → 0 < length s.scopes → Outer (entered s).scopes t.scopes → IsProperState v t → IsProperState v (left t)

@@ -41,6 +41,11 @@ pub last-at : {A : Type 0} (z : A) (xs : List A) (x : A) → get_or (xs ++ (x �
 last-at z [] x = refl
 last-at z (y ∷ xs) x = last-at z xs x
 
+pub beyond-at : {A : Type 0} (z : A) (xs : List A) (i : ℕ) → length xs ≤ i → get_or xs i z ≡ z
+beyond-at z [] i le = refl
+beyond-at z (x ∷ xs) zero le = absurd (omega (arith, le))
+beyond-at z (x ∷ xs) (suc i) le = beyond-at z xs i (omega (arith, le))
+
 -- ---- 6.4.4.1p5: an integer constant has a kind that has its value
 
 pub fits-read : (k : IntKind) (n : ℤ) → fits_of k n ≡ true → Fits k n

@@ -1,5 +1,5 @@
 -- What declares a tag, what completes it, and enumerators (C17 6.7.2): what typing does to its state, and what it gives.
-use Rattle.std.proofs.Common.{◌≡◌, ℕ, ◌<◌, ℤ, pos, ◌+ℤ◌, Bool, true, false, ◌&&◌, not, Option, Some, None, is_some, List, [], ◌∷◌, ◌++◌, length, refl, sym, ap, subst, ◌∙◌, arith, length-append, append-nil}
+use Rattle.std.proofs.Common.{◌≡◌, ℕ, ◌<◌, ◌-◌, ℤ, pos, ◌+ℤ◌, Bool, true, false, ◌&&◌, not, Option, Some, None, is_some, List, [], ◌∷◌, ◌++◌, length, refl, sym, ap, subst, ◌∙◌, arith, length-append, append-nil}
 use Rattle.std.specs.Prelude.{if◌then◌else◌, nat_lt}
 use Rattle.std.specs.Bool.{beq}
 use Rattle.pv_num.specs.Kinds.{Fits, fits_of}
@@ -12,16 +12,16 @@ use Rattle.pv_types.specs.Ty.{Ty, IntTy}
 use Rattle.pv_types.proofs.LayoutLaws.{layouts-push}
 use Rattle.pv_typed.specs.Known.{Each}
 use Rattle.pv_typed.specs.TypedUnits.{WholeUnit}
-use Rattle.pv_check.specs.State.{State, After, Meaning, ConstantOf, bound, TagMeaning, CompositeTag, EnumerationTag, OpenEnumeration, and_then, give, env, innermost, find, look_tag, bind, bind_tag, is_file_scope}
+use Rattle.pv_check.specs.State.{State, After, Scope, no_scope, Meaning, ConstantOf, bound, TagMeaning, CompositeTag, EnumerationTag, OpenEnumeration, and_then, give, env, innermost, find, look_tag, bind, bind_tag, is_file_scope}
 use Rattle.pv_check.specs.Tags.{declared_new, composite_named, enumeration_named, tag_named, is_open, opened_named, opened, some_members, filed_with, with_done, is_small, completed, opened_enumeration, closed_enumeration, may_enumerate, enumerated}
 use Rattle.pv_well_typed.specs.Proper.{IsProper}
 use Rattle.pv_well_typed.specs.Later.{Later}
 use Rattle.pv_well_typed.specs.ProperStates.{IsMember, IsTagMeaning, IsProperState, IsVisible}
 use Rattle.pv_well_typed.proofs.Operands.{some-same}
-use Rattle.pv_well_typed.proofs.PrimaryRows.{last-at, fits-read}
+use Rattle.pv_well_typed.proofs.PrimaryRows.{last-at, each-at, fits-read}
 use Rattle.pv_well_typed.proofs.UnaryRows.{both-true}
-use Rattle.pv_well_typed.proofs.Changes.{more_heading, more_filed, made_entry, tag-meaning, inner-tag, bind-proper, bind-tag-proper, bind-visible, bind-tag-visible, heading-later, heading-proper, filed-later, filed-proper, completed-later, completed-proper}
-use Rattle.pv_well_typed.proofs.Moving.{Moves, Gives, same-outer, set-outer, same-moves, then-moves, gives-none, gives-some, gives-here, gives-if, gives-from}
+use Rattle.pv_well_typed.proofs.Changes.{each-set, each-bound, more_heading, more_filed, made_entry, tag-meaning, inner-tag, bind-proper, bind-tag-proper, bind-visible, bind-tag-visible, heading-later, heading-proper, filed-later, filed-proper, completed-later, completed-proper}
+use Rattle.pv_well_typed.proofs.Moving.{IsKnownMeaning, AreKnownNames, Orderly, HasMade, none-made, Moves, Gives, same-outer, set-outer, same-moves, then-moves, gives-none, gives-some, gives-here, gives-if, gives-from}
 
 bits-equal : (a b : Bool) → beq a b ≡ true → a ≡ b
 bits-equal true true h = refl
@@ -37,17 +37,43 @@ tag-proper : (v : WholeUnit) (u : Bool) (n : ℕ) → (heading_at v.headings n).
 tag-proper v true n e = e
 tag-proper v false n e = e
 
+-- 6.2.1p4: a name or a tag gets a meaning
+inner-known : (n : ℕ) (ss : List Scope) → Each (AreKnownNames n) ss → AreKnownNames n (innermost ss)
+inner-known n ss h = each-at (AreKnownNames n) no_scope ss (length ss - 1) tt h
+
+bound-orderly : (n : ℕ) (m : Meaning) (s : State) → IsKnownMeaning (length s.unit.functions) m → Orderly s → Orderly (bind n m s)
+bound-orderly n m s known h = record {
+  names = each-set (AreKnownNames (length s.unit.functions)) s.scopes (length s.scopes - 1) _ h.names
+      (each-bound (IsKnownMeaning (length s.unit.functions)) n m (innermost s.scopes).names known (inner-known (length s.unit.functions) s.scopes h.names));
+  uses = h.uses;
+  sources = h.sources;
+  written = h.written;
+  ended = h.ended;
+}
+
+bound-tag-orderly : (n : ℕ) (m : TagMeaning) (s : State) → Orderly s → Orderly (bind_tag n m s)
+bound-tag-orderly n m s h = record {
+  names = each-set (AreKnownNames (length s.unit.functions)) s.scopes (length s.scopes - 1) _ h.names (inner-known (length s.unit.functions) s.scopes h.names);
+  uses = h.uses;
+  sources = h.sources;
+  written = h.written;
+  ended = h.ended;
+}
+
 module _ (F : Type 0) (v : WholeUnit) (os : List ℕ) where
   -- ---- changes of the state
 
-  pub bind-moves : (n : ℕ) (m : Meaning) (s : State) → (F → IsVisible v os m) → Moves F v os s (bind n m s)
-  bind-moves n m s h = record {
+  pub bind-moves : (n : ℕ) (m : Meaning) (s : State) → (F → IsVisible v os m) → IsKnownMeaning (length s.unit.functions) m → Moves F v os s (bind n m s)
+  bind-moves n m s h known = record {
     later = λ l. record { unit = l.unit; used = l.used };
     outer = set-outer s.scopes (record (innermost s.scopes) { names = bound n m (innermost s.scopes).names });
     grows = ([], sym (append-nil (env s)));
     names = λ f k. bind-visible v os n m s (h f) k;
     evaluated = refl;
-    functions = omega arith;
+    functions = refl;
+    orderly = λ k. bound-orderly n m s known k;
+    count = omega arith;
+    older = λ o lt. refl;
   }
 
   pub bind-tag-moves : (n : ℕ) (m : TagMeaning) (s : State) → Moves F v os s (bind_tag n m s)
@@ -57,14 +83,17 @@ module _ (F : Type 0) (v : WholeUnit) (os : List ℕ) where
     grows = ([], sym (append-nil (env s)));
     names = λ f k. bind-tag-visible v os n m s k;
     evaluated = refl;
-    functions = omega arith;
+    functions = refl;
+    orderly = λ k. bound-tag-orderly n m s k;
+    count = omega arith;
+    older = λ o lt. refl;
   }
 
   heading-moves : (x : Heading) (s : State) → Moves F v os s (more_heading x s)
-  heading-moves x s = record { later = heading-later v x s; outer = same-outer s.scopes; grows = ([], sym (append-nil (env s))); names = λ f k. k; evaluated = refl; functions = omega arith }
+  heading-moves x s = record { later = heading-later v x s; outer = same-outer s.scopes; grows = ([], sym (append-nil (env s))); names = λ f k. k; evaluated = refl; functions = refl; orderly = λ h. h; count = omega arith; older = λ o lt. refl }
 
   filed-moves : (t : Ty) (s : State) → Moves F v os s (more_filed t s)
-  filed-moves t s = record { later = filed-later v t s; outer = same-outer s.scopes; grows = ([], sym (append-nil (env s))); names = λ f k. k; evaluated = refl; functions = omega arith }
+  filed-moves t s = record { later = filed-later v t s; outer = same-outer s.scopes; grows = ([], sym (append-nil (env s))); names = λ f k. k; evaluated = refl; functions = refl; orderly = λ h. h; count = omega arith; older = λ o lt. refl }
 
   completed-moves : (k : ℕ) (u : Bool) (ms : List Named) (s : State) → Moves F v os s (with_done u k ms s)
   completed-moves k u ms s = record {
@@ -73,7 +102,10 @@ module _ (F : Type 0) (v : WholeUnit) (os : List ℕ) where
     grows = (made_entry s.unit.completed (record { tag = k; union = u; members = ms }) ∷ [], layouts-push s.unit.completed (record { tag = k; union = u; members = ms }));
     names = λ f h. h;
     evaluated = refl;
-    functions = omega arith;
+    functions = refl;
+    orderly = λ h. h;
+    count = omega arith;
+    older = λ o lt. refl;
   }
 
   -- ---- 6.7.2.3: tags
@@ -96,21 +128,21 @@ module _ (F : Type 0) (v : WholeUnit) (os : List ℕ) where
       (then-moves F v os s h (declared_new n u s).state (heading-moves (record { name = Some n; union = u }) s) (bind-tag-moves n (CompositeTag u (length s.unit.headings)) h))
       (λ l p g.
       let word = new-word (Some n) u s (record { unit = l.unit; used = l.used }) in
-      (bind-tag-proper v n (CompositeTag u (length s.unit.headings)) h word (heading-proper v (record { name = Some n; union = u }) s g), word))
+      (bind-tag-proper v n (CompositeTag u (length s.unit.headings)) h word (heading-proper v (record { name = Some n; union = u }) s g), word, none-made v s (declared_new n u s).state refl))
 
   abbrev pub HasProperType : After Ty → Type 0
   HasProperType a = IsProper v a.value
 
-  composite-gives : (P : Type 0) (u : Bool) (n : ℕ) (m : Option TagMeaning) (s : State) → (IsProperState v s → (k : TagMeaning) → m ≡ Some k → IsTagMeaning v k) → Gives F v os P s HasProperType (composite_named u n m s)
+  pub composite-gives : (P : Type 0) (u : Bool) (n : ℕ) (m : Option TagMeaning) (s : State) → (IsProperState v s → (k : TagMeaning) → m ≡ Some k → IsTagMeaning v k) → Gives F v os P s HasProperType (composite_named u n m s)
   composite-gives P u n None s h = record { held = λ a e. next a e }
     where
       next : (a : After Ty) → Some (record { value = tag_type u (length s.unit.headings); state = (declared_new n u s).state }) ≡ Some a
-          → Moves F v os s a.state × (Later a.state v → P → IsProperState v s → IsProperState v a.state × IsProper v a.value)
+          → Moves F v os s a.state × (Later a.state v → P → IsProperState v s → IsProperState v a.state × IsProper v a.value × HasMade v s a.state)
       next a e =
           let r = (declared-gives P n u s).held (declared_new n u s) refl in
           let q : record { value = tag_type u (length s.unit.headings); state = (declared_new n u s).state } ≡ a = cc in
-          subst (λ (b : After Ty). Moves F v os s b.state × (Later b.state v → P → IsProperState v s → IsProperState v b.state × IsProper v b.value)) q
-          (r.0, λ l p g. let z = r.1 l p g in (z.0, tag-proper v u (length s.unit.headings) z.1))
+          subst (λ (b : After Ty). Moves F v os s b.state × (Later b.state v → P → IsProperState v s → IsProperState v b.state × IsProper v b.value × HasMade v s b.state)) q
+          (r.0, λ l p g. let z = r.1 l p g in (z.0, tag-proper v u (length s.unit.headings) z.1, z.2))
   composite-gives P u n (Some (CompositeTag w k)) s h =
       gives-if F v os P s HasProperType (beq w u) (give (Some (tag_type w k)) s)
       (λ e. gives-here F v os P s HasProperType (Some (tag_type w k)) (λ x q l p g. subst (IsProper v) (some-same (tag_type w k) x q) (tag-proper v w k (h g (CompositeTag w k) refl))))
@@ -143,7 +175,7 @@ module _ (F : Type 0) (v : WholeUnit) (os : List ℕ) where
   pub opened-gives : (P : Type 0) (u : Bool) (n : Option ℕ) (s : State) → Gives F v os P s (HasWord u) (opened u n s)
   opened-gives P u None s =
       gives-some F v os P s (HasWord u) (record { value = length s.unit.headings; state = more_heading (record { name = None; union = u }) s }) (heading-moves (record { name = None; union = u }) s)
-      (λ l p g. (heading-proper v (record { name = None; union = u }) s g, new-word None u s l))
+      (λ l p g. (heading-proper v (record { name = None; union = u }) s g, new-word None u s l, none-made v s (more_heading (record { name = None; union = u }) s) refl))
   opened-gives P u (Some n) s = opened-named-gives P u n (find (innermost s.scopes).tags n) s (λ g k e. inner-tag v s g n k e)
 
   -- 6.7.2.1p3: members, in the layouts of the state behind them
@@ -153,15 +185,15 @@ module _ (F : Type 0) (v : WholeUnit) (os : List ℕ) where
   pub some-members-gives : (a : After (List Named)) → Gives F v os (HasMembers a) a.state HasMembers (some_members a)
   some-members-gives a =
       gives-if F v os (HasMembers a) a.state HasMembers (nat_lt 0 (length a.value)) (Some a)
-      (λ e. gives-some F v os (HasMembers a) a.state HasMembers a (same-moves F v os a.state) (λ l p g. (g, p)))
+      (λ e. gives-some F v os (HasMembers a) a.state HasMembers a (same-moves F v os a.state) (λ l p g. (g, p, none-made v a.state a.state refl)))
 
   filed-gives : (P : Type 0) (n : Option ℕ) (t : Ty) (s : State) → (P → IsProper v t) → Gives F v os P s HasProperType (Some (record { value = t; state = filed_with n t s }))
-  filed-gives P None t s h = gives-some F v os P s HasProperType (record { value = t; state = s }) (same-moves F v os s) (λ l p g. (g, h p))
+  filed-gives P None t s h = gives-some F v os P s HasProperType (record { value = t; state = s }) (same-moves F v os s) (λ l p g. (g, h p, none-made v s s refl))
   filed-gives P (Some n) t s h = by (is_file_scope s)
     where
       by : (b : Bool) → Gives F v os P s HasProperType (Some (record { value = t; state = if b then more_filed t s else s }))
-      by true = gives-some F v os P s HasProperType (record { value = t; state = more_filed t s }) (filed-moves t s) (λ l p g. (filed-proper v t s g, h p))
-      by false = gives-some F v os P s HasProperType (record { value = t; state = s }) (same-moves F v os s) (λ l p g. (g, h p))
+      by true = gives-some F v os P s HasProperType (record { value = t; state = more_filed t s }) (filed-moves t s) (λ l p g. (filed-proper v t s g, h p, none-made v s (more_filed t s) refl))
+      by false = gives-some F v os P s HasProperType (record { value = t; state = s }) (same-moves F v os s) (λ l p g. (g, h p, none-made v s s refl))
 
   -- the number of the tag has its word, and the members are complete
   abbrev pub MayComplete : Bool → ℕ → List Named → State → Type 0
@@ -172,7 +204,7 @@ module _ (F : Type 0) (v : WholeUnit) (os : List ℕ) where
   completed-gives u n k ms s =
       gives-if F v os (MayComplete u k ms s) s HasProperType (is_open s k) _
       (λ e. gives-from F v os (MayComplete u k ms s) (MayComplete u k ms s) s (with_done u k ms s) HasProperType _ (completed-moves k u ms s)
-      (λ l p g. (completed-proper v k u ms s p.0 (none-there (look (env s) k) e) p.1 g, p))
+      (λ l p g. (completed-proper v k u ms s p.0 (none-there (look (env s) k) e) p.1 g, p, none-made v s (with_done u k ms s) refl))
       (gives-if F v os (MayComplete u k ms s) (with_done u k ms s) HasProperType (is_small (with_done u k ms s) (tag_type u k)) _
       (λ f. filed-gives (MayComplete u k ms s) n (tag_type u k) (with_done u k ms s) (λ p. tag-proper v u k p.0))))
 
@@ -184,11 +216,11 @@ module _ (F : Type 0) (v : WholeUnit) (os : List ℕ) where
     where
       by : (b : Bool) → Gives F v os P s Q (and_then (if b then None else Some (bind_tag n OpenEnumeration s)) f)
       by true = gives-none F v os P s Q
-      by false = gives-from F v os P P s (bind_tag n OpenEnumeration s) Q (f (bind_tag n OpenEnumeration s)) (bind-tag-moves n OpenEnumeration s) (λ l p g. (bind-tag-proper v n OpenEnumeration s tt g, p)) (h (bind_tag n OpenEnumeration s))
+      by false = gives-from F v os P P s (bind_tag n OpenEnumeration s) Q (f (bind_tag n OpenEnumeration s)) (bind-tag-moves n OpenEnumeration s) (λ l p g. (bind-tag-proper v n OpenEnumeration s tt g, p, none-made v s (bind_tag n OpenEnumeration s) refl)) (h (bind_tag n OpenEnumeration s))
 
   pub closed-gives : {A : Type 0} (P : Type 0) (n : Option ℕ) (s : State) (Q : After A → Type 0) (f : State → Option (After A)) → ((t : State) → Gives F v os P t Q (f t)) → Gives F v os P s Q (f (closed_enumeration n s))
   closed-gives P None s Q f h = h s
-  closed-gives P (Some n) s Q f h = gives-from F v os P P s (bind_tag n EnumerationTag s) Q (f (bind_tag n EnumerationTag s)) (bind-tag-moves n EnumerationTag s) (λ l p g. (bind-tag-proper v n EnumerationTag s tt g, p)) (h (bind_tag n EnumerationTag s))
+  closed-gives P (Some n) s Q f h = gives-from F v os P P s (bind_tag n EnumerationTag s) Q (f (bind_tag n EnumerationTag s)) (bind-tag-moves n EnumerationTag s) (λ l p g. (bind-tag-proper v n EnumerationTag s tt g, p, none-made v s (bind_tag n EnumerationTag s) refl)) (h (bind_tag n EnumerationTag s))
 
   abbrev pub IsAny : {A : Type 0} → After A → Type 0
   IsAny a = Unit {0}
@@ -201,4 +233,4 @@ module _ (F : Type 0) (v : WholeUnit) (os : List ℕ) where
 
       by : Fits Int k → (b : Bool) → Gives F v os P s IsAny (and_then (if b then None else Some (bind n (ConstantOf k) s)) (give (Some (k +ℤ pos 1))))
       by h true = gives-none F v os P s IsAny
-      by h false = gives-some F v os P s IsAny (record { value = k +ℤ pos 1; state = bind n (ConstantOf k) s }) (bind-moves n (ConstantOf k) s (λ f. tt)) (λ l p g. (bind-proper v n (ConstantOf k) s h g, tt))
+      by h false = gives-some F v os P s IsAny (record { value = k +ℤ pos 1; state = bind n (ConstantOf k) s }) (bind-moves n (ConstantOf k) s (λ f. tt) tt) (λ l p g. (bind-proper v n (ConstantOf k) s h g, tt, none-made v s (bind n (ConstantOf k) s) refl))

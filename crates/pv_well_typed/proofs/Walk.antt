@@ -1,5 +1,5 @@
 -- Typing of expressions, specifiers, declarators and type names (C17 6.5, 6.7): each expression that is typed is well typed in every later unit.
-use Rattle.std.proofs.Common.{◌≡◌, ℕ, ◌<◌, ◌≤◌, ◌+◌, ◌==◌, ℤ, pos, Bool, true, false, ◌&&◌, Option, Some, None, is_some, List, [], ◌∷◌, ◌++◌, length, refl, sym, ap, subst, ◌∙◌, arith, length-append, append-nil}
+use Rattle.std.proofs.Common.{◌≡◌, ℕ, zero, suc, ◌<◌, ◌≤◌, ◌+◌, ◌==◌, ℤ, pos, Bool, true, false, not, ◌&&◌, Option, Some, None, is_some, List, [], ◌∷◌, ◌++◌, length, get_or, refl, sym, ap, subst, ◌∙◌, arith, length-append, append-nil, ◌⊎◌, inl, inr}
 use Rattle.std.specs.Prelude.{if◌then◌else◌, nat_lt}
 use Rattle.std.proofs.lemmas.Bool.{eqb-true}
 use Rattle.pv_types.specs.Layouts.{Entry, Named, is_complete_in}
@@ -7,20 +7,21 @@ use Rattle.pv_types.specs.Ty.{Ty, IntTy}
 use Rattle.pv_num.specs.declared.kinds.IntKind.TheVariants.{Int}
 use Rattle.pv_tree.specs.Syntax.{ExpressionTree, Name, Number, Character, Text, Paren, Index, Call, Member, Arrow, PostIncrement, PostDecrement, PreIncrement, PreDecrement, Unary, SizeofExpr, SizeofType, Cast, Binary, Conditional, Assign, Comma, ArgumentTrees, NoArguments, Argument, DeclarationTree, Function as FunctionTree, Declaration, InitDeclarator, MemberDeclaration, Enumerator, Parameter, TypeName, DeclaratorTree, DeclaredName, ParenDeclarator, Pointer, Array, FunctionDeclarator, AbstractParen, AbstractPointer, AbstractArray, AbstractFunction, SpecifierTree, Keyword, Composite, Enumeration, Tag, TypedefName, Tree, OfExpression, OfDeclaration, OfDeclarator, OfSpecifier, OfInitializer, OfStatement, Trees, NoTrees, Then, OptionalTree, Absent, Present}
 use Rattle.pv_typed.specs.Known.{Each}
-use Rattle.pv_typed.proofs.Each.{each_append}
+use Rattle.pv_typed.proofs.Each.{each_append, each_weaker}
+use Rattle.pv_typed.specs.Adding.{with_literal}
 use Rattle.pv_typed.specs.TypedTree.{TypedTree, Constant, Object, type_of}
-use Rattle.pv_typed.specs.TypedUnits.{WholeUnit, TypedObject, object_at}
+use Rattle.pv_typed.specs.TypedUnits.{WholeUnit, TypedObject, TypedFunction, Literal, no_object, no_literal, object_at}
 use Rattle.pv_typed.specs.declared.nodes.IncrementOperator.TheVariants as step_word
 use Rattle.pv_check.specs.Assignment.{assign_of, comma_of}
 use Rattle.pv_check.specs.Binary.{binary_of}
 use Rattle.pv_check.specs.Conditional.{conditional_of}
 use Rattle.pv_check.specs.Derivations.{size_of, Parameter as OneParameter, Steps, Derivation, ByPointer, ByArray, ByFunction, no_steps, with_step, declared_name, optional_name, may_be_variadic, is_printf_declarator, Signature, proper, parameter_types, with_function, with_parameter, derived, adjusted}
 use Rattle.pv_check.specs.Postfix.{subscript_of, member_from, arrow_from, increment_of}
-use Rattle.pv_check.specs.Primary.{with_use, used_function, designator_of, is_of_library, name_of, integer_of, character_of, bytes_of_text, text_of}
+use Rattle.pv_check.specs.Primary.{with_use, used_function, designator_of, is_of_library, name_of, integer_of, character_of, bytes_of_text, joined, text_of}
 use Rattle.pv_check.specs.Rows.{operand, integer_value, known_size, by_pointer, by_array, named_type, parameter_of, with_argument, cast, unevaluated, after_sizeof, function_in, callee, with_callee, Callee, ByName, ByValue, pointed_callee, called_by, call_by, plain, by_function, member_of}
 use Rattle.pv_check.specs.Sorts.{is_function}
 use Rattle.pv_check.specs.Specifiers.{Seen, nothing_seen, with_keyword, with_type, typedef_of, specified, without_storage}
-use Rattle.pv_check.specs.State.{State, After, Scope, no_scope, Meaning, ObjectName, FunctionName, TypedefOf, ConstantOf, Used, UsedObject, UsedFunction, and_then, give, env, look, find, innermost, bind, entered, left, is_file_scope}
+use Rattle.pv_check.specs.State.{State, After, Scope, no_scope, Meaning, ObjectName, FunctionName, TypedefOf, ConstantOf, Used, UsedObject, UsedFunction, and_then, give, env, look, names_in, find, innermost, bind, entered, left, is_file_scope}
 use Rattle.pv_check.specs.Tags.{is_union_word, with_member, is_new_member, completed, some_members, opened, closed_enumeration, tag_named, enumerated}
 use Rattle.pv_check.specs.Typing.{types, arguments, type_named, specifiers, specifier_in, specifier, members, member_in, member_declarators, member_declarator, enumerators, enumerator_in, enumerator_value, steps, optional_steps, array_size, parameters, parameter_in}
 use Rattle.pv_check.specs.Values.{written}
@@ -38,9 +39,9 @@ use Rattle.pv_well_typed.proofs.PostfixRows.{subscript-row, increment-row, membe
 use Rattle.pv_well_typed.proofs.AssignmentRows.{assign-row, comma-row}
 use Rattle.pv_well_typed.proofs.ConditionalRows.{conditional-row}
 use Rattle.pv_well_typed.proofs.CallRows.{named-row, through-row}
-use Rattle.pv_well_typed.proofs.PrimaryRows.{number-row, character-row, object-row, function-row, text-row, each-last}
-use Rattle.pv_well_typed.proofs.Changes.{more_object, name-meaning, visible-meaning, use-later, use-proper, text-later, text-proper, object-later, object-proper, bind-proper, entered-proper, members-later}
-use Rattle.pv_well_typed.proofs.Moving.{Outer, Grows, Moves, Gives, same-outer, same-moves, then-moves, then-grows, gives-none, gives-some, gives-here, gives-then, gives-value, gives-if, gives-unless, gives-from, gives-weaker, gives-operand, gives-integer, left-moves, left-proper}
+use Rattle.pv_well_typed.proofs.PrimaryRows.{number-row, character-row, object-row, function-row, text-row, each-last, each-at, last-at, beyond-at}
+use Rattle.pv_well_typed.proofs.Changes.{more_object, before-at, look-each, name-meaning, visible-meaning, use-later, use-proper, text-later, text-proper, object-later, object-proper, bind-proper, entered-proper, members-later}
+use Rattle.pv_well_typed.proofs.Moving.{Outer, Grows, IsKnownMeaning, IsKnownUse, AreBytes, IsOrderly, Orderly, HasMade, none-made, Moves, Gives, same-outer, same-moves, then-moves, then-grows, gives-none, gives-some, gives-here, gives-then, gives-value, gives-if, gives-unless, gives-from, gives-weaker, gives-operand, gives-integer, left-moves, left-proper}
 use Rattle.pv_well_typed.proofs.DeclaredTypes.{from-some, HasProperName, keyword-proper, type-proper, plain-proper, IsPlainStep, IsPlainBehind, plain-more, behind-more, derived-proper, derived-named, adjusted-proper}
 use Rattle.pv_well_typed.proofs.TagRows.{bind-moves, HasWord, HasProperType, tag-gives, opened-gives, HasMembers, some-members-gives, MayComplete, completed-gives, opened-then, closed-gives, enumerated-gives}
 
@@ -79,35 +80,35 @@ seen-behind : (E : Type 0) (v : WholeUnit) (os : List ℕ) (s t : State) → Mov
 seen-behind E v os s t m h i = (m.evaluated ∙ (h i).0, m.names tt (h i).1)
 
 -- 6.5.2.2p1: a function that is called by its name
-called-function : (v : WholeUnit) (s : State) → IsProperState v s → (e : ExpressionTree) (f : ℕ) → callee s.scopes e ≡ Some f → f < length s.unit.functions
-called-function v s g (Name line n) f e = by (look s.scopes n) refl e
+called-function : (s : State) → ((n f : ℕ) → look s.scopes n ≡ Some (FunctionName f) → f < length s.unit.functions) → (e : ExpressionTree) (f : ℕ) → callee s.scopes e ≡ Some f → f < length s.unit.functions
+called-function s g (Name line n) f e = by (look s.scopes n) refl e
   where
     by : (o : Option Meaning) → look s.scopes n ≡ o → function_in o ≡ Some f → f < length s.unit.functions
     by None p e = absurd cc
-    by (Some (FunctionName k)) p e = subst (λ i. i < length s.unit.functions) (some-same k f e) (name-meaning v s g n (FunctionName k) p)
+    by (Some (FunctionName k)) p e = subst (λ i. i < length s.unit.functions) (some-same k f e) (g n k p)
     by (Some (ObjectName o)) p e = absurd cc
     by (Some (TypedefOf t)) p e = absurd cc
     by (Some (ConstantOf k)) p e = absurd cc
-called-function v s g (Paren line a) f e = called-function v s g a f e
-called-function v s g (Number line value decimal unsigned longs) f e = absurd cc
-called-function v s g (Character line value) f e = absurd cc
-called-function v s g (Text line first more) f e = absurd cc
-called-function v s g (Index line a b) f e = absurd cc
-called-function v s g (Call line a args) f e = absurd cc
-called-function v s g (Member line a n) f e = absurd cc
-called-function v s g (Arrow line a n) f e = absurd cc
-called-function v s g (PostIncrement line a) f e = absurd cc
-called-function v s g (PostDecrement line a) f e = absurd cc
-called-function v s g (PreIncrement line a) f e = absurd cc
-called-function v s g (PreDecrement line a) f e = absurd cc
-called-function v s g (Unary line op a) f e = absurd cc
-called-function v s g (SizeofExpr line a) f e = absurd cc
-called-function v s g (SizeofType line t) f e = absurd cc
-called-function v s g (Cast line t a) f e = absurd cc
-called-function v s g (Binary line op a b) f e = absurd cc
-called-function v s g (Conditional line a b c) f e = absurd cc
-called-function v s g (Assign line op a b) f e = absurd cc
-called-function v s g (Comma line a b) f e = absurd cc
+called-function s g (Paren line a) f e = called-function s g a f e
+called-function s g (Number line value decimal unsigned longs) f e = absurd cc
+called-function s g (Character line value) f e = absurd cc
+called-function s g (Text line first more) f e = absurd cc
+called-function s g (Index line a b) f e = absurd cc
+called-function s g (Call line a args) f e = absurd cc
+called-function s g (Member line a n) f e = absurd cc
+called-function s g (Arrow line a n) f e = absurd cc
+called-function s g (PostIncrement line a) f e = absurd cc
+called-function s g (PostDecrement line a) f e = absurd cc
+called-function s g (PreIncrement line a) f e = absurd cc
+called-function s g (PreDecrement line a) f e = absurd cc
+called-function s g (Unary line op a) f e = absurd cc
+called-function s g (SizeofExpr line a) f e = absurd cc
+called-function s g (SizeofType line t) f e = absurd cc
+called-function s g (Cast line t a) f e = absurd cc
+called-function s g (Binary line op a b) f e = absurd cc
+called-function s g (Conditional line a b c) f e = absurd cc
+called-function s g (Assign line op a b) f e = absurd cc
+called-function s g (Comma line a b) f e = absurd cc
 
 -- 6.7.8p3: the type of a typedef name
 typedef-type : (o : Option Meaning) (t : Ty) → typedef_of o ≡ Some t → o ≡ Some (TypedefOf t)
@@ -168,12 +169,86 @@ inner-scope s h = by (is_file_scope (entered s)) refl
         let one : length (s.scopes ++ (no_scope ∷ [])) ≡ 1 = eqb-true (length (s.scopes ++ (no_scope ∷ []))) 1 e in
         absurd (omega (arith, l, one, h))
 
+-- 6.9p5: an expression names something
+used-orderly : (s : State) (x : Used) → IsKnownUse (length s.unit.functions) x → Orderly s → Orderly (with_use s x)
+used-orderly s x k h = record { names = h.names; uses = each_append (IsKnownUse (length s.unit.functions)) s.used (x ∷ []) h.uses (k, tt); sources = h.sources; written = h.written; ended = h.ended }
+
+known-name : (s : State) → Orderly s → (n f : ℕ) → look s.scopes n ≡ Some (FunctionName f) → f < length s.unit.functions
+known-name s h n f e = look-each names_in (IsKnownMeaning (length s.unit.functions)) n s.scopes h.names (FunctionName f) e
+
+known-function : (b : Bool) (n f : ℕ) → f < n → IsKnownUse n (used_function b f)
+known-function true n f h = h
+known-function false n f h = h
+
+-- 6.4.5p6: a string literal, with its zero
+pub ended-more : (xs : List Literal) (x : Literal) (is : List ℕ) → Each (λ l. 1 ≤ length (get_or xs l no_literal).bytes) is → Each (λ l. 1 ≤ length (get_or (xs ++ (x ∷ [])) l no_literal).bytes) is
+ended-more xs x is h = each_weaker (λ l. 1 ≤ length (get_or xs l no_literal).bytes) (λ l. 1 ≤ length (get_or (xs ++ (x ∷ [])) l no_literal).bytes) (λ l q. by l q (either l (length xs))) is h
+  where
+    either : (o n : ℕ) → (o < n) ⊎ (n ≤ o)
+    either o n = grind arith
+
+    by : (l : ℕ) → 1 ≤ length (get_or xs l no_literal).bytes → (l < length xs) ⊎ (length xs ≤ l) → 1 ≤ length (get_or (xs ++ (x ∷ [])) l no_literal).bytes
+    by l q (inl lt) = subst (λ (y : Literal). 1 ≤ length y.bytes) (sym (before-at no_literal xs (x ∷ []) l lt)) q
+    by l q (inr le) = let none = ap (λ (y : Literal). length y.bytes) (beyond-at no_literal xs l le) in absurd (omega (arith, q, none))
+
+pub written-orderly : (line : ℕ) (bytes : List ℕ) (s : State) (instance : Bool) → (Orderly s → AreBytes bytes × (1 ≤ length bytes)) → Orderly s
+    → IsOrderly (length s.unit.functions) s.scopes s.used s.texts (with_literal s.unit (record { bytes = bytes; line = line }) instance).literals (with_literal s.unit (record { bytes = bytes; line = line }) instance).instances
+written-orderly line bytes s instance good h =
+    let g = good h in
+    let x : Literal = record { bytes = bytes; line = line } in
+    record {
+      names = h.names;
+      uses = h.uses;
+      sources = h.sources;
+      written = each_append (λ (y : Literal). AreBytes y.bytes) s.unit.literals (x ∷ []) h.written (g.0, tt);
+      ended = ends x g.1 instance;
+    }
+  where
+    ends : (x : Literal) → 1 ≤ length x.bytes → (b : Bool) → Each (λ l. 1 ≤ length (get_or (s.unit.literals ++ (x ∷ [])) l no_literal).bytes) (if b then s.unit.instances ++ (length s.unit.literals ∷ []) else s.unit.instances)
+    ends x one true =
+        each_append (λ l. 1 ≤ length (get_or (s.unit.literals ++ (x ∷ [])) l no_literal).bytes) s.unit.instances (length s.unit.literals ∷ []) (ended-more s.unit.literals x s.unit.instances h.ended)
+        (subst (λ (y : Literal). 1 ≤ length y.bytes) (sym (last-at no_literal s.unit.literals x)) one, tt)
+    ends x one false = ended-more s.unit.literals x s.unit.instances h.ended
+
+-- 6.4.5p5, p6: the characters of string literals in a row, and the zero behind them
+joined-bytes : (texts : List (List ℕ)) (first more : ℕ) → Each AreBytes texts → AreBytes (joined texts first more)
+joined-bytes texts first zero h = each-at AreBytes [] texts first tt h
+joined-bytes texts first (suc more) h =
+    each_append (λ b. b < 256) (joined texts first more) (get_or texts (first + suc more) []) (joined-bytes texts first more h) (each-at AreBytes [] texts (first + suc more) tt h)
+
+pub text-bytes : (texts : List (List ℕ)) (first more : ℕ) → Each AreBytes texts → AreBytes (bytes_of_text texts first more) × (1 ≤ length (bytes_of_text texts first more))
+text-bytes texts first more h = (
+  each_append (λ b. b < 256) (joined texts first more) (0 ∷ []) (joined-bytes texts first more h) (omega arith, tt),
+  let l = length-append (joined texts first more) (0 ∷ []) in omega (arith, l),
+)
+
+-- 6.2.4p5: one object with automatic storage
+automatic-made : (v : WholeUnit) (x : TypedObject) (s : State) → x.lasting ≡ false → HasMade v s (more_object x s)
+automatic-made v x s automatic k o from below lasting =
+    let l = length-append s.unit.objects (x ∷ []) in
+    let at : o ≡ length s.unit.objects = omega (arith, from, below, l) in
+    let both : true ≡ false = sym lasting ∙ ap (λ i. (object_at (more_object x s).unit i).lasting) at ∙ ap (λ (y : TypedObject). y.lasting) (last-at no_object s.unit.objects x) ∙ automatic in
+    absurd cc
+
 module _ (v : WholeUnit) (os : List ℕ) (done : IsFinished v) where
   any-premise : {A : Type 0} (F P : Type 0) (s : State) (Q : After A → Type 0) (o : Option (After A)) → Gives F v os U s Q o → Gives F v os P s Q o
   any-premise F P s Q o h = gives-weaker F F U P v os s Q Q o (λ f. f) (λ p. tt) (λ a q. q) h
 
-  use-moves : (F : Type 0) (s : State) (x : Used) → Moves F v os s (with_use s x)
-  use-moves F s x = record { later = use-later v s x; outer = same-outer s.scopes; grows = ([], sym (append-nil (env s))); names = λ f h. h; evaluated = refl; functions = omega arith }
+  use-moves : (F : Type 0) (s : State) (x : Used) → (Orderly s → IsKnownUse (length s.unit.functions) x) → Moves F v os s (with_use s x)
+  use-moves F s x known = record { later = use-later v s x; outer = same-outer s.scopes; grows = ([], sym (append-nil (env s))); names = λ f h. h; evaluated = refl; functions = refl; orderly = λ h. used-orderly s x (known h) h; count = omega arith; older = λ o lt. refl }
+
+  pub object-moves : (F : Type 0) (x : TypedObject) (s : State) → Moves F v os s (more_object x s)
+  object-moves F x s = record {
+    later = object-later v x s;
+    outer = same-outer s.scopes;
+    grows = ([], sym (append-nil (env s)));
+    names = λ f h. h;
+    evaluated = refl;
+    functions = refl;
+    orderly = λ h. h;
+    count = let l = length-append s.unit.objects (x ∷ []) in omega (arith, l);
+    older = λ o lt. before-at no_object s.unit.objects (x ∷ []) o lt;
+  }
 
   -- ---- rows of one, two and three operands
 
@@ -215,25 +290,26 @@ module _ (v : WholeUnit) (os : List ℕ) (done : IsFinished v) where
   name-gives : (E : Type 0) (line n : ℕ) (s : State) → Sees E v os s → (m : Option Meaning) → look s.scopes n ≡ m → Gives U v os U s (IsTree E v os) (name_of line m s)
   name-gives E line n s sees None e = gives-none U v os U s (IsTree E v os)
   name-gives E line n s sees (Some (ObjectName o)) e =
-      gives-some U v os U s (IsTree E v os) (record { value = written line (object_at s.unit o).t (Object o); state = with_use s (UsedObject o) }) (use-moves U s (UsedObject o))
-      (λ l p g. (use-proper v s (UsedObject o) g, object-row E v os line o s g l (λ i. visible-meaning v os s.scopes (sees i).1 n (ObjectName o) e)))
+      gives-some U v os U s (IsTree E v os) (record { value = written line (object_at s.unit o).t (Object o); state = with_use s (UsedObject o) }) (use-moves U s (UsedObject o) (λ h. tt))
+      (λ l p g. (use-proper v s (UsedObject o) g, object-row E v os line o s g l (λ i. visible-meaning v os s.scopes (sees i).1 n (ObjectName o) e), none-made v s (with_use s (UsedObject o)) refl))
   name-gives E line n s sees (Some (FunctionName f)) e =
       gives-unless U v os U s (IsTree E v os) (is_of_library s f) (Some (designator_of line f s))
-      (λ q. gives-some U v os U s (IsTree E v os) (designator_of line f s) (use-moves U s (used_function s.unevaluated f))
+      (λ q. gives-some U v os U s (IsTree E v os) (designator_of line f s) (use-moves U s (used_function s.unevaluated f) (λ h. known-function s.unevaluated (length s.unit.functions) f (known-name s h n f e)))
       (λ l p g. (
         use-proper v s (used_function s.unevaluated f) g,
         function-row E v os line f s g (name-meaning v s g n (FunctionName f) e) (no-library (library_of s.unit f) q) (λ i. (sees i).0) l,
+        none-made v s (with_use s (used_function s.unevaluated f)) refl,
       )))
   name-gives E line n s sees (Some (TypedefOf t)) e = gives-none U v os U s (IsTree E v os)
   name-gives E line n s sees (Some (ConstantOf k)) e =
       gives-here U v os U s (IsTree E v os) (Some (written line (IntTy Int) (Constant k)))
       (λ x q l p g. as-made (IsExpression E v os) (written line (IntTy Int) (Constant k)) x (record { typed = λ i. (Int, refl, name-meaning v s g n (ConstantOf k) e); proper = tt; valued = λ z. (refl, tt) }) q)
 
-  text-gives : (E : Type 0) (line : ℕ) (bytes : List ℕ) (s : State) → Sees E v os s → Gives U v os U s (IsTree E v os) (Some (text_of line bytes s))
-  text-gives E line bytes s sees =
+  text-gives : (E : Type 0) (line : ℕ) (bytes : List ℕ) (s : State) → Sees E v os s → (Orderly s → AreBytes bytes × (1 ≤ length bytes)) → Gives U v os U s (IsTree E v os) (Some (text_of line bytes s))
+  text-gives E line bytes s sees good =
       gives-some U v os U s (IsTree E v os) (text_of line bytes s)
-      (record { later = text-later v line bytes s; outer = same-outer s.scopes; grows = ([], sym (append-nil (env s))); names = λ f h. h; evaluated = refl; functions = omega arith })
-      (λ l p g. (text-proper v line bytes s g, text-row E v os line bytes s done (λ i. (sees i).0) l))
+      (record { later = text-later v line bytes s; outer = same-outer s.scopes; grows = ([], sym (append-nil (env s))); names = λ f h. h; evaluated = refl; functions = refl; orderly = λ h. written-orderly line bytes s (not s.unevaluated) good h; count = omega arith; older = λ o lt. refl })
+      (λ l p g. (text-proper v line bytes s g, text-row E v os line bytes s done (λ i. (sees i).0) l, none-made v s (text_of line bytes s).state refl))
 
   -- ---- 6.5.2.2: calls
 
@@ -246,8 +322,8 @@ module _ (v : WholeUnit) (os : List ℕ) (done : IsFinished v) where
   callee-gives : (E : Type 0) (s : State) (e : ExpressionTree) (o : Option ℕ) → callee s.scopes e ≡ o → (a : Option (After TypedTree)) → Gives U v os U s (IsValue E v os) a → Gives U v os U s (IsCalled E v os) (called_by o s a)
   callee-gives E s e None q a h = pointed-gives E s a h
   callee-gives E s e (Some f) q a h =
-      gives-some U v os U s (IsCalled E v os) (record { value = ByName f; state = with_callee s f }) (use-moves U s (UsedFunction f))
-      (λ l p g. (use-proper v s (UsedFunction f) g, (called-function v s g e f q, each-last (IsThere v) s.used (UsedFunction f) l.used)))
+      gives-some U v os U s (IsCalled E v os) (record { value = ByName f; state = with_callee s f }) (use-moves U s (UsedFunction f) (λ h. called-function s (known-name s h) e f q))
+      (λ l p g. (use-proper v s (UsedFunction f) g, (called-function s (λ n k p. name-meaning v s g n (FunctionName k) p) e f q, each-last (IsThere v) s.used (UsedFunction f) l.used), none-made v s (with_callee s f) refl))
 
   call-row : (E : Type 0) (line n : ℕ) (c : Callee) → IsCallee E v os n c → (t : State) → n ≤ length t.unit.functions → Later t v → IsProperState v t → (args : List TypedTree) → Each (IsOperand E v os) args
       → (x : TypedTree) → call_by t.unit line c args ≡ Some x → IsExpression E v os x
@@ -266,9 +342,15 @@ module _ (v : WholeUnit) (os : List ℕ) (done : IsFinished v) where
       (λ c m. gives-then U v os (U × IsCalled E v os c) c.state (λ a. Each (IsOperand E v os) a.value) (IsTree E v os) (args c.state) (λ xs. give (call_by xs.state.unit line c.value xs.value) xs.state)
       (any-premise U (U × IsCalled E v os c) c.state (λ a. Each (IsOperand E v os) a.value) (args c.state) (k c.state (seen-behind E v os s c.state m sees)))
       (λ xs n. gives-here U v os ((U × IsCalled E v os c) × Each (IsOperand E v os) xs.value) xs.state (IsTree E v os) (call_by xs.state.unit line c.value xs.value)
-      (λ x e l p g. call-row E line (length c.state.unit.functions) c.value p.0.1 xs.state n.functions l g xs.value p.1 x e)))
+      (λ x e l p g. call-row E line (length c.state.unit.functions) c.value p.0.1 xs.state (let k = ap (λ (fs : List TypedFunction). length fs) n.functions in omega (arith, k)) l g xs.value p.1 x e)))
 
   -- ---- 6.5.3.4: sizeof, whose operand is not evaluated
+
+  before-orderly : (s : State) → Orderly s → Orderly (unevaluated s)
+  before-orderly s h = record { names = h.names; uses = h.uses; sources = h.sources; written = h.written; ended = h.ended }
+
+  after-orderly : (s t : State) → Orderly t → Orderly (after_sizeof s t)
+  after-orderly s t h = record { names = h.names; uses = h.uses; sources = h.sources; written = h.written; ended = h.ended }
 
   after-moves : (s t : State) → Moves U v os (unevaluated s) t → Moves U v os s (after_sizeof s t)
   after-moves s t m = record {
@@ -278,6 +360,9 @@ module _ (v : WholeUnit) (os : List ℕ) (done : IsFinished v) where
     names = m.names;
     evaluated = refl;
     functions = m.functions;
+    orderly = λ h. after-orderly s t (m.orderly (before-orderly s h));
+    count = m.count;
+    older = m.older;
   }
 
   sizeof-gives : {A : Type 0} (E : Type 0) (line : ℕ) (s : State) (Q : After A → Type 0) (o : Option (After A)) (t : After A → Ty) → Gives U v os U (unevaluated s) Q o → ((a : After A) → Q a → is_function (t a) ≡ false → IsProper v (t a))
@@ -285,10 +370,10 @@ module _ (v : WholeUnit) (os : List ℕ) (done : IsFinished v) where
   sizeof-gives E line s Q None t h k = gives-none U v os U s (IsTree E v os)
   sizeof-gives {A} E line s Q (Some a) t h k =
       gives-from U v os U (Q a) s (after_sizeof s a.state) (IsTree E v os) (give (sizeof_type (env a.state) line (t a)) (after_sizeof s a.state)) (after-moves s a.state r.0)
-      (λ l p g. let z = r.1 (record { unit = l.unit; used = l.used }) tt (record { unit = g.unit; some = g.some; scopes = g.scopes }) in (record { unit = z.0.unit; some = z.0.some; scopes = z.0.scopes }, z.1))
+      (λ l p g. let z = r.1 (record { unit = l.unit; used = l.used }) tt (record { unit = g.unit; some = g.some; scopes = g.scopes }) in (record { unit = z.0.unit; some = z.0.some; scopes = z.0.scopes }, z.1, z.2))
       (gives-here U v os (Q a) (after_sizeof s a.state) (IsTree E v os) (sizeof_type (env a.state) line (t a)) (λ x e l p g. sizeof-row E v os done (env a.state) l.unit.layouts line (t a) (k a p) x e))
     where
-      r : Moves U v os (unevaluated s) a.state × (Later a.state v → U → IsProperState v (unevaluated s) → IsProperState v a.state × Q a)
+      r : Moves U v os (unevaluated s) a.state × (Later a.state v → U → IsProperState v (unevaluated s) → IsProperState v a.state × Q a × HasMade v (unevaluated s) a.state)
       r = h.held a refl
 
   -- ---- 6.7.6.3: a list of parameters
@@ -302,7 +387,7 @@ module _ (v : WholeUnit) (os : List ℕ) (done : IsFinished v) where
   list-gives c x s None file h = gives-none U v os (AreBefore file c x) s (λ a. IsSteps file v a.value)
   list-gives c x s (Some a) file h = by (proper c a.value)
     where
-      r : Moves ⊥ v os (entered s) a.state × (Later a.state v → is_file_scope (entered s) ≡ false → IsProperState v (entered s) → IsProperState v a.state × ParametersProper v a)
+      r : Moves ⊥ v os (entered s) a.state × (Later a.state v → is_file_scope (entered s) ≡ false → IsProperState v (entered s) → IsProperState v a.state × ParametersProper v a × HasMade v (entered s) a.state)
       r = h.held a refl
 
       by : (o : Option (List OneParameter))
@@ -310,16 +395,15 @@ module _ (v : WholeUnit) (os : List ℕ) (done : IsFinished v) where
       by None = gives-none U v os (AreBefore file c x) s (λ a. IsSteps file v a.value)
       by (Some ps) =
           gives-some U v os (AreBefore file c x) s (λ a. IsSteps file v a.value) (record { value = with_function x (made_signature c (innermost a.state.scopes) ps); state = left a.state }) (left-moves ⊥ U v os s a.state r.0)
-          (λ l p g. (
-            left-proper v s a.state g.some r.0.outer (r.1 (record { unit = l.unit; used = l.used }) (inner-scope s g.some) (entered-proper v s g)).0,
-            steps-function file c v x (made_signature c (innermost a.state.scopes) ps) p.1 refl p.0,
-          ))
+          (λ l p g.
+          let z = r.1 (record { unit = l.unit; used = l.used }) (inner-scope s g.some) (entered-proper v s g) in
+          (left-proper v s a.state g.some r.0.outer z.0, steps-function file c v x (made_signature c (innermost a.state.scopes) ps) p.1 refl p.0, z.2))
 
   -- 6.7.6.3p7: one parameter more
   parameter-gives : (ps : List OneParameter) (n : Option (ℕ × ℕ)) (s : State) (t : Ty) → Gives ⊥ v os (Each (λ (p : OneParameter). IsProper v p.t) ps × IsProper v t) s (ParametersProper v) (with_parameter ps n s t)
   parameter-gives ps None s t =
       gives-some ⊥ v os (Each (λ (p : OneParameter). IsProper v p.t) ps × IsProper v t) s (ParametersProper v) (record { value = ps ++ (record { t = t; name = None; object = None } ∷ []); state = s }) (same-moves ⊥ v os s)
-      (λ l p g. (g, each_append (λ (q : OneParameter). IsProper v q.t) ps (record { t = t; name = None; object = None } ∷ []) p.0 (p.1, tt)))
+      (λ l p g. (g, each_append (λ (q : OneParameter). IsProper v q.t) ps (record { t = t; name = None; object = None } ∷ []) p.0 (p.1, tt), none-made v s s refl))
   parameter-gives ps (Some (n, line)) s t = by (is_some (find (innermost s.scopes).names n))
     where
       by : (b : Bool)
@@ -332,11 +416,12 @@ module _ (v : WholeUnit) (os : List ℕ) (done : IsFinished v) where
           let o : TypedObject = record { name = n + 2; t = t; line = line; lasting = false; braced = false; inits = [] } in
           gives-some ⊥ v os (Each (λ (p : OneParameter). IsProper v p.t) ps × IsProper v t) s (ParametersProper v)
           (record { value = ps ++ (record { t = t; name = Some n; object = Some (length s.unit.objects) } ∷ []); state = more_object o z })
-          (then-moves ⊥ v os s z (more_object o z) (bind-moves ⊥ v os n (ObjectName (length s.unit.objects)) s (λ f. absurd f))
-          (record { later = object-later v o z; outer = same-outer z.scopes; grows = ([], sym (append-nil (env z))); names = λ f h. h; evaluated = refl; functions = omega arith }))
+          (then-moves ⊥ v os s z (more_object o z) (bind-moves ⊥ v os n (ObjectName (length s.unit.objects)) s (λ f. absurd f) tt)
+          (object-moves ⊥ o z))
           (λ l p g. (
             object-proper v o z p.1 (bind-proper v n (ObjectName (length s.unit.objects)) s tt g),
             each_append (λ (q : OneParameter). IsProper v q.t) ps (record { t = t; name = Some n; object = Some (length s.unit.objects) } ∷ []) p.0 (p.1, tt),
+            automatic-made v o z refl,
           ))
 
   -- ---- 6.7.2.1: a member
@@ -438,7 +523,7 @@ module _ (v : WholeUnit) (os : List ℕ) (done : IsFinished v) where
       (λ l p g.
       let f = from-some (derived true (env a.state) a.value.list t) adjusted u e in
       let k = h p in
-      (g, (k.0, adjusted-proper v f.0 u (derived-proper v (env a.state) l.unit.layouts true a.value.list t f.0 (k.2.inner k.3) k.1 f.1) f.2)))
+      (g, (k.0, adjusted-proper v f.0 u (derived-proper v (env a.state) l.unit.layouts true a.value.list t f.0 (k.2.inner k.3) k.1 f.1) f.2), none-made v a.state a.state refl))
       (parameter-gives ps n a.state u))
 
   mutual
@@ -448,7 +533,7 @@ module _ (v : WholeUnit) (os : List ℕ) (done : IsFinished v) where
         gives-here U v os U s (IsTree (IsOn on) v os) (integer_of line value decimal unsigned longs) (λ x e l p g. number-row (IsOn on) v os line value decimal unsigned longs x e)
     types-gives (Character line value) on s sees h =
         gives-here U v os U s (IsTree (IsOn on) v os) (Some (character_of line value)) (λ x e l p g. as-made (IsExpression (IsOn on) v os) (character_of line value) x (character-row (IsOn on) v os line value h) e)
-    types-gives (Text line first more) on s sees h = text-gives (IsOn on) line (bytes_of_text s.texts first more) s sees
+    types-gives (Text line first more) on s sees h = text-gives (IsOn on) line (bytes_of_text s.texts first more) s sees (λ h. text-bytes s.texts first more h.sources)
     types-gives (Paren line a) on s sees h = types-gives a on s sees h
     types-gives (Index line a b) on s sees h =
         two-gives (IsOn on) s sees (IsOperand (IsOn on) v os) (operand (types a s)) (λ t. operand (types b t)) (λ x t y. subscript_of (env t) line x y)

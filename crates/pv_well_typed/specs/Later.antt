@@ -39,13 +39,14 @@ pub record Stays (u v : WholeUnit) (f : ℕ) : Type 0 where
   pub signed : (t : Ty) (ts : Tys) → (function_at u f).t ≡ FunctionTy t ts false → IsSignature (function_at v f).t t ts
 
 -- what a later unit has of a unit: the layouts of complete tags, and all tags (6.7.2.3); functions (6.2.7p4); string literals and
--- their instances (6.4.5p6). Of an object it has no more than what an expression asks (`IsThere`): its type may be completed
+-- their instances (6.4.5p6); of an object its storage duration (6.2.4p3), since its type may be completed
 pub record IsLaterUnit (u v : WholeUnit) : Type 0 where
   pub layouts : Extends (layouts u) v
   pub headings : (n : ℕ) → n < length u.headings → heading_at v.headings n ≡ heading_at u.headings n
   pub functions : (f : ℕ) → f < length u.functions → Stays u v f
   pub literals : (l : ℕ) → l < length u.literals → literal_at v l ≡ literal_at u l
   pub instances : (l : ℕ) → IsIn l u.instances → IsIn l v.instances
+  pub lasting : (o : ℕ) → o < length u.objects → (object_at v o).lasting ≡ (object_at u o).lasting
 
 -- a unit that is later than a state: it has what the state's unit has, and what expressions named (6.9p5)
 pub record Later (s : State) (v : WholeUnit) : Type 0 where
