@@ -53,8 +53,8 @@ always-gives {A} v P s Q o h = record { held = λ a q. next a q }
     next : (a : After A) → o ≡ Some a → Moves ⊥ v [] s a.state × (Later a.state v → P → IsProperState v s → IsProperState v a.state × (Q a × ((os : List ℕ) → Here v os s → Here v os a.state)) × HasMade v s a.state)
     next a q =
         let r = (h []).held a q in (
-          record { later = r.0.later; outer = r.0.outer; grows = r.0.grows; names = λ f. absurd f; evaluated = r.0.evaluated; functions = r.0.functions; orderly = r.0.orderly; count = r.0.count; older = r.0.older },
-          λ l p g. let z = r.1 l p g in (z.0, (z.1, λ os k. let m = ((h os).held a q).0 in record { evaluated = m.evaluated ∙ k.evaluated; visible = m.names tt k.visible }), z.2),
+          record { later = r.0.later; outer = r.0.outer; grows = r.0.grows; names = λ f. absurd f; evaluated = r.0.evaluated; functions = r.0.functions; spelled = r.0.spelled; noted = r.0.noted; orderly = r.0.orderly; count = r.0.count; older = r.0.older },
+          λ l p g. let z = r.1 l p g in (z.0, (z.1, λ os k. let m = ((h os).held a q).0 in record { evaluated = m.evaluated ∙ k.evaluated; visible = m.names tt v os k.visible }), z.2),
         )
 
 -- the stores of an initializer lie within a type, and are well typed
@@ -180,6 +180,8 @@ module _ (v : WholeUnit) (done : IsFinished v) (apart : (o : ℕ) → (object_at
         names = λ f. absurd f;
         evaluated = w.evaluated;
         functions = w.functions;
+        spelled = w.spelled;
+        noted = w.noted;
         orderly = w.orderly;
         count = omega (arith, size, more);
         older = λ o lt. set-other no_object t.unit.objects (count s) o _ (λ e. beyond o lt e) ∙ w.older o lt;

@@ -1,5 +1,5 @@
 -- Calls (C17 6.5.2.2): each row of typing gives what is well typed, of arguments that are so.
-use Rattle.std.proofs.Common.{◌≡◌, ℕ, ◌<◌, Bool, true, false, ◌||◌, Option, Some, None, List, [], ◌∷◌, length, refl, ap, subst, ◌∙◌}
+use Rattle.std.proofs.Common.{◌≡◌, ℕ, ◌<◌, Bool, true, false, ◌||◌, Option, Some, None, List, [], ◌∷◌, length, refl, ap, subst}
 use Rattle.std.specs.Prelude.{if◌then◌else◌}
 use Rattle.pv_script.specs.declared.library.Library.{Library}
 use Rattle.pv_types.specs.Layouts.{is_complete_in}
@@ -91,13 +91,13 @@ module _ (E : Type 0) (v : WholeUnit) (os : List ℕ) where
           by false e = absurd cc
 
       -- 6.5.2.2p5: one of the program
-      program-row : (t : Ty) (ts : Tys) (c : Bool) → IsProper v (FunctionTy t ts c) → (E → (f < length v.functions) × HasBody v f) → (c ≡ false → IsSignature (function_at v f).t t ts)
+      program-row : (t : Ty) (ts : Tys) (c : Bool) → IsProper v (FunctionTy t ts c) × (c ≡ false) → (E → (f < length v.functions) × HasBody v f) → (c ≡ false → IsSignature (function_at v f).t t ts)
           → (o : Option (List TypedTree)) → passed ts c args ≡ o → (x : TypedTree) → program_call line f t o ≡ Some x → IsExpression E v os x
       program-row t ts c h there signed None p x e = absurd cc
       program-row t ts c h there signed (Some xs) p x e = as-made (IsExpression E v os) (written line t (Call f (arguments_of xs))) x (record {
-        typed = λ i. (ts, ((there i).0, (there i).1, signed h.2), subst (λ b. ArePassed v os ts b (arguments_of xs)) h.2 (passed-row ts c args all xs p i));
-        proper = h.1;
-        valued = λ n. (refl, h.0);
+        typed = λ i. (ts, ((there i).0, (there i).1, signed h.1), subst (λ b. ArePassed v os ts b (arguments_of xs)) h.1 (passed-row ts c args all xs p i));
+        proper = h.0.1;
+        valued = λ n. (refl, h.0.0);
       }) e
 
       either-row : (o : Option Library) (t : Ty) (ts : Tys) (c : Bool) → HasFunctionType v o (FunctionTy t ts c) → (o ≡ None → E → (f < length v.functions) × HasBody v f) → (c ≡ false → IsSignature (function_at v f).t t ts)
@@ -132,17 +132,16 @@ module _ (E : Type 0) (v : WholeUnit) (os : List ℕ) where
       pointed-row t ts c is None p x e = absurd cc
       pointed-row t ts c is (Some xs) p x e =
           let h : IsProper v (FunctionTy t ts c) = subst (IsProper v) is callee.proper in
-          let called : type_of a ≡ PointerTo (FunctionTy t ts false) = is ∙ ap (λ b. PointerTo (FunctionTy t ts b)) h.2 in
           as-made (IsExpression E v os) (written line t (CallPointer a (arguments_of xs))) x (record {
             typed = λ i. (
               t,
               ts,
-              false,
+              c,
               callee.typed i,
-              has-value-as E v os a (PointerTo (FunctionTy t ts false)) callee called,
+              has-value-as E v os a (PointerTo (FunctionTy t ts c)) callee is,
               like-itself t,
-              subst (λ b. ArePassed v os ts b (arguments_of xs)) h.2 (passed-row ts c args all xs p i),
-              λ e. absurd cc,
+              passed-row ts c args all xs p i,
+              h.2,
             );
             proper = h.1;
             valued = λ n. (refl, h.0);

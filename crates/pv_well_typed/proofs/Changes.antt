@@ -2,6 +2,7 @@
 -- and the types stay as declarations make them.
 use Rattle.std.proofs.Common.{◌≡◌, ℕ, zero, suc, ◌<◌, ◌-◌, Bool, true, false, not, Option, Some, None, is_some, List, [], ◌∷◌, ◌++◌, length, take, set, get_or, refl, sym, ap, subst, ◌∙◌, arith, length-append, length-set, append_assoc, inl, inr}
 use Rattle.std.specs.Prelude.{if◌then◌else◌, nat_eq}
+use Rattle.std.proofs.lemmas.Bool.{eq-eqb}
 use Rattle.pv_types.specs.Formed.{AreComplete}
 use Rattle.pv_types.specs.Known.{Heading, heading_at}
 use Rattle.pv_types.specs.Layouts.{Completed, Entry, Named, look as look_layout, layout_of, layouts_of}
@@ -47,6 +48,32 @@ take-set (x ∷ xs) (suc i) y = ap (λ ys. x ∷ ys) (take-set xs i y)
 
 -- ---- names
 
+-- a name that has a meaning has one still where another one gets one
+pub find-bound : {M : Type 0} (n k : ℕ) (m : M) (es : List (ℕ × M)) → is_some (find es k) ≡ true → is_some (find (bound n m es) k) ≡ true
+find-bound n k m [] h = absurd cc
+find-bound {M} n k m (x ∷ es) h = by (nat_eq n x.0) (find-bound n k m es) h
+  where
+    same : (c : Bool) → is_some (if c then Some x.1 else find es k) ≡ true → is_some (if c then Some m else find es k) ≡ true
+    same true h = refl
+    same false h = h
+
+    later : (c : Bool) → (is_some (find es k) ≡ true → is_some (find (bound n m es) k) ≡ true) → is_some (if c then Some x.1 else find es k) ≡ true → is_some (if c then Some x.1 else find (bound n m es) k) ≡ true
+    later true r h = refl
+    later false r h = r h
+
+    by : (b : Bool) → (is_some (find es k) ≡ true → is_some (find (bound n m es) k) ≡ true) → is_some (find (x ∷ es) k) ≡ true → is_some (find (if b then (x.0, m) ∷ es else x ∷ bound n m es) k) ≡ true
+    by true r h = same (nat_eq k x.0) h
+    by false r h = later (nat_eq k x.0) r h
+
+-- and the one that gets it
+pub find-itself : {M : Type 0} (n : ℕ) (m : M) (es : List (ℕ × M)) → is_some (find (bound n m es) n) ≡ true
+find-itself {M} n m [] = subst (λ b. is_some (if b then Some m else None) ≡ true) (sym (eq-eqb n n refl)) refl
+find-itself {M} n m (x ∷ es) = by (nat_eq n x.0) refl (find-itself n m es)
+  where
+    by : (b : Bool) → nat_eq n x.0 ≡ b → is_some (find (bound n m es) n) ≡ true → is_some (find (if b then (x.0, m) ∷ es else x ∷ bound n m es) n) ≡ true
+    by true e r = subst (λ b. is_some (if b then Some m else find es n) ≡ true) (sym e) refl
+    by false e r = subst (λ b. is_some (if b then Some x.1 else find (bound n m es) n) ≡ true) (sym e) r
+
 pub each-bound : {M : Type 0} (P : M → Type 0) (n : ℕ) (m : M) (es : List (ℕ × M)) → P m → Each (λ (e : ℕ × M). P e.1) es → Each (λ (e : ℕ × M). P e.1) (bound n m es)
 each-bound P n m [] p h = (p, tt)
 each-bound {M} P n m (e ∷ es) p h = by (nat_eq n e.0) (each-bound P n m es p h.1)
@@ -55,7 +82,7 @@ each-bound {M} P n m (e ∷ es) p h = by (nat_eq n e.0) (each-bound P n m es p h
     by true rest = (p, h.1)
     by false rest = (h.0, rest)
 
-find-each : {M : Type 0} (P : M → Type 0) (n : ℕ) (es : List (ℕ × M)) → Each (λ (e : ℕ × M). P e.1) es → (m : M) → find es n ≡ Some m → P m
+pub find-each : {M : Type 0} (P : M → Type 0) (n : ℕ) (es : List (ℕ × M)) → Each (λ (e : ℕ × M). P e.1) es → (m : M) → find es n ≡ Some m → P m
 find-each P n [] h m e = absurd cc
 find-each {M} P n (x ∷ es) h m e = by (nat_eq n x.0) (find-each P n es h.1 m) e
   where
@@ -104,7 +131,7 @@ module _ (v : WholeUnit) where
   pub visible-meaning : (os : List ℕ) (ss : List Scope) → AreVisible v os ss → (n : ℕ) (m : Meaning) → look ss n ≡ Some m → IsVisible v os m
   visible-meaning os ss h n m e = look-each names_in (IsVisible v os) n ss h m e
 
-  inner-scope : (k : ℕ) (ss : List Scope) → Each (IsScope v k) ss → IsScope v k (innermost ss)
+  pub inner-scope : (k : ℕ) (ss : List Scope) → Each (IsScope v k) ss → IsScope v k (innermost ss)
   inner-scope k ss h = each-at (IsScope v k) no_scope ss (length ss - 1) (tt, tt) h
 
   -- 6.7.2.3: what a tag of the innermost scope designates

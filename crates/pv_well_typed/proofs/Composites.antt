@@ -42,7 +42,7 @@ composite-size es _ _ h = refl
 
 -- ---- the layers of a type
 
-composite-plain : (t u : Ty) → IsValueOrVoid t → IsValueOrVoid (composite t u)
+pub composite-plain : (t u : Ty) → IsValueOrVoid t → IsValueOrVoid (composite t u)
 composite-plain (PointerTo t) (PointerTo u) h = tt
 composite-plain (ArrayOf t m) (ArrayOf u n) h = absurd h
 composite-plain (FunctionTy t ts c) (FunctionTy u us d) h = absurd h

@@ -18,6 +18,7 @@ use Rattle.pv_check.specs.Sorts.{is_array, is_function}
 use Rattle.pv_check.specs.Specifiers.{Seen, Specified, one_storage, with_keyword, with_type, base_type, specified, specified_with, is_plain, without_storage}
 use Rattle.pv_check.specs.State.{and_then}
 use Rattle.pv_check.specs.Words.{Row, rows, named_by, no_words, counted, same_words, type_of_words}
+use Rattle.pv_guards.specs.Typed.{AreFixed}
 use Rattle.pv_well_typed.specs.Proper.{IsProper}
 use Rattle.pv_well_typed.specs.Later.{Extends}
 use Rattle.pv_well_typed.proofs.Operands.{as-made, some-same}
@@ -143,7 +144,7 @@ module _ (v : WholeUnit) where
         by : (b c : Bool) → is_function t ≡ b → is_array t ≡ c → (if b then None else (if c then None else Some (FunctionTy (unqualified t) ts false))) ≡ Some u → IsProper v u
         by true c p q e = absurd cc
         by false true p q e = absurd cc
-        by false false p q e = as-made (IsProper v) (FunctionTy (unqualified t) ts false) u (plain-value v t h q p, proper-unqualified v t h, refl) e
+        by false false p q e = as-made (IsProper v) (FunctionTy (unqualified t) ts false) u (plain-value v t h q p, proper-unqualified v t h, λ e. absurd cc) e
 
     pointer-proper : (c : Bool) (t u : Ty) → IsProper v t → pointer_to c t ≡ Some u → IsProper v u
     pointer-proper c t u h e = constant-proper c (PointerTo t) u h e
@@ -180,6 +181,25 @@ module _ (v : WholeUnit) where
     derived-named b (d ∷ ds) t u p h e f =
         let g = from-some (derived b es ds t) (step b es d) u e in
         step-named b d g.0 u (derived-proper b ds t g.0 p h g.1) g.2 f
+
+    -- where no function that is defined has `...`, any type may have one
+    function-any : AreFixed v → (ts : Tys) (c : Bool) (t u : Ty) → IsProper v t → function_of ts c t ≡ Some u → IsProper v u
+    function-any fixed ts c t u h e = by (is_function t) (is_array t) refl refl e
+      where
+        by : (b d : Bool) → is_function t ≡ b → is_array t ≡ d → (if b then None else (if d then None else Some (FunctionTy (unqualified t) ts c))) ≡ Some u → IsProper v u
+        by true d p q e = absurd cc
+        by false true p q e = absurd cc
+        by false false p q e = as-made (IsProper v) (FunctionTy (unqualified t) ts c) u (plain-value v t h q p, proper-unqualified v t h, λ i. fixed) e
+
+    step-any : AreFixed v → (unsized : Bool) (d : Derivation) (t u : Ty) → IsProper v t → step unsized es d t ≡ Some u → IsProper v u
+    step-any fixed b (ByPointer c) t u h e = pointer-proper c t u h e
+    step-any fixed b (ByArray None) t u h e = unsized-proper b t u h e
+    step-any fixed b (ByArray (Some n)) t u h e = sized-proper n t u h e
+    step-any fixed b (ByFunction ts c) t u h e = function-any fixed ts c t u h e
+
+    pub derived-any : AreFixed v → (unsized : Bool) (ds : List Derivation) (t u : Ty) → IsProper v t → derived unsized es ds t ≡ Some u → IsProper v u
+    derived-any fixed b [] t u h e = as-made (IsProper v) t u h e
+    derived-any fixed b (d ∷ ds) t u h e = let f = from-some (derived b es ds t) (step b es d) u e in step-any fixed b d f.0 u (derived-any fixed b ds t f.0 h f.1) f.2
 
   -- 6.7.6.3p7, p8: a parameter's type
   pub adjusted-proper : (t u : Ty) → IsProper v t → adjusted t ≡ Some u → IsProper v u

@@ -43,9 +43,10 @@ use Rattle.pv_well_typed.proofs.Operands.{IsOperand, has-type, some-same}
 use Rattle.pv_well_typed.proofs.Conversions.{IsAssigned, assigned-row}
 use Rattle.pv_well_typed.proofs.Changes.{literal-later}
 use Rattle.pv_well_typed.proofs.PrimaryRows.{beyond-at}
-use Rattle.pv_well_typed.proofs.Moving.{same-outer, AreBytes, Orderly, Grown, HasMade, none-made, grown-before, Moves, Gives, same-moves, gives-none, gives-some, gives-then, gives-weaker}
+use Rattle.pv_well_typed.specs.Sources.{AreBytes}
+use Rattle.pv_well_typed.proofs.Moving.{same-outer, Orderly, Grown, HasMade, none-made, grown-before, Moves, Gives, same-moves, gives-none, gives-some, gives-then, gives-weaker}
 use Rattle.pv_well_typed.proofs.Walk.{U, written-orderly, text-bytes}
-use Rattle.pv_well_typed.proofs.StatementRows.{Here, Behind, valued-gives}
+use Rattle.pv_well_typed.proofs.StatementRows.{Here, Behind, valued-everywhere}
 use Rattle.pv_well_typed.proofs.BlockRows.{GivenIn}
 use Rattle.pv_well_typed.proofs.PartRows.{can-complete, can-bare, can-grown, proper-bare, sized-size, sized-more, character-byte, IsPart, part-at-found, zero-found}
 use Rattle.pv_well_typed.proofs.ConstantRows.{constant-good}
@@ -59,22 +60,22 @@ abbrev high : {A : Type 0} → check.After A → After State A
 high x = record { value = x.value; state = x.state }
 
 module _ (v : WholeUnit) where
-  then-gives : {A B : Type 0} (P : Type 0) (s : State) (Q : check.After A → Type 0) (R : check.After B → Type 0) (o : Option (After State A)) (f : After State A → Option (After State B)) → Gives ⊥ v [] P s Q (lowered o)
-      → ((a : After State A) → Moves ⊥ v [] s a.state → Gives ⊥ v [] (P × Q (low a)) a.state R (lowered (f a))) → Gives ⊥ v [] P s R (lowered (option_and_then f o))
-  then-gives P s Q R None f h k = gives-none ⊥ v [] P s R
-  then-gives P s Q R (Some x) f h k = gives-then ⊥ v [] P s Q R (Some (low x)) (λ b. lowered (f (high b))) h (λ b m. k (high b) m)
+  then-gives : {A B : Type 0} (P : Type 0) (s : State) (Q : check.After A → Type 0) (R : check.After B → Type 0) (o : Option (After State A)) (f : After State A → Option (After State B)) → Gives U v [] P s Q (lowered o)
+      → ((a : After State A) → Moves U v [] s a.state → Gives U v [] (P × Q (low a)) a.state R (lowered (f a))) → Gives U v [] P s R (lowered (option_and_then f o))
+  then-gives P s Q R None f h k = gives-none U v [] P s R
+  then-gives P s Q R (Some x) f h k = gives-then U v [] P s Q R (Some (low x)) (λ b. lowered (f (high b))) h (λ b m. k (high b) m)
 
-  value-gives : {A B : Type 0} (P : Type 0) (s : State) (R : check.After B → Type 0) (o : Option A) (f : A → Option (After State B)) → ((x : A) → o ≡ Some x → Gives ⊥ v [] P s R (lowered (f x)))
-      → Gives ⊥ v [] P s R (lowered (option_and_then f o))
-  value-gives P s R None f h = gives-none ⊥ v [] P s R
+  value-gives : {A B : Type 0} (P : Type 0) (s : State) (R : check.After B → Type 0) (o : Option A) (f : A → Option (After State B)) → ((x : A) → o ≡ Some x → Gives U v [] P s R (lowered (f x)))
+      → Gives U v [] P s R (lowered (option_and_then f o))
+  value-gives P s R None f h = gives-none U v [] P s R
   value-gives P s R (Some x) f h = h x refl
 
-  map-gives : {A B : Type 0} (P : Type 0) (s : State) (Q : check.After A → Type 0) (R : check.After B → Type 0) (o : Option (After State A)) (g : After State A → After State B) → Gives ⊥ v [] P s Q (lowered o)
-      → ((a : After State A) → Moves ⊥ v [] s a.state → Gives ⊥ v [] (P × Q (low a)) a.state R (Some (low (g a)))) → Gives ⊥ v [] P s R (lowered (option_map g o))
-  map-gives P s Q R None g h k = gives-none ⊥ v [] P s R
-  map-gives P s Q R (Some x) g h k = gives-then ⊥ v [] P s Q R (Some (low x)) (λ b. Some (low (g (high b)))) h (λ b m. k (high b) m)
+  map-gives : {A B : Type 0} (P : Type 0) (s : State) (Q : check.After A → Type 0) (R : check.After B → Type 0) (o : Option (After State A)) (g : After State A → After State B) → Gives U v [] P s Q (lowered o)
+      → ((a : After State A) → Moves U v [] s a.state → Gives U v [] (P × Q (low a)) a.state R (Some (low (g a)))) → Gives U v [] P s R (lowered (option_map g o))
+  map-gives P s Q R None g h k = gives-none U v [] P s R
+  map-gives P s Q R (Some x) g h k = gives-then U v [] P s Q R (Some (low x)) (λ b. Some (low (g (high b)))) h (λ b m. k (high b) m)
 
-  lifted-gives : {A : Type 0} (P : Type 0) (s : State) (Q : check.After A → Type 0) (o : Option (check.After A)) → Gives ⊥ v [] P s Q o → Gives ⊥ v [] P s Q (lowered (lifted o))
+  lifted-gives : {A : Type 0} (P : Type 0) (s : State) (Q : check.After A → Type 0) (o : Option (check.After A)) → Gives U v [] P s Q o → Gives U v [] P s Q (lowered (lifted o))
   lifted-gives P s Q None h = h
   lifted-gives P s Q (Some x) h = h
 
@@ -224,14 +225,14 @@ module _ (v : WholeUnit) (done : IsFinished v) where
       (c, kept, good.0, subst (λ u. IsConstantOf c u) is good.1)
 
   constant-gives : (lasting : Bool) (p : Part) (a : ExpressionTree) (s : State) (x : After State TypedTree) (e : TypedTree) → s.unevaluated ≡ false → assigned (bare p.t) x.value ≡ Some e
-      → Gives ⊥ v [] (IsProper v p.t × Behind v s (λ os y. IsOperand U v os y) (low x)) x.state (OneIn lasting p s) (lowered (as_constant values lasting (stores.unqualified p) (expression_line a) x.state e))
+      → Gives U v [] (IsProper v p.t × Behind v s (λ os y. IsOperand U v os y) (low x)) x.state (OneIn lasting p s) (lowered (as_constant values lasting (stores.unqualified p) (expression_line a) x.state e))
   constant-gives lasting p a s x e ev q = by (allowed values lasting x.state e) refl
     where
       by : (b : Bool) → allowed values lasting x.state e ≡ b
-          → Gives ⊥ v [] (IsProper v p.t × Behind v s (λ os y. IsOperand U v os y) (low x)) x.state (OneIn lasting p s) (lowered (if b then Some (one (stores.unqualified p) (expression_line a) (ValueOf e) x.state) else None))
-      by false f = gives-none ⊥ v [] _ x.state (OneIn lasting p s)
+          → Gives U v [] (IsProper v p.t × Behind v s (λ os y. IsOperand U v os y) (low x)) x.state (OneIn lasting p s) (lowered (if b then Some (one (stores.unqualified p) (expression_line a) (ValueOf e) x.state) else None))
+      by false f = gives-none U v [] _ x.state (OneIn lasting p s)
       by true f =
-          gives-some ⊥ v [] (IsProper v p.t × Behind v s (λ os y. IsOperand U v os y) (low x)) x.state (OneIn lasting p s) (low (one (stores.unqualified p) (expression_line a) (ValueOf e) x.state)) (same-moves ⊥ v [] x.state)
+          gives-some U v [] (IsProper v p.t × Behind v s (λ os y. IsOperand U v os y) (low x)) x.state (OneIn lasting p s) (low (one (stores.unqualified p) (expression_line a) (ValueOf e) x.state)) (same-moves U v [] x.state)
           (λ l h g.
           let w : (os : List ℕ) → Here v os s → IsAssigned U v os (bare p.t) e = λ os here. assigned-row U v os (bare p.t) x.value (h.1 os here).0 e q in
           let z = some-here v s ev in
@@ -252,25 +253,27 @@ module _ (v : WholeUnit) (done : IsFinished v) where
             none-made v x.state x.state refl,
           ))
 
-  single-gives : (lasting : Bool) (p : Part) (a : ExpressionTree) (s : State) → HasCharacters a → s.unevaluated ≡ false → Gives ⊥ v [] (IsProper v p.t) s (OneIn lasting p s) (lowered (single values lasting p a s))
+  single-gives : (lasting : Bool) (p : Part) (a : ExpressionTree) (s : State) → HasCharacters a → s.unevaluated ≡ false → Gives U v [] (IsProper v p.t) s (OneIn lasting p s) (lowered (single values lasting p a s))
   unfolding values
   single-gives lasting p a s c ev =
       then-gives v (IsProper v p.t) s (Behind v s (λ os y. IsOperand U v os y)) (OneIn lasting p s) (lifted (operand (types a s))) (valued values lasting p (expression_line a))
       (lifted-gives v (IsProper v p.t) s (Behind v s (λ os y. IsOperand U v os y)) (operand (types a s))
-      (gives-weaker ⊥ ⊥ U (IsProper v p.t) v [] s (Behind v s (λ os y. IsOperand U v os y)) (Behind v s (λ os y. IsOperand U v os y)) (operand (types a s)) (λ f. f) (λ h. tt) (λ y q. q) (valued-gives v done a c s)))
+      (gives-weaker U U U (IsProper v p.t) v [] s (Behind v s (λ os y. IsOperand U v os y)) (Behind v s (λ os y. IsOperand U v os y)) (operand (types a s)) (λ f. f) (λ h. tt) (λ y q. q) (valued-everywhere v done a c s)))
       (λ x m. value-gives v (IsProper v p.t × Behind v s (λ os y. IsOperand U v os y) (low x)) x.state (OneIn lasting p s) (assigned (bare p.t) x.value) (as_constant values lasting (stores.unqualified p) (expression_line a) x.state)
       (λ e q. constant-gives lasting p a s x e ev q))
 
   -- ---- string literals that fill an array (6.7.9p14)
 
-  text-moves : (line : ℕ) (bytes : List ℕ) (s : State) → (Orderly s → AreBytes bytes × (1 ≤ length bytes)) → Moves ⊥ v [] s (filling_text line bytes s).state
+  text-moves : (line : ℕ) (bytes : List ℕ) (s : State) → (Orderly s → AreBytes bytes × (1 ≤ length bytes)) → Moves U v [] s (filling_text line bytes s).state
   text-moves line bytes s good = record {
     later = λ l. record { unit = literal-later v s.unit (record { bytes = bytes; line = line }) false l.unit; used = l.used };
     outer = same-outer s.scopes;
     grows = ([], sym (append-nil (env s)));
-    names = λ f h. h;
+    names = λ f w ps h. h;
     evaluated = refl;
     functions = refl;
+    spelled = refl;
+    noted = (refl, refl);
     orderly = λ h. written-orderly line bytes s false good h;
     count = omega arith;
     older = λ o lt. refl;
@@ -296,14 +299,14 @@ module _ (v : WholeUnit) (done : IsFinished v) where
   filled-proper es (FunctionTy t ts c) n q text room = absurd cc
   filled-proper es (ConstOf t) n q text room = absurd cc
 
-  fill-gives : (lasting : Bool) (p : Part) (line : ℕ) (bytes : List ℕ) (s : State) → is_text p.t ≡ true → (Orderly s → AreBytes bytes × (1 ≤ length bytes)) → Gives ⊥ v [] (IsProper v p.t) s (StoredIn lasting p s) (lowered (filled_with p line (filling_text line bytes s)))
+  fill-gives : (lasting : Bool) (p : Part) (line : ℕ) (bytes : List ℕ) (s : State) → is_text p.t ≡ true → (Orderly s → AreBytes bytes × (1 ≤ length bytes)) → Gives U v [] (IsProper v p.t) s (StoredIn lasting p s) (lowered (filled_with p line (filling_text line bytes s)))
   fill-gives lasting p line bytes s text good = by (has_room (bare p.t) (length bytes)) refl
     where
       by : (b : Bool) → has_room (bare p.t) (length bytes) ≡ b
-          → Gives ⊥ v [] (IsProper v p.t) s (StoredIn lasting p s) (lowered (option_map (characters p line (filling_text line bytes s)) (if b then Some (sized (bare p.t) (length bytes)) else None)))
-      by false f = gives-none ⊥ v [] (IsProper v p.t) s (StoredIn lasting p s)
+          → Gives U v [] (IsProper v p.t) s (StoredIn lasting p s) (lowered (option_map (characters p line (filling_text line bytes s)) (if b then Some (sized (bare p.t) (length bytes)) else None)))
+      by false f = gives-none U v [] (IsProper v p.t) s (StoredIn lasting p s)
       by true f =
-          gives-some ⊥ v [] (IsProper v p.t) s (StoredIn lasting p s) (low (characters p line (filling_text line bytes s) (sized (bare p.t) (length bytes)))) (text-moves line bytes s good)
+          gives-some U v [] (IsProper v p.t) s (StoredIn lasting p s) (low (characters p line (filling_text line bytes s) (sized (bare p.t) (length bytes)))) (text-moves line bytes s good)
           (λ l h g. (
             text-proper line bytes s g,
             record {
@@ -421,13 +424,13 @@ module _ (v : WholeUnit) (done : IsFinished v) where
       omega (arith, outer, inner, w)
 
   -- 6.7.9p20, p21: the list `{0}`
-  zero-gives : (lasting : Bool) (p : Part) (a : ExpressionTree) (s : State) → HasCharacters a → s.unevaluated ≡ false → Gives ⊥ v [] (MayFill p s) s (StoredIn lasting p s) (lowered (stores.zero values lasting p a s))
+  zero-gives : (lasting : Bool) (p : Part) (a : ExpressionTree) (s : State) → HasCharacters a → s.unevaluated ≡ false → Gives U v [] (MayFill p s) s (StoredIn lasting p s) (lowered (stores.zero values lasting p a s))
   unfolding values
   zero-gives lasting p a s c ev =
       value-gives v (MayFill p s) s (StoredIn lasting p s) (zero_leaf s.unit.completed p) (λ leaf. single values lasting leaf a s) (λ leaf e. record { held = λ f q. next leaf e f q })
     where
       next : (leaf : Part) → zero_leaf s.unit.completed p ≡ Some leaf → (f : check.After Stores) → lowered (single values lasting leaf a s) ≡ Some f
-          → Moves ⊥ v [] s f.state × (Later f.state v → MayFill p s → IsProperState v s → IsProperState v f.state × StoredIn lasting p s f × HasMade v s f.state)
+          → Moves U v [] s f.state × (Later f.state v → MayFill p s → IsProperState v s → IsProperState v f.state × StoredIn lasting p s f × HasMade v s f.state)
       next leaf e f q =
           let z = (single-gives lasting leaf a s c ev).held f q in (
             z.0,
@@ -439,17 +442,17 @@ module _ (v : WholeUnit) (done : IsFinished v) where
                 (w.0, stored-as lasting p leaf s f w.1.1 (omega (arith, ends)) found.whole w.1.0, w.2),
           )
 
-  formed-gives : (lasting : Bool) (p : Part) (s : State) (each : Option (After State Stores)) → Gives ⊥ v [] (MayFill p s) s (StoredIn lasting p s) (lowered each) → (x : Shape) → IsFor p x → ShapeCharacters x → s.unevaluated ≡ false
-      → Gives ⊥ v [] (MayFill p s) s (StoredIn lasting p s) (lowered (formed values lasting p s each x))
+  formed-gives : (lasting : Bool) (p : Part) (s : State) (each : Option (After State Stores)) → Gives U v [] (MayFill p s) s (StoredIn lasting p s) (lowered each) → (x : Shape) → IsFor p x → ShapeCharacters x → s.unevaluated ≡ false
+      → Gives U v [] (MayFill p s) s (StoredIn lasting p s) (lowered (formed values lasting p s each x))
   unfolding values
   formed-gives lasting p s each h (Fill line first more) f c ev =
-      gives-weaker ⊥ ⊥ (IsProper v p.t) (MayFill p s) v [] s (StoredIn lasting p s) (StoredIn lasting p s) (lowered (filled_with p line (filling_text line (bytes_of_text s.texts first more) s))) (λ i. i) (λ q. q.0) (λ a q. q)
+      gives-weaker U U (IsProper v p.t) (MayFill p s) v [] s (StoredIn lasting p s) (StoredIn lasting p s) (lowered (filled_with p line (filling_text line (bytes_of_text s.texts first more) s))) (λ i. i) (λ q. q.0) (λ a q. q)
       (fill-gives lasting p line (bytes_of_text s.texts first more) s f (λ h. text-bytes s.texts first more h.sources))
   formed-gives lasting p s each h (Single a) f c ev =
-      gives-weaker ⊥ ⊥ (IsProper v p.t) (MayFill p s) v [] s (OneIn lasting p s) (StoredIn lasting p s) (lowered (single values lasting p a s)) (λ i. i) (λ q. q.0) (λ a q. q.0) (single-gives lasting p a s c ev)
+      gives-weaker U U (IsProper v p.t) (MayFill p s) v [] s (OneIn lasting p s) (StoredIn lasting p s) (lowered (single values lasting p a s)) (λ i. i) (λ q. q.0) (λ a q. q.0) (single-gives lasting p a s c ev)
   formed-gives lasting p s each h (Zero a) f c ev = zero-gives lasting p a s c ev
   formed-gives lasting p s each h stores.Each f c ev = h
-  formed-gives lasting p s each h Wrong f c ev = gives-none ⊥ v [] (MayFill p s) s (StoredIn lasting p s)
+  formed-gives lasting p s each h Wrong f c ev = gives-none U v [] (MayFill p s) s (StoredIn lasting p s)
 
   -- ---- lists in braces (6.7.9p16 to p19)
 
@@ -464,18 +467,18 @@ module _ (v : WholeUnit) (done : IsFinished v) where
   proper-none (FunctionTy t ts c) h = h
   proper-none (ConstOf t) h = h
 
-  none-stored : (lasting : Bool) (p : Part) (s : State) → Gives ⊥ v [] (MayFill p s) s (StoredIn lasting p s) (Some (low (nothing s)))
+  none-stored : (lasting : Bool) (p : Part) (s : State) → Gives U v [] (MayFill p s) s (StoredIn lasting p s) (Some (low (nothing s)))
   none-stored lasting p s =
-      gives-some ⊥ v [] (MayFill p s) s (StoredIn lasting p s) (low (nothing s)) (same-moves ⊥ v [] s)
+      gives-some U v [] (MayFill p s) s (StoredIn lasting p s) (low (nothing s)) (same-moves U v [] s)
       (λ l h g. (g, record { whole = proper-none (bare p.t) (proper-bare v p.t h.0); stored = λ os here. (tt, here); constant = λ k e. tt }, none-made v s s refl))
 
   -- one part more
-  joined-gives : (lasting : Bool) (p q : Part) (s : State) (d : After State Stores) → Moves ⊥ v [] s d.state → part_at d.state.unit.completed p d.value.count ≡ Some q → (o : Option (After State Stores))
-      → Gives ⊥ v [] (MayFill q d.state) d.state (StoredIn lasting q d.state) (lowered o)
-      → Gives ⊥ v [] (MayFill p s × StoredIn lasting p s (low d)) d.state (StoredIn lasting p s) (lowered (option_map (joined d.value) o))
-  joined-gives lasting p q s d m e None h = gives-none ⊥ v [] (MayFill p s × StoredIn lasting p s (low d)) d.state (StoredIn lasting p s)
+  joined-gives : (lasting : Bool) (p q : Part) (s : State) (d : After State Stores) → Moves U v [] s d.state → part_at d.state.unit.completed p d.value.count ≡ Some q → (o : Option (After State Stores))
+      → Gives U v [] (MayFill q d.state) d.state (StoredIn lasting q d.state) (lowered o)
+      → Gives U v [] (MayFill p s × StoredIn lasting p s (low d)) d.state (StoredIn lasting p s) (lowered (option_map (joined d.value) o))
+  joined-gives lasting p q s d m e None h = gives-none U v [] (MayFill p s × StoredIn lasting p s (low d)) d.state (StoredIn lasting p s)
   joined-gives lasting p q s d m e (Some x) h =
-      gives-some ⊥ v [] (MayFill p s × StoredIn lasting p s (low d)) d.state (StoredIn lasting p s) (low (joined d.value x)) r.0
+      gives-some U v [] (MayFill p s × StoredIn lasting p s (low d)) d.state (StoredIn lasting p s) (low (joined d.value x)) r.0
       (λ l k g.
       let before = r.0.later l in
       let may : MayFill p d.state = (k.0.0, can-grown (env s) (env d.state) p.t m.grows k.0.1) in
@@ -496,37 +499,37 @@ module _ (v : WholeUnit) (done : IsFinished v) where
               );
           constant = λ grown lasts.
               each_append (λ (i : Store). (i.offset + size i.t ≤ End p (d.value.count + 1)) × IsConstant v i.t i.what) d.value.stores x.value.stores
-              (below-more (End p d.value.count) (End p (d.value.count + 1)) (λ t i. IsConstant v t i) d.value.stores first (k.1.constant (grown-before ⊥ v [] d.state x.state r.0 grown) lasts))
+              (below-more (End p d.value.count) (End p (d.value.count + 1)) (λ t i. IsConstant v t i) d.value.stores first (k.1.constant (grown-before U v [] d.state x.state r.0 grown) lasts))
               (below-more (End q x.value.count) (End p (d.value.count + 1)) (λ t i. IsConstant v t i) x.value.stores last (w.1.constant grown lasts));
         },
         w.2,
       ))
     where
-      r : Moves ⊥ v [] d.state x.state × (Later x.state v → MayFill q d.state → IsProperState v d.state → IsProperState v x.state × StoredIn lasting q d.state (low x) × HasMade v d.state x.state)
+      r : Moves U v [] d.state x.state × (Later x.state v → MayFill q d.state → IsProperState v d.state → IsProperState v x.state × StoredIn lasting q d.state (low x) × HasMade v d.state x.state)
       r = h.held (low x) refl
 
   mutual
     unfolding values
 
-    tree-gives : (lasting : Bool) (i : InitializerTree) (p : Part) (s : State) → InitializerCharacters i → s.unevaluated ≡ false → Gives ⊥ v [] (MayFill p s) s (StoredIn lasting p s) (lowered (init.initialized values lasting p i s))
+    tree-gives : (lasting : Bool) (i : InitializerTree) (p : Part) (s : State) → InitializerCharacters i → s.unevaluated ≡ false → Gives U v [] (MayFill p s) s (StoredIn lasting p s) (lowered (init.initialized values lasting p i s))
     tree-gives lasting (Initial line a) p s c ev =
-        formed-gives lasting p s None (gives-none ⊥ v [] (MayFill p s) s (StoredIn lasting p s)) (shape_of s.unit.completed p (Initial line a)) (for-shape p s.unit.completed (Initial line a)) (shape-characters p s.unit.completed (Initial line a) c) ev
+        formed-gives lasting p s None (gives-none U v [] (MayFill p s) s (StoredIn lasting p s)) (shape_of s.unit.completed p (Initial line a)) (for-shape p s.unit.completed (Initial line a)) (shape-characters p s.unit.completed (Initial line a) c) ev
     tree-gives lasting (Braces line inits comma) p s c ev =
         formed-gives lasting p s (each_initialized values lasting p inits s) (each-gives lasting inits p s c ev) (shape_of s.unit.completed p (Braces line inits comma)) (for-shape p s.unit.completed (Braces line inits comma))
         (shape-characters p s.unit.completed (Braces line inits comma) c) ev
 
-    each-gives : (lasting : Bool) (ts : Trees) (p : Part) (s : State) → TreesCharacters ts → s.unevaluated ≡ false → Gives ⊥ v [] (MayFill p s) s (StoredIn lasting p s) (lowered (each_initialized values lasting p ts s))
+    each-gives : (lasting : Bool) (ts : Trees) (p : Part) (s : State) → TreesCharacters ts → s.unevaluated ≡ false → Gives U v [] (MayFill p s) s (StoredIn lasting p s) (lowered (each_initialized values lasting p ts s))
     each-gives lasting NoTrees p s c ev = none-stored lasting p s
     each-gives lasting (Then before (OfInitializer i)) p s c ev =
         then-gives v (MayFill p s) s (StoredIn lasting p s) (StoredIn lasting p s) (each_initialized values lasting p before s)
         (λ d. option_and_then (λ q. option_map (joined d.value) (init.initialized values lasting q i d.state)) (part_at d.state.unit.completed p d.value.count)) (each-gives lasting before p s c.0 ev)
         (λ d m. value-gives v (MayFill p s × StoredIn lasting p s (low d)) d.state (StoredIn lasting p s) (part_at d.state.unit.completed p d.value.count) (λ q. option_map (joined d.value) (init.initialized values lasting q i d.state))
         (λ q e. joined-gives lasting p q s d m e (init.initialized values lasting q i d.state) (tree-gives lasting i q d.state c.1 (m.evaluated ∙ ev))))
-    each-gives lasting (Then before (OfExpression x)) p s c ev = gives-none ⊥ v [] (MayFill p s) s (StoredIn lasting p s)
-    each-gives lasting (Then before (OfDeclaration x)) p s c ev = gives-none ⊥ v [] (MayFill p s) s (StoredIn lasting p s)
-    each-gives lasting (Then before (OfDeclarator x)) p s c ev = gives-none ⊥ v [] (MayFill p s) s (StoredIn lasting p s)
-    each-gives lasting (Then before (OfSpecifier x)) p s c ev = gives-none ⊥ v [] (MayFill p s) s (StoredIn lasting p s)
-    each-gives lasting (Then before (OfStatement x)) p s c ev = gives-none ⊥ v [] (MayFill p s) s (StoredIn lasting p s)
+    each-gives lasting (Then before (OfExpression x)) p s c ev = gives-none U v [] (MayFill p s) s (StoredIn lasting p s)
+    each-gives lasting (Then before (OfDeclaration x)) p s c ev = gives-none U v [] (MayFill p s) s (StoredIn lasting p s)
+    each-gives lasting (Then before (OfDeclarator x)) p s c ev = gives-none U v [] (MayFill p s) s (StoredIn lasting p s)
+    each-gives lasting (Then before (OfSpecifier x)) p s c ev = gives-none U v [] (MayFill p s) s (StoredIn lasting p s)
+    each-gives lasting (Then before (OfStatement x)) p s c ev = gives-none U v [] (MayFill p s) s (StoredIn lasting p s)
 
   -- ---- the object (6.7.9p3, p22)
 
@@ -572,22 +575,27 @@ module _ (v : WholeUnit) (done : IsFinished v) where
         stored = λ os here. let z = h.stored os here in (below-more (End (whole t) x.value.count) (size (sized t x.value.count)) (λ u y. IsInitializer v os u y) x.value.stores ends z.0, z.1);
       }
 
-  given-gives : (lasting : Bool) (t : Ty) (b : Bool) (s : State) (o : Option (After State Stores)) → Gives ⊥ v [] (IsProper v t) s (StoredIn lasting (whole t) s) (lowered o)
-      → Gives ⊥ v [] (IsProper v t) s (GivenIn v lasting t s) (lowered (option_map (given t b) o))
-  given-gives lasting t b s None h = gives-none ⊥ v [] (IsProper v t) s (GivenIn v lasting t s)
+  given-gives : (lasting : Bool) (t : Ty) (b : Bool) (s : State) (o : Option (After State Stores)) → Gives U v [] (IsProper v t) s (StoredIn lasting (whole t) s) (lowered o)
+      → Gives U v [] (IsProper v t) s (GivenIn v lasting t s) (lowered (option_map (given t b) o))
+  given-gives lasting t b s None h = gives-none U v [] (IsProper v t) s (GivenIn v lasting t s)
   given-gives lasting t b s (Some x) h =
       let r = h.held (low x) refl in
-      gives-some ⊥ v [] (IsProper v t) s (GivenIn v lasting t s) (low (given t b x)) r.0 (λ l p g. let z = r.1 l p g in (z.0, given-in lasting t b s x p z.1, z.2))
+      gives-some U v [] (IsProper v t) s (GivenIn v lasting t s) (low (given t b x)) r.0 (λ l p g. let z = r.1 l p g in (z.0, given-in lasting t b s x p z.1, z.2))
 
   -- 6.7.9p3, p22: what an object gets by its initializer
-  pub initializer-gives : (lasting : Bool) (t : Ty) (i : InitializerTree) (s : State) → InitializerCharacters i → s.unevaluated ≡ false → Gives ⊥ v [] (IsProper v t) s (GivenIn v lasting t s) (initialized lasting t i s)
+  pub initializer-gives : (lasting : Bool) (t : Ty) (i : InitializerTree) (s : State) → InitializerCharacters i → s.unevaluated ≡ false → Gives U v [] (IsProper v t) s (GivenIn v lasting t s) (initialized lasting t i s)
   unfolding values initialized_object
   initializer-gives lasting t i s c ev = by (can_be_initialized (env s) t) refl
     where
       by : (b : Bool) → can_be_initialized (env s) t ≡ b
-          → Gives ⊥ v [] (IsProper v t) s (GivenIn v lasting t s) (lowered (if b then option_map (given t (is_braced s.unit.completed (whole t) i)) (init.initialized values lasting (whole t) i s) else None))
-      by false e = gives-none ⊥ v [] (IsProper v t) s (GivenIn v lasting t s)
+          → Gives U v [] (IsProper v t) s (GivenIn v lasting t s) (lowered (if b then option_map (given t (is_braced s.unit.completed (whole t) i)) (init.initialized values lasting (whole t) i s) else None))
+      by false e = gives-none U v [] (IsProper v t) s (GivenIn v lasting t s)
       by true e =
           given-gives lasting t (is_braced s.unit.completed (whole t) i) s (init.initialized values lasting (whole t) i s)
-          (gives-weaker ⊥ ⊥ (MayFill (whole t) s) (IsProper v t) v [] s (StoredIn lasting (whole t) s) (StoredIn lasting (whole t) s) (lowered (init.initialized values lasting (whole t) i s)) (λ f. f) (λ p. (p, e)) (λ a q. q)
+          (gives-weaker U U (MayFill (whole t) s) (IsProper v t) v [] s (StoredIn lasting (whole t) s) (StoredIn lasting (whole t) s) (lowered (init.initialized values lasting (whole t) i s)) (λ f. f) (λ p. (p, e)) (λ a q. q)
           (tree-gives lasting i (whole t) s c ev))
+
+  -- the same in a block, whose names are told otherwise
+  pub initializer-inside : (lasting : Bool) (t : Ty) (i : InitializerTree) (s : State) → InitializerCharacters i → s.unevaluated ≡ false → Gives ⊥ v [] (IsProper v t) s (GivenIn v lasting t s) (initialized lasting t i s)
+  initializer-inside lasting t i s c ev =
+      gives-weaker U ⊥ (IsProper v t) (IsProper v t) v [] s (GivenIn v lasting t s) (GivenIn v lasting t s) (initialized lasting t i s) (λ f. absurd f) (λ p. p) (λ a q. q) (initializer-gives lasting t i s c ev)

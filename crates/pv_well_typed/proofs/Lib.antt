@@ -28,3 +28,12 @@ pub mod StatementGives
 pub mod PartRows
 pub mod ConstantRows
 pub mod InitializerGives
+pub mod SignatureRows
+pub mod FileScope
+pub mod FileObjects
+pub mod FileFunctions
+pub mod FileDeclarations
+pub mod FileDefinitions
+pub mod UnitEnd
+pub mod TokenCharacters
+pub mod SourceTokens

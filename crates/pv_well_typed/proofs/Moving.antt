@@ -1,5 +1,5 @@
 -- What typing does to its state, and what it gives (C17 6.5, 6.7): a unit that is later than the state behind is later than the one before.
-use Rattle.std.proofs.Common.{◌≡◌, ℕ, zero, suc, ◌<◌, ◌≤◌, ◌-◌, ◌+◌, Bool, true, false, Option, Some, None, List, [], ◌∷◌, ◌++◌, length, take, set, get_or, refl, sym, ap, subst, ◌∙◌, arith, length-append, length-set, append_assoc, append-nil, ◌⊎◌, inl, inr}
+use Rattle.std.proofs.Common.{◌≡◌, ℕ, zero, suc, ◌<◌, ◌≤◌, ◌-◌, ◌+◌, Bool, true, false, Option, Some, None, is_some, List, [], ◌∷◌, ◌++◌, length, take, set, get_or, refl, sym, ap, subst, ◌∙◌, arith, length-append, length-set, append_assoc, append-nil, ◌⊎◌, inl, inr}
 use Rattle.std.specs.Prelude.{if◌then◌else◌}
 use Rattle.pv_types.specs.Layouts.{Entry, Layout, up_to, layout_in, is_complete_in}
 use Rattle.pv_types.proofs.LayoutLaws.{layout-append, complete-append}
@@ -8,13 +8,15 @@ use Rattle.pv_typed.specs.Known.{Each}
 use Rattle.pv_typed.proofs.Each.{each_append}
 use Rattle.pv_typed.specs.Addresses.{size_in, or_zero}
 use Rattle.pv_typed.specs.TypedTree.{TypedTree}
-use Rattle.pv_typed.specs.TypedUnits.{WholeUnit, TypedObject, Literal, Store, no_literal, layouts, object_at}
+use Rattle.pv_typed.specs.TypedUnits.{WholeUnit, TypedObject, TypedFunction, Literal, Store, no_function, no_literal, layouts, object_at}
+use Rattle.pv_check.specs.Library.{library_named}
 use Rattle.pv_check.specs.Rows.{operand, integer_value}
-use Rattle.pv_check.specs.State.{State, Used, UsedObject, UsedFunction, PointedFunction, Meaning, ObjectName, FunctionName, TypedefOf, ConstantOf, After, Scope, no_scope, and_then, give, env, entered, left}
+use Rattle.pv_check.specs.State.{State, Used, UsedObject, UsedFunction, PointedFunction, Meaning, ObjectName, FunctionName, TypedefOf, ConstantOf, After, Scope, no_scope, and_then, give, env, find, innermost, entered, left}
 use Rattle.pv_check.specs.Values.{value_of}
 use Rattle.pv_typed.specs.Constants.{integer}
 use Rattle.pv_guards.specs.TypedStatements.{IsConstant}
 use Rattle.pv_well_typed.specs.Later.{IsFinished, Later}
+use Rattle.pv_well_typed.specs.Sources.{AreBytes}
 use Rattle.pv_well_typed.specs.ProperStates.{IsScope, IsProperState, AreVisible}
 use Rattle.pv_well_typed.proofs.Changes.{take-set}
 use Rattle.pv_well_typed.proofs.Operands.{IsExpression, IsOperand, value-row, some-same}
@@ -30,18 +32,34 @@ then-grows es fs gs h g = (h.0 ++ g.0, g.1 ∙ ap (λ (xs : List Entry). xs ++ g
 pub record Outer (ss ts : List Scope) : Type 0 where
   pub deep : length ts ≡ length ss
   pub same : take (length ss - 1) ts ≡ take (length ss - 1) ss
+  pub finds : (n : ℕ) → is_some (find (innermost ss).names n) ≡ true → is_some (find (innermost ts).names n) ≡ true
 
 pub same-outer : (ss : List Scope) → Outer ss ss
-same-outer ss = record { deep = refl; same = refl }
+same-outer ss = record { deep = refl; same = refl; finds = λ n h. h }
 
 pub then-outer : (ss ts us : List Scope) → Outer ss ts → Outer ts us → Outer ss us
 then-outer ss ts us h g = record {
   deep = g.deep ∙ h.deep;
   same = subst (λ n. take (n - 1) us ≡ take (n - 1) ts) h.deep g.same ∙ h.same;
+  finds = λ n q. g.finds n (h.finds n q);
 }
 
-pub set-outer : (ss : List Scope) (x : Scope) → Outer ss (set ss (length ss - 1) x)
-set-outer ss x = record { deep = length-set ss (length ss - 1) x; same = take-set ss (length ss - 1) x }
+set-there : (z x : Scope) (ss : List Scope) (i : ℕ) → i < length ss → get_or (set ss i x) i z ≡ x
+set-there z x [] i lt = absurd (omega (arith, lt))
+set-there z x (y ∷ ys) zero lt = refl
+set-there z x (y ∷ ys) (suc i) lt = set-there z x ys i (omega (arith, lt))
+
+pub inner-set : (ss : List Scope) (x : Scope) → 0 < length ss → innermost (set ss (length ss - 1) x) ≡ x
+inner-set ss x some = ap (λ k. get_or (set ss (length ss - 1) x) (k - 1) no_scope) (length-set ss (length ss - 1) x) ∙ set-there no_scope x ss (length ss - 1) (omega (arith, some))
+
+-- 6.2.1p7: a name that has a meaning in the innermost scope has one there behind it
+set-finds : (ss : List Scope) (x : Scope) → ((n : ℕ) → is_some (find (innermost ss).names n) ≡ true → is_some (find x.names n) ≡ true) → (n : ℕ) → is_some (find (innermost ss).names n) ≡ true
+    → is_some (find (innermost (set ss (length ss - 1) x)).names n) ≡ true
+set-finds [] x more n h = h
+set-finds (y ∷ ys) x more n h = subst (λ (z : Scope). is_some (find z.names n) ≡ true) (sym (inner-set (y ∷ ys) x (omega arith))) (more n h)
+
+pub set-outer : (ss : List Scope) (x : Scope) → ((n : ℕ) → is_some (find (innermost ss).names n) ≡ true → is_some (find x.names n) ≡ true) → Outer ss (set ss (length ss - 1) x)
+set-outer ss x more = record { deep = length-set ss (length ss - 1) x; same = take-set ss (length ss - 1) x; finds = set-finds ss x more }
 
 -- ---- 6.2.1, 6.4.5, 6.9p5: what typing keeps of what it has seen
 
@@ -55,34 +73,33 @@ IsKnownMeaning n (ConstantOf k) = Unit {0}
 abbrev pub AreKnownNames : (functions : ℕ) → Scope → Type 0
 AreKnownNames n x = Each (λ (e : ℕ × Meaning). IsKnownMeaning n e.1) x.names
 
--- 6.9p5: an expression names a function that is there
-abbrev pub IsKnownUse : (functions : ℕ) → Used → Type 0
-IsKnownUse n (UsedObject o) = Unit {0}
-IsKnownUse n (UsedFunction f) = f < n
-IsKnownUse n (PointedFunction f) = f < n
-
-abbrev pub AreBytes : List ℕ → Type 0
-AreBytes bs = Each (λ b. b < 256) bs
+-- 6.9p5: an expression names a function that is there; one that is pointed to is none of the library's (our choice)
+abbrev pub IsKnownUse : (spelling : List (List ℕ)) → (declared : List TypedFunction) → Used → Type 0
+IsKnownUse ns fs (UsedObject o) = Unit {0}
+IsKnownUse ns fs (UsedFunction f) = f < length fs
+IsKnownUse ns fs (PointedFunction f) = (f < length fs) × (library_named (get_or ns (get_or fs f no_function).name []) ≡ None)
 
 -- functions that names stand for and that expressions named, the texts of the source, and string literals, of which an instance has its zero (6.4.5p6)
-pub record IsOrderly (functions : ℕ) (scopes : List Scope) (used : List Used) (texts : List (List ℕ)) (literals : List Literal) (instances : List ℕ) : Type 0 where
-  pub names : Each (AreKnownNames functions) scopes
-  pub uses : Each (IsKnownUse functions) used
+pub record IsOrderly (spelling : List (List ℕ)) (declared : List TypedFunction) (scopes : List Scope) (used : List Used) (texts : List (List ℕ)) (literals : List Literal) (instances : List ℕ) : Type 0 where
+  pub names : Each (AreKnownNames (length declared)) scopes
+  pub uses : Each (IsKnownUse spelling declared) used
   pub sources : Each AreBytes texts
   pub written : Each (λ (x : Literal). AreBytes x.bytes) literals
   pub ended : Each (λ l. 1 ≤ length (get_or literals l no_literal).bytes) instances
 
 abbrev pub Orderly : State → Type 0
-Orderly s = IsOrderly (length s.unit.functions) s.scopes s.used s.texts s.unit.literals s.unit.instances
+Orderly s = IsOrderly s.unit.names s.unit.functions s.scopes s.used s.texts s.unit.literals s.unit.instances
 
 -- typing goes from one state to another. F: it isn't a list of parameters, whose objects stand in their own scope
 pub record Moves (F : Type 0) (v : WholeUnit) (os : List ℕ) (s t : State) : Type 0 where
   pub later : Later t v → Later s v
   pub outer : Outer s.scopes t.scopes
   pub grows : Grows (env s) (env t)
-  pub names : F → AreVisible v os s.scopes → AreVisible v os t.scopes
+  pub names : F → (w : WholeUnit) (ps : List ℕ) → AreVisible w ps s.scopes → AreVisible w ps t.scopes
   pub evaluated : t.unevaluated ≡ s.unevaluated
   pub functions : t.unit.functions ≡ s.unit.functions
+  pub spelled : t.unit.names ≡ s.unit.names
+  pub noted : (t.unit.statics ≡ s.unit.statics) × (t.unit.placed ≡ s.unit.placed)
   pub orderly : Orderly s → Orderly t
   pub count : length s.unit.objects ≤ length t.unit.objects
   pub older : (o : ℕ) → o < length s.unit.objects → object_at t.unit o ≡ object_at s.unit o
@@ -134,16 +151,18 @@ pub record Gives {A : Type 0} (F : Type 0) (v : WholeUnit) (os : List ℕ) (P : 
 
 module _ (F : Type 0) (v : WholeUnit) (os : List ℕ) where
   pub same-moves : (s : State) → Moves F v os s s
-  same-moves s = record { later = λ l. l; outer = same-outer s.scopes; grows = ([], sym (append-nil (env s))); names = λ f h. h; evaluated = refl; functions = refl; orderly = λ h. h; count = omega arith; older = λ o lt. refl }
+  same-moves s = record { later = λ l. l; outer = same-outer s.scopes; grows = ([], sym (append-nil (env s))); names = λ f w ps h. h; evaluated = refl; functions = refl; spelled = refl; noted = (refl, refl); orderly = λ h. h; count = omega arith; older = λ o lt. refl }
 
   pub then-moves : (s t u : State) → Moves F v os s t → Moves F v os t u → Moves F v os s u
   then-moves s t u h g = record {
     later = λ l. h.later (g.later l);
     outer = then-outer s.scopes t.scopes u.scopes h.outer g.outer;
     grows = then-grows (env s) (env t) (env u) h.grows g.grows;
-    names = λ f k. g.names f (h.names f k);
+    names = λ f w ps k. g.names f w ps (h.names f w ps k);
     evaluated = g.evaluated ∙ h.evaluated;
     functions = g.functions ∙ h.functions;
+    spelled = g.spelled ∙ h.spelled;
+    noted = (g.noted.0 ∙ h.noted.0, g.noted.1 ∙ h.noted.1);
     orderly = λ k. g.orderly (h.orderly k);
     count = let x = h.count in let y = g.count in omega (arith, x, y);
     older = λ o lt. let x = h.count in g.older o (omega (arith, x, lt)) ∙ h.older o lt;
@@ -224,7 +243,7 @@ gives-weaker {A} F G P R v os s Q T o g p w h = record { held = λ a e. next a e
     next : (a : After A) → o ≡ Some a → Moves G v os s a.state × (Later a.state v → R → IsProperState v s → IsProperState v a.state × T a × HasMade v s a.state)
     next a e =
         let r = h.held a e in (
-          record { later = r.0.later; outer = r.0.outer; grows = r.0.grows; names = λ x. r.0.names (g x); evaluated = r.0.evaluated; functions = r.0.functions; orderly = r.0.orderly; count = r.0.count; older = r.0.older },
+          record { later = r.0.later; outer = r.0.outer; grows = r.0.grows; names = λ x. r.0.names (g x); evaluated = r.0.evaluated; functions = r.0.functions; spelled = r.0.spelled; noted = r.0.noted; orderly = r.0.orderly; count = r.0.count; older = r.0.older },
           λ l q k. let z = r.1 l (p q) k in (z.0, w a z.1, z.2),
         )
 
@@ -283,7 +302,7 @@ entered-orderly s h = record {
   ended = h.ended;
 }
 
-left-orderly : (t : State) → Orderly t → Orderly (left t)
+pub left-orderly : (t : State) → Orderly t → Orderly (left t)
 left-orderly t h = record { names = each-take (AreKnownNames (length t.unit.functions)) (length t.scopes - 1) t.scopes h.names; uses = h.uses; sources = h.sources; written = h.written; ended = h.ended }
 
 -- behind it the scopes are those of before
@@ -301,9 +320,11 @@ left-moves F G v os s t m =
       later = λ l. let k = m.later (record { unit = l.unit; used = l.used }) in record { unit = k.unit; used = k.used };
       outer = subst (λ ts. Outer s.scopes ts) (sym same) (same-outer s.scopes);
       grows = m.grows;
-      names = λ f h. subst (AreVisible v os) (sym same) h;
+      names = λ f w ps h. subst (AreVisible w ps) (sym same) h;
       evaluated = m.evaluated;
       functions = m.functions;
+      spelled = m.spelled;
+      noted = m.noted;
       orderly = λ h. left-orderly t (m.orderly (entered-orderly s h));
       count = m.count;
       older = m.older;

@@ -102,7 +102,7 @@ module _ (E : Type 0) (v : WholeUnit) (os : List ℕ) where
       → Later (with_use s (used_function s.unevaluated f)) v → IsExpression E v os (written line (function_at s.unit f).t (Function f))
   function-row line f s good few none evaluated later = record {
     typed = λ i. subst (λ b. IsThere v (used_function b f)) (evaluated i) (each-last (IsThere v) s.used (used_function s.unevaluated f) later.used);
-    proper = subst (λ o. HasFunctionType v o (function_at s.unit f).t) none (good.unit.functions f few);
+    proper = (subst (λ o. HasFunctionType v o (function_at s.unit f).t) none (good.unit.functions f few)).0;
     valued = λ n. absurd cc;
   }
 

@@ -25,7 +25,7 @@ use Rattle.pv_well_typed.specs.Characters.{HasCharacters}
 use Rattle.pv_well_typed.proofs.Types.{scalar-type}
 use Rattle.pv_well_typed.proofs.Operands.{IsOperand, has-value, has-type, integer-converted, as-made, some-same}
 use Rattle.pv_well_typed.proofs.Promotions.{promoted-wide}
-use Rattle.pv_well_typed.proofs.Moving.{HasMade, none-made, Moves, Gives, same-moves, gives-none, gives-some, gives-here, gives-then, gives-if, gives-operand}
+use Rattle.pv_well_typed.proofs.Moving.{HasMade, none-made, Moves, Gives, same-moves, gives-none, gives-some, gives-here, gives-then, gives-if, gives-weaker, gives-operand}
 use Rattle.pv_well_typed.proofs.Walk.{U, types-gives}
 
 -- what stands in a body: it is evaluated, and the objects with automatic storage that names stand for are these
@@ -55,22 +55,26 @@ IsMaybe R os (Some x) = R os x
 
 module _ (v : WholeUnit) (done : IsFinished v) where
   -- 6.3.2.1p2: an expression, and its value taken
-  pub valued-gives : (e : ExpressionTree) → HasCharacters e → (s : State) → Gives ⊥ v [] U s (Behind v s (λ os x. IsOperand U v os x)) (valued e s)
-  valued-gives e chars s = record { held = λ a q. next a q }
+  pub valued-everywhere : (e : ExpressionTree) → HasCharacters e → (s : State) → Gives U v [] U s (Behind v s (λ os x. IsOperand U v os x)) (valued e s)
+  valued-everywhere e chars s = record { held = λ a q. next a q }
     where
-      next : (a : After TypedTree) → operand (types e s) ≡ Some a → Moves ⊥ v [] s a.state × (Later a.state v → U → IsProperState v s → IsProperState v a.state × Behind v s (λ os x. IsOperand U v os x) a × HasMade v s a.state)
+      next : (a : After TypedTree) → operand (types e s) ≡ Some a → Moves U v [] s a.state × (Later a.state v → U → IsProperState v s → IsProperState v a.state × Behind v s (λ os x. IsOperand U v os x) a × HasMade v s a.state)
       next a q =
           let r = (gives-operand ⊥ U v [] done U s (types e s) (types-gives v [] done e false s (λ i. absurd i) (λ i. absurd i))).held a q in (
-            record { later = r.0.later; outer = r.0.outer; grows = r.0.grows; names = λ f. absurd f; evaluated = r.0.evaluated; functions = r.0.functions; orderly = r.0.orderly; count = r.0.count; older = r.0.older },
+            record { later = r.0.later; outer = r.0.outer; grows = r.0.grows; names = r.0.names; evaluated = r.0.evaluated; functions = r.0.functions; spelled = r.0.spelled; noted = r.0.noted; orderly = r.0.orderly; count = r.0.count; older = r.0.older },
             λ l p g.
                 let k = r.1 l p g in (
                   k.0,
                   λ os h.
                       let z = (gives-operand U U v os done U s (types e s) (types-gives v os done e true s (λ i. (h.evaluated, h.visible)) (λ i. chars))).held a q in
-                      ((z.1 l p g).1, record { evaluated = z.0.evaluated ∙ h.evaluated; visible = z.0.names tt h.visible }),
+                      ((z.1 l p g).1, record { evaluated = z.0.evaluated ∙ h.evaluated; visible = z.0.names tt v os h.visible }),
                   k.2,
                 ),
           )
+
+  pub valued-gives : (e : ExpressionTree) → HasCharacters e → (s : State) → Gives ⊥ v [] U s (Behind v s (λ os x. IsOperand U v os x)) (valued e s)
+  valued-gives e chars s =
+      gives-weaker U ⊥ U U v [] s (Behind v s (λ os x. IsOperand U v os x)) (Behind v s (λ os x. IsOperand U v os x)) (valued e s) (λ f. absurd f) (λ p. p) (λ a q. q) (valued-everywhere e chars s)
 
   -- 6.8.4.1p1, 6.8.5p2: a condition
   pub condition-gives : (e : ExpressionTree) → HasCharacters e → (s : State) → Gives ⊥ v [] U s (Behind v s (λ os x. IsCondition v os x)) (condition e s)

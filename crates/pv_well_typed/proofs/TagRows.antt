@@ -20,10 +20,10 @@ use Rattle.pv_well_typed.specs.ProperStates.{IsMember, IsTagMeaning, IsProperSta
 use Rattle.pv_well_typed.proofs.Operands.{some-same}
 use Rattle.pv_well_typed.proofs.PrimaryRows.{last-at, each-at, fits-read}
 use Rattle.pv_well_typed.proofs.UnaryRows.{both-true}
-use Rattle.pv_well_typed.proofs.Changes.{each-set, each-bound, more_heading, more_filed, made_entry, tag-meaning, inner-tag, bind-proper, bind-tag-proper, bind-visible, bind-tag-visible, heading-later, heading-proper, filed-later, filed-proper, completed-later, completed-proper}
+use Rattle.pv_well_typed.proofs.Changes.{find-bound, each-set, each-bound, more_heading, more_filed, made_entry, tag-meaning, inner-tag, bind-proper, bind-tag-proper, bind-visible, bind-tag-visible, heading-later, heading-proper, filed-later, filed-proper, completed-later, completed-proper}
 use Rattle.pv_well_typed.proofs.Moving.{IsKnownMeaning, AreKnownNames, Orderly, HasMade, none-made, Moves, Gives, same-outer, set-outer, same-moves, then-moves, gives-none, gives-some, gives-here, gives-if, gives-from}
 
-bits-equal : (a b : Bool) → beq a b ≡ true → a ≡ b
+pub bits-equal : (a b : Bool) → beq a b ≡ true → a ≡ b
 bits-equal true true h = refl
 bits-equal false false h = refl
 bits-equal true false h = absurd cc
@@ -63,14 +63,16 @@ bound-tag-orderly n m s h = record {
 module _ (F : Type 0) (v : WholeUnit) (os : List ℕ) where
   -- ---- changes of the state
 
-  pub bind-moves : (n : ℕ) (m : Meaning) (s : State) → (F → IsVisible v os m) → IsKnownMeaning (length s.unit.functions) m → Moves F v os s (bind n m s)
+  pub bind-moves : (n : ℕ) (m : Meaning) (s : State) → (F → (w : WholeUnit) (ps : List ℕ) → IsVisible w ps m) → IsKnownMeaning (length s.unit.functions) m → Moves F v os s (bind n m s)
   bind-moves n m s h known = record {
     later = λ l. record { unit = l.unit; used = l.used };
-    outer = set-outer s.scopes (record (innermost s.scopes) { names = bound n m (innermost s.scopes).names });
+    outer = set-outer s.scopes (record (innermost s.scopes) { names = bound n m (innermost s.scopes).names }) (λ k h. find-bound n k m (innermost s.scopes).names h);
     grows = ([], sym (append-nil (env s)));
-    names = λ f k. bind-visible v os n m s (h f) k;
+    names = λ f w ps k. bind-visible w ps n m s (h f w ps) k;
     evaluated = refl;
     functions = refl;
+    spelled = refl;
+    noted = (refl, refl);
     orderly = λ k. bound-orderly n m s known k;
     count = omega arith;
     older = λ o lt. refl;
@@ -79,30 +81,34 @@ module _ (F : Type 0) (v : WholeUnit) (os : List ℕ) where
   pub bind-tag-moves : (n : ℕ) (m : TagMeaning) (s : State) → Moves F v os s (bind_tag n m s)
   bind-tag-moves n m s = record {
     later = λ l. record { unit = l.unit; used = l.used };
-    outer = set-outer s.scopes (record (innermost s.scopes) { tags = bound n m (innermost s.scopes).tags });
+    outer = set-outer s.scopes (record (innermost s.scopes) { tags = bound n m (innermost s.scopes).tags }) (λ k h. h);
     grows = ([], sym (append-nil (env s)));
-    names = λ f k. bind-tag-visible v os n m s k;
+    names = λ f w ps k. bind-tag-visible w ps n m s k;
     evaluated = refl;
     functions = refl;
+    spelled = refl;
+    noted = (refl, refl);
     orderly = λ k. bound-tag-orderly n m s k;
     count = omega arith;
     older = λ o lt. refl;
   }
 
   heading-moves : (x : Heading) (s : State) → Moves F v os s (more_heading x s)
-  heading-moves x s = record { later = heading-later v x s; outer = same-outer s.scopes; grows = ([], sym (append-nil (env s))); names = λ f k. k; evaluated = refl; functions = refl; orderly = λ h. h; count = omega arith; older = λ o lt. refl }
+  heading-moves x s = record { later = heading-later v x s; outer = same-outer s.scopes; grows = ([], sym (append-nil (env s))); names = λ f w ps k. k; evaluated = refl; functions = refl; spelled = refl; noted = (refl, refl); orderly = λ h. h; count = omega arith; older = λ o lt. refl }
 
   filed-moves : (t : Ty) (s : State) → Moves F v os s (more_filed t s)
-  filed-moves t s = record { later = filed-later v t s; outer = same-outer s.scopes; grows = ([], sym (append-nil (env s))); names = λ f k. k; evaluated = refl; functions = refl; orderly = λ h. h; count = omega arith; older = λ o lt. refl }
+  filed-moves t s = record { later = filed-later v t s; outer = same-outer s.scopes; grows = ([], sym (append-nil (env s))); names = λ f w ps k. k; evaluated = refl; functions = refl; spelled = refl; noted = (refl, refl); orderly = λ h. h; count = omega arith; older = λ o lt. refl }
 
   completed-moves : (k : ℕ) (u : Bool) (ms : List Named) (s : State) → Moves F v os s (with_done u k ms s)
   completed-moves k u ms s = record {
     later = completed-later v (record { tag = k; union = u; members = ms }) s;
     outer = same-outer s.scopes;
     grows = (made_entry s.unit.completed (record { tag = k; union = u; members = ms }) ∷ [], layouts-push s.unit.completed (record { tag = k; union = u; members = ms }));
-    names = λ f h. h;
+    names = λ f w ps h. h;
     evaluated = refl;
     functions = refl;
+    spelled = refl;
+    noted = (refl, refl);
     orderly = λ h. h;
     count = omega arith;
     older = λ o lt. refl;
@@ -233,4 +239,4 @@ module _ (F : Type 0) (v : WholeUnit) (os : List ℕ) where
 
       by : Fits Int k → (b : Bool) → Gives F v os P s IsAny (and_then (if b then None else Some (bind n (ConstantOf k) s)) (give (Some (k +ℤ pos 1))))
       by h true = gives-none F v os P s IsAny
-      by h false = gives-some F v os P s IsAny (record { value = k +ℤ pos 1; state = bind n (ConstantOf k) s }) (bind-moves n (ConstantOf k) s (λ f. tt) tt) (λ l p g. (bind-proper v n (ConstantOf k) s h g, tt, none-made v s (bind n (ConstantOf k) s) refl))
+      by h false = gives-some F v os P s IsAny (record { value = k +ℤ pos 1; state = bind n (ConstantOf k) s }) (bind-moves n (ConstantOf k) s (λ f w ps. tt) tt) (λ l p g. (bind-proper v n (ConstantOf k) s h g, tt, none-made v s (bind n (ConstantOf k) s) refl))

@@ -35,25 +35,25 @@ set-other z (x ∷ xs) zero (suc j) y apart = refl
 set-other z (x ∷ xs) (suc i) zero y apart = refl
 set-other z (x ∷ xs) (suc i) (suc j) y apart = set-other z xs i j y (λ e. apart (ap suc e))
 
-differ : (i j : ℕ) → (i == j) ≡ false → i ≡ j → ⊥
+pub differ : (i j : ℕ) → (i == j) ≡ false → i ≡ j → ⊥
 differ i j e q = let both : true ≡ false = sym (eq-eqb i j q) ∙ e in absurd cc
 
 -- ---- 6.2.7p3: a composite type has the same values as either of the two
 
-composite-like : (t u : Ty) → AreLike (composite t u) t
+pub composite-like : (t u : Ty) → AreLike (composite t u) t
 composite-like (PointerTo t) (PointerTo u) = λ env w. ((λ h. h), (λ h. h))
 composite-like (ArrayOf t m) (ArrayOf u n) = λ env w. ((λ h. absurd h), (λ h. absurd h))
 composite-like (FunctionTy t ts c) (FunctionTy u us d) = λ env w. ((λ h. absurd h), (λ h. absurd h))
 composite-like (ConstOf t) (ConstOf u) = composite-like t u
 composite-like _ _ = λ env w. ((λ h. h), (λ h. h))
 
-like-then : (t u w : Ty) → AreLike t u → AreLike u w → AreLike t w
+pub like-then : (t u w : Ty) → AreLike t u → AreLike u w → AreLike t w
 like-then t u w h g env x = ((λ k. (g env x).0 ((h env x).0 k)), (λ k. (h env x).1 ((g env x).1 k)))
 
-like-back : (t u : Ty) → AreLike t u → AreLike u t
+pub like-back : (t u : Ty) → AreLike t u → AreLike u t
 like-back t u h env x = ((h env x).1, (h env x).0)
 
-composites-like : (ts us ws : Tys) → AreAllLike (composites ts us) ws → AreAllLike ts ws
+pub composites-like : (ts us ws : Tys) → AreAllLike (composites ts us) ws → AreAllLike ts ws
 composites-like (MoreTys t ts) (MoreTys u us) (MoreTys w ws) h = (like-then t (composite t u) w (like-back (composite t u) t (composite-like t u)) h.0, composites-like ts us ws h.1)
 composites-like (MoreTys t ts) (MoreTys u us) NoTys h = absurd h
 composites-like (MoreTys t ts) NoTys ws h = h
@@ -202,7 +202,7 @@ module _ (v : WholeUnit) where
   function-parts : (r q : Ty) (ts qs : Tys) (c : Bool) → FunctionTy r ts c ≡ FunctionTy q qs false → (r ≡ q) × (ts ≡ qs) × (c ≡ false)
   function-parts r q ts qs c e = (cc, cc, cc)
 
-  composite-signs : (t u : Ty) → Signs t (composite t u)
+  pub composite-signs : (t u : Ty) → Signs t (composite t u)
   composite-signs (FunctionTy r ts c) (FunctionTy s us d) w h q qs e =
       let p = function-parts r q ts qs c e in
       let k = composite-signed w r s ts us (h (composite r s) (composites ts us) (ap (FunctionTy (composite r s) (composites ts us)) p.2)) in

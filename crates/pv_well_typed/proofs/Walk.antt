@@ -10,13 +10,14 @@ use Rattle.pv_typed.specs.Known.{Each}
 use Rattle.pv_typed.proofs.Each.{each_append, each_weaker}
 use Rattle.pv_typed.specs.Adding.{with_literal}
 use Rattle.pv_typed.specs.TypedTree.{TypedTree, Constant, Object, type_of}
-use Rattle.pv_typed.specs.TypedUnits.{WholeUnit, TypedObject, TypedFunction, Literal, no_object, no_literal, object_at}
+use Rattle.pv_typed.specs.TypedUnits.{WholeUnit, TypedObject, TypedFunction, Literal, no_object, no_function, no_literal, object_at}
 use Rattle.pv_typed.specs.declared.nodes.IncrementOperator.TheVariants as step_word
 use Rattle.pv_check.specs.Assignment.{assign_of, comma_of}
 use Rattle.pv_check.specs.Binary.{binary_of}
 use Rattle.pv_check.specs.Conditional.{conditional_of}
 use Rattle.pv_check.specs.Derivations.{size_of, Parameter as OneParameter, Steps, Derivation, ByPointer, ByArray, ByFunction, no_steps, with_step, declared_name, optional_name, may_be_variadic, is_printf_declarator, Signature, proper, parameter_types, with_function, with_parameter, derived, adjusted}
 use Rattle.pv_check.specs.Postfix.{subscript_of, member_from, arrow_from, increment_of}
+use Rattle.pv_check.specs.Library.{library_named}
 use Rattle.pv_check.specs.Primary.{with_use, used_function, designator_of, is_of_library, name_of, integer_of, character_of, bytes_of_text, joined, text_of}
 use Rattle.pv_check.specs.Rows.{operand, integer_value, known_size, by_pointer, by_array, named_type, parameter_of, with_argument, cast, unevaluated, after_sizeof, function_in, callee, with_callee, Callee, ByName, ByValue, pointed_callee, called_by, call_by, plain, by_function, member_of}
 use Rattle.pv_check.specs.Sorts.{is_function}
@@ -41,7 +42,8 @@ use Rattle.pv_well_typed.proofs.ConditionalRows.{conditional-row}
 use Rattle.pv_well_typed.proofs.CallRows.{named-row, through-row}
 use Rattle.pv_well_typed.proofs.PrimaryRows.{number-row, character-row, object-row, function-row, text-row, each-last, each-at, last-at, beyond-at}
 use Rattle.pv_well_typed.proofs.Changes.{more_object, before-at, look-each, name-meaning, visible-meaning, use-later, use-proper, text-later, text-proper, object-later, object-proper, bind-proper, entered-proper, members-later}
-use Rattle.pv_well_typed.proofs.Moving.{Outer, Grows, IsKnownMeaning, IsKnownUse, AreBytes, IsOrderly, Orderly, HasMade, none-made, Moves, Gives, same-outer, same-moves, then-moves, then-grows, gives-none, gives-some, gives-here, gives-then, gives-value, gives-if, gives-unless, gives-from, gives-weaker, gives-operand, gives-integer, left-moves, left-proper}
+use Rattle.pv_well_typed.specs.Sources.{AreBytes}
+use Rattle.pv_well_typed.proofs.Moving.{Outer, Grows, IsKnownMeaning, IsKnownUse, IsOrderly, Orderly, HasMade, none-made, Moves, Gives, same-outer, same-moves, then-moves, then-grows, gives-none, gives-some, gives-here, gives-then, gives-value, gives-if, gives-unless, gives-from, gives-weaker, gives-operand, gives-integer, left-moves, left-proper}
 use Rattle.pv_well_typed.proofs.DeclaredTypes.{from-some, HasProperName, keyword-proper, type-proper, plain-proper, IsPlainStep, IsPlainBehind, plain-more, behind-more, derived-proper, derived-named, adjusted-proper}
 use Rattle.pv_well_typed.proofs.TagRows.{bind-moves, HasWord, HasProperType, tag-gives, opened-gives, HasMembers, some-members-gives, MayComplete, completed-gives, opened-then, closed-gives, enumerated-gives}
 
@@ -77,7 +79,7 @@ abbrev pub IsAnything : {A : Type 0} → After A → Type 0
 IsAnything a = Unit {0}
 
 seen-behind : (E : Type 0) (v : WholeUnit) (os : List ℕ) (s t : State) → Moves (Unit {0}) v os s t → Sees E v os s → Sees E v os t
-seen-behind E v os s t m h i = (m.evaluated ∙ (h i).0, m.names tt (h i).1)
+seen-behind E v os s t m h i = (m.evaluated ∙ (h i).0, m.names tt v os (h i).1)
 
 -- 6.5.2.2p1: a function that is called by its name
 called-function : (s : State) → ((n f : ℕ) → look s.scopes n ≡ Some (FunctionName f) → f < length s.unit.functions) → (e : ExpressionTree) (f : ℕ) → callee s.scopes e ≡ Some f → f < length s.unit.functions
@@ -159,8 +161,8 @@ file-same : (ss ts : List Scope) → Outer ss ts → (length ts == 1) ≡ (lengt
 file-same ss ts o = ap (λ n. n == 1) o.deep
 
 -- a scope within others is not that of the file
-inner-scope : (s : State) → 0 < length s.scopes → is_file_scope (entered s) ≡ false
-inner-scope s h = by (is_file_scope (entered s)) refl
+pub inner-file : (s : State) → 0 < length s.scopes → is_file_scope (entered s) ≡ false
+inner-file s h = by (is_file_scope (entered s)) refl
   where
     by : (b : Bool) → (length (s.scopes ++ (no_scope ∷ [])) == 1) ≡ b → b ≡ false
     by false e = refl
@@ -170,15 +172,15 @@ inner-scope s h = by (is_file_scope (entered s)) refl
         absurd (omega (arith, l, one, h))
 
 -- 6.9p5: an expression names something
-used-orderly : (s : State) (x : Used) → IsKnownUse (length s.unit.functions) x → Orderly s → Orderly (with_use s x)
-used-orderly s x k h = record { names = h.names; uses = each_append (IsKnownUse (length s.unit.functions)) s.used (x ∷ []) h.uses (k, tt); sources = h.sources; written = h.written; ended = h.ended }
+used-orderly : (s : State) (x : Used) → IsKnownUse s.unit.names s.unit.functions x → Orderly s → Orderly (with_use s x)
+used-orderly s x k h = record { names = h.names; uses = each_append (IsKnownUse s.unit.names s.unit.functions) s.used (x ∷ []) h.uses (k, tt); sources = h.sources; written = h.written; ended = h.ended }
 
 known-name : (s : State) → Orderly s → (n f : ℕ) → look s.scopes n ≡ Some (FunctionName f) → f < length s.unit.functions
 known-name s h n f e = look-each names_in (IsKnownMeaning (length s.unit.functions)) n s.scopes h.names (FunctionName f) e
 
-known-function : (b : Bool) (n f : ℕ) → f < n → IsKnownUse n (used_function b f)
-known-function true n f h = h
-known-function false n f h = h
+known-function : (b : Bool) (ns : List (List ℕ)) (fs : List TypedFunction) (f : ℕ) → f < length fs → library_named (get_or ns (get_or fs f no_function).name []) ≡ None → IsKnownUse ns fs (used_function b f)
+known-function true ns fs f h e = h
+known-function false ns fs f h e = (h, e)
 
 -- 6.4.5p6: a string literal, with its zero
 pub ended-more : (xs : List Literal) (x : Literal) (is : List ℕ) → Each (λ l. 1 ≤ length (get_or xs l no_literal).bytes) is → Each (λ l. 1 ≤ length (get_or (xs ++ (x ∷ [])) l no_literal).bytes) is
@@ -192,7 +194,7 @@ ended-more xs x is h = each_weaker (λ l. 1 ≤ length (get_or xs l no_literal).
     by l q (inr le) = let none = ap (λ (y : Literal). length y.bytes) (beyond-at no_literal xs l le) in absurd (omega (arith, q, none))
 
 pub written-orderly : (line : ℕ) (bytes : List ℕ) (s : State) (instance : Bool) → (Orderly s → AreBytes bytes × (1 ≤ length bytes)) → Orderly s
-    → IsOrderly (length s.unit.functions) s.scopes s.used s.texts (with_literal s.unit (record { bytes = bytes; line = line }) instance).literals (with_literal s.unit (record { bytes = bytes; line = line }) instance).instances
+    → IsOrderly s.unit.names s.unit.functions s.scopes s.used s.texts (with_literal s.unit (record { bytes = bytes; line = line }) instance).literals (with_literal s.unit (record { bytes = bytes; line = line }) instance).instances
 written-orderly line bytes s instance good h =
     let g = good h in
     let x : Literal = record { bytes = bytes; line = line } in
@@ -234,17 +236,19 @@ module _ (v : WholeUnit) (os : List ℕ) (done : IsFinished v) where
   any-premise : {A : Type 0} (F P : Type 0) (s : State) (Q : After A → Type 0) (o : Option (After A)) → Gives F v os U s Q o → Gives F v os P s Q o
   any-premise F P s Q o h = gives-weaker F F U P v os s Q Q o (λ f. f) (λ p. tt) (λ a q. q) h
 
-  use-moves : (F : Type 0) (s : State) (x : Used) → (Orderly s → IsKnownUse (length s.unit.functions) x) → Moves F v os s (with_use s x)
-  use-moves F s x known = record { later = use-later v s x; outer = same-outer s.scopes; grows = ([], sym (append-nil (env s))); names = λ f h. h; evaluated = refl; functions = refl; orderly = λ h. used-orderly s x (known h) h; count = omega arith; older = λ o lt. refl }
+  use-moves : (F : Type 0) (s : State) (x : Used) → (Orderly s → IsKnownUse s.unit.names s.unit.functions x) → Moves F v os s (with_use s x)
+  use-moves F s x known = record { later = use-later v s x; outer = same-outer s.scopes; grows = ([], sym (append-nil (env s))); names = λ f w ps h. h; evaluated = refl; functions = refl; spelled = refl; noted = (refl, refl); orderly = λ h. used-orderly s x (known h) h; count = omega arith; older = λ o lt. refl }
 
   pub object-moves : (F : Type 0) (x : TypedObject) (s : State) → Moves F v os s (more_object x s)
   object-moves F x s = record {
     later = object-later v x s;
     outer = same-outer s.scopes;
     grows = ([], sym (append-nil (env s)));
-    names = λ f h. h;
+    names = λ f w ps h. h;
     evaluated = refl;
     functions = refl;
+    spelled = refl;
+    noted = (refl, refl);
     orderly = λ h. h;
     count = let l = length-append s.unit.objects (x ∷ []) in omega (arith, l);
     older = λ o lt. before-at no_object s.unit.objects (x ∷ []) o lt;
@@ -294,7 +298,7 @@ module _ (v : WholeUnit) (os : List ℕ) (done : IsFinished v) where
       (λ l p g. (use-proper v s (UsedObject o) g, object-row E v os line o s g l (λ i. visible-meaning v os s.scopes (sees i).1 n (ObjectName o) e), none-made v s (with_use s (UsedObject o)) refl))
   name-gives E line n s sees (Some (FunctionName f)) e =
       gives-unless U v os U s (IsTree E v os) (is_of_library s f) (Some (designator_of line f s))
-      (λ q. gives-some U v os U s (IsTree E v os) (designator_of line f s) (use-moves U s (used_function s.unevaluated f) (λ h. known-function s.unevaluated (length s.unit.functions) f (known-name s h n f e)))
+      (λ q. gives-some U v os U s (IsTree E v os) (designator_of line f s) (use-moves U s (used_function s.unevaluated f) (λ h. known-function s.unevaluated s.unit.names s.unit.functions f (known-name s h n f e) (no-library (library_of s.unit f) q)))
       (λ l p g. (
         use-proper v s (used_function s.unevaluated f) g,
         function-row E v os line f s g (name-meaning v s g n (FunctionName f) e) (no-library (library_of s.unit f) q) (λ i. (sees i).0) l,
@@ -308,7 +312,7 @@ module _ (v : WholeUnit) (os : List ℕ) (done : IsFinished v) where
   text-gives : (E : Type 0) (line : ℕ) (bytes : List ℕ) (s : State) → Sees E v os s → (Orderly s → AreBytes bytes × (1 ≤ length bytes)) → Gives U v os U s (IsTree E v os) (Some (text_of line bytes s))
   text-gives E line bytes s sees good =
       gives-some U v os U s (IsTree E v os) (text_of line bytes s)
-      (record { later = text-later v line bytes s; outer = same-outer s.scopes; grows = ([], sym (append-nil (env s))); names = λ f h. h; evaluated = refl; functions = refl; orderly = λ h. written-orderly line bytes s (not s.unevaluated) good h; count = omega arith; older = λ o lt. refl })
+      (record { later = text-later v line bytes s; outer = same-outer s.scopes; grows = ([], sym (append-nil (env s))); names = λ f w ps h. h; evaluated = refl; functions = refl; spelled = refl; noted = (refl, refl); orderly = λ h. written-orderly line bytes s (not s.unevaluated) good h; count = omega arith; older = λ o lt. refl })
       (λ l p g. (text-proper v line bytes s g, text-row E v os line bytes s done (λ i. (sees i).0) l, none-made v s (text_of line bytes s).state refl))
 
   -- ---- 6.5.2.2: calls
@@ -360,6 +364,8 @@ module _ (v : WholeUnit) (os : List ℕ) (done : IsFinished v) where
     names = m.names;
     evaluated = refl;
     functions = m.functions;
+    spelled = m.spelled;
+    noted = m.noted;
     orderly = λ h. after-orderly s t (m.orderly (before-orderly s h));
     count = m.count;
     older = m.older;
@@ -396,7 +402,7 @@ module _ (v : WholeUnit) (os : List ℕ) (done : IsFinished v) where
       by (Some ps) =
           gives-some U v os (AreBefore file c x) s (λ a. IsSteps file v a.value) (record { value = with_function x (made_signature c (innermost a.state.scopes) ps); state = left a.state }) (left-moves ⊥ U v os s a.state r.0)
           (λ l p g.
-          let z = r.1 (record { unit = l.unit; used = l.used }) (inner-scope s g.some) (entered-proper v s g) in
+          let z = r.1 (record { unit = l.unit; used = l.used }) (inner-file s g.some) (entered-proper v s g) in
           (left-proper v s a.state g.some r.0.outer z.0, steps-function file c v x (made_signature c (innermost a.state.scopes) ps) p.1 refl p.0, z.2))
 
   -- 6.7.6.3p7: one parameter more

@@ -1,4 +1,5 @@
 pub mod Proper
 pub mod Later
 pub mod Characters
+pub mod Sources
 pub mod ProperStates

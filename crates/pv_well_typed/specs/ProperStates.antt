@@ -20,9 +20,14 @@ abbrev pub IsLibraryType : WholeUnit → Library → Ty → Type 0
 IsLibraryType v l (FunctionTy t ts variadic) = IsResultOf l t × IsValueOrVoid t × IsProper v t
 IsLibraryType v l _ = ⊥
 
--- 6.9.1, 7.1.4p2: the type of a function of the program, or of the library
+-- our choice: a type without `...`
+abbrev pub IsFixed : Ty → Type 0
+IsFixed (FunctionTy t ts variadic) = variadic ≡ false
+IsFixed _ = Unit {0}
+
+-- 6.9.1, 7.1.4p2: the type of a function of the program, which has no `...`, or of the library
 abbrev pub HasFunctionType : WholeUnit → Option Library → Ty → Type 0
-HasFunctionType v None t = IsProper v t
+HasFunctionType v None t = IsProper v t × IsFixed t
 HasFunctionType v (Some l) t = IsLibraryType v l t
 
 -- 6.7.2.1p3: a member has a complete type
