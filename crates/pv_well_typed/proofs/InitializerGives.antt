@@ -43,8 +43,7 @@ use Rattle.pv_well_typed.proofs.Operands.{IsOperand, has-type, some-same}
 use Rattle.pv_well_typed.proofs.Conversions.{IsAssigned, assigned-row}
 use Rattle.pv_well_typed.proofs.Changes.{literal-later}
 use Rattle.pv_well_typed.proofs.PrimaryRows.{beyond-at}
-use Rattle.pv_well_typed.specs.Sources.{AreBytes}
-use Rattle.pv_well_typed.proofs.Moving.{same-outer, Orderly, Grown, HasMade, none-made, grown-before, Moves, Gives, same-moves, gives-none, gives-some, gives-then, gives-weaker}
+use Rattle.pv_well_typed.proofs.Moving.{IsText, same-outer, Orderly, Grown, HasMade, none-made, grown-before, Moves, Gives, same-moves, gives-none, gives-some, gives-then, gives-weaker}
 use Rattle.pv_well_typed.proofs.Walk.{U, written-orderly, text-bytes}
 use Rattle.pv_well_typed.proofs.StatementRows.{Here, Behind, valued-everywhere}
 use Rattle.pv_well_typed.proofs.BlockRows.{GivenIn}
@@ -264,7 +263,7 @@ module _ (v : WholeUnit) (done : IsFinished v) where
 
   -- ---- string literals that fill an array (6.7.9p14)
 
-  text-moves : (line : ℕ) (bytes : List ℕ) (s : State) → (Orderly s → AreBytes bytes × (1 ≤ length bytes)) → Moves U v [] s (filling_text line bytes s).state
+  text-moves : (line : ℕ) (bytes : List ℕ) (s : State) → (Orderly s → IsText bytes) → Moves U v [] s (filling_text line bytes s).state
   text-moves line bytes s good = record {
     later = λ l. record { unit = literal-later v s.unit (record { bytes = bytes; line = line }) false l.unit; used = l.used };
     outer = same-outer s.scopes;
@@ -299,7 +298,7 @@ module _ (v : WholeUnit) (done : IsFinished v) where
   filled-proper es (FunctionTy t ts c) n q text room = absurd cc
   filled-proper es (ConstOf t) n q text room = absurd cc
 
-  fill-gives : (lasting : Bool) (p : Part) (line : ℕ) (bytes : List ℕ) (s : State) → is_text p.t ≡ true → (Orderly s → AreBytes bytes × (1 ≤ length bytes)) → Gives U v [] (IsProper v p.t) s (StoredIn lasting p s) (lowered (filled_with p line (filling_text line bytes s)))
+  fill-gives : (lasting : Bool) (p : Part) (line : ℕ) (bytes : List ℕ) (s : State) → is_text p.t ≡ true → (Orderly s → IsText bytes) → Gives U v [] (IsProper v p.t) s (StoredIn lasting p s) (lowered (filled_with p line (filling_text line bytes s)))
   fill-gives lasting p line bytes s text good = by (has_room (bare p.t) (length bytes)) refl
     where
       by : (b : Bool) → has_room (bare p.t) (length bytes) ≡ b

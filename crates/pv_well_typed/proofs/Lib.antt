@@ -14,6 +14,7 @@ pub mod PrimaryRows
 pub mod Changes
 pub mod Moving
 pub mod SourceCharacters
+pub mod Sources
 pub mod DeclaredTypes
 pub mod TagRows
 pub mod Walk
@@ -37,3 +38,4 @@ pub mod FileDefinitions
 pub mod UnitEnd
 pub mod TokenCharacters
 pub mod SourceTokens
+pub mod LexedTokens

@@ -1,5 +1,5 @@
 -- What typing does to its state, and what it gives (C17 6.5, 6.7): a unit that is later than the state behind is later than the one before.
-use Rattle.std.proofs.Common.{◌≡◌, ℕ, zero, suc, ◌<◌, ◌≤◌, ◌-◌, ◌+◌, Bool, true, false, Option, Some, None, is_some, List, [], ◌∷◌, ◌++◌, length, take, set, get_or, refl, sym, ap, subst, ◌∙◌, arith, length-append, length-set, append_assoc, append-nil, ◌⊎◌, inl, inr}
+use Rattle.std.proofs.Common.{◌≡◌, ℕ, zero, suc, ◌<◌, ◌≤◌, ◌-◌, ◌+◌, ◌^◌, Bool, true, false, Option, Some, None, is_some, List, [], ◌∷◌, ◌++◌, length, take, set, get_or, refl, sym, ap, subst, ◌∙◌, arith, length-append, length-set, append_assoc, append-nil, ◌⊎◌, inl, inr}
 use Rattle.std.specs.Prelude.{if◌then◌else◌}
 use Rattle.pv_types.specs.Layouts.{Entry, Layout, up_to, layout_in, is_complete_in}
 use Rattle.pv_types.proofs.LayoutLaws.{layout-append, complete-append}
@@ -16,7 +16,7 @@ use Rattle.pv_check.specs.Values.{value_of}
 use Rattle.pv_typed.specs.Constants.{integer}
 use Rattle.pv_guards.specs.TypedStatements.{IsConstant}
 use Rattle.pv_well_typed.specs.Later.{IsFinished, Later}
-use Rattle.pv_well_typed.specs.Sources.{AreBytes}
+use Rattle.pv_well_typed.proofs.Sources.{AreBytes, letters}
 use Rattle.pv_well_typed.specs.ProperStates.{IsScope, IsProperState, AreVisible}
 use Rattle.pv_well_typed.proofs.Changes.{take-set}
 use Rattle.pv_well_typed.proofs.Operands.{IsExpression, IsOperand, value-row, some-same}
@@ -79,12 +79,22 @@ IsKnownUse ns fs (UsedObject o) = Unit {0}
 IsKnownUse ns fs (UsedFunction f) = f < length fs
 IsKnownUse ns fs (PointedFunction f) = (f < length fs) × (library_named (get_or ns (get_or fs f no_function).name []) ≡ None)
 
+-- 6.4.5, 5.2.4.1p1: the texts of a source are bytes, fewer than 2 ^ 32; so it is with a string literal that is made of some of them, and its zero
+abbrev pub AreTexts : List (List ℕ) → Type 0
+AreTexts texts = Each AreBytes texts × (letters texts < 2 ^ 32)
+
+abbrev pub IsText : List ℕ → Type 0
+IsText bytes = AreBytes bytes × (1 ≤ length bytes) × (length bytes ≤ 2 ^ 32)
+
+abbrev pub IsWritten : Literal → Type 0
+IsWritten x = AreBytes x.bytes × (length x.bytes ≤ 2 ^ 32)
+
 -- functions that names stand for and that expressions named, the texts of the source, and string literals, of which an instance has its zero (6.4.5p6)
 pub record IsOrderly (spelling : List (List ℕ)) (declared : List TypedFunction) (scopes : List Scope) (used : List Used) (texts : List (List ℕ)) (literals : List Literal) (instances : List ℕ) : Type 0 where
   pub names : Each (AreKnownNames (length declared)) scopes
   pub uses : Each (IsKnownUse spelling declared) used
-  pub sources : Each AreBytes texts
-  pub written : Each (λ (x : Literal). AreBytes x.bytes) literals
+  pub sources : AreTexts texts
+  pub written : Each IsWritten literals
   pub ended : Each (λ l. 1 ≤ length (get_or literals l no_literal).bytes) instances
 
 abbrev pub Orderly : State → Type 0

@@ -1,6 +1,6 @@
 -- A source's table of tokens (C17 6.4): its identifiers are different ones, its texts are bytes, and trees that spell it have character
 -- constants that are `int`s; so the unit that comes of it is well typed.
-use Rattle.std.proofs.Common.{◌≡◌, ℕ, zero, suc, ◌<◌, ◌≤◌, ◌+◌, Bool, true, false, ◌&&◌, ◌||◌, Option, Some, None, List, [], ◌∷◌, ◌++◌, length, drop, map, get_or, option_map, nat_eq, refl, sym, ap, subst, ◌∙◌, arith, length-append, ◌⊎◌, inl, inr}
+use Rattle.std.proofs.Common.{◌≡◌, ℕ, zero, suc, ◌<◌, ◌≤◌, ◌+◌, ◌^◌, Bool, true, false, ◌&&◌, ◌||◌, Option, Some, None, List, [], ◌∷◌, ◌++◌, length, drop, map, get_or, option_map, nat_eq, refl, sym, ap, subst, ◌∙◌, arith, length-append, ◌⊎◌, inl, inr}
 use Rattle.std.specs.Prelude.{if◌then◌else◌}
 use Rattle.std.specs.List.{list_any}
 use Rattle.std.specs.Cmp.Lexicographic.{pointwise}
@@ -16,17 +16,19 @@ use Rattle.pv_tree.specs.Spelling.{declaration_tokens}
 use Rattle.pv_tree.specs.Syntax.{DeclarationTree}
 use Rattle.pv_tree.specs.Units.{SpellExternals, SpellUnit, no_types, with_types}
 use Rattle.pv_typed.specs.Known.{Each}
-use Rattle.pv_typed.specs.TypedUnits.{WholeUnit}
+use Rattle.pv_types.specs.Layouts.{AllFill, layout_in}
+use Rattle.pv_types.specs.Ty.{StructTag}
+use Rattle.pv_typed.specs.TypedUnits.{WholeUnit, layouts}
 use Rattle.pv_typed.proofs.Each.{each_append, each_left, each_right}
 use Rattle.pv_unit.specs.Identifiers.{HasIdentifiers}
 use Rattle.pv_unit.specs.Units.{Typed, UnitComes}
 use Rattle.pv_guards.specs.TypedStatements.{IsTypedUnit}
-use Rattle.pv_well_typed.specs.Later.{IsFinished}
 use Rattle.pv_well_typed.proofs.SourceCharacters.{DeclarationCharacters}
-use Rattle.pv_well_typed.specs.Sources.{AreBytes, IsSourceToken}
+use Rattle.pv_well_typed.proofs.Sources.{AreBytes, letters, IsSourceToken}
 use Rattle.pv_well_typed.proofs.Operands.{some-same}
 use Rattle.pv_well_typed.proofs.PrimaryRows.{last-at}
 use Rattle.pv_well_typed.proofs.Changes.{before-at}
+use Rattle.pv_well_typed.proofs.Moving.{AreTexts}
 use Rattle.pv_well_typed.proofs.TokenCharacters.{IsIntToken, declaration-ints}
 use Rattle.pv_well_typed.proofs.UnitEnd.{AreApart, typed-unit}
 
@@ -131,7 +133,8 @@ spelled-ints types (d ∷ ds) here left s h =
     )
 
 -- ---- 6.9: a unit that comes of a source's tokens is well typed
-pub typed-source : (t : Table) (ss : List Spelt) (ds : List DeclarationTree) (v : WholeUnit) → Tells t ss → Each (λ (s : Spelt). IsSourceToken s.said) ss → SpellUnit t.tokens ds → UnitComes t ds (Typed v) → HasIdentifiers t v → IsFinished v → IsTypedUnit v
-typed-source t ss ds v tells said spelled comes identified done =
-    typed-unit t ds v comes identified done (subst AreApart (sym tells.names) (names-from-apart [] ss apart-none)) (subst (Each AreBytes) (sym tells.texts) (texts-bytes ss said))
+pub typed-source : (t : Table) (ss : List Spelt) (ds : List DeclarationTree) (v : WholeUnit) → Tells t ss → Each (λ (s : Spelt). IsSourceToken s.said) ss → letters (texts_of ss) < 2 ^ 32 → SpellUnit t.tokens ds → UnitComes t ds (Typed v)
+    → HasIdentifiers t v → AllFill (layouts v) → ((n : ℕ) → (layout_in (layouts v) (StructTag n)).size ≤ 2 ^ 32) → IsTypedUnit v
+typed-source t ss ds v tells said few spelled comes identified filled tags =
+    typed-unit t ds v comes identified filled tags (subst AreApart (sym tells.names) (names-from-apart [] ss apart-none)) (subst AreTexts (sym tells.texts) (texts-bytes ss said, few))
     (spelled-ints no_types ds t.tokens [] spelled (tokens-ints t.names t.texts t.tokens ss tells.tokens said))

@@ -1,5 +1,5 @@
 -- Translation units (C17 6.9): each step of typing one, and what the unit at its end has of all that was typed (6.9p5, 6.9.2).
-use Rattle.std.proofs.Common.{◌≡◌, ◌≢◌, ℕ, zero, suc, ◌<◌, ◌≤◌, ◌+◌, ◌==◌, Bool, true, false, not, ◌&&◌, ◌||◌, Option, Some, None, is_some, List, [], ◌∷◌, ◌++◌, length, take, get_or, option_map, refl, sym, ap, subst, ◌∙◌, arith, append-nil, ◌⊎◌, inl, inr}
+use Rattle.std.proofs.Common.{◌≡◌, ◌≢◌, ℕ, zero, suc, ◌<◌, ◌≤◌, ◌+◌, ◌^◌, ◌==◌, Bool, true, false, not, ◌&&◌, ◌||◌, Option, Some, None, is_some, List, [], ◌∷◌, ◌++◌, length, take, get_or, option_map, refl, sym, ap, subst, ◌∙◌, arith, append-nil, ◌⊎◌, inl, inr}
 use Rattle.std.proofs.lemmas.Bool.Decides.{nat_tests}
 use Rattle.std.proofs.lemmas.Bool.{eqb-true, eq-eqb}
 use Rattle.std.specs.Prelude.{if◌then◌else◌, nat_lt, nat_eq}
@@ -9,12 +9,12 @@ use Rattle.pv_layout.specs.Parts.{bare}
 use Rattle.pv_num.specs.declared.kinds.IntKind.TheVariants.{Int}
 use Rattle.pv_token.specs.Table.{Table}
 use Rattle.pv_tree.specs.Syntax.{DeclarationTree, Function as FunctionTree, Declaration, InitDeclarator, MemberDeclaration, Enumerator, Parameter, TypeName}
-use Rattle.pv_types.specs.Layouts.{is_complete_in}
+use Rattle.pv_types.specs.Layouts.{AllFill, layout_in, is_complete_in}
 use Rattle.pv_types.specs.Ty.{Ty, Tys, NoTys, MoreTys, VoidTy, IntTy, PointerTo, ArrayOf, StructTag, UnionTag, FunctionTy, ConstOf}
 use Rattle.pv_typed.specs.Known.{Each}
 use Rattle.pv_typed.specs.Mains.{main_text, literal_text, heap_text, named_main, first_main, main_of}
 use Rattle.pv_typed.proofs.Each.{each_weaker}
-use Rattle.pv_typed.specs.TypedUnits.{WholeUnit, TypedObject, TypedFunction, Literal, no_object, no_function, no_literal, layouts, object_at, function_at, name_at}
+use Rattle.pv_typed.specs.TypedUnits.{WholeUnit, TypedObject, TypedFunction, no_object, no_function, no_literal, layouts, object_at, function_at, name_at}
 use Rattle.pv_check.specs.Library.{library_named}
 use Rattle.pv_check.specs.State.{State, Used, UsedObject, UsedFunction, PointedFunction, and_then, env}
 use Rattle.pv_unit.specs.Definitions.{entity_type, is_finished, are_finished, may_end}
@@ -34,8 +34,7 @@ use Rattle.pv_well_typed.proofs.Operands.{some-same}
 use Rattle.pv_well_typed.proofs.UnaryRows.{both-true}
 use Rattle.pv_well_typed.proofs.PrimaryRows.{each-at, beyond-at}
 use Rattle.pv_well_typed.proofs.TagRows.{bits-equal}
-use Rattle.pv_well_typed.specs.Sources.{AreBytes}
-use Rattle.pv_well_typed.proofs.Moving.{IsKnownUse, Grown}
+use Rattle.pv_well_typed.proofs.Moving.{AreTexts, IsWritten, IsKnownUse, Grown}
 use Rattle.pv_well_typed.proofs.DeclaredTypes.{from-some}
 use Rattle.pv_well_typed.proofs.Walk.{U}
 use Rattle.pv_well_typed.proofs.StatementWalk.{count}
@@ -125,7 +124,7 @@ typed-whole ds u w e =
 
 -- ---- before the first declaration
 
-first-unit : (v : WholeUnit) (t : Table) → Each AreBytes t.texts → IsUnit v None (first t)
+first-unit : (v : WholeUnit) (t : Table) → AreTexts t.texts → IsUnit v None (first t)
 first-unit v t h = record {
   file = refl;
   evaluated = refl;
@@ -455,8 +454,8 @@ end-complete s (e ∷ es) h o i d = by (λ j q. end-complete s es (both-true (is
     by rest false q (inr j) d = rest j d
 end-complete s [] h o i d = absurd i
 
-module _ (t : Table) (ds : List DeclarationTree) (u : UnitState) (typed : typed_first ds (first t) ≡ Some u) (resolved : unresolved u.state u.entities ≡ None) (chars : Each DeclarationCharacters ds) (texts : Each AreBytes t.texts)
-    (ends : are_finished u.state u.entities ≡ true) (done : IsFinished (finished u)) (identified : HasIdentifiers t (finished u)) (different : AreApart t.names) (main : has_main u.state.unit ≡ true) where
+module _ (t : Table) (ds : List DeclarationTree) (u : UnitState) (typed : typed_first ds (first t) ≡ Some u) (resolved : unresolved u.state u.entities ≡ None) (chars : Each DeclarationCharacters ds) (texts : AreTexts t.texts)
+    (ends : are_finished u.state u.entities ≡ true) (filled : AllFill (layouts (finished u))) (small-tags : (n : ℕ) → (layout_in (layouts (finished u)) (StructTag n)).size ≤ 2 ^ 32) (identified : HasIdentifiers t (finished u)) (different : AreApart t.names) (main : has_main u.state.unit ≡ true) where
   abbrev v : WholeUnit
   v = finished u
 
@@ -466,18 +465,21 @@ module _ (t : Table) (ds : List DeclarationTree) (u : UnitState) (typed : typed_
   apart : (o : ℕ) → (object_at v o).name ≢ heap_name
   apart o = each-at (λ (x : TypedObject). x.name ≢ heap_name) no_object v.objects o (λ e. absurd cc) (each_weaker (λ (x : TypedObject). IsIdentifier t x.name) (λ (x : TypedObject). x.name ≢ heap_name) (λ (x : TypedObject) q. identifier-apart x.name q) v.objects identified.objects)
 
-  -- the same unit, without its functions: none of them has a body
+  -- the same unit, without its functions and string literals: none of them has a body, and none is large
   abbrev w : WholeUnit
-  w = record v { functions = [] }
+  w = record v { functions = []; literals = [] }
 
   w-fixed : AreFixed w
   w-fixed f r ts body e = absurd cc
 
   w-done : IsFinished w
-  w-done = record { filled = done.filled; small = done.small; texts = done.texts }
+  w-done = record { filled = filled; small = small-tags; texts = λ l. omega arith }
 
   first-run : IsUnit w None u
   first-run = (first-goes w w-done apart w-fixed ds (first t) u chars (first-unit w t texts) typed).unit
+
+  done : IsFinished v
+  done = record { filled = filled; small = small-tags; texts = λ l. (each-at IsWritten no_literal u.state.unit.literals l (tt, omega arith) first-run.orderly.written).1 }
 
   fixed : AreFixed v
   fixed f r ts body e =
@@ -585,7 +587,7 @@ module _ (t : Table) (ds : List DeclarationTree) (u : UnitState) (typed : typed_
         let body = main-body f e in
         let lt = there-by-body v.functions f body in
         (lt, body, (IntTy Int, (run.unit.functions f lt).main (main-has-name v.names v.functions f e), refl));
-    characters = λ l. each-at (λ (x : Literal). AreBytes x.bytes) no_literal v.literals l tt run.unit.orderly.written;
+    characters = λ l. (each-at IsWritten no_literal v.literals l (tt, omega arith) run.unit.orderly.written).0;
     literals = λ l i. in-each (λ l. 1 ≤ length (get_or v.literals l no_literal).bytes) v.instances run.unit.orderly.ended l i;
     statics = static-makeable;
     constants = λ o i. let z = static-at o i in (is.objects grown o z.0).constants z.1;
@@ -593,12 +595,15 @@ module _ (t : Table) (ds : List DeclarationTree) (u : UnitState) (typed : typed_
   }
 
 -- 6.9: a unit that has a typing is well typed
-pub typed-unit : (t : Table) (ds : List DeclarationTree) (v : WholeUnit) → UnitComes t ds (Typed v) → HasIdentifiers t v → IsFinished v → AreApart t.names → Each AreBytes t.texts → Each DeclarationCharacters ds → IsTypedUnit v
-typed-unit t ds v c identified done different texts chars =
+pub typed-unit : (t : Table) (ds : List DeclarationTree) (v : WholeUnit) → UnitComes t ds (Typed v) → HasIdentifiers t v → AllFill (layouts v) → ((n : ℕ) → (layout_in (layouts v) (StructTag n)).size ≤ 2 ^ 32)
+    → AreApart t.names → AreTexts t.texts → Each DeclarationCharacters ds → IsTypedUnit v
+typed-unit t ds v c identified filled tags different texts chars =
     let u = c.0 in
     let z = typed-whole ds (first t) u c.1.0 in
     let whole = c.1.3 in
-    subst IsTypedUnit (sym whole) (unit-typed t ds u z.0 c.1.1 chars texts (ends ds u z.0 z.1) (subst IsFinished whole done) (subst (HasIdentifiers t) whole identified) different c.1.2)
+    subst IsTypedUnit (sym whole) (
+    unit-typed t ds u z.0 c.1.1 chars texts (ends ds u z.0 z.1) (subst (λ (x : WholeUnit). AllFill (layouts x)) whole filled) (subst (λ (x : WholeUnit). (n : ℕ) → (layout_in (layouts x) (StructTag n)).size ≤ 2 ^ 32) whole tags)
+    (subst (HasIdentifiers t) whole identified) different c.1.2)
   where
     ends : (ds : List DeclarationTree) (u : UnitState) → typed_first ds (first t) ≡ Some u → (ds ≡ []) ⊎ (may_end u ≡ true) → are_finished u.state u.entities ≡ true
     ends ds u f (inl e) =

@@ -42,8 +42,8 @@ use Rattle.pv_well_typed.proofs.ConditionalRows.{conditional-row}
 use Rattle.pv_well_typed.proofs.CallRows.{named-row, through-row}
 use Rattle.pv_well_typed.proofs.PrimaryRows.{number-row, character-row, object-row, function-row, text-row, each-last, each-at, last-at, beyond-at}
 use Rattle.pv_well_typed.proofs.Changes.{more_object, before-at, look-each, name-meaning, visible-meaning, use-later, use-proper, text-later, text-proper, object-later, object-proper, bind-proper, entered-proper, members-later}
-use Rattle.pv_well_typed.specs.Sources.{AreBytes}
-use Rattle.pv_well_typed.proofs.Moving.{Outer, Grows, IsKnownMeaning, IsKnownUse, IsOrderly, Orderly, HasMade, none-made, Moves, Gives, same-outer, same-moves, then-moves, then-grows, gives-none, gives-some, gives-here, gives-then, gives-value, gives-if, gives-unless, gives-from, gives-weaker, gives-operand, gives-integer, left-moves, left-proper}
+use Rattle.pv_well_typed.proofs.Sources.{AreBytes, letters}
+use Rattle.pv_well_typed.proofs.Moving.{AreTexts, IsText, IsWritten, Outer, Grows, IsKnownMeaning, IsKnownUse, IsOrderly, Orderly, HasMade, none-made, Moves, Gives, same-outer, same-moves, then-moves, then-grows, gives-none, gives-some, gives-here, gives-then, gives-value, gives-if, gives-unless, gives-from, gives-weaker, gives-operand, gives-integer, left-moves, left-proper}
 use Rattle.pv_well_typed.proofs.DeclaredTypes.{from-some, HasProperName, keyword-proper, type-proper, plain-proper, IsPlainStep, IsPlainBehind, plain-more, behind-more, derived-proper, derived-named, adjusted-proper}
 use Rattle.pv_well_typed.proofs.TagRows.{bind-moves, HasWord, HasProperType, tag-gives, opened-gives, HasMembers, some-members-gives, MayComplete, completed-gives, opened-then, closed-gives, enumerated-gives}
 
@@ -193,7 +193,7 @@ ended-more xs x is h = each_weaker (λ l. 1 ≤ length (get_or xs l no_literal).
     by l q (inl lt) = subst (λ (y : Literal). 1 ≤ length y.bytes) (sym (before-at no_literal xs (x ∷ []) l lt)) q
     by l q (inr le) = let none = ap (λ (y : Literal). length y.bytes) (beyond-at no_literal xs l le) in absurd (omega (arith, q, none))
 
-pub written-orderly : (line : ℕ) (bytes : List ℕ) (s : State) (instance : Bool) → (Orderly s → AreBytes bytes × (1 ≤ length bytes)) → Orderly s
+pub written-orderly : (line : ℕ) (bytes : List ℕ) (s : State) (instance : Bool) → (Orderly s → IsText bytes) → Orderly s
     → IsOrderly s.unit.names s.unit.functions s.scopes s.used s.texts (with_literal s.unit (record { bytes = bytes; line = line }) instance).literals (with_literal s.unit (record { bytes = bytes; line = line }) instance).instances
 written-orderly line bytes s instance good h =
     let g = good h in
@@ -202,7 +202,7 @@ written-orderly line bytes s instance good h =
       names = h.names;
       uses = h.uses;
       sources = h.sources;
-      written = each_append (λ (y : Literal). AreBytes y.bytes) s.unit.literals (x ∷ []) h.written (g.0, tt);
+      written = each_append IsWritten s.unit.literals (x ∷ []) h.written ((g.0, g.2), tt);
       ended = ends x g.1 instance;
     }
   where
@@ -218,10 +218,47 @@ joined-bytes texts first zero h = each-at AreBytes [] texts first tt h
 joined-bytes texts first (suc more) h =
     each_append (λ b. b < 256) (joined texts first more) (get_or texts (first + suc more) []) (joined-bytes texts first more h) (each-at AreBytes [] texts (first + suc more) tt h)
 
-pub text-bytes : (texts : List (List ℕ)) (first more : ℕ) → Each AreBytes texts → AreBytes (bytes_of_text texts first more) × (1 ≤ length (bytes_of_text texts first more))
+-- 5.2.4.1p1: they are no longer than all texts together
+abbrev letters-to : ℕ → List (List ℕ) → ℕ
+letters-to zero texts = 0
+letters-to (suc n) [] = 0
+letters-to (suc n) (x ∷ xs) = length x + letters-to n xs
+
+to-within : (n : ℕ) (texts : List (List ℕ)) → letters-to n texts ≤ letters texts
+to-within zero texts = omega arith
+to-within (suc n) [] = omega arith
+to-within (suc n) (x ∷ xs) = let r = to-within n xs in omega (arith, r)
+
+to-next : (n : ℕ) (texts : List (List ℕ)) → letters-to (suc n) texts ≡ letters-to n texts + length (get_or texts n [])
+to-next zero [] = omega arith
+to-next zero (x ∷ xs) = omega arith
+to-next (suc n) [] = omega arith
+to-next (suc n) (x ∷ xs) = let r = to-next n xs in omega (arith, r)
+
+joined-within : (texts : List (List ℕ)) (first more k : ℕ) → k ≡ first + more → length (joined texts first more) ≤ letters-to (suc k) texts
+joined-within texts first zero k e =
+    let same : k ≡ first = omega (arith, e) in
+    let r = to-next k texts in
+    let s = ap (λ i. length (get_or texts i [])) same in
+    omega (arith, r, s)
+joined-within texts first (suc more) k e =
+    let l = length-append (joined texts first more) (get_or texts (first + suc more) []) in
+    let before = joined-within texts first more (first + more) refl in
+    let same : k ≡ suc (first + more) = omega (arith, e) in
+    let r = to-next k texts in
+    let p = ap (λ i. letters-to i texts) same in
+    let s = ap (λ i. length (get_or texts i [])) e in
+    omega (arith, l, before, r, p, s)
+
+pub text-bytes : (texts : List (List ℕ)) (first more : ℕ) → AreTexts texts → IsText (bytes_of_text texts first more)
 text-bytes texts first more h = (
-  each_append (λ b. b < 256) (joined texts first more) (0 ∷ []) (joined-bytes texts first more h) (omega arith, tt),
+  each_append (λ b. b < 256) (joined texts first more) (0 ∷ []) (joined-bytes texts first more h.0) (omega arith, tt),
   let l = length-append (joined texts first more) (0 ∷ []) in omega (arith, l),
+  let l = length-append (joined texts first more) (0 ∷ []) in
+      let j = joined-within texts first more (first + more) refl in
+      let w = to-within (suc (first + more)) texts in
+      let few = h.1 in
+      omega (arith, l, j, w, few),
 )
 
 -- 6.2.4p5: one object with automatic storage
@@ -309,7 +346,7 @@ module _ (v : WholeUnit) (os : List ℕ) (done : IsFinished v) where
       gives-here U v os U s (IsTree E v os) (Some (written line (IntTy Int) (Constant k)))
       (λ x q l p g. as-made (IsExpression E v os) (written line (IntTy Int) (Constant k)) x (record { typed = λ i. (Int, refl, name-meaning v s g n (ConstantOf k) e); proper = tt; valued = λ z. (refl, tt) }) q)
 
-  text-gives : (E : Type 0) (line : ℕ) (bytes : List ℕ) (s : State) → Sees E v os s → (Orderly s → AreBytes bytes × (1 ≤ length bytes)) → Gives U v os U s (IsTree E v os) (Some (text_of line bytes s))
+  text-gives : (E : Type 0) (line : ℕ) (bytes : List ℕ) (s : State) → Sees E v os s → (Orderly s → IsText bytes) → Gives U v os U s (IsTree E v os) (Some (text_of line bytes s))
   text-gives E line bytes s sees good =
       gives-some U v os U s (IsTree E v os) (text_of line bytes s)
       (record { later = text-later v line bytes s; outer = same-outer s.scopes; grows = ([], sym (append-nil (env s))); names = λ f w ps h. h; evaluated = refl; functions = refl; spelled = refl; noted = (refl, refl); orderly = λ h. written-orderly line bytes s (not s.unevaluated) good h; count = omega arith; older = λ o lt. refl })

@@ -1,5 +1,4 @@
 pub mod Proper
 pub mod Later
 pub mod Characters
-pub mod Sources
 pub mod ProperStates

@@ -1,5 +1,5 @@
-use Rattle.pv_well_typed.proofs.SourceTokens.{typed-source}
+use Rattle.pv_well_typed.proofs.LexedTokens.{typed-lexed}
 use Rattle.pv_well_typed.proofs.laws.typed_units_are_well_typed.Goals as goal
 
 pub returns : goal.returns
-returns c = record { typed = λ t ss ds v tells said spelled comes identified done. typed-source t ss ds v tells said spelled comes identified done }
+returns c = record { typed = λ source t ds v bytes short lexed spelled comes identified filled tags. typed-lexed source t ds v bytes short lexed spelled comes identified filled tags }
