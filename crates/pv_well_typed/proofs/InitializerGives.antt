@@ -44,7 +44,8 @@ use Rattle.pv_well_typed.proofs.Conversions.{IsAssigned, assigned-row}
 use Rattle.pv_well_typed.proofs.Changes.{literal-later}
 use Rattle.pv_well_typed.proofs.PrimaryRows.{beyond-at}
 use Rattle.pv_well_typed.proofs.Moving.{IsText, same-outer, Orderly, Grown, HasMade, none-made, grown-before, Moves, Gives, same-moves, gives-none, gives-some, gives-then, gives-weaker}
-use Rattle.pv_well_typed.proofs.Walk.{U, written-orderly, text-bytes}
+use Rattle.pv_well_typed.proofs.Literals.{written-orderly, text-bytes}
+use Rattle.pv_well_typed.proofs.Walk.{U}
 use Rattle.pv_well_typed.proofs.StatementRows.{Here, Behind, valued-everywhere}
 use Rattle.pv_well_typed.proofs.BlockRows.{GivenIn}
 use Rattle.pv_well_typed.proofs.PartRows.{can-complete, can-bare, can-grown, proper-bare, sized-size, sized-more, character-byte, IsPart, part-at-found, zero-found}

@@ -1,6 +1,6 @@
 -- What stands at a place of a source as a character constant is an `int` (C17 6.4.4.4p10), and what stands there as a string literal is of
 -- bytes (6.4.5p6); so it is with each token of a table of its tokens.
-use Rattle.std.proofs.Common.{◌≡◌, ℕ, zero, suc, ◌<◌, ◌≤◌, ◌+◌, ◌-◌, ◌^◌, pos, Bool, true, false, ◌&&◌, ◌||◌, cond, List, [], ◌∷◌, ◌++◌, codes, length, take, drop, min, nat_eq, Option, Some, None, refl, ap, subst, arith, length-append}
+use Rattle.std.proofs.Common.{◌≡◌, ℕ, zero, suc, ◌<◌, ◌≤◌, ◌+◌, ◌-◌, pos, Bool, true, false, ◌&&◌, ◌||◌, cond, List, [], ◌∷◌, ◌++◌, codes, length, take, drop, min, nat_eq, Option, Some, None, refl, ap, subst, arith, length-append}
 use Rattle.std.specs.Prelude.{if◌then◌else◌, nat_le, nat_lt, ◌-ℤ◌, ◌≤ℤ◌}
 use Rattle.std.specs.Option.{option_map}
 use Rattle.std.specs.List.{starts_with}
@@ -15,7 +15,6 @@ use Rattle.pv_token.specs.declared.words.Word.{Word}
 use Rattle.pv_token.specs.Said.{Said, Name, Text, Keyword, Number, Character, Punctuator, Spelt, as_char}
 use Rattle.pv_token.specs.Table.{Table, texts_of}
 use Rattle.pv_tree.specs.Syntax.{DeclarationTree}
-use Rattle.pv_tree.specs.Units.{SpellUnit}
 use Rattle.pv_lex.specs.Bytes.{is_white, is_letter, run, front, behind, begins, line_feeds}
 use Rattle.pv_lex.specs.Tables.{row_of, first_row}
 use Rattle.pv_lex.specs.Pieces.{What, White, Comment, Marker, Spelling, Piece, Stand, End, Bad, Here, ◌>>=◌, or_bad, token}
@@ -27,16 +26,12 @@ use Rattle.pv_lex.specs.Markers.{some_of, quoted, groups, marker_piece, marker}
 use Rattle.pv_lex.specs.Marks.{marks, mark_row, mark_at}
 use Rattle.pv_lex.specs.Stands.{stands}
 use Rattle.pv_lex.specs.Rows.{Place, start, Row, spelt, spelt_here, behind_piece}
-use Rattle.pv_lex.specs.Lexes.{Lexes}
 use Rattle.pv_lex.proofs.Wholes.{takes_piece}
 use Rattle.pv_typed.specs.Known.{Each}
-use Rattle.pv_types.specs.Layouts.{AllFill, layout_in}
-use Rattle.pv_types.specs.Ty.{StructTag}
-use Rattle.pv_typed.specs.TypedUnits.{WholeUnit, layouts}
+use Rattle.pv_typed.specs.TypedUnits.{WholeUnit}
 use Rattle.pv_typed.proofs.Each.{each_append, each_right}
-use Rattle.pv_unit.specs.Identifiers.{HasIdentifiers}
-use Rattle.pv_unit.specs.Units.{Typed, UnitComes}
 use Rattle.pv_guards.specs.TypedStatements.{IsTypedUnit}
+use Rattle.pv_well_typed.specs.Checked.{IsChecked}
 use Rattle.pv_well_typed.proofs.Sources.{AreBytes, letters, IsSourceToken}
 use Rattle.pv_well_typed.proofs.SourceTokens.{typed-source}
 
@@ -412,8 +407,9 @@ spelt-letters whole p q (x ∷ xs) b h =
 
 -- ---- 6.9: a unit that comes of a source is well typed
 
-pub typed-lexed : (source : List ℕ) (t : Table) (ds : List DeclarationTree) (v : WholeUnit) → AreBytes source → length source ≤ 2 ^ 20 → Lexes source t → SpellUnit t.tokens ds → UnitComes t ds (Typed v)
-    → HasIdentifiers t v → AllFill (layouts v) → ((n : ℕ) → (layout_in (layouts v) (StructTag n)).size ≤ 2 ^ 32) → IsTypedUnit v
-typed-lexed source t ds v bytes short lexed spelled comes identified filled tags =
-    let few = spelt-letters (length source) (start source) lexed.last lexed.pieces bytes lexed.row in
-    typed-source t (spelt (length source) (start source) lexed.pieces) ds v lexed.tells (spelt-source (length source) (start source) lexed.last lexed.pieces bytes lexed.row) (omega (arith, few, short)) spelled comes identified filled tags
+pub typed-lexed : (source : List ℕ) (t : Table) (ds : List DeclarationTree) (v : WholeUnit) → IsChecked source t ds v → IsTypedUnit v
+typed-lexed source t ds v c =
+    let lexed = c.lexed in
+    let short = c.short in
+    let few = spelt-letters (length source) (start source) lexed.last lexed.pieces c.bytes lexed.row in
+    typed-source t (spelt (length source) (start source) lexed.pieces) ds v lexed.tells (spelt-source (length source) (start source) lexed.last lexed.pieces c.bytes lexed.row) (omega (arith, few, short)) c.spelled c.comes c.identified c.filled c.small

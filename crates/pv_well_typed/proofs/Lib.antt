@@ -17,6 +17,7 @@ pub mod SourceCharacters
 pub mod Sources
 pub mod DeclaredTypes
 pub mod TagRows
+pub mod Literals
 pub mod Walk
 mod Examples
 pub mod UnitChanges
@@ -32,6 +33,7 @@ pub mod InitializerGives
 pub mod SignatureRows
 pub mod FileScope
 pub mod FileObjects
+pub mod FunctionTypes
 pub mod FileFunctions
 pub mod FileDeclarations
 pub mod FileDefinitions

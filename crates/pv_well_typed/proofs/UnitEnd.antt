@@ -39,7 +39,7 @@ use Rattle.pv_well_typed.proofs.DeclaredTypes.{from-some}
 use Rattle.pv_well_typed.proofs.Walk.{U}
 use Rattle.pv_well_typed.proofs.StatementWalk.{count}
 use Rattle.pv_well_typed.proofs.FileScope.{HasEntity, IsEntityOf, IsUnit, UnitIs, Goes, then-goes, same-goes}
-use Rattle.pv_well_typed.proofs.FileFunctions.{pointwise-same}
+use Rattle.pv_well_typed.proofs.FunctionTypes.{pointwise-same}
 use Rattle.pv_well_typed.proofs.FileDeclarations.{declaration-goes}
 use Rattle.pv_well_typed.proofs.FileDefinitions.{definition-goes}
 

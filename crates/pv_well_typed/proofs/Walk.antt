@@ -1,5 +1,5 @@
 -- Typing of expressions, specifiers, declarators and type names (C17 6.5, 6.7): each expression that is typed is well typed in every later unit.
-use Rattle.std.proofs.Common.{◌≡◌, ℕ, zero, suc, ◌<◌, ◌≤◌, ◌+◌, ◌==◌, ℤ, pos, Bool, true, false, not, ◌&&◌, Option, Some, None, is_some, List, [], ◌∷◌, ◌++◌, length, get_or, refl, sym, ap, subst, ◌∙◌, arith, length-append, append-nil, ◌⊎◌, inl, inr}
+use Rattle.std.proofs.Common.{◌≡◌, ℕ, ◌<◌, ◌≤◌, ◌+◌, ◌==◌, ℤ, pos, Bool, true, false, not, ◌&&◌, Option, Some, None, is_some, List, [], ◌∷◌, ◌++◌, length, get_or, refl, sym, ap, subst, ◌∙◌, arith, length-append, append-nil}
 use Rattle.std.specs.Prelude.{if◌then◌else◌, nat_lt}
 use Rattle.std.proofs.lemmas.Bool.{eqb-true}
 use Rattle.pv_types.specs.Layouts.{Entry, Named, is_complete_in}
@@ -7,10 +7,9 @@ use Rattle.pv_types.specs.Ty.{Ty, IntTy}
 use Rattle.pv_num.specs.declared.kinds.IntKind.TheVariants.{Int}
 use Rattle.pv_tree.specs.Syntax.{ExpressionTree, Name, Number, Character, Text, Paren, Index, Call, Member, Arrow, PostIncrement, PostDecrement, PreIncrement, PreDecrement, Unary, SizeofExpr, SizeofType, Cast, Binary, Conditional, Assign, Comma, ArgumentTrees, NoArguments, Argument, DeclarationTree, Function as FunctionTree, Declaration, InitDeclarator, MemberDeclaration, Enumerator, Parameter, TypeName, DeclaratorTree, DeclaredName, ParenDeclarator, Pointer, Array, FunctionDeclarator, AbstractParen, AbstractPointer, AbstractArray, AbstractFunction, SpecifierTree, Keyword, Composite, Enumeration, Tag, TypedefName, Tree, OfExpression, OfDeclaration, OfDeclarator, OfSpecifier, OfInitializer, OfStatement, Trees, NoTrees, Then, OptionalTree, Absent, Present}
 use Rattle.pv_typed.specs.Known.{Each}
-use Rattle.pv_typed.proofs.Each.{each_append, each_weaker}
-use Rattle.pv_typed.specs.Adding.{with_literal}
+use Rattle.pv_typed.proofs.Each.{each_append}
 use Rattle.pv_typed.specs.TypedTree.{TypedTree, Constant, Object, type_of}
-use Rattle.pv_typed.specs.TypedUnits.{WholeUnit, TypedObject, TypedFunction, Literal, no_object, no_function, no_literal, object_at}
+use Rattle.pv_typed.specs.TypedUnits.{WholeUnit, TypedObject, TypedFunction, no_object, no_function, object_at}
 use Rattle.pv_typed.specs.declared.nodes.IncrementOperator.TheVariants as step_word
 use Rattle.pv_check.specs.Assignment.{assign_of, comma_of}
 use Rattle.pv_check.specs.Binary.{binary_of}
@@ -18,7 +17,7 @@ use Rattle.pv_check.specs.Conditional.{conditional_of}
 use Rattle.pv_check.specs.Derivations.{size_of, Parameter as OneParameter, Steps, Derivation, ByPointer, ByArray, ByFunction, no_steps, with_step, declared_name, optional_name, may_be_variadic, is_printf_declarator, Signature, proper, parameter_types, with_function, with_parameter, derived, adjusted}
 use Rattle.pv_check.specs.Postfix.{subscript_of, member_from, arrow_from, increment_of}
 use Rattle.pv_check.specs.Library.{library_named}
-use Rattle.pv_check.specs.Primary.{with_use, used_function, designator_of, is_of_library, name_of, integer_of, character_of, bytes_of_text, joined, text_of}
+use Rattle.pv_check.specs.Primary.{with_use, used_function, designator_of, is_of_library, name_of, integer_of, character_of, bytes_of_text, text_of}
 use Rattle.pv_check.specs.Rows.{operand, integer_value, known_size, by_pointer, by_array, named_type, parameter_of, with_argument, cast, unevaluated, after_sizeof, function_in, callee, with_callee, Callee, ByName, ByValue, pointed_callee, called_by, call_by, plain, by_function, member_of}
 use Rattle.pv_check.specs.Sorts.{is_function}
 use Rattle.pv_check.specs.Specifiers.{Seen, nothing_seen, with_keyword, with_type, typedef_of, specified, without_storage}
@@ -40,12 +39,12 @@ use Rattle.pv_well_typed.proofs.PostfixRows.{subscript-row, increment-row, membe
 use Rattle.pv_well_typed.proofs.AssignmentRows.{assign-row, comma-row}
 use Rattle.pv_well_typed.proofs.ConditionalRows.{conditional-row}
 use Rattle.pv_well_typed.proofs.CallRows.{named-row, through-row}
-use Rattle.pv_well_typed.proofs.PrimaryRows.{number-row, character-row, object-row, function-row, text-row, each-last, each-at, last-at, beyond-at}
+use Rattle.pv_well_typed.proofs.PrimaryRows.{number-row, character-row, object-row, function-row, text-row, each-last, last-at}
 use Rattle.pv_well_typed.proofs.Changes.{more_object, before-at, look-each, name-meaning, visible-meaning, use-later, use-proper, text-later, text-proper, object-later, object-proper, bind-proper, entered-proper, members-later}
-use Rattle.pv_well_typed.proofs.Sources.{AreBytes, letters}
-use Rattle.pv_well_typed.proofs.Moving.{AreTexts, IsText, IsWritten, Outer, Grows, IsKnownMeaning, IsKnownUse, IsOrderly, Orderly, HasMade, none-made, Moves, Gives, same-outer, same-moves, then-moves, then-grows, gives-none, gives-some, gives-here, gives-then, gives-value, gives-if, gives-unless, gives-from, gives-weaker, gives-operand, gives-integer, left-moves, left-proper}
+use Rattle.pv_well_typed.proofs.Moving.{IsText, Outer, Grows, IsKnownMeaning, IsKnownUse, Orderly, HasMade, none-made, Moves, Gives, same-outer, same-moves, then-moves, then-grows, gives-none, gives-some, gives-here, gives-then, gives-value, gives-if, gives-unless, gives-from, gives-weaker, gives-operand, gives-integer, left-moves, left-proper}
 use Rattle.pv_well_typed.proofs.DeclaredTypes.{from-some, HasProperName, keyword-proper, type-proper, plain-proper, IsPlainStep, IsPlainBehind, plain-more, behind-more, derived-proper, derived-named, adjusted-proper}
 use Rattle.pv_well_typed.proofs.TagRows.{bind-moves, HasWord, HasProperType, tag-gives, opened-gives, HasMembers, some-members-gives, MayComplete, completed-gives, opened-then, closed-gives, enumerated-gives}
+use Rattle.pv_well_typed.proofs.Literals.{written-orderly, text-bytes}
 
 -- an expression that is typed, and an operand
 abbrev pub IsTree : (E : Type 0) → WholeUnit → List ℕ → After TypedTree → Type 0
@@ -181,85 +180,6 @@ known-name s h n f e = look-each names_in (IsKnownMeaning (length s.unit.functio
 known-function : (b : Bool) (ns : List (List ℕ)) (fs : List TypedFunction) (f : ℕ) → f < length fs → library_named (get_or ns (get_or fs f no_function).name []) ≡ None → IsKnownUse ns fs (used_function b f)
 known-function true ns fs f h e = h
 known-function false ns fs f h e = (h, e)
-
--- 6.4.5p6: a string literal, with its zero
-pub ended-more : (xs : List Literal) (x : Literal) (is : List ℕ) → Each (λ l. 1 ≤ length (get_or xs l no_literal).bytes) is → Each (λ l. 1 ≤ length (get_or (xs ++ (x ∷ [])) l no_literal).bytes) is
-ended-more xs x is h = each_weaker (λ l. 1 ≤ length (get_or xs l no_literal).bytes) (λ l. 1 ≤ length (get_or (xs ++ (x ∷ [])) l no_literal).bytes) (λ l q. by l q (either l (length xs))) is h
-  where
-    either : (o n : ℕ) → (o < n) ⊎ (n ≤ o)
-    either o n = grind arith
-
-    by : (l : ℕ) → 1 ≤ length (get_or xs l no_literal).bytes → (l < length xs) ⊎ (length xs ≤ l) → 1 ≤ length (get_or (xs ++ (x ∷ [])) l no_literal).bytes
-    by l q (inl lt) = subst (λ (y : Literal). 1 ≤ length y.bytes) (sym (before-at no_literal xs (x ∷ []) l lt)) q
-    by l q (inr le) = let none = ap (λ (y : Literal). length y.bytes) (beyond-at no_literal xs l le) in absurd (omega (arith, q, none))
-
-pub written-orderly : (line : ℕ) (bytes : List ℕ) (s : State) (instance : Bool) → (Orderly s → IsText bytes) → Orderly s
-    → IsOrderly s.unit.names s.unit.functions s.scopes s.used s.texts (with_literal s.unit (record { bytes = bytes; line = line }) instance).literals (with_literal s.unit (record { bytes = bytes; line = line }) instance).instances
-written-orderly line bytes s instance good h =
-    let g = good h in
-    let x : Literal = record { bytes = bytes; line = line } in
-    record {
-      names = h.names;
-      uses = h.uses;
-      sources = h.sources;
-      written = each_append IsWritten s.unit.literals (x ∷ []) h.written ((g.0, g.2), tt);
-      ended = ends x g.1 instance;
-    }
-  where
-    ends : (x : Literal) → 1 ≤ length x.bytes → (b : Bool) → Each (λ l. 1 ≤ length (get_or (s.unit.literals ++ (x ∷ [])) l no_literal).bytes) (if b then s.unit.instances ++ (length s.unit.literals ∷ []) else s.unit.instances)
-    ends x one true =
-        each_append (λ l. 1 ≤ length (get_or (s.unit.literals ++ (x ∷ [])) l no_literal).bytes) s.unit.instances (length s.unit.literals ∷ []) (ended-more s.unit.literals x s.unit.instances h.ended)
-        (subst (λ (y : Literal). 1 ≤ length y.bytes) (sym (last-at no_literal s.unit.literals x)) one, tt)
-    ends x one false = ended-more s.unit.literals x s.unit.instances h.ended
-
--- 6.4.5p5, p6: the characters of string literals in a row, and the zero behind them
-joined-bytes : (texts : List (List ℕ)) (first more : ℕ) → Each AreBytes texts → AreBytes (joined texts first more)
-joined-bytes texts first zero h = each-at AreBytes [] texts first tt h
-joined-bytes texts first (suc more) h =
-    each_append (λ b. b < 256) (joined texts first more) (get_or texts (first + suc more) []) (joined-bytes texts first more h) (each-at AreBytes [] texts (first + suc more) tt h)
-
--- 5.2.4.1p1: they are no longer than all texts together
-abbrev letters-to : ℕ → List (List ℕ) → ℕ
-letters-to zero texts = 0
-letters-to (suc n) [] = 0
-letters-to (suc n) (x ∷ xs) = length x + letters-to n xs
-
-to-within : (n : ℕ) (texts : List (List ℕ)) → letters-to n texts ≤ letters texts
-to-within zero texts = omega arith
-to-within (suc n) [] = omega arith
-to-within (suc n) (x ∷ xs) = let r = to-within n xs in omega (arith, r)
-
-to-next : (n : ℕ) (texts : List (List ℕ)) → letters-to (suc n) texts ≡ letters-to n texts + length (get_or texts n [])
-to-next zero [] = omega arith
-to-next zero (x ∷ xs) = omega arith
-to-next (suc n) [] = omega arith
-to-next (suc n) (x ∷ xs) = let r = to-next n xs in omega (arith, r)
-
-joined-within : (texts : List (List ℕ)) (first more k : ℕ) → k ≡ first + more → length (joined texts first more) ≤ letters-to (suc k) texts
-joined-within texts first zero k e =
-    let same : k ≡ first = omega (arith, e) in
-    let r = to-next k texts in
-    let s = ap (λ i. length (get_or texts i [])) same in
-    omega (arith, r, s)
-joined-within texts first (suc more) k e =
-    let l = length-append (joined texts first more) (get_or texts (first + suc more) []) in
-    let before = joined-within texts first more (first + more) refl in
-    let same : k ≡ suc (first + more) = omega (arith, e) in
-    let r = to-next k texts in
-    let p = ap (λ i. letters-to i texts) same in
-    let s = ap (λ i. length (get_or texts i [])) e in
-    omega (arith, l, before, r, p, s)
-
-pub text-bytes : (texts : List (List ℕ)) (first more : ℕ) → AreTexts texts → IsText (bytes_of_text texts first more)
-text-bytes texts first more h = (
-  each_append (λ b. b < 256) (joined texts first more) (0 ∷ []) (joined-bytes texts first more h.0) (omega arith, tt),
-  let l = length-append (joined texts first more) (0 ∷ []) in omega (arith, l),
-  let l = length-append (joined texts first more) (0 ∷ []) in
-      let j = joined-within texts first more (first + more) refl in
-      let w = to-within (suc (first + more)) texts in
-      let few = h.1 in
-      omega (arith, l, j, w, few),
-)
 
 -- 6.2.4p5: one object with automatic storage
 automatic-made : (v : WholeUnit) (x : TypedObject) (s : State) → x.lasting ≡ false → HasMade v s (more_object x s)

@@ -2,3 +2,4 @@ pub mod Proper
 pub mod Later
 pub mod Characters
 pub mod ProperStates
+pub mod Checked

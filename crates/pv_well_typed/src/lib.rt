@@ -7,4 +7,6 @@
 
 mod laws;
 
-pub use laws::{typed_expressions_are_well_typed, typed_units_are_well_typed};
+pub use laws::{
+    checked_sources_meet_no_guard, typed_expressions_are_well_typed, typed_units_are_well_typed,
+};
