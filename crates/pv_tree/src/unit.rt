@@ -7,27 +7,23 @@ ghost use Rattle.pv_tree.specs.Children.{HasChildren, HasExprChildren, HasDeclCh
 ghost use Rattle.pv_tree.specs.Depths.{tree_depth};
 ghost use Rattle.pv_tree.specs.TreeLines.{tree_line};
 
+use crate::lists::{LIMIT, Lists};
 use crate::nodes::{Decl, Declarator, Expr, Init, ListId, Node, NodeId, Spec, Stmt};
 use crate::rows::{Row, Rows};
 use pv_token::NoMemory;
 use std::alloc::Global;
 use std::marker::Model;
 
-/// A table numbered by `u32` has room for so many entries.
-const LIMIT: usize = 0xffff_ffff;
-
 /// The nodes of a translation unit (C17 6.9), the lists of their children, and its external
 /// declarations.
 #[derive(Drop)]
 pub struct Unit {
-    alloc: Global,
     rows: Rows,
-    lists: Vec<Vec<NodeId>>,
+    lists: Lists,
     externals: Vec<NodeId>,
 }
 
 impl Model for Unit {
-    ghost use Rattle.std.specs.Prelude.{map};
     ghost use Rattle.std.specs.Coded.{codes};
     ghost use Rattle.pv_tree.specs.Rows.{tables, IsFormed};
     ghost use Rattle.pv_tree.specs.Tables.{Tables};
@@ -37,9 +33,9 @@ impl Model for Unit {
 
     ghost coded = { tables_code (Prim.hlevel codes) (Prim.hlevel codes) };
 
-    ghost view = { λ u. tables (map (λ l. l.items) u.lists.items) u.rows u.externals.items };
+    ghost view = { λ u. tables u.lists u.rows u.externals.items };
 
-    ghost invariant = { λ u. IsFormed (tables (map (λ l. l.items) u.lists.items) u.rows u.externals.items) u.rows };
+    ghost invariant = { λ u. IsFormed (tables u.lists u.rows u.externals.items) u.rows };
 }
 
 impl Unit {
@@ -49,9 +45,8 @@ impl Unit {
         ensures { result ≡ no_tables }
     {
         Unit {
-            alloc,
             rows: Rows::new(alloc),
-            lists: Vec::new(alloc),
+            lists: Lists::new(alloc),
             externals: Vec::new(alloc),
         }
     }
@@ -65,8 +60,7 @@ impl Unit {
         if index >= LIMIT {
             return Err(NoMemory);
         }
-        let list = Vec::from_slice(self.alloc, l)?;
-        self.lists.push(list)?;
+        self.lists.add(l)?;
         Ok(ListId(index as u32))
     }
 
@@ -75,7 +69,7 @@ impl Unit {
         requires { l.0 < length self.now.forest.lists }
         ensures { result.now ≡ list_at self.now.forest l }
     {
-        self.lists[l.0 as usize].as_slice()
+        self.lists.at(l.0)
     }
 
     // The node of a number, and what its children are.
