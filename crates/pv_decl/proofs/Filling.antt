@@ -10,10 +10,11 @@ use Rattle.pv_token.specs.declared.token_table.TokenKind.{TokenKind}
 use Rattle.pv_token.specs.declared.token_table.TokenKind.TheVariants as kind
 use Rattle.pv_token.specs.declared.marks.Mark.TheVariants as mark
 use Rattle.pv_tree.specs.declared.nodes.NodeId.{NodeId}
-use Rattle.pv_tree.specs.Syntax.{DeclarationTree, Tree, Absent}
+use Rattle.pv_tree.specs.Syntax.{DeclarationTree, Tree, Trees, NoTrees, TypeName, Absent}
 use Rattle.pv_tree.specs.Spelling.{declaration_tokens}
-use Rattle.pv_tree.specs.Grammar.{kinds}
-use Rattle.pv_tree.specs.Spells.{Names}
+use Rattle.pv_tree.specs.Grammar.{kinds, line_here}
+use Rattle.pv_tree.specs.Places.{Specifiers, AbstractDeclarators}
+use Rattle.pv_tree.specs.Spells.{Names, begins_type}
 use Rattle.pv_tree.specs.Tables.{Tables, tree_at, as_declaration, is_declaration, is_declarator, Extends}
 use Rattle.pv_tree.specs.TypeNames.{TypeMap, type_seen, names_of, IsTied, AreTied}
 use Rattle.pv_tree.specs.Units.{depth_limit}
@@ -24,8 +25,8 @@ use Rattle.pv_expr_forms.proofs.Naming.{tied_kept, names_kept}
 use Rattle.pv_expr_forms.proofs.Runs.{Takes}
 use Rattle.pv_expr_forms.proofs.Spans.{IsEnd, names_spelled, at_end}
 use Rattle.pv_decl_forms.specs.Parts.{function_of}
-use Rattle.pv_decl_forms.specs.Pieces.{Piece, row, row_for}
-use Rattle.pv_decl_forms.specs.Reader.{specified, type_name}
+use Rattle.pv_decl_forms.specs.Pieces.{Piece, row, row_for, row_on}
+use Rattle.pv_decl_forms.specs.Reader.{specified, type_name, readers}
 use Rattle.pv_decl_forms.specs.Answers.{seen, Answers}
 use Rattle.pv_decl.specs.Filled.{entry}
 use Rattle.pv_decl.specs.NameTables.{filled, NameTable, type_map, no_names, with_name, opens, is_behind_open}
@@ -33,6 +34,7 @@ use Rattle.pv_decl_forms.specs.Givens.{AreGiven, parameter_list}
 use Rattle.pv_decl_forms.specs.TypeNames.{AreTypeNames}
 use Rattle.pv_decl_forms.proofs.Naming.{type_name_good}
 use Rattle.pv_decl_forms.proofs.Nested.{IsWithin, type_name_agrees, list_agrees}
+use Rattle.pv_decl_forms.proofs.Stops.{specifiers_none}
 use Rattle.pv_decl.proofs.Held.{filled_beyond, filled_before, filled_new, filled_old}
 use Rattle.pv_decl.proofs.Givens.{answer_kept, given_kept}
 
@@ -66,6 +68,17 @@ no_type_name : (names : Names) (depth : ℕ) → None ≡ type_name names depth 
 unfolding type_name specified row row_for
 no_type_name names depth = refl
 
+-- nor where no specifiers begin
+no_row : (read : List Token → Piece) (ts : List Token) → read ts ≡ None → row read NoTrees ts ≡ (NoTrees, ts)
+unfolding row row_for
+no_row read [] e = refl
+no_row read (t ∷ ts) e = ap (row_on (row_for (length ts) read) NoTrees (t ∷ ts)) e
+
+typeless : (names : Names) (depth : ℕ) (ts : List Token) → begins_type names ts ≡ false → type_name names depth ts ≡ None
+unfolding type_name specified
+typeless names depth ts e =
+    ap (specified (TypeName (line_here ts)) (readers names depth AbstractDeclarators)) (no_row (readers names depth Specifiers) ts (specifiers_none names depth ts e))
+
 -- what a run takes is what stands before the rest
 kinds_before : (ks : List TokenKind) (here rest : List Token) → Takes ks here rest → kinds here ≡ ks ++ kinds rest
 kinds_before [] here rest h = ap kinds h
@@ -78,6 +91,10 @@ module _ (names : Names) (tokens : List Token) (at : ℕ) where
   pub entry_not : is_behind_open tokens at ≡ false → None ≡ entry names depth_limit tokens at
   unfolding entry
   entry_not e = rw e refl
+
+  pub entry_typeless : is_behind_open tokens at ≡ true → begins_type names (drop at tokens) ≡ false → None ≡ entry names depth_limit tokens at
+  unfolding entry depth_limit
+  entry_typeless e none = rw e (sym (typeless names 500 (drop at tokens) none))
 
   pub entry_so : is_behind_open tokens at ≡ true → type_name names 500 (drop at tokens) ≡ entry names depth_limit tokens at
   unfolding entry depth_limit

@@ -15,7 +15,7 @@ use crate::declarations::Declarations;
 use crate::lists::ParameterLists;
 use indexmap::IndexSet;
 use pv_decl_forms::DEPTH_LIMIT;
-use pv_expr_forms::{Source, is_open, peek};
+use pv_expr_forms::{Source, begins_type, is_open, peek};
 use pv_token::{NoMemory, Tokens};
 use pv_tree::{NodeId, TypeReader, Unit};
 use std::alloc::Global;
@@ -90,7 +90,8 @@ fn is_behind_open(t: &Tokens, at: u32) -> bool
     }
 }
 
-// The type name at a place, if `(` is before it, and the place behind the type name.
+// The type name at a place, if `(` is before it, and the place behind the type name. Most of what stands in parentheses
+// is none by its first token.
 fn entry(
     t: &Tokens,
     at: u32,
@@ -107,6 +108,9 @@ fn entry(
     if !is_behind_open(t, at) {
         return Ok(None);
     }
+    if !begins_type(t, types, at) {
+        return Ok(None);
+    }
     let source = Source {
         tokens: t,
         typedefs: types,
@@ -116,7 +120,7 @@ fn entry(
     declarations.type_name(at, DEPTH_LIMIT, into)
 }
 
-// The list of parameters at a place, if `(` is before it, as an abstract declarator.
+// The list of parameters at a place, if `(` is before it and a parameter may begin there, as an abstract declarator.
 fn list_entry(
     t: &Tokens,
     at: u32,
@@ -131,6 +135,9 @@ fn list_entry(
     ensures ok { IfOk result (λ r. IfSome r (λ o. Answers into.new is_declarator t.now.tokens o (parameter_list (names_in types.now (type_map names.now) into.old t.now.tokens) depth_limit (drop at t.now.tokens)))) }
 {
     if !is_behind_open(t, at) {
+        return Ok(None);
+    }
+    if !begins_type(t, types, at) {
         return Ok(None);
     }
     let source = Source {

@@ -15,6 +15,15 @@ is_behind_open-requires c = c.requires.place
 pub returns-then-not-is_behind_open-clause-ok : goal.returns-then-not-is_behind_open-clause-ok
 returns-then-not-is_behind_open-clause-ok c = tt
 
+pub returns-then-not-begins_type-clause-keeps : goal.returns-then-not-begins_type-clause-keeps
+returns-then-not-begins_type-clause-keeps c = extends_same _
+
+pub returns-then-not-begins_type-clause-ok : goal.returns-then-not-begins_type-clause-ok
+returns-then-not-begins_type-clause-ok c = tt
+
+pub begins_type-requires : goal.begins_type-requires
+begins_type-requires c = c.requires.place
+
 pub parameters-requires-clause-ready : goal.parameters-requires-clause-ready
 parameters-requires-clause-ready c = record { place = c.requires.place; tied = c.requires.tied }
 
