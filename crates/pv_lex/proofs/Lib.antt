@@ -1,5 +1,6 @@
 pub mod Runs
 pub mod Rows
+pub mod Fronts
 pub mod Beginnings
 pub mod Pairs
 pub mod Values

@@ -10,6 +10,33 @@ pub(crate) struct Row<T: Copy> {
     pub value: T,
 }
 
+/// Whether two bytes are the same.
+#[inline(always)]
+fn are_same(a: u8, b: u8) -> bool
+    ensures { result ≡ nat_eq a b }
+{
+    a == b
+}
+
+/// Whether the text begins with a spelling. That has few bytes, and is mostly known where this is called, so that no
+/// loop is left there.
+#[inline(always)]
+fn begins(text: &[u8], front: &[u8]) -> bool
+    ensures { result ≡ starts_with nat_eq text.now front.now }
+{
+    let mut n = 0;
+    while n < front.len() {
+        if n >= text.len() {
+            return false;
+        }
+        if !are_same(front[n], text[n]) {
+            return false;
+        }
+        n += 1;
+    }
+    true
+}
+
 /// The first row whose spelling stands at the front of the text: the spelling's length, and what
 /// it stands for. A table is mostly known where it is called, and short.
 #[inline(always)]
@@ -20,7 +47,7 @@ pub(crate) fn first_row<T: Copy>(rows: &[Row<T>], text: &[u8]) -> Option<(usize,
     let mut i = 0;
     while i < rows.len() {
         let row = &rows[i];
-        if text.starts_with(row.text) {
+        if begins(text, row.text) {
             return Some((row.text.len(), row.value));
         }
         i += 1;
