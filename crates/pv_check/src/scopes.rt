@@ -123,15 +123,18 @@ fn first_of<V: Copy>(a: Option<V>, b: Option<V>) -> Option<V>
     }
 }
 
-/// What the scopes have for a name.
+/// What the scopes have for a name. The innermost one that has it decides, so the others are not asked.
 fn look(scopes: &[Scope], name: u32) -> Option<Entry>
     ensures { result ≡ look_by kept_names scopes.now name }
 {
-    let mut found = None;
-    for scope in scopes {
-        found = first_of(find(&scope.names, name), found);
+    let mut left = scopes.len();
+    while left > 0 {
+        left -= 1;
+        if let Some(found) = find(&scopes[left].names, name) {
+            return Some(found);
+        }
     }
-    found
+    None
 }
 
 /// What the scopes have for a tag.
