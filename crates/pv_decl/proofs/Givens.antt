@@ -75,10 +75,10 @@ given_tied lists typedefs types u tokens none tied = record {
   read = λ at o is. let no : None ≡ Some o = sym (none at) ∙ is in absurd cc;
 }
 
-pub no_lists : (lists : ParameterLists) → lists.found.items ≡ [] → (at : ℕ) → list_map lists at ≡ None
+pub no_lists : (lists : ParameterLists) → lists.found ≡ [] → (at : ℕ) → list_map lists at ≡ None
 no_lists lists e at = elim (leb_tells lists.to at) [
-  | inl h ↦ filled_beyond lists.to lists.found.items at h.1
-  | inr h ↦ filled_before lists.to lists.found.items at (omega (arith, h.1, ap length e))
+  | inl h ↦ filled_beyond lists.to lists.found at h.1
+  | inr h ↦ filled_before lists.to lists.found at (omega (arith, h.1, ap length e))
 ]
 
 -- a list whose members stand before a node of a unit is a list of the unit

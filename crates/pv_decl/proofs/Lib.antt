@@ -4,3 +4,4 @@ pub mod Givens
 pub mod Held
 pub mod Looping
 pub mod Valued
+pub mod Sparsed

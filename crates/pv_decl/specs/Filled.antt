@@ -10,7 +10,7 @@ use Rattle.pv_decl_forms.specs.Reader.{type_name}
 
 -- what is known of the list of parameters (6.7.6.3) at each place
 abbrev pub list_map : ParameterLists → ℕ → Option (Option (NodeId × ℕ))
-list_map lists at = filled lists.to lists.found.items at
+list_map lists at = filled lists.to lists.found at
 
 -- the type name (6.7.7) at a place, if `(` is before it
 unfoldable pub entry : Names → (depth : ℕ) → List Token → (at : ℕ) → Piece

@@ -1,3 +1,4 @@
+pub mod Sparse
 pub mod Filled
 pub mod Sources
 pub mod NameTables

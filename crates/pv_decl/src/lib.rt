@@ -8,6 +8,7 @@ mod initializers;
 mod lists;
 mod parser;
 mod reading;
+mod sparse;
 mod type_table;
 mod values;
 

@@ -10,6 +10,7 @@ ghost use Rattle.pv_decl_forms.specs.Reader.{readers};
 ghost use Rattle.pv_decl.specs.Sources.{IsReady};
 
 use crate::declarations::Declarations;
+use crate::sparse::Sparse;
 use pv_decl_forms::{found_declarator, function_node};
 use pv_token::NoMemory;
 use pv_tree::{Declarator, NodeId, TypeReader, Unit};
@@ -22,18 +23,18 @@ pub(crate) struct ParameterLists {
     pub(crate) to: u32,
     /// What is known of each place, from the last back to the first: the longest list of at most
     /// 500 levels of nesting that begins there, as an abstract declarator, or that none does.
-    pub(crate) found: Vec<Option<Option<(NodeId, u32)>>>,
+    pub(crate) found: Sparse<Option<(NodeId, u32)>>,
 }
 
 impl ParameterLists {
     /// Nothing, before a place.
     pub(crate) fn new(alloc: Global, to: u32) -> ParameterLists
         ensures to { result.to ≡ to }
-        ensures items { result.found.items ≡ [] }
+        ensures items { result.found ≡ [] }
     {
         ParameterLists {
             to,
-            found: Vec::new(alloc),
+            found: Sparse::new(alloc),
         }
     }
 
@@ -46,7 +47,7 @@ impl ParameterLists {
         }
         let back = (self.to - 1 - at) as usize;
         if back < self.found.len() {
-            self.found[back]
+            self.found.at(back)
         } else {
             None
         }

@@ -13,6 +13,7 @@ ghost use Rattle.pv_decl.specs.NameTables.{type_map, no_names, with_name, is_beh
 
 use crate::declarations::Declarations;
 use crate::lists::ParameterLists;
+use crate::sparse::Sparse;
 use indexmap::IndexSet;
 use pv_decl_forms::DEPTH_LIMIT;
 use pv_expr_forms::{Source, begins_type, is_open, peek};
@@ -27,7 +28,7 @@ pub struct TypeNames {
     /// The place behind the last one.
     to: u32,
     /// What begins at each place, from the last back to the first.
-    found: Vec<Option<(NodeId, u32)>>,
+    found: Sparse<(NodeId, u32)>,
 }
 
 impl Model for TypeNames {
@@ -35,7 +36,7 @@ impl Model for TypeNames {
 
     ghost Value = { NameTable };
 
-    ghost view = { λ n. record { to = n.to; found = n.found.items } };
+    ghost view = { λ n. record { to = n.to; found = n.found } };
 }
 
 impl TypeNames {
@@ -45,7 +46,7 @@ impl TypeNames {
     {
         TypeNames {
             to,
-            found: Vec::new(alloc),
+            found: Sparse::new(alloc),
         }
     }
 
@@ -69,7 +70,7 @@ impl TypeReader for TypeNames {
         }
         let back = (self.to - 1 - at) as usize;
         if back < self.found.len() {
-            self.found[back]
+            self.found.at(back)
         } else {
             None
         }

@@ -44,7 +44,7 @@ unfolding names_in
 list_entry-requires-clause-tied c =
     table_given c.args.types.now c.loop-at.into c.entry.new.into c.args.t.now.tokens depth_limit c.loop-at.names c.push.new.self c.loop-at.at (omega (arith, c.loop-at-test.true))
     c.loop-at.invariant.filled c.entry.ensures.keeps c.in_ok-found.found c.in_ok-found.ensures.ok c.in_ok-push.ensures
-    c.loop-at.lists.to c.loop-at.lists.found.items c.loop-at.invariant.same c.loop-at.invariant.count c.loop-at.invariant.given
+    c.loop-at.lists.to c.loop-at.lists.found c.loop-at.invariant.same c.loop-at.invariant.count c.loop-at.invariant.given
 
 pub loop-at-preserved : goal.loop-at-preserved
 unfolding names_in
@@ -58,12 +58,12 @@ loop-at-preserved c =
     let made = ap (λ (n : NameTable). n.to) c.in_ok-push.ensures in
     let filled = table_step c.args.types.now u v c.args.t.now.tokens depth_limit c.loop-at.names c.push.new.self c.loop-at.at some c.loop-at.invariant.filled c.entry.ensures.keeps c.in_ok-found.found c.in_ok-found.ensures.ok c.in_ok-push.ensures in
     let given = table_given c.args.types.now u v c.args.t.now.tokens depth_limit c.loop-at.names c.push.new.self c.loop-at.at some c.loop-at.invariant.filled c.entry.ensures.keeps c.in_ok-found.found c.in_ok-found.ensures.ok c.in_ok-push.ensures
-    c.loop-at.lists.to c.loop-at.lists.found.items c.loop-at.invariant.same c.loop-at.invariant.count c.loop-at.invariant.given in
+    c.loop-at.lists.to c.loop-at.lists.found c.loop-at.invariant.same c.loop-at.invariant.count c.loop-at.invariant.given in
     record {
       filled = filled_kept (contains nat_eq c.args.types.now) v w c.args.t.now.tokens depth_limit c.push.new.self.to c.push.new.self.found (c.loop-at.at - 1) filled c.list_entry.ensures.keeps;
-      given = lists_step c.args.types.now (type_map c.push.new.self) v w c.args.t.now.tokens c.loop-at.lists.to c.loop-at.lists.found.items c.loop-at.at some c.loop-at.invariant.count
-          given c.list_entry.ensures.keeps c.in_ok-list.list c.in_ok-list.ensures.ok c.push-in-loop-at.new.self.items c.in_ok-push-2.ensures.items;
-      count = omega (arith, some, c.loop-at.invariant.count, ap length c.in_ok-push-2.ensures.items, length-append c.loop-at.lists.found.items (c.in_ok-list.list ∷ []));
+      given = lists_step c.args.types.now (type_map c.push.new.self) v w c.args.t.now.tokens c.loop-at.lists.to c.loop-at.lists.found c.loop-at.at some c.loop-at.invariant.count
+          given c.list_entry.ensures.keeps c.in_ok-list.list c.in_ok-list.ensures.ok c.push-in-loop-at.new.self c.in_ok-push-2.ensures;
+      count = omega (arith, some, c.loop-at.invariant.count, ap length c.in_ok-push-2.ensures, length-append c.loop-at.lists.found (c.in_ok-list.list ∷ []));
       same = c.loop-at.invariant.same ∙ sym made;
       keeps = extends_then c.args.into.now u w c.loop-at.invariant.keeps on;
       low = inl low;
