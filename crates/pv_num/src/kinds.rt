@@ -85,7 +85,16 @@ pub(crate) fn bits(kind: IntKind, n: i128) -> u64
     ensures value { result ≡ bits_of kind n }
     ensures bound { result < modulus_of kind }
 {
-    n.rem_euclid(modulus(kind)) as u64
+    match kind {
+        IntKind::Bool | IntKind::Char | IntKind::SChar | IntKind::UChar => {
+            n.rem_euclid(0x100) as u64
+        }
+        IntKind::Short | IntKind::UShort => n.rem_euclid(0x1_0000) as u64,
+        IntKind::Int | IntKind::UInt => n.rem_euclid(0x1_0000_0000) as u64,
+        IntKind::Long | IntKind::ULong | IntKind::LLong | IntKind::ULLong => {
+            n.rem_euclid(0x1_0000_0000_0000_0000) as u64
+        }
+    }
 }
 
 /// The member of the kind with these bits.
