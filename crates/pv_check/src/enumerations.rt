@@ -67,6 +67,14 @@ fn may_enumerate(s: &Scopes, into: &TypedUnit, n: u32, k: i128) -> bool
     fits(IntKind::Int, k) && !(s.count() == 1 && is_main(into, n))
 }
 
+/// The value of an enumerator, as an `int` (C17 6.7.2.2p3).
+fn int_of(k: i128) -> i32
+    requires { IsTrue (fits_of kind.Int k) }
+    ensures { result ≡ k }
+{
+    k as i32
+}
+
 /// The value that an enumerator has which stands behind one of the value and has none of its own (C17 6.7.2.2p3).
 fn after_enumerator(k: i128) -> i128
     requires { IsTrue (fits_of kind.Int k) }
@@ -90,7 +98,7 @@ pub(crate) fn enumerated(
     if !may_enumerate(s, into, n, k) {
         return Ok(None);
     }
-    if !s.declare(n, Entry::Constant(k))? {
+    if !s.declare(n, Entry::Constant(int_of(k)))? {
         return Ok(None);
     }
     Ok(Some(after_enumerator(k)))

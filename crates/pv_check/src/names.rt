@@ -41,7 +41,7 @@ pub(crate) fn object(into: &mut TypedUnit, line: u32, o: u32) -> Result<Option<N
 pub(crate) fn enumerator(
     into: &mut TypedUnit,
     line: u32,
-    value: i128,
+    value: i32,
 ) -> Result<Option<NodeId>, NoMemory>
     requires known { AreKnown into.old }
     ensures node { IfOk result (λ r. IfSome r (λ v. IsExpression into.new v)) }
@@ -51,7 +51,7 @@ pub(crate) fn enumerator(
     let Ok(t) = intern(into, Term::Int(IntKind::Int)) else {
         return Err(NoMemory);
     };
-    let Ok(r) = add(into, Typed::Constant(value), t, line, true) else {
+    let Ok(r) = add(into, Typed::Constant(value as i64), t, line, true) else {
         return Err(NoMemory);
     };
     Ok(Some(r))
@@ -91,7 +91,7 @@ fn named_constant(
     s: &Scopes,
     hidden: bool,
     line: u32,
-    value: i128,
+    value: i32,
     into: &mut TypedUnit,
 ) -> Result<Option<NodeId>, NoMemory>
     requires open { IsOpen into.old s.now }

@@ -19,8 +19,8 @@ pub enum Entry {
     Function(u32),
     /// A type (C17 6.7.8).
     Typedef(TypeId),
-    /// An enumeration constant, by its value (C17 6.4.4.3).
-    Constant(i128),
+    /// An enumeration constant, by its value, which is an `int` (C17 6.4.4.3, 6.7.2.2p2).
+    Constant(i32),
 }
 
 /// What a tag designates (C17 6.7.2.3).

@@ -76,6 +76,7 @@ module _ (b : Setting) (call : Calling) (t : Ty) (line : ℕ) (ls : List (List N
   begins-if (typed.Convert a) = refl
   begins-if (typed.CallPointer a l) = refl
   begins-if (typed.Constant k) = tt
+  begins-if (typed.LargeConstant k) = tt
   begins-if (typed.Object o) = tt
   begins-if (typed.Function f) = tt
   begins-if (typed.String l) = tt
@@ -202,6 +203,7 @@ takes-form ls ts turn (typed.CompoundAssign o k a d) = refl
 takes-form ls ts turn (typed.PointerAssign g a d) = refl
 takes-form ls ts turn (typed.Comma a d) = refl
 takes-form ls ts turn (typed.Constant k) = refl
+takes-form ls ts turn (typed.LargeConstant k) = refl
 takes-form ls ts turn (typed.Object o) = refl
 takes-form ls ts turn (typed.Function f) = refl
 takes-form ls ts turn (typed.String l) = refl

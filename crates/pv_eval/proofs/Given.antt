@@ -63,6 +63,7 @@ module _ (b : Setting) (call : Calling) (t : Ty) (line : ℕ) (ls : List (List N
   given-alone (typed.PointerEquality o a d) e h = absurd cc
   given-alone (typed.Assign a d) e h = absurd cc
   given-alone (typed.Constant k) e h = refl
+  given-alone (typed.LargeConstant k) e h = refl
   given-alone (typed.Object o) e h = refl
   given-alone (typed.Function f) e h = refl
   given-alone (typed.String l) e h = refl
@@ -94,6 +95,7 @@ module _ (b : Setting) (call : Calling) (t : Ty) (line : ℕ) (ls : List (List N
   second-alone (typed.PointerEquality o a d) h = absurd (h.not-PointerEquality o a d refl)
   second-alone (typed.Assign a d) h = absurd (h.not-Assign a d refl)
   second-alone (typed.Constant k) h = refl
+  second-alone (typed.LargeConstant k) h = refl
   second-alone (typed.Object o) h = refl
   second-alone (typed.Function f) h = refl
   second-alone (typed.String l) h = refl

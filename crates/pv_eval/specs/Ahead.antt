@@ -138,6 +138,7 @@ first_operand_of (typed.Read a) = Some a
 first_operand_of (typed.ArrayPointer a) = Some a
 first_operand_of (typed.Convert a) = Some a
 first_operand_of (typed.Constant k) = None
+first_operand_of (typed.LargeConstant k) = None
 first_operand_of (typed.Object o) = None
 first_operand_of (typed.Function f) = None
 first_operand_of (typed.String l) = None

@@ -45,8 +45,9 @@ pub(crate) fn begin_leaf(
     ensures fits { MoveFitsOr unit.now result }
 {
     match x {
-        Typed::Constant(k) => Ok(Move::Give(integer(k))),
+        Typed::Constant(k) => Ok(Move::Give(integer(k as i128))),
         Typed::Sizeof(k) => Ok(Move::Give(size(k))),
+        Typed::LargeConstant(k) => Ok(Move::Give(size(k))),
         Typed::Object(o) => give(moment.object(unit, line, o)),
         Typed::String(l) => give(moment.literal(unit, line, l)),
         Typed::Function(f) => give(moment.function(unit, line, f)),

@@ -44,6 +44,7 @@ pub(crate) fn first_operand(x: Typed) -> Option<NodeId>
         Typed::Convert(a) => Some(a),
         Typed::CallPointer(a, _) => Some(a),
         Typed::Constant(_) => None,
+        Typed::LargeConstant(_) => None,
         Typed::Object(_) => None,
         Typed::Function(_) => None,
         Typed::String(_) => None,

@@ -10,7 +10,7 @@ ghost use Rattle.pv_eval.specs.Plainly.{Yields, GivesAlone, GivesWith, GivesWith
 use crate::operands::{first_operand, second_operand};
 use crate::plain_comparisons::{equality, negated};
 use crate::plain_conversions::cast;
-use crate::plain_numbers::{arithmetic, integer, natural, unary};
+use crate::plain_numbers::{arithmetic, natural, unary};
 use crate::plain_places::{object, part, subscript, summed};
 use crate::plain_reads::read;
 use crate::types::is_none;
@@ -45,7 +45,7 @@ fn alone(unit: &TypedUnit, world: &World, x: Typed) -> Option<Found>
     ensures { IfSome result (λ v. GivesAlone unit.now world.now x (found_worth v)) }
 {
     match x {
-        Typed::Constant(k) => integer(k),
+        Typed::Constant(k) => Some(Found::Number(k)),
         Typed::Sizeof(k) => natural(k),
         Typed::Object(o) => object(world, o, unit.object(o).lasting),
         _ => None,

@@ -72,7 +72,7 @@ pub(crate) fn integer(k: i128) -> Got
     Got::Scalar(Value::Int(k))
 }
 
-/// A size.
+/// A size, or another number without a sign.
 pub(crate) fn size(k: u64) -> Got
     ensures { worth_of result ≡ int (pos k) }
 {

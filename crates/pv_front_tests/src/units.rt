@@ -19,7 +19,7 @@ use pv_types::{Term, TypeId};
 use std::process::Abort;
 
 /// An `int` constant.
-fn number(rt: &impl Abort, u: &mut TypedUnit, int: TypeId, n: i128) -> NodeId
+fn number(rt: &impl Abort, u: &mut TypedUnit, int: TypeId, n: i64) -> NodeId
     requires { IsReady u.old int }
     ensures ready { IsReady u.new int }
     ensures node { IsExpression u.new result }

@@ -61,6 +61,7 @@ module _ (P : Ty → Type 0) (of_void : P VoidTy) where
 
     all_form : (lists : List (List NodeId)) (x : Typed) → AllForm P (form_in lists ts x)
     all_form lists (typed.Constant value) = tt
+    all_form lists (typed.LargeConstant value) = tt
     all_form lists (typed.Object o) = tt
     all_form lists (typed.Function f) = tt
     all_form lists (typed.String l) = tt

@@ -15,6 +15,7 @@ use Rattle.pv_typed.specs.Turns.{turns_in}
 module _ (f g : NodeId → Option ℕ) (P : NodeId → Type 0) (same : (n : NodeId) → P n → g n ≡ f n) where
   pub turns_same : (counts : Bool) (x : Typed) → Each P (operands x) → turns_in g counts x ≡ turns_in f counts x
   turns_same counts (typed.Constant v) h = refl
+  turns_same counts (typed.LargeConstant v) h = refl
   turns_same counts (typed.Sizeof v) h = refl
   turns_same counts (typed.Object o) h = refl
   turns_same counts (typed.String l) h = refl
@@ -100,6 +101,7 @@ capped_two counts m n =
 module _ (turns : NodeId → Option ℕ) where
   pub turns_capped : (counts : Bool) (x : Typed) → capped (turns_in (λ n. capped (turns n)) counts x) ≡ capped (turns_in turns counts x)
   turns_capped counts (typed.Constant v) = refl
+  turns_capped counts (typed.LargeConstant v) = refl
   turns_capped counts (typed.Sizeof v) = refl
   turns_capped counts (typed.Object o) = refl
   turns_capped counts (typed.String l) = refl
@@ -138,6 +140,7 @@ module _ (turns : NodeId → Option ℕ) where
 module _ (lists : List (List NodeId)) (ts : List Tree) where
   pub turns_formed : (counts : Bool) (x : Typed) → turns_in (λ n. turns_of (expression_in ts n)) counts x ≡ turns_of_form counts (form_in lists ts x)
   turns_formed counts (typed.Constant v) = refl
+  turns_formed counts (typed.LargeConstant v) = refl
   turns_formed counts (typed.Sizeof v) = refl
   turns_formed counts (typed.Object o) = refl
   turns_formed counts (typed.String l) = refl

@@ -12,6 +12,7 @@ use Rattle.pv_typed.specs.Children.{row_at}
 -- the turns of an expression's node (6.5), where those of its operands are given
 abbrev pub turns_in : (NodeId → Option ℕ) → Bool → Typed → Option ℕ
 turns_in turns counts (typed.Constant value) = Some 1
+turns_in turns counts (typed.LargeConstant value) = Some 1
 turns_in turns counts (typed.Sizeof size) = Some 1
 turns_in turns counts (typed.Object o) = Some 1
 turns_in turns counts (typed.String l) = Some 1

@@ -83,7 +83,8 @@ impl TypedUnit {
         ensures { result ≡ capped (turns_in (turns_kept self.now.rows) counts x) }
     {
         match x {
-            Typed::Constant(_) | Typed::Sizeof(_) | Typed::Object(_) | Typed::String(_) => Some(1),
+            Typed::Constant(_) | Typed::LargeConstant(_) | Typed::Sizeof(_) => Some(1),
+            Typed::Object(_) | Typed::String(_) => Some(1),
             Typed::Read(a) | Typed::ArrayPointer(a) | Typed::Convert(a) => {
                 one(false, self.turns_at(a))
             }

@@ -26,6 +26,11 @@ pub returns-in-Sizeof-clause-led : goal.returns-in-Sizeof-clause-led
 unfolding ev
 returns-in-Sizeof-clause-led c = λ b out es hs hl call t j js. rw c.in-Sizeof.is (ap (λ v. done (opened j.foes) v (state_of c.args.moment.now out es)) (sym c.size.ensures))
 
+pub returns-in-LargeConstant-clause-led : goal.returns-in-LargeConstant-clause-led
+unfolding ev
+returns-in-LargeConstant-clause-led c = λ b out es hs hl call t j js.
+    rw c.in-LargeConstant.is (ap (λ v. done (opened j.foes) v (state_of c.args.moment.now out es)) (sym c.size-in-LargeConstant.ensures))
+
 pub returns-in-Object-clause-led : goal.returns-in-Object-clause-led
 unfolding ev
 returns-in-Object-clause-led c = λ b out es hs hl call t j js. rw (c.in-Object.is, c.give.ensures) (came-given b call c.args.unit.now c.object.result _ (opened j.foes ∷ js) _ (c.object.ensures.acted b out es hs hl))

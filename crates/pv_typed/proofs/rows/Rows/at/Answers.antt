@@ -14,7 +14,6 @@ pub returns-in-Expression : goal.returns-in-Expression
 returns-in-Expression c =
     row_read c.self.inside.whole.items c.self.inside.packed.items c.args.self.now c.args.i c.index.result.now c.requires c.self.view_is c.index.ensures
     ∙ ap (row_of c.self.inside.whole.items) c.in-Expression.is
-    ∙ ap (λ x. record { what = what.Expression x c.in-Expression.t c.in-Expression.counts c.in-Expression.plain; line = c.in-Expression.line }) (sym c.expression_of-x.ensures)
 
 pub returns-in-Statement : goal.returns-in-Statement
 returns-in-Statement c =
