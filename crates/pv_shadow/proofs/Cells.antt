@@ -7,7 +7,7 @@ use Rattle.pv_prov.specs.declared.names.Prov.{Prov}
 use Rattle.pv_prov.specs.declared.names.Prov.TheVariants.{Empty, Inst, Pair}
 use Rattle.pv_shadow.specs.declared.byte.Byte.{Byte}
 use Rattle.pv_shadow.specs.declared.packed.Packed.{Packed}
-use Rattle.pv_shadow.specs.Packed.{unpacked, number_if, pair_if, absent, digit_at, name_in, head_of, cell_byte, cell_or, first_of, seen_at, seen_from, seen, IsByteOf, IsCell}
+use Rattle.pv_shadow.specs.Packed.{unpacked, number_if, pair_if, absent, digit_at, name_in, head_of, cell_byte, cell_or, first_of, seen_at, seen_from, seen, IsByteOf, IsCell, IsNameless}
 use Rattle.pv_shadow.specs.Pages.{slot_at, with_slots}
 use Rattle.pv_shadow.specs.Whole.{little_endian, mark_at, pointed}
 use Rattle.pv_shadow.proofs.Ranges.{IsOutside}
@@ -49,6 +49,17 @@ at_loose xs i h = ap (λ b. cond b (Some (cell_byte (get_or xs (first_of i) abse
 
 pub at_cell : (xs : List Packed) (i : ℕ) → 64 ≤ (get_or xs (first_of i) absent).kind → seen_at xs i ≡ Some (cell_byte (get_or xs (first_of i) absent) (get_or xs (first_of i + 1) absent).name (i % 8))
 at_cell xs i h = ap (λ b. cond b (Some (cell_byte (get_or xs (first_of i) absent) (get_or xs (first_of i + 1) absent).name (i % 8))) (unpacked (get_or xs i absent))) (is_cell (get_or xs (first_of i) absent).kind h)
+
+-- a byte that has a value and no name
+not_zero : (k : ℕ) → 0 < k → (k == 0) ≡ false
+not_zero k h = grind (arith, nat_tests)
+
+pub nameless_is : (x : Packed) → x.kind / 16 ≡ 0 → x.kind / 2 % 2 ≡ 1 → IsSomeAnd (unpacked x) (IsNameless x.value)
+nameless_is x named valued =
+    let some : 0 < x.kind = omega (arith, valued) in
+    let is : Byte = record { value = number_if (x.kind / 2 % 2) x.value; prov = name_in (x.kind / 16) x.name; index = number_if (x.kind / 4 % 2) x.index; mark = pair_if (x.kind / 8 % 2) x.mark x.place } in
+    subst (λ t. IsSomeAnd (cond t None (Some is)) (IsNameless x.value)) (sym (not_zero x.kind some))
+    (ap (λ d. number_if d x.value) valued, ap (λ d. name_in d x.name) named)
 
 -- a page without bytes
 unset : (n i : ℕ) → get_or (replicate n absent) i absent ≡ absent

@@ -1,0 +1,63 @@
+-- The steps of the loops that read and write the bytes of a number in a page.
+use Rattle.std.proofs.Common.{◌≡◌, ℕ, zero, suc, ◌+◌, ◌-◌, ◌*◌, ◌/◌, ◌%◌, ◌<◌, true, false, ◌&&◌, List, ◌∷◌, length, map, set, get_or, drop, drop-cons, Option, Some, None, IsSomeAnd, refl, sym, ap, ◌∙◌, subst, arith}
+use Rattle.std.specs.FinMap.{insert}
+use Rattle.pv_prov.specs.declared.names.Prov.TheVariants.{Empty}
+use Rattle.pv_shadow.specs.declared.byte.Byte.{Byte}
+use Rattle.pv_shadow.specs.Bytes.{Store, blank, written}
+use Rattle.pv_shadow.specs.Packed.{digit_at, IsNameless}
+use Rattle.pv_shadow.specs.Pages.{slot_at, with_slots}
+use Rattle.pv_shadow.specs.Whole.{little_endian, mark_at, plain}
+use Rattle.pv_shadow.specs.Readings.{has_mark, are_marked}
+
+-- one byte more in front
+pub digits_more : (xs : List (Option Byte)) (i k n v m : ℕ) → 0 < k → v < 256 → IsSomeAnd (slot_at xs (i + (k - 1))) (IsNameless v)
+    → ((j : ℕ) → k + j < n → IsSomeAnd (slot_at xs (i + (k + j))) (IsNameless (digit_at m j)))
+    → (j : ℕ) → (k - 1) + j < n → IsSomeAnd (slot_at xs (i + ((k - 1) + j))) (IsNameless (digit_at (m * 256 + v) j))
+digits_more xs i k n v m some low first rest zero within =
+    let e : i + (k - 1) ≡ i + ((k - 1) + 0) = omega arith in
+    let d : v ≡ (m * 256 + v) % 256 = omega (arith, low) in
+    subst (λ q. IsSomeAnd (slot_at xs q) (IsNameless (digit_at (m * 256 + v) 0))) e (subst (λ q. IsSomeAnd (slot_at xs (i + (k - 1))) (IsNameless q)) d first)
+digits_more xs i k n v m some low first rest (suc j) within =
+    let e : i + (k + j) ≡ i + ((k - 1) + suc j) = omega (arith, some) in
+    let d : m ≡ (m * 256 + v) / 256 = omega (arith, low) in
+    let h : k + j < n = omega (arith, some, within) in
+    subst (λ q. IsSomeAnd (slot_at xs q) (IsNameless (digit_at (m * 256 + v) (suc j)))) e (subst (λ q. IsSomeAnd (slot_at xs (i + (k + j))) (IsNameless (digit_at q j))) d (rest j h))
+
+-- byte j of a number, of which r is left from that byte on
+abbrev pub byte_of : Option ℕ → ℕ → ℕ → Byte
+byte_of mark j r = record { value = Some (r % 256); prov = Empty; index = None; mark = mark_at mark j }
+
+next_digits : (mark : Option ℕ) (n k r : ℕ) → k < n → plain mark k (little_endian (n - k) r) ≡ byte_of mark k r ∷ plain mark (k + 1) (little_endian (n - (k + 1)) (r / 256))
+next_digits mark n k r h = let e : n - k ≡ suc (n - (k + 1)) = omega arith in ap (λ t. plain mark k (little_endian t r)) e
+
+pub number_step : (xs : List (Option Byte)) (i n k r : ℕ) (mark : Option ℕ) → k < n
+    → with_slots (set xs (i + k) (Some (byte_of mark k r))) (i + (k + 1)) (map Some (plain mark (k + 1) (little_endian (n - (k + 1)) (r / 256)))) ≡ with_slots xs (i + k) (map Some (plain mark k (little_endian (n - k) r)))
+number_step xs i n k r mark h =
+    let f : (i + k) + 1 ≡ i + (k + 1) = omega arith in
+    sym (ap (λ bs. with_slots xs (i + k) (map Some bs)) (next_digits mark n k r h)
+    ∙ ap (λ t. with_slots (set xs (i + k) (Some (byte_of mark k r))) t (map Some (plain mark (k + 1) (little_endian (n - (k + 1)) (r / 256))))) f)
+
+pub written_step : (m : Store) (a n k r : ℕ) (mark : Option ℕ) → k < n
+    → written (insert m (a + k) (byte_of mark k r)) (a + (k + 1)) (plain mark (k + 1) (little_endian (n - (k + 1)) (r / 256))) ≡ written m (a + k) (plain mark k (little_endian (n - k) r))
+written_step m a n k r mark h =
+    let f : (a + k) + 1 ≡ a + (k + 1) = omega arith in
+    sym (ap (written m (a + k)) (next_digits mark n k r h)
+    ∙ ap (λ t. written (insert m (a + k) (byte_of mark k r)) t (plain mark (k + 1) (little_endian (n - (k + 1)) (r / 256)))) f)
+
+pub plain_long : (mark : Option ℕ) (j n r : ℕ) → length (plain mark j (little_endian n r)) ≡ n
+plain_long mark j zero r = refl
+plain_long mark j (suc n) r = ap suc (plain_long mark (j + 1) n (r / 256))
+
+-- the marks of bytes, one after the other
+marked_next : (bs : List Byte) (t k : ℕ) → k < length bs → are_marked (drop k bs) t k ≡ (has_mark (get_or bs k blank).mark t k && are_marked (drop (k + 1) bs) t (k + 1))
+marked_next bs t k h =
+    let e : suc k ≡ k + 1 = omega arith in
+    ap (λ xs. are_marked xs t k) (drop-cons bs k blank h ∙ ap (λ j. get_or bs k blank ∷ drop j bs) e)
+
+pub marked_step : (bs : List Byte) (t k : ℕ) (b : Byte) → k < length bs → b ≡ get_or bs k blank → has_mark b.mark t k ≡ true → are_marked (drop (k + 1) bs) t (k + 1) ≡ are_marked (drop k bs) t k
+marked_step bs t k b h e m =
+    sym (marked_next bs t k h ∙ ap (λ (x : Byte). has_mark x.mark t k && are_marked (drop (k + 1) bs) t (k + 1)) (sym e) ∙ ap (λ c. c && are_marked (drop (k + 1) bs) t (k + 1)) m)
+
+pub marked_stop : (bs : List Byte) (t k : ℕ) (b : Byte) → k < length bs → b ≡ get_or bs k blank → has_mark b.mark t k ≡ false → false ≡ are_marked (drop k bs) t k
+marked_stop bs t k b h e m =
+    sym (marked_next bs t k h ∙ ap (λ (x : Byte). has_mark x.mark t k && are_marked (drop (k + 1) bs) t (k + 1)) (sym e) ∙ ap (λ c. c && are_marked (drop (k + 1) bs) t (k + 1)) m)
