@@ -100,6 +100,7 @@ fn hold_a_number(rt: &impl Abort, memory: &mut Memory) {
 /// Its bytes are a number too where they are no object.
 fn look_at_bytes(rt: &impl Abort, memory: &mut Memory) {
     let at = reach(rt, memory, FIRST, false);
+    assert!(rt; memory.number(&at, 8) == Some(0xffff_ffff_ffff_fffb));
     let bytes = memory.read_bytes(&at, 8).expect(rt, "no memory");
     assert!(rt; bytes.len() == 8);
     let value = memory.value_of(&bytes, Scalar::Int(IntKind::Long));
@@ -115,9 +116,10 @@ fn hold_a_pointer(rt: &impl Abort, memory: &mut Memory) {
     assert!(rt; load(rt, memory, SECOND, Scalar::Pointer) == Value::Pointer(SECOND));
 }
 
-/// Where it stands there is one whole pointer, to what is live.
+/// Where it stands there is one whole pointer, to what is live, and no number without a name.
 fn ask_for_a_pointer(rt: &impl Abort, memory: &mut Memory) {
     let at = reach(rt, memory, FIRST, false);
+    assert!(rt; memory.number(&at, 8).is_none());
     let Some(whole) = memory.whole_pointer(&at) else {
         panic!(rt; "no whole pointer");
     };

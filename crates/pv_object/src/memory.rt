@@ -24,6 +24,9 @@ ghost use Rattle.pv_object.specs.Loads.{loaded_name, whole_pointer, MakesPair, F
 ghost use Rattle.pv_object.specs.Storing.{with_bytes, copied};
 ghost use Rattle.pv_object.specs.Creating.{created, without};
 ghost use Rattle.pv_shadow.specs.Whole.{pointed, little_endian};
+ghost use Rattle.pv_shadow.specs.Readings.{nameless_number, are_marked};
+ghost use Rattle.pv_object.specs.declared.values.Scalar.{Scalar as Form};
+ghost use Rattle.pv_object.specs.declared.values.Value.{Value as Stored};
 
 use crate::checks::{Wish, checked_in, chosen, clause_of, range_stop, undefined};
 use crate::encoding;
@@ -353,6 +356,30 @@ impl Memory {
         }
     }
 
+    /// The number that the n bytes at a place are, the least significant first: some exactly where each has a value and none
+    /// has a name, so that nothing is exposed by reading them. No byte is handed over.
+    #[inline(always)]
+    pub fn number(&self, at: &Reach, n: u64) -> Option<u64>
+        requires few { n ≤ 8 }
+        requires reached { IsReach self.now.table at.now n }
+        ensures { result ≡ nameless_number (read self.now.bytes at.now.address n) }
+    {
+        self.table.well_formed();
+        self.bytes.number(at.address, n)
+    }
+
+    /// Whether the n bytes at a place that was reached have the marks of one store of the type with this number (6.5p6).
+    #[inline(always)]
+    pub fn is_marked(&self, at: &Reach, n: u64, t: u32) -> bool
+        requires some { 1 ≤ n }
+        requires few { n ≤ 8 }
+        requires reached { IsReach self.now.table at.now n }
+        ensures { result ≡ are_marked (read self.now.bytes at.now.address n) t 0 }
+    {
+        self.table.well_formed();
+        self.bytes.is_marked(at.address, n, t)
+    }
+
     // What bytes are worth at an integer type. The names of the bytes that are read become exposed.
     #[inline(always)]
     #[tactic(auto, using(crate::proofs::Later::later_itself, crate::proofs::Later::later_both))]
@@ -436,6 +463,7 @@ impl Memory {
     {
         match (t, *v) {
             (Scalar::Pointer, Value::Pointer(p)) => self.store_pointer(at, p, mark),
+            (Scalar::Int(kind), Value::Int(n)) => self.store_number(at, kind, n, mark),
             _ => self.store_bytes(at, t, v, mark),
         }
     }
@@ -451,6 +479,18 @@ impl Memory {
         let bytes = encoding::encode(t, v, mark);
         let size = encoding::size_of(t);
         self.write_bytes(at, &bytes[..size]);
+    }
+
+    // The same of an integer.
+    #[inline(always)]
+    fn store_number(&mut self, at: &Reach, kind: IntKind, n: i128, mark: Option<u32>)
+        requires { IsReach self.old.table at.now (size_of (Form.Int kind)) }
+        ensures { self.new ≡ stored self.old at.now.address (Form.Int kind) (Stored.Int n) mark }
+    {
+        self.table.well_formed();
+        let size = encoding::size_of(Scalar::Int(kind));
+        let number = encoding::bits(kind, n);
+        self.bytes.put_number(at.address, size as u64, number, mark);
     }
 
     // The same of a pointer, which stays whole.
