@@ -44,7 +44,7 @@ other m i k built l h = sym (same_number m i k built l (omega (arith, h, l))) �
     apart_eq : (i k : ℕ) → k < i → (i == k) ≡ false
     apart_eq i k h = grind arith
 
-same : (m : Known) (i : ℕ) → IsBuilt m → i < length m.terms → same_type (tree m i) (tree m i) ≡ true
+pub same : (m : Known) (i : ℕ) → IsBuilt m → i < length m.terms → same_type (tree m i) (tree m i) ≡ true
 same m i built l = sym (same_number m i i built l l) ∙ (Decides-eqb i i).1 refl
 
 -- a type has the number under which it was made

@@ -1,27 +1,30 @@
--- Bytes without names, of which nothing is exposed.
-use Rattle.std.proofs.Common.{◌≡◌, ℕ, true, ◌-◌, ◌<◌, ◌≤◌, List, ◌∷◌, length, drop, get_or, refl, ap, ◌∙◌, arith, drop-cons, suc}
+-- Bytes that are a number and have no names, of which nothing is exposed.
+use Rattle.std.proofs.Common.{◌≡◌, ℕ, Bool, true, false, cond, ◌&&◌, List, [], ◌∷◌, Option, None, Some, IfSome, refl, sym}
+use Rattle.std.proofs.lemmas.Bool.{false≢true}
 use Rattle.pv_prov.specs.declared.names.Prov.{Prov}
 use Rattle.pv_prov.specs.declared.names.Prov.TheVariants.{Empty, Inst, Pair}
 use Rattle.pv_prov.specs.Names.{is_empty}
 use Rattle.pv_inst.specs.Table.{Table}
 use Rattle.pv_inst.specs.Exposure.{expose}
 use Rattle.pv_shadow.specs.declared.byte.Byte.{Byte}
+use Rattle.pv_shadow.specs.Readings.{are_nameless, nameless_number}
+use Rattle.pv_object.specs.Encoding.{number_in}
 use Rattle.pv_object.specs.Loading.{exposed_by}
+use Rattle.pv_eval.specs.Plainly.{IsPlainNumber}
 
-abbrev pub AreNameless : List Byte → Type 0
-AreNameless bytes = (T : Table) → exposed_by T bytes ≡ T
+first_exposes : (p : Prov) (bs : List Byte) → (is_empty p && are_nameless bs) ≡ true → (are_nameless bs ≡ true → (T : Table) → exposed_by T bs ≡ T) → (T : Table) → exposed_by (expose T p) bs ≡ T
+first_exposes Empty bs h go T = go h T
+first_exposes (Inst i) bs h go T = absurd (false≢true h)
+first_exposes (Pair k) bs h go T = absurd (false≢true h)
 
-pub empty_is : (p : Prov) → true ≡ is_empty p → p ≡ Empty
-empty_is Empty h = refl
-empty_is (Inst i) h = absurd cc
-empty_is (Pair k) h = absurd cc
+nothing_exposed : (bs : List Byte) → are_nameless bs ≡ true → (T : Table) → exposed_by T bs ≡ T
+nothing_exposed [] h T = refl
+nothing_exposed (b ∷ bs) h T = first_exposes b.prov bs h (nothing_exposed bs) T
 
--- one byte more in front
-pub nameless_more : (bs : List Byte) (i : ℕ) (d : Byte) → 0 < i → i ≤ length bs → (get_or bs (i - 1) d).prov ≡ Empty → AreNameless (drop i bs) → AreNameless (drop (i - 1) bs)
-nameless_more bs i d some within e h = λ (T : Table).
-    let near : i - 1 < length bs = omega (arith, some, within) in
-    let next : suc (i - 1) ≡ i = omega (arith, some) in
-    ap (exposed_by T) (drop-cons bs (i - 1) d near)
-    ∙ ap (λ k. exposed_by T (get_or bs (i - 1) d ∷ drop k bs)) next
-    ∙ ap (λ (p : Prov). exposed_by (expose T p) (drop i bs)) e
-    ∙ h T
+number_by : (t : Bool) (bs : List Byte) (n : ℕ) → are_nameless bs ≡ t → cond t (number_in bs) None ≡ Some n → IsPlainNumber bs n
+number_by true bs n all e = (e, nothing_exposed bs all)
+number_by false bs n all e = absurd cc
+
+pub plain_number : (o : Option ℕ) (bs : List Byte) → o ≡ nameless_number bs → IfSome o (IsPlainNumber bs)
+plain_number None bs e = tt
+plain_number (Some n) bs e = number_by (are_nameless bs) bs n refl (sym e)

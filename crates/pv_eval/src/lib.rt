@@ -26,7 +26,6 @@ mod operands;
 mod operations;
 mod permission;
 mod plain;
-mod plain_bytes;
 mod plain_comparisons;
 mod plain_conversions;
 mod plain_numbers;

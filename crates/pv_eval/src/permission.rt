@@ -2,6 +2,7 @@
 ghost use Rattle.std.specs.Prelude.{◌≡◌, ◌≤◌, ◌<◌, ◌^◌, true, length, IsTrue, IfOk, IfSome, map};
 ghost use Rattle.std.specs.Option.{option_map};
 ghost use Rattle.pv_types.specs.Known.{tree, env};
+ghost use Rattle.pv_types.specs.Formed.{IsBuilt};
 ghost use Rattle.pv_types.specs.Layouts.{is_complete_in, layout_in};
 ghost use Rattle.pv_types.specs.Ty.{Ty};
 ghost use Rattle.pv_layout.specs.Parts.{bare};
@@ -11,7 +12,7 @@ ghost use Rattle.pv_object.specs.Reaching.{IsReach};
 ghost use Rattle.pv_typed.specs.Known.{AreKnown};
 ghost use Rattle.pv_types.specs.declared.terms.TypeId.{TypeId as TypeNumber};
 ghost use Rattle.pv_eval.specs.TypeForms.{lvalue};
-ghost use Rattle.pv_eval.specs.Sizes.{setting_of, size_in, IsComplete};
+ghost use Rattle.pv_eval.specs.Sizes.{setting_of, size_in, is_bare_scalar, IsComplete};
 ghost use Rattle.pv_eval.specs.Permission.{marks_of, permits_object, type_by, permits};
 
 use crate::types::{Complete, bytes_of, is_character, layer, measured};
@@ -122,6 +123,36 @@ fn permits_object(unit: &TypedUnit, object: Option<u32>, offset: u64, want: Type
     }
 }
 
+/// Whether it is an integer or pointer type without qualifiers (C17 6.2.5p21).
+fn is_bare_scalar(unit: &TypedUnit, t: TypeId) -> bool
+    requires { t.0 < length unit.now.known.terms }
+    ensures scalar { IsTrue result → is_bare_scalar (tree unit.now.known t.0) ≡ true }
+    ensures built { IsBuilt unit.now.known }
+{
+    match unit.types().view(t) {
+        Term::Int(_) => true,
+        Term::Pointer(_) => true,
+        _ => false,
+    }
+}
+
+/// Whether an integer or a pointer in an allocation is read at the type at which it was stored, as a whole. Most reads are such, and
+/// need no list of marks.
+fn is_own_store(unit: &TypedUnit, world: &World, at: &Reach, want: TypeId, size: u64) -> bool
+    requires want { want.0 < length unit.now.known.terms }
+    requires size { size ≡ size_in unit.now.known (tree unit.now.known want.0) }
+    requires reached { IsReach world.now.memory.table at.now size }
+    ensures { IsTrue result → permits_marks unit.now.known (layout_in (env unit.now.known) (tree unit.now.known want.0)).parts (marks_of (read world.now.memory.bytes at.now.address size)) ≡ true }
+{
+    if !is_bare_scalar(unit, want) {
+        return false;
+    }
+    if size < 1 || size > 8 {
+        return false;
+    }
+    world.memory().is_marked(at, size, want.0)
+}
+
 /// Whether what was stored in an allocation may be read through an lvalue of the type (C17 6.5p6).
 fn permits_heap(
     alloc: Global,
@@ -138,6 +169,9 @@ fn permits_heap(
     requires reached { IsReach world.now.memory.table at.now size }
     ensures { IfOk result (λ p. p ≡ permits_marks unit.now.known (layout_in (env unit.now.known) (tree unit.now.known want.0)).parts (marks_of (read world.now.memory.bytes at.now.address size))) }
 {
+    if is_own_store(unit, world, at, want, size) {
+        return Ok(true);
+    }
     let bytes = world.memory().read_bytes(at, size)?;
     let marks = marks_of(alloc, &bytes)?;
     Ok(permits_marks(unit.types(), &marks, want))

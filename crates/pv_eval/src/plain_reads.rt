@@ -23,14 +23,12 @@ ghost use Rattle.pv_eval.specs.Plainly.{GivesWith, ReadsFrom, HasReached, IsLook
 
 use crate::permission::permits;
 use crate::plain::{Found, Spot};
-use crate::plain_bytes::plain_number;
 use crate::plain_numbers::integer;
 use crate::types::{AccessedType, accessed};
 use pv_inst::{Kind, Tried};
 use pv_num::{IntKind, convert};
 use pv_object::{Pointer, Reach};
 use pv_prov::Prov;
-use pv_shadow::BLANK;
 use pv_tree::NodeId;
 use pv_typed::TypedUnit;
 use pv_world::{Shape, World};
@@ -121,9 +119,7 @@ fn number_at(world: &World, at: &Reach, n: u64) -> Option<u64>
     requires reached { IsReach world.now.memory.table at.now n }
     ensures { IfSome result (λ k. IsPlainNumber (read world.now.memory.bytes at.now.address n) k) }
 {
-    let mut bytes = [BLANK; 8];
-    world.memory().read_into(at, &mut bytes[..n as usize]);
-    plain_number(&bytes[..n as usize])
+    world.memory().number(at, n)
 }
 
 /// Whether each instance that became exposed was told of.
