@@ -5,8 +5,9 @@ use Rattle.std.proofs.lemmas.Bool.{lt-ltb, le-leb}
 use Rattle.pv_num.specs.Kinds.{width}
 use Rattle.pv_num.specs.declared.kinds.IntKind.{IntKind}
 use Rattle.pv_num.specs.declared.kinds.IntKind.TheVariants as kind
-use Rattle.pv_types.specs.Ty.{Ty, IntTy, ArrayOf}
+use Rattle.pv_types.specs.Ty.{Ty, IntTy, PointerTo, ArrayOf}
 use Rattle.pv_types.specs.Compatible.{are_compatible}
+use Rattle.pv_types.proofs.Compared.{alike_self}
 use Rattle.pv_types.specs.Known.{Known, tree, env}
 use Rattle.pv_types.specs.Layouts.{Part, repeated, is_complete_in}
 use Rattle.pv_layout.specs.Parts.{bare, some_at, leaves, agrees, is_scalar}
@@ -60,6 +61,24 @@ whole_integer u o offset w k zero same form =
     subst (λ (n : ℕ). P (object_at (whole u) o).t n (tree u.known w)) (sym zero)
     (subst (λ (t : Ty). P t 0 (tree u.known w)) (sym same)
     (subst (λ (t : Ty). P t 0 t) (sym form) (own-kind b k)))
+
+-- a type is compatible with itself
+compatible-self : (t : Ty) → are_compatible t t ≡ true
+unfolding are_compatible
+compatible-self t = search alike_self
+
+-- an object of a pointer type that is accessed as a whole, at that type
+own-pointer : (b : Setting) (t : Ty) → permits_object b (if has_extent b (PointerTo t) then Some (PointerTo t) else None) 0 (PointerTo t) ≡ true
+own-pointer b t = ap (λ (c : Bool). (0 == 0 && (c || false)) || false) (compatible-self (PointerTo t))
+
+pub whole_pointer : (u : Stored) (o offset w : ℕ) (t : Ty) → offset ≡ 0 → (object_at (whole u) o).t ≡ tree u.known w → tree u.known w ≡ PointerTo t
+    → permits_object (setting_of u) (type_by (setting_of u) (Some o)) offset (tree u.known w) ≡ true
+whole_pointer u o offset w t zero same form =
+    let b = setting_of u in
+    let P : Ty → ℕ → Ty → Type 0 = λ s n want. permits_object b (if has_extent b s then Some s else None) n want ≡ true in
+    subst (λ (n : ℕ). P (object_at (whole u) o).t n (tree u.known w)) (sym zero)
+    (subst (λ (s : Ty). P s 0 (tree u.known w)) (sym same)
+    (subst (λ (s : Ty). P s 0 s) (sym form) (own-pointer b t)))
 
 -- an element of an array of integers, at that type
 agrees-itself : (k : IntKind) → agrees (IntTy k) (IntTy k) ≡ true

@@ -56,10 +56,11 @@ fn type_by(unit: &TypedUnit, object: Option<u32>) -> Option<Complete>
     }
 }
 
-/// Whether an object of an integer type is accessed as a whole, at its own type. Most accesses are such, and need no search for a part.
+/// Whether an object of an integer or pointer type is accessed as a whole, at its own type. Most accesses are such, and need no
+/// search for a part.
 #[inline(always)]
-#[tactic(auto, using(crate::proofs::Allowing::whole_integer))]
-fn is_whole_integer(unit: &TypedUnit, object: Option<u32>, offset: u64, want: TypeId) -> bool
+#[tactic(auto, using(crate::proofs::Allowing::whole_integer, crate::proofs::Allowing::whole_pointer))]
+fn is_whole_scalar(unit: &TypedUnit, object: Option<u32>, offset: u64, want: TypeId) -> bool
     requires { AreKnown unit.now }
     ensures { IsTrue result → permits_object (setting_of unit.now) (type_by (setting_of unit.now) object) offset (tree unit.now.known want.0) ≡ true }
 {
@@ -71,6 +72,7 @@ fn is_whole_integer(unit: &TypedUnit, object: Option<u32>, offset: u64, want: Ty
     }
     match layer(unit.types(), want) {
         Term::Int(_) => true,
+        Term::Pointer(_) => true,
         _ => false,
     }
 }
@@ -113,7 +115,7 @@ fn permits_object(unit: &TypedUnit, object: Option<u32>, offset: u64, want: Type
     requires small { size_in unit.now.known (tree unit.now.known want.0) ≤ 2 ^ 32 }
     ensures { result ≡ permits_object (setting_of unit.now) (type_by (setting_of unit.now) object) offset (tree unit.now.known want.0) }
 {
-    if is_whole_integer(unit, object, offset, want) || is_element(unit, object, offset, want) {
+    if is_whole_scalar(unit, object, offset, want) || is_element(unit, object, offset, want) {
         return true;
     }
     let types = unit.types();
