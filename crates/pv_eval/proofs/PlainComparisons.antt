@@ -20,7 +20,7 @@ use Rattle.pv_world.specs.Conversions.{opposite, tests, truth_by as truth_of}
 use Rattle.pv_world.specs.Pointers.{equals, equal_by as equal_of}
 use Rattle.pv_eval.specs.States.{then_do}
 use Rattle.pv_eval.specs.Suiting.{knows}
-use Rattle.pv_eval.specs.Operations.{Equals, Negates, does}
+use Rattle.pv_eval.specs.Operations.{Equals, Negates, Tests, does}
 use Rattle.pv_eval.specs.Sequenced.{done, work}
 use Rattle.pv_eval.specs.Steps.{converted, is_unequal}
 use Rattle.pv_eval.specs.declared.plain.Found.{Found}
@@ -70,6 +70,21 @@ module _ (w : World) where
       ∙ ap (λ k. Answers (opposite (not (p.address == 0))) w (telling (used_pair k live_test hv.tried))) hv.single
       ∙ ap (λ y. Answers y w quiet) (opposed (p.address == 0))
       ∙ ap (λ m. Answers (truth_int (m == 0)) w quiet) hv.address
+
+  -- and as a controlling expression asks
+  pub number_tested : (n : ℤ) (t : Bool) → t ≡ not (int_eq n (pos 0)) → GivesAt w (λ b. Tests (int n)) (truth_int t)
+  number_tested n t e = λ b. ap (λ c. Answers (truth_int c) w quiet) (sym e)
+
+  pub pointer_tested : (v : Worth) (a : ℕ) (t : Bool) → IsLooked T v a → t ≡ not (a == 0) → GivesAt w (λ b. Tests v) (truth_int t)
+  pointer_tested v a t hv e = λ b.
+      let p = hv.named in
+      ap (λ y. does b (Tests y) w) hv.is
+      ∙ ap (λ d. if d then tests truth_int (pointer p) w else Fails missing_value None w quiet) hv.known
+      ∙ ap (λ r. truth_of w p (truth_by p r, settled T p.prov r) truth_int) hv.used
+      ∙ ap (λ (U : Table). truth_of w p (Ok (not (p.address == 0), hv.tried), U) truth_int) hv.stays
+      ∙ ap (λ k. Answers (truth_int (not (p.address == 0))) w (telling (used_pair k live_test hv.tried))) hv.single
+      ∙ ap (λ m. Answers (truth_int (not (m == 0))) w quiet) hv.address
+      ∙ ap (λ c. Answers (truth_int c) w quiet) (sym e)
 
 -- an operator on two pointers
 pub gives_equality : (u : Stored) (w : World) (t : Ty) (op : BinOp) (negated : Bool) (a d : NodeId) (x y left right v : Worth) → IsConverted (expression_at u a) x left → IsConverted (expression_at u d) y right

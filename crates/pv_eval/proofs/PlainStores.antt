@@ -45,7 +45,7 @@ use Rattle.pv_eval.proofs.PlainSteps.{node_begun, node_stops, operand_stops}
 use Rattle.pv_eval.proofs.PlainNumbers.{not_less}
 
 -- an expression that is plain
-turns_plain : (x : TypedTree) (k : ℕ) → turns_of x ≡ Some k → whole_turns x ≡ Some k
+pub turns_plain : (x : TypedTree) (k : ℕ) → turns_of x ≡ Some k → whole_turns x ≡ Some k
 turns_plain (Node t line turn (Assign a d)) k e = absurd cc
 turns_plain (Node t line turn (CompoundAssign o i a d)) k e = absurd cc
 turns_plain (Node t line turn (PointerAssign sign a d)) k e = absurd cc

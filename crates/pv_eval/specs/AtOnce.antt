@@ -1,11 +1,14 @@
 -- Full expressions that are evaluated at once (C17 6.8p4): bridges from the code to evaluation. Each is said for every bound that allows
 -- the turns that were taken (5.1.2.3p1).
-use Rattle.std.specs.Prelude.{◌≡◌, ◌<◌, ◌≤◌, []}
+use Rattle.std.specs.Prelude.{◌≡◌, ℕ, ◌+◌, ◌<◌, ◌≤◌, Bool, List, []}
 use Rattle.pv_tree.specs.declared.nodes.NodeId.{NodeId}
 use Rattle.pv_typed.specs.Tables.{Stored}
 use Rattle.pv_typed.specs.NodeTrees.{expression_at}
 use Rattle.pv_world.specs.Worlds.{Worth}
-use Rattle.pv_eval.specs.States.{Stops, Turns}
+use Rattle.pv_world.specs.Worths.{truth_int}
+use Rattle.pv_eval.specs.declared.marked.Marked.{Marked}
+use Rattle.pv_eval.specs.States.{Setting, Gives, Stops, Turns}
+use Rattle.pv_eval.specs.Operations.{Tests, act}
 use Rattle.pv_eval.specs.Steps.{Calling}
 use Rattle.pv_eval.specs.Evaluation.{ev}
 use Rattle.pv_eval.specs.Moments.{Moment, Always, state_of}
@@ -43,3 +46,21 @@ abbrev pub CutFirst : Stored → (old new : Machine) → Type 0
 CutFirst u old new =
     Always u old.moment (λ b out es. (call : Calling) → old.moment.taken ≤ b.bound → b.bound < new.moment.taken
     → left_of b call u old.started (state_of old.moment out es) ≡ Stops Turns (state_of (record old.moment { taken = b.bound }) out es))
+
+-- 5.1.2.3p1: a turn more was taken
+abbrev pub ticked : Moment → Moment
+ticked m = record m { taken = m.taken + 1 }
+
+-- 6.8.3p2: the full expression of a statement has this value, behind the statement's turn
+abbrev pub EvaluatedNext : Stored → NodeId → Worth → (old new : Moment) → Type 0
+EvaluatedNext u n v old new = Evaluated u n v (ticked old) new
+
+-- 5.1.2.3p1: and under each bound that is met between that turn and its end, the run stops there
+abbrev pub CutNext : Stored → NodeId → (old new : Moment) → Type 0
+CutNext u n old new = Cut u n (ticked old) new
+
+-- 6.8.4.1p2: the controlling expression of a statement has a value, behind the statement's turn, that compares so with 0
+pub record TestedNext (u : Stored) (n : NodeId) (t : Bool) (old new : Moment) : Type 0 where
+  pub worth : Worth
+  pub has : EvaluatedNext u n worth old new
+  pub tests : (b : Setting) (line : ℕ) (out : List ℕ) (es : List Marked) → act b line (Tests worth) (state_of new out es) ≡ Gives (truth_int t) (state_of new out es)

@@ -1,5 +1,5 @@
 // The machine of expressions: the moment, and the expressions that were started.
-ghost use Rattle.std.specs.Prelude.{◌≡◌, ℕ, ◌+◌, ◌<◌, ◌≤◌, ◌^◌, ◌==◌, ◌&&◌, true, false, length, map, IfOk, OnOk};
+ghost use Rattle.std.specs.Prelude.{◌≡◌, ℕ, ◌+◌, ◌<◌, ◌≤◌, ◌^◌, ◌==◌, ◌&&◌, true, false, length, map, IfOk, IfSome, IfNone, OnOk};
 ghost use Rattle.std.specs.Borrow.{Lends, sem};
 ghost use Rattle.pv_eval.specs.Rows.{bytes_row, events_row};
 ghost use Rattle.pv_eval.specs.contracts.machine.Machine.{the_row};
@@ -19,7 +19,7 @@ ghost use Rattle.pv_eval.specs.Machines.{first_machine, ended, is_due, is_going,
 ghost use Rattle.pv_eval.specs.MachineSteps.{IsBegun, IsTaken, IsAnswered, IsOpen, Fit, WentTo, KeepsSetting};
 ghost use Rattle.pv_eval.specs.Pieces.{handed_at, needed_of};
 ghost use Rattle.pv_eval.specs.Progress.{StepsMachine, MadeAnywhere};
-ghost use Rattle.pv_eval.specs.AtOnce.{EvaluatedFirst, CutFirst};
+ghost use Rattle.pv_eval.specs.AtOnce.{EvaluatedFirst, CutFirst, EvaluatedNext, CutNext, TestedNext};
 
 use crate::converting::{hand_on, need};
 use crate::failure::Failure;
@@ -144,10 +144,7 @@ impl Machine {
         let Ok(stacks) = Stacks::of(&mut self.spare, self.alloc) else {
             return Err(Failure::NoMemory);
         };
-        let Ok(e) = Started::new(stacks, n) else {
-            return Err(Failure::NoMemory);
-        };
-        match self.started.push_front(e) {
+        match self.started.push_front(Started::new(stacks, n)) {
             Ok(()) => Ok(()),
             Err(_) => Err(Failure::NoMemory),
         }
@@ -192,6 +189,42 @@ impl Machine {
             Some(e) => e.whole(unit, bound, &mut self.moment),
             None => false,
         }
+    }
+
+    /// A statement's turn, and its full expression at once, which is not started: where it is plain but for a store at its
+    /// root, where nothing stops it, and where its turns are within the bound. Its value is given, its turns were taken,
+    /// nothing was printed, and nothing happened that is told. `None` where that is not so: then nothing has changed.
+    pub fn whole_next(&mut self, unit: &TypedUnit, n: NodeId, bound: u64) -> Option<Got>
+        requires runnable { IsRunnable unit.now }
+        requires there { IsExpression unit.now n }
+        requires room { self.old.moment.taken < bound }
+        ensures some { IfSome result (λ v. EvaluatedNext unit.now n (worth_of v) self.old.moment self.new.moment) }
+        ensures cut { IfSome result (λ v. CutNext unit.now n self.old.moment self.new.moment) }
+        ensures more { IfSome result (λ v. self.old.moment.taken + 1 < self.new.moment.taken) }
+        ensures within { IfSome result (λ v. self.new.moment.taken ≤ bound) }
+        ensures none { IfNone result (self.new ≡ self.old) }
+        ensures started { self.new.started ≡ self.old.started }
+        ensures stays { KeepsSetting self.old.moment self.new.moment }
+    {
+        self.moment.whole_next(unit, n, bound)
+    }
+
+    /// A statement's turn, and its controlling expression at once, which is not started: whether it compares unequal to 0
+    /// (C17 6.8.4.1p2). As `whole_next`, and where the expression has no side effect. `None` where that is not so: then nothing
+    /// has changed.
+    pub fn decide_next(&mut self, unit: &TypedUnit, n: NodeId, bound: u64) -> Option<bool>
+        requires runnable { IsRunnable unit.now }
+        requires there { IsExpression unit.now n }
+        requires room { self.old.moment.taken < bound }
+        ensures some { IfSome result (λ t. TestedNext unit.now n t self.old.moment self.new.moment) }
+        ensures cut { IfSome result (λ t. CutNext unit.now n self.old.moment self.new.moment) }
+        ensures more { IfSome result (λ t. self.old.moment.taken + 1 ≤ self.new.moment.taken) }
+        ensures within { IfSome result (λ t. self.new.moment.taken ≤ bound) }
+        ensures none { IfNone result (self.new ≡ self.old) }
+        ensures started { self.new.started ≡ self.old.started }
+        ensures stays { KeepsSetting self.old.moment self.new.moment }
+    {
+        self.moment.decide_next(unit, n, bound)
     }
 
     /// The value of the innermost expression, which has ended.

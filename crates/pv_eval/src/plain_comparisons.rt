@@ -1,11 +1,12 @@
-// Pointers that plain expressions look at (C17 6.5.3.3p5, 6.5.9p6): null, or into a live instance.
+// Values of plain expressions that are compared (C17 6.5.3.3p5, 6.5.9p6, 6.8.4.1p2): numbers, and pointers that are null or point into
+// a live instance.
 ghost use Rattle.std.specs.Ordering.{int_eq};
 ghost use Rattle.std.specs.Prelude.{◌≡◌, pos, not, IfSome, if◌then◌else◌};
 ghost use Rattle.pv_types.specs.Ty.{Ty};
 ghost use Rattle.pv_typed.specs.declared.nodes.Typed.{Typed as Row};
 ghost use Rattle.pv_typed.specs.NodeTrees.{IsExpression};
 ghost use Rattle.pv_world.specs.Worths.{pointer, truth_int};
-ghost use Rattle.pv_eval.specs.Operations.{Equals, Negates};
+ghost use Rattle.pv_eval.specs.Operations.{Equals, Negates, Tests};
 ghost use Rattle.pv_eval.specs.Plainly.{GivesAt, GivesWithBoth, IsLooked, found_worth, pointer_at};
 
 use crate::plain::{Found, Spot};
@@ -108,5 +109,24 @@ pub(crate) fn negated(world: &World, first: Found) -> Option<Found>
         Found::Number(x) => Some(truth(is_zero(x))),
         Found::Place(_) => is_null(world, first),
         Found::Null => is_null(world, first),
+    }
+}
+
+/// Whether a pointer is not null, as a controlling expression asks.
+fn is_set(world: &World, v: Found) -> Option<bool>
+    ensures { IfSome result (λ t. GivesAt world.now (λ b. Tests (found_worth v)) (truth_int t)) }
+{
+    let address = looked_at(world, v)?;
+    Some(address != 0)
+}
+
+/// Whether a value is neither 0 nor null, as a controlling expression asks (C17 6.8.4.1p2).
+pub(crate) fn is_true(world: &World, v: Found) -> Option<bool>
+    ensures { IfSome result (λ t. GivesAt world.now (λ b. Tests (found_worth v)) (truth_int t)) }
+{
+    match v {
+        Found::Number(x) => Some(!is_zero(x)),
+        Found::Place(_) => is_set(world, v),
+        Found::Null => is_set(world, v),
     }
 }

@@ -1,21 +1,31 @@
 // Full expressions at once (C17 6.8p4): their values and their turns, without a machine, where nothing stops them.
-ghost use Rattle.std.specs.Prelude.{◌≡◌, ◌<◌, ◌≤◌, true, Some, IfSome, IfNone};
+ghost use Rattle.std.specs.Prelude.{◌≡◌, ◌+◌, ◌<◌, ◌≤◌, true, Some, IfSome, IfNone};
 ghost use Rattle.pv_typed.specs.Known.{AreKnown};
 ghost use Rattle.pv_typed.specs.Plain.{counted, both, turns_of};
 ghost use Rattle.pv_typed.specs.NodeTrees.{expression_at, IsExpression};
 ghost use Rattle.pv_world.specs.Coming.{worth_of};
 ghost use Rattle.pv_eval.specs.Runnable.{IsRunnable};
 ghost use Rattle.pv_eval.specs.Plainly.{Performs, whole_turns, found_worth};
-ghost use Rattle.pv_eval.specs.AtOnce.{Evaluated, Cut};
+ghost use Rattle.pv_eval.specs.AtOnce.{Evaluated, Cut, EvaluatedNext, CutNext, TestedNext};
 
 use crate::moment::Moment;
 use crate::plain::{Found, value};
+use crate::plain_comparisons::is_true;
 use crate::plain_stores::{assign, got};
 use crate::plain_updates::{compound_assign, increment, pointer_assign};
 use pv_tree::NodeId;
 use pv_typed::{Typed, TypedUnit};
 use pv_world::{Got, World};
 use std::alloc::Global;
+
+/// How many turns a plain expression takes.
+fn plain_turns(unit: &TypedUnit, n: NodeId) -> Option<u64>
+    requires { IsExpression unit.now n }
+    ensures { IfSome result (λ k. turns_of (expression_at unit.now n) ≡ Some k) }
+{
+    let turns = unit.plain_turns(n)?;
+    Some(u64::from(turns))
+}
 
 /// The turns of two plain operands, and that of their node.
 fn turns_of_both(unit: &TypedUnit, a: NodeId, d: NodeId) -> Option<u64>
@@ -99,5 +109,54 @@ impl Moment {
         let v = perform(self.alloc, unit, &mut self.world, n)?;
         self.taken += turns;
         Some(got(v))
+    }
+
+    /// Takes a statement's turn, and evaluates its full expression at once, as `whole` does. `None` where that is not so: then
+    /// no turn was taken, and nothing has changed.
+    pub(crate) fn whole_next(&mut self, unit: &TypedUnit, n: NodeId, bound: u64) -> Option<Got>
+        requires runnable { IsRunnable unit.now }
+        requires there { IsExpression unit.now n }
+        requires room { self.old.taken < bound }
+        ensures some { IfSome result (λ v. EvaluatedNext unit.now n (worth_of v) self.old self.new) }
+        ensures cut { IfSome result (λ v. CutNext unit.now n self.old self.new) }
+        ensures more { IfSome result (λ v. self.old.taken + 1 < self.new.taken) }
+        ensures within { IfSome result (λ v. self.new.taken ≤ bound) }
+        ensures none { IfNone result (self.new ≡ self.old) }
+        ensures kept { self.new ≡ record self.old { world = self.new.world; taken = self.new.taken } }
+    {
+        let before = self.taken;
+        self.taken = before + 1;
+        match self.whole(unit, n, bound) {
+            Some(v) => Some(v),
+            None => {
+                self.taken = before;
+                None
+            }
+        }
+    }
+
+    /// Takes a statement's turn, and compares its controlling expression with 0 at once (C17 6.8.4.1p2), where that is plain,
+    /// nothing stops it, and its turns are within the bound. `None` where that is not so: then no turn was taken, and nothing
+    /// has changed.
+    pub(crate) fn decide_next(&mut self, unit: &TypedUnit, n: NodeId, bound: u64) -> Option<bool>
+        requires runnable { IsRunnable unit.now }
+        requires there { IsExpression unit.now n }
+        requires room { self.old.taken < bound }
+        ensures some { IfSome result (λ t. TestedNext unit.now n t self.old self.new) }
+        ensures cut { IfSome result (λ t. CutNext unit.now n self.old self.new) }
+        ensures more { IfSome result (λ t. self.old.taken + 1 ≤ self.new.taken) }
+        ensures within { IfSome result (λ t. self.new.taken ≤ bound) }
+        ensures none { IfNone result (self.new ≡ self.old) }
+        ensures kept { self.new ≡ record self.old { taken = self.new.taken } }
+    {
+        let turns = plain_turns(unit, n)?;
+        if turns >= bound - self.taken {
+            return None;
+        }
+        let v = value(self.alloc, unit, &self.world, n)?;
+        let t = is_true(&self.world, v)?;
+        self.taken += 1;
+        self.taken += turns;
+        Some(t)
     }
 }

@@ -30,30 +30,36 @@ pub(crate) struct Held {
     journal: Journal,
 }
 
-/// The stacks of an expression that has ended, for one to come: nothing is on them, and they have their memory.
+/// The stacks of an expression that has ended, for one to come: no node waits on them, a full expression is begun that has no
+/// accesses yet, and they have their memory.
 #[derive(Drop)]
 pub(crate) struct Stacks {
     held: Box<Held>,
 }
 
 impl Model for Stacks {
-    ghost use Rattle.std.specs.Prelude.{◌≡◌, [], ℕ};
+    ghost use Rattle.std.specs.Prelude.{◌≡◌, [], ◌∷◌, ℕ};
+    ghost use Rattle.pv_seq.specs.Sequencing.{opened};
 
     ghost Value = { ℕ };
 
     ghost view = { λ s. 0 };
 
-    ghost invariant = { λ s. (s.held.value.frames.items ≡ []) × (s.held.value.journal ≡ []) };
+    ghost invariant = { λ s. (s.held.value.frames.items ≡ []) × (s.held.value.journal ≡ opened [] ∷ []) };
 }
 
 impl Stacks {
-    /// Stacks without memory of their own.
+    /// New stacks, with a full expression that is begun.
     pub(crate) fn new(alloc: Global) -> Result<Stacks, Failure>
         ensures memory { IsMemory result }
     {
+        let mut journal = Journal::new(alloc);
+        if journal.full().is_err() {
+            return Err(Failure::NoMemory);
+        }
         let held = Held {
             frames: Vec::new(alloc),
-            journal: Journal::new(alloc),
+            journal,
         };
         match Box::new(alloc, held) {
             Ok(held) => Ok(Stacks { held }),
@@ -79,8 +85,8 @@ pub(crate) struct Started {
     root: NodeId,
     held: Box<Held>,
     place: Now,
-    /// Whether it was just begun: nothing waits in it, and its node is due.
-    fresh: bool,
+    /// Whether no step of it was taken: nothing waits in it, and it has no accesses.
+    untouched: bool,
 }
 
 impl Model for Started {
@@ -94,28 +100,22 @@ impl Model for Started {
 
     ghost use Rattle.std.specs.Prelude.{true, [], ◌∷◌};
     ghost use Rattle.pv_seq.specs.Sequencing.{opened};
-    ghost use Rattle.pv_eval.specs.declared.frames.Now.TheVariants.{Due};
 
-    ghost invariant = { λ e. (is_due_at e.place ≡ false → Matched e.held.value.frames.items e.held.value.journal) × (e.fresh ≡ true → (e.held.value.frames.items ≡ []) × (e.held.value.journal ≡ opened [] ∷ []) × (e.place ≡ Due e.root)) };
+    ghost invariant = { λ e. (is_due_at e.place ≡ false → Matched e.held.value.frames.items e.held.value.journal) × (e.untouched ≡ true → (e.held.value.frames.items ≡ []) × (e.held.value.journal ≡ opened [] ∷ [])) };
 }
 
 impl Started {
     /// A full expression, which has no foes (C17 6.8p4).
-    pub(crate) fn new(stacks: Stacks, n: NodeId) -> Result<Started, Failure>
-        ensures begun { IfOk result (λ e. e ≡ record { root = n; frames = []; opens = opened [] ∷ []; place = Now.Due n }) }
-        ensures memory { IsMemory result }
+    pub(crate) fn new(stacks: Stacks, n: NodeId) -> Started
+        ensures { result ≡ record { root = n; frames = []; opens = opened [] ∷ []; place = Now.Due n } }
     {
         let Stacks { held } = stacks;
-        let mut held = held;
-        if held.journal.full().is_err() {
-            return Err(Failure::NoMemory);
-        }
-        Ok(Started {
+        Started {
             root: n,
             held,
             place: Now::Due(n),
-            fresh: true,
-        })
+            untouched: true,
+        }
     }
 
     /// One turn, and what comes before the next.
@@ -135,7 +135,7 @@ impl Started {
         ensures taken { moment.new.taken ≡ moment.old.taken + turns_at self.old.place }
         ensures setting { KeepsSetting moment.old moment.new }
     {
-        self.fresh = false;
+        self.untouched = false;
         let place = std::mem::replace(&mut self.place, Now::Due(self.root));
         let held = &mut *self.held;
         match running::step(
@@ -170,12 +170,14 @@ impl Started {
         ensures unmoved { result ≡ false → moment.new ≡ moment.old }
         ensures setting { KeepsSetting moment.old moment.new }
     {
-        if !self.fresh {
+        if !self.untouched {
             return false;
         }
-        match moment.whole(unit, self.root, bound) {
+        let Now::Due(n) = self.place else {
+            return false;
+        };
+        match moment.whole(unit, n, bound) {
             Some(v) => {
-                self.fresh = false;
                 self.place = Now::Value(v);
                 true
             }
@@ -209,8 +211,15 @@ impl Started {
         requires { is_value self.place ≡ true }
         ensures { worth_of result ≡ value_at self.place }
     {
-        let Started { held, place, .. } = self;
-        if held.frames.is_empty() {
+        let Started {
+            held,
+            place,
+            untouched,
+            ..
+        } = self;
+        if untouched {
+            let _ = spare.push(Stacks { held });
+        } else if held.frames.is_empty() {
             keep(spare, held);
         }
         match place {
@@ -226,7 +235,7 @@ impl Started {
         ensures kept { self.new ≡ record self.old { place = self.new.place } }
         ensures fits { (u : Stored) → StartedFits u self.old → StartedFits u self.new }
     {
-        self.fresh = false;
+        self.untouched = false;
         match std::mem::replace(&mut self.place, Now::Due(self.root)) {
             Now::Asked(f, args, line) => {
                 self.place = Now::Asked(f, Vec::new(alloc), line);
@@ -245,7 +254,7 @@ impl Started {
         ensures ended { is_value self.new.place ≡ true }
         ensures fits { (u : Stored) → StartedFits u self.old → StartedFits u self.new }
     {
-        self.fresh = false;
+        self.untouched = false;
         self.held.journal.settle();
         self.place = Now::Value(v);
     }
@@ -262,12 +271,14 @@ fn leads(place: &Now) -> Step
     }
 }
 
-/// The stacks of a full expression are kept for those to come, if there is memory for that.
+/// The stacks of a full expression that went step by step are kept for those to come, if there is memory for that.
 fn keep(spare: &mut Vec<Stacks>, held: Box<Held>)
     requires frames { held.value.frames.items ≡ [] }
     requires journal { length held.value.journal ≡ 1 }
 {
     let mut held = held;
     held.journal.close();
-    let _ = spare.push(Stacks { held });
+    if held.journal.full().is_ok() {
+        let _ = spare.push(Stacks { held });
+    }
 }

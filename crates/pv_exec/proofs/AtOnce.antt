@@ -1,31 +1,43 @@
--- An expression that is evaluated at once, within a run.
-use Rattle.std.proofs.Common.{◌≡◌, ℕ, ◌+◌, ◌<◌, ◌≤◌, Bool, true, false, List, sym, ap, ◌∙◌, subst, arith}
+-- Expressions and statements that are evaluated at once, within a run.
+use Rattle.std.proofs.Common.{◌≡◌, ℕ, ◌+◌, ◌<◌, ◌≤◌, Bool, true, false, List, [], refl, sym, ap, ◌∙◌, subst, ⊎_elim, arith}
 use Rattle.std.specs.Prelude.{reverse, Result, Ok, Err, length, if◌then◌else◌}
+use Rattle.std.proofs.lemmas.Bool.{cases_lt, lt-ltb}
 use Rattle.std.proofs.lemmas.List.Elements.{All-weaker}
+use Rattle.pv_tree.specs.declared.nodes.NodeId.{NodeId}
+use Rattle.pv_typed.specs.TypedStatement.{Expression}
 use Rattle.pv_typed.specs.Tables.{Stored}
+use Rattle.pv_typed.specs.NodeTrees.{expression_at, statement_at}
+use Rattle.pv_world.specs.Worlds.{Worth}
 use Rattle.pv_eval.specs.declared.failure.Failure.{Failure}
 use Rattle.pv_eval.specs.declared.failure.Failure.TheVariants as failure
-use Rattle.pv_eval.specs.States.{Setting, State, Res, Gives, Stops, Turns, then_do}
+use Rattle.pv_eval.specs.States.{Setting, State, Res, Gives, Stops, Turns, then_do, spend}
+use Rattle.pv_eval.specs.Evaluation.{ev}
 use Rattle.pv_eval.specs.Sequenced.{Given}
 use Rattle.pv_eval.specs.Stack.{rest}
-use Rattle.pv_eval.specs.Moments.{state_of}
-use Rattle.pv_eval.specs.Machines.{Machine, Started, left_of, ended, is_due, is_ended, due_turns, after_first}
+use Rattle.pv_eval.specs.Moments.{Moment, IsSetting, state_of}
+use Rattle.pv_eval.specs.Machines.{Machine, Started, left_of, ended, is_due, due_turns, after_first}
 use Rattle.pv_eval.specs.MachineSteps.{KeepsSetting}
 use Rattle.pv_exec.specs.declared.once.After.{After}
 use Rattle.pv_exec.specs.declared.once.After.TheVariants as after
 use Rattle.pv_exec.specs.declared.task.Task.{Task}
 use Rattle.pv_exec.specs.declared.task.Doing.{Doing}
 use Rattle.pv_exec.specs.declared.task.Doing.TheVariants as doing
-use Rattle.pv_exec.specs.Tasks.{Reached, Valued}
+use Rattle.pv_exec.specs.declared.task.Flow.TheVariants as flow
+use Rattle.pv_exec.specs.Execution.{ex}
+use Rattle.pv_exec.specs.Entering.{entered}
+use Rattle.pv_exec.specs.Flows.{Falls, full, nothing_done}
+use Rattle.pv_exec.specs.Tasks.{Reached, Left, Valued, left}
 use Rattle.pv_exec.specs.Calls.{below}
 use Rattle.pv_exec.specs.Works.{does, due, others, after_work, Standing}
 use Rattle.pv_exec.specs.Fits.{Runs, DoingFits, TasksStand}
 use Rattle.pv_eval.specs.Plainly.{GivesValue}
-use Rattle.pv_eval.specs.AtOnce.{EvaluatedFirst, CutFirst}
+use Rattle.pv_eval.specs.AtOnce.{EvaluatedFirst, CutFirst, ticked, EvaluatedNext, CutNext}
 use Rattle.pv_exec.specs.Turning.{SettledLed, AdvancedLed, AtOnceLed, CutBefore, advanced_by}
 use Rattle.pv_exec.proofs.Bounds.{holds-out, has-stores}
 use Rattle.pv_exec.proofs.Turns.{keeps-setting}
+use Rattle.pv_exec.proofs.Pieces.{turned}
 
+-- a full expression that was started
 does-at-once : (b : Setting) (u : Stored) (k : ℕ) (es fs : List Started) (s s' : State) → GivesValue (left_of b (below b k).call u es s) (ended fs) s' → does b u k es doing.Evaluate s ≡ does b u k fs doing.Evaluated s'
 unfolding does
 does-at-once b u k es fs s s' h = ap (λ (m : Res Given). then_do m (λ g s. Gives (Valued g.value) s)) h.is ∙ ap (λ v. Gives (Valued v) s') h.value
@@ -35,7 +47,7 @@ one-most true = omega arith
 one-most false = omega arith
 
 -- the value, and the turns
-pub at-once-led : (u : Stored) (ts : List Task) (old new : Machine) → EvaluatedFirst u old new → old.moment.taken < new.moment.taken → after_first new.started ≡ after_first old.started → AtOnceLed u doing.Evaluate ts old new
+pub at-once-led : (u : Stored) (ts : List Task) (old new : Machine) → EvaluatedFirst u old new → old.moment.taken < new.moment.taken → after_first new.started ≡ after_first old.started → AtOnceLed u doing.Evaluate doing.Evaluated ts old new
 at-once-led u ts old new h more same = λ b out es hs hl all q g.
     let s = state_of old.moment out es in
     let s' = state_of new.moment out es in
@@ -62,13 +74,13 @@ at-once-cut u ts old new h = λ b out es hs hl all low high g.
     g.law ∙ ap (λ (m : Res Reached). then_do m (rest (after_work b u) g.works)) (stops-at-once b u g.level old.started s (Stops Turns t) (h b out es hs hl (below b g.level).call low high))
 
 -- and the operations that come before the next turn
-pub at-once-settled : (u : Stored) (n : ℕ) (d : Doing) (r : Result After Failure) (ts ts' : List Task) (old mid new : Machine) → mid.moment.taken ≤ n → new.moment.taken ≡ mid.moment.taken → KeepsSetting old.moment mid.moment → AtOnceLed u d ts old mid
-    → SettledLed u doing.Evaluated r ts ts' mid new → AdvancedLed u n d (advanced_by r) ts ts' old new
-at-once-settled u n d (Ok (after.On f)) ts ts' old mid new le t k o h = λ b out es hs hl all q g. h b out es (keeps-setting b u old.moment mid.moment k hs) (k.total (length out) hl) all (o b out es hs hl all (omega (arith, t, q)) g)
-at-once-settled u n d (Ok (after.Ended fl)) ts ts' old mid new le t k o h = λ b out es hs hl all q g. h b out es (keeps-setting b u old.moment mid.moment k hs) (k.total (length out) hl) all (o b out es hs hl all (omega (arith, le, q)) g)
-at-once-settled u n d (Ok after.Valued) ts ts' old mid new le t k o h = λ b out es hs hl all q g. h b out es (keeps-setting b u old.moment mid.moment k hs) (k.total (length out) hl) all (o b out es hs hl all (omega (arith, le, q)) g)
-at-once-settled u n d (Err (failure.Stop y line)) ts ts' old mid new le t k o h = λ b out es hs hl all q g. h b out es (keeps-setting b u old.moment mid.moment k hs) (k.total (length out) hl) all (o b out es hs hl all (omega (arith, le, q)) g)
-at-once-settled u n d (Err failure.NoMemory) ts ts' old mid new le t k o h = tt
+pub at-once-settled : (u : Stored) (n : ℕ) (d e : Doing) (r : Result After Failure) (ts ts' : List Task) (old mid new : Machine) → mid.moment.taken ≤ n → new.moment.taken ≡ mid.moment.taken → KeepsSetting old.moment mid.moment → AtOnceLed u d e ts old mid
+    → SettledLed u e r ts ts' mid new → AdvancedLed u n d (advanced_by r) ts ts' old new
+at-once-settled u n d e (Ok (after.On f)) ts ts' old mid new le t k o h = λ b out es hs hl all q g. h b out es (keeps-setting b u old.moment mid.moment k hs) (k.total (length out) hl) all (o b out es hs hl all (omega (arith, t, q)) g)
+at-once-settled u n d e (Ok (after.Ended fl)) ts ts' old mid new le t k o h = λ b out es hs hl all q g. h b out es (keeps-setting b u old.moment mid.moment k hs) (k.total (length out) hl) all (o b out es hs hl all (omega (arith, le, q)) g)
+at-once-settled u n d e (Ok after.Valued) ts ts' old mid new le t k o h = λ b out es hs hl all q g. h b out es (keeps-setting b u old.moment mid.moment k hs) (k.total (length out) hl) all (o b out es hs hl all (omega (arith, le, q)) g)
+at-once-settled u n d e (Err (failure.Stop y line)) ts ts' old mid new le t k o h = λ b out es hs hl all q g. h b out es (keeps-setting b u old.moment mid.moment k hs) (k.total (length out) hl) all (o b out es hs hl all (omega (arith, le, q)) g)
+at-once-settled u n d e (Err failure.NoMemory) ts ts' old mid new le t k o h = tt
 
 pub cut-settled : (u : Stored) (d : Doing) (ts : List Task) (old mid new : Machine) → new.moment.taken ≡ mid.moment.taken → CutBefore u d ts old mid → CutBefore u d ts old new
 cut-settled u d ts old mid new t h = λ b out es hs hl all low high g. h b out es hs hl all low (omega (arith, t, high)) g
@@ -82,5 +94,64 @@ cut-turn u d ts old new one fits t = λ b out es hs hl all low high g.
 pub cut-none : (u : Stored) (d : Doing) (ts : List Task) (m : Machine) → CutBefore u d ts m m
 cut-none u d ts m = λ b out es hs hl all low high g. absurd (omega (arith, low, high))
 
-pub runs-at-once : (u : Stored) (ts : List Task) (es fs : List Started) (d : Doing) → Runs u ts es d → after_first fs ≡ others es d → is_ended fs ≡ true → Runs u ts fs doing.Evaluated
-runs-at-once u ts es fs d h same ended = record { tasks_fit = h.tasks_fit; stand = subst (λ (xs : List Started). TasksStand (reverse ts) xs) (sym same) h.stand; doing_fits = ended }
+pub runs-at-once : (u : Stored) (ts : List Task) (es fs : List Started) (d e : Doing) → Runs u ts es d → others fs e ≡ others es d → DoingFits u fs e → Runs u ts fs e
+runs-at-once u ts es fs d e h same fits = record { tasks_fit = h.tasks_fit; stand = subst (λ (xs : List Started). TasksStand (reverse ts) xs) (sym same) h.stand; doing_fits = fits }
+
+-- an expression statement (6.8.3p2) once its turn is taken
+statement-enters : (b : Setting) (u : Stored) (k : ℕ) (n x : NodeId) (line : ℕ) (es : List Started) (s : State) → statement_at u n ≡ Expression line (expression_at u x) → s.taken < b.bound
+    → does b u k es (doing.Enter n) s ≡ left (nothing_done (full b (below b k).call (expression_at u x) (spend s)))
+unfolding does
+statement-enters b u k n x line es s form room =
+    let w = below b k in
+    let t = Expression line (expression_at u x) in
+    ap (λ z. left (ex b w z s)) form
+    ∙ ap left (turned b w t s refl)
+    ∙ ap (λ (q : Bool). left (if q then entered b w t (spend s) else Stops Turns s)) (lt-ltb s.taken b.bound room)
+
+falls-then : (r : Res Given) (g : Given) (s : State) → r ≡ Gives g s → left (nothing_done (then_do r (λ g s. Gives g.value s))) ≡ Gives (Left Falls) s
+falls-then r g s h = ap (λ (m : Res Given). left (nothing_done (then_do m (λ g s. Gives g.value s)))) h
+
+stops-then : (r : Res Given) (s : State) → r ≡ Stops Turns s → left (nothing_done (then_do r (λ g s. Gives g.value s))) ≡ Stops Turns s
+stops-then r s h = ap (λ (m : Res Given). left (nothing_done (then_do m (λ g s. Gives g.value s)))) h
+
+falls-is : (b : Setting) (u : Stored) (k : ℕ) (es : List Started) (s : State) → Gives (Left Falls) s ≡ does b u k es (doing.Left flow.Falls) s
+unfolding does
+falls-is b u k es s = refl
+
+pub ticked-setting : (b : Setting) (u : Stored) (m : Moment) → IsSetting b u m → IsSetting b u (ticked m)
+ticked-setting b u m h = record { unit = h.unit; types = h.types; sides = h.sides }
+
+module _ (u : Stored) (n x : NodeId) (line : ℕ) (v : Worth) (ts : List Task) (old new : Machine) (form : statement_at u n ≡ Expression line (expression_at u x)) where
+  pub statement-led : EvaluatedNext u x v old.moment new.moment → old.moment.taken + 1 < new.moment.taken → new.started ≡ old.started → AtOnceLed u (doing.Enter n) (doing.Left flow.Falls) ts old new
+  statement-led h more same = λ b out es hs hl all q g.
+      let s = state_of old.moment out es in
+      let s' = state_of new.moment out es in
+      let w = below b g.level in
+      let given = h b out es (ticked-setting b u old.moment hs) hl w.call q in
+      let law : does b u g.level old.started (doing.Enter n) s ≡ does b u g.level new.started (doing.Left flow.Falls) s' =
+      statement-enters b u g.level n x line old.started s form (omega (arith, more, q)) ∙ falls-then (ev b w.call (expression_at u x) [] (spend s)) given.given s' given.is ∙ falls-is b u g.level new.started s' in
+      record {
+        works = g.works;
+        level = g.level;
+        same = g.same;
+        standing = subst (λ (xs : List Started). Standing g.works xs) (sym same) g.standing;
+        law = g.law ∙ ap (λ (m : Res Reached). then_do m (rest (after_work b u) g.works)) law;
+        rooms = All-weaker (λ w. b.bound < s.taken + w.level + 1) (λ w. b.bound < s'.taken + w.level + 0) (λ w lt. omega (arith, lt, more)) g.works g.rooms;
+        room = omega (arith, g.room, more);
+        most = q;
+      }
+
+  pub statement-cut : CutNext u x old.moment new.moment → CutBefore u (doing.Enter n) ts old new
+  statement-cut h = λ b out es hs hl all low high g.
+      let s = state_of old.moment out es in
+      let t = state_of (record old.moment { taken = b.bound }) out es in
+      let w = below b g.level in
+      ⊎_elim
+      (λ room.
+      let law : does b u g.level old.started (doing.Enter n) s ≡ Stops Turns t =
+      statement-enters b u g.level n x line old.started s form room ∙ stops-then (ev b w.call (expression_at u x) [] (spend s)) t (h b out es (ticked-setting b u old.moment hs) hl w.call (omega (arith, room)) high) in
+      g.law ∙ ap (λ (m : Res Reached). then_do m (rest (after_work b u) g.works)) law)
+      (λ out_of_turns.
+      let met : old.moment.taken ≡ b.bound = omega (arith, low, out_of_turns) in
+      subst (λ (k : ℕ). all ≡ Stops Turns (state_of (record old.moment { taken = k }) out es)) met (holds-out b u all ts old.started (doing.Enter n) s refl tt (omega (arith, met)) g))
+      (cases_lt old.moment.taken b.bound)

@@ -41,10 +41,10 @@ unfolding after_value
 expression-enters b u k t line x s e =
     ap (λ t. left (entered b (below b k) t s)) e ∙ lifted (full b (below b k).call x s) (λ v s. Gives Falls s)
 
-if-enters : (b : Setting) (w : Below) (line : ℕ) (c : TypedTree) (x : TypedStatement) (s : State) → left (entered b w (If line c x) s) ≡ then_do (full b w.call c s) (λ v s. left (chosen b w (choice_of (If line c x)) v s))
+pub if-enters : (b : Setting) (w : Below) (line : ℕ) (c : TypedTree) (x : TypedStatement) (s : State) → left (entered b w (If line c x) s) ≡ then_do (full b w.call c s) (λ v s. left (chosen b w (choice_of (If line c x)) v s))
 if-enters b w line c x s = lifted-twice (full b w.call c s) (λ v s. act b (line_of c) (Tests v) s) (λ v s. if is_true v then ex b w x s else Gives Falls s)
 
-if-else-enters : (b : Setting) (w : Below) (line : ℕ) (c : TypedTree) (x y : TypedStatement) (s : State) → left (entered b w (IfElse line c x y) s) ≡ then_do (full b w.call c s) (λ v s. left (chosen b w (choice_of (IfElse line c x y)) v s))
+pub if-else-enters : (b : Setting) (w : Below) (line : ℕ) (c : TypedTree) (x y : TypedStatement) (s : State) → left (entered b w (IfElse line c x y) s) ≡ then_do (full b w.call c s) (λ v s. left (chosen b w (choice_of (IfElse line c x y)) v s))
 if-else-enters b w line c x y s = lifted-twice (full b w.call c s) (λ v s. act b (line_of c) (Tests v) s) (λ v s. if is_true v then ex b w x s else ex b w y s)
 
 pub choice-enters : (b : Setting) (u : Stored) (k : ℕ) (n : NodeId) (line : ℕ) (c : TypedTree) (x : TypedStatement) (s : State) → statement_at u n ≡ If line c x → left (entered b (below b k) (statement_at u n) s) ≡ then_do (full b (below b k).call c s) (after_value b u k (task.Chosen n))

@@ -24,6 +24,7 @@ pub mod Params
 pub mod Bounds
 pub mod Turns
 pub mod AtOnce
+pub mod Choices
 pub mod Readying
 pub mod Mains
 pub mod Outside

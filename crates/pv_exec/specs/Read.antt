@@ -10,10 +10,9 @@ use Rattle.pv_typed.specs.Tables.{Stored}
 use Rattle.pv_typed.specs.NodeTrees.{IsExpression, IsStatement}
 use Rattle.pv_exec.specs.declared.parts.DoParts.{DoParts}
 use Rattle.pv_exec.specs.declared.parts.ChoiceParts.{ChoiceParts}
+use Rattle.pv_exec.specs.declared.task.Doing.{Doing}
 use Rattle.pv_exec.specs.declared.task.Doing.TheVariants as doing
 use Rattle.pv_exec.specs.declared.task.Flow.TheVariants as flow
-use Rattle.pv_exec.specs.declared.task.Way.{Way}
-use Rattle.pv_exec.specs.declared.task.Way.TheVariants as way
 use Rattle.pv_exec.specs.Parts.{DoLoop, Choice, Items}
 
 -- 6.8.5.2: a `do` by the numbers of its parts
@@ -49,14 +48,14 @@ abbrev pub ChoiceFits : Stored → ChoiceParts → Type 0
 ChoiceFits u p = IsExpression u p.condition × IsStatement u p.body × HasOther u p.other
 
 -- 6.8.4.1p2: what is done where the condition does not hold
-abbrev pub other_way : Option NodeId → Way
-other_way None = way.Do (doing.Left flow.Falls)
-other_way (Some y) = way.Do (doing.Enter y)
+abbrev pub other_side_of : Option NodeId → Doing
+other_side_of None = doing.Left flow.Falls
+other_side_of (Some y) = doing.Enter y
 
 -- 6.8.4.1p2: the side by the condition
-abbrev pub side_of : ChoiceParts → Bool → Way
-side_of p true = way.Do (doing.Enter p.body)
-side_of p false = other_way p.other
+abbrev pub side_of : ChoiceParts → Bool → Doing
+side_of p true = doing.Enter p.body
+side_of p false = other_side_of p.other
 
 -- 6.8.2p1: the statements of a list
 abbrev pub list_read : List Tree → List (List NodeId) → Option ListId → Option Statements

@@ -16,11 +16,10 @@ use Rattle.pv_exec.specs.declared.turning.Advanced.{Advanced}
 use Rattle.pv_exec.specs.declared.turning.Advanced.TheVariants as advance
 use Rattle.pv_exec.specs.declared.task.Task.{Task}
 use Rattle.pv_exec.specs.declared.task.Doing.{Doing}
-use Rattle.pv_exec.specs.declared.task.Doing.TheVariants as doing
 use Rattle.pv_exec.specs.Tasks.{Reached, Left, Valued}
-use Rattle.pv_exec.specs.Works.{flow_of, due, Holds}
+use Rattle.pv_exec.specs.Works.{flow_of, due, others, Holds}
 use Rattle.pv_exec.specs.Leading.{HoldsAfter}
-use Rattle.pv_exec.specs.Fits.{Runs}
+use Rattle.pv_exec.specs.Fits.{Runs, DoingFits}
 
 -- 5.1.2.3p1: what operations that take no turn lead to
 abbrev pub SettledLed : Stored → Doing → Result After Failure → (before behind : List Task) → Machine → Machine → Type 0
@@ -72,14 +71,23 @@ AdvancedPace n k k' (advance.On d) = (k < k') × (k' ≤ n)
 AdvancedPace n k k' (advance.Last l) = Unit {0}
 AdvancedPace n k k' advance.NoMemory = Unit {0}
 
--- 6.8p4: an expression that is due has its value, with all its turns
-abbrev pub AtOnceLed : Stored → Doing → List Task → Machine → Machine → Type 0
-AtOnceLed u d ts old new =
+-- 6.8p4: what is due came to this, with all its turns
+abbrev pub AtOnceLed : Stored → (before behind : Doing) → List Task → Machine → Machine → Type 0
+AtOnceLed u d e ts old new =
     Always u old.moment (λ b out es. (all : Res Reached) → new.moment.taken ≤ b.bound →
-    Holds b u all ts old.started d (state_of old.moment out es) → Holds b u all ts new.started doing.Evaluated (state_of new.moment out es))
+    Holds b u all ts old.started d (state_of old.moment out es) → Holds b u all ts new.started e (state_of new.moment out es))
 
 -- 5.1.2.3p1: and under each bound that is met before the turns that were taken, the run stops there, and nothing else has changed
 abbrev pub CutBefore : Stored → Doing → List Task → Machine → Machine → Type 0
 CutBefore u d ts old new =
     Always u old.moment (λ b out es. (all : Res Reached) → old.moment.taken ≤ b.bound → b.bound < new.moment.taken →
     Holds b u all ts old.started d (state_of old.moment out es) → all ≡ Stops Turns (state_of (record old.moment { taken = b.bound }) out es))
+
+-- 6.8p4, 5.1.2.3p1: what is due came to this with all its turns, which are within the bound, and what waits names what is there
+pub record ComesAtOnce (u : Stored) (n : ℕ) (d e : Doing) (old new : Machine) : Type 0 where
+  pub led : (ts : List Task) → AtOnceLed u d e ts old new
+  pub cut : (ts : List Task) → CutBefore u d ts old new
+  pub more : old.moment.taken < new.moment.taken
+  pub within : new.moment.taken ≤ n
+  pub fits : DoingFits u new.started e
+  pub waiting : others new.started e ≡ others old.started d

@@ -1,16 +1,19 @@
 // Turns of a run: operations, until no task waits.
-ghost use Rattle.std.specs.Prelude.{◌≡◌, ◌+◌, ◌<◌, ◌≤◌, ◌^◌, List, true, false, if◌then◌else◌, OnOk};
+ghost use Rattle.std.specs.Prelude.{◌≡◌, ◌+◌, ◌<◌, ◌≤◌, ◌^◌, if◌then◌else◌, IfSome, IfNone, OnOk};
+ghost use Rattle.pv_typed.specs.NodeTrees.{IsStatement};
 ghost use Rattle.pv_eval.specs.MachineSteps.{Fit, KeepsSetting};
 ghost use Rattle.pv_eval.specs.Runnable.{IsRunnable};
-ghost use Rattle.pv_eval.specs.Machines.{is_ended, after_first};
-ghost use Rattle.pv_exec.specs.Works.{due, others};
-ghost use Rattle.pv_exec.specs.Fits.{Runs, AfterRuns};
-ghost use Rattle.pv_exec.specs.Turning.{SettledLed, advanced_by, AdvancedLed, AtOnceLed, CutBefore, DueAfter, AdvancedRuns, AdvancedPace};
+ghost use Rattle.pv_exec.specs.Works.{due};
+ghost use Rattle.pv_exec.specs.Fits.{Runs, DoingFits, AfterRuns};
+ghost use Rattle.pv_exec.specs.Turning.{SettledLed, advanced_by, AdvancedLed, CutBefore, ComesAtOnce, DueAfter, AdvancedRuns, AdvancedPace};
 
 use crate::once::{After, once};
+use crate::parts::choice_parts;
 use crate::task::{Doing, Flow, Task};
+use crate::values::side;
 use pv_eval::{Failure, Machine};
-use pv_typed::TypedUnit;
+use pv_tree::NodeId;
+use pv_typed::{TypedStmt, TypedUnit};
 use pv_world::Cause;
 
 /// How the statements of a run ended.
@@ -91,23 +94,97 @@ fn next_of(after: Result<After, Failure>) -> Advanced
     }
 }
 
-// The whole of an expression at once, where it was just begun, nothing stops it, and its turns are within the bound.
-fn at_once(unit: &TypedUnit, doing: &Doing, bound: u64, machine: &mut Machine) -> bool
+// The whole of the innermost expression at once, where it was just begun.
+fn expression_at_once(unit: &TypedUnit, bound: u64, machine: &mut Machine) -> Option<Doing>
     requires runnable { IsRunnable unit.now }
     requires fit { Fit unit.now machine.old.started }
-    ensures led { (ts : List Task) → result ≡ true → AtOnceLed unit.now doing.now ts machine.old machine.new }
-    ensures cut { (ts : List Task) → result ≡ true → CutBefore unit.now doing.now ts machine.old machine.new }
-    ensures more { result ≡ true → machine.old.moment.taken < machine.new.moment.taken }
-    ensures within { result ≡ true → machine.new.moment.taken ≤ bound }
-    ensures ended { result ≡ true → is_ended machine.new.started ≡ true }
-    ensures others { result ≡ true → after_first machine.new.started ≡ others machine.old.started doing.now }
+    ensures some { IfSome result (λ e. ComesAtOnce unit.now bound Doing.Evaluate e machine.old machine.new) }
+    ensures none { IfNone result (machine.new ≡ machine.old) }
     ensures fit { Fit unit.now machine.new.started }
-    ensures same { result ≡ false → machine.new ≡ machine.old }
+    ensures setting { KeepsSetting machine.old.moment machine.new.moment }
+{
+    if machine.whole(unit, bound) {
+        Some(Doing::Evaluated)
+    } else {
+        None
+    }
+}
+
+// The whole of an expression statement at once (C17 6.8.3p2), with its turn.
+fn drop_at_once(unit: &TypedUnit, n: NodeId, bound: u64, machine: &mut Machine) -> Option<Doing>
+    requires runnable { IsRunnable unit.now }
+    requires there { IsStatement unit.now n }
+    requires room { machine.old.moment.taken < bound }
+    requires fit { Fit unit.now machine.old.started }
+    ensures some { IfSome result (λ e. ComesAtOnce unit.now bound (Doing.Enter n) e machine.old machine.new) }
+    ensures none { IfNone result (machine.new ≡ machine.old) }
+    ensures fit { Fit unit.now machine.new.started }
+    ensures setting { KeepsSetting machine.old.moment machine.new.moment }
+{
+    let TypedStmt::Expression(x) = unit.statement(n) else {
+        return None;
+    };
+    machine.whole_next(unit, x, bound)?;
+    Some(Doing::Left(Flow::Falls))
+}
+
+// The condition of an `if` at once (C17 6.8.4.1p2), with the statement's turn.
+fn choose_at_once(unit: &TypedUnit, n: NodeId, bound: u64, machine: &mut Machine) -> Option<Doing>
+    requires runnable { IsRunnable unit.now }
+    requires there { IsStatement unit.now n }
+    requires room { machine.old.moment.taken < bound }
+    requires fit { Fit unit.now machine.old.started }
+    ensures some { IfSome result (λ e. ComesAtOnce unit.now bound (Doing.Enter n) e machine.old machine.new) }
+    ensures none { IfNone result (machine.new ≡ machine.old) }
+    ensures fit { Fit unit.now machine.new.started }
+    ensures setting { KeepsSetting machine.old.moment machine.new.moment }
+{
+    let parts = choice_parts(unit, n)?;
+    match machine.decide_next(unit, parts.condition, bound) {
+        Some(yes) => Some(side(parts, yes)),
+        None => None,
+    }
+}
+
+// The whole of an expression statement, or the condition of an `if`, at once.
+fn statement_at_once(
+    unit: &TypedUnit,
+    n: NodeId,
+    bound: u64,
+    machine: &mut Machine,
+) -> Option<Doing>
+    requires runnable { IsRunnable unit.now }
+    requires there { IsStatement unit.now n }
+    requires room { machine.old.moment.taken < bound }
+    requires fit { Fit unit.now machine.old.started }
+    ensures some { IfSome result (λ e. ComesAtOnce unit.now bound (Doing.Enter n) e machine.old machine.new) }
+    ensures none { IfNone result (machine.new ≡ machine.old) }
+    ensures fit { Fit unit.now machine.new.started }
+    ensures setting { KeepsSetting machine.old.moment machine.new.moment }
+{
+    match unit.statement(n) {
+        TypedStmt::Expression(_) => drop_at_once(unit, n, bound, machine),
+        TypedStmt::If(_, _) | TypedStmt::IfElse(_, _, _) => choose_at_once(unit, n, bound, machine),
+        _ => None,
+    }
+}
+
+// What is due at once, where nothing stops it and all its turns are within the bound: what is done behind it. `None` where that is
+// not so: then nothing has changed.
+fn at_once(unit: &TypedUnit, doing: &Doing, bound: u64, machine: &mut Machine) -> Option<Doing>
+    requires runnable { IsRunnable unit.now }
+    requires fits { DoingFits unit.now machine.old.started doing.now }
+    requires room { machine.old.moment.taken < bound }
+    requires fit { Fit unit.now machine.old.started }
+    ensures some { IfSome result (λ e. ComesAtOnce unit.now bound doing.now e machine.old machine.new) }
+    ensures none { IfNone result (machine.new ≡ machine.old) }
+    ensures fit { Fit unit.now machine.new.started }
     ensures setting { KeepsSetting machine.old.moment machine.new.moment }
 {
     match doing {
-        Doing::Evaluate => machine.whole(unit, bound),
-        _ => false,
+        Doing::Evaluate => expression_at_once(unit, bound, machine),
+        Doing::Enter(n) => statement_at_once(unit, *n, bound, machine),
+        _ => None,
     }
 }
 
@@ -139,7 +216,7 @@ fn turn(
 }
 
 /// The turn that is due, unless the bound is met, and the operations that come before the next one; or all the turns at once of
-/// an expression that is due, where nothing stops it.
+/// an expression that is due, of an expression statement or of the condition of an `if`, where nothing stops it.
 pub fn advance(
     unit: &TypedUnit,
     tasks: &mut Vec<Task>,
@@ -161,8 +238,8 @@ pub fn advance(
     if machine.turns() >= bound {
         return Advanced::Last(Last::Turns);
     }
-    if at_once(unit, &doing, bound, machine) {
-        return next_of(settle(unit, tasks, Doing::Evaluated, machine));
+    match at_once(unit, &doing, bound, machine) {
+        Some(next) => next_of(settle(unit, tasks, next, machine)),
+        None => turn(unit, tasks, doing, bound, machine),
     }
-    turn(unit, tasks, doing, bound, machine)
 }

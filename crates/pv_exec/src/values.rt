@@ -63,16 +63,16 @@ pub fn after_step(unit: &TypedUnit, n: NodeId, machine: &mut Machine) -> Result<
     round_again(unit, n, machine)
 }
 
-// The side of an `if` that is executed (C17 6.8.4.1p2).
-fn side(parts: ChoiceParts, yes: bool) -> Way
+/// The side of an `if` that is executed (C17 6.8.4.1p2).
+pub fn side(parts: ChoiceParts, yes: bool) -> Doing
     ensures { result ≡ side_of parts yes }
 {
     if yes {
-        return Way::Do(Doing::Enter(parts.body));
+        return Doing::Enter(parts.body);
     }
     match parts.other {
-        Some(y) => Way::Do(Doing::Enter(y)),
-        None => Way::Do(Doing::Left(Flow::Falls)),
+        Some(y) => Doing::Enter(y),
+        None => Doing::Left(Flow::Falls),
     }
 }
 
@@ -94,7 +94,7 @@ pub fn after_choice(unit: &TypedUnit, n: NodeId, machine: &mut Machine) -> Resul
             Ok(Way::Do(Doing::Left(Flow::Falls)))
         }
         Some(parts) => match machine.decide(unit, unit.line_of(parts.condition)) {
-            Ok(yes) => Ok(side(parts, yes)),
+            Ok(yes) => Ok(Way::Do(side(parts, yes))),
             Err(e) => Err(e),
         },
     }

@@ -21,75 +21,86 @@ returns-then-turns-bound-clause-holds c = λ b out es hs hl all e h.
 pub returns-then-turns-bound-clause-cut : goal.returns-then-turns-bound-clause-cut
 returns-then-turns-bound-clause-cut c = cut-none c.args.unit.now c.args.doing c.args.tasks.now.items c.args.machine.now
 
-pub settle-requires-clause-runs : goal.settle-requires-clause-runs
-settle-requires-clause-runs c = runs-at-once c.args.unit.now c.args.tasks.now.items c.args.machine.now.started c.at_once.new.machine.started c.args.doing c.requires.runs (c.at_once.ensures.others c.if-at_once.true) (c.at_once.ensures.ended c.if-at_once.true)
+pub at_once-requires-clause-fits : goal.at_once-requires-clause-fits
+at_once-requires-clause-fits c = c.requires.runs.doing_fits
 
-pub returns-then-at_once-clause-holds : goal.returns-then-at_once-clause-holds
-returns-then-at_once-clause-holds c =
+pub at_once-requires-clause-room : goal.at_once-requires-clause-room
+at_once-requires-clause-room c = omega (arith, c.if-turns-bound.false, c.turns.ensures)
+
+pub settle-requires-clause-runs : goal.settle-requires-clause-runs
+settle-requires-clause-runs c =
+    let old = c.args.machine.now.started in
+    let e = c.in-Some.next in
+    runs-at-once c.args.unit.now c.args.tasks.now.items old c.at_once.new.machine.started c.args.doing e c.requires.runs c.in-Some.ensures.some.waiting c.in-Some.ensures.some.fits
+
+pub returns-in-Some-clause-holds : goal.returns-in-Some-clause-holds
+returns-in-Some-clause-holds c =
     let u = c.args.unit.now in
     let n = c.args.bound in
     let d = c.args.doing in
+    let e = c.in-Some.next in
     let ts = c.args.tasks.now.items in
     let ts' = c.settle.new.tasks.items in
     let old = c.args.machine.now in
     let mid = c.at_once.new.machine in
     let new = c.settle.new.machine in
+    let comes = c.in-Some.ensures.some in
     subst (λ (a : Advanced). AdvancedLed u n d a ts ts' old new) (sym c.next_of.ensures)
-    (at-once-settled u n d c.settle.result ts ts' old mid new (c.at_once.ensures.within c.if-at_once.true) c.settle.ensures.taken c.at_once.ensures.setting (c.at_once.ensures.led ts c.if-at_once.true) c.settle.ensures.holds)
+    (at-once-settled u n d e c.settle.result ts ts' old mid new comes.within c.settle.ensures.taken c.at_once.ensures.setting (comes.led ts) c.settle.ensures.holds)
 
-pub returns-then-at_once-clause-setting : goal.returns-then-at_once-clause-setting
-returns-then-at_once-clause-setting c = keeps-both c.args.machine.now.moment c.at_once.new.machine.moment c.settle.new.machine.moment c.at_once.ensures.setting c.settle.ensures.setting
+pub returns-in-Some-clause-setting : goal.returns-in-Some-clause-setting
+returns-in-Some-clause-setting c = keeps-both c.args.machine.now.moment c.at_once.new.machine.moment c.settle.new.machine.moment c.at_once.ensures.setting c.settle.ensures.setting
 
-pub returns-then-at_once-clause-runs : goal.returns-then-at_once-clause-runs
-returns-then-at_once-clause-runs c =
+pub returns-in-Some-clause-runs : goal.returns-in-Some-clause-runs
+returns-in-Some-clause-runs c =
     let new = c.settle.new.machine in
     subst (λ (a : Advanced). AdvancedRuns c.args.unit.now c.settle.new.tasks.items new.started a) (sym c.next_of.ensures)
     (settled-runs c.args.unit.now c.settle.new.tasks.items new.started c.settle.result c.settle.ensures.runs c.settle.ensures.fit c.settle.ensures.due)
 
-pub returns-then-at_once-clause-cut : goal.returns-then-at_once-clause-cut
-returns-then-at_once-clause-cut c =
+pub returns-in-Some-clause-cut : goal.returns-in-Some-clause-cut
+returns-in-Some-clause-cut c =
     let ts = c.args.tasks.now.items in
-    cut-settled c.args.unit.now c.args.doing ts c.args.machine.now c.at_once.new.machine c.settle.new.machine c.settle.ensures.taken (c.at_once.ensures.cut ts c.if-at_once.true)
+    cut-settled c.args.unit.now c.args.doing ts c.args.machine.now c.at_once.new.machine c.settle.new.machine c.settle.ensures.taken (c.in-Some.ensures.some.cut ts)
 
-pub returns-then-at_once-clause-pace : goal.returns-then-at_once-clause-pace
-returns-then-at_once-clause-pace c =
-    let more = c.at_once.ensures.more c.if-at_once.true in
-    let within = c.at_once.ensures.within c.if-at_once.true in
+pub returns-in-Some-clause-pace : goal.returns-in-Some-clause-pace
+returns-in-Some-clause-pace c =
+    let more = c.in-Some.ensures.some.more in
+    let within = c.in-Some.ensures.some.within in
     pace-of c.args.bound c.args.machine.now.moment.taken c.settle.new.machine.moment.taken c.next_of.result (omega (arith, c.settle.ensures.taken, more)) (omega (arith, c.settle.ensures.taken, within))
 
 pub turn-requires-clause-runs : goal.turn-requires-clause-runs
-turn-requires-clause-runs c = subst (λ (q : Machine). Runs c.args.unit.now c.args.tasks.now.items q.started c.args.doing) (sym (c.at_once.ensures.same c.if-at_once.false)) c.requires.runs
+turn-requires-clause-runs c = subst (λ (q : Machine). Runs c.args.unit.now c.args.tasks.now.items q.started c.args.doing) (sym c.in-None.ensures.none) c.requires.runs
 
 pub turn-requires-clause-due : goal.turn-requires-clause-due
-turn-requires-clause-due c = subst (λ (q : Machine). due q.started c.args.doing ≡ 1) (sym (c.at_once.ensures.same c.if-at_once.false)) c.requires.due
+turn-requires-clause-due c = subst (λ (q : Machine). due q.started c.args.doing ≡ 1) (sym c.in-None.ensures.none) c.requires.due
 
 pub turn-requires-clause-room : goal.turn-requires-clause-room
 turn-requires-clause-room c =
     let room : c.args.machine.now.moment.taken < c.args.bound = omega (arith, c.if-turns-bound.false, c.turns.ensures) in
-    subst (λ (q : Machine). q.moment.taken < c.args.bound) (sym (c.at_once.ensures.same c.if-at_once.false)) room
+    subst (λ (q : Machine). q.moment.taken < c.args.bound) (sym c.in-None.ensures.none) room
 
-pub returns-clause-holds : goal.returns-clause-holds
-returns-clause-holds c =
-    subst (λ (q : Machine). AdvancedLed c.args.unit.now c.args.bound c.args.doing c.turn.result c.args.tasks.now.items c.turn.new.tasks.items q c.turn.new.machine) (c.at_once.ensures.same c.if-at_once.false) c.turn.ensures.holds
+pub returns-in-None-clause-holds : goal.returns-in-None-clause-holds
+returns-in-None-clause-holds c =
+    subst (λ (q : Machine). AdvancedLed c.args.unit.now c.args.bound c.args.doing c.turn.result c.args.tasks.now.items c.turn.new.tasks.items q c.turn.new.machine) c.in-None.ensures.none c.turn.ensures.holds
 
-pub returns-clause-setting : goal.returns-clause-setting
-returns-clause-setting c = subst (λ (q : Machine). KeepsSetting q.moment c.turn.new.machine.moment) (c.at_once.ensures.same c.if-at_once.false) c.turn.ensures.setting
+pub returns-in-None-clause-setting : goal.returns-in-None-clause-setting
+returns-in-None-clause-setting c = subst (λ (q : Machine). KeepsSetting q.moment c.turn.new.machine.moment) c.in-None.ensures.none c.turn.ensures.setting
 
-pub returns-clause-cut : goal.returns-clause-cut
-returns-clause-cut c =
+pub returns-in-None-clause-cut : goal.returns-in-None-clause-cut
+returns-in-None-clause-cut c =
     let u = c.args.unit.now in
     let d = c.args.doing in
     let ts = c.args.tasks.now.items in
     let old = c.args.machine.now in
     let mid = c.at_once.new.machine in
     let new = c.turn.new.machine in
-    let same : mid ≡ old = c.at_once.ensures.same c.if-at_once.false in
+    let same : mid ≡ old = c.in-None.ensures.none in
     let one : new.moment.taken ≡ old.moment.taken + 1 = subst (λ (q : Machine). new.moment.taken ≡ q.moment.taken + 1) same c.turn.ensures.taken in
     cut-turn u d ts old new c.requires.due c.requires.runs.doing_fits one
 
-pub returns-clause-pace : goal.returns-clause-pace
-returns-clause-pace c =
+pub returns-in-None-clause-pace : goal.returns-in-None-clause-pace
+returns-in-None-clause-pace c =
     let old = c.args.machine.now in
     let new = c.turn.new.machine in
-    let one : new.moment.taken ≡ old.moment.taken + 1 = subst (λ (q : Machine). new.moment.taken ≡ q.moment.taken + 1) (c.at_once.ensures.same c.if-at_once.false) c.turn.ensures.taken in
+    let one : new.moment.taken ≡ old.moment.taken + 1 = subst (λ (q : Machine). new.moment.taken ≡ q.moment.taken + 1) c.in-None.ensures.none c.turn.ensures.taken in
     pace-of c.args.bound old.moment.taken new.moment.taken c.turn.result (omega (arith, one)) (omega (arith, one, c.if-turns-bound.false, c.turns.ensures))

@@ -1,19 +1,21 @@
 use Rattle.std.proofs.Common.{sym, subst}
+use Rattle.std.specs.Prelude.{IfSome}
 use Rattle.pv_exec.specs.declared.task.Doing.{Doing}
-use Rattle.pv_exec.specs.Turning.{AtOnceLed, CutBefore}
-use Rattle.pv_exec.proofs.AtOnce.{at-once-led, at-once-cut}
+use Rattle.pv_exec.specs.Fits.{DoingFits}
+use Rattle.pv_exec.specs.Turning.{ComesAtOnce}
 use Rattle.pv_exec.proofs.turning.at_once.Goals as goal
 
-pub returns-in-Evaluate-clause-led : goal.returns-in-Evaluate-clause-led
-returns-in-Evaluate-clause-led c = λ ts e.
-    let u = c.args.unit.now in
-    let old = c.args.machine.now in
-    let new = c.whole.new.self in
-    subst (λ (d : Doing). AtOnceLed u d ts old new) (sym c.in-Evaluate.is) (at-once-led u ts old new (c.whole.ensures.whole e) (c.whole.ensures.more e) c.whole.ensures.others)
+pub returns-in-Evaluate-clause-some : goal.returns-in-Evaluate-clause-some
+returns-in-Evaluate-clause-some c =
+    let r = c.expression_at_once.result in
+    let new = c.expression_at_once.new.machine in
+    subst (λ (d : Doing). IfSome r (λ e. ComesAtOnce c.args.unit.now c.args.bound d e c.args.machine.now new)) (sym c.in-Evaluate.is) c.expression_at_once.ensures.some
 
-pub returns-in-Evaluate-clause-cut : goal.returns-in-Evaluate-clause-cut
-returns-in-Evaluate-clause-cut c = λ ts e.
-    let u = c.args.unit.now in
-    let old = c.args.machine.now in
-    let new = c.whole.new.self in
-    subst (λ (d : Doing). CutBefore u d ts old new) (sym c.in-Evaluate.is) (at-once-cut u ts old new (c.whole.ensures.cut e))
+pub statement_at_once-requires-clause-there : goal.statement_at_once-requires-clause-there
+statement_at_once-requires-clause-there c = subst (λ (d : Doing). DoingFits c.args.unit.now c.args.machine.now.started d) c.in-Enter.is c.requires.fits
+
+pub returns-in-Enter-clause-some : goal.returns-in-Enter-clause-some
+returns-in-Enter-clause-some c =
+    let r = c.statement_at_once.result in
+    let new = c.statement_at_once.new.machine in
+    subst (λ (d : Doing). IfSome r (λ e. ComesAtOnce c.args.unit.now c.args.bound d e c.args.machine.now new)) (sym c.in-Enter.is) c.statement_at_once.ensures.some

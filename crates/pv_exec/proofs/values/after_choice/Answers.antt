@@ -4,7 +4,8 @@ use Rattle.pv_eval.specs.Moments.{state_of}
 use Rattle.pv_eval.specs.Machines.{after_first, ended}
 use Rattle.pv_exec.specs.declared.task.Task.TheVariants as task
 use Rattle.pv_exec.specs.declared.task.Flow.TheVariants as flow
-use Rattle.pv_exec.specs.declared.task.Way.{Way}
+use Rattle.pv_exec.specs.declared.task.Doing.{Doing}
+use Rattle.pv_exec.specs.declared.task.Way.TheVariants as way
 use Rattle.pv_exec.specs.Leading.{Leads}
 use Rattle.pv_exec.proofs.Leaving.{leaves-here}
 use Rattle.pv_exec.proofs.Choosing.{chosen-leads, chosen-stops, no-choice}
@@ -25,7 +26,7 @@ returns-in-Ok-clause-led c = λ b out es hs hl k le lt.
     let new = c.decide.new.self in
     let s = state_of old.moment out es in
     let s' = state_of new.moment out es in
-    subst (λ (w : Way). Leads b u (after_value b u k (task.Chosen c.args.n) (ended old.started) s) (after_first old.started) w new.started s') (sym c.side.ensures)
+    subst (λ (d : Doing). Leads b u (after_value b u k (task.Chosen c.args.n) (ended old.started) s) (after_first old.started) (way.Do d) new.started s') (sym c.side.ensures)
     (chosen-leads b u k c.line_of.result c.args.n c.in-Some.parts c.in-Ok.yes (after_first old.started) new.started (ended old.started) s s' (omega (arith, lt, c.in-Ok.ensures.stays.taken)) c.in-Some.ensures.value (c.line_of.ensures.expression c.in-Some.ensures.there.0) (c.in-Ok.ensures.tested b out es hs hl) c.in-Ok.ensures.started)
 
 pub returns-in-Err-clause-led : goal.returns-in-Err-clause-led
