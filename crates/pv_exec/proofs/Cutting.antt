@@ -107,13 +107,13 @@ cutting b l le =
     record {
       ways = record {
         gives = λ a. record { grows = λ s. grew-refl s.taken s (omega arith); cuts = λ s. inl refl };
-        acts = λ line o. record { grows = λ s. acted-grows c line (does c o s.world) s; cuts = λ s. inl (same-act b l line o s) };
+        acts = λ line o is. record { grows = λ s. acted-grows c line (does c o s.world) s; cuts = λ s. inl (same-act b l line o s) };
         ticks = λ {k} {j} {A} {m} {m'} h. record { grows = λ s. tick-grows m' s (nat_lt s.taken l) h.grows; cuts = λ s. tick-cuts b.bound l m m' s (nat_lt s.taken b.bound) (nat_lt s.taken l) le refl refl h };
         seq = λ {k} {j} {i} {A} {B} {m} {m'} {f} {f'} h g. record { grows = λ s. seq-grows s (m' s) f' (h.grows s) (λ a. (g a).grows); cuts = λ s. seq-cuts b.bound (m s) (m' s) f f' g (h.cuts s) };
         less = λ h. h;
         more = λ h. h;
       };
-      reads = λ line o offset v q. record { grows = λ s. acted-grows c line (does c (Puts o offset v (constant_worth s.world q)) s.world) s; cuts = λ s. inl (same-act b l line (Puts o offset v (constant_worth s.world q)) s) };
+      reads = λ line o offset v q is. record { grows = λ s. acted-grows c line (does c (Puts o offset v (constant_worth s.world q)) s.world) s; cuts = λ s. inl (same-act b l line (Puts o offset v (constant_worth s.world q)) s) };
     }
 
 -- where the first has no level left

@@ -1,6 +1,6 @@
 -- What holds of pieces of two runs, and of the ways in which pieces are made, holds of every statement, of what lies below and of the
 -- whole run. One line for each kind of statement, and one lemma for each word of execution.
-use Rattle.std.proofs.Common.{ℕ, zero, suc, ◌≤◌, List, [], ◌∷◌, arith}
+use Rattle.std.proofs.Common.{ℕ, zero, suc, ◌≤◌, List, [], ◌∷◌, refl, arith}
 use Rattle.std.specs.Prelude.{Bool, true, false, None, Some}
 use Rattle.std.specs.declared.option.Option.{Option}
 use Rattle.pv_typed.specs.declared.values.Const.{Const}
@@ -15,7 +15,7 @@ use Rattle.pv_eval.specs.States.{Setting, State, Res, Stops, Unreached, then_do}
 use Rattle.pv_eval.specs.TypeForms.{Lvalue, lvalue, size_of}
 use Rattle.pv_eval.specs.Constants.{constant_worth}
 use Rattle.pv_eval.specs.Operations.{Op, Tests, Accepts, Needs, Makes, MakesLiteral, MakesFunction, Ends, BeginsBody, EndsBody, Fills, Puts, PutsText, act}
-use Rattle.pv_eval.proofs.Closed.{Relation, Ways, beside_setting, choice, converted-way, handed-way, ev-closed}
+use Rattle.pv_eval.proofs.Closed.{Relation, IsLvalue, Ways, beside_setting, choice, converted-way, handed-way, ev-closed}
 use Rattle.pv_exec.specs.Flows.{Flow, Falls, Breaks, Continues, Returns, Below, full, testing, falls, goes_on, switched, make_all, end_all, scoped, stores_value, store_all, begin_fill, declares, if_tested, stepped, round, round_do, returns_value}
 use Rattle.pv_exec.specs.Labels.{Target, ToCase, ToDefault, ToNone, target_of, is_target, unless_none}
 use Rattle.pv_exec.specs.Execution.{ex, exs, exs_at}
@@ -26,7 +26,7 @@ use Rattle.pv_exec.specs.Run.{call_main}
 -- and the store of a constant, whose value is read off the world
 pub record WaysIn (b b' : Setting) (R : Relation) : Type 1 where
   pub ways : Ways b b' R
-  pub reads : {k : ℕ} (line o offset : ℕ) (l : Lvalue) (q : Const) → R k k Worth (λ s. act b line (Puts o offset l (constant_worth s.world q)) s) (λ s. act b' line (Puts o offset l (constant_worth s.world q)) s)
+  pub reads : {k : ℕ} (line o offset : ℕ) (l : Lvalue) (q : Const) → IsLvalue b l → R k k Worth (λ s. act b line (Puts o offset l (constant_worth s.world q)) s) (λ s. act b' line (Puts o offset l (constant_worth s.world q)) s)
 
 module _ (b : Setting) (n : ℕ) (sides : Option (List Bool)) {R : Relation} (w : Ways b (beside_setting b n sides) R) where
   abbrev c : Setting
@@ -63,11 +63,11 @@ module _ (b : Setting) (n : ℕ) (sides : Option (List Bool)) {R : Relation} (w 
 
   make-way : {k : ℕ} (os : List ℕ) → R k k Worth (make_all b os) (make_all c os)
   make-way [] = w.gives Nothing
-  make-way (o ∷ os) = w.seq (w.acts (object_at b.unit o).line (Makes o)) (λ v. make-way os)
+  make-way (o ∷ os) = w.seq (w.acts (object_at b.unit o).line (Makes o) tt) (λ v. make-way os)
 
   pub end-way : {k : ℕ} (os : List ℕ) → R k k Worth (end_all b os) (end_all c os)
   end-way [] = w.gives Nothing
-  end-way (o ∷ os) = w.seq (w.acts (object_at b.unit o).line (Ends o)) (λ v. end-way os)
+  end-way (o ∷ os) = w.seq (w.acts (object_at b.unit o).line (Ends o) tt) (λ v. end-way os)
 
   pub scoped-way : {k j : ℕ} {m m' : State → Res Flow} (os : List ℕ) → R k j Flow m m' → R k j Flow (scoped b os m) (scoped c os m')
   scoped-way os h = w.seq (make-way os) (λ v. w.seq h (λ fl. w.seq (end-way os) (λ v. w.gives fl)))
@@ -77,7 +77,7 @@ module _ (b : Setting) (n : ℕ) (sides : Option (List Bool)) {R : Relation} (w 
     full-way x = w.seq (ev-closed b n sides w k u.call u'.call h.call x []) (λ g. w.gives g.value)
 
     pub testing-way : (x : TypedTree) → R (suc k) k Worth (testing b u.call x) (testing c u'.call x)
-    testing-way x = w.seq (full-way x) (λ v. w.acts (line_of x) (Tests v))
+    testing-way x = w.seq (full-way x) (λ v. w.acts (line_of x) (Tests v) tt)
 
     pub stepped-way : {m m' : State → Res Flow} (x : Option TypedTree) → R k k Flow m m' → R k k Flow (stepped b u.call x m) (stepped c u'.call x m')
     stepped-way None g = g
@@ -95,16 +95,16 @@ module _ (b : Setting) (n : ℕ) (sides : Option (List Bool)) {R : Relation} (w 
     round_do-way t g i = w.seq g (λ fl. going fl (w.seq (w.less (testing-way t)) (λ v. choice b n sides w (is_true v) i (w.gives Falls))))
 
     pub value-way : (o : ℕ) (x : Store) (v : StoredValue) → R k k Worth (stores_value b u.call o x v) (stores_value c u'.call o x v)
-    value-way o x (ValueOf e) = w.less (w.ticks (w.seq (w.less (full-way e)) (λ v. w.seq (handed-way b n sides w e v) (λ v. w.acts x.line (Puts o x.offset (lvalue b x.t) v)))))
-    value-way o x (TextOf l) = w.less (w.ticks (w.acts x.line (PutsText o x.offset (size_of b x.t) l)))
+    value-way o x (ValueOf e) = w.less (w.ticks (w.seq (w.less (full-way e)) (λ v. w.seq (handed-way b n sides w e v) (λ v. w.acts x.line (Puts o x.offset (lvalue b x.t) v) (x.t, refl)))))
+    value-way o x (TextOf l) = w.less (w.ticks (w.acts x.line (PutsText o x.offset (size_of b x.t) l) tt))
 
     pub stores-way : (o : ℕ) (xs : List Store) → R k k Worth (store_all b u.call o xs) (store_all c u'.call o xs)
     stores-way o [] = w.gives Nothing
     stores-way o (x ∷ xs) = w.seq (value-way o x x.what) (λ v. stores-way o xs)
 
     fill-way : (o : ℕ) (braced : Bool) (xs : List Store) → R k k Worth (begin_fill b o braced xs) (begin_fill c o braced xs)
-    fill-way o true xs = w.acts (object_at b.unit o).line (Fills o (Some 0))
-    fill-way o false [] = w.acts (object_at b.unit o).line (Fills o None)
+    fill-way o true xs = w.acts (object_at b.unit o).line (Fills o (Some 0)) tt
+    fill-way o false [] = w.acts (object_at b.unit o).line (Fills o None) tt
     fill-way o false (x ∷ xs) = w.gives Nothing
 
     declares-way : (o : ℕ) (x : TypedObject) → R k k Flow (declares b u.call o x) (declares c u'.call o x)
@@ -112,7 +112,7 @@ module _ (b : Setting) (n : ℕ) (sides : Option (List Bool)) {R : Relation} (w 
 
     pub returns-way : (x : Option TypedTree) (line : ℕ) → R k k Flow (returns_value b u.call x line) (returns_value c u'.call x line)
     returns-way None line = w.gives (Returns Nothing)
-    returns-way (Some x) line = w.seq (w.less (full-way x)) (λ v. w.seq (converted-way b n sides w x v) (λ v. w.seq (w.acts line (Accepts v)) (λ v. w.gives (Returns v))))
+    returns-way (Some x) line = w.seq (w.less (full-way x)) (λ v. w.seq (converted-way b n sides w x v) (λ v. w.seq (w.acts line (Accepts v) tt) (λ v. w.gives (Returns v))))
 
     mutual
       unfolding ex
@@ -125,7 +125,7 @@ module _ (b : Setting) (n : ℕ) (sides : Option (List Bool)) {R : Relation} (w 
       ex-closed (Empty line) = w.ticks (w.gives Falls)
       ex-closed (If line x y) = w.ticks (w.seq (w.less (testing-way x)) (λ v. choice b n sides w (is_true v) (w.less (ex-closed y)) (w.gives Falls)))
       ex-closed (IfElse line x y z) = w.ticks (w.seq (w.less (testing-way x)) (λ v. choice b n sides w (is_true v) (w.less (ex-closed y)) (w.less (ex-closed z))))
-      ex-closed (Switch line x (Block m os xs)) = w.ticks (w.seq (w.less (full-way x)) (λ v. w.seq (converted-way b n sides w x v) (λ v. w.seq (w.acts (line_of x) (Needs v)) (λ v. unless-way (target_of (int_of v) xs) (w.less (w.ticks (w.seq (scoped-way os (exs_at-closed (target_of (int_of v) xs) xs)) (λ fl. switching fl))))))))
+      ex-closed (Switch line x (Block m os xs)) = w.ticks (w.seq (w.less (full-way x)) (λ v. w.seq (converted-way b n sides w x v) (λ v. w.seq (w.acts (line_of x) (Needs v) tt) (λ v. unless-way (target_of (int_of v) xs) (w.less (w.ticks (w.seq (scoped-way os (exs_at-closed (target_of (int_of v) xs) xs)) (λ fl. switching fl))))))))
       ex-closed (Switch line x (Declare l o)) = w.ticks (w.gives Falls)
       ex-closed (Switch line x (Expression l y)) = w.ticks (w.gives Falls)
       ex-closed (Switch line x (Empty l)) = w.ticks (w.gives Falls)
@@ -177,7 +177,7 @@ module _ (b : Setting) (n : ℕ) (sides : Option (List Bool)) {R : Relation} (w 
   params-way : {k : ℕ} (line : ℕ) (os : List ℕ) (vs : List Worth) → R k k Worth (take_params b line os vs) (take_params c line os vs)
   params-way line [] vs = w.gives Nothing
   params-way line (o ∷ os) [] = w.gives Nothing
-  params-way line (o ∷ os) (v ∷ vs) = w.seq (w.acts line (Makes o)) (λ x. w.seq (w.acts line (Puts o 0 (lvalue b (object_at b.unit o).t) v)) (λ x. params-way line os vs))
+  params-way line (o ∷ os) (v ∷ vs) = w.seq (w.acts line (Makes o) tt) (λ x. w.seq (w.acts line (Puts o 0 (lvalue b (object_at b.unit o).t) v) ((object_at b.unit o).t, refl)) (λ x. params-way line os vs))
 
   runs-way : (k : ℕ) (u u' : Below) → Alike k u u' → (x : Option TypedStatement) → R (suc k) (suc k) Flow (runs_body b u x) (runs_body c u' x)
   runs-way k u u' h None = w.more (w.ticks (w.gives Falls))
@@ -185,7 +185,7 @@ module _ (b : Setting) (n : ℕ) (sides : Option (List Bool)) {R : Relation} (w 
 
   -- a call of a function
   pub body-closed : (k : ℕ) (u u' : Below) → Alike k u u' → (f : TypedFunction) (vs : List Worth) (line : ℕ) → R (suc k) (suc k) Worth (call_body b u f vs line) (call_body c u' f vs line)
-  body-closed k u u' h f vs line = w.seq (w.acts line BeginsBody) (λ x. w.seq (params-way line f.params vs) (λ x. w.seq (runs-way k u u' h f.body) (λ fl. w.seq (end-way f.params) (λ x. w.seq (w.acts line EndsBody) (λ x. w.gives (value_by b f fl))))))
+  body-closed k u u' h f vs line = w.seq (w.acts line BeginsBody tt) (λ x. w.seq (params-way line f.params vs) (λ x. w.seq (runs-way k u u' h f.body) (λ fl. w.seq (end-way f.params) (λ x. w.seq (w.acts line EndsBody tt) (λ x. w.gives (value_by b f fl))))))
 
   -- one level up
   pub level-closed : (k i i' : ℕ) → Alike k (below b i) (below c i') → Alike (suc k) (below b (suc i)) (below c (suc i'))
@@ -217,7 +217,7 @@ module _ (b : Setting) (n : ℕ) (sides : Option (List Bool)) {R : Relation} (i 
   d = beside_setting b n sides
 
   static-way : {k : ℕ} (o : ℕ) → R k k Worth (make_static b o) (make_static d o)
-  static-way o = i.ways.seq (i.ways.acts (object_at b.unit o).line (Makes o)) (λ v. i.ways.acts (object_at b.unit o).line (Fills o (Some 0)))
+  static-way o = i.ways.seq (i.ways.acts (object_at b.unit o).line (Makes o) tt) (λ v. i.ways.acts (object_at b.unit o).line (Fills o (Some 0)) tt)
 
   statics-way : {k : ℕ} (os : List ℕ) → R k k Worth (make_statics b os) (make_statics d os)
   statics-way [] = i.ways.gives Nothing
@@ -225,19 +225,19 @@ module _ (b : Setting) (n : ℕ) (sides : Option (List Bool)) {R : Relation} (i 
 
   functions-way : {k : ℕ} (fs : List ℕ) → R k k Worth (make_functions b fs) (make_functions d fs)
   functions-way [] = i.ways.gives Nothing
-  functions-way (f ∷ fs) = i.ways.seq (i.ways.acts (function_at b.unit f).line (MakesFunction f)) (λ v. functions-way fs)
+  functions-way (f ∷ fs) = i.ways.seq (i.ways.acts (function_at b.unit f).line (MakesFunction f) tt) (λ v. functions-way fs)
 
   literals-way : {k : ℕ} (ls : List ℕ) → R k k Worth (make_literals b ls) (make_literals d ls)
   literals-way [] = i.ways.gives Nothing
-  literals-way (l ∷ ls) = i.ways.seq (i.ways.acts (literal_at b.unit l).line (MakesLiteral l)) (λ v. literals-way ls)
+  literals-way (l ∷ ls) = i.ways.seq (i.ways.acts (literal_at b.unit l).line (MakesLiteral l) tt) (λ v. literals-way ls)
 
   constant-way : {k : ℕ} (o : ℕ) (x : Store) (q : Option Const) → R k k Worth (store_constant b o x q) (store_constant d o x q)
   constant-way o x None = i.ways.gives Nothing
-  constant-way o x (Some q) = i.reads x.line o x.offset (lvalue b x.t) q
+  constant-way o x (Some q) = i.reads x.line o x.offset (lvalue b x.t) q (x.t, refl)
 
   stored-way : {k : ℕ} (o : ℕ) (x : Store) (v : StoredValue) → R k k Worth (store_static b o x v) (store_static d o x v)
   stored-way o x (ValueOf e) = constant-way o x (constant_of b.unit e)
-  stored-way o x (TextOf l) = i.ways.acts x.line (PutsText o x.offset (size_of b x.t) l)
+  stored-way o x (TextOf l) = i.ways.acts x.line (PutsText o x.offset (size_of b x.t) l) tt
 
   all-stored-way : {k : ℕ} (o : ℕ) (xs : List Store) → R k k Worth (store_statics b o xs) (store_statics d o xs)
   all-stored-way o [] = i.ways.gives Nothing

@@ -1,5 +1,5 @@
 -- What holds of pieces of two runs, and of the ways in which pieces are made, holds of what is left of an expression in progress.
-use Rattle.std.proofs.Common.{ℕ, zero, suc, ◌+◌, List, [], ◌∷◌, ◌++◌}
+use Rattle.std.proofs.Common.{ℕ, zero, suc, ◌+◌, List, [], ◌∷◌, ◌++◌, refl}
 use Rattle.std.specs.Prelude.{Bool, true, false, if◌then◌else◌, None, map, length}
 use Rattle.std.specs.declared.option.Option.{Option}
 use Rattle.pv_types.specs.Ty.{Ty}
@@ -55,12 +55,12 @@ module _ (b : Setting) (n : ℕ) (sides : Option (List Bool)) {R : Relation} (w 
 
   through-closed : (line : ℕ) (t : Ty) (p : Worth) (got : List Worth) (xs : Arguments) (j : Open) → R k k Given (ev_through b call line t p got xs j) (ev_through c call' line t p got xs j)
   unfolding ev
-  through-closed line t p got NoArguments j = w.seq (w.acts line (Finds t p)) (λ f. w.seq (h (function_in f) got line) (done-way b n sides w (sequence_point j)))
+  through-closed line t p got NoArguments j = w.seq (w.acts line (Finds t p) tt) (λ f. w.seq (h (function_in f) got line) (done-way b n sides w (sequence_point j)))
   through-closed line t p got (MoreArguments x xs) j = operand-way b n sides w j (within x) (λ j v. w.seq (handed-way b n sides w x v) (λ v. through-closed line t p (got ++ v ∷ []) xs j))
 
   ask-closed : (line : ℕ) (f : Library) (got : List Arg) (xs : Arguments) (j : Open) → R k k Given (ev_ask b call line f got xs j) (ev_ask c call' line f got xs j)
   unfolding ev
-  ask-closed line f got NoArguments j = work-way b n sides w line (Asks f got) (sequence_point j)
+  ask-closed line f got NoArguments j = work-way b n sides w line (Asks f got) tt (sequence_point j)
   ask-closed line f got (MoreArguments x xs) j = operand-way b n sides w j (within x) (λ j v. w.seq (handed-way b n sides w x v) (λ v. ask-closed line f (got ++ argument x v ∷ []) xs j))
 
   second-closed : (t : Ty) (line : ℕ) (x : Form) (v : Worth) (j : Open) (e : Worth) → R k k Given (second_after b call t line x v j e) (second_after c call' t line x v j e)
@@ -68,7 +68,7 @@ module _ (b : Setting) (n : ℕ) (sides : Option (List Bool)) {R : Relation} (w 
   second-closed t line (Object o) v j e = done-way b n sides w j e
   second-closed t line (Function f) v j e = done-way b n sides w j e
   second-closed t line (String l) v j e = done-way b n sides w j e
-  second-closed t line (Subscript x y) v j e = work-way b n sides w line (Moves false (is_pointer (type_of x)) (element_size b (if is_pointer (type_of x) then type_of x else type_of y)) v e) j
+  second-closed t line (Subscript x y) v j e = work-way b n sides w line (Moves false (is_pointer (type_of x)) (element_size b (if is_pointer (type_of x) then type_of x else type_of y)) v e) tt j
   second-closed t line (Call f xs) v j e = done-way b n sides w j e
   second-closed t line (CallPointer x xs) v j e = done-way b n sides w j e
   second-closed t line (LibraryCall f xs) v j e = done-way b n sides w j e
@@ -82,15 +82,15 @@ module _ (b : Setting) (n : ℕ) (sides : Option (List Bool)) {R : Relation} (w 
   second-closed t line (Not x) v j e = done-way b n sides w j e
   second-closed t line (Sizeof m) v j e = done-way b n sides w j e
   second-closed t line (Cast x) v j e = done-way b n sides w j e
-  second-closed t line (Arithmetic o x y) v j e = w.seq (converted-way b n sides w x v) (λ v. w.seq (converted-way b n sides w y e) (λ e. work-way b n sides w line (Calculates o (kind_of (type_of x)) v e) j))
-  second-closed t line (PointerSum g x y) v j e = work-way b n sides w line (Moves (is_minus g) (is_pointer (type_of x)) (element_size b t) v e) j
-  second-closed t line (PointerDifference x y) v j e = work-way b n sides w line (Subtracts (element_size b (type_of x)) v e) j
-  second-closed t line (PointerOrder o x y) v j e = work-way b n sides w line (Orders o v e) j
-  second-closed t line (PointerEquality o x y) v j e = w.seq (converted-way b n sides w x v) (λ v. w.seq (converted-way b n sides w y e) (λ e. work-way b n sides w line (Equals (is_unequal o) v e) j))
+  second-closed t line (Arithmetic o x y) v j e = w.seq (converted-way b n sides w x v) (λ v. w.seq (converted-way b n sides w y e) (λ e. work-way b n sides w line (Calculates o (kind_of (type_of x)) v e) tt j))
+  second-closed t line (PointerSum g x y) v j e = work-way b n sides w line (Moves (is_minus g) (is_pointer (type_of x)) (element_size b t) v e) tt j
+  second-closed t line (PointerDifference x y) v j e = work-way b n sides w line (Subtracts (element_size b (type_of x)) v e) tt j
+  second-closed t line (PointerOrder o x y) v j e = work-way b n sides w line (Orders o v e) tt j
+  second-closed t line (PointerEquality o x y) v j e = w.seq (converted-way b n sides w x v) (λ v. w.seq (converted-way b n sides w y e) (λ e. work-way b n sides w line (Equals (is_unequal o) v e) tt j))
   second-closed t line (LogicalAnd x y) v j e = done-way b n sides w j e
   second-closed t line (LogicalOr x y) v j e = done-way b n sides w j e
   second-closed t line (Conditional x y z) v j e = done-way b n sides w j e
-  second-closed t line (Assign x y) v j e = w.seq (converted-way b n sides w y e) (λ e. writing-way b n sides w (lvalue b (type_of x)) line v e (source_of y e) j (done-way b n sides w))
+  second-closed t line (Assign x y) v j e = w.seq (converted-way b n sides w y e) (λ e. writing-way b n sides w (lvalue b (type_of x)) (type_of x, refl) line v e (source_of y e) j (done-way b n sides w))
   second-closed t line (CompoundAssign o q x y) v j e = done-way b n sides w j e
   second-closed t line (PointerAssign g x y) v j e = done-way b n sides w j e
   second-closed t line (Comma x y) v j e = done-way b n sides w j e
@@ -126,8 +126,8 @@ module _ (b : Setting) (n : ℕ) (sides : Option (List Bool)) {R : Relation} (w 
   both-closed t line (LogicalOr x y) p v j e = done-way b n sides w j e
   both-closed t line (Conditional x y z) p v j e = done-way b n sides w j e
   both-closed t line (Assign x y) p v j e = done-way b n sides w j e
-  both-closed t line (CompoundAssign o q x y) p v j e = w.seq (w.acts line (Converts (Rounds q) v)) (λ v. w.seq (converted-way b n sides w y e) (λ e. w.seq (combining-way b n sides w line o q (kind_of t) v e) (λ v. writing-way b n sides w (lvalue b (type_of x)) line p v None j (done-way b n sides w))))
-  both-closed t line (PointerAssign g x y) p v j e = w.seq (w.acts line (Moves (is_minus g) true (element_size b t) v e)) (λ v. writing-way b n sides w (lvalue b (type_of x)) line p v None j (done-way b n sides w))
+  both-closed t line (CompoundAssign o q x y) p v j e = w.seq (w.acts line (Converts (Rounds q) v) tt) (λ v. w.seq (converted-way b n sides w y e) (λ e. w.seq (combining-way b n sides w line o q (kind_of t) v e) (λ v. writing-way b n sides w (lvalue b (type_of x)) (type_of x, refl) line p v None j (done-way b n sides w))))
+  both-closed t line (PointerAssign g x y) p v j e = w.seq (w.acts line (Moves (is_minus g) true (element_size b t) v e) tt) (λ v. writing-way b n sides w (lvalue b (type_of x)) (type_of x, refl) line p v None j (done-way b n sides w))
   both-closed t line (Comma x y) p v j e = done-way b n sides w j e
   both-closed t line (Read x) p v j e = done-way b n sides w j e
   both-closed t line (ArrayPointer x) p v j e = done-way b n sides w j e
@@ -157,8 +157,8 @@ module _ (b : Setting) (n : ℕ) (sides : Option (List Bool)) {R : Relation} (w 
   later-closed t line (PointerDifference x y) side j e = done-way b n sides w j e
   later-closed t line (PointerOrder o x y) side j e = done-way b n sides w j e
   later-closed t line (PointerEquality o x y) side j e = done-way b n sides w j e
-  later-closed t line (LogicalAnd x y) side j e = work-way b n sides w line (Tests e) j
-  later-closed t line (LogicalOr x y) side j e = work-way b n sides w line (Tests e) j
+  later-closed t line (LogicalAnd x y) side j e = work-way b n sides w line (Tests e) tt j
+  later-closed t line (LogicalOr x y) side j e = work-way b n sides w line (Tests e) tt j
   later-closed t line (Conditional x y z) true j e = w.seq (converted-way b n sides w y e) (done-way b n sides w j)
   later-closed t line (Conditional x y z) false j e = w.seq (converted-way b n sides w z e) (done-way b n sides w j)
   later-closed t line (Assign x y) side j e = done-way b n sides w j e
@@ -178,29 +178,29 @@ module _ (b : Setting) (n : ℕ) (sides : Option (List Bool)) {R : Relation} (w 
   first-closed t line (Call f xs) j v = done-way b n sides w j v
   first-closed t line (CallPointer x xs) j v = through-closed line (pointed_to (type_of x)) v [] xs j
   first-closed t line (LibraryCall f xs) j v = done-way b n sides w j v
-  first-closed t line (Member x i) j v = work-way b n sides w line (Selects i v) j
-  first-closed t line (MemberOfValue x i) j v = work-way b n sides w line (TakesPart i (lvalue b t) v) j
-  first-closed t line (Arrow x i) j v = work-way b n sides w line (Selects i v) j
-  first-closed t line (Increment o x) j v = reading-way b n sides w (lvalue b (type_of x)) line v j (λ j p. w.seq (stepping-way b n sides w line t o p) (λ e. writing-way b n sides w (lvalue b (type_of x)) line v e None j (λ j e. done-way b n sides w j (if is_after o then p else e))))
+  first-closed t line (Member x i) j v = work-way b n sides w line (Selects i v) tt j
+  first-closed t line (MemberOfValue x i) j v = work-way b n sides w line (TakesPart i (lvalue b t) v) (t, refl) j
+  first-closed t line (Arrow x i) j v = work-way b n sides w line (Selects i v) tt j
+  first-closed t line (Increment o x) j v = reading-way b n sides w (lvalue b (type_of x)) (type_of x, refl) line v j (λ j p. w.seq (stepping-way b n sides w line t o p) (λ e. writing-way b n sides w (lvalue b (type_of x)) (type_of x, refl) line v e None j (λ j e. done-way b n sides w j (if is_after o then p else e))))
   first-closed t line (Address x) j v = done-way b n sides w j v
-  first-closed t line (Indirection x) j v = work-way b n sides w line (Follows (is_none t) v) j
-  first-closed t line (Unary o x) j v = w.seq (converted-way b n sides w x v) (λ v. work-way b n sides w line (CalculatesOne o (kind_of t) v) j)
-  first-closed t line (Not x) j v = work-way b n sides w line (Negates v) j
+  first-closed t line (Indirection x) j v = work-way b n sides w line (Follows (is_none t) v) tt j
+  first-closed t line (Unary o x) j v = w.seq (converted-way b n sides w x v) (λ v. work-way b n sides w line (CalculatesOne o (kind_of t) v) tt j)
+  first-closed t line (Not x) j v = work-way b n sides w line (Negates v) tt j
   first-closed t line (Sizeof m) j v = done-way b n sides w j v
-  first-closed t line (Cast x) j v = work-way b n sides w line (Converts (how_to b false (type_of x) t) v) j
+  first-closed t line (Cast x) j v = work-way b n sides w line (Converts (how_to b false (type_of x) t) v) tt j
   first-closed t line (Arithmetic o x y) j v = operand-way b n sides w j (within y) (λ j e. second-closed t line (Arithmetic o x y) v j e)
   first-closed t line (PointerSum g x y) j v = operand-way b n sides w j (within y) (λ j e. second-closed t line (PointerSum g x y) v j e)
   first-closed t line (PointerDifference x y) j v = operand-way b n sides w j (within y) (λ j e. second-closed t line (PointerDifference x y) v j e)
   first-closed t line (PointerOrder o x y) j v = operand-way b n sides w j (within y) (λ j e. second-closed t line (PointerOrder o x y) v j e)
   first-closed t line (PointerEquality o x y) j v = operand-way b n sides w j (within y) (λ j e. second-closed t line (PointerEquality o x y) v j e)
-  first-closed t line (LogicalAnd x y) j v = w.seq (w.acts line (Tests v)) (λ v. choice b n sides w (is_true v) (later-way b n sides w (sequence_point j) (within y) (λ j e. later-closed t line (LogicalAnd x y) true j e)) (done-way b n sides w (sequence_point j) v))
-  first-closed t line (LogicalOr x y) j v = w.seq (w.acts line (Tests v)) (λ v. choice b n sides w (is_true v) (done-way b n sides w (sequence_point j) v) (later-way b n sides w (sequence_point j) (within y) (λ j e. later-closed t line (LogicalOr x y) true j e)))
-  first-closed t line (Conditional x y z) j v = w.seq (w.acts line (Tests v)) (λ v. choice b n sides w (is_true v) (later-way b n sides w (sequence_point j) (within y) (λ j e. later-closed t line (Conditional x y z) true j e)) (later-way b n sides w (sequence_point j) (within z) (λ j e. later-closed t line (Conditional x y z) false j e)))
+  first-closed t line (LogicalAnd x y) j v = w.seq (w.acts line (Tests v) tt) (λ v. choice b n sides w (is_true v) (later-way b n sides w (sequence_point j) (within y) (λ j e. later-closed t line (LogicalAnd x y) true j e)) (done-way b n sides w (sequence_point j) v))
+  first-closed t line (LogicalOr x y) j v = w.seq (w.acts line (Tests v) tt) (λ v. choice b n sides w (is_true v) (done-way b n sides w (sequence_point j) v) (later-way b n sides w (sequence_point j) (within y) (λ j e. later-closed t line (LogicalOr x y) true j e)))
+  first-closed t line (Conditional x y z) j v = w.seq (w.acts line (Tests v) tt) (λ v. choice b n sides w (is_true v) (later-way b n sides w (sequence_point j) (within y) (λ j e. later-closed t line (Conditional x y z) true j e)) (later-way b n sides w (sequence_point j) (within z) (λ j e. later-closed t line (Conditional x y z) false j e)))
   first-closed t line (Assign x y) j v = operand-way b n sides w j (within y) (λ j e. second-closed t line (Assign x y) v j e)
-  first-closed t line (CompoundAssign o q x y) j v = reading-way b n sides w (lvalue b (type_of x)) line v j (λ j p. operand-way b n sides w j (within y) (λ j e. both-closed t line (CompoundAssign o q x y) v p j e))
-  first-closed t line (PointerAssign g x y) j v = reading-way b n sides w (lvalue b (type_of x)) line v j (λ j p. operand-way b n sides w j (within y) (λ j e. both-closed t line (PointerAssign g x y) v p j e))
+  first-closed t line (CompoundAssign o q x y) j v = reading-way b n sides w (lvalue b (type_of x)) (type_of x, refl) line v j (λ j p. operand-way b n sides w j (within y) (λ j e. both-closed t line (CompoundAssign o q x y) v p j e))
+  first-closed t line (PointerAssign g x y) j v = reading-way b n sides w (lvalue b (type_of x)) (type_of x, refl) line v j (λ j p. operand-way b n sides w j (within y) (λ j e. both-closed t line (PointerAssign g x y) v p j e))
   first-closed t line (Comma x y) j v = later-way b n sides w (sequence_point j) (within y) (λ j e. later-closed t line (Comma x y) true j e)
-  first-closed t line (Read x) j v = reading-way b n sides w (lvalue b (type_of x)) line v j (done-way b n sides w)
+  first-closed t line (Read x) j v = reading-way b n sides w (lvalue b (type_of x)) (type_of x, refl) line v j (done-way b n sides w)
   first-closed t line (ArrayPointer x) j v = done-way b n sides w j v
   first-closed t line (Convert x) j v = done-way b n sides w j v
 

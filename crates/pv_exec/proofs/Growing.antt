@@ -95,11 +95,11 @@ pub growing : (b : Setting) → WaysIn b (beside_setting b b.bound b.sides) (λ 
 growing b = record {
   ways = record {
     gives = λ a s. grew-refl s.taken s (omega arith);
-    acts = λ line o s. acted-grows b line (does b o s.world) s;
+    acts = λ line o is s. acted-grows b line (does b o s.world) s;
     ticks = λ {k} {j} {A} {m} {m'} h s. tick-grows m s (nat_lt s.taken b.bound) h;
     seq = λ {k} {j} {i} {A} {B} {m} {m'} {f} {f'} h g s. seq-grows s (m s) f (h s) g;
     less = λ h. h;
     more = λ h. h;
   };
-  reads = λ line o offset v q s. acted-grows b line (does b (Puts o offset v (constant_worth s.world q)) s.world) s;
+  reads = λ line o offset v q is s. acted-grows b line (does b (Puts o offset v (constant_worth s.world q)) s.world) s;
 }

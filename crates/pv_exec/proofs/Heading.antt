@@ -1,5 +1,5 @@
 -- What holds of pieces of two runs, and of the ways in which pieces are made, holds of what is left of a run in progress.
-use Rattle.std.proofs.Common.{ℕ, List, [], ◌∷◌}
+use Rattle.std.proofs.Common.{ℕ, List, [], ◌∷◌, refl}
 use Rattle.std.specs.Prelude.{Bool, drop, None, Some}
 use Rattle.std.specs.declared.option.Option.{Option}
 use Rattle.pv_typed.specs.TypedTree.{TypedTree, line_of}
@@ -56,7 +56,7 @@ module _ (b : Setting) (n : ℕ) (sides : Option (List Bool)) {R : Relation} (w 
   rounded-closed l fl = going b n sides w fl (stepped-way b n sides w k z z' alike l.step (alike.again l.condition l.step l.body))
 
   tested-closed : (l : Loop) (v : Worth) → R k k Flow (tested b z l v) (tested c z' l v)
-  tested-closed l v = w.seq (w.acts (line_of_condition l.condition) (Tests v)) (λ v. choice b n sides w (is_true v) (w.seq (executed l.body) (λ fl. rounded-closed l fl)) (w.gives Falls))
+  tested-closed l v = w.seq (w.acts (line_of_condition l.condition) (Tests v) tt) (λ v. choice b n sides w (is_true v) (w.seq (executed l.body) (λ fl. rounded-closed l fl)) (w.gives Falls))
 
   rounded-do-closed : (l : Option DoLoop) (fl : Flow) → R k k Flow (rounded_do b z l fl) (rounded_do c z' l fl)
   rounded-do-closed None fl = w.gives fl
@@ -64,7 +64,7 @@ module _ (b : Setting) (n : ℕ) (sides : Option (List Bool)) {R : Relation} (w 
 
   tested-do-closed : (l : Option DoLoop) (v : Worth) → R k k Flow (tested_do b z l v) (tested_do c z' l v)
   tested-do-closed None v = w.gives Falls
-  tested-do-closed (Some l) v = w.seq (w.acts (line_of l.condition) (Tests v)) (λ v. choice b n sides w (is_true v) (alike.again_do l.body l.condition) (w.gives Falls))
+  tested-do-closed (Some l) v = w.seq (w.acts (line_of l.condition) (Tests v) tt) (λ v. choice b n sides w (is_true v) (alike.again_do l.body l.condition) (w.gives Falls))
 
   other-closed : (x : Option TypedStatement) → R k k Flow (other_side b z x) (other_side c z' x)
   other-closed None = w.gives Falls
@@ -72,20 +72,20 @@ module _ (b : Setting) (n : ℕ) (sides : Option (List Bool)) {R : Relation} (w 
 
   chosen-closed : (x : Option Choice) (v : Worth) → R k k Flow (chosen b z x v) (chosen c z' x v)
   chosen-closed None v = w.gives Falls
-  chosen-closed (Some x) v = w.seq (w.acts (line_of x.condition) (Tests v)) (λ v. choice b n sides w (is_true v) (executed x.body) (other-closed x.other))
+  chosen-closed (Some x) v = w.seq (w.acts (line_of x.condition) (Tests v) tt) (λ v. choice b n sides w (is_true v) (executed x.body) (other-closed x.other))
 
   selected-closed : (x : Option Selection) (v : Worth) → R k k Flow (selected b z x v) (selected c z' x v)
   selected-closed None v = w.gives Falls
   selected-closed (Some x) v =
-      w.seq (converted-way b n sides w x.value v) (λ v. w.seq (w.acts (line_of x.value) (Needs v)) (λ v.
+      w.seq (converted-way b n sides w x.value v) (λ v. w.seq (w.acts (line_of x.value) (Needs v) tt) (λ v.
       unless-way b n sides w (target_of (int_of v) x.block.items) (w.less (w.ticks (w.seq (scoped-way b n sides w x.block.objects (exs_at-closed b n sides w k z z' alike (target_of (int_of v) x.block.items) x.block.items)) (λ fl. switching b n sides w fl))))))
 
   returned-closed : (line : ℕ) (x : Option TypedTree) (v : Worth) → R k k Flow (returned b line x v) (returned c line x v)
   returned-closed line None v = w.gives Falls
-  returned-closed line (Some x) v = w.seq (converted-way b n sides w x v) (λ v. w.seq (w.acts line (Accepts v)) (λ v. w.gives (Returns v)))
+  returned-closed line (Some x) v = w.seq (converted-way b n sides w x v) (λ v. w.seq (w.acts line (Accepts v) tt) (λ v. w.gives (Returns v)))
 
   value-closed : (o : ℕ) (x : Store) (what : StoredValue) (v : Worth) → R k k Worth (stored_value b o x what v) (stored_value c o x what v)
-  value-closed o x (ValueOf e) v = w.seq (handed-way b n sides w e v) (λ v. w.acts x.line (Puts o x.offset (lvalue b x.t) v))
+  value-closed o x (ValueOf e) v = w.seq (handed-way b n sides w e v) (λ v. w.acts x.line (Puts o x.offset (lvalue b x.t) v) (x.t, refl))
   value-closed o x (TextOf l) v = w.gives Nothing
 
   stored-closed : (o : ℕ) (xs : List Store) (v : Worth) → R k k Flow (stored b z.call o xs v) (stored c z'.call o xs v)
@@ -105,7 +105,7 @@ module _ (b : Setting) (n : ℕ) (sides : Option (List Bool)) {R : Relation} (w 
   flow-closed es (task.Rounded m) fl = reaching (rounded-closed (loop_of (statement_at u m)) fl)
   flow-closed es (task.RoundedDo m) fl = reaching (rounded-do-closed (do_of (statement_at u m)) fl)
   flow-closed es (task.InCall f line) fl =
-      w.seq (end-way b n sides w (function_at b.unit f).params) (λ v. w.seq (w.acts line EndsBody) (λ v.
+      w.seq (end-way b n sides w (function_at b.unit f).params) (λ v. w.seq (w.acts line EndsBody tt) (λ v.
       w.seq (answered-closed b n sides w k z.call z'.call alike.call (stop k) u es (value_by b (function_at b.unit f) fl)) (λ g. w.gives (Valued g.value))))
   flow-closed es task.Dropping fl = w.gives (Left fl)
   flow-closed es (task.Chosen m) fl = w.gives (Left fl)

@@ -92,13 +92,13 @@ fitting : (b : Setting) → WaysIn b (beside_setting b b.bound b.sides) (λ k j 
 fitting b = record {
   ways = record {
     gives = λ a s h r. (h, r);
-    acts = λ {k} line o s h r. acted-fits b k line (does b o s.world) s h r;
+    acts = λ {k} line o is s h r. acted-fits b k line (does b o s.world) s h r;
     ticks = λ {k} {j} {A} {m} {m'} h s f r. tick-fits b.bound k j m s (nat_lt s.taken b.bound) refl h f r;
     seq = λ {k} {j} {i} {A} {B} {m} {m'} {f} {f'} h g s q r. seq-fits b.bound j i (m s) f (h s q r) g;
     less = λ h s f r. h s f (omega (arith, r));
     more = λ {k} {j} {A} {m} {m'} h s f r. more-fits b.bound j (m s) (h s f r);
   };
-  reads = λ {k} line o offset v q s h r. acted-fits b k line (does b (Puts o offset v (constant_worth s.world q)) s.world) s h r;
+  reads = λ {k} line o offset v q is s h r. acted-fits b k line (does b (Puts o offset v (constant_worth s.world q)) s.world) s h r;
 }
 
 pub run-fits : (u : Stored) (n : ℕ) (sides : Option (List Bool)) (zap : Bool) (script : List ScriptLine) → EndFits n (suc n) (run_at u sides zap script n)

@@ -168,13 +168,13 @@ module _ (u : Stored) (n : ℕ) (named : HasNames (whole u)) (filled : HasNoEmpt
   passing = record {
     ways = record {
       gives = λ a s h. h;
-      acts = λ line o s h. act-ends line o s h;
+      acts = λ line o is s h. act-ends line o s h;
       ticks = λ {k} {j} {A} {m} {m'} g s h. tick-ends u.names m s (nat_lt s.taken b.bound) h g;
       seq = λ {k} {j} {i} {A} {B} {m} {m'} {f} {f'} g x s h. seq-ends u.names (m s) f (g s h) x;
       less = λ h. h;
       more = λ h. h;
     };
-    reads = λ line o offset l q s h. act-ends line (Puts o offset l (constant_worth s.world q)) s h;
+    reads = λ line o offset l q is s h. act-ends line (Puts o offset l (constant_worth s.world q)) s h;
   }
 
   alike : (k : ℕ) → Alike b b.bound b.sides passing.ways k (below b k) (below (beside_setting b b.bound b.sides) k)

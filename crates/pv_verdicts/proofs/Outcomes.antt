@@ -90,13 +90,13 @@ module _ (lines : List ScriptLine) where
     going = record {
       ways = record {
         gives = λ a s h. h;
-        acts = λ line o s h. act-ends line o s h;
+        acts = λ line o is s h. act-ends line o s h;
         ticks = λ {k} {j} {A} {m} {m'} h s f. tick-ends m s (nat_lt s.taken b.bound) h f;
         seq = λ {k} {j} {i} {A} {B} {m} {m'} {f} {f'} h g s q. seq-ends (m s) f (h s q) g;
         less = λ h. h;
         more = λ h. h;
       };
-      reads = λ line o offset v q s h. act-ends line (Puts o offset v (constant_worth s.world q)) s h;
+      reads = λ line o offset v q is s h. act-ends line (Puts o offset v (constant_worth s.world q)) s h;
     }
 
 -- ---- the whole run

@@ -87,13 +87,13 @@ pub passing : (b : Setting) → WaysIn b (beside_setting b b.bound b.sides) (λ 
 passing b = record {
   ways = record {
     gives = λ a s. led-itself;
-    acts = λ line o s. act-passes b line o s;
+    acts = λ line o is s. act-passes b line o s;
     ticks = λ {k} {j} {A} {m} {m'} h s. tick-passes m s (nat_lt s.taken b.bound) h;
     seq = λ {k} {j} {i} {A} {B} {m} {m'} {f} {f'} h g s. seq-passes s (m s) f (h s) g;
     less = λ h. h;
     more = λ h. h;
   };
-  reads = λ line o offset l q s. act-passes b line (Puts o offset l (constant_worth s.world q)) s;
+  reads = λ line o offset l q is s. act-passes b line (Puts o offset l (constant_worth s.world q)) s;
 }
 
 pub alike : (b : Setting) (k : ℕ) → Alike b b.bound b.sides (passing b).ways k (below b k) (below (beside_setting b b.bound b.sides) k)

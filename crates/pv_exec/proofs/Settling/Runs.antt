@@ -178,7 +178,7 @@ module _ (b : Setting) (full : Filled b) (late : b.sides ≡ None) (ds : List Bo
   simulating = record {
     ways = record {
       gives = λ a. record { passes = λ s. led-itself; later = λ s. omega arith; follows = λ s es so n al. inl (al, es, refl) };
-      acts = λ line o. acting line o;
+      acts = λ line o is. acting line o;
       ticks = λ {k} {j} {A} {m} {m'} h. record {
         passes = λ s. tick-passes m s (nat_lt s.taken b.bound) h.passes;
         later = λ s. tick-later (Filled b) ds m s (nat_lt s.taken b.bound) h.later;
@@ -192,7 +192,7 @@ module _ (b : Setting) (full : Filled b) (late : b.sides ≡ None) (ds : List Bo
       less = λ h. h;
       more = λ h. h;
     };
-    reads = λ line o offset l q. constants line o offset l q;
+    reads = λ line o offset l q is. constants line o offset l q;
   }
 
   bottom : (A : Type 0) → Simulates (Filled b) ds A (λ s. Stops Unreached s) (λ s. Stops Unreached s)
