@@ -1,11 +1,13 @@
 -- How the storage instances of a run lie at a moment (C17 6.2.4p2): within the addresses, and apart from one another while they live.
-use Rattle.std.specs.Prelude.{◌≡◌, ◌≢◌, ℕ, ◌+◌, ◌^◌, ◌≤◌, List, Some, All}
+use Rattle.std.specs.Prelude.{◌≡◌, ◌≢◌, ◌↔◌, ℕ, ◌+◌, ◌^◌, ◌≤◌, ◌<◌, true, List, Some, IsSome, All}
+use Rattle.std.specs.FinMap.{get}
 use Rattle.pv_types.specs.Layouts.{AllFill}
 use Rattle.pv_types.specs.Known.{env}
 use Rattle.pv_prov.specs.Twins.{KeepsOne}
 use Rattle.pv_inst.specs.declared.values.Instance.{Instance}
-use Rattle.pv_inst.specs.Table.{Table, instance_at, live_bytes}
+use Rattle.pv_inst.specs.Table.{Table, instance_at, live_bytes, IsMadeIn}
 use Rattle.pv_inst.specs.WellFormed.{Apart, HasMet}
+use Rattle.pv_shadow.specs.declared.byte.Byte.{Byte}
 use Rattle.pv_typed.specs.Tables.{Stored}
 use Rattle.pv_eval.specs.States.{State}
 
@@ -34,6 +36,21 @@ pub record IsLaidOut (T : Table) : Type 0 where
   pub met : All (HasMet T.instances) T.pairs
   pub one : KeepsOne T.pairs
   pub few : live_bytes T.instances ≤ 2 ^ 24
+
+-- 6.2.4p2: the address lies in an instance that lives
+pub record IsOfLive (T : Table) (a : ℕ) : Type 0 where
+  pub number : ℕ
+  pub inst : Instance
+  pub is : instance_at T.instances number ≡ Some inst
+  pub live : inst.live ≡ true
+  pub from : inst.base ≤ a
+  pub before : a < inst.base + inst.size
+
+-- 6.2.4p2, 6.2.6.1p2: at this moment of a run the addresses that have abstract bytes are exactly those in live instances; and what the
+-- provenance name of a byte speaks of was made (the memory model)
+pub record BytesAreOfLive (s : State) : Type 0 where
+  pub exactly : (a : ℕ) → IsSome (get s.world.memory.bytes a) ↔ IsOfLive (table_at s) a
+  pub named : (a : ℕ) (x : Byte) → get s.world.memory.bytes a ≡ Some x → IsMadeIn (table_at s) x.prov
 
 -- 6.2.6.1p2, 6.7.2.1p8: each completed structure and union of the unit has a byte. So it is with every table of types that is built
 abbrev pub HasNoEmptyTag : Stored → Type 0

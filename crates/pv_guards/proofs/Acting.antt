@@ -17,6 +17,7 @@ use Rattle.pv_eval.specs.Operations.{Op, Converts, Calculates, CalculatesOne, Te
 use Rattle.pv_eval.specs.Library.{asks}
 use Rattle.pv_eval.proofs.Guards.{left_of, right_of}
 use Rattle.pv_exec.proofs.Memory.Rows.{Leads as Led, led-itself, kept-led}
+use Rattle.pv_exec.proofs.Memory.Ways.{OfTables}
 use Rattle.pv_exec.proofs.Memory.Worlds.{Onward}
 use Rattle.pv_exec.proofs.Memory.Operations.{does-on}
 use Rattle.pv_guards.specs.Worths.{IsThere}
@@ -135,7 +136,7 @@ module _ (b : Setting) (os : List ℕ) where
   finds-way line t r v w h =
       acts-so (λ f z. MayBeCalled b t f z) (λ f w z g q. q) line (Finds t v) w (λ z g s.
       let same = finds-it b z t v (fair-known z v (order.keeps (PointerTo r) v g h).1) in
-      (same, found b os z s t v (subst (λ d. Onward (Led ⊥) z d) same (does-on b (led-changes b) (Finds t v) z))))
+      (same, found b os z s t v (subst (λ d. Onward (OfTables (Led ⊥)) z d) same (does-on b (led-changes b) (Finds t v) tt z))))
 
   -- each operation of an expression is the same with its guard and without, and leaves what it does
   pub acts : ((f : Library) (args : List Arg) (t : Ty) (w : World) (s : IsSound b os w) → Promised b os w (Asks f args) t → Answering (Keeping b os w s (λ v z. Value b z t v)) (asks f args w))

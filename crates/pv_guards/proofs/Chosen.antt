@@ -1,52 +1,25 @@
--- What a test of a pointer passes: of `free` and `realloc` an allocation (C17 7.22.3.3p2), of a call a function (6.5.2.2p1).
-use Rattle.std.proofs.Common.{◌≡◌, ℕ, Bool, true, false, ◌||◌, cond, eqb, List, Option, Some, None, Result, Ok, Err, IfOk, is_ok, refl, sym, ap, ◌∙◌}
+-- What the test of a pointer that is called passes: a function (C17 6.5.2.2p1).
+use Rattle.std.proofs.Common.{◌≡◌, ℕ, Bool, true, false, cond, eqb, Option, Some, None, Result, Ok, Err, IfOk, is_ok, refl, ap}
 use Rattle.std.proofs.lemmas.Bool.{false≢true}
 use Rattle.pv_prov.specs.declared.names.Prov.{Prov}
 use Rattle.pv_prov.specs.declared.names.Prov.TheVariants.{Empty, Inst, Pair}
 use Rattle.pv_prov.specs.Names.{stands, is_empty}
 use Rattle.pv_inst.specs.declared.values.Instance.{Instance}
-use Rattle.pv_inst.specs.declared.values.Test.{Test}
-use Rattle.pv_inst.specs.declared.values.Test.TheVariants.{Block, Code}
+use Rattle.pv_inst.specs.declared.values.Test.TheVariants.{Code}
 use Rattle.pv_inst.specs.declared.values.Tried.{Tried}
 use Rattle.pv_inst.specs.declared.values.Miss.{Miss}
 use Rattle.pv_inst.specs.Table.{Table, instance_at}
-use Rattle.pv_inst.specs.Use.{use_answer, survives, made_passes, is_heap, is_function}
+use Rattle.pv_inst.specs.Use.{use_answer, made_passes, is_function}
 use Rattle.pv_inst.proofs.Fitting.{and_left, and_right}
 use Rattle.pv_object.specs.declared.values.Pointer.{Pointer}
 use Rattle.pv_object.specs.declared.values.Stop.{Stop}
 use Rattle.pv_object.specs.Access.{chosen, is_null}
 use Rattle.pv_object.specs.Operations.{code, code_in, code_by}
+use Rattle.pv_object.proofs.Survivors.{pick}
 use Rattle.pv_guards.specs.Soundness.{IsCode, IsCodeIn}
-use Rattle.pv_guards.proofs.Living.{IsAllocated, IsAllocation}
 
 no-error : {A : Type 0} (m : Miss) (x : A) → Err m ≡ Ok x → ⊥
 no-error m x e = false≢true (ap is_ok e)
-
--- of two candidates the one that is chosen passed
-chosen-passes : (b d : Bool) (low high : Option ℕ) (zap : Bool) (xs : List Instance) (t : Test) (pair : Option ℕ) (m : Miss) (tried : Tried) (i : ℕ) → survives zap xs low t ≡ b → survives zap xs high t ≡ d
-    → cond (b || d) (Ok (record { pair = pair; low = b; high = d })) (Err m) ≡ Ok tried → cond tried.low low high ≡ Some i → survives zap xs (Some i) t ≡ true
-chosen-passes true d low high zap xs t pair m tried i eb ed e h =
-    let l : true ≡ tried.low = cc in
-    let is : low ≡ Some i = ap (λ (q : Bool). cond q low high) l ∙ h in
-    sym (ap (λ o. survives zap xs o t) is) ∙ eb
-chosen-passes false true low high zap xs t pair m tried i eb ed e h =
-    let l : false ≡ tried.low = cc in
-    let is : high ≡ Some i = ap (λ (q : Bool). cond q low high) l ∙ h in
-    sym (ap (λ o. survives zap xs o t) is) ∙ ed
-chosen-passes false false low high zap xs t pair m tried i eb ed e h = absurd (no-error m tried e)
-
-block-passes : (zap : Bool) (o : Option Instance) (a : ℕ) → made_passes zap o (Block a) ≡ true → IsAllocated o
-block-passes zap None a h = absurd (false≢true h)
-block-passes zap (Some x) a h = and_left (is_heap x.kind) (eqb x.base a) (and_right x.live _ h)
-
-pub chosen-block : (T : Table) (p : Prov) (a : ℕ) (tried : Tried) (i : ℕ) → use_answer T p (Block a) ≡ Ok tried → chosen (stands T.pairs p) tried ≡ Some i → IsAllocation T i
-chosen-block T Empty a tried i e h = absurd (no-error _ tried e)
-chosen-block T (Inst j) a tried i e h =
-    let s = stands T.pairs (Inst j) in
-    block-passes T.zap (instance_at T.instances i) a (chosen-passes _ _ s.low s.high T.zap T.instances (Block a) _ _ tried i refl refl e h)
-chosen-block T (Pair k) a tried i e h =
-    let s = stands T.pairs (Pair k) in
-    block-passes T.zap (instance_at T.instances i) a (chosen-passes _ _ s.low s.high T.zap T.instances (Block a) _ _ tried i refl refl e h)
 
 -- 6.5.2.2p1: the function at a pointer's address
 code-passes : (zap : Bool) (o : Option Instance) (a : ℕ) → made_passes zap o (Code a) ≡ true → IsCodeIn o
@@ -57,10 +30,10 @@ chosen-code : (T : Table) (p : Prov) (a : ℕ) (tried : Tried) (i : ℕ) → use
 chosen-code T Empty a tried i e h = absurd (no-error _ tried e)
 chosen-code T (Inst j) a tried i e h =
     let s = stands T.pairs (Inst j) in
-    code-passes T.zap (instance_at T.instances i) a (chosen-passes _ _ s.low s.high T.zap T.instances (Code a) _ _ tried i refl refl e h)
+    code-passes T.zap (instance_at T.instances i) a (pick _ _ s.low s.high T.zap T.instances (Code a) _ _ tried i refl refl e h)
 chosen-code T (Pair k) a tried i e h =
     let s = stands T.pairs (Pair k) in
-    code-passes T.zap (instance_at T.instances i) a (chosen-passes _ _ s.low s.high T.zap T.instances (Code a) _ _ tried i refl refl e h)
+    code-passes T.zap (instance_at T.instances i) a (pick _ _ s.low s.high T.zap T.instances (Code a) _ _ tried i refl refl e h)
 
 abbrev IsCodeOf : Table → ℕ × Tried → Type 0
 IsCodeOf T r = IsCode T r.0

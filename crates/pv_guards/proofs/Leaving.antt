@@ -52,6 +52,7 @@ use Rattle.pv_eval.specs.Operations as op
 use Rattle.pv_eval.specs.Operations.{Op, does}
 use Rattle.pv_exec.proofs.Memory.Rows.{Leads as Led}
 use Rattle.pv_exec.proofs.Memory.Pointers.{reach-leads}
+use Rattle.pv_exec.proofs.Memory.Ways.{OfTables}
 use Rattle.pv_exec.proofs.Memory.Worlds.{Onward}
 use Rattle.pv_exec.proofs.Memory.Operations.{does-on}
 use Rattle.pv_guards.specs.Worths.{IsScalar, IsWhole, IsOfType, IsThere}
@@ -67,7 +68,7 @@ use Rattle.pv_guards.proofs.Made.{instance-there, number-led, made-led, laid-led
 use Rattle.pv_guards.proofs.Results.{Answering, unless-answers, answers-more, calculates-gives, one-gives}
 use Rattle.pv_guards.proofs.Tabled.{TabledIn, tests-gives, truth-value, opposite-value, converts-gives, moves-gives, selects-gives, subtracts-gives, orders-gives, equals-gives, follows-gives, worth-gives}
 use Rattle.pv_guards.proofs.Triples.{Order}
-use Rattle.pv_guards.proofs.Promised.{promised}
+use Rattle.pv_guards.proofs.Promised.{promised, asked}
 
 -- a value stays one in a later table
 pub value-later : (T U : Table) → Keeps T U → (v : Worth) → IsFairWorth T v → IsFairWorth U v
@@ -181,7 +182,7 @@ module _ (b : Setting) (os : List ℕ) (w : World) (sound : IsSound b os w) wher
       sound-after b os w z l (after-table z l a e) (ap (λ (x : World). x.owners) e)
       (subst (λ m. AreFair z.memory.table m) (sym (ap (λ (x : World). x.memory.bytes) e)) (store-later T z.memory.table (made-led T z.memory.table l) w.memory.bytes sound.bytes)) sound
 
-  pub leaves-tabled : (Q : Worth → World → Type 0) (d : Done) → Onward (Led ⊥) w d → Answering (λ v z. (z ≡ with_table w z.memory.table) × AllLiveStill T z.memory.table × Q v z) d → Answering (Leaving Q) d
+  pub leaves-tabled : (Q : Worth → World → Type 0) (d : Done) → Onward (OfTables (Led ⊥)) w d → Answering (λ v z. (z ≡ with_table w z.memory.table) × AllLiveStill T z.memory.table × Q v z) d → Answering (Leaving Q) d
   leaves-tabled Q (Answers v z t) l h = (after-table z l.leads h.1 h.0, sound-table z l.leads h.1 h.0, h.2)
   leaves-tabled Q (Fails y p z t) l h = tt
   leaves-tabled Q (Breaks y p z t) l h = tt
@@ -190,7 +191,7 @@ module _ (b : Setting) (os : List ℕ) (w : World) (sound : IsSound b os w) wher
   abbrev pub Keeping : (Worth → World → Type 0) → Worth → World → Type 0
   Keeping Q v z = (z.owners ≡ w.owners) × (z.statics ≡ w.statics) × (z.literals ≡ w.literals) × (z.functions ≡ w.functions) × (z.bodies ≡ w.bodies) × AllLiveStill T z.memory.table × AreFair z.memory.table z.memory.bytes × Q v z
 
-  pub leaves-keeping : (Q : Worth → World → Type 0) (d : Done) → Onward (Led ⊥) w d → Answering (Keeping Q) d → Answering (Leaving Q) d
+  pub leaves-keeping : (Q : Worth → World → Type 0) (d : Done) → Onward (OfTables (Led ⊥)) w d → Answering (Keeping Q) d → Answering (Leaving Q) d
   leaves-keeping Q (Answers v z t) l h =
       let a : IsAfter w z = record { made = made-led T z.memory.table l.leads; lives = h.5; statics = h.1; literals = h.2; functions = h.3; bodies = h.4 } in
       (a, sound-after b os w z l.leads a h.0 h.6 sound, h.7)
@@ -210,7 +211,7 @@ module _ (b : Setting) (os : List ℕ) (w : World) (sound : IsSound b os w) wher
   reaching-gives Q p us (Err y, U) go l a h = tt
 
   reached : (p : Pointer) (n align : ℕ) (write : Bool) → Led ⊥ T (reach T p n align write ByAccess).1
-  reached p n align write = reach-leads (led-changes b) T p n align write ByAccess
+  reached p n align write = reach-leads (led-changes b) w.memory p n align write ByAccess
 
   reads-gives : (u : Ty) (place : Worth) (rivals : List Access) → IsValueType (bare u) → Answering (TabledIn b w (bare u)) (reads b (lvalue b u) place rivals w)
   reads-gives u place rivals valued =
@@ -303,8 +304,8 @@ module _ (b : Setting) (os : List ℕ) (w : World) (sound : IsSound b os w) wher
   abbrev Val : Ty → Worth → World → Type 0
   Val t v z = Value b z t v
 
-  onward : (o : Op) (t : Ty) → Promised b os w o t → Onward (Led ⊥) w (plainly b o w)
-  onward o t h = subst (λ d. Onward (Led ⊥) w d) (promised b os w o t h) (does-on b (led-changes b) o w)
+  onward : (o : Op) (t : Ty) → Promised b os w o t → Onward (OfTables (Led ⊥)) w (plainly b o w)
+  onward o t h = subst (λ d. Onward (OfTables (Led ⊥)) w d) (promised b os w o t h) (does-on b (led-changes b) o (asked b os w o t h) w)
 
   leaves : (o : Op) (t u : Ty) → Promised b os w o t → t ≡ u → Answering (TabledIn b w u) (plainly b o w) → Answering (Leaving (Val t)) (plainly b o w)
   leaves o t u h e g = leaves-tabled (Val t) (plainly b o w) (onward o t h) (subst (λ x. Answering (TabledIn b w x) (plainly b o w)) (sym e) g)
@@ -371,7 +372,7 @@ module _ (b : Setting) (os : List ℕ) (w : World) (sound : IsSound b os w) wher
   found-by t p (Ok r, U) l c = found-fits t p U (owner_of w r.0) (used code_test r.1) (may_call b t (owner_of w r.0)) l refl (λ f e. sound.code r.0 f c e)
   found-by t p (Err y, U) l c = tt
 
-  pub found : (t : Ty) (v : Worth) → Onward (Led ⊥) w (finds (may_call b t) v w) → Answering (Leaving (MayBeCalled b t)) (finds (may_call b t) v w)
+  pub found : (t : Ty) (v : Worth) → Onward (OfTables (Led ⊥)) w (finds (may_call b t) v w) → Answering (Leaving (MayBeCalled b t)) (finds (may_call b t) v w)
   found t v l =
       leaves-tabled (MayBeCalled b t) (finds (may_call b t) v w) l
       (unless-answers _ (unplain v) w _ (found-by t (pointer_of v) (code w.memory.table (pointer_of v)) (code-live w.memory.table (pointer_of v)) (code-found w.memory.table (pointer_of v))))

@@ -16,11 +16,6 @@ pub mod Leaving
 pub mod Acting
 pub mod Signatures
 pub mod Expressions
-pub mod LibraryWays
-pub mod Characters
-pub mod LibraryPrinting
-pub mod Allocations
-pub mod LibraryCalls
 pub mod LibraryLeads
 pub mod Concluding
 pub mod Sure

@@ -49,6 +49,10 @@ use Rattle.pv_exec.specs.Laying.{IsLaidOut}
 use Rattle.pv_exec.proofs.Memory.Rows.{Leads as Led, led-itself, led-trans}
 use Rattle.pv_exec.proofs.Memory.Pointers.{reach-leads, value-leads, to_int-leads}
 use Rattle.pv_exec.proofs.Memory.Tables.{use-leads, ended-leads, place-leads}
+use Rattle.pv_exec.proofs.Memory.Ways.{Ways, IsCharacter, When}
+use Rattle.pv_exec.proofs.Memory.Characters.{when-all, string-short}
+use Rattle.pv_exec.proofs.Memory.Allocations.{both-table}
+use Rattle.pv_exec.proofs.Memory.Library.{called-closed}
 use Rattle.pv_exec.proofs.Memory.Calls.{called-leads}
 use Rattle.pv_eval.specs.States.{Setting}
 use Rattle.pv_eval.specs.Library.{replied, with_memory, asked, asks}
@@ -65,11 +69,7 @@ use Rattle.pv_eval.specs.Operations.{Asks}
 use Rattle.pv_guards.proofs.Fair.{Keeps, store-later, read-fair, written-fair, spread-fair, cleared-fair, nameless-fair}
 use Rattle.pv_guards.proofs.Made.{instance-there, number-of, made-led, laid-led, led-changes}
 use Rattle.pv_guards.proofs.Results.{Answering}
-use Rattle.pv_guards.proofs.LibraryWays.{Ways, IsCharacter, When}
 use Rattle.pv_guards.proofs.Living.{all-same, all-on, same-live, uses-live, reach-live, value-live, to_int-live, place-live, ended-live}
-use Rattle.pv_guards.proofs.Allocations.{both-table}
-use Rattle.pv_guards.proofs.LibraryCalls.{called-closed}
-use Rattle.pv_guards.proofs.Characters.{when-all, string-short}
 use Rattle.pv_guards.proofs.Leaving.{Keeping, value-later}
 
 -- from a memory to a later one, whose bytes are as fair, and in which what is no allocation lives still
@@ -104,13 +104,13 @@ module _ (b : Setting) where
     trans = λ {M} {N} {O} h g. record { led = led-trans h.led g.led; live = all-on M.table N.table O.table h.live g.live; fair = λ f. g.fair (h.fair f) };
     told = λ M. table-onto M (record M.table { pending = [] }) led-itself (same-live M.table (record M.table { pending = [] }) refl);
     uses = λ M p t. table-onto M _ (use-leads M.table p t) (uses-live M.table p (use_answer M.table p t));
-    reaches = λ M p n align write by. table-onto M _ (reach-leads (led-changes b) M.table p n align write by) (reach-live M.table p n align write by);
-    loads = λ M bytes t. table-onto M _ (value-leads (led-changes b) M.table bytes t) (value-live M.table bytes t);
-    numbers = λ M p k. table-onto M _ (to_int-leads (led-changes b) M.table p k) (to_int-live M.table p k);
+    reaches = λ M p n align write by. table-onto M _ (reach-leads (led-changes b) M p n align write by) (reach-live M.table p n align write by);
+    loads = λ M bytes t. table-onto M _ (value-leads (led-changes b) M bytes t) (value-live M.table bytes t);
+    numbers = λ M p k. table-onto M _ (to_int-leads (led-changes b) M p k) (to_int-live M.table p k);
     makes = λ M r some none. made-onto M (place M.table r) (place-leads M.table r (λ x. absurd x)) (place-live M.table r none);
     ends = λ M i a. record { led = ended-leads M.table i; live = ended-live M.table i a; fair = λ h. cleared-in-fair (ended M.table i) (instance_at M.table.instances i) M.bytes (store-later M.table (ended M.table i) (made-led M.table (ended M.table i) (ended-leads M.table i)) M.bytes h) };
-    stores = λ M a bytes c. record { led = led-itself; live = all-same M.table; fair = λ h. written-fair M.table M.bytes a bytes h (characters-fair M.table bytes c) };
-    copies = λ M to from n. record { led = led-itself; live = all-same M.table; fair = λ h. written-fair M.table M.bytes to (read M.bytes from n) h (read-fair M.table M.bytes from n h) };
+    stores = λ M a bytes l c. record { led = led-itself; live = all-same M.table; fair = λ h. written-fair M.table M.bytes a bytes h (characters-fair M.table bytes c) };
+    copies = λ M to from n l k. record { led = led-itself; live = all-same M.table; fair = λ h. written-fair M.table M.bytes to (read M.bytes from n) h (read-fair M.table M.bytes from n h) };
   }
 
   pub call-fair : (f : Library) (args : List Arg) (M : Mem) → AreFair M.table M.bytes → AreFair (called f args M).after.memory.table (called f args M).after.memory.bytes

@@ -44,6 +44,7 @@ use Rattle.pv_object.specs.Operations.{truth, equal, equal_after, recast, to_ptr
 use Rattle.pv_object.specs.Later.{still, IsLater}
 use Rattle.pv_object.proofs.Later.{still_at, settled_later, same_later, expose_later}
 use Rattle.pv_object.proofs.Born.{at_next, slice_last}
+use Rattle.pv_exec.proofs.Memory.Reached.{IsAllocated, IsAllocation}
 use Rattle.pv_guards.proofs.Made.{instance-there}
 use Rattle.pv_guards.specs.Soundness.{IsHome, IsHomeIn, IsCode, IsCodeIn, LiveStill, AllLiveStill}
 
@@ -102,22 +103,6 @@ ending-others T i j (Some x) e d = ended-other T i j x (row_found T.instances i 
 pub ended-others : (T : Table) (i j : ℕ) → j ≢ i → instance_at (ended T i).instances j ≡ instance_at T.instances j
 ended-others T i j d = ending-others T i j (instance_at T.instances i) refl d
 
--- 7.22.3.3p2: an allocation
-abbrev pub IsAllocated : Option Instance → Type 0
-IsAllocated None = ⊥
-IsAllocated (Some x) = is_heap x.kind ≡ true
-
-abbrev pub IsAllocation : Table → ℕ → Type 0
-IsAllocation T i = IsAllocated (instance_at T.instances i)
-
-allocated-later : (o p : Option Instance) → LiveStill o p → IsAllocated o → IsAllocated p
-allocated-later None p l h = absurd h
-allocated-later (Some x) None l h = absurd l
-allocated-later (Some x) (Some y) l h = ap is_heap l.kind ∙ h
-
-pub allocation-later : (T U : Table) → AllLiveStill T U → (i : ℕ) → IsAllocation T i → IsAllocation U i
-allocation-later T U l i h = allocated-later (instance_at T.instances i) (instance_at U.instances i) (l i) h
-
 -- so that an allocation ends keeps all others
 heap-not : true ≡ false → ⊥
 heap-not e = absurd cc
@@ -129,7 +114,7 @@ ending-here : (T : Table) (i : ℕ) (o : Option Instance) → instance_at T.inst
 ending-here T i None e h = absurd h
 ending-here T i (Some x) e h =
     let r = row_found T.instances i x (sym e) in
-    subst (λ o. LiveStill (Some x) o) (sym (at-row T.instances i (over x) r.from_one r.within)) (record { size = refl; kind = refl; live = λ k l. absurd (heap-not (sym h ∙ k)) })
+    subst (λ o. LiveStill (Some x) o) (sym (at-row T.instances i (over x) r.from_one r.within)) (record { size = refl; kind = refl; live = λ k l. absurd (heap-not (sym h.1 ∙ k)) })
 
 pub ended-live : (T : Table) (i : ℕ) → IsAllocation T i → AllLiveStill T (ended T i)
 ended-live T i h j = by (same_or_not j i)

@@ -12,10 +12,9 @@ use Rattle.pv_inst.proofs.Rows.{row_found}
 use Rattle.pv_eval.specs.States.{Setting}
 use Rattle.pv_exec.specs.Staying.{Remains, AllRemain, Settles, AllSettle}
 use Rattle.pv_exec.specs.Laying.{IsLaidOut}
-use Rattle.pv_exec.proofs.Memory.Ways.{Changes}
-use Rattle.pv_exec.proofs.Memory.Rows.{Sound, Leads, led-itself, led-trans}
-use Rattle.pv_exec.proofs.Memory.Findings.{name-leads}
-use Rattle.pv_exec.proofs.Memory.Tables.{use-leads, same-leads, expose-leads, ended-leads, place-leads}
+use Rattle.pv_exec.proofs.Memory.Ways.{Changes, OfTables, of-all}
+use Rattle.pv_exec.proofs.Memory.Rows.{Sound, Leads}
+use Rattle.pv_exec.proofs.Memory.Tables.{leading}
 use Rattle.pv_exec.proofs.Memory.Operations.{Filled}
 use Rattle.pv_guards.proofs.Laid.{sound-laid}
 use Rattle.pv_guards.proofs.Fair.{Keeps}
@@ -90,15 +89,5 @@ pub laid-led : (T U : Table) → Leads ⊥ T U → IsLaidOut T → IsLaidOut U
 laid-led T U l h = sound-laid ⊥ U (l.sound (laid-sound T h))
 
 -- every way in which an operation changes a table
-pub led-changes : (b : Setting) → Changes (Filled b) (Leads ⊥)
-led-changes b = record {
-  itself = led-itself;
-  trans = λ h g. led-trans h g;
-  told = λ T. led-itself;
-  uses = λ T p t. use-leads T p t;
-  meets = λ T p q a b. same-leads T p q a b;
-  names = λ T a. name-leads T a;
-  exposes = λ T p. expose-leads T p;
-  places = λ T r some. place-leads T r (λ x. absurd x);
-  ends = λ T i. ended-leads T i;
-}
+pub led-changes : (b : Setting) → Changes (Filled b) (OfTables (Leads ⊥))
+led-changes b = of-all (leading ⊥)

@@ -28,8 +28,10 @@ use Rattle.pv_eval.specs.TypeForms.{lvalue, size_of}
 use Rattle.pv_world.specs.Accesses.{stored_as}
 use Rattle.pv_eval.specs.Objects.{request_of, instance_for, text_for}
 use Rattle.pv_eval.specs.Operations.{Op, Makes, Ends, Fills, Puts, PutsText, does, act}
+use Rattle.pv_eval.proofs.Closed.{IsAsked}
 use Rattle.pv_exec.proofs.Memory.Rows.{Leads as Led}
 use Rattle.pv_exec.proofs.Memory.Tables.{place-leads, ended-leads}
+use Rattle.pv_exec.proofs.Memory.Ways.{OfTables}
 use Rattle.pv_exec.proofs.Memory.Worlds.{Onward}
 use Rattle.pv_exec.proofs.Memory.Operations.{does-on}
 use Rattle.pv_guards.specs.Worths.{IsThere}
@@ -127,16 +129,16 @@ module _ (b : Setting) (os : List ℕ) where
   keeps-any : (v : Worth) (w z : World) → IsAfter w z → Any v w → Any v z
   keeps-any v w z g h = tt
 
-  stores-so : (line : ℕ) (op : Op) (w : World) → ((z : World) (g : IsAfter w z) (s : IsSound b os z) → (does b op z ≡ plainly b op z) × Answering (Keeping b os z s Any) (plainly b op z)) → Holds (ordered b os) Any w (act b line op) (act_plainly b line op)
-  stores-so line op w h =
+  stores-so : (line : ℕ) (op : Op) → IsAsked b op → (w : World) → ((z : World) (g : IsAfter w z) (s : IsSound b os z) → (does b op z ≡ plainly b op z) × Answering (Keeping b os z s Any) (plainly b op z)) → Holds (ordered b os) Any w (act b line op) (act_plainly b line op)
+  stores-so line op is w h =
       acts-so b os Any keeps-any line op w (λ z g s.
       let p = h z g s in
-      (p.0, leaves-keeping b os z s Any (plainly b op z) (subst (λ d. Onward (Led ⊥) z d) p.0 (does-on b (led-changes b) op z)) p.1))
+      (p.0, leaves-keeping b os z s Any (plainly b op z) (subst (λ d. Onward (OfTables (Led ⊥)) z d) p.0 (does-on b (led-changes b) op is z)) p.1))
 
   module _ (line o : ℕ) (w : World) (scope : IsInScope b.unit os o) (small : size_of b (object_at b.unit o).t ≤ 2 ^ 32) where
     pub fills-holds : (v : Option ℕ) → ((n : ℕ) → v ≡ Some n → n < 256) → Holds (ordered b os) Any w (act b line (Fills o v)) (act_plainly b line (Fills o v))
     fills-holds v h =
-        stores-so line (Fills o v) w (λ z g s.
+        stores-so line (Fills o v) tt w (λ z g s.
         let T = z.memory.table in
         let n = size_of b (object_at b.unit o).t in (
           fills-same b z o (s.objects o scope) v small,
@@ -146,7 +148,7 @@ module _ (b : Setting) (os : List ℕ) where
     pub puts-holds : (offset : ℕ) (t : Ty) (v : Worth) → offset + size_of b t ≤ size_of b (object_at b.unit o).t → IsValueType (bare t) → IsThere v → ((z : World) → IsAfter w z → Value b z (bare t) v)
         → Holds (ordered b os) Any w (act b line (Puts o offset (lvalue b t) v)) (act_plainly b line (Puts o offset (lvalue b t) v))
     puts-holds offset t v lies valued there h =
-        stores-so line (Puts o offset (lvalue b t) v) w (λ z g s.
+        stores-so line (Puts o offset (lvalue b t) v) (t, refl) w (λ z g s.
         let T = z.memory.table in
         let l = lvalue b t in
         let f = h z g in (
@@ -157,7 +159,7 @@ module _ (b : Setting) (os : List ℕ) where
     pub text-holds : (offset size l : ℕ) → offset + size ≤ size_of b (object_at b.unit o).t → Each (λ (v : ℕ). v < 256) (literal_at b.unit l).bytes
         → Holds (ordered b os) Any w (act b line (PutsText o offset size l)) (act_plainly b line (PutsText o offset size l))
     text-holds offset size l lies h =
-        stores-so line (PutsText o offset size l) w (λ z g s.
+        stores-so line (PutsText o offset size l) tt w (λ z g s.
         let T = z.memory.table in (
           text-same b z o (s.objects o scope) offset size l small lies,
           (refl, refl, refl, refl, refl, all-same T, written-fair T z.memory.bytes (base_in z (instance_of z o (object_at b.unit o).lasting) + offset) (plain None 0 (text_for b size l)) s.bytes (plain-fair T None 0 (text_for b size l) (take-small size (literal_at b.unit l).bytes h)), tt),

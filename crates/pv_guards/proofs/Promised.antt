@@ -7,6 +7,7 @@ use Rattle.pv_world.specs.Worlds.{Worth, Nothing, Missing, Scalar, Whole, World}
 use Rattle.pv_eval.specs.States.{Setting}
 use Rattle.pv_eval.specs.TypeForms.{Lvalue}
 use Rattle.pv_eval.specs.Operations.{Op, Converts, Calculates, CalculatesOne, Tests, Negates, Accepts, Needs, Moves, Subtracts, Orders, Equals, Follows, Selects, Finds, TakesPart, Reads, Writes, NamesObject, NamesLiteral, NamesFunction, Makes, MakesLiteral, MakesFunction, Ends, BeginsBody, EndsBody, Fills, Puts, PutsText, Asks, does}
+use Rattle.pv_eval.proofs.Closed.{IsAsked}
 use Rattle.pv_guards.specs.Worths.{IsOfType}
 use Rattle.pv_guards.specs.Plain.{plainly}
 use Rattle.pv_guards.specs.Soundness.{Value}
@@ -55,3 +56,36 @@ module _ (b : Setting) (os : List ℕ) (w : World) where
   promised (NamesFunction f) t h = refl
   promised (Finds r v) t h = absurd h
   promised (MakesFunction f) t h = absurd h
+
+  -- an operation on an lvalue is on that of a type
+  pub asked : (o : Op) (t : Ty) → Promised b os w o t → IsAsked b o
+  asked (Converts how v) t h = tt
+  asked (Calculates o k v x) t h = tt
+  asked (CalculatesOne o k v) t h = tt
+  asked (Tests v) t h = tt
+  asked (Negates v) t h = tt
+  asked (Accepts v) t h = tt
+  asked (Needs v) t h = tt
+  asked (Moves minus first size v x) t h = tt
+  asked (Subtracts size v x) t h = tt
+  asked (Orders o v x) t h = tt
+  asked (Equals negated v x) t h = tt
+  asked (Follows nothing v) t h = tt
+  asked (Selects offset v) t h = tt
+  asked (TakesPart offset l v) t h = (t, h.5)
+  asked (Reads l place rivals) t h = (h.0, h.1)
+  asked (Writes l place v from rivals) t h = (h.0, h.1)
+  asked (NamesObject o) t h = tt
+  asked (NamesLiteral l) t h = tt
+  asked (Makes o) t h = tt
+  asked (MakesLiteral l) t h = tt
+  asked (Ends o) t h = tt
+  asked BeginsBody t h = tt
+  asked EndsBody t h = tt
+  asked (Fills o v) t h = tt
+  asked (Puts o offset l v) t h = absurd h
+  asked (PutsText o offset size l) t h = tt
+  asked (Asks f args) t h = tt
+  asked (NamesFunction f) t h = tt
+  asked (Finds r v) t h = tt
+  asked (MakesFunction f) t h = tt

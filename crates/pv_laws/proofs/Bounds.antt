@@ -67,13 +67,13 @@ going b l le =
     record {
       ways = record {
         gives = λ a. record { passes = λ s. led-itself; beside = λ s. inl refl };
-        acts = λ line o is. record { passes = λ s. act-passes c line o s; beside = λ s. inl (same-act b l line o s) };
+        acts = λ line o is. record { passes = λ s. act-passes c line o is s; beside = λ s. inl (same-act b l line o s) };
         ticks = λ {k} {j} {A} {m} {m'} h. record { passes = λ s. tick-passes m' s (nat_lt s.taken l) h.passes; beside = λ s. tick-beside (Filled b) b.bound l m m' s (nat_lt s.taken b.bound) (nat_lt s.taken l) le refl refl h };
         seq = λ {k} {j} {i} {A} {B} {m} {m'} {f} {f'} h g. record { passes = λ s. seq-passes s (m' s) f' (h.passes s) (λ a. (g a).passes); beside = λ s. seq-beside (Filled b) (m s) (m' s) f f' g (h.beside s) };
         less = λ h. h;
         more = λ h. h;
       };
-      reads = λ line o offset v q is. record { passes = λ s. act-passes c line (Puts o offset v (constant_worth s.world q)) s; beside = λ s. inl (same-act b l line (Puts o offset v (constant_worth s.world q)) s) };
+      reads = λ line o offset v q is. record { passes = λ s. act-passes c line (Puts o offset v (constant_worth s.world q)) is s; beside = λ s. inl (same-act b l line (Puts o offset v (constant_worth s.world q)) s) };
     }
 
 -- where the first has no level left

@@ -14,7 +14,7 @@ use Rattle.pv_eval.specs.States.{Setting, State, Why, Turns, Unreached, Stopped,
 use Rattle.pv_eval.specs.Acting.{noted, pair_count, keeps_both, one_kept, by_side, answered, acted}
 use Rattle.pv_eval.specs.Constants.{constant_worth}
 use Rattle.pv_eval.specs.Operations.{Op, Puts, does}
-use Rattle.pv_eval.proofs.Closed.{beside_setting}
+use Rattle.pv_eval.proofs.Closed.{IsAsked, beside_setting}
 use Rattle.pv_exec.specs.declared.outcome.Outcome.{Outcome}
 use Rattle.pv_exec.specs.declared.outcome.Outcome.TheVariants as outcome
 use Rattle.pv_exec.specs.Run.{setting_of, first, run_of, status_of, refused, stopped}
@@ -23,6 +23,7 @@ use Rattle.pv_exec.proofs.Executed.{WaysIn, even-closed, run-closed}
 use Rattle.pv_exec.proofs.Reaching.{EndFits, run-fits}
 use Rattle.pv_verdicts.specs.Own.{OwnNames, DeniesHeap}
 use Rattle.pv_verdicts.specs.Endings.{HasOutcome}
+use Rattle.pv_exec.proofs.Memory.Ways.{OfTables}
 use Rattle.pv_exec.proofs.Memory.Worlds.{Onward}
 use Rattle.pv_exec.proofs.Memory.Operations.{Filled, does-on}
 use Rattle.pv_verdicts.proofs.Scripted.{Same, scripted}
@@ -68,7 +69,7 @@ module _ (lines : List ScriptLine) where
       let o = slice_get sides (pair_count s.world) in
       either-ends (nat_lt (pair_count s.world) (pair_count w)) (by_side o v line w t s) (Gives v (noted w t s)) (side-ends o v line w t s h) h
 
-  acted-ends : (b : Setting) (line : ℕ) (d : Done) (s : State) → Says lines s → Onward Same s.world d → Granted d → Ends lines (acted b line d s)
+  acted-ends : (b : Setting) (line : ℕ) (d : Done) (s : State) → Says lines s → Onward (OfTables Same) s.world d → Granted d → Ends lines (acted b line d s)
   acted-ends b line (Answers v w t) s h k g = answered-ends b.sides v line w t s (k.leads.script ∙ h)
   acted-ends b line (Fails y p w t) s h k g = g.fine
   acted-ends b line (Breaks y p w t) s h k g = g.fine
@@ -82,21 +83,21 @@ module _ (lines : List ScriptLine) where
   seq-ends (Stops y s) f h g = h
 
   module _ (b : Setting) (own : OwnNames b.unit.names) (denies : DeniesHeap lines) where
-    act-ends : (line : ℕ) (o : Op) → Going lines Worth (λ s. acted b line (does b o s.world) s)
-    act-ends line o s h = acted-ends b line (does b o s.world) s h (does-on b (scripted (Filled b)) o s.world) (does-granted b own lines denies o s.world h)
+    act-ends : (line : ℕ) (o : Op) → IsAsked b o → Going lines Worth (λ s. acted b line (does b o s.world) s)
+    act-ends line o is s h = acted-ends b line (does b o s.world) s h (does-on b (scripted (Filled b)) o is s.world) (does-granted b own lines denies o s.world h)
 
     -- each way of making pieces
     going : WaysIn b (beside_setting b b.bound b.sides) (λ k j A m m'. Going lines A m)
     going = record {
       ways = record {
         gives = λ a s h. h;
-        acts = λ line o is s h. act-ends line o s h;
+        acts = λ line o is s h. act-ends line o is s h;
         ticks = λ {k} {j} {A} {m} {m'} h s f. tick-ends m s (nat_lt s.taken b.bound) h f;
         seq = λ {k} {j} {i} {A} {B} {m} {m'} {f} {f'} h g s q. seq-ends (m s) f (h s q) g;
         less = λ h. h;
         more = λ h. h;
       };
-      reads = λ line o offset v q is s h. act-ends line (Puts o offset v (constant_worth s.world q)) s h;
+      reads = λ line o offset v q is s h. act-ends line (Puts o offset v (constant_worth s.world q)) is s h;
     }
 
 -- ---- the whole run

@@ -18,7 +18,7 @@ use Rattle.pv_inst.specs.Exposure.{exposing, expose_one, expose}
 use Rattle.pv_inst.specs.Ending.{ending}
 use Rattle.pv_inst.specs.Finding.{found_at, table_by}
 use Rattle.pv_inst.specs.Placing.{Request, place, place_said, place_at, unless_overlap, first_overlap, rounded}
-use Rattle.pv_exec.proofs.Memory.Ways.{Changes}
+use Rattle.pv_exec.proofs.Memory.Ways.{Changes, OfTables, of-tables}
 
 -- the second table has the script of the first one
 pub record Same (T U : Table) : Type 0 where
@@ -92,8 +92,8 @@ place-same T r =
     pair-if (nat_lt (2 ^ 24) (live_bytes T.instances + r.size)) T (_, _) (place_said (place_of T.script r.text k) T r k) (record { script = refl }) (said-same T r k (place_of T.script r.text k))
 
 -- every way in which a table changes
-pub scripted : (F : Type 0) → Changes F Same
-scripted F = record {
+pub scripted : (F : Type 0) → Changes F (OfTables Same)
+scripted F = of-tables Same (record {
   itself = same-itself;
   trans = λ h g. same-trans h g;
   told = λ T. record { script = refl };
@@ -101,6 +101,7 @@ scripted F = record {
   meets = λ T p q a b. both-same T p q (same_miss T p q);
   names = λ T a. found-same T (found_at T a).low (found_at T a).high;
   exposes = expose-same;
+  settles = λ T k high e. record { script = refl };
   places = λ T r some. place-same T r;
   ends = λ T i. ending-same T i (instance_at T.instances i);
-}
+})

@@ -1,6 +1,7 @@
--- What holds of a table and itself, and of a table before and behind each way in which a step of a call changes it, holds of every call
+-- What holds of a memory and itself, and of a memory before and behind each way in which a step of a call changes it, holds of every call
 -- of the library (C17 7.21.6, 7.22.3, 7.24). Only memory management functions make and end instances (7.22.3).
-use Rattle.std.proofs.Common.{◌≡◌, ℕ, zero, suc, ◌+◌, ◌*◌, ◌≤◌, ℤ, Bool, true, false, not, cond, eqb, List, [], length, Option, Some, None, Result, Ok, Err, refl, arith}
+use Rattle.std.proofs.Common.{◌≡◌, ℕ, zero, suc, ◌+◌, ◌*◌, ◌<◌, ◌≤◌, ◌∷◌, ◌++◌, map, pos, negsuc, ℤ, Bool, true, false, not, cond, eqb, List, [], length, length-append, Option, Some, None, Result, Ok, Err, refl, sym, ap, ◌∙◌, subst, arith}
+use Rattle.std.proofs.lemmas.List.{length-map}
 use Rattle.std.proofs.lemmas.Bool.Decides.{nat_tests}
 use Rattle.pv_num.specs.declared.faults.Clause.{Clause}
 use Rattle.pv_num.specs.declared.faults.Clause.TheVariants as clause
@@ -8,7 +9,6 @@ use Rattle.pv_inst.specs.declared.values.Info.{Info}
 use Rattle.pv_inst.specs.declared.values.Test.TheVariants.{Block}
 use Rattle.pv_inst.specs.declared.values.CreateError.{CreateError}
 use Rattle.pv_inst.specs.declared.values.CreateError.TheVariants as error
-use Rattle.pv_inst.specs.Table.{Table}
 use Rattle.pv_inst.specs.Use.{use_answer}
 use Rattle.pv_object.specs.declared.values.Asker.TheVariants.{Text}
 use Rattle.pv_object.specs.Memory.{Mem}
@@ -20,25 +20,66 @@ use Rattle.pv_libc.specs.declared.values.Arg.{Arg}
 use Rattle.pv_libc.specs.declared.values.Reply.{Reply}
 use Rattle.pv_libc.specs.Steps.{Now, Did, reached}
 use Rattle.pv_libc.specs.Characters.{character_at, characters_from, most, string_at}
-use Rattle.pv_libc.specs.Blocks.{copy, memset, memcmp}
+use Rattle.pv_libc.specs.Blocks.{plain_byte, filled, copy, memset, memcmp}
+use Rattle.std.specs.List.{repeat}
+use Rattle.std.specs.Prelude.{min}
+use Rattle.pv_num.specs.declared.kinds.IntKind.TheVariants.{UChar}
+use Rattle.pv_num.specs.Kinds.{bits_of}
+use Rattle.pv_typed.specs.Known.{Each}
 use Rattle.pv_libc.specs.Strings.{strlen, compared_by, compared_from, strcmp, strcpy}
 use Rattle.pv_libc.specs.Heap.{told_of, heap_request, granted, requested, allocated, malloc, zeroed, cleared, calloc, block_by, block, freed, free, both, moved, resized, realloc}
 use Rattle.pv_libc.specs.Calls.{argument_at, number, size, called_in, called}
-use Rattle.pv_exec.proofs.Memory.Ways.{Ways, Steps, next-steps, about-steps, step-if, reached-steps, at-steps, row-steps, text-steps}
+use Rattle.pv_exec.proofs.Memory.Reached.{AreInLive, IsAllocation}
+use Rattle.pv_exec.proofs.Memory.Ways.{Ways, IsCharacter, when-steps, Steps, next-steps, about-steps, step-if, reached-steps, at-steps, row-steps, text-steps}
+use Rattle.pv_exec.proofs.Memory.Characters.{string-small}
 use Rattle.pv_exec.proofs.Memory.Printing.{printf-steps}
+use Rattle.pv_exec.proofs.Memory.Allocations.{block-is, requested-is, both-table, reached-is, both-reached, told-in-live}
 
 some-size : (n : ℕ) → eqb n 0 ≡ false → 1 ≤ n
 some-size n e = grind (arith, nat_tests)
 
-module _ {R : Table → Table → Type 0} (w : Ways R) where
+-- 7.24.1p3: characters
+plain-character : (v : ℕ) → v < 256 → IsCharacter (plain_byte v)
+plain-character v h = record { number = v; value = refl; small = h; nameless = refl }
+
+characters-plain : (vs : List ℕ) → Each (λ (v : ℕ). v < 256) vs → Each IsCharacter (map plain_byte vs)
+characters-plain [] h = tt
+characters-plain (v ∷ vs) h = (plain-character v h.0, characters-plain vs h.1)
+
+zero-behind : (vs : List ℕ) → Each (λ (v : ℕ). v < 256) vs → Each (λ (v : ℕ). v < 256) (vs ++ 0 ∷ [])
+zero-behind [] h = (omega arith, tt)
+zero-behind (v ∷ vs) h = (h.0, zero-behind vs h.1)
+
+repeated : (n v : ℕ) → v < 256 → Each IsCharacter (repeat n (plain_byte v ∷ []))
+repeated zero v h = tt
+repeated (suc n) v h = (plain-character v h, repeated n v h)
+
+repeated-length : (n v : ℕ) → length (repeat n (plain_byte v ∷ [])) ≡ n
+repeated-length zero v = refl
+repeated-length (suc n) v = ap suc (repeated-length n v)
+
+characters-length : (s : List ℕ) → length (map plain_byte (s ++ 0 ∷ [])) ≡ length s + 1
+characters-length s = length-map (s ++ 0 ∷ []) plain_byte ∙ length-append s (0 ∷ [])
+
+character-bits : (c : ℤ) → bits_of UChar c < 256
+character-bits (pos a) = omega arith
+character-bits (negsuc a) = omega arith
+
+module _ {R : Mem → Mem → Type 0} (w : Ways R) where
+  filled-step : (a n v : ℕ) (M : Mem) → v < 256 → AreInLive M.table a n → R M (filled M a n v)
+  filled-step a n v M h l = w.stores M a (repeat n (plain_byte v ∷ [])) (subst (λ k. AreInLive M.table a k) (sym (repeated-length n v)) l) (repeated n v h)
+
   -- blocks
   copy-steps : (apart : Bool) (to from : _) (n : ℕ) (S : Now) → Steps w S (copy apart to from n S)
   copy-steps apart to from n S =
-      next-steps w S (reached Text true to n S) _ (reached-steps w Text true to n S) (λ t T.
-      next-steps w T (reached Text false from n T) _ (reached-steps w Text false from n T) (λ f U. step-if w U _ _ _ w.itself w.itself))
+      when-steps w (λ t T. AreInLive T.memory.table t.address n) S (reached Text true to n S) _ (reached-steps w Text true to n S) (reached-is Text true to n S) (λ t T h.
+      when-steps w (λ f U. AreInLive U.memory.table t.address n × AreInLive U.memory.table f.address n) T (reached Text false from n T) _ (reached-steps w Text false from n T) (both-reached Text false from n T t.address n h)
+      (λ f U g. step-if w U _ _ _ w.itself (w.copies U.memory t.address f.address n g.0 g.1)))
 
   memset-steps : (g : _) (c : ℤ) (n : ℕ) (S : Now) → Steps w S (memset g c n S)
-  memset-steps g c n S = next-steps w S (reached Text true g n S) _ (reached-steps w Text true g n S) (λ r T. w.itself)
+  memset-steps g c n S =
+      when-steps w (λ r T. AreInLive T.memory.table r.address n) S (reached Text true g n S) _ (reached-steps w Text true g n S) (reached-is Text true g n S)
+      (λ r T h. filled-step r.address n (bits_of UChar c) T.memory (character-bits c) h)
 
   memcmp-steps : (p q : _) (n : ℕ) (S : Now) → Steps w S (memcmp p q n S)
   memcmp-steps p q n S =
@@ -65,11 +106,13 @@ module _ {R : Table → Table → Type 0} (w : Ways R) where
 
   strcpy-steps : (to from : _) (S : Now) → Steps w S (strcpy to from S)
   strcpy-steps to from S =
-      next-steps w S (string_at Text from S) _ (text-steps w Text from S) (λ s T.
-      next-steps w T (reached Text true to (length s + 1) T) _ (reached-steps w Text true to (length s + 1) T) (λ t U. step-if w U _ _ _ w.itself w.itself))
+      when-steps w (λ s T. Each (λ (v : ℕ). v < 256) s) S (string_at Text from S) _ (text-steps w Text from S) (string-small Text from S) (λ s T q.
+      when-steps w (λ t U. AreInLive U.memory.table t.address (length s + 1)) T (reached Text true to (length s + 1) T) _ (reached-steps w Text true to (length s + 1) T) (reached-is Text true to (length s + 1) T)
+      (λ t U h. step-if w U _ _ _ w.itself
+      (w.stores U.memory t.address (map plain_byte (s ++ 0 ∷ [])) (subst (λ k. AreInLive U.memory.table t.address k) (sym (characters-length s)) h) (characters-plain (s ++ 0 ∷ []) (zero-behind s q)))))
 
   -- memory management
-  granted-steps : (S : Now) (o : Result ℕ CreateError × Mem) → R S.memory.table o.1.table → Steps w S (granted S o)
+  granted-steps : (S : Now) (o : Result ℕ CreateError × Mem) → R S.memory o.1 → Steps w S (granted S o)
   granted-steps S ((Ok i), N) h = h
   granted-steps S ((Err error.Denied), N) h = h
   granted-steps S ((Err error.NoMemory), N) h = h
@@ -85,7 +128,7 @@ module _ {R : Table → Table → Type 0} (w : Ways R) where
   requested-steps : (n : ℕ) (S : Now) → Steps w S (requested n S)
   requested-steps n S =
       requested-by S (eqb n 0) _ (granted S (created S.memory (heap_request n))) w.itself
-      (λ e. granted-steps S (created S.memory (heap_request n)) (w.makes S.memory (heap_request n) (some-size n e)))
+      (λ e. granted-steps S (created S.memory (heap_request n)) (w.makes S.memory (heap_request n) (some-size n e) refl))
 
   allocated-steps : (r : Result ℕ Reply) (S : Now) → Steps w S (allocated r S)
   allocated-steps (Err x) S = w.itself
@@ -94,13 +137,13 @@ module _ {R : Table → Table → Type 0} (w : Ways R) where
   malloc-steps : (n : ℕ) (S : Now) → Steps w S (malloc n S)
   malloc-steps n S = next-steps w S (requested n S) allocated (requested-steps n S) allocated-steps
 
-  zeroed-closed : (i : ℕ) (o : Option Info) (M : Mem) → R M.table (zeroed i o M).table
-  zeroed-closed i None M = w.itself
-  zeroed-closed i (Some x) M = w.itself
+  zeroed-closed : (i : ℕ) (o : Option Info) (M : Mem) → told_of M i ≡ o → R M (zeroed i o M)
+  zeroed-closed i None M e = w.itself
+  zeroed-closed i (Some x) M e = filled-step x.base x.size 0 M (omega arith) (told-in-live M i x x.size e (omega arith))
 
   cleared-steps : (r : Result ℕ Reply) (S : Now) → Steps w S (cleared r S)
   cleared-steps (Err x) S = w.itself
-  cleared-steps (Ok i) S = zeroed-closed i (told_of S.memory i) S.memory
+  cleared-steps (Ok i) S = zeroed-closed i (told_of S.memory i) S.memory refl
 
   calloc-steps : (count n : ℕ) (S : Now) → Steps w S (calloc count n S)
   calloc-steps count n S = next-steps w S (requested (count * n) S) cleared (requested-steps (count * n) S) cleared-steps
@@ -108,27 +151,31 @@ module _ {R : Table → Table → Type 0} (w : Ways R) where
   block-steps : (c : Clause) (g : _) (S : Now) → Steps w S (block c g S)
   block-steps c g S =
       let t = Block g.pointer.address in
-      about-steps w S g.stopped (block_by c g S (use_answer S.memory.table g.pointer.prov t)) (w.uses S.memory.table g.pointer.prov t)
+      about-steps w S g.stopped (block_by c g S (use_answer S.memory.table g.pointer.prov t)) (w.uses S.memory g.pointer.prov t)
 
   free-steps : (g : _) (S : Now) → Steps w S (free g S)
-  free-steps g S = step-if w S (is_null g.pointer) _ _ w.itself (next-steps w S (block clause.Freeing g S) freed (block-steps clause.Freeing g S) (λ i T. w.ends T.memory.table i))
+  free-steps g S = step-if w S (is_null g.pointer) _ _ w.itself (when-steps w (λ i T. IsAllocation T.memory.table i) S (block clause.Freeing g S) freed (block-steps clause.Freeing g S) (block-is clause.Freeing g S) (λ i T h. w.ends T.memory i h))
 
-  both-closed : (o p : Option Info) (M : Mem) → R M.table (both o p M).table
-  both-closed (Some x) (Some y) M = w.itself
-  both-closed (Some x) None M = w.itself
-  both-closed None (Some y) M = w.itself
-  both-closed None None M = w.itself
+  both-closed : (i j : ℕ) (o p : Option Info) (M : Mem) → told_of M i ≡ o → told_of M j ≡ p → R M (both o p M)
+  both-closed i j (Some x) (Some y) M e f =
+      w.copies M y.base x.base (min x.size y.size) (told-in-live M j y (min x.size y.size) f (omega arith)) (told-in-live M i x (min x.size y.size) e (omega arith))
+  both-closed i j (Some x) None M e f = w.itself
+  both-closed i j None (Some y) M e f = w.itself
+  both-closed i j None None M e f = w.itself
 
-  moved-steps : (i : ℕ) (r : Result ℕ Reply) (S : Now) → Steps w S (moved i r S)
-  moved-steps i (Err x) S = w.itself
-  moved-steps i (Ok j) S = w.trans (both-closed (told_of S.memory i) (told_of S.memory j) S.memory) (w.ends (both (told_of S.memory i) (told_of S.memory j) S.memory).table i)
+  moved-steps : (i : ℕ) (r : Result ℕ Reply) (S : Now) → IsAllocation S.memory.table i → Steps w S (moved i r S)
+  moved-steps i (Err x) S h = w.itself
+  moved-steps i (Ok j) S h =
+      let M = both (told_of S.memory i) (told_of S.memory j) S.memory in
+      w.trans (both-closed i j (told_of S.memory i) (told_of S.memory j) S.memory refl refl) (w.ends M i (subst (λ T. IsAllocation T i) (sym (both-table (told_of S.memory i) (told_of S.memory j) S.memory)) h))
 
-  resized-steps : (n i : ℕ) (S : Now) → Steps w S (resized n i S)
-  resized-steps n i S = step-if w S (eqb n 0) _ _ w.itself (next-steps w S (requested n S) (moved i) (requested-steps n S) (moved-steps i))
+  resized-steps : (n i : ℕ) (S : Now) → IsAllocation S.memory.table i → Steps w S (resized n i S)
+  resized-steps n i S h =
+      step-if w S (eqb n 0) _ _ w.itself (when-steps w (λ r T. IsAllocation T.memory.table i) S (requested n S) (moved i) (requested-steps n S) (requested-is n i S h) (λ r T k. moved-steps i r T k))
 
   realloc-steps : (g : _) (n : ℕ) (S : Now) → Steps w S (realloc g n S)
   realloc-steps g n S =
-      step-if w S (is_null g.pointer) _ _ (malloc-steps n S) (next-steps w S (block clause.Reallocating g S) (resized n) (block-steps clause.Reallocating g S) (λ i T. resized-steps n i T))
+      step-if w S (is_null g.pointer) _ _ (malloc-steps n S) (when-steps w (λ i T. IsAllocation T.memory.table i) S (block clause.Reallocating g S) (resized n) (block-steps clause.Reallocating g S) (block-is clause.Reallocating g S) (λ i T h. resized-steps n i T h))
 
   -- each function
   pub called-steps : (f : Library) (a : List Arg) (S : Now) → Steps w S (called_in f a S)
@@ -147,5 +194,5 @@ module _ {R : Table → Table → Type 0} (w : Ways R) where
   called-steps library.Abort a S = w.itself
   called-steps library.Printf a S = printf-steps w a S
 
-  pub called-closed : (f : Library) (args : List Arg) (M : Mem) → R M.table (called f args M).after.memory.table
+  pub called-closed : (f : Library) (args : List Arg) (M : Mem) → R M (called f args M).after.memory
   called-closed f args M = called-steps f args (record { memory = M; notes = [] })

@@ -1,12 +1,11 @@
 -- What each operation on pointers and each access leads to (C17 6.3.2.3, 6.5.3.2, 6.5.6, 6.5.8, 6.5.9).
-use Rattle.std.proofs.Common.{ℕ, ◌≤◌, ℤ, pos, Bool, true, false, cond, List, [], ◌∷◌, Option, Some, None, Result, Ok, Err}
+use Rattle.std.proofs.Common.{ℕ, ℤ, pos, Bool, true, false, cond, List, [], ◌∷◌, Option, Some, None, Result, Ok, Err}
 use Rattle.pv_num.specs.declared.kinds.IntKind.{IntKind}
 use Rattle.pv_num.specs.declared.faults.Clause.{Clause}
 use Rattle.pv_num.specs.declared.faults.Clause.TheVariants as clause
 use Rattle.pv_num.specs.Kinds.{fits_of}
 use Rattle.pv_prov.specs.declared.names.Prov.{Prov}
 use Rattle.pv_prov.specs.Names.{is_empty}
-use Rattle.pv_inst.specs.declared.values.CreateError.{CreateError}
 use Rattle.pv_inst.specs.declared.values.Test.TheVariants.{Live, Range, Code}
 use Rattle.pv_inst.specs.declared.values.Tried.{Tried}
 use Rattle.pv_inst.specs.declared.values.Miss.{Miss}
@@ -14,7 +13,6 @@ use Rattle.pv_inst.specs.Table.{Table, IsMadeIn}
 use Rattle.pv_inst.specs.Use.{use_answer, settled}
 use Rattle.pv_inst.specs.Exposure.{expose}
 use Rattle.pv_inst.specs.Finding.{after_name, name_at}
-use Rattle.pv_inst.specs.Placing.{Request, place}
 use Rattle.pv_shadow.specs.declared.byte.Byte.{Byte}
 use Rattle.pv_shadow.specs.Whole.{whole_name}
 use Rattle.pv_object.specs.declared.values.Pointer.{Pointer}
@@ -24,93 +22,89 @@ use Rattle.pv_object.specs.declared.values.Asker.{Asker}
 use Rattle.pv_object.specs.Access.{reach, reach_after, clause_of, is_null}
 use Rattle.pv_object.specs.Encoding.{number_in}
 use Rattle.pv_object.specs.Values.{is_character}
-use Rattle.pv_object.specs.Memory.{Mem}
-use Rattle.pv_object.specs.Creating.{created, made}
+use Rattle.pv_object.specs.Memory.{Mem, with_table}
 use Rattle.pv_object.specs.Loading.{value_of, integer_of, pointer_of, pointer_named, exposed_by, is_trap}
 use Rattle.pv_object.specs.Operations.{truth, equal, equal_after, recast, to_ptr, address_of, to_int, to_int_after, move_under, moved, code, together, order}
 use Rattle.pv_exec.proofs.Memory.Ways.{Changes}
 
-module _ {F : Type 0} {R : Table → Table → Type 0} (changes : Changes F R) where
-  pair-if : {A : Type 0} (b : Bool) (T : Table) (w v : A × Table) → R T w.1 → R T v.1 → R T (cond b w v).1
-  pair-if true T w v h g = h
-  pair-if false T w v h g = g
+-- the memory with another table
+abbrev pub Retabled : (Mem → Mem → Type 0) → Mem → Table → Type 0
+Retabled R M T = R M (with_table M T)
 
-  after-leads : (T : Table) (p : Pointer) (n align : ℕ) (write : Bool) (c : Clause) (r : Result Tried Miss) → R T (settled T p.prov r) → R T (reach_after T p n align write c r).1
-  after-leads T p n align write c (Err m) h = changes.itself
-  after-leads T p n align write c (Ok tried) h = h
+module _ {F : Type 0} {R : Mem → Mem → Type 0} (changes : Changes F R) where
+  pair-if : {A : Type 0} (b : Bool) (M : Mem) (w v : A × Table) → Retabled R M w.1 → Retabled R M v.1 → Retabled R M (cond b w v).1
+  pair-if true M w v h g = h
+  pair-if false M w v h g = g
 
-  pub reach-leads : (T : Table) (p : Pointer) (n align : ℕ) (write : Bool) (by : Asker) → R T (reach T p n align write by).1
-  reach-leads T p n align write by =
-      pair-if (is_null p) T _ _ changes.itself
-      (pair-if (is_empty p.prov) T _ _ changes.itself (after-leads T p n align write (clause_of by) (use_answer T p.prov (Range p.address n)) (changes.uses T p.prov (Range p.address n))))
+  after-leads : (M : Mem) (p : Pointer) (n align : ℕ) (write : Bool) (c : Clause) (r : Result Tried Miss) → Retabled R M (settled M.table p.prov r) → Retabled R M (reach_after M.table p n align write c r).1
+  after-leads M p n align write c (Err m) h = changes.itself
+  after-leads M p n align write c (Ok tried) h = h
+
+  pub reach-leads : (M : Mem) (p : Pointer) (n align : ℕ) (write : Bool) (by : Asker) → Retabled R M (reach M.table p n align write by).1
+  reach-leads M p n align write by =
+      pair-if (is_null p) M _ _ changes.itself
+      (pair-if (is_empty p.prov) M _ _ changes.itself (after-leads M p n align write (clause_of by) (use_answer M.table p.prov (Range p.address n)) (changes.uses M p.prov (Range p.address n))))
 
   -- loads
-  exposed-leads : (T : Table) (bs : List Byte) → R T (exposed_by T bs)
-  exposed-leads T [] = changes.itself
-  exposed-leads T (b ∷ bs) = changes.trans (changes.exposes T b.prov) (exposed-leads (expose T b.prov) bs)
+  exposed-leads : (M : Mem) (bs : List Byte) → Retabled R M (exposed_by M.table bs)
+  exposed-leads M [] = changes.itself
+  exposed-leads M (b ∷ bs) = changes.trans (changes.exposes M b.prov) (exposed-leads (with_table M (expose M.table b.prov)) bs)
 
-  integer-leads : (T : Table) (k : IntKind) (bytes : List Byte) (o : Option ℕ) → R T (integer_of T k bytes o).1
-  integer-leads T k bytes None = pair-if (is_character k) T _ _ (exposed-leads T bytes) changes.itself
-  integer-leads T k bytes (Some n) = pair-if (is_trap k n) T _ _ changes.itself (exposed-leads T bytes)
+  integer-leads : (M : Mem) (k : IntKind) (bytes : List Byte) (o : Option ℕ) → Retabled R M (integer_of M.table k bytes o).1
+  integer-leads M k bytes None = pair-if (is_character k) M _ _ (exposed-leads M bytes) changes.itself
+  integer-leads M k bytes (Some n) = pair-if (is_trap k n) M _ _ changes.itself (exposed-leads M bytes)
 
-  named-leads : (T : Table) (o : Option Prov) (a : ℕ) → R T (pointer_named T o a).1
-  named-leads T (Some p) a = changes.uses T p Live
-  named-leads T None a = changes.trans (changes.names T a) (changes.uses (after_name T a) (name_at T a) Live)
+  named-leads : (M : Mem) (o : Option Prov) (a : ℕ) → Retabled R M (pointer_named M.table o a).1
+  named-leads M (Some p) a = changes.uses M p Live
+  named-leads M None a = changes.trans (changes.names M a) (changes.uses (with_table M (after_name M.table a)) (name_at M.table a) Live)
 
-  pointer-leads : (T : Table) (bytes : List Byte) (o : Option ℕ) → R T (pointer_of T bytes o).1
-  pointer-leads T bytes None = changes.itself
-  pointer-leads T bytes (Some a) = named-leads T (whole_name bytes) a
+  pointer-leads : (M : Mem) (bytes : List Byte) (o : Option ℕ) → Retabled R M (pointer_of M.table bytes o).1
+  pointer-leads M bytes None = changes.itself
+  pointer-leads M bytes (Some a) = named-leads M (whole_name bytes) a
 
   -- a load is this of the bytes that it reads
-  pub value-leads : (T : Table) (bytes : List Byte) (t : Scalar) → R T (value_of T bytes t).1
-  value-leads T bytes (scalar.Int k) = integer-leads T k bytes (number_in bytes)
-  value-leads T bytes scalar.Pointer = pointer-leads T bytes (number_in bytes)
+  pub value-leads : (M : Mem) (bytes : List Byte) (t : Scalar) → Retabled R M (value_of M.table bytes t).1
+  value-leads M bytes (scalar.Int k) = integer-leads M k bytes (number_in bytes)
+  value-leads M bytes scalar.Pointer = pointer-leads M bytes (number_in bytes)
 
   -- operators and conversions
-  pub truth-leads : (T : Table) (p : Pointer) → R T (truth T p).1
-  truth-leads T p = changes.uses T p.prov Live
+  pub truth-leads : (M : Mem) (p : Pointer) → Retabled R M (truth M.table p).1
+  truth-leads M p = changes.uses M p.prov Live
 
-  equal-after : (T : Table) (p q : Pointer) (r : Result Tried Miss) → R T (settled T p.prov r) → R T (equal_after T p q r).1
-  equal-after T p q (Err m) h = changes.itself
-  equal-after T p q (Ok left) h = changes.trans h (changes.uses (settled T p.prov (Ok left)) q.prov Live)
+  equal-after : (M : Mem) (p q : Pointer) (r : Result Tried Miss) → Retabled R M (settled M.table p.prov r) → Retabled R M (equal_after M.table p q r).1
+  equal-after M p q (Err m) h = changes.itself
+  equal-after M p q (Ok left) h = changes.trans h (changes.uses (with_table M (settled M.table p.prov (Ok left))) q.prov Live)
 
-  pub equal-leads : (T : Table) (p q : Pointer) → R T (equal T p q).1
-  equal-leads T p q = equal-after T p q (use_answer T p.prov Live) (changes.uses T p.prov Live)
+  pub equal-leads : (M : Mem) (p q : Pointer) → Retabled R M (equal M.table p q).1
+  equal-leads M p q = equal-after M p q (use_answer M.table p.prov Live) (changes.uses M p.prov Live)
 
-  pub to_ptr-leads : (T : Table) (n : ℤ) → R T (to_ptr T n).1
-  to_ptr-leads T n = changes.names T (address_of n)
+  pub to_ptr-leads : (M : Mem) (n : ℤ) → Retabled R M (to_ptr M.table n).1
+  to_ptr-leads M n = changes.names M (address_of n)
 
-  pub recast-leads : (T : Table) (p : Pointer) (align : ℕ) → R T (recast T p align).1
-  recast-leads T p align = changes.uses T p.prov Live
+  pub recast-leads : (M : Mem) (p : Pointer) (align : ℕ) → Retabled R M (recast M.table p align).1
+  recast-leads M p align = changes.uses M p.prov Live
 
-  to_int-after : (T : Table) (p : Pointer) (k : IntKind) (r : Result Tried Miss) → R T (settled T p.prov r) → R T (to_int_after T p k r).1
-  to_int-after T p k (Err m) h = changes.itself
-  to_int-after T p k (Ok tried) h =
-      changes.trans h (pair-if (fits_of k (pos p.address)) (settled T p.prov (Ok tried)) _ _ (changes.exposes (settled T p.prov (Ok tried)) p.prov) changes.itself)
+  to_int-after : (M : Mem) (p : Pointer) (k : IntKind) (r : Result Tried Miss) → Retabled R M (settled M.table p.prov r) → Retabled R M (to_int_after M.table p k r).1
+  to_int-after M p k (Err m) h = changes.itself
+  to_int-after M p k (Ok tried) h =
+      let N = with_table M (settled M.table p.prov (Ok tried)) in
+      changes.trans h (pair-if (fits_of k (pos p.address)) N _ _ (changes.exposes N p.prov) changes.itself)
 
-  pub to_int-leads : (T : Table) (p : Pointer) (k : IntKind) → R T (to_int T p k).1
-  to_int-leads T p k = to_int-after T p k (use_answer T p.prov Live) (changes.uses T p.prov Live)
+  pub to_int-leads : (M : Mem) (p : Pointer) (k : IntKind) → Retabled R M (to_int M.table p k).1
+  to_int-leads M p k = to_int-after M p k (use_answer M.table p.prov Live) (changes.uses M p.prov Live)
 
-  pub move-leads : (c : Clause) (T : Table) (p : Pointer) (by : ℤ) → R T (move_under c T p by).1
-  move-leads c T p by =
-      pair-if (is_null p) T _ _ changes.itself
-      (pair-if (is_empty p.prov) T _ _ changes.itself (changes.uses T p.prov (Range (moved p.address by) 0)))
+  pub move-leads : (c : Clause) (M : Mem) (p : Pointer) (by : ℤ) → Retabled R M (move_under c M.table p by).1
+  move-leads c M p by =
+      pair-if (is_null p) M _ _ changes.itself
+      (pair-if (is_empty p.prov) M _ _ changes.itself (changes.uses M p.prov (Range (moved p.address by) 0)))
 
-  pub code-leads : (T : Table) (p : Pointer) → R T (code T p).1
-  code-leads T p =
-      pair-if (is_null p) T _ _ changes.itself
-      (pair-if (is_empty p.prov) T _ _ changes.itself (changes.uses T p.prov (Code p.address)))
+  pub code-leads : (M : Mem) (p : Pointer) → Retabled R M (code M.table p).1
+  code-leads M p =
+      pair-if (is_null p) M _ _ changes.itself
+      (pair-if (is_empty p.prov) M _ _ changes.itself (changes.uses M p.prov (Code p.address)))
 
-  pub together-leads : (c : Clause) (T : Table) (p q : Pointer) → IsMadeIn T p.prov → IsMadeIn T q.prov → R T (together c T p q).1
-  together-leads c T p q a b = pair-if _ T _ _ changes.itself (changes.meets T p.prov q.prov a b)
+  pub together-leads : (c : Clause) (M : Mem) (p q : Pointer) → IsMadeIn M.table p.prov → IsMadeIn M.table q.prov → Retabled R M (together c M.table p q).1
+  together-leads c M p q a b = pair-if _ M _ _ changes.itself (changes.meets M p.prov q.prov a b)
 
-  pub order-leads : (T : Table) (p q : Pointer) → IsMadeIn T p.prov → IsMadeIn T q.prov → R T (order T p q).1
-  order-leads T p q a b = together-leads clause.OrderOfPointers T p q a b
-
-  -- a new instance
-  made-leads : (M : Mem) (w : Result ℕ CreateError × Table) → R M.table w.1 → R M.table (made M w).1.table
-  made-leads M ((Ok i), U) h = h
-  made-leads M ((Err e), U) h = h
-
-  pub created-leads : (M : Mem) (r : Request) → (F → 1 ≤ r.size) → R M.table (created M r).1.table
-  created-leads M r some = made-leads M (place M.table r) (changes.places M.table r some)
+  pub order-leads : (M : Mem) (p q : Pointer) → IsMadeIn M.table p.prov → IsMadeIn M.table q.prov → Retabled R M (order M.table p q).1
+  order-leads M p q a b = together-leads clause.OrderOfPointers M p q a b

@@ -1,9 +1,9 @@
--- Each step of `printf` changes the table along the ways of the library (C17 7.21.6.1, 7.21.6.3).
+-- Each step of `printf` changes the memory along the ways of the library (C17 7.21.6.1, 7.21.6.3).
 use Rattle.std.proofs.Common.{ℕ, ℤ, ◌==◌, Bool, true, false, List, [], ◌∷◌, ◌++◌, map, drop, Option, Some, None, Result, Ok, Err, if◌then◌else◌}
 use Rattle.pv_num.specs.declared.kinds.IntKind.TheVariants.{ULong}
-use Rattle.pv_inst.specs.Table.{Table}
 use Rattle.pv_object.specs.declared.values.Asker.TheVariants.{Print}
 use Rattle.pv_object.specs.declared.values.Stop.{Stop}
+use Rattle.pv_object.specs.Memory.{Mem, with_table}
 use Rattle.pv_object.specs.Operations.{to_int}
 use Rattle.pv_libc.specs.declared.values.Arg.{Arg}
 use Rattle.pv_libc.specs.Steps.{Now, Did, done, next, next_by}
@@ -30,10 +30,10 @@ abbrev to_long : Now → Did Printed
 to_long S = piece_done (percent_piece 108) [] [] S
 
 -- `Steps` as a record: so what is said of a step names the step itself, and not only the table behind it
-record Along {R : Table → Table → Type 0} (w : Ways R) (A : Type 0) (S : Now) (d : Did A) : Type 0 where
+record Along {R : Mem → Mem → Type 0} (w : Ways R) (A : Type 0) (S : Now) (d : Did A) : Type 0 where
   pub by : Steps w S d
 
-module _ {R : Table → Table → Type 0} (w : Ways R) where
+module _ {R : Mem → Mem → Type 0} (w : Ways R) where
   -- 7.21.6.1p8: the text of a conversion
   number-along : (text : ℤ → List ℕ) (o : Option ℤ) (S : Now) → Along w (List ℕ) S (number_done text o S)
   number-along text None S = record { by = w.itself }
@@ -47,7 +47,7 @@ module _ {R : Table → Table → Type 0} (w : Ways R) where
   address-along None S = record { by = w.itself }
   address-along (Some g) S =
       let got = to_int S.memory.table g.pointer ULong in
-      record { by = about-steps w S g.stopped (address_by g S got) (w.trans (w.numbers S.memory.table g.pointer ULong) (w.told got.1)) }
+      record { by = about-steps w S g.stopped (address_by g S got) (w.trans (w.numbers S.memory g.pointer ULong) (w.told (with_table S.memory got.1))) }
 
   -- 7.21.6.1p3: the format from a place on, with any arguments left
   abbrev Prints : List ℕ → Result Printed Stop → Type 0

@@ -9,7 +9,7 @@ use Rattle.pv_prov.specs.declared.names.Prov.{Prov}
 use Rattle.pv_prov.specs.declared.names.Prov.TheVariants.{Empty, Inst, Pair}
 use Rattle.pv_prov.specs.declared.names.Stands.{Stands}
 use Rattle.pv_prov.specs.declared.pairs.Twin.{Twin}
-use Rattle.pv_prov.specs.Names.{stands, stands_of, twin_at}
+use Rattle.pv_prov.specs.Names.{stands, stands_of, twin_at, kept}
 use Rattle.pv_inst.specs.declared.values.Instance.{Instance}
 use Rattle.pv_inst.specs.declared.values.Test.{Test}
 use Rattle.pv_inst.specs.declared.values.Tried.{Tried}
@@ -25,7 +25,9 @@ use Rattle.pv_inst.specs.Placing.{Request, place, place_said, place_at, unless_o
 use Rattle.pv_inst.specs.Ending.{ended, ending, over}
 use Rattle.pv_inst.proofs.Rows.{row_found}
 use Rattle.pv_inst.proofs.Together.{Common, common_found, left_can, right_can}
-use Rattle.pv_exec.proofs.Memory.Ways.{Changes}
+use Rattle.pv_eval.specs.Acting.{keeps_both}
+use Rattle.pv_eval.proofs.Guards.{left_of, right_of}
+use Rattle.pv_exec.proofs.Memory.Ways.{Changes, OfTables, of-tables}
 use Rattle.pv_exec.proofs.Memory.Findings.{name-leads}
 use Rattle.pv_exec.proofs.Memory.Rows.{Leads, led-itself, led-trans, row-led, push-led, MayKeep, kept-led}
 
@@ -60,6 +62,15 @@ use-keeps T k t tried e =
     subst (λ (x : Tried). MayKeep T.pairs k x.low x.high) (sym j.1)
     (one-true (survives T.zap T.instances s.low t) (survives T.zap T.instances s.high t) j.0, low-survives T.zap (twin_at T.pairs k) T.instances t, high-survives T.zap (twin_at T.pairs k) T.instances t)
 
+-- 6.3.2.3p5: a side of a pair that keeps both
+one-side : (high : Bool) → (not high ≡ true) ⊎ (high ≡ true)
+one-side true = inr refl
+one-side false = inl refl
+
+both-kept : (o : Option Twin) → keeps_both o ≡ true → IfSome o (λ (t : Twin). IsTrue t.keeps_low) × IfSome o (λ (t : Twin). IsTrue t.keeps_high)
+both-kept None e = (tt, tt)
+both-kept (Some t) e = (left_of t.keeps_low t.keeps_high e, right_of t.keeps_low t.keeps_high e)
+
 -- within the addresses
 free-bounds : (base size : ℕ) → (ltb base 4096 || ltb (2 ^ 47) (base + size)) ≡ false → (4096 ≤ base) × (base + size ≤ 2 ^ 47)
 free-bounds base size e = grind (arith, nat_tests)
@@ -89,6 +100,12 @@ module _ {F : Type 0} where
 
   pub same-leads : (T : Table) (p q : Prov) → IsMadeIn T p → IsMadeIn T q → Leads F T (after_same T p q)
   same-leads T p q a b = same-by T p q (same_miss T p q) refl a b
+
+  -- in a settled run
+  pub settles-leads : (T : Table) (k : ℕ) (high : Bool) → keeps_both (twin_at T.pairs k) ≡ true → Leads F T (record T { pairs = kept T.pairs k (not high) high })
+  settles-leads T k high e =
+      let both = both-kept (twin_at T.pairs k) e in
+      kept-led T.instances T.pairs k (not high) high (one-side high, λ l. both.0, λ l. both.1)
 
   -- exposure
   led-if : (b : Bool) (T U : Table) → Leads F T U → Leads F T (cond b U T)
@@ -151,8 +168,8 @@ module _ {F : Type 0} where
       (λ e. said-leads T r k (place_of T.script r.text k) (ltb-false (2 ^ 24) (live_bytes T.instances + r.size) e) some)
 
 -- each way in which the table changes
-pub leading : (F : Type 0) → Changes F (Leads F)
-leading F = record {
+pub leading : (F : Type 0) → Changes F (OfTables (Leads F))
+leading F = of-tables (Leads F) (record {
   itself = led-itself;
   trans = λ h g. led-trans h g;
   told = λ T. led-itself;
@@ -160,6 +177,7 @@ leading F = record {
   meets = λ T p q a b. same-leads T p q a b;
   names = λ T a. name-leads T a;
   exposes = λ T p. expose-leads T p;
+  settles = λ T k high e. settles-leads T k high e;
   places = λ T r some. place-leads T r some;
   ends = λ T i. ended-leads T i;
-}
+})

@@ -32,6 +32,7 @@ use Rattle.pv_world.specs.Objects.{object_made, makes_object, ends_instance, lit
 use Rattle.pv_exec.proofs.Memory.Rows.{Sound, Leads}
 use Rattle.pv_exec.proofs.Memory.Tables.{leading}
 use Rattle.pv_exec.proofs.Memory.Pointers.{reach-leads}
+use Rattle.pv_exec.proofs.Memory.Ways.{OfTables}
 use Rattle.pv_exec.proofs.Memory.Worlds.{Onward}
 use Rattle.pv_exec.proofs.Settling.Sides.{on_table, on_memory, on_world, Allows, Covers, Nearly, nearly}
 use Rattle.pv_exec.proofs.Settling.Uses.{settled-covers}
@@ -60,7 +61,7 @@ module _ (F : Type 0) (ds : List Bool) where
   GoesOn n go = (at at' : Reach) (w : World) (us us' : List What) → Reaches n at at' → Fits F ds w → Tracks ds (go at w (telling us)) (go at' (on_world ds w) (telling us'))
 
   reaching-by : (n : ℕ) (w w' : World) (p : Pointer) (us us' : List What) (got got' : Result Reach Stop × Table) (go : Reach → World → Told → Done) → w' ≡ on_world ds w
-      → Sound F got.1.instances got.1.pairs → Covers ds got.1.pairs → Along ds (Reaches n) got got' → GoesOn n go → ((at : Reach) (v : World) (t : Told) → Onward (Leads F) v (go at v t))
+      → Sound F got.1.instances got.1.pairs → Covers ds got.1.pairs → Along ds (Reaches n) got got' → GoesOn n go → ((at : Reach) (v : World) (t : Told) → Onward (OfTables (Leads F)) v (go at v t))
       → Tracks ds (reaching_by w p us got go) (reaching_by w' p us' got' go)
   reaching-by n w w' p us us' ((Ok at), T) ((Ok at'), T') go e s c h g o =
       subst (λ (v : World). Tracks ds (go at (with_table w T) (telling us)) (go at' v (telling us'))) (sym (λ i. with_table (e i) (h.2 i)))
@@ -70,11 +71,11 @@ module _ (F : Type 0) (ds : List Bool) where
   reaching-by n w w' p us us' ((Err y), T) ((Ok at'), T') go e s c h g o = ends-ok ds y T at' [] (reaching_by w' p us' (Ok at', T') go) h
   reaching-by n w w' p us us' ((Err y), T) ((Err y'), T') go e s c h g o = ends-err Reach ds y y' T [] (Some p.prov) (with_table w' T') (telling us') refl h
 
-  pub reaching-tracks : (p : Pointer) (n align : ℕ) (write : Bool) (w : World) (go : Reach → World → Told → Done) → Fits F ds w → GoesOn n go → ((at : Reach) (v : World) (t : Told) → Onward (Leads F) v (go at v t))
+  pub reaching-tracks : (p : Pointer) (n align : ℕ) (write : Bool) (w : World) (go : Reach → World → Told → Done) → Fits F ds w → GoesOn n go → ((at : Reach) (v : World) (t : Told) → Onward (OfTables (Leads F)) v (go at v t))
       → Tracks ds (reaching p n align write w go) (reaching p n align write (on_world ds w) go)
   reaching-tracks p n align write w go f g o =
       reaching-by n w (on_world ds w) p (range_use w.memory.table p n) (range_use (on_table ds w.memory.table) p n) (reach w.memory.table p n align write Access) (reach (on_table ds w.memory.table) p n align write Access) go refl
-      ((reach-leads (leading F) w.memory.table p n align write Access).sound f.0) (reach-covers ds w.memory.table p n align write Access f.2) (reach-along F ds w.memory.table p n align write Access f.0 f.1 f.2) g o
+      ((reach-leads (leading F) w.memory p n align write Access).sound f.0) (reach-covers ds w.memory.table p n align write Access f.2) (reach-along F ds w.memory.table p n align write Access f.0 f.1 f.2) g o
 
 -- placing looks at no pair
 abbrev pub second : List Bool → Result ℕ CreateError × Table → Result ℕ CreateError × Table

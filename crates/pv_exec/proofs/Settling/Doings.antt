@@ -11,6 +11,7 @@ use Rattle.pv_world.specs.Telling.{Told, quiet}
 use Rattle.pv_world.specs.Doing.{Done, Answers, Fails, Breaks}
 use Rattle.pv_world.specs.Worths.{wrong_of, unless}
 use Rattle.pv_exec.proofs.Memory.Rows.{Leads}
+use Rattle.pv_exec.proofs.Memory.Ways.{OfTables}
 use Rattle.pv_exec.proofs.Memory.Worlds.{Onward, left}
 use Rattle.pv_exec.proofs.Settling.Sides.{on_world, Allows, Nearly}
 use Rattle.pv_exec.proofs.Settling.Along.{IsFault, Ends, before}
@@ -100,7 +101,7 @@ halted-lost ds (Undefined f) ts bs d h n = h
 halted-lost ds Undecided ts bs d h n = tt
 halted-lost ds (Halts k) ts bs d h n = inr (h, n)
 
-pub done-lost : (ds : List Bool) (d d' : Done) → IsBad d' → (Allows ds (left d).pairs → ⊥) → Tracks ds d d'
+pub done-lost : (ds : List Bool) (d d' : Done) → IsBad d' → (Allows ds (left d).table.pairs → ⊥) → Tracks ds d d'
 done-lost ds (Answers v w t) (Answers v' w' t') h n = absurd h
 done-lost ds (Answers v w t) (Fails y' p' w' t') h n = (h, n)
 done-lost ds (Answers v w t) (Breaks y' b' w' t') h n = (h, n)
@@ -108,8 +109,8 @@ done-lost ds (Fails y p w t) d' h n = halted-lost ds y (pairs_of w) t.bytes d' h
 done-lost ds (Breaks y b w t) d' h n = halted-lost ds y (pairs_of w) t.bytes d' h n
 
 -- the same from where it lost on
-pub lost-later : {F : Type 0} (ds : List Bool) (U : Table) (w : World) (d d' : Done) → w.memory.table ≡ U → Onward (Leads F) w d → IsBad d' → (Allows ds U.pairs → ⊥) → Tracks ds d d'
-lost-later ds U w d d' e o h n = done-lost ds d d' h (λ a. n (subst (λ (V : Table). Allows ds V.pairs) e (before ds w.memory.table.pairs (left d).pairs o.leads.settle a)))
+pub lost-later : {F : Type 0} (ds : List Bool) (U : Table) (w : World) (d d' : Done) → w.memory.table ≡ U → Onward (OfTables (Leads F)) w d → IsBad d' → (Allows ds U.pairs → ⊥) → Tracks ds d d'
+lost-later ds U w d d' e o h n = done-lost ds d d' h (λ a. n (subst (λ (V : Table). Allows ds V.pairs) e (before ds w.memory.table.pairs (left d).table.pairs o.leads.settle a)))
 
 pub either-tracks : (ds : List Bool) (c : Bool) (d d' e e' : Done) → Tracks ds d d' → Tracks ds e e' → Tracks ds (cond c d e) (cond c d' e')
 either-tracks ds true d d' e e' h g = h

@@ -28,7 +28,6 @@ use Rattle.pv_libc.specs.Steps.{Now, Did, done, next}
 use Rattle.pv_libc.specs.Heap.{null, told_of, heap_request, granted, requested, allocated, malloc, zeroed, cleared, calloc, block_stop, block_in, the_block, block_by, block, freed, free, both, moved, resized, realloc}
 use Rattle.pv_exec.proofs.Memory.Rows.{Sound, Leads, led-itself}
 use Rattle.pv_exec.proofs.Memory.Tables.{leading, use-leads, ended-leads}
-use Rattle.pv_exec.proofs.Memory.Pointers.{created-leads}
 use Rattle.pv_exec.proofs.Settling.Sides.{on_sides, on_table, on_memory, Allows, Covers}
 use Rattle.pv_exec.proofs.Settling.Uses.{Agree, use-agrees, settled-covers}
 use Rattle.pv_exec.proofs.Settling.Along.{IsFault}
@@ -120,7 +119,7 @@ module _ (F : Type 0) (full : F) (ds : List Bool) where
   requested-by : (size : ℕ) (b : Bool) → eqb size 0 ≡ b → Goes F ds (Result ℕ Reply) Equal (λ S. cond b (done (Err (reply.Value null)) S) (granted S (created S.memory (heap_request size)))) (λ S. cond b (done (Err (reply.Value null)) S) (granted S (created S.memory (heap_request size))))
   requested-by size true e = done-goes F ds Equal (Err (reply.Value null)) (Err (reply.Value null)) refl
   requested-by size false e = record {
-    leads = λ S. granted-leads S (created S.memory (heap_request size)) (created-leads (leading F) S.memory (heap_request size) (λ f. some-size size e));
+    leads = λ S. granted-leads S (created S.memory (heap_request size)) ((leading F).makes S.memory (heap_request size) (λ f. some-size size e));
     covers = λ S k. granted-covers S (created S.memory (heap_request size)) (subst (λ ts. Covers ds ts) (sym (created-pairs S.memory (heap_request size))) k);
     walks = λ S ns so al k.
         subst (λ q. Walks ds Equal (granted S (created S.memory (heap_request size))) (granted (on_now ds ns S) q)) (sym (created-on ds S.memory (heap_request size)))

@@ -41,6 +41,7 @@ use Rattle.pv_eval.specs.Operations.{Op, Converts, Calculates, CalculatesOne, Te
 use Rattle.pv_eval.proofs.Guards.{left_of, right_of, worth_made}
 use Rattle.pv_exec.proofs.Memory.Rows.{Leads, led-itself}
 use Rattle.pv_exec.proofs.Memory.Tables.{leading}
+use Rattle.pv_exec.proofs.Memory.Ways.{OfTables}
 use Rattle.pv_exec.proofs.Memory.Worlds.{Onward, worth-on}
 use Rattle.pv_exec.proofs.Memory.Operations.{if-on}
 use Rattle.pv_exec.proofs.Settling.Sides.{on_table, on_world, nearly, length-sides}
@@ -145,7 +146,7 @@ module _ (b : Setting) (F : Type 0) (ds : List Bool) where
       subst (λ z. Tracks ds (reads_at b l p rivals at w (telling us)) (reads_at b l p rivals z (on_world ds w) (telling us'))) (sym (same-place l.size at at' some h))
       (either-tracks ds (permits b w l at false) _ _ _ _ (permitted-tracks l p rivals at at' w us us' f) tt)
 
-  reads-onward : (l : Lvalue) (p : Pointer) (rivals : List Access) (at : Reach) (w : World) (t : Told) → Onward (Leads F) w (reads_at b l p rivals at w t)
+  reads-onward : (l : Lvalue) (p : Pointer) (rivals : List Access) (at : Reach) (w : World) (t : Told) → Onward (OfTables (Leads F)) w (reads_at b l p rivals at w t)
   reads-onward l p rivals at w t =
       if-on (leading F) (permits b w l at false) w _ _
       (if-on (leading F) (conflicts (access_to l p false) rivals) w _ _ (record { leads = led-itself })
@@ -168,7 +169,7 @@ module _ (b : Setting) (F : Type 0) (ds : List Bool) where
       (either-tracks ds (permits b w l at true) _ _ _ _
       (either-tracks ds (conflicts (access_to l p true) rivals) _ _ _ _ tt (alone-tracks l p v from at at' w us us' f)) tt)
 
-  writes-onward : (l : Lvalue) (p : Pointer) (v : Worth) (from : Option ℕ) (rivals : List Access) (at : Reach) (w : World) (t : Told) → Onward (Leads F) w (writes_at b l p v from rivals at w t)
+  writes-onward : (l : Lvalue) (p : Pointer) (v : Worth) (from : Option ℕ) (rivals : List Access) (at : Reach) (w : World) (t : Told) → Onward (OfTables (Leads F)) w (writes_at b l p v from rivals at w t)
   writes-onward l p v from rivals at w t =
       if-on (leading F) (permits b w l at true) w _ _
       (if-on (leading F) (conflicts (access_to l p true) rivals) w _ _ (record { leads = led-itself })

@@ -96,7 +96,7 @@ module _ (F : Type 0) (ds : List Bool) where
   address-goes (Some p) n n' =
       about-goes F ds Equal n n' (λ S. address_by (record { pointer = p; stopped = n }) S (to_int S.memory.table p ULong)) (λ S. address_by (record { pointer = p; stopped = n' }) S (to_int S.memory.table p ULong))
       (record {
-        leads = λ S. to_int-leads (leading F) S.memory.table p ULong;
+        leads = λ S. to_int-leads (leading F) S.memory p ULong;
         covers = λ S c. int-covers ds S.memory.table p ULong (use_answer S.memory.table p.prov Live) c;
         walks = λ S ns so al c. address-beside p n n' S ns (to_int S.memory.table p ULong) (to_int (on_table ds S.memory.table) p ULong) (int-along F ds S.memory.table p ULong so al c);
       })

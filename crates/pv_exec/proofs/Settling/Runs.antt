@@ -16,7 +16,7 @@ use Rattle.pv_eval.specs.TypeForms.{Lvalue}
 use Rattle.pv_eval.specs.Constants.{constant_worth, is_high_pair}
 use Rattle.pv_eval.specs.Acting.{answered, acted, pair_count}
 use Rattle.pv_eval.specs.Operations.{Op, Puts, does, act}
-use Rattle.pv_eval.proofs.Closed.{beside_setting}
+use Rattle.pv_eval.proofs.Closed.{IsLvalue, IsAsked, beside_setting}
 use Rattle.pv_exec.specs.Calls.{below}
 use Rattle.pv_exec.specs.Run.{setting_of, first, run_of, outcome_of, sides_at}
 use Rattle.pv_exec.specs.Laws.{run_at}
@@ -149,11 +149,11 @@ module _ (b : Setting) (full : Filled b) (late : b.sides ≡ None) (ds : List Bo
   abbrev c : Setting
   c = beside_setting b b.bound (Some ds)
 
-  act-follows : (line : ℕ) (o : Op) (s : State) (es : List Marked) → Sound (Filled b) (table_at s).instances (table_at s).pairs → length (pairs_at (end_of (act b line o s))) ≤ length ds → Allows ds (pairs_at s)
+  act-follows : (line : ℕ) (o : Op) → IsAsked b o → (s : State) (es : List Marked) → Sound (Filled b) (table_at s).instances (table_at s).pairs → length (pairs_at (end_of (act b line o s))) ≤ length ds → Allows ds (pairs_at s)
       → Follows ds (act b line o s) (act c line o (on_state ds es s))
-  act-follows line o s es so n al =
+  act-follows line o is s es so n al =
       let cs = cut ds (pairs_at s) in
-      let more = longer (pairs_at s) (pairs_at (end_of (act b line o s))) (act-passes b line o s).settle in
+      let more = longer (pairs_at s) (pairs_at (end_of (act b line o s))) (act-passes b line o is s).settle in
       let few : length (pairs_at s) ≤ length ds = omega (arith, more, n) in
       let tracks = does-tracks b (Filled b) cs full (library cs) o s.world (so, cut-allows ds (pairs_at s) al, cut-covers ds (pairs_at s) few) in
       acted-follows b c ds late refl line s es few (does b o s.world) (does c o (on_world ds s.world)) n
@@ -162,23 +162,23 @@ module _ (b : Setting) (full : Filled b) (late : b.sides ≡ None) (ds : List Bo
   act-later : (line : ℕ) (o : Op) (s : State) → s.taken ≤ (end_of (act b line o s)).taken
   act-later line o s = let same = acted-taken b line (does b o s.world) s late in omega (arith, same)
 
-  acting : (line : ℕ) (o : Op) → Simulates (Filled b) ds Worth (λ s. act b line o s) (λ s. act c line o s)
-  acting line o = record { passes = λ s. act-passes b line o s; later = λ s. act-later line o s; follows = λ s es so n al. act-follows line o s es so n al }
+  acting : (line : ℕ) (o : Op) → IsAsked b o → Simulates (Filled b) ds Worth (λ s. act b line o s) (λ s. act c line o s)
+  acting line o is = record { passes = λ s. act-passes b line o is s; later = λ s. act-later line o s; follows = λ s es so n al. act-follows line o is s es so n al }
 
-  constants : (line o offset : ℕ) (l : Lvalue) (q : Const) → Simulates (Filled b) ds Worth (λ s. act b line (Puts o offset l (constant_worth s.world q)) s) (λ s. act c line (Puts o offset l (constant_worth s.world q)) s)
-  constants line o offset l q = record {
-    passes = λ s. act-passes b line (Puts o offset l (constant_worth s.world q)) s;
+  constants : (line o offset : ℕ) (l : Lvalue) (q : Const) → IsLvalue b l → Simulates (Filled b) ds Worth (λ s. act b line (Puts o offset l (constant_worth s.world q)) s) (λ s. act c line (Puts o offset l (constant_worth s.world q)) s)
+  constants line o offset l q is = record {
+    passes = λ s. act-passes b line (Puts o offset l (constant_worth s.world q)) is s;
     later = λ s. act-later line (Puts o offset l (constant_worth s.world q)) s;
     follows = λ s es so n al.
         subst (λ v. Follows ds (act b line (Puts o offset l (constant_worth s.world q)) s) (act c line (Puts o offset l v) (on_state ds es s))) (sym (constant-on ds s.world q))
-        (act-follows line (Puts o offset l (constant_worth s.world q)) s es so n al);
+        (act-follows line (Puts o offset l (constant_worth s.world q)) is s es so n al);
   }
 
   simulating : WaysIn b c (λ k j A m m'. Simulates (Filled b) ds A m m')
   simulating = record {
     ways = record {
       gives = λ a. record { passes = λ s. led-itself; later = λ s. omega arith; follows = λ s es so n al. inl (al, es, refl) };
-      acts = λ line o is. acting line o;
+      acts = λ line o is. acting line o is;
       ticks = λ {k} {j} {A} {m} {m'} h. record {
         passes = λ s. tick-passes m s (nat_lt s.taken b.bound) h.passes;
         later = λ s. tick-later (Filled b) ds m s (nat_lt s.taken b.bound) h.later;
@@ -192,7 +192,7 @@ module _ (b : Setting) (full : Filled b) (late : b.sides ≡ None) (ds : List Bo
       less = λ h. h;
       more = λ h. h;
     };
-    reads = λ line o offset l q is. constants line o offset l q;
+    reads = λ line o offset l q is. constants line o offset l q is;
   }
 
   bottom : (A : Type 0) → Simulates (Filled b) ds A (λ s. Stops Unreached s) (λ s. Stops Unreached s)

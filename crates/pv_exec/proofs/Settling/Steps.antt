@@ -154,7 +154,7 @@ module _ (F : Type 0) (ds : List Bool) where
   reached-goes by write p n n' k =
       about-goes (Reaches k) n n' (λ S. reached_by by write (record { pointer = p; stopped = n }) k S (reach S.memory.table p k 1 write by)) (λ S. reached_by by write (record { pointer = p; stopped = n' }) k S (reach S.memory.table p k 1 write by))
       (record {
-        leads = λ S. reach-leads (leading F) S.memory.table p k 1 write by;
+        leads = λ S. reach-leads (leading F) S.memory p k 1 write by;
         covers = λ S c. reach-covers ds S.memory.table p k 1 write by c;
         walks = λ S ns so al c. beside-along ds (Reaches k) S.memory (reach S.memory.table p k 1 write by) (reach (on_table ds S.memory.table) p k 1 write by) (reach-along F ds S.memory.table p k 1 write by so al c);
       })
@@ -200,7 +200,7 @@ module _ (F : Type 0) (ds : List Bool) where
   character-goes p n n' a =
       about-goes Equal n n' (λ S. character_loaded S (load S.memory a (scalar.Int UChar))) (λ S. character_loaded S (load S.memory a (scalar.Int UChar)))
       (record {
-        leads = λ S. value-leads (leading F) S.memory.table (read S.memory.bytes a 1) (scalar.Int UChar);
+        leads = λ S. value-leads (leading F) S.memory (read S.memory.bytes a 1) (scalar.Int UChar);
         covers = λ S c. value-covers S.memory.table (read S.memory.bytes a 1) c;
         walks = λ S ns so al c. loaded-beside S ns (load S.memory a (scalar.Int UChar)) (load (on_memory ds S.memory) a (scalar.Int UChar)) (value-along F ds S.memory.table (read S.memory.bytes a 1) (scalar.Int UChar) so al c);
       })

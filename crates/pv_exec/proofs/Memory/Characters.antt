@@ -20,7 +20,7 @@ use Rattle.pv_libc.specs.Steps.{Now, Did, next, next_by, about, about_by, reache
 use Rattle.pv_libc.specs.Characters.{character_of, character_loaded, character_in, character_at, string_from, most, string_at}
 use Rattle.pv_shadow.specs.Bytes.{read}
 use Rattle.pv_typed.specs.Known.{Each}
-use Rattle.pv_guards.proofs.LibraryWays.{When}
+use Rattle.pv_exec.proofs.Memory.Ways.{When}
 
 -- a step, and another one behind it
 when-by : {A B : Type 0} (P : A → Type 0) (Q : B → Type 0) (r : Result A Stop) (d : Did A) (rest : A → Now → Did B) → When P r → ((a : A) (T : Now) → P a → When Q (rest a T).answer) → When Q (next_by r d rest).answer
