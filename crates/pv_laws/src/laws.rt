@@ -7,7 +7,7 @@ ghost use Rattle.pv_inst.specs.WellFormed.{IsWellFormed};
 ghost use Rattle.pv_typed.specs.Tables.{Stored};
 ghost use Rattle.pv_eval.specs.States.{end_of};
 ghost use Rattle.pv_exec.specs.Laws.{run_at};
-ghost use Rattle.pv_exec.specs.Laying.{table_at, LieApart, IsLaidOut, HasNoEmptyTag};
+ghost use Rattle.pv_exec.specs.Laying.{table_at, LieApart, IsLaidOut, BytesAreOfLive, HasNoEmptyTag};
 ghost use Rattle.pv_exec.specs.Staying.{InstancesRemain, PairsSettle};
 
 /// A law: two different storage instances that live share no byte (C17 6.2.4p2), whatever the unit, the script and the sides are.
@@ -24,6 +24,13 @@ pub fn memory_is_well_formed()
         IsLaidOut (table_at (end_of (run_at u sides zap script n))) }
     ensures formed { (u : Stored) (sides : Option (List Bool)) (zap : Bool) (script : List ScriptLine) (n : ℕ) → HasNoEmptyTag u →
         IsWellFormed (table_at (end_of (run_at u sides zap script n))) }
+{}
+
+/// A law: the addresses that have bytes are exactly those in live storage instances (C17 6.2.4p2, 6.2.6.1p2), and each provenance
+/// name in a byte is of what was made, whatever the unit, the script and the sides are.
+pub fn bytes_are_of_live_instances()
+    ensures bytes { (u : Stored) (sides : Option (List Bool)) (zap : Bool) (script : List ScriptLine) (n : ℕ) →
+        BytesAreOfLive (end_of (run_at u sides zap script n)) }
 {}
 
 /// A law: what was made is there ever after, under its number. No instance moves or changes its size, none that has ended lives
