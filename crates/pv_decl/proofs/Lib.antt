@@ -5,3 +5,4 @@ pub mod Held
 pub mod Looping
 pub mod Valued
 pub mod Sparsed
+pub mod Words

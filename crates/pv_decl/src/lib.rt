@@ -11,6 +11,7 @@ mod reading;
 mod sparse;
 mod type_table;
 mod values;
+mod word_names;
 
 pub use parser::declaration;
 pub use pv_tree::NoMemory;

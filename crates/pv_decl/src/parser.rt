@@ -13,6 +13,7 @@ ghost use Rattle.pv_decl.specs.Sources.{IsReady};
 
 use crate::declarations::Declarations;
 use crate::lists::ParameterLists;
+use crate::word_names::alone;
 use indexmap::IndexSet;
 use pv_decl_forms::{
     Form, Part, Sign, after, declaration_of, opens_block, parameter_of, type_name_of,
@@ -124,8 +125,8 @@ impl<R: TypeReader> Declarations<'_, R> {
         self.specified(next, &specs, line, depth - 1, into)
     }
 
-    /// The type name at a place, and the place behind it (C17 6.7.7).
-    pub(crate) fn type_name(
+    // The type name at a place, and the place behind it (C17 6.7.7), by its specifiers and its declarator.
+    fn specified_name(
         &self,
         at: u32,
         depth: u32,
@@ -141,6 +142,22 @@ impl<R: TypeReader> Declarations<'_, R> {
         }
         let declarator = self.read(Part::Declarator(Form::Abstract), next, depth, into)?;
         type_name_of(self.source.tokens, next, &specs, declarator, line, into)
+    }
+
+    /// The type name at a place, and the place behind it (C17 6.7.7). Most are one word, as in a cast to `int`.
+    pub(crate) fn type_name(
+        &self,
+        at: u32,
+        depth: u32,
+        into: &mut Unit,
+    ) -> Result<Option<(NodeId, u32)>, NoMemory>
+        requires { IsReady R.types self.now into.old at }
+        ensures { ReadsFrom self.now.source at into.old into.new is_declaration result (type_name (known_names R.types self.now.source into.old) depth) }
+    {
+        match alone(self.source.tokens, at) {
+            Some((token, next)) => self.word_name(at, token, next, into),
+            None => self.specified_name(at, depth, into),
+        }
     }
 }
 

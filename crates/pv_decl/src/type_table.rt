@@ -17,10 +17,13 @@ use crate::sparse::Sparse;
 use indexmap::IndexSet;
 use pv_decl_forms::DEPTH_LIMIT;
 use pv_expr_forms::{Source, begins_type, is_open, peek};
-use pv_token::{NoMemory, Tokens};
+use pv_token::{Mark, NoMemory, TokenKind, Tokens};
 use pv_tree::{NodeId, TypeReader, Unit};
 use std::alloc::Global;
 use std::marker::Model;
+
+/// So many tokens are few for a list of parameters and the `)` behind it.
+const FEW: u32 = 8;
 
 /// The type names that begin at places behind a `(` (C17 6.7.7).
 #[derive(Drop)]
@@ -121,7 +124,32 @@ fn entry(
     declarations.type_name(at, DEPTH_LIMIT, into)
 }
 
-// The list of parameters at a place, if `(` is before it and a parameter may begin there, as an abstract declarator.
+// Whether few tokens stand at a place before a `)`, and none of them opens a bracket. A list of parameters there has none
+// within, so whoever asks for it reads it in a few steps; and most who open such a parenthesis, as casts do, ask for none.
+// Every answer is right, since a list that isn't known is read.
+fn closes_soon(t: &Tokens, at: u32) -> bool
+    requires { at ≤ length t.now.tokens }
+{
+    let mut next = at;
+    let mut left = FEW;
+    while left > 0 {
+        let Some(token) = peek(t, next) else {
+            return false;
+        };
+        match token.kind {
+            TokenKind::Mark(Mark::CloseParen) => return true,
+            TokenKind::Mark(Mark::OpenParen | Mark::OpenBracket | Mark::OpenBrace) => return false,
+            _ => {
+                next += 1;
+                left -= 1;
+            }
+        }
+    }
+    false
+}
+
+// The list of parameters at a place, as an abstract declarator, if `(` is before it, a parameter may begin there and the
+// list may be long.
 fn list_entry(
     t: &Tokens,
     at: u32,
@@ -139,6 +167,9 @@ fn list_entry(
         return Ok(None);
     }
     if !begins_type(t, types, at) {
+        return Ok(None);
+    }
+    if closes_soon(t, at) {
         return Ok(None);
     }
     let source = Source {

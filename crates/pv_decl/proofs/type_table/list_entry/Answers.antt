@@ -38,3 +38,12 @@ returns-in_err-parameters-clause-ok c = IfOk-from_err _ _ c.from_residual.ensure
 
 pub returns-clause-keeps : goal.returns-clause-keeps
 returns-clause-keeps c = c.parameters.ensures.keeps
+
+pub closes_soon-requires : goal.closes_soon-requires
+closes_soon-requires c = c.requires.place
+
+pub returns-then-closes_soon-clause-keeps : goal.returns-then-closes_soon-clause-keeps
+returns-then-closes_soon-clause-keeps c = extends_same _
+
+pub returns-then-closes_soon-clause-ok : goal.returns-then-closes_soon-clause-ok
+returns-then-closes_soon-clause-ok c = tt
