@@ -10,7 +10,7 @@ ghost use Rattle.pv_serve.specs.Outside.{Halls, sunk, halls};
 ghost use Rattle.pv_serve.specs.Judging.{IsJudged, IsCutOff, nothing_shown, verdict_of, UnitJudged, UnitCutOff, HasFault};
 
 use crate::NoMemory;
-use crate::judging::{Judgement, run_unit};
+use crate::judging::{Judgement, let_go, run_unit};
 use crate::loading::{Loaded, load};
 use crate::words::Task;
 use pv_describe::{check_text, layout_text};
@@ -69,26 +69,30 @@ fn judge_unit<O: Sink>(
     match task {
         Task::Run { bound, zap } => run_watched(alloc, unit, lines, bound, zap, out, hall),
         Task::Settle { bound, zap } => run_settled(alloc, unit, lines, bound, zap, sides, out),
-        Task::Check => checked(alloc, &unit),
-        Task::Layout => laid_out(alloc, &unit),
+        Task::Check => checked(alloc, unit, lines),
+        Task::Layout => laid_out(alloc, unit, lines),
     }
 }
 
-// A unit is described by how many declarations it has.
-fn checked(alloc: Global, unit: &TypedUnit) -> Result<Judgement, RunError>
-    ensures described { IfOk result (λ j. verdict_of j nothing_shown ≡ Described (describing.check_text (whole unit.now))) }
+// A unit is described by how many declarations it has, whatever its script says.
+fn checked(alloc: Global, unit: TypedUnit, _lines: Script) -> Result<Judgement, RunError>
+    ensures described { IfOk result (λ j. verdict_of j nothing_shown ≡ Described (describing.check_text (whole unit))) }
     ensures memory { IfErr result (λ e. e ≡ RunError.NoMemory) }
 {
-    described(check_text(alloc, unit))
+    let text = check_text(alloc, &unit);
+    let_go(unit);
+    described(text)
 }
 
-// A unit is described by the layouts of its types with a tag.
-fn laid_out(alloc: Global, unit: &TypedUnit) -> Result<Judgement, RunError>
-    requires { IsFit unit.now }
-    ensures described { IfOk result (λ j. verdict_of j nothing_shown ≡ Described (describing.layout_text (whole unit.now))) }
+// A unit is described by the layouts of its types with a tag, whatever its script says.
+fn laid_out(alloc: Global, unit: TypedUnit, _lines: Script) -> Result<Judgement, RunError>
+    requires { IsFit unit }
+    ensures described { IfOk result (λ j. verdict_of j nothing_shown ≡ Described (describing.layout_text (whole unit))) }
     ensures memory { IfErr result (λ e. e ≡ RunError.NoMemory) }
 {
-    described(layout_text(alloc, unit))
+    let text = layout_text(alloc, &unit);
+    let_go(unit);
+    described(text)
 }
 
 // A unit is described by this text.
