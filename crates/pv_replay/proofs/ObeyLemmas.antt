@@ -10,7 +10,7 @@ use Rattle.pv_eval.specs.States.{Res, end_of}
 use Rattle.pv_exec.specs.Outlets.{event_of}
 use Rattle.pv_exec.specs.Words.{FitsWords}
 use Rattle.pv_serve.specs.Readings.{Program}
-use Rattle.pv_serve.specs.Loading.{IsFit}
+use Rattle.pv_serve.specs.Fitting.{IsFit}
 use Rattle.pv_serve.specs.Comes.{Comes}
 use Rattle.pv_serve.specs.Judged.{IsRunBy}
 use Rattle.pv_serve.proofs.ComesLemmas.{program_typed}

@@ -84,7 +84,7 @@ comes_to_some source = elim (either_error source) as (λ _. (r : Reading) × Com
 
 -- ---- a source that is a program has tokens, and they spell a unit that has this typing
 
-unit_typed : (tokens : Table) (ds : List DeclarationTree) (unit : WholeUnit) → UnitComes tokens ds (Program unit) → checked.UnitComes tokens ds (checked.Typed unit)
+pub unit_typed : (tokens : Table) (ds : List DeclarationTree) (unit : WholeUnit) → UnitComes tokens ds (Program unit) → checked.UnitComes tokens ds (checked.Typed unit)
 unit_typed tokens ds unit (Breaks index h e) = absurd cc
 unit_typed tokens ds unit (Lacks name h e) = absurd cc
 unit_typed tokens ds unit (Mainless h e) = absurd cc

@@ -14,6 +14,7 @@ pub mod Owed
 pub mod Replies
 pub mod Replying
 pub mod Judging
+pub mod Fitting
 pub mod Loading
 pub mod Settling
 pub mod Answer

@@ -1,5 +1,5 @@
 -- A bridge: what a source with its script is, before anything is done with it: a program with a reading of its script, or a refusal.
-use Rattle.std.specs.Prelude.{◌≡◌, ◌≢◌, ℕ, Bool, ◌≤◌, List, length, Option, Ok, Result, Err, is_some, IsTrue, [], take, drop, slice_get, Some}
+use Rattle.std.specs.Prelude.{◌≡◌, ◌≢◌, ℕ, Bool, ◌≤◌, List, length, Option, Ok, Result, Err, [], take, drop, slice_get, Some}
 use Rattle.pv_token.specs.Table.{Table}
 use Rattle.pv_lex.specs.declared.error.LexError.{LexError}
 use Rattle.pv_lex.specs.declared.error.LexError.TheVariants as lexical
@@ -9,12 +9,8 @@ use Rattle.pv_script.specs.declared.scripts.ScriptError.TheVariants as script
 use Rattle.pv_script.specs.Lines.{ScriptLine}
 use Rattle.pv_script.specs.Scripts.{script_of}
 use Rattle.pv_typed.specs.Tables.{Stored, whole}
-use Rattle.pv_typed.specs.Known.{AreKnown}
-use Rattle.pv_typed.specs.Mains.{main_of}
-use Rattle.pv_describe.specs.Bounds.{AreSmall}
 use Rattle.pv_unit.specs.declared.checking.CheckError.{CheckError}
 use Rattle.pv_unit.specs.declared.checking.CheckError.TheVariants as typing
-use Rattle.pv_exec.specs.Laying.{HasNoEmptyTag}
 use Rattle.pv_serve.specs.declared.words.Task.{Task}
 use Rattle.pv_serve.specs.declared.checking.Refused as declared
 use Rattle.pv_serve.specs.declared.loading.Loaded.{Loaded}
@@ -23,6 +19,7 @@ use Rattle.pv_serve.specs.Verdicts.{Refused, Script, Refusal, Size, Byte, Token,
 use Rattle.pv_serve.specs.Readings.{Program, Reading, Bad}
 use Rattle.pv_serve.specs.Comes.{Comes, source_limit}
 use Rattle.pv_serve.specs.Judged.{Judged}
+use Rattle.pv_serve.specs.Fitting.{IsFit}
 use Rattle.pv_serve.specs.declared.checking.Refused.TheVariants as refused
 
 -- 6.4: the refusal for a lexical fault, with its word (6.4.1p1). Want of memory is none: what stands for it is never answered.
@@ -83,14 +80,6 @@ pub record IsSourceRefused (source text : List ℕ) (why : declared.Refused) : T
 pub record IsScriptRefused (source text : List ℕ) (why : ScriptError) : Type 0 where
   pub judged : (t : Task) (sides : Option (List Bool)) → Judged source text t sides (Script why)
   pub some : why ≢ script.NoMemory
-
--- 6.9: tables that can be run and described: what they name is there, `main` is defined (5.1.2.2.1), no type is too large (5.2.4.1), and each structure
--- and union has a byte (6.7.2.1p8)
-pub record IsFit (unit : Stored) : Type 0 where
-  pub known : AreKnown unit
-  pub main : IsTrue (is_some (main_of (whole unit)))
-  pub small : AreSmall unit.known
-  pub filled : HasNoEmptyTag unit
 
 -- 6.9: a source that is the program which these tables stand for, with a script of addresses (the memory model) that has these lines
 pub record IsLoadedProgram (source text : List ℕ) (unit : Stored) (lines : List ScriptLine) : Type 0 where

@@ -17,7 +17,8 @@ use Rattle.pv_exec.specs.Stages.{stage_of}
 use Rattle.pv_exec.specs.Words.{FitsWords}
 use Rattle.pv_serve.specs.declared.judging.Judgement.{Judgement}
 use Rattle.pv_serve.specs.declared.judging.Judgement.TheVariants as judgement
-use Rattle.pv_serve.specs.Loading.{IsFit, IsSourceRefused, IsScriptRefused}
+use Rattle.pv_serve.specs.Fitting.{IsFit}
+use Rattle.pv_serve.specs.Loading.{IsSourceRefused, IsScriptRefused}
 use Rattle.pv_serve.specs.Judged.{IsToRun, IsRunBy}
 use Rattle.pv_serve.specs.Outside.{Sunk, Wrote, WrotePrefix, Halls}
 use Rattle.pv_serve.specs.Judging.{LeftPart}

@@ -5,7 +5,7 @@ ghost use Rattle.pv_describe.specs.Describing as describing;
 ghost use Rattle.pv_exec.specs.Answering.{highs};
 ghost use Rattle.pv_serve.specs.ReadWords.{IsTask, IsBound};
 ghost use Rattle.pv_serve.specs.Verdicts.{Described};
-ghost use Rattle.pv_serve.specs.Loading.{IsFit};
+ghost use Rattle.pv_serve.specs.Fitting.{IsFit};
 ghost use Rattle.pv_serve.specs.Outside.{Halls, sunk, halls};
 ghost use Rattle.pv_serve.specs.Judging.{IsJudged, IsCutOff, nothing_shown, verdict_of, UnitJudged, UnitCutOff, HasFault};
 

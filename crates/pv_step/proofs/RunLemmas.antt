@@ -17,7 +17,8 @@ use Rattle.pv_exec.specs.Outlets.{event_of}
 use Rattle.pv_exec.specs.Words.{FitsWords}
 use Rattle.pv_exec.specs.declared.program.Ran.{Ran}
 use Rattle.pv_serve.specs.Readings.{Program}
-use Rattle.pv_serve.specs.Loading.{IsFit, refusal_of}
+use Rattle.pv_serve.specs.Fitting.{IsFit}
+use Rattle.pv_serve.specs.Loading.{refusal_of}
 use Rattle.pv_serve.specs.Comes.{Comes}
 use Rattle.pv_serve.specs.Judged.{IsRunBy}
 use Rattle.pv_serve.proofs.ComesLemmas.{program_typed}

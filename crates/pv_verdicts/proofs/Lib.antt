@@ -7,3 +7,4 @@ pub mod Requests
 pub mod Outcomes
 pub mod Programs
 pub mod ExactlyOne
+pub mod Checked
