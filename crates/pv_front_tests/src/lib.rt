@@ -1,8 +1,9 @@
 //! The front side as its users call it: sources that are cut into tokens, trees that are made and read back, sources that
 //! are read and typed.
 //!
-//! Each test makes some calls in a row and compares what they answer, so that a body that only gives up is noticed. Tables
-//! of many sources stand in `layer-tests`; they run unproved.
+//! A test makes what functions borrow that make some calls in a row and say whether their answers are right, so that a body
+//! that only gives up is noticed: want of memory is `false` too. Tables of many sources stand in `layer-tests`; they run
+//! unproved.
 #![tactic(auto)]
 
 #[cfg(test)]

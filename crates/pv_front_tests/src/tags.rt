@@ -1,22 +1,23 @@
 // A structure's tag in a typed unit, from its first mention on.
-ghost use Rattle.std.specs.Prelude.{◌<◌, ◌≡◌, [], IsTrue, length};
+ghost use Rattle.std.specs.Prelude.{◌<◌, ◌≡◌, [], IfSome, IsTrue, length};
 ghost use Rattle.pv_types.specs.Formed.{members_in};
-ghost use Rattle.pv_typed.specs.Formed.{Grown};
 ghost use Rattle.pv_front_tests.specs.Ready.{IsReady};
 
-use pv_num::IntKind;
 use pv_typed::TypedUnit;
 use pv_types::{Member, Term, TypeId};
 use std::alloc::Global;
 use std::process::Abort;
 
 /// The number of a structure's tag, beside a type that is there.
-fn new_tag(rt: &impl Abort, u: &mut TypedUnit, int: TypeId) -> u32
+fn new_tag(u: &mut TypedUnit, int: TypeId) -> Option<u32>
     requires { IsReady u.old int }
     ensures ready { IsReady u.new int }
-    ensures tag { result < length u.new.known.tags }
+    ensures tag { IfSome result (λ n. n < length u.new.known.tags) }
 {
-    u.tag(None, false).expect(rt, "no memory")
+    let Ok(n) = u.tag(None, false) else {
+        return None;
+    };
+    Some(n)
 }
 
 /// Whether the tag has no members yet.
@@ -28,33 +29,54 @@ fn is_open(u: &TypedUnit, tag: u32) -> bool
 }
 
 /// Gives a tag without members one of the type.
-fn fill(rt: &impl Abort, alloc: Global, u: &mut TypedUnit, tag: u32, int: TypeId)
+fn is_filled(alloc: Global, u: &mut TypedUnit, tag: u32, int: TypeId) -> bool
     requires ready { IsReady u.old int }
     requires tag { tag < length u.old.known.tags }
-    ensures { Grown u.old u.new }
 {
-    assert!(rt; u.types().is_complete(int));
-    assert!(rt; is_open(u, tag));
-    let members = vec![in alloc; Member { name: 0, t: int }].expect(rt, "no memory");
+    if !u.types().is_complete(int) {
+        return false;
+    }
+    if !is_open(u, tag) {
+        return false;
+    }
+    let Ok(members) = vec![in alloc; Member { name: 0, t: int }] else {
+        return false;
+    };
     u.complete(tag, members);
+    u.types().members(tag).len() == 1
 }
 
 /// `struct { int n; };`
-#[test]
-fn a_tag_is_completed(rt: HostRuntime) {
-    let mut u = TypedUnit::new(rt.alloc()).expect(&rt, "no memory");
-    let int = u.intern(Term::Int(IntKind::Int)).expect(&rt, "no memory");
-    let tag = new_tag(&rt, &mut u, int);
-    fill(&rt, rt.alloc(), &mut u, tag, int);
-    assert!(rt; u.types().members(tag).len() == 1);
+fn is_completed(alloc: Global, u: &mut TypedUnit, int: TypeId) -> bool
+    requires { IsReady u.old int }
+{
+    match new_tag(u, int) {
+        Some(tag) => is_filled(alloc, u, tag, int),
+        None => false,
+    }
 }
 
-/// The type of a structure is the first with a tag.
-#[test]
-fn a_structure_is_listed(rt: HostRuntime) {
-    let mut u = TypedUnit::new(rt.alloc()).expect(&rt, "no memory");
-    let tag = u.tag(None, false).expect(&rt, "no memory");
-    let s = u.intern(Term::Struct(tag)).expect(&rt, "no memory");
-    u.add_tag(s).expect(&rt, "no memory");
-    assert!(rt; u.tags() == [s].as_slice());
+/// The type of a structure, the first with a tag.
+fn is_listed(u: &mut TypedUnit, int: TypeId) -> bool
+    requires { IsReady u.old int }
+    ensures { IsReady u.new int }
+{
+    let Ok(tag) = u.tag(None, false) else {
+        return false;
+    };
+    let Ok(s) = u.intern(Term::Struct(tag)) else {
+        return false;
+    };
+    match u.add_tag(s) {
+        Ok(()) => u.tags() == [s].as_slice(),
+        Err(_) => false,
+    }
+}
+
+/// Two tags.
+pub(crate) fn has_tags(rt: &impl Abort, alloc: Global, u: &mut TypedUnit, int: TypeId)
+    requires { IsReady u.old int }
+{
+    assert!(rt; is_listed(u, int));
+    assert!(rt; is_completed(alloc, u, int));
 }
