@@ -7,4 +7,3 @@ pub mod Requests
 pub mod Outcomes
 pub mod Programs
 pub mod ExactlyOne
-pub mod Checked

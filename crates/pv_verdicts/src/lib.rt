@@ -2,9 +2,7 @@
 #![tactic(auto)]
 
 mod endings;
-mod rules;
 mod verdicts;
 
 pub use endings::every_run_has_an_outcome;
-pub use rules::what_is_run_meets_no_guard;
 pub use verdicts::exactly_one_verdict;

@@ -41,3 +41,4 @@ pub mod UnitEnd
 pub mod TokenCharacters
 pub mod SourceTokens
 pub mod LexedTokens
+pub mod CheckedSources

@@ -6,7 +6,9 @@
 #![tactic(auto)]
 
 mod laws;
+mod rules;
 
 pub use laws::{
     checked_sources_meet_no_guard, typed_expressions_are_well_typed, typed_units_are_well_typed,
 };
+pub use rules::what_is_run_meets_no_guard;

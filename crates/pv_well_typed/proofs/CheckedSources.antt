@@ -22,7 +22,6 @@ use Rattle.pv_serve.specs.Comes.{Comes, BadByte, BadToken, LeftOut, Lexed, Token
 use Rattle.pv_serve.specs.Judged.{IsToRun, IsRunBy}
 use Rattle.pv_serve.specs.Fitting.{IsFit}
 use Rattle.pv_serve.proofs.ComesLemmas.{unit_typed, comes_to_one, source_limit_is}
-use Rattle.pv_verdicts.specs.Endings.{IsProgram}
 
 -- ---- 6.9: a program has tokens, which external declarations spell, and they have this typing
 
@@ -64,7 +63,7 @@ program-same : (v w : WholeUnit) → Program v ≡ Program w → v ≡ w
 program-same v w e = cc
 
 -- 5.1.2: each run of it is that of the rules alone, by whichever tables
-pub run-ruled : (source script : List ℕ) (u : Stored) → Each (λ b. b < 256) source → IsProgram source u → IsFit u → (job : IsToRun source script) (bound : ℕ) (zap : Bool) (sides : Option (List Bool)) (run : Res Worth)
+pub run-ruled : (source script : List ℕ) (u : Stored) → Each (λ b. b < 256) source → Comes source (Program (whole u)) → IsFit u → (job : IsToRun source script) (bound : ℕ) (zap : Bool) (sides : Option (List Bool)) (run : Res Worth)
     → (runs : IsRunBy job.unit job.lines bound zap sides run) → run ≡ plain.run_of (setting_of runs.tables bound sides zap) job.lines
 run-ruled source script u bytes program fit job bound zap sides run runs =
     let s = spelled-source source (whole u) program in
