@@ -58,6 +58,7 @@ fn keep_value(values: &mut Vec<u64>, value: u64) -> u32
 }
 
 /// The short form of a kind. The value of a large constant goes to the end of the list, which has room for it.
+#[inline(always)]
 pub(crate) fn short_kind(values: &mut Vec<u64>, kind: TokenKind) -> ShortKind
     requires few { length values.old.items < 2 ^ 32 }
     requires room { vec_len values.old < vec_capacity values.old }

@@ -98,6 +98,7 @@ fn keep_text(texts: &mut Vec<Vec<u8>>, bytes: Vec<u8>) -> Result<u32, NoMemory>
 }
 
 /// What a token is, its name or its literal kept under a number. The only error is want of memory, which keeps neither.
+#[inline(always)]
 fn keep(
     alloc: Global,
     names: &mut IndexSet<Vec<u8>>,
@@ -156,6 +157,7 @@ impl Tokens {
 
     /// Keeps a token, and the name or the string literal that it stands for. The only error is want of memory, which
     /// changes nothing.
+    #[inline(always)]
     pub fn add_token(
         &mut self,
         alloc: Global,
@@ -186,7 +188,8 @@ impl Tokens {
         self.tokens.len() as u32
     }
 
-    /// Token number `i`, from 0 in the order of the source (C17 6.4p1).
+    /// Token number `i`, from 0 in the order of the source (C17 6.4p1). It is unpacked where it is looked at.
+    #[inline(always)]
     pub fn at(&self, i: u32) -> Token
         requires { i < length self.now.tokens }
         ensures { slice_get self.now.tokens i ≡ Some result }
