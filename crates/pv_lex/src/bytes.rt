@@ -36,6 +36,7 @@ pub(crate) fn is_letter(b: u8) -> bool
 }
 
 /// Is the byte in the class?
+#[inline(always)]
 pub(crate) fn is_in(class: Class, b: u8) -> bool
     ensures { result ≡ is_in class b }
 {
@@ -50,7 +51,8 @@ pub(crate) fn is_in(class: Class, b: u8) -> bool
     }
 }
 
-/// How many bytes at the front are of the class.
+/// How many bytes at the front are of the class, which is mostly known where this is called.
+#[inline(always)]
 pub(crate) fn run(class: Class, text: &[u8]) -> usize
     ensures value { result ≡ run class text.now }
     ensures within { result ≤ length text.now }
