@@ -99,6 +99,7 @@ impl Rows {
     }
 
     /// Keeps one more row.
+    #[inline(always)]
     pub fn push(&mut self, row: Row) -> Result<(), NoMemory>
         requires { length self.old < 2 ^ 32 }
         ensures added { OnOk result (self.new ≡ self.old ++ (row ∷ [])) }

@@ -113,6 +113,7 @@ pub(crate) enum ShortNode {
 }
 
 /// The short form of an integer constant (C17 6.4.4.1), where it has one.
+#[inline(always)]
 fn short_number(value: u64, decimal: bool, unsigned: bool, longs: u8) -> Option<ShortExpr>
     ensures { IfSome result (λ s. long_expr s ≡ expr.Number value decimal unsigned longs) }
 {
@@ -130,6 +131,7 @@ fn short_number(value: u64, decimal: bool, unsigned: bool, longs: u8) -> Option<
 }
 
 /// The short form of an expression, where it has one.
+#[inline(always)]
 fn short_expr(e: Expr) -> Option<ShortExpr>
     ensures { IfSome result (λ s. long_expr s ≡ e) }
 {
@@ -204,6 +206,7 @@ pub(crate) fn long_expr(s: ShortExpr) -> Expr
 }
 
 /// The short form of a declarator, where it has one.
+#[inline(always)]
 fn short_declarator(d: Declarator) -> Option<ShortDeclarator>
     ensures { IfSome result (λ s. long_declarator s ≡ d) }
 {
@@ -262,6 +265,7 @@ pub(crate) fn long_declarator(s: ShortDeclarator) -> Declarator
 }
 
 /// The short form of a specifier.
+#[inline(always)]
 fn short_spec(s: Spec) -> ShortSpec
     ensures { long_spec result ≡ s }
 {
@@ -325,6 +329,7 @@ pub(crate) fn long_spec(s: ShortSpec) -> Spec
 }
 
 /// The short form of a statement, where it has one.
+#[inline(always)]
 fn short_stmt(s: Stmt) -> Option<ShortStmt>
     ensures { IfSome result (λ r. long_stmt r ≡ s) }
 {
@@ -371,6 +376,7 @@ pub(crate) fn long_stmt(s: ShortStmt) -> Stmt
 }
 
 /// The short form of a node, where it has one.
+#[inline(always)]
 pub(crate) fn short_node(node: Node) -> Option<ShortNode>
     ensures node { IfSome result (λ s. (whole : List Node) → long_node whole s ≡ node) }
     ensures among { IfSome result (λ s. (n : ℕ) → IsAmong n s) }

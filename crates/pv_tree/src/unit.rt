@@ -72,7 +72,8 @@ impl Unit {
         self.lists.at(l.0)
     }
 
-    // The node of a number, and what its children are.
+    // The node of a number, and what its children are. Its short form is unpacked where it is looked at.
+    #[inline(always)]
     fn node(&self, n: NodeId) -> Node
         requires { n.0 < length self.now.forest.trees }
         ensures tree { tree_at self.now.forest n ≡ tree_of self.now.forest (tree_line (tree_at self.now.forest n)) result }
@@ -99,7 +100,8 @@ impl Unit {
         self.rows.line(n.0)
     }
 
-    // Adds a node of any kind.
+    // Adds a node of any kind. It is mostly known where this is called, so that nothing is decided by kinds there.
+    #[inline(always)]
     fn add(&mut self, node: Node, line: u32) -> Result<NodeId, NoMemory>
         requires { HasChildren self.old.forest (length self.old.forest.trees) node }
         ensures made { IfOk result (λ n. (self.new ≡ with_tree self.old (tree_of self.old.forest line node)) × (n.0 ≡ length self.old.forest.trees)) }
@@ -115,6 +117,7 @@ impl Unit {
     }
 
     /// Adds an expression (C17 6.5), whose first token stands on `line`.
+    #[inline(always)]
     pub fn add_expr(&mut self, e: Expr, line: u32) -> Result<NodeId, NoMemory>
         requires { HasExprChildren self.old.forest (length self.old.forest.trees) e }
         ensures made { IfOk result (λ n. (self.new ≡ with_tree self.old (OfExpression (expression_of self.old.forest line e))) × (n.0 ≡ length self.old.forest.trees)) }
@@ -124,6 +127,7 @@ impl Unit {
     }
 
     /// Adds a declaration, or a part of one (C17 6.7, 6.9), whose first token stands on `line`.
+    #[inline(always)]
     pub fn add_decl(&mut self, d: Decl, line: u32) -> Result<NodeId, NoMemory>
         requires { HasDeclChildren self.old.forest (length self.old.forest.trees) d }
         ensures made { IfOk result (λ n. (self.new ≡ with_tree self.old (OfDeclaration (declaration_of self.old.forest line d))) × (n.0 ≡ length self.old.forest.trees)) }
@@ -133,6 +137,7 @@ impl Unit {
     }
 
     /// Adds a declarator (C17 6.7.6, 6.7.7), whose first token stands on `line`.
+    #[inline(always)]
     pub fn add_declarator(&mut self, d: Declarator, line: u32) -> Result<NodeId, NoMemory>
         requires { HasDeclaratorChildren self.old.forest (length self.old.forest.trees) d }
         ensures made { IfOk result (λ n. (self.new ≡ with_tree self.old (OfDeclarator (declarator_of self.old.forest line d))) × (n.0 ≡ length self.old.forest.trees)) }
@@ -142,6 +147,7 @@ impl Unit {
     }
 
     /// Adds a specifier (C17 6.7p1), whose first token stands on `line`.
+    #[inline(always)]
     pub fn add_spec(&mut self, s: Spec, line: u32) -> Result<NodeId, NoMemory>
         requires { HasSpecChildren self.old.forest (length self.old.forest.trees) s }
         ensures made { IfOk result (λ n. (self.new ≡ with_tree self.old (OfSpecifier (specifier_of self.old.forest line s))) × (n.0 ≡ length self.old.forest.trees)) }
@@ -151,6 +157,7 @@ impl Unit {
     }
 
     /// Adds an initializer (C17 6.7.9), whose first token stands on `line`.
+    #[inline(always)]
     pub fn add_init(&mut self, i: Init, line: u32) -> Result<NodeId, NoMemory>
         requires { HasInitChildren self.old.forest (length self.old.forest.trees) i }
         ensures made { IfOk result (λ n. (self.new ≡ with_tree self.old (OfInitializer (initializer_of self.old.forest line i))) × (n.0 ≡ length self.old.forest.trees)) }
@@ -160,6 +167,7 @@ impl Unit {
     }
 
     /// Adds a statement, a block or a label (C17 6.8), whose first token stands on `line`.
+    #[inline(always)]
     pub fn add_stmt(&mut self, s: Stmt, line: u32) -> Result<NodeId, NoMemory>
         requires { HasStmtChildren self.old.forest (length self.old.forest.trees) s }
         ensures made { IfOk result (λ n. (self.new ≡ with_tree self.old (OfStatement (statement_of self.old.forest line s))) × (n.0 ≡ length self.old.forest.trees)) }
@@ -169,6 +177,7 @@ impl Unit {
     }
 
     /// The node of an expression (C17 6.5).
+    #[inline(always)]
     pub fn expr(&self, n: NodeId) -> Expr
         requires { Is self.now is_expression n }
         ensures tree { tree_at self.now.forest n ≡ OfExpression (expression_of self.now.forest (tree_line (tree_at self.now.forest n)) result) }
@@ -181,6 +190,7 @@ impl Unit {
     }
 
     /// The node of a declaration, or a part of one (C17 6.7, 6.9).
+    #[inline(always)]
     pub fn decl(&self, n: NodeId) -> Decl
         requires { Is self.now is_declaration n }
         ensures tree { tree_at self.now.forest n ≡ OfDeclaration (declaration_of self.now.forest (tree_line (tree_at self.now.forest n)) result) }
@@ -193,6 +203,7 @@ impl Unit {
     }
 
     /// The node of a declarator (C17 6.7.6, 6.7.7).
+    #[inline(always)]
     pub fn declarator(&self, n: NodeId) -> Declarator
         requires { Is self.now is_declarator n }
         ensures tree { tree_at self.now.forest n ≡ OfDeclarator (declarator_of self.now.forest (tree_line (tree_at self.now.forest n)) result) }
@@ -205,6 +216,7 @@ impl Unit {
     }
 
     /// The node of a specifier (C17 6.7p1).
+    #[inline(always)]
     pub fn spec(&self, n: NodeId) -> Spec
         requires { Is self.now is_specifier n }
         ensures tree { tree_at self.now.forest n ≡ OfSpecifier (specifier_of self.now.forest (tree_line (tree_at self.now.forest n)) result) }
@@ -217,6 +229,7 @@ impl Unit {
     }
 
     /// The node of an initializer (C17 6.7.9).
+    #[inline(always)]
     pub fn init(&self, n: NodeId) -> Init
         requires { Is self.now is_initializer n }
         ensures tree { tree_at self.now.forest n ≡ OfInitializer (initializer_of self.now.forest (tree_line (tree_at self.now.forest n)) result) }
@@ -229,6 +242,7 @@ impl Unit {
     }
 
     /// The node of a statement, a block or a label (C17 6.8).
+    #[inline(always)]
     pub fn stmt(&self, n: NodeId) -> Stmt
         requires { Is self.now is_statement n }
         ensures tree { tree_at self.now.forest n ≡ OfStatement (statement_of self.now.forest (tree_line (tree_at self.now.forest n)) result) }
