@@ -114,6 +114,7 @@ impl Follow {
 }
 
 /// The tightest level that a finished expression belongs to.
+#[inline(always)]
 pub fn rank(e: Expr) -> u8
     ensures { (f : Forest) (line : ℕ) → result ≡ rank (expression_of f line e) }
 {

@@ -13,7 +13,8 @@ ghost use Rattle.pv_expr_forms.specs.Parts.{is_text_next, measures_type, name_ne
 use indexmap::IndexSet;
 use pv_token::{Mark, Token, TokenKind, Tokens, Word};
 
-/// The token at a place, unless the tokens end there.
+/// The token at a place, unless the tokens end there. What of it isn't looked at isn't unpacked.
+#[inline(always)]
 pub fn peek(tokens: &Tokens, at: u32) -> Option<Token>
     requires { at ≤ length tokens.now.tokens }
     ensures { MatchOption result (drop at tokens.now.tokens ≡ []) (λ t. (drop at tokens.now.tokens ≡ t ∷ drop (at + 1) tokens.now.tokens) × (at < length tokens.now.tokens) × (at + 1 < 2 ^ 32)) }
