@@ -55,6 +55,7 @@ pub fn may_go_on(unit: &Unit, n: NodeId, below: u32) -> bool
 }
 
 /// A new declarator that ends at a place.
+#[inline(always)]
 pub fn found_declarator(
     tokens: &Tokens,
     next: u32,
@@ -71,6 +72,7 @@ pub fn found_declarator(
 }
 
 /// A new declaration, or a part of one, that ends at a place.
+#[inline(always)]
 pub fn found_declaration(
     tokens: &Tokens,
     next: u32,
@@ -87,6 +89,7 @@ pub fn found_declaration(
 }
 
 /// A new specifier that ends at a place.
+#[inline(always)]
 pub fn found_specifier(
     tokens: &Tokens,
     next: u32,
@@ -103,6 +106,7 @@ pub fn found_specifier(
 }
 
 /// A new initializer that ends at a place.
+#[inline(always)]
 pub fn found_initializer(
     tokens: &Tokens,
     next: u32,
