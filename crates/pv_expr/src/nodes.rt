@@ -48,6 +48,7 @@ impl Opening {
 }
 
 /// The tightest level that an expression belongs to.
+#[inline(always)]
 pub(crate) fn rank_of(unit: &Unit, n: NodeId) -> u8
     requires { Is unit.now is_expression n }
     ensures { result ≡ rank (expression_at unit.now.forest n) }
@@ -80,6 +81,7 @@ pub(crate) fn line_of(unit: &Unit, n: NodeId) -> u32
 }
 
 /// A new expression that ends at a place.
+#[inline(always)]
 pub(crate) fn found(
     tokens: &Tokens,
     next: u32,
