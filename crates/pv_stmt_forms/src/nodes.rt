@@ -24,6 +24,7 @@ pub fn is_declaration(unit: &Unit, n: NodeId) -> bool
 }
 
 /// A new statement that ends at a place.
+#[inline(always)]
 pub fn found_statement(
     tokens: &Tokens,
     next: u32,
