@@ -112,6 +112,7 @@ pub(crate) fn statement_of(s: ShortStatement) -> TypedStmt
 }
 
 /// The row in 32 bytes, where its node has a short form: then it refers to no whole row.
+#[inline(always)]
 pub(crate) fn short_row(row: Row) -> Option<Packed>
     ensures row { IfSome result (λ k. (whole : List Row) → row_of whole k ≡ row) }
     ensures there { IfSome result (λ k. (n : ℕ) → IsThere n k) }

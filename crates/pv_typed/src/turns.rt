@@ -78,6 +78,7 @@ impl TypedUnit {
     }
 
     /// The turns of a node that is to be added, by those of its operands.
+    #[inline(always)]
     pub(crate) fn turns_with(&self, x: Typed, counts: bool) -> Option<u16>
         requires { HasOperands self.now.rows self.now.lists (length self.now.rows) x }
         ensures { result ≡ capped (turns_in (turns_kept self.now.rows) counts x) }
