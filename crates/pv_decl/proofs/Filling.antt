@@ -1,6 +1,6 @@
 -- A table of type names is filled from the last place back to the first.
 use Rattle.std.proofs.Common.{◌≡◌, ◌≤◌, ◌<◌, ◌+◌, ◌-◌, ◌⊎◌, ℕ, suc, Bool, true, false, cond, List, [], ◌∷◌, ◌++◌, length, drop, Option, Some, None, refl, sym, ap, subst, ◌∙◌, arith, inl, inr, nat_eq}
-use Rattle.std.specs.Prelude.{min, IfSome}
+use Rattle.std.specs.Prelude.{min, IfSome, ◌&&◌}
 use Rattle.std.proofs.Math.Nat.{min-eq_left, min-eq_right}
 use Rattle.std.proofs.lemmas.Bool.Decides.{leb_tells}
 use Rattle.std.proofs.lemmas.List.{length-append, length-drop, drop-drop, drop_all}
@@ -88,17 +88,32 @@ kinds_before (k ∷ ks) (t ∷ ts) rest h = ap (λ (x : TokenKind). x ∷ kinds 
 -- ---- what is read at a place
 
 module _ (names : Names) (tokens : List Token) (at : ℕ) where
-  pub entry_not : is_behind_open tokens at ≡ false → None ≡ entry names depth_limit tokens at
+  entry_not : is_behind_open tokens at ≡ false → None ≡ entry names depth_limit tokens at
   unfolding entry
   entry_not e = rw e refl
 
-  pub entry_typeless : is_behind_open tokens at ≡ true → begins_type names (drop at tokens) ≡ false → None ≡ entry names depth_limit tokens at
+  entry_typeless : is_behind_open tokens at ≡ true → begins_type names (drop at tokens) ≡ false → None ≡ entry names depth_limit tokens at
   unfolding entry depth_limit
   entry_typeless e none = rw e (sym (typeless names 500 (drop at tokens) none))
 
-  pub entry_so : is_behind_open tokens at ≡ true → type_name names 500 (drop at tokens) ≡ entry names depth_limit tokens at
+  entry_so : is_behind_open tokens at ≡ true → type_name names 500 (drop at tokens) ≡ entry names depth_limit tokens at
   unfolding entry depth_limit
   entry_so e = rw e refl
+
+  -- by both at once
+  shut_by : (b : Bool) → is_behind_open tokens at ≡ b → (b && begins_type names (drop at tokens)) ≡ false → None ≡ entry names depth_limit tokens at
+  shut_by true h e = entry_typeless h e
+  shut_by false h e = entry_not h
+
+  opens_by : (b : Bool) → is_behind_open tokens at ≡ b → (b && begins_type names (drop at tokens)) ≡ true → type_name names 500 (drop at tokens) ≡ entry names depth_limit tokens at
+  opens_by true h e = entry_so h
+  opens_by false h e = absurd cc
+
+  pub entry_shut : (is_behind_open tokens at && begins_type names (drop at tokens)) ≡ false → None ≡ entry names depth_limit tokens at
+  entry_shut e = shut_by (is_behind_open tokens at) refl e
+
+  pub entry_opens : (is_behind_open tokens at && begins_type names (drop at tokens)) ≡ true → type_name names 500 (drop at tokens) ≡ entry names depth_limit tokens at
+  entry_opens e = opens_by (is_behind_open tokens at) refl e
 
 -- ---- a table that is filled from a place on
 

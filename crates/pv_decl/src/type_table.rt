@@ -1,7 +1,8 @@
 //! The type names that stand in parentheses.
-ghost use Rattle.std.specs.Prelude.{◌≡◌, ◌<◌, ◌≤◌, ◌⊎◌, ℕ, false, length, drop, None, IfOk, IfSome};
-ghost use Rattle.pv_tree.specs.Tables.{declaration_at, is_declaration, is_declarator, Is, Extends};
-ghost use Rattle.pv_tree.specs.TypeNames.{AreTied};
+ghost use Rattle.std.specs.Prelude.{◌≡◌, ◌<◌, ◌≤◌, ◌&&◌, ◌⊎◌, ℕ, false, length, drop, None, IfOk, IfSome};
+ghost use Rattle.pv_tree.specs.Spells.{begins_type};
+ghost use Rattle.pv_tree.specs.Tables.{Tables, declaration_at, is_declaration, is_declarator, Is, Extends};
+ghost use Rattle.pv_tree.specs.TypeNames.{AreTied, TypeMap};
 ghost use Rattle.pv_tree.specs.Units.{depth_limit};
 ghost use Rattle.pv_expr_forms.specs.Known.{names_in};
 ghost use Rattle.pv_expr_forms.specs.Spelled.{IsSpelled, IsLongest, IsOnly, NothingSpells};
@@ -94,25 +95,31 @@ fn is_behind_open(t: &Tokens, at: u32) -> bool
     }
 }
 
-// The type name at a place, if `(` is before it, and the place behind the type name. Most of what stands in parentheses
-// is none by its first token.
+// Whether `(` is before a place and a type name may begin there: most of what stands in parentheses is none by its first token.
+fn opens_type(t: &Tokens, at: u32, types: &IndexSet<u32>) -> bool
+    requires { at ≤ length t.now.tokens }
+    ensures { (map : TypeMap) (u : Tables) → result ≡ (is_behind_open t.now.tokens at && begins_type (names_in types.now map u t.now.tokens) (drop at t.now.tokens)) }
+{
+    is_behind_open(t, at) && begins_type(t, types, at)
+}
+
+// The type name at a place, if `(` is before it, and the place behind the type name.
 fn entry(
     t: &Tokens,
     at: u32,
+    opens: bool,
     types: &IndexSet<u32>,
     names: &TypeNames,
     lists: &ParameterLists,
     into: &mut Unit,
 ) -> Result<Option<(NodeId, u32)>, NoMemory>
     requires place { at ≤ length t.now.tokens }
+    requires opens { opens ≡ (is_behind_open t.now.tokens at && begins_type (names_in types.now (type_map names.now) into.old t.now.tokens) (drop at t.now.tokens)) }
     requires tied { AreGiven (list_map lists.now) types.now (type_map names.now) into.old t.now.tokens }
     ensures keeps { Extends into.old into.new }
     ensures ok { IfOk result (λ r. Answers into.new is_declaration t.now.tokens r (entry (names_in types.now (type_map names.now) into.old t.now.tokens) depth_limit t.now.tokens at)) }
 {
-    if !is_behind_open(t, at) {
-        return Ok(None);
-    }
-    if !begins_type(t, types, at) {
+    if !opens {
         return Ok(None);
     }
     let source = Source {
@@ -148,11 +155,12 @@ fn closes_soon(t: &Tokens, at: u32) -> bool
     false
 }
 
-// The list of parameters at a place, as an abstract declarator, if `(` is before it, a parameter may begin there and the
-// list may be long.
+// The list of parameters at a place, as an abstract declarator, if a type name may begin there behind a `(`, and the list
+// may be long.
 fn list_entry(
     t: &Tokens,
     at: u32,
+    opens: bool,
     types: &IndexSet<u32>,
     names: &TypeNames,
     lists: &ParameterLists,
@@ -163,10 +171,7 @@ fn list_entry(
     ensures keeps { Extends into.old into.new }
     ensures ok { IfOk result (λ r. IfSome r (λ o. Answers into.new is_declarator t.now.tokens o (parameter_list (names_in types.now (type_map names.now) into.old t.now.tokens) depth_limit (drop at t.now.tokens)))) }
 {
-    if !is_behind_open(t, at) {
-        return Ok(None);
-    }
-    if !begins_type(t, types, at) {
+    if !opens {
         return Ok(None);
     }
     if closes_soon(t, at) {
@@ -223,9 +228,10 @@ pub fn type_names(
     let mut at = end;
     while at > from {
         at -= 1;
-        let found = entry(t, at, types, &names, &lists, into)?;
+        let opens = opens_type(t, at, types);
+        let found = entry(t, at, opens, types, &names, &lists, into)?;
         names.push(found)?;
-        let list = list_entry(t, at, types, &names, &lists, into)?;
+        let list = list_entry(t, at, opens, types, &names, &lists, into)?;
         lists.found.push(list)?;
     }
     Ok(names)

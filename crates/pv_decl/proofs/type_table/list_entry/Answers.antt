@@ -6,23 +6,20 @@ use Rattle.pv_decl.proofs.type_table.list_entry.Goals as goal
 pub returns-clause-ok : goal.returns-clause-ok
 returns-clause-ok c = limited _ _ _ _ _ c.in_ok-parameters.ensures.answer
 
-pub returns-then-not-is_behind_open-clause-keeps : goal.returns-then-not-is_behind_open-clause-keeps
-returns-then-not-is_behind_open-clause-keeps c = extends_same _
+pub returns-then-not-opens-clause-keeps : goal.returns-then-not-opens-clause-keeps
+returns-then-not-opens-clause-keeps c = extends_same _
 
-pub is_behind_open-requires : goal.is_behind_open-requires
-is_behind_open-requires c = c.requires.place
+pub returns-then-not-opens-clause-ok : goal.returns-then-not-opens-clause-ok
+returns-then-not-opens-clause-ok c = tt
 
-pub returns-then-not-is_behind_open-clause-ok : goal.returns-then-not-is_behind_open-clause-ok
-returns-then-not-is_behind_open-clause-ok c = tt
+pub closes_soon-requires : goal.closes_soon-requires
+closes_soon-requires c = c.requires.place
 
-pub returns-then-not-begins_type-clause-keeps : goal.returns-then-not-begins_type-clause-keeps
-returns-then-not-begins_type-clause-keeps c = extends_same _
+pub returns-then-closes_soon-clause-keeps : goal.returns-then-closes_soon-clause-keeps
+returns-then-closes_soon-clause-keeps c = extends_same _
 
-pub returns-then-not-begins_type-clause-ok : goal.returns-then-not-begins_type-clause-ok
-returns-then-not-begins_type-clause-ok c = tt
-
-pub begins_type-requires : goal.begins_type-requires
-begins_type-requires c = c.requires.place
+pub returns-then-closes_soon-clause-ok : goal.returns-then-closes_soon-clause-ok
+returns-then-closes_soon-clause-ok c = tt
 
 pub parameters-requires-clause-ready : goal.parameters-requires-clause-ready
 parameters-requires-clause-ready c = record { place = c.requires.place; tied = c.requires.tied }
@@ -38,12 +35,3 @@ returns-in_err-parameters-clause-ok c = IfOk-from_err _ _ c.from_residual.ensure
 
 pub returns-clause-keeps : goal.returns-clause-keeps
 returns-clause-keeps c = c.parameters.ensures.keeps
-
-pub closes_soon-requires : goal.closes_soon-requires
-closes_soon-requires c = c.requires.place
-
-pub returns-then-closes_soon-clause-keeps : goal.returns-then-closes_soon-clause-keeps
-returns-then-closes_soon-clause-keeps c = extends_same _
-
-pub returns-then-closes_soon-clause-ok : goal.returns-then-closes_soon-clause-ok
-returns-then-closes_soon-clause-ok c = tt

@@ -33,6 +33,12 @@ loop-at-init c =
 pub entry-requires-clause-place : goal.entry-requires-clause-place
 entry-requires-clause-place c = omega (arith, c.loop-at.invariant.filled.inside, c.loop-at.invariant.filled.count)
 
+pub opens_type-opens-requires : goal.opens_type-opens-requires
+opens_type-opens-requires c = omega (arith, c.loop-at.invariant.filled.inside, c.loop-at.invariant.filled.count)
+
+pub entry-requires-clause-opens : goal.entry-requires-clause-opens
+entry-requires-clause-opens c = c.opens_type-opens.ensures (type_map c.loop-at.names) c.loop-at.into
+
 pub entry-requires-clause-tied : goal.entry-requires-clause-tied
 entry-requires-clause-tied c = c.loop-at.invariant.given
 
