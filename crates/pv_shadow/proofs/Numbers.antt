@@ -1,10 +1,12 @@
 -- The steps of the loops that read and write the bytes of a number in a page.
-use Rattle.std.proofs.Common.{◌≡◌, ℕ, zero, suc, ◌+◌, ◌-◌, ◌*◌, ◌/◌, ◌%◌, ◌<◌, true, false, ◌&&◌, List, ◌∷◌, length, map, set, get_or, drop, drop-cons, Option, Some, None, IsSomeAnd, refl, sym, ap, ◌∙◌, subst, arith}
+use Rattle.std.proofs.Common.{◌≡◌, ℕ, zero, suc, ◌+◌, ◌-◌, ◌*◌, ◌/◌, ◌%◌, ◌<◌, true, false, ◌&&◌, ◌==◌, Bool, cond, List, [], ◌∷◌, length, map, set, get_or, drop, drop-cons, Option, Some, None, IsSomeAnd, refl, sym, ap, ◌∙◌, subst, arith}
+use Rattle.std.proofs.lemmas.Option.{same_Some}
 use Rattle.std.specs.FinMap.{insert}
 use Rattle.pv_prov.specs.declared.names.Prov.TheVariants.{Empty}
 use Rattle.pv_shadow.specs.declared.byte.Byte.{Byte}
+use Rattle.pv_shadow.specs.declared.packed.Packed.{Packed}
 use Rattle.pv_shadow.specs.Bytes.{Store, blank, written}
-use Rattle.pv_shadow.specs.Packed.{digit_at, IsNameless}
+use Rattle.pv_shadow.specs.Packed.{digit_at, number_byte, pair_if, IsNameless}
 use Rattle.pv_shadow.specs.Pages.{slot_at, with_slots}
 use Rattle.pv_shadow.specs.Whole.{little_endian, mark_at, plain}
 use Rattle.pv_shadow.specs.Readings.{has_mark, are_marked}
@@ -61,3 +63,27 @@ marked_step bs t k b h e m =
 pub marked_stop : (bs : List Byte) (t k : ℕ) (b : Byte) → k < length bs → b ≡ get_or bs k blank → has_mark b.mark t k ≡ false → false ≡ are_marked (drop k bs) t k
 marked_stop bs t k b h e m =
     sym (marked_next bs t k h ∙ ap (λ (x : Byte). has_mark x.mark t k && are_marked (drop (k + 1) bs) t (k + 1)) (sym e) ∙ ap (λ c. c && are_marked (drop (k + 1) bs) t (k + 1)) m)
+
+-- the marks of the four bytes of one number are those of one store, or none of them is
+each_same : (b : Bool) → (b && true) ≡ ((b && true) && ((b && true) && ((b && true) && ((b && true) && true))))
+each_same true = refl
+each_same false = refl
+
+marked_four : (given : Bool) (m t : ℕ) → has_mark (cond given (Some (m, 0)) None) t 0
+    ≡ (has_mark (cond given (Some (m, 0)) None) t 0 && (has_mark (cond given (Some (m, 1)) None) t 1 && (has_mark (cond given (Some (m, 2)) None) t 2 && (has_mark (cond given (Some (m, 3)) None) t 3 && true))))
+marked_four true m t = each_same (m == t)
+marked_four false m t = refl
+
+pub four_marked : (h : Packed) (bs : List Byte) (t : ℕ) → length bs ≡ 4 → ((k : ℕ) → k < 4 → Some (number_byte h k) ≡ Some (get_or bs k blank)) → has_mark (pair_if (h.kind - 48) h.mark 0) t 0 ≡ are_marked bs t 0
+four_marked h [] t l f = absurd (omega (arith, l))
+four_marked h (x ∷ []) t l f = absurd (omega (arith, l))
+four_marked h (x ∷ y ∷ []) t l f = absurd (omega (arith, l))
+four_marked h (x ∷ y ∷ z ∷ []) t l f = absurd (omega (arith, l))
+four_marked h (x ∷ y ∷ z ∷ w ∷ []) t l f =
+    let a : number_byte h 0 ≡ x = same_Some _ _ (f 0 (omega arith)) in
+    let b : number_byte h 1 ≡ y = same_Some _ _ (f 1 (omega arith)) in
+    let c : number_byte h 2 ≡ z = same_Some _ _ (f 2 (omega arith)) in
+    let d : number_byte h 3 ≡ w = same_Some _ _ (f 3 (omega arith)) in
+    marked_four ((h.kind - 48) == 1) h.mark t
+    ∙ (λ i. has_mark (a i).mark t 0 && (has_mark (b i).mark t 1 && (has_mark (c i).mark t 2 && (has_mark (d i).mark t 3 && true))))
+four_marked h (x ∷ y ∷ z ∷ w ∷ v ∷ bs) t l f = absurd (omega (arith, l))

@@ -186,13 +186,7 @@ past_the_end [] j h = refl
 past_the_end (x ∷ xs) zero h = absurd (omega arith)
 past_the_end (x ∷ xs) (suc j) h = past_the_end xs j (omega arith)
 
--- steps of the loops over the places of a page
-pub fill_step : (xs : List (Option Byte)) (i n k : ℕ) (x : Option Byte) → k < n → with_slots (set xs (i + k) x) (i + (k + 1)) (replicate (n - (k + 1)) x) ≡ with_slots xs (i + k) (replicate (n - k) x)
-fill_step xs i n k x h =
-    let e : n - k ≡ suc (n - (k + 1)) = omega arith in
-    let f : (i + k) + 1 ≡ i + (k + 1) = omega arith in
-    sym (ap (λ t. with_slots xs (i + k) (replicate t x)) e ∙ ap (λ t. with_slots (set xs (i + k) x) t (replicate (n - (k + 1)) x)) f)
-
+-- a step of the loop over the places of a page
 pub write_step : (xs : List (Option Byte)) (i k : ℕ) (bs : List Byte) (d : Byte) → k < length bs → with_slots (set xs (i + k) (Some (get_or bs k d))) (i + (k + 1)) (map Some (drop (k + 1) bs)) ≡ with_slots xs (i + k) (map Some (drop k bs))
 write_step xs i k bs d h =
     let e : suc k ≡ k + 1 = omega arith in

@@ -1,19 +1,5 @@
-use Rattle.std.proofs.Common.{◌∙◌, ◌+◌, ◌-◌, ◌/◌, ap, set, map, Some, arith}
-use Rattle.pv_shadow.specs.Packed.{seen}
-use Rattle.pv_shadow.specs.Pages.{with_slots}
-use Rattle.pv_shadow.specs.Whole.{little_endian, plain}
-use Rattle.pv_shadow.proofs.Numbers.{number_step}
 use Rattle.pv_shadow.proofs.Cells.{seen_length}
 use Rattle.pv_shadow.proofs.page.Page.put_number.Goals as goal
-
-pub loop-k-preserved : goal.loop-k-preserved
-loop-k-preserved c = record {
-  left = ap (λ t. with_slots t (c.args.i + (c.loop-k.k + 1)) (map Some (plain c.args.mark (c.loop-k.k + 1) (little_endian (c.args.n - (c.loop-k.k + 1)) (c.loop-k.rest / 256)))))
-      (c.put.ensures.put ∙ ap (λ o. set (seen c.deref_mut.result.now) (c.args.i + c.loop-k.k) o) (c.pack.ensures.is ∙ ap Some c.plain_byte.ensures))
-      ∙ number_step (seen c.deref_mut.result.now) c.args.i c.args.n c.loop-k.k c.loop-k.rest c.args.mark (omega arith)
-      ∙ ap (λ xs. with_slots (seen xs) (c.args.i + c.loop-k.k) (map Some (plain c.args.mark c.loop-k.k (little_endian (c.args.n - c.loop-k.k) c.loop-k.rest)))) c.deref_mut.ensures.value ∙ c.loop-k.invariant.left;
-  wide = c.put.ensures.long;
-}
 
 pub returns-clause-width : goal.returns-clause-width
 returns-clause-width c = rw (← c.self.view_is) (seen_length c.self.inside.slots.value)

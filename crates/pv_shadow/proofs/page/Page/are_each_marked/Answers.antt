@@ -3,7 +3,7 @@ use Rattle.std.proofs.lemmas.List.{drop_all}
 use Rattle.std.proofs.lemmas.Option.{same_Some, none-some}
 use Rattle.pv_shadow.specs.Readings.{are_marked}
 use Rattle.pv_shadow.proofs.Numbers.{marked_step, marked_stop}
-use Rattle.pv_shadow.proofs.page.Page.is_marked.Goals as goal
+use Rattle.pv_shadow.proofs.page.Page.are_each_marked.Goals as goal
 
 pub returns-in_default : goal.returns-in_default
 returns-in_default c = λ bs l f.

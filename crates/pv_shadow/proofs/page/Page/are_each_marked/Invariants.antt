@@ -3,7 +3,7 @@ use Rattle.pv_shadow.specs.declared.byte.Byte.{Byte}
 use Rattle.pv_shadow.specs.Bytes.{blank}
 use Rattle.pv_shadow.specs.Pages.{slot_at}
 use Rattle.pv_shadow.specs.Readings.{are_marked}
-use Rattle.pv_shadow.proofs.page.Page.is_marked.Given as goal
+use Rattle.pv_shadow.proofs.page.Page.are_each_marked.Given as goal
 
 -- the places so far have their marks
 abbrev pub invariant-loop-k : goal.invariant-loop-k

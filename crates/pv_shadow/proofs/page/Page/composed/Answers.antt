@@ -3,7 +3,7 @@ use Rattle.pv_shadow.specs.Packed.{digit_at, IsNameless}
 use Rattle.pv_shadow.specs.Pages.{slot_at}
 use Rattle.pv_shadow.proofs.Digits.{sum_fits, bound_kept}
 use Rattle.pv_shadow.proofs.Numbers.{digits_more}
-use Rattle.pv_shadow.proofs.page.Page.number.Goals as goal
+use Rattle.pv_shadow.proofs.page.Page.composed.Goals as goal
 
 pub overflow_mul-number : goal.overflow_mul-number
 overflow_mul-number c =

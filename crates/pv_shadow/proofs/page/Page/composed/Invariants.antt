@@ -1,7 +1,7 @@
 use Rattle.std.proofs.Common.{ℕ, ◌+◌, ◌-◌, ◌<◌, ◌≤◌, ◌^◌, IsSomeAnd}
 use Rattle.pv_shadow.specs.Packed.{digit_at, IsNameless}
 use Rattle.pv_shadow.specs.Pages.{slot_at}
-use Rattle.pv_shadow.proofs.page.Page.number.Given as goal
+use Rattle.pv_shadow.proofs.page.Page.composed.Given as goal
 
 -- the number so far is that of the bytes from place k on
 abbrev pub invariant-loop-k : goal.invariant-loop-k
