@@ -17,11 +17,14 @@ use Rattle.pv_lex.specs.Bytes.{is_white, is_letter, is_in, run, front, behind, b
 use Rattle.pv_lex.specs.Tables.{row_of, first_row}
 use Rattle.pv_lex.specs.Pieces.{What, White, Comment, Marker, Spelling, Piece, Stand, End, Bad, Here, ◌>>=◌, or_bad, token}
 use Rattle.pv_lex.specs.Words.{words, is_wide, is_quote, keyword_or_name, word_at}
-use Rattle.pv_lex.specs.Constants.{suffixes, sized, fits_constant, number_of, constant_of, number_at, value_from}
-use Rattle.pv_lex.specs.Characters.{character_at, closed_character, character_constant, characters, string_literal}
+use Rattle.pv_lex.specs.Constants.{suffixes, sized, number_of, constant_of, number_at, value_from}
+use Rattle.pv_lex.specs.ConstantParts.{fits_constant}
+use Rattle.pv_lex.specs.Characters.{character_at, character_constant, characters, string_literal}
+use Rattle.pv_lex.specs.CharacterParts.{closed_character}
 use Rattle.pv_lex.specs.Comments.{behind_close, block_comment}
-use Rattle.pv_lex.specs.Markers.{some_of, quoted, groups, marker_piece, marker}
-use Rattle.pv_lex.specs.Marks.{marks, mark_row, mark_at}
+use Rattle.pv_lex.specs.Markers.{some_of, quoted, groups, marker}
+use Rattle.pv_lex.specs.MarkerParts.{marker_piece, mark_row}
+use Rattle.pv_lex.specs.Marks.{marks, mark_at}
 use Rattle.pv_lex.specs.Stands.{stands}
 use Rattle.pv_lex.specs.Rows.{Place, Row, spelt, spelt_here, behind_piece}
 

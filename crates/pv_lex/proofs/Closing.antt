@@ -10,7 +10,8 @@ use Rattle.pv_lex.specs.declared.bytes.Class.TheVariants as class
 use Rattle.pv_lex.specs.Bytes.{line_feeds, run, behind}
 use Rattle.pv_lex.specs.Pieces.{Comment, Piece}
 use Rattle.pv_lex.specs.Comments.{behind_close, block_comment}
-use Rattle.pv_lex.specs.Markers.{behind_name, groups, group_at, behind_line_feed}
+use Rattle.pv_lex.specs.Markers.{behind_name, groups, behind_line_feed}
+use Rattle.pv_lex.specs.MarkerParts.{group_at}
 
 pub eqb_is : (a b : ℕ) → a ≡ b → nat_eq a b ≡ true
 eqb_is a b e = grind (arith, nat_tests)

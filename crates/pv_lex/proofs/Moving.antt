@@ -18,10 +18,12 @@ use Rattle.pv_token.specs.Said.{Said, Text}
 use Rattle.pv_lex.specs.Pieces.{Comment, Piece, Stand, Bad, Here, ◌>>=◌, or_bad, token}
 use Rattle.pv_lex.specs.Words.{words, is_wide, is_quote, keyword_or_name, word_at}
 use Rattle.pv_lex.specs.Constants.{constant_of, number_at, value_from}
-use Rattle.pv_lex.specs.Characters.{escapes, numbered, escape_at, character_at, closed_character, character_constant, characters, string_literal}
+use Rattle.pv_lex.specs.Characters.{escapes, numbered, escape_at, character_at, character_constant, characters, string_literal}
+use Rattle.pv_lex.specs.CharacterParts.{closed_character}
 use Rattle.pv_lex.specs.Comments.{behind_close, block_comment}
-use Rattle.pv_lex.specs.Markers.{some_of, behind_name, quoted, behind_line_feed, group_at, groups, marker_piece, marker}
-use Rattle.pv_lex.specs.Marks.{marks, mark_row, mark_at}
+use Rattle.pv_lex.specs.Markers.{some_of, behind_name, quoted, behind_line_feed, groups, marker}
+use Rattle.pv_lex.specs.MarkerParts.{marker_piece, group_at, mark_row}
+use Rattle.pv_lex.specs.Marks.{marks, mark_at}
 use Rattle.pv_lex.specs.Stands.{stands}
 use Rattle.pv_lex.specs.Rows.{line_behind}
 use Rattle.pv_lex.proofs.Runs.{run_within, run_some}

@@ -15,8 +15,9 @@ use Rattle.pv_lex.specs.Pieces.{Comment, Marker, What, Piece, Here, token}
 use Rattle.pv_lex.specs.Constants.{value_from}
 use Rattle.pv_lex.specs.Characters.{character_at, characters, string_literal}
 use Rattle.pv_lex.specs.Comments.{behind_close, block_comment}
-use Rattle.pv_lex.specs.Markers.{some_of, behind_name, quoted, behind_line_feed, group_at, groups, marker_piece, marker}
-use Rattle.pv_lex.specs.Marks.{marks, mark_row, mark_at}
+use Rattle.pv_lex.specs.Markers.{some_of, behind_name, quoted, behind_line_feed, groups, marker}
+use Rattle.pv_lex.specs.MarkerParts.{marker_piece, group_at, mark_row}
+use Rattle.pv_lex.specs.Marks.{marks, mark_at}
 use Rattle.pv_lex.proofs.Runs.{run_within}
 use Rattle.pv_lex.proofs.Moving.{character_leaves, behind_shorter}
 use Rattle.pv_lex.proofs.Closing.{groups_stop}

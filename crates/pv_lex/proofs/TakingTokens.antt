@@ -13,7 +13,8 @@ use Rattle.pv_token.specs.Said.{Said, Character, as_char}
 use Rattle.pv_lex.specs.Pieces.{What, Spelling, Piece, Stand, Bad, Here, token}
 use Rattle.pv_lex.specs.Words.{words, is_wide, is_quote, keyword_or_name, word_at}
 use Rattle.pv_lex.specs.Constants.{constant_of, number_at, value_from}
-use Rattle.pv_lex.specs.Characters.{escapes, numbered, escape_at, character_at, closed_character, character_constant, characters}
+use Rattle.pv_lex.specs.Characters.{escapes, numbered, escape_at, character_at, character_constant, characters}
+use Rattle.pv_lex.specs.CharacterParts.{closed_character}
 use Rattle.pv_lex.proofs.Runs.{run_within}
 use Rattle.pv_lex.proofs.Taking.{Takes, takes_then, takes_as, takes_byte, takes_none, split, pick, pass, and_cut, begins_cut, bound, mapped, IsRun, takes_run, run_cut, run_part}
 

@@ -20,7 +20,8 @@ use Rattle.pv_lex.specs.Constants.{number_at}
 use Rattle.pv_lex.specs.Characters.{character_constant, string_literal}
 use Rattle.pv_lex.specs.Comments.{block_comment}
 use Rattle.pv_lex.specs.Markers.{marker}
-use Rattle.pv_lex.specs.Marks.{marks, mark_row, mark_at}
+use Rattle.pv_lex.specs.Marks.{marks, mark_at}
+use Rattle.pv_lex.specs.MarkerParts.{mark_row}
 use Rattle.pv_lex.specs.Stands.{stands}
 use Rattle.pv_lex.specs.Rows.{Place, behind_piece, Row, bytes_of, bytes_of_row}
 use Rattle.pv_lex.specs.Spellings.{IsSpelling, IsLongest}

@@ -10,17 +10,9 @@ use Rattle.pv_lex.specs.Pieces.{Piece, ◌>>=◌, token}
 -- The simple escapes (6.4.4.4p1): the byte behind the backslash, and the byte that it stands for (6.4.4.4p3, 5.2.2p2). The first four stand for themselves.
 unfoldable pub escapes : List (List ℕ × ℕ)
 escapes =
-    (single_quote ∷ [], single_quote) ∷
-    (double_quote ∷ [], double_quote) ∷
-    (codes "?", 63) ∷
-    (backslash ∷ [], backslash) ∷
-    (codes "a", 7) ∷
-    (codes "b", 8) ∷
-    (codes "f", 12) ∷
-    (codes "n", 10) ∷
-    (codes "r", 13) ∷
-    (codes "t", 9) ∷
-    (codes "v", 11) ∷ []
+    (single_quote ∷ [], single_quote) ∷ (double_quote ∷ [], double_quote) ∷ (codes "?", 63) ∷ (backslash ∷ [], backslash) ∷
+    (codes "a", 7) ∷ (codes "b", 8) ∷ (codes "f", 12) ∷ (codes "n", 10) ∷
+    (codes "r", 13) ∷ (codes "t", 9) ∷ (codes "v", 11) ∷ []
 
 -- A character by its number (6.4.4.4p5 and p6): at least one digit, and at most 255, the greatest `unsigned char` (6.4.4.4p9).
 unfoldable pub numbered : (base : ℕ) → (digits after : List ℕ) → Option (ℕ × List ℕ)
@@ -42,13 +34,11 @@ character_at q (b ∷ bs) =
     if nat_eq b backslash then escape_at bs
     else (if nat_eq b line_feed || nat_eq b q then None else Some (b, bs))
 
--- The closing quote of a character constant (6.4.4.4p1).
-abbrev pub closed_character : ℕ × List ℕ → Option Piece
-closed_character x = if begins (λ b. nat_eq b single_quote) x.1 then Some (token (Character (as_char x.0)) (drop 1 x.1)) else None
-
 -- A character constant, behind its first quote: one character, and the closing quote (6.4.4.4p1).
 unfoldable pub character_constant : List ℕ → Option Piece
-character_constant text = character_at single_quote text >>= closed_character
+character_constant text = do
+  x ← character_at single_quote text
+  if begins (λ b. nat_eq b single_quote) x.1 then Some (token (Character (as_char x.0)) (drop 1 x.1)) else None
 
 -- The characters up to the closing quote, at most n of them with it (6.4.5p1).
 unfoldable pub characters : (n : ℕ) → List ℕ → Option (List ℕ × List ℕ)

@@ -1,5 +1,5 @@
 -- Integer constants.
-use Rattle.std.specs.Prelude.{ℕ, ◌+◌, ◌-◌, ◌*◌, ◌^◌, Bool, true, false, if◌then◌else◌, not, ◌&&◌, ◌||◌, List, [], ◌∷◌, drop, Option, Some, None, option_map, nat_eq, nat_lt, codes}
+use Rattle.std.specs.Prelude.{ℕ, ◌+◌, ◌-◌, ◌*◌, ◌^◌, true, false, if◌then◌else◌, not, ◌&&◌, ◌||◌, List, [], ◌∷◌, drop, Option, Some, None, option_map, nat_eq, nat_lt, codes}
 use Rattle.std.specs.List.{starts_with}
 use Rattle.pv_lex.specs.declared.bytes.Class.TheVariants as class
 use Rattle.pv_lex.specs.declared.suffixes.Suffix.{Suffix}
@@ -12,28 +12,17 @@ use Rattle.pv_lex.specs.Pieces.{Piece, ◌>>=◌, token}
 unfoldable pub suffixes : List (List ℕ × Suffix)
 suffixes =
     ([], record { unsigned = false; longs = 0 }) ∷
-    (codes "u", record { unsigned = true; longs = 0 }) ∷
-    (codes "U", record { unsigned = true; longs = 0 }) ∷
-    (codes "l", record { unsigned = false; longs = 1 }) ∷
-    (codes "L", record { unsigned = false; longs = 1 }) ∷
-    (codes "ll", record { unsigned = false; longs = 2 }) ∷
-    (codes "LL", record { unsigned = false; longs = 2 }) ∷
-    (codes "ul", record { unsigned = true; longs = 1 }) ∷
-    (codes "lu", record { unsigned = true; longs = 1 }) ∷
-    (codes "uL", record { unsigned = true; longs = 1 }) ∷
-    (codes "Lu", record { unsigned = true; longs = 1 }) ∷
-    (codes "ull", record { unsigned = true; longs = 2 }) ∷
-    (codes "llu", record { unsigned = true; longs = 2 }) ∷
-    (codes "uLL", record { unsigned = true; longs = 2 }) ∷
-    (codes "LLu", record { unsigned = true; longs = 2 }) ∷
-    (codes "Ul", record { unsigned = true; longs = 1 }) ∷
-    (codes "lU", record { unsigned = true; longs = 1 }) ∷
-    (codes "UL", record { unsigned = true; longs = 1 }) ∷
-    (codes "LU", record { unsigned = true; longs = 1 }) ∷
-    (codes "Ull", record { unsigned = true; longs = 2 }) ∷
-    (codes "llU", record { unsigned = true; longs = 2 }) ∷
-    (codes "ULL", record { unsigned = true; longs = 2 }) ∷
-    (codes "LLU", record { unsigned = true; longs = 2 }) ∷ []
+    (codes "u", record { unsigned = true; longs = 0 }) ∷ (codes "U", record { unsigned = true; longs = 0 }) ∷
+    (codes "l", record { unsigned = false; longs = 1 }) ∷ (codes "L", record { unsigned = false; longs = 1 }) ∷
+    (codes "ll", record { unsigned = false; longs = 2 }) ∷ (codes "LL", record { unsigned = false; longs = 2 }) ∷
+    (codes "ul", record { unsigned = true; longs = 1 }) ∷ (codes "lu", record { unsigned = true; longs = 1 }) ∷
+    (codes "uL", record { unsigned = true; longs = 1 }) ∷ (codes "Lu", record { unsigned = true; longs = 1 }) ∷
+    (codes "ull", record { unsigned = true; longs = 2 }) ∷ (codes "llu", record { unsigned = true; longs = 2 }) ∷
+    (codes "uLL", record { unsigned = true; longs = 2 }) ∷ (codes "LLu", record { unsigned = true; longs = 2 }) ∷
+    (codes "Ul", record { unsigned = true; longs = 1 }) ∷ (codes "lU", record { unsigned = true; longs = 1 }) ∷
+    (codes "UL", record { unsigned = true; longs = 1 }) ∷ (codes "LU", record { unsigned = true; longs = 1 }) ∷
+    (codes "Ull", record { unsigned = true; longs = 2 }) ∷ (codes "llU", record { unsigned = true; longs = 2 }) ∷
+    (codes "ULL", record { unsigned = true; longs = 2 }) ∷ (codes "LLU", record { unsigned = true; longs = 2 }) ∷ []
 
 -- What a digit is worth in any of the bases (6.4.4.1p4): 0 to 9, then A to F, then a to f.
 abbrev pub digit_value : ℕ → ℕ
@@ -44,13 +33,11 @@ unfoldable pub value_from : (base n : ℕ) → List ℕ → ℕ
 value_from base n [] = n
 value_from base n (d ∷ ds) = value_from base (n * base + digit_value d) ds
 
--- Some type of the constant's list holds the value (6.4.4p2, 6.4.4.1p5): a decimal constant without `u` is signed.
-abbrev pub fits_constant : (base value : ℕ) → Suffix → Bool
-fits_constant base value s = nat_lt value (2 ^ 64) && ((not (nat_eq base 10) || s.unsigned) || nat_lt value (2 ^ 63))
-
--- A constant of this value, if some type holds it (6.4.4p2).
+-- A constant of this value, if some type of its list holds it (6.4.4p2, 6.4.4.1p5): a decimal constant without `u` is signed.
 abbrev pub sized : (base value : ℕ) → Suffix → Option Said
-sized base value s = if fits_constant base value s then Some (Number value (nat_eq base 10) s.unsigned s.longs) else None
+sized base value s =
+    if nat_lt value (2 ^ 64) && ((not (nat_eq base 10) || s.unsigned) || nat_lt value (2 ^ 63))
+    then Some (Number value (nat_eq base 10) s.unsigned s.longs) else None
 
 -- At least one digit, and then a suffix (6.4.4.1p1).
 unfoldable pub number_of : (base : ℕ) → (digits suffix : List ℕ) → Option Said

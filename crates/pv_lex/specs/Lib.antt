@@ -3,9 +3,12 @@ pub mod Tables
 pub mod Pieces
 pub mod Words
 pub mod Constants
+pub mod ConstantParts
 pub mod Characters
+pub mod CharacterParts
 pub mod Comments
 pub mod Markers
+pub mod MarkerParts
 pub mod Marks
 pub mod Stands
 pub mod Rows

@@ -27,21 +27,14 @@ abbrev pub behind_line_feed : List ℕ → Option (List ℕ)
 behind_line_feed [] = Some []
 behind_line_feed (b ∷ bs) = if nat_eq b line_feed then Some bs else None
 
--- A flag: white space and then a number (6.10p5).
-abbrev pub group_at : List ℕ → Option (List ℕ × List ℕ)
-group_at text = some_of class.Blank text >>= λ a. some_of class.Digit a.1
-
--- At most n flags, white space, and the end of the line (6.10p2 and p5).
+-- At most n flags, each white space and then a number, white space, and the end of the line (6.10p2 and p5).
 unfoldable pub groups : (n : ℕ) → List ℕ → Option (List ℕ)
 groups zero text = behind_line_feed (behind class.LineTail text)
-groups (suc n) text = option_map_or (λ g. groups n g.1) (group_at text) (behind_line_feed (behind class.LineTail text))
+groups (suc n) text =
+    option_map_or (λ g. groups n g.1) (some_of class.Blank text >>= λ a. some_of class.Digit a.1) (behind_line_feed (behind class.LineTail text))
 
--- The marker of these digits, at most ten of them: a line's number is at most 2147483647 (6.10.4p3), and may be 0 here.
-abbrev pub marker_piece : List ℕ → List ℕ → Option Piece
-marker_piece digits after =
-    if nat_le (length digits) 10 && nat_le (value_from 10 0 digits) 2147483647 then Some (record { what = Marker (value_from 10 0 digits); after = after }) else None
-
--- A line marker, behind its `#` (6.10.4p3 and p4): a number, a file's name, flags, and the end of the line. A flag has two bytes at least, so the length of what is left bounds their count.
+-- A line marker, behind its `#` (6.10.4p3 and p4): a number of at most ten digits, and at most 2147483647, which may be 0 here, a file's name, flags,
+-- and the end of the line. A flag has two bytes at least, so the length of what is left bounds their count.
 unfoldable pub marker : List ℕ → Option Piece
 marker text = do
   a ← some_of class.Blank text
@@ -49,4 +42,5 @@ marker text = do
   b ← some_of class.Blank n.1
   name ← quoted b.1
   after ← groups (length name) name
-  marker_piece n.0 after
+  if nat_le (length n.0) 10 && nat_le (value_from 10 0 n.0) 2147483647 then Some (record { what = Marker (value_from 10 0 n.0); after = after })
+      else None

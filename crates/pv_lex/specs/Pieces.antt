@@ -3,6 +3,7 @@ use Rattle.std.specs.Prelude.{ℕ, List, Option, Some, None, option_and_then}
 use Rattle.pv_token.specs.Said.{Said}
 use Rattle.pv_lex.specs.declared.pieces.Fault.{Fault}
 use Rattle.pv_lex.specs.declared.pieces.Fault.TheVariants as fault
+use Rattle.std.specs.Option.{option_map_or}
 
 -- What a piece of the source is: a byte of white space (6.4p3), a comment with so many line feeds in it (6.4.9), a marker that numbers the next line (6.10.4p3), a token (6.4p1).
 pub data What : Type 0 where
@@ -29,8 +30,7 @@ o >>= f = option_and_then f o
 
 -- A piece, or the fault that none stands here though it began as one (6.4p2).
 abbrev pub or_bad : Option Piece → Stand
-or_bad None = Bad fault.BadToken
-or_bad (Some x) = Here x
+or_bad x = option_map_or Here x (Bad fault.BadToken)
 
 -- A token with what is left behind it (6.4p1).
 abbrev pub token : Said → List ℕ → Piece

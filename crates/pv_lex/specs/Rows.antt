@@ -26,9 +26,8 @@ line_behind (Spelling s) line = line
 -- Only spaces and tabs stand before the place behind a piece, on its line (6.10p2).
 abbrev pub fresh_behind : What → Bool → Bool
 fresh_behind (White b) fresh = nat_eq b line_feed || (fresh && is_in class.Blank b)
-fresh_behind (Comment n) fresh = false
 fresh_behind (Marker n) fresh = true
-fresh_behind (Spelling s) fresh = false
+fresh_behind _ fresh = false
 
 -- The place behind a piece (6.4p4).
 abbrev pub behind_piece : Piece → Place → Place
@@ -50,10 +49,8 @@ bytes_of_row text (x ∷ xs) = bytes_of text x ++ bytes_of_row x.after xs
 
 -- The token that a piece is, if it is one (6.4p1 and p3): white space, comments and markers are none.
 abbrev pub spelt_here : (start line : ℕ) → What → List Spelt
-spelt_here start line (White b) = []
-spelt_here start line (Comment n) = []
-spelt_here start line (Marker n) = []
 spelt_here start line (Spelling s) = record { said = s; start = start; line = line } ∷ []
+spelt_here start line _ = []
 
 -- The tokens among pieces in a row, in a source of this length (6.4p1).
 abbrev pub spelt : (whole : ℕ) → Place → List Piece → List Spelt

@@ -13,50 +13,20 @@ use Rattle.pv_lex.specs.Pieces.{Stand, Here, Bad, token}
 -- The keywords (6.4.1p1): those of the profile, and those that it leaves out.
 unfoldable pub words : List (List ℕ × Option Word)
 words =
-    (codes "break", Some word.Break) ∷
-    (codes "case", Some word.Case) ∷
-    (codes "char", Some word.Char) ∷
-    (codes "const", Some word.Const) ∷
-    (codes "continue", Some word.Continue) ∷
-    (codes "default", Some word.Default) ∷
-    (codes "do", Some word.Do) ∷
-    (codes "else", Some word.Else) ∷
-    (codes "enum", Some word.Enum) ∷
-    (codes "extern", Some word.Extern) ∷
-    (codes "for", Some word.For) ∷
-    (codes "if", Some word.If) ∷
-    (codes "int", Some word.Int) ∷
-    (codes "long", Some word.Long) ∷
-    (codes "return", Some word.Return) ∷
-    (codes "short", Some word.Short) ∷
-    (codes "signed", Some word.Signed) ∷
-    (codes "sizeof", Some word.Sizeof) ∷
-    (codes "static", Some word.Static) ∷
-    (codes "struct", Some word.Struct) ∷
-    (codes "switch", Some word.Switch) ∷
-    (codes "typedef", Some word.Typedef) ∷
-    (codes "union", Some word.Union) ∷
-    (codes "unsigned", Some word.Unsigned) ∷
-    (codes "void", Some word.Void) ∷
-    (codes "while", Some word.While) ∷
-    (codes "_Bool", Some word.Bool) ∷
-    (codes "auto", None) ∷
-    (codes "register", None) ∷
-    (codes "volatile", None) ∷
-    (codes "restrict", None) ∷
-    (codes "inline", None) ∷
-    (codes "goto", None) ∷
-    (codes "float", None) ∷
-    (codes "double", None) ∷
-    (codes "_Alignas", None) ∷
-    (codes "_Alignof", None) ∷
-    (codes "_Atomic", None) ∷
-    (codes "_Complex", None) ∷
-    (codes "_Generic", None) ∷
-    (codes "_Imaginary", None) ∷
-    (codes "_Noreturn", None) ∷
-    (codes "_Static_assert", None) ∷
-    (codes "_Thread_local", None) ∷ []
+    (codes "break", Some word.Break) ∷ (codes "case", Some word.Case) ∷ (codes "char", Some word.Char) ∷
+    (codes "const", Some word.Const) ∷ (codes "continue", Some word.Continue) ∷ (codes "default", Some word.Default) ∷
+    (codes "do", Some word.Do) ∷ (codes "else", Some word.Else) ∷ (codes "enum", Some word.Enum) ∷
+    (codes "extern", Some word.Extern) ∷ (codes "for", Some word.For) ∷ (codes "if", Some word.If) ∷
+    (codes "int", Some word.Int) ∷ (codes "long", Some word.Long) ∷ (codes "return", Some word.Return) ∷
+    (codes "short", Some word.Short) ∷ (codes "signed", Some word.Signed) ∷ (codes "sizeof", Some word.Sizeof) ∷
+    (codes "static", Some word.Static) ∷ (codes "struct", Some word.Struct) ∷ (codes "switch", Some word.Switch) ∷
+    (codes "typedef", Some word.Typedef) ∷ (codes "union", Some word.Union) ∷ (codes "unsigned", Some word.Unsigned) ∷
+    (codes "void", Some word.Void) ∷ (codes "while", Some word.While) ∷ (codes "_Bool", Some word.Bool) ∷
+    (codes "auto", None) ∷ (codes "register", None) ∷ (codes "volatile", None) ∷ (codes "restrict", None) ∷ (codes "inline", None) ∷
+    (codes "goto", None) ∷ (codes "float", None) ∷ (codes "double", None) ∷
+    (codes "_Alignas", None) ∷ (codes "_Alignof", None) ∷ (codes "_Atomic", None) ∷ (codes "_Complex", None) ∷
+    (codes "_Generic", None) ∷ (codes "_Imaginary", None) ∷ (codes "_Noreturn", None) ∷
+    (codes "_Static_assert", None) ∷ (codes "_Thread_local", None) ∷ []
 
 -- `L`, `u`, `U` and `u8` directly before a quote make a wide or Unicode literal (6.4.4.4p1, 6.4.5p1), which the profile leaves out.
 abbrev pub is_wide : List ℕ → Bool

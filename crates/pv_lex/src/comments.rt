@@ -5,7 +5,8 @@ ghost use Rattle.pv_lex.specs.Bytes.{begins, line_feeds};
 ghost use Rattle.pv_lex.specs.Pieces.{Marker, or_bad};
 ghost use Rattle.pv_lex.specs.Views.{stand_of};
 ghost use Rattle.pv_lex.specs.Comments.{block_comment};
-ghost use Rattle.pv_lex.specs.Markers.{some_of, behind_name, quoted, behind_line_feed, group_at, groups, marker_piece, marker};
+ghost use Rattle.pv_lex.specs.Markers.{some_of, behind_name, quoted, behind_line_feed, groups, marker};
+ghost use Rattle.pv_lex.specs.MarkerParts.{marker_piece, group_at};
 
 use crate::bytes::{Class, behind, is_in, run};
 use crate::numbers::value;
