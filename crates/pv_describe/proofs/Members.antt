@@ -14,7 +14,8 @@ use Rattle.pv_types.proofs.Made.{made}
 use Rattle.pv_types.proofs.Placed.{named_place, struct_placed_in, union_placed_in}
 use Rattle.pv_layout.proofs.Ahead.{nobody}
 use Rattle.pv_typed.specs.Tables.{Stored, whole}
-use Rattle.pv_describe.specs.Describing.{member_line, member_lines, source_name, tag_texts}
+use Rattle.pv_describe.specs.Describing.{member_lines, source_name}
+use Rattle.pv_describe.specs.DescribingParts.{member_line, tag_texts}
 
 -- the text so far, and the lines of the members that are left
 abbrev pub struct_left : Stored → (text : List ℕ) (behind : ℕ) → List Member → List ℕ

@@ -6,6 +6,7 @@ use Rattle.pv_types.specs.Known.{heading_at}
 use Rattle.pv_types.specs.Layouts.{Named, Placed, layout_in, look}
 use Rattle.pv_types.specs.Members.{placed_in}
 use Rattle.pv_typed.specs.TypedUnits.{WholeUnit, layouts, name_at}
+use Rattle.std.specs.List.{flat_map}
 
 -- 5.1.1.3: the end of a line
 abbrev pub line_feed : List ℕ
@@ -24,26 +25,19 @@ abbrev pub name_if : WholeUnit → Option ℕ → List ℕ
 name_if u None = []
 name_if u (Some n) = source_name u n
 
--- 6.7.2.3: the name that the tag was made with
-abbrev pub tag_name : WholeUnit → ℕ → List ℕ
-tag_name u tag = name_if u (heading_at u.headings tag).name
-
--- 6.2.6.1p4, 6.2.8p1: `struct` or `union`, the tag's name, how many bytes an object takes, and what its address is a multiple of
-abbrev pub head_line : (word name : List ℕ) → (size align : ℕ) → List ℕ
-head_line word name size align = word ++ name ++ codes " size=" ++ decimal size ++ codes " align=" ++ decimal align ++ line_feed
-
--- 6.7.2.1p15: a member: its name, where it begins, in bytes from the beginning of the whole, and how many bytes it takes
-abbrev pub member_line : (name : List ℕ) → (offset size : ℕ) → List ℕ
-member_line name offset size = codes "  " ++ name ++ codes " offset=" ++ decimal offset ++ codes " size=" ++ decimal size ++ line_feed
-
--- 6.7.2.1p15, p16: the members in their order, each where it begins
+-- 6.7.2.1p15, p16: the members in their order: of each its name, where it begins, in bytes from the beginning of the whole, and how many bytes it
+-- takes
 abbrev pub member_lines : WholeUnit → List (Placed Named) → List ℕ
-member_lines u [] = []
-member_lines u (p ∷ ps) = member_line (source_name u p.member.name) p.offset p.layout.size ++ member_lines u ps
+member_lines u ps =
+    flat_map (λ (p : Placed Named).
+    codes "  " ++ source_name u p.member.name ++ codes " offset=" ++ decimal p.offset ++ codes " size=" ++ decimal p.layout.size ++ line_feed) ps
 
--- 6.2.6.1p4, 6.2.8p1: the first line of a structure or union
+-- 6.2.6.1p4, 6.2.8p1: the first line of a structure or union: `struct` or `union`, the name that its tag was made with (6.7.2.3), how many bytes an
+-- object takes, and what its address is a multiple of
 abbrev pub tag_head : WholeUnit → (word : List ℕ) → ℕ → Ty → List ℕ
-tag_head u word tag t = head_line word (tag_name u tag) (layout_in (layouts u) t).size (layout_in (layouts u) t).align
+tag_head u word tag t =
+    word ++ name_if u (heading_at u.headings tag).name ++ codes " size=" ++ decimal (layout_in (layouts u) t).size ++ codes " align="
+    ++ decimal (layout_in (layouts u) t).align ++ line_feed
 
 -- 6.7.2.1p15, p16: a structure or union: its size and alignment, then its members; what is not complete has no layout (6.7.2.1p8)
 abbrev pub tag_text : WholeUnit → Ty → List ℕ
@@ -53,11 +47,6 @@ tag_text u (UnionTag n) =
     if is_some (look (layouts u) n) then tag_head u (codes "union ") n (UnionTag n) ++ member_lines u (placed_in u.completed (UnionTag n)) else []
 tag_text u _ = []
 
--- the same of several, one after the other
-abbrev pub tag_texts : WholeUnit → List Ty → List ℕ
-tag_texts u [] = []
-tag_texts u (t ∷ ts) = tag_text u t ++ tag_texts u ts
-
--- 6.7.2.3: the structures and unions with a tag that are completed at file scope, in that order
+-- 6.7.2.1p8: the texts of the structures and unions with a tag that are complete at file scope, in their order
 abbrev pub layout_text : WholeUnit → List ℕ
-layout_text u = tag_texts u u.tags
+layout_text u = flat_map (tag_text u) u.tags

@@ -8,6 +8,7 @@ ghost use Rattle.pv_types.specs.Members.{placed_in};
 ghost use Rattle.pv_typed.specs.Tables.{whole};
 ghost use Rattle.pv_typed.specs.Known.{AreKnown};
 ghost use Rattle.pv_describe.specs.Describing as described;
+ghost use Rattle.pv_describe.specs.DescribingParts as described_parts;
 ghost use Rattle.pv_describe.specs.Bounds.{AreSmall};
 
 use crate::lines::{head_line, member_line};
@@ -167,7 +168,7 @@ fn add_union_members(
 /// The name of a structure or union, empty where it has none (C17 6.7.2.3).
 fn tag_name(u: &TypedUnit, tag: u32) -> &[u8]
     requires { tag < length u.now.known.tags }
-    ensures { result.now ≡ described.tag_name (whole u.now) tag }
+    ensures { result.now ≡ described_parts.tag_name (whole u.now) tag }
 {
     match u.types().tag_name(tag) {
         Some(name) => source_name(u, name),

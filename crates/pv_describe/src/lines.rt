@@ -1,6 +1,6 @@
 // The lines of a layout.
 ghost use Rattle.std.specs.Prelude.{◌≡◌, IfOk, codes};
-ghost use Rattle.pv_describe.specs.Describing as described;
+ghost use Rattle.pv_describe.specs.DescribingParts as described_parts;
 
 use pv_types::NoMemory;
 use std::alloc::Global;
@@ -12,7 +12,7 @@ pub(crate) fn member_line(
     offset: u64,
     size: u64,
 ) -> Result<Vec<u8>, NoMemory>
-    ensures { IfOk result (λ v. v.items ≡ described.member_line name.now offset size) }
+    ensures { IfOk result (λ v. v.items ≡ described_parts.member_line name.now offset size) }
 {
     let mut line = Vec::from_slice(alloc, b"  ")?;
     line.extend_from_slice(name)?;
@@ -28,7 +28,7 @@ pub(crate) fn head_line(
     size: u64,
     align: u64,
 ) -> Result<Vec<u8>, NoMemory>
-    ensures { IfOk result (λ v. v.items ≡ described.head_line word.now name.now size align) }
+    ensures { IfOk result (λ v. v.items ≡ described_parts.head_line word.now name.now size align) }
 {
     let mut line = Vec::from_slice(alloc, word)?;
     line.extend_from_slice(name)?;

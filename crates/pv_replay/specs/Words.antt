@@ -1,9 +1,9 @@
 -- What the words of the command line ask for (5.1.2.2.1p2: a program's parameters). Which words there are is this program's own: docs/FORMATS.md
 -- has the rules.
-use Rattle.std.specs.Prelude.{ℕ, List, [], ◌∷◌, length, Option, Some, None, if◌then◌else◌, nat_lt, codes, option_map, option_and_then, unwrap_or}
+use Rattle.std.specs.Prelude.{ℕ, List, [], ◌∷◌, length, Option, Some, None, if◌then◌else◌, nat_lt, codes, option_map, option_and_then, unwrap_or, option_to_list}
 use Rattle.std.specs.Str.{bytes_eq}
-use Rattle.pv_serve.specs.Jobs.{default_turns, files_named}
-use Rattle.pv_serve.specs.Words.{turns_of, once, file_name}
+use Rattle.pv_serve.specs.Jobs.{default_turns}
+use Rattle.pv_serve.specs.Words.{once, file_name, number_to}
 
 -- docs/FORMATS.md, Journals (5.1.2.3): a run: of the source in this file, with the script of addresses in that file, if one is named, and with so many turns at most
 pub record RunJob : Type 0 where
@@ -18,7 +18,7 @@ pub data Job : Type 0 where
 
 -- docs/FORMATS.md, Journals (5.1.2.2.1p2): the names of the files that a job reads
 abbrev pub files_of : Job → List (List ℕ)
-files_of (Write run) = files_named run.file run.script
+files_of (Write run) = run.file ∷ option_to_list run.script
 files_of (Check file) = file ∷ []
 
 -- ---- options
@@ -38,7 +38,7 @@ with_script o word = option_map (λ name. record o { script = Some name }) (once
 
 -- docs/FORMATS.md, Journals (5.1.2.2.1p2): `--turns` with this value, once at most
 abbrev pub with_turns : Options → List ℕ → Option Options
-with_turns o word = option_map (λ n. record o { turns = Some n }) (once o.turns (turns_of word))
+with_turns o word = option_map (λ n. record o { turns = Some n }) (once o.turns (number_to 100000000 word))
 
 -- docs/FORMATS.md, Journals (5.1.2.2.1p2): one option more: its word and its value
 abbrev pub with_option : Options → (name value : List ℕ) → Option Options

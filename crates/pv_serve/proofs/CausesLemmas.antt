@@ -12,7 +12,8 @@ use Rattle.pv_serve.specs.declared.words.Task.{Task}
 use Rattle.pv_serve.specs.declared.judging.Judgement.{Judgement}
 use Rattle.pv_serve.specs.declared.judging.Judgement.TheVariants as judgement
 use Rattle.pv_serve.specs.declared.error.NoMemory.{NoMemory}
-use Rattle.pv_serve.specs.Verdicts.{Verdict, Course, course_of, BeganOutput}
+use Rattle.pv_serve.specs.Verdicts.{Verdict, Course, course_of}
+use Rattle.pv_serve.specs.VerdictParts.{BeganOutput}
 use Rattle.pv_serve.specs.Jobs.{Job, FileJob, Files, Generated, files_of, task_of, sides_of, watched_of, kinds_of}
 use Rattle.pv_serve.specs.Words.{job, generated, file_job, either}
 use Rattle.pv_serve.specs.Comes.{source_limit}
@@ -21,9 +22,10 @@ use Rattle.pv_serve.specs.Outside.{AnyRose, Sunk, SinkRose, Wrote, WrotePrefix, 
 use Rattle.pv_serve.specs.Owed.{Table}
 use Rattle.pv_serve.specs.Replying.{IsHanded}
 use Rattle.pv_serve.specs.Judging.{Shown, verdict_of, IsJudged, IsCutOff}
-use Rattle.pv_serve.specs.Report.{fault_line, words_line, report_line, status_of}
+use Rattle.pv_serve.specs.Report.{report_line, status_of}
 use Rattle.pv_serve.specs.Watching.{AreTold, IsReport, kept_by}
-use Rattle.pv_serve.specs.Answer.{Answer, answer_of, no_job, read_fault, HasReport, OfSource, needed, script_held, SomeVerdict, SomeAnswer, SomeEnd}
+use Rattle.pv_serve.specs.Answer.{Answer, answer_of, read_fault, HasReport, OfSource, needed, SomeVerdict, SomeAnswer, SomeEnd, script_held}
+use Rattle.pv_serve.specs.ReportParts.{no_job, words_line, fault_line}
 use Rattle.pv_serve.specs.Causes.{Call, IsAnswer, WroteReport, WroteOutput, facts_of, Served, kept}
 use Rattle.pv_serve.specs.Serving.{kept_halls, IsSource, IsReportOn, HasStory, SomeReport, Reported, IsTold, Answered, FilesServed, WereRead, WereLost, HadNoRoom}
 use Rattle.pv_serve.proofs.LateLemmas.{right_of}

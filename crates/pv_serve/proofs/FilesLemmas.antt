@@ -1,11 +1,11 @@
 -- What is read of a job's files.
 use Rattle.std.proofs.Common.{◌≡◌, ℕ, zero, suc, ◌+◌, ◌<◌, ◌≤◌, List, [], ◌∷◌, take, length, Bool, true, false, refl, sym, ap, ◌∙◌, subst, arith}
-use Rattle.std.specs.Prelude.{Option, Some, None, IfSome, IfOk, Result, Ok, Err, option_map, Any, Vec, nat_lt, if◌then◌else◌}
+use Rattle.std.specs.Prelude.{Option, Some, None, IfSome, IfOk, Result, Ok, Err, option_map, Any, Vec, nat_lt, if◌then◌else◌, option_to_list}
 use Rattle.std.specs.declared.alloc.Global.{Global}
 use Rattle.std.proofs.lemmas.Bool.{lt-ltb, le-ltb}
 use Rattle.pv_script.specs.Outside.{Rose}
 use Rattle.pv_script.specs.declared.reading.ReadError.{ReadError}
-use Rattle.pv_serve.specs.Jobs.{files_named, script_files}
+use Rattle.pv_serve.specs.Plans.{files_named}
 use Rattle.pv_serve.specs.Comes.{source_limit}
 use Rattle.pv_serve.specs.Judged.{script_limit}
 use Rattle.pv_serve.specs.Answer.{needed, script_held}
@@ -28,10 +28,10 @@ any_map P Q xs f a = (a.0, a.1, a.2, a.3, f a.1 a.4)
 rose_since : (before between now : ℕ) → before ≤ between → Rose between now → Rose before now
 rose_since before between now le rose = omega arith
 
-pub script_rose : (file : List ℕ) (script : Option (List ℕ)) (old mid new : List ℕ → ℕ) → ((n : List ℕ) → old n ≤ mid n) → AnyRose (script_files script) mid new → AnyRose (files_named file script) old new
+pub script_rose : (file : List ℕ) (script : Option (List ℕ)) (old mid new : List ℕ → ℕ) → ((n : List ℕ) → old n ≤ mid n) → AnyRose (option_to_list script) mid new → AnyRose (files_named file script) old new
 script_rose file script old mid new later any =
-    any_later (λ n. Rose (old n) (new n)) file (script_files script)
-    (any_map (λ n. Rose (mid n) (new n)) (λ n. Rose (old n) (new n)) (script_files script) (λ n rose. rose_since (old n) (mid n) (new n) (later n) rose) any)
+    any_later (λ n. Rose (old n) (new n)) file (option_to_list script)
+    (any_map (λ n. Rose (mid n) (new n)) (λ n. Rose (old n) (new n)) (option_to_list script) (λ n rose. rose_since (old n) (mid n) (new n) (later n) rose) any)
 
 one_rose : (name : List ℕ) (old new : List ℕ → ℕ) → Rose (old name) (new name) → Any (λ n. Rose (old n) (new n)) (name ∷ [])
 one_rose name old new rose = any_first (λ n. Rose (old n) (new n)) name [] rose
@@ -117,9 +117,9 @@ script_some {R = R} view o x held r e h =
     subst (λ (p : Option R). IfOk r (λ v. IfSome (script_held (option_map view p) held) (λ all. v.items ≡ take (script_limit + 1) all))) (sym e) (script_if (held (view x)) r h)
 
 pub rose_some : {R : Type 0} (view : R → List ℕ) (o : Option R) (x : R) (old new : List ℕ → ℕ) → o ≡ Some x → Rose (old (view x)) (new (view x))
-    → Any (λ n. Rose (old n) (new n)) (script_files (option_map view o))
+    → Any (λ n. Rose (old n) (new n)) (option_to_list (option_map view o))
 rose_some {R = R} view o x old new e rose =
-    subst (λ (p : Option R). Any (λ n. Rose (old n) (new n)) (script_files (option_map view p))) (sym e) (one_rose (view x) old new rose)
+    subst (λ (p : Option R). Any (λ n. Rose (old n) (new n)) (option_to_list (option_map view p))) (sym e) (one_rose (view x) old new rose)
 
 pub script_none : {R : Type 0} (view : R → List ℕ) (o : Option R) (held : List ℕ → Option (List ℕ)) (bytes : List ℕ) → o ≡ None → bytes ≡ []
     → IfSome (script_held (option_map view o) held) (λ all. bytes ≡ take (script_limit + 1) all)

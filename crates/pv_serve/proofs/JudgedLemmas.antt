@@ -17,7 +17,8 @@ use Rattle.pv_serve.specs.declared.words.Task.TheVariants as task
 use Rattle.pv_serve.specs.Verdicts.{Refusal, Verdict, Ending, Described, Refused, Size, Script}
 use Rattle.pv_serve.specs.Readings.{Reading, Program, Bad}
 use Rattle.pv_serve.specs.Comes.{Comes, source_limit}
-use Rattle.pv_serve.specs.Judged.{Judged, Oversize, Unread, Unfit, Fit, UnitGives, Ends, late_plan, settled_plan}
+use Rattle.pv_serve.specs.Judged.{Judged, Oversize, Unread, Unfit, Fit, UnitGives, Ends}
+use Rattle.pv_serve.specs.Plans.{late_plan, settled_plan}
 use Rattle.pv_serve.specs.OneVerdict.{IsLeftToRun, BothRun}
 use Rattle.pv_serve.proofs.ComesLemmas.{comes_to_one, comes_to_some}
 

@@ -31,10 +31,12 @@ use Rattle.pv_serve.specs.declared.words.Task.TheVariants as task
 use Rattle.pv_serve.specs.declared.judging.Judgement.{Judgement}
 use Rattle.pv_serve.specs.declared.judging.Judgement.TheVariants as judgement
 use Rattle.pv_serve.specs.ReadWords.{IsTask}
-use Rattle.pv_serve.specs.Verdicts.{Verdict, Ending, Settled, Described, Course, course_of, output_of, BeganOutput}
+use Rattle.pv_serve.specs.Verdicts.{Verdict, Ending, Settled, Described, Course, course_of, output_of}
+use Rattle.pv_serve.specs.VerdictParts.{BeganOutput}
 use Rattle.pv_serve.specs.Readings.{Program}
 use Rattle.pv_serve.specs.Comes.{Comes, source_limit}
-use Rattle.pv_serve.specs.Judged.{Judged, Oversize, Unread, Unfit, Fit, UnitGives, IsRunBy, RunEnds, Plan, late_plan, settled_plan, plan_of, SomeRun}
+use Rattle.pv_serve.specs.Judged.{Judged, Oversize, Unread, Unfit, Fit, UnitGives, IsRunBy, RunEnds, Plan, plan_of, SomeRun}
+use Rattle.pv_serve.specs.Plans.{late_plan, settled_plan}
 use Rattle.pv_serve.specs.Outside.{Sunk, Wrote, WrotePrefix, Halls}
 use Rattle.pv_serve.specs.Judging.{Shown, nothing_shown, ending_of, verdict_of, IsJudged, LeftPart, IsCutOff, UnitJudged, UnitRun, UnitCutOff, HasFault}
 use Rattle.pv_serve.specs.LateSettling.{SettlesRight}

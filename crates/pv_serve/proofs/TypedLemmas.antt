@@ -13,7 +13,8 @@ use Rattle.pv_unit.proofs.Answering.{one_answer, some_answer}
 use Rattle.pv_serve.specs.Verdicts.{Constraint, Unresolved, NoMain}
 use Rattle.pv_serve.specs.Readings.{Reading, Program, Bad}
 use Rattle.pv_serve.specs.Loading.{typing_refusal, IsNameOf}
-use Rattle.pv_serve.specs.Comes.{UnitComes, Breaks, Lacks, Mainless, Typed, token_name}
+use Rattle.pv_serve.specs.Comes.{UnitComes, Breaks, Lacks, Mainless, Typed}
+use Rattle.pv_serve.specs.ComesParts.{token_name}
 
 -- what a typing's answer says
 abbrev read_by : Table → Checked → Reading

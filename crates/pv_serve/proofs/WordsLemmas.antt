@@ -6,7 +6,8 @@ use Rattle.std.proofs.lemmas.List.{drop_all, take_all}
 use Rattle.std.specs.declared.alloc.Global.{Global}
 use Rattle.std.proofs.lemmas.Bool.Decides.{nat_tests}
 use Rattle.pv_serve.specs.declared.words.Mode.{Mode}
-use Rattle.pv_serve.specs.Words.{digits_from, up_to, number_to, Options, options, with_option, texts}
+use Rattle.pv_serve.specs.Words.{digits_from, number_to, Options, options, with_option, texts}
+use Rattle.pv_serve.specs.WordParts.{up_to}
 
 if_some : (b : Bool) (o : Option ℕ) (m n : ℕ) → m ≤ n → IfSome o (λ k. n ≤ k) → IfSome (if b then o else None) (λ k. m ≤ k)
 if_some true None m n le h = tt

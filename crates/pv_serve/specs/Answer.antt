@@ -1,5 +1,5 @@
 -- The answer that a source with its script, or words that are no job, must get.
-use Rattle.std.specs.Prelude.{ℕ, Bool, List, [], length, nat_lt, Option, Some, None, IfSome, IsSomeAnd, if◌then◌else◌}
+use Rattle.std.specs.Prelude.{ℕ, Bool, List, [], length, nat_lt, Option, Some, None, IfSome, IsSomeAnd, if◌then◌else◌, ◌++◌, codes}
 use Rattle.pv_watch.specs.Slots.{Slot}
 use Rattle.pv_gen.specs.Source.{source_text}
 use Rattle.pv_eval.specs.States.{State}
@@ -9,7 +9,7 @@ use Rattle.pv_serve.specs.Verdicts.{Verdict, Course, course_of, output_of}
 use Rattle.pv_serve.specs.Comes.{source_limit}
 use Rattle.pv_serve.specs.Judged.{Judged, SomeRun}
 use Rattle.pv_serve.specs.LateSettling.{SettlesRight}
-use Rattle.pv_serve.specs.Report.{status_of, report_line, words_line, fault_line}
+use Rattle.pv_serve.specs.Report.{status_of, report_line, line_feed}
 use Rattle.pv_serve.specs.Watching.{AreTold, IsReport}
 
 -- 7.22.4.4p5: the status that the program ends with, what it prints (5.1.2.3p6), the line of its report (docs/FORMATS.md), and the run that it
@@ -24,13 +24,9 @@ pub record Answer : Type 0 where
 abbrev pub answer_of : Verdict → Answer
 answer_of verdict = record { status = status_of verdict; out = output_of verdict; line = report_line verdict; course = course_of verdict }
 
--- docs/FORMATS.md, Words (5.1.2.2.1p2): the answer to words that are no job
-abbrev pub no_job : Answer
-no_job = record { status = 10; out = []; line = words_line; course = None }
-
--- docs/FORMATS.md, The report (7.21.8.1p3): the answer where a file that the words name could not be read
+-- docs/FORMATS.md, The report (5.1.1.3p1, 7.21.8.1p3): the answer where a file that the words name could not be read
 abbrev pub read_fault : Answer
-read_fault = record { status = 11; out = []; line = fault_line; course = None }
+read_fault = record { status = 11; out = []; line = codes "fault read" ++ line_feed; course = None }
 
 -- docs/FORMATS.md, What watchers say (the memory model): those who watch were told of the answer, and of its report, their texts behind its line, P holds
 pub record HasReport (kept new : List Slot) (a : Answer) (P : List ℕ → Type 0) : Type 0 where
@@ -46,27 +42,27 @@ pub record SomeVerdict (source script : List ℕ) (task : Task) (sides : Option 
   pub right : SettlesRight (Judged source script task) verdict
   pub answered : P (answer_of verdict)
 
+-- 5.2.4.1: of a source that is too long no script is needed
+abbrev pub needed : (source : List ℕ) → Option (List ℕ) → Option (List ℕ)
+needed source script = if nat_lt source_limit (length source) then Some [] else script
+
 -- docs/FORMATS.md, Scripts of addresses (the memory model): the bytes of the script that a job names, where they are told; one that names none has none
 abbrev pub script_held : Option (List ℕ) → (held : List ℕ → Option (List ℕ)) → Option (List ℕ)
 script_held None held = Some []
 script_held (Some name) held = held name
 
--- 5.2.4.1: of a source that is too long no script is needed
-abbrev pub needed : (source : List ℕ) → Option (List ℕ) → Option (List ℕ)
-needed source script = if nat_lt source_limit (length source) then Some [] else script
-
 -- docs/FORMATS.md, Words (5.1.2.2.1p2): of the source in a file and its script, where they are told, P holds; nothing is said where a file that is needed isn't told
 abbrev pub OfFiles : (file : List ℕ) (script : Option (List ℕ)) (held : List ℕ → Option (List ℕ)) → ((source text : List ℕ) → Type 0) → Type 0
 OfFiles file script held P = IfSome (held file) (λ source. IfSome (needed source (script_held script held)) (P source))
 
--- docs/FORMATS.md, Words (5.1.2.2.1p2): the same of a job's source. A source that is generated has no script.
+-- docs/FORMATS.md, Words (5.1.2.2.1p2): of a job's source and its script, where they are told, P holds. A source that is generated has no script
 abbrev pub OfSource : Job → (held : List ℕ → Option (List ℕ)) → ((source script : List ℕ) → Type 0) → Type 0
 OfSource (Files job) held P = OfFiles job.file job.script held P
 OfSource (Generated number) held P = P (source_text number) []
 
--- 5.1.1.3p1, 5.1.2.3: there is an answer to the job, and of it P holds
+-- 5.1.1.3p1, 5.1.2.3: there is an answer to the job, and of it P holds; one to words that are no job, too (docs/FORMATS.md, Words; 5.1.2.2.1p2)
 abbrev pub SomeAnswer : Option Job → (held : List ℕ → Option (List ℕ)) → (Answer → Type 0) → Type 0
-SomeAnswer None held P = P no_job
+SomeAnswer None held P = P (record { status = 10; out = []; line = codes "words" ++ line_feed; course = None })
 SomeAnswer (Some job) held P = OfSource job held (λ source script. SomeVerdict source script (task_of job) (sides_of job) P)
 
 -- 5.1.2.3: the job is a run, and of the state in which it ends P holds

@@ -9,7 +9,6 @@ use Rattle.pv_serve.specs.Jobs.{Job, files_of}
 use Rattle.pv_serve.specs.Words.{job}
 use Rattle.pv_serve.specs.Outside.{AnyRose, Sunk, SinkRose, Wrote, WrotePrefix, Halls}
 use Rattle.pv_serve.specs.Owed.{Facts, Owed}
-use Rattle.pv_serve.specs.Verdicts.{BeganOutput}
 use Rattle.pv_serve.specs.Watching.{kept_by}
 use Rattle.pv_serve.specs.Answer.{Answer, HasReport, SomeAnswer, SomeEnd, read_fault}
 
@@ -24,10 +23,6 @@ pub record Call : Type 0 where
   pub report : Sunk
   pub hall : Halls
   pub status : ℕ
-
--- 7.21.8.1p3: a read of a file that the job names failed; a fault at another name is none of the job's
-abbrev pub FilesRose : Call → Type 0
-FilesRose c = IsSomeAnd (job c.words) (λ j. AnyRose (files_of j) c.faults_old c.faults_new)
 
 -- docs/FORMATS.md, What watchers say (the memory model): those of the hall whom the job keeps
 abbrev pub kept : Call → List Slot
@@ -50,17 +45,18 @@ pub record WroteOutput (out report : Sunk) (kept new : List Slot) (end : State) 
   pub part : ToldPart (record { sink = out.old; hall = kept }) (record { sink = out.new; hall = new }) end names
   pub nothing : Wrote report []
 
--- docs/FORMATS.md, The report (5.1.2.3p7): where memory ran out: a first part of the output was written, and of the report nothing; of the hall nothing is
--- said
+-- docs/FORMATS.md, The report (5.1.2.3p7): where memory ran out: a first part of the output (7.21.3p3) was written, and of the report nothing; of the
+-- hall nothing is said
 pub record WroteNoReport (c : Call) : Type 0 where
-  pub out : Wrote c.out [] ⊎ SomeEnd (job c.words) c.held (BeganOutput c.out)
+  pub out : Wrote c.out [] ⊎ SomeEnd (job c.words) c.held (λ end names. WrotePrefix c.out end.output)
   pub report : Wrote c.report []
 
--- 5.1.2.3p7: what is so of a call. Where a write failed, that of the report began an answer, and that of the output cut off a run.
+-- 5.1.2.3p7: what is so of a call. A read that failed (7.21.8.1p3) is one of a file that the job names. Where a write failed, that of the report began
+-- an answer, and that of the output cut off a run.
 abbrev pub facts_of : Call → Facts Job
 facts_of c = record {
   job = job c.words;
-  ReadFailed = FilesRose c;
+  ReadFailed = IsSomeAnd (job c.words) (λ j. AnyRose (files_of j) c.faults_old c.faults_new);
   WriteFailed = SinkRose c.out ⊎ SinkRose c.report;
   ReportFailed = SinkRose c.report;
   Answered = SomeAnswer (job c.words) c.held (IsAnswer c);

@@ -11,15 +11,11 @@ use Rattle.pv_unit.specs.Units as checked
 use Rattle.pv_serve.specs.Verdicts.{Size, Byte, Token, Profile, Syntax, Constraint, Unresolved, NoMain}
 use Rattle.pv_serve.specs.Readings.{Reading, Program, Bad}
 
--- 6.4.2.1: the text of a name of the tokens
-abbrev pub token_name : Table → ℕ → List ℕ
-token_name tokens n = slice_index_or tokens.names n []
-
--- 6.9: what a translation unit is: no program where it has no typing (6.5 to 6.9), where a name that it needs is defined nowhere (6.9p5), or
+-- 6.9: what a translation unit is: no program where it has no typing (6.5 to 6.9), where a name (6.4.2.1) that it needs is defined nowhere (6.9p5), or
 -- where it has no `main` (5.1.2.2.1)
 pub data UnitComes (tokens : Table) (ds : List DeclarationTree) (reading : Reading) : Type 0 where
   Breaks : (index : ℕ) → checked.UnitComes tokens ds (checked.Constraint index) → reading ≡ Bad (Constraint index) → UnitComes tokens ds reading
-  Lacks : (name : ℕ) → checked.UnitComes tokens ds (checked.Unresolved name) → reading ≡ Bad (Unresolved (token_name tokens name)) → UnitComes tokens ds reading
+  Lacks : (name : ℕ) → checked.UnitComes tokens ds (checked.Unresolved name) → reading ≡ Bad (Unresolved (slice_index_or tokens.names name [])) → UnitComes tokens ds reading
   Mainless : checked.UnitComes tokens ds checked.NoMain → reading ≡ Bad NoMain → UnitComes tokens ds reading
   Typed : (unit : WholeUnit) → checked.UnitComes tokens ds (checked.Typed unit) → reading ≡ Program unit → UnitComes tokens ds reading
 

@@ -1,5 +1,5 @@
 -- What may be asked of the program. What a program's parameters (5.1.2.2.1p2) mean is its own: docs/FORMATS.md has the rules.
-use Rattle.std.specs.Prelude.{ℕ, Bool, List, [], ◌∷◌, ◌++◌, Option, Some, None, if◌then◌else◌, true, false}
+use Rattle.std.specs.Prelude.{ℕ, Bool, List, [], ◌∷◌, ◌++◌, Option, None, if◌then◌else◌, true, false, option_to_list}
 use Rattle.pv_serve.specs.declared.words.Task.{Task}
 use Rattle.pv_serve.specs.declared.words.Task.TheVariants as task
 use Rattle.pv_serve.specs.declared.words.Watched.{Watched}
@@ -18,18 +18,9 @@ pub data Job : Type 0 where
   Files : (job : FileJob) → Job
   Generated : (number : ℕ) → Job
 
--- docs/FORMATS.md, Words (5.1.2.2.1p2): the files that the name of a script adds
-abbrev pub script_files : Option (List ℕ) → List (List ℕ)
-script_files None = []
-script_files (Some name) = name ∷ []
-
--- docs/FORMATS.md, Words (5.1.2.2.1p2): the name of a source's file, and that of its script's, if there is one
-abbrev pub files_named : (file : List ℕ) (script : Option (List ℕ)) → List (List ℕ)
-files_named file script = file ∷ script_files script
-
--- docs/FORMATS.md, Words (5.1.2.2.1p2): the names of the files that a job reads
+-- docs/FORMATS.md, Words (5.1.2.2.1p2): the names of the files that a job reads: the source's, and the script's, if there is one
 abbrev pub files_of : Job → List (List ℕ)
-files_of (Files j) = files_named j.file j.script
+files_of (Files j) = j.file ∷ option_to_list j.script
 files_of (Generated n) = []
 
 -- docs/FORMATS.md, Words (5.1.2.2.1p2): as many turns has a run whose words do not say how many, and that of a generated source
@@ -51,10 +42,6 @@ sides_of (Generated n) = None
 abbrev pub nobody : Watched
 nobody = record { explain = false; census = false; pointers = false }
 
--- docs/FORMATS.md, What watchers say (the memory model): the count of events alone
-abbrev pub counted : Watched
-counted = record { explain = false; census = true; pointers = false }
-
 -- docs/FORMATS.md, What watchers say (the memory model): a kind of watcher, where it is wanted
 abbrev pub if_wanted : Bool → (kind : ℕ) → List ℕ
 if_wanted wanted kind = if wanted then kind ∷ [] else []
@@ -63,7 +50,7 @@ if_wanted wanted kind = if wanted then kind ∷ [] else []
 abbrev pub kinds_of : Watched → List ℕ
 kinds_of w = if_wanted w.explain 1 ++ if_wanted w.census 2 ++ if_wanted w.pointers 3
 
--- docs/FORMATS.md, What watchers say (the memory model): those who watch a job; a generated source has a count of its events
+-- docs/FORMATS.md, What watchers say (the memory model): those who watch a job; a generated source has a count of its events alone
 abbrev pub watched_of : Job → Watched
 watched_of (Files j) = j.watched
-watched_of (Generated n) = counted
+watched_of (Generated n) = record { explain = false; census = true; pointers = false }

@@ -10,13 +10,13 @@ use Rattle.pv_world.specs.Worlds.{Worth}
 use Rattle.pv_eval.specs.States.{Res, State}
 use Rattle.pv_exec.specs.Run.{setting_of, run_of, outcome_of, sides_at}
 use Rattle.pv_exec.specs.Answering.{end_of}
-use Rattle.pv_exec.specs.Outlets.{event_of}
 use Rattle.pv_exec.specs.Sided.{side_of}
 use Rattle.pv_serve.specs.declared.words.Task.{Task}
 use Rattle.pv_serve.specs.declared.words.Task.TheVariants as task
 use Rattle.pv_serve.specs.Verdicts.{Refusal, Verdict, Ending, Ended, Settled, Described, Refused, Size, Script}
 use Rattle.pv_serve.specs.Readings.{Program, Bad}
 use Rattle.pv_serve.specs.Comes.{Comes, source_limit}
+use Rattle.pv_exec.specs.Outlets.{event_of}
 
 -- 5.1.2.3: how a run ends (5.1.2.2.3p1), at which turn, and what it shows: its output (5.1.2.3p6), what happened in its memory, and the side of each
 -- of its pairs of candidates, the low one where it stands for both (the memory model); in a unit with these names (6.4.2.1)
@@ -76,20 +76,12 @@ pub record Plan : Type 0 where
   pub sides : Option (List Bool)
   pub settles : Bool
 
--- 5.1.2.3: a run that is watched, and whose pairs are settled late (the memory model)
-abbrev pub late_plan : (bound : ℕ) (zap : Bool) → Plan
-late_plan bound zap = record { bound = bound; zap = zap; sides = None; settles = false }
-
--- the memory model: a settled run: by these sides, or late where none are given
-abbrev pub settled_plan : (bound : ℕ) (zap : Bool) (sides : Option (List Bool)) → Plan
-settled_plan bound zap sides = record { bound = bound; zap = zap; sides = sides; settles = true }
-
--- 5.1.2.3: how a task runs a unit, if it does, with these sides, if any are given
+-- 5.1.2.3: how a task runs a unit, if it does: one that is watched settles its pairs late, a settled run by these sides, or late where none are given
+-- (the memory model)
 abbrev pub plan_of : Task → (sides : Option (List Bool)) → Option Plan
-plan_of (task.Run bound zap) sides = Some (late_plan bound zap)
-plan_of (task.Settle bound zap) sides = Some (settled_plan bound zap sides)
-plan_of task.Check sides = None
-plan_of task.Layout sides = None
+plan_of (task.Run bound zap) sides = Some (record { bound = bound; zap = zap; sides = None; settles = false })
+plan_of (task.Settle bound zap) sides = Some (record { bound = bound; zap = zap; sides = sides; settles = true })
+plan_of _ sides = None
 
 -- 5.1.2.3: the source is run as the task says, and of the state in which its run ends, with the names of its unit, P holds, whichever way it ends
 pub record SomeRun (source script : List ℕ) (t : Task) (sides : Option (List Bool)) (P : State → List (List ℕ) → Type 0) : Type 0 where

@@ -1,12 +1,17 @@
 pub mod Jobs
 pub mod ReadWords
 pub mod Words
+pub mod WordParts
 pub mod Verdicts
+pub mod VerdictParts
 pub mod Readings
 pub mod Comes
+pub mod ComesParts
 pub mod Judged
+pub mod Plans
 pub mod OneVerdict
 pub mod Report
+pub mod ReportParts
 pub mod LateSettling
 pub mod Watching
 pub mod Outside

@@ -1,7 +1,7 @@
 -- Programs that write a report and nothing else: what one call of such a program owes. C17 leaves the outside of a program to its implementation (5.1.2.3p7):
 -- docs/FORMATS.md has the rules of each.
-use Rattle.std.specs.Prelude.{◌≡◌, ℕ, List, [], Option, Some, None, IsSomeAnd}
-use Rattle.pv_serve.specs.Report.{words_line, fault_line}
+use Rattle.std.specs.Prelude.{◌≡◌, ℕ, List, [], Option, Some, None, IsSomeAnd, ◌++◌, codes}
+use Rattle.pv_serve.specs.Report.{line_feed}
 use Rattle.pv_serve.specs.Outside.{Sunk, SinkRose, Wrote, WrotePrefix}
 use Rattle.pv_serve.specs.Owed.{Facts, Owed}
 
@@ -22,11 +22,11 @@ pub record Reply : Type 0 where
 
 -- 5.1.2.2.1p2: the reply to words that are no job
 abbrev pub no_job : Reply
-no_job = record { status = 10; text = words_line }
+no_job = record { status = 10; text = codes "words" ++ line_feed }
 
 -- 7.21.8.1p3: the reply where a file could not be read
 abbrev pub read_fault : Reply
-read_fault = record { status = 11; text = fault_line }
+read_fault = record { status = 11; text = codes "fault read" ++ line_feed }
 
 -- 5.1.2.3: what a program does for its words: what they ask for, if they do (5.1.2.2.1p2), that in a call a read of a file that is asked for failed
 -- (7.21.8.1p3), and which replies there are to what is asked for, by what the files hold

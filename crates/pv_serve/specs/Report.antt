@@ -1,9 +1,7 @@
 -- The line that tells a verdict, and the status that goes with it. C17 leaves the form of a diagnostic message (5.1.1.3p1) and of what is told of
 -- a run's end (7.22.4.4p5) to its implementation: docs/FORMATS.md has the rules.
-use Rattle.std.specs.Prelude.{ℕ, ℤ, Bool, true, false, ◌&&◌, List, [], ◌∷◌, ◌++◌, map, codes, if◌then◌else◌}
+use Rattle.std.specs.Prelude.{ℕ, Bool, true, false, ◌&&◌, List, [], ◌∷◌, ◌++◌, map, codes, if◌then◌else◌}
 use Rattle.std.specs.Fmt.{decimal, signed_decimal}
-use Rattle.pv_num.specs.declared.faults.Fault.{Fault}
-use Rattle.pv_num.specs.declared.faults.Reason.{Reason}
 use Rattle.pv_num.specs.Texts.{clause_text, reason_text}
 use Rattle.pv_script.specs.declared.scripts.ScriptError.{ScriptError}
 use Rattle.pv_script.specs.declared.scripts.ScriptError.TheVariants as script
@@ -18,42 +16,28 @@ use Rattle.pv_serve.specs.Verdicts.{Verdict, Ended, Settled, Described, Refused,
 abbrev pub line_feed : List ℕ
 line_feed = 10 ∷ []
 
--- 3.4.3: an operation without defined behaviour: the paragraph that it breaks, why, its line (6.10.4p3), and the turns (5.1.2.3p1)
-abbrev pub undefined_line : Fault → (line turns : ℕ) → List ℕ
-undefined_line fault line turns =
-    codes "undefined clause=" ++ clause_text fault.clause ++ codes " reason=" ++ reason_text fault.reason
-    ++ codes " line=" ++ decimal line ++ codes " turn=" ++ decimal turns ++ line_feed
-
--- 5.1.2.2.3, 7.22.4.4: the value that `main` returned, or that `exit` was called with, and the turns; numbers are decimal, without leading zeros
-abbrev pub exit_line : (status : ℤ) (turns : ℕ) → List ℕ
-exit_line status turns = codes "exit status=" ++ signed_decimal status ++ codes " turn=" ++ decimal turns ++ line_feed
-
 -- 6.10.4p3: a line of the source at which a run ended, in this way, and the turns (5.1.2.3p1)
 abbrev pub at_line : (word : List ℕ) → (line turns : ℕ) → List ℕ
 at_line word line turns = word ++ codes " line=" ++ decimal line ++ codes " turn=" ++ decimal turns ++ line_feed
 
--- the memory model: a place that the script has for a storage instance and that can't be given: why, its name, which of the requests for that
--- name it is, from 1
-abbrev pub placement_line : Reason → (name : List ℕ) → (k line turns : ℕ) → List ℕ
-placement_line reason name k line turns =
-    codes "placement reason=" ++ reason_text reason ++ codes " name=" ++ name
-    ++ (codes " k=" ++ decimal k ++ codes " line=" ++ decimal line ++ codes " turn=" ++ decimal turns ++ line_feed)
-
--- 5.2.4.1: the bytes that are live, and those that were asked for and would be too many
-abbrev pub storage_line : (live size line turns : ℕ) → List ℕ
-storage_line live size line turns =
-    codes "storage live=" ++ decimal live ++ codes " size=" ++ decimal size
-    ++ codes " line=" ++ decimal line ++ codes " turn=" ++ decimal turns ++ line_feed
-
--- 5.1.2.3: how a run ended, in a unit with these names: an indeterminate value (3.19.2), an order that is undecided (6.5.8p5), `abort` (7.22.4.1),
--- a pair without a side (the memory model), and those above. One that used up its turns is told by the bound alone.
+-- 5.1.2.3: how a run ended, in a unit with these names: with the value that `main` returned or `exit` was called with (5.1.2.2.3, 7.22.4.4); without
+-- defined behaviour (3.4.3), by which paragraph, and why; by an indeterminate value (3.19.2), an order that is undecided (6.5.8p5), or `abort`
+-- (7.22.4.1); at a place of the script that can't be given (the memory model), why, for which name, and which of its requests, from 1; for want of
+-- storage (5.2.4.1): the bytes that are live, and those that were asked for; for want of a pair's side (the memory model). One that used up its turns
+-- is told by the bound alone. A line is one of the source (6.10.4p3), and numbers are decimal, without leading zeros.
 abbrev pub outcome_line : Outcome → (names : List (List ℕ)) → (turns bound : ℕ) → List ℕ
-outcome_line (outcome.Exit status) names turns bound = exit_line status turns
-outcome_line (outcome.Undefined fault line) names turns bound = undefined_line fault line turns
+outcome_line (outcome.Exit status) names turns bound = codes "exit status=" ++ signed_decimal status ++ codes " turn=" ++ decimal turns ++ line_feed
+outcome_line (outcome.Undefined fault line) names turns bound =
+    codes "undefined clause=" ++ clause_text fault.clause ++ codes " reason=" ++ reason_text fault.reason ++ codes " line=" ++ decimal line
+    ++ codes " turn=" ++ decimal turns ++ line_feed
 outcome_line (outcome.Indeterminate line) names turns bound = at_line (codes "indeterminate") line turns
 outcome_line (outcome.Undecided line) names turns bound = at_line (codes "undecided") line turns
-outcome_line (outcome.Placement reason name k line) names turns bound = placement_line reason (name_at names name) k line turns
-outcome_line (outcome.Storage live size line) names turns bound = storage_line live size line turns
+outcome_line (outcome.Placement reason name k line) names turns bound =
+    codes "placement reason=" ++ reason_text reason ++ codes " name=" ++ name_at names name
+    ++ (codes " k=" ++ decimal k ++ codes " line=" ++ decimal line ++ codes " turn=" ++ decimal turns ++ line_feed)
+outcome_line (outcome.Storage live size line) names turns bound =
+    codes "storage live=" ++ decimal live ++ codes " size=" ++ decimal size ++ codes " line=" ++ decimal line ++ codes " turn=" ++ decimal turns
+    ++ line_feed
 outcome_line outcome.Turns names turns bound = codes "turns bound=" ++ decimal bound ++ line_feed
 outcome_line (outcome.Abort line) names turns bound = at_line (codes "abort") line turns
 outcome_line (outcome.SidesEnded pair) names turns bound = codes "sides ended pair=" ++ decimal pair ++ line_feed
@@ -75,44 +59,30 @@ abbrev pub letters_of : List Side → List ℕ
 letters_of [] = codes "-"
 letters_of (side ∷ sides) = letter_of side ∷ map letter_of sides
 
--- the memory model: the sides to which the pairs of a run were settled, the low one where a pair stands for both still
-abbrev pub sides_line : List Side → List ℕ
-sides_line sides = codes "sides " ++ letters_of sides ++ line_feed
-
--- the memory model: the line of the sides, where they are listed and the run ended so that they say something
+-- the memory model: the line of the sides, where they are listed and the run ended so that they say something: those to which the pairs of a run were
+-- settled, the low one where a pair stands for both still
 abbrev pub listed_sides : (listed : Bool) → Outcome → List Side → List ℕ
-listed_sides listed o sides = if listed && is_decided o then sides_line sides else []
+listed_sides listed o sides = if listed && is_decided o then codes "sides " ++ letters_of sides ++ line_feed else []
 
--- 6.4.1: a word that is of C17 and not of the language that is run
-abbrev pub profile_line : (place : ℕ) (word : List ℕ) → List ℕ
-profile_line place word = codes "refused reason=profile at=" ++ decimal place ++ codes " word=" ++ word ++ line_feed
-
--- 6.9p5: a name that an expression names and that nothing defines
-abbrev pub unresolved_line : (name : List ℕ) → List ℕ
-unresolved_line name = codes "refused reason=unresolved name=" ++ name ++ line_feed
-
--- 5.1.1.3p1: a refusal: by size (5.2.4.1), by a byte (5.2.1), a token (6.4) or a word at its place from 0, by the grammar (6.9) behind so many whole
--- external declarations, by a constraint behind so many that have a typing (6.5 to 6.9), by a name (6.9p5), or for want of `main` (5.1.2.2.1)
+-- 5.1.1.3p1: a refusal: by size (5.2.4.1), by a byte (5.2.1), a token (6.4) or a word of C17 that the profile leaves out (6.4.1), at its place from 0,
+-- by the grammar (6.9) behind so many whole external declarations, by a constraint behind so many that have a typing (6.5 to 6.9), by a name that
+-- nothing defines (6.9p5), or for want of `main` (5.1.2.2.1)
 abbrev pub refusal_line : Refusal → List ℕ
 refusal_line Size = codes "refused reason=size" ++ line_feed
 refusal_line (Byte place) = codes "refused reason=byte at=" ++ decimal place ++ line_feed
 refusal_line (Token place) = codes "refused reason=token at=" ++ decimal place ++ line_feed
-refusal_line (Profile place word) = profile_line place word
+refusal_line (Profile place word) = codes "refused reason=profile at=" ++ decimal place ++ codes " word=" ++ word ++ line_feed
 refusal_line (Syntax whole) = codes "refused reason=syntax whole=" ++ decimal whole ++ line_feed
 refusal_line (Constraint index) = codes "refused reason=constraint index=" ++ decimal index ++ line_feed
-refusal_line (Unresolved name) = unresolved_line name
+refusal_line (Unresolved name) = codes "refused reason=unresolved name=" ++ name ++ line_feed
 refusal_line NoMain = codes "refused reason=main" ++ line_feed
 
--- docs/FORMATS.md, Scripts of addresses (the memory model): two lines of a script speak of one request
-abbrev pub repeated_line : (line first : ℕ) → List ℕ
-repeated_line line first = codes "script reason=repeated line=" ++ decimal line ++ codes " first=" ++ decimal first ++ line_feed
-
--- docs/FORMATS.md, Scripts of addresses (the memory model): a script is too long, or this line of it, from 1, has no reading, or speaks of the request of which that line speaks first; no
--- text is refused for want of memory
+-- docs/FORMATS.md, Scripts of addresses (the memory model): a script is too long, or this line of it, from 1, has no reading, or speaks of the request
+-- of which that line speaks first; no text is refused for want of memory
 abbrev pub script_line : ScriptError → List ℕ
 script_line script.Size = codes "script reason=size" ++ line_feed
 script_line (script.BadLine line) = codes "script reason=line line=" ++ decimal line ++ line_feed
-script_line (script.Repeated line first) = repeated_line line first
+script_line (script.Repeated line first) = codes "script reason=repeated line=" ++ decimal line ++ codes " first=" ++ decimal first ++ line_feed
 script_line script.NoMemory = []
 
 -- 5.1.1.3p1, 5.1.2.3: what is told of a verdict; a text that describes a source is told as it is
@@ -142,11 +112,3 @@ status_of (Settled e bound listed) = outcome_status e.outcome
 status_of (Described text) = 0
 status_of (Refused refusal) = 8
 status_of (Script why) = 9
-
--- docs/FORMATS.md, The report (5.1.1.3p1): what is told of words that are no job
-abbrev pub words_line : List ℕ
-words_line = codes "words" ++ line_feed
-
--- docs/FORMATS.md, The report (5.1.1.3p1): what is told where a file that the words name could not be read
-abbrev pub fault_line : List ℕ
-fault_line = codes "fault read" ++ line_feed

@@ -4,8 +4,10 @@ use Rattle.pv_watch.specs.Slots.{Slot, SayAll}
 use Rattle.pv_gen.specs.Source.{source_text}
 use Rattle.pv_serve.specs.declared.words.Task.{Task}
 use Rattle.pv_serve.specs.declared.judging.Judgement.{Judgement}
-use Rattle.pv_serve.specs.Jobs.{Job, FileJob, Files, Generated, files_named}
-use Rattle.pv_serve.specs.Verdicts.{course_of, BeganOutput}
+use Rattle.pv_serve.specs.Jobs.{Job, FileJob, Files, Generated}
+use Rattle.pv_serve.specs.Plans.{files_named}
+use Rattle.pv_serve.specs.Verdicts.{course_of}
+use Rattle.pv_serve.specs.VerdictParts.{BeganOutput}
 use Rattle.pv_serve.specs.Comes.{source_limit}
 use Rattle.pv_serve.specs.Judged.{script_limit, SomeRun}
 use Rattle.pv_serve.specs.Outside.{AnyRose, Sunk, SinkRose, Wrote, WrotePrefix, Halls}

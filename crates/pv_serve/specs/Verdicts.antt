@@ -2,10 +2,8 @@
 use Rattle.std.specs.Prelude.{ℕ, Bool, List, Option, Some, None, []}
 use Rattle.pv_script.specs.declared.scripts.ScriptError.{ScriptError}
 use Rattle.pv_watch.specs.declared.event.Event.{Event}
-use Rattle.pv_eval.specs.States.{State}
 use Rattle.pv_exec.specs.declared.outcome.Outcome.{Outcome}
 use Rattle.pv_exec.specs.declared.sides.Side.{Side}
-use Rattle.pv_serve.specs.Outside.{Sunk, WrotePrefix}
 
 -- 5.1.1.3p1: why a source has no run, which a diagnostic message tells: its size (5.2.4.1), its least lexical fault, which is a byte (5.2.1), a
 -- token (6.4) or a word of C17 that is not of the language that is run (6.4.1), each at its place from 0; or its tokens are no translation unit
@@ -56,7 +54,3 @@ abbrev pub output_of : Verdict → List ℕ
 output_of (Ended e bound) = e.output
 output_of (Settled e bound listed) = e.output
 output_of _ = []
-
--- 7.21.3p3: a sink gained a first part of what the run printed
-abbrev pub BeganOutput : (out : Sunk) → State → (names : List (List ℕ)) → Type 0
-BeganOutput out end names = WrotePrefix out end.output

@@ -23,19 +23,10 @@ abbrev pub digits_from : ℕ → List ℕ → Option ℕ
 digits_from n [] = Some n
 digits_from n (d ∷ ds) = if is_ascii_digit d then digits_from (n * 10 + (d - 48)) ds else None
 
--- docs/FORMATS.md, Words (5.1.2.2.1p2): no number above this one
-abbrev pub up_to : ℕ → Option ℕ → Option ℕ
-up_to most None = None
-up_to most (Some n) = if nat_le n most then Some n else None
-
 -- docs/FORMATS.md, Words (5.1.2.2.1p2): decimal digits without a leading zero, for a number from 1 to this one
 abbrev pub number_to : (most : ℕ) → List ℕ → Option ℕ
 number_to most [] = None
-number_to most (d ∷ ds) = if d == 48 then None else up_to most (digits_from 0 (d ∷ ds))
-
--- docs/FORMATS.md, Words (5.1.2.2.1p2): the value of `--turns`
-abbrev pub turns_of : List ℕ → Option ℕ
-turns_of digits = number_to 100000000 digits
+number_to most (d ∷ ds) = if d == 48 then None else option_and_then (λ n. if nat_le n most then Some n else None) (digits_from 0 (d ∷ ds))
 
 -- ---- the values of options
 
@@ -43,13 +34,10 @@ turns_of digits = number_to 100000000 digits
 abbrev pub zap_of : List ℕ → Option Bool
 zap_of word = if bytes_eq word (codes "on") then Some true else if bytes_eq word (codes "off") then Some false else None
 
--- docs/FORMATS.md, Words (the memory model: sides of a pair): the letter `l` is the low side, `h` the high one
-abbrev pub is_side : ℕ → Bool
-is_side letter = letter == 108 || letter == 104
-
--- docs/FORMATS.md, Words (the memory model: sides of pairs): the value of `--sides`: `-` for no sides, or one or more letters
+-- docs/FORMATS.md, Words (the memory model: sides of pairs): the value of `--sides`: `-` for no sides, or one or more letters: `l` is the low side,
+-- `h` the high one
 abbrev pub are_sides : List ℕ → Bool
-are_sides word = bytes_eq word (codes "-") || nat_lt 0 (length word) && list_all is_side word
+are_sides word = bytes_eq word (codes "-") || nat_lt 0 (length word) && list_all (λ letter. letter == 108 || letter == 104) word
 
 -- docs/FORMATS.md, Words (the memory model: sides of pairs): the sides that it says, of each whether it is the high one
 abbrev pub sides_in : List ℕ → List Bool
@@ -79,22 +67,6 @@ once (Some other) said = None
 abbrev pub file_name : List ℕ → Option (List ℕ)
 file_name word = if nat_lt 0 (length word) then Some word else None
 
--- docs/FORMATS.md, Words (5.1.2.2.1p2): `--script` with this value
-abbrev pub with_script : Options → List ℕ → Option Options
-with_script o word = option_map (λ name. record o { script = Some name }) (once o.script (file_name word))
-
--- docs/FORMATS.md, Words (5.1.2.2.1p2): `--turns` with this value
-abbrev pub with_turns : Options → List ℕ → Option Options
-with_turns o word = option_map (λ n. record o { turns = Some n }) (once o.turns (turns_of word))
-
--- docs/FORMATS.md, Words (5.1.2.2.1p2): `--zap` with this value
-abbrev pub with_zap : Options → List ℕ → Option Options
-with_zap o word = option_map (λ zap. record o { zap = Some zap }) (once o.zap (zap_of word))
-
--- docs/FORMATS.md, Words (the memory model): `--sides` with this value
-abbrev pub with_sides : Options → List ℕ → Option Options
-with_sides o word = option_map (λ sides. record o { sides = Some sides }) (once o.sides (if are_sides word then Some (sides_in word) else None))
-
 -- docs/FORMATS.md, Words (5.1.2.2.1p2): each watcher is asked for once at most
 abbrev pub watch_once : (wanted : Bool) → Watched → Option Watched
 watch_once wanted more = if wanted then None else Some more
@@ -106,21 +78,22 @@ one_more w word =
     else if bytes_eq word (codes "census") then watch_once w.census (record { explain = w.explain; census = true; pointers = w.pointers })
     else if bytes_eq word (codes "pointers") then watch_once w.pointers (record { explain = w.explain; census = w.census; pointers = true }) else None
 
--- docs/FORMATS.md, Words (5.1.2.2.1p2): `--watch` with this value
-abbrev pub with_watch : Options → List ℕ → Option Options
-with_watch o word = option_map (λ w. record o { watched = w }) (one_more o.watched word)
-
--- docs/FORMATS.md, Words (5.1.2.2.1p2): the option that a mode has by itself: `run` has watchers, `settle` has sides (the memory model)
+-- docs/FORMATS.md, Words (5.1.2.2.1p2): the option that a mode has by itself: `run` has `--watch`, for each watcher, and `settle` has `--sides`, once
+-- (the memory model)
 abbrev pub with_own : Mode → Options → (name value : List ℕ) → Option Options
-with_own whose.Run o name value = if bytes_eq name (codes "--watch") then with_watch o value else None
-with_own whose.Settle o name value = if bytes_eq name (codes "--sides") then with_sides o value else None
+with_own whose.Run o name value =
+    if bytes_eq name (codes "--watch") then option_map (λ w. record o { watched = w }) (one_more o.watched value) else None
+with_own whose.Settle o name value =
+    if bytes_eq name (codes "--sides")
+    then option_map (λ sides. record o { sides = Some sides }) (once o.sides (if are_sides value then Some (sides_in value) else None)) else None
 
--- docs/FORMATS.md, Words (5.1.2.2.1p2): one option more: its word and its value
+-- docs/FORMATS.md, Words (5.1.2.2.1p2): one option more: its word and its value: `--script`, `--turns` and `--zap` once each, or the mode's own
 abbrev pub with_option : Mode → Options → (name value : List ℕ) → Option Options
 with_option m o name value =
-    if bytes_eq name (codes "--script") then with_script o value
-    else if bytes_eq name (codes "--turns") then with_turns o value
-    else if bytes_eq name (codes "--zap") then with_zap o value else with_own m o name value
+    if bytes_eq name (codes "--script") then option_map (λ name. record o { script = Some name }) (once o.script (file_name value))
+    else if bytes_eq name (codes "--turns") then option_map (λ n. record o { turns = Some n }) (once o.turns (number_to 100000000 value))
+    else if bytes_eq name (codes "--zap") then option_map (λ zap. record o { zap = Some zap }) (once o.zap (zap_of value))
+    else with_own m o name value
 
 -- docs/FORMATS.md, Words (5.1.2.2.1p2): options in any order, each a word and its value
 abbrev pub options : Mode → Options → List (List ℕ) → Option Options
@@ -130,29 +103,16 @@ options m o (name ∷ value ∷ rest) = option_and_then (λ p. options m p rest)
 
 -- ---- jobs
 
--- docs/FORMATS.md, Words (5.1.2.2.1p2): the bound that the options say, or that of a run whose options don't
-abbrev pub bound_said : Options → ℕ
-bound_said o = unwrap_or o.turns default_turns
-
--- docs/FORMATS.md, Words (6.2.4p2): whether a pointer to what has ended is indeterminate; it is, unless the options say that it isn't
-abbrev pub zap_said : Options → Bool
-zap_said o = unwrap_or o.zap true
-
--- docs/FORMATS.md, Words (5.1.2.2.1p2): a run of this file, as its options say
+-- docs/FORMATS.md, Words (5.1.2.2.1p2): a run of this file, as its options say: 1000000 turns, and a pointer to what has ended is indeterminate
+-- (6.2.4p2), unless they say otherwise
 abbrev pub run_by : (file : List ℕ) → Options → FileJob
-run_by file o = record { file = file; script = o.script; task = task.Run (bound_said o) (zap_said o); sides = None; watched = o.watched }
+run_by file o =
+    record { file = file; script = o.script; task = task.Run (unwrap_or o.turns default_turns) (unwrap_or o.zap true); sides = None; watched = o.watched }
 
--- docs/FORMATS.md, Words (5.1.2.2.1p2): `run FILE` with these words behind it
-abbrev pub run_of : (file : List ℕ) → List (List ℕ) → Option FileJob
-run_of file rest = option_map (run_by file) (options whose.Run no_options rest)
-
--- docs/FORMATS.md, Words (the memory model): a settled run of this file, as its options say
+-- docs/FORMATS.md, Words (the memory model): a settled run of this file, as its options say; turns and pointers as in a run
 abbrev pub settled_by : (file : List ℕ) → Options → FileJob
-settled_by file o = record { file = file; script = o.script; task = task.Settle (bound_said o) (zap_said o); sides = o.sides; watched = nobody }
-
--- docs/FORMATS.md, Words (the memory model): `settle FILE` with these words behind it
-abbrev pub settle_of : (file : List ℕ) → List (List ℕ) → Option FileJob
-settle_of file rest = option_map (settled_by file) (options whose.Settle no_options rest)
+settled_by file o =
+    record { file = file; script = o.script; task = task.Settle (unwrap_or o.turns default_turns) (unwrap_or o.zap true); sides = o.sides; watched = nobody }
 
 -- docs/FORMATS.md, Words (5.1.2.2.1p2): what describes a source has no options
 abbrev pub described : Task → (file : List ℕ) → List (List ℕ) → Option FileJob
@@ -162,8 +122,8 @@ described t file _ = None
 -- docs/FORMATS.md, Words (5.1.2.2.1p2): what a mode asks of a file, with these words behind it
 abbrev pub asked : (mode file : List ℕ) → List (List ℕ) → Option FileJob
 asked mode file rest =
-    if bytes_eq mode (codes "run") then run_of file rest
-    else if bytes_eq mode (codes "settle") then settle_of file rest
+    if bytes_eq mode (codes "run") then option_map (run_by file) (options whose.Run no_options rest)
+    else if bytes_eq mode (codes "settle") then option_map (settled_by file) (options whose.Settle no_options rest)
     else if bytes_eq mode (codes "check") then described task.Check file rest
     else if bytes_eq mode (codes "layout") then described task.Layout file rest else None
 

@@ -1,6 +1,6 @@
 //! Reading the files that a job names: its source, and its script of addresses.
-ghost use Rattle.std.specs.Prelude.{◌≡◌, ℕ, ◌+◌, ◌≤◌, List, take, IfOk, IfSome, IsErrOf, option_map};
-ghost use Rattle.pv_serve.specs.Jobs.{files_named, script_files};
+ghost use Rattle.std.specs.Prelude.{◌≡◌, ℕ, ◌+◌, ◌≤◌, List, take, IfOk, IfSome, IsErrOf, option_map, option_to_list};
+ghost use Rattle.pv_serve.specs.Plans.{files_named};
 ghost use Rattle.pv_serve.specs.Judged.{script_limit};
 ghost use Rattle.pv_serve.specs.Answer.{script_held};
 ghost use Rattle.pv_serve.specs.Outside.{AnyRose};
@@ -67,7 +67,7 @@ pub fn read_script<F: Files>(
     ensures same { (n : List ℕ) → F.held files.new n ≡ F.held files.old n }
     ensures later { (n : List ℕ) → F.faults files.old n ≤ F.faults files.new n }
     ensures cause { IsErrOf result ReadError.Fault →
-        AnyRose (script_files (option_map (λ s. s.now) name.entry)) (F.faults files.old) (F.faults files.new) }
+        AnyRose (option_to_list (option_map (λ s. s.now) name.entry)) (F.faults files.old) (F.faults files.new) }
 {
     match name {
         Some(name) => read_all(alloc, files, name, SCRIPT_LIMIT),

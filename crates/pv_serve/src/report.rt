@@ -2,6 +2,7 @@
 ghost use Rattle.std.specs.Prelude.{◌≡◌, ◌<◌, ◌⊎◌, ◌++◌, List, ℕ, IfOk, string_bytes};
 ghost use Rattle.pv_script.specs.Names.{name_at};
 ghost use Rattle.pv_serve.specs.Report as specified;
+ghost use Rattle.pv_serve.specs.ReportParts as specified_parts;
 ghost use Rattle.pv_serve.specs.Loading.{refusal_of, lexical_refusal, typing_refusal};
 ghost use Rattle.pv_serve.specs.Judging.{Shown, verdict_of};
 
@@ -135,7 +136,7 @@ fn is_decided(outcome: Outcome) -> bool
 
 // The line of the sides of a run.
 fn sides_line(alloc: Global, sides: &Sides) -> Result<Vec<u8>, NoMemory>
-    ensures { IfOk result (λ v. v.items ≡ specified.sides_line sides.now) }
+    ensures { IfOk result (λ v. v.items ≡ specified_parts.sides_line sides.now) }
 {
     let letters = letters_of(alloc, sides)?;
     let mut line = Vec::from_slice(alloc, b"sides ")?;
@@ -184,7 +185,7 @@ fn text_of(names: &Names, number: u32) -> &[u8]
 
 // The line of a run whose `main` returned, or that called `exit`.
 fn exit_line(alloc: Global, status: i32, turns: u64) -> Result<String, NoMemory>
-    ensures { IfOk result (λ s. string_bytes s ≡ specified.exit_line status turns) }
+    ensures { IfOk result (λ s. string_bytes s ≡ specified_parts.exit_line status turns) }
 {
     Ok(format!(in alloc; "exit status={status} turn={turns}\n")?)
 }
@@ -198,7 +199,7 @@ fn at_line(alloc: Global, word: &str, line: u32, turns: u64) -> Result<String, N
 
 // The line of a run that ended at an operation without defined behaviour.
 fn undefined_line(alloc: Global, fault: Fault, line: u32, turns: u64) -> Result<String, NoMemory>
-    ensures { IfOk result (λ s. string_bytes s ≡ specified.undefined_line fault line turns) }
+    ensures { IfOk result (λ s. string_bytes s ≡ specified_parts.undefined_line fault line turns) }
 {
     let clause = fault.clause.text();
     let reason = fault.reason.text();
@@ -213,7 +214,7 @@ fn storage_line(
     line: u32,
     turns: u64,
 ) -> Result<String, NoMemory>
-    ensures { IfOk result (λ s. string_bytes s ≡ specified.storage_line live size line turns) }
+    ensures { IfOk result (λ s. string_bytes s ≡ specified_parts.storage_line live size line turns) }
 {
     Ok(format!(in alloc; "storage live={live} size={size} line={line} turn={turns}\n")?)
 }
@@ -227,7 +228,7 @@ fn placement_line(
     line: u32,
     turns: u64,
 ) -> Result<Vec<u8>, NoMemory>
-    ensures { IfOk result (λ v. v.items ≡ specified.placement_line reason name.now k line turns) }
+    ensures { IfOk result (λ v. v.items ≡ specified_parts.placement_line reason name.now k line turns) }
 {
     let reason = reason.text();
     let mut text = format!(in alloc; "placement reason={reason} name=")?.into_bytes();
@@ -252,7 +253,7 @@ fn script_line(alloc: Global, why: ScriptError) -> Result<Vec<u8>, NoMemory>
 
 // The line of a script of which two lines speak of one request.
 fn repeated_line(alloc: Global, line: u32, first: u32) -> Result<String, NoMemory>
-    ensures { IfOk result (λ s. string_bytes s ≡ specified.repeated_line line first) }
+    ensures { IfOk result (λ s. string_bytes s ≡ specified_parts.repeated_line line first) }
 {
     Ok(format!(in alloc; "script reason=repeated line={line} first={first}\n")?)
 }
@@ -303,7 +304,7 @@ fn typing_line(alloc: Global, fault: CheckError, name: &[u8]) -> Result<Vec<u8>,
 
 // The line of a word that is not of the language.
 fn profile_line(alloc: Global, at: u32, word: &[u8]) -> Result<Vec<u8>, NoMemory>
-    ensures { IfOk result (λ v. v.items ≡ specified.profile_line at word.now) }
+    ensures { IfOk result (λ v. v.items ≡ specified_parts.profile_line at word.now) }
 {
     let mut line = format!(in alloc; "refused reason=profile at={at} word=")?.into_bytes();
     line.extend_from_slice(word)?;
@@ -313,7 +314,7 @@ fn profile_line(alloc: Global, at: u32, word: &[u8]) -> Result<Vec<u8>, NoMemory
 
 // The line of a name that nothing defines.
 fn unresolved_line(alloc: Global, name: &[u8]) -> Result<Vec<u8>, NoMemory>
-    ensures { IfOk result (λ v. v.items ≡ specified.unresolved_line name.now) }
+    ensures { IfOk result (λ v. v.items ≡ specified_parts.unresolved_line name.now) }
 {
     let mut line = Vec::from_slice(alloc, b"refused reason=unresolved name=")?;
     line.extend_from_slice(name)?;

@@ -3,6 +3,7 @@ ghost use Rattle.std.specs.Prelude.{◌≡◌, ◌<◌, ◌≤◌, ◌&&◌, ◌
 ghost use Rattle.std.specs.List.{list_all};
 ghost use Rattle.std.specs.Str.{bytes_eq};
 ghost use Rattle.pv_serve.specs.Words as specified;
+ghost use Rattle.pv_serve.specs.WordParts as specified_parts;
 ghost use Rattle.pv_serve.specs.ReadWords as read_words;
 ghost use Rattle.pv_serve.specs.Jobs.{if_wanted, kinds_of};
 ghost use Rattle.pv_serve.specs.ReadWords.{IsTask, IsAsked, AreOptions, AreBounded};
@@ -170,7 +171,7 @@ fn asked_by<'a>(mode: &str, file: &'a str, rest: &'a [String]) -> Option<Asked<'
 
 // A run of a file, with these options.
 fn run_of<'a>(file: &'a str, rest: &'a [String]) -> Option<Asked<'a>>
-    ensures words { IsAsked result (specified.run_of file.now (specified.texts rest.now)) }
+    ensures words { IsAsked result (specified_parts.run_of file.now (specified.texts rest.now)) }
     ensures turns { IfSome result (λ j. IsTask j.task) }
 {
     let options = all_options(Mode::Run, no_options(), rest)?;
@@ -188,7 +189,7 @@ fn run_of<'a>(file: &'a str, rest: &'a [String]) -> Option<Asked<'a>>
 
 // A settled run of a file, with these options.
 fn settle_of<'a>(file: &'a str, rest: &'a [String]) -> Option<Asked<'a>>
-    ensures words { IsAsked result (specified.settle_of file.now (specified.texts rest.now)) }
+    ensures words { IsAsked result (specified_parts.settle_of file.now (specified.texts rest.now)) }
     ensures turns { IfSome result (λ j. IsTask j.task) }
 {
     let options = all_options(Mode::Settle, no_options(), rest)?;
@@ -299,7 +300,7 @@ fn with_own<'a>(mode: Mode, given: Options<'a>, name: &str, value: &'a str) -> O
 // The script's file, which is named at most once.
 fn with_script<'a>(given: Options<'a>, name: &'a str) -> Option<Options<'a>>
     requires { AreBounded given.turns }
-    ensures words { AreOptions result (specified.with_script (read_words.options_read given.entry) name.now) }
+    ensures words { AreOptions result (specified_parts.with_script (read_words.options_read given.entry) name.now) }
     ensures turns { IfSome result (λ o. AreBounded o.turns) }
 {
     match given.script {
@@ -319,7 +320,7 @@ fn with_script<'a>(given: Options<'a>, name: &'a str) -> Option<Options<'a>>
 
 // The bound, which is given at most once.
 fn with_turns<'a>(given: Options<'a>, text: &str) -> Option<Options<'a>>
-    ensures words { AreOptions result (specified.with_turns (read_words.options_read given.entry) text.now) }
+    ensures words { AreOptions result (specified_parts.with_turns (read_words.options_read given.entry) text.now) }
     ensures turns { IfSome result (λ o. AreBounded o.turns) }
 {
     match given.turns {
@@ -337,7 +338,7 @@ fn with_turns<'a>(given: Options<'a>, text: &str) -> Option<Options<'a>>
 // Whether a pointer to what has ended is indeterminate, which is said at most once.
 fn with_zap<'a>(given: Options<'a>, word: &str) -> Option<Options<'a>>
     requires { AreBounded given.turns }
-    ensures words { AreOptions result (specified.with_zap (read_words.options_read given.entry) word.now) }
+    ensures words { AreOptions result (specified_parts.with_zap (read_words.options_read given.entry) word.now) }
     ensures turns { IfSome result (λ o. AreBounded o.turns) }
 {
     match given.zap {
@@ -366,7 +367,7 @@ fn zap_of(word: &str) -> Option<bool>
 // The sides of pairs, which are given at most once.
 fn with_sides<'a>(given: Options<'a>, word: &'a str) -> Option<Options<'a>>
     requires { AreBounded given.turns }
-    ensures words { AreOptions result (specified.with_sides (read_words.options_read given.entry) word.now) }
+    ensures words { AreOptions result (specified_parts.with_sides (read_words.options_read given.entry) word.now) }
     ensures turns { IfSome result (λ o. AreBounded o.turns) }
 {
     match given.sides {
@@ -393,7 +394,7 @@ fn are_sides(word: &str) -> bool
 
 // Whether all of these are letters of sides.
 fn are_letters(letters: &[u8]) -> bool
-    ensures { result ≡ list_all specified.is_side letters.now }
+    ensures { result ≡ list_all specified_parts.is_side letters.now }
 {
     letters
         .iter()
@@ -403,7 +404,7 @@ fn are_letters(letters: &[u8]) -> bool
 // A watcher more, which is asked for at most once.
 fn with_watch<'a>(given: Options<'a>, word: &str) -> Option<Options<'a>>
     requires { AreBounded given.turns }
-    ensures words { AreOptions result (specified.with_watch (read_words.options_read given.entry) word.now) }
+    ensures words { AreOptions result (specified_parts.with_watch (read_words.options_read given.entry) word.now) }
     ensures turns { IfSome result (λ o. AreBounded o.turns) }
 {
     let watched = one_more(given.watched, word)?;
@@ -457,7 +458,7 @@ fn once(wanted: bool, more: Watched) -> Option<Watched>
 
 // The value of `--turns`: decimal, without a leading zero, from 1 to 100000000.
 fn turns_of(text: &str) -> Option<u64>
-    ensures value { result ≡ specified.turns_of text.now }
+    ensures value { result ≡ specified_parts.turns_of text.now }
     ensures range { IfSome result (λ n. (0 < n) × (n ≤ 100000000)) }
 {
     number_to(text, MOST_TURNS)

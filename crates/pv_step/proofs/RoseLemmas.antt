@@ -1,9 +1,8 @@
 -- Which files' counts of faults rose.
 use Rattle.std.proofs.Common.{◌≡◌, ℕ, suc, ◌≤◌, List, [], ◌∷◌, ◌++◌, refl, ap, ◌∙◌, arith}
-use Rattle.std.specs.Prelude.{Any, Result, Err}
+use Rattle.std.specs.Prelude.{Any, Result, Err, option_to_list}
 use Rattle.std.proofs.lemmas.List.{length-append, get_or_append_left}
 use Rattle.pv_script.specs.Outside.{Rose}
-use Rattle.pv_serve.specs.Jobs.{script_files}
 use Rattle.pv_serve.specs.Outside.{AnyRose}
 use Rattle.pv_step.specs.Words.{StepJob, files_of}
 
@@ -36,16 +35,16 @@ any_within names old mid new before any = any_map (λ n. Rose (mid n) (new n)) (
 pub source_rose : (j : StepJob) (old new : List ℕ → ℕ) → Rose (old j.file) (new j.file) → AnyRose (files_of j) old new
 source_rose j old new rose = (0, j.file, omega arith, refl, rose)
 
-pub script_rose : (j : StepJob) (old mid new : List ℕ → ℕ) → ((n : List ℕ) → old n ≤ mid n) → AnyRose (script_files j.script) mid new → AnyRose (files_of j) old new
+pub script_rose : (j : StepJob) (old mid new : List ℕ → ℕ) → ((n : List ℕ) → old n ≤ mid n) → AnyRose (option_to_list j.script) mid new → AnyRose (files_of j) old new
 script_rose j old mid new later any =
-    any_later (λ n. Rose (old n) (new n)) j.file (script_files j.script ++ j.commands ∷ [])
-    (any_left (λ n. Rose (old n) (new n)) (script_files j.script) (j.commands ∷ []) (any_within (script_files j.script) old mid new later any))
+    any_later (λ n. Rose (old n) (new n)) j.file (option_to_list j.script ++ j.commands ∷ [])
+    (any_left (λ n. Rose (old n) (new n)) (option_to_list j.script) (j.commands ∷ []) (any_within (option_to_list j.script) old mid new later any))
 
 pub commands_rose : (j : StepJob) (old mid between new : List ℕ → ℕ) → ((n : List ℕ) → old n ≤ mid n) → ((n : List ℕ) → mid n ≤ between n) → Rose (between j.commands) (new j.commands)
     → AnyRose (files_of j) old new
 commands_rose j old mid between new first later rose =
-    any_later (λ n. Rose (old n) (new n)) j.file (script_files j.script ++ j.commands ∷ [])
-    (any_right (λ n. Rose (old n) (new n)) (script_files j.script) (j.commands ∷ [])
+    any_later (λ n. Rose (old n) (new n)) j.file (option_to_list j.script ++ j.commands ∷ [])
+    (any_right (λ n. Rose (old n) (new n)) (option_to_list j.script) (j.commands ∷ [])
     (0, j.commands, omega arith, refl, rose_within (old j.commands) (between j.commands) (new j.commands) (omega (arith, first j.commands, later j.commands)) rose))
 
 -- ---- errors

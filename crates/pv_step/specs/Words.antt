@@ -1,8 +1,7 @@
 -- What the words of the command line ask for (5.1.2.2.1p2: a program's parameters). Which words there are is this program's own: docs/FORMATS.md
 -- has the rules.
-use Rattle.std.specs.Prelude.{ℕ, ◌&&◌, List, [], ◌∷◌, ◌++◌, length, Option, Some, None, if◌then◌else◌, nat_lt, codes, option_map}
+use Rattle.std.specs.Prelude.{ℕ, ◌&&◌, List, [], ◌∷◌, ◌++◌, length, Option, Some, None, if◌then◌else◌, nat_lt, codes, option_map, option_to_list}
 use Rattle.std.specs.Str.{bytes_eq}
-use Rattle.pv_serve.specs.Jobs.{files_named}
 
 -- docs/FORMATS.md, Commands (5.1.2.3): the source in this file is run, with the script of addresses in that file, if one is named, and the commands in a third look at
 -- its run
@@ -13,7 +12,7 @@ pub record StepJob : Type 0 where
 
 -- docs/FORMATS.md, Commands (5.1.2.2.1p2): the names of the files that are read, in this order
 abbrev pub files_of : StepJob → List (List ℕ)
-files_of j = files_named j.file j.script ++ j.commands ∷ []
+files_of j = (j.file ∷ option_to_list j.script) ++ j.commands ∷ []
 
 -- docs/FORMATS.md, Commands (5.1.2.2.1p2): `--script F`
 abbrev pub script_by : (word name : List ℕ) → Option (Option (List ℕ))

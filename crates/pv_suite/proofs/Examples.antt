@@ -7,7 +7,7 @@ use Rattle.pv_exec.specs.declared.outcome.Outcome.TheVariants as outcome
 use Rattle.pv_cases.specs.declared.list.ListError.TheVariants as error
 use Rattle.pv_cases.specs.Cases.{SuiteCase, cases_of}
 use Rattle.pv_cases.specs.Suites.{long_line, list_line}
-use Rattle.pv_serve.specs.Report.{words_line}
+use Rattle.pv_serve.specs.ReportParts.{words_line}
 use Rattle.pv_suite.specs.Words.{list_of}
 use Rattle.pv_serve.specs.Replies.{no_job}
 use Rattle.pv_suite.specs.Answers.{Given, given_of, is_long, broken_by, Came, LongOutput, TooLong, CasesCome, refused_by, reply_of}

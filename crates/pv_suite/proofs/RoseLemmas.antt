@@ -1,10 +1,9 @@
 -- Which files' counts of faults rose.
 use Rattle.std.proofs.Common.{◌≡◌, ℕ, zero, suc, ◌<◌, ◌≤◌, List, [], ◌∷◌, ◌++◌, length, get_or, refl, sym, ap, ◌∙◌, subst, arith}
-use Rattle.std.specs.Prelude.{Option, Some, Any, Result, Err, option_map}
+use Rattle.std.specs.Prelude.{Option, Some, Any, Result, Err, option_map, option_to_list}
 use Rattle.std.specs.List.{flat_map}
 use Rattle.std.proofs.lemmas.List.{length-append, get_or_append_left}
 use Rattle.pv_script.specs.Outside.{Rose}
-use Rattle.pv_serve.specs.Jobs.{script_files}
 use Rattle.pv_serve.specs.Outside.{AnyRose}
 use Rattle.pv_cases.specs.Cases.{SuiteCase}
 use Rattle.pv_suite.specs.Causes.{case_files}
@@ -48,17 +47,17 @@ case_rose cs i c old mid new lt at later any =
 
 -- ---- the files of a case
 
-pub script_rose : (c : SuiteCase) (old mid new : List ℕ → ℕ) → ((n : List ℕ) → old n ≤ mid n) → AnyRose (script_files c.script) mid new → AnyRose (case_files c) old new
+pub script_rose : (c : SuiteCase) (old mid new : List ℕ → ℕ) → ((n : List ℕ) → old n ≤ mid n) → AnyRose (option_to_list c.script) mid new → AnyRose (case_files c) old new
 script_rose c old mid new later any =
-    any_later (λ n. Rose (old n) (new n)) c.source (script_files c.script ++ script_files c.output)
-    (any_left (λ n. Rose (old n) (new n)) (script_files c.script) (script_files c.output) (any_within (script_files c.script) old mid new new later (λ n. omega arith) any))
+    any_later (λ n. Rose (old n) (new n)) c.source (option_to_list c.script ++ option_to_list c.output)
+    (any_left (λ n. Rose (old n) (new n)) (option_to_list c.script) (option_to_list c.output) (any_within (option_to_list c.script) old mid new new later (λ n. omega arith) any))
 
-pub output_rose : (c : SuiteCase) (old mid between new : List ℕ → ℕ) → ((n : List ℕ) → old n ≤ mid n) → ((n : List ℕ) → mid n ≤ between n) → AnyRose (script_files c.output) between new
+pub output_rose : (c : SuiteCase) (old mid between new : List ℕ → ℕ) → ((n : List ℕ) → old n ≤ mid n) → ((n : List ℕ) → mid n ≤ between n) → AnyRose (option_to_list c.output) between new
     → AnyRose (case_files c) old new
 output_rose c old mid between new first later any =
-    any_later (λ n. Rose (old n) (new n)) c.source (script_files c.script ++ script_files c.output)
-    (any_right (λ n. Rose (old n) (new n)) (script_files c.script) (script_files c.output)
-    (any_within (script_files c.output) old between new new (λ n. omega (arith, first n, later n)) (λ n. omega arith) any))
+    any_later (λ n. Rose (old n) (new n)) c.source (option_to_list c.script ++ option_to_list c.output)
+    (any_right (λ n. Rose (old n) (new n)) (option_to_list c.script) (option_to_list c.output)
+    (any_within (option_to_list c.output) old between new new (λ n. omega (arith, first n, later n)) (λ n. omega arith) any))
 
 -- ---- errors
 

@@ -1,10 +1,9 @@
 -- What the program of suites does for its words, and which reads may have failed. C17 leaves the outside of a program to its implementation (5.1.2.3p7).
-use Rattle.std.specs.Prelude.{◌⊎◌, ℕ, List, [], ◌∷◌, ◌++◌, Option, Some, None, Result, Ok, Err}
+use Rattle.std.specs.Prelude.{◌⊎◌, ℕ, List, [], ◌∷◌, ◌++◌, Option, Some, None, Result, Ok, Err, option_to_list}
 use Rattle.std.specs.List.{flat_map}
 use Rattle.pv_script.specs.Outside.{Rose}
 use Rattle.pv_cases.specs.declared.list.ListError.{ListError}
 use Rattle.pv_cases.specs.Cases.{SuiteCase, cases_of}
-use Rattle.pv_serve.specs.Jobs.{script_files}
 use Rattle.pv_serve.specs.Outside.{AnyRose}
 use Rattle.pv_serve.specs.Replies.{Service}
 use Rattle.pv_suite.specs.Words.{list_of}
@@ -12,7 +11,7 @@ use Rattle.pv_suite.specs.Answers.{IsReply}
 
 -- 7.21.3p8: the files that a case names: its source's, and those of its script and its output, if there are such
 abbrev pub case_files : SuiteCase → List (List ℕ)
-case_files c = c.source ∷ script_files c.script ++ script_files c.output
+case_files c = c.source ∷ option_to_list c.script ++ option_to_list c.output
 
 -- 7.21.3p8: the files that the lines of a list name
 abbrev pub list_files : Result (List SuiteCase) ListError → List (List ℕ)

@@ -1,7 +1,6 @@
 //! The files of a case.
-ghost use Rattle.std.specs.Prelude.{◌≡◌, ◌≤◌, ◌+◌, ℕ, nat_lt, List, length, take, option_map, Some, IfOk, IfSome, IsErrOf};
+ghost use Rattle.std.specs.Prelude.{◌≡◌, ◌≤◌, ◌+◌, ℕ, nat_lt, List, length, take, option_map, Some, IfOk, IfSome, IsErrOf, option_to_list};
 ghost use Rattle.pv_script.specs.Outside.{Rose};
-ghost use Rattle.pv_serve.specs.Jobs.{script_files};
 ghost use Rattle.pv_serve.specs.Outside.{AnyRose};
 ghost use Rattle.pv_cases.specs.Views.{case_view};
 ghost use Rattle.pv_suite.specs.Answers.{given_of, is_long, output_held, output_limit};
@@ -65,7 +64,7 @@ fn read_output<F: Files>(
     ensures same { (n : List ℕ) → F.held files.new n ≡ F.held files.old n }
     ensures later { (n : List ℕ) → F.faults files.old n ≤ F.faults files.new n }
     ensures cause { IsErrOf result ReadError.Fault →
-        AnyRose (script_files (option_map (λ s. s.now) name.entry)) (F.faults files.old) (F.faults files.new) }
+        AnyRose (option_to_list (option_map (λ s. s.now) name.entry)) (F.faults files.old) (F.faults files.new) }
 {
     match name {
         Some(name) => read_some(alloc, name, files),

@@ -4,7 +4,7 @@ use Rattle.pv_types.specs.Known.{tree, env}
 use Rattle.pv_types.specs.Formed.{members_in, IsBuilt}
 use Rattle.pv_types.specs.Layouts.{layout_in}
 use Rattle.pv_layout.proofs.Ahead.{nobody, ahead_start, ahead_next, next_at}
-use Rattle.pv_describe.specs.Describing.{member_line}
+use Rattle.pv_describe.specs.DescribingParts.{member_line}
 use Rattle.pv_describe.proofs.Members.{struct_starts, struct_next}
 use Rattle.pv_describe.proofs.describing.add_struct_members.Goals as goal
 
