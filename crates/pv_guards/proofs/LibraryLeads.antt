@@ -41,8 +41,10 @@ use Rattle.pv_libc.specs.declared.values.Reply.TheVariants as reply
 use Rattle.pv_libc.specs.Steps.{Now, Did, with_notes, in_memory, halted, next, next_by, about_by, reached}
 use Rattle.pv_libc.specs.Characters.{character_at, characters_from, most, string_at}
 use Rattle.pv_libc.specs.Blocks.{plain_byte, share, copy, memset, memcmp, difference, sign_of, answers}
-use Rattle.pv_libc.specs.Strings.{strlen, compared_by, compared_from, strcpy}
-use Rattle.pv_libc.specs.Heap.{told_of, base_of, heap_request, granted, requested, allocated, malloc, zeroed, cleared, calloc, block_by, block, freed, free, both, moved, resized, realloc}
+use Rattle.pv_libc.specs.Strings.{strlen, compared_from, strcpy}
+use Rattle.pv_libc.specs.StringParts.{compared_by}
+use Rattle.pv_libc.specs.Heap.{told_of, granted, requested, allocated, malloc, cleared, calloc, block_by, block, freed, free, both, moved, resized, realloc}
+use Rattle.pv_libc.specs.HeapParts.{base_of, heap_request, zeroed}
 use Rattle.pv_libc.specs.Calls.{value_in, pointer_in, pointer, argument_at, number, size, printed, printf, called, output}
 use Rattle.pv_typed.specs.Known.{Each}
 use Rattle.pv_exec.specs.Laying.{IsLaidOut}

@@ -49,8 +49,10 @@ use Rattle.pv_libc.specs.declared.values.Reply.TheVariants as reply
 use Rattle.pv_libc.specs.Steps.{Now, Did, done, halted, about_by, noted, in_memory, reached, with_notes}
 use Rattle.pv_libc.specs.Characters.{character_at, characters_from, most, string_at}
 use Rattle.pv_libc.specs.Blocks.{copy, memset, memcmp, filled, plain_byte, share, answers, difference}
-use Rattle.pv_libc.specs.Strings.{strlen, compared_by, compared_from, strcpy}
-use Rattle.pv_libc.specs.Heap.{null, told_of, heap_request, granted, requested, allocated, malloc, zeroed, cleared, calloc, block_in, the_block, block_answer, block_by, block, freed, free, both, moved, resized, realloc}
+use Rattle.pv_libc.specs.Strings.{strlen, compared_from, strcpy}
+use Rattle.pv_libc.specs.StringParts.{compared_by}
+use Rattle.pv_libc.specs.Heap.{null, told_of, granted, requested, allocated, malloc, cleared, calloc, block_in, the_block, block_answer, block_by, block, freed, free, both, moved, resized, realloc}
+use Rattle.pv_libc.specs.HeapParts.{heap_request, zeroed}
 use Rattle.pv_libc.specs.Calls.{pointer, pointer_in, number, size, stopped, called_in, called}
 use Rattle.pv_libc.proofs.Filling.{all_filled}
 use Rattle.pv_libc.proofs.Kept.{created_live}

@@ -14,9 +14,10 @@ use Rattle.pv_libc.specs.declared.values.Note.{Note}
 use Rattle.pv_libc.specs.declared.values.Shape.{Shape}
 use Rattle.pv_libc.specs.declared.values.Shape.TheVariants as shape
 use Rattle.pv_libc.specs.Steps.{Now, Did, done, next, next_by}
-use Rattle.pv_libc.specs.Formats.{piece_at, number_piece, percent_piece}
+use Rattle.pv_libc.specs.Formats.{piece_at, number_piece}
+use Rattle.pv_libc.specs.FormatParts.{percent_piece, given_of}
 use Rattle.pv_libc.specs.Arguments.{string_of, address_of}
-use Rattle.pv_libc.specs.Printing.{number_done, string_done, address_by, address_done, given_of, Printed, piece_done, printed_from, format_of}
+use Rattle.pv_libc.specs.Printing.{number_done, string_done, address_by, address_done, Printed, piece_done, printed_from, format_of}
 use Rattle.pv_libc.specs.Calls.{pointer, offer, printed, printf, stopped, pointer_in}
 use Rattle.pv_journal_laws.proofs.Telling.{IsNumbered}
 use Rattle.pv_journal_laws.proofs.Numbering.{IsNumberedValue}

@@ -37,7 +37,8 @@ use Rattle.pv_libc.specs.declared.values.Reply.{Reply}
 use Rattle.pv_libc.specs.declared.values.Reply.TheVariants as reply
 use Rattle.pv_libc.specs.Steps.{Now, Did, done, next_by, with_notes, about_by}
 use Rattle.pv_libc.specs.Answers.{OrNoMemory}
-use Rattle.pv_libc.specs.Heap.{told_of, heap_request, granted, requested, allocated, malloc, zeroed, cleared, calloc, block_in, the_block, block_answer, block_by, block, freed, free, both, moved, resized, realloc, null}
+use Rattle.pv_libc.specs.Heap.{told_of, granted, requested, allocated, malloc, cleared, calloc, block_in, the_block, block_answer, block_by, block, freed, free, both, moved, resized, realloc, null}
+use Rattle.pv_libc.specs.HeapParts.{heap_request, zeroed}
 use Rattle.pv_libc.specs.Printing.{format_of}
 use Rattle.pv_libc.specs.Calls.{argument_at, pointer, number, size, printed, printf, called_in, called}
 use Rattle.pv_libc.specs.Makings.{IsLiveIfMade, AreLive, UnlessNoMemory}

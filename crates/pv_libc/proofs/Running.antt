@@ -11,7 +11,8 @@ use Rattle.pv_libc.specs.Steps.{Now, Did, done, next}
 use Rattle.pv_libc.specs.Answers.{OrNoMemory}
 use Rattle.pv_libc.specs.Characters.{character_in, character_at, characters_from, string_from}
 use Rattle.pv_libc.specs.Blocks.{sign_of}
-use Rattle.pv_libc.specs.Strings.{compared_by, compared_from}
+use Rattle.pv_libc.specs.Strings.{compared_from}
+use Rattle.pv_libc.specs.StringParts.{compared_by}
 use Rattle.pv_libc.proofs.Steps.{next_is, or_stop}
 
 left : (n i : ℕ) → i < n → n - i ≡ suc (n - (i + 1))

@@ -29,10 +29,6 @@ is_int kind.Int = true
 is_int kind.UInt = true
 is_int _ = false
 
--- 7.21.6.1p7: whether an argument of this kind fits
-abbrev pub takes : (long : Bool) → IntKind → Bool
-takes long k = if long then is_long k else is_int k
-
 -- 7.21.6.1p8: the type whose values a number conversion writes
 abbrev pub written_kind : (long : Bool) → Style → IntKind
 written_kind long style.Signed = if long then kind.Long else kind.Int
@@ -43,9 +39,9 @@ abbrev pub number_text : Style → ℤ → List ℕ
 number_text style.Hexadecimal n = hexadecimal_text (bits_of kind.ULong n)
 number_text _ n = decimal_text n
 
--- the value of an argument of one of the two types, if it is one of the type that is written too (6.5.2.2p6)
+-- the value of an argument of one of the two types (7.21.6.1p7), if it is one of the type that is written too (6.5.2.2p6)
 abbrev pub number_of : (long : Bool) → Style → Shape → Value → Option ℤ
-number_of long how (shape.Int k) (value.Int n) = if takes long k && fits_of (written_kind long how) n then Some n else None
+number_of long how (shape.Int k) (value.Int n) = if (if long then is_long k else is_int k) && fits_of (written_kind long how) n then Some n else None
 number_of long how _ _ = None
 
 -- 7.21.6.1p8, `s`: a pointer to a character type

@@ -42,14 +42,6 @@ copy apart to from n S =
     if apart && share to.pointer.address from.pointer.address n then halted (fault clause.MemcpyOverlap reason.Overlap) (noted (to.stopped ∷ []) U)
     else answers to (in_memory U (copied U.memory t.address f.address n))))
 
--- 7.24.2.1p2: n characters are copied
-abbrev pub memcpy : Given → Given → ℕ → Now → Did Reply
-memcpy to from n S = copy true to from n S
-
--- 7.24.2.2p2: the same, as if by way of another array: they may share bytes
-abbrev pub memmove : Given → Given → ℕ → Now → Did Reply
-memmove to from n S = copy false to from n S
-
 -- 7.24.6.1p2: n bytes get the value, converted to `unsigned char`
 abbrev pub memset : Given → ℤ → ℕ → Now → Did Reply
 memset g c n S = next (reached Text true g n S) (λ r T. answers g (in_memory T (filled T.memory r.address n (bits_of UChar c))))

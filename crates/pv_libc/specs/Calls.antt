@@ -1,17 +1,15 @@
 -- A call of a library function: its reply, the memory after it, and what it prints.
-use Rattle.std.specs.Prelude.{ℕ, ℤ, pos, List, [], drop, length, map, slice_get, Option, None, Some, Result, Ok, Err, if◌then◌else◌}
+use Rattle.std.specs.Prelude.{ℕ, ℤ, pos, List, [], drop, length, map, slice_get, Option, None, Some, if◌then◌else◌, true, false}
 use Rattle.pv_num.specs.declared.kinds.IntKind.TheVariants.{Int, ULong}
 use Rattle.pv_num.specs.Kinds.{bits_of, convert_of, fits_of}
 use Rattle.pv_prov.specs.declared.names.Prov.{Prov}
-use Rattle.pv_prov.specs.declared.names.Stands.{Stands}
-use Rattle.pv_prov.specs.declared.names.Prov.TheVariants.{Empty, Inst, Pair}
+use Rattle.pv_prov.specs.declared.names.Prov.TheVariants.{Empty, Pair}
 use Rattle.pv_prov.specs.Names.{stands}
 use Rattle.pv_script.specs.declared.library.Library.{Library}
 use Rattle.pv_script.specs.declared.library.Library.TheVariants as library
 use Rattle.pv_object.specs.declared.values.Pointer.{Pointer}
 use Rattle.pv_object.specs.declared.values.Value.{Value}
 use Rattle.pv_object.specs.declared.values.Value.TheVariants as value
-use Rattle.pv_object.specs.declared.values.Stop.{Stop}
 use Rattle.pv_object.specs.Memory.{Mem}
 use Rattle.pv_libc.specs.declared.values.Arg.{Arg}
 use Rattle.pv_libc.specs.declared.values.Note.{Note}
@@ -22,22 +20,21 @@ use Rattle.pv_libc.specs.declared.values.Given.{Given}
 use Rattle.pv_libc.specs.declared.values.Offered.{Offered}
 use Rattle.pv_libc.specs.Steps.{Now, Did, done, next, with_notes}
 use Rattle.pv_libc.specs.Heap.{malloc, calloc, free, realloc}
-use Rattle.pv_libc.specs.Blocks.{memcpy, memmove, memset, memcmp}
+use Rattle.pv_libc.specs.Blocks.{memset, memcmp, copy}
 use Rattle.pv_libc.specs.Strings.{strlen, strcmp, strcpy}
 use Rattle.pv_libc.specs.declared.formats.Within.TheVariants as within
 use Rattle.pv_libc.specs.Printing.{printed_from, format_of}
+use Rattle.std.specs.Result.{result_unwrap_or}
 
 -- the number in an argument. Typing makes sure that it is there and of the parameter's type (6.5.2.2p7)
 abbrev pub number_in : Value → ℤ
 number_in (value.Int n) = n
-number_in value.Unset = pos 0
-number_in (value.Pointer p) = pos 0
+number_in _ = pos 0
 
 -- the pointer in an argument (6.5.2.2p7)
 abbrev pub pointer_in : Value → Pointer
 pointer_in (value.Pointer p) = p
-pointer_in value.Unset = record { address = 0; prov = Empty }
-pointer_in (value.Int n) = record { address = 0; prov = Empty }
+pointer_in _ = record { address = 0; prov = Empty }
 
 -- an argument's value
 abbrev pub value_in : Option Arg → Value
@@ -48,27 +45,22 @@ value_in (Some x) = x.value
 abbrev pub number : List Arg → ℕ → ℤ
 number args i = number_in (value_in (slice_get args i))
 
--- 7.19p2: the same as a `size_t`
+-- 7.19p2: argument number i, from 0, as a `size_t`
 abbrev pub size : List Arg → ℕ → ℕ
 size args i = bits_of ULong (number args i)
 
--- 6.5.2.2p7: the same as a pointer
+-- 6.5.2.2p7: argument number i, from 0, as a pointer
 abbrev pub pointer : List Arg → ℕ → Pointer
 pointer args i = pointer_in (value_in (slice_get args i))
 
 -- the memory model: the number of the pair of candidates that a name is
 abbrev pub pair_of : Prov → Option ℕ
 pair_of (Pair k) = Some k
-pair_of (Inst i) = None
-pair_of Empty = None
+pair_of _ = None
 
--- the memory model: the note of the candidates of a name
-abbrev pub stopped_at : Prov → Stands → Note
-stopped_at p s = Stopped s.low s.high (pair_of p)
-
--- the memory model: what is noted last where a check of the pointer stops the call: what its name stood for before the whole call
+-- the memory model: what is noted last where a check of the pointer stops the call: the candidates of its name, as they stood before the whole call
 abbrev pub stopped : Mem → Prov → Note
-stopped M p = stopped_at p (stands M.table.pairs p)
+stopped M p = Stopped (stands M.table.pairs p).low (stands M.table.pairs p).high (pair_of p)
 
 -- 6.5.2.2p7: an argument that is a pointer, with that note
 abbrev pub argument_at : List Arg → ℕ → Mem → Given
@@ -91,14 +83,15 @@ printed args S =
 abbrev pub printf : List Arg → Now → Did Reply
 printf args S = next (printed args S) (λ text T. done (reply.Value (value.Int (convert_of Int (pos (length text))))) T)
 
--- 7.21.6.3, 7.22.3, 7.22.4, 7.24: each function with its arguments
+-- 7.21.6.3, 7.22.3, 7.22.4, 7.24: each function with its arguments; `memcpy` (7.24.2.1p2) and `memmove` (7.24.2.2p2), as if by way of another array,
+-- differ in whether the arrays may share bytes
 abbrev pub called_in : Library → List Arg → Now → Did Reply
 called_in library.Malloc a S = (malloc (size a 0) S)
 called_in library.Calloc a S = (calloc (size a 0) (size a 1) S)
 called_in library.Free a S = (free (argument_at a 0 S.memory) S)
 called_in library.Realloc a S = (realloc (argument_at a 0 S.memory) (size a 1) S)
-called_in library.Memcpy a S = (memcpy (argument_at a 0 S.memory) (argument_at a 1 S.memory) (size a 2) S)
-called_in library.Memmove a S = (memmove (argument_at a 0 S.memory) (argument_at a 1 S.memory) (size a 2) S)
+called_in library.Memcpy a S = (copy true (argument_at a 0 S.memory) (argument_at a 1 S.memory) (size a 2) S)
+called_in library.Memmove a S = (copy false (argument_at a 0 S.memory) (argument_at a 1 S.memory) (size a 2) S)
 called_in library.Memset a S = (memset (argument_at a 0 S.memory) (number a 1) (size a 2) S)
 called_in library.Memcmp a S = (memcmp (argument_at a 0 S.memory) (argument_at a 1 S.memory) (size a 2) S)
 called_in library.Strlen a S = (strlen (argument_at a 0 S.memory) S)
@@ -114,14 +107,9 @@ called_in library.Printf a S = printf a S
 abbrev pub called : Library → List Arg → Mem → Did Reply
 called f args M = called_in f args (with_notes M [])
 
--- 7.21.6.3: what is printed: nothing where the call stops
-abbrev pub text_or_none : Result (List ℕ) Stop → List ℕ
-text_or_none (Ok text) = text
-text_or_none (Err stop) = []
-
 -- 7.21.6.3: only `printf` prints
 abbrev pub output_in : Library → List Arg → Now → List ℕ
-output_in library.Printf a S = text_or_none (printed a S).answer
+output_in library.Printf a S = result_unwrap_or (printed a S).answer []
 output_in _ a S = []
 
 -- 7.21.6.3p2: the bytes that a call prints

@@ -21,7 +21,7 @@ character_of (Ok (value.Unset, tried)) = Err Indeterminate
 character_of (Ok ((value.Pointer p), tried)) = Err Indeterminate
 character_of (Err stop) = Err stop
 
--- 7.24.1p3: the same of a load; what becomes exposed by it is noted at once (the memory model: exposure)
+-- 7.24.1p3: a character that was loaded; what becomes exposed by it is noted at once (the memory model: exposure)
 abbrev pub character_loaded : Now → Loaded → Did ℕ
 character_loaded S got = record { answer = character_of got.0; after = told (in_table S got.1) }
 

@@ -15,7 +15,6 @@ use Rattle.pv_inst.specs.declared.values.Miss.{Miss}
 use Rattle.pv_inst.specs.declared.values.Miss.TheVariants as miss
 use Rattle.pv_inst.specs.Table.{instance_at}
 use Rattle.pv_inst.specs.Infos.{info_of}
-use Rattle.pv_inst.specs.Placing.{Request}
 use Rattle.pv_inst.specs.Use.{use_answer, settled}
 use Rattle.pv_object.specs.declared.values.Pointer.{Pointer}
 use Rattle.pv_object.specs.declared.values.Value.{Value}
@@ -32,6 +31,7 @@ use Rattle.pv_libc.specs.declared.values.Reply.{Reply}
 use Rattle.pv_libc.specs.declared.values.Reply.TheVariants as reply
 use Rattle.pv_libc.specs.Steps.{Now, Did, done, halted, next, noted, in_memory, in_table, about, used}
 use Rattle.pv_libc.specs.Blocks.{filled}
+use Rattle.std.specs.Option.{option_map_or}
 
 -- 6.3.2.3p3: the null pointer
 abbrev pub null : Value
@@ -41,18 +41,9 @@ null = value.Pointer (record { address = 0; prov = Empty })
 abbrev pub told_of : Mem → ℕ → Option Info
 told_of M i = info_of (instance_at M.table.instances i)
 
--- where it begins
-abbrev pub base_of : Option Info → ℕ
-base_of None = 0
-base_of (Some x) = x.base
-
 -- 7.22.3p1: a pointer to the first byte
 abbrev pub pointer_to : Mem → ℕ → Reply
-pointer_to M i = reply.Value (value.Pointer (record { address = base_of (told_of M i); prov = Inst i }))
-
--- 7.22.3p1: an allocation is aligned for every object type
-abbrev pub heap_request : ℕ → Request
-heap_request size = record { text = codes "@heap"; name = 1; size = size; align = 16; kind = Heap }
+pointer_to M i = reply.Value (value.Pointer (record { address = option_map_or (λ (x : Info). x.base) (told_of M i) 0; prov = Inst i }))
 
 -- 7.22.3p1: the number of the new instance, or else what the call replies: null where the script denies it or live bytes are too many
 abbrev pub granted : Now → Result ℕ CreateError × Mem → Did (Result ℕ Reply)
@@ -61,9 +52,11 @@ granted S ((Err create.Denied), N) = done (Err (reply.Value null)) (in_memory S 
 granted S ((Err create.NoMemory), N) = halted NoMemory (in_memory S N)
 granted S ((Err other), N) = done (Err (reply.Placement other)) (in_memory S N)
 
--- 7.22.3p1: of no byte there is no allocation, and no request
+-- 7.22.3p1: of no byte there is no allocation, and no request; an allocation is aligned for every object type
 abbrev pub requested : ℕ → Now → Did (Result ℕ Reply)
-requested size S = if size == 0 then done (Err (reply.Value null)) S else granted S (created S.memory (heap_request size))
+requested size S =
+    if size == 0 then done (Err (reply.Value null)) S
+    else granted S (created S.memory (record { text = codes "@heap"; name = 1; size = size; align = 16; kind = Heap }))
 
 -- 7.22.3.4p3: a pointer to the allocation, or a null pointer
 abbrev pub allocated : Result ℕ Reply → Now → Did Reply
@@ -74,15 +67,11 @@ allocated (Ok i) S = done (pointer_to S.memory i) S
 abbrev pub malloc : ℕ → Now → Did Reply
 malloc size S = next (requested size S) allocated
 
--- 7.22.3.2p2: all bytes are 0
-abbrev pub zeroed : ℕ → Option Info → Mem → Mem
-zeroed i None N = N
-zeroed i (Some x) N = filled N x.base x.size 0
-
 -- 7.22.3.2p2, p3: a pointer to the allocation, whose bytes are 0, or a null pointer
 abbrev pub cleared : Result ℕ Reply → Now → Did Reply
 cleared (Err r) S = done r S
-cleared (Ok i) S = done (pointer_to S.memory i) (in_memory S (zeroed i (told_of S.memory i) S.memory))
+cleared (Ok i) S =
+    done (pointer_to S.memory i) (in_memory S (option_map_or (λ (x : Info). filled S.memory x.base x.size 0) (told_of S.memory i) S.memory))
 
 -- 7.22.3.2p2: the product is exact
 abbrev pub calloc : ℕ → ℕ → Now → Did Reply
@@ -92,17 +81,14 @@ calloc count size S = next (requested (count * size) S) cleared
 abbrev pub block_stop : Clause → Miss → Stop
 block_stop c miss.Ended = fault c reason.Ended
 block_stop c miss.Empty = fault c reason.Empty
-block_stop c miss.Outside = fault c reason.Block
-block_stop c miss.Block = fault c reason.Block
-block_stop c miss.Apart = fault c reason.Block
-block_stop c miss.Undecided = fault c reason.Block
+block_stop c _ = fault c reason.Block
 
 -- 7.22.3.3p2: the survivor, which is live
 abbrev pub block_in : Clause → ℕ → Option Info → Result ℕ Stop
 block_in c i None = Err (fault c reason.Block)
 block_in c i (Some x) = Ok i
 
--- 7.22.3.3p2: the same, if there is one
+-- 7.22.3.3p2: the survivor, if there is one
 abbrev pub the_block : Clause → Mem → Option ℕ → Result ℕ Stop
 the_block c M None = Err (fault c reason.Block)
 the_block c M (Some i) = block_in c i (told_of M i)
@@ -112,7 +98,7 @@ abbrev pub block_answer : Clause → Mem → Pointer → Result Tried Miss → R
 block_answer c M p (Ok tried) = the_block c M (chosen (stands M.table.pairs p.prov) tried)
 block_answer c M p (Err m) = Err (block_stop c m)
 
--- 7.22.3.3p2: the same, with the use of the pointer that the test makes (the memory model)
+-- 7.22.3.3p2: the allocation, with the use of the pointer that the test makes (the memory model)
 abbrev pub block_by : Clause → Given → Now → Result Tried Miss → Did ℕ
 block_by c g S found = record {
   answer = block_answer c S.memory g.pointer found;

@@ -3,8 +3,11 @@ pub mod Steps
 pub mod Characters
 pub mod Blocks
 pub mod Heap
+pub mod HeapParts
 pub mod Strings
+pub mod StringParts
 pub mod Formats
+pub mod FormatParts
 pub mod Arguments
 pub mod Printing
 pub mod Calls

@@ -5,7 +5,7 @@ use Rattle.pv_num.specs.declared.faults.Clause.TheVariants as clause
 use Rattle.pv_num.specs.declared.faults.Reason.TheVariants as reason
 use Rattle.pv_num.specs.Kinds.{bits_of}
 use Rattle.pv_prov.specs.declared.names.Prov.{Prov}
-use Rattle.pv_prov.specs.declared.names.Prov.TheVariants.{Empty, Inst, Pair}
+use Rattle.pv_prov.specs.declared.names.Prov.TheVariants.{Inst}
 use Rattle.pv_inst.specs.declared.values.Info.{Info}
 use Rattle.pv_inst.specs.declared.values.Tried.{Tried}
 use Rattle.pv_inst.specs.declared.values.Test.TheVariants.{Live}
@@ -24,7 +24,6 @@ use Rattle.pv_libc.specs.declared.values.Given.{Given}
 use Rattle.pv_libc.specs.declared.values.Offered.{Offered}
 use Rattle.pv_libc.specs.Steps.{Now, Did, done, halted, next, noted, in_table, about, used, told}
 use Rattle.pv_libc.specs.Characters.{string_at}
-use Rattle.pv_libc.specs.declared.values.Note.{Note}
 use Rattle.pv_libc.specs.declared.formats.Style.TheVariants as style
 use Rattle.pv_libc.specs.declared.formats.Conversion.{Conversion}
 use Rattle.pv_libc.specs.declared.formats.Conversion.TheVariants as conversion
@@ -34,6 +33,7 @@ use Rattle.pv_libc.specs.declared.formats.Piece.{Piece}
 use Rattle.pv_libc.specs.declared.formats.Piece.TheVariants.{Goes, Converts, Breaks}
 use Rattle.pv_libc.specs.Formats.{piece_at}
 use Rattle.pv_libc.specs.Arguments.{number_text, pointer_text, number_of, string_of, address_of}
+use Rattle.std.specs.Option.{option_map_or, option_map}
 
 -- 7.21.6.1p9: an invalid conversion, or an argument that is missing or doesn't fit
 abbrev pub format_stop : Stop
@@ -61,22 +61,17 @@ address_by g S got = record {
   after = told (noted (used (use_answer S.memory.table g.pointer.prov Live) 1) (in_table S got.1));
 }
 
--- 7.21.6.1p8, `p`: the same, if the argument fits
+-- 7.21.6.1p8, `p`: an address, if the argument fits
 abbrev pub address_done : Option Given → Now → Did (List ℕ)
 address_done None S = halted format_stop S
 address_done (Some g) S = about g.stopped (address_by g S (to_int S.memory.table g.pointer kind.ULong))
-
--- 7.21.6.1p9: an argument's pointer, if it is one that fits
-abbrev pub given_of : Note → Option Pointer → Option Given
-given_of note None = None
-given_of note (Some p) = Some (record { pointer = p; stopped = note })
 
 -- 7.21.6.1p8: the text of a conversion with its argument
 abbrev pub converted : Conversion → Offered → Now → Did (List ℕ)
 converted (conversion.Number long how) x S = number_done (number_text how) (number_of long how x.arg.shape x.arg.value) S
 converted conversion.Character x S = number_done (λ n. bits_of kind.UChar n ∷ []) (number_of false style.Signed x.arg.shape x.arg.value) S
-converted conversion.String x S = string_done (given_of x.stopped (string_of x.arg.shape x.arg.value)) S
-converted conversion.Address x S = address_done (given_of x.stopped (address_of x.arg.shape x.arg.value)) S
+converted conversion.String x S = string_done (option_map (λ p. record { pointer = p; stopped = x.stopped }) (string_of x.arg.shape x.arg.value)) S
+converted conversion.Address x S = address_done (option_map (λ p. record { pointer = p; stopped = x.stopped }) (address_of x.arg.shape x.arg.value)) S
 
 -- 7.21.6.1p4: after a byte of the format: where in it, the arguments left, and what is printed so far
 pub record Printed : Type 0 where
@@ -98,31 +93,19 @@ piece_done Breaks args text S = halted format_stop S
 -- 7.21.6.1p9: the end of the format is none of a conversion
 abbrev pub format_end : Within → List ℕ → Now → Did (List ℕ)
 format_end within.Text text S = done text S
-format_end within.Percent text S = halted format_stop S
-format_end within.Long text S = halted format_stop S
+format_end _ text S = halted format_stop S
 
 -- 7.21.6.1p3: the format, byte by byte
 abbrev pub printed_from : List ℕ → Printed → Now → Did (List ℕ)
 printed_from [] at S = format_end at.within at.text S
 printed_from (c ∷ cs) at S = next (piece_done (piece_at at.within c) at.left at.text S) (λ at T. printed_from cs at T)
 
--- 7.1.1p1: a byte of the format and those behind it, none from the first 0 on
-abbrev pub unless_zero : Option ℕ → List ℕ → List ℕ
-unless_zero None rest = []
-unless_zero (Some v) rest = if v == 0 then [] else v ∷ rest
-
 -- 7.21.6.1p3: a format as it is written in its literal, up to the first 0
 abbrev pub before_zero : List Byte → List ℕ
 before_zero [] = []
-before_zero (b ∷ bs) = unless_zero b.value (before_zero bs)
-
--- 6.4.5p6: the literal in this instance
-abbrev pub literal_bytes : Mem → Option Info → List ℕ
-literal_bytes M None = []
-literal_bytes M (Some x) = before_zero (read M.bytes x.base x.size)
+before_zero (b ∷ bs) = option_map_or (λ v. if v == 0 then [] else v ∷ before_zero bs) b.value []
 
 -- 6.4.5p6: the literal that a pointer points to; typing makes sure that it is one
 abbrev pub format_of : Mem → Prov → List ℕ
-format_of M (Inst i) = literal_bytes M (info_of (instance_at M.table.instances i))
-format_of M (Pair k) = []
-format_of M Empty = []
+format_of M (Inst i) = option_map_or (λ (x : Info). before_zero (read M.bytes x.base x.size)) (info_of (instance_at M.table.instances i)) []
+format_of M _ = []

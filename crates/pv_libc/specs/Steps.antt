@@ -1,5 +1,5 @@
 -- A step of a call, and one step behind another.
-use Rattle.std.specs.Prelude.{ℕ, ◌+◌, ◌-◌, ◌^◌, min, Bool, List, [], ◌∷◌, ◌++◌, map, Option, None, Some, Result, Ok, Err}
+use Rattle.std.specs.Prelude.{ℕ, ◌+◌, ◌-◌, ◌^◌, min, Bool, List, [], ◌∷◌, ◌++◌, map, Result, Ok, Err}
 use Rattle.pv_inst.specs.declared.values.Tried.{Tried}
 use Rattle.pv_inst.specs.declared.values.Miss.{Miss}
 use Rattle.pv_inst.specs.declared.values.Test.TheVariants.{Range}
@@ -13,6 +13,7 @@ use Rattle.pv_object.specs.Access.{reach}
 use Rattle.pv_libc.specs.declared.values.Note.{Note}
 use Rattle.pv_libc.specs.declared.values.Note.TheVariants.{Exposed, Used}
 use Rattle.pv_libc.specs.declared.values.Given.{Given}
+use Rattle.std.specs.Option.{option_map_or}
 
 -- where a call stands: the memory, and what was noted so far (the memory model)
 pub record Now : Type 0 where
@@ -57,7 +58,7 @@ in_memory S M = record S { memory = M }
 abbrev pub in_table : Now → Table → Now
 in_table S T = in_memory S (with_table S.memory T)
 
--- the same, by the step's answer
+-- where a step stops with this answer, this is noted last
 abbrev pub about_by : {A : Type 0} → Result A Stop → Note → Did A → Did A
 about_by (Ok a) note d = d
 about_by (Err stop) note d = halted stop (noted (note ∷ []) d.after)
@@ -66,14 +67,9 @@ about_by (Err stop) note d = halted stop (noted (note ∷ []) d.after)
 abbrev pub about : {A : Type 0} → Note → Did A → Did A
 about note d = about_by d.answer note d
 
--- the memory model: a use of a name that stood for two before, a pair of candidates
-abbrev pub pair_used : Option ℕ → Tried → ℕ → List Note
-pair_used None tried test = []
-pair_used (Some k) tried test = Used tried test ∷ []
-
--- the memory model: the same, where the use found survivors
+-- the memory model: a use of a name that stood for two before, a pair of candidates, is noted where it found survivors
 abbrev pub used : Result Tried Miss → ℕ → List Note
-used (Ok tried) test = pair_used tried.pair tried test
+used (Ok tried) test = option_map_or (λ k. Used tried test ∷ []) tried.pair []
 used (Err miss) test = []
 
 -- the memory model: what became exposed is noted, in order
@@ -90,7 +86,7 @@ reached_by by write g n S got = record {
   after = noted (used (use_answer S.memory.table g.pointer.prov (Range g.pointer.address n)) 2) (in_table S got.1);
 }
 
--- 7.24.1p2, 7.1.4p1: the same of this pointer, on behalf of who asks
+-- 7.24.1p2, 7.1.4p1: an access through this pointer, on behalf of who asks
 abbrev pub reached : Asker → (write : Bool) → Given → (n : ℕ) → Now → Did Reach
 reached by write g n S = about g.stopped (reached_by by write g n S (reach S.memory.table g.pointer n 1 write by))
 

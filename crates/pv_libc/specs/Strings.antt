@@ -17,18 +17,14 @@ use Rattle.pv_libc.specs.Blocks.{plain_byte, share, sign_of, answers}
 abbrev pub strlen : Given → Now → Did Reply
 strlen g S = next (string_at Text g S) (λ s T. done (reply.Value (value.Int (pos (length s)))) T)
 
--- 7.24.4p1, 7.24.4.2: of two characters, the sign where they differ, 0 where both are 0, and else what the rest answers
-abbrev pub compared_by : ℕ → ℕ → Now → Did Reply → Did Reply
-compared_by a b S rest =
-    if not (a == b) then done (reply.Value (value.Int (sign_of a b))) S
-    else (if a == 0 then done (reply.Value (value.Int (pos 0))) S else rest)
-
--- 7.24.4.2p2, p3: a character of the left, then one of the right
+-- 7.24.4.2p2, p3, 7.24.4p1: a character of the left, then one of the right: the sign where they differ, 0 where both are 0, and else what the rest
+-- answers
 abbrev pub compared_from : ℕ → Given → Given → ℕ → Now → Did Reply
 compared_from zero p q i S = too_far Text p S
 compared_from (suc k) p q i S =
     next (character_at Text p i S) (λ a T.
-    next (character_at Text q i T) (λ b U. compared_by a b U (compared_from k p q (i + 1) U)))
+    next (character_at Text q i T) (λ b U. if not (a == b) then done (reply.Value (value.Int (sign_of a b))) U
+    else (if a == 0 then done (reply.Value (value.Int (pos 0))) U else compared_from k p q (i + 1) U)))
 
 -- 7.24.4.2p2, p3: two strings compared
 abbrev pub strcmp : Given → Given → Now → Did Reply

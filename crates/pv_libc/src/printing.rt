@@ -7,7 +7,8 @@ ghost use Rattle.pv_object.specs.Later.{IsLater};
 ghost use Rattle.pv_object.specs.Answers.{IsMadeValue};
 ghost use Rattle.pv_libc.specs.Steps.{with_notes};
 ghost use Rattle.pv_libc.specs.Answers.{OrNoMemory, worth};
-ghost use Rattle.pv_libc.specs.Arguments.{number_text, pointer_text, takes, written_kind, number_of, string_of, address_of};
+ghost use Rattle.pv_libc.specs.Arguments.{number_text, pointer_text, written_kind, number_of, string_of, address_of};
+ghost use Rattle.pv_libc.specs.FormatParts.{takes};
 ghost use Rattle.pv_libc.specs.Printing.{address_done, converted, piece_done, printed_from, before_zero, format_of, format_stop};
 ghost use Rattle.pv_libc.specs.declared.formats.Within.TheVariants as within;
 

@@ -9,7 +9,8 @@ use Rattle.pv_libc.specs.declared.values.Arg.{Arg}
 use Rattle.pv_libc.specs.declared.values.Reply.{Reply}
 use Rattle.pv_libc.specs.declared.values.Reply.TheVariants as reply
 use Rattle.pv_libc.specs.Steps.{Now, Did, with_notes}
-use Rattle.pv_libc.specs.Calls.{argument_at, number, size, status, called_in, called, text_or_none, output_in, output}
+use Rattle.pv_libc.specs.Calls.{argument_at, number, size, status, called_in, called, output_in, output}
+use Rattle.pv_libc.specs.StringParts.{text_or_none}
 use Rattle.pv_world.specs.Worlds.{World}
 use Rattle.pv_world.specs.Telling.{Told}
 use Rattle.pv_world.specs.Objects.{with_bytes}

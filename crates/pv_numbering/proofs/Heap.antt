@@ -21,7 +21,8 @@ use Rattle.pv_libc.specs.declared.values.Reply.{Reply}
 use Rattle.pv_libc.specs.declared.values.Reply.TheVariants as reply
 use Rattle.pv_libc.specs.Steps.{Now, Did, done, noted, in_memory}
 use Rattle.pv_libc.specs.Blocks.{plain_byte}
-use Rattle.pv_libc.specs.Heap.{null, told_of, pointer_to, heap_request, granted, requested, allocated, malloc, zeroed, cleared, calloc, block_by, block, freed, free, both, moved, resized, realloc}
+use Rattle.pv_libc.specs.Heap.{null, told_of, pointer_to, granted, requested, allocated, malloc, cleared, calloc, block_by, block, freed, free, both, moved, resized, realloc}
+use Rattle.pv_libc.specs.HeapParts.{heap_request, zeroed}
 use Rattle.pv_numbering.proofs.Marks.{AlikeStores}
 use Rattle.pv_numbering.proofs.Objects.{blanks_alike, cleared_alike}
 use Rattle.pv_numbering.proofs.Steps.{at_bytes, AlikeDid, Keeps, done-keeps, either-keeps, next-alike, about-alike}

@@ -20,9 +20,10 @@ use Rattle.pv_libc.specs.declared.values.Arg.{Arg}
 use Rattle.pv_libc.specs.declared.values.Reply.{Reply}
 use Rattle.pv_libc.specs.declared.values.Reply.TheVariants as reply
 use Rattle.pv_libc.specs.Steps.{Now, Did, done, next_by, next}
-use Rattle.pv_libc.specs.Formats.{piece_at, number_piece, percent_piece}
+use Rattle.pv_libc.specs.Formats.{piece_at, number_piece}
+use Rattle.pv_libc.specs.FormatParts.{percent_piece, given_of, unless_zero, literal_bytes}
 use Rattle.pv_libc.specs.Arguments.{string_of, address_of}
-use Rattle.pv_libc.specs.Printing.{number_done, string_done, address_by, address_done, given_of, Printed, piece_done, printed_from, unless_zero, before_zero, literal_bytes, format_of}
+use Rattle.pv_libc.specs.Printing.{number_done, string_done, address_by, address_done, Printed, piece_done, printed_from, before_zero, format_of}
 use Rattle.pv_libc.specs.Calls.{pointer, offer, printed, printf}
 use Rattle.pv_numbering.proofs.Marks.{AlikeBytes, AlikeStores}
 use Rattle.pv_numbering.proofs.Bytes.{alike_read}

@@ -27,7 +27,8 @@ use Rattle.pv_libc.specs.Steps.{Now, Did, next_by, next, reached}
 use Rattle.pv_libc.specs.Characters.{character_at, characters_from, most, string_at}
 use Rattle.pv_libc.specs.Blocks.{share, copy, memset, memcmp}
 use Rattle.pv_libc.specs.Strings.{strlen, compared_from, strcpy}
-use Rattle.pv_libc.specs.Heap.{heap_request, granted, requested, allocated, malloc, cleared, calloc, block, freed, free, moved, resized, realloc}
+use Rattle.pv_libc.specs.Heap.{granted, requested, allocated, malloc, cleared, calloc, block, freed, free, moved, resized, realloc}
+use Rattle.pv_libc.specs.HeapParts.{heap_request}
 use Rattle.pv_libc.specs.Calls.{argument_at, number, size, printed, called_in}
 use Rattle.pv_world.specs.Worlds.{Wrong, Undefined, Undecided, Halts, Halt, Indeterminate, Exits, Aborts, Refused, SidesEnded, Worth, Nothing, Missing, Scalar, Whole}
 use Rattle.pv_world.specs.Worths.{unplain, unpresent, wrong_of}

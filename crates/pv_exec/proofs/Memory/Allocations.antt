@@ -24,7 +24,8 @@ use Rattle.pv_inst.specs.Placing.{place}
 use Rattle.pv_libc.specs.declared.values.Note.{Note}
 use Rattle.pv_libc.specs.declared.values.Reply.{Reply}
 use Rattle.pv_libc.specs.Steps.{Now, Did, about_by, reached, reached_by}
-use Rattle.pv_libc.specs.Heap.{told_of, heap_request, granted, requested, block_in, the_block, block_answer, block_by, block, both}
+use Rattle.pv_libc.specs.Heap.{told_of, granted, requested, block_in, the_block, block_answer, block_by, block, both}
+use Rattle.pv_libc.specs.HeapParts.{heap_request}
 use Rattle.pv_libc.proofs.Reaches.{whole_reach}
 use Rattle.pv_exec.proofs.Memory.Reached.{AreInLive, IsAllocated, IsAllocation, chosen-block, reach-in-live, reach-reaches, reach-instances, in-live-same, allocation-placed}
 use Rattle.pv_exec.proofs.Memory.Ways.{When}

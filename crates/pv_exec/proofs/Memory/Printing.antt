@@ -7,9 +7,10 @@ use Rattle.pv_object.specs.Memory.{Mem, with_table}
 use Rattle.pv_object.specs.Operations.{to_int}
 use Rattle.pv_libc.specs.declared.values.Arg.{Arg}
 use Rattle.pv_libc.specs.Steps.{Now, Did, done, next, next_by}
-use Rattle.pv_libc.specs.Formats.{piece_at, number_piece, percent_piece}
+use Rattle.pv_libc.specs.Formats.{piece_at, number_piece}
+use Rattle.pv_libc.specs.FormatParts.{percent_piece, given_of}
 use Rattle.pv_libc.specs.Arguments.{string_of, address_of}
-use Rattle.pv_libc.specs.Printing.{number_done, string_done, address_by, address_done, given_of, Printed, piece_done, printed_from, format_of}
+use Rattle.pv_libc.specs.Printing.{number_done, string_done, address_by, address_done, Printed, piece_done, printed_from, format_of}
 use Rattle.pv_libc.specs.Calls.{pointer, offer, printed, printf}
 use Rattle.pv_exec.proofs.Memory.Ways.{Ways, Steps, next-steps, about-steps, text-steps}
 

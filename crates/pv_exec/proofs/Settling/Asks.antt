@@ -11,7 +11,8 @@ use Rattle.pv_libc.specs.declared.values.Arg.{Arg}
 use Rattle.pv_libc.specs.declared.values.Reply.{Reply}
 use Rattle.pv_libc.specs.declared.values.Reply.TheVariants as reply
 use Rattle.pv_libc.specs.Steps.{Now, Did, done, next_by, with_notes}
-use Rattle.pv_libc.specs.Calls.{number, size, pointer, stopped, status, text_or_none, printed}
+use Rattle.pv_libc.specs.Calls.{number, size, pointer, stopped, status, printed}
+use Rattle.pv_libc.specs.StringParts.{text_or_none}
 use Rattle.pv_world.specs.Worlds.{Nothing, Scalar, World, Halts, Exits, Aborts, Refused}
 use Rattle.pv_world.specs.Telling.{Told}
 use Rattle.pv_world.specs.Doing.{Done, Answers, Fails, Breaks}

@@ -25,7 +25,8 @@ use Rattle.pv_libc.specs.declared.values.Note.{Note}
 use Rattle.pv_libc.specs.declared.values.Reply.{Reply}
 use Rattle.pv_libc.specs.declared.values.Reply.TheVariants as reply
 use Rattle.pv_libc.specs.Steps.{Now, Did, done, next}
-use Rattle.pv_libc.specs.Heap.{null, told_of, heap_request, granted, requested, allocated, malloc, zeroed, cleared, calloc, block_stop, block_in, the_block, block_by, block, freed, free, both, moved, resized, realloc}
+use Rattle.pv_libc.specs.Heap.{null, told_of, granted, requested, allocated, malloc, cleared, calloc, block_stop, block_in, the_block, block_by, block, freed, free, both, moved, resized, realloc}
+use Rattle.pv_libc.specs.HeapParts.{heap_request, zeroed}
 use Rattle.pv_exec.proofs.Memory.Rows.{Sound, Leads, led-itself}
 use Rattle.pv_exec.proofs.Memory.Tables.{leading, use-leads, ended-leads}
 use Rattle.pv_exec.proofs.Settling.Sides.{on_sides, on_table, on_memory, Allows, Covers}

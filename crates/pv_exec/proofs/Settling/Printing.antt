@@ -19,9 +19,10 @@ use Rattle.pv_object.specs.Operations.{to_int, to_int_after, exposed_to}
 use Rattle.pv_libc.specs.declared.values.Arg.{Arg}
 use Rattle.pv_libc.specs.declared.values.Note.{Note}
 use Rattle.pv_libc.specs.Steps.{Now, Did, done, halted, next, next_by}
-use Rattle.pv_libc.specs.Formats.{piece_at, number_piece, percent_piece}
+use Rattle.pv_libc.specs.Formats.{piece_at, number_piece}
+use Rattle.pv_libc.specs.FormatParts.{percent_piece, given_of}
 use Rattle.pv_libc.specs.Arguments.{string_of, address_of}
-use Rattle.pv_libc.specs.Printing.{format_stop, number_done, string_done, address_by, address_done, given_of, Printed, piece_done, printed_from, format_of}
+use Rattle.pv_libc.specs.Printing.{format_stop, number_done, string_done, address_by, address_done, Printed, piece_done, printed_from, format_of}
 use Rattle.pv_libc.specs.Calls.{pointer, offer, printed, stopped, pointer_in}
 use Rattle.pv_exec.proofs.Memory.Rows.{Sound, led-itself}
 use Rattle.pv_exec.proofs.Memory.Tables.{leading}
