@@ -14,7 +14,8 @@ use Rattle.pv_typed.specs.Tables.{Stored}
 use Rattle.pv_typed.specs.NodeTrees.{expression_at}
 use Rattle.pv_world.specs.Worlds.{Worth, World}
 use Rattle.pv_world.specs.Worths.{int, pointer, truth_int, missing_value}
-use Rattle.pv_world.specs.Telling.{quiet, telling, uses, used, used_pair, live_test}
+use Rattle.pv_world.specs.Telling.{quiet, telling, uses, used, live_test}
+use Rattle.pv_world.specs.ObjectParts.{used_pair}
 use Rattle.pv_world.specs.Doing.{Answers, Fails}
 use Rattle.pv_world.specs.Conversions.{opposite, tests, truth_by as truth_of}
 use Rattle.pv_world.specs.Pointers.{equals, equal_by as equal_of}

@@ -42,7 +42,8 @@ use Rattle.pv_world.specs.Worlds.{Worth, World, with_table}
 use Rattle.pv_world.specs.Worths.{int, pointer, pointer_of, missing_value, undefined}
 use Rattle.pv_world.specs.Telling.{quiet, telling, uses, range_test, each_paired, each_exposed, exposures, pairings}
 use Rattle.pv_world.specs.Doing.{Answers, Fails}
-use Rattle.pv_world.specs.Accesses.{range_use, reaching_by, scalar_by, worth_in}
+use Rattle.pv_world.specs.Accesses.{reaching_by, scalar_by, worth_in}
+use Rattle.pv_world.specs.AccessParts.{range_use}
 use Rattle.pv_eval.specs.States.{then_do}
 use Rattle.pv_eval.specs.TypeForms.{Lvalue, lvalue, shape_of}
 use Rattle.pv_eval.specs.Sizes.{setting_of}

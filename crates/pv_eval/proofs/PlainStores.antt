@@ -21,7 +21,8 @@ use Rattle.pv_world.specs.Worths.{int, pointer, null_pointer, missing_value, und
 use Rattle.pv_world.specs.Objects.{put_at}
 use Rattle.pv_world.specs.Telling.{quiet, telling, uses, range_test}
 use Rattle.pv_world.specs.Doing.{Done, Answers, Fails}
-use Rattle.pv_world.specs.Accesses.{range_use, reaching_by, stored_as}
+use Rattle.pv_world.specs.Accesses.{reaching_by, stored_as}
+use Rattle.pv_world.specs.AccessParts.{range_use}
 use Rattle.pv_eval.specs.declared.marked.Marked.{Marked}
 use Rattle.pv_eval.specs.declared.plain.Found.{Found}
 use Rattle.pv_eval.specs.declared.plain.Found.TheVariants as found

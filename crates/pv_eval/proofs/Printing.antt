@@ -8,7 +8,7 @@ use Rattle.pv_world.specs.declared.got.Got.{Got}
 use Rattle.pv_world.specs.declared.got.Failure.{Failure as Fallen}
 use Rattle.pv_world.specs.declared.got.Failure.TheVariants as fallen
 use Rattle.pv_world.specs.Worlds.{Worth, Nothing, World, Halts, SidesEnded}
-use Rattle.pv_world.specs.Objects.{without_first}
+use Rattle.pv_world.specs.ObjectParts.{without_first}
 use Rattle.pv_world.specs.Telling.{Told, quiet, telling, fault_told, fault_of, verdict_of}
 use Rattle.pv_world.specs.Doing.{Done, Answers, Fails, Breaks}
 use Rattle.pv_eval.specs.declared.failure.Failure.{Failure}

@@ -10,7 +10,8 @@ use Rattle.pv_typed.specs.TypedStatement.{TypedStatement}
 use Rattle.pv_typed.specs.TypedUnits.{TypedFunction, layouts, object_at, function_at}
 use Rattle.pv_world.specs.Worlds.{Worth, Nothing, Missing, World, Bindings}
 use Rattle.pv_world.specs.Worths.{int}
-use Rattle.pv_world.specs.Objects.{instance_of, without_first}
+use Rattle.pv_world.specs.Objects.{instance_of}
+use Rattle.pv_world.specs.ObjectParts.{without_first}
 use Rattle.pv_eval.specs.States.{Setting, State, Res, Gives, Stops}
 use Rattle.pv_typed.specs.Known.{Each}
 use Rattle.pv_eval.specs.TypeForms.{lvalue, size_of, gives_none}

@@ -36,11 +36,13 @@ use Rattle.pv_world.specs.Worlds.{Worth, Nothing, Missing, Scalar, Whole, World,
 use Rattle.pv_world.specs.Worths.{int, truth_int, pointer, pointer_of, value_of, bytes_of, unplain, unpresent}
 use Rattle.pv_world.specs.Conversions.{opposite}
 use Rattle.pv_world.specs.Calculations.{accepts}
-use Rattle.pv_world.specs.Pointers.{finds, found_by, unlike}
+use Rattle.pv_world.specs.Pointers.{finds, found_by}
+use Rattle.pv_world.specs.PointerParts.{unlike}
 use Rattle.pv_world.specs.Telling.{Told, quiet, telling, used, code_test}
 use Rattle.pv_world.specs.Doing.{Done, Answers, Fails, Breaks}
 use Rattle.pv_world.specs.Objects.{bound_in, instance_of, literal_of, function_of, base_in, address_of, owner_of}
-use Rattle.pv_world.specs.Accesses.{reaching_by, range_use, mark_of, stored_as, is_inexact}
+use Rattle.pv_world.specs.Accesses.{reaching_by, mark_of, stored_as, is_inexact}
+use Rattle.pv_world.specs.AccessParts.{range_use}
 use Rattle.pv_eval.specs.States.{Setting}
 use Rattle.pv_eval.specs.TypeForms.{lvalue, size_of}
 use Rattle.pv_eval.specs.Objects.{instance_for}

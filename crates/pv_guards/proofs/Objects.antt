@@ -21,7 +21,8 @@ use Rattle.pv_object.proofs.Born.{IsBorn, born}
 use Rattle.pv_typed.specs.Known.{Each}
 use Rattle.pv_typed.specs.TypedUnits.{object_at, literal_at}
 use Rattle.pv_world.specs.Worlds.{Worth, World, Bindings}
-use Rattle.pv_world.specs.Objects.{bind, bound_in, bind_in, owned_next, owning, owner_of, instance_of, base_in, object_made, makes_object, filling}
+use Rattle.pv_world.specs.Objects.{bind, bound_in, bind_in, owning, owner_of, instance_of, base_in, makes_object}
+use Rattle.pv_world.specs.ObjectParts.{owned_next, object_made, filling}
 use Rattle.pv_eval.specs.States.{Setting, State}
 use Rattle.pv_eval.specs.Acting.{sided}
 use Rattle.pv_eval.specs.TypeForms.{lvalue, size_of}

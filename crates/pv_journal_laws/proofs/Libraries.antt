@@ -57,7 +57,8 @@ use Rattle.pv_libc.specs.Calls.{pointer, pointer_in, number, size, stopped, call
 use Rattle.pv_libc.proofs.Filling.{all_filled}
 use Rattle.pv_libc.proofs.Kept.{created_live}
 use Rattle.pv_watch.specs.declared.event.What.TheVariants as what
-use Rattle.pv_world.specs.Telling.{made, made_row}
+use Rattle.pv_world.specs.Telling.{made}
+use Rattle.pv_world.specs.ObjectParts.{made_row}
 use Rattle.pv_eval.specs.Library.{all_noted}
 use Rattle.pv_exec.specs.Staying.{Remains}
 use Rattle.pv_exec.proofs.Memory.Rows.{Leads}

@@ -20,7 +20,8 @@ use Rattle.pv_inst.specs.Placing.{Request, fresh, with_fresh, first_overlap}
 use Rattle.pv_inst.specs.Finding.{reaches, begins, number_of, both_found, table_by, fitting, after_name}
 use Rattle.pv_inst.specs.WellFormed.{HasMet, IsPlaced, Apart}
 use Rattle.pv_inst.proofs.Meetings.{met_found}
-use Rattle.pv_world.specs.Telling.{pairings, each_paired, made, made_row}
+use Rattle.pv_world.specs.Telling.{pairings, each_paired, made}
+use Rattle.pv_world.specs.ObjectParts.{made_row}
 use Rattle.pv_journal.specs.Journals.{Made, Paired}
 use Rattle.pv_journal.specs.Obeying.{after_fact}
 use Rattle.pv_journal_laws.proofs.Telling.{id_of, held_of, known, state_of, told_from, AreCalled}

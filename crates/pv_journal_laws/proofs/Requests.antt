@@ -17,9 +17,9 @@ use Rattle.pv_object.specs.Memory.{Mem}
 use Rattle.pv_object.specs.Creating.{created, made as made_in}
 use Rattle.pv_object.proofs.Born.{slice_last, at_next}
 use Rattle.pv_watch.specs.declared.event.What.{What}
-use Rattle.pv_world.specs.Telling.{made, made_row}
-use Rattle.pv_exec.proofs.Memory.Rows.{push-led}
-use Rattle.pv_exec.proofs.Memory.Rows.{led-itself}
+use Rattle.pv_world.specs.Telling.{made}
+use Rattle.pv_world.specs.ObjectParts.{made_row}
+use Rattle.pv_exec.proofs.Memory.Rows.{push-led, led-itself}
 use Rattle.pv_journal_laws.proofs.Makings.{make_tells}
 use Rattle.pv_journal_laws.proofs.Calling.{called_more, called_push}
 use Rattle.pv_journal_laws.proofs.Changes.{AreFew, Tells, tells-itself}

@@ -10,7 +10,8 @@ use Rattle.pv_inst.specs.declared.values.Instance.{Instance}
 use Rattle.pv_inst.specs.Table.{Table, instance_at}
 use Rattle.pv_inst.specs.Use.{two_of, if_two}
 use Rattle.pv_inst.specs.WellFormed.{HasMet}
-use Rattle.pv_world.specs.Telling.{used_pair, same_test}
+use Rattle.pv_world.specs.Telling.{same_test}
+use Rattle.pv_world.specs.ObjectParts.{used_pair}
 use Rattle.pv_journal_laws.proofs.Telling.{state_of, told_from, AreCalled}
 use Rattle.pv_journal_laws.proofs.Rows.{met_rows, may_same, use_passes}
 use Rattle.pv_journal_laws.proofs.Uses.{AllFill, at_table, tried_told, differ, keeps_as, row_all}

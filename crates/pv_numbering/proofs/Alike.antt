@@ -4,7 +4,7 @@ use Rattle.pv_types.specs.Known.{Known}
 use Rattle.pv_shadow.specs.Bytes.{Store}
 use Rattle.pv_world.specs.declared.got.Shape.TheVariants as shape
 use Rattle.pv_world.specs.Worlds.{Worth, Nothing, Missing, Scalar, Whole, World}
-use Rattle.pv_world.specs.Objects.{with_bytes}
+use Rattle.pv_world.specs.ObjectParts.{with_bytes}
 use Rattle.pv_eval.specs.States.{Setting, State, Res, Gives, Stops}
 use Rattle.pv_eval.specs.Sequenced.{Given}
 use Rattle.pv_eval.specs.TypeForms.{Lvalue}

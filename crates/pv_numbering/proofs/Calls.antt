@@ -13,7 +13,7 @@ use Rattle.pv_libc.specs.Calls.{argument_at, number, size, status, called_in, ca
 use Rattle.pv_libc.specs.StringParts.{text_or_none}
 use Rattle.pv_world.specs.Worlds.{World}
 use Rattle.pv_world.specs.Telling.{Told}
-use Rattle.pv_world.specs.Objects.{with_bytes}
+use Rattle.pv_world.specs.ObjectParts.{with_bytes}
 use Rattle.pv_eval.specs.Library.{told_of, with_memory, replied, asked, asks}
 use Rattle.pv_numbering.proofs.Marks.{AlikeStores}
 use Rattle.pv_numbering.proofs.Doing.{AlikeDone, at_two, Alikes, alike_world}

@@ -8,7 +8,7 @@ use Rattle.pv_world.specs.Worlds.{Worth, Nothing, World, Wrong}
 use Rattle.pv_world.specs.Telling.{Told, quiet}
 use Rattle.pv_world.specs.Doing.{Done, Answers, Fails, Breaks}
 use Rattle.pv_world.specs.Worths.{unplain, unpresent, unless, computed}
-use Rattle.pv_world.specs.Objects.{with_bytes}
+use Rattle.pv_world.specs.ObjectParts.{with_bytes}
 use Rattle.pv_numbering.proofs.Marks.{AlikeStores}
 use Rattle.pv_numbering.proofs.Alike.{AlikeWorth, AlikeWorld}
 use Rattle.pv_numbering.proofs.Worths.{unplain-same, unpresent-same}

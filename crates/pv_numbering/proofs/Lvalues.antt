@@ -20,7 +20,7 @@ use Rattle.pv_world.specs.Worlds.{Worth, World}
 use Rattle.pv_world.specs.Telling.{Told}
 use Rattle.pv_world.specs.Doing.{Done, Fails}
 use Rattle.pv_world.specs.Worths.{undefined, pointer_of}
-use Rattle.pv_world.specs.Objects.{with_bytes}
+use Rattle.pv_world.specs.ObjectParts.{with_bytes}
 use Rattle.pv_world.specs.Accesses.{stored_as, is_inexact}
 use Rattle.pv_eval.specs.States.{Setting}
 use Rattle.pv_eval.specs.TypeForms.{Lvalue}

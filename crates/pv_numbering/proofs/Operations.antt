@@ -10,7 +10,7 @@ use Rattle.pv_world.specs.Telling.{quiet}
 use Rattle.pv_world.specs.Doing.{Done, Fails}
 use Rattle.pv_world.specs.Worths.{missing_value}
 use Rattle.pv_world.specs.Pointers.{is_order}
-use Rattle.pv_world.specs.Objects.{with_bytes}
+use Rattle.pv_world.specs.ObjectParts.{with_bytes}
 use Rattle.pv_eval.specs.States.{Setting}
 use Rattle.pv_eval.specs.TypeForms.{Lvalue}
 use Rattle.pv_eval.specs.Callees.{may_call}

@@ -23,10 +23,12 @@ use Rattle.pv_world.specs.Worlds.{Worth, World, with_table}
 use Rattle.pv_world.specs.Telling.{quiet, telling, used, code_test, all_told}
 use Rattle.pv_world.specs.Doing.{Done, Answers}
 use Rattle.pv_world.specs.Worths.{int, truth_int, int_of, pointer_of, computed}
-use Rattle.pv_world.specs.Objects.{with_bytes, owner_of}
+use Rattle.pv_world.specs.Objects.{owner_of}
+use Rattle.pv_world.specs.ObjectParts.{with_bytes}
 use Rattle.pv_world.specs.Conversions as convert
 use Rattle.pv_world.specs.Calculations as calculate
 use Rattle.pv_world.specs.Pointers as point
+use Rattle.pv_world.specs.PointerParts as point_parts
 use Rattle.pv_numbering.proofs.Alike.{AlikeWorth}
 use Rattle.pv_numbering.proofs.Worths.{by_worths, int-same, pointer-same}
 use Rattle.pv_numbering.proofs.Doing.{AlikeDone, at_one, at_two, Alikes, alike_world, gives_alike, fails_alike, either_alike, does_nothing, plain_alike, present_alike, computed_alike}
@@ -197,7 +199,7 @@ module _ (m m' : Known) where
       → AlikeDone m m' (point.subtracts size v x w) (point.subtracts size v' x' (with_bytes w b))
   subtracts-alike size v v' x x' g f w b h =
       plain_alike m m' w b v v' _ _ h g (plain_alike m m' w b x x' _ _ h f
-      (by_pointers (λ w p q. point.between size p q w) v v' x x' w b g f (λ p q. between_by-alike size p q w b (together SubtractionOfPointers w.memory.table p q) h)))
+      (by_pointers (λ w p q. point_parts.between size p q w) v v' x x' w b g f (λ p q. between_by-alike size p q w b (together SubtractionOfPointers w.memory.table p q) h)))
 
   pub orders-alike : (k : BinOp) (v v' x x' : Worth) → point.is_order k ≡ true → AlikeWorth m m' v v' → AlikeWorth m m' x x' → (w : World) (b : Store) → Alikes m m' w b
       → AlikeDone m m' (point.orders k v x w) (point.orders k v' x' (with_bytes w b))
@@ -214,7 +216,7 @@ module _ (m m' : Known) where
   found_in-alike : (w : World) (b : Store) (p : Pointer) (fits : Option ℕ → Bool) (o : Option ℕ) (us : List What) → Alikes m m' w b
       → AlikeDone m m' (point.found_in w p fits o us) (point.found_in (with_bytes w b) p fits o us)
   found_in-alike w b p fits o us h =
-      either_alike m m' (fits o) _ _ _ _ (gives_alike m m' (int (pos (unwrap_or o 0))) (int (pos (unwrap_or o 0))) w b (telling us) refl h) (fails_alike m m' point.unlike (Some p.prov) w b (telling us) h)
+      either_alike m m' (fits o) _ _ _ _ (gives_alike m m' (int (pos (unwrap_or o 0))) (int (pos (unwrap_or o 0))) w b (telling us) refl h) (fails_alike m m' point_parts.unlike (Some p.prov) w b (telling us) h)
 
   found_by-alike : (w : World) (b : Store) (p : Pointer) (fits : Option ℕ → Bool) (r : Result (ℕ × Tried) Stop × Table) → Alikes m m' w b → AlikeDone m m' (point.found_by w p fits r) (point.found_by (with_bytes w b) p fits r)
   found_by-alike w b p fits (Ok r, T) h = found_in-alike (with_table w T) b p fits (owner_of w r.0) (used code_test r.1) h

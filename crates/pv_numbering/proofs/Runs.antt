@@ -18,7 +18,7 @@ use Rattle.pv_typed.specs.TypedUnits.{Store, StoredValue, ValueOf, TextOf, Typed
 use Rattle.pv_shadow.specs.Bytes.{Store as Bytes}
 use Rattle.pv_world.specs.Worlds.{Worth, Nothing, Missing, World}
 use Rattle.pv_world.specs.Worths.{int}
-use Rattle.pv_world.specs.Objects.{with_bytes}
+use Rattle.pv_world.specs.ObjectParts.{with_bytes}
 use Rattle.pv_eval.specs.States.{Setting, State, Why, Turns, Unreached, Stopped, Res, Gives, Stops, then_do, end_of}
 use Rattle.pv_eval.specs.TypeForms.{lvalue, size_of, gives_none}
 use Rattle.pv_eval.specs.Constants.{constant_worth}

@@ -11,7 +11,8 @@ use Rattle.pv_watch.specs.declared.event.What.{What}
 use Rattle.pv_world.specs.Worlds.{World, with_table}
 use Rattle.pv_world.specs.Telling.{both_used, fault_told}
 use Rattle.pv_world.specs.Worths.{int, wrong_of}
-use Rattle.pv_world.specs.Pointers.{in_elements, between_by, uneven}
+use Rattle.pv_world.specs.Pointers.{in_elements, between_by}
+use Rattle.pv_world.specs.PointerParts.{uneven}
 use Rattle.pv_world.specs.Coming.{seen, Gave, Ended}
 
 rem_one : (d : ℤ) → int_rem d (pos 1) ≡ pos 0

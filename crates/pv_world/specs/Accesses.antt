@@ -24,25 +24,22 @@ use Rattle.pv_world.specs.Telling.{Told, quiet, telling, uses, used, live_test, 
 use Rattle.pv_world.specs.Doing.{Done, Answers, Fails}
 use Rattle.pv_world.specs.Worths.{present, wrong_of, value_of, bytes_of}
 
--- 6.5.3.2p4: the use of a pointer for a range of so many bytes, as it is made on this table (the memory model)
-abbrev pub range_use : Table → Pointer → (n : ℕ) → List What
-range_use T p n = uses range_test (use_answer T p.prov (Range p.address n))
-
 -- 6.5.3.2p4, 6.2.4p2, 6.4.5p7, 6.7.3p6: the checks of an access to so many bytes, and then what is done with them. The use
 -- stays told where a later check ends the run
 abbrev pub reaching_by : World → Pointer → List What → Result Reach Stop × Table → (Reach → World → Told → Done) → Done
 reaching_by w p us (Ok at, T) go = go at (with_table w T) (telling us)
 reaching_by w p us (Err y, T) go = Fails (wrong_of y) (Some p.prov) (with_table w T) (telling us)
 
--- 6.5.3.2p4, 6.2.4p2, 6.4.5p7, 6.7.3p6: the same of this pointer
+-- 6.5.3.2p4, 6.2.4p2, 6.4.5p7, 6.7.3p6: the checks of an access to so many bytes by this pointer, and then what is done with them; its use for the
+-- range is told (the memory model)
 abbrev pub reaching : Pointer → (n align : ℕ) → (write : Bool) → World → (Reach → World → Told → Done) → Done
-reaching p n align write w go = reaching_by w p (range_use w.memory.table p n) (reach w.memory.table p n align write Access) go
+reaching p n align write w go =
+    reaching_by w p (uses range_test (use_answer w.memory.table p.prov (Range p.address n))) (reach w.memory.table p n align write Access) go
 
 -- 6.2.6.1: the scalar that bytes are, of a shape that is one
 abbrev pub scalar_as : Table → List Byte → Shape → Loaded
 scalar_as T bytes (shape.Int k) = load_of T bytes (scalar.Int k)
-scalar_as T bytes shape.Pointer = load_of T bytes scalar.Pointer
-scalar_as T bytes shape.Whole = load_of T bytes scalar.Pointer
+scalar_as T bytes _ = load_of T bytes scalar.Pointer
 
 -- A load of a pointer that stops by the live test (6.2.4p2) blames the loaded pointer, which was stored whole: what a number
 -- finds is live. All else blames the accessed pointer, if bytes were accessed. (The memory model: provenance.)

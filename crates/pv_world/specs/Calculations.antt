@@ -8,7 +8,6 @@ use Rattle.pv_world.specs.Worlds.{Worth, Nothing, World}
 use Rattle.pv_world.specs.Telling.{quiet}
 use Rattle.pv_world.specs.Doing.{Done, Answers}
 use Rattle.pv_world.specs.Worths.{int_of, plain, present, computed}
-use Rattle.pv_world.specs.Pointers.{follows}
 
 -- 6.5.2.2p4, 6.8.6.4p3: a value that is passed on
 abbrev pub accepts : Worth → World → Done
@@ -26,7 +25,7 @@ calculates op k v x w = plain v w (λ v. plain x w (λ x. computed w (binary_of 
 abbrev pub calculates_one : UnOp → IntKind → Worth → World → Done
 calculates_one op k v w = plain v w (λ v. computed w (unary_of op k (int_of v)))
 
--- 6.5.3.2p4: what `*` gives, where it designates an object or has the type `void`
+-- 6.5.3.2p4: what `*` gives, where it designates an object or has the type `void`: without an access it checks nothing but that there is a value
 abbrev pub follows_to : (nothing : Bool) → Worth → World → Done
 follows_to true v w = present v w (λ v. Answers Nothing w quiet)
-follows_to false v w = follows v w
+follows_to false v w = present v w (λ v. Answers v w quiet)

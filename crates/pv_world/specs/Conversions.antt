@@ -12,7 +12,7 @@ use Rattle.pv_object.specs.declared.values.Stop.{Stop}
 use Rattle.pv_object.specs.Operations.{truth, to_ptr, recast, to_int}
 use Rattle.pv_world.specs.declared.got.How.{How}
 use Rattle.pv_world.specs.declared.got.How.TheVariants.{Rounds, Passes, Tests, Numbers, Points, Recasts, Voids}
-use Rattle.pv_world.specs.Worlds.{Worth, Nothing, Missing, Scalar, Whole, World, with_table}
+use Rattle.pv_world.specs.Worlds.{Worth, Nothing, Scalar, World, with_table}
 use Rattle.pv_world.specs.Telling.{quiet, telling, used, live_use, live_test, exposures, all_told, pairings}
 use Rattle.pv_world.specs.Doing.{Done, Answers, Fails}
 use Rattle.pv_world.specs.Worths.{int, pointer, truth_int, int_of, pointer_of, plain, present, wrong_of}
@@ -28,14 +28,12 @@ truth_value w (IntValue n) give = Answers (give (not (int_eq n (pos 0)))) w quie
 truth_value w (PointerValue p) give = truth_by w p (truth w.memory.table p) give
 truth_value w Unset give = Answers (give false) w quiet
 
--- 6.5.13p3: the same of what an expression gives
+-- 6.5.13p3: what an expression gives, compared with 0
 abbrev pub truth_worth : World → (Bool → Worth) → Worth → Done
 truth_worth w give (Scalar v) = truth_value w v give
-truth_worth w give Nothing = Answers (give false) w quiet
-truth_worth w give Missing = Answers (give false) w quiet
-truth_worth w give (Whole bs a) = Answers (give false) w quiet
+truth_worth w give _ = Answers (give false) w quiet
 
--- 6.5.13p3, 6.8.4.1p2: the same of a value that is there and was set, as the operator gives it
+-- 6.5.13p3, 6.8.4.1p2: a value that is there and was set, compared with 0, as the operator gives it
 abbrev pub tests : (Bool → Worth) → Worth → World → Done
 tests give v w = plain v w (truth_worth w give)
 
@@ -65,7 +63,7 @@ passed k (IntValue n) = int (convert_of k n)
 passed k Unset = Scalar Unset
 passed k (PointerValue p) = Scalar (PointerValue p)
 
--- 6.3.1.3: the same of what an expression gives
+-- 6.3.1.3: what an expression gives, between character types
 abbrev pub passes : IntKind → World → Worth → Done
 passes k w (Scalar v) = Answers (passed k v) w quiet
 passes k w v = Answers v w quiet

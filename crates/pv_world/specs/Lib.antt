@@ -6,9 +6,12 @@ pub mod Worths
 pub mod Hows
 pub mod Conversions
 pub mod Objects
+pub mod ObjectParts
 pub mod Pointers
+pub mod PointerParts
 pub mod Calculations
 pub mod Coming
 pub mod Callees
 pub mod Accesses
+pub mod AccessParts
 pub mod Loads

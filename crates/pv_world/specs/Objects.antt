@@ -1,5 +1,5 @@
 -- Objects and literals: their instances, their places, and the stores of initialisers and parameters.
-use Rattle.std.specs.Prelude.{ℕ, ◌+◌, ◌-◌, Bool, true, false, List, [], ◌∷◌, ◌++◌, length, replicate, Some, None, if◌then◌else◌, ◌==◌, slice_index_or, Result, Ok, Err, unwrap_or}
+use Rattle.std.specs.Prelude.{ℕ, ◌+◌, ◌-◌, Bool, List, [], ◌∷◌, ◌++◌, length, drop, replicate, Some, None, if◌then◌else◌, ◌==◌, slice_index_or, Result, Ok, Err, unwrap_or}
 use Rattle.std.specs.declared.option.Option.{Option}
 use Rattle.std.specs.FinMap as map
 use Rattle.pv_prov.specs.declared.names.Prov.TheVariants.{Empty, Inst}
@@ -9,7 +9,7 @@ use Rattle.pv_inst.specs.Table.{instance_at}
 use Rattle.pv_inst.specs.Infos.{base_of}
 use Rattle.pv_inst.specs.Placing.{Request}
 use Rattle.pv_shadow.specs.declared.byte.Byte.{Byte}
-use Rattle.pv_shadow.specs.Bytes.{Store, written}
+use Rattle.pv_shadow.specs.Bytes.{written}
 use Rattle.pv_shadow.specs.Whole.{plain}
 use Rattle.pv_object.specs.declared.values.Pointer.{Pointer}
 use Rattle.pv_object.specs.Memory.{Mem}
@@ -32,8 +32,7 @@ bind_in (m ∷ ms) o i = map.insert m o i ∷ ms
 
 -- 6.2.1, 6.2.4: the instance of an object in scope, if it has one; one with static storage is no body's
 abbrev pub bound_to : World → ℕ → (lasting : Bool) → Option ℕ
-bound_to w o true = map.get w.statics o
-bound_to w o false = bound_in w.bodies o
+bound_to w o lasting = if lasting then map.get w.statics o else bound_in w.bodies o
 
 -- 6.2.4: the number of the instance of an object
 abbrev pub instance_of : World → ℕ → (lasting : Bool) → ℕ
@@ -41,8 +40,7 @@ instance_of w o lasting = unwrap_or (bound_to w o lasting) 0
 
 -- 6.2.4: the object has this instance from now on
 abbrev pub bind : World → ℕ → (lasting : Bool) → ℕ → World
-bind w o true i = record w { statics = map.insert w.statics o i }
-bind w o false i = record w { bodies = bind_in w.bodies o i }
+bind w o lasting i = if lasting then record w { statics = map.insert w.statics o i } else record w { bodies = bind_in w.bodies o i }
 
 -- 6.5p6: the object that an instance was made for, which has a declared type
 abbrev pub owner_of : World → ℕ → Option ℕ
@@ -68,26 +66,22 @@ literal_of w l = unwrap_or (map.get w.literals l) 0
 abbrev pub names_literal : ℕ → World → Done
 names_literal l w = Answers (pointer (address_of w (literal_of w l))) w quiet
 
--- 6.5p6: of the instances up to so many, and of the next one, the objects that they were made for
-abbrev pub owned_next : List (Option ℕ) → (before : ℕ) → Option ℕ → List (Option ℕ)
-owned_next os n o = (os ++ replicate (n - length os) None) ++ o ∷ []
-
--- 6.5p6: the world in which the instance was made for the object
+-- 6.5p6: the world in which the instance was made for the object, and all before it for what they were
 abbrev pub owning : World → Mem → ℕ → Option ℕ → World
-owning w M i o = record w { memory = M; owners = owned_next w.owners (i - 1) o }
+owning w M i o = record w { memory = M; owners = (w.owners ++ replicate ((i - 1) - length w.owners) None) ++ o ∷ [] }
 
 -- 6.2.4: the request for an object's storage instance (the memory model)
 abbrev pub object_request : (name : ℕ) (text : List ℕ) (size align : ℕ) (constant : Bool) → Request
 object_request name text size align constant = record { text = text; name = name; size = size; align = align; kind = Declared constant }
 
--- 6.2.4p2: the object begins its lifetime with this instance, or why it has none
-abbrev pub object_made : World → ℕ → (lasting : Bool) → (name : ℕ) → Result ℕ CreateError × Mem → Done
-object_made w o lasting name (Ok i, M) = Answers Nothing (bind (owning w M i (Some o)) o lasting i) (telling (made M.table i))
-object_made w o lasting name (Err e, M) = Fails (Halts (Refused name e)) None (record w { memory = M }) quiet
+-- 6.2.4p2, 6.4.5p6: what a request came to: the world with the new instance, or why there is none
+abbrev pub instance_made : World → (name : ℕ) → Result ℕ CreateError × Mem → (ℕ → Mem → World) → Done
+instance_made w name (Ok i, M) go = Answers Nothing (go i M) (telling (made M.table i))
+instance_made w name (Err e, M) go = Fails (Halts (Refused name e)) None (record w { memory = M }) quiet
 
 -- 6.2.4p2: the object begins its lifetime
 abbrev pub makes_object : ℕ → (lasting : Bool) → Request → World → Done
-makes_object o lasting r w = object_made w o lasting r.name (created w.memory r)
+makes_object o lasting r w = instance_made w r.name (created w.memory r) (λ i M. bind (owning w M i (Some o)) o lasting i)
 
 -- 6.2.4p2: an instance ends; its address may be used again, its number never (the memory model)
 abbrev pub ends_instance : World → ℕ → Done
@@ -97,17 +91,9 @@ ends_instance w i = Answers Nothing (record w { memory = without w.memory i }) (
 abbrev pub ends_object : ℕ → (lasting : Bool) → World → Done
 ends_object o lasting w = ends_instance w (instance_of w o lasting)
 
--- the world, with these abstract bytes (the memory model)
-abbrev pub with_bytes : World → Store → World
-with_bytes w m = record w { memory = record w.memory { bytes = m } }
-
 -- 6.2.6.1p4: the abstract bytes from an address on become these
 abbrev pub put_at : World → (address : ℕ) → List Byte → World
-put_at w a bytes = with_bytes w (written w.memory.bytes a bytes)
-
--- 6.4.5p6: a literal's array
-abbrev pub literal_request : (text bytes : List ℕ) → Request
-literal_request text bytes = record { text = text; name = 0; size = length bytes; align = 1; kind = Literal }
+put_at w a bytes = record w { memory = record w.memory { bytes = written w.memory.bytes a bytes } }
 
 -- 6.4.5p6: the literal has this instance
 abbrev pub literal_bound : World → ℕ → ℕ → World
@@ -117,15 +103,11 @@ literal_bound w l i = record w { literals = map.insert w.literals l i }
 abbrev pub with_characters : World → (i : ℕ) → (bytes : List ℕ) → World
 with_characters w i bytes = put_at w (base_in w i) (plain None 0 bytes)
 
--- 6.4.5p6: a literal's array with its characters, or why it has none
-abbrev pub literal_made : World → ℕ → (bytes : List ℕ) → Result ℕ CreateError × Mem → Done
-literal_made w l bytes (Ok i, M) =
-    Answers Nothing (with_characters (literal_bound (owning w M i None) l i) i bytes) (telling (made M.table i))
-literal_made w l bytes (Err e, M) = Fails (Halts (Refused 0 e)) None (record w { memory = M }) quiet
-
--- 6.4.5p6: a literal's array is made
+-- 6.4.5p6: a literal's array is made, with its characters
 abbrev pub makes_literal_of : ℕ → (text bytes : List ℕ) → World → Done
-makes_literal_of l text bytes w = literal_made w l bytes (created w.memory (literal_request text bytes))
+makes_literal_of l text bytes w =
+    instance_made w 0 (created w.memory (record { text = text; name = 0; size = length bytes; align = 1; kind = Literal }))
+    (λ i M. with_characters (literal_bound (owning w M i None) l i) i bytes)
 
 -- 6.3.2.1p4: the instance of a function
 abbrev pub function_of : World → ℕ → ℕ
@@ -143,22 +125,14 @@ function_request name text = record { text = text; name = name; size = 1; align 
 abbrev pub function_bound : World → ℕ → ℕ → World
 function_bound w f i = record w { functions = map.insert w.functions f i }
 
--- 6.3.2.1p4: a function's instance, or why it has none
-abbrev pub function_made : World → ℕ → (name : ℕ) → Result ℕ CreateError × Mem → Done
-function_made w f name (Ok i, M) = Answers Nothing (function_bound (owning w M i (Some f)) f i) (telling (made M.table i))
-function_made w f name (Err e, M) = Fails (Halts (Refused name e)) None (record w { memory = M }) quiet
-
 -- 6.3.2.1p4: a function that is pointed to has an instance, which never ends
 abbrev pub makes_function : ℕ → Request → World → Done
-makes_function f r w = function_made w f r.name (created w.memory r)
+makes_function f r w = instance_made w r.name (created w.memory r) (λ i M. function_bound (owning w M i (Some f)) f i)
 
--- an abstract byte of this value, or of none: without provenance and mark (the memory model)
-abbrev pub filling : Option ℕ → Byte
-filling v = record { value = v; prov = Empty; index = None; mark = None }
-
--- 6.7.9p10, p19, p21: every byte of an object becomes this one
+-- 6.7.9p10, p19, p21: every byte of an object becomes this one, or has no value; without provenance and mark (the memory model)
 abbrev pub fills_object : ℕ → (lasting : Bool) → (size : ℕ) → Option ℕ → World → Done
-fills_object o lasting size v w = Answers Nothing (put_at w (base_in w (instance_of w o lasting)) (replicate size (filling v))) quiet
+fills_object o lasting size v w =
+    Answers Nothing (put_at w (base_in w (instance_of w o lasting)) (replicate size (record { value = v; prov = Empty; index = None; mark = None }))) quiet
 
 -- 6.7.9p11, p14, 6.9.1p10: the bytes of an object from an offset on become these. Nothing is checked
 abbrev pub puts_bytes : ℕ → (lasting : Bool) → (offset : ℕ) → List Byte → World → Done
@@ -168,11 +142,6 @@ puts_bytes o lasting offset bytes w = Answers Nothing (put_at w (base_in w (inst
 abbrev pub begins_body : World → Done
 begins_body w = Answers Nothing (record w { bodies = map.empty ∷ w.bodies }) quiet
 
--- the bodies below the innermost one
-abbrev pub without_first : List Bindings → List Bindings
-without_first [] = []
-without_first (m ∷ ms) = ms
-
--- 6.9.1: a body ends
+-- 6.9.1: a body ends; those below it are left
 abbrev pub ends_body : World → Done
-ends_body w = Answers Nothing (record w { bodies = without_first w.bodies }) quiet
+ends_body w = Answers Nothing (record w { bodies = drop 1 w.bodies }) quiet

@@ -14,7 +14,7 @@ use Rattle.pv_inst.specs.Table.{Table}
 use Rattle.pv_object.specs.declared.values.Pointer.{Pointer}
 use Rattle.pv_object.specs.declared.values.Stop.{Stop}
 use Rattle.pv_object.specs.Operations.{shift, select, together, order, equal, code}
-use Rattle.pv_world.specs.Worlds.{Worth, World, Wrong, with_table}
+use Rattle.pv_world.specs.Worlds.{Worth, World, with_table}
 use Rattle.pv_watch.specs.declared.event.What.{What}
 use Rattle.pv_world.specs.Telling.{quiet, telling, used, live_use, both_used, live_test, range_test, code_test}
 use Rattle.pv_world.specs.Objects.{owner_of}
@@ -44,27 +44,21 @@ moves minus false size v x w = plain v w (λ v. plain x w (λ x. moves_pointer m
 abbrev pub in_elements : ℤ → (size : ℕ) → Option ℤ
 in_elements bytes size = if int_eq (int_rem bytes (pos size)) (pos 0) then Some (int_div bytes (pos size)) else None
 
--- 6.5.6p9: a difference that is not whole
-abbrev pub uneven : Wrong
-uneven = undefined SubtractionOfPointers Uneven
-
 -- 6.5.6p9: the difference, or that it is not whole
 abbrev pub elements_by : World → Pointer → List What → Option ℤ → Done
 elements_by w p us (Some n) = Answers (int n) w (telling us)
-elements_by w p us None = Fails uneven (Some p.prov) w (telling us)
+elements_by w p us None = Fails (undefined SubtractionOfPointers Uneven) (Some p.prov) w (telling us)
 
 -- 6.5.6p9: once the two are in one instance, their addresses are subtracted
 abbrev pub between_by : (size : ℕ) → Pointer → Pointer → World → Result (Tried × Tried) Stop × Table → Done
 between_by size p q w (Ok both, T) = elements_by (with_table w T) p (both_used both.0 both.1) (in_elements (pos p.address -ℤ pos q.address) size)
 between_by size p q w (Err y, T) = Fails (wrong_of y) (Some p.prov) (with_table w T) quiet
 
--- 6.5.6p9: the two settle to what they have in common (the memory model: pairs of candidates)
-abbrev pub between : (size : ℕ) → Pointer → Pointer → World → Done
-between size p q w = between_by size p q w (together SubtractionOfPointers w.memory.table p q)
-
--- 6.5.6p9: the same of two values that are there and were set
+-- 6.5.6p9: two values that are there and were set settle to what they have in common (the memory model: pairs of candidates), and are subtracted
 abbrev pub subtracts : (size : ℕ) → Worth → Worth → World → Done
-subtracts size v x w = plain v w (λ v. plain x w (λ x. between size (pointer_of v) (pointer_of x) w))
+subtracts size v x w =
+    plain v w (λ v. plain x w (λ x.
+    between_by size (pointer_of v) (pointer_of x) w (together SubtractionOfPointers w.memory.table (pointer_of v) (pointer_of x))))
 
 -- 6.5.8p5: once the two are in one object, their addresses are compared
 abbrev pub ordered_by : BinOp → World → Pointer → Pointer → Result (Ordering × Tried × Tried) Stop × Table → Done
@@ -75,7 +69,7 @@ ordered_by op w p q (Ok r, T) = compared (binary_of op IntOfInt (pos p.address) 
     compared (Err f) w left right = Answers (int (pos 0)) w (telling (both_used left right))
 ordered_by op w p q (Err y, T) = Fails (wrong_of y) (Some p.prov) (with_table w T) quiet
 
--- 6.5.8p5: the same of two values that are there and were set, the left one looked at first
+-- 6.5.8p5: two values that are there and were set are compared, the left one looked at first
 abbrev pub orders : BinOp → Worth → Worth → World → Done
 orders op v x w = plain v w (λ v. plain x w (λ x. ordered_by op w (pointer_of v) (pointer_of x) (order w.memory.table (pointer_of v) (pointer_of x))))
 
@@ -85,17 +79,14 @@ equal_by negated w p q (Ok r, T) =
     Answers (truth_int (if negated then not r.0 else r.0)) (with_table w T) (telling (live_use w.memory.table p ++ used live_test r.2))
 equal_by negated w p q (Err y, T) = Fails (wrong_of y) (Some p.prov) (with_table w T) (telling (live_use w.memory.table p))
 
--- 6.5.9p6: the same of two values that are there and were set, the left one looked at first
+-- 6.5.9p6: two values that are there and were set are compared, the left one looked at first
 abbrev pub equals : (negated : Bool) → Worth → Worth → World → Done
 equals negated v x w = plain v w (λ v. plain x w (λ x. equal_by negated w (pointer_of v) (pointer_of x) (equal w.memory.table (pointer_of v) (pointer_of x))))
 
--- 6.3.2.3p8: the function is not one of the type that is called
-abbrev pub unlike : Wrong
-unlike = undefined PointerToFunction WrongType
-
 -- 6.5.2.2p1, 6.3.2.3p8: the number of the function, where it is one that may be called so; in any case the use is told
 abbrev pub found_in : World → Pointer → (fits : Option ℕ → Bool) → Option ℕ → List What → Done
-found_in w p fits o us = if fits o then Answers (int (pos (unwrap_or o 0))) w (telling us) else Fails unlike (Some p.prov) w (telling us)
+found_in w p fits o us =
+    if fits o then Answers (int (pos (unwrap_or o 0))) w (telling us) else Fails (undefined PointerToFunction WrongType) (Some p.prov) w (telling us)
 
 -- 6.5.2.2p1: what the pointer points to, by the instance that its name is settled to
 abbrev pub found_by : World → Pointer → (fits : Option ℕ → Bool) → Result (ℕ × Tried) Stop × Table → Done
@@ -105,10 +96,6 @@ found_by w p fits (Err y, T) = Fails (wrong_of y) (Some p.prov) (with_table w T)
 -- 6.5.2.2p1: the function that is called by a value, which is there and was set; it is one of those that may be called so
 abbrev pub finds : (fits : Option ℕ → Bool) → Worth → World → Done
 finds fits v w = plain v w (λ v. found_by w (pointer_of v) fits (code w.memory.table (pointer_of v)))
-
--- 6.5.3.2p4: without an access `*` checks nothing but that there is a value
-abbrev pub follows : Worth → World → Done
-follows v w = present v w (λ v. Answers v w quiet)
 
 -- 6.5.2.3: null and the empty name are those of the pointer; the range is that of no bytes at the member's address
 abbrev pub selects : (offset : ℕ) → Worth → World → Done

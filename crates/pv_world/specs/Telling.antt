@@ -3,10 +3,10 @@
 -- two instances meet makes a pair; each of these is told, also where a later check of the same operation ends the run.
 use Rattle.std.specs.Prelude.{ℕ, ◌+◌, List, [], ◌∷◌, ◌++◌, length, Some, None, Result, Ok, Err, drop}
 use Rattle.std.specs.declared.option.Option.{Option}
-use Rattle.std.specs.Option.{option_map}
+use Rattle.std.specs.Option.{option_map, option_map_or}
 use Rattle.pv_prov.specs.declared.pairs.Twin.{Twin}
 use Rattle.pv_prov.specs.declared.names.Prov.{Prov}
-use Rattle.pv_prov.specs.declared.names.Prov.TheVariants.{Empty, Inst, Pair}
+use Rattle.pv_prov.specs.declared.names.Prov.TheVariants.{Pair}
 use Rattle.pv_prov.specs.Names.{stands}
 use Rattle.pv_inst.specs.declared.values.Instance.{Instance}
 use Rattle.pv_inst.specs.declared.values.Tried.{Tried}
@@ -22,7 +22,7 @@ use Rattle.pv_watch.specs.declared.event.What.{What}
 use Rattle.pv_watch.specs.declared.event.What.TheVariants as what
 use Rattle.pv_watch.specs.declared.event.Verdict.{Verdict}
 use Rattle.pv_watch.specs.declared.event.Verdict.TheVariants as verdict
-use Rattle.pv_world.specs.Worlds.{Wrong, Undefined, Undecided, Halts, Halt, Indeterminate}
+use Rattle.pv_world.specs.Worlds.{Wrong, Undefined, Undecided, Halts, Indeterminate}
 
 -- what an operation tells: its events (the memory model), and the bytes that it prints (7.21.6.3)
 pub record Told : Type 0 where
@@ -54,13 +54,8 @@ abbrev pub code_test : ℕ
 code_test = 5
 
 -- the memory model: a use that found survivors is told of where its name stood for two before it, a pair of candidates
-abbrev pub used_pair : Option ℕ → (test : ℕ) → Tried → List What
-used_pair None test tried = []
-used_pair (Some k) test tried = what.Tried k test tried.low tried.high ∷ []
-
--- the memory model: the same, by what was tried
 abbrev pub used : (test : ℕ) → Tried → List What
-used test tried = used_pair tried.pair test tried
+used test tried = option_map_or (λ k. what.Tried k test tried.low tried.high ∷ []) tried.pair []
 
 -- the memory model: a use that found none is not told
 abbrev pub uses : (test : ℕ) → Result Tried Miss → List What
@@ -76,13 +71,8 @@ abbrev pub both_used : Tried → Tried → List What
 both_used left right = used same_test left ++ used same_test right
 
 -- an instance that was made (6.2.4p2)
-abbrev pub made_row : ℕ → Option Instance → List What
-made_row i None = []
-made_row i (Some x) = what.Made i x.name x.k x.base x.size ∷ []
-
--- the same of the instance with this number (6.2.4p2)
 abbrev pub made : Table → ℕ → List What
-made T i = made_row i (instance_at T.instances i)
+made T i = option_map_or (λ (x : Instance). what.Made i x.name x.k x.base x.size ∷ []) (instance_at T.instances i) []
 
 -- the memory model: an event for each instance that became exposed
 abbrev pub each_exposed : List ℕ → List What
@@ -106,22 +96,17 @@ each_paired T k (t ∷ ts) = what.Pair k (base_of (instance_at T.instances t.hig
 abbrev pub pairings : Table → Table → List What
 pairings T U = each_paired U (length T.pairs + 1) (drop (length T.pairs) U.pairs)
 
--- 3.19.2: the verdict of a stop without undefined behaviour, if it has one
-abbrev pub verdict_of_halt : Halt → Option Verdict
-verdict_of_halt Indeterminate = Some verdict.Indeterminate
-verdict_of_halt _ = None
-
 -- 3.4.3, 3.19.2: the verdict of a stop, if it has one: undefined, undecided (the memory model) or indeterminate
 abbrev pub verdict_of : Wrong → Option Verdict
 verdict_of (Undefined f) = Some (verdict.Undefined f)
 verdict_of Undecided = Some verdict.Undecided
-verdict_of (Halts h) = verdict_of_halt h
+verdict_of (Halts Indeterminate) = Some verdict.Indeterminate
+verdict_of _ = None
 
 -- the memory model: the number of the pair of candidates that a name is
 abbrev pub pair_of : Prov → Option ℕ
 pair_of (Pair k) = Some k
-pair_of (Inst i) = None
-pair_of Empty = None
+pair_of _ = None
 
 -- the memory model: what a fault carries: the candidates of the pointer whose check stopped, as they stood before the
 -- operation, and the number of its pair, settled or not
@@ -133,11 +118,10 @@ abbrev pub faulted : Option Blame → Verdict → What
 faulted None v = what.Fault v None None None
 faulted (Some b) v = what.Fault v b.low b.high b.pair
 
--- the same, where there is a verdict
+-- the event of a fault, where there is a verdict
 abbrev pub fault_of : Option Blame → Option Verdict → List What
-fault_of b None = []
-fault_of b (Some v) = faulted b v ∷ []
+fault_of b v = option_map_or (λ v. faulted b v ∷ []) v []
 
--- the same, by the name of the pointer whose check stopped (the memory model: provenance)
+-- the event of a fault, by the name of the pointer whose check stopped (the memory model: provenance)
 abbrev pub fault_told : Mem → Wrong → Option Prov → List What
 fault_told M y p = fault_of (option_map (blame_of M) p) (verdict_of y)

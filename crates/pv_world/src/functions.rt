@@ -5,7 +5,7 @@ ghost use Rattle.pv_inst.specs.Answers.{IsLive};
 ghost use Rattle.pv_object.specs.Later.{IsLater};
 ghost use Rattle.pv_world.specs.Objects.{owning, function_bound, function_request, makes_function};
 ghost use Rattle.pv_world.specs.Telling.{made};
-ghost use Rattle.pv_world.specs.Pointers.{unlike};
+ghost use Rattle.pv_world.specs.PointerParts.{unlike};
 ghost use Rattle.pv_world.specs.Callees.{FoundAs, FoundBy};
 ghost use Rattle.pv_inst.specs.Table.{IsMadeIn};
 ghost use Rattle.pv_world.specs.Coming.{CameMade, seen, worth_of, wrong_for, IsMadeWorth};

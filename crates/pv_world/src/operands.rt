@@ -4,7 +4,7 @@ ghost use Rattle.std.specs.Option.{option_map};
 ghost use Rattle.pv_inst.specs.Table.{Table, IsMadeIn};
 ghost use Rattle.pv_world.specs.Worths.{missing_value, unplain, unpresent, int_of, pointer_of, truth_int};
 ghost use Rattle.pv_world.specs.Coming.{worth_of, wrong_for, IsMadeWorth};
-ghost use Rattle.pv_world.specs.Pointers.{uneven};
+ghost use Rattle.pv_world.specs.PointerParts.{uneven};
 
 use crate::got::{Cause, Got};
 use pv_num::{Clause, Fault, Reason};

@@ -3,7 +3,8 @@ ghost use Rattle.std.specs.Prelude.{◌≡◌, ◌≤◌, ◌++◌, ◌-ℤ◌, 
 ghost use Rattle.pv_inst.specs.Table.{IsMadeIn};
 ghost use Rattle.pv_object.specs.Later.{IsLater};
 ghost use Rattle.pv_world.specs.Telling.{both_used};
-ghost use Rattle.pv_world.specs.Pointers.{subtracts, between, in_elements};
+ghost use Rattle.pv_world.specs.Pointers.{subtracts, in_elements};
+ghost use Rattle.pv_world.specs.PointerParts.{between};
 ghost use Rattle.pv_world.specs.Coming.{Did, worth_of, IsMadeWorth};
 
 use crate::failing::{blame_of, fail, stopped};

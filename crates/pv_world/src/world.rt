@@ -5,7 +5,8 @@ ghost use Rattle.std.specs.FinMap as map;
 ghost use Rattle.pv_object.specs.Memory.{empty_memory};
 ghost use Rattle.pv_object.specs.contracts.memory.Memory.{the_row as memory_row};
 ghost use Rattle.pv_world.specs.contracts.world.World.{the_row};
-ghost use Rattle.pv_world.specs.Objects.{bound_to, bind, owner_of, without_first};
+ghost use Rattle.pv_world.specs.Objects.{bound_to, bind, owner_of};
+ghost use Rattle.pv_world.specs.ObjectParts.{without_first};
 
 use crate::bodies;
 use crate::bound::Bound;

@@ -29,7 +29,8 @@ use Rattle.pv_world.specs.Worlds.{Worth, Nothing, Missing, Scalar as ScalarWorth
 use Rattle.pv_world.specs.Worths.{value_of, bytes_of}
 use Rattle.pv_world.specs.Accesses.{mark_of, stored_as}
 use Rattle.pv_world.specs.Coming.{IsMadeWorth}
-use Rattle.pv_world.specs.Objects.{base_in, filling}
+use Rattle.pv_world.specs.Objects.{base_in}
+use Rattle.pv_world.specs.ObjectParts.{filling}
 use Rattle.pv_world.specs.Preconditions.{HasSizeOf, IsStored}
 use Rattle.pv_eval.specs.States.{Setting}
 use Rattle.pv_eval.specs.TypeForms.{Lvalue, lvalue, shape_of, size_of}

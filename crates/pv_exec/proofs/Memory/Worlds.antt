@@ -42,9 +42,12 @@ use Rattle.pv_world.specs.Doing.{Done, Answers, Fails, Breaks}
 use Rattle.pv_world.specs.Worths.{int, truth_int, int_of, pointer_of, unless, unplain, unpresent, computed, bytes_of}
 use Rattle.pv_world.specs.Conversions.{truth_by, truth_value, truth_worth, tests, number_by, pointed, recast_by, passes, converts}
 use Rattle.pv_world.specs.Calculations.{calculates, calculates_one, follows_to}
-use Rattle.pv_world.specs.Pointers.{moved_by, distance, moves, in_elements, elements_by, between_by, between, ordered_by, equal_by, equals, selects, unlike, found_in, found_by, finds}
-use Rattle.pv_world.specs.Accesses.{range_use, reaching_by, reaching, scalar_as, scalar_by, worth_in, takes_bytes}
-use Rattle.pv_world.specs.Objects.{object_made, makes_object, ends_instance, literal_request, literal_made, makes_literal_of, function_made, makes_function, owner_of, put_at}
+use Rattle.pv_world.specs.Pointers.{moved_by, distance, moves, in_elements, elements_by, between_by, ordered_by, equal_by, equals, selects, found_in, found_by, finds}
+use Rattle.pv_world.specs.PointerParts.{between, unlike}
+use Rattle.pv_world.specs.Accesses.{reaching_by, reaching, scalar_as, scalar_by, worth_in, takes_bytes}
+use Rattle.pv_world.specs.AccessParts.{range_use}
+use Rattle.pv_world.specs.Objects.{makes_object, ends_instance, makes_literal_of, makes_function, owner_of, put_at}
+use Rattle.pv_world.specs.ObjectParts.{object_made, literal_request, literal_made, function_made}
 use Rattle.pv_exec.proofs.Memory.Pointers.{Retabled, reach-leads, value-leads, truth-leads, equal-leads, to_ptr-leads, recast-leads, to_int-leads, move-leads, code-leads, together-leads, order-leads}
 use Rattle.pv_exec.proofs.Memory.Reached.{AreInLive, reach-reaches, reach-later, created-in-live}
 use Rattle.pv_exec.proofs.Memory.Stored.{AreMade, plain-length, plain-made}

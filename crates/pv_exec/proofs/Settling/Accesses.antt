@@ -27,8 +27,10 @@ use Rattle.pv_world.specs.Worlds.{World, with_table}
 use Rattle.pv_world.specs.Telling.{Told, telling}
 use Rattle.pv_world.specs.Doing.{Done, Fails}
 use Rattle.pv_world.specs.Worths.{wrong_of}
-use Rattle.pv_world.specs.Accesses.{range_use, reaching_by, reaching}
-use Rattle.pv_world.specs.Objects.{object_made, makes_object, ends_instance, literal_request, literal_made, makes_literal_of, function_made, makes_function}
+use Rattle.pv_world.specs.Accesses.{reaching_by, reaching}
+use Rattle.pv_world.specs.AccessParts.{range_use}
+use Rattle.pv_world.specs.Objects.{makes_object, ends_instance, makes_literal_of, makes_function}
+use Rattle.pv_world.specs.ObjectParts.{object_made, literal_request, literal_made, function_made}
 use Rattle.pv_exec.proofs.Memory.Rows.{Sound, Leads}
 use Rattle.pv_exec.proofs.Memory.Tables.{leading}
 use Rattle.pv_exec.proofs.Memory.Pointers.{reach-leads}

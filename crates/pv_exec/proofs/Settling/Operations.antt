@@ -28,7 +28,8 @@ use Rattle.pv_world.specs.Doing.{Done, Answers, Fails}
 use Rattle.pv_world.specs.Coming.{IsMadeWorth}
 use Rattle.pv_world.specs.Accesses.{is_inexact, stored_as}
 use Rattle.pv_world.specs.Pointers.{is_order}
-use Rattle.pv_world.specs.Objects.{put_at, base_in, filling, function_request}
+use Rattle.pv_world.specs.Objects.{put_at, base_in, function_request}
+use Rattle.pv_world.specs.ObjectParts.{filling}
 use Rattle.pv_eval.specs.States.{Setting}
 use Rattle.pv_eval.specs.TypeForms.{Lvalue, size_of}
 use Rattle.pv_eval.specs.Permission.{permits}

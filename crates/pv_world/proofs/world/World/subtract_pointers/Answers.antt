@@ -8,7 +8,7 @@ use Rattle.pv_world.specs.declared.failing.Blame.{Blame}
 use Rattle.pv_world.specs.Worlds.{Wrong}
 use Rattle.pv_world.specs.contracts.world.World.{the_view}
 use Rattle.pv_world.specs.Telling.{blame_of, fault_of, verdict_of}
-use Rattle.pv_world.specs.Pointers.{uneven}
+use Rattle.pv_world.specs.PointerParts.{uneven}
 use Rattle.pv_world.specs.Coming.{Faulted, worth_of}
 use Rattle.pv_world.proofs.Comings.{came_fails}
 use Rattle.pv_world.proofs.Differences.{whole, no_whole}

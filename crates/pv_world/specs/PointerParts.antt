@@ -1,0 +1,27 @@
+-- A bridge: what functions answer that do a part of what Pointers says.
+use Rattle.pv_num.specs.declared.faults.Reason.TheVariants.{Uneven, WrongType}
+use Rattle.pv_num.specs.declared.faults.Clause.TheVariants.{SubtractionOfPointers, PointerToFunction}
+use Rattle.pv_world.specs.Worths.{undefined, present}
+use Rattle.pv_world.specs.Worlds.{Wrong, World, Worth}
+use Rattle.pv_world.specs.Pointers.{between_by}
+use Rattle.pv_world.specs.Doing.{Done, Answers}
+use Rattle.pv_world.specs.Telling.{quiet}
+use Rattle.std.specs.Prelude.{ℕ}
+use Rattle.pv_object.specs.Operations.{together}
+use Rattle.pv_object.specs.declared.values.Pointer.{Pointer}
+
+-- 6.5.6p9: a difference that is not whole
+abbrev pub uneven : Wrong
+uneven = undefined SubtractionOfPointers Uneven
+
+-- 6.3.2.3p8: the function is not one of the type that is called
+abbrev pub unlike : Wrong
+unlike = undefined PointerToFunction WrongType
+
+-- 6.5.6p9: the two settle to what they have in common (the memory model: pairs of candidates)
+abbrev pub between : (size : ℕ) → Pointer → Pointer → World → Done
+between size p q w = between_by size p q w (together SubtractionOfPointers w.memory.table p q)
+
+-- 6.5.3.2p4: without an access `*` checks nothing but that there is a value
+abbrev pub follows : Worth → World → Done
+follows v w = present v w (λ v. Answers v w quiet)
