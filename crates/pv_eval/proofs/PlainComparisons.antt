@@ -6,7 +6,8 @@ use Rattle.pv_num.specs.declared.operators.BinOp.{BinOp}
 use Rattle.pv_inst.specs.declared.values.Test.TheVariants.{Live}
 use Rattle.pv_inst.specs.Table.{Table}
 use Rattle.pv_inst.specs.Use.{use_answer, settled}
-use Rattle.pv_object.specs.Operations.{equal_by, equal_after, truth_by}
+use Rattle.pv_object.specs.Operations.{equal_after}
+use Rattle.pv_object.specs.OperationParts.{equal_by, truth_by}
 use Rattle.pv_tree.specs.declared.nodes.NodeId.{NodeId}
 use Rattle.pv_types.specs.Ty.{Ty}
 use Rattle.pv_typed.specs.declared.nodes.Typed.TheVariants as typed

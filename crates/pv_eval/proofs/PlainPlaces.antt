@@ -12,7 +12,8 @@ use Rattle.pv_inst.specs.Infos.{info_of}
 use Rattle.pv_inst.specs.Use.{is_function, holds}
 use Rattle.pv_object.specs.declared.values.Pointer.{Pointer}
 use Rattle.pv_object.specs.Access.{fault}
-use Rattle.pv_object.specs.Operations.{moved, moved_by, moved_to, move_under}
+use Rattle.pv_object.specs.Operations.{moved_to, move_under}
+use Rattle.pv_object.specs.OperationParts.{moved, moved_by}
 use Rattle.pv_tree.specs.declared.nodes.NodeId.{NodeId}
 use Rattle.pv_types.specs.Ty.{Ty}
 use Rattle.pv_typed.specs.declared.nodes.Sign.{Sign}

@@ -22,7 +22,8 @@ use Rattle.pv_object.specs.declared.values.Pointer.{Pointer}
 use Rattle.pv_object.specs.declared.values.Reach.{Reach}
 use Rattle.pv_object.specs.declared.values.Value.TheVariants.{Pointer as PointerValue}
 use Rattle.pv_object.specs.Encoding.{number_in}
-use Rattle.pv_object.specs.Loading.{pointer_of, pointer_named, live_answer}
+use Rattle.pv_object.specs.Loading.{pointer_of, pointer_named}
+use Rattle.pv_object.specs.OperationParts.{live_answer}
 use Rattle.pv_object.specs.Loads.{whole_pointer}
 use Rattle.pv_types.specs.Ty.{Ty}
 use Rattle.pv_typed.specs.Tables.{Stored}

@@ -4,7 +4,7 @@ ghost use Rattle.pv_num.specs.declared.faults.Clause.{Clause};
 ghost use Rattle.pv_tree.specs.declared.nodes.NodeId.{NodeId as Number};
 ghost use Rattle.pv_types.specs.Ty.{Ty};
 ghost use Rattle.pv_types.specs.Known.{tree};
-ghost use Rattle.pv_object.specs.Operations.{moved};
+ghost use Rattle.pv_object.specs.OperationParts.{moved};
 ghost use Rattle.pv_typed.specs.declared.nodes.Typed.{Typed as Row};
 ghost use Rattle.pv_typed.specs.TypedTree.{type_of};
 ghost use Rattle.pv_typed.specs.NodeTrees.{expression_at, IsExpression};

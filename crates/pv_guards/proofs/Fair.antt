@@ -20,7 +20,8 @@ use Rattle.pv_object.specs.declared.values.Scalar.{Scalar}
 use Rattle.pv_object.specs.declared.values.Scalar.TheVariants as scalar
 use Rattle.pv_object.specs.declared.values.Value.{Value}
 use Rattle.pv_object.specs.declared.values.Value.TheVariants.{Int as IntValue, Unset, Pointer as PointerValue}
-use Rattle.pv_object.specs.Encoding.{encode, unset_byte, number_in}
+use Rattle.pv_object.specs.Encoding.{encode, number_in}
+use Rattle.pv_object.specs.EncodingParts.{unset_byte}
 use Rattle.pv_typed.specs.Known.{Each}
 use Rattle.pv_guards.specs.Fair.{IsFair, AreFair, IsFairPointer, IsFairValue}
 

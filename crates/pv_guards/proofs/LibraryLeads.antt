@@ -30,8 +30,9 @@ use Rattle.pv_object.specs.declared.values.Value.{Value}
 use Rattle.pv_object.specs.declared.values.Value.TheVariants as value
 use Rattle.pv_object.specs.Memory.{Mem, with_table}
 use Rattle.pv_object.specs.Access.{is_null}
-use Rattle.pv_object.specs.Creating.{made, blank_in, cleared_in}
-use Rattle.pv_object.specs.Storing.{with_bytes, copied}
+use Rattle.pv_object.specs.Creating.{made}
+use Rattle.pv_object.specs.OperationParts.{blank_in, cleared_in}
+use Rattle.pv_object.specs.Copying.{with_bytes, copied}
 use Rattle.pv_object.proofs.Born.{born}
 use Rattle.pv_script.specs.declared.library.Library.{Library}
 use Rattle.pv_script.specs.declared.library.Library.TheVariants as library

@@ -40,7 +40,8 @@ use Rattle.pv_object.specs.Access.{reach, reach_after, clause_of, is_null}
 use Rattle.pv_object.specs.Encoding.{number_in}
 use Rattle.pv_object.specs.Values.{is_character}
 use Rattle.pv_object.specs.Loading.{value_of, integer_of, pointer_of, pointer_named, exposed_by, is_trap}
-use Rattle.pv_object.specs.Operations.{truth, equal, equal_after, recast, to_ptr, address_of, exposed_to, to_int, to_int_after, move_under, moved, code, together}
+use Rattle.pv_object.specs.Operations.{truth, equal, equal_after, recast, to_ptr, address_of, exposed_to, to_int, to_int_after, move_under, code, together}
+use Rattle.pv_object.specs.OperationParts.{moved}
 use Rattle.pv_object.specs.Later.{still, IsLater}
 use Rattle.pv_object.proofs.Later.{still_at, settled_later, same_later, expose_later}
 use Rattle.pv_object.proofs.Born.{at_next, slice_last}

@@ -26,8 +26,9 @@ use Rattle.pv_object.specs.declared.values.Stop.{Stop}
 use Rattle.pv_object.specs.Values.{IsOf, is_character}
 use Rattle.pv_object.specs.Encoding.{size_of, number_in}
 use Rattle.pv_object.specs.Access.{is_null}
-use Rattle.pv_object.specs.Loading.{Loaded, live_answer, pointer_named, pointer_of, is_trap, integer_of, value_of}
-use Rattle.pv_object.specs.Operations.{address_of, moved_by, move_under, moved, both_or_stop, together}
+use Rattle.pv_object.specs.Loading.{Loaded, pointer_named, pointer_of, is_trap, integer_of, value_of}
+use Rattle.pv_object.specs.OperationParts.{live_answer, moved_by, moved, both_or_stop}
+use Rattle.pv_object.specs.Operations.{address_of, move_under, together}
 use Rattle.pv_object.proofs.Later.{made_later, settled_later}
 use Rattle.pv_typed.specs.Known.{Each}
 use Rattle.pv_guards.specs.Fair.{IsFair, IsFairPointer, IsFairValue}

@@ -35,8 +35,9 @@ use Rattle.pv_object.specs.Access.{reach_after, clause_of, is_null}
 use Rattle.pv_object.specs.Creating.{created}
 use Rattle.pv_object.specs.Encoding.{number_in}
 use Rattle.pv_object.specs.Values.{is_character}
-use Rattle.pv_object.specs.Loading.{Loaded, exposed_by, integer_of, is_trap, pointer_of as pointer_from, pointer_named, live_answer}
-use Rattle.pv_object.specs.Operations.{equal_after, equal_by as equal_or_stop, both_or_stop, order, order_by as order_or_stop}
+use Rattle.pv_object.specs.Loading.{Loaded, exposed_by, integer_of, is_trap, pointer_of as pointer_from, pointer_named}
+use Rattle.pv_object.specs.OperationParts.{live_answer, equal_by as equal_or_stop, both_or_stop, order_by as order_or_stop}
+use Rattle.pv_object.specs.Operations.{equal_after, order}
 use Rattle.pv_object.proofs.Contents.{whole_made}
 use Rattle.pv_watch.specs.declared.event.What.{What}
 use Rattle.pv_world.specs.declared.got.Shape.{Shape}

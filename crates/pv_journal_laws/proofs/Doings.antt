@@ -23,7 +23,8 @@ use Rattle.pv_object.specs.declared.values.Stop.{Stop}
 use Rattle.pv_object.specs.declared.values.Value.{Value}
 use Rattle.pv_object.specs.declared.values.Value.TheVariants.{Int as IntValue, Unset, Pointer as PointerValue}
 use Rattle.pv_object.specs.Access.{chosen, is_null}
-use Rattle.pv_object.specs.Operations.{truth_by as truth_or_stop, to_ptr, recast_by as recast_or_stop, to_int_after, exposed_to, move_under, moved, moved_to, moved_by as moved_or_stop, code_at, code_in, both_or_stop}
+use Rattle.pv_object.specs.Operations.{to_ptr, recast_by as recast_or_stop, to_int_after, exposed_to, move_under, moved_to, code_in}
+use Rattle.pv_object.specs.OperationParts.{truth_by as truth_or_stop, moved, moved_by as moved_or_stop, code_at, both_or_stop}
 use Rattle.pv_watch.specs.declared.event.What.{What}
 use Rattle.pv_world.specs.declared.got.How.{How}
 use Rattle.pv_world.specs.declared.got.How.TheVariants.{Rounds, Passes, Tests, Numbers, Points, Recasts, Voids}

@@ -37,7 +37,7 @@ use Rattle.pv_object.specs.declared.values.Value.TheVariants as value
 use Rattle.pv_object.specs.Memory.{Mem}
 use Rattle.pv_object.specs.Access.{fault, is_null, chosen}
 use Rattle.pv_object.specs.Creating.{created, made as made_in, without}
-use Rattle.pv_object.specs.Storing.{with_bytes, copied}
+use Rattle.pv_object.specs.Copying.{with_bytes, copied}
 use Rattle.pv_object.proofs.Born.{born}
 use Rattle.pv_script.specs.declared.library.Library.{Library}
 use Rattle.pv_script.specs.declared.library.Library.TheVariants as library

@@ -21,9 +21,11 @@ use Rattle.pv_object.specs.declared.values.Scalar.{Scalar}
 use Rattle.pv_object.specs.declared.values.Scalar.TheVariants as scalar
 use Rattle.pv_object.specs.declared.values.Value.{Value}
 use Rattle.pv_object.specs.declared.values.Value.TheVariants as value
-use Rattle.pv_object.specs.Encoding.{encode, unset_byte}
+use Rattle.pv_object.specs.Encoding.{encode}
+use Rattle.pv_object.specs.EncodingParts.{unset_byte}
 use Rattle.pv_object.specs.Memory.{Mem}
-use Rattle.pv_object.specs.Creating.{created, made, blank_in, without, cleared_in}
+use Rattle.pv_object.specs.Creating.{created, made, without}
+use Rattle.pv_object.specs.OperationParts.{blank_in, cleared_in}
 use Rattle.pv_journal_laws.proofs.Telling.{IsNumbered}
 
 pub made_numbered : (T : Table) (p : Prov) → IsMadeIn T p → IsNumbered p

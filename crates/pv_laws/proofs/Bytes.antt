@@ -15,11 +15,12 @@ use Rattle.pv_shadow.specs.declared.byte.Byte.{Byte}
 use Rattle.pv_shadow.specs.Bytes.{Store, read}
 use Rattle.pv_shadow.specs.Readings.{HasBytes}
 use Rattle.pv_shadow.proofs.Ranges.{length-read}
-use Rattle.pv_object.specs.Creating.{made, blank_in, without, cleared_in}
+use Rattle.pv_object.specs.Creating.{made, without}
+use Rattle.pv_object.specs.OperationParts.{blank_in, cleared_in}
 use Rattle.pv_object.specs.Later.{still, IsLater}
 use Rattle.pv_object.specs.Memory.{Mem, with_table}
 use Rattle.pv_object.specs.Reaching.{HasLiveBytes}
-use Rattle.pv_object.specs.Storing.{with_bytes, copied}
+use Rattle.pv_object.specs.Copying.{with_bytes, copied}
 use Rattle.pv_object.proofs.Born.{BornOrRefused, born_or_refused, ok_err, spread_live, born, over_ended, cleared_live}
 use Rattle.pv_object.proofs.Contents.{empty_live, read_made, written_live}
 use Rattle.pv_object.proofs.Later.{later_itself, settled_later, same_later, expose_later, live_bytes_later}

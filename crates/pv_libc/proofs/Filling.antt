@@ -3,7 +3,7 @@ use Rattle.std.proofs.Common.{◌≡◌, ℕ, zero, suc, [], ◌∷◌, replicat
 use Rattle.std.specs.List.{repeat}
 use Rattle.pv_shadow.specs.declared.byte.Byte.{Byte}
 use Rattle.pv_object.specs.Memory.{Mem}
-use Rattle.pv_object.specs.Storing.{with_bytes}
+use Rattle.pv_object.specs.Copying.{with_bytes}
 use Rattle.pv_libc.specs.Blocks.{filled, plain_byte}
 
 repeated : (n : ℕ) (b : Byte) → replicate n b ≡ repeat n (b ∷ [])

@@ -11,7 +11,7 @@ use Rattle.pv_object.specs.declared.values.Value.TheVariants as value
 use Rattle.pv_object.specs.declared.values.Asker.TheVariants.{Text}
 use Rattle.pv_object.specs.Memory.{Mem}
 use Rattle.pv_object.specs.Access.{fault}
-use Rattle.pv_object.specs.Storing.{with_bytes, copied}
+use Rattle.pv_object.specs.Copying.{with_bytes, copied}
 use Rattle.pv_libc.specs.declared.values.Given.{Given}
 use Rattle.pv_libc.specs.declared.values.Reply.{Reply}
 use Rattle.pv_libc.specs.declared.values.Reply.TheVariants as reply

@@ -24,7 +24,7 @@ use Rattle.pv_object.specs.declared.values.Stop.TheVariants.{NoMemory}
 use Rattle.pv_object.specs.Memory.{Mem}
 use Rattle.pv_object.specs.Access.{fault, chosen, is_null}
 use Rattle.pv_object.specs.Creating.{created, without}
-use Rattle.pv_object.specs.Storing.{copied}
+use Rattle.pv_object.specs.Copying.{copied}
 use Rattle.pv_libc.specs.declared.values.Given.{Given}
 use Rattle.pv_libc.specs.declared.values.Note.TheVariants.{Made, Ended}
 use Rattle.pv_libc.specs.declared.values.Reply.{Reply}

@@ -3,7 +3,7 @@ ghost use Rattle.std.specs.Prelude.{◌≡◌, ◌+◌, [], ◌∷◌, ◌++◌,
 ghost use Rattle.pv_inst.specs.Table.{IsMadeIn};
 ghost use Rattle.pv_object.specs.Reaching.{IsReach};
 ghost use Rattle.pv_object.specs.Later.{IsLater};
-ghost use Rattle.pv_object.specs.Storing.{with_bytes};
+ghost use Rattle.pv_object.specs.Copying.{with_bytes};
 ghost use Rattle.pv_object.specs.declared.values.Value.TheVariants as value;
 ghost use Rattle.pv_libc.specs.declared.values.Reply.TheVariants as reply;
 ghost use Rattle.pv_libc.specs.Blocks.{filled, share, plain_byte, copy, memset, memcmp, difference};

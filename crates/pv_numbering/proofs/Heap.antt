@@ -15,7 +15,8 @@ use Rattle.pv_inst.specs.Placing.{place}
 use Rattle.pv_inst.specs.Use.{use_answer}
 use Rattle.pv_shadow.specs.Bytes.{Store, read, written}
 use Rattle.pv_object.specs.Access.{is_null}
-use Rattle.pv_object.specs.Creating.{made, blank_in, cleared_in, without}
+use Rattle.pv_object.specs.Creating.{made, without}
+use Rattle.pv_object.specs.OperationParts.{blank_in, cleared_in}
 use Rattle.pv_libc.specs.declared.values.Note.TheVariants.{Ended}
 use Rattle.pv_libc.specs.declared.values.Reply.{Reply}
 use Rattle.pv_libc.specs.declared.values.Reply.TheVariants as reply

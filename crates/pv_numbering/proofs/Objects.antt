@@ -10,7 +10,8 @@ use Rattle.pv_shadow.specs.declared.byte.Byte.{Byte}
 use Rattle.pv_shadow.specs.Bytes.{Store, written}
 use Rattle.pv_shadow.specs.Whole.{plain}
 use Rattle.pv_object.specs.Memory.{Mem}
-use Rattle.pv_object.specs.Creating.{blank_in, made, cleared_in}
+use Rattle.pv_object.specs.Creating.{made}
+use Rattle.pv_object.specs.OperationParts.{blank_in, cleared_in}
 use Rattle.pv_world.specs.Worlds.{World}
 use Rattle.pv_world.specs.Objects.{makes_object, makes_function, ends_instance, ends_object, put_at, literal_bound, owning, base_in, instance_of, makes_literal_of, fills_object, puts_bytes}
 use Rattle.pv_world.specs.ObjectParts.{object_made, function_made, with_bytes, literal_request, literal_made, filling}

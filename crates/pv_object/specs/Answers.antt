@@ -19,7 +19,7 @@ use Rattle.pv_object.specs.Operations.{together}
 use Rattle.pv_object.specs.declared.values.Scalar.{Scalar}
 use Rattle.pv_object.specs.declared.values.Value.{Value}
 use Rattle.pv_object.specs.Encoding.{encode}
-use Rattle.pv_object.specs.Storing.{with_bytes}
+use Rattle.pv_object.specs.Copying.{with_bytes}
 use Rattle.pv_object.specs.declared.values.Value.TheVariants as value
 
 -- 6.2.4p2: the instance that is meant, if it is live

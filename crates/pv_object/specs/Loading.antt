@@ -1,14 +1,13 @@
 -- A load (C17 6.3.2.1p2, 6.2.6.1p5): its last checks, the exposures, the value, and the live test on a loaded pointer.
-use Rattle.std.specs.Prelude.{ℕ, pos, Bool, false, nat_lt, List, [], ◌∷◌, Option, None, Some, Result, Ok, Err, if◌then◌else◌}
+use Rattle.std.specs.Prelude.{ℕ, pos, Bool, false, nat_lt, List, Option, None, Some, Result, Ok, Err, if◌then◌else◌}
 use Rattle.pv_num.specs.declared.kinds.IntKind.{IntKind}
-use Rattle.pv_num.specs.declared.kinds.IntKind.TheVariants.{Bool as BoolKind, Char, SChar, UChar, Short, UShort, Int, UInt, Long, ULong, LLong, ULLong}
+use Rattle.pv_num.specs.declared.kinds.IntKind.TheVariants.{Bool as BoolKind}
 use Rattle.pv_num.specs.declared.faults.Clause.TheVariants as clause
 use Rattle.pv_num.specs.declared.faults.Reason.TheVariants as reason
 use Rattle.pv_num.specs.Kinds.{convert_of}
 use Rattle.pv_prov.specs.declared.names.Prov.{Prov}
 use Rattle.pv_inst.specs.declared.values.Test.TheVariants.{Live}
 use Rattle.pv_inst.specs.declared.values.Tried.{Tried}
-use Rattle.pv_inst.specs.declared.values.Miss.{Miss}
 use Rattle.pv_inst.specs.Table.{Table}
 use Rattle.pv_inst.specs.Use.{use_answer, settled, untried}
 use Rattle.pv_inst.specs.Exposure.{expose}
@@ -27,19 +26,18 @@ use Rattle.pv_object.specs.Values.{is_character}
 use Rattle.pv_object.specs.Encoding.{size_of, number_in}
 use Rattle.pv_object.specs.Access.{fault}
 use Rattle.pv_object.specs.Memory.{Mem}
+use Rattle.std.specs.List.{fold}
+use Rattle.std.specs.Result.{result_map_both}
 
 -- an answer, and the table of the memory model that it leaves
 abbrev pub Loaded : Type 0
 Loaded = Result (Value × Tried) Stop × Table
 
--- 6.2.4p2: a loaded pointer, where its name passed the live test
-abbrev pub live_answer : Pointer → Result Tried Miss → Result (Value × Tried) Stop
-live_answer p (Ok tried) = Ok (value.Pointer p, tried)
-live_answer p (Err miss) = Err (fault clause.Lifetimes reason.Ended)
-
 -- 6.2.4p2: the live test on a pointer just loaded, whose value is indeterminate where all candidates have ended
 abbrev pub tested : Table → Pointer → Loaded
-tested T p = (live_answer p (use_answer T p.prov Live), settled T p.prov (use_answer T p.prov Live))
+tested T p =
+    let r = use_answer T p.prov Live in
+    (result_map_both (λ tried. (value.Pointer p, tried)) (λ _. fault clause.Lifetimes reason.Ended) r, settled T p.prov r)
 
 -- the memory model: a pointer that was stored whole has its name; other bytes are a number that is converted (6.3.2.3p5)
 abbrev pub pointer_named : Table → Option Prov → ℕ → Loaded
@@ -53,23 +51,12 @@ pointer_of T bytes (Some a) = pointer_named T (whole_name bytes) a
 
 -- the memory model, exposure: the names of the bytes are exposed one by one, from the first byte on
 abbrev pub exposed_by : Table → List Byte → Table
-exposed_by T [] = T
-exposed_by T (b ∷ bs) = exposed_by (expose T b.prov) bs
+exposed_by T bytes = fold (λ T (b : Byte). expose T b.prov) T bytes
 
 -- 6.2.6.1p5: a number that is no value of the type; here a `_Bool` above 1
 abbrev pub is_trap : IntKind → ℕ → Bool
 is_trap BoolKind n = nat_lt 1 n
-is_trap Char n = false
-is_trap SChar n = false
-is_trap UChar n = false
-is_trap Short n = false
-is_trap UShort n = false
-is_trap Int n = false
-is_trap UInt n = false
-is_trap Long n = false
-is_trap ULong n = false
-is_trap LLong n = false
-is_trap ULLong n = false
+is_trap _ n = false
 
 -- 3.19.2, 6.2.6.1p5: a byte without a value is unset as a character, and indeterminate as any other integer. Its names are exposed
 -- (the memory model) behind the checks

@@ -28,6 +28,6 @@ abbrev pub IsReachIn : Option Instance → Reach → ℕ → Type 0
 IsReachIn None r n = ⊥
 IsReachIn (Some x) r n = (x.live ≡ true) × (r.address ≡ x.base + r.offset) × (r.offset + n ≤ x.size)
 
--- 6.2.4p2: the same of a place that was reached
+-- 6.2.4p2: a place of this table that was reached: its instance is live, and so many bytes lie in it from there on
 abbrev pub IsReach : Table → Reach → ℕ → Type 0
 IsReach T r n = IsReachIn (instance_at T.instances r.inst) r n

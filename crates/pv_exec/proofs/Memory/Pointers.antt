@@ -24,7 +24,8 @@ use Rattle.pv_object.specs.Encoding.{number_in}
 use Rattle.pv_object.specs.Values.{is_character}
 use Rattle.pv_object.specs.Memory.{Mem, with_table}
 use Rattle.pv_object.specs.Loading.{value_of, integer_of, pointer_of, pointer_named, exposed_by, is_trap}
-use Rattle.pv_object.specs.Operations.{truth, equal, equal_after, recast, to_ptr, address_of, to_int, to_int_after, move_under, moved, code, together, order}
+use Rattle.pv_object.specs.Operations.{truth, equal, equal_after, recast, to_ptr, address_of, to_int, to_int_after, move_under, code, together, order}
+use Rattle.pv_object.specs.OperationParts.{moved}
 use Rattle.pv_exec.proofs.Memory.Ways.{Changes}
 
 -- the memory with another table

@@ -28,7 +28,7 @@ use Rattle.pv_object.specs.Access.{reach}
 use Rattle.pv_object.specs.Creating.{created, made, without}
 use Rattle.pv_object.specs.Loading.{load, value_of}
 use Rattle.pv_object.specs.Operations.{to_int}
-use Rattle.pv_object.specs.Storing.{with_bytes, copied}
+use Rattle.pv_object.specs.Copying.{with_bytes, copied}
 use Rattle.pv_libc.specs.declared.values.Note.{Note}
 use Rattle.pv_libc.specs.Steps.{Now, Did, next, next_by, about, about_by, reached, reached_by, further}
 use Rattle.pv_libc.specs.Characters.{character_in, character_loaded, character_at, characters_from, string_from, most, string_at}

@@ -11,7 +11,8 @@ use Rattle.pv_object.specs.declared.values.Pointer.{Pointer}
 use Rattle.pv_object.specs.declared.values.Stop.{Stop}
 use Rattle.pv_object.specs.declared.values.Stop.TheVariants as stop
 use Rattle.pv_object.specs.Access.{chosen, is_null, range_stop}
-use Rattle.pv_object.specs.Operations.{code_in, code_by, code_at, code}
+use Rattle.pv_object.specs.Operations.{code_in, code_by, code}
+use Rattle.pv_object.specs.OperationParts.{code_at}
 use Rattle.pv_watch.specs.declared.event.What.{What}
 use Rattle.pv_world.specs.Worlds.{Worth, World, Wrong, with_table}
 use Rattle.pv_world.specs.Telling.{Told, telling, quiet, used, code_test}

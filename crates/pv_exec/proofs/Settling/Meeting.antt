@@ -21,7 +21,8 @@ use Rattle.pv_object.specs.declared.values.Pointer.{Pointer}
 use Rattle.pv_object.specs.declared.values.Stop.{Stop}
 use Rattle.pv_object.specs.declared.values.Stop.TheVariants as stop
 use Rattle.pv_object.specs.Access.{is_null}
-use Rattle.pv_object.specs.Operations.{same_stop, both_or_stop, together, order_by, order}
+use Rattle.pv_object.specs.Operations.{same_stop, together, order}
+use Rattle.pv_object.specs.OperationParts.{both_or_stop, order_by}
 use Rattle.pv_exec.specs.Staying.{AllSettle}
 use Rattle.pv_exec.proofs.Memory.Rows.{led-itself, kept-led}
 use Rattle.pv_exec.proofs.Settling.Sides.{on_sides, on_table, Allows, Covers, nearly}

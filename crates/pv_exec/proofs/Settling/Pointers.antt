@@ -24,8 +24,9 @@ use Rattle.pv_object.specs.declared.values.Stop.{Stop}
 use Rattle.pv_object.specs.Encoding.{number_in}
 use Rattle.pv_object.specs.Values.{is_character}
 use Rattle.pv_object.specs.Access.{fault, is_null}
-use Rattle.pv_object.specs.Loading.{live_answer, tested, pointer_named, pointer_of, exposed_by, integer_of, is_trap, value_of}
-use Rattle.pv_object.specs.Operations.{ended_stop, truth_by, truth, equal_by, equal_after, equal, recast_by, recast, to_int, to_int_after, exposed_to, moved_by, moved, move_under, to_ptr, address_of}
+use Rattle.pv_object.specs.Loading.{tested, pointer_named, pointer_of, exposed_by, integer_of, is_trap, value_of}
+use Rattle.pv_object.specs.OperationParts.{live_answer, truth_by, equal_by, moved_by, moved}
+use Rattle.pv_object.specs.Operations.{ended_stop, truth, equal_after, equal, recast_by, recast, to_int, to_int_after, exposed_to, move_under, to_ptr, address_of}
 use Rattle.pv_exec.proofs.Memory.Rows.{Sound, Leads}
 use Rattle.pv_exec.proofs.Memory.Tables.{use-leads}
 use Rattle.pv_exec.proofs.Settling.Sides.{on_table, Allows, Covers, Nearly, nearly}

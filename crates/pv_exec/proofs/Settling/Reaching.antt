@@ -26,7 +26,8 @@ use Rattle.pv_object.specs.declared.values.Reach.{Reach}
 use Rattle.pv_object.specs.declared.values.Asker.{Asker}
 use Rattle.pv_object.specs.declared.values.Stop.{Stop}
 use Rattle.pv_object.specs.declared.values.Stop.TheVariants as stop
-use Rattle.pv_object.specs.Access.{fault, clause_of, is_null, range_stop, chosen, readonly_stop, write_stop, or_stop, checked_in, checked, reach_after, reach}
+use Rattle.pv_object.specs.Access.{fault, clause_of, is_null, range_stop, chosen, readonly_stop, or_stop, checked_in, checked, reach_after, reach}
+use Rattle.pv_object.specs.OperationParts.{write_stop}
 use Rattle.pv_exec.proofs.Memory.Rows.{Sound}
 use Rattle.pv_exec.proofs.Settling.Sides.{to_side, on_sides, on_table, Allows, Covers, nearly}
 use Rattle.pv_exec.proofs.Settling.Uses.{Agree, use-agrees, settled-covers}

@@ -3,7 +3,7 @@ use Rattle.std.proofs.lemmas.Int.{to_z-of_z}
 use Rattle.pv_inst.specs.Table.{Table, instance_at}
 use Rattle.pv_inst.specs.Infos.{info_of}
 use Rattle.pv_object.specs.Memory.{Mem}
-use Rattle.pv_object.specs.Operations.{moved}
+use Rattle.pv_object.specs.OperationParts.{moved}
 use Rattle.pv_eval.proofs.PlainPlaces.{has_moved}
 use Rattle.pv_eval.proofs.plain_places.shifted.Goals as goal
 

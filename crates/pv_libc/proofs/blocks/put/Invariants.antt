@@ -1,6 +1,6 @@
 use Rattle.std.proofs.Common.{◌≡◌, ◌+◌, ◌++◌, ◌∷◌, [], map, drop, length}
 use Rattle.pv_object.specs.Reaching.{IsReach}
-use Rattle.pv_object.specs.Storing.{with_bytes}
+use Rattle.pv_object.specs.Copying.{with_bytes}
 use Rattle.pv_libc.specs.Blocks.{plain_byte}
 use Rattle.pv_libc.proofs.blocks.put.Given as goal
 

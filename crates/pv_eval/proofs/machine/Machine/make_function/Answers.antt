@@ -1,0 +1,4 @@
+use Rattle.pv_eval.proofs.machine.Machine.make_function.Goals as goal
+
+pub returns-clause-made : goal.returns-clause-made
+returns-clause-made c = rw (← c.self.view_is) c.make_function.ensures.made
