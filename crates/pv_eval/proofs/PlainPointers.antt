@@ -14,7 +14,8 @@ use Rattle.pv_inst.specs.declared.values.Test.TheVariants.{Live}
 use Rattle.pv_inst.specs.declared.values.Miss.TheVariants.{Ended}
 use Rattle.pv_inst.specs.Table.{Table, instance_at}
 use Rattle.pv_inst.specs.Infos.{info_of}
-use Rattle.pv_inst.specs.Use.{made_passes, any_survives, miss_of, use_answer, untried, settled}
+use Rattle.pv_inst.specs.Use.{any_survives, miss_of, use_answer, untried, settled}
+use Rattle.pv_inst.specs.SameParts.{made_passes}
 use Rattle.pv_shadow.specs.declared.byte.Byte.{Byte}
 use Rattle.pv_shadow.specs.Bytes.{read}
 use Rattle.pv_shadow.specs.Whole.{whole_name}

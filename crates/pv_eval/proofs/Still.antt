@@ -3,7 +3,7 @@ use Rattle.std.proofs.Common.{◌≡◌, ℕ, Bool, true, false, List, [], ◌�
 use Rattle.std.specs.Prelude.{Option, Ok}
 use Rattle.pv_inst.specs.declared.values.Instance.{Instance}
 use Rattle.pv_inst.specs.Table.{Table, instance_at}
-use Rattle.pv_inst.specs.Ending.{ending}
+use Rattle.pv_inst.specs.EndingParts.{ending}
 use Rattle.pv_watch.specs.declared.event.What.{What}
 use Rattle.pv_world.specs.Worlds.{Worth, Nothing, World, Wrong}
 use Rattle.pv_world.specs.Doing.{Done, Answers, Fails, Breaks}

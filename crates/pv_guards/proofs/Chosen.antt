@@ -9,7 +9,8 @@ use Rattle.pv_inst.specs.declared.values.Test.TheVariants.{Code}
 use Rattle.pv_inst.specs.declared.values.Tried.{Tried}
 use Rattle.pv_inst.specs.declared.values.Miss.{Miss}
 use Rattle.pv_inst.specs.Table.{Table, instance_at}
-use Rattle.pv_inst.specs.Use.{use_answer, made_passes, is_function}
+use Rattle.pv_inst.specs.Use.{use_answer, is_function}
+use Rattle.pv_inst.specs.SameParts.{made_passes}
 use Rattle.pv_inst.proofs.Fitting.{and_left, and_right}
 use Rattle.pv_object.specs.declared.values.Pointer.{Pointer}
 use Rattle.pv_object.specs.declared.values.Stop.{Stop}

@@ -22,11 +22,13 @@ use Rattle.pv_script.specs.declared.script.Place.TheVariants.{At, Null}
 use Rattle.pv_script.specs.Places.{place_of}
 use Rattle.pv_inst.specs.Table.{Table, instance_at, with_instance, live_bytes, count_of, IsNumber}
 use Rattle.pv_inst.specs.Use.{use_answer, settled, is_heap, is_function}
-use Rattle.pv_inst.specs.Same.{after_same}
+use Rattle.pv_inst.specs.TwoPointers.{after_same}
 use Rattle.pv_inst.specs.Exposure.{expose}
 use Rattle.pv_inst.specs.Finding.{both_found, number_of, reaches, begins, fitting, table_by, after_name, name_at}
-use Rattle.pv_inst.specs.Placing.{Request, place, place_said, place_at, unless_overlap, first_overlap, counted, with_fresh, fresh, rounded}
-use Rattle.pv_inst.specs.Ending.{ended, ending, over}
+use Rattle.pv_inst.specs.Placing.{Request, place, place_said, place_at, unless_overlap, first_overlap, counted, with_fresh, fresh}
+use Rattle.pv_inst.specs.PlacingParts.{rounded}
+use Rattle.pv_inst.specs.Ending.{ended}
+use Rattle.pv_inst.specs.EndingParts.{ending, over}
 use Rattle.pv_inst.proofs.Rows.{IsRow, row_found}
 use Rattle.pv_inst.proofs.Together.{slice_get-set_here, slice_get-set_other}
 use Rattle.pv_inst.proofs.Apartness.{same_or_not}

@@ -16,7 +16,7 @@ use Rattle.pv_inst.specs.declared.values.Miss.{Miss}
 use Rattle.pv_inst.specs.Table.{Table, instance_at, IsMadeIn}
 use Rattle.pv_inst.specs.Use.{use_answer, settled}
 use Rattle.pv_inst.specs.Finding.{name_at, after_name}
-use Rattle.pv_inst.specs.Same.{same_miss, miss_of_two, same_by, same_answer}
+use Rattle.pv_inst.specs.TwoPointers.{same_miss, miss_of_two, same_by, same_answer}
 use Rattle.pv_shadow.specs.declared.byte.Byte.{Byte}
 use Rattle.pv_shadow.specs.Whole.{whole_name}
 use Rattle.pv_object.specs.declared.values.Pointer.{Pointer}

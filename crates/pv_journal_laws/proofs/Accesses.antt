@@ -19,8 +19,9 @@ use Rattle.pv_inst.specs.declared.values.Test.TheVariants.{Live, Range}
 use Rattle.pv_inst.specs.declared.values.CreateError.{CreateError}
 use Rattle.pv_inst.specs.Table.{Table, instance_at, with_instance, IsMadeIn}
 use Rattle.pv_inst.specs.Use.{use_answer, settled, untried}
-use Rattle.pv_inst.specs.Same.{same_miss, same_by, same_state, same_left, same_right}
-use Rattle.pv_inst.specs.Exposure.{expose, expose_one, exposing, shown}
+use Rattle.pv_inst.specs.TwoPointers.{same_miss, same_by, same_state, same_left, same_right}
+use Rattle.pv_inst.specs.Exposure.{expose, expose_one, exposing}
+use Rattle.pv_inst.specs.ExposureParts.{shown}
 use Rattle.pv_inst.specs.Finding.{after_name, name_at}
 use Rattle.pv_inst.specs.Placing.{Request}
 use Rattle.pv_shadow.specs.declared.byte.Byte.{Byte}

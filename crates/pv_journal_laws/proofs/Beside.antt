@@ -14,8 +14,9 @@ use Rattle.pv_inst.specs.declared.values.Tried.{Tried}
 use Rattle.pv_inst.specs.declared.values.Miss.{Miss}
 use Rattle.pv_inst.specs.declared.values.Test.TheVariants.{Live}
 use Rattle.pv_inst.specs.Table.{Table, instance_at, IsMadeIn}
-use Rattle.pv_inst.specs.Use.{settled, if_two, survives, made_passes}
-use Rattle.pv_inst.specs.Same.{in_common, is_number, tried_beside, same_miss, same_state, after_same, after_left, same_left, same_right}
+use Rattle.pv_inst.specs.Use.{settled, if_two, survives}
+use Rattle.pv_inst.specs.SameParts.{made_passes}
+use Rattle.pv_inst.specs.TwoPointers.{in_common, is_number, tried_beside, same_miss, same_state, after_same, after_left, same_left, same_right}
 use Rattle.pv_inst.specs.Answers.{CanKeep}
 use Rattle.pv_inst.specs.Infos.{base_of}
 use Rattle.pv_inst.specs.WellFormed.{HasMet}

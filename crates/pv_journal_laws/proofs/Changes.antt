@@ -13,8 +13,10 @@ use Rattle.pv_inst.specs.declared.values.Miss.{Miss}
 use Rattle.pv_inst.specs.Table.{Table, instance_at, with_instance}
 use Rattle.pv_inst.specs.Use.{use_answer, settled}
 use Rattle.pv_inst.specs.WellFormed.{IsPlaced}
-use Rattle.pv_inst.specs.Exposure.{expose, expose_one, exposing, shown}
-use Rattle.pv_inst.specs.Ending.{ended, ending, over}
+use Rattle.pv_inst.specs.Exposure.{expose, expose_one, exposing}
+use Rattle.pv_inst.specs.ExposureParts.{shown}
+use Rattle.pv_inst.specs.Ending.{ended}
+use Rattle.pv_inst.specs.EndingParts.{ending, over}
 use Rattle.pv_inst.specs.Finding.{after_name, table_by, both_found, fitting, number_of as first_number, reaches, begins}
 use Rattle.pv_inst.proofs.Rows.{row_found}
 use Rattle.pv_watch.specs.declared.event.What.{What}

@@ -17,7 +17,7 @@ use Rattle.pv_inst.specs.declared.values.Miss.{Miss}
 use Rattle.pv_inst.specs.declared.values.Test.TheVariants.{Live, Range, Code}
 use Rattle.pv_inst.specs.Table.{Table, IsMadeIn}
 use Rattle.pv_inst.specs.Use.{use_answer, settled}
-use Rattle.pv_inst.specs.Same.{same_miss, same_by, same_state}
+use Rattle.pv_inst.specs.TwoPointers.{same_miss, same_by, same_state}
 use Rattle.pv_object.specs.declared.values.Pointer.{Pointer}
 use Rattle.pv_object.specs.declared.values.Stop.{Stop}
 use Rattle.pv_object.specs.declared.values.Value.{Value}

@@ -4,8 +4,10 @@ use Rattle.std.specs.Option.{option_and_then, option_map}
 use Rattle.pv_journal_laws.specs.Naming.{AreDistinct}
 use Rattle.pv_inst.specs.declared.values.Instance.{Instance}
 use Rattle.pv_inst.specs.Table.{Table, instance_at, with_instance}
-use Rattle.pv_inst.specs.Exposure.{exposing, expose_one, shown}
-use Rattle.pv_inst.specs.Ending.{ended, ending}
+use Rattle.pv_inst.specs.Exposure.{exposing, expose_one}
+use Rattle.pv_inst.specs.ExposureParts.{shown}
+use Rattle.pv_inst.specs.Ending.{ended}
+use Rattle.pv_inst.specs.EndingParts.{ending}
 use Rattle.std.proofs.lemmas.Option.{none-some, same_Some}
 use Rattle.pv_inst.proofs.Rows.{row_found}
 use Rattle.pv_watch.specs.declared.event.What.{What}

@@ -12,14 +12,15 @@ use Rattle.pv_inst.specs.declared.values.CreateError.{CreateError}
 use Rattle.pv_inst.specs.declared.values.CreateError.TheVariants.{Range, Misaligned, Denied, Storage}
 use Rattle.pv_inst.specs.Table.{Table, instance_at, live_bytes, count_of}
 use Rattle.pv_inst.specs.Use.{is_heap}
-use Rattle.pv_inst.specs.Placing.{Request, place, place_said, place_at, unless_overlap, first_overlap, with_fresh, counted, rounded, fresh}
+use Rattle.pv_inst.specs.Placing.{Request, place, place_said, place_at, unless_overlap, first_overlap, with_fresh, counted, fresh}
+use Rattle.pv_inst.specs.PlacingParts.{rounded}
 use Rattle.pv_object.specs.Memory.{Mem}
 use Rattle.pv_object.specs.Creating.{created, made as made_in}
 use Rattle.pv_object.proofs.Born.{slice_last, at_next}
 use Rattle.pv_watch.specs.declared.event.What.{What}
-use Rattle.pv_world.specs.Telling.{made}
-use Rattle.pv_world.specs.ObjectParts.{made_row}
 use Rattle.pv_exec.proofs.Memory.Rows.{push-led, led-itself}
+use Rattle.pv_world.specs.ObjectParts.{made_row}
+use Rattle.pv_world.specs.Telling.{made}
 use Rattle.pv_journal_laws.proofs.Makings.{make_tells}
 use Rattle.pv_journal_laws.proofs.Calling.{called_more, called_push}
 use Rattle.pv_journal_laws.proofs.Changes.{AreFew, Tells, tells-itself}

@@ -18,7 +18,8 @@ use Rattle.pv_inst.specs.declared.values.Tried.{Tried}
 use Rattle.pv_inst.specs.declared.values.Miss.{Miss}
 use Rattle.pv_inst.specs.declared.values.Miss.TheVariants as miss
 use Rattle.pv_inst.specs.Table.{Table, instance_at}
-use Rattle.pv_inst.specs.Use.{passes, made_passes, survives, any_survives, judged, if_two, use_answer, settled, is_heap, is_function, miss_of, empty_answer}
+use Rattle.pv_inst.specs.Use.{passes, survives, any_survives, judged, if_two, use_answer, settled, is_heap, is_function, miss_of, empty_answer}
+use Rattle.pv_inst.specs.SameParts.{made_passes}
 use Rattle.pv_inst.specs.WellFormed.{HasMet}
 use Rattle.pv_inst.proofs.Rows.{row_found}
 use Rattle.pv_watch.specs.declared.event.What.TheVariants as what

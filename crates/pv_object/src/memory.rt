@@ -6,7 +6,7 @@ ghost use Rattle.pv_prov.specs.Made.{Stands_low, Stands_high};
 ghost use Rattle.pv_script.specs.Names.{name_at as text_of};
 ghost use Rattle.pv_inst.specs.Table.{IsMadeIn};
 ghost use Rattle.pv_inst.specs.Use.{use_answer, settled, is_heap};
-ghost use Rattle.pv_inst.specs.Same.{same_answer, after_same};
+ghost use Rattle.pv_inst.specs.TwoPointers.{same_answer, after_same};
 ghost use Rattle.pv_inst.specs.Answers.{IsLive};
 ghost use Rattle.pv_inst.specs.Exposure.{expose};
 ghost use Rattle.pv_inst.specs.Finding.{name_at, after_name, found_at};

@@ -13,11 +13,12 @@ use Rattle.pv_inst.specs.declared.values.Tried.{Tried}
 use Rattle.pv_inst.specs.declared.values.Miss.{Miss}
 use Rattle.pv_inst.specs.Table.{Table, instance_at, live_bytes, count_of}
 use Rattle.pv_inst.specs.Use.{use_answer, settled}
-use Rattle.pv_inst.specs.Same.{same_miss, same_state, same_left, same_right, after_left}
+use Rattle.pv_inst.specs.TwoPointers.{same_miss, same_state, same_left, same_right, after_left}
 use Rattle.pv_inst.specs.Exposure.{exposing, expose_one, expose}
-use Rattle.pv_inst.specs.Ending.{ending}
+use Rattle.pv_inst.specs.EndingParts.{ending}
 use Rattle.pv_inst.specs.Finding.{found_at, table_by}
-use Rattle.pv_inst.specs.Placing.{Request, place, place_said, place_at, unless_overlap, first_overlap, rounded}
+use Rattle.pv_inst.specs.Placing.{Request, place, place_said, place_at, unless_overlap, first_overlap}
+use Rattle.pv_inst.specs.PlacingParts.{rounded}
 use Rattle.pv_exec.proofs.Memory.Ways.{Changes, OfTables, of-tables}
 
 -- the second table has the script of the first one

@@ -16,7 +16,8 @@ use Rattle.pv_inst.specs.Table.{Table, instance_at}
 use Rattle.pv_inst.specs.Answers.{IsLive}
 use Rattle.pv_inst.specs.Infos.{base_of}
 use Rattle.pv_inst.specs.Placing.{Request, place}
-use Rattle.pv_inst.specs.Use.{use_answer, settled, survives, made_passes, is_heap}
+use Rattle.pv_inst.specs.Use.{use_answer, settled, survives, is_heap}
+use Rattle.pv_inst.specs.SameParts.{made_passes}
 use Rattle.pv_inst.proofs.Fitting.{and_left, and_right}
 use Rattle.pv_object.specs.declared.values.Asker.{Asker}
 use Rattle.pv_object.specs.declared.values.Pointer.{Pointer}

@@ -11,7 +11,8 @@ use Rattle.pv_prov.specs.Twins.{KeepsOne}
 use Rattle.pv_prov.specs.Names.{twin_at, keeping, kept, added}
 use Rattle.pv_prov.specs.Made.{Stands_low, Stands_high}
 use Rattle.pv_inst.specs.declared.values.Instance.{Instance}
-use Rattle.pv_inst.specs.Table.{Table, instance_at, with_instance, live_size, live_bytes}
+use Rattle.pv_inst.specs.Table.{Table, instance_at, with_instance, live_bytes}
+use Rattle.pv_inst.specs.TableParts.{live_size}
 use Rattle.pv_inst.specs.Placing.{first_overlap}
 use Rattle.pv_inst.specs.WellFormed.{Apart, HasMet}
 use Rattle.pv_inst.proofs.Rows.{IsRow}

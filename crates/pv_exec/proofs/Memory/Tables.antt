@@ -16,13 +16,16 @@ use Rattle.pv_inst.specs.declared.values.Tried.{Tried}
 use Rattle.pv_inst.specs.declared.values.Miss.{Miss}
 use Rattle.pv_inst.specs.Table.{Table, instance_at, with_instance, live_bytes, count_of, IsMadeIn}
 use Rattle.pv_inst.specs.Use.{survives, any_survives, judged, if_two, use_answer, settled}
-use Rattle.pv_inst.specs.Same.{after_same, same_state, same_miss, same_left, same_right, after_left}
+use Rattle.pv_inst.specs.TwoPointers.{after_same, same_state, same_miss, same_left, same_right, after_left}
 use Rattle.pv_inst.specs.Answers.{CanKeep}
-use Rattle.pv_inst.specs.Exposure.{expose, expose_one, exposing, shown}
+use Rattle.pv_inst.specs.Exposure.{expose, expose_one, exposing}
+use Rattle.pv_inst.specs.ExposureParts.{shown}
 use Rattle.pv_inst.specs.declared.values.CreateError.{CreateError}
 use Rattle.pv_inst.specs.declared.values.CreateError.TheVariants.{Range, Misaligned}
-use Rattle.pv_inst.specs.Placing.{Request, place, place_said, place_at, unless_overlap, first_overlap, fresh, rounded}
-use Rattle.pv_inst.specs.Ending.{ended, ending, over}
+use Rattle.pv_inst.specs.Placing.{Request, place, place_said, place_at, unless_overlap, first_overlap, fresh}
+use Rattle.pv_inst.specs.PlacingParts.{rounded}
+use Rattle.pv_inst.specs.Ending.{ended}
+use Rattle.pv_inst.specs.EndingParts.{ending, over}
 use Rattle.pv_inst.proofs.Rows.{row_found}
 use Rattle.pv_inst.proofs.Together.{Common, common_found, left_can, right_can}
 use Rattle.pv_eval.specs.Acting.{keeps_both}

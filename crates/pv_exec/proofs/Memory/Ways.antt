@@ -13,7 +13,7 @@ use Rattle.pv_inst.specs.Ending.{ended}
 use Rattle.pv_inst.specs.Table.{Table, IsMadeIn}
 use Rattle.pv_inst.specs.Use.{use_answer, settled, is_function}
 use Rattle.pv_inst.specs.Placing.{Request, place}
-use Rattle.pv_inst.specs.Same.{after_same}
+use Rattle.pv_inst.specs.TwoPointers.{after_same}
 use Rattle.pv_inst.specs.Finding.{after_name}
 use Rattle.pv_inst.specs.Exposure.{expose}
 use Rattle.pv_shadow.specs.declared.byte.Byte.{Byte}

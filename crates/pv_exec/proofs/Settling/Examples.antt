@@ -11,7 +11,7 @@ use Rattle.pv_inst.specs.declared.values.Test.TheVariants.{Live, Range, Code}
 use Rattle.pv_inst.specs.declared.values.Miss.TheVariants.{Ended, Outside}
 use Rattle.pv_inst.specs.Table.{Table}
 use Rattle.pv_inst.specs.Use.{use_answer}
-use Rattle.pv_inst.specs.Same.{same_answer, miss_of_two}
+use Rattle.pv_inst.specs.TwoPointers.{same_answer, miss_of_two}
 use Rattle.pv_world.specs.declared.got.Shape.TheVariants as shape
 use Rattle.pv_shadow.specs.Bytes.{read}
 use Rattle.pv_world.specs.Worlds.{World}

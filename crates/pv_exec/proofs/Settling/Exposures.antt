@@ -9,7 +9,8 @@ use Rattle.pv_prov.specs.declared.names.Prov.TheVariants.{Empty, Inst, Pair}
 use Rattle.pv_prov.specs.Names.{stands, stands_of, those_kept, twin_at}
 use Rattle.pv_inst.specs.declared.values.Instance.{Instance}
 use Rattle.pv_inst.specs.Table.{Table, instance_at, with_instance}
-use Rattle.pv_inst.specs.Exposure.{expose, expose_one, expose_two, exposing, shown}
+use Rattle.pv_inst.specs.Exposure.{expose, expose_one, exposing}
+use Rattle.pv_inst.specs.ExposureParts.{expose_two, shown}
 use Rattle.pv_inst.specs.WellFormed.{Meet, HasMet}
 use Rattle.pv_shadow.specs.declared.byte.Byte.{Byte}
 use Rattle.pv_object.specs.Loading.{exposed_by}

@@ -15,7 +15,8 @@ use Rattle.pv_inst.specs.declared.values.Miss.{Miss}
 use Rattle.pv_inst.specs.declared.values.Miss.TheVariants.{Empty as NoName, Ended, Apart, Undecided, Outside, Block as NoBlock}
 use Rattle.pv_inst.specs.Table.{Table, IsMadeIn}
 use Rattle.pv_inst.specs.Use.{any_survives, settled}
-use Rattle.pv_inst.specs.Same.{in_common, tried_beside, miss_of_two, same_miss, same_left, same_right, after_left, after_both, same_by, same_state}
+use Rattle.pv_inst.specs.TwoPointers.{in_common, tried_beside, miss_of_two, same_miss, same_left, same_right, after_left, same_by, same_state}
+use Rattle.pv_inst.specs.SameParts.{after_both}
 use Rattle.pv_inst.proofs.Together.{Common, common_found, turned, right_can}
 use Rattle.pv_object.specs.declared.values.Pointer.{Pointer}
 use Rattle.pv_object.specs.declared.values.Stop.{Stop}

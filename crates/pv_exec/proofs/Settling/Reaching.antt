@@ -20,7 +20,8 @@ use Rattle.pv_inst.specs.declared.values.Miss.{Miss}
 use Rattle.pv_inst.specs.Table.{Table, instance_at}
 use Rattle.pv_inst.specs.Infos.{info_of}
 use Rattle.pv_inst.specs.WellFormed.{Meet, HasMet}
-use Rattle.pv_inst.specs.Use.{made_passes, survives, judged, if_two, use_answer, settled}
+use Rattle.pv_inst.specs.Use.{survives, judged, if_two, use_answer, settled}
+use Rattle.pv_inst.specs.SameParts.{made_passes}
 use Rattle.pv_object.specs.declared.values.Pointer.{Pointer}
 use Rattle.pv_object.specs.declared.values.Reach.{Reach}
 use Rattle.pv_object.specs.declared.values.Asker.{Asker}

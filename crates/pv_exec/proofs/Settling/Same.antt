@@ -14,7 +14,7 @@ use Rattle.pv_inst.specs.declared.values.Miss.{Miss}
 use Rattle.pv_inst.specs.declared.values.Miss.TheVariants.{Empty as NoName, Ended, Apart, Undecided}
 use Rattle.pv_inst.specs.Table.{Table, IsMadeIn}
 use Rattle.pv_inst.specs.Use.{survives, any_survives, settled}
-use Rattle.pv_inst.specs.Same.{is_number, in_common, tried_beside, miss_of_two}
+use Rattle.pv_inst.specs.TwoPointers.{is_number, in_common, tried_beside, miss_of_two}
 use Rattle.pv_exec.proofs.Settling.Sides.{to_side, on_sides, on_table, holds, Allows, Covers, keeping_of, IsOnSide}
 
 -- the one candidate that a name has in a settled run

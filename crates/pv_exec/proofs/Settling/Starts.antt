@@ -12,7 +12,8 @@ use Rattle.pv_inst.specs.declared.values.Test.TheVariants.{Block, Code}
 use Rattle.pv_inst.specs.declared.values.Tried.{Tried}
 use Rattle.pv_inst.specs.Table.{Table, instance_at}
 use Rattle.pv_inst.specs.WellFormed.{Meet, HasMet}
-use Rattle.pv_inst.specs.Use.{made_passes, if_two, use_answer, is_heap, is_function, empty_answer, passes}
+use Rattle.pv_inst.specs.Use.{if_two, use_answer, is_heap, is_function, empty_answer, passes}
+use Rattle.pv_inst.specs.SameParts.{made_passes}
 use Rattle.pv_inst.proofs.Rows.{row_found}
 use Rattle.pv_object.specs.Access.{chosen}
 use Rattle.pv_exec.proofs.Memory.Rows.{Lies, Sound}
