@@ -29,6 +29,7 @@ pub mod PlainNumbers
 pub mod PlainReads
 pub mod PlainPointers
 pub mod PlainBytes
+pub mod PlainCodes
 pub mod PlainPlaces
 pub mod PlainConversions
 pub mod PlainComparisons

@@ -23,6 +23,7 @@ pub mod Rows
 pub mod Moments
 pub mod Siding
 pub mod Closings
+pub mod Codes
 pub mod Frames
 pub mod Ahead
 pub mod Pieces

@@ -19,6 +19,7 @@ ghost use Rattle.pv_eval.specs.Machines.{first_machine, ended, is_due, is_going,
 ghost use Rattle.pv_eval.specs.MachineSteps.{IsBegun, IsTaken, IsAnswered, IsOpen, Fit, WentTo, KeepsSetting};
 ghost use Rattle.pv_eval.specs.Pieces.{handed_at, needed_of};
 ghost use Rattle.pv_eval.specs.Progress.{StepsMachine, MadeAnywhere};
+ghost use Rattle.pv_eval.specs.Codes.{AreCodes};
 ghost use Rattle.pv_eval.specs.AtOnce.{EvaluatedFirst, CutFirst, EvaluatedNext, CutNext, TestedNext};
 
 use crate::converting::{hand_on, need};
@@ -26,6 +27,7 @@ use crate::failure::Failure;
 use crate::frames::Step;
 use crate::marked::Marked;
 use crate::moment::Moment;
+use crate::plan::Plan;
 use crate::started::{Stacks, Started};
 use crate::values::Kept;
 use pv_script::Script;
@@ -172,7 +174,8 @@ impl Machine {
     /// The whole of the innermost expression at once, where it was just begun, is plain but for a store at its root, where
     /// nothing stops it, and where its turns are within the bound. Then it has ended, with its value; its turns were taken,
     /// nothing was printed, and nothing happened that is told. False where that is not so: then nothing has changed.
-    pub fn whole(&mut self, unit: &TypedUnit, bound: u64) -> bool
+    pub fn whole(&mut self, unit: &TypedUnit, plan: &Plan, bound: u64) -> bool
+        requires codes { AreCodes unit.now plan.now }
         requires runnable { IsRunnable unit.now }
         requires fit { Fit unit.now self.old.started }
         ensures whole { result ≡ true → EvaluatedFirst unit.now self.old self.new }
@@ -186,7 +189,7 @@ impl Machine {
         ensures stays { KeepsSetting self.old.moment self.new.moment }
     {
         match self.started.front_mut() {
-            Some(e) => e.whole(unit, bound, &mut self.moment),
+            Some(e) => e.whole(unit, plan, bound, &mut self.moment),
             None => false,
         }
     }
@@ -194,7 +197,14 @@ impl Machine {
     /// A statement's turn, and its full expression at once, which is not started: where it is plain but for a store at its
     /// root, where nothing stops it, and where its turns are within the bound. Its value is given, its turns were taken,
     /// nothing was printed, and nothing happened that is told. `None` where that is not so: then nothing has changed.
-    pub fn whole_next(&mut self, unit: &TypedUnit, n: NodeId, bound: u64) -> Option<Got>
+    pub fn whole_next(
+        &mut self,
+        unit: &TypedUnit,
+        plan: &Plan,
+        n: NodeId,
+        bound: u64,
+    ) -> Option<Got>
+        requires codes { AreCodes unit.now plan.now }
         requires runnable { IsRunnable unit.now }
         requires there { IsExpression unit.now n }
         requires room { self.old.moment.taken < bound }
@@ -206,13 +216,20 @@ impl Machine {
         ensures started { self.new.started ≡ self.old.started }
         ensures stays { KeepsSetting self.old.moment self.new.moment }
     {
-        self.moment.whole_next(unit, n, bound)
+        self.moment.whole_next(unit, plan, n, bound)
     }
 
     /// A statement's turn, and its controlling expression at once, which is not started: whether it compares unequal to 0
     /// (C17 6.8.4.1p2). As `whole_next`, and where the expression has no side effect. `None` where that is not so: then nothing
     /// has changed.
-    pub fn decide_next(&mut self, unit: &TypedUnit, n: NodeId, bound: u64) -> Option<bool>
+    pub fn decide_next(
+        &mut self,
+        unit: &TypedUnit,
+        plan: &Plan,
+        n: NodeId,
+        bound: u64,
+    ) -> Option<bool>
+        requires codes { AreCodes unit.now plan.now }
         requires runnable { IsRunnable unit.now }
         requires there { IsExpression unit.now n }
         requires room { self.old.moment.taken < bound }
@@ -224,7 +241,7 @@ impl Machine {
         ensures started { self.new.started ≡ self.old.started }
         ensures stays { KeepsSetting self.old.moment self.new.moment }
     {
-        self.moment.decide_next(unit, n, bound)
+        self.moment.decide_next(unit, plan, n, bound)
     }
 
     /// The value of the innermost expression, which has ended.

@@ -1,13 +1,12 @@
-// Plain expressions (C17 6.5) without a machine: what one gives from a world, where nothing stops it.
+// Nodes of plain expressions (C17 6.5): what one gives from a world, where its operands have given values and nothing stops it.
 ghost use Rattle.std.specs.Prelude.{IfSome};
 ghost use Rattle.pv_typed.specs.TypedTree.{type_of};
 ghost use Rattle.pv_typed.specs.Formed.{NamesIn};
 ghost use Rattle.pv_typed.specs.Known.{AreKnown};
 ghost use Rattle.pv_typed.specs.Children.{HasOperands};
 ghost use Rattle.pv_typed.specs.NodeTrees.{expression_at, IsExpression};
-ghost use Rattle.pv_eval.specs.Plainly.{Yields, GivesAlone, GivesWith, GivesWithBoth, found_worth};
+ghost use Rattle.pv_eval.specs.Plainly.{GivesAlone, GivesWith, GivesWithBoth, found_worth};
 
-use crate::operands::{first_operand, second_operand};
 use crate::plain_comparisons::{equality, negated};
 use crate::plain_conversions::cast;
 use crate::plain_numbers::{arithmetic, natural, unary};
@@ -40,7 +39,7 @@ pub(crate) enum Found {
 }
 
 /// A node without operands.
-fn alone(unit: &TypedUnit, world: &World, x: Typed) -> Option<Found>
+pub(crate) fn alone(unit: &TypedUnit, world: &World, x: Typed) -> Option<Found>
     requires { NamesIn unit.now x }
     ensures { IfSome result (λ v. GivesAlone unit.now world.now x (found_worth v)) }
 {
@@ -53,7 +52,7 @@ fn alone(unit: &TypedUnit, world: &World, x: Typed) -> Option<Found>
 }
 
 /// A node of this type whose one operand has given a value.
-fn with_one(
+pub(crate) fn with_one(
     alloc: Global,
     unit: &TypedUnit,
     world: &World,
@@ -86,7 +85,7 @@ fn with_one(
 }
 
 /// A node of this type whose two operands have given values.
-fn with_both(
+pub(crate) fn with_both(
     unit: &TypedUnit,
     world: &World,
     n: NodeId,
@@ -106,26 +105,4 @@ fn with_both(
         Typed::PointerEquality(op, a, d) => equality(unit, world, op, a, d, first, second),
         _ => None,
     }
-}
-
-/// What a plain expression gives from this world, where nothing stops it, and where that is a number of 64 bits with a
-/// sign, or a place.
-///
-/// `None` says nothing: the machine of expressions finds the same, or why there is no value. Nothing changes in any case.
-#[tactic(auto, using(crate::proofs::PlainSteps::alone_some, crate::proofs::PlainSteps::with_some, crate::proofs::PlainSteps::both_some))]
-pub(crate) fn value(alloc: Global, unit: &TypedUnit, world: &World, n: NodeId) -> Option<Found>
-    requires known { AreKnown unit.now }
-    requires there { IsExpression unit.now n }
-    ensures { IfSome result (λ v. Yields unit.now world.now (expression_at unit.now n) (found_worth v)) }
-{
-    let x = unit.node(n);
-    let Some(a) = first_operand(x) else {
-        return alone(unit, world, x);
-    };
-    let first = value(alloc, unit, world, a)?;
-    let Some(d) = second_operand(x) else {
-        return with_one(alloc, unit, world, n, x, first);
-    };
-    let second = value(alloc, unit, world, d)?;
-    with_both(unit, world, n, x, first, second)
 }

@@ -130,7 +130,7 @@ fn is_told(world: &World) -> bool
 }
 
 /// The integer of this kind at a place, if nothing keeps it from being read.
-fn load(
+pub(crate) fn load(
     alloc: Global,
     unit: &TypedUnit,
     world: &World,
@@ -207,7 +207,7 @@ fn pointed(world: &World, p: Pointer) -> Option<Found>
 }
 
 /// The pointer at a place, if it was stored whole, is null or points into a live instance, and nothing keeps it from being read.
-fn load_pointer(
+pub(crate) fn load_pointer(
     alloc: Global,
     unit: &TypedUnit,
     world: &World,

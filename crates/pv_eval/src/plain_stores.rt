@@ -12,12 +12,15 @@ ghost use Rattle.pv_world.specs.Worths.{pointer, pointer_of};
 ghost use Rattle.pv_world.specs.Coming.{worth_of};
 ghost use Rattle.pv_eval.specs.TypeForms.{shape_of};
 ghost use Rattle.pv_eval.specs.Sizes.{IsComplete};
+ghost use Rattle.pv_eval.specs.Codes.{AreCodes};
 ghost use Rattle.pv_eval.specs.Plainly.{Performs, StoresAt, found_worth, pointer_at};
 
 use crate::permission::permits;
-use crate::plain::{Found, Spot, value};
+use crate::plain::{Found, Spot};
+use crate::plain_coded::value_by;
 use crate::plain_conversions::converted_value;
 use crate::plain_reads::reached;
+use crate::plan::Plan;
 use crate::suiting::can_write;
 use crate::types::{AccessedType, accessed, number};
 use pv_object::{Pointer, Value};
@@ -106,11 +109,13 @@ pub(crate) fn assigned(
 pub(crate) fn assign(
     alloc: Global,
     unit: &TypedUnit,
+    plan: &Plan,
     world: &mut World,
     n: NodeId,
     a: NodeId,
     d: NodeId,
 ) -> Option<Found>
+    requires codes { AreCodes unit.now plan.now }
     requires known { AreKnown unit.now }
     requires left { IsExpression unit.now a }
     requires right { IsExpression unit.now d }
@@ -118,8 +123,8 @@ pub(crate) fn assign(
     ensures some { IfSome result (λ v. Performs unit.now world.old world.new (expression_at unit.now n) (found_worth v)) }
     ensures none { IfNone result (world.new ≡ world.old) }
 {
-    let place = value(alloc, unit, world, a)?;
-    let second = value(alloc, unit, world, d)?;
+    let place = value_by(alloc, unit, plan, world, a)?;
+    let second = value_by(alloc, unit, plan, world, d)?;
     let v = converted_value(unit, d, second)?;
     if assigned(alloc, unit, world, a, place, v) {
         Some(v)

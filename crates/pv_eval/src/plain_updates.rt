@@ -8,15 +8,18 @@ ghost use Rattle.pv_typed.specs.Tables.{nodes};
 ghost use Rattle.pv_typed.specs.NodeTrees.{expression_at, IsExpression};
 ghost use Rattle.pv_eval.specs.TypeForms.{kind_of};
 ghost use Rattle.pv_eval.specs.Steps.{is_after};
+ghost use Rattle.pv_eval.specs.Codes.{AreCodes};
 ghost use Rattle.pv_eval.specs.Plainly.{Performs, StepsTo, CombinesTo, found_worth};
 
 use crate::compound::{after, down, operator};
-use crate::plain::{Found, value};
+use crate::plain::Found;
+use crate::plain_coded::value_by;
 use crate::plain_conversions::converted_value;
 use crate::plain_numbers::{kept, operated};
 use crate::plain_places::{element, pointed_size};
 use crate::plain_reads::read_at;
 use crate::plain_stores::assigned;
+use crate::plan::Plan;
 use crate::types::{kind, promoted, shape};
 use crate::values::minus;
 use pv_num::{BinOp, IntKind};
@@ -61,11 +64,13 @@ fn chosen(o: IncrementOperator, v: Found, z: Found) -> Found
 pub(crate) fn increment(
     alloc: Global,
     unit: &TypedUnit,
+    plan: &Plan,
     world: &mut World,
     n: NodeId,
     o: IncrementOperator,
     a: NodeId,
 ) -> Option<Found>
+    requires codes { AreCodes unit.now plan.now }
     requires known { AreKnown unit.now }
     requires there { IsExpression unit.now n }
     requires left { IsExpression unit.now a }
@@ -73,7 +78,7 @@ pub(crate) fn increment(
     ensures some { IfSome result (λ v. Performs unit.now world.old world.new (expression_at unit.now n) (found_worth v)) }
     ensures none { IfNone result (world.new ≡ world.old) }
 {
-    let place = value(alloc, unit, world, a)?;
+    let place = value_by(alloc, unit, plan, world, a)?;
     let v = read_at(alloc, unit, world, a, place)?;
     let z = stepped(unit, world, n, o, v)?;
     if assigned(alloc, unit, world, a, place, z) {
@@ -109,6 +114,7 @@ fn combined(
 pub(crate) fn compound_assign(
     alloc: Global,
     unit: &TypedUnit,
+    plan: &Plan,
     world: &mut World,
     n: NodeId,
     op: BinOp,
@@ -116,6 +122,7 @@ pub(crate) fn compound_assign(
     a: NodeId,
     d: NodeId,
 ) -> Option<Found>
+    requires codes { AreCodes unit.now plan.now }
     requires known { AreKnown unit.now }
     requires there { IsExpression unit.now n }
     requires left { IsExpression unit.now a }
@@ -124,9 +131,9 @@ pub(crate) fn compound_assign(
     ensures some { IfSome result (λ v. Performs unit.now world.old world.new (expression_at unit.now n) (found_worth v)) }
     ensures none { IfNone result (world.new ≡ world.old) }
 {
-    let place = value(alloc, unit, world, a)?;
+    let place = value_by(alloc, unit, plan, world, a)?;
     let v = read_at(alloc, unit, world, a, place)?;
-    let second = value(alloc, unit, world, d)?;
+    let second = value_by(alloc, unit, plan, world, d)?;
     let z = combined(unit, n, op, at, d, v, second)?;
     if assigned(alloc, unit, world, a, place, z) {
         Some(z)
@@ -140,12 +147,14 @@ pub(crate) fn compound_assign(
 pub(crate) fn pointer_assign(
     alloc: Global,
     unit: &TypedUnit,
+    plan: &Plan,
     world: &mut World,
     n: NodeId,
     sign: Sign,
     a: NodeId,
     d: NodeId,
 ) -> Option<Found>
+    requires codes { AreCodes unit.now plan.now }
     requires known { AreKnown unit.now }
     requires there { IsExpression unit.now n }
     requires left { IsExpression unit.now a }
@@ -155,9 +164,9 @@ pub(crate) fn pointer_assign(
     ensures none { IfNone result (world.new ≡ world.old) }
 {
     let size = pointed_size(unit, unit.type_of(n))?;
-    let place = value(alloc, unit, world, a)?;
+    let place = value_by(alloc, unit, plan, world, a)?;
     let v = read_at(alloc, unit, world, a, place)?;
-    let second = value(alloc, unit, world, d)?;
+    let second = value_by(alloc, unit, plan, world, d)?;
     let z = element(world, minus(sign), size, v, second)?;
     if assigned(alloc, unit, world, a, place, z) {
         Some(z)

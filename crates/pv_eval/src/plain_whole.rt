@@ -6,13 +6,16 @@ ghost use Rattle.pv_typed.specs.NodeTrees.{expression_at, IsExpression};
 ghost use Rattle.pv_world.specs.Coming.{worth_of};
 ghost use Rattle.pv_eval.specs.Runnable.{IsRunnable};
 ghost use Rattle.pv_eval.specs.Plainly.{Performs, whole_turns, found_worth};
+ghost use Rattle.pv_eval.specs.Codes.{AreCodes};
 ghost use Rattle.pv_eval.specs.AtOnce.{Evaluated, Cut, EvaluatedNext, CutNext, TestedNext};
 
 use crate::moment::Moment;
-use crate::plain::{Found, value};
+use crate::plain::Found;
+use crate::plain_coded::value_by;
 use crate::plain_comparisons::is_true;
 use crate::plain_stores::{assign, got};
 use crate::plain_updates::{compound_assign, increment, pointer_assign};
+use crate::plan::Plan;
 use pv_tree::NodeId;
 use pv_typed::{Typed, TypedUnit};
 use pv_world::{Got, World};
@@ -66,27 +69,41 @@ fn whole_turns(unit: &TypedUnit, n: NodeId) -> Option<u64>
 
 /// The value of a full expression that is plain but for a store at its root, which is made; `None` where it is not found:
 /// then nothing has changed.
-fn perform(alloc: Global, unit: &TypedUnit, world: &mut World, n: NodeId) -> Option<Found>
+fn perform(
+    alloc: Global,
+    unit: &TypedUnit,
+    plan: &Plan,
+    world: &mut World,
+    n: NodeId,
+) -> Option<Found>
+    requires codes { AreCodes unit.now plan.now }
     requires known { AreKnown unit.now }
     requires there { IsExpression unit.now n }
     ensures some { IfSome result (λ v. Performs unit.now world.old world.new (expression_at unit.now n) (found_worth v)) }
     ensures none { IfNone result (world.new ≡ world.old) }
 {
     match unit.node(n) {
-        Typed::Assign(a, d) => assign(alloc, unit, world, n, a, d),
+        Typed::Assign(a, d) => assign(alloc, unit, plan, world, n, a, d),
         Typed::CompoundAssign(op, at, a, d) => {
-            compound_assign(alloc, unit, world, n, op, at, a, d)
+            compound_assign(alloc, unit, plan, world, n, op, at, a, d)
         }
-        Typed::PointerAssign(sign, a, d) => pointer_assign(alloc, unit, world, n, sign, a, d),
-        Typed::Increment(o, a) => increment(alloc, unit, world, n, o, a),
-        _ => value(alloc, unit, world, n),
+        Typed::PointerAssign(sign, a, d) => pointer_assign(alloc, unit, plan, world, n, sign, a, d),
+        Typed::Increment(o, a) => increment(alloc, unit, plan, world, n, o, a),
+        _ => value_by(alloc, unit, plan, world, n),
     }
 }
 
 impl Moment {
     /// Evaluates a full expression at once, where it is plain but for a store at its root, where nothing stops it, and
     /// where its turns are within the bound. `None` where that is not so: then nothing has changed.
-    pub(crate) fn whole(&mut self, unit: &TypedUnit, n: NodeId, bound: u64) -> Option<Got>
+    pub(crate) fn whole(
+        &mut self,
+        unit: &TypedUnit,
+        plan: &Plan,
+        n: NodeId,
+        bound: u64,
+    ) -> Option<Got>
+        requires codes { AreCodes unit.now plan.now }
         requires runnable { IsRunnable unit.now }
         requires there { IsExpression unit.now n }
         ensures some { IfSome result (λ v. Evaluated unit.now n (worth_of v) self.old self.new) }
@@ -106,14 +123,21 @@ impl Moment {
         if turns > bound - self.taken {
             return None;
         }
-        let v = perform(self.alloc, unit, &mut self.world, n)?;
+        let v = perform(self.alloc, unit, plan, &mut self.world, n)?;
         self.taken += turns;
         Some(got(v))
     }
 
     /// Takes a statement's turn, and evaluates its full expression at once, as `whole` does. `None` where that is not so: then
     /// no turn was taken, and nothing has changed.
-    pub(crate) fn whole_next(&mut self, unit: &TypedUnit, n: NodeId, bound: u64) -> Option<Got>
+    pub(crate) fn whole_next(
+        &mut self,
+        unit: &TypedUnit,
+        plan: &Plan,
+        n: NodeId,
+        bound: u64,
+    ) -> Option<Got>
+        requires codes { AreCodes unit.now plan.now }
         requires runnable { IsRunnable unit.now }
         requires there { IsExpression unit.now n }
         requires room { self.old.taken < bound }
@@ -126,7 +150,7 @@ impl Moment {
     {
         let before = self.taken;
         self.taken = before + 1;
-        match self.whole(unit, n, bound) {
+        match self.whole(unit, plan, n, bound) {
             Some(v) => Some(v),
             None => {
                 self.taken = before;
@@ -138,7 +162,14 @@ impl Moment {
     /// Takes a statement's turn, and compares its controlling expression with 0 at once (C17 6.8.4.1p2), where that is plain,
     /// nothing stops it, and its turns are within the bound. `None` where that is not so: then no turn was taken, and nothing
     /// has changed.
-    pub(crate) fn decide_next(&mut self, unit: &TypedUnit, n: NodeId, bound: u64) -> Option<bool>
+    pub(crate) fn decide_next(
+        &mut self,
+        unit: &TypedUnit,
+        plan: &Plan,
+        n: NodeId,
+        bound: u64,
+    ) -> Option<bool>
+        requires codes { AreCodes unit.now plan.now }
         requires runnable { IsRunnable unit.now }
         requires there { IsExpression unit.now n }
         requires room { self.old.taken < bound }
@@ -153,7 +184,7 @@ impl Moment {
         if turns >= bound - self.taken {
             return None;
         }
-        let v = value(self.alloc, unit, &self.world, n)?;
+        let v = value_by(self.alloc, unit, plan, &self.world, n)?;
         let t = is_true(&self.world, v)?;
         self.taken += 1;
         self.taken += turns;

@@ -10,11 +10,13 @@ ghost use Rattle.pv_eval.specs.Ahead.{Matched};
 ghost use Rattle.pv_eval.specs.Machines.{Started as Expression, value_at, is_due_at, is_value, is_call_at, turns_at, arguments_at, line_at};
 ghost use Rattle.pv_eval.specs.MachineSteps.{StartedFits, WentTo, step_at, KeepsSetting};
 ghost use Rattle.pv_eval.specs.Progress.{StepsExpression};
+ghost use Rattle.pv_eval.specs.Codes.{AreCodes};
 ghost use Rattle.pv_eval.specs.AtOnce.{EvaluatedWhole, CutWhole};
 
 use crate::failure::Failure;
 use crate::frames::{Frame, Now, Step};
 use crate::moment::Moment;
+use crate::plan::Plan;
 use crate::running;
 use pv_seq::Journal;
 use pv_tree::NodeId;
@@ -157,7 +159,14 @@ impl Started {
 
     /// The whole expression at once, where it was just begun, is plain but for a store at its root, where nothing stops it,
     /// and where its turns are within the bound. False where that is not so: then nothing has changed.
-    pub(crate) fn whole(&mut self, unit: &TypedUnit, bound: u64, moment: &mut Moment) -> bool
+    pub(crate) fn whole(
+        &mut self,
+        unit: &TypedUnit,
+        plan: &Plan,
+        bound: u64,
+        moment: &mut Moment,
+    ) -> bool
+        requires codes { AreCodes unit.now plan.now }
         requires runnable { IsRunnable unit.now }
         requires fits { StartedFits unit.now self.old }
         ensures whole { result ≡ true → EvaluatedWhole unit.now self.old self.new moment.old moment.new }
@@ -176,7 +185,7 @@ impl Started {
         let Now::Due(n) = self.place else {
             return false;
         };
-        match moment.whole(unit, n, bound) {
+        match moment.whole(unit, plan, n, bound) {
             Some(v) => {
                 self.place = Now::Value(v);
                 true

@@ -232,7 +232,7 @@ fn accessed_by_layers(types: &Types, t: TypeId) -> Option<AccessedType>
 }
 
 /// An integer type without `const` as an access looks at it.
-fn accessed_integer(types: &Types, t: TypeId, kind: IntKind) -> Option<AccessedType>
+pub(crate) fn accessed_integer(types: &Types, t: TypeId, kind: IntKind) -> Option<AccessedType>
     requires known { t.0 < length types.now.terms }
     requires integer { tree types.now t.0 ≡ IntTy kind }
     ensures same { IfSome result (λ x. x.l.t ≡ t) }
@@ -250,7 +250,7 @@ fn accessed_integer(types: &Types, t: TypeId, kind: IntKind) -> Option<AccessedT
 }
 
 /// A pointer type without `const` as an access looks at it.
-fn accessed_pointer(types: &Types, t: TypeId) -> Option<AccessedType>
+pub(crate) fn accessed_pointer(types: &Types, t: TypeId) -> Option<AccessedType>
     requires known { t.0 < length types.now.terms }
     requires pointer { IsTrue (points (tree types.now t.0)) }
     ensures same { IfSome result (λ x. x.l.t ≡ t) }

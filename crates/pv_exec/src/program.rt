@@ -19,7 +19,7 @@ use crate::laws::no_empty_tag;
 use crate::outcome::Outcome;
 use crate::running::{Ended, run_unit};
 use crate::sides::{Side, Sides, sides_of};
-use pv_eval::Machine;
+use pv_eval::{Machine, Plan};
 use pv_script::{Script, Sink};
 use pv_typed::TypedUnit;
 use pv_watch::{Hall, Watch};
@@ -140,7 +140,8 @@ pub fn run<O: Sink>(
         Ok(machine) => machine,
         Err(_) => return Err(RunError::NoMemory),
     };
-    let ended = run_unit(alloc, u, bound, &mut machine, out, hall);
+    let plan = Plan::new(alloc, u);
+    let ended = run_unit(alloc, u, &plan, bound, &mut machine, out, hall);
     match outcome_by(&ended) {
         Some(outcome) => answer(alloc, u, outcome, &mut machine, out, hall),
         None => Err(error_by(&ended)),

@@ -4,6 +4,7 @@ ghost use Rattle.pv_typed.specs.Mains.{main_of};
 ghost use Rattle.pv_typed.specs.Tables.{whole};
 ghost use Rattle.pv_eval.specs.MachineSteps.{Fit};
 ghost use Rattle.pv_eval.specs.Runnable.{IsRunnable};
+ghost use Rattle.pv_eval.specs.Codes.{AreCodes};
 ghost use Rattle.pv_exec.specs.Answering.{outlet};
 ghost use Rattle.pv_exec.specs.Fits.{Runs};
 ghost use Rattle.pv_exec.specs.Works.{due};
@@ -17,7 +18,7 @@ use crate::functions::value_by;
 use crate::preparing::prepare;
 use crate::task::{Doing, Flow};
 use crate::turning::{Advanced, Last, advance};
-use pv_eval::{Failure, Machine};
+use pv_eval::{Failure, Machine, Plan};
 use pv_script::Sink;
 use pv_typed::TypedUnit;
 use pv_watch::{Hall, Watch};
@@ -47,12 +48,14 @@ fn ended_by(e: Failure) -> Ended
 fn run_statements<O: Sink>(
     alloc: Global,
     unit: &TypedUnit,
+    plan: &Plan,
     doing: Doing,
     bound: u64,
     machine: &mut Machine,
     out: &mut O,
     hall: &mut Hall,
 ) -> Result<Last, Undelivered>
+    requires codes { AreCodes unit.now plan.now }
     requires runnable { IsRunnable unit.now }
     requires bound { bound ≤ 10 ^ 8 }
     requires runs { Runs unit.now [] machine.old.started doing }
@@ -70,7 +73,7 @@ fn run_statements<O: Sink>(
             Ok(()) => {}
             Err(e) => return Err(e),
         }
-        match advance(unit, &mut tasks, doing, bound, machine) {
+        match advance(unit, plan, &mut tasks, doing, bound, machine) {
             Advanced::On(next) => doing = next,
             Advanced::Last(last) => return Ok(last),
             Advanced::NoMemory => return Err(Undelivered::NoMemory),
@@ -98,12 +101,14 @@ fn end_main(unit: &TypedUnit, f: u32, flow: Flow, machine: &mut Machine) -> Ende
 fn run_main<O: Sink>(
     alloc: Global,
     unit: &TypedUnit,
+    plan: &Plan,
     f: u32,
     bound: u64,
     machine: &mut Machine,
     out: &mut O,
     hall: &mut Hall,
 ) -> Ended
+    requires codes { AreCodes unit.now plan.now }
     requires runnable { IsRunnable unit.now }
     requires bound { bound ≤ 10 ^ 8 }
     requires there { f < length unit.now.functions }
@@ -116,7 +121,16 @@ fn run_main<O: Sink>(
         Ok(()) => {}
         Err(e) => return ended_by(e),
     }
-    match run_statements(alloc, unit, body_of(unit, f), bound, machine, out, hall) {
+    match run_statements(
+        alloc,
+        unit,
+        plan,
+        body_of(unit, f),
+        bound,
+        machine,
+        out,
+        hall,
+    ) {
         Ok(Last::Left(flow)) => end_main(unit, f, flow, machine),
         // No statement ends with the value of an expression.
         Ok(Last::Valued) => Ended::Turns,
@@ -130,11 +144,13 @@ fn run_main<O: Sink>(
 pub fn run_unit<O: Sink>(
     alloc: Global,
     unit: &TypedUnit,
+    plan: &Plan,
     bound: u64,
     machine: &mut Machine,
     out: &mut O,
     hall: &mut Hall,
 ) -> Ended
+    requires codes { AreCodes unit.now plan.now }
     requires runnable { IsRunnable unit.now }
     requires main { IsTrue (is_some (main_of (whole unit.now))) }
     requires bound { bound ≤ 10 ^ 8 }
@@ -144,7 +160,7 @@ pub fn run_unit<O: Sink>(
     ensures cause { DeliveryCause (failed result) (O.faults out.old) (O.faults out.new) }
 {
     match prepare(unit, machine) {
-        Ok(()) => run_main(alloc, unit, unit.main(), bound, machine, out, hall),
+        Ok(()) => run_main(alloc, unit, plan, unit.main(), bound, machine, out, hall),
         Err(e) => ended_by(e),
     }
 }

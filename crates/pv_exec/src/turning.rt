@@ -3,6 +3,7 @@ ghost use Rattle.std.specs.Prelude.{◌≡◌, ◌+◌, ◌<◌, ◌≤◌, ◌^
 ghost use Rattle.pv_typed.specs.NodeTrees.{IsStatement};
 ghost use Rattle.pv_eval.specs.MachineSteps.{Fit, KeepsSetting};
 ghost use Rattle.pv_eval.specs.Runnable.{IsRunnable};
+ghost use Rattle.pv_eval.specs.Codes.{AreCodes};
 ghost use Rattle.pv_exec.specs.Works.{due};
 ghost use Rattle.pv_exec.specs.Fits.{Runs, DoingFits, AfterRuns};
 ghost use Rattle.pv_exec.specs.Turning.{SettledLed, advanced_by, AdvancedLed, CutBefore, ComesAtOnce, DueAfter, AdvancedRuns, AdvancedPace};
@@ -11,7 +12,7 @@ use crate::once::{After, once};
 use crate::parts::choice_parts;
 use crate::task::{Doing, Flow, Task};
 use crate::values::side;
-use pv_eval::{Failure, Machine};
+use pv_eval::{Failure, Machine, Plan};
 use pv_tree::NodeId;
 use pv_typed::{TypedStmt, TypedUnit};
 use pv_world::Cause;
@@ -95,7 +96,13 @@ fn next_of(after: Result<After, Failure>) -> Advanced
 }
 
 // The whole of the innermost expression at once, where it was just begun.
-fn expression_at_once(unit: &TypedUnit, bound: u64, machine: &mut Machine) -> Option<Doing>
+fn expression_at_once(
+    unit: &TypedUnit,
+    plan: &Plan,
+    bound: u64,
+    machine: &mut Machine,
+) -> Option<Doing>
+    requires codes { AreCodes unit.now plan.now }
     requires runnable { IsRunnable unit.now }
     requires fit { Fit unit.now machine.old.started }
     ensures some { IfSome result (λ e. ComesAtOnce unit.now bound Doing.Evaluate e machine.old machine.new) }
@@ -103,7 +110,7 @@ fn expression_at_once(unit: &TypedUnit, bound: u64, machine: &mut Machine) -> Op
     ensures fit { Fit unit.now machine.new.started }
     ensures setting { KeepsSetting machine.old.moment machine.new.moment }
 {
-    if machine.whole(unit, bound) {
+    if machine.whole(unit, plan, bound) {
         Some(Doing::Evaluated)
     } else {
         None
@@ -111,7 +118,14 @@ fn expression_at_once(unit: &TypedUnit, bound: u64, machine: &mut Machine) -> Op
 }
 
 // The whole of an expression statement at once (C17 6.8.3p2), with its turn.
-fn drop_at_once(unit: &TypedUnit, n: NodeId, bound: u64, machine: &mut Machine) -> Option<Doing>
+fn drop_at_once(
+    unit: &TypedUnit,
+    plan: &Plan,
+    n: NodeId,
+    bound: u64,
+    machine: &mut Machine,
+) -> Option<Doing>
+    requires codes { AreCodes unit.now plan.now }
     requires runnable { IsRunnable unit.now }
     requires there { IsStatement unit.now n }
     requires room { machine.old.moment.taken < bound }
@@ -124,12 +138,19 @@ fn drop_at_once(unit: &TypedUnit, n: NodeId, bound: u64, machine: &mut Machine) 
     let TypedStmt::Expression(x) = unit.statement(n) else {
         return None;
     };
-    machine.whole_next(unit, x, bound)?;
+    machine.whole_next(unit, plan, x, bound)?;
     Some(Doing::Left(Flow::Falls))
 }
 
 // The condition of an `if` at once (C17 6.8.4.1p2), with the statement's turn.
-fn choose_at_once(unit: &TypedUnit, n: NodeId, bound: u64, machine: &mut Machine) -> Option<Doing>
+fn choose_at_once(
+    unit: &TypedUnit,
+    plan: &Plan,
+    n: NodeId,
+    bound: u64,
+    machine: &mut Machine,
+) -> Option<Doing>
+    requires codes { AreCodes unit.now plan.now }
     requires runnable { IsRunnable unit.now }
     requires there { IsStatement unit.now n }
     requires room { machine.old.moment.taken < bound }
@@ -140,7 +161,7 @@ fn choose_at_once(unit: &TypedUnit, n: NodeId, bound: u64, machine: &mut Machine
     ensures setting { KeepsSetting machine.old.moment machine.new.moment }
 {
     let parts = choice_parts(unit, n)?;
-    match machine.decide_next(unit, parts.condition, bound) {
+    match machine.decide_next(unit, plan, parts.condition, bound) {
         Some(yes) => Some(side(parts, yes)),
         None => None,
     }
@@ -149,10 +170,12 @@ fn choose_at_once(unit: &TypedUnit, n: NodeId, bound: u64, machine: &mut Machine
 // The whole of an expression statement, or the condition of an `if`, at once.
 fn statement_at_once(
     unit: &TypedUnit,
+    plan: &Plan,
     n: NodeId,
     bound: u64,
     machine: &mut Machine,
 ) -> Option<Doing>
+    requires codes { AreCodes unit.now plan.now }
     requires runnable { IsRunnable unit.now }
     requires there { IsStatement unit.now n }
     requires room { machine.old.moment.taken < bound }
@@ -163,15 +186,24 @@ fn statement_at_once(
     ensures setting { KeepsSetting machine.old.moment machine.new.moment }
 {
     match unit.statement(n) {
-        TypedStmt::Expression(_) => drop_at_once(unit, n, bound, machine),
-        TypedStmt::If(_, _) | TypedStmt::IfElse(_, _, _) => choose_at_once(unit, n, bound, machine),
+        TypedStmt::Expression(_) => drop_at_once(unit, plan, n, bound, machine),
+        TypedStmt::If(_, _) | TypedStmt::IfElse(_, _, _) => choose_at_once(
+            unit, plan, n, bound, machine,
+        ),
         _ => None,
     }
 }
 
 // What is due at once, where nothing stops it and all its turns are within the bound: what is done behind it. `None` where that is
 // not so: then nothing has changed.
-fn at_once(unit: &TypedUnit, doing: &Doing, bound: u64, machine: &mut Machine) -> Option<Doing>
+fn at_once(
+    unit: &TypedUnit,
+    plan: &Plan,
+    doing: &Doing,
+    bound: u64,
+    machine: &mut Machine,
+) -> Option<Doing>
+    requires codes { AreCodes unit.now plan.now }
     requires runnable { IsRunnable unit.now }
     requires fits { DoingFits unit.now machine.old.started doing.now }
     requires room { machine.old.moment.taken < bound }
@@ -182,8 +214,8 @@ fn at_once(unit: &TypedUnit, doing: &Doing, bound: u64, machine: &mut Machine) -
     ensures setting { KeepsSetting machine.old.moment machine.new.moment }
 {
     match doing {
-        Doing::Evaluate => expression_at_once(unit, bound, machine),
-        Doing::Enter(n) => statement_at_once(unit, *n, bound, machine),
+        Doing::Evaluate => expression_at_once(unit, plan, bound, machine),
+        Doing::Enter(n) => statement_at_once(unit, plan, *n, bound, machine),
         _ => None,
     }
 }
@@ -219,11 +251,13 @@ fn turn(
 /// an expression that is due, of an expression statement or of the condition of an `if`, where nothing stops it.
 pub fn advance(
     unit: &TypedUnit,
+    plan: &Plan,
     tasks: &mut Vec<Task>,
     doing: Doing,
     bound: u64,
     machine: &mut Machine,
 ) -> Advanced
+    requires codes { AreCodes unit.now plan.now }
     requires runnable { IsRunnable unit.now }
     requires bound { bound ≤ 10 ^ 8 }
     requires runs { Runs unit.now tasks.old.items machine.old.started doing }
@@ -238,7 +272,7 @@ pub fn advance(
     if machine.turns() >= bound {
         return Advanced::Last(Last::Turns);
     }
-    match at_once(unit, &doing, bound, machine) {
+    match at_once(unit, plan, &doing, bound, machine) {
         Some(next) => next_of(settle(unit, tasks, next, machine)),
         None => turn(unit, tasks, doing, bound, machine),
     }

@@ -1,0 +1,34 @@
+use Rattle.std.proofs.Common.{◌≡◌, ◌<◌, true, length, sym, ap, subst}
+use Rattle.pv_types.specs.Ty.{IntTy}
+use Rattle.pv_types.specs.Known.{Known, tree}
+use Rattle.pv_eval.specs.Sizes.{points}
+use Rattle.pv_eval.proofs.codes.read_code.Goals as goal
+
+pub view-requires : goal.view-requires
+view-requires c = subst (λ (m : Known). c.type_of-t.result.0 < length m.terms) (sym c.types.ensures) (c.type_of-t.ensures.known c.requires.known)
+
+pub returns-in-Some : goal.returns-in-Some
+returns-in-Some c = (
+  record { form = c.requires.form; operand = (c.requires.there, c.requires.less); known = c.type_of-t.ensures.known c.requires.known; same = c.type_of-t.ensures.tree },
+  subst (λ (m : Known). tree m c.type_of-t.result.0 ≡ IntTy c.in-Int.kind) c.types.ensures c.in-Int.ensures.tree,
+  c.in-Some.ensures,
+)
+
+pub returns-in-None : goal.returns-in-None
+returns-in-None c = (
+  record { form = c.requires.form; operand = (c.requires.there, c.requires.less); known = c.type_of-t.ensures.known c.requires.known; same = c.type_of-t.ensures.tree },
+  subst (λ (m : Known). tree m c.type_of-t.result.0 ≡ IntTy c.in-Int.kind) c.types.ensures c.in-Int.ensures.tree,
+)
+
+pub returns-in-Some-named_object : goal.returns-in-Some-named_object
+returns-in-Some-named_object c = (
+  record { form = c.requires.form; operand = (c.requires.there, c.requires.less); known = c.type_of-t.ensures.known c.requires.known; same = c.type_of-t.ensures.tree },
+  subst (λ (m : Known). points (tree m c.type_of-t.result.0) ≡ true) c.types.ensures (ap points c.in-Pointer.ensures.tree),
+  c.in-Some-named_object.ensures,
+)
+
+pub returns-in-None-named_object : goal.returns-in-None-named_object
+returns-in-None-named_object c = (
+  record { form = c.requires.form; operand = (c.requires.there, c.requires.less); known = c.type_of-t.ensures.known c.requires.known; same = c.type_of-t.ensures.tree },
+  subst (λ (m : Known). points (tree m c.type_of-t.result.0) ≡ true) c.types.ensures (ap points c.in-Pointer.ensures.tree),
+)

@@ -1,0 +1,222 @@
+// What is known of a plain expression's node before a run, so that nothing of its types is looked up when it is evaluated.
+ghost use Rattle.std.specs.Prelude.{◌≡◌, ◌<◌, IfSome, length};
+ghost use Rattle.pv_types.specs.Known.{tree};
+ghost use Rattle.pv_typed.specs.declared.nodes.Typed.{Typed as Row};
+ghost use Rattle.pv_typed.specs.Formed.{NamesIn};
+ghost use Rattle.pv_typed.specs.Known.{AreKnown};
+ghost use Rattle.pv_typed.specs.Children.{HasOperands};
+ghost use Rattle.pv_typed.specs.TypedTree.{form_of};
+ghost use Rattle.pv_typed.specs.NodeTrees.{expression_at, IsExpression};
+ghost use Rattle.pv_eval.specs.Plainly.{form_by};
+ghost use Rattle.pv_eval.specs.Codes.{IsCode, IsObjectOf, IsOperandCode, IsRounded};
+
+use crate::plain_places::pointed_size;
+use crate::types::{is_none, kind, pointee, shape};
+use pv_num::{BinOp, IntKind};
+use pv_tree::NodeId;
+use pv_typed::{Sign, Typed, TypedUnit};
+use pv_types::{Term, TypeId};
+use pv_world::Shape;
+
+/// An operand of an operator on integers: the node that gives its value, and the kind to which that is converted, where the operand
+/// is a conversion between integer types (C17 6.3.1.8).
+#[derive(Clone, Copy)]
+pub(crate) struct Operand {
+    pub(crate) node: NodeId,
+    pub(crate) to: Option<IntKind>,
+}
+
+/// What is known of an expression's node.
+#[derive(Clone, Copy)]
+pub(crate) enum Code {
+    /// Nothing: the node itself is looked at.
+    Unknown,
+    /// A constant, by its value (C17 6.4.4).
+    Number(i64),
+    /// The object that an identifier designates, and whether its storage is static (6.5.1p2).
+    Object(u32, bool),
+    /// What the operand gives: the pointer to an array's first element (6.3.2.1p3), the address of an lvalue (6.5.3.2p3), what a
+    /// pointer points to (6.5.3.2p4), or a value that whoever asks for it converts (6.3).
+    Same(NodeId),
+    /// The member that begins so many bytes from the operand's place (6.5.2.3p3, p4).
+    Part(NodeId, u64),
+    /// The integer of this type and kind at the operand's place (6.3.2.1p2).
+    Integer(NodeId, TypeId, IntKind),
+    /// The same where the operand is the object of this number, with whether its storage is static.
+    OwnInteger(NodeId, TypeId, IntKind, u32, bool),
+    /// The pointer of this type at the operand's place (6.3.2.1p2).
+    Pointer(NodeId, TypeId),
+    /// The same where the operand is the object of this number, with whether its storage is static.
+    OwnPointer(NodeId, TypeId, u32, bool),
+    /// An operator on two integers, which works in the kind (6.5.5 to 6.5.12).
+    Arithmetic(BinOp, IntKind, Operand, Operand),
+    /// The element of so many bytes that the second operand counts from the first one on (6.5.2.1p2).
+    Element(NodeId, NodeId, u64),
+    /// A pointer moved by an integer, of elements of so many bytes (6.5.6p8).
+    Sum(Sign, NodeId, NodeId, u64),
+}
+
+/// The object that a node designates, and whether its storage is static.
+fn named_object(unit: &TypedUnit, a: NodeId) -> Option<(u32, bool)>
+    requires { IsExpression unit.now a }
+    ensures { IfSome result (λ x. IsObjectOf unit.now a x.0 x.1) }
+{
+    match unit.node(a) {
+        Typed::Object(o) => Some((o, unit.object(o).lasting)),
+        _ => None,
+    }
+}
+
+/// A node that reads at the place of its operand.
+fn read_code(unit: &TypedUnit, n: NodeId, a: NodeId) -> Code
+    requires known { AreKnown unit.now }
+    requires there { IsExpression unit.now a }
+    requires less { a.0 < n.0 }
+    requires form { form_of (expression_at unit.now n) ≡ form_by unit.now (Row.Read a) }
+    ensures { IsCode unit.now n result }
+{
+    let t = unit.type_of(a);
+    match unit.types().view(t) {
+        Term::Int(kind) => match named_object(unit, a) {
+            Some((o, lasting)) => Code::OwnInteger(a, t, kind, o, lasting),
+            None => Code::Integer(a, t, kind),
+        },
+        Term::Pointer(_) => match named_object(unit, a) {
+            Some((o, lasting)) => Code::OwnPointer(a, t, o, lasting),
+            None => Code::Pointer(a, t),
+        },
+        _ => Code::Unknown,
+    }
+}
+
+/// The kind to which a value is converted from an integer type to an integer type.
+fn rounding(unit: &TypedUnit, from: TypeId, to: TypeId) -> Option<IntKind>
+    ensures { IfSome result (λ k. IsRounded (tree unit.now.known from.0) (tree unit.now.known to.0) k) }
+{
+    let Shape::Int(_) = shape(unit.types(), from) else {
+        return None;
+    };
+    let Shape::Int(kind) = shape(unit.types(), to) else {
+        return None;
+    };
+    Some(kind)
+}
+
+/// An operand of an operator on integers, if it is no conversion or one between integer types.
+fn operand_code(unit: &TypedUnit, a: NodeId) -> Option<Operand>
+    requires { IsExpression unit.now a }
+    ensures { IfSome result (IsOperandCode unit.now a) }
+{
+    match unit.node(a) {
+        Typed::Convert(inner) => {
+            let kind = rounding(unit, unit.type_of(inner), unit.type_of(a))?;
+            Some(Operand {
+                node: inner,
+                to: Some(kind),
+            })
+        }
+        _ => Some(Operand { node: a, to: None }),
+    }
+}
+
+/// A node with an operator on two integers.
+fn arithmetic_code(unit: &TypedUnit, n: NodeId, op: BinOp, a: NodeId, d: NodeId) -> Option<Code>
+    requires left { IsExpression unit.now a }
+    requires right { IsExpression unit.now d }
+    requires first { a.0 < n.0 }
+    requires second { d.0 < n.0 }
+    requires form { form_of (expression_at unit.now n) ≡ form_by unit.now (Row.Arithmetic op a d) }
+    ensures { IfSome result (IsCode unit.now n) }
+{
+    let left = operand_code(unit, a)?;
+    let right = operand_code(unit, d)?;
+    let kind = kind(unit.types(), unit.type_of(a));
+    Some(Code::Arithmetic(op, kind, left, right))
+}
+
+/// A node that designates an element.
+fn element_code(unit: &TypedUnit, n: NodeId, a: NodeId, d: NodeId) -> Option<Code>
+    requires left { IsExpression unit.now a }
+    requires right { IsExpression unit.now d }
+    requires first { a.0 < n.0 }
+    requires second { d.0 < n.0 }
+    requires form { form_of (expression_at unit.now n) ≡ form_by unit.now (Row.Subscript a d) }
+    ensures { IfSome result (IsCode unit.now n) }
+{
+    let size = pointed_size(unit, unit.type_of(a))?;
+    Some(Code::Element(a, d, size))
+}
+
+/// A node that moves a pointer by an integer.
+fn sum_code(unit: &TypedUnit, n: NodeId, sign: Sign, a: NodeId, d: NodeId) -> Option<Code>
+    requires there { IsExpression unit.now n }
+    requires left { IsExpression unit.now a }
+    requires right { IsExpression unit.now d }
+    requires first { a.0 < n.0 }
+    requires second { d.0 < n.0 }
+    requires form { form_of (expression_at unit.now n) ≡ form_by unit.now (Row.PointerSum sign a d) }
+    ensures { IfSome result (IsCode unit.now n) }
+{
+    let _ = pointee(unit.types(), unit.type_of(a))?;
+    let size = pointed_size(unit, unit.type_of(n))?;
+    Some(Code::Sum(sign, a, d, size))
+}
+
+/// A node that designates what a pointer points to, which is not `void`.
+fn followed_code(unit: &TypedUnit, n: NodeId, a: NodeId) -> Option<Code>
+    requires there { IsExpression unit.now n }
+    requires operand { IsExpression unit.now a }
+    requires less { a.0 < n.0 }
+    requires form { form_of (expression_at unit.now n) ≡ form_by unit.now (Row.Indirection a) }
+    ensures { IfSome result (IsCode unit.now n) }
+{
+    if is_none(unit.types(), unit.type_of(n)) {
+        None
+    } else {
+        Some(Code::Same(a))
+    }
+}
+
+/// What is known of a node, by its form.
+fn form_code(unit: &TypedUnit, n: NodeId, x: Typed) -> Option<Code>
+    requires known { AreKnown unit.now }
+    requires there { IsExpression unit.now n }
+    requires named { NamesIn unit.now x }
+    requires operands { HasOperands unit.now.rows unit.now.lists n.0 x }
+    requires form { form_of (expression_at unit.now n) ≡ form_by unit.now x }
+    ensures { IfSome result (IsCode unit.now n) }
+{
+    match x {
+        Typed::Constant(k) => Some(Code::Number(k)),
+        Typed::Object(o) => Some(Code::Object(o, unit.object(o).lasting)),
+        Typed::ArrayPointer(a) => Some(Code::Same(a)),
+        Typed::Address(a) => Some(Code::Same(a)),
+        Typed::Convert(a) => Some(Code::Same(a)),
+        Typed::Indirection(a) => followed_code(unit, n, a),
+        Typed::Member(a, offset) => Some(Code::Part(a, offset)),
+        Typed::Arrow(a, offset) => Some(Code::Part(a, offset)),
+        Typed::Read(a) => Some(read_code(unit, n, a)),
+        Typed::Arithmetic(op, a, d) => arithmetic_code(unit, n, op, a, d),
+        Typed::Subscript(a, d) => element_code(unit, n, a, d),
+        Typed::PointerSum(sign, a, d) => sum_code(unit, n, sign, a, d),
+        _ => None,
+    }
+}
+
+/// What is known of a node: of one that is no plain expression's nothing is.
+pub(crate) fn code_of(unit: &TypedUnit, n: NodeId) -> Code
+    requires known { AreKnown unit.now }
+    requires within { n.0 < length unit.now.rows }
+    ensures { IsExpression unit.now n → IsCode unit.now n result }
+{
+    if !unit.is_expression(n) {
+        return Code::Unknown;
+    }
+    if unit.plain_turns(n).is_none() {
+        return Code::Unknown;
+    }
+    match form_code(unit, n, unit.node(n)) {
+        Some(code) => code,
+        None => Code::Unknown,
+    }
+}
