@@ -1,7 +1,9 @@
 -- What an effective type permits, of a live instance.
 use Rattle.std.proofs.Common.{◌≡◌, ℕ, ◌*◌, ◌/◌, ◌%◌, ◌<◌, ◌≤◌, ◌^◌, ◌==◌, Bool, true, false, ◌&&◌, ◌||◌, List, [], ◌∷◌, IsTrue, Some, None, refl, sym, ap, ◌∙◌, subst, arith, mul-le-mul_right}
-use Rattle.std.specs.Prelude.{nat_le, if◌then◌else◌}
+use Rattle.std.specs.Prelude.{nat_le, Option, if◌then◌else◌}
+use Rattle.std.specs.Option.{option_map}
 use Rattle.std.proofs.lemmas.Bool.{lt-ltb, le-leb}
+use Rattle.std.proofs.lemmas.Option.{same_Some, none-some}
 use Rattle.pv_num.specs.Kinds.{width}
 use Rattle.pv_num.specs.declared.kinds.IntKind.{IntKind}
 use Rattle.pv_num.specs.declared.kinds.IntKind.TheVariants as kind
@@ -16,19 +18,26 @@ use Rattle.pv_layout.proofs.PartLaws.{at_repeated, some_leaf}
 use Rattle.pv_effect.specs.EffectiveType.{is_character}
 use Rattle.pv_inst.specs.declared.values.Instance.{Instance}
 use Rattle.pv_inst.specs.declared.values.Info.{Info}
+use Rattle.pv_inst.specs.declared.values.Kind.{Kind}
+use Rattle.pv_inst.specs.Table.{instance_at}
+use Rattle.pv_inst.specs.Infos.{info_of}
+use Rattle.pv_object.specs.declared.values.Reach.{Reach}
+use Rattle.pv_world.specs.Worlds.{World}
 use Rattle.pv_typed.specs.Tables.{Stored, whole}
 use Rattle.pv_typed.specs.TypedUnits.{object_at}
 use Rattle.pv_eval.specs.States.{Setting}
 use Rattle.pv_eval.specs.Sizes.{setting_of, size_in}
 use Rattle.pv_eval.specs.Objects.{has_extent}
-use Rattle.pv_eval.specs.Permission.{type_by, permits_object}
+use Rattle.pv_eval.specs.TypeForms.{Lvalue}
+use Rattle.pv_eval.specs.Permission.{type_by, permits_object, permits_in, permits_row, permits}
+use Rattle.pv_eval.specs.Plainly.{HasKind}
 
 abbrev told : Instance → Info
 told x = record { name = x.name; k = x.k; base = x.base; size = x.size; kind = x.kind; exposed = x.exposed }
 
 -- the type without its qualifiers
 module _ (m k : Known) (i j : ℕ) (same : k ≡ m) (is : tree k i ≡ bare (tree k j)) where
-  tree_bare : tree m i ≡ bare (tree m j)
+  pub tree_bare : tree m i ≡ bare (tree m j)
   tree_bare = subst (λ (z : Known). tree z i ≡ bare (tree z j)) same is
 
   pub complete_bare : IsTrue (is_complete_in (env m) (tree m j)) → IsTrue (is_complete_in (env m) (tree m i))
@@ -61,6 +70,13 @@ whole_integer u o offset w k zero same form =
     subst (λ (n : ℕ). P (object_at (whole u) o).t n (tree u.known w)) (sym zero)
     (subst (λ (t : Ty). P t 0 (tree u.known w)) (sym same)
     (subst (λ (t : Ty). P t 0 t) (sym form) (own-kind b k)))
+
+-- integer and pointer types have no qualifiers around them
+pub integer_bare : (m : Known) (w : ℕ) (k : IntKind) → tree m w ≡ IntTy k → bare (tree m w) ≡ tree m w
+integer_bare m w k form = ap bare form ∙ sym form
+
+pub pointer_bare : (m : Known) (w : ℕ) (t : Ty) → tree m w ≡ PointerTo t → bare (tree m w) ≡ tree m w
+pointer_bare m w t form = ap bare form ∙ sym form
 
 -- a type is compatible with itself
 compatible-self : (t : Ty) → are_compatible t t ≡ true
@@ -144,3 +160,15 @@ element_permitted u o offset w e k n s same own form size some few begins within
     let P : Ty → Ty → Type 0 = λ t want. permits_object b (if has_extent b t then Some t else None) offset want ≡ true in
     subst (λ (t : Ty). P t (tree u.known w)) (sym (same ∙ ap (λ i. ArrayOf (tree u.known i) (Some n)) own))
     (subst (λ (t : Ty). P (ArrayOf t (Some n)) t) (sym form) (whole-element b k n s offset size some few begins within most))
+
+-- what is permitted in a live instance, by its kind
+kind_of_live : (live : Bool) (x : Instance) (k : Kind) → option_map (λ (y : Info). y.kind) (if live then Some (told x) else None) ≡ Some k → x.kind ≡ k
+kind_of_live true x k e = same_Some _ _ e
+kind_of_live false x k e = absurd (none-some _ e)
+
+row_in : (b : Setting) (w : World) (l : Lvalue) (at : Reach) (writes : Bool) (o : Option Instance) (k : Kind) → option_map (λ (y : Info). y.kind) (info_of o) ≡ Some k → permits_row b w l at writes o ≡ permits_in b w l at writes k
+row_in b w l at writes None k e = absurd (none-some _ e)
+row_in b w l at writes (Some x) k e = ap (permits_in b w l at writes) (kind_of_live x.live x k e)
+
+pub permits_kind : (b : Setting) (w : World) (l : Lvalue) (at : Reach) (writes : Bool) (k : Kind) → HasKind w.memory.table at k → permits b w l at writes ≡ permits_in b w l at writes k
+permits_kind b w l at writes k e = row_in b w l at writes (instance_at w.memory.table.instances at.inst) k e

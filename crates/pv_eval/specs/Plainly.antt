@@ -14,7 +14,11 @@ use Rattle.pv_typed.specs.Plain.{counted, both, turns_of, turns_of_form}
 use Rattle.pv_seq.specs.Sequencing.{Access, Open, opened}
 use Rattle.pv_inst.specs.declared.values.Test.TheVariants.{Live, Range}
 use Rattle.pv_inst.specs.declared.values.Tried.{Tried}
-use Rattle.pv_inst.specs.Table.{Table}
+use Rattle.std.specs.Option.{option_map}
+use Rattle.pv_inst.specs.declared.values.Info.{Info}
+use Rattle.pv_inst.specs.declared.values.Kind.{Kind}
+use Rattle.pv_inst.specs.Table.{Table, instance_at}
+use Rattle.pv_inst.specs.Infos.{info_of}
 use Rattle.pv_inst.specs.Use.{use_answer, settled}
 use Rattle.pv_shadow.specs.declared.byte.Byte.{Byte}
 use Rattle.pv_object.specs.declared.values.Pointer.{Pointer}
@@ -196,6 +200,10 @@ pub record HasReached (T : Table) (p : Pointer) (n align : ℕ) (write : Bool) (
   pub address : at.address ≡ p.address
   pub used : use_answer T p.prov (Range p.address n) ≡ Ok alone_tried
   pub is : reach T p n align write AccessAsker ≡ (Ok at, T)
+
+-- 6.5p6: the instance that was reached is live and of this kind
+abbrev pub HasKind : Table → Reach → Kind → Type 0
+HasKind T at k = option_map (λ (x : Info). x.kind) (info_of (instance_at T.instances at.inst)) ≡ Some k
 
 -- 6.2.4p2, 6.5.9p6: a pointer with this address passes its live test, and the table stays: it is null, or into one live instance
 pub record IsLooked (T : Table) (v : Worth) (a : ℕ) : Type 0 where

@@ -7,13 +7,14 @@ ghost use Rattle.pv_types.specs.Layouts.{is_complete_in, layout_in};
 ghost use Rattle.pv_types.specs.Ty.{Ty};
 ghost use Rattle.pv_layout.specs.Parts.{bare};
 ghost use Rattle.pv_effect.specs.EffectiveType.{is_character, permits_marks};
+ghost use Rattle.pv_inst.specs.declared.values.Kind.TheVariants.{Heap};
 ghost use Rattle.pv_shadow.specs.Bytes.{read};
 ghost use Rattle.pv_object.specs.Reaching.{IsReach};
 ghost use Rattle.pv_typed.specs.Known.{AreKnown};
 ghost use Rattle.pv_types.specs.declared.terms.TypeId.{TypeId as TypeNumber};
 ghost use Rattle.pv_eval.specs.TypeForms.{lvalue};
 ghost use Rattle.pv_eval.specs.Sizes.{setting_of, size_in, is_bare_scalar, IsComplete};
-ghost use Rattle.pv_eval.specs.Permission.{marks_of, permits_object, type_by, permits};
+ghost use Rattle.pv_eval.specs.Permission.{marks_of, permits_object, type_by, permits_in, permits};
 
 use crate::types::{Complete, bytes_of, is_character, layer, measured};
 use pv_effect::{permits_declared, permits_marks};
@@ -57,12 +58,13 @@ fn type_by(unit: &TypedUnit, object: Option<u32>) -> Option<Complete>
 }
 
 /// Whether an object of an integer or pointer type is accessed as a whole, at its own type. Most accesses are such, and need no
-/// search for a part.
+/// search for a part, nor for qualifiers.
 #[inline(always)]
-#[tactic(auto, using(crate::proofs::Allowing::whole_integer, crate::proofs::Allowing::whole_pointer))]
+#[tactic(auto, using(crate::proofs::Allowing::whole_integer, crate::proofs::Allowing::whole_pointer, crate::proofs::Allowing::integer_bare, crate::proofs::Allowing::pointer_bare))]
 fn is_whole_scalar(unit: &TypedUnit, object: Option<u32>, offset: u64, want: TypeId) -> bool
     requires { AreKnown unit.now }
-    ensures { IsTrue result → permits_object (setting_of unit.now) (type_by (setting_of unit.now) object) offset (tree unit.now.known want.0) ≡ true }
+    ensures unqualified { IsTrue result → bare (tree unit.now.known want.0) ≡ tree unit.now.known want.0 }
+    ensures permitted { IsTrue result → permits_object (setting_of unit.now) (type_by (setting_of unit.now) object) offset (tree unit.now.known want.0) ≡ true }
 {
     let Some(o) = object else {
         return false;
@@ -115,7 +117,7 @@ fn permits_object(unit: &TypedUnit, object: Option<u32>, offset: u64, want: Type
     requires small { size_in unit.now.known (tree unit.now.known want.0) ≤ 2 ^ 32 }
     ensures { result ≡ permits_object (setting_of unit.now) (type_by (setting_of unit.now) object) offset (tree unit.now.known want.0) }
 {
-    if is_whole_scalar(unit, object, offset, want) || is_element(unit, object, offset, want) {
+    if is_element(unit, object, offset, want) {
         return true;
     }
     let types = unit.types();
@@ -123,6 +125,21 @@ fn permits_object(unit: &TypedUnit, object: Option<u32>, offset: u64, want: Type
         Some(declared) => permits_declared(types, declared.t, offset, want),
         None => is_character(types, want),
     }
+}
+
+/// Whether what is stored in an object may be accessed through an lvalue of the type, qualifiers aside (C17 6.5p7). They are looked for
+/// only where the access is not through the object's own type.
+#[inline(always)]
+fn permits_own(unit: &TypedUnit, object: Option<u32>, offset: u64, l: Complete) -> bool
+    requires known { AreKnown unit.now }
+    requires complete { IsComplete unit.now.known l }
+    ensures { result ≡ permits_object (setting_of unit.now) (type_by (setting_of unit.now) object) offset (bare (tree unit.now.known l.t.0)) }
+{
+    if is_whole_scalar(unit, object, offset, l.t) {
+        return true;
+    }
+    let want = bare(unit.types(), l.t);
+    permits_object(unit, object, offset, want)
 }
 
 /// Whether it is an integer or pointer type without qualifiers (C17 6.2.5p21).
@@ -179,6 +196,54 @@ fn permits_heap(
     Ok(permits_marks(unit.types(), &marks, want))
 }
 
+/// Whether an access through an lvalue of the type is permitted, where it was reached in an allocation: a write gives its bytes that type
+/// (C17 6.5p6).
+fn permits_allocation(
+    alloc: Global,
+    unit: &TypedUnit,
+    world: &World,
+    at: &Reach,
+    l: Complete,
+    write: bool,
+) -> Result<bool, NoMemory>
+    requires complete { IsComplete unit.now.known l }
+    requires reached { IsReach world.now.memory.table at.now l.size }
+    ensures { IfOk result (λ p. p ≡ permits_in (setting_of unit.now) world.now (lvalue (setting_of unit.now) (tree unit.now.known l.t.0)) at.now write Heap) }
+{
+    if write {
+        return Ok(true);
+    }
+    let want = bare(unit.types(), l.t);
+    permits_heap(alloc, unit, world, at, want, l.size)
+}
+
+/// Whether an access through an lvalue of the type is permitted, where it was reached in an instance of the kind (C17 6.5p7).
+#[inline(always)]
+pub(crate) fn permits_in(
+    alloc: Global,
+    unit: &TypedUnit,
+    world: &World,
+    at: &Reach,
+    kind: Kind,
+    l: Complete,
+    write: bool,
+) -> Result<bool, NoMemory>
+    requires known { AreKnown unit.now }
+    requires complete { IsComplete unit.now.known l }
+    requires reached { IsReach world.now.memory.table at.now l.size }
+    ensures { IfOk result (λ p. p ≡ permits_in (setting_of unit.now) world.now (lvalue (setting_of unit.now) (tree unit.now.known l.t.0)) at.now write kind) }
+{
+    match kind {
+        Kind::Declared { .. } => Ok(permits_own(unit, world.owner(at.inst), at.offset, l)),
+        Kind::Literal => {
+            let want = bare(unit.types(), l.t);
+            Ok(is_character(unit.types(), want))
+        }
+        Kind::Function => Ok(false),
+        Kind::Heap => permits_allocation(alloc, unit, world, at, l, write),
+    }
+}
+
 /// Whether an access through an lvalue of the type is permitted, where it was reached (C17 6.5p7).
 #[inline(always)]
 pub(crate) fn permits(
@@ -194,20 +259,8 @@ pub(crate) fn permits(
     requires reached { IsReach world.now.memory.table at.now l.size }
     ensures { IfOk result (λ p. p ≡ permits (setting_of unit.now) world.now (lvalue (setting_of unit.now) (tree unit.now.known l.t.0)) at.now write) }
 {
-    let want = bare(unit.types(), l.t);
     let Some(x) = world.memory().instances().info(at.inst) else {
         unreachable!();
     };
-    match x.kind {
-        Kind::Declared { .. } => Ok(permits_object(unit, world.owner(at.inst), at.offset, want)),
-        Kind::Literal => Ok(is_character(unit.types(), want)),
-        Kind::Function => Ok(false),
-        Kind::Heap => {
-            if write {
-                Ok(true)
-            } else {
-                permits_heap(alloc, unit, world, at, want, l.size)
-            }
-        }
-    }
+    permits_in(alloc, unit, world, at, x.kind, l, write)
 }

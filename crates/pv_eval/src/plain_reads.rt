@@ -19,9 +19,9 @@ ghost use Rattle.pv_world.specs.declared.got.Shape.{Shape as Form};
 ghost use Rattle.pv_eval.specs.TypeForms.{shape_of};
 ghost use Rattle.pv_eval.specs.Sizes.{IsComplete};
 ghost use Rattle.pv_eval.specs.Suiting.{knows};
-ghost use Rattle.pv_eval.specs.Plainly.{GivesWith, ReadsFrom, HasReached, IsLooked, IsPlainNumber, alone_tried, found_worth, pointer_at};
+ghost use Rattle.pv_eval.specs.Plainly.{GivesWith, ReadsFrom, HasReached, IsLooked, IsPlainNumber, HasKind, alone_tried, found_worth, pointer_at};
 
-use crate::permission::permits;
+use crate::permission::permits_in;
 use crate::plain::{Found, Spot};
 use crate::plain_numbers::integer;
 use crate::types::{AccessedType, accessed};
@@ -40,6 +40,13 @@ const ALONE: Tried = Tried {
     low: true,
     high: false,
 };
+
+/// Where an access goes, and the kind of the instance there.
+#[derive(Clone, Copy)]
+pub(crate) struct Target {
+    pub(crate) reach: Reach,
+    pub(crate) kind: Kind,
+}
 
 /// Whether an instance is a function, which is never read.
 fn is_function(kind: Kind) -> bool
@@ -80,10 +87,11 @@ fn is_stopped(write: bool, kind: Kind) -> bool
 }
 
 /// Where an access to so many bytes goes, if it passes its checks (C17 6.5.3.2p4, 6.2.4p2, 6.4.5p7, 6.7.3p6).
-pub(crate) fn reached(world: &World, p: Spot, n: u64, align: u64, write: bool) -> Option<Reach>
+pub(crate) fn reached(world: &World, p: Spot, n: u64, align: u64, write: bool) -> Option<Target>
     requires { 1 ≤ align }
-    ensures reached { IfSome result (λ at. HasReached world.now.memory.table (pointer_at p) n align write at) }
-    ensures within { IfSome result (λ at. IsReach world.now.memory.table at n) }
+    ensures reached { IfSome result (λ r. HasReached world.now.memory.table (pointer_at p) n align write r.reach) }
+    ensures within { IfSome result (λ r. IsReach world.now.memory.table r.reach n) }
+    ensures kind { IfSome result (λ r. HasKind world.now.memory.table r.reach r.kind) }
 {
     let x = world.memory().instances().info(p.inst)?;
     if p.address < x.base {
@@ -105,11 +113,15 @@ pub(crate) fn reached(world: &World, p: Spot, n: u64, align: u64, write: bool) -
     if is_stopped(write, x.kind) {
         return None;
     }
-    Some(Reach {
+    let reach = Reach {
         inst: p.inst,
         offset,
         address: p.address,
         tried: ALONE,
+    };
+    Some(Target {
+        reach,
+        kind: x.kind,
     })
 }
 
@@ -148,8 +160,9 @@ pub(crate) fn load(
     if x.l.size > 8 {
         return None;
     }
-    let at = reached(world, p, x.l.size, x.align, false)?;
-    let Ok(true) = permits(alloc, unit, world, &at, x.l, false) else {
+    let target = reached(world, p, x.l.size, x.align, false)?;
+    let at = target.reach;
+    let Ok(true) = permits_in(alloc, unit, world, &at, target.kind, x.l, false) else {
         return None;
     };
     if !is_told(world) {
@@ -224,8 +237,9 @@ pub(crate) fn load_pointer(
     if x.l.size != 8 {
         return None;
     }
-    let at = reached(world, p, 8, x.align, false)?;
-    let Ok(true) = permits(alloc, unit, world, &at, x.l, false) else {
+    let target = reached(world, p, 8, x.align, false)?;
+    let at = target.reach;
+    let Ok(true) = permits_in(alloc, unit, world, &at, target.kind, x.l, false) else {
         return None;
     };
     if !is_told(world) {

@@ -15,7 +15,7 @@ ghost use Rattle.pv_eval.specs.Sizes.{IsComplete};
 ghost use Rattle.pv_eval.specs.Codes.{AreCodes};
 ghost use Rattle.pv_eval.specs.Plainly.{Performs, StoresAt, found_worth, pointer_at};
 
-use crate::permission::permits;
+use crate::permission::permits_in;
 use crate::plain::{Found, Spot};
 use crate::plain_coded::value_by;
 use crate::plain_conversions::converted_value;
@@ -69,10 +69,11 @@ fn store(
     if !can_write(world, x.form, x.l.size, &place, &stored) {
         return false;
     }
-    let Some(at) = reached(world, p, x.l.size, x.align, true) else {
+    let Some(target) = reached(world, p, x.l.size, x.align, true) else {
         return false;
     };
-    let Ok(true) = permits(alloc, unit, world, &at, x.l, true) else {
+    let at = target.reach;
+    let Ok(true) = permits_in(alloc, unit, world, &at, target.kind, x.l, true) else {
         return false;
     };
     let number = number(unit.types(), x.l.t);
