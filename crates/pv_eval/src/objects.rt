@@ -41,13 +41,18 @@ fn refused(name: u32, e: CreateError) -> Fallen
     }
 }
 
-/// Whether a name is that of allocations.
+/// Whether a name is that of allocations, `@heap`. Each object that is made comes here, so one of more or fewer characters is not looked
+/// for.
 fn is_heap_name(unit: &TypedUnit, name: u32) -> bool
     requires runnable { IsRunnable unit.now }
     requires named { name < length unit.now.names }
     ensures value { result ≡ (name == heap_name) }
     ensures other { result ≡ false → text_of unit.now.names name ≢ codes "@heap" }
 {
+    let word = unit.names().text(name);
+    if word.len() != 5 {
+        return false;
+    }
     match unit.names().find(b"@heap") {
         Some(heap) => name == heap,
         None => unreachable!(),
