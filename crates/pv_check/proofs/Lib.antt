@@ -43,6 +43,7 @@ pub mod CallRows
 pub mod Descending
 pub mod SpecifierRows
 pub mod TypeNameRows
+pub mod WordTypes
 pub mod Completing
 pub mod CompositeRows
 pub mod MemberRows

@@ -141,7 +141,7 @@ pub(crate) fn nothing_seen() -> Seen
 }
 
 /// An integer type, or `void`.
-fn base_of(types: &mut Types, base: Option<IntKind>) -> Result<TypeId, NoMemory>
+pub(crate) fn base_of(types: &mut Types, base: Option<IntKind>) -> Result<TypeId, NoMemory>
     ensures known { IfOk result (λ r. r.0 < length types.new.terms) }
     ensures tree { IfOk result (λ r. tree types.new r.0 ≡ base_of base) }
     ensures grows { OnOk result (Grows types.old types.new) }

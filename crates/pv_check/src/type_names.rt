@@ -1,5 +1,5 @@
 //! Type names (C17 6.7.7), and what specifiers and the steps of declarators come to.
-ghost use Rattle.std.specs.Prelude.{◌≡◌, ◌<◌, ◌≤◌, length, Some, None, IfOk, OnOk, false, IfSome, ℕ};
+ghost use Rattle.std.specs.Prelude.{◌≡◌, ◌<◌, ◌≤◌, Bool, List, length, Some, None, IfOk, OnOk, false, IfSome, ℕ};
 ghost use Rattle.pv_types.specs.Known.{tree, env};
 ghost use Rattle.pv_typed.specs.Tables.{whole};
 ghost use Rattle.pv_typed.specs.Known.{AreKnown};
@@ -8,21 +8,24 @@ ghost use Rattle.pv_check.specs.Growing.{AreSized, IsType, type_if};
 ghost use Rattle.pv_check.specs.Open.{IsOpen, Goes, state_of, after_type};
 ghost use Rattle.pv_check.specs.Seeing.{seen_in, specified_if, IsSpecified};
 ghost use Rattle.pv_check.specs.Specifiers.{specified, without_storage};
-ghost use Rattle.pv_check.specs.State.{and_then};
+ghost use Rattle.pv_check.specs.State.{State, and_then, give};
+ghost use Rattle.pv_check.specs.WordRows.{base_of};
 ghost use Rattle.pv_check.specs.Stepping.{steps_in, AreSteps};
-ghost use Rattle.pv_tree.specs.Tables.{Is, is_declaration, declaration_at, HasList, is_declarator, is_specifier, trees_at, optional_at};
+ghost use Rattle.pv_tree.specs.Nodes.{specifier_of};
+ghost use Rattle.pv_tree.specs.Tables.{Forest, Is, is_declaration, declaration_at, HasList, is_declarator, is_specifier, trees_at, optional_at};
 ghost use Rattle.pv_check.specs.Rows.{plain};
 ghost use Rattle.pv_check.specs.Typing.{type_named, specifiers};
-ghost use Rattle.pv_tree.specs.Syntax.{TypeName};
+ghost use Rattle.pv_tree.specs.Syntax.{TypeName, OfSpecifier, NoTrees, Then};
 ghost use Rattle.pv_check.specs.Operands.{type_of_name};
 
 use crate::declarators::optional_steps;
 use crate::derivations::{Step, derived};
 use crate::scopes::Scopes;
-use crate::specifiers::{Seen, Specified, Storage, taken_together};
+use crate::specifiers::{Seen, Specified, Storage, base_of, taken_together};
 use crate::specifying::specifiers;
+use pv_num::IntKind;
 use pv_token::Tokens;
-use pv_tree::{Decl, ListId, NodeId, Unit};
+use pv_tree::{Decl, ListId, NodeId, Spec, Unit};
 use pv_typed::TypedUnit;
 use pv_types::{NoMemory, TypeId};
 use std::alloc::Global;
@@ -120,6 +123,53 @@ pub fn specified_type(
     Ok(r)
 }
 
+/// The type that one keyword names by itself (C17 6.7.2p2), if it names one: an integer type, or `void`.
+fn type_of_word(spec: Spec) -> Option<Option<IntKind>>
+    ensures { IfSome result (λ x. (f : Forest) (line : ℕ) (z : State) → and_then (specifiers (Then NoTrees (OfSpecifier (specifier_of f line spec))) z) plain ≡ give (Some (base_of x)) z) }
+{
+    match spec {
+        Spec::Void => Some(None),
+        Spec::Char => Some(Some(IntKind::Char)),
+        Spec::Short => Some(Some(IntKind::Short)),
+        Spec::Int => Some(Some(IntKind::Int)),
+        Spec::Signed => Some(Some(IntKind::Int)),
+        Spec::Unsigned => Some(Some(IntKind::UInt)),
+        Spec::Long => Some(Some(IntKind::Long)),
+        Spec::Bool => Some(Some(IntKind::Bool)),
+        _ => None,
+    }
+}
+
+/// The type of a type name that is one keyword, as most are in casts. No words are counted for it, and no steps looked for.
+fn word_alone(u: &Unit, specs: ListId, declarator: Option<NodeId>) -> Option<Option<IntKind>>
+    requires { HasList u.now.forest (length u.now.forest.trees) is_specifier specs }
+    ensures { IfSome result (λ x. (line : ℕ) (z : State) → type_of_name u.now.forest line specs declarator z ≡ give (Some (base_of x)) z) }
+{
+    if declarator.is_some() {
+        return None;
+    }
+    let nodes = u.list(specs);
+    if nodes.len() != 1 {
+        return None;
+    }
+    type_of_word(u.spec(nodes[0]))
+}
+
+/// The type of a type name that is one keyword, beside the scopes, which stay open.
+fn word_type(
+    s: &Scopes,
+    into: &mut TypedUnit,
+    base: Option<IntKind>,
+) -> Result<Option<TypeId>, NoMemory>
+    requires opened { IsOpen into.old s.now }
+    ensures open { IfOk result (λ r. IfSome r (λ x. (x.0 < length into.new.known.terms) × IsOpen into.new s.now)) }
+    ensures goes { IfOk result (λ r. IfSome r (λ v. Goes into.old into.new)) }
+    ensures answer { (texts : List (List ℕ)) (hidden : Bool) → IfOk result (λ r. after_type texts hidden s.now into.new r ≡ give (Some (base_of base)) (state_of texts hidden s.now into.old)) }
+{
+    let r = base_of(into.types_mut(), base)?;
+    Ok(Some(r))
+}
+
 /// The type that a type name names (C17 6.7.7).
 #[cycle(typed)]
 pub(crate) fn type_named(
@@ -138,9 +188,10 @@ pub(crate) fn type_named(
 {
     let alloc = s.allocator();
     match u.decl(n) {
-        Decl::TypeName { specs, declarator } => {
-            type_name(alloc, u, t, s, into, specs, declarator, hidden)
-        }
+        Decl::TypeName { specs, declarator } => match word_alone(u, specs, declarator) {
+            Some(base) => word_type(s, into, base),
+            None => type_name(alloc, u, t, s, into, specs, declarator, hidden),
+        },
         Decl::Function { .. }
         | Decl::Declaration { .. }
         | Decl::InitDeclarator { .. }

@@ -132,8 +132,17 @@ expressions::typed-returns-in-Text-clause-typed t c =
 pub expressions::sizeof_named-returns-clause-goes : goal.expressions::sizeof_named-returns-clause-goes
 expressions::sizeof_named-returns-clause-goes t c = kept c.in_ok-r.r (goes_then_kept _ _ _ (there (λ v. Goes _ _) c.in-Some.is c.in_ok-x.ensures.goes) c.in_ok-r.ensures.kept)
 
-pub type_names::type_named-returns-in-TypeName-clause-typed : goal.type_names::type_named-returns-in-TypeName-clause-typed
-type_names::type_named-returns-in-TypeName-clause-typed t c =
+pub type_names::type_named-returns-in-Some-clause-typed : goal.type_names::type_named-returns-in-Some-clause-typed
+type_names::type_named-returns-in-Some-clause-typed t c =
+    let f = c.args.u.now.forest in
+    let z = state_of c.args.t.now.texts c.args.hidden c.args.s.now c.args.into.now in
+    let line = tree_line (tree_at f c.args.n) in
+    let at : declaration_at f c.args.n ≡ TypeName line (trees_at f c.in-TypeName.specs) (optional_at f c.in-TypeName.declarator) = ap as_declaration c.in-TypeName.ensures.tree in
+    let P : Option (After Ty) → Type 0 = λ x. IfOk c.word_type.result (λ r. after_type c.args.t.now.texts c.args.hidden c.args.s.now c.word_type.new.into r ≡ x) in
+    subst P (sym (ap (λ d. type_named d z) at ∙ c.in-Some.ensures line z)) (c.word_type.ensures.answer c.args.t.now.texts c.args.hidden)
+
+pub type_names::type_named-returns-in-None-clause-typed : goal.type_names::type_named-returns-in-None-clause-typed
+type_names::type_named-returns-in-None-clause-typed t c =
     let f = c.args.u.now.forest in
     let line = tree_line (tree_at f c.args.n) in
     let at : declaration_at f c.args.n ≡ TypeName line (trees_at f c.in-TypeName.specs) (optional_at f c.in-TypeName.declarator) = ap as_declaration c.in-TypeName.ensures.tree in
