@@ -1,7 +1,7 @@
 // What declaration specifiers say (C17 6.7p1).
-ghost use Rattle.std.specs.Prelude.{◌≡◌, ◌<◌, ◌≤◌, ◌+◌, ◌-◌, ◌^◌, length, IfOk, OnOk, IfSome, Some, None};
+ghost use Rattle.std.specs.Prelude.{◌≡◌, ◌<◌, ◌≤◌, ◌+◌, ◌-◌, ◌^◌, length, IfOk, OnOk, IfSome, Some, None, true};
 ghost use Rattle.pv_types.specs.Known.{Known, tree};
-ghost use Rattle.pv_types.specs.Ty.{Ty};
+ghost use Rattle.pv_types.specs.Ty.{Ty, IntTy};
 ghost use Rattle.pv_check.specs.Growing.{Grows, IsType, type_if};
 ghost use Rattle.pv_check.specs.Words.{no_words};
 ghost use Rattle.pv_check.specs.WordRows.{total, base_of};
@@ -10,6 +10,7 @@ ghost use Rattle.pv_check.specs.Seeing.{seen_in, seen_if, specified_if, IsSpecif
 
 use crate::interning::interned;
 use crate::qualified::with_const;
+use crate::values::has_kind;
 use crate::words::{TypeWords, same_words, type_of_words, with_word};
 use pv_num::IntKind;
 use pv_token::Word;
@@ -140,6 +141,46 @@ pub(crate) fn nothing_seen() -> Seen
     }
 }
 
+/// So many of the first types of a table are looked at for an integer type.
+const FIRST: u32 = 4;
+
+/// Whether an integer type has this number.
+fn is_integer(types: &Types, t: TypeId, kind: IntKind) -> bool
+    ensures known { result ≡ true → t.0 < length types.now.terms }
+    ensures tree { result ≡ true → tree types.now t.0 ≡ IntTy kind }
+{
+    if !types.has(t) {
+        return false;
+    }
+    has_kind(types, t, kind)
+}
+
+/// An integer type, where it is among the first types. Those that a unit names most are mostly there, and their hash isn't
+/// needed then.
+fn first_integer(types: &Types, kind: IntKind) -> Option<TypeId>
+    ensures known { IfSome result (λ t. t.0 < length types.now.terms) }
+    ensures tree { IfSome result (λ t. tree types.now t.0 ≡ IntTy kind) }
+{
+    for i in 0..FIRST {
+        if is_integer(types, TypeId(i), kind) {
+            return Some(TypeId(i));
+        }
+    }
+    None
+}
+
+/// An integer type.
+fn integer(types: &mut Types, kind: IntKind) -> Result<TypeId, NoMemory>
+    ensures known { IfOk result (λ r. r.0 < length types.new.terms) }
+    ensures tree { IfOk result (λ r. tree types.new r.0 ≡ IntTy kind) }
+    ensures grows { OnOk result (Grows types.old types.new) }
+{
+    match first_integer(types, kind) {
+        Some(t) => Ok(t),
+        None => interned(types, Term::Int(kind)),
+    }
+}
+
 /// An integer type, or `void`.
 pub(crate) fn base_of(types: &mut Types, base: Option<IntKind>) -> Result<TypeId, NoMemory>
     ensures known { IfOk result (λ r. r.0 < length types.new.terms) }
@@ -147,7 +188,7 @@ pub(crate) fn base_of(types: &mut Types, base: Option<IntKind>) -> Result<TypeId
     ensures grows { OnOk result (Grows types.old types.new) }
 {
     match base {
-        Some(kind) => interned(types, Term::Int(kind)),
+        Some(kind) => integer(types, kind),
         None => interned(types, Term::Void),
     }
 }

@@ -166,7 +166,7 @@ pub(crate) fn converted(into: &mut TypedUnit, t: TypeId, n: NodeId) -> Result<No
 }
 
 /// Whether it is this integer type.
-fn has_kind(types: &Types, t: TypeId, kind: IntKind) -> bool
+pub(crate) fn has_kind(types: &Types, t: TypeId, kind: IntKind) -> bool
     requires { t.0 < length types.now.terms }
     ensures { result ≡ same (tree types.now t.0) (IntTy kind) }
 {
