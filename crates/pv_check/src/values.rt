@@ -38,6 +38,7 @@ pub(crate) fn intern(into: &mut TypedUnit, term: Term) -> Result<TypeId, NoMemor
 }
 
 /// Adds a node of a type, whose first token stands on the line.
+#[inline(always)]
 pub(crate) fn add(
     into: &mut TypedUnit,
     x: Typed,
