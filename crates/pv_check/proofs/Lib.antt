@@ -44,6 +44,7 @@ pub mod Descending
 pub mod SpecifierRows
 pub mod TypeNameRows
 pub mod WordTypes
+pub mod Casting
 pub mod Completing
 pub mod CompositeRows
 pub mod MemberRows

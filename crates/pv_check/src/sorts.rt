@@ -1,5 +1,5 @@
 //! What sort of type an expression has, qualifiers aside (C17 6.2.5).
-ghost use Rattle.std.specs.Prelude.{◌≡◌, ◌<◌, ◌≤◌, length, IfSome, IsTrue};
+ghost use Rattle.std.specs.Prelude.{◌≡◌, ◌<◌, ◌≤◌, length, is_some, IfSome, IsTrue};
 ghost use Rattle.pv_types.specs.Known.{tree, tree_in, trees, env};
 ghost use Rattle.pv_types.specs.Formed.{IsBuilt};
 ghost use Rattle.pv_types.specs.Layouts.{is_complete_in};
@@ -31,6 +31,17 @@ pub fn kind_of(types: &Types, t: TypeId) -> Option<IntKind>
     match types.view(unqualified(types, t)) {
         Term::Int(kind) => Some(kind),
         _ => None,
+    }
+}
+
+/// Whether it is an integer type (C17 6.2.5p17).
+pub(crate) fn is_integer(types: &Types, t: TypeId) -> bool
+    requires { t.0 < length types.now.terms }
+    ensures { result ≡ is_some (kind_of (tree types.now t.0)) }
+{
+    match types.view(unqualified(types, t)) {
+        Term::Int(_) => true,
+        _ => false,
     }
 }
 
