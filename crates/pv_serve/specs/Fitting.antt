@@ -1,4 +1,4 @@
--- Tables of a unit that can be run and described (C17 6.9).
+-- A bridge: tables of a unit that can be run and described (C17 6.9).
 use Rattle.std.specs.Prelude.{is_some, IsTrue}
 use Rattle.pv_typed.specs.Tables.{Stored, whole}
 use Rattle.pv_typed.specs.Known.{AreKnown}

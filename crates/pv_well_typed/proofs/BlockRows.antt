@@ -36,8 +36,8 @@ use Rattle.pv_well_typed.proofs.Types.{complete-later, small}
 use Rattle.pv_well_typed.proofs.Operands.{as-made, some-same}
 use Rattle.pv_well_typed.proofs.PrimaryRows.{last-at}
 use Rattle.pv_well_typed.proofs.Changes.{inner-tag, more_object, bind-visible}
-use Rattle.pv_well_typed.proofs.UnitChanges.{set-same, set-other, size-sized, grown-set, given-later, given-proper, new-object-proper}
-use Rattle.pv_well_typed.proofs.Moving.{AreConstantStores, IsStatic, Grown, StaticsMade, HasMade, Moves, Gives, then-moves, gives-none, gives-some, gives-here, gives-then, gives-value, gives-unless, gives-weaker}
+use Rattle.pv_well_typed.proofs.UnitChanges.{set-same, set-other, size-sized, grown-set, given-orderly, given-later, given-proper, new-object-proper}
+use Rattle.pv_well_typed.proofs.Moving.{identifier-apart, AreConstantStores, IsStatic, Grown, StaticsMade, HasMade, Moves, Gives, then-moves, gives-none, gives-some, gives-here, gives-then, gives-value, gives-unless, gives-weaker}
 use Rattle.pv_well_typed.proofs.DeclaredTypes.{from-some, specified-proper, derived-named}
 use Rattle.pv_well_typed.proofs.TagRows.{bind-moves, composite-gives}
 use Rattle.pv_well_typed.proofs.Walk.{AreNamedSteps, IsSeen, U, specifiers-give, steps-give, object-moves}
@@ -102,7 +102,7 @@ module _ (v : WholeUnit) (done : IsFinished v) (apart : (o : ℕ) → (object_at
 
   new-moves : (n line : ℕ) (t : Ty) (lasting : Bool) (s : State) → Moves ⊥ v [] s (new_object n line t lasting s)
   new-moves n line t lasting s =
-      then-moves ⊥ v [] s (more_object (fresh_object n line t lasting) s) (new_object n line t lasting s) (object-moves v [] done ⊥ (fresh_object n line t lasting) s)
+      then-moves ⊥ v [] s (more_object (fresh_object n line t lasting) s) (new_object n line t lasting s) (object-moves v [] done ⊥ (fresh_object n line t lasting) s (identifier-apart (unit_name n) n refl))
       (bind-moves ⊥ v [] n (ObjectName (count s)) (more_object (fresh_object n line t lasting) s) (λ f. absurd f) tt)
 
   new-at : (n line : ℕ) (t : Ty) (lasting : Bool) (s : State) → object_at (new_object n line t lasting s).unit (count s) ≡ fresh_object n line t lasting
@@ -182,7 +182,7 @@ module _ (v : WholeUnit) (done : IsFinished v) (apart : (o : ℕ) → (object_at
         functions = w.functions;
         spelled = w.spelled;
         noted = w.noted;
-        orderly = w.orderly;
+        orderly = λ h. given-orderly (count s) x t (w.orderly h);
         count = omega (arith, size, more);
         older = λ o lt. set-other no_object t.unit.objects (count s) o _ (λ e. beyond o lt e) ∙ w.older o lt;
       }

@@ -1,4 +1,4 @@
--- A source that is run is checked, and so its run is that of the rules alone (C17 5.1.2, 6.9).
+-- A source that is run has a typing, and so its run is that of the rules alone (C17 5.1.2, 6.9).
 use Rattle.std.proofs.Common.{◌≡◌, ◌<◌, ◌≤◌, ◌^◌, ℕ, Bool, List, length, sym, subst, ◌∙◌, arith}
 use Rattle.std.specs.Prelude.{Option}
 use Rattle.pv_token.specs.Table.{Table}
@@ -7,9 +7,8 @@ use Rattle.pv_tree.specs.Syntax.{DeclarationTree}
 use Rattle.pv_tree.specs.Units.{SpellUnit}
 use Rattle.pv_typed.specs.Known.{Each}
 use Rattle.pv_typed.specs.TypedUnits.{WholeUnit}
-use Rattle.pv_typed.specs.Tables.{Stored, whole}
+use Rattle.pv_typed.specs.Tables.{whole}
 use Rattle.pv_unit.specs.Units as checked
-use Rattle.pv_unit.proofs.NamedUnits.{unit_identifiers}
 use Rattle.pv_world.specs.Worlds.{Worth}
 use Rattle.pv_eval.specs.States.{Res}
 use Rattle.pv_exec.specs.Run.{setting_of}
@@ -20,8 +19,7 @@ use Rattle.pv_well_typed.proofs.LexedTokens.{typed-lexed}
 use Rattle.pv_serve.specs.Readings.{Program}
 use Rattle.pv_serve.specs.Comes.{Comes, BadByte, BadToken, LeftOut, Lexed, TokensCome, NoUnit, Spelled, source_limit}
 use Rattle.pv_serve.specs.Judged.{IsToRun, IsRunBy}
-use Rattle.pv_serve.specs.Fitting.{IsFit}
-use Rattle.pv_serve.proofs.ComesLemmas.{unit_typed, comes_to_one, source_limit_is}
+use Rattle.pv_serve.proofs.ComesLemmas.{unit_typed, source_limit_is}
 
 -- ---- 6.9: a program has tokens, which external declarations spell, and they have this typing
 
@@ -42,31 +40,18 @@ spelled-source source v (BadToken place h e) = absurd cc
 spelled-source source v (LeftOut place word h e) = absurd cc
 spelled-source source v (Lexed t l h) = spelled-tokens source t v l h
 
--- ---- such a source, with tables that are fit, is checked
+-- ---- such a source has a typing
 
 within : (n : ℕ) → n ≤ source_limit → n ≤ 2 ^ 20
 within n le = omega (arith, source_limit_is)
 
-checked-source : (source : List ℕ) (u : Stored) → Each (λ b. b < 256) source → length source ≤ source_limit → (s : IsSpelled source (whole u)) → IsFit u → IsChecked source s.tokens s.trees (whole u)
-checked-source source u bytes short s fit = record {
-  bytes = bytes;
-  short = within (length source) short;
-  lexed = s.lexed;
-  spelled = s.spelled;
-  comes = s.comes;
-  identified = unit_identifiers s.tokens s.trees u s.comes fit.known;
-  filled = fit.filled;
-  small = fit.small;
-}
-
-program-same : (v w : WholeUnit) → Program v ≡ Program w → v ≡ w
-program-same v w e = cc
+checked-source : (source : List ℕ) (v : WholeUnit) → Each (λ b. b < 256) source → length source ≤ source_limit → (s : IsSpelled source v) → IsChecked source s.tokens s.trees v
+checked-source source v bytes short s = record { bytes = bytes; short = within (length source) short; lexed = s.lexed; spelled = s.spelled; comes = s.comes }
 
 -- 5.1.2: each run of it is that of the rules alone, by whichever tables
-pub run-ruled : (source script : List ℕ) (u : Stored) → Each (λ b. b < 256) source → Comes source (Program (whole u)) → IsFit u → (job : IsToRun source script) (bound : ℕ) (zap : Bool) (sides : Option (List Bool)) (run : Res Worth)
-    → (runs : IsRunBy job.unit job.lines bound zap sides run) → run ≡ plain.run_of (setting_of runs.tables bound sides zap) job.lines
-run-ruled source script u bytes program fit job bound zap sides run runs =
-    let s = spelled-source source (whole u) program in
-    let same : whole u ≡ whole runs.tables = program-same (whole u) job.unit (comes_to_one source (Program (whole u)) (Program job.unit) program job.comes) ∙ sym runs.stands in
-    let is : IsChecked source s.tokens s.trees (whole runs.tables) = subst (IsChecked source s.tokens s.trees) same (checked-source source u bytes job.short s fit) in
+pub run-ruled : (source script : List ℕ) → Each (λ b. b < 256) source → (job : IsToRun source script) (bound : ℕ) (zap : Bool) (sides : Option (List Bool)) (run : Res Worth) → (runs : IsRunBy job.unit job.lines bound zap sides run)
+    → run ≡ plain.run_of (setting_of runs.tables bound sides zap) job.lines
+run-ruled source script bytes job bound zap sides run runs =
+    let s = spelled-source source job.unit job.comes in
+    let is : IsChecked source s.tokens s.trees (whole runs.tables) = subst (IsChecked source s.tokens s.trees) (sym runs.stands) (checked-source source job.unit bytes job.short s) in
     runs.is ∙ run-same (setting_of runs.tables bound sides zap) (typed-lexed source s.tokens s.trees (whole runs.tables) is) job.lines

@@ -479,7 +479,7 @@ parameters-are v done apart s t (p ∷ ps) (MoreTys w ts) q d m k l =
 
 module _ (v : WholeUnit) (done : IsFinished v) (apart : (o : ℕ) → (object_at v o).name ≢ heap_name) (fixed : AreFixed v) where
   within-orderly : (x : Scope) (s : State) → AreKnownNames (length s.unit.functions) x → Orderly s → Orderly (within x s)
-  within-orderly x s k h = record { names = each_append (AreKnownNames (length s.unit.functions)) s.scopes (x ∷ []) h.names (k, tt); uses = h.uses; sources = h.sources; written = h.written; ended = h.ended }
+  within-orderly x s k h = record { names = each_append (AreKnownNames (length s.unit.functions)) s.scopes (x ∷ []) h.names (k, tt); uses = h.uses; sources = h.sources; written = h.written; ended = h.ended; laid = h.laid; apart = h.apart }
 
   within-moves : (x : Scope) (s t : State) → AreKnownNames (length s.unit.functions) x → Moves ⊥ v [] (within x s) t → Moves U v [] s (left t)
   within-moves x s t known m =

@@ -79,6 +79,8 @@ module _ (v : WholeUnit) (done : IsFinished v) where
     sources = h.sources;
     written = h.written;
     ended = h.ended;
+    laid = h.laid;
+    apart = h.apart;
   }
 
   meaning-more : (m n : ℕ) → m ≤ n → (x : Meaning) → IsMeaning v m x → IsMeaning v n x
@@ -105,6 +107,8 @@ module _ (v : WholeUnit) (done : IsFinished v) where
         sources = h.sources;
         written = h.written;
         ended = h.ended;
+        laid = h.laid;
+        apart = h.apart;
       }
 
   new-proper : (n line : ℕ) (t : Ty) (s : State) → HasFunctionType v (library_named (name_at s.unit (unit_name n))) t → IsProperState v s → IsProperState v (new_function n line t s)

@@ -38,8 +38,8 @@ use Rattle.pv_well_typed.proofs.Composites.{composite-complete, composite-size, 
 use Rattle.pv_well_typed.proofs.PrimaryRows.{each-at, last-at}
 use Rattle.pv_well_typed.proofs.TagRows.{bits-equal, bind-moves}
 use Rattle.pv_well_typed.proofs.Changes.{find-each, more_object, bind-proper, bind-visible, before-at}
-use Rattle.pv_well_typed.proofs.UnitChanges.{set-same, set-other, differ, grown-set, size-sized, with-object-later, with-object-proper, new-object-proper}
-use Rattle.pv_well_typed.proofs.Moving.{AreConstantStores, Grown, HasMade, none-made, Moves, then-moves, grown-before}
+use Rattle.pv_well_typed.proofs.UnitChanges.{set-same, set-other, differ, grown-set, size-sized, with-object-orderly, with-object-later, with-object-proper, new-object-proper}
+use Rattle.pv_well_typed.proofs.Moving.{identifier-apart, AreConstantStores, Grown, HasMade, none-made, Moves, then-moves, grown-before}
 use Rattle.pv_well_typed.proofs.DeclaredTypes.{from-some}
 use Rattle.pv_well_typed.proofs.Walk.{U, object-moves}
 use Rattle.pv_well_typed.proofs.StatementWalk.{count, visible-more}
@@ -149,7 +149,7 @@ module _ (v : WholeUnit) (done : IsFinished v) where
 
   object-moves-on : (n line : ℕ) (t : Ty) (s : State) → Moves ⊥ v [] s (new_object n line t true s)
   object-moves-on n line t s =
-      then-moves ⊥ v [] s (more_object (file-object n line t) s) (new_object n line t true s) (object-moves v [] done ⊥ (file-object n line t) s)
+      then-moves ⊥ v [] s (more_object (file-object n line t) s) (new_object n line t true s) (object-moves v [] done ⊥ (file-object n line t) s (identifier-apart (unit_name n) n refl))
       (bind-moves ⊥ v [] n (ObjectName (count s)) (more_object (file-object n line t) s) (λ f. absurd f) tt)
 
   new-entity : (k : Option ℕ) (u : UnitState) (o : ℕ) → IsUnit v k u → HasEntity false o (entity 0 false (count u.state) ∷ []) → count u.state ≡ o
@@ -222,7 +222,7 @@ module _ (v : WholeUnit) (done : IsFinished v) where
 
   -- with what it was before, or more
   abbrev Replaces : WholeUnit → TypedObject → TypedObject → Type 0
-  Replaces u x y = (y.lasting ≡ x.lasting) × (or_zero (size_in u x.t) ≤ or_zero (size_in u y.t))
+  Replaces u x y = (y.lasting ≡ x.lasting) × (or_zero (size_in u x.t) ≤ or_zero (size_in u y.t)) × (y.name ≡ x.name)
 
   pub set-goes : (B : Type 0) (k : Option ℕ) (o : ℕ) (y : TypedObject) (u : UnitState) → IsUnit v k u → HasEntity false o u.entities → Replaces u.state.unit (object_at u.state.unit o) y
       → (B → Later (with_object o y u.state) v → UnitIs v u → IsProper v y.t × (Grown v u.state → AreConstantStores v y.t y.inits)) → Goes B v k u (record u { state = with_object o y u.state })
@@ -239,7 +239,7 @@ module _ (v : WholeUnit) (done : IsFinished v) where
           file = i.file;
           evaluated = i.evaluated;
           unnoted = i.unnoted;
-          orderly = i.orderly;
+          orderly = with-object-orderly o y s r.2 i.orderly;
           names = i.names;
           entities = each_weaker (IsEntityOf k s.unit) (IsEntityOf k (with_object o y s).unit) (λ (x : Entity) q. record { object = λ f. kept x few (q.object f); function = q.function; defined = q.defined }) u.entities i.entities;
           functions = λ f lt. let z = i.functions f lt in record { declared = z.declared; shape = z.shape; fixed = z.fixed; unset = z.unset; fresh = z.fresh; main = z.main };
@@ -287,7 +287,7 @@ module _ (v : WholeUnit) (done : IsFinished v) where
       → Goes (IsProper v t) v k u (record u { state = with_object_type o (composite (object_at u.state.unit o).t t) u.state })
   composed-goes k o t u i e c =
       let x = object_at u.state.unit o in
-      set-goes (IsProper v t) k o (record x { t = composite x.t t }) u i e (refl, composite-grown (env u.state) x.t t)
+      set-goes (IsProper v t) k o (record x { t = composite x.t t }) u i e (refl, composite-grown (env u.state) x.t t, refl)
       (λ p l z.
       let there = object-known k u i o e in
       let old = each-at (λ (y : TypedObject). IsProper v y.t) no_object u.state.unit.objects o tt z.proper.unit.objects in (
@@ -361,7 +361,7 @@ module _ (v : WholeUnit) (done : IsFinished v) where
       lead-goes U (IsProper v f.value.t × (Grown v f.state → AreConstantStores v f.value.t f.value.stores)) v k k u (record u { state = f.state }) (record u { state = with_given o f.value f.state }) first
       (λ b l s. let z = h l (proper-at u o s.proper) s.proper in (z.1.proper, λ g. z.1.constant g refl))
       (set-goes (IsProper v f.value.t × (Grown v f.state → AreConstantStores v f.value.t f.value.stores)) k o (given-object f.value (object_at f.state.unit o)) (record u { state = f.state }) first.unit e
-      (refl, subst (λ w. or_zero (size_in f.state.unit (object_at f.state.unit o).t) ≤ or_zero (size_in f.state.unit w)) (sym type) (size-sized (env f.state) (object_at f.state.unit o).t size.0))
+      (refl, subst (λ w. or_zero (size_in f.state.unit (object_at f.state.unit o).t) ≤ or_zero (size_in f.state.unit w)) (sym type) (size-sized (env f.state) (object_at f.state.unit o).t size.0), refl)
       (λ c l z. (c.0, λ g. constants f.state there.0 m.count (ap (λ (x : TypedObject). x.lasting) older ∙ there.1) type c z g g)))
     where
       proper-at : (w : UnitState) (j : ℕ) → IsProperState v w.state → IsProper v (object_at w.state.unit j).t

@@ -415,4 +415,4 @@ typed-lexed source t ds v c =
     let lexed = c.lexed in
     let short = c.short in
     let few = spelt-letters (length source) (start source) lexed.last lexed.pieces c.bytes lexed.row in
-    typed-source t (spelt (length source) (start source) lexed.pieces) ds v lexed.tells (spelt-source (length source) (start source) lexed.last lexed.pieces c.bytes lexed.row) (omega (arith, few, short)) c.spelled c.comes c.identified c.filled c.small
+    typed-source t (spelt (length source) (start source) lexed.pieces) ds v lexed.tells (spelt-source (length source) (start source) lexed.last lexed.pieces c.bytes lexed.row) (omega (arith, few, short)) c.spelled c.comes

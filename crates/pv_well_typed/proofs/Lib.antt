@@ -16,6 +16,8 @@ pub mod Moving
 pub mod SourceCharacters
 pub mod Sources
 pub mod DeclaredTypes
+pub mod Laid
+pub mod Callees
 pub mod TagRows
 pub mod Literals
 pub mod Walk

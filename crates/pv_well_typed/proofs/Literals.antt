@@ -6,7 +6,7 @@ use Rattle.pv_typed.proofs.Each.{each_append, each_weaker}
 use Rattle.pv_typed.specs.Adding.{with_literal}
 use Rattle.pv_typed.specs.TypedUnits.{Literal, no_literal}
 use Rattle.pv_check.specs.Primary.{bytes_of_text, joined}
-use Rattle.pv_check.specs.State.{State}
+use Rattle.pv_check.specs.State.{State, env}
 use Rattle.pv_well_typed.proofs.PrimaryRows.{each-at, last-at, beyond-at}
 use Rattle.pv_well_typed.proofs.Changes.{before-at}
 use Rattle.pv_well_typed.proofs.Sources.{AreBytes, letters}
@@ -24,7 +24,7 @@ ended-more xs x is h = each_weaker (λ l. 1 ≤ length (get_or xs l no_literal).
     by l q (inr le) = let none = ap (λ (y : Literal). length y.bytes) (beyond-at no_literal xs l le) in absurd (omega (arith, q, none))
 
 pub written-orderly : (line : ℕ) (bytes : List ℕ) (s : State) (instance : Bool) → (Orderly s → IsText bytes) → Orderly s
-    → IsOrderly s.unit.names s.unit.functions s.scopes s.used s.texts (with_literal s.unit (record { bytes = bytes; line = line }) instance).literals (with_literal s.unit (record { bytes = bytes; line = line }) instance).instances
+    → IsOrderly s.unit.names s.unit.functions s.scopes s.used s.texts (with_literal s.unit (record { bytes = bytes; line = line }) instance).literals (with_literal s.unit (record { bytes = bytes; line = line }) instance).instances (env s) s.unit.objects
 written-orderly line bytes s instance good h =
     let g = good h in
     let x : Literal = record { bytes = bytes; line = line } in
@@ -34,6 +34,8 @@ written-orderly line bytes s instance good h =
       sources = h.sources;
       written = each_append IsWritten s.unit.literals (x ∷ []) h.written ((g.0, g.2), tt);
       ended = ends x g.1 instance;
+      laid = h.laid;
+      apart = h.apart;
     }
   where
     ends : (x : Literal) → 1 ≤ length x.bytes → (b : Bool) → Each (λ l. 1 ≤ length (get_or (s.unit.literals ++ (x ∷ [])) l no_literal).bytes) (if b then s.unit.instances ++ (length s.unit.literals ∷ []) else s.unit.instances)

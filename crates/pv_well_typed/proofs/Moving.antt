@@ -1,9 +1,9 @@
 -- What typing does to its state, and what it gives (C17 6.5, 6.7): a unit that is later than the state behind is later than the one before.
-use Rattle.std.proofs.Common.{◌≡◌, ℕ, zero, suc, ◌<◌, ◌≤◌, ◌-◌, ◌+◌, ◌^◌, Bool, true, false, Option, Some, None, is_some, List, [], ◌∷◌, ◌++◌, length, take, set, get_or, refl, sym, ap, subst, ◌∙◌, arith, length-append, length-set, append_assoc, append-nil, ◌⊎◌, inl, inr}
+use Rattle.std.proofs.Common.{◌≡◌, ◌≢◌, ℕ, zero, suc, ◌<◌, ◌≤◌, ◌-◌, ◌+◌, ◌^◌, Bool, true, false, Option, Some, None, is_some, List, [], ◌∷◌, ◌++◌, length, take, set, get_or, refl, sym, ap, subst, ◌∙◌, arith, length-append, length-set, append_assoc, append-nil, ◌⊎◌, inl, inr}
 use Rattle.std.specs.Prelude.{if◌then◌else◌}
-use Rattle.pv_types.specs.Layouts.{Entry, Layout, up_to, layout_in, is_complete_in}
+use Rattle.pv_types.specs.Layouts.{Entry, Layout, AllFill, up_to, layout_in, is_complete_in}
 use Rattle.pv_types.proofs.LayoutLaws.{layout-append, complete-append}
-use Rattle.pv_types.specs.Ty.{Ty}
+use Rattle.pv_types.specs.Ty.{Ty, StructTag}
 use Rattle.pv_typed.specs.Known.{Each}
 use Rattle.pv_typed.proofs.Each.{each_append}
 use Rattle.pv_typed.specs.Addresses.{size_in, or_zero}
@@ -14,6 +14,8 @@ use Rattle.pv_check.specs.Rows.{operand, integer_value}
 use Rattle.pv_check.specs.State.{State, Used, UsedObject, UsedFunction, PointedFunction, Meaning, ObjectName, FunctionName, TypedefOf, ConstantOf, After, Scope, no_scope, and_then, give, env, find, innermost, entered, left}
 use Rattle.pv_check.specs.Values.{value_of}
 use Rattle.pv_typed.specs.Constants.{integer}
+use Rattle.pv_eval.specs.Objects.{heap_name}
+use Rattle.pv_unit.specs.Entities.{unit_name}
 use Rattle.pv_guards.specs.TypedStatements.{IsConstant}
 use Rattle.pv_well_typed.specs.Later.{IsFinished, Later}
 use Rattle.pv_well_typed.proofs.Sources.{AreBytes, letters}
@@ -89,16 +91,31 @@ IsText bytes = AreBytes bytes × (1 ≤ length bytes) × (length bytes ≤ 2 ^ 3
 abbrev pub IsWritten : Literal → Type 0
 IsWritten x = AreBytes x.bytes × (length x.bytes ≤ 2 ^ 32)
 
--- functions that names stand for and that expressions named, the texts of the source, and string literals, of which an instance has its zero (6.4.5p6)
-pub record IsOrderly (spelling : List (List ℕ)) (declared : List TypedFunction) (scopes : List Scope) (used : List Used) (texts : List (List ℕ)) (literals : List Literal) (instances : List ℕ) : Type 0 where
+-- 6.7.2.1p8, 5.2.4.1p1: each structure and union that is completed has a byte, and none is larger than 2 ^ 32 bytes
+pub record AreLaid (es : List Entry) : Type 0 where
+  pub filled : AllFill es
+  pub small : (n : ℕ) → (layout_in es (StructTag n)).size ≤ 2 ^ 32
+
+-- 6.4.2.1p1, 7.22.3: an object's name is not that of allocations, which no identifier is
+abbrev pub IsApart : TypedObject → Type 0
+IsApart x = x.name ≢ heap_name
+
+pub identifier-apart : (m n : ℕ) → m ≡ unit_name n → m ≢ heap_name
+identifier-apart m n is e = omega (arith, is, e)
+
+-- functions that names stand for and that expressions named, the texts of the source, and string literals, of which an instance has its zero (6.4.5p6);
+-- the layouts of structures and unions, and the names of objects
+pub record IsOrderly (spelling : List (List ℕ)) (declared : List TypedFunction) (scopes : List Scope) (used : List Used) (texts : List (List ℕ)) (literals : List Literal) (instances : List ℕ) (entries : List Entry) (objects : List TypedObject) : Type 0 where
   pub names : Each (AreKnownNames (length declared)) scopes
   pub uses : Each (IsKnownUse spelling declared) used
   pub sources : AreTexts texts
   pub written : Each IsWritten literals
   pub ended : Each (λ l. 1 ≤ length (get_or literals l no_literal).bytes) instances
+  pub laid : AreLaid entries
+  pub apart : Each IsApart objects
 
 abbrev pub Orderly : State → Type 0
-Orderly s = IsOrderly s.unit.names s.unit.functions s.scopes s.used s.texts s.unit.literals s.unit.instances
+Orderly s = IsOrderly s.unit.names s.unit.functions s.scopes s.used s.texts s.unit.literals s.unit.instances (env s) s.unit.objects
 
 -- typing goes from one state to another. F: it isn't a list of parameters, whose objects stand in their own scope
 pub record Moves (F : Type 0) (v : WholeUnit) (os : List ℕ) (s t : State) : Type 0 where
@@ -208,20 +225,25 @@ module _ (F : Type 0) (v : WholeUnit) (os : List ℕ) where
   gives-here P s Q None h = gives-none P s Q
   gives-here P s Q (Some x) h = gives-some P s Q (record { value = x; state = s }) (same-moves s) (λ l p g. (g, h x refl l p g, none-made v s s refl))
 
-  pub gives-then : {A B : Type 0} (P : Type 0) (s : State) (Q : After A → Type 0) (R : After B → Type 0) (o : Option (After A)) (f : After A → Option (After B))
-      → Gives F v os P s Q o → ((a : After A) → Moves F v os s a.state → Gives F v os (P × Q a) a.state R (f a)) → Gives F v os P s R (and_then o f)
-  gives-then P s Q R None f h k = gives-none P s R
-  gives-then {A} {B} P s Q R (Some a) f h k = record { held = λ b e. next b e }
+  -- one after the other; what comes behind knows of what its state is the answer
+  pub gives-behind : {A B : Type 0} (P : Type 0) (s : State) (Q : After A → Type 0) (R : After B → Type 0) (o : Option (After A)) (f : After A → Option (After B))
+      → Gives F v os P s Q o → ((a : After A) → o ≡ Some a → Moves F v os s a.state → Gives F v os (P × Q a) a.state R (f a)) → Gives F v os P s R (and_then o f)
+  gives-behind P s Q R None f h k = gives-none P s R
+  gives-behind {A} {B} P s Q R (Some a) f h k = record { held = λ b e. next b e }
     where
       first : Moves F v os s a.state × (Later a.state v → P → IsProperState v s → IsProperState v a.state × Q a × HasMade v s a.state)
       first = h.held a refl
 
       next : (b : After B) → f a ≡ Some b → Moves F v os s b.state × (Later b.state v → P → IsProperState v s → IsProperState v b.state × R b × HasMade v s b.state)
       next b e =
-          let second = (k a first.0).held b e in (
+          let second = (k a refl first.0).held b e in (
             then-moves s a.state b.state first.0 second.0,
             λ l p g. let q = first.1 (second.0.later l) p g in let r = second.1 l (p, q.1) q.0 in (r.0, r.1, then-made s a.state b.state second.0 q.2 r.2),
           )
+
+  pub gives-then : {A B : Type 0} (P : Type 0) (s : State) (Q : After A → Type 0) (R : After B → Type 0) (o : Option (After A)) (f : After A → Option (After B))
+      → Gives F v os P s Q o → ((a : After A) → Moves F v os s a.state → Gives F v os (P × Q a) a.state R (f a)) → Gives F v os P s R (and_then o f)
+  gives-then P s Q R o f h k = gives-behind P s Q R o f h (λ a e m. k a m)
 
   -- behind something that is no state
   pub gives-value : {A B : Type 0} (P : Type 0) (s : State) (R : After B → Type 0) (o : Option A) (f : A → Option (After B)) → ((x : A) → o ≡ Some x → Gives F v os P s R (f x)) → Gives F v os P s R (and_then o f)
@@ -310,10 +332,12 @@ entered-orderly s h = record {
   sources = h.sources;
   written = h.written;
   ended = h.ended;
+  laid = h.laid;
+  apart = h.apart;
 }
 
 pub left-orderly : (t : State) → Orderly t → Orderly (left t)
-left-orderly t h = record { names = each-take (AreKnownNames (length t.unit.functions)) (length t.scopes - 1) t.scopes h.names; uses = h.uses; sources = h.sources; written = h.written; ended = h.ended }
+left-orderly t h = record { names = each-take (AreKnownNames (length t.unit.functions)) (length t.scopes - 1) t.scopes h.names; uses = h.uses; sources = h.sources; written = h.written; ended = h.ended; laid = h.laid; apart = h.apart }
 
 -- behind it the scopes are those of before
 pub left-scopes : (ss ts : List Scope) → Outer (ss ++ (no_scope ∷ [])) ts → take (length ts - 1) ts ≡ ss

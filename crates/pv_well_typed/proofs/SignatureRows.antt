@@ -23,7 +23,7 @@ use Rattle.pv_well_typed.proofs.Operands.{some-same}
 use Rattle.pv_well_typed.proofs.UnaryRows.{both-true}
 use Rattle.pv_well_typed.proofs.PrimaryRows.{each-at, last-at}
 use Rattle.pv_well_typed.proofs.Changes.{more_object, bind-visible, inner-scope, entered-proper}
-use Rattle.pv_well_typed.proofs.Moving.{AreKnownNames, Orderly, Moves, same-moves, then-moves, left-moves, entered-orderly}
+use Rattle.pv_well_typed.proofs.Moving.{identifier-apart, AreKnownNames, Orderly, Moves, same-moves, then-moves, left-moves, entered-orderly}
 use Rattle.pv_well_typed.proofs.DeclaredTypes.{from-some}
 use Rattle.pv_well_typed.proofs.TagRows.{bind-moves}
 use Rattle.pv_well_typed.proofs.Walk.{U, inner-file, object-moves, specifiers-give, steps-give, optional-give, size-gives, parameters-give}
@@ -153,7 +153,7 @@ module _ (v : WholeUnit) (os : List ℕ) (done : IsFinished v) where
 
       last : Moves ⊥ v os c (with-one n line t c)
       last = then-moves ⊥ v os c (bind n (ObjectName (count c)) c) (with-one n line t c) (bind-moves ⊥ v os n (ObjectName (count c)) c (λ f. absurd f) tt)
-          (object-moves v os done ⊥ (named-object n line t) (bind n (ObjectName (count c)) c))
+          (object-moves v os done ⊥ (named-object n line t) (bind n (ObjectName (count c)) c) (identifier-apart (n + 2) n refl))
 
       here : (o : ℕ) → count c ≡ o → (count s ≤ o) × (o < count (with-one n line t c)) × ((object_at (with-one n line t c).unit o).t ≡ t) × ((object_at (with-one n line t c).unit o).lasting ≡ false)
       here o e =

@@ -16,11 +16,8 @@ use Rattle.pv_tree.specs.Spelling.{declaration_tokens}
 use Rattle.pv_tree.specs.Syntax.{DeclarationTree}
 use Rattle.pv_tree.specs.Units.{SpellExternals, SpellUnit, no_types, with_types}
 use Rattle.pv_typed.specs.Known.{Each}
-use Rattle.pv_types.specs.Layouts.{AllFill, layout_in}
-use Rattle.pv_types.specs.Ty.{StructTag}
-use Rattle.pv_typed.specs.TypedUnits.{WholeUnit, layouts}
+use Rattle.pv_typed.specs.TypedUnits.{WholeUnit}
 use Rattle.pv_typed.proofs.Each.{each_append, each_left, each_right}
-use Rattle.pv_unit.specs.Identifiers.{HasIdentifiers}
 use Rattle.pv_unit.specs.Units.{Typed, UnitComes}
 use Rattle.pv_guards.specs.TypedStatements.{IsTypedUnit}
 use Rattle.pv_well_typed.proofs.SourceCharacters.{DeclarationCharacters}
@@ -134,7 +131,7 @@ spelled-ints types (d ∷ ds) here left s h =
 
 -- ---- 6.9: a unit that comes of a source's tokens is well typed
 pub typed-source : (t : Table) (ss : List Spelt) (ds : List DeclarationTree) (v : WholeUnit) → Tells t ss → Each (λ (s : Spelt). IsSourceToken s.said) ss → letters (texts_of ss) < 2 ^ 32 → SpellUnit t.tokens ds → UnitComes t ds (Typed v)
-    → HasIdentifiers t v → AllFill (layouts v) → ((n : ℕ) → (layout_in (layouts v) (StructTag n)).size ≤ 2 ^ 32) → IsTypedUnit v
-typed-source t ss ds v tells said few spelled comes identified filled tags =
-    typed-unit t ds v comes identified filled tags (subst AreApart (sym tells.names) (names-from-apart [] ss apart-none)) (subst AreTexts (sym tells.texts) (texts-bytes ss said, few))
+    → IsTypedUnit v
+typed-source t ss ds v tells said few spelled comes =
+    typed-unit t ds v comes (subst AreApart (sym tells.names) (names-from-apart [] ss apart-none)) (subst AreTexts (sym tells.texts) (texts-bytes ss said, few))
     (spelled-ints no_types ds t.tokens [] spelled (tokens-ints t.names t.texts t.tokens ss tells.tokens said))

@@ -1,11 +1,12 @@
 -- What declares a tag, what completes it, and enumerators (C17 6.7.2): what typing does to its state, and what it gives.
-use Rattle.std.proofs.Common.{◌≡◌, ℕ, ◌<◌, ◌-◌, ℤ, pos, ◌+ℤ◌, Bool, true, false, ◌&&◌, not, Option, Some, None, is_some, List, [], ◌∷◌, ◌++◌, length, refl, sym, ap, subst, ◌∙◌, arith, length-append, append-nil}
+use Rattle.std.proofs.Common.{◌≡◌, ℕ, ◌<◌, ◌-◌, ℤ, pos, ◌+ℤ◌, Bool, true, false, ◌&&◌, Option, Some, None, is_some, List, [], ◌∷◌, ◌++◌, length, refl, sym, ap, subst, ◌∙◌, arith, length-append, append-nil}
 use Rattle.std.specs.Prelude.{if◌then◌else◌, nat_lt}
 use Rattle.std.specs.Bool.{beq}
 use Rattle.pv_num.specs.Kinds.{Fits, fits_of}
 use Rattle.pv_num.specs.declared.kinds.IntKind.TheVariants.{Int}
 use Rattle.pv_token.specs.declared.words.Word.{Word}
 use Rattle.pv_token.specs.declared.words.Word.TheVariants as word
+use Rattle.pv_types.specs.Formed.{AreComplete}
 use Rattle.pv_types.specs.Known.{Heading, heading_at}
 use Rattle.pv_types.specs.Layouts.{Named, look, tag_type}
 use Rattle.pv_types.specs.Ty.{Ty, IntTy}
@@ -21,17 +22,14 @@ use Rattle.pv_well_typed.proofs.Operands.{some-same}
 use Rattle.pv_well_typed.proofs.PrimaryRows.{last-at, each-at, fits-read}
 use Rattle.pv_well_typed.proofs.UnaryRows.{both-true}
 use Rattle.pv_well_typed.proofs.Changes.{find-bound, each-set, each-bound, more_heading, more_filed, made_entry, tag-meaning, inner-tag, bind-proper, bind-tag-proper, bind-visible, bind-tag-visible, heading-later, heading-proper, filed-later, filed-proper, completed-later, completed-proper}
-use Rattle.pv_well_typed.proofs.Moving.{IsKnownMeaning, AreKnownNames, Orderly, HasMade, none-made, Moves, Gives, same-outer, set-outer, same-moves, then-moves, gives-none, gives-some, gives-here, gives-if, gives-from}
+use Rattle.pv_well_typed.proofs.Moving.{IsKnownMeaning, AreKnownNames, AreLaid, Orderly, HasMade, none-made, Moves, Gives, same-outer, set-outer, same-moves, then-moves, gives-none, gives-some, gives-here, gives-if, gives-from}
+use Rattle.pv_well_typed.proofs.Laid.{none-there, laid-done}
 
 pub bits-equal : (a b : Bool) → beq a b ≡ true → a ≡ b
 bits-equal true true h = refl
 bits-equal false false h = refl
 bits-equal true false h = absurd cc
 bits-equal false true h = absurd cc
-
-none-there : {A : Type 0} (o : Option A) → not (is_some o) ≡ true → o ≡ None
-none-there None e = refl
-none-there (Some a) e = absurd cc
 
 tag-proper : (v : WholeUnit) (u : Bool) (n : ℕ) → (heading_at v.headings n).union ≡ u → IsProper v (tag_type u n)
 tag-proper v true n e = e
@@ -49,6 +47,8 @@ bound-orderly n m s known h = record {
   sources = h.sources;
   written = h.written;
   ended = h.ended;
+  laid = h.laid;
+  apart = h.apart;
 }
 
 bound-tag-orderly : (n : ℕ) (m : TagMeaning) (s : State) → Orderly s → Orderly (bind_tag n m s)
@@ -58,7 +58,12 @@ bound-tag-orderly n m s h = record {
   sources = h.sources;
   written = h.written;
   ended = h.ended;
+  laid = h.laid;
+  apart = h.apart;
 }
+
+done-orderly : (k : ℕ) (u : Bool) (ms : List Named) (s : State) → (AreLaid (env s) → AreLaid (env (with_done u k ms s))) → Orderly s → Orderly (with_done u k ms s)
+done-orderly k u ms s more h = record { names = h.names; uses = h.uses; sources = h.sources; written = h.written; ended = h.ended; laid = more h.laid; apart = h.apart }
 
 module _ (F : Type 0) (v : WholeUnit) (os : List ℕ) where
   -- ---- changes of the state
@@ -99,8 +104,8 @@ module _ (F : Type 0) (v : WholeUnit) (os : List ℕ) where
   filed-moves : (t : Ty) (s : State) → Moves F v os s (more_filed t s)
   filed-moves t s = record { later = filed-later v t s; outer = same-outer s.scopes; grows = ([], sym (append-nil (env s))); names = λ f w ps k. k; evaluated = refl; functions = refl; spelled = refl; noted = (refl, refl); orderly = λ h. h; count = omega arith; older = λ o lt. refl }
 
-  completed-moves : (k : ℕ) (u : Bool) (ms : List Named) (s : State) → Moves F v os s (with_done u k ms s)
-  completed-moves k u ms s = record {
+  completed-moves : (k : ℕ) (u : Bool) (ms : List Named) (s : State) → (AreLaid (env s) → AreLaid (env (with_done u k ms s))) → Moves F v os s (with_done u k ms s)
+  completed-moves k u ms s more = record {
     later = completed-later v (record { tag = k; union = u; members = ms }) s;
     outer = same-outer s.scopes;
     grows = (made_entry s.unit.completed (record { tag = k; union = u; members = ms }) ∷ [], layouts-push s.unit.completed (record { tag = k; union = u; members = ms }));
@@ -109,7 +114,7 @@ module _ (F : Type 0) (v : WholeUnit) (os : List ℕ) where
     functions = refl;
     spelled = refl;
     noted = (refl, refl);
-    orderly = λ h. h;
+    orderly = λ h. done-orderly k u ms s more h;
     count = omega arith;
     older = λ o lt. refl;
   }
@@ -206,13 +211,13 @@ module _ (F : Type 0) (v : WholeUnit) (os : List ℕ) where
   MayComplete u k ms s = ((heading_at v.headings k).union ≡ u) × Each (IsMember v (env s)) ms
 
   -- 6.7.2.1p8: the type is complete from the `}` on
-  pub completed-gives : (u : Bool) (n : Option ℕ) (k : ℕ) (ms : List Named) (s : State) → Gives F v os (MayComplete u k ms s) s HasProperType (completed u n k ms s)
-  completed-gives u n k ms s =
+  pub completed-gives : (u : Bool) (n : Option ℕ) (k : ℕ) (ms : List Named) (s : State) → AreComplete (env s) ms → nat_lt 0 (length ms) ≡ true → Gives F v os (MayComplete u k ms s) s HasProperType (completed u n k ms s)
+  completed-gives u n k ms s complete some =
       gives-if F v os (MayComplete u k ms s) s HasProperType (is_open s k) _
-      (λ e. gives-from F v os (MayComplete u k ms s) (MayComplete u k ms s) s (with_done u k ms s) HasProperType _ (completed-moves k u ms s)
+      (λ e. gives-if F v os (MayComplete u k ms s) s HasProperType (is_small (with_done u k ms s) (tag_type u k)) _
+      (λ f. gives-from F v os (MayComplete u k ms s) (MayComplete u k ms s) s (with_done u k ms s) HasProperType _ (completed-moves k u ms s (λ h. laid-done s.unit.completed u k ms h e complete some f))
       (λ l p g. (completed-proper v k u ms s p.0 (none-there (look (env s) k) e) p.1 g, p, none-made v s (with_done u k ms s) refl))
-      (gives-if F v os (MayComplete u k ms s) (with_done u k ms s) HasProperType (is_small (with_done u k ms s) (tag_type u k)) _
-      (λ f. filed-gives (MayComplete u k ms s) n (tag_type u k) (with_done u k ms s) (λ p. tag-proper v u k p.0))))
+      (filed-gives (MayComplete u k ms s) n (tag_type u k) (with_done u k ms s) (λ p. tag-proper v u k p.0))))
 
   -- ---- 6.7.2.2: enumerations
 

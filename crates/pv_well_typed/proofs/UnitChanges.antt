@@ -6,7 +6,8 @@ use Rattle.std.specs.Prelude.{if◌then◌else◌}
 use Rattle.pv_types.specs.Layouts.{Entry, up_to, layout_in, is_complete_in}
 use Rattle.pv_unit.specs.Parts.{sized}
 use Rattle.pv_typed.specs.Addresses.{size_in, or_zero}
-use Rattle.pv_well_typed.proofs.Moving.{Grown}
+use Rattle.pv_well_typed.proofs.PrimaryRows.{each-at}
+use Rattle.pv_well_typed.proofs.Moving.{IsApart, Orderly, Grown}
 use Rattle.pv_types.specs.Ty.{Ty, Tys, NoTys, MoreTys, VoidTy, IntTy, PointerTo, ArrayOf, StructTag, UnionTag, FunctionTy, ConstOf}
 use Rattle.pv_typed.specs.TypedUnits.{WholeUnit, TypedObject, TypedFunction, no_object, no_function, object_at, function_at, name_at}
 use Rattle.pv_check.specs.Library.{library_named}
@@ -37,6 +38,25 @@ set-other z (x ∷ xs) (suc i) (suc j) y apart = set-other z xs i j y (λ e. apa
 
 pub differ : (i j : ℕ) → (i == j) ≡ false → i ≡ j → ⊥
 differ i j e q = let both : true ≡ false = sym (eq-eqb i j q) ∙ e in absurd cc
+
+-- ---- 6.4.2.1p1: another object of the same name in the place of one
+
+pub with-object-orderly : (o : ℕ) (x : TypedObject) (s : State) → x.name ≡ (object_at s.unit o).name → Orderly s → Orderly (with_object o x s)
+with-object-orderly o x s same h =
+    let old : IsApart (object_at s.unit o) = each-at IsApart no_object s.unit.objects o (λ e. absurd cc) h.apart in
+    record {
+      names = h.names;
+      uses = h.uses;
+      sources = h.sources;
+      written = h.written;
+      ended = h.ended;
+      laid = h.laid;
+      apart = each-set IsApart s.unit.objects o x h.apart (λ e. old (sym same ∙ e));
+    }
+
+-- 6.7.9: an object with what its initializer gives it
+pub given-orderly : (o : ℕ) (x : Given) (s : State) → Orderly s → Orderly (with_given o x s)
+given-orderly o x s h = with-object-orderly o (record (object_at s.unit o) { t = x.t; braced = x.braced; inits = (object_at s.unit o).inits ++ x.stores }) s refl h
 
 -- ---- 6.2.7p3: a composite type has the same values as either of the two
 

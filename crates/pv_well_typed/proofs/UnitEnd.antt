@@ -1,5 +1,5 @@
 -- Translation units (C17 6.9): each step of typing one, and what the unit at its end has of all that was typed (6.9p5, 6.9.2).
-use Rattle.std.proofs.Common.{◌≡◌, ◌≢◌, ℕ, zero, suc, ◌<◌, ◌≤◌, ◌+◌, ◌^◌, ◌==◌, Bool, true, false, not, ◌&&◌, ◌||◌, Option, Some, None, is_some, List, [], ◌∷◌, ◌++◌, length, take, get_or, option_map, refl, sym, ap, subst, ◌∙◌, arith, append-nil, ◌⊎◌, inl, inr}
+use Rattle.std.proofs.Common.{◌≡◌, ◌≢◌, ℕ, zero, suc, ◌<◌, ◌≤◌, ◌+◌, ◌==◌, Bool, true, false, not, ◌&&◌, ◌||◌, Option, Some, None, is_some, List, [], ◌∷◌, ◌++◌, length, take, get_or, option_map, refl, sym, ap, subst, ◌∙◌, arith, append-nil, ◌⊎◌, inl, inr}
 use Rattle.std.proofs.lemmas.Bool.Decides.{nat_tests}
 use Rattle.std.proofs.lemmas.Bool.{eqb-true, eq-eqb}
 use Rattle.std.specs.Prelude.{if◌then◌else◌, nat_lt, nat_eq}
@@ -9,7 +9,7 @@ use Rattle.pv_layout.specs.Parts.{bare}
 use Rattle.pv_num.specs.declared.kinds.IntKind.TheVariants.{Int}
 use Rattle.pv_token.specs.Table.{Table}
 use Rattle.pv_tree.specs.Syntax.{DeclarationTree, Function as FunctionTree, Declaration, InitDeclarator, MemberDeclaration, Enumerator, Parameter, TypeName}
-use Rattle.pv_types.specs.Layouts.{AllFill, layout_in, is_complete_in}
+use Rattle.pv_types.specs.Layouts.{is_complete_in}
 use Rattle.pv_types.specs.Ty.{Ty, Tys, NoTys, MoreTys, VoidTy, IntTy, PointerTo, ArrayOf, StructTag, UnionTag, FunctionTy, ConstOf}
 use Rattle.pv_typed.specs.Known.{Each}
 use Rattle.pv_typed.specs.Mains.{main_text, literal_text, heap_text, named_main, first_main, main_of}
@@ -20,8 +20,8 @@ use Rattle.pv_check.specs.State.{State, Used, UsedObject, UsedFunction, PointedF
 use Rattle.pv_unit.specs.Definitions.{entity_type, is_finished, are_finished, may_end}
 use Rattle.pv_unit.specs.Entities.{Entity, UnitState, unit_name, is_entity}
 use Rattle.pv_unit.specs.Functions.{typed_declaration, counted_state, counted, typed_external}
-use Rattle.pv_unit.specs.Identifiers.{IsIdentifier, HasIdentifiers}
 use Rattle.pv_unit.specs.Units.{typed_first, typed_last, typed_to, uses, is_used, is_of_library, is_unresolved, unresolved, is_main_function, has_main_in, has_main, is_defined, statics_from, first, points, is_pointed, placed_from, finished, Typed, IsTyped, UnitComes}
+use Rattle.pv_unit.proofs.NamedUnits.{unit_names}
 use Rattle.pv_eval.specs.Objects.{heap_name}
 use Rattle.pv_guards.specs.Typed.{AreAllLike, AreFixed, IsSignature, IsIn, HasBody}
 use Rattle.pv_guards.specs.TypedStatements.{IsMakeable, IsResult, IsTypedUnit}
@@ -34,8 +34,9 @@ use Rattle.pv_well_typed.proofs.Operands.{some-same}
 use Rattle.pv_well_typed.proofs.UnaryRows.{both-true}
 use Rattle.pv_well_typed.proofs.PrimaryRows.{each-at, beyond-at}
 use Rattle.pv_well_typed.proofs.TagRows.{bits-equal}
-use Rattle.pv_well_typed.proofs.Moving.{AreTexts, IsWritten, IsKnownUse, Grown}
+use Rattle.pv_well_typed.proofs.Moving.{AreTexts, IsWritten, IsKnownUse, IsApart, identifier-apart, Grown}
 use Rattle.pv_well_typed.proofs.DeclaredTypes.{from-some}
+use Rattle.pv_well_typed.proofs.Laid.{laid-none}
 use Rattle.pv_well_typed.proofs.Walk.{U}
 use Rattle.pv_well_typed.proofs.StatementWalk.{count}
 use Rattle.pv_well_typed.proofs.FileScope.{HasEntity, IsEntityOf, IsUnit, UnitIs, Goes, then-goes, same-goes}
@@ -129,7 +130,7 @@ first-unit v t h = record {
   file = refl;
   evaluated = refl;
   unnoted = (refl, refl);
-  orderly = record { names = (tt, tt); uses = tt; sources = h; written = tt; ended = tt };
+  orderly = record { names = (tt, tt); uses = tt; sources = h; written = tt; ended = tt; laid = laid-none; apart = tt };
   names = (tt, tt);
   entities = tt;
   functions = λ f lt. absurd (omega (arith, lt));
@@ -359,10 +360,16 @@ module _ (u : UnitState) (w : WholeUnit) (i : IsUnit w None u) (resolved : unres
 abbrev pub AreApart : List (List ℕ) → Type 0
 AreApart names = (i j : ℕ) → i < length names → j < length names → get_or names i [] ≡ get_or names j [] → i ≡ j
 
-each-there : {A : Type 0} (P : A → Type 0) (z : A) (xs : List A) (i : ℕ) → Each P xs → i < length xs → P (get_or xs i z)
-each-there P z [] i h lt = absurd (omega (arith, lt))
-each-there P z (x ∷ xs) zero h lt = h.0
-each-there P z (x ∷ xs) (suc i) h lt = each-there P z xs i h.1 (omega (arith, lt))
+-- 5.1.2.2.1p1: an identifier that is `main` is there, since it has a letter
+main-within : (names : List (List ℕ)) (i : ℕ) → get_or names i [] ≡ main_text → i < length names
+main-within names i e = by (either i (length names))
+  where
+    either : (o n : ℕ) → (o < n) ⊎ (n ≤ o)
+    either o n = grind arith
+
+    by : (i < length names) ⊎ (length names ≤ i) → i < length names
+    by (inl lt) = lt
+    by (inr le) = let long : 0 ≡ 4 = ap (λ (text : List ℕ). length text) (sym (beyond-at [] names i le) ∙ e) in absurd (omega (arith, long))
 
 in-each : (P : ℕ → Type 0) (ns : List ℕ) → Each P ns → (n : ℕ) → IsIn n ns → P n
 in-each P [] h n i = absurd i
@@ -455,31 +462,36 @@ end-complete s (e ∷ es) h o i d = by (λ j q. end-complete s es (both-true (is
 end-complete s [] h o i d = absurd i
 
 module _ (t : Table) (ds : List DeclarationTree) (u : UnitState) (typed : typed_first ds (first t) ≡ Some u) (resolved : unresolved u.state u.entities ≡ None) (chars : Each DeclarationCharacters ds) (texts : AreTexts t.texts)
-    (ends : are_finished u.state u.entities ≡ true) (filled : AllFill (layouts (finished u))) (small-tags : (n : ℕ) → (layout_in (layouts (finished u)) (StructTag n)).size ≤ 2 ^ 32) (identified : HasIdentifiers t (finished u)) (different : AreApart t.names) (main : has_main u.state.unit ≡ true) where
+    (ends : are_finished u.state u.entities ≡ true) (names : (finished u).names ≡ literal_text ∷ heap_text ∷ t.names) (different : AreApart t.names) (main : has_main u.state.unit ≡ true) where
   abbrev v : WholeUnit
   v = finished u
 
-  identifier-apart : (n : ℕ) → IsIdentifier t n → n ≢ heap_name
-  identifier-apart n h e = let q = h.1.1 in omega (arith, q, e)
-
-  apart : (o : ℕ) → (object_at v o).name ≢ heap_name
-  apart o = each-at (λ (x : TypedObject). x.name ≢ heap_name) no_object v.objects o (λ e. absurd cc) (each_weaker (λ (x : TypedObject). IsIdentifier t x.name) (λ (x : TypedObject). x.name ≢ heap_name) (λ (x : TypedObject) q. identifier-apart x.name q) v.objects identified.objects)
-
-  -- the same unit, without its functions and string literals: none of them has a body, and none is large
+  -- a unit without tags, objects, functions and string literals: none of its types is large, no object of it has the name of allocations, and no
+  -- function a body. So what typing keeps, whatever the unit at its end is, is known of each unit
   abbrev w : WholeUnit
-  w = record v { functions = []; literals = [] }
+  w = record v { completed = []; objects = []; functions = []; literals = [] }
 
   w-fixed : AreFixed w
   w-fixed f r ts body e = absurd cc
 
+  w-apart : (o : ℕ) → (object_at w o).name ≢ heap_name
+  w-apart o = each-at IsApart no_object [] o (λ e. absurd cc) tt
+
   w-done : IsFinished w
-  w-done = record { filled = filled; small = small-tags; texts = λ l. omega arith }
+  w-done = record { filled = laid-none.filled; small = laid-none.small; texts = λ l. omega arith }
 
   first-run : IsUnit w None u
-  first-run = (first-goes w w-done apart w-fixed ds (first t) u chars (first-unit w t texts) typed).unit
+  first-run = (first-goes w w-done w-apart w-fixed ds (first t) u chars (first-unit w t texts) typed).unit
+
+  apart : (o : ℕ) → (object_at v o).name ≢ heap_name
+  apart o = each-at IsApart no_object v.objects o (λ e. absurd cc) first-run.orderly.apart
 
   done : IsFinished v
-  done = record { filled = filled; small = small-tags; texts = λ l. (each-at IsWritten no_literal u.state.unit.literals l (tt, omega arith) first-run.orderly.written).1 }
+  done = record {
+    filled = first-run.orderly.laid.filled;
+    small = first-run.orderly.laid.small;
+    texts = λ l. (each-at IsWritten no_literal u.state.unit.literals l (tt, omega arith) first-run.orderly.written).1;
+  }
 
   fixed : AreFixed v
   fixed f r ts body e =
@@ -548,28 +560,25 @@ module _ (t : Table) (ds : List DeclarationTree) (u : UnitState) (typed : typed_
       let z = from-placed u.state.used 0 u.state.unit.functions f (subst (IsIn f) placed-are i) in
       let e = z.1 in
       let same : z.0 ≡ f = omega (arith, e) in
-      let body : HasBody v f = subst (λ j. is_some (function_at u.state.unit j).body ≡ true) same z.2 in (
-        each-at (λ (x : TypedFunction). x.name ≢ heap_name) no_function v.functions f (λ e. absurd cc)
-            (each_weaker (λ (x : TypedFunction). IsIdentifier t x.name) (λ (x : TypedFunction). x.name ≢ heap_name) (λ (x : TypedFunction) q. identifier-apart x.name q) v.functions identified.functions),
-        body,
-      )
+      let body : HasBody v f = subst (λ j. is_some (function_at u.state.unit j).body ≡ true) same z.2 in
+      let n = run.unit.found.found f (there-by-body u.state.unit.functions f body) in
+      (identifier-apart (function_at v f).name n.0 n.1.0, body)
 
   -- 5.1.2.2.1p1, 6.4.2.1p5: one identifier is `main`, and so one function has this name
   main-text : (n i : ℕ) → n ≡ unit_name i → named_main v.names n ≡ true → get_or t.names i [] ≡ main_text
   main-text n i e q =
       let place : n ≡ suc (suc i) = omega (arith, e) in
       pointwise-same (get_or t.names i []) main_text
-      (subst (λ k. pointwise nat_eq (get_or (literal_text ∷ heap_text ∷ t.names) k []) main_text ≡ true) place (subst (λ (ns : List (List ℕ)). pointwise nat_eq (get_or ns n []) main_text ≡ true) identified.names q))
+      (subst (λ k. pointwise nat_eq (get_or (literal_text ∷ heap_text ∷ t.names) k []) main_text ≡ true) place (subst (λ (ns : List (List ℕ)). pointwise nat_eq (get_or ns n []) main_text ≡ true) names q))
 
   one-main : (f g : ℕ) → f < length v.functions → g < length v.functions → named_main v.names (function_at v f).name ≡ true → named_main v.names (function_at v g).name ≡ true → f ≡ g
   one-main f g less few p q =
-      let a = each-here f less in
-      let b = each-here g few in
-      let same : a.0 ≡ b.0 = different a.0 b.0 a.1.0 b.1.0 (main-text (function_at v f).name a.0 a.1.1 p ∙ sym (main-text (function_at v g).name b.0 b.1.1 q)) in
-      run.unit.found.apart f g less few (a.1.1 ∙ ap unit_name same ∙ sym b.1.1)
-    where
-      each-here : (f : ℕ) → f < length v.functions → IsIdentifier t (function_at v f).name
-      each-here f lt = each-there (λ (x : TypedFunction). IsIdentifier t x.name) no_function v.functions f identified.functions lt
+      let a = run.unit.found.found f less in
+      let b = run.unit.found.found g few in
+      let one = main-text (function_at v f).name a.0 a.1.0 p in
+      let other = main-text (function_at v g).name b.0 b.1.0 q in
+      let same : a.0 ≡ b.0 = different a.0 b.0 (main-within t.names a.0 one) (main-within t.names b.0 other) (one ∙ sym other) in
+      run.unit.found.apart f g less few (a.1.0 ∙ ap unit_name same ∙ sym b.1.0)
 
   main-body : (f : ℕ) → main_of v ≡ Some f → HasBody v f
   main-body f e =
@@ -595,15 +604,13 @@ module _ (t : Table) (ds : List DeclarationTree) (u : UnitState) (typed : typed_
   }
 
 -- 6.9: a unit that has a typing is well typed
-pub typed-unit : (t : Table) (ds : List DeclarationTree) (v : WholeUnit) → UnitComes t ds (Typed v) → HasIdentifiers t v → AllFill (layouts v) → ((n : ℕ) → (layout_in (layouts v) (StructTag n)).size ≤ 2 ^ 32)
-    → AreApart t.names → AreTexts t.texts → Each DeclarationCharacters ds → IsTypedUnit v
-typed-unit t ds v c identified filled tags different texts chars =
+pub typed-unit : (t : Table) (ds : List DeclarationTree) (v : WholeUnit) → UnitComes t ds (Typed v) → AreApart t.names → AreTexts t.texts → Each DeclarationCharacters ds → IsTypedUnit v
+typed-unit t ds v c different texts chars =
     let u = c.0 in
     let z = typed-whole ds (first t) u c.1.0 in
     let whole = c.1.3 in
     subst IsTypedUnit (sym whole) (
-    unit-typed t ds u z.0 c.1.1 chars texts (ends ds u z.0 z.1) (subst (λ (x : WholeUnit). AllFill (layouts x)) whole filled) (subst (λ (x : WholeUnit). (n : ℕ) → (layout_in (layouts x) (StructTag n)).size ≤ 2 ^ 32) whole tags)
-    (subst (HasIdentifiers t) whole identified) different c.1.2)
+    unit-typed t ds u z.0 c.1.1 chars texts (ends ds u z.0 z.1) (subst (λ (x : WholeUnit). x.names ≡ literal_text ∷ heap_text ∷ t.names) whole (unit_names t ds v c)) different c.1.2)
   where
     ends : (ds : List DeclarationTree) (u : UnitState) → typed_first ds (first t) ≡ Some u → (ds ≡ []) ⊎ (may_end u ≡ true) → are_finished u.state u.entities ≡ true
     ends ds u f (inl e) =

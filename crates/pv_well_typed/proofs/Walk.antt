@@ -2,6 +2,7 @@
 use Rattle.std.proofs.Common.{◌≡◌, ℕ, ◌<◌, ◌≤◌, ◌+◌, ◌==◌, ℤ, pos, Bool, true, false, not, ◌&&◌, Option, Some, None, is_some, List, [], ◌∷◌, ◌++◌, length, get_or, refl, sym, ap, subst, ◌∙◌, arith, length-append, append-nil}
 use Rattle.std.specs.Prelude.{if◌then◌else◌, nat_lt}
 use Rattle.std.proofs.lemmas.Bool.{eqb-true}
+use Rattle.pv_types.specs.Formed.{AreComplete}
 use Rattle.pv_types.specs.Layouts.{Entry, Named, is_complete_in}
 use Rattle.pv_types.specs.Ty.{Ty, IntTy}
 use Rattle.pv_num.specs.declared.kinds.IntKind.TheVariants.{Int}
@@ -18,7 +19,7 @@ use Rattle.pv_check.specs.Derivations.{size_of, Parameter as OneParameter, Steps
 use Rattle.pv_check.specs.Postfix.{subscript_of, member_from, arrow_from, increment_of}
 use Rattle.pv_check.specs.Library.{library_named}
 use Rattle.pv_check.specs.Primary.{with_use, used_function, designator_of, is_of_library, name_of, integer_of, character_of, bytes_of_text, text_of}
-use Rattle.pv_check.specs.Rows.{operand, integer_value, known_size, by_pointer, by_array, named_type, parameter_of, with_argument, cast, unevaluated, after_sizeof, function_in, callee, with_callee, Callee, ByName, ByValue, pointed_callee, called_by, call_by, plain, by_function, member_of}
+use Rattle.pv_check.specs.Rows.{operand, integer_value, known_size, by_pointer, by_array, named_type, parameter_of, with_argument, cast, unevaluated, after_sizeof, callee, with_callee, Callee, ByName, ByValue, pointed_callee, called_by, call_by, plain, by_function, member_of}
 use Rattle.pv_check.specs.Sorts.{is_function}
 use Rattle.pv_check.specs.Specifiers.{Seen, nothing_seen, with_keyword, with_type, typedef_of, specified, without_storage}
 use Rattle.pv_check.specs.State.{State, After, Scope, no_scope, Meaning, ObjectName, FunctionName, TypedefOf, ConstantOf, Used, UsedObject, UsedFunction, and_then, give, env, look, names_in, find, innermost, bind, entered, left, is_file_scope}
@@ -41,8 +42,10 @@ use Rattle.pv_well_typed.proofs.ConditionalRows.{conditional-row}
 use Rattle.pv_well_typed.proofs.CallRows.{named-row, through-row}
 use Rattle.pv_well_typed.proofs.PrimaryRows.{number-row, character-row, object-row, function-row, text-row, each-last, last-at}
 use Rattle.pv_well_typed.proofs.Changes.{more_object, before-at, look-each, name-meaning, visible-meaning, use-later, use-proper, text-later, text-proper, object-later, object-proper, bind-proper, entered-proper, members-later}
-use Rattle.pv_well_typed.proofs.Moving.{IsText, Outer, Grows, IsKnownMeaning, IsKnownUse, Orderly, HasMade, none-made, Moves, Gives, same-outer, same-moves, then-moves, then-grows, gives-none, gives-some, gives-here, gives-then, gives-value, gives-if, gives-unless, gives-from, gives-weaker, gives-operand, gives-integer, left-moves, left-proper}
+use Rattle.pv_well_typed.proofs.Moving.{IsText, IsApart, identifier-apart, Outer, Grows, IsKnownMeaning, IsKnownUse, Orderly, HasMade, none-made, Moves, Gives, same-outer, same-moves, then-moves, then-grows, gives-none, gives-some, gives-here, gives-behind, gives-then, gives-value, gives-if, gives-unless, gives-from, gives-weaker, gives-operand, gives-integer, left-moves, left-proper}
 use Rattle.pv_well_typed.proofs.DeclaredTypes.{from-some, HasProperName, keyword-proper, type-proper, plain-proper, IsPlainStep, IsPlainBehind, plain-more, behind-more, derived-proper, derived-named, adjusted-proper}
+use Rattle.pv_well_typed.proofs.Callees.{called-function}
+use Rattle.pv_well_typed.proofs.Laid.{HasCompleteMembers, complete-grown, member-complete, some-complete}
 use Rattle.pv_well_typed.proofs.TagRows.{bind-moves, HasWord, HasProperType, tag-gives, opened-gives, HasMembers, some-members-gives, MayComplete, completed-gives, opened-then, closed-gives, enumerated-gives}
 use Rattle.pv_well_typed.proofs.Literals.{written-orderly, text-bytes}
 
@@ -79,37 +82,6 @@ IsAnything a = Unit {0}
 
 seen-behind : (E : Type 0) (v : WholeUnit) (os : List ℕ) (s t : State) → Moves (Unit {0}) v os s t → Sees E v os s → Sees E v os t
 seen-behind E v os s t m h i = (m.evaluated ∙ (h i).0, m.names tt v os (h i).1)
-
--- 6.5.2.2p1: a function that is called by its name
-called-function : (s : State) → ((n f : ℕ) → look s.scopes n ≡ Some (FunctionName f) → f < length s.unit.functions) → (e : ExpressionTree) (f : ℕ) → callee s.scopes e ≡ Some f → f < length s.unit.functions
-called-function s g (Name line n) f e = by (look s.scopes n) refl e
-  where
-    by : (o : Option Meaning) → look s.scopes n ≡ o → function_in o ≡ Some f → f < length s.unit.functions
-    by None p e = absurd cc
-    by (Some (FunctionName k)) p e = subst (λ i. i < length s.unit.functions) (some-same k f e) (g n k p)
-    by (Some (ObjectName o)) p e = absurd cc
-    by (Some (TypedefOf t)) p e = absurd cc
-    by (Some (ConstantOf k)) p e = absurd cc
-called-function s g (Paren line a) f e = called-function s g a f e
-called-function s g (Number line value decimal unsigned longs) f e = absurd cc
-called-function s g (Character line value) f e = absurd cc
-called-function s g (Text line first more) f e = absurd cc
-called-function s g (Index line a b) f e = absurd cc
-called-function s g (Call line a args) f e = absurd cc
-called-function s g (Member line a n) f e = absurd cc
-called-function s g (Arrow line a n) f e = absurd cc
-called-function s g (PostIncrement line a) f e = absurd cc
-called-function s g (PostDecrement line a) f e = absurd cc
-called-function s g (PreIncrement line a) f e = absurd cc
-called-function s g (PreDecrement line a) f e = absurd cc
-called-function s g (Unary line op a) f e = absurd cc
-called-function s g (SizeofExpr line a) f e = absurd cc
-called-function s g (SizeofType line t) f e = absurd cc
-called-function s g (Cast line t a) f e = absurd cc
-called-function s g (Binary line op a b) f e = absurd cc
-called-function s g (Conditional line a b c) f e = absurd cc
-called-function s g (Assign line op a b) f e = absurd cc
-called-function s g (Comma line a b) f e = absurd cc
 
 -- 6.7.8p3: the type of a typedef name
 typedef-type : (o : Option Meaning) (t : Ty) → typedef_of o ≡ Some t → o ≡ Some (TypedefOf t)
@@ -172,7 +144,11 @@ inner-file s h = by (is_file_scope (entered s)) refl
 
 -- 6.9p5: an expression names something
 used-orderly : (s : State) (x : Used) → IsKnownUse s.unit.names s.unit.functions x → Orderly s → Orderly (with_use s x)
-used-orderly s x k h = record { names = h.names; uses = each_append (IsKnownUse s.unit.names s.unit.functions) s.used (x ∷ []) h.uses (k, tt); sources = h.sources; written = h.written; ended = h.ended }
+used-orderly s x k h = record { names = h.names; uses = each_append (IsKnownUse s.unit.names s.unit.functions) s.used (x ∷ []) h.uses (k, tt); sources = h.sources; written = h.written; ended = h.ended; laid = h.laid; apart = h.apart }
+
+-- 6.2.4p5: one object more
+object-orderly : (x : TypedObject) (s : State) → IsApart x → Orderly s → Orderly (more_object x s)
+object-orderly x s p h = record { names = h.names; uses = h.uses; sources = h.sources; written = h.written; ended = h.ended; laid = h.laid; apart = each_append IsApart s.unit.objects (x ∷ []) h.apart (p, tt) }
 
 known-name : (s : State) → Orderly s → (n f : ℕ) → look s.scopes n ≡ Some (FunctionName f) → f < length s.unit.functions
 known-name s h n f e = look-each names_in (IsKnownMeaning (length s.unit.functions)) n s.scopes h.names (FunctionName f) e
@@ -196,8 +172,8 @@ module _ (v : WholeUnit) (os : List ℕ) (done : IsFinished v) where
   use-moves : (F : Type 0) (s : State) (x : Used) → (Orderly s → IsKnownUse s.unit.names s.unit.functions x) → Moves F v os s (with_use s x)
   use-moves F s x known = record { later = use-later v s x; outer = same-outer s.scopes; grows = ([], sym (append-nil (env s))); names = λ f w ps h. h; evaluated = refl; functions = refl; spelled = refl; noted = (refl, refl); orderly = λ h. used-orderly s x (known h) h; count = omega arith; older = λ o lt. refl }
 
-  pub object-moves : (F : Type 0) (x : TypedObject) (s : State) → Moves F v os s (more_object x s)
-  object-moves F x s = record {
+  pub object-moves : (F : Type 0) (x : TypedObject) (s : State) → IsApart x → Moves F v os s (more_object x s)
+  object-moves F x s p = record {
     later = object-later v x s;
     outer = same-outer s.scopes;
     grows = ([], sym (append-nil (env s)));
@@ -206,7 +182,7 @@ module _ (v : WholeUnit) (os : List ℕ) (done : IsFinished v) where
     functions = refl;
     spelled = refl;
     noted = (refl, refl);
-    orderly = λ h. h;
+    orderly = λ h. object-orderly x s p h;
     count = let l = length-append s.unit.objects (x ∷ []) in omega (arith, l);
     older = λ o lt. before-at no_object s.unit.objects (x ∷ []) o lt;
   }
@@ -308,10 +284,10 @@ module _ (v : WholeUnit) (os : List ℕ) (done : IsFinished v) where
   -- ---- 6.5.3.4: sizeof, whose operand is not evaluated
 
   before-orderly : (s : State) → Orderly s → Orderly (unevaluated s)
-  before-orderly s h = record { names = h.names; uses = h.uses; sources = h.sources; written = h.written; ended = h.ended }
+  before-orderly s h = record { names = h.names; uses = h.uses; sources = h.sources; written = h.written; ended = h.ended; laid = h.laid; apart = h.apart }
 
   after-orderly : (s t : State) → Orderly t → Orderly (after_sizeof s t)
-  after-orderly s t h = record { names = h.names; uses = h.uses; sources = h.sources; written = h.written; ended = h.ended }
+  after-orderly s t h = record { names = h.names; uses = h.uses; sources = h.sources; written = h.written; ended = h.ended; laid = h.laid; apart = h.apart }
 
   after-moves : (s t : State) → Moves U v os (unevaluated s) t → Moves U v os s (after_sizeof s t)
   after-moves s t m = record {
@@ -380,7 +356,7 @@ module _ (v : WholeUnit) (os : List ℕ) (done : IsFinished v) where
           gives-some ⊥ v os (Each (λ (p : OneParameter). IsProper v p.t) ps × IsProper v t) s (ParametersProper v)
           (record { value = ps ++ (record { t = t; name = Some n; object = Some (length s.unit.objects) } ∷ []); state = more_object o z })
           (then-moves ⊥ v os s z (more_object o z) (bind-moves ⊥ v os n (ObjectName (length s.unit.objects)) s (λ f. absurd f) tt)
-          (object-moves ⊥ o z))
+          (object-moves ⊥ o z (identifier-apart (n + 2) n refl)))
           (λ l p g. (
             object-proper v o z p.1 (bind-proper v n (ObjectName (length s.unit.objects)) s tt g),
             each_append (λ (q : OneParameter). IsProper v q.t) ps (record { t = t; name = Some n; object = Some (length s.unit.objects) } ∷ []) p.0 (p.1, tt),
@@ -608,14 +584,15 @@ module _ (v : WholeUnit) (os : List ℕ) (done : IsFinished v) where
         gives-then U v os (HasProperName v seen.named) s (HasWord U v os (is_union_word w)) IsSeen (opened (is_union_word w) n s)
         (λ o. and_then (and_then (members ms o.state) some_members) (λ m. and_then (completed (is_union_word w) n o.value m.value m.state) (λ a. give (with_type seen a.value) a.state)))
         (opened-gives U v os (HasProperName v seen.named) (is_union_word w) n s)
-        (λ o i. gives-then U v os ((HasProperName v seen.named) × HasWord U v os (is_union_word w) o) o.state (HasMembers U v os) IsSeen (and_then (members ms o.state) some_members)
+        (λ o i. gives-behind U v os ((HasProperName v seen.named) × HasWord U v os (is_union_word w) o) o.state (HasMembers U v os) IsSeen (and_then (members ms o.state) some_members)
         (λ m. and_then (completed (is_union_word w) n o.value m.value m.state) (λ a. give (with_type seen a.value) a.state))
         (any-premise U ((HasProperName v seen.named) × HasWord U v os (is_union_word w) o) o.state (HasMembers U v os) (and_then (members ms o.state) some_members)
         (gives-then U v os U o.state (HasMembers U v os) (HasMembers U v os) (members ms o.state) some_members (members-give ms o.state)
         (λ m j. gives-weaker U U (HasMembers U v os m) (U × HasMembers U v os m) v os m.state (HasMembers U v os) (HasMembers U v os) (some_members m) (λ f. f) (λ p. p.1) (λ a q. q) (some-members-gives U v os m))))
-        (λ m j. gives-then U v os (((HasProperName v seen.named) × HasWord U v os (is_union_word w) o) × HasMembers U v os m) m.state (HasProperType U v os) IsSeen (completed (is_union_word w) n o.value m.value m.state) (λ a. give (with_type seen a.value) a.state)
+        (λ m e j. gives-then U v os (((HasProperName v seen.named) × HasWord U v os (is_union_word w) o) × HasMembers U v os m) m.state (HasProperType U v os) IsSeen (completed (is_union_word w) n o.value m.value m.state) (λ a. give (with_type seen a.value) a.state)
         (gives-weaker U U (MayComplete U v os (is_union_word w) o.value m.value m.state) (((HasProperName v seen.named) × HasWord U v os (is_union_word w) o) × HasMembers U v os m) v os m.state (HasProperType U v os) (HasProperType U v os) (completed (is_union_word w) n o.value m.value m.state)
-        (λ f. f) (λ p. (p.0.1, p.1)) (λ a q. q) (completed-gives U v os (is_union_word w) n o.value m.value m.state))
+        (λ f. f) (λ p. (p.0.1, p.1)) (λ a q. q)
+        (let c = some-complete (members ms o.state) (λ a q. members-complete ms o.state a q) m e in completed-gives U v os (is_union_word w) n o.value m.value m.state c.0 c.1))
         (λ a k. gives-here U v os ((((HasProperName v seen.named) × HasWord U v os (is_union_word w) o) × HasMembers U v os m) × IsProper v a.value) a.state IsSeen (with_type seen a.value) (λ x e l p g. type-proper v seen a.value x e p.1))))
     specifier-gives (Enumeration line n es comma) seen s =
         opened-then U v os (HasProperName v seen.named) n s IsSeen (λ o. and_then (enumerators es o) (λ e. give (with_type seen (IntTy Int)) (closed_enumeration n e.state)))
@@ -661,6 +638,37 @@ module _ (v : WholeUnit) (os : List ℕ) (done : IsFinished v) where
     declarator-gives t (OfSpecifier x) m = gives-none U v os (IsProper v t × HasMembers U v os m) m.state (HasMembers U v os)
     declarator-gives t (OfInitializer x) m = gives-none U v os (IsProper v t × HasMembers U v os m) m.state (HasMembers U v os)
     declarator-gives t (OfStatement x) m = gives-none U v os (IsProper v t × HasMembers U v os m) m.state (HasMembers U v os)
+
+    -- 6.7.2.1p3: members are complete, whatever the unit at its end is
+    members-complete : (ts : Trees) (s : State) (m : After (List Named)) → members ts s ≡ Some m → HasCompleteMembers m
+    members-complete NoTrees s m e = subst HasCompleteMembers (some-same (record { value = []; state = s }) m e) tt
+    members-complete (Then before x) s m e =
+        let a = from-some (members before s) (member_in x) m e in
+        member-in-complete x a.0 m (members-complete before s a.0 a.1) a.2
+
+    member-in-complete : (x : Tree) (m r : After (List Named)) → HasCompleteMembers m → member_in x m ≡ Some r → HasCompleteMembers r
+    member-in-complete (OfDeclaration (MemberDeclaration line specs ds)) m r h e =
+        let a = from-some (specifiers specs m.state) (λ a. and_then (plain a) (λ b. member_declarators ds b.value m.value b.state)) r e in
+        let b = from-some (plain a.0) (λ b. member_declarators ds b.value m.value b.state) r a.2 in
+        let first = (specifiers-give specs m.state).held a.0 a.1 in
+        let second = (gives-here U v os U a.0.state IsAnything (and_then (specified a.0.value) without_storage) (λ t q l p g. tt)).held b.0 b.1 in
+        let more = then-grows (env m.state) (env a.0.state) (env b.0.state) first.0.grows second.0.grows in
+        declarators-complete ds b.0.value m.value b.0.state r (complete-grown (env m.state) (env b.0.state) m.value more h) b.2
+    member-in-complete (OfDeclaration _) m r h e = absurd cc
+    member-in-complete _ m r h e = absurd cc
+
+    declarators-complete : (ts : Trees) (t : Ty) (ms : List Named) (s : State) (r : After (List Named)) → AreComplete (env s) ms → member_declarators ts t ms s ≡ Some r → HasCompleteMembers r
+    declarators-complete NoTrees t ms s r h e = subst HasCompleteMembers (some-same (record { value = ms; state = s }) r e) h
+    declarators-complete (Then before x) t ms s r h e =
+        let a = from-some (member_declarators before t ms s) (member_declarator t x) r e in
+        declarator-complete t x a.0 r (declarators-complete before t ms s a.0 h a.1) a.2
+
+    declarator-complete : (t : Ty) (x : Tree) (m r : After (List Named)) → HasCompleteMembers m → member_declarator t x m ≡ Some r → HasCompleteMembers r
+    declarator-complete t (OfDeclarator d) m r h e =
+        let a = from-some (steps d m.state) (member_of (declared_name d) t m.value) r e in
+        let first = (steps-give d m.state).held a.0 a.1 in
+        member-complete (declared_name d) t m.value a.0 r (complete-grown (env m.state) (env a.0.state) m.value first.0.grows h) a.2
+    declarator-complete t _ m r h e = absurd cc
 
     pub enumerators-give : (ts : Trees) (s : State) → Gives U v os U s IsAnything (enumerators ts s)
     enumerators-give NoTrees s = gives-here U v os U s IsAnything (Some (pos 0)) (λ x e l p g. tt)

@@ -2,20 +2,15 @@
 ghost use Rattle.std.specs.Prelude.{◌≡◌, ◌<◌, ℕ, Bool, List};
 ghost use Rattle.std.specs.declared.option.Option.{Option};
 ghost use Rattle.pv_typed.specs.Known.{Each};
-ghost use Rattle.pv_typed.specs.Tables.{Stored, whole};
 ghost use Rattle.pv_world.specs.Worlds.{Worth};
 ghost use Rattle.pv_eval.specs.States.{Res};
 ghost use Rattle.pv_exec.specs.Run.{setting_of};
 ghost use Rattle.pv_guards.specs.PlainRun as plain;
 ghost use Rattle.pv_serve.specs.Judged.{IsToRun, IsRunBy};
-ghost use Rattle.pv_serve.specs.Fitting.{IsFit};
-ghost use Rattle.pv_serve.specs.Comes.{Comes};
-ghost use Rattle.pv_serve.specs.Readings.{Program};
 
-/// A law: what is run is run by the rules alone (C17 5.1.2). Of a source of bytes for which there are tables such as `check` answers, each run of which a
-/// verdict is the end, with any script, bound, `zap` and sides, meets no guard: it is the run in which an operation does what its rule says, and has no
-/// meaning where C has no rule.
+/// A law: what is run is run by the rules alone (C17 5.1.2). Each run of which a verdict is the end, of any source of bytes that is a program, with any
+/// script, bound, `zap` and sides, meets no guard: it is the run in which an operation does what its rule says, and has no meaning where C has no rule.
 pub fn what_is_run_meets_no_guard()
-    ensures same { (source script : List ℕ) (u : Stored) → Each (λ b. b < 256) source → Comes source (Program (whole u)) → IsFit u → (job : IsToRun source script) (bound : ℕ) (zap : Bool) (sides : Option (List Bool)) →
+    ensures same { (source script : List ℕ) → Each (λ b. b < 256) source → (job : IsToRun source script) (bound : ℕ) (zap : Bool) (sides : Option (List Bool)) →
         (run : Res Worth) (runs : IsRunBy job.unit job.lines bound zap sides run) → run ≡ plain.run_of (setting_of runs.tables bound sides zap) job.lines }
 {}

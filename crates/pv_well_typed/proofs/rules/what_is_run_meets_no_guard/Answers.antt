@@ -2,4 +2,4 @@ use Rattle.pv_well_typed.proofs.CheckedSources.{run-ruled}
 use Rattle.pv_well_typed.proofs.rules.what_is_run_meets_no_guard.Goals as goal
 
 pub returns : goal.returns
-returns c = record { same = λ source script u bytes program fit job bound zap sides run runs. run-ruled source script u bytes program fit job bound zap sides run runs }
+returns c = record { same = λ source script bytes job bound zap sides run runs. run-ruled source script bytes job bound zap sides run runs }
