@@ -162,9 +162,10 @@ def imports(text: str) -> dict[str, Name]:
 
 
 def parts_of_operator(name: str) -> list[str]:
-    """Returns the words by which an operator is used; steps below one another (`x ← a`) use `>>=`."""
+    """Returns the words by which an operator is used; steps below one another (`do`) use `>>=` where they have a name (`x ← a`), else `>>`."""
     parts = [it for it in name.split("◌") if it] if "◌" in name else []
-    return [*parts, "←"] if ">>=" in parts else parts
+    more = {">>=": "←", ">>": "do"}
+    return parts + [more[it] for it in parts if it in more]
 
 
 def blocks(text: str) -> Iterator[tuple[list[str], int, str]]:

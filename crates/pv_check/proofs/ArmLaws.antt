@@ -7,11 +7,12 @@ use Rattle.pv_typed.specs.TypedTree.{TypedTree}
 use Rattle.pv_typed.specs.TypedUnits.{WholeUnit, layouts}
 use Rattle.pv_typed.specs.Tables.{Stored}
 use Rattle.pv_typed.specs.NodeTrees.{expression_at, IsExpression}
-use Rattle.pv_check.specs.State.{State, After, give, and_then}
+use Rattle.pv_check.specs.State.{State, After, give}
+use Rattle.pv_typed.specs.Constants.{and_then}
 use Rattle.pv_check.specs.Postfix.{arrow_from}
-use Rattle.pv_check.specs.Unary.{of_value}
 use Rattle.pv_check.specs.Values.{value_of}
-use Rattle.pv_check.specs.Rows.{operand, arrow}
+use Rattle.pv_check.specs.Rows.{operand}
+use Rattle.pv_check.specs.RowParts.{arrow}
 use Rattle.pv_check.specs.Raw.{Raw}
 use Rattle.pv_check.specs.Kept.{Kept, AreSmall, HasParameters, expression_if, env_of}
 use Rattle.pv_check.specs.Open.{state_of, IsOpen, Goes}
@@ -53,7 +54,7 @@ pub goes_then_kept : (a b c : Stored) → Goes a b → Kept b c → Goes a c
 goes_then_kept a b c h k = goes_trans a b c h (goes_kept b c k)
 
 -- `->` of the value of its operand
-pub arrow_after : (v : Option TypedTree) (s : State) (line name : ℕ) → give (of_value v (arrow_from s.unit.completed line name)) s ≡ and_then (give v s) (arrow line name)
+pub arrow_after : (v : Option TypedTree) (s : State) (line name : ℕ) → give (and_then v (arrow_from s.unit.completed line name)) s ≡ and_then (give v s) (arrow line name)
 arrow_after None s line name = refl
 arrow_after (Some a) s line name = refl
 

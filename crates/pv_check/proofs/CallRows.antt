@@ -9,7 +9,8 @@ use Rattle.pv_typed.specs.TypedTree.{TypedTree}
 use Rattle.pv_check.specs.Callees.{AreCalled, callee_in, CalledIf, CalleeKnown}
 use Rattle.pv_check.specs.Open.{state_of, IsOpen}
 use Rattle.pv_check.specs.Raw.{Raw}
-use Rattle.pv_check.specs.Rows.{Callee, ByName, ByValue, callee, called_by, pointed_callee}
+use Rattle.pv_check.specs.Rows.{Callee, ByName, ByValue, callee, called_by}
+use Rattle.pv_check.specs.RowParts.{pointed_callee}
 use Rattle.pv_check.specs.State.{State, After}
 use Rattle.pv_check.proofs.PassingRows.{expression_stays}
 

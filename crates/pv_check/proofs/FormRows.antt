@@ -14,8 +14,9 @@ use Rattle.pv_check.specs.Declarators.{steps_shown, StepsKnown}
 use Rattle.pv_check.specs.Derivations.{ByArray, Steps as WholeSteps, with_step, may_be_variadic}
 use Rattle.pv_check.specs.Forms.{form_steps, pointed}
 use Rattle.pv_check.specs.Open.{Goes}
-use Rattle.pv_check.specs.Rows.{by_array, by_function}
-use Rattle.pv_check.specs.State.{State, After, and_then, entered}
+use Rattle.pv_check.specs.RowParts.{by_array, by_function}
+use Rattle.pv_check.specs.State.{State, After, entered}
+use Rattle.pv_typed.specs.Constants.{and_then}
 use Rattle.pv_check.specs.Typing.{steps, optional_steps, array_size, parameters}
 use Rattle.pv_check.proofs.DeclaratorRows.{given, shown_kept, shown_more}
 use Rattle.pv_check.proofs.ListRows.{declarator_is}

@@ -8,7 +8,8 @@ use Rattle.pv_types.specs.Adjusted.{is_adjusted}
 use Rattle.pv_types.specs.Formed.{are_adjusted, AllBelow}
 use Rattle.pv_types.specs.Known.{Known, tree, trees, tys_in, env}
 use Rattle.pv_types.specs.Layouts.{Entry, layout_in, is_complete_in}
-use Rattle.pv_check.specs.Composite.{composite, composites, known_size}
+use Rattle.pv_check.specs.Composite.{composite, composites}
+use Rattle.std.specs.Option.{option_or}
 use Rattle.pv_check.specs.Growing.{HasMore, AreSized, is_sized, Grows}
 use Rattle.pv_types.specs.Matching.{Matches, MatchAll}
 use Rattle.pv_types.proofs.Matched.{matching_size, matching_first, matching_rest}
@@ -16,7 +17,7 @@ use Rattle.pv_check.proofs.Growth.{left_true, right_true, both_true, then_grows}
 
 -- ---- a type and itself
 
-same_known : (n : Option ℕ) → known_size n n ≡ n
+same_known : (n : Option ℕ) → option_or n n ≡ n
 same_known (Some n) = refl
 same_known None = refl
 
@@ -25,7 +26,7 @@ mutual
   composite_itself VoidTy = refl
   composite_itself (IntTy k) = refl
   composite_itself (PointerTo t) = ap PointerTo (composite_itself t)
-  composite_itself (ArrayOf t n) = ap (λ (x : Ty). ArrayOf x (known_size n n)) (composite_itself t) ∙ ap (ArrayOf t) (same_known n)
+  composite_itself (ArrayOf t n) = ap (λ (x : Ty). ArrayOf x (option_or n n)) (composite_itself t) ∙ ap (ArrayOf t) (same_known n)
   composite_itself (StructTag n) = refl
   composite_itself (UnionTag n) = refl
   composite_itself (FunctionTy t ts v) = ap (λ (x : Ty). FunctionTy x (composites ts ts) v) (composite_itself t) ∙ ap (λ (xs : Tys). FunctionTy t xs v) (composites_itself ts)
@@ -74,14 +75,14 @@ size_composite env t u h = refl
 
 joined_size : (env : List Entry) (t u : Ty) (m n : Option ℕ) → Matches t u → is_complete_in env t ≡ true → is_complete_in env u ≡ true
     → nat_le (layout_in env (ArrayOf t m)).size (2 ^ 32) ≡ true → nat_le (layout_in env (ArrayOf u n)).size (2 ^ 32) ≡ true
-    → nat_le (layout_in env (ArrayOf (composite t u) (known_size m n))).size (2 ^ 32) ≡ true
+    → nat_le (layout_in env (ArrayOf (composite t u) (option_or m n))).size (2 ^ 32) ≡ true
 joined_size env t u (Some m) n h a b p q = ap (λ s. nat_le (m * s) (2 ^ 32)) (size_composite env t u a) ∙ p
 joined_size env t u None (Some n) h a b p q =
     ap (λ s. nat_le (n * s) (2 ^ 32)) (size_composite env t u a ∙ matching_size env t u h a b) ∙ q
 joined_size env t u None None h a b p q = p
 
 pub sized_joined : (k : Known) (a b r : ℕ) (t u : Ty) (m n : Option ℕ) → AreSized k → a < length k.terms → b < length k.terms → r < length k.terms → Matches t u
-    → tree k a ≡ ArrayOf t m → tree k b ≡ ArrayOf u n → tree k r ≡ composite t u → IsTrue (is_sized (env k) (ArrayOf (tree k r) (known_size m n)))
+    → tree k a ≡ ArrayOf t m → tree k b ≡ ArrayOf u n → tree k r ≡ composite t u → IsTrue (is_sized (env k) (ArrayOf (tree k r) (option_or m n)))
 sized_joined k a b r t u m n all la lb lr h ia ib made =
     let left : IsTrue (is_sized (env k) (ArrayOf t m)) = subst (λ (x : Ty). IsTrue (is_sized (env k) x)) ia (all.types a la) in
     let right : IsTrue (is_sized (env k) (ArrayOf u n)) = subst (λ (x : Ty). IsTrue (is_sized (env k) x)) ib (all.types b lb) in
@@ -91,7 +92,7 @@ sized_joined k a b r t u m n all la lb lr h ia ib made =
     let small_left : nat_le (layout_in (env k) (ArrayOf t m)).size (2 ^ 32) ≡ true = right_true (is_complete_in (env k) t && is_sized (env k) t) _ left in
     let small_right : nat_le (layout_in (env k) (ArrayOf u n)).size (2 ^ 32) ≡ true = right_true (is_complete_in (env k) u && is_sized (env k) u) _ right in
     both_true (both_true (ap (is_complete_in (env k)) made ∙ complete_composite (env k) t u whole_left) element)
-    (ap (λ (x : Ty). nat_le (layout_in (env k) (ArrayOf x (known_size m n))).size (2 ^ 32)) made ∙ joined_size (env k) t u m n h whole_left whole_right small_left small_right)
+    (ap (λ (x : Ty). nat_le (layout_in (env k) (ArrayOf x (option_or m n))).size (2 ^ 32)) made ∙ joined_size (env k) t u m n h whole_left whole_right small_left small_right)
 
 -- ---- lists of parameters' types
 

@@ -12,12 +12,16 @@ use Rattle.pv_typed.specs.TypedTree.{TypedTree}
 use Rattle.pv_typed.specs.Tables.{Stored}
 use Rattle.pv_check.specs.Open.{state_of}
 use Rattle.pv_check.specs.Raw.{Raw, scope_shown, scopes_shown}
-use Rattle.pv_check.specs.State.{State, After, env, Meaning, ObjectName, FunctionName, TypedefOf, ConstantOf, TagMeaning, CompositeTag, EnumerationTag, OpenEnumeration, and_then, give, look, look_tag, find, innermost, entered, bind, bind_tag}
+use Rattle.pv_check.specs.State.{State, After, env, Meaning, ObjectName, FunctionName, TypedefOf, ConstantOf, TagMeaning, CompositeTag, EnumerationTag, OpenEnumeration, give, look, look_tag, find, innermost, entered, bind, bind_tag}
+use Rattle.pv_typed.specs.Constants.{and_then}
 use Rattle.pv_check.specs.Specifiers.{Seen}
-use Rattle.pv_check.specs.Tags.{with_member, tag_named, composite_named, enumeration_named, opened, opened_named, is_open, completed, with_done, filed_with, opened_enumeration, closed_enumeration, enumerated, some_members, is_union_word, new_tag}
+use Rattle.pv_check.specs.Tags.{with_member, tag_named, composite_named, enumeration_named, opened, opened_named, is_open, completed, with_done, filed_with, opened_enumeration, closed_enumeration, enumerated, is_union_word, new_tag}
+use Rattle.pv_check.specs.TagParts.{some_members}
 use Rattle.pv_check.specs.Derivations.{Parameter as OneParameter, Steps, declared_name, optional_name, may_be_variadic, Signature, proper, with_function, with_parameter, with_object, derived, adjusted}
-use Rattle.pv_check.specs.Primary.{name_of, designator_of, is_of_library}
-use Rattle.pv_check.specs.Rows.{ByValue, operand, integer_value, plain, by_function, member_of, callee, called_by}
+use Rattle.pv_check.specs.Primary.{name_of}
+use Rattle.pv_check.specs.PrimaryParts.{designator_of, is_of_library}
+use Rattle.pv_check.specs.Rows.{ByValue, operand, integer_value, plain, member_of, callee, called_by}
+use Rattle.pv_check.specs.RowParts.{by_function}
 use Rattle.pv_check.specs.Typing.{types, arguments, type_named, specifiers, specifier_in, specifier, members, member_in, member_declarators, member_declarator, enumerators, enumerator_in, enumerator_value, steps, optional_steps, array_size, parameters, parameter_in}
 
 -- where there is an answer, there are n scopes behind it

@@ -9,8 +9,10 @@ use Rattle.pv_tree.specs.Tables.{Forest, list_at, tree_at, trees_of, trees_at, e
 use Rattle.pv_typed.specs.Tables.{Stored}
 use Rattle.pv_typed.specs.TypedTree.{TypedTree}
 use Rattle.pv_check.specs.Open.{Goes}
-use Rattle.pv_check.specs.Rows.{operand, with_argument, integer_value, known_size}
-use Rattle.pv_check.specs.State.{State, After, and_then}
+use Rattle.pv_check.specs.Rows.{operand, integer_value}
+use Rattle.pv_check.specs.RowParts.{with_argument, known_size}
+use Rattle.pv_check.specs.State.{State, After}
+use Rattle.pv_typed.specs.Constants.{and_then}
 use Rattle.pv_check.specs.Typing.{types, arguments, array_size, enumerator_value}
 use Rattle.pv_check.proofs.Opening.{then_goes}
 

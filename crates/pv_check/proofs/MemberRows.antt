@@ -17,8 +17,10 @@ use Rattle.pv_check.specs.declared.composites.MemberList.{MemberList}
 use Rattle.pv_check.specs.MembersRead.{members_shown, members_if, after_members, AreMembers}
 use Rattle.pv_check.specs.Open.{state_of, IsOpen, Goes}
 use Rattle.pv_check.specs.Raw.{Raw}
-use Rattle.pv_check.specs.State.{State, After, and_then, give}
-use Rattle.pv_check.specs.Tags.{is_new_member, with_member, some_members}
+use Rattle.pv_check.specs.State.{State, After, give}
+use Rattle.pv_typed.specs.Constants.{and_then}
+use Rattle.pv_check.specs.Tags.{with_member}
+use Rattle.pv_check.specs.TagParts.{is_new_member, some_members}
 use Rattle.pv_check.proofs.Completing.{members_below, members_stay, complete_stays}
 use Rattle.pv_check.proofs.Growth.{left_true, right_true}
 use Rattle.pv_check.proofs.Opening.{state_stays}

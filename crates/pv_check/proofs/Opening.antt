@@ -13,7 +13,9 @@ use Rattle.pv_check.specs.declared.scopes.Entry.TheVariants as entry
 use Rattle.pv_check.specs.declared.scopes.TagEntry.{TagEntry}
 use Rattle.pv_check.specs.declared.scopes.TagEntry.TheVariants as tag
 use Rattle.pv_check.specs.Growing.{Lengthens, Grows}
-use Rattle.pv_check.specs.State.{TypedefOf, CompositeTag, find, or_else, bound, look_by, innermost, with_innermost, bind_tag}
+use Rattle.pv_check.specs.State.{TypedefOf, CompositeTag, find, look_by, innermost, with_innermost, bind_tag}
+use Rattle.std.specs.Option.{option_or}
+use Rattle.pv_check.specs.StateParts.{bound}
 use Rattle.pv_check.specs.Raw.{Raw, RawScope, no_raw, raw_innermost, raw_names, raw_tags, with_tag, with_name, name_shown, tag_shown, scope_shown, scopes_shown, meaning_in, tag_meaning, used_of}
 use Rattle.pv_check.proofs.Keeping.{grown_typed, whole_typed}
 use Rattle.pv_check.proofs.Showing.{tag_bound_shown}
@@ -158,7 +160,7 @@ find_known {V} P (e ∷ es) n h = at (nat_eq n e.0) h.0 (find_known P es n h.1)
     at true p k = p
     at false p k = k
 
-or_known : {V : Type 0} (P : V → Type 0) (a b : Option V) → IfSome a P → IfSome b P → IfSome (or_else a b) P
+or_known : {V : Type 0} (P : V → Type 0) (a b : Option V) → IfSome a P → IfSome b P → IfSome (option_or a b) P
 or_known P None b h k = k
 or_known P (Some x) b h k = h
 

@@ -14,7 +14,8 @@ use Rattle.pv_typed.specs.Children.{is_expression}
 use Rattle.pv_typed.specs.declared.rows.Row.{Row}
 use Rattle.pv_typed.specs.Formed.{Grown}
 use Rattle.pv_typed.proofs.Each.{each_weaker, map_same}
-use Rattle.pv_check.specs.Calls.{more, passed}
+use Rattle.pv_check.specs.Calls.{passed}
+use Rattle.pv_check.specs.CallParts.{more}
 use Rattle.pv_check.specs.Passing.{one_passed}
 
 -- those before a place, and what the rest gives

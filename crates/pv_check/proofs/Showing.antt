@@ -5,7 +5,9 @@ use Rattle.std.specs.Prelude.{if◌then◌else◌, slice_index_or}
 use Rattle.pv_types.specs.Known.{Known}
 use Rattle.pv_check.specs.declared.scopes.Entry.{Entry}
 use Rattle.pv_check.specs.declared.scopes.TagEntry.{TagEntry}
-use Rattle.pv_check.specs.State.{Scope, find, or_else, look_by, bound, look, look_tag, innermost, no_scope, with_innermost}
+use Rattle.pv_check.specs.State.{Scope, find, look_by, look, look_tag, innermost, no_scope, with_innermost}
+use Rattle.std.specs.Option.{option_or}
+use Rattle.pv_check.specs.StateParts.{bound}
 use Rattle.pv_check.specs.Raw.{Raw, RawScope, no_raw, raw_innermost, raw_names, raw_tags, with_name, with_tag, meaning_in, tag_meaning, name_shown, tag_shown, scope_shown, scopes_shown, meaning_if, tag_meaning_if}
 
 -- ---- one map
@@ -40,26 +42,26 @@ bound-tags m n x (e ∷ es) =
 
 -- ---- all scopes
 
-or_else-names : (m : Known) (a b : Option Entry) → or_else (meaning_if m a) (meaning_if m b) ≡ meaning_if m (or_else a b)
+or_else-names : (m : Known) (a b : Option Entry) → option_or (meaning_if m a) (meaning_if m b) ≡ meaning_if m (option_or a b)
 or_else-names m None b = refl
 or_else-names m (Some x) b = refl
 
-or_else-tags : (m : Known) (a b : Option TagEntry) → or_else (tag_meaning_if m a) (tag_meaning_if m b) ≡ tag_meaning_if m (or_else a b)
+or_else-tags : (m : Known) (a b : Option TagEntry) → option_or (tag_meaning_if m a) (tag_meaning_if m b) ≡ tag_meaning_if m (option_or a b)
 or_else-tags m None b = refl
 or_else-tags m (Some x) b = refl
 
 pub look_shown : (m : Known) (ss : List RawScope) (n : ℕ) → look (scopes_shown m ss) n ≡ meaning_if m (look_by raw_names ss n)
 look_shown m [] n = refl
 look_shown m (s ∷ ss) n =
-    ap (λ o. or_else o (find (map (name_shown m) s.names) n)) (look_shown m ss n)
-    ∙ ap (or_else (meaning_if m (look_by raw_names ss n))) (find-names m s.names n)
+    ap (λ o. option_or o (find (map (name_shown m) s.names) n)) (look_shown m ss n)
+    ∙ ap (option_or (meaning_if m (look_by raw_names ss n))) (find-names m s.names n)
     ∙ or_else-names m (look_by raw_names ss n) (find s.names n)
 
 pub look_tag_shown : (m : Known) (ss : List RawScope) (n : ℕ) → look_tag (scopes_shown m ss) n ≡ tag_meaning_if m (look_by raw_tags ss n)
 look_tag_shown m [] n = refl
 look_tag_shown m (s ∷ ss) n =
-    ap (λ o. or_else o (find (map (tag_shown m) s.tags) n)) (look_tag_shown m ss n)
-    ∙ ap (or_else (tag_meaning_if m (look_by raw_tags ss n))) (find-tags m s.tags n)
+    ap (λ o. option_or o (find (map (tag_shown m) s.tags) n)) (look_tag_shown m ss n)
+    ∙ ap (option_or (tag_meaning_if m (look_by raw_tags ss n))) (find-tags m s.tags n)
     ∙ or_else-tags m (look_by raw_tags ss n) (find s.tags n)
 
 -- ---- the innermost one

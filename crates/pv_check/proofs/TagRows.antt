@@ -14,7 +14,8 @@ use Rattle.pv_check.specs.Raw.{Raw, raw_innermost, tag_meaning_if, with_tag, use
 use Rattle.pv_check.proofs.Showing.{inner_tag_shown}
 use Rattle.pv_check.specs.State.{State, After, CompositeTag, bind_tag, find, innermost}
 use Rattle.pv_check.specs.Open.{state_of, IsOpen, Goes, HasTag, TagKnown}
-use Rattle.pv_check.specs.Tags.{new_tag, declared_new, composite_type}
+use Rattle.pv_check.specs.Tags.{new_tag, declared_new}
+use Rattle.pv_check.specs.TagParts.{composite_type}
 use Rattle.pv_check.proofs.Growth.{left_true}
 use Rattle.pv_check.proofs.Opening.{state_tagged, state_stays, scopes_stay}
 

@@ -12,10 +12,13 @@ use Rattle.pv_check.specs.Derivations.{derived, Steps as WholeSteps}
 use Rattle.pv_check.specs.Growing.{type_if}
 use Rattle.pv_check.specs.Open.{state_of, IsOpen, Goes, after_type}
 use Rattle.pv_check.specs.Raw.{Raw}
-use Rattle.pv_check.specs.Rows.{plain, named_type}
+use Rattle.pv_check.specs.Rows.{plain}
+use Rattle.pv_check.specs.RowParts.{named_type}
 use Rattle.pv_check.specs.Seeing.{seen_in}
-use Rattle.pv_check.specs.Specifiers.{specified, without_storage, Seen as WhatIsSeen}
-use Rattle.pv_check.specs.State.{State, After, and_then, give}
+use Rattle.pv_check.specs.Specifiers.{specified, Seen as WhatIsSeen}
+use Rattle.pv_check.specs.SpecifierParts.{without_storage}
+use Rattle.pv_check.specs.State.{State, After, give}
+use Rattle.pv_typed.specs.Constants.{and_then}
 use Rattle.pv_check.specs.Stepping.{steps_in}
 use Rattle.pv_check.specs.Typing.{specifiers, optional_steps, type_named}
 use Rattle.pv_check.proofs.Opening.{state_stays}

@@ -12,7 +12,8 @@ use Rattle.pv_typed.specs.Tables.{Stored, whole}
 use Rattle.pv_check.specs.Open.{state_of, IsOpen, Goes, after_type}
 use Rattle.pv_check.specs.Raw.{Raw}
 use Rattle.pv_check.specs.Rows.{plain}
-use Rattle.pv_check.specs.State.{State, and_then, give}
+use Rattle.pv_check.specs.State.{State, give}
+use Rattle.pv_typed.specs.Constants.{and_then}
 use Rattle.pv_check.specs.Typing.{specifiers}
 use Rattle.pv_check.specs.WordRows.{base_of}
 use Rattle.pv_check.proofs.Opening.{state_stays}

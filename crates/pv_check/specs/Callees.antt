@@ -7,7 +7,8 @@ use Rattle.pv_check.specs.declared.calls.Target.{Target as Called}
 use Rattle.pv_check.specs.declared.calls.Target.TheVariants as called
 use Rattle.pv_check.specs.Open.{state_of, IsOpen}
 use Rattle.pv_check.specs.Raw.{Raw}
-use Rattle.pv_check.specs.Rows.{Callee, ByName, ByValue, callee, with_callee}
+use Rattle.pv_check.specs.Rows.{Callee, ByName, ByValue, callee}
+use Rattle.pv_check.specs.RowParts.{with_callee}
 use Rattle.pv_check.specs.State.{State, After}
 
 -- what is called (6.5.2.2p1), by the trees of the tables

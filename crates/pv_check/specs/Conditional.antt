@@ -3,30 +3,24 @@ use Rattle.std.specs.Prelude.{ℕ, Bool, true, false, ◌||◌, if◌then◌else
 use Rattle.pv_types.specs.Ty.{Ty, VoidTy, IntTy, PointerTo, StructTag, UnionTag}
 use Rattle.pv_typed.specs.TypedTree.{TypedTree, Conditional, type_of}
 use Rattle.pv_check.specs.Kinds.{common}
-use Rattle.pv_check.specs.Qualified.{unqualified, qualified_if, is_const, same}
+use Rattle.pv_check.specs.Qualified.{unqualified, qualified_if}
+use Rattle.pv_check.specs.Qualified.{same}
+use Rattle.pv_types.specs.Qualifiers.{is_const}
 use Rattle.pv_check.specs.Sorts.{is_scalar, are_alike, has_void}
 use Rattle.pv_check.specs.Composite.{composite}
 use Rattle.pv_typed.specs.Addresses.{is_null_constant}
 use Rattle.pv_check.specs.Values.{written, converted}
+use Rattle.pv_check.specs.State.{◌>>=◌, ◌>>◌, must}
 
--- 6.5.15p6: a pointer to a type, with `const` where one operand's has it
-abbrev pub pointer_to : (const : Bool) → Ty → Ty
-pointer_to const t = PointerTo (qualified_if const t)
-
--- 6.5.15p6: what two pointers that are no null pointer constants give: a pointer to the composite type, or to void where one
--- points to void and the other to no function, with the qualifiers of both
--- worked: composite_of_pointers_rows (proofs/ConditionalExamples)
-abbrev pub merged : Ty → Ty → Option Ty
-merged t u =
-    if are_alike t u then Some (pointer_to (is_const t || is_const u) (composite (unqualified t) (unqualified u)))
-    else (if has_void t u then Some (pointer_to (is_const t || is_const u) VoidTy) else None)
-
--- 6.5.15p6: with a null pointer constant, the type of the other operand; two of pointer type are two pointers
--- worked: chosen_pointer_rows, chosen_void_pointer_rows, chosen_null_pointer_rows (proofs/ConditionalExamples)
+-- 6.5.15p6: with a null pointer constant, the type of the other operand; two of pointer type are two pointers, and give a pointer to the composite
+-- type, or to void where one points to void and the other to no function, with the qualifiers of both
+-- worked: composite_of_pointers_rows, chosen_pointer_rows, chosen_void_pointer_rows, chosen_null_pointer_rows (proofs/ConditionalExamples)
 abbrev pub pointer_type : Ty → Ty → (left right : Bool) → Option Ty
 pointer_type t u false true = Some (PointerTo t)
 pointer_type t u true false = Some (PointerTo u)
-pointer_type t u left right = merged t u
+pointer_type t u left right =
+    if are_alike t u then Some (PointerTo (qualified_if (is_const t || is_const u) (composite (unqualified t) (unqualified u))))
+    else (if has_void t u then Some (PointerTo (qualified_if (is_const t || is_const u) VoidTy)) else None)
 
 -- 6.5.15p3 and p5: what two that are no pointers give: two integers, two of type void, two of one structure or union
 -- worked: chosen_structure_rows (proofs/ConditionalExamples)
@@ -45,16 +39,11 @@ result_type (PointerTo t) u left true = Some (PointerTo t)
 result_type t (PointerTo u) true right = Some (PointerTo u)
 result_type t u left right = plain_type t u
 
--- 6.5.15p3, p5 and p6: the type of the result, by the second and the third operand
-abbrev pub type_of_chosen : TypedTree → TypedTree → Option Ty
-type_of_chosen b c = result_type (type_of b) (type_of c) (is_null_constant b) (is_null_constant c)
-
--- 6.5.15p5 and p6: the node, where there is a type of the result, to which both operands are converted
-abbrev pub chosen : ℕ → TypedTree → TypedTree → TypedTree → Option Ty → Option TypedTree
-chosen line a b c (Some t) = Some (written line t (Conditional a (converted t b) (converted t c)))
-chosen line a b c None = None
-
--- 6.5.15p2 and p3: the first operand is a scalar, and the others go together
+-- 6.5.15p2 and p3: the first operand is a scalar, and the second and the third give a type of the result, to which both are converted (6.5.15p5 and
+-- p6)
 -- worked: conditional_rows (proofs/FurtherExamples); chosen_integer_rows (proofs/ConditionalExamples)
 abbrev pub conditional_of : ℕ → TypedTree → TypedTree → TypedTree → Option TypedTree
-conditional_of line a b c = if is_scalar (type_of a) then chosen line a b c (type_of_chosen b c) else None
+conditional_of line a b c = do
+  must (is_scalar (type_of a))
+  t ← result_type (type_of b) (type_of c) (is_null_constant b) (is_null_constant c)
+  Some (written line t (Conditional a (converted t b) (converted t c)))

@@ -15,7 +15,7 @@ use Rattle.pv_check.specs.declared.parameters.Signature.{Signature}
 use Rattle.pv_check.specs.Derivations.{Parameter as WholeParameter, Signature as WholeSignature, Steps as WholeSteps, with_parameter}
 use Rattle.pv_check.specs.Open.{state_of, ScopeKnown}
 use Rattle.pv_check.specs.Raw.{Raw, raw_of, scope_shown}
-use Rattle.pv_check.specs.Rows.{parameter_of}
+use Rattle.pv_check.specs.RowParts.{parameter_of}
 use Rattle.pv_check.specs.State.{After}
 use Rattle.pv_check.specs.Stepping.{steps_in, AreSteps}
 

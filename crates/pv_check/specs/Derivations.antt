@@ -2,13 +2,15 @@
 use Rattle.std.specs.Prelude.{ℕ, ℤ, pos, negsuc, ◌+◌, ◌*◌, ◌^◌, nat_le, nat_lt, Bool, true, false, ◌&&◌, not, if◌then◌else◌, Some, None, is_some, List, [], ◌∷◌, ◌++◌, length}
 use Rattle.std.specs.declared.option.Option.{Option}
 use Rattle.pv_types.specs.Adjusted.{is_adjusted}
-use Rattle.pv_types.specs.Ty.{Ty, Tys, VoidTy, PointerTo, ArrayOf, FunctionTy, ConstOf, NoTys, MoreTys}
+use Rattle.pv_types.specs.Ty.{Ty, Tys, PointerTo, ArrayOf, FunctionTy, ConstOf, NoTys, MoreTys}
 use Rattle.pv_types.specs.Layouts.{Entry, layout_in, is_complete_in}
 use Rattle.pv_tree.specs.Syntax.{DeclaratorTree, DeclaredName, ParenDeclarator, Pointer, Array, FunctionDeclarator, OfDeclarator, OptionalTree, Present}
 use Rattle.pv_check.specs.Qualified.{with_const, unqualified}
-use Rattle.pv_check.specs.Sorts.{is_function, is_array, is_void}
-use Rattle.pv_check.specs.State.{State, After, Scope, ObjectName, and_then, give, env, innermost, declare, left, is_file_scope}
-use Rattle.pv_check.specs.Texts.{is_printf}
+use Rattle.pv_check.specs.Sorts.{is_array, is_void, is_void_in}
+use Rattle.pv_typed.specs.TypedTree.{is_function}
+use Rattle.pv_check.specs.State.{State, After, Scope, ObjectName, give, env, innermost, declare, left, is_file_scope}
+use Rattle.pv_typed.specs.Constants.{and_then}
+use Rattle.pv_check.specs.Library.{is_printf}
 
 -- a parameter (6.7.6.3): its type as an object has it, and if it has a name, this and the number of its object
 pub record Parameter : Type 0 where
@@ -55,7 +57,7 @@ declared_name (Array line d size) = declared_name d
 declared_name (FunctionDeclarator line d parameters variadic) = declared_name d
 declared_name _ = None
 
--- the same of a declarator that may be left out or abstract (6.7.6.3p1)
+-- the name that a declarator declares which may be left out or abstract (6.7.6.3p1)
 abbrev pub optional_name : OptionalTree → Option (ℕ × ℕ)
 optional_name (Present (OfDeclarator d)) = declared_name d
 optional_name _ = None
@@ -64,16 +66,6 @@ optional_name _ = None
 abbrev pub size_of : ℤ → Option ℕ
 size_of (pos n) = if nat_lt 0 n && nat_le n (2 ^ 32) then Some n else None
 size_of (negsuc n) = None
-
--- 6.7.6.1p1: a pointer to the type, `const` or not
-abbrev pub pointer_to : Bool → Ty → Option Ty
-pointer_to constant t = with_const constant (PointerTo t)
-
--- 6.7.6.2p1: of a complete object type; no size where `unsized` says so; no more than 2 ^ 32 bytes (5.2.4.1)
-abbrev pub array_of : (unsized : Bool) → List Entry → Option ℕ → Ty → Option Ty
-array_of unsized env None t = if unsized && is_complete_in env t then Some (ArrayOf t None) else None
-array_of unsized env (Some n) t =
-    if is_complete_in env t && nat_le (n * (layout_in env t).size) (2 ^ 32) then Some (ArrayOf t (Some n)) else None
 
 -- 6.7.6.3p15: of a parameter's type in that of its function no qualifiers count
 abbrev pub parameter_types : List Parameter → Tys
@@ -84,15 +76,20 @@ parameter_types (p ∷ ps) = MoreTys (unqualified p.t) (parameter_types ps)
 abbrev pub with_function : Steps → Signature → Steps
 with_function x g = record { list = x.list ++ (ByFunction (parameter_types g.parameters) g.variadic ∷ []); signature = nearest x.list x.signature g }
 
--- 6.7.6.3p1: the result is no function and no array; p5: it is unqualified
-abbrev pub function_of : Tys → Bool → Ty → Option Ty
-function_of ts variadic t = if is_function t then None else (if is_array t then None else Some (FunctionTy (unqualified t) ts variadic))
+-- 6.7.6.2p1: of a complete object type; no size where `unsized` says so; no more than 2 ^ 32 bytes (5.2.4.1)
+abbrev pub array_of : (unsized : Bool) → List Entry → Option ℕ → Ty → Option Ty
+array_of unsized env None t = if unsized && is_complete_in env t then Some (ArrayOf t None) else None
+array_of unsized env (Some n) t =
+    if is_complete_in env t && nat_le (n * (layout_in env t).size) (2 ^ 32) then Some (ArrayOf t (Some n)) else None
 
--- one step round a type: 6.7.6.1p1, 6.7.6.2p3, 6.7.6.3p5
+-- one step round a type: a pointer, `const` or not (6.7.6.1p1); an array (6.7.6.2p3) of a complete object type (6.7.6.2p1), without a size where
+-- `unsized` says so, and of no more than 2 ^ 32 bytes (5.2.4.1); a function (6.7.6.3p5), whose result is no function and no array (6.7.6.3p1) and
+-- unqualified
 abbrev pub step : Bool → List Entry → Derivation → Ty → Option Ty
-step unsized env (ByPointer constant) t = pointer_to constant t
+step unsized env (ByPointer constant) t = with_const constant (PointerTo t)
 step unsized env (ByArray n) t = array_of unsized env n t
-step unsized env (ByFunction ts variadic) t = function_of ts variadic t
+step unsized env (ByFunction ts variadic) t =
+    if is_function t then None else (if is_array t then None else Some (FunctionTy (unqualified t) ts variadic))
 
 -- 6.7.6p4: the step that is furthest from the name comes first
 abbrev pub derived : Bool → List Entry → List Derivation → Ty → Option Ty
@@ -138,14 +135,9 @@ abbrev pub no_void : List Parameter → Bool
 no_void [] = true
 no_void (p ∷ ps) = if is_void p.t then false else no_void ps
 
--- 6.7.6.3p10: `void` without qualifiers
-abbrev pub is_unqualified_void : Ty → Bool
-is_unqualified_void VoidTy = true
-is_unqualified_void _ = false
-
 -- 6.7.6.3p10: the list `(void)`
 abbrev pub means_none : List Parameter → Bool
-means_none (p ∷ []) = is_unqualified_void p.t && not (is_some p.name)
+means_none (p ∷ []) = is_void_in p.t && not (is_some p.name)
 means_none _ = false
 
 -- the parameters that a list stands for (6.7.6.3p10): none, or objects

@@ -5,8 +5,9 @@ use Rattle.pv_tree.specs.Tables.{Forest, Has, HasList, HasOptional, declarator_a
 use Rattle.pv_check.specs.declared.forms.Form.{Form}
 use Rattle.pv_check.specs.declared.forms.Form.TheVariants as form
 use Rattle.pv_check.specs.Derivations.{Steps, ByPointer, no_steps, with_step}
-use Rattle.pv_check.specs.Rows.{by_array, by_function}
-use Rattle.pv_check.specs.State.{State, After, and_then, entered, give}
+use Rattle.pv_check.specs.RowParts.{by_array, by_function}
+use Rattle.pv_check.specs.State.{State, After, entered, give}
+use Rattle.pv_typed.specs.Constants.{and_then}
 use Rattle.pv_check.specs.Typing.{steps, optional_steps, array_size, parameters}
 
 -- 6.7.6.1: with a pointer more

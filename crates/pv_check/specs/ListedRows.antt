@@ -21,8 +21,10 @@ use Rattle.pv_check.specs.MembersRead.{members_shown}
 use Rattle.pv_check.specs.Raw.{Raw}
 use Rattle.pv_check.specs.Rows.{member_of}
 use Rattle.pv_check.specs.Specifiers.{Seen, with_type, typedef_of}
-use Rattle.pv_check.specs.State.{State, After, and_then, give, look, look_tag}
-use Rattle.pv_check.specs.Tags.{opened, some_members, completed, opened_enumeration, closed_enumeration, composite_named, enumeration_named}
+use Rattle.pv_check.specs.State.{State, After, give, look, look_tag}
+use Rattle.pv_typed.specs.Constants.{and_then}
+use Rattle.pv_check.specs.Tags.{opened, completed, opened_enumeration, closed_enumeration, composite_named, enumeration_named}
+use Rattle.pv_check.specs.TagParts.{some_members}
 use Rattle.pv_check.specs.Typing.{members, member_declarators, member_declarator, enumerators}
 
 -- the list of a specifier, as the code takes it apart (6.7.2.1, 6.7.2.2)

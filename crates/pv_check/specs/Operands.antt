@@ -1,5 +1,5 @@
 -- A bridge: expressions as the code types them: by the numbers of the nodes that their operands are.
-use Rattle.std.specs.Prelude.{ℕ, Bool, Option, Some}
+use Rattle.std.specs.Prelude.{ℕ, Bool, Option}
 use Rattle.pv_tree.specs.declared.nodes.NodeId.{NodeId}
 use Rattle.pv_tree.specs.declared.nodes.ListId.{ListId}
 use Rattle.pv_tree.specs.Syntax.{ExpressionTree, TypeName}
@@ -9,8 +9,10 @@ use Rattle.pv_typed.specs.TypedTree.{TypedTree}
 use Rattle.pv_check.specs.declared.arms.Two.{Two}
 use Rattle.pv_check.specs.Arms.{first_operand, row_of_two}
 use Rattle.pv_check.specs.Derivations.{Steps}
-use Rattle.pv_check.specs.Rows.{operand, conditional, unevaluated, measured, sizeof_named, cast, callee, Callee, called_by, call, by_function}
-use Rattle.pv_check.specs.State.{State, After, and_then, give, entered}
+use Rattle.pv_check.specs.Rows.{operand, unevaluated, callee, Callee, called_by}
+use Rattle.pv_check.specs.RowParts.{sizeof_named, measured, cast, conditional, call, by_function}
+use Rattle.pv_check.specs.State.{State, After, entered}
+use Rattle.pv_typed.specs.Constants.{and_then}
 use Rattle.pv_check.specs.Typing.{types, type_named, arguments, parameters}
 
 -- 6.5.2.1, 6.5.5 to 6.5.14, 6.5.16, 6.5.17: of two operands, from left to right

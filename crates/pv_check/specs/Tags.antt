@@ -1,5 +1,5 @@
 -- Structures, unions and enumerations: what declares a tag, what completes it, which members and enumerators it may have.
-use Rattle.std.specs.Prelude.{ℕ, ℤ, pos, ◌+ℤ◌, ◌+◌, ◌==◌, ◌^◌, nat_le, nat_lt, Bool, true, false, ◌&&◌, not, if◌then◌else◌, Some, None, is_some, List, [], ◌∷◌, ◌++◌, length}
+use Rattle.std.specs.Prelude.{ℕ, ℤ, pos, ◌+ℤ◌, ◌+◌, ◌==◌, ◌^◌, nat_le, Bool, true, false, ◌&&◌, not, if◌then◌else◌, Some, None, is_some, List, [], ◌∷◌, ◌++◌, length}
 use Rattle.std.specs.declared.option.Option.{Option}
 use Rattle.std.specs.Bool.{beq}
 use Rattle.pv_num.specs.Kinds.{fits_of}
@@ -8,8 +8,10 @@ use Rattle.pv_token.specs.declared.words.Word.{Word}
 use Rattle.pv_token.specs.declared.words.Word.TheVariants as word
 use Rattle.pv_types.specs.Ty.{Ty, IntTy}
 use Rattle.pv_types.specs.Layouts.{Named, look, layout_in, is_complete_in, tag_type}
-use Rattle.pv_check.specs.State.{State, After, ConstantOf, TagMeaning, CompositeTag, EnumerationTag, OpenEnumeration, and_then, give, env, innermost, find, look_tag, bind_tag, declare, declare_tag, is_file_scope}
-use Rattle.pv_check.specs.Texts.{is_main}
+use Rattle.pv_check.specs.State.{State, After, ConstantOf, TagMeaning, CompositeTag, EnumerationTag, OpenEnumeration, give, env, innermost, find, look_tag, bind_tag, declare, declare_tag, is_file_scope}
+use Rattle.pv_typed.specs.Constants.{and_then}
+use Rattle.pv_typed.specs.Mains.{named_main}
+use Rattle.std.specs.List.{list_all}
 
 -- 6.7.2.1p1: `union`, and not `struct`
 abbrev pub is_union_word : Word → Bool
@@ -26,13 +28,9 @@ declared_new n union s =
     let a = new_tag (Some n) union s in
     record { value = a.value; state = bind_tag n (CompositeTag union a.value) a.state }
 
--- 6.7.2.1p6: the type of a structure or union by its number
-abbrev pub composite_type : Bool → After ℕ → After Ty
-composite_type union a = record { value = tag_type union a.value; state = a.state }
-
 -- 6.7.2.3p8, p9: `struct n` or `union n` where the tag stands for this (p2: with the same word), and if for nothing, then it is declared
 abbrev pub composite_named : Bool → ℕ → Option TagMeaning → State → Option (After Ty)
-composite_named union n None s = Some (composite_type union (declared_new n union s))
+composite_named union n None s = Some (record { value = tag_type union (declared_new n union s).value; state = (declared_new n union s).state })
 composite_named union n (Some (CompositeTag u k)) s = if beq u union then give (Some (tag_type u k)) s else None
 composite_named union n (Some _) s = None
 
@@ -66,20 +64,16 @@ opened_named union n None s = Some (declared_new n union s)
 opened_named union n (Some (CompositeTag u k)) s = if beq u union && is_open s k then give (Some k) s else None
 opened_named union n (Some _) s = None
 
--- 6.7.2.3p5, p6: the same; without a tag the type is a new one
+-- 6.7.2.3p5, p6: what stands before `{`: a tag in the innermost scope, or without a tag a new type
 abbrev pub opened : Bool → Option ℕ → State → Option (After ℕ)
 opened union None s = Some (new_tag None union s)
 opened union (Some n) s = opened_named union n (find (innermost s.scopes).tags n) s
 
--- 6.2.3p1, 6.7p3: no member has the name
-abbrev pub is_new_member : ℕ → List Named → Bool
-is_new_member n [] = true
-is_new_member n (m ∷ ms) = not (m.name == n) && is_new_member n ms
-
--- 6.7.2.1p3: a member has a complete object type; 6.2.3p1: the members' names differ
+-- 6.7.2.1p3: a member has a complete object type; 6.2.3p1, 6.7p3: no other member has its name
 -- worked: declared_member_rows (proofs/TagExamples)
 abbrev pub with_member : State → List Named → ℕ → Ty → Option (List Named)
-with_member s ms n t = if is_complete_in (env s) t && is_new_member n ms then Some (ms ++ (record { name = n; t = t } ∷ [])) else None
+with_member s ms n t =
+    if is_complete_in (env s) t && list_all (λ (m : Named). not (m.name == n)) ms then Some (ms ++ (record { name = n; t = t } ∷ [])) else None
 
 -- the structures and unions with a tag that are completed at file scope: what `layout` prints, no rule of C17
 abbrev pub filed_with : Option ℕ → Ty → State → State
@@ -90,17 +84,9 @@ filed_with (Some n) t s = if is_file_scope s then record s { unit = record s.uni
 abbrev pub with_done : Bool → ℕ → List Named → State → State
 with_done union k ms s = record s { unit = record s.unit { completed = s.unit.completed ++ (record { tag = k; union = union; members = ms } ∷ []) } }
 
--- 5.2.4.1p1: no type is larger than 2 ^ 32 bytes
-abbrev pub is_small : State → Ty → Bool
-is_small s t = nat_le (layout_in (env s) t).size (2 ^ 32)
-
--- 5.2.4.1p1: the same of a structure or union that was completed
+-- 5.2.4.1p1: a structure or union that was completed is no larger than 2 ^ 32 bytes
 abbrev pub sized_tag : Option ℕ → Ty → State → Option (After Ty)
-sized_tag n t s = if is_small s t then give (Some t) (filed_with n t s) else None
-
--- 6.7.2.1p1: there is a member
-abbrev pub some_members : After (List Named) → Option (After (List Named))
-some_members a = if nat_lt 0 (length a.value) then Some a else None
+sized_tag n t s = if nat_le (layout_in (env s) t).size (2 ^ 32) then give (Some t) (filed_with n t s) else None
 
 -- 6.7.2.1p8: the type is complete from the `}` on; none of its members' specifiers completed it
 -- worked: declared_structure_rows (proofs/TagExamples)
@@ -119,7 +105,7 @@ closed_enumeration (Some n) s = bind_tag n EnumerationTag s
 
 -- 6.7.2.2p2: the value fits `int`; at file scope `main` is a function (5.1.2.2.1p1)
 abbrev pub may_enumerate : ℕ → ℤ → State → Bool
-may_enumerate n k s = fits_of kind.Int k && not (is_file_scope s && is_main s.unit.names (n + 2))
+may_enumerate n k s = fits_of kind.Int k && not (is_file_scope s && named_main s.unit.names (n + 2))
 
 -- 6.7.2.2p3: an enumerator, and the value that the next one has without its own
 -- worked: declared_enumerator_rows, enumerator_value_rows (proofs/TagExamples)

@@ -5,9 +5,10 @@ use Rattle.pv_types.specs.Layouts.{Entry, is_complete_in}
 use Rattle.pv_types.specs.Ty.{Ty, IntTy, PointerTo, ArrayOf, StructTag, UnionTag, FunctionTy}
 use Rattle.pv_typed.specs.TypedTree.{TypedTree, Form, Node, Convert, Read, ArrayPointer, type_of, line_of, is_lvalue}
 use Rattle.pv_check.specs.Kinds.{promoted}
-use Rattle.pv_check.specs.Qualified.{unqualified, is_const, same}
+use Rattle.pv_check.specs.Qualified.{unqualified}
+use Rattle.pv_check.specs.Qualified.{same}
 use Rattle.pv_check.specs.Sorts.{is_array, are_alike, has_void}
-use Rattle.pv_types.specs.Qualifiers.{has_const}
+use Rattle.pv_types.specs.Qualifiers.{has_const, is_const}
 use Rattle.pv_typed.specs.Addresses.{is_null_constant}
 
 -- a node of the source (6.5), which takes a turn
@@ -66,11 +67,7 @@ may_assign (StructTag n) u null = same (StructTag n) u
 may_assign (UnionTag n) u null = same (UnionTag n) u
 may_assign _ _ null = false
 
--- 6.5.16.1p2: the same as assigned, of a value that is a null pointer constant or not (6.3.2.3p3)
-abbrev pub assigned_with : (null : Bool) → Ty → TypedTree → Option TypedTree
-assigned_with null t a = if may_assign (unqualified t) (type_of a) null then Some (converted (unqualified t) a) else None
-
--- 6.5.16.1p2: a value converted to the unqualified type of what it is assigned to
+-- 6.5.16.1p2: a value converted to the unqualified type of what it is assigned to, where it may be; a null pointer constant to any pointer (6.3.2.3p3)
 -- worked: null_integer_rows, null_void_pointer_rows (proofs/ConstantExamples)
 abbrev pub assigned : Ty → TypedTree → Option TypedTree
-assigned t a = assigned_with (is_null_constant a) t a
+assigned t a = if may_assign (unqualified t) (type_of a) (is_null_constant a) then Some (converted (unqualified t) a) else None

@@ -7,8 +7,10 @@ ghost use Rattle.pv_typed.specs.Known.{AreKnown};
 ghost use Rattle.pv_check.specs.Kept.{Kept, env_of, expression_if};
 ghost use Rattle.pv_types.specs.Ty.{IntTy};
 ghost use Rattle.pv_check.specs.Qualified.{unqualified};
-ghost use Rattle.pv_check.specs.Values.{written, converted, may_point, may_assign, assigned_with};
-ghost use Rattle.pv_check.specs.Assignment.{assigned_to, compound_at, arithmetic_assign, shift_assign, pointer_assign, comma_of};
+ghost use Rattle.pv_check.specs.Values.{written, converted, may_point, may_assign};
+ghost use Rattle.pv_check.specs.ValueParts.{assigned_with};
+ghost use Rattle.pv_check.specs.Assignment.{compound_at, arithmetic_assign, shift_assign, comma_of};
+ghost use Rattle.pv_check.specs.AssignmentParts.{pointer_assign, assigned_to};
 
 use crate::kinds::{common, promoted};
 use crate::sorts::{

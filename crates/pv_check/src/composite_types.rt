@@ -4,7 +4,8 @@ ghost use Rattle.pv_types.specs.Formed.{are_adjusted, AllBelow, parameters_at};
 ghost use Rattle.pv_types.specs.Known.{Known, tree, trees, tys_in};
 ghost use Rattle.pv_types.specs.Compatible.{are_compatible};
 ghost use Rattle.pv_types.specs.Matching.{Matches, MatchAll};
-ghost use Rattle.pv_check.specs.Composite.{composite, composites, known_size};
+ghost use Rattle.pv_check.specs.Composite.{composite, composites};
+ghost use Rattle.std.specs.Option.{option_or};
 ghost use Rattle.pv_check.specs.Growing.{Grows};
 ghost use Rattle.pv_check.specs.Signatures.{IsSignature, signature_in};
 
@@ -35,7 +36,7 @@ pub fn composite(alloc: Global, types: &mut Types, a: TypeId, b: TypeId) -> Resu
 
 /// A size that one of them knows (C17 6.2.7p3).
 fn known_size(m: Option<u64>, n: Option<u64>) -> Option<u64>
-    ensures { result ≡ known_size m n }
+    ensures { result ≡ option_or m n }
 {
     match m {
         Some(_) => m,

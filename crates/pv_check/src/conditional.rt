@@ -6,7 +6,8 @@ ghost use Rattle.pv_typed.specs.TypedTree.{type_of};
 ghost use Rattle.pv_typed.specs.Addresses.{is_null_constant};
 ghost use Rattle.pv_typed.specs.NodeTrees.{expression_at, IsExpression};
 ghost use Rattle.pv_typed.specs.Known.{AreKnown};
-ghost use Rattle.pv_check.specs.Conditional.{pointer_to, merged, pointer_type, plain_type, result_type, chosen, conditional_of, type_of_chosen};
+ghost use Rattle.pv_check.specs.Conditional.{pointer_type, plain_type, result_type, conditional_of};
+ghost use Rattle.pv_check.specs.ConditionalParts.{type_of_chosen, pointer_to, chosen, merged};
 ghost use Rattle.pv_check.specs.Growing.{Grows, IsType, type_if};
 ghost use Rattle.pv_check.specs.Kept.{Kept, expression_if};
 

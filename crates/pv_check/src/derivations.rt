@@ -4,7 +4,8 @@ ghost use Rattle.pv_types.specs.Known.{Known, tree, env, list_at, tys_in, trees}
 ghost use Rattle.pv_types.specs.Formed.{parameters_at, IsBuilt, AllBelow};
 ghost use Rattle.pv_types.specs.Layouts.{is_complete_in, layout_in};
 ghost use Rattle.pv_check.specs.Growing.{Grows, AreSized, IsType, type_if};
-ghost use Rattle.pv_check.specs.Derivations.{pointer_to, array_of, function_of, step, derived};
+ghost use Rattle.pv_check.specs.Derivations.{step, derived, array_of};
+ghost use Rattle.pv_check.specs.DerivationParts.{pointer_to, function_of};
 ghost use Rattle.pv_check.specs.Stepping.{step_in, IsStep, AreSteps, steps_in};
 
 use crate::interning::interned;

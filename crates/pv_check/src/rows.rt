@@ -3,14 +3,14 @@ ghost use Rattle.std.specs.Prelude.{◌≡◌, Bool, IfOk, IfSome, OnOk, Some, L
 ghost use Rattle.pv_typed.specs.Known.{AreKnown};
 ghost use Rattle.pv_typed.specs.Tables.{whole};
 ghost use Rattle.pv_typed.specs.NodeTrees.{expression_at, IsExpression};
-ghost use Rattle.pv_check.specs.State.{and_then};
+ghost use Rattle.pv_typed.specs.Constants.{and_then};
 ghost use Rattle.pv_check.specs.Arms.{after_node, OpenIf, row_of_one, row_of_two, operand_after, conditional_from};
 ghost use Rattle.pv_check.specs.Assignment.{assign_of};
 ghost use Rattle.pv_check.specs.Kept.{Kept, AreSmall, expression_if, env_of};
 ghost use Rattle.pv_check.specs.Open.{state_of, IsOpen};
 ghost use Rattle.pv_check.specs.Postfix.{arrow_from, increment_of};
-ghost use Rattle.pv_check.specs.Rows.{operand, member, arrow, increment, unary, subscript, binary, assignment, comma, conditional};
-ghost use Rattle.pv_check.specs.Unary.{of_value};
+ghost use Rattle.pv_check.specs.Rows.{operand};
+ghost use Rattle.pv_check.specs.RowParts.{subscript, member, arrow, increment, unary, binary, conditional, assignment, comma};
 ghost use Rattle.pv_check.specs.Values.{value_of};
 
 use crate::arms::{One, Two};
@@ -37,7 +37,7 @@ fn arrow_node(
     requires small { AreSmall into.old.known }
     requires node { IsExpression into.old a }
     ensures node { IfOk result (λ r. IfSome r (λ v. IsExpression into.new v)) }
-    ensures typed { IfOk result (λ r. expression_if into.new r ≡ of_value (value_of (env_of into.old) (expression_at into.old a)) (arrow_from (whole into.old).completed line name)) }
+    ensures typed { IfOk result (λ r. expression_if into.new r ≡ and_then (value_of (env_of into.old) (expression_at into.old a)) (arrow_from (whole into.old).completed line name)) }
     ensures kept { OnOk result (Kept into.old into.new) }
 {
     let Ok(found) = value(into, a) else {

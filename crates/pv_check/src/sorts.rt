@@ -3,8 +3,12 @@ ghost use Rattle.std.specs.Prelude.{◌≡◌, ◌<◌, ◌≤◌, length, is_so
 ghost use Rattle.pv_types.specs.Known.{tree, tree_in, trees, env};
 ghost use Rattle.pv_types.specs.Formed.{IsBuilt};
 ghost use Rattle.pv_types.specs.Layouts.{is_complete_in};
-ghost use Rattle.pv_check.specs.Qualified.{unqualified, is_const, same};
-ghost use Rattle.pv_check.specs.Sorts.{kind_of, pointed_by, is_scalar, is_void, is_composite, is_array, is_function, points_to_function, is_void_beside, has_void, is_truth, complete_pointed_by, are_alike};
+ghost use Rattle.pv_check.specs.Qualified.{unqualified};
+ghost use Rattle.pv_check.specs.Qualified.{same};
+ghost use Rattle.pv_types.specs.Qualifiers.{is_const};
+ghost use Rattle.pv_check.specs.Sorts.{kind_of, pointed_by, is_scalar, is_void, is_array, points_to_function, is_void_beside, has_void, complete_pointed_by, are_alike};
+ghost use Rattle.pv_typed.specs.TypedTree.{is_function};
+ghost use Rattle.pv_check.specs.SortParts.{is_composite, is_truth};
 ghost use Rattle.pv_check.specs.Shown.{type_if};
 
 use pv_num::IntKind;

@@ -3,7 +3,9 @@ ghost use Rattle.std.specs.Prelude.{◌≡◌, ◌+◌, ℕ, Bool, List, IfSome}
 ghost use Rattle.pv_tree.specs.Tables.{Is, is_declarator, declarator_at, optional_at};
 ghost use Rattle.pv_check.specs.Derivations.{declared_name, optional_name, is_printf_declarator, may_be_variadic};
 ghost use Rattle.pv_check.specs.Open.{state_of};
-ghost use Rattle.pv_check.specs.Texts.{same_text, has_text, is_main, is_printf};
+ghost use Rattle.pv_check.specs.Texts.{same_text, has_text};
+ghost use Rattle.pv_check.specs.Library.{is_printf};
+ghost use Rattle.pv_typed.specs.Mains.{named_main};
 
 use crate::scopes::Scopes;
 use pv_tree::{Declarator, NodeId, Unit};
@@ -30,7 +32,7 @@ fn has_text(into: &TypedUnit, n: u32, text: &[u8]) -> bool
 
 /// Whether a name of the source is `main`.
 pub(crate) fn is_main(into: &TypedUnit, n: u32) -> bool
-    ensures { result ≡ is_main into.now.names (n + 2) }
+    ensures { result ≡ named_main into.now.names (n + 2) }
 {
     has_text(into, n, b"main")
 }

@@ -11,7 +11,7 @@ ghost use Rattle.pv_typed.specs.Known.{AreKnown};
 ghost use Rattle.pv_check.specs.Open.{state_of, IsOpen, Goes};
 ghost use Rattle.pv_check.specs.Arms.{after_node, OpenIf};
 ghost use Rattle.pv_check.specs.Kept.{Kept, expression_if};
-ghost use Rattle.pv_check.specs.Primary.{joined, bytes_of_text, text_of};
+ghost use Rattle.pv_check.specs.StringLiterals.{joined, bytes_of_text, text_of};
 ghost use Rattle.pv_check.specs.Values.{written};
 
 use crate::scopes::Scopes;

@@ -9,7 +9,8 @@ ghost use Rattle.pv_typed.specs.TypedTree.{Node, ArrayPointer, is_lvalue, type_o
 ghost use Rattle.pv_typed.specs.Nodes.{form_in};
 ghost use Rattle.pv_typed.specs.Children.{HasOperands};
 ghost use Rattle.pv_typed.specs.Formed.{NamesIn};
-ghost use Rattle.pv_check.specs.Qualified.{qualified, same};
+ghost use Rattle.pv_check.specs.Qualified.{qualified};
+ghost use Rattle.pv_check.specs.Qualified.{same};
 ghost use Rattle.pv_typed.specs.Tables.{Stored, nodes};
 ghost use Rattle.pv_typed.specs.NodeTrees.{expression_at, IsExpression};
 ghost use Rattle.pv_typed.specs.Known.{AreKnown};

@@ -9,7 +9,8 @@ use Rattle.pv_types.specs.Known.{tree}
 use Rattle.pv_typed.specs.Tables.{Stored}
 use Rattle.pv_check.specs.Raw.{Raw}
 use Rattle.pv_check.specs.Open.{state_of, IsOpen, Goes}
-use Rattle.pv_check.specs.State.{State, and_then}
+use Rattle.pv_check.specs.State.{State}
+use Rattle.pv_typed.specs.Constants.{and_then}
 use Rattle.pv_check.proofs.Opening.{same_goes, then_goes}
 use Rattle.pv_unit.specs.declared.blocks.Reached.{Reached}
 use Rattle.pv_unit.specs.Blocks.{block_declarators, block_init_declarator, block_declared, block_declaration}

@@ -8,10 +8,11 @@ use Rattle.std.specs.Bool.{beq}
 use Rattle.pv_types.specs.Layouts.{is_complete_in, tag_type}
 use Rattle.pv_tree.specs.Syntax.{DeclarationTree, Function as FunctionTree, Declaration, InitDeclarator, MemberDeclaration, Enumerator, Parameter, TypeName, DeclaratorTree, Tree, OfExpression, OfDeclaration, OfDeclarator, OfSpecifier, OfInitializer, OfStatement, Trees, NoTrees, Then, OptionalTree, Absent, Present}
 use Rattle.pv_typed.specs.TypedUnits.{object_at}
-use Rattle.pv_check.specs.State.{State, After, env, TagMeaning, CompositeTag, EnumerationTag, OpenEnumeration, and_then, give, find, innermost}
+use Rattle.pv_check.specs.State.{State, After, env, TagMeaning, CompositeTag, EnumerationTag, OpenEnumeration, give, find, innermost}
+use Rattle.pv_typed.specs.Constants.{and_then}
 use Rattle.pv_check.specs.Specifiers.{Specified, specified}
 use Rattle.pv_check.specs.Derivations.{Steps, declared_name, derived}
-use Rattle.pv_check.specs.Sorts.{is_function}
+use Rattle.pv_typed.specs.TypedTree.{is_function}
 use Rattle.pv_check.specs.Tags.{composite_named, tag_alone}
 use Rattle.pv_check.specs.Typing.{specifiers, steps}
 use Rattle.pv_check.proofs.Leaving.{Leaves, specifiers_leave, steps_leave}

@@ -11,8 +11,8 @@ use Rattle.pv_check.specs.declared.specifiers.Storage.TheVariants as storage
 use Rattle.pv_check.specs.Composite.{composite}
 use Rattle.pv_check.specs.Raw.{Raw}
 use Rattle.pv_types.specs.Known.{tree}
-use Rattle.pv_check.specs.Sorts.{is_function}
-use Rattle.pv_check.specs.Texts.{is_main}
+use Rattle.pv_typed.specs.TypedTree.{is_function}
+use Rattle.pv_typed.specs.Mains.{named_main}
 use Rattle.pv_check.specs.Open.{state_of, IsOpen, Goes}
 use Rattle.pv_check.proofs.Opening.{state_stays}
 use Rattle.pv_unit.specs.Library.{main_type}
@@ -101,7 +101,7 @@ not_true true e = cc
 not_true false e = refl
 
 pub typedef_allowed : (texts : List (List ℕ)) (a b : Stored) (s : Raw) (x : Outer) (n t : ℕ) (unsized k : Bool) (r : Option UnitState) → IsOpen a s → Goes a b → whole b ≡ whole a → t < length a.known.terms
-    → not (is_main a.names (unit_name n) && not (is_function (tree a.known t) && are_compatible (tree a.known t) main_type)) ≡ true
+    → not (named_main a.names (unit_name n) && not (is_function (tree a.known t) && are_compatible (tree a.known t) main_type)) ≡ true
     → k ≡ (x.unsized_typedef || unsized) → r ≡ typedef_found n (tree b.known t) (unit_state texts s b (record x { unsized_typedef = k }))
     → r ≡ typedef_declared n (tree a.known t) unsized (unit_state texts s a x)
 typedef_allowed texts a b s x n t unsized k r h g same lt may either found =

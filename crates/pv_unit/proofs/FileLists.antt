@@ -10,7 +10,7 @@ use Rattle.pv_check.specs.declared.specifiers.Specified.{Specified}
 use Rattle.pv_check.specs.Specifiers.{Specified as WhatIsSpecified}
 use Rattle.pv_check.specs.Raw.{Raw}
 use Rattle.pv_check.specs.Open.{IsOpen, Goes}
-use Rattle.pv_check.specs.State.{and_then}
+use Rattle.pv_typed.specs.Constants.{and_then}
 use Rattle.pv_check.proofs.Opening.{same_goes, then_goes}
 use Rattle.pv_unit.specs.declared.entities.Outer.{Outer}
 use Rattle.pv_unit.specs.Entities.{UnitState}

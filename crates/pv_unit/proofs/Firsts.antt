@@ -5,7 +5,7 @@ use Rattle.std.specs.List.{slice_get}
 use Rattle.std.proofs.lemmas.List.{take_all, get_or-map}
 use Rattle.std.proofs.lemmas.Option.{get_or_from_slice_get, slice_get_within}
 use Rattle.pv_tree.specs.Syntax.{DeclarationTree}
-use Rattle.pv_check.specs.State.{and_then}
+use Rattle.pv_typed.specs.Constants.{and_then}
 use Rattle.pv_unit.specs.Definitions.{may_end}
 use Rattle.pv_unit.specs.Entities.{UnitState}
 use Rattle.pv_unit.specs.Functions.{typed_external}

@@ -20,7 +20,8 @@ use Rattle.pv_check.specs.declared.parameters.Signature.{Signature}
 use Rattle.pv_check.specs.Declarators.{parameters_shown, signature_shown}
 use Rattle.pv_check.specs.Raw.{Raw, RawScope, scope_shown, used_of}
 use Rattle.pv_check.specs.Open.{state_of, IsOpen, Goes, ScopeKnown}
-use Rattle.pv_check.specs.State.{State, Scope, After, and_then}
+use Rattle.pv_check.specs.State.{State, Scope, After}
+use Rattle.pv_typed.specs.Constants.{and_then}
 use Rattle.pv_unit.specs.declared.entities.Outer.{Outer}
 use Rattle.pv_unit.specs.declared.heads.Defined.{Defined}
 use Rattle.pv_unit.specs.Bodies.{head_made, is_block, is_definition, left_items}

@@ -19,7 +19,8 @@ use Rattle.pv_typed.proofs.Each.{each_at}
 use Rattle.pv_check.specs.Kept.{Kept}
 use Rattle.pv_check.specs.Open.{state_of, IsOpen, Goes}
 use Rattle.pv_check.specs.Raw.{Raw}
-use Rattle.pv_check.specs.State.{Scope, State, and_then}
+use Rattle.pv_check.specs.State.{Scope, State}
+use Rattle.pv_typed.specs.Constants.{and_then}
 use Rattle.pv_check.specs.State as check
 use Rattle.pv_check.proofs.ArmLaws.{goes_kept}
 use Rattle.pv_check.proofs.Literals.{goes_same_types}

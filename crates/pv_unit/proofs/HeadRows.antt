@@ -12,7 +12,8 @@ use Rattle.pv_check.specs.Declarators.{parameter_shown, parameters_shown, signat
 use Rattle.pv_check.specs.Derivations.{Derivation, Signature, Steps, derived}
 use Rattle.pv_check.specs.Open.{state_of, IsOpen, Goes}
 use Rattle.pv_check.specs.Raw.{Raw}
-use Rattle.pv_check.specs.State.{State, After, and_then}
+use Rattle.pv_check.specs.State.{State, After}
+use Rattle.pv_typed.specs.Constants.{and_then}
 use Rattle.pv_unit.specs.declared.entities.Outer.{Outer}
 use Rattle.pv_unit.specs.Definitions.{Head, is_definable, may_define, may_be_defined, defined_once, head_of, head_derived, head_signed}
 use Rattle.pv_unit.specs.Entities.{UnitState, function_declared}

@@ -9,7 +9,8 @@ use Rattle.pv_typed.specs.Tables.{Stored}
 use Rattle.pv_typed.specs.NodeTrees.{statement_at, IsStatement}
 use Rattle.pv_check.specs.Raw.{Raw, scopes_shown}
 use Rattle.pv_check.specs.Open.{state_of, IsOpen, Goes}
-use Rattle.pv_check.specs.State.{State, After, and_then}
+use Rattle.pv_check.specs.State.{State, After}
+use Rattle.pv_typed.specs.Constants.{and_then}
 use Rattle.pv_check.proofs.ListRows.{one_more, none_at}
 use Rattle.pv_unit.specs.declared.blocks.Reached.{Reached}
 use Rattle.pv_unit.specs.declared.plain.Place.{Place}

@@ -14,7 +14,8 @@ use Rattle.pv_typed.specs.TypedStatement as typed
 use Rattle.pv_typed.specs.Tables.{Stored}
 use Rattle.pv_check.specs.Raw.{Raw}
 use Rattle.pv_check.specs.Open.{state_of, IsOpen}
-use Rattle.pv_check.specs.State.{State, After, and_then}
+use Rattle.pv_check.specs.State.{State, After}
+use Rattle.pv_typed.specs.Constants.{and_then}
 use Rattle.pv_check.proofs.ListRows.{one_more, none_at}
 use Rattle.pv_unit.specs.declared.labels.Label.{Label}
 use Rattle.pv_unit.specs.declared.labels.Label.TheVariants as label

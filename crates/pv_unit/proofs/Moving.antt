@@ -10,7 +10,8 @@ use Rattle.pv_typed.specs.Tables.{Stored}
 use Rattle.pv_typed.specs.NodeTrees.{expression_at, statement_at, IsExpression, IsStatement}
 use Rattle.pv_typed.specs.TypedStatement.{TypedStatement}
 use Rattle.pv_check.specs.Raw.{Raw}
-use Rattle.pv_check.specs.State.{State, and_then, give}
+use Rattle.pv_check.specs.State.{State, give}
+use Rattle.pv_typed.specs.Constants.{and_then}
 use Rattle.pv_check.specs.Open.{state_of, IsOpen, Goes}
 use Rattle.pv_check.proofs.Opening.{open_goes, same_goes, then_goes}
 use Rattle.pv_unit.specs.declared.plain.Place.{Place}

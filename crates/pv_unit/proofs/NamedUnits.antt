@@ -12,14 +12,14 @@ use Rattle.pv_typed.specs.Known.{Each, AreKnown}
 use Rattle.pv_typed.specs.Tables.{Stored, whole, nodes, object_in, function_in}
 use Rattle.pv_typed.specs.TypedStatement.{TypedStatement}
 use Rattle.pv_typed.specs.TypedUnits.{WholeUnit, TypedObject, TypedFunction, object_at, function_at}
-use Rattle.pv_typed.specs.Mains.{literal_text, heap_text}
-use Rattle.pv_check.specs.State.{State, After, Meaning, ObjectName, FunctionName, TypedefOf, and_then, env, find, innermost, left}
+use Rattle.pv_typed.specs.Mains.{literal_text, heap_text, named_main}
+use Rattle.pv_check.specs.State.{State, After, Meaning, ObjectName, FunctionName, TypedefOf, env, find, innermost, left}
+use Rattle.pv_typed.specs.Constants.{and_then}
 use Rattle.pv_check.specs.declared.specifiers.Storage.{Storage}
 use Rattle.pv_check.specs.declared.specifiers.Storage.TheVariants as storage
 use Rattle.pv_check.specs.Specifiers.{Specified}
-use Rattle.pv_check.specs.Sorts.{is_function}
+use Rattle.pv_typed.specs.TypedTree.{is_function}
 use Rattle.pv_check.specs.Tags.{tag_alone}
-use Rattle.pv_check.specs.Texts.{is_main}
 use Rattle.pv_check.specs.Qualified.{same}
 use Rattle.pv_check.specs.Composite.{composite}
 use Rattle.pv_check.specs.Derivations.{Parameter, Signature, declared_name, derived}
@@ -92,7 +92,7 @@ object_again_held (Some _) k line t n u h = tt
 object_held : (k line : ℕ) (t : Ty) (n : List (List ℕ)) (u : UnitState) → AreNamed n u.state.unit → Held beside n (object_declared k line t u)
 object_held k line t n u h =
     let m = find (innermost u.state.scopes).names k in
-    not_held beside n (is_main u.state.unit.names (unit_name k)) (object_again m k line t u) (object_again_held m k line t n u h)
+    not_held beside n (named_main u.state.unit.names (unit_name k)) (object_again m k line t u) (object_again_held m k line t n u h)
 
 function_again_held : (m : Option Meaning) (k line : ℕ) (t : Ty) (n : List (List ℕ)) (u : UnitState) → AreNamed n u.state.unit → Held beside n (function_again m k line t u)
 function_again_held None k line t n u h = function_added n u.state.unit k line t h
@@ -115,7 +115,7 @@ typedef_held : (k : ℕ) (t : Ty) (unsized : Bool) (n : List (List ℕ)) (u : Un
 typedef_held k t unsized n u h =
     let m = find (innermost u.state.scopes).names k in
     let v = record u { unsized_typedef = u.unsized_typedef || unsized } in
-    not_held alone n (is_main u.state.unit.names (unit_name k) && not (is_function t && are_compatible t main_type)) (typedef_again m k t v) (typedef_again_held m k t n v h)
+    not_held alone n (named_main u.state.unit.names (unit_name k) && not (is_function t && are_compatible t main_type)) (typedef_again m k t v) (typedef_again_held m k t n v h)
 
 -- ---- declarations of file scope
 

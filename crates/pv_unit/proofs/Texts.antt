@@ -16,7 +16,7 @@ use Rattle.pv_typed.specs.TypedUnits.{Store, TextOf}
 use Rattle.pv_check.specs.Growing.{type_if}
 use Rattle.pv_check.specs.Kept.{Kept}
 use Rattle.pv_check.specs.Open.{state_of, IsOpen, Goes}
-use Rattle.pv_check.specs.Primary.{bytes_of_text}
+use Rattle.pv_check.specs.StringLiterals.{bytes_of_text}
 use Rattle.pv_check.specs.Raw.{Raw}
 use Rattle.pv_check.proofs.ArmLaws.{goes_kept}
 use Rattle.pv_check.proofs.Opening.{open_goes, state_stays, then_goes}

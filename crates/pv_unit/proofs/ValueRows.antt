@@ -12,7 +12,8 @@ use Rattle.pv_check.specs.Arms.{OpenIf}
 use Rattle.pv_check.specs.Open.{state_of}
 use Rattle.pv_check.specs.Raw.{Raw}
 use Rattle.pv_check.specs.Sorts.{is_scalar, is_void, kind_of}
-use Rattle.pv_check.specs.State.{State, After, and_then, give}
+use Rattle.pv_check.specs.State.{State, After, give}
+use Rattle.pv_typed.specs.Constants.{and_then}
 use Rattle.pv_check.specs.Values.{assigned, promoted_value}
 use Rattle.pv_unit.specs.declared.rows.Controlling.{Controlling}
 use Rattle.pv_unit.specs.Statements.{if_scalar, value_returned, switched_by}

@@ -3,7 +3,7 @@ use Rattle.std.proofs.Common.{◌≡◌, ℕ, refl}
 use Rattle.pv_tree.specs.Syntax.{ExpressionTree}
 use Rattle.pv_types.specs.Ty.{Ty}
 use Rattle.pv_typed.specs.TypedTree.{TypedTree}
-use Rattle.pv_check.specs.Primary.{bytes_of_text}
+use Rattle.pv_check.specs.StringLiterals.{bytes_of_text}
 use Rattle.pv_check.specs.Rows.{operand}
 use Rattle.pv_check.specs.State.{State}
 use Rattle.pv_check.specs.Typing.{types}

@@ -8,7 +8,8 @@ use Rattle.pv_typed.specs.Tables.{Stored}
 use Rattle.pv_check.specs.Arms.{after_node, OpenIf}
 use Rattle.pv_check.specs.Open.{state_of, Goes}
 use Rattle.pv_check.specs.Raw.{Raw, scope_shown, scopes_shown}
-use Rattle.pv_check.specs.State.{State, After, and_then, give}
+use Rattle.pv_check.specs.State.{State, After, give}
+use Rattle.pv_typed.specs.Constants.{and_then}
 use Rattle.pv_check.specs.Rows.{operand}
 use Rattle.pv_check.specs.Typing.{types}
 use Rattle.pv_check.proofs.Leaving.{Leaves, types_leave}

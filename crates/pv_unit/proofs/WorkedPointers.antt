@@ -10,7 +10,7 @@ use Rattle.pv_tree.specs.Syntax.{DeclarationTree, Absent, AbstractFunction, Abst
 use Rattle.pv_types.specs.Layouts.{layouts_of}
 use Rattle.pv_types.specs.Compatible.{are_compatible}
 use Rattle.pv_typed.specs.TypedUnits.{WholeUnit, function_at}
-use Rattle.pv_check.specs.State.{and_then}
+use Rattle.pv_typed.specs.Constants.{and_then}
 use Rattle.pv_check.specs.Words.{type_of_words}
 use Rattle.pv_check.specs.Library.{library_named}
 use Rattle.pv_unit.specs.Entities.{UnitState}

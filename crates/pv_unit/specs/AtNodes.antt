@@ -15,7 +15,8 @@ use Rattle.pv_check.specs.declared.scopes.Scope.{Scope}
 use Rattle.pv_check.specs.declared.specifiers.Storage.{Storage}
 use Rattle.pv_check.specs.Raw.{raw_of, scope_shown}
 use Rattle.pv_check.specs.Specifiers.{Specified}
-use Rattle.pv_check.specs.State.{State, After, and_then}
+use Rattle.pv_check.specs.State.{State, After}
+use Rattle.pv_typed.specs.Constants.{and_then}
 use Rattle.pv_unit.specs.declared.functions.FunctionParts.{FunctionParts}
 use Rattle.pv_unit.specs.declared.plain.Place.{Place}
 use Rattle.pv_unit.specs.Blocks.{Reached, block_declarator, block_init_declarator}

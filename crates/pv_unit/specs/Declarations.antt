@@ -5,13 +5,14 @@ use Rattle.pv_token.specs.declared.words.Word.{Word}
 use Rattle.pv_types.specs.Ty.{Ty}
 use Rattle.pv_tree.specs.Syntax.{DeclarationTree, Declaration, InitDeclarator, DeclaratorTree, Composite, Tag, SpecifierTree, InitializerTree, Tree, OfDeclaration, OfSpecifier, OfInitializer, Trees, NoTrees, Then, OptionalTree, Absent, Present}
 use Rattle.pv_typed.specs.TypedUnits.{object_at}
-use Rattle.pv_check.specs.Sorts.{is_function}
-use Rattle.pv_check.specs.State.{State, After, Scope, Meaning, TypedefOf, and_then, give, env, innermost, find, bind}
+use Rattle.pv_typed.specs.TypedTree.{is_function}
+use Rattle.pv_check.specs.State.{State, After, Scope, Meaning, TypedefOf, give, env, innermost, find, bind}
+use Rattle.pv_typed.specs.Constants.{and_then}
 use Rattle.pv_check.specs.declared.specifiers.Storage.{Storage}
 use Rattle.pv_check.specs.declared.specifiers.Storage.TheVariants as storage
 use Rattle.pv_check.specs.Specifiers.{Specified, specified}
 use Rattle.pv_check.specs.Tags.{tag_alone}
-use Rattle.pv_check.specs.Texts.{is_main}
+use Rattle.pv_typed.specs.Mains.{named_main}
 use Rattle.pv_check.specs.Derivations.{Derivation, ByArray, declared_name, derived}
 use Rattle.pv_check.specs.Typing.{specifiers, steps}
 use Rattle.pv_types.specs.Compatible.{are_compatible}
@@ -98,7 +99,7 @@ typedef_found n t u = typedef_again (find (innermost u.state.scopes).names n) n 
 -- worked: typedef_names (proofs/WorkedDeclarations)
 abbrev pub typedef_declared : ℕ → Ty → Bool → UnitState → Option UnitState
 typedef_declared n t unsized u =
-    if is_main u.state.unit.names (unit_name n) && not (is_function t && are_compatible t main_type) then None
+    if named_main u.state.unit.names (unit_name n) && not (is_function t && are_compatible t main_type) then None
     else typedef_found n t (record u { unsized_typedef = u.unsized_typedef || unsized })
 
 -- 6.7.1p1: the storage-class specifier `extern`

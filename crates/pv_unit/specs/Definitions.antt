@@ -7,7 +7,8 @@ use Rattle.pv_tree.specs.Syntax.{DeclaratorTree, Trees}
 use Rattle.pv_typed.specs.TypedUnits.{object_at, function_at, name_at}
 use Rattle.pv_check.specs.Sorts.{is_void}
 use Rattle.pv_check.specs.Library.{library_named}
-use Rattle.pv_check.specs.State.{State, and_then, env}
+use Rattle.pv_check.specs.State.{State, env}
+use Rattle.pv_typed.specs.Constants.{and_then}
 use Rattle.pv_check.specs.declared.specifiers.Storage.{Storage}
 use Rattle.pv_check.specs.declared.specifiers.Storage.TheVariants as storage
 use Rattle.pv_check.specs.Derivations.{Derivation, Parameter, Signature, Steps, declared_name, derived}

@@ -4,11 +4,11 @@ use Rattle.std.specs.declared.option.Option.{Option}
 use Rattle.std.specs.Bool.{beq}
 use Rattle.pv_types.specs.Ty.{Ty, FunctionTy}
 use Rattle.pv_types.specs.Compatible.{are_compatible}
-use Rattle.pv_check.specs.Texts.{is_main, is_printf}
+use Rattle.pv_typed.specs.Mains.{named_main}
+use Rattle.pv_check.specs.Library.{is_printf, library_named}
 use Rattle.pv_typed.specs.TypedUnits.{TypedObject, TypedFunction, object_at, function_at}
 use Rattle.pv_check.specs.State.{State, Meaning, ObjectName, FunctionName, innermost, find, bind}
 use Rattle.pv_check.specs.Composite.{composite}
-use Rattle.pv_check.specs.Library.{library_named}
 use Rattle.pv_unit.specs.Library.{agrees, main_type}
 
 -- 6.7p4, 6.9p5: an object or a function with a declaration at file scope, in the order of their first ones: whether it is defined
@@ -94,7 +94,7 @@ object_again (Some _) n line t u = None
 -- 6.7p4, 5.1.2.2.1p1: an object of file scope; `main` is a function
 -- worked: redeclared_objects (proofs/WorkedDeclarations)
 abbrev pub object_declared : ℕ → ℕ → Ty → UnitState → Option (ℕ × UnitState)
-object_declared n line t u = if is_main u.state.unit.names (unit_name n) then None else object_again (find (innermost u.state.scopes).names n) n line t u
+object_declared n line t u = if named_main u.state.unit.names (unit_name n) then None else object_again (find (innermost u.state.scopes).names n) n line t u
 
 -- ---- a function
 
@@ -130,7 +130,7 @@ is_variadic _ = false
 -- worked: library_functions, main_functions (proofs/WorkedDeclarations)
 abbrev pub may_have : List (List ℕ) → ℕ → Ty → Bool
 may_have texts n t =
-    (not (is_main texts n) || are_compatible t main_type) && agrees (library_named (slice_index_or texts n [])) t && (not (is_variadic t) || is_printf texts n)
+    (not (named_main texts n) || are_compatible t main_type) && agrees (library_named (slice_index_or texts n [])) t && (not (is_variadic t) || is_printf texts n)
 
 -- 6.7p4: by what the name stands for at file scope
 abbrev pub function_found : ℕ → ℕ → Ty → UnitState → Option (ℕ × UnitState)

@@ -8,8 +8,8 @@ use Rattle.pv_types.specs.Ty.{Ty}
 use Rattle.pv_typed.specs.TypedTree.{TypedTree, type_of}
 use Rattle.pv_typed.specs.TypedStatement.{TypedStatement, Block, ForDeclaration, Declare, Return, Case as CaseOf, Default as DefaultOf, statements_of}
 use Rattle.pv_typed.specs.TypedUnits.{object_at}
-use Rattle.pv_typed.specs.Constants.{integer}
-use Rattle.pv_check.specs.State.{State, After, Meaning, ObjectName, and_then, give, innermost, left}
+use Rattle.pv_typed.specs.Constants.{integer, and_then}
+use Rattle.pv_check.specs.State.{State, After, Meaning, ObjectName, give, innermost, left}
 use Rattle.pv_check.specs.Sorts.{is_scalar, is_void, kind_of}
 use Rattle.pv_check.specs.Typing.{types}
 use Rattle.pv_check.specs.Rows.{operand}

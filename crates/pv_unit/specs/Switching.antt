@@ -10,7 +10,8 @@ use Rattle.pv_typed.specs.Tables.{Stored}
 use Rattle.pv_typed.specs.NodeTrees.{expression_at, statement_at}
 use Rattle.pv_check.specs.Raw.{Raw}
 use Rattle.pv_check.specs.Open.{state_of}
-use Rattle.pv_check.specs.State.{State, After, and_then, give}
+use Rattle.pv_check.specs.State.{State, After, give}
+use Rattle.pv_typed.specs.Constants.{and_then}
 use Rattle.pv_unit.specs.declared.labels.Label.{Label}
 use Rattle.pv_unit.specs.declared.labels.Label.TheVariants as label
 use Rattle.pv_unit.specs.declared.labels.Labels.{Labels}

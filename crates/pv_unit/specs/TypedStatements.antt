@@ -5,7 +5,8 @@ use Rattle.pv_tree.specs.Syntax.{DeclarationTree, StatementTree, Block, Expressi
 use Rattle.pv_typed.specs.TypedTree.{TypedTree}
 use Rattle.pv_typed.specs.TypedStatement.{TypedStatement}
 use Rattle.pv_typed.specs.TypedStatement as typed
-use Rattle.pv_check.specs.State.{State, After, and_then, give, entered}
+use Rattle.pv_check.specs.State.{State, After, give, entered}
+use Rattle.pv_typed.specs.Constants.{and_then}
 use Rattle.pv_unit.specs.Blocks.{Reached, block_declaration}
 use Rattle.pv_unit.specs.Statements.{Around, in_loop, in_switch, leaving, valued, condition, optional, Label, typed_labels, under, returned, switched, reached, block_of, round_of, automatic_alone}
 

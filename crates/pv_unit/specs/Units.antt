@@ -5,7 +5,8 @@ use Rattle.pv_tree.specs.Syntax.{DeclarationTree}
 use Rattle.pv_typed.specs.Mains.{literal_text, heap_text, named_main}
 use Rattle.pv_typed.specs.TypedUnits.{WholeUnit, TypedObject, TypedFunction, name_at}
 use Rattle.pv_check.specs.Library.{library_named}
-use Rattle.pv_check.specs.State.{State, Used, UsedObject, UsedFunction, PointedFunction, no_scope, and_then}
+use Rattle.pv_check.specs.State.{State, Used, UsedObject, UsedFunction, PointedFunction, no_scope}
+use Rattle.pv_typed.specs.Constants.{and_then}
 use Rattle.pv_unit.specs.Definitions.{may_end}
 use Rattle.pv_unit.specs.Entities.{Entity, UnitState, unit_name, is_entity}
 use Rattle.pv_unit.specs.Functions.{typed_external}

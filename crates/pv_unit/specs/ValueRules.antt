@@ -10,7 +10,7 @@ use Rattle.pv_check.specs.State as check
 use Rattle.pv_check.specs.Typing.{types}
 use Rattle.pv_check.specs.Rows.{operand}
 use Rattle.pv_check.specs.Values.{assigned}
-use Rattle.pv_check.specs.Primary.{bytes_of_text}
+use Rattle.pv_check.specs.StringLiterals.{bytes_of_text}
 use Rattle.pv_unit.specs.Rules.{Rules, After, StringLiteral}
 use Rattle.pv_unit.specs.Initialized.{Given, initialized_object}
 

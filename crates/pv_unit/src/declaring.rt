@@ -6,9 +6,9 @@ ghost use Rattle.pv_tree.specs.Tables.{optional_at, is_initializer, initializer_
 ghost use Rattle.pv_typed.specs.Tables.{whole};
 ghost use Rattle.pv_check.specs.Raw.{raw_innermost, meaning_if};
 ghost use Rattle.pv_check.specs.Open.{IsOpen, Goes, EntryKnown};
-ghost use Rattle.pv_check.specs.Sorts.{is_function};
+ghost use Rattle.pv_typed.specs.TypedTree.{is_function};
 ghost use Rattle.pv_check.specs.State.{find};
-ghost use Rattle.pv_check.specs.Texts.{is_main};
+ghost use Rattle.pv_typed.specs.Mains.{named_main};
 ghost use Rattle.pv_unit.specs.Library.{main_type};
 ghost use Rattle.pv_unit.specs.Entities.{unit_name, with_new_object, with_new_function, may_have, object_again, object_declared, function_again, function_found, function_declared};
 ghost use Rattle.pv_unit.specs.Declarations.{typedef_again, typedef_found, typedef_declared, typedef_entity, plain_entity, given_entity, variable_entity, entity_declared, is_extern, plain_object, plain_function};
@@ -253,7 +253,7 @@ fn may_be_typedef(s: &Scopes, into: &mut TypedUnit, name: u32, t: TypeId) -> Res
     ensures opened { OnOk result (IsOpen into.new s.now) }
     ensures goes { OnOk result (Goes into.old into.new) }
     ensures whole { OnOk result (whole into.new ≡ whole into.old) }
-    ensures answer { IfOk result (λ b. b ≡ not (is_main into.old.names (unit_name name) && not (is_function (tree into.old.known t.0) && are_compatible (tree into.old.known t.0) main_type))) }
+    ensures answer { IfOk result (λ b. b ≡ not (named_main into.old.names (unit_name name) && not (is_function (tree into.old.known t.0) && are_compatible (tree into.old.known t.0) main_type))) }
 {
     if !is_main(into, name) {
         return Ok(true);

@@ -4,7 +4,8 @@ ghost use Rattle.pv_types.specs.Known.{tree};
 ghost use Rattle.pv_types.specs.Compatible.{are_compatible};
 ghost use Rattle.pv_typed.specs.Tables.{whole};
 ghost use Rattle.pv_check.specs.Open.{IsOpen, Goes};
-ghost use Rattle.pv_check.specs.Texts.{is_main, is_printf};
+ghost use Rattle.pv_typed.specs.Mains.{named_main};
+ghost use Rattle.pv_check.specs.Library.{is_printf};
 ghost use Rattle.pv_unit.specs.Library.{main_type};
 ghost use Rattle.pv_unit.specs.Entities.{unit_name, is_variadic, may_have};
 
@@ -43,7 +44,7 @@ fn main_allows(s: &Scopes, into: &mut TypedUnit, name: u32, t: TypeId) -> Result
     ensures opened { OnOk result (IsOpen into.new s.now) }
     ensures goes { OnOk result (Goes into.old into.new) }
     ensures whole { OnOk result (whole into.new ≡ whole into.old) }
-    ensures answer { IfOk result (λ b. b ≡ (not (is_main into.old.names (unit_name name)) || are_compatible (tree into.old.known t.0) main_type)) }
+    ensures answer { IfOk result (λ b. b ≡ (not (named_main into.old.names (unit_name name)) || are_compatible (tree into.old.known t.0) main_type)) }
 {
     if !is_main(into, name) {
         return Ok(true);

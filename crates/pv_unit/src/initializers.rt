@@ -11,7 +11,7 @@ ghost use Rattle.pv_typed.specs.NodeTrees.{expression_at, IsExpression};
 ghost use Rattle.pv_check.specs.Growing.{AreSized, IsType, type_if};
 ghost use Rattle.pv_check.specs.Kept.{Kept, expression_if};
 ghost use Rattle.pv_check.specs.Open.{state_of, IsOpen, Goes};
-ghost use Rattle.pv_check.specs.Primary.{bytes_of_text};
+ghost use Rattle.pv_check.specs.StringLiterals.{bytes_of_text};
 ghost use Rattle.pv_check.specs.Raw.{Raw};
 ghost use Rattle.pv_check.specs.Values.{assigned};
 ghost use Rattle.pv_unit.specs.Initializers.{allowed, single, zero, zero_leaf, filled_type, filled_with};

@@ -1,6 +1,8 @@
 //! Names that have a meaning of their own (C17 5.1.2.2.1p1, 7.21.6.3p1).
 ghost use Rattle.std.specs.Prelude.{◌≡◌, ◌<◌, nat_eq, length, slice_index_or};
-ghost use Rattle.pv_check.specs.Texts.{same_text, has_text, is_main, is_printf};
+ghost use Rattle.pv_check.specs.Texts.{same_text, has_text};
+ghost use Rattle.pv_typed.specs.Mains.{named_main};
+ghost use Rattle.pv_check.specs.Library.{is_printf};
 ghost use Rattle.pv_unit.specs.Entities.{unit_name};
 
 use pv_typed::TypedUnit;
@@ -26,7 +28,7 @@ fn has_text(into: &TypedUnit, name: u32, text: &[u8]) -> bool
 
 /// Whether a name of the source is `main`.
 pub(crate) fn is_main(into: &TypedUnit, name: u32) -> bool
-    ensures { result ≡ is_main into.now.names (unit_name name) }
+    ensures { result ≡ named_main into.now.names (unit_name name) }
 {
     has_text(into, name, b"main")
 }

@@ -3,7 +3,7 @@ ghost use Rattle.std.specs.Prelude.{false, ◌≡◌, ◌<◌, ◌++◌, ◌∷�
 ghost use Rattle.pv_tree.specs.Tables.{statement_at as statement_of, trees_at, expression_at as expression_of, is_expression, is_statement, Is, HasList};
 ghost use Rattle.pv_typed.specs.NodeTrees.{statement_at, expression_at, IsExpression, IsStatement};
 ghost use Rattle.pv_check.specs.Open.{state_of, IsOpen};
-ghost use Rattle.pv_check.specs.State.{and_then};
+ghost use Rattle.pv_typed.specs.Constants.{and_then};
 ghost use Rattle.pv_unit.specs.Stated.{Moves, MovesOn};
 ghost use Rattle.pv_unit.specs.Statements.{valued, stands, case_label, typed_label, under};
 ghost use Rattle.pv_unit.specs.Switching.{label_of, labels_of, key_of, HasKeys, label_if, labels_if, label_behind, labels_behind};

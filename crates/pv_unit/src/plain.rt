@@ -6,7 +6,7 @@ ghost use Rattle.pv_tree.specs.TreeLines.{tree_line};
 ghost use Rattle.pv_typed.specs.NodeTrees.{statement_at, IsStatement};
 ghost use Rattle.pv_check.specs.Open.{state_of, IsOpen, EntryKnown};
 ghost use Rattle.pv_check.specs.Raw.{meaning_in};
-ghost use Rattle.pv_check.specs.State.{and_then};
+ghost use Rattle.pv_typed.specs.Constants.{and_then};
 ghost use Rattle.pv_unit.specs.Blocks.{block_declaration};
 ghost use Rattle.pv_unit.specs.Statements.{is_automatic, automatic_alone};
 ghost use Rattle.pv_unit.specs.TypedStatements.{expression_of, if_automatic, typed_statement};

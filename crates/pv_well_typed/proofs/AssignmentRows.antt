@@ -17,7 +17,8 @@ use Rattle.pv_check.specs.Kinds.{promoted, common}
 use Rattle.pv_check.specs.Qualified.{unqualified}
 use Rattle.pv_check.specs.Sorts.{kind_in, kind_of, pointed_in, pointed_by, complete_pointed_by}
 use Rattle.pv_check.specs.Values.{written, converted, assigned, is_modifiable}
-use Rattle.pv_check.specs.Assignment.{assigned_to, simple_of, compound_at, arithmetic_kinds, arithmetic_assign, shift_kinds, shift_assign, step_to, pointer_assign, sum_assign, assign_by, assign_of, comma_of}
+use Rattle.pv_check.specs.Assignment.{compound_at, arithmetic_assign, shift_assign, sum_assign, assign_by, assign_of, comma_of}
+use Rattle.pv_check.specs.AssignmentParts.{assigned_to, simple_of, arithmetic_kinds, shift_kinds, step_to, pointer_assign}
 use Rattle.pv_guards.specs.Typed.{MayBeRight}
 use Rattle.pv_well_typed.specs.Proper.{IsValueOrVoid, IsProper}
 use Rattle.pv_well_typed.specs.Later.{IsFinished, Extends}

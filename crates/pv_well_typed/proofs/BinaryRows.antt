@@ -13,14 +13,16 @@ use Rattle.pv_types.specs.Ty.{Ty, VoidTy, IntTy, PointerTo, ArrayOf, StructTag, 
 use Rattle.pv_typed.specs.Addresses.{is_null_constant}
 use Rattle.pv_typed.specs.declared.nodes.Sign.{Sign}
 use Rattle.pv_typed.specs.declared.nodes.Sign.TheVariants.{Plus, Minus}
-use Rattle.pv_typed.specs.TypedTree.{TypedTree, Arithmetic, PointerSum, PointerDifference, PointerOrder, LogicalAnd, LogicalOr, type_of}
+use Rattle.pv_typed.specs.TypedTree.{TypedTree, Arithmetic, PointerSum, PointerDifference, PointerOrder, LogicalAnd, LogicalOr, type_of, is_function}
 use Rattle.pv_typed.specs.TypedUnits.{WholeUnit, layouts}
 use Rattle.pv_check.specs.Kinds.{promoted, common}
-use Rattle.pv_check.specs.Sorts.{kind_of, pointed_by, complete_pointed_by, is_scalar, are_alike, is_function, is_void_beside}
-use Rattle.pv_check.specs.State.{or_else}
+use Rattle.pv_check.specs.Sorts.{kind_of, pointed_by, complete_pointed_by, is_scalar, are_alike, is_void_beside}
+use Rattle.std.specs.Option.{option_or}
 use Rattle.pv_check.specs.Values.{written, converted}
-use Rattle.pv_check.specs.Equality.{equality, right_converted, left_converted, equal_pointers, equal_at, pointers_equal}
-use Rattle.pv_check.specs.Binary.{arithmetic_at, arithmetic_of, shift_at, shift_of, sum_at, pointer_sum_of, difference_at, pointer_difference_of, order_at, pointer_order_of, order_of, equality_of, are_scalar, and_of, or_of, binary_of}
+use Rattle.pv_check.specs.Equality.{equality, right_converted, left_converted, equal_at, pointers_equal}
+use Rattle.pv_check.specs.EqualityParts.{equal_pointers}
+use Rattle.pv_check.specs.Binary.{arithmetic_of, shift_of, sum_at, pointer_sum_of, difference_at, pointer_difference_of, order_of, equality_of, are_scalar, binary_of}
+use Rattle.pv_check.specs.BinaryParts.{arithmetic_at, shift_at, order_at, pointer_order_of, and_of, or_of}
 use Rattle.pv_world.specs.Pointers.{is_order}
 use Rattle.pv_guards.specs.Typed.{IsElementPointer, IsScalarType, MayBeRight, MayConvert}
 use Rattle.pv_well_typed.specs.Proper.{IsValueOrVoid, IsProper}
@@ -32,7 +34,7 @@ use Rattle.pv_well_typed.proofs.Promotions.{promoted-wide, common-wide}
 use Rattle.pv_well_typed.proofs.UnaryRows.{both-true}
 
 -- the first of two answers that there is
-pub either-answer : (o p : Option TypedTree) (x : TypedTree) → or_else o p ≡ Some x → (o ≡ Some x) ⊎ (p ≡ Some x)
+pub either-answer : (o p : Option TypedTree) (x : TypedTree) → option_or o p ≡ Some x → (o ≡ Some x) ⊎ (p ≡ Some x)
 either-answer None p x e = inr e
 either-answer (Some a) p x e = inl e
 

@@ -10,9 +10,10 @@ use Rattle.pv_typed.specs.Known.{Each}
 use Rattle.pv_typed.proofs.Each.{each_append, each_weaker, each_left, each_right}
 use Rattle.pv_typed.specs.TypedUnits.{WholeUnit, TypedObject, Store, no_object, layouts, object_at}
 use Rattle.pv_check.specs.Derivations.{declared_name, derived}
-use Rattle.pv_check.specs.Sorts.{is_function}
+use Rattle.pv_typed.specs.TypedTree.{is_function}
 use Rattle.pv_check.specs.Specifiers.{Specified, specified}
-use Rattle.pv_check.specs.State.{State, After, ObjectName, and_then, give, env, innermost, find, is_file_scope}
+use Rattle.pv_check.specs.State.{State, After, ObjectName, give, env, innermost, find, is_file_scope}
+use Rattle.pv_typed.specs.Constants.{and_then}
 use Rattle.pv_check.specs.Tags.{composite_named, tag_alone}
 use Rattle.pv_check.specs.Typing.{specifiers, steps}
 use Rattle.pv_unit.specs.Blocks.{Reached, block_storage, with_initializer, block_object, reached, is_present, block_declarator, block_init_declarator, block_declarators, block_alone, block_declared, block_declaration}

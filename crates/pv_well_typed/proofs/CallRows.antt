@@ -10,7 +10,8 @@ use Rattle.pv_typed.specs.TypedUnits.{WholeUnit, layouts, function_at}
 use Rattle.pv_check.specs.Qualified.{unqualified}
 use Rattle.pv_check.specs.Sorts.{is_void, pointed_by}
 use Rattle.pv_check.specs.Values.{written, promoted_value, assigned}
-use Rattle.pv_check.specs.Calls.{more, further, passed, may_pass, library_call, program_call, called, call_at, pointed_call, call_to, call_through, call_of}
+use Rattle.pv_check.specs.Calls.{further, passed, may_pass, called, call_at, call_to}
+use Rattle.pv_check.specs.CallParts.{more, library_call, program_call, pointed_call, call_through, call_of}
 use Rattle.pv_guards.specs.Typed.{HasType, IsValueType, AreLike, IsSignature, HasBody, ArePassed}
 use Rattle.pv_well_typed.specs.Proper.{IsProper}
 use Rattle.pv_well_typed.specs.Later.{library_of}

@@ -12,8 +12,11 @@ use Rattle.pv_typed.specs.Adding.{with_literal}
 use Rattle.pv_typed.specs.Known.{Each}
 use Rattle.pv_typed.proofs.Each.{each_weaker, each_append, each_left}
 use Rattle.pv_typed.specs.TypedUnits.{WholeUnit, TypedObject, Literal, no_literal, no_object, layouts}
-use Rattle.pv_check.specs.Primary.{with_use, text_of}
-use Rattle.pv_check.specs.State.{State, Scope, no_scope, Meaning, TagMeaning, Used, find, bound, or_else, look, look_tag, look_by, names_in, tags_in, innermost, bind, bind_tag, entered}
+use Rattle.pv_check.specs.Primary.{with_use}
+use Rattle.pv_check.specs.StringLiterals.{text_of}
+use Rattle.pv_check.specs.State.{State, Scope, no_scope, Meaning, TagMeaning, Used, find, look, look_tag, look_by, innermost, bind, bind_tag, entered}
+use Rattle.pv_check.specs.StateParts.{bound, names_in, tags_in}
+use Rattle.std.specs.Option.{option_or}
 use Rattle.pv_guards.specs.Typed.{IsIn}
 use Rattle.pv_well_typed.specs.Proper.{IsProper}
 use Rattle.pv_well_typed.specs.Later.{IsThere, IsLaterUnit, Later}
@@ -94,7 +97,7 @@ pub look-each : {M : Type 0} (f : Scope → List (ℕ × M)) (P : M → Type 0) 
 look-each f P n [] h m e = absurd cc
 look-each {M} f P n (s ∷ ss) h m e = by (look_by f ss n) (look-each f P n ss h.1 m) e
   where
-    by : (o : Option M) → (o ≡ Some m → P m) → or_else o (find (f s) n) ≡ Some m → P m
+    by : (o : Option M) → (o ≡ Some m → P m) → option_or o (find (f s) n) ≡ Some m → P m
     by None rest e = find-each P n (f s) h.0 m e
     by (Some k) rest e = rest e
 

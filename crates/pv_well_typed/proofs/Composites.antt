@@ -8,8 +8,9 @@ use Rattle.pv_types.specs.Matching.{Matches}
 use Rattle.pv_types.specs.Ty.{Ty, VoidTy, IntTy, PointerTo, ArrayOf, StructTag, UnionTag, FunctionTy, ConstOf}
 use Rattle.pv_types.proofs.Matched.{matching_array, matching_result, matching_size}
 use Rattle.pv_typed.specs.TypedUnits.{WholeUnit, layouts}
-use Rattle.pv_check.specs.Composite.{composite, known_size}
-use Rattle.pv_check.specs.Sorts.{is_function}
+use Rattle.pv_check.specs.Composite.{composite}
+use Rattle.pv_check.specs.RowParts.{known_size}
+use Rattle.pv_typed.specs.TypedTree.{is_function}
 use Rattle.pv_well_typed.specs.Proper.{IsValueOrVoid, IsSmallArray, IsProper}
 
 -- ---- sizes: a complete type has the size of its composite type with another

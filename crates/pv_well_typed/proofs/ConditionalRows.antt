@@ -5,14 +5,16 @@ use Rattle.pv_num.specs.declared.kinds.IntKind.{IntKind}
 use Rattle.pv_types.specs.Ty.{Ty, VoidTy, IntTy, PointerTo, ArrayOf, StructTag, UnionTag, FunctionTy, ConstOf}
 use Rattle.pv_types.proofs.Matched.{matching}
 use Rattle.pv_typed.specs.Addresses.{is_null_constant}
-use Rattle.pv_typed.specs.TypedTree.{TypedTree, Conditional, type_of}
+use Rattle.pv_typed.specs.TypedTree.{TypedTree, Conditional, type_of, is_function}
 use Rattle.pv_typed.specs.TypedUnits.{WholeUnit}
 use Rattle.pv_check.specs.Kinds.{common}
-use Rattle.pv_check.specs.Qualified.{unqualified, qualified_if, is_const, same}
-use Rattle.pv_check.specs.Sorts.{is_scalar, are_alike, has_void, is_function}
+use Rattle.pv_types.specs.Qualifiers.{is_const}
+use Rattle.pv_check.specs.Qualified.{unqualified, qualified_if, same}
+use Rattle.pv_check.specs.Sorts.{is_scalar, are_alike, has_void}
 use Rattle.pv_check.specs.Composite.{composite}
 use Rattle.pv_check.specs.Values.{written, converted}
-use Rattle.pv_check.specs.Conditional.{pointer_to, merged, pointer_type, result_type, type_of_chosen, chosen, conditional_of}
+use Rattle.pv_check.specs.Conditional.{pointer_type, result_type, conditional_of}
+use Rattle.pv_check.specs.ConditionalParts.{pointer_to, merged, type_of_chosen, chosen}
 use Rattle.pv_check.proofs.Same.{same_equal, same_itself}
 use Rattle.pv_guards.specs.Typed.{IsScalarType, MayConvert}
 use Rattle.pv_well_typed.specs.Proper.{IsValueOrVoid, IsProper}

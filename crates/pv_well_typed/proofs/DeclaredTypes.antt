@@ -12,12 +12,16 @@ use Rattle.pv_typed.proofs.Each.{each_append}
 use Rattle.pv_typed.specs.TypedUnits.{WholeUnit}
 use Rattle.pv_check.specs.declared.specifiers.Storage.{Storage}
 use Rattle.pv_check.specs.declared.words.TypeWords.{TypeWords}
-use Rattle.pv_check.specs.Derivations.{Derivation, ByPointer, ByArray, ByFunction, pointer_to, function_of, step, derived, adjusted}
+use Rattle.pv_check.specs.Derivations.{Derivation, ByPointer, ByArray, ByFunction, step, derived, adjusted}
+use Rattle.pv_check.specs.DerivationParts.{pointer_to, function_of}
 use Rattle.pv_check.specs.Qualified.{qualified, with_const, unqualified}
-use Rattle.pv_check.specs.Sorts.{is_array, is_function}
-use Rattle.pv_check.specs.Specifiers.{Seen, Specified, one_storage, with_keyword, with_type, base_type, specified, specified_with, is_plain, without_storage}
-use Rattle.pv_check.specs.State.{and_then}
-use Rattle.pv_check.specs.Words.{Row, rows, named_by, no_words, counted, same_words, type_of_words}
+use Rattle.pv_check.specs.Sorts.{is_array}
+use Rattle.pv_typed.specs.TypedTree.{is_function}
+use Rattle.pv_check.specs.Specifiers.{Seen, Specified, one_storage, with_keyword, with_type, base_type, specified, is_plain}
+use Rattle.pv_check.specs.SpecifierParts.{specified_with, without_storage}
+use Rattle.pv_typed.specs.Constants.{and_then}
+use Rattle.pv_check.specs.Words.{Row, rows, named_by, no_words, same_words, type_of_words}
+use Rattle.pv_check.specs.WordParts.{counted}
 use Rattle.pv_guards.specs.Typed.{AreFixed}
 use Rattle.pv_well_typed.specs.Proper.{IsProper}
 use Rattle.pv_well_typed.specs.Later.{Extends}

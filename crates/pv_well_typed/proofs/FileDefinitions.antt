@@ -17,9 +17,11 @@ use Rattle.pv_typed.specs.TypedUnits.{WholeUnit, TypedObject, TypedFunction, no_
 use Rattle.pv_check.specs.Derivations.{Derivation, ByFunction, Parameter as OneParameter, Signature, Steps, parameter_types, declared_name, derived, step}
 use Rattle.pv_check.specs.Library.{library_named}
 use Rattle.pv_check.specs.Qualified.{unqualified}
-use Rattle.pv_check.specs.Sorts.{is_void, is_function, is_array}
+use Rattle.pv_check.specs.Sorts.{is_void, is_array}
+use Rattle.pv_typed.specs.TypedTree.{is_function}
 use Rattle.pv_check.specs.Specifiers.{Specified}
-use Rattle.pv_check.specs.State.{State, After, Scope, Meaning, innermost, and_then, env, left}
+use Rattle.pv_check.specs.State.{State, After, Scope, Meaning, innermost, env, left}
+use Rattle.pv_typed.specs.Constants.{and_then}
 use Rattle.pv_check.specs.Typing.{steps}
 use Rattle.pv_unit.specs.Declarations.{specified_by, noted}
 use Rattle.pv_unit.specs.Definitions.{Head, may_return, may_define, may_be_defined, defined_once, head_function, head_of, may_head, head_derived, head_signed, head_stepped, head_specified, head}

@@ -13,8 +13,9 @@ use Rattle.pv_typed.proofs.Each.{each_append, each_weaker}
 use Rattle.pv_typed.specs.TypedUnits.{WholeUnit, TypedFunction, no_function, function_at, name_at}
 use Rattle.pv_check.specs.Composite.{composite}
 use Rattle.pv_check.specs.Library.{library_named}
-use Rattle.pv_check.specs.Sorts.{is_function}
-use Rattle.pv_check.specs.State.{State, Scope, no_scope, Meaning, ObjectName, FunctionName, TypedefOf, ConstantOf, Used, UsedObject, UsedFunction, PointedFunction, innermost, find, bound}
+use Rattle.pv_typed.specs.TypedTree.{is_function}
+use Rattle.pv_check.specs.State.{State, Scope, no_scope, Meaning, ObjectName, FunctionName, TypedefOf, ConstantOf, Used, UsedObject, UsedFunction, PointedFunction, innermost, find}
+use Rattle.pv_check.specs.StateParts.{bound}
 use Rattle.pv_unit.specs.Entities.{Entity, UnitState, unit_name, is_initialized, entity, with_function, with_function_type, new_function, with_new_function, function_again, may_have, function_found, function_declared}
 use Rattle.pv_unit.specs.Declarations.{noted, plain_function}
 use Rattle.pv_guards.specs.TypedStatements.{IsDefinition}
@@ -30,7 +31,7 @@ use Rattle.pv_well_typed.proofs.DeclaredTypes.{from-some}
 use Rattle.pv_well_typed.proofs.StatementWalk.{visible-more}
 use Rattle.pv_well_typed.proofs.FileScope.{HasEntity, AreFound, found-set, found-new, declared-objects, declared-has, has-declared, has-front, has-behind, has-either, initialized-front, IsEntityOf, IsFunctionOf, blank, IsUnit, FunctionIs, Stays, UnitIs, Goes, then-goes}
 use Rattle.pv_well_typed.proofs.FileObjects.{noted-goes, as-goes}
-use Rattle.pv_well_typed.proofs.FunctionTypes.{main-named, main-is, composite-main, composite-fixed, composite-function, may-have, may-type, fixed-back, composite-shape, compatible-signs}
+use Rattle.pv_well_typed.proofs.FunctionTypes.{main-is, composite-main, composite-fixed, composite-function, may-have, may-type, fixed-back, composite-shape, compatible-signs}
 
 module _ (v : WholeUnit) (done : IsFinished v) where
   -- the composite type's signature is that of the newer type
@@ -232,7 +233,7 @@ module _ (v : WholeUnit) (done : IsFinished v) where
             fixed = λ b. let both : false ≡ true = sym (ap (λ (x : TypedFunction). is_some x.body) e.1) ∙ b in absurd cc;
             unset = λ b. ap (λ (x : TypedFunction). x.params) e.1;
             fresh = λ b. ap (λ (x : TypedFunction). is_some x.body) e.1;
-            main = λ b. ap (λ (x : TypedFunction). x.t) e.1 ∙ main-is t may.0 (h.main (main-named u.state.unit.names (unit_name n) (subst (λ (x : TypedFunction). named_main u.state.unit.names x.name ≡ true) e.1 b)));
+            main = λ b. ap (λ (x : TypedFunction). x.t) e.1 ∙ main-is t may.0 (h.main (subst (λ (x : TypedFunction). named_main u.state.unit.names x.name ≡ true) e.1 b));
           }
 
       is-at : UnitIs v u → Stays v u → (f : ℕ) → (f < functions-of u.state) ⊎ (functions-of u.state ≤ f) → f < functions-of (new_function n line t u.state)

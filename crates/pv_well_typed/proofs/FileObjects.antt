@@ -14,9 +14,10 @@ use Rattle.pv_typed.proofs.Each.{each_append, each_weaker}
 use Rattle.pv_typed.specs.TypedUnits.{WholeUnit, TypedObject, Store, no_object, layouts, object_at}
 use Rattle.pv_check.specs.Composite.{composite}
 use Rattle.pv_check.specs.Qualified.{same}
-use Rattle.pv_check.specs.Sorts.{is_function}
-use Rattle.pv_check.specs.State.{State, After, Scope, Meaning, ObjectName, FunctionName, TypedefOf, ConstantOf, and_then, innermost, find, bind, env}
-use Rattle.pv_check.specs.Texts.{is_main}
+use Rattle.pv_typed.specs.TypedTree.{is_function}
+use Rattle.pv_check.specs.State.{State, After, Scope, Meaning, ObjectName, FunctionName, TypedefOf, ConstantOf, innermost, find, bind, env}
+use Rattle.pv_typed.specs.Constants.{and_then}
+use Rattle.pv_typed.specs.Mains.{named_main}
 use Rattle.pv_unit.specs.Library.{main_type}
 use Rattle.pv_unit.specs.Entities.{Entity, UnitState, unit_name, is_entity, marked, is_initialized, entity, with_object, with_object_type, new_object, with_new_object, object_again, object_declared}
 use Rattle.pv_unit.specs.Declarations.{typedef_again, typedef_found, typedef_declared, noted, object_noted, object_initialized, plain_object}
@@ -329,7 +330,7 @@ module _ (v : WholeUnit) (done : IsFinished v) where
   again-goes k (Some (ConstantOf c)) n line t u i f a e = absurd cc
 
   pub object-declared : (k : Option ℕ) (n line : ℕ) (t : Ty) (u : UnitState) → IsUnit v k u → (a : ℕ × UnitState) → object_declared n line t u ≡ Some a → ObjectAt (IsProper v t) k u a
-  object-declared k n line t u i a e = by (is_main u.state.unit.names (unit_name n)) e
+  object-declared k n line t u i a e = by (named_main u.state.unit.names (unit_name n)) e
     where
       by : (b : Bool) → (if b then None else object_again (find (innermost u.state.scopes).names n) n line t u) ≡ Some a → ObjectAt (IsProper v t) k u a
       by true q = absurd cc
@@ -430,7 +431,7 @@ module _ (v : WholeUnit) (done : IsFinished v) where
   typedef-again-goes k (Some (ConstantOf c)) n t u w i e = absurd cc
 
   pub typedef-goes : (k : Option ℕ) (n : ℕ) (t : Ty) (unsized : Bool) (u w : UnitState) → IsUnit v k u → typedef_declared n t unsized u ≡ Some w → Goes (IsProper v t) v k u w
-  typedef-goes k n t unsized u w i e = by (is_main u.state.unit.names (unit_name n) && not (is_function t && are_compatible t main_type)) e
+  typedef-goes k n t unsized u w i e = by (named_main u.state.unit.names (unit_name n) && not (is_function t && are_compatible t main_type)) e
     where
       by : (b : Bool) → (if b then None else typedef_found n t (record u { unsized_typedef = u.unsized_typedef || unsized })) ≡ Some w → Goes (IsProper v t) v k u w
       by true q = absurd cc

@@ -10,8 +10,9 @@ use Rattle.pv_typed.specs.Known.{Each}
 use Rattle.pv_typed.specs.Mains.{named_main}
 use Rattle.pv_typed.proofs.Each.{each_weaker}
 use Rattle.pv_typed.specs.TypedUnits.{WholeUnit, TypedObject, TypedFunction, no_function, layouts, object_at, function_at}
-use Rattle.pv_check.specs.Sorts.{is_function}
-use Rattle.pv_check.specs.State.{State, Scope, Meaning, ObjectName, FunctionName, TypedefOf, ConstantOf, find, bound, innermost}
+use Rattle.pv_typed.specs.TypedTree.{is_function}
+use Rattle.pv_check.specs.State.{State, Scope, Meaning, ObjectName, FunctionName, TypedefOf, ConstantOf, find, innermost}
+use Rattle.pv_check.specs.StateParts.{bound}
 use Rattle.pv_unit.specs.Entities.{Entity, UnitState, unit_name, is_entity, is_initialized, marked}
 use Rattle.pv_guards.specs.Typed.{IsIn}
 use Rattle.pv_guards.specs.TypedStatements.{IsDefinition}

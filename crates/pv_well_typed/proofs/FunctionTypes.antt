@@ -2,7 +2,7 @@
 use Rattle.std.proofs.Common.{◌≡◌, ℕ, ◌==◌, Bool, true, false, not, ◌&&◌, ◌||◌, Option, Some, None, List, [], ◌∷◌, get_or, nat_eq, refl, sym, ap, subst, ◌∙◌, rules}
 use Rattle.std.specs.Bool.{beq}
 use Rattle.std.specs.Cmp.Lexicographic.{pointwise}
-use Rattle.std.proofs.lemmas.Bool.{eqb-true, eq-eqb}
+use Rattle.std.proofs.lemmas.Bool.{eqb-true}
 use Rattle.pv_num.specs.declared.kinds.IntKind.{IntKind}
 use Rattle.pv_num.specs.declared.kinds.IntKind.TheVariants.{Char, Int, ULong}
 use Rattle.pv_script.specs.declared.library.Library.{Library}
@@ -11,12 +11,12 @@ use Rattle.pv_types.specs.Matching.{Matches, MatchAll}
 use Rattle.pv_types.specs.Compatible.{IntForm, FunctionForm, NoForms, same_kind, form_of, forms_of, with_const, is_constant, alike, all_alike, are_compatible}
 use Rattle.pv_types.specs.Ty.{Ty, Tys, NoTys, MoreTys, VoidTy, IntTy, PointerTo, ArrayOf, StructTag, UnionTag, FunctionTy, ConstOf}
 use Rattle.pv_types.proofs.Matched.{matching, matching_result, matching_parameters}
-use Rattle.pv_typed.specs.Mains.{named_main, main_text}
+use Rattle.pv_typed.specs.Mains.{named_main}
 use Rattle.pv_typed.specs.TypedUnits.{WholeUnit}
 use Rattle.pv_check.specs.Composite.{composite, composites}
-use Rattle.pv_check.specs.Library.{library_functions, function_among, library_named}
-use Rattle.pv_check.specs.Sorts.{is_function}
-use Rattle.pv_check.specs.Texts.{same_text, is_main, is_printf}
+use Rattle.pv_check.specs.Library.{library_functions, function_among, library_named, is_printf}
+use Rattle.pv_typed.specs.TypedTree.{is_function}
+use Rattle.pv_check.specs.Texts.{same_text}
 use Rattle.pv_unit.specs.Library.{prototype, agrees, main_type}
 use Rattle.pv_unit.specs.Entities.{is_variadic, may_have}
 use Rattle.pv_guards.specs.Typed.{AreLike, AreAllLike, IsSignature, IsResultOf}
@@ -173,20 +173,8 @@ same-text (x ∷ a) (y ∷ b) e = let h = both-true (x == y) (same_text a b) e i
 same-text [] (y ∷ b) e = absurd cc
 same-text (x ∷ a) [] e = absurd cc
 
-text-same : (a : List ℕ) → same_text a a ≡ true
-text-same [] = refl
-text-same (x ∷ a) = both-hold (x == x) (same_text a a) (eq-eqb x x refl) (text-same a)
-  where
-    both-hold : (b d : Bool) → b ≡ true → d ≡ true → (b && d) ≡ true
-    both-hold true d p q = q
-    both-hold false d p q = p
-
 pub pointwise-same : (a b : List ℕ) → pointwise nat_eq a b ≡ true → a ≡ b
 pointwise-same a b e = search rules
-
--- 5.1.2.2.1p1
-pub main-named : (names : List (List ℕ)) (n : ℕ) → named_main names n ≡ true → is_main names n ≡ true
-main-named names n e = subst (λ a. same_text a main_text ≡ true) (sym (pointwise-same (get_or names n []) main_text e)) (text-same main_text)
 
 -- 7.21.6.3p1
 printf-named : (names : List (List ℕ)) (n : ℕ) → is_printf names n ≡ true → library_named (get_or names n []) ≡ Some library.Printf
@@ -299,15 +287,15 @@ composite-function v (Some l) (ConstOf t) u c f g h p = absurd cc
 -- ---- what its name asks of a function's type
 
 pub record MayHave (texts : List (List ℕ)) (n : ℕ) (t : Ty) : Type 0 where
-  pub main : is_main texts n ≡ true → are_compatible t main_type ≡ true
+  pub main : named_main texts n ≡ true → are_compatible t main_type ≡ true
   pub library : agrees (library_named (get_or texts n [])) t ≡ true
   pub variadic : is_variadic t ≡ true → is_printf texts n ≡ true
 
 pub may-have : (texts : List (List ℕ)) (n : ℕ) (t : Ty) → may_have texts n t ≡ true → MayHave texts n t
 may-have texts n t e =
-    let h = both-true ((not (is_main texts n) || are_compatible t main_type) && agrees (library_named (get_or texts n [])) t) (not (is_variadic t) || is_printf texts n) e in
-    let k = both-true (not (is_main texts n) || are_compatible t main_type) (agrees (library_named (get_or texts n [])) t) h.0 in
-    record { main = λ q. implied (is_main texts n) (are_compatible t main_type) k.0 q; library = k.1; variadic = λ q. implied (is_variadic t) (is_printf texts n) h.1 q }
+    let h = both-true ((not (named_main texts n) || are_compatible t main_type) && agrees (library_named (get_or texts n [])) t) (not (is_variadic t) || is_printf texts n) e in
+    let k = both-true (not (named_main texts n) || are_compatible t main_type) (agrees (library_named (get_or texts n [])) t) h.0 in
+    record { main = λ q. implied (named_main texts n) (are_compatible t main_type) k.0 q; library = k.1; variadic = λ q. implied (is_variadic t) (is_printf texts n) h.1 q }
   where
     implied : (a b : Bool) → (not a || b) ≡ true → a ≡ true → b ≡ true
     implied true b e q = e

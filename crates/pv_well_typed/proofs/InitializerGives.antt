@@ -16,7 +16,7 @@ use Rattle.pv_typed.specs.TypedTree.{TypedTree, type_of}
 use Rattle.pv_typed.specs.TypedUnits.{WholeUnit, TypedObject, Literal, Store, StoredValue, ValueOf, no_object, no_literal, layouts, object_at, literal_at}
 use Rattle.pv_typed.proofs.Each.{each_append, each_weaker}
 use Rattle.pv_typed.proofs.Persisting.{constant_kept}
-use Rattle.pv_check.specs.Primary.{bytes_of_text}
+use Rattle.pv_check.specs.StringLiterals.{bytes_of_text}
 use Rattle.pv_check.specs.Qualified.{unqualified}
 use Rattle.pv_check.specs.Rows.{operand}
 use Rattle.pv_check.specs.State.{State, Scope, Meaning, ObjectName, FunctionName, TypedefOf, ConstantOf, env}

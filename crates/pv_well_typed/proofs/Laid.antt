@@ -9,8 +9,10 @@ use Rattle.pv_types.proofs.Fills.{lt_true, layout_of-fills, AllFill-append}
 use Rattle.pv_types.proofs.LayoutLaws.{look-last, layouts-push, AreComplete-append}
 use Rattle.pv_check.specs.Derivations.{Steps, derived}
 use Rattle.pv_check.specs.Rows.{member_of}
-use Rattle.pv_check.specs.State.{After, and_then, give, env}
-use Rattle.pv_check.specs.Tags.{is_new_member, with_member, some_members}
+use Rattle.pv_check.specs.State.{After, give, env}
+use Rattle.pv_typed.specs.Constants.{and_then}
+use Rattle.pv_check.specs.Tags.{with_member}
+use Rattle.pv_check.specs.TagParts.{is_new_member, some_members}
 use Rattle.pv_well_typed.proofs.Operands.{some-same}
 use Rattle.pv_well_typed.proofs.UnaryRows.{both-true}
 use Rattle.pv_well_typed.proofs.DeclaredTypes.{from-some}

@@ -10,7 +10,8 @@ use Rattle.pv_typed.specs.TypedStatement.{TypedStatement, statements_of}
 use Rattle.pv_typed.specs.TypedUnits.{WholeUnit}
 use Rattle.pv_check.specs.Qualified.{unqualified}
 use Rattle.pv_check.specs.Sorts.{is_void}
-use Rattle.pv_check.specs.State.{State, After, and_then, give, entered, left}
+use Rattle.pv_check.specs.State.{State, After, give, entered, left}
+use Rattle.pv_typed.specs.Constants.{and_then}
 use Rattle.pv_check.specs.Values.{assigned}
 use Rattle.pv_unit.specs.Statements.{leaving, valued, condition, optional, value_returned, returned, declared_by, declared_in}
 use Rattle.pv_unit.specs.TypedStatements.{do_made, for_made, round_made, expression_of, expression_made}

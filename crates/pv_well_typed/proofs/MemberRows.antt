@@ -9,9 +9,10 @@ use Rattle.pv_types.specs.Ty.{Ty, VoidTy, IntTy, PointerTo, ArrayOf, StructTag, 
 use Rattle.pv_types.proofs.Fills.{struct_end-ge, union_end-ge}
 use Rattle.pv_typed.specs.Known.{Each}
 use Rattle.pv_typed.specs.TypedUnits.{WholeUnit}
-use Rattle.pv_check.specs.Members.{member_named, member_of}
+use Rattle.pv_check.specs.Members.{member_named}
+use Rattle.pv_check.specs.MemberParts.{member_of}
 use Rattle.pv_check.specs.Postfix.{complete_member}
-use Rattle.pv_check.specs.Sorts.{is_composite}
+use Rattle.pv_check.specs.SortParts.{is_composite}
 use Rattle.pv_guards.specs.Typed.{IsTag}
 use Rattle.pv_well_typed.specs.Proper.{IsValueOrVoid, IsProper}
 use Rattle.pv_well_typed.specs.ProperStates.{IsMember, IsCompleted}

@@ -11,9 +11,9 @@ use Rattle.pv_typed.specs.TypedTree.{TypedTree}
 use Rattle.pv_typed.specs.TypedUnits.{WholeUnit, TypedObject, TypedFunction, Literal, Store, no_function, no_literal, layouts, object_at}
 use Rattle.pv_check.specs.Library.{library_named}
 use Rattle.pv_check.specs.Rows.{operand, integer_value}
-use Rattle.pv_check.specs.State.{State, Used, UsedObject, UsedFunction, PointedFunction, Meaning, ObjectName, FunctionName, TypedefOf, ConstantOf, After, Scope, no_scope, and_then, give, env, find, innermost, entered, left}
+use Rattle.pv_check.specs.State.{State, Used, UsedObject, UsedFunction, PointedFunction, Meaning, ObjectName, FunctionName, TypedefOf, ConstantOf, After, Scope, no_scope, give, env, find, innermost, entered, left}
+use Rattle.pv_typed.specs.Constants.{and_then, integer}
 use Rattle.pv_check.specs.Values.{value_of}
-use Rattle.pv_typed.specs.Constants.{integer}
 use Rattle.pv_eval.specs.Objects.{heap_name}
 use Rattle.pv_unit.specs.Entities.{unit_name}
 use Rattle.pv_guards.specs.TypedStatements.{IsConstant}

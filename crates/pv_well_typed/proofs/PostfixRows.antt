@@ -2,16 +2,17 @@
 use Rattle.std.proofs.Common.{◌≡◌, ℕ, ◌+◌, ◌≤◌, Bool, true, false, ◌&&◌, ◌||◌, not, Option, Some, None, List, is_some, refl, ap, subst, inl, inr, arith}
 use Rattle.std.specs.Prelude.{if◌then◌else◌}
 use Rattle.pv_types.specs.Layouts.{Completed, Entry, Part, layouts_of, layout_in, is_complete_in}
-use Rattle.pv_types.specs.Qualifiers.{has_const}
+use Rattle.pv_types.specs.Qualifiers.{has_const, is_const}
 use Rattle.pv_types.specs.Ty.{Ty, VoidTy, IntTy, PointerTo, ArrayOf, StructTag, UnionTag, FunctionTy, ConstOf}
 use Rattle.pv_typed.specs.Known.{Each}
 use Rattle.pv_typed.specs.declared.nodes.IncrementOperator.{IncrementOperator}
 use Rattle.pv_typed.specs.TypedTree.{TypedTree, Subscript, Member, MemberOfValue, Arrow, Increment, type_of, is_lvalue}
 use Rattle.pv_typed.specs.TypedUnits.{WholeUnit, layouts}
-use Rattle.pv_check.specs.Qualified.{unqualified, qualified_if, is_const}
+use Rattle.pv_check.specs.Qualified.{unqualified, qualified_if}
 use Rattle.pv_check.specs.Sorts.{kind_of, pointed_by, complete_pointed_by, is_array}
 use Rattle.pv_check.specs.Values.{written, is_modifiable}
-use Rattle.pv_check.specs.Postfix.{element_of, subscript_to, subscript_of, complete_member, member_at, member_from, arrow_at, arrow_to, arrow_from, may_step, increment_of}
+use Rattle.pv_check.specs.Postfix.{element_of, subscript_of, complete_member, member_at, member_from, arrow_from, may_step, increment_of}
+use Rattle.pv_check.specs.PostfixParts.{subscript_to, arrow_at, arrow_to}
 use Rattle.pv_guards.specs.Typed.{IsSized, IsValueType, MayStep}
 use Rattle.pv_well_typed.specs.Proper.{IsValueOrVoid, IsProper}
 use Rattle.pv_well_typed.specs.Later.{IsFinished, Extends}

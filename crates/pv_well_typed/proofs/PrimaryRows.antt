@@ -11,8 +11,11 @@ use Rattle.pv_typed.specs.Known.{Each}
 use Rattle.pv_typed.proofs.Each.{each_right}
 use Rattle.pv_typed.specs.TypedTree.{TypedTree, Constant, Object, Function}
 use Rattle.pv_typed.specs.TypedUnits.{WholeUnit, TypedObject, Literal, no_object, no_literal, object_at, function_at, literal_at}
-use Rattle.pv_check.specs.Kinds.{kinds_of_constants, may_have, first_kind, kind_of_constant}
-use Rattle.pv_check.specs.Primary.{with_use, used_function, constant_of_kind, integer_of, character_of, text_of}
+use Rattle.pv_check.specs.Kinds.{may_have, first_kind, kind_of_constant}
+use Rattle.pv_check.specs.KindParts.{kinds_of_constants}
+use Rattle.pv_check.specs.Primary.{with_use, integer_of}
+use Rattle.pv_check.specs.PrimaryParts.{used_function, constant_of_kind, character_of}
+use Rattle.pv_check.specs.StringLiterals.{text_of}
 use Rattle.pv_check.specs.State.{State, ObjectName, UsedObject}
 use Rattle.pv_check.specs.Values.{written}
 use Rattle.pv_guards.specs.Typed.{IsIn, IsInScope}

@@ -8,11 +8,14 @@ use Rattle.pv_types.specs.Ty.{Ty, VoidTy, IntTy, PointerTo, ArrayOf, StructTag, 
 use Rattle.pv_typed.specs.Known.{Each}
 use Rattle.pv_typed.proofs.Each.{each_append, each_weaker, each_left, each_right}
 use Rattle.pv_typed.specs.TypedUnits.{WholeUnit, TypedObject, TypedFunction, no_object, object_at}
-use Rattle.pv_check.specs.Derivations.{Derivation, ByPointer, ByArray, ByFunction, Parameter as OneParameter, Signature, Steps, no_steps, with_step, with_function, nearest, parameter_types, declared_name, optional_name, derived, adjusted, with_parameter, is_unqualified_void, means_none, no_void, proper, may_be_variadic}
-use Rattle.pv_check.specs.Rows.{plain, by_pointer, by_array, by_function, parameter_of}
-use Rattle.pv_check.specs.Sorts.{is_array}
-use Rattle.pv_check.specs.Specifiers.{specified, without_storage}
-use Rattle.pv_check.specs.State.{State, After, Scope, no_scope, Meaning, ObjectName, and_then, give, innermost, find, bind, entered, left, env}
+use Rattle.pv_check.specs.Derivations.{Derivation, ByPointer, ByArray, ByFunction, Parameter as OneParameter, Signature, Steps, no_steps, with_step, with_function, nearest, parameter_types, declared_name, optional_name, derived, adjusted, with_parameter, means_none, no_void, proper, may_be_variadic}
+use Rattle.pv_check.specs.Rows.{plain}
+use Rattle.pv_check.specs.RowParts.{by_pointer, by_array, by_function, parameter_of}
+use Rattle.pv_check.specs.Sorts.{is_array, is_void_in}
+use Rattle.pv_check.specs.Specifiers.{specified}
+use Rattle.pv_check.specs.SpecifierParts.{without_storage}
+use Rattle.pv_check.specs.State.{State, After, Scope, no_scope, Meaning, ObjectName, give, innermost, find, bind, entered, left, env}
+use Rattle.pv_typed.specs.Constants.{and_then}
 use Rattle.pv_check.specs.Typing.{specifiers, steps, optional_steps, array_size, parameters, parameter_in}
 use Rattle.pv_guards.specs.Typed.{IsIn}
 use Rattle.pv_guards.specs.TypedStatements.{AreNew}
@@ -265,7 +268,7 @@ module _ (v : WholeUnit) (os : List ℕ) (done : IsFinished v) where
   no-object (Some o) b e f = let both : false ≡ true = ap not e ∙ f in absurd cc
 
   none-objects : (s t : State) (ps : List OneParameter) → means_none ps ≡ true → Each (IsMadeIn s t) ps → objects-of ps ≡ []
-  none-objects s t (p ∷ []) e h = append-nil (some-object p.object) ∙ no-object p.object (is_some p.name) h.0.named (both-true (is_unqualified_void p.t) (not (is_some p.name)) e).1
+  none-objects s t (p ∷ []) e h = append-nil (some-object p.object) ∙ no-object p.object (is_some p.name) h.0.named (both-true (is_void_in p.t) (not (is_some p.name)) e).1
   none-objects s t [] e h = absurd cc
   none-objects s t (p ∷ q ∷ ps) e h = absurd cc
 

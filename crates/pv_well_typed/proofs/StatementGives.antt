@@ -7,7 +7,8 @@ use Rattle.pv_types.specs.Ty.{Ty}
 use Rattle.pv_typed.specs.TypedStatement as typed
 use Rattle.pv_typed.specs.TypedStatement.{TypedStatement}
 use Rattle.pv_typed.specs.TypedUnits.{WholeUnit, object_at}
-use Rattle.pv_check.specs.State.{State, After, and_then, give, entered, left}
+use Rattle.pv_check.specs.State.{State, After, give, entered, left}
+use Rattle.pv_typed.specs.Constants.{and_then}
 use Rattle.pv_unit.specs.Blocks.{Reached, block_declaration}
 use Rattle.pv_unit.specs.Statements.{Around, in_loop, in_switch, Label, typed_labels, under, automatic_alone, reached, leaving, block_of}
 use Rattle.pv_unit.specs.TypedStatements.{Body, block_made, if_automatic, with_reached, declared_item, with_statement, body_reached, body_with, typed_statement, typed_items, typed_item, switch_block, switch_items, switch_item}

@@ -11,7 +11,8 @@ use Rattle.pv_check.specs.Kinds.{promoted}
 use Rattle.pv_check.specs.Qualified.{unqualified}
 use Rattle.pv_check.specs.Rows.{operand}
 use Rattle.pv_check.specs.Sorts.{is_scalar, is_void_in, kind_of}
-use Rattle.pv_check.specs.State.{State, After, and_then, give}
+use Rattle.pv_check.specs.State.{State, After, give}
+use Rattle.pv_typed.specs.Constants.{and_then}
 use Rattle.pv_check.specs.Typing.{types}
 use Rattle.pv_check.specs.Values.{promotion, promoted_value}
 use Rattle.pv_unit.specs.Statements.{valued, if_scalar, condition, some_value, optional, Switched, switched_by, switched}

@@ -4,12 +4,12 @@ use Rattle.pv_num.specs.declared.kinds.IntKind.{IntKind}
 use Rattle.pv_num.specs.Kinds.{convert_of}
 use Rattle.pv_tree.specs.Syntax.{ExpressionTree, StatementTree, Case, Default, Tree, OfExpression, OfDeclaration, OfDeclarator, OfSpecifier, OfInitializer, OfStatement, Trees, NoTrees, Then}
 use Rattle.pv_types.specs.Ty.{Ty}
-use Rattle.pv_typed.specs.Constants.{integer}
+use Rattle.pv_typed.specs.Constants.{integer, and_then}
 use Rattle.pv_typed.specs.TypedStatement as typed
 use Rattle.pv_typed.specs.TypedStatement.{TypedStatement, Statements, Block, Switch}
 use Rattle.pv_typed.specs.TypedTree.{TypedTree}
 use Rattle.pv_typed.specs.TypedUnits.{WholeUnit}
-use Rattle.pv_check.specs.State.{State, After, and_then, give, entered, left}
+use Rattle.pv_check.specs.State.{State, After, give, entered, left}
 use Rattle.pv_unit.specs.Statements.{Label, CaseLabel, DefaultLabel, stands, labelled, case_label, typed_label, label_in, typed_labels, under, Switched, switched, valued, leaving, declared_by, declared_in, block_of}
 use Rattle.pv_unit.specs.TypedStatements.{Body, body_made, switch_made}
 use Rattle.pv_guards.specs.TypedStatements.{IsTypedStatement}

@@ -12,7 +12,9 @@ use Rattle.pv_layout.specs.Parts.{bare}
 use Rattle.pv_typed.specs.TypedUnits.{WholeUnit, layouts}
 use Rattle.pv_check.specs.Qualified.{unqualified, qualified, qualified_if}
 use Rattle.pv_check.proofs.Growth.{complete_qualified, size_qualified}
-use Rattle.pv_check.specs.Sorts.{kind_of, pointed_by, complete_by, complete_pointed_by, is_scalar, is_array, is_function, is_void}
+use Rattle.pv_check.specs.Sorts.{kind_of, pointed_by, complete_pointed_by, is_scalar, is_array, is_void}
+use Rattle.pv_check.specs.SortParts.{complete_by}
+use Rattle.pv_typed.specs.TypedTree.{is_function}
 use Rattle.pv_guards.specs.Typed.{IsSized, IsValueType, IsScalarType, IsIntegerType}
 use Rattle.pv_well_typed.specs.Proper.{IsValueOrVoid, IsSmallArray, IsProper}
 use Rattle.pv_well_typed.specs.Later.{IsFinished, Extends}

@@ -12,13 +12,16 @@ use Rattle.pv_tree.specs.declared.operators.UnaryOperator.TheVariants as unary
 use Rattle.pv_types.specs.Layouts.{Entry, layout_in, is_complete_in}
 use Rattle.pv_types.specs.Ty.{Ty, VoidTy, IntTy, PointerTo, ArrayOf, StructTag, UnionTag, FunctionTy, ConstOf}
 use Rattle.pv_typed.specs.Addresses.{is_null_constant}
-use Rattle.pv_typed.specs.TypedTree.{TypedTree, Node, Subscript, Indirection, Address, Unary, Not, Sizeof, Cast, type_of, is_lvalue, is_void as is_void_type}
+use Rattle.pv_typed.specs.TypedTree.{TypedTree, Node, Subscript, Indirection, Address, Unary, Not, Sizeof, Cast, type_of, is_lvalue, is_void as is_void_type, is_function}
 use Rattle.pv_typed.specs.TypedUnits.{WholeUnit, layouts}
 use Rattle.pv_check.specs.Kinds.{promoted}
 use Rattle.pv_check.specs.Qualified.{unqualified}
-use Rattle.pv_check.specs.Sorts.{kind_of, kind_in, pointed_in, pointed_by, points_to_function, is_function_if, is_scalar, is_scalar_in, is_truth, is_truth_kind, is_void, is_void_in, is_function}
+use Rattle.pv_check.specs.Sorts.{kind_of, kind_in, pointed_in, pointed_by, points_to_function, is_scalar, is_scalar_in, is_truth_kind, is_void, is_void_in}
+use Rattle.pv_check.specs.SortParts.{is_function_if, is_truth}
 use Rattle.pv_check.specs.Values.{written, converted, value_of}
-use Rattle.pv_check.specs.Unary.{under_address, address_of, indirection_to, arithmetic_at, not_of, of_value, value_row, unary_of, sizeof_type, may_recast, may_cast, cast_of}
+use Rattle.pv_typed.specs.Constants.{and_then}
+use Rattle.pv_check.specs.Unary.{under_address, value_row, unary_of, sizeof_type, may_cast, cast_of}
+use Rattle.pv_check.specs.UnaryParts.{arithmetic_at, address_of, indirection_to, not_of, may_recast}
 use Rattle.pv_check.proofs.Lvalues.{void_same}
 use Rattle.pv_guards.specs.Typed.{IsTyped, IsScalarType, MayCast}
 use Rattle.pv_well_typed.specs.Proper.{IsValueOrVoid, IsProper}
@@ -193,10 +196,10 @@ module _ (E : Type 0) (v : WholeUnit) (os : List ℕ) (done : IsFinished v) (es 
   value-of-row line unary.Not a h x e = not-row line a h x e
   value-of-row line unary.Address a h x e = absurd cc
 
-  of-value : (line : ℕ) (op : UnaryOperator) (a : TypedTree) → IsExpression E v os a → (x : TypedTree) → of_value (value_of es a) (value_row line op) ≡ Some x → IsExpression E v os x
+  of-value : (line : ℕ) (op : UnaryOperator) (a : TypedTree) → IsExpression E v os a → (x : TypedTree) → and_then (value_of es a) (value_row line op) ≡ Some x → IsExpression E v os x
   of-value line op a h x e = by (value_of es a) refl e
     where
-      by : (o : Option TypedTree) → value_of es a ≡ o → of_value o (value_row line op) ≡ Some x → IsExpression E v os x
+      by : (o : Option TypedTree) → value_of es a ≡ o → and_then o (value_row line op) ≡ Some x → IsExpression E v os x
       by None p e = absurd cc
       by (Some b) p e = value-of-row line op b (taken E v os done es more a h b p) x e
 

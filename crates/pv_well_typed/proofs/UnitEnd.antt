@@ -16,7 +16,8 @@ use Rattle.pv_typed.specs.Mains.{main_text, literal_text, heap_text, named_main,
 use Rattle.pv_typed.proofs.Each.{each_weaker}
 use Rattle.pv_typed.specs.TypedUnits.{WholeUnit, TypedObject, TypedFunction, no_object, no_function, no_literal, layouts, object_at, function_at, name_at}
 use Rattle.pv_check.specs.Library.{library_named}
-use Rattle.pv_check.specs.State.{State, Used, UsedObject, UsedFunction, PointedFunction, and_then, env}
+use Rattle.pv_check.specs.State.{State, Used, UsedObject, UsedFunction, PointedFunction, env}
+use Rattle.pv_typed.specs.Constants.{and_then}
 use Rattle.pv_unit.specs.Definitions.{entity_type, is_finished, are_finished, may_end}
 use Rattle.pv_unit.specs.Entities.{Entity, UnitState, unit_name, is_entity}
 use Rattle.pv_unit.specs.Functions.{typed_declaration, counted_state, counted, typed_external}

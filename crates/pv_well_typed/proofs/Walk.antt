@@ -9,7 +9,7 @@ use Rattle.pv_num.specs.declared.kinds.IntKind.TheVariants.{Int}
 use Rattle.pv_tree.specs.Syntax.{ExpressionTree, Name, Number, Character, Text, Paren, Index, Call, Member, Arrow, PostIncrement, PostDecrement, PreIncrement, PreDecrement, Unary, SizeofExpr, SizeofType, Cast, Binary, Conditional, Assign, Comma, ArgumentTrees, NoArguments, Argument, DeclarationTree, Function as FunctionTree, Declaration, InitDeclarator, MemberDeclaration, Enumerator, Parameter, TypeName, DeclaratorTree, DeclaredName, ParenDeclarator, Pointer, Array, FunctionDeclarator, AbstractParen, AbstractPointer, AbstractArray, AbstractFunction, SpecifierTree, Keyword, Composite, Enumeration, Tag, TypedefName, Tree, OfExpression, OfDeclaration, OfDeclarator, OfSpecifier, OfInitializer, OfStatement, Trees, NoTrees, Then, OptionalTree, Absent, Present}
 use Rattle.pv_typed.specs.Known.{Each}
 use Rattle.pv_typed.proofs.Each.{each_append}
-use Rattle.pv_typed.specs.TypedTree.{TypedTree, Constant, Object, type_of}
+use Rattle.pv_typed.specs.TypedTree.{TypedTree, Constant, Object, type_of, is_function}
 use Rattle.pv_typed.specs.TypedUnits.{WholeUnit, TypedObject, TypedFunction, no_object, no_function, object_at}
 use Rattle.pv_typed.specs.declared.nodes.IncrementOperator.TheVariants as step_word
 use Rattle.pv_check.specs.Assignment.{assign_of, comma_of}
@@ -18,12 +18,18 @@ use Rattle.pv_check.specs.Conditional.{conditional_of}
 use Rattle.pv_check.specs.Derivations.{size_of, Parameter as OneParameter, Steps, Derivation, ByPointer, ByArray, ByFunction, no_steps, with_step, declared_name, optional_name, may_be_variadic, is_printf_declarator, Signature, proper, parameter_types, with_function, with_parameter, derived, adjusted}
 use Rattle.pv_check.specs.Postfix.{subscript_of, member_from, arrow_from, increment_of}
 use Rattle.pv_check.specs.Library.{library_named}
-use Rattle.pv_check.specs.Primary.{with_use, used_function, designator_of, is_of_library, name_of, integer_of, character_of, bytes_of_text, text_of}
-use Rattle.pv_check.specs.Rows.{operand, integer_value, known_size, by_pointer, by_array, named_type, parameter_of, with_argument, cast, unevaluated, after_sizeof, callee, with_callee, Callee, ByName, ByValue, pointed_callee, called_by, call_by, plain, by_function, member_of}
-use Rattle.pv_check.specs.Sorts.{is_function}
-use Rattle.pv_check.specs.Specifiers.{Seen, nothing_seen, with_keyword, with_type, typedef_of, specified, without_storage}
-use Rattle.pv_check.specs.State.{State, After, Scope, no_scope, Meaning, ObjectName, FunctionName, TypedefOf, ConstantOf, Used, UsedObject, UsedFunction, and_then, give, env, look, names_in, find, innermost, bind, entered, left, is_file_scope}
-use Rattle.pv_check.specs.Tags.{is_union_word, with_member, is_new_member, completed, some_members, opened, closed_enumeration, tag_named, enumerated}
+use Rattle.pv_check.specs.Primary.{with_use, name_of, integer_of}
+use Rattle.pv_check.specs.PrimaryParts.{used_function, designator_of, is_of_library, character_of}
+use Rattle.pv_check.specs.StringLiterals.{bytes_of_text, text_of}
+use Rattle.pv_check.specs.Rows.{operand, integer_value, unevaluated, after_sizeof, callee, Callee, ByName, ByValue, called_by, call_by, plain, member_of}
+use Rattle.pv_check.specs.RowParts.{known_size, by_pointer, by_array, named_type, parameter_of, with_argument, cast, with_callee, pointed_callee, by_function}
+use Rattle.pv_check.specs.Specifiers.{Seen, nothing_seen, with_keyword, with_type, typedef_of, specified}
+use Rattle.pv_check.specs.SpecifierParts.{without_storage}
+use Rattle.pv_check.specs.State.{State, After, Scope, no_scope, Meaning, ObjectName, FunctionName, TypedefOf, ConstantOf, Used, UsedObject, UsedFunction, give, env, look, find, innermost, bind, entered, left, is_file_scope}
+use Rattle.pv_typed.specs.Constants.{and_then}
+use Rattle.pv_check.specs.StateParts.{names_in}
+use Rattle.pv_check.specs.Tags.{is_union_word, with_member, completed, opened, closed_enumeration, tag_named, enumerated}
+use Rattle.pv_check.specs.TagParts.{is_new_member, some_members}
 use Rattle.pv_check.specs.Typing.{types, arguments, type_named, specifiers, specifier_in, specifier, members, member_in, member_declarators, member_declarator, enumerators, enumerator_in, enumerator_value, steps, optional_steps, array_size, parameters, parameter_in}
 use Rattle.pv_check.specs.Values.{written}
 use Rattle.pv_check.specs.Unary.{unary_of, sizeof_type, cast_of}

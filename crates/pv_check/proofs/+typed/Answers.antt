@@ -25,11 +25,13 @@ use Rattle.pv_check.specs.Growing.{IsType}
 use Rattle.pv_check.specs.ListedRows.{list_of}
 use Rattle.pv_check.specs.Open.{state_of, IsOpen, Goes, after_type}
 use Rattle.pv_check.specs.Passing.{after_nodes}
-use Rattle.pv_check.specs.Rows.{by_function, Callee, call, known_size, operand, parameter_of, pointed_callee, with_argument}
+use Rattle.pv_check.specs.RowParts.{with_argument, call, known_size, parameter_of, by_function, pointed_callee}
+use Rattle.pv_check.specs.Rows.{Callee, operand}
 use Rattle.pv_check.specs.Seeing.{seen_in}
 use Rattle.pv_check.specs.SeenAfter.{after_seen}
 use Rattle.pv_check.specs.Specifiers.{Seen as WhatIsSeen}
-use Rattle.pv_check.specs.State.{After, and_then, give}
+use Rattle.pv_check.specs.State.{After, give}
+use Rattle.pv_typed.specs.Constants.{and_then}
 use Rattle.pv_check.specs.Stepping.{steps_in, AreSteps}
 use Rattle.pv_check.specs.Typing.{types, arguments, optional_steps, type_named, specifier, specifiers, specifier_in, parameters, parameter_in}
 use Rattle.pv_check.specs.WordRows.{total}

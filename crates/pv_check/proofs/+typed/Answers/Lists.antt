@@ -20,9 +20,11 @@ use Rattle.pv_check.specs.Open.{state_of, IsOpen, Goes, HasTag, after_number, af
 use Rattle.pv_check.specs.Rows.{member_of}
 use Rattle.pv_check.specs.Seeing.{seen_in}
 use Rattle.pv_check.specs.Specifiers.{Seen as WhatIsSeen, with_type}
-use Rattle.pv_check.specs.State.{State, After, and_then, give}
+use Rattle.pv_check.specs.State.{State, After, give}
+use Rattle.pv_typed.specs.Constants.{and_then}
 use Rattle.pv_check.specs.Stepping.{steps_in, AreSteps}
-use Rattle.pv_check.specs.Tags.{closed_enumeration, completed, enumerated, some_members}
+use Rattle.pv_check.specs.Tags.{closed_enumeration, completed, enumerated}
+use Rattle.pv_check.specs.TagParts.{some_members}
 use Rattle.pv_check.specs.Typing.{members, member_in, member_declarators, member_declarator, enumerators, enumerator_in, enumerator_value}
 use Rattle.pv_check.proofs.Descending.{above_all, has_at, list_above, lower_at}
 use Rattle.pv_check.proofs.ListRows.{one_more, none_in, if_goes, has_within, declarator_is, value_at}

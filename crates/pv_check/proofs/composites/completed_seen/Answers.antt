@@ -3,7 +3,8 @@ use Rattle.pv_types.specs.Ty.{Ty}
 use Rattle.pv_check.specs.Open.{state_of, after_type, IsOpen, Goes}
 use Rattle.pv_check.specs.Seeing.{seen_in}
 use Rattle.pv_check.specs.Specifiers.{with_type, Seen as WhatIsSeen}
-use Rattle.pv_check.specs.State.{After, and_then, give}
+use Rattle.pv_check.specs.State.{After, give}
+use Rattle.pv_typed.specs.Constants.{and_then}
 use Rattle.pv_check.specs.Tags.{completed}
 use Rattle.pv_check.proofs.MemberRows.{no_members, has_members}
 use Rattle.pv_check.proofs.SeenRows.{named_after, named_known}

@@ -5,7 +5,8 @@ use Rattle.pv_check.specs.Growing.{type_if}
 use Rattle.pv_check.specs.MembersRead.{members_shown}
 use Rattle.pv_check.specs.Open.{state_of}
 use Rattle.pv_check.specs.Rows.{member_of}
-use Rattle.pv_check.specs.State.{and_then, give}
+use Rattle.pv_check.specs.State.{give}
+use Rattle.pv_typed.specs.Constants.{and_then}
 use Rattle.pv_check.specs.Stepping.{steps_in}
 use Rattle.pv_check.specs.Tags.{with_member}
 use Rattle.pv_check.proofs.Opening.{open_goes}

@@ -4,7 +4,7 @@ use Rattle.pv_types.specs.declared.terms.Member.{Member}
 use Rattle.pv_types.specs.Known.{env, tree, trees, named_in}
 use Rattle.pv_types.specs.Formed.{MembersBelow, NamesDiffer, AreComplete}
 use Rattle.pv_types.specs.Layouts.{Named, is_complete_in}
-use Rattle.pv_check.specs.Tags.{is_new_member}
+use Rattle.pv_check.specs.TagParts.{is_new_member}
 use Rattle.pv_check.proofs.Growth.{left_true, right_true}
 use Rattle.pv_check.proofs.MemberRows.{named_append, below_append, complete_append, differ_append, new_any_types}
 use Rattle.pv_check.proofs.composites.with_member.Goals as goal

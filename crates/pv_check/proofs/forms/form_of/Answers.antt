@@ -4,7 +4,8 @@ use Rattle.pv_tree.specs.TreeLines.{tree_line}
 use Rattle.pv_check.specs.Derivations.{Steps}
 use Rattle.pv_check.specs.Forms.{pointed}
 use Rattle.pv_check.specs.Open.{state_of}
-use Rattle.pv_check.specs.State.{After, and_then}
+use Rattle.pv_check.specs.State.{After}
+use Rattle.pv_typed.specs.Constants.{and_then}
 use Rattle.pv_check.specs.Typing.{steps}
 use Rattle.pv_check.proofs.FormRows.{present, sized, function_form, function_misplaced, abstract_form, abstract_misplaced}
 use Rattle.pv_check.proofs.forms.form_of.Goals as goal

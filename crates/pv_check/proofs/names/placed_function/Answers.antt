@@ -2,7 +2,8 @@ use Rattle.std.proofs.Common.{◌≡◌, ◌∙◌, ap, sym, subst, Some}
 use Rattle.pv_typed.specs.TypedTree.{Function}
 use Rattle.pv_typed.specs.TypedUnits.{function_at}
 use Rattle.pv_typed.specs.Tables.{whole}
-use Rattle.pv_check.specs.Primary.{designator_of, with_use}
+use Rattle.pv_check.specs.Primary.{with_use}
+use Rattle.pv_check.specs.PrimaryParts.{designator_of}
 use Rattle.pv_check.specs.State.{Used, give}
 use Rattle.pv_check.specs.Values.{written}
 use Rattle.pv_check.specs.Raw.{Raw}

@@ -4,8 +4,8 @@ use Rattle.pv_types.specs.Ty.{Ty}
 use Rattle.pv_check.specs.Derivations.{derived, with_parameter}
 use Rattle.pv_check.specs.Growing.{IsType, type_if}
 use Rattle.pv_check.specs.Open.{state_of}
-use Rattle.pv_check.specs.Rows.{parameter_of}
-use Rattle.pv_check.specs.State.{and_then}
+use Rattle.pv_check.specs.RowParts.{parameter_of}
+use Rattle.pv_typed.specs.Constants.{and_then}
 use Rattle.pv_check.specs.Stepping.{steps_in}
 use Rattle.pv_check.proofs.Opening.{open_goes}
 use Rattle.pv_check.proofs.TypeLists.{adjusted_then}

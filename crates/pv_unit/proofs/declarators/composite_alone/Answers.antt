@@ -1,7 +1,7 @@
 use Rattle.std.proofs.Common.{IfSome, Some, false, subst, sym, ap, ◌∙◌}
 use Rattle.pv_check.specs.Open.{state_of, TagKnown}
 use Rattle.pv_check.specs.Raw.{tag_meaning_if}
-use Rattle.pv_check.specs.State.{and_then}
+use Rattle.pv_typed.specs.Constants.{and_then}
 use Rattle.pv_check.specs.Tags.{composite_named}
 use Rattle.pv_check.proofs.Opening.{inner_tag_known}
 use Rattle.pv_check.proofs.Showing.{inner_tag_shown}

@@ -5,8 +5,8 @@ use Rattle.pv_types.specs.Ty.{Ty}
 use Rattle.pv_types.specs.Compatible.{are_compatible}
 use Rattle.pv_typed.specs.Tables.{whole}
 use Rattle.pv_typed.specs.TypedUnits.{WholeUnit, name_at}
-use Rattle.pv_check.specs.Library.{library_named}
-use Rattle.pv_check.specs.Texts.{is_main, is_printf}
+use Rattle.pv_check.specs.Library.{library_named, is_printf}
+use Rattle.pv_typed.specs.Mains.{named_main}
 use Rattle.pv_check.proofs.Opening.{then_goes}
 use Rattle.pv_unit.specs.Library.{agrees, main_type}
 use Rattle.pv_unit.specs.Entities.{unit_name, is_variadic}
@@ -25,7 +25,7 @@ returns-clause-answer c =
     let tree_e : tree e.known t ≡ tree a.known t = (then_goes a b e c.in_ok-main.ensures.goes c.in_ok-library.ensures.goes).grown.types t c.requires.known in
     c.all_three.ensures
     ∙ ap (λ x. x && c.in_ok-library.library && c.variadic_allows-variadic.result) c.in_ok-main.ensures.answer
-    ∙ ap (λ x. (not (is_main a.names n) || are_compatible (tree a.known t) main_type) && x && c.variadic_allows-variadic.result)
+    ∙ ap (λ x. (not (named_main a.names n) || are_compatible (tree a.known t) main_type) && x && c.variadic_allows-variadic.result)
     (c.in_ok-library.ensures.answer ∙ ap (λ (u : WholeUnit). agrees (library_named (name_at u n)) (tree b.known t)) whole_b ∙ ap (agrees (library_named (name_at (whole a) n))) tree_b)
-    ∙ ap (λ x. (not (is_main a.names n) || are_compatible (tree a.known t) main_type) && agrees (library_named (name_at (whole a) n)) (tree a.known t) && x)
+    ∙ ap (λ x. (not (named_main a.names n) || are_compatible (tree a.known t) main_type) && agrees (library_named (name_at (whole a) n)) (tree a.known t) && x)
     (c.variadic_allows-variadic.ensures ∙ ap (λ (u : WholeUnit). not (is_variadic (tree e.known t)) || is_printf u.names n) whole_e ∙ ap (λ (y : Ty). not (is_variadic y) || is_printf a.names n) tree_e)

@@ -8,7 +8,7 @@ use Rattle.pv_check.specs.declared.parameters.Parameter.{Parameter}
 use Rattle.pv_check.specs.Declarators.{ParameterKnown, parameters_shown}
 use Rattle.pv_check.specs.Open.{state_of}
 use Rattle.pv_check.specs.Raw.{raw_of, scope_shown}
-use Rattle.pv_check.specs.State.{and_then}
+use Rattle.pv_typed.specs.Constants.{and_then}
 use Rattle.pv_check.proofs.ParameterRows.{parameters_known, parameters_stay}
 use Rattle.pv_unit.specs.Bodies.{is_block, left_items}
 use Rattle.pv_unit.specs.Functions.{body_of, within, with_body, with_parameters}

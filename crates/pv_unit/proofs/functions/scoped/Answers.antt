@@ -3,7 +3,8 @@ use Rattle.pv_tree.specs.Tables.{trees_at}
 use Rattle.pv_types.specs.Known.{tree}
 use Rattle.pv_check.specs.Open.{state_of}
 use Rattle.pv_check.specs.Raw.{raw_of, scope_shown}
-use Rattle.pv_check.specs.State.{State, and_then}
+use Rattle.pv_check.specs.State.{State}
+use Rattle.pv_typed.specs.Constants.{and_then}
 use Rattle.pv_unit.specs.Bodies.{left_items}
 use Rattle.pv_unit.specs.Functions.{body_of, within}
 use Rattle.pv_unit.specs.Stated.{items_in, statements_in, Moves}

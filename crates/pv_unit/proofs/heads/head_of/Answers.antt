@@ -2,7 +2,7 @@ use Rattle.std.proofs.Common.{rules, ◌≡◌, true, false, sym, ap, ◌∙◌,
 use Rattle.pv_types.specs.Ty.{Ty, FunctionTy}
 use Rattle.pv_types.specs.Known.{Known, tree}
 use Rattle.pv_types.specs.Formed.{parameters_at}
-use Rattle.pv_check.specs.State.{and_then}
+use Rattle.pv_typed.specs.Constants.{and_then}
 use Rattle.pv_unit.specs.Definitions.{head_of, defined_once}
 use Rattle.pv_unit.specs.Entities.{function_declared}
 use Rattle.pv_unit.specs.Outside.{unit_state}

@@ -2,7 +2,7 @@ use Rattle.std.proofs.Common.{rules, ◌≡◌, ◌∙◌, ◌<◌, ap, length, 
 use Rattle.pv_tree.specs.declared.nodes.NodeId.{NodeId}
 use Rattle.pv_tree.specs.Tables.{tree_at, trees_of, statement_at, is_statement}
 use Rattle.pv_check.specs.Open.{state_of}
-use Rattle.pv_check.specs.State.{and_then}
+use Rattle.pv_typed.specs.Constants.{and_then}
 use Rattle.pv_unit.specs.Stated.{Moves}
 use Rattle.pv_unit.specs.Statements.{typed_label, typed_labels}
 use Rattle.pv_unit.specs.Switching.{labels_of, labels_if, behind_labels, with_label}

@@ -1,7 +1,7 @@
 use Rattle.std.proofs.Common.{rules, ◌≡◌, ◌∙◌, ap, Some, false}
 use Rattle.pv_tree.specs.Tables.{declaration_at}
 use Rattle.pv_check.specs.Open.{state_of}
-use Rattle.pv_check.specs.State.{and_then}
+use Rattle.pv_typed.specs.Constants.{and_then}
 use Rattle.pv_unit.specs.Blocks.{block_declaration}
 use Rattle.pv_unit.specs.Stated.{items_in, statements_in}
 use Rattle.pv_unit.specs.TypedStatements.{with_reached}

@@ -9,7 +9,7 @@ use Rattle.pv_typed.specs.NodeTrees.{expression_at, statement_at, IsExpression, 
 use Rattle.pv_typed.specs.TypedStatement.{statements_of}
 use Rattle.pv_typed.specs.TypedStatement as typed
 use Rattle.pv_check.specs.Open.{state_of}
-use Rattle.pv_check.specs.State.{and_then}
+use Rattle.pv_typed.specs.Constants.{and_then}
 use Rattle.pv_check.proofs.Opening.{then_goes}
 use Rattle.pv_unit.specs.Blocks.{block_declaration}
 use Rattle.pv_unit.specs.Statements.{in_loop, valued, condition, optional, declared_in}

@@ -1,0 +1,16 @@
+-- A bridge: what functions answer that do a part of what State says.
+use Rattle.std.specs.Prelude.{List, ℕ, nat_eq}
+use Rattle.pv_check.specs.State.{Meaning, Scope, TagMeaning}
+use Rattle.indexmap.specs.IndexMap.{insert_entry}
+
+-- 6.2.3p1: the name space of identifiers
+abbrev pub names_in : Scope → List (ℕ × Meaning)
+names_in s = s.names
+
+-- 6.2.3p1: the name space of tags
+abbrev pub tags_in : Scope → List (ℕ × TagMeaning)
+tags_in s = s.tags
+
+-- 6.2.1p4: a name with a meaning, in place of the one that it has; last where it has none
+abbrev pub bound : {M : Type 0} → ℕ → M → List (ℕ × M) → List (ℕ × M)
+bound n m es = insert_entry nat_eq es n m
