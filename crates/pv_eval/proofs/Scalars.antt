@@ -1,6 +1,6 @@
 -- Integer and pointer types as accesses look at them.
-use Rattle.std.proofs.Common.{◌≡◌, ℕ, ◌<◌, ◌≤◌, ◌^◌, IsTrue, List, length, Some, None, refl, sym, ap, ◌∙◌, arith}
-use Rattle.std.specs.Prelude.{◌/◌, if◌then◌else◌}
+use Rattle.std.proofs.Common.{◌≡◌, ℕ, Bool, true, ◌<◌, ◌≤◌, ◌^◌, IsTrue, List, length, Some, None, refl, sym, ap, ◌∙◌, subst, arith}
+use Rattle.std.specs.Prelude.{◌/◌, ◌&&◌, if◌then◌else◌}
 use Rattle.std.proofs.lemmas.Bool.{le-leb}
 use Rattle.pv_num.specs.declared.kinds.IntKind.{IntKind}
 use Rattle.pv_num.specs.Kinds.{width}
@@ -9,8 +9,11 @@ use Rattle.pv_types.specs.declared.terms.TypeId.{TypeId}
 use Rattle.pv_types.specs.Known.{Known, tree, env}
 use Rattle.pv_types.specs.Layouts.{Entry, up_to, is_complete_in, layout_in}
 use Rattle.pv_world.specs.declared.got.Shape.TheVariants as shape
-use Rattle.pv_eval.specs.TypeForms.{shape_of}
+use Rattle.pv_eval.specs.declared.types.Complete.{Complete}
+use Rattle.pv_eval.specs.TypeForms.{alignment_by, shape_of}
+use Rattle.pv_eval.specs.Suiting.{is_size}
 use Rattle.pv_eval.specs.Sizes.{size_in, IsComplete, points}
+use Rattle.pv_eval.proofs.Guards.{both_of}
 
 pub integer_complete : (m : Known) (t : TypeId) (k : IntKind) (n : ℕ) → t.0 < length m.terms → tree m t.0 ≡ IntTy k → n ≡ width k / 8 → 1 ≤ n → n ≤ 8 → IsComplete m (record { t = t; size = n })
 integer_complete m t k n known e sized some few =
@@ -49,3 +52,14 @@ pub pointer_complete : (m : Known) (t : TypeId) → t.0 < length m.terms → IsT
 pointer_complete m t known h =
     let p = pointer_is (env m) (tree m t.0) h in
     record { known = known; complete = p.complete; size = sym p.size; small = omega (arith, p.size); some = omega arith }
+
+-- what a complete type says of the type with its number
+pub complete_test : (m : Known) (l : Complete) (t : TypeId) → l.t ≡ t → IsComplete m l → true ≡ (is_complete_in (env m) (tree m t.0) && is_size (size_in m (tree m t.0)))
+complete_test m l t same h =
+    subst (λ (q : TypeId). true ≡ (is_complete_in (env m) (tree m q.0) && is_size (size_in m (tree m q.0)))) same
+    (sym (both_of (is_complete_in (env m) (tree m l.t.0)) (is_size (size_in m (tree m l.t.0))) h.complete (le-leb (size_in m (tree m l.t.0)) (2 ^ 32) h.small)))
+
+pub complete_align : (m : Known) (l : Complete) (t : TypeId) (align : ℕ) → l.t ≡ t → IsComplete m l → align ≡ (layout_in (env m) (tree m l.t.0)).align → align ≡ alignment_by (env m) (tree m t.0)
+complete_align m l t align same h is =
+    subst (λ (q : TypeId). align ≡ alignment_by (env m) (tree m q.0)) same
+    (is ∙ sym (ap (λ (b : Bool). if b then (layout_in (env m) (tree m l.t.0)).align else 1) h.complete))

@@ -16,7 +16,7 @@ ghost use Rattle.pv_eval.specs.TypeForms.{lvalue};
 ghost use Rattle.pv_eval.specs.Sizes.{setting_of, size_in, is_bare_scalar, IsComplete};
 ghost use Rattle.pv_eval.specs.Permission.{marks_of, permits_object, type_by, permits_in, permits};
 
-use crate::types::{Complete, bytes_of, is_character, layer, measured};
+use crate::types::{Complete, bytes_of, is_character, layer, measured_by_layers};
 use pv_effect::{permits_declared, permits_marks};
 use pv_inst::Kind;
 use pv_layout::bare;
@@ -41,7 +41,7 @@ fn marks_of(alloc: Global, bytes: &[Byte]) -> Result<Vec<Option<(u32, u8)>>, NoM
     Ok(marks)
 }
 
-/// The declared type of an object, which is complete (C17 6.7p7).
+/// The declared type of an object, which is complete (C17 6.7p7). Where this is asked it is mostly an array or a structure.
 fn type_by(unit: &TypedUnit, object: Option<u32>) -> Option<Complete>
     requires { AreKnown unit.now }
     ensures kind { option_map (λ l. tree unit.now.known l.t.0) result ≡ type_by (setting_of unit.now) object }
@@ -51,7 +51,7 @@ fn type_by(unit: &TypedUnit, object: Option<u32>) -> Option<Complete>
         return None;
     };
     if o < unit.objects() {
-        measured(unit.types(), unit.object(o).t)
+        measured_by_layers(unit.types(), unit.object(o).t)
     } else {
         None
     }

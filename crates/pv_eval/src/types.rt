@@ -161,10 +161,23 @@ pub(crate) struct Complete {
     pub(crate) size: u64,
 }
 
-/// The type, where it is a complete object type (C17 6.2.5p1) of at most 2^32 bytes.
+/// The type, where it is a complete object type (C17 6.2.5p1) of at most 2^32 bytes. Most are integer or pointer types without
+/// `const`, and need no search.
 #[inline(always)]
-#[tactic(auto, using(crate::proofs::Numbers::kept, crate::proofs::Numbers::lost))]
 pub(crate) fn measured(types: &Types, t: TypeId) -> Option<Complete>
+    ensures test { is_some result ≡ (is_complete_in (env types.now) (tree types.now t.0) && is_size (size_in types.now (tree types.now t.0))) }
+    ensures same { IfSome result (λ l. l.t ≡ t) }
+    ensures complete { IfSome result (λ l. IsComplete types.now l) }
+{
+    match accessed_scalar(types, t) {
+        Some(x) => Some(x.l),
+        None => measured_by_layers(types, t),
+    }
+}
+
+/// The type, where it is a complete object type of at most 2^32 bytes, by a search through its layers.
+#[tactic(auto, using(crate::proofs::Numbers::kept, crate::proofs::Numbers::lost))]
+pub(crate) fn measured_by_layers(types: &Types, t: TypeId) -> Option<Complete>
     ensures test { is_some result ≡ (is_complete_in (env types.now) (tree types.now t.0) && is_size (size_in types.now (tree types.now t.0))) }
     ensures same { IfSome result (λ l. l.t ≡ t) }
     ensures complete { IfSome result (λ l. IsComplete types.now l) }
@@ -179,10 +192,22 @@ pub(crate) fn measured(types: &Types, t: TypeId) -> Option<Complete>
     }
 }
 
-/// What the address of an object of the type is a multiple of; 1, where the type is not complete (C17 6.2.8p1).
+/// What the address of an object of the type is a multiple of; 1, where the type is not complete (C17 6.2.8p1). Most are integer
+/// or pointer types without `const`, and need no search.
 #[inline(always)]
-#[tactic(auto, using(crate::proofs::Numbers::some_align))]
 pub(crate) fn align_of(types: &Types, t: TypeId) -> u64
+    ensures align { result ≡ alignment_by (env types.now) (tree types.now t.0) }
+    ensures some { 1 ≤ result }
+{
+    match accessed_scalar(types, t) {
+        Some(x) => x.align,
+        None => align_by_layers(types, t),
+    }
+}
+
+/// What the address of an object of the type is a multiple of; 1, where the type is not complete, by a search through its layers.
+#[tactic(auto, using(crate::proofs::Numbers::some_align))]
+fn align_by_layers(types: &Types, t: TypeId) -> u64
     ensures align { result ≡ alignment_by (env types.now) (tree types.now t.0) }
     ensures some { 1 ≤ result }
 {
@@ -223,10 +248,10 @@ fn accessed_by_layers(types: &Types, t: TypeId) -> Option<AccessedType>
     ensures some { IfSome result (λ x. 1 ≤ x.align) }
     ensures form { IfSome result (λ x. x.form ≡ shape_of (tree types.now x.l.t.0)) }
 {
-    let l = measured(types, t)?;
+    let l = measured_by_layers(types, t)?;
     Some(AccessedType {
         l,
-        align: align_of(types, t),
+        align: align_by_layers(types, t),
         form: shape(types, t),
     })
 }
@@ -266,9 +291,8 @@ pub(crate) fn accessed_pointer(types: &Types, t: TypeId) -> Option<AccessedType>
     })
 }
 
-/// The type as an access looks at it, where it is a complete object type of at most 2^32 bytes. Most are integer or pointer
-/// types without `const`, and need no search.
-pub(crate) fn accessed(types: &Types, t: TypeId) -> Option<AccessedType>
+/// An integer or pointer type without `const` as an access looks at it.
+fn accessed_scalar(types: &Types, t: TypeId) -> Option<AccessedType>
     ensures same { IfSome result (λ x. x.l.t ≡ t) }
     ensures complete { IfSome result (λ x. IsComplete types.now x.l) }
     ensures align { IfSome result (λ x. x.align ≡ (layout_in (env types.now) (tree types.now x.l.t.0)).align) }
@@ -281,7 +305,22 @@ pub(crate) fn accessed(types: &Types, t: TypeId) -> Option<AccessedType>
     match types.view(t) {
         Term::Int(kind) => accessed_integer(types, t, kind),
         Term::Pointer(_) => accessed_pointer(types, t),
-        _ => accessed_by_layers(types, t),
+        _ => None,
+    }
+}
+
+/// The type as an access looks at it, where it is a complete object type of at most 2^32 bytes. Most are integer or pointer
+/// types without `const`, and need no search.
+pub(crate) fn accessed(types: &Types, t: TypeId) -> Option<AccessedType>
+    ensures same { IfSome result (λ x. x.l.t ≡ t) }
+    ensures complete { IfSome result (λ x. IsComplete types.now x.l) }
+    ensures align { IfSome result (λ x. x.align ≡ (layout_in (env types.now) (tree types.now x.l.t.0)).align) }
+    ensures some { IfSome result (λ x. 1 ≤ x.align) }
+    ensures form { IfSome result (λ x. x.form ≡ shape_of (tree types.now x.l.t.0)) }
+{
+    match accessed_scalar(types, t) {
+        Some(x) => Some(x),
+        None => accessed_by_layers(types, t),
     }
 }
 

@@ -11,7 +11,7 @@ returns-clause-align c =
     let m = c.args.types.now in
     let t = tree m c.args.t.0 in
     let same = ap (λ (q : TypeId). tree m q.0) (sym c.in_ok-l.ensures.same) in
-    c.align_of.ensures.align
+    c.align_by_layers.ensures.align
     ∙ ap (λ (b : Bool). if b then (layout_in (env m) t).align else 1) (ap (λ (q : TypeId). is_complete_in (env m) (tree m q.0)) (sym c.in_ok-l.ensures.same) ∙ c.in_ok-l.ensures.complete.complete)
     ∙ ap (λ s. (layout_in (env m) s).align) same
 
