@@ -2,6 +2,7 @@ pub mod Runs
 pub mod Rows
 pub mod Fronts
 pub mod Beginnings
+pub mod LoneMarks
 pub mod Pairs
 pub mod Values
 pub mod Joining

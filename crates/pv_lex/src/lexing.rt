@@ -7,15 +7,16 @@ ghost use Rattle.pv_lex.specs.Lexes.{Lexes};
 ghost use Rattle.pv_lex.specs.declared.error.LexError.{LexError};
 ghost use Rattle.pv_lex.specs.Faults.{LexFault, IsFaultOf, HasBadByte};
 ghost use Rattle.pv_lex.specs.Views.{LiesWithin, error_of, what_of};
-ghost use Rattle.pv_lex.specs.Pieces.{Piece, Here};
+ghost use Rattle.pv_lex.specs.Pieces.{Piece, Here, Spelling};
+ghost use Rattle.pv_token.specs.Said.{Punctuator};
 ghost use Rattle.pv_lex.specs.Stands.{stands};
 ghost use Rattle.pv_lex.specs.Spellings.{IsSpelling, IsLongest};
 
 use crate::bytes::{Class, is_in};
 use crate::error::LexError;
-use crate::pieces::{Fault, Found, Standing};
+use crate::pieces::{Fault, Found, Standing, lone_mark};
 use crate::standing::stand;
-use pv_token::{NoMemory, Tokens};
+use pv_token::{Kind, Mark, NoMemory, Tokens};
 use std::alloc::Global;
 
 /// The error that reports a fault at this place.
@@ -73,6 +74,20 @@ fn add(
     }
 }
 
+/// Takes a punctuator in.
+fn add_mark(
+    tokens: &mut Tokens,
+    alloc: Global,
+    mark: Mark,
+    start: u32,
+    line: u32,
+) -> Result<(), NoMemory>
+    requires { HasRoom tokens.old }
+    ensures { OnOk result (Adds tokens.old tokens.new (spelt_here start line (Spelling (Punctuator mark)))) }
+{
+    tokens.add_token(alloc, Kind::Punctuator(mark), start, line)
+}
+
 /// The tokens of a source, or its first fault. A source is cut from its first byte on into pieces,
 /// each the longest that begins where the one before it ends (C17 6.4p4).
 ///
@@ -95,7 +110,8 @@ pub fn tokens(alloc: Global, bytes: &[u8]) -> Result<Tokens, LexError>
     Ok(out)
 }
 
-/// Cuts a source into its pieces, and keeps the tokens among them in a table that has none yet.
+/// Cuts a source into its pieces, and keeps the tokens among them in a table that has none yet. Most punctuators are one
+/// byte that tells by itself what stands there, and are looked for first.
 fn cut(alloc: Global, bytes: &[u8], out: &mut Tokens) -> Result<(), LexError>
     requires short { length bytes.now ≤ 2 ^ 20 }
     requires empty { out.old ≡ record { tokens = []; names = []; texts = [] } }
@@ -110,6 +126,12 @@ fn cut(alloc: Global, bytes: &[u8], out: &mut Tokens) -> Result<(), LexError>
     let mut fresh = true;
     'pieces: loop {
         let at = (bytes.len() - rest.len()) as u32;
+        if let Some((mark, after)) = lone_mark(rest) {
+            add_mark(out, alloc, mark, at, line)?;
+            fresh = false;
+            rest = after;
+            continue;
+        }
         match stand(alloc, fresh, rest)? {
             Standing::End => return Ok(()),
             Standing::Bad(fault) => return Err(error_at(fault, at)),

@@ -1,14 +1,16 @@
 //! Words and punctuators, and what may stand at a place of the source.
-ghost use Rattle.std.specs.Prelude.{◌≡◌, ◌≤◌, ◌^◌, ◌&&◌, length, IfOk, IfSome, drop};
+ghost use Rattle.std.specs.Prelude.{◌≡◌, ◌≤◌, ◌^◌, ◌&&◌, ◌∷◌, ℕ, Bool, List, length, IfOk, IfSome, drop};
 ghost use Rattle.std.specs.Option.{option_map};
 ghost use Rattle.pv_lex.specs.Bytes.{begins};
 ghost use Rattle.pv_lex.specs.Tables.{first_row, row_of};
 ghost use Rattle.pv_lex.specs.Words.{words, is_wide, is_quote, word_at};
 ghost use Rattle.pv_lex.specs.Marks.{marks, mark_at};
+ghost use Rattle.pv_lex.specs.Pieces.{Here, token};
+ghost use Rattle.pv_token.specs.Said.{Punctuator};
 ghost use Rattle.pv_lex.specs.Stands.{stands};
 ghost use Rattle.pv_lex.specs.Views.{stand_of};
 
-use crate::bytes::{Class, is_letter, run};
+use crate::bytes::{Class, behind, is_letter, run};
 use crate::tables::{first_row, row_of};
 use crate::{marks, words};
 use pv_token::{Kind, Mark, Word};
@@ -118,6 +120,38 @@ fn keyword(word: &[u8]) -> Option<Option<Word>>
         b'w' => row_of(&words::UNDER_W, word),
         _ => None,
     }
+}
+
+/// The punctuator that a byte is by itself, where no other one and nothing else begins with that byte (C17 6.4.6).
+fn lone(b: u8) -> Option<Mark>
+    ensures { IfSome result (λ m. (fresh : Bool) (rest : List ℕ) → stands fresh (b ∷ rest) ≡ Here (token (Punctuator m) rest)) }
+{
+    match b {
+        b'[' => Some(Mark::OpenBracket),
+        b']' => Some(Mark::CloseBracket),
+        b'(' => Some(Mark::OpenParen),
+        b')' => Some(Mark::CloseParen),
+        b'{' => Some(Mark::OpenBrace),
+        b'}' => Some(Mark::CloseBrace),
+        b'~' => Some(Mark::Tilde),
+        b'?' => Some(Mark::Question),
+        b';' => Some(Mark::Semicolon),
+        b',' => Some(Mark::Comma),
+        _ => None,
+    }
+}
+
+/// Such a punctuator at the front, and what is left behind it.
+pub(crate) fn lone_mark(text: &[u8]) -> Option<(Mark, &[u8])>
+    ensures { IfSome result (λ r. (fresh : Bool) → stands fresh text.now ≡ Here (token (Punctuator r.0) r.1.now)) }
+{
+    if text.is_empty() {
+        return None;
+    }
+    let Some(mark) = lone(text[0]) else {
+        return None;
+    };
+    Some((mark, behind(text, 1)))
 }
 
 /// The longest punctuator at the front, with its length. Its first byte decides which it may be.

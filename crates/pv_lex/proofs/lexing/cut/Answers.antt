@@ -1,5 +1,6 @@
 use Rattle.std.proofs.Common.{◌≡◌, refl, sym, ap, ◌∙◌, arith}
-use Rattle.pv_lex.specs.Pieces.{Here}
+use Rattle.pv_token.specs.Said.{Punctuator}
+use Rattle.pv_lex.specs.Pieces.{Here, Spelling}
 use Rattle.pv_lex.specs.Stands.{stands}
 use Rattle.pv_lex.specs.Views.{stand_of, what_of}
 use Rattle.pv_lex.proofs.Moving.{moves_stands}
@@ -29,6 +30,25 @@ pieces-preserved c =
       room = omega (arith, moved.shorter, c.pieces.invariant.room);
       lines = omega (arith, line, c.line_behind-next_line.ensures, c.pieces.invariant.lines, c.pieces.invariant.room);
       cut = rw (c.line_behind-next_line.ensures, c.fresh_behind-next_fresh.ensures) (cut_goes_on c.args.bytes.now c.pieces.out c.add.new.tokens (record { text = c.pieces.rest.now; line = c.pieces.line; fresh = c.pieces.fresh }) (record { what = what_of c.in-Here.found; after = c.in-Here.after.now }) _ c.pieces.invariant.cut here refl c.in_ok-add-in-Here.ensures);
+    }
+
+-- the same of a punctuator that stands alone
+pub add_mark-requires : goal.add_mark-requires
+add_mark-requires c = cut_room c.args.bytes.now c.pieces.out _ c.pieces.invariant.cut c.requires.short
+
+pub pieces-smaller-in-Some : goal.pieces-smaller-in-Some
+pieces-smaller-in-Some c =
+    let here : stands c.pieces.fresh c.pieces.rest.now ≡ Here (record { what = Spelling (Punctuator c.in-Some.mark); after = c.in-Some.after.now }) = c.in-Some.ensures c.pieces.fresh in
+    omega (arith, ((moves_stands c.pieces.fresh c.pieces.rest.now).here _ here).shorter)
+
+pub pieces-preserved-in-Some : goal.pieces-preserved-in-Some
+pieces-preserved-in-Some c =
+    let here : stands c.pieces.fresh c.pieces.rest.now ≡ Here (record { what = Spelling (Punctuator c.in-Some.mark); after = c.in-Some.after.now }) = c.in-Some.ensures c.pieces.fresh in
+    let moved = (moves_stands c.pieces.fresh c.pieces.rest.now).here _ here in
+    record {
+      room = omega (arith, moved.shorter, c.pieces.invariant.room);
+      lines = omega (arith, moved.shorter, c.pieces.invariant.lines);
+      cut = cut_goes_on c.args.bytes.now c.pieces.out c.add_mark.new.tokens (record { text = c.pieces.rest.now; line = c.pieces.line; fresh = c.pieces.fresh }) (record { what = Spelling (Punctuator c.in-Some.mark); after = c.in-Some.after.now }) _ c.pieces.invariant.cut here refl c.in_ok-add_mark.ensures;
     }
 
 pub returns-in-End-clause-whole : goal.returns-in-End-clause-whole
