@@ -9,7 +9,7 @@ use Rattle.pv_types.specs.Ty.{Ty, VoidTy, IntTy, PointerTo, ArrayOf, StructTag, 
 use Rattle.pv_types.proofs.Matched.{matching_array, matching_result, matching_size}
 use Rattle.pv_typed.specs.TypedUnits.{WholeUnit, layouts}
 use Rattle.pv_check.specs.Composite.{composite}
-use Rattle.pv_check.specs.RowParts.{known_size}
+use Rattle.std.specs.Option.{option_or}
 use Rattle.pv_typed.specs.TypedTree.{is_function}
 use Rattle.pv_well_typed.specs.Proper.{IsValueOrVoid, IsSmallArray, IsProper}
 
@@ -70,7 +70,7 @@ matching-const t u h = record { left = _; right = _; same = h.same }
 
 module _ (v : WholeUnit) where
   -- 6.7.6.2: a size that one of the two knows
-  small-array : (t u : Ty) (m n : Option ℕ) → Matches t u → is_complete_in (layouts v) t ≡ true → is_complete_in (layouts v) u ≡ true → IsSmallArray v t m → IsSmallArray v u n → IsSmallArray v (composite t u) (known_size m n)
+  small-array : (t u : Ty) (m n : Option ℕ) → Matches t u → is_complete_in (layouts v) t ≡ true → is_complete_in (layouts v) u ≡ true → IsSmallArray v t m → IsSmallArray v u n → IsSmallArray v (composite t u) (option_or m n)
   small-array t u (Some m) n same p q h g = subst (λ s. m * s ≤ 2 ^ 32) (sym (composite-size (layouts v) t u p)) h
   small-array t u None None same p q h g = tt
   small-array t u None (Some n) same p q h g =
