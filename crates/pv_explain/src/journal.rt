@@ -2,7 +2,7 @@
 ghost use Rattle.std.specs.Prelude.{◌≡◌, ◌<◌, ◌++◌, [], length, IfOk, OnOk};
 ghost use Rattle.pv_watch.specs.Slots.{watcher, Present};
 ghost use Rattle.pv_watch.specs.Lines.{event_lines};
-ghost use Rattle.pv_watch.specs.Texts.{last_line};
+ghost use Rattle.pv_watch.specs.TextParts.{last_line};
 
 use crate::known::Known;
 use crate::log::Log;

@@ -10,7 +10,8 @@ use Rattle.pv_token.specs.Said.{Said, Keyword, Name, Number, Character, Text, Pu
 use Rattle.pv_lex.specs.Pieces.{What, White, Comment, Marker, Spelling, Piece, Bad}
 use Rattle.pv_lex.specs.Stands.{stands}
 use Rattle.pv_lex.specs.Rows.{Place, start, behind_piece, Row, spelt, spelt_here}
-use Rattle.pv_token.specs.Table.{Table, Tells, spelt_of, with_name, names_with, names_from, text_of, texts_of}
+use Rattle.pv_token.specs.Table.{Table, Tells, spelt_of, names_with, names_from, text_of}
+use Rattle.pv_token.specs.TableParts.{with_name, texts_of}
 use Rattle.pv_token.specs.Kept.{HasRoom}
 use Rattle.pv_lex.specs.Views.{error_of, LiesWithin}
 use Rattle.pv_lex.proofs.Moving.{Within, moves_stands}

@@ -1,5 +1,6 @@
 -- The arguments of `printf`: which a conversion takes, and the text of a number or an address (C17 7.21.6.1p7, p8).
 use Rattle.std.specs.Prelude.{ℕ, ℤ, Bool, true, false, ◌&&◌, ◌==◌, not, List, Option, None, Some, if◌then◌else◌, codes}
+use Rattle.std.specs.Fmt.{signed_decimal}
 use Rattle.pv_num.specs.declared.kinds.IntKind.{IntKind}
 use Rattle.pv_num.specs.declared.kinds.IntKind.TheVariants as kind
 use Rattle.pv_num.specs.Kinds.{bits_of, fits_of}
@@ -7,7 +8,7 @@ use Rattle.pv_prov.specs.Names.{is_empty}
 use Rattle.pv_object.specs.declared.values.Pointer.{Pointer}
 use Rattle.pv_object.specs.declared.values.Value.{Value}
 use Rattle.pv_object.specs.declared.values.Value.TheVariants as value
-use Rattle.pv_print.specs.Texts.{decimal_text, hexadecimal_text, address_text}
+use Rattle.pv_print.specs.Texts.{hexadecimal_text, address_text}
 use Rattle.pv_libc.specs.declared.values.Shape.{Shape}
 use Rattle.pv_libc.specs.declared.values.Shape.TheVariants as shape
 use Rattle.pv_libc.specs.declared.formats.Style.{Style}
@@ -37,7 +38,7 @@ written_kind long _ = if long then kind.ULong else kind.UInt
 -- 7.21.6.1p8: decimal for `d` and `u`, hexadecimal for `x`
 abbrev pub number_text : Style → ℤ → List ℕ
 number_text style.Hexadecimal n = hexadecimal_text (bits_of kind.ULong n)
-number_text _ n = decimal_text n
+number_text _ n = signed_decimal n
 
 -- the value of an argument of one of the two types (7.21.6.1p7), if it is one of the type that is written too (6.5.2.2p6)
 abbrev pub number_of : (long : Bool) → Style → Shape → Value → Option ℤ

@@ -4,8 +4,10 @@ use Rattle.std.specs.Prelude.{None, Result, Ok, Err, IfOk, OnOk}
 use Rattle.std.specs.Fmt.{decimal}
 use Rattle.std.proofs.lemmas.List.{length-append, length-take, take_all}
 use Rattle.pv_watch.specs.declared.event.Event.{Event}
-use Rattle.pv_watch.specs.Lines.{event_lines, event_line, what_text}
-use Rattle.pv_watch.specs.Texts.{journal_text, last_line}
+use Rattle.pv_watch.specs.Lines.{event_lines, what_text}
+use Rattle.pv_watch.specs.LineParts.{event_line}
+use Rattle.pv_watch.specs.Texts.{journal_text}
+use Rattle.pv_watch.specs.TextParts.{last_line}
 use Rattle.pv_watch.specs.Slots.{Present, Told, SayAll}
 use Rattle.pv_script.specs.Lines.{ScriptLine}
 use Rattle.pv_typed.specs.Known.{Each}

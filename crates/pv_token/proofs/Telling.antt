@@ -10,7 +10,8 @@ use Rattle.pv_token.specs.declared.token_table.Token.{Token}
 use Rattle.pv_token.specs.declared.token_table.TokenKind.{TokenKind}
 use Rattle.pv_token.specs.declared.token_table.TokenKind.TheVariants as kind
 use Rattle.pv_token.specs.Said.{Said, Name, Text, Keyword, Number, Character, Punctuator, Spelt}
-use Rattle.pv_token.specs.Table.{Table, Tells, says, spelt_of, with_name, names_with, names_from, text_number}
+use Rattle.pv_token.specs.Table.{Table, Tells, says, spelt_of, names_with, names_from, text_number}
+use Rattle.pv_token.specs.TableParts.{with_name}
 use Rattle.pv_token.specs.Kept.{Adds, IsKnown, KnowsAll}
 use Rattle.pv_token.proofs.Growing.{adds_plain, adds_name, adds_text, with_token, spelt_as, last_text}
 

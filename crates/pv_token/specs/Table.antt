@@ -1,6 +1,6 @@
 -- The table of tokens, with their names and literals.
 use Rattle.std.specs.Prelude.{◌≡◌, ℕ, if◌then◌else◌, List, [], ◌∷◌, ◌++◌, length, map, Option, Some, option_map, nat_eq, slice_get}
-use Rattle.std.specs.List.{range_with_len, list_any, flat_map}
+use Rattle.std.specs.List.{range_with_len, list_any, flat_map, fold}
 use Rattle.std.specs.Cmp.Lexicographic.{pointwise}
 use Rattle.pv_token.specs.declared.token_table.Token.{Token}
 use Rattle.pv_token.specs.declared.token_table.TokenKind.{TokenKind}
@@ -26,49 +26,31 @@ says names texts (kind.Mark m) = Some (Punctuator m)
 abbrev pub spelt_of : (names texts : List (List ℕ)) → Token → Option Spelt
 spelt_of names texts t = option_map (λ s. record { said = s; start = t.start; line = t.line }) (says names texts t.kind)
 
--- A name that is new goes behind the others; two identifiers are one where all bytes are the same (6.4.2.1p5).
-abbrev pub with_name : List (List ℕ) → List ℕ → List (List ℕ)
-with_name names name = if list_any (pointwise nat_eq name) names then names else names ++ name ∷ []
-
--- The names with that of a token, if it is an identifier (6.4.2.1).
+-- The names with that of a token, if it is an identifier (6.4.2.1): one that is new goes behind the others; two identifiers are one where all bytes
+-- are the same (6.4.2.1p5).
 abbrev pub names_with : List (List ℕ) → Said → List (List ℕ)
-names_with names (Keyword w) = names
-names_with names (Name text) = with_name names text
-names_with names (Number value decimal unsigned longs) = names
-names_with names (Character value) = names
-names_with names (Text bytes) = names
-names_with names (Punctuator m) = names
+names_with names (Name text) = if list_any (pointwise nat_eq text) names then names else names ++ text ∷ []
+names_with names _ = names
 
 -- The names, and then the different identifiers among these tokens in the order of their first places (6.4.2.1).
 abbrev pub names_from : List (List ℕ) → List Spelt → List (List ℕ)
-names_from names [] = names
-names_from names (s ∷ ss) = names_from (names_with names s.said) ss
+names_from names ss = fold (λ names (s : Spelt). names_with names s.said) names ss
 
 -- The bytes of a token, if it is a string literal (6.4.5).
 abbrev pub text_of : Said → List (List ℕ)
-text_of (Keyword w) = []
-text_of (Name text) = []
-text_of (Number value decimal unsigned longs) = []
-text_of (Character value) = []
 text_of (Text bytes) = bytes ∷ []
-text_of (Punctuator m) = []
-
--- Every string literal, in order; adjacent ones stay apart (6.4.5: they are joined in a later phase, 5.1.1.2p1).
-abbrev pub texts_of : List Spelt → List (List ℕ)
-texts_of ss = flat_map (λ s. text_of s.said) ss
+text_of _ = []
 
 -- The number of a token, if it is a string literal (6.4.5).
 abbrev pub text_number : TokenKind → List ℕ
-text_number (kind.Word w) = []
-text_number (kind.Name n) = []
-text_number (kind.Number value decimal unsigned longs) = []
-text_number (kind.Character value) = []
 text_number (kind.Text n) = n ∷ []
-text_number (kind.Mark m) = []
+text_number _ = []
 
--- The table tells these tokens (6.4p1): each token is the one of its place, the names are theirs in the order of first places (6.4.2.1), and the literals are theirs in order and numbered in order (6.4.5).
+-- The table tells these tokens (6.4p1): each token is the one of its place, the names are theirs in the order of first places (6.4.2.1), and
+-- the literals are theirs in order and numbered in order (6.4.5). Every string literal, in order; adjacent ones stay apart (6.4.5: they are
+-- joined in a later phase, 5.1.1.2p1).
 pub record Tells (t : Table) (ss : List Spelt) : Type 0 where
   pub tokens : map (spelt_of t.names t.texts) t.tokens ≡ map Some ss
   pub names : t.names ≡ names_from [] ss
-  pub texts : t.texts ≡ texts_of ss
+  pub texts : t.texts ≡ (flat_map (λ s. text_of s.said) ss)
   pub in_order : flat_map (λ k. text_number k.kind) t.tokens ≡ range_with_len 0 (length t.texts)

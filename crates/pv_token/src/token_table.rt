@@ -3,7 +3,8 @@ ghost use Rattle.std.specs.Prelude.{◌≡◌, ◌≤◌, ◌<◌, ◌+◌, ◌^
 ghost use Rattle.pv_token.specs.Said.{Spelt, as_char};
 ghost use Rattle.pv_token.specs.Views.{said_of};
 ghost use Rattle.pv_token.specs.Short.{AreShort, token_of};
-ghost use Rattle.pv_token.specs.Table.{Table, with_name};
+ghost use Rattle.pv_token.specs.Table.{Table};
+ghost use Rattle.pv_token.specs.TableParts.{with_name};
 ghost use Rattle.pv_token.specs.Kept.{HasRoom, Adds, Keeps};
 
 use crate::error::NoMemory;

@@ -9,7 +9,8 @@ use Rattle.pv_script.specs.declared.script.Place.TheVariants.{At, Null}
 use Rattle.pv_script.specs.declared.scripts.ScriptError.{ScriptError}
 use Rattle.pv_script.specs.Lines.{ScriptLine}
 use Rattle.pv_script.specs.Words.{is_name, count_in, address_in, place_in}
-use Rattle.pv_script.specs.Scripts.{says_nothing, said_in, said, NumberedLine, first_same, unless_same, after_said, after_line, and_then, after_lines, all_said, script_of}
+use Rattle.pv_script.specs.Scripts.{says_nothing, said_in, NumberedLine, first_same, unless_same, after_said, after_line, and_then, after_lines, all_said, script_of}
+use Rattle.pv_script.specs.ScriptParts.{said}
 use Rattle.pv_script.specs.Places.{place_of}
 use Rattle.pv_typed.specs.Mains.{heap_text}
 use Rattle.pv_verdicts.specs.Own.{DeniesHeap}

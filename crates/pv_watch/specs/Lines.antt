@@ -7,6 +7,7 @@ use Rattle.pv_script.specs.Names.{name_at}
 use Rattle.pv_watch.specs.declared.event.Event.{Event}
 use Rattle.pv_watch.specs.declared.event.What.{What}
 use Rattle.pv_watch.specs.declared.event.What.TheVariants.{Made, Ended, Exposed, Pair, Tried, Fault}
+use Rattle.std.specs.List.{flat_map}
 
 -- the first of the events of the memory model that tells such a thing
 abbrev pub first_told : {A : Type 0} → (What → Option A) → List Event → Option A
@@ -39,7 +40,7 @@ survivors l h true false = l
 survivors l h false true = h
 survivors l h false false = []
 
--- the memory model: the same of a pair of candidates; `?` for each where the pair's making isn't told
+-- the memory model: the candidates of a pair that passed; `?` for each where the pair's making isn't told
 abbrev pub survivors_of : List Event → List (List ℕ) → Option (ℕ × ℕ) → (low high : Bool) → List ℕ
 survivors_of seen names None low high = survivors (codes "?") (codes "?") low high
 survivors_of seen names (Some p) low high = survivors (instance_text seen names p.0) (instance_text seen names p.1) low high
@@ -70,11 +71,6 @@ what_text seen names turn (Fault verdict low high pair) = codes "fault" ++ field
 abbrev pub line : List ℕ → List ℕ
 line text = text ++ 10 ∷ []
 
--- the line of an event of the memory model
-abbrev pub event_line : List Event → List (List ℕ) → Event → List ℕ
-event_line seen names e = line (what_text seen names e.turn e.what)
-
 -- the lines of some of the events of the memory model that were seen, in order
 abbrev pub event_lines : List Event → List (List ℕ) → List Event → List ℕ
-event_lines seen names [] = []
-event_lines seen names (e ∷ es) = event_line seen names e ++ event_lines seen names es
+event_lines seen names es = flat_map (λ (e : Event). line (what_text seen names e.turn e.what)) es

@@ -6,6 +6,7 @@ use Rattle.pv_watch.specs.declared.event.Event.{Event}
 use Rattle.pv_watch.specs.declared.event.What.{What}
 use Rattle.pv_watch.specs.declared.event.What.TheVariants.{Made, Ended, Exposed, Pair, Tried, Fault}
 use Rattle.pv_watch.specs.Lines.{first_told, line, event_lines}
+use Rattle.std.specs.Option.{option_map_or}
 
 -- which of the memory model's six kinds of events
 abbrev pub place_of : What → ℕ
@@ -52,15 +53,14 @@ pub record Suspects : Type 0 where
   pub high : Option ℕ
   pub pair : Option ℕ
 
--- the memory model: the same of the event of a fault
+-- the memory model: the candidates and the pair that the event of a fault tells of
 abbrev pub suspects_of : What → Option Suspects
 suspects_of (Fault verdict low high pair) = Some (record { low = low; high = high; pair = pair })
 suspects_of _ = None
 
 -- whether the number of an instance or a pair (memory model) is this one
 abbrev pub is_that : Option ℕ → ℕ → Bool
-is_that None i = false
-is_that (Some n) i = n == i
+is_that o i = option_map_or (λ n. n == i) o false
 
 -- the memory model: a candidate of that pointer
 abbrev pub is_suspect : Suspects → ℕ → Bool
@@ -93,21 +93,17 @@ abbrev pub explained : List Event → List (List ℕ) → Option Suspects → Li
 explained seen names None = line (codes "no fault")
 explained seen names (Some s) = event_lines seen names (concerning s false seen)
 
--- the same of the first fault (3.4.3) that was seen
+-- what led to the first fault (3.4.3) that was seen
 -- worked: all_explained, all_explained_cut, unknown_explained, unknown_explained_cut, faults_explained, faults_explained_cut, none_explained
 abbrev pub explain_text : List Event → List (List ℕ) → List ℕ
 explain_text seen names = explained seen names (first_told suspects_of seen)
 
 -- ---- kind 4: all that was seen, and how much it was
 
--- the line behind all others: how many events of the memory model were seen (docs/FORMATS.md, Journals)
-abbrev pub last_line : ℕ → List ℕ
-last_line n = line (codes "events " ++ decimal n)
-
 -- a line for each event of the memory model that was seen, and how many there are (docs/FORMATS.md, Journals)
 -- worked: all_journaled, all_journaled_cut, unknown_journaled, none_journaled
 abbrev pub journal_text : List Event → List (List ℕ) → List ℕ
-journal_text seen names = event_lines seen names seen ++ last_line (length seen)
+journal_text seen names = event_lines seen names seen ++ line (codes "events " ++ decimal (length seen))
 
 -- ---- all of them
 

@@ -13,7 +13,8 @@ use Rattle.pv_num.specs.Kinds.{Fits, least, greatest}
 use Rattle.pv_token.specs.declared.marks.Mark.{Mark}
 use Rattle.pv_token.specs.declared.words.Word.{Word}
 use Rattle.pv_token.specs.Said.{Said, Name, Text, Keyword, Number, Character, Punctuator, Spelt, as_char}
-use Rattle.pv_token.specs.Table.{Table, texts_of}
+use Rattle.pv_token.specs.Table.{Table}
+use Rattle.pv_token.specs.TableParts.{texts_of}
 use Rattle.pv_tree.specs.Syntax.{DeclarationTree}
 use Rattle.pv_lex.specs.Bytes.{is_white, is_letter, run, front, behind, begins, line_feeds}
 use Rattle.pv_lex.specs.Tables.{row_of, first_row}

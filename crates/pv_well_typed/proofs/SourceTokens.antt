@@ -9,7 +9,8 @@ use Rattle.pv_token.specs.declared.token_table.Token.{Token}
 use Rattle.pv_token.specs.declared.token_table.TokenKind.{TokenKind}
 use Rattle.pv_token.specs.declared.token_table.TokenKind.TheVariants as kind
 use Rattle.pv_token.specs.Said.{Said, Name, Text, Keyword, Number, Character, Punctuator, Spelt}
-use Rattle.pv_token.specs.Table.{Table, says, spelt_of, with_name, names_with, names_from, text_of, texts_of, Tells}
+use Rattle.pv_token.specs.Table.{Table, says, spelt_of, names_with, names_from, text_of, Tells}
+use Rattle.pv_token.specs.TableParts.{with_name, texts_of}
 use Rattle.pv_tree.specs.Fitting.{past}
 use Rattle.pv_tree.specs.Grammar.{kinds}
 use Rattle.pv_tree.specs.Spelling.{declaration_tokens}

@@ -1,5 +1,5 @@
 use Rattle.std.proofs.Common.{sym, ap, ◌∙◌, map, Some}
-use Rattle.pv_token.specs.Table.{with_name}
+use Rattle.pv_token.specs.TableParts.{with_name}
 use Rattle.pv_token.proofs.Growing.{keys_named, number_named, known_name}
 use Rattle.pv_token.proofs.token_table.intern.Goals as goal
 
