@@ -12,8 +12,9 @@ use Rattle.pv_check.specs.Specifiers.{Specified as WhatIsSpecified}
 use Rattle.pv_check.specs.State.{After, innermost}
 use Rattle.pv_typed.specs.Constants.{and_then}
 use Rattle.pv_unit.specs.declared.entities.Outer.{Outer}
-use Rattle.pv_unit.specs.Entities.{UnitState}
-use Rattle.pv_unit.specs.Declarations.{specified_by, tags_alone, bound_in, has_list, file_alone, file_declared, file_declaration}
+use Rattle.pv_unit.specs.Redeclarations.{UnitState}
+use Rattle.pv_unit.specs.Declarations.{specified_by, tags_alone, bound_in, has_list, file_alone, file_declaration}
+use Rattle.pv_unit.specs.DeclarationParts.{file_declared}
 use Rattle.pv_unit.specs.Outside.{unit_state, unit_if}
 
 abbrev with_state : UnitState → After WhatIsSpecified → Option UnitState

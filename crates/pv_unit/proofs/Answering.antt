@@ -4,7 +4,7 @@ use Rattle.std.proofs.lemmas.List.{take_all}
 use Rattle.pv_token.specs.Table.{Table}
 use Rattle.pv_tree.specs.Syntax.{DeclarationTree}
 use Rattle.pv_typed.specs.Constants.{and_then}
-use Rattle.pv_unit.specs.Entities.{UnitState}
+use Rattle.pv_unit.specs.Redeclarations.{UnitState}
 use Rattle.pv_unit.specs.Functions.{typed_external}
 use Rattle.pv_unit.specs.Units.{Breaks, Checked, Constraint, IsTyped, NoMain, Typed, UnitComes, Unresolved, finished, first, has_main, typed_first, typed_last, typed_to, unresolved}
 use Rattle.pv_unit.proofs.Firsts.{either, to_below, to_whole}

@@ -12,7 +12,8 @@ use Rattle.pv_check.specs.State.{State, Scope}
 use Rattle.pv_check.proofs.Opening.{inner_known}
 use Rattle.pv_check.proofs.Showing.{innermost_shown}
 use Rattle.pv_typed.specs.Known.{Each}
-use Rattle.pv_unit.specs.Statements.{is_automatic, are_automatic, automatic_alone}
+use Rattle.pv_unit.specs.Statements.{is_automatic}
+use Rattle.pv_unit.specs.StatementParts.{automatic_alone, are_automatic}
 
 abbrev pub what_at : List (ℕ × Entry) → ℕ → Option Entry
 what_at es i = option_map (λ (e : ℕ × Entry). e.1) (slice_get es i)

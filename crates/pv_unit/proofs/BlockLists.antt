@@ -13,7 +13,8 @@ use Rattle.pv_check.specs.State.{State}
 use Rattle.pv_typed.specs.Constants.{and_then}
 use Rattle.pv_check.proofs.Opening.{same_goes, then_goes}
 use Rattle.pv_unit.specs.declared.blocks.Reached.{Reached}
-use Rattle.pv_unit.specs.Blocks.{block_declarators, block_init_declarator, block_declared, block_declaration}
+use Rattle.pv_unit.specs.Blocks.{block_declarators, block_init_declarator, block_declaration}
+use Rattle.pv_unit.specs.BlockParts.{block_declared}
 use Rattle.pv_unit.specs.Reaching.{reached_in, reached_if, AreReached}
 use Rattle.pv_unit.proofs.Lists.{split_from, take_from, take_all}
 

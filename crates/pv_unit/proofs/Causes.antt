@@ -17,7 +17,7 @@ use Rattle.pv_check.specs.Raw.{Raw, used_of}
 use Rattle.pv_unit.specs.declared.checking.CheckError.{CheckError}
 use Rattle.pv_unit.specs.declared.checking.CheckError.TheVariants as error
 use Rattle.pv_unit.specs.Checking.{IsCause, IsLack, IsNamed, IsResolved, IsStop}
-use Rattle.pv_unit.specs.Entities.{UnitState}
+use Rattle.pv_unit.specs.Redeclarations.{UnitState}
 use Rattle.pv_unit.specs.declared.entities.Outer.{Outer}
 use Rattle.pv_unit.specs.Outside.{unit_state}
 use Rattle.pv_unit.specs.Units.{Breaks, IsTyped, Typed, UnitComes, finished, first, placed_from, statics_from, with_placed, with_statics}

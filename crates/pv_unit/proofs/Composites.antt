@@ -10,7 +10,7 @@ use Rattle.pv_check.specs.Raw.{Raw}
 use Rattle.pv_check.specs.Open.{state_of, IsOpen, Goes}
 use Rattle.pv_check.specs.State.{State}
 use Rattle.pv_check.proofs.Opening.{state_stays}
-use Rattle.pv_unit.specs.Entities.{with_object_type, with_function_type}
+use Rattle.pv_unit.specs.Redeclarations.{with_object_type, with_function_type}
 
 either : {A B : Type 0} (f : A → B) (b : Bool) (x : A) → option_map f (if b then Some x else None) ≡ (if b then Some (f x) else None)
 either f true x = refl

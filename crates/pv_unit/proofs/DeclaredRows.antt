@@ -30,7 +30,8 @@ use Rattle.pv_check.specs.Open.{state_of, after_type, IsOpen, Goes}
 use Rattle.pv_check.proofs.Opening.{state_stays}
 use Rattle.pv_check.proofs.Showing.{innermost_shown}
 use Rattle.pv_unit.specs.declared.declarators.DeclaredType.{DeclaredType}
-use Rattle.pv_unit.specs.Declarations.{DeclaredType as WholeType, with_unsized, is_unsized, has_unsized, type_declared, specified_by, is_listed, has_list, only_tag, bound_in}
+use Rattle.pv_unit.specs.Declarations.{DeclaredType as WholeType, is_unsized, type_declared, specified_by, is_listed, has_list, only_tag, bound_in}
+use Rattle.pv_unit.specs.DeclarationParts.{with_unsized, has_unsized}
 use Rattle.pv_unit.specs.DeclaredIn.{after_specified, after_declared, state_on}
 use Rattle.pv_unit.proofs.Lists.{split_from, take_from, take_all}
 

@@ -16,9 +16,11 @@ use Rattle.pv_typed.specs.TypedTree.{is_function}
 use Rattle.pv_check.specs.Tags.{composite_named, tag_alone}
 use Rattle.pv_check.specs.Typing.{specifiers, steps}
 use Rattle.pv_check.proofs.Leaving.{Leaves, specifiers_leave, steps_leave}
-use Rattle.pv_unit.specs.Blocks.{Reached, block_storage, with_initializer, block_object, reached, is_present, block_declarator, block_init_declarator, block_declarators, block_alone, block_declared, block_declaration}
-use Rattle.pv_unit.specs.Declarations.{DeclaredType, only_tag, tags_alone, declares_something, specified_by, type_declared, with_unsized, has_unsized}
-use Rattle.pv_unit.specs.Entities.{new_object}
+use Rattle.pv_unit.specs.Blocks.{Reached, block_storage, with_initializer, block_object, is_present, block_declarator, block_init_declarator, block_declarators, block_alone, block_declaration, reached}
+use Rattle.pv_unit.specs.BlockParts.{block_declared}
+use Rattle.pv_unit.specs.Declarations.{DeclaredType, only_tag, tags_alone, specified_by, type_declared}
+use Rattle.pv_unit.specs.DeclarationParts.{declares_something, with_unsized, has_unsized}
+use Rattle.pv_unit.specs.Redeclarations.{new_object}
 use Rattle.pv_unit.specs.Initialized.{Given}
 use Rattle.pv_unit.specs.ValueRules.{initialized, with_given}
 use Rattle.pv_unit.proofs.GivenDepths.{initialized_leaves}

@@ -4,8 +4,9 @@ use Rattle.std.specs.Prelude.{◌&&◌, ◌||◌, if◌then◌else◌}
 use Rattle.pv_typed.specs.Tables.{Stored}
 use Rattle.pv_check.specs.Open.{Goes}
 use Rattle.pv_check.specs.State.{State}
-use Rattle.pv_unit.specs.Definitions.{is_finished, are_finished}
-use Rattle.pv_unit.specs.Entities.{Entity, entity, is_entity, marked}
+use Rattle.pv_unit.specs.Definitions.{is_finished}
+use Rattle.pv_unit.specs.HeadParts.{are_finished}
+use Rattle.pv_unit.specs.Redeclarations.{Entity, entity, is_entity, marked}
 use Rattle.pv_check.proofs.Opening.{then_goes}
 use Rattle.pv_unit.specs.DeclaredIn.{GoesOn}
 use Rattle.pv_unit.specs.There.{HasNumber, IsThere, AreThere, ThereOn}

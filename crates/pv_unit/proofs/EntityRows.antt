@@ -18,7 +18,8 @@ use Rattle.pv_check.proofs.Opening.{state_stays}
 use Rattle.pv_unit.specs.Library.{main_type}
 use Rattle.pv_check.specs.State.{State, ObjectName, FunctionName}
 use Rattle.pv_unit.specs.declared.entities.Outer.{Outer}
-use Rattle.pv_unit.specs.Entities.{Entity, UnitState, unit_name, may_have, function_found, function_declared, entity, new_object, new_function, with_new_object, with_new_function, with_object_type, with_function_type, object_again, function_again}
+use Rattle.pv_unit.specs.Redeclarations.{Entity, UnitState, unit_name, may_have, function_declared, entity, new_object, new_function, with_new_object, with_new_function, with_object_type, with_function_type, object_again, function_again}
+use Rattle.pv_unit.specs.EntityParts.{function_found}
 use Rattle.pv_unit.specs.Declarations.{typedef_found, typedef_declared, variable_entity, entity_declared}
 use Rattle.pv_unit.specs.RuleParts.{is_typedef}
 use Rattle.pv_unit.specs.Outside.{unit_state}

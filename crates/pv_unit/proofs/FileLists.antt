@@ -13,7 +13,7 @@ use Rattle.pv_check.specs.Open.{IsOpen, Goes}
 use Rattle.pv_typed.specs.Constants.{and_then}
 use Rattle.pv_check.proofs.Opening.{same_goes, then_goes}
 use Rattle.pv_unit.specs.declared.entities.Outer.{Outer}
-use Rattle.pv_unit.specs.Entities.{UnitState}
+use Rattle.pv_unit.specs.Redeclarations.{UnitState}
 use Rattle.pv_unit.specs.Declarations.{file_declarators, file_init_declarator}
 use Rattle.pv_unit.specs.DeclaredIn.{specified_in}
 use Rattle.pv_unit.specs.Outside.{unit_state, unit_if}

@@ -7,7 +7,7 @@ use Rattle.std.proofs.lemmas.Option.{get_or_from_slice_get, slice_get_within}
 use Rattle.pv_tree.specs.Syntax.{DeclarationTree}
 use Rattle.pv_typed.specs.Constants.{and_then}
 use Rattle.pv_unit.specs.Definitions.{may_end}
-use Rattle.pv_unit.specs.Entities.{UnitState}
+use Rattle.pv_unit.specs.Redeclarations.{UnitState}
 use Rattle.pv_unit.specs.Functions.{typed_external}
 use Rattle.pv_unit.specs.Units.{typed_first, typed_last, typed_to, IsTyped, Breaks}
 

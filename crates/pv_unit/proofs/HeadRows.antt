@@ -15,8 +15,9 @@ use Rattle.pv_check.specs.Raw.{Raw}
 use Rattle.pv_check.specs.State.{State, After}
 use Rattle.pv_typed.specs.Constants.{and_then}
 use Rattle.pv_unit.specs.declared.entities.Outer.{Outer}
-use Rattle.pv_unit.specs.Definitions.{Head, is_definable, may_define, may_be_defined, defined_once, head_of, head_derived, head_signed}
-use Rattle.pv_unit.specs.Entities.{UnitState, function_declared}
+use Rattle.pv_unit.specs.Definitions.{Head, may_be_defined, defined_once, head_of}
+use Rattle.pv_unit.specs.HeadParts.{head_derived, head_signed, is_definable, may_define}
+use Rattle.pv_unit.specs.Redeclarations.{UnitState, function_declared}
 use Rattle.pv_unit.specs.Heads.{ParametersKnown}
 use Rattle.pv_unit.specs.Outside.{unit_state}
 use Rattle.pv_unit.proofs.EntityRows.{unit_stays}

@@ -17,7 +17,8 @@ use Rattle.pv_unit.specs.declared.plain.Place.{Place}
 use Rattle.pv_unit.specs.Blocks.{Reached as WholeReached, block_declaration}
 use Rattle.pv_unit.specs.Reaching.{reached_of, reached_in}
 use Rattle.pv_unit.specs.Statements.{Around, reached}
-use Rattle.pv_unit.specs.TypedStatements.{typed_statement, typed_items, typed_item, with_reached, with_statement}
+use Rattle.pv_unit.specs.TypedStatements.{typed_statement, typed_items, typed_item}
+use Rattle.pv_unit.specs.Made.{with_reached, with_statement}
 use Rattle.pv_unit.specs.Stated.{around_in, stated, statements_in, items_in, AreStatements, Moves}
 use Rattle.pv_unit.proofs.Depths.{declaration_leaves}
 use Rattle.pv_unit.proofs.Moving.{moves_same, moves_on, around_same, are_append, statements_stay, statements_same, statements_append, step_on, step_none}

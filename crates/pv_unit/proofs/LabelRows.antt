@@ -19,7 +19,8 @@ use Rattle.pv_typed.specs.Constants.{and_then}
 use Rattle.pv_check.proofs.ListRows.{one_more, none_at}
 use Rattle.pv_unit.specs.declared.labels.Label.{Label}
 use Rattle.pv_unit.specs.declared.labels.Label.TheVariants as label
-use Rattle.pv_unit.specs.Statements.{is_label, stands, labelled, label_in, typed_label, typed_labels, under}
+use Rattle.pv_unit.specs.Statements.{is_label, label_in, typed_label, typed_labels, under}
+use Rattle.pv_unit.specs.StatementParts.{labelled, stands}
 use Rattle.pv_unit.specs.Statements as statements
 use Rattle.pv_unit.specs.Stated.{Moves}
 use Rattle.pv_unit.specs.Switching.{label_of, labels_of, key_of, labels_if, behind_labels, with_label}

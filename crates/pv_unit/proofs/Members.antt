@@ -11,7 +11,8 @@ use Rattle.pv_types.proofs.Made.{made}
 use Rattle.pv_types.proofs.Placed.{members_named, named_place, struct_named, struct_placed_in}
 use Rattle.pv_layout.specs.Places.{struct_places, place_number}
 use Rattle.pv_unit.specs.declared.parts.Subobject.{Subobject}
-use Rattle.pv_unit.specs.Parts.{part_number, first_member, within, part_in}
+use Rattle.pv_unit.specs.Parts.{part_number, first_member, part_in}
+use Rattle.pv_unit.specs.PartParts.{within}
 use Rattle.pv_unit.specs.Subobjects.{part_of, IsInner}
 
 abbrev pub placed : Known → ℕ × TypeId → Part

@@ -23,7 +23,7 @@ use Rattle.pv_check.specs.PrimaryParts.{is_of_library}
 use Rattle.pv_check.specs.Rows.{operand, integer_value, plain, member_of, callee, called_by}
 use Rattle.pv_check.specs.RowParts.{by_function}
 use Rattle.pv_check.specs.Typing.{types, arguments, type_named, specifiers, specifier_in, specifier, members, member_in, member_declarators, member_declarator, enumerators, enumerator_in, enumerator_value, steps, optional_steps, array_size, parameters, parameter_in}
-use Rattle.pv_unit.specs.Entities.{unit_name}
+use Rattle.pv_unit.specs.Redeclarations.{unit_name}
 
 -- the number of a name is that of an identifier, behind the two names that no source has
 abbrev pub IsOfSource : ℕ → Type 0

@@ -10,8 +10,10 @@ use Rattle.pv_check.specs.State.{State, After, entered, left}
 use Rattle.pv_check.specs.Sorts.{is_scalar, is_void, kind_of}
 use Rattle.pv_check.specs.Typing.{types}
 use Rattle.pv_check.specs.Values.{assigned, promoted_value}
-use Rattle.pv_unit.specs.Statements.{Around, in_loop, in_switch, leaving, valued, if_scalar, condition, some_value, optional, Label, stands, labelled, case_label, typed_label, label_in, typed_labels, value_returned, returned, switched_by, switched}
-use Rattle.pv_unit.specs.TypedStatements.{Body, body_with, typed_statement, typed_items, typed_item, switch_block, switch_items, switch_item}
+use Rattle.pv_unit.specs.Statements.{Around, in_loop, leaving, valued, condition, optional, Label, typed_label, label_in, typed_labels, returned, switched}
+use Rattle.pv_unit.specs.StatementParts.{in_switch, if_scalar, some_value, labelled, case_label, value_returned, switched_by, stands}
+use Rattle.pv_unit.specs.TypedStatements.{Body, typed_statement, typed_items, typed_item, switch_block, switch_items, switch_item}
+use Rattle.pv_unit.specs.Made.{body_with}
 use Rattle.pv_unit.proofs.Named.{AreNamed, Keeps, none_keeps, some_keeps, then_keeps, value_then, if_keeps, operand_keeps, types_keep}
 use Rattle.pv_unit.proofs.NamedBlocks.{not_keeps, declaration_keeps}
 

@@ -25,11 +25,14 @@ use Rattle.pv_check.specs.Composite.{composite}
 use Rattle.pv_check.specs.Derivations.{Parameter, Signature, declared_name, derived}
 use Rattle.pv_check.specs.Typing.{steps}
 use Rattle.pv_unit.specs.Library.{main_type}
-use Rattle.pv_unit.specs.Entities.{UnitState, unit_name, is_initialized, object_again, object_declared, function_again, may_have, function_declared}
+use Rattle.pv_unit.specs.Redeclarations.{UnitState, unit_name, is_initialized, object_again, object_declared, function_again, may_have, function_declared}
 use Rattle.pv_unit.specs.ValueRules.{initialized}
-use Rattle.pv_unit.specs.Declarations.{declares_something, specified_by, tags_alone, only_tag, type_declared, typedef_again, typedef_declared, noted, object_noted, object_initialized, typedef_entity, plain_entity, variable_entity, entity_declared, file_declarator, file_init_declarator, file_declarators, file_alone, file_declared, file_declaration}
-use Rattle.pv_unit.specs.Definitions.{Head, may_be_defined, defined_once, head_of, may_head, head_stepped, head, may_end}
-use Rattle.pv_unit.specs.Functions.{body_of, within, with_parameter, with_parameters, with_body, defined_with, typed_body, typed_declaration, typed_external}
+use Rattle.pv_unit.specs.Declarations.{specified_by, tags_alone, only_tag, type_declared, typedef_again, typedef_declared, noted, object_initialized, plain_entity, entity_declared, file_declarator, file_init_declarator, file_declarators, file_alone, file_declaration, typedef_entity, variable_entity}
+use Rattle.pv_unit.specs.DeclarationParts.{declares_something, object_noted, file_declared}
+use Rattle.pv_unit.specs.Definitions.{Head, may_be_defined, defined_once, head_of, may_head, head, may_end}
+use Rattle.pv_unit.specs.HeadParts.{head_stepped}
+use Rattle.pv_unit.specs.Functions.{body_of, within, with_parameter, with_parameters, defined_with, typed_body, typed_declaration, typed_external}
+use Rattle.pv_unit.specs.FunctionParts.{with_body}
 use Rattle.pv_unit.specs.Identifiers.{IsIdentifier, HasIdentifiers}
 use Rattle.pv_unit.specs.Statements.{block_of}
 use Rattle.pv_unit.specs.TypedStatements.{typed_items}

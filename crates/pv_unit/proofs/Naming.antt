@@ -19,7 +19,7 @@ use Rattle.pv_typed.specs.Known.{Each}
 use Rattle.pv_typed.proofs.Each.{each_at}
 use Rattle.pv_check.proofs.Opening.{open_goes, open_name, scopes_stay}
 use Rattle.pv_check.proofs.Showing.{name_bound_shown}
-use Rattle.pv_unit.specs.Entities.{new_object, new_function, with_object_type, with_function_type}
+use Rattle.pv_unit.specs.Redeclarations.{new_object, new_function, with_object_type, with_function_type}
 
 -- ---- what the innermost scope has for a name is there
 

@@ -3,10 +3,10 @@ use Rattle.std.proofs.Common.{◌≡◌, ℕ, zero, suc, ◌<◌, set, slice_ind
 use Rattle.std.specs.Prelude.{if◌then◌else◌}
 use Rattle.std.proofs.lemmas.List.{length-map, map_push}
 use Rattle.pv_unit.specs.declared.entities.Entity.{Entity as Kept}
-use Rattle.pv_unit.specs.Entities.{Entity, entity, is_entity, marked, is_initialized}
+use Rattle.pv_unit.specs.Redeclarations.{Entity, entity, is_entity, marked, is_initialized}
 use Rattle.pv_unit.specs.Entering.{entity_of, no_entity}
 use Rattle.pv_unit.specs.Places.{ArePlaced, Keeps, defined_in, first_in, initialized_in, noted_in, or_other, with_more}
-use Rattle.pv_unit.specs.Units.{is_defined}
+use Rattle.pv_unit.specs.Definitions.{is_defined}
 
 -- ---- what stands there
 

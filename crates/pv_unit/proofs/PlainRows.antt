@@ -12,8 +12,10 @@ use Rattle.pv_check.specs.State.{State, After, give}
 use Rattle.pv_typed.specs.Constants.{and_then}
 use Rattle.pv_unit.specs.Blocks.{Reached}
 use Rattle.pv_unit.specs.Stated.{items_in, items_if}
-use Rattle.pv_unit.specs.Statements.{Around, automatic_alone}
-use Rattle.pv_unit.specs.TypedStatements.{typed_statement, with_reached, if_automatic}
+use Rattle.pv_unit.specs.Statements.{Around}
+use Rattle.pv_unit.specs.StatementParts.{automatic_alone}
+use Rattle.pv_unit.specs.TypedStatements.{typed_statement, if_automatic}
+use Rattle.pv_unit.specs.Made.{with_reached}
 
 pub break_is : (w : Around) (line : ℕ) (x : StatementTree) (z : State) (r : Option (After TypedStatement)) → x ≡ Break line → w.breaks ≡ true → r ≡ give (Some (typed.Break line)) z → r ≡ typed_statement w x z
 break_is w line x z r is may h = h ∙ sym (ap (λ y. typed_statement w y z) is ∙ ap (λ (b : Bool). if b then give (Some (typed.Break line)) z else None) may)

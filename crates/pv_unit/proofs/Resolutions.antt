@@ -14,9 +14,10 @@ use Rattle.pv_typed.proofs.Adding.{grown_trans}
 use Rattle.pv_check.specs.declared.scopes.Named.{Named}
 use Rattle.pv_check.specs.Raw.{used_of}
 use Rattle.pv_check.specs.State.{State, Used}
-use Rattle.pv_unit.specs.Entities.{Entity}
+use Rattle.pv_unit.specs.Redeclarations.{Entity}
 use Rattle.pv_unit.specs.Resolving.{placed_if}
-use Rattle.pv_unit.specs.Units.{has_main_in, is_main_function, is_pointed, is_unresolved, is_used, placed_from, points, statics_from, unresolved, uses, with_placed, with_statics}
+use Rattle.pv_unit.specs.Units.{is_unresolved, placed_from, points, statics_from, unresolved, uses, with_placed, with_statics}
+use Rattle.pv_unit.specs.UnitParts.{is_main_function, is_used, has_main_in, is_pointed}
 
 -- ---- what expressions name
 

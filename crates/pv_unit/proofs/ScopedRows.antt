@@ -16,7 +16,8 @@ use Rattle.pv_check.proofs.Opening.{then_goes}
 use Rattle.pv_unit.specs.declared.plain.Place.{Place}
 use Rattle.pv_unit.specs.declared.rows.Controlling.{Controlling}
 use Rattle.pv_unit.specs.Statements.{Around, in_loop, leaving, valued, condition, optional, switched, declared_in, block_of}
-use Rattle.pv_unit.specs.TypedStatements.{if_made, else_made, while_made, do_made, for_made, round_made, switch_made, block_made, typed_statement, switch_block}
+use Rattle.pv_unit.specs.TypedStatements.{typed_statement, switch_block}
+use Rattle.pv_unit.specs.Made.{if_made, else_made, while_made, do_made, for_made, round_made, switch_made, block_made}
 use Rattle.pv_unit.specs.Scoped.{switch_body, inner, if_behind, else_last, else_behind, while_behind, do_behind, for_last, for_step, for_behind, round_last, round_step, round_behind, switch_behind, scoped, has_scope}
 use Rattle.pv_unit.specs.Stated.{around_in, stated, statements_in, items_in, optional_in, IsOptional, Moves}
 use Rattle.pv_unit.specs.Switching.{switched_in}

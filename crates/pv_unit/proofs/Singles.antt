@@ -29,7 +29,8 @@ use Rattle.pv_check.proofs.ArmLaws.{goes_kept}
 use Rattle.pv_check.proofs.Opening.{open_goes, state_stays, then_goes}
 use Rattle.pv_unit.specs.declared.parts.Subobject.{Subobject}
 use Rattle.pv_unit.specs.Rules.{After}
-use Rattle.pv_unit.specs.Initializers.{allowed, as_constant, one, single, unqualified, valued, zero, zero_leaf}
+use Rattle.pv_unit.specs.Initializers.{one, single, valued}
+use Rattle.pv_unit.specs.InitializerParts.{allowed, as_constant, unqualified, zero_leaf, zero}
 use Rattle.pv_unit.specs.Stores.{AreStores, Fills, behind, stores_if, stores_in}
 use Rattle.pv_unit.specs.Subobjects.{part_of}
 use Rattle.pv_unit.specs.ValueRules.{lifted, values}

@@ -17,9 +17,11 @@ use Rattle.pv_unit.specs.declared.labels.Label.{Label}
 use Rattle.pv_unit.specs.declared.labels.Labels.{Labels}
 use Rattle.pv_unit.specs.declared.plain.Place.{Place}
 use Rattle.pv_unit.specs.Blocks.{Reached, block_declaration}
-use Rattle.pv_unit.specs.Statements.{Around, in_switch, leaving, reached, block_of, typed_labels, under}
+use Rattle.pv_unit.specs.Statements.{Around, leaving, reached, block_of, typed_labels, under}
+use Rattle.pv_unit.specs.StatementParts.{in_switch}
 use Rattle.pv_unit.specs.Statements as statements
-use Rattle.pv_unit.specs.TypedStatements.{Body, with_reached, body_reached, body_with, body_made, typed_statement, switch_items, switch_item}
+use Rattle.pv_unit.specs.TypedStatements.{Body, typed_statement, switch_items, switch_item}
+use Rattle.pv_unit.specs.Made.{with_reached, body_reached, body_with, body_made}
 use Rattle.pv_unit.specs.Scoped.{Marked, marked, unmarked, under_labels, labelled_statement, with_marked, switch_body}
 use Rattle.pv_unit.specs.Stated.{around_in, stated, statements_in, items_if, AreStatements, Moves}
 use Rattle.pv_unit.specs.Switching.{labels_of, labels_if, behind_labels, HasKeys, body_in, body_if, marked_if, is_labelled, is_switch_block}

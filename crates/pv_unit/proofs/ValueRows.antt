@@ -16,7 +16,7 @@ use Rattle.pv_check.specs.State.{State, After, give}
 use Rattle.pv_typed.specs.Constants.{and_then}
 use Rattle.pv_check.specs.Values.{assigned, promoted_value}
 use Rattle.pv_unit.specs.declared.rows.Controlling.{Controlling}
-use Rattle.pv_unit.specs.Statements.{if_scalar, value_returned, switched_by}
+use Rattle.pv_unit.specs.StatementParts.{if_scalar, value_returned, switched_by}
 use Rattle.pv_unit.specs.Switching.{switched_if}
 use Rattle.pv_unit.proofs.Moving.{step_on}
 

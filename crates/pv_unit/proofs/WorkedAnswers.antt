@@ -7,7 +7,7 @@ use Rattle.pv_typed.specs.TypedStatement.{TypedStatement, Statements, NoStatemen
 use Rattle.pv_typed.specs.TypedStatement as typed
 use Rattle.pv_typed.specs.TypedUnits.{WholeUnit, TypedObject, TypedFunction, Store, StoredValue, ValueOf, TextOf, literal_at, object_at, layouts}
 use Rattle.pv_check.specs.State.{no_scope}
-use Rattle.pv_unit.specs.Entities.{UnitState}
+use Rattle.pv_unit.specs.Redeclarations.{UnitState}
 use Rattle.pv_unit.specs.Definitions.{may_end}
 use Rattle.pv_unit.specs.Functions.{typed_external}
 use Rattle.pv_unit.specs.Units.{unresolved, has_main, finished}

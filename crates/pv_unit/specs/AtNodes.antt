@@ -23,7 +23,7 @@ use Rattle.pv_unit.specs.Blocks.{Reached, block_declarator, block_init_declarato
 use Rattle.pv_unit.specs.Bodies.{left_items}
 use Rattle.pv_unit.specs.Declarations.{DeclaredType, typedef_entity, variable_entity, entity_declared, file_declarator}
 use Rattle.pv_unit.specs.Definitions.{head}
-use Rattle.pv_unit.specs.Entities.{UnitState}
+use Rattle.pv_unit.specs.Redeclarations.{UnitState}
 use Rattle.pv_unit.specs.Functions.{body_of, within, typed_body}
 use Rattle.pv_unit.specs.Scoped.{Marked, labelled_statement}
 use Rattle.pv_unit.specs.Stated.{around_in}

@@ -16,7 +16,7 @@ use Rattle.pv_unit.specs.declared.entities.Outer.{Outer}
 use Rattle.pv_unit.specs.declared.heads.Defined.{Defined}
 use Rattle.pv_unit.specs.declared.functions.FunctionParts.{FunctionParts}
 use Rattle.pv_unit.specs.Definitions.{Head}
-use Rattle.pv_unit.specs.Entities.{UnitState}
+use Rattle.pv_unit.specs.Redeclarations.{UnitState}
 use Rattle.pv_unit.specs.Outside.{unit_state}
 
 -- the head of a definition (6.9.1) that the code made, and what is known behind it

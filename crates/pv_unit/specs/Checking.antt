@@ -5,7 +5,7 @@ use Rattle.pv_tree.specs.Syntax.{DeclarationTree}
 use Rattle.pv_tree.specs.Tables.{Tables, declaration_at}
 use Rattle.pv_unit.specs.declared.checking.CheckError.{CheckError}
 use Rattle.pv_unit.specs.declared.checking.CheckError.TheVariants as error
-use Rattle.pv_unit.specs.Entities.{UnitState}
+use Rattle.pv_unit.specs.Redeclarations.{UnitState}
 use Rattle.pv_unit.specs.Units.{Breaks, unresolved, has_main, Constraint, Unresolved, NoMain, UnitComes}
 
 -- 6.9p1: the external declarations of a unit's tables, in their order

@@ -1,12 +1,12 @@
 -- Declarations (C17 6.7): at file scope and in blocks.
-use Rattle.std.specs.Prelude.{ℕ, ◌+◌, nat_lt, Bool, true, false, ◌&&◌, ◌||◌, not, if◌then◌else◌, Some, None, is_some, List, [], ◌∷◌, length}
+use Rattle.std.specs.Prelude.{ℕ, ◌+◌, nat_lt, Bool, true, false, ◌&&◌, ◌||◌, not, if◌then◌else◌, Some, None, is_some, length}
 use Rattle.std.specs.declared.option.Option.{Option}
 use Rattle.pv_token.specs.declared.words.Word.{Word}
 use Rattle.pv_types.specs.Ty.{Ty}
 use Rattle.pv_tree.specs.Syntax.{DeclarationTree, Declaration, InitDeclarator, DeclaratorTree, Composite, Tag, SpecifierTree, InitializerTree, Tree, OfDeclaration, OfSpecifier, OfInitializer, Trees, NoTrees, Then, OptionalTree, Absent, Present}
 use Rattle.pv_typed.specs.TypedUnits.{object_at}
 use Rattle.pv_typed.specs.TypedTree.{is_function}
-use Rattle.pv_check.specs.State.{State, After, Scope, Meaning, TypedefOf, give, env, innermost, find, bind}
+use Rattle.pv_check.specs.State.{State, After, ◌>>=◌, Scope, Meaning, TypedefOf, give, env, innermost, find, bind}
 use Rattle.pv_typed.specs.Constants.{and_then}
 use Rattle.pv_check.specs.declared.specifiers.Storage.{Storage}
 use Rattle.pv_check.specs.declared.specifiers.Storage.TheVariants as storage
@@ -18,8 +18,9 @@ use Rattle.pv_check.specs.Typing.{specifiers, steps}
 use Rattle.pv_types.specs.Compatible.{are_compatible}
 use Rattle.pv_unit.specs.Library.{main_type}
 use Rattle.pv_check.specs.Qualified.{same}
-use Rattle.pv_unit.specs.Entities.{UnitState, unit_name, marked, is_initialized, object_declared, function_declared}
+use Rattle.pv_unit.specs.Redeclarations.{UnitState, unit_name, marked, is_initialized, object_declared, function_declared}
 use Rattle.pv_unit.specs.ValueRules.{initialized, with_given}
+use Rattle.std.specs.List.{list_any}
 
 -- ---- without declarators
 
@@ -43,18 +44,14 @@ abbrev pub only_tag : Trees → Option (Word × ℕ)
 only_tag (Then NoTrees (OfSpecifier (Tag line w n))) = Some (w, n)
 only_tag _ = None
 
--- 6.7p2: it declares a tag or enumerators, or completes a tag
-abbrev pub declares_something : Trees → State → State → Bool
-declares_something specs before after = nat_lt (bound_in (innermost before.scopes)) (bound_in (innermost after.scopes)) || has_list specs
-
--- 6.7p2: specifiers without declarators declare something
+-- 6.7p2: specifiers without declarators declare a tag or enumerators, or complete a tag
 abbrev pub tags_alone : Trees → State → After Specified → Option (After Specified)
-tags_alone specs s a = if declares_something specs s a.state then Some a else None
+tags_alone specs s a = if nat_lt (bound_in (innermost s.scopes)) (bound_in (innermost a.state.scopes)) || has_list specs then Some a else None
 
 -- 6.7p1: what specifiers say
 -- worked: type_words, storage_classes, qualified_types, members, enumerations, enumerator_values (proofs/WorkedDeclarations)
 abbrev pub specified_by : Trees → State → Option (After Specified)
-specified_by specs s = and_then (specifiers specs s) (λ a. give (specified a.value) a.state)
+specified_by specs s = do a ← specifiers specs s; give (specified a.value) a.state
 
 -- ---- one declarator
 
@@ -63,25 +60,17 @@ abbrev pub is_unsized : Derivation → Bool
 is_unsized (ByArray None) = true
 is_unsized _ = false
 
--- 6.7.6.2p4: one of the steps is so
-abbrev pub has_unsized : List Derivation → Bool
-has_unsized [] = false
-has_unsized (d ∷ ds) = is_unsized d || has_unsized ds
-
 -- 6.7.6p4: what a declarator makes of the type before it, and whether it has an array of no size
 pub record DeclaredType : Type 0 where
   pub t : Ty
   pub unsized : Bool
 
--- 6.7.6.2p4: the same, made of its parts
-abbrev pub with_unsized : Bool → Ty → Option DeclaredType
-with_unsized b t = Some (record { t = t; unsized = b })
-
--- 6.7.6p4: the type that a declarator gives its name, in the state behind it
+-- 6.7.6p4, 6.7.6.2p4: the type that a declarator gives its name, and whether one of its steps is an array of no size, in the state behind it
 -- worked: declarator_forms, arrays, array_sizes, largest_objects, void_objects (proofs/WorkedDeclarations)
 abbrev pub type_declared : (unsized : Bool) → Ty → DeclaratorTree → State → Option (After DeclaredType)
-type_declared unsized t d s =
-    and_then (steps d s) (λ a. give (and_then (derived unsized (env a.state) a.value.list t) (with_unsized (has_unsized a.value.list))) a.state)
+type_declared unsized t d s = do
+  a ← steps d s
+  give (derived unsized (env a.state) a.value.list t >>= λ t. Some (record { t = t; unsized = list_any is_unsized a.value.list })) a.state
 
 -- ---- at file scope
 
@@ -111,38 +100,29 @@ is_extern _ = false
 abbrev pub noted : Bool → ℕ → (defined initialized unsized : Bool) → UnitState → UnitState
 noted function k d i b u = record u { entities = marked function k d i b u.entities }
 
--- 6.9.2p1, p2: without initializer it is defined where it is not `extern`
-abbrev pub object_noted : Storage → Bool → ℕ × UnitState → UnitState
-object_noted x unsized a = noted false a.0 (not (is_extern x)) false unsized a.1
-
 -- 6.7.9: it has one initializer at most, which may complete its type
 abbrev pub object_initialized : InitializerTree → ℕ × UnitState → Option UnitState
 object_initialized i a =
     if is_initialized false a.0 a.1.entities then None
-    else and_then (initialized true (object_at a.1.state.unit a.0).t i a.1.state) (λ f.
-    Some (noted false a.0 true true false (record a.1 { state = with_given a.0 f.value f.state })))
+    else (do
+      f ← initialized true (object_at a.1.state.unit a.0).t i a.1.state
+      Some (noted false a.0 true true false (record a.1 { state = with_given a.0 f.value f.state })))
+
+-- 6.7p4, 6.7.6.3, 6.9.2p1, p2: a function without a body is declared, and so is an object without an initializer, which is defined where it is not
+-- `extern`
+abbrev pub plain_entity : Storage → Ty → ℕ × ℕ → Bool → UnitState → Option UnitState
+plain_entity x t n unsized u =
+    if is_function t then and_then (function_declared n.0 n.1 t u) (λ a. Some (noted true a.0 false false unsized a.1))
+    else and_then (object_declared n.0 n.1 t u) (λ a. Some (noted false a.0 (not (is_extern x)) false unsized a.1))
+
+-- 6.7.9p3: an object with an initializer, which no function has
+abbrev pub given_entity : Ty → ℕ × ℕ → InitializerTree → UnitState → Option UnitState
+given_entity t n i u = if is_function t then None else and_then (object_declared n.0 n.1 t u) (object_initialized i)
 
 -- 6.7p3, 6.7.9: a typedef name, which has no initializer
 abbrev pub typedef_entity : Ty → ℕ × ℕ → Bool → OptionalTree → UnitState → Option UnitState
 typedef_entity t n unsized Absent u = typedef_declared n.0 t unsized u
 typedef_entity t n unsized _ u = None
-
--- 6.9.2p1, p2: an object without an initializer: it is declared, and defined where it is not `extern`
-abbrev pub plain_object : Storage → Ty → ℕ × ℕ → Bool → UnitState → Option UnitState
-plain_object x t n unsized u = and_then (object_declared n.0 n.1 t u) (λ a. Some (object_noted x unsized a))
-
--- 6.7.6.3: a function without a body: it is declared
-abbrev pub plain_function : Ty → ℕ × ℕ → Bool → UnitState → Option UnitState
-plain_function t n unsized u = and_then (function_declared n.0 n.1 t u) (λ a. Some (noted true a.0 false false unsized a.1))
-
--- 6.7p4: a function, or an object without an initializer
-abbrev pub plain_entity : Storage → Ty → ℕ × ℕ → Bool → UnitState → Option UnitState
-plain_entity x t n unsized u =
-    if is_function t then plain_function t n unsized u else plain_object x t n unsized u
-
--- 6.7.9p3: an object with an initializer, which no function has
-abbrev pub given_entity : Ty → ℕ × ℕ → InitializerTree → UnitState → Option UnitState
-given_entity t n i u = if is_function t then None else and_then (object_declared n.0 n.1 t u) (object_initialized i)
 
 -- 6.7p1: a function or an object, with or without an initializer
 abbrev pub variable_entity : Storage → Ty → ℕ × ℕ → Bool → OptionalTree → UnitState → Option UnitState
@@ -150,16 +130,18 @@ variable_entity x t n unsized Absent u = plain_entity x t n unsized u
 variable_entity x t n unsized (Present (OfInitializer i)) u = given_entity t n i u
 variable_entity x t n unsized _ u = None
 
--- 6.7p1: what one declarator declares, by the storage class
+-- 6.7p1: what one declarator declares, by the storage class: a typedef name, which has no initializer (6.7p3, 6.7.9), or a function or an object, with
+-- or without one
 abbrev pub entity_declared : Storage → Ty → ℕ × ℕ → Bool → OptionalTree → UnitState → Option UnitState
 entity_declared storage.Typedef t n unsized i u = typedef_entity t n unsized i u
 entity_declared x t n unsized i u = variable_entity x t n unsized i u
 
 -- 6.7p1: one declarator of file scope
 abbrev pub file_declarator : Specified → DeclaratorTree → OptionalTree → UnitState → Option UnitState
-file_declarator x d i u =
-    and_then (declared_name d) (λ n. and_then (type_declared true x.t d u.state) (λ a.
-    entity_declared x.storage a.value.t n a.value.unsized i (record u { state = a.state })))
+file_declarator x d i u = do
+  n ← declared_name d
+  a ← type_declared true x.t d u.state
+  entity_declared x.storage a.value.t n a.value.unsized i (record u { state = a.state })
 
 -- 6.7p1: one init-declarator of file scope
 abbrev pub file_init_declarator : Specified → Tree → UnitState → Option UnitState
@@ -169,21 +151,19 @@ file_init_declarator x _ u = None
 -- 6.7p1: the init-declarators of a declaration, from left to right
 abbrev pub file_declarators : Trees → Specified → UnitState → Option UnitState
 file_declarators NoTrees x u = Some u
-file_declarators (Then before t) x u = and_then (file_declarators before x u) (file_init_declarator x t)
+file_declarators (Then before t) x u = file_declarators before x u >>= file_init_declarator x t
 
 -- 6.7.2.3p7, 6.7p2: a tag specifier alone, without declarators, or other specifiers
 -- worked: tags (proofs/WorkedDeclarations)
 abbrev pub file_alone : Option (Word × ℕ) → Trees → UnitState → Option UnitState
-file_alone (Some (w, n)) specs u = and_then (tag_alone w n u.state) (λ s. Some (record u { state = s }))
-file_alone None specs u =
-    and_then (specified_by specs u.state) (λ a. and_then (tags_alone specs u.state a) (λ b. Some (record u { state = b.state })))
+file_alone (Some (w, n)) specs u = do s ← tag_alone w n u.state; Some (record u { state = s })
+file_alone None specs u = do
+  a ← specified_by specs u.state
+  b ← tags_alone specs u.state a
+  Some (record u { state = b.state })
 
--- 6.7p1: specifiers and declarators
-abbrev pub file_declared : Trees → Trees → UnitState → Option UnitState
-file_declared specs ds u = and_then (specified_by specs u.state) (λ a. file_declarators ds a.value (record u { state = a.state }))
-
--- 6.9p1: a declaration among the external declarations
+-- 6.9p1, 6.7p1: a declaration among the external declarations: specifiers alone, or with declarators
 abbrev pub file_declaration : DeclarationTree → UnitState → Option UnitState
 file_declaration (Declaration line specs NoTrees) u = file_alone (only_tag specs) specs u
-file_declaration (Declaration line specs ds) u = file_declared specs ds u
+file_declaration (Declaration line specs ds) u = do a ← specified_by specs u.state; file_declarators ds a.value (record u { state = a.state })
 file_declaration _ u = None

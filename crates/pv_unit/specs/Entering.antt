@@ -1,7 +1,7 @@
 -- A bridge: what is kept of the objects and functions of file scope.
 use Rattle.std.specs.Prelude.{false}
 use Rattle.pv_unit.specs.declared.entities.Entity.{Entity}
-use Rattle.pv_unit.specs.Entities.{Entity as WholeEntity}
+use Rattle.pv_unit.specs.Redeclarations.{Entity as WholeEntity}
 
 -- an object or a function of file scope (6.9p1) that the code keeps, as the definitions have it
 abbrev pub entity_of : Entity → WholeEntity

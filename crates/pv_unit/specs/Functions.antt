@@ -10,9 +10,10 @@ use Rattle.pv_check.specs.State.{State, Scope, After, left}
 use Rattle.pv_typed.specs.Constants.{and_then}
 use Rattle.pv_unit.specs.Declarations.{file_declaration}
 use Rattle.pv_unit.specs.Definitions.{Head, head}
-use Rattle.pv_unit.specs.Entities.{UnitState, with_function}
+use Rattle.pv_unit.specs.Redeclarations.{UnitState, with_function}
 use Rattle.pv_unit.specs.Statements.{Around, block_of}
 use Rattle.pv_unit.specs.TypedStatements.{typed_items}
+use Rattle.std.specs.List.{fold}
 
 -- 6.8.6: outside of all loops and switches, in a function that returns this
 abbrev pub body_of : Ty → Around
@@ -29,21 +30,13 @@ with_parameter f (Some o) s = record s { unit = with_param s.unit f o }
 
 -- 6.9.1p9: the objects of the parameters, in order
 abbrev pub with_parameters : ℕ → List Parameter → State → State
-with_parameters f [] s = s
-with_parameters f (p ∷ ps) s = with_parameters f ps (with_parameter f p.object s)
-
--- 6.9.1: the function f has this body
-abbrev pub with_body : ℕ → TypedStatement → State → State
-with_body f b s = with_function f (record (function_at s.unit f) { body = Some b }) s
-
--- 6.9.1: the function f has these parameters, and the block of these items as its body
-abbrev pub with_definition : ℕ → List Parameter → (line : ℕ) → List TypedStatement → State → State
-with_definition f ps line xs s = with_body f (block_of line xs) (with_parameters f ps s)
+with_parameters f ps s = fold (λ s (p : Parameter). with_parameter f p.object s) s ps
 
 -- 6.9.1: the function has its parameters, and as its body the block of what was typed
 abbrev pub defined_with : Head → (line : ℕ) → UnitState → After (List TypedStatement) → Option UnitState
 defined_with h line u x =
-    Some (record u { state = with_definition h.function h.signature.parameters line x.value (left x.state) })
+    let s = with_parameters h.function h.signature.parameters (left x.state) in
+    Some (record u { state = with_function h.function (record (function_at s.unit h.function) { body = Some (block_of line x.value) }) s })
 
 -- 6.2.1p4: the scope of the parameters is that of the body's block
 abbrev pub typed_body : StatementTree → Head × UnitState → Option UnitState
@@ -58,15 +51,9 @@ abbrev pub typed_declaration : DeclarationTree → UnitState → Option UnitStat
 typed_declaration (Function line specs declarator block) u = and_then (head specs declarator u) (typed_body block)
 typed_declaration d u = file_declaration d u
 
--- 6.9p1: one external declaration more: the count that `check` prints
-abbrev pub counted_state : State → State
-counted_state s = record s { unit = with_declaration s.unit }
-
--- 6.9p1: the same of what is known behind it
-abbrev pub counted : UnitState → Option UnitState
-counted u = Some (record u { state = counted_state u.state })
-
--- 6.9p1: one external declaration more
+-- 6.9p1: one external declaration more, and their count, which `check` prints
 -- worked: programs, definitions, lines (proofs/WorkedUnits); layouts_at_file_scope (proofs/WorkedLayouts)
 abbrev pub typed_external : DeclarationTree → UnitState → Option UnitState
-typed_external d u = and_then (typed_declaration d u) counted
+typed_external d u =
+    and_then (typed_declaration d u) (λ (u : UnitState).
+    Some (record u { state = record u.state { unit = with_declaration u.state.unit } }))

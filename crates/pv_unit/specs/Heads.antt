@@ -11,7 +11,7 @@ use Rattle.pv_unit.specs.declared.entities.Outer.{Outer}
 use Rattle.pv_unit.specs.declared.heads.Defined.{Defined}
 use Rattle.pv_unit.specs.declared.heads.Heading.{Heading}
 use Rattle.pv_unit.specs.Definitions.{Head}
-use Rattle.pv_unit.specs.Entities.{UnitState}
+use Rattle.pv_unit.specs.Redeclarations.{UnitState}
 use Rattle.pv_unit.specs.Outside.{unit_state}
 
 -- the type of a parameter (6.7.6.3p4) is in a table of types

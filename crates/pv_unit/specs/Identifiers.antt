@@ -4,7 +4,7 @@ use Rattle.pv_token.specs.Table.{Table}
 use Rattle.pv_typed.specs.Known.{Each}
 use Rattle.pv_typed.specs.Mains.{literal_text, heap_text}
 use Rattle.pv_typed.specs.TypedUnits.{WholeUnit, TypedObject, TypedFunction}
-use Rattle.pv_unit.specs.Entities.{unit_name}
+use Rattle.pv_unit.specs.Redeclarations.{unit_name}
 
 -- 6.4.2.1p1: among the unit's names the number is that of an identifier of the source, one of its tokens
 abbrev pub IsIdentifier : Table → ℕ → Type 0

@@ -3,10 +3,11 @@ use Rattle.std.specs.Prelude.{ℕ, zero, suc, ◌+◌, ◌*◌, ◌^◌, Bool, t
 use Rattle.std.specs.declared.option.Option.TheVariants.{Some as Size, None as Unknown}
 use Rattle.pv_num.specs.declared.kinds.IntKind.{IntKind}
 use Rattle.pv_num.specs.declared.kinds.IntKind.TheVariants as kind
-use Rattle.pv_types.specs.Ty.{Ty, IntTy, PointerTo, ArrayOf, StructTag, UnionTag}
+use Rattle.pv_types.specs.Ty.{Ty, IntTy, ArrayOf, StructTag, UnionTag}
 use Rattle.pv_types.specs.Layouts.{Part, Entry, Named, Placed, Completed, layout_in, layouts_of, is_complete_in, part_count}
 use Rattle.pv_types.specs.Members.{placed_in, member_part}
 use Rattle.pv_layout.specs.Parts.{bare}
+use Rattle.pv_check.specs.Sorts.{is_scalar_in}
 
 -- 6.7.9p17: of these members the part of this number, from 0
 abbrev pub part_number : ℕ → List (Placed Named) → Option Part
@@ -19,52 +20,35 @@ abbrev pub first_member : List (Placed Named) → List (Placed Named)
 first_member [] = []
 first_member (p ∷ ps) = p ∷ []
 
--- 6.2.5p20, 6.5.2.1p2: the element of this number begins behind those before it
-abbrev pub element : List Entry → Ty → ℕ → Part
-element env t i = record { offset = i * (layout_in env t).size; t = t }
-
 -- 6.7.9p2, p22: an array has this element; one of unknown size has as many as the largest object has room for (5.2.4.1p1)
 abbrev pub has_element : Option ℕ → (size i : ℕ) → Bool
 has_element (Size n) size i = nat_lt i n
 has_element Unknown size i = nat_le ((i + 1) * size) (2 ^ 32)
 
--- 6.7.9p17: the part that initializer number i of a list is for, within a type without qualifiers
+-- 6.7.9p17: the part that initializer number i of a list is for, within a type without qualifiers; an element begins behind those before it (6.2.5p20)
 abbrev pub part_in : List Completed → Ty → ℕ → Option Part
-part_in done (ArrayOf t n) i = if has_element n (layout_in (layouts_of done) t).size i then Some (element (layouts_of done) t i) else None
+part_in done (ArrayOf t n) i =
+    if has_element n (layout_in (layouts_of done) t).size i then Some (record { offset = i * (layout_in (layouts_of done) t).size; t = t }) else None
 part_in done (StructTag n) i = part_number i (placed_in done (StructTag n))
 part_in done (UnionTag n) i = part_number i (first_member (placed_in done (UnionTag n)))
 part_in done _ i = None
 
--- 6.7.9p17: a part of a part of an object, from the object's beginning
-abbrev pub within : Part → Part → Part
-within whole p = record { offset = whole.offset + p.offset; t = p.t }
-
--- 6.7.9p17: the same as part_in, within a part of an object, qualifiers aside
+-- 6.7.9p17: the part that initializer number i of a list is for, within a part of an object, qualifiers aside
 abbrev pub part_at : List Completed → Part → ℕ → Option Part
-part_at done whole i = option_map (within whole) (part_in done (bare whole.t) i)
+part_at done whole i = option_map (λ (p : Part). record { offset = whole.offset + p.offset; t = p.t }) (part_in done (bare whole.t) i)
 
 -- ---- kinds of types, qualifiers aside
 
--- 6.2.5p21: a scalar, of a type without qualifiers
-abbrev pub scalar_layer : Ty → Bool
-scalar_layer (IntTy k) = true
-scalar_layer (PointerTo t) = true
-scalar_layer _ = false
-
--- 6.2.5p21: the scalar types are the integer and the pointer types
+-- 6.2.5p21: a scalar type, qualifiers aside
 abbrev pub is_scalar : Ty → Bool
-is_scalar t = scalar_layer (bare t)
+is_scalar t = is_scalar_in (bare t)
 
--- 6.2.5p21: the same as is_aggregate, of a type without qualifiers
+-- 6.2.5p21, 6.7.9p17: an array, a structure or a union, of a type without qualifiers
 abbrev pub aggregate_layer : Ty → Bool
 aggregate_layer (ArrayOf t n) = true
 aggregate_layer (StructTag n) = true
 aggregate_layer (UnionTag n) = true
 aggregate_layer _ = false
-
--- 6.2.5p21, and unions: what has parts
-abbrev pub is_aggregate : Ty → Bool
-is_aggregate t = aggregate_layer (bare t)
 
 -- 6.2.5p15: the three character types
 abbrev pub is_character_kind : IntKind → Bool
@@ -73,12 +57,12 @@ is_character_kind kind.SChar = true
 is_character_kind kind.UChar = true
 is_character_kind _ = false
 
--- 6.2.5p15: the same of a type without qualifiers
+-- 6.2.5p15: a character type, of a type without qualifiers
 abbrev pub character_layer : Ty → Bool
 character_layer (IntTy k) = is_character_kind k
 character_layer _ = false
 
--- 6.7.9p14: the same as is_text, of a type without qualifiers
+-- 6.7.9p14: a type without qualifiers is an array of characters
 abbrev pub text_layer : Ty → Bool
 text_layer (ArrayOf t n) = character_layer (bare t)
 text_layer _ = false

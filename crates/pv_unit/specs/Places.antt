@@ -2,7 +2,7 @@
 use Rattle.std.specs.Prelude.{◌≡◌, ℕ, suc, nat_eq, Bool, true, false, ◌||◌, if◌then◌else◌, List, [], ◌∷◌, Option, Some, None, set, slice_index_or}
 use Rattle.std.specs.Option.{option_map}
 use Rattle.pv_check.specs.State.{find}
-use Rattle.pv_unit.specs.Entities.{Entity, is_entity}
+use Rattle.pv_unit.specs.Redeclarations.{Entity, is_entity}
 
 -- the place of the first one of this kind and number, among objects and functions of file scope (6.9p1)
 abbrev pub first_in : Bool → ℕ → List Entity → Option ℕ

@@ -6,7 +6,7 @@ use Rattle.pv_typed.specs.TypedUnits.{WholeUnit}
 use Rattle.pv_check.specs.declared.scopes.Named.{Named}
 use Rattle.pv_check.specs.Raw.{used_of}
 use Rattle.pv_unit.specs.declared.resolving.Uses.{Uses}
-use Rattle.pv_unit.specs.Units.{is_used, is_pointed}
+use Rattle.pv_unit.specs.UnitParts.{is_used, is_pointed}
 
 -- the object, or the function, is among the numbers that were named (6.9p5)
 abbrev pub has_in : (objects functions : List ℕ) → Bool → ℕ → Bool

@@ -12,7 +12,7 @@ use Rattle.pv_check.specs.Tags.{composite_named}
 use Rattle.pv_check.specs.declared.specifiers.Storage.{Storage}
 use Rattle.pv_check.specs.declared.specifiers.Storage.TheVariants as storage
 use Rattle.pv_check.specs.Composite.{composite}
-use Rattle.pv_unit.specs.Entities.{with_object_type, with_function_type}
+use Rattle.pv_unit.specs.Redeclarations.{with_object_type, with_function_type}
 use Rattle.pv_unit.specs.Rules.{Rules, After}
 use Rattle.pv_unit.specs.Initializers.{Stores}
 use Rattle.pv_unit.specs.Initialized.{each_initialized, initialized as part_initialized}

@@ -7,8 +7,10 @@ use Rattle.pv_typed.specs.TypedStatement.{TypedStatement}
 use Rattle.pv_check.specs.State.{State, After, give, entered}
 use Rattle.pv_typed.specs.Constants.{and_then}
 use Rattle.pv_unit.specs.Blocks.{block_declaration}
-use Rattle.pv_unit.specs.Statements.{Around, in_loop, in_switch, leaving, valued, condition, optional, Label, typed_labels, under, Switched, switched}
-use Rattle.pv_unit.specs.TypedStatements.{Body, if_made, else_made, while_made, do_made, for_made, round_made, switch_made, block_made, body_made, if_automatic, typed_statement, typed_items, switch_items, switch_block}
+use Rattle.pv_unit.specs.Statements.{Around, in_loop, leaving, valued, condition, optional, Label, typed_labels, under, Switched, switched}
+use Rattle.pv_unit.specs.StatementParts.{in_switch}
+use Rattle.pv_unit.specs.TypedStatements.{Body, if_automatic, typed_statement, typed_items, switch_items, switch_block}
+use Rattle.pv_unit.specs.Made.{if_made, else_made, while_made, do_made, for_made, round_made, switch_made, block_made, body_made}
 
 -- 6.8.4p3, 6.8.5p5: a statement in a scope of its own
 abbrev pub inner : Around → StatementTree → State → Option (After TypedStatement)

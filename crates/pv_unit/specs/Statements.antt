@@ -1,5 +1,5 @@
 -- Rows of statements (C17 6.8): their parts are typed already.
-use Rattle.std.specs.Prelude.{ℕ, ℤ, Bool, true, false, not, ◌&&◌, ◌||◌, ◌==◌, if◌then◌else◌, List, [], ◌∷◌, ◌++◌, length, Option, Some, None}
+use Rattle.std.specs.Prelude.{ℕ, ℤ, Bool, true, false, not, if◌then◌else◌, List, [], ◌∷◌, ◌++◌, Option, Some, None}
 use Rattle.std.specs.Ordering.{int_eq}
 use Rattle.pv_num.specs.declared.kinds.IntKind.{IntKind}
 use Rattle.pv_num.specs.Kinds.{convert_of}
@@ -9,12 +9,14 @@ use Rattle.pv_typed.specs.TypedTree.{TypedTree, type_of}
 use Rattle.pv_typed.specs.TypedStatement.{TypedStatement, Block, ForDeclaration, Declare, Return, Case as CaseOf, Default as DefaultOf, statements_of}
 use Rattle.pv_typed.specs.TypedUnits.{object_at}
 use Rattle.pv_typed.specs.Constants.{integer, and_then}
-use Rattle.pv_check.specs.State.{State, After, Meaning, ObjectName, give, innermost, left}
+use Rattle.pv_check.specs.State.{State, After, Meaning, ObjectName, give, left}
 use Rattle.pv_check.specs.Sorts.{is_scalar, is_void, kind_of}
 use Rattle.pv_check.specs.Typing.{types}
 use Rattle.pv_check.specs.Rows.{operand}
 use Rattle.pv_check.specs.Values.{assigned, promoted_value}
 use Rattle.pv_unit.specs.Blocks.{Reached}
+use Rattle.std.specs.List.{list_any, flat_map}
+use Rattle.std.specs.Option.{option_map}
 
 -- 6.8.6.2p1, 6.8.6.3p1, 6.8.6.4: what stands around a statement: the type that its function returns, whether a `break` and whether
 -- a `continue` has something to leave
@@ -27,35 +29,22 @@ pub record Around : Type 0 where
 abbrev pub in_loop : Around → Around
 in_loop w = record w { breaks = true; continues = true }
 
--- 6.8.6.3p1: in the body of a `switch`
-abbrev pub in_switch : Around → Around
-in_switch w = record w { breaks = true }
-
 -- 6.8.2p2, 6.8.4p3, 6.8.5p5: what was typed in a scope that ends with it
 abbrev pub leaving : {A : Type 0} → Option (After A) → Option (After A)
-leaving None = None
-leaving (Some x) = Some (record { value = x.value; state = left x.state })
+leaving {A} o = option_map (λ (x : After A). record { value = x.value; state = left x.state }) o
 
 -- 6.3.2.1p2: an expression, and its value taken
 abbrev pub valued : ExpressionTree → State → Option (After TypedTree)
 valued a s = operand (types a s)
 
--- 6.8.4.1p1, 6.8.5p2: its type is a scalar one
-abbrev pub if_scalar : After TypedTree → Option (After TypedTree)
-if_scalar x = if is_scalar (type_of x.value) then Some x else None
-
 -- 6.8.4.1p1, 6.8.5p2: a condition is a scalar
 abbrev pub condition : ExpressionTree → State → Option (After TypedTree)
-condition a s = and_then (valued a s) if_scalar
-
--- 6.8.3p2: the value of an expression that may be left out
-abbrev pub some_value : After TypedTree → Option (After (Option TypedTree))
-some_value x = give (Some (Some x.value)) x.state
+condition a s = and_then (valued a s) (λ x. if is_scalar (type_of x.value) then Some x else None)
 
 -- 6.8.3p3, 6.8.5.3p2, 6.8.6.4: an expression that may be left out
 abbrev pub optional : (ExpressionTree → State → Option (After TypedTree)) → OptionalTree → State → Option (After (Option TypedTree))
 optional typed Absent s = give (Some None) s
-optional typed (Present (OfExpression a)) s = and_then (typed a s) some_value
+optional typed (Present (OfExpression a)) s = and_then (typed a s) (λ x. give (Some (Some x.value)) x.state)
 optional typed (Present _) s = None
 
 -- ---- labels (6.8.1, 6.8.4.2)
@@ -71,28 +60,17 @@ is_label (CaseLabel line m) (CaseLabel other n) = int_eq m n
 is_label (DefaultLabel line) (DefaultLabel other) = true
 is_label _ _ = false
 
--- 6.8.4.2p3: the label is among these
-abbrev pub stands : Label → List Label → Bool
-stands l [] = false
-stands l (x ∷ xs) = is_label l x || stands l xs
-
--- 6.8.4.2p3: no two `case` labels of a switch have one value, and it has one `default` at most
-abbrev pub labelled : (seen own : List Label) → After Label → Option (After (List Label))
-labelled seen own x = if stands x.value (seen ++ own) then None else give (Some (own ++ (x.value ∷ []))) x.state
-
--- 6.8.4.2p3: an integer constant expression; p5: its value is converted to the promoted type of the switch
-abbrev pub case_label : IntKind → (line : ℕ) → After TypedTree → Option (After Label)
-case_label k line x = and_then (integer x.value) (λ n. give (Some (CaseLabel line (convert_of k n))) x.state)
-
--- 6.8.1p1: one label
+-- 6.8.1p1, 6.8.4.2p3, p5: one label: `case` with an integer constant expression, converted to the promoted type of the switch, or `default`
 abbrev pub typed_label : IntKind → StatementTree → State → Option (After Label)
-typed_label k (Case line a) s = and_then (valued a s) (case_label k line)
+typed_label k (Case line a) s = and_then (valued a s) (λ x. and_then (integer x.value) (λ n. give (Some (CaseLabel line (convert_of k n))) x.state))
 typed_label k (Default line) s = give (Some (DefaultLabel line)) s
 typed_label k _ s = None
 
--- 6.8.1p1: one label behind others
+-- 6.8.1p1, 6.8.4.2p3: one label behind others: no two `case` labels of a switch have one value, and it has one `default` at most
 abbrev pub label_in : IntKind → (seen : List Label) → Tree → After (List Label) → Option (After (List Label))
-label_in k seen (OfStatement l) own = and_then (typed_label k l own.state) (labelled seen own.value)
+label_in k seen (OfStatement l) own =
+    and_then (typed_label k l own.state) (λ x. if list_any (is_label x.value) (seen ++ own.value) then None
+    else give (Some (own.value ++ (x.value ∷ []))) x.state)
 label_in k seen _ own = None
 
 -- 6.8.4.2p3: the labels of a statement, where the switch has those that were seen before it
@@ -108,18 +86,12 @@ under (DefaultLabel line ∷ ls) b = DefaultOf line (under ls b)
 
 -- ---- `return` (6.8.6.4)
 
--- 6.8.6.4p1: without an expression, in a function that returns `void` alone
-abbrev pub nothing_returned : (result : Ty) → (line : ℕ) → State → Option (After TypedStatement)
-nothing_returned t line s = if is_void t then give (Some (Return line None)) s else None
-
--- 6.8.6.4p1, p3: in a function that returns a value: it is converted as if by assignment to an object of the function's type
-abbrev pub value_returned : (result : Ty) → (line : ℕ) → After TypedTree → Option (After TypedStatement)
-value_returned t line x = if is_void t then None else and_then (assigned t x.value) (λ e. give (Some (Return line (Some e))) x.state)
-
--- 6.8.6.4p1: `return` with an expression or without one
+-- 6.8.6.4p1, p3: `return` without an expression in a function that returns `void`, else with one, converted as if by assignment to an object of the
+-- function's type
 abbrev pub returned : (result : Ty) → (line : ℕ) → OptionalTree → State → Option (After TypedStatement)
-returned t line Absent s = nothing_returned t line s
-returned t line (Present (OfExpression a)) s = and_then (valued a s) (value_returned t line)
+returned t line Absent s = if is_void t then give (Some (Return line None)) s else None
+returned t line (Present (OfExpression a)) s =
+    and_then (valued a s) (λ x. if is_void t then None else and_then (assigned t x.value) (λ e. give (Some (Return line (Some e))) x.state))
 returned t line (Present _) s = None
 
 -- ---- switches (6.8.4.2)
@@ -129,13 +101,11 @@ pub record Switched : Type 0 where
   pub value : TypedTree
   pub kind : IntKind
 
--- 6.8.4.2p1, p5: the integer promotions of an integer
-abbrev pub switched_by : After TypedTree → Option (After Switched)
-switched_by x = and_then (kind_of (type_of (promoted_value x.value))) (λ k. give (Some (record { value = promoted_value x.value; kind = k })) x.state)
-
--- 6.8.4.2p1: the controlling expression is an integer
+-- 6.8.4.2p1, p5: the controlling expression is an integer, which is promoted
 abbrev pub switched : ExpressionTree → State → Option (After Switched)
-switched a s = and_then (valued a s) switched_by
+switched a s =
+    and_then (valued a s) (λ x. and_then (kind_of (type_of (promoted_value x.value))) (λ k.
+    give (Some (record { value = promoted_value x.value; kind = k })) x.state))
 
 -- ---- blocks (6.8.2)
 
@@ -151,8 +121,7 @@ declared_by _ = []
 
 -- 6.2.4p5: the automatic objects that a block declares, in the order of their declarations
 abbrev pub declared_in : List TypedStatement → List ℕ
-declared_in [] = []
-declared_in (x ∷ xs) = declared_by x ++ declared_in xs
+declared_in xs = flat_map declared_by xs
 
 -- 6.8.2p2: a block of these items
 abbrev pub block_of : (line : ℕ) → List TypedStatement → TypedStatement
@@ -166,12 +135,3 @@ round_of line xs c t b = ForDeclaration line (declared_in xs) (statements_of xs)
 abbrev pub is_automatic : State → Meaning → Bool
 is_automatic s (ObjectName o) = not (object_at s.unit o).lasting
 is_automatic s _ = false
-
--- 6.8.5p3: the same of all names of a scope
-abbrev pub are_automatic : State → List (ℕ × Meaning) → Bool
-are_automatic s [] = true
-are_automatic s (e ∷ es) = is_automatic s e.1 && are_automatic s es
-
--- 6.8.5p3: the innermost scope declares nothing but automatic objects
-abbrev pub automatic_alone : State → Bool
-automatic_alone s = are_automatic s (innermost s.scopes).names && (length (innermost s.scopes).tags == 0)

@@ -16,7 +16,8 @@ use Rattle.pv_unit.specs.declared.labels.Label.{Label}
 use Rattle.pv_unit.specs.declared.labels.Label.TheVariants as label
 use Rattle.pv_unit.specs.declared.labels.Labels.{Labels}
 use Rattle.pv_unit.specs.declared.rows.Controlling.{Controlling}
-use Rattle.pv_unit.specs.Statements.{Switched, CaseLabel, DefaultLabel, stands, typed_label, typed_labels}
+use Rattle.pv_unit.specs.Statements.{Switched, CaseLabel, DefaultLabel, typed_label, typed_labels}
+use Rattle.pv_unit.specs.StatementParts.{stands}
 use Rattle.pv_unit.specs.Statements as statements
 use Rattle.pv_unit.specs.TypedStatements.{Body}
 use Rattle.pv_unit.specs.Scoped.{Marked}

@@ -1,7 +1,7 @@
 -- A bridge: the objects and functions that declarations at file scope declare are in the tables.
 use Rattle.std.specs.Prelude.{ℕ, ◌<◌, Bool, true, false, List, [], ◌∷◌, length}
 use Rattle.pv_typed.specs.Tables.{Stored}
-use Rattle.pv_unit.specs.Entities.{Entity}
+use Rattle.pv_unit.specs.Redeclarations.{Entity}
 
 -- the object or the function (6.9p1) of this number is in the tables
 abbrev pub HasNumber : Stored → (function : Bool) → ℕ → Type 0

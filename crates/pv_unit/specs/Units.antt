@@ -1,5 +1,5 @@
 -- Typing translation units (C17 6.9).
-use Rattle.std.specs.Prelude.{◌≡◌, ◌<◌, ℕ, ◌+◌, ◌==◌, Bool, true, false, not, ◌&&◌, ◌||◌, if◌then◌else◌, List, [], ◌∷◌, ◌++◌, length, take, nat_lt, is_some, Option, Some, None}
+use Rattle.std.specs.Prelude.{◌≡◌, ◌<◌, ℕ, ◌+◌, ◌==◌, Bool, true, false, not, ◌&&◌, if◌then◌else◌, List, [], ◌∷◌, ◌++◌, length, take, nat_lt, is_some, Option, Some, None}
 use Rattle.pv_token.specs.Table.{Table}
 use Rattle.pv_tree.specs.Syntax.{DeclarationTree}
 use Rattle.pv_typed.specs.Mains.{literal_text, heap_text, named_main}
@@ -7,9 +7,10 @@ use Rattle.pv_typed.specs.TypedUnits.{WholeUnit, TypedObject, TypedFunction, nam
 use Rattle.pv_check.specs.Library.{library_named}
 use Rattle.pv_check.specs.State.{State, Used, UsedObject, UsedFunction, PointedFunction, no_scope}
 use Rattle.pv_typed.specs.Constants.{and_then}
-use Rattle.pv_unit.specs.Definitions.{may_end}
-use Rattle.pv_unit.specs.Entities.{Entity, UnitState, unit_name, is_entity}
+use Rattle.pv_unit.specs.Definitions.{may_end, is_defined}
+use Rattle.pv_unit.specs.Redeclarations.{Entity, UnitState, unit_name}
 use Rattle.pv_unit.specs.Functions.{typed_external}
+use Rattle.std.specs.List.{list_any}
 
 -- 6.9p1: the first external declarations of a unit, one after the other
 abbrev pub typed_first : List DeclarationTree → UnitState → Option UnitState
@@ -34,43 +35,21 @@ uses true k (UsedFunction f) = f == k
 uses true k (PointedFunction f) = f == k
 uses _ k _ = false
 
--- 6.9p5: one of the expressions names it; the operand of sizeof counts as well (our choice)
-abbrev pub is_used : Bool → ℕ → List Used → Bool
-is_used function k [] = false
-is_used function k (x ∷ xs) = uses function k x || is_used function k xs
-
--- 7.1.3p1: a function that has a name of the library
-abbrev pub is_of_library : State → Entity → Bool
-is_of_library s e = e.function && is_some (library_named (name_at s.unit (unit_name e.name)))
-
--- 6.9p5: an expression names it, and neither the unit nor the library defines it
+-- 6.9p5: an expression names it, that of sizeof counts as well (our choice), and neither the unit nor the library (7.1.3p1) defines it
 abbrev pub is_unresolved : State → Entity → Bool
-is_unresolved s e = is_used e.function e.number s.used && (not e.defined && not (is_of_library s e))
+is_unresolved s e =
+    list_any (uses e.function e.number) s.used && (not e.defined && not (e.function && is_some (library_named (name_at s.unit (unit_name e.name)))))
 
 -- 6.9p5: the name of the first one, in the order of their first declarations
 abbrev pub unresolved : State → List Entity → Option ℕ
 unresolved s [] = None
 unresolved s (e ∷ es) = if is_unresolved s e then Some e.name else unresolved s es
 
--- 5.1.2.2.1: a function of this name that has a body
-abbrev pub is_main_function : List (List ℕ) → TypedFunction → Bool
-is_main_function names f = is_some f.body && named_main names f.name
-
--- 5.1.2.2.1p1: one of the functions is so
-abbrev pub has_main_in : List (List ℕ) → List TypedFunction → Bool
-has_main_in names [] = false
-has_main_in names (f ∷ fs) = is_main_function names f || has_main_in names fs
-
--- 5.1.2.2.1p1: the unit defines `main`
+-- 5.1.2.2.1p1: the unit defines `main`: one of its functions has this name and a body
 abbrev pub has_main : WholeUnit → Bool
-has_main w = has_main_in w.names w.functions
+has_main w = list_any (λ (f : TypedFunction). is_some f.body && named_main w.names f.name) w.functions
 
 -- ---- static objects
-
--- 6.9.2p1, p2: an object of a block is defined where it is declared; one of file scope may be declared alone
-abbrev pub is_defined : ℕ → List Entity → Bool
-is_defined k [] = true
-is_defined k (e ∷ es) = if is_entity false k e then e.defined else is_defined k es
 
 -- 6.2.4p3: those with static storage that are defined, from number k on
 abbrev pub statics_from : List Entity → ℕ → List TypedObject → List ℕ
@@ -116,15 +95,10 @@ abbrev pub points : ℕ → Used → Bool
 points k (PointedFunction f) = f == k
 points k _ = false
 
--- 6.3.2.1p4: so it is in one of the expressions
-abbrev pub is_pointed : ℕ → List Used → Bool
-is_pointed k [] = false
-is_pointed k (x ∷ xs) = points k x || is_pointed k xs
-
--- 6.3.2.1p4, 6.9.1p1: those of them that the unit defines, from number k on, in the order of their first declarations
+-- 6.3.2.1p4, 6.9.1p1: those of the functions that are pointed to that the unit defines, from number k on, in the order of their first declarations
 abbrev pub placed_from : List Used → ℕ → List TypedFunction → List ℕ
 placed_from us k [] = []
-placed_from us k (f ∷ fs) = if is_some f.body && is_pointed k us then k ∷ placed_from us (k + 1) fs else placed_from us (k + 1) fs
+placed_from us k (f ∷ fs) = if is_some f.body && list_any (points k) us then k ∷ placed_from us (k + 1) fs else placed_from us (k + 1) fs
 
 -- 6.3.2.1p4: the unit with these functions that are pointed to
 abbrev pub with_placed : List ℕ → WholeUnit → WholeUnit

@@ -40,13 +40,9 @@ values = record {
   completed = λ s. s.unit.completed;
 }
 
--- 6.7.9: what an object of this type gets by its initializer
-abbrev pub object_stores : (lasting : Bool) → Ty → InitializerTree → State → Option (After State Given)
-object_stores lasting t i s = initialized_object values lasting t i s
-
 -- 6.7.9: the initializer of an object of this type
 abbrev pub initialized : (lasting : Bool) → Ty → InitializerTree → State → Option (check.After Given)
-initialized lasting t i s = lowered (object_stores lasting t i s)
+initialized lasting t i s = lowered (initialized_object values lasting t i s)
 
 -- 6.7.9: the object has its type, and the stores of its initializer behind those that it has: none, since it is initialized once
 abbrev pub with_given : ℕ → Given → State → State

@@ -12,7 +12,7 @@ ghost use Rattle.pv_check.specs.State.{entered, left};
 ghost use Rattle.pv_unit.specs.Reaching.{AreReached, reached_of};
 ghost use Rattle.pv_unit.specs.Stated.{optional_list, statements_in, optional_in, items_if, IsOptional, AreStatements, StatementsOn, Moves, MovesOn, items_in};
 ghost use Rattle.pv_unit.specs.Statements.{reached, declared_by, declared_in, block_of, round_of};
-ghost use Rattle.pv_unit.specs.TypedStatements.{declared_item};
+ghost use Rattle.pv_unit.specs.Made.{declared_item};
 
 use crate::blocks::{Reached, block_declaration};
 use pv_check::Scopes;

@@ -8,7 +8,8 @@ ghost use Rattle.pv_check.specs.Raw.{raw_innermost};
 ghost use Rattle.pv_check.specs.Open.{state_of, IsOpen, Goes};
 ghost use Rattle.pv_check.specs.Tags.{tag_alone};
 ghost use Rattle.pv_check.specs.State.{innermost};
-ghost use Rattle.pv_unit.specs.Declarations.{is_unsized, has_unsized, is_listed, has_list, only_tag, specified_by, type_declared, bound_in};
+ghost use Rattle.pv_unit.specs.Declarations.{is_unsized, is_listed, has_list, only_tag, specified_by, type_declared, bound_in};
+ghost use Rattle.pv_unit.specs.DeclarationParts.{has_unsized};
 ghost use Rattle.pv_unit.specs.RuleParts.{composite_alone};
 ghost use Rattle.pv_unit.specs.DeclaredIn.{after_specified, after_declared, OpenOn, GoesOn, state_on};
 

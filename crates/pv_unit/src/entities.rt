@@ -1,10 +1,10 @@
 //! Objects and functions with declarations at file scope, in the order of their first ones (C17 6.9).
 ghost use Rattle.std.specs.Prelude.{◌≡◌, ◌<◌, ◌||◌, ◌++◌, ◌∷◌, [], true, false, length, map, slice_index_or, IfSome, OnErr, OnOk};
 ghost use Rattle.pv_check.specs.State.{find};
-ghost use Rattle.pv_unit.specs.Entities.{entity, marked, is_initialized};
+ghost use Rattle.pv_unit.specs.Redeclarations.{entity, marked, is_initialized};
 ghost use Rattle.pv_unit.specs.Entering.{entity_of, no_entity};
 ghost use Rattle.pv_unit.specs.Places.{Keeps, defined_in, first_in, initialized_in, noted_in};
-ghost use Rattle.pv_unit.specs.Units.{is_defined};
+ghost use Rattle.pv_unit.specs.Definitions.{is_defined};
 
 use indexmap::IndexMap;
 use pv_types::NoMemory;
@@ -36,7 +36,7 @@ pub(crate) struct Entities {
 
 impl Model for Entities {
     ghost use Rattle.std.specs.Prelude.{List, map, true, false};
-    ghost use Rattle.pv_unit.specs.Entities.{Entity as WholeEntity};
+    ghost use Rattle.pv_unit.specs.Redeclarations.{Entity as WholeEntity};
     ghost use Rattle.pv_unit.specs.Entering.{entity_of};
     ghost use Rattle.pv_unit.specs.Places.{ArePlaced};
 

@@ -11,12 +11,14 @@ ghost use Rattle.pv_check.specs.Kept.{Kept};
 ghost use Rattle.pv_check.specs.Open.{state_of, IsOpen, Goes};
 ghost use Rattle.pv_unit.specs.DeclaredIn.{OpenOn, GoesOn, state_on};
 ghost use Rattle.pv_unit.specs.Giving.{IsGivenIf, given_if, given_in, with_stores};
-ghost use Rattle.pv_unit.specs.Initialized.{is_braces, is_braced, is_filling};
+ghost use Rattle.pv_unit.specs.Initialized.{is_braces, is_filling};
+ghost use Rattle.pv_unit.specs.InitializedParts.{is_braced};
 ghost use Rattle.pv_unit.specs.Parts.{can_be_initialized, sized};
 ghost use Rattle.pv_unit.specs.Shapes.{shape_in};
 ghost use Rattle.pv_unit.specs.Stores.{AreStores, FillsIf, stores_in};
 ghost use Rattle.pv_unit.specs.Subobjects.{part_of, HasSpace, IsPart};
-ghost use Rattle.pv_unit.specs.ValueRules.{with_given, object_stores};
+ghost use Rattle.pv_unit.specs.ValueRules.{with_given};
+ghost use Rattle.pv_unit.specs.ValueParts.{object_stores};
 ghost use Rattle.pv_unit.specs.RuleParts.{object_given};
 
 use crate::initializers::{array_of, initializer};

@@ -5,7 +5,8 @@ ghost use Rattle.pv_typed.specs.NodeTrees.{statement_at, expression_at, IsExpres
 ghost use Rattle.pv_check.specs.Open.{state_of, IsOpen};
 ghost use Rattle.pv_typed.specs.Constants.{and_then};
 ghost use Rattle.pv_unit.specs.Stated.{Moves, MovesOn};
-ghost use Rattle.pv_unit.specs.Statements.{valued, stands, case_label, typed_label, under};
+ghost use Rattle.pv_unit.specs.Statements.{valued, typed_label, under};
+ghost use Rattle.pv_unit.specs.StatementParts.{case_label, stands};
 ghost use Rattle.pv_unit.specs.Switching.{label_of, labels_of, key_of, HasKeys, label_if, labels_if, label_behind, labels_behind};
 
 use crate::adding::add as add_statement;

@@ -9,7 +9,7 @@ ghost use Rattle.pv_check.specs.Open.{state_of, after_nothing, IsOpen, Goes, Ent
 ghost use Rattle.pv_check.specs.Growing.{type_if};
 ghost use Rattle.pv_check.specs.Raw.{raw_innermost, meaning_if, with_name};
 ghost use Rattle.pv_check.specs.State.{find, innermost, TypedefOf, bind};
-ghost use Rattle.pv_unit.specs.Entities.{new_object, new_function, with_object_type, with_function_type};
+ghost use Rattle.pv_unit.specs.Redeclarations.{new_object, new_function, with_object_type, with_function_type};
 ghost use Rattle.pv_unit.specs.RuleParts.{object_composed, function_composed};
 
 use pv_check::{Entry, Scopes, composite};

@@ -8,8 +8,10 @@ ghost use Rattle.pv_check.specs.Open.{state_of, IsOpen, EntryKnown};
 ghost use Rattle.pv_check.specs.Raw.{meaning_in};
 ghost use Rattle.pv_typed.specs.Constants.{and_then};
 ghost use Rattle.pv_unit.specs.Blocks.{block_declaration};
-ghost use Rattle.pv_unit.specs.Statements.{is_automatic, automatic_alone};
-ghost use Rattle.pv_unit.specs.TypedStatements.{expression_of, if_automatic, typed_statement};
+ghost use Rattle.pv_unit.specs.Statements.{is_automatic};
+ghost use Rattle.pv_unit.specs.StatementParts.{automatic_alone};
+ghost use Rattle.pv_unit.specs.TypedStatements.{if_automatic, typed_statement};
+ghost use Rattle.pv_unit.specs.Made.{expression_of};
 ghost use Rattle.pv_unit.specs.Stated.{around_in, optional_in, stated_if, items_if, IsOptional, StatementsOn, Moves, MovesOn};
 
 use crate::adding::{add, add_declaration};

@@ -7,8 +7,9 @@ ghost use Rattle.pv_typed.specs.Tables.{whole};
 ghost use Rattle.pv_typed.specs.TypedUnits.{name_at};
 ghost use Rattle.pv_check.specs.Library.{library_named};
 ghost use Rattle.pv_check.specs.Open.{IsOpen, Goes};
-ghost use Rattle.pv_unit.specs.Library.{agrees, prototype};
-ghost use Rattle.pv_unit.specs.Entities.{unit_name};
+ghost use Rattle.pv_unit.specs.Library.{prototype};
+ghost use Rattle.pv_unit.specs.EntityParts.{agrees};
+ghost use Rattle.pv_unit.specs.Redeclarations.{unit_name};
 
 use crate::library_names::library_of;
 use crate::library_types::prototype;

@@ -12,7 +12,8 @@ ghost use Rattle.pv_check.specs.State.{give};
 ghost use Rattle.pv_typed.specs.Constants.{and_then};
 ghost use Rattle.pv_check.specs.Values.{assigned, promoted_value};
 ghost use Rattle.pv_unit.specs.Stated.{stated_if, optional_if, IsOptional, Moves, value_in};
-ghost use Rattle.pv_unit.specs.Statements.{valued, condition, optional, nothing_returned, value_returned, switched, switched_by};
+ghost use Rattle.pv_unit.specs.Statements.{valued, condition, optional, switched};
+ghost use Rattle.pv_unit.specs.StatementParts.{nothing_returned, value_returned, switched_by};
 ghost use Rattle.pv_unit.specs.Switching.{switched_if, IsLabelledIf, IsBlockIf};
 
 use crate::adding::add;

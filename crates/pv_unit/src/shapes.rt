@@ -3,7 +3,8 @@ ghost use Rattle.std.specs.Prelude.{◌≡◌, ◌<◌, length, option_map, All}
 ghost use Rattle.pv_types.specs.Known.{tree};
 ghost use Rattle.pv_types.specs.Formed.{completions};
 ghost use Rattle.pv_tree.specs.Tables.{expression_at, initializer_at, trees_at, is_expression, is_initializer, Is, HasList};
-ghost use Rattle.pv_unit.specs.Initializers.{only, is_zero, filling, expression_shape, begins_deep, single_shape, list_shape, shape_of};
+ghost use Rattle.pv_unit.specs.Initializers.{only, is_zero, filling, single_shape, list_shape, shape_of};
+ghost use Rattle.pv_unit.specs.InitializerParts.{expression_shape, begins_deep};
 ghost use Rattle.pv_unit.specs.Shapes.{shape_in, IsShape, IsShapeIf, IsExpressionIf};
 ghost use Rattle.pv_check.specs.Growing.{AreSized};
 ghost use Rattle.pv_unit.specs.Subobjects.{part_of, IsPart};

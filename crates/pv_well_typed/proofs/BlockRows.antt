@@ -16,12 +16,14 @@ use Rattle.pv_check.specs.State.{State, After, ObjectName, give, env, innermost,
 use Rattle.pv_typed.specs.Constants.{and_then}
 use Rattle.pv_check.specs.Tags.{composite_named, tag_alone}
 use Rattle.pv_check.specs.Typing.{specifiers, steps}
-use Rattle.pv_unit.specs.Blocks.{Reached, block_storage, with_initializer, block_object, reached, is_present, block_declarator, block_init_declarator, block_declarators, block_alone, block_declared, block_declaration}
-use Rattle.pv_unit.specs.Declarations.{DeclaredType, only_tag, declares_something, specified_by, type_declared, with_unsized, has_unsized}
+use Rattle.pv_unit.specs.Blocks.{Reached, block_storage, with_initializer, block_object, reached, is_present, block_declarator, block_init_declarator, block_declarators, block_alone, block_declaration}
+use Rattle.pv_unit.specs.BlockParts.{block_declared}
+use Rattle.pv_unit.specs.Declarations.{DeclaredType, only_tag, specified_by, type_declared}
+use Rattle.pv_unit.specs.DeclarationParts.{declares_something, with_unsized, has_unsized}
 use Rattle.pv_unit.specs.Statements.{reached as declares, declared_in}
 use Rattle.pv_typed.specs.TypedStatement.{statements_of}
 use Rattle.pv_guards.specs.TypedStatements as guards
-use Rattle.pv_unit.specs.Entities.{unit_name, new_object}
+use Rattle.pv_unit.specs.Redeclarations.{unit_name, new_object}
 use Rattle.pv_unit.specs.Initialized.{Given}
 use Rattle.pv_unit.specs.Parts.{sized}
 use Rattle.pv_typed.specs.Addresses.{size_in, or_zero}

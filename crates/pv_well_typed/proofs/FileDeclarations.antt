@@ -15,8 +15,9 @@ use Rattle.pv_check.specs.Tags.{composite_named, tag_alone}
 use Rattle.pv_check.specs.Typing.{specifiers, steps}
 use Rattle.pv_check.specs.declared.specifiers.Storage.{Storage}
 use Rattle.pv_check.specs.declared.specifiers.Storage.TheVariants as storage
-use Rattle.pv_unit.specs.Declarations.{DeclaredType, only_tag, declares_something, tags_alone, specified_by, with_unsized, has_unsized, type_declared, typedef_entity, plain_function, plain_object, plain_entity, given_entity, variable_entity, entity_declared, object_initialized, file_declarator, file_init_declarator, file_declarators, file_alone, file_declared, file_declaration}
-use Rattle.pv_unit.specs.Entities.{UnitState, object_declared}
+use Rattle.pv_unit.specs.Declarations.{DeclaredType, only_tag, tags_alone, specified_by, type_declared, typedef_entity, plain_entity, given_entity, variable_entity, entity_declared, object_initialized, file_declarator, file_init_declarator, file_declarators, file_alone, file_declaration}
+use Rattle.pv_unit.specs.DeclarationParts.{declares_something, with_unsized, has_unsized, plain_function, plain_object, file_declared}
+use Rattle.pv_unit.specs.Redeclarations.{UnitState, object_declared}
 use Rattle.pv_guards.specs.Typed.{AreFixed}
 use Rattle.pv_well_typed.proofs.SourceCharacters.{InitializerCharacters, OptionalCharacters, TreeCharacters, TreesCharacters, DeclarationCharacters}
 use Rattle.pv_well_typed.specs.Later.{IsFinished, Later}

@@ -16,8 +16,10 @@ use Rattle.pv_check.specs.Library.{library_named}
 use Rattle.pv_typed.specs.TypedTree.{is_function}
 use Rattle.pv_check.specs.State.{State, Scope, no_scope, Meaning, ObjectName, FunctionName, TypedefOf, ConstantOf, Used, UsedObject, UsedFunction, PointedFunction, innermost, find}
 use Rattle.pv_check.specs.StateParts.{bound}
-use Rattle.pv_unit.specs.Entities.{Entity, UnitState, unit_name, is_initialized, entity, with_function, with_function_type, new_function, with_new_function, function_again, may_have, function_found, function_declared}
-use Rattle.pv_unit.specs.Declarations.{noted, plain_function}
+use Rattle.pv_unit.specs.Redeclarations.{Entity, UnitState, unit_name, is_initialized, entity, with_function, with_function_type, new_function, with_new_function, function_again, may_have, function_declared}
+use Rattle.pv_unit.specs.EntityParts.{function_found}
+use Rattle.pv_unit.specs.Declarations.{noted}
+use Rattle.pv_unit.specs.DeclarationParts.{plain_function}
 use Rattle.pv_guards.specs.TypedStatements.{IsDefinition}
 use Rattle.pv_well_typed.specs.Later.{IsFinished}
 use Rattle.pv_well_typed.specs.Proper.{IsProper}

@@ -19,10 +19,12 @@ use Rattle.pv_check.specs.State.{State, After, Scope, Meaning, ObjectName, Funct
 use Rattle.pv_typed.specs.Constants.{and_then}
 use Rattle.pv_typed.specs.Mains.{named_main}
 use Rattle.pv_unit.specs.Library.{main_type}
-use Rattle.pv_unit.specs.Entities.{Entity, UnitState, unit_name, is_entity, marked, is_initialized, entity, with_object, with_object_type, new_object, with_new_object, object_again, object_declared}
-use Rattle.pv_unit.specs.Declarations.{typedef_again, typedef_found, typedef_declared, noted, object_noted, object_initialized, plain_object}
+use Rattle.pv_unit.specs.Redeclarations.{Entity, UnitState, unit_name, is_entity, marked, is_initialized, entity, with_object_type, new_object, with_new_object, object_again, object_declared}
+use Rattle.pv_unit.specs.Declarations.{typedef_again, typedef_found, typedef_declared, noted, object_initialized}
+use Rattle.pv_unit.specs.DeclarationParts.{object_noted, plain_object}
 use Rattle.pv_unit.specs.Initialized as init
-use Rattle.pv_unit.specs.Initialized.{Given, initialized_object, given, is_braced, whole}
+use Rattle.pv_unit.specs.Initialized.{Given, initialized_object, given, whole}
+use Rattle.pv_unit.specs.InitializedParts.{is_braced}
 use Rattle.pv_unit.specs.Initializers.{Stores}
 use Rattle.pv_unit.specs.Rules as rules
 use Rattle.pv_unit.specs.Parts.{sized, can_be_initialized}
@@ -39,7 +41,7 @@ use Rattle.pv_well_typed.proofs.Composites.{composite-complete, composite-size, 
 use Rattle.pv_well_typed.proofs.PrimaryRows.{each-at, last-at}
 use Rattle.pv_well_typed.proofs.TagRows.{bits-equal, bind-moves}
 use Rattle.pv_well_typed.proofs.Changes.{find-each, more_object, bind-proper, bind-visible, before-at}
-use Rattle.pv_well_typed.proofs.UnitChanges.{set-same, set-other, differ, grown-set, size-sized, with-object-orderly, with-object-later, with-object-proper, new-object-proper}
+use Rattle.pv_well_typed.proofs.UnitChanges.{with_object, set-same, set-other, differ, grown-set, size-sized, with-object-orderly, with-object-later, with-object-proper, new-object-proper}
 use Rattle.pv_well_typed.proofs.Moving.{identifier-apart, AreConstantStores, Grown, HasMade, none-made, Moves, then-moves, grown-before}
 use Rattle.pv_well_typed.proofs.DeclaredTypes.{from-some}
 use Rattle.pv_well_typed.proofs.Walk.{U, object-moves}

@@ -13,7 +13,7 @@ use Rattle.pv_typed.specs.TypedUnits.{WholeUnit, TypedObject, TypedFunction, no_
 use Rattle.pv_typed.specs.TypedTree.{is_function}
 use Rattle.pv_check.specs.State.{State, Scope, Meaning, ObjectName, FunctionName, TypedefOf, ConstantOf, find, innermost}
 use Rattle.pv_check.specs.StateParts.{bound}
-use Rattle.pv_unit.specs.Entities.{Entity, UnitState, unit_name, is_entity, is_initialized, marked}
+use Rattle.pv_unit.specs.Redeclarations.{Entity, UnitState, unit_name, is_entity, is_initialized, marked}
 use Rattle.pv_guards.specs.Typed.{IsIn}
 use Rattle.pv_guards.specs.TypedStatements.{IsDefinition}
 use Rattle.pv_well_typed.specs.Later.{Later}

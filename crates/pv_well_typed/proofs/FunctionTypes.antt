@@ -17,8 +17,9 @@ use Rattle.pv_check.specs.Composite.{composite, composites}
 use Rattle.pv_check.specs.Library.{library_functions, function_among, library_named, is_printf}
 use Rattle.pv_typed.specs.TypedTree.{is_function}
 use Rattle.pv_check.specs.Texts.{same_text}
-use Rattle.pv_unit.specs.Library.{prototype, agrees, main_type}
-use Rattle.pv_unit.specs.Entities.{is_variadic, may_have}
+use Rattle.pv_unit.specs.Library.{prototype, main_type}
+use Rattle.pv_unit.specs.EntityParts.{agrees}
+use Rattle.pv_unit.specs.Redeclarations.{is_variadic, may_have}
 use Rattle.pv_guards.specs.Typed.{AreLike, AreAllLike, IsSignature, IsResultOf}
 use Rattle.pv_guards.proofs.Signatures.{like-alike}
 use Rattle.pv_well_typed.specs.Proper.{IsValueOrVoid, IsProper}

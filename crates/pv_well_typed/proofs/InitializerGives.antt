@@ -24,9 +24,12 @@ use Rattle.pv_check.specs.State as check
 use Rattle.pv_check.specs.Typing.{types}
 use Rattle.pv_check.specs.Values.{assigned}
 use Rattle.pv_unit.specs.Initialized as init
-use Rattle.pv_unit.specs.Initialized.{Given, each_initialized, initialized_object, given, is_braced, whole}
+use Rattle.pv_unit.specs.Initialized.{Given, each_initialized, initialized_object, given, whole}
+use Rattle.pv_unit.specs.InitializedParts.{is_braced}
 use Rattle.pv_unit.specs.Initializers as stores
-use Rattle.pv_unit.specs.Initializers.{Stores, Shape, Fill, Single, Zero, Wrong, filling, or_shape, expression_shape, single_shape, list_shape, begins_deep, only, shape_of, one, allowed, as_constant, valued, single, has_room, filled_type, characters, filled_with, zero_leaf, formed, nothing, joined}
+use Rattle.pv_unit.specs.InitializerParts as parts
+use Rattle.pv_unit.specs.Initializers.{Stores, Shape, Fill, Single, Zero, Wrong, filling, single_shape, list_shape, only, shape_of, one, valued, single, has_room, filled_type, characters, filled_with, formed, joined}
+use Rattle.pv_unit.specs.InitializerParts.{or_shape, expression_shape, begins_deep, allowed, as_constant, zero_leaf}
 use Rattle.pv_unit.specs.Parts.{part_at, is_scalar, is_text, text_layer, sized, can_be_initialized}
 use Rattle.pv_unit.specs.Rules.{After}
 use Rattle.pv_unit.specs.ValueRules.{lifted, lowered, filling_text, values, initialized}
@@ -55,6 +58,10 @@ use Rattle.pv_well_typed.proofs.ConstantRows.{constant-good}
 
 abbrev low : {A : Type 0} → After State A → check.After A
 low x = record { value = x.value; state = x.state }
+
+-- the stores of no initializer
+abbrev nothing : State → After State Stores
+nothing s = record { value = record { stores = []; count = 0 }; state = s }
 
 abbrev high : {A : Type 0} → check.After A → After State A
 high x = record { value = x.value; state = x.state }
@@ -225,14 +232,14 @@ module _ (v : WholeUnit) (done : IsFinished v) where
       (c, kept, good.0, subst (λ u. IsConstantOf c u) is good.1)
 
   constant-gives : (lasting : Bool) (p : Part) (a : ExpressionTree) (s : State) (x : After State TypedTree) (e : TypedTree) → s.unevaluated ≡ false → assigned (bare p.t) x.value ≡ Some e
-      → Gives U v [] (IsProper v p.t × Behind v s (λ os y. IsOperand U v os y) (low x)) x.state (OneIn lasting p s) (lowered (as_constant values lasting (stores.unqualified p) (expression_line a) x.state e))
+      → Gives U v [] (IsProper v p.t × Behind v s (λ os y. IsOperand U v os y) (low x)) x.state (OneIn lasting p s) (lowered (as_constant values lasting (parts.unqualified p) (expression_line a) x.state e))
   constant-gives lasting p a s x e ev q = by (allowed values lasting x.state e) refl
     where
       by : (b : Bool) → allowed values lasting x.state e ≡ b
-          → Gives U v [] (IsProper v p.t × Behind v s (λ os y. IsOperand U v os y) (low x)) x.state (OneIn lasting p s) (lowered (if b then Some (one (stores.unqualified p) (expression_line a) (ValueOf e) x.state) else None))
+          → Gives U v [] (IsProper v p.t × Behind v s (λ os y. IsOperand U v os y) (low x)) x.state (OneIn lasting p s) (lowered (if b then Some (one (parts.unqualified p) (expression_line a) (ValueOf e) x.state) else None))
       by false f = gives-none U v [] _ x.state (OneIn lasting p s)
       by true f =
-          gives-some U v [] (IsProper v p.t × Behind v s (λ os y. IsOperand U v os y) (low x)) x.state (OneIn lasting p s) (low (one (stores.unqualified p) (expression_line a) (ValueOf e) x.state)) (same-moves U v [] x.state)
+          gives-some U v [] (IsProper v p.t × Behind v s (λ os y. IsOperand U v os y) (low x)) x.state (OneIn lasting p s) (low (one (parts.unqualified p) (expression_line a) (ValueOf e) x.state)) (same-moves U v [] x.state)
           (λ l h g.
           let w : (os : List ℕ) → Here v os s → IsAssigned U v os (bare p.t) e = λ os here. assigned-row U v os (bare p.t) x.value (h.1 os here).0 e q in
           let z = some-here v s ev in
@@ -259,7 +266,7 @@ module _ (v : WholeUnit) (done : IsFinished v) where
       then-gives v (IsProper v p.t) s (Behind v s (λ os y. IsOperand U v os y)) (OneIn lasting p s) (lifted (operand (types a s))) (valued values lasting p (expression_line a))
       (lifted-gives v (IsProper v p.t) s (Behind v s (λ os y. IsOperand U v os y)) (operand (types a s))
       (gives-weaker U U U (IsProper v p.t) v [] s (Behind v s (λ os y. IsOperand U v os y)) (Behind v s (λ os y. IsOperand U v os y)) (operand (types a s)) (λ f. f) (λ h. tt) (λ y q. q) (valued-everywhere v done a c s)))
-      (λ x m. value-gives v (IsProper v p.t × Behind v s (λ os y. IsOperand U v os y) (low x)) x.state (OneIn lasting p s) (assigned (bare p.t) x.value) (as_constant values lasting (stores.unqualified p) (expression_line a) x.state)
+      (λ x m. value-gives v (IsProper v p.t × Behind v s (λ os y. IsOperand U v os y) (low x)) x.state (OneIn lasting p s) (assigned (bare p.t) x.value) (as_constant values lasting (parts.unqualified p) (expression_line a) x.state)
       (λ e q. constant-gives lasting p a s x e ev q))
 
   -- ---- string literals that fill an array (6.7.9p14)
@@ -424,7 +431,7 @@ module _ (v : WholeUnit) (done : IsFinished v) where
       omega (arith, outer, inner, w)
 
   -- 6.7.9p20, p21: the list `{0}`
-  zero-gives : (lasting : Bool) (p : Part) (a : ExpressionTree) (s : State) → HasCharacters a → s.unevaluated ≡ false → Gives U v [] (MayFill p s) s (StoredIn lasting p s) (lowered (stores.zero values lasting p a s))
+  zero-gives : (lasting : Bool) (p : Part) (a : ExpressionTree) (s : State) → HasCharacters a → s.unevaluated ≡ false → Gives U v [] (MayFill p s) s (StoredIn lasting p s) (lowered (parts.zero values lasting p a s))
   unfolding values
   zero-gives lasting p a s c ev =
       value-gives v (MayFill p s) s (StoredIn lasting p s) (zero_leaf s.unit.completed p) (λ leaf. single values lasting leaf a s) (λ leaf e. record { held = λ f q. next leaf e f q })

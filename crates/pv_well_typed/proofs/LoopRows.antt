@@ -13,8 +13,9 @@ use Rattle.pv_check.specs.Sorts.{is_void}
 use Rattle.pv_check.specs.State.{State, After, give, entered, left}
 use Rattle.pv_typed.specs.Constants.{and_then}
 use Rattle.pv_check.specs.Values.{assigned}
-use Rattle.pv_unit.specs.Statements.{leaving, valued, condition, optional, value_returned, returned, declared_by, declared_in}
-use Rattle.pv_unit.specs.TypedStatements.{do_made, for_made, round_made, expression_of, expression_made}
+use Rattle.pv_unit.specs.Statements.{leaving, valued, condition, optional, returned, declared_by, declared_in}
+use Rattle.pv_unit.specs.StatementParts.{value_returned}
+use Rattle.pv_unit.specs.Made.{do_made, for_made, round_made, expression_of, expression_made}
 use Rattle.pv_eval.specs.TypeForms.{is_none}
 use Rattle.pv_guards.specs.Typed.{AreLike, IsIn, HasType}
 use Rattle.pv_guards.specs.TypedStatements.{MayBeCondition, MayBeTyped, IsCondition, IsTypedStatement}

@@ -15,7 +15,7 @@ use Rattle.pv_check.specs.State.{State, Used, UsedObject, UsedFunction, PointedF
 use Rattle.pv_typed.specs.Constants.{and_then, integer}
 use Rattle.pv_check.specs.Values.{value_of}
 use Rattle.pv_eval.specs.Objects.{heap_name}
-use Rattle.pv_unit.specs.Entities.{unit_name}
+use Rattle.pv_unit.specs.Redeclarations.{unit_name}
 use Rattle.pv_guards.specs.TypedStatements.{IsConstant}
 use Rattle.pv_well_typed.specs.Later.{IsFinished, Later}
 use Rattle.pv_well_typed.proofs.Sources.{AreBytes, letters}

@@ -13,8 +13,9 @@ use Rattle.pv_types.proofs.Fills.{struct_end-ge, union_end-ge}
 use Rattle.pv_types.proofs.LayoutLaws.{complete-append}
 use Rattle.pv_typed.specs.Known.{Each}
 use Rattle.pv_typed.specs.TypedUnits.{WholeUnit}
-use Rattle.pv_unit.specs.Parts.{part_number, first_member, element, part_in, within, part_at, is_scalar, character_layer, is_character_kind, sized, can_be_initialized, leaf_within, first_leaf}
-use Rattle.pv_unit.specs.Initializers.{zero_leaf}
+use Rattle.pv_unit.specs.Parts.{part_number, first_member, part_in, part_at, is_scalar, character_layer, is_character_kind, sized, can_be_initialized, leaf_within, first_leaf}
+use Rattle.pv_unit.specs.PartParts.{within}
+use Rattle.pv_unit.specs.InitializerParts.{zero_leaf}
 use Rattle.pv_well_typed.specs.Proper.{IsProper}
 use Rattle.pv_well_typed.specs.Later.{Extends}
 use Rattle.pv_well_typed.specs.ProperStates.{IsMember, IsCompleted}
@@ -147,6 +148,10 @@ union-number v es zero (m ∷ ms) h p e =
 union-number v es (suc n) (m ∷ ms) h p e = absurd (none-numbered n p e)
 
 -- ---- elements (6.7.9p17, p22)
+
+-- an element of an array, behind those before it (6.2.5p20)
+abbrev element : List Entry → Ty → ℕ → Part
+element es t i = record { offset = i * (layout_in es t).size; t = t }
 
 element-within : (n m s : ℕ) → n < m → n * s + s ≤ m * s
 element-within n m s lt = grind arith

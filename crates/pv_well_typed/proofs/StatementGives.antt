@@ -10,8 +10,10 @@ use Rattle.pv_typed.specs.TypedUnits.{WholeUnit, object_at}
 use Rattle.pv_check.specs.State.{State, After, give, entered, left}
 use Rattle.pv_typed.specs.Constants.{and_then}
 use Rattle.pv_unit.specs.Blocks.{Reached, block_declaration}
-use Rattle.pv_unit.specs.Statements.{Around, in_loop, in_switch, Label, typed_labels, under, automatic_alone, reached, leaving, block_of}
-use Rattle.pv_unit.specs.TypedStatements.{Body, block_made, if_automatic, with_reached, declared_item, with_statement, body_reached, body_with, typed_statement, typed_items, typed_item, switch_block, switch_items, switch_item}
+use Rattle.pv_unit.specs.Statements.{Around, in_loop, Label, typed_labels, under, reached, leaving, block_of}
+use Rattle.pv_unit.specs.StatementParts.{in_switch, automatic_alone}
+use Rattle.pv_unit.specs.TypedStatements.{Body, if_automatic, typed_statement, typed_items, typed_item, switch_block, switch_items, switch_item}
+use Rattle.pv_unit.specs.Made.{block_made, with_reached, declared_item, with_statement, body_reached, body_with}
 use Rattle.pv_unit.specs.ValueRules.{initialized}
 use Rattle.pv_eval.specs.Objects.{heap_name}
 use Rattle.pv_well_typed.proofs.SourceCharacters.{DeclarationCharacters, InitializerCharacters, StatementCharacters, TreeCharacters, TreesCharacters}

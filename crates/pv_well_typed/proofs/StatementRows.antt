@@ -15,7 +15,8 @@ use Rattle.pv_check.specs.State.{State, After, give}
 use Rattle.pv_typed.specs.Constants.{and_then}
 use Rattle.pv_check.specs.Typing.{types}
 use Rattle.pv_check.specs.Values.{promotion, promoted_value}
-use Rattle.pv_unit.specs.Statements.{valued, if_scalar, condition, some_value, optional, Switched, switched_by, switched}
+use Rattle.pv_unit.specs.Statements.{valued, condition, optional, Switched, switched}
+use Rattle.pv_unit.specs.StatementParts.{if_scalar, some_value, switched_by}
 use Rattle.pv_eval.specs.TypeForms.{is_none}
 use Rattle.pv_guards.specs.Typed.{IsTyped, HasType}
 use Rattle.pv_guards.specs.TypedStatements.{IsCondition}

@@ -11,7 +11,7 @@ use Rattle.pv_typed.specs.TypedUnits.{WholeUnit, object_at}
 use Rattle.pv_check.specs.State.{State, After, Scope, no_scope, Meaning, ObjectName, FunctionName, TypedefOf, ConstantOf, entered, left}
 use Rattle.pv_typed.specs.Constants.{and_then}
 use Rattle.pv_unit.specs.Statements.{leaving, condition, declared_by, declared_in, block_of}
-use Rattle.pv_unit.specs.TypedStatements.{if_made, else_made, while_made}
+use Rattle.pv_unit.specs.Made.{if_made, else_made, while_made}
 use Rattle.pv_guards.specs.Typed.{IsIn}
 use Rattle.pv_guards.specs.TypedStatements.{IsMakeable, AreNew, IsCondition, IsTypedStatement, AreTypedStatements}
 use Rattle.pv_well_typed.specs.Later.{IsFinished}

@@ -10,8 +10,10 @@ use Rattle.pv_typed.specs.TypedStatement.{TypedStatement, Statements, Block, Swi
 use Rattle.pv_typed.specs.TypedTree.{TypedTree}
 use Rattle.pv_typed.specs.TypedUnits.{WholeUnit}
 use Rattle.pv_check.specs.State.{State, After, give, entered, left}
-use Rattle.pv_unit.specs.Statements.{Label, CaseLabel, DefaultLabel, stands, labelled, case_label, typed_label, label_in, typed_labels, under, Switched, switched, valued, leaving, declared_by, declared_in, block_of}
-use Rattle.pv_unit.specs.TypedStatements.{Body, body_made, switch_made}
+use Rattle.pv_unit.specs.Statements.{Label, CaseLabel, DefaultLabel, typed_label, label_in, typed_labels, under, Switched, switched, valued, leaving, declared_by, declared_in, block_of}
+use Rattle.pv_unit.specs.StatementParts.{stands, labelled, case_label}
+use Rattle.pv_unit.specs.TypedStatements.{Body}
+use Rattle.pv_unit.specs.Made.{body_made, switch_made}
 use Rattle.pv_guards.specs.TypedStatements.{IsTypedStatement}
 use Rattle.pv_well_typed.specs.Characters.{HasCharacters}
 use Rattle.pv_well_typed.proofs.SourceCharacters.{TreeCharacters, TreesCharacters, StatementCharacters}

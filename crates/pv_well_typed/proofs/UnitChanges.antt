@@ -13,7 +13,7 @@ use Rattle.pv_typed.specs.TypedUnits.{WholeUnit, TypedObject, TypedFunction, no_
 use Rattle.pv_check.specs.Library.{library_named}
 use Rattle.pv_check.specs.Composite.{composite, composites}
 use Rattle.pv_check.specs.State.{State, ObjectName}
-use Rattle.pv_unit.specs.Entities.{with_object, with_function, with_function_type, unit_name, new_object, new_function}
+use Rattle.pv_unit.specs.Redeclarations.{with_function, with_function_type, unit_name, new_object, new_function}
 use Rattle.pv_unit.specs.Initialized.{Given}
 use Rattle.pv_unit.specs.ValueRules.{with_given}
 use Rattle.pv_guards.specs.Typed.{AreLike, AreAllLike, IsSignature}
@@ -21,6 +21,10 @@ use Rattle.pv_well_typed.specs.Proper.{IsProper}
 use Rattle.pv_well_typed.specs.Later.{Stays, Later}
 use Rattle.pv_well_typed.specs.ProperStates.{IsProperState}
 use Rattle.pv_well_typed.proofs.Changes.{before-at, below-append, each-set, more_object, object-later, object-proper, bind-proper}
+
+-- a unit with another object of this number (6.2.7p4)
+abbrev pub with_object : ℕ → TypedObject → State → State
+with_object o x s = record s { unit = record s.unit { objects = set s.unit.objects o x } }
 
 -- ---- an element of a list in the place of another one
 

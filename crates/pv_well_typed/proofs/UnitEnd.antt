@@ -18,10 +18,13 @@ use Rattle.pv_typed.specs.TypedUnits.{WholeUnit, TypedObject, TypedFunction, no_
 use Rattle.pv_check.specs.Library.{library_named}
 use Rattle.pv_check.specs.State.{State, Used, UsedObject, UsedFunction, PointedFunction, env}
 use Rattle.pv_typed.specs.Constants.{and_then}
-use Rattle.pv_unit.specs.Definitions.{entity_type, is_finished, are_finished, may_end}
-use Rattle.pv_unit.specs.Entities.{Entity, UnitState, unit_name, is_entity}
-use Rattle.pv_unit.specs.Functions.{typed_declaration, counted_state, counted, typed_external}
-use Rattle.pv_unit.specs.Units.{typed_first, typed_last, typed_to, uses, is_used, is_of_library, is_unresolved, unresolved, is_main_function, has_main_in, has_main, is_defined, statics_from, first, points, is_pointed, placed_from, finished, Typed, IsTyped, UnitComes}
+use Rattle.pv_unit.specs.Definitions.{entity_type, is_finished, may_end, is_defined}
+use Rattle.pv_unit.specs.HeadParts.{are_finished}
+use Rattle.pv_unit.specs.Redeclarations.{Entity, UnitState, unit_name, is_entity}
+use Rattle.pv_unit.specs.Functions.{typed_declaration, typed_external}
+use Rattle.pv_unit.specs.FunctionParts.{counted_state, counted}
+use Rattle.pv_unit.specs.Units.{typed_first, typed_last, typed_to, uses, is_unresolved, unresolved, has_main, statics_from, first, points, placed_from, finished, Typed, IsTyped, UnitComes}
+use Rattle.pv_unit.specs.UnitParts.{is_used, is_of_library, is_main_function, has_main_in, is_pointed}
 use Rattle.pv_unit.proofs.NamedUnits.{unit_names}
 use Rattle.pv_eval.specs.Objects.{heap_name}
 use Rattle.pv_guards.specs.Typed.{AreAllLike, AreFixed, IsSignature, IsIn, HasBody}

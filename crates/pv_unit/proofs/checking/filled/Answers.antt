@@ -1,7 +1,7 @@
 use Rattle.std.proofs.Common.{subst}
 use Rattle.pv_typed.specs.Tables.{whole}
 use Rattle.pv_unit.specs.Checking.{externals_in}
-use Rattle.pv_unit.specs.Entities.{UnitState}
+use Rattle.pv_unit.specs.Redeclarations.{UnitState}
 use Rattle.pv_unit.specs.Outside.{unit_state}
 use Rattle.pv_unit.specs.Units.{IsTyped, first}
 use Rattle.pv_unit.proofs.Causes.{known_on, lack_refused, main_on, small_on, stop_cause, stop_named, unit_comes}

@@ -1,7 +1,7 @@
 use Rattle.std.proofs.Common.{◌≡◌, drop}
 use Rattle.pv_types.specs.Known.{Known}
 use Rattle.pv_check.specs.Stepping.{steps_in}
-use Rattle.pv_unit.specs.Declarations.{has_unsized}
+use Rattle.pv_unit.specs.DeclarationParts.{has_unsized}
 use Rattle.pv_unit.proofs.declarators.has_unsized.Given as goal
 
 abbrev pub invariant-loop-x : goal.invariant-loop-x

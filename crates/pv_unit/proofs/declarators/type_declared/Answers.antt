@@ -8,7 +8,7 @@ use Rattle.pv_check.specs.Open.{state_of, IsOpen, Goes}
 use Rattle.pv_check.specs.Stepping.{steps_in}
 use Rattle.pv_check.proofs.Opening.{open_goes, then_goes}
 use Rattle.pv_check.proofs.SpecifierRows.{there}
-use Rattle.pv_unit.specs.Declarations.{has_unsized}
+use Rattle.pv_unit.specs.DeclarationParts.{has_unsized}
 use Rattle.pv_unit.proofs.DeclaredRows.{declared_done}
 use Rattle.pv_unit.proofs.declarators.type_declared.Goals as goal
 

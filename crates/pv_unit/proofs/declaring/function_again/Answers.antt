@@ -4,7 +4,7 @@ use Rattle.pv_types.specs.Known.{tree}
 use Rattle.pv_check.specs.declared.scopes.Entry.TheVariants as entry
 use Rattle.pv_check.specs.Raw.{meaning_if}
 use Rattle.pv_check.specs.Open.{after_nothing}
-use Rattle.pv_unit.specs.Entities.{function_again}
+use Rattle.pv_unit.specs.Redeclarations.{function_again}
 use Rattle.pv_unit.specs.Outside.{unit_state}
 use Rattle.pv_unit.proofs.EntityRows.{function_same, function_other}
 use Rattle.pv_unit.proofs.declaring.function_again.Goals as goal

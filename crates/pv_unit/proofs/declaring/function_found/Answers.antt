@@ -1,6 +1,6 @@
 use Rattle.std.proofs.Common.{false, ap, ◌∙◌}
 use Rattle.pv_types.specs.Known.{tree}
-use Rattle.pv_unit.specs.Entities.{function_again}
+use Rattle.pv_unit.specs.Redeclarations.{function_again}
 use Rattle.pv_unit.specs.Outside.{unit_state}
 use Rattle.pv_unit.proofs.declaring.function_found.Goals as goal
 

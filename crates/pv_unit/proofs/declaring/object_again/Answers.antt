@@ -4,7 +4,7 @@ use Rattle.pv_types.specs.Known.{tree}
 use Rattle.pv_check.specs.declared.scopes.Entry.TheVariants as entry
 use Rattle.pv_check.specs.Raw.{meaning_if}
 use Rattle.pv_check.specs.Open.{after_nothing}
-use Rattle.pv_unit.specs.Entities.{object_again}
+use Rattle.pv_unit.specs.Redeclarations.{object_again}
 use Rattle.pv_unit.specs.Outside.{unit_state}
 use Rattle.pv_unit.proofs.EntityRows.{object_same, object_other}
 use Rattle.pv_unit.proofs.declaring.object_again.Goals as goal

@@ -3,7 +3,7 @@ use Rattle.std.specs.Prelude.{if◌then◌else◌}
 use Rattle.pv_types.specs.Known.{tree}
 use Rattle.pv_check.specs.State.{find, innermost}
 use Rattle.pv_typed.specs.Mains.{named_main}
-use Rattle.pv_unit.specs.Entities.{unit_name, object_again}
+use Rattle.pv_unit.specs.Redeclarations.{unit_name, object_again}
 use Rattle.pv_unit.specs.Outside.{unit_state}
 use Rattle.pv_unit.proofs.declaring.object_declared.Goals as goal
 

@@ -1,7 +1,7 @@
 use Rattle.std.proofs.Common.{◌≡◌, ℕ, List, drop, false}
 use Rattle.pv_check.specs.Open.{state_of}
 use Rattle.pv_check.specs.Raw.{Raw}
-use Rattle.pv_unit.specs.Definitions.{are_finished}
+use Rattle.pv_unit.specs.HeadParts.{are_finished}
 use Rattle.pv_unit.proofs.ending.are_finished.Given as goal
 
 abbrev pub invariant-loop-i : goal.invariant-loop-i

@@ -8,8 +8,9 @@ use Rattle.pv_typed.specs.TypedUnits.{WholeUnit, name_at}
 use Rattle.pv_check.specs.Library.{library_named, is_printf}
 use Rattle.pv_typed.specs.Mains.{named_main}
 use Rattle.pv_check.proofs.Opening.{then_goes}
-use Rattle.pv_unit.specs.Library.{agrees, main_type}
-use Rattle.pv_unit.specs.Entities.{unit_name, is_variadic}
+use Rattle.pv_unit.specs.Library.{main_type}
+use Rattle.pv_unit.specs.EntityParts.{agrees}
+use Rattle.pv_unit.specs.Redeclarations.{unit_name, is_variadic}
 use Rattle.pv_unit.proofs.function_names.may_have.Goals as goal
 
 pub returns-clause-answer : goal.returns-clause-answer

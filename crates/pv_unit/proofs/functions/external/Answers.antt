@@ -3,7 +3,8 @@ use Rattle.pv_tree.specs.Tables.{tree_at, declaration_at}
 use Rattle.pv_check.specs.Open.{Goes}
 use Rattle.pv_check.specs.State.{State}
 use Rattle.pv_typed.specs.Constants.{and_then}
-use Rattle.pv_unit.specs.Functions.{typed_declaration, counted}
+use Rattle.pv_unit.specs.Functions.{typed_declaration}
+use Rattle.pv_unit.specs.FunctionParts.{counted}
 use Rattle.pv_unit.specs.Outside.{unit_state}
 use Rattle.pv_unit.specs.There.{AreThere}
 use Rattle.pv_unit.proofs.Ends.{there_goes}

@@ -3,7 +3,8 @@ use Rattle.pv_typed.specs.TypedStatement.{TypedStatement}
 use Rattle.pv_check.specs.Declarators.{parameters_shown}
 use Rattle.pv_check.specs.Open.{state_of}
 use Rattle.pv_check.proofs.ParameterRows.{parameters_known, parameters_stay}
-use Rattle.pv_unit.specs.Functions.{with_parameters, with_body}
+use Rattle.pv_unit.specs.Functions.{with_parameters}
+use Rattle.pv_unit.specs.FunctionParts.{with_body}
 use Rattle.pv_unit.specs.Statements.{block_of}
 use Rattle.pv_unit.specs.Stated.{statements_in}
 use Rattle.pv_unit.proofs.Moving.{moves_on, statement_stays, statement_same}

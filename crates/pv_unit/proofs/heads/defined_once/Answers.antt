@@ -1,5 +1,5 @@
 use Rattle.std.proofs.Common.{List, subst, sym, true, false}
-use Rattle.pv_unit.specs.Entities.{Entity}
+use Rattle.pv_unit.specs.Redeclarations.{Entity}
 use Rattle.pv_unit.specs.There.{AreThere}
 use Rattle.pv_unit.proofs.Ends.{there_marked}
 use Rattle.pv_unit.proofs.heads.defined_once.Goals as goal

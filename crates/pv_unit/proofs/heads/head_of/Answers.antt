@@ -4,7 +4,7 @@ use Rattle.pv_types.specs.Known.{Known, tree}
 use Rattle.pv_types.specs.Formed.{parameters_at}
 use Rattle.pv_typed.specs.Constants.{and_then}
 use Rattle.pv_unit.specs.Definitions.{head_of, defined_once}
-use Rattle.pv_unit.specs.Entities.{function_declared}
+use Rattle.pv_unit.specs.Redeclarations.{function_declared}
 use Rattle.pv_unit.specs.Outside.{unit_state}
 use Rattle.pv_unit.proofs.HeadRows.{head_defined, head_refused}
 use Rattle.pv_unit.proofs.heads.head_of.Goals as goal

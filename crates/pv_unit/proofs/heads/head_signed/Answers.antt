@@ -4,7 +4,7 @@ use Rattle.pv_check.specs.Declarators.{SignatureKnown, signature_shown, paramete
 use Rattle.pv_check.specs.Stepping.{steps_in, AreSteps}
 use Rattle.pv_check.proofs.ParameterRows.{signature_stays, signature_known}
 use Rattle.pv_check.proofs.SpecifierRows.{there}
-use Rattle.pv_unit.specs.Definitions.{head_derived}
+use Rattle.pv_unit.specs.HeadParts.{head_derived}
 use Rattle.pv_unit.specs.Heads.{head_if, ParametersKnown}
 use Rattle.pv_unit.specs.Outside.{unit_state}
 use Rattle.pv_unit.proofs.HeadRows.{types_known, signed_none, signed_is}

@@ -1,6 +1,6 @@
 use Rattle.std.proofs.Common.{◌≡◌, drop}
 use Rattle.pv_types.specs.Known.{env}
-use Rattle.pv_unit.specs.Definitions.{may_define}
+use Rattle.pv_unit.specs.HeadParts.{may_define}
 use Rattle.pv_check.specs.Declarators.{parameters_shown}
 use Rattle.pv_unit.proofs.heads.may_define.Given as goal
 

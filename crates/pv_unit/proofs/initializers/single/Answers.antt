@@ -9,7 +9,7 @@ use Rattle.pv_check.specs.Open.{state_of, Goes}
 use Rattle.pv_check.specs.Rows.{operand}
 use Rattle.pv_check.specs.Typing.{types}
 use Rattle.pv_check.specs.Values.{assigned}
-use Rattle.pv_unit.specs.Initializers.{allowed}
+use Rattle.pv_unit.specs.InitializerParts.{allowed}
 use Rattle.pv_unit.specs.Stores.{stores_in}
 use Rattle.pv_unit.specs.Subobjects.{part_of}
 use Rattle.pv_unit.specs.ValueRules.{values}

@@ -1,7 +1,7 @@
 use Rattle.std.proofs.Common.{◌≡◌, ap, option_map, Some, None}
 use Rattle.pv_tree.specs.Tables.{expression_at as expression_of_node}
 use Rattle.pv_types.specs.Formed.{completions}
-use Rattle.pv_unit.specs.Initializers.{zero_leaf}
+use Rattle.pv_unit.specs.InitializerParts.{zero_leaf}
 use Rattle.pv_unit.specs.Stores.{behind, stores_in}
 use Rattle.pv_unit.specs.Subobjects.{part_of}
 use Rattle.pv_unit.proofs.Singles.{ok_same, zero_none, zero_some}

@@ -1,7 +1,7 @@
 use Rattle.std.proofs.Common.{◌≡◌, ◌≤◌, ℕ, List, false, length, drop, map}
 use Rattle.pv_check.specs.Open.{state_of}
 use Rattle.pv_check.specs.Raw.{raw_innermost, name_shown}
-use Rattle.pv_unit.specs.Statements.{are_automatic}
+use Rattle.pv_unit.specs.StatementParts.{are_automatic}
 use Rattle.pv_unit.proofs.plain.automatic_alone.Given as goal
 
 abbrev pub invariant-loop-i : goal.invariant-loop-i

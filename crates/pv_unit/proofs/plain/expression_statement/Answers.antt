@@ -5,7 +5,8 @@ use Rattle.pv_typed.specs.NodeTrees.{statement_at}
 use Rattle.pv_check.specs.Open.{state_of}
 use Rattle.pv_unit.specs.Stated.{around_in, optional_in, Moves}
 use Rattle.pv_unit.specs.Statements.{optional, valued}
-use Rattle.pv_unit.specs.TypedStatements.{expression_made, expression_of, typed_statement}
+use Rattle.pv_unit.specs.TypedStatements.{typed_statement}
+use Rattle.pv_unit.specs.Made.{expression_made, expression_of}
 use Rattle.pv_unit.proofs.Moving.{made_is, moves_on, step_on}
 use Rattle.pv_unit.proofs.ScopedRows.{choice_in}
 use Rattle.pv_unit.proofs.plain.expression_statement.Goals as goal

@@ -4,7 +4,7 @@ use Rattle.pv_check.specs.Open.{state_of}
 use Rattle.pv_typed.specs.Constants.{and_then}
 use Rattle.pv_unit.specs.Blocks.{block_declaration}
 use Rattle.pv_unit.specs.Stated.{items_in, statements_in}
-use Rattle.pv_unit.specs.TypedStatements.{with_reached}
+use Rattle.pv_unit.specs.Made.{with_reached}
 use Rattle.pv_unit.proofs.PlainRows.{first_is}
 use Rattle.pv_unit.proofs.plain.first_declared.Goals as goal
 

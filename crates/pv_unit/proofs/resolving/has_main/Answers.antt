@@ -2,7 +2,7 @@ use Rattle.std.proofs.Common.{rules, ◌≡◌, ◌∙◌, ◌<◌, ◌≤◌, l
 use Rattle.std.proofs.lemmas.List.{length-map}
 use Rattle.pv_typed.specs.Tables.{nodes, whole, function_in}
 use Rattle.pv_typed.specs.TypedUnits.{function_at, no_function}
-use Rattle.pv_unit.specs.Units.{is_main_function}
+use Rattle.pv_unit.specs.UnitParts.{is_main_function}
 use Rattle.pv_unit.proofs.Resolutions.{main_here, main_next, no_main}
 use Rattle.pv_unit.proofs.resolving.has_main.Goals as goal
 

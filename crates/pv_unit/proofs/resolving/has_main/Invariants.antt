@@ -1,6 +1,7 @@
 use Rattle.std.proofs.Common.{◌≡◌, drop}
 use Rattle.pv_typed.specs.Tables.{whole}
-use Rattle.pv_unit.specs.Units.{has_main, has_main_in}
+use Rattle.pv_unit.specs.Units.{has_main}
+use Rattle.pv_unit.specs.UnitParts.{has_main_in}
 use Rattle.pv_unit.proofs.resolving.has_main.Given as goal
 
 abbrev pub invariant-loop-f : goal.invariant-loop-f

@@ -1,7 +1,7 @@
 use Rattle.std.proofs.Common.{rules, ◌≡◌, ◌∙◌, ◌<◌, ◌≤◌, ℕ, List, Some, length, slice_index_or, true, false, sym, ap, arith}
 use Rattle.pv_check.specs.Open.{state_of}
 use Rattle.pv_unit.specs.Entering.{entity_of, no_entity}
-use Rattle.pv_unit.specs.Entities.{Entity}
+use Rattle.pv_unit.specs.Redeclarations.{Entity}
 use Rattle.pv_unit.specs.Units.{is_unresolved}
 use Rattle.pv_unit.proofs.Resolutions.{none_unresolved, resolved_next, unresolved_here}
 use Rattle.pv_unit.proofs.resolving.unresolved.Goals as goal

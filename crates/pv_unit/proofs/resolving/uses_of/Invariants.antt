@@ -1,7 +1,7 @@
 use Rattle.std.proofs.Common.{◌≡◌, ℕ, Bool, map, take}
 use Rattle.pv_check.specs.Raw.{used_of}
 use Rattle.pv_unit.specs.Resolving.{has_use}
-use Rattle.pv_unit.specs.Units.{is_used}
+use Rattle.pv_unit.specs.UnitParts.{is_used}
 use Rattle.pv_unit.proofs.resolving.uses_of.Given as goal
 
 abbrev pub invariant-loop-what : goal.invariant-loop-what

@@ -8,8 +8,10 @@ use Rattle.pv_typed.specs.TypedStatement as typed
 use Rattle.pv_check.specs.Open.{state_of}
 use Rattle.pv_check.specs.State.{entered}
 use Rattle.pv_check.proofs.Descending.{has_at, optional_within}
-use Rattle.pv_unit.specs.Statements.{in_switch, condition, switched, typed_labels, under, block_of}
-use Rattle.pv_unit.specs.TypedStatements.{if_made, switch_made, block_made, body_made, with_statement, typed_statement, typed_items, typed_item, switch_block, switch_items, switch_item}
+use Rattle.pv_unit.specs.Statements.{condition, switched, typed_labels, under, block_of}
+use Rattle.pv_unit.specs.StatementParts.{in_switch}
+use Rattle.pv_unit.specs.TypedStatements.{typed_statement, typed_items, typed_item, switch_block, switch_items, switch_item}
+use Rattle.pv_unit.specs.Made.{if_made, switch_made, block_made, with_statement, body_made}
 use Rattle.pv_unit.specs.Scoped.{inner, if_behind, switch_behind, scoped, switch_body, labelled_statement}
 use Rattle.pv_unit.specs.Stated.{around_in, stated, statements_in, items_in, AreStatements, Moves}
 use Rattle.pv_unit.specs.Switching.{labels_of, labels_if, behind_labels, switched_in, body_in, marked_if, is_labelled, is_switch_block}

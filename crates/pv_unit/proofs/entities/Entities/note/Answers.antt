@@ -1,6 +1,6 @@
 use Rattle.std.proofs.Common.{rules, ◌≡◌, ◌∙◌, List, ap, sym, subst, map, true, false}
 use Rattle.std.proofs.lemmas.List.{with_items_is, places}
-use Rattle.pv_unit.specs.Entities.{Entity, marked}
+use Rattle.pv_unit.specs.Redeclarations.{Entity, marked}
 use Rattle.pv_unit.specs.Entering.{entity_of}
 use Rattle.pv_unit.specs.Places.{ArePlaced, first_in, noted_in}
 use Rattle.pv_unit.proofs.PlaceRows.{noted_first, place_within, placed_marked}

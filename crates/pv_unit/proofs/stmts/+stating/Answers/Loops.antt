@@ -13,7 +13,8 @@ use Rattle.pv_typed.specs.Constants.{and_then}
 use Rattle.pv_check.proofs.Opening.{then_goes}
 use Rattle.pv_unit.specs.Blocks.{block_declaration}
 use Rattle.pv_unit.specs.Statements.{in_loop, valued, condition, optional, declared_in}
-use Rattle.pv_unit.specs.TypedStatements.{if_automatic, else_made, while_made, do_made, for_made, round_made}
+use Rattle.pv_unit.specs.TypedStatements.{if_automatic}
+use Rattle.pv_unit.specs.Made.{else_made, while_made, do_made, for_made, round_made}
 use Rattle.pv_unit.specs.Scoped.{inner, else_last, else_behind, while_behind, do_behind, for_last, for_step, for_behind, round_last, round_step, round_behind, scoped}
 use Rattle.pv_unit.specs.Stated.{around_in, stated, statements_in, items_in, optional_in, IsOptional, AreStatements, Moves}
 use Rattle.pv_unit.proofs.BlockMade.{for_parts, for_form}

@@ -5,11 +5,12 @@ use Rattle.std.specs.Bool.{beq}
 use Rattle.pv_types.specs.Ty.{Ty, FunctionTy}
 use Rattle.pv_types.specs.Compatible.{are_compatible}
 use Rattle.pv_typed.specs.Mains.{named_main}
-use Rattle.pv_check.specs.Library.{is_printf, library_named}
-use Rattle.pv_typed.specs.TypedUnits.{TypedObject, TypedFunction, object_at, function_at}
+use Rattle.pv_typed.specs.TypedUnits.{TypedFunction, object_at, function_at}
 use Rattle.pv_check.specs.State.{State, Meaning, ObjectName, FunctionName, innermost, find, bind}
 use Rattle.pv_check.specs.Composite.{composite}
-use Rattle.pv_unit.specs.Library.{agrees, main_type}
+use Rattle.pv_check.specs.Library.{library_named, is_printf}
+use Rattle.pv_unit.specs.Library.{main_type, prototype}
+use Rattle.std.specs.Option.{option_map_or}
 
 -- 6.7p4, 6.9p5: an object or a function with a declaration at file scope, in the order of their first ones: whether it is defined
 -- (6.9.1, 6.9.2p1, p2), whether it has an initializer or a body, and whether it was declared with an array of no size
@@ -27,13 +28,9 @@ pub record UnitState : Type 0 where
   pub entities : List Entity
   pub unsized_typedef : Bool
 
--- the unit with another object of this number (6.2.7p4: a later declaration changes its type)
-abbrev pub with_object : ℕ → TypedObject → State → State
-with_object o x s = record s { unit = record s.unit { objects = set s.unit.objects o x } }
-
--- 6.2.7p4: the object has this type from here on
+-- 6.2.7p4: the object of this number has this type from here on
 abbrev pub with_object_type : ℕ → Ty → State → State
-with_object_type o t s = with_object o (record (object_at s.unit o) { t = t }) s
+with_object_type o t s = record s { unit = record s.unit { objects = set s.unit.objects o (record (object_at s.unit o) { t = t }) } }
 
 -- the unit with another function of this number (6.2.7p4, 6.9.1)
 abbrev pub with_function : ℕ → TypedFunction → State → State
@@ -51,7 +48,7 @@ unit_name n = n + 2
 abbrev pub is_entity : Bool → ℕ → Entity → Bool
 is_entity function k e = beq e.function function && (e.number == k)
 
--- 6.9p5: the same with what a declaration says, beside what others said
+-- 6.9p5: the objects and functions, of which one has what a declaration says, beside what others said
 abbrev pub marked : Bool → ℕ → (defined initialized unsized : Bool) → List Entity → List Entity
 marked function k d i b [] = []
 marked function k d i b (e ∷ es) =
@@ -130,13 +127,12 @@ is_variadic _ = false
 -- worked: library_functions, main_functions (proofs/WorkedDeclarations)
 abbrev pub may_have : List (List ℕ) → ℕ → Ty → Bool
 may_have texts n t =
-    (not (named_main texts n) || are_compatible t main_type) && agrees (library_named (slice_index_or texts n [])) t && (not (is_variadic t) || is_printf texts n)
+    (not (named_main texts n) || are_compatible t main_type)
+    && option_map_or (λ f. are_compatible t (prototype f)) (library_named (slice_index_or texts n [])) true
+    && (not (is_variadic t) || is_printf texts n)
 
--- 6.7p4: by what the name stands for at file scope
-abbrev pub function_found : ℕ → ℕ → Ty → UnitState → Option (ℕ × UnitState)
-function_found n line t u = function_again (find (innermost u.state.scopes).names n) n line t u
-
--- 6.7p4: a function of file scope, with a type that its name may have
+-- 6.7p4: a function of file scope, with a type that its name may have, by what the name stands for
 -- worked: function_types (proofs/WorkedDeclarations)
 abbrev pub function_declared : ℕ → ℕ → Ty → UnitState → Option (ℕ × UnitState)
-function_declared n line t u = if may_have u.state.unit.names (unit_name n) t then function_found n line t u else None
+function_declared n line t u =
+    if may_have u.state.unit.names (unit_name n) t then function_again (find (innermost u.state.scopes).names n) n line t u else None
