@@ -20,7 +20,8 @@ use Rattle.pv_object.specs.declared.values.Value.{Value}
 use Rattle.pv_object.specs.declared.values.Value.TheVariants.{Int as IntValue, Unset, Pointer as PointerValue}
 use Rattle.pv_object.specs.Answers.{IsMadeValue}
 use Rattle.pv_typed.specs.Known.{Each}
-use Rattle.pv_typed.specs.TypedUnits.{TypedObject, TypedFunction, no_object, no_function, layouts, object_at, function_at, literal_at}
+use Rattle.pv_typed.specs.TypedUnits.{TypedObject, TypedFunction, layouts, object_at, function_at, literal_at}
+use Rattle.pv_typed.specs.UnitParts.{no_object, no_function}
 use Rattle.pv_script.specs.Words.{is_name}
 use Rattle.pv_script.specs.Names.{name_at as text_of}
 use Rattle.pv_script.specs.declared.library.Library.{Library}

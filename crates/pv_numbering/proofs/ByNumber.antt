@@ -4,7 +4,8 @@ use Rattle.pv_types.specs.Ty.{Ty, VoidTy}
 use Rattle.pv_types.specs.Known.{Known}
 use Rattle.pv_typed.specs.Known.{Each}
 use Rattle.pv_typed.proofs.Each.{each_weaker}
-use Rattle.pv_typed.specs.TypedUnits.{TypedObject, TypedFunction, no_object, no_function, object_at, function_at}
+use Rattle.pv_typed.specs.TypedUnits.{TypedObject, TypedFunction, object_at, function_at}
+use Rattle.pv_typed.specs.UnitParts.{no_object, no_function}
 use Rattle.pv_world.specs.Worlds.{Worth}
 use Rattle.pv_eval.specs.States.{Setting}
 use Rattle.pv_eval.specs.TypeForms.{number_of, lvalue}

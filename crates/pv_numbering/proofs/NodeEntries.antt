@@ -13,7 +13,8 @@ use Rattle.pv_typed.specs.declared.rows.Row.{Row}
 use Rattle.pv_typed.specs.TypedTree.{TypedTree, Node, Form, Constant, Object, Function, String, Subscript, Call, CallPointer, LibraryCall, Member, MemberOfValue, Arrow, Increment, Address, Indirection, Unary, Not, Sizeof, Cast, Arithmetic, PointerSum, PointerDifference, PointerOrder, PointerEquality, LogicalAnd, LogicalOr, Conditional, Assign, CompoundAssign, PointerAssign, Comma, Read, ArrayPointer, Convert, Arguments, NoArguments, MoreArguments}
 use Rattle.pv_typed.specs.TypedStatement.{TypedStatement, Block, Declare, Expression, Empty, If, IfElse, Switch, Case, Default, While, DoWhile, For, ForDeclaration, Continue, Break, Return, Statements, NoStatements, MoreStatements}
 use Rattle.pv_typed.specs.Plain.{plain_turns}
-use Rattle.pv_typed.specs.Nodes.{Tree, OfExpression, OfStatement, as_expression, as_statement, at, expression_in, statement_in, optional_in, arguments_in, statements_in, list_in, form_in, statement_form, Base, tree_in}
+use Rattle.pv_typed.specs.Nodes.{Tree, OfExpression, OfStatement, as_expression, as_statement, expression_in, statement_in, optional_in, arguments_in, statements_in, list_in, form_in, statement_form, Base, tree_in}
+use Rattle.pv_typed.specs.NodeParts.{at}
 use Rattle.pv_typed.specs.Tables.{trees_of}
 use Rattle.pv_numbering.proofs.Entries.{NodeTables, Filled, Puts, longer_same, longer_push, filled_on, kept, made, beside, paired, found, found_built}
 use Rattle.pv_numbering.proofs.TypeEntries.{type_at, put_type}

@@ -13,7 +13,7 @@ use Rattle.pv_typed.specs.declared.entries.InitValue.{InitValue}
 use Rattle.pv_typed.specs.declared.entries.InitValue.TheVariants as value
 use Rattle.pv_typed.specs.TypedStatement.{TypedStatement}
 use Rattle.pv_typed.specs.TypedUnits.{WholeUnit, Store, StoredValue, ValueOf, TextOf, TypedObject, TypedFunction, Literal}
-use Rattle.pv_typed.specs.Tables.{Stored, value_in, store_in, object_in, body_in, function_in, literal_in, whole}
+use Rattle.pv_typed.specs.Tables.{Stored, value_in, store_in, object_in, function_in, whole, body_in, literal_in}
 use Rattle.pv_numbering.proofs.Entries.{NodeTables, Put, Puts, filled_same, kept, made, beside, paired, each_put}
 use Rattle.pv_numbering.proofs.TypeEntries.{type_at, put_type, completions, put_completions}
 use Rattle.pv_numbering.proofs.NodeEntries.{known_of, nodes_of, expression, statement, put_expression, put_statement}

@@ -17,10 +17,11 @@ use Rattle.pv_typed.specs.declared.rows.What.{What}
 use Rattle.pv_typed.specs.declared.rows.What.TheVariants as what
 use Rattle.pv_typed.specs.declared.rows.Row.{Row}
 use Rattle.pv_typed.specs.TypedUnits.{TypedFunction}
-use Rattle.pv_typed.specs.Nodes.{Tree, OfExpression, OfStatement, as_expression, as_statement, at, expression_in, statement_in, optional_in, arguments_in, statements_in, list_in, form_in, statement_form, what_in, tree_in}
+use Rattle.pv_typed.specs.Nodes.{Tree, OfExpression, OfStatement, as_expression, as_statement, expression_in, statement_in, optional_in, arguments_in, statements_in, list_in, form_in, statement_form, what_in, tree_in}
+use Rattle.pv_typed.specs.NodeParts.{at}
 use Rattle.pv_typed.specs.Built.{built}
 use Rattle.pv_typed.specs.Known.{Each}
-use Rattle.pv_typed.specs.Tables.{Stored, trees_of, base, nodes, value_in, store_in, object_in, body_in, function_in, whole}
+use Rattle.pv_typed.specs.Tables.{Stored, nodes, value_in, store_in, object_in, function_in, whole, trees_of, base, body_in}
 use Rattle.pv_typed.proofs.Each.{each_append}
 use Rattle.pv_numbering.proofs.Types.{AllTypes, AllForm, AllArguments, AllOption, AllStatement, AllStatements, AllValue, AllStore, AllObject, AllBody, AllUnit}
 use Rattle.pv_numbering.proofs.Folds.{fold_keeps, each_or, each_mapped, each_always}

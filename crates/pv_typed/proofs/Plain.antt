@@ -10,7 +10,7 @@ use Rattle.pv_typed.specs.Plain.{turns_of, capped, plain_turns}
 use Rattle.pv_typed.specs.Nodes.{Tree, what_in, as_expression}
 use Rattle.pv_typed.specs.Children.{is_expression, row_at, HasKind, HasChildren}
 use Rattle.pv_typed.specs.Turns.{kept_in, turns_kept, HasTurns}
-use Rattle.pv_typed.specs.Tables.{Stored, base, nodes}
+use Rattle.pv_typed.specs.Tables.{Stored, nodes, base}
 use Rattle.pv_typed.specs.NodeTrees.{expression_at, IsExpression}
 use Rattle.pv_typed.specs.Formed.{IsFormed}
 use Rattle.pv_typed.proofs.Turning.{turns_same, turns_capped, turns_formed}

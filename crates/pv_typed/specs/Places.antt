@@ -6,7 +6,8 @@ use Rattle.pv_typed.specs.declared.values.Const.TheVariants as const
 use Rattle.pv_typed.specs.TypedTree.{Function, Address}
 use Rattle.pv_typed.specs.Tables.{Stored}
 use Rattle.pv_typed.specs.TypedUnits.{WholeUnit, object_at, literal_at}
-use Rattle.pv_typed.specs.Addresses.{size_in, or_zero}
+use Rattle.pv_typed.specs.Addresses.{size_in}
+use Rattle.pv_typed.specs.AddressParts.{or_zero}
 
 -- an object (6.2.4), a function (6.9.1) or a literal (6.4.5p6) that is there
 abbrev pub IsPlace : Stored → Const → Type 0

@@ -11,7 +11,8 @@ ghost use Rattle.pv_typed.specs.NodeTrees.{IsExpression, expression_at};
 ghost use Rattle.pv_typed.specs.Known.{AreKnown};
 ghost use Rattle.pv_typed.specs.Constants.{integer};
 ghost use Rattle.pv_typed.specs.Places.{IsNumber, IsPlace, IsDistance};
-ghost use Rattle.pv_typed.specs.Addresses.{pointee, is_pointer, size_in, or_zero, within, moved, signed, stepped, added, null_if, lasting_at, address, place, constant_of, is_null_constant, is_null, truth_in};
+ghost use Rattle.pv_typed.specs.Addresses.{pointee, is_pointer, size_in, within, moved, signed, stepped, added, null_if, address, place, constant_of, is_null_constant, is_null, truth_in};
+ghost use Rattle.pv_typed.specs.AddressParts.{lasting_at, or_zero};
 
 use crate::nodes::{Sign, Typed};
 use crate::numbers::{integer, kind_at};

@@ -8,7 +8,8 @@ use Rattle.pv_tree.specs.declared.nodes.NodeId.{NodeId}
 use Rattle.pv_tree.specs.Syntax.{DeclaratorTree, OptionalTree, Trees, NoTrees}
 use Rattle.pv_tree.specs.Tables.{Forest, trees_of}
 use Rattle.pv_typed.specs.Tables.{Stored, whole, nodes, object_in}
-use Rattle.pv_typed.specs.TypedUnits.{TypedObject, no_object, object_at}
+use Rattle.pv_typed.specs.TypedUnits.{TypedObject, object_at}
+use Rattle.pv_typed.specs.UnitParts.{no_object}
 use Rattle.pv_types.specs.Known.{Known}
 use Rattle.pv_check.specs.Raw.{Raw, meaning_if}
 use Rattle.pv_check.specs.Open.{state_of}

@@ -14,7 +14,8 @@ use Rattle.pv_typed.specs.Entries.{stored_in, with_object_at, with_store}
 use Rattle.pv_typed.specs.Formed.{Grown}
 use Rattle.pv_typed.specs.Headed.{list_of}
 use Rattle.pv_typed.specs.Tables.{Stored, nodes, object_in, store_in, whole as whole_of}
-use Rattle.pv_typed.specs.TypedUnits.{Store, TypedObject, WholeUnit, no_object, object_at}
+use Rattle.pv_typed.specs.TypedUnits.{Store, TypedObject, WholeUnit, object_at}
+use Rattle.pv_typed.specs.UnitParts.{no_object}
 use Rattle.pv_typed.proofs.Each.{each_at}
 use Rattle.pv_check.specs.Kept.{Kept}
 use Rattle.pv_check.specs.Open.{state_of, IsOpen, Goes}

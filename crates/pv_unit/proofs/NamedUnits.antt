@@ -7,7 +7,7 @@ use Rattle.pv_token.specs.Table.{Table}
 use Rattle.pv_tree.specs.Syntax.{DeclarationTree, Function as FunctionTree, Declaration, InitDeclarator, DeclaratorTree, InitializerTree, StatementTree, Block, Tree, OfDeclaration, OfInitializer, Trees, NoTrees, Then, OptionalTree, Absent, Present}
 use Rattle.pv_types.specs.Ty.{Ty, FunctionTy}
 use Rattle.pv_types.specs.Compatible.{are_compatible}
-use Rattle.pv_typed.specs.Adding.{taking}
+use Rattle.pv_typed.specs.AddingParts.{taking}
 use Rattle.pv_typed.specs.Known.{Each, AreKnown}
 use Rattle.pv_typed.specs.Tables.{Stored, whole, nodes, object_in, function_in}
 use Rattle.pv_typed.specs.TypedStatement.{TypedStatement}

@@ -9,7 +9,8 @@ use Rattle.pv_typed.specs.Entries.{with_placed as with_one_placed}
 use Rattle.pv_typed.specs.Formed.{Grown}
 use Rattle.pv_typed.specs.Mains.{first_main, named_main}
 use Rattle.pv_typed.specs.Tables.{Stored, function_in, nodes, whole}
-use Rattle.pv_typed.specs.TypedUnits.{TypedFunction, WholeUnit, function_at, no_function}
+use Rattle.pv_typed.specs.TypedUnits.{TypedFunction, WholeUnit, function_at}
+use Rattle.pv_typed.specs.UnitParts.{no_function}
 use Rattle.pv_typed.proofs.Adding.{grown_trans}
 use Rattle.pv_check.specs.declared.scopes.Named.{Named}
 use Rattle.pv_check.specs.Raw.{used_of}

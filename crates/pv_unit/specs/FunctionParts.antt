@@ -1,7 +1,7 @@
 -- A bridge: what functions answer that do a part of what Functions says.
 use Rattle.pv_check.specs.State.{State}
 use Rattle.pv_check.specs.Derivations.{Parameter}
-use Rattle.pv_typed.specs.Adding.{with_declaration}
+use Rattle.pv_typed.specs.AddingParts.{with_declaration}
 use Rattle.pv_typed.specs.TypedUnits.{function_at}
 use Rattle.pv_typed.specs.TypedStatement.{TypedStatement}
 use Rattle.pv_unit.specs.Redeclarations.{UnitState, with_function}

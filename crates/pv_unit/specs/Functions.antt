@@ -1,10 +1,10 @@
 -- Typing function definitions (C17 6.9.1), and external declarations (6.9p1).
-use Rattle.std.specs.Prelude.{ℕ, false, Option, Some, None, List, [], ◌∷◌, ◌++◌}
+use Rattle.std.specs.Prelude.{ℕ, false, Option, Some, None, List, [], ◌∷◌, ◌++◌, ◌+◌}
 use Rattle.pv_tree.specs.Syntax.{DeclarationTree, Function, StatementTree, Block}
 use Rattle.pv_types.specs.Ty.{Ty}
 use Rattle.pv_typed.specs.TypedStatement.{TypedStatement}
 use Rattle.pv_typed.specs.TypedUnits.{function_at}
-use Rattle.pv_typed.specs.Adding.{with_param, with_declaration}
+use Rattle.pv_typed.specs.Adding.{with_param}
 use Rattle.pv_check.specs.Derivations.{Parameter}
 use Rattle.pv_check.specs.State.{State, Scope, After, left}
 use Rattle.pv_typed.specs.Constants.{and_then}
@@ -56,4 +56,4 @@ typed_declaration d u = file_declaration d u
 abbrev pub typed_external : DeclarationTree → UnitState → Option UnitState
 typed_external d u =
     and_then (typed_declaration d u) (λ (u : UnitState).
-    Some (record u { state = record u.state { unit = with_declaration u.state.unit } }))
+    Some (record u { state = record u.state { unit = record u.state.unit { declarations = u.state.unit.declarations + 1 } } }))

@@ -8,7 +8,8 @@ use Rattle.pv_types.specs.Layouts.{layout_in, is_complete_in}
 use Rattle.pv_types.specs.Ty.{Ty}
 use Rattle.pv_typed.specs.Known.{Each}
 use Rattle.pv_typed.proofs.Each.{each_append, each_weaker, each_left, each_right}
-use Rattle.pv_typed.specs.TypedUnits.{WholeUnit, TypedObject, Store, no_object, layouts, object_at}
+use Rattle.pv_typed.specs.TypedUnits.{WholeUnit, TypedObject, Store, layouts, object_at}
+use Rattle.pv_typed.specs.UnitParts.{no_object}
 use Rattle.pv_check.specs.Derivations.{declared_name, derived}
 use Rattle.pv_typed.specs.TypedTree.{is_function}
 use Rattle.pv_check.specs.Specifiers.{Specified, specified}
@@ -26,7 +27,8 @@ use Rattle.pv_guards.specs.TypedStatements as guards
 use Rattle.pv_unit.specs.Redeclarations.{unit_name, new_object}
 use Rattle.pv_unit.specs.Initialized.{Given}
 use Rattle.pv_unit.specs.Parts.{sized}
-use Rattle.pv_typed.specs.Addresses.{size_in, or_zero}
+use Rattle.pv_typed.specs.Addresses.{size_in}
+use Rattle.pv_typed.specs.AddressParts.{or_zero}
 use Rattle.pv_unit.specs.ValueRules.{initialized, with_given}
 use Rattle.pv_eval.specs.Objects.{heap_name}
 use Rattle.pv_guards.specs.Typed.{IsIn}

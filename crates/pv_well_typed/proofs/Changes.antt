@@ -11,7 +11,8 @@ use Rattle.pv_types.proofs.LayoutLaws.{layouts-push, look-append, look-last, com
 use Rattle.pv_typed.specs.Adding.{with_literal}
 use Rattle.pv_typed.specs.Known.{Each}
 use Rattle.pv_typed.proofs.Each.{each_weaker, each_append, each_left}
-use Rattle.pv_typed.specs.TypedUnits.{WholeUnit, TypedObject, Literal, no_literal, no_object, layouts}
+use Rattle.pv_typed.specs.TypedUnits.{WholeUnit, TypedObject, Literal, layouts}
+use Rattle.pv_typed.specs.UnitParts.{no_literal, no_object}
 use Rattle.pv_check.specs.Primary.{with_use}
 use Rattle.pv_check.specs.StringLiterals.{text_of}
 use Rattle.pv_check.specs.State.{State, Scope, no_scope, Meaning, TagMeaning, Used, find, look, look_tag, look_by, innermost, bind, bind_tag, entered}

@@ -15,8 +15,11 @@ use Rattle.pv_num.proofs.Congruence.{equal_fits}
 use Rattle.pv_num.proofs.Members.{binary_fits, unary_fits}
 use Rattle.pv_types.specs.Layouts.{up_to, layout_in, is_complete_in}
 use Rattle.pv_types.specs.Ty.{Ty, VoidTy, IntTy, PointerTo, ArrayOf, StructTag, UnionTag, FunctionTy, ConstOf}
-use Rattle.pv_typed.specs.Addresses.{pointee, is_pointer, size_in, or_zero, within, moved, signed, stepped, added, null_if, lasting_at, address, address_form, place, place_form, constant_of, truth_in, is_null, or_else}
-use Rattle.pv_typed.specs.Constants.{and_then, int_kind, is_integer, is_built, constant_in, converted_in, number_of, is_shift, suits, suit, unary_in, arithmetic_in, number, number_form, integer}
+use Rattle.pv_typed.specs.Addresses.{pointee, is_pointer, size_in, within, moved, signed, stepped, added, null_if, address, address_form, place, place_form, constant_of, truth_in, is_null}
+use Rattle.pv_typed.specs.AddressParts.{or_zero, lasting_at}
+use Rattle.std.specs.Option.{option_or}
+use Rattle.std.specs.Result.{result_ok}
+use Rattle.pv_typed.specs.Constants.{and_then, int_kind, is_integer, is_built, constant_in, converted_in, is_shift, suits, unary_in, arithmetic_in, number, number_form, integer}
 use Rattle.pv_typed.specs.declared.nodes.Sign.{Sign}
 use Rattle.pv_typed.specs.declared.nodes.Sign.TheVariants.{Plus}
 use Rattle.pv_typed.specs.declared.values.Const.{Const}
@@ -197,7 +200,7 @@ module _ (v : WholeUnit) (os : List ℕ) (done : IsFinished v) where
       subst (Fits k) m.2 (equal_fits k m.0 (convert_of k m.0) refl refl)
 
   -- 6.4p4: what is no fault
-  number-ok : (P : ℤ → Type 0) (r : Result ℤ Fault) (n : ℤ) → IfOk r P → number_of r ≡ Some n → P n
+  number-ok : (P : ℤ → Type 0) (r : Result ℤ Fault) (n : ℤ) → IfOk r P → result_ok r ≡ Some n → P n
   number-ok P (Ok m) n h e = subst P (some-same m n e) h
   number-ok P (Err f) n h e = absurd cc
 
@@ -210,14 +213,14 @@ module _ (v : WholeUnit) (os : List ℕ) (done : IsFinished v) where
   unary-number : (k : IntKind) (op : UnOp) (m n : ℤ) → unary_in (IntTy k) op m ≡ Some n → Fits k n
   unary-number k op m n e = by (suits k m) refl e
     where
-      by : (b : Bool) → suits k m ≡ b → (if b then number_of (unary_of op k m) else None) ≡ Some n → Fits k n
+      by : (b : Bool) → suits k m ≡ b → (if b then result_ok (unary_of op k m) else None) ≡ Some n → Fits k n
       by true s e = let h = suits-both k m s in number-ok (Fits k) (unary_of op k m) n (unary_fits op k m h.0 h.1) e
       by false s e = absurd cc
 
   binary-number : (k : IntKind) (op : BinOp) (m w n : ℤ) → arithmetic_in (IntTy k) op m w ≡ Some n → Fits (yielded_kind op k) n
-  binary-number k op m w n e = by (suit op k m w) refl e
+  binary-number k op m w n e = by (suits k m && (is_shift op || fits_of k w)) refl e
     where
-      by : (b : Bool) → suit op k m w ≡ b → (if b then number_of (binary_of op k m w) else None) ≡ Some n → Fits (yielded_kind op k) n
+      by : (b : Bool) → suits k m && (is_shift op || fits_of k w) ≡ b → (if b then result_ok (binary_of op k m w) else None) ≡ Some n → Fits (yielded_kind op k) n
       by true s e = let h = suits-both k m (both-true (suits k m) (is_shift op || fits_of k w) s).0 in number-ok (Fits (yielded_kind op k)) (binary_of op k m w) n (binary_fits op k m w h.0 h.1) e
       by false s e = absurd cc
 
@@ -296,7 +299,7 @@ module _ (v : WholeUnit) (os : List ℕ) (done : IsFinished v) where
   integer-good : (k : IntKind) (line : ℕ) (turn : Bool) (x : Form) (c : Const) → IsTypedForm v os (IntTy k) x → constant_of v (Node (IntTy k) line turn x) ≡ Some c → IsGood (IntTy k) c
   integer-good k line turn x c h e = by (integer (Node (IntTy k) line turn x)) refl e
     where
-      by : (o : Option ℤ) → integer (Node (IntTy k) line turn x) ≡ o → or_else (option_map const.Int o) (truth_in v (IntTy k) x) ≡ Some c → IsGood (IntTy k) c
+      by : (o : Option ℤ) → integer (Node (IntTy k) line turn x) ≡ o → option_or (option_map const.Int o) (truth_in v (IntTy k) x) ≡ Some c → IsGood (IntTy k) c
       by None q e = truth-good k x c e
       by (Some n) q e = subst (IsGood (IntTy k)) (some-same (const.Int n) c e) (tt, (k, refl, integer-fits (Node (IntTy k) line turn x) n h q k refl))
 

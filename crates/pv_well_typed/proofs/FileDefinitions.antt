@@ -8,12 +8,14 @@ use Rattle.pv_num.specs.declared.kinds.IntKind.TheVariants.{Int}
 use Rattle.pv_layout.specs.Parts.{bare}
 use Rattle.pv_types.specs.Layouts.{Entry, is_complete_in}
 use Rattle.pv_types.specs.Ty.{Ty, Tys, NoTys, MoreTys, VoidTy, IntTy, PointerTo, ArrayOf, StructTag, UnionTag, FunctionTy, ConstOf}
-use Rattle.pv_typed.specs.Adding.{with_param, taking}
+use Rattle.pv_typed.specs.Adding.{with_param}
+use Rattle.pv_typed.specs.AddingParts.{taking}
 use Rattle.pv_typed.specs.Known.{Each}
 use Rattle.pv_typed.specs.Mains.{named_main}
 use Rattle.pv_typed.proofs.Each.{each_append, each_weaker}
 use Rattle.pv_typed.specs.TypedStatement.{TypedStatement}
-use Rattle.pv_typed.specs.TypedUnits.{WholeUnit, TypedObject, TypedFunction, no_function, layouts, object_at, function_at, name_at}
+use Rattle.pv_typed.specs.TypedUnits.{WholeUnit, TypedObject, TypedFunction, layouts, object_at, function_at, name_at}
+use Rattle.pv_typed.specs.UnitParts.{no_function}
 use Rattle.pv_check.specs.Derivations.{Derivation, ByFunction, Parameter as OneParameter, Signature, Steps, parameter_types, declared_name, derived, step}
 use Rattle.pv_check.specs.Library.{library_named}
 use Rattle.pv_check.specs.Qualified.{unqualified}

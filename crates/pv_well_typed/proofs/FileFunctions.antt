@@ -10,7 +10,8 @@ use Rattle.pv_types.proofs.Matched.{matching}
 use Rattle.pv_typed.specs.Known.{Each}
 use Rattle.pv_typed.specs.Mains.{named_main}
 use Rattle.pv_typed.proofs.Each.{each_append, each_weaker}
-use Rattle.pv_typed.specs.TypedUnits.{WholeUnit, TypedFunction, no_function, function_at, name_at}
+use Rattle.pv_typed.specs.TypedUnits.{WholeUnit, TypedFunction, function_at, name_at}
+use Rattle.pv_typed.specs.UnitParts.{no_function}
 use Rattle.pv_check.specs.Composite.{composite}
 use Rattle.pv_check.specs.Library.{library_named}
 use Rattle.pv_typed.specs.TypedTree.{is_function}

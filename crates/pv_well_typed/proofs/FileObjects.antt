@@ -8,10 +8,12 @@ use Rattle.pv_types.specs.Compatible.{are_compatible}
 use Rattle.pv_types.specs.Layouts.{Entry, up_to, layout_in, is_complete_in}
 use Rattle.pv_types.specs.Ty.{Ty, VoidTy, IntTy, PointerTo, ArrayOf, StructTag, UnionTag, FunctionTy, ConstOf}
 use Rattle.pv_types.proofs.Matched.{matching}
-use Rattle.pv_typed.specs.Addresses.{size_in, or_zero}
+use Rattle.pv_typed.specs.Addresses.{size_in}
+use Rattle.pv_typed.specs.AddressParts.{or_zero}
 use Rattle.pv_typed.specs.Known.{Each}
 use Rattle.pv_typed.proofs.Each.{each_append, each_weaker}
-use Rattle.pv_typed.specs.TypedUnits.{WholeUnit, TypedObject, Store, no_object, layouts, object_at}
+use Rattle.pv_typed.specs.TypedUnits.{WholeUnit, TypedObject, Store, layouts, object_at}
+use Rattle.pv_typed.specs.UnitParts.{no_object}
 use Rattle.pv_check.specs.Composite.{composite}
 use Rattle.pv_check.specs.Qualified.{same}
 use Rattle.pv_typed.specs.TypedTree.{is_function}

@@ -9,7 +9,8 @@ use Rattle.pv_types.specs.Ty.{Ty, Tys, NoTys, IntTy, FunctionTy}
 use Rattle.pv_typed.specs.Known.{Each}
 use Rattle.pv_typed.specs.Mains.{named_main}
 use Rattle.pv_typed.proofs.Each.{each_weaker}
-use Rattle.pv_typed.specs.TypedUnits.{WholeUnit, TypedObject, TypedFunction, no_function, layouts, object_at, function_at}
+use Rattle.pv_typed.specs.TypedUnits.{WholeUnit, TypedObject, TypedFunction, layouts, object_at, function_at}
+use Rattle.pv_typed.specs.UnitParts.{no_function}
 use Rattle.pv_typed.specs.TypedTree.{is_function}
 use Rattle.pv_check.specs.State.{State, Scope, Meaning, ObjectName, FunctionName, TypedefOf, ConstantOf, find, innermost}
 use Rattle.pv_check.specs.StateParts.{bound}

@@ -8,12 +8,14 @@ use Rattle.pv_tree.specs.Lines.{expression_line}
 use Rattle.pv_tree.specs.Syntax.{ExpressionTree, Text, InitializerTree, Initial, Braces, OfExpression, OfDeclaration, OfDeclarator, OfSpecifier, OfInitializer, OfStatement, Trees, NoTrees, Then}
 use Rattle.pv_types.specs.Layouts.{Entry, Layout, Part, Completed, up_to, layout_in, is_complete_in}
 use Rattle.pv_types.specs.Ty.{Ty, VoidTy, IntTy, PointerTo, ArrayOf, StructTag, UnionTag, FunctionTy, ConstOf}
-use Rattle.pv_typed.specs.Addresses.{size_in, or_zero, constant_of}
+use Rattle.pv_typed.specs.Addresses.{size_in, constant_of}
+use Rattle.pv_typed.specs.AddressParts.{or_zero}
 use Rattle.pv_typed.specs.declared.values.Const.{Const}
 use Rattle.pv_typed.specs.Known.{Each}
 use Rattle.pv_typed.specs.Places.{Completes}
 use Rattle.pv_typed.specs.TypedTree.{TypedTree, type_of}
-use Rattle.pv_typed.specs.TypedUnits.{WholeUnit, TypedObject, Literal, Store, StoredValue, ValueOf, no_object, no_literal, layouts, object_at, literal_at}
+use Rattle.pv_typed.specs.TypedUnits.{WholeUnit, TypedObject, Literal, Store, StoredValue, ValueOf, layouts, object_at, literal_at}
+use Rattle.pv_typed.specs.UnitParts.{no_object, no_literal}
 use Rattle.pv_typed.proofs.Each.{each_append, each_weaker}
 use Rattle.pv_typed.proofs.Persisting.{constant_kept}
 use Rattle.pv_check.specs.StringLiterals.{bytes_of_text}

@@ -4,7 +4,8 @@ use Rattle.std.specs.Prelude.{if◌then◌else◌}
 use Rattle.pv_typed.specs.Known.{Each}
 use Rattle.pv_typed.proofs.Each.{each_append, each_weaker}
 use Rattle.pv_typed.specs.Adding.{with_literal}
-use Rattle.pv_typed.specs.TypedUnits.{Literal, no_literal}
+use Rattle.pv_typed.specs.TypedUnits.{Literal}
+use Rattle.pv_typed.specs.UnitParts.{no_literal}
 use Rattle.pv_check.specs.StringLiterals.{bytes_of_text, joined}
 use Rattle.pv_check.specs.State.{State, env}
 use Rattle.pv_well_typed.proofs.PrimaryRows.{each-at, last-at, beyond-at}

@@ -6,9 +6,11 @@ use Rattle.pv_types.proofs.LayoutLaws.{layout-append, complete-append}
 use Rattle.pv_types.specs.Ty.{Ty, StructTag}
 use Rattle.pv_typed.specs.Known.{Each}
 use Rattle.pv_typed.proofs.Each.{each_append}
-use Rattle.pv_typed.specs.Addresses.{size_in, or_zero}
+use Rattle.pv_typed.specs.Addresses.{size_in}
+use Rattle.pv_typed.specs.AddressParts.{or_zero}
 use Rattle.pv_typed.specs.TypedTree.{TypedTree}
-use Rattle.pv_typed.specs.TypedUnits.{WholeUnit, TypedObject, TypedFunction, Literal, Store, no_function, no_literal, layouts, object_at}
+use Rattle.pv_typed.specs.TypedUnits.{WholeUnit, TypedObject, TypedFunction, Literal, Store, layouts, object_at}
+use Rattle.pv_typed.specs.UnitParts.{no_function, no_literal}
 use Rattle.pv_check.specs.Library.{library_named}
 use Rattle.pv_check.specs.Rows.{operand, integer_value}
 use Rattle.pv_check.specs.State.{State, Used, UsedObject, UsedFunction, PointedFunction, Meaning, ObjectName, FunctionName, TypedefOf, ConstantOf, After, Scope, no_scope, give, env, find, innermost, entered, left}

@@ -10,7 +10,8 @@ use Rattle.pv_types.specs.Ty.{IntTy}
 use Rattle.pv_typed.specs.Known.{Each}
 use Rattle.pv_typed.proofs.Each.{each_right}
 use Rattle.pv_typed.specs.TypedTree.{TypedTree, Constant, Object, Function}
-use Rattle.pv_typed.specs.TypedUnits.{WholeUnit, TypedObject, Literal, no_object, no_literal, object_at, function_at, literal_at}
+use Rattle.pv_typed.specs.TypedUnits.{WholeUnit, TypedObject, Literal, object_at, function_at, literal_at}
+use Rattle.pv_typed.specs.UnitParts.{no_object, no_literal}
 use Rattle.pv_check.specs.Kinds.{may_have, first_kind, kind_of_constant}
 use Rattle.pv_check.specs.KindParts.{kinds_of_constants}
 use Rattle.pv_check.specs.Primary.{with_use, integer_of}

@@ -7,7 +7,8 @@ use Rattle.pv_types.specs.Adjusted.{is_adjusted}
 use Rattle.pv_types.specs.Ty.{Ty, VoidTy, IntTy, PointerTo, ArrayOf, StructTag, UnionTag, FunctionTy, ConstOf}
 use Rattle.pv_typed.specs.Known.{Each}
 use Rattle.pv_typed.proofs.Each.{each_append, each_weaker, each_left, each_right}
-use Rattle.pv_typed.specs.TypedUnits.{WholeUnit, TypedObject, TypedFunction, no_object, object_at}
+use Rattle.pv_typed.specs.TypedUnits.{WholeUnit, TypedObject, TypedFunction, object_at}
+use Rattle.pv_typed.specs.UnitParts.{no_object}
 use Rattle.pv_check.specs.Derivations.{Derivation, ByPointer, ByArray, ByFunction, Parameter as OneParameter, Signature, Steps, no_steps, with_step, with_function, nearest, parameter_types, declared_name, optional_name, derived, adjusted, with_parameter, means_none, no_void, proper, may_be_variadic}
 use Rattle.pv_check.specs.Rows.{plain}
 use Rattle.pv_check.specs.RowParts.{by_pointer, by_array, by_function, parameter_of}

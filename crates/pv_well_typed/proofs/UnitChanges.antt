@@ -5,11 +5,13 @@ use Rattle.std.proofs.lemmas.Bool.{eqb-true, eq-eqb}
 use Rattle.std.specs.Prelude.{if◌then◌else◌}
 use Rattle.pv_types.specs.Layouts.{Entry, up_to, layout_in, is_complete_in}
 use Rattle.pv_unit.specs.Parts.{sized}
-use Rattle.pv_typed.specs.Addresses.{size_in, or_zero}
+use Rattle.pv_typed.specs.Addresses.{size_in}
+use Rattle.pv_typed.specs.AddressParts.{or_zero}
 use Rattle.pv_well_typed.proofs.PrimaryRows.{each-at}
 use Rattle.pv_well_typed.proofs.Moving.{IsApart, Orderly, Grown}
 use Rattle.pv_types.specs.Ty.{Ty, Tys, NoTys, MoreTys, VoidTy, IntTy, PointerTo, ArrayOf, StructTag, UnionTag, FunctionTy, ConstOf}
-use Rattle.pv_typed.specs.TypedUnits.{WholeUnit, TypedObject, TypedFunction, no_object, no_function, object_at, function_at, name_at}
+use Rattle.pv_typed.specs.TypedUnits.{WholeUnit, TypedObject, TypedFunction, object_at, function_at, name_at}
+use Rattle.pv_typed.specs.UnitParts.{no_object, no_function}
 use Rattle.pv_check.specs.Library.{library_named}
 use Rattle.pv_check.specs.Composite.{composite, composites}
 use Rattle.pv_check.specs.State.{State, ObjectName}

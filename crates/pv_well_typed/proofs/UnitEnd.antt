@@ -14,7 +14,8 @@ use Rattle.pv_types.specs.Ty.{Ty, Tys, NoTys, MoreTys, VoidTy, IntTy, PointerTo,
 use Rattle.pv_typed.specs.Known.{Each}
 use Rattle.pv_typed.specs.Mains.{main_text, literal_text, heap_text, named_main, first_main, main_of}
 use Rattle.pv_typed.proofs.Each.{each_weaker}
-use Rattle.pv_typed.specs.TypedUnits.{WholeUnit, TypedObject, TypedFunction, no_object, no_function, no_literal, layouts, object_at, function_at, name_at}
+use Rattle.pv_typed.specs.TypedUnits.{WholeUnit, TypedObject, TypedFunction, layouts, object_at, function_at, name_at}
+use Rattle.pv_typed.specs.UnitParts.{no_object, no_function, no_literal}
 use Rattle.pv_check.specs.Library.{library_named}
 use Rattle.pv_check.specs.State.{State, Used, UsedObject, UsedFunction, PointedFunction, env}
 use Rattle.pv_typed.specs.Constants.{and_then}

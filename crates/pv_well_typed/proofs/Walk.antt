@@ -10,7 +10,8 @@ use Rattle.pv_tree.specs.Syntax.{ExpressionTree, Name, Number, Character, Text, 
 use Rattle.pv_typed.specs.Known.{Each}
 use Rattle.pv_typed.proofs.Each.{each_append}
 use Rattle.pv_typed.specs.TypedTree.{TypedTree, Constant, Object, type_of, is_function}
-use Rattle.pv_typed.specs.TypedUnits.{WholeUnit, TypedObject, TypedFunction, no_object, no_function, object_at}
+use Rattle.pv_typed.specs.TypedUnits.{WholeUnit, TypedObject, TypedFunction, object_at}
+use Rattle.pv_typed.specs.UnitParts.{no_object, no_function}
 use Rattle.pv_typed.specs.declared.nodes.IncrementOperator.TheVariants as step_word
 use Rattle.pv_check.specs.Assignment.{assign_of, comma_of}
 use Rattle.pv_check.specs.Binary.{binary_of}

@@ -1,5 +1,5 @@
 use Rattle.std.proofs.Common.{rules, ◌≡◌, ◌∙◌, ap, false}
-use Rattle.pv_typed.specs.Adding.{with_declaration}
+use Rattle.pv_typed.specs.AddingParts.{with_declaration}
 use Rattle.pv_typed.specs.Formed.{Grown}
 use Rattle.pv_typed.specs.Tables.{whole}
 use Rattle.pv_typed.specs.TypedUnits.{WholeUnit}

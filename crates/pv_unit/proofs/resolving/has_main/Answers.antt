@@ -1,7 +1,8 @@
 use Rattle.std.proofs.Common.{rules, ◌≡◌, ◌∙◌, ◌<◌, ◌≤◌, length, true, false, sym, arith}
 use Rattle.std.proofs.lemmas.List.{length-map}
 use Rattle.pv_typed.specs.Tables.{nodes, whole, function_in}
-use Rattle.pv_typed.specs.TypedUnits.{function_at, no_function}
+use Rattle.pv_typed.specs.TypedUnits.{function_at}
+use Rattle.pv_typed.specs.UnitParts.{no_function}
 use Rattle.pv_unit.specs.UnitParts.{is_main_function}
 use Rattle.pv_unit.proofs.Resolutions.{main_here, main_next, no_main}
 use Rattle.pv_unit.proofs.resolving.has_main.Goals as goal
