@@ -45,10 +45,13 @@ impl Lines {
         }
     }
 
-    /// The line for a name and a count.
+    /// The line for a name and a count. Most runs have no script, and then no name is looked for.
     pub(crate) fn find(&self, name: &[u8], k: u64) -> Option<&Line>
         ensures { option_map (λ l. numbered l.now) result ≡ found self.now name.now k }
     {
+        if self.lines.is_empty() {
+            return None;
+        }
         let number = self.names.find(name)?;
         match self.places.get(&(number, k)) {
             Some(i) => Some(&self.lines[*i as usize]),

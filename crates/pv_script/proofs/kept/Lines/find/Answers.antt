@@ -1,9 +1,22 @@
-use Rattle.std.proofs.Common.{refl, ◌<◌, Some, sym, ap, ◌∙◌, subst}
+use Rattle.std.proofs.Common.{◌≡◌, ℕ, List, [], ◌∷◌, length, vec_len, None, arith, refl, ◌<◌, Some, sym, ap, ◌∙◌, subst}
+use Rattle.std.proofs.lemmas.Bool.{eqb-true}
 use Rattle.std.specs.Option.{option_map}
+use Rattle.std.specs.Prelude.{map}
+use Rattle.pv_script.specs.declared.script.Line.{Line}
 use Rattle.pv_script.specs.Numbered.{numbered}
 use Rattle.pv_script.specs.Indexed.{found}
 use Rattle.pv_script.proofs.Keys.{unnamed, by_key, key_within, none_by_key}
 use Rattle.pv_script.proofs.kept.Lines.find.Goals as goal
+
+-- a script without lines
+no_line : (ls : List Line) (name : List ℕ) (k : ℕ) → length ls ≡ 0 → found (map numbered ls) name k ≡ None
+no_line [] name k h = refl
+no_line (l ∷ ls) name k h = absurd (omega (arith, h))
+
+pub returns-then-is_empty : goal.returns-then-is_empty
+returns-then-is_empty c =
+    let none : length c.self.inside.lines.items ≡ 0 = sym c.self.inside.lines.ok.0 ∙ eqb-true (vec_len c.self.inside.lines) 0 (sym c.is_empty.ensures ∙ c.if-is_empty.true) in
+    sym (no_line c.self.inside.lines.items c.args.name.now c.args.k none) ∙ ap (λ ls. found ls c.args.name.now c.args.k) c.self.view_is
 
 pub returns-in_err-number : goal.returns-in_err-number
 returns-in_err-number c = ap (option_map (λ l. numbered l.now)) c.from_residual.ensures
