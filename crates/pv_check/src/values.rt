@@ -71,6 +71,7 @@ pub(crate) fn constant(into: &mut TypedUnit, t: TypeId) -> Result<TypeId, NoMemo
 }
 
 /// Whether it is an lvalue (C17 6.3.2.1p1) or a function designator (6.3.2.1p4).
+#[inline(always)]
 pub(crate) fn is_lvalue(into: &TypedUnit, n: NodeId) -> bool
     requires known { AreKnown into.now }
     requires node { IsExpression into.now n }
@@ -134,6 +135,7 @@ fn read(into: &mut TypedUnit, n: NodeId) -> Result<Option<NodeId>, NoMemory>
 }
 
 /// The value of an operand (C17 6.3.2.1), `None` where it has an incomplete type.
+#[inline(always)]
 pub(crate) fn value(into: &mut TypedUnit, n: NodeId) -> Result<Option<NodeId>, NoMemory>
     requires known { AreKnown into.old }
     requires node { IsExpression into.old n }

@@ -46,6 +46,7 @@ fn keyword(word: Word) -> Option<Spec>
 }
 
 /// A keyword or a typedef name, whose token ends at a place (C17 6.7.1 to 6.7.3, 6.7.8).
+#[inline(always)]
 #[tactic(auto, using(pv_tree::proofs::Kept::extends_same), unfolding(crate::specs::Parts::plain_of))]
 pub fn plain(
     tokens: &Tokens,
@@ -404,6 +405,7 @@ pub fn parameter_of(
 
 /// A type name, whose specifiers end at a place, and its abstract declarator, if that can be read
 /// (C17 6.7.7p1).
+#[inline(always)]
 pub fn type_name_of(
     tokens: &Tokens,
     at: u32,

@@ -19,6 +19,7 @@ fn type_name<R: TypeReader>(source: &Source<'_, R>, at: u32, into: &Unit) -> Opt
 }
 
 /// The type name at a place, of at most so much depth, and the place behind the `)` behind it.
+#[inline(always)]
 pub(crate) fn type_closed<R: TypeReader>(
     source: &Source<'_, R>,
     at: u32,

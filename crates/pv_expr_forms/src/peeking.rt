@@ -185,6 +185,7 @@ pub fn name_next(tokens: &Tokens, typedefs: &IndexSet<u32>, at: u32) -> Option<(
 }
 
 /// Whether a type name begins at a place.
+#[inline(always)]
 #[tactic(auto, unfolding(crate::specs::Known::names_in, pv_tree::specs::TypeNames::names_of))]
 pub fn begins_type(tokens: &Tokens, typedefs: &IndexSet<u32>, at: u32) -> bool
     requires { at ≤ length tokens.now.tokens }

@@ -72,7 +72,9 @@ impl Lists {
         part(self.numbers.as_slice(), span)
     }
 
-    /// Keeps one more list. The only error is want of memory, or of room for the numbers, and changes nothing.
+    /// Keeps one more list. The only error is want of memory, or of room for the numbers, and changes nothing. How long the
+    /// list is, is often known where this is called.
+    #[inline(always)]
     pub fn add(&mut self, list: &[NodeId]) -> Result<(), NoMemory>
         ensures added { OnOk result (self.new ≡ self.old ++ (list.now ∷ [])) }
         ensures unchanged { OnErr result (self.new ≡ self.old) }

@@ -52,6 +52,7 @@ impl Unit {
     }
 
     /// Keeps a list of nodes, and gives its number.
+    #[inline(always)]
     pub fn add_list(&mut self, l: &[NodeId]) -> Result<ListId, NoMemory>
         ensures made { IfOk result (λ i. (self.new ≡ with_list self.old l.now) × (i.0 ≡ length self.old.forest.lists)) }
         ensures unchanged { OnErr result (self.new ≡ self.old) }
