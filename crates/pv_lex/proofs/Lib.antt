@@ -13,5 +13,6 @@ pub mod Fitting
 pub mod Taking
 pub mod TakingTokens
 pub mod TakingLines
+pub mod WordFronts
 pub mod Wholes
 pub mod Exactly

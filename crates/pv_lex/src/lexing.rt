@@ -9,12 +9,13 @@ ghost use Rattle.pv_lex.specs.Faults.{LexFault, IsFaultOf, HasBadByte};
 ghost use Rattle.pv_lex.specs.Views.{LiesWithin, error_of, what_of};
 ghost use Rattle.pv_lex.specs.Pieces.{Piece, Here, Spelling};
 ghost use Rattle.pv_token.specs.Said.{Punctuator};
+ghost use Rattle.pv_token.specs.Views.{said_of};
 ghost use Rattle.pv_lex.specs.Stands.{stands};
 ghost use Rattle.pv_lex.specs.Spellings.{IsSpelling, IsLongest};
 
 use crate::bytes::{Class, is_in};
 use crate::error::LexError;
-use crate::pieces::{Fault, Found, Standing, lone_mark};
+use crate::pieces::{Fault, Found, Standing, lone_mark, word_token};
 use crate::standing::stand;
 use pv_token::{Kind, Mark, NoMemory, Tokens};
 use std::alloc::Global;
@@ -88,6 +89,20 @@ fn add_mark(
     tokens.add_token(alloc, Kind::Punctuator(mark), start, line)
 }
 
+/// Takes a word in.
+fn add_word(
+    tokens: &mut Tokens,
+    alloc: Global,
+    word: Kind<'_>,
+    start: u32,
+    line: u32,
+) -> Result<(), NoMemory>
+    requires { HasRoom tokens.old }
+    ensures { OnOk result (Adds tokens.old tokens.new (spelt_here start line (Spelling (said_of word.entry)))) }
+{
+    tokens.add_token(alloc, word, start, line)
+}
+
 /// The tokens of a source, or its first fault. A source is cut from its first byte on into pieces,
 /// each the longest that begins where the one before it ends (C17 6.4p4).
 ///
@@ -111,7 +126,7 @@ pub fn tokens(alloc: Global, bytes: &[u8]) -> Result<Tokens, LexError>
 }
 
 /// Cuts a source into its pieces, and keeps the tokens among them in a table that has none yet. Most punctuators are one
-/// byte that tells by itself what stands there, and are looked for first.
+/// byte that tells by itself what stands there; these and words are looked for first.
 fn cut(alloc: Global, bytes: &[u8], out: &mut Tokens) -> Result<(), LexError>
     requires short { length bytes.now ≤ 2 ^ 20 }
     requires empty { out.old ≡ record { tokens = []; names = []; texts = [] } }
@@ -130,6 +145,12 @@ fn cut(alloc: Global, bytes: &[u8], out: &mut Tokens) -> Result<(), LexError>
             add_mark(out, alloc, mark, at, line)?;
             fresh = false;
             rest = after;
+            continue;
+        }
+        if let Some((word, behind)) = word_token(rest) {
+            add_word(out, alloc, word, at, line)?;
+            fresh = false;
+            rest = behind;
             continue;
         }
         match stand(alloc, fresh, rest)? {

@@ -7,10 +7,11 @@ ghost use Rattle.pv_lex.specs.Words.{words, is_wide, is_quote, word_at};
 ghost use Rattle.pv_lex.specs.Marks.{marks, mark_at};
 ghost use Rattle.pv_lex.specs.Pieces.{Here, token};
 ghost use Rattle.pv_token.specs.Said.{Punctuator};
+ghost use Rattle.pv_token.specs.Views.{said_of};
 ghost use Rattle.pv_lex.specs.Stands.{stands};
 ghost use Rattle.pv_lex.specs.Views.{stand_of};
 
-use crate::bytes::{Class, behind, is_letter, run};
+use crate::bytes::{Class, behind, is_letter, is_white, run};
 use crate::tables::{first_row, row_of};
 use crate::{marks, words};
 use pv_token::{Kind, Mark, Word};
@@ -77,7 +78,8 @@ fn begins_quote(text: &[u8]) -> bool
     !text.is_empty() && (text[0] == b'"' || text[0] == b'\'')
 }
 
-/// A keyword or a name at the front (C17 6.4.1, 6.4.2).
+/// A keyword or a name at the front (C17 6.4.1, 6.4.2). What is made of it is known where this is called.
+#[inline(always)]
 #[tactic(auto, unfolding(crate::specs::Words::word_at))]
 pub(crate) fn word(text: &[u8]) -> Standing<'_>
     requires { length text.now ≤ 2 ^ 20 }
@@ -92,6 +94,29 @@ pub(crate) fn word(text: &[u8]) -> Standing<'_>
         Some(None) => Standing::Bad(Fault::Profile(word.len() as u32)),
         Some(Some(w)) => Standing::Here(Found::Spelling(Kind::Keyword(w)), after),
     }
+}
+
+/// A keyword of the profile or a name at the front, and what is left behind it (C17 6.4.1, 6.4.2).
+pub(crate) fn word_token(text: &[u8]) -> Option<(Kind<'_>, &[u8])>
+    requires { length text.now ≤ 2 ^ 20 }
+    ensures { IfSome result (λ r. (fresh : Bool) → stands fresh text.now ≡ Here (token (said_of r.0) r.1.now)) }
+{
+    if text.is_empty() {
+        return None;
+    }
+    if is_white(text[0]) {
+        return None;
+    }
+    if !is_letter(text[0]) {
+        return None;
+    }
+    let Standing::Here(found, after) = word(text) else {
+        return None;
+    };
+    let Found::Spelling(kind) = found else {
+        return None;
+    };
+    Some((kind, after))
 }
 
 /// The keyword of this spelling, `Some(None)` for one that the profile leaves out. Its first byte decides which it may be.

@@ -1,5 +1,6 @@
 use Rattle.std.proofs.Common.{◌≡◌, refl, sym, ap, ◌∙◌, arith}
 use Rattle.pv_token.specs.Said.{Punctuator}
+use Rattle.pv_token.specs.Views.{said_of}
 use Rattle.pv_lex.specs.Pieces.{Here, Spelling}
 use Rattle.pv_lex.specs.Stands.{stands}
 use Rattle.pv_lex.specs.Views.{stand_of, what_of}
@@ -49,6 +50,25 @@ pieces-preserved-in-Some c =
       room = omega (arith, moved.shorter, c.pieces.invariant.room);
       lines = omega (arith, moved.shorter, c.pieces.invariant.lines);
       cut = cut_goes_on c.args.bytes.now c.pieces.out c.add_mark.new.tokens (record { text = c.pieces.rest.now; line = c.pieces.line; fresh = c.pieces.fresh }) (record { what = Spelling (Punctuator c.in-Some.mark); after = c.in-Some.after.now }) _ c.pieces.invariant.cut here refl c.in_ok-add_mark.ensures;
+    }
+
+-- the same of a word
+pub add_word-requires : goal.add_word-requires
+add_word-requires c = cut_room c.args.bytes.now c.pieces.out _ c.pieces.invariant.cut c.requires.short
+
+pub pieces-smaller-in-Some-word_token : goal.pieces-smaller-in-Some-word_token
+pieces-smaller-in-Some-word_token c =
+    let here : stands c.pieces.fresh c.pieces.rest.now ≡ Here (record { what = Spelling (said_of c.in-Some-word_token.word); after = c.in-Some-word_token.behind.now }) = c.in-Some-word_token.ensures c.pieces.fresh in
+    omega (arith, ((moves_stands c.pieces.fresh c.pieces.rest.now).here _ here).shorter)
+
+pub pieces-preserved-in-Some-word_token : goal.pieces-preserved-in-Some-word_token
+pieces-preserved-in-Some-word_token c =
+    let here : stands c.pieces.fresh c.pieces.rest.now ≡ Here (record { what = Spelling (said_of c.in-Some-word_token.word); after = c.in-Some-word_token.behind.now }) = c.in-Some-word_token.ensures c.pieces.fresh in
+    let moved = (moves_stands c.pieces.fresh c.pieces.rest.now).here _ here in
+    record {
+      room = omega (arith, moved.shorter, c.pieces.invariant.room);
+      lines = omega (arith, moved.shorter, c.pieces.invariant.lines);
+      cut = cut_goes_on c.args.bytes.now c.pieces.out c.add_word.new.tokens (record { text = c.pieces.rest.now; line = c.pieces.line; fresh = c.pieces.fresh }) (record { what = Spelling (said_of c.in-Some-word_token.word); after = c.in-Some-word_token.behind.now }) _ c.pieces.invariant.cut here refl c.in_ok-add_word.ensures;
     }
 
 pub returns-in-End-clause-whole : goal.returns-in-End-clause-whole
