@@ -17,6 +17,7 @@ use Rattle.pv_typed.specs.Children.{HasKind, HasOperands, operands}
 use Rattle.pv_typed.specs.TypedTree.{TypedTree, Node, Form, type_of, form_of}
 use Rattle.pv_typed.specs.Tables.{Stored}
 use Rattle.pv_typed.specs.NodeTrees.{expression_at, IsExpression}
+use Rattle.pv_seq.specs.Sequencing.{Access}
 use Rattle.pv_world.specs.declared.got.Shape.TheVariants as shape
 use Rattle.pv_world.specs.Worlds.{Worth, World}
 use Rattle.pv_world.specs.Worths.{int, pointer}
@@ -32,9 +33,9 @@ use Rattle.pv_eval.specs.Suiting.{is_small}
 use Rattle.pv_eval.specs.States.{Setting, State, Gives}
 use Rattle.pv_eval.specs.Steps.{converted, is_minus}
 use Rattle.pv_eval.specs.Operations.{Converts, Moves, Selects}
-use Rattle.pv_eval.specs.Plainly.{Yields, AlwaysGives, GivesAt, GivesWith, IsConverted, form_by, turned, found_worth}
+use Rattle.pv_eval.specs.Plainly.{YieldsNoting, AlwaysGives, GivesAt, GivesNoting, IsConverted, form_by, turned, found_worth}
 use Rattle.pv_eval.specs.Codes.{IsCode, AreCodes, IsOperandBy, IsOperandCode, IsArithmetic, IsReadOf, IsObjectOf, IsElementOf, IsSumOf, IsSameAs, IsPartOf, IsBefore, RoundsTo, RoundsBy, CalculatesBy}
-use Rattle.pv_eval.proofs.PlainSteps.{some_map, alone_some, with_some, both_some, yields_with, yields_with_both}
+use Rattle.pv_eval.proofs.PlainSteps.{some_map, alone_some, reading_some, both_some, noted_with, noted_both}
 use Rattle.pv_eval.proofs.PlainNumbers.{constant_some, object_some, convert_given, converted_at, rounded_some, gives_calculated}
 use Rattle.pv_eval.proofs.PlainPlaces.{subscript_some, summed_some}
 
@@ -151,65 +152,65 @@ codes_none u n there = tt
 
 module _ (u : Stored) (w : World) where
   -- an operand gives what the node behind its conversion gives, and it is converted so
-  pub operand_by : (a m : NodeId) (to : Option IntKind) (v z : Worth) → IsOperandBy u a m to → Yields u w (expression_at u m) v → RoundsBy to v z → Yields u w (expression_at u a) v × IsConverted (expression_at u a) v z
-  operand_by a m None v z h y r = (subst (λ (k : NodeId). Yields u w (expression_at u k) v) h.0 y, subst (λ (q : Worth). IsConverted (expression_at u a) v q) r (h.1 v))
-  operand_by a m (Some k) v z h y r =
+  pub operand_by : {noting : Bool} {js ks : List Access} (a m : NodeId) (to : Option IntKind) (v z : Worth) → IsOperandBy u a m to → YieldsNoting u w (expression_at u m) v noting js ks → RoundsBy to v z → YieldsNoting u w (expression_at u a) v noting js ks × IsConverted (expression_at u a) v z
+  operand_by {noting} {js} {ks} a m None v z h y r = (subst (λ (k : NodeId). YieldsNoting u w (expression_at u k) v noting js ks) h.0 y, subst (λ (q : Worth). IsConverted (expression_at u a) v q) r (h.1 v))
+  operand_by {noting} {js} {ks} a m (Some k) v z h y r =
       let from = type_of (expression_at u m) in
       let to = type_of (expression_at u a) in
       let x = r.number in
       let rounds : AlwaysGives (λ b. Converts (how_to b true from to) (int x)) (int (convert_of k x)) = rounded_some from to h.2.old k x (convert_of k x) (Some (convert_of k x)) h.2.from_is h.2.to_is refl r.small refl true in (
-        yields_with u w a (typed.Convert m) h.0 m v v refl y (convert_given u w to (typed.Convert m) m v refl),
+        noted_with u w a (typed.Convert m) h.0 m v v refl y (convert_given u w to (typed.Convert m) m v refl),
         converted_at (expression_at u a) (expression_at u m) v z h.0
             (subst (λ (q : Worth). AlwaysGives (λ b. Converts (how_to b true from to) q) z) (sym r.is)
             (subst (λ (q : Worth). AlwaysGives (λ b. Converts (how_to b true from to) (int x)) q) (sym r.rounded) rounds)),
       )
 
   module _ (n : NodeId) where
-    pub number_coded : (k : ℤ) (r : Option Found) → IsCode u n (code.Number k) → IfSome r (λ v. found_worth v ≡ int k) → IfSome r (λ v. Yields u w (expression_at u n) (found_worth v))
-    number_coded k r form h = alone_some u w n (typed.Constant k) form r (constant_some u w (typed.Constant k) k r refl h)
+    pub number_coded : (noting : Bool) (js : List Access) (k : ℤ) (r : Option Found) → IsCode u n (code.Number k) → IfSome r (λ v. found_worth v ≡ int k) → IfSome r (λ v. YieldsNoting u w (expression_at u n) (found_worth v) noting js js)
+    number_coded noting js k r form h = alone_some u w n (typed.Constant k) form noting js r (constant_some u w (typed.Constant k) k r refl h)
 
-    pub object_coded : (o : ℕ) (lasting : Bool) (r : Option Found) → IsCode u n (code.Object o lasting) → IfSome r (λ v. found_worth v ≡ pointer (address_of w (instance_of w o lasting))) → IfSome r (λ v. Yields u w (expression_at u n) (found_worth v))
-    object_coded o lasting r is h = alone_some u w n (typed.Object o) is.0 r (object_some u w (typed.Object o) o lasting r refl is.1 h)
+    pub object_coded : (noting : Bool) (js : List Access) (o : ℕ) (lasting : Bool) (r : Option Found) → IsCode u n (code.Object o lasting) → IfSome r (λ v. found_worth v ≡ pointer (address_of w (instance_of w o lasting))) → IfSome r (λ v. YieldsNoting u w (expression_at u n) (found_worth v) noting js js)
+    object_coded noting js o lasting r is h = alone_some u w n (typed.Object o) is.0 noting js r (object_some u w (typed.Object o) o lasting r refl is.1 h)
 
-    pub same_coded : (a : NodeId) (r : Option Found) → IsSameAs u n a → IfSome r (λ v. Yields u w (expression_at u a) (found_worth v)) → IfSome r (λ v. Yields u w (expression_at u n) (found_worth v))
-    same_coded a r is h =
-        some_map (λ v. Yields u w (expression_at u a) (found_worth v)) (λ v. Yields u w (expression_at u n) (found_worth v)) r
-        (λ v y. yields_with u w n is.node is.form a (found_worth v) (found_worth v) is.operand y (is.gives w v)) h
+    pub same_coded : (noting : Bool) (js ks : List Access) (a : NodeId) (r : Option Found) → IsSameAs u n a → IfSome r (λ v. YieldsNoting u w (expression_at u a) (found_worth v) noting js ks) → IfSome r (λ v. YieldsNoting u w (expression_at u n) (found_worth v) noting js ks)
+    same_coded noting js ks a r is h =
+        some_map (λ v. YieldsNoting u w (expression_at u a) (found_worth v) noting js ks) (λ v. YieldsNoting u w (expression_at u n) (found_worth v) noting js ks) r
+        (λ v y. noted_with u w n is.node is.form a (found_worth v) (found_worth v) is.operand y (is.gives w v)) h
 
-    pub part_coded : (a : NodeId) (offset : ℕ) (place : Found) (r : Option Found) → IsPartOf u n a offset → Yields u w (expression_at u a) (found_worth place)
-        → IfSome r (λ v. GivesAt w (λ b. Selects offset (found_worth place)) (found_worth v)) → IfSome r (λ v. Yields u w (expression_at u n) (found_worth v))
-    part_coded a offset place r is y h =
-        some_map (λ v. GivesAt w (λ b. Selects offset (found_worth place)) (found_worth v)) (λ v. Yields u w (expression_at u n) (found_worth v)) r
-        (λ v g. yields_with u w n is.node is.form a (found_worth place) (found_worth v) is.operand y (is.gives w (found_worth place) (found_worth v) g)) h
+    pub part_coded : {noting : Bool} {js ks : List Access} (a : NodeId) (offset : ℕ) (place : Found) (r : Option Found) → IsPartOf u n a offset → YieldsNoting u w (expression_at u a) (found_worth place) noting js ks
+        → IfSome r (λ v. GivesAt w (λ b. Selects offset (found_worth place)) (found_worth v)) → IfSome r (λ v. YieldsNoting u w (expression_at u n) (found_worth v) noting js ks)
+    part_coded {noting} {js} {ks} a offset place r is y h =
+        some_map (λ v. GivesAt w (λ b. Selects offset (found_worth place)) (found_worth v)) (λ v. YieldsNoting u w (expression_at u n) (found_worth v) noting js ks) r
+        (λ v g. noted_with u w n is.node is.form a (found_worth place) (found_worth v) is.operand y (is.gives w (found_worth place) (found_worth v) g)) h
 
-    pub sum_coded : (sign : Sign) (minus : Bool) (a d : NodeId) (size : ℕ) (first second : Found) (r : Option Found) → IsSumOf u n sign a d size → minus ≡ is_minus sign → Yields u w (expression_at u a) (found_worth first)
-        → Yields u w (expression_at u d) (found_worth second) → IfSome r (λ v. GivesAt w (λ b. Moves minus true size (found_worth first) (found_worth second)) (found_worth v)) → IfSome r (λ v. Yields u w (expression_at u n) (found_worth v))
-    sum_coded sign minus a d size first second r is e y z h =
+    pub sum_coded : {noting : Bool} {js ks ls : List Access} (sign : Sign) (minus : Bool) (a d : NodeId) (size : ℕ) (first second : Found) (r : Option Found) → IsSumOf u n sign a d size → minus ≡ is_minus sign → YieldsNoting u w (expression_at u a) (found_worth first) noting js ks
+        → YieldsNoting u w (expression_at u d) (found_worth second) noting ks ls → IfSome r (λ v. GivesAt w (λ b. Moves minus true size (found_worth first) (found_worth second)) (found_worth v)) → IfSome r (λ v. YieldsNoting u w (expression_at u n) (found_worth v) noting js ls)
+    sum_coded {noting} {js} {ks} {ls} sign minus a d size first second r is e y z h =
         both_some u w n (typed.PointerSum sign a d) is.form a d first second r refl refl y z
         (summed_some u w a d size (found_worth first) (found_worth second) is.pointer (type_of (expression_at u n)) sign minus r e is.is h)
 
-    pub read_coded : (a : NodeId) (t : TypeId) (place : Found) (r : Option Found) → IsReadOf u n a t → Yields u w (expression_at u a) (found_worth place)
-        → ((s : Ty) → IfSome r (λ v. GivesWith u w s (typed.Read a) (found_worth place) (found_worth v))) → IfSome r (λ v. Yields u w (expression_at u n) (found_worth v))
-    read_coded a t place r is y h = with_some u w n (typed.Read a) is.form a place r refl y (h (type_of (expression_at u n)))
+    pub read_coded : {noting : Bool} {js ks : List Access} (ls : List Access) (a : NodeId) (t : TypeId) (place : Found) (r : Option Found) → IsReadOf u n a t → YieldsNoting u w (expression_at u a) (found_worth place) noting js ks
+        → ((s : Ty) → IfSome r (λ v. GivesNoting u w s (typed.Read a) (found_worth place) (found_worth v) noting ks ls)) → IfSome r (λ v. YieldsNoting u w (expression_at u n) (found_worth v) noting js ls)
+    read_coded {noting} {js} {ks} ls a t place r is y h = reading_some u w n (typed.Read a) is.form ls a place r refl y (h (type_of (expression_at u n)))
 
-    pub own_coded : (a : NodeId) (t : TypeId) (o : ℕ) (lasting : Bool) (place : Found) (r : Option Found) → IsReadOf u n a t → IsObjectOf u a o lasting → found_worth place ≡ pointer (address_of w (instance_of w o lasting))
-        → ((s : Ty) → IfSome r (λ v. GivesWith u w s (typed.Read a) (found_worth place) (found_worth v))) → IfSome r (λ v. Yields u w (expression_at u n) (found_worth v))
-    own_coded a t o lasting place r is object at h =
-        read_coded a t place r is (alone_some u w a (typed.Object o) object.0 (Some place) (object_some u w (typed.Object o) o lasting (Some place) refl object.1 at)) h
+    pub own_coded : (noting : Bool) (js ks : List Access) (a : NodeId) (t : TypeId) (o : ℕ) (lasting : Bool) (place : Found) (r : Option Found) → IsReadOf u n a t → IsObjectOf u a o lasting → found_worth place ≡ pointer (address_of w (instance_of w o lasting))
+        → ((s : Ty) → IfSome r (λ v. GivesNoting u w s (typed.Read a) (found_worth place) (found_worth v) noting js ks)) → IfSome r (λ v. YieldsNoting u w (expression_at u n) (found_worth v) noting js ks)
+    own_coded noting js ks a t o lasting place r is object at h =
+        read_coded ks a t place r is (alone_some u w a (typed.Object o) object.0 noting js (Some place) (object_some u w (typed.Object o) o lasting (Some place) refl object.1 at)) h
 
-    pub arithmetic_coded : (op : BinOp) (k : IntKind) (left right : Operand) (x y : Found) (r : Option Found) → IsArithmetic u n op k left right
-        → Yields u w (expression_at u left.node) (found_worth x) → Yields u w (expression_at u right.node) (found_worth y)
-        → IfSome r (λ z. CalculatesBy op k left.to right.to (found_worth x) (found_worth y) (found_worth z)) → IfSome r (λ v. Yields u w (expression_at u n) (found_worth v))
-    arithmetic_coded op k left right x y r is yx yy h =
-        some_map (λ z. CalculatesBy op k left.to right.to (found_worth x) (found_worth y) (found_worth z)) (λ z. Yields u w (expression_at u n) (found_worth z)) r
+    pub arithmetic_coded : {noting : Bool} {js ks ls : List Access} (op : BinOp) (k : IntKind) (left right : Operand) (x y : Found) (r : Option Found) → IsArithmetic u n op k left right
+        → YieldsNoting u w (expression_at u left.node) (found_worth x) noting js ks → YieldsNoting u w (expression_at u right.node) (found_worth y) noting ks ls
+        → IfSome r (λ z. CalculatesBy op k left.to right.to (found_worth x) (found_worth y) (found_worth z)) → IfSome r (λ v. YieldsNoting u w (expression_at u n) (found_worth v) noting js ls)
+    arithmetic_coded {noting} {js} {ks} {ls} op k left right x y r is yx yy h =
+        some_map (λ z. CalculatesBy op k left.to right.to (found_worth x) (found_worth y) (found_worth z)) (λ z. YieldsNoting u w (expression_at u n) (found_worth z) noting js ls) r
         (λ z c.
         let l = operand_by is.a left.node left.to (found_worth x) c.x is.left_is yx c.left_is in
         let m = operand_by is.d right.node right.to (found_worth y) c.y is.right_is yy c.right_is in
-        yields_with_both u w n (typed.Arithmetic op is.a is.d) is.form is.a is.d (found_worth x) (found_worth y) (found_worth z) refl refl l.0 m.0
+        noted_both u w n (typed.Arithmetic op is.a is.d) is.form is.a is.d (found_worth x) (found_worth y) (found_worth z) refl refl l.0 m.0
         (gives_calculated u w (type_of (expression_at u n)) op is.a is.d k (found_worth x) (found_worth y) c.x c.y (found_worth z) l.1 m.1 is.kind c.gives)) h
 
-    pub element_coded : (a d : NodeId) (size : ℕ) (first second : Found) (r : Option Found) → IsElementOf u n a d size → Yields u w (expression_at u a) (found_worth first) → Yields u w (expression_at u d) (found_worth second)
-        → IfSome r (λ v. GivesAt w (λ b. Moves false true size (found_worth first) (found_worth second)) (found_worth v)) → IfSome r (λ v. Yields u w (expression_at u n) (found_worth v))
-    element_coded a d size first second r is y z h =
+    pub element_coded : {noting : Bool} {js ks ls : List Access} (a d : NodeId) (size : ℕ) (first second : Found) (r : Option Found) → IsElementOf u n a d size → YieldsNoting u w (expression_at u a) (found_worth first) noting js ks → YieldsNoting u w (expression_at u d) (found_worth second) noting ks ls
+        → IfSome r (λ v. GivesAt w (λ b. Moves false true size (found_worth first) (found_worth second)) (found_worth v)) → IfSome r (λ v. YieldsNoting u w (expression_at u n) (found_worth v) noting js ls)
+    element_coded {noting} {js} {ks} {ls} a d size first second r is y z h =
         both_some u w n (typed.Subscript a d) is.form a d first second r refl refl y z
         (subscript_some u w a d size (found_worth first) (found_worth second) is.pointer (type_of (expression_at u n)) r is.is h)

@@ -98,7 +98,6 @@ gives_equality u w t op negated a d x y left right v hx hy e h = record {
       let s = turned w out es n in
       let j = has_read fs gs in
       record {
-        all = gs;
         reads = ha;
         is =
             ap (λ r. then_do r (λ v s. then_do (converted b (expression_at u d) y s) (λ z s. work b line (Equals (is_unequal op) v z) j s))) (hx b w out es n)

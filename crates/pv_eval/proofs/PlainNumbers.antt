@@ -136,7 +136,6 @@ gives_calculated u w t op a d k x y left right v hx hy e h = record {
       let j = has_read fs gs in
       let kind = kind_of (type_of (expression_at u a)) in
       record {
-        all = gs;
         reads = ha;
         is =
             ap (λ r. then_do r (λ v s. then_do (converted b (expression_at u d) y s) (λ z s. work b line (Calculates op kind v z) j s))) (hx b w out es n)
@@ -181,13 +180,13 @@ object_some u w x o lasting (Some v) is same h = subst (λ y. GivesAlone u w y (
 
 -- nodes that give the value of their operand
 pub array_given : (u : Stored) (w : World) (t : Ty) (x : Typed) (a : NodeId) (v : Worth) → x ≡ typed.ArrayPointer a → GivesWith u w t x v v
-array_given u w t x a v is = subst (λ y. GivesWith u w t y v v) (sym is) (record { turns = λ turn. refl; gives = λ call bound sides zap line fs gs out es n hf hg. record { all = gs; reads = hg; is = refl } })
+array_given u w t x a v is = subst (λ y. GivesWith u w t y v v) (sym is) (record { turns = λ turn. refl; gives = λ call bound sides zap line fs gs out es n hf hg. record { reads = hg; is = refl } })
 
 pub convert_given : (u : Stored) (w : World) (t : Ty) (x : Typed) (a : NodeId) (v : Worth) → x ≡ typed.Convert a → GivesWith u w t x v v
-convert_given u w t x a v is = subst (λ y. GivesWith u w t y v v) (sym is) (record { turns = λ turn. refl; gives = λ call bound sides zap line fs gs out es n hf hg. record { all = gs; reads = hg; is = refl } })
+convert_given u w t x a v is = subst (λ y. GivesWith u w t y v v) (sym is) (record { turns = λ turn. refl; gives = λ call bound sides zap line fs gs out es n hf hg. record { reads = hg; is = refl } })
 
 pub address_given : (u : Stored) (w : World) (t : Ty) (x : Typed) (a : NodeId) (v : Worth) → x ≡ typed.Address a → GivesWith u w t x v v
-address_given u w t x a v is = subst (λ y. GivesWith u w t y v v) (sym is) (record { turns = λ turn. refl; gives = λ call bound sides zap line fs gs out es n hf hg. record { all = gs; reads = hg; is = refl } })
+address_given u w t x a v is = subst (λ y. GivesWith u w t y v v) (sym is) (record { turns = λ turn. refl; gives = λ call bound sides zap line fs gs out es n hf hg. record { reads = hg; is = refl } })
 
 -- nodes with one operand, of an operation that gives a value whatever the setting
 module _ (u : Stored) (w : World) (t : Ty) where
@@ -195,7 +194,6 @@ module _ (u : Stored) (w : World) (t : Ty) where
   followed_given x a v is e = subst (λ y. GivesWith u w t y (found_worth v) (found_worth v)) (sym is) (record {
     turns = λ turn. refl;
     gives = λ call bound sides zap line fs gs out es n hf hg. record {
-      all = gs;
       reads = hg;
       is = ap (λ r. then_do r (done (has_read fs gs))) (act_gives w out es n (setting_by u bound sides zap) line (Follows (is_none t) (found_worth v)) (found_worth v) (follows_found (setting_by u bound sides zap) v));
     };
@@ -210,7 +208,6 @@ module _ (u : Stored) (w : World) (t : Ty) where
   member_given x a offset first v is h = subst (λ y. GivesWith u w t y first v) (sym is) (record {
     turns = λ turn. refl;
     gives = λ call bound sides zap line fs gs out es n hf hg. record {
-      all = gs;
       reads = hg;
       is = ap (λ r. then_do r (done (has_read fs gs))) (act_gives w out es n (setting_by u bound sides zap) line (Selects offset first) v (h (setting_by u bound sides zap)));
     };
@@ -220,7 +217,6 @@ module _ (u : Stored) (w : World) (t : Ty) where
   arrow_given x a offset first v is h = subst (λ y. GivesWith u w t y first v) (sym is) (record {
     turns = λ turn. refl;
     gives = λ call bound sides zap line fs gs out es n hf hg. record {
-      all = gs;
       reads = hg;
       is = ap (λ r. then_do r (done (has_read fs gs))) (act_gives w out es n (setting_by u bound sides zap) line (Selects offset first) v (h (setting_by u bound sides zap)));
     };
@@ -230,7 +226,6 @@ module _ (u : Stored) (w : World) (t : Ty) where
   not_given x a first v is h = subst (λ y. GivesWith u w t y first v) (sym is) (record {
     turns = λ turn. refl;
     gives = λ call bound sides zap line fs gs out es n hf hg. record {
-      all = gs;
       reads = hg;
       is = ap (λ r. then_do r (done (has_read fs gs))) (act_gives w out es n (setting_by u bound sides zap) line (Negates first) v (h (setting_by u bound sides zap)));
     };
@@ -244,7 +239,6 @@ module _ (u : Stored) (w : World) (t : Ty) where
         let s = turned w out es n in
         let j = has_read fs gs in
         record {
-          all = gs;
           reads = hg;
           is =
               ap (λ r. then_do r (λ v s. work b line (CalculatesOne op (kind_of t) v) j s)) (hx b w out es n)
@@ -259,7 +253,6 @@ module _ (u : Stored) (w : World) (t : Ty) where
     gives = λ call bound sides zap line fs gs out es n hf hg.
         let b = setting_by u bound sides zap in
         record {
-          all = gs;
           reads = hg;
           is =
               ap (λ r. then_do r (done (has_read fs gs)))

@@ -94,7 +94,6 @@ module _ (u : Stored) (w : World) (a d : NodeId) (size : ℕ) (first second : Wo
         gives = λ call bound sides zap line fs gs out es n hf hg.
             let b = setting_by u bound sides zap in
             record {
-              all = gs;
               reads = hg;
               is =
                   ap (λ r. then_do r (done (has_read fs gs)))
@@ -115,7 +114,6 @@ module _ (u : Stored) (w : World) (a d : NodeId) (size : ℕ) (first second : Wo
         gives = λ call bound sides zap line fs gs out es n hf hg.
             let b = setting_by u bound sides zap in
             record {
-              all = gs;
               reads = hg;
               is =
                   ap (λ r. then_do r (done (has_read fs gs)))

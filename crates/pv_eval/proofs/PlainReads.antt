@@ -37,25 +37,25 @@ use Rattle.pv_typed.specs.declared.nodes.Typed.TheVariants as typed
 use Rattle.pv_typed.specs.TypedTree.{type_of}
 use Rattle.pv_typed.specs.Tables.{Stored}
 use Rattle.pv_typed.specs.NodeTrees.{expression_at}
-use Rattle.pv_seq.specs.Sequencing.{Access, clash, overlap, conflicts, rivals, noted}
+use Rattle.pv_seq.specs.Sequencing.{Access, access_of, clash, overlap, conflicts, rivals, noted}
 use Rattle.pv_world.specs.declared.got.Shape.{Shape}
 use Rattle.pv_world.specs.declared.got.Shape.TheVariants as shape
 use Rattle.pv_world.specs.Worlds.{Worth, World, with_table}
-use Rattle.pv_world.specs.Worths.{int, pointer, pointer_of, missing_value, undefined}
+use Rattle.pv_world.specs.Worths.{int, pointer, missing_value, undefined}
 use Rattle.pv_world.specs.Telling.{quiet, telling, uses, range_test, each_paired, each_exposed, exposures, pairings}
 use Rattle.pv_world.specs.Doing.{Answers, Fails}
 use Rattle.pv_world.specs.Accesses.{reaching_by, scalar_by, worth_in}
 use Rattle.pv_world.specs.AccessParts.{range_use}
 use Rattle.pv_eval.specs.States.{then_do}
 use Rattle.pv_eval.specs.TypeForms.{Lvalue, lvalue, shape_of}
-use Rattle.pv_eval.specs.Sizes.{setting_of}
+use Rattle.pv_eval.specs.Sizes.{setting_of, size_in}
 use Rattle.pv_eval.specs.Suiting.{knows}
 use Rattle.pv_eval.specs.Permission.{permits}
 use Rattle.pv_eval.specs.Accesses.{access_to, reads_permitted, reads_at, reads}
 use Rattle.pv_eval.specs.Operations.{Reads}
 use Rattle.pv_eval.specs.Sequenced.{done}
 use Rattle.pv_eval.specs.declared.plain.Found.{Found}
-use Rattle.pv_eval.specs.Plainly.{setting_by, AreReads, has_read, GivesWith, ReadsFrom, alone_tried, HasReached, IsPlainNumber, found_worth}
+use Rattle.pv_eval.specs.Plainly.{setting_by, AreReads, has_read, GivesReading, GivesNoting, ReadsFrom, alone_tried, HasReached, IsPlainNumber, found_worth}
 use Rattle.pv_inst.proofs.Rows.{row_found}
 use Rattle.pv_eval.proofs.Guards.{both_of}
 use Rattle.pv_eval.proofs.Through.{fits_lvalue, right_false}
@@ -215,15 +215,16 @@ read_some u w t k p spot size align m z (Some q) form fits es ea reached permitt
     permitted all (subst (λ (n : ℕ). IsPlainNumber (read w.memory.bytes spot.address n) m) es is) trap value)
 
 -- a node that reads it
-pub read_given : (u : Stored) (w : World) (t : Ty) (a : NodeId) (p : Pointer) (v : Worth) → ReadsFrom u w (type_of (expression_at u a)) p v → GivesWith u w t (typed.Read a) (pointer p) v
+pub read_given : (u : Stored) (w : World) (t : Ty) (a : NodeId) (p : Pointer) (v : Worth) → ReadsFrom u w (type_of (expression_at u a)) p v → GivesReading u w t (typed.Read a) (pointer p) v
 read_given u w t a p v h = record {
+  own = access_to (lvalue (setting_of u) (type_of (expression_at u a))) p false;
+  read = refl;
   turns = λ turn. refl;
   gives = λ call bound sides zap line fs gs out es n hf hg.
       let b = setting_by u bound sides zap in
       let l = lvalue b (type_of (expression_at u a)) in
       let j = has_read fs gs in
       record {
-        all = gs ++ access_to l p false ∷ [];
         reads = reads_both gs (access_to l p false ∷ []) hg (refl, tt);
         is =
             ap (λ r. then_do r (λ v s. done (noted (access_to l p false) j) v s))
@@ -231,7 +232,12 @@ read_given u w t a p v h = record {
       };
 }
 
-pub reads_given : (u : Stored) (w : World) (t : Ty) (a : NodeId) (place : Worth) (r : Option Found) → IfSome r (λ v. place ≡ pointer (pointer_of place)) → IfSome r (λ v. ReadsFrom u w (type_of (expression_at u a)) (pointer_of place) (found_worth v))
-    → IfSome r (λ v. GivesWith u w t (typed.Read a) place (found_worth v))
-reads_given u w t a place None e h = tt
-reads_given u w t a place (Some v) e h = subst (λ q. GivesWith u w t (typed.Read a) q (found_worth v)) (sym e) (read_given u w t a (pointer_of place) (found_worth v) h)
+-- what was read, once the read is noted if it is to be
+pub noting_given : (noting : Bool) (ks js : List Access) (u : Stored) (w : World) (t : Ty) (a : NodeId) (p : Pointer) (size : ℕ) (v : Found) (r : Option Found) → size ≡ size_in u.known (type_of (expression_at u a))
+    → ReadsFrom u w (type_of (expression_at u a)) p (found_worth v) → IfSome r (λ z. z ≡ v) → IfSome r (λ z. noting ≡ true → js ≡ ks ++ access_of p.address size false ∷ []) → IfSome r (λ z. GivesNoting u w t (typed.Read a) (pointer p) (found_worth z) noting ks js)
+unfolding read_given
+noting_given noting ks js u w t a p size v None e h same is = tt
+noting_given noting ks js u w t a p size v (Some z) e h same is = record {
+  gives = read_given u w t a p (found_worth z) (subst (λ (q : Found). ReadsFrom u w (type_of (expression_at u a)) p (found_worth q)) (sym same) h);
+  noted = λ on. is on ∙ ap (λ n. ks ++ access_of p.address n false ∷ []) e;
+}

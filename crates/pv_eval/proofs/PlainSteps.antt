@@ -1,5 +1,5 @@
 -- A plain expression, node by node: what its operands give, and then what it gives itself.
-use Rattle.std.proofs.Common.{◌≡◌, ℕ, ◌+◌, ◌++◌, ◌<◌, ◌≤◌, Bool, true, false, List, [], ◌∷◌, refl, ap, ◌∙◌, arith, subst, Some, None, ⊎_elim}
+use Rattle.std.proofs.Common.{◌≡◌, ℕ, ◌+◌, ◌++◌, ◌<◌, ◌≤◌, Bool, true, false, List, [], ◌∷◌, refl, ap, ◌∙◌, arith, subst, Some, None, ⊎_elim, sym, append-nil, append_assoc}
 use Rattle.std.specs.Prelude.{Option, IfSome, if◌then◌else◌}
 use Rattle.std.proofs.lemmas.Bool.{lt-ltb, le-ltb, cases_lt}
 use Rattle.pv_tree.specs.declared.nodes.NodeId.{NodeId}
@@ -18,7 +18,7 @@ use Rattle.pv_eval.specs.Steps.{Calling, takes, tick_if}
 use Rattle.pv_eval.specs.Evaluation.{ev, ev_form}
 use Rattle.pv_eval.specs.Frames.{first_after, second_after}
 use Rattle.pv_eval.specs.Ahead.{first_operand_of, second_operand_of}
-use Rattle.pv_eval.specs.Plainly.{setting_by, turned, AreReads, has_read, OnlyReads, Yields, form_by, turns_at, GivesAlone, GivesWith, GivesWithBoth, found_worth}
+use Rattle.pv_eval.specs.Plainly.{setting_by, turned, AreReads, has_read, OnlyReads, Yields, form_by, turns_at, GivesAlone, GivesWith, GivesReading, GivesWithBoth, YieldsNoting, GivesNoting, found_worth}
 use Rattle.pv_eval.specs.declared.plain.Found.{Found}
 use Rattle.pv_eval.proofs.Cases.{ev-node, begins, goes-on}
 
@@ -32,8 +32,8 @@ reads_both [] ys h k = k
 reads_both (x ∷ xs) ys h k = (h.0, reads_both xs ys h.1 k)
 
 -- the same piece of the run, and the same number of turns
-pub only_from : (r r' : Res Given) (v : Worth) (s : State) → r ≡ r' → OnlyReads r' v s → OnlyReads r v s
-only_from r r' v s e h = record { all = h.all; reads = h.reads; is = e ∙ h.is }
+pub only_from : (r r' : Res Given) (all : List Access) (v : Worth) (s : State) → r ≡ r' → OnlyReads r' all v s → OnlyReads r all v s
+only_from r r' all v s e h = record { reads = h.reads; is = e ∙ h.is }
 
 -- a number of turns with that of a node, where it takes one
 abbrev pub with_turn : Bool → ℕ → ℕ
@@ -77,14 +77,13 @@ module _ (u : Stored) (w : World) (call : Calling) (bound : ℕ) (sides : Option
       (cases_lt n bound)
 
   -- an operand, and then what follows
-  pub operand_only : (x : TypedTree) (first v : Worth) (y : Yields u w x first) (fs gs : List Access) (n : ℕ) (go : Open → Worth → State → Res Given) (s : State) → AreReads fs → AreReads gs → n + y.turns ≤ bound
-      → ((more : List Access) → AreReads more → OnlyReads (go (has_read fs (gs ++ more)) first (turned w out es (n + y.turns))) v s)
-      → OnlyReads (operand (ev b call x) (has_read fs gs) (turned w out es n) go) v s
-  operand_only x first v y fs gs n go s hf hg room k =
+  pub operand_only : (x : TypedTree) (first v : Worth) (y : Yields u w x first) (fs gs all : List Access) (n : ℕ) (go : Open → Worth → State → Res Given) (s : State) → AreReads fs → AreReads gs → n + y.turns ≤ bound
+      → (AreReads y.accesses → OnlyReads (go (has_read fs (gs ++ y.accesses)) first (turned w out es (n + y.turns))) all v s)
+      → OnlyReads (operand (ev b call x) (has_read fs gs) (turned w out es n) go) all v s
+  operand_only x first v y fs gs all n go s hf hg room k =
       let g = y.gives call bound sides zap (fs ++ gs) out es n (reads_both fs gs hf hg) room in
-      let h = k g.all g.reads in
+      let h = k g.reads in
       record {
-        all = h.all;
         reads = h.reads;
         is = ap (λ r. then_do r (λ (g : Given) s. go (with_given (has_read fs gs) g) g.value s)) g.is ∙ h.is;
       }
@@ -99,7 +98,7 @@ module _ (u : Stored) (w : World) (call : Calling) (bound : ℕ) (sides : Option
       (λ lt. ap after (y.stops call bound sides zap (fs ++ gs) out es n (reads_both fs gs hf hg) low lt))
       (λ le.
       let g = y.gives call bound sides zap (fs ++ gs) out es n (reads_both fs gs hf hg) le in
-      ap after g.is ∙ h le g.all g.reads)
+      ap after g.is ∙ h le y.accesses g.reads)
       (cases_lt bound (n + y.turns))
 
   -- a node begins: its turn first
@@ -121,8 +120,8 @@ module _ (u : Stored) (w : World) (call : Calling) (bound : ℕ) (sides : Option
       ∙ stopped (takes (takes_turn x) f) n k (ev_form b call (type_of x) (line_of x) f fs) low high h
 
   -- the turn of the node comes before those of its operands
-  in_order : (r : Res Given) (v : Worth) (c : Bool) (n k : ℕ) → OnlyReads r v (turned w out es (with_turn c n + k)) → OnlyReads r v (turned w out es (n + with_turn c k))
-  in_order r v c n k h = subst (λ m. OnlyReads r v (turned w out es m)) (turn_first c n k) h
+  in_order : (r : Res Given) (all : List Access) (v : Worth) (c : Bool) (n k : ℕ) → OnlyReads r all v (turned w out es (with_turn c n + k)) → OnlyReads r all v (turned w out es (n + with_turn c k))
+  in_order r all v c n k h = subst (λ m. OnlyReads r all v (turned w out es m)) (turn_first c n k) h
 
 module _ (u : Stored) (w : World) (n : NodeId) (x : Typed) (form : form_of (expression_at u n) ≡ form_by u x) where
   abbrev tree : TypedTree
@@ -144,8 +143,9 @@ module _ (u : Stored) (w : World) (n : NodeId) (x : Typed) (form : form_of (expr
   yields_alone v h = record {
     turns = 1;
     are = turns_node tree ∙ ap (turns_of_form (takes_turn tree)) form ∙ h.turns (takes_turn tree);
+    accesses = [];
+    only = tt;
     gives = λ call bound sides zap fs out es m hf room. record {
-      all = [];
       reads = tt;
       is =
           let one : with_turn takes_one 0 ≡ 1 = ap (λ c. with_turn c 0) (h.takes (takes_turn tree)) in
@@ -164,15 +164,41 @@ module _ (u : Stored) (w : World) (n : NodeId) (x : Typed) (form : form_of (expr
   yields_with a first v has y h = record {
     turns = with_turn takes_one y.turns;
     are = turns_are (turns_at u (first_operand_of x)) y.turns h.turns (ap (turns_at u) has ∙ y.are);
+    accesses = y.accesses;
+    only = y.only;
     gives = λ call bound sides zap fs out es m hf room.
         let c = takes_one in
         let b = setting_by u bound sides zap in
-        in_order u w call bound sides zap out es _ v c m y.turns
-        (only_from _ _ v _
+        in_order u w call bound sides zap out es _ y.accesses v c m y.turns
+        (only_from _ _ y.accesses v _
         (node_begun u w call bound sides zap out es tree (form_by u x) fs m y.turns form room
         ∙ begins b call (type_of tree) (line_of tree) u.lists (nodes u) fs (turned w out es (with_turn c m)) x a has)
-        (operand_only u w call bound sides zap out es (expression_at u a) first v y fs [] (with_turn c m) (first_after b call (type_of tree) (line_of tree) (form_by u x)) _ hf tt (turn_room c m y.turns bound room)
-        (λ more hm. h.gives call bound sides zap (line_of tree) fs more out es (with_turn c m + y.turns) hf hm)));
+        (operand_only u w call bound sides zap out es (expression_at u a) first v y fs [] y.accesses (with_turn c m) (first_after b call (type_of tree) (line_of tree) (form_by u x)) _ hf tt (turn_room c m y.turns bound room)
+        (λ hm. h.gives call bound sides zap (line_of tree) fs y.accesses out es (with_turn c m + y.turns) hf hm)));
+    stops = λ call bound sides zap fs out es m hf low high.
+        let b = setting_by u bound sides zap in
+        let n = with_turn takes_one m in
+        node_stops u w call bound sides zap out es tree (form_by u x) fs m y.turns form low high (λ below above.
+        begins b call (type_of tree) (line_of tree) u.lists (nodes u) fs (turned w out es n) x a has
+        ∙ operand_stops u w call bound sides zap out es (expression_at u a) first y fs [] n 0 (first_after b call (type_of tree) (line_of tree) (form_by u x)) hf tt below (omega (arith, above)) (λ le more hm. absurd (omega (arith, le, above))));
+  }
+
+  -- a node that reads at the place which its operand gives
+  pub yields_reading : (a : NodeId) (first v : Worth) → first_operand_of x ≡ Some a → Yields u w (expression_at u a) first → GivesReading u w (type_of tree) x first v → Yields u w tree v
+  yields_reading a first v has y h = record {
+    turns = with_turn takes_one y.turns;
+    are = turns_are (turns_at u (first_operand_of x)) y.turns h.turns (ap (turns_at u) has ∙ y.are);
+    accesses = y.accesses ++ h.own ∷ [];
+    only = reads_both y.accesses (h.own ∷ []) y.only (h.read, tt);
+    gives = λ call bound sides zap fs out es m hf room.
+        let c = takes_one in
+        let b = setting_by u bound sides zap in
+        in_order u w call bound sides zap out es _ (y.accesses ++ h.own ∷ []) v c m y.turns
+        (only_from _ _ (y.accesses ++ h.own ∷ []) v _
+        (node_begun u w call bound sides zap out es tree (form_by u x) fs m y.turns form room
+        ∙ begins b call (type_of tree) (line_of tree) u.lists (nodes u) fs (turned w out es (with_turn c m)) x a has)
+        (operand_only u w call bound sides zap out es (expression_at u a) first v y fs [] (y.accesses ++ h.own ∷ []) (with_turn c m) (first_after b call (type_of tree) (line_of tree) (form_by u x)) _ hf tt (turn_room c m y.turns bound room)
+        (λ hm. h.gives call bound sides zap (line_of tree) fs y.accesses out es (with_turn c m + y.turns) hf hm)));
     stops = λ call bound sides zap fs out es m hf low high.
         let b = setting_by u bound sides zap in
         let n = with_turn takes_one m in
@@ -188,21 +214,24 @@ module _ (u : Stored) (w : World) (n : NodeId) (x : Typed) (form : form_of (expr
     turns = with_turn takes_one (y.turns + z.turns);
     are = turns_are (both (turns_at u (first_operand_of x)) (turns_at u (second_operand_of x))) (y.turns + z.turns) h.turns
         (ap (λ o. both o (turns_at u (second_operand_of x))) (ap (turns_at u) has ∙ y.are) ∙ ap (both (Some y.turns)) (ap (turns_at u) also ∙ z.are));
+    accesses = y.accesses ++ z.accesses;
+    only = reads_both y.accesses z.accesses y.only z.only;
     gives = λ call bound sides zap fs out es m hf room.
         let c = takes_one in
         let b = setting_by u bound sides zap in
+        let all = y.accesses ++ z.accesses in
         let left = turn_room c m (y.turns + z.turns) bound room in
         let last : with_turn c m + y.turns + z.turns ≡ with_turn c m + (y.turns + z.turns) = omega arith in
-        in_order u w call bound sides zap out es _ v c m (y.turns + z.turns)
-        (subst (λ k. OnlyReads (ev b call tree fs (turned w out es m)) v (turned w out es k)) last
-        (only_from _ _ v _
+        in_order u w call bound sides zap out es _ all v c m (y.turns + z.turns)
+        (subst (λ k. OnlyReads (ev b call tree fs (turned w out es m)) all v (turned w out es k)) last
+        (only_from _ _ all v _
         (node_begun u w call bound sides zap out es tree (form_by u x) fs m (y.turns + z.turns) form room
         ∙ begins b call (type_of tree) (line_of tree) u.lists (nodes u) fs (turned w out es (with_turn c m)) x a has)
-        (operand_only u w call bound sides zap out es (expression_at u a) first v y fs [] (with_turn c m) (first_after b call (type_of tree) (line_of tree) (form_by u x)) _ hf tt (omega (arith, left))
-        (λ more hm. only_from _ _ v _
-        (goes-on b call (type_of tree) (line_of tree) u.lists (nodes u) fs (turned w out es (with_turn c m + y.turns)) (has_read fs more) first x d also)
-        (operand_only u w call bound sides zap out es (expression_at u d) second v z fs more (with_turn c m + y.turns) (second_after b call (type_of tree) (line_of tree) (form_by u x) first) _ hf hm (omega (arith, left))
-        (λ rest hr. h.gives call bound sides zap (line_of tree) fs (more ++ rest) out es (with_turn c m + y.turns + z.turns) hf (reads_both more rest hm hr)))))));
+        (operand_only u w call bound sides zap out es (expression_at u a) first v y fs [] all (with_turn c m) (first_after b call (type_of tree) (line_of tree) (form_by u x)) _ hf tt (omega (arith, left))
+        (λ hm. only_from _ _ all v _
+        (goes-on b call (type_of tree) (line_of tree) u.lists (nodes u) fs (turned w out es (with_turn c m + y.turns)) (has_read fs y.accesses) first x d also)
+        (operand_only u w call bound sides zap out es (expression_at u d) second v z fs y.accesses all (with_turn c m + y.turns) (second_after b call (type_of tree) (line_of tree) (form_by u x) first) _ hf hm (omega (arith, left))
+        (λ hr. h.gives call bound sides zap (line_of tree) fs all out es (with_turn c m + y.turns + z.turns) hf (reads_both y.accesses z.accesses hm hr)))))));
     stops = λ call bound sides zap fs out es m hf low high.
         let b = setting_by u bound sides zap in
         let n = with_turn takes_one m in
@@ -214,17 +243,40 @@ module _ (u : Stored) (w : World) (n : NodeId) (x : Typed) (form : form_of (expr
         (λ more' rest hr. absurd (omega (arith, more', above)))));
   }
 
+  -- the same with what is noted
+  pub noted_with : {noting : Bool} {js ks : List Access} (a : NodeId) (first v : Worth) → first_operand_of x ≡ Some a → YieldsNoting u w (expression_at u a) first noting js ks → GivesWith u w (type_of tree) x first v → YieldsNoting u w tree v noting js ks
+  unfolding yields_with
+  noted_with {noting} {js} {ks} a first v has y h = record { yields = yields_with a first v has y.yields h; noted = y.noted }
+
+  pub noted_both : {noting : Bool} {js ks ls : List Access} (a d : NodeId) (first second v : Worth) → first_operand_of x ≡ Some a → second_operand_of x ≡ Some d → YieldsNoting u w (expression_at u a) first noting js ks
+      → YieldsNoting u w (expression_at u d) second noting ks ls → GivesWithBoth u w (type_of tree) x first second v → YieldsNoting u w tree v noting js ls
+  unfolding yields_with_both
+  noted_both {noting} {js} {ks} {ls} a d first second v has also y z h = record {
+    yields = yields_with_both a d first second v has also y.yields z.yields h;
+    noted = λ on. z.noted on ∙ ap (λ (qs : List Access). qs ++ z.yields.accesses) (y.noted on) ∙ append_assoc js y.yields.accesses z.yields.accesses;
+  }
+
   -- the same of what may have been found
-  pub alone_some : (r : Option Found) → IfSome r (λ v. GivesAlone u w x (found_worth v)) → IfSome r (λ v. Yields u w tree (found_worth v))
-  alone_some None h = tt
-  alone_some (Some v) h = yields_alone (found_worth v) h
+  pub alone_some : (noting : Bool) (js : List Access) (r : Option Found) → IfSome r (λ v. GivesAlone u w x (found_worth v)) → IfSome r (λ v. YieldsNoting u w tree (found_worth v) noting js js)
+  unfolding yields_alone
+  alone_some noting js None h = tt
+  alone_some noting js (Some v) h = record { yields = yields_alone (found_worth v) h; noted = λ on. sym (append-nil js) }
 
-  pub with_some : (a : NodeId) (first : Found) (r : Option Found) → first_operand_of x ≡ Some a → Yields u w (expression_at u a) (found_worth first)
-      → IfSome r (λ v. GivesWith u w (type_of tree) x (found_worth first) (found_worth v)) → IfSome r (λ v. Yields u w tree (found_worth v))
-  with_some a first None has y h = tt
-  with_some a first (Some v) has y h = yields_with a (found_worth first) (found_worth v) has y h
+  pub with_some : {noting : Bool} {js ks : List Access} (a : NodeId) (first : Found) (r : Option Found) → first_operand_of x ≡ Some a → YieldsNoting u w (expression_at u a) (found_worth first) noting js ks
+      → IfSome r (λ v. GivesWith u w (type_of tree) x (found_worth first) (found_worth v)) → IfSome r (λ v. YieldsNoting u w tree (found_worth v) noting js ks)
+  with_some {noting} {js} {ks} a first None has y h = tt
+  with_some {noting} {js} {ks} a first (Some v) has y h = noted_with a (found_worth first) (found_worth v) has y h
 
-  pub both_some : (a d : NodeId) (first second : Found) (r : Option Found) → first_operand_of x ≡ Some a → second_operand_of x ≡ Some d → Yields u w (expression_at u a) (found_worth first)
-      → Yields u w (expression_at u d) (found_worth second) → IfSome r (λ v. GivesWithBoth u w (type_of tree) x (found_worth first) (found_worth second) (found_worth v)) → IfSome r (λ v. Yields u w tree (found_worth v))
-  both_some a d first second None has also y z h = tt
-  both_some a d first second (Some v) has also y z h = yields_with_both a d (found_worth first) (found_worth second) (found_worth v) has also y z h
+  pub reading_some : {noting : Bool} {js ks : List Access} (ls : List Access) (a : NodeId) (first : Found) (r : Option Found) → first_operand_of x ≡ Some a → YieldsNoting u w (expression_at u a) (found_worth first) noting js ks
+      → IfSome r (λ v. GivesNoting u w (type_of tree) x (found_worth first) (found_worth v) noting ks ls) → IfSome r (λ v. YieldsNoting u w tree (found_worth v) noting js ls)
+  unfolding yields_reading
+  reading_some {noting} {js} {ks} ls a first None has y h = tt
+  reading_some {noting} {js} {ks} ls a first (Some v) has y h = record {
+    yields = yields_reading a (found_worth first) (found_worth v) has y.yields h.gives;
+    noted = λ on. h.noted on ∙ ap (λ (qs : List Access). qs ++ h.gives.own ∷ []) (y.noted on) ∙ append_assoc js y.yields.accesses (h.gives.own ∷ []);
+  }
+
+  pub both_some : {noting : Bool} {js ks ls : List Access} (a d : NodeId) (first second : Found) (r : Option Found) → first_operand_of x ≡ Some a → second_operand_of x ≡ Some d → YieldsNoting u w (expression_at u a) (found_worth first) noting js ks
+      → YieldsNoting u w (expression_at u d) (found_worth second) noting ks ls → IfSome r (λ v. GivesWithBoth u w (type_of tree) x (found_worth first) (found_worth second) (found_worth v)) → IfSome r (λ v. YieldsNoting u w tree (found_worth v) noting js ls)
+  both_some {noting} {js} {ks} {ls} a d first second None has also y z h = tt
+  both_some {noting} {js} {ks} {ls} a d first second (Some v) has also y z h = noted_both a d (found_worth first) (found_worth second) (found_worth v) has also y z h

@@ -59,7 +59,7 @@ performs_plain u w new x v same y = subst (λ (z : World). Performs u w z x v) (
   are = turns_plain x y.turns y.are;
   gives = λ call bound sides zap out es n room.
       let g = y.gives call bound sides zap [] out es n tt room in
-      record { given = record { value = v; all = g.all; loose = [] }; value = refl; is = g.is };
+      record { given = record { value = v; all = y.accesses; loose = [] }; value = refl; is = g.is };
   stops = λ call bound sides zap out es n low high. y.stops call bound sides zap [] out es n tt low high;
 })
 
@@ -126,7 +126,7 @@ pub operand_value : (u : Stored) (w : World) (call : Calling) (bound : ℕ) (sid
     → GivesValue (operand (ev (setting_by u bound sides zap) call x) (has_read [] gs) (turned w out es n) go) v s
 operand_value u w call bound sides zap out es x first v y gs n go s hg room k =
     let g = y.gives call bound sides zap gs out es n hg room in
-    value_from _ _ v s (ap (λ r. then_do r (λ (g : Given) s. go (with_given (has_read [] gs) g) g.value s)) g.is) (k g.all g.reads)
+    value_from _ _ v s (ap (λ r. then_do r (λ (g : Given) s. go (with_given (has_read [] gs) g) g.value s)) g.is) (k y.accesses g.reads)
 
 -- the assignment of a value
 pub performs_assign : (u : Stored) (w new : World) (m a d : NodeId) (p : Pointer) (second v : Found) → form_of (expression_at u m) ≡ form_by u (typed.Assign a d) → Yields u w (expression_at u a) (pointer p) → Yields u w (expression_at u d) (found_worth second)

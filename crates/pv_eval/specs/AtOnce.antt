@@ -4,6 +4,8 @@ use Rattle.std.specs.Prelude.{◌≡◌, ℕ, ◌+◌, ◌<◌, ◌≤◌, Bool,
 use Rattle.pv_tree.specs.declared.nodes.NodeId.{NodeId}
 use Rattle.pv_typed.specs.Tables.{Stored}
 use Rattle.pv_typed.specs.NodeTrees.{expression_at}
+use Rattle.pv_seq.specs.Sequencing.{Access}
+use Rattle.pv_seq.specs.Frames.{AllRead}
 use Rattle.pv_world.specs.Worlds.{Worth}
 use Rattle.pv_world.specs.Worths.{truth_int}
 use Rattle.pv_eval.specs.declared.marked.Marked.{Marked}
@@ -46,6 +48,26 @@ abbrev pub CutFirst : Stored → (old new : Machine) → Type 0
 CutFirst u old new =
     Always u old.moment (λ b out es. (call : Calling) → old.moment.taken ≤ b.bound → b.bound < new.moment.taken
     → left_of b call u old.started (state_of old.moment out es) ≡ Stops Turns (state_of (record old.moment { taken = b.bound }) out es))
+
+-- 6.5p2: an operand has this value, against accesses that only read, by these reads of its own
+abbrev pub EvaluatedAmong : Stored → NodeId → Worth → List Access → (old new : Moment) → Type 0
+EvaluatedAmong u n v all old new =
+    Always u old (λ b out es. (call : Calling) (fs : List Access) → AllRead fs → new.taken ≤ b.bound → ev b call (expression_at u n) fs (state_of old out es) ≡ Gives (record { value = v; all = all; loose = [] }) (state_of new out es))
+
+-- 5.1.2.3p1: and under each bound that is met before that, the run stops there
+abbrev pub CutAmong : Stored → NodeId → (old new : Moment) → Type 0
+CutAmong u n old new =
+    Always u old (λ b out es. (call : Calling) (fs : List Access) → AllRead fs → old.taken ≤ b.bound → b.bound < new.taken → ev b call (expression_at u n) fs (state_of old out es) ≡ Stops Turns (state_of (record old { taken = b.bound }) out es))
+
+-- 6.5p1: an expression that was started goes on so
+abbrev pub GoesOn : Stored → (was now : Started) → (old new : Moment) → Type 0
+GoesOn u e f old new =
+    Always u old (λ b out es. (call : Calling) → new.taken ≤ b.bound → ahead b call u e.frames e.opens e.place (state_of old out es) ≡ ahead b call u f.frames f.opens f.place (state_of new out es))
+
+-- the same of the innermost expression
+abbrev pub ContinuesFirst : Stored → (old new : Machine) → Type 0
+ContinuesFirst u old new =
+    Always u old.moment (λ b out es. (call : Calling) → new.moment.taken ≤ b.bound → left_of b call u old.started (state_of old.moment out es) ≡ left_of b call u new.started (state_of new.moment out es))
 
 -- 5.1.2.3p1: a turn more was taken
 abbrev pub ticked : Moment → Moment

@@ -1,6 +1,6 @@
 -- A bridge: what plain expressions (6.5) give from a world, where nothing stops them: no event is told, no byte is printed, the world stays as it is,
 -- and all their accesses are reads. A bridge from the code that finds such values to evaluation, whose definition it names.
-use Rattle.std.specs.Prelude.{◌≡◌, ℕ, ℤ, ◌+◌, ◌<◌, ◌≤◌, Bool, true, false, List, [], ◌∷◌, Option, Some, None, Ok}
+use Rattle.std.specs.Prelude.{◌≡◌, ℕ, ℤ, ◌+◌, ◌<◌, ◌≤◌, Bool, true, false, List, [], ◌∷◌, ◌++◌, Option, Some, None, Ok}
 use Rattle.pv_tree.specs.declared.nodes.NodeId.{NodeId}
 use Rattle.pv_types.specs.Ty.{Ty}
 use Rattle.pv_prov.specs.declared.names.Prov.TheVariants.{Inst}
@@ -12,6 +12,7 @@ use Rattle.pv_typed.specs.Tables.{Stored, whole, nodes}
 use Rattle.pv_typed.specs.NodeTrees.{expression_at}
 use Rattle.pv_typed.specs.Plain.{counted, both, turns_of, turns_of_form}
 use Rattle.pv_seq.specs.Sequencing.{Access, Open, opened}
+use Rattle.pv_seq.specs.Frames.{AllRead}
 use Rattle.pv_inst.specs.declared.values.Test.TheVariants.{Live, Range}
 use Rattle.pv_inst.specs.declared.values.Tried.{Tried}
 use Rattle.std.specs.Option.{option_map}
@@ -61,16 +62,14 @@ turned w out es n = record { world = w; output = out; events = es; taken = n }
 
 -- 6.5p2: none of the accesses writes, so that no two of them conflict
 abbrev pub AreReads : List Access → Type 0
-AreReads [] = Unit {0}
-AreReads (a ∷ gs) = (a.writes ≡ false) × AreReads gs
+AreReads = AllRead
 
 -- 6.5p2: a node in progress that has only read
 abbrev pub has_read : (foes all : List Access) → Open
 has_read fs gs = record { foes = fs; all = gs; loose = [] }
 
--- a piece of the run gives this value by reads alone (6.5p2), and leaves this state
-pub record OnlyReads (r : Res Given) (v : Worth) (s : State) : Type 0 where
-  pub all : List Access
+-- a piece of the run gives this value by these reads alone (6.5p2), and leaves this state
+pub record OnlyReads (r : Res Given) (all : List Access) (v : Worth) (s : State) : Type 0 where
   pub reads : AreReads all
   pub is : r ≡ Gives (record { value = v; all = all; loose = [] }) s
 
@@ -79,8 +78,11 @@ pub record OnlyReads (r : Res Given) (v : Worth) (s : State) : Type 0 where
 pub record Yields (u : Stored) (w : World) (x : TypedTree) (v : Worth) : Type 0 where
   pub turns : ℕ
   pub are : turns_of x ≡ Some turns
+  -- 6.5p2: which it reads, in order
+  pub accesses : List Access
+  pub only : AreReads accesses
   pub gives : (call : Calling) (bound : ℕ) (sides : Option (List Bool)) (zap : Bool) (fs : List Access) (out : List ℕ) (es : List Marked) (n : ℕ) → AreReads fs → n + turns ≤ bound
-      → OnlyReads (ev (setting_by u bound sides zap) call x fs (turned w out es n)) v (turned w out es (n + turns))
+      → OnlyReads (ev (setting_by u bound sides zap) call x fs (turned w out es n)) accesses v (turned w out es (n + turns))
   -- and where fewer turns are left, it stops behind the last of them (5.1.2.3p1)
   pub stops : (call : Calling) (bound : ℕ) (sides : Option (List Bool)) (zap : Bool) (fs : List Access) (out : List ℕ) (es : List Marked) (n : ℕ) → AreReads fs → n ≤ bound → bound < n + turns
       → ev (setting_by u bound sides zap) call x fs (turned w out es n) ≡ Stops Turns (turned w out es bound)
@@ -105,13 +107,31 @@ turns_at u (Some a) = turns_of (expression_at u a)
 pub record GivesWith (u : Stored) (w : World) (t : Ty) (x : Typed) (first v : Worth) : Type 0 where
   pub turns : (turn : Bool) → turns_of_form turn (form_by u x) ≡ counted (takes turn (form_by u x)) (turns_at u (first_operand_of x))
   pub gives : (call : Calling) (bound : ℕ) (sides : Option (List Bool)) (zap : Bool) (line : ℕ) (fs gs : List Access) (out : List ℕ) (es : List Marked) (n : ℕ) → AreReads fs → AreReads gs
-      → OnlyReads (first_after (setting_by u bound sides zap) call t line (form_by u x) (has_read fs gs) first (turned w out es n)) v (turned w out es n)
+      → OnlyReads (first_after (setting_by u bound sides zap) call t line (form_by u x) (has_read fs gs) first (turned w out es n)) gs v (turned w out es n)
+
+-- 6.5p2: a node of this type reads at the place that its one operand has given, and gives what it reads
+pub record GivesReading (u : Stored) (w : World) (t : Ty) (x : Typed) (first v : Worth) : Type 0 where
+  pub own : Access
+  pub read : own.writes ≡ false
+  pub turns : (turn : Bool) → turns_of_form turn (form_by u x) ≡ counted (takes turn (form_by u x)) (turns_at u (first_operand_of x))
+  pub gives : (call : Calling) (bound : ℕ) (sides : Option (List Bool)) (zap : Bool) (line : ℕ) (fs gs : List Access) (out : List ℕ) (es : List Marked) (n : ℕ) → AreReads fs → AreReads gs
+      → OnlyReads (first_after (setting_by u bound sides zap) call t line (form_by u x) (has_read fs gs) first (turned w out es n)) (gs ++ own ∷ []) v (turned w out es n)
 
 -- 6.5p1: the same of a node with two operands
 pub record GivesWithBoth (u : Stored) (w : World) (t : Ty) (x : Typed) (first second v : Worth) : Type 0 where
   pub turns : (turn : Bool) → turns_of_form turn (form_by u x) ≡ counted (takes turn (form_by u x)) (both (turns_at u (first_operand_of x)) (turns_at u (second_operand_of x)))
   pub gives : (call : Calling) (bound : ℕ) (sides : Option (List Bool)) (zap : Bool) (line : ℕ) (fs gs : List Access) (out : List ℕ) (es : List Marked) (n : ℕ) → AreReads fs → AreReads gs
-      → OnlyReads (second_after (setting_by u bound sides zap) call t line (form_by u x) first (has_read fs gs) second (turned w out es n)) v (turned w out es n)
+      → OnlyReads (second_after (setting_by u bound sides zap) call t line (form_by u x) first (has_read fs gs) second (turned w out es n)) gs v (turned w out es n)
+
+-- 6.5p2: an expression yields a value, and where that is asked for, what it reads was noted behind these accesses
+pub record YieldsNoting (u : Stored) (w : World) (x : TypedTree) (v : Worth) (noting : Bool) (before behind : List Access) : Type 0 where
+  pub yields : Yields u w x v
+  pub noted : noting ≡ true → behind ≡ before ++ yields.accesses
+
+-- 6.5p2: a node reads so, and where that is asked for, its read was noted behind these accesses
+pub record GivesNoting (u : Stored) (w : World) (t : Ty) (x : Typed) (first v : Worth) (noting : Bool) (before behind : List Access) : Type 0 where
+  pub gives : GivesReading u w t x first v
+  pub noted : noting ≡ true → behind ≡ before ++ gives.own ∷ []
 
 -- a piece of the run gives this value and leaves this state, whatever its accesses are
 pub record GivesValue (r : Res Given) (v : Worth) (s : State) : Type 0 where

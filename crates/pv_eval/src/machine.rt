@@ -20,7 +20,7 @@ ghost use Rattle.pv_eval.specs.MachineSteps.{IsBegun, IsTaken, IsAnswered, IsOpe
 ghost use Rattle.pv_eval.specs.Pieces.{handed_at, needed_of};
 ghost use Rattle.pv_eval.specs.Progress.{StepsMachine, MadeAnywhere};
 ghost use Rattle.pv_eval.specs.Codes.{AreCodes};
-ghost use Rattle.pv_eval.specs.AtOnce.{EvaluatedFirst, CutFirst, EvaluatedNext, CutNext, TestedNext};
+ghost use Rattle.pv_eval.specs.AtOnce.{EvaluatedFirst, ContinuesFirst, CutFirst, EvaluatedNext, CutNext, TestedNext};
 
 use crate::converting::{hand_on, need};
 use crate::failure::Failure;
@@ -31,6 +31,7 @@ use crate::plan::Plan;
 use crate::started::{Stacks, Started};
 use crate::values::Kept;
 use pv_script::Script;
+use pv_seq::Access;
 use pv_tree::NodeId;
 use pv_typed::{Const, TypedUnit};
 use pv_types::TypeId;
@@ -47,6 +48,8 @@ pub struct Machine {
     started: VecDeque<Started>,
     /// Stacks of expressions that have ended.
     spare: Vec<Stacks>,
+    /// For what an operand reads that is evaluated at once.
+    notes: Vec<Access>,
 }
 
 impl Model for Machine {
@@ -82,6 +85,7 @@ impl Machine {
                 moment,
                 started: VecDeque::new(alloc),
                 spare: Vec::new(alloc),
+                notes: Vec::new(alloc),
             }),
             Err(e) => Err(e),
         }
@@ -190,6 +194,29 @@ impl Machine {
     {
         match self.started.front_mut() {
             Some(e) => e.whole(unit, plan, bound, &mut self.moment),
+            None => false,
+        }
+    }
+
+    /// The operand that is due in the innermost expression at once, where it is plain, all accesses of the expression so far read,
+    /// nothing stops it, and its turns are within the bound. Then it has its value; its turns were taken, nothing was printed, and
+    /// nothing happened that is told. False where that is not so: then nothing has changed.
+    pub fn operand(&mut self, unit: &TypedUnit, plan: &Plan, bound: u64) -> bool
+        requires codes { AreCodes unit.now plan.now }
+        requires runnable { IsRunnable unit.now }
+        requires fit { Fit unit.now self.old.started }
+        ensures goes { result ≡ true → ContinuesFirst unit.now self.old self.new }
+        ensures cut { result ≡ true → CutFirst unit.now self.old self.new }
+        ensures more { result ≡ true → self.old.moment.taken < self.new.moment.taken }
+        ensures within { result ≡ true → self.new.moment.taken ≤ bound }
+        ensures ended { result ≡ true → is_ended self.new.started ≡ true }
+        ensures others { after_first self.new.started ≡ after_first self.old.started }
+        ensures fit { Fit unit.now self.new.started }
+        ensures same { result ≡ false → self.new ≡ self.old }
+        ensures stays { KeepsSetting self.old.moment self.new.moment }
+    {
+        match self.started.front_mut() {
+            Some(e) => e.operand(unit, plan, bound, &mut self.moment, &mut self.notes),
             None => false,
         }
     }

@@ -11,12 +11,10 @@ use crate::plain_comparisons::{equality, negated};
 use crate::plain_conversions::cast;
 use crate::plain_numbers::{arithmetic, natural, unary};
 use crate::plain_places::{object, part, subscript, summed};
-use crate::plain_reads::read;
 use crate::types::is_none;
 use pv_tree::NodeId;
 use pv_typed::{Typed, TypedUnit};
 use pv_world::World;
-use std::alloc::Global;
 
 /// A place in a storage instance, or one past its last byte.
 #[derive(Clone, Copy)]
@@ -51,9 +49,8 @@ pub(crate) fn alone(unit: &TypedUnit, world: &World, x: Typed) -> Option<Found>
     }
 }
 
-/// A node of this type whose one operand has given a value.
+/// A node of this type whose one operand has given a value, unless it reads (plain_coded.rt).
 pub(crate) fn with_one(
-    alloc: Global,
     unit: &TypedUnit,
     world: &World,
     n: NodeId,
@@ -66,7 +63,6 @@ pub(crate) fn with_one(
     ensures { IfSome result (λ v. GivesWith unit.now world.now (type_of (expression_at unit.now n)) x (found_worth first) (found_worth v)) }
 {
     match x {
-        Typed::Read(a) => read(alloc, unit, world, a, first),
         Typed::ArrayPointer(_) | Typed::Convert(_) | Typed::Address(_) => Some(first),
         Typed::Indirection(_) => {
             if is_none(unit.types(), unit.type_of(n)) {

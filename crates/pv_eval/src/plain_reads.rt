@@ -3,14 +3,12 @@ ghost use Rattle.std.specs.Prelude.{◌≡◌, ◌≤◌, true, ◌&&◌, IfSome
 ghost use Rattle.pv_prov.specs.declared.names.Prov.TheVariants.{Inst};
 ghost use Rattle.pv_inst.specs.declared.values.Test.TheVariants.{Live};
 ghost use Rattle.pv_inst.specs.Use.{is_function, use_answer};
-ghost use Rattle.pv_types.specs.Ty.{Ty};
 ghost use Rattle.pv_types.specs.Known.{tree, env};
 ghost use Rattle.pv_types.specs.Layouts.{layout_in};
 ghost use Rattle.pv_shadow.specs.Bytes.{read};
 ghost use Rattle.pv_object.specs.Reaching.{IsReach};
 ghost use Rattle.pv_object.specs.Access.{readonly_stop};
 ghost use Rattle.pv_object.specs.Loading.{is_trap};
-ghost use Rattle.pv_typed.specs.declared.nodes.Typed.{Typed as Row};
 ghost use Rattle.pv_typed.specs.Known.{AreKnown};
 ghost use Rattle.pv_typed.specs.TypedTree.{type_of};
 ghost use Rattle.pv_typed.specs.NodeTrees.{expression_at, IsExpression};
@@ -19,7 +17,7 @@ ghost use Rattle.pv_world.specs.declared.got.Shape.{Shape as Form};
 ghost use Rattle.pv_eval.specs.TypeForms.{shape_of};
 ghost use Rattle.pv_eval.specs.Sizes.{IsComplete};
 ghost use Rattle.pv_eval.specs.Suiting.{knows};
-ghost use Rattle.pv_eval.specs.Plainly.{GivesWith, ReadsFrom, HasReached, IsLooked, IsPlainNumber, HasKind, alone_tried, found_worth, pointer_at};
+ghost use Rattle.pv_eval.specs.Plainly.{ReadsFrom, HasReached, IsLooked, IsPlainNumber, HasKind, alone_tried, found_worth, pointer_at};
 
 use crate::permission::permits_in;
 use crate::plain::{Found, Spot};
@@ -271,19 +269,4 @@ pub(crate) fn read_at(
         Shape::Pointer => load_pointer(alloc, unit, world, x, p),
         Shape::Whole => None,
     }
-}
-
-/// What a node reads at the place that its operand gave.
-pub(crate) fn read(
-    alloc: Global,
-    unit: &TypedUnit,
-    world: &World,
-    a: NodeId,
-    place: Found,
-) -> Option<Found>
-    requires known { AreKnown unit.now }
-    requires there { IsExpression unit.now a }
-    ensures { (t : Ty) → IfSome result (λ v. GivesWith unit.now world.now t (Row.Read a) (found_worth place) (found_worth v)) }
-{
-    read_at(alloc, unit, world, a, place)
 }

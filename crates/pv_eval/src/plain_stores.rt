@@ -17,7 +17,7 @@ ghost use Rattle.pv_eval.specs.Plainly.{Performs, StoresAt, found_worth, pointer
 
 use crate::permission::permits_in;
 use crate::plain::{Found, Spot};
-use crate::plain_coded::value_by;
+use crate::plain_coded::value;
 use crate::plain_conversions::converted_value;
 use crate::plain_reads::reached;
 use crate::plan::Plan;
@@ -124,8 +124,8 @@ pub(crate) fn assign(
     ensures some { IfSome result (λ v. Performs unit.now world.old world.new (expression_at unit.now n) (found_worth v)) }
     ensures none { IfNone result (world.new ≡ world.old) }
 {
-    let place = value_by(alloc, unit, plan, world, a)?;
-    let second = value_by(alloc, unit, plan, world, d)?;
+    let place = value(alloc, unit, plan, world, a)?;
+    let second = value(alloc, unit, plan, world, d)?;
     let v = converted_value(unit, d, second)?;
     if assigned(alloc, unit, world, a, place, v) {
         Some(v)

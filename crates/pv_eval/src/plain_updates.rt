@@ -13,7 +13,7 @@ ghost use Rattle.pv_eval.specs.Plainly.{Performs, StepsTo, CombinesTo, found_wor
 
 use crate::compound::{after, down, operator};
 use crate::plain::Found;
-use crate::plain_coded::value_by;
+use crate::plain_coded::value;
 use crate::plain_conversions::converted_value;
 use crate::plain_numbers::{kept, operated};
 use crate::plain_places::{element, pointed_size};
@@ -78,7 +78,7 @@ pub(crate) fn increment(
     ensures some { IfSome result (λ v. Performs unit.now world.old world.new (expression_at unit.now n) (found_worth v)) }
     ensures none { IfNone result (world.new ≡ world.old) }
 {
-    let place = value_by(alloc, unit, plan, world, a)?;
+    let place = value(alloc, unit, plan, world, a)?;
     let v = read_at(alloc, unit, world, a, place)?;
     let z = stepped(unit, world, n, o, v)?;
     if assigned(alloc, unit, world, a, place, z) {
@@ -131,9 +131,9 @@ pub(crate) fn compound_assign(
     ensures some { IfSome result (λ v. Performs unit.now world.old world.new (expression_at unit.now n) (found_worth v)) }
     ensures none { IfNone result (world.new ≡ world.old) }
 {
-    let place = value_by(alloc, unit, plan, world, a)?;
+    let place = value(alloc, unit, plan, world, a)?;
     let v = read_at(alloc, unit, world, a, place)?;
-    let second = value_by(alloc, unit, plan, world, d)?;
+    let second = value(alloc, unit, plan, world, d)?;
     let z = combined(unit, n, op, at, d, v, second)?;
     if assigned(alloc, unit, world, a, place, z) {
         Some(z)
@@ -164,9 +164,9 @@ pub(crate) fn pointer_assign(
     ensures none { IfNone result (world.new ≡ world.old) }
 {
     let size = pointed_size(unit, unit.type_of(n))?;
-    let place = value_by(alloc, unit, plan, world, a)?;
+    let place = value(alloc, unit, plan, world, a)?;
     let v = read_at(alloc, unit, world, a, place)?;
-    let second = value_by(alloc, unit, plan, world, d)?;
+    let second = value(alloc, unit, plan, world, d)?;
     let z = element(world, minus(sign), size, v, second)?;
     if assigned(alloc, unit, world, a, place, z) {
         Some(z)

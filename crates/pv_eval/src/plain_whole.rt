@@ -1,5 +1,6 @@
 // Full expressions at once (C17 6.8p4): their values and their turns, without a machine, where nothing stops them.
-ghost use Rattle.std.specs.Prelude.{◌≡◌, ◌+◌, ◌<◌, ◌≤◌, true, Some, IfSome, IfNone};
+ghost use Rattle.std.specs.Prelude.{◌≡◌, ◌+◌, ◌^◌, ◌<◌, ◌≤◌, true, Some, IfSome, IfNone};
+ghost use Rattle.pv_seq.specs.Frames.{AllRead};
 ghost use Rattle.pv_typed.specs.Known.{AreKnown};
 ghost use Rattle.pv_typed.specs.Plain.{counted, both, turns_of};
 ghost use Rattle.pv_typed.specs.NodeTrees.{expression_at, IsExpression};
@@ -7,15 +8,16 @@ ghost use Rattle.pv_world.specs.Coming.{worth_of};
 ghost use Rattle.pv_eval.specs.Runnable.{IsRunnable};
 ghost use Rattle.pv_eval.specs.Plainly.{Performs, whole_turns, found_worth};
 ghost use Rattle.pv_eval.specs.Codes.{AreCodes};
-ghost use Rattle.pv_eval.specs.AtOnce.{Evaluated, Cut, EvaluatedNext, CutNext, TestedNext};
+ghost use Rattle.pv_eval.specs.AtOnce.{Evaluated, Cut, EvaluatedNext, CutNext, TestedNext, EvaluatedAmong, CutAmong};
 
 use crate::moment::Moment;
 use crate::plain::Found;
-use crate::plain_coded::value_by;
+use crate::plain_coded::{value, value_by};
 use crate::plain_comparisons::is_true;
 use crate::plain_stores::{assign, got};
 use crate::plain_updates::{compound_assign, increment, pointer_assign};
 use crate::plan::Plan;
+use pv_seq::Access;
 use pv_tree::NodeId;
 use pv_typed::{Typed, TypedUnit};
 use pv_world::{Got, World};
@@ -89,7 +91,7 @@ fn perform(
         }
         Typed::PointerAssign(sign, a, d) => pointer_assign(alloc, unit, plan, world, n, sign, a, d),
         Typed::Increment(o, a) => increment(alloc, unit, plan, world, n, o, a),
-        _ => value_by(alloc, unit, plan, world, n),
+        _ => value(alloc, unit, plan, world, n),
     }
 }
 
@@ -184,10 +186,52 @@ impl Moment {
         if turns >= bound - self.taken {
             return None;
         }
-        let v = value_by(self.alloc, unit, plan, &self.world, n)?;
+        let v = value(self.alloc, unit, plan, &self.world, n)?;
         let t = is_true(&self.world, v)?;
         self.taken += 1;
         self.taken += turns;
         Some(t)
+    }
+
+    /// What an operand gives against nodes that only read, and how many turns it takes, where it is plain, nothing stops it, and its
+    /// turns are within the bound; what it reads stands in the notes.
+    pub(crate) fn operand(
+        &self,
+        unit: &TypedUnit,
+        plan: &Plan,
+        n: NodeId,
+        bound: u64,
+        notes: &mut Vec<Access>,
+    ) -> Option<(Got, u64)>
+        requires codes { AreCodes unit.now plan.now }
+        requires runnable { IsRunnable unit.now }
+        requires there { IsExpression unit.now n }
+        ensures some { IfSome result (λ r. EvaluatedAmong unit.now n (worth_of r.0) notes.new.items self.now (record self.now { taken = self.now.taken + r.1 })) }
+        ensures cut { IfSome result (λ r. CutAmong unit.now n self.now (record self.now { taken = self.now.taken + r.1 })) }
+        ensures reads { IfSome result (λ r. AllRead notes.new.items) }
+        ensures more { IfSome result (λ r. 1 ≤ r.1) }
+        ensures within { IfSome result (λ r. self.now.taken + r.1 ≤ bound) }
+    {
+        let taking = plain_turns(unit, n)?;
+        if taking == 0 {
+            return None;
+        }
+        if self.taken > bound {
+            return None;
+        }
+        if taking > bound - self.taken {
+            return None;
+        }
+        notes.clear();
+        let v = value_by(self.alloc, unit, plan, &self.world, n, true, notes)?;
+        Some((got(v), taking))
+    }
+
+    /// So many turns are taken.
+    pub(crate) fn take(&mut self, turns: u64)
+        requires { self.old.taken + turns < 2 ^ 64 }
+        ensures { self.new ≡ record self.old { taken = self.old.taken + turns } }
+    {
+        self.taken += turns;
     }
 }

@@ -1,7 +1,8 @@
 // Expressions that were started.
-ghost use Rattle.std.specs.Prelude.{◌≡◌, ◌+◌, ◌<◌, ◌≤◌, ◌^◌, ◌∷◌, [], List, length, map, true, false, IfOk, OnOk};
+ghost use Rattle.std.specs.Prelude.{◌≡◌, ◌+◌, ◌<◌, ◌≤◌, ◌^◌, ◌∷◌, [], List, length, map, true, false, IfOk, OnOk, OnErr};
 ghost use Rattle.pv_typed.specs.Tables.{Stored};
 ghost use Rattle.pv_seq.specs.Sequencing.{opened, sequence_point};
+ghost use Rattle.pv_seq.specs.Frames.{AllRead, with_reads};
 ghost use Rattle.pv_seq.specs.Rivals.{top, below};
 ghost use Rattle.pv_world.specs.Coming.{worth_of};
 ghost use Rattle.pv_eval.specs.Runnable.{IsRunnable};
@@ -11,14 +12,14 @@ ghost use Rattle.pv_eval.specs.Machines.{Started as Expression, value_at, is_due
 ghost use Rattle.pv_eval.specs.MachineSteps.{StartedFits, WentTo, step_at, KeepsSetting};
 ghost use Rattle.pv_eval.specs.Progress.{StepsExpression};
 ghost use Rattle.pv_eval.specs.Codes.{AreCodes};
-ghost use Rattle.pv_eval.specs.AtOnce.{EvaluatedWhole, CutWhole};
+ghost use Rattle.pv_eval.specs.AtOnce.{EvaluatedWhole, CutWhole, GoesOn};
 
 use crate::failure::Failure;
 use crate::frames::{Frame, Now, Step};
 use crate::moment::Moment;
 use crate::plan::Plan;
 use crate::running;
-use pv_seq::Journal;
+use pv_seq::{Access, Journal, NoMemory};
 use pv_tree::NodeId;
 use pv_typed::TypedUnit;
 use pv_world::Got;
@@ -89,6 +90,8 @@ pub(crate) struct Started {
     place: Now,
     /// Whether no step of it was taken: nothing waits in it, and it has no accesses.
     untouched: bool,
+    /// Whether something in it was not evaluated at once though it is plain: then it goes step by step.
+    slow: bool,
 }
 
 impl Model for Started {
@@ -117,6 +120,7 @@ impl Started {
             held,
             place: Now::Due(n),
             untouched: true,
+            slow: false,
         }
     }
 
@@ -192,6 +196,76 @@ impl Started {
             }
             None => false,
         }
+    }
+
+    /// Whether no access of its nodes in progress writes.
+    fn only_reads(&self) -> bool
+        ensures { result ≡ true → AllRead (top self.now.opens).foes }
+    {
+        self.held.journal.only_reads()
+    }
+
+    /// The node that is due has this value, by these reads of its own. `NoMemory` changes nothing.
+    fn has_read(&mut self, v: Got, reads: &[Access]) -> Result<(), NoMemory>
+        requires matched { Matched self.old.frames self.old.opens }
+        requires reads { AllRead reads.now }
+        ensures frames { self.new.frames ≡ self.old.frames }
+        ensures opens { OnOk result (self.new.opens ≡ with_reads reads.now (top self.old.opens) ∷ below self.old.opens) }
+        ensures place { OnOk result (self.new.place ≡ Now.Value v) }
+        ensures fits { (u : Stored) → StartedFits u self.old → OnOk result (StartedFits u self.new) }
+        ensures unchanged { OnErr result (self.new ≡ self.old) }
+    {
+        self.untouched = false;
+        self.held.journal.note_reads(reads)?;
+        self.place = Now::Value(v);
+        Ok(())
+    }
+
+    /// The operand that is due at once, where it is plain, all accesses so far read, nothing stops it, and its turns are within the
+    /// bound. False where that is not so: then nothing has changed.
+    pub(crate) fn operand(
+        &mut self,
+        unit: &TypedUnit,
+        plan: &Plan,
+        bound: u64,
+        moment: &mut Moment,
+        notes: &mut Vec<Access>,
+    ) -> bool
+        requires codes { AreCodes unit.now plan.now }
+        requires runnable { IsRunnable unit.now }
+        requires fits { StartedFits unit.now self.old }
+        ensures goes { result ≡ true → GoesOn unit.now self.old self.new moment.old moment.new }
+        ensures cut { result ≡ true → CutWhole unit.now self.old moment.old moment.new }
+        ensures more { result ≡ true → moment.old.taken < moment.new.taken }
+        ensures within { result ≡ true → moment.new.taken ≤ bound }
+        ensures ended { result ≡ true → is_value self.new.place ≡ true }
+        ensures fits { StartedFits unit.now self.new }
+        ensures same { result ≡ false → self.new ≡ self.old }
+        ensures unmoved { result ≡ false → moment.new ≡ moment.old }
+        ensures setting { KeepsSetting moment.old moment.new }
+    {
+        if self.untouched || self.slow {
+            return false;
+        }
+        let Now::Due(n) = self.place else {
+            return false;
+        };
+        if unit.plain_turns(n).is_none() {
+            return false;
+        }
+        if !self.only_reads() {
+            return false;
+        }
+        let Some((v, turns)) = moment.operand(unit, plan, n, bound, notes) else {
+            self.slow = true;
+            return false;
+        };
+        match self.has_read(v, notes.as_slice()) {
+            Ok(()) => {}
+            Err(_) => return false,
+        }
+        moment.take(turns);
+        true
     }
 
     /// Whether a turn is due next.

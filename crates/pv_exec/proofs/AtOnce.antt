@@ -1,5 +1,5 @@
 -- Expressions and statements that are evaluated at once, within a run.
-use Rattle.std.proofs.Common.{◌≡◌, ℕ, ◌+◌, ◌<◌, ◌≤◌, Bool, true, false, List, [], refl, sym, ap, ◌∙◌, subst, ⊎_elim, arith}
+use Rattle.std.proofs.Common.{◌≡◌, ℕ, ◌+◌, ◌<◌, ◌≤◌, Bool, true, false, List, [], ◌∷◌, refl, sym, ap, ◌∙◌, subst, ⊎_elim, arith}
 use Rattle.std.specs.Prelude.{reverse, Result, Ok, Err, length, if◌then◌else◌}
 use Rattle.std.proofs.lemmas.Bool.{cases_lt, lt-ltb}
 use Rattle.std.proofs.lemmas.List.Elements.{All-weaker}
@@ -11,11 +11,13 @@ use Rattle.pv_world.specs.Worlds.{Worth}
 use Rattle.pv_eval.specs.declared.failure.Failure.{Failure}
 use Rattle.pv_eval.specs.declared.failure.Failure.TheVariants as failure
 use Rattle.pv_eval.specs.States.{Setting, State, Res, Gives, Stops, Turns, then_do, spend}
+use Rattle.pv_eval.specs.declared.frames.Now.{Now}
+use Rattle.pv_eval.specs.declared.frames.Now.TheVariants as now
 use Rattle.pv_eval.specs.Evaluation.{ev}
 use Rattle.pv_eval.specs.Sequenced.{Given}
 use Rattle.pv_eval.specs.Stack.{rest}
 use Rattle.pv_eval.specs.Moments.{Moment, IsSetting, state_of}
-use Rattle.pv_eval.specs.Machines.{Machine, Started, left_of, ended, is_due, due_turns, after_first}
+use Rattle.pv_eval.specs.Machines.{Machine, Started, left_of, ended, is_due, is_ended, is_going, is_value, is_call_at, due_turns, after_first}
 use Rattle.pv_eval.specs.MachineSteps.{KeepsSetting}
 use Rattle.pv_exec.specs.declared.once.After.{After}
 use Rattle.pv_exec.specs.declared.once.After.TheVariants as after
@@ -31,7 +33,7 @@ use Rattle.pv_exec.specs.Calls.{below}
 use Rattle.pv_exec.specs.Works.{does, due, others, after_work, Standing}
 use Rattle.pv_exec.specs.Fits.{Runs, DoingFits, TasksStand}
 use Rattle.pv_eval.specs.Plainly.{GivesValue}
-use Rattle.pv_eval.specs.AtOnce.{EvaluatedFirst, CutFirst, ticked, EvaluatedNext, CutNext}
+use Rattle.pv_eval.specs.AtOnce.{EvaluatedFirst, ContinuesFirst, CutFirst, ticked, EvaluatedNext, CutNext}
 use Rattle.pv_exec.specs.Turning.{SettledLed, AdvancedLed, AtOnceLed, CutBefore, advanced_by}
 use Rattle.pv_exec.proofs.Bounds.{holds-out, has-stores}
 use Rattle.pv_exec.proofs.Turns.{keeps-setting}
@@ -62,6 +64,37 @@ at-once-led u ts old new h more same = λ b out es hs hl all q g.
       room = omega (arith, g.room, one, more);
       most = q;
     }
+
+-- an expression that was started goes on behind an operand
+does-goes : (b : Setting) (u : Stored) (k : ℕ) (es fs : List Started) (s s' : State) → left_of b (below b k).call u es s ≡ left_of b (below b k).call u fs s' → does b u k es doing.Evaluate s ≡ does b u k fs doing.Evaluate s'
+unfolding does
+does-goes b u k es fs s s' h = ap (λ (m : Res Given). then_do m (λ g s. Gives (Valued g.value) s)) h
+
+pub operand-led : (u : Stored) (ts : List Task) (old new : Machine) → ContinuesFirst u old new → old.moment.taken < new.moment.taken → after_first new.started ≡ after_first old.started → AtOnceLed u doing.Evaluate doing.Evaluate ts old new
+operand-led u ts old new h more same = λ b out es hs hl all q g.
+    let s = state_of old.moment out es in
+    let s' = state_of new.moment out es in
+    let one : due_turns old.started ≤ 1 = one-most (is_due old.started) in
+    record {
+      works = g.works;
+      level = g.level;
+      same = g.same;
+      standing = subst (λ (xs : List Started). Standing g.works xs) (sym same) g.standing;
+      law = g.law ∙ ap (λ (m : Res Reached). then_do m (rest (after_work b u) g.works)) (does-goes b u g.level old.started new.started s s' (h b out es hs hl (below b g.level).call q));
+      rooms = All-weaker (λ w. b.bound < s.taken + w.level + due old.started doing.Evaluate) (λ w. b.bound < s'.taken + w.level + due new.started doing.Evaluate) (λ w lt. omega (arith, lt, one, more)) g.works g.rooms;
+      room = omega (arith, g.room, one, more);
+      most = q;
+    }
+
+-- an expression that has its value needs no call
+pub ended-goes : (es : List Started) → is_ended es ≡ true → is_going es ≡ true
+ended-goes [] h = absurd cc
+ended-goes (e ∷ es) h = value-goes e.place h
+  where
+    value-goes : (p : Now) → is_value p ≡ true → (if is_call_at p then false else true) ≡ true
+    value-goes (now.Due n) h = refl
+    value-goes (now.Value v) h = refl
+    value-goes (now.Asked f args line) h = absurd cc
 
 stops-at-once : (b : Setting) (u : Stored) (k : ℕ) (es : List Started) (s : State) (r : Res Given) → left_of b (below b k).call u es s ≡ r → does b u k es doing.Evaluate s ≡ then_do r (λ g s. Gives (Valued g.value) s)
 unfolding does

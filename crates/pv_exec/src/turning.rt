@@ -95,7 +95,29 @@ fn next_of(after: Result<After, Failure>) -> Advanced
     }
 }
 
-// The whole of the innermost expression at once, where it was just begun.
+// The operand that is due in the innermost expression at once.
+fn operand_at_once(
+    unit: &TypedUnit,
+    plan: &Plan,
+    bound: u64,
+    machine: &mut Machine,
+) -> Option<Doing>
+    requires codes { AreCodes unit.now plan.now }
+    requires runnable { IsRunnable unit.now }
+    requires fit { Fit unit.now machine.old.started }
+    ensures some { IfSome result (λ e. ComesAtOnce unit.now bound Doing.Evaluate e machine.old machine.new) }
+    ensures none { IfNone result (machine.new ≡ machine.old) }
+    ensures fit { Fit unit.now machine.new.started }
+    ensures setting { KeepsSetting machine.old.moment machine.new.moment }
+{
+    if machine.operand(unit, plan, bound) {
+        Some(Doing::Evaluate)
+    } else {
+        None
+    }
+}
+
+// The whole of the innermost expression at once, where it was just begun, or the operand that is due.
 fn expression_at_once(
     unit: &TypedUnit,
     plan: &Plan,
@@ -113,7 +135,7 @@ fn expression_at_once(
     if machine.whole(unit, plan, bound) {
         Some(Doing::Evaluated)
     } else {
-        None
+        operand_at_once(unit, plan, bound, machine)
     }
 }
 

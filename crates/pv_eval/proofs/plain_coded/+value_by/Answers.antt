@@ -11,12 +11,12 @@ pub value_by-returns-in-Number : goal.value_by-returns-in-Number
 value_by-returns-in-Number t c =
     let is = subst (IsCode c.args.unit.now c.args.n) (sym c.code-code.ensures ∙ c.in-Number.is) (c.requires.codes c.args.n c.requires.there) in
     let f : FitsSigned w64 c.in-Number.k = search rules in
-    number_coded c.args.unit.now c.args.world.now c.args.n c.in-Number.k (Some (found.Number (to_z w64 (of_z w64 c.in-Number.k)))) is (ap int (to_z-of_z w64 c.in-Number.k f))
+    number_coded c.args.unit.now c.args.world.now c.args.n c.args.noting c.args.notes.now.items c.in-Number.k (Some (found.Number (to_z w64 (of_z w64 c.in-Number.k)))) is (ap int (to_z-of_z w64 c.in-Number.k f))
 
 pub value_by-returns-in-Object : goal.value_by-returns-in-Object
 value_by-returns-in-Object t c =
     let is = subst (IsCode c.args.unit.now c.args.n) (sym c.code-code.ensures ∙ c.in-Object.is) (c.requires.codes c.args.n c.requires.there) in
-    object_coded c.args.unit.now c.args.world.now c.args.n c.in-Object.o c.in-Object.lasting c.object.result is c.object.ensures
+    object_coded c.args.unit.now c.args.world.now c.args.n c.args.noting c.args.notes.now.items c.in-Object.o c.in-Object.lasting c.object.result is c.object.ensures
 
 pub value_by-own_integer-requires-clause-code : goal.value_by-own_integer-requires-clause-code
 value_by-own_integer-requires-clause-code t c = subst (IsCode c.args.unit.now c.args.n) (sym c.code-code.ensures ∙ c.in-OwnInteger.is) (c.requires.codes c.args.n c.requires.there)
@@ -36,7 +36,7 @@ composed-value_by-requires t c =
 pub composed-returns-in-Same : goal.composed-returns-in-Same
 composed-returns-in-Same t c =
     let is = subst (IsCode c.args.unit.now c.args.n) c.in-Same.is c.requires.code in
-    same_coded c.args.unit.now c.args.world.now c.args.n c.in-Same.a c.value_by.result is c.value_by.ensures
+    same_coded c.args.unit.now c.args.world.now c.args.n c.args.noting c.args.notes.now.items c.value_by.new.notes.items c.in-Same.a c.value_by.result is c.value_by.ensures
 
 pub composed-value_by-requires-in-Part : goal.composed-value_by-requires-in-Part
 composed-value_by-requires-in-Part t c =
@@ -67,7 +67,7 @@ composed-read_integer-requires-clause-integer t c = (subst (IsCode c.args.unit.n
 pub composed-returns-in_ok-place-in-Integer : goal.composed-returns-in_ok-place-in-Integer
 composed-returns-in_ok-place-in-Integer t c =
     let is = subst (IsCode c.args.unit.now c.args.n) c.in-Integer.is c.requires.code in
-    read_coded c.args.unit.now c.args.world.now c.args.n c.in-Integer.a c.in-Integer.t c.in_ok-place-in-Integer.place c.read_integer.result is.0 c.in_ok-place-in-Integer.ensures c.read_integer.ensures
+    read_coded c.args.unit.now c.args.world.now c.args.n c.read_integer.new.notes.items c.in-Integer.a c.in-Integer.t c.in_ok-place-in-Integer.place c.read_integer.result is.0 c.in_ok-place-in-Integer.ensures c.read_integer.ensures
 
 pub composed-value_by-requires-in-Pointer : goal.composed-value_by-requires-in-Pointer
 composed-value_by-requires-in-Pointer t c =
@@ -87,7 +87,7 @@ composed-read_pointer-requires-clause-pointer t c = (subst (IsCode c.args.unit.n
 pub composed-returns-in_ok-place-in-Pointer : goal.composed-returns-in_ok-place-in-Pointer
 composed-returns-in_ok-place-in-Pointer t c =
     let is = subst (IsCode c.args.unit.now c.args.n) c.in-Pointer.is c.requires.code in
-    read_coded c.args.unit.now c.args.world.now c.args.n c.in-Pointer.a c.in-Pointer.t c.in_ok-place-in-Pointer.place c.read_pointer.result is.0 c.in_ok-place-in-Pointer.ensures c.read_pointer.ensures
+    read_coded c.args.unit.now c.args.world.now c.args.n c.read_pointer.new.notes.items c.in-Pointer.a c.in-Pointer.t c.in_ok-place-in-Pointer.place c.read_pointer.result is.0 c.in_ok-place-in-Pointer.ensures c.read_pointer.ensures
 
 pub composed-value_by-requires-in-Arithmetic : goal.composed-value_by-requires-in-Arithmetic
 composed-value_by-requires-in-Arithmetic t c =
@@ -153,7 +153,7 @@ pub composed-by_node-requires : goal.composed-by_node-requires
 composed-by_node-requires t c = (omega (arith, c.decreases), (c.requires.known, (c.requires.codes, c.requires.there)))
 
 pub by_node-returns-in_default : goal.by_node-returns-in_default
-by_node-returns-in_default t c = alone_some c.args.unit.now c.args.world.now c.args.n c.node-x.result c.node-x.ensures.form c.alone.result c.alone.ensures
+by_node-returns-in_default t c = alone_some c.args.unit.now c.args.world.now c.args.n c.node-x.result c.node-x.ensures.form c.args.noting c.args.notes.now.items c.alone.result c.alone.ensures
 
 pub by_node-returns-in_default-second_operand : goal.by_node-returns-in_default-second_operand
 by_node-returns-in_default-second_operand t c =

@@ -12,4 +12,4 @@ read_integer-requires-clause-integer c = c.requires.code.1
 
 pub returns : goal.returns
 returns c =
-    own_coded c.args.unit.now c.args.world.now c.args.n c.args.a c.args.t c.args.o c.args.lasting c.in_ok-place.place c.read_integer.result c.requires.code.0 c.requires.code.2 c.in_ok-place.ensures c.read_integer.ensures
+    own_coded c.args.unit.now c.args.world.now c.args.n c.args.noting c.args.notes.now.items c.read_integer.new.notes.items c.args.a c.args.t c.args.o c.args.lasting c.in_ok-place.place c.read_integer.result c.requires.code.0 c.requires.code.2 c.in_ok-place.ensures c.read_integer.ensures
