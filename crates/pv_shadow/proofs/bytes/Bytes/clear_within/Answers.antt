@@ -7,7 +7,7 @@ use Rattle.pv_shadow.proofs.bytes.Bytes.clear_within.Goals.{in-Some, in-None}
 use Rattle.pv_shadow.proofs.bytes.Bytes.clear_within.Goals as goal
 
 pub returns : goal.returns
-returns c = c.drop_bare.ensures ∙ elim c.match-get_mut.branch [
+returns c = c.leave.ensures ∙ elim c.match-get_mut.branch [
   | in-Some w ↦
       let there = subst (λ (o : Option (List (Option Byte))). IsSome o) w.in-Some.ensures.value refl in
       let gone : List (Option Byte) = replicate c.args.n None in
