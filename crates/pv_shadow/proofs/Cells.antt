@@ -459,6 +459,14 @@ module _ (xs : List Packed) (g : ℕ) (p : Prov) (mark : Option ℕ) (next : Pac
   pub celled : seen ys ≡ with_slots (seen xs) g eight
   celled = seen_is ys (with_slots (seen xs) g eight) (length_with (seen xs) g eight ∙ seen_length xs) celled_at
 
+-- the marks of a cell
+pub marks_seen : (xs : List Packed) (g : ℕ) → g % 8 ≡ 0 → g < 256 → 64 ≤ (get_or xs g absent).kind
+    → (k : ℕ) → k < 8 → IsSomeAnd (slot_at (seen xs) (g + k)) (λ (b : Byte). b.mark ≡ pair_if (((get_or xs g absent).kind - 64) % 2) (get_or xs g absent).mark k)
+marks_seen xs g f w c = λ k h.
+    let s : slot_at (seen xs) (g + k) ≡ Some (cell_byte (get_or xs g absent) (get_or xs (g + 1) absent).name k) =
+    seen_slot xs (g + k) (omega arith) ∙ cell_at xs g k f h c in
+    subst (λ o. IsSomeAnd o (λ (b : Byte). b.mark ≡ pair_if (((get_or xs g absent).kind - 64) % 2) (get_or xs g absent).mark k)) (sym s) refl
+
 -- what a cell is seen as
 pub cell_seen : (xs : List Packed) (g : ℕ) → g % 8 ≡ 0 → g < 256 → 64 ≤ (get_or xs g absent).kind → IsCell (seen xs) g (get_or xs (g + 1) absent).name (name_in (((get_or xs g absent).kind - 64) / 2) (get_or xs g absent).name)
 cell_seen xs g f w c = λ k h.

@@ -87,3 +87,37 @@ four_marked h (x ∷ y ∷ z ∷ w ∷ []) t l f =
     marked_four ((h.kind - 48) == 1) h.mark t
     ∙ (λ i. has_mark (a i).mark t 0 && (has_mark (b i).mark t 1 && (has_mark (c i).mark t 2 && (has_mark (d i).mark t 3 && true))))
 four_marked h (x ∷ y ∷ z ∷ w ∷ v ∷ bs) t l f = absurd (omega (arith, l))
+
+-- the marks of the eight bytes of one pointer are those of one store, or none of them is
+each_of_eight : (b : Bool) → (b && true) ≡ ((b && true) && ((b && true) && ((b && true) && ((b && true) && ((b && true) && ((b && true) && ((b && true) && ((b && true) && true))))))))
+each_of_eight true = refl
+each_of_eight false = refl
+
+marked_eight : (given : Bool) (m t : ℕ) → has_mark (cond given (Some (m, 0)) None) t 0
+    ≡ (has_mark (cond given (Some (m, 0)) None) t 0 && (has_mark (cond given (Some (m, 1)) None) t 1 && (has_mark (cond given (Some (m, 2)) None) t 2 && (has_mark (cond given (Some (m, 3)) None) t 3
+    && (has_mark (cond given (Some (m, 4)) None) t 4 && (has_mark (cond given (Some (m, 5)) None) t 5 && (has_mark (cond given (Some (m, 6)) None) t 6 && (has_mark (cond given (Some (m, 7)) None) t 7 && true))))))))
+marked_eight true m t = each_of_eight (m == t)
+marked_eight false m t = refl
+
+pub eight_marked : (h : Packed) (bs : List Byte) (t : ℕ) → length bs ≡ 8 → ((k : ℕ) → k < 8 → (get_or bs k blank).mark ≡ pair_if ((h.kind - 64) % 2) h.mark k) → has_mark (pair_if ((h.kind - 64) % 2) h.mark 0) t 0 ≡ are_marked bs t 0
+eight_marked h [] t l f = absurd (omega (arith, l))
+eight_marked h (a ∷ []) t l f = absurd (omega (arith, l))
+eight_marked h (a ∷ b ∷ []) t l f = absurd (omega (arith, l))
+eight_marked h (a ∷ b ∷ c ∷ []) t l f = absurd (omega (arith, l))
+eight_marked h (a ∷ b ∷ c ∷ d ∷ []) t l f = absurd (omega (arith, l))
+eight_marked h (a ∷ b ∷ c ∷ d ∷ v ∷ []) t l f = absurd (omega (arith, l))
+eight_marked h (a ∷ b ∷ c ∷ d ∷ v ∷ w ∷ []) t l f = absurd (omega (arith, l))
+eight_marked h (a ∷ b ∷ c ∷ d ∷ v ∷ w ∷ x ∷ []) t l f = absurd (omega (arith, l))
+eight_marked h (a ∷ b ∷ c ∷ d ∷ v ∷ w ∷ x ∷ y ∷ []) t l f =
+    let digit : ℕ = (h.kind - 64) % 2 in
+    let m0 : pair_if digit h.mark 0 ≡ a.mark = sym (f 0 (omega arith)) in
+    let m1 : pair_if digit h.mark 1 ≡ b.mark = sym (f 1 (omega arith)) in
+    let m2 : pair_if digit h.mark 2 ≡ c.mark = sym (f 2 (omega arith)) in
+    let m3 : pair_if digit h.mark 3 ≡ d.mark = sym (f 3 (omega arith)) in
+    let m4 : pair_if digit h.mark 4 ≡ v.mark = sym (f 4 (omega arith)) in
+    let m5 : pair_if digit h.mark 5 ≡ w.mark = sym (f 5 (omega arith)) in
+    let m6 : pair_if digit h.mark 6 ≡ x.mark = sym (f 6 (omega arith)) in
+    let m7 : pair_if digit h.mark 7 ≡ y.mark = sym (f 7 (omega arith)) in
+    marked_eight (digit == 1) h.mark t
+    ∙ (λ i. has_mark (m0 i) t 0 && (has_mark (m1 i) t 1 && (has_mark (m2 i) t 2 && (has_mark (m3 i) t 3 && (has_mark (m4 i) t 4 && (has_mark (m5 i) t 5 && (has_mark (m6 i) t 6 && (has_mark (m7 i) t 7 && true))))))))
+eight_marked h (a ∷ b ∷ c ∷ d ∷ v ∷ w ∷ x ∷ y ∷ z ∷ bs) t l f = absurd (omega (arith, l))
