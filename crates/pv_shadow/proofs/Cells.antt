@@ -7,7 +7,7 @@ use Rattle.pv_prov.specs.declared.names.Prov.{Prov}
 use Rattle.pv_prov.specs.declared.names.Prov.TheVariants.{Empty, Inst, Pair}
 use Rattle.pv_shadow.specs.declared.byte.Byte.{Byte}
 use Rattle.pv_shadow.specs.declared.packed.Packed.{Packed}
-use Rattle.pv_shadow.specs.Packed.{unpacked, number_if, pair_if, absent, digit_at, name_in, head_of, number_head, cell_byte, number_byte, cell_or, number_or, first_of, four_of, loose_at, seen_at, seen_from, seen, IsParted, IsLoosened, IsByteOf, IsCell, IsNameless, IsNumber}
+use Rattle.pv_shadow.specs.Packed.{unpacked, number_if, pair_if, absent, digit_at, name_in, head_of, eight_head, number_head, cell_byte, number_byte, cell_or, number_or, first_of, four_of, loose_at, seen_at, seen_from, seen, IsParted, IsLoosened, IsByteOf, IsCell, IsNameless, IsNumber}
 use Rattle.pv_shadow.specs.Pages.{slot_at, with_slots}
 use Rattle.pv_shadow.specs.Whole.{little_endian, mark_at, plain, pointed}
 use Rattle.pv_shadow.proofs.Ranges.{IsOutside, place_of}
@@ -421,43 +421,58 @@ cell_is (Pair i) (Some t) a k = refl
 head_high : (p : Prov) (mark : Option ℕ) → 64 ≤ (head_of p mark).kind
 head_high p mark = omega arith
 
--- a cell is put
-module _ (xs : List Packed) (g : ℕ) (p : Prov) (mark : Option ℕ) (next : Packed) (wide : length xs ≡ 256) (first : g % 8 ≡ 0) (within : g < 256) where
+eight_is : (mark : Option ℕ) (a k : ℕ) → cell_byte (eight_head mark) a k ≡ record { value = Some (digit_at a k); prov = Empty; index = None; mark = mark_at mark k }
+eight_is None a k = refl
+eight_is (Some t) a k = refl
+
+eight_high : (mark : Option ℕ) → 64 ≤ (eight_head mark).kind
+eight_high mark = omega arith
+
+-- a cell is put: a head, and what stands behind it
+module _ (xs : List Packed) (g : ℕ) (head next : Packed) (os : List (Option Byte)) (wide : length xs ≡ 256) (first : g % 8 ≡ 0) (within : g < 256) (high : 64 ≤ head.kind)
+    (long : length os ≡ 8) (bytes : (k : ℕ) → k < 8 → Some (cell_byte head next.name k) ≡ slot_at os k) where
   abbrev ys : List Packed
-  ys = set (set xs g (head_of p mark)) (g + 1) next
+  ys = set (set xs g head) (g + 1) next
 
-  abbrev eight : List (Option Byte)
-  eight = map Some (pointed mark p 0 (little_endian 8 next.name))
-
-  head_there : get_or ys g absent ≡ head_of p mark
-  head_there = get_or-set_other (set xs g (head_of p mark)) (g + 1) g next absent (λ e. omega arith) ∙ get_or-set_same xs g (head_of p mark) absent (omega arith)
+  head_there : get_or ys g absent ≡ head
+  head_there = get_or-set_other (set xs g head) (g + 1) g next absent (λ e. omega arith) ∙ get_or-set_same xs g head absent (omega arith)
 
   next_there : get_or ys (g + 1) absent ≡ next
-  next_there = get_or-set_same (set xs g (head_of p mark)) (g + 1) next absent (omega (arith, length-set xs g (head_of p mark)))
+  next_there = get_or-set_same (set xs g head) (g + 1) next absent (omega (arith, length-set xs g head))
 
   elsewhere : (q : ℕ) → q ≢ g → q ≢ g + 1 → get_or ys q absent ≡ get_or xs q absent
-  elsewhere q n m = get_or-set_other (set xs g (head_of p mark)) (g + 1) q next absent m ∙ get_or-set_other xs g q (head_of p mark) absent n
+  elsewhere q n m = get_or-set_other (set xs g head) (g + 1) q next absent m ∙ get_or-set_other xs g q head absent n
 
-  celled_at : (q : ℕ) → q < 256 → seen_at ys q ≡ slot_at (with_slots (seen xs) g eight) q
+  celled_at : (q : ℕ) → q < 256 → seen_at ys q ≡ slot_at (with_slots (seen xs) g os) q
   celled_at q h = ⊎_elim
       (λ e.
       let k : q ≡ g + q % 8 = omega arith in
       let m : q % 8 < 8 = omega arith in
-      let hd : get_or ys (first_of q) absent ≡ head_of p mark = ap (λ j. get_or ys j absent) e ∙ head_there in
-      at_cell ys q (subst (λ (y : Packed). 64 ≤ y.kind) (sym hd) (head_high p mark))
+      let hd : get_or ys (first_of q) absent ≡ head = ap (λ j. get_or ys j absent) e ∙ head_there in
+      at_cell ys q (subst (λ (y : Packed). 64 ≤ y.kind) (sym hd) high)
       ∙ ap (λ y. Some (cell_byte y (get_or ys (first_of q + 1) absent).name (q % 8))) hd
-      ∙ ap (λ j. Some (cell_byte (head_of p mark) (get_or ys (j + 1) absent).name (q % 8))) e
-      ∙ ap (λ y. Some (cell_byte (head_of p mark) y.name (q % 8))) next_there
-      ∙ ap Some (cell_is p mark next.name (q % 8))
-      ∙ sym (pointed_first mark p 8 next.name (q % 8) m)
-      ∙ sym (ap (slot_at (with_slots (seen xs) g eight)) k ∙ with_slots_in (seen xs) g eight (q % 8) (omega (arith, seen_length xs)) (omega arith)))
+      ∙ ap (λ j. Some (cell_byte head (get_or ys (j + 1) absent).name (q % 8))) e
+      ∙ ap (λ y. Some (cell_byte head y.name (q % 8))) next_there
+      ∙ bytes (q % 8) m
+      ∙ sym (ap (slot_at (with_slots (seen xs) g os)) k ∙ with_slots_in (seen xs) g os (q % 8) (omega (arith, seen_length xs, long, first, within)) (omega (arith, long, m))))
       (λ d. three xs ys q (elsewhere (first_of q) d (λ e. omega arith)) (elsewhere (first_of q + 1) (λ e. omega arith) (λ e. d (omega arith)))
       (two xs ys q (elsewhere (four_of q) (λ e. d (omega arith)) (λ e. omega arith)) (elsewhere q (λ e. d (omega arith)) (λ e. d (omega arith))))
-      ∙ sym (with_slots_out (seen xs) g eight q (⊎_elim (λ l. inl (omega arith)) (λ r. inr (omega arith)) (cases_lt (first_of q) g)) ∙ seen_slot xs q h))
+      ∙ sym (with_slots_out (seen xs) g os q (subst (λ m. IsOutside g m q) (sym long) (⊎_elim (λ l. inl (omega arith)) (λ r. inr (omega arith)) (cases_lt (first_of q) g))) ∙ seen_slot xs q h))
       (same_or_not (first_of q) g)
 
-  pub celled : seen ys ≡ with_slots (seen xs) g eight
-  celled = seen_is ys (with_slots (seen xs) g eight) (length_with (seen xs) g eight ∙ seen_length xs) celled_at
+  cell_put : seen ys ≡ with_slots (seen xs) g os
+  cell_put = seen_is ys (with_slots (seen xs) g os) (length_with (seen xs) g os ∙ seen_length xs) celled_at
+
+-- of a pointer, and of a number
+pub celled : (xs : List Packed) (g : ℕ) (p : Prov) (mark : Option ℕ) (next : Packed) → length xs ≡ 256 → g % 8 ≡ 0 → g < 256
+    → seen (set (set xs g (head_of p mark)) (g + 1) next) ≡ with_slots (seen xs) g (map Some (pointed mark p 0 (little_endian 8 next.name)))
+celled xs g p mark next wide first within = cell_put xs g (head_of p mark) next (map Some (pointed mark p 0 (little_endian 8 next.name))) wide first within (head_high p mark) refl
+    (λ k h. ap Some (cell_is p mark next.name k) ∙ sym (pointed_first mark p 8 next.name k h))
+
+pub eighted : (xs : List Packed) (g : ℕ) (mark : Option ℕ) (next : Packed) → length xs ≡ 256 → g % 8 ≡ 0 → g < 256
+    → seen (set (set xs g (eight_head mark)) (g + 1) next) ≡ with_slots (seen xs) g (map Some (plain mark 0 (little_endian 8 next.name)))
+eighted xs g mark next wide first within = cell_put xs g (eight_head mark) next (map Some (plain mark 0 (little_endian 8 next.name))) wide first within (eight_high mark) refl
+    (λ k h. ap Some (eight_is mark next.name k) ∙ sym (plain_first mark 8 next.name k h))
 
 -- the marks of a cell
 pub marks_seen : (xs : List Packed) (g : ℕ) → g % 8 ≡ 0 → g < 256 → 64 ≤ (get_or xs g absent).kind
@@ -468,8 +483,16 @@ marks_seen xs g f w c = λ k h.
     subst (λ o. IsSomeAnd o (λ (b : Byte). b.mark ≡ pair_if (((get_or xs g absent).kind - 64) % 2) (get_or xs g absent).mark k)) (sym s) refl
 
 -- what a cell is seen as
-pub cell_seen : (xs : List Packed) (g : ℕ) → g % 8 ≡ 0 → g < 256 → 64 ≤ (get_or xs g absent).kind → IsCell (seen xs) g (get_or xs (g + 1) absent).name (name_in (((get_or xs g absent).kind - 64) / 2) (get_or xs g absent).name)
-cell_seen xs g f w c = λ k h.
+pub cell_seen : (xs : List Packed) (g : ℕ) → g % 8 ≡ 0 → g < 256 → 64 ≤ (get_or xs g absent).kind → (get_or xs g absent).index ≡ 1 → IsCell (seen xs) g (get_or xs (g + 1) absent).name (name_in (((get_or xs g absent).kind - 64) / 2) (get_or xs g absent).name)
+cell_seen xs g f w c e = λ k h.
     let s : slot_at (seen xs) (g + k) ≡ Some (cell_byte (get_or xs g absent) (get_or xs (g + 1) absent).name k) =
     seen_slot xs (g + k) (omega arith) ∙ cell_at xs g k f h c in
-    subst (λ o. IsSomeAnd o (IsByteOf (get_or xs (g + 1) absent).name (name_in (((get_or xs g absent).kind - 64) / 2) (get_or xs g absent).name) k)) (sym s) (refl, refl, refl)
+    subst (λ o. IsSomeAnd o (IsByteOf (get_or xs (g + 1) absent).name (name_in (((get_or xs g absent).kind - 64) / 2) (get_or xs g absent).name) k)) (sym s) (refl, refl, ap (λ d. number_if d k) e)
+
+-- the number that a cell without a name is seen as
+pub eight_seen : (xs : List Packed) (g : ℕ) → g % 8 ≡ 0 → g < 256 → 64 ≤ (get_or xs g absent).kind → (get_or xs g absent).kind ≤ 65 → IsNumber (seen xs) g 8 (get_or xs (g + 1) absent).name
+eight_seen xs g f w c l = λ k h.
+    let s : slot_at (seen xs) (g + k) ≡ Some (cell_byte (get_or xs g absent) (get_or xs (g + 1) absent).name k) =
+    seen_slot xs (g + k) (omega arith) ∙ cell_at xs g k f h c in
+    let nameless : ((get_or xs g absent).kind - 64) / 2 ≡ 0 = omega (arith, c, l) in
+    subst (λ o. IsSomeAnd o (IsNameless (digit_at (get_or xs (g + 1) absent).name k))) (sym s) (refl, ap (λ d. name_in d (get_or xs g absent).name) nameless)

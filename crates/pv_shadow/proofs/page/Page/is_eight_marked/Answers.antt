@@ -8,5 +8,5 @@ pub returns-in-Some : goal.returns-in-Some
 returns-in-Some c = λ bs l f.
     let n = c.are_eight.ensures.eight c.if-not-are_eight.false in
     let h = c.in-Some.head in
-    c.pointer_is_marked.ensures
+    c.eight_is_marked.ensures
     ∙ eight_marked h bs c.args.t (l ∙ n) (λ k lt. subst (λ (o : Option Byte). IsSomeAnd o (λ (b : Byte). b.mark ≡ pair_if ((h.kind - 64) % 2) h.mark k)) (f k (subst (λ m. k < m) (sym n) lt)) (c.in-Some.ensures.marks k lt))
