@@ -11,6 +11,7 @@ mod codes;
 mod compound;
 mod constants;
 mod converting;
+mod dividing;
 mod failure;
 mod first_values;
 mod frames;

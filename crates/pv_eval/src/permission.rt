@@ -16,6 +16,7 @@ ghost use Rattle.pv_eval.specs.TypeForms.{lvalue};
 ghost use Rattle.pv_eval.specs.Sizes.{setting_of, size_in, is_bare_scalar, IsComplete};
 ghost use Rattle.pv_eval.specs.Permission.{marks_of, permits_object, type_by, permits_in, permits};
 
+use crate::dividing::{is_multiple, quotient};
 use crate::types::{Complete, bytes_of, is_character, layer, measured_by_layers};
 use pv_effect::{permits_declared, permits_marks};
 use pv_inst::Kind;
@@ -102,7 +103,10 @@ fn is_element(unit: &TypedUnit, object: Option<u32>, offset: u64, want: TypeId) 
         return false;
     }
     let size = bytes_of(kind);
-    if offset % size != 0 || offset / size >= n {
+    if !is_multiple(offset, size) {
+        return false;
+    }
+    if quotient(offset, size) >= n {
         return false;
     }
     true

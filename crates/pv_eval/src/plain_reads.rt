@@ -19,6 +19,7 @@ ghost use Rattle.pv_eval.specs.Sizes.{IsComplete};
 ghost use Rattle.pv_eval.specs.Suiting.{knows};
 ghost use Rattle.pv_eval.specs.Plainly.{ReadsFrom, HasReached, IsLooked, IsPlainNumber, HasKind, alone_tried, found_worth, pointer_at};
 
+use crate::dividing::is_multiple;
 use crate::permission::permits_in;
 use crate::plain::{Found, Spot};
 use crate::plain_numbers::integer;
@@ -102,7 +103,7 @@ pub(crate) fn reached(world: &World, p: Spot, n: u64, align: u64, write: bool) -
     if n > x.size - offset {
         return None;
     }
-    if p.address % align != 0 {
+    if !is_multiple(p.address, align) {
         return None;
     }
     if is_function(x.kind) {
