@@ -36,3 +36,4 @@ pub mod PlainComparisons
 pub mod PlainStores
 pub mod PlainUpdates
 pub mod Wholes
+pub mod Handed

@@ -14,6 +14,7 @@ use Rattle.pv_eval.specs.Operations.{Tests, act}
 use Rattle.pv_eval.specs.Steps.{Calling}
 use Rattle.pv_eval.specs.Evaluation.{ev}
 use Rattle.pv_eval.specs.Moments.{Moment, Always, state_of}
+use Rattle.pv_eval.specs.Pieces.{handed_at}
 use Rattle.pv_eval.specs.Ahead.{ahead}
 use Rattle.pv_eval.specs.Machines.{Machine, Started, left_of, value_at, ended}
 use Rattle.pv_eval.specs.Plainly.{GivesValue}
@@ -86,3 +87,9 @@ pub record TestedNext (u : Stored) (n : NodeId) (t : Bool) (old new : Moment) : 
   pub worth : Worth
   pub has : EvaluatedNext u n worth old new
   pub tests : (b : Setting) (line : ℕ) (out : List ℕ) (es : List Marked) → act b line (Tests worth) (state_of new out es) ≡ Gives (truth_int t) (state_of new out es)
+
+-- 6.8.6.4p3: the expression of a `return` has a value, behind the statement's turn, that is converted as if by assignment, and handed on so
+pub record HandedNext (u : Stored) (n : NodeId) (v : Worth) (old new : Moment) : Type 0 where
+  pub worth : Worth
+  pub has : EvaluatedNext u n worth old new
+  pub hands : (b : Setting) (line : ℕ) (out : List ℕ) (es : List Marked) → handed_at b line (expression_at u n) worth (state_of new out es) ≡ Gives v (state_of new out es)

@@ -20,7 +20,7 @@ ghost use Rattle.pv_eval.specs.MachineSteps.{IsBegun, IsTaken, IsAnswered, IsOpe
 ghost use Rattle.pv_eval.specs.Pieces.{handed_at, needed_of};
 ghost use Rattle.pv_eval.specs.Progress.{StepsMachine, MadeAnywhere};
 ghost use Rattle.pv_eval.specs.Codes.{AreCodes};
-ghost use Rattle.pv_eval.specs.AtOnce.{EvaluatedFirst, ContinuesFirst, CutFirst, EvaluatedNext, CutNext, TestedNext};
+ghost use Rattle.pv_eval.specs.AtOnce.{EvaluatedFirst, ContinuesFirst, CutFirst, EvaluatedNext, CutNext, TestedNext, HandedNext};
 
 use crate::converting::{hand_on, need};
 use crate::failure::Failure;
@@ -269,6 +269,31 @@ impl Machine {
         ensures stays { KeepsSetting self.old.moment self.new.moment }
     {
         self.moment.decide_next(unit, plan, n, bound)
+    }
+
+    /// A statement's turn, and the expression of a `return` at once, which is not started: its value, converted as if by assignment
+    /// (C17 6.8.6.4p3). As `whole_next`, and where the expression has no side effect. `None` where that is not so: then nothing has
+    /// changed.
+    pub fn hand_next(
+        &mut self,
+        unit: &TypedUnit,
+        plan: &Plan,
+        n: NodeId,
+        bound: u64,
+    ) -> Option<Kept>
+        requires codes { AreCodes unit.now plan.now }
+        requires runnable { IsRunnable unit.now }
+        requires there { IsExpression unit.now n }
+        requires room { self.old.moment.taken < bound }
+        ensures some { IfSome result (λ v. HandedNext unit.now n (worth_of v) self.old.moment self.new.moment) }
+        ensures cut { IfSome result (λ v. CutNext unit.now n self.old.moment self.new.moment) }
+        ensures more { IfSome result (λ v. self.old.moment.taken + 1 ≤ self.new.moment.taken) }
+        ensures within { IfSome result (λ v. self.new.moment.taken ≤ bound) }
+        ensures none { IfNone result (self.new ≡ self.old) }
+        ensures started { self.new.started ≡ self.old.started }
+        ensures stays { KeepsSetting self.old.moment self.new.moment }
+    {
+        self.moment.hand_next(unit, plan, n, bound)
     }
 
     /// The value of the innermost expression, which has ended.

@@ -8,15 +8,17 @@ ghost use Rattle.pv_world.specs.Coming.{worth_of};
 ghost use Rattle.pv_eval.specs.Runnable.{IsRunnable};
 ghost use Rattle.pv_eval.specs.Plainly.{Performs, whole_turns, found_worth};
 ghost use Rattle.pv_eval.specs.Codes.{AreCodes};
-ghost use Rattle.pv_eval.specs.AtOnce.{Evaluated, Cut, EvaluatedNext, CutNext, TestedNext, EvaluatedAmong, CutAmong};
+ghost use Rattle.pv_eval.specs.AtOnce.{Evaluated, Cut, EvaluatedNext, CutNext, TestedNext, HandedNext, EvaluatedAmong, CutAmong};
 
 use crate::moment::Moment;
 use crate::plain::Found;
 use crate::plain_coded::{value, value_by};
 use crate::plain_comparisons::is_true;
+use crate::plain_conversions::converted_value;
 use crate::plain_stores::{assign, got};
 use crate::plain_updates::{compound_assign, increment, pointer_assign};
 use crate::plan::Plan;
+use crate::values::Kept;
 use pv_seq::Access;
 use pv_tree::NodeId;
 use pv_typed::{Typed, TypedUnit};
@@ -93,6 +95,16 @@ fn perform(
         Typed::Increment(o, a) => increment(alloc, unit, plan, world, n, o, a),
         _ => value(alloc, unit, plan, world, n),
     }
+}
+
+/// The value that was found, behind a pointer, if there is memory for it.
+fn kept_value(alloc: Global, v: Found) -> Option<Kept>
+    ensures { IfSome result (λ k. worth_of k ≡ found_worth v) }
+{
+    let Ok(kept) = Kept::new(alloc, got(v)) else {
+        return None;
+    };
+    Some(kept)
 }
 
 impl Moment {
@@ -191,6 +203,39 @@ impl Moment {
         self.taken += 1;
         self.taken += turns;
         Some(t)
+    }
+
+    /// Takes a statement's turn, and evaluates the expression of a `return` at once, converted as if by assignment (C17 6.8.6.4p3),
+    /// where that is plain, nothing stops it, and its turns are within the bound. `None` where that is not so: then no turn was
+    /// taken, and nothing has changed.
+    pub(crate) fn hand_next(
+        &mut self,
+        unit: &TypedUnit,
+        plan: &Plan,
+        n: NodeId,
+        bound: u64,
+    ) -> Option<Kept>
+        requires codes { AreCodes unit.now plan.now }
+        requires runnable { IsRunnable unit.now }
+        requires there { IsExpression unit.now n }
+        requires room { self.old.taken < bound }
+        ensures some { IfSome result (λ v. HandedNext unit.now n (worth_of v) self.old self.new) }
+        ensures cut { IfSome result (λ v. CutNext unit.now n self.old self.new) }
+        ensures more { IfSome result (λ v. self.old.taken + 1 ≤ self.new.taken) }
+        ensures within { IfSome result (λ v. self.new.taken ≤ bound) }
+        ensures none { IfNone result (self.new ≡ self.old) }
+        ensures kept { self.new ≡ record self.old { taken = self.new.taken } }
+    {
+        let turns = plain_turns(unit, n)?;
+        if turns >= bound - self.taken {
+            return None;
+        }
+        let v = value(self.alloc, unit, plan, &self.world, n)?;
+        let z = converted_value(unit, n, v)?;
+        let kept = kept_value(self.alloc, z)?;
+        self.taken += 1;
+        self.taken += turns;
+        Some(kept)
     }
 
     /// What an operand gives against nodes that only read, and how many turns it takes, where it is plain, nothing stops it, and its
