@@ -37,6 +37,7 @@ pub mod Stages
 pub mod Streaming
 pub mod MainPieces
 pub mod Reaching
+pub mod Handing
 pub mod Cutting
 pub mod Memory
 pub mod Settling

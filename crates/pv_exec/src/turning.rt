@@ -9,7 +9,7 @@ ghost use Rattle.pv_exec.specs.Fits.{Runs, DoingFits, AfterRuns};
 ghost use Rattle.pv_exec.specs.Turning.{SettledLed, advanced_by, AdvancedLed, CutBefore, ComesAtOnce, DueAfter, AdvancedRuns, AdvancedPace};
 
 use crate::once::{After, once};
-use crate::parts::choice_parts;
+use crate::parts::{choice_parts, return_value};
 use crate::task::{Doing, Flow, Task};
 use crate::values::side;
 use pv_eval::{Failure, Machine, Plan};
@@ -189,7 +189,30 @@ fn choose_at_once(
     }
 }
 
-// The whole of an expression statement, or the condition of an `if`, at once.
+// The value of a `return` at once (C17 6.8.6.4p3), with the statement's turn.
+fn return_at_once(
+    unit: &TypedUnit,
+    plan: &Plan,
+    n: NodeId,
+    bound: u64,
+    machine: &mut Machine,
+) -> Option<Doing>
+    requires codes { AreCodes unit.now plan.now }
+    requires runnable { IsRunnable unit.now }
+    requires there { IsStatement unit.now n }
+    requires room { machine.old.moment.taken < bound }
+    requires fit { Fit unit.now machine.old.started }
+    ensures some { IfSome result (λ e. ComesAtOnce unit.now bound (Doing.Enter n) e machine.old machine.new) }
+    ensures none { IfNone result (machine.new ≡ machine.old) }
+    ensures fit { Fit unit.now machine.new.started }
+    ensures setting { KeepsSetting machine.old.moment machine.new.moment }
+{
+    let x = return_value(unit, n)?;
+    let v = machine.hand_next(unit, plan, x, bound)?;
+    Some(Doing::Left(Flow::Returns(v)))
+}
+
+// The whole of an expression statement, the condition of an `if`, or the value of a `return`, at once.
 fn statement_at_once(
     unit: &TypedUnit,
     plan: &Plan,
@@ -212,6 +235,7 @@ fn statement_at_once(
         TypedStmt::If(_, _) | TypedStmt::IfElse(_, _, _) => choose_at_once(
             unit, plan, n, bound, machine,
         ),
+        TypedStmt::Return(_) => return_at_once(unit, plan, n, bound, machine),
         _ => None,
     }
 }
@@ -270,7 +294,7 @@ fn turn(
 }
 
 /// The turn that is due, unless the bound is met, and the operations that come before the next one; or all the turns at once of
-/// an expression that is due, of an expression statement or of the condition of an `if`, where nothing stops it.
+/// an expression that is due, of an expression statement, of the condition of an `if` or of a `return`, where nothing stops it.
 pub fn advance(
     unit: &TypedUnit,
     plan: &Plan,
