@@ -7,7 +7,8 @@ use Rattle.std.proofs.lemmas.Option.{same_Some, none-some}
 use Rattle.pv_num.specs.Kinds.{width}
 use Rattle.pv_num.specs.declared.kinds.IntKind.{IntKind}
 use Rattle.pv_num.specs.declared.kinds.IntKind.TheVariants as kind
-use Rattle.pv_types.specs.Ty.{Ty, IntTy, PointerTo, ArrayOf}
+use Rattle.pv_types.specs.Ty.{Ty, VoidTy, IntTy, PointerTo, ArrayOf, StructTag, UnionTag, FunctionTy, ConstOf}
+use Rattle.pv_types.specs.declared.terms.TypeId.{TypeId}
 use Rattle.pv_types.specs.Compatible.{are_compatible}
 use Rattle.pv_types.proofs.Compared.{alike_self}
 use Rattle.pv_types.specs.Known.{Known, tree, env}
@@ -19,18 +20,20 @@ use Rattle.pv_effect.specs.EffectiveType.{is_character}
 use Rattle.pv_inst.specs.declared.values.Instance.{Instance}
 use Rattle.pv_inst.specs.declared.values.Info.{Info}
 use Rattle.pv_inst.specs.declared.values.Kind.{Kind}
+use Rattle.pv_inst.specs.declared.values.Kind.TheVariants.{Declared, Literal, Heap, Function}
 use Rattle.pv_inst.specs.Table.{instance_at}
 use Rattle.pv_inst.specs.Infos.{info_of}
 use Rattle.pv_object.specs.declared.values.Reach.{Reach}
 use Rattle.pv_world.specs.Worlds.{World}
+use Rattle.pv_world.specs.Objects.{owner_of}
 use Rattle.pv_typed.specs.Tables.{Stored, whole}
 use Rattle.pv_typed.specs.TypedUnits.{object_at}
 use Rattle.pv_eval.specs.States.{Setting}
-use Rattle.pv_eval.specs.Sizes.{setting_of, size_in}
+use Rattle.pv_eval.specs.Sizes.{setting_of, size_in, is_bare_scalar}
 use Rattle.pv_eval.specs.Objects.{has_extent}
-use Rattle.pv_eval.specs.TypeForms.{Lvalue}
+use Rattle.pv_eval.specs.TypeForms.{Lvalue, lvalue}
 use Rattle.pv_eval.specs.Permission.{type_by, permits_object, permits_in, permits_row, permits}
-use Rattle.pv_eval.specs.Plainly.{HasKind}
+use Rattle.pv_eval.specs.Plainly.{HasKind, IsObject, IsOwnType, is_declared}
 
 abbrev told : Instance → Info
 told x = record { name = x.name; k = x.k; base = x.base; size = x.size; kind = x.kind; exposed = x.exposed }
@@ -172,3 +175,28 @@ row_in b w l at writes (Some x) k e = ap (permits_in b w l at writes) (kind_of_l
 
 pub permits_kind : (b : Setting) (w : World) (l : Lvalue) (at : Reach) (writes : Bool) (k : Kind) → HasKind w.memory.table at k → permits b w l at writes ≡ permits_in b w l at writes k
 permits_kind b w l at writes k e = row_in b w l at writes (instance_at w.memory.table.instances at.inst) k e
+
+-- an object of an integer or pointer type without qualifiers, that is accessed as a whole, at that type
+own_scalar : (u : Stored) (o offset w : ℕ) (t : Ty) → t ≡ tree u.known w → is_bare_scalar t ≡ true → offset ≡ 0 → (object_at (whole u) o).t ≡ tree u.known w
+    → permits_object (setting_of u) (type_by (setting_of u) (Some o)) offset (bare (tree u.known w)) ≡ true
+own_scalar u o offset w (IntTy k) e h zero same =
+    subst (λ (q : Ty). permits_object (setting_of u) (type_by (setting_of u) (Some o)) offset q ≡ true) (sym (integer_bare u.known w k (sym e))) (whole_integer u o offset w k zero same (sym e))
+own_scalar u o offset w (PointerTo t) e h zero same =
+    subst (λ (q : Ty). permits_object (setting_of u) (type_by (setting_of u) (Some o)) offset q ≡ true) (sym (pointer_bare u.known w t (sym e))) (whole_pointer u o offset w t zero same (sym e))
+own_scalar u o offset w VoidTy e h zero same = absurd cc
+own_scalar u o offset w (ArrayOf t n) e h zero same = absurd cc
+own_scalar u o offset w (StructTag n) e h zero same = absurd cc
+own_scalar u o offset w (UnionTag n) e h zero same = absurd cc
+own_scalar u o offset w (FunctionTy t ts v) e h zero same = absurd cc
+own_scalar u o offset w (ConstOf t) e h zero same = absurd cc
+
+own_in : (u : Stored) (w : World) (o t : ℕ) (at : Reach) (writes : Bool) (k : Kind) → is_declared k ≡ true → owner_of w at.inst ≡ Some o → at.offset ≡ 0 → (object_at (whole u) o).t ≡ tree u.known t → is_bare_scalar (tree u.known t) ≡ true
+    → permits_in (setting_of u) w (lvalue (setting_of u) (tree u.known t)) at writes k ≡ true
+own_in u w o t at writes (Declared constant) d owner zero same scalar =
+    ap (λ (q : Option ℕ). permits_object (setting_of u) (type_by (setting_of u) q) at.offset (bare (tree u.known t))) owner ∙ own_scalar u o at.offset t (tree u.known t) refl scalar zero same
+own_in u w o t at writes Literal d owner zero same scalar = absurd cc
+own_in u w o t at writes Heap d owner zero same scalar = absurd cc
+own_in u w o t at writes Function d owner zero same scalar = absurd cc
+
+pub own_permitted : (u : Stored) (w : World) (o : ℕ) (t : TypeId) (at : Reach) (writes : Bool) (k : Kind) → IsOwnType u o t → IsObject w o at k → permits_in (setting_of u) w (lvalue (setting_of u) (tree u.known t.0)) at writes k ≡ true
+own_permitted u w o t at writes k own there = own_in u w o t.0 at writes k there.declared there.owner there.offset own.same own.scalar

@@ -26,7 +26,7 @@ use Rattle.pv_eval.specs.Suiting.{is_small}
 use Rattle.pv_eval.specs.declared.plain.Found.{Found}
 use Rattle.pv_eval.specs.Operations.{Calculates, Selects}
 use Rattle.pv_eval.specs.Ahead.{first_operand_of}
-use Rattle.pv_eval.specs.Plainly.{AlwaysGives, GivesAt, GivesWith, IsConverted, form_by, found_worth}
+use Rattle.pv_eval.specs.Plainly.{AlwaysGives, GivesAt, GivesWith, IsConverted, IsOwnType, form_by, found_worth}
 
 -- 6.3.1.3: a conversion between integer types, to this kind
 pub record IsRounded (from to : Ty) (k : IntKind) : Type 0 where
@@ -110,8 +110,8 @@ IsCode u n (code.Object o lasting) = IsObjectOf u n o lasting
 IsCode u n (code.Same a) = IsSameAs u n a
 IsCode u n (code.Part a offset) = IsPartOf u n a offset
 IsCode u n (code.Integer a t k) = IsReadOf u n a t × (tree u.known t.0 ≡ IntTy k)
-IsCode u n (code.OwnInteger a t k o lasting) = IsReadOf u n a t × (tree u.known t.0 ≡ IntTy k) × IsObjectOf u a o lasting
-IsCode u n (code.OwnPointer a t o lasting) = IsReadOf u n a t × (points (tree u.known t.0) ≡ true) × IsObjectOf u a o lasting
+IsCode u n (code.OwnInteger a t k o lasting) = IsReadOf u n a t × (tree u.known t.0 ≡ IntTy k) × IsOwnType u o t × IsObjectOf u a o lasting
+IsCode u n (code.OwnPointer a t o lasting) = IsReadOf u n a t × (points (tree u.known t.0) ≡ true) × IsOwnType u o t × IsObjectOf u a o lasting
 IsCode u n (code.Pointer a t) = IsReadOf u n a t × (points (tree u.known t.0) ≡ true)
 IsCode u n (code.Arithmetic op k left right) = IsArithmetic u n op k left right
 IsCode u n (code.Element a d size) = IsElementOf u n a d size

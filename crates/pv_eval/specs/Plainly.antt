@@ -3,10 +3,13 @@
 use Rattle.std.specs.Prelude.{◌≡◌, ℕ, ℤ, ◌+◌, ◌<◌, ◌≤◌, Bool, true, false, List, [], ◌∷◌, ◌++◌, Option, Some, None, Ok}
 use Rattle.pv_tree.specs.declared.nodes.NodeId.{NodeId}
 use Rattle.pv_types.specs.Ty.{Ty}
+use Rattle.pv_types.specs.declared.terms.TypeId.{TypeId}
+use Rattle.pv_types.specs.Known.{tree}
 use Rattle.pv_prov.specs.declared.names.Prov.TheVariants.{Inst}
 use Rattle.pv_typed.specs.declared.nodes.Typed.{Typed}
 use Rattle.pv_typed.specs.declared.nodes.IncrementOperator.{IncrementOperator}
 use Rattle.pv_typed.specs.TypedTree.{TypedTree, Node, Form, Assign, CompoundAssign, PointerAssign, Increment}
+use Rattle.pv_typed.specs.TypedUnits.{object_at}
 use Rattle.pv_typed.specs.Nodes.{form_in}
 use Rattle.pv_typed.specs.Tables.{Stored, whole, nodes}
 use Rattle.pv_typed.specs.NodeTrees.{expression_at}
@@ -18,6 +21,7 @@ use Rattle.pv_inst.specs.declared.values.Tried.{Tried}
 use Rattle.std.specs.Option.{option_map}
 use Rattle.pv_inst.specs.declared.values.Info.{Info}
 use Rattle.pv_inst.specs.declared.values.Kind.{Kind}
+use Rattle.pv_inst.specs.declared.values.Kind.TheVariants.{Declared, Literal, Heap, Function}
 use Rattle.pv_inst.specs.Table.{Table, instance_at}
 use Rattle.pv_inst.specs.Infos.{info_of}
 use Rattle.pv_inst.specs.Use.{use_answer, settled}
@@ -34,7 +38,7 @@ use Rattle.pv_object.specs.Encoding.{number_in}
 use Rattle.pv_object.specs.Loading.{exposed_by}
 use Rattle.pv_world.specs.Worlds.{Worth, World}
 use Rattle.pv_world.specs.Worths.{int, pointer, null_pointer}
-use Rattle.pv_world.specs.Objects.{put_at}
+use Rattle.pv_world.specs.Objects.{put_at, owner_of}
 use Rattle.pv_world.specs.Telling.{quiet}
 use Rattle.pv_world.specs.Doing.{Answers}
 use Rattle.pv_eval.specs.declared.plain.Found.{Found}
@@ -44,6 +48,7 @@ use Rattle.pv_eval.specs.declared.marked.Marked.{Marked}
 use Rattle.pv_world.specs.declared.got.How.TheVariants.{Rounds}
 use Rattle.pv_eval.specs.States.{Setting, State, Res, Gives, Stops, Turns, then_do}
 use Rattle.pv_eval.specs.TypeForms.{lvalue}
+use Rattle.pv_eval.specs.Sizes.{is_bare_scalar}
 use Rattle.pv_eval.specs.Suiting.{knows}
 use Rattle.pv_eval.specs.Operations.{Op, Converts, Reads, Writes, does, act}
 use Rattle.pv_eval.specs.Sequenced.{Given, done}
@@ -224,6 +229,24 @@ pub record HasReached (T : Table) (p : Pointer) (n align : ℕ) (write : Bool) (
 -- 6.5p6: the instance that was reached is live and of this kind
 abbrev pub HasKind : Table → Reach → Kind → Type 0
 HasKind T at k = option_map (λ (x : Info). x.kind) (info_of (instance_at T.instances at.inst)) ≡ Some k
+
+-- 6.5p6: an instance that was made for an object
+abbrev pub is_declared : Kind → Bool
+is_declared (Declared constant) = true
+is_declared Literal = false
+is_declared Heap = false
+is_declared Function = false
+
+-- 6.5p7: what was reached is the beginning of this object
+pub record IsObject (w : World) (o : ℕ) (at : Reach) (k : Kind) : Type 0 where
+  pub declared : is_declared k ≡ true
+  pub owner : owner_of w at.inst ≡ Some o
+  pub offset : at.offset ≡ 0
+
+-- 6.5p7: it is the declared type of this object, and an integer or pointer type without qualifiers
+pub record IsOwnType (u : Stored) (o : ℕ) (t : TypeId) : Type 0 where
+  pub same : (object_at (whole u) o).t ≡ tree u.known t.0
+  pub scalar : is_bare_scalar (tree u.known t.0) ≡ true
 
 -- 6.2.4p2, 6.5.9p6: a pointer with this address passes its live test, and the table stays: it is null, or into one live instance
 pub record IsLooked (T : Table) (v : Worth) (a : ℕ) : Type 0 where

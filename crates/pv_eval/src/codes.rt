@@ -1,11 +1,13 @@
 // What is known of a plain expression's node before a run, so that nothing of its types is looked up when it is evaluated.
-ghost use Rattle.std.specs.Prelude.{◌≡◌, ◌<◌, IfSome, length};
+ghost use Rattle.std.specs.Prelude.{◌≡◌, ◌<◌, IfSome, IsTrue, length};
 ghost use Rattle.pv_types.specs.Known.{tree};
 ghost use Rattle.pv_typed.specs.declared.nodes.Typed.{Typed as Row};
 ghost use Rattle.pv_typed.specs.Formed.{NamesIn};
 ghost use Rattle.pv_typed.specs.Known.{AreKnown};
 ghost use Rattle.pv_typed.specs.Children.{HasOperands};
 ghost use Rattle.pv_typed.specs.TypedTree.{form_of};
+ghost use Rattle.pv_typed.specs.TypedUnits.{object_at};
+ghost use Rattle.pv_typed.specs.Tables.{whole};
 ghost use Rattle.pv_typed.specs.NodeTrees.{expression_at, IsExpression};
 ghost use Rattle.pv_eval.specs.Plainly.{form_by};
 ghost use Rattle.pv_eval.specs.Codes.{IsCode, IsObjectOf, IsOperandCode, IsRounded};
@@ -42,11 +44,11 @@ pub(crate) enum Code {
     Part(NodeId, u64),
     /// The integer of this type and kind at the operand's place (6.3.2.1p2).
     Integer(NodeId, TypeId, IntKind),
-    /// The same where the operand is the object of this number, with whether its storage is static.
+    /// The same where the operand is the object of this number, which was declared with this type, with whether its storage is static.
     OwnInteger(NodeId, TypeId, IntKind, u32, bool),
     /// The pointer of this type at the operand's place (6.3.2.1p2).
     Pointer(NodeId, TypeId),
-    /// The same where the operand is the object of this number, with whether its storage is static.
+    /// The same where the operand is the object of this number, which was declared with this type, with whether its storage is static.
     OwnPointer(NodeId, TypeId, u32, bool),
     /// An operator on two integers, which works in the kind (6.5.5 to 6.5.12).
     Arithmetic(BinOp, IntKind, Operand, Operand),
@@ -56,13 +58,28 @@ pub(crate) enum Code {
     Sum(Sign, NodeId, NodeId, u64),
 }
 
-/// The object that a node designates, and whether its storage is static.
-fn named_object(unit: &TypedUnit, a: NodeId) -> Option<(u32, bool)>
+/// Whether an object's declared type is the one of this number.
+fn has_type(unit: &TypedUnit, o: u32, t: TypeId) -> bool
+    requires { o < length unit.now.objects }
+    ensures { IsTrue result → (object_at (whole unit.now) o).t ≡ tree unit.now.known t.0 }
+{
+    unit.object(o).t.0 == t.0
+}
+
+/// The object that a node of this type designates, with that as its declared type, and whether its storage is static.
+fn named_object(unit: &TypedUnit, a: NodeId, t: TypeId) -> Option<(u32, bool)>
     requires { IsExpression unit.now a }
-    ensures { IfSome result (λ x. IsObjectOf unit.now a x.0 x.1) }
+    ensures object { IfSome result (λ x. IsObjectOf unit.now a x.0 x.1) }
+    ensures own { IfSome result (λ x. (object_at (whole unit.now) x.0).t ≡ tree unit.now.known t.0) }
 {
     match unit.node(a) {
-        Typed::Object(o) => Some((o, unit.object(o).lasting)),
+        Typed::Object(o) => {
+            if has_type(unit, o, t) {
+                Some((o, unit.object(o).lasting))
+            } else {
+                None
+            }
+        }
         _ => None,
     }
 }
@@ -77,11 +94,11 @@ fn read_code(unit: &TypedUnit, n: NodeId, a: NodeId) -> Code
 {
     let t = unit.type_of(a);
     match unit.types().view(t) {
-        Term::Int(kind) => match named_object(unit, a) {
+        Term::Int(kind) => match named_object(unit, a, t) {
             Some((o, lasting)) => Code::OwnInteger(a, t, kind, o, lasting),
             None => Code::Integer(a, t, kind),
         },
-        Term::Pointer(_) => match named_object(unit, a) {
+        Term::Pointer(_) => match named_object(unit, a, t) {
             Some((o, lasting)) => Code::OwnPointer(a, t, o, lasting),
             None => Code::Pointer(a, t),
         },

@@ -1,5 +1,5 @@
 // Which accesses the effective type of an object permits (C17 6.5p6, 6.5p7).
-ghost use Rattle.std.specs.Prelude.{◌≡◌, ◌≤◌, ◌<◌, ◌^◌, true, length, IsTrue, IfOk, IfSome, map};
+ghost use Rattle.std.specs.Prelude.{◌≡◌, ◌≤◌, ◌<◌, ◌^◌, true, false, length, IsTrue, IfOk, IfSome, map};
 ghost use Rattle.std.specs.Option.{option_map};
 ghost use Rattle.pv_types.specs.Known.{tree, env};
 ghost use Rattle.pv_types.specs.Formed.{IsBuilt};
@@ -15,6 +15,7 @@ ghost use Rattle.pv_types.specs.declared.terms.TypeId.{TypeId as TypeNumber};
 ghost use Rattle.pv_eval.specs.TypeForms.{lvalue};
 ghost use Rattle.pv_eval.specs.Sizes.{setting_of, size_in, is_bare_scalar, IsComplete};
 ghost use Rattle.pv_eval.specs.Permission.{marks_of, permits_object, type_by, permits_in, permits};
+ghost use Rattle.pv_eval.specs.Plainly.{IsObject, IsOwnType, is_declared};
 
 use crate::dividing::{is_multiple, quotient};
 use crate::types::{Complete, bytes_of, is_character, layer, measured_by_layers};
@@ -267,4 +268,57 @@ pub(crate) fn permits(
         unreachable!();
     };
     permits_in(alloc, unit, world, at, x.kind, l, write)
+}
+
+/// Whether an instance was made for an object.
+fn is_declared(kind: Kind) -> bool
+    ensures { result ≡ is_declared kind }
+{
+    match kind {
+        Kind::Declared { .. } => true,
+        Kind::Literal | Kind::Heap | Kind::Function => false,
+    }
+}
+
+/// Whether what was reached is the beginning of this object.
+fn is_object(world: &World, o: u32, at: &Reach, kind: Kind) -> bool
+    ensures { IsTrue result → IsObject world.now o at.now kind }
+{
+    if !is_declared(kind) {
+        return false;
+    }
+    let Some(whose) = world.owner(at.inst) else {
+        return false;
+    };
+    if whose != o {
+        return false;
+    }
+    at.offset == 0
+}
+
+/// Whether a read through an lvalue of the type is permitted, as `permits_in` tells it, where the object may be known that the lvalue
+/// designates, with this type: then no type is looked up.
+#[inline(always)]
+pub(crate) fn permits_own_read(
+    alloc: Global,
+    unit: &TypedUnit,
+    world: &World,
+    own: Option<u32>,
+    at: &Reach,
+    kind: Kind,
+    l: Complete,
+) -> Result<bool, NoMemory>
+    requires known { AreKnown unit.now }
+    requires own { IfSome own (λ o. IsOwnType unit.now o l.t) }
+    requires complete { IsComplete unit.now.known l }
+    requires reached { IsReach world.now.memory.table at.now l.size }
+    ensures { IfOk result (λ p. p ≡ permits_in (setting_of unit.now) world.now (lvalue (setting_of unit.now) (tree unit.now.known l.t.0)) at.now false kind) }
+{
+    let Some(o) = own else {
+        return permits_in(alloc, unit, world, at, kind, l, false);
+    };
+    if is_object(world, o, at, kind) {
+        return Ok(true);
+    }
+    permits_in(alloc, unit, world, at, kind, l, false)
 }

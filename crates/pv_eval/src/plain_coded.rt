@@ -8,7 +8,7 @@ ghost use Rattle.pv_typed.specs.Known.{AreKnown};
 ghost use Rattle.pv_typed.specs.TypedTree.{type_of};
 ghost use Rattle.pv_typed.specs.NodeTrees.{expression_at, IsExpression};
 ghost use Rattle.pv_eval.specs.Sizes.{points};
-ghost use Rattle.pv_eval.specs.Plainly.{Yields, YieldsNoting, GivesNoting, found_worth};
+ghost use Rattle.pv_eval.specs.Plainly.{Yields, YieldsNoting, GivesNoting, IsOwnType, found_worth};
 ghost use Rattle.pv_eval.specs.declared.codes.Code.{Code as Known};
 ghost use Rattle.pv_eval.specs.Codes.{IsCode, AreCodes, RoundsTo, RoundsBy, CalculatesBy};
 
@@ -49,11 +49,12 @@ fn noted(v: Found, place: u64, length: u64, noting: bool, notes: &mut Vec<Access
     }
 }
 
-/// The integer at the place that the operand of a node gave.
+/// The integer at the place that the operand of a node gave; with the object that the operand designates, where that is known.
 fn read_integer(
     alloc: Global,
     unit: &TypedUnit,
     world: &World,
+    own: Option<u32>,
     a: NodeId,
     t: TypeId,
     kind: IntKind,
@@ -65,21 +66,23 @@ fn read_integer(
     requires number { t.0 < length unit.now.known.terms }
     requires same { tree unit.now.known t.0 ≡ type_of (expression_at unit.now a) }
     requires integer { tree unit.now.known t.0 ≡ IntTy kind }
+    requires own { IfSome own (λ o. IsOwnType unit.now o t) }
     ensures { (s : Ty) → IfSome result (λ v. GivesNoting unit.now world.now s (Row.Read a) (found_worth place) (found_worth v) noting notes.old.items notes.new.items) }
 {
     let Found::Place(p) = place else {
         return None;
     };
     let x = accessed_integer(unit.types(), t, kind)?;
-    let v = load(alloc, unit, world, x, kind, p)?;
+    let v = load(alloc, unit, world, own, x, kind, p)?;
     noted(v, p.address, x.l.size, noting, notes)
 }
 
-/// The pointer at the place that the operand of a node gave.
+/// The pointer at the place that the operand of a node gave; with the object that the operand designates, where that is known.
 fn read_pointer(
     alloc: Global,
     unit: &TypedUnit,
     world: &World,
+    own: Option<u32>,
     a: NodeId,
     t: TypeId,
     place: Found,
@@ -90,13 +93,14 @@ fn read_pointer(
     requires number { t.0 < length unit.now.known.terms }
     requires same { tree unit.now.known t.0 ≡ type_of (expression_at unit.now a) }
     requires pointer { points (tree unit.now.known t.0) ≡ true }
+    requires own { IfSome own (λ o. IsOwnType unit.now o t) }
     ensures { (s : Ty) → IfSome result (λ v. GivesNoting unit.now world.now s (Row.Read a) (found_worth place) (found_worth v) noting notes.old.items notes.new.items) }
 {
     let Found::Place(p) = place else {
         return None;
     };
     let x = accessed_pointer(unit.types(), t)?;
-    let v = load_pointer(alloc, unit, world, x, p)?;
+    let v = load_pointer(alloc, unit, world, own, x, p)?;
     noted(v, p.address, x.l.size, noting, notes)
 }
 
@@ -163,11 +167,11 @@ fn composed(
         }
         Code::Integer(a, t, kind) => {
             let place = value_by(alloc, unit, plan, world, a, noting, notes)?;
-            read_integer(alloc, unit, world, a, t, kind, place, noting, notes)
+            read_integer(alloc, unit, world, None, a, t, kind, place, noting, notes)
         }
         Code::Pointer(a, t) => {
             let place = value_by(alloc, unit, plan, world, a, noting, notes)?;
-            read_pointer(alloc, unit, world, a, t, place, noting, notes)
+            read_pointer(alloc, unit, world, None, a, t, place, noting, notes)
         }
         Code::Arithmetic(op, kind, left, right) => {
             let first = value_by(alloc, unit, plan, world, left.node, noting, notes)?;
@@ -235,7 +239,18 @@ fn own_integer(
     ensures { IfSome result (λ v. YieldsNoting unit.now world.now (expression_at unit.now n) (found_worth v) noting notes.old.items notes.new.items) }
 {
     let place = object(world, o, lasting)?;
-    read_integer(alloc, unit, world, a, t, kind, place, noting, notes)
+    read_integer(
+        alloc,
+        unit,
+        world,
+        Some(o),
+        a,
+        t,
+        kind,
+        place,
+        noting,
+        notes,
+    )
 }
 
 /// The pointer in an object, by what is known of the node that reads it.
@@ -256,7 +271,7 @@ fn own_pointer(
     ensures { IfSome result (λ v. YieldsNoting unit.now world.now (expression_at unit.now n) (found_worth v) noting notes.old.items notes.new.items) }
 {
     let place = object(world, o, lasting)?;
-    read_pointer(alloc, unit, world, a, t, place, noting, notes)
+    read_pointer(alloc, unit, world, Some(o), a, t, place, noting, notes)
 }
 
 /// What a plain expression gives from this world, by what is known of its nodes, where nothing stops it, and where that is a

@@ -17,10 +17,10 @@ ghost use Rattle.pv_world.specs.declared.got.Shape.{Shape as Form};
 ghost use Rattle.pv_eval.specs.TypeForms.{shape_of};
 ghost use Rattle.pv_eval.specs.Sizes.{IsComplete};
 ghost use Rattle.pv_eval.specs.Suiting.{knows};
-ghost use Rattle.pv_eval.specs.Plainly.{ReadsFrom, HasReached, IsLooked, IsPlainNumber, HasKind, alone_tried, found_worth, pointer_at};
+ghost use Rattle.pv_eval.specs.Plainly.{ReadsFrom, HasReached, IsLooked, IsPlainNumber, HasKind, IsOwnType, alone_tried, found_worth, pointer_at};
 
 use crate::dividing::is_multiple;
-use crate::permission::permits_in;
+use crate::permission::permits_own_read;
 use crate::plain::{Found, Spot};
 use crate::plain_numbers::integer;
 use crate::types::{AccessedType, accessed};
@@ -140,16 +140,19 @@ fn is_told(world: &World) -> bool
     world.memory().is_told()
 }
 
-/// The integer of this kind at a place, if nothing keeps it from being read.
+/// The integer of this kind at a place, if nothing keeps it from being read; with the object that the lvalue designates, where that is
+/// known.
 pub(crate) fn load(
     alloc: Global,
     unit: &TypedUnit,
     world: &World,
+    own: Option<u32>,
     x: AccessedType,
     kind: IntKind,
     p: Spot,
 ) -> Option<Found>
     requires known { AreKnown unit.now }
+    requires own { IfSome own (λ o. IsOwnType unit.now o x.l.t) }
     requires complete { IsComplete unit.now.known x.l }
     requires align { x.align ≡ (layout_in (env unit.now.known) (tree unit.now.known x.l.t.0)).align }
     requires some { 1 ≤ x.align }
@@ -161,7 +164,7 @@ pub(crate) fn load(
     }
     let target = reached(world, p, x.l.size, x.align, false)?;
     let at = target.reach;
-    let Ok(true) = permits_in(alloc, unit, world, &at, target.kind, x.l, false) else {
+    let Ok(true) = permits_own_read(alloc, unit, world, own, &at, target.kind, x.l) else {
         return None;
     };
     if !is_told(world) {
@@ -218,15 +221,18 @@ fn pointed(world: &World, p: Pointer) -> Option<Found>
     }
 }
 
-/// The pointer at a place, if it was stored whole, is null or points into a live instance, and nothing keeps it from being read.
+/// The pointer at a place, if it was stored whole, is null or points into a live instance, and nothing keeps it from being read; with
+/// the object that the lvalue designates, where that is known.
 pub(crate) fn load_pointer(
     alloc: Global,
     unit: &TypedUnit,
     world: &World,
+    own: Option<u32>,
     x: AccessedType,
     p: Spot,
 ) -> Option<Found>
     requires known { AreKnown unit.now }
+    requires own { IfSome own (λ o. IsOwnType unit.now o x.l.t) }
     requires complete { IsComplete unit.now.known x.l }
     requires align { x.align ≡ (layout_in (env unit.now.known) (tree unit.now.known x.l.t.0)).align }
     requires some { 1 ≤ x.align }
@@ -238,7 +244,7 @@ pub(crate) fn load_pointer(
     }
     let target = reached(world, p, 8, x.align, false)?;
     let at = target.reach;
-    let Ok(true) = permits_in(alloc, unit, world, &at, target.kind, x.l, false) else {
+    let Ok(true) = permits_own_read(alloc, unit, world, own, &at, target.kind, x.l) else {
         return None;
     };
     if !is_told(world) {
@@ -266,8 +272,8 @@ pub(crate) fn read_at(
     };
     let x = accessed(unit.types(), unit.type_of(a))?;
     match x.form {
-        Shape::Int(kind) => load(alloc, unit, world, x, kind, p),
-        Shape::Pointer => load_pointer(alloc, unit, world, x, p),
+        Shape::Int(kind) => load(alloc, unit, world, None, x, kind, p),
+        Shape::Pointer => load_pointer(alloc, unit, world, None, x, p),
         Shape::Whole => None,
     }
 }
