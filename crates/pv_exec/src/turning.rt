@@ -1,6 +1,8 @@
 // Turns of a run: operations, until no task waits.
 ghost use Rattle.std.specs.Prelude.{◌≡◌, ◌+◌, ◌<◌, ◌≤◌, ◌^◌, if◌then◌else◌, IfSome, IfNone, OnOk};
-ghost use Rattle.pv_typed.specs.NodeTrees.{IsStatement};
+ghost use Rattle.pv_typed.specs.TypedStatement.{Expression};
+ghost use Rattle.pv_typed.specs.Trees.{statement_line};
+ghost use Rattle.pv_typed.specs.NodeTrees.{expression_at, statement_at, IsExpression, IsStatement};
 ghost use Rattle.pv_eval.specs.MachineSteps.{Fit, KeepsSetting};
 ghost use Rattle.pv_eval.specs.Runnable.{IsRunnable};
 ghost use Rattle.pv_eval.specs.Codes.{AreCodes};
@@ -144,12 +146,14 @@ fn drop_at_once(
     unit: &TypedUnit,
     plan: &Plan,
     n: NodeId,
+    x: NodeId,
     bound: u64,
     machine: &mut Machine,
 ) -> Option<Doing>
     requires codes { AreCodes unit.now plan.now }
     requires runnable { IsRunnable unit.now }
-    requires there { IsStatement unit.now n }
+    requires there { IsExpression unit.now x }
+    requires form { statement_at unit.now n ≡ Expression (statement_line (statement_at unit.now n)) (expression_at unit.now x) }
     requires room { machine.old.moment.taken < bound }
     requires fit { Fit unit.now machine.old.started }
     ensures some { IfSome result (λ e. ComesAtOnce unit.now bound (Doing.Enter n) e machine.old machine.new) }
@@ -157,9 +161,6 @@ fn drop_at_once(
     ensures fit { Fit unit.now machine.new.started }
     ensures setting { KeepsSetting machine.old.moment machine.new.moment }
 {
-    let TypedStmt::Expression(x) = unit.statement(n) else {
-        return None;
-    };
     machine.whole_next(unit, plan, x, bound)?;
     Some(Doing::Left(Flow::Falls))
 }
@@ -231,7 +232,7 @@ fn statement_at_once(
     ensures setting { KeepsSetting machine.old.moment machine.new.moment }
 {
     match unit.statement(n) {
-        TypedStmt::Expression(_) => drop_at_once(unit, plan, n, bound, machine),
+        TypedStmt::Expression(x) => drop_at_once(unit, plan, n, x, bound, machine),
         TypedStmt::If(_, _) | TypedStmt::IfElse(_, _, _) => choose_at_once(
             unit, plan, n, bound, machine,
         ),
