@@ -8,7 +8,8 @@ use Rattle.pv_prov.specs.declared.pairs.Twin.{Twin}
 use Rattle.pv_prov.specs.declared.names.Prov.{Prov}
 use Rattle.pv_prov.specs.declared.names.Prov.TheVariants as prov
 use Rattle.pv_prov.specs.declared.names.Stands.{Stands}
-use Rattle.pv_prov.specs.Names.{twin_at, kept, keeping, stands, stands_of, those_kept}
+use Rattle.pv_prov.specs.Names.{twin_at, kept, stands, stands_of}
+use Rattle.pv_prov.specs.NameParts.{keeping, those_kept}
 use Rattle.pv_inst.specs.declared.values.Instance.{Instance}
 use Rattle.pv_inst.specs.declared.values.Tried.{Tried}
 use Rattle.pv_inst.specs.declared.values.Miss.{Miss}

@@ -25,7 +25,8 @@ use Rattle.pv_inst.proofs.Meetings.{same_or_not}
 use Rattle.pv_journal.specs.Journals.{Id, Fact, Made, Ended, Exposed, Paired, Used}
 use Rattle.pv_journal.specs.Obeying.{Held, Bond, State, same_id, place_of, held_at, is_live, is_open, ends_at, begins_at, is_id, exceeds, overlaps, live_size, left_of, may_leave, may_make, may_pair, with_held, keeping, end_at, expose_at, at_held, use_at, after_fact}
 use Rattle.pv_inst.specs.WellFormed.{HasMet, AreMet, Meet}
-use Rattle.pv_prov.specs.Names.{twin_at, added, kept, keeping as keeps}
+use Rattle.pv_prov.specs.Names.{twin_at, added, kept}
+use Rattle.pv_prov.specs.NameParts.{keeping as keeps}
 use Rattle.pv_journal_laws.proofs.Telling.{known, id_of, id_by, id_at, held_of, bond_of, state_of, used_by, AreCalled}
 use Rattle.pv_journal_laws.proofs.Parts.{bool_false, snoc_map}
 

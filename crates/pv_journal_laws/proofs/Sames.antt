@@ -5,7 +5,8 @@ use Rattle.pv_script.specs.Names.{name_at}
 use Rattle.pv_journal_laws.specs.Naming.{AreDistinct}
 use Rattle.pv_prov.specs.declared.pairs.Twin.{Twin}
 use Rattle.pv_prov.specs.declared.names.Prov.TheVariants as prov
-use Rattle.pv_prov.specs.Names.{twin_at, kept, those_kept}
+use Rattle.pv_prov.specs.Names.{twin_at, kept}
+use Rattle.pv_prov.specs.NameParts.{those_kept}
 use Rattle.pv_inst.specs.declared.values.Instance.{Instance}
 use Rattle.pv_inst.specs.Table.{Table, instance_at}
 use Rattle.pv_inst.specs.Use.{two_of, if_two}

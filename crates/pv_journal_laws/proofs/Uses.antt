@@ -10,7 +10,8 @@ use Rattle.pv_journal_laws.specs.Naming.{AreDistinct}
 use Rattle.pv_prov.specs.declared.pairs.Twin.{Twin}
 use Rattle.pv_prov.specs.declared.names.Prov.{Prov}
 use Rattle.pv_prov.specs.declared.names.Prov.TheVariants as prov
-use Rattle.pv_prov.specs.Names.{twin_at, kept, keeping, those_kept, stands_of, alone}
+use Rattle.pv_prov.specs.Names.{twin_at, kept, stands_of, alone}
+use Rattle.pv_prov.specs.NameParts.{keeping, those_kept}
 use Rattle.pv_inst.specs.declared.values.Instance.{Instance}
 use Rattle.pv_inst.specs.declared.values.Test.{Test}
 use Rattle.pv_inst.specs.declared.values.Test.TheVariants.{Live, Range, Block, Code}

@@ -3,8 +3,8 @@ use Rattle.std.specs.Prelude.{ℕ, ℤ, pos, List, [], drop, length, map, slice_
 use Rattle.pv_num.specs.declared.kinds.IntKind.TheVariants.{Int, ULong}
 use Rattle.pv_num.specs.Kinds.{bits_of, convert_of, fits_of}
 use Rattle.pv_prov.specs.declared.names.Prov.{Prov}
-use Rattle.pv_prov.specs.declared.names.Prov.TheVariants.{Empty, Pair}
-use Rattle.pv_prov.specs.Names.{stands}
+use Rattle.pv_prov.specs.declared.names.Prov.TheVariants.{Empty}
+use Rattle.pv_prov.specs.Names.{stands, pair_of}
 use Rattle.pv_script.specs.declared.library.Library.{Library}
 use Rattle.pv_script.specs.declared.library.Library.TheVariants as library
 use Rattle.pv_object.specs.declared.values.Pointer.{Pointer}
@@ -52,11 +52,6 @@ size args i = bits_of ULong (number args i)
 -- 6.5.2.2p7: argument number i, from 0, as a pointer
 abbrev pub pointer : List Arg → ℕ → Pointer
 pointer args i = pointer_in (value_in (slice_get args i))
-
--- the memory model: the number of the pair of candidates that a name is
-abbrev pub pair_of : Prov → Option ℕ
-pair_of (Pair k) = Some k
-pair_of _ = None
 
 -- the memory model: what is noted last where a check of the pointer stops the call: the candidates of its name, as they stood before the whole call
 abbrev pub stopped : Mem → Prov → Note

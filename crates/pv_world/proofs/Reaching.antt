@@ -5,7 +5,8 @@ use Rattle.pv_prov.specs.declared.names.Prov.{Prov}
 use Rattle.pv_prov.specs.declared.names.Prov.TheVariants.{Empty, Inst, Pair}
 use Rattle.pv_prov.specs.declared.pairs.Twin.{Twin}
 use Rattle.pv_num.specs.declared.faults.Reason.TheVariants as reason
-use Rattle.pv_prov.specs.Names.{is_empty, stands, stands_of, twin_at, keeping, same_name}
+use Rattle.pv_prov.specs.Names.{is_empty, stands, stands_of, twin_at, same_name, pair_of}
+use Rattle.pv_prov.specs.NameParts.{keeping}
 use Rattle.pv_inst.specs.declared.values.Tried.{Tried}
 use Rattle.pv_inst.specs.declared.values.Miss.{Miss}
 use Rattle.pv_inst.specs.declared.values.Test.TheVariants.{Range}
@@ -21,7 +22,7 @@ use Rattle.pv_object.specs.Access.{reach, reach_after, is_null, fault, clause_of
 use Rattle.pv_watch.specs.declared.event.What.{What}
 use Rattle.pv_world.specs.declared.got.Failure.{Failure}
 use Rattle.pv_world.specs.Worlds.{World, with_table}
-use Rattle.pv_world.specs.Telling.{Told, telling, blame_of, pair_of, fault_of, verdict_of}
+use Rattle.pv_world.specs.Telling.{Told, telling, blame_of, fault_of, verdict_of}
 use Rattle.pv_world.specs.Worths.{wrong_of}
 use Rattle.pv_world.specs.Doing.{Done}
 use Rattle.pv_world.specs.Accesses.{reaching_by}

@@ -6,8 +6,7 @@ use Rattle.std.specs.declared.option.Option.{Option}
 use Rattle.std.specs.Option.{option_map, option_map_or}
 use Rattle.pv_prov.specs.declared.pairs.Twin.{Twin}
 use Rattle.pv_prov.specs.declared.names.Prov.{Prov}
-use Rattle.pv_prov.specs.declared.names.Prov.TheVariants.{Pair}
-use Rattle.pv_prov.specs.Names.{stands}
+use Rattle.pv_prov.specs.Names.{stands, pair_of}
 use Rattle.pv_inst.specs.declared.values.Instance.{Instance}
 use Rattle.pv_inst.specs.declared.values.Tried.{Tried}
 use Rattle.pv_inst.specs.declared.values.Miss.{Miss}
@@ -102,11 +101,6 @@ verdict_of (Undefined f) = Some (verdict.Undefined f)
 verdict_of Undecided = Some verdict.Undecided
 verdict_of (Halts Indeterminate) = Some verdict.Indeterminate
 verdict_of _ = None
-
--- the memory model: the number of the pair of candidates that a name is
-abbrev pub pair_of : Prov → Option ℕ
-pair_of (Pair k) = Some k
-pair_of _ = None
 
 -- the memory model: what a fault carries: the candidates of the pointer whose check stopped, as they stood before the
 -- operation, and the number of its pair, settled or not

@@ -8,7 +8,8 @@ use Rattle.std.proofs.lemmas.List.Quantifiers.{all_pairs_push}
 use Rattle.std.proofs.lemmas.List.Sums.{sum_by-set, sum_by_push}
 use Rattle.pv_prov.specs.declared.pairs.Twin.{Twin}
 use Rattle.pv_prov.specs.Twins.{KeepsOne}
-use Rattle.pv_prov.specs.Names.{twin_at, keeping, kept, added}
+use Rattle.pv_prov.specs.Names.{twin_at, kept, added}
+use Rattle.pv_prov.specs.NameParts.{keeping}
 use Rattle.pv_prov.specs.Made.{Stands_low, Stands_high}
 use Rattle.pv_inst.specs.declared.values.Instance.{Instance}
 use Rattle.pv_inst.specs.Table.{Table, instance_at, with_instance, live_bytes}

@@ -4,7 +4,8 @@ use Rattle.std.specs.Prelude.{nat_lt}
 use Rattle.std.specs.List.{slice_get}
 use Rattle.std.proofs.lemmas.Bool.Decides.{nat_tests}
 use Rattle.pv_prov.specs.declared.pairs.Twin.{Twin}
-use Rattle.pv_prov.specs.Names.{twin_at, kept, keeping}
+use Rattle.pv_prov.specs.Names.{twin_at, kept}
+use Rattle.pv_prov.specs.NameParts.{keeping}
 use Rattle.pv_world.specs.Worlds.{Worth, World, Wrong, Undefined, Undecided, Halts, Halt, with_table}
 use Rattle.pv_world.specs.Telling.{Told}
 use Rattle.pv_world.specs.Doing.{Done, Answers, Fails, Breaks}

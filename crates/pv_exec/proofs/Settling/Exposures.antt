@@ -6,7 +6,8 @@ use Rattle.pv_prov.specs.declared.pairs.Twin.{Twin}
 use Rattle.pv_prov.specs.declared.names.Stands.{Stands}
 use Rattle.pv_prov.specs.declared.names.Prov.{Prov}
 use Rattle.pv_prov.specs.declared.names.Prov.TheVariants.{Empty, Inst, Pair}
-use Rattle.pv_prov.specs.Names.{stands, stands_of, those_kept, twin_at}
+use Rattle.pv_prov.specs.Names.{stands, stands_of, twin_at}
+use Rattle.pv_prov.specs.NameParts.{those_kept}
 use Rattle.pv_inst.specs.declared.values.Instance.{Instance}
 use Rattle.pv_inst.specs.Table.{Table, instance_at, with_instance}
 use Rattle.pv_inst.specs.Exposure.{expose, expose_one, exposing}

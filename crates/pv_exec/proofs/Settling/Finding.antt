@@ -8,7 +8,8 @@ use Rattle.std.proofs.lemmas.List.Quantifiers.{position-Some}
 use Rattle.pv_prov.specs.declared.pairs.Twin.{Twin}
 use Rattle.pv_prov.specs.declared.names.Prov.{Prov}
 use Rattle.pv_prov.specs.declared.names.Prov.TheVariants.{Inst, Pair}
-use Rattle.pv_prov.specs.Names.{stands_of, those_kept, twin_at, added, nobody, alone, keeping}
+use Rattle.pv_prov.specs.Names.{stands_of, twin_at, added, nobody, alone}
+use Rattle.pv_prov.specs.NameParts.{those_kept, keeping}
 use Rattle.pv_inst.specs.declared.values.Instance.{Instance}
 use Rattle.pv_inst.specs.declared.values.Kind.TheVariants.{Heap}
 use Rattle.pv_inst.specs.declared.values.Test.TheVariants.{Live}

@@ -7,7 +7,8 @@ use Rattle.pv_prov.specs.declared.pairs.Twin.{Twin}
 use Rattle.pv_prov.specs.declared.names.Stands.{Stands}
 use Rattle.pv_prov.specs.declared.names.Prov.{Prov}
 use Rattle.pv_prov.specs.declared.names.Prov.TheVariants.{Empty, Inst, Pair}
-use Rattle.pv_prov.specs.Names.{stands, twin_at, keeping, is_empty, same_name}
+use Rattle.pv_prov.specs.Names.{stands, twin_at, is_empty, same_name}
+use Rattle.pv_prov.specs.NameParts.{keeping}
 use Rattle.pv_inst.specs.declared.values.Instance.{Instance}
 use Rattle.pv_inst.specs.declared.values.Test.TheVariants.{Live}
 use Rattle.pv_inst.specs.declared.values.Tried.{Tried}
