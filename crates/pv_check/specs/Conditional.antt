@@ -4,7 +4,7 @@ use Rattle.pv_types.specs.Ty.{Ty, VoidTy, IntTy, PointerTo, StructTag, UnionTag}
 use Rattle.pv_typed.specs.TypedTree.{TypedTree, Conditional, type_of}
 use Rattle.pv_check.specs.Kinds.{common}
 use Rattle.pv_check.specs.Qualified.{unqualified, qualified_if}
-use Rattle.pv_check.specs.Qualified.{same}
+use Rattle.pv_types.specs.SameTypes.{same_type}
 use Rattle.pv_types.specs.Qualifiers.{is_const}
 use Rattle.pv_check.specs.Sorts.{is_scalar, are_alike, has_void}
 use Rattle.pv_check.specs.Composite.{composite}
@@ -27,8 +27,8 @@ pointer_type t u left right =
 abbrev pub plain_type : Ty → Ty → Option Ty
 plain_type (IntTy k) (IntTy l) = Some (IntTy (common k l))
 plain_type VoidTy VoidTy = Some VoidTy
-plain_type (StructTag n) u = if same (StructTag n) u then Some u else None
-plain_type (UnionTag n) u = if same (UnionTag n) u then Some u else None
+plain_type (StructTag n) u = if same_type (StructTag n) u then Some u else None
+plain_type (UnionTag n) u = if same_type (UnionTag n) u then Some u else None
 plain_type t u = None
 
 -- 6.5.15p3, p5 and p6: the type of the result, by the types of the second and the third operand, and whether they are null pointer

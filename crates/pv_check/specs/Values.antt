@@ -6,7 +6,7 @@ use Rattle.pv_types.specs.Ty.{Ty, IntTy, PointerTo, ArrayOf, StructTag, UnionTag
 use Rattle.pv_typed.specs.TypedTree.{TypedTree, Form, Node, Convert, Read, ArrayPointer, type_of, line_of, is_lvalue}
 use Rattle.pv_check.specs.Kinds.{promoted}
 use Rattle.pv_check.specs.Qualified.{unqualified}
-use Rattle.pv_check.specs.Qualified.{same}
+use Rattle.pv_types.specs.SameTypes.{same_type}
 use Rattle.pv_check.specs.Sorts.{is_array, are_alike, has_void}
 use Rattle.pv_types.specs.Qualifiers.{has_const, is_const}
 use Rattle.pv_typed.specs.Addresses.{is_null_constant}
@@ -40,7 +40,7 @@ is_modifiable env a = is_lvalue a && (not (is_array (type_of a)) && (is_complete
 
 -- 6.3: converted to a type that is not qualified; a value that has the type stays as it is
 abbrev pub converted : Ty → TypedTree → TypedTree
-converted t a = if same (type_of a) t then a else implied (line_of a) t (Convert a)
+converted t a = if same_type (type_of a) t then a else implied (line_of a) t (Convert a)
 
 -- 6.3.1.1p2: an integer converted to its promoted type, by its type
 abbrev pub promotion : TypedTree → Ty → TypedTree
@@ -63,8 +63,8 @@ may_assign (IntTy k) (IntTy l) null = true
 may_assign (IntTy BoolKind) (PointerTo u) null = true
 may_assign (PointerTo t) (PointerTo u) null = null || may_point t u
 may_assign (PointerTo t) u null = null
-may_assign (StructTag n) u null = same (StructTag n) u
-may_assign (UnionTag n) u null = same (UnionTag n) u
+may_assign (StructTag n) u null = same_type (StructTag n) u
+may_assign (UnionTag n) u null = same_type (UnionTag n) u
 may_assign _ _ null = false
 
 -- 6.5.16.1p2: a value converted to the unqualified type of what it is assigned to, where it may be; a null pointer constant to any pointer (6.3.2.3p3)

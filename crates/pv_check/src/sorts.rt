@@ -4,7 +4,7 @@ ghost use Rattle.pv_types.specs.Known.{tree, tree_in, trees, env};
 ghost use Rattle.pv_types.specs.Formed.{IsBuilt};
 ghost use Rattle.pv_types.specs.Layouts.{is_complete_in};
 ghost use Rattle.pv_check.specs.Qualified.{unqualified};
-ghost use Rattle.pv_check.specs.Qualified.{same};
+ghost use Rattle.pv_types.specs.SameTypes.{same_type};
 ghost use Rattle.pv_types.specs.Qualifiers.{is_const};
 ghost use Rattle.pv_check.specs.Sorts.{kind_of, pointed_by, is_scalar, is_void, is_array, points_to_function, is_void_beside, has_void, complete_pointed_by, are_alike};
 ghost use Rattle.pv_typed.specs.TypedTree.{is_function};
@@ -143,7 +143,7 @@ pub(crate) fn are_alike(types: &Types, t: TypeId, u: TypeId) -> bool
 pub fn same(types: &Types, t: TypeId, u: TypeId) -> bool
     requires left { t.0 < length types.now.terms }
     requires right { u.0 < length types.now.terms }
-    ensures { result ≡ same (tree types.now t.0) (tree types.now u.0) }
+    ensures { result ≡ same_type (tree types.now t.0) (tree types.now u.0) }
 {
     let _layer = types.view(t);
     t == u

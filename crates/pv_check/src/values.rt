@@ -10,7 +10,7 @@ ghost use Rattle.pv_typed.specs.Nodes.{form_in};
 ghost use Rattle.pv_typed.specs.Children.{HasOperands};
 ghost use Rattle.pv_typed.specs.Formed.{NamesIn};
 ghost use Rattle.pv_check.specs.Qualified.{qualified};
-ghost use Rattle.pv_check.specs.Qualified.{same};
+ghost use Rattle.pv_types.specs.SameTypes.{same_type};
 ghost use Rattle.pv_typed.specs.Tables.{Stored, nodes};
 ghost use Rattle.pv_typed.specs.NodeTrees.{expression_at, IsExpression};
 ghost use Rattle.pv_typed.specs.Known.{AreKnown};
@@ -172,7 +172,7 @@ pub(crate) fn converted(into: &mut TypedUnit, t: TypeId, n: NodeId) -> Result<No
 /// Whether it is this integer type.
 pub(crate) fn has_kind(types: &Types, t: TypeId, kind: IntKind) -> bool
     requires { t.0 < length types.now.terms }
-    ensures { result ≡ same (tree types.now t.0) (IntTy kind) }
+    ensures { result ≡ same_type (tree types.now t.0) (IntTy kind) }
 {
     match types.view(t) {
         Term::Int(k) => k == kind,

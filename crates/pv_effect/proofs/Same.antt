@@ -14,7 +14,7 @@ use Rattle.pv_types.specs.Formed.{IsBuilt}
 use Rattle.pv_types.proofs.Injective.{trees_differ}
 use Rattle.pv_layout.specs.Parts.{bare, some_at, leaves, agrees, are_counterparts}
 use Rattle.pv_layout.proofs.Ahead.{bare_no}
-use Rattle.pv_effect.specs.EffectiveType.{same_size, same_type, same_types}
+use Rattle.pv_types.specs.SameTypes.{same_type, same_size, same_types}
 
 kind_decides : (k l : IntKind) → Decides (same_kind k l) (k ≡ l)
 kind_decides k l = search rules

@@ -1,23 +1,14 @@
 -- Through which types an object may be accessed (C17 6.5p6, 6.5p7).
 use Rattle.std.specs.Prelude.{ℕ, suc, ◌+◌, ◌-◌, Bool, true, false, not, ◌&&◌, ◌||◌, ◌==◌, nat_le, nat_lt, if◌then◌else◌, Some, None, List, [], ◌∷◌, length}
-use Rattle.std.specs.Bool.{beq}
 use Rattle.std.specs.declared.option.Option.{Option}
-use Rattle.pv_num.specs.declared.kinds.IntKind.{IntKind}
-use Rattle.pv_num.specs.declared.kinds.IntKind.TheVariants.{Char, SChar, UChar}
-use Rattle.pv_types.specs.Ty.{Ty, Tys, VoidTy, IntTy, PointerTo, ArrayOf, StructTag, UnionTag, FunctionTy, ConstOf, NoTys, MoreTys}
-use Rattle.pv_types.specs.Compatible.{same_kind}
+use Rattle.pv_num.specs.Kinds.{is_character_kind}
+use Rattle.pv_types.specs.Ty.{Ty, IntTy, StructTag, UnionTag, ConstOf}
+use Rattle.pv_types.specs.SameTypes.{same_type}
 use Rattle.pv_types.specs.Layouts.{Part, Entry, layout_in}
 use Rattle.pv_types.specs.Known.{Known, tree, env}
 use Rattle.pv_layout.specs.Parts.{bare, some_at, leaves, agrees, suits, are_counterparts}
 
--- 6.2.5p15: `char`, `signed char` and `unsigned char`
-abbrev pub is_character_kind : IntKind → Bool
-is_character_kind Char = true
-is_character_kind SChar = true
-is_character_kind UChar = true
-is_character_kind _ = false
-
--- 6.2.5p15: the same of a type, qualifiers aside
+-- 6.2.5p15: a character type, qualifiers aside
 abbrev pub is_character : Ty → Bool
 is_character (IntTy k) = is_character_kind k
 is_character (ConstOf t) = is_character t
@@ -37,30 +28,6 @@ permits_declared parts o want =
     if is_character want then true
     else if is_composite want then some_at (suits want) o parts
     else some_at (agrees want) o (leaves parts)
-
--- 6.7.6.2p6: one size, or none on both sides
-abbrev pub same_size : Option ℕ → Option ℕ → Bool
-same_size None None = true
-same_size (Some m) (Some n) = m == n
-same_size _ _ = false
-
--- 6.2.7p1: whether two types are the same
-abbrev mutual
-  pub same_type : Ty → Ty → Bool
-  same_type VoidTy VoidTy = true
-  same_type (IntTy k) (IntTy l) = same_kind k l
-  same_type (PointerTo t) (PointerTo u) = same_type t u
-  same_type (ArrayOf t m) (ArrayOf u n) = same_size m n && same_type t u
-  same_type (StructTag m) (StructTag n) = m == n
-  same_type (UnionTag m) (UnionTag n) = m == n
-  same_type (FunctionTy t ts v) (FunctionTy u us w) = beq v w && (same_types ts us && same_type t u)
-  same_type (ConstOf t) (ConstOf u) = same_type t u
-  same_type _ _ = false
-
-  pub same_types : Tys → Tys → Bool
-  same_types NoTys NoTys = true
-  same_types (MoreTys t ts) (MoreTys u us) = same_type t u && same_types ts us
-  same_types _ _ = false
 
 -- 6.5p7: qualifiers aside, the type or its signed or unsigned counterpart (6.2.5p6)
 abbrev pub same_or_counterpart : Ty → Ty → Bool

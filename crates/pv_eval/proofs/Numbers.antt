@@ -13,7 +13,7 @@ use Rattle.pv_types.specs.Formed.{IsBuilt}
 use Rattle.pv_types.specs.Layouts.{up_to, Layout, Entry, look, or_none, layout_in, is_complete_in}
 use Rattle.pv_types.proofs.Trees.{length-trees}
 use Rattle.pv_types.proofs.Peeling.{positive_align}
-use Rattle.pv_effect.specs.EffectiveType.{same_type}
+use Rattle.pv_types.specs.SameTypes.{same_type}
 use Rattle.pv_effect.proofs.Same.{same_number}
 use Rattle.pv_eval.specs.TypeForms.{number_of}
 

@@ -7,7 +7,8 @@ use Rattle.pv_types.specs.Layouts.{Part, Entry, layout_in}
 use Rattle.pv_types.specs.Known.{Known, tree, env}
 use Rattle.pv_types.specs.Formed.{IsBuilt}
 use Rattle.pv_layout.specs.Parts.{bare, leaves, is_scalar, are_counterparts}
-use Rattle.pv_effect.specs.EffectiveType.{is_character, same_type, same_or_counterpart, anything, some_over, permits_byte, permits_bytes, permits_marks}
+use Rattle.pv_effect.specs.EffectiveType.{is_character, same_or_counterpart, anything, some_over, permits_byte, permits_bytes, permits_marks}
+use Rattle.pv_types.specs.SameTypes.{same_type}
 use Rattle.pv_shadow.specs.declared.byte.Byte.{Byte}
 use Rattle.pv_shadow.specs.Readings.{has_mark, are_marked}
 use Rattle.pv_eval.specs.Sizes.{size_in, is_bare_scalar}

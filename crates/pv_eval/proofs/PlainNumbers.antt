@@ -4,10 +4,9 @@ use Rattle.std.proofs.lemmas.Bool.{le-ltb}
 use Rattle.std.specs.Prelude.{ℤ, pos, ◌&&◌, Option, IfSome, nat_lt, slice_get, if◌then◌else◌, Ok}
 use Rattle.pv_num.specs.declared.kinds.IntKind.{IntKind}
 use Rattle.pv_num.specs.declared.operators.BinOp.{BinOp}
-use Rattle.pv_num.specs.Kinds.{fits_of, convert_of}
+use Rattle.pv_num.specs.Kinds.{fits_of, convert_of, is_character_kind}
 use Rattle.pv_num.specs.declared.operators.UnOp.{UnOp}
 use Rattle.pv_num.specs.Arithmetic.{binary_of, unary_of}
-use Rattle.pv_effect.specs.EffectiveType.{is_character_kind}
 use Rattle.pv_tree.specs.declared.nodes.NodeId.{NodeId}
 use Rattle.pv_types.specs.Ty.{Ty}
 use Rattle.pv_typed.specs.declared.nodes.Typed.{Typed}

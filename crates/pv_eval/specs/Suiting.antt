@@ -5,7 +5,7 @@ use Rattle.std.specs.List.{list_all}
 use Rattle.pv_num.specs.declared.kinds.IntKind.{IntKind}
 use Rattle.pv_num.specs.declared.operators.BinOp.{BinOp}
 use Rattle.pv_num.specs.declared.operators.BinOp.TheVariants.{Shl, Shr}
-use Rattle.pv_num.specs.Kinds.{width, fits_of}
+use Rattle.pv_num.specs.Kinds.{width, fits_of, is_character_kind}
 use Rattle.pv_prov.specs.declared.names.Prov.{Prov}
 use Rattle.pv_prov.specs.declared.names.Prov.TheVariants.{Empty, Inst, Pair}
 use Rattle.pv_inst.specs.declared.values.Instance.{Instance}
@@ -15,7 +15,6 @@ use Rattle.pv_object.specs.declared.values.Scalar.{Scalar}
 use Rattle.pv_object.specs.declared.values.Scalar.TheVariants as scalar
 use Rattle.pv_object.specs.declared.values.Value.{Value}
 use Rattle.pv_object.specs.declared.values.Value.TheVariants.{Int as IntValue, Unset, Pointer as PointerValue}
-use Rattle.pv_object.specs.Values.{is_character}
 use Rattle.pv_libc.specs.declared.values.Arg.{Arg}
 use Rattle.pv_world.specs.declared.got.Shape.{Shape}
 use Rattle.pv_world.specs.declared.got.Shape.TheVariants as shape
@@ -87,7 +86,7 @@ is_size n = nat_le n (2 ^ 32)
 -- 6.2.6.1: a value of the scalar type
 abbrev pub is_of : Scalar → Value → Bool
 is_of (scalar.Int k) (IntValue n) = fits_of k n
-is_of (scalar.Int k) Unset = is_character k
+is_of (scalar.Int k) Unset = is_character_kind k
 is_of (scalar.Int k) (PointerValue p) = false
 is_of scalar.Pointer (PointerValue p) = nat_lt p.address (2 ^ 64)
 is_of scalar.Pointer (IntValue n) = false

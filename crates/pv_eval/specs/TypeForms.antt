@@ -6,7 +6,7 @@ use Rattle.pv_types.specs.Ty.{Ty, VoidTy, IntTy, PointerTo, ArrayOf, FunctionTy,
 use Rattle.pv_types.specs.Layouts.{Entry, layout_in, is_complete_in}
 use Rattle.pv_types.specs.Known.{Known, trees}
 use Rattle.pv_layout.specs.Parts.{bare}
-use Rattle.pv_effect.specs.EffectiveType.{same_type}
+use Rattle.pv_types.specs.SameTypes.{same_type}
 use Rattle.pv_typed.specs.TypedUnits.{layouts}
 use Rattle.pv_world.specs.declared.got.Shape.{Shape}
 use Rattle.pv_world.specs.declared.got.Shape.TheVariants as shape

@@ -8,7 +8,7 @@ use Rattle.std.proofs.lemmas.Option.{none-some}
 use Rattle.std.proofs.lemmas.Bool.Decides.{nat_tests}
 use Rattle.pv_num.specs.declared.kinds.IntKind.{IntKind}
 use Rattle.pv_num.specs.declared.faults.Clause.{Clause}
-use Rattle.pv_num.specs.Kinds.{fits_of}
+use Rattle.pv_num.specs.Kinds.{fits_of, is_character_kind as is_character}
 use Rattle.pv_prov.specs.declared.names.Prov.{Prov}
 use Rattle.pv_prov.specs.Names.{is_empty, nobody, added}
 use Rattle.pv_inst.specs.declared.values.Instance.{Instance}
@@ -40,7 +40,6 @@ use Rattle.pv_object.specs.declared.values.Scalar.{Scalar}
 use Rattle.pv_object.specs.declared.values.Scalar.TheVariants as scalar
 use Rattle.pv_object.specs.Access.{reach, reach_after, clause_of, is_null}
 use Rattle.pv_object.specs.Encoding.{number_in}
-use Rattle.pv_object.specs.Values.{is_character}
 use Rattle.pv_object.specs.Loading.{value_of, integer_of, pointer_of, pointer_named, exposed_by, is_trap}
 use Rattle.pv_object.specs.Operations.{truth, equal, equal_after, recast, to_ptr, address_of, exposed_to, to_int, to_int_after, move_under, code, together}
 use Rattle.pv_object.specs.OperationParts.{moved}

@@ -4,7 +4,7 @@ use Rattle.std.proofs.lemmas.Bool.{false≢true}
 use Rattle.std.proofs.lemmas.Option.{none-some}
 use Rattle.pv_num.specs.declared.kinds.IntKind.{IntKind}
 use Rattle.pv_num.specs.declared.faults.Clause.{Clause}
-use Rattle.pv_num.specs.Kinds.{convert_of}
+use Rattle.pv_num.specs.Kinds.{convert_of, is_character_kind as is_character}
 use Rattle.pv_num.proofs.Congruence.{equal_fits}
 use Rattle.pv_prov.specs.declared.names.Prov.{Prov}
 use Rattle.pv_prov.specs.declared.names.Stands.{Stands}
@@ -23,7 +23,7 @@ use Rattle.pv_object.specs.declared.values.Pointer.{Pointer}
 use Rattle.pv_object.specs.declared.values.Scalar.{Scalar}
 use Rattle.pv_object.specs.declared.values.Scalar.TheVariants as scalar
 use Rattle.pv_object.specs.declared.values.Stop.{Stop}
-use Rattle.pv_object.specs.Values.{IsOf, is_character}
+use Rattle.pv_object.specs.Values.{IsOf}
 use Rattle.pv_object.specs.Encoding.{size_of, number_in}
 use Rattle.pv_object.specs.Access.{is_null}
 use Rattle.pv_object.specs.Loading.{Loaded, pointer_named, pointer_of, is_trap, integer_of, value_of}

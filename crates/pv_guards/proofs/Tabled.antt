@@ -8,13 +8,12 @@ use Rattle.pv_num.specs.declared.faults.Fault.{Fault}
 use Rattle.pv_num.specs.declared.faults.Clause.TheVariants.{AdditionOfPointers, SubtractionOfPointers, OrderOfPointers, Indirection}
 use Rattle.pv_num.specs.declared.operators.BinOp.{BinOp}
 use Rattle.pv_num.specs.declared.operators.BinOp.TheVariants as bin
-use Rattle.pv_num.specs.Kinds.{Fits, fits_of, convert_of}
+use Rattle.pv_num.specs.Kinds.{Fits, fits_of, convert_of, is_character_kind}
 use Rattle.pv_num.specs.Arithmetic.{one_if, binary_of}
 use Rattle.pv_num.proofs.Congruence.{equal_fits}
 use Rattle.pv_types.specs.Ty.{Ty, VoidTy, IntTy, PointerTo, ArrayOf, StructTag, UnionTag, FunctionTy, ConstOf}
 use Rattle.pv_types.specs.Layouts.{layout_in}
 use Rattle.pv_layout.specs.Parts.{bare}
-use Rattle.pv_effect.specs.EffectiveType.{is_character_kind}
 use Rattle.pv_prov.specs.declared.names.Prov.{Prov}
 use Rattle.pv_prov.specs.declared.names.Prov.TheVariants.{Empty, Inst, Pair}
 use Rattle.pv_inst.specs.declared.values.Instance.{Instance}
@@ -30,7 +29,6 @@ use Rattle.pv_object.specs.declared.values.Scalar.TheVariants as scalar
 use Rattle.pv_object.specs.declared.values.Stop.{Stop}
 use Rattle.pv_object.specs.declared.values.Value.{Value as ScalarValue}
 use Rattle.pv_object.specs.declared.values.Value.TheVariants.{Int as IntValue, Unset, Pointer as PointerValue}
-use Rattle.pv_object.specs.Values.{is_character}
 use Rattle.pv_object.specs.Loading.{Loaded, value_of as load_of}
 use Rattle.pv_object.specs.Operations.{truth, recast, to_int, to_int_after, exposed_to, shift, select, together, order, equal}
 use Rattle.pv_typed.specs.Known.{Each}
@@ -95,20 +93,6 @@ exposed-fits T p k tried false e = tt
 to-fits : (T : Table) (p : Pointer) (k : IntKind) (r : Result Tried Miss) → NumberFits k (to_int_after T p k r)
 to-fits T p k (Err m) = tt
 to-fits T p k (Ok tried) = exposed-fits (settled T p.prov (Ok tried)) p k tried (fits_of k (pos p.address)) refl
-
-character-same : (k : IntKind) → is_character_kind k ≡ true → is_character k ≡ true
-character-same Char e = refl
-character-same SChar e = refl
-character-same UChar e = refl
-character-same BoolKind e = absurd cc
-character-same Short e = absurd cc
-character-same UShort e = absurd cc
-character-same Int e = absurd cc
-character-same UInt e = absurd cc
-character-same Long e = absurd cc
-character-same ULong e = absurd cc
-character-same LLong e = absurd cc
-character-same ULLong e = absurd cc
 
 right-true : (a b : Bool) → (a && b) ≡ true → b ≡ true
 right-true true b e = e
@@ -196,7 +180,7 @@ module _ (b : Setting) (w : World) (within : (i : ℕ) (x : Instance) → instan
   rounds-gives : (k : IntKind) (v : Worth) → Answering (Tabled (IntTy k)) (converts (Rounds k) v w)
   rounds-gives k v = unless-answers (Tabled (IntTy k)) (unplain v) w _ (refl, here, (equal_fits k (int_of v) (convert_of k (int_of v)) refl refl, tt))
 
-  passes-gives : (j k : IntKind) (v : Worth) → is_character k ≡ true → Value b w (IntTy j) v → Answering (Tabled (IntTy k)) (converts (Passes k) v w)
+  passes-gives : (j k : IntKind) (v : Worth) → is_character_kind k ≡ true → Value b w (IntTy j) v → Answering (Tabled (IntTy k)) (converts (Passes k) v w)
   passes-gives j k (Scalar (IntValue n)) e h = (refl, here, (equal_fits k n (convert_of k n) refl refl, tt))
   passes-gives j k (Scalar Unset) e h = (refl, here, (e, tt))
   passes-gives j k (Scalar (PointerValue p)) e h = absurd h.0
@@ -204,12 +188,12 @@ module _ (b : Setting) (w : World) (within : (i : ℕ) (x : Instance) → instan
   passes-gives j k Nothing e h = absurd h.0
   passes-gives j k (Whole bs a) e h = absurd h.0
 
-  pass-or-round : (c : Bool) (j k : IntKind) (v : Worth) → (c ≡ true → is_character k ≡ true) → Value b w (IntTy j) v → Answering (Tabled (IntTy k)) (converts (if c then Passes k else Rounds k) v w)
+  pass-or-round : (c : Bool) (j k : IntKind) (v : Worth) → (c ≡ true → is_character_kind k ≡ true) → Value b w (IntTy j) v → Answering (Tabled (IntTy k)) (converts (if c then Passes k else Rounds k) v w)
   pass-or-round true j k v e h = passes-gives j k v (e refl) h
   pass-or-round false j k v e h = rounds-gives k v
 
   ints-gives : (implied : Bool) (j k : IntKind) (v : Worth) → Value b w (IntTy j) v → Answering (Tabled (IntTy k)) (converts (how_to_int implied (shape.Int j) k) v w)
-  ints-gives true j k v h = pass-or-round (is_character_kind j && is_character_kind k) j k v (λ e. character-same k (right-true (is_character_kind j) (is_character_kind k) e)) h
+  ints-gives true j k v h = pass-or-round (is_character_kind j && is_character_kind k) j k v (right-true (is_character_kind j) (is_character_kind k)) h
   ints-gives false j k v h = rounds-gives k v
 
   number-gives : (k : IntKind) (p : Pointer) (got : Result (ℤ × Tried) Stop × Table) → LivesOn got.1 → NumberFits k got → Answering (Tabled (IntTy k)) (number_by w p got)

@@ -21,18 +21,20 @@ width ULLong = 64
 
 -- 6.2.5p4 and p6: the signed and the unsigned kinds; 6.2.5p15: `char` is signed on this target
 abbrev pub is_signed : IntKind → Bool
-is_signed BoolKind = false
 is_signed Char = true
 is_signed SChar = true
-is_signed UChar = false
 is_signed Short = true
-is_signed UShort = false
 is_signed Int = true
-is_signed UInt = false
 is_signed Long = true
-is_signed ULong = false
 is_signed LLong = true
-is_signed ULLong = false
+is_signed _ = false
+
+-- 6.2.5p15: the character types: `char`, `signed char` and `unsigned char`
+abbrev pub is_character_kind : IntKind → Bool
+is_character_kind Char = true
+is_character_kind SChar = true
+is_character_kind UChar = true
+is_character_kind _ = false
 
 -- 6.2.5p9: 2 to the width
 abbrev pub modulus_of : IntKind → ℕ

@@ -1,7 +1,7 @@
 -- What bytes are worth rests on their values, names and indices alone, and what a value is stored as has the marks of the store (C17 6.2.6.1, 6.5p6).
 use Rattle.std.proofs.Common.{◌≡◌, ℕ, ◌+◌, ◌&&◌, ◌/◌, List, [], ◌∷◌, Option, Some, None, Ok, Err, pos, option_map, option_and_then, if◌then◌else◌, refl, ap, ◌∙◌}
 use Rattle.pv_num.specs.declared.kinds.IntKind.{IntKind}
-use Rattle.pv_num.specs.Kinds.{convert_of, width, bits_of}
+use Rattle.pv_num.specs.Kinds.{convert_of, width, bits_of, is_character_kind as is_character}
 use Rattle.pv_num.specs.declared.faults.Clause.TheVariants as clause
 use Rattle.pv_num.specs.declared.faults.Reason.TheVariants as reason
 use Rattle.pv_prov.specs.declared.names.Prov.{Prov}
@@ -17,7 +17,6 @@ use Rattle.pv_object.specs.declared.values.Scalar.TheVariants as scalar
 use Rattle.pv_object.specs.declared.values.Value.{Value}
 use Rattle.pv_object.specs.declared.values.Value.TheVariants as value
 use Rattle.pv_object.specs.declared.values.Stop.TheVariants.{Indeterminate}
-use Rattle.pv_object.specs.Values.{is_character}
 use Rattle.pv_object.specs.Encoding.{number_in, encode}
 use Rattle.pv_object.specs.Access.{fault}
 use Rattle.pv_object.specs.Loading.{exposed_by, pointer_named, pointer_of, is_trap, integer_of, value_of}

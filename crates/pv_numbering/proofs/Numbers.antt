@@ -8,7 +8,8 @@ use Rattle.pv_types.specs.Ty.{Ty, VoidTy, IntTy, PointerTo, ArrayOf, StructTag, 
 use Rattle.pv_types.specs.Known.{Known, tree, trees}
 use Rattle.pv_types.proofs.Trees.{length-trees}
 use Rattle.pv_layout.specs.Parts.{bare}
-use Rattle.pv_effect.specs.EffectiveType.{same_type, same_or_counterpart, is_character}
+use Rattle.pv_effect.specs.EffectiveType.{same_or_counterpart, is_character}
+use Rattle.pv_types.specs.SameTypes.{same_type}
 use Rattle.pv_world.specs.declared.got.Shape.TheVariants as shape
 use Rattle.pv_eval.specs.States.{Setting}
 use Rattle.pv_eval.specs.TypeForms.{number_of, shape_of, lvalue}

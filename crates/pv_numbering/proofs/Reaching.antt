@@ -11,7 +11,7 @@ use Rattle.pv_object.specs.declared.values.Reach.{Reach}
 use Rattle.pv_object.specs.declared.values.Stop.{Stop}
 use Rattle.pv_object.specs.declared.values.Stop.TheVariants as stop
 use Rattle.pv_object.specs.declared.values.Asker.TheVariants.{Access}
-use Rattle.pv_object.specs.Values.{is_character}
+use Rattle.pv_num.specs.Kinds.{is_character_kind as is_character}
 use Rattle.pv_object.specs.Encoding.{encode}
 use Rattle.pv_object.specs.Access.{reach}
 use Rattle.pv_object.specs.Loading.{Loaded}

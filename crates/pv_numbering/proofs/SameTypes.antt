@@ -6,7 +6,7 @@ use Rattle.std.proofs.lemmas.Bool.Decides.{Decides-eqb}
 use Rattle.pv_num.specs.declared.kinds.IntKind.{IntKind}
 use Rattle.pv_types.specs.Ty.{Ty, Tys, VoidTy, IntTy, PointerTo, ArrayOf, StructTag, UnionTag, FunctionTy, ConstOf, NoTys, MoreTys}
 use Rattle.pv_types.specs.Compatible.{same_kind}
-use Rattle.pv_effect.specs.EffectiveType.{same_size, same_type, same_types}
+use Rattle.pv_types.specs.SameTypes.{same_type, same_size, same_types}
 
 kind_decides : (k l : IntKind) → Decides (same_kind k l) (k ≡ l)
 kind_decides k l = search rules

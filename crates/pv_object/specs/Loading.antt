@@ -4,7 +4,7 @@ use Rattle.pv_num.specs.declared.kinds.IntKind.{IntKind}
 use Rattle.pv_num.specs.declared.kinds.IntKind.TheVariants.{Bool as BoolKind}
 use Rattle.pv_num.specs.declared.faults.Clause.TheVariants as clause
 use Rattle.pv_num.specs.declared.faults.Reason.TheVariants as reason
-use Rattle.pv_num.specs.Kinds.{convert_of}
+use Rattle.pv_num.specs.Kinds.{convert_of, is_character_kind}
 use Rattle.pv_prov.specs.declared.names.Prov.{Prov}
 use Rattle.pv_inst.specs.declared.values.Test.TheVariants.{Live}
 use Rattle.pv_inst.specs.declared.values.Tried.{Tried}
@@ -22,7 +22,6 @@ use Rattle.pv_object.specs.declared.values.Value.{Value}
 use Rattle.pv_object.specs.declared.values.Value.TheVariants as value
 use Rattle.pv_object.specs.declared.values.Stop.{Stop}
 use Rattle.pv_object.specs.declared.values.Stop.TheVariants.{Indeterminate}
-use Rattle.pv_object.specs.Values.{is_character}
 use Rattle.pv_object.specs.Encoding.{size_of, number_in}
 use Rattle.pv_object.specs.Access.{fault}
 use Rattle.pv_object.specs.Memory.{Mem}
@@ -61,7 +60,7 @@ is_trap _ n = false
 -- 3.19.2, 6.2.6.1p5: a byte without a value is unset as a character, and indeterminate as any other integer. Its names are exposed
 -- (the memory model) behind the checks
 abbrev pub integer_of : Table → IntKind → List Byte → Option ℕ → Loaded
-integer_of T k bytes None = if is_character k then (Ok (value.Unset, untried), exposed_by T bytes) else (Err Indeterminate, T)
+integer_of T k bytes None = if is_character_kind k then (Ok (value.Unset, untried), exposed_by T bytes) else (Err Indeterminate, T)
 integer_of T k bytes (Some n) =
     if is_trap k n then (Err (fault clause.Traps reason.Trap), T)
     else (Ok (value.Int (convert_of k (pos n)), untried), exposed_by T bytes)

@@ -20,7 +20,7 @@ use Rattle.pv_check.specs.declared.specifiers.Storage.TheVariants as storage
 use Rattle.pv_check.specs.Specifiers.{Specified}
 use Rattle.pv_typed.specs.TypedTree.{is_function}
 use Rattle.pv_check.specs.Tags.{tag_alone}
-use Rattle.pv_check.specs.Qualified.{same}
+use Rattle.pv_types.specs.SameTypes.{same_type as same}
 use Rattle.pv_check.specs.Composite.{composite}
 use Rattle.pv_check.specs.Derivations.{Parameter, Signature, declared_name, derived}
 use Rattle.pv_check.specs.Typing.{steps}

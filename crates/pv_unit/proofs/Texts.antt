@@ -21,7 +21,8 @@ use Rattle.pv_check.specs.Raw.{Raw}
 use Rattle.pv_check.proofs.ArmLaws.{goes_kept}
 use Rattle.pv_check.proofs.Opening.{open_goes, state_stays, then_goes}
 use Rattle.pv_unit.specs.declared.parts.Subobject.{Subobject}
-use Rattle.pv_unit.specs.Parts.{character_layer, is_character_kind}
+use Rattle.pv_unit.specs.Parts.{character_layer}
+use Rattle.pv_num.specs.Kinds.{is_character_kind}
 use Rattle.pv_unit.specs.Initializers.{characters, filled_type, filled_with}
 use Rattle.pv_unit.specs.Stores.{AreStores, Fills, behind, stores_if, stores_in}
 use Rattle.pv_unit.specs.Subobjects.{part_of}

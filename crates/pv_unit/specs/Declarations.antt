@@ -17,7 +17,7 @@ use Rattle.pv_check.specs.Derivations.{Derivation, ByArray, declared_name, deriv
 use Rattle.pv_check.specs.Typing.{specifiers, steps}
 use Rattle.pv_types.specs.Compatible.{are_compatible}
 use Rattle.pv_unit.specs.Library.{main_type}
-use Rattle.pv_check.specs.Qualified.{same}
+use Rattle.pv_types.specs.SameTypes.{same_type}
 use Rattle.pv_unit.specs.Redeclarations.{UnitState, unit_name, marked, is_initialized, object_declared, function_declared}
 use Rattle.pv_unit.specs.ValueRules.{initialized, with_given}
 use Rattle.std.specs.List.{list_any}
@@ -77,7 +77,7 @@ type_declared unsized t d s = do
 -- 6.7p3: the same typedef may stand again, with the same type
 abbrev pub typedef_again : Option Meaning → ℕ → Ty → UnitState → Option UnitState
 typedef_again None n t u = Some (record u { state = bind n (TypedefOf t) u.state })
-typedef_again (Some (TypedefOf v)) n t u = if same v t then Some u else None
+typedef_again (Some (TypedefOf v)) n t u = if same_type v t then Some u else None
 typedef_again (Some _) n t u = None
 
 -- 6.7p3: by what the name stands for at file scope

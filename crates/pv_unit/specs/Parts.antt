@@ -1,8 +1,7 @@
 -- The parts of an object that the initializers of a list in braces are for (6.7.9p17 to p20).
 use Rattle.std.specs.Prelude.{ℕ, zero, suc, ◌+◌, ◌*◌, ◌^◌, Bool, true, false, nat_lt, nat_le, if◌then◌else◌, List, [], ◌∷◌, Option, Some, None, option_map, option_and_then}
 use Rattle.std.specs.declared.option.Option.TheVariants.{Some as Size, None as Unknown}
-use Rattle.pv_num.specs.declared.kinds.IntKind.{IntKind}
-use Rattle.pv_num.specs.declared.kinds.IntKind.TheVariants as kind
+use Rattle.pv_num.specs.Kinds.{is_character_kind}
 use Rattle.pv_types.specs.Ty.{Ty, IntTy, ArrayOf, StructTag, UnionTag}
 use Rattle.pv_types.specs.Layouts.{Part, Entry, Named, Placed, Completed, layout_in, layouts_of, is_complete_in, part_count}
 use Rattle.pv_types.specs.Members.{placed_in, member_part}
@@ -49,13 +48,6 @@ aggregate_layer (ArrayOf t n) = true
 aggregate_layer (StructTag n) = true
 aggregate_layer (UnionTag n) = true
 aggregate_layer _ = false
-
--- 6.2.5p15: the three character types
-abbrev pub is_character_kind : IntKind → Bool
-is_character_kind kind.Char = true
-is_character_kind kind.SChar = true
-is_character_kind kind.UChar = true
-is_character_kind _ = false
 
 -- 6.2.5p15: a character type, of a type without qualifiers
 abbrev pub character_layer : Ty → Bool

@@ -15,7 +15,7 @@ use Rattle.pv_typed.proofs.Each.{each_append, each_weaker}
 use Rattle.pv_typed.specs.TypedUnits.{WholeUnit, TypedObject, Store, layouts, object_at}
 use Rattle.pv_typed.specs.UnitParts.{no_object}
 use Rattle.pv_check.specs.Composite.{composite}
-use Rattle.pv_check.specs.Qualified.{same}
+use Rattle.pv_types.specs.SameTypes.{same_type as same}
 use Rattle.pv_typed.specs.TypedTree.{is_function}
 use Rattle.pv_check.specs.State.{State, After, Scope, Meaning, ObjectName, FunctionName, TypedefOf, ConstantOf, innermost, find, bind, env}
 use Rattle.pv_typed.specs.Constants.{and_then}

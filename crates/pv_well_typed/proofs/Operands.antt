@@ -8,7 +8,8 @@ use Rattle.pv_layout.specs.Parts.{bare}
 use Rattle.pv_typed.specs.TypedTree.{TypedTree, Read, ArrayPointer, Convert, type_of, line_of, is_lvalue}
 use Rattle.pv_typed.specs.TypedUnits.{WholeUnit}
 use Rattle.pv_check.specs.Kinds.{promoted}
-use Rattle.pv_check.specs.Qualified.{unqualified, same}
+use Rattle.pv_check.specs.Qualified.{unqualified}
+use Rattle.pv_types.specs.SameTypes.{same_type as same}
 use Rattle.pv_check.specs.Sorts.{is_array}
 use Rattle.pv_check.specs.Values.{implied, read_at, value_of, converted, promotion, promoted_value}
 use Rattle.pv_check.proofs.Same.{same_equal}

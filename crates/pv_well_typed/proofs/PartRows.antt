@@ -13,7 +13,8 @@ use Rattle.pv_types.proofs.Fills.{struct_end-ge, union_end-ge}
 use Rattle.pv_types.proofs.LayoutLaws.{complete-append}
 use Rattle.pv_typed.specs.Known.{Each}
 use Rattle.pv_typed.specs.TypedUnits.{WholeUnit}
-use Rattle.pv_unit.specs.Parts.{part_number, first_member, part_in, part_at, is_scalar, character_layer, is_character_kind, sized, can_be_initialized, leaf_within, first_leaf}
+use Rattle.pv_unit.specs.Parts.{part_number, first_member, part_in, part_at, is_scalar, character_layer, sized, can_be_initialized, leaf_within, first_leaf}
+use Rattle.pv_num.specs.Kinds.{is_character_kind}
 use Rattle.pv_unit.specs.PartParts.{within}
 use Rattle.pv_unit.specs.InitializerParts.{zero_leaf}
 use Rattle.pv_well_typed.specs.Proper.{IsProper}

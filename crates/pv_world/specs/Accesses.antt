@@ -12,7 +12,7 @@ use Rattle.pv_object.specs.declared.values.Reach.{Reach}
 use Rattle.pv_object.specs.declared.values.Stop.{Stop}
 use Rattle.pv_object.specs.declared.values.Stop.TheVariants.{Undefined as UndefinedStop}
 use Rattle.pv_object.specs.declared.values.Asker.TheVariants.{Access}
-use Rattle.pv_object.specs.Values.{is_character}
+use Rattle.pv_num.specs.Kinds.{is_character_kind}
 use Rattle.pv_object.specs.Encoding.{encode}
 use Rattle.pv_object.specs.Access.{reach}
 use Rattle.pv_object.specs.Loading.{Loaded, value_of as load_of}
@@ -61,7 +61,7 @@ worth_in w bytes (shape.Int k) origin p t = scalar_by w bytes (shape.Int k) p t 
 
 -- 6.5p6: a store through a type that is no character type marks the bytes with the number of the type
 abbrev pub mark_of : (number : ℕ) → Shape → Option ℕ
-mark_of number (shape.Int k) = if is_character k then None else Some number
+mark_of number (shape.Int k) = if is_character_kind k then None else Some number
 mark_of number shape.Pointer = Some number
 mark_of number shape.Whole = None
 

@@ -5,7 +5,7 @@ use Rattle.std.proofs.lemmas.Bool.{false≢true, leb-true}
 use Rattle.std.proofs.lemmas.List.Elements.{All-cons, All-nil}
 use Rattle.pv_num.specs.declared.kinds.IntKind.{IntKind}
 use Rattle.pv_num.specs.declared.kinds.IntKind.TheVariants as kind
-use Rattle.pv_num.specs.Kinds.{width, bits_of}
+use Rattle.pv_num.specs.Kinds.{width, bits_of, is_character_kind as is_character}
 use Rattle.pv_types.specs.Ty.{Ty, VoidTy, IntTy, PointerTo, ArrayOf, StructTag, UnionTag, FunctionTy, ConstOf}
 use Rattle.pv_prov.specs.declared.names.Prov.{Prov}
 use Rattle.pv_inst.specs.declared.values.Instance.{Instance}
@@ -20,7 +20,7 @@ use Rattle.pv_object.specs.declared.values.Value.TheVariants.{Int as IntValue, U
 use Rattle.pv_object.specs.Answers.{IsMadeValue}
 use Rattle.pv_object.specs.Encoding.{encode, size_of as scalar_size}
 use Rattle.pv_object.specs.Later.{IsLater}
-use Rattle.pv_object.specs.Values.{IsOf, is_character}
+use Rattle.pv_object.specs.Values.{IsOf}
 use Rattle.pv_object.proofs.Contents.{encode_made}
 use Rattle.pv_object.proofs.Later.{made_later}
 use Rattle.pv_world.specs.declared.got.Shape.{Shape}

@@ -4,7 +4,7 @@ use Rattle.pv_num.specs.declared.kinds.IntKind.{IntKind}
 use Rattle.pv_num.specs.declared.faults.Clause.{Clause}
 use Rattle.pv_num.specs.declared.faults.Clause.TheVariants as clause
 use Rattle.pv_num.specs.declared.faults.Reason.TheVariants as reason
-use Rattle.pv_num.specs.Kinds.{fits_of, convert_of}
+use Rattle.pv_num.specs.Kinds.{fits_of, convert_of, is_character_kind as is_character}
 use Rattle.pv_prov.specs.declared.names.Prov.{Prov}
 use Rattle.pv_prov.specs.Names.{is_empty}
 use Rattle.pv_inst.specs.declared.values.Test.TheVariants.{Live, Range}
@@ -22,7 +22,6 @@ use Rattle.pv_object.specs.declared.values.Value.{Value}
 use Rattle.pv_object.specs.declared.values.Value.TheVariants as value
 use Rattle.pv_object.specs.declared.values.Stop.{Stop}
 use Rattle.pv_object.specs.Encoding.{number_in}
-use Rattle.pv_object.specs.Values.{is_character}
 use Rattle.pv_object.specs.Access.{fault, is_null}
 use Rattle.pv_object.specs.Loading.{tested, pointer_named, pointer_of, exposed_by, integer_of, is_trap, value_of}
 use Rattle.pv_object.specs.OperationParts.{live_answer, truth_by, equal_by, moved_by, moved}
