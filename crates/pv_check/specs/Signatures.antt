@@ -1,7 +1,8 @@
 -- A bridge: the outermost layer of a function type in the table of types.
 use Rattle.std.specs.Prelude.{ℕ, ◌<◌, length}
 use Rattle.pv_types.specs.Ty.{Ty, FunctionTy}
-use Rattle.pv_types.specs.Known.{Known, list_at, tree}
+use Rattle.pv_types.specs.Known.{Known, tree}
+use Rattle.pv_types.specs.KnownParts.{list_at}
 use Rattle.pv_types.specs.Formed.{AllBelow, parameters_at}
 use Rattle.pv_check.specs.declared.composite_types.Signature.{Signature}
 

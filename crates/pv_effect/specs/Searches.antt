@@ -1,7 +1,8 @@
 -- A bridge: what a search for the scalars that a byte lies in asks, and what it comes to.
 use Rattle.std.specs.Prelude.{List, ℕ, ◌<◌, ◌≤◌, ◌^◌, ◌&&◌, Bool, true, IsTrue, length}
 use Rattle.pv_types.specs.Ty.{Ty}
-use Rattle.pv_types.specs.Layouts.{Layout, Part, repeated, layout_in, is_complete_in, union_parts, part_count}
+use Rattle.pv_types.specs.Layouts.{Layout, Part, repeated, layout_in, is_complete_in}
+use Rattle.pv_types.specs.LayoutParts.{part_count, union_parts}
 use Rattle.pv_types.specs.Known.{Known, tree, env}
 use Rattle.pv_types.specs.Formed.{named}
 use Rattle.pv_layout.specs.Parts.{is_scalar}

@@ -2,7 +2,8 @@
 use Rattle.std.proofs.Common.{◌≡◌, ℕ, suc, ◌<◌, Bool, false, ◌&&◌, ◌||◌, ◌==◌, IsTrue, List, length, refl, sym, ◌∙◌, ap}
 use Rattle.pv_types.specs.Ty.{Ty, VoidTy, IntTy, PointerTo, ArrayOf, StructTag, UnionTag, FunctionTy, ConstOf}
 use Rattle.pv_types.specs.Qualifiers.{is_const}
-use Rattle.pv_types.specs.Layouts.{Entry, layout_in, is_complete_in, part_count}
+use Rattle.pv_types.specs.Layouts.{Entry, layout_in, is_complete_in}
+use Rattle.pv_types.specs.LayoutParts.{part_count}
 use Rattle.pv_types.specs.Known.{Known, tree, env}
 use Rattle.pv_types.specs.Formed.{IsBuilt}
 use Rattle.pv_types.proofs.Wholes.{inner_parts, BeginsWhole, begins_whole}

@@ -6,7 +6,8 @@ use Rattle.pv_types.specs.declared.terms.Member.{Member}
 use Rattle.pv_types.specs.declared.terms.Term.TheVariants.{Void, Int, Pointer, Array, Struct, Union, Function, Const}
 use Rattle.pv_types.specs.Ty.{Ty, Tys, VoidTy, IntTy, PointerTo, ArrayOf, StructTag, UnionTag, FunctionTy, ConstOf, NoTys, MoreTys}
 use Rattle.pv_types.specs.Layouts.{Named, Completed}
-use Rattle.pv_types.specs.Known.{DoneTag, at, tys_in, list_at, tree_in, trees_of, named_in, completed_in}
+use Rattle.pv_types.specs.Known.{DoneTag, at, tys_in, tree_in, trees_of, named_in, completed_in}
+use Rattle.pv_types.specs.KnownParts.{list_at}
 use Rattle.pv_typed.specs.Built.{built}
 use Rattle.pv_numbering.proofs.Entries.{NodeTables, Filled, Puts, longer_same, longer_push, filled_on, kept, made, beside, paired, found, found_built}
 

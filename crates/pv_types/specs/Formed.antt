@@ -6,7 +6,8 @@ use Rattle.pv_types.specs.Layouts.{is_complete_in, Entry, Named, Completed, look
 use Rattle.pv_types.specs.declared.terms.Term.{Term}
 use Rattle.pv_types.specs.declared.terms.Term.TheVariants.{Void, Pointer, Array, Function, Const, Struct, Union}
 use Rattle.pv_types.specs.declared.terms.TypeId.{TypeId}
-use Rattle.pv_types.specs.Known.{list_at, Heading, heading_at, Known, trees, tys_in, trees_of, tree_in, at, completed_in, named_in, DoneTag, env}
+use Rattle.pv_types.specs.Known.{Heading, heading_at, Known, trees, tys_in, trees_of, tree_in, at, completed_in, named_in, DoneTag, env}
+use Rattle.pv_types.specs.KnownParts.{list_at}
 use Rattle.pv_types.specs.declared.terms.Member.{Member}
 
 -- 6.7.6.3p7, p8: each of the types is one that a parameter may have

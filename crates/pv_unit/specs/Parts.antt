@@ -1,9 +1,9 @@
 -- The parts of an object that the initializers of a list in braces are for (6.7.9p17 to p20).
-use Rattle.std.specs.Prelude.{ℕ, zero, suc, ◌+◌, ◌*◌, ◌^◌, Bool, true, false, nat_lt, nat_le, if◌then◌else◌, List, [], ◌∷◌, Option, Some, None, option_map, option_and_then}
+use Rattle.std.specs.Prelude.{ℕ, zero, suc, ◌+◌, ◌*◌, ◌^◌, Bool, true, false, nat_lt, nat_le, if◌then◌else◌, List, [], ◌∷◌, length, Option, Some, None, option_map, option_and_then}
 use Rattle.std.specs.declared.option.Option.TheVariants.{Some as Size, None as Unknown}
 use Rattle.pv_num.specs.Kinds.{is_character_kind}
 use Rattle.pv_types.specs.Ty.{Ty, IntTy, ArrayOf, StructTag, UnionTag}
-use Rattle.pv_types.specs.Layouts.{Part, Entry, Named, Placed, Completed, layout_in, layouts_of, is_complete_in, part_count}
+use Rattle.pv_types.specs.Layouts.{Part, Entry, Named, Placed, Completed, layout_in, layouts_of, is_complete_in}
 use Rattle.pv_types.specs.Members.{placed_in, member_part}
 use Rattle.pv_layout.specs.Parts.{bare}
 use Rattle.pv_check.specs.Sorts.{is_scalar_in}
@@ -80,4 +80,4 @@ leaf_within (suc n) done p = if is_scalar p.t then Some p else option_and_then (
 
 -- 6.7.9p20: the first scalar: the first part of the first part, and so on
 abbrev pub first_leaf : List Completed → Part → Option Part
-first_leaf done p = leaf_within (part_count (layout_in (layouts_of done) p.t) + 1) done p
+first_leaf done p = leaf_within (length (layout_in (layouts_of done) p.t).parts + 1) done p

@@ -6,7 +6,8 @@ use Rattle.std.specs.Int.{next_multiple_of}
 use Rattle.pv_num.specs.declared.kinds.IntKind.{IntKind}
 use Rattle.pv_num.specs.declared.kinds.IntKind.TheVariants as kind
 use Rattle.pv_layout.specs.Parts.{bare}
-use Rattle.pv_types.specs.Layouts.{Entry, Named, Part, Completed, layout_in, layout_at, layouts_of, is_complete_in, struct_placed, union_placed, struct_end, union_end, part_count}
+use Rattle.pv_types.specs.Layouts.{Entry, Named, Part, Completed, layout_in, layout_at, layouts_of, is_complete_in, struct_placed, union_placed}
+use Rattle.pv_types.specs.LayoutParts.{part_count, struct_end, union_end}
 use Rattle.pv_types.specs.Members.{completed_members}
 use Rattle.pv_types.specs.Ty.{Ty, VoidTy, IntTy, PointerTo, ArrayOf, StructTag, UnionTag, FunctionTy, ConstOf}
 use Rattle.pv_types.proofs.Fills.{struct_end-ge, union_end-ge}

@@ -1,7 +1,8 @@
 use Rattle.std.proofs.Common.{◌≡◌, ◌<◌, ◌≤◌, IsTrue, length, arith, ◌∙◌, ap, subst}
 use Rattle.pv_types.specs.Ty.{ArrayOf, Ty}
 use Rattle.pv_types.specs.Formed.{are_adjusted, parameters_at}
-use Rattle.pv_types.specs.Known.{Known, tree, trees, tys_in, list_at}
+use Rattle.pv_types.specs.Known.{Known, tree, trees, tys_in}
+use Rattle.pv_types.specs.KnownParts.{list_at}
 use Rattle.pv_types.specs.Matching.{Matches, MatchAll}
 use Rattle.pv_types.proofs.Matched.{matching_array, matching_parameters, matching_result}
 use Rattle.pv_check.specs.Growing.{Grows}

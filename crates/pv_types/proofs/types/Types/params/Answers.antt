@@ -3,7 +3,8 @@ use Rattle.std.proofs.Math.Seq.{get_or-append_seam}
 use Rattle.std.proofs.lemmas.List.{length-map}
 use Rattle.pv_types.specs.declared.terms.TypeId.{TypeId}
 use Rattle.pv_types.specs.Kept.{kept_of, AreMeasured}
-use Rattle.pv_types.specs.Known.{Known, list_at, tree, trees, tys_in, env, completed_in}
+use Rattle.pv_types.specs.Known.{Known, tree, trees, tys_in, env, completed_in}
+use Rattle.pv_types.specs.KnownParts.{list_at}
 use Rattle.pv_types.specs.Formed.{IsBuilt, AllBelow, IsNoList, completions, parameters_at, are_adjusted}
 use Rattle.pv_types.specs.Shown.{shown}
 use Rattle.pv_types.proofs.Built.{built_list, env-list}
