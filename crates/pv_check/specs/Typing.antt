@@ -93,7 +93,6 @@ abbrev mutual
   specifiers NoTrees s = give (Some nothing_seen) s
   specifiers (Then before x) s = specifiers before s >>= specifier_in x
 
-  -- one specifier more
   pub specifier_in : Tree → After Seen → Option (After Seen)
   specifier_in (OfSpecifier x) a = specifier x a.value a.state
   specifier_in _ a = None
@@ -180,7 +179,6 @@ abbrev mutual
     b ← parameters ps (entered a.state)
     and_then (signature false b) (λ g. give (Some (with_function a.value g.value)) g.state)
 
-  -- the steps of a declarator that may be left out
   pub optional_steps : OptionalTree → State → Option (After Steps)
   optional_steps Absent s = give (Some no_steps) s
   optional_steps (Present (OfDeclarator d)) s = steps d s

@@ -6,20 +6,20 @@ use Rattle.pv_world.specs.Worlds.{Worth}
 use Rattle.pv_eval.specs.States.{Res, end_of}
 use Rattle.pv_eval.specs.Acting.{pair_count}
 use Rattle.pv_exec.specs.declared.outcome.Outcome.{Outcome}
-use Rattle.pv_exec.specs.declared.outcome.Outcome.TheVariants as outcome
+use Rattle.pv_exec.specs.declared.outcome.Outcome.TheVariants.{Undefined, Undecided}
 use Rattle.pv_exec.specs.Run.{outcome_of, sides_at}
 use Rattle.pv_exec.specs.Laws.{run_at}
 use Rattle.pv_exec.specs.Laying.{HasNoEmptyTag}
 
 -- 3.4.3: undefined behaviour
 abbrev pub IsUndefined : Outcome → Type 0
-IsUndefined (outcome.Undefined f line) = Unit {0}
+IsUndefined (Undefined f line) = Unit {0}
 IsUndefined _ = ⊥
 
 -- 3.4.3, the memory model: neither undefined nor undecided
 abbrev pub IsDecided : Outcome → Type 0
-IsDecided (outcome.Undefined f line) = ⊥
-IsDecided (outcome.Undecided line) = ⊥
+IsDecided (Undefined f line) = ⊥
+IsDecided (Undecided line) = ⊥
 IsDecided _ = Unit {0}
 
 -- 5.1.2.3p6: the second run ends as the first one, after as many turns and with the same output

@@ -24,7 +24,6 @@ abbrev mutual
   same_type (ConstOf t) (ConstOf u) = same_type t u
   same_type _ _ = false
 
-  -- and so of two lists of parameters
   pub same_types : Tys → Tys → Bool
   same_types NoTys NoTys = true
   same_types (MoreTys t ts) (MoreTys u us) = same_type t u && same_types ts us

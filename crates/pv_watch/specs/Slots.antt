@@ -18,13 +18,13 @@ kind_of (Left kind text) = kind
 
 -- the slot's kind is one of these (docs/FORMATS.md, What watchers say; memory model)
 abbrev pub is_kept : List ℕ → Slot → Bool
-is_kept kinds slot = list_any (λ k. k == kind_of slot) kinds
+is_kept kinds s = list_any (λ k. k == kind_of s) kinds
 
 -- a watcher that has seen as many events as it wants has left its text (docs/FORMATS.md, What watchers say; memory model)
 abbrev pub Stays : Bool → (kind wants : ℕ) → List Event → List (List ℕ) → Slot → Type 0
 Stays true kind wants seen names (Present k w s) = ⊥
 Stays true kind wants seen names (Left k text) = (k ≡ kind) × IsText kind wants seen names text
-Stays false kind wants seen names slot = slot ≡ Present kind wants seen
+Stays false kind wants seen names s = s ≡ Present kind wants seen
 
 -- one event of the memory model more
 abbrev pub After : Event → List (List ℕ) → Slot → Slot → Type 0
@@ -44,7 +44,7 @@ Says names (Left kind text) said = said ≡ text
 -- the texts of all slots in order (docs/FORMATS.md, What watchers say; memory model)
 abbrev pub SayAll : List (List ℕ) → List Slot → List ℕ → Type 0
 SayAll names [] text = text ≡ []
-SayAll names (slot ∷ slots) text = (first : List ℕ) × (rest : List ℕ) × (text ≡ first ++ rest) × Says names slot first × SayAll names slots rest
+SayAll names (s ∷ others) text = (first : List ℕ) × (rest : List ℕ) × (text ≡ first ++ rest) × Says names s first × SayAll names others rest
 
 -- a watcher of a run's events (memory model), by what the trait says of it
 abbrev pub watcher : {W : Type 0} → (W → ℕ) → (W → ℕ) → (W → List Event) → W → Slot
