@@ -53,8 +53,7 @@ sign_of a b = if nat_lt a b then negsuc 0 else (if a == b then pos 0 else pos 1)
 -- 7.24.4p1, 7.24.4.1p3: the sign of the first difference
 abbrev pub difference : List ℕ → List ℕ → ℤ
 difference (a ∷ ls) (b ∷ rs) = if a == b then difference ls rs else sign_of a b
-difference [] rs = pos 0
-difference (a ∷ ls) [] = pos 0
+difference _ _ = pos 0
 
 -- 7.24.4.1p2: both are checked, the left one first; then all of the left are read, and all of the right
 abbrev pub memcmp : Given → Given → ℕ → Now → Did Reply
