@@ -24,8 +24,7 @@ how_to_int implied shape.Whole k = Rounds k
 -- 6.3.2.3p5, p7: to a type of pointers to this one
 abbrev pub how_to_pointer : List Entry → Shape → Ty → How
 how_to_pointer env shape.Pointer t = Recasts (alignment_by env t)
-how_to_pointer env (shape.Int j) t = Points
-how_to_pointer env shape.Whole t = Points
+how_to_pointer env _ t = Points
 
 -- 6.3: by how values of the two types look, and what the second one points to. 6.3.2.2: to any other type a value is given up
 abbrev pub how_by : List Entry → (implied : Bool) → (from to : Shape) → (pointee : Ty) → How

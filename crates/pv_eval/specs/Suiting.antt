@@ -18,7 +18,7 @@ use Rattle.pv_object.specs.declared.values.Value.TheVariants.{Int as IntValue, U
 use Rattle.pv_libc.specs.declared.values.Arg.{Arg}
 use Rattle.pv_world.specs.declared.got.Shape.{Shape}
 use Rattle.pv_world.specs.declared.got.Shape.TheVariants as shape
-use Rattle.pv_world.specs.Worlds.{Worth, Nothing, Missing, Scalar as ScalarWorth, Whole, World}
+use Rattle.pv_world.specs.Worlds.{Worth, Missing, Scalar as ScalarWorth, Whole, World}
 use Rattle.pv_world.specs.Worths.{int_of}
 
 -- what a name speaks of was made (the memory model: provenance)
@@ -30,8 +30,7 @@ knows T (Pair k) = nat_le 1 k && nat_le k (length T.pairs)
 -- the same of the name in a value (the memory model)
 abbrev pub knows_value : Table → Value → Bool
 knows_value T (PointerValue p) = knows T p.prov
-knows_value T (IntValue n) = true
-knows_value T Unset = true
+knows_value T _ = true
 
 -- the same of the names in abstract bytes (the memory model)
 abbrev pub knows_bytes : Table → List Byte → Bool
@@ -41,8 +40,7 @@ knows_bytes T bytes = list_all (λ (x : Byte). knows T x.prov) bytes
 abbrev pub knows_worth : Table → Worth → Bool
 knows_worth T (ScalarWorth v) = knows_value T v
 knows_worth T (Whole bytes origin) = knows_bytes T bytes
-knows_worth T Nothing = true
-knows_worth T Missing = true
+knows_worth T _ = true
 
 -- the same of the names in arguments (the memory model)
 abbrev pub knows_arguments : Table → List Arg → Bool
@@ -54,16 +52,14 @@ is_small v = int_le (neg_ℤ (pos (2 ^ 64))) (int_of v) && int_le (int_of v) (po
 
 -- 6.8.4.2p1: an integer, if the value is there and was set
 abbrev pub is_integer_value : Value → Bool
-is_integer_value (IntValue n) = true
-is_integer_value Unset = true
 is_integer_value (PointerValue p) = false
+is_integer_value _ = true
 
 -- 6.8.4.2p1: the same of what an expression gives
 abbrev pub is_integer : Worth → Bool
 is_integer (ScalarWorth v) = is_integer_value v
 is_integer Missing = true
-is_integer Nothing = false
-is_integer (Whole bytes origin) = false
+is_integer _ = false
 
 -- 6.3.1.1p2: the integer promotions leave the kind as it is
 abbrev pub is_promoted : IntKind → Bool
@@ -87,10 +83,8 @@ is_size n = nat_le n (2 ^ 32)
 abbrev pub is_of : Scalar → Value → Bool
 is_of (scalar.Int k) (IntValue n) = fits_of k n
 is_of (scalar.Int k) Unset = is_character_kind k
-is_of (scalar.Int k) (PointerValue p) = false
 is_of scalar.Pointer (PointerValue p) = nat_lt p.address (2 ^ 64)
-is_of scalar.Pointer (IntValue n) = false
-is_of scalar.Pointer Unset = false
+is_of _ _ = false
 
 -- 6.5.16.1p2, 6.7.9p11, p13: a value that is stored in so many bytes is one of the type
 abbrev pub is_stored : Shape → ℕ → Worth → Bool
@@ -103,8 +97,7 @@ is_stored s n v = false
 abbrev pub has_part : Worth → (offset size : ℕ) → Bool
 has_part (Whole bytes origin) offset size = nat_le (offset + size) (length bytes)
 has_part Missing offset size = true
-has_part Nothing offset size = false
-has_part (ScalarWorth v) offset size = false
+has_part _ offset size = false
 
 -- 6.2.4p2: the instance is there and lives
 abbrev pub live_in : Option Instance → Bool

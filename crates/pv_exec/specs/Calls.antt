@@ -9,7 +9,7 @@ use Rattle.pv_world.specs.Worths.{int}
 use Rattle.pv_eval.specs.States.{Setting, State, Res, Gives, Stops, Unreached, then_do, tick}
 use Rattle.pv_eval.specs.TypeForms.{lvalue, gives_none}
 use Rattle.pv_eval.specs.Operations.{Makes, BeginsBody, EndsBody, Puts, act}
-use Rattle.pv_exec.specs.Flows.{Flow, Falls, Breaks, Continues, Returns, Below, end_all, round, round_do}
+use Rattle.pv_exec.specs.Flows.{Flow, Falls, Returns, Below, end_all, round, round_do}
 use Rattle.pv_exec.specs.Execution.{ex}
 
 -- 6.5.2.2p4, 6.9.1p10: each parameter is made and gets its argument
@@ -30,9 +30,7 @@ value_at_end b f = if is_main b.unit f then int (pos 0) else (if gives_none f.t 
 -- 6.8.6.4p3, 6.9.1p12: what a call gives, from how its body was left
 abbrev pub value_by : Setting → TypedFunction → Flow → Worth
 value_by b f (Returns v) = v
-value_by b f Falls = value_at_end b f
-value_by b f Breaks = value_at_end b f
-value_by b f Continues = value_at_end b f
+value_by b f _ = value_at_end b f
 
 -- 6.9p3, p5: a function that is called is defined; the body of another one would be an empty statement
 abbrev pub runs_body : Setting → Below → Option TypedStatement → State → Res Flow

@@ -41,23 +41,18 @@ testing b call x s = then_do (full b call x s) (λ v s. act b (line_of x) (Tests
 -- 6.8p2: in sequence: goes on where the statement before fell through; else how that was left is handed on
 abbrev pub falls : Flow → (State → Res Flow) → State → Res Flow
 falls Falls go s = go s
-falls Breaks go s = Gives Breaks s
-falls Continues go s = Gives Continues s
-falls (Returns v) go s = Gives (Returns v) s
+falls flow go s = Gives flow s
 
 -- 6.8.6.2p2, 6.8.6.3p2: after the body of a loop: `continue` goes on with the loop, `break` ends it
 abbrev pub goes_on : Flow → (State → Res Flow) → State → Res Flow
-goes_on Falls go s = go s
-goes_on Continues go s = go s
 goes_on Breaks go s = Gives Falls s
 goes_on (Returns v) go s = Gives (Returns v) s
+goes_on _ go s = go s
 
 -- 6.8.6.3p2: after the body of a `switch`: `break` ends it, `continue` and `return` are handed on
 abbrev pub switched : Flow → State → Res Flow
 switched Breaks s = Gives Falls s
-switched Falls s = Gives Falls s
-switched Continues s = Gives Continues s
-switched (Returns v) s = Gives (Returns v) s
+switched flow s = Gives flow s
 
 -- 6.2.4p6, 6.8.2p2: the objects of a block are made when it is entered, in the order of their declarations (which is our choice)
 abbrev pub make_all : Setting → List ℕ → State → Res Worth

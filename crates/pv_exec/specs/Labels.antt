@@ -46,5 +46,4 @@ is_target ToNone x = false
 -- 6.8.4.2p5: where no label fits, nothing of the body is executed
 abbrev pub unless_none : Target → (State → Res Flow) → State → Res Flow
 unless_none ToNone go s = Gives Falls s
-unless_none (ToCase v) go s = go s
-unless_none ToDefault go s = go s
+unless_none _ go s = go s
