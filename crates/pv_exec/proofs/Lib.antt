@@ -38,6 +38,7 @@ pub mod Streaming
 pub mod MainPieces
 pub mod Reaching
 pub mod Handing
+pub mod Opening
 pub mod Cutting
 pub mod Memory
 pub mod Settling

@@ -1,7 +1,7 @@
 // Turns of a run: operations, until no task waits.
-ghost use Rattle.std.specs.Prelude.{◌≡◌, ◌+◌, ◌<◌, ◌≤◌, ◌^◌, if◌then◌else◌, IfSome, IfNone, OnOk};
+ghost use Rattle.std.specs.Prelude.{◌≡◌, ◌+◌, ◌<◌, ◌≤◌, ◌^◌, if◌then◌else◌, [], true, IfSome, IfNone, IsTrue, OnOk};
 ghost use Rattle.pv_typed.specs.TypedStatement.{Expression};
-ghost use Rattle.pv_typed.specs.Trees.{statement_line};
+ghost use Rattle.pv_typed.specs.Trees.{statement_line, declared_of, is_scope_tree};
 ghost use Rattle.pv_typed.specs.NodeTrees.{expression_at, statement_at, IsExpression, IsStatement};
 ghost use Rattle.pv_eval.specs.MachineSteps.{Fit, KeepsSetting};
 ghost use Rattle.pv_eval.specs.Runnable.{IsRunnable};
@@ -11,7 +11,7 @@ ghost use Rattle.pv_exec.specs.Fits.{Runs, DoingFits, AfterRuns};
 ghost use Rattle.pv_exec.specs.Turning.{SettledLed, advanced_by, AdvancedLed, CutBefore, ComesAtOnce, DueAfter, AdvancedRuns, AdvancedPace};
 
 use crate::once::{After, once};
-use crate::parts::{choice_parts, return_value};
+use crate::parts::{block_items, choice_parts, return_value};
 use crate::task::{Doing, Flow, Task};
 use crate::values::side;
 use pv_eval::{Failure, Machine, Plan};
@@ -213,7 +213,35 @@ fn return_at_once(
     Some(Doing::Left(Flow::Returns(v)))
 }
 
-// The whole of an expression statement, the condition of an `if`, or the value of a `return`, at once.
+// Whether a block has no objects of its own.
+fn is_without_objects(unit: &TypedUnit, n: NodeId) -> bool
+    requires there { IsStatement unit.now n }
+    requires scope { is_scope_tree (statement_at unit.now n) ≡ true }
+    ensures { IsTrue result → declared_of (statement_at unit.now n) ≡ [] }
+{
+    unit.declared(n).is_empty()
+}
+
+// A block without objects begins at once (C17 6.8.2p2): it takes its turn, and nothing ends behind it.
+fn block_at_once(unit: &TypedUnit, n: NodeId, bound: u64, machine: &mut Machine) -> Option<Doing>
+    requires bound { bound ≤ 10 ^ 8 }
+    requires there { IsStatement unit.now n }
+    requires room { machine.old.moment.taken < bound }
+    requires fit { Fit unit.now machine.old.started }
+    ensures some { IfSome result (λ e. ComesAtOnce unit.now bound (Doing.Enter n) e machine.old machine.new) }
+    ensures none { IfNone result (machine.new ≡ machine.old) }
+    ensures fit { Fit unit.now machine.new.started }
+    ensures setting { KeepsSetting machine.old.moment machine.new.moment }
+{
+    let l = block_items(unit, n)?;
+    if !is_without_objects(unit, n) {
+        return None;
+    }
+    machine.tick();
+    Some(Doing::Statements(l, 0))
+}
+
+// The whole of an expression statement, the condition of an `if`, the value of a `return`, or the beginning of a block, at once.
 fn statement_at_once(
     unit: &TypedUnit,
     plan: &Plan,
@@ -223,6 +251,7 @@ fn statement_at_once(
 ) -> Option<Doing>
     requires codes { AreCodes unit.now plan.now }
     requires runnable { IsRunnable unit.now }
+    requires bound { bound ≤ 10 ^ 8 }
     requires there { IsStatement unit.now n }
     requires room { machine.old.moment.taken < bound }
     requires fit { Fit unit.now machine.old.started }
@@ -237,6 +266,7 @@ fn statement_at_once(
             unit, plan, n, bound, machine,
         ),
         TypedStmt::Return(_) => return_at_once(unit, plan, n, bound, machine),
+        TypedStmt::Block(_) => block_at_once(unit, n, bound, machine),
         _ => None,
     }
 }
@@ -252,6 +282,7 @@ fn at_once(
 ) -> Option<Doing>
     requires codes { AreCodes unit.now plan.now }
     requires runnable { IsRunnable unit.now }
+    requires bound { bound ≤ 10 ^ 8 }
     requires fits { DoingFits unit.now machine.old.started doing.now }
     requires room { machine.old.moment.taken < bound }
     requires fit { Fit unit.now machine.old.started }
@@ -295,7 +326,8 @@ fn turn(
 }
 
 /// The turn that is due, unless the bound is met, and the operations that come before the next one; or all the turns at once of
-/// an expression that is due, of an expression statement, of the condition of an `if` or of a `return`, where nothing stops it.
+/// an expression that is due, of an expression statement, of the condition of an `if` or of a `return`, where nothing stops it, or that
+/// of a block without objects.
 pub fn advance(
     unit: &TypedUnit,
     plan: &Plan,
