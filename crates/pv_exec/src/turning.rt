@@ -1,17 +1,20 @@
 // Turns of a run: operations, until no task waits.
-ghost use Rattle.std.specs.Prelude.{◌≡◌, ◌+◌, ◌<◌, ◌≤◌, ◌^◌, if◌then◌else◌, [], true, IfSome, IfNone, IsTrue, OnOk};
+ghost use Rattle.std.specs.Prelude.{◌≡◌, ◌+◌, ◌<◌, ◌≤◌, ◌^◌, if◌then◌else◌, [], true, Some, IfSome, IfNone, IsTrue, OnOk};
 ghost use Rattle.pv_typed.specs.TypedStatement.{Expression};
 ghost use Rattle.pv_typed.specs.Trees.{statement_line, declared_of, is_scope_tree};
+ghost use Rattle.pv_typed.specs.Tables.{nodes};
 ghost use Rattle.pv_typed.specs.NodeTrees.{expression_at, statement_at, IsExpression, IsStatement};
 ghost use Rattle.pv_eval.specs.MachineSteps.{Fit, KeepsSetting};
 ghost use Rattle.pv_eval.specs.Runnable.{IsRunnable};
 ghost use Rattle.pv_eval.specs.Codes.{AreCodes};
+ghost use Rattle.pv_exec.specs.Parts.{choice_of};
+ghost use Rattle.pv_exec.specs.Read.{choice_in, ChoiceFits};
 ghost use Rattle.pv_exec.specs.Works.{due};
 ghost use Rattle.pv_exec.specs.Fits.{Runs, DoingFits, AfterRuns};
 ghost use Rattle.pv_exec.specs.Turning.{SettledLed, advanced_by, AdvancedLed, CutBefore, ComesAtOnce, DueAfter, AdvancedRuns, AdvancedPace};
 
 use crate::once::{After, once};
-use crate::parts::{block_items, choice_parts, return_value};
+use crate::parts::{ChoiceParts, block_items, return_value};
 use crate::task::{Doing, Flow, Task};
 use crate::values::side;
 use pv_eval::{Failure, Machine, Plan};
@@ -170,12 +173,14 @@ fn choose_at_once(
     unit: &TypedUnit,
     plan: &Plan,
     n: NodeId,
+    parts: ChoiceParts,
     bound: u64,
     machine: &mut Machine,
 ) -> Option<Doing>
     requires codes { AreCodes unit.now plan.now }
     requires runnable { IsRunnable unit.now }
-    requires there { IsStatement unit.now n }
+    requires value { choice_of (statement_at unit.now n) ≡ Some (choice_in (nodes unit.now) parts) }
+    requires there { ChoiceFits unit.now parts }
     requires room { machine.old.moment.taken < bound }
     requires fit { Fit unit.now machine.old.started }
     ensures some { IfSome result (λ e. ComesAtOnce unit.now bound (Doing.Enter n) e machine.old machine.new) }
@@ -183,7 +188,6 @@ fn choose_at_once(
     ensures fit { Fit unit.now machine.new.started }
     ensures setting { KeepsSetting machine.old.moment machine.new.moment }
 {
-    let parts = choice_parts(unit, n)?;
     match machine.decide_next(unit, plan, parts.condition, bound) {
         Some(yes) => Some(side(parts, yes)),
         None => None,
@@ -262,9 +266,22 @@ fn statement_at_once(
 {
     match unit.statement(n) {
         TypedStmt::Expression(x) => drop_at_once(unit, plan, n, x, bound, machine),
-        TypedStmt::If(_, _) | TypedStmt::IfElse(_, _, _) => choose_at_once(
-            unit, plan, n, bound, machine,
-        ),
+        TypedStmt::If(condition, body) => {
+            let parts = ChoiceParts {
+                condition,
+                body,
+                other: None,
+            };
+            choose_at_once(unit, plan, n, parts, bound, machine)
+        }
+        TypedStmt::IfElse(condition, body, other) => {
+            let parts = ChoiceParts {
+                condition,
+                body,
+                other: Some(other),
+            };
+            choose_at_once(unit, plan, n, parts, bound, machine)
+        }
         TypedStmt::Return(_) => return_at_once(unit, plan, n, bound, machine),
         TypedStmt::Block(_) => block_at_once(unit, n, bound, machine),
         _ => None,

@@ -9,15 +9,15 @@ pub returns-in-Some-clause-some : goal.returns-in-Some-clause-some
 returns-in-Some-clause-some c =
     let u = c.args.unit.now in
     let n = c.args.n in
-    let p = c.in_ok-parts.parts in
+    let p = c.args.parts in
     let t = c.in-Some.yes in
     let old = c.args.machine.now in
     let new = c.decide_next.new.self in
     subst (λ (d : Doing). ComesAtOnce u c.args.bound (doing.Enter n) d old new) (sym c.side.ensures) (record {
-      led = λ ts. choice-led u n p t ts old new c.in_ok-parts.ensures.value c.in-Some.ensures.some c.in-Some.ensures.more c.decide_next.ensures.started;
-      cut = λ ts. choice-cut u n p t ts old new c.in_ok-parts.ensures.value c.in-Some.ensures.cut;
+      led = λ ts. choice-led u n p t ts old new c.requires.value c.in-Some.ensures.some c.in-Some.ensures.more c.decide_next.ensures.started;
+      cut = λ ts. choice-cut u n p t ts old new c.requires.value c.in-Some.ensures.cut;
       more = omega (arith, c.in-Some.ensures.more);
       within = c.in-Some.ensures.within;
-      fits = side-fits u new.started p t c.in_ok-parts.ensures.there;
+      fits = side-fits u new.started p t c.requires.there;
       waiting = side-waiting p t new.started old.started c.decide_next.ensures.started;
     })
