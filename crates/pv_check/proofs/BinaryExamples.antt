@@ -13,7 +13,7 @@ use Rattle.pv_typed.specs.declared.nodes.Sign.TheVariants as sign
 use Rattle.pv_typed.specs.TypedTree as typed
 use Rattle.pv_typed.specs.TypedTree.{Node}
 use Rattle.pv_check.specs.Words.{type_of_words}
-use Rattle.pv_check.specs.Library.{library_named}
+use Rattle.pv_library.specs.LibraryNames.{library_named}
 use Rattle.pv_check.proofs.ExampleContext.{context}
 use Rattle.pv_check.proofs.ExampleRows.{AreTyped, object, value_of_object, int_constant}
 

@@ -3,7 +3,7 @@ use Rattle.std.specs.Prelude.{refl, true, false, Some, None, [], ◌∷◌}
 use Rattle.pv_num.specs.declared.kinds.IntKind.TheVariants as kind
 use Rattle.pv_num.specs.declared.operators.BinOp.TheVariants as arithmetic
 use Rattle.pv_token.specs.declared.words.Word.TheVariants as word
-use Rattle.pv_script.specs.declared.library.Library.TheVariants as library
+use Rattle.pv_library.specs.declared.library.Library.TheVariants as library
 use Rattle.pv_tree.specs.declared.operators.UnaryOperator.TheVariants as uop
 use Rattle.pv_tree.specs.declared.operators.BinaryOperator.TheVariants as bop
 use Rattle.pv_tree.specs.declared.operators.AssignOperator.TheVariants as aop
@@ -15,7 +15,7 @@ use Rattle.pv_typed.specs.declared.nodes.Sign.TheVariants as sign
 use Rattle.pv_typed.specs.TypedTree as typed
 use Rattle.pv_typed.specs.TypedTree.{Node, NoArguments as NoMore, MoreArguments as More}
 use Rattle.pv_check.specs.Words.{type_of_words}
-use Rattle.pv_check.specs.Library.{library_named}
+use Rattle.pv_library.specs.LibraryNames.{library_named}
 use Rattle.pv_check.proofs.ExampleContext.{context}
 use Rattle.pv_check.proofs.ExampleRows.{AreTyped, object, value_of_object, int_constant}
 

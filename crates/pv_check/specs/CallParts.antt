@@ -2,14 +2,15 @@
 use Rattle.pv_typed.specs.TypedUnits.{name_at, function_at, WholeUnit, literal_at}
 use Rattle.pv_typed.specs.TypedTree.{TypedTree, type_of, arguments_of, CallPointer, LibraryCall, Call}
 use Rattle.pv_types.specs.Ty.{Ty}
-use Rattle.pv_check.specs.Library.{library_named, is_format}
+use Rattle.pv_library.specs.LibraryNames.{library_named}
+use Rattle.pv_check.specs.PrintfFormats.{is_format}
 use Rattle.pv_check.specs.Calls.{called, call_to, call_at, may_pass}
 use Rattle.pv_check.specs.Sorts.{pointed_by}
 use Rattle.pv_check.specs.Values.{written}
 use Rattle.pv_check.specs.State.{◌>>=◌}
 use Rattle.std.specs.Prelude.{Option, ℕ, List, None, ◌∷◌, Some, false, Bool, if◌then◌else◌}
 use Rattle.std.specs.Option.{option_map, option_map_or}
-use Rattle.pv_script.specs.declared.library.Library.{Library}
+use Rattle.pv_library.specs.declared.library.Library.{Library}
 
 -- 6.5.2.2p5: a call of a function by its number: its name says whether it is one of the library (7.1.3p1)
 abbrev pub called_by_name : WholeUnit → ℕ → ℕ → Ty → Option (List TypedTree) → Option TypedTree

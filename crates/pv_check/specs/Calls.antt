@@ -1,12 +1,13 @@
 -- Calls of functions (6.5.2.2).
 use Rattle.std.specs.Prelude.{ℕ, Bool, true, false, ◌||◌, if◌then◌else◌, Option, Some, None, List, [], ◌∷◌}
-use Rattle.pv_script.specs.declared.library.Library.{Library}
-use Rattle.pv_script.specs.declared.library.Library.TheVariants as library
+use Rattle.pv_library.specs.declared.library.Library.{Library}
+use Rattle.pv_library.specs.declared.library.Library.TheVariants as library
 use Rattle.pv_types.specs.Layouts.{is_complete_in}
 use Rattle.pv_types.specs.Ty.{Ty, Tys, NoTys, MoreTys, FunctionTy}
 use Rattle.pv_typed.specs.TypedTree.{TypedTree, Form, Node, Call, CallPointer, LibraryCall, Convert, ArrayPointer, String, arguments_of, form_of, type_of}
 use Rattle.pv_typed.specs.TypedUnits.{WholeUnit, function_at, name_at, literal_at, layouts}
-use Rattle.pv_check.specs.Library.{library_named, is_format}
+use Rattle.pv_library.specs.LibraryNames.{library_named}
+use Rattle.pv_check.specs.PrintfFormats.{is_format}
 use Rattle.pv_check.specs.Sorts.{is_void}
 use Rattle.pv_check.specs.Values.{written, promoted_value, assigned}
 use Rattle.pv_check.specs.State.{◌>>=◌}

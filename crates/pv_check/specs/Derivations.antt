@@ -10,7 +10,7 @@ use Rattle.pv_check.specs.Sorts.{is_array, is_void, is_void_in}
 use Rattle.pv_typed.specs.TypedTree.{is_function}
 use Rattle.pv_check.specs.State.{State, After, Scope, ObjectName, give, env, innermost, declare, left, is_file_scope}
 use Rattle.pv_typed.specs.Constants.{and_then}
-use Rattle.pv_check.specs.Library.{is_printf}
+use Rattle.pv_check.specs.PrintfFormats.{is_printf}
 
 -- a parameter (6.7.6.3): its type as an object has it, and if it has a name, this and the number of its object
 pub record Parameter : Type 0 where

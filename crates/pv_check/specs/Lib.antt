@@ -19,7 +19,7 @@ pub mod Tags
 pub mod TagParts
 pub mod Derivations
 pub mod DerivationParts
-pub mod Library
+pub mod PrintfFormats
 pub mod Primary
 pub mod StringLiterals
 pub mod PrimaryParts

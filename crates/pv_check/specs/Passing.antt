@@ -10,7 +10,7 @@ use Rattle.pv_typed.specs.TypedTree.{TypedTree}
 use Rattle.pv_check.specs.Calls.{further}
 use Rattle.pv_check.specs.declared.formats.Place.{Place}
 use Rattle.pv_check.specs.declared.formats.Place.TheVariants as place
-use Rattle.pv_check.specs.Library.{is_format, is_conversion, is_long_conversion}
+use Rattle.pv_check.specs.PrintfFormats.{is_format, is_conversion, is_long_conversion}
 use Rattle.pv_check.specs.Open.{state_of}
 use Rattle.pv_check.specs.Raw.{Raw}
 use Rattle.pv_check.specs.State.{After}

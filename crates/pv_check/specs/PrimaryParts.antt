@@ -2,7 +2,7 @@
 use Rattle.pv_check.specs.Primary.{with_use}
 use Rattle.pv_check.specs.State.{After, State, Used, UsedFunction, PointedFunction}
 use Rattle.pv_check.specs.Values.{written}
-use Rattle.pv_check.specs.Library.{library_named}
+use Rattle.pv_library.specs.LibraryNames.{library_named}
 use Rattle.pv_typed.specs.TypedTree.{TypedTree, Function, Constant}
 use Rattle.pv_typed.specs.TypedUnits.{function_at, name_at}
 use Rattle.std.specs.Prelude.{ℕ, ℤ, is_some, Bool, Option, pos, if◌then◌else◌}

@@ -45,7 +45,6 @@ pub use composite_types::composite;
 pub use declarators::{Steps, steps_of};
 pub use derivations::Step;
 pub use expressions::{expression, operand};
-pub use formats::library_named;
 pub use interning::interned;
 pub use parameters::{Parameter, Signature};
 pub use scopes::{Entry, Named, Scope, Scopes, Tag, TagEntry};

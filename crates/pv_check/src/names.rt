@@ -10,16 +10,16 @@ ghost use Rattle.pv_typed.specs.Known.{AreKnown};
 ghost use Rattle.pv_check.specs.State.{look, ObjectName, FunctionName, ConstantOf};
 ghost use Rattle.pv_check.specs.Primary.{name_of};
 ghost use Rattle.pv_check.specs.PrimaryParts.{designator_of, used_function};
-ghost use Rattle.pv_check.specs.Library.{library_named};
+ghost use Rattle.pv_library.specs.LibraryNames.{library_named};
 ghost use Rattle.pv_check.specs.Raw.{scopes_shown, meaning_if, used_of};
 ghost use Rattle.pv_check.specs.Open.{state_of, IsOpen, Goes, EntryKnown};
 ghost use Rattle.pv_check.specs.Arms.{after_node, OpenIf};
 ghost use Rattle.pv_check.specs.Kept.{Kept, expression_if};
 ghost use Rattle.pv_check.specs.Values.{written};
 
-use crate::formats::library_named;
 use crate::scopes::{Entry, Named, Scopes};
 use crate::values::{add, intern};
+use pv_library::library_named;
 use pv_num::IntKind;
 use pv_tree::NodeId;
 use pv_typed::{Typed, TypedUnit};

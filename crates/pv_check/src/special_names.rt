@@ -4,7 +4,7 @@ ghost use Rattle.pv_tree.specs.Tables.{Is, is_declarator, declarator_at, optiona
 ghost use Rattle.pv_check.specs.Derivations.{declared_name, optional_name, is_printf_declarator, may_be_variadic};
 ghost use Rattle.pv_check.specs.Open.{state_of};
 ghost use Rattle.pv_check.specs.Texts.{same_text, has_text};
-ghost use Rattle.pv_check.specs.Library.{is_printf};
+ghost use Rattle.pv_check.specs.PrintfFormats.{is_printf};
 ghost use Rattle.pv_typed.specs.Mains.{named_main};
 
 use crate::scopes::Scopes;

@@ -7,7 +7,7 @@ use Rattle.pv_types.specs.Ty.{Ty}
 use Rattle.pv_num.specs.declared.kinds.IntKind.{IntKind}
 use Rattle.pv_num.specs.declared.operators.BinOp.{BinOp}
 use Rattle.pv_num.specs.declared.operators.BinOp.TheVariants as op
-use Rattle.pv_script.specs.declared.library.Library.{Library}
+use Rattle.pv_library.specs.declared.library.Library.{Library}
 use Rattle.pv_libc.specs.declared.values.Arg.{Arg}
 use Rattle.pv_typed.specs.declared.nodes.IncrementOperator.{IncrementOperator}
 use Rattle.pv_typed.specs.TypedTree.{TypedTree, Node, Constant, Object, Function, String, Subscript, Call, CallPointer, LibraryCall, Member, MemberOfValue, Arrow, Increment, Address, Indirection, Unary, Not, Sizeof, Cast, Arithmetic, PointerSum, PointerDifference, PointerOrder, PointerEquality, LogicalAnd, LogicalOr, Conditional, Assign, CompoundAssign, PointerAssign, Comma, Read, ArrayPointer, Convert, Arguments, NoArguments, MoreArguments, type_of, line_of}

@@ -6,7 +6,7 @@ use Rattle.pv_num.specs.declared.operators.UnOp.{UnOp}
 use Rattle.pv_num.specs.Kinds.{fits_of}
 use Rattle.pv_types.specs.Layouts.{is_complete_in}
 use Rattle.pv_typed.specs.TypedUnits.{layouts}
-use Rattle.pv_script.specs.declared.library.Library.{Library}
+use Rattle.pv_library.specs.declared.library.Library.{Library}
 use Rattle.pv_seq.specs.Sequencing.{Access}
 use Rattle.pv_libc.specs.declared.values.Arg.{Arg}
 use Rattle.pv_world.specs.declared.got.How.{How}

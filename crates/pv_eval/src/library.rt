@@ -18,7 +18,7 @@ use crate::failure::Failure;
 use crate::frames::{Frame, Move, Stage};
 use crate::moment::Moment;
 use crate::values::give;
-use pv_script::Library;
+use pv_library::Library;
 use pv_seq::Journal;
 use pv_tree::{ListId, NodeId};
 use pv_typed::{Typed, TypedUnit};

@@ -1,6 +1,6 @@
 // The names of the library (C17 7.1.3).
-use pv_check::library_named;
-use pv_script::Library;
+
+use pv_library::{Library, library_named};
 
 #[test]
 fn a_name_is_that_of_a_function(rt: HostRuntime) {

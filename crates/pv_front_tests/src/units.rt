@@ -11,8 +11,8 @@ ghost use Rattle.pv_front_tests.specs.Ready.{IsReady};
 use crate::sorts::are_told_apart;
 use crate::tags::has_tags;
 use crate::typing::types_a_sum;
+use pv_library::Library;
 use pv_num::{BinOp, IntKind};
-use pv_script::Library;
 use pv_tree::NodeId;
 use pv_typed::{
     Const, Function, Init, InitValue, Object, Typed, TypedStmt, TypedUnit, constant, integer,

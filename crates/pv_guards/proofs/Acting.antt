@@ -8,7 +8,7 @@ use Rattle.pv_prov.specs.Names.{twin_at}
 use Rattle.pv_world.specs.Worlds.{Worth, World}
 use Rattle.pv_world.specs.Telling.{Told}
 use Rattle.pv_world.specs.Doing.{Done, Answers, Fails, Breaks}
-use Rattle.pv_script.specs.declared.library.Library.{Library}
+use Rattle.pv_library.specs.declared.library.Library.{Library}
 use Rattle.pv_libc.specs.declared.values.Arg.{Arg}
 use Rattle.pv_typed.specs.Known.{Each}
 use Rattle.pv_eval.specs.States.{Setting, State, Gives}

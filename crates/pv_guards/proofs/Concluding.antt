@@ -4,7 +4,7 @@ use Rattle.pv_types.specs.Ty.{Ty, Tys, NoTys, MoreTys}
 use Rattle.pv_layout.specs.Parts.{bare}
 use Rattle.pv_seq.specs.Sequencing.{Access}
 use Rattle.pv_typed.specs.TypedTree.{TypedTree}
-use Rattle.pv_script.specs.declared.library.Library.{Library}
+use Rattle.pv_library.specs.declared.library.Library.{Library}
 use Rattle.pv_libc.specs.declared.values.Arg.{Arg}
 use Rattle.pv_world.specs.Worlds.{Worth, World}
 use Rattle.pv_world.specs.Doing.{Done, Answers, Fails, Breaks}

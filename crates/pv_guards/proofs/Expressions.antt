@@ -40,7 +40,7 @@ use Rattle.pv_guards.specs.Promises.{Promised, FollowsTo}
 use Rattle.pv_guards.specs.Worths.{IsThere, IsScalar, IsWhole, IsNothing, IsOfType}
 use Rattle.pv_object.specs.declared.values.Scalar.TheVariants as scalar
 use Rattle.pv_object.specs.declared.values.Value.TheVariants.{Int as IntValue, Unset, Pointer as PointerValue}
-use Rattle.pv_script.specs.declared.library.Library.{Library}
+use Rattle.pv_library.specs.declared.library.Library.{Library}
 use Rattle.pv_guards.proofs.Results.{Answering}
 use Rattle.pv_guards.proofs.Leaving.{ordered, Keeping, MayBeCalled, values-later, value-fair}
 use Rattle.pv_guards.proofs.Acting as acting

@@ -34,8 +34,8 @@ use Rattle.pv_object.specs.Creating.{made}
 use Rattle.pv_object.specs.OperationParts.{blank_in, cleared_in}
 use Rattle.pv_object.specs.Copying.{with_bytes, copied}
 use Rattle.pv_object.proofs.Born.{born}
-use Rattle.pv_script.specs.declared.library.Library.{Library}
-use Rattle.pv_script.specs.declared.library.Library.TheVariants as library
+use Rattle.pv_library.specs.declared.library.Library.{Library}
+use Rattle.pv_library.specs.declared.library.Library.TheVariants as library
 use Rattle.pv_libc.specs.declared.values.Arg.{Arg}
 use Rattle.pv_libc.specs.declared.values.Reply.{Reply}
 use Rattle.pv_libc.specs.declared.values.Reply.TheVariants as reply

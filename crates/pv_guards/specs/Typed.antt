@@ -11,8 +11,8 @@ use Rattle.pv_layout.specs.Parts.{bare}
 use Rattle.pv_typed.specs.Constants.{is_shift}
 use Rattle.pv_typed.specs.TypedTree.{TypedTree, Node, Form, Constant, Object, Function, String, Subscript, Call, CallPointer, LibraryCall, Member, MemberOfValue, Arrow, Increment, Address, Indirection, Unary, Not, Sizeof, Cast, Arithmetic, PointerSum, PointerDifference, PointerOrder, PointerEquality, LogicalAnd, LogicalOr, Conditional, Assign, CompoundAssign, PointerAssign, Comma, Read, ArrayPointer, Convert, Arguments, NoArguments, MoreArguments, type_of, is_place, is_lvalue, is_void}
 use Rattle.pv_typed.specs.TypedUnits.{WholeUnit, layouts, object_at, function_at}
-use Rattle.pv_script.specs.declared.library.Library.{Library}
-use Rattle.pv_script.specs.declared.library.Library.TheVariants as library
+use Rattle.pv_library.specs.declared.library.Library.{Library}
+use Rattle.pv_library.specs.declared.library.Library.TheVariants as library
 use Rattle.pv_world.specs.Worlds.{Worth}
 use Rattle.pv_world.specs.Pointers.{is_order}
 use Rattle.pv_guards.specs.Worths.{IsOfType}

@@ -39,8 +39,8 @@ use Rattle.pv_object.specs.Access.{fault, is_null, chosen}
 use Rattle.pv_object.specs.Creating.{created, made as made_in, without}
 use Rattle.pv_object.specs.Copying.{with_bytes, copied}
 use Rattle.pv_object.proofs.Born.{born}
-use Rattle.pv_script.specs.declared.library.Library.{Library}
-use Rattle.pv_script.specs.declared.library.Library.TheVariants as library
+use Rattle.pv_library.specs.declared.library.Library.{Library}
+use Rattle.pv_library.specs.declared.library.Library.TheVariants as library
 use Rattle.pv_libc.specs.declared.values.Arg.{Arg}
 use Rattle.pv_libc.specs.declared.values.Note.{Note}
 use Rattle.pv_libc.specs.declared.values.Note.TheVariants as note

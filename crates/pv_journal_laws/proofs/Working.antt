@@ -24,7 +24,7 @@ use Rattle.pv_typed.specs.TypedUnits.{TypedObject, TypedFunction, layouts, objec
 use Rattle.pv_typed.specs.UnitParts.{no_object, no_function}
 use Rattle.pv_script.specs.Words.{is_name}
 use Rattle.pv_script.specs.Names.{name_at as text_of}
-use Rattle.pv_script.specs.declared.library.Library.{Library}
+use Rattle.pv_library.specs.declared.library.Library.{Library}
 use Rattle.pv_seq.specs.Sequencing.{Access, conflicts}
 use Rattle.pv_libc.specs.declared.values.Arg.{Arg}
 use Rattle.pv_libc.specs.declared.values.Reply.{Reply}

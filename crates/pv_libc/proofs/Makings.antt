@@ -7,8 +7,8 @@ use Rattle.pv_num.specs.declared.faults.Clause.TheVariants as clause
 use Rattle.pv_prov.specs.declared.names.Prov.{Prov}
 use Rattle.pv_prov.specs.declared.names.Prov.TheVariants.{Empty, Inst, Pair}
 use Rattle.pv_prov.specs.Names.{stands}
-use Rattle.pv_script.specs.declared.library.Library.{Library}
-use Rattle.pv_script.specs.declared.library.Library.TheVariants as library
+use Rattle.pv_library.specs.declared.library.Library.{Library}
+use Rattle.pv_library.specs.declared.library.Library.TheVariants as library
 use Rattle.pv_inst.specs.declared.values.Instance.{Instance}
 use Rattle.pv_inst.specs.declared.values.Info.{Info}
 use Rattle.pv_inst.specs.declared.values.Tried.{Tried}

@@ -10,7 +10,7 @@ ghost use Rattle.pv_libc.specs.declared.values.Reply.TheVariants as reply;
 ghost use Rattle.pv_libc.specs.Steps.{with_notes};
 ghost use Rattle.pv_libc.specs.Answers.{OrNoMemory, worth, behind};
 ghost use Rattle.pv_libc.specs.Makings.{AreLive, UnlessNoMemory};
-ghost use Rattle.pv_script.specs.declared.library.Library.TheVariants as library;
+ghost use Rattle.pv_library.specs.declared.library.Library.TheVariants as library;
 ghost use Rattle.pv_libc.specs.Calls.{number, size, status, pointer_in, stopped, argument_at, offer, printed, called, called_in, output, output_in};
 
 use crate::blocks::{copy, memcmp, memset};
@@ -18,10 +18,11 @@ use crate::heap::{calloc, free, malloc, realloc};
 use crate::printing::{format_of, printed};
 use crate::strings::{strcmp, strcpy, strlen};
 use crate::values::{Arg, Given, Note, Offered, Reply};
+use pv_library::Library;
 use pv_num::{IntKind, convert, fits};
 use pv_object::{Memory, Pointer, Stop, Value};
 use pv_prov::{NoMemory, Prov};
-use pv_script::{Library, Names};
+use pv_script::Names;
 use std::alloc::Global;
 
 /// The number that an argument is.

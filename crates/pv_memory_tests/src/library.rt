@@ -4,10 +4,11 @@ ghost use Rattle.pv_object.specs.Answers.{IsMadeValue};
 
 use crate::scripts::names;
 use pv_libc::{Arg, Note, Reply, Shape, call};
+use pv_library::Library;
 use pv_num::IntKind;
 use pv_object::{Memory, Pointer, Value};
 use pv_prov::Prov;
-use pv_script::{Library, Names, Script};
+use pv_script::{Names, Script};
 use std::alloc::Global;
 use std::process::Abort;
 

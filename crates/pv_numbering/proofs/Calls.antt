@@ -1,7 +1,7 @@
 -- Calls of the library in stores that are alike (C17 7): what each comes to is alike, and what it prints is the same.
 use Rattle.std.proofs.Common.{◌≡◌, ℕ, true, false, List, [], Result, Ok, Err, refl, ap}
-use Rattle.pv_script.specs.declared.library.Library.{Library}
-use Rattle.pv_script.specs.declared.library.Library.TheVariants as library
+use Rattle.pv_library.specs.declared.library.Library.{Library}
+use Rattle.pv_library.specs.declared.library.Library.TheVariants as library
 use Rattle.pv_types.specs.Known.{Known}
 use Rattle.pv_shadow.specs.Bytes.{Store}
 use Rattle.pv_object.specs.declared.values.Stop.{Stop}

@@ -6,7 +6,7 @@ use Rattle.pv_unit.specs.Library.{prototype}
 use Rattle.pv_check.specs.State.{find, innermost}
 use Rattle.std.specs.declared.option.Option.{Option}
 use Rattle.std.specs.Prelude.{ℕ, Bool, true}
-use Rattle.pv_script.specs.declared.library.Library.{Library}
+use Rattle.pv_library.specs.declared.library.Library.{Library}
 use Rattle.std.specs.Option.{option_map_or}
 
 -- 6.7p4: by what the name stands for at file scope

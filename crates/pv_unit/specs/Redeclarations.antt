@@ -8,7 +8,8 @@ use Rattle.pv_typed.specs.Mains.{named_main}
 use Rattle.pv_typed.specs.TypedUnits.{TypedFunction, object_at, function_at}
 use Rattle.pv_check.specs.State.{State, Meaning, ObjectName, FunctionName, innermost, find, bind}
 use Rattle.pv_check.specs.Composite.{composite}
-use Rattle.pv_check.specs.Library.{library_named, is_printf}
+use Rattle.pv_library.specs.LibraryNames.{library_named}
+use Rattle.pv_check.specs.PrintfFormats.{is_printf}
 use Rattle.pv_unit.specs.Library.{main_type, prototype}
 use Rattle.std.specs.Option.{option_map_or}
 

@@ -4,7 +4,7 @@ use Rattle.pv_typed.specs.Mains.{named_main}
 use Rattle.std.specs.Prelude.{is_some, Bool, ◌&&◌, ℕ, List}
 use Rattle.std.specs.List.{list_any}
 use Rattle.pv_check.specs.State.{State, Used}
-use Rattle.pv_check.specs.Library.{library_named}
+use Rattle.pv_library.specs.LibraryNames.{library_named}
 use Rattle.pv_unit.specs.Redeclarations.{Entity, unit_name}
 use Rattle.pv_unit.specs.Units.{uses, points}
 

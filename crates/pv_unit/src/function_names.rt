@@ -4,7 +4,7 @@ ghost use Rattle.pv_types.specs.Known.{tree};
 ghost use Rattle.pv_types.specs.Compatible.{are_compatible};
 ghost use Rattle.pv_typed.specs.Tables.{whole};
 ghost use Rattle.pv_check.specs.Open.{IsOpen, Goes};
-ghost use Rattle.pv_check.specs.Library.{is_printf};
+ghost use Rattle.pv_check.specs.PrintfFormats.{is_printf};
 ghost use Rattle.pv_typed.specs.Mains.{named_main};
 ghost use Rattle.pv_unit.specs.Library.{main_type};
 ghost use Rattle.pv_unit.specs.Redeclarations.{unit_name, is_variadic, may_have};

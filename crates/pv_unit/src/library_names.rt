@@ -2,11 +2,10 @@
 ghost use Rattle.std.specs.Prelude.{◌≡◌, is_some};
 ghost use Rattle.pv_typed.specs.Tables.{whole};
 ghost use Rattle.pv_typed.specs.TypedUnits.{name_at};
-ghost use Rattle.pv_check.specs.Library.{library_named};
+ghost use Rattle.pv_library.specs.LibraryNames.{library_named};
 ghost use Rattle.pv_unit.specs.Redeclarations.{unit_name};
 
-use pv_check::library_named;
-use pv_script::Library;
+use pv_library::{Library, library_named};
 use pv_typed::TypedUnit;
 
 /// The function of the library that a name of the source names.

@@ -9,8 +9,8 @@ ghost use Rattle.pv_unit.specs.Library.{prototype};
 ghost use Rattle.pv_unit.specs.Prototypes.{constant_if, simple_type, simple_types};
 
 use pv_check::interned;
+use pv_library::Library;
 use pv_num::IntKind;
-use pv_script::Library;
 use pv_types::{NoMemory, Term, TypeId, Types};
 use std::alloc::Global;
 

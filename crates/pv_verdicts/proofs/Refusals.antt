@@ -2,8 +2,8 @@
 use Rattle.std.proofs.Common.{◌≡◌, ℕ, zero, suc, Bool, true, false, cond, not, ◌||◌, ◌&&◌, List, [], Option, Some, None, Result, Ok, Err, refl, subst}
 use Rattle.std.specs.Prelude.{nat_lt, nat_eq, if◌then◌else◌, ◌+◌, ◌%◌, ◌*◌, ◌^◌, length, ℤ}
 use Rattle.pv_num.specs.declared.faults.Clause.TheVariants as clause
-use Rattle.pv_script.specs.declared.library.Library.{Library}
-use Rattle.pv_script.specs.declared.library.Library.TheVariants as library
+use Rattle.pv_library.specs.declared.library.Library.{Library}
+use Rattle.pv_library.specs.declared.library.Library.TheVariants as library
 use Rattle.pv_script.specs.declared.script.Place.{Place}
 use Rattle.pv_script.specs.declared.script.Place.TheVariants.{At, Null}
 use Rattle.pv_script.specs.Lines.{ScriptLine}

@@ -1,7 +1,7 @@
 -- How each operation of a run may end it: by no request that is denied (C17 6.2.4, 6.3, 6.5, 6.7.9, 7).
 use Rattle.std.proofs.Common.{◌≡◌, ℕ, Bool, true, false, ◌&&◌, not, eqb, List, [], length, Option, Some, Result, Ok, Err, refl, subst}
 use Rattle.std.specs.Prelude.{nat_le, if◌then◌else◌}
-use Rattle.pv_script.specs.declared.library.Library.{Library}
+use Rattle.pv_library.specs.declared.library.Library.{Library}
 use Rattle.pv_script.specs.Lines.{ScriptLine}
 use Rattle.pv_script.specs.Names.{name_at as text_of}
 use Rattle.pv_object.specs.declared.values.Pointer.{Pointer}

@@ -1,7 +1,7 @@
 -- Calls (C17 6.5.2.2): each row of typing gives what is well typed, of arguments that are so.
 use Rattle.std.proofs.Common.{◌≡◌, ℕ, ◌<◌, Bool, true, false, ◌||◌, Option, Some, None, List, [], ◌∷◌, length, refl, ap, subst}
 use Rattle.std.specs.Prelude.{if◌then◌else◌}
-use Rattle.pv_script.specs.declared.library.Library.{Library}
+use Rattle.pv_library.specs.declared.library.Library.{Library}
 use Rattle.pv_types.specs.Layouts.{is_complete_in}
 use Rattle.pv_types.specs.Ty.{Ty, Tys, NoTys, MoreTys, VoidTy, IntTy, PointerTo, ArrayOf, StructTag, UnionTag, FunctionTy, ConstOf}
 use Rattle.pv_typed.specs.Known.{Each}

@@ -17,7 +17,7 @@ use Rattle.pv_typed.specs.TypedStatement.{TypedStatement}
 use Rattle.pv_typed.specs.TypedUnits.{WholeUnit, TypedObject, TypedFunction, layouts, object_at, function_at, name_at}
 use Rattle.pv_typed.specs.UnitParts.{no_function}
 use Rattle.pv_check.specs.Derivations.{Derivation, ByFunction, Parameter as OneParameter, Signature, Steps, parameter_types, declared_name, derived, step}
-use Rattle.pv_check.specs.Library.{library_named}
+use Rattle.pv_library.specs.LibraryNames.{library_named}
 use Rattle.pv_check.specs.Qualified.{unqualified}
 use Rattle.pv_check.specs.Sorts.{is_void, is_array}
 use Rattle.pv_typed.specs.TypedTree.{is_function}

@@ -13,7 +13,7 @@ use Rattle.pv_typed.proofs.Each.{each_append, each_weaker}
 use Rattle.pv_typed.specs.TypedUnits.{WholeUnit, TypedFunction, function_at, name_at}
 use Rattle.pv_typed.specs.UnitParts.{no_function}
 use Rattle.pv_check.specs.Composite.{composite}
-use Rattle.pv_check.specs.Library.{library_named}
+use Rattle.pv_library.specs.LibraryNames.{library_named}
 use Rattle.pv_typed.specs.TypedTree.{is_function}
 use Rattle.pv_check.specs.State.{State, Scope, no_scope, Meaning, ObjectName, FunctionName, TypedefOf, ConstantOf, Used, UsedObject, UsedFunction, PointedFunction, innermost, find}
 use Rattle.pv_check.specs.StateParts.{bound}

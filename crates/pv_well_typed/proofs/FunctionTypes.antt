@@ -5,8 +5,8 @@ use Rattle.std.specs.Cmp.Lexicographic.{pointwise}
 use Rattle.std.proofs.lemmas.Bool.{eqb-true}
 use Rattle.pv_num.specs.declared.kinds.IntKind.{IntKind}
 use Rattle.pv_num.specs.declared.kinds.IntKind.TheVariants.{Char, Int, ULong}
-use Rattle.pv_script.specs.declared.library.Library.{Library}
-use Rattle.pv_script.specs.declared.library.Library.TheVariants as library
+use Rattle.pv_library.specs.declared.library.Library.{Library}
+use Rattle.pv_library.specs.declared.library.Library.TheVariants as library
 use Rattle.pv_types.specs.Matching.{Matches, MatchAll}
 use Rattle.pv_types.specs.Compatible.{IntForm, FunctionForm, NoForms, same_kind, form_of, forms_of, with_const, is_constant, alike, all_alike, are_compatible}
 use Rattle.pv_types.specs.Ty.{Ty, Tys, NoTys, MoreTys, VoidTy, IntTy, PointerTo, ArrayOf, StructTag, UnionTag, FunctionTy, ConstOf}
@@ -14,7 +14,8 @@ use Rattle.pv_types.proofs.Matched.{matching, matching_result, matching_paramete
 use Rattle.pv_typed.specs.Mains.{named_main}
 use Rattle.pv_typed.specs.TypedUnits.{WholeUnit}
 use Rattle.pv_check.specs.Composite.{composite, composites}
-use Rattle.pv_check.specs.Library.{library_functions, function_among, library_named, is_printf}
+use Rattle.pv_library.specs.LibraryNames.{library_functions, function_among, library_named}
+use Rattle.pv_check.specs.PrintfFormats.{is_printf}
 use Rattle.pv_typed.specs.TypedTree.{is_function}
 use Rattle.pv_check.specs.Texts.{same_text}
 use Rattle.pv_unit.specs.Library.{prototype, main_type}

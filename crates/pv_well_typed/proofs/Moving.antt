@@ -11,7 +11,7 @@ use Rattle.pv_typed.specs.AddressParts.{or_zero}
 use Rattle.pv_typed.specs.TypedTree.{TypedTree}
 use Rattle.pv_typed.specs.TypedUnits.{WholeUnit, TypedObject, TypedFunction, Literal, Store, layouts, object_at}
 use Rattle.pv_typed.specs.UnitParts.{no_function, no_literal}
-use Rattle.pv_check.specs.Library.{library_named}
+use Rattle.pv_library.specs.LibraryNames.{library_named}
 use Rattle.pv_check.specs.Rows.{operand, integer_value}
 use Rattle.pv_check.specs.State.{State, Used, UsedObject, UsedFunction, PointedFunction, Meaning, ObjectName, FunctionName, TypedefOf, ConstantOf, After, Scope, no_scope, give, env, find, innermost, entered, left}
 use Rattle.pv_typed.specs.Constants.{and_then, integer}

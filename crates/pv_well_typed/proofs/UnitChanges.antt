@@ -12,7 +12,7 @@ use Rattle.pv_well_typed.proofs.Moving.{IsApart, Orderly, Grown}
 use Rattle.pv_types.specs.Ty.{Ty, Tys, NoTys, MoreTys, VoidTy, IntTy, PointerTo, ArrayOf, StructTag, UnionTag, FunctionTy, ConstOf}
 use Rattle.pv_typed.specs.TypedUnits.{WholeUnit, TypedObject, TypedFunction, object_at, function_at, name_at}
 use Rattle.pv_typed.specs.UnitParts.{no_object, no_function}
-use Rattle.pv_check.specs.Library.{library_named}
+use Rattle.pv_library.specs.LibraryNames.{library_named}
 use Rattle.pv_check.specs.Composite.{composite, composites}
 use Rattle.pv_check.specs.State.{State, ObjectName}
 use Rattle.pv_unit.specs.Redeclarations.{with_function, with_function_type, unit_name, new_object, new_function}

@@ -16,7 +16,7 @@ use Rattle.pv_typed.specs.Mains.{main_text, literal_text, heap_text, named_main,
 use Rattle.pv_typed.proofs.Each.{each_weaker}
 use Rattle.pv_typed.specs.TypedUnits.{WholeUnit, TypedObject, TypedFunction, layouts, object_at, function_at, name_at}
 use Rattle.pv_typed.specs.UnitParts.{no_object, no_function, no_literal}
-use Rattle.pv_check.specs.Library.{library_named}
+use Rattle.pv_library.specs.LibraryNames.{library_named}
 use Rattle.pv_check.specs.State.{State, Used, UsedObject, UsedFunction, PointedFunction, env}
 use Rattle.pv_typed.specs.Constants.{and_then}
 use Rattle.pv_unit.specs.Definitions.{entity_type, is_finished, may_end, is_defined}

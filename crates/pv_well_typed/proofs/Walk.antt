@@ -18,7 +18,7 @@ use Rattle.pv_check.specs.Binary.{binary_of}
 use Rattle.pv_check.specs.Conditional.{conditional_of}
 use Rattle.pv_check.specs.Derivations.{size_of, Parameter as OneParameter, Steps, Derivation, ByPointer, ByArray, ByFunction, no_steps, with_step, declared_name, optional_name, may_be_variadic, is_printf_declarator, Signature, proper, parameter_types, with_function, with_parameter, derived, adjusted}
 use Rattle.pv_check.specs.Postfix.{subscript_of, member_from, arrow_from, increment_of}
-use Rattle.pv_check.specs.Library.{library_named}
+use Rattle.pv_library.specs.LibraryNames.{library_named}
 use Rattle.pv_check.specs.Primary.{with_use, name_of, integer_of}
 use Rattle.pv_check.specs.PrimaryParts.{used_function, designator_of, is_of_library, character_of}
 use Rattle.pv_check.specs.StringLiterals.{bytes_of_text, text_of}

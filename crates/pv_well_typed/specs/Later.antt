@@ -1,12 +1,12 @@
 -- What a unit at its end has of a state in which a part of it was typed (C17 6.2.7p4, 6.9p5, 6.9.2): a unit that is later than a state.
 use Rattle.std.specs.Prelude.{◌≡◌, ◌<◌, ◌≤◌, ◌^◌, ℕ, true, false, Option, None, List, ◌++◌, length}
-use Rattle.pv_script.specs.declared.library.Library.{Library}
+use Rattle.pv_library.specs.declared.library.Library.{Library}
 use Rattle.pv_types.specs.Ty.{Ty, Tys, StructTag, FunctionTy}
 use Rattle.pv_types.specs.Known.{heading_at}
 use Rattle.pv_types.specs.Layouts.{Entry, layout_in, AllFill}
 use Rattle.pv_typed.specs.Known.{Each}
 use Rattle.pv_typed.specs.TypedUnits.{WholeUnit, layouts, object_at, function_at, literal_at, name_at}
-use Rattle.pv_check.specs.Library.{library_named}
+use Rattle.pv_library.specs.LibraryNames.{library_named}
 use Rattle.pv_check.specs.State.{State, Used, UsedObject, UsedFunction, PointedFunction}
 use Rattle.pv_guards.specs.Typed.{HasBody, IsIn, IsSignature}
 

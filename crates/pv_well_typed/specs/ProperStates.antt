@@ -1,6 +1,6 @@
 -- What typing keeps true of its state (C17 6.2.1, 6.2.5, 6.7): told of the types that the unit has at its end.
 use Rattle.std.specs.Prelude.{◌≡◌, ◌<◌, ℕ, true, false, Option, Some, None, List, length}
-use Rattle.pv_script.specs.declared.library.Library.{Library}
+use Rattle.pv_library.specs.declared.library.Library.{Library}
 use Rattle.pv_num.specs.declared.kinds.IntKind.TheVariants.{Int}
 use Rattle.pv_num.specs.Kinds.{Fits}
 use Rattle.pv_types.specs.Ty.{Ty, FunctionTy}

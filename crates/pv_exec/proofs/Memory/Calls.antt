@@ -1,7 +1,7 @@
 -- What a call of the library leads to (C17 7.21.6, 7.22.3, 7.24).
 use Rattle.std.proofs.Common.{All, List, [], ◌∷◌, sym, subst}
 use Rattle.std.proofs.lemmas.List.Elements.{All-cons, All-nil}
-use Rattle.pv_script.specs.declared.library.Library.{Library}
+use Rattle.pv_library.specs.declared.library.Library.{Library}
 use Rattle.pv_prov.specs.declared.names.Prov.{Prov}
 use Rattle.pv_inst.specs.Table.{Table, IsMadeIn}
 use Rattle.pv_shadow.specs.declared.byte.Byte.{Byte}

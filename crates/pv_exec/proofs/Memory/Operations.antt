@@ -18,7 +18,7 @@ use Rattle.pv_shadow.specs.Bytes.{read}
 use Rattle.pv_shadow.specs.Whole.{plain}
 use Rattle.pv_typed.specs.TypedUnits.{TypedObject, layouts, object_at, function_at, literal_at}
 use Rattle.pv_script.specs.Names.{name_at as text_of}
-use Rattle.pv_script.specs.declared.library.Library.{Library}
+use Rattle.pv_library.specs.declared.library.Library.{Library}
 use Rattle.pv_seq.specs.Sequencing.{Access, conflicts}
 use Rattle.pv_libc.specs.declared.values.Arg.{Arg}
 use Rattle.pv_libc.specs.declared.values.Reply.{Reply}

@@ -14,7 +14,7 @@ use Rattle.pv_object.specs.declared.values.Reach.{Reach}
 use Rattle.pv_object.specs.declared.values.Value.{Value}
 use Rattle.pv_object.specs.declared.values.Value.TheVariants.{Int as IntValue, Unset, Pointer as PointerValue}
 use Rattle.pv_script.specs.Names.{name_at as text_of}
-use Rattle.pv_script.specs.declared.library.Library.{Library}
+use Rattle.pv_library.specs.declared.library.Library.{Library}
 use Rattle.pv_typed.specs.TypedUnits.{layouts, object_at, function_at, literal_at}
 use Rattle.pv_types.specs.Layouts.{is_complete_in}
 use Rattle.pv_seq.specs.Sequencing.{Access, conflicts}

@@ -1,5 +1,5 @@
 use Rattle.std.proofs.Common.{◌≡◌, ◌-◌, ◌≤◌, length, drop}
-use Rattle.pv_check.specs.Library.{is_format}
+use Rattle.pv_check.specs.PrintfFormats.{is_format}
 use Rattle.pv_check.specs.Passing.{reads}
 use Rattle.pv_check.proofs.formats.is_format.Given as goal
 

@@ -5,7 +5,8 @@ use Rattle.pv_types.specs.Ty.{Ty}
 use Rattle.pv_types.specs.Compatible.{are_compatible}
 use Rattle.pv_typed.specs.Tables.{whole}
 use Rattle.pv_typed.specs.TypedUnits.{WholeUnit, name_at}
-use Rattle.pv_check.specs.Library.{library_named, is_printf}
+use Rattle.pv_library.specs.LibraryNames.{library_named}
+use Rattle.pv_check.specs.PrintfFormats.{is_printf}
 use Rattle.pv_typed.specs.Mains.{named_main}
 use Rattle.pv_check.proofs.Opening.{then_goes}
 use Rattle.pv_unit.specs.Library.{main_type}

@@ -1,8 +1,8 @@
 use Rattle.std.proofs.Common.{refl, List, [], ◌∷◌}
 use Rattle.std.specs.Prelude.{codes}
-use Rattle.pv_script.specs.declared.library.Library.TheVariants as library
-use Rattle.pv_check.specs.Library.{NamedFunction, named_function, library_named}
-use Rattle.pv_check.proofs.formats.library_named.Goals as goal
+use Rattle.pv_library.specs.declared.library.Library.TheVariants as library
+use Rattle.pv_library.specs.LibraryNames.{NamedFunction, named_function, library_named}
+use Rattle.pv_library.proofs.names.library_named.Goals as goal
 
 abbrev rest0 : List NamedFunction
 rest0 = []
