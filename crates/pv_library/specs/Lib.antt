@@ -1,1 +1,2 @@
 pub mod LibraryNames
+pub mod LibraryTypes

@@ -15,7 +15,7 @@ use Rattle.pv_typed.specs.TypedTree.{is_function}
 use Rattle.pv_typed.specs.Mains.{named_main}
 use Rattle.pv_check.specs.Open.{state_of, IsOpen, Goes}
 use Rattle.pv_check.proofs.Opening.{state_stays}
-use Rattle.pv_unit.specs.Library.{main_type}
+use Rattle.pv_unit.specs.MainType.{main_type}
 use Rattle.pv_check.specs.State.{State, ObjectName, FunctionName}
 use Rattle.pv_unit.specs.declared.entities.Outer.{Outer}
 use Rattle.pv_unit.specs.Redeclarations.{Entity, UnitState, unit_name, may_have, function_declared, entity, new_object, new_function, with_new_object, with_new_function, with_object_type, with_function_type, object_again, function_again}

@@ -24,7 +24,7 @@ use Rattle.pv_types.specs.SameTypes.{same_type as same}
 use Rattle.pv_check.specs.Composite.{composite}
 use Rattle.pv_check.specs.Derivations.{Parameter, Signature, declared_name, derived}
 use Rattle.pv_check.specs.Typing.{steps}
-use Rattle.pv_unit.specs.Library.{main_type}
+use Rattle.pv_unit.specs.MainType.{main_type}
 use Rattle.pv_unit.specs.Redeclarations.{UnitState, unit_name, is_initialized, object_again, object_declared, function_again, may_have, function_declared}
 use Rattle.pv_unit.specs.ValueRules.{initialized}
 use Rattle.pv_unit.specs.Declarations.{specified_by, tags_alone, only_tag, type_declared, typedef_again, typedef_declared, noted, object_initialized, plain_entity, entity_declared, file_declarator, file_init_declarator, file_declarators, file_alone, file_declaration, typedef_entity, variable_entity}

@@ -16,7 +16,7 @@ use Rattle.pv_typed.specs.Mains.{named_main}
 use Rattle.pv_check.specs.Derivations.{Derivation, ByArray, declared_name, derived}
 use Rattle.pv_check.specs.Typing.{specifiers, steps}
 use Rattle.pv_types.specs.Compatible.{are_compatible}
-use Rattle.pv_unit.specs.Library.{main_type}
+use Rattle.pv_unit.specs.MainType.{main_type}
 use Rattle.pv_types.specs.SameTypes.{same_type}
 use Rattle.pv_unit.specs.Redeclarations.{UnitState, unit_name, marked, is_initialized, object_declared, function_declared}
 use Rattle.pv_unit.specs.ValueRules.{initialized, with_given}

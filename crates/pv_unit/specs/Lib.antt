@@ -20,7 +20,7 @@ pub mod Initialized
 pub mod InitializedParts
 pub mod Initializers
 pub mod InitializerParts
-pub mod Library
+pub mod MainType
 pub mod Outside
 pub mod Parts
 pub mod PartParts

@@ -3,7 +3,7 @@ use Rattle.std.specs.Prelude.{List, [], ◌∷◌, Bool, if◌then◌else◌}
 use Rattle.pv_types.specs.Ty.{Ty, Tys, VoidTy, ConstOf, NoTys, MoreTys}
 use Rattle.pv_unit.specs.declared.library_types.Simple.{Simple}
 use Rattle.pv_unit.specs.declared.library_types.Simple.TheVariants as simple
-use Rattle.pv_unit.specs.Library.{bytes, constant_bytes, text, constant_text, size, int}
+use Rattle.pv_library.specs.LibraryTypes.{bytes, constant_bytes, text, constant_text, size, int}
 
 -- the types in the library's prototypes (7.21.6.3, 7.22.3, 7.24), as the code names them
 abbrev pub simple_type : Simple → Ty

@@ -10,7 +10,8 @@ use Rattle.pv_check.specs.State.{State, Meaning, ObjectName, FunctionName, inner
 use Rattle.pv_check.specs.Composite.{composite}
 use Rattle.pv_library.specs.LibraryNames.{library_named}
 use Rattle.pv_check.specs.PrintfFormats.{is_printf}
-use Rattle.pv_unit.specs.Library.{main_type, prototype}
+use Rattle.pv_library.specs.LibraryTypes.{prototype}
+use Rattle.pv_unit.specs.MainType.{main_type}
 use Rattle.std.specs.Option.{option_map_or}
 
 -- 6.7p4, 6.9p5: an object or a function with a declaration at file scope, in the order of their first ones: whether it is defined

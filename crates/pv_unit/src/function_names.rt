@@ -6,7 +6,7 @@ ghost use Rattle.pv_typed.specs.Tables.{whole};
 ghost use Rattle.pv_check.specs.Open.{IsOpen, Goes};
 ghost use Rattle.pv_check.specs.PrintfFormats.{is_printf};
 ghost use Rattle.pv_typed.specs.Mains.{named_main};
-ghost use Rattle.pv_unit.specs.Library.{main_type};
+ghost use Rattle.pv_unit.specs.MainType.{main_type};
 ghost use Rattle.pv_unit.specs.Redeclarations.{unit_name, is_variadic, may_have};
 
 use crate::known_names::{is_main, is_printf};

@@ -5,7 +5,7 @@ ghost use Rattle.pv_types.specs.Ty.{FunctionTy, IntTy, PointerTo, VoidTy};
 ghost use Rattle.pv_types.specs.Known.{tree, trees, tys_in};
 ghost use Rattle.pv_types.specs.Formed.{AllBelow, parameters_at};
 ghost use Rattle.pv_check.specs.Growing.{Grows};
-ghost use Rattle.pv_unit.specs.Library.{prototype};
+ghost use Rattle.pv_library.specs.LibraryTypes.{prototype};
 ghost use Rattle.pv_unit.specs.Prototypes.{constant_if, simple_type, simple_types};
 
 use pv_check::interned;

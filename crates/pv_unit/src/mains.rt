@@ -9,7 +9,7 @@ ghost use Rattle.pv_typed.specs.Tables.{whole};
 ghost use Rattle.pv_typed.specs.Known.{AreKnown};
 ghost use Rattle.pv_check.specs.Growing.{Grows};
 ghost use Rattle.pv_check.specs.Open.{IsOpen, Goes};
-ghost use Rattle.pv_unit.specs.Library.{main_type};
+ghost use Rattle.pv_unit.specs.MainType.{main_type};
 
 use pv_check::{Scopes, interned};
 use pv_num::IntKind;

@@ -7,7 +7,7 @@ ghost use Rattle.pv_typed.specs.Tables.{whole};
 ghost use Rattle.pv_typed.specs.TypedUnits.{name_at};
 ghost use Rattle.pv_library.specs.LibraryNames.{library_named};
 ghost use Rattle.pv_check.specs.Open.{IsOpen, Goes};
-ghost use Rattle.pv_unit.specs.Library.{prototype};
+ghost use Rattle.pv_library.specs.LibraryTypes.{prototype};
 ghost use Rattle.pv_unit.specs.EntityParts.{agrees};
 ghost use Rattle.pv_unit.specs.Redeclarations.{unit_name};
 

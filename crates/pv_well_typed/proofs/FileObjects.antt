@@ -20,7 +20,7 @@ use Rattle.pv_typed.specs.TypedTree.{is_function}
 use Rattle.pv_check.specs.State.{State, After, Scope, Meaning, ObjectName, FunctionName, TypedefOf, ConstantOf, innermost, find, bind, env}
 use Rattle.pv_typed.specs.Constants.{and_then}
 use Rattle.pv_typed.specs.Mains.{named_main}
-use Rattle.pv_unit.specs.Library.{main_type}
+use Rattle.pv_unit.specs.MainType.{main_type}
 use Rattle.pv_unit.specs.Redeclarations.{Entity, UnitState, unit_name, is_entity, marked, is_initialized, entity, with_object_type, new_object, with_new_object, object_again, object_declared}
 use Rattle.pv_unit.specs.Declarations.{typedef_again, typedef_found, typedef_declared, noted, object_initialized}
 use Rattle.pv_unit.specs.DeclarationParts.{object_noted, plain_object}

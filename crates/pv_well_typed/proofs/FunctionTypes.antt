@@ -18,7 +18,8 @@ use Rattle.pv_library.specs.LibraryNames.{library_functions, function_among, lib
 use Rattle.pv_check.specs.PrintfFormats.{is_printf}
 use Rattle.pv_typed.specs.TypedTree.{is_function}
 use Rattle.pv_check.specs.Texts.{same_text}
-use Rattle.pv_unit.specs.Library.{prototype, main_type}
+use Rattle.pv_library.specs.LibraryTypes.{prototype}
+use Rattle.pv_unit.specs.MainType.{main_type}
 use Rattle.pv_unit.specs.EntityParts.{agrees}
 use Rattle.pv_unit.specs.Redeclarations.{is_variadic, may_have}
 use Rattle.pv_guards.specs.Typed.{AreLike, AreAllLike, IsSignature, IsResultOf}

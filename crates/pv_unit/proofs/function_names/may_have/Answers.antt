@@ -9,7 +9,7 @@ use Rattle.pv_library.specs.LibraryNames.{library_named}
 use Rattle.pv_check.specs.PrintfFormats.{is_printf}
 use Rattle.pv_typed.specs.Mains.{named_main}
 use Rattle.pv_check.proofs.Opening.{then_goes}
-use Rattle.pv_unit.specs.Library.{main_type}
+use Rattle.pv_unit.specs.MainType.{main_type}
 use Rattle.pv_unit.specs.EntityParts.{agrees}
 use Rattle.pv_unit.specs.Redeclarations.{unit_name, is_variadic}
 use Rattle.pv_unit.proofs.function_names.may_have.Goals as goal
