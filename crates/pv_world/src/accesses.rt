@@ -13,7 +13,7 @@ ghost use Rattle.pv_object.specs.Answers.{IsMadeValue};
 ghost use Rattle.pv_object.specs.Encoding.{size_of};
 ghost use Rattle.pv_object.specs.Later.{IsLater};
 ghost use Rattle.pv_world.specs.declared.got.Shape.{Shape};
-ghost use Rattle.pv_world.specs.Worlds.{World as Seen, with_table};
+ghost use Rattle.pv_world.specs.Worlds.{World as WorldView, with_table};
 ghost use Rattle.pv_world.specs.Worths.{origin_of};
 ghost use Rattle.pv_world.specs.Telling.{Told, telling, quiet, blame_of};
 ghost use Rattle.pv_world.specs.Doing.{Done};
@@ -82,9 +82,9 @@ impl World {
     ) -> Result<Reach, Failure>
         requires made { IsMadeIn self.old.memory.table p.prov }
         requires aligned { 1 ≤ align }
-        ensures goes_on { IfOk result (λ at. (go : Reach → Seen → Told → Done) → reaching p n align write self.old go ≡ go at self.new (telling (range_use self.old.memory.table p n))) }
+        ensures goes_on { IfOk result (λ at. (go : Reach → WorldView → Told → Done) → reaching p n align write self.old go ≡ go at self.new (telling (range_use self.old.memory.table p n))) }
         ensures told { OnOk result (told.new.items ≡ told.old.items ++ range_use self.old.memory.table p n) }
-        ensures stops { IfErr result (λ e. (go : Reach → Seen → Told → Done) → Came worth_of (Err e) self.new told.new.items (seen told.old.items self.old (reaching p n align write self.old go))) }
+        ensures stops { IfErr result (λ e. (go : Reach → WorldView → Told → Done) → Came worth_of (Err e) self.new told.new.items (seen told.old.items self.old (reaching p n align write self.old go))) }
         ensures settled { OnOk result (self.new.memory.table ≡ settled self.old.memory.table p.prov (use_answer self.old.memory.table p.prov (Test.Range p.address n))) }
         ensures world { OnOk result (self.new ≡ with_table self.old self.new.memory.table) }
         ensures within { IfOk result (λ at. IsReach self.new.memory.table at n) }

@@ -3,7 +3,7 @@ ghost use Rattle.std.specs.Prelude.{◌≡◌};
 ghost use Rattle.pv_num.specs.Kinds.{Fits};
 ghost use Rattle.pv_num.specs.Arithmetic.{IsPromoted};
 ghost use Rattle.pv_num.specs.Operands.{IsOperand};
-ghost use Rattle.pv_world.specs.Worlds.{World as Seen};
+ghost use Rattle.pv_world.specs.Worlds.{World as WorldView};
 ghost use Rattle.pv_world.specs.Worths.{int_of};
 ghost use Rattle.pv_world.specs.Calculations.{calculates, calculates_one, needs};
 ghost use Rattle.pv_world.specs.Coming.{Did, worth_of};
@@ -27,7 +27,7 @@ pub fn calculate(
     requires promoted { IsPromoted kind }
     requires left { Fits kind (int_of (worth_of v.now)) }
     requires right { IsOperand op kind (int_of (worth_of x.now)) }
-    ensures did { (w : Seen) → Did worth_of (calculates op kind (worth_of v.now) (worth_of x.now)) result w w told.old.items told.new.items }
+    ensures did { (w : WorldView) → Did worth_of (calculates op kind (worth_of v.now) (worth_of x.now)) result w w told.old.items told.new.items }
 {
     if let Some(cause) = unplain(v) {
         return Err(fail(told, cause, None));
@@ -46,7 +46,7 @@ pub fn calculate(
 pub fn calculate_one(op: UnOp, kind: IntKind, v: &Got, told: &mut Vec<What>) -> Result<Got, Failure>
     requires promoted { IsPromoted kind }
     requires operand { Fits kind (int_of (worth_of v.now)) }
-    ensures did { (w : Seen) → Did worth_of (calculates_one op kind (worth_of v.now)) result w w told.old.items told.new.items }
+    ensures did { (w : WorldView) → Did worth_of (calculates_one op kind (worth_of v.now)) result w w told.old.items told.new.items }
 {
     if let Some(cause) = unplain(v) {
         return Err(fail(told, cause, None));
@@ -60,7 +60,7 @@ pub fn calculate_one(op: UnOp, kind: IntKind, v: &Got, told: &mut Vec<What>) -> 
 /// A value that an operation looks at (6.8.4.2): it is neither missing nor never set.
 #[tactic(auto, using(crate::proofs::Comings::came_fails))]
 pub fn need(v: Got, told: &mut Vec<What>) -> Result<Got, Failure>
-    ensures did { (w : Seen) → Did worth_of (needs (worth_of v)) result w w told.old.items told.new.items }
+    ensures did { (w : WorldView) → Did worth_of (needs (worth_of v)) result w w told.old.items told.new.items }
 {
     match unplain(&v) {
         Some(cause) => Err(fail(told, cause, None)),

@@ -34,9 +34,9 @@ impl Model for World {
     ghost use Rattle.std.specs.Coded.{codes};
     ghost use Rattle.pv_inst.specs.CountsCode.{counts_code};
     ghost use Rattle.pv_object.specs.Codes.{store_code};
-    ghost use Rattle.pv_world.specs.Worlds.{World as Seen};
+    ghost use Rattle.pv_world.specs.Worlds.{World as WorldView};
 
-    ghost Value = { Seen };
+    ghost Value = { WorldView };
 
     ghost coded = { Prim.hlevel (codes, counts_code, store_code) };
 
