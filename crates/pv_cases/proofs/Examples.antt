@@ -1,7 +1,7 @@
 -- Rows of suites, as the definitions compute them.
 use Rattle.std.proofs.Common.{◌≡◌, false, [], ◌∷◌, ◌++◌, codes, Some, None, Ok, Err, refl}
 use Rattle.std.specs.Fmt.{decimal}
-use Rattle.pv_num.specs.declared.faults.Clause.TheVariants as clause
+use Rattle.pv_fault.specs.declared.faults.Clause.TheVariants as clause
 use Rattle.pv_cases.specs.declared.list.ListError.TheVariants as error
 use Rattle.pv_cases.specs.Cases.{cases_of, bound_in}
 use Rattle.pv_cases.specs.Suites.{told_of, all_clauses, suite_text, suite_status, line_feed, list_line, long_line}

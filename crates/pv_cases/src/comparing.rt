@@ -4,7 +4,7 @@ ghost use Rattle.std.specs.List.{common_prefix_len};
 ghost use Rattle.pv_cases.specs.Suites as specified;
 ghost use Rattle.pv_cases.specs.Views.{wanted_view, gave_view, told_view};
 
-use pv_num::Clause;
+use pv_fault::Clause;
 use pv_script::NoMemory;
 use std::alloc::Global;
 

@@ -6,7 +6,7 @@ ghost use Rattle.pv_cases.specs.Views.{told_view};
 
 use crate::comparing::Told;
 use crate::list::ListError;
-use pv_num::Clause;
+use pv_fault::Clause;
 use pv_script::NoMemory;
 use std::alloc::Global;
 

@@ -2,8 +2,8 @@
 use Rattle.std.proofs.Common.{◌≡◌, ℕ, ◌+◌, ◌++◌, Bool, true, false, List, [], length, refl, sym, ap, ◌∙◌, arith, subst, Some, None}
 use Rattle.std.specs.Prelude.{not, is_some, ◌||◌, Option, IfSome, if◌then◌else◌, Ok, Err}
 use Rattle.std.proofs.lemmas.List.{drop_all}
-use Rattle.pv_num.specs.declared.faults.Clause.TheVariants.{EffectiveTypes, Sequencing}
-use Rattle.pv_num.specs.declared.faults.Reason.TheVariants.{WrongType, Unsequenced}
+use Rattle.pv_fault.specs.declared.faults.Clause.TheVariants.{EffectiveTypes, Sequencing}
+use Rattle.pv_fault.specs.declared.faults.Reason.TheVariants.{WrongType, Unsequenced}
 use Rattle.std.specs.Option.{option_map, option_and_then}
 use Rattle.pv_prov.specs.declared.names.Prov.{Prov}
 use Rattle.pv_prov.specs.declared.names.Prov.TheVariants.{Empty, Inst}

@@ -1,8 +1,8 @@
 -- Full expressions that are plain but for a store at their root.
 use Rattle.std.proofs.Common.{◌≡◌, ℕ, ◌+◌, ◌++◌, ◌≤◌, Bool, true, false, List, [], ◌∷◌, refl, sym, ap, ◌∙◌, arith, subst, Some, None, append-nil}
 use Rattle.std.specs.Prelude.{◌&&◌, nat_le, Option, IfSome, slice_get, if◌then◌else◌}
-use Rattle.pv_num.specs.declared.faults.Clause.TheVariants.{EffectiveTypes}
-use Rattle.pv_num.specs.declared.faults.Reason.TheVariants.{WrongType}
+use Rattle.pv_fault.specs.declared.faults.Clause.TheVariants.{EffectiveTypes}
+use Rattle.pv_fault.specs.declared.faults.Reason.TheVariants.{WrongType}
 use Rattle.pv_prov.specs.declared.names.Prov.TheVariants.{Inst}
 use Rattle.pv_tree.specs.declared.nodes.NodeId.{NodeId}
 use Rattle.pv_types.specs.Ty.{Ty}

@@ -1,8 +1,8 @@
 -- Reads and writes through lvalues (C17 6.3.2.1p2, 6.5.16), with their checks in order: null, empty name, ended, outside,
 -- misaligned, readonly, effective type, sequencing, inexact overlap; of what is read then a byte without a value, and a trap.
 use Rattle.std.specs.Prelude.{ℕ, Bool, true, false, List, Option, Some, if◌then◌else◌}
-use Rattle.pv_num.specs.declared.faults.Clause.TheVariants.{EffectiveTypes, Sequencing, OverlappingAssignment}
-use Rattle.pv_num.specs.declared.faults.Reason.TheVariants.{WrongType, Unsequenced, Overlap}
+use Rattle.pv_fault.specs.declared.faults.Clause.TheVariants.{EffectiveTypes, Sequencing, OverlappingAssignment}
+use Rattle.pv_fault.specs.declared.faults.Reason.TheVariants.{WrongType, Unsequenced, Overlap}
 use Rattle.pv_shadow.specs.Bytes.{read}
 use Rattle.pv_object.specs.declared.values.Pointer.{Pointer}
 use Rattle.pv_object.specs.declared.values.Reach.{Reach}

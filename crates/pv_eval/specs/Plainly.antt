@@ -31,7 +31,7 @@ use Rattle.pv_object.specs.declared.values.Reach.{Reach}
 use Rattle.pv_object.specs.declared.values.Asker.TheVariants.{Access as AccessAsker}
 use Rattle.pv_num.specs.declared.kinds.IntKind.{IntKind}
 use Rattle.pv_num.specs.declared.operators.BinOp.{BinOp}
-use Rattle.pv_num.specs.declared.faults.Clause.{Clause}
+use Rattle.pv_fault.specs.declared.faults.Clause.{Clause}
 use Rattle.pv_object.specs.Access.{reach}
 use Rattle.pv_object.specs.Operations.{move_under}
 use Rattle.pv_object.specs.Encoding.{number_in}

@@ -22,7 +22,7 @@ ghost use Rattle.pv_eval.specs.Accesses.{access_to, reads_permitted, reads_at, r
 
 use crate::permission::permits;
 use crate::types::{Complete, align_of, number, shape};
-use pv_num::{Clause, Fault, Reason};
+use pv_fault::{Clause, Fault, Reason};
 use pv_object::{Pointer, Reach};
 use pv_seq::{Journal, SeqStop};
 use pv_typed::TypedUnit;

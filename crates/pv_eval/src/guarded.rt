@@ -18,7 +18,8 @@ use crate::suiting::{
     are_operands, can_order, can_shift, can_take, is_convertible, is_of_promoted, knows, knows_both,
 };
 use crate::types::{element_size, shape, size_of};
-use pv_num::{BinOp, Clause, Fault, IntKind, Reason, UnOp};
+use pv_fault::{Clause, Fault, Reason};
+use pv_num::{BinOp, IntKind, UnOp};
 use pv_object::Value;
 use pv_types::{TypeId, Types};
 use pv_watch::What;

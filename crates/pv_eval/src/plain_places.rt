@@ -1,6 +1,6 @@
 // Places that plain expressions designate, and pointers that they move (C17 6.5.1p2, 6.5.2.1, 6.5.2.3, 6.5.6p8).
 ghost use Rattle.std.specs.Prelude.{◌≡◌, ◌≤◌, ◌^◌, pos, neg_ℤ, ◌≤ℤ◌, true, IfSome};
-ghost use Rattle.pv_num.specs.declared.faults.Clause.{Clause};
+ghost use Rattle.pv_fault.specs.declared.faults.Clause.{Clause};
 ghost use Rattle.pv_tree.specs.declared.nodes.NodeId.{NodeId as Number};
 ghost use Rattle.pv_types.specs.Ty.{Ty};
 ghost use Rattle.pv_types.specs.Known.{tree};

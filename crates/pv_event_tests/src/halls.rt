@@ -1,7 +1,7 @@
 // Halls of watchers that say what they have seen, with which names.
 ghost use Rattle.std.specs.Prelude.{◌<◌};
 
-use pv_num::{Clause, Fault, Reason};
+use pv_fault::{Clause, Fault, Reason};
 use pv_script::Names;
 use pv_watch::{Attend, Event, Hall, NoMemory, Verdict, Watch, What};
 use std::alloc::Global;

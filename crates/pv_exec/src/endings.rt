@@ -7,8 +7,9 @@ ghost use Rattle.pv_exec.specs.Ending.{outcome_by};
 
 use crate::outcome::Outcome;
 use crate::running::Ended;
+use pv_fault::Reason;
 use pv_inst::CreateError;
-use pv_num::{IntKind, Reason, fits};
+use pv_num::{IntKind, fits};
 use pv_object::Value;
 use pv_world::{Cause, Got};
 

@@ -1,5 +1,5 @@
 // How a run ended.
-use pv_num::{Fault, Reason};
+use pv_fault::{Fault, Reason};
 
 /// How a run ended. Lines are counted from 1, as line markers set them.
 #[derive(Clone, Copy)]

@@ -4,8 +4,8 @@ use Rattle.std.specs.List.{slice_get}
 use Rattle.std.proofs.lemmas.Int.{ints}
 use Rattle.std.proofs.lemmas.Option.{none-some}
 use Rattle.pv_num.specs.declared.kinds.IntKind.TheVariants.{Int, ULong}
-use Rattle.pv_num.specs.declared.faults.Clause.{Clause}
-use Rattle.pv_num.specs.declared.faults.Clause.TheVariants as clause
+use Rattle.pv_fault.specs.declared.faults.Clause.{Clause}
+use Rattle.pv_fault.specs.declared.faults.Clause.TheVariants as clause
 use Rattle.pv_num.specs.Kinds.{Fits, convert_of}
 use Rattle.pv_num.proofs.Congruence.{equal_fits}
 use Rattle.pv_types.specs.Ty.{Ty, VoidTy, IntTy, PointerTo}

@@ -1,7 +1,7 @@
 -- What operations on numbers give is of its type, in the same world (C17 6.3.1, 6.5.3.3, 6.5.5 to 6.5.14).
 use Rattle.std.proofs.Common.{◌≡◌, refl, ℤ, Option, Some, None, IfOk, Result, Ok, Err}
 use Rattle.pv_num.specs.declared.kinds.IntKind.{IntKind}
-use Rattle.pv_num.specs.declared.faults.Fault.{Fault}
+use Rattle.pv_num.specs.declared.operators.ArithmeticFault.{ArithmeticFault}
 use Rattle.pv_num.specs.declared.operators.BinOp.{BinOp}
 use Rattle.pv_num.specs.declared.operators.UnOp.{UnOp}
 use Rattle.pv_num.specs.Kinds.{Fits}
@@ -35,7 +35,7 @@ answers-more P Q f (Breaks y p z t) h = tt
 abbrev pub GivesKind : World → IntKind → Worth → World → Type 0
 GivesKind w k v z = IsScalar (scalar.Int k) v × (z ≡ w)
 
-computed-answers : (k : IntKind) (w : World) (r : Result ℤ Fault) → IfOk r (Fits k) → Answering (GivesKind w k) (computed w r)
+computed-answers : (k : IntKind) (w : World) (r : Result ℤ ArithmeticFault) → IfOk r (Fits k) → Answering (GivesKind w k) (computed w r)
 computed-answers k w (Ok n) h = (h, refl)
 computed-answers k w (Err f) h = tt
 

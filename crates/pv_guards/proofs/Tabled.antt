@@ -4,8 +4,8 @@ use Rattle.std.specs.Prelude.{if◌then◌else◌}
 use Rattle.std.specs.declared.cmp.Ordering.{Ordering}
 use Rattle.pv_num.specs.declared.kinds.IntKind.{IntKind}
 use Rattle.pv_num.specs.declared.kinds.IntKind.TheVariants.{Bool as BoolKind, Char, SChar, UChar, Short, UShort, Int, UInt, Long, ULong, LLong, ULLong}
-use Rattle.pv_num.specs.declared.faults.Fault.{Fault}
-use Rattle.pv_num.specs.declared.faults.Clause.TheVariants.{AdditionOfPointers, SubtractionOfPointers, OrderOfPointers, Indirection}
+use Rattle.pv_num.specs.declared.operators.ArithmeticFault.{ArithmeticFault}
+use Rattle.pv_fault.specs.declared.faults.Clause.TheVariants.{AdditionOfPointers, SubtractionOfPointers, OrderOfPointers, Indirection}
 use Rattle.pv_num.specs.declared.operators.BinOp.{BinOp}
 use Rattle.pv_num.specs.declared.operators.BinOp.TheVariants as bin
 use Rattle.pv_num.specs.Kinds.{Fits, fits_of, convert_of, is_character_kind}
@@ -297,8 +297,8 @@ module _ (b : Setting) (w : World) (within : (i : ℕ) (x : Instance) → instan
   order-gives : (o : BinOp) (p q : Pointer) (got : Result (Ordering × Tried × Tried) Stop × Table) → LivesOn got.1 → is_order o ≡ true → Answering (Tabled (IntTy Int)) (ordered_by o w p q got)
   order-gives o p q (Ok r, T) l e = by (binary_of o Int (pos p.address) (pos q.address)) refl (order-fits o (pos p.address) (pos q.address) e)
     where
-      by : (n : Result ℤ Fault) → binary_of o Int (pos p.address) (pos q.address) ≡ n → IfOk (binary_of o Int (pos p.address) (pos q.address)) (Fits Int) → Answering (Tabled (IntTy Int)) (ordered_by o w p q (Ok r, T))
-      by (Ok n) f h = let g : Fits Int n = subst (λ (x : Result ℤ Fault). IfOk x (Fits Int)) f h in rw f (refl, l, (g, tt))
+      by : (n : Result ℤ ArithmeticFault) → binary_of o Int (pos p.address) (pos q.address) ≡ n → IfOk (binary_of o Int (pos p.address) (pos q.address)) (Fits Int) → Answering (Tabled (IntTy Int)) (ordered_by o w p q (Ok r, T))
+      by (Ok n) f h = let g : Fits Int n = subst (λ (x : Result ℤ ArithmeticFault). IfOk x (Fits Int)) f h in rw f (refl, l, (g, tt))
       by (Err y) f h = rw f (refl, l, (zero_fits Int, tt))
   order-gives o p q (Err y, T) l e = tt
 

@@ -5,9 +5,9 @@ use Rattle.std.specs.Ordering.{nat_cmp}
 use Rattle.pv_num.specs.declared.kinds.IntKind.{IntKind}
 use Rattle.pv_num.specs.declared.kinds.IntKind.TheVariants.{Int as IntOfInt}
 use Rattle.pv_num.specs.declared.operators.BinOp.{BinOp}
-use Rattle.pv_num.specs.declared.faults.Fault.{Fault}
-use Rattle.pv_num.specs.declared.faults.Clause.{Clause}
-use Rattle.pv_num.specs.declared.faults.Clause.TheVariants.{OrderOfPointers}
+use Rattle.pv_num.specs.declared.operators.ArithmeticFault.{ArithmeticFault}
+use Rattle.pv_fault.specs.declared.faults.Clause.{Clause}
+use Rattle.pv_fault.specs.declared.faults.Clause.TheVariants.{OrderOfPointers}
 use Rattle.pv_num.specs.Arithmetic.{binary_of}
 use Rattle.pv_journal_laws.specs.Naming.{AreDistinct}
 use Rattle.pv_prov.specs.declared.names.Prov.{Prov}
@@ -64,7 +64,7 @@ module _ (names : List (List ℕ)) (distinct : AreDistinct names) (turn : ℕ) w
   C w d = Coming names turn w d
 
   -- order
-  ordered-as : (w : World) (T : Table) (o : Result ℤ Fault) (op : BinOp) (p q : Pointer) (r : Ordering × Tried × Tried) → binary_of op IntOfInt (pos p.address) (pos q.address) ≡ o → Tells names turn w.memory.table (both_used r.1 r.2) T
+  ordered-as : (w : World) (T : Table) (o : Result ℤ ArithmeticFault) (op : BinOp) (p q : Pointer) (r : Ordering × Tried × Tried) → binary_of op IntOfInt (pos p.address) (pos q.address) ≡ o → Tells names turn w.memory.table (both_used r.1 r.2) T
       → C w (ordered_by op w p q (Ok r, T))
   ordered-as w T (Ok n) op p q r e t = rw e (record { comes = record { tells = t; named = λ n. n } })
   ordered-as w T (Err y) op p q r e t = rw e (record { comes = record { tells = t; named = λ n. n } })

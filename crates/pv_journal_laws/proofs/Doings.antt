@@ -4,9 +4,9 @@ use Rattle.std.specs.Prelude.{if◌then◌else◌}
 use Rattle.pv_num.specs.declared.kinds.IntKind.{IntKind}
 use Rattle.pv_num.specs.declared.operators.BinOp.{BinOp}
 use Rattle.pv_num.specs.declared.operators.UnOp.{UnOp}
-use Rattle.pv_num.specs.declared.faults.Fault.{Fault}
-use Rattle.pv_num.specs.declared.faults.Clause.{Clause}
-use Rattle.pv_num.specs.declared.faults.Clause.TheVariants.{AdditionOfPointers, SubtractionOfPointers, Indirection}
+use Rattle.pv_num.specs.declared.operators.ArithmeticFault.{ArithmeticFault}
+use Rattle.pv_fault.specs.declared.faults.Clause.{Clause}
+use Rattle.pv_fault.specs.declared.faults.Clause.TheVariants.{AdditionOfPointers, SubtractionOfPointers, Indirection}
 use Rattle.pv_num.specs.Arithmetic.{binary_of, unary_of}
 use Rattle.pv_num.specs.Kinds.{fits_of}
 use Rattle.pv_journal_laws.specs.Naming.{AreDistinct}
@@ -163,7 +163,7 @@ module _ (names : List (List ℕ)) (distinct : AreDistinct names) (turn : ℕ) w
   converts-come Voids v w f h = still w _
 
   -- operators on integers
-  computed-comes : (w : World) (r : Result ℤ Fault) → C w (computed w r)
+  computed-comes : (w : World) (r : Result ℤ ArithmeticFault) → C w (computed w r)
   computed-comes w (Ok n) = still w _
   computed-comes w (Err y) = stops w w _ _
 

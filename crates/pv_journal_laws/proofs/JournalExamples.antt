@@ -2,8 +2,8 @@
 -- meet (6.3.2.3p5).
 use Rattle.std.proofs.Common.{◌≡◌, ℕ, List, [], ◌∷◌, ◌++◌, codes, Some, None, refl}
 use Rattle.std.specs.Prelude.{true, false}
-use Rattle.pv_num.specs.declared.faults.Clause.TheVariants.{Lifetimes}
-use Rattle.pv_num.specs.declared.faults.Reason.TheVariants.{Ended as HasEnded}
+use Rattle.pv_fault.specs.declared.faults.Clause.TheVariants.{Lifetimes}
+use Rattle.pv_fault.specs.declared.faults.Reason.TheVariants.{Ended as HasEnded}
 use Rattle.pv_watch.specs.declared.event.Event.{Event}
 use Rattle.pv_watch.specs.declared.event.What.TheVariants as what
 use Rattle.pv_watch.specs.declared.event.Verdict.TheVariants as verdict

@@ -2,9 +2,9 @@
 use Rattle.std.proofs.Common.{◌≡◌, ℕ, zero, suc, ◌+◌, ◌*◌, ◌≤◌, ◌<◌, min, ℤ, Bool, true, false, ◌&&◌, not, cond, eqb, List, [], ◌∷◌, ◌++◌, codes, length, map, replicate, Option, Some, None, Result, Ok, Err, IsSomeAnd, IsTrue, refl, sym, ap, ◌∙◌, append-nil, subst, arith}
 use Rattle.std.proofs.lemmas.Bool.Decides.{nat_tests}
 use Rattle.std.proofs.lemmas.Option.{none-some}
-use Rattle.pv_num.specs.declared.faults.Clause.{Clause}
-use Rattle.pv_num.specs.declared.faults.Clause.TheVariants as clause
-use Rattle.pv_num.specs.declared.faults.Reason.TheVariants as reason
+use Rattle.pv_fault.specs.declared.faults.Clause.{Clause}
+use Rattle.pv_fault.specs.declared.faults.Clause.TheVariants as clause
+use Rattle.pv_fault.specs.declared.faults.Reason.TheVariants as reason
 use Rattle.pv_num.specs.declared.kinds.IntKind.TheVariants.{UChar}
 use Rattle.pv_num.specs.Kinds.{bits_of}
 use Rattle.pv_script.specs.Words.{is_name}

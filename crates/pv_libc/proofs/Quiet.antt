@@ -1,7 +1,7 @@
 -- What tells of no new instance: every function but those that allocate.
 use Rattle.std.proofs.Common.{◌≡◌, ℕ, ℤ, zero, suc, ◌+◌, Bool, true, false, not, cond, eqb, List, [], ◌∷◌, ◌++◌, map, length, Option, Some, None, Result, Ok, Err, All, refl, subst}
 use Rattle.std.proofs.lemmas.List.Elements.{All-nil, All-cons, All-append, All-push}
-use Rattle.pv_num.specs.declared.faults.Clause.{Clause}
+use Rattle.pv_fault.specs.declared.faults.Clause.{Clause}
 use Rattle.pv_num.specs.declared.kinds.IntKind.TheVariants.{UChar, ULong}
 use Rattle.pv_num.specs.Kinds.{bits_of}
 use Rattle.pv_inst.specs.declared.values.Tried.{Tried}

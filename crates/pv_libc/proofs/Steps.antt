@@ -1,6 +1,6 @@
 -- One step behind another, where a step may find no memory.
 use Rattle.std.proofs.Common.{◌≡◌, ℕ, Bool, false, cond, List, ◌++◌, Result, Ok, Err, refl, sym, ap, subst}
-use Rattle.pv_num.specs.declared.faults.Clause.TheVariants.{Reallocating}
+use Rattle.pv_fault.specs.declared.faults.Clause.TheVariants.{Reallocating}
 use Rattle.pv_object.specs.declared.values.Stop.{Stop}
 use Rattle.pv_object.specs.declared.values.Stop.TheVariants.{Undefined, Indeterminate, Undecided, NoMemory}
 use Rattle.pv_object.specs.Memory.{Mem}

@@ -1,7 +1,7 @@
 -- Characters and strings as the library reads them (C17 7.1.1p1, 7.24.1p3).
 use Rattle.std.specs.Prelude.{ℕ, zero, suc, ◌+◌, ◌==◌, List, [], ◌∷◌, ◌++◌, length, Result, Ok, Err, false, if◌then◌else◌, unsigned_abs, ◌^◌}
 use Rattle.pv_num.specs.declared.kinds.IntKind.TheVariants.{UChar}
-use Rattle.pv_num.specs.declared.faults.Reason.TheVariants.{Outside}
+use Rattle.pv_fault.specs.declared.faults.Reason.TheVariants.{Outside}
 use Rattle.pv_inst.specs.declared.values.Tried.{Tried}
 use Rattle.pv_object.specs.declared.values.Scalar.TheVariants as scalar
 use Rattle.pv_object.specs.declared.values.Value.{Value}

@@ -1,8 +1,8 @@
 -- Memory management functions (C17 7.22.3).
 use Rattle.std.specs.Prelude.{ℕ, ◌*◌, min, ◌==◌, [], ◌∷◌, Option, None, Some, Result, Ok, Err, if◌then◌else◌, codes}
-use Rattle.pv_num.specs.declared.faults.Clause.{Clause}
-use Rattle.pv_num.specs.declared.faults.Clause.TheVariants as clause
-use Rattle.pv_num.specs.declared.faults.Reason.TheVariants as reason
+use Rattle.pv_fault.specs.declared.faults.Clause.{Clause}
+use Rattle.pv_fault.specs.declared.faults.Clause.TheVariants as clause
+use Rattle.pv_fault.specs.declared.faults.Reason.TheVariants as reason
 use Rattle.pv_prov.specs.declared.names.Prov.TheVariants.{Empty, Inst}
 use Rattle.pv_prov.specs.Names.{stands}
 use Rattle.pv_inst.specs.declared.values.Info.{Info}

@@ -1,8 +1,8 @@
 -- `printf` (C17 7.21.6.1, 7.21.6.3).
 use Rattle.std.specs.Prelude.{ℕ, ℤ, ◌==◌, false, List, [], ◌∷◌, ◌++◌, Option, None, Some, Result, Ok, Err, if◌then◌else◌, option_to_list}
 use Rattle.pv_num.specs.declared.kinds.IntKind.TheVariants as kind
-use Rattle.pv_num.specs.declared.faults.Clause.TheVariants as clause
-use Rattle.pv_num.specs.declared.faults.Reason.TheVariants as reason
+use Rattle.pv_fault.specs.declared.faults.Clause.TheVariants as clause
+use Rattle.pv_fault.specs.declared.faults.Reason.TheVariants as reason
 use Rattle.pv_num.specs.Kinds.{bits_of}
 use Rattle.pv_prov.specs.declared.names.Prov.{Prov}
 use Rattle.pv_prov.specs.declared.names.Prov.TheVariants.{Inst}

@@ -15,7 +15,7 @@ use crate::characters::character_in;
 use crate::notes::{reached, undefined};
 use crate::strings::sign_of;
 use crate::values::{Given, Note, Reply};
-use pv_num::{Clause, Reason};
+use pv_fault::{Clause, Reason};
 use pv_object::{Asker, Memory, Reach, Stop, Value};
 use pv_prov::Prov;
 use pv_shadow::Byte;

@@ -9,7 +9,8 @@ ghost use Rattle.pv_libc.specs.Characters.{character_in, character_at, most, str
 
 use crate::notes::{clause_of, note_exposed, reached, undefined};
 use crate::values::{Given, Note};
-use pv_num::{IntKind, Reason};
+use pv_fault::Reason;
+use pv_num::IntKind;
 use pv_object::{Asker, Memory, Pointer, Reach, Scalar, Stop, Value};
 use std::alloc::Global;
 

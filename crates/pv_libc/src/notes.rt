@@ -9,8 +9,8 @@ ghost use Rattle.pv_libc.specs.Steps.{used, told, reached, with_notes};
 ghost use Rattle.pv_libc.specs.Answers.{OrNoMemory};
 
 use crate::values::{Given, Note};
+use pv_fault::{Clause, Fault, Reason};
 use pv_inst::{Test, Tried};
-use pv_num::{Clause, Fault, Reason};
 use pv_object::{Asker, Memory, Reach, Stop};
 use pv_prov::{NoMemory, Prov};
 

@@ -12,7 +12,7 @@ use crate::blocks::{put, share};
 use crate::characters::{character_at, most, string_at};
 use crate::notes::{reached, undefined};
 use crate::values::{Given, Note, Reply};
-use pv_num::{Clause, Reason};
+use pv_fault::{Clause, Reason};
 use pv_object::{Asker, Memory, Stop, Value};
 use std::alloc::Global;
 

@@ -1,8 +1,8 @@
 // Functions that are pointed to, and what is told of instances and uses.
 use crate::scripts::names;
 use crate::worlds::{known, touching};
+use pv_fault::Reason;
 use pv_inst::Tried;
-use pv_num::Reason;
 use pv_object::Value;
 use pv_script::Names;
 use pv_watch::What;

@@ -1,7 +1,8 @@
 // Operations on the pointers of a memory.
 use crate::memory::{FIRST, SECOND, known, touching};
+use pv_fault::Reason;
 use pv_inst::Miss;
-use pv_num::{IntKind, Reason};
+use pv_num::IntKind;
 use pv_object::{Memory, Pointer, Stop};
 use pv_prov::Prov;
 use std::cmp::Ordering;

@@ -6,7 +6,8 @@ use Rattle.std.proofs.lemmas.Nat.{pow_pos}
 use Rattle.std.proofs.lemmas.Bool.Decides.{nat_tests}
 use Rattle.pv_num.specs.declared.kinds.IntKind.{IntKind}
 use Rattle.pv_num.specs.declared.kinds.IntKind.TheVariants.{Bool as BoolKind, Char, Int, UInt, Long, ULong, LLong, ULLong}
-use Rattle.pv_num.specs.declared.faults.Fault.{Fault}
+use Rattle.pv_num.specs.declared.operators.ArithmeticFault.{ArithmeticFault}
+use Rattle.pv_num.specs.declared.operators.ArithmeticFault.TheVariants.{Overflow, Shift}
 use Rattle.pv_num.specs.Kinds.{Fits, fits_of, is_signed, bits_of, from_bits_of, modulus_of, width}
 use Rattle.std.specs.declared.result.Result.{Result}
 use Rattle.pv_num.specs.declared.operators.BinOp.{BinOp}
@@ -14,16 +15,16 @@ use Rattle.pv_num.specs.declared.operators.BinOp.TheVariants.{Add, Sub, Mul, Div
 use Rattle.pv_num.specs.declared.operators.UnOp.{UnOp}
 use Rattle.pv_num.specs.declared.operators.UnOp.TheVariants.{Plus, Minus, Flip}
 use Rattle.pv_num.proofs.Bits.{and_fits, or_fits, xor_fits}
-use Rattle.pv_num.specs.Arithmetic.{IsPromoted, overflow, shift_range, is_zero, is_count, times_power, one_if, yielded_kind, exact_of, quotient_of, remainder_of, bitwise_of, shift_left_of, shift_right_of, binary_of, unary_of}
+use Rattle.pv_num.specs.Arithmetic.{IsPromoted, is_zero, is_count, times_power, one_if, yielded_kind, exact_of, quotient_of, remainder_of, bitwise_of, shift_left_of, shift_right_of, binary_of, unary_of}
 
 fits_tested : (k : IntKind) (n : ℤ) → fits_of k n ≡ true → Fits k n
 fits_tested k n e = grind (arith, ints)
 
-tested : (k : IntKind) (n : ℤ) (f : Fault) (b : Bool) → fits_of k n ≡ b → IfOk (if b then Ok n else Err f) (Fits k)
+tested : (k : IntKind) (n : ℤ) (f : ArithmeticFault) (b : Bool) → fits_of k n ≡ b → IfOk (if b then Ok n else Err f) (Fits k)
 tested k n f true e = fits_tested k n e
 tested k n f false e = tt
 
-both_tested : (k : IntKind) (n : ℤ) (a b : Bool) → fits_of k n ≡ b → IfOk (if a && b then Ok n else Err shift_range) (Fits k)
+both_tested : (k : IntKind) (n : ℤ) (a b : Bool) → fits_of k n ≡ b → IfOk (if a && b then Ok n else Err Shift) (Fits k)
 both_tested k n true true e = fits_tested k n e
 both_tested k n true false e = tt
 both_tested k n false b e = tt
@@ -43,19 +44,19 @@ bits_fit ULong n p u = grind (arith, ints)
 bits_fit ULLong n p u = grind (arith, ints)
 bits_fit _ n p u = grind (arith, ints)
 
-shifted_at : (k : IntKind) (a n : ℤ) → IsPromoted k → (b : Bool) → is_signed k ≡ b → IfOk (if b then (if int_le (pos 0) a && fits_of k n then Ok n else Err shift_range) else Ok (pos (bits_of k n))) (Fits k)
+shifted_at : (k : IntKind) (a n : ℤ) → IsPromoted k → (b : Bool) → is_signed k ≡ b → IfOk (if b then (if int_le (pos 0) a && fits_of k n then Ok n else Err Shift) else Ok (pos (bits_of k n))) (Fits k)
 shifted_at k a n p true e = both_tested k n (int_le (pos 0) a) (fits_of k n) refl
 shifted_at k a n p false e = bits_fit k n p e
 
-exact_at : (k : IntKind) (n : ℤ) → IsPromoted k → (b : Bool) → is_signed k ≡ b → IfOk (if b then (if fits_of k n then Ok n else Err overflow) else Ok (pos (bits_of k n))) (Fits k)
-exact_at k n p true e = tested k n overflow (fits_of k n) refl
+exact_at : (k : IntKind) (n : ℤ) → IsPromoted k → (b : Bool) → is_signed k ≡ b → IfOk (if b then (if fits_of k n then Ok n else Err Overflow) else Ok (pos (bits_of k n))) (Fits k)
+exact_at k n p true e = tested k n Overflow (fits_of k n) refl
 exact_at k n p false e = bits_fit k n p e
 
 exact_fits : (k : IntKind) (n : ℤ) → IsPromoted k → IfOk (exact_of k n) (Fits k)
 exact_fits k n p = exact_at k n p (is_signed k) refl
 
 -- a test that refuses keeps the claim
-unless : (k : IntKind) (b : Bool) (f : Fault) (r : Result ℤ Fault) → IfOk r (Fits k) → IfOk (if b then Err f else r) (Fits k)
+unless : (k : IntKind) (b : Bool) (f : ArithmeticFault) (r : Result ℤ ArithmeticFault) → IfOk r (Fits k) → IfOk (if b then Err f else r) (Fits k)
 unless k true f r h = tt
 unless k false f r h = h
 
@@ -84,7 +85,7 @@ remainder_within k (pos a) (negsuc b) h = nearer_zero k a _ (omega arith) h
 remainder_within k (negsuc a) (pos b) h = negative_nearer_zero k a _ (omega arith) h
 remainder_within k (negsuc a) (negsuc b) h = negative_nearer_zero k a _ (omega arith) h
 
-remainder_tested : (k : IntKind) (a b : ℤ) (f : Fault) (c : Bool) → Fits k a → IfOk (if c then Ok (int_rem a b) else Err f) (Fits k)
+remainder_tested : (k : IntKind) (a b : ℤ) (f : ArithmeticFault) (c : Bool) → Fits k a → IfOk (if c then Ok (int_rem a b) else Err f) (Fits k)
 remainder_tested k a b f true h = remainder_within k a b h
 remainder_tested k a b f false h = tt
 
@@ -139,7 +140,7 @@ binary_fits Eq k a b p h = one_if_fits _
 binary_fits Ne k a b p h = one_if_fits _
 
 -- the same of an answer, as the code names the operand
-pub binary_yields : (op : BinOp) (k : IntKind) (r : Result ℤ Fault) (a a' b : ℤ) → a' ≡ a → IsPromoted k → Fits k a → r ≡ binary_of op k a' b → IfOk r (λ n. Fits (yielded_kind op k) n)
+pub binary_yields : (op : BinOp) (k : IntKind) (r : Result ℤ ArithmeticFault) (a a' b : ℤ) → a' ≡ a → IsPromoted k → Fits k a → r ≡ binary_of op k a' b → IfOk r (λ n. Fits (yielded_kind op k) n)
 binary_yields op k r a a' b same p h e =
     subst (λ x. IfOk x (λ n. Fits (yielded_kind op k) n)) (sym e) (binary_fits op k a' b p (subst (Fits k) (sym same) h))
 

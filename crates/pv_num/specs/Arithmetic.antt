@@ -9,34 +9,13 @@ use Rattle.pv_num.specs.declared.operators.BinOp.{BinOp}
 use Rattle.pv_num.specs.declared.operators.BinOp.TheVariants.{Add, Sub, Mul, Div, Rem, Shl, Shr, And, Or, Xor, Lt, Gt, Le, Ge, Eq, Ne}
 use Rattle.pv_num.specs.declared.operators.UnOp.{UnOp}
 use Rattle.pv_num.specs.declared.operators.UnOp.TheVariants.{Plus, Minus, Flip}
-use Rattle.pv_num.specs.declared.faults.Fault.{Fault}
-use Rattle.pv_num.specs.declared.faults.Clause.TheVariants.{Exceptions, ZeroDivisors, Quotients, ShiftCounts, LeftShifts}
-use Rattle.pv_num.specs.declared.faults.Reason.TheVariants.{Overflow, Divide, Quotient, Count, Shift}
+use Rattle.pv_num.specs.declared.operators.ArithmeticFault.{ArithmeticFault}
+use Rattle.pv_num.specs.declared.operators.ArithmeticFault.TheVariants.{Overflow, ZeroDivisor, Quotient, Count, Shift}
 use Rattle.pv_num.specs.Kinds.{width, is_signed, modulus_of, fits_of, bits_of, from_bits_of}
 
 -- 6.3.1.1p2: the kinds that the integer promotions leave as they are
 abbrev pub IsPromoted : IntKind → Type 0
 IsPromoted k = 32 ≤ width k
-
--- 6.5p5: a result that its type has not
-abbrev pub overflow : Fault
-overflow = record { clause = Exceptions; reason = Overflow }
-
--- 6.5.5p5: the second operand of `/` or `%` is zero
-abbrev pub divide_by_zero : Fault
-divide_by_zero = record { clause = ZeroDivisors; reason = Divide }
-
--- 6.5.5p6: the quotient is not representable
-abbrev pub quotient_range : Fault
-quotient_range = record { clause = Quotients; reason = Quotient }
-
--- 6.5.7p3: the count is negative, or not less than the width
-abbrev pub count_range : Fault
-count_range = record { clause = ShiftCounts; reason = Count }
-
--- 6.5.7p4: the left operand is negative, or its product not representable
-abbrev pub shift_range : Fault
-shift_range = record { clause = LeftShifts; reason = Shift }
 
 -- a test of 6.5.5p5
 abbrev pub is_zero : ℤ → Bool
@@ -44,23 +23,23 @@ is_zero n = int_eq n (pos 0)
 
 -- 6.2.5p9 and 6.5p5: the exact number at the kind: modulo 2 ^ width at an unsigned kind, and at a signed kind the
 -- number itself, or the overflow where it does not fit
-abbrev pub exact_of : IntKind → ℤ → Result ℤ Fault
+abbrev pub exact_of : IntKind → ℤ → Result ℤ ArithmeticFault
 exact_of k n =
     if is_signed k
-    then (if fits_of k n then Ok n else Err overflow)
+    then (if fits_of k n then Ok n else Err Overflow)
     else Ok (pos (bits_of k n))
 
 -- 6.5.5p5 and p6: the quotient toward zero
-abbrev pub quotient_of : IntKind → ℤ → ℤ → Result ℤ Fault
+abbrev pub quotient_of : IntKind → ℤ → ℤ → Result ℤ ArithmeticFault
 quotient_of k a b =
-    if is_zero b then Err divide_by_zero
-    else (if fits_of k (int_div a b) then Ok (int_div a b) else Err quotient_range)
+    if is_zero b then Err ZeroDivisor
+    else (if fits_of k (int_div a b) then Ok (int_div a b) else Err Quotient)
 
 -- 6.5.5p5 and p6: what that quotient leaves, with the sign of the dividend; undefined too where the quotient is
-abbrev pub remainder_of : IntKind → ℤ → ℤ → Result ℤ Fault
+abbrev pub remainder_of : IntKind → ℤ → ℤ → Result ℤ ArithmeticFault
 remainder_of k a b =
-    if is_zero b then Err divide_by_zero
-    else (if fits_of k (int_div a b) then Ok (int_rem a b) else Err quotient_range)
+    if is_zero b then Err ZeroDivisor
+    else (if fits_of k (int_div a b) then Ok (int_rem a b) else Err Quotient)
 
 -- 6.5.7p3: a shift's count is neither negative nor the width or more
 abbrev pub is_count : IntKind → ℤ → Bool
@@ -71,17 +50,17 @@ abbrev pub times_power : ℤ → ℤ → ℤ
 times_power a b = a *ℤ pos (2 ^ unsigned_abs b)
 
 -- 6.5.7p3, and after it p4
-abbrev pub shift_left_of : IntKind → ℤ → ℤ → Result ℤ Fault
+abbrev pub shift_left_of : IntKind → ℤ → ℤ → Result ℤ ArithmeticFault
 shift_left_of k a b =
-    if not (is_count k b) then Err count_range
+    if not (is_count k b) then Err Count
     else (if is_signed k
-    then (if int_le (pos 0) a && fits_of k (times_power a b) then Ok (times_power a b) else Err shift_range)
+    then (if int_le (pos 0) a && fits_of k (times_power a b) then Ok (times_power a b) else Err Shift)
     else Ok (pos (bits_of k (times_power a b))))
 
 -- 6.5.7p3, and after it p5: divided by 2 ^ b and rounded down; for a negative number this target's choice
-abbrev pub shift_right_of : IntKind → ℤ → ℤ → Result ℤ Fault
+abbrev pub shift_right_of : IntKind → ℤ → ℤ → Result ℤ ArithmeticFault
 shift_right_of k a b =
-    if not (is_count k b) then Err count_range
+    if not (is_count k b) then Err Count
     else Ok (int_div_euclid a (pos (2 ^ unsigned_abs b)))
 
 -- 6.5.10 to 6.5.12: an operation on bits, at the kind
@@ -98,7 +77,7 @@ one_if true = pos 1
 one_if false = pos 0
 
 -- 6.5.5 to 6.5.12: a binary operator; the operands have the promoted kind k; of a shift, the left one has
-abbrev pub binary_of : BinOp → IntKind → ℤ → ℤ → Result ℤ Fault
+abbrev pub binary_of : BinOp → IntKind → ℤ → ℤ → Result ℤ ArithmeticFault
 binary_of Add k a b = exact_of k (a +ℤ b)
 binary_of Sub k a b = exact_of k (a -ℤ b)
 binary_of Mul k a b = exact_of k (a *ℤ b)
@@ -117,7 +96,7 @@ binary_of Eq k a b = Ok (one_if (int_eq a b))
 binary_of Ne k a b = Ok (one_if (not (int_eq a b)))
 
 -- 6.5.3.3p2 to p4: a unary operator on an operand of the promoted kind k
-abbrev pub unary_of : UnOp → IntKind → ℤ → Result ℤ Fault
+abbrev pub unary_of : UnOp → IntKind → ℤ → Result ℤ ArithmeticFault
 unary_of Plus k a = Ok a
 unary_of Minus k a = exact_of k (neg_ℤ a)
 unary_of Flip k a = Ok (complement_of k a)

@@ -1,4 +1,3 @@
 pub mod Arithmetic
 pub mod Kinds
 pub mod Operands
-pub mod Texts

@@ -1,12 +1,10 @@
-//! Integer kinds of the target, C17's operators on them, and the labels of undefined operations.
+//! Integer kinds of the target, and C17's operators on them.
 //!
 //! Numbers are exact whole numbers, held in an `i128`: a member of any kind fits one. Nothing here takes memory.
 #![tactic(auto)]
 
-mod faults;
 mod kinds;
 mod operators;
 
-pub use faults::{Clause, Fault, Reason};
 pub use kinds::{IntKind, convert, fits};
-pub use operators::{BinOp, UnOp, binary, unary};
+pub use operators::{ArithmeticFault, BinOp, UnOp, binary, unary};

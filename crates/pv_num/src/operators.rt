@@ -2,9 +2,8 @@
 ghost use Rattle.std.specs.Prelude.{◌≡◌, ◌&&◌, if◌then◌else◌, int_le, ◌+ℤ◌, ◌-ℤ◌, ◌^◌, ◌-◌, ◌*◌, ◌<◌, ◌≤◌, ◌≤ℤ◌, ◌<ℤ◌, unsigned_abs, ◌*ℤ◌, pos, neg_ℤ, IsFalse, IfOk, Ok, Err, int_div, int_rem, bit_and, bit_or, bit_xor};
 ghost use Rattle.pv_num.specs.Kinds.{Fits, fits_of, modulus_of, width, bits_of};
 ghost use Rattle.pv_num.specs.Operands.{IsConvertible, IsOperand};
-ghost use Rattle.pv_num.specs.Arithmetic.{IsPromoted, binary_of, unary_of, exact_of, quotient_of, remainder_of, shift_left_of, shift_right_of, bitwise_of, complement_of, one_if, yielded_kind, is_zero, is_count, shift_range};
+ghost use Rattle.pv_num.specs.Arithmetic.{IsPromoted, binary_of, unary_of, exact_of, quotient_of, remainder_of, shift_left_of, shift_right_of, bitwise_of, complement_of, one_if, yielded_kind, is_zero, is_count};
 
-use crate::faults::{Clause, Fault, Reason};
 use crate::kinds::{IntKind, bit_count, bits, fits, from_bits, is_signed, modulus};
 
 /// The binary operators on integers (6.5.5 to 6.5.12).
@@ -55,6 +54,21 @@ pub enum UnOp {
     Flip,
 }
 
+/// Why an operator on integers has no defined result, in the order of the standard.
+#[derive(Clone, Copy, Debug, PartialEq, Eq)]
+pub enum ArithmeticFault {
+    /// 6.5p5: the exact result does not fit the kind.
+    Overflow,
+    /// 6.5.5p5: the divisor is zero.
+    ZeroDivisor,
+    /// 6.5.5p6: the exact quotient does not fit the kind.
+    Quotient,
+    /// 6.5.7p3: the shift's count is negative, or not below the width.
+    Count,
+    /// 6.5.7p4: the number that is shifted to the left is negative, or does not fit once it is shifted.
+    Shift,
+}
+
 /// The result of a binary operator on promoted numbers, or the fault where C17 leaves it undefined.
 ///
 /// `kind` is that of both operands after the usual arithmetic conversions; of a shift, that of the left operand
@@ -63,11 +77,11 @@ pub enum UnOp {
 ///
 /// # Errors
 ///
-/// - 6.5p5 `overflow`: a sum, difference or product of a signed kind does not fit it.
-/// - 6.5.5p5 `divide`: `/` or `%` by 0; 6.5.5p6 `quotient`: the quotient does not fit.
-/// - 6.5.7p3 `count`: a shift's count is negative or at least the width; else
-///   6.5.7p4 `shift`: `<<` of a negative number, or the shifted number does not fit its signed kind.
-pub fn binary(op: BinOp, kind: IntKind, a: i128, b: i128) -> Result<i128, Fault>
+/// - `Overflow` (6.5p5): a sum, difference or product of a signed kind does not fit it.
+/// - `ZeroDivisor` (6.5.5p5): `/` or `%` by 0; `Quotient` (6.5.5p6): the quotient does not fit.
+/// - `Count` (6.5.7p3): a shift's count is negative or at least the width; else
+///   `Shift` (6.5.7p4): `<<` of a negative number, or the shifted number does not fit its signed kind.
+pub fn binary(op: BinOp, kind: IntKind, a: i128, b: i128) -> Result<i128, ArithmeticFault>
     requires promoted { IsPromoted kind }
     requires left { Fits kind a }
     requires right { IsOperand op kind b }
@@ -78,7 +92,7 @@ pub fn binary(op: BinOp, kind: IntKind, a: i128, b: i128) -> Result<i128, Fault>
 }
 
 /// The result of a binary operator, by the computation alone.
-fn computed(op: BinOp, kind: IntKind, a: i128, b: i128) -> Result<i128, Fault>
+fn computed(op: BinOp, kind: IntKind, a: i128, b: i128) -> Result<i128, ArithmeticFault>
     requires left { Fits kind a }
     requires right { IsOperand op kind b }
     ensures { result ≡ binary_of op kind a b }
@@ -107,8 +121,8 @@ fn computed(op: BinOp, kind: IntKind, a: i128, b: i128) -> Result<i128, Fault>
 ///
 /// # Errors
 ///
-/// 6.5p5 `overflow`: `-` of the least number of a signed kind.
-pub fn unary(op: UnOp, kind: IntKind, a: i128) -> Result<i128, Fault>
+/// `Overflow` (6.5p5): `-` of the least number of a signed kind.
+pub fn unary(op: UnOp, kind: IntKind, a: i128) -> Result<i128, ArithmeticFault>
     requires promoted { IsPromoted kind }
     requires operand { Fits kind a }
     ensures value { result ≡ unary_of op kind a }
@@ -209,24 +223,21 @@ fn power(by: i128) -> i128
 }
 
 /// The exact number at the kind: modulo 2^width where that is unsigned, the overflow where it does not fit.
-fn exact(kind: IntKind, n: i128) -> Result<i128, Fault>
+fn exact(kind: IntKind, n: i128) -> Result<i128, ArithmeticFault>
     ensures { result ≡ exact_of kind n }
 {
     if is_signed(kind) {
         if fits(kind, n) {
             Ok(n)
         } else {
-            Err(Fault {
-                clause: Clause::Exceptions,
-                reason: Reason::Overflow,
-            })
+            Err(ArithmeticFault::Overflow)
         }
     } else {
         Ok(n.rem_euclid(modulus(kind)))
     }
 }
 
-fn add(kind: IntKind, a: i128, b: i128) -> Result<i128, Fault>
+fn add(kind: IntKind, a: i128, b: i128) -> Result<i128, ArithmeticFault>
     requires left { Fits kind a }
     requires right { Fits kind b }
     ensures { result ≡ exact_of kind (a +ℤ b) }
@@ -234,7 +245,7 @@ fn add(kind: IntKind, a: i128, b: i128) -> Result<i128, Fault>
     exact(kind, sum(a, b))
 }
 
-fn subtract(kind: IntKind, a: i128, b: i128) -> Result<i128, Fault>
+fn subtract(kind: IntKind, a: i128, b: i128) -> Result<i128, ArithmeticFault>
     requires left { Fits kind a }
     requires right { Fits kind b }
     ensures { result ≡ exact_of kind (a -ℤ b) }
@@ -242,14 +253,14 @@ fn subtract(kind: IntKind, a: i128, b: i128) -> Result<i128, Fault>
     exact(kind, difference(a, b))
 }
 
-fn negate(kind: IntKind, a: i128) -> Result<i128, Fault>
+fn negate(kind: IntKind, a: i128) -> Result<i128, ArithmeticFault>
     requires { Fits kind a }
     ensures { result ≡ exact_of kind (neg_ℤ a) }
 {
     exact(kind, opposite(a))
 }
 
-fn multiply(kind: IntKind, a: i128, b: i128) -> Result<i128, Fault>
+fn multiply(kind: IntKind, a: i128, b: i128) -> Result<i128, ArithmeticFault>
     requires left { Fits kind a }
     requires right { Fits kind b }
     ensures { result ≡ exact_of kind (a *ℤ b) }
@@ -261,45 +272,33 @@ fn multiply(kind: IntKind, a: i128, b: i128) -> Result<i128, Fault>
     }
 }
 
-fn divide(kind: IntKind, a: i128, b: i128) -> Result<i128, Fault>
+fn divide(kind: IntKind, a: i128, b: i128) -> Result<i128, ArithmeticFault>
     requires { Fits kind a }
     ensures { result ≡ quotient_of kind a b }
 {
     if is_zero(b) {
-        return Err(Fault {
-            clause: Clause::ZeroDivisors,
-            reason: Reason::Divide,
-        });
+        return Err(ArithmeticFault::ZeroDivisor);
     }
     let quotient = quotient(a, b);
     if fits(kind, quotient) {
         Ok(quotient)
     } else {
-        Err(Fault {
-            clause: Clause::Quotients,
-            reason: Reason::Quotient,
-        })
+        Err(ArithmeticFault::Quotient)
     }
 }
 
 /// What the division leaves, which is undefined wherever the quotient is.
-fn divide_for_remainder(kind: IntKind, a: i128, b: i128) -> Result<i128, Fault>
+fn divide_for_remainder(kind: IntKind, a: i128, b: i128) -> Result<i128, ArithmeticFault>
     requires { Fits kind a }
     ensures { result ≡ remainder_of kind a b }
 {
     if is_zero(b) {
-        return Err(Fault {
-            clause: Clause::ZeroDivisors,
-            reason: Reason::Divide,
-        });
+        return Err(ArithmeticFault::ZeroDivisor);
     }
     if fits(kind, quotient(a, b)) {
         Ok(remainder(a, b))
     } else {
-        Err(Fault {
-            clause: Clause::Quotients,
-            reason: Reason::Quotient,
-        })
+        Err(ArithmeticFault::Quotient)
     }
 }
 
@@ -310,15 +309,12 @@ fn may_shift(kind: IntKind, by: i128) -> bool
     0 <= by && by < bit_count(kind)
 }
 
-fn shift_left(kind: IntKind, a: i128, b: i128) -> Result<i128, Fault>
+fn shift_left(kind: IntKind, a: i128, b: i128) -> Result<i128, ArithmeticFault>
     requires { Fits kind a }
     ensures { result ≡ shift_left_of kind a b }
 {
     if !may_shift(kind, b) {
-        return Err(Fault {
-            clause: Clause::ShiftCounts,
-            reason: Reason::Count,
-        });
+        return Err(ArithmeticFault::Count);
     }
     let moved = product(a, power(b));
     if is_signed(kind) {
@@ -329,29 +325,23 @@ fn shift_left(kind: IntKind, a: i128, b: i128) -> Result<i128, Fault>
 }
 
 /// The shifted number `moved` of `a` at a signed kind, where it is defined.
-fn shifted(kind: IntKind, a: i128, moved: i128) -> Result<i128, Fault>
-    ensures { result ≡ (if int_le (pos 0) a && fits_of kind moved then Ok moved else Err shift_range) }
+fn shifted(kind: IntKind, a: i128, moved: i128) -> Result<i128, ArithmeticFault>
+    ensures { result ≡ (if int_le (pos 0) a && fits_of kind moved then Ok moved else Err ArithmeticFault.Shift) }
 {
     let may = 0 <= a && fits(kind, moved);
     if may {
         Ok(moved)
     } else {
-        Err(Fault {
-            clause: Clause::LeftShifts,
-            reason: Reason::Shift,
-        })
+        Err(ArithmeticFault::Shift)
     }
 }
 
-fn shift_right(kind: IntKind, a: i128, b: i128) -> Result<i128, Fault>
+fn shift_right(kind: IntKind, a: i128, b: i128) -> Result<i128, ArithmeticFault>
     requires { Fits kind a }
     ensures { result ≡ shift_right_of kind a b }
 {
     if !may_shift(kind, b) {
-        return Err(Fault {
-            clause: Clause::ShiftCounts,
-            reason: Reason::Count,
-        });
+        return Err(ArithmeticFault::Count);
     }
     Ok(a.div_euclid(power(b)))
 }

@@ -2,8 +2,8 @@
 use Rattle.std.proofs.Common.{ℕ, ℤ, zero, suc, pos, ◌+◌, ◌==◌, not, Bool, true, false, ◌&&◌, List, [], ◌∷◌, ◌++◌, map, length, Some, None, if◌then◌else◌, refl}
 use Rattle.std.specs.List.{repeat}
 use Rattle.pv_num.specs.declared.kinds.IntKind.TheVariants.{UChar}
-use Rattle.pv_num.specs.declared.faults.Clause.TheVariants as clause
-use Rattle.pv_num.specs.declared.faults.Reason.TheVariants as reason
+use Rattle.pv_fault.specs.declared.faults.Clause.TheVariants as clause
+use Rattle.pv_fault.specs.declared.faults.Reason.TheVariants as reason
 use Rattle.pv_num.specs.Kinds.{bits_of}
 use Rattle.pv_prov.specs.declared.names.Prov.TheVariants.{Empty}
 use Rattle.pv_types.specs.Known.{Known}

@@ -1,6 +1,6 @@
 -- What two operations do that are alike (C17 6.5p6), and how one comes of its parts.
 use Rattle.std.proofs.Common.{◌≡◌, ℤ, Bool, true, false, Option, Some, None, Result, Ok, Err, if◌then◌else◌, refl, sym, subst}
-use Rattle.pv_num.specs.declared.faults.Fault.{Fault}
+use Rattle.pv_num.specs.declared.operators.ArithmeticFault.{ArithmeticFault}
 use Rattle.pv_prov.specs.declared.names.Prov.{Prov}
 use Rattle.pv_types.specs.Known.{Known}
 use Rattle.pv_shadow.specs.Bytes.{Store}
@@ -67,6 +67,6 @@ module _ (m m' : Known) where
   present_alike w b v v' d d' h g k =
       at_one (λ o. AlikeDone m m' (unless (unpresent v) w d) (unless o (with_bytes w b) d')) (unpresent v) (unpresent v') (unpresent-same m m' v v' g) (unless_alike (unpresent v) w b d d' h k)
 
-  pub computed_alike : (w : World) (b : Store) (r : Result ℤ Fault) → Alikes w b → AlikeDone m m' (computed w r) (computed (with_bytes w b) r)
+  pub computed_alike : (w : World) (b : Store) (r : Result ℤ ArithmeticFault) → Alikes w b → AlikeDone m m' (computed w r) (computed (with_bytes w b) r)
   computed_alike w b (Ok n) h = (refl, alike_world w b h, refl)
   computed_alike w b (Err f) h = (refl, refl, alike_world w b h, refl)

@@ -1,8 +1,8 @@
 -- Memory management functions in stores that are alike (C17 7.22.3).
 use Rattle.std.proofs.Common.{ℕ, ◌*◌, min, ◌==◌, [], ◌∷◌, Option, Some, None, Result, Ok, Err, refl}
 use Rattle.std.specs.List.{repeat}
-use Rattle.pv_num.specs.declared.faults.Clause.{Clause}
-use Rattle.pv_num.specs.declared.faults.Clause.TheVariants as clause
+use Rattle.pv_fault.specs.declared.faults.Clause.{Clause}
+use Rattle.pv_fault.specs.declared.faults.Clause.TheVariants as clause
 use Rattle.pv_types.specs.Known.{Known}
 use Rattle.pv_inst.specs.declared.values.Info.{Info}
 use Rattle.pv_inst.specs.declared.values.Test.TheVariants.{Block}

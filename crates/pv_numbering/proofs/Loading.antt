@@ -2,8 +2,8 @@
 use Rattle.std.proofs.Common.{◌≡◌, ℕ, ◌+◌, ◌&&◌, ◌/◌, List, [], ◌∷◌, Option, Some, None, Ok, Err, pos, option_map, option_and_then, if◌then◌else◌, refl, ap, ◌∙◌}
 use Rattle.pv_num.specs.declared.kinds.IntKind.{IntKind}
 use Rattle.pv_num.specs.Kinds.{convert_of, width, bits_of, is_character_kind as is_character}
-use Rattle.pv_num.specs.declared.faults.Clause.TheVariants as clause
-use Rattle.pv_num.specs.declared.faults.Reason.TheVariants as reason
+use Rattle.pv_fault.specs.declared.faults.Clause.TheVariants as clause
+use Rattle.pv_fault.specs.declared.faults.Reason.TheVariants as reason
 use Rattle.pv_prov.specs.declared.names.Prov.{Prov}
 use Rattle.pv_prov.specs.Names.{same_name}
 use Rattle.pv_inst.specs.Table.{Table}

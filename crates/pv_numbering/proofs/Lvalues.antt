@@ -1,7 +1,7 @@
 -- Reads and writes through lvalues that are alike (C17 6.3.2.1p2, 6.5p7, 6.5.16): an allocation's marks permit the same.
 use Rattle.std.proofs.Common.{◌≡◌, ◌≢◌, ℕ, suc, Bool, true, false, not, ◌&&◌, ◌||◌, List, [], ◌∷◌, Option, Some, None, if◌then◌else◌, refl, ap}
-use Rattle.pv_num.specs.declared.faults.Clause.TheVariants.{EffectiveTypes, Sequencing, OverlappingAssignment}
-use Rattle.pv_num.specs.declared.faults.Reason.TheVariants.{WrongType, Unsequenced, Overlap}
+use Rattle.pv_fault.specs.declared.faults.Clause.TheVariants.{EffectiveTypes, Sequencing, OverlappingAssignment}
+use Rattle.pv_fault.specs.declared.faults.Reason.TheVariants.{WrongType, Unsequenced, Overlap}
 use Rattle.pv_types.specs.Layouts.{Part}
 use Rattle.pv_types.specs.Known.{Known, env}
 use Rattle.pv_effect.specs.EffectiveType.{anything, some_over, permits_byte, permits_bytes}

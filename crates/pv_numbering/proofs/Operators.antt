@@ -4,7 +4,7 @@ use Rattle.pv_num.specs.declared.kinds.IntKind.{IntKind}
 use Rattle.pv_num.specs.declared.operators.BinOp.{BinOp}
 use Rattle.pv_num.specs.declared.operators.BinOp.TheVariants as op
 use Rattle.pv_num.specs.declared.operators.UnOp.{UnOp}
-use Rattle.pv_num.specs.declared.faults.Clause.TheVariants.{SubtractionOfPointers}
+use Rattle.pv_fault.specs.declared.faults.Clause.TheVariants.{SubtractionOfPointers}
 use Rattle.pv_num.specs.Arithmetic.{binary_of, unary_of}
 use Rattle.pv_num.specs.Kinds.{convert_of}
 use Rattle.pv_types.specs.Known.{Known}

@@ -1,8 +1,8 @@
 -- A bridge: what the calls of the memory ask for and answer.
 use Rattle.std.specs.Prelude.{ℕ, Option, option_and_then, ◌≡◌, Result, Err, List, IsSomeAnd, int_div, int_rem, ℤ, pos, Ok, if◌then◌else◌, ◌-ℤ◌}
 use Rattle.std.specs.Ordering.{int_eq}
-use Rattle.pv_num.specs.declared.faults.Clause.TheVariants as clause
-use Rattle.pv_num.specs.declared.faults.Reason.TheVariants as reason
+use Rattle.pv_fault.specs.declared.faults.Clause.TheVariants as clause
+use Rattle.pv_fault.specs.declared.faults.Reason.TheVariants as reason
 use Rattle.pv_num.specs.declared.kinds.IntKind.TheVariants.{Int}
 use Rattle.pv_inst.specs.declared.values.Info.{Info}
 use Rattle.pv_inst.specs.Table.{Table, instance_at, IsMadeIn}

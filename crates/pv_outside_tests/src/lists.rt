@@ -2,7 +2,7 @@
 use pv_cases::{
     Case, Expected, Got, ListError, Told, cases, compare, long_output, refusal, report, status,
 };
-use pv_num::Clause;
+use pv_fault::Clause;
 use std::alloc::Global;
 use std::process::Abort;
 

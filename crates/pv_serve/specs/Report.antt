@@ -2,7 +2,7 @@
 -- a run's end (7.22.4.4p5) to its implementation: docs/FORMATS.md has the rules.
 use Rattle.std.specs.Prelude.{ℕ, Bool, true, false, ◌&&◌, List, [], ◌∷◌, ◌++◌, map, codes, if◌then◌else◌}
 use Rattle.std.specs.Fmt.{decimal, signed_decimal}
-use Rattle.pv_num.specs.Texts.{clause_text, reason_text}
+use Rattle.pv_fault.specs.FaultTexts.{clause_text, reason_text}
 use Rattle.pv_script.specs.declared.scripts.ScriptError.{ScriptError}
 use Rattle.pv_script.specs.declared.scripts.ScriptError.TheVariants as script
 use Rattle.pv_script.specs.Names.{name_at}

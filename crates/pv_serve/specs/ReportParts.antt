@@ -3,9 +3,9 @@ use Rattle.std.specs.Prelude.{List, codes, ℕ, ◌++◌, ℤ, [], None}
 use Rattle.std.specs.Fmt.{decimal, signed_decimal}
 use Rattle.pv_serve.specs.Report.{line_feed, letters_of}
 use Rattle.pv_serve.specs.Answer.{Answer}
-use Rattle.pv_num.specs.Texts.{clause_text, reason_text}
-use Rattle.pv_num.specs.declared.faults.Fault.{Fault}
-use Rattle.pv_num.specs.declared.faults.Reason.{Reason}
+use Rattle.pv_fault.specs.FaultTexts.{clause_text, reason_text}
+use Rattle.pv_fault.specs.declared.faults.Fault.{Fault}
+use Rattle.pv_fault.specs.declared.faults.Reason.{Reason}
 use Rattle.pv_exec.specs.declared.sides.Side.{Side}
 
 -- 5.1.2.2.3, 7.22.4.4: the value that `main` returned, or that `exit` was called with, and the turns; numbers are decimal, without leading zeros

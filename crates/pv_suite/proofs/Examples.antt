@@ -2,7 +2,7 @@
 use Rattle.std.proofs.Common.{◌≡◌, ℕ, true, false, List, [], ◌∷◌, codes, refl}
 use Rattle.std.specs.Prelude.{Option, Some, None, Ok, Err, if◌then◌else◌}
 use Rattle.std.specs.Str.{bytes_eq}
-use Rattle.pv_num.specs.declared.faults.Fault.{Fault}
+use Rattle.pv_fault.specs.declared.faults.Fault.{Fault}
 use Rattle.pv_exec.specs.declared.outcome.Outcome.TheVariants as outcome
 use Rattle.pv_cases.specs.declared.list.ListError.TheVariants as error
 use Rattle.pv_cases.specs.Cases.{SuiteCase, cases_of}

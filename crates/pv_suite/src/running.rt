@@ -12,7 +12,7 @@ use crate::error::NoMemory;
 use crate::files::CaseText;
 use pv_cases::{Case, Expected, Got, Told, compare};
 use pv_exec::Outcome;
-use pv_num::Clause;
+use pv_fault::Clause;
 use pv_script::MemSink;
 use pv_serve::{Judgement, judge, line};
 use pv_watch::Hall;

@@ -5,38 +5,24 @@ ghost use Rattle.pv_num.specs.Arithmetic.{IsPromoted};
 ghost use Rattle.pv_num.specs.Operands.{IsOperand, IsConvertible};
 
 use Call::{Binary, Convert, Fits, Unary};
+use pv_fault::{Clause, Reason};
 use pv_num::BinOp::{Add, And, Div, Eq, Ge, Gt, Le, Lt, Mul, Ne, Or, Rem, Shl, Shr, Sub, Xor};
 use pv_num::IntKind::{
     Bool, Char, Int, LLong, Long, SChar, Short, UChar, UInt, ULLong, ULong, UShort,
 };
 use pv_num::UnOp::{Flip, Minus, Plus};
-use pv_num::{BinOp, Clause, Fault, IntKind, Reason, UnOp, binary, convert, fits, unary};
+use pv_num::{ArithmeticFault, BinOp, IntKind, UnOp, binary, convert, fits, unary};
 use std::process::Abort;
 
-const OVERFLOW: Fault = Fault {
-    clause: Clause::Exceptions,
-    reason: Reason::Overflow,
-};
+const OVERFLOW: ArithmeticFault = ArithmeticFault::Overflow;
 
-const DIVIDE: Fault = Fault {
-    clause: Clause::ZeroDivisors,
-    reason: Reason::Divide,
-};
+const DIVIDE: ArithmeticFault = ArithmeticFault::ZeroDivisor;
 
-const QUOTIENT: Fault = Fault {
-    clause: Clause::Quotients,
-    reason: Reason::Quotient,
-};
+const QUOTIENT: ArithmeticFault = ArithmeticFault::Quotient;
 
-const COUNT: Fault = Fault {
-    clause: Clause::ShiftCounts,
-    reason: Reason::Count,
-};
+const COUNT: ArithmeticFault = ArithmeticFault::Count;
 
-const SHIFT: Fault = Fault {
-    clause: Clause::LeftShifts,
-    reason: Reason::Shift,
-};
+const SHIFT: ArithmeticFault = ArithmeticFault::Shift;
 
 /// A call of this crate.
 #[derive(Clone, Copy, Debug)]
@@ -50,7 +36,7 @@ enum Call {
 
 /// A call and what it gives.
 #[derive(Clone, Copy)]
-struct Case(Call, Result<i128, Fault>);
+struct Case(Call, Result<i128, ArithmeticFault>);
 
 // The limits that <limits.h> gives on the target, and 2^64.
 const SCHAR_MIN: i128 = -0x80;
@@ -582,7 +568,7 @@ fn is_convertible(n: i128) -> bool
 }
 
 /// What the call gives; one that the contract does not allow ends the test.
-fn answer(rt: &impl Abort, call: Call) -> Result<i128, Fault> {
+fn answer(rt: &impl Abort, call: Call) -> Result<i128, ArithmeticFault> {
     match call {
         Binary(op, kind, a, b) => {
             assert!(rt; is_promoted(kind) && fits(kind, a) && may_stand_right(op, kind, b));
@@ -607,19 +593,30 @@ fn gives_what_c_gives(rt: HostRuntime) {
     }
 }
 
-/// Faults, and what reports print of them.
-static PRINTED: [(Fault, &str, &str); 5] = [
-    (OVERFLOW, "6.5p5", "overflow"),
-    (DIVIDE, "6.5.5p5", "divide"),
-    (QUOTIENT, "6.5.5p6", "quotient"),
-    (COUNT, "6.5.7p3", "count"),
-    (SHIFT, "6.5.7p4", "shift"),
+/// Paragraphs, and what reports print of them.
+static CLAUSES: [(Clause, &str); 5] = [
+    (Clause::Exceptions, "6.5p5"),
+    (Clause::ZeroDivisors, "6.5.5p5"),
+    (Clause::Quotients, "6.5.5p6"),
+    (Clause::ShiftCounts, "6.5.7p3"),
+    (Clause::LeftShifts, "6.5.7p4"),
+];
+
+/// Reasons, and what reports print of them.
+static REASONS: [(Reason, &str); 5] = [
+    (Reason::Overflow, "overflow"),
+    (Reason::Divide, "divide"),
+    (Reason::Quotient, "quotient"),
+    (Reason::Count, "count"),
+    (Reason::Shift, "shift"),
 ];
 
 #[test]
 fn names_faults(rt: HostRuntime) {
-    for &(fault, clause, reason) in PRINTED.iter() {
-        assert!(rt; fault.clause.text() == clause, "{clause}");
-        assert!(rt; fault.reason.text() == reason, "{reason}");
+    for &(clause, text) in CLAUSES.iter() {
+        assert!(rt; clause.text() == text, "{text}");
+    }
+    for &(reason, text) in REASONS.iter() {
+        assert!(rt; reason.text() == text, "{text}");
     }
 }

@@ -6,8 +6,8 @@ use Rattle.pv_num.specs.declared.kinds.IntKind.{IntKind}
 use Rattle.pv_num.specs.declared.kinds.IntKind.TheVariants.{Int as IntOfInt}
 use Rattle.pv_num.specs.declared.operators.BinOp.{BinOp}
 use Rattle.pv_num.specs.declared.operators.UnOp.{UnOp}
-use Rattle.pv_num.specs.declared.faults.Fault.{Fault}
-use Rattle.pv_num.specs.declared.faults.Clause.TheVariants.{SubtractionOfPointers}
+use Rattle.pv_num.specs.declared.operators.ArithmeticFault.{ArithmeticFault}
+use Rattle.pv_fault.specs.declared.faults.Clause.TheVariants.{SubtractionOfPointers}
 use Rattle.pv_num.specs.Arithmetic.{binary_of, unary_of}
 use Rattle.pv_prov.specs.declared.names.Prov.{Prov}
 use Rattle.pv_inst.specs.declared.values.Tried.{Tried}
@@ -112,7 +112,7 @@ converts-on (Recasts n) v w = plain-on v w _ (recast-by w (pointer_of v) (recast
 converts-on Voids v w = record { fine = tt }
 
 -- operators on integers
-computed-on : (w : World) (r : Result ℤ Fault) → Granted (computed w r)
+computed-on : (w : World) (r : Result ℤ ArithmeticFault) → Granted (computed w r)
 computed-on w (Ok n) = record { fine = tt }
 computed-on w (Err f) = record { fine = tt }
 
@@ -169,7 +169,7 @@ between-on size p q w = between-by size p q w (together SubtractionOfPointers w.
 ordered-by : (op : BinOp) (w : World) (p q : Pointer) (got : Result (Ordering × Tried × Tried) Stop × Table) → Granted (ordered_by op w p q got)
 ordered-by op w p q ((Ok r), T) = by (binary_of op IntOfInt (pos p.address) (pos q.address)) refl
   where
-    by : (o : Result ℤ Fault) → binary_of op IntOfInt (pos p.address) (pos q.address) ≡ o → Granted (ordered_by op w p q ((Ok r), T))
+    by : (o : Result ℤ ArithmeticFault) → binary_of op IntOfInt (pos p.address) (pos q.address) ≡ o → Granted (ordered_by op w p q ((Ok r), T))
     by (Ok n) e = rw e (record { fine = tt })
     by (Err f) e = rw e (record { fine = tt })
 ordered-by op w p q ((Err y), T) = record { fine = stop-fine y }

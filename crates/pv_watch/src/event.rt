@@ -1,5 +1,5 @@
 //! What is told of a run.
-use pv_num::Fault;
+use pv_fault::Fault;
 
 /// An event, and how many turns were taken when it came.
 #[derive(Clone, Copy, Debug, PartialEq, Eq)]

@@ -4,7 +4,7 @@ use Rattle.std.proofs.lemmas.Int.{ints}
 use Rattle.std.proofs.lemmas.Bool.Decides.{nat_tests}
 use Rattle.std.specs.Prelude.{if◌then◌else◌, ◌*ℤ◌}
 use Rattle.std.specs.declared.result.Result.{Result}
-use Rattle.pv_num.specs.declared.faults.Fault.{Fault}
+use Rattle.pv_num.specs.declared.operators.ArithmeticFault.{ArithmeticFault}
 use Rattle.pv_num.specs.declared.kinds.IntKind.{IntKind}
 use Rattle.pv_num.specs.declared.kinds.IntKind.TheVariants as kind
 use Rattle.pv_num.specs.declared.operators.BinOp.{BinOp}
@@ -200,7 +200,7 @@ module _ (v : WholeUnit) (os : List ℕ) (done : IsFinished v) where
       subst (Fits k) m.2 (equal_fits k m.0 (convert_of k m.0) refl refl)
 
   -- 6.4p4: what is no fault
-  number-ok : (P : ℤ → Type 0) (r : Result ℤ Fault) (n : ℤ) → IfOk r P → result_ok r ≡ Some n → P n
+  number-ok : (P : ℤ → Type 0) (r : Result ℤ ArithmeticFault) (n : ℤ) → IfOk r P → result_ok r ≡ Some n → P n
   number-ok P (Ok m) n h e = subst P (some-same m n e) h
   number-ok P (Err f) n h e = absurd cc
 

@@ -1,10 +1,10 @@
 -- What the checks of an access come to, and whom a load within it blames.
 use Rattle.std.proofs.Common.{◌≡◌, ◌≢◌, ℕ, ◌-◌, ◌≤◌, Bool, true, false, cond, eqb, List, ◌++◌, Option, Some, None, Result, Ok, Err, refl, ap, ◌∙◌, subst, arith}
-use Rattle.pv_num.specs.declared.faults.Clause.{Clause}
+use Rattle.pv_fault.specs.declared.faults.Clause.{Clause}
 use Rattle.pv_prov.specs.declared.names.Prov.{Prov}
 use Rattle.pv_prov.specs.declared.names.Prov.TheVariants.{Empty, Inst, Pair}
 use Rattle.pv_prov.specs.declared.pairs.Twin.{Twin}
-use Rattle.pv_num.specs.declared.faults.Reason.TheVariants as reason
+use Rattle.pv_fault.specs.declared.faults.Reason.TheVariants as reason
 use Rattle.pv_prov.specs.Names.{is_empty, stands, stands_of, twin_at, same_name, pair_of}
 use Rattle.pv_prov.specs.NameParts.{keeping}
 use Rattle.pv_inst.specs.declared.values.Tried.{Tried}

@@ -1,6 +1,6 @@
 -- A bridge: what functions answer that do a part of what Pointers says.
-use Rattle.pv_num.specs.declared.faults.Reason.TheVariants.{Uneven, WrongType}
-use Rattle.pv_num.specs.declared.faults.Clause.TheVariants.{SubtractionOfPointers, PointerToFunction}
+use Rattle.pv_fault.specs.declared.faults.Reason.TheVariants.{Uneven, WrongType}
+use Rattle.pv_fault.specs.declared.faults.Clause.TheVariants.{SubtractionOfPointers, PointerToFunction}
 use Rattle.pv_world.specs.Worths.{undefined, present}
 use Rattle.pv_world.specs.Worlds.{Wrong, World, Worth}
 use Rattle.pv_world.specs.Pointers.{between_by}

@@ -5,9 +5,9 @@ use Rattle.std.specs.declared.cmp.Ordering.{Ordering}
 use Rattle.pv_num.specs.declared.kinds.IntKind.TheVariants.{Int as IntOfInt}
 use Rattle.pv_num.specs.declared.operators.BinOp.{BinOp}
 use Rattle.pv_num.specs.declared.operators.BinOp.TheVariants.{Lt, Gt, Le, Ge}
-use Rattle.pv_num.specs.declared.faults.Fault.{Fault}
-use Rattle.pv_num.specs.declared.faults.Clause.TheVariants.{SubtractionOfPointers, PointerToFunction}
-use Rattle.pv_num.specs.declared.faults.Reason.TheVariants.{Uneven, WrongType}
+use Rattle.pv_num.specs.declared.operators.ArithmeticFault.{ArithmeticFault}
+use Rattle.pv_fault.specs.declared.faults.Clause.TheVariants.{SubtractionOfPointers, PointerToFunction}
+use Rattle.pv_fault.specs.declared.faults.Reason.TheVariants.{Uneven, WrongType}
 use Rattle.pv_num.specs.Arithmetic.{binary_of}
 use Rattle.pv_inst.specs.declared.values.Tried.{Tried}
 use Rattle.pv_inst.specs.Table.{Table}
@@ -64,7 +64,7 @@ subtracts size v x w =
 abbrev pub ordered_by : BinOp → World → Pointer → Pointer → Result (Ordering × Tried × Tried) Stop × Table → Done
 ordered_by op w p q (Ok r, T) = compared (binary_of op IntOfInt (pos p.address) (pos q.address)) (with_table w T) r.1 r.2
   where
-    compared : Result ℤ Fault → World → Tried → Tried → Done
+    compared : Result ℤ ArithmeticFault → World → Tried → Tried → Done
     compared (Ok n) w left right = Answers (int n) w (telling (both_used left right))
     compared (Err f) w left right = Answers (int (pos 0)) w (telling (both_used left right))
 ordered_by op w p q (Err y, T) = Fails (wrong_of y) (Some p.prov) (with_table w T) quiet

@@ -1,19 +1,56 @@
 // Operators on integers (6.5.3.3, 6.5.5 to 6.5.12), which look at no world.
-ghost use Rattle.std.specs.Prelude.{◌≡◌};
+ghost use Rattle.std.specs.Prelude.{◌≡◌, ◌++◌, None};
 ghost use Rattle.pv_num.specs.Kinds.{Fits};
 ghost use Rattle.pv_num.specs.Arithmetic.{IsPromoted};
 ghost use Rattle.pv_num.specs.Operands.{IsOperand};
-ghost use Rattle.pv_world.specs.Worlds.{World as WorldView};
-ghost use Rattle.pv_world.specs.Worths.{int_of};
+ghost use Rattle.pv_world.specs.Worlds.{World as WorldView, Undefined};
+ghost use Rattle.pv_world.specs.Telling.{fault_of, verdict_of};
+ghost use Rattle.pv_world.specs.Worths.{int_of, arithmetic_fault};
 ghost use Rattle.pv_world.specs.Calculations.{calculates, calculates_one, needs};
-ghost use Rattle.pv_world.specs.Coming.{Did, worth_of};
+ghost use Rattle.pv_world.specs.Coming.{Did, Faulted, worth_of};
 
 use crate::failing::fail;
 use crate::got::{Cause, Failure, Got};
 use crate::operands::{int_of, unplain};
-use pv_num::{BinOp, IntKind, UnOp, binary, unary};
+use pv_fault::{Clause, Fault, Reason};
+use pv_num::{ArithmeticFault, BinOp, IntKind, UnOp, binary, unary};
 use pv_object::Value;
 use pv_watch::What;
+
+/// The paragraph that leaves a result of arithmetic undefined, and the reason.
+fn arithmetic_fault(fault: ArithmeticFault) -> Fault
+    ensures { result ≡ arithmetic_fault fault }
+{
+    match fault {
+        ArithmeticFault::Overflow => Fault {
+            clause: Clause::Exceptions,
+            reason: Reason::Overflow,
+        },
+        ArithmeticFault::ZeroDivisor => Fault {
+            clause: Clause::ZeroDivisors,
+            reason: Reason::Divide,
+        },
+        ArithmeticFault::Quotient => Fault {
+            clause: Clause::Quotients,
+            reason: Reason::Quotient,
+        },
+        ArithmeticFault::Count => Fault {
+            clause: Clause::ShiftCounts,
+            reason: Reason::Count,
+        },
+        ArithmeticFault::Shift => Fault {
+            clause: Clause::LeftShifts,
+            reason: Reason::Shift,
+        },
+    }
+}
+
+/// The run ends by arithmetic that has no defined result.
+fn undefined(told: &mut Vec<What>, fault: ArithmeticFault) -> Failure
+    ensures { Faulted result (Undefined (arithmetic_fault fault)) told.new.items (told.old.items ++ fault_of None (verdict_of (Undefined (arithmetic_fault fault)))) }
+{
+    fail(told, Cause::Undefined(arithmetic_fault(fault)), None)
+}
 
 /// An operator on two integers.
 #[tactic(auto, using(crate::proofs::Comings::came_fails))]
@@ -37,7 +74,7 @@ pub fn calculate(
     }
     match binary(op, kind, int_of(v), int_of(x)) {
         Ok(n) => Ok(Got::Scalar(Value::Int(n))),
-        Err(fault) => Err(fail(told, Cause::Undefined(fault), None)),
+        Err(fault) => Err(undefined(told, fault)),
     }
 }
 
@@ -53,7 +90,7 @@ pub fn calculate_one(op: UnOp, kind: IntKind, v: &Got, told: &mut Vec<What>) -> 
     }
     match unary(op, kind, int_of(v)) {
         Ok(n) => Ok(Got::Scalar(Value::Int(n))),
-        Err(fault) => Err(fail(told, Cause::Undefined(fault), None)),
+        Err(fault) => Err(undefined(told, fault)),
     }
 }
 

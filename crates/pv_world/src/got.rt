@@ -1,6 +1,7 @@
 //! Values of expressions, how they are converted, and why there is none.
+use pv_fault::Fault;
 use pv_inst::CreateError;
-use pv_num::{Fault, IntKind};
+use pv_num::IntKind;
 use pv_object::Value;
 use pv_shadow::Byte;
 

@@ -7,7 +7,7 @@ ghost use Rattle.pv_world.specs.Coming.{worth_of, wrong_for, IsMadeWorth};
 ghost use Rattle.pv_world.specs.PointerParts.{uneven};
 
 use crate::got::{Cause, Got};
-use pv_num::{Clause, Fault, Reason};
+use pv_fault::{Clause, Fault, Reason};
 use pv_object::{Pointer, Value};
 use pv_prov::Prov;
 

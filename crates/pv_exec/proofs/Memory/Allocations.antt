@@ -1,7 +1,7 @@
 -- What the tests within a call of the library find: of `free` and `realloc` an allocation that lives, since no other instance passes
 -- (C17 7.22.3.3p2, 7.22.3.5p3), of an access bytes of a live instance (7.24.1p2).
 use Rattle.std.proofs.Common.{◌≡◌, ℕ, ◌≤◌, Bool, true, false, cond, eqb, List, Option, Some, None, Result, Ok, Err, IfOk, refl, sym, subst}
-use Rattle.pv_num.specs.declared.faults.Clause.{Clause}
+use Rattle.pv_fault.specs.declared.faults.Clause.{Clause}
 use Rattle.pv_prov.specs.Names.{stands}
 use Rattle.pv_inst.specs.declared.values.Info.{Info}
 use Rattle.pv_inst.specs.declared.values.Instance.{Instance}

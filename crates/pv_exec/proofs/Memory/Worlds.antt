@@ -6,8 +6,8 @@ use Rattle.pv_num.specs.declared.kinds.IntKind.{IntKind}
 use Rattle.pv_num.specs.declared.kinds.IntKind.TheVariants.{Int as IntOfInt}
 use Rattle.pv_num.specs.declared.operators.BinOp.{BinOp}
 use Rattle.pv_num.specs.declared.operators.UnOp.{UnOp}
-use Rattle.pv_num.specs.declared.faults.Fault.{Fault}
-use Rattle.pv_num.specs.declared.faults.Clause.TheVariants.{AdditionOfPointers, SubtractionOfPointers, Indirection}
+use Rattle.pv_num.specs.declared.operators.ArithmeticFault.{ArithmeticFault}
+use Rattle.pv_fault.specs.declared.faults.Clause.TheVariants.{AdditionOfPointers, SubtractionOfPointers, Indirection}
 use Rattle.pv_num.specs.Arithmetic.{binary_of, unary_of}
 use Rattle.pv_prov.specs.declared.names.Prov.{Prov}
 use Rattle.pv_inst.specs.declared.values.Tried.{Tried}
@@ -115,7 +115,7 @@ module _ {F : Type 0} {R : Mem → Mem → Type 0} (changes : Changes F R) where
   converts-on Voids v w = record { leads = changes.itself }
 
   -- operators on integers
-  computed-on : (w : World) (r : Result ℤ Fault) → Onward R w (computed w r)
+  computed-on : (w : World) (r : Result ℤ ArithmeticFault) → Onward R w (computed w r)
   computed-on w (Ok n) = record { leads = changes.itself }
   computed-on w (Err f) = record { leads = changes.itself }
 
@@ -172,7 +172,7 @@ module _ {F : Type 0} {R : Mem → Mem → Type 0} (changes : Changes F R) where
   ordered-by : (op : BinOp) (w : World) (p q : Pointer) (got : Result (Ordering × Tried × Tried) Stop × Table) → Retabled R w.memory got.1 → Onward R w (ordered_by op w p q got)
   ordered-by op w p q ((Ok r), T) h = by (binary_of op IntOfInt (pos p.address) (pos q.address)) refl
     where
-      by : (o : Result ℤ Fault) → binary_of op IntOfInt (pos p.address) (pos q.address) ≡ o → Onward R w (ordered_by op w p q ((Ok r), T))
+      by : (o : Result ℤ ArithmeticFault) → binary_of op IntOfInt (pos p.address) (pos q.address) ≡ o → Onward R w (ordered_by op w p q ((Ok r), T))
       by (Ok n) e = rw e (record { leads = h })
       by (Err f) e = rw e (record { leads = h })
   ordered-by op w p q ((Err y), T) h = record { leads = h }

@@ -14,7 +14,7 @@ use Rattle.pv_inst.specs.Use.{use_answer}
 use Rattle.pv_inst.specs.EndingParts.{ending}
 use Rattle.pv_inst.specs.Placing.{Request, place, place_said, place_at, unless_overlap, first_overlap}
 use Rattle.pv_inst.specs.PlacingParts.{rounded}
-use Rattle.pv_num.specs.declared.faults.Clause.{Clause}
+use Rattle.pv_fault.specs.declared.faults.Clause.{Clause}
 use Rattle.pv_object.specs.declared.values.Pointer.{Pointer}
 use Rattle.pv_object.specs.declared.values.Reach.{Reach}
 use Rattle.pv_object.specs.declared.values.Asker.{Asker}

@@ -1,7 +1,7 @@
 -- What a call of the memory answers and leaves in the late run, and in a settled one.
 use Rattle.std.proofs.Common.{◌≡◌, ℕ, suc, ◌+◌, ◌-◌, ◌≤◌, Bool, true, false, cond, List, [], ◌∷◌, length, Result, Ok, Err, refl, subst, ◌⊎◌, inl, inr, arith}
 use Rattle.std.specs.List.{slice_get}
-use Rattle.pv_num.specs.declared.faults.Clause.{Clause}
+use Rattle.pv_fault.specs.declared.faults.Clause.{Clause}
 use Rattle.pv_prov.specs.declared.pairs.Twin.{Twin}
 use Rattle.pv_prov.specs.declared.names.Prov.{Prov}
 use Rattle.pv_inst.specs.declared.values.Test.{Test}

@@ -1,6 +1,6 @@
 -- The function that a pointer points to (C17 6.5.2.2p1) in both runs: at most one instance of a pair is a function at an address.
 use Rattle.std.proofs.Common.{◌≡◌, ℕ, Bool, true, false, List, [], Option, Some, Result, Ok, Err, refl, sym, subst}
-use Rattle.pv_num.specs.declared.faults.Clause.TheVariants as clause
+use Rattle.pv_fault.specs.declared.faults.Clause.TheVariants as clause
 use Rattle.pv_prov.specs.Names.{stands, is_empty}
 use Rattle.pv_inst.specs.declared.values.Test.TheVariants.{Code}
 use Rattle.pv_inst.specs.declared.values.Tried.{Tried}

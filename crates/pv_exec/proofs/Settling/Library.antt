@@ -1,8 +1,8 @@
 -- Calls of the library (C17 7.21.6, 7.22.3, 7.22.4, 7.24) in both runs.
 use Rattle.std.proofs.Common.{◌≡◌, ℕ, ℤ, pos, zero, suc, ◌+◌, Bool, true, false, ◌&&◌, not, cond, eqb, List, [], ◌∷◌, ◌++◌, map, length, Ok, refl, sym, ap, subst}
 use Rattle.pv_num.specs.declared.kinds.IntKind.TheVariants.{UChar}
-use Rattle.pv_num.specs.declared.faults.Clause.TheVariants as clause
-use Rattle.pv_num.specs.declared.faults.Reason.TheVariants as reason
+use Rattle.pv_fault.specs.declared.faults.Clause.TheVariants as clause
+use Rattle.pv_fault.specs.declared.faults.Reason.TheVariants as reason
 use Rattle.pv_num.specs.Kinds.{bits_of}
 use Rattle.pv_inst.specs.Table.{Table}
 use Rattle.pv_object.specs.declared.values.Asker.TheVariants.{Text}

@@ -1,8 +1,8 @@
 -- Order and subtraction (6.5.8p5, 6.5.6p9) in both runs.
 use Rattle.std.proofs.Common.{◌≡◌, ℕ, zero, suc, ◌-◌, Bool, true, false, not, ◌&&◌, ◌||◌, cond, eqb, List, [], ◌∷◌, length, set, Option, Some, None, Result, Ok, Err, refl, sym, ap, ◌∙◌, subst, inl, inr, arith, true≢false}
 use Rattle.std.proofs.lemmas.Bool.Decides.{nat_tests}
-use Rattle.pv_num.specs.declared.faults.Clause.{Clause}
-use Rattle.pv_num.specs.declared.faults.Clause.TheVariants as clause
+use Rattle.pv_fault.specs.declared.faults.Clause.{Clause}
+use Rattle.pv_fault.specs.declared.faults.Clause.TheVariants as clause
 use Rattle.pv_prov.specs.declared.pairs.Twin.{Twin}
 use Rattle.pv_prov.specs.declared.names.Stands.{Stands}
 use Rattle.pv_prov.specs.declared.names.Prov.{Prov}

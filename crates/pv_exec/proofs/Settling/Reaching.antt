@@ -3,8 +3,8 @@ use Rattle.std.proofs.Common.{◌≡◌, ℕ, zero, suc, ◌+◌, ◌-◌, ◌%�
 use Rattle.std.specs.List.{slice_get}
 use Rattle.std.proofs.lemmas.Bool.Decides.{nat_tests}
 use Rattle.std.proofs.lemmas.Option.{none-some, same_Some}
-use Rattle.pv_num.specs.declared.faults.Clause.{Clause}
-use Rattle.pv_num.specs.declared.faults.Reason.TheVariants as reason
+use Rattle.pv_fault.specs.declared.faults.Clause.{Clause}
+use Rattle.pv_fault.specs.declared.faults.Reason.TheVariants as reason
 use Rattle.pv_prov.specs.declared.pairs.Twin.{Twin}
 use Rattle.pv_prov.specs.declared.names.Stands.{Stands}
 use Rattle.pv_prov.specs.declared.names.Prov.{Prov}

@@ -5,8 +5,8 @@ use Rattle.pv_num.specs.declared.kinds.IntKind.{IntKind}
 use Rattle.pv_num.specs.declared.kinds.IntKind.TheVariants.{Int as IntOfInt}
 use Rattle.pv_num.specs.declared.operators.BinOp.{BinOp}
 use Rattle.pv_num.specs.declared.operators.UnOp.{UnOp}
-use Rattle.pv_num.specs.declared.faults.Fault.{Fault}
-use Rattle.pv_num.specs.declared.faults.Clause.TheVariants.{AdditionOfPointers, SubtractionOfPointers, Indirection}
+use Rattle.pv_num.specs.declared.operators.ArithmeticFault.{ArithmeticFault}
+use Rattle.pv_fault.specs.declared.faults.Clause.TheVariants.{AdditionOfPointers, SubtractionOfPointers, Indirection}
 use Rattle.pv_num.specs.Arithmetic.{binary_of, unary_of}
 use Rattle.pv_prov.specs.declared.names.Prov.{Prov}
 use Rattle.pv_inst.specs.declared.values.Tried.{Tried}
@@ -103,7 +103,7 @@ module _ (F : Type 0) (ds : List Bool) where
   converts-track Voids v w f = quiet-gives Nothing w f
 
   -- operators on integers
-  computed-tracks : (w : World) (r : Result ℤ Fault) → Fits w → Tracks ds (computed w r) (computed (on_world ds w) r)
+  computed-tracks : (w : World) (r : Result ℤ ArithmeticFault) → Fits w → Tracks ds (computed w r) (computed (on_world ds w) r)
   computed-tracks w (Ok n) f = quiet-gives (int n) w f
   computed-tracks w (Err x) f = tt
 
@@ -158,12 +158,12 @@ module _ (F : Type 0) (ds : List Bool) where
   ordered-tracks : (op : BinOp) (w w' : World) (p q : Pointer) (got got' : Result (Ordering × Tried × Tried) Stop × Table) → w' ≡ on_world ds w → Along ds SameOne got got' → Tracks ds (ordered_by op w p q got) (ordered_by op w' p q got')
   ordered-tracks op w w' p q ((Ok r), T) ((Ok r'), T') e h = by (binary_of op IntOfInt (pos p.address) (pos q.address)) refl
     where
-      by : (o : Result ℤ Fault) → binary_of op IntOfInt (pos p.address) (pos q.address) ≡ o → Tracks ds (ordered_by op w p q ((Ok r), T)) (ordered_by op w' p q ((Ok r'), T'))
+      by : (o : Result ℤ ArithmeticFault) → binary_of op IntOfInt (pos p.address) (pos q.address) ≡ o → Tracks ds (ordered_by op w p q ((Ok r), T)) (ordered_by op w' p q ((Ok r'), T'))
       by (Ok n) g = rw g (refl, refl, h.1, (λ i. with_table (e i) (h.2 i)), h.3)
       by (Err x) g = rw g (refl, refl, h.1, (λ i. with_table (e i) (h.2 i)), h.3)
   ordered-tracks op w w' p q ((Ok r), T) ((Err y'), T') e h = by (binary_of op IntOfInt (pos p.address) (pos q.address)) refl
     where
-      by : (o : Result ℤ Fault) → binary_of op IntOfInt (pos p.address) (pos q.address) ≡ o → Tracks ds (ordered_by op w p q ((Ok r), T)) (ordered_by op w' p q ((Err y'), T'))
+      by : (o : Result ℤ ArithmeticFault) → binary_of op IntOfInt (pos p.address) (pos q.address) ≡ o → Tracks ds (ordered_by op w p q ((Ok r), T)) (ordered_by op w' p q ((Err y'), T'))
       by (Ok n) g = rw g (fault-wrong y' h.0, h.1)
       by (Err x) g = rw g (fault-wrong y' h.0, h.1)
   ordered-tracks op w w' p q ((Err y), T) ((Ok r'), T') e h = ends-ok ds y T r' [] (ordered_by op w' p q (Ok r', T')) h

@@ -1,5 +1,5 @@
 use Rattle.std.proofs.Common.{map, arith}
-use Rattle.pv_num.specs.declared.faults.Clause.{Clause}
+use Rattle.pv_fault.specs.declared.faults.Clause.{Clause}
 use Rattle.pv_cases.specs.Suites.{clause_line, cases_by}
 use Rattle.pv_cases.specs.Views.{told_view}
 use Rattle.pv_cases.proofs.Walks.{all_told}

@@ -1,6 +1,6 @@
 use Rattle.std.proofs.Common.{sym, ap, ◌∙◌}
-use Rattle.pv_num.specs.declared.faults.Clause.TheVariants.{OverlappingAssignment}
-use Rattle.pv_num.specs.declared.faults.Reason.TheVariants.{Overlap}
+use Rattle.pv_fault.specs.declared.faults.Clause.TheVariants.{OverlappingAssignment}
+use Rattle.pv_fault.specs.declared.faults.Reason.TheVariants.{Overlap}
 use Rattle.pv_types.specs.Known.{Known, tree}
 use Rattle.std.proofs.Common.{Some}
 use Rattle.pv_world.specs.declared.got.Shape.{Shape}

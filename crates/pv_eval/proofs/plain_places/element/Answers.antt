@@ -2,7 +2,7 @@ use Rattle.std.proofs.Common.{◌^◌, Some, FitsSigned, rules, sym, ap, ◌∙�
 use Rattle.std.specs.Int.{w128}
 use Rattle.std.proofs.lemmas.Int.{to_z-of_z}
 use Rattle.std.proofs.lemmas.Bool.{le-leb}
-use Rattle.pv_num.specs.declared.faults.Clause.TheVariants.{AdditionOfPointers}
+use Rattle.pv_fault.specs.declared.faults.Clause.TheVariants.{AdditionOfPointers}
 use Rattle.pv_world.specs.Worlds.{Worth}
 use Rattle.pv_world.specs.Worths.{int, pointer}
 use Rattle.pv_world.specs.Pointers.{distance}

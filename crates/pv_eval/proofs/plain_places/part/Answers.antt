@@ -1,7 +1,7 @@
 use Rattle.std.proofs.Common.{Some, FitsSigned, rules, sym, ap, ◌∙◌, subst, ℤ, w64, to_z, of_z}
 use Rattle.std.specs.Int.{w128}
 use Rattle.std.proofs.lemmas.Int.{to_z-of_z}
-use Rattle.pv_num.specs.declared.faults.Clause.TheVariants.{Indirection}
+use Rattle.pv_fault.specs.declared.faults.Clause.TheVariants.{Indirection}
 use Rattle.pv_world.specs.Worlds.{Worth}
 use Rattle.pv_world.specs.Worths.{pointer}
 use Rattle.pv_eval.specs.Operations.{Selects}

@@ -2,7 +2,7 @@ use Rattle.std.proofs.Common.{◌≡◌, ◌∙◌, ap, sym, subst, refl, ℤ, F
 use Rattle.std.specs.declared.result.Result.{Result}
 use Rattle.std.proofs.lemmas.Int.{to_z-of_z}
 use mir.Syntax.{w128}
-use Rattle.pv_num.specs.declared.faults.Fault.{Fault}
+use Rattle.pv_num.specs.declared.operators.ArithmeticFault.{ArithmeticFault}
 use Rattle.pv_num.specs.declared.kinds.IntKind.{IntKind}
 use Rattle.pv_num.specs.declared.operators.BinOp.{BinOp}
 use Rattle.pv_num.specs.declared.operators.BinOp.TheVariants.{Add, Sub, Mul, Div, Rem, Shl, Shr}
@@ -11,7 +11,7 @@ use Rattle.pv_num.specs.Operands.{IsOperand}
 use Rattle.pv_num.proofs.operators.computed.Goals as goal
 
 -- the answer of an operator is that of the one that was asked for, under the operands' own names
-as_asked : (op o : BinOp) (k : IntKind) (a b : ℤ) {a' b' : ℤ} {r : Result ℤ Fault} → op ≡ o → a' ≡ a → b' ≡ b → r ≡ binary_of o k a' b' → r ≡ binary_of op k a b
+as_asked : (op o : BinOp) (k : IntKind) (a b : ℤ) {a' b' : ℤ} {r : Result ℤ ArithmeticFault} → op ≡ o → a' ≡ a → b' ≡ b → r ≡ binary_of o k a' b' → r ≡ binary_of op k a b
 as_asked op o k a b {a'} {b'} is left right e = e ∙ ap (λ x. binary_of o k x b') left ∙ ap (binary_of o k a) right ∙ ap (λ p. binary_of p k a b) (sym is)
 
 pub add-requires-clause-left : goal.add-requires-clause-left

@@ -2,16 +2,17 @@ use Rattle.std.proofs.Common.{◌≡◌, ◌∙◌, ap, sym, refl, ℤ, Bool, tr
 use Rattle.std.proofs.lemmas.Int.{to_z-of_z}
 use mir.Syntax.{w128}
 use Rattle.pv_num.specs.Kinds.{fits_of}
-use Rattle.pv_num.specs.Arithmetic.{divide_by_zero, quotient_range, is_zero}
+use Rattle.pv_num.specs.declared.operators.ArithmeticFault.TheVariants.{ZeroDivisor, Quotient}
+use Rattle.pv_num.specs.Arithmetic.{is_zero}
 use Rattle.pv_num.proofs.Products.{member_convertible}
 use Rattle.pv_num.proofs.operators.divide_for_remainder.Goals as goal
 
-given : (z f : Bool) (r : ℤ) → z ≡ false → f ≡ true → Ok r ≡ (if z then Err divide_by_zero else (if f then Ok r else Err quotient_range))
+given : (z f : Bool) (r : ℤ) → z ≡ false → f ≡ true → Ok r ≡ (if z then Err ZeroDivisor else (if f then Ok r else Err Quotient))
 given true f r e g = cc
 given false true r e g = refl
 given false false r e g = cc
 
-refused : (z f : Bool) (r : ℤ) → z ≡ false → f ≡ false → Err quotient_range ≡ (if z then Err divide_by_zero else (if f then Ok r else Err quotient_range))
+refused : (z f : Bool) (r : ℤ) → z ≡ false → f ≡ false → Err Quotient ≡ (if z then Err ZeroDivisor else (if f then Ok r else Err Quotient))
 refused true f r e g = cc
 refused false true r e g = cc
 refused false false r e g = refl

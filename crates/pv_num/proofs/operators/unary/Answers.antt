@@ -2,7 +2,7 @@ use Rattle.std.proofs.Common.{◌≡◌, ◌∙◌, ap, sym, subst, refl, ℤ, n
 use Rattle.std.specs.declared.result.Result.{Result}
 use Rattle.std.proofs.lemmas.Int.{to_z-of_z}
 use mir.Syntax.{w128}
-use Rattle.pv_num.specs.declared.faults.Fault.{Fault}
+use Rattle.pv_num.specs.declared.operators.ArithmeticFault.{ArithmeticFault}
 use Rattle.pv_num.specs.declared.operators.UnOp.TheVariants.{Minus, Flip}
 use Rattle.pv_num.specs.Kinds.{Fits}
 use Rattle.pv_num.specs.Arithmetic.{complement_of, exact_of, unary_of}
@@ -30,7 +30,7 @@ returns-in-Minus-clause-member c =
     let fits : FitsSigned w128 c.args.a = c.ranges.a in
     let same : to_z w128 (of_z w128 c.args.a) ≡ c.args.a = simp to_z-of_z refl in
     let is = c.negate.ensures ∙ ap (λ x. exact_of c.args.kind (neg_ℤ x)) same in
-    subst (λ (r : Result ℤ Fault). IfOk r (Fits c.args.kind)) (sym is) (unary_fits Minus c.args.kind c.args.a c.requires.promoted c.requires.operand)
+    subst (λ (r : Result ℤ ArithmeticFault). IfOk r (Fits c.args.kind)) (sym is) (unary_fits Minus c.args.kind c.args.a c.requires.promoted c.requires.operand)
 
 pub returns-in-Flip-clause-value : goal.returns-in-Flip-clause-value
 returns-in-Flip-clause-value c =

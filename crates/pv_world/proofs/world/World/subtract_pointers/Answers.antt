@@ -3,7 +3,7 @@ use Rattle.std.proofs.lemmas.Int.{to_z-of_z}
 use mir.Syntax.{w128}
 use mir.Val.{SFits}
 use Rattle.pv_object.specs.Operations.{together}
-use Rattle.pv_num.specs.declared.faults.Clause.TheVariants.{SubtractionOfPointers}
+use Rattle.pv_fault.specs.declared.faults.Clause.TheVariants.{SubtractionOfPointers}
 use Rattle.pv_world.specs.declared.failing.Blame.{Blame}
 use Rattle.pv_world.specs.Worlds.{Wrong}
 use Rattle.pv_world.specs.contracts.world.World.{the_view}

@@ -1,6 +1,6 @@
-// The labels of an undefined operation: the paragraph of C17 that it breaks, and a word for the reason.
+//! Paragraphs that leave an operation undefined, and reasons.
 ghost use Rattle.std.specs.Prelude.{◌≡◌};
-ghost use Rattle.pv_num.specs.Texts.{clause_text, reason_text};
+ghost use Rattle.pv_fault.specs.FaultTexts.{clause_text, reason_text};
 
 /// A paragraph of C17 (ISO/IEC 9899:2018) that leaves the behaviour of an operation undefined.
 ///

@@ -1,9 +1,9 @@
 -- The texts of clauses and reasons, as reports print them.
 use Rattle.std.specs.Prelude.{ℕ, List, codes}
-use Rattle.pv_num.specs.declared.faults.Clause.{Clause}
-use Rattle.pv_num.specs.declared.faults.Clause.TheVariants.{Lifetimes, Traps, PointerToInteger, PointerToPointer, PointerToFunction, StringLiterals, Sequencing, Exceptions, EffectiveTypes, Indirection, ZeroDivisors, Quotients, AdditionOfPointers, SubtractionOfPointers, ShiftCounts, LeftShifts, OrderOfPointers, OverlappingAssignment, ConstObjects, MissingValues, LibraryArguments, Formats, Freeing, Reallocating, StringFunctions, MemcpyOverlap, StrcpyOverlap}
-use Rattle.pv_num.specs.declared.faults.Reason.{Reason}
-use Rattle.pv_num.specs.declared.faults.Reason.TheVariants.{Ended, Trap, Range, Misaligned, Readonly, Unsequenced, Overflow, WrongType, Null, Empty, Outside, Divide, Quotient, Apart, Uneven, Count, Shift, Overlap, Value, Format, Block}
+use Rattle.pv_fault.specs.declared.faults.Clause.{Clause}
+use Rattle.pv_fault.specs.declared.faults.Clause.TheVariants.{Lifetimes, Traps, PointerToInteger, PointerToPointer, PointerToFunction, StringLiterals, Sequencing, Exceptions, EffectiveTypes, Indirection, ZeroDivisors, Quotients, AdditionOfPointers, SubtractionOfPointers, ShiftCounts, LeftShifts, OrderOfPointers, OverlappingAssignment, ConstObjects, MissingValues, LibraryArguments, Formats, Freeing, Reallocating, StringFunctions, MemcpyOverlap, StrcpyOverlap}
+use Rattle.pv_fault.specs.declared.faults.Reason.{Reason}
+use Rattle.pv_fault.specs.declared.faults.Reason.TheVariants.{Ended, Trap, Range, Misaligned, Readonly, Unsequenced, Overflow, WrongType, Null, Empty, Outside, Divide, Quotient, Apart, Uneven, Count, Shift, Overlap, Value, Format, Block}
 
 -- 3.4.3: the paragraph of C17 that leaves an operation undefined, without the word "paragraph": section, `p`, number
 abbrev pub clause_text : Clause → List ℕ

@@ -1,0 +1,6 @@
+//! The labels of an undefined operation: the paragraph of C17 that it breaks, and a word for the reason.
+#![tactic(auto)]
+
+mod faults;
+
+pub use faults::{Clause, Fault, Reason};
