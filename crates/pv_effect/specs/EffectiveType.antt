@@ -1,4 +1,5 @@
--- Through which types an object may be accessed (C17 6.5p6, 6.5p7).
+-- Through which types an object may be accessed (C17 6.5p6, 6.5p7). A copy, by `memcpy` or by assignment, takes the marks of its bytes
+-- along: pv_object/specs/Copying.
 use Rattle.std.specs.Prelude.{ℕ, suc, ◌+◌, ◌-◌, Bool, true, false, not, ◌&&◌, ◌||◌, ◌==◌, nat_le, nat_lt, if◌then◌else◌, Some, None, List, [], ◌∷◌, length}
 use Rattle.std.specs.declared.option.Option.{Option}
 use Rattle.pv_num.specs.Kinds.{is_character_kind}
