@@ -14,7 +14,7 @@ use Rattle.pv_cases.specs.Suites.{Wanted, Gave, CaseTold}
 abbrev pub cut_view : Parted → Cut
 cut_view p = record { word = p.word.now; rest = p.rest.now }
 
--- docs/FORMATS.md, Suites: a case that was read (5.1.2.3)
+-- docs/FORMATS.md, Suites: a case that was read
 abbrev pub case_view : Case → SuiteCase
 case_view c = record {
   source = c.source.now;
@@ -24,23 +24,23 @@ case_view c = record {
   expected = c.expected.now;
 }
 
--- docs/FORMATS.md, Words (5.1.2.3p1): its bound is one that a run may have
+-- docs/FORMATS.md, Words: its bound is one that a run may have
 abbrev pub IsBounded : Case → Type 0
 IsBounded c = (0 < c.bound) × (c.bound ≤ most_turns)
 
--- docs/FORMATS.md, Suites: what is expected of a case (5.1.2.3)
+-- docs/FORMATS.md, Suites: what is expected of a case
 abbrev pub wanted_view : Expected → Wanted
 wanted_view w = record { line = w.line.now; output = option_map (λ s. s.now) w.output }
 
--- docs/FORMATS.md, Suites: what a case came to (5.1.2.3)
+-- docs/FORMATS.md, Suites: what a case came to
 abbrev pub gave_view : Got → Gave
 gave_view g = record { line = g.line.now; output = g.output.now; clause = g.clause }
 
--- docs/FORMATS.md, Suites: what is told of a case (5.1.2.3)
+-- docs/FORMATS.md, Suites: what is told of a case
 abbrev pub told_view : Told → CaseTold
 told_view t = record { line = t.line.items; passed = t.passed; clause = t.clause }
 
--- docs/FORMATS.md, Suites: it is what the list says (5.1.2.3); or there was no memory
+-- docs/FORMATS.md, Suites: it is what the list says; or there was no memory
 abbrev pub OrNoMemory : {A B : Type 0} → (A → B) → Result A ListError → Result B ListError → Type 0
 OrNoMemory seen (Ok a) wanted = Ok (seen a) ≡ wanted
 OrNoMemory seen (Err error.NoMemory) wanted = Unit {0}

@@ -16,7 +16,7 @@ pub record HasMore (old new : Known) : Type 0 where
   pub headings : new.tags ≡ old.tags
   pub completed : completions new ≡ completions old
 
--- 6.7.6.2p1: an array's elements are complete; no type is larger than 2 ^ 32 bytes (5.2.4.1)
+-- 6.7.6.2p1: an array's elements are complete; no type is larger than 2 ^ 32 bytes
 abbrev pub is_sized : List Entry → Ty → Bool
 is_sized env (ArrayOf t n) = is_complete_in env t && is_sized env t && nat_le (layout_in env (ArrayOf t n)).size (2 ^ 32)
 is_sized env (ConstOf t) = is_sized env t
@@ -24,7 +24,7 @@ is_sized env (StructTag n) = nat_le (layout_in env (StructTag n)).size (2 ^ 32)
 is_sized env (UnionTag n) = nat_le (layout_in env (UnionTag n)).size (2 ^ 32)
 is_sized env _ = true
 
--- every type of the table is so (5.2.4.1), and every structure
+-- every type of the table is so, and every structure
 pub record AreSized (m : Known) : Type 0 where
   pub types : (i : ℕ) → i < length m.terms → IsTrue (is_sized (env m) (tree m i))
   pub tags : (n : ℕ) → IsTrue (is_sized (env m) (StructTag n))

@@ -10,7 +10,7 @@ use Rattle.pv_check.specs.State.{After, env, State}
 abbrev pub composite_type : Bool → After ℕ → After Ty
 composite_type union a = record { value = tag_type union a.value; state = a.state }
 
--- 5.2.4.1p1: no type is larger than 2 ^ 32 bytes
+-- no type is larger than 2 ^ 32 bytes
 abbrev pub is_small : State → Ty → Bool
 is_small s t = nat_le (layout_in (env s) t).size (2 ^ 32)
 

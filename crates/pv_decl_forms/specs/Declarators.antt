@@ -148,6 +148,6 @@ grown_for (suc steps) below depth line left ts = carried (grown_for steps below 
 unfoldable pub grown : Reads → (depth line : ℕ) → (left : Tree) → List Token → Tree × List Token
 grown below depth line left ts = grown_for (suc depth) below depth line left ts
 
--- the longest declarator of a form (6.7.6, 6.7.7), of at most so much depth (5.2.4.1)
+-- the longest declarator of a form (6.7.6, 6.7.7), of at most so much depth
 unfoldable pub declarator : Names → Reads → (depth : ℕ) → Form → List Token → Piece
 declarator names below depth f ts = option_map (λ x. grown below depth (line_here ts) x.0 x.1) (head names below f ts)

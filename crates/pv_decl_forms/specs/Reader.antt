@@ -164,7 +164,7 @@ with_parts names reads Members ts = member reads ts
 with_parts names reads Enumerators ts = enumerator names reads ts
 with_parts names reads place ts = reads place ts
 
--- a tree that stands at a place, of at most so much depth (5.2.4.1)
+-- a tree that stands at a place, of at most so much depth
 unfoldable pub readers : Names → (depth : ℕ) → Reads
 readers names zero place ts = with_parts names (leaves names) place ts
 readers names (suc depth) place ts = with_parts names (made names (readers names depth) depth) place ts

@@ -4,6 +4,6 @@ use Rattle.pv_types.specs.Ty.{StructTag}
 use Rattle.pv_types.specs.Known.{Known, env}
 use Rattle.pv_types.specs.Layouts.{layout_in}
 
--- 5.2.4.1: no structure or union takes more than 2^32 bytes
+-- no structure or union takes more than 2^32 bytes
 abbrev pub AreSmall : Known → Type 0
 AreSmall m = (n : ℕ) → (layout_in (env m) (StructTag n)).size ≤ 2 ^ 32

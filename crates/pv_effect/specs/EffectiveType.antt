@@ -59,7 +59,7 @@ abbrev pub permits_byte : Known → List Part → ℕ → Option (ℕ × ℕ) �
 permits_byte m scalars b None = true
 permits_byte m scalars b (Some mark) = some_over (env m) (accepts m mark) b scalars || not (some_over (env m) anything b scalars)
 
--- 6.5p7: the same of the bytes in a row, from byte b on
+-- 6.5p7: each of the bytes in a row, from byte b on, may be read as one of an object with these scalar parts
 abbrev pub permits_bytes : Known → List Part → ℕ → List (Option (ℕ × ℕ)) → Bool
 permits_bytes m scalars b [] = true
 permits_bytes m scalars b (x ∷ xs) = permits_byte m scalars b x && permits_bytes m scalars (suc b) xs

@@ -38,7 +38,7 @@ abbrev pub comes_to : (ℕ → Ty → Bool) → Known → Search → Bool
 comes_to f m (Settled b) = b
 comes_to f m (In t offset) = some_over (env m) f offset (layout_in (env m) (tree m t.0)).parts
 
--- 6.2.6.1p2: what it goes on in may be searched, and has fewer parts
+-- what it goes on in may be searched, and has fewer parts
 abbrev pub IsBelow : Known → ℕ → Search → Type 0
 IsBelow m h (Settled b) = Unit {0}
 IsBelow m h (In t offset) = (t.0 < length m.terms) × IsTrue (is_complete_in (env m) (tree m t.0)) × ((layout_in (env m) (tree m t.0)).size ≤ 2 ^ 32) × (part_count (layout_in (env m) (tree m t.0)) < h)

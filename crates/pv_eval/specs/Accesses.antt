@@ -37,7 +37,7 @@ reads_at b l p rivals at w t =
 abbrev pub reads_from : Setting → Lvalue → Pointer → List Access → World → Done
 reads_from b l p rivals w = reaching p l.size l.align false w (reads_at b l p rivals)
 
--- 6.3.2.1p2: the same of the value that is a place
+-- 6.3.2.1p2: the value of the lvalue at the place that this value is, against its rivals
 abbrev pub reads : Setting → Lvalue → (place : Worth) → List Access → World → Done
 reads b l v rivals w = reads_from b l (pointer_of v) rivals w
 

@@ -19,7 +19,7 @@ stamped n m (x ∷ xs) = record { event = record { turn = n; what = x }; mark = 
 abbrev pub noted : World → Told → State → State
 noted w t s = record { world = w; output = s.output ++ t.bytes; events = s.events ++ stamped s.taken (length s.output) t.events; taken = s.taken }
 
--- the same, with more events behind, as that of undefined behaviour (3.4.3)
+-- the state after an operation, with more events behind those that it told, as that of undefined behaviour (3.4.3)
 abbrev pub noted_with : World → Told → List What → State → State
 noted_with w t more s = noted w (record t { events = t.events ++ more }) s
 

@@ -37,30 +37,30 @@ zip (f ∷ fs) (j ∷ js) = (f, j) ∷ zip fs js
 abbrev pub stack : List Frame → List Open → List (Frame × Open)
 stack frames js = zip (reverse frames) js
 
--- 6.5p1: what a move does, of the node with these accesses
+-- what a move does, of the node with these accesses
 abbrev pub means : Setting → Calling → Stored → Move → Open → State → Res Given
 means b call u (move.Give v) j s = done j (worth_of v) s
 means b call u (move.Operand n f) j s = operand (ev b call (expression_at u n)) j s (frame_after b call u f)
 means b call u (move.Later n f) j s = later (ev b call (expression_at u n)) j s (frame_after b call u f)
 means b call u (move.Ask f args line) j s = then_do (call f (map worth_of args.items) line s) (done (sequence_point j))
 
--- 6.5p1: what is left of the innermost node
+-- what is left of the innermost node
 abbrev pub now_does : Setting → Calling → Stored → Now → Open → State → Res Given
 now_does b call u (now.Due n) j s = ev b call (expression_at u n) j.foes s
 now_does b call u (now.Value v) j s = done j (worth_of v) s
 now_does b call u (now.Asked f args line) j s = then_do (call f (map worth_of args.items) line s) (done (sequence_point j))
 
--- 6.5p1: what is left of the expression: the innermost node, and then those that wait for its value
+-- what is left of the expression: the innermost node, and then those that wait for its value
 abbrev pub ahead : Setting → Calling → Stored → List Frame → List Open → Now → State → Res Given
 ahead b call u frames js place s = then_do (now_does b call u place (top js) s) (rest (after b call u) (stack frames (below js)))
 
--- 6.5p1: an operation leads to a move, or ends the run (as by undefined behaviour, 3.4.3); after want of memory nothing is said
+-- an operation leads to a move, or ends the run (as by undefined behaviour, 3.4.3); after want of memory nothing is said
 abbrev pub Led : Setting → Calling → Stored → Res Given → Result Move Failure → List Open → State → Type 0
 Led b call u want (Ok m) js s = want ≡ means b call u m (top js) s
 Led b call u want (Err (failure.Stop y line)) js s = want ≡ Stops (Stopped (wrong_for y) line) s
 Led b call u want (Err failure.NoMemory) js s = Unit {0}
 
--- 6.5p1: what is ahead after a step is what was wanted, or the run has ended (as by undefined behaviour, 3.4.3)
+-- what is ahead after a step is what was wanted, or the run has ended (as by undefined behaviour, 3.4.3)
 abbrev pub Kept : Setting → Calling → Stored → Res Given → Result Now Failure → List Frame → List Open → State → Type 0
 Kept b call u want (Ok place) frames js s = want ≡ ahead b call u frames js place s
 Kept b call u want (Err (failure.Stop y line)) frames js s = want ≡ Stops (Stopped (wrong_for y) line) s
@@ -74,11 +74,11 @@ StageFits x (stage.Second v) = Unit {0}
 StageFits x (stage.Both r) = Unit {0}
 StageFits x (stage.Later side) = Unit {0}
 
--- a frame's node is an expression of the unit (6.5), with the operand for which it waits
+-- a frame's node is an expression of the unit, with the operand for which it waits
 abbrev pub FrameFits : Stored → Frame → Type 0
 FrameFits u f = IsExpression u f.node × StageFits (form_of (expression_at u f.node)) f.stage
 
--- the same of what a move names: expressions (6.5), and functions that are called (6.5.2.2)
+-- the same of what a move names: expressions, and functions that are called (6.5.2.2)
 abbrev pub MoveFits : Stored → Move → Type 0
 MoveFits u (move.Give v) = Unit {0}
 MoveFits u (move.Operand n f) = IsExpression u n × FrameFits u f
@@ -110,7 +110,7 @@ abbrev pub MatchedOr : Result Now Failure → List Frame → List Open → Type 
 MatchedOr (Ok place) frames js = Matched frames js
 MatchedOr (Err e) frames js = Unit {0}
 
--- 6.5: the first operand of a node
+-- the first operand of a node
 abbrev pub first_operand_of : Typed → Option NodeId
 first_operand_of (typed.Subscript a b) = Some a
 first_operand_of (typed.Member a k) = Some a
@@ -147,7 +147,7 @@ first_operand_of (typed.CallPointer a l) = Some a
 first_operand_of (typed.LibraryCall f l) = None
 first_operand_of (typed.Sizeof k) = None
 
--- 6.5: the second operand of those that evaluate two in any case
+-- the second operand of those that evaluate two in any case
 abbrev pub second_operand_of : Typed → Option NodeId
 second_operand_of (typed.Subscript a b) = Some b
 second_operand_of (typed.Arithmetic o a b) = Some b
@@ -158,7 +158,7 @@ second_operand_of (typed.PointerEquality o a b) = Some b
 second_operand_of (typed.Assign a b) = Some b
 second_operand_of _ = None
 
--- 5.1.2.3: whether a node takes a turn
+-- whether a node takes a turn
 abbrev pub takes_of : Bool → Typed → Bool
 takes_of turn (typed.Read a) = false
 takes_of turn (typed.ArrayPointer a) = false
@@ -167,7 +167,7 @@ takes_of turn (typed.Subscript a b) = turn
 takes_of turn (typed.Indirection a) = turn
 takes_of turn _ = true
 
--- 6.5p1: a value as a move: it is the node's
+-- a value as a move: it is the node's
 abbrev pub given : Result Got Failure → Result Move Failure
 given (Ok v) = Ok (move.Give v)
 given (Err e) = Err e

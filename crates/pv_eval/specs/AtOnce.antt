@@ -1,5 +1,5 @@
 -- Full expressions that are evaluated at once (C17 6.8p4): bridges from the code to evaluation. Each is said for every bound that allows
--- the turns that were taken (5.1.2.3p1).
+-- the turns that were taken.
 use Rattle.std.specs.Prelude.{◌≡◌, ℕ, ◌+◌, ◌<◌, ◌≤◌, Bool, List, []}
 use Rattle.pv_tree.specs.declared.nodes.NodeId.{NodeId}
 use Rattle.pv_typed.specs.Tables.{Stored}
@@ -34,7 +34,7 @@ abbrev pub EvaluatedFirst : Stored → (old new : Machine) → Type 0
 EvaluatedFirst u old new =
     Always u old.moment (λ b out es. (call : Calling) → new.moment.taken ≤ b.bound → GivesValue (left_of b call u old.started (state_of old.moment out es)) (ended new.started) (state_of new.moment out es))
 
--- 5.1.2.3p1: and under each bound that is met before that, the run stops there: nothing was printed or told, and nothing has changed
+-- and under each bound that is met before that, the run stops there: nothing was printed or told, and nothing has changed
 abbrev pub Cut : Stored → NodeId → (old new : Moment) → Type 0
 Cut u n old new =
     Always u old (λ b out es. (call : Calling) → old.taken ≤ b.bound → b.bound < new.taken → ev b call (expression_at u n) [] (state_of old out es) ≡ Stops Turns (state_of (record old { taken = b.bound }) out es))
@@ -55,12 +55,12 @@ abbrev pub EvaluatedAmong : Stored → NodeId → Worth → List Access → (old
 EvaluatedAmong u n v all old new =
     Always u old (λ b out es. (call : Calling) (fs : List Access) → AllRead fs → new.taken ≤ b.bound → ev b call (expression_at u n) fs (state_of old out es) ≡ Gives (record { value = v; all = all; loose = [] }) (state_of new out es))
 
--- 5.1.2.3p1: and under each bound that is met before that, the run stops there
+-- and under each bound that is met before that, the run stops there
 abbrev pub CutAmong : Stored → NodeId → (old new : Moment) → Type 0
 CutAmong u n old new =
     Always u old (λ b out es. (call : Calling) (fs : List Access) → AllRead fs → old.taken ≤ b.bound → b.bound < new.taken → ev b call (expression_at u n) fs (state_of old out es) ≡ Stops Turns (state_of (record old { taken = b.bound }) out es))
 
--- 6.5p1: an expression that was started goes on so
+-- an expression that was started goes on so
 abbrev pub GoesOn : Stored → (was now : Started) → (old new : Moment) → Type 0
 GoesOn u e f old new =
     Always u old (λ b out es. (call : Calling) → new.taken ≤ b.bound → ahead b call u e.frames e.opens e.place (state_of old out es) ≡ ahead b call u f.frames f.opens f.place (state_of new out es))
@@ -70,7 +70,7 @@ abbrev pub ContinuesFirst : Stored → (old new : Machine) → Type 0
 ContinuesFirst u old new =
     Always u old.moment (λ b out es. (call : Calling) → new.moment.taken ≤ b.bound → left_of b call u old.started (state_of old.moment out es) ≡ left_of b call u new.started (state_of new.moment out es))
 
--- 5.1.2.3p1: a turn more was taken
+-- a turn more was taken
 abbrev pub ticked : Moment → Moment
 ticked m = record m { taken = m.taken + 1 }
 
@@ -78,7 +78,7 @@ ticked m = record m { taken = m.taken + 1 }
 abbrev pub EvaluatedNext : Stored → NodeId → Worth → (old new : Moment) → Type 0
 EvaluatedNext u n v old new = Evaluated u n v (ticked old) new
 
--- 5.1.2.3p1: and under each bound that is met between that turn and its end, the run stops there
+-- and under each bound that is met between that turn and its end, the run stops there
 abbrev pub CutNext : Stored → NodeId → (old new : Moment) → Type 0
 CutNext u n old new = Cut u n (ticked old) new
 

@@ -12,14 +12,14 @@ use Rattle.pv_eval.specs.Acting.{acted, answered, pair_count}
 use Rattle.pv_eval.specs.Siding.{Settled}
 use Rattle.pv_eval.specs.Moments.{Moment, Follows, state_of}
 
--- 5.1.2.3p2: an operation of the node in this line, where there were so many pairs before it, is done in the run so, whatever was written
+-- an operation of the node in this line, where there were so many pairs before it, is done in the run so, whatever was written
 -- and told before
 abbrev pub ClosedAs : (line pairs : ℕ) → (World → (World → Done) → Type 0) → (Res Worth → State → Type 0) → (old new : Moment) → Type 0
 ClosedAs line pairs P C old new =
     (b : Setting) (w : World) (op : World → Done) (out : List ℕ) (es : List Marked) → b.sides ≡ old.sides → pairs ≡ pair_count w → Follows old (length out) → P w op
     → C (acted b line (op w) (state_of (record old { world = w }) out es)) (state_of new out es)
 
--- 5.1.2.3p2: one that gives nothing and makes no pair, in whatever line
+-- one that gives nothing and makes no pair, in whatever line
 abbrev pub ClosedStill : List What → (Res Worth → State → Type 0) → (old new : Moment) → Type 0
 ClosedStill told C old new =
     (b : Setting) (w : World) (op : World → Done) (out : List ℕ) (es : List Marked) → b.sides ≡ old.sides → pair_count old.world ≡ pair_count w → Follows old (length out)

@@ -109,14 +109,14 @@ unfoldable mutual
   ev_call b call line f got (MoreArguments x xs) j s =
       operand (ev b call x) j s (λ j v s. then_do (handed b x v s) (λ v s. ev_call b call line f (got ++ v ∷ []) xs j s))
 
-  -- 6.5.2.2p1, p10: the same of a call by a value: behind the arguments it is asked which function the value points to
+  -- 6.5.2.2p1, p10: the arguments that are left of a call by a value; behind them it is asked which function the value points to
   pub ev_through : Setting → Calling → ℕ → Ty → Worth → List Worth → Arguments → Open → State → Res Given
   ev_through b call line t p got NoArguments j s =
       then_do (act b line (Finds t p) s) (λ f s. then_do (call (function_in f) got line s) (done (sequence_point j)))
   ev_through b call line t p got (MoreArguments x xs) j s =
       operand (ev b call x) j s (λ j v s. then_do (handed b x v s) (λ v s. ev_through b call line t p (got ++ v ∷ []) xs j s))
 
-  -- 6.5.2.2p10, 7.1.4p1: the same of a function of the library
+  -- 6.5.2.2p10, 7.1.4p1: the arguments that are left of a call of a library function, and after a sequence point the call
   pub ev_ask : Setting → Calling → ℕ → Library → List Arg → Arguments → Open → State → Res Given
   ev_ask b call line f got NoArguments j s = work b line (Asks f got) (sequence_point j) s
   ev_ask b call line f got (MoreArguments x xs) j s =

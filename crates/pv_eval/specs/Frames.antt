@@ -23,7 +23,7 @@ use Rattle.pv_eval.specs.declared.frames.Frame.{Frame}
 use Rattle.pv_libc.specs.declared.values.Arg.{Arg}
 use Rattle.pv_world.specs.Coming.{worth_of}
 
--- 6.5: what a node does with the value of its second operand, beside that of the first
+-- what a node does with the value of its second operand, beside that of the first
 abbrev pub second_after : Setting → Calling → Ty → ℕ → Form → Worth → Open → Worth → State → Res Given
 second_after b call t line (Subscript x y) v j w s = work b line (Moves false (is_pointer (type_of x)) (element_size b (if is_pointer (type_of x) then type_of x else type_of y)) v w) j s
 second_after b call t line (Arithmetic o x y) v j w s = then_do (converted b x v s) (λ v s. then_do (converted b y w s) (λ w s. work b line (Calculates o (kind_of (type_of x)) v w) j s))
@@ -51,7 +51,7 @@ later_after b call t line (Conditional x y z) true j w s = then_do (converted b 
 later_after b call t line (Conditional x y z) false j w s = then_do (converted b z w s) (done j)
 later_after b call t line _ side j w s = done j w s
 
--- 6.5: with the value of the first operand
+-- with the value of the first operand
 abbrev pub first_after : Setting → Calling → Ty → ℕ → Form → Open → Worth → State → Res Given
 first_after b call t line (Read x) j p s = reading b (lvalue b (type_of x)) line p j s done
 first_after b call t line (Indirection x) j v s = work b line (Follows (is_none t) v) j s
@@ -137,7 +137,7 @@ argument_after b call t line (LibraryCall f xs) i got j v s =
     then_do (handed b (argument_at xs i) v s) (λ v s. ev_ask b call line f (asked_with xs got ++ argument (argument_at xs i) v ∷ []) (arguments_from xs (i + 1)) j s)
 argument_after b call t line _ i got j v s = done j v s
 
--- 6.5: with the value of the operand for which it waits
+-- with the value of the operand for which it waits
 abbrev pub stage_after : Setting → Calling → Ty → ℕ → Form → Stage → Open → Worth → State → Res Given
 stage_after b call t line form stage.First j v s = first_after b call t line form j v s
 stage_after b call t line form (stage.Second v) j w s = second_after b call t line form (worth_of v) j w s
@@ -145,7 +145,7 @@ stage_after b call t line form (stage.Both r) j w s = both_after b call t line f
 stage_after b call t line form (stage.Later side) j w s = later_after b call t line form side j w s
 stage_after b call t line form (stage.Argument got) j v s = argument_after b call t line form (length got.items) (map worth_of got.items) j v s
 
--- 6.5: the same of a frame, by the node whose number it has
+-- the same of a frame, by the node whose number it has
 unfoldable pub frame_after : Setting → Calling → Stored → Frame → Open → Worth → State → Res Given
 frame_after b call u f j v s = let x = expression_at u f.node in stage_after b call (type_of x) (line_of x) (form_of x) f.stage j v s
 

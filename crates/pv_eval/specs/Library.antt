@@ -27,7 +27,7 @@ noted_as T (note.Exposed i) = what.Exposed i ∷ []
 noted_as T (note.Used tried test) = used test tried
 noted_as T (note.Stopped low high pair) = []
 
--- the same of all that happened, in order (the memory model)
+-- what happened within a call, in order, as events (the memory model)
 abbrev pub all_noted : Table → List Note → List What
 all_noted T [] = []
 all_noted T (n ∷ ns) = noted_as T n ++ all_noted T ns
@@ -54,7 +54,7 @@ replied (reply.Exit n) w t = Fails (Halts (Exits n)) None w t
 replied reply.Abort w t = Fails (Halts Aborts) None w t
 replied (reply.Placement e) w t = Fails (Halts (Refused 1 e)) None w t
 
--- 7.1.4: the same, with the memory that it leaves and what it tells; one that stops prints nothing
+-- 7.1.4: what comes of the answer of a call, with the memory that it leaves and what it tells; one that stops prints nothing
 abbrev pub asked : World → (text : List ℕ) → Result Reply Stop → Now → Done
 asked w text (Ok r) S = replied r (with_memory w S.memory) (told_of S.memory S.notes text)
 asked w text (Err y) S = Breaks (wrong_of y) (blame_in S.notes) (with_memory w S.memory) (told_of S.memory S.notes [])

@@ -21,7 +21,7 @@ use Rattle.pv_eval.specs.Moments.{Moment, Follows}
 use Rattle.pv_eval.specs.Ahead.{FrameFits, NowFits, Matched}
 use Rattle.pv_eval.specs.Machines.{Started, left_of, answered_of, value_at, given_by, is_value, is_due, is_asked, is_ended, asked_arguments, asked_line}
 
--- 6.5p1: an expression was begun: its node is due, nothing waits in it, and it has no accesses
+-- an expression was begun: its node is due, nothing waits in it, and it has no accesses
 abbrev pub IsBegun : NodeId → List Started → List Started → Type 0
 IsBegun n [] old = ⊥
 IsBegun n (e ∷ es) old = (e.root ≡ n) × (e.place ≡ now.Due n) × (e.frames ≡ []) × (e.opens ≡ opened [] ∷ []) × (es ≡ old)
@@ -37,7 +37,7 @@ abbrev pub IsAnswered : Worth → List Started → List Started → Type 0
 IsAnswered v (e ∷ es) (f ∷ fs) = (e.frames ≡ f.frames) × (e.opens ≡ sequence_point (top f.opens) ∷ below f.opens) × (value_at e.place ≡ v) × (is_value e.place ≡ true) × (es ≡ fs)
 IsAnswered v _ old = ⊥
 
--- the nodes that are named are expressions of the unit (6.5), and each that waits has its accesses (6.5p2)
+-- the nodes that are named are expressions of the unit, and each that waits has its accesses (6.5p2)
 pub record StartedFits (u : Stored) (e : Started) : Type 0 where
   pub root : IsExpression u e.root
   pub frames : All (FrameFits u) e.frames
@@ -53,13 +53,13 @@ abbrev pub IsOpen : List Started → Type 0
 IsOpen [] = ⊥
 IsOpen (e ∷ es) = Matched e.frames e.opens
 
--- 5.1.2.3p1: what a step leads to, by where it leaves the expression
+-- what a step leads to, by where it leaves the expression
 abbrev pub step_at : Now → Step
 step_at (now.Due n) = step.More
 step_at (now.Value v) = step.Done
 step_at (now.Asked f args line) = step.Call f
 
--- 5.1.2.3p1: what a step answers, of the rest before it
+-- what a step answers, of the rest before it
 abbrev pub Stepped : Setting → Calling → Stored → Res Given → Result Step Failure → List Started → State → Type 0
 Stepped b call u want (Ok step.More) es s = want ≡ left_of b call u es s
 Stepped b call u want (Ok step.Done) es s = want ≡ Gives (given_by es) s
@@ -67,7 +67,7 @@ Stepped b call u want (Ok (step.Call f)) es s = want ≡ then_do (call f (asked_
 Stepped b call u want (Err (failure.Stop y line)) es s = want ≡ Stops (Stopped (wrong_for y) line) s
 Stepped b call u want (Err failure.NoMemory) es s = Unit {0}
 
--- 5.1.2.3p1: where a step leaves the expression
+-- where a step leaves the expression
 abbrev pub WentTo : Stored → Step → List Started → Type 0
 WentTo u step.More es = is_due es ≡ true
 WentTo u step.Done es = is_ended es ≡ true

@@ -19,7 +19,7 @@ use Rattle.pv_eval.specs.Stack.{rest}
 use Rattle.pv_eval.specs.Frames.{after}
 use Rattle.pv_eval.specs.Ahead.{ahead, stack}
 
--- 6.5: an expression that was started: its nodes that wait, the accesses of each and of the innermost node, and where it is
+-- an expression that was started: its nodes that wait, the accesses of each and of the innermost node, and where it is
 pub record Started : Type 0 where
   pub root : NodeId
   pub frames : List Frame
@@ -35,7 +35,7 @@ pub record Machine : Type 0 where
 abbrev pub first_machine : List ScriptLine → Option (List Bool) → (zap : Bool) → Machine
 first_machine script sides zap = record { moment = first_moment script sides zap; started = [] }
 
--- 6.5: what is left of the innermost expression
+-- what is left of the innermost expression
 abbrev pub left_of : Setting → Calling → Stored → List Started → State → Res Given
 left_of b call u [] s = Stops Unreached s
 left_of b call u (e ∷ es) s = ahead b call u e.frames e.opens e.place s
@@ -45,13 +45,13 @@ abbrev pub answered_of : Setting → Calling → Stored → List Started → Wor
 answered_of b call u [] v s = Stops Unreached s
 answered_of b call u (e ∷ es) v s = then_do (done (sequence_point (top e.opens)) v s) (rest (after b call u) (stack e.frames (below e.opens)))
 
--- 6.5p1: the value of an expression that has ended
+-- the value of an expression that has ended
 abbrev pub value_at : Now → Worth
 value_at (now.Due n) = Nothing
 value_at (now.Value v) = worth_of v
 value_at (now.Asked f args line) = Nothing
 
--- 6.5p1: the value of the innermost expression, where it has ended
+-- the value of the innermost expression, where it has ended
 abbrev pub ended : List Started → Worth
 ended [] = Nothing
 ended (e ∷ es) = value_at e.place
@@ -61,13 +61,13 @@ abbrev pub given_by : List Started → Given
 given_by [] = record { value = Nothing; all = []; loose = [] }
 given_by (e ∷ es) = record { value = value_at e.place; all = (top e.opens).all; loose = (top e.opens).loose }
 
--- 5.1.2.3p1: a node is about to begin, and its turn is due
+-- a node is about to begin, and its turn is due
 abbrev pub is_due_at : Now → Bool
 is_due_at (now.Due n) = true
 is_due_at (now.Value v) = false
 is_due_at (now.Asked f args line) = false
 
--- 6.5p1: the expression has its value
+-- the expression has its value
 abbrev pub is_value : Now → Bool
 is_value (now.Due n) = false
 is_value (now.Value v) = true
@@ -79,7 +79,7 @@ is_call_at (now.Due n) = false
 is_call_at (now.Value v) = false
 is_call_at (now.Asked f args line) = true
 
--- 5.1.2.3p1: a turn of the innermost expression is due
+-- a turn of the innermost expression is due
 abbrev pub is_due : List Started → Bool
 is_due [] = false
 is_due (e ∷ es) = is_due_at e.place
@@ -89,21 +89,21 @@ abbrev pub is_asked : List Started → Bool
 is_asked [] = false
 is_asked (e ∷ es) = is_call_at e.place
 
--- 5.1.2.3p1: an expression that goes on by a step
+-- an expression that goes on by a step
 abbrev pub is_going : List Started → Bool
 is_going [] = false
 is_going (e ∷ es) = if is_call_at e.place then false else true
 
--- 6.5p1: one that has ended
+-- one that has ended
 abbrev pub is_ended : List Started → Bool
 is_ended [] = false
 is_ended (e ∷ es) = is_value e.place
 
--- 5.1.2.3p1: how many turns are due, one at most
+-- how many turns are due, one at most
 abbrev pub turns_at : Now → ℕ
 turns_at p = if is_due_at p then 1 else 0
 
--- 5.1.2.3p1: the same of the innermost expression
+-- the same of the innermost expression
 abbrev pub due_turns : List Started → ℕ
 due_turns es = if is_due es then 1 else 0
 
@@ -112,7 +112,7 @@ abbrev pub after_first : List Started → List Started
 after_first [] = []
 after_first (e ∷ es) = es
 
--- 6.5: the node of the innermost expression
+-- the node of the innermost expression
 abbrev pub root_of : List Started → NodeId
 root_of [] = record { 0 = 0 }
 root_of (e ∷ es) = e.root

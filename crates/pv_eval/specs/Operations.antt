@@ -128,6 +128,6 @@ works b (Asks f args) = asks f args
 abbrev pub does : Setting → Op → World → Done
 does b op w = if suits b op w then works b op w else Fails missing_value None w quiet
 
--- the same in the state of a run (5.1.2.3), for the node in this line
+-- what an operation does in the state of a run (5.1.2.3), for the node in this line
 abbrev pub act : Setting → (line : ℕ) → Op → State → Res Worth
 act b line op s = acted b line (does b op s.world) s

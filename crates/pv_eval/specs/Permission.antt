@@ -47,7 +47,7 @@ permits_in b w l at writes Literal = is_character l.t
 permits_in b w l at writes Function = false
 permits_in b w l at writes Heap = writes || permits_marks b.types (parts_of b l.t) (marks_of (read w.memory.bytes at.address l.size))
 
--- 6.5p7: the same of the instance that was reached
+-- 6.5p7: the instance that was reached is there, and its kind permits the access
 abbrev pub permits_row : Setting → World → Lvalue → Reach → (writes : Bool) → Option Instance → Bool
 permits_row b w l at writes None = false
 permits_row b w l at writes (Some x) = permits_in b w l at writes x.kind

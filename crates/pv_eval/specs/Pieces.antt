@@ -34,22 +34,22 @@ use Rattle.pv_eval.specs.declared.frames.Frame.{Frame}
 use Rattle.pv_eval.specs.declared.frames.Move.{Move}
 use Rattle.pv_eval.specs.declared.frames.Stage.TheVariants as stage
 
--- 6.5p1: a part of the innermost node, beside its accesses, leads to a move or ends the run
+-- a part of the innermost node, beside its accesses, leads to a move or ends the run
 abbrev pub LedBy : Stored → (Setting → Calling → Open → State → Res Given) → Result Move Failure → (was now : List Open) → (old new : Moment) → Type 0
 LedBy u part r js ks old new = Always u old (λ b out es. (call : Calling) → Led b call u (part b call (top js) (state_of old out es)) r ks (state_of new out es))
 
--- 6.5p1: the same of a part without accesses of its own, whatever those of the node are
+-- the same of a part without accesses of its own, whatever those of the node are
 abbrev pub LedAnywhere : Stored → (Setting → Calling → Open → State → Res Given) → Result Move Failure → (old new : Moment) → Type 0
 LedAnywhere u part r old new =
     Always u old (λ b out es. (call : Calling) (js : List Open) → Led b call u (part b call (top js) (state_of old out es)) r js (state_of new out es))
 
--- 6.5p1: the same of a whole node whose turn is due, and which may take it
+-- the same of a whole node whose turn is due, and which may take it
 abbrev pub LedInTurn : Stored → NodeId → Result Move Failure → (old new : Moment) → Type 0
 LedInTurn u n r old new =
     Always u old (λ b out es. (call : Calling) (j : Open) (js : List Open) → old.taken < b.bound
     → Led b call u (ev b call (expression_at u n) j.foes (state_of old out es)) r (opened j.foes ∷ js) (state_of new out es))
 
--- 6.5p1: the same of a node of this kind that took its turn, whatever its type is
+-- the same of a node of this kind that took its turn, whatever its type is
 abbrev pub LedAfterTurn : Stored → (line : ℕ) → Typed → Result Move Failure → (old new : Moment) → Type 0
 LedAfterTurn u line x r old new =
     Always u old (λ b out es. (call : Calling) (t : Ty) (j : Open) (js : List Open) →
@@ -61,20 +61,20 @@ LedByLibrary u line f l r old new =
     Always u old (λ b out es. (call : Calling) (fs : List Access) (js : List Open) →
     Led b call u (ev_ask b call line f [] (arguments_in (nodes u) (list_at u l)) (opened fs) (state_of old out es)) r (opened fs ∷ js) (state_of new out es))
 
--- 6.5p1: a node that takes no turn begins with this operand
+-- a node that takes no turn begins with this operand
 abbrev pub BeginsWith : Stored → (node inner : NodeId) → Setting → Calling → List Access → State → Type 0
 BeginsWith u n a b call fs s =
     ev b call (expression_at u n) fs s ≡ operand (ev b call (expression_at u a)) (opened fs) s (frame_after b call u (record { node = n; stage = stage.First }))
 
--- 6.5: with the value for which a node waits
+-- with the value for which a node waits
 abbrev pub with_frame : Stored → Frame → Worth → Setting → Calling → Open → State → Res Given
 with_frame u f v b call j s = frame_after b call u f j v s
 
--- 6.5: with the value of the first operand of this node
+-- with the value of the first operand of this node
 abbrev pub with_first : Stored → NodeId → Typed → Worth → Setting → Calling → Open → State → Res Given
 with_first u n x v b call j s = first_after b call (type_of (expression_at u n)) (line_of (expression_at u n)) (form_in u.lists (nodes u) x) j v s
 
--- 6.5: with those of the first and the second
+-- with those of the first and the second
 abbrev pub with_second : Stored → NodeId → Typed → (first second : Worth) → Setting → Calling → Open → State → Res Given
 with_second u n x v w b call j s = second_after b call (type_of (expression_at u n)) (line_of (expression_at u n)) (form_in u.lists (nodes u) x) v j w s
 

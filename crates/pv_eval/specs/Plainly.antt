@@ -57,11 +57,11 @@ use Rattle.pv_eval.specs.Evaluation.{ev, ev_form}
 use Rattle.pv_eval.specs.Frames.{first_after, second_after}
 use Rattle.pv_eval.specs.Ahead.{first_operand_of, second_operand_of}
 
--- the setting of a run of the unit (5.1.1.1), with this bound, these sides and this reading of pointers to what has ended
+-- the setting of a run of the unit, with this bound, these sides and this reading of pointers to what has ended
 abbrev pub setting_by : Stored → (bound : ℕ) → (sides : Option (List Bool)) → (zap : Bool) → Setting
 setting_by u n sides zap = record { unit = whole u; types = u.known; bound = n; sides = sides; zap = zap }
 
--- the state of a run with this world, this output and these events, after so many turns (5.1.2.3)
+-- the state of a run with this world, this output and these events, after so many turns
 abbrev pub turned : World → List ℕ → List Marked → (taken : ℕ) → State
 turned w out es n = record { world = w; output = out; events = es; taken = n }
 
@@ -78,7 +78,7 @@ pub record OnlyReads (r : Res Given) (all : List Access) (v : Worth) (s : State)
   pub reads : AreReads all
   pub is : r ≡ Gives (record { value = v; all = all; loose = [] }) s
 
--- 6.5p1: from this world the expression gives this value, in as many turns as a plain expression takes, wherever it stands among
+-- from this world the expression gives this value, in as many turns as a plain expression takes, wherever it stands among
 -- expressions that only read, and whatever was printed and told before
 pub record Yields (u : Stored) (w : World) (x : TypedTree) (v : Worth) : Type 0 where
   pub turns : ℕ
@@ -88,15 +88,15 @@ pub record Yields (u : Stored) (w : World) (x : TypedTree) (v : Worth) : Type 0 
   pub only : AreReads accesses
   pub gives : (call : Calling) (bound : ℕ) (sides : Option (List Bool)) (zap : Bool) (fs : List Access) (out : List ℕ) (es : List Marked) (n : ℕ) → AreReads fs → n + turns ≤ bound
       → OnlyReads (ev (setting_by u bound sides zap) call x fs (turned w out es n)) accesses v (turned w out es (n + turns))
-  -- and where fewer turns are left, it stops behind the last of them (5.1.2.3p1)
+  -- and where fewer turns are left, it stops behind the last of them
   pub stops : (call : Calling) (bound : ℕ) (sides : Option (List Bool)) (zap : Bool) (fs : List Access) (out : List ℕ) (es : List Marked) (n : ℕ) → AreReads fs → n ≤ bound → bound < n + turns
       → ev (setting_by u bound sides zap) call x fs (turned w out es n) ≡ Stops Turns (turned w out es bound)
 
--- what a row stands for (6.5)
+-- what a row stands for
 abbrev pub form_by : Stored → Typed → Form
 form_by u x = form_in u.lists (nodes u) x
 
--- 6.5p1: a node without operands gives this value
+-- a node without operands gives this value
 pub record GivesAlone (u : Stored) (w : World) (x : Typed) (v : Worth) : Type 0 where
   pub turns : (turn : Bool) → turns_of_form turn (form_by u x) ≡ Some 1
   pub takes : (turn : Bool) → takes turn (form_by u x) ≡ true
@@ -108,7 +108,7 @@ abbrev pub turns_at : Stored → Option NodeId → Option ℕ
 turns_at u None = None
 turns_at u (Some a) = turns_of (expression_at u a)
 
--- 6.5p1: a node of this type gives this value, once its one operand has given its own
+-- a node of this type gives this value, once its one operand has given its own
 pub record GivesWith (u : Stored) (w : World) (t : Ty) (x : Typed) (first v : Worth) : Type 0 where
   pub turns : (turn : Bool) → turns_of_form turn (form_by u x) ≡ counted (takes turn (form_by u x)) (turns_at u (first_operand_of x))
   pub gives : (call : Calling) (bound : ℕ) (sides : Option (List Bool)) (zap : Bool) (line : ℕ) (fs gs : List Access) (out : List ℕ) (es : List Marked) (n : ℕ) → AreReads fs → AreReads gs
@@ -122,7 +122,7 @@ pub record GivesReading (u : Stored) (w : World) (t : Ty) (x : Typed) (first v :
   pub gives : (call : Calling) (bound : ℕ) (sides : Option (List Bool)) (zap : Bool) (line : ℕ) (fs gs : List Access) (out : List ℕ) (es : List Marked) (n : ℕ) → AreReads fs → AreReads gs
       → OnlyReads (first_after (setting_by u bound sides zap) call t line (form_by u x) (has_read fs gs) first (turned w out es n)) (gs ++ own ∷ []) v (turned w out es n)
 
--- 6.5p1: the same of a node with two operands
+-- the same of a node with two operands
 pub record GivesWithBoth (u : Stored) (w : World) (t : Ty) (x : Typed) (first second v : Worth) : Type 0 where
   pub turns : (turn : Bool) → turns_of_form turn (form_by u x) ≡ counted (takes turn (form_by u x)) (both (turns_at u (first_operand_of x)) (turns_at u (second_operand_of x)))
   pub gives : (call : Calling) (bound : ℕ) (sides : Option (List Bool)) (zap : Bool) (line : ℕ) (fs gs : List Access) (out : List ℕ) (es : List Marked) (n : ℕ) → AreReads fs → AreReads gs
@@ -162,7 +162,7 @@ pub record Performs (u : Stored) (w new : World) (x : TypedTree) (v : Worth) : T
   pub stops : (call : Calling) (bound : ℕ) (sides : Option (List Bool)) (zap : Bool) (out : List ℕ) (es : List Marked) (n : ℕ) → n ≤ bound → bound < n + turns
       → ev (setting_by u bound sides zap) call x [] (turned w out es n) ≡ Stops Turns (turned w out es bound)
 
--- an operation gives this value, tells nothing and leaves the world as it is (5.1.2.3p2), whatever the world
+-- an operation gives this value, tells nothing and leaves the world as it is, whatever the world
 abbrev pub AlwaysGives : (Setting → Op) → Worth → Type 0
 AlwaysGives op v = (b : Setting) (w : World) → does b (op b) w ≡ Answers v w quiet
 
@@ -191,7 +191,7 @@ CombinesTo x o k back v w z =
     (b : Setting) (world : World) (line : ℕ) (out : List ℕ) (es : List Marked) (n : ℕ) (go : Worth → State → Res Given)
     → then_do (act b line (Converts (Rounds k) v) (turned world out es n)) (λ v s. then_do (converted b x w s) (λ w s. then_do (combining b line o k back v w s) go)) ≡ go z (turned world out es n)
 
--- what was found, as what an expression gives (6.5p1)
+-- what was found, as what an expression gives
 abbrev pub found_worth : Found → Worth
 found_worth (found.Number n) = int n
 found_worth (found.Place p) = pointer (pointer_at p)

@@ -11,7 +11,7 @@ use Rattle.pv_eval.specs.States.{Setting}
 use Rattle.pv_eval.specs.TypeForms.{number_of, shape_of, pointed_to, alignment_by}
 use Rattle.pv_eval.specs.Conversions.{how_by}
 
--- what operations look at in the setting of a run of the unit (5.1.1.1): neither the bound nor the sides
+-- what operations look at in the setting of a run of the unit: neither the bound nor the sides
 abbrev pub setting_of : Stored → Setting
 setting_of u = record { unit = whole u; types = u.known; bound = 0; sides = None; zap = true }
 

@@ -27,22 +27,22 @@ knows T Empty = true
 knows T (Inst i) = nat_le 1 i && nat_le i (length T.instances)
 knows T (Pair k) = nat_le 1 k && nat_le k (length T.pairs)
 
--- the same of the name in a value (the memory model)
+-- what the name in a value speaks of was made (the memory model)
 abbrev pub knows_value : Table → Value → Bool
 knows_value T (PointerValue p) = knows T p.prov
 knows_value T _ = true
 
--- the same of the names in abstract bytes (the memory model)
+-- what the names in abstract bytes speak of was made (the memory model)
 abbrev pub knows_bytes : Table → List Byte → Bool
 knows_bytes T bytes = list_all (λ (x : Byte). knows T x.prov) bytes
 
--- the same of the names in what an expression gives (the memory model)
+-- what the names in what an expression gives speak of was made (the memory model)
 abbrev pub knows_worth : Table → Worth → Bool
 knows_worth T (ScalarWorth v) = knows_value T v
 knows_worth T (Whole bytes origin) = knows_bytes T bytes
 knows_worth T _ = true
 
--- the same of the names in arguments (the memory model)
+-- what the names in arguments speak of was made (the memory model)
 abbrev pub knows_arguments : Table → List Arg → Bool
 knows_arguments T args = list_all (λ (x : Arg). knows_value T x.value) args
 
@@ -55,7 +55,7 @@ abbrev pub is_integer_value : Value → Bool
 is_integer_value (PointerValue p) = false
 is_integer_value _ = true
 
--- 6.8.4.2p1: the same of what an expression gives
+-- 6.8.4.2p1: what an expression gives is an integer, if it is there and was set
 abbrev pub is_integer : Worth → Bool
 is_integer (ScalarWorth v) = is_integer_value v
 is_integer Missing = true
@@ -104,7 +104,7 @@ abbrev pub live_in : Option Instance → Bool
 live_in None = false
 live_in (Some x) = x.live
 
--- 6.2.4p2: the same of the instance with this number
+-- 6.2.4p2: the instance with this number is there and lives
 abbrev pub is_live : World → ℕ → Bool
 is_live w i = live_in (instance_at w.memory.table.instances i)
 
@@ -113,6 +113,6 @@ abbrev pub room_in : Option Instance → (offset n : ℕ) → Bool
 room_in None offset n = false
 room_in (Some x) offset n = x.live && nat_le (offset + n) x.size
 
--- 6.2.4p2: the same of the instance with this number
+-- 6.2.4p2: the instance with this number is live, and has so many bytes from an offset on
 abbrev pub has_room : World → (i offset n : ℕ) → Bool
 has_room w i offset n = room_in (instance_at w.memory.table.instances i) offset n

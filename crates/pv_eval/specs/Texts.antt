@@ -45,7 +45,7 @@ pub record Wrote (op : World → Done) (r : Result Got Fallen) (old new : World)
   pub did : Did worth_of (λ w. silent (op w)) r old new before after
   pub wrote : UnlessNoMemory r (text ≡ had ++ text_in (op old))
 
--- 5.1.2.3p2: an operation that was so made of the node in this line, where there were so many pairs before it, is done in the run,
+-- an operation that was so made of the node in this line, where there were so many pairs before it, is done in the run,
 -- whatever was written and told before
 abbrev pub Closed : (line pairs : ℕ) → (World → (World → Done) → Type 0) → (old : Moment) → Result Got Failure → (new : Moment) → Type 0
 Closed line pairs P old r new =

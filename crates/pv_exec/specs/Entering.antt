@@ -8,7 +8,7 @@ use Rattle.pv_world.specs.Worths.{is_true}
 use Rattle.pv_exec.specs.Parts.{loop_of, rounds, selected, selection_of}
 use Rattle.pv_exec.specs.Tasks.{within}
 
--- 6.8p2: what each kind of statement does behind its turn; each clause is a part of the clause of execution
+-- what each kind of statement does behind its turn; each clause is a part of the clause of execution
 abbrev pub entered : Setting → Below → TypedStatement → State → Res Flow
 entered b w (Block line os xs) s = scoped b os (λ s. exs b w xs s) s
 entered b w (Expression line x) s = nothing_done (full b w.call x s)

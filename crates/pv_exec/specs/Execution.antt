@@ -44,7 +44,7 @@ unfoldable mutual
   exs b u (MoreStatements (Declare line o) xs) s = then_do (declares b u.call o (object_at b.unit o) s) (λ fl s. exs b u xs s)
   exs b u (MoreStatements x xs) s = then_do (ex b u x s) (λ fl s. falls fl (λ s. exs b u xs s) s)
 
-  -- 6.8.4.2p4, p5: the same, from the statement with the label on; what stands before it isn't reached
+  -- 6.8.4.2p4, p5: the statements from the one with the label on; what stands before it isn't reached
   pub exs_at : Setting → Below → Target → Statements → State → Res Flow
   exs_at b u at NoStatements s = Gives Falls s
   exs_at b u at (MoreStatements x xs) s =

@@ -107,7 +107,7 @@ abbrev pub RunsOr : Stored → List Task → List Started → Result Doing Failu
 RunsOr u tasks es (Ok d) = Runs u tasks es d
 RunsOr u tasks es (Err e) = Unit {0}
 
--- the same after an operation, where the run goes on (5.1.2.3)
+-- the same after an operation, where the run goes on
 abbrev pub AfterRuns : Stored → List Task → List Started → Result After Failure → Type 0
 AfterRuns u tasks es (Ok (after.On d)) = Runs u tasks es d
 AfterRuns u tasks es (Ok (after.Ended fl)) = Unit {0}

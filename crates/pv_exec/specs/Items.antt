@@ -20,13 +20,13 @@ abbrev pub declared_in : TypedStatement → Option ℕ
 declared_in (Declare line o) = Some o
 declared_in _ = None
 
--- 6.8p2: what is left of a list from this place on
+-- what is left of a list from this place on
 abbrev pub item_does : Setting → Below → Stored → ListId → Item → State → Res Flow
 item_does b w u l item.End s = Gives Falls s
 item_does b w u l (item.Statement n i) s = then_do (ex b w (statement_at u n) s) (λ fl s. falls fl (λ s. exs b w (statements_from u l i) s) s)
 item_does b w u l (item.Stores o i) s = then_do (nothing_done (store_all b w.call o (object_at b.unit o).inits s)) (λ fl s. exs b w (statements_from u l i) s)
 
--- 6.8p2: what is left of the list from a place on, once the declarations before it were passed
+-- what is left of the list from a place on, once the declarations before it were passed
 abbrev pub ItemOr : Setting → Stored → ListId → (from : ℕ) → Result Item Failure → (old new : State) → Type 0
 ItemOr b u l i (Ok x) s s' = (w : Below) → exs b w (statements_from u l i) s ≡ item_does b w u l x s'
 ItemOr b u l i (Err e) s s' = Unit {0}

@@ -27,12 +27,12 @@ use Rattle.pv_exec.specs.Entering.{entered}
 use Rattle.pv_exec.specs.Tasks.{Reached, Left, Valued, left, after_task, after_flow, after_value}
 use Rattle.pv_exec.specs.Works.{flow_of, does, due, others, passed, Work, after_work, Standing, Holds}
 
--- 6.8p2: what is done next, of what an operation leads to
+-- what is done next, of what an operation leads to
 abbrev pub doing_in : Way → Doing
 doing_in (way.Do d) = d
 doing_in (way.With t d) = d
 
--- 6.8p2: what such a way does, at the level of what waits and at that of what is done
+-- what such a way does, at the level of what waits and at that of what is done
 abbrev pub way_means : Setting → Stored → (waits level : ℕ) → List Started → Way → State → Res Reached
 way_means b u i k es (way.Do d) s = does b u k es d s
 way_means b u i k es (way.With t d) s = then_do (does b u k es d s) (after_task b u i (others es d) t)
@@ -42,7 +42,7 @@ abbrev pub passed_by : Way → List Started → List Started
 passed_by (way.Do d) es = es
 passed_by (way.With t d) es = passed t es
 
--- 5.1.2.3: a piece of the run leads here: it is what the way does, and there are levels enough for the turns that are left
+-- a piece of the run leads here: it is what the way does, and there are levels enough for the turns that are left
 pub record Leads (b : Setting) (u : Stored) (all : Res Reached) (stand : List Started) (w : Way) (es : List Started) (s : State) : Type 0 where
   pub waits : ℕ
   pub level : ℕ
@@ -57,11 +57,11 @@ LeadsOr b u all stand (Ok w) es s = Leads b u all stand w es s
 LeadsOr b u all stand (Err (failure.Stop y line)) es s = all ≡ Stops (Stopped (wrong_for y) line) s
 LeadsOr b u all stand (Err failure.NoMemory) es s = Unit {0}
 
--- 5.1.2.3: what an operation does, whatever the level
+-- what an operation does, whatever the level
 abbrev pub Operates : Setting → Stored → List Started → Doing → Result Way Failure → List Started → State → State → Type 0
 Operates b u old d r new s s' = (k : ℕ) → s.taken ≤ b.bound → (due old d ≡ 1 → s.taken < b.bound) → b.bound < s.taken + k + due old d → LeadsOr b u (does b u k old d s) (others old d) r new s'
 
--- 5.1.2.3: a piece of the run, at any level, leads to what is done next
+-- a piece of the run, at any level, leads to what is done next
 abbrev pub Led : Stored → (Setting → (level : ℕ) → State → Res execution.Flow) → (stand : List Started) → Result Way Failure → Machine → Machine → Type 0
 Led u piece stand r old new =
     Always u old.moment (λ b out es. (k : ℕ) → b.bound < old.moment.taken + k →
@@ -79,7 +79,7 @@ tested_at u n v b k s = tested b (below b k) (loop_of (statement_at u n)) v s
 abbrev pub block_left : Stored → NodeId → execution.Flow → Setting → (level : ℕ) → State → Res execution.Flow
 block_left u n fl b k s = then_do (execution.end_all b (declared_of (statement_at u n)) s) (λ v s. Gives fl s)
 
--- 6.8p2: a statement whose turn is due
+-- a statement whose turn is due
 abbrev pub EnterLed : Stored → NodeId → Result Way Failure → Machine → Machine → Type 0
 EnterLed u n r old new =
     Always u old.moment (λ b out es. (k : ℕ) → old.moment.taken < b.bound → b.bound < old.moment.taken + k + 1 →
@@ -93,13 +93,13 @@ HoldsAfter b u all (Ok after.Valued) tasks es s = all ≡ Gives (Valued (ended e
 HoldsAfter b u all (Err (failure.Stop y line)) tasks es s = all ≡ Stops (Stopped (wrong_for y) line) s
 HoldsAfter b u all (Err failure.NoMemory) tasks es s = Unit {0}
 
--- 5.1.2.3: the same of what was followed
+-- the same of what was followed
 abbrev pub FollowedOr : Setting → Stored → Res Reached → Result Doing Failure → List Task → List Started → State → Type 0
 FollowedOr b u all (Ok d) tasks es s = Holds b u all tasks es d s
 FollowedOr b u all (Err (failure.Stop y line)) tasks es s = all ≡ Stops (Stopped (wrong_for y) line) s
 FollowedOr b u all (Err failure.NoMemory) tasks es s = Unit {0}
 
--- 6.8p2: what waits for what an operation leads to, which was not followed yet
+-- what waits for what an operation leads to, which was not followed yet
 pub record Waits (b : Setting) (u : Stored) (all : Res Reached) (tasks : List Task) (stand : List Started) (next : Res Reached) (s : State) : Type 0 where
   pub works : List Work
   pub same : map (λ (w : Work). w.task) works ≡ reverse tasks
@@ -108,7 +108,7 @@ pub record Waits (b : Setting) (u : Stored) (all : Res Reached) (tasks : List Ta
   pub rooms : All (λ (w : Work). b.bound < s.taken + w.level) works
   pub most : s.taken ≤ b.bound
 
--- 6.8p2: the same where the last task is reached
+-- the same where the last task is reached
 pub record Popped (b : Setting) (u : Stored) (all : Res Reached) (ts : List Task) (t : Task) (es : List Started) (r : Reached) (s : State) : Type 0 where
   pub level : ℕ
   pub room : b.bound < s.taken + level
@@ -120,13 +120,13 @@ ValueLed u t r old new =
     Always u old.moment (λ b out es. (k : ℕ) → old.moment.taken ≤ b.bound → b.bound < old.moment.taken + k →
     LeadsOr b u (after_value b u k t (ended old.started) (state_of old.moment out es)) (after_first old.started) r new.started (state_of new.moment out es))
 
--- 6.8p2, 6.8.6p2: the same with how a statement was left
+-- 6.8.6p2: the same with how a statement was left
 abbrev pub FlowLed : Stored → Task → Flow → Result Way Failure → Machine → Machine → Type 0
 FlowLed u t fl r old new =
     Always u old.moment (λ b out es. (k : ℕ) → old.moment.taken ≤ b.bound → b.bound < old.moment.taken + k →
     LeadsOr b u (after_flow b u k old.started t (flow_of fl) (state_of old.moment out es)) (passed t old.started) r new.started (state_of new.moment out es))
 
--- 5.1.2.3: what an operation leads to
+-- what an operation leads to
 abbrev pub DoingLed : Stored → Doing → Result Way Failure → Machine → Machine → Type 0
 DoingLed u d r old new = Always u old.moment (λ b out es. Operates b u old.started d r new.started (state_of old.moment out es) (state_of new.moment out es))
 
@@ -136,7 +136,7 @@ TaskLed u t r old new =
     Always u old.moment (λ b out es. (k : ℕ) → old.moment.taken ≤ b.bound → b.bound < old.moment.taken + k →
     LeadsOr b u (after_task b u k (after_first old.started) t (Valued (ended old.started)) (state_of old.moment out es)) (passed t (after_first old.started)) r new.started (state_of new.moment out es))
 
--- 5.1.2.3p1: what one operation leads to, where it takes no turn beyond the bound
+-- what one operation leads to, where it takes no turn beyond the bound
 abbrev pub OnceLed : Stored → Doing → Result After Failure → (before behind : List Task) → Machine → Machine → Type 0
 OnceLed u d r ts ts' old new =
     Always u old.moment (λ b out es. (all : Res Reached) → (due old.started d ≡ 1 → old.moment.taken < b.bound) →

@@ -22,7 +22,7 @@ goes_on doing.Evaluate = true
 goes_on (doing.Left fl) = false
 goes_on doing.Evaluated = false
 
--- 5.1.2.3p1: how many operations come before the next turn at most, with so many tasks that wait
+-- how many operations come before the next turn at most, with so many tasks that wait
 abbrev pub doing_ops : List Started → Doing → ℕ → ℕ
 doing_ops es (doing.Enter n) k = 0
 doing_ops es (doing.Jump n l i) k = 0
@@ -34,19 +34,19 @@ doing_ops es (doing.Left fl) k = 4 * k + 1
 doing_ops es doing.Evaluate k = if nat_eq (due_turns es) 0 then 4 * k + 4 else 0
 doing_ops es doing.Evaluated k = 4 * k + 1
 
--- 5.1.2.3p1: the same of what an operation leads to
+-- the same of what an operation leads to
 abbrev pub way_ops : List Started → Way → ℕ → ℕ
 way_ops es (way.Do d) k = doing_ops es d k
 way_ops es (way.With t d) k = doing_ops es d (k + 1)
 
--- 5.1.2.3p1: the same operations are left once a way was followed
+-- the same operations are left once a way was followed
 abbrev pub FollowedPace : List Started → Result Way Failure → ℕ → Result Doing Failure → ℕ → Type 0
 FollowedPace es (Ok w) k (Ok d) j = doing_ops es d j ≡ way_ops es w k
 FollowedPace es (Ok w) k (Err e) j = Unit {0}
 FollowedPace es (Err x) k (Ok d) j = ⊥
 FollowedPace es (Err x) k (Err e) j = Unit {0}
 
--- 5.1.2.3p1: fewer operations are left
+-- fewer operations are left
 abbrev pub AfterPace : (before : ℕ) → Result After Failure → List Task → List Started → Type 0
 AfterPace n (Ok (after.On d)) tasks es = doing_ops es d (length tasks) < n
 AfterPace n (Ok (after.Ended fl)) tasks es = Unit {0}

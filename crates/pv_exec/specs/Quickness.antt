@@ -26,7 +26,7 @@ abbrev pub QuickOr : List Started → Result Way Failure → Type 0
 QuickOr es (Ok w) = Quick es w
 QuickOr es (Err e) = Unit {0}
 
--- what is done next is the end of a statement (6.8p2) or of an expression (6.8p4), or takes a turn (5.1.2.3p1)
+-- what is done next is the end of a statement (6.8p2) or of an expression (6.8p4), or takes a turn
 abbrev pub EndsNow : List Started → Doing → Type 0
 EndsNow es (doing.Enter n) = Unit {0}
 EndsNow es (doing.Jump n l i) = Unit {0}
@@ -38,7 +38,7 @@ EndsNow es (doing.Left fl) = Unit {0}
 EndsNow es doing.Evaluate = due_turns es ≡ 1
 EndsNow es doing.Evaluated = Unit {0}
 
--- one that ends a statement (6.8p2) or an expression (6.8p4), or where a turn is due (5.1.2.3p1)
+-- one that ends a statement (6.8p2) or an expression (6.8p4), or where a turn is due
 abbrev pub Ends : List Started → Way → Type 0
 Ends es (way.Do d) = EndsNow es d
 Ends es (way.With t d) = due es d ≡ 1

@@ -36,12 +36,12 @@ pub record KeepsApart (bytes : List ℕ) (old new : Moment) : Type 0 where
   pub total : (taken : ℕ) → Follows old taken → Follows new (taken + length bytes)
   pub sides : new.sides ≡ old.sides
 
--- how the whole that was asked for ended (5.1.2.3); where it could not go on, what has left is a first part of what leaves it in all
+-- how the whole that was asked for ended; where it could not go on, what has left is a first part of what leaves it in all
 abbrev pub LastOr : Res Reached → Result Last Undelivered → Machine → List ℕ → List Marked → Type 0
 LastOr all (Ok l) m out es = LastIs all l m.started (state_of m.moment out es)
 LastOr all (Err e) m out es = Begins out es (end_of all)
 
--- under this bound (5.1.2.3p1) the statements are cut off in this state, whatever was asked for with them
+-- under this bound the statements are cut off in this state, whatever was asked for with them
 abbrev pub StatementsCut : Setting → Stored → Doing → Machine → (bound : ℕ) → State → Type 0
 StatementsCut b u d old n s = (all : Res Reached) → Holds (bounded b n) u all [] old.started d (state_of old.moment [] []) → all ≡ Stops Turns s
 
@@ -89,11 +89,11 @@ ends_call b f line fl s = then_do (end_all b (function_at b.unit f).params s) (�
 abbrev pub EndLed : Stored → (function : ℕ) → Flow → Ended → Machine → Machine → Type 0
 EndLed u f fl r old new = Always u old.moment (λ b out es. (line : ℕ) → EndedIs (ends_call b f line fl (state_of old.moment out es)) r new.moment out es)
 
--- under this bound (5.1.2.3p1) a piece of the run is cut off in this state
+-- under this bound a piece of the run is cut off in this state
 abbrev pub PieceCut : Setting → (piece : Setting → State → Res Worth) → Machine → (bound : ℕ) → State → Type 0
 PieceCut b piece old n s = piece (bounded b n) (state_of old.moment [] []) ≡ Stops Turns s
 
--- how a piece of the run ended (5.1.2.3), with what has left the run meanwhile (5.1.2.3p6)
+-- how a piece of the run ended, with what has left the run meanwhile (5.1.2.3p6)
 pub record PieceLed (u : Stored) (before now : Outlet) (n : ℕ) (piece : Setting → State → Res Worth) (r : Ended) (old new : Machine) : Type 0 where
   pub bytes : List ℕ
   pub events : List Marked

@@ -11,7 +11,7 @@ use Rattle.pv_exec.specs.declared.delivering.Undelivered.TheVariants as undelive
 use Rattle.pv_exec.specs.Run.{first}
 use Rattle.pv_exec.specs.Laws.{run_at}
 
--- 5.1.2p1, 5.1.2.3p1: the run in stages: nothing is printed or told yet; then all that comes before the first turn was done; then one
+-- 5.1.2p1: the run in stages: nothing is printed or told yet; then all that comes before the first turn was done; then one
 -- turn more in each, with what comes before the next one
 abbrev pub stage_of : Stored → Option (List Bool) → (zap : Bool) → List ScriptLine → ℕ → State
 stage_of u sides zap script zero = first script zap
@@ -29,15 +29,15 @@ pub record LetOut (stage : ℕ → State) (taken : ℕ) (written : List ℕ) (ev
   pub before : length (stage stages).output < 4096 * blocks + 4096
   pub next : (taken ≤ stages) ⊎ (4096 * blocks + 4096 ≤ length (stage (suc stages)).output)
 
--- a setting (5.1.2.3p1) with another bound
+-- a setting with another bound
 abbrev pub bounded : Setting → (bound : ℕ) → Setting
 bounded b n = record b { bound = n }
 
--- 5.1.2.3: an event that came when at most so many bytes were printed
+-- an event that came when at most so many bytes were printed
 abbrev pub IsBehind : (printed : ℕ) → Marked → Type 0
 IsBehind n m = m.mark ≤ n
 
--- these are the stages of a run that is cut off so, by its bound (5.1.2.3p1)
+-- these are the stages of a run that is cut off so, by its bound
 pub record IsStaged (Cut : (bound : ℕ) → State → Type 0) (stage : ℕ → State) : Type 0 where
   pub output : (stage zero).output ≡ []
   pub events : (stage zero).events ≡ []
@@ -51,7 +51,7 @@ pub record Stands (stage : ℕ → State) (stages : ℕ) (bytes : List ℕ) (eve
   pub told : events ≡ (stage stages).events
   pub few : length (stage stages).output < length bytes + 4096
 
--- the same, of the last stage but one (5.1.2.3p1) of what took so many turns
+-- the same, of the last stage but one of what took so many turns
 pub record StandsLast (stage : ℕ → State) (taken : ℕ) (bytes : List ℕ) (events : List Marked) : Type 0 where
   pub stages : ℕ
   pub stands : Stands stage stages bytes events

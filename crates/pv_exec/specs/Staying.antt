@@ -18,7 +18,7 @@ pub record StaysAs (x y : Instance) : Type 0 where
   pub lived : y.live ≡ true → x.live ≡ true
   pub exposed : x.exposed ≡ true → y.exposed ≡ true
 
--- 6.2.4p2: the same of the instances with one number, if there was one
+-- 6.2.4p2: the instance with a number, if there was one, is there still, and stays as it was
 abbrev pub Remains : Option Instance → Option Instance → Type 0
 Remains None o = Unit {0}
 Remains (Some x) None = ⊥
@@ -39,7 +39,7 @@ pub record SettlesFrom (t u : Twin) : Type 0 where
   pub keeps_low : u.keeps_low ≡ true → t.keeps_low ≡ true
   pub keeps_high : u.keeps_high ≡ true → t.keeps_high ≡ true
 
--- the memory model: the same of the pairs with one number, if there was one
+-- the memory model: the pair with a number, if there was one, is there still, and keeps none again that it has dropped
 abbrev pub Settles : Option Twin → Option Twin → Type 0
 Settles None o = Unit {0}
 Settles (Some t) None = ⊥

@@ -22,12 +22,12 @@ use Rattle.pv_exec.specs.Execution.{exs}
 use Rattle.pv_exec.specs.Calls.{below, value_by}
 use Rattle.pv_exec.specs.Parts.{Loop, loop_of, rounds, rounded, tested, do_of, rounded_do, tested_do, choice_of, chosen, selection_of, selected}
 
--- what is handed to a task: how a statement was left (6.8p2, 6.8.6p2), or the value of an expression (6.8p4)
+-- what is handed to a task: how a statement was left (6.8.6p2), or the value of an expression (6.8p4)
 pub data Reached : Type 0 where
   Left : Flow → Reached
   Valued : Worth → Reached
 
--- 6.8p2, 6.8.6p2: how a statement was left is handed on
+-- 6.8.6p2: how a statement was left is handed on
 abbrev pub left : Res Flow → Res Reached
 left r = then_do r (λ fl s. Gives (Left fl) s)
 
@@ -65,7 +65,7 @@ abbrev pub within : Setting → Below → Option Statements → Loop → State �
 within b w (Some ds) l s = then_do (exs b w ds s) (λ fl s. falls fl (rounds b w l) s)
 within b w None l s = Gives Falls s
 
--- 6.8p2, 6.8.6p2: with how a statement was left, beside the expressions that wait
+-- 6.8.6p2: with how a statement was left, beside the expressions that wait
 unfoldable pub after_flow : Setting → Stored → (level : ℕ) → List Started → Task → Flow → State → Res Reached
 after_flow b u k es (task.InList l i) fl s = left (falls fl (λ s. exs b (below b k) (statements_from u l i) s) s)
 after_flow b u k es (task.InBlock n) fl s = left (then_do (end_all b (declared_of (statement_at u n)) s) (λ v s. Gives fl s))

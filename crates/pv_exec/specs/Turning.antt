@@ -21,20 +21,20 @@ use Rattle.pv_exec.specs.Works.{flow_of, due, others, Holds}
 use Rattle.pv_exec.specs.Leading.{HoldsAfter}
 use Rattle.pv_exec.specs.Fits.{Runs, DoingFits}
 
--- 5.1.2.3p1: what operations that take no turn lead to
+-- what operations that take no turn lead to
 abbrev pub SettledLed : Stored → Doing → Result After Failure → (before behind : List Task) → Machine → Machine → Type 0
 SettledLed u d r ts ts' old new =
     Always u old.moment (λ b out es. (all : Res Reached) →
     Holds b u all ts old.started d (state_of old.moment out es) → HoldsAfter b u all r ts' new.started (state_of new.moment out es))
 
--- 5.1.2.3p1: a turn is due
+-- a turn is due
 abbrev pub DueAfter : List Started → Result After Failure → Type 0
 DueAfter es (Ok (after.On d)) = due es d ≡ 1
 DueAfter es (Ok (after.Ended fl)) = Unit {0}
 DueAfter es (Ok after.Valued) = Unit {0}
 DueAfter es (Err e) = Unit {0}
 
--- 5.1.2.3p1: what an operation came to, as the loop over turns has it
+-- what an operation came to, as the loop over turns has it
 abbrev pub advanced_by : Result After Failure → Advanced
 advanced_by (Ok (after.On d)) = advance.On d
 advanced_by (Ok (after.Ended fl)) = advance.Last (last.Left fl)
@@ -42,14 +42,14 @@ advanced_by (Ok after.Valued) = advance.Last last.Valued
 advanced_by (Err (failure.Stop y line)) = advance.Last (last.Stop y line)
 advanced_by (Err failure.NoMemory) = advance.NoMemory
 
--- 5.1.2.3: how the whole that was asked for ended
+-- how the whole that was asked for ended
 abbrev pub LastIs : Res Reached → Last → List Started → State → Type 0
 LastIs all (last.Left fl) es s = all ≡ Gives (Left (flow_of fl)) s
 LastIs all last.Valued es s = all ≡ Gives (Valued (ended es)) s
 LastIs all last.Turns es s = all ≡ Stops Turns s
 LastIs all (last.Stop y line) es s = all ≡ Stops (Stopped (wrong_for y) line) s
 
--- 5.1.2.3: what a turn leads to: where the run goes on, under whatever bound allows the turn, else where this is the bound
+-- what a turn leads to: where the run goes on, under whatever bound allows the turn, else where this is the bound
 abbrev pub AdvancedLed : Stored → (bound : ℕ) → Doing → Advanced → (before behind : List Task) → Machine → Machine → Type 0
 AdvancedLed u n d (advance.On e) ts ts' old new =
     Always u old.moment (λ b out es. (all : Res Reached) → new.moment.taken ≤ b.bound →
@@ -59,13 +59,13 @@ AdvancedLed u n d (advance.Last l) ts ts' old new =
     Holds b u all ts old.started d (state_of old.moment out es) → LastIs all l new.started (state_of new.moment out es))
 AdvancedLed u n d advance.NoMemory ts ts' old new = Unit {0}
 
--- where the run goes on, what waits names what is there (6.8), and another turn is due (5.1.2.3p1)
+-- where the run goes on, what waits names what is there (6.8), and another turn is due
 abbrev pub AdvancedRuns : Stored → List Task → List Started → Advanced → Type 0
 AdvancedRuns u ts es (advance.On d) = Runs u ts es d × Fit u es × (due es d ≡ 1)
 AdvancedRuns u ts es (advance.Last l) = Unit {0}
 AdvancedRuns u ts es advance.NoMemory = Unit {0}
 
--- 5.1.2.3p1: where the run goes on, turns were taken, within the bound
+-- where the run goes on, turns were taken, within the bound
 abbrev pub AdvancedPace : (bound before behind : ℕ) → Advanced → Type 0
 AdvancedPace n k k' (advance.On d) = (k < k') × (k' ≤ n)
 AdvancedPace n k k' (advance.Last l) = Unit {0}
@@ -77,13 +77,13 @@ AtOnceLed u d e ts old new =
     Always u old.moment (λ b out es. (all : Res Reached) → new.moment.taken ≤ b.bound →
     Holds b u all ts old.started d (state_of old.moment out es) → Holds b u all ts new.started e (state_of new.moment out es))
 
--- 5.1.2.3p1: and under each bound that is met before the turns that were taken, the run stops there, and nothing else has changed
+-- and under each bound that is met before the turns that were taken, the run stops there, and nothing else has changed
 abbrev pub CutBefore : Stored → Doing → List Task → Machine → Machine → Type 0
 CutBefore u d ts old new =
     Always u old.moment (λ b out es. (all : Res Reached) → old.moment.taken ≤ b.bound → b.bound < new.moment.taken →
     Holds b u all ts old.started d (state_of old.moment out es) → all ≡ Stops Turns (state_of (record old.moment { taken = b.bound }) out es))
 
--- 6.8p4, 5.1.2.3p1: what is due came to this with all its turns, which are within the bound, and what waits names what is there
+-- 6.8p4: what is due came to this with all its turns, which are within the bound, and what waits names what is there
 pub record ComesAtOnce (u : Stored) (n : ℕ) (d e : Doing) (old new : Machine) : Type 0 where
   pub led : (ts : List Task) → AtOnceLed u d e ts old new
   pub cut : (ts : List Task) → CutBefore u d ts old new

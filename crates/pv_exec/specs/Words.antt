@@ -9,12 +9,12 @@ use Rattle.pv_eval.specs.declared.marked.Marked.{Marked}
 abbrev pub IsWord : ℕ → Type 0
 IsWord n = n < 2 ^ 64
 
--- the same of one that may be left out
+-- the memory model: a number that may be left out, and that 64 bits can say if it isn't
 abbrev pub IsWordIf : Option ℕ → Type 0
 IsWordIf None = Unit {0}
 IsWordIf (Some n) = IsWord n
 
--- the same of each number of what happened (the memory model)
+-- the memory model: each number of what happened is one that 64 bits can say
 abbrev pub FitsWhat : What → Type 0
 FitsWhat (what.Made inst name k base size) = IsWord inst × IsWord k × IsWord base × IsWord size
 FitsWhat (what.Ended inst) = IsWord inst

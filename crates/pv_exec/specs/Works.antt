@@ -28,7 +28,7 @@ flow_of flow.Breaks = execution.Breaks
 flow_of flow.Continues = execution.Continues
 flow_of (flow.Returns v) = execution.Returns (worth_of v)
 
--- 6.8p2: what is done now, at its level, with the expressions that were started
+-- what is done now, at its level, with the expressions that were started
 unfoldable pub does : Setting → Stored → (level : ℕ) → List Started → Doing → State → Res Reached
 does b u k es (doing.Enter n) s = left (ex b (below b k) (statement_at u n) s)
 does b u k es (doing.Jump n l i) s = left (tick b s (λ s. scoped b (declared_of (statement_at u n)) (λ s. exs b (below b k) (statements_from u l i) s) s))
@@ -40,7 +40,7 @@ does b u k es (doing.Left fl) s = Gives (Left (flow_of fl)) s
 does b u k es doing.Evaluate s = then_do (left_of b (below b k).call u es s) (λ g s. Gives (Valued g.value) s)
 does b u k es doing.Evaluated s = Gives (Valued (ended es)) s
 
--- 5.1.2.3p1: one where a turn is due
+-- one where a turn is due
 abbrev pub due : List Started → Doing → ℕ
 due es (doing.Enter n) = 1
 due es (doing.Jump n l i) = 1
@@ -93,7 +93,7 @@ pub record Work : Type 0 where
   pub task : Task
   pub waiting : List Started
 
--- 6.8p2: what a task does at its level
+-- what a task does at its level
 unfoldable pub after_work : Setting → Stored → Work → Reached → State → Res Reached
 after_work b u w r s = after_task b u w.level w.waiting w.task r s
 
@@ -102,7 +102,7 @@ abbrev pub Standing : List Work → List Started → Type 0
 Standing [] es = Unit {0}
 Standing (w ∷ ws) es = (w.waiting ≡ es) × Standing ws (passed w.task es)
 
--- 5.1.2.3: the run that is to come, from the tasks that wait, the innermost last, and from what is done now
+-- the run that is to come, from the tasks that wait, the innermost last, and from what is done now
 pub record Holds (b : Setting) (u : Stored) (all : Res Reached) (tasks : List Task) (es : List Started) (d : Doing) (s : State) : Type 0 where
   pub works : List Work
   pub level : ℕ

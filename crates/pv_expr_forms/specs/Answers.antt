@@ -5,7 +5,7 @@ use Rattle.pv_tree.specs.declared.nodes.NodeId.{NodeId}
 use Rattle.pv_tree.specs.Tables.{Forest, Tables, expression_at, is_expression, Is}
 use Rattle.pv_expr_forms.specs.Reader.{Read}
 
--- what is found with a place behind it, if anything is, is what reading on lists gives (6.5), and the place is among the tokens
+-- what is found with a place behind it, if anything is, is what reading on lists gives, and the place is among the tokens
 abbrev pub IsFound : {A : Type 0} → List Token → Option (A × ℕ) → Option (A × List Token) → Type 0
 IsFound tokens answer reading = MatchOption answer (reading ≡ None) (λ x. (reading ≡ Some (x.0, drop x.1 tokens)) × (x.1 ≤ length tokens))
 
@@ -13,7 +13,7 @@ IsFound tokens answer reading = MatchOption answer (reading ≡ None) (λ x. (re
 abbrev pub IsBehind : List Token → Option ℕ → Option (List Token) → Type 0
 IsBehind tokens answer reading = MatchOption answer (reading ≡ None) (λ next. (reading ≡ Some (drop next tokens)) × (next ≤ length tokens))
 
--- a node's number and a place, as a tree (6.5) and the tokens from there
+-- a node's number and a place, as a tree and the tokens from there
 abbrev pub seen : Forest → List Token → Option (NodeId × ℕ) → Read
 seen f tokens None = None
 seen f tokens (Some x) = Some (expression_at f x.0, drop x.1 tokens)

@@ -16,11 +16,11 @@ use Rattle.pv_expr_forms.specs.declared.follows.Follow.{Follow}
 use Rattle.pv_expr_forms.specs.declared.follows.Follow.TheVariants as follow
 use Rattle.pv_expr_forms.specs.Follows.{prefix_of, prefix_operand, prefixed, join_right, joined, follow_of, follow_rank, follow_left}
 
--- what reading gives: a tree (6.5), and the tokens behind it
+-- what reading gives: a tree, and the tokens behind it
 abbrev pub Read : Type 0
 Read = Option (ExpressionTree × List Token)
 
--- reads a tree of a level (6.5)
+-- reads a tree of a level
 abbrev pub Reads : Type 0
 Reads = ℕ → List Token → Read
 
@@ -205,12 +205,12 @@ grown names read level below left ts = grown_for (suc below) names read level be
 
 -- ---- all of it
 
--- one level of depth more (5.2.4.1)
+-- one level of depth more
 unfoldable pub deeper : Names → Reads → (below : ℕ) → Reads
 deeper names read below level ts =
     option_and_then (λ x. if nat_le level (rank x.0) then Some (grown names read level below x.0 x.1) else None) (head names read below ts)
 
--- the longest tree of a level (6.5), of at most so much depth (5.2.4.1)
+-- the longest tree of a level, of at most so much depth
 unfoldable pub read : Names → (depth : ℕ) → Reads
 read names zero level ts = None
 read names (suc below) level ts = deeper names (read names below) below level ts

@@ -27,11 +27,11 @@ pub record IsReady {R : Type 0} (types : R → TypeMap) (source : Source R) (u :
 abbrev pub tokens_from : {R : Type 0} → Source R → (at : ℕ) → List Token
 tokens_from source at = drop at source.tokens.now.tokens
 
--- something is read (6.5, 6.7, 6.8, 6.9): older nodes stay, and what is answered is so, unless memory is wanting
+-- something is read (6.7, 6.8, 6.9): older nodes stay, and what is answered is so, unless memory is wanting
 pub record ReadsInto {A E : Type 0} (u v : Tables) (result : Result A E) (IsAnswer : A → Type 0) : Type 0 where
   pub keeps : Extends u v
   pub answer : IfOk result IsAnswer
 
--- the expression (6.5) that is read from a place on is what reading on lists gives
+-- the expression that is read from a place on is what reading on lists gives
 abbrev pub ReadsFrom : {R E : Type 0} → Source R → (at : ℕ) → (u v : Tables) → Result (Option (NodeId × ℕ)) E → (List Token → Read) → Type 0
 ReadsFrom source at u v result reading = ReadsInto u v result (λ r. Answers v source.tokens.now.tokens r (reading (tokens_from source at)))

@@ -16,7 +16,7 @@ pub record IsFair (T : Table) (x : Byte) : Type 0 where
   pub named : IsMadeIn T x.prov
   pub high : (i v : ℕ) → is_empty x.prov ≡ false → x.index ≡ Some i → x.value ≡ Some v → 6 ≤ i → v ≡ 0
 
--- the same of all abstract bytes (the memory model)
+-- each abstract byte of a store is fair (the memory model)
 abbrev pub AreFair : Table → Store → Type 0
 AreFair T m = (a : ℕ) (x : Byte) → get m a ≡ Some x → IsFair T x
 
@@ -24,7 +24,7 @@ AreFair T m = (a : ℕ) (x : Byte) → get m a ≡ Some x → IsFair T x
 abbrev pub IsFairPointer : Table → Pointer → Type 0
 IsFairPointer T p = IsMadeIn T p.prov × (is_empty p.prov ≡ false → p.address < 2 ^ 48)
 
--- the same of a scalar (the memory model)
+-- a scalar that is a pointer is a fair one (the memory model)
 abbrev pub IsFairValue : Table → Value → Type 0
 IsFairValue T (PointerValue p) = IsFairPointer T p
 IsFairValue T (IntValue n) = Unit {0}

@@ -20,7 +20,7 @@ abbrev pub GivesSound : {A : Type 0} → Setting → (automatic : List ℕ) → 
 GivesSound b os worth t w (Gives a s) = Value b s.world t (worth a) × IsSound b os s.world × IsAfter w s.world
 GivesSound b os worth t w (Stops y s) = Unit {0}
 
--- the same of an operation on a world (6.3, 6.5)
+-- where an operation on a world gives something (6.3, 6.5), its value is of this type, and the world after it is later, and sound
 abbrev pub AnswersSound : Setting → (automatic : List ℕ) → Ty → (before : World) → Done → Type 0
 AnswersSound b os t w (Answers v z told) = Value b z t v × IsSound b os z × IsAfter w z
 AnswersSound b os t w (Fails y p z told) = Unit {0}

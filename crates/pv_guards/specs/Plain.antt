@@ -26,6 +26,6 @@ plainly b (PutsText o offset size l) w = puts_bytes o (object_at b.unit o).lasti
 -- no other operation asks for more than suiting operands
 plainly b op w = works b op w
 
--- the same in the state of a run (5.1.2.3)
+-- what an operation does without its guards in the state of a run (5.1.2.3), for the node in this line
 abbrev pub act_plainly : Setting → (line : ℕ) → Op → State → Res Worth
 act_plainly b line op s = acted b line (plainly b op s.world) s

@@ -50,7 +50,7 @@ abbrev pub store_statics : Setting → (object : ℕ) → List Store → State �
 store_statics b o [] s = Gives Nothing s
 store_statics b o (x ∷ xs) s = then_do (store_static b o x x.what s) (λ v s. store_statics b o xs s)
 
--- 5.1.2p1, 6.7.9p4: the same of all static objects
+-- 5.1.2p1, 6.7.9p4: all stores of all static objects, in their order
 abbrev pub initialize_statics : Setting → List ℕ → State → Res Worth
 initialize_statics b [] s = Gives Nothing s
 initialize_statics b (o ∷ os) s = then_do (store_statics b o (object_at b.unit o).inits s) (λ v s. initialize_statics b os s)

@@ -19,7 +19,7 @@ use Rattle.pv_guards.specs.Fair.{IsFair, AreFair, IsFairValue}
 use Rattle.pv_guards.specs.Worths.{IsOfType, IsThere}
 use Rattle.pv_guards.specs.Typed.{HasBody, IsInScope, IsIn}
 
--- the same of what an expression gives (the memory model)
+-- what an expression gives is fair: a scalar, or each of its bytes (the memory model)
 abbrev pub IsFairWorth : Table → Worth → Type 0
 IsFairWorth T (Scalar v) = IsFairValue T v
 IsFairWorth T (Whole bytes origin) = Each (IsFair T) bytes
@@ -76,14 +76,14 @@ pub record LivesStill (x y : Instance) : Type 0 where
   pub kind : y.kind ≡ x.kind
   pub live : is_heap x.kind ≡ false → x.live ≡ true → y.live ≡ true
 
--- 6.2.4p2: the same of the instances with one number, if there was one; a new one is none of a function (6.3.2.1p4)
+-- 6.2.4p2: the instance with a number, if there was one, lives so still; a new one is none of a function (6.3.2.1p4)
 abbrev pub LiveStill : Option Instance → Option Instance → Type 0
 LiveStill None None = Unit {0}
 LiveStill None (Some y) = is_function y.kind ≡ false
 LiveStill (Some x) None = ⊥
 LiveStill (Some x) (Some y) = LivesStill x y
 
--- 6.2.4p2: the same of all instances
+-- 6.2.4p2: the instance with each number lives so still
 abbrev pub AllLiveStill : Table → Table → Type 0
 AllLiveStill T U = (i : ℕ) → LiveStill (instance_at T.instances i) (instance_at U.instances i)
 

@@ -98,7 +98,7 @@ pointee_type t = if is_void t then VoidTy else t
 abbrev pub AreLike : Ty → Ty → Type 0
 AreLike t u = (env : List Entry) (v : Worth) → IsOfType env t v ↔ IsOfType env u v
 
--- 6.2.7p3, 6.7.6.3p15: the same of parameters
+-- 6.2.7p3, 6.7.6.3p15: parameters, each of which has the values of its counterpart
 abbrev pub AreAllLike : Tys → Tys → Type 0
 AreAllLike NoTys NoTys = Unit {0}
 AreAllLike (MoreTys t ts) (MoreTys u us) = AreLike t u × AreAllLike ts us

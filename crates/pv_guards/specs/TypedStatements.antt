@@ -35,7 +35,7 @@ AreNew (d ∷ ds) os = (IsIn d (ds ++ os) → ⊥) × AreNew ds os
 abbrev pub IsCondition : WholeUnit → (automatic : List ℕ) → TypedTree → Type 0
 IsCondition u os x = IsTyped u os x × HasValue x (type_of x) × IsScalarType (type_of x)
 
--- the same, where it is not left out (6.8.5.3p2)
+-- a controlling expression, or none where it may be left out (6.8.5.3p2)
 abbrev pub MayBeCondition : WholeUnit → (automatic : List ℕ) → Option TypedTree → Type 0
 MayBeCondition u os None = Unit {0}
 MayBeCondition u os (Some x) = IsCondition u os x

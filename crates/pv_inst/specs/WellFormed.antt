@@ -25,7 +25,7 @@ Meet (Some x) (Some y) = (x.exposed ≡ true) × (y.exposed ≡ true) × (x.base
 Meet (Some x) None = ⊥
 Meet None o = ⊥
 
--- the memory model: the same of two numbers of instances
+-- the memory model: the instances with these numbers are exposed, and the high one begins where the low one ends
 abbrev pub AreMet : List Instance → ℕ → ℕ → Type 0
 AreMet xs low high = Meet (instance_at xs low) (instance_at xs high)
 

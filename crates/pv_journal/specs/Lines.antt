@@ -48,6 +48,6 @@ AreNamed names (Pair pair address low high) = IsNamed names low × IsNamed names
 AreNamed names (Used pair test first second) = IsNamed names first × IsNamedIf names second
 AreNamed names Fault = Unit {0}
 
--- the memory model: the same of a line with its turn (5.1.2.3)
+-- the memory model: the same of a line with its turn
 abbrev pub IsLineNamed : List (List ℕ) → Line → Type 0
 IsLineNamed names line = AreNamed names line.what

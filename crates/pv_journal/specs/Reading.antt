@@ -77,7 +77,7 @@ ids_of [] = None
 abbrev pub ids_behind : List ℕ → List ℕ → Option (Id × Option Id)
 ids_behind word text = option_and_then (λ left. ids_of (slice_split (λ b. b == 44) left)) (behind word text)
 
--- docs/FORMATS.md, Journals (the memory model): what a line says, with its turn (5.1.2.3)
+-- docs/FORMATS.md, Journals (the memory model): what a line says, with its turn
 abbrev pub at_turn : List ℕ → Option Fact → Option Row
 at_turn turn fact = option_and_then (λ f. option_map (λ t. record { turn = t; says = f }) (number_behind (codes "turn=") turn)) fact
 

@@ -53,7 +53,7 @@ greatest k = if is_signed k then pos (modulus_of k / 2 - 1) else pos (modulus_of
 abbrev pub Fits : IntKind → ℤ → Type 0
 Fits k n = (least k ≤ℤ n) × (n ≤ℤ greatest k)
 
--- 6.2.5: the same as a test
+-- 6.2.5: whether n is a member of the kind
 abbrev pub fits_of : IntKind → ℤ → Bool
 fits_of k n = int_le (least k) n && int_le n (greatest k)
 

@@ -17,7 +17,7 @@ pub record IsInLive (T : Table) (a : ℕ) : Type 0 where
   pub from : inst.base ≤ a
   pub before : a < inst.base + inst.size
 
--- 6.2.4p2, 6.2.6.1p2: the addresses that have bytes are exactly those in live instances; and the provenance names in bytes were made
+-- 6.2.4p2: the addresses that have bytes are exactly those in live instances; and the provenance names in bytes were made
 pub record HasLiveBytes (T : Table) (b : Store) : Type 0 where
   pub there : (i : ℕ) (x : Instance) → instance_at T.instances i ≡ Some x → x.live ≡ true → HasBytes b x.base x.size
   pub only : (a : ℕ) → IsSome (get b a) → IsInLive T a

@@ -8,7 +8,7 @@ use Rattle.pv_replay.specs.Words.{Job, Write, Check, files_of}
 use Rattle.pv_replay.specs.Answers.{IsWritten, IsReply}
 use Rattle.pv_replay.specs.Obeying.{IsRunJournal}
 
--- docs/FORMATS.md, Journals (5.1.2.3): the reply is that to the run of a source, and where its status is 0 (7.22.4.4p5), a journal of lines that obey
+-- docs/FORMATS.md, Journals: the reply is that to the run of a source, and where its status is 0 (7.22.4.4p5), a journal of lines that obey
 pub record IsRunReply (source script : List ℕ) (bound : ℕ) (reply : Reply) : Type 0 where
   pub written : IsWritten source script bound reply
   pub journal : reply.status ≡ 0 → IsRunJournal source script bound reply.text
@@ -22,7 +22,7 @@ IsObeyed (Check file) held reply = Unit {0}
 abbrev pub TextServed : (IsOwed : Reply → Type 0) (report : Sunk) (status : ℕ) → Type 0
 TextServed IsOwed report status = JobReplied IsOwed ⊥ report status
 
--- docs/FORMATS.md, Journals: what came of a job (5.1.2.3): it got a reply; a file could not be read (7.21.8.1p3); or there was no memory
+-- docs/FORMATS.md, Journals: what came of a job: it got a reply; a file could not be read (7.21.8.1p3); or there was no memory
 abbrev pub JobServed : Job → (held : List ℕ → Option (List ℕ)) (faults_old faults_new : List ℕ → ℕ) (report : Sunk) (status : ℕ) → Type 0
 JobServed j held faults_old faults_new report status =
     JobReplied (λ reply. IsReply j held reply × IsObeyed j held reply) (AnyRose (files_of j) faults_old faults_new) report status

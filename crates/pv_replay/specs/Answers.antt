@@ -25,7 +25,7 @@ abbrev pub written_by : (refused : Reply) → Option Course → Reply
 written_by refused None = refused
 written_by refused (Some c) = record { status = 0; text = watched.journal_text (take most_events c.events) c.names }
 
--- 5.1.1.3p1, 5.1.2.3: the same by the verdict, with the line and the status of a refusal
+-- 5.1.1.3p1, 5.1.2.3: what is written by the verdict: of a refusal its line, with its status
 abbrev pub written_of : Verdict → Reply
 written_of v = written_by (record { status = status_of v; text = report_line v }) (course_of v)
 

@@ -15,12 +15,12 @@ Tells (Some b) (Conflict earlier) = earlier ≡ (b.place, b.length, b.writes)
 Tells None NoMemory = Unit {0}
 Tells _ _ = ⊥
 
--- 6.5p1: the innermost node in progress
+-- the innermost node in progress
 abbrev pub top : List Open → Open
 top [] = opened []
 top (j ∷ js) = j
 
--- 6.5p1: the nodes around the innermost one
+-- the nodes around the innermost one
 abbrev pub below : List Open → List Open
 below [] = []
 below (j ∷ js) = js

@@ -6,7 +6,7 @@ use Rattle.pv_typed.specs.Mains.{main_of}
 use Rattle.pv_describe.specs.Bounds.{AreSmall}
 use Rattle.pv_exec.specs.Laying.{HasNoEmptyTag}
 
--- 6.9: tables that can be run and described: what they name is there, `main` is defined (5.1.2.2.1), no type is too large (5.2.4.1), and each structure
+-- 6.9: tables that can be run and described: what they name is there, `main` is defined, no type is too large, and each structure
 -- and union has a byte (6.7.2.1p8)
 pub record IsFit (unit : Stored) : Type 0 where
   pub known : AreKnown unit

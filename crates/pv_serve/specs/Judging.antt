@@ -31,11 +31,11 @@ pub record Shown : Type 0 where
 abbrev pub nothing_shown : Shown
 nothing_shown = record { output = []; events = [] }
 
--- 5.1.2.3: how the run that was made ended, where this left it
+-- how the run that was made ended, where this left it
 abbrev pub ending_of : Ran → (names : List (List ℕ)) → Shown → Ending
 ending_of ran names shown = record { outcome = ran.outcome; turns = ran.turns; output = shown.output; events = shown.events; sides = ran.sides; names = names }
 
--- 5.1.1.3, 5.1.2.3: the verdict that a judgement is, where this left its run
+-- the verdict that a judgement is, where this left its run
 abbrev pub verdict_of : Judgement → Shown → Verdict
 verdict_of (judgement.Ran ran names bound) shown = Ended (ending_of ran names shown) bound
 verdict_of (judgement.Settled ran names bound listed) shown = Settled (ending_of ran names shown) bound listed
@@ -70,7 +70,7 @@ pub record UnitJudged (unit : WholeUnit) (lines : List ScriptLine) (t : Task) (s
   pub gains : Wrote out (output_of (verdict_of j shown))
   pub told : AreTold (course_of (verdict_of j shown)) hall.old hall.new
 
--- 5.1.2.3: the unit is run as the task says, and of the state in which its run ends, with its names, P holds
+-- the unit is run as the task says, and of the state in which its run ends, with its names, P holds
 pub record UnitRun (unit : WholeUnit) (lines : List ScriptLine) (t : Task) (sides : Option (List Bool)) (P : State → List (List ℕ) → Type 0) : Type 0 where
   pub plan : Plan
   pub asks : plan_of t sides ≡ Some plan

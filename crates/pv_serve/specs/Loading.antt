@@ -36,7 +36,7 @@ typing_refusal (typing.Unresolved number) name = Unresolved name
 typing_refusal typing.NoMain name = NoMain
 typing_refusal typing.NoMemory name = Size
 
--- 5.1.1.3p1: the refusal that the code answers; a word or a name is what its bytes are (6.4.2.1)
+-- the refusal that the code answers; a word or a name is what its bytes are (6.4.2.1)
 abbrev pub refusal_of : declared.Refused → Refusal
 refusal_of refused.Size = Size
 refusal_of (refused.Lex fault word) = lexical_refusal fault word
@@ -64,14 +64,14 @@ pub record IsNamedIn (source : List ℕ) (fault : CheckError) (name : List ℕ) 
   pub lexed : Lexes source tokens
   pub is : IsNameOf tokens fault name
 
--- 5.1.1.3p1: a refusal has the word or the name of its fault, or none where this has none
+-- a refusal has the word or the name of its fault, or none where this has none
 abbrev pub HasParts : (source : List ℕ) → declared.Refused → Type 0
 HasParts source refused.Size = Unit {0}
 HasParts source (refused.Lex fault word) = IsWordOf source fault word
 HasParts source (refused.Syntax whole) = Unit {0}
 HasParts source (refused.Check fault name) = IsNamedIn source fault name
 
--- 5.1.1.3p1: a source that is refused for this reason, whatever is to be done with it
+-- a source that is refused for this reason, whatever is to be done with it
 pub record IsSourceRefused (source text : List ℕ) (why : declared.Refused) : Type 0 where
   pub judged : (t : Task) (sides : Option (List Bool)) → Judged source text t sides (Refused (refusal_of why))
   pub parts : HasParts source why
@@ -88,7 +88,7 @@ pub record IsLoadedProgram (source text : List ℕ) (unit : Stored) (lines : Lis
   pub comes : Comes source (Program (whole unit))
   pub fit : IsFit unit
 
--- 5.1.1.3p1: a source with its script is what the code answers
+-- a source with its script is what the code answers
 abbrev pub IsLoaded : (source text : List ℕ) → Loaded → Type 0
 IsLoaded source text (loaded.Program unit lines) = IsLoadedProgram source text unit lines
 IsLoaded source text (loaded.Source why) = IsSourceRefused source text why

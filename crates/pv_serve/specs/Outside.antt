@@ -18,7 +18,7 @@ pub record Sunk : Type 0 where
   pub faults_old : ℕ
   pub faults_new : ℕ
 
--- 7.21.2p2: the same, by what a sink tells
+-- 7.21.2p2: a sink before a call and after it, by what it tells
 abbrev pub sunk : {S : Type 0} → (written : S → Option (List ℕ)) → (faults : S → ℕ) → (old new : S) → Sunk
 sunk written faults old new = record { old = written old; new = written new; faults_old = faults old; faults_new = faults new }
 

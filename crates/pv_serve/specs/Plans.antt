@@ -2,7 +2,7 @@
 use Rattle.std.specs.Prelude.{false, ℕ, Bool, None, true, Option, List, ◌∷◌, option_to_list}
 use Rattle.pv_serve.specs.Judged.{Plan}
 
--- 5.1.2.3: a run that is watched, and whose pairs are settled late (the memory model)
+-- a run that is watched, and whose pairs are settled late (the memory model)
 abbrev pub late_plan : (bound : ℕ) (zap : Bool) → Plan
 late_plan bound zap = record { bound = bound; zap = zap; sides = None; settles = false }
 
@@ -10,6 +10,6 @@ late_plan bound zap = record { bound = bound; zap = zap; sides = None; settles =
 abbrev pub settled_plan : (bound : ℕ) (zap : Bool) (sides : Option (List Bool)) → Plan
 settled_plan bound zap sides = record { bound = bound; zap = zap; sides = sides; settles = true }
 
--- docs/FORMATS.md, Words (5.1.2.2.1p2): the name of a source's file, and that of its script's, if there is one
+-- docs/FORMATS.md, Words: the name of a source's file, and that of its script's, if there is one
 abbrev pub files_named : (file : List ℕ) (script : Option (List ℕ)) → List (List ℕ)
 files_named file script = file ∷ option_to_list script

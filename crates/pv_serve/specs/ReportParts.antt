@@ -12,7 +12,7 @@ use Rattle.pv_exec.specs.declared.sides.Side.{Side}
 abbrev pub exit_line : (status : ℤ) (turns : ℕ) → List ℕ
 exit_line status turns = codes "exit status=" ++ signed_decimal status ++ codes " turn=" ++ decimal turns ++ line_feed
 
--- 3.4.3: an operation without defined behaviour: the paragraph that it breaks, why, its line (6.10.4p3), and the turns (5.1.2.3p1)
+-- 3.4.3: an operation without defined behaviour: the paragraph that it breaks, why, its line (6.10.4p3), and the turns
 abbrev pub undefined_line : Fault → (line turns : ℕ) → List ℕ
 undefined_line fault line turns =
     codes "undefined clause=" ++ clause_text fault.clause ++ codes " reason=" ++ reason_text fault.reason
@@ -25,7 +25,7 @@ placement_line reason name k line turns =
     codes "placement reason=" ++ reason_text reason ++ codes " name=" ++ name
     ++ (codes " k=" ++ decimal k ++ codes " line=" ++ decimal line ++ codes " turn=" ++ decimal turns ++ line_feed)
 
--- 5.2.4.1: the bytes that are live, and those that were asked for and would be too many
+-- the bytes that are live, and those that were asked for and would be too many
 abbrev pub storage_line : (live size line turns : ℕ) → List ℕ
 storage_line live size line turns =
     codes "storage live=" ++ decimal live ++ codes " size=" ++ decimal size
@@ -47,14 +47,14 @@ repeated_line line first = codes "script reason=repeated line=" ++ decimal line 
 abbrev pub sides_line : List Side → List ℕ
 sides_line sides = codes "sides " ++ letters_of sides ++ line_feed
 
--- docs/FORMATS.md, The report (5.1.1.3p1): what is told of words that are no job
+-- docs/FORMATS.md, The report: what is told of words that are no job
 abbrev pub words_line : List ℕ
 words_line = codes "words" ++ line_feed
 
--- docs/FORMATS.md, Words (5.1.2.2.1p2): the answer to words that are no job
+-- docs/FORMATS.md, Words: the answer to words that are no job
 abbrev pub no_job : Answer
 no_job = record { status = 10; out = []; line = words_line; course = None }
 
--- docs/FORMATS.md, The report (5.1.1.3p1): what is told where a file that the words name could not be read
+-- docs/FORMATS.md, The report: what is told where a file that the words name could not be read
 abbrev pub fault_line : List ℕ
 fault_line = codes "fault read" ++ line_feed

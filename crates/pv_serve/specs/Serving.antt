@@ -23,16 +23,16 @@ use Rattle.pv_serve.specs.Causes.{WroteReport, WroteOutput}
 abbrev pub kept_halls : Job → Halls → Halls
 kept_halls j hall = record { old = kept_by (Some j) hall.old; new = hall.new }
 
--- 5.2.4.1: what was read of a source's file and its script's, where they are told: the bytes up to one above the limit of each
+-- what was read of a source's file and its script's, where they are told: the bytes up to one above the limit of each
 abbrev pub AreRead : (file : List ℕ) (script : Option (List ℕ)) (held : List ℕ → Option (List ℕ)) (source text : List ℕ) → Type 0
 AreRead file script held source text = OfFiles file script held (λ all rest. (source ≡ take (source_limit + 1) all) × (text ≡ take (script_limit + 1) rest))
 
--- 5.2.4.1: what a job's source and script are, as far as they are needed
+-- what a job's source and script are, as far as they are needed
 abbrev pub IsSource : Job → (held : List ℕ → Option (List ℕ)) → (source script : List ℕ) → Type 0
 IsSource (Files job) held source script = AreRead job.file job.script held source script
 IsSource (Generated number) held source script = (source ≡ source_text number) × (script ≡ [])
 
--- docs/FORMATS.md, The report (5.1.1.3p1): the report on a judgement has this text, whatever its run printed and told
+-- docs/FORMATS.md, The report: the report on a judgement has this text, whatever its run printed and told
 abbrev pub IsReportOn : Judgement → (hall : List Slot) → (text : List ℕ) → Type 0
 IsReportOn j hall text = (shown : Shown) → IsReport (course_of (verdict_of j shown)) hall (report_line (verdict_of j shown)) text
 
@@ -40,13 +40,13 @@ IsReportOn j hall text = (shown : Shown) → IsReport (course_of (verdict_of j s
 abbrev pub HasStory : (names : List (List ℕ)) → (hall : List Slot) → (line text : List ℕ) → Type 0
 HasStory names hall line text = (story : List ℕ) × SayAll names hall story × (text ≡ line ++ story)
 
--- docs/FORMATS.md, The report (5.1.1.3p1): of the report on a judgement P holds
+-- docs/FORMATS.md, The report: of the report on a judgement P holds
 pub record SomeReport (j : Judgement) (hall : List Slot) (P : List ℕ → Type 0) : Type 0 where
   pub text : List ℕ
   pub is : IsReportOn j hall text
   pub holds : P text
 
--- docs/FORMATS.md, The report (5.1.1.3p1): the report on a judgement, by the status
+-- docs/FORMATS.md, The report: the report on a judgement, by the status
 pub record Reported (j : Judgement) (hall : List Slot) (report : Sunk) (status : ℕ) : Type 0 where
   pub no_read_fault : status ≢ 11
   pub no_words : status ≢ 10

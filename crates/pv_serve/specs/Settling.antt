@@ -1,5 +1,5 @@
 -- A bridge: what `judge` answers of a source with its script: how its run ended, whose pairs of candidates are settled late or, with sides, at their making
--- (the memory model), or why it has none (5.1.1.3p1).
+-- (the memory model), or why it has none.
 use Rattle.std.specs.Prelude.{◌≡◌, ◌⊎◌, ℕ, ◌≤◌, Bool, List, [], length, map, Option, None, Some}
 use Rattle.pv_typed.specs.Known.{Each}
 use Rattle.pv_typed.specs.Tables.{Stored, whole}
@@ -23,7 +23,7 @@ use Rattle.pv_serve.specs.Judged.{IsToRun, IsRunBy}
 use Rattle.pv_serve.specs.Outside.{Sunk, Wrote, WrotePrefix, Halls}
 use Rattle.pv_serve.specs.Judging.{LeftPart}
 
--- 5.1.2.3: the source is run, with so many turns at most, with a pointer to what has ended indeterminate (6.2.4p2) or not, and with these sides, if
+-- the source is run, with so many turns at most, with a pointer to what has ended indeterminate (6.2.4p2) or not, and with these sides, if
 -- there are any (the memory model), by tables that are fit to be run (6.9), and of its run, with the names of its unit (6.4.2.1), P holds
 pub record SomeRunBy (source script : List ℕ) (bound : ℕ) (zap : Bool) (sides : Option (List Bool)) (P : Res Worth → List (List ℕ) → Type 0) : Type 0 where
   pub job : IsToRun source script
@@ -41,12 +41,12 @@ pub record IsRan (out : Sunk) (hall : Halls) (ran : Ran) (names : List (List ℕ
   pub words : Each FitsWords (end_of run).events
   pub named : names ≡ texts
 
--- 5.1.1.3p1: there is no run: nothing was printed, and nobody was told of anything
+-- there is no run: nothing was printed, and nobody was told of anything
 pub record IsQuiet (out : Sunk) (hall : Halls) : Type 0 where
   pub gains : Wrote out []
   pub told : hall.new ≡ hall.old
 
--- 5.1.1.3p1, 5.1.2.3: what a source with its script comes to: the end of its run with this bound, or the first refusal
+-- what a source with its script comes to: the end of its run with this bound, or the first refusal
 abbrev pub IsOutcome : (source script : List ℕ) (bound : ℕ) (zap : Bool) (sides : Option (List Bool)) (out : Sunk) (hall : Halls) → Judgement → Type 0
 IsOutcome source script bound zap sides out hall (judgement.Ran ran names most) = (most ≡ bound) × SomeRunBy source script bound zap sides (IsRan out hall ran names)
 IsOutcome source script bound zap sides out hall (judgement.Settled ran names most listed) = ⊥

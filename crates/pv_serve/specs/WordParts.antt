@@ -5,7 +5,7 @@ use Rattle.pv_serve.specs.declared.words.Mode.TheVariants as whose
 use Rattle.std.specs.Prelude.{List, ℕ, Option, Bool, ◌||◌, ◌==◌, Some, option_map, None, if◌then◌else◌, nat_le}
 use Rattle.std.specs.Option.{option_and_then}
 
--- docs/FORMATS.md, Words (5.1.2.2.1p2): the value of `--turns`
+-- docs/FORMATS.md, Words: the value of `--turns`
 abbrev pub turns_of : List ℕ → Option ℕ
 turns_of digits = number_to 100000000 digits
 
@@ -13,15 +13,15 @@ turns_of digits = number_to 100000000 digits
 abbrev pub is_side : ℕ → Bool
 is_side letter = letter == 108 || letter == 104
 
--- docs/FORMATS.md, Words (5.1.2.2.1p2): `--script` with this value
+-- docs/FORMATS.md, Words: `--script` with this value
 abbrev pub with_script : Options → List ℕ → Option Options
 with_script o word = option_map (λ name. record o { script = Some name }) (once o.script (file_name word))
 
--- docs/FORMATS.md, Words (5.1.2.2.1p2): `--turns` with this value; the value of `--turns`
+-- docs/FORMATS.md, Words: `--turns` with this value; the value of `--turns`
 abbrev pub with_turns : Options → List ℕ → Option Options
 with_turns o word = option_map (λ n. record o { turns = Some n }) (once o.turns (number_to 100000000 word))
 
--- docs/FORMATS.md, Words (5.1.2.2.1p2): `--zap` with this value
+-- docs/FORMATS.md, Words: `--zap` with this value
 abbrev pub with_zap : Options → List ℕ → Option Options
 with_zap o word = option_map (λ zap. record o { zap = Some zap }) (once o.zap (zap_of word))
 
@@ -29,11 +29,11 @@ with_zap o word = option_map (λ zap. record o { zap = Some zap }) (once o.zap (
 abbrev pub with_sides : Options → List ℕ → Option Options
 with_sides o word = option_map (λ sides. record o { sides = Some sides }) (once o.sides (if are_sides word then Some (sides_in word) else None))
 
--- docs/FORMATS.md, Words (5.1.2.2.1p2): `--watch` with this value
+-- docs/FORMATS.md, Words: `--watch` with this value
 abbrev pub with_watch : Options → List ℕ → Option Options
 with_watch o word = option_map (λ w. record o { watched = w }) (one_more o.watched word)
 
--- docs/FORMATS.md, Words (5.1.2.2.1p2): `run FILE` with these words behind it
+-- docs/FORMATS.md, Words: `run FILE` with these words behind it
 abbrev pub run_of : (file : List ℕ) → List (List ℕ) → Option FileJob
 run_of file rest = option_map (run_by file) (options whose.Run no_options rest)
 
@@ -41,6 +41,6 @@ run_of file rest = option_map (run_by file) (options whose.Run no_options rest)
 abbrev pub settle_of : (file : List ℕ) → List (List ℕ) → Option FileJob
 settle_of file rest = option_map (settled_by file) (options whose.Settle no_options rest)
 
--- docs/FORMATS.md, Words (5.1.2.2.1p2): no number above this one
+-- docs/FORMATS.md, Words: no number above this one
 abbrev pub up_to : ℕ → Option ℕ → Option ℕ
 up_to most n = option_and_then (λ n. if nat_le n most then Some n else None) n

@@ -11,7 +11,7 @@ use Rattle.pv_shown.specs.declared.past.Life.{Life}
 use Rattle.pv_shown.specs.declared.past.Tie.{Tie}
 use Rattle.pv_shown.specs.Shown.{state_at}
 
--- 5.1.2.3p1: what came at a turn, if it did, came by this one
+-- what came at a turn, if it did, came by this one
 abbrev pub came : Option ℕ → (n : ℕ) → Bool
 came None n = false
 came (Some t) n = nat_le t n
@@ -54,7 +54,7 @@ lives_then n x = nat_le x.made n && not (came x.ended n)
 abbrev pub reaches_then : (n address : ℕ) → Life → Bool
 reaches_then n a x = nat_le x.made n && (not (came x.ended n) && (nat_le x.base a && nat_le a (x.base + x.size)))
 
--- docs/FORMATS.md, Commands (5.1.2.3): what the code keeps tells at each turn what the lines of the journal up to that turn leave (the memory model)
+-- docs/FORMATS.md, Commands: what the code keeps tells at each turn what the lines of the journal up to that turn leave (the memory model)
 pub record Tells (names : List (List ℕ)) (rows : List Row) (xs : List Life) (bs : List Tie) : Type 0 where
   pub held : (n : ℕ) → (state_at rows n).held ≡ helds_then names n xs
   pub bonds : (n : ℕ) → (state_at rows n).bonds ≡ bonds_then names n bs

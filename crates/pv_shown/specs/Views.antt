@@ -6,13 +6,13 @@ use Rattle.pv_shown.specs.declared.reading.CommandError.TheVariants as error
 use Rattle.pv_shown.specs.declared.moving.Ran.{Ran}
 use Rattle.pv_shown.specs.Shown.{Run}
 
--- docs/FORMATS.md, Commands: it is what the file says (5.1.2.3); or there was no memory
+-- docs/FORMATS.md, Commands: it is what the file says; or there was no memory
 abbrev pub OrNoMemory : {A B : Type 0} → (A → B) → Result A CommandError → Result B CommandError → Type 0
 OrNoMemory seen (Ok a) wanted = Ok (seen a) ≡ wanted
 OrNoMemory seen (Err error.NoMemory) wanted = Unit {0}
 OrNoMemory seen (Err error.Size) wanted = Err error.Size ≡ wanted
 OrNoMemory seen (Err (error.BadLine n)) wanted = Err (error.BadLine n) ≡ wanted
 
--- 5.1.2.3: the run that is looked at
+-- the run that is looked at
 abbrev pub run_view : Ran → Run
 run_view r = record { rows = rows_under r.names.now r.lines.now; taken = r.taken; by_turns = r.by_turns; line = r.line.now }

@@ -9,7 +9,7 @@ use Rattle.pv_step.specs.declared.reading.StepText.{StepText}
 use Rattle.pv_step.specs.Words.{StepJob, files_of}
 use Rattle.pv_step.specs.Answers.{OfFiles, IsStepped, IsReply}
 
--- 5.2.4.1: what was read of the files, where they are told: of each the bytes up to one above its limit
+-- what was read of the files, where they are told: of each the bytes up to one above its limit
 abbrev pub AreRead : StepJob → (held : List ℕ → Option (List ℕ)) → (source script commands : List ℕ) → Type 0
 AreRead j held source script commands = OfFiles j held (λ all rest lines.
     (source ≡ take (source_limit + 1) all) × (script ≡ take (script_limit + 1) rest) × (commands ≡ take (commands_limit + 1) lines))
@@ -18,6 +18,6 @@ AreRead j held source script commands = OfFiles j held (λ all rest lines.
 abbrev pub TextServed : StepText → (report : Sunk) (status : ℕ) → Type 0
 TextServed t report status = JobReplied (IsStepped t.source.items t.script.items t.commands.items) ⊥ report status
 
--- docs/FORMATS.md, Commands: what came of a job (5.1.2.3): it got a reply; a file could not be read (7.21.8.1p3); or there was no memory
+-- docs/FORMATS.md, Commands: what came of a job: it got a reply; a file could not be read (7.21.8.1p3); or there was no memory
 abbrev pub JobServed : StepJob → (held : List ℕ → Option (List ℕ)) (faults_old faults_new : List ℕ → ℕ) (report : Sunk) (status : ℕ) → Type 0
 JobServed j held faults_old faults_new report status = JobReplied (IsReply j held) (AnyRose (files_of j) faults_old faults_new) report status

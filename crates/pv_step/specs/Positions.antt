@@ -11,12 +11,12 @@ use Rattle.pv_serve.specs.Verdicts.{Ending}
 use Rattle.pv_serve.specs.Judged.{Ends}
 use Rattle.pv_shown.specs.Commands.{last_position}
 
--- 5.1.2.3p1: the run of a unit with its script, when so many turns may be taken, each pair of candidates is settled by its uses (the memory model), and a pointer
+-- the run of a unit with its script, when so many turns may be taken, each pair of candidates is settled by its uses (the memory model), and a pointer
 -- to what has ended is indeterminate (6.2.4p2)
 abbrev pub bounded : Stored → List ScriptLine → (bound : ℕ) → Res Worth
 bounded u script n = run_at u None true script n
 
--- 5.1.2.3: the run that is looked at, with as many turns as there are positions, ends so
+-- the run that is looked at, with as many turns as there are positions, ends so
 abbrev pub IsWhole : Stored → List ScriptLine → Ending → Type 0
 IsWhole u script e = Ends (bounded u script last_position) u.names e
 

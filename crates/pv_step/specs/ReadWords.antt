@@ -3,10 +3,10 @@ use Rattle.std.specs.Prelude.{option_map, ◌≡◌, Option, Some, None, MatchOp
 use Rattle.pv_step.specs.declared.words.Asked.{Asked}
 use Rattle.pv_step.specs.Words.{StepJob}
 
--- docs/FORMATS.md, Commands (5.1.2.2.1p2): the job that was read of the words
+-- docs/FORMATS.md, Commands: the job that was read of the words
 abbrev pub asked_job : Asked → StepJob
 asked_job a = record { file = a.file.now; commands = a.commands.now; script = option_map (λ s. s.now) a.script }
 
--- docs/FORMATS.md, Commands (5.1.2.2.1p2): it is the job that the words ask for, or they ask for none
+-- docs/FORMATS.md, Commands: it is the job that the words ask for, or they ask for none
 abbrev pub IsAsked : Option Asked → (wanted : Option StepJob) → Type 0
 IsAsked read wanted = MatchOption read (wanted ≡ None) (λ a. wanted ≡ Some (asked_job a))

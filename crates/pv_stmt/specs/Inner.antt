@@ -8,6 +8,6 @@ use Rattle.pv_expr_forms.specs.Sources.{known_names}
 use Rattle.pv_decl_forms.specs.Pieces.{Piece}
 use Rattle.pv_stmt_forms.specs.Statements.{Statements, readers}
 
--- what reads a statement within another, of at most so much depth (6.8p1, 5.2.4.1)
+-- what reads a statement within another, of at most so much depth (6.8p1)
 abbrev pub statements_within : {R : Type 0} → (R → TypeMap) → Source R → Tables → (depth : ℕ) → List Token → Piece
 statements_within types source u depth = readers (known_names types source u) depth Statements

@@ -16,7 +16,7 @@ with_block names below (OfDeclaration (Parameter line specs (Present (OfDeclarat
     option_map (λ x. (OfDeclaration (Function line specs d (as_statement x.0)), x.1)) (statement names below ts)
 with_block names below _ ts = None
 
--- a declaration or a function definition (6.9p1), of at most so much depth (5.2.4.1)
+-- a declaration or a function definition (6.9p1), of at most so much depth
 unfoldable pub external : Names → (depth : ℕ) → List Token → Piece
 external names zero ts = None
 external names (suc below) ts = option_and_then (λ x. with_block names below x.0 x.1) (declaration names (suc below) ts)

@@ -29,7 +29,7 @@ is_while _ = false
 
 -- ---- parts
 
--- an expression of a level (6.5)
+-- an expression of a level
 abbrev pub expression : Names → (depth level : ℕ) → List Token → Piece
 expression names depth level ts = option_map (λ x. (OfExpression x.0, x.1)) (read names depth level ts)
 
@@ -190,12 +190,12 @@ pub data Form : Type 0 where
   Statements : Form
   SwitchBlocks : Form
 
--- one of these forms, of at most so much depth (5.2.4.1)
+-- one of these forms, of at most so much depth
 unfoldable pub readers : Names → (depth : ℕ) → Form → List Token → Piece
 readers names zero form ts = None
 readers names (suc below) Statements ts = statement_by names below (readers names below Statements) (readers names below SwitchBlocks) ts
 readers names (suc below) SwitchBlocks ts = switch_block names below (readers names below Statements) ts
 
--- the longest statement (6.8) of at most so much depth (5.2.4.1)
+-- the longest statement (6.8) of at most so much depth
 abbrev pub statement : Names → (depth : ℕ) → List Token → Piece
 statement names depth ts = readers names depth Statements ts

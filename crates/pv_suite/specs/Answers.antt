@@ -31,7 +31,7 @@ abbrev pub output_held : Option (List ℕ) → (held : List ℕ → Option (List
 output_held None held = Some None
 output_held (Some name) held = option_map (λ (bytes : List ℕ). Some bytes) (held name)
 
--- 7.21.3p8: the same of all files of a case
+-- 7.21.3p8: the bytes of all files that a case names, where they are told
 abbrev pub given_of : SuiteCase → (held : List ℕ → Option (List ℕ)) → Option Given
 given_of c held = do
   source ← held c.source
@@ -49,7 +49,7 @@ abbrev pub broken_by : Outcome → Option Clause
 broken_by (outcome.Undefined fault line) = Some fault.clause
 broken_by _ = None
 
--- 3.4.3: the same of a verdict
+-- 3.4.3: the clause that the run with this verdict breaks, if it has no defined behaviour
 abbrev pub clause_of : Verdict → Option Clause
 clause_of (Ended e bound) = broken_by e.outcome
 clause_of (Settled e bound listed) = broken_by e.outcome

@@ -6,7 +6,7 @@ use Rattle.pv_token.specs.declared.token_table.TokenKind.TheVariants as kind
 use Rattle.pv_token.specs.Said.{Name, Text, Number, Character, Spelt, Said}
 use Rattle.pv_token.specs.declared.token_table.Token.{Token}
 
--- One more token, name or literal still has a number that is a `u32`: a source may have as many as it has bytes (5.2.4.1p1).
+-- One more token, name or literal still has a number that is a `u32`: a source may have as many as it has bytes.
 pub record HasRoom (t : Table) : Type 0 where
   pub tokens : length t.tokens + 1 < 2 ^ 32
   pub names : length t.names + 1 < 2 ^ 32

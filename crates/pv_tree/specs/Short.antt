@@ -23,7 +23,7 @@ use Rattle.pv_tree.specs.declared.nodes.Node.TheVariants as node
 use Rattle.pv_tree.specs.declared.rows.Row.{Row}
 use Rattle.pv_tree.specs.declared.rows.ShortRow.{ShortRow}
 
--- an expression (6.5), by its short form
+-- an expression, by its short form
 abbrev pub long_expr : ShortExpr → Expr
 long_expr (short_expr.Name n) = expr.Name n
 long_expr (short_expr.Number decimal unsigned longs value) = expr.Number value decimal unsigned longs

@@ -51,7 +51,7 @@ pub record IsTypeName (names : Names) (type : DeclarationTree) (here : List Toke
   pub begins : begins_type names here ≡ true
   pub is : names.type_at here ≡ Some (type, drop (length (declaration_tokens type)) here)
 
--- 6.5: each operand has a level that its place allows, and each type name is the one that begins at its place
+-- each operand has a level that its place allows, and each type name is the one that begins at its place
 abbrev pub Fits : Names → ExpressionTree → (here : List Token) → Type 0
 Fits names a here = FitsBy names.is_type (IsTypeName names) a here
 
@@ -59,7 +59,7 @@ Fits names a here = FitsBy names.is_type (IsTypeName names) a here
 abbrev pub FitsArguments : Names → ArgumentTrees → (here : List Token) → Type 0
 FitsArguments names arguments here = ArgumentsFitBy names.is_type (IsTypeName names) arguments here
 
--- an expression of a level (6.5) and of at most so much depth (5.2.4.1), that spells the tokens from at to before end
+-- an expression of a level and of at most so much depth, that spells the tokens from at to before end
 -- worked: calls, chains, never_left, chooses, measures
 pub record Spells (names : Names) (level deep : ℕ) (tokens : List Token) (at end : ℕ) (a : ExpressionTree) : Type 0 where
   pub fits : Fits names a (drop at tokens)

@@ -8,7 +8,7 @@ use Rattle.pv_typed.specs.Tables.{Stored, nodes}
 use Rattle.pv_typed.specs.TypedStatement.{TypedStatement}
 use Rattle.pv_typed.specs.Children.{HasKind}
 
--- the expression (6.5) that a number stands for
+-- the expression that a number stands for
 abbrev pub expression_at : Stored → NodeId → TypedTree
 expression_at s n = expression_in (nodes s) n
 
@@ -20,7 +20,7 @@ statement_at s n = statement_in (nodes s) n
 abbrev pub list_at : Stored → ListId → List NodeId
 list_at s l = list_in s.lists l
 
--- a number of an expression (6.5)
+-- a number of an expression
 abbrev pub IsExpression : Stored → NodeId → Type 0
 IsExpression s n = HasKind s.rows (length s.rows) true n
 

@@ -6,7 +6,7 @@
 use Rattle.std.specs.Prelude.{ℕ, ◌+◌, Bool, true, false, nat_le, Option, Some, None, if◌then◌else◌}
 use Rattle.pv_typed.specs.TypedTree.{TypedTree, Node, Form, Constant, Object, String, Subscript, Member, Arrow, Address, Indirection, Unary, Not, Sizeof, Cast, Arithmetic, PointerSum, PointerDifference, PointerOrder, PointerEquality, Read, ArrayPointer, Convert}
 
--- with the turn of a node, where it takes one (5.1.2.3): a helper of sums
+-- with the turn of a node, where it takes one: a helper of sums
 abbrev pub counted : Bool → Option ℕ → Option ℕ
 counted false n = n
 counted true None = None
@@ -19,7 +19,7 @@ both (Some m) None = None
 both (Some m) (Some n) = Some (m + n)
 
 abbrev mutual
-  -- 6.5: how many turns a plain expression takes, each node its own
+  -- how many turns a plain expression takes, each node its own
   pub turns_of : TypedTree → Option ℕ
   turns_of (Node t line turn x) = turns_of_form turn x
 
@@ -57,7 +57,7 @@ abbrev pub capped : Option ℕ → Option ℕ
 capped None = None
 capped (Some n) = if nat_le n 1000 then Some n else None
 
--- 6.5: how many turns an expression takes, where each of its nodes is plain and they are at most 1000
+-- how many turns an expression takes, where each of its nodes is plain and they are at most 1000
 -- worked: plain_rows (proofs/PlainExamples)
 abbrev pub plain_turns : TypedTree → Option ℕ
 plain_turns a = capped (turns_of a)

@@ -9,7 +9,7 @@ use Rattle.pv_typed.specs.declared.rows.Row.{Row}
 use Rattle.pv_typed.specs.Plain.{counted, both, capped}
 use Rattle.pv_typed.specs.Children.{row_at}
 
--- the turns of an expression's node (6.5), where those of its operands are given
+-- the turns of an expression's node, where those of its operands are given
 abbrev pub turns_in : (NodeId → Option ℕ) → Bool → Typed → Option ℕ
 turns_in turns counts (typed.Constant value) = Some 1
 turns_in turns counts (typed.LargeConstant value) = Some 1

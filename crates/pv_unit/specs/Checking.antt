@@ -12,7 +12,7 @@ use Rattle.pv_unit.specs.Units.{Breaks, unresolved, has_main, Constraint, Unreso
 abbrev pub externals_in : Tables → List DeclarationTree
 externals_in u = map (declaration_at u.forest) u.externals
 
--- why a unit has no typing (5.1.1.3p1): what each refusal stands for
+-- why a unit has no typing: what each refusal stands for
 abbrev pub IsCause : Table → List DeclarationTree → CheckError → Type 0
 IsCause t ds (error.Constraint n) = UnitComes t ds (Constraint n)
 IsCause t ds (error.Unresolved n) = UnitComes t ds (Unresolved n)

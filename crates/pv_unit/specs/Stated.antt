@@ -17,7 +17,7 @@ use Rattle.pv_unit.specs.Statements.{Around}
 abbrev pub around_in : Known → Place → Around
 around_in m w = record { result = tree m w.result.0; breaks = w.breaks; continues = w.continues }
 
--- a typed expression (6.5), and the state after it
+-- a typed expression, and the state after it
 abbrev pub value_in : List (List ℕ) → Raw → Stored → NodeId → After TypedTree
 value_in texts s m n = record { value = expression_at m n; state = state_of texts false s m }
 

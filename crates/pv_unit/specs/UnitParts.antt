@@ -12,7 +12,7 @@ use Rattle.pv_unit.specs.Units.{uses, points}
 abbrev pub is_of_library : State → Entity → Bool
 is_of_library s e = e.function && is_some (library_named (name_at s.unit (unit_name e.name)))
 
--- 5.1.2.2.1: a function of this name that has a body
+-- a function of this name that has a body
 abbrev pub is_main_function : List (List ℕ) → TypedFunction → Bool
 is_main_function names f = is_some f.body && named_main names f.name
 

@@ -76,7 +76,7 @@ IsVisible v os (FunctionName f) = Unit {0}
 IsVisible v os (TypedefOf t) = Unit {0}
 IsVisible v os (ConstantOf value) = Unit {0}
 
--- 6.2.1p4: the same of all names of all scopes
+-- 6.2.1p4: each name of all scopes that is one of an object with automatic storage stands for one of these
 abbrev pub AreVisible : WholeUnit → (automatic : List ℕ) → List Scope → Type 0
 AreVisible v os ss = Each (λ (x : Scope). Each (λ (e : ℕ × Meaning). IsVisible v os e.1) x.names) ss
 

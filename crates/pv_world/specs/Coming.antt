@@ -16,7 +16,7 @@ use Rattle.pv_world.specs.Worlds.{Worth, Nothing, Missing, Scalar, Whole, World,
 use Rattle.pv_world.specs.Telling.{verdict_of, fault_of, fault_told}
 use Rattle.pv_world.specs.Doing.{Done, Answers, Fails, Breaks}
 
--- 6.5p1: what an expression gives, of what the code has
+-- what an expression gives, of what the code has
 abbrev pub worth_of : Got → Worth
 worth_of got.Nothing = Nothing
 worth_of got.Missing = Missing
