@@ -33,7 +33,7 @@ use Rattle.pv_eval.specs.Suiting.{is_small}
 use Rattle.pv_eval.specs.States.{Setting, State, Gives}
 use Rattle.pv_eval.specs.Steps.{converted, is_minus}
 use Rattle.pv_eval.specs.Operations.{Converts, Moves, Selects}
-use Rattle.pv_eval.specs.Plainly.{YieldsNoting, AlwaysGives, GivesAt, GivesNoting, IsConverted, form_by, turned, found_worth}
+use Rattle.pv_eval.specs.Plainly.{Yields, YieldsNoting, AlwaysGives, GivesAt, GivesNoting, IsConverted, form_by, turned, found_worth}
 use Rattle.pv_eval.specs.Codes.{IsCode, AreCodes, IsOperandBy, IsOperandCode, IsArithmetic, IsReadOf, IsObjectOf, IsElementOf, IsSumOf, IsSameAs, IsPartOf, IsBefore, RoundsTo, RoundsBy, CalculatesBy}
 use Rattle.pv_eval.proofs.PlainSteps.{some_map, alone_some, reading_some, both_some, noted_with, noted_both}
 use Rattle.pv_eval.proofs.PlainNumbers.{constant_some, object_some, convert_given, converted_at, rounded_some, gives_calculated}
@@ -164,6 +164,16 @@ module _ (u : Stored) (w : World) where
             (subst (λ (q : Worth). AlwaysGives (λ b. Converts (how_to b true from to) q) z) (sym r.is)
             (subst (λ (q : Worth). AlwaysGives (λ b. Converts (how_to b true from to) (int x)) q) (sym r.rounded) rounds)),
       )
+
+  -- the same where nobody asks what it reads
+  unasked : {A : Type 0} → false ≡ true → A
+  unasked h = absurd cc
+
+  pub operand_yields : (a m : NodeId) (to : Option IntKind) (v z : Worth) → IsOperandBy u a m to → Yields u w (expression_at u m) v → RoundsBy to v z → Yields u w (expression_at u a) v × IsConverted (expression_at u a) v z
+  operand_yields a m to v z h y r =
+      let noted : YieldsNoting u w (expression_at u m) v false [] [] = record { yields = y; noted = λ on. unasked on } in
+      let both = operand_by {noting = false} {js = []} {ks = []} a m to v z h noted r in
+      (both.0.yields, both.1)
 
   module _ (n : NodeId) where
     pub number_coded : (noting : Bool) (js : List Access) (k : ℤ) (r : Option Found) → IsCode u n (code.Number k) → IfSome r (λ v. found_worth v ≡ int k) → IfSome r (λ v. YieldsNoting u w (expression_at u n) (found_worth v) noting js js)

@@ -102,6 +102,16 @@ pub record IsPartOf (u : Stored) (n a : NodeId) (offset : ℕ) : Type 0 where
   pub before : IsBefore u n a
   pub gives : (w : World) (first v : Worth) → GivesAt w (λ b. Selects offset first) v → GivesWith u w (type_of (expression_at u n)) node first v
 
+-- 6.5.16.1p2: what is known of a node that assigns to a place
+pub record IsAssignmentOf (u : Stored) (n a : NodeId) (right : Operand) (t : TypeId) : Type 0 where
+  pub d : NodeId
+  pub form : form_of (expression_at u n) ≡ form_by u (typed.Assign a d)
+  pub first : IsBefore u n a
+  pub second : IsBefore u n d
+  pub right_is : IsOperandCode u d right
+  pub known : t.0 < length u.known.terms
+  pub same : tree u.known t.0 ≡ type_of (expression_at u a)
+
 -- what is known of an expression's node is so
 abbrev pub IsCode : Stored → NodeId → Code → Type 0
 IsCode u n code.Unknown = Unit {0}
@@ -116,6 +126,7 @@ IsCode u n (code.Pointer a t) = IsReadOf u n a t × (points (tree u.known t.0) �
 IsCode u n (code.Arithmetic op k left right) = IsArithmetic u n op k left right
 IsCode u n (code.Element a d size) = IsElementOf u n a d size
 IsCode u n (code.Sum sign a d size) = IsSumOf u n sign a d size
+IsCode u n (code.Assign a right t k) = IsAssignmentOf u n a right t × (tree u.known t.0 ≡ IntTy k)
 
 -- what is known of all nodes is so; of those beyond the end nothing is known
 abbrev pub AreCodes : Stored → List Code → Type 0

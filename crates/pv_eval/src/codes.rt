@@ -1,4 +1,4 @@
-// What is known of a plain expression's node before a run, so that nothing of its types is looked up when it is evaluated.
+// What is known of an expression's node before a run, so that nothing of its types is looked up when it is evaluated.
 ghost use Rattle.std.specs.Prelude.{◌≡◌, ◌<◌, IfSome, IsTrue, length};
 ghost use Rattle.pv_types.specs.Known.{tree};
 ghost use Rattle.pv_typed.specs.declared.nodes.Typed.{Typed as Row};
@@ -56,6 +56,8 @@ pub(crate) enum Code {
     Element(NodeId, NodeId, u64),
     /// A pointer moved by an integer, of elements of so many bytes (6.5.6p8).
     Sum(Sign, NodeId, NodeId, u64),
+    /// An integer assigned to a place of this type and kind (6.5.16.1p2).
+    Assign(NodeId, Operand, TypeId, IntKind),
 }
 
 /// Whether an object's declared type is the one of this number.
@@ -179,6 +181,24 @@ fn sum_code(unit: &TypedUnit, n: NodeId, sign: Sign, a: NodeId, d: NodeId) -> Op
     Some(Code::Sum(sign, a, d, size))
 }
 
+/// A node that assigns an integer to a place.
+fn assignment_code(unit: &TypedUnit, n: NodeId, a: NodeId, d: NodeId) -> Option<Code>
+    requires known { AreKnown unit.now }
+    requires left { IsExpression unit.now a }
+    requires right { IsExpression unit.now d }
+    requires first { a.0 < n.0 }
+    requires second { d.0 < n.0 }
+    requires form { form_of (expression_at unit.now n) ≡ form_by unit.now (Row.Assign a d) }
+    ensures { IfSome result (IsCode unit.now n) }
+{
+    let right = operand_code(unit, d)?;
+    let t = unit.type_of(a);
+    let Term::Int(kind) = unit.types().view(t) else {
+        return None;
+    };
+    Some(Code::Assign(a, right, t, kind))
+}
+
 /// A node that designates what a pointer points to, which is not `void`.
 fn followed_code(unit: &TypedUnit, n: NodeId, a: NodeId) -> Option<Code>
     requires there { IsExpression unit.now n }
@@ -216,20 +236,18 @@ fn form_code(unit: &TypedUnit, n: NodeId, x: Typed) -> Option<Code>
         Typed::Arithmetic(op, a, d) => arithmetic_code(unit, n, op, a, d),
         Typed::Subscript(a, d) => element_code(unit, n, a, d),
         Typed::PointerSum(sign, a, d) => sum_code(unit, n, sign, a, d),
+        Typed::Assign(a, d) => assignment_code(unit, n, a, d),
         _ => None,
     }
 }
 
-/// What is known of a node: of one that is no plain expression's nothing is.
+/// What is known of a node: of one that is no expression's nothing is.
 pub(crate) fn code_of(unit: &TypedUnit, n: NodeId) -> Code
     requires known { AreKnown unit.now }
     requires within { n.0 < length unit.now.rows }
     ensures { IsExpression unit.now n → IsCode unit.now n result }
 {
     if !unit.is_expression(n) {
-        return Code::Unknown;
-    }
-    if unit.plain_turns(n).is_none() {
         return Code::Unknown;
     }
     match form_code(unit, n, unit.node(n)) {

@@ -116,7 +116,7 @@ fn rounded_number(kind: IntKind, v: Found) -> Option<Found>
 }
 
 /// What an operand gave, converted as is known of it.
-fn rounded(to: Option<IntKind>, v: Found) -> Option<Found>
+pub(crate) fn rounded(to: Option<IntKind>, v: Found) -> Option<Found>
     ensures { IfSome result (λ z. RoundsBy to (found_worth v) (found_worth z)) }
 {
     match to {

@@ -1,5 +1,6 @@
 // Stores of what plain expressions give (C17 6.5.16p3, 6.5.16.1).
-ghost use Rattle.std.specs.Prelude.{◌≡◌, ◌≤◌, true, false, IfSome, IfNone};
+ghost use Rattle.std.specs.Prelude.{◌≡◌, ◌≤◌, ◌<◌, true, false, length, IfSome, IfNone};
+ghost use Rattle.pv_types.specs.Ty.{IntTy};
 ghost use Rattle.pv_types.specs.Known.{tree, env};
 ghost use Rattle.pv_types.specs.Layouts.{layout_in};
 ghost use Rattle.pv_typed.specs.Known.{AreKnown};
@@ -12,21 +13,25 @@ ghost use Rattle.pv_world.specs.Worths.{pointer, pointer_of};
 ghost use Rattle.pv_world.specs.Coming.{worth_of};
 ghost use Rattle.pv_eval.specs.TypeForms.{shape_of};
 ghost use Rattle.pv_eval.specs.Sizes.{IsComplete};
-ghost use Rattle.pv_eval.specs.Codes.{AreCodes};
+ghost use Rattle.pv_eval.specs.declared.codes.Code.{Code as Known};
+ghost use Rattle.pv_eval.specs.Codes.{IsCode, AreCodes};
 ghost use Rattle.pv_eval.specs.Plainly.{Performs, StoresAt, found_worth, pointer_at};
 
+use crate::codes::Operand;
 use crate::permission::permits_in;
 use crate::plain::{Found, Spot};
-use crate::plain_coded::value;
+use crate::plain_coded::{rounded, value};
 use crate::plain_conversions::converted_value;
 use crate::plain_reads::reached;
 use crate::plan::Plan;
 use crate::suiting::can_write;
-use crate::types::{AccessedType, accessed, number};
+use crate::types::{AccessedType, accessed, accessed_integer, number};
+use pv_num::IntKind;
 use pv_object::{Pointer, Value};
 use pv_prov::Prov;
 use pv_tree::NodeId;
 use pv_typed::TypedUnit;
+use pv_types::TypeId;
 use pv_world::{Got, World};
 use std::alloc::Global;
 
@@ -128,6 +133,60 @@ pub(crate) fn assign(
     let second = value(alloc, unit, plan, world, d)?;
     let v = converted_value(unit, d, second)?;
     if assigned(alloc, unit, world, a, place, v) {
+        Some(v)
+    } else {
+        None
+    }
+}
+
+/// The assignment of a value to a place of this integer type, if nothing keeps it from being stored.
+fn assigned_integer(
+    alloc: Global,
+    unit: &TypedUnit,
+    world: &mut World,
+    t: TypeId,
+    kind: IntKind,
+    place: Found,
+    v: Found,
+) -> bool
+    requires known { AreKnown unit.now }
+    requires number { t.0 < length unit.now.known.terms }
+    requires integer { tree unit.now.known t.0 ≡ IntTy kind }
+    ensures stored { result ≡ true → StoresAt unit.now world.old (tree unit.now.known t.0) (pointer_of (found_worth place)) (found_worth v) world.new }
+    ensures place { result ≡ true → found_worth place ≡ pointer (pointer_of (found_worth place)) }
+    ensures same { result ≡ false → world.new ≡ world.old }
+{
+    let Found::Place(p) = place else {
+        return false;
+    };
+    let Some(x) = accessed_integer(unit.types(), t, kind) else {
+        return false;
+    };
+    store(alloc, unit, world, x, p, v)
+}
+
+/// The assignment of an integer, as `assign`, by what is known of its node.
+pub(crate) fn assign_integer(
+    alloc: Global,
+    unit: &TypedUnit,
+    plan: &Plan,
+    world: &mut World,
+    n: NodeId,
+    a: NodeId,
+    right: Operand,
+    t: TypeId,
+    kind: IntKind,
+) -> Option<Found>
+    requires codes { AreCodes unit.now plan.now }
+    requires known { AreKnown unit.now }
+    requires code { IsCode unit.now n (Known.Assign a right t kind) }
+    ensures some { IfSome result (λ v. Performs unit.now world.old world.new (expression_at unit.now n) (found_worth v)) }
+    ensures none { IfNone result (world.new ≡ world.old) }
+{
+    let place = value(alloc, unit, plan, world, a)?;
+    let second = value(alloc, unit, plan, world, right.node)?;
+    let v = rounded(right.to, second)?;
+    if assigned_integer(alloc, unit, world, t, kind, place, v) {
         Some(v)
     } else {
         None

@@ -10,12 +10,13 @@ ghost use Rattle.pv_eval.specs.Plainly.{Performs, whole_turns, found_worth};
 ghost use Rattle.pv_eval.specs.Codes.{AreCodes};
 ghost use Rattle.pv_eval.specs.AtOnce.{Evaluated, Cut, EvaluatedNext, CutNext, TestedNext, HandedNext, EvaluatedAmong, CutAmong};
 
+use crate::codes::Code;
 use crate::moment::Moment;
 use crate::plain::Found;
 use crate::plain_coded::{value, value_by};
 use crate::plain_comparisons::is_true;
 use crate::plain_conversions::converted_value;
-use crate::plain_stores::{assign, got};
+use crate::plain_stores::{assign, assign_integer, got};
 use crate::plain_updates::{compound_assign, increment, pointer_assign};
 use crate::plan::Plan;
 use crate::values::Kept;
@@ -71,9 +72,9 @@ fn whole_turns(unit: &TypedUnit, n: NodeId) -> Option<u64>
     }
 }
 
-/// The value of a full expression that is plain but for a store at its root, which is made; `None` where it is not found:
-/// then nothing has changed.
-fn perform(
+/// The value of a full expression that is plain but for a store at its root, which is made, by the node itself; `None` where it is not
+/// found: then nothing has changed.
+fn perform_node(
     alloc: Global,
     unit: &TypedUnit,
     plan: &Plan,
@@ -94,6 +95,29 @@ fn perform(
         Typed::PointerAssign(sign, a, d) => pointer_assign(alloc, unit, plan, world, n, sign, a, d),
         Typed::Increment(o, a) => increment(alloc, unit, plan, world, n, o, a),
         _ => value(alloc, unit, plan, world, n),
+    }
+}
+
+/// The same by what is known of the node.
+fn perform(
+    alloc: Global,
+    unit: &TypedUnit,
+    plan: &Plan,
+    world: &mut World,
+    n: NodeId,
+) -> Option<Found>
+    requires codes { AreCodes unit.now plan.now }
+    requires known { AreKnown unit.now }
+    requires there { IsExpression unit.now n }
+    ensures some { IfSome result (λ v. Performs unit.now world.old world.new (expression_at unit.now n) (found_worth v)) }
+    ensures none { IfNone result (world.new ≡ world.old) }
+{
+    let code = plan.code(n);
+    match code {
+        Code::Assign(a, right, t, kind) => {
+            assign_integer(alloc, unit, plan, world, n, a, right, t, kind)
+        }
+        _ => perform_node(alloc, unit, plan, world, n),
     }
 }
 

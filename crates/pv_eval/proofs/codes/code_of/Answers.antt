@@ -1,9 +1,6 @@
 use Rattle.std.proofs.Common.{sym, ◌∙◌}
 use Rattle.pv_eval.proofs.codes.code_of.Goals as goal
 
-pub plain_turns-requires : goal.plain_turns-requires
-plain_turns-requires c = (c.requires.within, sym c.is_expression.ensures ∙ c.if-not-is_expression.false)
-
 pub node-requires : goal.node-requires
 node-requires c = (c.requires.within, sym c.is_expression.ensures ∙ c.if-not-is_expression.false)
 

@@ -1,0 +1,6 @@
+use Rattle.std.proofs.Common.{sym, ◌∙◌, subst}
+use Rattle.pv_eval.specs.Codes.{IsCode}
+use Rattle.pv_eval.proofs.plain_whole.perform.Goals as goal
+
+pub assign_integer-requires-clause-code : goal.assign_integer-requires-clause-code
+assign_integer-requires-clause-code c = subst (IsCode c.args.unit.now c.args.n) (sym c.code-code.ensures ∙ c.in-Assign.is) (c.requires.codes c.args.n c.requires.there)
