@@ -1,5 +1,6 @@
 pub mod Events
 pub mod Comings
+pub mod Bindings
 pub mod Makings
 pub mod Laters
 pub mod Literals

@@ -5,6 +5,7 @@ pub mod Doing
 pub mod Worths
 pub mod Hows
 pub mod Conversions
+pub mod BoundParts
 pub mod Objects
 pub mod ObjectParts
 pub mod Pointers
