@@ -5,8 +5,8 @@ use Rattle.std.proofs.lemmas.Bool.{le-ltb}
 use Rattle.pv_typed.specs.Tables.{Stored}
 use Rattle.pv_watch.specs.declared.event.What.{What}
 use Rattle.pv_world.specs.declared.got.Got.{Got}
-use Rattle.pv_world.specs.declared.got.Failure.{Failure as Fallen}
-use Rattle.pv_world.specs.declared.got.Failure.TheVariants as fallen
+use Rattle.pv_world.specs.declared.got.Failure.{Failure as WorldFailure}
+use Rattle.pv_world.specs.declared.got.Failure.TheVariants as world_failure
 use Rattle.pv_world.specs.Worlds.{Worth, Nothing, World, Halts, SidesEnded}
 use Rattle.pv_world.specs.ObjectParts.{without_first}
 use Rattle.pv_world.specs.Telling.{Told, quiet, telling, fault_told, fault_of, verdict_of}
@@ -53,10 +53,10 @@ pub stays_from : (inner old new : Moment) (w : World) → inner ≡ old → Stay
 stays_from inner old new w e s = subst (λ (m : Moment). Stays m new) e (record { total = λ n h. s.total n h; taken = s.taken; sides = s.sides })
 
 -- after an answer that isn't want of memory all is said
-pub said : (answer : Result Got Fallen) (P : Type 0) → UnlessNoMemory answer P → (answer ≡ Err fallen.NoMemory → ⊥) → P
+pub said : (answer : Result Got WorldFailure) (P : Type 0) → UnlessNoMemory answer P → (answer ≡ Err world_failure.NoMemory → ⊥) → P
 said (Ok v) P h n = h
-said (Err (fallen.Stop z)) P h n = h
-said (Err fallen.NoMemory) P h n = absurd (n refl)
+said (Err (world_failure.Stop z)) P h n = h
+said (Err world_failure.NoMemory) P h n = absurd (n refl)
 
 -- the closing of an operation that prints
 pub closed_text : (b : Setting) (line : ℕ) (d : Done) (s t : State) (result : Result Got Failure) (text : List ℕ) → text ≡ text_in d → Came (with_text text (acted b line (silent d) s)) result t → Came (acted b line d s) result t
@@ -64,7 +64,7 @@ closed_text b line d s t result text is h =
     subst (λ r. Came r result t) (sym (acted_text b line d s)) (subst (λ xs. Came (with_text xs (acted b line (silent d) s)) result t) is h)
 
 -- what was written, by the same lists
-pub wrote_by : (op : World → Done) (r : Result Got Fallen) (w v : World) (before told slice : List What) (had text given : List ℕ) → before ≡ [] → slice ≡ told → had ≡ [] → given ≡ text
+pub wrote_by : (op : World → Done) (r : Result Got WorldFailure) (w v : World) (before told slice : List What) (had text given : List ℕ) → before ≡ [] → slice ≡ told → had ≡ [] → given ≡ text
     → Wrote op r w v before told had text → Wrote op r w v [] slice [] given
 wrote_by op r w v before told slice had text given e f g h did =
     let did1 = subst (λ x. Wrote op r w v x told had text) e did in
@@ -72,7 +72,7 @@ wrote_by op r w v before told slice had text given e f g h did =
     let did3 = subst (λ x. Wrote op r w v [] slice x text) g did2 in
     subst (λ x. Wrote op r w v [] slice [] x) (sym h) did3
 
-module _ (b : Setting) (u : Stored) (o p : Op) (line : ℕ) (r : Result Got Fallen) (inner old : Moment) (w : World) (told : List What) (text out : List ℕ) (es : List Marked) (C : Res Worth → Type 0) where
+module _ (b : Setting) (u : Stored) (o p : Op) (line : ℕ) (r : Result Got WorldFailure) (inner old : Moment) (w : World) (told : List What) (text out : List ℕ) (es : List Marked) (C : Res Worth → Type 0) where
   -- what closes whatever was made, of this moment
   abbrev Closes : Moment → Type 0
   Closes m =

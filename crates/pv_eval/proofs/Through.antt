@@ -13,7 +13,7 @@ use Rattle.pv_seq.specs.Sequencing.{Access, Open, access_of, noted}
 use Rattle.pv_seq.specs.Rivals.{top, below}
 use Rattle.pv_object.specs.declared.values.Pointer.{Pointer}
 use Rattle.pv_world.specs.declared.got.Got.{Got}
-use Rattle.pv_world.specs.declared.got.Failure.{Failure as Fallen}
+use Rattle.pv_world.specs.declared.got.Failure.{Failure as WorldFailure}
 use Rattle.pv_world.specs.declared.got.Shape.{Shape}
 use Rattle.pv_world.specs.declared.got.Shape.TheVariants as shape
 use Rattle.pv_world.specs.Worlds.{Worth, Nothing, Missing, Scalar, Whole, World}
@@ -69,7 +69,7 @@ stored_present shape.Pointer n Missing w go h = absurd h
 stored_present shape.Whole n Missing w go h = absurd h
 
 -- the access that was noted, once its operation is closed
-module _ (x : Access) (answer : Result Got Fallen) (old new : List Open) where
+module _ (x : Access) (answer : Result Got WorldFailure) (old new : List Open) where
   abbrev IsNoted : Type 0
   IsNoted = new ≡ noted x (top old) ∷ below old
 

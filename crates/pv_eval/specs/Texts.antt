@@ -2,7 +2,7 @@
 use Rattle.std.specs.Prelude.{◌≡◌, ℕ, List, ◌++◌, length, Result, Err}
 use Rattle.pv_watch.specs.declared.event.What.{What}
 use Rattle.pv_world.specs.declared.got.Got.{Got}
-use Rattle.pv_world.specs.declared.got.Failure.{Failure as Fallen}
+use Rattle.pv_world.specs.declared.got.Failure.{Failure as WorldFailure}
 use Rattle.pv_world.specs.declared.got.Failure.TheVariants.{NoMemory}
 use Rattle.pv_world.specs.Worlds.{Worth, World}
 use Rattle.pv_world.specs.Telling.{telling}
@@ -36,12 +36,12 @@ with_text text (Gives v s) = Gives v (written text s)
 with_text text (Stops y s) = Stops y (written text s)
 
 -- after want of memory nothing is said of what is printed (7.21.6.3)
-abbrev pub UnlessNoMemory : {A : Type 0} → Result A Fallen → Type 0 → Type 0
+abbrev pub UnlessNoMemory : {A : Type 0} → Result A WorldFailure → Type 0 → Type 0
 UnlessNoMemory (Err NoMemory) P = Unit {0}
 UnlessNoMemory r P = P
 
 -- 7.21.6.3: the operation was made, and this is its text, behind what was there
-pub record Wrote (op : World → Done) (r : Result Got Fallen) (old new : World) (before after : List What) (had text : List ℕ) : Type 0 where
+pub record Wrote (op : World → Done) (r : Result Got WorldFailure) (old new : World) (before after : List What) (had text : List ℕ) : Type 0 where
   pub did : Did worth_of (λ w. silent (op w)) r old new before after
   pub wrote : UnlessNoMemory r (text ≡ had ++ text_in (op old))
 

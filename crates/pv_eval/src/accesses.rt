@@ -9,7 +9,7 @@ ghost use Rattle.pv_types.specs.Known.{tree};
 ghost use Rattle.pv_typed.specs.Known.{AreKnown};
 ghost use Rattle.pv_seq.specs.Sequencing.{access_of, conflicts, noted, rivals};
 ghost use Rattle.pv_seq.specs.Rivals.{top, below};
-ghost use Rattle.pv_world.specs.Worlds.{World as Seen};
+ghost use Rattle.pv_world.specs.Worlds.{World as WorldView};
 ghost use Rattle.pv_world.specs.Worths.{undefined};
 ghost use Rattle.pv_world.specs.Telling.{telling, blame_of, fault_of, verdict_of};
 ghost use Rattle.pv_world.specs.Accesses.{is_inexact};
@@ -27,11 +27,11 @@ use pv_object::{Pointer, Reach};
 use pv_seq::{Journal, SeqStop};
 use pv_typed::TypedUnit;
 use pv_watch::What;
-use pv_world::{Blame, Cause, Failure as Fallen, Got, World, fail};
+use pv_world::{Blame, Cause, Failure as WorldFailure, Got, World, fail};
 use std::alloc::Global;
 
 /// The run ends by this paragraph, for this reason, and blames a pointer.
-fn blamed(told: &mut Vec<What>, clause: Clause, reason: Reason, blame: Blame) -> Fallen
+fn blamed(told: &mut Vec<What>, clause: Clause, reason: Reason, blame: Blame) -> WorldFailure
     ensures { Faulted result (undefined clause reason) told.new.items (told.old.items ++ fault_of (Some blame) (verdict_of (undefined clause reason))) }
 {
     fail(
@@ -44,16 +44,16 @@ fn blamed(told: &mut Vec<What>, clause: Clause, reason: Reason, blame: Blame) ->
 /// The access of a node's own is noted, unless it is unsequenced relative to one that it conflicts with (C17 6.5p2).
 #[inline(always)]
 #[tactic(auto, using(crate::proofs::Rivals::some_conflict, crate::proofs::Rivals::no_conflict))]
-fn note(journal: &mut Journal, at: u64, n: u64, write: bool) -> Result<bool, Fallen>
+fn note(journal: &mut Journal, at: u64, n: u64, write: bool) -> Result<bool, WorldFailure>
     requires { 1 ≤ length journal.old }
     ensures rivals { IfOk result (λ t. t ≡ conflicts (access_of at n write) (rivals (top journal.old))) }
     ensures noted { IfOk result (λ t. t ≡ false → journal.new ≡ noted (access_of at n write) (top journal.old) ∷ below journal.old) }
-    ensures memory { IfErr result (λ e. e ≡ Fallen.NoMemory) }
+    ensures memory { IfErr result (λ e. e ≡ WorldFailure.NoMemory) }
 {
     match journal.access(at, n, write) {
         Ok(()) => Ok(false),
         Err(SeqStop::Conflict { .. }) => Ok(true),
-        Err(SeqStop::NoMemory) => Err(Fallen::NoMemory),
+        Err(SeqStop::NoMemory) => Err(WorldFailure::NoMemory),
     }
 }
 
@@ -67,12 +67,12 @@ fn read_permitted(
     journal: &mut Journal,
     world: &mut World,
     told: &mut Vec<What>,
-) -> Result<Got, Fallen>
+) -> Result<Got, WorldFailure>
     requires complete { IsComplete unit.now.known l }
     requires made { IsMadeIn world.old.memory.table p.prov }
     requires reached { IsReach world.old.memory.table at.now l.size }
     requires some { 1 ≤ length journal.old }
-    ensures did { (w0 : Seen) (x : Result Tried Miss) (es us : List Told) → world.old.memory.table ≡ settled w0.memory.table p.prov x → blame ≡ blame_of w0.memory p.prov → told.old.items ≡ es ++ us
+    ensures did { (w0 : WorldView) (x : Result Tried Miss) (es us : List Told) → world.old.memory.table ≡ settled w0.memory.table p.prov x → blame ≡ blame_of w0.memory p.prov → told.old.items ≡ es ++ us
         → Came worth_of result world.new told.new.items (seen es w0 (reads_permitted (lvalue (setting_of unit.now) (tree unit.now.known l.t.0)) p (rivals (top journal.old)) at.now world.old (telling us))) }
     ensures noted { OnOk result (journal.new ≡ noted (access_of p.address l.size false) (top journal.old) ∷ below journal.old) }
 {
@@ -94,20 +94,20 @@ fn read_reached(
     journal: &mut Journal,
     world: &mut World,
     told: &mut Vec<What>,
-) -> Result<Got, Fallen>
+) -> Result<Got, WorldFailure>
     requires known { AreKnown unit.now }
     requires complete { IsComplete unit.now.known l }
     requires made { IsMadeIn world.old.memory.table p.prov }
     requires reached { IsReach world.old.memory.table at.now l.size }
     requires some { 1 ≤ length journal.old }
-    ensures did { (w0 : Seen) (x : Result Tried Miss) (es us : List Told) → world.old.memory.table ≡ settled w0.memory.table p.prov x → blame ≡ blame_of w0.memory p.prov → told.old.items ≡ es ++ us
+    ensures did { (w0 : WorldView) (x : Result Tried Miss) (es us : List Told) → world.old.memory.table ≡ settled w0.memory.table p.prov x → blame ≡ blame_of w0.memory p.prov → told.old.items ≡ es ++ us
         → Came worth_of result world.new told.new.items (seen es w0 (reads_at (setting_of unit.now) (lvalue (setting_of unit.now) (tree unit.now.known l.t.0)) p (rivals (top journal.old)) at.now world.old (telling us))) }
     ensures noted { OnOk result (journal.new ≡ noted (access_of p.address l.size false) (top journal.old) ∷ below journal.old) }
 {
     match permits(alloc, unit, world, at, l, false) {
         Ok(true) => read_permitted(unit, l, p, at, blame, journal, world, told),
         Ok(false) => Err(blamed(told, Clause::EffectiveTypes, Reason::WrongType, blame)),
-        Err(_) => Err(Fallen::NoMemory),
+        Err(_) => Err(WorldFailure::NoMemory),
     }
 }
 
@@ -120,7 +120,7 @@ pub(crate) fn read_from(
     journal: &mut Journal,
     world: &mut World,
     told: &mut Vec<What>,
-) -> Result<Got, Fallen>
+) -> Result<Got, WorldFailure>
     requires known { AreKnown unit.now }
     requires complete { IsComplete unit.now.known l }
     requires made { IsMadeIn world.old.memory.table p.prov }
@@ -163,12 +163,12 @@ fn write_alone(
     blame: Blame,
     world: &mut World,
     told: &mut Vec<What>,
-) -> Result<Got, Fallen>
+) -> Result<Got, WorldFailure>
     requires complete { IsComplete unit.now.known l }
     requires value { IsStored (shape_of (tree unit.now.known l.t.0)) l.size (worth_of v) }
     requires value_made { IsMadeWorth world.old.memory.table (worth_of v) }
     requires reached { IsReach world.old.memory.table at.now l.size }
-    ensures { (w0 : Seen) (es us : List Told) → blame ≡ blame_of w0.memory p.prov → told.old.items ≡ es ++ us → Came worth_of result world.new told.new.items
+    ensures { (w0 : WorldView) (es us : List Told) → blame ≡ blame_of w0.memory p.prov → told.old.items ≡ es ++ us → Came worth_of result world.new told.new.items
         (seen es w0 (writes_alone (lvalue (setting_of unit.now) (tree unit.now.known l.t.0)) p (worth_of v) from at.now world.old (telling us))) }
 {
     if inexact(from, p.address, l.size) {
@@ -192,13 +192,13 @@ fn write_permitted(
     journal: &mut Journal,
     world: &mut World,
     told: &mut Vec<What>,
-) -> Result<Got, Fallen>
+) -> Result<Got, WorldFailure>
     requires complete { IsComplete unit.now.known l }
     requires value { IsStored (shape_of (tree unit.now.known l.t.0)) l.size (worth_of v) }
     requires value_made { IsMadeWorth world.old.memory.table (worth_of v) }
     requires reached { IsReach world.old.memory.table at.now l.size }
     requires some { 1 ≤ length journal.old }
-    ensures did { (w0 : Seen) (es us : List Told) → blame ≡ blame_of w0.memory p.prov → told.old.items ≡ es ++ us → Came worth_of result world.new told.new.items
+    ensures did { (w0 : WorldView) (es us : List Told) → blame ≡ blame_of w0.memory p.prov → told.old.items ≡ es ++ us → Came worth_of result world.new told.new.items
         (seen es w0 (writes_permitted (lvalue (setting_of unit.now) (tree unit.now.known l.t.0)) p (worth_of v) from (rivals (top journal.old)) at.now world.old (telling us))) }
     ensures noted { OnOk result (journal.new ≡ noted (access_of p.address l.size true) (top journal.old) ∷ below journal.old) }
 {
@@ -222,21 +222,21 @@ fn write_reached(
     journal: &mut Journal,
     world: &mut World,
     told: &mut Vec<What>,
-) -> Result<Got, Fallen>
+) -> Result<Got, WorldFailure>
     requires known { AreKnown unit.now }
     requires complete { IsComplete unit.now.known l }
     requires value { IsStored (shape_of (tree unit.now.known l.t.0)) l.size (worth_of v) }
     requires value_made { IsMadeWorth world.old.memory.table (worth_of v) }
     requires reached { IsReach world.old.memory.table at.now l.size }
     requires some { 1 ≤ length journal.old }
-    ensures did { (w0 : Seen) (es us : List Told) → blame ≡ blame_of w0.memory p.prov → told.old.items ≡ es ++ us → Came worth_of result world.new told.new.items
+    ensures did { (w0 : WorldView) (es us : List Told) → blame ≡ blame_of w0.memory p.prov → told.old.items ≡ es ++ us → Came worth_of result world.new told.new.items
         (seen es w0 (writes_at (setting_of unit.now) (lvalue (setting_of unit.now) (tree unit.now.known l.t.0)) p (worth_of v) from (rivals (top journal.old)) at.now world.old (telling us))) }
     ensures noted { OnOk result (journal.new ≡ noted (access_of p.address l.size true) (top journal.old) ∷ below journal.old) }
 {
     match permits(alloc, unit, world, at, l, true) {
         Ok(true) => write_permitted(unit, l, p, v, from, at, blame, journal, world, told),
         Ok(false) => Err(blamed(told, Clause::EffectiveTypes, Reason::WrongType, blame)),
-        Err(_) => Err(Fallen::NoMemory),
+        Err(_) => Err(WorldFailure::NoMemory),
     }
 }
 
@@ -251,7 +251,7 @@ pub(crate) fn write_to(
     journal: &mut Journal,
     world: &mut World,
     told: &mut Vec<What>,
-) -> Result<Got, Fallen>
+) -> Result<Got, WorldFailure>
     requires known { AreKnown unit.now }
     requires complete { IsComplete unit.now.known l }
     requires value { IsStored (shape_of (tree unit.now.known l.t.0)) l.size (worth_of v) }

@@ -14,7 +14,7 @@ ghost use Rattle.pv_libc.specs.Answers.{OrNoMemory, behind};
 ghost use Rattle.pv_libc.specs.Calls.{called, output};
 ghost use Rattle.pv_libc.specs.Makings.{AreLive, IsLiveIfMade, UnlessNoMemory as UnlessSpent};
 ghost use Rattle.pv_watch.specs.declared.event.What.{What as Told};
-ghost use Rattle.pv_world.specs.Worlds.{World as Seen, Worth};
+ghost use Rattle.pv_world.specs.Worlds.{World as WorldView, Worth};
 ghost use Rattle.pv_world.specs.Worths.{value_of, wrong_of};
 ghost use Rattle.pv_world.specs.Telling.{fault_of, verdict_of};
 ghost use Rattle.pv_world.specs.Doing.{Done};
@@ -45,7 +45,9 @@ use pv_tree::{ListId, NodeId};
 use pv_typed::TypedUnit;
 use pv_types::{Term, TypeId, Types};
 use pv_watch::What;
-use pv_world::{Blame, Cause, Failure as Fallen, Got, World, fail, tell, tell_made, tell_used};
+use pv_world::{
+    Blame, Cause, Failure as WorldFailure, Got, World, fail, tell, tell_made, tell_used,
+};
 use std::alloc::Global;
 
 /// How `printf` looks at a pointer to an integer type of this kind.
@@ -169,15 +171,15 @@ fn blame_in(notes: &[Note]) -> Option<Blame>
 }
 
 /// The run ends by a stop of the call.
-fn stopped(told: &mut Vec<What>, stop: Stop, blame: Option<Blame>) -> Fallen
-    ensures memory { stop ≡ Stop.NoMemory → result ≡ Fallen.NoMemory }
+fn stopped(told: &mut Vec<What>, stop: Stop, blame: Option<Blame>) -> WorldFailure
+    ensures memory { stop ≡ Stop.NoMemory → result ≡ WorldFailure.NoMemory }
     ensures fault { Faulted result (wrong_of stop) told.new.items (told.old.items ++ fault_of blame (verdict_of (wrong_of stop))) }
 {
     match stop {
         Stop::Undefined(fault) => fail(told, Cause::Undefined(fault), blame),
         Stop::Indeterminate => fail(told, Cause::Indeterminate, blame),
         Stop::Undecided => fail(told, Cause::Undecided, blame),
-        Stop::NoMemory => Fallen::NoMemory,
+        Stop::NoMemory => WorldFailure::NoMemory,
     }
 }
 
@@ -186,15 +188,15 @@ fn replied(
     told: &mut Vec<What>,
     reply: Result<Reply, Stop>,
     blame: Option<Blame>,
-) -> Result<Got, Fallen>
-    ensures { (w : Seen) → Did worth_of (come_to blame reply) result w w told.old.items told.new.items }
+) -> Result<Got, WorldFailure>
+    ensures { (w : WorldView) → Did worth_of (come_to blame reply) result w w told.old.items told.new.items }
 {
     match reply {
         Ok(Reply::Nothing) => Ok(Got::Nothing),
         Ok(Reply::Value(v)) => Ok(Got::Scalar(v)),
-        Ok(Reply::Exit(n)) => Err(Fallen::Stop(Cause::Exits(n))),
-        Ok(Reply::Abort) => Err(Fallen::Stop(Cause::Aborts)),
-        Ok(Reply::Placement(e)) => Err(Fallen::Stop(Cause::Refused(1, e))),
+        Ok(Reply::Exit(n)) => Err(WorldFailure::Stop(Cause::Exits(n))),
+        Ok(Reply::Abort) => Err(WorldFailure::Stop(Cause::Aborts)),
+        Ok(Reply::Placement(e)) => Err(WorldFailure::Stop(Cause::Refused(1, e))),
         Err(stop) => Err(stopped(told, stop, blame)),
     }
 }
@@ -229,11 +231,11 @@ fn is_spent(reply: Result<Reply, Stop>) -> bool
 }
 
 /// Whether an operation found no memory.
-fn is_without_memory(answer: &Result<Got, Fallen>) -> bool
-    ensures yes { result ≡ true → answer.now ≡ Err Fallen.NoMemory }
-    ensures no { result ≡ false → answer.now ≢ Err Fallen.NoMemory }
+fn is_without_memory(answer: &Result<Got, WorldFailure>) -> bool
+    ensures yes { result ≡ true → answer.now ≡ Err WorldFailure.NoMemory }
+    ensures no { result ≡ false → answer.now ≢ Err WorldFailure.NoMemory }
 {
-    matches!(answer, Err(Fallen::NoMemory))
+    matches!(answer, Err(WorldFailure::NoMemory))
 }
 
 /// A call of the library, with what happened within it told.
@@ -245,7 +247,7 @@ fn ask_known(
     names: &Names,
     text: &mut Vec<u8>,
     told: &mut Vec<What>,
-) -> Result<Got, Fallen>
+) -> Result<Got, WorldFailure>
     requires named { 1 < length names.now }
     requires heap { text_of names.now 1 ≡ codes "@heap" }
     requires made { All (λ a. IsMadeValue world.old.memory.table a.value) args.now }
@@ -254,10 +256,10 @@ fn ask_known(
     let mut notes = Vec::new(alloc);
     let reply = call_in(world, f, args, names, text, &mut notes);
     if is_spent(reply) {
-        return Err(Fallen::NoMemory);
+        return Err(WorldFailure::NoMemory);
     }
     let Ok(()) = tell_notes(told, world.memory(), &notes) else {
-        return Err(Fallen::NoMemory);
+        return Err(WorldFailure::NoMemory);
     };
     replied(told, reply, blame_in(&notes))
 }
@@ -271,7 +273,7 @@ fn ask_in(
     names: &Names,
     text: &mut Vec<u8>,
     told: &mut Vec<What>,
-) -> Result<Got, Fallen>
+) -> Result<Got, WorldFailure>
     requires named { 1 < length names.now }
     requires heap { text_of names.now 1 ≡ codes "@heap" }
     ensures { (b : Setting) → Wrote (does b (Asks f args.now)) result world.old world.new told.old.items told.new.items text.old.items text.new.items }
@@ -320,7 +322,7 @@ impl Moment {
         before: u64,
         told: &[What],
         text: &[u8],
-        answer: Result<Got, Fallen>,
+        answer: Result<Got, WorldFailure>,
     ) -> Result<Got, Failure>
         ensures acted { Closed line before (λ w op. Wrote op answer w self.old.world [] told.now [] text.now) self.old result self.new }
         ensures stays { Stays self.old self.new }

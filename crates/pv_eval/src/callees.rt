@@ -16,7 +16,7 @@ use crate::types::pointee;
 use pv_typed::TypedUnit;
 use pv_types::{Term, TypeId};
 use pv_watch::What;
-use pv_world::{Failure as Fallen, Got, World, fail, pointer_of, unlike};
+use pv_world::{Failure as WorldFailure, Got, World, fail, pointer_of, unlike};
 
 /// Whether it is a function type.
 #[tactic(auto, using(crate::proofs::Numbers::outside))]
@@ -60,7 +60,7 @@ pub(crate) fn find(
     t: TypeId,
     v: &Got,
     told: &mut Vec<What>,
-) -> Result<u32, Fallen>
+) -> Result<u32, WorldFailure>
     requires runnable { IsRunnable unit.now }
     ensures did { Did by_number (does (setting_of unit.now) (Finds (pointed_to (tree unit.now.known t.0)) (worth_of v.now))) result world.old world.new told.old.items told.new.items }
     ensures known { IfOk result (λ f. f < length unit.now.functions) }

@@ -47,7 +47,7 @@ pub(crate) fn resume_choice(
         Ok(chosen) => chosen,
         Err(e) => return Err(e),
     };
-    journal.settle();
+    journal.sequence_point();
     match x {
         Typed::LogicalAnd(_, d) => {
             if chosen {

@@ -85,7 +85,7 @@ pub(crate) fn resume_first(
         Typed::LogicalOr(_, _) => resume_choice(unit, n, x, v, journal, moment),
         Typed::Conditional(_, _, _) => resume_choice(unit, n, x, v, journal, moment),
         Typed::Comma(_, d) => {
-            journal.settle();
+            journal.sequence_point();
             Ok(Move::Later(
                 d,
                 Frame {

@@ -2,7 +2,7 @@
 ghost use Rattle.std.specs.Prelude.{◌≡◌, ◌≤◌, ◌++◌, ◌^◌, None};
 ghost use Rattle.pv_world.specs.Hows.{IsHow};
 ghost use Rattle.pv_world.specs.Preconditions.{HasSizeOf};
-ghost use Rattle.pv_world.specs.Worlds.{World as Seen};
+ghost use Rattle.pv_world.specs.Worlds.{World as WorldView};
 ghost use Rattle.pv_world.specs.Worths.{int, truth_int, missing_value};
 ghost use Rattle.pv_world.specs.Telling.{fault_of, verdict_of};
 ghost use Rattle.pv_world.specs.Coming.{Did, Faulted, worth_of, wrong_for};
@@ -23,7 +23,7 @@ use pv_num::{BinOp, IntKind, UnOp};
 use pv_object::Value;
 use pv_types::{TypeId, Types};
 use pv_watch::What;
-use pv_world::{Cause, Failure as Fallen, Got, How, Shape, World, fail};
+use pv_world::{Cause, Failure as WorldFailure, Got, How, Shape, World, fail};
 
 /// A value that is missing is used (C17 6.9.1p12).
 fn missing() -> Cause
@@ -36,7 +36,7 @@ fn missing() -> Cause
 }
 
 /// The run ends as by the use of a value that is missing.
-pub(crate) fn unfit(told: &mut Vec<What>) -> Fallen
+pub(crate) fn unfit(told: &mut Vec<What>) -> WorldFailure
     ensures { Faulted result missing_value told.new.items (told.old.items ++ fault_of None (verdict_of missing_value)) }
 {
     fail(told, missing(), None)
@@ -48,7 +48,7 @@ pub(crate) fn convert(
     how: How,
     v: Got,
     told: &mut Vec<What>,
-) -> Result<Got, Fallen>
+) -> Result<Got, WorldFailure>
     requires { IsHow how }
     ensures { (b : Setting) → Did worth_of (does b (Converts how (worth_of v))) result world.old world.new told.old.items told.new.items }
 {
@@ -67,8 +67,8 @@ pub(crate) fn calculate(
     v: &Got,
     x: &Got,
     told: &mut Vec<What>,
-) -> Result<Got, Fallen>
-    ensures { (b : Setting) (w : Seen) → Did worth_of (does b (Calculates op kind (worth_of v.now) (worth_of x.now))) result w w told.old.items told.new.items }
+) -> Result<Got, WorldFailure>
+    ensures { (b : Setting) (w : WorldView) → Did worth_of (does b (Calculates op kind (worth_of v.now) (worth_of x.now))) result w w told.old.items told.new.items }
 {
     if are_operands(op, kind, v, x) {
         pv_world::calculate(op, kind, v, x, told)
@@ -83,8 +83,8 @@ pub(crate) fn calculate_one(
     kind: IntKind,
     v: &Got,
     told: &mut Vec<What>,
-) -> Result<Got, Fallen>
-    ensures { (b : Setting) (w : Seen) → Did worth_of (does b (CalculatesOne op kind (worth_of v.now))) result w w told.old.items told.new.items }
+) -> Result<Got, WorldFailure>
+    ensures { (b : Setting) (w : WorldView) → Did worth_of (does b (CalculatesOne op kind (worth_of v.now))) result w w told.old.items told.new.items }
 {
     if is_of_promoted(kind, v) {
         pv_world::calculate_one(op, kind, v, told)
@@ -94,7 +94,7 @@ pub(crate) fn calculate_one(
 }
 
 /// A value compared with 0 (C17 6.5.13 to 6.5.15).
-pub(crate) fn test(world: &mut World, v: &Got, told: &mut Vec<What>) -> Result<bool, Fallen>
+pub(crate) fn test(world: &mut World, v: &Got, told: &mut Vec<What>) -> Result<bool, WorldFailure>
     ensures { (b : Setting) → Did truth_int (does b (Tests (worth_of v.now))) result world.old world.new told.old.items told.new.items }
 {
     if knows(world, v) {
@@ -105,7 +105,7 @@ pub(crate) fn test(world: &mut World, v: &Got, told: &mut Vec<What>) -> Result<b
 }
 
 /// The same, turned round (C17 6.5.3.3p5).
-pub(crate) fn negate(world: &mut World, v: &Got, told: &mut Vec<What>) -> Result<Got, Fallen>
+pub(crate) fn negate(world: &mut World, v: &Got, told: &mut Vec<What>) -> Result<Got, WorldFailure>
     ensures { (b : Setting) → Did worth_of (does b (Negates (worth_of v.now))) result world.old world.new told.old.items told.new.items }
 {
     if !knows(world, v) {
@@ -118,8 +118,8 @@ pub(crate) fn negate(world: &mut World, v: &Got, told: &mut Vec<What>) -> Result
 }
 
 /// A value that is handed on (C17 6.5.2.2p4).
-pub(crate) fn accept(v: Got, told: &mut Vec<What>) -> Result<Got, Fallen>
-    ensures { (b : Setting) (w : Seen) → Did worth_of (does b (Accepts (worth_of v))) result w w told.old.items told.new.items }
+pub(crate) fn accept(v: Got, told: &mut Vec<What>) -> Result<Got, WorldFailure>
+    ensures { (b : Setting) (w : WorldView) → Did worth_of (does b (Accepts (worth_of v))) result w w told.old.items told.new.items }
 {
     match v {
         Got::Missing => Err(unfit(told)),
@@ -130,8 +130,8 @@ pub(crate) fn accept(v: Got, told: &mut Vec<What>) -> Result<Got, Fallen>
 }
 
 /// What `*` gives (C17 6.5.3.2p4): nothing, where it has the type `void`.
-pub(crate) fn follow(nothing: bool, v: Got, told: &mut Vec<What>) -> Result<Got, Fallen>
-    ensures { (b : Setting) (w : Seen) → Did worth_of (does b (Follows nothing (worth_of v))) result w w told.old.items told.new.items }
+pub(crate) fn follow(nothing: bool, v: Got, told: &mut Vec<What>) -> Result<Got, WorldFailure>
+    ensures { (b : Setting) (w : WorldView) → Did worth_of (does b (Follows nothing (worth_of v))) result w w told.old.items told.new.items }
 {
     if nothing {
         match v {
@@ -144,8 +144,8 @@ pub(crate) fn follow(nothing: bool, v: Got, told: &mut Vec<What>) -> Result<Got,
 }
 
 /// A value that is looked at (C17 6.8.4.2p5).
-pub(crate) fn need(v: Got, told: &mut Vec<What>) -> Result<i128, Fallen>
-    ensures { (b : Setting) (w : Seen) → Did int (does b (Needs (worth_of v))) result w w told.old.items told.new.items }
+pub(crate) fn need(v: Got, told: &mut Vec<What>) -> Result<i128, WorldFailure>
+    ensures { (b : Setting) (w : WorldView) → Did int (does b (Needs (worth_of v))) result w w told.old.items told.new.items }
 {
     match v {
         Got::Scalar(Value::Int(n)) => Ok(n),
@@ -164,7 +164,7 @@ pub(crate) fn shift(
     v: &Got,
     x: &Got,
     told: &mut Vec<What>,
-) -> Result<Got, Fallen>
+) -> Result<Got, WorldFailure>
     requires { size ≤ 2 ^ 32 }
     ensures { (b : Setting) → Did worth_of (does b (Moves minus pointer_first size (worth_of v.now) (worth_of x.now))) result world.old world.new told.old.items told.new.items }
 {
@@ -182,7 +182,7 @@ pub(crate) fn subtract(
     v: &Got,
     x: &Got,
     told: &mut Vec<What>,
-) -> Result<Got, Fallen>
+) -> Result<Got, WorldFailure>
     requires { size ≤ 2 ^ 32 }
     ensures { (b : Setting) → Did worth_of (does b (Subtracts size (worth_of v.now) (worth_of x.now))) result world.old world.new told.old.items told.new.items }
 {
@@ -203,7 +203,7 @@ pub(crate) fn equal(
     v: &Got,
     x: &Got,
     told: &mut Vec<What>,
-) -> Result<Got, Fallen>
+) -> Result<Got, WorldFailure>
     ensures { (b : Setting) → Did worth_of (does b (Equals negated (worth_of v.now) (worth_of x.now))) result world.old world.new told.old.items told.new.items }
 {
     if knows_both(world, v, x) {
@@ -220,7 +220,7 @@ pub(crate) fn order(
     v: &Got,
     x: &Got,
     told: &mut Vec<What>,
-) -> Result<Got, Fallen>
+) -> Result<Got, WorldFailure>
     ensures { (b : Setting) → Did worth_of (does b (Orders op (worth_of v.now) (worth_of x.now))) result world.old world.new told.old.items told.new.items }
 {
     if can_order(world, op, v, x) {
@@ -236,7 +236,7 @@ pub(crate) fn select(
     offset: u64,
     v: &Got,
     told: &mut Vec<What>,
-) -> Result<Got, Fallen>
+) -> Result<Got, WorldFailure>
     ensures { (b : Setting) → Did worth_of (does b (Selects offset (worth_of v.now))) result world.old world.new told.old.items told.new.items }
 {
     if knows(world, v) {
@@ -254,7 +254,7 @@ pub(crate) fn part(
     shape: Shape,
     v: &Got,
     told: &mut Vec<What>,
-) -> Result<Got, Fallen>
+) -> Result<Got, WorldFailure>
     requires small { size ≤ 2 ^ 32 }
     requires size { HasSizeOf shape size }
     ensures { (b : Setting) (l : Lvalue) → size ≡ l.size → shape ≡ l.shape → Did worth_of (does b (TakesPart offset l (worth_of v.now))) result world.old world.new told.old.items told.new.items }
@@ -276,7 +276,7 @@ pub(crate) fn shift_by(
     v: &Got,
     x: &Got,
     told: &mut Vec<What>,
-) -> Result<Got, Fallen>
+) -> Result<Got, WorldFailure>
     ensures { (b : Setting) → Did worth_of (does b (Moves minus pointer_first (element_in types.now (tree types.now t.0)) (worth_of v.now) (worth_of x.now))) result world.old world.new told.old.items told.new.items }
 {
     match element_size(types, t) {
@@ -293,7 +293,7 @@ pub(crate) fn subtract_by(
     v: &Got,
     x: &Got,
     told: &mut Vec<What>,
-) -> Result<Got, Fallen>
+) -> Result<Got, WorldFailure>
     ensures { (b : Setting) → Did worth_of (does b (Subtracts (element_in types.now (tree types.now t.0)) (worth_of v.now) (worth_of x.now))) result world.old world.new told.old.items told.new.items }
 {
     match element_size(types, t) {
@@ -310,7 +310,7 @@ pub(crate) fn part_of(
     offset: u64,
     v: &Got,
     told: &mut Vec<What>,
-) -> Result<Got, Fallen>
+) -> Result<Got, WorldFailure>
     ensures { PartTaken types.now (tree types.now t.0) offset (worth_of v.now) result world.old world.new told.old.items told.new.items }
 {
     match size_of(types, t) {

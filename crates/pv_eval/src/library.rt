@@ -60,7 +60,7 @@ fn next_or_ask(
             },
         ))
     } else {
-        journal.settle();
+        journal.sequence_point();
         give(moment.ask(unit, line, f, l, &got))
     }
 }

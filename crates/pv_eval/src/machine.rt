@@ -56,9 +56,9 @@ impl Model for Machine {
     ghost use Rattle.std.specs.Coded.{codes};
     ghost use Rattle.pv_inst.specs.CountsCode.{counts_code};
     ghost use Rattle.pv_object.specs.Codes.{store_code};
-    ghost use Rattle.pv_eval.specs.Machines.{Machine as Seen};
+    ghost use Rattle.pv_eval.specs.Machines.{Machine as MachineView};
 
-    ghost Value = { Seen };
+    ghost Value = { MachineView };
 
     ghost coded = { Prim.hlevel (codes, counts_code, store_code) };
 

@@ -11,7 +11,7 @@ use crate::marked::{Marked, stamp, stamp_others};
 use crate::siding::{Side, keep_side, side_for};
 use pv_object::Value;
 use pv_watch::What;
-use pv_world::{Cause, Failure as Fallen, Got, World};
+use pv_world::{Cause, Failure as WorldFailure, Got, World};
 use std::alloc::Global;
 use std::marker::Model;
 
@@ -33,9 +33,9 @@ impl Model for Moment {
     ghost use Rattle.std.specs.Coded.{codes};
     ghost use Rattle.pv_inst.specs.CountsCode.{counts_code};
     ghost use Rattle.pv_object.specs.Codes.{store_code};
-    ghost use Rattle.pv_eval.specs.Moments.{Moment as Seen, sides_of};
+    ghost use Rattle.pv_eval.specs.Moments.{Moment as MomentView, sides_of};
 
-    ghost Value = { Seen };
+    ghost Value = { MomentView };
 
     ghost coded = { Prim.hlevel (codes, counts_code, store_code) };
 
@@ -86,7 +86,7 @@ impl Moment {
     /// An operation of the node in this line gave a value, where there were so many pairs before it: what it told is marked.
     /// In a settled run a pair that it made keeps its side.
     #[inline(always)]
-    fn settle(&mut self, line: u32, before: u64, told: &[What]) -> Result<(), Failure>
+    fn conclude(&mut self, line: u32, before: u64, told: &[What]) -> Result<(), Failure>
         ensures settled { SettledAs line before told.now result self.old self.new }
         ensures kept { self.new ≡ record self.old { world = self.new.world; waiting = self.new.waiting } }
     {
@@ -112,22 +112,22 @@ impl Moment {
         line: u32,
         before: u64,
         told: &[What],
-        answer: Result<Got, Fallen>,
+        answer: Result<Got, WorldFailure>,
     ) -> Result<Got, Failure>
         ensures acted { ClosedAs line before (λ w op. Did worth_of op answer w self.old.world [] told.now) (λ r s. Came r result s) self.old self.new }
         ensures same { IfOk result (λ g. answer ≡ Ok g) }
         ensures kept { self.new ≡ record self.old { world = self.new.world; waiting = self.new.waiting } }
     {
         match answer {
-            Ok(g) => match self.settle(line, before, told) {
+            Ok(g) => match self.conclude(line, before, told) {
                 Ok(()) => Ok(g),
                 Err(e) => Err(e),
             },
-            Err(Fallen::Stop(cause)) => match self.mark(told) {
+            Err(WorldFailure::Stop(cause)) => match self.mark(told) {
                 Ok(()) => Err(Failure::Stop(cause, line)),
                 Err(e) => Err(e),
             },
-            Err(Fallen::NoMemory) => Err(Failure::NoMemory),
+            Err(WorldFailure::NoMemory) => Err(Failure::NoMemory),
         }
     }
 
@@ -137,7 +137,7 @@ impl Moment {
         line: u32,
         before: u64,
         told: &[What],
-        answer: Result<bool, Fallen>,
+        answer: Result<bool, WorldFailure>,
     ) -> Result<bool, Failure>
         ensures tested { ClosedAs line before (λ w op. Did truth_int op answer w self.old.world [] told.now) (λ r s. Tested r result s) self.old self.new }
         ensures kept { self.new ≡ record self.old { world = self.new.world; waiting = self.new.waiting } }
@@ -160,7 +160,7 @@ impl Moment {
         line: u32,
         before: u64,
         told: &[What],
-        answer: Result<i128, Fallen>,
+        answer: Result<i128, WorldFailure>,
     ) -> Result<i128, Failure>
         ensures needed { ClosedAs line before (λ w op. Did int op answer w self.old.world [] told.now) (λ r s. Needed r result s) self.old self.new }
         ensures kept { self.new ≡ record self.old { world = self.new.world; waiting = self.new.waiting } }
@@ -183,7 +183,7 @@ impl Moment {
         line: u32,
         before: u64,
         told: &[What],
-        answer: Result<u32, Fallen>,
+        answer: Result<u32, WorldFailure>,
     ) -> Result<u32, Failure>
         ensures called { ClosedAs line before (λ w op. Did by_number op answer w self.old.world [] told.now) (λ r s. Called r result s) self.old self.new }
         ensures same { IfOk result (λ f. answer ≡ Ok f) }
@@ -212,7 +212,7 @@ impl Moment {
         line: u32,
         before: u64,
         told: &[What],
-        answer: Result<(), Fallen>,
+        answer: Result<(), WorldFailure>,
     ) -> Result<(), Failure>
         ensures made { ClosedAs line before (λ w op. Did no_worth op answer w self.old.world [] told.now) (λ r s. Made r result s) self.old self.new }
         ensures kept { self.new ≡ record self.old { world = self.new.world; waiting = self.new.waiting } }

@@ -5,11 +5,11 @@ ghost use Rattle.pv_types.specs.Known.{tree};
 ghost use Rattle.pv_inst.specs.Table.{IsMadeIn};
 ghost use Rattle.pv_shadow.specs.Whole.{plain};
 ghost use Rattle.pv_watch.specs.declared.event.What.{What as Told};
-ghost use Rattle.pv_world.specs.Worlds.{World as Seen};
+ghost use Rattle.pv_world.specs.Worlds.{World as WorldView};
 ghost use Rattle.pv_world.specs.Objects.{instance_of, put_at, base_in, object_request, makes_object};
 ghost use Rattle.pv_world.specs.Preconditions.{HasRoom, HasSizeOf, IsStored};
 ghost use Rattle.pv_world.specs.Accesses.{mark_of, stored_as};
-ghost use Rattle.pv_world.specs.Coming.{Came, CameMade, Did, Seen as Come, no_worth, worth_of, IsMadeWorth};
+ghost use Rattle.pv_world.specs.Coming.{Came, CameMade, Did, Seen, no_worth, worth_of, IsMadeWorth};
 ghost use Rattle.pv_eval.specs.TypeForms.{lvalue, is_constant};
 ghost use Rattle.pv_eval.specs.Sizes.{setting_of, size_in};
 ghost use Rattle.pv_eval.specs.Objects.{heap_name};
@@ -27,17 +27,17 @@ use pv_shadow::Byte;
 use pv_typed::{Object, TypedUnit};
 use pv_types::TypeId;
 use pv_watch::What;
-use pv_world::{Cause, Failure as Fallen, Got, Shape, World};
+use pv_world::{Cause, Failure as WorldFailure, Got, Shape, World};
 use std::alloc::Global;
 
 /// Why a request of this name ends the run.
 #[tactic(auto, using(crate::proofs::Possible::refused_stop))]
-fn refused(name: u32, e: CreateError) -> Fallen
-    ensures { (w : Seen) (es : List Told) (s : Come) → CameMade name (Err e) w es s → Came no_worth (Err result) w es s }
+fn refused(name: u32, e: CreateError) -> WorldFailure
+    ensures { (w : WorldView) (es : List Told) (s : Seen) → CameMade name (Err e) w es s → Came no_worth (Err result) w es s }
 {
     match e {
-        CreateError::NoMemory => Fallen::NoMemory,
-        e => Fallen::Stop(Cause::Refused(name, e)),
+        CreateError::NoMemory => WorldFailure::NoMemory,
+        e => WorldFailure::Stop(Cause::Refused(name, e)),
     }
 }
 
@@ -68,7 +68,7 @@ fn make_sized(
     size: u64,
     align: u64,
     told: &mut Vec<What>,
-) -> Result<(), Fallen>
+) -> Result<(), WorldFailure>
     requires named { x.name < length unit.now.names }
     requires name { text_of unit.now.names x.name ≢ codes "@heap" }
     requires some { 1 ≤ size }
@@ -89,7 +89,7 @@ pub(crate) fn make(
     unit: &TypedUnit,
     o: u32,
     told: &mut Vec<What>,
-) -> Result<(), Fallen>
+) -> Result<(), WorldFailure>
     requires runnable { IsRunnable unit.now }
     requires named { o < length unit.now.objects }
     ensures { Did no_worth (does (setting_of unit.now) (Makes o)) result world.old world.new told.old.items told.new.items }
@@ -111,7 +111,7 @@ pub(crate) fn make_function(
     unit: &TypedUnit,
     f: u32,
     told: &mut Vec<What>,
-) -> Result<(), Fallen>
+) -> Result<(), WorldFailure>
     requires runnable { IsRunnable unit.now }
     requires named { f < length unit.now.functions }
     ensures { Did no_worth (does (setting_of unit.now) (MakesFunction f)) result world.old world.new told.old.items told.new.items }
@@ -132,7 +132,7 @@ pub(crate) fn make_literal(
     unit: &TypedUnit,
     l: u32,
     told: &mut Vec<What>,
-) -> Result<(), Fallen>
+) -> Result<(), WorldFailure>
     requires runnable { IsRunnable unit.now }
     requires named { l < length unit.now.literals }
     ensures { Did no_worth (does (setting_of unit.now) (MakesLiteral l)) result world.old world.new told.old.items told.new.items }
@@ -153,7 +153,7 @@ pub(crate) fn finish(
     unit: &TypedUnit,
     o: u32,
     told: &mut Vec<What>,
-) -> Result<(), Fallen>
+) -> Result<(), WorldFailure>
     requires named { o < length unit.now.objects }
     ensures { Did no_worth (does (setting_of unit.now) (Ends o)) result world.old world.new told.old.items told.new.items }
 {
@@ -173,7 +173,7 @@ fn fill_sized(
     lasting: bool,
     size: u64,
     value: Option<u8>,
-) -> Result<(), Fallen>
+) -> Result<(), WorldFailure>
     ensures { (told : List Told) → Did no_worth (fills_sized o lasting size value) result world.old world.new told told }
 {
     let i = world.instance(o, lasting);
@@ -190,7 +190,7 @@ pub(crate) fn fill(
     unit: &TypedUnit,
     o: u32,
     value: Option<u8>,
-) -> Result<(), Fallen>
+) -> Result<(), WorldFailure>
     requires named { o < length unit.now.objects }
     ensures { (told : List Told) → Did no_worth (does (setting_of unit.now) (Fills o value)) result world.old world.new told told }
 {

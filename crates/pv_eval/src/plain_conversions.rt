@@ -4,7 +4,7 @@ ghost use Rattle.pv_types.specs.Known.{tree};
 ghost use Rattle.pv_typed.specs.declared.nodes.Typed.{Typed as Row};
 ghost use Rattle.pv_typed.specs.TypedTree.{type_of};
 ghost use Rattle.pv_typed.specs.NodeTrees.{expression_at, IsExpression};
-ghost use Rattle.pv_world.specs.Worlds.{World as Seen};
+ghost use Rattle.pv_world.specs.Worlds.{World as WorldView};
 ghost use Rattle.pv_world.specs.Worths.{int, pointer, null_pointer};
 ghost use Rattle.pv_eval.specs.Conversions.{how_to};
 ghost use Rattle.pv_eval.specs.Operations.{Converts};
@@ -80,7 +80,7 @@ pub(crate) fn converted_value(unit: &TypedUnit, d: NodeId, v: Found) -> Option<F
 pub(crate) fn cast(unit: &TypedUnit, n: NodeId, a: NodeId, first: Found) -> Option<Found>
     requires there { IsExpression unit.now n }
     requires operand { IsExpression unit.now a }
-    ensures { (w : Seen) → IfSome result (λ v. GivesWith unit.now w (type_of (expression_at unit.now n)) (Row.Cast a) (found_worth first) (found_worth v)) }
+    ensures { (w : WorldView) → IfSome result (λ v. GivesWith unit.now w (type_of (expression_at unit.now n)) (Row.Cast a) (found_worth first) (found_worth v)) }
 {
     changed(unit, unit.type_of(a), unit.type_of(n), first)
 }

@@ -5,7 +5,7 @@ ghost use Rattle.pv_types.specs.Known.{tree};
 ghost use Rattle.pv_typed.specs.declared.nodes.Typed.{Typed as Row};
 ghost use Rattle.pv_typed.specs.TypedTree.{type_of};
 ghost use Rattle.pv_typed.specs.NodeTrees.{expression_at, IsExpression};
-ghost use Rattle.pv_world.specs.Worlds.{World as Seen};
+ghost use Rattle.pv_world.specs.Worlds.{World as WorldView};
 ghost use Rattle.pv_world.specs.Worths.{int};
 ghost use Rattle.pv_world.specs.declared.got.How.TheVariants.{Rounds};
 ghost use Rattle.pv_eval.specs.Conversions.{how_to};
@@ -134,7 +134,7 @@ pub(crate) fn arithmetic(
 ) -> Option<Found>
     requires left { IsExpression unit.now a }
     requires right { IsExpression unit.now d }
-    ensures { (w : Seen) (t : Ty) → IfSome result (λ v. GivesWithBoth unit.now w t (Row.Arithmetic op a d) (found_worth first) (found_worth second) (found_worth v)) }
+    ensures { (w : WorldView) (t : Ty) → IfSome result (λ v. GivesWithBoth unit.now w t (Row.Arithmetic op a d) (found_worth first) (found_worth second) (found_worth v)) }
 {
     let x = converted(unit, a, first)?;
     let y = converted(unit, d, second)?;
@@ -148,7 +148,7 @@ pub(crate) fn arithmetic(
 pub(crate) fn unary(unit: &TypedUnit, op: UnOp, n: NodeId, a: NodeId, first: Found) -> Option<Found>
     requires there { IsExpression unit.now n }
     requires operand { IsExpression unit.now a }
-    ensures { (w : Seen) → IfSome result (λ v. GivesWith unit.now w (type_of (expression_at unit.now n)) (Row.Unary op a) (found_worth first) (found_worth v)) }
+    ensures { (w : WorldView) → IfSome result (λ v. GivesWith unit.now w (type_of (expression_at unit.now n)) (Row.Unary op a) (found_worth first) (found_worth v)) }
 {
     let x = converted(unit, a, first)?;
     match calculated_one(op, kind(unit.types(), unit.type_of(n)), x) {

@@ -26,7 +26,7 @@ use pv_tree::NodeId;
 use pv_typed::TypedUnit;
 use pv_types::TypeId;
 use pv_watch::What;
-use pv_world::{Failure as Fallen, Got, World, pointer_of};
+use pv_world::{Failure as WorldFailure, Got, World, pointer_of};
 use std::alloc::Global;
 
 /// A read through a complete type, of a place whose name was made.
@@ -38,7 +38,7 @@ fn read_known(
     journal: &mut Journal,
     world: &mut World,
     told: &mut Vec<What>,
-) -> Result<Got, Fallen>
+) -> Result<Got, WorldFailure>
     requires known { AreKnown unit.now }
     requires complete { IsComplete unit.now.known l }
     requires some { 1 ≤ length journal.old }
@@ -61,7 +61,7 @@ fn read_place(
     journal: &mut Journal,
     world: &mut World,
     told: &mut Vec<What>,
-) -> Result<Got, Fallen>
+) -> Result<Got, WorldFailure>
     requires known { AreKnown unit.now }
     requires some { 1 ≤ length journal.old }
     ensures did { Did worth_of (does (setting_of unit.now) (Reads (lvalue_in unit.now t) (worth_of place.now) (rivals (top journal.old)))) result world.old world.new told.old.items told.new.items }
@@ -84,7 +84,7 @@ fn write_known(
     journal: &mut Journal,
     world: &mut World,
     told: &mut Vec<What>,
-) -> Result<Got, Fallen>
+) -> Result<Got, WorldFailure>
     requires known { AreKnown unit.now }
     requires complete { IsComplete unit.now.known l }
     requires some { 1 ≤ length journal.old }
@@ -119,7 +119,7 @@ fn write_place(
     journal: &mut Journal,
     world: &mut World,
     told: &mut Vec<What>,
-) -> Result<Got, Fallen>
+) -> Result<Got, WorldFailure>
     requires known { AreKnown unit.now }
     requires some { 1 ≤ length journal.old }
     ensures did { Did worth_of (does (setting_of unit.now) (Writes (lvalue_in unit.now t) (worth_of place.now) (worth_of v) from (rivals (top journal.old)))) result world.old world.new told.old.items told.new.items }

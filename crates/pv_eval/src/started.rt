@@ -97,9 +97,9 @@ pub(crate) struct Started {
 impl Model for Started {
     ghost use Rattle.std.specs.Prelude.{◌≡◌, false};
     ghost use Rattle.pv_eval.specs.Ahead.{Matched};
-    ghost use Rattle.pv_eval.specs.Machines.{Started as Seen, is_due_at};
+    ghost use Rattle.pv_eval.specs.Machines.{Started as StartedView, is_due_at};
 
-    ghost Value = { Seen };
+    ghost Value = { StartedView };
 
     ghost view = { λ e. record { root = e.root; frames = e.held.value.frames.items; opens = e.held.value.journal; place = e.place } };
 
@@ -338,7 +338,7 @@ impl Started {
         ensures fits { (u : Stored) → StartedFits u self.old → StartedFits u self.new }
     {
         self.untouched = false;
-        self.held.journal.settle();
+        self.held.journal.sequence_point();
         self.place = Now::Value(v);
     }
 }

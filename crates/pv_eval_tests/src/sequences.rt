@@ -26,7 +26,7 @@ fn a_sequence_point_settles(rt: HostRuntime) {
     j.enter(true).expect(&rt, "no memory");
     assert!(rt; j.access(32, 4, true).is_ok());
     j.leave();
-    j.settle();
+    j.sequence_point();
     j.enter(false).expect(&rt, "no memory");
     assert!(rt; j.access(32, 4, true).is_ok());
     j.leave();

@@ -34,7 +34,7 @@ use Rattle.pv_exec.specs.Works.{does, due, others, after_work, Standing}
 use Rattle.pv_exec.specs.Fits.{Runs, DoingFits, TasksStand}
 use Rattle.pv_eval.specs.Plainly.{GivesValue}
 use Rattle.pv_eval.specs.AtOnce.{EvaluatedFirst, ContinuesFirst, CutFirst, ticked, EvaluatedNext, CutNext}
-use Rattle.pv_exec.specs.Turning.{SettledLed, AdvancedLed, AtOnceLed, CutBefore, advanced_by}
+use Rattle.pv_exec.specs.Turning.{UntilDueLed, AdvancedLed, AtOnceLed, CutBefore, advanced_by}
 use Rattle.pv_exec.proofs.Bounds.{holds-out, has-stores}
 use Rattle.pv_exec.proofs.Turns.{keeps-setting}
 use Rattle.pv_exec.proofs.Pieces.{turned}
@@ -107,16 +107,16 @@ at-once-cut u ts old new h = λ b out es hs hl all low high g.
     g.law ∙ ap (λ (m : Res Reached). then_do m (rest (after_work b u) g.works)) (stops-at-once b u g.level old.started s (Stops Turns t) (h b out es hs hl (below b g.level).call low high))
 
 -- and the operations that come before the next turn
-pub at-once-settled : (u : Stored) (n : ℕ) (d e : Doing) (r : Result After Failure) (ts ts' : List Task) (old mid new : Machine) → mid.moment.taken ≤ n → new.moment.taken ≡ mid.moment.taken → KeepsSetting old.moment mid.moment → AtOnceLed u d e ts old mid
-    → SettledLed u e r ts ts' mid new → AdvancedLed u n d (advanced_by r) ts ts' old new
-at-once-settled u n d e (Ok (after.On f)) ts ts' old mid new le t k o h = λ b out es hs hl all q g. h b out es (keeps-setting b u old.moment mid.moment k hs) (k.total (length out) hl) all (o b out es hs hl all (omega (arith, t, q)) g)
-at-once-settled u n d e (Ok (after.Ended fl)) ts ts' old mid new le t k o h = λ b out es hs hl all q g. h b out es (keeps-setting b u old.moment mid.moment k hs) (k.total (length out) hl) all (o b out es hs hl all (omega (arith, le, q)) g)
-at-once-settled u n d e (Ok after.Valued) ts ts' old mid new le t k o h = λ b out es hs hl all q g. h b out es (keeps-setting b u old.moment mid.moment k hs) (k.total (length out) hl) all (o b out es hs hl all (omega (arith, le, q)) g)
-at-once-settled u n d e (Err (failure.Stop y line)) ts ts' old mid new le t k o h = λ b out es hs hl all q g. h b out es (keeps-setting b u old.moment mid.moment k hs) (k.total (length out) hl) all (o b out es hs hl all (omega (arith, le, q)) g)
-at-once-settled u n d e (Err failure.NoMemory) ts ts' old mid new le t k o h = tt
+pub at-once-until-due : (u : Stored) (n : ℕ) (d e : Doing) (r : Result After Failure) (ts ts' : List Task) (old mid new : Machine) → mid.moment.taken ≤ n → new.moment.taken ≡ mid.moment.taken → KeepsSetting old.moment mid.moment → AtOnceLed u d e ts old mid
+    → UntilDueLed u e r ts ts' mid new → AdvancedLed u n d (advanced_by r) ts ts' old new
+at-once-until-due u n d e (Ok (after.On f)) ts ts' old mid new le t k o h = λ b out es hs hl all q g. h b out es (keeps-setting b u old.moment mid.moment k hs) (k.total (length out) hl) all (o b out es hs hl all (omega (arith, t, q)) g)
+at-once-until-due u n d e (Ok (after.Ended fl)) ts ts' old mid new le t k o h = λ b out es hs hl all q g. h b out es (keeps-setting b u old.moment mid.moment k hs) (k.total (length out) hl) all (o b out es hs hl all (omega (arith, le, q)) g)
+at-once-until-due u n d e (Ok after.Valued) ts ts' old mid new le t k o h = λ b out es hs hl all q g. h b out es (keeps-setting b u old.moment mid.moment k hs) (k.total (length out) hl) all (o b out es hs hl all (omega (arith, le, q)) g)
+at-once-until-due u n d e (Err (failure.Stop y line)) ts ts' old mid new le t k o h = λ b out es hs hl all q g. h b out es (keeps-setting b u old.moment mid.moment k hs) (k.total (length out) hl) all (o b out es hs hl all (omega (arith, le, q)) g)
+at-once-until-due u n d e (Err failure.NoMemory) ts ts' old mid new le t k o h = tt
 
-pub cut-settled : (u : Stored) (d : Doing) (ts : List Task) (old mid new : Machine) → new.moment.taken ≡ mid.moment.taken → CutBefore u d ts old mid → CutBefore u d ts old new
-cut-settled u d ts old mid new t h = λ b out es hs hl all low high g. h b out es hs hl all low (omega (arith, t, high)) g
+pub cut-until-due : (u : Stored) (d : Doing) (ts : List Task) (old mid new : Machine) → new.moment.taken ≡ mid.moment.taken → CutBefore u d ts old mid → CutBefore u d ts old new
+cut-until-due u d ts old mid new t h = λ b out es hs hl all low high g. h b out es hs hl all low (omega (arith, t, high)) g
 
 -- one turn alone
 pub cut-turn : (u : Stored) (d : Doing) (ts : List Task) (old new : Machine) → due old.started d ≡ 1 → DoingFits u old.started d → new.moment.taken ≡ old.moment.taken + 1 → CutBefore u d ts old new

@@ -22,8 +22,8 @@ use Rattle.pv_exec.specs.Leading.{HoldsAfter}
 use Rattle.pv_exec.specs.Fits.{Runs, DoingFits}
 
 -- what operations that take no turn lead to
-abbrev pub SettledLed : Stored → Doing → Result After Failure → (before behind : List Task) → Machine → Machine → Type 0
-SettledLed u d r ts ts' old new =
+abbrev pub UntilDueLed : Stored → Doing → Result After Failure → (before behind : List Task) → Machine → Machine → Type 0
+UntilDueLed u d r ts ts' old new =
     Always u old.moment (λ b out es. (all : Res Reached) →
     Holds b u all ts old.started d (state_of old.moment out es) → HoldsAfter b u all r ts' new.started (state_of new.moment out es))
 

@@ -11,7 +11,7 @@ ghost use Rattle.pv_exec.specs.Parts.{choice_of};
 ghost use Rattle.pv_exec.specs.Read.{choice_in, ChoiceFits};
 ghost use Rattle.pv_exec.specs.Works.{due};
 ghost use Rattle.pv_exec.specs.Fits.{Runs, DoingFits, AfterRuns};
-ghost use Rattle.pv_exec.specs.Turning.{SettledLed, advanced_by, AdvancedLed, CutBefore, ComesAtOnce, DueAfter, AdvancedRuns, AdvancedPace};
+ghost use Rattle.pv_exec.specs.Turning.{UntilDueLed, advanced_by, AdvancedLed, CutBefore, ComesAtOnce, DueAfter, AdvancedRuns, AdvancedPace};
 
 use crate::once::{After, once};
 use crate::parts::{ChoiceParts, block_items, return_value};
@@ -59,7 +59,7 @@ fn is_due(doing: &Doing, machine: &Machine) -> bool
 }
 
 // Operations until a turn is due.
-fn settle(
+fn until_due(
     unit: &TypedUnit,
     tasks: &mut Vec<Task>,
     doing: Doing,
@@ -68,7 +68,7 @@ fn settle(
     requires runnable { IsRunnable unit.now }
     requires runs { Runs unit.now tasks.old.items machine.old.started doing }
     requires fit { Fit unit.now machine.old.started }
-    ensures holds { SettledLed unit.now doing result tasks.old.items tasks.new.items machine.old machine.new }
+    ensures holds { UntilDueLed unit.now doing result tasks.old.items tasks.new.items machine.old machine.new }
     ensures setting { KeepsSetting machine.old.moment machine.new.moment }
     ensures taken { machine.new.moment.taken ≡ machine.old.moment.taken }
     ensures fit { OnOk result (Fit unit.now machine.new.started) }
@@ -335,7 +335,7 @@ fn turn(
     ensures taken { machine.new.moment.taken ≡ machine.old.moment.taken + 1 }
 {
     match once(unit, tasks, doing, machine) {
-        Ok(After::On(next)) => next_of(settle(unit, tasks, next, machine)),
+        Ok(After::On(next)) => next_of(until_due(unit, tasks, next, machine)),
         Ok(After::Ended(flow)) => Advanced::Last(Last::Left(flow)),
         Ok(After::Valued) => Advanced::Last(Last::Valued),
         Err(e) => next_of(Err(e)),
@@ -369,7 +369,7 @@ pub fn advance(
         return Advanced::Last(Last::Turns);
     }
     match at_once(unit, plan, &doing, bound, machine) {
-        Some(next) => next_of(settle(unit, tasks, next, machine)),
+        Some(next) => next_of(until_due(unit, tasks, next, machine)),
         None => turn(unit, tasks, doing, bound, machine),
     }
 }

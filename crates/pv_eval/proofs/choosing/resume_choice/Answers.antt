@@ -24,30 +24,30 @@ returns-in-Err-clause-led c = λ b out es hs hl call.
 
 pub returns-then-chosen-clause-led : goal.returns-then-chosen-clause-led
 returns-then-chosen-clause-led c = λ b out es hs hl call.
-    rw (c.later.ensures, frame-is b call c.args.unit.now c.args.n c.args.x c.requires.form (Later true), c.settle.ensures, c.in-LogicalAnd.is, ← (c.line_of-line.ensures.expression c.requires.there))
+    rw (c.later.ensures, frame-is b call c.args.unit.now c.args.n c.args.x c.requires.form (Later true), c.sequence_point.ensures, c.in-LogicalAnd.is, ← (c.line_of-line.ensures.expression c.requires.there))
     (then-gives _ _ (truth_int true) _ (c.in-Ok.ensures.tested b out es hs hl ∙ ap (λ t. Gives (truth_int t) (state_of c.test.new.self out es)) c.if-chosen.true))
 
 pub returns-else-chosen-clause-led : goal.returns-else-chosen-clause-led
 returns-else-chosen-clause-led c = λ b out es hs hl call.
-    rw (c.truth.ensures, c.settle.ensures, c.in-LogicalAnd.is, ← (c.line_of-line.ensures.expression c.requires.there))
+    rw (c.truth.ensures, c.sequence_point.ensures, c.in-LogicalAnd.is, ← (c.line_of-line.ensures.expression c.requires.there))
     (then-gives _ _ (truth_int false) _ (c.in-Ok.ensures.tested b out es hs hl ∙ ap (λ t. Gives (truth_int t) (state_of c.test.new.self out es)) c.if-chosen.false))
 
 pub returns-then-chosen-2-clause-led : goal.returns-then-chosen-2-clause-led
 returns-then-chosen-2-clause-led c = λ b out es hs hl call.
-    rw (c.truth-then-chosen-2.ensures, c.settle.ensures, c.in-LogicalOr.is, ← (c.line_of-line.ensures.expression c.requires.there))
+    rw (c.truth-then-chosen-2.ensures, c.sequence_point.ensures, c.in-LogicalOr.is, ← (c.line_of-line.ensures.expression c.requires.there))
     (then-gives _ _ (truth_int true) _ (c.in-Ok.ensures.tested b out es hs hl ∙ ap (λ t. Gives (truth_int t) (state_of c.test.new.self out es)) c.if-chosen-2.true))
 
 pub returns-else-chosen-2-clause-led : goal.returns-else-chosen-2-clause-led
 returns-else-chosen-2-clause-led c = λ b out es hs hl call.
-    rw (c.later-else-chosen-2.ensures, frame-is b call c.args.unit.now c.args.n c.args.x c.requires.form (Later true), c.settle.ensures, c.in-LogicalOr.is, ← (c.line_of-line.ensures.expression c.requires.there))
+    rw (c.later-else-chosen-2.ensures, frame-is b call c.args.unit.now c.args.n c.args.x c.requires.form (Later true), c.sequence_point.ensures, c.in-LogicalOr.is, ← (c.line_of-line.ensures.expression c.requires.there))
     (then-gives _ _ (truth_int false) _ (c.in-Ok.ensures.tested b out es hs hl ∙ ap (λ t. Gives (truth_int t) (state_of c.test.new.self out es)) c.if-chosen-2.false))
 
 pub returns-then-chosen-3-clause-led : goal.returns-then-chosen-3-clause-led
 returns-then-chosen-3-clause-led c = λ b out es hs hl call.
-    rw (c.later-then-chosen-3.ensures, frame-is b call c.args.unit.now c.args.n c.args.x c.requires.form (Later true), c.settle.ensures, c.in-Conditional.is, ← (c.line_of-line.ensures.expression c.requires.there))
+    rw (c.later-then-chosen-3.ensures, frame-is b call c.args.unit.now c.args.n c.args.x c.requires.form (Later true), c.sequence_point.ensures, c.in-Conditional.is, ← (c.line_of-line.ensures.expression c.requires.there))
     (then-gives _ _ (truth_int true) _ (c.in-Ok.ensures.tested b out es hs hl ∙ ap (λ t. Gives (truth_int t) (state_of c.test.new.self out es)) c.if-chosen-3.true))
 
 pub returns-else-chosen-3-clause-led : goal.returns-else-chosen-3-clause-led
 returns-else-chosen-3-clause-led c = λ b out es hs hl call.
-    rw (c.later-else-chosen-3.ensures, frame-is b call c.args.unit.now c.args.n c.args.x c.requires.form (Later false), c.settle.ensures, c.in-Conditional.is, ← (c.line_of-line.ensures.expression c.requires.there))
+    rw (c.later-else-chosen-3.ensures, frame-is b call c.args.unit.now c.args.n c.args.x c.requires.form (Later false), c.sequence_point.ensures, c.in-Conditional.is, ← (c.line_of-line.ensures.expression c.requires.there))
     (then-gives _ _ (truth_int false) _ (c.in-Ok.ensures.tested b out es hs hl ∙ ap (λ t. Gives (truth_int t) (state_of c.test.new.self out es)) c.if-chosen-3.false))

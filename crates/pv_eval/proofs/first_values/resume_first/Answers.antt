@@ -38,7 +38,7 @@ pub returns-in-Read-clause-some : goal.returns-in-Read-clause-some
 returns-in-Read-clause-some c = rw c.give-in-Read.ensures (access-some c.args.unit.now c.args.moment.now _ c.read.result c.args.journal.now c.read.new.journal c.read.ensures.noted)
 
 pub returns-in-Comma-clause-led : goal.returns-in-Comma-clause-led
-returns-in-Comma-clause-led c = λ b out es hs hl call. rw (frame-is b call c.args.unit.now c.args.n c.args.x c.requires.form (Later true), c.settle.ensures, c.in-Comma.is) refl
+returns-in-Comma-clause-led c = λ b out es hs hl call. rw (frame-is b call c.args.unit.now c.args.n c.args.x c.requires.form (Later true), c.sequence_point.ensures, c.in-Comma.is) refl
 
 pub returns-in-Some : goal.returns-in-Some
 returns-in-Some c =

@@ -19,9 +19,9 @@ pub returns-else-i-children-clause-led : goal.returns-else-i-children-clause-led
 unfolding ev
 returns-else-i-children-clause-led c = λ b out es hs hl call.
     let u = c.args.unit.now in
-    led-from b call u _ _ c.give.result c.settle.new.self _
+    led-from b call u _ _ c.give.result c.sequence_point.new.self _
     (all-asked b call u c.args.n c.args.line c.len-i.result c.args.f c.args.l c.args.got c.children-children.result.now c.children-children.ensures (grind (arith, common_steps)) (top c.args.journal.now) (state_of c.args.moment.now out es) (omega (arith, c.if-i-children.false)))
-    (rw (c.give.ensures, c.settle.ensures) (came-given b call u c.ask.result _ (sequence_point (top c.args.journal.now) ∷ _) _ (c.ask.ensures.acted b out es hs hl)))
+    (rw (c.give.ensures, c.sequence_point.ensures) (came-given b call u c.ask.result _ (sequence_point (top c.args.journal.now) ∷ _) _ (c.ask.ensures.acted b out es hs hl)))
 
 pub returns-then-i-children-clause-fits : goal.returns-then-i-children-clause-fits
 returns-then-i-children-clause-fits c =

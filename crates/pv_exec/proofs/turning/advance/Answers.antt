@@ -8,8 +8,8 @@ use Rattle.pv_exec.specs.Fits.{Runs}
 use Rattle.pv_exec.specs.Turning.{AdvancedLed, AdvancedRuns}
 use Rattle.pv_exec.proofs.Bounds.{holds-out, has-stores}
 use Rattle.pv_exec.proofs.Pieces.{keeps-both}
-use Rattle.pv_exec.proofs.Turns.{settled-runs, pace-of}
-use Rattle.pv_exec.proofs.AtOnce.{at-once-settled, cut-settled, cut-turn, cut-none, runs-at-once}
+use Rattle.pv_exec.proofs.Turns.{until-due-runs, pace-of}
+use Rattle.pv_exec.proofs.AtOnce.{at-once-until-due, cut-until-due, cut-turn, cut-none, runs-at-once}
 use Rattle.pv_exec.proofs.turning.advance.Goals as goal
 
 pub returns-then-turns-bound-clause-holds : goal.returns-then-turns-bound-clause-holds
@@ -27,8 +27,8 @@ at_once-requires-clause-fits c = c.requires.runs.doing_fits
 pub at_once-requires-clause-room : goal.at_once-requires-clause-room
 at_once-requires-clause-room c = omega (arith, c.if-turns-bound.false, c.turns.ensures)
 
-pub settle-requires-clause-runs : goal.settle-requires-clause-runs
-settle-requires-clause-runs c =
+pub until_due-requires-clause-runs : goal.until_due-requires-clause-runs
+until_due-requires-clause-runs c =
     let old = c.args.machine.now.started in
     let e = c.in-Some.next in
     runs-at-once c.args.unit.now c.args.tasks.now.items old c.at_once.new.machine.started c.args.doing e c.requires.runs c.in-Some.ensures.some.waiting c.in-Some.ensures.some.fits
@@ -40,33 +40,33 @@ returns-in-Some-clause-holds c =
     let d = c.args.doing in
     let e = c.in-Some.next in
     let ts = c.args.tasks.now.items in
-    let ts' = c.settle.new.tasks.items in
+    let ts' = c.until_due.new.tasks.items in
     let old = c.args.machine.now in
     let mid = c.at_once.new.machine in
-    let new = c.settle.new.machine in
+    let new = c.until_due.new.machine in
     let comes = c.in-Some.ensures.some in
     subst (λ (a : Advanced). AdvancedLed u n d a ts ts' old new) (sym c.next_of.ensures)
-    (at-once-settled u n d e c.settle.result ts ts' old mid new comes.within c.settle.ensures.taken c.at_once.ensures.setting (comes.led ts) c.settle.ensures.holds)
+    (at-once-until-due u n d e c.until_due.result ts ts' old mid new comes.within c.until_due.ensures.taken c.at_once.ensures.setting (comes.led ts) c.until_due.ensures.holds)
 
 pub returns-in-Some-clause-setting : goal.returns-in-Some-clause-setting
-returns-in-Some-clause-setting c = keeps-both c.args.machine.now.moment c.at_once.new.machine.moment c.settle.new.machine.moment c.at_once.ensures.setting c.settle.ensures.setting
+returns-in-Some-clause-setting c = keeps-both c.args.machine.now.moment c.at_once.new.machine.moment c.until_due.new.machine.moment c.at_once.ensures.setting c.until_due.ensures.setting
 
 pub returns-in-Some-clause-runs : goal.returns-in-Some-clause-runs
 returns-in-Some-clause-runs c =
-    let new = c.settle.new.machine in
-    subst (λ (a : Advanced). AdvancedRuns c.args.unit.now c.settle.new.tasks.items new.started a) (sym c.next_of.ensures)
-    (settled-runs c.args.unit.now c.settle.new.tasks.items new.started c.settle.result c.settle.ensures.runs c.settle.ensures.fit c.settle.ensures.due)
+    let new = c.until_due.new.machine in
+    subst (λ (a : Advanced). AdvancedRuns c.args.unit.now c.until_due.new.tasks.items new.started a) (sym c.next_of.ensures)
+    (until-due-runs c.args.unit.now c.until_due.new.tasks.items new.started c.until_due.result c.until_due.ensures.runs c.until_due.ensures.fit c.until_due.ensures.due)
 
 pub returns-in-Some-clause-cut : goal.returns-in-Some-clause-cut
 returns-in-Some-clause-cut c =
     let ts = c.args.tasks.now.items in
-    cut-settled c.args.unit.now c.args.doing ts c.args.machine.now c.at_once.new.machine c.settle.new.machine c.settle.ensures.taken (c.in-Some.ensures.some.cut ts)
+    cut-until-due c.args.unit.now c.args.doing ts c.args.machine.now c.at_once.new.machine c.until_due.new.machine c.until_due.ensures.taken (c.in-Some.ensures.some.cut ts)
 
 pub returns-in-Some-clause-pace : goal.returns-in-Some-clause-pace
 returns-in-Some-clause-pace c =
     let more = c.in-Some.ensures.some.more in
     let within = c.in-Some.ensures.some.within in
-    pace-of c.args.bound c.args.machine.now.moment.taken c.settle.new.machine.moment.taken c.next_of.result (omega (arith, c.settle.ensures.taken, more)) (omega (arith, c.settle.ensures.taken, within))
+    pace-of c.args.bound c.args.machine.now.moment.taken c.until_due.new.machine.moment.taken c.next_of.result (omega (arith, c.until_due.ensures.taken, more)) (omega (arith, c.until_due.ensures.taken, within))
 
 pub turn-requires-clause-runs : goal.turn-requires-clause-runs
 turn-requires-clause-runs c = subst (λ (q : Machine). Runs c.args.unit.now c.args.tasks.now.items q.started c.args.doing) (sym c.in-None.ensures.none) c.requires.runs

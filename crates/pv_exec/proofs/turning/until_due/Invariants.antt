@@ -6,7 +6,7 @@ use Rattle.pv_exec.specs.Tasks.{Reached}
 use Rattle.pv_exec.specs.Works.{Holds}
 use Rattle.pv_exec.specs.Fits.{Runs}
 use Rattle.pv_exec.specs.Pace.{doing_ops}
-use Rattle.pv_exec.proofs.turning.settle.Given as goal
+use Rattle.pv_exec.proofs.turning.until_due.Given as goal
 
 abbrev pub invariant-operations : goal.invariant-operations
 invariant-operations l = record {

@@ -6,7 +6,7 @@ use Rattle.pv_exec.specs.Leading.{HoldsAfter}
 use Rattle.pv_exec.specs.Fits.{AfterRuns}
 use Rattle.pv_exec.proofs.Pieces.{keeps-both}
 use Rattle.pv_exec.proofs.Turns.{keeps-setting, undue, not-due}
-use Rattle.pv_exec.proofs.turning.settle.Goals as goal
+use Rattle.pv_exec.proofs.turning.until_due.Goals as goal
 
 pub operations-preserved : goal.operations-preserved
 operations-preserved c =

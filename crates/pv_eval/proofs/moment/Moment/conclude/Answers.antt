@@ -1,7 +1,7 @@
 use Rattle.std.proofs.Common.{sym, ◌∙◌, arith}
 use Rattle.pv_eval.specs.Moments.{sides_of}
 use Rattle.pv_eval.proofs.Sides.{keeps_made}
-use Rattle.pv_eval.proofs.moment.Moment.settle.Goals as goal
+use Rattle.pv_eval.proofs.moment.Moment.conclude.Goals as goal
 
 pub keep_side-requires : goal.keep_side-requires
 keep_side-requires c =
