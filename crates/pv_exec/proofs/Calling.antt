@@ -30,7 +30,8 @@ use Rattle.pv_exec.specs.declared.task.Doing.{Doing}
 use Rattle.pv_exec.specs.declared.task.Task.TheVariants as task
 use Rattle.pv_exec.specs.declared.task.Doing.TheVariants as doing
 use Rattle.pv_exec.specs.declared.task.Way.TheVariants as way
-use Rattle.pv_exec.specs.Flows.{Flow, end_all}
+use Rattle.pv_exec.specs.Flows.{Flow}
+use Rattle.pv_exec.specs.Blocks.{end_all}
 use Rattle.pv_exec.specs.Calls.{below, take_params, runs_body, value_by}
 use Rattle.pv_exec.specs.Tasks.{Valued, left, after_flow, after_task}
 use Rattle.pv_exec.specs.Works.{does, due}

@@ -19,7 +19,7 @@ use Rattle.pv_exec.specs.declared.task.Flow.{Flow}
 use Rattle.pv_exec.specs.declared.task.Doing.{Doing}
 use Rattle.pv_exec.specs.declared.running.Ended.{Ended}
 use Rattle.pv_exec.specs.Flows as execution
-use Rattle.pv_exec.specs.Flows.{end_all}
+use Rattle.pv_exec.specs.Blocks.{end_all}
 use Rattle.pv_exec.specs.Calls.{below, take_params, runs_body, call_body, value_by}
 use Rattle.pv_exec.specs.Called.{begun, BodyIs}
 use Rattle.pv_exec.specs.Preparing.{prepare}

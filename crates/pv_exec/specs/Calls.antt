@@ -9,7 +9,8 @@ use Rattle.pv_world.specs.Worths.{int}
 use Rattle.pv_eval.specs.States.{Setting, State, Res, Gives, Stops, Unreached, then_do, tick}
 use Rattle.pv_eval.specs.TypeForms.{lvalue, gives_none}
 use Rattle.pv_eval.specs.Operations.{Makes, BeginsBody, EndsBody, Puts, act}
-use Rattle.pv_exec.specs.Flows.{Flow, Falls, Returns, Below, end_all, round, round_do}
+use Rattle.pv_exec.specs.Flows.{Flow, Falls, Returns, Below, round, round_do}
+use Rattle.pv_exec.specs.Blocks.{end_all}
 use Rattle.pv_exec.specs.Execution.{ex}
 
 -- 6.5.2.2p4, 6.9.1p10: each parameter is made and gets its argument

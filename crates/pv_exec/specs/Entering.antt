@@ -3,7 +3,8 @@ use Rattle.std.specs.Prelude.{Bool, true, false, Some, if◌then◌else◌}
 use Rattle.pv_typed.specs.TypedStatement.{TypedStatement, Block, Expression, If, IfElse, Switch, Case, Default, While, DoWhile, For, ForDeclaration, Continue, Break, Return}
 use Rattle.pv_eval.specs.States.{Setting, State, Res, Gives, then_do}
 use Rattle.pv_exec.specs.Execution.{ex, exs}
-use Rattle.pv_exec.specs.Flows.{Flow, Falls, Breaks, Continues, Below, full, nothing_done, testing, scoped, stepped, round_do, returns_value}
+use Rattle.pv_exec.specs.Flows.{Flow, Falls, Breaks, Continues, Below, full, nothing_done, testing, stepped, round_do, returns_value}
+use Rattle.pv_exec.specs.Blocks.{scoped}
 use Rattle.pv_world.specs.Worths.{is_true}
 use Rattle.pv_exec.specs.Parts.{loop_of, rounds, selected, selection_of}
 use Rattle.pv_exec.specs.Tasks.{within}

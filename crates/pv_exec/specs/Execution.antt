@@ -8,7 +8,8 @@ use Rattle.pv_world.specs.Worths.{is_true, int_of}
 use Rattle.pv_eval.specs.States.{Setting, State, Res, Gives, then_do, tick}
 use Rattle.pv_eval.specs.Operations.{Needs, act}
 use Rattle.pv_eval.specs.Steps.{converted}
-use Rattle.pv_exec.specs.Flows.{Flow, Falls, Breaks, Continues, Below, full, nothing_done, testing, falls, switched, scoped, declares, stepped, round, round_do, returns_value}
+use Rattle.pv_exec.specs.Flows.{Flow, Falls, Breaks, Continues, Below, full, nothing_done, testing, falls, switched, declares, stepped, round, round_do, returns_value}
+use Rattle.pv_exec.specs.Blocks.{scoped}
 use Rattle.pv_exec.specs.Labels.{Target, target_of, is_target, unless_none}
 
 -- 6.8p2, 5.1.2.3: what a statement does, its turn first; what the statements of a list do; and what they do from a label on

@@ -1,4 +1,4 @@
--- Words of execution (C17 6.8): how a statement is left, what lies below, the objects of a block, the stores of an initializer,
+-- Words of execution (C17 6.8): how a statement is left, what lies below, the stores of an initializer,
 -- and rounds of loops.
 use Rattle.std.specs.Prelude.{ℕ, Bool, true, false, List, [], ◌∷◌, Some, None, if◌then◌else◌}
 use Rattle.std.specs.declared.option.Option.{Option}
@@ -9,7 +9,7 @@ use Rattle.pv_world.specs.Worlds.{Worth, Nothing}
 use Rattle.pv_world.specs.Worths.{is_true}
 use Rattle.pv_eval.specs.States.{Setting, State, Res, Gives, then_do, tick}
 use Rattle.pv_eval.specs.TypeForms.{lvalue, size_of}
-use Rattle.pv_eval.specs.Operations.{Tests, Accepts, Makes, Ends, Fills, Puts, PutsText, act}
+use Rattle.pv_eval.specs.Operations.{Tests, Accepts, Fills, Puts, PutsText, act}
 use Rattle.pv_eval.specs.Steps.{Calling, converted, handed}
 use Rattle.pv_eval.specs.Evaluation.{ev}
 
@@ -53,20 +53,6 @@ goes_on _ go s = go s
 abbrev pub switched : Flow → State → Res Flow
 switched Breaks s = Gives Falls s
 switched flow s = Gives flow s
-
--- 6.2.4p6, 6.8.2p2: the objects of a block are made when it is entered, in the order of their declarations (which is our choice)
-abbrev pub make_all : Setting → List ℕ → State → Res Worth
-make_all b [] s = Gives Nothing s
-make_all b (o ∷ os) s = then_do (act b (object_at b.unit o).line (Makes o) s) (λ v s. make_all b os s)
-
--- 6.2.4p6: and end when it is left, in the same order
-abbrev pub end_all : Setting → List ℕ → State → Res Worth
-end_all b [] s = Gives Nothing s
-end_all b (o ∷ os) s = then_do (act b (object_at b.unit o).line (Ends o) s) (λ v s. end_all b os s)
-
--- 6.2.4p6: a block: its objects are made, it is executed, and in whatever way it is left they end
-abbrev pub scoped : Setting → List ℕ → (State → Res Flow) → State → Res Flow
-scoped b os body s = then_do (make_all b os s) (λ v s. then_do (body s) (λ fl s. then_do (end_all b os s) (λ v s. Gives fl s)))
 
 -- 6.7.9p11, p13, p14: a store of an initializer that is reached takes a turn: a value as if assigned, or a string's characters
 abbrev pub stores_value : Setting → Calling → (object : ℕ) → Store → StoredValue → State → Res Worth

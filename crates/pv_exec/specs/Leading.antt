@@ -20,6 +20,7 @@ use Rattle.pv_exec.specs.declared.task.Doing.{Doing}
 use Rattle.pv_exec.specs.declared.task.Way.{Way}
 use Rattle.pv_exec.specs.declared.task.Way.TheVariants as way
 use Rattle.pv_exec.specs.Flows as execution
+use Rattle.pv_exec.specs.Blocks.{end_all}
 use Rattle.pv_exec.specs.Execution.{ex}
 use Rattle.pv_exec.specs.Calls.{below}
 use Rattle.pv_exec.specs.Parts.{loop_of, tested}
@@ -77,7 +78,7 @@ tested_at u n v b k s = tested b (below b k) (loop_of (statement_at u n)) v s
 
 -- 6.2.4p6: a block that was left so: its objects end
 abbrev pub block_left : Stored → NodeId → execution.Flow → Setting → (level : ℕ) → State → Res execution.Flow
-block_left u n fl b k s = then_do (execution.end_all b (declared_of (statement_at u n)) s) (λ v s. Gives fl s)
+block_left u n fl b k s = then_do (end_all b (declared_of (statement_at u n)) s) (λ v s. Gives fl s)
 
 -- a statement whose turn is due
 abbrev pub EnterLed : Stored → NodeId → Result Way Failure → Machine → Machine → Type 0

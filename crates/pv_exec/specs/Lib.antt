@@ -1,4 +1,5 @@
 pub mod Flows
+pub mod Blocks
 pub mod Labels
 pub mod Execution
 pub mod Calls

@@ -9,7 +9,8 @@ use Rattle.pv_world.specs.Worths.{is_true, int_of}
 use Rattle.pv_eval.specs.States.{Setting, State, Res, Gives, then_do, tick}
 use Rattle.pv_eval.specs.Operations.{Tests, Needs, act}
 use Rattle.pv_eval.specs.Steps.{converted}
-use Rattle.pv_exec.specs.Flows.{Flow, Falls, Below, goes_on, switched, scoped, stepped, round, if_tested}
+use Rattle.pv_exec.specs.Flows.{Flow, Falls, Below, goes_on, switched, stepped, round, if_tested}
+use Rattle.pv_exec.specs.Blocks.{scoped}
 use Rattle.pv_exec.specs.Labels.{target_of, unless_none}
 use Rattle.pv_exec.specs.Execution.{ex, exs_at}
 

@@ -20,7 +20,7 @@ use Rattle.pv_exec.specs.declared.running.Ended.TheVariants as ended
 use Rattle.pv_exec.specs.declared.turning.Last.{Last}
 use Rattle.pv_exec.specs.declared.task.Doing.{Doing}
 use Rattle.pv_exec.specs.declared.task.Flow.{Flow}
-use Rattle.pv_exec.specs.Flows.{end_all}
+use Rattle.pv_exec.specs.Blocks.{end_all}
 use Rattle.pv_exec.specs.Calls.{below, call_body, value_by}
 use Rattle.pv_exec.specs.Preparing.{prepare}
 use Rattle.pv_exec.specs.Run.{call_main}

@@ -17,7 +17,8 @@ use Rattle.pv_typed.specs.Known.{Each}
 use Rattle.pv_eval.specs.TypeForms.{lvalue, size_of, gives_none}
 use Rattle.pv_eval.specs.Acting.{sided}
 use Rattle.pv_eval.specs.Operations.{Makes, BeginsBody, EndsBody, Puts, works, act}
-use Rattle.pv_exec.specs.Flows.{Flow, Falls, Breaks, Continues, Returns, Below, end_all}
+use Rattle.pv_exec.specs.Flows.{Flow, Falls, Breaks, Continues, Returns, Below}
+use Rattle.pv_exec.specs.Blocks.{end_all}
 use Rattle.pv_exec.specs.Execution.{ex}
 use Rattle.pv_exec.specs.Calls.{take_params, is_main, value_at_end, value_by, runs_body, call_body, below}
 use Rattle.pv_guards.specs.Worths.{IsOfType, IsThere}

@@ -19,7 +19,8 @@ use Rattle.pv_eval.specs.Sequenced.{Given}
 use Rattle.pv_eval.specs.Steps.{converted, handed}
 use Rattle.pv_eval.specs.Evaluation.{ev}
 use Rattle.pv_eval.specs.Operations.{Op, Tests, Accepts, Needs, Makes, Ends, Fills, Puts, PutsText, act}
-use Rattle.pv_exec.specs.Flows.{Flow, Falls, Breaks, Continues, Returns, Below, full, nothing_done, testing, falls, goes_on, switched, make_all, end_all, scoped, stores_value, store_all, begin_fill, declares, if_tested, stepped, round, round_do, returns_value}
+use Rattle.pv_exec.specs.Flows.{Flow, Falls, Breaks, Continues, Returns, Below, full, nothing_done, testing, falls, goes_on, switched, stores_value, store_all, begin_fill, declares, if_tested, stepped, round, round_do, returns_value}
+use Rattle.pv_exec.specs.Blocks.{make_all, end_all, scoped}
 use Rattle.pv_exec.specs.Labels.{Target, ToCase, ToDefault, ToNone, some_case, some_default, target_of, is_target, unless_none}
 use Rattle.pv_exec.specs.Switches.{some_target}
 use Rattle.pv_exec.specs.Execution.{ex, exs, exs_at}
