@@ -10,7 +10,7 @@ use Rattle.pv_token.specs.declared.token_table.TokenKind.{TokenKind}
 use Rattle.pv_token.specs.declared.token_table.TokenKind.TheVariants as kind
 use Rattle.pv_token.specs.declared.marks.Mark.TheVariants as mark
 use Rattle.pv_tree.specs.declared.nodes.NodeId.{NodeId}
-use Rattle.pv_tree.specs.Syntax.{DeclarationTree, Tree, Trees, NoTrees, TypeName, Absent}
+use Rattle.pv_tree.specs.Syntax.{DeclarationTree, Tree, NoTrees, TypeName, Absent}
 use Rattle.pv_tree.specs.Spelling.{declaration_tokens}
 use Rattle.pv_tree.specs.Grammar.{kinds, line_here}
 use Rattle.pv_tree.specs.Places.{Specifiers, AbstractDeclarators}
@@ -309,7 +309,7 @@ filled_kept is_type u v tokens deep last found at k e = record {
 module _ {S : Type 0} (typedefs : IndexSet ℕ S) (u v : Tables) (tokens : List Token) (deep last : ℕ) (found : List (Option (NodeId × ℕ))) (at : ℕ)
     (before : IsFilled (contains nat_eq typedefs) u tokens deep last found (suc at)) (keeps : Extends u v) (r : Option (NodeId × ℕ))
     (a : Answers v is_declaration tokens r (entry (names_of (contains nat_eq typedefs) (filled last found) u.forest tokens) deep tokens at))
-    (lists : List (Option (Option (NodeId × ℕ)))) (count : suc at + length lists ≡ last)
+    (lists : List (Option (Option (NodeId × ℕ)))) (count : suc at + length lists ≤ last)
     (given : AreGiven (filled last lists) typedefs (filled last found) u tokens) where
   list_behind : (p : ℕ) (o : Option (NodeId × ℕ)) → filled last lists p ≡ Some o → (last ≤ p) ⊎ (p < last) → (at < p) ⊎ (p ≤ at)
       → Answers v is_declarator tokens o (parameter_list (names_in typedefs (filled last (found ++ (r ∷ []))) v tokens) depth_limit (drop p tokens))
@@ -328,11 +328,12 @@ module _ {S : Type 0} (typedefs : IndexSet ℕ S) (u v : Tables) (tokens : List 
   })
 
 -- one place more
-module _ {S : Type 0} (typedefs : IndexSet ℕ S) (types : TypeMap) (u v : Tables) (tokens : List Token) (last : ℕ) (lists : List (Option (Option (NodeId × ℕ)))) (at : ℕ)
-    (count : suc at + length lists ≡ last) (given : AreGiven (filled last lists) typedefs types u tokens) (keeps : Extends u v) (x : Option (Option (NodeId × ℕ)))
-    (a : IfSome x (λ o. Answers v is_declarator tokens o (parameter_list (names_in typedefs types u tokens) depth_limit (drop at tokens)))) where
-  older : AreGiven (filled last lists) typedefs types v tokens
-  older = given_kept (filled last lists) typedefs types u v tokens given keeps
+module _ {S : Type 0} (typedefs : IndexSet ℕ S) (types : TypeMap) (u v : Tables) (tokens : List Token) (old new : ℕ → Option (Option (NodeId × ℕ))) (at : ℕ)
+    (given : AreGiven old typedefs types u tokens) (keeps : Extends u v) (x : Option (Option (NodeId × ℕ)))
+    (a : IfSome x (λ o. Answers v is_declarator tokens o (parameter_list (names_in typedefs types u tokens) depth_limit (drop at tokens))))
+    (before : (p : ℕ) → p < at → new p ≡ None) (noted : new at ≡ x) (behind : (p : ℕ) → at < p → new p ≡ old p) where
+  older : AreGiven old typedefs types v tokens
+  older = given_kept old typedefs types u v tokens given keeps
 
   list_here : (o : Option (NodeId × ℕ)) → x ≡ Some o
       → Answers v is_declarator tokens o (parameter_list (names_in typedefs types v tokens) depth_limit (drop at tokens))
@@ -341,27 +342,25 @@ module _ {S : Type 0} (typedefs : IndexSet ℕ S) (types : TypeMap) (u v : Table
       subst (λ (y : Option (Option (NodeId × ℕ))). IfSome y (λ z. Answers v is_declarator tokens z (parameter_list (names_in typedefs types u tokens) depth_limit (drop at tokens)))) e a in
       subst (λ (n : Names). Answers v is_declarator tokens o (parameter_list n depth_limit (drop at tokens))) (sym (names_kept typedefs types u v tokens given.tied keeps)) k
 
-  list_at : (p : ℕ) (o : Option (NodeId × ℕ)) → filled last (lists ++ (x ∷ [])) p ≡ Some o → (last ≤ p) ⊎ (p < last) → (at < p) ⊎ (p ≤ at) → (p < at) ⊎ (at ≤ p)
+  list_at : (p : ℕ) (o : Option (NodeId × ℕ)) → new p ≡ Some o → (at < p) ⊎ (p ≤ at) → (p < at) ⊎ (at ≤ p)
       → Answers v is_declarator tokens o (parameter_list (names_in typedefs types v tokens) depth_limit (drop p tokens))
-  list_at p o e (inl l) m n = let no : None ≡ Some o = sym (filled_beyond last (lists ++ (x ∷ [])) p l) ∙ e in absurd cc
-  list_at p o e (inr l) (inl m) n = older.read p o (sym (filled_old last lists p x l (omega (arith, count))) ∙ e)
-  list_at p o e (inr l) (inr m) (inl n) =
-      let no : None ≡ Some o = sym (filled_before last (lists ++ (x ∷ [])) p (omega (arith, count, length-append lists (x ∷ [])))) ∙ e in absurd cc
-  list_at p o e (inr l) (inr m) (inr n) =
+  list_at p o e (inl m) n = older.read p o (sym (behind p m) ∙ e)
+  list_at p o e (inr m) (inl n) = let no : None ≡ Some o = sym (before p n) ∙ e in absurd cc
+  list_at p o e (inr m) (inr n) =
       let same : at ≡ p = omega arith in
-      let here : x ≡ Some o = sym (filled_new last lists at x (omega (arith, count))) ∙ ap (filled last (lists ++ (x ∷ []))) same ∙ e in
+      let here : x ≡ Some o = sym noted ∙ ap new same ∙ e in
       subst (λ (q : ℕ). Answers v is_declarator tokens o (parameter_list (names_in typedefs types v tokens) depth_limit (drop q tokens))) same (list_here o here)
 
-  pub given_lists : (items : List (Option (Option (NodeId × ℕ)))) → items ≡ lists ++ (x ∷ []) → AreGiven (filled last items) typedefs types v tokens
-  given_lists items e = rw e (record {
+  pub lists_step : AreGiven new typedefs types v tokens
+  lists_step = record {
     tied = older.tied;
-    read = λ p o is. list_at p o is (elim (leb_tells last p) [ inl l ↦ inl l.1 | inr l ↦ inr l.1 ]) (sides at p) (sides p at);
-  })
+    read = λ p o is. list_at p o is (sides at p) (sides p at);
+  }
 
 pub names_step : {S : Type 0} (typedefs : IndexSet ℕ S) (u v : Tables) (tokens : List Token) (deep last : ℕ) (found : List (Option (NodeId × ℕ))) (at : ℕ) → 0 < at
     → IsFilled (contains nat_eq typedefs) u tokens deep last found at → Extends u v → (r : Option (NodeId × ℕ))
     → Answers v is_declaration tokens r (entry (names_of (contains nat_eq typedefs) (filled last found) u.forest tokens) deep tokens (at - 1))
-    → (to : ℕ) (lists : List (Option (Option (NodeId × ℕ)))) → to ≡ last → at + length lists ≡ to
+    → (to : ℕ) (lists : List (Option (Option (NodeId × ℕ)))) → to ≡ last → at + length lists ≤ to
     → AreGiven (filled to lists) typedefs (filled last found) u tokens
     → (items : List (Option (NodeId × ℕ))) → items ≡ found ++ (r ∷ []) → AreGiven (filled to lists) typedefs (filled last items) v tokens
 names_step typedefs u v tokens deep last found at some before keeps r a to lists same count given items e =
@@ -369,13 +368,6 @@ names_step typedefs u v tokens deep last found at some before keeps r a to lists
     let now = given_names typedefs u v tokens deep last found (at - 1) (subst (λ (k : ℕ). IsFilled (contains nat_eq typedefs) u tokens deep last found k) here before) keeps r a lists
     (omega (arith, count, same)) (subst (λ (n : ℕ). AreGiven (filled n lists) typedefs (filled last found) u tokens) same given) items e in
     subst (λ (n : ℕ). AreGiven (filled n lists) typedefs (filled last items) v tokens) (sym same) now
-
-pub lists_step : {S : Type 0} (typedefs : IndexSet ℕ S) (types : TypeMap) (u v : Tables) (tokens : List Token) (to : ℕ) (lists : List (Option (Option (NodeId × ℕ)))) (at : ℕ) → 0 < at
-    → at + length lists ≡ to → AreGiven (filled to lists) typedefs types u tokens → Extends u v → (x : Option (Option (NodeId × ℕ)))
-    → IfSome x (λ o. Answers v is_declarator tokens o (parameter_list (names_in typedefs types u tokens) depth_limit (drop (at - 1) tokens)))
-    → (items : List (Option (Option (NodeId × ℕ)))) → items ≡ lists ++ (x ∷ []) → AreGiven (filled to items) typedefs types v tokens
-lists_step typedefs types u v tokens to lists at some count given keeps x a items e =
-    given_lists typedefs types u v tokens to lists (at - 1) (omega (arith, count, some)) given keeps x a items e
 
 -- ---- of the table as a whole
 
@@ -390,7 +382,7 @@ module _ {S : Type 0} (typedefs : IndexSet ℕ S) (u v : Tables) (tokens : List 
   pub table_step : IsFilled (contains nat_eq typedefs) v tokens deep new.to new.found (at - 1)
   table_step = rw made (filled_step (contains nat_eq typedefs) u v tokens deep table.to table.found at some before keeps r a (table.found ++ (r ∷ [])) refl)
 
-  pub table_given : (to : ℕ) (lists : List (Option (Option (NodeId × ℕ)))) → to ≡ table.to → at + length lists ≡ to
+  pub table_given : (to : ℕ) (lists : List (Option (Option (NodeId × ℕ)))) → to ≡ table.to → at + length lists ≤ to
       → AreGiven (filled to lists) typedefs (type_map table) u tokens → AreGiven (filled to lists) typedefs (type_map new) v tokens
   table_given to lists same count given =
       rw made (names_step typedefs u v tokens deep table.to table.found at some before keeps r a to lists same count given (table.found ++ (r ∷ [])) refl)

@@ -1,6 +1,6 @@
 -- What is found at places, by numbers among what is found at all.
-use Rattle.std.proofs.Common.{◌≡◌, ◌<◌, ◌≤◌, ◌-◌, ℕ, zero, suc, List, [], ◌∷◌, ◌++◌, length, map, Option, Some, None, get_or, sym, ap, subst, ◌∙◌, refl, arith}
-use Rattle.std.proofs.lemmas.List.{length-append, length-map, map_push, get_or-map}
+use Rattle.std.proofs.Common.{◌≡◌, ◌<◌, ◌≤◌, ◌-◌, ℕ, zero, suc, List, [], ◌∷◌, ◌++◌, length, map, take, replicate, Option, Some, None, get_or, sym, ap, subst, ◌∙◌, refl, arith}
+use Rattle.std.proofs.lemmas.List.{length-append, length-map, map_push, get_or-map, take_all}
 use Rattle.std.proofs.lemmas.Option.{slice_get_read}
 use Rattle.pv_decl.specs.Sparse.{found_in, AreFound}
 
@@ -31,6 +31,24 @@ module _ {T : Type 0} where
   are_push values [] n h le = (le, tt)
   are_push values (m ∷ ns) n h le = (h.0, are_push values ns n h.1 le)
 
+  -- places at which nothing is found
+
+  nothing_everywhere : (values : List T) (k : ℕ) → map (found_in values) (replicate k zero) ≡ replicate k None
+  nothing_everywhere values zero = refl
+  nothing_everywhere values (suc k) = ap (λ (l : List (Option T)). None ∷ l) (nothing_everywhere values k)
+
+  nothing_behind : (values : List T) (ns : List ℕ) (k : ℕ) → map (found_in values) (ns ++ replicate k zero) ≡ map (found_in values) ns ++ replicate k None
+  nothing_behind values [] k = nothing_everywhere values k
+  nothing_behind values (n ∷ ns) k = ap (λ (l : List (Option T)). found_in values n ∷ l) (nothing_behind values ns k)
+
+  are_nothing : (values : List T) (k : ℕ) → AreFound values (replicate k zero)
+  are_nothing values zero = tt
+  are_nothing values (suc k) = (omega arith, are_nothing values k)
+
+  are_filled : (values : List T) (ns : List ℕ) (k : ℕ) → AreFound values ns → AreFound values (ns ++ replicate k zero)
+  are_filled values [] k h = are_nothing values k
+  are_filled values (n ∷ ns) k h = (h.0, are_filled values ns k h.1)
+
   found_at : (values : List T) (ns : List ℕ) (i d : ℕ) → AreFound values ns → i < length ns → get_or ns i d ≤ length values
   found_at values [] i d h lt = absurd (omega (arith, lt))
   found_at values (n ∷ ns) zero d h lt = h.0
@@ -48,6 +66,22 @@ module _ {T : Type 0} where
 
       pub nothing_found : new ≡ ns ++ zero ∷ [] → AreFound values new
       nothing_found pushed = subst (AreFound values) (sym pushed) (are_push values ns zero is (omega arith))
+
+      module _ (count len : ℕ) (resized : new ≡ take count ns ++ replicate (count - len) zero) (known : len ≡ length ns) (le : length now ≤ count) where
+        grown : new ≡ ns ++ replicate (count - length now) zero
+        grown =
+            resized
+            ∙ ap (λ (k : ℕ). take count ns ++ replicate (count - k) zero) (known ∙ places_count)
+            ∙ ap (λ (l : List ℕ). l ++ replicate (count - length now) zero) (take_all count ns (omega (arith, le, places_count)))
+
+        pub places_filled : map (found_in values) new ≡ now ++ replicate (count - length now) None
+        places_filled =
+            ap (map (found_in values)) grown
+            ∙ nothing_behind values ns (count - length now)
+            ∙ ap (λ (l : List (Option T)). l ++ replicate (count - length now) None) seen
+
+        pub places_found : AreFound values new
+        places_found = subst (AreFound values) (sym grown) (are_filled values ns (count - length now) is)
 
       module _ (v : T) (kept : List T) (more : kept ≡ values ++ v ∷ []) (n : ℕ) (last : n ≡ suc (length values)) (pushed : new ≡ ns ++ n ∷ []) where
         pub value_added : map (found_in kept) new ≡ now ++ (Some v ∷ [])

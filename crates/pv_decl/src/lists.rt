@@ -1,5 +1,5 @@
 //! Lists of parameters that are known before they are read.
-ghost use Rattle.std.specs.Prelude.{◌≡◌, ◌≤◌, [], IfSome, Some};
+ghost use Rattle.std.specs.Prelude.{◌≡◌, ◌≤◌, ◌<◌, ◌+◌, ℕ, [], IfSome, OnOk, Some, length};
 ghost use Rattle.pv_tree.specs.Tables.{optional_at, is_declarator, Is};
 ghost use Rattle.pv_decl_forms.specs.Declarators.{parametrized};
 ghost use Rattle.pv_decl.specs.Filled.{list_map};
@@ -21,8 +21,9 @@ use std::alloc::Global;
 pub(crate) struct ParameterLists {
     /// The place behind the last one.
     pub(crate) to: u32,
-    /// What is known of each place, from the last back to the first: the longest list of at most
-    /// 500 levels of nesting that begins there, as an abstract declarator, or that none does.
+    /// What is known of each place, from the last back to the first of which anything is: the longest
+    /// list of at most 500 levels of nesting that begins there, as an abstract declarator, or that none
+    /// does.
     pub(crate) found: Sparse<Option<(NodeId, u32)>>,
 }
 
@@ -36,6 +37,27 @@ impl ParameterLists {
             to,
             found: Sparse::new(alloc),
         }
+    }
+
+    /// Keeps what is known of a place that stands before all that are kept. Nothing is known of most
+    /// places, and they take no memory until something is known of one before them.
+    pub(crate) fn note(
+        &mut self,
+        at: u32,
+        list: Option<Option<(NodeId, u32)>>,
+    ) -> Result<(), NoMemory>
+        requires { at + length self.old.found < self.old.to }
+        ensures to { OnOk result (self.new.to ≡ self.old.to) }
+        ensures before { OnOk result (at + length self.new.found ≤ self.new.to) }
+        ensures here { OnOk result (list_map self.new at ≡ list) }
+        ensures behind { OnOk result ((p : ℕ) → at < p → list_map self.new p ≡ list_map self.old p) }
+    {
+        let Some(known) = list else {
+            return Ok(());
+        };
+        self.found.fill((self.to - 1 - at) as usize)?;
+        self.found.push(Some(known))?;
+        Ok(())
     }
 
     /// What is known of a place.

@@ -1,5 +1,5 @@
 //! Lists in which most places have nothing.
-ghost use Rattle.std.specs.Prelude.{◌≡◌, ◌<◌, ◌++◌, ◌∷◌, [], Some, None, length, slice_index_or, IfOk};
+ghost use Rattle.std.specs.Prelude.{◌≡◌, ◌≤◌, ◌<◌, ◌-◌, ◌++◌, ◌∷◌, [], Some, None, length, replicate, slice_index_or, IfOk};
 
 use pv_token::NoMemory;
 use std::alloc::Global;
@@ -56,6 +56,15 @@ impl<T: Copy> Sparse<T> {
         } else {
             Some(self.values[number as usize - 1])
         }
+    }
+
+    /// As many places in all, at the last of which nothing is found where they are new. The only error is want of memory.
+    pub fn fill(&mut self, count: usize) -> Result<(), NoMemory>
+        requires { length self.old ≤ count }
+        ensures { IfOk result (λ _. self.new ≡ self.old ++ replicate (count - length self.old) None) }
+    {
+        self.numbers.resize(count, 0)?;
+        Ok(())
     }
 
     /// One place more. The only error is want of memory, or of numbers.

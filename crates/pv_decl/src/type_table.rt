@@ -232,7 +232,7 @@ pub fn type_names(
         let found = entry(t, at, opens, types, &names, &lists, into)?;
         names.push(found)?;
         let list = list_entry(t, at, opens, types, &names, &lists, into)?;
-        lists.found.push(list)?;
+        lists.note(at, list)?;
     }
     Ok(names)
 }

@@ -1,4 +1,4 @@
-use Rattle.std.proofs.Common.{◌≤◌, ℕ, length}
+use Rattle.std.proofs.Common.{◌≤◌, length}
 use Rattle.pv_decl.proofs.type_table.closes_soon.Given as goal
 
 abbrev pub invariant-loop-left : goal.invariant-loop-left

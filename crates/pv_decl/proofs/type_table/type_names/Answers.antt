@@ -1,6 +1,5 @@
-use Rattle.std.proofs.Common.{sym, ap, ◌∙◌, ◌<◌, ◌≤◌, ◌-◌, [], ◌∷◌, length, nat_eq, arith, inl, inr}
+use Rattle.std.proofs.Common.{sym, ap, ◌∙◌, ◌<◌, ◌≤◌, ◌-◌, length, nat_eq, arith, inl, inr}
 use Rattle.std.specs.Prelude.{min}
-use Rattle.std.proofs.lemmas.List.{length-append}
 use Rattle.indexmap.specs.IndexSet.{contains}
 use Rattle.pv_tree.specs.Units.{depth_limit}
 use Rattle.pv_tree.proofs.Kept.{extends_same, extends_then}
@@ -9,6 +8,7 @@ use Rattle.pv_decl.specs.Filled.{list_map}
 use Rattle.pv_decl.specs.NameTables.{NameTable, type_map}
 use Rattle.pv_decl.proofs.Filling.{cut_by, filled_kept, table_none, table_step, table_given, lists_step}
 use Rattle.pv_decl.proofs.Givens.{given_tied, no_lists}
+use Rattle.pv_decl.proofs.Held.{filled_before}
 use Rattle.pv_decl.proofs.Tabled.{whole_found, whole_longest, whole_only, whole_none, whole_elsewhere, whole_outside}
 use Rattle.pv_decl.proofs.type_table.type_names.Goals as goal
 
@@ -52,6 +52,9 @@ list_entry-requires-clause-tied c =
     c.loop-at.invariant.filled c.entry.ensures.keeps c.in_ok-found.found c.in_ok-found.ensures.ok c.in_ok-push.ensures
     c.loop-at.lists.to c.loop-at.lists.found c.loop-at.invariant.same c.loop-at.invariant.count c.loop-at.invariant.given
 
+pub note-requires : goal.note-requires
+note-requires c = omega (arith, c.loop-at-test.true, c.loop-at.invariant.count)
+
 pub loop-at-preserved : goal.loop-at-preserved
 unfolding names_in
 loop-at-preserved c =
@@ -67,10 +70,11 @@ loop-at-preserved c =
     c.loop-at.lists.to c.loop-at.lists.found c.loop-at.invariant.same c.loop-at.invariant.count c.loop-at.invariant.given in
     record {
       filled = filled_kept (contains nat_eq c.args.types.now) v w c.args.t.now.tokens depth_limit c.push.new.self.to c.push.new.self.found (c.loop-at.at - 1) filled c.list_entry.ensures.keeps;
-      given = lists_step c.args.types.now (type_map c.push.new.self) v w c.args.t.now.tokens c.loop-at.lists.to c.loop-at.lists.found c.loop-at.at some c.loop-at.invariant.count
-          given c.list_entry.ensures.keeps c.in_ok-list.list c.in_ok-list.ensures.ok c.push-in-loop-at.new.self c.in_ok-push-2.ensures;
-      count = omega (arith, some, c.loop-at.invariant.count, ap length c.in_ok-push-2.ensures, length-append c.loop-at.lists.found (c.in_ok-list.list ∷ []));
-      same = c.loop-at.invariant.same ∙ sym made;
+      given = lists_step c.args.types.now (type_map c.push.new.self) v w c.args.t.now.tokens (list_map c.loop-at.lists) (list_map c.note.new.self) (c.loop-at.at - 1)
+          given c.list_entry.ensures.keeps c.in_ok-list.list c.in_ok-list.ensures.ok
+          (λ p low. filled_before c.note.new.self.to c.note.new.self.found p (omega (arith, low, c.in_ok-note.ensures.before))) c.in_ok-note.ensures.here c.in_ok-note.ensures.behind;
+      count = c.in_ok-note.ensures.before;
+      same = c.in_ok-note.ensures.to ∙ c.loop-at.invariant.same ∙ sym made;
       keeps = extends_then c.args.into.now u w c.loop-at.invariant.keeps on;
       low = inl low;
       cut = made ∙ c.loop-at.invariant.cut;
@@ -88,8 +92,8 @@ pub returns-in_err-list-clause-keeps : goal.returns-in_err-list-clause-keeps
 returns-in_err-list-clause-keeps c =
     extends_then c.args.into.now c.loop-at.into c.list_entry.new.into c.loop-at.invariant.keeps (extends_then c.loop-at.into c.entry.new.into c.list_entry.new.into c.entry.ensures.keeps c.list_entry.ensures.keeps)
 
-pub returns-in_err-push-2-clause-keeps : goal.returns-in_err-push-2-clause-keeps
-returns-in_err-push-2-clause-keeps c =
+pub returns-in_err-note-clause-keeps : goal.returns-in_err-note-clause-keeps
+returns-in_err-note-clause-keeps c =
     extends_then c.args.into.now c.loop-at.into c.list_entry.new.into c.loop-at.invariant.keeps (extends_then c.loop-at.into c.entry.new.into c.list_entry.new.into c.entry.ensures.keeps c.list_entry.ensures.keeps)
 
 pub returns-clause-keeps : goal.returns-clause-keeps

@@ -15,7 +15,7 @@ invariant-loop-at l =
     record {
       filled : IsFilled (contains nat_eq l.types) l.into tokens depth_limit l.names.to l.names.found l.at;
       given : AreGiven (list_map l.lists) l.types (type_map l.names) l.into tokens;
-      count : l.at + length l.lists.found ≡ l.lists.to;
+      count : l.at + length l.lists.found ≤ l.lists.to;
       same : l.lists.to ≡ l.names.to;
       keeps : Extends l.fn.into l.into;
       low : (l.from ≤ l.at) ⊎ (l.names.to ≤ l.at);

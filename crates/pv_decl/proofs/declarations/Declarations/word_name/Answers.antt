@@ -1,5 +1,3 @@
-use Rattle.std.proofs.Common.{List}
-use Rattle.pv_token.specs.declared.token_table.Token.{Token}
 use Rattle.pv_tree.proofs.Kept.{extends_then}
 use Rattle.pv_decl_forms.proofs.Answered.{moved, nothing}
 use Rattle.pv_decl.specs.Filled.{list_map}
