@@ -144,6 +144,8 @@ def test_reading(room):
     yield "one of many refused for names alone", kinds["a::high"] == NAMES
     yield "one of a cycle refused in its answers", kinds["a::even"] == REFUSED
     yield "one of which nothing is known", kinds["a::odd"] is None and told_of("", "c", {"a::law"}, functions) is None
+    lacks = told_of("fn c::a::high: no proof: expected answers in ./proofs/a/high/Answers.antt; `search` did not prove `returns`", "c", {"a::high"}, functions)
+    yield "one with a goal that is left", lacks.kind == REFUSED
     yield "one that calls what is not proved", told_of("fn c::a::high: no proof: it calls low", "c", {"a::high"}, functions) is None
     yield "the crate: refused", told("note: src/a.rt:1:1: it is not proved that ..\nlogic=not-proved", 1) == (REFUSED, "refused: note: src/a.rt:1:1: it is not proved that ..")
     yield "the crate: for names alone", told("./proofs/x.antt:1:1: error: `c.a` has no field `b`\nlogic=not-proved", 1).kind == NAMES

@@ -20,6 +20,10 @@ PLACE = re.compile(r"(?:note: )?(?:\./)?((?:src|specs|proofs)/[^:\s]+):(\d+):\d+
 # Words of a function's line where what it calls is not proved.
 CALLS = re.compile(r"it calls|it passes|a call of")
 
+LEFT = re.compile(r"did not prove")
+# How the line begins of an edit that is refused for names alone.
+FOR_NAMES = "refused, for the names in a proof file alone"
+
 # What comes of an edit: it is refused for what it says, or for a name in a proof file alone; its function or crate is still proved; it can't
 # be applied, compiled or read; or no check told.
 REFUSED, NAMES, PROVED, BAD, UNTOLD = "refused", "names", "proved", "bad", "untold"
@@ -181,7 +185,7 @@ def of_places(places):
     values = [line for line in places if not NAMES_ALONE.match(line)]
     if values:
         return Answer(REFUSED, f"refused: {values[0][:160]}")
-    return Answer(NAMES, "refused, for the names in a proof file alone") if places else None
+    return Answer(NAMES, FOR_NAMES) if places else None
 
 
 def told_of(said, crate, names, functions):
@@ -194,7 +198,8 @@ def told_of(said, crate, names, functions):
         return Answer(PROVED, "NOT REFUSED: the function is still proved with this edit")
     answer = of_places([line for line in lines if is_of(line, names, functions)])
     if answer is None and not any(CALLS.search(head) for head in heads) and len(names) == 1:
-        return Answer(NAMES, f"refused, and no place is told: {heads[0][:160]}")
+        # (a goal that the search leaves, and that no answer is written for, has no place)
+        return Answer(REFUSED, f"refused: {heads[0][:160]}") if LEFT.search(heads[0]) else Answer(NAMES, f"{FOR_NAMES}: {heads[0][:160]}")
     return answer
 
 
@@ -213,7 +218,7 @@ def told(said, status):
         return Answer(UNTOLD, f"NOT TOLD: the check ended with status {status}: {lines[-1][:200]}")
     answer = of_places([line for line in lines if PLACE.match(line)])
     if lines[-1].startswith("logic=not-proved"):
-        return answer or Answer(NAMES, "refused, for the names in a proof file alone")
+        return answer or Answer(NAMES, FOR_NAMES)
     if answer and answer.kind == BAD:
         return answer
     return Answer(BAD, f"BAD EDIT: it did not reach the prover: {next((line for line in lines if is_stop(line)), lines[-1])[:200]}")
