@@ -185,7 +185,7 @@ def test_ends(tool, room):
     """Checks that run out of time, are interrupted, or lack a library."""
     files = made(room, {"low": ("        1", "// wrong"), "high": ("    S.low()", "// slow"), "law": ("    ensures { 1 }", "// library")})
     few = {name: files[name] for name in ("low", "high")}
-    yield "out of time: by halves", answers_in(tool, room, few, True, 0.5) == {"low": REFUSED, "high": UNTOLD}
+    yield "out of time: by halves", answers_in(tool, room, few, True, 3) == {"low": REFUSED, "high": UNTOLD}
     checks = tool.Checks(1)
     threading.Timer(0.5, checks.end).start()
     try:
