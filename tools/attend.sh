@@ -13,11 +13,14 @@ attend() {
   wait "$!" 2>/dev/null
 }
 
-# The same for a program of the project. Unless the caller says otherwise, its C library moves a block of a megabyte or more as a whole where that
-# grows. Left to itself it does so only until the first one is given back; then it copies the tables of a long source again and again, and keeps
-# the room that they leave: a quarter more memory. What is free behind all else is kept up to 64 megabytes, as it would be then.
+# The same for a program of the project. Unless the caller says otherwise, its C library asks for large pages, where the system gives them: each
+# page that is met for the first time costs some two microseconds, and the tables of a long source are thousands of small ones. And it moves a
+# block of four megabytes or more as a whole where that grows. Left to itself it does so only until the first one is given back; then it copies
+# the tables of a long source again and again, and keeps the room that they leave: a quarter more memory. What is free behind all else is kept
+# up to 64 megabytes, as it would be then.
 attend_program() {
-  MALLOC_MMAP_THRESHOLD_=${MALLOC_MMAP_THRESHOLD_:-1048576} MALLOC_TRIM_THRESHOLD_=${MALLOC_TRIM_THRESHOLD_:-67108864} attend "$@"
+  GLIBC_TUNABLES=${GLIBC_TUNABLES:-glibc.malloc.hugetlb=1} \
+    MALLOC_MMAP_THRESHOLD_=${MALLOC_MMAP_THRESHOLD_:-4194304} MALLOC_TRIM_THRESHOLD_=${MALLOC_TRIM_THRESHOLD_:-67108864} attend "$@"
 }
 
 # The same for a command with children that hear of no signal: all of them are one group.

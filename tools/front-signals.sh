@@ -10,15 +10,15 @@ instead() {
 # What each mode's program is told of how memory is taken; what the caller has said of that stands.
 try_memory() {
   local kept=("${launcher[@]}") mode
-  instead 'echo "$MALLOC_MMAP_THRESHOLD_ $MALLOC_TRIM_THRESHOLD_"'
+  instead 'echo "$MALLOC_MMAP_THRESHOLD_ $MALLOC_TRIM_THRESHOLD_ $GLIBC_TUNABLES"'
   cp "$work/other/lib/valumeiro/pvrun" "$work/other/lib/valumeiro/pv_replay"
-  launcher=(env -u MALLOC_MMAP_THRESHOLD_ -u MALLOC_TRIM_THRESHOLD_ "$work/other/bin/pvrun")
+  launcher=(env -u MALLOC_MMAP_THRESHOLD_ -u MALLOC_TRIM_THRESHOLD_ -u GLIBC_TUNABLES "$work/other/bin/pvrun")
   for mode in run settle check layout 'replay write' 'replay check'; do
-    try_call "how memory is taken: $mode" 0 '1048576 67108864' $mode "$work/plain.c"
+    try_call "how memory is taken: $mode" 0 '4194304 67108864 glibc.malloc.hugetlb=1' $mode "$work/plain.c"
   done
-  try_call 'how memory is taken: gen' 0 '1048576 67108864' gen 3
-  launcher=(env MALLOC_MMAP_THRESHOLD_=4096 MALLOC_TRIM_THRESHOLD_=0 "$work/other/bin/pvrun")
-  try_call 'how memory is taken: what the caller has said' 0 '4096 0' check "$work/plain.c"
+  try_call 'how memory is taken: gen' 0 '4194304 67108864 glibc.malloc.hugetlb=1' gen 3
+  launcher=(env MALLOC_MMAP_THRESHOLD_=4096 MALLOC_TRIM_THRESHOLD_=0 GLIBC_TUNABLES=glibc.malloc.perturb=0 "$work/other/bin/pvrun")
+  try_call 'how memory is taken: what the caller has said' 0 '4096 0 glibc.malloc.perturb=0' check "$work/plain.c"
   launcher=("${kept[@]}")
 }
 
