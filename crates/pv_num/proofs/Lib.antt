@@ -2,3 +2,4 @@ pub mod Bits
 pub mod Congruence
 pub mod Members
 pub mod Products
+pub mod Quotients

@@ -48,7 +48,7 @@ pub(crate) fn bit_count(kind: IntKind) -> i128
 }
 
 /// Two to the number of bits of the kind.
-pub(crate) fn modulus(kind: IntKind) -> i128
+fn modulus(kind: IntKind) -> i128
     ensures { result ≡ pos (modulus_of kind) }
 {
     match kind {
@@ -93,6 +93,20 @@ pub(crate) fn bits(kind: IntKind, n: i128) -> u64
         IntKind::Int | IntKind::UInt => n.rem_euclid(0x1_0000_0000) as u64,
         IntKind::Long | IntKind::ULong | IntKind::LLong | IntKind::ULLong => {
             n.rem_euclid(0x1_0000_0000_0000_0000) as u64
+        }
+    }
+}
+
+/// The low bits of `n`, as many as the kind has.
+pub(crate) fn low_bits(kind: IntKind, n: u128) -> u64
+    ensures { result ≡ bits_of kind (pos n) }
+{
+    match kind {
+        IntKind::Bool | IntKind::Char | IntKind::SChar | IntKind::UChar => (n % 0x100) as u64,
+        IntKind::Short | IntKind::UShort => (n % 0x1_0000) as u64,
+        IntKind::Int | IntKind::UInt => (n % 0x1_0000_0000) as u64,
+        IntKind::Long | IntKind::ULong | IntKind::LLong | IntKind::ULLong => {
+            (n % 0x1_0000_0000_0000_0000) as u64
         }
     }
 }

@@ -1,10 +1,11 @@
 // The operators on integer kinds.
-ghost use Rattle.std.specs.Prelude.{◌≡◌, ◌&&◌, if◌then◌else◌, int_le, ◌+ℤ◌, ◌-ℤ◌, ◌^◌, ◌-◌, ◌*◌, ◌<◌, ◌≤◌, ◌≤ℤ◌, ◌<ℤ◌, unsigned_abs, ◌*ℤ◌, pos, neg_ℤ, IsFalse, IfOk, Ok, Err, int_div, int_rem, bit_and, bit_or, bit_xor};
+ghost use Rattle.std.specs.Prelude.{◌≡◌, ◌&&◌, if◌then◌else◌, int_le, int_lt, ◌+ℤ◌, ◌-ℤ◌, ◌^◌, ◌-◌, ◌*◌, ◌<◌, ◌≤◌, ◌≤ℤ◌, ◌<ℤ◌, unsigned_abs, ◌*ℤ◌, pos, neg_ℤ, IsFalse, IfOk, Ok, Err, int_div, int_rem, bit_and, bit_or, bit_xor};
+ghost use Rattle.std.specs.Int.{int_div_euclid};
 ghost use Rattle.pv_num.specs.Kinds.{Fits, fits_of, modulus_of, width, bits_of};
 ghost use Rattle.pv_num.specs.Operands.{IsConvertible, IsOperand};
 ghost use Rattle.pv_num.specs.Arithmetic.{IsPromoted, binary_of, unary_of, exact_of, quotient_of, remainder_of, shift_left_of, shift_right_of, bitwise_of, complement_of, one_if, yielded_kind, is_zero, is_count};
 
-use crate::kinds::{IntKind, bit_count, bits, fits, from_bits, is_signed, modulus};
+use crate::kinds::{IntKind, bit_count, bits, fits, from_bits, is_signed, low_bits};
 
 /// The binary operators on integers (6.5.5 to 6.5.12).
 #[derive(Clone, Copy, Debug)]
@@ -179,27 +180,53 @@ fn product(a: i128, b: i128) -> i128
 fn unsigned_product(kind: IntKind, a: u64, b: u64) -> i128
     ensures { result ≡ pos (bits_of kind (pos (a * b))) }
 {
-    let product = a as u128 * b as u128;
-    let modulus = modulus(kind) as u128;
-    (product % modulus) as i128
+    low_bits(kind, a as u128 * b as u128) as i128
 }
 
+/// The absolute value, which fits into 64 bits.
+fn magnitude(n: i128) -> u64
+    requires { unsigned_abs n < 2 ^ 64 }
+    ensures { result ≡ unsigned_abs n }
+{
+    n.unsigned_abs() as u64
+}
+
+/// The number of an absolute value, negative or not.
+fn with_sign(negative: bool, n: u64) -> i128
+    ensures { result ≡ (if negative then neg_ℤ (pos n) else pos n) }
+{
+    if negative { -(n as i128) } else { n as i128 }
+}
+
+/// Whether one of two numbers is negative and the other one not.
+fn differ_in_sign(a: i128, b: i128) -> bool
+    ensures { result ≡ (if int_lt a (pos 0) then int_le (pos 0) b else int_lt b (pos 0)) }
+{
+    if a < 0 { 0 <= b } else { b < 0 }
+}
+
+// A processor divides numbers of 64 bits several times as fast as those of 128, and absolute values of members fit into 64.
+
 /// The quotient toward zero.
+#[tactic(auto, using(crate::proofs::Quotients::quotient_by, crate::proofs::Quotients::some_magnitude))]
 fn quotient(a: i128, b: i128) -> i128
     requires nonzero { IsFalse (is_zero b) }
-    requires dividend { IsConvertible a }
+    requires dividend { unsigned_abs a < 2 ^ 64 }
+    requires divisor { unsigned_abs b < 2 ^ 64 }
     ensures { result ≡ int_div a b }
 {
-    a / b
+    with_sign(differ_in_sign(a, b), magnitude(a) / magnitude(b))
 }
 
 /// What the quotient toward zero leaves; it has the dividend's sign.
+#[tactic(auto, using(crate::proofs::Quotients::remainder_by, crate::proofs::Quotients::some_magnitude))]
 fn remainder(a: i128, b: i128) -> i128
     requires nonzero { IsFalse (is_zero b) }
-    requires dividend { IsConvertible a }
+    requires dividend { unsigned_abs a < 2 ^ 64 }
+    requires divisor { unsigned_abs b < 2 ^ 64 }
     ensures { result ≡ int_rem a b }
 {
-    a % b
+    with_sign(a < 0, magnitude(a) % magnitude(b))
 }
 
 /// Whether `n` is zero.
@@ -233,7 +260,7 @@ fn exact(kind: IntKind, n: i128) -> Result<i128, ArithmeticFault>
             Err(ArithmeticFault::Overflow)
         }
     } else {
-        Ok(n.rem_euclid(modulus(kind)))
+        Ok(bits(kind, n) as i128)
     }
 }
 
@@ -273,7 +300,8 @@ fn multiply(kind: IntKind, a: i128, b: i128) -> Result<i128, ArithmeticFault>
 }
 
 fn divide(kind: IntKind, a: i128, b: i128) -> Result<i128, ArithmeticFault>
-    requires { Fits kind a }
+    requires left { Fits kind a }
+    requires right { Fits kind b }
     ensures { result ≡ quotient_of kind a b }
 {
     if is_zero(b) {
@@ -289,7 +317,8 @@ fn divide(kind: IntKind, a: i128, b: i128) -> Result<i128, ArithmeticFault>
 
 /// What the division leaves, which is undefined wherever the quotient is.
 fn divide_for_remainder(kind: IntKind, a: i128, b: i128) -> Result<i128, ArithmeticFault>
-    requires { Fits kind a }
+    requires left { Fits kind a }
+    requires right { Fits kind b }
     ensures { result ≡ remainder_of kind a b }
 {
     if is_zero(b) {
@@ -336,6 +365,16 @@ fn shifted(kind: IntKind, a: i128, moved: i128) -> Result<i128, ArithmeticFault>
     }
 }
 
+/// `a` divided by two to the power of a count below 64, and rounded down.
+#[tactic(auto, using(crate::proofs::Quotients::halved_by))]
+fn halved(a: i128, by: i128) -> i128
+    requires low { pos 0 ≤ℤ by }
+    requires high { by <ℤ pos 64 }
+    ensures { result ≡ int_div_euclid a (pos (2 ^ unsigned_abs by)) }
+{
+    a >> (by as u32)
+}
+
 fn shift_right(kind: IntKind, a: i128, b: i128) -> Result<i128, ArithmeticFault>
     requires { Fits kind a }
     ensures { result ≡ shift_right_of kind a b }
@@ -343,7 +382,7 @@ fn shift_right(kind: IntKind, a: i128, b: i128) -> Result<i128, ArithmeticFault>
     if !may_shift(kind, b) {
         return Err(ArithmeticFault::Count);
     }
-    Ok(a.div_euclid(power(b)))
+    Ok(halved(a, b))
 }
 
 #[tactic(auto, using(crate::proofs::Bits::and_fits))]

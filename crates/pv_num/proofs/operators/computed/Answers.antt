@@ -68,10 +68,15 @@ returns-in-Mul c =
     let same_b : to_z w128 (of_z w128 c.args.b) ≡ c.args.b = simp to_z-of_z refl in
     as_asked c.args.op Mul c.args.kind c.args.a c.args.b c.in-Mul.is same_a same_b c.multiply.ensures
 
-pub divide-requires : goal.divide-requires
-divide-requires c =
+pub divide-requires-clause-left : goal.divide-requires-clause-left
+divide-requires-clause-left c =
     let a : FitsSigned w128 c.args.a = c.ranges.a in
     simp to_z-of_z c.requires.left
+
+pub divide-requires-clause-right : goal.divide-requires-clause-right
+divide-requires-clause-right c =
+    let b : FitsSigned w128 c.args.b = c.ranges.b in
+    simp to_z-of_z (subst (λ op. IsOperand op c.args.kind c.args.b) c.in-Div.is c.requires.right)
 
 pub returns-in-Div : goal.returns-in-Div
 returns-in-Div c =
@@ -81,10 +86,15 @@ returns-in-Div c =
     let same_b : to_z w128 (of_z w128 c.args.b) ≡ c.args.b = simp to_z-of_z refl in
     as_asked c.args.op Div c.args.kind c.args.a c.args.b c.in-Div.is same_a same_b c.divide.ensures
 
-pub divide_for_remainder-requires : goal.divide_for_remainder-requires
-divide_for_remainder-requires c =
+pub divide_for_remainder-requires-clause-left : goal.divide_for_remainder-requires-clause-left
+divide_for_remainder-requires-clause-left c =
     let a : FitsSigned w128 c.args.a = c.ranges.a in
     simp to_z-of_z c.requires.left
+
+pub divide_for_remainder-requires-clause-right : goal.divide_for_remainder-requires-clause-right
+divide_for_remainder-requires-clause-right c =
+    let b : FitsSigned w128 c.args.b = c.ranges.b in
+    simp to_z-of_z (subst (λ op. IsOperand op c.args.kind c.args.b) c.in-Rem.is c.requires.right)
 
 pub returns-in-Rem : goal.returns-in-Rem
 returns-in-Rem c =

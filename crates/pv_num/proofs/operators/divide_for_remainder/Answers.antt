@@ -4,7 +4,7 @@ use mir.Syntax.{w128}
 use Rattle.pv_num.specs.Kinds.{fits_of}
 use Rattle.pv_num.specs.declared.operators.ArithmeticFault.TheVariants.{ZeroDivisor, Quotient}
 use Rattle.pv_num.specs.Arithmetic.{is_zero}
-use Rattle.pv_num.proofs.Products.{member_convertible}
+use Rattle.pv_num.proofs.Quotients.{member_short}
 use Rattle.pv_num.proofs.operators.divide_for_remainder.Goals as goal
 
 given : (z f : Bool) (r : ℤ) → z ≡ false → f ≡ true → Ok r ≡ (if z then Err ZeroDivisor else (if f then Ok r else Err Quotient))
@@ -38,7 +38,12 @@ quotient-requires-clause-nonzero c = sym c.is_zero.ensures ∙ c.if-is_zero.fals
 pub quotient-requires-clause-dividend : goal.quotient-requires-clause-dividend
 quotient-requires-clause-dividend c =
     let fits : FitsSigned w128 c.args.a = c.ranges.a in
-    simp to_z-of_z (member_convertible c.args.kind c.args.a c.requires)
+    simp to_z-of_z (member_short c.args.kind c.args.a c.requires.left)
+
+pub quotient-requires-clause-divisor : goal.quotient-requires-clause-divisor
+quotient-requires-clause-divisor c =
+    let fits : FitsSigned w128 c.args.b = c.ranges.b in
+    simp to_z-of_z (member_short c.args.kind c.args.b c.requires.right)
 
 pub remainder-requires-clause-nonzero : goal.remainder-requires-clause-nonzero
 remainder-requires-clause-nonzero c = sym c.is_zero.ensures ∙ c.if-is_zero.false
@@ -46,7 +51,12 @@ remainder-requires-clause-nonzero c = sym c.is_zero.ensures ∙ c.if-is_zero.fal
 pub remainder-requires-clause-dividend : goal.remainder-requires-clause-dividend
 remainder-requires-clause-dividend c =
     let fits : FitsSigned w128 c.args.a = c.ranges.a in
-    simp to_z-of_z (member_convertible c.args.kind c.args.a c.requires)
+    simp to_z-of_z (member_short c.args.kind c.args.a c.requires.left)
+
+pub remainder-requires-clause-divisor : goal.remainder-requires-clause-divisor
+remainder-requires-clause-divisor c =
+    let fits : FitsSigned w128 c.args.b = c.ranges.b in
+    simp to_z-of_z (member_short c.args.kind c.args.b c.requires.right)
 
 pub returns-else-fits : goal.returns-else-fits
 returns-else-fits c =
