@@ -12,7 +12,7 @@ use Rattle.pv_types.specs.SameTypes.{same_type}
 use Rattle.pv_shadow.specs.declared.byte.Byte.{Byte}
 use Rattle.pv_shadow.specs.Readings.{has_mark, are_marked}
 use Rattle.pv_eval.specs.Sizes.{size_in, is_bare_scalar}
-use Rattle.pv_eval.specs.Permission.{marks_of}
+use Rattle.pv_eval.specs.PermissionParts.{marks_of}
 use Rattle.pv_eval.proofs.Numbers.{same}
 
 left_true : (a b : Bool) → (a && b) ≡ true → a ≡ true

@@ -21,7 +21,8 @@ use Rattle.pv_world.specs.declared.got.Shape.{Shape}
 use Rattle.pv_world.specs.declared.got.Shape.TheVariants as shape
 use Rattle.pv_world.specs.declared.got.How.TheVariants.{Rounds, Passes}
 use Rattle.pv_world.specs.Worths.{int, pointer, null_pointer, missing_value, computed}
-use Rattle.pv_world.specs.Calculations.{calculates, calculates_one, follows_to}
+use Rattle.pv_world.specs.Calculations.{follows_to}
+use Rattle.pv_world.specs.CalculationParts.{calculates, calculates_one}
 use Rattle.pv_world.specs.Objects.{address_of, instance_of}
 use Rattle.pv_world.specs.Telling.{quiet}
 use Rattle.pv_world.specs.Doing.{Answers, Fails}

@@ -12,7 +12,7 @@ use Rattle.pv_world.specs.Telling.{Told}
 use Rattle.pv_world.specs.Doing.{Done, Answers, Fails}
 use Rattle.pv_world.specs.Worths.{undefined, present, pointer_of}
 use Rattle.pv_world.specs.Objects.{put_at}
-use Rattle.pv_world.specs.Accesses.{reaching, worth_in, stored_as, is_inexact, takes_bytes}
+use Rattle.pv_world.specs.Accesses.{reaching, worth_in, stored_as, is_inexact}
 use Rattle.pv_eval.specs.States.{Setting}
 use Rattle.pv_eval.specs.TypeForms.{Lvalue}
 use Rattle.pv_eval.specs.Permission.{permits}
@@ -33,13 +33,9 @@ reads_at b l p rivals at w t =
     if permits b w l at false then reads_permitted l p rivals at w t
     else Fails (undefined EffectiveTypes WrongType) (Some p.prov) w t
 
--- 6.3.2.1p2: the value of the lvalue at this place, against its rivals
-abbrev pub reads_from : Setting → Lvalue → Pointer → List Access → World → Done
-reads_from b l p rivals w = reaching p l.size l.align false w (reads_at b l p rivals)
-
 -- 6.3.2.1p2: the value of the lvalue at the place that this value is, against its rivals
 abbrev pub reads : Setting → Lvalue → (place : Worth) → List Access → World → Done
-reads b l v rivals w = reads_from b l (pointer_of v) rivals w
+reads b l v rivals w = reaching (pointer_of v) l.size l.align false w (reads_at b l (pointer_of v) rivals)
 
 -- 6.5.16.1p3: a write that has no rivals, of a value that was read from this address
 abbrev pub writes_alone : Lvalue → Pointer → Worth → (from : Option ℕ) → Reach → World → Told → Done
@@ -66,7 +62,3 @@ writes_to b l p from rivals w v = reaching p l.size l.align true w (writes_at b 
 -- 6.5.16p3: the value is stored at this place, against its rivals
 abbrev pub writes : Setting → Lvalue → (place value : Worth) → (from : Option ℕ) → List Access → World → Done
 writes b l place v from rivals w = present v w (writes_to b l (pointer_of place) from rivals w)
-
--- 6.5.2.3p3: a member of a structure or union value
-abbrev pub takes_part : (offset : ℕ) → Lvalue → Worth → World → Done
-takes_part offset l v w = takes_bytes offset l.size l.shape v w

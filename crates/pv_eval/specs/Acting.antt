@@ -32,13 +32,11 @@ abbrev pub keeps_both : Option Twin → Bool
 keeps_both None = false
 keeps_both (Some t) = t.keeps_low && t.keeps_high
 
--- the memory model: pair k keeps its high candidate alone, or its low one
-abbrev pub one_kept : World → (pair : ℕ) → (high : Bool) → World
-one_kept w k high = record w { memory = record w.memory { table = record w.memory.table { pairs = kept w.memory.table.pairs k (not high) high } } }
-
--- a pair that stands for both is settled to this side (the memory model: the user disambiguates)
+-- a pair that stands for both is settled to this side, and keeps its high candidate alone or its low one (the memory model: the user disambiguates)
 abbrev pub sided : World → (pair : ℕ) → (high : Bool) → World
-sided w k high = if keeps_both (twin_at w.memory.table.pairs k) then one_kept w k high else w
+sided w k high =
+    if keeps_both (twin_at w.memory.table.pairs k)
+    then record w { memory = record w.memory { table = record w.memory.table { pairs = kept w.memory.table.pairs k (not high) high } } } else w
 
 -- the memory model: an event that tells of a use of pair k
 abbrev pub is_use_of : ℕ → What → Bool

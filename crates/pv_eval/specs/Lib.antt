@@ -3,10 +3,14 @@ pub mod TypeForms
 pub mod Conversions
 pub mod Sizes
 pub mod Acting
+pub mod ActingParts
 pub mod Suiting
 pub mod Permission
+pub mod PermissionParts
 pub mod Accesses
+pub mod AccessParts
 pub mod Objects
+pub mod ObjectParts
 pub mod Library
 pub mod Texts
 pub mod Stores

@@ -7,7 +7,7 @@ use Rattle.pv_inst.specs.Placing.{Request}
 use Rattle.pv_shadow.specs.Whole.{plain}
 use Rattle.pv_types.specs.Ty.{Ty}
 use Rattle.pv_types.specs.Layouts.{is_complete_in}
-use Rattle.pv_typed.specs.TypedUnits.{TypedObject, TypedFunction, layouts, object_at, function_at, literal_at}
+use Rattle.pv_typed.specs.TypedUnits.{TypedObject, layouts, object_at, function_at, literal_at}
 use Rattle.pv_world.specs.Worlds.{Worth, Nothing, World}
 use Rattle.pv_world.specs.Telling.{quiet}
 use Rattle.pv_world.specs.Doing.{Done, Answers}
@@ -21,10 +21,6 @@ use Rattle.pv_eval.specs.Suiting.{is_size, is_stored, knows_worth, is_live, has_
 abbrev pub where_possible : Bool → World → Done → Done
 where_possible can w d = if can then d else Answers Nothing w quiet
 
--- 6.5.1p2: an identifier designates the object in scope
-abbrev pub names_object : Setting → ℕ → World → Done
-names_object b o w = object.names_object o (object_at b.unit o).lasting w
-
 -- 6.2.5p1: a complete type, whose size is known
 abbrev pub has_extent : Setting → Ty → Bool
 has_extent b t = is_complete_in (layouts b.unit) t && is_size (size_of b t)
@@ -37,13 +33,11 @@ heap_name = 1
 abbrev pub request_of : Setting → TypedObject → Request
 request_of b x = object.object_request x.name (text_of b.unit.names x.name) (size_of b x.t) (align_of b x.t) (is_constant x.t)
 
--- 6.2.5p1: an object of a complete type, whose name isn't that of allocations
-abbrev pub can_make : Setting → TypedObject → Bool
-can_make b x = has_extent b x.t && not (x.name == heap_name)
-
--- 6.2.4p2: the lifetime of an object begins
+-- 6.2.4p2: the lifetime of an object begins, if its type is complete (6.2.5p1) and its name isn't that of allocations
 abbrev pub makes : Setting → ℕ → World → Done
-makes b o w = where_possible (can_make b (object_at b.unit o)) w (object.makes_object o (object_at b.unit o).lasting (request_of b (object_at b.unit o)) w)
+makes b o w =
+    let x = object_at b.unit o in
+    where_possible (has_extent b x.t && not (x.name == heap_name)) w (object.makes_object o x.lasting (request_of b x) w)
 
 -- 6.5.1p2: the storage instance of an object in scope
 abbrev pub instance_for : Setting → ℕ → World → ℕ
@@ -58,14 +52,10 @@ abbrev pub makes_literal : Setting → ℕ → World → Done
 makes_literal b l w =
     where_possible (nat_le 1 (length (literal_at b.unit l).bytes)) w (object.makes_literal_of l (text_of b.unit.names 0) (literal_at b.unit l).bytes w)
 
--- 6.3.2.1p4: a function whose name isn't that of allocations, as none in a checked unit is
-abbrev pub can_place : TypedFunction → Bool
-can_place x = not (x.name == heap_name)
-
--- 6.3.2.1p4: a function that is pointed to has an instance
+-- 6.3.2.1p4: a function that is pointed to has an instance, if its name isn't that of allocations, as none's in a checked unit is
 abbrev pub makes_function : Setting → ℕ → World → Done
 makes_function b f w =
-    where_possible (can_place (function_at b.unit f)) w
+    where_possible (not ((function_at b.unit f).name == heap_name)) w
     (object.makes_function f (object.function_request (function_at b.unit f).name (text_of b.unit.names (function_at b.unit f).name)) w)
 
 -- 6.7.9p10: an object that lives, with room for its type

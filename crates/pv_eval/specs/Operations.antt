@@ -1,28 +1,31 @@
 -- The operations of a run (C17 6.3, 6.5, 6.7.9, 7), and what each does.
-use Rattle.std.specs.Prelude.{ℕ, nat_le, Bool, true, ◌&&◌, List, Option, None, if◌then◌else◌}
+use Rattle.std.specs.Prelude.{ℕ, nat_le, Bool, true, ◌&&◌, List, ◌∷◌, Option, None, drop, if◌then◌else◌}
+use Rattle.std.specs.FinMap as map
 use Rattle.pv_num.specs.declared.kinds.IntKind.{IntKind}
 use Rattle.pv_num.specs.declared.operators.BinOp.{BinOp}
 use Rattle.pv_num.specs.declared.operators.UnOp.{UnOp}
 use Rattle.pv_num.specs.Kinds.{fits_of}
+use Rattle.pv_num.specs.Arithmetic.{binary_of, unary_of}
 use Rattle.pv_types.specs.Layouts.{is_complete_in}
-use Rattle.pv_typed.specs.TypedUnits.{layouts}
+use Rattle.pv_typed.specs.TypedUnits.{layouts, object_at}
 use Rattle.pv_library.specs.declared.library.Library.{Library}
 use Rattle.pv_seq.specs.Sequencing.{Access}
 use Rattle.pv_libc.specs.declared.values.Arg.{Arg}
 use Rattle.pv_world.specs.declared.got.How.{How}
-use Rattle.pv_world.specs.Worlds.{Worth, World}
-use Rattle.pv_world.specs.Worths.{truth_int, int_of, missing_value}
+use Rattle.pv_world.specs.Worlds.{Worth, Nothing, World}
+use Rattle.pv_world.specs.Worths.{truth_int, int_of, pointer, plain, present, computed, missing_value}
 use Rattle.pv_world.specs.Telling.{quiet}
-use Rattle.pv_world.specs.Doing.{Done, Fails}
+use Rattle.pv_world.specs.Doing.{Done, Answers, Fails}
 use Rattle.pv_world.specs.Conversions.{converts, opposite, tests}
-use Rattle.pv_world.specs.Calculations.{accepts, needs, calculates, calculates_one, follows_to}
+use Rattle.pv_world.specs.Calculations.{follows_to}
 use Rattle.pv_world.specs.Pointers.{moves, subtracts, orders, equals, selects, finds, is_order}
-use Rattle.pv_world.specs.Objects.{names_literal, names_function, begins_body, ends_body}
+use Rattle.pv_world.specs.Accesses.{takes_bytes}
+use Rattle.pv_world.specs.Objects as object
 use Rattle.pv_eval.specs.States.{Setting, State, Res}
 use Rattle.pv_eval.specs.Acting.{acted}
 use Rattle.pv_eval.specs.TypeForms.{Lvalue}
-use Rattle.pv_eval.specs.Accesses.{reads, writes, takes_part}
-use Rattle.pv_eval.specs.Objects.{names_object, makes, ends, makes_literal, makes_function, fills, puts, puts_text}
+use Rattle.pv_eval.specs.Accesses.{reads, writes}
+use Rattle.pv_eval.specs.Objects.{makes, ends, makes_literal, makes_function, fills, puts, puts_text}
 use Rattle.pv_eval.specs.Callees.{may_call}
 use Rattle.pv_types.specs.Ty.{Ty}
 use Rattle.pv_eval.specs.Library.{asks}
@@ -94,12 +97,12 @@ suits b _ w = true
 -- 6.3, 6.5, 6.7.9, 7: what each operation does, one line an operation
 abbrev pub works : Setting → Op → World → Done
 works b (Converts how v) = converts how v
-works b (Calculates op k v x) = calculates op k v x
-works b (CalculatesOne op k v) = calculates_one op k v
+works b (Calculates op k v x) = λ w. plain v w (λ v. plain x w (λ x. computed w (binary_of op k (int_of v) (int_of x))))
+works b (CalculatesOne op k v) = λ w. plain v w (λ v. computed w (unary_of op k (int_of v)))
 works b (Tests v) = tests truth_int v
 works b (Negates v) = tests opposite v
-works b (Accepts v) = accepts v
-works b (Needs v) = needs v
+works b (Accepts v) = λ w. present v w (λ v. Answers v w quiet)
+works b (Needs v) = λ w. plain v w (λ v. Answers v w quiet)
 works b (Moves minus first size v x) = moves minus first size v x
 works b (Subtracts size v x) = subtracts size v x
 works b (Orders op v x) = orders op v x
@@ -107,18 +110,18 @@ works b (Equals negated v x) = equals negated v x
 works b (Follows nothing v) = follows_to nothing v
 works b (Selects offset v) = selects offset v
 works b (Finds t v) = finds (may_call b t) v
-works b (TakesPart offset l v) = takes_part offset l v
+works b (TakesPart offset l v) = takes_bytes offset l.size l.shape v
 works b (Reads l place rivals) = reads b l place rivals
 works b (Writes l place v from rivals) = writes b l place v from rivals
-works b (NamesObject o) = names_object b o
-works b (NamesLiteral l) = names_literal l
-works b (NamesFunction f) = names_function f
+works b (NamesObject o) = object.names_object o (object_at b.unit o).lasting
+works b (NamesLiteral l) = λ w. Answers (pointer (object.address_of w (object.literal_of w l))) w quiet
+works b (NamesFunction f) = λ w. Answers (pointer (object.address_of w (object.function_of w f))) w quiet
 works b (Makes o) = makes b o
 works b (MakesLiteral l) = makes_literal b l
 works b (MakesFunction f) = makes_function b f
 works b (Ends o) = ends b o
-works b BeginsBody = begins_body
-works b EndsBody = ends_body
+works b BeginsBody = λ w. Answers Nothing (record w { bodies = map.empty ∷ w.bodies }) quiet
+works b EndsBody = λ w. Answers Nothing (record w { bodies = drop 1 w.bodies }) quiet
 works b (Fills o v) = fills b o v
 works b (Puts o offset l v) = puts b o offset l v
 works b (PutsText o offset size l) = puts_text b o offset size l

@@ -26,14 +26,6 @@ abbrev pub type_by : Setting → Option ℕ → Option Ty
 type_by b None = None
 type_by b (Some o) = if has_extent b (object_at b.unit o).t then Some (object_at b.unit o).t else None
 
--- 6.5p6: the declared type of an instance is that of the object that it was made for
-abbrev pub type_of_instance : Setting → World → ℕ → Option Ty
-type_of_instance b w i = type_by b (owner_of w i)
-
--- 6.5p6: by which types the bytes of an allocation were stored
-abbrev pub marks_of : List Byte → List (Option (ℕ × ℕ))
-marks_of bytes = map (λ (x : Byte). x.mark) bytes
-
 -- 6.5p7: an access at this offset of an object with this declared type; where there is no such object, at a character type alone
 abbrev pub permits_object : Setting → Option Ty → (offset : ℕ) → Ty → Bool
 permits_object b None offset want = is_character want
@@ -41,11 +33,11 @@ permits_object b (Some t) offset want = permits_declared (parts_of b t) offset w
 
 -- 6.5p7: by the kind of the instance: a literal is an array of `char` (6.4.5p6); a write into an allocation makes its effective type (6.5p6)
 abbrev pub permits_in : Setting → World → Lvalue → Reach → (writes : Bool) → Kind → Bool
-permits_in b w l at writes (Declared constant) = permits_object b (type_of_instance b w at.inst) at.offset l.t
+permits_in b w l at writes (Declared constant) = permits_object b (type_by b (owner_of w at.inst)) at.offset l.t
 permits_in b w l at writes Literal = is_character l.t
 -- 6.2.5p1: a function is no object: no access comes to it
 permits_in b w l at writes Function = false
-permits_in b w l at writes Heap = writes || permits_marks b.types (parts_of b l.t) (marks_of (read w.memory.bytes at.address l.size))
+permits_in b w l at writes Heap = writes || permits_marks b.types (parts_of b l.t) (map (λ (x : Byte). x.mark) (read w.memory.bytes at.address l.size))
 
 -- 6.5p7: the instance that was reached is there, and its kind permits the access
 abbrev pub permits_row : Setting → World → Lvalue → Reach → (writes : Bool) → Option Instance → Bool

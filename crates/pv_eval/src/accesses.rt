@@ -18,7 +18,8 @@ ghost use Rattle.pv_world.specs.Coming.{Came, Did, Faulted, seen, worth_of, wron
 ghost use Rattle.pv_watch.specs.declared.event.What.{What as Told};
 ghost use Rattle.pv_eval.specs.TypeForms.{lvalue, shape_of};
 ghost use Rattle.pv_eval.specs.Sizes.{setting_of, IsComplete};
-ghost use Rattle.pv_eval.specs.Accesses.{access_to, reads_permitted, reads_at, reads_from, writes_alone, writes_permitted, writes_at, writes_to};
+ghost use Rattle.pv_eval.specs.Accesses.{access_to, reads_permitted, reads_at, writes_alone, writes_permitted, writes_at, writes_to};
+ghost use Rattle.pv_eval.specs.AccessParts.{reads_from};
 
 use crate::permission::permits;
 use crate::types::{Complete, align_of, number, shape};

@@ -14,7 +14,8 @@ ghost use Rattle.pv_typed.specs.Known.{AreKnown};
 ghost use Rattle.pv_types.specs.declared.terms.TypeId.{TypeId as TypeNumber};
 ghost use Rattle.pv_eval.specs.TypeForms.{lvalue};
 ghost use Rattle.pv_eval.specs.Sizes.{setting_of, size_in, is_bare_scalar, IsComplete};
-ghost use Rattle.pv_eval.specs.Permission.{marks_of, permits_object, type_by, permits_in, permits};
+ghost use Rattle.pv_eval.specs.Permission.{permits_object, type_by, permits_in, permits};
+ghost use Rattle.pv_eval.specs.PermissionParts.{marks_of};
 ghost use Rattle.pv_eval.specs.Plainly.{IsObject, IsOwnType, is_declared};
 
 use crate::dividing::{is_multiple, quotient};

@@ -35,7 +35,7 @@ use Rattle.pv_world.specs.declared.got.Shape.TheVariants as shape
 use Rattle.pv_world.specs.Worlds.{Worth, Nothing, Missing, Scalar, Whole, World, with_table}
 use Rattle.pv_world.specs.Worths.{int, truth_int, pointer, pointer_of, value_of, bytes_of, unplain, unpresent}
 use Rattle.pv_world.specs.Conversions.{opposite}
-use Rattle.pv_world.specs.Calculations.{accepts}
+use Rattle.pv_world.specs.CalculationParts.{accepts}
 use Rattle.pv_world.specs.Pointers.{finds, found_by}
 use Rattle.pv_world.specs.PointerParts.{unlike}
 use Rattle.pv_world.specs.Telling.{Told, quiet, telling, used, code_test}
@@ -49,7 +49,8 @@ use Rattle.pv_eval.specs.Objects.{instance_for}
 use Rattle.pv_eval.specs.Permission.{permits}
 use Rattle.pv_eval.specs.Callees.{may_call, function_in}
 use Rattle.pv_eval.specs.Library.{asks}
-use Rattle.pv_eval.specs.Accesses.{access_to, reads_at, reads, writes_at, writes, takes_part}
+use Rattle.pv_eval.specs.Accesses.{access_to, reads_at, reads, writes_at, writes}
+use Rattle.pv_eval.specs.AccessParts.{takes_part}
 use Rattle.pv_eval.specs.Operations as op
 use Rattle.pv_eval.specs.Operations.{Op, does}
 use Rattle.pv_exec.proofs.Memory.Rows.{Leads as Led}

@@ -10,7 +10,7 @@ use Rattle.pv_num.proofs.Members.{binary_fits, unary_fits}
 use Rattle.pv_object.specs.declared.values.Scalar.TheVariants as scalar
 use Rattle.pv_world.specs.Worlds.{Worth, World, Wrong}
 use Rattle.pv_world.specs.Worths.{int_of, unplain, unless, computed}
-use Rattle.pv_world.specs.Calculations.{calculates, calculates_one}
+use Rattle.pv_world.specs.CalculationParts.{calculates, calculates_one}
 use Rattle.pv_world.specs.Doing.{Done, Answers, Fails, Breaks}
 use Rattle.pv_guards.specs.Worths.{IsScalar}
 use Rattle.pv_guards.specs.Promises.{Widens}

@@ -33,7 +33,8 @@ use Rattle.pv_world.specs.Telling.{quiet, telling, used, uses, live_use, live_te
 use Rattle.pv_world.specs.Doing.{Done, Answers, Fails, Breaks}
 use Rattle.pv_world.specs.Worths.{truth_int, int_of, pointer_of, unless, unplain, unpresent, computed}
 use Rattle.pv_world.specs.Conversions.{truth_by, truth_value, truth_worth, tests, number_by, pointed, recast_by, passes, converts}
-use Rattle.pv_world.specs.Calculations.{calculates, calculates_one, follows_to}
+use Rattle.pv_world.specs.Calculations.{follows_to}
+use Rattle.pv_world.specs.CalculationParts.{calculates, calculates_one}
 use Rattle.pv_world.specs.Pointers.{moved_by, distance, moves, elements_by, between_by, selects, found_by, finds}
 use Rattle.pv_world.specs.PointerParts.{between, unlike}
 use Rattle.pv_world.specs.Objects.{owner_of}

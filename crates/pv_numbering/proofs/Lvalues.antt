@@ -24,8 +24,10 @@ use Rattle.pv_world.specs.ObjectParts.{with_bytes}
 use Rattle.pv_world.specs.Accesses.{stored_as, is_inexact}
 use Rattle.pv_eval.specs.States.{Setting}
 use Rattle.pv_eval.specs.TypeForms.{Lvalue}
-use Rattle.pv_eval.specs.Permission.{parts_of, marks_of, permits_in, permits_row, permits}
-use Rattle.pv_eval.specs.Accesses.{access_to, reads_at, reads_from, reads, writes_alone, writes_at, writes_to, writes, takes_part}
+use Rattle.pv_eval.specs.Permission.{parts_of, permits_in, permits_row, permits}
+use Rattle.pv_eval.specs.PermissionParts.{marks_of}
+use Rattle.pv_eval.specs.Accesses.{access_to, reads_at, reads, writes_alone, writes_at, writes_to, writes}
+use Rattle.pv_eval.specs.AccessParts.{takes_part, reads_from}
 use Rattle.pv_numbering.proofs.Marks.{AcceptedAlike, AlikeMarks, AlikeBytes}
 use Rattle.pv_numbering.proofs.Alike.{with_types, AlikeWorth, AlikeLvalue}
 use Rattle.pv_numbering.proofs.Bytes.{alike_read, alike_written}

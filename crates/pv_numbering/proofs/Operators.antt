@@ -27,6 +27,7 @@ use Rattle.pv_world.specs.Objects.{owner_of}
 use Rattle.pv_world.specs.ObjectParts.{with_bytes}
 use Rattle.pv_world.specs.Conversions as convert
 use Rattle.pv_world.specs.Calculations as calculate
+use Rattle.pv_world.specs.CalculationParts as calculate_parts
 use Rattle.pv_world.specs.Pointers as point
 use Rattle.pv_world.specs.PointerParts as point_parts
 use Rattle.pv_numbering.proofs.Alike.{AlikeWorth}
@@ -158,10 +159,10 @@ module _ (m m' : Known) where
   converts-alike Voids v v' g w b h = does_nothing m m' w b quiet h
 
   -- 6.5.2.2p4, 6.5.3.2p4, 6.8.4.2p5: a value that is passed on or looked at
-  pub accepts-alike : (v v' : Worth) → AlikeWorth m m' v v' → (w : World) (b : Store) → Alikes m m' w b → AlikeDone m m' (calculate.accepts v w) (calculate.accepts v' (with_bytes w b))
+  pub accepts-alike : (v v' : Worth) → AlikeWorth m m' v v' → (w : World) (b : Store) → Alikes m m' w b → AlikeDone m m' (calculate_parts.accepts v w) (calculate_parts.accepts v' (with_bytes w b))
   accepts-alike v v' g w b h = present_alike m m' w b v v' _ _ h g (gives_alike m m' v v' w b quiet g h)
 
-  pub needs-alike : (v v' : Worth) → AlikeWorth m m' v v' → (w : World) (b : Store) → Alikes m m' w b → AlikeDone m m' (calculate.needs v w) (calculate.needs v' (with_bytes w b))
+  pub needs-alike : (v v' : Worth) → AlikeWorth m m' v v' → (w : World) (b : Store) → Alikes m m' w b → AlikeDone m m' (calculate_parts.needs v w) (calculate_parts.needs v' (with_bytes w b))
   needs-alike v v' g w b h = plain_alike m m' w b v v' _ _ h g (gives_alike m m' v v' w b quiet g h)
 
   pub follows-alike : (nothing : Bool) (v v' : Worth) → AlikeWorth m m' v v' → (w : World) (b : Store) → Alikes m m' w b
@@ -171,13 +172,13 @@ module _ (m m' : Known) where
 
   -- 6.5.3.3, 6.5.5 to 6.5.12
   pub calculates-alike : (k : BinOp) (i : IntKind) (v v' x x' : Worth) → AlikeWorth m m' v v' → AlikeWorth m m' x x' → (w : World) (b : Store) → Alikes m m' w b
-      → AlikeDone m m' (calculate.calculates k i v x w) (calculate.calculates k i v' x' (with_bytes w b))
+      → AlikeDone m m' (calculate_parts.calculates k i v x w) (calculate_parts.calculates k i v' x' (with_bytes w b))
   calculates-alike k i v v' x x' g f w b h =
       plain_alike m m' w b v v' _ _ h g (plain_alike m m' w b x x' _ _ h f
       (by_numbers (λ w n l. computed w (binary_of k i n l)) v v' x x' w b g f (λ n l. computed_alike m m' w b (binary_of k i n l) h)))
 
   pub calculates_one-alike : (k : UnOp) (i : IntKind) (v v' : Worth) → AlikeWorth m m' v v' → (w : World) (b : Store) → Alikes m m' w b
-      → AlikeDone m m' (calculate.calculates_one k i v w) (calculate.calculates_one k i v' (with_bytes w b))
+      → AlikeDone m m' (calculate_parts.calculates_one k i v w) (calculate_parts.calculates_one k i v' (with_bytes w b))
   calculates_one-alike k i v v' g w b h =
       plain_alike m m' w b v v' _ _ h g (by_number (λ w n. computed w (unary_of k i n)) v v' w b g (λ n. computed_alike m m' w b (unary_of k i n) h))
 

@@ -9,12 +9,13 @@ use Rattle.pv_world.specs.Worlds.{Worth, Nothing, World}
 use Rattle.pv_world.specs.Telling.{quiet}
 use Rattle.pv_world.specs.Doing.{Done, Answers}
 use Rattle.pv_world.specs.Accesses.{stored_as}
-use Rattle.pv_world.specs.Objects.{function_request, names_literal, names_function, begins_body, ends_body}
-use Rattle.pv_world.specs.ObjectParts.{with_bytes}
+use Rattle.pv_world.specs.Objects.{function_request}
+use Rattle.pv_world.specs.ObjectParts.{with_bytes, names_literal, names_function, begins_body, ends_body}
 use Rattle.pv_eval.specs.States.{Setting}
 use Rattle.pv_eval.specs.TypeForms.{Lvalue, size_of}
 use Rattle.pv_eval.specs.Suiting.{is_size, is_live, has_room}
-use Rattle.pv_eval.specs.Objects.{names_object, request_of, can_make, makes, instance_for, ends, makes_literal, makes_function, can_place, can_fill, fills, can_put, puts, text_for, can_put_text, puts_text}
+use Rattle.pv_eval.specs.Objects.{request_of, makes, instance_for, ends, makes_literal, makes_function, can_fill, fills, can_put, puts, text_for, can_put_text, puts_text}
+use Rattle.pv_eval.specs.ObjectParts.{names_object, can_make, can_place}
 use Rattle.pv_numbering.proofs.Alike.{with_types, AlikeWorth, AlikeLvalue}
 use Rattle.pv_numbering.proofs.Bytes.{alike_plain}
 use Rattle.pv_numbering.proofs.Doing.{AlikeDone, at_one, Alikes, alike_world, does_nothing, either_alike}

@@ -11,6 +11,7 @@ pub mod ObjectParts
 pub mod Pointers
 pub mod PointerParts
 pub mod Calculations
+pub mod CalculationParts
 pub mod Coming
 pub mod Callees
 pub mod Accesses

@@ -1,9 +1,9 @@
 -- A bridge: what functions answer that do a part of what Objects says.
 use Rattle.std.specs.Prelude.{◌++◌, None, length, [], ◌-◌, ℕ, replicate, List, ◌∷◌, drop, Some, Bool, Result}
 use Rattle.std.specs.declared.option.Option.{Option}
-use Rattle.pv_world.specs.Worlds.{World, Bindings}
-use Rattle.pv_world.specs.Objects.{owning, bind, function_bound, literal_bound, with_characters, instance_made}
-use Rattle.pv_world.specs.Doing.{Done}
+use Rattle.pv_world.specs.Worlds.{World, Bindings, Nothing}
+use Rattle.pv_world.specs.Objects.{owning, bind, function_bound, literal_bound, with_characters, instance_made, address_of, literal_of, function_of}
+use Rattle.pv_world.specs.Doing.{Done, Answers}
 use Rattle.pv_shadow.specs.Bytes.{Store}
 use Rattle.pv_shadow.specs.declared.byte.Byte.{Byte}
 use Rattle.pv_inst.specs.declared.values.Kind.TheVariants.{Literal}
@@ -16,6 +16,9 @@ use Rattle.pv_watch.specs.declared.event.What.{What}
 use Rattle.pv_watch.specs.declared.event.What.TheVariants as what
 use Rattle.pv_object.specs.Memory.{Mem}
 use Rattle.std.specs.Option.{option_map_or}
+use Rattle.pv_world.specs.Worths.{pointer}
+use Rattle.pv_world.specs.Telling.{quiet}
+use Rattle.std.specs.FinMap as map
 
 -- 6.5p6: of the instances up to so many, and of the next one, the objects that they were made for
 abbrev pub owned_next : List (Option ℕ) → (before : ℕ) → Option ℕ → List (Option ℕ)
@@ -56,3 +59,19 @@ function_made w f name x = instance_made w name x (λ i M. function_bound (ownin
 -- 6.4.5p6: a literal's array with its characters, or why it has none
 abbrev pub literal_made : World → ℕ → (bytes : List ℕ) → Result ℕ CreateError × Mem → Done
 literal_made w l bytes x = instance_made w 0 x (λ i M. with_characters (literal_bound (owning w M i None) l i) i bytes)
+
+-- a string literal is an lvalue: the array that was made for it
+abbrev pub names_literal : ℕ → World → Done
+names_literal l w = Answers (pointer (address_of w (literal_of w l))) w quiet
+
+-- an identifier designates its function
+abbrev pub names_function : ℕ → World → Done
+names_function f w = Answers (pointer (address_of w (function_of w f))) w quiet
+
+-- a body begins with no objects of its own
+abbrev pub begins_body : World → Done
+begins_body w = Answers Nothing (record w { bodies = map.empty ∷ w.bodies }) quiet
+
+-- a body ends; those below it are left
+abbrev pub ends_body : World → Done
+ends_body w = Answers Nothing (record w { bodies = drop 1 w.bodies }) quiet

@@ -1,5 +1,5 @@
 -- Objects and literals: their instances, their places, and the stores of initialisers and parameters.
-use Rattle.std.specs.Prelude.{ℕ, ◌+◌, ◌-◌, Bool, List, [], ◌∷◌, ◌++◌, length, drop, replicate, Some, None, if◌then◌else◌, ◌==◌, slice_index_or, Result, Ok, Err, unwrap_or}
+use Rattle.std.specs.Prelude.{ℕ, ◌+◌, ◌-◌, Bool, List, [], ◌∷◌, ◌++◌, length, replicate, Some, None, if◌then◌else◌, ◌==◌, slice_index_or, Result, Ok, Err, unwrap_or}
 use Rattle.std.specs.declared.option.Option.{Option}
 use Rattle.std.specs.FinMap as map
 use Rattle.pv_prov.specs.declared.names.Prov.TheVariants.{Empty, Inst}
@@ -62,10 +62,6 @@ names_object o lasting w = Answers (pointer (address_of w (instance_of w o lasti
 abbrev pub literal_of : World → ℕ → ℕ
 literal_of w l = unwrap_or (map.get w.literals l) 0
 
--- 6.5.1p4: a string literal is an lvalue: the array that was made for it
-abbrev pub names_literal : ℕ → World → Done
-names_literal l w = Answers (pointer (address_of w (literal_of w l))) w quiet
-
 -- 6.5p6: the world in which the instance was made for the object, and all before it for what they were
 abbrev pub owning : World → Mem → ℕ → Option ℕ → World
 owning w M i o = record w { memory = M; owners = (w.owners ++ replicate ((i - 1) - length w.owners) None) ++ o ∷ [] }
@@ -113,10 +109,6 @@ makes_literal_of l text bytes w =
 abbrev pub function_of : World → ℕ → ℕ
 function_of w f = unwrap_or (map.get w.functions f) 0
 
--- 6.5.1p2, 6.3.2.1p4: an identifier designates its function
-abbrev pub names_function : ℕ → World → Done
-names_function f w = Answers (pointer (address_of w (function_of w f))) w quiet
-
 -- 6.3.2.1p4: the request for the storage instance of a function (the memory model): one byte, which is never accessed
 abbrev pub function_request : (name : ℕ) (text : List ℕ) → Request
 function_request name text = record { text = text; name = name; size = 1; align = 1; kind = Function }
@@ -137,11 +129,3 @@ fills_object o lasting size v w =
 -- 6.7.9p11, p14, 6.9.1p10: the bytes of an object from an offset on become these. Nothing is checked
 abbrev pub puts_bytes : ℕ → (lasting : Bool) → (offset : ℕ) → List Byte → World → Done
 puts_bytes o lasting offset bytes w = Answers Nothing (put_at w (base_in w (instance_of w o lasting) + offset) bytes) quiet
-
--- 6.9.1: a body begins with no objects of its own
-abbrev pub begins_body : World → Done
-begins_body w = Answers Nothing (record w { bodies = map.empty ∷ w.bodies }) quiet
-
--- 6.9.1: a body ends; those below it are left
-abbrev pub ends_body : World → Done
-ends_body w = Answers Nothing (record w { bodies = drop 1 w.bodies }) quiet

@@ -6,7 +6,7 @@ ghost use Rattle.pv_num.specs.Operands.{IsOperand};
 ghost use Rattle.pv_world.specs.Worlds.{World as WorldView, Undefined};
 ghost use Rattle.pv_world.specs.Telling.{fault_of, verdict_of};
 ghost use Rattle.pv_world.specs.Worths.{int_of, arithmetic_fault};
-ghost use Rattle.pv_world.specs.Calculations.{calculates, calculates_one, needs};
+ghost use Rattle.pv_world.specs.CalculationParts.{needs, calculates, calculates_one};
 ghost use Rattle.pv_world.specs.Coming.{Did, Faulted, worth_of};
 
 use crate::failing::fail;

@@ -38,7 +38,8 @@ use Rattle.pv_eval.specs.States.{Setting}
 use Rattle.pv_eval.specs.TypeForms.{Lvalue, size_of}
 use Rattle.pv_eval.specs.Permission.{permits}
 use Rattle.pv_eval.specs.Accesses.{access_to, reads_permitted, reads_at, reads, writes_alone, writes_at, writes}
-use Rattle.pv_eval.specs.Objects.{where_possible, heap_name, can_make, request_of, makes, instance_for, ends, makes_literal, makes_function, can_place, can_fill, fills, can_put, puts, text_for, can_put_text, puts_text}
+use Rattle.pv_eval.specs.Objects.{where_possible, heap_name, request_of, makes, instance_for, ends, makes_literal, makes_function, can_fill, fills, can_put, puts, text_for, can_put_text, puts_text}
+use Rattle.pv_eval.specs.ObjectParts.{can_make, can_place}
 use Rattle.pv_eval.specs.Callees.{may_call}
 use Rattle.pv_eval.specs.Library.{replied, with_memory, asked, asks}
 use Rattle.pv_eval.specs.Suiting.{is_size, is_stored, live_in, is_live, has_room, knows_worth}

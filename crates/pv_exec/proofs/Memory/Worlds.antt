@@ -41,7 +41,8 @@ use Rattle.pv_world.specs.Telling.{Told, quiet, telling, used, both_used, code_t
 use Rattle.pv_world.specs.Doing.{Done, Answers, Fails, Breaks}
 use Rattle.pv_world.specs.Worths.{int, truth_int, int_of, pointer_of, unless, unplain, unpresent, computed, bytes_of}
 use Rattle.pv_world.specs.Conversions.{truth_by, truth_value, truth_worth, tests, number_by, pointed, recast_by, passes, converts}
-use Rattle.pv_world.specs.Calculations.{calculates, calculates_one, follows_to}
+use Rattle.pv_world.specs.Calculations.{follows_to}
+use Rattle.pv_world.specs.CalculationParts.{calculates, calculates_one}
 use Rattle.pv_world.specs.Pointers.{moved_by, distance, moves, in_elements, elements_by, between_by, ordered_by, equal_by, equals, selects, found_in, found_by, finds}
 use Rattle.pv_world.specs.PointerParts.{between, unlike}
 use Rattle.pv_world.specs.Accesses.{reaching_by, reaching, scalar_as, scalar_by, worth_in, takes_bytes}

@@ -29,7 +29,8 @@ use Rattle.pv_world.specs.Telling.{Told, quiet, telling, both_used, all_told}
 use Rattle.pv_world.specs.Doing.{Answers, Fails}
 use Rattle.pv_world.specs.Worths.{int, pointer, truth_int, int_of, pointer_of, unplain, unpresent, computed, bytes_of, wrong_of}
 use Rattle.pv_world.specs.Conversions.{truth_by, truth_value, truth_worth, tests, number_by, pointed, recast_by, passes, converts}
-use Rattle.pv_world.specs.Calculations.{calculates, calculates_one, follows_to}
+use Rattle.pv_world.specs.Calculations.{follows_to}
+use Rattle.pv_world.specs.CalculationParts.{calculates, calculates_one}
 use Rattle.pv_world.specs.Pointers.{moved_by, distance, moves, in_elements, elements_by, between_by, ordered_by, equal_by, equals, selects}
 use Rattle.pv_world.specs.PointerParts.{between}
 use Rattle.pv_world.specs.Accesses.{scalar_as, scalar_by, worth_in, takes_bytes}

@@ -1,5 +1,5 @@
 use Rattle.std.proofs.Common.{◌≡◌, ◌++◌, drop}
-use Rattle.pv_eval.specs.Permission.{marks_of}
+use Rattle.pv_eval.specs.PermissionParts.{marks_of}
 use Rattle.pv_eval.proofs.permission.marks_of.Given as goal
 
 abbrev pub invariant-loop-i : goal.invariant-loop-i

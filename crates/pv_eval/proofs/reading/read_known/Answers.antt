@@ -9,7 +9,7 @@ use Rattle.pv_world.specs.Coming.{Did, worth_of}
 use Rattle.pv_eval.specs.TypeForms.{lvalue}
 use Rattle.pv_eval.specs.Suiting.{knows_worth}
 use Rattle.pv_eval.specs.Sizes.{setting_of}
-use Rattle.pv_eval.specs.Accesses.{reads_from}
+use Rattle.pv_eval.specs.AccessParts.{reads_from}
 use Rattle.pv_eval.specs.Operations.{Reads}
 use Rattle.pv_eval.proofs.Guards.{both_of}
 use Rattle.pv_eval.proofs.Chosen.{suited, unsuited}

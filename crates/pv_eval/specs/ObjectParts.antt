@@ -1,0 +1,20 @@
+-- A bridge: what functions answer that do a part of what Objects says.
+use Rattle.pv_world.specs.Doing.{Done}
+use Rattle.pv_eval.specs.States.{Setting}
+use Rattle.pv_world.specs.Worlds.{World}
+use Rattle.pv_world.specs.Objects as object
+use Rattle.pv_typed.specs.TypedUnits.{object_at, TypedObject, TypedFunction}
+use Rattle.std.specs.Prelude.{ℕ, Bool, not, ◌&&◌, ◌==◌}
+use Rattle.pv_eval.specs.Objects.{has_extent, heap_name}
+
+-- an identifier designates the object in scope
+abbrev pub names_object : Setting → ℕ → World → Done
+names_object b o w = object.names_object o (object_at b.unit o).lasting w
+
+-- an object of a complete type, whose name isn't that of allocations
+abbrev pub can_make : Setting → TypedObject → Bool
+can_make b x = has_extent b x.t && not (x.name == heap_name)
+
+-- a function whose name isn't that of allocations, as none in a checked unit is
+abbrev pub can_place : TypedFunction → Bool
+can_place x = not (x.name == heap_name)
