@@ -26,7 +26,8 @@ use Rattle.pv_eval.specs.Machines.{Started, left_of, is_due_at}
 use Rattle.pv_exec.specs.declared.task.Task.{Task}
 use Rattle.pv_exec.specs.declared.task.Doing.{Doing}
 use Rattle.pv_exec.specs.declared.task.Doing.TheVariants as doing
-use Rattle.pv_exec.specs.Flows.{Falls, Below, stores_value, store_all}
+use Rattle.pv_exec.specs.Flows.{Falls, Below, stores_value}
+use Rattle.pv_exec.specs.Lists.{store_all}
 use Rattle.pv_exec.specs.Execution.{ex}
 use Rattle.pv_exec.specs.Calls.{below}
 use Rattle.pv_exec.specs.Tasks.{Reached, Valued, left}

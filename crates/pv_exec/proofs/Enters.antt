@@ -18,7 +18,8 @@ use Rattle.pv_eval.specs.declared.marked.Marked.{Marked}
 use Rattle.pv_exec.specs.Calls.{below}
 use Rattle.pv_exec.specs.Execution.{ex, exs}
 use Rattle.pv_exec.specs.Flows.{stepped, Flow, Falls, Returns, Below, full}
-use Rattle.pv_exec.specs.Blocks.{scoped, make_all, end_all}
+use Rattle.pv_exec.specs.Blocks.{scoped, end_all}
+use Rattle.pv_exec.specs.Lists.{make_all}
 use Rattle.pv_world.specs.Worths.{is_true}
 use Rattle.pv_eval.specs.declared.failure.Failure.{Failure}
 use Rattle.pv_eval.specs.declared.failure.Failure.TheVariants as failure

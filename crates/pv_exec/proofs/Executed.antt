@@ -16,12 +16,13 @@ use Rattle.pv_eval.specs.TypeForms.{Lvalue, lvalue, size_of}
 use Rattle.pv_eval.specs.Constants.{constant_worth}
 use Rattle.pv_eval.specs.Operations.{Op, Tests, Accepts, Needs, Makes, MakesLiteral, MakesFunction, Ends, BeginsBody, EndsBody, Fills, Puts, PutsText, act}
 use Rattle.pv_eval.proofs.Closed.{Relation, IsLvalue, Ways, beside_setting, choice, converted-way, handed-way, ev-closed}
-use Rattle.pv_exec.specs.Flows.{Flow, Falls, Breaks, Continues, Returns, Below, full, testing, falls, goes_on, switched, stores_value, store_all, begin_fill, declares, if_tested, stepped, round, round_do, returns_value}
-use Rattle.pv_exec.specs.Blocks.{make_all, end_all, scoped}
+use Rattle.pv_exec.specs.Flows.{Flow, Falls, Breaks, Continues, Returns, Below, full, testing, falls, goes_on, switched, stores_value, begin_fill, declares, if_tested, stepped, round, round_do, returns_value}
+use Rattle.pv_exec.specs.Blocks.{end_all, scoped}
+use Rattle.pv_exec.specs.Lists.{make_all, store_all, make_statics, make_literals, make_functions, store_statics, initialize_statics}
 use Rattle.pv_exec.specs.Labels.{Target, ToCase, ToDefault, ToNone, target_of, is_target, unless_none}
 use Rattle.pv_exec.specs.Execution.{ex, exs, exs_at}
 use Rattle.pv_exec.specs.Calls.{take_params, value_by, runs_body, call_body, below}
-use Rattle.pv_exec.specs.Preparing.{make_static, make_statics, make_literals, make_functions, store_constant, store_static, store_statics, initialize_statics, prepare}
+use Rattle.pv_exec.specs.Preparing.{make_static, store_constant, store_static, prepare}
 use Rattle.pv_exec.specs.Run.{call_main}
 
 -- and the store of a constant, whose value is read off the world

@@ -15,7 +15,8 @@ use Rattle.pv_exec.specs.declared.task.Task.TheVariants as task
 use Rattle.pv_exec.specs.declared.task.Doing.TheVariants as doing
 use Rattle.pv_exec.specs.declared.task.Way.TheVariants as way
 use Rattle.pv_exec.specs.declared.lists.Item.TheVariants as item
-use Rattle.pv_exec.specs.Flows.{Flow, Falls, Below, falls, nothing_done, begin_fill, store_all, declares}
+use Rattle.pv_exec.specs.Flows.{Flow, Falls, Below, falls, nothing_done, begin_fill, declares}
+use Rattle.pv_exec.specs.Lists.{store_all}
 use Rattle.pv_exec.specs.Execution.{ex, exs}
 use Rattle.pv_exec.specs.Calls.{below}
 use Rattle.pv_exec.specs.Parts.{loop_of, rounds}

@@ -6,7 +6,8 @@ use Rattle.pv_typed.specs.TypedUnits.{object_at}
 use Rattle.pv_eval.specs.Moments.{Made}
 use Rattle.pv_eval.specs.Operations.{Makes, Ends, act}
 use Rattle.pv_eval.specs.States.{Setting, State, Res, Gives, then_do}
-use Rattle.pv_exec.specs.Blocks.{make_all, end_all}
+use Rattle.pv_exec.specs.Blocks.{end_all}
+use Rattle.pv_exec.specs.Lists.{make_all}
 use Rattle.pv_world.specs.Worlds.{Worth, Nothing}
 use Rattle.pv_eval.specs.declared.failure.Failure.{Failure}
 use Rattle.pv_exec.proofs.Pieces.{made-stops, made-is}

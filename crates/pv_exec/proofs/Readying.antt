@@ -15,7 +15,8 @@ use Rattle.pv_typed.specs.TypedUnits.{Store, StoredValue, ValueOf}
 use Rattle.pv_eval.specs.TypeForms.{lvalue}
 use Rattle.pv_eval.specs.Operations.{Puts, act}
 use Rattle.pv_eval.specs.Constants.{constant_worth}
-use Rattle.pv_exec.specs.Preparing.{make_statics, make_literals, make_functions, initialize_statics, prepare, store_constant, store_static}
+use Rattle.pv_exec.specs.Preparing.{prepare, store_constant, store_static}
+use Rattle.pv_exec.specs.Lists.{make_statics, make_literals, make_functions, initialize_statics}
 use Rattle.pv_exec.proofs.Pieces.{made-stops, made-is}
 
 -- one more was done, and one that ends the run

@@ -22,7 +22,8 @@ use Rattle.pv_exec.specs.declared.task.Flow.TheVariants as code_flow
 use Rattle.pv_exec.specs.declared.task.Way.{Way}
 use Rattle.pv_exec.specs.declared.task.Way.TheVariants as way
 use Rattle.pv_exec.specs.Flows.{Flow, Falls, Below, switched}
-use Rattle.pv_exec.specs.Blocks.{make_all, end_all, scoped}
+use Rattle.pv_exec.specs.Blocks.{end_all, scoped}
+use Rattle.pv_exec.specs.Lists.{make_all}
 use Rattle.pv_exec.specs.Labels.{Target, ToCase, ToDefault, ToNone, target_of, unless_none}
 use Rattle.pv_exec.specs.Execution.{exs, exs_at}
 use Rattle.pv_exec.specs.Calls.{below}

@@ -25,7 +25,8 @@ use Rattle.pv_exec.specs.declared.task.Doing.{Doing}
 use Rattle.pv_exec.specs.declared.task.Doing.TheVariants as doing
 use Rattle.pv_exec.specs.declared.task.Way.{Way}
 use Rattle.pv_exec.specs.declared.task.Way.TheVariants as way
-use Rattle.pv_exec.specs.Flows.{Flow, Falls, full, stores_value, store_all}
+use Rattle.pv_exec.specs.Flows.{Flow, Falls, full, stores_value}
+use Rattle.pv_exec.specs.Lists.{store_all}
 use Rattle.pv_exec.specs.Calls.{below}
 use Rattle.pv_exec.specs.Tasks.{Reached, left, after_value, stored, stored_value}
 use Rattle.pv_exec.specs.Works.{does, others}

@@ -1,21 +1,18 @@
 -- Blocks (C17 6.8.2): their objects are made when one is entered, and end in whatever way it is left (6.2.4p6).
-use Rattle.std.specs.Prelude.{ℕ, List, [], ◌∷◌}
+use Rattle.std.specs.Prelude.{ℕ, List}
 use Rattle.pv_typed.specs.TypedUnits.{object_at}
-use Rattle.pv_world.specs.Worlds.{Worth, Nothing}
+use Rattle.pv_world.specs.Worlds.{Worth}
 use Rattle.pv_eval.specs.States.{Setting, State, Res, Gives, then_do}
 use Rattle.pv_eval.specs.Operations.{Makes, Ends, act}
-use Rattle.pv_exec.specs.Flows.{Flow}
+use Rattle.pv_exec.specs.Flows.{Flow, each}
 
--- 6.2.4p6, 6.8.2p2: the objects of a block are made when it is entered, in the order of their declarations (which is our choice)
-abbrev pub make_all : Setting → List ℕ → State → Res Worth
-make_all b [] s = Gives Nothing s
-make_all b (o ∷ os) s = then_do (act b (object_at b.unit o).line (Makes o) s) (λ v s. make_all b os s)
-
--- 6.2.4p6: and end when it is left, in the same order
+-- 6.2.4p6: the objects of a block end when it is left, in the order of their declarations
 abbrev pub end_all : Setting → List ℕ → State → Res Worth
-end_all b [] s = Gives Nothing s
-end_all b (o ∷ os) s = then_do (act b (object_at b.unit o).line (Ends o) s) (λ v s. end_all b os s)
+end_all b os s = each (λ (o : ℕ) s. act b (object_at b.unit o).line (Ends o) s) os s
 
--- 6.2.4p6: a block: its objects are made, it is executed, and in whatever way it is left they end
+-- 6.2.4p6, 6.8.2p2: a block: its objects are made when it is entered, in the order of their declarations (which is our choice), it is executed, and
+-- in whatever way it is left they end
 abbrev pub scoped : Setting → List ℕ → (State → Res Flow) → State → Res Flow
-scoped b os body s = then_do (make_all b os s) (λ v s. then_do (body s) (λ fl s. then_do (end_all b os s) (λ v s. Gives fl s)))
+scoped b os body s =
+    then_do (each (λ (o : ℕ) s. act b (object_at b.unit o).line (Makes o) s) os s) (λ v s. then_do (body s) (λ fl s.
+    then_do (end_all b os s) (λ v s. Gives fl s)))

@@ -30,6 +30,11 @@ pub record Below : Type 0 where
 abbrev pub full : Setting → Calling → TypedTree → State → Res Worth
 full b call x s = then_do (ev b call x [] s) (λ g s. Gives g.value s)
 
+-- 5.1.2.3p3: what is done for each of a list, one after the other in its order
+abbrev pub each : {A : Type 0} → (A → State → Res Worth) → List A → State → Res Worth
+each go [] s = Gives Nothing s
+each go (x ∷ xs) s = then_do (go x s) (λ v s. each go xs s)
+
 -- 6.8.3p2: the value is dropped, and the statement falls through
 abbrev pub nothing_done : Res Worth → Res Flow
 nothing_done r = then_do r (λ v s. Gives Falls s)
@@ -60,20 +65,17 @@ stores_value b call o x (ValueOf e) s =
     tick b s (λ s. then_do (full b call e s) (λ v s. then_do (handed b e v s) (λ v s. act b x.line (Puts o x.offset (lvalue b x.t) v) s)))
 stores_value b call o x (TextOf l) s = tick b s (λ s. act b x.line (PutsText o x.offset (size_of b x.t) l) s)
 
--- 6.7.9p19: all stores, in the order of the list (p23 leaves the order of evaluation open)
-abbrev pub store_all : Setting → Calling → (object : ℕ) → List Store → State → Res Worth
-store_all b call o [] s = Gives Nothing s
-store_all b call o (x ∷ xs) s = then_do (stores_value b call o x x.what s) (λ v s. store_all b call o xs s)
-
 -- 6.7.9p10, p19, p21: all bytes first: 0 where there are braces or a string for an array; without an initializer they have no value
 abbrev pub begin_fill : Setting → (object : ℕ) → (braced : Bool) → List Store → State → Res Worth
 begin_fill b o true xs s = act b (object_at b.unit o).line (Fills o (Some 0)) s
 begin_fill b o false [] s = act b (object_at b.unit o).line (Fills o None) s
 begin_fill b o false (x ∷ xs) s = Gives Nothing s
 
--- 6.2.4p6, 6.8p3, 6.7.9p10, p19: a declaration that is reached: its object has its value anew
+-- 6.2.4p6, 6.8p3, 6.7.9p10, p19: a declaration that is reached: its object has its value anew: all its stores, in the order of the list (p23 leaves
+-- the order of evaluation open)
 abbrev pub declares : Setting → Calling → (object : ℕ) → TypedObject → State → Res Flow
-declares b call o x s = then_do (begin_fill b o x.braced x.inits s) (λ v s. nothing_done (store_all b call o x.inits s))
+declares b call o x s =
+    then_do (begin_fill b o x.braced x.inits s) (λ v s. nothing_done (each (λ (y : Store) s. stores_value b call o y y.what s) x.inits s))
 
 -- 6.8.5p4, 6.8.5.3p2: goes on where the condition isn't 0, or where a `for` has none; else the loop has ended
 abbrev pub if_tested : Setting → Calling → Option TypedTree → (State → Res Flow) → State → Res Flow

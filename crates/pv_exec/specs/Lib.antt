@@ -1,5 +1,6 @@
 pub mod Flows
 pub mod Blocks
+pub mod Lists
 pub mod Labels
 pub mod Execution
 pub mod Calls

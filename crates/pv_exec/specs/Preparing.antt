@@ -1,5 +1,5 @@
 -- Before the first turn (C17 5.1.2p1): static objects, literals, functions, and static initializers.
-use Rattle.std.specs.Prelude.{ℕ, List, [], ◌∷◌, None, Some}
+use Rattle.std.specs.Prelude.{ℕ, None, Some}
 use Rattle.std.specs.declared.option.Option.{Option}
 use Rattle.pv_typed.specs.declared.values.Const.{Const}
 use Rattle.pv_typed.specs.Addresses.{constant_of}
@@ -9,25 +9,11 @@ use Rattle.pv_eval.specs.States.{Setting, State, Res, Gives, then_do}
 use Rattle.pv_eval.specs.TypeForms.{lvalue, size_of}
 use Rattle.pv_eval.specs.Operations.{Makes, MakesLiteral, MakesFunction, Fills, Puts, PutsText, act}
 use Rattle.pv_eval.specs.Constants.{constant_worth}
+use Rattle.pv_exec.specs.Flows.{each}
 
 -- 6.2.4p3, 6.7.9p10: an object with static storage is made, each byte 0
 abbrev pub make_static : Setting → ℕ → State → Res Worth
 make_static b o s = then_do (act b (object_at b.unit o).line (Makes o) s) (λ v s. act b (object_at b.unit o).line (Fills o (Some 0)) s)
-
--- 6.2.4p3: all of them, in the order of the list
-abbrev pub make_statics : Setting → List ℕ → State → Res Worth
-make_statics b [] s = Gives Nothing s
-make_statics b (o ∷ os) s = then_do (make_static b o s) (λ v s. make_statics b os s)
-
--- 6.4.5p6: the arrays of string literals
-abbrev pub make_literals : Setting → List ℕ → State → Res Worth
-make_literals b [] s = Gives Nothing s
-make_literals b (l ∷ ls) s = then_do (act b (literal_at b.unit l).line (MakesLiteral l) s) (λ v s. make_literals b ls s)
-
--- 6.3.2.1p4: the instances of the functions that are pointed to
-abbrev pub make_functions : Setting → List ℕ → State → Res Worth
-make_functions b [] s = Gives Nothing s
-make_functions b (f ∷ fs) s = then_do (act b (function_at b.unit f).line (MakesFunction f) s) (λ v s. make_functions b fs s)
 
 -- 6.7.9p4, 6.6p7: what a static initializer stores is the value of a constant expression
 abbrev pub store_constant : Setting → (object : ℕ) → Store → Option Const → State → Res Worth
@@ -39,20 +25,12 @@ abbrev pub store_static : Setting → (object : ℕ) → Store → StoredValue �
 store_static b o x (ValueOf e) s = store_constant b o x (constant_of b.unit e) s
 store_static b o x (TextOf l) s = act b x.line (PutsText o x.offset (size_of b x.t) l) s
 
--- 6.7.9p19: all stores of an object, in the order of the list
-abbrev pub store_statics : Setting → (object : ℕ) → List Store → State → Res Worth
-store_statics b o [] s = Gives Nothing s
-store_statics b o (x ∷ xs) s = then_do (store_static b o x x.what s) (λ v s. store_statics b o xs s)
-
--- 5.1.2p1, 6.7.9p4: all stores of all static objects, in their order
-abbrev pub initialize_statics : Setting → List ℕ → State → Res Worth
-initialize_statics b [] s = Gives Nothing s
-initialize_statics b (o ∷ os) s = then_do (store_statics b o (object_at b.unit o).inits s) (λ v s. initialize_statics b os s)
-
 -- 5.1.2p1: before `main` is called: static objects are made in the order in which their names are first declared, then
--- the literals in the order of the source, then the functions that are pointed to in the order of their first declarations, and then the
--- initializers are stored. None of it takes a turn
+-- the arrays of literals (6.4.5p6) in the order of the source, then the functions that are pointed to (6.3.2.1p4) in the order of their first
+-- declarations, and then the initializers are stored, each in the order of its list (6.7.9p19). None of it takes a turn
 abbrev pub prepare : Setting → State → Res Worth
 prepare b s =
-    then_do (make_statics b b.unit.statics s) (λ v s. then_do (make_literals b b.unit.instances s) (λ v s.
-    then_do (make_functions b b.unit.placed s) (λ v s. initialize_statics b b.unit.statics s)))
+    then_do (each (make_static b) b.unit.statics s) (λ v s.
+    then_do (each (λ (l : ℕ) s. act b (literal_at b.unit l).line (MakesLiteral l) s) b.unit.instances s) (λ v s.
+    then_do (each (λ (f : ℕ) s. act b (function_at b.unit f).line (MakesFunction f) s) b.unit.placed s) (λ v s.
+    each (λ (o : ℕ) s. each (λ (x : Store) s. store_static b o x x.what s) (object_at b.unit o).inits s) b.unit.statics s)))

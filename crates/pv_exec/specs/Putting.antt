@@ -10,7 +10,8 @@ use Rattle.pv_eval.specs.Operations.{Puts, act}
 use Rattle.pv_eval.specs.Moments.{Always, state_of}
 use Rattle.pv_eval.specs.Machines.{Machine}
 use Rattle.pv_exec.specs.declared.task.Way.{Way}
-use Rattle.pv_exec.specs.Flows.{Falls, store_all}
+use Rattle.pv_exec.specs.Flows.{Falls}
+use Rattle.pv_exec.specs.Lists.{store_all}
 use Rattle.pv_exec.specs.Calls.{below}
 use Rattle.pv_exec.specs.Tasks.{Reached, Left, left}
 use Rattle.pv_exec.specs.Leading.{LeadsOr}

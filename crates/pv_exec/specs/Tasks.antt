@@ -17,7 +17,8 @@ use Rattle.pv_eval.specs.Steps.{Calling, converted, handed}
 use Rattle.pv_eval.specs.Machines.{Started, answered_of}
 use Rattle.pv_exec.specs.declared.task.Task.{Task}
 use Rattle.pv_exec.specs.declared.task.Task.TheVariants as task
-use Rattle.pv_exec.specs.Flows.{Flow, Falls, Returns, Below, falls, switched, store_all}
+use Rattle.pv_exec.specs.Flows.{Flow, Falls, Returns, Below, falls, switched}
+use Rattle.pv_exec.specs.Lists.{store_all}
 use Rattle.pv_exec.specs.Blocks.{end_all}
 use Rattle.pv_exec.specs.Execution.{exs}
 use Rattle.pv_exec.specs.Calls.{below, value_by}

@@ -8,7 +8,7 @@ use Rattle.pv_eval.specs.Machines.{left_of, ended, due_turns, after_first, Start
 use Rattle.pv_eval.specs.States.{Setting, State, Res, Gives, then_do, tick}
 use Rattle.pv_exec.specs.Execution.{ex, exs}
 use Rattle.pv_exec.specs.Calls.{below}
-use Rattle.pv_exec.specs.Flows.{store_all}
+use Rattle.pv_exec.specs.Lists.{store_all}
 use Rattle.pv_exec.specs.Blocks.{scoped}
 use Rattle.pv_world.specs.Coming.{worth_of}
 use Rattle.pv_eval.specs.Stack.{rest}

@@ -40,7 +40,8 @@ use Rattle.pv_eval.specs.Objects.{heap_name, request_of, text_for, instance_for}
 use Rattle.pv_eval.specs.Operations.{Makes, MakesLiteral, MakesFunction, Fills, Puts, PutsText, act}
 use Rattle.pv_exec.specs.Laying.{IsLaidOut}
 use Rattle.pv_exec.specs.Calls.{below}
-use Rattle.pv_exec.specs.Preparing.{make_static, make_statics, make_literals, make_functions, store_constant, store_static, store_statics, initialize_statics, prepare}
+use Rattle.pv_exec.specs.Preparing.{make_static, store_constant, store_static, prepare}
+use Rattle.pv_exec.specs.Lists.{make_statics, make_literals, make_functions, store_statics, initialize_statics}
 use Rattle.pv_exec.specs.Run.{first, call_main, run_of}
 use Rattle.pv_exec.proofs.Memory.Rows.{Leads as Led}
 use Rattle.pv_exec.proofs.Memory.Tables.{place-leads}
@@ -57,6 +58,7 @@ use Rattle.pv_guards.specs.TypedStatements.{IsMakeable, LiesIn, IsPlaced, IsCons
 use Rattle.pv_guards.specs.Plain.{act_plainly}
 use Rattle.pv_guards.specs.PlainExecution as plain
 use Rattle.pv_guards.specs.PlainRun as plainly
+use Rattle.pv_guards.specs.PlainLists as lists
 use Rattle.pv_guards.proofs.Fair.{store-later, written-fair, plain-fair}
 use Rattle.pv_guards.proofs.Found.{no-name}
 use Rattle.pv_guards.proofs.Living.{same-live, place-live, longer-live, IsNext, next-made, next-home, home-number, home-later, code-earlier, not-code, new-other}
@@ -324,29 +326,29 @@ module _ (b : Setting) (unit : IsTypedUnit b.unit) where
   less-ready ss ls fs sd ld fd w f g k h = record { laid = h.laid; bytes = h.bytes; statics = λ o m. h.statics o (f o m); apart = λ o q m n e. h.apart o q (f o m) (f q n) e; literals = λ o m. h.literals o (g o m); functions = λ o m. h.functions o (k o m); code = h.code; owned = h.owned }
 
   -- those of lists
-  statics-sure : (ss os : List ℕ) → ((o : ℕ) → IsIn o os → IsMakeable b.unit true o) → (s : State) → Ready b ss [] [] s.world → Sure (λ v z. Ready b (os ++ ss) [] [] z) (make_statics b os s) (plainly.make_statics b os s)
+  statics-sure : (ss os : List ℕ) → ((o : ℕ) → IsIn o os → IsMakeable b.unit true o) → (s : State) → Ready b ss [] [] s.world → Sure (λ v z. Ready b (os ++ ss) [] [] z) (make_statics b os s) (lists.make_statics b os s)
   statics-sure ss [] m s h = (refl, h)
   statics-sure ss (o ∷ os) m s h =
       let line = (object_at b.unit o).line in
       sure-seq (λ v z. Ready b (o ∷ ss) [] [] z) (λ v z. Ready b (o ∷ os ++ ss) [] [] z) (make_static b o s) (plainly.make_static b o s) _ _
       (sure-seq (λ v z. Ready b (o ∷ ss) [] [] z) (λ v z. Ready b (o ∷ ss) [] [] z) (act b line (Makes o) s) (act_plainly b line (Makes o) s) _ _ (makes-static ss [] [] line o s (m o (inl refl)) h) (λ v t k. fills-ready b (o ∷ ss) [] [] line o t (m o (inl refl)) (inl refl) k (Some 0) some-zero)) (λ v t k.
-      sure-more (λ v z. Ready b (os ++ o ∷ ss) [] [] z) (λ v z. Ready b (o ∷ os ++ ss) [] [] z) (make_statics b os t) (plainly.make_statics b os t)
+      sure-more (λ v z. Ready b (os ++ o ∷ ss) [] [] z) (λ v z. Ready b (o ∷ os ++ ss) [] [] z) (make_statics b os t) (lists.make_statics b os t)
       (λ v z q. less-ready (o ∷ os ++ ss) [] [] (os ++ o ∷ ss) [] [] z (moved-in o os ss) (λ n g. g) (λ n g. g) q) (statics-sure (o ∷ ss) os (λ q g. m q (inr g)) t k))
 
-  literals-sure : (ss ls ms : List ℕ) → ((l : ℕ) → IsIn l ms → 1 ≤ length (literal_at b.unit l).bytes) → (s : State) → Ready b ss ls [] s.world → Sure (λ v z. Ready b ss (ms ++ ls) [] z) (make_literals b ms s) (plainly.make_literals b ms s)
+  literals-sure : (ss ls ms : List ℕ) → ((l : ℕ) → IsIn l ms → 1 ≤ length (literal_at b.unit l).bytes) → (s : State) → Ready b ss ls [] s.world → Sure (λ v z. Ready b ss (ms ++ ls) [] z) (make_literals b ms s) (lists.make_literals b ms s)
   literals-sure ss ls [] m s h = (refl, h)
   literals-sure ss ls (l ∷ ms) m s h =
       let line = (literal_at b.unit l).line in
       sure-seq (λ v z. Ready b ss (l ∷ ls) [] z) (λ v z. Ready b ss (l ∷ ms ++ ls) [] z) (act b line (MakesLiteral l) s) (act_plainly b line (MakesLiteral l) s) _ _ (makes-the-literal ss ls [] line l s (m l (inl refl)) h) (λ v t k.
-      sure-more (λ v z. Ready b ss (ms ++ l ∷ ls) [] z) (λ v z. Ready b ss (l ∷ ms ++ ls) [] z) (make_literals b ms t) (plainly.make_literals b ms t)
+      sure-more (λ v z. Ready b ss (ms ++ l ∷ ls) [] z) (λ v z. Ready b ss (l ∷ ms ++ ls) [] z) (make_literals b ms t) (lists.make_literals b ms t)
       (λ v z q. less-ready ss (l ∷ ms ++ ls) [] ss (ms ++ l ∷ ls) [] z (λ n g. g) (moved-in l ms ls) (λ n g. g) q) (literals-sure ss (l ∷ ls) ms (λ q g. m q (inr g)) t k))
 
-  functions-sure : (ss ls fs gs : List ℕ) → ((f : ℕ) → IsIn f gs → ((function_at b.unit f).name ≢ heap_name) × HasBody b.unit f) → (s : State) → Ready b ss ls fs s.world → Sure (λ v z. Ready b ss ls (gs ++ fs) z) (make_functions b gs s) (plainly.make_functions b gs s)
+  functions-sure : (ss ls fs gs : List ℕ) → ((f : ℕ) → IsIn f gs → ((function_at b.unit f).name ≢ heap_name) × HasBody b.unit f) → (s : State) → Ready b ss ls fs s.world → Sure (λ v z. Ready b ss ls (gs ++ fs) z) (make_functions b gs s) (lists.make_functions b gs s)
   functions-sure ss ls fs [] m s h = (refl, h)
   functions-sure ss ls fs (f ∷ gs) m s h =
       let line = (function_at b.unit f).line in
       sure-seq (λ v z. Ready b ss ls (f ∷ fs) z) (λ v z. Ready b ss ls (f ∷ gs ++ fs) z) (act b line (MakesFunction f) s) (act_plainly b line (MakesFunction f) s) _ _ (makes-the-function ss ls fs line f s (m f (inl refl)) h) (λ v t k.
-      sure-more (λ v z. Ready b ss ls (gs ++ f ∷ fs) z) (λ v z. Ready b ss ls (f ∷ gs ++ fs) z) (make_functions b gs t) (plainly.make_functions b gs t)
+      sure-more (λ v z. Ready b ss ls (gs ++ f ∷ fs) z) (λ v z. Ready b ss ls (f ∷ gs ++ fs) z) (make_functions b gs t) (lists.make_functions b gs t)
       (λ v z q. less-ready ss ls (f ∷ gs ++ fs) ss ls (gs ++ f ∷ fs) z (λ n g. g) (λ n g. g) (moved-in f gs fs) q) (functions-sure ss ls (f ∷ fs) gs (λ q g. m q (inr g)) t k))
 
   -- 6.7.9p4: the values of constants
@@ -409,16 +411,16 @@ module _ (b : Setting) (unit : IsTypedUnit b.unit) where
     static-sure x (TextOf l) lies m s h =
         text-ready b b.unit.statics b.unit.instances b.unit.placed x.line o s (unit.statics o among) among h x.offset (size_of b x.t) l lies (unit.characters l)
 
-    stored-sure : (xs : List Store) → AreConstants b.unit o xs → (s : State) → All s.world → Sure (λ v z. All z) (store_statics b o xs s) (plainly.store_statics b o xs s)
+    stored-sure : (xs : List Store) → AreConstants b.unit o xs → (s : State) → All s.world → Sure (λ v z. All z) (store_statics b o xs s) (lists.store_statics b o xs s)
     stored-sure [] m s h = (refl, h)
     stored-sure (x ∷ xs) m s h = sure-seq (λ v z. All z) (λ v z. All z) (store_static b o x x.what s) (plainly.store_static b o x x.what s) _ _ (static-sure x x.what m.0.0 m.0.1 s h) (λ v t k. stored-sure xs m.1 t k)
 
-  initials-sure : (os : List ℕ) → ((o : ℕ) → IsIn o os → IsIn o b.unit.statics) → (s : State) → All s.world → Sure (λ v z. All z) (initialize_statics b os s) (plainly.initialize_statics b os s)
+  initials-sure : (os : List ℕ) → ((o : ℕ) → IsIn o os → IsIn o b.unit.statics) → (s : State) → All s.world → Sure (λ v z. All z) (initialize_statics b os s) (lists.initialize_statics b os s)
   initials-sure [] m s h = (refl, h)
   initials-sure (o ∷ os) m s h =
       let among = m o (inl refl) in
       let xs = (object_at b.unit o).inits in
-      sure-seq (λ v z. All z) (λ v z. All z) (store_statics b o xs s) (plainly.store_statics b o xs s) _ _ (stored-sure o among xs (unit.constants o among) s h) (λ v t k. initials-sure os (λ q g. m q (inr g)) t k)
+      sure-seq (λ v z. All z) (λ v z. All z) (store_statics b o xs s) (lists.store_statics b o xs s) _ _ (stored-sure o among xs (unit.constants o among) s h) (λ v t k. initials-sure os (λ q g. m q (inr g)) t k)
 
   none-behind : (os : List ℕ) (n : ℕ) → IsIn n os → IsIn n (os ++ [])
   none-behind (o ∷ os) n (inl e) = inl e
@@ -430,9 +432,9 @@ module _ (b : Setting) (unit : IsTypedUnit b.unit) where
       let ss = b.unit.statics in
       let ls = b.unit.instances in
       let fs = b.unit.placed in
-      sure-seq (λ v z. Ready b (ss ++ []) [] [] z) (λ v z. All z) (make_statics b ss s) (plainly.make_statics b ss s) _ _ (statics-sure [] ss unit.statics s h) (λ v t k.
-      sure-seq (λ v z. Ready b (ss ++ []) (ls ++ []) [] z) (λ v z. All z) (make_literals b ls t) (plainly.make_literals b ls t) _ _ (literals-sure (ss ++ []) [] ls unit.literals t k) (λ v t k.
-      sure-seq (λ v z. Ready b (ss ++ []) (ls ++ []) (fs ++ []) z) (λ v z. All z) (make_functions b fs t) (plainly.make_functions b fs t) _ _ (functions-sure (ss ++ []) (ls ++ []) [] fs unit.placed t k) (λ v t k.
+      sure-seq (λ v z. Ready b (ss ++ []) [] [] z) (λ v z. All z) (make_statics b ss s) (lists.make_statics b ss s) _ _ (statics-sure [] ss unit.statics s h) (λ v t k.
+      sure-seq (λ v z. Ready b (ss ++ []) (ls ++ []) [] z) (λ v z. All z) (make_literals b ls t) (lists.make_literals b ls t) _ _ (literals-sure (ss ++ []) [] ls unit.literals t k) (λ v t k.
+      sure-seq (λ v z. Ready b (ss ++ []) (ls ++ []) (fs ++ []) z) (λ v z. All z) (make_functions b fs t) (lists.make_functions b fs t) _ _ (functions-sure (ss ++ []) (ls ++ []) [] fs unit.placed t k) (λ v t k.
       initials-sure ss (λ o g. g) t (less-ready ss ls fs (ss ++ []) (ls ++ []) (fs ++ []) t.world (none-behind ss) (none-behind ls) (none-behind fs) k))))
 
   -- and `main`

@@ -19,8 +19,9 @@ use Rattle.pv_eval.specs.Sequenced.{Given}
 use Rattle.pv_eval.specs.Steps.{converted, handed}
 use Rattle.pv_eval.specs.Evaluation.{ev}
 use Rattle.pv_eval.specs.Operations.{Op, Tests, Accepts, Needs, Makes, Ends, Fills, Puts, PutsText, act}
-use Rattle.pv_exec.specs.Flows.{Flow, Falls, Breaks, Continues, Returns, Below, full, nothing_done, testing, falls, goes_on, switched, stores_value, store_all, begin_fill, declares, if_tested, stepped, round, round_do, returns_value}
-use Rattle.pv_exec.specs.Blocks.{make_all, end_all, scoped}
+use Rattle.pv_exec.specs.Flows.{Flow, Falls, Breaks, Continues, Returns, Below, full, nothing_done, testing, falls, goes_on, switched, stores_value, begin_fill, declares, if_tested, stepped, round, round_do, returns_value}
+use Rattle.pv_exec.specs.Blocks.{end_all, scoped}
+use Rattle.pv_exec.specs.Lists.{make_all, store_all}
 use Rattle.pv_exec.specs.Labels.{Target, ToCase, ToDefault, ToNone, some_case, some_default, target_of, is_target, unless_none}
 use Rattle.pv_exec.specs.Switches.{some_target}
 use Rattle.pv_exec.specs.Execution.{ex, exs, exs_at}
@@ -31,6 +32,7 @@ use Rattle.pv_guards.specs.Plain.{act_plainly}
 use Rattle.pv_guards.specs.PlainSteps as plainly
 use Rattle.pv_guards.specs.PlainEvaluation as expressions
 use Rattle.pv_guards.specs.PlainExecution as plain
+use Rattle.pv_guards.specs.PlainLists as lists
 use Rattle.pv_guards.specs.Promises.{Promised}
 use Rattle.pv_guards.specs.TypedStatements.{IsMakeable, AreNew, IsCondition, MayBeCondition, MayBeTyped, IsReturned, LiesIn, IsInitializer, AreInitializers, IsTypedStatement, AreTypedStatements}
 use Rattle.pv_guards.specs.Laws.{CallsAgree}
@@ -175,12 +177,12 @@ module _ (b : Setting) (rest : List Bindings) (w0 : World) where
   act-sure os line o t s h p = piece os (λ v z. Value b z t v) (act b line o) (act_plainly b line o) s h (acting.acts b os (asked b os) line o t s.world p)
 
   -- 6.2.4p6: the objects of a block
-  make-sure : (os ds : List ℕ) → Each (IsMakeable b.unit false) ds → (s : State) → Inv os s.world → Sure (λ v z. Inv (ds ++ os) z) (make_all b ds s) (plain.make_all b ds s)
+  make-sure : (os ds : List ℕ) → Each (IsMakeable b.unit false) ds → (s : State) → Inv os s.world → Sure (λ v z. Inv (ds ++ os) z) (make_all b ds s) (lists.make_all b ds s)
   make-sure os [] m s h = (refl, h)
   make-sure os (d ∷ ds) m s h =
       sure-seq (λ v z. Inv (d ∷ os) z) (λ v z. Inv (d ∷ ds ++ os) z) (act b (object_at b.unit d).line (Makes d) s) (act_plainly b (object_at b.unit d).line (Makes d) s) _ _
       (makes-sure b os rest w0 (object_at b.unit d).line d s m.0 h) (λ v t k.
-      sure-more (λ v z. Inv (ds ++ d ∷ os) z) (λ v z. Inv (d ∷ ds ++ os) z) (make_all b ds t) (plain.make_all b ds t) (λ v z q. inv-less (d ∷ ds ++ os) (ds ++ d ∷ os) z (moved-in d ds os) q) (make-sure (d ∷ os) ds m.1 t k))
+      sure-more (λ v z. Inv (ds ++ d ∷ os) z) (λ v z. Inv (d ∷ ds ++ os) z) (make_all b ds t) (lists.make_all b ds t) (λ v z q. inv-less (d ∷ ds ++ os) (ds ++ d ∷ os) z (moved-in d ds os) q) (make-sure (d ∷ os) ds m.1 t k))
 
   pub end-sure : (os ds : List ℕ) → Each (IsMakeable b.unit false) ds → AreNew ds os → (s : State) → Inv (ds ++ os) s.world → Sure (λ v z. Inv os z × Keeps s.world.memory.table z.memory.table) (end_all b ds s) (plain.end_all b ds s)
   end-sure os [] m n s h = (refl, (h, λ p k. k))
@@ -192,7 +194,7 @@ module _ (b : Setting) (rest : List Bindings) (w0 : World) where
 
   scoped-sure : (r : Ty) (os ds : List ℕ) (m m' : State → Res Flow) → Each (IsMakeable b.unit false) ds → AreNew ds os → ((s : State) → Inv (ds ++ os) s.world → Sure (E r (ds ++ os)) (m s) (m' s)) → (s : State) → Inv os s.world → Sure (E r os) (scoped b ds m s) (plain.scoped b ds m' s)
   scoped-sure r os ds m m' h new g s i =
-      sure-seq (λ v z. Inv (ds ++ os) z) (E r os) (make_all b ds s) (plain.make_all b ds s) _ _ (make-sure os ds h s i) (λ v t k.
+      sure-seq (λ v z. Inv (ds ++ os) z) (E r os) (make_all b ds s) (lists.make_all b ds s) _ _ (make-sure os ds h s i) (λ v t k.
       sure-seq (E r (ds ++ os)) (E r os) (m t) (m' t) _ _ (g t k) (λ fl y q.
       sure-seq (λ v z. Inv os z × Keeps y.world.memory.table z.memory.table) (E r os) (end_all b ds y) (plain.end_all b ds y) _ _ (end-sure os ds h new y q.0) (λ v x n.
       (refl, (n.0, flow-later b r fl y.world x.world n.1 q.1)))))
@@ -297,7 +299,7 @@ module _ (b : Setting) (rest : List Bindings) (w0 : World) where
         (sure-more _ (λ v z. Inv os z) (act b x.line (PutsText o x.offset (size_of b x.t) l) (spend s)) (act_plainly b x.line (PutsText o x.offset (size_of b x.t) l) (spend s)) (λ v z p. p.1)
         (piece os (λ v z. Unit {0}) (act b x.line (PutsText o x.offset (size_of b x.t) l)) (act_plainly b x.line (PutsText o x.offset (size_of b x.t) l)) (spend s) i (text-holds b os x.line o s.world (in-scope b os o m.storage among) m.small x.offset (size_of b x.t) l lies (characters l))))
 
-    stores-sure : (os : List ℕ) (o : ℕ) (xs : List Store) → IsIn o os → IsMakeable b.unit false o → AreInitializers b.unit os o xs → (s : State) → Inv os s.world → Sure (λ v z. Inv os z) (store_all b u.call o xs s) (plain.store_all b u'.call o xs s)
+    stores-sure : (os : List ℕ) (o : ℕ) (xs : List Store) → IsIn o os → IsMakeable b.unit false o → AreInitializers b.unit os o xs → (s : State) → Inv os s.world → Sure (λ v z. Inv os z) (store_all b u.call o xs s) (lists.store_all b u'.call o xs s)
     stores-sure os o [] among m h s i = (refl, i)
     stores-sure os o (x ∷ xs) among m h s i = sure-seq (λ v z. Inv os z) (λ v z. Inv os z) (stores_value b u.call o x x.what s) (plain.stores_value b u'.call o x x.what s) _ _ (value-sure os o x x.what among m h.0.0 h.0.1 s i) (λ v t k. stores-sure os o xs among m h.1 t k)
 
@@ -316,7 +318,7 @@ module _ (b : Setting) (rest : List Bindings) (w0 : World) where
     declares-sure : (os : List ℕ) (o : ℕ) (x : TypedObject) → IsIn o os → IsMakeable b.unit false o → AreInitializers b.unit os o x.inits → (s : State) → Inv os s.world → Sure (λ fl z. Inv os z) (declares b u.call o x s) (plain.declares b u'.call o x s)
     declares-sure os o x among m h s i =
         sure-seq (λ v z. Inv os z) (λ fl z. Inv os z) (begin_fill b o x.braced x.inits s) (plain.begin_fill b o x.braced x.inits s) _ _ (fill-sure os o x.braced x.inits among m s i) (λ v t k.
-        sure-seq (λ v z. Inv os z) (λ fl z. Inv os z) (store_all b u.call o x.inits t) (plain.store_all b u'.call o x.inits t) _ _ (stores-sure os o x.inits among m h t k) (λ v y q. (refl, q)))
+        sure-seq (λ v z. Inv os z) (λ fl z. Inv os z) (store_all b u.call o x.inits t) (lists.store_all b u'.call o x.inits t) _ _ (stores-sure os o x.inits among m h t k) (λ v y q. (refl, q)))
 
     returns-sure : (r : Ty) (os : List ℕ) (x : Option TypedTree) (line : ℕ) → IsReturned b.unit r os x → (s : State) → Inv os s.world → Sure (E r os) (returns_value b u.call x line s) (plain.returns_value b u'.call x line s)
     returns-sure r os None line h s i = (refl, (i, (none-nothing (layouts b.unit) r h, tt)))

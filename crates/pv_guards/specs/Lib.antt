@@ -6,6 +6,7 @@ pub mod Plain
 pub mod PlainSteps
 pub mod PlainEvaluation
 pub mod PlainExecution
+pub mod PlainLists
 pub mod PlainRun
 pub mod Promises
 pub mod TypedStatements

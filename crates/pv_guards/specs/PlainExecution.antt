@@ -11,7 +11,7 @@ use Rattle.pv_eval.specs.States.{Setting, State, Res, Gives, Stops, Unreached, t
 use Rattle.pv_eval.specs.TypeForms.{lvalue, size_of}
 use Rattle.pv_eval.specs.Operations.{Tests, Accepts, Needs, Makes, Ends, BeginsBody, EndsBody, Fills, Puts, PutsText}
 use Rattle.pv_eval.specs.Steps.{Calling}
-use Rattle.pv_exec.specs.Flows.{Flow, Falls, Breaks, Continues, Returns, Below, nothing_done, falls, goes_on, switched}
+use Rattle.pv_exec.specs.Flows.{Flow, Falls, Breaks, Continues, Returns, Below, each, nothing_done, falls, goes_on, switched}
 use Rattle.pv_exec.specs.Labels.{Target, target_of, is_target, unless_none}
 use Rattle.pv_exec.specs.Calls.{value_by}
 use Rattle.pv_guards.specs.Plain.{act_plainly}
@@ -26,30 +26,21 @@ full b call x s = then_do (ev b call x [] s) (λ g s. Gives g.value s)
 abbrev pub testing : Setting → Calling → TypedTree → State → Res Worth
 testing b call x s = then_do (full b call x s) (λ v s. act_plainly b (line_of x) (Tests v) s)
 
--- 6.2.4p6, 6.8.2p2: the objects of a block are made when it is entered, in the order of their declarations (which is our choice)
-abbrev pub make_all : Setting → List ℕ → State → Res Worth
-make_all b [] s = Gives Nothing s
-make_all b (o ∷ os) s = then_do (act_plainly b (object_at b.unit o).line (Makes o) s) (λ v s. make_all b os s)
-
 -- 6.2.4p6: and end when it is left, in the same order
 abbrev pub end_all : Setting → List ℕ → State → Res Worth
-end_all b [] s = Gives Nothing s
-end_all b (o ∷ os) s = then_do (act_plainly b (object_at b.unit o).line (Ends o) s) (λ v s. end_all b os s)
+end_all b os s = each (λ (o : ℕ) s. act_plainly b (object_at b.unit o).line (Ends o) s) os s
 
 -- 6.2.4p6: a block: its objects are made, it is executed, and in whatever way it is left they end
 abbrev pub scoped : Setting → List ℕ → (State → Res Flow) → State → Res Flow
-scoped b os body s = then_do (make_all b os s) (λ v s. then_do (body s) (λ fl s. then_do (end_all b os s) (λ v s. Gives fl s)))
+scoped b os body s =
+    then_do (each (λ (o : ℕ) s. act_plainly b (object_at b.unit o).line (Makes o) s) os s) (λ v s. then_do (body s) (λ fl s.
+    then_do (end_all b os s) (λ v s. Gives fl s)))
 
 -- 6.7.9p11, p13, p14: a store of an initializer that is reached takes a turn: a value as if assigned, or a string's characters
 abbrev pub stores_value : Setting → Calling → (object : ℕ) → Store → StoredValue → State → Res Worth
 stores_value b call o x (ValueOf e) s =
     tick b s (λ s. then_do (full b call e s) (λ v s. then_do (handed b e v s) (λ v s. act_plainly b x.line (Puts o x.offset (lvalue b x.t) v) s)))
 stores_value b call o x (TextOf l) s = tick b s (λ s. act_plainly b x.line (PutsText o x.offset (size_of b x.t) l) s)
-
--- 6.7.9p19: all stores, in the order of the list (p23 leaves the order of evaluation open)
-abbrev pub store_all : Setting → Calling → (object : ℕ) → List Store → State → Res Worth
-store_all b call o [] s = Gives Nothing s
-store_all b call o (x ∷ xs) s = then_do (stores_value b call o x x.what s) (λ v s. store_all b call o xs s)
 
 -- 6.7.9p10, p19, p21: all bytes first: 0 where there are braces or a string for an array; without an initializer they have no value
 abbrev pub begin_fill : Setting → (object : ℕ) → (braced : Bool) → List Store → State → Res Worth
@@ -59,7 +50,8 @@ begin_fill b o false (x ∷ xs) s = Gives Nothing s
 
 -- 6.2.4p6, 6.8p3, 6.7.9p10, p19: a declaration that is reached: its object has its value anew
 abbrev pub declares : Setting → Calling → (object : ℕ) → TypedObject → State → Res Flow
-declares b call o x s = then_do (begin_fill b o x.braced x.inits s) (λ v s. nothing_done (store_all b call o x.inits s))
+declares b call o x s =
+    then_do (begin_fill b o x.braced x.inits s) (λ v s. nothing_done (each (λ (y : Store) s. stores_value b call o y y.what s) x.inits s))
 
 -- 6.8.5p4, 6.8.5.3p2: goes on where the condition isn't 0, or where a `for` has none; else the loop has ended
 abbrev pub if_tested : Setting → Calling → Option TypedTree → (State → Res Flow) → State → Res Flow

@@ -1,6 +1,6 @@
 -- The run of a unit (5.1.2) without the guards: the text of pv_exec's definition, over operations as their rules have them. Where C has no
 -- rule there is no outcome.
-use Rattle.std.specs.Prelude.{ℕ, List, [], ◌∷◌, None, Some}
+use Rattle.std.specs.Prelude.{ℕ, List, [], None, Some}
 use Rattle.std.specs.declared.option.Option.{Option}
 use Rattle.pv_script.specs.Lines.{ScriptLine}
 use Rattle.pv_typed.specs.declared.values.Const.{Const}
@@ -12,6 +12,7 @@ use Rattle.pv_eval.specs.States.{Setting, State, Res, Gives, Stops, Unreached, t
 use Rattle.pv_eval.specs.TypeForms.{lvalue, size_of}
 use Rattle.pv_eval.specs.Operations.{Makes, MakesLiteral, MakesFunction, Fills, Puts, PutsText}
 use Rattle.pv_eval.specs.Constants.{constant_worth}
+use Rattle.pv_exec.specs.Flows.{each}
 use Rattle.pv_exec.specs.Run.{first}
 use Rattle.pv_guards.specs.Plain.{act_plainly}
 use Rattle.pv_guards.specs.PlainExecution.{below, call_body}
@@ -19,21 +20,6 @@ use Rattle.pv_guards.specs.PlainExecution.{below, call_body}
 -- 6.2.4p3, 6.7.9p10: an object with static storage is made, each byte 0
 abbrev pub make_static : Setting → ℕ → State → Res Worth
 make_static b o s = then_do (act_plainly b (object_at b.unit o).line (Makes o) s) (λ v s. act_plainly b (object_at b.unit o).line (Fills o (Some 0)) s)
-
--- 6.2.4p3: all of them, in the order of the list
-abbrev pub make_statics : Setting → List ℕ → State → Res Worth
-make_statics b [] s = Gives Nothing s
-make_statics b (o ∷ os) s = then_do (make_static b o s) (λ v s. make_statics b os s)
-
--- 6.4.5p6: the arrays of string literals
-abbrev pub make_literals : Setting → List ℕ → State → Res Worth
-make_literals b [] s = Gives Nothing s
-make_literals b (l ∷ ls) s = then_do (act_plainly b (literal_at b.unit l).line (MakesLiteral l) s) (λ v s. make_literals b ls s)
-
--- 6.3.2.1p4: the instances of the functions that are pointed to
-abbrev pub make_functions : Setting → List ℕ → State → Res Worth
-make_functions b [] s = Gives Nothing s
-make_functions b (f ∷ fs) s = then_do (act_plainly b (function_at b.unit f).line (MakesFunction f) s) (λ v s. make_functions b fs s)
 
 -- 6.7.9p4, 6.6p7: what a static initializer stores is the value of a constant expression: there is no rule for another one
 abbrev pub store_constant : Setting → (object : ℕ) → Store → Option Const → State → Res Worth
@@ -45,23 +31,15 @@ abbrev pub store_static : Setting → (object : ℕ) → Store → StoredValue �
 store_static b o x (ValueOf e) s = store_constant b o x (constant_of b.unit e) s
 store_static b o x (TextOf l) s = act_plainly b x.line (PutsText o x.offset (size_of b x.t) l) s
 
--- 6.7.9p19: all stores of an object, in the order of the list
-abbrev pub store_statics : Setting → (object : ℕ) → List Store → State → Res Worth
-store_statics b o [] s = Gives Nothing s
-store_statics b o (x ∷ xs) s = then_do (store_static b o x x.what s) (λ v s. store_statics b o xs s)
-
--- 5.1.2p1, 6.7.9p4: all stores of all static objects, in their order
-abbrev pub initialize_statics : Setting → List ℕ → State → Res Worth
-initialize_statics b [] s = Gives Nothing s
-initialize_statics b (o ∷ os) s = then_do (store_statics b o (object_at b.unit o).inits s) (λ v s. initialize_statics b os s)
-
 -- 5.1.2p1: before `main` is called: static objects are made in the order in which their names are first declared, then
 -- the literals in the order of the source, then the functions that are pointed to in the order of their first declarations, and then the
 -- initializers are stored. None of it takes a turn
 abbrev pub prepare : Setting → State → Res Worth
 prepare b s =
-    then_do (make_statics b b.unit.statics s) (λ v s. then_do (make_literals b b.unit.instances s) (λ v s.
-    then_do (make_functions b b.unit.placed s) (λ v s. initialize_statics b b.unit.statics s)))
+    then_do (each (make_static b) b.unit.statics s) (λ v s.
+    then_do (each (λ (l : ℕ) s. act_plainly b (literal_at b.unit l).line (MakesLiteral l) s) b.unit.instances s) (λ v s.
+    then_do (each (λ (f : ℕ) s. act_plainly b (function_at b.unit f).line (MakesFunction f) s) b.unit.placed s) (λ v s.
+    each (λ (o : ℕ) s. each (λ (x : Store) s. store_static b o x x.what s) (object_at b.unit o).inits s) b.unit.statics s)))
 
 -- 5.1.2.2.1p1: `main` is called, without arguments, in the line of its name
 abbrev pub call_main : Setting → Option ℕ → State → Res Worth

@@ -12,8 +12,9 @@ use Rattle.pv_world.specs.Worths.{is_true, int_of}
 use Rattle.pv_eval.specs.States.{Setting, State, Res, then_do, tick}
 use Rattle.pv_eval.specs.TypeForms.{lvalue, size_of}
 use Rattle.pv_eval.specs.Operations.{Tests, Accepts, Needs, Makes, Ends, Fills, Puts, PutsText}
-use Rattle.pv_exec.specs.Flows.{Flow, Falls, Breaks, Continues, Returns, Below, full, testing, falls, goes_on, switched, stores_value, store_all, begin_fill, declares, if_tested, stepped, round, round_do, returns_value}
-use Rattle.pv_exec.specs.Blocks.{make_all, end_all, scoped}
+use Rattle.pv_exec.specs.Flows.{Flow, Falls, Breaks, Continues, Returns, Below, full, testing, falls, goes_on, switched, stores_value, begin_fill, declares, if_tested, stepped, round, round_do, returns_value}
+use Rattle.pv_exec.specs.Blocks.{end_all, scoped}
+use Rattle.pv_exec.specs.Lists.{make_all, store_all}
 use Rattle.pv_exec.specs.Labels.{Target, ToCase, ToDefault, ToNone, target_of, is_target, unless_none}
 use Rattle.pv_exec.specs.Execution.{ex, exs, exs_at}
 use Rattle.pv_numbering.proofs.Alike.{with_types, AlikeWorth, AlikeWorths}

@@ -4,7 +4,7 @@ use Rattle.pv_typed.specs.TypedUnits.{TypedObject, WholeUnit, object_at}
 use Rattle.pv_typed.specs.Trees.{declared_of}
 use Rattle.pv_typed.specs.NodeTrees.{statement_at}
 use Rattle.pv_eval.specs.Moments.{state_of}
-use Rattle.pv_exec.specs.Blocks.{make_all}
+use Rattle.pv_exec.specs.Lists.{make_all}
 use Rattle.pv_exec.proofs.Pieces.{setting-stays, before-stays, made-is, stays_both}
 use Rattle.pv_exec.proofs.Makings.{make-stops, make-more}
 use Rattle.pv_exec.proofs.blocks.make_objects.Goals as goal

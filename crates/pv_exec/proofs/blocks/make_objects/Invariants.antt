@@ -1,7 +1,7 @@
 use Rattle.std.proofs.Common.{◌≡◌, ◌-◌}
 use Rattle.std.specs.Prelude.{length, drop}
 use Rattle.pv_eval.specs.Moments.{Always, state_of, Stays}
-use Rattle.pv_exec.specs.Blocks.{make_all}
+use Rattle.pv_exec.specs.Lists.{make_all}
 use Rattle.pv_exec.proofs.blocks.make_objects.Given as goal
 
 abbrev pub invariant-objects : goal.invariant-objects

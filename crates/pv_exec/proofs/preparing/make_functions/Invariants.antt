@@ -1,7 +1,7 @@
 use Rattle.std.proofs.Common.{◌≡◌, ◌-◌}
 use Rattle.std.specs.Prelude.{length, drop}
 use Rattle.pv_eval.specs.Moments.{Always, state_of, Stays}
-use Rattle.pv_exec.specs.Preparing.{make_functions}
+use Rattle.pv_exec.specs.Lists.{make_functions}
 use Rattle.pv_exec.proofs.preparing.make_functions.Given as goal
 
 abbrev pub invariant-functions : goal.invariant-functions

@@ -5,7 +5,7 @@ use Rattle.pv_typed.specs.TypedUnits.{WholeUnit, literal_at}
 use Rattle.pv_eval.specs.Moments.{Made}
 use Rattle.pv_eval.specs.Moments.{state_of}
 use Rattle.pv_eval.specs.Operations.{MakesLiteral, act}
-use Rattle.pv_exec.specs.Preparing.{make_literals}
+use Rattle.pv_exec.specs.Lists.{make_literals}
 use Rattle.pv_exec.proofs.Pieces.{setting-stays, before-stays, made-is, stays_both}
 use Rattle.pv_exec.proofs.Inits.{dropped-all}
 use Rattle.pv_exec.proofs.Readying.{each-more, each-stops}

@@ -1,7 +1,7 @@
 use Rattle.std.proofs.Common.{◌≡◌, ◌-◌}
 use Rattle.std.specs.Prelude.{length, drop}
 use Rattle.pv_eval.specs.Moments.{Always, state_of, Stays}
-use Rattle.pv_exec.specs.Preparing.{make_literals}
+use Rattle.pv_exec.specs.Lists.{make_literals}
 use Rattle.pv_exec.proofs.preparing.make_literals.Given as goal
 
 abbrev pub invariant-literals : goal.invariant-literals

@@ -2,7 +2,7 @@ use Rattle.std.proofs.Common.{◌≡◌, ◌-◌}
 use Rattle.std.specs.Prelude.{length, drop}
 use Rattle.pv_typed.specs.TypedUnits.{object_at}
 use Rattle.pv_eval.specs.Moments.{Always, state_of, Stays}
-use Rattle.pv_exec.specs.Preparing.{store_statics}
+use Rattle.pv_exec.specs.Lists.{store_statics}
 use Rattle.pv_exec.proofs.preparing.store_statics.Given as goal
 
 abbrev pub invariant-stores : goal.invariant-stores

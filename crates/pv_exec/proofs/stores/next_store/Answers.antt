@@ -3,7 +3,8 @@ use Rattle.std.specs.Prelude.{drop}
 use Rattle.pv_typed.specs.TypedUnits.{WholeUnit, object_at}
 use Rattle.pv_typed.specs.Tables.{nodes, whole, store_in}
 use Rattle.pv_eval.specs.States.{Gives, then_do}
-use Rattle.pv_exec.specs.Flows.{Falls, store_all}
+use Rattle.pv_exec.specs.Flows.{Falls}
+use Rattle.pv_exec.specs.Lists.{store_all}
 use Rattle.pv_exec.specs.Calls.{below}
 use Rattle.pv_exec.specs.Tasks.{left}
 use Rattle.pv_exec.specs.Works.{does}
