@@ -5,7 +5,8 @@ use Rattle.pv_types.specs.declared.terms.Member.{Member}
 use Rattle.pv_types.specs.Ty.{Ty, VoidTy, IntTy, PointerTo, ArrayOf, StructTag, UnionTag, FunctionTy, ConstOf}
 use Rattle.pv_types.specs.Known.{Known, DoneTag, heading_at, env, tree, trees, named_in}
 use Rattle.pv_types.specs.Formed.{parameters_at, MembersBelow, AreComplete}
-use Rattle.pv_types.specs.Layouts.{Entry, Layout, Named, look, or_none, layout_in, is_complete_in, tag_type, up_to}
+use Rattle.pv_types.specs.Layouts.{Entry, Layout, Named, look, layout_in, is_complete_in, tag_type, up_to}
+use Rattle.pv_types.specs.LayoutParts.{or_none}
 use Rattle.pv_types.proofs.Built.{entry_of, env-complete}
 use Rattle.pv_types.proofs.LayoutLaws.{layout-append, complete-append, look-last, AreComplete-append}
 use Rattle.pv_typed.specs.Tables.{Stored}

@@ -4,8 +4,8 @@ use Rattle.std.specs.Int.{next_multiple_of}
 use Rattle.pv_types.specs.declared.terms.Member.{Member}
 use Rattle.pv_types.specs.declared.terms.TypeId.{TypeId}
 use Rattle.pv_types.specs.Ty.{StructTag, UnionTag}
-use Rattle.pv_types.specs.Layouts.{look, or_none, layout_in, layout_of, greatest_align, is_complete_in}
-use Rattle.pv_types.specs.LayoutParts.{union_end}
+use Rattle.pv_types.specs.Layouts.{look, layout_in, layout_of, greatest_align, is_complete_in}
+use Rattle.pv_types.specs.LayoutParts.{union_end, or_none}
 use Rattle.pv_types.specs.Formed.{AreComplete, named, members_in, is_union_in, MembersBelow, IsBuilt}
 use Rattle.pv_types.specs.Known.{Known, tree, trees, env, named_in}
 use Rattle.pv_types.specs.Members.{placed_in}

@@ -3,7 +3,8 @@ ghost use Rattle.std.specs.Prelude.{◌≡◌, ◌<◌, ◌≤◌, ◌+◌, ◌+
 ghost use Rattle.pv_types.specs.Ty.{StructTag, UnionTag};
 ghost use Rattle.pv_types.specs.Known.{tree, env, heading_at};
 ghost use Rattle.pv_types.specs.Formed.{is_union_in, IsBuilt};
-ghost use Rattle.pv_types.specs.Layouts.{look, or_none};
+ghost use Rattle.pv_types.specs.Layouts.{look};
+ghost use Rattle.pv_types.specs.LayoutParts.{or_none};
 ghost use Rattle.pv_types.specs.Members.{placed_in};
 ghost use Rattle.pv_typed.specs.Tables.{whole};
 ghost use Rattle.pv_typed.specs.Known.{AreKnown};

@@ -4,8 +4,8 @@ use Rattle.std.proofs.Math.ListN.{drop_of_length-le}
 use Rattle.std.specs.Int.{next_multiple_of}
 use Rattle.pv_types.specs.declared.terms.Member.{Member}
 use Rattle.pv_types.specs.Ty.{Ty}
-use Rattle.pv_types.specs.Layouts.{Entry, Named, look, or_none, layout_in, is_complete_in, repeated, shifted}
-use Rattle.pv_types.specs.LayoutParts.{part_count, struct_parts}
+use Rattle.pv_types.specs.Layouts.{Entry, Named, look, layout_in, is_complete_in, repeated, shifted}
+use Rattle.pv_types.specs.LayoutParts.{part_count, struct_parts, or_none}
 use Rattle.pv_types.specs.Known.{Known, tree, trees, env, named_in}
 use Rattle.pv_types.specs.Formed.{named, members_in, is_union_in, IsBuilt}
 use Rattle.pv_types.specs.declared.terms.TypeId.{TypeId}

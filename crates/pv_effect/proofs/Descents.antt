@@ -1,8 +1,8 @@
 -- A search on its way down to the scalars that a byte lies in.
 use Rattle.std.proofs.Common.{◌≡◌, ℕ, ◌+◌, ◌-◌, ◌<◌, ◌≤◌, ◌^◌, Bool, true, false, ◌&&◌, ◌||◌, nat_le, nat_lt, IsTrue, List, Some, length, refl, sym, ◌∙◌, ap, arith, is_some}
 use Rattle.pv_types.specs.Ty.{Ty, ArrayOf, StructTag, UnionTag}
-use Rattle.pv_types.specs.Layouts.{Part, Entry, look, or_none, layout_in, layout_of, is_complete_in, repeated}
-use Rattle.pv_types.specs.LayoutParts.{part_count, union_parts, struct_parts}
+use Rattle.pv_types.specs.Layouts.{Part, Entry, look, layout_in, layout_of, is_complete_in, repeated}
+use Rattle.pv_types.specs.LayoutParts.{part_count, union_parts, struct_parts, or_none}
 use Rattle.pv_types.specs.Known.{Known, tree, env}
 use Rattle.pv_types.specs.Formed.{named, is_union_in, IsBuilt}
 use Rattle.pv_types.proofs.Counted.{element_fewer}

@@ -2,8 +2,8 @@
 use Rattle.std.proofs.Common.{◌≡◌, ℕ, zero, suc, ◌+◌, ◌*◌, ◌<◌, ◌≤◌, max, Bool, true, false, IsTrue, List, [], ◌∷◌, ◌++◌, Some, None, refl, sym, ◌∙◌, ap, subst, arith}
 use Rattle.std.specs.Int.{next_multiple_of}
 use Rattle.pv_types.specs.Ty.{Ty, VoidTy, IntTy, PointerTo, ArrayOf, StructTag, UnionTag, FunctionTy, ConstOf}
-use Rattle.pv_types.specs.Layouts.{Part, Layout, Entry, Named, look, or_none, layout_in, layout_of, is_complete_in, end_of, member_parts, tag_type, shifted, repeated, behind_whole}
-use Rattle.pv_types.specs.LayoutParts.{part_count, struct_end, union_end, union_parts, struct_parts}
+use Rattle.pv_types.specs.Layouts.{Part, Layout, Entry, Named, look, layout_in, layout_of, is_complete_in, end_of, member_parts, tag_type, shifted, repeated}
+use Rattle.pv_types.specs.LayoutParts.{part_count, struct_end, union_end, union_parts, struct_parts, or_none, behind_whole}
 use Rattle.pv_types.specs.Formed.{AreComplete, named, is_union_in, IsBuilt}
 use Rattle.pv_types.specs.Known.{Known, env}
 use Rattle.pv_types.proofs.Counted.{AreFewer, const_count, element_fewer, members_fewer}

@@ -10,7 +10,8 @@ use Rattle.std.proofs.lemmas.List.Sums.{passes_at_first, fails_before_first}
 use Rattle.pv_types.specs.Ty.{Ty, VoidTy, IntTy, PointerTo, ArrayOf, StructTag, UnionTag, FunctionTy, ConstOf}
 use Rattle.pv_types.specs.Known.{Known, tree, trees, env}
 use Rattle.pv_types.specs.Formed.{IsBuilt}
-use Rattle.pv_types.specs.Layouts.{up_to, Layout, Entry, look, or_none, layout_in, is_complete_in}
+use Rattle.pv_types.specs.Layouts.{up_to, Layout, Entry, look, layout_in, is_complete_in}
+use Rattle.pv_types.specs.LayoutParts.{or_none}
 use Rattle.pv_types.proofs.Trees.{length-trees}
 use Rattle.pv_types.proofs.Peeling.{positive_align}
 use Rattle.pv_types.specs.SameTypes.{same_type}

@@ -2,8 +2,8 @@
 use Rattle.std.proofs.Common.{◌≡◌, ℕ, zero, suc, ◌+◌, ◌*◌, ◌<◌, ◌≤◌, Bool, true, false, List, [], ◌∷◌, Some, length, length-append, refl, ap, arith}
 use Rattle.std.specs.Int.{next_multiple_of}
 use Rattle.pv_types.specs.Ty.{Ty, ArrayOf}
-use Rattle.pv_types.specs.Layouts.{Part, Layout, Entry, Named, shifted, repeated, behind_whole, const_layout, layout_in, layout_of}
-use Rattle.pv_types.specs.LayoutParts.{part_count, union_parts, struct_parts}
+use Rattle.pv_types.specs.Layouts.{Part, Layout, Entry, Named, shifted, repeated, const_layout, layout_in, layout_of}
+use Rattle.pv_types.specs.LayoutParts.{part_count, union_parts, struct_parts, behind_whole}
 
 count_shifted : (k : ℕ) (ps : List Part) → length (shifted k ps) ≡ length ps
 count_shifted k [] = refl

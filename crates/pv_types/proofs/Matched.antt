@@ -8,7 +8,8 @@ use Rattle.pv_num.specs.Kinds.{width}
 use Rattle.pv_types.specs.declared.compatibility.Qualifier.{Qualifier}
 use Rattle.pv_types.specs.declared.compatibility.Qualifier.TheVariants.{Unqualified, Ignored}
 use Rattle.pv_types.specs.Ty.{Ty, Tys, MoreTys, VoidTy, IntTy, PointerTo, ArrayOf, StructTag, UnionTag, FunctionTy, ConstOf}
-use Rattle.pv_types.specs.Layouts.{Entry, look, or_none, layout_in, is_complete_in}
+use Rattle.pv_types.specs.Layouts.{Entry, look, layout_in, is_complete_in}
+use Rattle.pv_types.specs.LayoutParts.{or_none}
 use Rattle.pv_types.specs.Compatible.{are_compatible, forms_of, all_alike, Form, VoidForm, IntForm, PointerForm, ArrayForm, StructForm, UnionForm, FunctionForm, form_of, alike, sizes_agree, same_kind, with_const, of_elements}
 use Rattle.pv_types.specs.Matching.{Matches, MatchAll}
 use Rattle.pv_types.proofs.Fills.{left_true, right_true}

@@ -7,7 +7,8 @@ use Rattle.pv_types.specs.Known.{Known, tree, trees, env, named_in}
 use Rattle.pv_types.specs.Formed.{MembersBelow}
 use Rattle.pv_types.specs.Layouts.{Entry, Part, Named, layout_in, layout_of, shifted, repeated}
 use Rattle.pv_types.specs.LayoutParts.{union_parts, struct_parts}
-use Rattle.pv_types.specs.Qualifiers.{is_const, some_const, has_const}
+use Rattle.pv_types.specs.Qualifiers.{is_const, has_const}
+use Rattle.pv_types.specs.QualifierParts.{some_const}
 
 or_assoc : (a b c : Bool) → ((a || b) || c) ≡ (a || (b || c))
 or_assoc true b c = refl

@@ -4,7 +4,8 @@ use Rattle.pv_num.specs.declared.kinds.IntKind.TheVariants as kind
 use Rattle.pv_types.specs.declared.terms.Term.{Term}
 use Rattle.pv_types.specs.declared.terms.Term.TheVariants.{Void, Int, Pointer, Array, Struct, Union, Function, Const}
 use Rattle.pv_types.specs.Ty.{Ty, IntTy, ArrayOf, ConstOf}
-use Rattle.pv_types.specs.Layouts.{Part, Entry, Named, look, or_none, layout_in, layout_of, is_complete_in, tag_type, behind_whole}
+use Rattle.pv_types.specs.Layouts.{Part, Entry, Named, look, layout_in, layout_of, is_complete_in, tag_type}
+use Rattle.pv_types.specs.LayoutParts.{or_none, behind_whole}
 use Rattle.pv_types.specs.Known.{Known, tree, trees, tree_in, env}
 use Rattle.pv_types.specs.Formed.{term_at, IsTagged, named, is_union_in, IsBuilt}
 use Rattle.pv_types.proofs.Made.{made, flag}

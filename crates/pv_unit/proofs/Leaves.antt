@@ -1,8 +1,8 @@
 -- Each part of a type has fewer parts.
 use Rattle.std.proofs.Common.{◌≡◌, ℕ, zero, suc, ◌+◌, ◌<◌, Bool, true, false, List, [], ◌∷◌, Option, Some, None, option_map, option_and_then, if◌then◌else◌, refl, sym, ◌∙◌, ap, arith, is_some}
 use Rattle.pv_types.specs.Ty.{Ty, VoidTy, IntTy, PointerTo, ArrayOf, StructTag, UnionTag, FunctionTy, ConstOf}
-use Rattle.pv_types.specs.Layouts.{Entry, Part, Named, layout_in, layout_at, layout_of, struct_placed, union_placed, is_complete_in, look, or_none}
-use Rattle.pv_types.specs.LayoutParts.{part_count}
+use Rattle.pv_types.specs.Layouts.{Entry, Part, Named, layout_in, layout_at, layout_of, struct_placed, union_placed, is_complete_in, look}
+use Rattle.pv_types.specs.LayoutParts.{part_count, or_none}
 use Rattle.pv_types.specs.Known.{Known, trees, env}
 use Rattle.pv_types.specs.Formed.{completions, named, is_union_in, IsBuilt}
 use Rattle.pv_types.proofs.Counted.{AreFewer, const_count, element_fewer, members_fewer}

@@ -3,8 +3,8 @@ use Rattle.std.proofs.Common.{◌≡◌, ℕ, zero, suc, max, ◌+◌, ◌<◌, 
 use Rattle.pv_types.specs.declared.terms.Member.{Member}
 use Rattle.pv_types.specs.declared.terms.TypeId.{TypeId}
 use Rattle.pv_types.specs.Ty.{Ty, StructTag, UnionTag}
-use Rattle.pv_types.specs.Layouts.{Entry, Layout, Part, Named, Placed, layout_in, layout_at, layout_of, struct_placed, union_placed, is_complete_in, look, or_none}
-use Rattle.pv_types.specs.LayoutParts.{struct_end, union_end}
+use Rattle.pv_types.specs.Layouts.{Entry, Layout, Part, Named, Placed, layout_in, layout_at, layout_of, struct_placed, union_placed, is_complete_in, look}
+use Rattle.pv_types.specs.LayoutParts.{struct_end, union_end, or_none}
 use Rattle.pv_types.specs.Formed.{AreComplete, completions, named, members_in, is_union_in, MembersBelow, IsBuilt}
 use Rattle.pv_types.specs.Known.{Known, tree, trees, env, named_in}
 use Rattle.pv_types.proofs.Fills.{struct_end-ge, union_end-ge}

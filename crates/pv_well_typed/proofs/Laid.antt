@@ -3,7 +3,8 @@ use Rattle.std.proofs.Common.{◌≡◌, ℕ, ◌≤◌, ◌^◌, ◌==◌, nat_
 use Rattle.std.specs.Prelude.{if◌then◌else◌}
 use Rattle.std.proofs.lemmas.Bool.{leb-true}
 use Rattle.pv_types.specs.Formed.{AreComplete}
-use Rattle.pv_types.specs.Layouts.{Layout, Entry, Named, Completed, Fills, AllFill, look, or_none, layout_in, layout_of, layouts_of, is_complete_in, tag_type}
+use Rattle.pv_types.specs.Layouts.{Layout, Entry, Named, Completed, Fills, AllFill, look, layout_in, layout_of, layouts_of, is_complete_in, tag_type}
+use Rattle.pv_types.specs.LayoutParts.{or_none}
 use Rattle.pv_types.specs.Ty.{Ty}
 use Rattle.pv_types.proofs.Fills.{lt_true, layout_of-fills, AllFill-append}
 use Rattle.pv_types.proofs.LayoutLaws.{look-last, layouts-push, AreComplete-append}

@@ -3,8 +3,8 @@ use Rattle.std.proofs.Common.{◌≡◌, ℕ, ◌+◌, ◌≤◌, ◌==◌, max,
 use Rattle.std.specs.Prelude.{if◌then◌else◌}
 use Rattle.std.specs.Int.{next_multiple_of}
 use Rattle.pv_types.specs.Known.{heading_at}
-use Rattle.pv_types.specs.Layouts.{Entry, Named, Part, Completed, look, or_none, layout_in, layout_at, layout_of, layouts_of, is_complete_in, struct_placed, union_placed}
-use Rattle.pv_types.specs.LayoutParts.{struct_end, union_end}
+use Rattle.pv_types.specs.Layouts.{Entry, Named, Part, Completed, look, layout_in, layout_at, layout_of, layouts_of, is_complete_in, struct_placed, union_placed}
+use Rattle.pv_types.specs.LayoutParts.{struct_end, union_end, or_none}
 use Rattle.pv_types.specs.Members.{completed_members}
 use Rattle.pv_types.specs.Ty.{Ty, VoidTy, IntTy, PointerTo, ArrayOf, StructTag, UnionTag, FunctionTy, ConstOf}
 use Rattle.pv_types.proofs.Fills.{struct_end-ge, union_end-ge}

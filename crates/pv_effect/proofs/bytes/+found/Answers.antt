@@ -1,7 +1,7 @@
 use Rattle.std.proofs.Common.{◌≡◌, ◌<◌, ◌≤◌, ◌^◌, ◌*◌, ◌∙◌, IsTrue, is_some, ◌||◌, true, false, refl, get_or, length, sym, ap, arith}
 use Rattle.pv_types.specs.Known.{tree, env}
-use Rattle.pv_types.specs.Layouts.{layout_in, look, or_none}
-use Rattle.pv_types.specs.LayoutParts.{part_count}
+use Rattle.pv_types.specs.Layouts.{layout_in, look}
+use Rattle.pv_types.specs.LayoutParts.{part_count, or_none}
 use Rattle.pv_types.proofs.Fills.{lt_true}
 use Rattle.pv_types.proofs.Made.{flag, made}
 use Rattle.pv_types.proofs.Peeling.{whole_array}

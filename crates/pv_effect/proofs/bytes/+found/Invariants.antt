@@ -1,7 +1,7 @@
 use Rattle.std.proofs.Common.{◌+◌, ◌*◌, drop}
 use Rattle.pv_types.specs.Known.{tree, env}
-use Rattle.pv_types.specs.Layouts.{layout_in, look, or_none}
-use Rattle.pv_types.specs.LayoutParts.{part_count}
+use Rattle.pv_types.specs.Layouts.{layout_in, look}
+use Rattle.pv_types.specs.LayoutParts.{part_count, or_none}
 use Rattle.pv_layout.proofs.Unions.{Around}
 use Rattle.pv_effect.specs.EffectiveType.{some_over}
 use Rattle.pv_effect.specs.Searches.{passes}
