@@ -11,7 +11,7 @@ use Rattle.pv_types.specs.Layouts.{Entry}
 use Rattle.pv_types.specs.Ty.{Ty}
 use Rattle.pv_num.specs.declared.operators.BinOp.{BinOp}
 use Rattle.pv_num.specs.declared.kinds.IntKind.{IntKind}
-use Rattle.pv_check.specs.Kinds.{promoted}
+use Rattle.pv_num.specs.Kinds.{promoted}
 use Rattle.std.specs.Option.{option_map}
 use Rattle.pv_check.specs.State.{◌>>=◌}
 

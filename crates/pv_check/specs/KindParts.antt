@@ -1,7 +1,6 @@
 -- A bridge: what functions answer that do a part of what Kinds says.
 use Rattle.pv_num.specs.declared.kinds.IntKind.{IntKind}
-use Rattle.pv_num.specs.Kinds.{is_signed}
-use Rattle.pv_check.specs.Kinds.{rank}
+use Rattle.pv_num.specs.Kinds.{is_signed, rank}
 use Rattle.pv_num.specs.declared.kinds.IntKind.TheVariants.{Int, UInt, ULLong, LLong, Long, ULong}
 use Rattle.std.specs.Prelude.{nat_lt, if◌then◌else◌, [], ◌∷◌, List}
 use Rattle.pv_check.specs.Kinds.{common_of}

@@ -8,7 +8,7 @@ use Rattle.pv_types.specs.Ty.{IntTy, PointerTo, Ty, VoidTy}
 use Rattle.pv_num.specs.declared.kinds.IntKind.TheVariants.{Int}
 use Rattle.pv_num.specs.declared.operators.UnOp.{UnOp}
 use Rattle.pv_num.specs.declared.kinds.IntKind.{IntKind}
-use Rattle.pv_check.specs.Kinds.{promoted}
+use Rattle.pv_num.specs.Kinds.{promoted}
 use Rattle.std.specs.Option.{option_map}
 
 -- 6.5.3.2p4: an indirection by what is pointed to

@@ -4,7 +4,7 @@ use Rattle.pv_num.specs.declared.kinds.IntKind.TheVariants.{Bool as BoolKind}
 use Rattle.pv_types.specs.Layouts.{Entry, is_complete_in}
 use Rattle.pv_types.specs.Ty.{Ty, IntTy, PointerTo, ArrayOf, StructTag, UnionTag, FunctionTy}
 use Rattle.pv_typed.specs.TypedTree.{TypedTree, Form, Node, Convert, Read, ArrayPointer, type_of, line_of, is_lvalue}
-use Rattle.pv_check.specs.Kinds.{promoted}
+use Rattle.pv_num.specs.Kinds.{promoted}
 use Rattle.pv_check.specs.Qualified.{unqualified}
 use Rattle.pv_types.specs.SameTypes.{same_type}
 use Rattle.pv_check.specs.Sorts.{is_array, are_alike, has_void}

@@ -49,16 +49,6 @@ kind_of (IntTy k) = k
 kind_of (ConstOf t) = kind_of t
 kind_of _ = kind.Int
 
--- 6.3.1.1p2: what the integer promotions make of a kind
-abbrev pub promoted : IntKind → IntKind
-promoted kind.Bool = kind.Int
-promoted kind.Char = kind.Int
-promoted kind.SChar = kind.Int
-promoted kind.UChar = kind.Int
-promoted kind.Short = kind.Int
-promoted kind.UShort = kind.Int
-promoted k = k
-
 -- 6.2.5p20: a pointer type, qualifiers aside
 abbrev pub is_pointer : Ty → Bool
 is_pointer (PointerTo t) = true

@@ -1,13 +1,13 @@
 // What operations ask of a type (C17 6.2.5, 6.3, 6.5.3.4). A number that is that of no type is as `void`.
 ghost use Rattle.std.specs.Prelude.{◌≡◌, ◌≤◌, ◌<◌, ◌^◌, ◌/◌, ◌&&◌, true, length, IsTrue, IfSome, IfNone, is_some};
-ghost use Rattle.pv_num.specs.Kinds.{width, is_character_kind};
+ghost use Rattle.pv_num.specs.Kinds.{width, is_character_kind, promoted};
 ghost use Rattle.pv_types.specs.Ty.{VoidTy, IntTy};
 ghost use Rattle.pv_types.specs.Layouts.{up_to, is_complete_in, layout_in};
 ghost use Rattle.pv_types.specs.Known.{tree, trees, env, tree_in};
 ghost use Rattle.pv_types.specs.Formed.{PartsBelow};
 ghost use Rattle.pv_effect.specs.EffectiveType.{is_character};
 ghost use Rattle.pv_world.specs.Hows.{IsHow};
-ghost use Rattle.pv_eval.specs.TypeForms.{alignment_by, shape_of, kind_of, promoted, is_pointer, is_none, is_constant, pointed_to};
+ghost use Rattle.pv_eval.specs.TypeForms.{alignment_by, shape_of, kind_of, is_pointer, is_none, is_constant, pointed_to};
 ghost use Rattle.pv_eval.specs.Conversions.{how_to_int};
 ghost use Rattle.pv_eval.specs.Suiting.{is_size};
 ghost use Rattle.pv_eval.specs.Sizes.{size_in, number_in, alignment_in, how_in, element_in, IsComplete, points};

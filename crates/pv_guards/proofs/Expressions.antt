@@ -17,7 +17,8 @@ use Rattle.pv_world.specs.declared.got.How.TheVariants.{Rounds}
 use Rattle.pv_world.specs.Worlds.{Worth, Nothing, Missing, Scalar, Whole, World}
 use Rattle.pv_world.specs.Worths.{int, is_true, pointer_of, value_of}
 use Rattle.pv_eval.specs.States.{Setting, State, Res, Gives}
-use Rattle.pv_eval.specs.TypeForms.{Lvalue, lvalue, kind_of, is_pointer, is_none, element_size, promoted, pointed_to}
+use Rattle.pv_eval.specs.TypeForms.{Lvalue, lvalue, kind_of, is_pointer, is_none, element_size, pointed_to}
+use Rattle.pv_num.specs.Kinds.{promoted}
 use Rattle.pv_eval.specs.Conversions.{how_to}
 use Rattle.pv_eval.specs.Accesses.{access_to}
 use Rattle.pv_eval.specs.Sequenced.{Given, with_given, done, operand, later, doing, work}

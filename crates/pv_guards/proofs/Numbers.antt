@@ -6,8 +6,7 @@ use Rattle.std.proofs.lemmas.Bool.Decides.{nat_tests}
 use Rattle.pv_num.specs.declared.kinds.IntKind.{IntKind}
 use Rattle.pv_num.specs.declared.kinds.IntKind.TheVariants.{Bool as BoolKind, Char, SChar, UChar, Short, UShort, Int, UInt, Long, ULong, LLong, ULLong}
 use Rattle.pv_num.specs.Arithmetic.{IsPromoted}
-use Rattle.pv_eval.specs.TypeForms.{promoted}
-use Rattle.pv_num.specs.Kinds.{Fits, fits_of, least, greatest}
+use Rattle.pv_num.specs.Kinds.{Fits, fits_of, least, greatest, promoted}
 
 pub both : (a b : Bool) → a ≡ true → b ≡ true → (a && b) ≡ true
 both true b e f = f

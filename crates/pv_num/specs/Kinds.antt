@@ -1,5 +1,5 @@
--- Integer kinds: their widths, their members, and conversion to them.
-use Rattle.std.specs.Prelude.{ℕ, zero, ◌-◌, ◌/◌, ◌^◌, Bool, true, false, ◌&&◌, if◌then◌else◌, nat_le, ℤ, pos, neg_ℤ, ◌-ℤ◌, ◌≤ℤ◌, unsigned_abs, int_le}
+-- Integer kinds: their widths, their order and the promotions, their members, and conversion to them.
+use Rattle.std.specs.Prelude.{ℕ, zero, ◌-◌, ◌/◌, ◌^◌, Bool, true, false, ◌&&◌, if◌then◌else◌, nat_lt, nat_le, ℤ, pos, neg_ℤ, ◌-ℤ◌, ◌≤ℤ◌, unsigned_abs, int_le}
 use Rattle.std.specs.Int.{int_rem_euclid}
 use Rattle.pv_num.specs.declared.kinds.IntKind.{IntKind}
 use Rattle.pv_num.specs.declared.kinds.IntKind.TheVariants.{Bool as BoolKind, Char, SChar, UChar, Short, UShort, Int, UInt, Long, ULong, LLong, ULLong}
@@ -35,6 +35,25 @@ is_character_kind Char = true
 is_character_kind SChar = true
 is_character_kind UChar = true
 is_character_kind _ = false
+
+-- 6.3.1.1p1: the order of the kinds in conversions
+abbrev pub rank : IntKind → ℕ
+rank BoolKind = 0
+rank Char = 1
+rank SChar = 1
+rank UChar = 1
+rank Short = 2
+rank UShort = 2
+rank Int = 3
+rank UInt = 3
+rank Long = 4
+rank ULong = 4
+rank LLong = 5
+rank ULLong = 5
+
+-- 6.3.1.1p2: the integer promotions; on this target `int` has all values of the kinds of lesser rank
+abbrev pub promoted : IntKind → IntKind
+promoted k = if nat_lt (rank k) (rank Int) then Int else k
 
 -- 6.2.5p9: 2 to the width
 abbrev pub modulus_of : IntKind → ℕ

@@ -13,7 +13,8 @@ use Rattle.pv_typed.specs.declared.nodes.Sign.{Sign}
 use Rattle.pv_typed.specs.declared.nodes.Sign.TheVariants.{Plus, Minus}
 use Rattle.pv_typed.specs.TypedTree.{TypedTree, Assign, CompoundAssign, PointerAssign, type_of}
 use Rattle.pv_typed.specs.TypedUnits.{WholeUnit}
-use Rattle.pv_check.specs.Kinds.{promoted, common}
+use Rattle.pv_check.specs.Kinds.{common}
+use Rattle.pv_num.specs.Kinds.{promoted}
 use Rattle.pv_check.specs.Qualified.{unqualified}
 use Rattle.pv_check.specs.Sorts.{kind_in, kind_of, pointed_in, pointed_by, complete_pointed_by}
 use Rattle.pv_check.specs.Values.{written, converted, assigned, is_modifiable}

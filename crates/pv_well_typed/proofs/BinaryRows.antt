@@ -15,7 +15,8 @@ use Rattle.pv_typed.specs.declared.nodes.Sign.{Sign}
 use Rattle.pv_typed.specs.declared.nodes.Sign.TheVariants.{Plus, Minus}
 use Rattle.pv_typed.specs.TypedTree.{TypedTree, Arithmetic, PointerSum, PointerDifference, PointerOrder, LogicalAnd, LogicalOr, type_of, is_function}
 use Rattle.pv_typed.specs.TypedUnits.{WholeUnit, layouts}
-use Rattle.pv_check.specs.Kinds.{promoted, common}
+use Rattle.pv_check.specs.Kinds.{common}
+use Rattle.pv_num.specs.Kinds.{promoted}
 use Rattle.pv_check.specs.Sorts.{kind_of, pointed_by, complete_pointed_by, is_scalar, are_alike, is_void_beside}
 use Rattle.std.specs.Option.{option_or}
 use Rattle.pv_check.specs.Values.{written, converted}

@@ -7,7 +7,7 @@ use Rattle.pv_types.specs.Layouts.{Entry, is_complete_in}
 use Rattle.pv_layout.specs.Parts.{bare}
 use Rattle.pv_typed.specs.TypedTree.{TypedTree, Read, ArrayPointer, Convert, type_of, line_of, is_lvalue}
 use Rattle.pv_typed.specs.TypedUnits.{WholeUnit}
-use Rattle.pv_check.specs.Kinds.{promoted}
+use Rattle.pv_num.specs.Kinds.{promoted}
 use Rattle.pv_check.specs.Qualified.{unqualified}
 use Rattle.pv_types.specs.SameTypes.{same_type as same}
 use Rattle.pv_check.specs.Sorts.{is_array}

@@ -3,9 +3,9 @@ use Rattle.std.proofs.Common.{Bool, true, false, arith}
 use Rattle.std.specs.Prelude.{if◌then◌else◌, nat_lt, nat_le}
 use Rattle.pv_num.specs.declared.kinds.IntKind.{IntKind}
 use Rattle.pv_num.specs.declared.kinds.IntKind.TheVariants.{Bool as BoolKind, Char, SChar, UChar, Short, UShort, Int, UInt, Long, ULong, LLong, ULLong}
-use Rattle.pv_num.specs.Kinds.{width, is_signed}
+use Rattle.pv_num.specs.Kinds.{width, is_signed, rank, promoted}
 use Rattle.pv_num.specs.Arithmetic.{IsPromoted}
-use Rattle.pv_check.specs.Kinds.{rank, promoted, unsigned_of, mixed, common_of, common}
+use Rattle.pv_check.specs.Kinds.{unsigned_of, mixed, common_of, common}
 
 pub promoted-wide : (k : IntKind) → IsPromoted (promoted k)
 promoted-wide BoolKind = omega arith

@@ -7,7 +7,7 @@ use Rattle.pv_tree.specs.Syntax.{ExpressionTree, OptionalTree, Absent, Present, 
 use Rattle.pv_types.specs.Ty.{Ty, VoidTy, IntTy, PointerTo, ArrayOf, StructTag, UnionTag, FunctionTy, ConstOf}
 use Rattle.pv_typed.specs.TypedTree.{TypedTree, type_of}
 use Rattle.pv_typed.specs.TypedUnits.{WholeUnit}
-use Rattle.pv_check.specs.Kinds.{promoted}
+use Rattle.pv_num.specs.Kinds.{promoted}
 use Rattle.pv_check.specs.Qualified.{unqualified}
 use Rattle.pv_check.specs.Rows.{operand}
 use Rattle.pv_check.specs.Sorts.{is_scalar, is_void_in, kind_of}

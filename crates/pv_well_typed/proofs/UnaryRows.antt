@@ -6,7 +6,7 @@ use Rattle.pv_num.specs.declared.kinds.IntKind.{IntKind}
 use Rattle.pv_num.specs.declared.kinds.IntKind.TheVariants.{Int, ULong}
 use Rattle.pv_num.specs.declared.operators.UnOp.{UnOp}
 use Rattle.pv_num.specs.declared.operators.UnOp.TheVariants.{Plus, Minus, Flip}
-use Rattle.pv_num.specs.Kinds.{Fits}
+use Rattle.pv_num.specs.Kinds.{Fits, promoted}
 use Rattle.pv_tree.specs.declared.operators.UnaryOperator.{UnaryOperator}
 use Rattle.pv_tree.specs.declared.operators.UnaryOperator.TheVariants as unary
 use Rattle.pv_types.specs.Layouts.{Entry, layout_in, is_complete_in}
@@ -14,7 +14,6 @@ use Rattle.pv_types.specs.Ty.{Ty, VoidTy, IntTy, PointerTo, ArrayOf, StructTag, 
 use Rattle.pv_typed.specs.Addresses.{is_null_constant}
 use Rattle.pv_typed.specs.TypedTree.{TypedTree, Node, Subscript, Indirection, Address, Unary, Not, Sizeof, Cast, type_of, is_lvalue, is_void as is_void_type, is_function}
 use Rattle.pv_typed.specs.TypedUnits.{WholeUnit, layouts}
-use Rattle.pv_check.specs.Kinds.{promoted}
 use Rattle.pv_check.specs.Qualified.{unqualified}
 use Rattle.pv_check.specs.Sorts.{kind_of, kind_in, pointed_in, pointed_by, points_to_function, is_scalar, is_scalar_in, is_truth_kind, is_void, is_void_in}
 use Rattle.pv_check.specs.SortParts.{is_function_if, is_truth}

@@ -5,7 +5,8 @@ use Rattle.pv_typed.specs.TypedTree.{type_of}
 use Rattle.pv_typed.specs.NodeTrees.{expression_at}
 use Rattle.pv_world.specs.Coming.{worth_of}
 use Rattle.pv_world.specs.Worths.{int}
-use Rattle.pv_eval.specs.TypeForms.{kind_of, promoted, element_size}
+use Rattle.pv_eval.specs.TypeForms.{kind_of, element_size}
+use Rattle.pv_num.specs.Kinds.{promoted}
 use Rattle.pv_eval.specs.Operations.{Moves, act}
 use Rattle.pv_eval.specs.Steps.{combining}
 use Rattle.pv_eval.specs.Moments.{Came, state_of}
