@@ -2,8 +2,8 @@
 use Rattle.std.proofs.Common.{◌≡◌, Bool, true, ◌&&◌, ◌||◌, refl}
 use Rattle.std.specs.Prelude.{if◌then◌else◌, is_some}
 use Rattle.pv_types.specs.Ty.{Ty, IntTy}
-use Rattle.pv_check.specs.Qualified.{unqualified}
-use Rattle.pv_check.specs.Sorts.{kind_in, kind_of, pointed_in, is_truth_kind, is_scalar_in, is_void_in}
+use Rattle.pv_check.specs.Sorts.{is_truth_kind}
+use Rattle.pv_types.specs.Sorts.{kind_in, kind_of, pointed_in, is_scalar_in, is_void_in, bare as unqualified}
 use Rattle.pv_check.specs.SortParts.{is_function_if}
 use Rattle.pv_check.specs.Unary.{may_cast}
 

@@ -12,7 +12,7 @@ use Rattle.pv_typed.specs.Tables.{Stored}
 use Rattle.pv_check.specs.declared.parameters.Parameter.{Parameter}
 use Rattle.pv_check.specs.Declarators.{ParameterKnown, parameter_shown, parameters_shown}
 use Rattle.pv_check.specs.Derivations.{Parameter as WholeParameter, adjusted, parameter_types}
-use Rattle.pv_check.specs.Qualified.{unqualified}
+use Rattle.pv_types.specs.Sorts.{bare as unqualified}
 use Rattle.pv_typed.specs.Constants.{and_then}
 use Rattle.pv_check.proofs.Growth.{both_true}
 

@@ -3,8 +3,8 @@ use Rattle.pv_typed.specs.TypedTree.{type_of, TypedTree, Assign, PointerAssign}
 use Rattle.pv_typed.specs.declared.nodes.Sign.{Sign}
 use Rattle.pv_check.specs.Assignment.{compound_at}
 use Rattle.pv_check.specs.Values.{assigned, written}
-use Rattle.pv_check.specs.Sorts.{complete_pointed_by, kind_of}
-use Rattle.pv_check.specs.Qualified.{unqualified}
+use Rattle.pv_check.specs.Sorts.{complete_pointed_by}
+use Rattle.pv_types.specs.Sorts.{kind_of, bare}
 use Rattle.pv_check.specs.Kinds.{common}
 use Rattle.std.specs.Prelude.{ℕ, Option, List, Some}
 use Rattle.pv_types.specs.Layouts.{Entry}
@@ -15,9 +15,9 @@ use Rattle.pv_num.specs.Kinds.{promoted}
 use Rattle.std.specs.Option.{option_map}
 use Rattle.pv_check.specs.State.{◌>>=◌}
 
--- 6.5.16p3: an assignment has the unqualified type of its left operand
+-- 6.5.16p3: an assignment has the bare type of its left operand
 abbrev pub assigned_to : ℕ → TypedTree → Option TypedTree → Option TypedTree
-assigned_to line a b = option_map (λ b. written line (unqualified (type_of a)) (Assign a b)) b
+assigned_to line a b = option_map (λ b. written line (bare (type_of a)) (Assign a b)) b
 
 -- 6.5.16.1p1 and p2: simple assignment: the right operand is converted to the type of the left one
 -- worked: simple_assignment_rows (proofs/FurtherExamples); assignment_operand_rows (proofs/OperatorExamples)
@@ -26,7 +26,7 @@ simple_of line a b = assigned_to line a (assigned (type_of a) b)
 
 -- 6.5.16.2p3: `+=` or `-=` of a pointer, by what the left operand points to and the kind of the right one
 abbrev pub step_to : ℕ → Sign → TypedTree → TypedTree → Option Ty → Option IntKind → Option TypedTree
-step_to line sign a b t k = do _ ← t; _ ← k; Some (written line (unqualified (type_of a)) (PointerAssign sign a b))
+step_to line sign a b t k = do _ ← t; _ ← k; Some (written line (bare (type_of a)) (PointerAssign sign a b))
 
 -- 6.5.16.2p1: a pointer to a complete object type, and an integer
 abbrev pub pointer_assign : List Entry → ℕ → Sign → TypedTree → TypedTree → Option TypedTree

@@ -1,7 +1,8 @@
 -- A bridge: what functions answer that do a part of what Binary says.
 use Rattle.std.specs.Prelude.{Option, ℕ, Some, if◌then◌else◌, None, ◌&&◌, not}
 use Rattle.pv_typed.specs.TypedTree.{TypedTree, type_of, LogicalAnd, LogicalOr, Arithmetic, PointerOrder, is_function}
-use Rattle.pv_check.specs.Sorts.{pointed_by, are_alike}
+use Rattle.pv_check.specs.Sorts.{are_alike}
+use Rattle.pv_types.specs.Sorts.{pointed_by}
 use Rattle.pv_check.specs.Binary.{are_scalar}
 use Rattle.pv_check.specs.Values.{written, converted}
 use Rattle.pv_check.specs.Kinds.{common}

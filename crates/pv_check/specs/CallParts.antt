@@ -5,7 +5,7 @@ use Rattle.pv_types.specs.Ty.{Ty}
 use Rattle.pv_library.specs.LibraryNames.{library_named}
 use Rattle.pv_check.specs.PrintfFormats.{is_format}
 use Rattle.pv_check.specs.Calls.{called, call_to, call_at, may_pass}
-use Rattle.pv_check.specs.Sorts.{pointed_by}
+use Rattle.pv_types.specs.Sorts.{pointed_by}
 use Rattle.pv_check.specs.Values.{written}
 use Rattle.pv_check.specs.State.{◌>>=◌}
 use Rattle.std.specs.Prelude.{Option, ℕ, List, None, ◌∷◌, Some, false, Bool, if◌then◌else◌}

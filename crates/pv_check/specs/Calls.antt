@@ -8,7 +8,7 @@ use Rattle.pv_typed.specs.TypedTree.{TypedTree, Form, Node, Call, CallPointer, L
 use Rattle.pv_typed.specs.TypedUnits.{WholeUnit, function_at, name_at, literal_at, layouts}
 use Rattle.pv_library.specs.LibraryNames.{library_named}
 use Rattle.pv_check.specs.PrintfFormats.{is_format}
-use Rattle.pv_check.specs.Sorts.{is_void}
+use Rattle.pv_types.specs.Sorts.{is_void}
 use Rattle.pv_check.specs.Values.{written, promoted_value, assigned}
 use Rattle.pv_check.specs.State.{◌>>=◌}
 use Rattle.std.specs.Option.{option_map_or, option_map}

@@ -3,10 +3,11 @@ use Rattle.std.specs.Prelude.{ℕ, Bool, true, false, ◌||◌, if◌then◌else
 use Rattle.pv_types.specs.Ty.{Ty, VoidTy, IntTy, PointerTo, StructTag, UnionTag}
 use Rattle.pv_typed.specs.TypedTree.{TypedTree, Conditional, type_of}
 use Rattle.pv_check.specs.Kinds.{common}
-use Rattle.pv_check.specs.Qualified.{unqualified, qualified_if}
+use Rattle.pv_check.specs.Qualified.{qualified_if}
 use Rattle.pv_types.specs.SameTypes.{same_type}
 use Rattle.pv_types.specs.Qualifiers.{is_const}
-use Rattle.pv_check.specs.Sorts.{is_scalar, are_alike, has_void}
+use Rattle.pv_check.specs.Sorts.{are_alike, has_void}
+use Rattle.pv_types.specs.Sorts.{is_scalar, bare}
 use Rattle.pv_check.specs.Composite.{composite}
 use Rattle.pv_typed.specs.Addresses.{is_null_constant}
 use Rattle.pv_check.specs.Values.{written, converted}
@@ -19,7 +20,7 @@ abbrev pub pointer_type : Ty → Ty → (left right : Bool) → Option Ty
 pointer_type t u false true = Some (PointerTo t)
 pointer_type t u true false = Some (PointerTo u)
 pointer_type t u left right =
-    if are_alike t u then Some (PointerTo (qualified_if (is_const t || is_const u) (composite (unqualified t) (unqualified u))))
+    if are_alike t u then Some (PointerTo (qualified_if (is_const t || is_const u) (composite (bare t) (bare u))))
     else (if has_void t u then Some (PointerTo (qualified_if (is_const t || is_const u) VoidTy)) else None)
 
 -- 6.5.15p3 and p5: what two that are no pointers give: two integers, two of type void, two of one structure or union

@@ -5,7 +5,8 @@ use Rattle.pv_typed.specs.TypedTree.{type_of, TypedTree, Conditional}
 use Rattle.pv_typed.specs.Addresses.{is_null_constant}
 use Rattle.std.specs.Prelude.{Option, Bool, ℕ, None, Some, ◌||◌, if◌then◌else◌}
 use Rattle.pv_check.specs.Conditional.{result_type}
-use Rattle.pv_check.specs.Qualified.{qualified_if, unqualified}
+use Rattle.pv_check.specs.Qualified.{qualified_if}
+use Rattle.pv_types.specs.Sorts.{bare}
 use Rattle.pv_check.specs.Values.{converted, written}
 use Rattle.pv_check.specs.Sorts.{are_alike, has_void}
 use Rattle.pv_check.specs.Composite.{composite}
@@ -28,5 +29,5 @@ chosen line a b c t = do t ← t; Some (written line t (Conditional a (converted
 -- worked: composite_of_pointers_rows (proofs/ConditionalExamples)
 abbrev pub merged : Ty → Ty → Option Ty
 merged t u =
-    if are_alike t u then Some (PointerTo (qualified_if (is_const t || is_const u) (composite (unqualified t) (unqualified u))))
+    if are_alike t u then Some (PointerTo (qualified_if (is_const t || is_const u) (composite (bare t) (bare u))))
     else (if has_void t u then Some (PointerTo (qualified_if (is_const t || is_const u) VoidTy)) else None)

@@ -5,8 +5,9 @@ use Rattle.pv_types.specs.Adjusted.{is_adjusted}
 use Rattle.pv_types.specs.Ty.{Ty, Tys, PointerTo, ArrayOf, FunctionTy, ConstOf, NoTys, MoreTys}
 use Rattle.pv_types.specs.Layouts.{Entry, layout_in, is_complete_in}
 use Rattle.pv_tree.specs.Syntax.{DeclaratorTree, DeclaredName, ParenDeclarator, Pointer, Array, FunctionDeclarator, OfDeclarator, OptionalTree, Present}
-use Rattle.pv_check.specs.Qualified.{with_const, unqualified}
-use Rattle.pv_check.specs.Sorts.{is_array, is_void, is_void_in}
+use Rattle.pv_check.specs.Qualified.{with_const}
+use Rattle.pv_check.specs.Sorts.{is_array}
+use Rattle.pv_types.specs.Sorts.{is_void_in, is_void, bare}
 use Rattle.pv_typed.specs.TypedTree.{is_function}
 use Rattle.pv_check.specs.State.{State, After, Scope, ObjectName, give, env, innermost, declare, left, is_file_scope}
 use Rattle.pv_typed.specs.Constants.{and_then}
@@ -70,7 +71,7 @@ size_of (negsuc n) = None
 -- 6.7.6.3p15: of a parameter's type in that of its function no qualifiers count
 abbrev pub parameter_types : List Parameter → Tys
 parameter_types [] = NoTys
-parameter_types (p ∷ ps) = MoreTys (unqualified p.t) (parameter_types ps)
+parameter_types (p ∷ ps) = MoreTys (bare p.t) (parameter_types ps)
 
 -- 6.7.6.3p5: one step more, a function with these parameters
 abbrev pub with_function : Steps → Signature → Steps
@@ -84,12 +85,12 @@ array_of unsized env (Some n) t =
 
 -- one step round a type: a pointer, `const` or not (6.7.6.1p1); an array (6.7.6.2p3) of a complete object type (6.7.6.2p1), without a size where
 -- `unsized` says so, and of no more than 2 ^ 32 bytes (5.2.4.1); a function (6.7.6.3p5), whose result is no function and no array (6.7.6.3p1) and
--- unqualified
+-- bare
 abbrev pub step : Bool → List Entry → Derivation → Ty → Option Ty
 step unsized env (ByPointer constant) t = with_const constant (PointerTo t)
 step unsized env (ByArray n) t = array_of unsized env n t
 step unsized env (ByFunction ts variadic) t =
-    if is_function t then None else (if is_array t then None else Some (FunctionTy (unqualified t) ts variadic))
+    if is_function t then None else (if is_array t then None else Some (FunctionTy (bare t) ts variadic))
 
 -- 6.7.6p4: the step that is furthest from the name comes first
 abbrev pub derived : Bool → List Entry → List Derivation → Ty → Option Ty

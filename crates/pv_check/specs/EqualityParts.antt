@@ -3,7 +3,8 @@ use Rattle.std.specs.Prelude.{Bool, Option, ℕ, None, if◌then◌else◌, Some
 use Rattle.pv_typed.specs.TypedTree.{TypedTree, type_of}
 use Rattle.pv_num.specs.declared.operators.BinOp.{BinOp}
 use Rattle.pv_check.specs.Equality.{equal_at, left_converted, right_converted, equality}
-use Rattle.pv_check.specs.Sorts.{pointed_by, is_void_beside, are_alike}
+use Rattle.pv_check.specs.Sorts.{is_void_beside, are_alike}
+use Rattle.pv_types.specs.Sorts.{pointed_by}
 use Rattle.pv_types.specs.Ty.{Ty}
 
 -- 6.5.9p2: an equality by the types of its operands, each a null pointer constant or not

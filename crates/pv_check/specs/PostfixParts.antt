@@ -5,7 +5,8 @@ use Rattle.std.specs.Prelude.{None, Bool, ◌&&◌, ℕ, List, if◌then◌else�
 use Rattle.std.specs.Option.{option_map}
 use Rattle.pv_check.specs.Postfix.{may_step, complete_member}
 use Rattle.pv_check.specs.Values.{written}
-use Rattle.pv_check.specs.Qualified.{unqualified, qualified_if}
+use Rattle.pv_check.specs.Qualified.{qualified_if}
+use Rattle.pv_types.specs.Sorts.{bare}
 use Rattle.pv_types.specs.Layouts.{Entry, Part, Completed}
 use Rattle.pv_types.specs.Ty.{Ty}
 use Rattle.pv_types.specs.Qualifiers.{is_const}
@@ -14,7 +15,7 @@ use Rattle.pv_check.specs.State.{◌>>=◌}
 -- 6.5.2.4p1, 6.5.3.1p1: a step of a modifiable lvalue, or of an operand that is none
 abbrev pub increment_with : (modifiable : Bool) → List Entry → ℕ → IncrementOperator → TypedTree → Option TypedTree
 increment_with modifiable env line op a =
-    if modifiable && may_step env (type_of a) then Some (written line (unqualified (type_of a)) (Increment op a)) else None
+    if modifiable && may_step env (type_of a) then Some (written line (bare (type_of a)) (Increment op a)) else None
 
 -- 6.5.2.1p2: a subscript by the type of the element; an lvalue
 abbrev pub subscript_to : ℕ → TypedTree → TypedTree → Option Ty → Option TypedTree

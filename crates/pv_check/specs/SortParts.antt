@@ -1,15 +1,11 @@
 -- A bridge: what functions answer that do a part of what Sorts says.
-use Rattle.pv_check.specs.Sorts.{is_composite_in, is_truth_kind, kind_of}
-use Rattle.pv_check.specs.Qualified.{unqualified}
+use Rattle.pv_check.specs.Sorts.{is_truth_kind}
+use Rattle.pv_types.specs.Sorts.{kind_of}
 use Rattle.std.specs.Prelude.{Bool, false, None, Option, Some, List, if◌then◌else◌}
 use Rattle.pv_types.specs.Ty.{Ty}
 use Rattle.pv_types.specs.Layouts.{is_complete_in, Entry}
 use Rattle.pv_typed.specs.TypedTree.{is_function}
 use Rattle.std.specs.Option.{option_map_or, option_and_then}
-
--- 6.2.5p20: a structure or a union
-abbrev pub is_composite : Ty → Bool
-is_composite t = is_composite_in (unqualified t)
 
 -- 6.2.5p6: the type `_Bool`
 abbrev pub is_truth : Ty → Bool

@@ -1,6 +1,7 @@
 -- A bridge: what functions answer that do a part of what Unary says.
 use Rattle.pv_typed.specs.TypedTree.{TypedTree, type_of, Not, is_lvalue, Address, Indirection, Unary}
-use Rattle.pv_check.specs.Sorts.{pointed_by, is_scalar, points_to_function, kind_of, is_truth_kind, is_void}
+use Rattle.pv_check.specs.Sorts.{points_to_function, is_truth_kind}
+use Rattle.pv_types.specs.Sorts.{kind_of, pointed_by, is_scalar, is_void}
 use Rattle.pv_check.specs.Unary.{under_address}
 use Rattle.pv_check.specs.Values.{written, converted}
 use Rattle.std.specs.Prelude.{ℕ, Option, Some, None, if◌then◌else◌, ◌||◌, ◌&&◌, Bool}

@@ -2,9 +2,9 @@
 use Rattle.pv_types.specs.Ty.{Ty}
 use Rattle.std.specs.Prelude.{Bool, Some, if◌then◌else◌, Option, None}
 use Rattle.pv_check.specs.Values.{converted, may_assign}
-use Rattle.pv_check.specs.Qualified.{unqualified}
+use Rattle.pv_types.specs.Sorts.{bare}
 use Rattle.pv_typed.specs.TypedTree.{TypedTree, type_of}
 
 -- 6.5.16.1p2: a value as if by assignment, which is a null pointer constant or not (6.3.2.3p3)
 abbrev pub assigned_with : (null : Bool) → Ty → TypedTree → Option TypedTree
-assigned_with null t a = if may_assign (unqualified t) (type_of a) null then Some (converted (unqualified t) a) else None
+assigned_with null t a = if may_assign (bare t) (type_of a) null then Some (converted (bare t) a) else None

@@ -5,7 +5,7 @@ use Rattle.pv_types.specs.Layouts.{Entry, is_complete_in}
 use Rattle.pv_types.specs.Ty.{Ty, IntTy, PointerTo, ArrayOf, StructTag, UnionTag, FunctionTy}
 use Rattle.pv_typed.specs.TypedTree.{TypedTree, Form, Node, Convert, Read, ArrayPointer, type_of, line_of, is_lvalue}
 use Rattle.pv_num.specs.Kinds.{promoted}
-use Rattle.pv_check.specs.Qualified.{unqualified}
+use Rattle.pv_types.specs.Sorts.{bare}
 use Rattle.pv_types.specs.SameTypes.{same_type}
 use Rattle.pv_check.specs.Sorts.{is_array, are_alike, has_void}
 use Rattle.pv_types.specs.Qualifiers.{has_const, is_const}
@@ -25,7 +25,7 @@ implied line t x = Node t line false x
 abbrev pub read_at : List Entry → TypedTree → Ty → Option TypedTree
 read_at env a (ArrayOf t n) = Some (implied (line_of a) (PointerTo t) (ArrayPointer a))
 read_at env a (FunctionTy t ts v) = Some (implied (line_of a) (PointerTo (FunctionTy t ts v)) (ArrayPointer a))
-read_at env a t = if is_complete_in env t then Some (implied (line_of a) (unqualified t) (Read a)) else None
+read_at env a t = if is_complete_in env t then Some (implied (line_of a) (bare t) (Read a)) else None
 
 -- 6.3.2.1p2 to p4: the value of an lvalue or a designator, or the expression itself
 -- worked: unqualified_value_rows (proofs/QualifierExamples); incomplete_structure_rows, unknown_size_rows, void_expression_rows
@@ -67,7 +67,7 @@ may_assign (StructTag n) u null = same_type (StructTag n) u
 may_assign (UnionTag n) u null = same_type (UnionTag n) u
 may_assign _ _ null = false
 
--- 6.5.16.1p2: a value converted to the unqualified type of what it is assigned to, where it may be; a null pointer constant to any pointer (6.3.2.3p3)
+-- 6.5.16.1p2: a value converted to the bare type of what it is assigned to, where it may be; a null pointer constant to any pointer (6.3.2.3p3)
 -- worked: null_integer_rows, null_void_pointer_rows (proofs/ConstantExamples)
 abbrev pub assigned : Ty → TypedTree → Option TypedTree
-assigned t a = if may_assign (unqualified t) (type_of a) (is_null_constant a) then Some (converted (unqualified t) a) else None
+assigned t a = if may_assign (bare t) (type_of a) (is_null_constant a) then Some (converted (bare t) a) else None

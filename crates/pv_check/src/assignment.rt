@@ -6,7 +6,7 @@ ghost use Rattle.pv_typed.specs.NodeTrees.{expression_at, IsExpression};
 ghost use Rattle.pv_typed.specs.Known.{AreKnown};
 ghost use Rattle.pv_check.specs.Kept.{Kept, env_of, expression_if};
 ghost use Rattle.pv_types.specs.Ty.{IntTy};
-ghost use Rattle.pv_check.specs.Qualified.{unqualified};
+ghost use Rattle.pv_types.specs.Sorts.{bare};
 ghost use Rattle.pv_check.specs.Values.{written, converted, may_point, may_assign};
 ghost use Rattle.pv_check.specs.ValueParts.{assigned_with};
 ghost use Rattle.pv_check.specs.Assignment.{compound_at, arithmetic_assign, shift_assign, comma_of};

@@ -3,12 +3,12 @@ ghost use Rattle.std.specs.Prelude.{◌≡◌, ◌<◌, ◌≤◌, length, is_so
 ghost use Rattle.pv_types.specs.Known.{tree, tree_in, trees, env};
 ghost use Rattle.pv_types.specs.Formed.{IsBuilt};
 ghost use Rattle.pv_types.specs.Layouts.{is_complete_in};
-ghost use Rattle.pv_check.specs.Qualified.{unqualified};
 ghost use Rattle.pv_types.specs.SameTypes.{same_type};
 ghost use Rattle.pv_types.specs.Qualifiers.{is_const};
-ghost use Rattle.pv_check.specs.Sorts.{kind_of, pointed_by, is_scalar, is_void, is_array, points_to_function, is_void_beside, has_void, complete_pointed_by, are_alike};
+ghost use Rattle.pv_check.specs.Sorts.{is_array, points_to_function, is_void_beside, has_void, complete_pointed_by, are_alike};
+ghost use Rattle.pv_types.specs.Sorts.{kind_of, pointed_by, is_scalar, is_void, bare, is_composite};
 ghost use Rattle.pv_typed.specs.TypedTree.{is_function};
-ghost use Rattle.pv_check.specs.SortParts.{is_composite, is_truth};
+ghost use Rattle.pv_check.specs.SortParts.{is_truth};
 ghost use Rattle.pv_check.specs.Shown.{type_if};
 
 use pv_num::IntKind;
@@ -18,7 +18,7 @@ use pv_types::{Term, TypeId, Types};
 pub(crate) fn unqualified(types: &Types, t: TypeId) -> TypeId
     requires { t.0 < length types.now.terms }
     ensures known { result.0 < length types.now.terms }
-    ensures tree { tree types.now result.0 ≡ unqualified (tree types.now t.0) }
+    ensures tree { tree types.now result.0 ≡ bare (tree types.now t.0) }
 {
     let mut at = t;
     while let Term::Const(inner) = types.view(at) {

@@ -4,7 +4,8 @@ use Rattle.std.proofs.Math.Nat.{div-lt_iff_lt-mul, div-mul-le_self, mod-eq-sub-d
 use Rattle.std.proofs.lemmas.Bool.Decides.{nat_tests}
 use Rattle.pv_types.specs.Ty.{Ty}
 use Rattle.pv_types.specs.Layouts.{Part, Entry, layout_in, shifted, repeated}
-use Rattle.pv_layout.specs.Parts.{leaves, is_scalar}
+use Rattle.pv_layout.specs.Parts.{leaves}
+use Rattle.pv_types.specs.Sorts.{is_scalar}
 use Rattle.pv_layout.proofs.PartLaws.{lt_test, ge_test}
 use Rattle.pv_effect.specs.EffectiveType.{covers, some_over}
 

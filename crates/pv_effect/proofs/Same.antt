@@ -12,7 +12,8 @@ use Rattle.pv_types.specs.Layouts.{layout_in}
 use Rattle.pv_types.specs.Known.{Known, tree, trees, tree_in, env}
 use Rattle.pv_types.specs.Formed.{IsBuilt}
 use Rattle.pv_types.proofs.Injective.{trees_differ}
-use Rattle.pv_layout.specs.Parts.{bare, some_at, leaves, agrees, are_counterparts}
+use Rattle.pv_layout.specs.Parts.{some_at, leaves, agrees, are_counterparts}
+use Rattle.pv_types.specs.Sorts.{bare}
 use Rattle.pv_layout.proofs.Ahead.{bare_no}
 use Rattle.pv_types.specs.SameTypes.{same_type, same_size, same_types}
 

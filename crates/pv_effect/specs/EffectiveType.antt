@@ -2,25 +2,12 @@
 -- along: pv_object/specs/Copying.
 use Rattle.std.specs.Prelude.{ℕ, suc, ◌+◌, ◌-◌, Bool, true, false, not, ◌&&◌, ◌||◌, ◌==◌, nat_le, nat_lt, if◌then◌else◌, Some, None, List, [], ◌∷◌, length}
 use Rattle.std.specs.declared.option.Option.{Option}
-use Rattle.pv_num.specs.Kinds.{is_character_kind}
-use Rattle.pv_types.specs.Ty.{Ty, IntTy, StructTag, UnionTag, ConstOf}
+use Rattle.pv_types.specs.Ty.{Ty}
+use Rattle.pv_types.specs.Sorts.{is_character, is_composite, bare}
 use Rattle.pv_types.specs.SameTypes.{same_type}
 use Rattle.pv_types.specs.Layouts.{Part, Entry, layout_in}
 use Rattle.pv_types.specs.Known.{Known, tree, env}
-use Rattle.pv_layout.specs.Parts.{bare, some_at, leaves, agrees, suits, are_counterparts}
-
--- 6.2.5p15: a character type, qualifiers aside
-abbrev pub is_character : Ty → Bool
-is_character (IntTy k) = is_character_kind k
-is_character (ConstOf t) = is_character t
-is_character _ = false
-
--- 6.2.5p20: a structure or union, qualifiers aside
-abbrev pub is_composite : Ty → Bool
-is_composite (StructTag n) = true
-is_composite (UnionTag n) = true
-is_composite (ConstOf t) = is_composite t
-is_composite _ = false
+use Rattle.pv_layout.specs.Parts.{some_at, leaves, agrees, suits, are_counterparts}
 
 -- 6.5p7: at this offset of a declared object, whose type has these parts, the type may be accessed. A structure or union
 -- asks for a part that is one; a scalar for a scalar part; an array, through which nothing is accessed (6.3.2.1p3), finds none

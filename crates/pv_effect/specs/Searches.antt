@@ -5,7 +5,7 @@ use Rattle.pv_types.specs.Layouts.{Layout, Part, repeated, layout_in, is_complet
 use Rattle.pv_types.specs.LayoutParts.{part_count, union_parts}
 use Rattle.pv_types.specs.Known.{Known, tree, env}
 use Rattle.pv_types.specs.Formed.{named}
-use Rattle.pv_layout.specs.Parts.{is_scalar}
+use Rattle.pv_types.specs.Sorts.{is_scalar}
 use Rattle.pv_effect.specs.EffectiveType.{accepts, some_over}
 use Rattle.pv_effect.specs.declared.bytes.Sought.{Sought}
 use Rattle.pv_effect.specs.declared.bytes.Sought.TheVariants.{Any, Accepting}

@@ -1,7 +1,8 @@
 // What kind of type it is, qualifiers aside.
 ghost use Rattle.std.specs.Prelude.{◌≡◌, ◌<◌, ◌||◌, length};
 ghost use Rattle.pv_types.specs.Known.{tree};
-ghost use Rattle.pv_effect.specs.EffectiveType.{is_character, is_composite, same_or_counterpart};
+ghost use Rattle.pv_effect.specs.EffectiveType.{same_or_counterpart};
+ghost use Rattle.pv_types.specs.Sorts.{is_composite, is_character};
 ghost use Rattle.pv_num.specs.Kinds.{is_character_kind};
 
 use pv_layout::{bare, leaf_at};

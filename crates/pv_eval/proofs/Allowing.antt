@@ -13,10 +13,10 @@ use Rattle.pv_types.specs.Compatible.{are_compatible}
 use Rattle.pv_types.proofs.Compared.{alike_self}
 use Rattle.pv_types.specs.Known.{Known, tree, env}
 use Rattle.pv_types.specs.Layouts.{Part, repeated, is_complete_in}
-use Rattle.pv_layout.specs.Parts.{bare, some_at, leaves, agrees, is_scalar}
+use Rattle.pv_layout.specs.Parts.{some_at, leaves, agrees}
+use Rattle.pv_types.specs.Sorts.{bare, is_scalar, is_character}
 use Rattle.pv_layout.proofs.Ahead.{bare_size, bare_complete}
 use Rattle.pv_layout.proofs.PartLaws.{at_repeated, some_leaf}
-use Rattle.pv_effect.specs.EffectiveType.{is_character}
 use Rattle.pv_inst.specs.declared.values.Instance.{Instance}
 use Rattle.pv_inst.specs.declared.values.Info.{Info}
 use Rattle.pv_inst.specs.declared.values.Kind.{Kind}

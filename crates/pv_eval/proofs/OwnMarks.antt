@@ -6,8 +6,9 @@ use Rattle.pv_types.specs.Ty.{Ty, VoidTy, IntTy, PointerTo, ArrayOf, StructTag, 
 use Rattle.pv_types.specs.Layouts.{Part, Entry, layout_in}
 use Rattle.pv_types.specs.Known.{Known, tree, env}
 use Rattle.pv_types.specs.Formed.{IsBuilt}
-use Rattle.pv_layout.specs.Parts.{bare, leaves, is_scalar, are_counterparts}
-use Rattle.pv_effect.specs.EffectiveType.{is_character, same_or_counterpart, anything, some_over, permits_byte, permits_bytes, permits_marks}
+use Rattle.pv_layout.specs.Parts.{leaves, are_counterparts}
+use Rattle.pv_types.specs.Sorts.{bare, is_scalar, is_character}
+use Rattle.pv_effect.specs.EffectiveType.{same_or_counterpart, anything, some_over, permits_byte, permits_bytes, permits_marks}
 use Rattle.pv_types.specs.SameTypes.{same_type}
 use Rattle.pv_shadow.specs.declared.byte.Byte.{Byte}
 use Rattle.pv_shadow.specs.Readings.{has_mark, are_marked}

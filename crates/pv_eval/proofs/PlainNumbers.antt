@@ -33,7 +33,8 @@ use Rattle.pv_eval.specs.Operations.{Op, Converts, Calculates, CalculatesOne, Ne
 use Rattle.pv_eval.specs.Sequenced.{done, work}
 use Rattle.pv_eval.specs.Steps.{converted}
 use Rattle.pv_eval.specs.Evaluation.{ev}
-use Rattle.pv_eval.specs.TypeForms.{kind_of, shape_of, pointed_to, is_none}
+use Rattle.pv_eval.specs.TypeForms.{kind_of, shape_of, pointed_to}
+use Rattle.pv_types.specs.Sorts.{is_void as is_none}
 use Rattle.pv_eval.specs.Conversions.{how_to_int, how_by, how_to}
 use Rattle.pv_eval.specs.Suiting.{is_small, is_promoted, is_operand}
 use Rattle.pv_eval.proofs.Guards.{both_of}

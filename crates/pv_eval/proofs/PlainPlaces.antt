@@ -27,7 +27,8 @@ use Rattle.pv_world.specs.Telling.{quiet}
 use Rattle.pv_world.specs.Doing.{Fails}
 use Rattle.pv_world.specs.Pointers.{distance, moves, selects, moved_by as moved_so}
 use Rattle.pv_eval.specs.States.{then_do}
-use Rattle.pv_eval.specs.TypeForms.{is_pointer, element_size}
+use Rattle.pv_eval.specs.TypeForms.{element_size}
+use Rattle.pv_types.specs.Sorts.{is_pointer}
 use Rattle.pv_eval.specs.Sizes.{setting_of}
 use Rattle.pv_eval.specs.Suiting.{knows_worth, is_small, is_size}
 use Rattle.pv_eval.specs.Operations.{Moves, Selects, does}

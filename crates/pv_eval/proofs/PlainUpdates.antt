@@ -24,7 +24,8 @@ use Rattle.pv_world.specs.Worths.{int, pointer}
 use Rattle.pv_world.specs.Objects.{put_at}
 use Rattle.pv_eval.specs.declared.marked.Marked.{Marked}
 use Rattle.pv_eval.specs.States.{Setting, State, Res, Gives, then_do}
-use Rattle.pv_eval.specs.TypeForms.{lvalue, shape_of, kind_of, is_pointer, element_size}
+use Rattle.pv_eval.specs.TypeForms.{lvalue, shape_of, kind_of, element_size}
+use Rattle.pv_types.specs.Sorts.{is_pointer}
 use Rattle.pv_num.specs.Kinds.{promoted}
 use Rattle.pv_eval.specs.Sizes.{setting_of}
 use Rattle.pv_eval.specs.Accesses.{access_to}

@@ -7,7 +7,8 @@ use Rattle.pv_typed.specs.declared.nodes.IncrementOperator.{IncrementOperator}
 use Rattle.pv_world.specs.Worlds.{Worth}
 use Rattle.pv_world.specs.Worths.{int}
 use Rattle.pv_eval.specs.States.{Setting, State}
-use Rattle.pv_eval.specs.TypeForms.{kind_of, is_pointer, element_size}
+use Rattle.pv_eval.specs.TypeForms.{kind_of, element_size}
+use Rattle.pv_types.specs.Sorts.{is_pointer}
 use Rattle.pv_num.specs.Kinds.{promoted}
 use Rattle.pv_eval.specs.Operations.{Moves, act}
 use Rattle.pv_eval.specs.Steps.{is_down, combining, stepping}

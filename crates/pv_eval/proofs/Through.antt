@@ -5,7 +5,7 @@ use Rattle.std.proofs.lemmas.Bool.{le-leb}
 use Rattle.pv_types.specs.Ty.{Ty}
 use Rattle.pv_types.specs.Known.{tree, env}
 use Rattle.pv_types.specs.Layouts.{is_complete_in, layout_in}
-use Rattle.pv_layout.specs.Parts.{bare}
+use Rattle.pv_types.specs.Sorts.{bare}
 use Rattle.pv_layout.proofs.Ahead.{bare_complete}
 use Rattle.pv_typed.specs.TypedUnits.{WholeUnit, layouts}
 use Rattle.pv_typed.specs.Tables.{Stored, whole}

@@ -1,7 +1,7 @@
 -- Arguments of a call of the library, as it looks at them (C17 7.21.6.1p8).
 use Rattle.std.specs.Prelude.{if◌then◌else◌}
 use Rattle.pv_types.specs.Ty.{Ty, VoidTy, IntTy, PointerTo, ConstOf}
-use Rattle.pv_effect.specs.EffectiveType.{is_character}
+use Rattle.pv_types.specs.Sorts.{is_character}
 use Rattle.pv_typed.specs.TypedTree.{TypedTree, type_of}
 use Rattle.pv_libc.specs.declared.values.Arg.{Arg}
 use Rattle.pv_libc.specs.declared.values.Shape.{Shape}

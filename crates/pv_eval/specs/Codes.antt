@@ -20,7 +20,8 @@ use Rattle.pv_world.specs.Worths.{int}
 use Rattle.pv_eval.specs.declared.codes.Operand.{Operand}
 use Rattle.pv_eval.specs.declared.codes.Code.{Code}
 use Rattle.pv_eval.specs.declared.codes.Code.TheVariants as code
-use Rattle.pv_eval.specs.TypeForms.{shape_of, kind_of, is_pointer}
+use Rattle.pv_eval.specs.TypeForms.{shape_of, kind_of}
+use Rattle.pv_types.specs.Sorts.{is_pointer}
 use Rattle.pv_eval.specs.Sizes.{element_in, points}
 use Rattle.pv_eval.specs.Suiting.{is_small}
 use Rattle.pv_eval.specs.declared.plain.Found.{Found}

@@ -10,7 +10,8 @@ use Rattle.pv_world.specs.Worlds.{Worth, Nothing}
 use Rattle.pv_eval.specs.States.{Setting, State, Res, then_do}
 use Rattle.pv_world.specs.Worths.{is_true}
 use Rattle.pv_world.specs.declared.got.How.TheVariants.{Rounds}
-use Rattle.pv_eval.specs.TypeForms.{lvalue, kind_of, is_pointer, is_none, element_size, pointed_to}
+use Rattle.pv_eval.specs.TypeForms.{lvalue, kind_of, element_size, pointed_to}
+use Rattle.pv_types.specs.Sorts.{is_void, is_pointer}
 use Rattle.pv_eval.specs.Conversions.{how_to}
 use Rattle.pv_eval.specs.Operations.{Converts, Calculates, CalculatesOne, Tests, Negates, Moves, Subtracts, Orders, Equals, Follows, Selects, TakesPart, act}
 use Rattle.pv_eval.specs.Sequenced.{Given, with_given, done, doing, work, operand, later}
@@ -54,7 +55,7 @@ later_after b call t line _ side j w s = done j w s
 -- with the value of the first operand
 abbrev pub first_after : Setting → Calling → Ty → ℕ → Form → Open → Worth → State → Res Given
 first_after b call t line (Read x) j p s = reading b (lvalue b (type_of x)) line p j s done
-first_after b call t line (Indirection x) j v s = work b line (Follows (is_none t) v) j s
+first_after b call t line (Indirection x) j v s = work b line (Follows (is_void t) v) j s
 first_after b call t line (Member x offset) j v s = work b line (Selects offset v) j s
 first_after b call t line (Arrow x offset) j v s = work b line (Selects offset v) j s
 first_after b call t line (MemberOfValue x offset) j v s = work b line (TakesPart offset (lvalue b t) v) j s

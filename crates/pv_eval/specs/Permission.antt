@@ -2,7 +2,8 @@
 use Rattle.std.specs.Prelude.{ℕ, Bool, false, ◌||◌, List, Option, Some, None, map, if◌then◌else◌}
 use Rattle.pv_types.specs.Ty.{Ty}
 use Rattle.pv_types.specs.Layouts.{Part, layout_in}
-use Rattle.pv_effect.specs.EffectiveType.{is_character, permits_declared, permits_marks}
+use Rattle.pv_effect.specs.EffectiveType.{permits_declared, permits_marks}
+use Rattle.pv_types.specs.Sorts.{is_character}
 use Rattle.pv_inst.specs.declared.values.Instance.{Instance}
 use Rattle.pv_inst.specs.declared.values.Kind.{Kind}
 use Rattle.pv_inst.specs.declared.values.Kind.TheVariants.{Declared, Literal, Heap, Function}

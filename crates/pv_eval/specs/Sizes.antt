@@ -3,7 +3,7 @@ use Rattle.std.specs.Prelude.{◌≡◌, ℕ, Bool, ◌<◌, ◌≤◌, ◌^◌,
 use Rattle.pv_types.specs.Ty.{Ty, IntTy, PointerTo}
 use Rattle.pv_types.specs.Known.{Known, tree, env}
 use Rattle.pv_types.specs.Layouts.{layout_in, is_complete_in}
-use Rattle.pv_layout.specs.Parts.{bare}
+use Rattle.pv_types.specs.Sorts.{bare}
 use Rattle.pv_typed.specs.Tables.{Stored, whole}
 use Rattle.pv_world.specs.declared.got.How.{How}
 use Rattle.pv_eval.specs.declared.types.Complete.{Complete}

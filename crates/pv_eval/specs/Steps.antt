@@ -14,7 +14,8 @@ use Rattle.pv_seq.specs.Sequencing.{Open, noted, rivals}
 use Rattle.pv_world.specs.Worlds.{Worth}
 use Rattle.pv_eval.specs.States.{Setting, State, Res, Gives, then_do, tick}
 use Rattle.pv_world.specs.Worths.{int, origin_of, pointer_of}
-use Rattle.pv_eval.specs.TypeForms.{Lvalue, kind_of, is_pointer, element_size}
+use Rattle.pv_eval.specs.TypeForms.{Lvalue, kind_of, element_size}
+use Rattle.pv_types.specs.Sorts.{is_pointer}
 use Rattle.pv_num.specs.Kinds.{promoted}
 use Rattle.pv_eval.specs.Conversions.{how_to}
 use Rattle.pv_world.specs.declared.got.How.TheVariants.{Rounds}

@@ -5,7 +5,7 @@ use Rattle.pv_num.specs.declared.kinds.IntKind.TheVariants as kind
 use Rattle.pv_types.specs.Ty.{Ty, VoidTy, IntTy, PointerTo, ArrayOf, FunctionTy, ConstOf}
 use Rattle.pv_types.specs.Layouts.{Entry, layout_in, is_complete_in}
 use Rattle.pv_types.specs.Known.{Known, trees}
-use Rattle.pv_layout.specs.Parts.{bare}
+use Rattle.pv_types.specs.Sorts.{bare, pointed_by, kind_of as kind_if, is_void}
 use Rattle.pv_types.specs.SameTypes.{same_type}
 use Rattle.pv_typed.specs.TypedUnits.{layouts}
 use Rattle.pv_world.specs.declared.got.Shape.{Shape}
@@ -45,21 +45,11 @@ lvalue b t = record { t = bare t; number = number_of b.types (bare t); size = si
 
 -- 6.2.5p17: the kind of an integer type
 abbrev pub kind_of : Ty → IntKind
-kind_of (IntTy k) = k
-kind_of (ConstOf t) = kind_of t
-kind_of _ = kind.Int
-
--- 6.2.5p20: a pointer type, qualifiers aside
-abbrev pub is_pointer : Ty → Bool
-is_pointer (PointerTo t) = true
-is_pointer (ConstOf t) = is_pointer t
-is_pointer _ = false
+kind_of t = unwrap_or (kind_if t) kind.Int
 
 -- 6.2.5p20: what a pointer type points to
 abbrev pub pointed_to : Ty → Ty
-pointed_to (PointerTo t) = t
-pointed_to (ConstOf t) = pointed_to t
-pointed_to _ = VoidTy
+pointed_to t = unwrap_or (pointed_by t) VoidTy
 
 -- 6.3.2.3p7: a pointer to this type is aligned for what it points to; an incomplete type asks for nothing
 abbrev pub alignment_by : List Entry → Ty → ℕ
@@ -75,13 +65,7 @@ is_constant (ConstOf t) = true
 is_constant (ArrayOf t n) = is_constant t
 is_constant _ = false
 
--- 6.2.5p19: the type `void`, qualifiers aside
-abbrev pub is_none : Ty → Bool
-is_none VoidTy = true
-is_none (ConstOf t) = is_none t
-is_none _ = false
-
 -- 6.7.6.3, 6.8.6.4: a function that returns nothing
 abbrev pub gives_none : Ty → Bool
-gives_none (FunctionTy t ts v) = is_none t
+gives_none (FunctionTy t ts v) = is_void t
 gives_none _ = false

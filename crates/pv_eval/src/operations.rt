@@ -6,7 +6,8 @@ ghost use Rattle.pv_typed.specs.Tables.{Stored};
 ghost use Rattle.pv_typed.specs.NodeTrees.{expression_at, IsExpression};
 ghost use Rattle.pv_world.specs.Coming.{worth_of};
 ghost use Rattle.pv_world.specs.declared.got.How.TheVariants.{Rounds};
-ghost use Rattle.pv_eval.specs.TypeForms.{kind_of, is_pointer, is_none, element_size, lvalue, pointed_to};
+ghost use Rattle.pv_eval.specs.TypeForms.{kind_of, element_size, lvalue, pointed_to};
+ghost use Rattle.pv_types.specs.Sorts.{is_void, is_pointer};
 ghost use Rattle.pv_eval.specs.Conversions.{how_to};
 ghost use Rattle.pv_eval.specs.Runnable.{IsRunnable};
 ghost use Rattle.pv_eval.specs.Operations.{NamesFunction, Finds, Converts, Calculates, CalculatesOne, Tests, Negates, Moves, Subtracts, Orders, Equals, Follows, Selects, Accepts, Needs, TakesPart, NamesObject, NamesLiteral, act};
@@ -46,7 +47,7 @@ impl Moment {
     pub fn is_none(&self, unit: &TypedUnit, n: NodeId) -> bool
         requires runnable { IsRunnable unit.now }
         requires there { IsExpression unit.now n }
-        ensures { result ≡ is_none (type_of (expression_at unit.now n)) }
+        ensures { result ≡ is_void (type_of (expression_at unit.now n)) }
     {
         is_none(unit.types(), unit.type_of(n))
     }

@@ -11,7 +11,7 @@ ghost use Rattle.pv_typed.specs.NodeTrees.{expression_at, IsExpression};
 ghost use Rattle.pv_world.specs.Worths.{pointer};
 ghost use Rattle.pv_world.specs.Objects.{address_of, instance_of};
 ghost use Rattle.pv_world.specs.Pointers.{distance};
-ghost use Rattle.pv_eval.specs.TypeForms.{is_pointer};
+ghost use Rattle.pv_types.specs.Sorts.{is_pointer};
 ghost use Rattle.pv_eval.specs.Sizes.{element_in};
 ghost use Rattle.pv_eval.specs.Operations.{Selects, Moves};
 ghost use Rattle.pv_eval.specs.Plainly.{GivesAt, GivesWithBoth, HasMoved, found_worth, pointer_at};

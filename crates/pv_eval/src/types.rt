@@ -5,9 +5,9 @@ ghost use Rattle.pv_types.specs.Ty.{VoidTy, IntTy};
 ghost use Rattle.pv_types.specs.Layouts.{up_to, is_complete_in, layout_in};
 ghost use Rattle.pv_types.specs.Known.{tree, trees, env, tree_in};
 ghost use Rattle.pv_types.specs.Formed.{PartsBelow};
-ghost use Rattle.pv_effect.specs.EffectiveType.{is_character};
+ghost use Rattle.pv_types.specs.Sorts.{is_character, is_void, is_pointer};
 ghost use Rattle.pv_world.specs.Hows.{IsHow};
-ghost use Rattle.pv_eval.specs.TypeForms.{alignment_by, shape_of, kind_of, is_pointer, is_none, is_constant, pointed_to};
+ghost use Rattle.pv_eval.specs.TypeForms.{alignment_by, shape_of, kind_of, is_constant, pointed_to};
 ghost use Rattle.pv_eval.specs.Conversions.{how_to_int};
 ghost use Rattle.pv_eval.specs.Suiting.{is_size};
 ghost use Rattle.pv_eval.specs.Sizes.{size_in, number_in, alignment_in, how_in, element_in, IsComplete, points};
@@ -90,7 +90,7 @@ pub(crate) fn pointee(types: &Types, t: TypeId) -> Option<TypeId>
 
 /// Whether a value of the type is nothing: `void` (C17 6.2.5p19).
 pub(crate) fn is_none(types: &Types, t: TypeId) -> bool
-    ensures { result ≡ is_none (tree types.now t.0) }
+    ensures { result ≡ is_void (tree types.now t.0) }
 {
     let mut at = t;
     'layers: loop {

@@ -18,7 +18,8 @@ use Rattle.pv_eval.specs.Sequenced.{Given, with_given, work, operand, done}
 use Rattle.pv_eval.specs.Steps.{Calling, reading}
 use Rattle.pv_eval.specs.Evaluation.{ev}
 use Rattle.pv_eval.specs.Operations.{Moves, Follows}
-use Rattle.pv_eval.specs.TypeForms.{lvalue, is_pointer, is_none, element_size}
+use Rattle.pv_eval.specs.TypeForms.{lvalue, element_size}
+use Rattle.pv_types.specs.Sorts.{is_void as is_none, is_pointer}
 use Rattle.pv_eval.specs.Stack.{rest}
 use Rattle.pv_eval.specs.Frames.{after}
 use Rattle.pv_eval.specs.Ahead.{now_does, stack}

@@ -20,7 +20,8 @@ use Rattle.pv_eval.specs.declared.frames.Stage.TheVariants as stage
 use Rattle.pv_eval.specs.declared.frames.Now.{Now}
 use Rattle.pv_eval.specs.declared.frames.Now.TheVariants as now
 use Rattle.pv_eval.specs.States.{Setting, State, Res, Stops, Unreached}
-use Rattle.pv_eval.specs.TypeForms.{lvalue, kind_of, is_pointer, is_none, element_size, pointed_to}
+use Rattle.pv_eval.specs.TypeForms.{lvalue, kind_of, element_size, pointed_to}
+use Rattle.pv_types.specs.Sorts.{is_void as is_none, is_pointer}
 use Rattle.pv_eval.specs.Conversions.{how_to}
 use Rattle.pv_eval.specs.Operations.{Finds, Asks, Converts, Calculates, CalculatesOne, Tests, Negates, Moves, Subtracts, Orders, Equals, Follows, Selects, TakesPart}
 use Rattle.pv_eval.specs.Sequenced.{Given, with_given}

@@ -7,7 +7,8 @@ ghost use Rattle.pv_typed.specs.Mains.{main_text, named_main};
 ghost use Rattle.pv_typed.specs.Tables.{whole};
 ghost use Rattle.pv_world.specs.Coming.{worth_of};
 ghost use Rattle.pv_eval.specs.States.{Setting};
-ghost use Rattle.pv_eval.specs.TypeForms.{is_none, gives_none};
+ghost use Rattle.pv_eval.specs.TypeForms.{gives_none};
+ghost use Rattle.pv_types.specs.Sorts.{is_void};
 ghost use Rattle.pv_eval.specs.Runnable.{IsRunnable};
 ghost use Rattle.pv_exec.specs.Calls.{value_at_end, value_by};
 ghost use Rattle.pv_exec.specs.Works.{flow_of};
@@ -21,7 +22,7 @@ use pv_world::Got;
 // Whether a type is `void`, qualifiers aside.
 fn is_none(types: &Types, t: TypeId) -> bool
     requires { t.0 < length types.now.terms }
-    ensures { result ≡ is_none (tree types.now t.0) }
+    ensures { result ≡ is_void (tree types.now t.0) }
 {
     let mut at = t;
     'layers: loop {

@@ -1,7 +1,7 @@
 -- The laws: from what holds of pieces of a run to what is said of expressions and operations (C17 6.3, 6.5).
 use Rattle.std.proofs.Common.{◌≡◌, ℕ, List, [], ◌∷◌, sym, subst}
 use Rattle.pv_types.specs.Ty.{Ty, Tys, NoTys, MoreTys}
-use Rattle.pv_layout.specs.Parts.{bare}
+use Rattle.pv_types.specs.Sorts.{bare}
 use Rattle.pv_seq.specs.Sequencing.{Access}
 use Rattle.pv_typed.specs.TypedTree.{TypedTree}
 use Rattle.pv_library.specs.declared.library.Library.{Library}

@@ -7,7 +7,7 @@ use Rattle.std.proofs.Common.{◌≡◌, ℕ, zero, suc, ◌<◌, pos, false, tr
 use Rattle.pv_num.specs.declared.kinds.IntKind.TheVariants.{Int}
 use Rattle.pv_num.specs.declared.operators.BinOp.TheVariants.{Add}
 use Rattle.pv_types.specs.Ty.{Ty, Tys, NoTys, MoreTys, VoidTy, IntTy, FunctionTy}
-use Rattle.pv_layout.specs.Parts.{bare}
+use Rattle.pv_types.specs.Sorts.{bare}
 use Rattle.pv_typed.specs.Known.{Each}
 use Rattle.pv_typed.specs.Mains.{literal_text, heap_text, main_text}
 use Rattle.pv_typed.specs.TypedTree.{TypedTree, Node, Constant, Object, Call, Read, Assign, Arithmetic, NoArguments, MoreArguments}

@@ -1,5 +1,5 @@
 -- Typed expressions are evaluated with the guards as without them, and give values of their types (C17 6.5).
-use Rattle.std.proofs.Common.{append_assoc, append-nil, [], ◌∷◌, ◌++◌, ◌≡◌, ℕ, refl, sym, ap, subst, ◌∙◌, Bool, true, false, List, inl, inr, None}
+use Rattle.std.proofs.Common.{append_assoc, append-nil, [], ◌∷◌, ◌++◌, ◌≡◌, ℕ, refl, sym, ap, subst, Bool, true, false, List, inl, inr, None}
 use Rattle.std.specs.Prelude.{◌≤◌, ◌^◌, pos, not, if◌then◌else◌, Option}
 use Rattle.pv_num.specs.declared.kinds.IntKind.{IntKind}
 use Rattle.pv_num.specs.declared.kinds.IntKind.TheVariants.{Int}
@@ -10,14 +10,14 @@ use Rattle.pv_typed.specs.declared.nodes.IncrementOperator.{IncrementOperator}
 use Rattle.pv_typed.specs.TypedUnits.{layouts}
 use Rattle.pv_guards.proofs.Numbers.{promoted_widens, promoted_is, one_fits}
 use Rattle.pv_types.specs.Ty.{Ty, Tys, NoTys, MoreTys, VoidTy, IntTy, PointerTo, ArrayOf, StructTag, UnionTag, FunctionTy, ConstOf}
-use Rattle.pv_layout.specs.Parts.{bare}
-use Rattle.pv_typed.specs.TypedTree.{TypedTree, Node, Form, Arguments, NoArguments, MoreArguments, line_of, Constant, Object, Function, String, Subscript, Call, CallPointer, LibraryCall, Member, MemberOfValue, Arrow, Increment, Address, Indirection, Unary, Not, Sizeof, Cast, Arithmetic, PointerSum, PointerDifference, PointerOrder, PointerEquality, LogicalAnd, LogicalOr, Conditional, Assign, CompoundAssign, PointerAssign, Comma, Read, ArrayPointer, Convert, type_of, is_void}
+use Rattle.pv_types.specs.Sorts.{bare, is_void, is_pointer}
+use Rattle.pv_typed.specs.TypedTree.{TypedTree, Node, Form, Arguments, NoArguments, MoreArguments, line_of, Constant, Object, Function, String, Subscript, Call, CallPointer, LibraryCall, Member, MemberOfValue, Arrow, Increment, Address, Indirection, Unary, Not, Sizeof, Cast, Arithmetic, PointerSum, PointerDifference, PointerOrder, PointerEquality, LogicalAnd, LogicalOr, Conditional, Assign, CompoundAssign, PointerAssign, Comma, Read, ArrayPointer, Convert, type_of}
 use Rattle.pv_seq.specs.Sequencing.{Access, Open, opened, sequence_point, beside, rivals, noted}
 use Rattle.pv_world.specs.declared.got.How.TheVariants.{Rounds}
 use Rattle.pv_world.specs.Worlds.{Worth, Nothing, Missing, Scalar, Whole, World}
 use Rattle.pv_world.specs.Worths.{int, is_true, pointer_of, value_of}
 use Rattle.pv_eval.specs.States.{Setting, State, Res, Gives}
-use Rattle.pv_eval.specs.TypeForms.{Lvalue, lvalue, kind_of, is_pointer, is_none, element_size, pointed_to}
+use Rattle.pv_eval.specs.TypeForms.{Lvalue, lvalue, kind_of, element_size, pointed_to}
 use Rattle.pv_num.specs.Kinds.{promoted}
 use Rattle.pv_eval.specs.Conversions.{how_to}
 use Rattle.pv_eval.specs.Accesses.{access_to}
@@ -249,22 +249,12 @@ module _ (b : Setting) (os : List ℕ)
   own-value : (a : TypedTree) (t : Ty) → HasValue a t → (w : World) (v : Worth) → Value b w (given_type a) v → Value b w t v
   own-value a t e w v h = subst (λ u. Value b w u v) e.1 h
 
-  none_is_void : (t : Ty) → is_none t ≡ is_void t
-  none_is_void VoidTy = refl
-  none_is_void (ConstOf t) = none_is_void t
-  none_is_void (IntTy k) = refl
-  none_is_void (PointerTo t) = refl
-  none_is_void (ArrayOf t n) = refl
-  none_is_void (StructTag n) = refl
-  none_is_void (UnionTag n) = refl
-  none_is_void (FunctionTy t ts c) = refl
-
-  followed-by : (c : Bool) (s : Ty) → is_void s ≡ c → FollowsTo (is_none (if c then VoidTy else s)) (if not (is_void (if c then VoidTy else s)) then PointerTo (if c then VoidTy else s) else (if c then VoidTy else s))
+  followed-by : (c : Bool) (s : Ty) → is_void s ≡ c → FollowsTo (is_void (if c then VoidTy else s)) (if not (is_void (if c then VoidTy else s)) then PointerTo (if c then VoidTy else s) else (if c then VoidTy else s))
   followed-by true s e = refl
-  followed-by false s e = subst (λ c. FollowsTo c (if not (is_void s) then PointerTo s else s)) (sym (none_is_void s ∙ e)) (s, if-true (not (is_void s)) (PointerTo s) s (ap not e))
+  followed-by false s e = subst (λ c. FollowsTo c (if not (is_void s) then PointerTo s else s)) (sym e) (s, if-true (not (is_void s)) (PointerTo s) s (ap not e))
 
-  followed : (s t : Ty) → t ≡ pointee_type s → FollowsTo (is_none t) (given_by t (Indirection (Node t 0 true (Constant (pos 0)))))
-  followed s t e = subst (λ t. FollowsTo (is_none t) (if not (is_void t) then PointerTo t else t)) (sym e) (followed-by (is_void s) s refl)
+  followed : (s t : Ty) → t ≡ pointee_type s → FollowsTo (is_void t) (given_by t (Indirection (Node t 0 true (Constant (pos 0)))))
+  followed s t e = subst (λ t. FollowsTo (is_void t) (if not (is_void t) then PointerTo t else t)) (sym e) (followed-by (is_void s) s refl)
 
   -- 6.5.16.2p3, 6.5.2.4p2: the operator, and back to the kind of the lvalue
   combining-way : (w : World) (line : ℕ) (o : BinOp) (k back : IntKind) (v x : Worth) → Promised b os w (op.Calculates o k v x) (IntTy (yielded_kind o k)) → Holds order (Is (IntTy back)) w (combining b line o k back v x) (plain.combining b line o k back v x)
@@ -459,7 +449,7 @@ module _ (b : Setting) (os : List ℕ)
           work-way z line (op.TakesPart n (lvalue b t) v) t j (type_of a, own-value a (type_of a) h.1 z v q, h.4, h.2, h.3, refl, h.5))
       form-typed t line (Indirection a) h fs w =
           operand-way w (given_type a) (given_by t (Indirection a)) (opened fs) (ev b call a) (plainly.ev b call' a) _ _ (λ fs. ev-typed a h.1 fs w) (λ j v z f q.
-          work-way z line (op.Follows (is_none t) v) (given_by t (Indirection a)) j (h.0, own-value a (PointerTo h.0) h.2 z v q, followed h.0 t h.3))
+          work-way z line (op.Follows (is_void t) v) (given_by t (Indirection a)) j (h.0, own-value a (PointerTo h.0) h.2 z v q, followed h.0 t h.3))
       form-typed t line (Subscript a d) h fs w =
           operand-way w (given_type a) (PointerTo t) (opened fs) (ev b call a) (plainly.ev b call' a) _ _ (λ fs. ev-typed a h.0 fs w) (λ j v z f q.
           operand-way z (given_type d) (PointerTo t) j (ev b call d) (plainly.ev b call' d) _ _ (λ fs. ev-typed d h.2 fs z) (λ j x y g r.

@@ -11,7 +11,7 @@ use Rattle.pv_libc.specs.declared.values.Arg.{Arg}
 use Rattle.pv_inst.specs.declared.values.Tried.{Tried}
 use Rattle.pv_types.specs.Ty.{Ty, VoidTy, IntTy, PointerTo, ArrayOf, StructTag, UnionTag, FunctionTy, ConstOf}
 use Rattle.pv_types.specs.Layouts.{layout_in}
-use Rattle.pv_layout.specs.Parts.{bare}
+use Rattle.pv_types.specs.Sorts.{bare}
 use Rattle.pv_inst.specs.declared.values.Instance.{Instance}
 use Rattle.pv_inst.specs.Infos.{base_of}
 use Rattle.pv_inst.specs.Table.{Table, instance_at, IsNumber}

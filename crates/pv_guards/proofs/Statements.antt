@@ -6,7 +6,7 @@ use Rattle.std.proofs.lemmas.Option.{none-some}
 use Rattle.pv_num.specs.declared.kinds.IntKind.TheVariants.{Int}
 use Rattle.pv_types.specs.Ty.{Ty, VoidTy, IntTy, PointerTo, ArrayOf, StructTag, UnionTag, FunctionTy, ConstOf}
 use Rattle.pv_types.specs.Layouts.{Entry}
-use Rattle.pv_layout.specs.Parts.{bare}
+use Rattle.pv_types.specs.Sorts.{bare, is_void as is_none}
 use Rattle.pv_typed.specs.Known.{Each}
 use Rattle.pv_typed.specs.TypedTree.{TypedTree, line_of}
 use Rattle.pv_typed.specs.TypedStatement.{TypedStatement, Block, Declare, Expression, Empty, If, IfElse, Switch, Case, Default, While, DoWhile, For, ForDeclaration, Continue, Break, Return, Statements, NoStatements, MoreStatements}
@@ -14,7 +14,7 @@ use Rattle.pv_typed.specs.TypedUnits.{TypedObject, Store, StoredValue, ValueOf, 
 use Rattle.pv_world.specs.Worlds.{Worth, Nothing, Missing, World, Bindings}
 use Rattle.pv_world.specs.Worths.{is_true, int_of}
 use Rattle.pv_eval.specs.States.{Setting, State, Res, Gives, then_do, tick, spend}
-use Rattle.pv_eval.specs.TypeForms.{lvalue, size_of, is_none}
+use Rattle.pv_eval.specs.TypeForms.{lvalue, size_of}
 use Rattle.pv_eval.specs.Sequenced.{Given}
 use Rattle.pv_eval.specs.Steps.{converted, handed}
 use Rattle.pv_eval.specs.Evaluation.{ev}

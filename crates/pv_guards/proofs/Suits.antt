@@ -9,7 +9,7 @@ use Rattle.pv_num.specs.Kinds.{fits_of}
 use Rattle.pv_num.specs.Arithmetic.{IsPromoted}
 use Rattle.pv_types.specs.Ty.{Ty, VoidTy, IntTy, PointerTo, ArrayOf, StructTag, UnionTag, FunctionTy, ConstOf}
 use Rattle.pv_types.specs.Layouts.{Entry, is_complete_in}
-use Rattle.pv_layout.specs.Parts.{bare}
+use Rattle.pv_types.specs.Sorts.{bare}
 use Rattle.pv_typed.specs.TypedUnits.{layouts}
 use Rattle.pv_seq.specs.Sequencing.{Access}
 use Rattle.pv_object.specs.declared.values.Scalar.TheVariants as scalar

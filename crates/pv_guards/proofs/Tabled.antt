@@ -13,7 +13,7 @@ use Rattle.pv_num.specs.Arithmetic.{one_if, binary_of}
 use Rattle.pv_num.proofs.Congruence.{equal_fits}
 use Rattle.pv_types.specs.Ty.{Ty, VoidTy, IntTy, PointerTo, ArrayOf, StructTag, UnionTag, FunctionTy, ConstOf}
 use Rattle.pv_types.specs.Layouts.{layout_in}
-use Rattle.pv_layout.specs.Parts.{bare}
+use Rattle.pv_types.specs.Sorts.{bare}
 use Rattle.pv_prov.specs.declared.names.Prov.{Prov}
 use Rattle.pv_prov.specs.declared.names.Prov.TheVariants.{Empty, Inst, Pair}
 use Rattle.pv_inst.specs.declared.values.Instance.{Instance}

@@ -1,6 +1,6 @@
 -- What a value of a type is in the eyes of the questions that operations ask.
 use Rattle.std.proofs.Common.{inl, inr, ◌≡◌, ℕ, ◌+◌, ◌≤◌, refl, sym, subst, ℤ, pos, neg_ℤ, arith, true, ◌&&◌, int_le, List, length}
-use Rattle.pv_layout.specs.Parts.{bare}
+use Rattle.pv_types.specs.Sorts.{bare}
 use Rattle.std.specs.Prelude.{◌⊎◌, ◌≤ℤ◌, ◌^◌, ◌-◌}
 use Rattle.std.proofs.lemmas.Int.{ints}
 use Rattle.std.proofs.lemmas.Bool.{le-leb, lt-ltb}

@@ -8,7 +8,8 @@ use Rattle.pv_seq.specs.Sequencing.{Access, Open, opened, sequence_point}
 use Rattle.pv_world.specs.Worlds.{Worth}
 use Rattle.pv_eval.specs.States.{Setting, State, Res, then_do}
 use Rattle.pv_world.specs.Worths.{int, is_true}
-use Rattle.pv_eval.specs.TypeForms.{lvalue, kind_of, is_pointer, is_none, element_size, pointed_to}
+use Rattle.pv_eval.specs.TypeForms.{lvalue, kind_of, element_size, pointed_to}
+use Rattle.pv_types.specs.Sorts.{is_void, is_pointer}
 use Rattle.pv_eval.specs.Conversions.{how_to}
 use Rattle.pv_world.specs.declared.got.How.TheVariants.{Rounds}
 use Rattle.pv_eval.specs.Operations.{Converts, Calculates, CalculatesOne, Tests, Negates, Moves, Subtracts, Orders, Equals, Follows, Selects, TakesPart, NamesObject, NamesLiteral, NamesFunction, Finds, Asks}
@@ -39,7 +40,7 @@ abbrev mutual
   ev_form b call t line (Convert x) fs s = operand (ev b call x) (opened fs) s done
   ev_form b call t line (Address x) fs s = operand (ev b call x) (opened fs) s done
   -- 6.5.3.2p4, 6.5.2.1p2
-  ev_form b call t line (Indirection x) fs s = operand (ev b call x) (opened fs) s (λ j v s. work b line (Follows (is_none t) v) j s)
+  ev_form b call t line (Indirection x) fs s = operand (ev b call x) (opened fs) s (λ j v s. work b line (Follows (is_void t) v) j s)
   ev_form b call t line (Subscript x y) fs s =
       operand (ev b call x) (opened fs) s (λ j v s. operand (ev b call y) j s (λ j w s.
       work b line (Moves false (is_pointer (type_of x)) (element_size b (if is_pointer (type_of x) then type_of x else type_of y)) v w) j s))

@@ -5,7 +5,7 @@ use Rattle.pv_num.specs.declared.kinds.IntKind.TheVariants.{Int, Long}
 use Rattle.pv_num.specs.Kinds.{Fits}
 use Rattle.pv_num.specs.Arithmetic.{IsPromoted, yielded_kind}
 use Rattle.pv_types.specs.Ty.{Ty, VoidTy, IntTy, PointerTo}
-use Rattle.pv_layout.specs.Parts.{bare}
+use Rattle.pv_types.specs.Sorts.{bare}
 use Rattle.pv_typed.specs.TypedUnits.{layouts}
 use Rattle.pv_world.specs.declared.got.How.{How}
 use Rattle.pv_world.specs.declared.got.How.TheVariants.{Rounds}

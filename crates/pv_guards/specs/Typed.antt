@@ -7,9 +7,9 @@ use Rattle.pv_num.specs.Kinds.{Fits}
 use Rattle.pv_num.specs.Arithmetic.{IsPromoted, yielded_kind}
 use Rattle.pv_types.specs.Ty.{Ty, Tys, VoidTy, IntTy, PointerTo, StructTag, UnionTag, FunctionTy, NoTys, MoreTys}
 use Rattle.pv_types.specs.Layouts.{Entry, layout_in, is_complete_in}
-use Rattle.pv_layout.specs.Parts.{bare}
+use Rattle.pv_types.specs.Sorts.{bare, is_void}
 use Rattle.pv_typed.specs.Constants.{is_shift}
-use Rattle.pv_typed.specs.TypedTree.{TypedTree, Node, Form, Constant, Object, Function, String, Subscript, Call, CallPointer, LibraryCall, Member, MemberOfValue, Arrow, Increment, Address, Indirection, Unary, Not, Sizeof, Cast, Arithmetic, PointerSum, PointerDifference, PointerOrder, PointerEquality, LogicalAnd, LogicalOr, Conditional, Assign, CompoundAssign, PointerAssign, Comma, Read, ArrayPointer, Convert, Arguments, NoArguments, MoreArguments, type_of, is_place, is_lvalue, is_void}
+use Rattle.pv_typed.specs.TypedTree.{TypedTree, Node, Form, Constant, Object, Function, String, Subscript, Call, CallPointer, LibraryCall, Member, MemberOfValue, Arrow, Increment, Address, Indirection, Unary, Not, Sizeof, Cast, Arithmetic, PointerSum, PointerDifference, PointerOrder, PointerEquality, LogicalAnd, LogicalOr, Conditional, Assign, CompoundAssign, PointerAssign, Comma, Read, ArrayPointer, Convert, Arguments, NoArguments, MoreArguments, type_of, is_place, is_lvalue}
 use Rattle.pv_typed.specs.TypedUnits.{WholeUnit, layouts, object_at, function_at}
 use Rattle.pv_library.specs.declared.library.Library.{Library}
 use Rattle.pv_library.specs.declared.library.Library.TheVariants as library

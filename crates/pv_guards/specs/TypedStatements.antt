@@ -6,7 +6,7 @@ use Rattle.pv_num.specs.Kinds.{Fits}
 use Rattle.pv_num.specs.Arithmetic.{IsPromoted}
 use Rattle.pv_types.specs.Ty.{Ty, Tys, NoTys, MoreTys, IntTy, PointerTo, FunctionTy}
 use Rattle.pv_types.specs.Layouts.{layout_in, is_complete_in}
-use Rattle.pv_layout.specs.Parts.{bare}
+use Rattle.pv_types.specs.Sorts.{bare, is_void}
 use Rattle.pv_typed.specs.declared.values.Const.{Const}
 use Rattle.pv_typed.specs.declared.values.Const.TheVariants as const
 use Rattle.pv_typed.specs.Addresses.{constant_of}
@@ -15,7 +15,6 @@ use Rattle.pv_typed.specs.Mains.{main_of, named_main}
 use Rattle.pv_typed.specs.TypedTree.{TypedTree, type_of}
 use Rattle.pv_typed.specs.TypedStatement.{TypedStatement, Block, Declare, Expression, Empty, If, IfElse, Switch, Case, Default, While, DoWhile, For, ForDeclaration, Continue, Break, Return, Statements, NoStatements, MoreStatements}
 use Rattle.pv_typed.specs.TypedUnits.{WholeUnit, TypedFunction, Store, StoredValue, ValueOf, TextOf, layouts, object_at, function_at, literal_at}
-use Rattle.pv_eval.specs.TypeForms.{is_none}
 use Rattle.pv_eval.specs.Objects.{heap_name}
 use Rattle.pv_guards.specs.Typed.{IsTyped, HasType, HasValue, IsScalarType, IsValueType, AreLike, HasBody, IsIn}
 
@@ -47,7 +46,7 @@ MayBeTyped u os (Some x) = IsTyped u os x
 
 -- 6.8.6.4p1, p3: a `return` in a function with this result, which is like that of the function's definition (6.2.7p4, 6.9.1p3)
 abbrev pub IsReturned : WholeUnit → Ty → (automatic : List ℕ) → Option TypedTree → Type 0
-IsReturned u r os None = is_none r ≡ true
+IsReturned u r os None = is_void r ≡ true
 IsReturned u r os (Some x) = (q : Ty) × IsTyped u os x × HasType x (bare q) × AreLike q r
 
 -- 6.7.9p2: what is stored at one place of an initializer lies within the object
@@ -109,7 +108,7 @@ AreParameters u _ _ = ⊥
 
 -- 6.9.1p3: what a function gives: nothing, or a value
 abbrev pub IsResult : Ty → Type 0
-IsResult r = (is_none r ≡ true) ⊎ IsValueType (bare r)
+IsResult r = (is_void r ≡ true) ⊎ IsValueType (bare r)
 
 -- 6.9.1: a function that is defined has an object for each parameter, and a body; another one has neither
 abbrev pub IsDefinition : WholeUnit → Ty → Tys → (parameters : List ℕ) → Option TypedStatement → Type 0

@@ -7,7 +7,8 @@ use Rattle.pv_types.specs.LayoutParts.{part_count}
 use Rattle.pv_types.specs.Known.{Known, tree, env}
 use Rattle.pv_types.specs.Formed.{IsBuilt}
 use Rattle.pv_types.proofs.Wholes.{inner_parts, BeginsWhole, begins_whole}
-use Rattle.pv_layout.specs.Parts.{bare, some_at}
+use Rattle.pv_layout.specs.Parts.{some_at}
+use Rattle.pv_types.specs.Sorts.{bare}
 use Rattle.pv_layout.specs.declared.wanted.Sought.{Sought}
 use Rattle.pv_layout.specs.declared.wanted.Sought.TheVariants.{Leaf, Part as Whole}
 use Rattle.pv_layout.specs.Searches.{passes}

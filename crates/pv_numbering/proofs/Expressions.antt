@@ -17,7 +17,8 @@ use Rattle.pv_world.specs.Worlds.{Worth}
 use Rattle.pv_world.specs.Worths.{int, is_true, pointer_of}
 use Rattle.pv_world.specs.declared.got.How.TheVariants.{Rounds}
 use Rattle.pv_eval.specs.States.{Setting, State, Res}
-use Rattle.pv_eval.specs.TypeForms.{lvalue, kind_of, is_pointer, is_none, element_size, pointed_to}
+use Rattle.pv_eval.specs.TypeForms.{lvalue, kind_of, element_size, pointed_to}
+use Rattle.pv_types.specs.Sorts.{is_void as is_none, is_pointer}
 use Rattle.pv_num.specs.Kinds.{promoted}
 use Rattle.pv_eval.specs.Conversions.{how_to}
 use Rattle.pv_eval.specs.Accesses.{access_to}

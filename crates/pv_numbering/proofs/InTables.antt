@@ -7,7 +7,7 @@ use Rattle.pv_types.specs.declared.terms.TypeId.{TypeId}
 use Rattle.pv_types.specs.declared.terms.Term.TheVariants.{Void, Int, Pointer, Array, Struct, Union, Function, Const}
 use Rattle.pv_types.specs.Ty.{Ty, VoidTy, ConstOf}
 use Rattle.pv_types.specs.Known.{Known, at, tree, trees, tree_in, trees_of}
-use Rattle.pv_layout.specs.Parts.{bare}
+use Rattle.pv_types.specs.Sorts.{bare}
 use Rattle.pv_typed.specs.Known.{Each}
 use Rattle.pv_typed.proofs.Each.{each_weaker, each_append}
 use Rattle.pv_numbering.proofs.Folds.{fold_keeps, each_or, each_always}

@@ -7,8 +7,8 @@ use Rattle.std.proofs.lemmas.List.Sums.{passes_at_first, fails_before_first}
 use Rattle.pv_types.specs.Ty.{Ty, VoidTy, IntTy, PointerTo, ArrayOf, StructTag, UnionTag, FunctionTy, ConstOf}
 use Rattle.pv_types.specs.Known.{Known, tree, trees}
 use Rattle.pv_types.proofs.Trees.{length-trees}
-use Rattle.pv_layout.specs.Parts.{bare}
-use Rattle.pv_effect.specs.EffectiveType.{same_or_counterpart, is_character}
+use Rattle.pv_types.specs.Sorts.{bare, is_character}
+use Rattle.pv_effect.specs.EffectiveType.{same_or_counterpart}
 use Rattle.pv_types.specs.SameTypes.{same_type}
 use Rattle.pv_world.specs.declared.got.Shape.TheVariants as shape
 use Rattle.pv_eval.specs.States.{Setting}

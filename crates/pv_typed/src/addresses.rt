@@ -11,7 +11,8 @@ ghost use Rattle.pv_typed.specs.NodeTrees.{IsExpression, expression_at};
 ghost use Rattle.pv_typed.specs.Known.{AreKnown};
 ghost use Rattle.pv_typed.specs.Constants.{integer};
 ghost use Rattle.pv_typed.specs.Places.{IsNumber, IsPlace, IsDistance};
-ghost use Rattle.pv_typed.specs.Addresses.{pointee, is_pointer, size_in, within, moved, signed, stepped, added, null_if, address, place, constant_of, is_null_constant, is_null, truth_in};
+ghost use Rattle.pv_typed.specs.Addresses.{size_in, within, moved, signed, stepped, added, null_if, address, place, constant_of, is_null_constant, is_null, truth_in};
+ghost use Rattle.pv_types.specs.Sorts.{pointed_by, is_pointer};
 ghost use Rattle.pv_typed.specs.AddressParts.{lasting_at, or_zero};
 
 use crate::nodes::{Sign, Typed};
@@ -25,7 +26,7 @@ use pv_types::{Term, TypeId, Types};
 /// What a pointer type points to, qualifiers aside.
 fn pointee(types: &Types, t: TypeId) -> Option<TypeId>
     requires { t.0 < length types.now.terms }
-    ensures value { option_map (λ (e : TypeId). tree types.now e.0) result ≡ pointee (tree types.now t.0) }
+    ensures value { option_map (λ (e : TypeId). tree types.now e.0) result ≡ pointed_by (tree types.now t.0) }
     ensures known { IfSome result (λ e. e.0 < length types.now.terms) }
 {
     match types.view(t) {

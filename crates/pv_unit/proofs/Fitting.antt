@@ -4,7 +4,7 @@ use Rattle.std.proofs.lemmas.Bool.Decides.{nat_tests}
 use Rattle.pv_types.specs.Ty.{Ty, VoidTy, IntTy, PointerTo, ArrayOf, StructTag, UnionTag, FunctionTy, ConstOf}
 use Rattle.pv_types.specs.Layouts.{Entry, Layout, layout_in, is_complete_in, look}
 use Rattle.pv_types.specs.LayoutParts.{or_none}
-use Rattle.pv_layout.specs.Parts.{bare}
+use Rattle.pv_types.specs.Sorts.{bare}
 use Rattle.pv_unit.specs.Parts.{has_element, can_be_initialized}
 use Rattle.pv_unit.specs.Subobjects.{fits, HasRoom}
 

@@ -5,7 +5,7 @@ use Rattle.pv_tree.specs.Syntax.{ExpressionTree, InitializerTree, Initial, Brace
 use Rattle.pv_tree.specs.Lines.{expression_line}
 use Rattle.pv_types.specs.Ty.{Ty}
 use Rattle.pv_types.specs.Layouts.{Part, layouts_of}
-use Rattle.pv_layout.specs.Parts.{bare}
+use Rattle.pv_types.specs.Sorts.{bare}
 use Rattle.pv_typed.specs.TypedTree.{TypedTree}
 use Rattle.pv_check.specs.State.{State}
 use Rattle.pv_check.specs.State as check

@@ -9,8 +9,8 @@ use Rattle.pv_types.proofs.Counted.{AreFewer, const_count, element_fewer, member
 use Rattle.pv_types.proofs.Fills.{left_true, lt_true}
 use Rattle.pv_types.proofs.Made.{made}
 use Rattle.pv_types.proofs.Placed.{members_named}
-use Rattle.pv_layout.specs.Parts.{bare}
-use Rattle.pv_unit.specs.Parts.{part_number, first_member, part_in, part_at, has_element, leaf_within, is_scalar}
+use Rattle.pv_types.specs.Sorts.{bare, is_scalar}
+use Rattle.pv_unit.specs.Parts.{part_number, first_member, part_in, part_at, has_element, leaf_within}
 use Rattle.pv_unit.specs.PartParts.{within}
 
 abbrev part_or : Part → Option Part → Part

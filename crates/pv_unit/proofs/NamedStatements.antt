@@ -7,7 +7,7 @@ use Rattle.pv_typed.specs.TypedTree.{TypedTree, type_of}
 use Rattle.pv_typed.specs.TypedStatement.{TypedStatement}
 use Rattle.pv_typed.specs.Constants.{integer}
 use Rattle.pv_check.specs.State.{State, After, entered, left}
-use Rattle.pv_check.specs.Sorts.{is_scalar, is_void, kind_of}
+use Rattle.pv_types.specs.Sorts.{kind_of, is_scalar, is_void}
 use Rattle.pv_check.specs.Typing.{types}
 use Rattle.pv_check.specs.Values.{assigned, promoted_value}
 use Rattle.pv_unit.specs.Statements.{Around, in_loop, leaving, valued, condition, optional, Label, typed_label, label_in, typed_labels, returned, switched}

@@ -10,7 +10,7 @@ use Rattle.pv_types.specs.Known.{tree}
 use Rattle.pv_types.specs.Formed.{completions}
 use Rattle.pv_types.specs.Layouts.{Part}
 use Rattle.pv_types.specs.Ty.{Ty}
-use Rattle.pv_layout.specs.Parts.{bare}
+use Rattle.pv_types.specs.Sorts.{bare}
 use Rattle.pv_typed.specs.declared.entries.Init.{Init}
 use Rattle.pv_typed.specs.declared.entries.InitValue.TheVariants as value
 use Rattle.pv_typed.specs.Tables.{Stored, nodes, store_in}

@@ -7,7 +7,7 @@ use Rattle.pv_types.specs.declared.terms.TypeId.{TypeId}
 use Rattle.pv_types.specs.Known.{Known, tree, env}
 use Rattle.pv_types.specs.Ty.{Ty, VoidTy, IntTy, PointerTo, ArrayOf, StructTag, UnionTag, FunctionTy, ConstOf}
 use Rattle.pv_types.specs.Layouts.{Part, Entry, Completed, Layout, layout_in, layouts_of, is_complete_in}
-use Rattle.pv_layout.specs.Parts.{bare}
+use Rattle.pv_types.specs.Sorts.{bare}
 use Rattle.pv_check.specs.Growing.{AreSized}
 use Rattle.pv_check.proofs.Growth.{sized_small}
 use Rattle.pv_unit.specs.Initializers.{filled_type}

@@ -7,7 +7,7 @@ use Rattle.pv_types.specs.declared.terms.TypeId.{TypeId}
 use Rattle.pv_types.specs.Ty.{Ty, VoidTy, IntTy, PointerTo, ArrayOf, StructTag, UnionTag, FunctionTy, ConstOf}
 use Rattle.pv_types.specs.Layouts.{Entry, layout_in}
 use Rattle.pv_types.specs.Known.{tree}
-use Rattle.pv_layout.specs.Parts.{bare}
+use Rattle.pv_types.specs.Sorts.{bare}
 use Rattle.pv_layout.proofs.Ahead.{bare_size}
 use Rattle.pv_typed.specs.declared.entries.Init.{Init}
 use Rattle.pv_typed.specs.declared.entries.InitValue.TheVariants as value
@@ -21,7 +21,7 @@ use Rattle.pv_check.specs.Raw.{Raw}
 use Rattle.pv_check.proofs.ArmLaws.{goes_kept}
 use Rattle.pv_check.proofs.Opening.{open_goes, state_stays, then_goes}
 use Rattle.pv_unit.specs.declared.parts.Subobject.{Subobject}
-use Rattle.pv_unit.specs.Parts.{character_layer}
+use Rattle.pv_unit.specs.PartParts.{character_layer}
 use Rattle.pv_num.specs.Kinds.{is_character_kind}
 use Rattle.pv_unit.specs.Initializers.{characters, filled_type, filled_with}
 use Rattle.pv_unit.specs.Stores.{AreStores, Fills, behind, stores_if, stores_in}

@@ -11,7 +11,7 @@ use Rattle.pv_typed.specs.NodeTrees.{expression_at, IsExpression}
 use Rattle.pv_check.specs.Arms.{OpenIf}
 use Rattle.pv_check.specs.Open.{state_of}
 use Rattle.pv_check.specs.Raw.{Raw}
-use Rattle.pv_check.specs.Sorts.{is_scalar, is_void, kind_of}
+use Rattle.pv_types.specs.Sorts.{kind_of, is_scalar, is_void}
 use Rattle.pv_check.specs.State.{State, After, give}
 use Rattle.pv_typed.specs.Constants.{and_then}
 use Rattle.pv_check.specs.Values.{assigned, promoted_value}

@@ -6,7 +6,7 @@ use Rattle.pv_types.specs.Ty.{Ty, PointerTo, ArrayOf, FunctionTy, ConstOf}
 use Rattle.pv_types.specs.Layouts.{is_complete_in}
 use Rattle.pv_tree.specs.Syntax.{DeclaratorTree, Trees}
 use Rattle.pv_typed.specs.TypedUnits.{object_at, function_at, name_at}
-use Rattle.pv_check.specs.Sorts.{is_void}
+use Rattle.pv_types.specs.Sorts.{is_void}
 use Rattle.pv_library.specs.LibraryNames.{library_named}
 use Rattle.pv_check.specs.State.{State, ◌>>=◌, must, env, ◌>>◌}
 use Rattle.pv_typed.specs.Constants.{and_then}

@@ -10,7 +10,7 @@ use Rattle.pv_typed.specs.Constants.{and_then}
 use Rattle.pv_check.specs.Derivations.{Derivation, Signature, Steps, declared_name, derived, Parameter}
 use Rattle.pv_check.specs.Specifiers.{Specified}
 use Rattle.pv_check.specs.Typing.{steps}
-use Rattle.pv_check.specs.Sorts.{is_void}
+use Rattle.pv_types.specs.Sorts.{is_void}
 use Rattle.pv_unit.specs.Redeclarations.{UnitState, function_declared, Entity}
 use Rattle.pv_unit.specs.Definitions.{Head, may_head, head_of, defined_once, is_finished}
 

@@ -8,7 +8,7 @@ use Rattle.pv_tree.specs.Syntax.{ExpressionTree}
 use Rattle.std.specs.Prelude.{List, ◌&&◌, Bool, not, ◌||◌, None, ℕ, if◌then◌else◌, Some, Option, option_and_then, unwrap_or}
 use Rattle.pv_typed.specs.TypedTree.{TypedTree}
 use Rattle.pv_typed.specs.TypedUnits.{ValueOf}
-use Rattle.pv_layout.specs.Parts.{bare}
+use Rattle.pv_types.specs.Sorts.{bare}
 
 -- 6.7.9p14: string literals where they fill an array, or else the other shape
 abbrev pub or_shape : Option Shape → Shape → Shape

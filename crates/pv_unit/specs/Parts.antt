@@ -1,12 +1,10 @@
 -- The parts of an object that the initializers of a list in braces are for (6.7.9p17 to p20).
 use Rattle.std.specs.Prelude.{ℕ, zero, suc, ◌+◌, ◌*◌, ◌^◌, Bool, true, false, nat_lt, nat_le, if◌then◌else◌, List, [], ◌∷◌, length, Option, Some, None, option_map, option_and_then}
 use Rattle.std.specs.declared.option.Option.TheVariants.{Some as Size, None as Unknown}
-use Rattle.pv_num.specs.Kinds.{is_character_kind}
-use Rattle.pv_types.specs.Ty.{Ty, IntTy, ArrayOf, StructTag, UnionTag}
+use Rattle.pv_types.specs.Ty.{Ty, ArrayOf, StructTag, UnionTag}
 use Rattle.pv_types.specs.Layouts.{Part, Entry, Named, Placed, Completed, layout_in, layouts_of, is_complete_in}
 use Rattle.pv_types.specs.Members.{placed_in, member_part}
-use Rattle.pv_layout.specs.Parts.{bare}
-use Rattle.pv_check.specs.Sorts.{is_scalar_in}
+use Rattle.pv_types.specs.Sorts.{bare, is_scalar, is_character}
 
 -- 6.7.9p17: of these members the part of this number, from 0
 abbrev pub part_number : ℕ → List (Placed Named) → Option Part
@@ -38,10 +36,6 @@ part_at done whole i = option_map (λ (p : Part). record { offset = whole.offset
 
 -- ---- kinds of types, qualifiers aside
 
--- 6.2.5p21: a scalar type, qualifiers aside
-abbrev pub is_scalar : Ty → Bool
-is_scalar t = is_scalar_in (bare t)
-
 -- 6.2.5p21, 6.7.9p17: an array, a structure or a union, of a type without qualifiers
 abbrev pub aggregate_layer : Ty → Bool
 aggregate_layer (ArrayOf t n) = true
@@ -49,14 +43,9 @@ aggregate_layer (StructTag n) = true
 aggregate_layer (UnionTag n) = true
 aggregate_layer _ = false
 
--- 6.2.5p15: a character type, of a type without qualifiers
-abbrev pub character_layer : Ty → Bool
-character_layer (IntTy k) = is_character_kind k
-character_layer _ = false
-
 -- 6.7.9p14: a type without qualifiers is an array of characters
 abbrev pub text_layer : Ty → Bool
-text_layer (ArrayOf t n) = character_layer (bare t)
+text_layer (ArrayOf t n) = is_character t
 text_layer _ = false
 
 -- 6.7.9p14: an array of characters

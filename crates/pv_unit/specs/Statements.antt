@@ -10,7 +10,7 @@ use Rattle.pv_typed.specs.TypedStatement.{TypedStatement, Block, ForDeclaration,
 use Rattle.pv_typed.specs.TypedUnits.{object_at}
 use Rattle.pv_typed.specs.Constants.{integer, and_then}
 use Rattle.pv_check.specs.State.{State, After, Meaning, ObjectName, give, left}
-use Rattle.pv_check.specs.Sorts.{is_scalar, is_void, kind_of}
+use Rattle.pv_types.specs.Sorts.{kind_of, is_scalar, is_void}
 use Rattle.pv_check.specs.Typing.{types}
 use Rattle.pv_check.specs.Rows.{operand}
 use Rattle.pv_check.specs.Values.{assigned, promoted_value}

@@ -7,7 +7,7 @@ ghost use Rattle.pv_check.specs.Derivations.{Signature as WholeSignature, derive
 ghost use Rattle.pv_check.specs.Raw.{Raw};
 ghost use Rattle.pv_check.specs.Stepping.{steps_in, AreSteps};
 ghost use Rattle.pv_check.specs.Open.{state_of, IsOpen, Goes};
-ghost use Rattle.pv_check.specs.Sorts.{is_void};
+ghost use Rattle.pv_types.specs.Sorts.{is_void};
 ghost use Rattle.pv_unit.specs.Definitions.{may_be_defined, defined_once, head_of, head, may_head};
 ghost use Rattle.pv_unit.specs.HeadParts.{head_derived, head_signed, head_stepped, head_specified, is_definable, head_function, may_define, may_return};
 ghost use Rattle.pv_check.specs.Declarators.{parameter_shown, parameters_shown, steps_shown, StepsKnown};

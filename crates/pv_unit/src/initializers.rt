@@ -5,7 +5,7 @@ ghost use Rattle.pv_types.specs.Formed.{completions};
 ghost use Rattle.pv_types.specs.Layouts.{layout_in, is_complete_in};
 ghost use Rattle.pv_types.specs.Ty.{ArrayOf};
 ghost use Rattle.pv_tree.specs.Tables.{expression_at as expression_of, initializer_at, is_expression, is_initializer, Is};
-ghost use Rattle.pv_layout.specs.Parts.{bare};
+ghost use Rattle.pv_types.specs.Sorts.{bare};
 ghost use Rattle.pv_typed.specs.Known.{AreKnown};
 ghost use Rattle.pv_typed.specs.NodeTrees.{expression_at, IsExpression};
 ghost use Rattle.pv_check.specs.Growing.{AreSized, IsType, type_if};

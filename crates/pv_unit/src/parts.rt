@@ -2,12 +2,12 @@
 ghost use Rattle.std.specs.Prelude.{◌≡◌, ◌<◌, ◌≤◌, ◌+◌, ◌*◌, ◌^◌, length, IsTrue, is_some, option_map, false, true};
 ghost use Rattle.pv_types.specs.Known.{tree, trees, tree_in, env};
 ghost use Rattle.pv_types.specs.Formed.{members_in, is_union_in, completions, PartsBelow, IsTagged, IsBuilt};
-ghost use Rattle.pv_layout.specs.Parts.{bare};
+ghost use Rattle.pv_types.specs.Sorts.{bare, is_scalar};
 ghost use Rattle.pv_types.specs.Layouts.{layout_in, is_complete_in, look};
 ghost use Rattle.pv_types.specs.LayoutParts.{or_none};
-ghost use Rattle.pv_unit.specs.Parts.{character_layer, is_text, has_element, part_in, part_at, first_leaf, is_scalar};
+ghost use Rattle.pv_unit.specs.Parts.{is_text, has_element, part_in, part_at, first_leaf};
 ghost use Rattle.pv_num.specs.Kinds.{is_character_kind};
-ghost use Rattle.pv_unit.specs.PartParts.{within, is_aggregate};
+ghost use Rattle.pv_unit.specs.PartParts.{within, is_aggregate, character_layer};
 ghost use Rattle.pv_types.specs.Ty.{ArrayOf, StructTag, UnionTag};
 ghost use Rattle.pv_check.specs.Growing.{AreSized};
 ghost use Rattle.pv_unit.specs.Subobjects.{part_of, IsPart, IsInner, IsInnerIf, HasRoom};

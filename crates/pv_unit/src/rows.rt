@@ -7,7 +7,7 @@ ghost use Rattle.pv_typed.specs.NodeTrees.{expression_at, IsExpression, IsStatem
 ghost use Rattle.pv_check.specs.Arms.{after_node};
 ghost use Rattle.pv_check.specs.Kept.{expression_if};
 ghost use Rattle.pv_check.specs.Open.{state_of, IsOpen};
-ghost use Rattle.pv_check.specs.Sorts.{is_scalar, kind_of};
+ghost use Rattle.pv_types.specs.Sorts.{kind_of, is_scalar};
 ghost use Rattle.pv_check.specs.State.{give};
 ghost use Rattle.pv_typed.specs.Constants.{and_then};
 ghost use Rattle.pv_check.specs.Values.{assigned, promoted_value};

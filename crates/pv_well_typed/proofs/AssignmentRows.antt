@@ -15,8 +15,8 @@ use Rattle.pv_typed.specs.TypedTree.{TypedTree, Assign, CompoundAssign, PointerA
 use Rattle.pv_typed.specs.TypedUnits.{WholeUnit}
 use Rattle.pv_check.specs.Kinds.{common}
 use Rattle.pv_num.specs.Kinds.{promoted}
-use Rattle.pv_check.specs.Qualified.{unqualified}
-use Rattle.pv_check.specs.Sorts.{kind_in, kind_of, pointed_in, pointed_by, complete_pointed_by}
+use Rattle.pv_check.specs.Sorts.{complete_pointed_by}
+use Rattle.pv_types.specs.Sorts.{kind_in, kind_of, pointed_in, pointed_by, bare as unqualified}
 use Rattle.pv_check.specs.Values.{written, converted, assigned, is_modifiable}
 use Rattle.pv_check.specs.Assignment.{compound_at, arithmetic_assign, shift_assign, sum_assign, assign_by, assign_of, comma_of}
 use Rattle.pv_check.specs.AssignmentParts.{assigned_to, simple_of, arithmetic_kinds, shift_kinds, step_to, pointer_assign}

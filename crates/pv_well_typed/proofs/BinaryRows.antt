@@ -17,7 +17,8 @@ use Rattle.pv_typed.specs.TypedTree.{TypedTree, Arithmetic, PointerSum, PointerD
 use Rattle.pv_typed.specs.TypedUnits.{WholeUnit, layouts}
 use Rattle.pv_check.specs.Kinds.{common}
 use Rattle.pv_num.specs.Kinds.{promoted}
-use Rattle.pv_check.specs.Sorts.{kind_of, pointed_by, complete_pointed_by, is_scalar, are_alike, is_void_beside}
+use Rattle.pv_check.specs.Sorts.{complete_pointed_by, are_alike, is_void_beside}
+use Rattle.pv_types.specs.Sorts.{kind_of, pointed_by, is_scalar}
 use Rattle.std.specs.Option.{option_or}
 use Rattle.pv_check.specs.Values.{written, converted}
 use Rattle.pv_check.specs.Equality.{equality, right_converted, left_converted, equal_at, pointers_equal}

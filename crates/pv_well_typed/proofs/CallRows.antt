@@ -7,8 +7,7 @@ use Rattle.pv_types.specs.Ty.{Ty, Tys, NoTys, MoreTys, VoidTy, IntTy, PointerTo,
 use Rattle.pv_typed.specs.Known.{Each}
 use Rattle.pv_typed.specs.TypedTree.{TypedTree, Call, CallPointer, LibraryCall, arguments_of, type_of}
 use Rattle.pv_typed.specs.TypedUnits.{WholeUnit, layouts, function_at}
-use Rattle.pv_check.specs.Qualified.{unqualified}
-use Rattle.pv_check.specs.Sorts.{is_void, pointed_by}
+use Rattle.pv_types.specs.Sorts.{pointed_by, is_void, bare as unqualified}
 use Rattle.pv_check.specs.Values.{written, promoted_value, assigned}
 use Rattle.pv_check.specs.Calls.{further, passed, may_pass, called, call_at, call_to}
 use Rattle.pv_check.specs.CallParts.{more, library_call, program_call, pointed_call, call_through, call_of}

@@ -9,9 +9,10 @@ use Rattle.pv_typed.specs.TypedTree.{TypedTree, Conditional, type_of, is_functio
 use Rattle.pv_typed.specs.TypedUnits.{WholeUnit}
 use Rattle.pv_check.specs.Kinds.{common}
 use Rattle.pv_types.specs.Qualifiers.{is_const}
-use Rattle.pv_check.specs.Qualified.{unqualified, qualified_if}
+use Rattle.pv_check.specs.Qualified.{qualified_if}
 use Rattle.pv_types.specs.SameTypes.{same_type as same}
-use Rattle.pv_check.specs.Sorts.{is_scalar, are_alike, has_void}
+use Rattle.pv_check.specs.Sorts.{are_alike, has_void}
+use Rattle.pv_types.specs.Sorts.{is_scalar, bare as unqualified}
 use Rattle.pv_check.specs.Composite.{composite}
 use Rattle.pv_check.specs.Values.{written, converted}
 use Rattle.pv_check.specs.Conditional.{pointer_type, result_type, conditional_of}

@@ -15,11 +15,12 @@ use Rattle.pv_num.proofs.Congruence.{equal_fits}
 use Rattle.pv_num.proofs.Members.{binary_fits, unary_fits}
 use Rattle.pv_types.specs.Layouts.{up_to, layout_in, is_complete_in}
 use Rattle.pv_types.specs.Ty.{Ty, VoidTy, IntTy, PointerTo, ArrayOf, StructTag, UnionTag, FunctionTy, ConstOf}
-use Rattle.pv_typed.specs.Addresses.{pointee, is_pointer, size_in, within, moved, signed, stepped, added, null_if, address, address_form, place, place_form, constant_of, truth_in, is_null}
+use Rattle.pv_typed.specs.Addresses.{size_in, within, moved, signed, stepped, added, null_if, address, address_form, place, place_form, constant_of, truth_in, is_null}
 use Rattle.pv_typed.specs.AddressParts.{or_zero, lasting_at}
 use Rattle.std.specs.Option.{option_or}
 use Rattle.std.specs.Result.{result_ok}
-use Rattle.pv_typed.specs.Constants.{and_then, int_kind, is_integer, is_built, constant_in, converted_in, is_shift, suits, unary_in, arithmetic_in, number, number_form, integer}
+use Rattle.pv_typed.specs.Constants.{and_then, is_integer, is_built, constant_in, converted_in, is_shift, suits, unary_in, arithmetic_in, number, number_form, integer}
+use Rattle.pv_types.specs.Sorts.{kind_of as int_kind, pointed_by as pointee, is_pointer}
 use Rattle.pv_typed.specs.declared.nodes.Sign.{Sign}
 use Rattle.pv_typed.specs.declared.nodes.Sign.TheVariants.{Plus}
 use Rattle.pv_typed.specs.declared.values.Const.{Const}

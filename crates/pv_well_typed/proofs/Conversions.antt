@@ -7,7 +7,7 @@ use Rattle.pv_types.specs.Ty.{Ty, VoidTy, IntTy, PointerTo, ArrayOf, StructTag, 
 use Rattle.pv_typed.specs.Addresses.{is_null_constant}
 use Rattle.pv_typed.specs.TypedTree.{TypedTree, Node, Form, type_of}
 use Rattle.pv_typed.specs.TypedUnits.{WholeUnit}
-use Rattle.pv_check.specs.Qualified.{unqualified}
+use Rattle.pv_types.specs.Sorts.{bare as unqualified}
 use Rattle.pv_types.specs.SameTypes.{same_type as same}
 use Rattle.pv_check.specs.Values.{converted, may_assign, assigned}
 use Rattle.pv_check.proofs.Same.{same_equal, same_itself}

@@ -14,7 +14,8 @@ use Rattle.pv_check.specs.declared.specifiers.Storage.{Storage}
 use Rattle.pv_check.specs.declared.words.TypeWords.{TypeWords}
 use Rattle.pv_check.specs.Derivations.{Derivation, ByPointer, ByArray, ByFunction, step, derived, adjusted}
 use Rattle.pv_check.specs.DerivationParts.{pointer_to, function_of}
-use Rattle.pv_check.specs.Qualified.{qualified, with_const, unqualified}
+use Rattle.pv_check.specs.Qualified.{qualified, with_const}
+use Rattle.pv_types.specs.Sorts.{bare as unqualified}
 use Rattle.pv_check.specs.Sorts.{is_array}
 use Rattle.pv_typed.specs.TypedTree.{is_function}
 use Rattle.pv_check.specs.Specifiers.{Seen, Specified, one_storage, with_keyword, with_type, base_type, specified, is_plain}

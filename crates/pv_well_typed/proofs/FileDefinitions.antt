@@ -5,7 +5,7 @@ use Rattle.std.specs.Bool.{beq}
 use Rattle.std.proofs.lemmas.Bool.{eqb-true}
 use Rattle.pv_tree.specs.Syntax.{DeclaratorTree, StatementTree, Block, ExpressionStatement, If, IfElse, While, DoWhile, For, ForDeclaration, Switch, SwitchBlock, Labelled, Case, Default, Break, Continue, Return, Trees}
 use Rattle.pv_num.specs.declared.kinds.IntKind.TheVariants.{Int}
-use Rattle.pv_layout.specs.Parts.{bare}
+use Rattle.pv_types.specs.Sorts.{bare, is_void}
 use Rattle.pv_types.specs.Layouts.{Entry, is_complete_in}
 use Rattle.pv_types.specs.Ty.{Ty, Tys, NoTys, MoreTys, VoidTy, IntTy, PointerTo, ArrayOf, StructTag, UnionTag, FunctionTy, ConstOf}
 use Rattle.pv_typed.specs.Adding.{with_param}
@@ -18,8 +18,7 @@ use Rattle.pv_typed.specs.TypedUnits.{WholeUnit, TypedObject, TypedFunction, lay
 use Rattle.pv_typed.specs.UnitParts.{no_function}
 use Rattle.pv_check.specs.Derivations.{Derivation, ByFunction, Parameter as OneParameter, Signature, Steps, parameter_types, declared_name, derived, step}
 use Rattle.pv_library.specs.LibraryNames.{library_named}
-use Rattle.pv_check.specs.Qualified.{unqualified}
-use Rattle.pv_check.specs.Sorts.{is_void, is_array}
+use Rattle.pv_check.specs.Sorts.{is_array}
 use Rattle.pv_typed.specs.TypedTree.{is_function}
 use Rattle.pv_check.specs.Specifiers.{Specified}
 use Rattle.pv_check.specs.State.{State, After, Scope, Meaning, innermost, env, left}
@@ -34,7 +33,6 @@ use Rattle.pv_unit.specs.FunctionParts.{with_body, with_definition}
 use Rattle.pv_unit.specs.Statements.{declared_in, block_of}
 use Rattle.pv_unit.specs.TypedStatements.{typed_items}
 use Rattle.pv_eval.specs.Objects.{heap_name}
-use Rattle.pv_eval.specs.TypeForms.{is_none}
 use Rattle.pv_guards.specs.Typed.{AreLike, AreAllLike, AreFixed, IsSignature, IsIn, IsValueType}
 use Rattle.pv_guards.specs.TypedStatements.{AreNew, AreParameters, IsDefinition}
 use Rattle.pv_guards.specs.Worths.{IsOfType}
@@ -120,7 +118,7 @@ left-within x ss ts h =
 -- ---- parameters (6.9.1p7, p10)
 
 -- qualifiers around a type leave its values
-unqualified-like : (t : Ty) → AreLike (unqualified t) t
+unqualified-like : (t : Ty) → AreLike (bare t) t
 unqualified-like (ConstOf t) = λ env w. (unqualified-like t env w)
 unqualified-like VoidTy = λ env w. ((λ h. h), (λ h. h))
 unqualified-like (IntTy k) = λ env w. ((λ h. h), (λ h. h))
@@ -144,7 +142,7 @@ returns-of v q r p l = record { like = like-back r q l; none = λ e. nothing r (
     void-of (FunctionTy t ts c) p e = absurd p
     void-of (ConstOf t) p e = absurd p
 
-    holds-nothing : (r : Ty) → IsOfType (layouts v) r Nothing → is_none r ≡ true
+    holds-nothing : (r : Ty) → IsOfType (layouts v) r Nothing → is_void r ≡ true
     holds-nothing VoidTy h = refl
     holds-nothing (ConstOf t) h = holds-nothing t h
     holds-nothing (IntTy k) h = absurd h
@@ -154,7 +152,7 @@ returns-of v q r p l = record { like = like-back r q l; none = λ e. nothing r (
     holds-nothing (ArrayOf t n) h = absurd h
     holds-nothing (FunctionTy t ts c) h = absurd h
 
-    nothing : (r : Ty) → AreLike r VoidTy → is_none r ≡ true
+    nothing : (r : Ty) → AreLike r VoidTy → is_void r ≡ true
     nothing r g = holds-nothing r ((g (layouts v) Nothing).1 tt)
 
 -- what a list of parameters stands for among the objects of the unit
@@ -309,25 +307,25 @@ module _ (v : WholeUnit) (done : IsFinished v) where
       let r = from-some (derived false (env u.state) rest base) (step false (env u.state) (ByFunction (parameter_types g.parameters) g.variadic)) m.0 m.1 in
       by m.0 r.0 (is_function r.0) (is_array r.0) r.2 m.2 m.1
     where
-      of : (w : Ty) → FunctionTy (unqualified w) (parameter_types g.parameters) g.variadic ≡ FunctionTy (unqualified w) (parameter_types g.parameters) g.variadic
-          → head_of (FunctionTy (unqualified w) (parameter_types g.parameters) g.variadic) g n u ≡ Some z
-          → derived false (env u.state) (ByFunction (parameter_types g.parameters) g.variadic ∷ rest) base ≡ Some (FunctionTy (unqualified w) (parameter_types g.parameters) g.variadic) → IsDefined u base g z
+      of : (w : Ty) → FunctionTy (bare w) (parameter_types g.parameters) g.variadic ≡ FunctionTy (bare w) (parameter_types g.parameters) g.variadic
+          → head_of (FunctionTy (bare w) (parameter_types g.parameters) g.variadic) g n u ≡ Some z
+          → derived false (env u.state) (ByFunction (parameter_types g.parameters) g.variadic ∷ rest) base ≡ Some (FunctionTy (bare w) (parameter_types g.parameters) g.variadic) → IsDefined u base g z
       of w same q d =
-          let h = of-head (unqualified w) (parameter_types g.parameters) g.variadic g n u z i q in
+          let h = of-head (bare w) (parameter_types g.parameters) g.variadic g n u z i q in
           record {
-            result = unqualified w;
-            head = subst (λ c. HeadAt v (FunctionTy (unqualified w) (parameter_types g.parameters) c) (unqualified w) g u z) h.1 h.0;
+            result = bare w;
+            head = subst (λ c. HeadAt v (FunctionTy (bare w) (parameter_types g.parameters) c) (bare w) g u z) h.1 h.0;
             may = h.2;
-            proper = λ fixed l p. subst (λ c. IsProper v (FunctionTy (unqualified w) (parameter_types g.parameters) c)) h.1
-                (derived-any v (env u.state) l.unit.layouts fixed false (ByFunction (parameter_types g.parameters) g.variadic ∷ rest) base (FunctionTy (unqualified w) (parameter_types g.parameters) g.variadic) p d);
+            proper = λ fixed l p. subst (λ c. IsProper v (FunctionTy (bare w) (parameter_types g.parameters) c)) h.1
+                (derived-any v (env u.state) l.unit.layouts fixed false (ByFunction (parameter_types g.parameters) g.variadic ∷ rest) base (FunctionTy (bare w) (parameter_types g.parameters) g.variadic) p d);
           }
 
-      by : (made w : Ty) (b c : Bool) → (if b then None else (if c then None else Some (FunctionTy (unqualified w) (parameter_types g.parameters) g.variadic))) ≡ Some made → head_of made g n u ≡ Some z
+      by : (made w : Ty) (b c : Bool) → (if b then None else (if c then None else Some (FunctionTy (bare w) (parameter_types g.parameters) g.variadic))) ≡ Some made → head_of made g n u ≡ Some z
           → derived false (env u.state) (ByFunction (parameter_types g.parameters) g.variadic ∷ rest) base ≡ Some made → IsDefined u base g z
       by made w true c f q d = absurd cc
       by made w false true f q d = absurd cc
       by made w false false f q d =
-          let same = some-same (FunctionTy (unqualified w) (parameter_types g.parameters) g.variadic) made f in
+          let same = some-same (FunctionTy (bare w) (parameter_types g.parameters) g.variadic) made f in
           of w refl (subst (λ t. head_of t g n u ≡ Some z) (sym same) q) (subst (λ t. derived false (env u.state) (ByFunction (parameter_types g.parameters) g.variadic ∷ rest) base ≡ Some t) (sym same) d)
 
   -- a whole head: what it does, and what is known of the parameters behind the declarator
@@ -475,7 +473,7 @@ parameters-are v done apart s t (p ∷ ps) (MoreTys w ts) q d m k l =
               small = small v done (object_at v o).t (subst (IsProper v) (sym type) q.0) complete;
               named = apart o;
             },
-            subst (AreLike w) (sym type) (like-then w (unqualified p.t) p.t (like-back (unqualified p.t) w l.0) (unqualified-like p.t)),
+            subst (AreLike w) (sym type) (like-then w (bare p.t) p.t (like-back (bare p.t) w l.0) (unqualified-like p.t)),
             subst (λ x. IsValueType (bare x)) (sym type) (subst IsValueType (bare-same p.t) (held-value v (layouts v) p.t q.0 c m.0.held)),
           ),
           rest,

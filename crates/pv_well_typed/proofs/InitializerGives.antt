@@ -3,7 +3,7 @@
 use Rattle.std.proofs.Common.{◌≡◌, ℕ, ◌<◌, ◌+◌, ◌*◌, ◌≤◌, ◌^◌, Bool, true, false, Option, Some, None, is_some, List, [], ◌∷◌, ◌++◌, length, nat_le, option_map, refl, sym, ap, subst, ◌∙◌, arith, ◌⊎◌, inl, inr, append-nil, nat_lt}
 use Rattle.std.proofs.lemmas.Bool.Decides.{nat_tests}
 use Rattle.std.specs.Prelude.{if◌then◌else◌, option_and_then}
-use Rattle.pv_layout.specs.Parts.{bare}
+use Rattle.pv_types.specs.Sorts.{bare, is_scalar}
 use Rattle.pv_tree.specs.Lines.{expression_line}
 use Rattle.pv_tree.specs.Syntax.{ExpressionTree, Text, InitializerTree, Initial, Braces, OfExpression, OfDeclaration, OfDeclarator, OfSpecifier, OfInitializer, OfStatement, Trees, NoTrees, Then}
 use Rattle.pv_types.specs.Layouts.{Entry, Layout, Part, Completed, up_to, layout_in, is_complete_in}
@@ -19,7 +19,6 @@ use Rattle.pv_typed.specs.UnitParts.{no_object, no_literal}
 use Rattle.pv_typed.proofs.Each.{each_append, each_weaker}
 use Rattle.pv_typed.proofs.Persisting.{constant_kept}
 use Rattle.pv_check.specs.StringLiterals.{bytes_of_text}
-use Rattle.pv_check.specs.Qualified.{unqualified}
 use Rattle.pv_check.specs.Rows.{operand}
 use Rattle.pv_check.specs.State.{State, Scope, Meaning, ObjectName, FunctionName, TypedefOf, ConstantOf, env}
 use Rattle.pv_check.specs.State as check
@@ -32,7 +31,7 @@ use Rattle.pv_unit.specs.Initializers as stores
 use Rattle.pv_unit.specs.InitializerParts as parts
 use Rattle.pv_unit.specs.Initializers.{Stores, Shape, Fill, Single, Zero, Wrong, filling, single_shape, list_shape, only, shape_of, one, valued, single, has_room, filled_type, characters, filled_with, formed, joined}
 use Rattle.pv_unit.specs.InitializerParts.{or_shape, expression_shape, begins_deep, allowed, as_constant, zero_leaf}
-use Rattle.pv_unit.specs.Parts.{part_at, is_scalar, is_text, text_layer, sized, can_be_initialized}
+use Rattle.pv_unit.specs.Parts.{part_at, is_text, text_layer, sized, can_be_initialized}
 use Rattle.pv_unit.specs.Rules.{After}
 use Rattle.pv_unit.specs.ValueRules.{lifted, lowered, filling_text, values, initialized}
 use Rattle.pv_guards.proofs.Numbers.{both}
@@ -200,7 +199,7 @@ module _ (v : WholeUnit) (done : IsFinished v) where
 
   -- ---- one expression (6.7.9p11, p13)
 
-  value-sized : (t : Ty) (n : ℕ) → IsValueType (unqualified t) → sized t n ≡ t
+  value-sized : (t : Ty) (n : ℕ) → IsValueType (bare t) → sized t n ≡ t
   value-sized VoidTy n h = refl
   value-sized (IntTy k) n h = refl
   value-sized (PointerTo t) n h = refl
@@ -215,7 +214,7 @@ module _ (v : WholeUnit) (done : IsFinished v) where
   IsAssignedTo p os e = IsAssigned U v os (bare p.t) e
 
   assigned-initializer : (os : List ℕ) (t : Ty) (e : TypedTree) → IsAssigned U v os t e → IsInitializer v os t (ValueOf e)
-  assigned-initializer os t e h = (h.converted.typed tt, subst (HasType e) (bare-same t) (has-type U v os (unqualified t) e h.converted), subst IsValueType (bare-same t) h.value)
+  assigned-initializer os t e h = (h.converted.typed tt, subst (HasType e) (bare-same t) (has-type U v os (bare t) e h.converted), subst IsValueType (bare-same t) h.value)
 
   allowed-constant : (s : State) (e : TypedTree) (lasting : Bool) → allowed values lasting s e ≡ true → lasting ≡ true → (c : Const) × (constant_of s.unit e ≡ Some c)
   unfolding values

@@ -8,15 +8,13 @@ use Rattle.pv_typed.specs.TypedTree.{TypedTree}
 use Rattle.pv_typed.specs.TypedStatement as typed
 use Rattle.pv_typed.specs.TypedStatement.{TypedStatement, statements_of}
 use Rattle.pv_typed.specs.TypedUnits.{WholeUnit}
-use Rattle.pv_check.specs.Qualified.{unqualified}
-use Rattle.pv_check.specs.Sorts.{is_void}
+use Rattle.pv_types.specs.Sorts.{is_void, bare as unqualified}
 use Rattle.pv_check.specs.State.{State, After, give, entered, left}
 use Rattle.pv_typed.specs.Constants.{and_then}
 use Rattle.pv_check.specs.Values.{assigned}
 use Rattle.pv_unit.specs.Statements.{leaving, valued, condition, optional, returned, declared_by, declared_in}
 use Rattle.pv_unit.specs.StatementParts.{value_returned}
 use Rattle.pv_unit.specs.Made.{do_made, for_made, round_made, expression_of, expression_made}
-use Rattle.pv_eval.specs.TypeForms.{is_none}
 use Rattle.pv_guards.specs.Typed.{AreLike, IsIn, HasType}
 use Rattle.pv_guards.specs.TypedStatements.{MayBeCondition, MayBeTyped, IsCondition, IsTypedStatement}
 use Rattle.pv_well_typed.specs.Characters.{HasCharacters}
@@ -34,7 +32,7 @@ use Rattle.pv_well_typed.proofs.StatementWalk.{count, Kept, kept-before, Avoids,
 -- the result of a definition, and that of its function at the end of the unit, where the type may be a composite one (6.2.7p4)
 pub record Returns (q r : Ty) : Type 0 where
   pub like : AreLike q r
-  pub none : is_void q ≡ true → is_none r ≡ true
+  pub none : is_void q ≡ true → is_void r ≡ true
 
 -- what is known before is not asked
 pub any-given : {A : Type 0} (v : WholeUnit) (P : Type 0) (s : State) (Q : After A → Type 0) (o : Option (After A)) → Gives ⊥ v [] U s Q o → Gives ⊥ v [] P s Q o

@@ -13,7 +13,7 @@ use Rattle.pv_typed.specs.TypedUnits.{WholeUnit}
 use Rattle.pv_check.specs.Members.{member_named}
 use Rattle.pv_check.specs.MemberParts.{member_of}
 use Rattle.pv_check.specs.Postfix.{complete_member}
-use Rattle.pv_check.specs.SortParts.{is_composite}
+use Rattle.pv_types.specs.Sorts.{is_composite}
 use Rattle.pv_guards.specs.Typed.{IsTag}
 use Rattle.pv_well_typed.specs.Proper.{IsValueOrVoid, IsProper}
 use Rattle.pv_well_typed.specs.ProperStates.{IsMember, IsCompleted}

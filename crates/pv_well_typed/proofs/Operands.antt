@@ -4,11 +4,10 @@ use Rattle.std.specs.Prelude.{if◌then◌else◌}
 use Rattle.pv_num.specs.declared.kinds.IntKind.{IntKind}
 use Rattle.pv_types.specs.Ty.{Ty, VoidTy, IntTy, PointerTo, ArrayOf, StructTag, UnionTag, FunctionTy, ConstOf}
 use Rattle.pv_types.specs.Layouts.{Entry, is_complete_in}
-use Rattle.pv_layout.specs.Parts.{bare}
+use Rattle.pv_types.specs.Sorts.{bare}
 use Rattle.pv_typed.specs.TypedTree.{TypedTree, Read, ArrayPointer, Convert, type_of, line_of, is_lvalue}
 use Rattle.pv_typed.specs.TypedUnits.{WholeUnit}
 use Rattle.pv_num.specs.Kinds.{promoted}
-use Rattle.pv_check.specs.Qualified.{unqualified}
 use Rattle.pv_types.specs.SameTypes.{same_type as same}
 use Rattle.pv_check.specs.Sorts.{is_array}
 use Rattle.pv_check.specs.Values.{implied, read_at, value_of, converted, promotion, promoted_value}
@@ -96,21 +95,21 @@ module _ (E : Type 0) (v : WholeUnit) (os : List ℕ) where
 
   module _ (done : IsFinished v) (es : List Entry) (more : Extends es v) where
     read-plain : (a : TypedTree) (t : Ty) → IsExpression E v os a → is_lvalue a ≡ true → type_of a ≡ t → is_array t ≡ false
-        → (x : TypedTree) → (if is_complete_in es t then Some (implied (line_of a) (unqualified t) (Read a)) else None) ≡ Some x → IsOperand E v os x
+        → (x : TypedTree) → (if is_complete_in es t then Some (implied (line_of a) (bare t) (Read a)) else None) ≡ Some x → IsOperand E v os x
     read-plain a t h place is plain x e = by (is_complete_in es t) refl e
       where
         proper : IsProper v t
         proper = subst (IsProper v) is h.proper
 
-        by : (b : Bool) → is_complete_in es t ≡ b → (if b then Some (implied (line_of a) (unqualified t) (Read a)) else None) ≡ Some x → IsOperand E v os x
+        by : (b : Bool) → is_complete_in es t ≡ b → (if b then Some (implied (line_of a) (bare t) (Read a)) else None) ≡ Some x → IsOperand E v os x
         by true c e =
-            let value : IsValueType (unqualified t) = held-value v es t proper c plain in
-            as-made (IsOperand E v os) (implied (line_of a) (unqualified t) (Read a)) x (record {
+            let value : IsValueType (bare t) = held-value v es t proper c plain in
+            as-made (IsOperand E v os) (implied (line_of a) (bare t) (Read a)) x (record {
               typed = λ i. (h.typed i, place, bare-same t ∙ ap bare (sym is), sized-later v done es more (type_of a) h.proper (ap (is_complete_in es) is ∙ c), value);
               proper = proper-unqualified v t proper;
               value = refl;
               given = refl;
-              plain = value-or-void (unqualified t) value;
+              plain = value-or-void (bare t) value;
             }) e
         by false c e = absurd cc
 

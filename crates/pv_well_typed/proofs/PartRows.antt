@@ -5,7 +5,7 @@ use Rattle.std.specs.Prelude.{if◌then◌else◌, option_and_then}
 use Rattle.std.specs.Int.{next_multiple_of}
 use Rattle.pv_num.specs.declared.kinds.IntKind.{IntKind}
 use Rattle.pv_num.specs.declared.kinds.IntKind.TheVariants as kind
-use Rattle.pv_layout.specs.Parts.{bare}
+use Rattle.pv_types.specs.Sorts.{bare, is_scalar}
 use Rattle.pv_types.specs.Layouts.{Entry, Named, Part, Completed, layout_in, layout_at, layouts_of, is_complete_in, struct_placed, union_placed}
 use Rattle.pv_types.specs.LayoutParts.{part_count, struct_end, union_end}
 use Rattle.pv_types.specs.Members.{completed_members}
@@ -14,9 +14,9 @@ use Rattle.pv_types.proofs.Fills.{struct_end-ge, union_end-ge}
 use Rattle.pv_types.proofs.LayoutLaws.{complete-append}
 use Rattle.pv_typed.specs.Known.{Each}
 use Rattle.pv_typed.specs.TypedUnits.{WholeUnit}
-use Rattle.pv_unit.specs.Parts.{part_number, first_member, part_in, part_at, is_scalar, character_layer, sized, can_be_initialized, leaf_within, first_leaf}
+use Rattle.pv_unit.specs.Parts.{part_number, first_member, part_in, part_at, sized, can_be_initialized, leaf_within, first_leaf}
 use Rattle.pv_num.specs.Kinds.{is_character_kind}
-use Rattle.pv_unit.specs.PartParts.{within}
+use Rattle.pv_unit.specs.PartParts.{within, character_layer}
 use Rattle.pv_unit.specs.InitializerParts.{zero_leaf}
 use Rattle.pv_well_typed.specs.Proper.{IsProper}
 use Rattle.pv_well_typed.specs.Later.{Extends}

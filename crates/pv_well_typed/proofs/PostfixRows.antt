@@ -8,8 +8,9 @@ use Rattle.pv_typed.specs.Known.{Each}
 use Rattle.pv_typed.specs.declared.nodes.IncrementOperator.{IncrementOperator}
 use Rattle.pv_typed.specs.TypedTree.{TypedTree, Subscript, Member, MemberOfValue, Arrow, Increment, type_of, is_lvalue}
 use Rattle.pv_typed.specs.TypedUnits.{WholeUnit, layouts}
-use Rattle.pv_check.specs.Qualified.{unqualified, qualified_if}
-use Rattle.pv_check.specs.Sorts.{kind_of, pointed_by, complete_pointed_by, is_array}
+use Rattle.pv_check.specs.Qualified.{qualified_if}
+use Rattle.pv_check.specs.Sorts.{complete_pointed_by, is_array}
+use Rattle.pv_types.specs.Sorts.{kind_of, pointed_by, bare as unqualified}
 use Rattle.pv_check.specs.Values.{written, is_modifiable}
 use Rattle.pv_check.specs.Postfix.{element_of, subscript_of, complete_member, member_at, member_from, arrow_from, may_step, increment_of}
 use Rattle.pv_check.specs.PostfixParts.{subscript_to, arrow_at, arrow_to}

@@ -12,7 +12,8 @@ use Rattle.pv_typed.specs.UnitParts.{no_object}
 use Rattle.pv_check.specs.Derivations.{Derivation, ByPointer, ByArray, ByFunction, Parameter as OneParameter, Signature, Steps, no_steps, with_step, with_function, nearest, parameter_types, declared_name, optional_name, derived, adjusted, with_parameter, means_none, no_void, proper, may_be_variadic}
 use Rattle.pv_check.specs.Rows.{plain}
 use Rattle.pv_check.specs.RowParts.{by_pointer, by_array, by_function, parameter_of}
-use Rattle.pv_check.specs.Sorts.{is_array, is_void_in}
+use Rattle.pv_check.specs.Sorts.{is_array}
+use Rattle.pv_types.specs.Sorts.{is_void_in}
 use Rattle.pv_check.specs.Specifiers.{specified}
 use Rattle.pv_check.specs.SpecifierParts.{without_storage}
 use Rattle.pv_check.specs.State.{State, After, Scope, no_scope, Meaning, ObjectName, give, innermost, find, bind, entered, left, env}

@@ -8,16 +8,14 @@ use Rattle.pv_types.specs.Ty.{Ty, VoidTy, IntTy, PointerTo, ArrayOf, StructTag, 
 use Rattle.pv_typed.specs.TypedTree.{TypedTree, type_of}
 use Rattle.pv_typed.specs.TypedUnits.{WholeUnit}
 use Rattle.pv_num.specs.Kinds.{promoted}
-use Rattle.pv_check.specs.Qualified.{unqualified}
 use Rattle.pv_check.specs.Rows.{operand}
-use Rattle.pv_check.specs.Sorts.{is_scalar, is_void_in, kind_of}
+use Rattle.pv_types.specs.Sorts.{kind_of, is_scalar, is_void_in, bare as unqualified, is_void as is_none}
 use Rattle.pv_check.specs.State.{State, After, give}
 use Rattle.pv_typed.specs.Constants.{and_then}
 use Rattle.pv_check.specs.Typing.{types}
 use Rattle.pv_check.specs.Values.{promotion, promoted_value}
 use Rattle.pv_unit.specs.Statements.{valued, condition, optional, Switched, switched}
 use Rattle.pv_unit.specs.StatementParts.{if_scalar, some_value, switched_by}
-use Rattle.pv_eval.specs.TypeForms.{is_none}
 use Rattle.pv_guards.specs.Typed.{IsTyped, HasType}
 use Rattle.pv_guards.specs.TypedStatements.{IsCondition}
 use Rattle.pv_well_typed.specs.Proper.{IsValueOrVoid}

@@ -8,19 +8,19 @@ use Rattle.pv_types.specs.Ty.{Ty, VoidTy, IntTy, PointerTo, ArrayOf, StructTag, 
 use Rattle.pv_types.specs.Layouts.{Entry, layout_in, is_complete_in}
 use Rattle.pv_types.proofs.LayoutLaws.{layout-append, complete-append}
 use Rattle.pv_types.proofs.Fills.{layout_fills}
-use Rattle.pv_layout.specs.Parts.{bare}
+use Rattle.pv_types.specs.Sorts.{bare, kind_of, pointed_by, is_scalar, is_void}
 use Rattle.pv_typed.specs.TypedUnits.{WholeUnit, layouts}
-use Rattle.pv_check.specs.Qualified.{unqualified, qualified, qualified_if}
+use Rattle.pv_check.specs.Qualified.{qualified, qualified_if}
 use Rattle.pv_check.proofs.Growth.{complete_qualified, size_qualified}
-use Rattle.pv_check.specs.Sorts.{kind_of, pointed_by, complete_pointed_by, is_scalar, is_array, is_void}
+use Rattle.pv_check.specs.Sorts.{complete_pointed_by, is_array}
 use Rattle.pv_check.specs.SortParts.{complete_by}
 use Rattle.pv_typed.specs.TypedTree.{is_function}
 use Rattle.pv_guards.specs.Typed.{IsSized, IsValueType, IsScalarType, IsIntegerType}
 use Rattle.pv_well_typed.specs.Proper.{IsValueOrVoid, IsSmallArray, IsProper}
 use Rattle.pv_well_typed.specs.Later.{IsFinished, Extends}
 
--- 6.2.5p26: the unqualified version of a type, in the words of both crates
-pub bare-same : (t : Ty) → unqualified t ≡ bare t
+-- 6.2.5p26: the bare version of a type, in the words of both crates
+pub bare-same : (t : Ty) → bare t ≡ bare t
 bare-same VoidTy = refl
 bare-same (IntTy k) = refl
 bare-same (PointerTo t) = refl
@@ -30,7 +30,7 @@ bare-same (UnionTag n) = refl
 bare-same (FunctionTy t ts c) = refl
 bare-same (ConstOf t) = bare-same t
 
-pub proper-unqualified : (v : WholeUnit) (t : Ty) → IsProper v t → IsProper v (unqualified t)
+pub proper-unqualified : (v : WholeUnit) (t : Ty) → IsProper v t → IsProper v (bare t)
 proper-unqualified v VoidTy h = tt
 proper-unqualified v (IntTy k) h = tt
 proper-unqualified v (PointerTo t) h = h
@@ -41,7 +41,7 @@ proper-unqualified v (FunctionTy t ts c) h = h
 proper-unqualified v (ConstOf t) h = proper-unqualified v t h.1
 
 -- a type that stands without qualifiers
-pub plain-unqualified : (t : Ty) → IsValueOrVoid t → unqualified t ≡ t
+pub plain-unqualified : (t : Ty) → IsValueOrVoid t → bare t ≡ t
 plain-unqualified VoidTy h = refl
 plain-unqualified (IntTy k) h = refl
 plain-unqualified (PointerTo t) h = refl
@@ -77,7 +77,7 @@ complete-value es (FunctionTy t ts c) p h = absurd p
 complete-value es (ConstOf t) p h = absurd p
 
 -- 6.3.2.1p2: what is held by an object of a complete type that is no array
-pub held-value : (v : WholeUnit) (es : List Entry) (t : Ty) → IsProper v t → is_complete_in es t ≡ true → is_array t ≡ false → IsValueType (unqualified t)
+pub held-value : (v : WholeUnit) (es : List Entry) (t : Ty) → IsProper v t → is_complete_in es t ≡ true → is_array t ≡ false → IsValueType (bare t)
 held-value v es VoidTy p h a = absurd cc
 held-value v es (IntTy k) p h a = tt
 held-value v es (PointerTo t) p h a = tt
@@ -88,7 +88,7 @@ held-value v es (FunctionTy t ts c) p h a = absurd cc
 held-value v es (ConstOf t) p h a = subst IsValueType (sym (plain-unqualified t p.0)) (complete-value es t p.0 h)
 
 -- without qualifiers, a type that is neither an array nor a function
-pub plain-value : (v : WholeUnit) (t : Ty) → IsProper v t → is_array t ≡ false → is_function t ≡ false → IsValueOrVoid (unqualified t)
+pub plain-value : (v : WholeUnit) (t : Ty) → IsProper v t → is_array t ≡ false → is_function t ≡ false → IsValueOrVoid (bare t)
 plain-value v VoidTy p a f = tt
 plain-value v (IntTy k) p a f = tt
 plain-value v (PointerTo t) p a f = tt

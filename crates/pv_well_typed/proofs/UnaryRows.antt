@@ -12,16 +12,15 @@ use Rattle.pv_tree.specs.declared.operators.UnaryOperator.TheVariants as unary
 use Rattle.pv_types.specs.Layouts.{Entry, layout_in, is_complete_in}
 use Rattle.pv_types.specs.Ty.{Ty, VoidTy, IntTy, PointerTo, ArrayOf, StructTag, UnionTag, FunctionTy, ConstOf}
 use Rattle.pv_typed.specs.Addresses.{is_null_constant}
-use Rattle.pv_typed.specs.TypedTree.{TypedTree, Node, Subscript, Indirection, Address, Unary, Not, Sizeof, Cast, type_of, is_lvalue, is_void as is_void_type, is_function}
+use Rattle.pv_typed.specs.TypedTree.{TypedTree, Node, Subscript, Indirection, Address, Unary, Not, Sizeof, Cast, type_of, is_lvalue, is_function}
 use Rattle.pv_typed.specs.TypedUnits.{WholeUnit, layouts}
-use Rattle.pv_check.specs.Qualified.{unqualified}
-use Rattle.pv_check.specs.Sorts.{kind_of, kind_in, pointed_in, pointed_by, points_to_function, is_scalar, is_scalar_in, is_truth_kind, is_void, is_void_in}
+use Rattle.pv_check.specs.Sorts.{points_to_function, is_truth_kind}
+use Rattle.pv_types.specs.Sorts.{kind_in, kind_of, pointed_in, pointed_by, is_scalar_in, is_scalar, is_void_in, is_void, bare as unqualified}
 use Rattle.pv_check.specs.SortParts.{is_function_if, is_truth}
 use Rattle.pv_check.specs.Values.{written, converted, value_of}
 use Rattle.pv_typed.specs.Constants.{and_then}
 use Rattle.pv_check.specs.Unary.{under_address, value_row, unary_of, sizeof_type, may_cast, cast_of}
 use Rattle.pv_check.specs.UnaryParts.{arithmetic_at, address_of, indirection_to, not_of, may_recast}
-use Rattle.pv_check.proofs.Lvalues.{void_same}
 use Rattle.pv_guards.specs.Typed.{IsTyped, IsScalarType, MayCast}
 use Rattle.pv_well_typed.specs.Proper.{IsValueOrVoid, IsProper}
 use Rattle.pv_well_typed.specs.Later.{IsFinished, Extends}
@@ -153,11 +152,11 @@ module _ (E : Type 0) (v : WholeUnit) (os : List ℕ) (done : IsFinished v) (es 
       proper = subst (IsProper v) is h.proper
 
       typed : E → (b : Bool) → is_void t ≡ b → IsTyped v os (written line (if b then VoidTy else t) (Indirection a))
-      typed i b q = (t, h.typed i, has-value-as E v os a (PointerTo t) h is, ap (λ c. if c then VoidTy else t) (sym q ∙ sym (void_same t)))
+      typed i b q = (t, h.typed i, has-value-as E v os a (PointerTo t) h is, ap (λ c. if c then VoidTy else t) (sym q))
 
-      no-value : is_void t ≡ false → not (is_void_type t) ≡ false → ⊥
+      no-value : is_void t ≡ false → not (is_void t) ≡ false → ⊥
       no-value q n =
-          let place : true ≡ false = sym (ap not (void_same t ∙ q)) ∙ n in
+          let place : true ≡ false = sym (ap not q) ∙ n in
           absurd cc
 
       by : (b : Bool) → is_void t ≡ b → Some (written line (if b then VoidTy else t) (Indirection a)) ≡ Some x → IsExpression E v os x

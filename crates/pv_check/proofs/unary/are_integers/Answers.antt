@@ -3,7 +3,7 @@ use Rattle.std.specs.Prelude.{is_some}
 use Rattle.pv_types.specs.Known.{tree}
 use Rattle.pv_typed.specs.NodeTrees.{expression_at}
 use Rattle.pv_typed.specs.TypedTree.{type_of}
-use Rattle.pv_check.specs.Sorts.{kind_of}
+use Rattle.pv_types.specs.Sorts.{kind_of}
 use Rattle.pv_check.proofs.Casting.{integers_cast}
 use Rattle.pv_check.proofs.unary.are_integers.Goals as goal
 

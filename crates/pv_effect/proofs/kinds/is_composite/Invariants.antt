@@ -1,6 +1,6 @@
 use Rattle.std.proofs.Common.{◌≡◌, ◌<◌, length}
 use Rattle.pv_types.specs.Known.{tree}
-use Rattle.pv_effect.specs.EffectiveType.{is_composite}
+use Rattle.pv_types.specs.Sorts.{is_composite}
 use Rattle.pv_effect.proofs.kinds.is_composite.Given as goal
 
 abbrev pub invariant-loop-inner : goal.invariant-loop-inner

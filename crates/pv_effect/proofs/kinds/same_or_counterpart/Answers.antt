@@ -1,6 +1,7 @@
 use Rattle.std.proofs.Common.{◌||◌, ◌∙◌, sym, ap}
 use Rattle.pv_types.specs.Known.{tree}
-use Rattle.pv_layout.specs.Parts.{bare, are_counterparts}
+use Rattle.pv_layout.specs.Parts.{are_counterparts}
+use Rattle.pv_types.specs.Sorts.{bare}
 use Rattle.pv_types.specs.SameTypes.{same_type}
 use Rattle.pv_effect.proofs.Over.{or_none}
 use Rattle.pv_effect.proofs.Same.{int_leaf, no_counterpart, same_number}

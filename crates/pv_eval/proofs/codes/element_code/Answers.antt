@@ -1,5 +1,5 @@
 use Rattle.std.proofs.Common.{ap, sym, ◌∙◌}
-use Rattle.pv_eval.specs.TypeForms.{is_pointer}
+use Rattle.pv_types.specs.Sorts.{is_pointer}
 use Rattle.pv_eval.specs.Sizes.{element_in}
 use Rattle.pv_eval.proofs.codes.element_code.Goals as goal
 

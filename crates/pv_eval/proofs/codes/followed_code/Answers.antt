@@ -3,7 +3,7 @@ use Rattle.pv_types.specs.Known.{Known, tree}
 use Rattle.pv_typed.specs.declared.nodes.Typed.TheVariants.{Indirection}
 use Rattle.pv_typed.specs.TypedTree.{type_of}
 use Rattle.pv_typed.specs.NodeTrees.{expression_at}
-use Rattle.pv_eval.specs.TypeForms.{is_none}
+use Rattle.pv_types.specs.Sorts.{is_void as is_none}
 use Rattle.pv_eval.proofs.PlainNumbers.{followed_given}
 use Rattle.pv_eval.proofs.codes.followed_code.Goals as goal
 

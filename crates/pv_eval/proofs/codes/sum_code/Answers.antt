@@ -1,6 +1,6 @@
 use Rattle.std.proofs.Common.{ap, sym, ◌∙◌}
 use Rattle.pv_types.specs.Known.{Known, tree}
-use Rattle.pv_eval.specs.TypeForms.{is_pointer}
+use Rattle.pv_types.specs.Sorts.{is_pointer}
 use Rattle.pv_eval.specs.Sizes.{element_in}
 use Rattle.pv_eval.proofs.codes.sum_code.Goals as goal
 

@@ -1,5 +1,5 @@
 use Rattle.std.proofs.Common.{sym, ap, ◌∙◌}
-use Rattle.pv_eval.specs.TypeForms.{is_pointer}
+use Rattle.pv_types.specs.Sorts.{is_pointer}
 use Rattle.pv_eval.specs.Sizes.{element_in}
 use Rattle.pv_eval.specs.Plainly.{found_worth}
 use Rattle.pv_eval.proofs.PlainPlaces.{subscript_some}

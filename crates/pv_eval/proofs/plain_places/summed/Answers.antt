@@ -2,7 +2,7 @@ use Rattle.std.proofs.Common.{sym, ap, ◌∙◌}
 use Rattle.pv_types.specs.Known.{Known, tree}
 use Rattle.pv_typed.specs.TypedTree.{type_of}
 use Rattle.pv_typed.specs.NodeTrees.{expression_at}
-use Rattle.pv_eval.specs.TypeForms.{is_pointer}
+use Rattle.pv_types.specs.Sorts.{is_pointer}
 use Rattle.pv_eval.specs.Sizes.{element_in}
 use Rattle.pv_eval.specs.Plainly.{found_worth}
 use Rattle.pv_eval.proofs.PlainPlaces.{summed_some}

@@ -9,7 +9,8 @@ use Rattle.pv_typed.specs.NodeTrees.{expression_at}
 use Rattle.pv_world.specs.declared.got.How.TheVariants.{Rounds}
 use Rattle.pv_world.specs.declared.got.Shape.TheVariants as shape
 use Rattle.pv_world.specs.Worths.{int}
-use Rattle.pv_eval.specs.TypeForms.{shape_of, is_pointer}
+use Rattle.pv_eval.specs.TypeForms.{shape_of}
+use Rattle.pv_types.specs.Sorts.{is_pointer}
 use Rattle.pv_eval.specs.Sizes.{element_in}
 use Rattle.pv_eval.specs.Operations.{Converts, Calculates, Moves}
 use Rattle.pv_eval.specs.Steps.{is_down}

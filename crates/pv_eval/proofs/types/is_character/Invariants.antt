@@ -1,6 +1,6 @@
 use Rattle.std.proofs.Common.{◌≡◌}
 use Rattle.pv_types.specs.Known.{tree}
-use Rattle.pv_effect.specs.EffectiveType.{is_character}
+use Rattle.pv_types.specs.Sorts.{is_character}
 use Rattle.pv_eval.proofs.types.is_character.Given as goal
 
 abbrev pub invariant-layers : goal.invariant-layers

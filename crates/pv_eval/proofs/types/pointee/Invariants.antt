@@ -1,6 +1,7 @@
 use Rattle.std.proofs.Common.{◌≡◌}
 use Rattle.pv_types.specs.Known.{tree}
-use Rattle.pv_eval.specs.TypeForms.{is_pointer, pointed_to}
+use Rattle.pv_eval.specs.TypeForms.{pointed_to}
+use Rattle.pv_types.specs.Sorts.{is_pointer}
 use Rattle.pv_eval.proofs.types.pointee.Given as goal
 
 abbrev pub invariant-layers : goal.invariant-layers

@@ -1,6 +1,6 @@
 use Rattle.std.proofs.Common.{◌≡◌, ◌<◌, length}
 use Rattle.pv_types.specs.Known.{tree}
-use Rattle.pv_eval.specs.TypeForms.{is_none}
+use Rattle.pv_types.specs.Sorts.{is_void as is_none}
 use Rattle.pv_exec.proofs.functions.is_none.Given as goal
 
 abbrev pub invariant-layers : goal.invariant-layers

@@ -1,5 +1,5 @@
 use Rattle.std.proofs.Common.{◌≡◌, ◌∙◌, ap, Some, None}
-use Rattle.pv_layout.specs.Parts.{bare}
+use Rattle.pv_types.specs.Sorts.{bare}
 use Rattle.pv_types.specs.Known.{env, tree}
 use Rattle.pv_types.specs.Ty.{Ty}
 use Rattle.pv_check.specs.Growing.{IsType, type_if}

@@ -1,7 +1,7 @@
 use Rattle.std.proofs.Common.{rules, ◌≡◌, ◌≤◌, ◌^◌, true}
 use Rattle.pv_types.specs.Known.{env, tree}
-use Rattle.pv_layout.specs.Parts.{bare}
-use Rattle.pv_unit.specs.Parts.{character_layer}
+use Rattle.pv_types.specs.Sorts.{bare}
+use Rattle.pv_unit.specs.PartParts.{character_layer}
 use Rattle.pv_unit.proofs.Texts.{small_text}
 use Rattle.pv_unit.proofs.initializers.filled_type.Goals as goal
 

@@ -1,7 +1,7 @@
 use Rattle.std.proofs.Common.{rules, ◌≡◌, ◌<◌, ◌∙◌, IfSome, length, true, false, Some, None}
 use Rattle.pv_tree.specs.Tables.{expression_at as expression_of_node, tree_at}
 use Rattle.pv_types.specs.Known.{tree}
-use Rattle.pv_layout.specs.Parts.{bare}
+use Rattle.pv_types.specs.Sorts.{bare}
 use Rattle.pv_typed.specs.NodeTrees.{expression_at, IsExpression}
 use Rattle.pv_check.specs.Arms.{after_node, OpenIf}
 use Rattle.pv_check.specs.Kept.{expression_if}

@@ -3,7 +3,7 @@ use Rattle.std.specs.Prelude.{if◌then◌else◌}
 use Rattle.pv_types.specs.Known.{tree}
 use Rattle.pv_typed.specs.TypedTree.{type_of}
 use Rattle.pv_typed.specs.NodeTrees.{expression_at}
-use Rattle.pv_check.specs.Qualified.{unqualified}
+use Rattle.pv_types.specs.Sorts.{bare as unqualified}
 use Rattle.pv_check.specs.Values.{may_assign, converted}
 use Rattle.pv_check.proofs.ArmLaws.{goes_kept}
 use Rattle.pv_check.proofs.Opening.{state_stays}

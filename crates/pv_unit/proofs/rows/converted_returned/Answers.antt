@@ -4,7 +4,7 @@ use Rattle.pv_typed.specs.TypedStatement.{Return}
 use Rattle.pv_typed.specs.TypedTree.{TypedTree}
 use Rattle.pv_typed.specs.NodeTrees.{expression_at, statement_at}
 use Rattle.pv_check.specs.Open.{state_of}
-use Rattle.pv_check.specs.Sorts.{is_void}
+use Rattle.pv_types.specs.Sorts.{is_void}
 use Rattle.pv_check.specs.State.{give}
 use Rattle.pv_check.specs.Values.{assigned}
 use Rattle.pv_unit.proofs.Moving.{made_is, moves_on, step_on}

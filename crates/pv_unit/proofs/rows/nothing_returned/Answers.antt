@@ -4,7 +4,7 @@ use Rattle.pv_types.specs.Known.{tree}
 use Rattle.pv_typed.specs.TypedStatement.{Return}
 use Rattle.pv_typed.specs.NodeTrees.{statement_at}
 use Rattle.pv_check.specs.Open.{state_of}
-use Rattle.pv_check.specs.Sorts.{is_void}
+use Rattle.pv_types.specs.Sorts.{is_void}
 use Rattle.pv_check.specs.State.{give}
 use Rattle.pv_unit.proofs.Moving.{made_is}
 use Rattle.pv_unit.proofs.rows.nothing_returned.Goals as goal

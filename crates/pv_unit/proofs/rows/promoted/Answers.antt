@@ -1,7 +1,7 @@
 use Rattle.std.proofs.Common.{rules, ◌≡◌, Some, None, false}
 use Rattle.pv_typed.specs.TypedTree.{type_of}
 use Rattle.pv_typed.specs.NodeTrees.{expression_at}
-use Rattle.pv_check.specs.Sorts.{kind_of}
+use Rattle.pv_types.specs.Sorts.{kind_of}
 use Rattle.pv_check.proofs.ArmLaws.{goes_kept}
 use Rattle.pv_check.proofs.Opening.{state_stays}
 use Rattle.pv_unit.proofs.Moving.{moves_tables}
