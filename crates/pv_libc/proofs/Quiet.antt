@@ -33,8 +33,8 @@ use Rattle.pv_libc.specs.declared.formats.Piece.TheVariants.{Goes, Converts, Bre
 use Rattle.pv_libc.specs.Steps.{Now, Did, done, next, next_by, noted, in_table, about, about_by, used, told, reached, reached_by, further}
 use Rattle.pv_libc.specs.Characters.{character_loaded, character_in, character_at, characters_from, too_far, string_from, string_at, most}
 use Rattle.pv_libc.specs.Blocks.{copy, memset, memcmp}
-use Rattle.pv_libc.specs.Strings.{strlen, compared_from, strcmp, strcpy}
-use Rattle.pv_libc.specs.StringParts.{compared_by, pair_used}
+use Rattle.pv_libc.specs.Strings.{strlen, compared_from, strcpy}
+use Rattle.pv_libc.specs.StringParts.{compared_by, pair_used, strcmp}
 use Rattle.pv_libc.specs.Formats.{piece_at}
 use Rattle.pv_libc.specs.Arguments.{number_text, number_of, string_of, address_of}
 use Rattle.pv_libc.specs.Printing.{number_done, string_done, address_by, address_done, converted, Printed, argument_taken, piece_done, format_end, printed_from}

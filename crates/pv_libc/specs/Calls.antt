@@ -1,5 +1,5 @@
 -- A call of a library function: its reply, the memory after it, and what it prints.
-use Rattle.std.specs.Prelude.{ℕ, ℤ, pos, List, [], drop, length, map, slice_get, Option, None, Some, if◌then◌else◌, true, false}
+use Rattle.std.specs.Prelude.{ℕ, ℤ, pos, List, [], drop, length, map, slice_get, Option, if◌then◌else◌, true, false}
 use Rattle.pv_num.specs.declared.kinds.IntKind.TheVariants.{Int, ULong}
 use Rattle.pv_num.specs.Kinds.{bits_of, convert_of, fits_of}
 use Rattle.pv_prov.specs.declared.names.Prov.{Prov}
@@ -21,10 +21,12 @@ use Rattle.pv_libc.specs.declared.values.Offered.{Offered}
 use Rattle.pv_libc.specs.Steps.{Now, Did, done, next, with_notes}
 use Rattle.pv_libc.specs.Heap.{malloc, calloc, free, realloc}
 use Rattle.pv_libc.specs.Blocks.{memset, memcmp, copy}
-use Rattle.pv_libc.specs.Strings.{strlen, strcmp, strcpy}
+use Rattle.pv_libc.specs.Strings.{strlen, strcpy, compared_from}
 use Rattle.pv_libc.specs.declared.formats.Within.TheVariants as within
 use Rattle.pv_libc.specs.Printing.{printed_from, format_of}
 use Rattle.std.specs.Result.{result_unwrap_or}
+use Rattle.std.specs.Option.{option_map_or}
+use Rattle.pv_libc.specs.Characters.{most}
 
 -- the number in an argument. Typing makes sure that it is there and of the parameter's type (6.5.2.2p7)
 abbrev pub number_in : Value → ℤ
@@ -38,8 +40,7 @@ pointer_in _ = record { address = 0; prov = Empty }
 
 -- an argument's value
 abbrev pub value_in : Option Arg → Value
-value_in None = value.Unset
-value_in (Some x) = x.value
+value_in o = option_map_or (λ (x : Arg). x.value) o value.Unset
 
 -- 6.5.2.2p7: argument number i, from 0, as a number
 abbrev pub number : List Arg → ℕ → ℤ
@@ -90,7 +91,7 @@ called_in library.Memmove a S = (copy false (argument_at a 0 S.memory) (argument
 called_in library.Memset a S = (memset (argument_at a 0 S.memory) (number a 1) (size a 2) S)
 called_in library.Memcmp a S = (memcmp (argument_at a 0 S.memory) (argument_at a 1 S.memory) (size a 2) S)
 called_in library.Strlen a S = (strlen (argument_at a 0 S.memory) S)
-called_in library.Strcmp a S = (strcmp (argument_at a 0 S.memory) (argument_at a 1 S.memory) S)
+called_in library.Strcmp a S = (compared_from most (argument_at a 0 S.memory) (argument_at a 1 S.memory) 0 S)
 called_in library.Strcpy a S = (strcpy (argument_at a 0 S.memory) (argument_at a 1 S.memory) S)
 -- 7.22.4.4
 called_in library.Exit a S = done (reply.Exit (status a 0)) S

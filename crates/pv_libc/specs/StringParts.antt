@@ -11,6 +11,9 @@ use Rattle.pv_object.specs.declared.values.Stop.{Stop}
 use Rattle.pv_inst.specs.declared.values.Tried.{Tried}
 use Rattle.std.specs.Option.{option_map_or}
 use Rattle.std.specs.Result.{result_unwrap_or}
+use Rattle.pv_libc.specs.declared.values.Given.{Given}
+use Rattle.pv_libc.specs.Strings.{compared_from}
+use Rattle.pv_libc.specs.Characters.{most}
 
 -- 7.24.4p1, 7.24.4.2: of two characters, the sign where they differ, 0 where both are 0, and else what the rest answers
 abbrev pub compared_by : ℕ → ℕ → Now → Did Reply → Did Reply
@@ -25,3 +28,7 @@ pair_used k tried test = option_map_or (λ k. Used tried test ∷ []) k []
 -- 7.21.6.3: what is printed: nothing where the call stops
 abbrev pub text_or_none : Result (List ℕ) Stop → List ℕ
 text_or_none r = result_unwrap_or r []
+
+-- 7.24.4.2p2, p3: two strings compared
+abbrev pub strcmp : Given → Given → Now → Did Reply
+strcmp p q S = compared_from most p q 0 S

@@ -10,7 +10,7 @@ use Rattle.pv_libc.specs.declared.values.Given.{Given}
 use Rattle.pv_libc.specs.declared.values.Reply.{Reply}
 use Rattle.pv_libc.specs.declared.values.Reply.TheVariants as reply
 use Rattle.pv_libc.specs.Steps.{Now, Did, done, halted, next, noted, in_memory, reached}
-use Rattle.pv_libc.specs.Characters.{character_at, string_at, too_far, most}
+use Rattle.pv_libc.specs.Characters.{character_at, string_at, too_far}
 use Rattle.pv_libc.specs.Blocks.{plain_byte, share, sign_of, answers}
 
 -- 7.24.6.3p3: how many characters come before the first 0
@@ -25,10 +25,6 @@ compared_from (suc k) p q i S =
     next (character_at Text p i S) (λ a T.
     next (character_at Text q i T) (λ b U. if not (a == b) then done (reply.Value (value.Int (sign_of a b))) U
     else (if a == 0 then done (reply.Value (value.Int (pos 0))) U else compared_from k p q (i + 1) U)))
-
--- 7.24.4.2p2, p3: two strings compared
-abbrev pub strcmp : Given → Given → Now → Did Reply
-strcmp p q S = compared_from most p q 0 S
 
 -- 7.24.2.3p2: the string is read, the target is checked for as many bytes, and then that they share none
 abbrev pub strcpy : Given → Given → Now → Did Reply

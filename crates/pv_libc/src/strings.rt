@@ -6,7 +6,8 @@ ghost use Rattle.pv_libc.specs.Answers.{OrNoMemory};
 ghost use Rattle.pv_object.specs.declared.values.Value.TheVariants as value;
 ghost use Rattle.pv_libc.specs.declared.values.Reply.TheVariants as reply;
 ghost use Rattle.pv_libc.specs.Blocks.{sign_of};
-ghost use Rattle.pv_libc.specs.Strings.{strlen, strcmp, strcpy};
+ghost use Rattle.pv_libc.specs.Strings.{strlen, strcpy};
+ghost use Rattle.pv_libc.specs.StringParts.{strcmp};
 
 use crate::blocks::{put, share};
 use crate::characters::{character_at, most, string_at};

@@ -21,8 +21,8 @@ use Rattle.pv_libc.specs.declared.values.Reply.TheVariants as reply
 use Rattle.pv_libc.specs.Steps.{Now, Did, done, halted, next, noted, in_memory, reached}
 use Rattle.pv_libc.specs.Characters.{character_at, characters_from, most}
 use Rattle.pv_libc.specs.Blocks.{plain_byte, filled, share, answers, copy, memset, difference, memcmp, sign_of}
-use Rattle.pv_libc.specs.Strings.{strlen, compared_from, strcmp, strcpy}
-use Rattle.pv_libc.specs.StringParts.{compared_by}
+use Rattle.pv_libc.specs.Strings.{strlen, compared_from, strcpy}
+use Rattle.pv_libc.specs.StringParts.{compared_by, strcmp}
 use Rattle.pv_numbering.proofs.Marks.{AlikeByte, AlikeStores}
 use Rattle.pv_numbering.proofs.Bytes.{alike_read, alike_written, alike_repeat, alike_map, unmarked}
 use Rattle.pv_numbering.proofs.Steps.{at_bytes, AlikeDid, Keeps, done-keeps, either-keeps, next-alike, reached-keeps, character_at-keeps, characters-keep, too_far-keeps, string-keeps}

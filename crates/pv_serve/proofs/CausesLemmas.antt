@@ -15,7 +15,8 @@ use Rattle.pv_serve.specs.declared.error.NoMemory.{NoMemory}
 use Rattle.pv_serve.specs.Verdicts.{Verdict, Course, course_of}
 use Rattle.pv_serve.specs.VerdictParts.{BeganOutput}
 use Rattle.pv_serve.specs.Jobs.{Job, FileJob, Files, Generated, files_of, task_of, sides_of, watched_of, kinds_of}
-use Rattle.pv_serve.specs.Words.{job, generated, file_job, either}
+use Rattle.pv_serve.specs.Words.{job, generated, file_job}
+use Rattle.pv_serve.specs.WordParts.{either}
 use Rattle.pv_serve.specs.Comes.{source_limit}
 use Rattle.pv_serve.specs.Judged.{Judged, SomeRun, script_limit}
 use Rattle.pv_serve.specs.Outside.{AnyRose, Sunk, SinkRose, Wrote, WrotePrefix, Halls}

@@ -11,6 +11,7 @@ use Rattle.pv_serve.specs.declared.words.Watched.{Watched}
 use Rattle.pv_serve.specs.declared.words.Mode.{Mode}
 use Rattle.pv_serve.specs.declared.words.Mode.TheVariants as whose
 use Rattle.pv_serve.specs.Jobs.{FileJob, Job, Files, Generated, default_turns, nobody}
+use Rattle.std.specs.Option.{option_or}
 
 -- 5.1.2.2.1p2: a word is a string: the bytes of each
 abbrev pub texts : List (String Global) → List (List ℕ)
@@ -138,13 +139,8 @@ abbrev pub generated : List (List ℕ) → Option ℕ
 generated (mode ∷ number ∷ []) = if bytes_eq mode (codes "gen") then number_to 8192 number else None
 generated _ = None
 
--- docs/FORMATS.md, Words (5.1.2.2.1p2): the job of a generated source, or a file's
-abbrev pub either : Option ℕ → Option FileJob → Option Job
-either (Some number) other = Some (Generated number)
-either None other = option_map Files other
-
 -- 5.1.2.2.1p2: the job that the words ask for, if they do; anything else is no job (docs/FORMATS.md)
 abbrev pub job : List (List ℕ) → Option Job
-job words = either (generated words) (file_job words)
+job words = option_or (option_map Generated (generated words)) (option_map Files (file_job words))
 
 -- ---- what the code reads

@@ -26,8 +26,8 @@ use Rattle.std.specs.Prelude.{min}
 use Rattle.pv_num.specs.declared.kinds.IntKind.TheVariants.{UChar}
 use Rattle.pv_num.specs.Kinds.{bits_of}
 use Rattle.pv_typed.specs.Known.{Each}
-use Rattle.pv_libc.specs.Strings.{strlen, compared_from, strcmp, strcpy}
-use Rattle.pv_libc.specs.StringParts.{compared_by}
+use Rattle.pv_libc.specs.Strings.{strlen, compared_from, strcpy}
+use Rattle.pv_libc.specs.StringParts.{compared_by, strcmp}
 use Rattle.pv_libc.specs.Heap.{told_of, granted, requested, allocated, malloc, cleared, calloc, block_by, block, freed, free, both, moved, resized, realloc}
 use Rattle.pv_libc.specs.HeapParts.{heap_request, zeroed}
 use Rattle.pv_libc.specs.Calls.{argument_at, number, size, called_in, called}

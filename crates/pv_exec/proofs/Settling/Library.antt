@@ -17,8 +17,8 @@ use Rattle.pv_libc.specs.declared.values.Reply.TheVariants as reply
 use Rattle.pv_libc.specs.Steps.{Now, Did, done, halted, noted, next, reached, in_memory}
 use Rattle.pv_libc.specs.Characters.{character_at, characters_from, most, string_at}
 use Rattle.pv_libc.specs.Blocks.{plain_byte, filled, share, answers, copy, memset, difference, memcmp, sign_of}
-use Rattle.pv_libc.specs.Strings.{strlen, compared_from, strcmp, strcpy}
-use Rattle.pv_libc.specs.StringParts.{compared_by}
+use Rattle.pv_libc.specs.Strings.{strlen, compared_from, strcpy}
+use Rattle.pv_libc.specs.StringParts.{compared_by, strcmp}
 use Rattle.pv_exec.proofs.Memory.Rows.{Leads, led-itself}
 use Rattle.pv_exec.proofs.Settling.Sides.{on_memory, Allows, Covers}
 use Rattle.pv_exec.proofs.Settling.Pointers.{Equal}
