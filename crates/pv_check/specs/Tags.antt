@@ -8,7 +8,7 @@ use Rattle.pv_token.specs.declared.words.Word.{Word}
 use Rattle.pv_token.specs.declared.words.Word.TheVariants as word
 use Rattle.pv_types.specs.Ty.{Ty, IntTy}
 use Rattle.pv_types.specs.Layouts.{Named, look, layout_in, is_complete_in, tag_type}
-use Rattle.pv_check.specs.State.{State, After, ConstantOf, TagMeaning, CompositeTag, EnumerationTag, OpenEnumeration, give, env, innermost, find, look_tag, bind_tag, declare, declare_tag, is_file_scope}
+use Rattle.pv_check.specs.State.{State, After, ConstantOf, TagMeaning, CompositeTag, EnumerationTag, OpenEnumeration, give, env, innermost, find, look_tag, bind_tag, declare, is_file_scope}
 use Rattle.pv_typed.specs.Constants.{and_then}
 use Rattle.pv_typed.specs.Mains.{named_main}
 use Rattle.std.specs.List.{list_all}
@@ -96,7 +96,7 @@ completed union n k ms s = if is_open s k then sized_tag n (tag_type union k) (w
 -- 6.2.1p7: an enumeration's tag begins before its list; p2 of 6.7.2.3: it is declared once in a scope
 abbrev pub opened_enumeration : Option ℕ → State → Option State
 opened_enumeration None s = Some s
-opened_enumeration (Some n) s = declare_tag n OpenEnumeration s
+opened_enumeration (Some n) s = if is_some (find (innermost s.scopes).tags n) then None else Some (bind_tag n OpenEnumeration s)
 
 -- 6.7.2.3p3, 6.7.2.2p4: behind its list the enumeration is complete
 abbrev pub closed_enumeration : Option ℕ → State → State

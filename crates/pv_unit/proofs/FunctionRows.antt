@@ -27,8 +27,8 @@ use Rattle.pv_unit.specs.declared.heads.Defined.{Defined}
 use Rattle.pv_unit.specs.Bodies.{head_made, is_block, is_definition, left_items}
 use Rattle.pv_unit.specs.Declarations.{file_declaration}
 use Rattle.pv_unit.specs.Redeclarations.{UnitState}
-use Rattle.pv_unit.specs.Functions.{body_of, within, with_parameter, with_parameters, defined_with, typed_body, typed_declaration}
-use Rattle.pv_unit.specs.FunctionParts.{with_body}
+use Rattle.pv_unit.specs.Functions.{within, with_parameter, with_parameters, defined_with, typed_body, typed_declaration}
+use Rattle.pv_unit.specs.FunctionParts.{with_body, body_of}
 use Rattle.pv_unit.specs.Outside.{unit_state}
 use Rattle.pv_unit.specs.Statements.{block_of}
 use Rattle.pv_unit.specs.Stated.{items_in, statements_in}

@@ -31,8 +31,8 @@ use Rattle.pv_unit.specs.Declarations.{specified_by, tags_alone, only_tag, type_
 use Rattle.pv_unit.specs.DeclarationParts.{declares_something, object_noted, file_declared}
 use Rattle.pv_unit.specs.Definitions.{Head, may_be_defined, defined_once, head_of, may_head, head, may_end}
 use Rattle.pv_unit.specs.HeadParts.{head_stepped}
-use Rattle.pv_unit.specs.Functions.{body_of, within, with_parameter, with_parameters, defined_with, typed_body, typed_declaration, typed_external}
-use Rattle.pv_unit.specs.FunctionParts.{with_body}
+use Rattle.pv_unit.specs.Functions.{within, with_parameter, with_parameters, defined_with, typed_body, typed_declaration, typed_external}
+use Rattle.pv_unit.specs.FunctionParts.{with_body, body_of}
 use Rattle.pv_unit.specs.Identifiers.{IsIdentifier, HasIdentifiers}
 use Rattle.pv_unit.specs.Statements.{block_of}
 use Rattle.pv_unit.specs.TypedStatements.{typed_items}

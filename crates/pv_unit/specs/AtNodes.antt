@@ -24,7 +24,8 @@ use Rattle.pv_unit.specs.Bodies.{left_items}
 use Rattle.pv_unit.specs.Declarations.{DeclaredType, typedef_entity, variable_entity, entity_declared, file_declarator}
 use Rattle.pv_unit.specs.Definitions.{head}
 use Rattle.pv_unit.specs.Redeclarations.{UnitState}
-use Rattle.pv_unit.specs.Functions.{body_of, within, typed_body}
+use Rattle.pv_unit.specs.Functions.{within, typed_body}
+use Rattle.pv_unit.specs.FunctionParts.{body_of}
 use Rattle.pv_unit.specs.Scoped.{Marked, labelled_statement}
 use Rattle.pv_unit.specs.Stated.{around_in}
 use Rattle.pv_unit.specs.Statements.{Label}

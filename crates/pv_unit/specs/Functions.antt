@@ -1,7 +1,6 @@
 -- Typing function definitions (C17 6.9.1), and external declarations (6.9p1).
 use Rattle.std.specs.Prelude.{ℕ, false, Option, Some, None, List, [], ◌∷◌, ◌++◌, ◌+◌}
 use Rattle.pv_tree.specs.Syntax.{DeclarationTree, Function, StatementTree, Block}
-use Rattle.pv_types.specs.Ty.{Ty}
 use Rattle.pv_typed.specs.TypedStatement.{TypedStatement}
 use Rattle.pv_typed.specs.TypedUnits.{function_at}
 use Rattle.pv_typed.specs.Adding.{with_param}
@@ -11,13 +10,9 @@ use Rattle.pv_typed.specs.Constants.{and_then}
 use Rattle.pv_unit.specs.Declarations.{file_declaration}
 use Rattle.pv_unit.specs.Definitions.{Head, head}
 use Rattle.pv_unit.specs.Redeclarations.{UnitState, with_function}
-use Rattle.pv_unit.specs.Statements.{Around, block_of}
+use Rattle.pv_unit.specs.Statements.{block_of}
 use Rattle.pv_unit.specs.TypedStatements.{typed_items}
 use Rattle.std.specs.List.{fold}
-
--- 6.8.6: outside of all loops and switches, in a function that returns this
-abbrev pub body_of : Ty → Around
-body_of t = record { result = t; breaks = false; continues = false }
 
 -- 6.2.1p4: a scope within the others
 abbrev pub within : Scope → State → State
@@ -41,7 +36,7 @@ defined_with h line u x =
 -- 6.2.1p4: the scope of the parameters is that of the body's block
 abbrev pub typed_body : StatementTree → Head × UnitState → Option UnitState
 typed_body (Block line items) h =
-    and_then (typed_items (body_of h.0.result) items (within h.0.signature.scope h.1.state)) (defined_with h.0 line h.1)
+    and_then (typed_items (record { result = h.0.result; breaks = false; continues = false }) items (within h.0.signature.scope h.1.state)) (defined_with h.0 line h.1)
 typed_body _ h = None
 
 -- ---- external declarations

@@ -28,8 +28,8 @@ use Rattle.pv_unit.specs.Declarations.{specified_by, noted}
 use Rattle.pv_unit.specs.Definitions.{Head, may_be_defined, defined_once, head_of, may_head, head}
 use Rattle.pv_unit.specs.HeadParts.{may_return, may_define, head_function, head_derived, head_signed, head_stepped, head_specified}
 use Rattle.pv_unit.specs.Redeclarations.{Entity, UnitState, unit_name, is_entity, marked, is_initialized, function_declared, with_function}
-use Rattle.pv_unit.specs.Functions.{body_of, within, with_parameter, with_parameters, defined_with, typed_body}
-use Rattle.pv_unit.specs.FunctionParts.{with_body, with_definition}
+use Rattle.pv_unit.specs.Functions.{within, with_parameter, with_parameters, defined_with, typed_body}
+use Rattle.pv_unit.specs.FunctionParts.{with_body, with_definition, body_of}
 use Rattle.pv_unit.specs.Statements.{declared_in, block_of}
 use Rattle.pv_unit.specs.TypedStatements.{typed_items}
 use Rattle.pv_eval.specs.Objects.{heap_name}

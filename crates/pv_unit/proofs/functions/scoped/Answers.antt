@@ -6,7 +6,8 @@ use Rattle.pv_check.specs.Raw.{raw_of, scope_shown}
 use Rattle.pv_check.specs.State.{State}
 use Rattle.pv_typed.specs.Constants.{and_then}
 use Rattle.pv_unit.specs.Bodies.{left_items}
-use Rattle.pv_unit.specs.Functions.{body_of, within}
+use Rattle.pv_unit.specs.Functions.{within}
+use Rattle.pv_unit.specs.FunctionParts.{body_of}
 use Rattle.pv_unit.specs.Stated.{items_in, statements_in, Moves}
 use Rattle.pv_unit.specs.TypedStatements.{typed_items}
 use Rattle.pv_unit.proofs.functions.scoped.Goals as goal
