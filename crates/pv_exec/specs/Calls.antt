@@ -1,8 +1,8 @@
 -- Calls of the program's functions (C17 6.5.2.2, 6.9.1), and the levels of calls and rounds.
-use Rattle.std.specs.Prelude.{ℕ, zero, suc, pos, Bool, List, [], ◌∷◌, Some, None, if◌then◌else◌}
+use Rattle.std.specs.Prelude.{ℕ, zero, suc, pos, List, [], ◌∷◌, Some, None, if◌then◌else◌}
 use Rattle.std.specs.declared.option.Option.{Option}
 use Rattle.pv_typed.specs.TypedStatement.{TypedStatement}
-use Rattle.pv_typed.specs.TypedUnits.{WholeUnit, TypedFunction, object_at, function_at}
+use Rattle.pv_typed.specs.TypedUnits.{TypedFunction, object_at, function_at}
 use Rattle.pv_typed.specs.Mains.{named_main}
 use Rattle.pv_world.specs.Worlds.{Worth, Nothing, Missing}
 use Rattle.pv_world.specs.Worths.{int}
@@ -20,13 +20,9 @@ take_params b line (o ∷ os) [] s = Gives Nothing s
 take_params b line (o ∷ os) (v ∷ vs) s =
     then_do (act b line (Makes o) s) (λ x s. then_do (act b line (Puts o 0 (lvalue b (object_at b.unit o).t) v) s) (λ x s. take_params b line os vs s))
 
--- 5.1.2.2.1p1: the function `main`
-abbrev pub is_main : WholeUnit → TypedFunction → Bool
-is_main u f = named_main u.names f.name
-
 -- 5.1.2.2.3p1, 6.9.1p12: what there is where the `}` is reached: 0 of `main`, nothing of a `void` function, else a missing value
 abbrev pub value_at_end : Setting → TypedFunction → Worth
-value_at_end b f = if is_main b.unit f then int (pos 0) else (if gives_none f.t then Nothing else Missing)
+value_at_end b f = if named_main b.unit.names f.name then int (pos 0) else (if gives_none f.t then Nothing else Missing)
 
 -- 6.8.6.4p3, 6.9.1p12: what a call gives, from how its body was left
 abbrev pub value_by : Setting → TypedFunction → Flow → Worth

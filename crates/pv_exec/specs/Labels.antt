@@ -23,19 +23,14 @@ has_default (Default line x) = true
 has_default (Case line n x) = has_default x
 has_default _ = false
 
--- 6.8.4.2p5: a statement of the body has a `case` with this value
-abbrev pub some_case : ℤ → Statements → Bool
-some_case v NoStatements = false
-some_case v (MoreStatements x xs) = has_case v x || some_case v xs
-
--- 6.8.4.2p5: a statement of the body has a `default`
-abbrev pub some_default : Statements → Bool
-some_default NoStatements = false
-some_default (MoreStatements x xs) = has_default x || some_default xs
+-- 6.8.4.2p4: some statement of the body passes
+abbrev pub some_statement : (TypedStatement → Bool) → Statements → Bool
+some_statement f NoStatements = false
+some_statement f (MoreStatements x xs) = f x || some_statement f xs
 
 -- 6.8.4.2p5: where a `switch` with this value jumps
 abbrev pub target_of : ℤ → Statements → Target
-target_of v xs = if some_case v xs then ToCase v else (if some_default xs then ToDefault else ToNone)
+target_of v xs = if some_statement (has_case v) xs then ToCase v else (if some_statement has_default xs then ToDefault else ToNone)
 
 -- 6.8.4.2p5: whether this is the statement to which it jumps
 abbrev pub is_target : Target → TypedStatement → Bool

@@ -2,8 +2,10 @@ pub mod Flows
 pub mod Blocks
 pub mod Lists
 pub mod Labels
+pub mod LabelParts
 pub mod Execution
 pub mod Calls
+pub mod CallParts
 pub mod Outlets
 pub mod Parts
 pub mod SettledRuns

@@ -36,23 +36,18 @@ call_main b (Some f) s = call_body b (below b b.bound) (function_at b.unit f) []
 unfoldable pub run_of : Setting → List ScriptLine → Res Worth
 run_of b script = then_do (prepare b (first script b.zap)) (λ v s. call_main b (main_of b.unit) s)
 
--- 5.1.2.2.3p1: a status is an `int`; typing makes sure of it
-abbrev pub status_in : ℤ → ℤ
-status_in n = if fits_of kind.Int n then n else pos 0
-
--- 5.1.2.2.3p1: the status, by the value that `main` gives
+-- 5.1.2.2.3p1: the status, by the value that `main` gives: an `int`; typing makes sure of it
 abbrev pub status_of : Worth → ℤ
-status_of v = status_in (int_of v)
+status_of v = if fits_of kind.Int (int_of v) then int_of v else pos 0
 
 -- the memory model leaves open where a storage instance lies: the request for one was refused;
 -- those for objects and literals are never denied
 abbrev pub refused : (name : ℕ) → CreateError → (line : ℕ) → Option Outcome
 refused name (refusal.Storage live size) line = Some (outcome.Storage live size line)
-refused name refusal.Denied line = None
 refused name (refusal.Range k address) line = Some (outcome.Placement reason.Range name k line)
 refused name (refusal.Misaligned k address) line = Some (outcome.Placement reason.Misaligned name k line)
 refused name (refusal.Overlap k address other) line = Some (outcome.Placement reason.Overlap name k line)
-refused name refusal.NoMemory line = None
+refused name _ line = None
 
 -- a run ended without undefined behaviour: an indeterminate value (3.19.2), `exit` (7.22.4.4), `abort` (7.22.4.1), a refused request
 abbrev pub halted : Halt → ℕ → Option Outcome

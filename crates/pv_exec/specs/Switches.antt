@@ -15,7 +15,8 @@ use Rattle.pv_exec.specs.declared.switches.Labelled.{Labelled}
 use Rattle.pv_exec.specs.declared.switches.Labelled.TheVariants as labelled
 use Rattle.pv_exec.specs.declared.switches.SwitchParts.{SwitchParts}
 use Rattle.pv_exec.specs.Flows.{Below}
-use Rattle.pv_exec.specs.Labels.{Target, ToCase, ToDefault, ToNone, some_case, some_default, is_target, target_of}
+use Rattle.pv_exec.specs.Labels.{Target, ToCase, ToDefault, ToNone, is_target, target_of}
+use Rattle.pv_exec.specs.LabelParts.{some_case, some_default}
 use Rattle.pv_exec.specs.Execution.{exs, exs_at}
 use Rattle.pv_exec.specs.Parts.{Selection}
 use Rattle.pv_exec.specs.Tasks.{statements_from}

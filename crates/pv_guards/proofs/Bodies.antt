@@ -20,7 +20,8 @@ use Rattle.pv_eval.specs.Operations.{Makes, BeginsBody, EndsBody, Puts, works, a
 use Rattle.pv_exec.specs.Flows.{Flow, Falls, Breaks, Continues, Returns, Below}
 use Rattle.pv_exec.specs.Blocks.{end_all}
 use Rattle.pv_exec.specs.Execution.{ex}
-use Rattle.pv_exec.specs.Calls.{take_params, is_main, value_at_end, value_by, runs_body, call_body, below}
+use Rattle.pv_exec.specs.Calls.{take_params, value_at_end, value_by, runs_body, call_body, below}
+use Rattle.pv_exec.specs.CallParts.{is_main}
 use Rattle.pv_guards.specs.Worths.{IsOfType, IsThere}
 use Rattle.pv_guards.specs.Typed.{IsIn, AreLike, AreAllLike, IsSignature}
 use Rattle.pv_guards.specs.Soundness.{Value, AreValues, IsHome, IsSound, IsAfter}

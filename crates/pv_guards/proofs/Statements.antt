@@ -22,7 +22,8 @@ use Rattle.pv_eval.specs.Operations.{Op, Tests, Accepts, Needs, Makes, Ends, Fil
 use Rattle.pv_exec.specs.Flows.{Flow, Falls, Breaks, Continues, Returns, Below, full, nothing_done, testing, falls, goes_on, switched, stores_value, begin_fill, declares, if_tested, stepped, round, round_do, returns_value}
 use Rattle.pv_exec.specs.Blocks.{end_all, scoped}
 use Rattle.pv_exec.specs.Lists.{make_all, store_all}
-use Rattle.pv_exec.specs.Labels.{Target, ToCase, ToDefault, ToNone, some_case, some_default, target_of, is_target, unless_none}
+use Rattle.pv_exec.specs.Labels.{Target, ToCase, ToDefault, ToNone, target_of, is_target, unless_none}
+use Rattle.pv_exec.specs.LabelParts.{some_case, some_default}
 use Rattle.pv_exec.specs.Switches.{some_target}
 use Rattle.pv_exec.specs.Execution.{ex, exs, exs_at}
 use Rattle.pv_guards.specs.Worths.{IsOfType, IsThere}

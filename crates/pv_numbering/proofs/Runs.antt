@@ -25,7 +25,8 @@ use Rattle.pv_eval.specs.Constants.{constant_worth}
 use Rattle.pv_eval.specs.Operations.{Makes, MakesLiteral, MakesFunction, BeginsBody, EndsBody, Fills, Puts, PutsText}
 use Rattle.pv_exec.specs.declared.outcome.Outcome.TheVariants as outcome
 use Rattle.pv_exec.specs.Flows.{Flow, Falls, Breaks, Continues, Returns, Below}
-use Rattle.pv_exec.specs.Calls.{take_params, is_main, value_by, runs_body, call_body, below}
+use Rattle.pv_exec.specs.Calls.{take_params, value_by, runs_body, call_body, below}
+use Rattle.pv_exec.specs.CallParts.{is_main}
 use Rattle.pv_exec.specs.Preparing.{make_static, store_constant, store_static, prepare}
 use Rattle.pv_exec.specs.Lists.{make_statics, make_literals, make_functions, store_statics, initialize_statics}
 use Rattle.pv_exec.specs.Run.{first, call_main, run_of, status_of, outcome_of, sides_at}
