@@ -16,7 +16,7 @@ use Rattle.pv_world.specs.declared.got.Got.{Got}
 use Rattle.pv_world.specs.Coming.{worth_of}
 use Rattle.pv_eval.specs.States.{Setting, State, Res, Gives, then_do}
 use Rattle.pv_eval.specs.Operations.{Finds, act}
-use Rattle.pv_eval.specs.Callees.{function_in}
+use Rattle.pv_eval.specs.CalleeParts.{function_in}
 use Rattle.pv_eval.specs.Moments.{Called, by_number}
 use Rattle.pv_eval.specs.TypeForms.{pointed_to}
 use Rattle.pv_eval.specs.Sequenced.{Given, done, operand}

@@ -9,7 +9,8 @@ use Rattle.pv_types.specs.Sorts.{bare}
 use Rattle.pv_layout.proofs.Ahead.{bare_complete}
 use Rattle.pv_typed.specs.TypedUnits.{WholeUnit, layouts}
 use Rattle.pv_typed.specs.Tables.{Stored, whole}
-use Rattle.pv_seq.specs.Sequencing.{Access, Open, access_of, noted}
+use Rattle.pv_seq.specs.Sequencing.{Access, Open, noted}
+use Rattle.pv_seq.specs.SequencingParts.{access_of}
 use Rattle.pv_seq.specs.Rivals.{top, below}
 use Rattle.pv_object.specs.declared.values.Pointer.{Pointer}
 use Rattle.pv_world.specs.declared.got.Got.{Got}

@@ -6,7 +6,7 @@ use Rattle.pv_fault.specs.declared.faults.Reason.TheVariants.{WrongType, Unseque
 use Rattle.pv_shadow.specs.Bytes.{read}
 use Rattle.pv_object.specs.declared.values.Pointer.{Pointer}
 use Rattle.pv_object.specs.declared.values.Reach.{Reach}
-use Rattle.pv_seq.specs.Sequencing.{Access, access_of, conflicts}
+use Rattle.pv_seq.specs.Sequencing.{Access, conflicts}
 use Rattle.pv_world.specs.Worlds.{Worth, World}
 use Rattle.pv_world.specs.Telling.{Told}
 use Rattle.pv_world.specs.Doing.{Done, Answers, Fails}
@@ -19,7 +19,7 @@ use Rattle.pv_eval.specs.Permission.{permits}
 
 -- 6.5p2: the access that a read or a write through an lvalue makes
 abbrev pub access_to : Lvalue → Pointer → (writes : Bool) → Access
-access_to l p writes = access_of p.address l.size writes
+access_to l p writes = record { place = p.address; length = l.size; writes = writes }
 
 -- 6.5p2, 6.2.6.1p5: a read that is permitted, against its rivals
 abbrev pub reads_permitted : Lvalue → Pointer → List Access → Reach → World → Told → Done

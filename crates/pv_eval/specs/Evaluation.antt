@@ -1,7 +1,7 @@
 -- Evaluation of expressions (6.5): what each node does against its foes, with its turn before its operands. Operands are
 -- evaluated from left to right; an lvalue whose value is needed is read as the last step of that operand, and conversions are
 -- made by the node above, once its operands are evaluated, the left one first.
-use Rattle.std.specs.Prelude.{ℕ, pos, true, false, List, [], ◌∷◌, ◌++◌, None, if◌then◌else◌}
+use Rattle.std.specs.Prelude.{ℕ, pos, true, false, List, [], ◌∷◌, ◌++◌, None, if◌then◌else◌, unsigned_abs}
 use Rattle.pv_library.specs.declared.library.Library.{Library}
 use Rattle.pv_libc.specs.declared.values.Arg.{Arg}
 use Rattle.pv_types.specs.Ty.{Ty}
@@ -9,7 +9,7 @@ use Rattle.pv_typed.specs.TypedTree.{TypedTree, Node, Form, Constant, Object, Fu
 use Rattle.pv_seq.specs.Sequencing.{Access, Open, opened, sequence_point}
 use Rattle.pv_world.specs.Worlds.{Worth}
 use Rattle.pv_eval.specs.States.{Setting, State, Res, then_do}
-use Rattle.pv_world.specs.Worths.{int, is_true}
+use Rattle.pv_world.specs.Worths.{int, is_true, int_of}
 use Rattle.pv_eval.specs.TypeForms.{lvalue, kind_of, element_size, pointed_to}
 use Rattle.pv_types.specs.Sorts.{is_void, is_pointer}
 use Rattle.pv_eval.specs.Conversions.{how_to}
@@ -18,7 +18,6 @@ use Rattle.pv_eval.specs.Operations.{Converts, Calculates, CalculatesOne, Tests,
 use Rattle.pv_eval.specs.Sequenced.{Given, done, doing, work, operand, later}
 use Rattle.pv_eval.specs.Steps.{Calling, takes, tick_if, converted, handed, reading, writing, source_of, is_unequal, is_minus, is_after, combining, stepping}
 use Rattle.pv_eval.specs.Arguments.{argument}
-use Rattle.pv_eval.specs.Callees.{function_in}
 
 -- 6.5p1, p2: what a node gives: its turn first, then by its kind; then the arguments of a call of the program, and of the library
 unfoldable mutual
@@ -113,7 +112,7 @@ unfoldable mutual
   -- 6.5.2.2p1, p10: the arguments that are left of a call by a value; behind them it is asked which function the value points to
   pub ev_through : Setting → Calling → ℕ → Ty → Worth → List Worth → Arguments → Open → State → Res Given
   ev_through b call line t p got NoArguments j s =
-      then_do (act b line (Finds t p) s) (λ f s. then_do (call (function_in f) got line s) (done (sequence_point j)))
+      then_do (act b line (Finds t p) s) (λ f s. then_do (call (unsigned_abs (int_of f)) got line s) (done (sequence_point j)))
   ev_through b call line t p got (MoreArguments x xs) j s =
       operand (ev b call x) j s (λ j v s. then_do (handed b x v s) (λ v s. ev_through b call line t p (got ++ v ∷ []) xs j s))
 

@@ -1,10 +1,12 @@
 pub mod States
+pub mod StateParts
 pub mod TypeForms
 pub mod Conversions
 pub mod Sizes
 pub mod Acting
 pub mod ActingParts
 pub mod Suiting
+pub mod SuitingParts
 pub mod Permission
 pub mod PermissionParts
 pub mod Accesses
@@ -15,6 +17,7 @@ pub mod Library
 pub mod Texts
 pub mod Stores
 pub mod Callees
+pub mod CalleeParts
 pub mod Operations
 pub mod Within
 pub mod Sequenced

@@ -29,7 +29,8 @@ use Rattle.pv_eval.specs.Objects.{makes, ends, makes_literal, makes_function, fi
 use Rattle.pv_eval.specs.Callees.{may_call}
 use Rattle.pv_types.specs.Ty.{Ty}
 use Rattle.pv_eval.specs.Library.{asks}
-use Rattle.pv_eval.specs.Suiting.{knows_worth, knows_arguments, is_small, is_integer, is_promoted, is_operand, is_size, is_stored, has_part}
+use Rattle.pv_eval.specs.Suiting.{knows_worth, is_small, is_integer, is_promoted, is_operand, is_size, is_stored, has_part, knows_value}
+use Rattle.std.specs.List.{list_all}
 
 -- an operation of a run (6.3, 6.5, 6.7.9, 7), with its operands
 pub data Op : Type 0 where
@@ -90,7 +91,7 @@ suits b (TakesPart offset l v) w = is_size l.size && (has_part v offset l.size &
 suits b (Reads l place rivals) w = (is_complete_in (layouts b.unit) l.t && (nat_le 1 l.size && is_size l.size)) && knows_worth w.memory.table place
 suits b (Writes l place v from rivals) w =
     (is_complete_in (layouts b.unit) l.t && (nat_le 1 l.size && is_size l.size)) && (is_stored l.shape l.size v && (knows_worth w.memory.table place && knows_worth w.memory.table v))
-suits b (Asks f args) w = knows_arguments w.memory.table args
+suits b (Asks f args) w = list_all (λ (x : Arg). knows_value w.memory.table x.value) args
 -- the others take every value
 suits b _ w = true
 

@@ -6,7 +6,7 @@ use Rattle.pv_num.specs.declared.operators.BinOp.{BinOp}
 use Rattle.pv_num.specs.declared.operators.BinOp.TheVariants as op
 use Rattle.pv_types.specs.Ty.{Ty}
 use Rattle.pv_typed.specs.declared.nodes.IncrementOperator.{IncrementOperator}
-use Rattle.pv_typed.specs.declared.nodes.IncrementOperator.TheVariants.{PostIncrement, PostDecrement, PreIncrement, PreDecrement}
+use Rattle.pv_typed.specs.declared.nodes.IncrementOperator.TheVariants.{PostIncrement, PostDecrement, PreDecrement}
 use Rattle.pv_typed.specs.declared.nodes.Sign.{Sign}
 use Rattle.pv_typed.specs.declared.nodes.Sign.TheVariants.{Plus, Minus}
 use Rattle.pv_typed.specs.TypedTree.{TypedTree, Node, Form, Subscript, Indirection, Read, ArrayPointer, Convert, line_of}
@@ -77,15 +77,13 @@ is_minus Plus = false
 abbrev pub is_down : IncrementOperator → Bool
 is_down PostDecrement = true
 is_down PreDecrement = true
-is_down PostIncrement = false
-is_down PreIncrement = false
+is_down _ = false
 
 -- 6.5.2.4p2, p3: whether the result is the value before
 abbrev pub is_after : IncrementOperator → Bool
 is_after PostIncrement = true
 is_after PostDecrement = true
-is_after PreIncrement = false
-is_after PreDecrement = false
+is_after _ = false
 
 -- 6.5.16.2p3: the operator at its kind, and back to the kind of the lvalue
 abbrev pub combining : Setting → (line : ℕ) → BinOp → (kind back : IntKind) → Worth → Worth → State → Res Worth

@@ -1,6 +1,6 @@
 -- What typing promises of the values that operations are made on (C17 6.3, 6.5, 6.7.9): the names in them were made, a number lies
 -- within an integer type, a stored value is one of the type. A checked unit never comes to anything else.
-use Rattle.std.specs.Prelude.{ℕ, ◌+◌, ◌-◌, ◌^◌, ◌==◌, Bool, true, false, ◌&&◌, nat_le, nat_lt, pos, neg_ℤ, int_le, ℤ, List, length, Option, Some, None}
+use Rattle.std.specs.Prelude.{ℕ, ◌+◌, ◌-◌, ◌^◌, ◌==◌, Bool, true, false, ◌&&◌, nat_le, nat_lt, pos, neg_ℤ, int_le, ℤ, length}
 use Rattle.std.specs.List.{list_all}
 use Rattle.pv_num.specs.declared.kinds.IntKind.{IntKind}
 use Rattle.pv_num.specs.declared.operators.BinOp.{BinOp}
@@ -15,11 +15,11 @@ use Rattle.pv_object.specs.declared.values.Scalar.{Scalar}
 use Rattle.pv_object.specs.declared.values.Scalar.TheVariants as scalar
 use Rattle.pv_object.specs.declared.values.Value.{Value}
 use Rattle.pv_object.specs.declared.values.Value.TheVariants.{Int as IntValue, Unset, Pointer as PointerValue}
-use Rattle.pv_libc.specs.declared.values.Arg.{Arg}
 use Rattle.pv_world.specs.declared.got.Shape.{Shape}
 use Rattle.pv_world.specs.declared.got.Shape.TheVariants as shape
 use Rattle.pv_world.specs.Worlds.{Worth, Missing, Scalar as ScalarWorth, Whole, World}
 use Rattle.pv_world.specs.Worths.{int_of}
+use Rattle.std.specs.Option.{option_map_or}
 
 -- what a name speaks of was made (the memory model: provenance)
 abbrev pub knows : Table → Prov → Bool
@@ -32,19 +32,11 @@ abbrev pub knows_value : Table → Value → Bool
 knows_value T (PointerValue p) = knows T p.prov
 knows_value T _ = true
 
--- what the names in abstract bytes speak of was made (the memory model)
-abbrev pub knows_bytes : Table → List Byte → Bool
-knows_bytes T bytes = list_all (λ (x : Byte). knows T x.prov) bytes
-
 -- what the names in what an expression gives speak of was made (the memory model)
 abbrev pub knows_worth : Table → Worth → Bool
 knows_worth T (ScalarWorth v) = knows_value T v
-knows_worth T (Whole bytes origin) = knows_bytes T bytes
+knows_worth T (Whole bytes origin) = list_all (λ (x : Byte). knows T x.prov) bytes
 knows_worth T _ = true
-
--- what the names in arguments speak of was made (the memory model)
-abbrev pub knows_arguments : Table → List Arg → Bool
-knows_arguments T args = list_all (λ (x : Arg). knows_value T x.value) args
 
 -- 6.2.5p17: a number is one of some integer type, or the difference of two addresses
 abbrev pub is_small : Worth → Bool
@@ -99,20 +91,10 @@ has_part (Whole bytes origin) offset size = nat_le (offset + size) (length bytes
 has_part Missing offset size = true
 has_part _ offset size = false
 
--- 6.2.4p2: the instance is there and lives
-abbrev pub live_in : Option Instance → Bool
-live_in None = false
-live_in (Some x) = x.live
-
 -- 6.2.4p2: the instance with this number is there and lives
 abbrev pub is_live : World → ℕ → Bool
-is_live w i = live_in (instance_at w.memory.table.instances i)
-
--- 6.2.4p2: a live instance has so many bytes from an offset on
-abbrev pub room_in : Option Instance → (offset n : ℕ) → Bool
-room_in None offset n = false
-room_in (Some x) offset n = x.live && nat_le (offset + n) x.size
+is_live w i = option_map_or (λ (x : Instance). x.live) (instance_at w.memory.table.instances i) false
 
 -- 6.2.4p2: the instance with this number is live, and has so many bytes from an offset on
 abbrev pub has_room : World → (i offset n : ℕ) → Bool
-has_room w i offset n = room_in (instance_at w.memory.table.instances i) offset n
+has_room w i offset n = option_map_or (λ (x : Instance). x.live && nat_le (offset + n) x.size) (instance_at w.memory.table.instances i) false

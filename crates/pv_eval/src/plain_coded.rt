@@ -1,6 +1,6 @@
 // Plain expressions by what is known of their nodes (C17 6.5): what one gives from a world, where nothing stops it.
 ghost use Rattle.std.specs.Prelude.{◌≡◌, ◌<◌, ◌++◌, ◌∷◌, [], true, false, IfSome, length};
-ghost use Rattle.pv_seq.specs.Sequencing.{access_of};
+ghost use Rattle.pv_seq.specs.SequencingParts.{access_of};
 ghost use Rattle.pv_types.specs.Ty.{Ty, IntTy};
 ghost use Rattle.pv_types.specs.Known.{tree};
 ghost use Rattle.pv_typed.specs.declared.nodes.Typed.{Typed as Row};

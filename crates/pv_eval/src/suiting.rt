@@ -11,7 +11,8 @@ ghost use Rattle.pv_world.specs.Worths.{int_of};
 ghost use Rattle.pv_world.specs.Preconditions.{IsSmall, HasRoom, HasPart, HasSizeOf, IsStored};
 ghost use Rattle.pv_world.specs.Pointers.{is_order};
 ghost use Rattle.pv_world.specs.Coming.{worth_of, IsMadeWorth};
-ghost use Rattle.pv_eval.specs.Suiting.{knows, knows_value, knows_bytes, knows_worth, knows_arguments, is_small, is_promoted, is_count, is_operand, is_of, is_stored, has_part, is_live, has_room};
+ghost use Rattle.pv_eval.specs.Suiting.{knows, knows_value, knows_worth, is_small, is_promoted, is_count, is_operand, is_of, is_stored, has_part, is_live, has_room};
+ghost use Rattle.pv_eval.specs.SuitingParts.{knows_bytes, knows_arguments};
 
 use pv_libc::Arg;
 use pv_num::{BinOp, IntKind, fits};

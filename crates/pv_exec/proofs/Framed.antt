@@ -28,7 +28,7 @@ use Rattle.pv_eval.specs.Sequenced.{Given, with_given}
 use Rattle.pv_eval.specs.Steps.{Calling, source_of, is_unequal, is_minus, is_after}
 use Rattle.pv_eval.specs.Arguments.{argument}
 use Rattle.pv_eval.specs.Evaluation.{ev, ev_call, ev_through, ev_ask}
-use Rattle.pv_eval.specs.Callees.{function_in}
+use Rattle.pv_eval.specs.CalleeParts.{function_in}
 use Rattle.pv_eval.specs.Frames.{second_after, both_after, later_after, first_after, argument_at, arguments_from, asked_with, argument_after, stage_after, frame_after, after, callee_of, passed_of}
 use Rattle.pv_eval.specs.Stack.{rest}
 use Rattle.pv_eval.specs.Ahead.{stack, now_does}

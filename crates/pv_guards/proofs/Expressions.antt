@@ -25,7 +25,7 @@ use Rattle.pv_eval.specs.Sequenced.{Given, with_given, done, operand, later, doi
 use Rattle.pv_eval.specs.Steps.{Calling, takes, converted, reading, writing, source_of, is_unequal, is_minus, is_after, is_down, combining, stepping, handed}
 use Rattle.pv_eval.specs.Evaluation.{ev, ev_form, ev_call, ev_through, ev_ask}
 use Rattle.pv_eval.specs.Arguments.{argument}
-use Rattle.pv_eval.specs.Callees.{function_in}
+use Rattle.pv_eval.specs.CalleeParts.{function_in}
 use Rattle.pv_eval.specs.Library.{asks}
 use Rattle.pv_libc.specs.declared.values.Arg.{Arg}
 use Rattle.pv_typed.specs.Known.{Each}

@@ -47,7 +47,8 @@ use Rattle.pv_eval.specs.States.{Setting}
 use Rattle.pv_eval.specs.TypeForms.{lvalue, size_of}
 use Rattle.pv_eval.specs.Objects.{instance_for}
 use Rattle.pv_eval.specs.Permission.{permits}
-use Rattle.pv_eval.specs.Callees.{may_call, function_in}
+use Rattle.pv_eval.specs.Callees.{may_call}
+use Rattle.pv_eval.specs.CalleeParts.{function_in}
 use Rattle.pv_eval.specs.Library.{asks}
 use Rattle.pv_eval.specs.Accesses.{access_to, reads_at, reads, writes_at, writes}
 use Rattle.pv_eval.specs.AccessParts.{takes_part}

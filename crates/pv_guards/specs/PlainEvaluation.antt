@@ -1,5 +1,5 @@
 -- Evaluation of expressions (6.5) without the guards: the text of pv_eval's definition, over operations as their rules have them.
-use Rattle.std.specs.Prelude.{ℕ, pos, true, false, List, [], ◌∷◌, ◌++◌, None, if◌then◌else◌}
+use Rattle.std.specs.Prelude.{ℕ, pos, true, false, List, [], ◌∷◌, ◌++◌, None, if◌then◌else◌, unsigned_abs}
 use Rattle.pv_library.specs.declared.library.Library.{Library}
 use Rattle.pv_libc.specs.declared.values.Arg.{Arg}
 use Rattle.pv_types.specs.Ty.{Ty}
@@ -7,7 +7,7 @@ use Rattle.pv_typed.specs.TypedTree.{TypedTree, Node, Form, Constant, Object, Fu
 use Rattle.pv_seq.specs.Sequencing.{Access, Open, opened, sequence_point}
 use Rattle.pv_world.specs.Worlds.{Worth}
 use Rattle.pv_eval.specs.States.{Setting, State, Res, then_do}
-use Rattle.pv_world.specs.Worths.{int, is_true}
+use Rattle.pv_world.specs.Worths.{int, is_true, int_of}
 use Rattle.pv_eval.specs.TypeForms.{lvalue, kind_of, element_size, pointed_to}
 use Rattle.pv_types.specs.Sorts.{is_void, is_pointer}
 use Rattle.pv_eval.specs.Conversions.{how_to}
@@ -16,7 +16,6 @@ use Rattle.pv_eval.specs.Operations.{Converts, Calculates, CalculatesOne, Tests,
 use Rattle.pv_eval.specs.Sequenced.{Given, done, operand, later}
 use Rattle.pv_eval.specs.Steps.{Calling, takes, tick_if, source_of, is_unequal, is_minus, is_after}
 use Rattle.pv_eval.specs.Arguments.{argument}
-use Rattle.pv_eval.specs.Callees.{function_in}
 use Rattle.pv_guards.specs.Plain.{act_plainly}
 use Rattle.pv_guards.specs.PlainSteps.{doing, work, converted, handed, reading, writing, combining, stepping}
 
@@ -113,7 +112,7 @@ abbrev mutual
   -- 6.5.2.2p1, p10: the arguments that are left of a call by a value; behind them it is asked which function the value points to
   pub ev_through : Setting → Calling → ℕ → Ty → Worth → List Worth → Arguments → Open → State → Res Given
   ev_through b call line t p got NoArguments j s =
-      then_do (act_plainly b line (Finds t p) s) (λ f s. then_do (call (function_in f) got line s) (done (sequence_point j)))
+      then_do (act_plainly b line (Finds t p) s) (λ f s. then_do (call (unsigned_abs (int_of f)) got line s) (done (sequence_point j)))
   ev_through b call line t p got (MoreArguments x xs) j s =
       operand (ev b call x) j s (λ j v s. then_do (handed b x v s) (λ v s. ev_through b call line t p (got ++ v ∷ []) xs j s))
 

@@ -27,7 +27,7 @@ use Rattle.pv_eval.specs.Sequenced.{Given, with_given, done, work, operand, late
 use Rattle.pv_eval.specs.Steps.{Calling, converted, handed, reading, writing, source_of, is_unequal, is_minus, is_down, is_after, combining, stepping}
 use Rattle.pv_eval.specs.Arguments.{argument}
 use Rattle.pv_eval.specs.Evaluation.{ev, ev_call, ev_through, ev_ask}
-use Rattle.pv_eval.specs.Callees.{function_in}
+use Rattle.pv_eval.specs.CalleeParts.{function_in}
 use Rattle.pv_numbering.proofs.Alike.{with_types, AlikeWorth, AlikeWorths, AlikeLvalue, AlikeGiven}
 use Rattle.pv_numbering.proofs.Acts.{ActAlike, ActsAlike}
 use Rattle.pv_numbering.proofs.Worths.{int-same}

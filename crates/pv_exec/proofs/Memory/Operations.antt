@@ -42,7 +42,8 @@ use Rattle.pv_eval.specs.Objects.{where_possible, heap_name, request_of, makes, 
 use Rattle.pv_eval.specs.ObjectParts.{can_make, can_place}
 use Rattle.pv_eval.specs.Callees.{may_call}
 use Rattle.pv_eval.specs.Library.{replied, with_memory, asked, asks}
-use Rattle.pv_eval.specs.Suiting.{is_size, is_stored, live_in, is_live, has_room, knows_worth}
+use Rattle.pv_eval.specs.Suiting.{is_size, is_stored, is_live, has_room, knows_worth}
+use Rattle.pv_eval.specs.SuitingParts.{live_in}
 use Rattle.pv_eval.specs.Operations.{Op, Converts, Calculates, CalculatesOne, Tests, Negates, Accepts, Needs, Moves, Subtracts, Orders, Equals, Follows, Selects, Finds, TakesPart, Reads, Writes, NamesObject, NamesLiteral, NamesFunction, Makes, MakesLiteral, MakesFunction, Ends, BeginsBody, EndsBody, Fills, Puts, PutsText, Asks, suits, works, does}
 use Rattle.pv_eval.proofs.Closed.{IsLvalue, IsAsked}
 use Rattle.pv_eval.proofs.Guards.{left_of, right_of, worth_made}

@@ -34,7 +34,8 @@ use Rattle.pv_world.specs.ObjectParts.{filling}
 use Rattle.pv_world.specs.Preconditions.{HasSizeOf, IsStored}
 use Rattle.pv_eval.specs.States.{Setting}
 use Rattle.pv_eval.specs.TypeForms.{Lvalue, lvalue, shape_of, size_of}
-use Rattle.pv_eval.specs.Suiting.{is_stored, room_in, has_room}
+use Rattle.pv_eval.specs.Suiting.{is_stored, has_room}
+use Rattle.pv_eval.specs.SuitingParts.{room_in}
 use Rattle.pv_eval.proofs.Closed.{IsLvalue}
 use Rattle.pv_eval.proofs.Guards.{left_of, right_of, stored_is}
 use Rattle.pv_eval.proofs.Settings.{scalar_sized}

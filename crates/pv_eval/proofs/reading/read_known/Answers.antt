@@ -2,7 +2,8 @@ use Rattle.std.proofs.Common.{◌≡◌, ◌∷◌, false, sym, ap, ◌∙◌, s
 use Rattle.std.specs.Prelude.{OnOk}
 use Rattle.pv_types.specs.Known.{tree}
 use Rattle.pv_object.specs.declared.values.Pointer.{Pointer}
-use Rattle.pv_seq.specs.Sequencing.{Access, access_of, noted, rivals}
+use Rattle.pv_seq.specs.Sequencing.{Access, noted, rivals}
+use Rattle.pv_seq.specs.SequencingParts.{access_of}
 use Rattle.pv_seq.specs.Rivals.{top, below}
 use Rattle.pv_world.specs.Worths.{pointer_of}
 use Rattle.pv_world.specs.Coming.{Did, worth_of}

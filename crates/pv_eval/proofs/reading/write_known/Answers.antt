@@ -2,7 +2,8 @@ use Rattle.std.proofs.Common.{◌≡◌, ℕ, ◌∷◌, true, sym, ap, ◌∙�
 use Rattle.std.specs.Prelude.{OnOk, ◌&&◌}
 use Rattle.pv_types.specs.Known.{Known, tree}
 use Rattle.pv_object.specs.declared.values.Pointer.{Pointer}
-use Rattle.pv_seq.specs.Sequencing.{Access, access_of, noted, rivals}
+use Rattle.pv_seq.specs.Sequencing.{Access, noted, rivals}
+use Rattle.pv_seq.specs.SequencingParts.{access_of}
 use Rattle.pv_seq.specs.Rivals.{top, below}
 use Rattle.pv_world.specs.declared.got.Shape.{Shape}
 use Rattle.pv_world.specs.Worlds.{Worth}

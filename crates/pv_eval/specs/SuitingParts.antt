@@ -1,0 +1,25 @@
+-- A bridge: what functions answer that do a part of what Suiting says.
+use Rattle.std.specs.Prelude.{Bool, Option, false, nat_le, ℕ, ◌&&◌, ◌+◌, List}
+use Rattle.pv_inst.specs.declared.values.Instance.{Instance}
+use Rattle.pv_shadow.specs.declared.byte.Byte.{Byte}
+use Rattle.pv_inst.specs.Table.{Table}
+use Rattle.pv_eval.specs.Suiting.{knows, knows_value}
+use Rattle.std.specs.List.{list_all}
+use Rattle.pv_libc.specs.declared.values.Arg.{Arg}
+use Rattle.std.specs.Option.{option_map_or}
+
+-- 6.2.4p2: the instance is there and lives
+abbrev pub live_in : Option Instance → Bool
+live_in o = option_map_or (λ (x : Instance). x.live) o false
+
+-- 6.2.4p2: a live instance has so many bytes from an offset on
+abbrev pub room_in : Option Instance → (offset n : ℕ) → Bool
+room_in o offset n = option_map_or (λ (x : Instance). x.live && nat_le (offset + n) x.size) o false
+
+-- what the names in abstract bytes speak of was made (the memory model)
+abbrev pub knows_bytes : Table → List Byte → Bool
+knows_bytes T bytes = list_all (λ (x : Byte). knows T x.prov) bytes
+
+-- what the names in arguments speak of was made (the memory model)
+abbrev pub knows_arguments : Table → List Arg → Bool
+knows_arguments T args = list_all (λ (x : Arg). knows_value T x.value) args
