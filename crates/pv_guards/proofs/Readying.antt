@@ -29,7 +29,7 @@ use Rattle.pv_typed.specs.TypedUnits.{Store, StoredValue, ValueOf, TextOf, layou
 use Rattle.pv_world.specs.Worlds.{Worth, World}
 use Rattle.pv_world.specs.Worths.{int, pointer, null_pointer}
 use Rattle.pv_world.specs.Accesses.{stored_as}
-use Rattle.pv_world.specs.Objects.{put_at, instance_of, literal_of, function_of, base_in, makes_object, function_request, owner_of, owning}
+use Rattle.pv_world.specs.Objects.{put_at, instance_of, literal_of, function_of, base_in, makes_object, owner_of, owning, function_request}
 use Rattle.pv_world.specs.ObjectParts.{filling, object_made, literal_made, literal_request, function_made}
 use Rattle.pv_eval.specs.States.{Setting, State, Res, Gives}
 use Rattle.pv_eval.specs.Acting.{keeps_both, sided}

@@ -6,7 +6,7 @@ use Rattle.pv_typed.specs.TypedUnits.{object_at, function_at, literal_at}
 use Rattle.pv_world.specs.Worlds.{Worth, World}
 use Rattle.pv_world.specs.Doing.{Done}
 use Rattle.pv_world.specs.Accesses.{stored_as}
-use Rattle.pv_world.specs.Objects.{makes_object, makes_literal_of, makes_function, function_request, ends_object, fills_object, puts_bytes}
+use Rattle.pv_world.specs.Objects.{makes_object, makes_literal_of, makes_function, ends_object, fills_object, puts_bytes, function_request}
 use Rattle.pv_eval.specs.States.{Setting, State, Res}
 use Rattle.pv_eval.specs.TypeForms.{size_of}
 use Rattle.pv_eval.specs.Acting.{acted}

@@ -41,8 +41,8 @@ use Rattle.pv_world.specs.Telling.{Told, quiet, telling}
 use Rattle.pv_world.specs.Doing.{Done, Answers}
 use Rattle.pv_world.specs.Coming.{IsMadeWorth}
 use Rattle.pv_world.specs.Accesses.{is_inexact, stored_as, mark_of}
-use Rattle.pv_world.specs.Objects.{function_request}
 use Rattle.pv_world.specs.ObjectParts.{filling}
+use Rattle.pv_world.specs.Objects.{function_request}
 use Rattle.pv_eval.specs.States.{Setting}
 use Rattle.pv_eval.specs.TypeForms.{Lvalue, size_of}
 use Rattle.pv_eval.specs.Permission.{permits}

@@ -9,8 +9,8 @@ use Rattle.pv_world.specs.Worlds.{Worth, Nothing, World}
 use Rattle.pv_world.specs.Telling.{quiet}
 use Rattle.pv_world.specs.Doing.{Done, Answers}
 use Rattle.pv_world.specs.Accesses.{stored_as}
-use Rattle.pv_world.specs.Objects.{function_request}
 use Rattle.pv_world.specs.ObjectParts.{with_bytes, names_literal, names_function, begins_body, ends_body}
+use Rattle.pv_world.specs.Objects.{function_request}
 use Rattle.pv_eval.specs.States.{Setting}
 use Rattle.pv_eval.specs.TypeForms.{Lvalue, size_of}
 use Rattle.pv_eval.specs.Suiting.{is_size, is_live, has_room}

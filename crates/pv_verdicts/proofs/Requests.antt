@@ -22,8 +22,8 @@ use Rattle.pv_world.specs.Conversions.{opposite}
 use Rattle.pv_world.specs.Telling.{Told}
 use Rattle.pv_world.specs.Doing.{Done}
 use Rattle.pv_world.specs.Accesses.{is_inexact}
-use Rattle.pv_world.specs.Objects.{function_request}
 use Rattle.pv_world.specs.ObjectParts.{literal_request}
+use Rattle.pv_world.specs.Objects.{function_request}
 use Rattle.pv_eval.specs.States.{Setting}
 use Rattle.pv_eval.specs.TypeForms.{Lvalue}
 use Rattle.pv_eval.specs.Permission.{permits}

@@ -32,7 +32,7 @@ use Rattle.pv_world.specs.Telling.{Told, quiet}
 use Rattle.pv_world.specs.Doing.{Done}
 use Rattle.pv_world.specs.Coming.{IsMadeWorth}
 use Rattle.pv_world.specs.Accesses.{is_inexact, stored_as}
-use Rattle.pv_world.specs.Objects.{function_request, base_in}
+use Rattle.pv_world.specs.Objects.{base_in, function_request}
 use Rattle.pv_world.specs.ObjectParts.{filling}
 use Rattle.pv_eval.specs.States.{Setting}
 use Rattle.pv_eval.specs.TypeForms.{Lvalue, size_of}

@@ -30,7 +30,8 @@ use Rattle.pv_object.specs.Memory.{Mem, with_table as retabled}
 use Rattle.pv_object.specs.Access.{reach}
 use Rattle.pv_object.specs.Creating.{created}
 use Rattle.pv_object.specs.Loading.{Loaded}
-use Rattle.pv_object.specs.Operations.{truth, to_ptr, recast, to_int, shift, select, code, together, order, equal}
+use Rattle.pv_object.specs.Operations.{truth, to_ptr, recast, to_int, code, together, order, equal}
+use Rattle.pv_object.specs.OperationParts.{shift, select}
 use Rattle.pv_watch.specs.declared.event.What.{What}
 use Rattle.pv_world.specs.declared.got.Shape.{Shape}
 use Rattle.pv_world.specs.declared.got.Shape.TheVariants as shape
@@ -47,8 +48,8 @@ use Rattle.pv_world.specs.Pointers.{moved_by, distance, moves, in_elements, elem
 use Rattle.pv_world.specs.PointerParts.{between, unlike}
 use Rattle.pv_world.specs.Accesses.{reaching_by, reaching, scalar_as, scalar_by, worth_in, takes_bytes}
 use Rattle.pv_world.specs.AccessParts.{range_use}
-use Rattle.pv_world.specs.Objects.{makes_object, ends_instance, makes_literal_of, makes_function, owner_of, put_at}
-use Rattle.pv_world.specs.ObjectParts.{object_made, literal_request, literal_made, function_made}
+use Rattle.pv_world.specs.Objects.{makes_object, makes_literal_of, makes_function, owner_of, put_at}
+use Rattle.pv_world.specs.ObjectParts.{object_made, literal_request, literal_made, function_made, ends_instance}
 use Rattle.pv_exec.proofs.Memory.Pointers.{Retabled, reach-leads, value-leads, truth-leads, equal-leads, to_ptr-leads, recast-leads, to_int-leads, move-leads, code-leads, together-leads, order-leads}
 use Rattle.pv_exec.proofs.Memory.Reached.{AreInLive, reach-reaches, reach-later, created-in-live}
 use Rattle.pv_exec.proofs.Memory.Stored.{AreMade, plain-length, plain-made}
