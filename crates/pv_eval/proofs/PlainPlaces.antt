@@ -25,7 +25,8 @@ use Rattle.pv_world.specs.Worlds.{Worth, World}
 use Rattle.pv_world.specs.Worths.{int, pointer, missing_value}
 use Rattle.pv_world.specs.Telling.{quiet}
 use Rattle.pv_world.specs.Doing.{Fails}
-use Rattle.pv_world.specs.Pointers.{distance, moves, selects, moved_by as moved_so}
+use Rattle.pv_world.specs.Pointers.{distance, moves, moved_by as moved_so}
+use Rattle.pv_world.specs.PointerParts.{selects}
 use Rattle.pv_eval.specs.States.{then_do}
 use Rattle.pv_eval.specs.TypeForms.{element_size}
 use Rattle.pv_types.specs.Sorts.{is_pointer}

@@ -32,7 +32,8 @@ use Rattle.pv_world.specs.Coming.{Came, Did, Faulted, Gave, Ended, seen, worth_o
 use Rattle.pv_eval.specs.States.{Setting}
 use Rattle.pv_eval.specs.Frames.{asked_with}
 use Rattle.pv_eval.specs.SuitingParts.{knows_arguments}
-use Rattle.pv_eval.specs.Library.{noted_as, all_noted, blame_in, with_memory, asked, asks}
+use Rattle.pv_eval.specs.Library.{noted_as, blame_in, with_memory, asked, asks}
+use Rattle.pv_eval.specs.LibraryParts.{all_noted}
 use Rattle.pv_eval.specs.Moments.{come_to}
 use Rattle.pv_eval.specs.Operations.{Asks, does}
 use Rattle.pv_eval.specs.Texts.{text_in, silent, UnlessNoMemory, Wrote}

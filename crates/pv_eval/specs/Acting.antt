@@ -9,6 +9,7 @@ use Rattle.pv_world.specs.Doing.{Done, Answers, Fails, Breaks}
 use Rattle.pv_world.specs.Telling.{Told, verdict_of, fault_of, fault_told}
 use Rattle.pv_eval.specs.declared.marked.Marked.{Marked}
 use Rattle.pv_eval.specs.States.{Setting, State, Stopped, Res, Gives, Stops}
+use Rattle.std.specs.Option.{option_map_or}
 
 -- events, each with its turn (5.1.2.3p1: a step of the abstract machine) and its mark, how much was printed (7.21.6.3)
 abbrev pub stamped : (turn mark : ℕ) → List What → List Marked
@@ -27,15 +28,10 @@ noted_with w t more s = noted w (record t { events = t.events ++ more }) s
 abbrev pub pair_count : World → ℕ
 pair_count w = length w.memory.table.pairs
 
--- the memory model: a pair that stands for both of its candidates still
-abbrev pub keeps_both : Option Twin → Bool
-keeps_both None = false
-keeps_both (Some t) = t.keeps_low && t.keeps_high
-
 -- a pair that stands for both is settled to this side, and keeps its high candidate alone or its low one (the memory model: the user disambiguates)
 abbrev pub sided : World → (pair : ℕ) → (high : Bool) → World
 sided w k high =
-    if keeps_both (twin_at w.memory.table.pairs k)
+    if option_map_or (λ (t : Twin). t.keeps_low && t.keeps_high) (twin_at w.memory.table.pairs k) false
     then record w { memory = record w.memory { table = record w.memory.table { pairs = kept w.memory.table.pairs k (not high) high } } } else w
 
 -- the memory model: an event that tells of a use of pair k

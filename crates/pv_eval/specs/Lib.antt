@@ -14,6 +14,7 @@ pub mod AccessParts
 pub mod Objects
 pub mod ObjectParts
 pub mod Library
+pub mod LibraryParts
 pub mod Texts
 pub mod Stores
 pub mod Callees

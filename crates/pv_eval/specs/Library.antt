@@ -1,5 +1,5 @@
 -- Calls of the library (C17 7): what they tell of, and what they come to.
-use Rattle.std.specs.Prelude.{ℕ, List, [], ◌∷◌, ◌++◌, Option, Some, None, Result, Ok, Err}
+use Rattle.std.specs.Prelude.{ℕ, List, [], ◌∷◌, Option, Some, None, Result, Ok, Err}
 use Rattle.pv_library.specs.declared.library.Library.{Library}
 use Rattle.pv_inst.specs.Table.{Table}
 use Rattle.pv_object.specs.declared.values.Stop.{Stop}
@@ -18,6 +18,7 @@ use Rattle.pv_world.specs.Worlds.{World, Nothing, Scalar, Halts, Exits, Aborts, 
 use Rattle.pv_world.specs.Telling.{Told, used, made}
 use Rattle.pv_world.specs.Doing.{Done, Answers, Fails, Breaks}
 use Rattle.pv_world.specs.Worths.{wrong_of}
+use Rattle.std.specs.List.{flat_map}
 
 -- what happened within a call, as events (the memory model: instances made and ended, exposure, uses of pairs of candidates)
 abbrev pub noted_as : Table → Note → List What
@@ -27,11 +28,6 @@ noted_as T (note.Exposed i) = what.Exposed i ∷ []
 noted_as T (note.Used tried test) = used test tried
 noted_as T (note.Stopped low high pair) = []
 
--- what happened within a call, in order, as events (the memory model)
-abbrev pub all_noted : Table → List Note → List What
-all_noted T [] = []
-all_noted T (n ∷ ns) = noted_as T n ++ all_noted T ns
-
 -- the memory model: the candidates of the pointer whose check stops a call, noted last, as they were before
 abbrev pub blame_in : List Note → Option Blame
 blame_in [] = None
@@ -40,7 +36,7 @@ blame_in (n ∷ ns) = blame_in ns
 
 -- what a call tells: its events (the memory model), and the bytes that it prints (7.21.6.3)
 abbrev pub told_of : Mem → List Note → List ℕ → Told
-told_of M notes text = record { events = all_noted M.table notes; bytes = text }
+told_of M notes text = record { events = flat_map (noted_as M.table) notes; bytes = text }
 
 -- the memory model: the world, with this memory
 abbrev pub with_memory : World → Mem → World

@@ -1,36 +1,38 @@
 -- The operations of a run (C17 6.3, 6.5, 6.7.9, 7), and what each does.
-use Rattle.std.specs.Prelude.{ℕ, nat_le, Bool, true, ◌&&◌, List, ◌∷◌, Option, None, drop, if◌then◌else◌}
+use Rattle.std.specs.Prelude.{ℕ, nat_le, Bool, true, ◌&&◌, List, ◌∷◌, Option, None, drop, if◌then◌else◌, pos, take}
 use Rattle.std.specs.FinMap as map
+use Rattle.pv_fault.specs.declared.faults.Clause.TheVariants as clause
 use Rattle.pv_num.specs.declared.kinds.IntKind.{IntKind}
 use Rattle.pv_num.specs.declared.operators.BinOp.{BinOp}
 use Rattle.pv_num.specs.declared.operators.UnOp.{UnOp}
 use Rattle.pv_num.specs.Kinds.{fits_of}
 use Rattle.pv_num.specs.Arithmetic.{binary_of, unary_of}
 use Rattle.pv_types.specs.Layouts.{is_complete_in}
-use Rattle.pv_typed.specs.TypedUnits.{layouts, object_at}
+use Rattle.pv_typed.specs.TypedUnits.{layouts}
 use Rattle.pv_library.specs.declared.library.Library.{Library}
 use Rattle.pv_seq.specs.Sequencing.{Access}
 use Rattle.pv_libc.specs.declared.values.Arg.{Arg}
 use Rattle.pv_world.specs.declared.got.How.{How}
 use Rattle.pv_world.specs.Worlds.{Worth, Nothing, World}
-use Rattle.pv_world.specs.Worths.{truth_int, int_of, pointer, plain, present, computed, missing_value}
+use Rattle.pv_world.specs.Worths.{truth_int, int_of, pointer, plain, present, computed, missing_value, pointer_of, bytes_of}
 use Rattle.pv_world.specs.Telling.{quiet}
 use Rattle.pv_world.specs.Doing.{Done, Answers, Fails}
 use Rattle.pv_world.specs.Conversions.{converts, opposite, tests}
 use Rattle.pv_world.specs.Calculations.{follows_to}
-use Rattle.pv_world.specs.Pointers.{moves, subtracts, orders, equals, selects, finds, is_order}
-use Rattle.pv_world.specs.Accesses.{takes_bytes}
+use Rattle.pv_world.specs.Pointers.{moves, subtracts, orders, equals, is_order, found_by, moved_by}
 use Rattle.pv_world.specs.Objects as object
 use Rattle.pv_eval.specs.States.{Setting, State, Res}
 use Rattle.pv_eval.specs.Acting.{acted}
 use Rattle.pv_eval.specs.TypeForms.{Lvalue}
 use Rattle.pv_eval.specs.Accesses.{reads, writes}
-use Rattle.pv_eval.specs.Objects.{makes, ends, makes_literal, makes_function, fills, puts, puts_text}
+use Rattle.pv_eval.specs.Objects.{makes, ends, makes_literal, makes_function, fills, puts, puts_text, instance_for}
 use Rattle.pv_eval.specs.Callees.{may_call}
 use Rattle.pv_types.specs.Ty.{Ty}
 use Rattle.pv_eval.specs.Library.{asks}
 use Rattle.pv_eval.specs.Suiting.{knows_worth, is_small, is_integer, is_promoted, is_operand, is_size, is_stored, has_part, knows_value}
 use Rattle.std.specs.List.{list_all}
+use Rattle.pv_world.specs.Accesses.{worth_in}
+use Rattle.pv_object.specs.Operations.{move_under, code}
 
 -- an operation of a run (6.3, 6.5, 6.7.9, 7), with its operands
 pub data Op : Type 0 where
@@ -109,12 +111,12 @@ works b (Subtracts size v x) = subtracts size v x
 works b (Orders op v x) = orders op v x
 works b (Equals negated v x) = equals negated v x
 works b (Follows nothing v) = follows_to nothing v
-works b (Selects offset v) = selects offset v
-works b (Finds t v) = finds (may_call b t) v
-works b (TakesPart offset l v) = takes_bytes offset l.size l.shape v
+works b (Selects offset v) = λ w. present v w (λ v. moved_by w (pointer_of v) (move_under clause.Indirection w.memory.table (pointer_of v) (pos offset)))
+works b (Finds t v) = λ w. plain v w (λ v. found_by w (pointer_of v) (may_call b t) (code w.memory.table (pointer_of v)))
+works b (TakesPart offset l v) = λ w. present v w (λ v. worth_in w (take l.size (drop offset (bytes_of v))) l.shape None None quiet)
 works b (Reads l place rivals) = reads b l place rivals
 works b (Writes l place v from rivals) = writes b l place v from rivals
-works b (NamesObject o) = object.names_object o (object_at b.unit o).lasting
+works b (NamesObject o) = λ w. Answers (pointer (object.address_of w (instance_for b o w))) w quiet
 works b (NamesLiteral l) = λ w. Answers (pointer (object.address_of w (object.literal_of w l))) w quiet
 works b (NamesFunction f) = λ w. Answers (pointer (object.address_of w (object.function_of w f))) w quiet
 works b (Makes o) = makes b o

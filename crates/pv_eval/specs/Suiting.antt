@@ -42,14 +42,10 @@ knows_worth T _ = true
 abbrev pub is_small : Worth → Bool
 is_small v = int_le (neg_ℤ (pos (2 ^ 64))) (int_of v) && int_le (int_of v) (pos (2 ^ 64))
 
--- 6.8.4.2p1: an integer, if the value is there and was set
-abbrev pub is_integer_value : Value → Bool
-is_integer_value (PointerValue p) = false
-is_integer_value _ = true
-
 -- 6.8.4.2p1: what an expression gives is an integer, if it is there and was set
 abbrev pub is_integer : Worth → Bool
-is_integer (ScalarWorth v) = is_integer_value v
+is_integer (ScalarWorth (PointerValue p)) = false
+is_integer (ScalarWorth v) = true
 is_integer Missing = true
 is_integer _ = false
 

@@ -3,7 +3,8 @@ ghost use Rattle.std.specs.Prelude.{◌≡◌, ◌≤◌, true};
 ghost use Rattle.pv_prov.specs.Names.{twin_at};
 ghost use Rattle.pv_prov.specs.Made.{Stands_low, Stands_high};
 ghost use Rattle.pv_inst.specs.Table.{IsMadeIn};
-ghost use Rattle.pv_eval.specs.Acting.{keeps_both, sided};
+ghost use Rattle.pv_eval.specs.Acting.{sided};
+ghost use Rattle.pv_eval.specs.ActingParts.{keeps_both};
 ghost use Rattle.pv_eval.specs.Moments.{sides_of};
 ghost use Rattle.pv_eval.specs.Siding.{side_for};
 

@@ -12,8 +12,8 @@ use Rattle.pv_library.specs.declared.library.Library.{Library}
 use Rattle.pv_libc.specs.declared.values.Arg.{Arg}
 use Rattle.pv_typed.specs.Known.{Each}
 use Rattle.pv_eval.specs.States.{Setting, State, Gives}
-use Rattle.pv_eval.specs.Acting.{acted, answered, by_side, sided, keeps_both, pair_count, noted}
-use Rattle.pv_eval.specs.ActingParts.{one_kept}
+use Rattle.pv_eval.specs.Acting.{acted, answered, by_side, sided, pair_count, noted}
+use Rattle.pv_eval.specs.ActingParts.{one_kept, keeps_both}
 use Rattle.pv_eval.specs.Operations.{Op, Converts, Calculates, CalculatesOne, Tests, Negates, Accepts, Needs, Moves, Subtracts, Orders, Equals, Follows, Selects, Finds, TakesPart, Reads, Writes, NamesObject, NamesLiteral, NamesFunction, Makes, MakesLiteral, MakesFunction, Ends, BeginsBody, EndsBody, Fills, Puts, PutsText, Asks, does, act}
 use Rattle.pv_eval.specs.Library.{asks}
 use Rattle.pv_eval.proofs.Guards.{left_of, right_of}

@@ -32,8 +32,8 @@ use Rattle.pv_world.specs.Accesses.{stored_as}
 use Rattle.pv_world.specs.Objects.{put_at, instance_of, literal_of, function_of, base_in, makes_object, owner_of, owning, function_request}
 use Rattle.pv_world.specs.ObjectParts.{filling, object_made, literal_made, literal_request, function_made}
 use Rattle.pv_eval.specs.States.{Setting, State, Res, Gives}
-use Rattle.pv_eval.specs.Acting.{keeps_both, sided}
-use Rattle.pv_eval.specs.ActingParts.{one_kept}
+use Rattle.pv_eval.specs.Acting.{sided}
+use Rattle.pv_eval.specs.ActingParts.{one_kept, keeps_both}
 use Rattle.pv_eval.specs.TypeForms.{lvalue, size_of}
 use Rattle.pv_eval.specs.Constants.{constant_worth, place_by}
 use Rattle.pv_eval.specs.Objects.{heap_name, request_of, text_for, instance_for}

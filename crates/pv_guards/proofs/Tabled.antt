@@ -44,8 +44,8 @@ use Rattle.pv_world.specs.Worths.{pointer, truth_int, int_of, pointer_of, unplai
 use Rattle.pv_world.specs.Telling.{Told, all_told}
 use Rattle.pv_world.specs.Doing.{Done}
 use Rattle.pv_world.specs.Conversions.{truth_by, truth_value, truth_worth, tests, opposite, number_by, recast_by, converts}
-use Rattle.pv_world.specs.Pointers.{moved_by, moves, distance, in_elements, elements_by, between_by, subtracts, ordered_by, orders, equal_by, equals, selects, is_order}
-use Rattle.pv_world.specs.PointerParts.{between}
+use Rattle.pv_world.specs.Pointers.{moved_by, moves, distance, in_elements, elements_by, between_by, subtracts, ordered_by, orders, equal_by, equals, is_order}
+use Rattle.pv_world.specs.PointerParts.{between, selects}
 use Rattle.pv_world.specs.Calculations.{follows_to}
 use Rattle.pv_world.specs.Accesses.{scalar_by, worth_in}
 use Rattle.pv_eval.specs.States.{Setting}

@@ -59,7 +59,7 @@ use Rattle.pv_libc.proofs.Kept.{created_live}
 use Rattle.pv_watch.specs.declared.event.What.TheVariants as what
 use Rattle.pv_world.specs.Telling.{made}
 use Rattle.pv_world.specs.ObjectParts.{made_row}
-use Rattle.pv_eval.specs.Library.{all_noted}
+use Rattle.pv_eval.specs.LibraryParts.{all_noted}
 use Rattle.pv_exec.specs.Staying.{Remains}
 use Rattle.pv_exec.proofs.Memory.Rows.{Leads}
 use Rattle.pv_journal_laws.proofs.Telling.{IsNumbered}

@@ -35,7 +35,8 @@ use Rattle.pv_watch.specs.declared.event.What.TheVariants as what
 use Rattle.pv_world.specs.Telling.{uses, exposures, all_told}
 use Rattle.pv_world.specs.TellingParts.{each_exposed}
 use Rattle.pv_world.specs.ObjectParts.{used_pair}
-use Rattle.pv_eval.specs.Library.{noted_as, all_noted}
+use Rattle.pv_eval.specs.Library.{noted_as}
+use Rattle.pv_eval.specs.LibraryParts.{all_noted}
 use Rattle.pv_exec.proofs.Memory.Rows.{Leads, led-itself, led-trans}
 use Rattle.pv_journal_laws.proofs.Telling.{IsNumbered}
 use Rattle.pv_journal_laws.proofs.Uses.{number_of}

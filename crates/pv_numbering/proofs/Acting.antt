@@ -9,8 +9,8 @@ use Rattle.pv_world.specs.Telling.{Told, verdict_of, fault_of, fault_told}
 use Rattle.pv_world.specs.Doing.{Done, Answers, Fails, Breaks}
 use Rattle.pv_world.specs.ObjectParts.{with_bytes}
 use Rattle.pv_eval.specs.States.{Setting, State, Stopped, Res, Stops}
-use Rattle.pv_eval.specs.Acting.{noted, noted_with, pair_count, keeps_both, settling, by_side, answered, acted}
-use Rattle.pv_eval.specs.ActingParts.{one_kept}
+use Rattle.pv_eval.specs.Acting.{noted, noted_with, pair_count, settling, by_side, answered, acted}
+use Rattle.pv_eval.specs.ActingParts.{one_kept, keeps_both}
 use Rattle.pv_numbering.proofs.Alike.{with_types, AlikeWorth, AlikeWorld, AlikeState, AlikeRes}
 use Rattle.pv_numbering.proofs.Doing.{AlikeDone, Alikes}
 

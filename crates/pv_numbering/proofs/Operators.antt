@@ -224,10 +224,10 @@ module _ (m m' : Known) where
   found_by-alike w b p fits (Ok r, T) h = found_in-alike (with_table w T) b p fits (owner_of w r.0) (used code_test r.1) h
   found_by-alike w b p fits (Err y, T) h = (refl, refl, alike_world m m' (with_table w T) b h, refl)
 
-  pub finds-alike : (fits : Option ℕ → Bool) (v v' : Worth) → AlikeWorth m m' v v' → (w : World) (b : Store) → Alikes m m' w b → AlikeDone m m' (point.finds fits v w) (point.finds fits v' (with_bytes w b))
+  pub finds-alike : (fits : Option ℕ → Bool) (v v' : Worth) → AlikeWorth m m' v v' → (w : World) (b : Store) → Alikes m m' w b → AlikeDone m m' (point_parts.finds fits v w) (point_parts.finds fits v' (with_bytes w b))
   finds-alike fits v v' g w b h =
       plain_alike m m' w b v v' _ _ h g (by_pointer (λ w p. point.found_by w p fits (code w.memory.table p)) v v' w b g (λ p. found_by-alike w b p fits (code w.memory.table p) h))
 
-  pub selects-alike : (offset : ℕ) (v v' : Worth) → AlikeWorth m m' v v' → (w : World) (b : Store) → Alikes m m' w b → AlikeDone m m' (point.selects offset v w) (point.selects offset v' (with_bytes w b))
+  pub selects-alike : (offset : ℕ) (v v' : Worth) → AlikeWorth m m' v v' → (w : World) (b : Store) → Alikes m m' w b → AlikeDone m m' (point_parts.selects offset v w) (point_parts.selects offset v' (with_bytes w b))
   selects-alike offset v v' g w b h =
       present_alike m m' w b v v' _ _ h g (by_pointer (λ w p. point.moved_by w p (select w.memory.table p offset)) v v' w b g (λ p. moved_by-alike w b p (select w.memory.table p offset) h))

@@ -2,7 +2,7 @@
 use Rattle.std.specs.Prelude.{◌++◌, None, length, [], ◌-◌, ℕ, replicate, List, ◌∷◌, drop, Some, Bool, Result}
 use Rattle.std.specs.declared.option.Option.{Option}
 use Rattle.pv_world.specs.Worlds.{World, Bindings, Nothing}
-use Rattle.pv_world.specs.Objects.{owning, bind, instance_made, address_of, literal_of, function_of, base_in, put_at}
+use Rattle.pv_world.specs.Objects.{owning, bind, instance_made, address_of, literal_of, function_of, base_in, put_at, instance_of}
 use Rattle.pv_world.specs.Doing.{Done, Answers}
 use Rattle.pv_shadow.specs.Bytes.{Store}
 use Rattle.pv_shadow.specs.declared.byte.Byte.{Byte}
@@ -97,3 +97,7 @@ begins_body w = Answers Nothing (record w { bodies = map.empty ∷ w.bodies }) q
 -- a body ends; those below it are left
 abbrev pub ends_body : World → Done
 ends_body w = Answers Nothing (record w { bodies = drop 1 w.bodies }) quiet
+
+-- 6.5.1p2: an identifier designates its object
+abbrev pub names_object : ℕ → (lasting : Bool) → World → Done
+names_object o lasting w = Answers (pointer (address_of w (instance_of w o lasting))) w quiet

@@ -18,7 +18,6 @@ use Rattle.pv_watch.specs.declared.event.What.TheVariants as what
 use Rattle.pv_world.specs.Worlds.{Nothing, World, Bindings, Halts, Refused}
 use Rattle.pv_world.specs.Telling.{quiet, telling, made}
 use Rattle.pv_world.specs.Doing.{Done, Answers, Fails}
-use Rattle.pv_world.specs.Worths.{pointer}
 
 -- 6.2.4p6: the instance of an object in the innermost body
 abbrev pub bound_in : List Bindings → ℕ → Option ℕ
@@ -53,10 +52,6 @@ base_in w i = base_of (instance_at w.memory.table.instances i)
 -- 6.5.3.2p3: the pointer to the first byte of an instance, with the instance for its provenance (the memory model)
 abbrev pub address_of : World → ℕ → Pointer
 address_of w i = record { address = base_in w i; prov = Inst i }
-
--- 6.5.1p2: an identifier designates its object
-abbrev pub names_object : ℕ → (lasting : Bool) → World → Done
-names_object o lasting w = Answers (pointer (address_of w (instance_of w o lasting))) w quiet
 
 -- 6.5.1p4: the instance of a literal
 abbrev pub literal_of : World → ℕ → ℕ

@@ -6,20 +6,20 @@ use Rattle.pv_num.specs.declared.kinds.IntKind.TheVariants.{Int as IntOfInt}
 use Rattle.pv_num.specs.declared.operators.BinOp.{BinOp}
 use Rattle.pv_num.specs.declared.operators.BinOp.TheVariants.{Lt, Gt, Le, Ge}
 use Rattle.pv_num.specs.declared.operators.ArithmeticFault.{ArithmeticFault}
-use Rattle.pv_fault.specs.declared.faults.Clause.TheVariants.{SubtractionOfPointers, PointerToFunction, AdditionOfPointers, Indirection}
+use Rattle.pv_fault.specs.declared.faults.Clause.TheVariants.{SubtractionOfPointers, PointerToFunction, AdditionOfPointers}
 use Rattle.pv_fault.specs.declared.faults.Reason.TheVariants.{Uneven, WrongType}
 use Rattle.pv_num.specs.Arithmetic.{binary_of}
 use Rattle.pv_inst.specs.declared.values.Tried.{Tried}
 use Rattle.pv_inst.specs.Table.{Table}
 use Rattle.pv_object.specs.declared.values.Pointer.{Pointer}
 use Rattle.pv_object.specs.declared.values.Stop.{Stop}
-use Rattle.pv_object.specs.Operations.{together, order, equal, code, move_under}
+use Rattle.pv_object.specs.Operations.{together, order, equal, move_under}
 use Rattle.pv_world.specs.Worlds.{Worth, World, with_table}
 use Rattle.pv_watch.specs.declared.event.What.{What}
 use Rattle.pv_world.specs.Telling.{quiet, telling, used, live_use, both_used, live_test, range_test, code_test}
 use Rattle.pv_world.specs.Objects.{owner_of}
 use Rattle.pv_world.specs.Doing.{Done, Answers, Fails}
-use Rattle.pv_world.specs.Worths.{int, pointer, truth_int, int_of, pointer_of, undefined, plain, present, wrong_of}
+use Rattle.pv_world.specs.Worths.{int, pointer, truth_int, int_of, pointer_of, undefined, plain, wrong_of}
 
 -- 6.5.6p8: what a pointer gives that is moved, and what is told: the use for the range of no bytes at the new address
 abbrev pub moved_by : World → Pointer → Result (Pointer × Tried) Stop × Table → Done
@@ -92,14 +92,6 @@ found_in w p fits o us =
 abbrev pub found_by : World → Pointer → (fits : Option ℕ → Bool) → Result (ℕ × Tried) Stop × Table → Done
 found_by w p fits (Ok r, T) = found_in (with_table w T) p fits (owner_of w r.0) (used code_test r.1)
 found_by w p fits (Err y, T) = Fails (wrong_of y) (Some p.prov) (with_table w T) quiet
-
--- 6.5.2.2p1: the function that is called by a value, which is there and was set; it is one of those that may be called so
-abbrev pub finds : (fits : Option ℕ → Bool) → Worth → World → Done
-finds fits v w = plain v w (λ v. found_by w (pointer_of v) fits (code w.memory.table (pointer_of v)))
-
--- 6.5.2.3: null and the empty name are those of the pointer; the range is that of no bytes at the member's address
-abbrev pub selects : (offset : ℕ) → Worth → World → Done
-selects offset v w = present v w (λ v. moved_by w (pointer_of v) (move_under Indirection w.memory.table (pointer_of v) (pos offset)))
 
 -- 6.5.8: the operators of order
 abbrev pub is_order : BinOp → Bool

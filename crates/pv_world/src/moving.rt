@@ -4,8 +4,8 @@ ghost use Rattle.pv_inst.specs.Table.{IsMadeIn};
 ghost use Rattle.pv_object.specs.Later.{IsLater};
 ghost use Rattle.pv_object.specs.OperationParts.{shift, select};
 ghost use Rattle.pv_world.specs.Preconditions.{IsSmall};
-ghost use Rattle.pv_world.specs.Pointers.{distance, moves, moved_by, selects};
-ghost use Rattle.pv_world.specs.PointerParts.{follows};
+ghost use Rattle.pv_world.specs.Pointers.{distance, moves, moved_by};
+ghost use Rattle.pv_world.specs.PointerParts.{follows, selects};
 ghost use Rattle.pv_world.specs.Coming.{Did, worth_of, IsMadeWorth};
 
 use crate::failing::{blame_of, fail, stopped};

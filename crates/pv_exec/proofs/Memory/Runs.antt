@@ -13,8 +13,8 @@ use Rattle.pv_world.specs.Telling.{Told}
 use Rattle.pv_world.specs.Doing.{Done, Answers, Fails, Breaks}
 use Rattle.pv_eval.specs.States.{Setting, State, Turns, Res, Gives, Stops, then_do, end_of}
 use Rattle.pv_eval.specs.StateParts.{spend}
-use Rattle.pv_eval.specs.Acting.{noted, pair_count, keeps_both, sided, by_side, answered, acted}
-use Rattle.pv_eval.specs.ActingParts.{one_kept}
+use Rattle.pv_eval.specs.Acting.{noted, pair_count, sided, by_side, answered, acted}
+use Rattle.pv_eval.specs.ActingParts.{one_kept, keeps_both}
 use Rattle.pv_eval.specs.Constants.{constant_worth}
 use Rattle.pv_eval.specs.Operations.{Op, Puts, does}
 use Rattle.pv_eval.proofs.Closed.{IsAsked, beside_setting}

@@ -33,7 +33,7 @@ use Rattle.pv_libc.specs.declared.values.Note.{Note}
 use Rattle.pv_libc.specs.Steps.{Now, Did, next, next_by, about, about_by, reached, reached_by, further}
 use Rattle.pv_libc.specs.Characters.{character_in, character_loaded, character_at, characters_from, string_from, most, string_at}
 use Rattle.pv_typed.specs.Known.{Each}
-use Rattle.pv_eval.specs.Acting.{keeps_both}
+use Rattle.pv_eval.specs.ActingParts.{keeps_both}
 use Rattle.pv_exec.proofs.Memory.Reached.{AreInLive, IsAllocation}
 
 -- the ways in which an operation of a run changes a memory (6.2.4, 6.2.6.1, 6.3.2.3, 6.5.6, 6.5.8, 6.5.16), where each instance that is made has a

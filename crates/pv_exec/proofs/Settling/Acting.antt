@@ -11,8 +11,8 @@ use Rattle.pv_world.specs.Telling.{Told}
 use Rattle.pv_world.specs.Doing.{Done, Answers, Fails, Breaks}
 use Rattle.pv_eval.specs.declared.marked.Marked.{Marked}
 use Rattle.pv_eval.specs.States.{Setting, State, Why, Turns, Unreached, Stopped, Res, Gives, Stops, end_of}
-use Rattle.pv_eval.specs.Acting.{noted, pair_count, keeps_both, sided, settling, by_side, answered, acted}
-use Rattle.pv_eval.specs.ActingParts.{one_kept}
+use Rattle.pv_eval.specs.Acting.{noted, pair_count, sided, settling, by_side, answered, acted}
+use Rattle.pv_eval.specs.ActingParts.{one_kept, keeps_both}
 use Rattle.pv_exec.proofs.Settling.Sides.{to_side, on_sides, on_world, holds, Allows, Covers, Nearly, length-sides}
 use Rattle.pv_exec.proofs.Settling.Doings.{pairs_of, IsWrong, IsBad, EndsBy, Halted, Tracks}
 

@@ -4,7 +4,8 @@ use Rattle.pv_libc.specs.Steps.{with_notes}
 use Rattle.pv_libc.specs.Answers.{OrNoMemory, behind}
 use Rattle.pv_libc.specs.Calls.{called}
 use Rattle.pv_world.specs.Coming.{Did, worth_of}
-use Rattle.pv_eval.specs.Library.{all_noted, blame_in}
+use Rattle.pv_eval.specs.Library.{blame_in}
+use Rattle.pv_eval.specs.LibraryParts.{all_noted}
 use Rattle.pv_eval.specs.Moments.{come_to}
 use Rattle.pv_eval.proofs.Replies.{asks_wrote}
 use Rattle.pv_eval.proofs.asking.ask_known.Goals as goal

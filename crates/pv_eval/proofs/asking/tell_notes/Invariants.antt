@@ -1,5 +1,5 @@
 use Rattle.std.proofs.Common.{◌≡◌, ◌++◌, drop}
-use Rattle.pv_eval.specs.Library.{all_noted}
+use Rattle.pv_eval.specs.LibraryParts.{all_noted}
 use Rattle.pv_eval.proofs.asking.tell_notes.Given as goal
 
 -- what was told, with what is left
