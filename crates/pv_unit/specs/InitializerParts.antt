@@ -1,14 +1,15 @@
 -- A bridge: what functions answer that do a part of what Initializers says.
 use Rattle.pv_types.specs.Ty.{Ty}
 use Rattle.pv_types.specs.Layouts.{Part, Completed}
-use Rattle.pv_unit.specs.Initializers.{Single, Shape, filling, is_zero, Stores, one, has_deep_part, single}
-use Rattle.pv_unit.specs.Parts.{is_text, part_at, first_leaf}
+use Rattle.pv_unit.specs.Initializers.{Single, Shape, filling, is_zero, Stores, one, single}
+use Rattle.pv_unit.specs.Parts.{is_text, part_at, first_leaf, aggregate_layer}
 use Rattle.pv_unit.specs.Rules.{Rules, After}
 use Rattle.pv_tree.specs.Syntax.{ExpressionTree}
-use Rattle.std.specs.Prelude.{List, ◌&&◌, Bool, not, ◌||◌, None, ℕ, if◌then◌else◌, Some, Option, option_and_then, unwrap_or}
+use Rattle.std.specs.Prelude.{List, ◌&&◌, Bool, not, ◌||◌, None, ℕ, if◌then◌else◌, Some, Option, option_and_then, unwrap_or, false}
 use Rattle.pv_typed.specs.TypedTree.{TypedTree}
 use Rattle.pv_typed.specs.TypedUnits.{ValueOf}
 use Rattle.pv_types.specs.Sorts.{bare}
+use Rattle.std.specs.Option.{option_map_or}
 
 -- 6.7.9p14: string literals where they fill an array, or else the other shape
 abbrev pub or_shape : Option Shape → Shape → Shape
@@ -17,6 +18,10 @@ or_shape o x = unwrap_or o x
 -- 6.7.9p11, p13, p14: an expression without braces
 abbrev pub expression_shape : Ty → ExpressionTree → Shape
 expression_shape t a = or_shape (filling (is_text t) a) (Single a)
+
+-- 6.7.9p20: the part that the list `{0}` begins with has parts itself
+abbrev pub has_deep_part : Option Part → Bool
+has_deep_part p = option_map_or (λ (p : Part). aggregate_layer (bare p.t)) p false
 
 -- 6.7.9p20: the list `{0}` for an object whose first part has parts
 abbrev pub begins_deep : List Completed → Part → ExpressionTree → Bool
