@@ -9,7 +9,7 @@ ghost use Rattle.pv_decl_forms.specs.Sources.{ReadsFrom};
 ghost use Rattle.pv_decl.specs.Sources.{IsReady};
 
 use crate::declarations::Declarations;
-use pv_decl_forms::{Sign, after, plain, tag_word, type_name_of};
+use pv_decl_forms::{Sign, after, plain, tag_word, type_word_of};
 use pv_expr_forms::peek;
 use pv_token::{NoMemory, Token, Tokens};
 use pv_tree::{NodeId, TypeReader, Unit};
@@ -55,6 +55,6 @@ impl<R: TypeReader> Declarations<'_, R> {
         let Some((spec, end)) = word else {
             return Ok(None);
         };
-        type_name_of(self.source.tokens, end, &[spec], None, token.line, into)
+        type_word_of(self.source.tokens, end, spec, token.line, into)
     }
 }

@@ -15,6 +15,7 @@ pub use nodes::{found_declaration, found_declarator, found_initializer, may_go_o
 pub use pieces::{
     array_of, braces_of, composite, declaration_of, enumeration, function_node, function_of,
     member_of, named, parameter_of, parenthesized, plain, pointed, tag_alone, type_name_of,
+    type_word_of,
 };
 pub use tokens::{
     after, comma_at, consts_in_row, ellipsis_at, name_of, opening_of, opens_block,

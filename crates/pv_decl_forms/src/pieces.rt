@@ -1,5 +1,5 @@
 //! Parts of declarations, made once the parts within them are read.
-ghost use Rattle.std.specs.Prelude.{◌≡◌, ℕ, Bool, List, ◌≤◌, IfSome, All, length, drop, IfOk, nat_eq, option_and_then};
+ghost use Rattle.std.specs.Prelude.{◌≡◌, ℕ, Bool, List, ◌∷◌, [], ◌≤◌, None, IfSome, All, length, drop, IfOk, nat_eq, option_and_then};
 ghost use Rattle.pv_token.specs.declared.token_table.Token.{Token};
 ghost use Rattle.indexmap.specs.IndexSet.{contains};
 ghost use Rattle.pv_tree.specs.Children.{HasSpecChildren, HasDeclaratorChildren};
@@ -428,6 +428,29 @@ pub fn type_name_of(
     };
     let type_name = Decl::TypeName { specs, declarator };
     found_declaration(tokens, end, type_name, line, into)
+}
+
+/// A type name of one specifier, which ends at a place, without a declarator (C17 6.7.7p1).
+#[inline(always)]
+pub fn type_word_of(
+    tokens: &Tokens,
+    at: u32,
+    spec: NodeId,
+    line: u32,
+    into: &mut Unit,
+) -> Result<Option<(NodeId, u32)>, NoMemory>
+    requires place { at ≤ length tokens.now.tokens }
+    requires spec { Is into.old is_specifier spec }
+    ensures keeps { Extends into.old into.new }
+    ensures ok { let old = into.old.forest in
+        AnswersAt into.new is_declaration tokens.now.tokens at result (λ ts. made_of (TypeName line) (trees_of old (spec ∷ [])) (optional ts (seen old tokens.now.tokens None))) }
+{
+    let specs = into.add_single(spec)?;
+    let type_name = Decl::TypeName {
+        specs,
+        declarator: None,
+    };
+    found_declaration(tokens, at, type_name, line, into)
 }
 
 /// A declaration, whose init-declarators end at a place (C17 6.7p1).

@@ -91,4 +91,23 @@ impl Lists {
         });
         Ok(())
     }
+
+    /// Keeps one more list, of one number. The only error is want of memory, or of room for the number, and changes nothing.
+    #[inline(always)]
+    pub fn add_one(&mut self, number: NodeId) -> Result<(), NoMemory>
+        ensures added { OnOk result (self.new ≡ self.old ++ ((number ∷ []) ∷ [])) }
+        ensures unchanged { OnErr result (self.new ≡ self.old) }
+    {
+        let first = self.numbers.len();
+        if first >= LIMIT {
+            return Err(NoMemory);
+        }
+        self.spans.reserve(1)?;
+        self.numbers.push(number)?;
+        self.spans.push_reserved(Span {
+            start: first as u32,
+            end: (first + 1) as u32,
+        });
+        Ok(())
+    }
 }

@@ -1,5 +1,5 @@
 //! The tables of a translation unit.
-ghost use Rattle.std.specs.Prelude.{◌≡◌, ◌<◌, ◌≤◌, ◌+◌, ◌^◌, length, Some, slice_get, IfOk, OnOk, OnErr};
+ghost use Rattle.std.specs.Prelude.{◌≡◌, ◌<◌, ◌≤◌, ◌+◌, ◌^◌, ◌∷◌, [], length, Some, slice_get, IfOk, OnOk, OnErr};
 ghost use Rattle.pv_tree.specs.Tables.{Forest, Tables, no_tables, with_tree, with_list, with_external, tree_at, list_at, is_expression, is_declaration, is_declarator, is_specifier, is_initializer, is_statement, Has, HasOptional, HasList, Is};
 ghost use Rattle.pv_tree.specs.Syntax.{is_external, OfExpression, OfDeclaration, OfDeclarator, OfSpecifier, OfInitializer, OfStatement};
 ghost use Rattle.pv_tree.specs.Nodes.{tree_of, expression_of, declaration_of, declarator_of, specifier_of, initializer_of, statement_of};
@@ -62,6 +62,20 @@ impl Unit {
             return Err(NoMemory);
         }
         self.lists.add(l)?;
+        Ok(ListId(index as u32))
+    }
+
+    /// Keeps a list of one node, and gives its number.
+    #[inline(always)]
+    pub fn add_single(&mut self, n: NodeId) -> Result<ListId, NoMemory>
+        ensures made { IfOk result (λ i. (self.new ≡ with_list self.old (n ∷ [])) × (i.0 ≡ length self.old.forest.lists)) }
+        ensures unchanged { OnErr result (self.new ≡ self.old) }
+    {
+        let index = self.lists.len();
+        if index >= LIMIT {
+            return Err(NoMemory);
+        }
+        self.lists.add_one(n)?;
         Ok(ListId(index as u32))
     }
 
