@@ -1,6 +1,6 @@
 //! The operators by their tokens: what stands before an operand, and what goes on behind one.
-ghost use Rattle.std.specs.Prelude.{◌≡◌};
-ghost use Rattle.pv_expr_forms.specs.Follows.{prefix_of, prefix_operand, binary_of, assign_of, other_of, follow_of, follow_rank, follow_left, join_right};
+ghost use Rattle.std.specs.Prelude.{◌≡◌, true, None};
+ghost use Rattle.pv_expr_forms.specs.Follows.{prefix_of, prefix_operand, binary_of, assign_of, other_of, follow_of_mark, follow_of, follow_rank, follow_left, join_right};
 
 use pv_token::{Mark, TokenKind, Word};
 use pv_tree::{AssignOperator, BinaryOperator, UnaryOperator};
@@ -144,13 +144,30 @@ fn other_of(mark: Mark) -> Option<Follow>
     }
 }
 
-/// How an expression goes on with a token.
+/// Whether it is one of the punctuators behind which most operands end.
+fn ends_operand(mark: Mark) -> bool
+    ensures { result ≡ true → follow_of_mark mark ≡ None }
+{
+    match mark {
+        Mark::CloseParen => true,
+        Mark::CloseBracket => true,
+        Mark::CloseBrace => true,
+        Mark::Semicolon => true,
+        Mark::Colon => true,
+        _ => false,
+    }
+}
+
+/// How an expression goes on with a token. Those with which none goes on are mostly known by a single test.
 pub fn follow_of(kind: TokenKind) -> Option<Follow>
     ensures { result ≡ follow_of kind }
 {
     let TokenKind::Mark(mark) = kind else {
         return None;
     };
+    if ends_operand(mark) {
+        return None;
+    }
     if let Some(op) = binary_of(mark) {
         return Some(Follow::Join(Join::Binary(op)));
     }
