@@ -13,7 +13,7 @@ use Rattle.pv_shadow.specs.Whole.{little_endian, mark_at, plain, pointed}
 use Rattle.pv_shadow.proofs.Ranges.{IsOutside, place_of}
 use Rattle.pv_shadow.proofs.Pages.{same_or_not, with_slots_in, with_slots_out, length_with, past_the_end}
 
-length_from : (n i : ℕ) (xs : List Packed) → length (seen_from n i xs) ≡ n
+pub length_from : (n i : ℕ) (xs : List Packed) → length (seen_from n i xs) ≡ n
 length_from zero i xs = refl
 length_from (suc n) i xs = ap suc (length_from n (i + 1) xs)
 
@@ -496,3 +496,52 @@ eight_seen xs g f w c l = λ k h.
     seen_slot xs (g + k) (omega arith) ∙ cell_at xs g k f h c in
     let nameless : ((get_or xs g absent).kind - 64) / 2 ≡ 0 = omega (arith, c, l) in
     subst (λ o. IsSomeAnd o (IsNameless (digit_at (get_or xs (g + 1) absent).name k))) (sym s) (refl, ap (λ d. name_in d (get_or xs g absent).name) nameless)
+
+-- eight places that begin at a multiple of 8, kept apart
+pub group_at : (xs ys : List Packed) (g k : ℕ) → g % 8 ≡ 0 → k < 8 → ((j : ℕ) → j < 8 → get_or ys j absent ≡ get_or xs (g + j) absent) → seen_at ys k ≡ seen_at xs (g + k)
+group_at xs ys g k first h same =
+    let at_first : g + first_of k ≡ first_of (g + k) = omega (arith, first, h) in
+    let at_next : g + (first_of k + 1) ≡ first_of (g + k) + 1 = omega (arith, first, h) in
+    let at_four : g + four_of k ≡ four_of (g + k) = omega (arith, first, h) in
+    let head : get_or ys (first_of k) absent ≡ get_or xs (first_of (g + k)) absent = same (first_of k) (omega (arith, h)) ∙ ap (λ j. get_or xs j absent) at_first in
+    let next : get_or ys (first_of k + 1) absent ≡ get_or xs (first_of (g + k) + 1) absent = same (first_of k + 1) (omega (arith, h)) ∙ ap (λ j. get_or xs j absent) at_next in
+    let four : get_or ys (four_of k) absent ≡ get_or xs (four_of (g + k)) absent = same (four_of k) (omega (arith, h)) ∙ ap (λ j. get_or xs j absent) at_four in
+    let here : get_or ys k absent ≡ get_or xs (g + k) absent = same k h in
+    let in_eight : k % 8 ≡ (g + k) % 8 = omega (arith, first) in
+    let in_four : k % 4 ≡ (g + k) % 4 = omega (arith, first) in
+    λ i. cell_or (head i) (next i).name (in_eight i) (number_or (four i) (in_four i) (here i))
+
+pub group_seen : (xs ys : List Packed) (g k : ℕ) → g % 8 ≡ 0 → g < 256 → k < 8 → ((j : ℕ) → j < 8 → get_or ys j absent ≡ get_or xs (g + j) absent) → seen_at ys k ≡ slot_at (seen xs) (g + k)
+group_seen xs ys g k first within h same = group_at xs ys g k first h same ∙ sym (seen_slot xs (g + k) (omega (arith, first, within, h)))
+
+-- they replace those of another place
+module _ (xs ys zs : List Packed) (g : ℕ) (first : g % 8 ≡ 0) (within : g < 256)
+    (same : (j : ℕ) → j < 8 → get_or ys (g + j) absent ≡ get_or zs j absent)
+    (others : (q : ℕ) → IsOutside g 8 q → get_or ys q absent ≡ get_or xs q absent) where
+  in_group : (q k : ℕ) → k < 8 → q ≡ g + k → seen_at ys q ≡ slot_at (with_slots (seen xs) g (seen_from 8 0 zs)) q
+  in_group q k h e =
+      let z : 0 + k ≡ k = omega arith in
+      ap (seen_at ys) e ∙ sym (group_at ys zs g k first h (λ j l. sym (same j l)))
+      ∙ sym (at_from 8 0 zs k h ∙ ap (seen_at zs) z)
+      ∙ sym (ap (slot_at (with_slots (seen xs) g (seen_from 8 0 zs))) e ∙ with_slots_in (seen xs) g (seen_from 8 0 zs) k (omega (arith, length_from 8 0 zs, seen_length xs, first, within)) (omega (arith, length_from 8 0 zs, h)))
+
+  apart_head : (q : ℕ) → IsOutside g 8 q → IsOutside g 8 (first_of q)
+  apart_head q (inl l) = inl (omega (arith, l))
+  apart_head q (inr r) = inr (omega (arith, r, first))
+
+  apart_next : (q : ℕ) → IsOutside g 8 q → IsOutside g 8 (first_of q + 1)
+  apart_next q (inl l) = inl (omega (arith, l, first))
+  apart_next q (inr r) = inr (omega (arith, r, first))
+
+  apart_four : (q : ℕ) → IsOutside g 8 q → IsOutside g 8 (four_of q)
+  apart_four q (inl l) = inl (omega (arith, l))
+  apart_four q (inr r) = inr (omega (arith, r, first))
+
+  out_of_group : (q : ℕ) → q < 256 → IsOutside g 8 q → seen_at ys q ≡ slot_at (with_slots (seen xs) g (seen_from 8 0 zs)) q
+  out_of_group q h o =
+      three xs ys q (others (first_of q) (apart_head q o)) (others (first_of q + 1) (apart_next q o)) (two xs ys q (others (four_of q) (apart_four q o)) (others q o))
+      ∙ sym (with_slots_out (seen xs) g (seen_from 8 0 zs) q (subst (λ m. IsOutside g m q) (sym (length_from 8 0 zs)) o) ∙ seen_slot xs q h)
+
+  pub group_laid : seen ys ≡ with_slots (seen xs) g (seen_from 8 0 zs)
+  group_laid = seen_is ys (with_slots (seen xs) g (seen_from 8 0 zs)) (length_with (seen xs) g (seen_from 8 0 zs) ∙ seen_length xs)
+      (λ q h. ⊎_elim (λ w. in_group q w.0 w.1 w.2) (λ o. out_of_group q h o) (place_of g 8 q))
