@@ -50,6 +50,7 @@ fn noted(v: Found, place: u64, length: u64, noting: bool, notes: &mut Vec<Access
 }
 
 /// The integer at the place that the operand of a node gave; with the object that the operand designates, where that is known.
+#[inline(always)]
 fn read_integer(
     alloc: Global,
     unit: &TypedUnit,
@@ -126,6 +127,7 @@ pub(crate) fn rounded(to: Option<IntKind>, v: Found) -> Option<Found>
 }
 
 /// An operator on what two operands gave, each converted as is known of it.
+#[inline(always)]
 fn arithmetic(
     op: BinOp,
     kind: IntKind,
@@ -309,6 +311,7 @@ pub(crate) fn value_by(
 }
 
 /// What a plain expression gives, as by `value_by`, where nobody asks what it reads.
+#[inline(always)]
 pub(crate) fn value(
     alloc: Global,
     unit: &TypedUnit,

@@ -26,6 +26,7 @@ use pv_types::TypeId;
 use pv_world::World;
 
 /// The place of an object in scope.
+#[inline(always)]
 pub(crate) fn object(world: &World, o: u32, lasting: bool) -> Option<Found>
     ensures { IfSome result (λ v. found_worth v ≡ pointer (address_of world.now (instance_of world.now o lasting))) }
 {
