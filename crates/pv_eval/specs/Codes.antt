@@ -1,5 +1,5 @@
 -- A bridge: what is known of the nodes of a unit before a run (C17 6.5), and that it is so.
-use Rattle.std.specs.Prelude.{◌≡◌, ◌<◌, ◌≤◌, ◌^◌, ℕ, ℤ, Bool, true, List, Option, None, Some, length, slice_index_or}
+use Rattle.std.specs.Prelude.{◌≡◌, ◌<◌, ◌≤◌, ◌^◌, ℕ, ℤ, Bool, true, List, Option, None, Some, IfSome, length, slice_index_or}
 use Rattle.pv_num.specs.declared.kinds.IntKind.{IntKind}
 use Rattle.pv_num.specs.declared.operators.BinOp.{BinOp}
 use Rattle.pv_num.specs.Kinds.{convert_of}
@@ -8,6 +8,7 @@ use Rattle.pv_types.specs.Ty.{Ty, IntTy}
 use Rattle.pv_types.specs.declared.terms.TypeId.{TypeId}
 use Rattle.pv_types.specs.Known.{tree}
 use Rattle.pv_typed.specs.declared.nodes.Sign.{Sign}
+use Rattle.pv_typed.specs.declared.nodes.IncrementOperator.{IncrementOperator}
 use Rattle.pv_typed.specs.declared.nodes.Typed.{Typed}
 use Rattle.pv_typed.specs.declared.nodes.Typed.TheVariants as typed
 use Rattle.pv_typed.specs.TypedTree.{type_of, form_of, Convert}
@@ -18,6 +19,7 @@ use Rattle.pv_world.specs.declared.got.Shape.TheVariants as shape
 use Rattle.pv_world.specs.Worlds.{Worth, World}
 use Rattle.pv_world.specs.Worths.{int}
 use Rattle.pv_eval.specs.declared.codes.Operand.{Operand}
+use Rattle.pv_eval.specs.declared.codes.IntegerPlace.{IntegerPlace}
 use Rattle.pv_eval.specs.declared.codes.Code.{Code}
 use Rattle.pv_eval.specs.declared.codes.Code.TheVariants as code
 use Rattle.pv_eval.specs.TypeForms.{shape_of, kind_of}
@@ -103,15 +105,36 @@ pub record IsPartOf (u : Stored) (n a : NodeId) (offset : ℕ) : Type 0 where
   pub before : IsBefore u n a
   pub gives : (w : World) (first v : Worth) → GivesAt w (λ b. Selects offset first) v → GivesWith u w (type_of (expression_at u n)) node first v
 
--- 6.5.16.1p2: what is known of a node that assigns to a place
-pub record IsAssignmentOf (u : Stored) (n a : NodeId) (right : Operand) (t : TypeId) : Type 0 where
+-- 6.3.2.1p1: what is known of a node that designates a place of an integer type without qualifiers
+pub record IsIntegerPlace (u : Stored) (p : IntegerPlace) : Type 0 where
+  pub there : IsExpression u p.node
+  pub known : p.t.0 < length u.known.terms
+  pub same : tree u.known p.t.0 ≡ type_of (expression_at u p.node)
+  pub integer : tree u.known p.t.0 ≡ IntTy p.kind
+  pub own : IfSome p.own (λ o. IsOwnType u o p.t)
+
+-- 6.5.16.1p2: what is known of a node that assigns to such a place
+pub record IsAssignmentOf (u : Stored) (n : NodeId) (p : IntegerPlace) (right : Operand) : Type 0 where
   pub d : NodeId
-  pub form : form_of (expression_at u n) ≡ form_by u (typed.Assign a d)
-  pub first : IsBefore u n a
+  pub form : form_of (expression_at u n) ≡ form_by u (typed.Assign p.node d)
+  pub place : IsIntegerPlace u p
   pub second : IsBefore u n d
   pub right_is : IsOperandCode u d right
-  pub known : t.0 < length u.known.terms
-  pub same : tree u.known t.0 ≡ type_of (expression_at u a)
+
+-- 6.5.2.4p2, 6.5.3.1p2: of one that adds 1 to what is there, or takes 1 off it, in the kind of its own type
+pub record IsIncrementOf (u : Stored) (n : NodeId) (p : IntegerPlace) (o : IncrementOperator) (back : IntKind) : Type 0 where
+  pub form : form_of (expression_at u n) ≡ form_by u (typed.Increment o p.node)
+  pub place : IsIntegerPlace u p
+  pub back_is : shape_of (type_of (expression_at u n)) ≡ shape.Int back
+
+-- 6.5.16.2p3: of one with an operator on what is there and its right operand, which works in a kind
+pub record IsCompoundOf (u : Stored) (n : NodeId) (p : IntegerPlace) (right : Operand) (op : BinOp) (at back : IntKind) : Type 0 where
+  pub d : NodeId
+  pub form : form_of (expression_at u n) ≡ form_by u (typed.CompoundAssign op at p.node d)
+  pub place : IsIntegerPlace u p
+  pub second : IsBefore u n d
+  pub right_is : IsOperandCode u d right
+  pub back_is : back ≡ kind_of (type_of (expression_at u n))
 
 -- what is known of an expression's node is so
 abbrev pub IsCode : Stored → NodeId → Code → Type 0
@@ -127,7 +150,9 @@ IsCode u n (code.Pointer a t) = IsReadOf u n a t × (points (tree u.known t.0) �
 IsCode u n (code.Arithmetic op k left right) = IsArithmetic u n op k left right
 IsCode u n (code.Element a d size) = IsElementOf u n a d size
 IsCode u n (code.Sum sign a d size) = IsSumOf u n sign a d size
-IsCode u n (code.Assign a right t k) = IsAssignmentOf u n a right t × (tree u.known t.0 ≡ IntTy k)
+IsCode u n (code.Assign p right) = IsAssignmentOf u n p right
+IsCode u n (code.Increment p o back) = IsIncrementOf u n p o back
+IsCode u n (code.Compound p right op at back) = IsCompoundOf u n p right op at back
 
 -- what is known of all nodes is so; of those beyond the end nothing is known
 abbrev pub AreCodes : Stored → List Code → Type 0

@@ -10,13 +10,13 @@ ghost use Rattle.pv_typed.specs.TypedUnits.{object_at};
 ghost use Rattle.pv_typed.specs.Tables.{whole};
 ghost use Rattle.pv_typed.specs.NodeTrees.{expression_at, IsExpression};
 ghost use Rattle.pv_eval.specs.Plainly.{form_by};
-ghost use Rattle.pv_eval.specs.Codes.{IsCode, IsObjectOf, IsOperandCode, IsRounded};
+ghost use Rattle.pv_eval.specs.Codes.{IsCode, IsIntegerPlace, IsObjectOf, IsOperandCode, IsRounded};
 
 use crate::plain_places::pointed_size;
 use crate::types::{is_none, kind, pointee, shape};
 use pv_num::{BinOp, IntKind};
 use pv_tree::NodeId;
-use pv_typed::{Sign, Typed, TypedUnit};
+use pv_typed::{IncrementOperator, Sign, Typed, TypedUnit};
 use pv_types::{Term, TypeId};
 use pv_world::Shape;
 
@@ -26,6 +26,16 @@ use pv_world::Shape;
 pub(crate) struct Operand {
     pub(crate) node: NodeId,
     pub(crate) to: Option<IntKind>,
+}
+
+/// A place of an integer type without qualifiers: the node that designates it, the type and its kind, and the object that the node
+/// designates, where that was declared with this type (C17 6.3.2.1p1).
+#[derive(Clone, Copy)]
+pub(crate) struct IntegerPlace {
+    pub(crate) node: NodeId,
+    pub(crate) t: TypeId,
+    pub(crate) kind: IntKind,
+    pub(crate) own: Option<u32>,
 }
 
 /// What is known of an expression's node.
@@ -56,8 +66,12 @@ pub(crate) enum Code {
     Element(NodeId, NodeId, u64),
     /// A pointer moved by an integer, of elements of so many bytes (6.5.6p8).
     Sum(Sign, NodeId, NodeId, u64),
-    /// An integer assigned to a place of this type and kind (6.5.16.1p2).
-    Assign(NodeId, Operand, TypeId, IntKind),
+    /// An integer assigned to a place (6.5.16.1p2).
+    Assign(IntegerPlace, Operand),
+    /// 1 added to the integer at a place, or taken off it, in this kind (6.5.2.4p2, 6.5.3.1p2).
+    Increment(IntegerPlace, IncrementOperator, IntKind),
+    /// An operator, which works in the first kind, on the integer at a place, and its result converted to the second (6.5.16.2p3).
+    Compound(IntegerPlace, Operand, BinOp, IntKind, IntKind),
 }
 
 /// Whether an object's declared type is the one of this number.
@@ -181,22 +195,87 @@ fn sum_code(unit: &TypedUnit, n: NodeId, sign: Sign, a: NodeId, d: NodeId) -> Op
     Some(Code::Sum(sign, a, d, size))
 }
 
+/// The object that a node of this type designates, with that as its declared type.
+fn own_object(unit: &TypedUnit, a: NodeId, t: TypeId) -> Option<u32>
+    requires { IsExpression unit.now a }
+    ensures { IfSome result (λ o. (object_at (whole unit.now) o).t ≡ tree unit.now.known t.0) }
+{
+    let Some((o, _)) = named_object(unit, a, t) else {
+        return None;
+    };
+    Some(o)
+}
+
+/// The place of an integer type without qualifiers that a node designates.
+fn integer_place(unit: &TypedUnit, a: NodeId) -> Option<IntegerPlace>
+    requires known { AreKnown unit.now }
+    requires there { IsExpression unit.now a }
+    ensures place { IfSome result (IsIntegerPlace unit.now) }
+    ensures node { IfSome result (λ p. p.node ≡ a) }
+{
+    let t = unit.type_of(a);
+    let Term::Int(kind) = unit.types().view(t) else {
+        return None;
+    };
+    let own = own_object(unit, a, t);
+    Some(IntegerPlace {
+        node: a,
+        t,
+        kind,
+        own,
+    })
+}
+
 /// A node that assigns an integer to a place.
 fn assignment_code(unit: &TypedUnit, n: NodeId, a: NodeId, d: NodeId) -> Option<Code>
     requires known { AreKnown unit.now }
     requires left { IsExpression unit.now a }
     requires right { IsExpression unit.now d }
-    requires first { a.0 < n.0 }
     requires second { d.0 < n.0 }
     requires form { form_of (expression_at unit.now n) ≡ form_by unit.now (Row.Assign a d) }
     ensures { IfSome result (IsCode unit.now n) }
 {
+    let place = integer_place(unit, a)?;
     let right = operand_code(unit, d)?;
-    let t = unit.type_of(a);
-    let Term::Int(kind) = unit.types().view(t) else {
+    Some(Code::Assign(place, right))
+}
+
+/// A node with `++` or `--` of an integer at a place.
+fn increment_code(unit: &TypedUnit, n: NodeId, o: IncrementOperator, a: NodeId) -> Option<Code>
+    requires known { AreKnown unit.now }
+    requires there { IsExpression unit.now n }
+    requires left { IsExpression unit.now a }
+    requires form { form_of (expression_at unit.now n) ≡ form_by unit.now (Row.Increment o a) }
+    ensures { IfSome result (IsCode unit.now n) }
+{
+    let place = integer_place(unit, a)?;
+    let Shape::Int(back) = shape(unit.types(), unit.type_of(n)) else {
         return None;
     };
-    Some(Code::Assign(a, right, t, kind))
+    Some(Code::Increment(place, o, back))
+}
+
+/// A node with a compound assignment of an integer to a place.
+fn compound_code(
+    unit: &TypedUnit,
+    n: NodeId,
+    op: BinOp,
+    at: IntKind,
+    a: NodeId,
+    d: NodeId,
+) -> Option<Code>
+    requires known { AreKnown unit.now }
+    requires there { IsExpression unit.now n }
+    requires left { IsExpression unit.now a }
+    requires right { IsExpression unit.now d }
+    requires second { d.0 < n.0 }
+    requires form { form_of (expression_at unit.now n) ≡ form_by unit.now (Row.CompoundAssign op at a d) }
+    ensures { IfSome result (IsCode unit.now n) }
+{
+    let place = integer_place(unit, a)?;
+    let right = operand_code(unit, d)?;
+    let back = kind(unit.types(), unit.type_of(n));
+    Some(Code::Compound(place, right, op, at, back))
 }
 
 /// A node that designates what a pointer points to, which is not `void`.
@@ -237,6 +316,8 @@ fn form_code(unit: &TypedUnit, n: NodeId, x: Typed) -> Option<Code>
         Typed::Subscript(a, d) => element_code(unit, n, a, d),
         Typed::PointerSum(sign, a, d) => sum_code(unit, n, sign, a, d),
         Typed::Assign(a, d) => assignment_code(unit, n, a, d),
+        Typed::Increment(o, a) => increment_code(unit, n, o, a),
+        Typed::CompoundAssign(op, at, a, d) => compound_code(unit, n, op, at, a, d),
         _ => None,
     }
 }

@@ -1,5 +1,5 @@
 // Which accesses the effective type of an object permits (C17 6.5p6, 6.5p7).
-ghost use Rattle.std.specs.Prelude.{◌≡◌, ◌≤◌, ◌<◌, ◌^◌, true, false, length, IsTrue, IfOk, IfSome, map};
+ghost use Rattle.std.specs.Prelude.{◌≡◌, ◌≤◌, ◌<◌, ◌^◌, true, length, IsTrue, IfOk, IfSome, map};
 ghost use Rattle.std.specs.Option.{option_map};
 ghost use Rattle.pv_types.specs.Known.{tree, env};
 ghost use Rattle.pv_types.specs.Formed.{IsBuilt};
@@ -297,10 +297,10 @@ fn is_object(world: &World, o: u32, at: &Reach, kind: Kind) -> bool
     at.offset == 0
 }
 
-/// Whether a read through an lvalue of the type is permitted, as `permits_in` tells it, where the object may be known that the lvalue
+/// Whether an access through an lvalue of the type is permitted, as `permits_in` tells it, where the object may be known that the lvalue
 /// designates, with this type: then no type is looked up.
 #[inline(always)]
-pub(crate) fn permits_own_read(
+pub(crate) fn permits_own_access(
     alloc: Global,
     unit: &TypedUnit,
     world: &World,
@@ -308,18 +308,19 @@ pub(crate) fn permits_own_read(
     at: &Reach,
     kind: Kind,
     l: Complete,
+    write: bool,
 ) -> Result<bool, NoMemory>
     requires known { AreKnown unit.now }
     requires own { IfSome own (λ o. IsOwnType unit.now o l.t) }
     requires complete { IsComplete unit.now.known l }
     requires reached { IsReach world.now.memory.table at.now l.size }
-    ensures { IfOk result (λ p. p ≡ permits_in (setting_of unit.now) world.now (lvalue (setting_of unit.now) (tree unit.now.known l.t.0)) at.now false kind) }
+    ensures { IfOk result (λ p. p ≡ permits_in (setting_of unit.now) world.now (lvalue (setting_of unit.now) (tree unit.now.known l.t.0)) at.now write kind) }
 {
     let Some(o) = own else {
-        return permits_in(alloc, unit, world, at, kind, l, false);
+        return permits_in(alloc, unit, world, at, kind, l, write);
     };
     if is_object(world, o, at, kind) {
         return Ok(true);
     }
-    permits_in(alloc, unit, world, at, kind, l, false)
+    permits_in(alloc, unit, world, at, kind, l, write)
 }

@@ -17,13 +17,15 @@ ghost use Rattle.pv_world.specs.declared.got.Shape.{Shape as Form};
 ghost use Rattle.pv_eval.specs.TypeForms.{shape_of};
 ghost use Rattle.pv_eval.specs.Sizes.{IsComplete};
 ghost use Rattle.pv_eval.specs.Suiting.{knows};
+ghost use Rattle.pv_eval.specs.Codes.{IsIntegerPlace};
 ghost use Rattle.pv_eval.specs.Plainly.{ReadsFrom, HasReached, IsLooked, IsPlainNumber, HasKind, IsOwnType, alone_tried, found_worth, pointer_at};
 
+use crate::codes::IntegerPlace;
 use crate::dividing::is_multiple;
-use crate::permission::permits_own_read;
+use crate::permission::permits_own_access;
 use crate::plain::{Found, Spot};
 use crate::plain_numbers::integer;
-use crate::types::{AccessedType, accessed};
+use crate::types::{AccessedType, accessed, accessed_integer};
 use pv_inst::{Kind, Tried};
 use pv_num::{IntKind, convert};
 use pv_object::{Pointer, Reach};
@@ -164,7 +166,7 @@ pub(crate) fn load(
     }
     let target = reached(world, p, x.l.size, x.align, false)?;
     let at = target.reach;
-    let Ok(true) = permits_own_read(alloc, unit, world, own, &at, target.kind, x.l) else {
+    let Ok(true) = permits_own_access(alloc, unit, world, own, &at, target.kind, x.l, false) else {
         return None;
     };
     if !is_told(world) {
@@ -244,7 +246,7 @@ pub(crate) fn load_pointer(
     }
     let target = reached(world, p, 8, x.align, false)?;
     let at = target.reach;
-    let Ok(true) = permits_own_read(alloc, unit, world, own, &at, target.kind, x.l) else {
+    let Ok(true) = permits_own_access(alloc, unit, world, own, &at, target.kind, x.l, false) else {
         return None;
     };
     if !is_told(world) {
@@ -276,4 +278,24 @@ pub(crate) fn read_at(
         Shape::Pointer => load_pointer(alloc, unit, world, None, x, p),
         Shape::Whole => None,
     }
+}
+
+/// What is read at a place of an integer type, by what is known of it.
+pub(crate) fn loaded_integer(
+    alloc: Global,
+    unit: &TypedUnit,
+    world: &World,
+    x: IntegerPlace,
+    place: Found,
+) -> Option<Found>
+    requires known { AreKnown unit.now }
+    requires there { IsIntegerPlace unit.now x }
+    ensures place { IfSome result (λ v. found_worth place ≡ pointer (pointer_of (found_worth place))) }
+    ensures reads { IfSome result (λ v. ReadsFrom unit.now world.now (type_of (expression_at unit.now x.node)) (pointer_of (found_worth place)) (found_worth v)) }
+{
+    let Found::Place(p) = place else {
+        return None;
+    };
+    let at = accessed_integer(unit.types(), x.t, x.kind)?;
+    load(alloc, unit, world, x.own, at, x.kind, p)
 }

@@ -1,6 +1,5 @@
 // Stores of what plain expressions give (C17 6.5.16p3, 6.5.16.1).
-ghost use Rattle.std.specs.Prelude.{◌≡◌, ◌≤◌, ◌<◌, true, false, length, IfSome, IfNone};
-ghost use Rattle.pv_types.specs.Ty.{IntTy};
+ghost use Rattle.std.specs.Prelude.{◌≡◌, ◌≤◌, true, false, IfSome, IfNone};
 ghost use Rattle.pv_types.specs.Known.{tree, env};
 ghost use Rattle.pv_types.specs.Layouts.{layout_in};
 ghost use Rattle.pv_typed.specs.Known.{AreKnown};
@@ -14,11 +13,11 @@ ghost use Rattle.pv_world.specs.Coming.{worth_of};
 ghost use Rattle.pv_eval.specs.TypeForms.{shape_of};
 ghost use Rattle.pv_eval.specs.Sizes.{IsComplete};
 ghost use Rattle.pv_eval.specs.declared.codes.Code.{Code as Known};
-ghost use Rattle.pv_eval.specs.Codes.{IsCode, AreCodes};
-ghost use Rattle.pv_eval.specs.Plainly.{Performs, StoresAt, found_worth, pointer_at};
+ghost use Rattle.pv_eval.specs.Codes.{IsCode, IsIntegerPlace, AreCodes};
+ghost use Rattle.pv_eval.specs.Plainly.{Performs, StoresAt, IsOwnType, found_worth, pointer_at};
 
-use crate::codes::Operand;
-use crate::permission::permits_in;
+use crate::codes::{IntegerPlace, Operand};
+use crate::permission::permits_own_access;
 use crate::plain::{Found, Spot};
 use crate::plain_coded::{rounded, value};
 use crate::plain_conversions::converted_value;
@@ -26,12 +25,10 @@ use crate::plain_reads::reached;
 use crate::plan::Plan;
 use crate::suiting::can_write;
 use crate::types::{AccessedType, accessed, accessed_integer, number};
-use pv_num::IntKind;
 use pv_object::{Pointer, Value};
 use pv_prov::Prov;
 use pv_tree::NodeId;
 use pv_typed::TypedUnit;
-use pv_types::TypeId;
 use pv_world::{Got, World};
 use std::alloc::Global;
 
@@ -52,16 +49,19 @@ pub(crate) fn got(v: Found) -> Got
     }
 }
 
-/// The value is stored at a place, if nothing keeps it from being stored (C17 6.5.16p3).
+/// The value is stored at a place, if nothing keeps it from being stored (C17 6.5.16p3); with the object that the lvalue designates,
+/// where that is known.
 fn store(
     alloc: Global,
     unit: &TypedUnit,
     world: &mut World,
+    own: Option<u32>,
     x: AccessedType,
     p: Spot,
     v: Found,
 ) -> bool
     requires known { AreKnown unit.now }
+    requires own { IfSome own (λ o. IsOwnType unit.now o x.l.t) }
     requires complete { IsComplete unit.now.known x.l }
     requires align { x.align ≡ (layout_in (env unit.now.known) (tree unit.now.known x.l.t.0)).align }
     requires some { 1 ≤ x.align }
@@ -78,7 +78,7 @@ fn store(
         return false;
     };
     let at = target.reach;
-    let Ok(true) = permits_in(alloc, unit, world, &at, target.kind, x.l, true) else {
+    let Ok(true) = permits_own_access(alloc, unit, world, own, &at, target.kind, x.l, true) else {
         return false;
     };
     let number = number(unit.types(), x.l.t);
@@ -107,7 +107,7 @@ pub(crate) fn assigned(
     let Some(x) = accessed(unit.types(), unit.type_of(a)) else {
         return false;
     };
-    store(alloc, unit, world, x, p, v)
+    store(alloc, unit, world, None, x, p, v)
 }
 
 /// The assignment of a plain expression's value to a plain lvalue (C17 6.5.16.1), as a full expression; `None` where it is not
@@ -139,30 +139,28 @@ pub(crate) fn assign(
     }
 }
 
-/// The assignment of a value to a place of this integer type, if nothing keeps it from being stored.
-fn assigned_integer(
+/// The value is stored at a place of an integer type, as `assigned`, by what is known of it.
+pub(crate) fn stored_integer(
     alloc: Global,
     unit: &TypedUnit,
     world: &mut World,
-    t: TypeId,
-    kind: IntKind,
+    x: IntegerPlace,
     place: Found,
     v: Found,
 ) -> bool
     requires known { AreKnown unit.now }
-    requires number { t.0 < length unit.now.known.terms }
-    requires integer { tree unit.now.known t.0 ≡ IntTy kind }
-    ensures stored { result ≡ true → StoresAt unit.now world.old (tree unit.now.known t.0) (pointer_of (found_worth place)) (found_worth v) world.new }
+    requires there { IsIntegerPlace unit.now x }
+    ensures stored { result ≡ true → StoresAt unit.now world.old (type_of (expression_at unit.now x.node)) (pointer_of (found_worth place)) (found_worth v) world.new }
     ensures place { result ≡ true → found_worth place ≡ pointer (pointer_of (found_worth place)) }
     ensures same { result ≡ false → world.new ≡ world.old }
 {
     let Found::Place(p) = place else {
         return false;
     };
-    let Some(x) = accessed_integer(unit.types(), t, kind) else {
+    let Some(at) = accessed_integer(unit.types(), x.t, x.kind) else {
         return false;
     };
-    store(alloc, unit, world, x, p, v)
+    store(alloc, unit, world, x.own, at, p, v)
 }
 
 /// The assignment of an integer, as `assign`, by what is known of its node.
@@ -172,21 +170,19 @@ pub(crate) fn assign_integer(
     plan: &Plan,
     world: &mut World,
     n: NodeId,
-    a: NodeId,
+    x: IntegerPlace,
     right: Operand,
-    t: TypeId,
-    kind: IntKind,
 ) -> Option<Found>
     requires codes { AreCodes unit.now plan.now }
     requires known { AreKnown unit.now }
-    requires code { IsCode unit.now n (Known.Assign a right t kind) }
+    requires code { IsCode unit.now n (Known.Assign x right) }
     ensures some { IfSome result (λ v. Performs unit.now world.old world.new (expression_at unit.now n) (found_worth v)) }
     ensures none { IfNone result (world.new ≡ world.old) }
 {
-    let place = value(alloc, unit, plan, world, a)?;
+    let place = value(alloc, unit, plan, world, x.node)?;
     let second = value(alloc, unit, plan, world, right.node)?;
     let v = rounded(right.to, second)?;
-    if assigned_integer(alloc, unit, world, t, kind, place, v) {
+    if stored_integer(alloc, unit, world, x, place, v) {
         Some(v)
     } else {
         None

@@ -17,7 +17,9 @@ use crate::plain_coded::{value, value_by};
 use crate::plain_comparisons::is_true;
 use crate::plain_conversions::converted_value;
 use crate::plain_stores::{assign, assign_integer, got};
-use crate::plain_updates::{compound_assign, increment, pointer_assign};
+use crate::plain_updates::{
+    compound_assign, compound_integer, increment, increment_integer, pointer_assign,
+};
 use crate::plan::Plan;
 use crate::values::Kept;
 use pv_seq::Access;
@@ -114,9 +116,11 @@ fn perform(
 {
     let code = plan.code(n);
     match code {
-        Code::Assign(a, right, t, kind) => {
-            assign_integer(alloc, unit, plan, world, n, a, right, t, kind)
-        }
+        Code::Assign(x, right) => assign_integer(alloc, unit, plan, world, n, x, right),
+        Code::Increment(x, o, back) => increment_integer(alloc, unit, plan, world, n, x, o, back),
+        Code::Compound(x, right, op, at, back) => compound_integer(
+            alloc, unit, plan, world, n, x, right, op, at, back,
+        ),
         _ => perform_node(alloc, unit, plan, world, n),
     }
 }

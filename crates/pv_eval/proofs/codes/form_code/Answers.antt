@@ -135,11 +135,26 @@ assignment_code-requires-clause-left c = (two_before c.args.unit.now c.args.n c.
 pub assignment_code-requires-clause-right : goal.assignment_code-requires-clause-right
 assignment_code-requires-clause-right c = (two_before c.args.unit.now c.args.n c.in-Assign.a c.in-Assign.d c.args.x c.requires.there c.requires.operands (ap operands c.in-Assign.is)).1.0
 
-pub assignment_code-requires-clause-first : goal.assignment_code-requires-clause-first
-assignment_code-requires-clause-first c = (two_before c.args.unit.now c.args.n c.in-Assign.a c.in-Assign.d c.args.x c.requires.there c.requires.operands (ap operands c.in-Assign.is)).0.1
-
 pub assignment_code-requires-clause-second : goal.assignment_code-requires-clause-second
 assignment_code-requires-clause-second c = (two_before c.args.unit.now c.args.n c.in-Assign.a c.in-Assign.d c.args.x c.requires.there c.requires.operands (ap operands c.in-Assign.is)).1.1
 
 pub assignment_code-requires-clause-form : goal.assignment_code-requires-clause-form
 assignment_code-requires-clause-form c = c.requires.form ∙ ap (form_by c.args.unit.now) c.in-Assign.is
+
+pub compound_code-requires-clause-left : goal.compound_code-requires-clause-left
+compound_code-requires-clause-left c = (two_before c.args.unit.now c.args.n c.in-CompoundAssign.a c.in-CompoundAssign.d c.args.x c.requires.there c.requires.operands (ap operands c.in-CompoundAssign.is)).0.0
+
+pub compound_code-requires-clause-right : goal.compound_code-requires-clause-right
+compound_code-requires-clause-right c = (two_before c.args.unit.now c.args.n c.in-CompoundAssign.a c.in-CompoundAssign.d c.args.x c.requires.there c.requires.operands (ap operands c.in-CompoundAssign.is)).1.0
+
+pub compound_code-requires-clause-second : goal.compound_code-requires-clause-second
+compound_code-requires-clause-second c = (two_before c.args.unit.now c.args.n c.in-CompoundAssign.a c.in-CompoundAssign.d c.args.x c.requires.there c.requires.operands (ap operands c.in-CompoundAssign.is)).1.1
+
+pub compound_code-requires-clause-form : goal.compound_code-requires-clause-form
+compound_code-requires-clause-form c = c.requires.form ∙ ap (form_by c.args.unit.now) c.in-CompoundAssign.is
+
+pub increment_code-requires-clause-left : goal.increment_code-requires-clause-left
+increment_code-requires-clause-left c = (one_before c.args.unit.now c.args.n c.in-Increment.a c.args.x c.requires.there c.requires.operands (ap operands c.in-Increment.is)).0
+
+pub increment_code-requires-clause-form : goal.increment_code-requires-clause-form
+increment_code-requires-clause-form c = c.requires.form ∙ ap (form_by c.args.unit.now) c.in-Increment.is

@@ -1,36 +1,20 @@
-use Rattle.std.proofs.Common.{◌≡◌, sym, ap, ◌∙◌, subst}
-use Rattle.std.specs.Prelude.{pos, true, if◌then◌else◌}
-use Rattle.pv_num.specs.declared.kinds.IntKind.{IntKind}
-use Rattle.pv_num.specs.declared.operators.BinOp.{BinOp}
-use Rattle.pv_num.specs.declared.operators.BinOp.TheVariants as op
+use Rattle.std.proofs.Common.{sym, ap, ◌∙◌, subst}
+use Rattle.std.specs.Prelude.{pos, true}
 use Rattle.pv_types.specs.Known.{Known, tree}
 use Rattle.pv_typed.specs.TypedTree.{type_of}
 use Rattle.pv_typed.specs.NodeTrees.{expression_at}
-use Rattle.pv_world.specs.declared.got.How.TheVariants.{Rounds}
-use Rattle.pv_world.specs.declared.got.Shape.TheVariants as shape
 use Rattle.pv_world.specs.Worths.{int}
 use Rattle.pv_eval.specs.TypeForms.{shape_of}
 use Rattle.pv_types.specs.Sorts.{is_pointer}
 use Rattle.pv_eval.specs.Sizes.{element_in}
-use Rattle.pv_eval.specs.Operations.{Converts, Calculates, Moves}
-use Rattle.pv_eval.specs.Steps.{is_down}
-use Rattle.pv_eval.specs.Plainly.{AlwaysGives, GivesAt, StepsTo, found_worth}
+use Rattle.pv_eval.specs.Operations.{Moves}
+use Rattle.pv_eval.specs.Plainly.{GivesAt, StepsTo, found_worth}
 use Rattle.pv_eval.proofs.PlainSteps.{some_map}
-use Rattle.pv_eval.proofs.PlainUpdates.{steps_number, steps_pointer}
+use Rattle.pv_eval.proofs.PlainUpdates.{steps_pointer}
 use Rattle.pv_eval.proofs.plain_updates.stepped.Goals as goal
 
-pub returns-in_ok-sum-in-Int : goal.returns-in_ok-sum-in-Int
-returns-in_ok-sum-in-Int c =
-    let u = c.args.unit.now in
-    let t = type_of (expression_at u c.args.n) in
-    let v = found_worth c.args.v in
-    let k = c.in-Int.kind in
-    let sum = found_worth c.in_ok-sum-in-Int.sum in
-    let form : shape_of t ≡ shape.Int k = ap shape_of (sym c.type_of-t.ensures.tree) ∙ ap (λ (m : Known). shape_of (tree m c.type_of-t.result.0)) (sym c.types.ensures) ∙ sym c.in-Int.ensures in
-    let h = subst (λ (o : BinOp). AlwaysGives (λ b. Calculates o c.promoted.result v (int (pos 1))) sum) c.operator.ensures c.in_ok-sum-in-Int.ensures in
-    some_map (λ q. AlwaysGives (λ b. Converts (Rounds k) sum) (found_worth q)) (λ q. StepsTo u c.args.world.now t c.args.o v (found_worth q)) c.kept.result
-    (λ q g. steps_number u c.args.world.now t c.args.o v (found_worth q) k sum form (subst (λ (j : IntKind). AlwaysGives (λ b. Calculates (if is_down c.args.o then op.Sub else op.Add) j v (int (pos 1))) sum) c.promoted.ensures h) g)
-    c.kept.ensures
+pub stepped_integer-requires : goal.stepped_integer-requires
+stepped_integer-requires c = ap shape_of (sym c.type_of-t.ensures.tree) ∙ ap (λ (m : Known). shape_of (tree m c.type_of-t.result.0)) (sym c.types.ensures) ∙ sym c.in-Int.ensures
 
 pub returns-in_ok-size-in-Pointer : goal.returns-in_ok-size-in-Pointer
 returns-in_ok-size-in-Pointer c =
