@@ -1,31 +1,45 @@
 -- Where a list, and a `for` behind its declarations, go on.
-use Rattle.std.proofs.Common.{◌≡◌, ℕ, ◌+◌, ◌<◌, List, refl, ap, arith}
+use Rattle.std.proofs.Common.{◌≡◌, ℕ, ◌+◌, ◌<◌, List, Result, Ok, Err, refl, ap, sym, subst, arith}
 use Rattle.pv_tree.specs.declared.nodes.NodeId.{NodeId}
 use Rattle.pv_tree.specs.declared.nodes.ListId.{ListId}
 use Rattle.pv_typed.specs.Tables.{Stored}
 use Rattle.pv_typed.specs.NodeTrees.{statement_at}
+use Rattle.pv_eval.specs.declared.failure.Failure.{Failure}
 use Rattle.pv_eval.specs.States.{Setting, State}
 use Rattle.pv_eval.specs.Machines.{Started}
 use Rattle.pv_exec.specs.declared.task.Task.TheVariants as task
 use Rattle.pv_exec.specs.declared.task.Doing.TheVariants as doing
+use Rattle.pv_exec.specs.declared.task.Way.{Way}
 use Rattle.pv_exec.specs.declared.task.Way.TheVariants as way
 use Rattle.pv_exec.specs.Flows.{Flow, Falls}
 use Rattle.pv_exec.specs.Calls.{below}
 use Rattle.pv_exec.specs.Parts.{loop_of, rounds}
 use Rattle.pv_exec.specs.Tasks.{left, after_flow}
 use Rattle.pv_exec.specs.Works.{does}
-use Rattle.pv_exec.specs.Leading.{Leads}
+use Rattle.pv_exec.specs.Leading.{LeadsOr}
+use Rattle.pv_exec.specs.Quickness.{Quick, QuickOr, Ends, EndsOr}
 
-pub list-goes : (b : Setting) (u : Stored) (k : ℕ) (l : ListId) (i : ℕ) (fl : Flow) (es : List Started) (s : State) → b.bound < s.taken + k → fl ≡ Falls → Leads b u (after_flow b u k es (task.InList l i) fl s) es (way.Do (doing.Statements l i)) es s
+-- behind a statement that falls, a list goes on
+pub list-next : (b : Setting) (u : Stored) (k : ℕ) (l : ListId) (i : ℕ) (fl : Flow) (r : Result Way Failure) (es fs : List Started) (s z : State) → fl ≡ Falls → LeadsOr b u (does b u k es (doing.Statements l i) s) es r fs z → LeadsOr b u (after_flow b u k es (task.InList l i) fl s) es r fs z
 unfolding after_flow does
-list-goes b u k l i fl es s lt e = record {
-  waits = k;
-  level = k;
-  law = ap (λ x. after_flow b u k es (task.InList l i) x s) e;
-  stands = refl;
-  room_waits = omega (arith, lt);
-  room = omega (arith, lt);
-}
+list-next b u k l i fl r es fs s z e h = subst (λ (x : Flow). LeadsOr b u (after_flow b u k es (task.InList l i) x s) es r fs z) (sym e) h
+
+-- what comes to an end, or to a turn, does so at once
+ends-quick : (es : List Started) (w : Way) → Ends es w → Quick es w
+ends-quick es (way.Do (doing.Enter n)) e = tt
+ends-quick es (way.Do (doing.Jump n l i)) e = tt
+ends-quick es (way.Do (doing.Statements l i)) e = tt
+ends-quick es (way.Do (doing.Within n)) e = e
+ends-quick es (way.Do (doing.Store o i)) e = tt
+ends-quick es (way.Do doing.Absent) e = tt
+ends-quick es (way.Do (doing.Left fl)) e = tt
+ends-quick es (way.Do doing.Evaluate) e = tt
+ends-quick es (way.Do doing.Evaluated) e = tt
+ends-quick es (way.With t d) e = e
+
+pub ends-quick-or : (es : List Started) (r : Result Way Failure) → EndsOr es r → QuickOr es r
+ends-quick-or es (Ok w) e = ends-quick es w e
+ends-quick-or es (Err x) e = tt
 
 pub declared-goes : (b : Setting) (u : Stored) (k : ℕ) (n : NodeId) (fl : Flow) (es : List Started) (s : State) → fl ≡ Falls → after_flow b u k es (task.Declared n) fl s ≡ left (rounds b (below b k) (loop_of (statement_at u n)) s)
 unfolding after_flow

@@ -26,6 +26,7 @@ pub fn after_statement(
     flow: Flow,
     machine: &mut Machine,
 ) -> Result<Way, Failure>
+    requires runnable { IsRunnable unit.now }
     requires list { HasList unit.now l }
     requires fit { Fit unit.now machine.old.started }
     ensures led { FlowLed unit.now (Task.InList l i) flow result machine.old machine.new }
@@ -35,7 +36,7 @@ pub fn after_statement(
     ensures quick { QuickOr machine.new.started result }
 {
     match flow {
-        Flow::Falls => Ok(Way::Do(Doing::Statements(l, i))),
+        Flow::Falls => next_statement(unit, l, i, machine),
         Flow::Breaks => Ok(Way::Do(Doing::Left(Flow::Breaks))),
         Flow::Continues => Ok(Way::Do(Doing::Left(Flow::Continues))),
         Flow::Returns(v) => Ok(Way::Do(Doing::Left(Flow::Returns(v)))),

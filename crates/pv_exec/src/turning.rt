@@ -2,23 +2,25 @@
 ghost use Rattle.std.specs.Prelude.{◌≡◌, ◌+◌, ◌<◌, ◌≤◌, ◌^◌, if◌then◌else◌, [], true, Some, IfSome, IfNone, IsTrue, OnOk};
 ghost use Rattle.pv_typed.specs.TypedStatement.{Expression};
 ghost use Rattle.pv_typed.specs.Trees.{statement_line, declared_of, is_scope_tree};
+ghost use Rattle.pv_typed.specs.Nodes.{optional_in};
 ghost use Rattle.pv_typed.specs.Tables.{nodes};
 ghost use Rattle.pv_typed.specs.NodeTrees.{expression_at, statement_at, IsExpression, IsStatement};
 ghost use Rattle.pv_eval.specs.MachineSteps.{Fit, KeepsSetting};
 ghost use Rattle.pv_eval.specs.Runnable.{IsRunnable};
 ghost use Rattle.pv_eval.specs.Codes.{AreCodes};
-ghost use Rattle.pv_exec.specs.Parts.{choice_of};
-ghost use Rattle.pv_exec.specs.Read.{choice_in, ChoiceFits};
+ghost use Rattle.pv_exec.specs.Parts.{choice_of, items_of};
+ghost use Rattle.pv_exec.specs.Read.{choice_in, ChoiceFits, items_read};
+ghost use Rattle.pv_exec.specs.Tasks.{returned_of};
 ghost use Rattle.pv_exec.specs.Works.{due};
-ghost use Rattle.pv_exec.specs.Fits.{Runs, DoingFits, AfterRuns};
+ghost use Rattle.pv_exec.specs.Fits.{HasList, Runs, DoingFits, AfterRuns};
 ghost use Rattle.pv_exec.specs.Turning.{UntilDueLed, advanced_by, AdvancedLed, CutBefore, ComesAtOnce, DueAfter, AdvancedRuns, AdvancedPace};
 
 use crate::once::{After, once};
-use crate::parts::{ChoiceParts, block_items, return_value};
+use crate::parts::ChoiceParts;
 use crate::task::{Doing, Flow, Task};
 use crate::values::side;
 use pv_eval::{Failure, Machine, Plan};
-use pv_tree::NodeId;
+use pv_tree::{ListId, NodeId};
 use pv_typed::{TypedStmt, TypedUnit};
 use pv_world::Cause;
 
@@ -199,12 +201,14 @@ fn return_at_once(
     unit: &TypedUnit,
     plan: &Plan,
     n: NodeId,
+    value: Option<NodeId>,
     bound: u64,
     machine: &mut Machine,
 ) -> Option<Doing>
     requires codes { AreCodes unit.now plan.now }
     requires runnable { IsRunnable unit.now }
-    requires there { IsStatement unit.now n }
+    requires value { returned_of (statement_at unit.now n) ≡ optional_in (nodes unit.now) value }
+    requires there { IfSome value (IsExpression unit.now) }
     requires room { machine.old.moment.taken < bound }
     requires fit { Fit unit.now machine.old.started }
     ensures some { IfSome result (λ e. ComesAtOnce unit.now bound (Doing.Enter n) e machine.old machine.new) }
@@ -212,9 +216,13 @@ fn return_at_once(
     ensures fit { Fit unit.now machine.new.started }
     ensures setting { KeepsSetting machine.old.moment machine.new.moment }
 {
-    let x = return_value(unit, n)?;
-    let v = machine.hand_next(unit, plan, x, bound)?;
-    Some(Doing::Left(Flow::Returns(v)))
+    match value {
+        None => None,
+        Some(x) => {
+            let v = machine.hand_next(unit, plan, x, bound)?;
+            Some(Doing::Left(Flow::Returns(v)))
+        }
+    }
 }
 
 // Whether a block has no objects of its own.
@@ -227,9 +235,18 @@ fn is_without_objects(unit: &TypedUnit, n: NodeId) -> bool
 }
 
 // A block without objects begins at once (C17 6.8.2p2): it takes its turn, and nothing ends behind it.
-fn block_at_once(unit: &TypedUnit, n: NodeId, bound: u64, machine: &mut Machine) -> Option<Doing>
+fn block_at_once(
+    unit: &TypedUnit,
+    n: NodeId,
+    l: ListId,
+    bound: u64,
+    machine: &mut Machine,
+) -> Option<Doing>
     requires bound { bound ≤ 10 ^ 8 }
     requires there { IsStatement unit.now n }
+    requires value { items_of (statement_at unit.now n) ≡ items_read (nodes unit.now) unit.now.lists (statement_at unit.now n) (Some l) }
+    requires list { HasList unit.now l }
+    requires scope { is_scope_tree (statement_at unit.now n) ≡ true }
     requires room { machine.old.moment.taken < bound }
     requires fit { Fit unit.now machine.old.started }
     ensures some { IfSome result (λ e. ComesAtOnce unit.now bound (Doing.Enter n) e machine.old machine.new) }
@@ -237,7 +254,6 @@ fn block_at_once(unit: &TypedUnit, n: NodeId, bound: u64, machine: &mut Machine)
     ensures fit { Fit unit.now machine.new.started }
     ensures setting { KeepsSetting machine.old.moment machine.new.moment }
 {
-    let l = block_items(unit, n)?;
     if !is_without_objects(unit, n) {
         return None;
     }
@@ -282,8 +298,8 @@ fn statement_at_once(
             };
             choose_at_once(unit, plan, n, parts, bound, machine)
         }
-        TypedStmt::Return(_) => return_at_once(unit, plan, n, bound, machine),
-        TypedStmt::Block(_) => block_at_once(unit, n, bound, machine),
+        TypedStmt::Return(value) => return_at_once(unit, plan, n, value, bound, machine),
+        TypedStmt::Block(l) => block_at_once(unit, n, l, bound, machine),
         _ => None,
     }
 }

@@ -1,4 +1,4 @@
-use Rattle.std.proofs.Common.{ap, refl}
+use Rattle.std.proofs.Common.{ap, refl, arith}
 use Rattle.pv_eval.specs.Moments.{state_of}
 use Rattle.pv_exec.specs.declared.task.Flow.{Flow}
 use Rattle.pv_exec.specs.declared.task.Flow.TheVariants as flow
@@ -6,14 +6,19 @@ use Rattle.pv_exec.specs.declared.task.Task.TheVariants as task
 use Rattle.pv_exec.specs.Tasks.{after_flow}
 use Rattle.pv_exec.specs.Works.{flow_of}
 use Rattle.pv_exec.proofs.Leaving.{leaves-at}
-use Rattle.pv_exec.proofs.Onward.{list-goes}
+use Rattle.pv_exec.proofs.Onward.{list-next, ends-quick-or}
 use Rattle.pv_exec.proofs.lists.after_statement.Goals as goal
 
 pub returns-in-Falls-clause-led : goal.returns-in-Falls-clause-led
 returns-in-Falls-clause-led c = λ b out es hs hl k le lt.
     let u = c.args.unit.now in
     let old = c.args.machine.now in
-    list-goes b u k c.args.l c.args.i (flow_of c.args.flow) old.started (state_of old.moment out es) lt (ap flow_of c.in-Falls.is)
+    let new = c.next_statement.new.machine in
+    list-next b u k c.args.l c.args.i (flow_of c.args.flow) c.next_statement.result old.started new.started (state_of old.moment out es) (state_of new.moment out es) (ap flow_of c.in-Falls.is)
+    (c.next_statement.ensures.led b out es hs hl k le (λ e. absurd (omega (arith, e))) (omega (arith, lt)))
+
+pub returns-in-Falls-clause-quick : goal.returns-in-Falls-clause-quick
+returns-in-Falls-clause-quick c = ends-quick-or c.next_statement.new.machine.started c.next_statement.result c.next_statement.ensures.quick
 
 pub returns-in-Breaks-clause-led : goal.returns-in-Breaks-clause-led
 unfolding after_flow
