@@ -1,5 +1,5 @@
 // Objects and literals of a moment: they begin and end, and values are stored in them (C17 6.2.4, 6.4.5, 6.7.9, 6.9.1).
-ghost use Rattle.std.specs.Prelude.{◌≡◌, ◌<◌, ℕ, length};
+ghost use Rattle.std.specs.Prelude.{◌≡◌, ◌<◌, ℕ, [], length};
 ghost use Rattle.pv_types.specs.Known.{tree};
 ghost use Rattle.pv_typed.specs.Tables.{Stored};
 ghost use Rattle.pv_world.specs.Worlds.{Nothing};
@@ -15,9 +15,29 @@ use crate::moment::Moment;
 use crate::objects;
 use pv_typed::TypedUnit;
 use pv_types::TypeId;
+use pv_watch::What;
 use pv_world::Got;
+use std::alloc::Global;
+
+/// The list that is kept for what an operation tells, empty.
+#[inline(always)]
+fn lent(kept: &mut Vec<What>, alloc: Global) -> Vec<What>
+    ensures { result.items ≡ [] }
+{
+    let mut told = std::mem::replace(kept, Vec::new(alloc));
+    told.clear();
+    told
+}
 
 impl Moment {
+    // The list is kept for its memory.
+    #[inline(always)]
+    fn keep(&mut self, told: Vec<What>)
+        ensures { self.new ≡ self.old }
+    {
+        self.told = told;
+    }
+
     /// A body begins, without objects of its own (C17 6.2.4p6).
     pub fn begin_body(&mut self) -> Result<(), Failure>
         ensures made { (u : Stored) → Always u self.old (λ b out es. (line : ℕ) → Made (act b line BeginsBody (state_of self.old out es)) result (state_of self.new out es)) }
@@ -47,9 +67,11 @@ impl Moment {
         ensures stays { Stays self.old self.new }
     {
         let before = self.world.pairs_made();
-        let mut told = Vec::new(self.alloc);
+        let mut told = lent(&mut self.told, self.alloc);
         let answer = objects::make(&mut self.world, unit, o, &mut told);
-        self.close_made(line, before, &told, answer)
+        let made = self.close_made(line, before, &told, answer);
+        self.keep(told);
+        made
     }
 
     /// A function that is pointed to has an instance (C17 6.3.2.1p4).
@@ -86,9 +108,13 @@ impl Moment {
         ensures stays { Stays self.old self.new }
         ensures memory { IsMemory result }
     {
-        let mut told = Vec::new(self.alloc);
+        let mut told = lent(&mut self.told, self.alloc);
         match objects::finish(&mut self.world, unit, o, &mut told) {
-            Ok(()) => self.close_done(&told),
+            Ok(()) => {
+                let ended = self.close_done(&told);
+                self.keep(told);
+                ended
+            }
             Err(_) => Err(Failure::NoMemory),
         }
     }

@@ -27,6 +27,8 @@ pub struct Moment {
     pub(crate) taken: u64,
     /// In a settled run the side of each pair, true for the high one.
     pub(crate) sides: Option<Vec<bool>>,
+    /// A list for what an operation tells, which is kept for its memory alone.
+    pub(crate) told: Vec<What>,
 }
 
 impl Model for Moment {

@@ -30,6 +30,7 @@ impl Moment {
                 waiting: Vec::new(alloc),
                 taken: 0,
                 sides,
+                told: Vec::new(alloc),
             }),
             Err(_) => Err(Failure::NoMemory),
         }

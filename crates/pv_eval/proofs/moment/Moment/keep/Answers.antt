@@ -1,0 +1,4 @@
+use Rattle.pv_eval.proofs.moment.Moment.keep.Goals as goal
+
+pub returns : goal.returns
+returns c = c.self.view_is
