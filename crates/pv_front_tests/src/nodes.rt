@@ -60,7 +60,7 @@ fn keeps_a_list(unit: &mut Unit) -> bool {
     if !matches!(unit.spec(int), Spec::Int) {
         return false;
     }
-    match unit.add_list(&[int]) {
+    match unit.add_single(int) {
         Ok(specs) => unit.list(specs).len() == 1,
         Err(_) => false,
     }
