@@ -1,41 +1,44 @@
 -- Integer kinds: their widths, their order and the promotions, their members, and conversion to them.
-use Rattle.std.specs.Prelude.{ℕ, zero, ◌-◌, ◌/◌, ◌^◌, Bool, true, false, ◌&&◌, if◌then◌else◌, nat_lt, nat_le, ℤ, pos, neg_ℤ, ◌-ℤ◌, ◌≤ℤ◌, unsigned_abs, int_le}
+use Rattle.std.specs.Prelude.{ℕ, zero, ◌-◌, ◌/◌, ◌^◌, Bool, true, false, ◌&&◌, if◌then◌else◌, nat_le, ℤ, pos, neg_ℤ, ◌-ℤ◌, ◌≤ℤ◌, unsigned_abs, int_le}
 use Rattle.std.specs.Int.{int_rem_euclid}
 use Rattle.pv_num.specs.declared.kinds.IntKind.{IntKind}
 use Rattle.pv_num.specs.declared.kinds.IntKind.TheVariants.{Bool as BoolKind, Char, SChar, UChar, Short, UShort, Int, UInt, Long, ULong, LLong, ULLong}
 
--- The kinds of this target: 5.2.4.2.1, 6.2.6.2p6: the number of bits, the sign's included (of `_Bool` those of its byte); 6.3.1.1p1: the place in the
--- order of conversions; 6.2.5p4, p6, p15: whether it is signed, as `char` is here; 6.2.5p6: the unsigned kind of a signed one and the signed kind of an
--- unsigned one (`char` and `_Bool` have no other)
-abbrev pub kind_row : IntKind → ℕ × (ℕ × (Bool × IntKind))
-kind_row BoolKind = (8, (0, (false, BoolKind)))
-kind_row Char = (8, (1, (true, Char)))
-kind_row SChar = (8, (1, (true, UChar)))
-kind_row UChar = (8, (1, (false, SChar)))
-kind_row Short = (16, (2, (true, UShort)))
-kind_row UShort = (16, (2, (false, Short)))
-kind_row Int = (32, (3, (true, UInt)))
-kind_row UInt = (32, (3, (false, Int)))
-kind_row Long = (64, (4, (true, ULong)))
-kind_row ULong = (64, (4, (false, Long)))
-kind_row LLong = (64, (5, (true, ULLong)))
-kind_row ULLong = (64, (5, (false, LLong)))
-
--- 5.2.4.2.1 and 6.2.6.2p6: the number of bits
+-- 5.2.4.2.1, 6.2.6.2p6: the number of bits, the sign's included; of `_Bool` those of its byte; this target's choice
 abbrev pub width : IntKind → ℕ
-width k = (kind_row k).0
+width Short = 16
+width UShort = 16
+width Int = 32
+width UInt = 32
+width Long = 64
+width ULong = 64
+width LLong = 64
+width ULLong = 64
+width _ = 8
 
--- 6.3.1.1p1: the order of the kinds in conversions
-abbrev pub rank : IntKind → ℕ
-rank k = (kind_row k).1.0
-
--- 6.2.5p4 and p6: the signed and the unsigned kinds
+-- 6.2.5p4 and p6: the signed and the unsigned kinds; 6.2.5p15: `char` is signed on this target
 abbrev pub is_signed : IntKind → Bool
-is_signed k = (kind_row k).1.1.0
+is_signed Char = true
+is_signed SChar = true
+is_signed Short = true
+is_signed Int = true
+is_signed Long = true
+is_signed LLong = true
+is_signed _ = false
 
--- 6.2.5p6: the other kind of the same rank
+-- 6.2.5p6: the unsigned kind of a signed one and the signed kind of an unsigned one; `char` and `_Bool` have no other
 abbrev pub counterpart : IntKind → IntKind
-counterpart k = (kind_row k).1.1.1
+counterpart SChar = UChar
+counterpart UChar = SChar
+counterpart Short = UShort
+counterpart UShort = Short
+counterpart Int = UInt
+counterpart UInt = Int
+counterpart Long = ULong
+counterpart ULong = Long
+counterpart LLong = ULLong
+counterpart ULLong = LLong
+counterpart k = k
 
 -- 6.2.5p15: the character types: `char`, `signed char` and `unsigned char`
 abbrev pub is_character_kind : IntKind → Bool
@@ -44,9 +47,28 @@ is_character_kind SChar = true
 is_character_kind UChar = true
 is_character_kind _ = false
 
--- 6.3.1.1p2: the integer promotions; on this target `int` has all values of the kinds of lesser rank
+-- 6.3.1.1p1: the order of the kinds in conversions
+abbrev pub rank : IntKind → ℕ
+rank BoolKind = 0
+rank Short = 2
+rank UShort = 2
+rank Int = 3
+rank UInt = 3
+rank Long = 4
+rank ULong = 4
+rank LLong = 5
+rank ULLong = 5
+rank _ = 1
+
+-- 6.3.1.1p2: the integer promotions: on this target `int` has all values of the kinds of lesser rank
 abbrev pub promoted : IntKind → IntKind
-promoted k = if nat_lt (rank k) (rank Int) then Int else k
+promoted BoolKind = Int
+promoted Char = Int
+promoted SChar = Int
+promoted UChar = Int
+promoted Short = Int
+promoted UShort = Int
+promoted k = k
 
 -- 6.2.5p9: 2 to the width
 abbrev pub modulus_of : IntKind → ℕ
