@@ -32,8 +32,7 @@ use Rattle.pv_world.specs.declared.got.Shape.{Shape}
 use Rattle.pv_world.specs.declared.got.Shape.TheVariants as shape
 use Rattle.pv_world.specs.Worlds.{World, with_table}
 use Rattle.pv_world.specs.Worths.{pointer, null_pointer, missing_value, undefined}
-use Rattle.pv_world.specs.Telling.{quiet, telling, uses, live_test, range_test, each_paired, exposures, pairings}
-use Rattle.pv_world.specs.TellingParts.{each_exposed}
+use Rattle.pv_world.specs.Telling.{quiet, telling, uses, live_test, range_test, each_paired, each_exposed, exposures, pairings}
 use Rattle.pv_world.specs.ObjectParts.{used_pair}
 use Rattle.pv_world.specs.Doing.{Answers, Fails}
 use Rattle.pv_world.specs.Accesses.{reaching_by, scalar_by, worth_in}

@@ -22,8 +22,7 @@ use Rattle.pv_inst.specs.FindingParts.{fitting}
 use Rattle.pv_inst.proofs.Rows.{row_found}
 use Rattle.pv_watch.specs.declared.event.What.{What}
 use Rattle.pv_watch.specs.declared.event.What.TheVariants as what
-use Rattle.pv_world.specs.Telling.{uses, pairings, exposures, all_told}
-use Rattle.pv_world.specs.TellingParts.{each_exposed}
+use Rattle.pv_world.specs.Telling.{uses, pairings, each_exposed, exposures, all_told}
 use Rattle.pv_exec.proofs.Memory.Rows.{Sound, Leads, led-itself, led-trans, row-led}
 use Rattle.pv_exec.proofs.Memory.Findings.{name-leads}
 use Rattle.pv_exec.proofs.Memory.Tables.{use-leads, ended-leads}

@@ -12,7 +12,7 @@ use Rattle.std.proofs.lemmas.Option.{none-some, same_Some}
 use Rattle.pv_inst.proofs.Rows.{row_found}
 use Rattle.pv_watch.specs.declared.event.What.{What}
 use Rattle.pv_watch.specs.declared.event.What.TheVariants as what
-use Rattle.pv_world.specs.TellingParts.{each_exposed}
+use Rattle.pv_world.specs.Telling.{each_exposed}
 use Rattle.pv_journal.specs.Journals.{Exposed, Ended}
 use Rattle.pv_journal.specs.Obeying.{State, after_fact}
 use Rattle.pv_journal_laws.proofs.Telling.{told_from, after_what, AreCalled}

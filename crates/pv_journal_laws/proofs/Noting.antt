@@ -32,8 +32,7 @@ use Rattle.pv_libc.specs.declared.values.Note.TheVariants as note
 use Rattle.pv_libc.specs.Steps.{Now, Did, next, next_by, about, about_by, noted, in_memory, in_table, used as noted_use, told, reached, reached_by}
 use Rattle.pv_libc.specs.Characters.{character_in, character_loaded, character_at, characters_from, string_from, most, string_at}
 use Rattle.pv_watch.specs.declared.event.What.TheVariants as what
-use Rattle.pv_world.specs.Telling.{uses, exposures, all_told}
-use Rattle.pv_world.specs.TellingParts.{each_exposed}
+use Rattle.pv_world.specs.Telling.{uses, each_exposed, exposures, all_told}
 use Rattle.pv_world.specs.ObjectParts.{used_pair}
 use Rattle.pv_eval.specs.Library.{noted_as}
 use Rattle.pv_eval.specs.LibraryParts.{all_noted}

@@ -1,7 +1,6 @@
 pub mod Preconditions
 pub mod Worlds
 pub mod Telling
-pub mod TellingParts
 pub mod Doing
 pub mod Worths
 pub mod Hows

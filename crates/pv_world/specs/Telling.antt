@@ -1,7 +1,7 @@
 -- What an operation tells of: its events, without turn and mark, in the order of what it did, and the bytes that it prints.
 -- In the memory model PNVI-ae-udi a use of a pointer settles its name, an integer exposes instances, and a number at which
 -- two instances meet makes a pair; each of these is told, also where a later check of the same operation ends the run.
-use Rattle.std.specs.Prelude.{ℕ, ◌+◌, List, [], ◌∷◌, ◌++◌, length, Some, None, Result, Ok, Err, drop, map}
+use Rattle.std.specs.Prelude.{ℕ, ◌+◌, List, [], ◌∷◌, ◌++◌, length, Some, None, Result, Ok, Err, drop}
 use Rattle.std.specs.declared.option.Option.{Option}
 use Rattle.std.specs.Option.{option_map, option_map_or}
 use Rattle.pv_prov.specs.declared.pairs.Twin.{Twin}
@@ -73,9 +73,14 @@ both_used left right = used same_test left ++ used same_test right
 abbrev pub made : Table → ℕ → List What
 made T i = option_map_or (λ (x : Instance). what.Made i x.name x.k x.base x.size ∷ []) (instance_at T.instances i) []
 
+-- the memory model: an event for each instance that became exposed
+abbrev pub each_exposed : List ℕ → List What
+each_exposed [] = []
+each_exposed (i ∷ is) = what.Exposed i ∷ each_exposed is
+
 -- the memory model: the instances that became exposed and were not told of
 abbrev pub exposures : Table → List What
-exposures T = map what.Exposed T.pending
+exposures T = each_exposed T.pending
 
 -- the memory model: afterwards they were told
 abbrev pub all_told : Table → Table
