@@ -80,8 +80,7 @@ with_function x g = record { list = x.list ++ (ByFunction (parameter_types g.par
 -- 6.7.6.2p1: of a complete object type; no size where `unsized` says so; no more than 2 ^ 32 bytes (5.2.4.1)
 abbrev pub array_of : (unsized : Bool) → List Entry → Option ℕ → Ty → Option Ty
 array_of unsized env None t = if unsized && is_complete_in env t then Some (ArrayOf t None) else None
-array_of unsized env (Some n) t =
-    if is_complete_in env t && nat_le (n * (layout_in env t).size) (2 ^ 32) then Some (ArrayOf t (Some n)) else None
+array_of unsized env (Some n) t = if is_complete_in env t && nat_le (n * (layout_in env t).size) (2 ^ 32) then Some (ArrayOf t (Some n)) else None
 
 -- one step round a type: a pointer, `const` or not (6.7.6.1p1); an array (6.7.6.2p3) of a complete object type (6.7.6.2p1), without a size where
 -- `unsized` says so, and of no more than 2 ^ 32 bytes (5.2.4.1); a function (6.7.6.3p5), whose result is no function and no array (6.7.6.3p1) and
@@ -89,8 +88,7 @@ array_of unsized env (Some n) t =
 abbrev pub step : Bool → List Entry → Derivation → Ty → Option Ty
 step unsized env (ByPointer constant) t = with_const constant (PointerTo t)
 step unsized env (ByArray n) t = array_of unsized env n t
-step unsized env (ByFunction ts variadic) t =
-    if is_function t then None else (if is_array t then None else Some (FunctionTy (bare t) ts variadic))
+step unsized env (ByFunction ts variadic) t = if is_function t then None else (if is_array t then None else Some (FunctionTy (bare t) ts variadic))
 
 -- 6.7.6p4: the step that is furthest from the name comes first
 abbrev pub derived : Bool → List Entry → List Derivation → Ty → Option Ty

@@ -10,7 +10,7 @@ use Rattle.pv_typed.specs.declared.nodes.IncrementOperator.TheVariants as step
 use Rattle.pv_typed.specs.TypedTree.{TypedTree, type_of, Constant}
 use Rattle.pv_check.specs.State.{State, After, ◌>>=◌, give, look, entered, env}
 use Rattle.pv_typed.specs.Constants.{and_then}
-use Rattle.pv_check.specs.Specifiers.{Seen, with_keyword, with_type, typedef_of}
+use Rattle.pv_check.specs.Specifiers.{Seen, with_keyword, with_type, typedef_of, nothing_seen}
 use Rattle.pv_check.specs.Tags.{is_union_word, tag_named, opened, completed, opened_enumeration, closed_enumeration, enumerated}
 use Rattle.pv_check.specs.Derivations.{Parameter as OneParameter, Steps, no_steps, declared_name, optional_name, may_be_variadic, size_of, derived, adjusted, with_parameter, with_step, ByPointer, ByArray, signature, with_function}
 use Rattle.pv_check.specs.Primary.{name_of, integer_of}
@@ -22,8 +22,6 @@ use Rattle.pv_check.specs.Binary.{binary_of}
 use Rattle.pv_check.specs.Conditional.{conditional_of}
 use Rattle.pv_check.specs.Assignment.{assign_of, comma_of}
 use Rattle.pv_check.specs.Values.{written}
-use Rattle.pv_check.specs.Words.{no_words}
-use Rattle.pv_check.specs.declared.specifiers.Storage.TheVariants as storage
 
 abbrev mutual
   -- 6.5: an expression's typed tree, or none where it breaks a constraint
@@ -92,7 +90,7 @@ abbrev mutual
 
   -- 6.7p1: specifiers in a row
   pub specifiers : Trees → State → Option (After Seen)
-  specifiers NoTrees s = give (Some (record { storage = storage.Plain; constant = false; words = no_words; named = None })) s
+  specifiers NoTrees s = give (Some nothing_seen) s
   specifiers (Then before x) s = specifiers before s >>= specifier_in x
 
   pub specifier_in : Tree → After Seen → Option (After Seen)
@@ -189,8 +187,7 @@ abbrev mutual
   -- 6.7.6.2p1: the size of an array, where one stands
   pub array_size : OptionalTree → State → Option (After (Option ℕ))
   array_size Absent s = give (Some None) s
-  array_size (Present (OfExpression a)) s =
-      integer_value (operand (types a s)) >>= λ a. and_then (size_of a.value) (λ n. give (Some (Some n)) a.state)
+  array_size (Present (OfExpression a)) s = integer_value (operand (types a s)) >>= λ a. and_then (size_of a.value) (λ n. give (Some (Some n)) a.state)
   array_size _ s = None
 
   -- 6.7.6.3p1: a list of parameters

@@ -5,8 +5,7 @@ ghost use Rattle.pv_types.specs.Ty.{Ty, IntTy};
 ghost use Rattle.pv_check.specs.Growing.{Grows, IsType, type_if};
 ghost use Rattle.pv_check.specs.Words.{no_words};
 ghost use Rattle.pv_check.specs.WordRows.{total, base_of};
-ghost use Rattle.pv_check.specs.Specifiers.{with_storage, with_keyword, with_type, base_type, specified};
-ghost use Rattle.pv_check.specs.SpecifierParts.{nothing_seen};
+ghost use Rattle.pv_check.specs.Specifiers.{with_storage, with_keyword, with_type, base_type, specified, nothing_seen};
 ghost use Rattle.pv_check.specs.Seeing.{seen_in, seen_if, specified_if, IsSpecified};
 
 use crate::interning::interned;

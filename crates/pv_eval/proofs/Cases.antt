@@ -16,8 +16,7 @@ use Rattle.pv_eval.specs.declared.frames.Stage.{Stage}
 use Rattle.pv_seq.specs.Sequencing.{Access, Open, opened, noted, joined}
 use Rattle.pv_seq.specs.Rivals.{top, below}
 use Rattle.pv_world.specs.Worlds.{Worth}
-use Rattle.pv_eval.specs.States.{Setting, State, Res, Gives, Stops, Turns, then_do}
-use Rattle.pv_eval.specs.StateParts.{spend}
+use Rattle.pv_eval.specs.States.{Setting, State, Res, Gives, Stops, Turns, then_do, spend}
 use Rattle.pv_eval.specs.Sequenced.{Given, done, operand}
 use Rattle.pv_eval.specs.Steps.{Calling, takes, tick_if}
 use Rattle.pv_eval.specs.Evaluation.{ev, ev_form}

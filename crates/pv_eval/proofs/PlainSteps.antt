@@ -12,8 +12,7 @@ use Rattle.pv_typed.specs.Plain.{counted, both, turns_of, turns_of_form}
 use Rattle.pv_seq.specs.Sequencing.{Access, Open}
 use Rattle.pv_world.specs.Worlds.{Worth, World}
 use Rattle.pv_eval.specs.declared.marked.Marked.{Marked}
-use Rattle.pv_eval.specs.States.{Setting, State, Res, Stops, Turns, then_do}
-use Rattle.pv_eval.specs.StateParts.{spend}
+use Rattle.pv_eval.specs.States.{Setting, State, Res, Stops, Turns, then_do, spend}
 use Rattle.pv_eval.specs.Sequenced.{Given, with_given, operand}
 use Rattle.pv_eval.specs.Steps.{Calling, takes, tick_if}
 use Rattle.pv_eval.specs.Evaluation.{ev, ev_form}

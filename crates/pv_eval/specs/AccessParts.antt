@@ -2,8 +2,7 @@
 use Rattle.pv_world.specs.Doing.{Done}
 use Rattle.pv_eval.specs.TypeForms.{Lvalue}
 use Rattle.pv_world.specs.Worlds.{World, Worth}
-use Rattle.pv_world.specs.Accesses.{reaching}
-use Rattle.pv_world.specs.AccessParts.{takes_bytes}
+use Rattle.pv_world.specs.Accesses.{reaching, takes_bytes}
 use Rattle.std.specs.Prelude.{ℕ, List, false}
 use Rattle.pv_seq.specs.Sequencing.{Access}
 use Rattle.pv_object.specs.declared.values.Pointer.{Pointer}

@@ -1,5 +1,4 @@
 pub mod States
-pub mod StateParts
 pub mod TypeForms
 pub mod Conversions
 pub mod Sizes

@@ -1,5 +1,5 @@
 -- The operations of a run (C17 6.3, 6.5, 6.7.9, 7), and what each does.
-use Rattle.std.specs.Prelude.{ℕ, nat_le, Bool, true, ◌&&◌, List, ◌∷◌, Option, None, drop, if◌then◌else◌, pos, take}
+use Rattle.std.specs.Prelude.{ℕ, nat_le, Bool, true, ◌&&◌, List, ◌∷◌, Option, None, drop, if◌then◌else◌, pos}
 use Rattle.std.specs.FinMap as map
 use Rattle.pv_fault.specs.declared.faults.Clause.TheVariants as clause
 use Rattle.pv_num.specs.declared.kinds.IntKind.{IntKind}
@@ -14,12 +14,12 @@ use Rattle.pv_seq.specs.Sequencing.{Access}
 use Rattle.pv_libc.specs.declared.values.Arg.{Arg}
 use Rattle.pv_world.specs.declared.got.How.{How}
 use Rattle.pv_world.specs.Worlds.{Worth, Nothing, World}
-use Rattle.pv_world.specs.Worths.{truth_int, int_of, pointer, plain, present, computed, missing_value, pointer_of, bytes_of}
+use Rattle.pv_world.specs.Worths.{truth_int, int_of, pointer, plain, present, computed, missing_value, pointer_of}
 use Rattle.pv_world.specs.Telling.{quiet}
 use Rattle.pv_world.specs.Doing.{Done, Answers, Fails}
 use Rattle.pv_world.specs.Conversions.{converts, opposite, tests}
 use Rattle.pv_world.specs.Calculations.{follows_to}
-use Rattle.pv_world.specs.Pointers.{moves, subtracts, orders, equals, is_order, found_by, moved_by}
+use Rattle.pv_world.specs.Pointers.{moves, subtracts, orders, equals, is_order, moved_by, finds}
 use Rattle.pv_world.specs.Objects as object
 use Rattle.pv_eval.specs.States.{Setting, State, Res}
 use Rattle.pv_eval.specs.Acting.{acted}
@@ -31,8 +31,8 @@ use Rattle.pv_types.specs.Ty.{Ty}
 use Rattle.pv_eval.specs.Library.{asks}
 use Rattle.pv_eval.specs.Suiting.{knows_worth, is_small, is_integer, is_promoted, is_operand, is_size, is_stored, has_part, knows_value}
 use Rattle.std.specs.List.{list_all}
-use Rattle.pv_world.specs.Accesses.{worth_in}
-use Rattle.pv_object.specs.Operations.{move_under, code}
+use Rattle.pv_object.specs.Operations.{move_under}
+use Rattle.pv_world.specs.Accesses.{takes_bytes}
 
 -- an operation of a run (6.3, 6.5, 6.7.9, 7), with its operands
 pub data Op : Type 0 where
@@ -112,8 +112,8 @@ works b (Orders op v x) = orders op v x
 works b (Equals negated v x) = equals negated v x
 works b (Follows nothing v) = follows_to nothing v
 works b (Selects offset v) = λ w. present v w (λ v. moved_by w (pointer_of v) (move_under clause.Indirection w.memory.table (pointer_of v) (pos offset)))
-works b (Finds t v) = λ w. plain v w (λ v. found_by w (pointer_of v) (may_call b t) (code w.memory.table (pointer_of v)))
-works b (TakesPart offset l v) = λ w. present v w (λ v. worth_in w (take l.size (drop offset (bytes_of v))) l.shape None None quiet)
+works b (Finds t v) = finds (may_call b t) v
+works b (TakesPart offset l v) = takes_bytes offset l.size l.shape v
 works b (Reads l place rivals) = reads b l place rivals
 works b (Writes l place v from rivals) = writes b l place v from rivals
 works b (NamesObject o) = λ w. Answers (pointer (object.address_of w (instance_for b o w))) w quiet

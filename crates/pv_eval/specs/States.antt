@@ -42,9 +42,13 @@ abbrev pub then_do : {A B : Type 0} → Res A → (A → State → Res B) → Re
 then_do (Gives a s) go = go a s
 then_do (Stops w s) go = Stops w s
 
+-- a turn more was taken: a step of the abstract machine (5.1.2.3p1)
+abbrev pub spend : State → State
+spend s = record s { taken = s.taken + 1 }
+
 -- 5.1.2.3p1: a turn is taken, or the run stops where the bound's were all taken
 abbrev pub tick : {A : Type 0} → Setting → State → (State → Res A) → Res A
-tick b s go = if nat_lt s.taken b.bound then go (record s { taken = s.taken + 1 }) else Stops Turns s
+tick b s go = if nat_lt s.taken b.bound then go (spend s) else Stops Turns s
 
 -- the state as a piece of the run (5.1.2.3) leaves it, whichever way it ends
 abbrev pub end_of : {A : Type 0} → Res A → State

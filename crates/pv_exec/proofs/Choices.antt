@@ -10,8 +10,7 @@ use Rattle.pv_typed.specs.TypedStatement.{TypedStatement, Block, Declare, Expres
 use Rattle.pv_typed.specs.Tables.{Stored, nodes}
 use Rattle.pv_typed.specs.NodeTrees.{expression_at, statement_at}
 use Rattle.pv_world.specs.Worlds.{Worth}
-use Rattle.pv_eval.specs.States.{Setting, State, Res, Gives, Stops, Turns, then_do}
-use Rattle.pv_eval.specs.StateParts.{spend}
+use Rattle.pv_eval.specs.States.{Setting, State, Res, Gives, Stops, Turns, then_do, spend}
 use Rattle.pv_eval.specs.Evaluation.{ev}
 use Rattle.pv_eval.specs.Sequenced.{Given}
 use Rattle.pv_eval.specs.Stack.{rest}

@@ -12,8 +12,7 @@ use Rattle.pv_typed.specs.Nodes.{statements_in}
 use Rattle.pv_tree.specs.declared.nodes.ListId.{ListId}
 use Rattle.pv_eval.specs.Moments.{Made, Moment, state_of}
 use Rattle.pv_eval.specs.Operations.{Tests, Accepts, act}
-use Rattle.pv_eval.specs.States.{Setting, State, Res, Gives, Stops, Turns, then_do}
-use Rattle.pv_eval.specs.StateParts.{spend}
+use Rattle.pv_eval.specs.States.{Setting, State, Res, Gives, Stops, Turns, then_do, spend}
 use Rattle.pv_eval.specs.Steps.{converted}
 use Rattle.pv_eval.specs.declared.marked.Marked.{Marked}
 use Rattle.pv_exec.specs.Calls.{below}

@@ -7,8 +7,7 @@ use Rattle.pv_typed.specs.Trees.{declared_of}
 use Rattle.pv_typed.specs.Tables.{Stored}
 use Rattle.pv_typed.specs.NodeTrees.{statement_at}
 use Rattle.pv_eval.specs.declared.failure.Failure.{Failure}
-use Rattle.pv_eval.specs.States.{Setting, State, Res, Gives}
-use Rattle.pv_eval.specs.StateParts.{spend}
+use Rattle.pv_eval.specs.States.{Setting, State, Res, Gives, spend}
 use Rattle.pv_eval.specs.Machines.{Started}
 use Rattle.pv_eval.specs.Moments.{Made}
 use Rattle.pv_exec.specs.declared.task.Task.TheVariants as task

@@ -11,8 +11,7 @@ use Rattle.pv_typed.specs.Trees.{declared_of, statement_line}
 use Rattle.pv_typed.specs.Nodes.{statements_in}
 use Rattle.pv_typed.specs.Tables.{Stored, nodes}
 use Rattle.pv_typed.specs.NodeTrees.{list_at, statement_at}
-use Rattle.pv_eval.specs.States.{Setting, State, Res, Gives, Stops, Turns, then_do}
-use Rattle.pv_eval.specs.StateParts.{spend}
+use Rattle.pv_eval.specs.States.{Setting, State, Res, Gives, Stops, Turns, then_do, spend}
 use Rattle.pv_eval.specs.Stack.{rest}
 use Rattle.pv_eval.specs.Moments.{Moment, state_of}
 use Rattle.pv_eval.specs.Machines.{Machine, Started}

@@ -13,8 +13,7 @@ use Rattle.pv_world.specs.Worlds.{Worth, World, Wrong, Undefined, Undecided, Hal
 use Rattle.pv_world.specs.Doing.{Done, Answers, Fails, Breaks}
 use Rattle.pv_world.specs.Telling.{Told, verdict_of, fault_of, fault_told}
 use Rattle.pv_eval.specs.declared.marked.Marked.{Marked}
-use Rattle.pv_eval.specs.States.{Setting, State, Why, Turns, Unreached, Stopped, Res, Gives, Stops, then_do, end_of}
-use Rattle.pv_eval.specs.StateParts.{spend}
+use Rattle.pv_eval.specs.States.{Setting, State, Why, Turns, Unreached, Stopped, Res, Gives, Stops, then_do, end_of, spend}
 use Rattle.pv_eval.specs.Acting.{stamped, noted, pair_count, sided, settling, by_side, answered, acted}
 use Rattle.pv_eval.specs.Constants.{constant_worth}
 use Rattle.pv_eval.specs.Operations.{Puts, does}

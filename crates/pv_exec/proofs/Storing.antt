@@ -12,8 +12,7 @@ use Rattle.pv_world.specs.Coming.{worth_of}
 use Rattle.pv_world.specs.declared.got.Got.{Got}
 use Rattle.pv_eval.specs.declared.failure.Failure.{Failure}
 use Rattle.pv_eval.specs.declared.failure.Failure.TheVariants as failure
-use Rattle.pv_eval.specs.States.{Setting, State, Res, Gives, Stops, Turns, then_do, tick}
-use Rattle.pv_eval.specs.StateParts.{spend}
+use Rattle.pv_eval.specs.States.{Setting, State, Res, Gives, Stops, Turns, then_do, tick, spend}
 use Rattle.pv_eval.specs.Moments.{Moment, Came, state_of, IsMemory}
 use Rattle.pv_eval.specs.declared.marked.Marked.{Marked}
 use Rattle.pv_exec.specs.Putting.{put_first}

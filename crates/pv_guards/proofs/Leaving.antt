@@ -36,8 +36,8 @@ use Rattle.pv_world.specs.Worlds.{Worth, Nothing, Missing, Scalar, Whole, World,
 use Rattle.pv_world.specs.Worths.{int, truth_int, pointer, pointer_of, value_of, bytes_of, unplain, unpresent}
 use Rattle.pv_world.specs.Conversions.{opposite}
 use Rattle.pv_world.specs.CalculationParts.{accepts}
-use Rattle.pv_world.specs.Pointers.{found_by}
-use Rattle.pv_world.specs.PointerParts.{unlike, finds}
+use Rattle.pv_world.specs.Pointers.{found_by, finds}
+use Rattle.pv_world.specs.PointerParts.{unlike}
 use Rattle.pv_world.specs.Telling.{Told, quiet, telling, used, code_test}
 use Rattle.pv_world.specs.Doing.{Done, Answers, Fails, Breaks}
 use Rattle.pv_world.specs.Objects.{bound_in, instance_of, literal_of, function_of, base_in, address_of, owner_of}

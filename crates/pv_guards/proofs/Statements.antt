@@ -13,8 +13,7 @@ use Rattle.pv_typed.specs.TypedStatement.{TypedStatement, Block, Declare, Expres
 use Rattle.pv_typed.specs.TypedUnits.{TypedObject, Store, StoredValue, ValueOf, TextOf, layouts, object_at, literal_at}
 use Rattle.pv_world.specs.Worlds.{Worth, Nothing, Missing, World, Bindings}
 use Rattle.pv_world.specs.Worths.{is_true, int_of}
-use Rattle.pv_eval.specs.States.{Setting, State, Res, Gives, then_do, tick}
-use Rattle.pv_eval.specs.StateParts.{spend}
+use Rattle.pv_eval.specs.States.{Setting, State, Res, Gives, then_do, tick, spend}
 use Rattle.pv_eval.specs.TypeForms.{lvalue, size_of}
 use Rattle.pv_eval.specs.Sequenced.{Given}
 use Rattle.pv_eval.specs.Steps.{converted, handed}

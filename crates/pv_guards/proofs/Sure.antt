@@ -4,8 +4,7 @@ use Rattle.std.specs.Prelude.{nat_lt, if◌then◌else◌, slice_get}
 use Rattle.pv_world.specs.Worlds.{Worth, World}
 use Rattle.pv_world.specs.Telling.{Told}
 use Rattle.pv_world.specs.Doing.{Done, Answers, Fails, Breaks}
-use Rattle.pv_eval.specs.States.{Setting, State, Res, Gives, Stops, Turns, then_do, tick}
-use Rattle.pv_eval.specs.StateParts.{spend}
+use Rattle.pv_eval.specs.States.{Setting, State, Res, Gives, Stops, Turns, then_do, tick, spend}
 use Rattle.pv_eval.specs.Acting.{acted, answered, by_side, sided, pair_count, noted}
 use Rattle.pv_eval.specs.Operations.{Op, does, act}
 use Rattle.pv_guards.specs.Soundness.{IsSound, IsAfter}

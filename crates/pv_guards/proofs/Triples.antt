@@ -4,8 +4,7 @@ use Rattle.std.specs.Prelude.{nat_lt, if◌then◌else◌}
 use Rattle.pv_types.specs.Ty.{Ty}
 use Rattle.pv_seq.specs.Sequencing.{Open}
 use Rattle.pv_world.specs.Worlds.{Worth, World}
-use Rattle.pv_eval.specs.States.{Setting, State, Res, Gives, Stops, Turns, then_do}
-use Rattle.pv_eval.specs.StateParts.{spend}
+use Rattle.pv_eval.specs.States.{Setting, State, Res, Gives, Stops, Turns, then_do, spend}
 use Rattle.pv_eval.specs.Sequenced.{Given, done}
 use Rattle.pv_eval.specs.Steps.{tick_if}
 use Rattle.pv_guards.specs.Soundness.{Value}

@@ -97,8 +97,7 @@ unfoldable mutual
   ex b u (Default line x) s = ex b u x s
   ex b u (While line c x) s = tick b s (λ s. round b u.call (Some c) None (λ s. ex b u x s) (u.again (Some c) None x) s)
   ex b u (DoWhile line x c) s = tick b s (λ s. round_do b u.call c (λ s. ex b u x s) (u.again_do x c) s)
-  ex b u (For line first c step x) s =
-      tick b s (λ s. stepped b u.call first (λ s. round b u.call c step (λ s. ex b u x s) (u.again c step x) s) s)
+  ex b u (For line first c step x) s = tick b s (λ s. stepped b u.call first (λ s. round b u.call c step (λ s. ex b u x s) (u.again c step x) s) s)
   ex b u (ForDeclaration line os ds c step x) s =
       tick b s (λ s. scoped b os (λ s. then_do (exs b u ds s) (λ fl s. falls fl (λ s. round b u.call c step (λ s. ex b u x s) (u.again c step x) s) s)) s)
   ex b u (Continue line) s = tick b s (λ s. Gives Continues s)
@@ -114,8 +113,7 @@ unfoldable mutual
   -- 6.8.4.2p4, p5: the statements from the one with the label on; what stands before it isn't reached
   pub exs_at : Setting → Below → Target → Statements → State → Res Flow
   exs_at b u at NoStatements s = Stops Unreached s
-  exs_at b u at (MoreStatements x xs) s =
-      if is_target at x then then_do (ex b u x s) (λ fl s. falls fl (λ s. exs b u xs s) s) else exs_at b u at xs s
+  exs_at b u at (MoreStatements x xs) s = if is_target at x then then_do (ex b u x s) (λ fl s. falls fl (λ s. exs b u xs s) s) else exs_at b u at xs s
 
 -- 6.5.2.2p4, 6.9.1p10: each parameter is made and gets its argument
 abbrev pub take_params : Setting → (line : ℕ) → List ℕ → List Worth → State → Res Worth

@@ -48,10 +48,10 @@ use Rattle.pv_world.specs.Telling.{Told, quiet, telling, used, uses, both_used, 
 use Rattle.pv_world.specs.Doing.{Done}
 use Rattle.pv_world.specs.Worths.{pointer_of, unplain, unpresent, bytes_of}
 use Rattle.pv_world.specs.Pointers.{ordered_by, equal_by, equals}
-use Rattle.pv_world.specs.Accesses.{reaching_by, reaching, scalar_by, worth_in}
-use Rattle.pv_world.specs.AccessParts.{range_use, takes_bytes}
-use Rattle.pv_world.specs.Objects.{makes_object, makes_literal_of, makes_function}
-use Rattle.pv_world.specs.ObjectParts.{object_made, literal_request, literal_made, function_made, ends_instance}
+use Rattle.pv_world.specs.Accesses.{reaching_by, reaching, scalar_by, worth_in, takes_bytes}
+use Rattle.pv_world.specs.AccessParts.{range_use}
+use Rattle.pv_world.specs.Objects.{makes_object, makes_literal_of, makes_function, ends_instance}
+use Rattle.pv_world.specs.ObjectParts.{object_made, literal_request, literal_made, function_made}
 use Rattle.pv_journal_laws.proofs.Telling.{IsNumbered}
 use Rattle.pv_journal_laws.proofs.Changes.{Tells, Showing, tells-itself, tells-trans, tells-exposures, showing-itself, showing-trans, use-tells, name-tells, expose-shows, ends-tells}
 use Rattle.pv_journal_laws.proofs.Requests.{IsAsked, Creates, created-tells}

@@ -35,8 +35,8 @@ use Rattle.pv_world.specs.Worths.{truth_int, int_of, pointer_of, unless, unplain
 use Rattle.pv_world.specs.Conversions.{truth_by, truth_value, truth_worth, tests, number_by, pointed, recast_by, passes, converts}
 use Rattle.pv_world.specs.Calculations.{follows_to}
 use Rattle.pv_world.specs.CalculationParts.{calculates, calculates_one}
-use Rattle.pv_world.specs.Pointers.{moved_by, distance, moves, elements_by, between_by, found_by}
-use Rattle.pv_world.specs.PointerParts.{between, unlike, selects, finds}
+use Rattle.pv_world.specs.Pointers.{moved_by, distance, moves, elements_by, between_by, found_by, finds}
+use Rattle.pv_world.specs.PointerParts.{between, unlike, selects}
 use Rattle.pv_world.specs.Objects.{owner_of}
 use Rattle.pv_journal.specs.Obeying.{State}
 use Rattle.pv_journal_laws.proofs.Telling.{IsNumbered, told_from}

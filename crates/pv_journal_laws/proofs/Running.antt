@@ -21,8 +21,7 @@ use Rattle.pv_world.specs.Worlds.{World}
 use Rattle.pv_world.specs.Telling.{Told, fault_of, verdict_of, blame_of}
 use Rattle.pv_world.specs.Doing.{Done, Answers, Fails, Breaks}
 use Rattle.pv_eval.specs.declared.marked.Marked.{Marked}
-use Rattle.pv_eval.specs.States.{Setting, State, Turns, Res, Gives, Stops, then_do, end_of}
-use Rattle.pv_eval.specs.StateParts.{spend}
+use Rattle.pv_eval.specs.States.{Setting, State, Turns, Res, Gives, Stops, then_do, end_of, spend}
 use Rattle.pv_eval.specs.Acting.{stamped, noted, noted_with, acted}
 use Rattle.pv_eval.specs.Constants.{constant_worth}
 use Rattle.pv_eval.specs.Operations.{Op, Puts, does}

@@ -13,8 +13,8 @@ use Rattle.pv_object.specs.Memory.{Mem}
 use Rattle.pv_object.specs.Creating.{made}
 use Rattle.pv_object.specs.OperationParts.{blank_in, cleared_in}
 use Rattle.pv_world.specs.Worlds.{World}
-use Rattle.pv_world.specs.Objects.{makes_object, makes_function, ends_object, put_at, owning, base_in, instance_of, makes_literal_of, fills_object, puts_bytes}
-use Rattle.pv_world.specs.ObjectParts.{object_made, function_made, with_bytes, literal_request, literal_made, filling, ends_instance, literal_bound}
+use Rattle.pv_world.specs.Objects.{makes_object, makes_function, ends_object, put_at, owning, base_in, instance_of, makes_literal_of, fills_object, puts_bytes, ends_instance, literal_bound}
+use Rattle.pv_world.specs.ObjectParts.{object_made, function_made, with_bytes, literal_request, literal_made, filling}
 use Rattle.pv_numbering.proofs.Marks.{AlikeBytes, AlikeStores}
 use Rattle.pv_numbering.proofs.Bytes.{alike_written, alike_spread, alike_cleared, alike_replicate, alike_plain, unmarked}
 use Rattle.pv_numbering.proofs.Doing.{AlikeDone, Alikes}

@@ -224,7 +224,7 @@ module _ (m m' : Known) where
   found_by-alike w b p fits (Ok r, T) h = found_in-alike (with_table w T) b p fits (owner_of w r.0) (used code_test r.1) h
   found_by-alike w b p fits (Err y, T) h = (refl, refl, alike_world m m' (with_table w T) b h, refl)
 
-  pub finds-alike : (fits : Option ℕ → Bool) (v v' : Worth) → AlikeWorth m m' v v' → (w : World) (b : Store) → Alikes m m' w b → AlikeDone m m' (point_parts.finds fits v w) (point_parts.finds fits v' (with_bytes w b))
+  pub finds-alike : (fits : Option ℕ → Bool) (v v' : Worth) → AlikeWorth m m' v v' → (w : World) (b : Store) → Alikes m m' w b → AlikeDone m m' (point.finds fits v w) (point.finds fits v' (with_bytes w b))
   finds-alike fits v v' g w b h =
       plain_alike m m' w b v v' _ _ h g (by_pointer (λ w p. point.found_by w p fits (code w.memory.table p)) v v' w b g (λ p. found_by-alike w b p fits (code w.memory.table p) h))
 

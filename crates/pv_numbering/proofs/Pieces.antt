@@ -7,8 +7,7 @@ use Rattle.pv_shadow.specs.declared.byte.Byte.{Byte}
 use Rattle.pv_typed.specs.TypedTree.{TypedTree, Node, Read}
 use Rattle.pv_world.specs.Worlds.{Worth, Nothing, Missing, Scalar, Whole}
 use Rattle.pv_world.specs.Worths.{int_of, pointer_of, origin_of, is_true}
-use Rattle.pv_eval.specs.States.{Setting, State, Why, Turns, Res, Gives, Stops, then_do, tick}
-use Rattle.pv_eval.specs.StateParts.{spend}
+use Rattle.pv_eval.specs.States.{Setting, State, Why, Turns, Res, Gives, Stops, then_do, tick, spend}
 use Rattle.pv_eval.specs.Operations.{Op, act}
 use Rattle.pv_eval.specs.Steps.{source_of}
 use Rattle.pv_eval.specs.Arguments.{argument}

@@ -23,8 +23,8 @@ use Rattle.pv_world.specs.Telling.{Told, quiet, telling, all_told}
 use Rattle.pv_world.specs.Doing.{Done}
 use Rattle.pv_world.specs.Worths.{value_of, bytes_of}
 use Rattle.pv_world.specs.ObjectParts.{with_bytes}
-use Rattle.pv_world.specs.Accesses.{reaching_by, reaching, scalar_as, load_blame, scalar_by, worth_in, mark_of, stored_as}
-use Rattle.pv_world.specs.AccessParts.{range_use, takes_bytes}
+use Rattle.pv_world.specs.Accesses.{reaching_by, reaching, scalar_as, load_blame, scalar_by, worth_in, mark_of, stored_as, takes_bytes}
+use Rattle.pv_world.specs.AccessParts.{range_use}
 use Rattle.pv_numbering.proofs.Marks.{AcceptedAlike, AlikeBytes}
 use Rattle.pv_numbering.proofs.Alike.{AlikeWorth}
 use Rattle.pv_numbering.proofs.Bytes.{AlikeNumbers, alike_take, alike_drop}

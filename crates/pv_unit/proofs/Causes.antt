@@ -20,8 +20,7 @@ use Rattle.pv_unit.specs.Checking.{IsCause, IsLack, IsNamed, IsResolved, IsStop}
 use Rattle.pv_unit.specs.Redeclarations.{UnitState}
 use Rattle.pv_unit.specs.declared.entities.Outer.{Outer}
 use Rattle.pv_unit.specs.Outside.{unit_state}
-use Rattle.pv_unit.specs.Units.{Breaks, IsTyped, Typed, UnitComes, finished, first, placed_from, statics_from}
-use Rattle.pv_unit.specs.UnitParts.{with_statics, with_placed}
+use Rattle.pv_unit.specs.Units.{Breaks, IsTyped, Typed, UnitComes, finished, first, placed_from, statics_from, with_statics, with_placed}
 use Rattle.pv_unit.proofs.Resolutions.{main_found}
 
 pub stop_cause : (t : Table) (ds : List DeclarationTree) (u : UnitState) (e : CheckError) → u ≡ first t → IsStop ds u e → IsCause t ds e

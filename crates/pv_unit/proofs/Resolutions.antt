@@ -17,8 +17,8 @@ use Rattle.pv_check.specs.Raw.{used_of}
 use Rattle.pv_check.specs.State.{State, Used}
 use Rattle.pv_unit.specs.Redeclarations.{Entity}
 use Rattle.pv_unit.specs.Resolving.{placed_if}
-use Rattle.pv_unit.specs.Units.{is_unresolved, placed_from, points, statics_from, unresolved, uses}
-use Rattle.pv_unit.specs.UnitParts.{is_main_function, is_used, has_main_in, is_pointed, with_statics, with_placed}
+use Rattle.pv_unit.specs.Units.{is_unresolved, placed_from, points, statics_from, unresolved, uses, with_statics, with_placed}
+use Rattle.pv_unit.specs.UnitParts.{is_main_function, is_used, has_main_in, is_pointed}
 
 -- ---- what expressions name
 

@@ -79,8 +79,7 @@ entity_type s e = if e.function then (function_at s.unit e.number).t else (objec
 
 -- 6.7.6.2p4: a later declaration gives the size (our choice: always); 6.9.2p3: an object that is defined has a complete type
 abbrev pub is_finished : State → Entity → Bool
-is_finished s e =
-    (not e.unsized || is_sized (entity_type s e)) && (e.function || not e.defined || is_complete_in (env s) (entity_type s e))
+is_finished s e = (not e.unsized || is_sized (entity_type s e)) && (e.function || not e.defined || is_complete_in (env s) (entity_type s e))
 
 -- 6.9.2p2, p3: what the end of a unit asks of all objects and functions of file scope; a typedef of an array without a size is refused there, too (our
 -- choice)

@@ -1,7 +1,7 @@
 -- A bridge: what functions answer that do a part of what Units says.
-use Rattle.pv_typed.specs.TypedUnits.{name_at, TypedFunction, WholeUnit}
+use Rattle.pv_typed.specs.TypedUnits.{name_at, TypedFunction}
 use Rattle.pv_typed.specs.Mains.{named_main}
-use Rattle.std.specs.Prelude.{is_some, Bool, ◌&&◌, ℕ, List, ◌++◌}
+use Rattle.std.specs.Prelude.{is_some, Bool, ◌&&◌, ℕ, List}
 use Rattle.std.specs.List.{list_any}
 use Rattle.pv_check.specs.State.{State, Used}
 use Rattle.pv_library.specs.LibraryNames.{library_named}
@@ -27,11 +27,3 @@ has_main_in names fs = list_any (λ (f : TypedFunction). is_some f.body && named
 -- 6.3.2.1p4: so it is in one of the expressions
 abbrev pub is_pointed : ℕ → List Used → Bool
 is_pointed k xs = list_any (points k) xs
-
--- 6.2.4p3: the unit with these static objects
-abbrev pub with_statics : List ℕ → WholeUnit → WholeUnit
-with_statics os u = record u { statics = u.statics ++ os }
-
--- 6.3.2.1p4: the unit with these functions that are pointed to
-abbrev pub with_placed : List ℕ → WholeUnit → WholeUnit
-with_placed fs u = record u { placed = u.placed ++ fs }

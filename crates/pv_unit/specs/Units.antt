@@ -84,6 +84,10 @@ first t = record {
   unsized_typedef = false;
 }
 
+-- 6.2.4p3: the unit with these static objects
+abbrev pub with_statics : List ℕ → WholeUnit → WholeUnit
+with_statics os u = record u { statics = u.statics ++ os }
+
 -- ---- functions that are pointed to
 
 -- 6.3.2.1p4: a pointer to the function is evaluated
@@ -96,13 +100,14 @@ abbrev pub placed_from : List Used → ℕ → List TypedFunction → List ℕ
 placed_from us k [] = []
 placed_from us k (f ∷ fs) = if is_some f.body && list_any (points k) us then k ∷ placed_from us (k + 1) fs else placed_from us (k + 1) fs
 
+-- 6.3.2.1p4: the unit with these functions that are pointed to
+abbrev pub with_placed : List ℕ → WholeUnit → WholeUnit
+with_placed fs u = record u { placed = u.placed ++ fs }
+
 -- 6.9p1, 6.2.4p3: the unit behind the last one, with the static objects, and the functions that are pointed to
 abbrev pub finished : UnitState → WholeUnit
 finished u =
-    record u.state.unit {
-      statics = u.state.unit.statics ++ statics_from u.entities 0 u.state.unit.objects;
-      placed = u.state.unit.placed ++ placed_from u.state.used 0 u.state.unit.functions;
-    }
+    with_placed (placed_from u.state.used 0 u.state.unit.functions) (with_statics (statics_from u.entities 0 u.state.unit.objects) u.state.unit)
 
 -- 5.1.1.3p1: what comes of a unit: its typing, or why there is none
 pub data Checked : Type 0 where

@@ -16,8 +16,7 @@ ghost use Rattle.pv_unit.specs.Definitions.{may_end};
 ghost use Rattle.pv_unit.specs.Identifiers.{HasIdentifiers};
 ghost use Rattle.pv_unit.specs.Outside.{unit_state};
 ghost use Rattle.pv_unit.specs.There.{AreThere};
-ghost use Rattle.pv_unit.specs.Units.{Checked, IsTyped, Typed, UnitComes, finished, first, statics_from, placed_from};
-ghost use Rattle.pv_unit.specs.UnitParts.{with_statics, with_placed};
+ghost use Rattle.pv_unit.specs.Units.{Checked, IsTyped, Typed, UnitComes, finished, first, statics_from, placed_from, with_statics, with_placed};
 ghost use Rattle.pv_unit.specs.declared.checking.CheckError.TheVariants.{NoMemory as OutOfMemory};
 
 use crate::ending::may_end;

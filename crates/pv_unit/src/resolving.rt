@@ -10,9 +10,9 @@ ghost use Rattle.pv_check.specs.Open.{state_of, IsOpen};
 ghost use Rattle.pv_check.specs.Raw.{Raw, used_of};
 ghost use Rattle.pv_unit.specs.Entering.{entity_of};
 ghost use Rattle.pv_unit.specs.Resolving.{has_use, AreUses, ArePointed, placed_if};
-ghost use Rattle.pv_unit.specs.Units.{uses, is_unresolved, unresolved, has_main, statics_from, points, placed_from};
+ghost use Rattle.pv_unit.specs.Units.{uses, is_unresolved, unresolved, has_main, statics_from, points, placed_from, with_statics, with_placed};
 ghost use Rattle.pv_unit.specs.Definitions.{is_defined};
-ghost use Rattle.pv_unit.specs.UnitParts.{is_of_library, is_main_function, is_used, is_pointed, with_statics, with_placed};
+ghost use Rattle.pv_unit.specs.UnitParts.{is_of_library, is_main_function, is_used, is_pointed};
 ghost use Rattle.std.specs.List.{list_any};
 
 use crate::entities::{Entity, Outer};

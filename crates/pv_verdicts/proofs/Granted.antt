@@ -39,10 +39,10 @@ use Rattle.pv_world.specs.Worths.{int, truth_int, int_of, pointer_of, unless, un
 use Rattle.pv_world.specs.Conversions.{truth_by, truth_value, truth_worth, tests, number_by, pointed, recast_by, passes, converts}
 use Rattle.pv_world.specs.Calculations.{follows_to}
 use Rattle.pv_world.specs.CalculationParts.{calculates, calculates_one}
-use Rattle.pv_world.specs.Pointers.{moved_by, distance, moves, in_elements, elements_by, between_by, ordered_by, equal_by, equals, found_in, found_by}
-use Rattle.pv_world.specs.PointerParts.{between, unlike, selects, finds}
-use Rattle.pv_world.specs.Accesses.{reaching_by, reaching, scalar_as, scalar_by, worth_in}
-use Rattle.pv_world.specs.AccessParts.{range_use, takes_bytes}
+use Rattle.pv_world.specs.Pointers.{moved_by, distance, moves, in_elements, elements_by, between_by, ordered_by, equal_by, equals, found_in, found_by, finds}
+use Rattle.pv_world.specs.PointerParts.{between, unlike, selects}
+use Rattle.pv_world.specs.Accesses.{reaching_by, reaching, scalar_as, scalar_by, worth_in, takes_bytes}
+use Rattle.pv_world.specs.AccessParts.{range_use}
 use Rattle.pv_world.specs.Objects.{makes_object, makes_function, owner_of, makes_literal_of}
 use Rattle.pv_world.specs.ObjectParts.{object_made, function_made, literal_request, literal_made}
 use Rattle.pv_verdicts.proofs.Refusals.{FineAnswer, FineWrong, FineIf, stop-fine, plain-fine, present-fine}

@@ -10,8 +10,7 @@ use Rattle.pv_typed.specs.Tables.{Stored, whole}
 use Rattle.pv_world.specs.Worlds.{Worth, World, Wrong, Undefined, Undecided, Halts, Indeterminate, Exits, Aborts, Refused, SidesEnded}
 use Rattle.pv_world.specs.Telling.{Told}
 use Rattle.pv_world.specs.Doing.{Done, Answers, Fails, Breaks}
-use Rattle.pv_eval.specs.States.{Setting, State, Why, Turns, Unreached, Stopped, Res, Gives, Stops, then_do}
-use Rattle.pv_eval.specs.StateParts.{spend}
+use Rattle.pv_eval.specs.States.{Setting, State, Why, Turns, Unreached, Stopped, Res, Gives, Stops, then_do, spend}
 use Rattle.pv_eval.specs.Acting.{noted, pair_count, by_side, answered, acted}
 use Rattle.pv_eval.specs.ActingParts.{one_kept, keeps_both}
 use Rattle.pv_eval.specs.Constants.{constant_worth}

@@ -24,8 +24,8 @@ use Rattle.pv_check.specs.PrimaryParts.{used_function, designator_of, is_of_libr
 use Rattle.pv_check.specs.StringLiterals.{bytes_of_text, text_of}
 use Rattle.pv_check.specs.Rows.{operand, integer_value, unevaluated, after_sizeof, callee, Callee, ByName, ByValue, called_by, call_by, plain, member_of}
 use Rattle.pv_check.specs.RowParts.{known_size, by_pointer, by_array, named_type, parameter_of, with_argument, cast, with_callee, pointed_callee, by_function}
-use Rattle.pv_check.specs.Specifiers.{Seen, with_keyword, with_type, typedef_of, specified}
-use Rattle.pv_check.specs.SpecifierParts.{without_storage, nothing_seen}
+use Rattle.pv_check.specs.Specifiers.{Seen, with_keyword, with_type, typedef_of, specified, nothing_seen}
+use Rattle.pv_check.specs.SpecifierParts.{without_storage}
 use Rattle.pv_check.specs.State.{State, After, Scope, no_scope, Meaning, ObjectName, FunctionName, TypedefOf, ConstantOf, Used, UsedObject, UsedFunction, give, env, look, find, innermost, bind, entered, left, is_file_scope}
 use Rattle.pv_typed.specs.Constants.{and_then}
 use Rattle.pv_check.specs.StateParts.{names_in}

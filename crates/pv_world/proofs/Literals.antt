@@ -13,8 +13,8 @@ use Rattle.pv_object.specs.Answers.{OrSpent}
 use Rattle.pv_watch.specs.declared.event.What.{What}
 use Rattle.pv_world.specs.Worlds.{Nothing, World, Halts, Refused}
 use Rattle.pv_world.specs.Telling.{made}
-use Rattle.pv_world.specs.Objects.{owning}
-use Rattle.pv_world.specs.ObjectParts.{literal_made, literal_bound, with_characters}
+use Rattle.pv_world.specs.Objects.{owning, literal_bound, with_characters}
+use Rattle.pv_world.specs.ObjectParts.{literal_made}
 use Rattle.pv_world.specs.Coming.{Gave, Ended, seen, CameMade}
 
 pub literal_ok : (w v : World) (l i : ℕ) (bytes : List ℕ) (M : Mem) (es fs : List What) (c : Result ℕ CreateError × Mem)

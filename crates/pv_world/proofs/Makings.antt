@@ -8,8 +8,8 @@ use Rattle.pv_object.specs.Answers.{OrSpent}
 use Rattle.pv_watch.specs.declared.event.What.{What}
 use Rattle.pv_world.specs.Worlds.{Nothing, World, Halts, Refused}
 use Rattle.pv_world.specs.Telling.{made}
-use Rattle.pv_world.specs.Objects.{bind, owning}
-use Rattle.pv_world.specs.ObjectParts.{object_made, function_made, function_bound}
+use Rattle.pv_world.specs.Objects.{bind, owning, function_bound}
+use Rattle.pv_world.specs.ObjectParts.{object_made, function_made}
 use Rattle.pv_world.specs.Coming.{Gave, Ended, seen, CameMade}
 
 -- one more owner that is none

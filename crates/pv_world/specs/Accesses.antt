@@ -1,5 +1,5 @@
 -- Reads and writes of bytes (C17 6.2.6.1, 6.3.2.1p2, 6.5.16): reaching them, what they are worth, and what is stored.
-use Rattle.std.specs.Prelude.{ℕ, ◌+◌, ◌==◌, nat_lt, Bool, false, not, ◌&&◌, List, ◌++◌, Option, Some, None, if◌then◌else◌, Result, Ok, Err}
+use Rattle.std.specs.Prelude.{ℕ, ◌+◌, ◌==◌, nat_lt, Bool, false, not, ◌&&◌, List, ◌++◌, Option, Some, None, if◌then◌else◌, Result, Ok, Err, take, drop}
 use Rattle.pv_prov.specs.declared.names.Prov.{Prov}
 use Rattle.pv_inst.specs.declared.values.Test.TheVariants.{Range}
 use Rattle.pv_inst.specs.Table.{Table}
@@ -20,9 +20,9 @@ use Rattle.pv_watch.specs.declared.event.What.{What}
 use Rattle.pv_world.specs.declared.got.Shape.{Shape}
 use Rattle.pv_world.specs.declared.got.Shape.TheVariants as shape
 use Rattle.pv_world.specs.Worlds.{Worth, Scalar, Whole, World, with_table}
-use Rattle.pv_world.specs.Telling.{Told, telling, uses, used, live_test, range_test, exposures, all_told, pairings}
+use Rattle.pv_world.specs.Telling.{Told, telling, uses, used, live_test, range_test, exposures, all_told, pairings, quiet}
 use Rattle.pv_world.specs.Doing.{Done, Answers, Fails}
-use Rattle.pv_world.specs.Worths.{wrong_of, value_of, bytes_of}
+use Rattle.pv_world.specs.Worths.{wrong_of, value_of, bytes_of, present}
 
 -- 6.5.3.2p4, 6.2.4p2, 6.4.5p7, 6.7.3p6: the checks of an access to so many bytes, and then what is done with them. The use
 -- stays told where a later check ends the run
@@ -75,3 +75,7 @@ stored_as number shape.Whole v = bytes_of v
 abbrev pub is_inexact : Option ℕ → (address size : ℕ) → Bool
 is_inexact None a n = false
 is_inexact (Some b) a n = not (a == b) && (nat_lt a (b + n) && nat_lt b (a + n))
+
+-- 6.5.2.3p3: a member of a structure or union value
+abbrev pub takes_bytes : (offset size : ℕ) → Shape → Worth → World → Done
+takes_bytes offset size s v w = present v w (λ v. worth_in w (take size (drop offset (bytes_of v))) s None None quiet)

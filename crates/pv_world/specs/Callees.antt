@@ -8,8 +8,8 @@ use Rattle.pv_world.specs.declared.got.Failure.TheVariants as failure
 use Rattle.pv_world.specs.Worlds.{Worth, World}
 use Rattle.pv_world.specs.Worths.{int, pointer_of}
 use Rattle.pv_world.specs.Telling.{fault_told}
-use Rattle.pv_world.specs.Pointers.{found_by}
-use Rattle.pv_world.specs.PointerParts.{unlike, finds}
+use Rattle.pv_world.specs.Pointers.{found_by, finds}
+use Rattle.pv_world.specs.PointerParts.{unlike}
 use Rattle.pv_world.specs.Coming.{Seen, Gave, Ended, seen, wrong_for}
 
 -- 6.5.2.2p1, 6.3.2.3p8: the function that was found, where it may be called so; else the fault, which is told after this

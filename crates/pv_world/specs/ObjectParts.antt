@@ -2,7 +2,7 @@
 use Rattle.std.specs.Prelude.{◌++◌, None, length, [], ◌-◌, ℕ, replicate, List, ◌∷◌, drop, Some, Bool, Result}
 use Rattle.std.specs.declared.option.Option.{Option}
 use Rattle.pv_world.specs.Worlds.{World, Bindings, Nothing}
-use Rattle.pv_world.specs.Objects.{owning, bind, instance_made, address_of, literal_of, function_of, base_in, put_at, instance_of}
+use Rattle.pv_world.specs.Objects.{owning, bind, instance_made, address_of, literal_of, function_of, instance_of, function_bound, literal_bound, with_characters}
 use Rattle.pv_world.specs.Doing.{Done, Answers}
 use Rattle.pv_shadow.specs.Bytes.{Store}
 use Rattle.pv_shadow.specs.declared.byte.Byte.{Byte}
@@ -17,10 +17,8 @@ use Rattle.pv_watch.specs.declared.event.What.TheVariants as what
 use Rattle.pv_object.specs.Memory.{Mem}
 use Rattle.std.specs.Option.{option_map_or}
 use Rattle.pv_world.specs.Worths.{pointer}
-use Rattle.pv_world.specs.Telling.{quiet, telling}
+use Rattle.pv_world.specs.Telling.{quiet}
 use Rattle.std.specs.FinMap as map
-use Rattle.pv_object.specs.Creating.{without}
-use Rattle.pv_shadow.specs.Whole.{plain}
 
 -- 6.5p6: of the instances up to so many, and of the next one, the objects that they were made for
 abbrev pub owned_next : List (Option ℕ) → (before : ℕ) → Option ℕ → List (Option ℕ)
@@ -49,22 +47,6 @@ made_row i x = option_map_or (λ (x : Instance). what.Made i x.name x.k x.base x
 -- the memory model: a use that found survivors is told of where its name stood for two before it, a pair of candidates
 abbrev pub used_pair : Option ℕ → (test : ℕ) → Tried → List What
 used_pair k test tried = option_map_or (λ k. what.Tried k test tried.low tried.high ∷ []) k []
-
--- 6.2.4p2: an instance ends; its address may be used again, its number never (the memory model)
-abbrev pub ends_instance : World → ℕ → Done
-ends_instance w i = Answers Nothing (record w { memory = without w.memory i }) (telling (what.Ended i ∷ []))
-
--- 6.4.5p6: the literal has this instance
-abbrev pub literal_bound : World → ℕ → ℕ → World
-literal_bound w l i = record w { literals = map.insert w.literals l i }
-
--- 6.4.5p6: its bytes are the characters
-abbrev pub with_characters : World → (i : ℕ) → (bytes : List ℕ) → World
-with_characters w i bytes = put_at w (base_in w i) (plain None 0 bytes)
-
--- 6.3.2.1p4: the function has this instance
-abbrev pub function_bound : World → ℕ → ℕ → World
-function_bound w f i = record w { functions = map.insert w.functions f i }
 
 -- 6.2.4: the request for an object's storage instance (the memory model)
 abbrev pub object_request : (name : ℕ) (text : List ℕ) (size align : ℕ) (constant : Bool) → Request

@@ -70,20 +70,31 @@ instance_made w name (Err e, M) go = Fails (Halts (Refused name e)) None (record
 abbrev pub makes_object : ℕ → (lasting : Bool) → Request → World → Done
 makes_object o lasting r w = instance_made w r.name (created w.memory r) (λ i M. bind (owning w M i (Some o)) o lasting i)
 
+-- 6.2.4p2: an instance ends; its address may be used again, its number never (the memory model)
+abbrev pub ends_instance : World → ℕ → Done
+ends_instance w i = Answers Nothing (record w { memory = without w.memory i }) (telling (what.Ended i ∷ []))
+
 -- 6.2.4p2: the object ends its lifetime
 abbrev pub ends_object : ℕ → (lasting : Bool) → World → Done
-ends_object o lasting w =
-    let i = instance_of w o lasting in Answers Nothing (record w { memory = without w.memory i }) (telling (what.Ended i ∷ []))
+ends_object o lasting w = ends_instance w (instance_of w o lasting)
 
 -- 6.2.6.1p4: the abstract bytes from an address on become these
 abbrev pub put_at : World → (address : ℕ) → List Byte → World
 put_at w a bytes = record w { memory = record w.memory { bytes = written w.memory.bytes a bytes } }
 
+-- 6.4.5p6: the literal has this instance
+abbrev pub literal_bound : World → ℕ → ℕ → World
+literal_bound w l i = record w { literals = map.insert w.literals l i }
+
+-- 6.4.5p6: its bytes are the characters
+abbrev pub with_characters : World → (i : ℕ) → (bytes : List ℕ) → World
+with_characters w i bytes = put_at w (base_in w i) (plain None 0 bytes)
+
 -- 6.4.5p6: a literal's array is made, with its characters
 abbrev pub makes_literal_of : ℕ → (text bytes : List ℕ) → World → Done
 makes_literal_of l text bytes w =
     instance_made w 0 (created w.memory (record { text = text; name = 0; size = length bytes; align = 1; kind = Literal }))
-    (λ i M. let u = record (owning w M i None) { literals = map.insert w.literals l i } in put_at u (base_in u i) (plain None 0 bytes))
+    (λ i M. with_characters (literal_bound (owning w M i None) l i) i bytes)
 
 -- 6.3.2.1p4: the instance of a function
 abbrev pub function_of : World → ℕ → ℕ
@@ -93,9 +104,13 @@ function_of w f = unwrap_or (map.get w.functions f) 0
 abbrev pub function_request : (name : ℕ) (text : List ℕ) → Request
 function_request name text = record { text = text; name = name; size = 1; align = 1; kind = Function }
 
+-- 6.3.2.1p4: the function has this instance
+abbrev pub function_bound : World → ℕ → ℕ → World
+function_bound w f i = record w { functions = map.insert w.functions f i }
+
 -- 6.3.2.1p4: a function that is pointed to has an instance, which never ends
 abbrev pub makes_function : ℕ → Request → World → Done
-makes_function f r w = instance_made w r.name (created w.memory r) (λ i M. record (owning w M i (Some f)) { functions = map.insert w.functions f i })
+makes_function f r w = instance_made w r.name (created w.memory r) (λ i M. function_bound (owning w M i (Some f)) f i)
 
 -- 6.7.9p10, p19, p21: every byte of an object becomes this one, or has no value; without provenance and mark (the memory model)
 abbrev pub fills_object : ℕ → (lasting : Bool) → (size : ℕ) → Option ℕ → World → Done

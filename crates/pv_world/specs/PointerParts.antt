@@ -1,13 +1,13 @@
 -- A bridge: what functions answer that do a part of what Pointers says.
 use Rattle.pv_fault.specs.declared.faults.Reason.TheVariants.{Uneven, WrongType}
 use Rattle.pv_fault.specs.declared.faults.Clause.TheVariants.{SubtractionOfPointers, PointerToFunction, Indirection}
-use Rattle.pv_world.specs.Worths.{undefined, present, pointer_of, plain}
+use Rattle.pv_world.specs.Worths.{undefined, present, pointer_of}
 use Rattle.pv_world.specs.Worlds.{Wrong, World, Worth}
-use Rattle.pv_world.specs.Pointers.{between_by, moved_by, found_by}
+use Rattle.pv_world.specs.Pointers.{between_by, moved_by}
 use Rattle.pv_world.specs.Doing.{Done, Answers}
 use Rattle.pv_world.specs.Telling.{quiet}
-use Rattle.std.specs.Prelude.{ℕ, pos, Bool, Option}
-use Rattle.pv_object.specs.Operations.{together, move_under, code}
+use Rattle.std.specs.Prelude.{ℕ, pos}
+use Rattle.pv_object.specs.Operations.{together, move_under}
 use Rattle.pv_object.specs.declared.values.Pointer.{Pointer}
 
 -- 6.5.6p9: a difference that is not whole
@@ -29,7 +29,3 @@ follows v w = present v w (λ v. Answers v w quiet)
 -- 6.5.2.3: null and the empty name are those of the pointer; the range is that of no bytes at the member's address
 abbrev pub selects : (offset : ℕ) → Worth → World → Done
 selects offset v w = present v w (λ v. moved_by w (pointer_of v) (move_under Indirection w.memory.table (pointer_of v) (pos offset)))
-
--- 6.5.2.2p1: the function that is called by a value, which is there and was set; it is one of those that may be called so
-abbrev pub finds : (fits : Option ℕ → Bool) → Worth → World → Done
-finds fits v w = plain v w (λ v. found_by w (pointer_of v) fits (code w.memory.table (pointer_of v)))

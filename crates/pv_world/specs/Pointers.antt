@@ -13,7 +13,7 @@ use Rattle.pv_inst.specs.declared.values.Tried.{Tried}
 use Rattle.pv_inst.specs.Table.{Table}
 use Rattle.pv_object.specs.declared.values.Pointer.{Pointer}
 use Rattle.pv_object.specs.declared.values.Stop.{Stop}
-use Rattle.pv_object.specs.Operations.{together, order, equal, move_under}
+use Rattle.pv_object.specs.Operations.{together, order, equal, move_under, code}
 use Rattle.pv_world.specs.Worlds.{Worth, World, with_table}
 use Rattle.pv_watch.specs.declared.event.What.{What}
 use Rattle.pv_world.specs.Telling.{quiet, telling, used, live_use, both_used, live_test, range_test, code_test}
@@ -92,6 +92,10 @@ found_in w p fits o us =
 abbrev pub found_by : World → Pointer → (fits : Option ℕ → Bool) → Result (ℕ × Tried) Stop × Table → Done
 found_by w p fits (Ok r, T) = found_in (with_table w T) p fits (owner_of w r.0) (used code_test r.1)
 found_by w p fits (Err y, T) = Fails (wrong_of y) (Some p.prov) (with_table w T) quiet
+
+-- 6.5.2.2p1: the function that is called by a value, which is there and was set; it is one of those that may be called so
+abbrev pub finds : (fits : Option ℕ → Bool) → Worth → World → Done
+finds fits v w = plain v w (λ v. found_by w (pointer_of v) fits (code w.memory.table (pointer_of v)))
 
 -- 6.5.8: the operators of order
 abbrev pub is_order : BinOp → Bool

@@ -3,8 +3,7 @@ ghost use Rattle.std.specs.Prelude.{◌≡◌, ◌<◌, ◌++◌, ◌≢◌, Som
 ghost use Rattle.pv_script.specs.Names.{name_at as text_of};
 ghost use Rattle.pv_inst.specs.Answers.{IsLive};
 ghost use Rattle.pv_object.specs.Later.{IsLater};
-ghost use Rattle.pv_world.specs.Objects.{owning, makes_function, function_request};
-ghost use Rattle.pv_world.specs.ObjectParts.{function_bound};
+ghost use Rattle.pv_world.specs.Objects.{owning, makes_function, function_request, function_bound};
 ghost use Rattle.pv_world.specs.Telling.{made};
 ghost use Rattle.pv_world.specs.PointerParts.{unlike};
 ghost use Rattle.pv_world.specs.Callees.{FoundAs, FoundBy};

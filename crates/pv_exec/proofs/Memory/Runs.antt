@@ -11,8 +11,7 @@ use Rattle.pv_typed.specs.Tables.{Stored}
 use Rattle.pv_world.specs.Worlds.{Worth, World}
 use Rattle.pv_world.specs.Telling.{Told}
 use Rattle.pv_world.specs.Doing.{Done, Answers, Fails, Breaks}
-use Rattle.pv_eval.specs.States.{Setting, State, Turns, Res, Gives, Stops, then_do, end_of}
-use Rattle.pv_eval.specs.StateParts.{spend}
+use Rattle.pv_eval.specs.States.{Setting, State, Turns, Res, Gives, Stops, then_do, end_of, spend}
 use Rattle.pv_eval.specs.Acting.{noted, pair_count, sided, by_side, answered, acted}
 use Rattle.pv_eval.specs.ActingParts.{one_kept, keeps_both}
 use Rattle.pv_eval.specs.Constants.{constant_worth}

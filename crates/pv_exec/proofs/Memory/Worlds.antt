@@ -44,12 +44,12 @@ use Rattle.pv_world.specs.Worths.{int, truth_int, int_of, pointer_of, unless, un
 use Rattle.pv_world.specs.Conversions.{truth_by, truth_value, truth_worth, tests, number_by, pointed, recast_by, passes, converts}
 use Rattle.pv_world.specs.Calculations.{follows_to}
 use Rattle.pv_world.specs.CalculationParts.{calculates, calculates_one}
-use Rattle.pv_world.specs.Pointers.{moved_by, distance, moves, in_elements, elements_by, between_by, ordered_by, equal_by, equals, found_in, found_by}
-use Rattle.pv_world.specs.PointerParts.{between, unlike, selects, finds}
-use Rattle.pv_world.specs.Accesses.{reaching_by, reaching, scalar_as, scalar_by, worth_in}
-use Rattle.pv_world.specs.AccessParts.{range_use, takes_bytes}
-use Rattle.pv_world.specs.Objects.{makes_object, makes_literal_of, makes_function, owner_of, put_at}
-use Rattle.pv_world.specs.ObjectParts.{object_made, literal_request, literal_made, function_made, ends_instance}
+use Rattle.pv_world.specs.Pointers.{moved_by, distance, moves, in_elements, elements_by, between_by, ordered_by, equal_by, equals, found_in, found_by, finds}
+use Rattle.pv_world.specs.PointerParts.{between, unlike, selects}
+use Rattle.pv_world.specs.Accesses.{reaching_by, reaching, scalar_as, scalar_by, worth_in, takes_bytes}
+use Rattle.pv_world.specs.AccessParts.{range_use}
+use Rattle.pv_world.specs.Objects.{makes_object, makes_literal_of, makes_function, owner_of, put_at, ends_instance}
+use Rattle.pv_world.specs.ObjectParts.{object_made, literal_request, literal_made, function_made}
 use Rattle.pv_exec.proofs.Memory.Pointers.{Retabled, reach-leads, value-leads, truth-leads, equal-leads, to_ptr-leads, recast-leads, to_int-leads, move-leads, code-leads, together-leads, order-leads}
 use Rattle.pv_exec.proofs.Memory.Reached.{AreInLive, reach-reaches, reach-later, created-in-live}
 use Rattle.pv_exec.proofs.Memory.Stored.{AreMade, plain-length, plain-made}

@@ -30,8 +30,8 @@ use Rattle.pv_world.specs.Doing.{Done, Fails}
 use Rattle.pv_world.specs.Worths.{wrong_of}
 use Rattle.pv_world.specs.Accesses.{reaching_by, reaching}
 use Rattle.pv_world.specs.AccessParts.{range_use}
-use Rattle.pv_world.specs.Objects.{makes_object, makes_literal_of, makes_function}
-use Rattle.pv_world.specs.ObjectParts.{object_made, literal_request, literal_made, function_made, ends_instance}
+use Rattle.pv_world.specs.Objects.{makes_object, makes_literal_of, makes_function, ends_instance}
+use Rattle.pv_world.specs.ObjectParts.{object_made, literal_request, literal_made, function_made}
 use Rattle.pv_exec.proofs.Memory.Rows.{Sound, Leads}
 use Rattle.pv_exec.proofs.Memory.Tables.{leading}
 use Rattle.pv_exec.proofs.Memory.Pointers.{reach-leads}

@@ -19,8 +19,7 @@ use Rattle.pv_world.specs.Telling.{Told, telling, quiet, used, code_test}
 use Rattle.pv_world.specs.Doing.{Fails}
 use Rattle.pv_world.specs.Worths.{pointer_of, unplain, wrong_of}
 use Rattle.pv_world.specs.Objects.{owner_of}
-use Rattle.pv_world.specs.Pointers.{found_in, found_by}
-use Rattle.pv_world.specs.PointerParts.{finds}
+use Rattle.pv_world.specs.Pointers.{found_in, found_by, finds}
 use Rattle.pv_prov.specs.declared.names.Prov.{Prov}
 use Rattle.pv_exec.proofs.Memory.Rows.{Sound}
 use Rattle.pv_exec.proofs.Settling.Sides.{on_sides, on_table, on_world, Allows, Covers, Nearly, nearly}

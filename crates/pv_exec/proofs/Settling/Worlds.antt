@@ -34,8 +34,7 @@ use Rattle.pv_world.specs.Calculations.{follows_to}
 use Rattle.pv_world.specs.CalculationParts.{calculates, calculates_one}
 use Rattle.pv_world.specs.Pointers.{moved_by, distance, moves, in_elements, elements_by, between_by, ordered_by, equal_by, equals}
 use Rattle.pv_world.specs.PointerParts.{between, selects}
-use Rattle.pv_world.specs.Accesses.{scalar_as, scalar_by, worth_in}
-use Rattle.pv_world.specs.AccessParts.{takes_bytes}
+use Rattle.pv_world.specs.Accesses.{scalar_as, scalar_by, worth_in, takes_bytes}
 use Rattle.pv_exec.proofs.Memory.Rows.{Sound}
 use Rattle.pv_exec.proofs.Settling.Sides.{on_table, on_world, Allows, Covers, Nearly, nearly}
 use Rattle.pv_exec.proofs.Settling.Along.{Along}
