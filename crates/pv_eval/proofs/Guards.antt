@@ -31,8 +31,8 @@ use Rattle.pv_world.specs.Worlds.{Worth, Nothing, Missing, Scalar as ScalarWorth
 use Rattle.pv_world.specs.Worths.{int_of}
 use Rattle.pv_world.specs.Preconditions.{IsSmall, HasRoom, HasPart, HasSizeOf, IsStored}
 use Rattle.pv_world.specs.Coming.{IsMadeWorth}
-use Rattle.pv_eval.specs.Suiting.{knows, knows_value, knows_worth, is_small, is_count, is_operand, is_of, is_stored, has_part, has_room}
-use Rattle.pv_eval.specs.SuitingParts.{live_in, room_in, knows_bytes, knows_arguments}
+use Rattle.pv_eval.specs.Suiting.{knows, knows_value, knows_worth, is_small, is_count, is_operand, is_of, is_stored, has_part, has_room, live_in}
+use Rattle.pv_eval.specs.SuitingParts.{room_in, knows_bytes, knows_arguments}
 
 pub left_of : (a b : Bool) → (a && b) ≡ true → a ≡ true
 left_of true b e = refl

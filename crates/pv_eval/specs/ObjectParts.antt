@@ -3,19 +3,15 @@ use Rattle.pv_world.specs.Doing.{Done, Answers}
 use Rattle.pv_eval.specs.States.{Setting}
 use Rattle.pv_world.specs.Worlds.{World}
 use Rattle.pv_world.specs.Objects as object
-use Rattle.pv_typed.specs.TypedUnits.{TypedObject, TypedFunction}
-use Rattle.std.specs.Prelude.{ℕ, Bool, not, ◌&&◌, ◌==◌}
-use Rattle.pv_eval.specs.Objects.{has_extent, heap_name, instance_for}
+use Rattle.pv_typed.specs.TypedUnits.{TypedFunction}
+use Rattle.std.specs.Prelude.{ℕ, Bool, not, ◌==◌}
+use Rattle.pv_eval.specs.Objects.{heap_name, instance_for}
 use Rattle.pv_world.specs.Worths.{pointer}
 use Rattle.pv_world.specs.Telling.{quiet}
 
 -- an identifier designates the object in scope
 abbrev pub names_object : Setting → ℕ → World → Done
 names_object b o w = Answers (pointer (object.address_of w (instance_for b o w))) w quiet
-
--- an object of a complete type, whose name isn't that of allocations
-abbrev pub can_make : Setting → TypedObject → Bool
-can_make b x = has_extent b x.t && not (x.name == heap_name)
 
 -- a function whose name isn't that of allocations, as none in a checked unit is
 abbrev pub can_place : TypedFunction → Bool

@@ -16,7 +16,6 @@ use Rattle.pv_world.specs.Objects as object
 use Rattle.pv_eval.specs.States.{Setting}
 use Rattle.pv_eval.specs.TypeForms.{Lvalue, size_of, align_of, is_constant}
 use Rattle.pv_eval.specs.Suiting.{is_size, is_stored, knows_worth, is_live, has_room}
-use Rattle.pv_inst.specs.declared.values.Kind.TheVariants.{Declared}
 
 -- what is done to an object (6.2.4, 6.7.9) is nothing where it can't be done, which never comes in a checked unit
 abbrev pub where_possible : Bool → World → Done → Done
@@ -32,14 +31,15 @@ heap_name = 1
 
 -- 6.2.4p2: the storage instance that an object is to have: its name, its size, its alignment (6.2.8), and whether it is const-qualified
 abbrev pub request_of : Setting → TypedObject → Request
-request_of b x =
-    record { text = text_of b.unit.names x.name; name = x.name; size = size_of b x.t; align = align_of b x.t; kind = Declared (is_constant x.t) }
+request_of b x = object.object_request x.name (text_of b.unit.names x.name) (size_of b x.t) (align_of b x.t) (is_constant x.t)
+
+-- 6.2.5p1: an object of a complete type, whose name isn't that of allocations
+abbrev pub can_make : Setting → TypedObject → Bool
+can_make b x = has_extent b x.t && not (x.name == heap_name)
 
 -- 6.2.4p2: the lifetime of an object begins, if its type is complete (6.2.5p1) and its name isn't that of allocations
 abbrev pub makes : Setting → ℕ → World → Done
-makes b o w =
-    let x = object_at b.unit o in
-    where_possible (has_extent b x.t && not (x.name == heap_name)) w (object.makes_object o x.lasting (request_of b x) w)
+makes b o w = where_possible (can_make b (object_at b.unit o)) w (object.makes_object o (object_at b.unit o).lasting (request_of b (object_at b.unit o)) w)
 
 -- 6.5.1p2: the storage instance of an object in scope
 abbrev pub instance_for : Setting → ℕ → World → ℕ
@@ -57,8 +57,8 @@ makes_literal b l w =
 -- 6.3.2.1p4: a function that is pointed to has an instance, if its name isn't that of allocations, as none's in a checked unit is
 abbrev pub makes_function : Setting → ℕ → World → Done
 makes_function b f w =
-    let n = (function_at b.unit f).name in
-    where_possible (not (n == heap_name)) w (object.makes_function f (object.function_request n (text_of b.unit.names n)) w)
+    where_possible (not ((function_at b.unit f).name == heap_name)) w
+    (object.makes_function f (object.function_request (function_at b.unit f).name (text_of b.unit.names (function_at b.unit f).name)) w)
 
 -- 6.7.9p10: an object that lives, with room for its type
 abbrev pub can_fill : Setting → ℕ → World → Bool

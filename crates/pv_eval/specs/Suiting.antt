@@ -1,6 +1,6 @@
 -- What typing promises of the values that operations are made on (C17 6.3, 6.5, 6.7.9): the names in them were made, a number lies
 -- within an integer type, a stored value is one of the type. A checked unit never comes to anything else.
-use Rattle.std.specs.Prelude.{ℕ, ◌+◌, ◌-◌, ◌^◌, ◌==◌, Bool, true, false, ◌&&◌, nat_le, nat_lt, pos, neg_ℤ, int_le, ℤ, length}
+use Rattle.std.specs.Prelude.{ℕ, ◌+◌, ◌-◌, ◌^◌, ◌==◌, Bool, true, false, ◌&&◌, nat_le, nat_lt, pos, neg_ℤ, int_le, ℤ, length, Option, Some, None}
 use Rattle.std.specs.List.{list_all}
 use Rattle.pv_num.specs.declared.kinds.IntKind.{IntKind}
 use Rattle.pv_num.specs.declared.operators.BinOp.{BinOp}
@@ -87,9 +87,14 @@ has_part (Whole bytes origin) offset size = nat_le (offset + size) (length bytes
 has_part Missing offset size = true
 has_part _ offset size = false
 
+-- 6.2.4p2: the instance is there and lives
+abbrev pub live_in : Option Instance → Bool
+live_in None = false
+live_in (Some x) = x.live
+
 -- 6.2.4p2: the instance with this number is there and lives
 abbrev pub is_live : World → ℕ → Bool
-is_live w i = option_map_or (λ (x : Instance). x.live) (instance_at w.memory.table.instances i) false
+is_live w i = live_in (instance_at w.memory.table.instances i)
 
 -- 6.2.4p2: the instance with this number is live, and has so many bytes from an offset on
 abbrev pub has_room : World → (i offset n : ℕ) → Bool

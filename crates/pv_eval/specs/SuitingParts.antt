@@ -10,10 +10,6 @@ use Rattle.std.specs.Option.{option_map_or}
 use Rattle.pv_object.specs.declared.values.Value.{Value}
 use Rattle.pv_world.specs.Worlds.{Scalar as ScalarWorth}
 
--- 6.2.4p2: the instance is there and lives
-abbrev pub live_in : Option Instance → Bool
-live_in o = option_map_or (λ (x : Instance). x.live) o false
-
 -- 6.2.4p2: a live instance has so many bytes from an offset on
 abbrev pub room_in : Option Instance → (offset n : ℕ) → Bool
 room_in o offset n = option_map_or (λ (x : Instance). x.live && nat_le (offset + n) x.size) o false

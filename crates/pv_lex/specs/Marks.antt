@@ -32,5 +32,4 @@ marks =
 
 -- The longest punctuator that stands here (6.4p4, 6.4.6p1).
 unfoldable pub mark_at : List ℕ → Stand
-mark_at text =
-    option_map_or (λ (r : List ℕ × Mark). Here (token (Punctuator r.1) (drop (length r.0) text))) (first_row marks text) (Bad fault.BadByte)
+mark_at text = option_map_or (λ (r : List ℕ × Mark). Here (token (Punctuator r.1) (drop (length r.0) text))) (first_row marks text) (Bad fault.BadByte)

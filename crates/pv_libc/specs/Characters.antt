@@ -45,8 +45,7 @@ too_far by g S = halted (fault (clause_of by) Outside) (noted (g.stopped ∷ [])
 -- 7.1.1p1: the string after the characters read: what comes before the first 0
 abbrev pub string_from : ℕ → Asker → Given → List ℕ → Now → Did (List ℕ)
 string_from zero by g read S = too_far by g S
-string_from (suc k) by g read S =
-    next (character_at by g (length read) S) (λ c T. if c == 0 then done read T else string_from k by g (read ++ c ∷ []) T)
+string_from (suc k) by g read S = next (character_at by g (length read) S) (λ c T. if c == 0 then done read T else string_from k by g (read ++ c ∷ []) T)
 
 -- 7.1.1p1: more characters than any instance has
 unfoldable pub most : ℕ

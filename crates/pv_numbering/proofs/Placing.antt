@@ -14,8 +14,8 @@ use Rattle.pv_world.specs.Objects.{function_request}
 use Rattle.pv_eval.specs.States.{Setting}
 use Rattle.pv_eval.specs.TypeForms.{Lvalue, size_of}
 use Rattle.pv_eval.specs.Suiting.{is_size, is_live, has_room}
-use Rattle.pv_eval.specs.Objects.{request_of, makes, instance_for, ends, makes_literal, makes_function, can_fill, fills, can_put, puts, text_for, can_put_text, puts_text}
-use Rattle.pv_eval.specs.ObjectParts.{names_object, can_make, can_place}
+use Rattle.pv_eval.specs.Objects.{request_of, makes, instance_for, ends, makes_literal, makes_function, can_fill, fills, can_put, puts, text_for, can_put_text, puts_text, can_make}
+use Rattle.pv_eval.specs.ObjectParts.{names_object, can_place}
 use Rattle.pv_numbering.proofs.Alike.{with_types, AlikeWorth, AlikeLvalue}
 use Rattle.pv_numbering.proofs.Bytes.{alike_plain}
 use Rattle.pv_numbering.proofs.Doing.{AlikeDone, at_one, Alikes, alike_world, does_nothing, either_alike}

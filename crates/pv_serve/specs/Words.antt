@@ -82,8 +82,7 @@ one_more w word =
 -- docs/FORMATS.md, Words (5.1.2.2.1p2): the option that a mode has by itself: `run` has `--watch`, for each watcher, and `settle` has `--sides`, once
 -- (the memory model)
 abbrev pub with_own : Mode → Options → (name value : List ℕ) → Option Options
-with_own whose.Run o name value =
-    if bytes_eq name (codes "--watch") then option_map (λ w. record o { watched = w }) (one_more o.watched value) else None
+with_own whose.Run o name value = if bytes_eq name (codes "--watch") then option_map (λ w. record o { watched = w }) (one_more o.watched value) else None
 with_own whose.Settle o name value =
     if bytes_eq name (codes "--sides")
     then option_map (λ sides. record o { sides = Some sides }) (once o.sides (if are_sides value then Some (sides_in value) else None)) else None

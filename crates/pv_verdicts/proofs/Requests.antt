@@ -28,8 +28,8 @@ use Rattle.pv_eval.specs.States.{Setting}
 use Rattle.pv_eval.specs.TypeForms.{Lvalue}
 use Rattle.pv_eval.specs.Permission.{permits}
 use Rattle.pv_eval.specs.Accesses.{access_to, reads_permitted, reads_at, reads, writes_alone, writes_at, writes}
-use Rattle.pv_eval.specs.Objects.{where_possible, has_extent, heap_name, request_of, makes, instance_for, makes_literal, makes_function, can_fill, can_put, can_put_text}
-use Rattle.pv_eval.specs.ObjectParts.{can_make, can_place}
+use Rattle.pv_eval.specs.Objects.{where_possible, has_extent, heap_name, request_of, makes, instance_for, makes_literal, makes_function, can_fill, can_put, can_put_text, can_make}
+use Rattle.pv_eval.specs.ObjectParts.{can_place}
 use Rattle.pv_eval.specs.Callees.{may_call}
 use Rattle.pv_eval.specs.Library.{replied, with_memory, asked, asks}
 use Rattle.pv_eval.specs.Suiting.{is_live}

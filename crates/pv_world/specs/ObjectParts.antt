@@ -6,7 +6,7 @@ use Rattle.pv_world.specs.Objects.{owning, bind, instance_made, address_of, lite
 use Rattle.pv_world.specs.Doing.{Done, Answers}
 use Rattle.pv_shadow.specs.Bytes.{Store}
 use Rattle.pv_shadow.specs.declared.byte.Byte.{Byte}
-use Rattle.pv_inst.specs.declared.values.Kind.TheVariants.{Literal, Declared}
+use Rattle.pv_inst.specs.declared.values.Kind.TheVariants.{Literal}
 use Rattle.pv_inst.specs.Placing.{Request}
 use Rattle.pv_inst.specs.declared.values.Instance.{Instance}
 use Rattle.pv_inst.specs.declared.values.Tried.{Tried}
@@ -47,10 +47,6 @@ made_row i x = option_map_or (λ (x : Instance). what.Made i x.name x.k x.base x
 -- the memory model: a use that found survivors is told of where its name stood for two before it, a pair of candidates
 abbrev pub used_pair : Option ℕ → (test : ℕ) → Tried → List What
 used_pair k test tried = option_map_or (λ k. what.Tried k test tried.low tried.high ∷ []) k []
-
--- 6.2.4: the request for an object's storage instance (the memory model)
-abbrev pub object_request : (name : ℕ) (text : List ℕ) (size align : ℕ) (constant : Bool) → Request
-object_request name text size align constant = record { text = text; name = name; size = size; align = align; kind = Declared constant }
 
 -- 6.2.4p2: the object begins its lifetime with this instance, or why it has none
 abbrev pub object_made : World → ℕ → (lasting : Bool) → (name : ℕ) → Result ℕ CreateError × Mem → Done

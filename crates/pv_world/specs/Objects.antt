@@ -3,7 +3,7 @@ use Rattle.std.specs.Prelude.{ℕ, ◌+◌, ◌-◌, Bool, List, [], ◌∷◌, 
 use Rattle.std.specs.declared.option.Option.{Option}
 use Rattle.std.specs.FinMap as map
 use Rattle.pv_prov.specs.declared.names.Prov.TheVariants.{Empty, Inst}
-use Rattle.pv_inst.specs.declared.values.Kind.TheVariants.{Literal, Function}
+use Rattle.pv_inst.specs.declared.values.Kind.TheVariants.{Literal, Function, Declared}
 use Rattle.pv_inst.specs.declared.values.CreateError.{CreateError}
 use Rattle.pv_inst.specs.Table.{instance_at}
 use Rattle.pv_inst.specs.Infos.{base_of}
@@ -60,6 +60,10 @@ literal_of w l = unwrap_or (map.get w.literals l) 0
 -- 6.5p6: the world in which the instance was made for the object, and all before it for what they were
 abbrev pub owning : World → Mem → ℕ → Option ℕ → World
 owning w M i o = record w { memory = M; owners = (w.owners ++ replicate ((i - 1) - length w.owners) None) ++ o ∷ [] }
+
+-- 6.2.4: the request for an object's storage instance (the memory model)
+abbrev pub object_request : (name : ℕ) (text : List ℕ) (size align : ℕ) (constant : Bool) → Request
+object_request name text size align constant = record { text = text; name = name; size = size; align = align; kind = Declared constant }
 
 -- 6.2.4p2, 6.4.5p6: what a request came to: the world with the new instance, or why there is none
 abbrev pub instance_made : World → (name : ℕ) → Result ℕ CreateError × Mem → (ℕ → Mem → World) → Done

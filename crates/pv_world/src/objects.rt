@@ -2,8 +2,8 @@
 ghost use Rattle.std.specs.Prelude.{◌≡◌, ◌≤◌, ◌<◌, ◌+◌, ◌-◌, ◌++◌, ◌≢◌, Some, None, length, codes, OnOk};
 ghost use Rattle.pv_script.specs.Names.{name_at as text_of};
 ghost use Rattle.pv_inst.specs.Answers.{IsLive};
-ghost use Rattle.pv_world.specs.Objects.{instance_of, literal_of, function_of, address_of, owning, bind, makes_object, ends_object};
-ghost use Rattle.pv_world.specs.ObjectParts.{owned_next, object_request};
+ghost use Rattle.pv_world.specs.Objects.{instance_of, literal_of, function_of, address_of, owning, bind, makes_object, ends_object, object_request};
+ghost use Rattle.pv_world.specs.ObjectParts.{owned_next};
 ghost use Rattle.pv_world.specs.Telling.{made};
 ghost use Rattle.pv_watch.specs.declared.event.What.{What};
 ghost use Rattle.pv_world.specs.Coming.{Did, no_worth, CameMade, seen};

@@ -38,12 +38,11 @@ use Rattle.pv_eval.specs.States.{Setting}
 use Rattle.pv_eval.specs.TypeForms.{Lvalue, size_of}
 use Rattle.pv_eval.specs.Permission.{permits}
 use Rattle.pv_eval.specs.Accesses.{access_to, reads_permitted, reads_at, reads, writes_alone, writes_at, writes}
-use Rattle.pv_eval.specs.Objects.{where_possible, heap_name, request_of, makes, instance_for, ends, makes_literal, makes_function, can_fill, fills, can_put, puts, text_for, can_put_text, puts_text}
-use Rattle.pv_eval.specs.ObjectParts.{can_make, can_place}
+use Rattle.pv_eval.specs.Objects.{where_possible, heap_name, request_of, makes, instance_for, ends, makes_literal, makes_function, can_fill, fills, can_put, puts, text_for, can_put_text, puts_text, can_make}
+use Rattle.pv_eval.specs.ObjectParts.{can_place}
 use Rattle.pv_eval.specs.Callees.{may_call}
 use Rattle.pv_eval.specs.Library.{replied, with_memory, asked, asks}
-use Rattle.pv_eval.specs.Suiting.{is_size, is_stored, is_live, has_room, knows_worth}
-use Rattle.pv_eval.specs.SuitingParts.{live_in}
+use Rattle.pv_eval.specs.Suiting.{is_size, is_stored, is_live, has_room, knows_worth, live_in}
 use Rattle.pv_eval.specs.Operations.{Op, Converts, Calculates, CalculatesOne, Tests, Negates, Accepts, Needs, Moves, Subtracts, Orders, Equals, Follows, Selects, Finds, TakesPart, Reads, Writes, NamesObject, NamesLiteral, NamesFunction, Makes, MakesLiteral, MakesFunction, Ends, BeginsBody, EndsBody, Fills, Puts, PutsText, Asks, suits, works, does}
 use Rattle.pv_eval.proofs.Closed.{IsLvalue, IsAsked}
 use Rattle.pv_eval.proofs.Guards.{left_of, right_of, worth_made}

@@ -34,8 +34,8 @@ use Rattle.pv_eval.specs.States.{Setting}
 use Rattle.pv_eval.specs.TypeForms.{Lvalue, size_of}
 use Rattle.pv_eval.specs.Permission.{permits}
 use Rattle.pv_eval.specs.Accesses.{access_to, reads_permitted, reads_at, reads, writes_alone, writes_at, writes}
-use Rattle.pv_eval.specs.Objects.{where_possible, request_of, makes, instance_for, ends, makes_literal, makes_function, can_fill, fills, can_put, puts, can_put_text, text_for, puts_text}
-use Rattle.pv_eval.specs.ObjectParts.{can_make, can_place}
+use Rattle.pv_eval.specs.Objects.{where_possible, request_of, makes, instance_for, ends, makes_literal, makes_function, can_fill, fills, can_put, puts, can_put_text, text_for, puts_text, can_make}
+use Rattle.pv_eval.specs.ObjectParts.{can_place}
 use Rattle.pv_eval.specs.Callees.{may_call}
 use Rattle.pv_eval.specs.Library.{asks}
 use Rattle.pv_eval.specs.Suiting.{is_size, is_live, has_room, knows, knows_value, knows_worth, is_small, is_stored, has_part}
