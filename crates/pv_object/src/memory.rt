@@ -1,5 +1,5 @@
 // The memory: its instances, accesses to them, and the steps that change its table.
-ghost use Rattle.std.specs.Prelude.{◌≡◌, ◌+◌, ◌<◌, ◌≤◌, ◌↔◌, ◌^◌, length, replicate, take, All, IfOk, IfSome, IfNone, OnOk, OnErr, IsSome, true, codes, option_to_list, drop, ◌++◌, [], not};
+ghost use Rattle.std.specs.Prelude.{◌≡◌, ◌+◌, ◌<◌, ◌≤◌, ◌↔◌, ◌^◌, length, replicate, take, All, IfOk, IfSome, IfNone, OnOk, OnErr, true, codes, option_to_list, drop, ◌++◌, [], not};
 ghost use Rattle.pv_prov.specs.declared.names.Prov.{Prov};
 ghost use Rattle.pv_prov.specs.Names.{kept};
 ghost use Rattle.pv_prov.specs.Made.{Stands_low, Stands_high};
@@ -9,7 +9,7 @@ ghost use Rattle.pv_inst.specs.Use.{use_answer, settled, is_heap};
 ghost use Rattle.pv_inst.specs.TwoPointers.{same_answer, after_same};
 ghost use Rattle.pv_inst.specs.Answers.{IsLive};
 ghost use Rattle.pv_inst.specs.Exposure.{expose};
-ghost use Rattle.pv_inst.specs.Finding.{name_at, after_name, found_at};
+ghost use Rattle.pv_inst.specs.Finding.{name_at, after_name};
 ghost use Rattle.pv_shadow.specs.Bytes.{read};
 ghost use Rattle.pv_shadow.specs.Readings.{HasBytes, nameless_number, are_marked};
 ghost use Rattle.pv_object.specs.Memory.{Mem, with_table, empty_memory};
@@ -35,7 +35,7 @@ use pv_inst::{CreateError, Instances, Kind, Miss, Test, Tried};
 use pv_num::{IntKind, convert};
 use pv_prov::{NoMemory, Prov};
 use pv_script::{Names, Script};
-use pv_shadow::{BLANK, Byte, Bytes};
+use pv_shadow::{BLANK, Byte, Bytes, whole_name};
 use std::alloc::Global;
 use std::marker::Model;
 
@@ -334,7 +334,7 @@ impl Memory {
         ensures { result ≡ loaded_name self.now.table bytes.now }
     {
         let address = encoding::number(bytes)?;
-        match encoding::whole_name(bytes) {
+        match whole_name(bytes) {
             Some(prov) => Some(prov),
             None => Some(self.table.name_at(address)),
         }
@@ -430,7 +430,7 @@ impl Memory {
         let Some(address) = encoding::number(bytes) else {
             return Err(Stop::Indeterminate);
         };
-        match encoding::whole_name(bytes) {
+        match whole_name(bytes) {
             Some(prov) => self.tested(Pointer { address, prov }),
             None => match self.name_for(address) {
                 Ok(prov) => self.tested(Pointer { address, prov }),

@@ -5,7 +5,7 @@ ghost use Rattle.pv_inst.specs.declared.values.Tried.{Tried};
 ghost use Rattle.pv_inst.specs.declared.values.Miss.{Miss};
 ghost use Rattle.pv_inst.specs.Table.{IsMadeIn};
 ghost use Rattle.pv_inst.specs.Use.{settled};
-ghost use Rattle.pv_shadow.specs.Whole.{is_whole, whole_name};
+ghost use Rattle.pv_shadow.specs.Whole.{whole_name};
 ghost use Rattle.pv_object.specs.Memory.{Mem};
 ghost use Rattle.pv_object.specs.Later.{IsLater};
 ghost use Rattle.pv_object.specs.Encoding.{size_of};
@@ -25,47 +25,15 @@ use crate::world::World;
 use pv_inst::Tried;
 use pv_object::{Memory, Pointer, Scalar, Stop};
 use pv_prov::{NoMemory, Prov, same_name};
-use pv_shadow::Byte;
+use pv_shadow::{Byte, whole_name};
 use pv_watch::What;
-
-/// Whether the bytes are those of one pointer, in order.
-fn is_whole(prov: Prov, bytes: &[Byte]) -> bool
-    ensures { result ≡ is_whole prov 0 bytes.now }
-{
-    for i in 0..bytes.len() {
-        let at = match bytes[i].index {
-            Some(j) => usize::from(j) == i,
-            None => false,
-        };
-        if !(same_name(bytes[i].prov, prov) && at) {
-            return false;
-        }
-    }
-    true
-}
-
-/// The name of a pointer whose bytes these are, if it was stored whole.
-#[inline(always)]
-fn stored_name(bytes: &[Byte]) -> Option<Prov>
-    ensures { result ≡ whole_name bytes.now }
-{
-    if bytes.is_empty() {
-        return None;
-    }
-    let first = bytes[0].prov;
-    if is_whole(first, bytes) {
-        Some(first)
-    } else {
-        None
-    }
-}
 
 /// Whom a load of these bytes blames by its live test.
 pub(crate) fn blame_of_bytes(memory: &Memory, bytes: &[Byte]) -> Option<Blame>
     requires { All (λ b. IsMadeIn memory.now.table b.prov) bytes.now }
     ensures { result ≡ option_map (blame_of memory.now) (whole_name bytes.now) }
 {
-    match stored_name(bytes) {
+    match whole_name(bytes) {
         Some(p) => Some(blame_of(memory, p)),
         None => None,
     }
@@ -90,7 +58,7 @@ pub(crate) fn blame_since(memory: &Memory, bytes: &[Byte], p: Prov, blame: Blame
     requires used { IsMadeIn memory.now.table p }
     ensures { (M : Mem) (t : Result Tried Miss) → memory.now.table ≡ settled M.table p t → blame ≡ blame_of M p → result ≡ option_map (blame_of M) (whole_name bytes.now) }
 {
-    let Some(q) = stored_name(bytes) else {
+    let Some(q) = whole_name(bytes) else {
         return None;
     };
     Some(blame_within(memory, q, p, blame))

@@ -9,9 +9,9 @@ use Rattle.pv_world.proofs.loads.blame_since.Goals as goal
 pub blame_within-requires-clause-loaded : goal.blame_within-requires-clause-loaded
 blame_within-requires-clause-loaded c =
     let P : Prov → Type 0 = λ p. IsMadeIn c.args.memory.now.table p in
-    whole_made P c.args.bytes.now c.in-Some.q c.requires.made (sym c.in-Some.is ∙ c.stored_name.ensures)
+    whole_made P c.args.bytes.now c.in-Some.q c.requires.made (sym c.in-Some.is ∙ c.whole_name.ensures)
 
 pub returns : goal.returns
 returns c = λ M t is blamed.
-    let found = sym c.stored_name.ensures ∙ c.in-Some.is in
+    let found = sym c.whole_name.ensures ∙ c.in-Some.is in
     ap Some (c.blame_within.ensures M t is blamed) ∙ sym (ap (option_map (blame_of M)) found)
