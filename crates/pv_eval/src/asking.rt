@@ -13,19 +13,16 @@ ghost use Rattle.pv_libc.specs.Steps.{with_notes};
 ghost use Rattle.pv_libc.specs.Answers.{OrNoMemory, behind};
 ghost use Rattle.pv_libc.specs.Calls.{called, output};
 ghost use Rattle.pv_libc.specs.Makings.{AreLive, IsLiveIfMade, UnlessNoMemory as UnlessSpent};
-ghost use Rattle.pv_watch.specs.declared.event.What.{What as Told};
 ghost use Rattle.pv_world.specs.Worlds.{World as WorldView, Worth};
-ghost use Rattle.pv_world.specs.Worths.{value_of, wrong_of};
-ghost use Rattle.pv_world.specs.Telling.{fault_of, verdict_of};
-ghost use Rattle.pv_world.specs.Doing.{Done};
-ghost use Rattle.pv_world.specs.Coming.{Did, Faulted, worth_of};
+ghost use Rattle.pv_world.specs.Worths.{value_of};
+ghost use Rattle.pv_world.specs.Coming.{Did, worth_of};
 ghost use Rattle.pv_eval.specs.States.{Setting, Res};
 ghost use Rattle.pv_eval.specs.Acting.{acted};
 ghost use Rattle.pv_eval.specs.Arguments.{argument_shape, shape_to};
 ghost use Rattle.pv_eval.specs.Frames.{asked_with};
 ghost use Rattle.pv_eval.specs.Library.{noted_as, blame_in, asks};
 ghost use Rattle.pv_eval.specs.LibraryParts.{all_noted};
-ghost use Rattle.pv_eval.specs.Moments.{come_to, Acted, Stays, Follows, Came, state_of};
+ghost use Rattle.pv_eval.specs.Moments.{come_to, Acted, Stays, Came, state_of};
 ghost use Rattle.pv_eval.specs.Texts.{Wrote, Closed, with_text};
 ghost use Rattle.pv_eval.specs.Runnable.{IsRunnable};
 ghost use Rattle.pv_eval.specs.Operations.{Asks, does};
@@ -47,7 +44,7 @@ use pv_typed::TypedUnit;
 use pv_types::{Term, TypeId, Types};
 use pv_watch::What;
 use pv_world::{
-    Blame, Cause, Failure as WorldFailure, Got, World, fail, tell, tell_made, tell_used,
+    Blame, Cause, Failure as WorldFailure, Got, World, stopped, tell, tell_made, tell_used,
 };
 use std::alloc::Global;
 
@@ -169,19 +166,6 @@ fn blame_in(notes: &[Note]) -> Option<Blame>
         }
     }
     None
-}
-
-/// The run ends by a stop of the call.
-fn stopped(told: &mut Vec<What>, stop: Stop, blame: Option<Blame>) -> WorldFailure
-    ensures memory { stop ≡ Stop.NoMemory → result ≡ WorldFailure.NoMemory }
-    ensures fault { Faulted result (wrong_of stop) told.new.items (told.old.items ++ fault_of blame (verdict_of (wrong_of stop))) }
-{
-    match stop {
-        Stop::Undefined(fault) => fail(told, Cause::Undefined(fault), blame),
-        Stop::Indeterminate => fail(told, Cause::Indeterminate, blame),
-        Stop::Undecided => fail(told, Cause::Undecided, blame),
-        Stop::NoMemory => WorldFailure::NoMemory,
-    }
 }
 
 /// What a call comes to, after what was told of it.

@@ -5,7 +5,7 @@ ghost use Rattle.pv_world.specs.Preconditions.{HasSizeOf};
 ghost use Rattle.pv_world.specs.Worlds.{World as WorldView};
 ghost use Rattle.pv_world.specs.Worths.{int, truth_int, missing_value};
 ghost use Rattle.pv_world.specs.Telling.{fault_of, verdict_of};
-ghost use Rattle.pv_world.specs.Coming.{Did, Faulted, worth_of, wrong_for};
+ghost use Rattle.pv_world.specs.Coming.{Did, Faulted, worth_of};
 ghost use Rattle.pv_eval.specs.States.{Setting};
 ghost use Rattle.pv_types.specs.Known.{tree};
 ghost use Rattle.pv_eval.specs.TypeForms.{Lvalue};
@@ -13,27 +13,17 @@ ghost use Rattle.pv_eval.specs.Sizes.{element_in};
 ghost use Rattle.pv_eval.specs.Within.{PartTaken};
 ghost use Rattle.pv_eval.specs.Operations.{Converts, Calculates, CalculatesOne, Tests, Negates, Accepts, Needs, Moves, Subtracts, Orders, Equals, Follows, Selects, TakesPart, does};
 
-use crate::moment::truth_value;
 use crate::suiting::{
     are_operands, can_order, can_shift, can_take, is_convertible, is_of_promoted, knows, knows_both,
 };
 use crate::types::{element_size, shape, size_of};
-use pv_fault::{Clause, Fault, Reason};
 use pv_num::{BinOp, IntKind, UnOp};
 use pv_object::Value;
 use pv_types::{TypeId, Types};
 use pv_watch::What;
-use pv_world::{Cause, Failure as WorldFailure, Got, How, Shape, World, fail};
-
-/// A value that is missing is used (C17 6.9.1p12).
-fn missing() -> Cause
-    ensures { wrong_for result ≡ missing_value }
-{
-    Cause::Undefined(Fault {
-        clause: Clause::MissingValues,
-        reason: Reason::Value,
-    })
-}
+use pv_world::{
+    Cause, Failure as WorldFailure, Got, How, Shape, World, fail, missing, truth_value,
+};
 
 /// The run ends as by the use of a value that is missing.
 pub(crate) fn unfit(told: &mut Vec<What>) -> WorldFailure

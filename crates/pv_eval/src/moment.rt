@@ -11,7 +11,7 @@ use crate::marked::{Marked, stamp, stamp_others};
 use crate::siding::{Side, keep_side, side_for};
 use pv_object::Value;
 use pv_watch::What;
-use pv_world::{Cause, Failure as WorldFailure, Got, World};
+use pv_world::{Cause, Failure as WorldFailure, Got, World, truth_value};
 use std::alloc::Global;
 use std::marker::Model;
 
@@ -42,13 +42,6 @@ impl Model for Moment {
     ghost coded = { Prim.hlevel (codes, counts_code, store_code) };
 
     ghost view = { λ m. record { world = m.world; printed = m.printed.items; total = m.total; waiting = m.waiting.items; taken = m.taken; sides = sides_of m.sides } };
-}
-
-/// 1 or 0.
-pub(crate) fn truth_value(t: bool) -> Got
-    ensures { worth_of result ≡ truth_int t }
-{
-    Got::Scalar(Value::Int(if t { 1 } else { 0 }))
 }
 
 impl Moment {

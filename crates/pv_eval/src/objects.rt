@@ -1,9 +1,8 @@
 // Objects and literals of a unit (C17 6.2.4, 6.4.5, 6.7.9). What can't be done, isn't: in a checked unit all can.
-ghost use Rattle.std.specs.Prelude.{◌≡◌, ◌≢◌, ◌≤◌, ◌<◌, ◌+◌, ◌&&◌, ◌==◌, ℕ, List, length, take, IfOk, OnOk, Ok, Err, None, codes, All, false};
+ghost use Rattle.std.specs.Prelude.{◌≡◌, ◌≢◌, ◌≤◌, ◌<◌, ◌+◌, ◌&&◌, ◌==◌, List, length, take, OnOk, Ok, Err, None, codes, All, false};
 ghost use Rattle.pv_script.specs.Names.{name_at as text_of};
 ghost use Rattle.pv_types.specs.Known.{tree};
 ghost use Rattle.pv_inst.specs.Table.{IsMadeIn};
-ghost use Rattle.pv_shadow.specs.Whole.{plain};
 ghost use Rattle.pv_watch.specs.declared.event.What.{What as Told};
 ghost use Rattle.pv_world.specs.Worlds.{World as WorldView};
 ghost use Rattle.pv_world.specs.Objects.{instance_of, put_at, base_in, makes_object, object_request};
@@ -20,14 +19,13 @@ ghost use Rattle.pv_eval.specs.Operations.{Makes, MakesLiteral, MakesFunction, E
 use crate::suiting::{can_put, has_room, is_live};
 use crate::types::{align_of, is_constant, measured, number, shape, size_of};
 use pv_inst::CreateError;
-use pv_num::IntKind;
 use pv_object::Scalar;
-use pv_prov::{NoMemory, Prov};
+use pv_prov::NoMemory;
 use pv_shadow::Byte;
 use pv_typed::{Object, TypedUnit};
 use pv_types::TypeId;
 use pv_watch::What;
-use pv_world::{Cause, Failure as WorldFailure, Got, Shape, World};
+use pv_world::{Cause, Failure as WorldFailure, Got, Shape, World, characters, mark_of};
 use std::alloc::Global;
 
 /// Why a request of this name ends the run.
@@ -201,18 +199,6 @@ pub(crate) fn fill(
     }
 }
 
-/// With what a store through a type of this number marks bytes (C17 6.5p6).
-fn mark_of(number: u32, shape: Shape) -> Option<u32>
-    ensures { result ≡ mark_of number shape }
-{
-    match shape {
-        Shape::Int(IntKind::Char | IntKind::SChar | IntKind::UChar) => None,
-        Shape::Int(_) => Some(number),
-        Shape::Pointer => Some(number),
-        Shape::Whole => None,
-    }
-}
-
 /// A value is stored in an object, through a type of this number.
 fn put_stored(
     world: &mut World,
@@ -288,22 +274,6 @@ fn first(bytes: &[u8], size: u64) -> &[u8]
     } else {
         bytes
     }
-}
-
-/// Characters as bytes without a mark.
-fn characters(alloc: Global, bytes: &[u8]) -> Result<Vec<Byte>, NoMemory>
-    ensures { IfOk result (λ v. v.items ≡ plain None 0 bytes.now) }
-{
-    let mut all = Vec::new(alloc);
-    for i in 0..bytes.len() {
-        all.push(Byte {
-            value: Some(bytes[i]),
-            prov: Prov::Empty,
-            index: None,
-            mark: None,
-        })?;
-    }
-    Ok(all)
 }
 
 /// Characters are stored in an object, where it has room for them.

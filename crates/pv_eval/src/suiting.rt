@@ -1,5 +1,5 @@
 // Whether values are what typing promises of the operands of operations. A checked unit never comes to anything else.
-ghost use Rattle.std.specs.Prelude.{◌≡◌, ◌&&◌, ◌≤◌, ◌^◌, All, length, true, nat_le};
+ghost use Rattle.std.specs.Prelude.{◌≡◌, ◌&&◌, ◌≤◌, ◌^◌, All, true};
 ghost use Rattle.pv_num.specs.Kinds.{Fits, fits_of};
 ghost use Rattle.pv_num.specs.Arithmetic.{IsPromoted};
 ghost use Rattle.pv_num.specs.Operands.{IsOperand};
@@ -19,7 +19,7 @@ use pv_num::{BinOp, IntKind, fits};
 use pv_object::{Scalar, Value};
 use pv_prov::Prov;
 use pv_shadow::Byte;
-use pv_world::{Got, Shape, World};
+use pv_world::{Got, Shape, World, int_of};
 
 /// Whether what a name speaks of was made.
 #[tactic(auto, using(crate::proofs::Guards::knows_is))]
@@ -87,16 +87,6 @@ pub(crate) fn knows_both(world: &World, v: &Got, x: &Got) -> bool
     ensures right { result ≡ true → IsMadeWorth world.now.memory.table (worth_of x.now) }
 {
     knows(world, v) && knows(world, x)
-}
-
-/// The number that a value is.
-fn int_of(v: &Got) -> i128
-    ensures { result ≡ int_of (worth_of v.now) }
-{
-    match v {
-        Got::Scalar(Value::Int(n)) => *n,
-        _ => 0,
-    }
 }
 
 /// The greatest number of an integer type, or difference of addresses, and one.

@@ -17,7 +17,7 @@ use pv_object::Value;
 use pv_tree::NodeId;
 use pv_typed::{Sign, Typed, TypedUnit};
 use pv_types::TypeId;
-use pv_world::Got;
+use pv_world::{Got, origin_of};
 use std::alloc::Global;
 use std::marker::Model;
 
@@ -102,17 +102,7 @@ pub(crate) fn source(unit: &TypedUnit, n: NodeId, v: &Got) -> Option<u64>
     ensures { result ≡ source_of (expression_at unit.now n) (worth_of v.now) }
 {
     match unit.node(n) {
-        Typed::Read(_) => origin(v),
-        _ => None,
-    }
-}
-
-/// Where a structure or union was read.
-pub(crate) fn origin(v: &Got) -> Option<u64>
-    ensures { result ≡ origin_of (worth_of v.now) }
-{
-    match v {
-        Got::Whole(_, origin) => *origin,
+        Typed::Read(_) => origin_of(v),
         _ => None,
     }
 }

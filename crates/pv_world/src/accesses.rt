@@ -8,9 +8,6 @@ ghost use Rattle.pv_inst.specs.Table.{IsMadeIn};
 ghost use Rattle.pv_inst.specs.Use.{use_answer, settled};
 ghost use Rattle.pv_shadow.specs.Bytes.{read};
 ghost use Rattle.pv_object.specs.Reaching.{IsReach};
-ghost use Rattle.pv_object.specs.Values.{IsOf};
-ghost use Rattle.pv_object.specs.Answers.{IsMadeValue};
-ghost use Rattle.pv_object.specs.Encoding.{size_of};
 ghost use Rattle.pv_object.specs.Later.{IsLater};
 ghost use Rattle.pv_world.specs.declared.got.Shape.{Shape};
 ghost use Rattle.pv_world.specs.Worlds.{World as WorldView, with_table};
@@ -33,7 +30,7 @@ use crate::uses::tell_use;
 use crate::world::World;
 use pv_inst::Test;
 use pv_num::IntKind;
-use pv_object::{Asker, Pointer, Reach, Scalar, Value};
+use pv_object::{Asker, Pointer, Reach, Scalar};
 use pv_shadow::{BLANK, Byte};
 use pv_watch::What;
 
@@ -48,7 +45,7 @@ pub fn origin_of(v: &Got) -> Option<u64>
 }
 
 /// With what a store through a type of this number marks bytes (6.5p6).
-fn mark_of(number: u32, shape: Shape) -> Option<u32>
+pub fn mark_of(number: u32, shape: Shape) -> Option<u32>
     ensures { result ≡ mark_of number shape }
 {
     match shape {

@@ -52,7 +52,7 @@ fn verdict_for(cause: Cause) -> Option<Verdict>
 }
 
 /// The run ends by a call of the memory, or memory ran out: the fault is told.
-pub(crate) fn stopped(told: &mut Vec<What>, stop: Stop, blame: Option<Blame>) -> Failure
+pub fn stopped(told: &mut Vec<What>, stop: Stop, blame: Option<Blame>) -> Failure
     ensures memory { stop ≡ Stop.NoMemory → result ≡ Failure.NoMemory }
     ensures fault { Faulted result (wrong_of stop) told.new.items (told.old.items ++ fault_of blame (verdict_of (wrong_of stop))) }
 {

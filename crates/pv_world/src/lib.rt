@@ -26,12 +26,13 @@ mod truth;
 mod uses;
 mod world;
 
-pub use accesses::origin_of;
+pub use accesses::{mark_of, origin_of};
 pub use bound::Bound;
 pub use calculation::{calculate, calculate_one, need};
-pub use failing::{Blame, fail};
+pub use failing::{Blame, fail, stopped};
 pub use functions::unlike;
 pub use got::{Cause, Failure, Got, How, Shape};
-pub use operands::pointer_of;
+pub use literal_arrays::characters;
+pub use operands::{int_of, missing, pointer_of, truth_value};
 pub use telling::{tell, tell_made, tell_used};
 pub use world::World;

@@ -20,7 +20,7 @@ use pv_watch::What;
 use std::alloc::Global;
 
 /// Characters as bytes without a mark.
-fn characters(alloc: Global, bytes: &[u8]) -> Result<Vec<Byte>, NoMemory>
+pub fn characters(alloc: Global, bytes: &[u8]) -> Result<Vec<Byte>, NoMemory>
     ensures bytes { IfOk result (λ v. v.items ≡ plain None 0 bytes.now) }
     ensures long { IfOk result (λ v. length v.items ≡ length bytes.now) }
 {

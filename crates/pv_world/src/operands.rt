@@ -38,7 +38,8 @@ pub(crate) fn unpresent(v: &Got) -> Option<Cause>
     }
 }
 
-pub(crate) fn missing() -> Cause
+/// The value of a function that returned none is used (6.9.1p12).
+pub fn missing() -> Cause
     ensures { wrong_for result ≡ missing_value }
 {
     Cause::Undefined(Fault {
@@ -58,7 +59,7 @@ pub(crate) fn uneven() -> Cause
 }
 
 /// The number that a value is.
-pub(crate) fn int_of(v: &Got) -> i128
+pub fn int_of(v: &Got) -> i128
     ensures { result ≡ int_of (worth_of v.now) }
 {
     match v {
@@ -82,7 +83,7 @@ pub fn pointer_of(v: &Got) -> Pointer
 }
 
 /// 1 or 0.
-pub(crate) fn truth_value(t: bool) -> Got
+pub fn truth_value(t: bool) -> Got
     ensures { worth_of result ≡ truth_int t }
 {
     Got::Scalar(Value::Int(if t { 1 } else { 0 }))
