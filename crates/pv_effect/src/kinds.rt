@@ -3,18 +3,10 @@ ghost use Rattle.std.specs.Prelude.{◌≡◌, ◌<◌, ◌||◌, length};
 ghost use Rattle.pv_types.specs.Known.{tree};
 ghost use Rattle.pv_effect.specs.EffectiveType.{same_or_counterpart};
 ghost use Rattle.pv_types.specs.Sorts.{is_composite, is_character};
-ghost use Rattle.pv_num.specs.Kinds.{is_character_kind};
 
 use pv_layout::{bare, leaf_at};
-use pv_num::IntKind;
+use pv_num::is_character_kind;
 use pv_types::{Term, TypeId, Types};
-
-/// Whether the integer type is a character type (C17 6.2.5p15).
-fn is_character_kind(kind: IntKind) -> bool
-    ensures { result ≡ is_character_kind kind }
-{
-    matches!(kind, IntKind::Char | IntKind::SChar | IntKind::UChar)
-}
 
 /// Whether it is a character type (C17 6.2.5p15).
 pub(crate) fn is_character(types: &Types, t: TypeId) -> bool

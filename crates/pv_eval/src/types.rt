@@ -1,6 +1,6 @@
 // What operations ask of a type (C17 6.2.5, 6.3, 6.5.3.4). A number that is that of no type is as `void`.
 ghost use Rattle.std.specs.Prelude.{◌≡◌, ◌≤◌, ◌<◌, ◌^◌, ◌/◌, ◌&&◌, true, length, IsTrue, IfSome, IfNone, is_some};
-ghost use Rattle.pv_num.specs.Kinds.{width, is_character_kind, promoted};
+ghost use Rattle.pv_num.specs.Kinds.{width, promoted};
 ghost use Rattle.pv_types.specs.Ty.{VoidTy, IntTy};
 ghost use Rattle.pv_types.specs.Layouts.{up_to, is_complete_in, layout_in};
 ghost use Rattle.pv_types.specs.Known.{tree, trees, env, tree_in};
@@ -13,7 +13,7 @@ ghost use Rattle.pv_eval.specs.Suiting.{is_size};
 ghost use Rattle.pv_eval.specs.Sizes.{size_in, number_in, alignment_in, how_in, element_in, IsComplete, points};
 
 use pv_layout::{bare, measure};
-use pv_num::IntKind;
+use pv_num::{IntKind, is_character_kind};
 use pv_types::{Term, TypeId, Types};
 use pv_world::{How, Shape};
 
@@ -341,13 +341,6 @@ pub(crate) fn element_size(types: &Types, t: TypeId) -> Option<u64>
         Some(element) => size_of(types, element),
         None => Some(0),
     }
-}
-
-/// Whether a kind is a character type's (C17 6.2.5p15).
-pub(crate) fn is_character_kind(kind: IntKind) -> bool
-    ensures { result ≡ is_character_kind kind }
-{
-    matches!(kind, IntKind::Char | IntKind::SChar | IntKind::UChar)
 }
 
 /// The conversion to an integer type (C17 6.3.1.2, 6.3.1.3, 6.3.2.3p6).

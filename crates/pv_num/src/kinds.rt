@@ -1,6 +1,6 @@
 // Integer kinds: what fits them, and conversion to them.
 ghost use Rattle.std.specs.Prelude.{◌≡◌, ◌↔◌, ◌<◌, pos, IsTrue};
-ghost use Rattle.pv_num.specs.Kinds.{least, greatest, Fits, fits_of, convert_of, modulus_of, is_signed, width, bits_of, from_bits_of};
+ghost use Rattle.pv_num.specs.Kinds.{least, greatest, Fits, fits_of, convert_of, modulus_of, is_signed, width, bits_of, from_bits_of, is_character_kind};
 ghost use Rattle.pv_num.specs.Operands.{IsConversion, IsConvertible};
 
 /// An integer type of the target (6.2.5), without its qualifiers.
@@ -33,6 +33,13 @@ pub enum IntKind {
     LLong,
     /// `unsigned long long`.
     ULLong,
+}
+
+/// Whether it is one of the character types (6.2.5p15).
+pub fn is_character_kind(kind: IntKind) -> bool
+    ensures { result ≡ is_character_kind kind }
+{
+    matches!(kind, IntKind::Char | IntKind::SChar | IntKind::UChar)
 }
 
 /// The number of bits of the kind.

@@ -32,7 +32,7 @@ use crate::encoding;
 use crate::values::{Asker, Pointer, Reach, Scalar, Stop, Value};
 use pv_fault::{Clause, Reason};
 use pv_inst::{CreateError, Instances, Kind, Miss, Test, Tried};
-use pv_num::{IntKind, convert};
+use pv_num::{IntKind, convert, is_character_kind};
 use pv_prov::{NoMemory, Prov};
 use pv_script::{Names, Script};
 use pv_shadow::{BLANK, Byte, Bytes, whole_name};
@@ -392,7 +392,7 @@ impl Memory {
         ensures made { IfOk result (λ r. IsMadeValue self.new.table r.0) }
     {
         let Some(number) = encoding::number(bytes) else {
-            if !encoding::is_character(kind) {
+            if !is_character_kind(kind) {
                 return Err(Stop::Indeterminate);
             }
             self.expose_all(bytes);

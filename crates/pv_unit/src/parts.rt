@@ -6,14 +6,13 @@ ghost use Rattle.pv_types.specs.Sorts.{bare, is_scalar};
 ghost use Rattle.pv_types.specs.Layouts.{layout_in, is_complete_in, look};
 ghost use Rattle.pv_types.specs.LayoutParts.{or_none};
 ghost use Rattle.pv_unit.specs.Parts.{is_text, has_element, part_in, part_at, first_leaf};
-ghost use Rattle.pv_num.specs.Kinds.{is_character_kind};
 ghost use Rattle.pv_unit.specs.PartParts.{within, is_aggregate, character_layer};
 ghost use Rattle.pv_types.specs.Ty.{ArrayOf, StructTag, UnionTag};
 ghost use Rattle.pv_check.specs.Growing.{AreSized};
 ghost use Rattle.pv_unit.specs.Subobjects.{part_of, IsPart, IsInner, IsInnerIf, HasRoom};
 
 use pv_layout::{bare, size, struct_number};
-use pv_num::IntKind;
+use pv_num::is_character_kind;
 use pv_types::{Term, TypeId, Types};
 
 /// No object is larger.
@@ -24,13 +23,6 @@ pub(crate) const LARGEST: u64 = 1 << 32;
 pub(crate) struct Subobject {
     pub offset: u64,
     pub t: TypeId,
-}
-
-/// Whether it is one of the character types (C17 6.2.5p15).
-fn is_character_kind(kind: IntKind) -> bool
-    ensures { result ≡ is_character_kind kind }
-{
-    matches!(kind, IntKind::Char | IntKind::SChar | IntKind::UChar)
 }
 
 /// The outermost layer of the type without the qualifiers around it.
