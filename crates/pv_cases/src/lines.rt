@@ -1,10 +1,11 @@
 // The words of a line of a list.
 ghost use Rattle.std.specs.Prelude.{◌≡◌, ◌<◌, ◌≤◌, ◌&&◌, true, false, nat_le, length, position, None, Some, IfSome, MatchOption, option_map};
 ghost use Rattle.std.specs.List.{list_all};
-ghost use Rattle.pv_script.specs.Words.{begins_with_zero, digits_from, is_digit};
+ghost use Rattle.pv_script.specs.Words.{digits_from, is_digit};
 ghost use Rattle.pv_cases.specs.Cases as specified;
 ghost use Rattle.pv_cases.specs.Views.{cut_view};
 
+use pv_script::begins_with_zero;
 use std::str;
 
 // The largest bound on a case's turns.
@@ -76,19 +77,10 @@ pub(crate) fn bound_in(text: &[u8]) -> Option<u64>
     ensures value { result ≡ specified.bound_in text.now }
     ensures range { IfSome result (λ n. (0 < n) × (n ≤ 100000000)) }
 {
-    if starts_with_zero(text) {
+    if begins_with_zero(text) {
         return None;
     }
     turns_in(text)
-}
-
-fn starts_with_zero(text: &[u8]) -> bool
-    ensures { result ≡ begins_with_zero text.now }
-{
-    match text.first() {
-        Some(c) => *c == b'0',
-        None => false,
-    }
 }
 
 // The number of decimal digits, if it is a bound.

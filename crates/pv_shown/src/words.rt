@@ -1,10 +1,10 @@
 // The words of a command.
 ghost use Rattle.std.specs.Prelude.{◌≡◌, ◌<◌, ◌≤◌, length, position, IfSome};
-ghost use Rattle.pv_script.specs.Words.{begins_with_zero, digits_from, is_digit};
+ghost use Rattle.pv_script.specs.Words.{digits_from, is_digit};
 ghost use Rattle.pv_shown.specs.Commands as specified;
 
 use crate::reading::Command;
-use pv_script::address_in;
+use pv_script::{address_in, begins_with_zero};
 
 // The last position.
 pub(crate) const LAST_POSITION: u64 = 1_000_000;
@@ -62,19 +62,10 @@ fn two_words(word: &[u8], rest: &[u8]) -> Option<Command>
 fn number_in(text: &[u8]) -> Option<u64>
     ensures { result ≡ specified.number_in text.now }
 {
-    if starts_with_zero(text) {
+    if begins_with_zero(text) {
         return None;
     }
     turns_in(text)
-}
-
-fn starts_with_zero(text: &[u8]) -> bool
-    ensures { result ≡ begins_with_zero text.now }
-{
-    match text.first() {
-        Some(c) => *c == b'0',
-        None => false,
-    }
 }
 
 // The number of decimal digits, if it is one of turns.
