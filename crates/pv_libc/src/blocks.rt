@@ -12,11 +12,11 @@ ghost use Rattle.pv_libc.specs.Steps.{with_notes};
 ghost use Rattle.pv_libc.specs.Answers.{OrNoMemory, worth};
 
 use crate::characters::character_in;
-use crate::notes::{reached, undefined};
+use crate::notes::reached;
 use crate::strings::sign_of;
 use crate::values::{Given, Note, Reply};
 use pv_fault::{Clause, Reason};
-use pv_object::{Asker, Memory, Reach, Stop, Value};
+use pv_object::{Asker, Memory, Reach, Stop, Value, undefined};
 use pv_prov::Prov;
 use pv_shadow::Byte;
 use std::alloc::Global;

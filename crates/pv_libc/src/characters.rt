@@ -7,11 +7,11 @@ ghost use Rattle.pv_libc.specs.Steps.{further, with_notes};
 ghost use Rattle.pv_libc.specs.Answers.{OrNoMemory, worth};
 ghost use Rattle.pv_libc.specs.Characters.{character_in, character_at, most, string_at};
 
-use crate::notes::{clause_of, note_exposed, reached, undefined};
+use crate::notes::{note_exposed, reached};
 use crate::values::{Given, Note};
 use pv_fault::Reason;
 use pv_num::IntKind;
-use pv_object::{Asker, Memory, Pointer, Reach, Scalar, Stop, Value};
+use pv_object::{Asker, Memory, Pointer, Reach, Scalar, Stop, Value, clause_of, undefined};
 use std::alloc::Global;
 
 /// How many bytes an instance has at most.

@@ -16,11 +16,11 @@ ghost use Rattle.pv_libc.specs.Heap.{told_of, block_stop, block_answer, pointer_
 ghost use Rattle.pv_libc.specs.Blocks.{filled};
 
 use crate::blocks::fill;
-use crate::notes::{note_use, undefined};
+use crate::notes::note_use;
 use crate::values::{Given, Note, Reply};
 use pv_fault::{Clause, Reason};
 use pv_inst::{CreateError, Info, Kind, Miss, Test, Tried};
-use pv_object::{Memory, Pointer, Reach, Stop, Value};
+use pv_object::{Memory, Pointer, Reach, Stop, Value, undefined};
 use pv_prov::{NoMemory, Prov, Stands};
 use pv_script::Names;
 

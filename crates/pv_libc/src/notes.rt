@@ -3,34 +3,14 @@ ghost use Rattle.std.specs.Prelude.{◌≡◌, ◌++◌, OnOk, IfOk};
 ghost use Rattle.pv_inst.specs.Table.{IsMadeIn};
 ghost use Rattle.pv_inst.specs.Use.{use_answer};
 ghost use Rattle.pv_object.specs.Reaching.{IsReach};
-ghost use Rattle.pv_object.specs.Access.{fault, clause_of};
 ghost use Rattle.pv_object.specs.Later.{IsLater};
 ghost use Rattle.pv_libc.specs.Steps.{used, told, reached, with_notes};
 ghost use Rattle.pv_libc.specs.Answers.{OrNoMemory};
 
 use crate::values::{Given, Note};
-use pv_fault::{Clause, Fault, Reason};
 use pv_inst::{Test, Tried};
 use pv_object::{Asker, Memory, Reach, Stop};
 use pv_prov::{NoMemory, Prov};
-
-/// Undefined behaviour by this paragraph, for this reason.
-pub(crate) fn undefined(clause: Clause, reason: Reason) -> Stop
-    ensures { result ≡ fault clause reason }
-{
-    Stop::Undefined(Fault { clause, reason })
-}
-
-/// The paragraph under which an invalid pointer is reported.
-pub(crate) fn clause_of(by: Asker) -> Clause
-    ensures { result ≡ clause_of by }
-{
-    match by {
-        Asker::Access | Asker::Member => Clause::Indirection,
-        Asker::Text => Clause::StringFunctions,
-        Asker::Print => Clause::LibraryArguments,
-    }
-}
 
 /// Notes a use of a name that stands for two, before it is made. A use that finds none is not noted.
 #[tactic(auto, using(crate::proofs::Surviving::unpaired))]

@@ -11,10 +11,10 @@ ghost use Rattle.pv_libc.specs.StringParts.{strcmp};
 
 use crate::blocks::{put, share};
 use crate::characters::{character_at, most, string_at};
-use crate::notes::{reached, undefined};
+use crate::notes::reached;
 use crate::values::{Given, Note, Reply};
 use pv_fault::{Clause, Reason};
-use pv_object::{Asker, Memory, Stop, Value};
+use pv_object::{Asker, Memory, Stop, Value, undefined};
 use std::alloc::Global;
 
 /// The sign of a first difference, as a reply.
