@@ -8,7 +8,7 @@ use Rattle.pv_inst.specs.Table.{Table}
 use Rattle.pv_inst.specs.Exposure.{expose}
 use Rattle.pv_shadow.specs.declared.byte.Byte.{Byte}
 use Rattle.pv_shadow.specs.Readings.{are_nameless, nameless_number}
-use Rattle.pv_object.specs.Encoding.{number_in}
+use Rattle.pv_shadow.specs.Whole.{number_in}
 use Rattle.pv_object.specs.Loading.{exposed_by}
 use Rattle.pv_eval.specs.Plainly.{IsPlainNumber}
 

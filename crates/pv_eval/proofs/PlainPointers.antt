@@ -18,11 +18,10 @@ use Rattle.pv_inst.specs.Use.{any_survives, miss_of, use_answer, untried, settle
 use Rattle.pv_inst.specs.SameParts.{made_passes}
 use Rattle.pv_shadow.specs.declared.byte.Byte.{Byte}
 use Rattle.pv_shadow.specs.Bytes.{read}
-use Rattle.pv_shadow.specs.Whole.{whole_name}
+use Rattle.pv_shadow.specs.Whole.{whole_name, number_in}
 use Rattle.pv_object.specs.declared.values.Pointer.{Pointer}
 use Rattle.pv_object.specs.declared.values.Reach.{Reach}
 use Rattle.pv_object.specs.declared.values.Value.TheVariants.{Pointer as PointerValue}
-use Rattle.pv_object.specs.Encoding.{number_in}
 use Rattle.pv_object.specs.Loading.{pointer_of, pointer_named}
 use Rattle.pv_object.specs.OperationParts.{live_answer}
 use Rattle.pv_object.specs.Loads.{whole_pointer}

@@ -30,7 +30,7 @@ use Rattle.pv_object.specs.declared.values.Value.TheVariants.{Int as IntValue}
 use Rattle.pv_object.specs.Reaching.{IsReachIn}
 use Rattle.pv_object.specs.Access.{fault, reach_after, checked_in, or_stop, readonly_stop}
 use Rattle.pv_object.specs.OperationParts.{write_stop}
-use Rattle.pv_object.specs.Encoding.{number_in}
+use Rattle.pv_shadow.specs.Whole.{number_in}
 use Rattle.pv_object.specs.Loading.{is_trap, integer_of, exposed_by}
 use Rattle.pv_types.specs.Ty.{Ty}
 use Rattle.pv_tree.specs.declared.nodes.NodeId.{NodeId}

@@ -34,7 +34,7 @@ use Rattle.pv_num.specs.declared.operators.BinOp.{BinOp}
 use Rattle.pv_fault.specs.declared.faults.Clause.{Clause}
 use Rattle.pv_object.specs.Access.{reach}
 use Rattle.pv_object.specs.Operations.{move_under}
-use Rattle.pv_object.specs.Encoding.{number_in}
+use Rattle.pv_shadow.specs.Whole.{number_in}
 use Rattle.pv_object.specs.Loading.{exposed_by}
 use Rattle.pv_world.specs.Worlds.{Worth, World}
 use Rattle.pv_world.specs.Worths.{int, pointer, null_pointer}

@@ -14,13 +14,13 @@ use Rattle.pv_inst.specs.Table.{Table, IsMadeIn}
 use Rattle.pv_inst.proofs.Apartness.{same_or_not}
 use Rattle.pv_shadow.specs.declared.byte.Byte.{Byte}
 use Rattle.pv_shadow.specs.Bytes.{Store, blank, read, written, spread, cleared}
-use Rattle.pv_shadow.specs.Whole.{little_endian, number_of, plain, pointed, values_of, has_index, is_whole, whole_name, mark_at}
+use Rattle.pv_shadow.specs.Whole.{little_endian, number_of, plain, pointed, values_of, has_index, is_whole, whole_name, mark_at, number_in}
 use Rattle.pv_shadow.proofs.Ranges.{get-insert_other, get-insert_here, get-remove_other, get-remove_here}
 use Rattle.pv_object.specs.declared.values.Scalar.{Scalar}
 use Rattle.pv_object.specs.declared.values.Scalar.TheVariants as scalar
 use Rattle.pv_object.specs.declared.values.Value.{Value}
 use Rattle.pv_object.specs.declared.values.Value.TheVariants.{Int as IntValue, Unset, Pointer as PointerValue}
-use Rattle.pv_object.specs.Encoding.{encode, number_in}
+use Rattle.pv_object.specs.Encoding.{encode}
 use Rattle.pv_object.specs.EncodingParts.{unset_byte}
 use Rattle.pv_typed.specs.Known.{Each}
 use Rattle.pv_guards.specs.Fair.{IsFair, AreFair, IsFairPointer, IsFairValue}

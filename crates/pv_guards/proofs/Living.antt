@@ -34,13 +34,12 @@ use Rattle.pv_inst.proofs.Rows.{IsRow, row_found}
 use Rattle.pv_inst.proofs.Together.{slice_get-set_here, slice_get-set_other}
 use Rattle.pv_inst.proofs.Apartness.{same_or_not}
 use Rattle.pv_shadow.specs.declared.byte.Byte.{Byte}
-use Rattle.pv_shadow.specs.Whole.{whole_name}
+use Rattle.pv_shadow.specs.Whole.{whole_name, number_in}
 use Rattle.pv_object.specs.declared.values.Asker.{Asker}
 use Rattle.pv_object.specs.declared.values.Pointer.{Pointer}
 use Rattle.pv_object.specs.declared.values.Scalar.{Scalar}
 use Rattle.pv_object.specs.declared.values.Scalar.TheVariants as scalar
 use Rattle.pv_object.specs.Access.{reach, reach_after, clause_of, is_null}
-use Rattle.pv_object.specs.Encoding.{number_in}
 use Rattle.pv_object.specs.Loading.{value_of, integer_of, pointer_of, pointer_named, exposed_by, is_trap}
 use Rattle.pv_object.specs.Operations.{truth, equal, equal_after, recast, to_ptr, address_of, exposed_to, to_int, to_int_after, move_under, code, together}
 use Rattle.pv_object.specs.OperationParts.{moved}

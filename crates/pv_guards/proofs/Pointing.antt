@@ -18,13 +18,13 @@ use Rattle.pv_inst.specs.Use.{use_answer, settled}
 use Rattle.pv_inst.specs.Finding.{name_at, after_name}
 use Rattle.pv_inst.specs.TwoPointers.{same_miss, miss_of_two, same_by, same_answer}
 use Rattle.pv_shadow.specs.declared.byte.Byte.{Byte}
-use Rattle.pv_shadow.specs.Whole.{whole_name}
+use Rattle.pv_shadow.specs.Whole.{whole_name, number_in}
 use Rattle.pv_object.specs.declared.values.Pointer.{Pointer}
 use Rattle.pv_object.specs.declared.values.Scalar.{Scalar}
 use Rattle.pv_object.specs.declared.values.Scalar.TheVariants as scalar
 use Rattle.pv_object.specs.declared.values.Stop.{Stop}
 use Rattle.pv_object.specs.Values.{IsOf}
-use Rattle.pv_object.specs.Encoding.{size_of, number_in}
+use Rattle.pv_object.specs.Encoding.{size_of}
 use Rattle.pv_object.specs.Access.{is_null}
 use Rattle.pv_object.specs.Loading.{Loaded, pointer_named, pointer_of, is_trap, integer_of, value_of}
 use Rattle.pv_object.specs.OperationParts.{live_answer, moved_by, moved, both_or_stop}

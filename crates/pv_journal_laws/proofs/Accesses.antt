@@ -25,7 +25,7 @@ use Rattle.pv_inst.specs.ExposureParts.{shown}
 use Rattle.pv_inst.specs.Finding.{after_name, name_at}
 use Rattle.pv_inst.specs.Placing.{Request}
 use Rattle.pv_shadow.specs.declared.byte.Byte.{Byte}
-use Rattle.pv_shadow.specs.Whole.{whole_name, plain}
+use Rattle.pv_shadow.specs.Whole.{whole_name, plain, number_in}
 use Rattle.pv_object.specs.declared.values.Pointer.{Pointer}
 use Rattle.pv_object.specs.declared.values.Reach.{Reach}
 use Rattle.pv_object.specs.declared.values.Stop.{Stop}
@@ -34,7 +34,6 @@ use Rattle.pv_object.specs.declared.values.Value.{Value}
 use Rattle.pv_object.specs.Memory.{Mem}
 use Rattle.pv_object.specs.Access.{reach_after, clause_of, is_null}
 use Rattle.pv_object.specs.Creating.{created}
-use Rattle.pv_object.specs.Encoding.{number_in}
 use Rattle.pv_num.specs.Kinds.{is_character_kind as is_character}
 use Rattle.pv_object.specs.Loading.{Loaded, exposed_by, integer_of, is_trap, pointer_of as pointer_from, pointer_named}
 use Rattle.pv_object.specs.OperationParts.{live_answer, equal_by as equal_or_stop, both_or_stop, order_by as order_or_stop}

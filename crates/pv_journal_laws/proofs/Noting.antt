@@ -24,7 +24,7 @@ use Rattle.pv_object.specs.declared.values.Asker.{Asker}
 use Rattle.pv_object.specs.declared.values.Stop.{Stop}
 use Rattle.pv_object.specs.Memory.{Mem}
 use Rattle.pv_object.specs.Access.{reach, reach_after, clause_of, is_null}
-use Rattle.pv_object.specs.Encoding.{number_in}
+use Rattle.pv_shadow.specs.Whole.{number_in}
 use Rattle.pv_object.specs.Loading.{load, integer_of, exposed_by}
 use Rattle.pv_object.specs.Operations.{to_int, to_int_after, exposed_to}
 use Rattle.pv_libc.specs.declared.values.Note.{Note}

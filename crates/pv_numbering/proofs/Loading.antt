@@ -11,13 +11,13 @@ use Rattle.pv_inst.specs.Use.{untried}
 use Rattle.pv_inst.specs.Exposure.{expose}
 use Rattle.pv_types.specs.Known.{Known}
 use Rattle.pv_shadow.specs.declared.byte.Byte.{Byte}
-use Rattle.pv_shadow.specs.Whole.{values_of, number_of, has_index, is_whole, whole_name, little_endian}
+use Rattle.pv_shadow.specs.Whole.{values_of, number_of, has_index, is_whole, whole_name, little_endian, number_in}
 use Rattle.pv_object.specs.declared.values.Scalar.{Scalar}
 use Rattle.pv_object.specs.declared.values.Scalar.TheVariants as scalar
 use Rattle.pv_object.specs.declared.values.Value.{Value}
 use Rattle.pv_object.specs.declared.values.Value.TheVariants as value
 use Rattle.pv_object.specs.declared.values.Stop.TheVariants.{Indeterminate}
-use Rattle.pv_object.specs.Encoding.{number_in, encode}
+use Rattle.pv_object.specs.Encoding.{encode}
 use Rattle.pv_object.specs.Access.{fault}
 use Rattle.pv_object.specs.Loading.{exposed_by, pointer_named, pointer_of, is_trap, integer_of, value_of}
 use Rattle.pv_numbering.proofs.Marks.{AlikeBytes}

@@ -5,8 +5,8 @@ use Rattle.std.proofs.lemmas.Option.{none-some}
 use Rattle.pv_prov.specs.declared.names.Prov.{Prov}
 use Rattle.pv_inst.specs.Table.{Table}
 use Rattle.pv_shadow.specs.declared.byte.Byte.{Byte}
-use Rattle.pv_shadow.specs.Whole.{whole_name}
-use Rattle.pv_shadow.specs.Readings.{number_in, pointer_in}
+use Rattle.pv_shadow.specs.Whole.{whole_name, number_in}
+use Rattle.pv_shadow.specs.Readings.{pointer_in}
 use Rattle.pv_object.specs.declared.values.Pointer.{Pointer}
 use Rattle.pv_object.specs.declared.values.Scalar.TheVariants as scalar
 use Rattle.pv_object.specs.Loading.{value_of, pointer_of, pointer_named, tested}

@@ -14,7 +14,7 @@ use Rattle.pv_inst.specs.Exposure.{expose}
 use Rattle.pv_inst.specs.Finding.{name_at, after_name}
 use Rattle.pv_shadow.specs.declared.byte.Byte.{Byte}
 use Rattle.pv_shadow.specs.Bytes.{read}
-use Rattle.pv_shadow.specs.Whole.{whole_name}
+use Rattle.pv_shadow.specs.Whole.{whole_name, number_in}
 use Rattle.pv_object.specs.declared.values.Pointer.{Pointer}
 use Rattle.pv_object.specs.declared.values.Scalar.{Scalar}
 use Rattle.pv_object.specs.declared.values.Scalar.TheVariants as scalar
@@ -22,7 +22,7 @@ use Rattle.pv_object.specs.declared.values.Value.{Value}
 use Rattle.pv_object.specs.declared.values.Value.TheVariants as value
 use Rattle.pv_object.specs.declared.values.Stop.{Stop}
 use Rattle.pv_object.specs.declared.values.Stop.TheVariants.{Indeterminate}
-use Rattle.pv_object.specs.Encoding.{size_of, number_in}
+use Rattle.pv_object.specs.Encoding.{size_of}
 use Rattle.pv_object.specs.Access.{fault}
 use Rattle.pv_object.specs.Memory.{Mem}
 use Rattle.std.specs.List.{fold}

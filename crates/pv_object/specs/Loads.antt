@@ -5,9 +5,8 @@ use Rattle.pv_prov.specs.declared.names.Prov.{Prov}
 use Rattle.pv_inst.specs.Table.{Table}
 use Rattle.pv_inst.specs.Finding.{name_at, found_at}
 use Rattle.pv_shadow.specs.declared.byte.Byte.{Byte}
-use Rattle.pv_shadow.specs.Whole.{whole_name}
+use Rattle.pv_shadow.specs.Whole.{whole_name, number_in}
 use Rattle.pv_shadow.specs.Readings.{pointer_in}
-use Rattle.pv_object.specs.Encoding.{number_in}
 use Rattle.pv_object.specs.declared.values.Pointer.{Pointer}
 use Rattle.pv_object.specs.declared.values.Scalar.{Scalar}
 use Rattle.pv_object.specs.declared.values.Scalar.TheVariants as scalar

@@ -17,13 +17,13 @@ ghost use Rattle.pv_object.specs.Reaching.{IsReach};
 ghost use Rattle.pv_object.specs.Later.{IsLater};
 ghost use Rattle.pv_object.specs.Values.{IsOf};
 ghost use Rattle.pv_object.specs.Answers.{IsMadeValue, stored, OrSpent, HasSize};
-ghost use Rattle.pv_object.specs.Encoding.{size_of, encode, number_in};
+ghost use Rattle.pv_object.specs.Encoding.{size_of, encode};
 ghost use Rattle.pv_object.specs.Access.{reach};
 ghost use Rattle.pv_object.specs.Loading.{value_of, load, exposed_by, tested, integer_of, pointer_of};
 ghost use Rattle.pv_object.specs.Loads.{loaded_name, whole_pointer, MakesPair, FitsTwo, OrNoPair};
 ghost use Rattle.pv_object.specs.Copying.{with_bytes, copied};
 ghost use Rattle.pv_object.specs.Creating.{created, without};
-ghost use Rattle.pv_shadow.specs.Whole.{pointed, little_endian};
+ghost use Rattle.pv_shadow.specs.Whole.{pointed, little_endian, number_in};
 ghost use Rattle.pv_object.specs.declared.values.Scalar.{Scalar as Form};
 ghost use Rattle.pv_object.specs.declared.values.Value.{Value as Stored};
 
@@ -333,7 +333,7 @@ impl Memory {
         requires { length bytes.now ≤ 8 }
         ensures { result ≡ loaded_name self.now.table bytes.now }
     {
-        let address = encoding::number(bytes)?;
+        let address = pv_shadow::number(bytes)?;
         match whole_name(bytes) {
             Some(prov) => Some(prov),
             None => Some(self.table.name_at(address)),
@@ -391,7 +391,7 @@ impl Memory {
         ensures later { IsLater self.old.table self.new.table }
         ensures made { IfOk result (λ r. IsMadeValue self.new.table r.0) }
     {
-        let Some(number) = encoding::number(bytes) else {
+        let Some(number) = pv_shadow::number(bytes) else {
             if !is_character_kind(kind) {
                 return Err(Stop::Indeterminate);
             }
@@ -427,7 +427,7 @@ impl Memory {
         ensures later { IsLater self.old.table self.new.table }
         ensures made { IfOk result (λ r. IsMadeValue self.new.table r.0) }
     {
-        let Some(address) = encoding::number(bytes) else {
+        let Some(address) = pv_shadow::number(bytes) else {
             return Err(Stop::Indeterminate);
         };
         match whole_name(bytes) {

@@ -14,14 +14,13 @@ use Rattle.pv_inst.specs.Table.{Table}
 use Rattle.pv_inst.specs.Use.{use_answer, settled, untried}
 use Rattle.pv_inst.specs.Finding.{name_at, after_name}
 use Rattle.pv_shadow.specs.declared.byte.Byte.{Byte}
-use Rattle.pv_shadow.specs.Whole.{whole_name}
+use Rattle.pv_shadow.specs.Whole.{whole_name, number_in}
 use Rattle.pv_object.specs.declared.values.Pointer.{Pointer}
 use Rattle.pv_object.specs.declared.values.Scalar.{Scalar}
 use Rattle.pv_object.specs.declared.values.Scalar.TheVariants as scalar
 use Rattle.pv_object.specs.declared.values.Value.{Value}
 use Rattle.pv_object.specs.declared.values.Value.TheVariants as value
 use Rattle.pv_object.specs.declared.values.Stop.{Stop}
-use Rattle.pv_object.specs.Encoding.{number_in}
 use Rattle.pv_object.specs.Access.{fault, is_null}
 use Rattle.pv_object.specs.Loading.{tested, pointer_named, pointer_of, exposed_by, integer_of, is_trap, value_of}
 use Rattle.pv_object.specs.OperationParts.{live_answer, truth_by, equal_by, moved_by, moved}

@@ -15,7 +15,7 @@ use Rattle.pv_object.specs.declared.values.Value.{Value}
 use Rattle.pv_object.specs.declared.values.Value.TheVariants as value
 use Rattle.pv_object.specs.Memory.{Mem}
 use Rattle.pv_object.specs.Access.{fault, reach}
-use Rattle.pv_object.specs.Encoding.{number_in}
+use Rattle.pv_shadow.specs.Whole.{number_in}
 use Rattle.pv_object.specs.Loading.{Loaded, load, value_of, integer_of, exposed_by}
 use Rattle.pv_libc.specs.declared.values.Note.{Note}
 use Rattle.pv_libc.specs.Steps.{Now, Did, done, halted, next_by, next, about_by, about, reached_by, reached, told, in_table}
