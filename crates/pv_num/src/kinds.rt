@@ -87,8 +87,8 @@ pub(crate) fn is_signed(kind: IntKind) -> bool
     }
 }
 
-/// The two's complement bits of `n`, as a number.
-pub(crate) fn bits(kind: IntKind, n: i128) -> u64
+/// The two's complement bits of `n`, as a number (6.2.6.2p2).
+pub fn bits(kind: IntKind, n: i128) -> u64
     ensures value { result ≡ bits_of kind n }
     ensures bound { result < modulus_of kind }
 {

@@ -6,5 +6,5 @@
 mod kinds;
 mod operators;
 
-pub use kinds::{IntKind, convert, fits, is_character_kind};
+pub use kinds::{IntKind, bits, convert, fits, is_character_kind};
 pub use operators::{ArithmeticFault, BinOp, UnOp, binary, unary};

@@ -489,7 +489,7 @@ impl Memory {
     {
         self.table.well_formed();
         let size = encoding::size_of(Scalar::Int(kind));
-        let number = encoding::bits(kind, n);
+        let number = pv_num::bits(kind, n);
         self.bytes.put_number(at.address, size as u64, number, mark);
     }
 
