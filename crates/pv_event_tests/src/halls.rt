@@ -1,9 +1,9 @@
 // Halls of watchers that say what they have seen, with which names.
 ghost use Rattle.std.specs.Prelude.{◌<◌};
 
-use pv_fault::{Clause, Fault, Reason};
+use pv_fault::{Clause, Fault, Reason, Verdict};
 use pv_script::Names;
-use pv_watch::{Attend, Event, Hall, NoMemory, Verdict, Watch, What};
+use pv_watch::{Attend, Event, Hall, NoMemory, Watch, What};
 use std::alloc::Global;
 
 /// A watcher of a kind that has a text of its own, with room for some events.

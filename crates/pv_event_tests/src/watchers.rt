@@ -1,7 +1,8 @@
 // What the watchers say of a list of events, as an implementation in another language says it.
 use pv_explain::{Census, Explain, Pointers};
+use pv_fault::Verdict;
 use pv_script::Names;
-use pv_watch::{Attend, Event, Verdict, Watch, What};
+use pv_watch::{Attend, Event, Watch, What};
 use std::alloc::Global;
 use std::process::Abort;
 

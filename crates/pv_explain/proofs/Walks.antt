@@ -4,7 +4,7 @@ use Rattle.std.proofs.lemmas.List.{drop_more, drop_all}
 use Rattle.std.specs.List.{filter}
 use Rattle.std.specs.Option.{option_or}
 use Rattle.pv_watch.specs.declared.event.Event.{Event}
-use Rattle.pv_watch.specs.declared.event.Verdict.{Verdict}
+use Rattle.pv_fault.specs.declared.verdict.Verdict.{Verdict}
 use Rattle.pv_watch.specs.declared.event.What.{What}
 use Rattle.pv_watch.specs.declared.event.What.TheVariants.{Made, Ended, Exposed, Pair, Tried, Fault}
 use Rattle.pv_watch.specs.Lines.{first_told, event_lines}

@@ -2,5 +2,7 @@
 #![tactic(auto)]
 
 mod faults;
+mod verdict;
 
 pub use faults::{Clause, Fault, Reason};
+pub use verdict::Verdict;

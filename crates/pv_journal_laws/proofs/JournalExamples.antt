@@ -6,7 +6,7 @@ use Rattle.pv_fault.specs.declared.faults.Clause.TheVariants.{Lifetimes}
 use Rattle.pv_fault.specs.declared.faults.Reason.TheVariants.{Ended as HasEnded}
 use Rattle.pv_watch.specs.declared.event.Event.{Event}
 use Rattle.pv_watch.specs.declared.event.What.TheVariants as what
-use Rattle.pv_watch.specs.declared.event.Verdict.TheVariants as verdict
+use Rattle.pv_fault.specs.declared.verdict.Verdict.TheVariants as verdict
 use Rattle.pv_journal.specs.Journals.{Id, Made, Ended, Exposed, Paired, Used, Fault, Row}
 use Rattle.pv_journal.specs.Obeying.{Obeys, at_first, after_all}
 use Rattle.pv_journal_laws.specs.Runs.{TellsAJournal}

@@ -15,7 +15,7 @@ use Rattle.pv_typed.specs.Tables.{Stored, whole}
 use Rattle.pv_watch.specs.declared.event.Event.{Event}
 use Rattle.pv_watch.specs.declared.event.What.{What}
 use Rattle.pv_watch.specs.declared.event.What.TheVariants as what
-use Rattle.pv_watch.specs.declared.event.Verdict.{Verdict}
+use Rattle.pv_fault.specs.declared.verdict.Verdict.{Verdict}
 use Rattle.pv_world.specs.declared.failing.Blame.{Blame}
 use Rattle.pv_world.specs.Worlds.{World}
 use Rattle.pv_world.specs.Telling.{Told, fault_of, verdict_of, blame_of}

@@ -10,7 +10,7 @@ use Rattle.pv_typed.specs.Known.{Each}
 use Rattle.pv_watch.specs.declared.event.Event.{Event}
 use Rattle.pv_watch.specs.declared.event.What.{What}
 use Rattle.pv_watch.specs.declared.event.What.TheVariants as what
-use Rattle.pv_watch.specs.declared.event.Verdict.{Verdict}
+use Rattle.pv_fault.specs.declared.verdict.Verdict.{Verdict}
 use Rattle.pv_world.specs.Telling.{fault_of}
 use Rattle.pv_world.specs.declared.failing.Blame.{Blame}
 use Rattle.pv_eval.specs.Acting.{stamped}

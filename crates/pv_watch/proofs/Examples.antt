@@ -4,7 +4,7 @@ use Rattle.std.proofs.Common.{refl}
 use Rattle.pv_watch.specs.declared.event.Event.{Event}
 use Rattle.pv_watch.specs.declared.event.What.{What}
 use Rattle.pv_watch.specs.declared.event.What.TheVariants.{Made, Ended, Exposed, Pair, Tried, Fault}
-use Rattle.pv_watch.specs.declared.event.Verdict.TheVariants.{Undecided}
+use Rattle.pv_fault.specs.declared.verdict.Verdict.TheVariants.{Undecided}
 use Rattle.std.specs.Fmt.{decimal}
 use Rattle.pv_print.specs.Texts.{address_text}
 use Rattle.pv_watch.specs.Lines.{line}

@@ -1,5 +1,5 @@
 //! What is told of a run.
-use pv_fault::Fault;
+use pv_fault::Verdict;
 
 /// An event, and how many turns were taken when it came.
 #[derive(Clone, Copy, Debug, PartialEq, Eq)]
@@ -52,15 +52,4 @@ pub enum What {
         high: Option<u64>,
         pair: Option<u64>,
     },
-}
-
-/// Which verdict a run ended with.
-#[derive(Clone, Copy, Debug, PartialEq, Eq)]
-pub enum Verdict {
-    /// Behaviour is undefined (C17 3.4.3).
-    Undefined(Fault),
-    /// An indeterminate value was used (C17 3.19.2).
-    Indeterminate,
-    /// Two candidates remain, and the operation differs between them.
-    Undecided,
 }

@@ -11,6 +11,6 @@ mod seats;
 mod watch;
 
 pub use error::NoMemory;
-pub use event::{Event, Verdict, What};
+pub use event::{Event, What};
 pub use hall::Hall;
 pub use watch::{Attend, Watch};

@@ -19,8 +19,8 @@ use Rattle.pv_object.specs.Memory.{Mem}
 use Rattle.pv_world.specs.declared.failing.Blame.{Blame}
 use Rattle.pv_watch.specs.declared.event.What.{What}
 use Rattle.pv_watch.specs.declared.event.What.TheVariants as what
-use Rattle.pv_watch.specs.declared.event.Verdict.{Verdict}
-use Rattle.pv_watch.specs.declared.event.Verdict.TheVariants as verdict
+use Rattle.pv_fault.specs.declared.verdict.Verdict.{Verdict}
+use Rattle.pv_fault.specs.declared.verdict.Verdict.TheVariants as verdict
 use Rattle.pv_world.specs.Worlds.{Wrong, Undefined, Undecided, Halts, Indeterminate}
 
 -- what an operation tells: its events (the memory model), and the bytes that it prints (7.21.6.3)

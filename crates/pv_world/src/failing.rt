@@ -7,9 +7,10 @@ ghost use Rattle.pv_world.specs.Coming.{Faulted, wrong_for};
 
 use crate::got::{Cause, Failure};
 use crate::telling::tell;
+use pv_fault::Verdict;
 use pv_object::{Memory, Stop};
 use pv_prov::{NoMemory, Prov};
-use pv_watch::{Verdict, What};
+use pv_watch::What;
 
 /// The candidates of a pointer that may stop an operation, as they stand before it, and its pair.
 #[derive(Clone, Copy)]
