@@ -10,6 +10,7 @@ use Rattle.pv_inst.specs.Table.{Table}
 use Rattle.pv_object.specs.declared.values.Value.{Value}
 use Rattle.pv_object.specs.declared.values.Stop.{Stop}
 use Rattle.pv_object.specs.declared.values.Stop.TheVariants as stop
+use Rattle.pv_fault.specs.declared.verdict.Verdict.TheVariants as verdict
 use Rattle.pv_object.specs.Memory.{Mem}
 use Rattle.pv_libc.specs.declared.values.Arg.{Arg}
 use Rattle.pv_libc.specs.declared.values.Note.{Note}
@@ -70,9 +71,9 @@ IsSpent r = r ≡ Err stop.NoMemory
 
 or_known : (r : Result Reply Stop) (S : Now) (d : Step Reply) → (IsSpent r → ⊥) → OrNoMemory r S d → (r ≡ d.answer) × (S ≡ d.after)
 or_known (Ok x) S d n h = h
-or_known (Err (stop.Undefined f)) S d n h = h
-or_known (Err stop.Indeterminate) S d n h = h
-or_known (Err stop.Undecided) S d n h = h
+or_known (Err (stop.Ends (verdict.Undefined f))) S d n h = h
+or_known (Err (stop.Ends verdict.Indeterminate)) S d n h = h
+or_known (Err (stop.Ends verdict.Undecided)) S d n h = h
 or_known (Err stop.NoMemory) S d n h = absurd (n refl)
 
 pub none_live : (M : Mem) → AreLive M []

@@ -24,7 +24,7 @@ use Rattle.pv_inst.specs.Answers.{IsLive}
 use Rattle.pv_inst.specs.Placing.{Request, place}
 use Rattle.pv_object.specs.declared.values.Pointer.{Pointer}
 use Rattle.pv_object.specs.declared.values.Stop.{Stop}
-use Rattle.pv_object.specs.declared.values.Stop.TheVariants.{Undefined, Indeterminate, Undecided, NoMemory}
+use Rattle.pv_object.specs.declared.values.Stop.TheVariants.{Ends, NoMemory}
 use Rattle.pv_object.specs.Memory.{Mem}
 use Rattle.pv_object.specs.Access.{chosen, is_null}
 use Rattle.pv_object.specs.Creating.{created, made}
@@ -242,9 +242,7 @@ behind_by M before notes all S is e l b =
 behind_live : (r : Result Reply Stop) (M : Mem) (before notes all : List Note) (d : Did Reply) → all ≡ before ++ notes → OrNoMemory r (with_notes M notes) d → AreLive d.after.memory d.after.notes → UnlessNoMemory r (AreLive M before → AreLive M all)
 behind_live (Ok a) M before notes all d is h l = behind_by M before notes all d.after is h.1 l
 behind_live (Err NoMemory) M before notes all d is h l = tt
-behind_live (Err (Undefined f)) M before notes all d is h l = behind_by M before notes all d.after is h.1 l
-behind_live (Err Indeterminate) M before notes all d is h l = behind_by M before notes all d.after is h.1 l
-behind_live (Err Undecided) M before notes all d is h l = behind_by M before notes all d.after is h.1 l
+behind_live (Err (Ends v)) M before notes all d is h l = behind_by M before notes all d.after is h.1 l
 
 pub noted_live : (r : Result Reply Stop) (M N : Mem) (f : Library) (a : List Arg) (none before notes all : List Note) → none ≡ [] → all ≡ before ++ notes → OrNoMemory r (with_notes N notes) (called_in f a (with_notes M none))
     → UnlessNoMemory r (AreLive N before → AreLive N all)

@@ -2,7 +2,7 @@
 use Rattle.std.proofs.Common.{◌≡◌, ℕ, Bool, false, cond, List, ◌++◌, Result, Ok, Err, refl, sym, ap, subst}
 use Rattle.pv_fault.specs.declared.faults.Clause.TheVariants.{Reallocating}
 use Rattle.pv_object.specs.declared.values.Stop.{Stop}
-use Rattle.pv_object.specs.declared.values.Stop.TheVariants.{Undefined, Indeterminate, Undecided, NoMemory}
+use Rattle.pv_object.specs.declared.values.Stop.TheVariants.{Ends, NoMemory}
 use Rattle.pv_object.specs.Memory.{Mem}
 use Rattle.pv_object.specs.Access.{is_null}
 use Rattle.pv_libc.specs.declared.values.Note.{Note}
@@ -16,9 +16,7 @@ use Rattle.pv_libc.specs.Answers.{OrNoMemory, behind}
 pub or_is : {A : Type 0} (r : Result A Stop) (S : Now) (d : Did A) → r ≡ d.answer → S ≡ d.after → OrNoMemory r S d
 or_is (Ok a) S d e m = (e, m)
 or_is (Err NoMemory) S d e m = tt
-or_is (Err (Undefined f)) S d e m = (e, m)
-or_is (Err Indeterminate) S d e m = (e, m)
-or_is (Err Undecided) S d e m = (e, m)
+or_is (Err (Ends v)) S d e m = (e, m)
 
 -- a step that answers goes on
 pub next_is : {A B : Type 0} (d : Did A) (a : A) (S : Now) (rest : A → Now → Did B) → Ok a ≡ d.answer → S ≡ d.after → next d rest ≡ rest a S
@@ -39,17 +37,13 @@ stopped_by {A} {B} stop S d rest e m =
 -- one that stops ends all
 pub or_stop : {A B : Type 0} (stop : Stop) (S : Now) (d : Did A) (rest : A → Now → Did B) → OrNoMemory {A = A} (Err stop) S d → OrNoMemory {A = B} (Err stop) S (next d rest)
 or_stop NoMemory S d rest h = tt
-or_stop (Undefined f) S d rest h = stopped_by (Undefined f) S d rest h.0 h.1
-or_stop Indeterminate S d rest h = stopped_by Indeterminate S d rest h.0 h.1
-or_stop Undecided S d rest h = stopped_by Undecided S d rest h.0 h.1
+or_stop (Ends v) S d rest h = stopped_by (Ends v) S d rest h.0 h.1
 
 -- the same with notes before
 pub or_behind : {A : Type 0} (r : Result A Stop) (M : Mem) (before notes : List Note) (d : Did A) → OrNoMemory r (with_notes M notes) d → OrNoMemory r (with_notes M (before ++ notes)) (behind before d)
 or_behind (Ok a) M before notes d h = (h.0, ap (λ (S : Now). record S { notes = before ++ S.notes }) h.1)
 or_behind (Err NoMemory) M before notes d h = tt
-or_behind (Err (Undefined f)) M before notes d h = (h.0, ap (λ (S : Now). record S { notes = before ++ S.notes }) h.1)
-or_behind (Err Indeterminate) M before notes d h = (h.0, ap (λ (S : Now). record S { notes = before ++ S.notes }) h.1)
-or_behind (Err Undecided) M before notes d h = (h.0, ap (λ (S : Now). record S { notes = before ++ S.notes }) h.1)
+or_behind (Err (Ends v)) M before notes d h = (h.0, ap (λ (S : Now). record S { notes = before ++ S.notes }) h.1)
 
 -- behind the block that is given up
 pub realloc_next : (r : Result Reply Stop) (T S U : Now) (g : Given) (size i : ℕ) → is_null g.pointer ≡ false → OrNoMemory (Ok i) U (block Reallocating g S) → OrNoMemory r T (resized size i U) → OrNoMemory r T (realloc g size S)

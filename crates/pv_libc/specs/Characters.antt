@@ -7,7 +7,8 @@ use Rattle.pv_object.specs.declared.values.Scalar.TheVariants as scalar
 use Rattle.pv_object.specs.declared.values.Value.{Value}
 use Rattle.pv_object.specs.declared.values.Value.TheVariants as value
 use Rattle.pv_object.specs.declared.values.Stop.{Stop}
-use Rattle.pv_object.specs.declared.values.Stop.TheVariants.{Indeterminate}
+use Rattle.pv_object.specs.declared.values.Stop.TheVariants.{Ends}
+use Rattle.pv_fault.specs.declared.verdict.Verdict.TheVariants.{Indeterminate}
 use Rattle.pv_object.specs.declared.values.Asker.{Asker}
 use Rattle.pv_object.specs.Access.{fault, clause_of}
 use Rattle.pv_object.specs.Loading.{Loaded, load}
@@ -17,8 +18,8 @@ use Rattle.pv_libc.specs.Steps.{Now, Did, done, halted, next, noted, told, in_ta
 -- 7.24.1p3: a character is read as an `unsigned char`, and here it needs a value
 abbrev pub character_of : Result (Value × Tried) Stop → Result ℕ Stop
 character_of (Ok ((value.Int n), tried)) = Ok (unsigned_abs n)
-character_of (Ok (value.Unset, tried)) = Err Indeterminate
-character_of (Ok ((value.Pointer p), tried)) = Err Indeterminate
+character_of (Ok (value.Unset, tried)) = Err (Ends Indeterminate)
+character_of (Ok ((value.Pointer p), tried)) = Err (Ends Indeterminate)
 character_of (Err stop) = Err stop
 
 -- 7.24.1p3: a character that was loaded; what becomes exposed by it is noted at once (the memory model: exposure)

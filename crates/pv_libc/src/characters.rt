@@ -9,7 +9,7 @@ ghost use Rattle.pv_libc.specs.Characters.{character_in, character_at, most, str
 
 use crate::notes::{note_exposed, reached};
 use crate::values::{Given, Note};
-use pv_fault::Reason;
+use pv_fault::{Reason, Verdict};
 use pv_num::IntKind;
 use pv_object::{Asker, Memory, Pointer, Reach, Scalar, Stop, Value, clause_of, undefined};
 use std::alloc::Global;
@@ -41,7 +41,7 @@ pub(crate) fn character_in(
     match loaded {
         Ok((Value::Int(n), _)) => Ok(n as u8),
         Ok((Value::Unset | Value::Pointer(_), _)) => match notes.push(given.stopped) {
-            Ok(()) => Err(Stop::Indeterminate),
+            Ok(()) => Err(Stop::Ends(Verdict::Indeterminate)),
             Err(_) => Err(Stop::NoMemory),
         },
         Err(stop) => match notes.push(given.stopped) {

@@ -1,6 +1,6 @@
 // Operations on the pointers of a memory.
 use crate::memory::{FIRST, SECOND, known, touching};
-use pv_fault::Reason;
+use pv_fault::{Reason, Verdict};
 use pv_inst::Miss;
 use pv_num::IntKind;
 use pv_object::{Memory, Pointer, Stop};
@@ -35,7 +35,7 @@ fn look_at_one(rt: &impl Abort, memory: &mut Memory) {
 fn look_for_a_function(rt: &impl Abort, memory: &mut Memory) {
     known(rt, memory, FIRST);
     let answer = memory.code(FIRST);
-    assert!(rt; matches!(answer, Err(Stop::Undefined(fault)) if fault.reason == Reason::Outside));
+    assert!(rt; matches!(answer, Err(Stop::Ends(Verdict::Undefined(fault))) if fault.reason == Reason::Outside));
 }
 
 /// Two pointers are compared.

@@ -16,7 +16,8 @@ use Rattle.pv_object.specs.declared.values.Scalar.{Scalar}
 use Rattle.pv_object.specs.declared.values.Scalar.TheVariants as scalar
 use Rattle.pv_object.specs.declared.values.Value.{Value}
 use Rattle.pv_object.specs.declared.values.Value.TheVariants as value
-use Rattle.pv_object.specs.declared.values.Stop.TheVariants.{Indeterminate}
+use Rattle.pv_object.specs.declared.values.Stop.TheVariants.{Ends}
+use Rattle.pv_fault.specs.declared.verdict.Verdict.TheVariants.{Indeterminate}
 use Rattle.pv_object.specs.Encoding.{encode}
 use Rattle.pv_object.specs.Access.{fault}
 use Rattle.pv_object.specs.Loading.{exposed_by, pointer_named, pointer_of, is_trap, integer_of, value_of}
@@ -54,7 +55,7 @@ module _ (m m' : Known) where
   exposed-same T (x ∷ xs) [] h = absurd h
 
   integer-same : (T : Table) (k : IntKind) (xs xs' : List Byte) (o : Option ℕ) → AlikeBytes m m' xs xs' → integer_of T k xs' o ≡ integer_of T k xs o
-  integer-same T k xs xs' None h = λ i. if is_character k then (Ok (value.Unset, untried), exposed-same T xs xs' h i) else (Err Indeterminate, T)
+  integer-same T k xs xs' None h = λ i. if is_character k then (Ok (value.Unset, untried), exposed-same T xs xs' h i) else (Err (Ends Indeterminate), T)
   integer-same T k xs xs' (Some n) h = λ i.
       if is_trap k n then (Err (fault clause.Traps reason.Trap), T) else (Ok (value.Int (convert_of k (pos n)), untried), exposed-same T xs xs' h i)
 

@@ -10,6 +10,7 @@ use Rattle.pv_object.specs.declared.values.Scalar.TheVariants as scalar
 use Rattle.pv_object.specs.declared.values.Reach.{Reach}
 use Rattle.pv_object.specs.declared.values.Stop.{Stop}
 use Rattle.pv_object.specs.declared.values.Stop.TheVariants as stop
+use Rattle.pv_fault.specs.declared.verdict.Verdict.TheVariants as verdict
 use Rattle.pv_object.specs.declared.values.Asker.TheVariants.{Access}
 use Rattle.pv_num.specs.Kinds.{is_character_kind as is_character}
 use Rattle.pv_object.specs.Encoding.{encode}
@@ -48,9 +49,9 @@ module _ (m m' : Known) where
 
   -- 6.2.6.1p5: what bytes are worth
   blame-same : (s : Shape) (p : Option Prov) (y : Stop) (xs xs' : List Byte) → AlikeBytes m m' xs xs' → load_blame xs' s p y ≡ load_blame xs s p y
-  blame-same shape.Pointer p (stop.Undefined f) xs xs' h = whole_name-same m m' xs xs' h
-  blame-same shape.Pointer p stop.Indeterminate xs xs' h = refl
-  blame-same shape.Pointer p stop.Undecided xs xs' h = refl
+  blame-same shape.Pointer p (stop.Ends (verdict.Undefined f)) xs xs' h = whole_name-same m m' xs xs' h
+  blame-same shape.Pointer p (stop.Ends verdict.Indeterminate) xs xs' h = refl
+  blame-same shape.Pointer p (stop.Ends verdict.Undecided) xs xs' h = refl
   blame-same shape.Pointer p stop.NoMemory xs xs' h = refl
   blame-same (shape.Int k) p y xs xs' h = refl
   blame-same shape.Whole p y xs xs' h = refl

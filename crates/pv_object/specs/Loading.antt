@@ -21,7 +21,8 @@ use Rattle.pv_object.specs.declared.values.Scalar.TheVariants as scalar
 use Rattle.pv_object.specs.declared.values.Value.{Value}
 use Rattle.pv_object.specs.declared.values.Value.TheVariants as value
 use Rattle.pv_object.specs.declared.values.Stop.{Stop}
-use Rattle.pv_object.specs.declared.values.Stop.TheVariants.{Indeterminate}
+use Rattle.pv_object.specs.declared.values.Stop.TheVariants.{Ends}
+use Rattle.pv_fault.specs.declared.verdict.Verdict.TheVariants.{Indeterminate}
 use Rattle.pv_object.specs.Encoding.{size_of}
 use Rattle.pv_object.specs.Access.{fault}
 use Rattle.pv_object.specs.Memory.{Mem}
@@ -45,7 +46,7 @@ pointer_named T None a = tested (after_name T a) (record { address = a; prov = n
 
 -- 6.2.6.1p5, 3.19.2: what bytes are worth at a pointer type; indeterminate where one has no value
 abbrev pub pointer_of : Table → List Byte → Option ℕ → Loaded
-pointer_of T bytes None = (Err Indeterminate, T)
+pointer_of T bytes None = (Err (Ends Indeterminate), T)
 pointer_of T bytes (Some a) = pointer_named T (whole_name bytes) a
 
 -- the memory model, exposure: the names of the bytes are exposed one by one, from the first byte on
@@ -60,7 +61,7 @@ is_trap _ n = false
 -- 3.19.2, 6.2.6.1p5: a byte without a value is unset as a character, and indeterminate as any other integer. Its names are exposed
 -- (the memory model) behind the checks
 abbrev pub integer_of : Table → IntKind → List Byte → Option ℕ → Loaded
-integer_of T k bytes None = if is_character_kind k then (Ok (value.Unset, untried), exposed_by T bytes) else (Err Indeterminate, T)
+integer_of T k bytes None = if is_character_kind k then (Ok (value.Unset, untried), exposed_by T bytes) else (Err (Ends Indeterminate), T)
 integer_of T k bytes (Some n) =
     if is_trap k n then (Err (fault clause.Traps reason.Trap), T)
     else (Ok (value.Int (convert_of k (pos n)), untried), exposed_by T bytes)

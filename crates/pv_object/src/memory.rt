@@ -30,7 +30,7 @@ ghost use Rattle.pv_object.specs.declared.values.Value.{Value as Stored};
 use crate::checks::{Wish, checked_in, chosen, clause_of, range_stop, undefined};
 use crate::encoding;
 use crate::values::{Asker, Pointer, Reach, Scalar, Stop, Value};
-use pv_fault::{Clause, Reason};
+use pv_fault::{Clause, Reason, Verdict};
 use pv_inst::{CreateError, Instances, Kind, Miss, Test, Tried};
 use pv_num::{IntKind, convert, is_character_kind};
 use pv_prov::{NoMemory, Prov};
@@ -393,7 +393,7 @@ impl Memory {
     {
         let Some(number) = pv_shadow::number(bytes) else {
             if !is_character_kind(kind) {
-                return Err(Stop::Indeterminate);
+                return Err(Stop::Ends(Verdict::Indeterminate));
             }
             self.expose_all(bytes);
             return Ok((Value::Unset, UNTRIED));
@@ -428,7 +428,7 @@ impl Memory {
         ensures made { IfOk result (λ r. IsMadeValue self.new.table r.0) }
     {
         let Some(address) = pv_shadow::number(bytes) else {
-            return Err(Stop::Indeterminate);
+            return Err(Stop::Ends(Verdict::Indeterminate));
         };
         match whole_name(bytes) {
             Some(prov) => self.tested(Pointer { address, prov }),

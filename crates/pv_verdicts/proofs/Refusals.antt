@@ -17,6 +17,7 @@ use Rattle.pv_inst.specs.PlacingParts.{rounded, first_overlap}
 use Rattle.pv_object.specs.declared.values.Asker.TheVariants.{Text}
 use Rattle.pv_object.specs.declared.values.Stop.{Stop}
 use Rattle.pv_object.specs.declared.values.Stop.TheVariants as stop
+use Rattle.pv_fault.specs.declared.verdict.Verdict.TheVariants as verdict
 use Rattle.pv_object.specs.Memory.{Mem}
 use Rattle.pv_object.specs.Access.{is_null}
 use Rattle.pv_object.specs.Creating.{created, made}
@@ -67,9 +68,9 @@ FineIf None = Unit {0}
 FineIf (Some y) = FineWrong y
 
 pub stop-fine : (y : Stop) → FineWrong (wrong_of y)
-stop-fine (stop.Undefined f) = tt
-stop-fine stop.Indeterminate = tt
-stop-fine stop.Undecided = tt
+stop-fine (stop.Ends (verdict.Undefined f)) = tt
+stop-fine (stop.Ends verdict.Indeterminate) = tt
+stop-fine (stop.Ends verdict.Undecided) = tt
 stop-fine stop.NoMemory = tt
 
 pub plain-fine : (v : Worth) → FineIf (unplain v)

@@ -13,6 +13,7 @@ use Rattle.pv_object.specs.declared.values.Pointer.{Pointer}
 use Rattle.pv_object.specs.declared.values.Value.{Value}
 use Rattle.pv_object.specs.declared.values.Stop.{Stop}
 use Rattle.pv_object.specs.declared.values.Stop.TheVariants as stop
+use Rattle.pv_fault.specs.declared.verdict.Verdict.TheVariants as verdict
 use Rattle.pv_object.specs.Memory.{Mem, with_table as with_instances}
 use Rattle.pv_object.specs.Loading.{Loaded, tested}
 use Rattle.pv_object.specs.Loads.{OrNoPair, whole_pointer}
@@ -51,9 +52,9 @@ pub load_err : (P : Type 0) (f : Failure) (y : Stop) (w v : World) (s : Shape) (
     → OrNoPair P (Err y) w.memory.table U L → v ≡ with_table w U → (y ≡ stop.NoMemory → f ≡ failure.NoMemory) → Faulted f (wrong_of y) fs (es ++ fault_of (stop_blame s y o q) (verdict_of (wrong_of y)))
     → Came worth_of (Err f) v fs (loaded_seen es w s o q L)
 load_err P f stop.NoMemory w v s o q U es fs L h vs n F = rw (n refl) tt
-load_err P f (stop.Undefined g) w v s o q U es fs L h vs n F = fails_as f (stop.Undefined g) w v s o q U es fs L h vs F
-load_err P f stop.Indeterminate w v s o q U es fs L h vs n F = fails_as f stop.Indeterminate w v s o q U es fs L h vs F
-load_err P f stop.Undecided w v s o q U es fs L h vs n F = fails_as f stop.Undecided w v s o q U es fs L h vs F
+load_err P f (stop.Ends (verdict.Undefined g)) w v s o q U es fs L h vs n F = fails_as f (stop.Ends (verdict.Undefined g)) w v s o q U es fs L h vs F
+load_err P f (stop.Ends verdict.Indeterminate) w v s o q U es fs L h vs n F = fails_as f (stop.Ends verdict.Indeterminate) w v s o q U es fs L h vs F
+load_err P f (stop.Ends verdict.Undecided) w v s o q U es fs L h vs n F = fails_as f (stop.Ends verdict.Undecided) w v s o q U es fs L h vs F
 
 -- the same of a pointer that was stored whole, of which no pair is made
 pub whole_ok : (w v : World) (o q : Option Blame) (x : Value × Tried) (p : Pointer) (m : Mem) (es fs : List What)
@@ -78,9 +79,9 @@ four es us ps xs ys =
 scalar_same : (es us : List What) (w0 w : World) (bytes : List Byte) (s : Shape) (p : Option Prov) (L : Loaded)
     → seen es w0 (scalar_by w bytes s p (telling us) L) ≡ loaded_seen (es ++ us) w s (option_map (blame_of w0.memory) p) (option_map (blame_of w0.memory) (whole_name bytes)) L
 scalar_same es us w0 w bytes s p (Ok r, T) = ap (Gave (Scalar r.0) (with_table w (all_told T))) (four es us (pairings w.memory.table T) (used live_test r.1) (exposures T))
-scalar_same es us w0 w bytes shape.Pointer p (Err (stop.Undefined f), T) = refl
-scalar_same es us w0 w bytes shape.Pointer p (Err stop.Indeterminate, T) = refl
-scalar_same es us w0 w bytes shape.Pointer p (Err stop.Undecided, T) = refl
+scalar_same es us w0 w bytes shape.Pointer p (Err (stop.Ends (verdict.Undefined f)), T) = refl
+scalar_same es us w0 w bytes shape.Pointer p (Err (stop.Ends verdict.Indeterminate), T) = refl
+scalar_same es us w0 w bytes shape.Pointer p (Err (stop.Ends verdict.Undecided), T) = refl
 scalar_same es us w0 w bytes shape.Pointer p (Err stop.NoMemory, T) = refl
 scalar_same es us w0 w bytes (shape.Int k) p (Err y, T) = refl
 scalar_same es us w0 w bytes shape.Whole p (Err y, T) = refl

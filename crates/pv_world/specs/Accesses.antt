@@ -10,7 +10,8 @@ use Rattle.pv_object.specs.declared.values.Pointer.{Pointer}
 use Rattle.pv_object.specs.declared.values.Scalar.TheVariants as scalar
 use Rattle.pv_object.specs.declared.values.Reach.{Reach}
 use Rattle.pv_object.specs.declared.values.Stop.{Stop}
-use Rattle.pv_object.specs.declared.values.Stop.TheVariants.{Undefined as UndefinedStop}
+use Rattle.pv_object.specs.declared.values.Stop.TheVariants.{Ends}
+use Rattle.pv_fault.specs.declared.verdict.Verdict.TheVariants.{Undefined}
 use Rattle.pv_object.specs.declared.values.Asker.TheVariants.{Access}
 use Rattle.pv_num.specs.Kinds.{is_character_kind}
 use Rattle.pv_object.specs.Encoding.{encode}
@@ -44,7 +45,7 @@ scalar_as T bytes _ = load_of T bytes scalar.Pointer
 -- A load of a pointer that stops by the live test (6.2.4p2) blames the loaded pointer, which was stored whole: what a number
 -- finds is live. All else blames the accessed pointer, if bytes were accessed. (The memory model: provenance.)
 abbrev pub load_blame : List Byte → Shape → Option Prov → Stop → Option Prov
-load_blame bytes shape.Pointer p (UndefinedStop f) = whole_name bytes
+load_blame bytes shape.Pointer p (Ends (Undefined f)) = whole_name bytes
 load_blame bytes _ p y = p
 
 -- 6.2.6.1p5: what bytes are worth at a scalar type, after what was told before

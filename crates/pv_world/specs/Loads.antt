@@ -6,7 +6,8 @@ use Rattle.pv_inst.specs.Use.{settled}
 use Rattle.pv_shadow.specs.declared.byte.Byte.{Byte}
 use Rattle.pv_object.specs.declared.values.Pointer.{Pointer}
 use Rattle.pv_object.specs.declared.values.Stop.{Stop}
-use Rattle.pv_object.specs.declared.values.Stop.TheVariants.{Undefined as UndefinedStop, Indeterminate as IndeterminateStop, Undecided as UndecidedStop, NoMemory as NoMemoryStop}
+use Rattle.pv_object.specs.declared.values.Stop.TheVariants as stop
+use Rattle.pv_fault.specs.declared.verdict.Verdict.TheVariants as verdict
 use Rattle.pv_object.specs.Loading.{Loaded}
 use Rattle.pv_watch.specs.declared.event.What.{What}
 use Rattle.pv_world.specs.declared.failing.Blame.{Blame}
@@ -22,10 +23,10 @@ use Rattle.pv_world.specs.Coming.{Came, Seen, Gave, Ended, seen, worth_of}
 
 -- whom a load's stop blames: the accessed pointer, or the loaded one
 abbrev pub stop_blame : Shape → Stop → (accessed loaded : Option Blame) → Option Blame
-stop_blame shape.Pointer (UndefinedStop f) o q = q
-stop_blame shape.Pointer IndeterminateStop o q = o
-stop_blame shape.Pointer UndecidedStop o q = o
-stop_blame shape.Pointer NoMemoryStop o q = o
+stop_blame shape.Pointer (stop.Ends (verdict.Undefined f)) o q = q
+stop_blame shape.Pointer (stop.Ends verdict.Indeterminate) o q = o
+stop_blame shape.Pointer (stop.Ends verdict.Undecided) o q = o
+stop_blame shape.Pointer stop.NoMemory o q = o
 stop_blame (shape.Int k) y o q = o
 stop_blame shape.Whole y o q = o
 

@@ -58,9 +58,9 @@ pub fn stopped(told: &mut Vec<What>, stop: Stop, blame: Option<Blame>) -> Failur
     ensures fault { Faulted result (wrong_of stop) told.new.items (told.old.items ++ fault_of blame (verdict_of (wrong_of stop))) }
 {
     match stop {
-        Stop::Undefined(fault) => fail(told, Cause::Undefined(fault), blame),
-        Stop::Indeterminate => fail(told, Cause::Indeterminate, blame),
-        Stop::Undecided => fail(told, Cause::Undecided, blame),
+        Stop::Ends(Verdict::Undefined(fault)) => fail(told, Cause::Undefined(fault), blame),
+        Stop::Ends(Verdict::Indeterminate) => fail(told, Cause::Indeterminate, blame),
+        Stop::Ends(Verdict::Undecided) => fail(told, Cause::Undecided, blame),
         Stop::NoMemory => Failure::NoMemory,
     }
 }

@@ -22,6 +22,7 @@ use crate::got::{Failure, Got, Shape};
 use crate::operands::LIVE_TEST;
 use crate::telling::{tell_pairs, tell_used};
 use crate::world::World;
+use pv_fault::Verdict;
 use pv_inst::Tried;
 use pv_object::{Memory, Pointer, Scalar, Stop};
 use pv_prov::{NoMemory, Prov, same_name};
@@ -75,8 +76,10 @@ fn stop_blame(
 {
     match shape {
         Shape::Pointer => match stop {
-            Stop::Undefined(_) => loaded,
-            Stop::Indeterminate | Stop::Undecided | Stop::NoMemory => accessed,
+            Stop::Ends(Verdict::Undefined(_)) => loaded,
+            Stop::Ends(Verdict::Indeterminate)
+            | Stop::Ends(Verdict::Undecided)
+            | Stop::NoMemory => accessed,
         },
         Shape::Int(_) | Shape::Whole => accessed,
     }

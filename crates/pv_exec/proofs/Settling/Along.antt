@@ -12,6 +12,7 @@ use Rattle.pv_inst.specs.Table.{Table}
 use Rattle.pv_inst.specs.Use.{use_answer, settled}
 use Rattle.pv_object.specs.declared.values.Stop.{Stop}
 use Rattle.pv_object.specs.declared.values.Stop.TheVariants as stop
+use Rattle.pv_fault.specs.declared.verdict.Verdict.TheVariants as verdict
 use Rattle.pv_object.specs.Access.{range_stop}
 use Rattle.pv_exec.specs.Staying.{SettlesFrom, Settles, AllSettle}
 use Rattle.pv_exec.proofs.Settling.Sides.{on_table, holds, Allows, Covers, Nearly, nearly}
@@ -19,9 +20,9 @@ use Rattle.pv_exec.proofs.Settling.Uses.{Agree, use-agrees, settled-covers}
 
 -- undefined behaviour (3.4.3)
 abbrev pub IsFault : Stop → Type 0
-IsFault (stop.Undefined f) = Unit {0}
-IsFault stop.Indeterminate = ⊥
-IsFault stop.Undecided = ⊥
+IsFault (stop.Ends (verdict.Undefined f)) = Unit {0}
+IsFault (stop.Ends verdict.Indeterminate) = ⊥
+IsFault (stop.Ends verdict.Undecided) = ⊥
 IsFault stop.NoMemory = ⊥
 
 abbrev pub IsErrFault : {A : Type 0} → Result A Stop → Type 0
@@ -30,10 +31,10 @@ IsErrFault (Err y) = IsFault y
 
 -- the late run stops so, and leaves this
 abbrev pub Ends : {A : Type 0} → List Bool → Stop → Table → Result A Stop → Type 0
-Ends ds (stop.Undefined f) U r = IsErrFault r
-Ends ds stop.Undecided U r = Unit {0}
+Ends ds (stop.Ends (verdict.Undefined f)) U r = IsErrFault r
+Ends ds (stop.Ends verdict.Undecided) U r = Unit {0}
 Ends ds stop.NoMemory U r = Unit {0}
-Ends ds stop.Indeterminate U r = ((r ≡ Err stop.Indeterminate) × Allows ds U.pairs) ⊎ (IsErrFault r × (Allows ds U.pairs → ⊥))
+Ends ds (stop.Ends verdict.Indeterminate) U r = ((r ≡ Err (stop.Ends verdict.Indeterminate)) × Allows ds U.pairs) ⊎ (IsErrFault r × (Allows ds U.pairs → ⊥))
 
 -- the two answers, with a relation on values, and the tables that are left
 abbrev pub Along : {A : Type 0} → List Bool → (A → A → Type 0) → Result A Stop × Table → Result A Stop × Table → Type 0
@@ -44,26 +45,26 @@ Along ds V ((Err y), U) (r', U') = Ends ds y U r'
 -- the late run goes on where the settled one has stopped
 pub lost : {A : Type 0} (ds : List Bool) (V : A → A → Type 0) (r : Result A Stop) (U : Table) (y' : Stop) (U' : Table) → IsFault y' → (Allows ds U.pairs → ⊥) → Along ds V (r, U) (Err y', U')
 lost ds V (Ok a) U y' U' f n = (f, n)
-lost ds V (Err (stop.Undefined g)) U y' U' f n = f
-lost ds V (Err stop.Undecided) U y' U' f n = tt
+lost ds V (Err (stop.Ends (verdict.Undefined g))) U y' U' f n = f
+lost ds V (Err (stop.Ends verdict.Undecided)) U y' U' f n = tt
 lost ds V (Err stop.NoMemory) U y' U' f n = tt
-lost ds V (Err stop.Indeterminate) U y' U' f n = inr (f, n)
+lost ds V (Err (stop.Ends verdict.Indeterminate)) U y' U' f n = inr (f, n)
 
 -- two answers that differ in their values at most, or are both undefined
 abbrev pub Similar : {A : Type 0} → (A → A → Type 0) → Result A Stop → Result A Stop → Type 0
 Similar V (Ok a) (Ok a') = V a a'
 Similar V (Ok a) (Err y') = ⊥
-Similar V (Err (stop.Undefined f)) r' = IsErrFault r'
-Similar V (Err stop.Indeterminate) r' = r' ≡ Err stop.Indeterminate
-Similar V (Err stop.Undecided) r' = Unit {0}
+Similar V (Err (stop.Ends (verdict.Undefined f))) r' = IsErrFault r'
+Similar V (Err (stop.Ends verdict.Indeterminate)) r' = r' ≡ Err (stop.Ends verdict.Indeterminate)
+Similar V (Err (stop.Ends verdict.Undecided)) r' = Unit {0}
 Similar V (Err stop.NoMemory) r' = Unit {0}
 
 pub along : {A : Type 0} (ds : List Bool) (V : A → A → Type 0) (r r' : Result A Stop) (U U' : Table) → Similar V r r' → Allows ds U.pairs → Nearly ds U.pairs → U' ≡ on_table ds U → Along ds V (r, U) (r', U')
 along ds V (Ok a) (Ok a') U U' h al n e = (h, al, e, n)
 along ds V (Ok a) (Err y') U U' h al n e = absurd h
-along ds V (Err (stop.Undefined f)) r' U U' h al n e = h
-along ds V (Err stop.Indeterminate) r' U U' h al n e = inl (h, al)
-along ds V (Err stop.Undecided) r' U U' h al n e = tt
+along ds V (Err (stop.Ends (verdict.Undefined f))) r' U U' h al n e = h
+along ds V (Err (stop.Ends verdict.Indeterminate)) r' U U' h al n e = inl (h, al)
+along ds V (Err (stop.Ends verdict.Undecided)) r' U U' h al n e = tt
 along ds V (Err stop.NoMemory) r' U U' h al n e = tt
 
 pub either-along : {A : Type 0} (ds : List Bool) (V : A → A → Type 0) (b : Bool) (x x' y y' : Result A Stop × Table) → Along ds V x x' → Along ds V y y' → Along ds V (cond b x y) (cond b x' y')
@@ -93,9 +94,9 @@ by-answers {A = A} ds V f T T' p (Err m) (Err m') c s g h e = go (f (Err m)) (g 
   where
     go : (x : Result A Stop) → IsErrFault x → Along ds V (x, settled T p (Err m)) (f (Err m'), settled T' p (Err m'))
     go (Ok a) k = absurd k
-    go (Err (stop.Undefined fault)) k = g m'
-    go (Err stop.Indeterminate) k = absurd k
-    go (Err stop.Undecided) k = absurd k
+    go (Err (stop.Ends (verdict.Undefined fault))) k = g m'
+    go (Err (stop.Ends verdict.Indeterminate)) k = absurd k
+    go (Err (stop.Ends verdict.Undecided)) k = absurd k
     go (Err stop.NoMemory) k = absurd k
 
 pub by-use : {A : Type 0} (ds : List Bool) (V : A → A → Type 0) (f : Result Tried Miss → Result A Stop) (T : Table) (p : Prov) (t : Test) → Allows ds T.pairs → Covers ds T.pairs

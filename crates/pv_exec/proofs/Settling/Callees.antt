@@ -10,6 +10,7 @@ use Rattle.pv_inst.specs.Use.{use_answer, settled}
 use Rattle.pv_object.specs.declared.values.Pointer.{Pointer}
 use Rattle.pv_object.specs.declared.values.Stop.{Stop}
 use Rattle.pv_object.specs.declared.values.Stop.TheVariants as stop
+use Rattle.pv_fault.specs.declared.verdict.Verdict.TheVariants as verdict
 use Rattle.pv_object.specs.Access.{chosen, is_null, range_stop}
 use Rattle.pv_object.specs.Operations.{code_in, code_by, code}
 use Rattle.pv_object.specs.OperationParts.{code_at}
@@ -48,9 +49,9 @@ module _ (F : Type 0) (full : F) (ds : List Bool) where
   code-by T p so c (Err m) (Err m') e f h = go (range_stop clause.Indirection m) (range-fault clause.Indirection m)
     where
       go : (y : Stop) → IsFault y → Along {A = ℕ × Tried} ds SameFirst (Err y, settled T p.prov (Err m)) (Err (range_stop clause.Indirection m'), settled (on_table ds T) p.prov (Err m'))
-      go (stop.Undefined x) k = range-fault clause.Indirection m'
-      go stop.Indeterminate k = absurd k
-      go stop.Undecided k = tt
+      go (stop.Ends (verdict.Undefined x)) k = range-fault clause.Indirection m'
+      go (stop.Ends verdict.Indeterminate) k = absurd k
+      go (stop.Ends verdict.Undecided) k = tt
       go stop.NoMemory k = tt
 
   pub code-along : (T : Table) (p : Pointer) → Sound F T.instances T.pairs → Allows ds T.pairs → Covers ds T.pairs → Along ds SameFirst (code T p) (code (on_table ds T) p)

@@ -5,6 +5,7 @@ use Rattle.pv_prov.specs.declared.names.Prov.{Prov}
 use Rattle.pv_inst.specs.Table.{Table}
 use Rattle.pv_object.specs.declared.values.Stop.{Stop}
 use Rattle.pv_object.specs.declared.values.Stop.TheVariants as stop
+use Rattle.pv_fault.specs.declared.verdict.Verdict.TheVariants as verdict
 use Rattle.pv_world.specs.declared.failing.Blame.{Blame}
 use Rattle.pv_world.specs.Worlds.{Worth, World, Wrong, Undefined, Undecided, Halts, Halt}
 use Rattle.pv_world.specs.Telling.{Told, quiet}
@@ -50,9 +51,9 @@ Tracks ds (Fails y p w t) d' = Halted ds y (pairs_of w) t.bytes d'
 Tracks ds (Breaks y b w t) d' = Halted ds y (pairs_of w) t.bytes d'
 
 pub fault-wrong : (y : Stop) → IsFault y → IsWrong (wrong_of y)
-fault-wrong (stop.Undefined f) h = tt
-fault-wrong stop.Indeterminate h = absurd h
-fault-wrong stop.Undecided h = absurd h
+fault-wrong (stop.Ends (verdict.Undefined f)) h = tt
+fault-wrong (stop.Ends verdict.Indeterminate) h = absurd h
+fault-wrong (stop.Ends verdict.Undecided) h = absurd h
 fault-wrong stop.NoMemory h = absurd h
 
 is-error : {A : Type 0} → Result A Stop → Bool
@@ -66,27 +67,27 @@ error-is z (Err y) = y
 -- the late one stops, and the settled one can't answer
 pub ends-ok : {A : Type 0} (ds : List Bool) (y : Stop) (U : Table) (a : A) (bs : List ℕ) (d : Done) → Ends ds y U (Ok a) → Halted ds (wrong_of y) U.pairs bs d
 unfolding is-error
-ends-ok ds (stop.Undefined f) U a bs d h = absurd h
-ends-ok ds stop.Indeterminate U a bs d (inl h) = absurd (true≢false (sym (ap is-error h.0)))
-ends-ok ds stop.Indeterminate U a bs d (inr h) = absurd h.0
-ends-ok ds stop.Undecided U a bs d h = tt
+ends-ok ds (stop.Ends (verdict.Undefined f)) U a bs d h = absurd h
+ends-ok ds (stop.Ends verdict.Indeterminate) U a bs d (inl h) = absurd (true≢false (sym (ap is-error h.0)))
+ends-ok ds (stop.Ends verdict.Indeterminate) U a bs d (inr h) = absurd h.0
+ends-ok ds (stop.Ends verdict.Undecided) U a bs d h = tt
 ends-ok ds stop.NoMemory U a bs d h = tt
 
 -- both stop
 pub ends-err : (A : Type 0) (ds : List Bool) (y y' : Stop) (U : Table) (bs : List ℕ) (p : Option Prov) (w : World) (t : Told) → t.bytes ≡ bs → Ends {A = A} ds y U (Err y') → Halted ds (wrong_of y) U.pairs bs (Fails (wrong_of y') p w t)
 unfolding error-is
-ends-err A ds (stop.Undefined f) y' U bs p w t e h = fault-wrong y' h
-ends-err A ds stop.Indeterminate y' U bs p w t e (inl h) = inl ((ap (λ r. wrong_of (error-is y' r)) h.0, e), h.1)
-ends-err A ds stop.Indeterminate y' U bs p w t e (inr h) = inr (fault-wrong y' h.0, h.1)
-ends-err A ds stop.Undecided y' U bs p w t e h = tt
+ends-err A ds (stop.Ends (verdict.Undefined f)) y' U bs p w t e h = fault-wrong y' h
+ends-err A ds (stop.Ends verdict.Indeterminate) y' U bs p w t e (inl h) = inl ((ap (λ r. wrong_of (error-is y' r)) h.0, e), h.1)
+ends-err A ds (stop.Ends verdict.Indeterminate) y' U bs p w t e (inr h) = inr (fault-wrong y' h.0, h.1)
+ends-err A ds (stop.Ends verdict.Undecided) y' U bs p w t e h = tt
 ends-err A ds stop.NoMemory y' U bs p w t e h = tt
 
 pub ends-broken : (A : Type 0) (ds : List Bool) (y y' : Stop) (U : Table) (bs : List ℕ) (b : Option Blame) (w : World) (t : Told) → t.bytes ≡ bs → Ends {A = A} ds y U (Err y') → Halted ds (wrong_of y) U.pairs bs (Breaks (wrong_of y') b w t)
 unfolding error-is
-ends-broken A ds (stop.Undefined f) y' U bs b w t e h = fault-wrong y' h
-ends-broken A ds stop.Indeterminate y' U bs b w t e (inl h) = inl ((ap (λ r. wrong_of (error-is y' r)) h.0, e), h.1)
-ends-broken A ds stop.Indeterminate y' U bs b w t e (inr h) = inr (fault-wrong y' h.0, h.1)
-ends-broken A ds stop.Undecided y' U bs b w t e h = tt
+ends-broken A ds (stop.Ends (verdict.Undefined f)) y' U bs b w t e h = fault-wrong y' h
+ends-broken A ds (stop.Ends verdict.Indeterminate) y' U bs b w t e (inl h) = inl ((ap (λ r. wrong_of (error-is y' r)) h.0, e), h.1)
+ends-broken A ds (stop.Ends verdict.Indeterminate) y' U bs b w t e (inr h) = inr (fault-wrong y' h.0, h.1)
+ends-broken A ds (stop.Ends verdict.Undecided) y' U bs b w t e h = tt
 ends-broken A ds stop.NoMemory y' U bs b w t e h = tt
 
 -- both end for the same reason, in worlds with the same pairs as before

@@ -18,6 +18,7 @@ use Rattle.pv_inst.specs.Use.{use_answer, settled}
 use Rattle.pv_object.specs.declared.values.Pointer.{Pointer}
 use Rattle.pv_object.specs.declared.values.Stop.{Stop}
 use Rattle.pv_object.specs.declared.values.Stop.TheVariants as stop
+use Rattle.pv_fault.specs.declared.verdict.Verdict.TheVariants as verdict
 use Rattle.pv_object.specs.Memory.{Mem}
 use Rattle.pv_object.specs.Access.{chosen, is_null}
 use Rattle.pv_object.specs.Creating.{created, without}
@@ -75,9 +76,9 @@ module _ (F : Type 0) (full : F) (ds : List Bool) where
   block-by c p n n' S ns so (Err m) (Err m') e f h = go (block_stop c m) (block-fault c m)
     where
       go : (y : Stop) → IsFault y → Beside {A = ℕ} ds Equal (Err y) (record S.memory { table = settled S.memory.table p.prov (Err m) }) (Err (block_stop c m')) (record (on_memory ds S.memory) { table = settled (on_table ds S.memory.table) p.prov (Err m') })
-      go (stop.Undefined x) k = block-fault c m'
-      go stop.Indeterminate k = absurd k
-      go stop.Undecided k = tt
+      go (stop.Ends (verdict.Undefined x)) k = block-fault c m'
+      go (stop.Ends verdict.Indeterminate) k = absurd k
+      go (stop.Ends verdict.Undecided) k = tt
       go stop.NoMemory k = tt
 
   pub block-goes : (c : Clause) (p : Pointer) (n n' : Note) → Goes F ds ℕ Equal (block c (record { pointer = p; stopped = n })) (block c (record { pointer = p; stopped = n' }))

@@ -22,6 +22,7 @@ use Rattle.pv_inst.proofs.Together.{Common, common_found, turned, right_can}
 use Rattle.pv_object.specs.declared.values.Pointer.{Pointer}
 use Rattle.pv_object.specs.declared.values.Stop.{Stop}
 use Rattle.pv_object.specs.declared.values.Stop.TheVariants as stop
+use Rattle.pv_fault.specs.declared.verdict.Verdict.TheVariants as verdicts
 use Rattle.pv_object.specs.Access.{is_null}
 use Rattle.pv_object.specs.Operations.{same_stop, together, order}
 use Rattle.pv_object.specs.OperationParts.{both_or_stop, order_by}
@@ -268,21 +269,21 @@ together-along ds c' T p q mp mq al c =
 order-by : (ds : List Bool) (p q : Pointer) (got got' : Result (Tried × Tried) Stop × Table) → Along ds Anyhow got got' → Along ds SameOne (order_by p q got.0, got.1) (order_by p q got'.0, got'.1)
 order-by ds p q ((Ok a), V) ((Ok a'), V') h = (refl, h.1, h.2, h.3)
 order-by ds p q ((Ok a), V) ((Err y'), V') h = h
-order-by ds p q ((Err (stop.Undefined f)), V) ((Ok a'), V') h = absurd h
-order-by ds p q ((Err (stop.Undefined f)), V) ((Err y'), V') h = h
-order-by ds p q ((Err stop.Undecided), V) (r', V') h = tt
+order-by ds p q ((Err (stop.Ends (verdicts.Undefined f))), V) ((Ok a'), V') h = absurd h
+order-by ds p q ((Err (stop.Ends (verdicts.Undefined f))), V) ((Err y'), V') h = h
+order-by ds p q ((Err (stop.Ends verdicts.Undecided)), V) (r', V') h = tt
 order-by ds p q ((Err stop.NoMemory), V) (r', V') h = tt
-order-by ds p q ((Err stop.Indeterminate), V) ((Ok a'), V') (inl g) = absurd (ok-err g.0)
+order-by ds p q ((Err (stop.Ends verdicts.Indeterminate)), V) ((Ok a'), V') (inl g) = absurd (ok-err g.0)
   where
     is_ok_result : Result (Tried × Tried) Stop → Bool
     is_ok_result (Ok x) = true
     is_ok_result (Err y) = false
 
-    ok-err : Ok a' ≡ Err stop.Indeterminate → ⊥
+    ok-err : Ok a' ≡ Err (stop.Ends verdicts.Indeterminate) → ⊥
     ok-err e = true≢false (ap is_ok_result e)
-order-by ds p q ((Err stop.Indeterminate), V) ((Ok a'), V') (inr g) = absurd g.0
-order-by ds p q ((Err stop.Indeterminate), V) ((Err y'), V') (inl g) = inl (ap (order_by p q) g.0, g.1)
-order-by ds p q ((Err stop.Indeterminate), V) ((Err y'), V') (inr g) = inr g
+order-by ds p q ((Err (stop.Ends verdicts.Indeterminate)), V) ((Ok a'), V') (inr g) = absurd g.0
+order-by ds p q ((Err (stop.Ends verdicts.Indeterminate)), V) ((Err y'), V') (inl g) = inl (ap (order_by p q) g.0, g.1)
+order-by ds p q ((Err (stop.Ends verdicts.Indeterminate)), V) ((Err y'), V') (inr g) = inr g
 
 pub order-along : (ds : List Bool) (T : Table) (p q : Pointer) → IsMadeIn T p.prov → IsMadeIn T q.prov → Allows ds T.pairs → Covers ds T.pairs → Along ds SameOne (order T p q) (order (on_table ds T) p q)
 order-along ds T p q mp mq al c = order-by ds p q (together clause.OrderOfPointers T p q) (together clause.OrderOfPointers (on_table ds T) p q) (together-along ds clause.OrderOfPointers T p q mp mq al c)

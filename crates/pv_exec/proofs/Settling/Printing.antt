@@ -14,6 +14,7 @@ use Rattle.pv_object.specs.declared.values.Asker.TheVariants.{Print}
 use Rattle.pv_object.specs.declared.values.Pointer.{Pointer}
 use Rattle.pv_object.specs.declared.values.Stop.{Stop}
 use Rattle.pv_object.specs.declared.values.Stop.TheVariants as stop
+use Rattle.pv_fault.specs.declared.verdict.Verdict.TheVariants as verdict
 use Rattle.pv_object.specs.Memory.{Mem}
 use Rattle.pv_object.specs.Operations.{to_int, to_int_after, exposed_to}
 use Rattle.pv_libc.specs.declared.values.Arg.{Arg}
@@ -83,14 +84,14 @@ module _ (F : Type 0) (ds : List Bool) where
       → Walks ds Equal (address_by (record { pointer = p; stopped = n }) S got) (address_by (record { pointer = p; stopped = n' }) (on_now ds ns S) got')
   address-beside p n n' S ns ((Ok a), U) ((Ok a'), U') h = (refl, h.1, ap (λ (W : Table). record S.memory { table = record W { pending = [] } }) h.2)
   address-beside p n n' S ns ((Ok a), U) ((Err y'), U') h = h
-  address-beside p n n' S ns ((Err (stop.Undefined f)), U) ((Ok a'), U') h = absurd h
-  address-beside p n n' S ns ((Err (stop.Undefined f)), U) ((Err y'), U') h = h
-  address-beside p n n' S ns ((Err stop.Undecided), U) (r', U') h = tt
+  address-beside p n n' S ns ((Err (stop.Ends (verdict.Undefined f))), U) ((Ok a'), U') h = absurd h
+  address-beside p n n' S ns ((Err (stop.Ends (verdict.Undefined f))), U) ((Err y'), U') h = h
+  address-beside p n n' S ns ((Err (stop.Ends verdict.Undecided)), U) (r', U') h = tt
   address-beside p n n' S ns ((Err stop.NoMemory), U) (r', U') h = tt
-  address-beside p n n' S ns ((Err stop.Indeterminate), U) ((Ok a'), U') (inl h) = absurd (cc)
-  address-beside p n n' S ns ((Err stop.Indeterminate), U) ((Ok a'), U') (inr h) = absurd h.0
-  address-beside p n n' S ns ((Err stop.Indeterminate), U) ((Err y'), U') (inl h) = inl (ap (λ x. Err x) (ap (stop_of y') h.0), h.1)
-  address-beside p n n' S ns ((Err stop.Indeterminate), U) ((Err y'), U') (inr h) = inr h
+  address-beside p n n' S ns ((Err (stop.Ends verdict.Indeterminate)), U) ((Ok a'), U') (inl h) = absurd (cc)
+  address-beside p n n' S ns ((Err (stop.Ends verdict.Indeterminate)), U) ((Ok a'), U') (inr h) = absurd h.0
+  address-beside p n n' S ns ((Err (stop.Ends verdict.Indeterminate)), U) ((Err y'), U') (inl h) = inl (ap (λ x. Err x) (ap (stop_of y') h.0), h.1)
+  address-beside p n n' S ns ((Err (stop.Ends verdict.Indeterminate)), U) ((Err y'), U') (inr h) = inr h
 
   address-goes : (o : Option Pointer) (n n' : Note) → Goes F ds (List ℕ) Equal (address_done (given_of n o)) (address_done (given_of n' o))
   address-goes None n n' = record { leads = λ S. led-itself; covers = λ S c. c; walks = λ S ns so al c. tt }

@@ -27,6 +27,7 @@ use Rattle.pv_object.specs.declared.values.Reach.{Reach}
 use Rattle.pv_object.specs.declared.values.Asker.{Asker}
 use Rattle.pv_object.specs.declared.values.Stop.{Stop}
 use Rattle.pv_object.specs.declared.values.Stop.TheVariants as stop
+use Rattle.pv_fault.specs.declared.verdict.Verdict.TheVariants as verdict
 use Rattle.pv_object.specs.Access.{fault, clause_of, is_null, range_stop, chosen, readonly_stop, or_stop, checked_in, checked, reach_after, reach}
 use Rattle.pv_object.specs.OperationParts.{write_stop}
 use Rattle.pv_exec.proofs.Memory.Rows.{Sound}
@@ -180,9 +181,9 @@ info x = record { name = x.name; k = x.k; base = x.base; size = x.size; kind = x
 
 -- the checks behind the use
 similar-itself : {A : Type 0} (V : A → A → Type 0) (y : Stop) → Similar V (Err y) (Err y)
-similar-itself V (stop.Undefined f) = tt
-similar-itself V stop.Indeterminate = refl
-similar-itself V stop.Undecided = tt
+similar-itself V (stop.Ends (verdict.Undefined f)) = tt
+similar-itself V (stop.Ends verdict.Indeterminate) = refl
+similar-itself V (stop.Ends verdict.Undecided) = tt
 similar-itself V stop.NoMemory = tt
 
 stopped-similar : (n : ℕ) (o : Option Stop) (r r' : Reach) → Reaches n r r' → Similar (Reaches n) (or_stop o r) (or_stop o r')
@@ -242,9 +243,9 @@ module _ (F : Type 0) (ds : List Bool) (T : Table) (s : Sound F T.instances T.pa
   reach-by (Err m) (Err m') e f h = go (range_stop c m) (range-fault c m)
     where
       go : (y : Stop) → IsFault y → Along ds (Reaches n) (Err y, T) (Err (range_stop c m'), on_table ds T)
-      go (stop.Undefined x) k = range-fault c m'
-      go stop.Indeterminate k = absurd k
-      go stop.Undecided k = tt
+      go (stop.Ends (verdict.Undefined x)) k = range-fault c m'
+      go (stop.Ends verdict.Indeterminate) k = absurd k
+      go (stop.Ends verdict.Undecided) k = tt
       go stop.NoMemory k = tt
   reach-by (Err m) (Ok t') e f h = absurd h
   reach-by (Ok t) (Err m') e f h =

@@ -10,6 +10,7 @@ use Rattle.pv_object.specs.declared.values.Reach.{Reach}
 use Rattle.pv_object.specs.declared.values.Scalar.TheVariants as scalar
 use Rattle.pv_object.specs.declared.values.Stop.{Stop}
 use Rattle.pv_object.specs.declared.values.Stop.TheVariants as stop
+use Rattle.pv_fault.specs.declared.verdict.Verdict.TheVariants as verdict
 use Rattle.pv_object.specs.declared.values.Asker.{Asker}
 use Rattle.pv_object.specs.declared.values.Value.{Value}
 use Rattle.pv_object.specs.declared.values.Value.TheVariants as value
@@ -45,17 +46,17 @@ Walks ds V d d' = Beside ds V d.answer d.after.memory d'.answer d'.after.memory
 
 pub lost-beside : {A : Type 0} (ds : List Bool) (V : A → A → Type 0) (r : Result A Stop) (M : Mem) (y' : Stop) (M' : Mem) → IsFault y' → (Allows ds M.table.pairs → ⊥) → Beside ds V r M (Err y') M'
 lost-beside ds V (Ok a) M y' M' f n = (f, n)
-lost-beside ds V (Err (stop.Undefined g)) M y' M' f n = f
-lost-beside ds V (Err stop.Undecided) M y' M' f n = tt
+lost-beside ds V (Err (stop.Ends (verdict.Undefined g))) M y' M' f n = f
+lost-beside ds V (Err (stop.Ends verdict.Undecided)) M y' M' f n = tt
 lost-beside ds V (Err stop.NoMemory) M y' M' f n = tt
-lost-beside ds V (Err stop.Indeterminate) M y' M' f n = inr (f, n)
+lost-beside ds V (Err (stop.Ends verdict.Indeterminate)) M y' M' f n = inr (f, n)
 
 pub beside : {A : Type 0} (ds : List Bool) (V : A → A → Type 0) (r r' : Result A Stop) (M M' : Mem) → Similar V r r' → Allows ds M.table.pairs → M' ≡ on_memory ds M → Beside ds V r M r' M'
 beside ds V (Ok a) (Ok a') M M' h al e = (h, al, e)
 beside ds V (Ok a) (Err y') M M' h al e = absurd h
-beside ds V (Err (stop.Undefined f)) r' M M' h al e = h
-beside ds V (Err stop.Indeterminate) r' M M' h al e = inl (h, al)
-beside ds V (Err stop.Undecided) r' M M' h al e = tt
+beside ds V (Err (stop.Ends (verdict.Undefined f))) r' M M' h al e = h
+beside ds V (Err (stop.Ends verdict.Indeterminate)) r' M M' h al e = inl (h, al)
+beside ds V (Err (stop.Ends verdict.Undecided)) r' M M' h al e = tt
 beside ds V (Err stop.NoMemory) r' M M' h al e = tt
 
 abbrev stop_in : {A : Type 0} → Stop → Result A Stop → Stop
@@ -96,14 +97,14 @@ module _ (F : Type 0) (ds : List Bool) where
     next-covers (Err y) d c = c
 
     ends-next : (y : Stop) (T : Table) (d' : Did A) (r' : Result A Stop) → Ends {A = A} ds y T r' → Ends {A = B} ds y T (next_by r' d' g').answer
-    ends-next (stop.Undefined x) T d' (Ok a') e = absurd e
-    ends-next (stop.Undefined x) T d' (Err y') e = e
-    ends-next stop.Undecided T d' r' e = tt
+    ends-next (stop.Ends (verdict.Undefined x)) T d' (Ok a') e = absurd e
+    ends-next (stop.Ends (verdict.Undefined x)) T d' (Err y') e = e
+    ends-next (stop.Ends verdict.Undecided) T d' r' e = tt
     ends-next stop.NoMemory T d' r' e = tt
-    ends-next stop.Indeterminate T d' (Ok a') (inl e) = absurd (cc)
-    ends-next stop.Indeterminate T d' (Ok a') (inr e) = absurd e.0
-    ends-next stop.Indeterminate T d' (Err y') (inl e) = inl (ap (λ x. Err x) (ap (stop_in y') e.0), e.1)
-    ends-next stop.Indeterminate T d' (Err y') (inr e) = inr e
+    ends-next (stop.Ends verdict.Indeterminate) T d' (Ok a') (inl e) = absurd (cc)
+    ends-next (stop.Ends verdict.Indeterminate) T d' (Ok a') (inr e) = absurd e.0
+    ends-next (stop.Ends verdict.Indeterminate) T d' (Err y') (inl e) = inl (ap (λ x. Err x) (ap (stop_in y') e.0), e.1)
+    ends-next (stop.Ends verdict.Indeterminate) T d' (Err y') (inr e) = inr e
 
     next-by : (d d' : Did A) (r r' : Result A Stop) → Sound F d.after.memory.table.instances d.after.memory.table.pairs → Covers ds d.after.memory.table.pairs → Beside ds V r d.after.memory r' d'.after.memory
         → Walks ds W (next_by r d g) (next_by r' d' g')
@@ -187,14 +188,14 @@ module _ (F : Type 0) (ds : List Bool) where
       beside ds Equal (character_of (Ok (v, t))) (character_of (Ok (v', t'))) (told (in_table S U)).memory (told (in_table (on_now ds ns S) U')).memory
       (subst (λ x. Similar Equal (character_of (Ok (v, t))) (character_of (Ok (x, t')))) (sym h.0) (character-same v t t')) h.1 (ap (λ (W : Table). record S.memory { table = record W { pending = [] } }) h.2)
   loaded-beside S ns ((Ok (v, t)), U) ((Err y'), U') h = lost-beside ds Equal (character_of (Ok (v, t))) (told (in_table S U)).memory y' (told (in_table (on_now ds ns S) U')).memory h.0 h.1
-  loaded-beside S ns ((Err (stop.Undefined f)), U) ((Ok x), U') h = absurd h
-  loaded-beside S ns ((Err (stop.Undefined f)), U) ((Err y'), U') h = h
-  loaded-beside S ns ((Err stop.Undecided), U) (r', U') h = tt
+  loaded-beside S ns ((Err (stop.Ends (verdict.Undefined f))), U) ((Ok x), U') h = absurd h
+  loaded-beside S ns ((Err (stop.Ends (verdict.Undefined f))), U) ((Err y'), U') h = h
+  loaded-beside S ns ((Err (stop.Ends verdict.Undecided)), U) (r', U') h = tt
   loaded-beside S ns ((Err stop.NoMemory), U) (r', U') h = tt
-  loaded-beside S ns ((Err stop.Indeterminate), U) ((Ok x), U') (inl h) = absurd (cc)
-  loaded-beside S ns ((Err stop.Indeterminate), U) ((Ok x), U') (inr h) = absurd h.0
-  loaded-beside S ns ((Err stop.Indeterminate), U) ((Err y'), U') (inl h) = inl (ap (λ x. Err x) (ap (stop_in y') h.0), h.1)
-  loaded-beside S ns ((Err stop.Indeterminate), U) ((Err y'), U') (inr h) = inr h
+  loaded-beside S ns ((Err (stop.Ends verdict.Indeterminate)), U) ((Ok x), U') (inl h) = absurd (cc)
+  loaded-beside S ns ((Err (stop.Ends verdict.Indeterminate)), U) ((Ok x), U') (inr h) = absurd h.0
+  loaded-beside S ns ((Err (stop.Ends verdict.Indeterminate)), U) ((Err y'), U') (inl h) = inl (ap (λ x. Err x) (ap (stop_in y') h.0), h.1)
+  loaded-beside S ns ((Err (stop.Ends verdict.Indeterminate)), U) ((Err y'), U') (inr h) = inr h
 
   pub character-goes : (p : Pointer) (n n' : Note) (a : ℕ) → Goes F ds ℕ Equal (character_in (record { pointer = p; stopped = n }) a) (character_in (record { pointer = p; stopped = n' }) a)
   character-goes p n n' a =
