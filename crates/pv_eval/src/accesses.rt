@@ -24,7 +24,7 @@ ghost use Rattle.pv_eval.specs.AccessParts.{reads_from};
 
 use crate::permission::permits;
 use crate::types::{Complete, align_of, number, shape};
-use pv_fault::{Clause, Fault, Reason};
+use pv_fault::{Clause, Fault, Reason, Verdict};
 use pv_object::{Pointer, Reach};
 use pv_seq::{Journal, SeqStop};
 use pv_typed::TypedUnit;
@@ -38,7 +38,7 @@ fn blamed(told: &mut Vec<What>, clause: Clause, reason: Reason, blame: Blame) ->
 {
     fail(
         told,
-        Cause::Undefined(Fault { clause, reason }),
+        Cause::Ends(Verdict::Undefined(Fault { clause, reason })),
         Some(blame),
     )
 }

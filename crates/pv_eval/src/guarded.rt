@@ -17,6 +17,7 @@ use crate::suiting::{
     are_operands, can_order, can_shift, can_take, is_convertible, is_of_promoted, knows, knows_both,
 };
 use crate::types::{element_size, shape, size_of};
+use pv_fault::Verdict;
 use pv_num::{BinOp, IntKind, UnOp};
 use pv_object::Value;
 use pv_types::{TypeId, Types};
@@ -139,7 +140,7 @@ pub(crate) fn need(v: Got, told: &mut Vec<What>) -> Result<i128, WorldFailure>
 {
     match v {
         Got::Scalar(Value::Int(n)) => Ok(n),
-        Got::Scalar(Value::Unset) => Err(fail(told, Cause::Indeterminate, None)),
+        Got::Scalar(Value::Unset) => Err(fail(told, Cause::Ends(Verdict::Indeterminate), None)),
         Got::Scalar(Value::Pointer(_)) => Err(unfit(told)),
         Got::Nothing | Got::Missing | Got::Whole(_, _) => Err(unfit(told)),
     }

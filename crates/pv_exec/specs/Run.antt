@@ -10,7 +10,8 @@ use Rattle.pv_inst.specs.declared.values.CreateError.TheVariants as refusal
 use Rattle.pv_typed.specs.TypedUnits.{function_at}
 use Rattle.pv_typed.specs.Mains.{main_of}
 use Rattle.pv_typed.specs.Tables.{Stored, whole}
-use Rattle.pv_world.specs.Worlds.{Worth, Nothing, Wrong, Undefined, Undecided, Halts, Halt, Indeterminate, Exits, Aborts, Refused, SidesEnded}
+use Rattle.pv_fault.specs.declared.verdict.Verdict.TheVariants as verdict
+use Rattle.pv_world.specs.Worlds.{Worth, Nothing, Wrong, ByVerdict, Halts, Halt, Exits, Aborts, Refused, SidesEnded}
 use Rattle.pv_world.specs.Worths.{int_of}
 use Rattle.pv_eval.specs.States.{Setting, State, Turns, Unreached, Stopped, Res, Gives, Stops, then_do, first_world}
 use Rattle.pv_eval.specs.Constants.{is_high_pair}
@@ -49,18 +50,19 @@ refused name (refusal.Misaligned k address) line = Some (outcome.Placement reaso
 refused name (refusal.Overlap k address other) line = Some (outcome.Placement reason.Overlap name k line)
 refused name _ line = None
 
--- a run ended without undefined behaviour: an indeterminate value (3.19.2), `exit` (7.22.4.4), `abort` (7.22.4.1), a refused request
+-- a run ended without a verdict: `exit` (7.22.4.4), `abort` (7.22.4.1), a refused request, no side for a pair (the memory model)
 abbrev pub halted : Halt → ℕ → Option Outcome
-halted Indeterminate line = Some (outcome.Indeterminate line)
 halted (Exits n) line = Some (outcome.Exit n)
 halted Aborts line = Some (outcome.Abort line)
 halted (Refused name e) line = refused name e line
 halted (SidesEnded k) line = Some (outcome.SidesEnded k)
 
--- an operation ended the run: undefined behaviour (3.4.3), what the memory model leaves undecided, or one of those above
+-- an operation ended the run: undefined behaviour (3.4.3), an indeterminate value (3.19.2), what the memory model leaves undecided, or one of
+-- those above
 abbrev pub stopped : Wrong → ℕ → Option Outcome
-stopped (Undefined f) line = Some (outcome.Undefined f line)
-stopped Undecided line = Some (outcome.Undecided line)
+stopped (ByVerdict (verdict.Undefined f)) line = Some (outcome.Undefined f line)
+stopped (ByVerdict verdict.Undecided) line = Some (outcome.Undecided line)
+stopped (ByVerdict verdict.Indeterminate) line = Some (outcome.Indeterminate line)
 stopped (Halts h) line = halted h line
 
 -- 5.1.2.2.3p1: how a run ended: `main` returned, its turns were taken, or an operation ended it; its levels are never used up

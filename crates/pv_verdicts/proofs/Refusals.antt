@@ -17,7 +17,6 @@ use Rattle.pv_inst.specs.PlacingParts.{rounded, first_overlap}
 use Rattle.pv_object.specs.declared.values.Asker.TheVariants.{Text}
 use Rattle.pv_object.specs.declared.values.Stop.{Stop}
 use Rattle.pv_object.specs.declared.values.Stop.TheVariants as stop
-use Rattle.pv_fault.specs.declared.verdict.Verdict.TheVariants as verdict
 use Rattle.pv_object.specs.Memory.{Mem}
 use Rattle.pv_object.specs.Access.{is_null}
 use Rattle.pv_object.specs.Creating.{created, made}
@@ -32,7 +31,7 @@ use Rattle.pv_libc.specs.Strings.{strlen, compared_from, strcpy}
 use Rattle.pv_libc.specs.Heap.{granted, requested, allocated, malloc, cleared, calloc, block, freed, free, moved, resized, realloc}
 use Rattle.pv_libc.specs.HeapParts.{heap_request}
 use Rattle.pv_libc.specs.Calls.{argument_at, number, size, printed, called_in}
-use Rattle.pv_world.specs.Worlds.{Wrong, Undefined, Undecided, Halts, Halt, Indeterminate, Exits, Aborts, Refused, SidesEnded, Worth, Nothing, Missing, Scalar, Whole}
+use Rattle.pv_world.specs.Worlds.{Wrong, ByVerdict, Halts, Halt, Exits, Aborts, Refused, SidesEnded, Worth, Nothing, Missing, Scalar, Whole}
 use Rattle.pv_world.specs.Worths.{unplain, unpresent, wrong_of}
 use Rattle.pv_object.specs.declared.values.Value.TheVariants.{Int as IntValue, Unset, Pointer as PointerValue}
 use Rattle.pv_verdicts.specs.Own.{DeniesHeap}
@@ -51,7 +50,6 @@ FineAnswer (Ok i) = Unit {0}
 FineAnswer (Err e) = FineError e
 
 abbrev FineHalt : Halt → Type 0
-FineHalt Indeterminate = Unit {0}
 FineHalt (Exits n) = Unit {0}
 FineHalt Aborts = Unit {0}
 FineHalt (Refused name e) = FineError e
@@ -59,8 +57,7 @@ FineHalt (SidesEnded k) = Unit {0}
 
 -- an operation ends a run in one of the ways that have an outcome
 abbrev pub FineWrong : Wrong → Type 0
-FineWrong (Undefined f) = Unit {0}
-FineWrong Undecided = Unit {0}
+FineWrong (ByVerdict v) = Unit {0}
 FineWrong (Halts h) = FineHalt h
 
 abbrev pub FineIf : Option Wrong → Type 0
@@ -68,9 +65,7 @@ FineIf None = Unit {0}
 FineIf (Some y) = FineWrong y
 
 pub stop-fine : (y : Stop) → FineWrong (wrong_of y)
-stop-fine (stop.Ends (verdict.Undefined f)) = tt
-stop-fine (stop.Ends verdict.Indeterminate) = tt
-stop-fine (stop.Ends verdict.Undecided) = tt
+stop-fine (stop.Ends v) = tt
 stop-fine stop.NoMemory = tt
 
 pub plain-fine : (v : Worth) → FineIf (unplain v)

@@ -12,7 +12,7 @@ use Rattle.pv_world.specs.declared.got.Cause.{Cause}
 use Rattle.pv_world.specs.declared.got.Cause.TheVariants as cause
 use Rattle.pv_world.specs.declared.got.Failure.{Failure}
 use Rattle.pv_world.specs.declared.got.Failure.TheVariants as failure
-use Rattle.pv_world.specs.Worlds.{Worth, Nothing, Missing, Scalar, Whole, World, Wrong, Undefined, Undecided, Halts, Indeterminate, Exits, Aborts, Refused, SidesEnded}
+use Rattle.pv_world.specs.Worlds.{Worth, Nothing, Missing, Scalar, Whole, World, Wrong, ByVerdict, Halts, Exits, Aborts, Refused, SidesEnded}
 use Rattle.pv_world.specs.Telling.{verdict_of, fault_of, fault_told}
 use Rattle.pv_world.specs.Doing.{Done, Answers, Fails, Breaks}
 
@@ -25,9 +25,7 @@ worth_of (got.Whole bytes origin) = Whole bytes.items origin
 
 -- 3.4.3: why the run ends, of what the code has
 abbrev pub wrong_for : Cause → Wrong
-wrong_for (cause.Undefined f) = Undefined f
-wrong_for cause.Undecided = Undecided
-wrong_for cause.Indeterminate = Halts Indeterminate
+wrong_for (cause.Ends v) = ByVerdict v
 wrong_for (cause.Exits n) = Halts (Exits n)
 wrong_for cause.Aborts = Halts Aborts
 wrong_for (cause.Refused name e) = Halts (Refused name e)

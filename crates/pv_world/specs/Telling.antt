@@ -20,8 +20,7 @@ use Rattle.pv_world.specs.declared.failing.Blame.{Blame}
 use Rattle.pv_watch.specs.declared.event.What.{What}
 use Rattle.pv_watch.specs.declared.event.What.TheVariants as what
 use Rattle.pv_fault.specs.declared.verdict.Verdict.{Verdict}
-use Rattle.pv_fault.specs.declared.verdict.Verdict.TheVariants as verdict
-use Rattle.pv_world.specs.Worlds.{Wrong, Undefined, Undecided, Halts, Indeterminate}
+use Rattle.pv_world.specs.Worlds.{Wrong, ByVerdict, Halts}
 
 -- what an operation tells: its events (the memory model), and the bytes that it prints (7.21.6.3)
 pub record Told : Type 0 where
@@ -97,10 +96,8 @@ pairings T U = each_paired U (length T.pairs + 1) (drop (length T.pairs) U.pairs
 
 -- 3.4.3, 3.19.2: the verdict of a stop, if it has one: undefined, undecided (the memory model) or indeterminate
 abbrev pub verdict_of : Wrong → Option Verdict
-verdict_of (Undefined f) = Some (verdict.Undefined f)
-verdict_of Undecided = Some verdict.Undecided
-verdict_of (Halts Indeterminate) = Some verdict.Indeterminate
-verdict_of _ = None
+verdict_of (ByVerdict v) = Some v
+verdict_of (Halts h) = None
 
 -- the memory model: what a fault carries: the candidates of the pointer whose check stopped, as they stood before the
 -- operation, and the number of its pair, settled or not

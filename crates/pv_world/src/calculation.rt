@@ -3,7 +3,7 @@ ghost use Rattle.std.specs.Prelude.{◌≡◌, ◌++◌, None};
 ghost use Rattle.pv_num.specs.Kinds.{Fits};
 ghost use Rattle.pv_num.specs.Arithmetic.{IsPromoted};
 ghost use Rattle.pv_num.specs.Operands.{IsOperand};
-ghost use Rattle.pv_world.specs.Worlds.{World as WorldView, Undefined};
+ghost use Rattle.pv_world.specs.Worlds.{World as WorldView, ByVerdict};
 ghost use Rattle.pv_world.specs.Telling.{fault_of, verdict_of};
 ghost use Rattle.pv_world.specs.Worths.{int_of, arithmetic_fault};
 ghost use Rattle.pv_world.specs.CalculationParts.{needs, calculates, calculates_one};
@@ -12,7 +12,7 @@ ghost use Rattle.pv_world.specs.Coming.{Did, Faulted, worth_of};
 use crate::failing::fail;
 use crate::got::{Cause, Failure, Got};
 use crate::operands::{int_of, unplain};
-use pv_fault::{Clause, Fault, Reason};
+use pv_fault::{Clause, Fault, Reason, Verdict};
 use pv_num::{ArithmeticFault, BinOp, IntKind, UnOp, binary, unary};
 use pv_object::Value;
 use pv_watch::What;
@@ -47,9 +47,13 @@ fn arithmetic_fault(fault: ArithmeticFault) -> Fault
 
 /// The run ends by arithmetic that has no defined result.
 fn undefined(told: &mut Vec<What>, fault: ArithmeticFault) -> Failure
-    ensures { Faulted result (Undefined (arithmetic_fault fault)) told.new.items (told.old.items ++ fault_of None (verdict_of (Undefined (arithmetic_fault fault)))) }
+    ensures { Faulted result (ByVerdict (Verdict.Undefined (arithmetic_fault fault))) told.new.items (told.old.items ++ fault_of None (verdict_of (ByVerdict (Verdict.Undefined (arithmetic_fault fault))))) }
 {
-    fail(told, Cause::Undefined(arithmetic_fault(fault)), None)
+    fail(
+        told,
+        Cause::Ends(Verdict::Undefined(arithmetic_fault(fault))),
+        None,
+    )
 }
 
 /// An operator on two integers.

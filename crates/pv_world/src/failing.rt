@@ -45,9 +45,7 @@ fn verdict_for(cause: Cause) -> Option<Verdict>
     ensures { result ≡ verdict_of (wrong_for cause) }
 {
     match cause {
-        Cause::Undefined(fault) => Some(Verdict::Undefined(fault)),
-        Cause::Undecided => Some(Verdict::Undecided),
-        Cause::Indeterminate => Some(Verdict::Indeterminate),
+        Cause::Ends(verdict) => Some(verdict),
         _ => None,
     }
 }
@@ -58,9 +56,7 @@ pub fn stopped(told: &mut Vec<What>, stop: Stop, blame: Option<Blame>) -> Failur
     ensures fault { Faulted result (wrong_of stop) told.new.items (told.old.items ++ fault_of blame (verdict_of (wrong_of stop))) }
 {
     match stop {
-        Stop::Ends(Verdict::Undefined(fault)) => fail(told, Cause::Undefined(fault), blame),
-        Stop::Ends(Verdict::Indeterminate) => fail(told, Cause::Indeterminate, blame),
-        Stop::Ends(Verdict::Undecided) => fail(told, Cause::Undecided, blame),
+        Stop::Ends(verdict) => fail(told, Cause::Ends(verdict), blame),
         Stop::NoMemory => Failure::NoMemory,
     }
 }

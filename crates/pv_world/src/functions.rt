@@ -16,7 +16,7 @@ use crate::objects::own;
 use crate::operands::{CODE_TEST, pointer_of, unplain};
 use crate::telling::{tell_made, tell_used};
 use crate::world::World;
-use pv_fault::{Clause, Fault, Reason};
+use pv_fault::{Clause, Fault, Reason, Verdict};
 use pv_inst::{CreateError, Kind};
 use pv_object::Pointer;
 use pv_prov::NoMemory;
@@ -27,10 +27,10 @@ use pv_watch::What;
 pub fn unlike() -> Cause
     ensures { wrong_for result ≡ unlike }
 {
-    Cause::Undefined(Fault {
+    Cause::Ends(Verdict::Undefined(Fault {
         clause: Clause::PointerToFunction,
         reason: Reason::WrongType,
-    })
+    }))
 }
 
 impl World {

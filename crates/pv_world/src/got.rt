@@ -1,5 +1,5 @@
 //! Values of expressions, how they are converted, and why there is none.
-use pv_fault::Fault;
+use pv_fault::Verdict;
 use pv_inst::CreateError;
 use pv_num::IntKind;
 use pv_object::Value;
@@ -51,12 +51,8 @@ pub enum How {
 /// Why an operation ends the run.
 #[derive(Clone, Copy)]
 pub enum Cause {
-    /// The behaviour is undefined (3.4.3).
-    Undefined(Fault),
-    /// Two operands have two instances in common, under different names.
-    Undecided,
-    /// A value that is needed is indeterminate (3.19.2).
-    Indeterminate,
+    /// The behaviour is undefined (3.4.3), a value is indeterminate (3.19.2), or an answer is undecided.
+    Ends(Verdict),
     /// The program ends with this status (7.22.4.4).
     Exits(i32),
     /// The program aborts (7.22.4.1).

@@ -7,7 +7,7 @@ ghost use Rattle.pv_world.specs.Coming.{worth_of, wrong_for, IsMadeWorth};
 ghost use Rattle.pv_world.specs.PointerParts.{uneven};
 
 use crate::got::{Cause, Got};
-use pv_fault::{Clause, Fault, Reason};
+use pv_fault::{Clause, Fault, Reason, Verdict};
 use pv_object::{Pointer, Value};
 use pv_prov::Prov;
 
@@ -23,7 +23,7 @@ pub(crate) fn unplain(v: &Got) -> Option<Cause>
 {
     match v {
         Got::Missing => Some(missing()),
-        Got::Scalar(Value::Unset) => Some(Cause::Indeterminate),
+        Got::Scalar(Value::Unset) => Some(Cause::Ends(Verdict::Indeterminate)),
         _ => None,
     }
 }
@@ -42,20 +42,20 @@ pub(crate) fn unpresent(v: &Got) -> Option<Cause>
 pub fn missing() -> Cause
     ensures { wrong_for result ≡ missing_value }
 {
-    Cause::Undefined(Fault {
+    Cause::Ends(Verdict::Undefined(Fault {
         clause: Clause::MissingValues,
         reason: Reason::Value,
-    })
+    }))
 }
 
 /// The difference of two pointers is no whole number of elements (6.5.6p9).
 pub(crate) fn uneven() -> Cause
     ensures { wrong_for result ≡ uneven }
 {
-    Cause::Undefined(Fault {
+    Cause::Ends(Verdict::Undefined(Fault {
         clause: Clause::SubtractionOfPointers,
         reason: Reason::Uneven,
-    })
+    }))
 }
 
 /// The number that a value is.

@@ -12,6 +12,7 @@ use crate::got::{Cause, Failure, Got};
 use crate::operands::{LIVE_TEST, missing};
 use crate::telling::tell_used;
 use crate::world::World;
+use pv_fault::Verdict;
 use pv_object::{Pointer, Value};
 use pv_prov::NoMemory;
 use pv_watch::What;
@@ -27,7 +28,7 @@ impl World {
     {
         match v {
             Got::Missing => Err(fail(told, missing(), None)),
-            Got::Scalar(Value::Unset) => Err(fail(told, Cause::Indeterminate, None)),
+            Got::Scalar(Value::Unset) => Err(fail(told, Cause::Ends(Verdict::Indeterminate), None)),
             Got::Scalar(Value::Int(n)) => Ok(*n != 0),
             Got::Scalar(Value::Pointer(p)) => self.test_pointer(*p, told),
             Got::Nothing | Got::Whole(_, _) => Ok(false),

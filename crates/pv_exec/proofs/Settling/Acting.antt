@@ -6,7 +6,8 @@ use Rattle.std.proofs.lemmas.Bool.Decides.{nat_tests}
 use Rattle.pv_prov.specs.declared.pairs.Twin.{Twin}
 use Rattle.pv_prov.specs.Names.{twin_at, kept}
 use Rattle.pv_prov.specs.NameParts.{keeping}
-use Rattle.pv_world.specs.Worlds.{Worth, World, Wrong, Undefined, Undecided, Halts, Halt, with_table}
+use Rattle.pv_fault.specs.declared.verdict.Verdict.TheVariants as verdict
+use Rattle.pv_world.specs.Worlds.{Worth, World, Wrong, ByVerdict, Halts, with_table}
 use Rattle.pv_world.specs.Telling.{Told}
 use Rattle.pv_world.specs.Doing.{Done, Answers, Fails, Breaks}
 use Rattle.pv_eval.specs.declared.marked.Marked.{Marked}
@@ -102,8 +103,9 @@ abbrev pub IsUndefined : {A : Type 0} → Res A → ℕ → Type 0
 IsUndefined (Gives a s) n = ⊥
 IsUndefined (Stops Turns s) n = ⊥
 IsUndefined (Stops Unreached s) n = ⊥
-IsUndefined (Stops (Stopped (Undefined f) line) s) n = s.taken ≤ n
-IsUndefined (Stops (Stopped Undecided line) s) n = ⊥
+IsUndefined (Stops (Stopped (ByVerdict (verdict.Undefined f)) line) s) n = s.taken ≤ n
+IsUndefined (Stops (Stopped (ByVerdict verdict.Undecided) line) s) n = ⊥
+IsUndefined (Stops (Stopped (ByVerdict verdict.Indeterminate) line) s) n = ⊥
 IsUndefined (Stops (Stopped (Halts h) line) s) n = ⊥
 
 -- it stops for this reason, after as many turns and with the same output
@@ -119,13 +121,15 @@ abbrev pub Follows : {A : Type 0} → List Bool → Res A → Res A → Type 0
 Follows ds (Gives a t) r = Stays ds a t r ⊎ ((Allows ds (pairs_at t) → ⊥) × IsUndefined r t.taken)
 Follows ds (Stops Turns t) r = EndsAs Turns t r ⊎ ((Allows ds (pairs_at t) → ⊥) × IsUndefined r t.taken)
 Follows ds (Stops Unreached t) r = EndsAs Unreached t r ⊎ ((Allows ds (pairs_at t) → ⊥) × IsUndefined r t.taken)
-Follows ds (Stops (Stopped (Undefined f) line) t) r = IsUndefined r t.taken
-Follows ds (Stops (Stopped Undecided line) t) r = Unit {0}
+Follows ds (Stops (Stopped (ByVerdict (verdict.Undefined f)) line) t) r = IsUndefined r t.taken
+Follows ds (Stops (Stopped (ByVerdict verdict.Undecided) line) t) r = Unit {0}
+Follows ds (Stops (Stopped (ByVerdict verdict.Indeterminate) line) t) r = EndsAs (Stopped (ByVerdict verdict.Indeterminate) line) t r ⊎ ((Allows ds (pairs_at t) → ⊥) × IsUndefined r t.taken)
 Follows ds (Stops (Stopped (Halts h) line) t) r = EndsAs (Stopped (Halts h) line) t r ⊎ ((Allows ds (pairs_at t) → ⊥) × IsUndefined r t.taken)
 
 wrong-undefined : (y : Wrong) (line : ℕ) (s : State) (n : ℕ) → IsWrong y → s.taken ≤ n → IsUndefined {A = Worth} (Stops (Stopped y line) s) n
-wrong-undefined (Undefined f) line s n h e = e
-wrong-undefined Undecided line s n h e = absurd h
+wrong-undefined (ByVerdict (verdict.Undefined f)) line s n h e = e
+wrong-undefined (ByVerdict verdict.Undecided) line s n h e = absurd h
+wrong-undefined (ByVerdict verdict.Indeterminate) line s n h e = absurd h
 wrong-undefined (Halts k) line s n h e = absurd h
 
 module _ (b b' : Setting) (ds : List Bool) (late : b.sides ≡ None) (sides : b'.sides ≡ Some ds) (line : ℕ) (s : State) (es : List Marked) (few : length (pairs_at s) ≤ length ds) where
@@ -140,17 +144,20 @@ module _ (b b' : Setting) (ds : List Bool) (late : b.sides ≡ None) (sides : b'
   bad-undefined (Fails y p w t) h = wrong-undefined y line _ s.taken h (omega arith)
   bad-undefined (Breaks y p w t) h = wrong-undefined y line _ s.taken h (omega arith)
 
-  ends-as : (h : Halt) (t : Told) (d : Done) (u : State) → EndsBy h t.bytes d → u.taken ≡ s.taken → u.output ≡ s.output ++ t.bytes → EndsAs (Stopped (Halts h) line) u (acted b' line d (on_state ds es s))
-  ends-as h t (Answers v w q) u e f g = absurd e
-  ends-as h t (Fails y p w q) u e f g = (ap (λ z. Stopped z line) e.0, sym f, ap (λ z. s.output ++ z) e.1 ∙ sym g)
-  ends-as h t (Breaks y p w q) u e f g = (ap (λ z. Stopped z line) e.0, sym f, ap (λ z. s.output ++ z) e.1 ∙ sym g)
+  ends-as : (y : Wrong) (t : Told) (d : Done) (u : State) → EndsBy y t.bytes d → u.taken ≡ s.taken → u.output ≡ s.output ++ t.bytes → EndsAs (Stopped y line) u (acted b' line d (on_state ds es s))
+  ends-as z t (Answers v w q) u e f g = absurd e
+  ends-as z t (Fails y p w q) u e f g = (ap (λ z. Stopped z line) e.0, sym f, ap (λ z. s.output ++ z) e.1 ∙ sym g)
+  ends-as z t (Breaks y p w q) u e f g = (ap (λ z. Stopped z line) e.0, sym f, ap (λ z. s.output ++ z) e.1 ∙ sym g)
 
   -- the late run stops in an operation
   stop-follows : (y : Wrong) (w : World) (t : Told) (u : State) (d : Done) → u.taken ≡ s.taken → u.output ≡ s.output ++ t.bytes → u.world ≡ w → Halted cs y (pairs_of w) t.bytes d
       → Follows {A = Worth} ds (Stops (Stopped y line) u) (acted b' line d (on_state ds es s))
-  stop-follows (Undefined f) w t u d e g i h = subst (λ n. IsUndefined (acted b' line d (on_state ds es s)) n) (sym e) (bad-undefined d h)
-  stop-follows Undecided w t u d e g i h = tt
-  stop-follows (Halts x) w t u d e g i (inl h) = inl (ends-as x t d u h.0 e g)
+  stop-follows (ByVerdict (verdict.Undefined f)) w t u d e g i h = subst (λ n. IsUndefined (acted b' line d (on_state ds es s)) n) (sym e) (bad-undefined d h)
+  stop-follows (ByVerdict verdict.Undecided) w t u d e g i h = tt
+  stop-follows (ByVerdict verdict.Indeterminate) w t u d e g i (inl h) = inl (ends-as (ByVerdict verdict.Indeterminate) t d u h.0 e g)
+  stop-follows (Halts x) w t u d e g i (inl h) = inl (ends-as (Halts x) t d u h.0 e g)
+  stop-follows (ByVerdict verdict.Indeterminate) w t u d e g i (inr h) =
+      inr (λ a. h.1 (cut-less ds (pairs_at s) (pairs_of w) (subst (λ (v : World). Allows ds (pairs_of v)) i a)), subst (λ n. IsUndefined (acted b' line d (on_state ds es s)) n) (sym e) (bad-undefined d h.0))
   stop-follows (Halts x) w t u d e g i (inr h) =
       inr (λ a. h.1 (cut-less ds (pairs_at s) (pairs_of w) (subst (λ (v : World). Allows ds (pairs_of v)) i a)), subst (λ n. IsUndefined (acted b' line d (on_state ds es s)) n) (sym e) (bad-undefined d h.0))
 

@@ -7,7 +7,7 @@ use Rattle.pv_object.specs.declared.values.Stop.{Stop}
 use Rattle.pv_object.specs.declared.values.Stop.TheVariants as stop
 use Rattle.pv_fault.specs.declared.verdict.Verdict.TheVariants as verdict
 use Rattle.pv_world.specs.declared.failing.Blame.{Blame}
-use Rattle.pv_world.specs.Worlds.{Worth, World, Wrong, Undefined, Undecided, Halts, Halt}
+use Rattle.pv_world.specs.Worlds.{Worth, World, Wrong, ByVerdict, Halts}
 use Rattle.pv_world.specs.Telling.{Told, quiet}
 use Rattle.pv_world.specs.Doing.{Done, Answers, Fails, Breaks}
 use Rattle.pv_world.specs.Worths.{wrong_of, unless}
@@ -22,8 +22,9 @@ pairs_of w = w.memory.table.pairs
 
 -- undefined behaviour (3.4.3)
 abbrev pub IsWrong : Wrong → Type 0
-IsWrong (Undefined f) = Unit {0}
-IsWrong Undecided = ⊥
+IsWrong (ByVerdict (verdict.Undefined f)) = Unit {0}
+IsWrong (ByVerdict verdict.Undecided) = ⊥
+IsWrong (ByVerdict verdict.Indeterminate) = ⊥
 IsWrong (Halts h) = ⊥
 
 abbrev pub IsBad : Done → Type 0
@@ -32,16 +33,17 @@ IsBad (Fails y p w t) = IsWrong y
 IsBad (Breaks y b w t) = IsWrong y
 
 -- the run ends so, and these bytes are printed
-abbrev pub EndsBy : Halt → List ℕ → Done → Type 0
-EndsBy h bs (Answers v w t) = ⊥
-EndsBy h bs (Fails y p w t) = (y ≡ Halts h) × (t.bytes ≡ bs)
-EndsBy h bs (Breaks y b w t) = (y ≡ Halts h) × (t.bytes ≡ bs)
+abbrev pub EndsBy : Wrong → List ℕ → Done → Type 0
+EndsBy z bs (Answers v w t) = ⊥
+EndsBy z bs (Fails y p w t) = (y ≡ z) × (t.bytes ≡ bs)
+EndsBy z bs (Breaks y b w t) = (y ≡ z) × (t.bytes ≡ bs)
 
 -- the late run ends for this reason, and leaves these pairs
 abbrev pub Halted : List Bool → Wrong → List Twin → List ℕ → Done → Type 0
-Halted ds (Undefined f) ts bs d = IsBad d
-Halted ds Undecided ts bs d = Unit {0}
-Halted ds (Halts h) ts bs d = (EndsBy h bs d × Allows ds ts) ⊎ (IsBad d × (Allows ds ts → ⊥))
+Halted ds (ByVerdict (verdict.Undefined f)) ts bs d = IsBad d
+Halted ds (ByVerdict verdict.Undecided) ts bs d = Unit {0}
+Halted ds (ByVerdict verdict.Indeterminate) ts bs d = (EndsBy (ByVerdict verdict.Indeterminate) bs d × Allows ds ts) ⊎ (IsBad d × (Allows ds ts → ⊥))
+Halted ds (Halts h) ts bs d = (EndsBy (Halts h) bs d × Allows ds ts) ⊎ (IsBad d × (Allows ds ts → ⊥))
 
 abbrev pub Tracks : List Bool → Done → Done → Type 0
 Tracks ds (Answers v w t) (Answers v' w' t') = (v' ≡ v) × (t'.bytes ≡ t.bytes) × Allows ds (pairs_of w) × (w' ≡ on_world ds w) × Nearly ds (pairs_of w)
@@ -92,14 +94,16 @@ ends-broken A ds stop.NoMemory y' U bs b w t e h = tt
 
 -- both end for the same reason, in worlds with the same pairs as before
 pub same-end : (ds : List Bool) (y : Wrong) (ts : List Twin) (t t' : Told) (p : Option Prov) (w : World) → t'.bytes ≡ t.bytes → Allows ds ts → Halted ds y ts t.bytes (Fails y p w t')
-same-end ds (Undefined f) ts t t' p w e al = tt
-same-end ds Undecided ts t t' p w e al = tt
+same-end ds (ByVerdict (verdict.Undefined f)) ts t t' p w e al = tt
+same-end ds (ByVerdict verdict.Undecided) ts t t' p w e al = tt
+same-end ds (ByVerdict verdict.Indeterminate) ts t t' p w e al = inl ((refl, e), al)
 same-end ds (Halts h) ts t t' p w e al = inl ((refl, e), al)
 
 -- the late run goes on where the settled one has ended
 halted-lost : (ds : List Bool) (y : Wrong) (ts : List Twin) (bs : List ℕ) (d : Done) → IsBad d → (Allows ds ts → ⊥) → Halted ds y ts bs d
-halted-lost ds (Undefined f) ts bs d h n = h
-halted-lost ds Undecided ts bs d h n = tt
+halted-lost ds (ByVerdict (verdict.Undefined f)) ts bs d h n = h
+halted-lost ds (ByVerdict verdict.Undecided) ts bs d h n = tt
+halted-lost ds (ByVerdict verdict.Indeterminate) ts bs d h n = inr (h, n)
 halted-lost ds (Halts k) ts bs d h n = inr (h, n)
 
 pub done-lost : (ds : List Bool) (d d' : Done) → IsBad d' → (Allows ds (left d).table.pairs → ⊥) → Tracks ds d d'

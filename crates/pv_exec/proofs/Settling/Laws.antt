@@ -1,7 +1,8 @@
 -- Late settling is right (the memory model): what a run ends with is its outcome.
 use Rattle.std.proofs.Common.{IfSome, IsSomeAnd}
 use Rattle.pv_inst.specs.declared.values.CreateError.TheVariants as refusal
-use Rattle.pv_world.specs.Worlds.{Worth, Undefined, Undecided, Halts, Indeterminate, Exits, Aborts, Refused, SidesEnded}
+use Rattle.pv_fault.specs.declared.verdict.Verdict.TheVariants as verdict
+use Rattle.pv_world.specs.Worlds.{Worth, ByVerdict, Halts, Exits, Aborts, Refused, SidesEnded}
 use Rattle.pv_eval.specs.States.{Res, Gives, Stops, Turns, Unreached, Stopped}
 use Rattle.pv_exec.specs.Run.{outcome_of}
 use Rattle.pv_exec.specs.Laying.{HasNoEmptyTag}
@@ -13,8 +14,9 @@ decided : (r : Res Worth) → IfSome (outcome_of r) IsDecided → EndsDecided r
 decided (Gives v s) d = tt
 decided (Stops Turns s) d = tt
 decided (Stops Unreached s) d = tt
-decided (Stops (Stopped (Undefined f) line) s) d = d
-decided (Stops (Stopped Undecided line) s) d = d
+decided (Stops (Stopped (ByVerdict (verdict.Undefined f)) line) s) d = d
+decided (Stops (Stopped (ByVerdict verdict.Undecided) line) s) d = d
+decided (Stops (Stopped (ByVerdict verdict.Indeterminate) line) s) d = tt
 decided (Stops (Stopped (Halts h) line) s) d = tt
 
 -- no other end is reported as undefined
@@ -22,9 +24,9 @@ undefined : (r : Res Worth) → IsSomeAnd (outcome_of r) IsUndefined → EndsUnd
 undefined (Gives v s) h = h
 undefined (Stops Turns s) h = h
 undefined (Stops Unreached s) h = h
-undefined (Stops (Stopped (Undefined g) l) s) h = tt
-undefined (Stops (Stopped Undecided l) s) h = h
-undefined (Stops (Stopped (Halts Indeterminate) l) s) h = h
+undefined (Stops (Stopped (ByVerdict (verdict.Undefined g)) l) s) h = tt
+undefined (Stops (Stopped (ByVerdict verdict.Undecided) l) s) h = h
+undefined (Stops (Stopped (ByVerdict verdict.Indeterminate) l) s) h = h
 undefined (Stops (Stopped (Halts (Exits n)) l) s) h = h
 undefined (Stops (Stopped (Halts Aborts) l) s) h = h
 undefined (Stops (Stopped (Halts (SidesEnded k)) l) s) h = h

@@ -7,7 +7,8 @@ use Rattle.pv_prov.specs.Twins.{KeepsOne}
 use Rattle.pv_typed.specs.declared.values.Const.{Const}
 use Rattle.pv_typed.specs.declared.values.Const.TheVariants as const
 use Rattle.pv_typed.specs.Tables.{Stored}
-use Rattle.pv_world.specs.Worlds.{Worth, World, Undefined, Undecided, Halts}
+use Rattle.pv_fault.specs.declared.verdict.Verdict.TheVariants as verdict
+use Rattle.pv_world.specs.Worlds.{Worth, World, ByVerdict, Halts}
 use Rattle.pv_world.specs.Telling.{Told}
 use Rattle.pv_world.specs.Doing.{Done, Answers, Fails, Breaks}
 use Rattle.pv_eval.specs.declared.marked.Marked.{Marked}
@@ -37,8 +38,9 @@ abbrev pub EndsUndefined : Res Worth → Type 0
 EndsUndefined (Gives v s) = ⊥
 EndsUndefined (Stops Turns s) = ⊥
 EndsUndefined (Stops Unreached s) = ⊥
-EndsUndefined (Stops (Stopped (Undefined f) line) s) = Unit {0}
-EndsUndefined (Stops (Stopped Undecided line) s) = ⊥
+EndsUndefined (Stops (Stopped (ByVerdict (verdict.Undefined f)) line) s) = Unit {0}
+EndsUndefined (Stops (Stopped (ByVerdict verdict.Undecided) line) s) = ⊥
+EndsUndefined (Stops (Stopped (ByVerdict verdict.Indeterminate) line) s) = ⊥
 EndsUndefined (Stops (Stopped (Halts h) line) s) = ⊥
 
 -- it ends neither undefined nor undecided
@@ -46,8 +48,9 @@ abbrev pub EndsDecided : Res Worth → Type 0
 EndsDecided (Gives v s) = Unit {0}
 EndsDecided (Stops Turns s) = Unit {0}
 EndsDecided (Stops Unreached s) = Unit {0}
-EndsDecided (Stops (Stopped (Undefined f) line) s) = ⊥
-EndsDecided (Stops (Stopped Undecided line) s) = ⊥
+EndsDecided (Stops (Stopped (ByVerdict (verdict.Undefined f)) line) s) = ⊥
+EndsDecided (Stops (Stopped (ByVerdict verdict.Undecided) line) s) = ⊥
+EndsDecided (Stops (Stopped (ByVerdict verdict.Indeterminate) line) s) = Unit {0}
 EndsDecided (Stops (Stopped (Halts h) line) s) = Unit {0}
 
 -- pieces of the late run and of a settled one
@@ -71,16 +74,18 @@ undefined-on : {A B : Type 0} (r : Res A) (f : A → State → Res B) (n : ℕ) 
 undefined-on (Gives a s) f n h = absurd h
 undefined-on (Stops Turns s) f n h = absurd h
 undefined-on (Stops Unreached s) f n h = absurd h
-undefined-on (Stops (Stopped (Undefined x) line) s) f n h = h
-undefined-on (Stops (Stopped Undecided line) s) f n h = absurd h
+undefined-on (Stops (Stopped (ByVerdict (verdict.Undefined x)) line) s) f n h = h
+undefined-on (Stops (Stopped (ByVerdict verdict.Undecided) line) s) f n h = absurd h
+undefined-on (Stops (Stopped (ByVerdict verdict.Indeterminate) line) s) f n h = absurd h
 undefined-on (Stops (Stopped (Halts x) line) s) f n h = absurd h
 
 undefined-later : {A : Type 0} (r : Res A) (n m : ℕ) → n ≤ m → IsUndefined r n → IsUndefined r m
 undefined-later (Gives a s) n m le h = absurd h
 undefined-later (Stops Turns s) n m le h = absurd h
 undefined-later (Stops Unreached s) n m le h = absurd h
-undefined-later (Stops (Stopped (Undefined x) line) s) n m le h = omega (arith, le, h)
-undefined-later (Stops (Stopped Undecided line) s) n m le h = absurd h
+undefined-later (Stops (Stopped (ByVerdict (verdict.Undefined x)) line) s) n m le h = omega (arith, le, h)
+undefined-later (Stops (Stopped (ByVerdict verdict.Undecided) line) s) n m le h = absurd h
+undefined-later (Stops (Stopped (ByVerdict verdict.Indeterminate) line) s) n m le h = absurd h
 undefined-later (Stops (Stopped (Halts x) line) s) n m le h = absurd h
 
 ends-on : {A B : Type 0} (y : Why) (t : State) (r : Res A) (f : A → State → Res B) → EndsAs y t r → EndsAs y t (then_do r f)
@@ -95,8 +100,9 @@ either-on f g (inr q) = inr (q.0, g q.1)
 stopped-on : {A B : Type 0} (ds : List Bool) (y : Why) (t : State) (r : Res A) (f : A → State → Res B) → Follows {A = A} ds (Stops y t) r → Follows {A = B} ds (Stops y t) (then_do r f)
 stopped-on ds Turns t r f h = either-on (ends-on Turns t r f) (undefined-on r f t.taken) h
 stopped-on ds Unreached t r f h = either-on (ends-on Unreached t r f) (undefined-on r f t.taken) h
-stopped-on ds (Stopped (Undefined x) line) t r f h = undefined-on r f t.taken h
-stopped-on ds (Stopped Undecided line) t r f h = tt
+stopped-on ds (Stopped (ByVerdict (verdict.Undefined x)) line) t r f h = undefined-on r f t.taken h
+stopped-on ds (Stopped (ByVerdict verdict.Undecided) line) t r f h = tt
+stopped-on ds (Stopped (ByVerdict verdict.Indeterminate) line) t r f h = either-on (ends-on (Stopped (ByVerdict verdict.Indeterminate) line) t r f) (undefined-on r f t.taken) h
 stopped-on ds (Stopped (Halts x) line) t r f h = either-on (ends-on (Stopped (Halts x) line) t r f) (undefined-on r f t.taken) h
 
 -- the settled run has ended undefined, and the late one goes on without its side
@@ -104,8 +110,9 @@ lost-on : {A : Type 0} (ds : List Bool) (r r' : Res A) → (Allows ds (pairs_at 
 lost-on ds (Gives a t) r' n h = inr (n, h)
 lost-on ds (Stops Turns t) r' n h = inr (n, h)
 lost-on ds (Stops Unreached t) r' n h = inr (n, h)
-lost-on ds (Stops (Stopped (Undefined x) line) t) r' n h = h
-lost-on ds (Stops (Stopped Undecided line) t) r' n h = tt
+lost-on ds (Stops (Stopped (ByVerdict (verdict.Undefined x)) line) t) r' n h = h
+lost-on ds (Stops (Stopped (ByVerdict verdict.Undecided) line) t) r' n h = tt
+lost-on ds (Stops (Stopped (ByVerdict verdict.Indeterminate) line) t) r' n h = inr (n, h)
 lost-on ds (Stops (Stopped (Halts x) line) t) r' n h = inr (n, h)
 
 module _ (F : Type 0) (ds : List Bool) where
@@ -235,25 +242,29 @@ late-settled ds (Stops Turns t) r' al d (inl h) = alike-ends Turns t r' h
 late-settled ds (Stops Turns t) r' al d (inr h) = absurd (h.0 al)
 late-settled ds (Stops Unreached t) r' al d (inl h) = alike-ends Unreached t r' h
 late-settled ds (Stops Unreached t) r' al d (inr h) = absurd (h.0 al)
-late-settled ds (Stops (Stopped (Undefined x) line) t) r' al d h = absurd d
-late-settled ds (Stops (Stopped Undecided line) t) r' al d h = absurd d
+late-settled ds (Stops (Stopped (ByVerdict (verdict.Undefined x)) line) t) r' al d h = absurd d
+late-settled ds (Stops (Stopped (ByVerdict verdict.Undecided) line) t) r' al d h = absurd d
+late-settled ds (Stops (Stopped (ByVerdict verdict.Indeterminate) line) t) r' al d (inl h) = alike-ends (Stopped (ByVerdict verdict.Indeterminate) line) t r' h
 late-settled ds (Stops (Stopped (Halts x) line) t) r' al d (inl h) = alike-ends (Stopped (Halts x) line) t r' h
+late-settled ds (Stops (Stopped (ByVerdict verdict.Indeterminate) line) t) r' al d (inr h) = absurd (h.0 al)
 late-settled ds (Stops (Stopped (Halts x) line) t) r' al d (inr h) = absurd (h.0 al)
 
 sooner-ends : (r r' : Res Worth) → IsUndefined r' (end_of r).taken → EndsBy (end_of r).taken r'
 sooner-ends r (Gives v s) h = absurd h
 sooner-ends r (Stops Turns s) h = absurd h
 sooner-ends r (Stops Unreached s) h = absurd h
-sooner-ends r (Stops (Stopped (Undefined x) line) s) h = record { undefined = tt; turns = h }
-sooner-ends r (Stops (Stopped Undecided line) s) h = absurd h
+sooner-ends r (Stops (Stopped (ByVerdict (verdict.Undefined x)) line) s) h = record { undefined = tt; turns = h }
+sooner-ends r (Stops (Stopped (ByVerdict verdict.Undecided) line) s) h = absurd h
+sooner-ends r (Stops (Stopped (ByVerdict verdict.Indeterminate) line) s) h = absurd h
 sooner-ends r (Stops (Stopped (Halts x) line) s) h = absurd h
 
 undefined-sooner : (ds : List Bool) (r r' : Res Worth) → EndsUndefined r → Follows ds r r' → EndsBy (end_of r).taken r'
 undefined-sooner ds (Gives v t) r' d h = absurd d
 undefined-sooner ds (Stops Turns t) r' d h = absurd d
 undefined-sooner ds (Stops Unreached t) r' d h = absurd d
-undefined-sooner ds (Stops (Stopped (Undefined x) line) t) r' d h = sooner-ends (Stops (Stopped (Undefined x) line) t) r' h
-undefined-sooner ds (Stops (Stopped Undecided line) t) r' d h = absurd d
+undefined-sooner ds (Stops (Stopped (ByVerdict (verdict.Undefined x)) line) t) r' d h = sooner-ends (Stops (Stopped (ByVerdict (verdict.Undefined x)) line) t) r' h
+undefined-sooner ds (Stops (Stopped (ByVerdict verdict.Undecided) line) t) r' d h = absurd d
+undefined-sooner ds (Stops (Stopped (ByVerdict verdict.Indeterminate) line) t) r' d h = absurd d
 undefined-sooner ds (Stops (Stopped (Halts x) line) t) r' d h = absurd d
 
 module _ (u : Stored) (full : HasNoEmptyTag u) (zap : Bool) (script : List ScriptLine) (n : ℕ) (library : (cs : List Bool) → AsksTrack (setting_of u n None zap) (HasNoEmptyTag u) cs) where
