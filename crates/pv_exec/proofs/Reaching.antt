@@ -9,7 +9,6 @@ use Rattle.pv_inst.specs.declared.values.CreateError.TheVariants as refusal
 use Rattle.pv_typed.specs.Known.{Each}
 use Rattle.pv_typed.specs.Tables.{Stored}
 use Rattle.pv_watch.specs.declared.event.What.{What}
-use Rattle.pv_fault.specs.declared.verdict.Verdict.TheVariants as verdict
 use Rattle.pv_world.specs.Worlds.{Worth, World, Wrong, ByVerdict, Halts, Exits, Aborts, Refused, SidesEnded}
 use Rattle.pv_world.specs.Doing.{Done, Answers, Fails, Breaks}
 use Rattle.pv_world.specs.Telling.{Told, verdict_of, fault_of, fault_told}
@@ -120,9 +119,7 @@ abbrev is_turns : Option Outcome → Bool
 is_turns (Some outcome.Turns) = true
 is_turns (Some (outcome.Exit status)) = false
 is_turns (Some (outcome.Abort line)) = false
-is_turns (Some (outcome.Undefined fault line)) = false
-is_turns (Some (outcome.Indeterminate line)) = false
-is_turns (Some (outcome.Undecided line)) = false
+is_turns (Some (outcome.Ends v line)) = false
 is_turns (Some (outcome.Placement reason name k line)) = false
 is_turns (Some (outcome.Storage live size line)) = false
 is_turns (Some (outcome.SidesEnded pair)) = false
@@ -137,9 +134,7 @@ refused-not name (refusal.Overlap k address other) line = refl
 refused-not name refusal.NoMemory line = refl
 
 stopped-not : (y : Wrong) (line : ℕ) → is_turns (stopped y line) ≡ false
-stopped-not (ByVerdict (verdict.Undefined f)) line = refl
-stopped-not (ByVerdict verdict.Undecided) line = refl
-stopped-not (ByVerdict verdict.Indeterminate) line = refl
+stopped-not (ByVerdict v) line = refl
 stopped-not (Halts (Exits n)) line = refl
 stopped-not (Halts Aborts) line = refl
 stopped-not (Halts (Refused name e)) line = refused-not name e line

@@ -10,7 +10,6 @@ use Rattle.pv_inst.specs.declared.values.CreateError.TheVariants as refusal
 use Rattle.pv_typed.specs.TypedUnits.{function_at}
 use Rattle.pv_typed.specs.Mains.{main_of}
 use Rattle.pv_typed.specs.Tables.{Stored, whole}
-use Rattle.pv_fault.specs.declared.verdict.Verdict.TheVariants as verdict
 use Rattle.pv_world.specs.Worlds.{Worth, Nothing, Wrong, ByVerdict, Halts, Halt, Exits, Aborts, Refused, SidesEnded}
 use Rattle.pv_world.specs.Worths.{int_of}
 use Rattle.pv_eval.specs.States.{Setting, State, Turns, Unreached, Stopped, Res, Gives, Stops, then_do, first_world}
@@ -60,9 +59,7 @@ halted (SidesEnded k) line = Some (outcome.SidesEnded k)
 -- an operation ended the run: undefined behaviour (3.4.3), an indeterminate value (3.19.2), what the memory model leaves undecided, or one of
 -- those above
 abbrev pub stopped : Wrong → ℕ → Option Outcome
-stopped (ByVerdict (verdict.Undefined f)) line = Some (outcome.Undefined f line)
-stopped (ByVerdict verdict.Undecided) line = Some (outcome.Undecided line)
-stopped (ByVerdict verdict.Indeterminate) line = Some (outcome.Indeterminate line)
+stopped (ByVerdict v) line = Some (outcome.Ends v line)
 stopped (Halts h) line = halted h line
 
 -- 5.1.2.2.3p1: how a run ended: `main` returned, its turns were taken, or an operation ended it; its levels are never used up

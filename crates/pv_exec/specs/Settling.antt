@@ -1,25 +1,26 @@
 -- When a pair of candidates is settled (the memory model): by the uses of its name, or from its making by a list of sides. Both come to the same.
 use Rattle.std.specs.Prelude.{◌≡◌, ℕ, ◌≤◌, Bool, List, length, None, Some, IfSome, IsSomeAnd}
+use Rattle.pv_fault.specs.declared.verdict.Verdict.TheVariants as verdict
 use Rattle.pv_script.specs.Lines.{ScriptLine}
 use Rattle.pv_typed.specs.Tables.{Stored}
 use Rattle.pv_world.specs.Worlds.{Worth}
 use Rattle.pv_eval.specs.States.{Res, end_of}
 use Rattle.pv_eval.specs.Acting.{pair_count}
 use Rattle.pv_exec.specs.declared.outcome.Outcome.{Outcome}
-use Rattle.pv_exec.specs.declared.outcome.Outcome.TheVariants.{Undefined, Undecided}
+use Rattle.pv_exec.specs.declared.outcome.Outcome.TheVariants.{Ends}
 use Rattle.pv_exec.specs.Run.{outcome_of, sides_at}
 use Rattle.pv_exec.specs.Laws.{run_at}
 use Rattle.pv_exec.specs.Laying.{HasNoEmptyTag}
 
 -- 3.4.3: undefined behaviour
 abbrev pub IsUndefined : Outcome → Type 0
-IsUndefined (Undefined f line) = Unit {0}
+IsUndefined (Ends (verdict.Undefined f) line) = Unit {0}
 IsUndefined _ = ⊥
 
 -- 3.4.3, the memory model: neither undefined nor undecided
 abbrev pub IsDecided : Outcome → Type 0
-IsDecided (Undefined f line) = ⊥
-IsDecided (Undecided line) = ⊥
+IsDecided (Ends (verdict.Undefined f) line) = ⊥
+IsDecided (Ends verdict.Undecided line) = ⊥
 IsDecided _ = Unit {0}
 
 -- 5.1.2.3p6: the second run ends as the first one, after as many turns and with the same output

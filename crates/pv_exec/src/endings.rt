@@ -7,7 +7,7 @@ ghost use Rattle.pv_exec.specs.Ending.{outcome_by};
 
 use crate::outcome::Outcome;
 use crate::running::Ended;
-use pv_fault::{Reason, Verdict};
+use pv_fault::Reason;
 use pv_inst::CreateError;
 use pv_num::{IntKind, fits};
 use pv_object::Value;
@@ -69,9 +69,7 @@ fn stopped(cause: Cause, line: u32) -> Option<Outcome>
     ensures { result ≡ stopped (wrong_for cause) line }
 {
     match cause {
-        Cause::Ends(Verdict::Undefined(fault)) => Some(Outcome::Undefined { fault, line }),
-        Cause::Ends(Verdict::Undecided) => Some(Outcome::Undecided { line }),
-        Cause::Ends(Verdict::Indeterminate) => Some(Outcome::Indeterminate { line }),
+        Cause::Ends(verdict) => Some(Outcome::Ends { verdict, line }),
         Cause::Exits(status) => Some(Outcome::Exit { status }),
         Cause::Aborts => Some(Outcome::Abort { line }),
         Cause::Refused(name, e) => refused(name, e, line),

@@ -1,5 +1,5 @@
 // How a run ended.
-use pv_fault::{Fault, Reason};
+use pv_fault::{Reason, Verdict};
 
 /// How a run ended. Lines are counted from 1, as line markers set them.
 #[derive(Clone, Copy)]
@@ -12,17 +12,10 @@ pub enum Outcome {
     Abort {
         line: u32,
     },
-    /// An operation at this line had no defined behaviour (C17 3.4.3).
-    Undefined {
-        fault: Fault,
-        line: u32,
-    },
-    /// An operation at this line met a value that is indeterminate (C17 3.19.2).
-    Indeterminate {
-        line: u32,
-    },
-    /// Two operands have two instances in common, under different names.
-    Undecided {
+    /// An operation at this line had no value: undefined behaviour (C17 3.4.3), an indeterminate value (C17 3.19.2), or two operands with two
+    /// instances in common.
+    Ends {
+        verdict: Verdict,
         line: u32,
     },
     /// The script has a place for this request that can't be given.

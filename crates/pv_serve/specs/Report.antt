@@ -6,6 +6,7 @@ use Rattle.pv_fault.specs.FaultTexts.{clause_text, reason_text}
 use Rattle.pv_script.specs.declared.scripts.ScriptError.{ScriptError}
 use Rattle.pv_script.specs.declared.scripts.ScriptError.TheVariants as script
 use Rattle.pv_script.specs.Names.{name_at}
+use Rattle.pv_fault.specs.declared.verdict.Verdict.TheVariants as verdicts
 use Rattle.pv_exec.specs.declared.outcome.Outcome.{Outcome}
 use Rattle.pv_exec.specs.declared.outcome.Outcome.TheVariants as outcome
 use Rattle.pv_exec.specs.declared.sides.Side.{Side}
@@ -27,11 +28,11 @@ at_line word line turns = word ++ codes " line=" ++ decimal line ++ codes " turn
 -- is told by the bound alone. A line is one of the source (6.10.4p3), and numbers are decimal, without leading zeros.
 abbrev pub outcome_line : Outcome → (names : List (List ℕ)) → (turns bound : ℕ) → List ℕ
 outcome_line (outcome.Exit status) names turns bound = codes "exit status=" ++ signed_decimal status ++ codes " turn=" ++ decimal turns ++ line_feed
-outcome_line (outcome.Undefined fault line) names turns bound =
+outcome_line (outcome.Ends (verdicts.Undefined fault) line) names turns bound =
     codes "undefined clause=" ++ clause_text fault.clause ++ codes " reason=" ++ reason_text fault.reason ++ codes " line=" ++ decimal line
     ++ codes " turn=" ++ decimal turns ++ line_feed
-outcome_line (outcome.Indeterminate line) names turns bound = at_line (codes "indeterminate") line turns
-outcome_line (outcome.Undecided line) names turns bound = at_line (codes "undecided") line turns
+outcome_line (outcome.Ends verdicts.Indeterminate line) names turns bound = at_line (codes "indeterminate") line turns
+outcome_line (outcome.Ends verdicts.Undecided line) names turns bound = at_line (codes "undecided") line turns
 outcome_line (outcome.Placement reason name k line) names turns bound =
     codes "placement reason=" ++ reason_text reason ++ codes " name=" ++ name_at names name
     ++ (codes " k=" ++ decimal k ++ codes " line=" ++ decimal line ++ codes " turn=" ++ decimal turns ++ line_feed)
@@ -45,8 +46,8 @@ outcome_line (outcome.SidesEnded pair) names turns bound = codes "sides ended pa
 -- the memory model: the sides of a run are told unless it ended at an operation without defined behaviour (3.4.3), or at one that two pairs left undecided
 -- (6.5.6p9, 6.5.8p5)
 abbrev pub is_decided : Outcome → Bool
-is_decided (outcome.Undefined fault line) = false
-is_decided (outcome.Undecided line) = false
+is_decided (outcome.Ends (verdicts.Undefined fault) line) = false
+is_decided (outcome.Ends verdicts.Undecided line) = false
 is_decided _ = true
 
 -- the memory model: the letter of a side of a pair of candidates: `l`, `h`
@@ -96,9 +97,9 @@ report_line (Script why) = script_line why
 -- docs/FORMATS.md: the status by how a run ended; it is 0 where the program came to its end (5.1.2.2.3, 7.22.4.4)
 abbrev pub outcome_status : Outcome → ℕ
 outcome_status (outcome.Exit status) = 0
-outcome_status (outcome.Undefined fault line) = 1
-outcome_status (outcome.Indeterminate line) = 2
-outcome_status (outcome.Undecided line) = 3
+outcome_status (outcome.Ends (verdicts.Undefined fault) line) = 1
+outcome_status (outcome.Ends verdicts.Indeterminate line) = 2
+outcome_status (outcome.Ends verdicts.Undecided line) = 3
 outcome_status (outcome.Placement reason name k line) = 4
 outcome_status (outcome.Storage live size line) = 5
 outcome_status outcome.Turns = 6

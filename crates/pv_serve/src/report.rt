@@ -10,7 +10,7 @@ use crate::NoMemory;
 use crate::checking::Refused;
 use crate::judging::Judgement;
 use pv_exec::{Outcome, Ran, Side, Sides};
-use pv_fault::{Fault, Reason};
+use pv_fault::{Fault, Reason, Verdict};
 use pv_lex::LexError;
 use pv_script::{Names, ScriptError};
 use pv_unit::CheckError;
@@ -37,9 +37,11 @@ fn run_status(outcome: Outcome) -> u8
 {
     match outcome {
         Outcome::Exit { .. } => 0,
-        Outcome::Undefined { .. } => 1,
-        Outcome::Indeterminate { .. } => 2,
-        Outcome::Undecided { .. } => 3,
+        Outcome::Ends { verdict, .. } => match verdict {
+            Verdict::Undefined(_) => 1,
+            Verdict::Indeterminate => 2,
+            Verdict::Undecided => 3,
+        },
         Outcome::Placement { .. } => 4,
         Outcome::Storage { .. } => 5,
         Outcome::Turns => 6,
@@ -74,13 +76,15 @@ fn run_line(alloc: Global, ran: &Ran, names: &Names, bound: u64) -> Result<Vec<u
     let turns = ran.turns;
     match ran.outcome {
         Outcome::Exit { status } => Ok(exit_line(alloc, status, turns)?.into_bytes()),
-        Outcome::Undefined { fault, line } => {
-            Ok(undefined_line(alloc, fault, line, turns)?.into_bytes())
-        }
-        Outcome::Indeterminate { line } => {
-            Ok(at_line(alloc, "indeterminate", line, turns)?.into_bytes())
-        }
-        Outcome::Undecided { line } => Ok(at_line(alloc, "undecided", line, turns)?.into_bytes()),
+        Outcome::Ends { verdict, line } => match verdict {
+            Verdict::Undefined(fault) => {
+                Ok(undefined_line(alloc, fault, line, turns)?.into_bytes())
+            }
+            Verdict::Indeterminate => {
+                Ok(at_line(alloc, "indeterminate", line, turns)?.into_bytes())
+            }
+            Verdict::Undecided => Ok(at_line(alloc, "undecided", line, turns)?.into_bytes()),
+        },
         Outcome::Placement {
             reason,
             name,
@@ -123,9 +127,11 @@ fn is_decided(outcome: Outcome) -> bool
 {
     match outcome {
         Outcome::Exit { .. } => true,
-        Outcome::Undefined { .. } => false,
-        Outcome::Indeterminate { .. } => true,
-        Outcome::Undecided { .. } => false,
+        Outcome::Ends { verdict, .. } => match verdict {
+            Verdict::Undefined(_) => false,
+            Verdict::Indeterminate => true,
+            Verdict::Undecided => false,
+        },
         Outcome::Placement { .. } => true,
         Outcome::Storage { .. } => true,
         Outcome::Turns => true,

@@ -19,9 +19,7 @@ use Rattle.pv_step.specs.Positions.{bounded, IsWhole}
 
 turns_is : (o : Outcome) → is_turns o ≡ true → o ≡ outcome.Turns
 turns_is (outcome.Exit status) h = absurd cc
-turns_is (outcome.Undefined fault line) h = absurd cc
-turns_is (outcome.Indeterminate line) h = absurd cc
-turns_is (outcome.Undecided line) h = absurd cc
+turns_is (outcome.Ends v line) h = absurd cc
 turns_is (outcome.Placement reason name k line) h = absurd cc
 turns_is (outcome.Storage live size line) h = absurd cc
 turns_is outcome.Turns h = refl

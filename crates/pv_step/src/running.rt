@@ -147,9 +147,7 @@ fn is_turns(outcome: Outcome) -> bool
 {
     match outcome {
         Outcome::Exit { .. } => false,
-        Outcome::Undefined { .. } => false,
-        Outcome::Indeterminate { .. } => false,
-        Outcome::Undecided { .. } => false,
+        Outcome::Ends { .. } => false,
         Outcome::Placement { .. } => false,
         Outcome::Storage { .. } => false,
         Outcome::Turns => true,

@@ -12,7 +12,7 @@ use crate::error::NoMemory;
 use crate::files::CaseText;
 use pv_cases::{Case, Expected, Got, Told, compare};
 use pv_exec::Outcome;
-use pv_fault::Clause;
+use pv_fault::{Clause, Verdict};
 use pv_script::MemSink;
 use pv_serve::{Judgement, judge, line};
 use pv_watch::Hall;
@@ -113,9 +113,10 @@ fn clause_at(outcome: Outcome) -> Option<Clause>
 {
     match outcome {
         Outcome::Exit { .. } => None,
-        Outcome::Undefined { fault, .. } => Some(fault.clause),
-        Outcome::Indeterminate { .. } => None,
-        Outcome::Undecided { .. } => None,
+        Outcome::Ends { verdict, .. } => match verdict {
+            Verdict::Undefined(fault) => Some(fault.clause),
+            Verdict::Indeterminate | Verdict::Undecided => None,
+        },
         Outcome::Placement { .. } => None,
         Outcome::Storage { .. } => None,
         Outcome::Turns => None,

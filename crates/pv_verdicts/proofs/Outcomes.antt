@@ -7,7 +7,6 @@ use Rattle.pv_prov.specs.Names.{twin_at}
 use Rattle.pv_inst.specs.declared.values.CreateError.{CreateError}
 use Rattle.pv_inst.specs.declared.values.CreateError.TheVariants as refusal
 use Rattle.pv_typed.specs.Tables.{Stored, whole}
-use Rattle.pv_fault.specs.declared.verdict.Verdict.TheVariants as verdict
 use Rattle.pv_world.specs.Worlds.{Worth, World, Wrong, ByVerdict, Halts, Exits, Aborts, Refused, SidesEnded}
 use Rattle.pv_world.specs.Telling.{Told}
 use Rattle.pv_world.specs.Doing.{Done, Answers, Fails, Breaks}
@@ -119,9 +118,7 @@ refused-some name (refusal.Overlap k address other) line h = (_, refl)
 refused-some name refusal.NoMemory line h = absurd h
 
 stopped-some : (y : Wrong) (line : ℕ) → FineWrong y → (o : Outcome) × (stopped y line ≡ Some o)
-stopped-some (ByVerdict (verdict.Undefined f)) line h = (_, refl)
-stopped-some (ByVerdict verdict.Undecided) line h = (_, refl)
-stopped-some (ByVerdict verdict.Indeterminate) line h = (_, refl)
+stopped-some (ByVerdict v) line h = (_, refl)
 stopped-some (Halts (Exits n)) line h = (_, refl)
 stopped-some (Halts Aborts) line h = (_, refl)
 stopped-some (Halts (Refused name e)) line h = refused-some name e line h
