@@ -14,7 +14,7 @@ use Rattle.pv_types.proofs.Compared.{alike_self}
 use Rattle.pv_types.specs.Known.{Known, tree, env}
 use Rattle.pv_types.specs.Layouts.{Part, repeated, is_complete_in}
 use Rattle.pv_layout.specs.Parts.{some_at, leaves, agrees}
-use Rattle.pv_types.specs.Sorts.{bare, is_scalar, is_character}
+use Rattle.pv_types.specs.Sorts.{bare, is_scalar, is_character, is_scalar_in}
 use Rattle.pv_layout.proofs.Ahead.{bare_size, bare_complete}
 use Rattle.pv_layout.proofs.PartLaws.{at_repeated, some_leaf}
 use Rattle.pv_inst.specs.declared.values.Instance.{Instance}
@@ -29,7 +29,7 @@ use Rattle.pv_world.specs.Objects.{owner_of}
 use Rattle.pv_typed.specs.Tables.{Stored, whole}
 use Rattle.pv_typed.specs.TypedUnits.{object_at}
 use Rattle.pv_eval.specs.States.{Setting}
-use Rattle.pv_eval.specs.Sizes.{setting_of, size_in, is_bare_scalar}
+use Rattle.pv_eval.specs.Sizes.{setting_of, size_in}
 use Rattle.pv_eval.specs.Objects.{has_extent}
 use Rattle.pv_eval.specs.TypeForms.{Lvalue, lvalue}
 use Rattle.pv_eval.specs.Permission.{type_by, permits_object, permits_in, permits_row, permits}
@@ -177,7 +177,7 @@ pub permits_kind : (b : Setting) (w : World) (l : Lvalue) (at : Reach) (writes :
 permits_kind b w l at writes k e = row_in b w l at writes (instance_at w.memory.table.instances at.inst) k e
 
 -- an object of an integer or pointer type without qualifiers, that is accessed as a whole, at that type
-own_scalar : (u : Stored) (o offset w : ℕ) (t : Ty) → t ≡ tree u.known w → is_bare_scalar t ≡ true → offset ≡ 0 → (object_at (whole u) o).t ≡ tree u.known w
+own_scalar : (u : Stored) (o offset w : ℕ) (t : Ty) → t ≡ tree u.known w → is_scalar_in t ≡ true → offset ≡ 0 → (object_at (whole u) o).t ≡ tree u.known w
     → permits_object (setting_of u) (type_by (setting_of u) (Some o)) offset (bare (tree u.known w)) ≡ true
 own_scalar u o offset w (IntTy k) e h zero same =
     subst (λ (q : Ty). permits_object (setting_of u) (type_by (setting_of u) (Some o)) offset q ≡ true) (sym (integer_bare u.known w k (sym e))) (whole_integer u o offset w k zero same (sym e))
@@ -190,7 +190,7 @@ own_scalar u o offset w (UnionTag n) e h zero same = absurd cc
 own_scalar u o offset w (FunctionTy t ts v) e h zero same = absurd cc
 own_scalar u o offset w (ConstOf t) e h zero same = absurd cc
 
-own_in : (u : Stored) (w : World) (o t : ℕ) (at : Reach) (writes : Bool) (k : Kind) → is_declared k ≡ true → owner_of w at.inst ≡ Some o → at.offset ≡ 0 → (object_at (whole u) o).t ≡ tree u.known t → is_bare_scalar (tree u.known t) ≡ true
+own_in : (u : Stored) (w : World) (o t : ℕ) (at : Reach) (writes : Bool) (k : Kind) → is_declared k ≡ true → owner_of w at.inst ≡ Some o → at.offset ≡ 0 → (object_at (whole u) o).t ≡ tree u.known t → is_scalar_in (tree u.known t) ≡ true
     → permits_in (setting_of u) w (lvalue (setting_of u) (tree u.known t)) at writes k ≡ true
 own_in u w o t at writes (Declared constant) d owner zero same scalar =
     ap (λ (q : Option ℕ). permits_object (setting_of u) (type_by (setting_of u) q) at.offset (bare (tree u.known t))) owner ∙ own_scalar u o at.offset t (tree u.known t) refl scalar zero same

@@ -7,12 +7,12 @@ use Rattle.pv_types.specs.Layouts.{Part, Entry, layout_in}
 use Rattle.pv_types.specs.Known.{Known, tree, env}
 use Rattle.pv_types.specs.Formed.{IsBuilt}
 use Rattle.pv_layout.specs.Parts.{leaves, are_counterparts}
-use Rattle.pv_types.specs.Sorts.{bare, is_scalar, is_character}
+use Rattle.pv_types.specs.Sorts.{bare, is_scalar, is_character, is_scalar_in}
 use Rattle.pv_effect.specs.EffectiveType.{same_or_counterpart, anything, some_over, permits_byte, permits_bytes, permits_marks}
 use Rattle.pv_types.specs.SameTypes.{same_type}
 use Rattle.pv_shadow.specs.declared.byte.Byte.{Byte}
 use Rattle.pv_shadow.specs.Readings.{has_mark, are_marked}
-use Rattle.pv_eval.specs.Sizes.{size_in, is_bare_scalar}
+use Rattle.pv_eval.specs.Sizes.{size_in}
 use Rattle.pv_eval.specs.PermissionParts.{marks_of}
 use Rattle.pv_eval.proofs.Numbers.{same}
 
@@ -40,7 +40,7 @@ record IsOne (es : List Entry) (t : Ty) : Type 0 where
   scalar : is_scalar t ≡ true
   unqualified : bare t ≡ t
 
-is-one : (es : List Entry) (t : Ty) → is_bare_scalar t ≡ true → IsOne es t
+is-one : (es : List Entry) (t : Ty) → is_scalar_in t ≡ true → IsOne es t
 is-one es (IntTy k) h = record { parts = refl; scalar = refl; unqualified = refl }
 is-one es (PointerTo t) h = record { parts = refl; scalar = refl; unqualified = refl }
 is-one es VoidTy h = absurd cc
@@ -92,5 +92,5 @@ module _ (m : Known) (i : ℕ) (built : IsBuilt m) (within : i < length m.terms)
       ∙ ap (λ c. permits_bytes m (if c then one_part t else []) 0 (marks_of bs)) one.scalar
       ∙ own_from bs 0 (omega (arith, e)) h
 
-pub own_store : (m : Known) (i : ℕ) (bs : List Byte) → IsBuilt m → i < length m.terms → is_bare_scalar (tree m i) ≡ true → length bs ≡ size_in m (tree m i) → are_marked bs i 0 ≡ true → permits_marks m (layout_in (env m) (tree m i)).parts (marks_of bs) ≡ true
+pub own_store : (m : Known) (i : ℕ) (bs : List Byte) → IsBuilt m → i < length m.terms → is_scalar_in (tree m i) ≡ true → length bs ≡ size_in m (tree m i) → are_marked bs i 0 ≡ true → permits_marks m (layout_in (env m) (tree m i)).parts (marks_of bs) ≡ true
 own_store m i bs built within scalar long marked = own_all m i built within (is-one (env m) (tree m i) scalar) bs long marked

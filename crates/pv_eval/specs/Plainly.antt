@@ -48,7 +48,7 @@ use Rattle.pv_eval.specs.declared.marked.Marked.{Marked}
 use Rattle.pv_world.specs.declared.got.How.TheVariants.{Rounds}
 use Rattle.pv_eval.specs.States.{Setting, State, Res, Gives, Stops, Turns, then_do}
 use Rattle.pv_eval.specs.TypeForms.{lvalue}
-use Rattle.pv_eval.specs.Sizes.{is_bare_scalar}
+use Rattle.pv_types.specs.Sorts.{is_scalar_in}
 use Rattle.pv_eval.specs.Suiting.{knows}
 use Rattle.pv_eval.specs.Operations.{Op, Converts, Reads, Writes, does, act}
 use Rattle.pv_eval.specs.Sequenced.{Given, done}
@@ -246,7 +246,7 @@ pub record IsObject (w : World) (o : ℕ) (at : Reach) (k : Kind) : Type 0 where
 -- 6.5p7: it is the declared type of this object, and an integer or pointer type without qualifiers
 pub record IsOwnType (u : Stored) (o : ℕ) (t : TypeId) : Type 0 where
   pub same : (object_at (whole u) o).t ≡ tree u.known t.0
-  pub scalar : is_bare_scalar (tree u.known t.0) ≡ true
+  pub scalar : is_scalar_in (tree u.known t.0) ≡ true
 
 -- 6.2.4p2, 6.5.9p6: a pointer with this address passes its live test, and the table stays: it is null, or into one live instance
 pub record IsLooked (T : Table) (v : Worth) (a : ℕ) : Type 0 where

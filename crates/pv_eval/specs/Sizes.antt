@@ -1,6 +1,6 @@
 -- A bridge: the same questions to the tables of a unit alone.
 use Rattle.std.specs.Prelude.{◌≡◌, ℕ, Bool, ◌<◌, ◌≤◌, ◌^◌, IsTrue, length, None, true, false}
-use Rattle.pv_types.specs.Ty.{Ty, IntTy, PointerTo}
+use Rattle.pv_types.specs.Ty.{Ty, PointerTo}
 use Rattle.pv_types.specs.Known.{Known, tree, env}
 use Rattle.pv_types.specs.Layouts.{layout_in, is_complete_in}
 use Rattle.pv_types.specs.Sorts.{bare}
@@ -51,9 +51,3 @@ pub record IsComplete (m : Known) (l : Complete) : Type 0 where
 abbrev pub points : Ty → Bool
 points (PointerTo t) = true
 points _ = false
-
--- 6.2.5p21: an integer or pointer type without qualifiers
-abbrev pub is_bare_scalar : Ty → Bool
-is_bare_scalar (IntTy k) = true
-is_bare_scalar (PointerTo t) = true
-is_bare_scalar _ = false

@@ -5,7 +5,7 @@ ghost use Rattle.pv_types.specs.Known.{tree, env};
 ghost use Rattle.pv_types.specs.Formed.{IsBuilt};
 ghost use Rattle.pv_types.specs.Layouts.{is_complete_in, layout_in};
 ghost use Rattle.pv_types.specs.Ty.{Ty};
-ghost use Rattle.pv_types.specs.Sorts.{bare, is_character};
+ghost use Rattle.pv_types.specs.Sorts.{bare, is_character, is_scalar_in};
 ghost use Rattle.pv_effect.specs.EffectiveType.{permits_marks};
 ghost use Rattle.pv_inst.specs.declared.values.Kind.TheVariants.{Heap};
 ghost use Rattle.pv_shadow.specs.Bytes.{read};
@@ -13,7 +13,7 @@ ghost use Rattle.pv_object.specs.Reaching.{IsReach};
 ghost use Rattle.pv_typed.specs.Known.{AreKnown};
 ghost use Rattle.pv_types.specs.declared.terms.TypeId.{TypeId as TypeNumber};
 ghost use Rattle.pv_eval.specs.TypeForms.{lvalue};
-ghost use Rattle.pv_eval.specs.Sizes.{setting_of, size_in, is_bare_scalar, IsComplete};
+ghost use Rattle.pv_eval.specs.Sizes.{setting_of, size_in, IsComplete};
 ghost use Rattle.pv_eval.specs.Permission.{permits_object, type_by, permits_in, permits};
 ghost use Rattle.pv_eval.specs.PermissionParts.{marks_of};
 ghost use Rattle.pv_eval.specs.Plainly.{IsObject, IsOwnType, is_declared};
@@ -151,7 +151,7 @@ fn permits_own(unit: &TypedUnit, object: Option<u32>, offset: u64, l: Complete) 
 /// Whether it is an integer or pointer type without qualifiers (C17 6.2.5p21).
 fn is_bare_scalar(unit: &TypedUnit, t: TypeId) -> bool
     requires { t.0 < length unit.now.known.terms }
-    ensures scalar { IsTrue result → is_bare_scalar (tree unit.now.known t.0) ≡ true }
+    ensures scalar { IsTrue result → is_scalar_in (tree unit.now.known t.0) ≡ true }
     ensures built { IsBuilt unit.now.known }
 {
     match unit.types().view(t) {

@@ -24,7 +24,8 @@ use Rattle.pv_check.specs.State.{State, Scope, After}
 use Rattle.pv_typed.specs.Constants.{and_then}
 use Rattle.pv_unit.specs.declared.entities.Outer.{Outer}
 use Rattle.pv_unit.specs.declared.heads.Defined.{Defined}
-use Rattle.pv_unit.specs.Bodies.{head_made, is_block, is_definition, left_items}
+use Rattle.pv_tree.specs.Places.{is_block}
+use Rattle.pv_unit.specs.Bodies.{head_made, is_definition, left_items}
 use Rattle.pv_unit.specs.Declarations.{file_declaration}
 use Rattle.pv_unit.specs.Redeclarations.{UnitState}
 use Rattle.pv_unit.specs.Functions.{within, with_parameter, with_parameters, defined_with, typed_body, typed_declaration}

@@ -24,7 +24,8 @@ use Rattle.pv_unit.specs.TypedStatements.{Body, typed_statement, switch_items, s
 use Rattle.pv_unit.specs.Made.{with_reached, body_reached, body_with, body_made}
 use Rattle.pv_unit.specs.Scoped.{Marked, marked, unmarked, under_labels, labelled_statement, with_marked, switch_body}
 use Rattle.pv_unit.specs.Stated.{around_in, stated, statements_in, items_if, AreStatements, Moves}
-use Rattle.pv_unit.specs.Switching.{labels_of, labels_if, behind_labels, HasKeys, body_in, body_if, marked_if, is_labelled, is_switch_block}
+use Rattle.pv_tree.specs.Places.{is_switch_block}
+use Rattle.pv_unit.specs.Switching.{labels_of, labels_if, behind_labels, HasKeys, body_in, body_if, marked_if, is_labelled}
 use Rattle.pv_unit.proofs.ItemRows.{item_declaration, item_statement}
 use Rattle.pv_unit.proofs.LabelRows.{found, unmapped}
 use Rattle.pv_unit.proofs.Moving.{moves_same, moves_on, around_same, statements_same, statements_append, step_on, step_none, made_is}

@@ -2,7 +2,8 @@
 use Rattle.std.specs.Prelude.{◌≡◌, ℕ, Bool, true, false, List, Option, Some, None}
 use Rattle.pv_tree.specs.declared.nodes.NodeId.{NodeId}
 use Rattle.pv_tree.specs.declared.nodes.ListId.{ListId}
-use Rattle.pv_tree.specs.Syntax.{StatementTree, Block, DeclarationTree, Function}
+use Rattle.pv_tree.specs.Syntax.{Block, DeclarationTree, Function}
+use Rattle.pv_tree.specs.Places.{is_block}
 use Rattle.pv_tree.specs.TreeLines.{tree_line}
 use Rattle.pv_tree.specs.Tables.{Tables, Is, Forest, tree_at, trees_at, declaration_at, declarator_at, statement_at, is_declarator, is_item, is_specifier, is_statement, HasList}
 use Rattle.pv_types.specs.Known.{tree}
@@ -25,11 +26,6 @@ head_made texts s m o d g = (
   record { function = d.function; result = tree m.known d.result_type.0; signature = signature_shown m.known g },
   unit_state texts s m o,
 )
-
--- a block (6.8.2), as every body is
-abbrev pub is_block : StatementTree → Bool
-is_block (Block line items) = true
-is_block _ = false
 
 -- the items of a body (6.8.2p1), where it is a block
 abbrev pub IsBodyIf : Forest → NodeId → Option ListId → Type 0

@@ -4,6 +4,7 @@ use Rattle.pv_num.specs.declared.kinds.IntKind.{IntKind}
 use Rattle.pv_tree.specs.declared.nodes.NodeId.{NodeId}
 use Rattle.pv_tree.specs.declared.nodes.ListId.{ListId}
 use Rattle.pv_tree.specs.Syntax.{StatementTree, Trees, SwitchBlock, Labelled}
+use Rattle.pv_tree.specs.Places.{is_switch_block}
 use Rattle.pv_tree.specs.TreeLines.{tree_line}
 use Rattle.pv_tree.specs.Tables.{Forest, tree_at, trees_at, statement_at as statement_of, is_item, is_statement, Has, HasList}
 use Rattle.pv_typed.specs.Tables.{Stored}
@@ -95,11 +96,6 @@ marked_if texts s m ls (Some n) = Some (record { value = record { labels = label
 abbrev pub is_labelled : StatementTree → Bool
 is_labelled (Labelled line labels b) = true
 is_labelled _ = false
-
--- a switch's block (6.8.4.2)
-abbrev pub is_switch_block : StatementTree → Bool
-is_switch_block (SwitchBlock line items) = true
-is_switch_block _ = false
 
 -- the labels of a statement (6.8.1) and what stands behind them, where it has labels
 abbrev pub IsLabelledIf : Forest → NodeId → Option (ListId × NodeId) → Type 0

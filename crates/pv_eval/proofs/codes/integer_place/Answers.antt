@@ -3,7 +3,7 @@ use Rattle.pv_types.specs.Ty.{IntTy}
 use Rattle.pv_types.specs.Known.{Known, tree}
 use Rattle.pv_typed.specs.TypedUnits.{object_at}
 use Rattle.pv_typed.specs.Tables.{whole}
-use Rattle.pv_eval.specs.Sizes.{is_bare_scalar}
+use Rattle.pv_types.specs.Sorts.{is_scalar_in}
 use Rattle.pv_eval.specs.Plainly.{IsOwnType}
 use Rattle.pv_eval.proofs.PlainSteps.{some_map}
 use Rattle.pv_eval.proofs.codes.integer_place.Goals as goal
@@ -21,7 +21,7 @@ returns-clause-place c =
       known = c.type_of-t.ensures.known c.requires.known;
       same = c.type_of-t.ensures.tree;
       integer = integer;
-      own = some_map (λ (o : ℕ). (object_at (whole u) o).t ≡ tree u.known t.0) (λ (o : ℕ). IsOwnType u o t) c.own_object-own.result (λ o e. record { same = e; scalar = ap is_bare_scalar integer }) c.own_object-own.ensures;
+      own = some_map (λ (o : ℕ). (object_at (whole u) o).t ≡ tree u.known t.0) (λ (o : ℕ). IsOwnType u o t) c.own_object-own.result (λ o e. record { same = e; scalar = ap is_scalar_in integer }) c.own_object-own.ensures;
     }
 
 pub returns-clause-node : goal.returns-clause-node

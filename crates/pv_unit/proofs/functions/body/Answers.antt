@@ -10,7 +10,8 @@ use Rattle.pv_check.specs.Open.{state_of}
 use Rattle.pv_check.specs.Raw.{raw_of, scope_shown}
 use Rattle.pv_typed.specs.Constants.{and_then}
 use Rattle.pv_check.proofs.ParameterRows.{parameters_known, parameters_stay}
-use Rattle.pv_unit.specs.Bodies.{is_block, left_items}
+use Rattle.pv_tree.specs.Places.{is_block}
+use Rattle.pv_unit.specs.Bodies.{left_items}
 use Rattle.pv_unit.specs.Functions.{within, with_parameters}
 use Rattle.pv_unit.specs.FunctionParts.{with_body, body_of}
 use Rattle.pv_unit.specs.Stated.{items_in, statements_in, Moves}

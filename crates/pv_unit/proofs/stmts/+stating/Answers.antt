@@ -14,7 +14,8 @@ use Rattle.pv_unit.specs.TypedStatements.{typed_statement, typed_items, typed_it
 use Rattle.pv_unit.specs.Made.{if_made, switch_made, block_made, with_statement, body_made}
 use Rattle.pv_unit.specs.Scoped.{inner, if_behind, switch_behind, scoped, switch_body, labelled_statement}
 use Rattle.pv_unit.specs.Stated.{around_in, stated, statements_in, items_in, AreStatements, Moves}
-use Rattle.pv_unit.specs.Switching.{labels_of, labels_if, behind_labels, switched_in, body_in, marked_if, is_labelled, is_switch_block}
+use Rattle.pv_tree.specs.Places.{is_switch_block}
+use Rattle.pv_unit.specs.Switching.{labels_of, labels_if, behind_labels, switched_in, body_in, marked_if, is_labelled}
 use Rattle.pv_unit.proofs.ItemRows.{item_declared, item_stated, item_pushed, pushed_there}
 use Rattle.pv_unit.proofs.ItemRows as items
 use Rattle.pv_unit.proofs.Moving.{moves_on, type_stays, within, expression_stays, around_same, step_on, step_none}
