@@ -11,7 +11,7 @@ use Rattle.pv_inst.specs.declared.values.Test.{Test}
 use Rattle.pv_inst.specs.declared.values.Tried.{Tried}
 use Rattle.pv_inst.specs.declared.values.Miss.{Miss}
 use Rattle.pv_inst.specs.Table.{Table, instance_at, with_instance}
-use Rattle.pv_inst.specs.Use.{use_answer, settled}
+use Rattle.pv_inst.specs.Use.{use_answer, settled, test_number}
 use Rattle.pv_inst.specs.WellFormed.{IsPlaced}
 use Rattle.pv_inst.specs.Exposure.{expose, expose_one, exposing}
 use Rattle.pv_inst.specs.ExposureParts.{shown}
@@ -28,7 +28,7 @@ use Rattle.pv_exec.proofs.Memory.Findings.{name-leads}
 use Rattle.pv_exec.proofs.Memory.Tables.{use-leads, ended-leads}
 use Rattle.pv_journal_laws.specs.Runs.{IsFew}
 use Rattle.pv_journal_laws.proofs.Telling.{AreCalled, IsNumbered, told_from, state_of}
-use Rattle.pv_journal_laws.proofs.Uses.{AllFill, at_table, number_of, use_passes_told}
+use Rattle.pv_journal_laws.proofs.Uses.{AllFill, at_table, use_passes_told}
 use Rattle.pv_journal_laws.proofs.Makings.{name_tells}
 use Rattle.pv_journal_laws.proofs.Exposures.{told-append, expose_passes_told, end_passes_told}
 use Rattle.pv_journal_laws.proofs.Calling.{called_row}
@@ -147,9 +147,9 @@ module _ (names : List (List ℕ)) (distinct : AreDistinct names) (turn : ℕ) w
   settled-tells T (prov.Pair k) n (Ok tried) led told = record { led = led; zap = refl; pending = refl; called = λ c. c; told = λ s f. told s }
   settled-tells T (prov.Pair k) n (Err m) led told = record { led = led; zap = refl; pending = refl; called = λ c. c; told = λ s f. told s }
 
-  pub use-tells : (T : Table) (p : Prov) (t : Test) → IsNumbered p → Tells names turn T (uses (number_of t) (use_answer T p t)) (settled T p (use_answer T p t))
+  pub use-tells : (T : Table) (p : Prov) (t : Test) → IsNumbered p → Tells names turn T (uses (test_number t) (use_answer T p t)) (settled T p (use_answer T p t))
   use-tells T p t numbered =
-      settled-tells T p (number_of t) (use_answer T p t) (use-leads T p t) (λ s. use_passes_told names distinct turn false T p t s.zap s.called (sane_filled s) s.sound.met numbered)
+      settled-tells T p (test_number t) (use_answer T p t) (use-leads T p t) (λ s. use_passes_told names distinct turn false T p t s.zap s.called (sane_filled s) s.sound.met numbered)
 
   -- the name of an integer
   record Alike (T U : Table) : Type 0 where

@@ -14,7 +14,7 @@ use Rattle.pv_inst.specs.declared.values.Test.TheVariants.{Live, Range}
 use Rattle.pv_inst.specs.declared.values.Tried.{Tried}
 use Rattle.pv_inst.specs.declared.values.Miss.{Miss}
 use Rattle.pv_inst.specs.Table.{Table}
-use Rattle.pv_inst.specs.Use.{use_answer, settled}
+use Rattle.pv_inst.specs.Use.{use_answer, settled, test_number}
 use Rattle.pv_shadow.specs.declared.byte.Byte.{Byte}
 use Rattle.pv_shadow.specs.Bytes.{read}
 use Rattle.pv_object.specs.declared.values.Pointer.{Pointer}
@@ -38,7 +38,6 @@ use Rattle.pv_eval.specs.Library.{noted_as}
 use Rattle.pv_eval.specs.LibraryParts.{all_noted}
 use Rattle.pv_exec.proofs.Memory.Rows.{Leads, led-itself, led-trans}
 use Rattle.pv_journal_laws.proofs.Telling.{IsNumbered}
-use Rattle.pv_journal_laws.proofs.Uses.{number_of}
 use Rattle.pv_journal_laws.proofs.Changes.{Tells, Showing, tells-itself, tells-trans, tells-exposures, showing-itself, use-tells, expose-shows}
 use Rattle.pv_journal_laws.proofs.Numbering.{Named}
 use Rattle.pv_journal_laws.proofs.Accesses.{exposed-shows}
@@ -145,11 +144,11 @@ module _ (names : List (List ℕ)) (distinct : AreDistinct names) (turn : ℕ) w
   }
 
   -- a use
-  pub use-goes : (S : Now) (p : Prov) (t : Test) → IsNumbered p → Goes names turn S (noted (noted_use (use_answer S.memory.table p t) (number_of t)) (in_table S (settled S.memory.table p (use_answer S.memory.table p t))))
+  pub use-goes : (S : Now) (p : Prov) (t : Test) → IsNumbered p → Goes names turn S (noted (noted_use (use_answer S.memory.table p t) (test_number t)) (in_table S (settled S.memory.table p (use_answer S.memory.table p t))))
   use-goes S p t n =
       let T = S.memory.table in
-      noted-goes S (noted_use (use_answer T p t) (number_of t)) (settled T p (use_answer T p t))
-      (λ none V l. subst (λ es. Tells names turn T es (settled T p (use_answer T p t))) (sym (noted-uses V (use_answer T p t) (number_of t))) (use-tells names distinct turn T p t n))
+      noted-goes S (noted_use (use_answer T p t) (test_number t)) (settled T p (use_answer T p t))
+      (λ none V l. subst (λ es. Tells names turn T es (settled T p (use_answer T p t))) (sym (noted-uses V (use_answer T p t) (test_number t))) (use-tells names distinct turn T p t n))
 
   -- accesses (7.24.1p2, 7.1.4p1): the use settles the name, where there is one
   missed : (T : Table) (p : Prov) (m : Miss) → settled T p (Err m) ≡ T
@@ -181,7 +180,7 @@ module _ (names : List (List ℕ)) (distinct : AreDistinct names) (turn : ℕ) w
       let T = S.memory.table in
       let r = use_answer T p.prov (Range p.address n) in
       about-steps S m (reached_by by write (record { pointer = p; stopped = m }) n S (reach T p n 1 write by)) s
-      (subst (λ U. Goes names turn S (noted (noted_use r 2) (in_table S U))) (sym (reach-table T p n 1 write by)) (use-goes S p.prov (Range p.address n) numbered))
+      (subst (λ U. Goes names turn S (noted (noted_use r (test_number (Range p.address n))) (in_table S U))) (sym (reach-table T p n 1 write by)) (use-goes S p.prov (Range p.address n) numbered))
 
   -- characters (7.24.1p3): what becomes exposed is told at once
   told-goes : (S : Now) (U : Table) → (S.memory.table.pending ≡ [] → Tells names turn S.memory.table (exposures U) (all_told U)) → Goes names turn S (told (in_table S U))
@@ -234,16 +233,16 @@ module _ (names : List (List ℕ)) (distinct : AreDistinct names) (turn : ℕ) w
       by false = showing-itself
 
   pub int-steps : (p : Pointer) (k : IntKind) (S : Now) → IsNumbered p.prov
-      → Goes names turn S (told (noted (noted_use (use_answer S.memory.table p.prov Live) 1) (in_table S (to_int S.memory.table p k).1)))
+      → Goes names turn S (told (noted (noted_use (use_answer S.memory.table p.prov Live) (test_number Live)) (in_table S (to_int S.memory.table p k).1)))
   int-steps p k S n =
       let T = S.memory.table in
       let r = use_answer T p.prov Live in
       let U = (to_int T p k).1 in
       record {
-        more = noted_use r 1 ++ map note.Exposed U.pending;
-        notes = append_assoc S.notes (noted_use r 1) (map note.Exposed U.pending);
+        more = noted_use r (test_number Live) ++ map note.Exposed U.pending;
+        notes = append_assoc S.notes (noted_use r (test_number Live)) (map note.Exposed U.pending);
         named = λ n. n;
         tells = λ none V l.
-            subst (λ es. Tells names turn T es (all_told U)) (sym (noted-append V (noted_use r 1) (map note.Exposed U.pending) ∙ ap (λ es. es ++ all_noted V (map note.Exposed U.pending)) (noted-uses V r 1) ∙ ap (λ es. uses 1 r ++ es) (noted-exposed V U.pending)))
+            subst (λ es. Tells names turn T es (all_told U)) (sym (noted-append V (noted_use r (test_number Live)) (map note.Exposed U.pending) ∙ ap (λ es. es ++ all_noted V (map note.Exposed U.pending)) (noted-uses V r (test_number Live)) ∙ ap (λ es. uses (test_number Live) r ++ es) (noted-exposed V U.pending)))
             (tells-exposures none (use-tells names distinct turn T p.prov Live n) (int-shows T p k r));
       }

@@ -19,7 +19,7 @@ use Rattle.pv_inst.specs.declared.values.Tried.{Tried}
 use Rattle.pv_inst.specs.declared.values.Miss.{Miss}
 use Rattle.pv_inst.specs.declared.values.Miss.TheVariants as miss
 use Rattle.pv_inst.specs.Table.{Table, instance_at}
-use Rattle.pv_inst.specs.Use.{passes, survives, any_survives, judged, if_two, use_answer, settled, is_heap, is_function, miss_of, empty_answer}
+use Rattle.pv_inst.specs.Use.{passes, survives, any_survives, judged, if_two, use_answer, settled, is_heap, is_function, miss_of, empty_answer, test_number}
 use Rattle.pv_inst.specs.SameParts.{made_passes}
 use Rattle.pv_inst.specs.WellFormed.{HasMet}
 use Rattle.pv_inst.proofs.Rows.{row_found}
@@ -30,13 +30,6 @@ use Rattle.pv_journal.specs.Obeying.{State, same_id, after_fact}
 use Rattle.pv_journal_laws.proofs.Telling.{id_of, IsNumbered, bond_of, state_of, used_by, told_from, AreCalled}
 use Rattle.pv_journal_laws.proofs.Rows.{same_is, met_rows, may_with, may_live, may_range, may_block, may_code, use_passes}
 use Rattle.pv_journal_laws.proofs.Parts.{bool_false, all_here, set_same}
-
--- the number of a test (the memory model)
-abbrev pub number_of : Test → ℕ
-number_of Live = 1
-number_of (Range a n) = 2
-number_of (Block a) = 3
-number_of (Code a) = 5
 
 -- each instance has a byte
 abbrev pub AllFill : List Instance → Type 0
@@ -75,7 +68,7 @@ module _ (names : List (List ℕ)) where
 
   may_use : (x y : Instance) (t : Test) → (is_heap x.kind ≡ true → name_at names x.name ≡ codes "@heap") → (is_heap y.kind ≡ true → name_at names y.name ≡ codes "@heap")
       → 1 ≤ x.size → x.base + x.size ≡ y.base → (passes true x t || passes true y t) ≡ true
-      → may_with x.live y.live (name_at names x.name) (name_at names y.name) (number_of t) (passes true x t) (passes true y t) ≡ true
+      → may_with x.live y.live (name_at names x.name) (name_at names y.name) (test_number t) (passes true x t) (passes true y t) ≡ true
   may_use x y Live hx hy some meet any = may_live x.live y.live (name_at names x.name) (name_at names y.name)
   may_use x y (Range a n) hx hy some meet any =
       may_range x.live y.live (passes true x (Range a n)) (passes true y (Range a n)) (name_at names x.name) (name_at names y.name) (λ e. (and_parts x.live _ e).0) (λ e. (and_parts y.live _ e).0)
@@ -128,13 +121,13 @@ module _ (names : List (List ℕ)) (distinct : AreDistinct names) where
   -- the event, where both are kept
   two_kept : (turn : ℕ) (over : Bool) (T : Table) (k : ℕ) (t : Twin) (x y : Instance) (test : Test) → AreCalled names T → AllFill T.instances → 1 ≤ k → twin_at T.pairs k ≡ Some t → t.keeps_low ≡ true → t.keeps_high ≡ true
       → instance_at T.instances t.low ≡ Some x → instance_at T.instances t.high ≡ Some y → x.base + x.size ≡ y.base → (passes true x test || passes true y test) ≡ true
-      → told_from names (at_table names turn over T) (what.Tried k (number_of test) (passes true x test) (passes true y test) ∷ []) ≡ Some (state_of names turn over T.instances (kept T.pairs k (passes true x test) (passes true y test)))
+      → told_from names (at_table names turn over T) (what.Tried k (test_number test) (passes true x test) (passes true y test) ∷ []) ≡ Some (state_of names turn over T.instances (kept T.pairs k (passes true x test) (passes true y test)))
   two_kept turn over T k t x y test called fill one at kl kh lat hat meet any =
       let some = row_all (λ (z : Instance). 1 ≤ z.size) T.instances t.low x fill lat in
       let may = may_use names x y test (row_all (λ (z : Instance). is_heap z.kind ≡ true → name_at names z.name ≡ codes "@heap") T.instances t.low x called.heap lat)
       (row_all (λ (z : Instance). is_heap z.kind ≡ true → name_at names z.name ≡ codes "@heap") T.instances t.high y called.heap hat) some meet any in
-      tried_told names turn over T k (number_of test) t (passes true x test) (passes true y test) _ at (one_of names (passes true x test) (passes true y test) any)
-      (λ f e. use_passes names distinct turn over T k (number_of test) t x y (passes true x test) (passes true y test) called one at kl kh lat hat (differ T t.low t.high x y called lat hat some meet) may f e)
+      tried_told names turn over T k (test_number test) t (passes true x test) (passes true y test) _ at (one_of names (passes true x test) (passes true y test) any)
+      (λ f e. use_passes names distinct turn over T k (test_number test) t x y (passes true x test) (passes true y test) called one at kl kh lat hat (differ T t.low t.high x y called lat hat some meet) may f e)
 
 -- ---- a use of any name
 
@@ -152,7 +145,7 @@ answer_by zap T (prov.Pair k) t = judged zap T.instances (stands_of (twin_at T.p
 module _ (names : List (List ℕ)) (distinct : AreDistinct names) where
   -- what is told of a use, and what it leaves
   abbrev pub UsePasses : (turn : ℕ) (over : Bool) → Table → Prov → Test → Result Tried Miss → Type 0
-  UsePasses turn over T p test answer = told_from names (at_table names turn over T) (uses (number_of test) answer) ≡ Some (state_of names turn over T.instances (settled T p answer).pairs)
+  UsePasses turn over T p test answer = told_from names (at_table names turn over T) (uses (test_number test) answer) ≡ Some (state_of names turn over T.instances (settled T p answer).pairs)
 
   alone_passes : (turn : ℕ) (over : Bool) (T : Table) (i : ℕ) (test : Test) (a : Bool) (low high : Bool) (m : Miss)
       → UsePasses turn over T (prov.Inst i) test (if a then Ok (record { pair = None; low = low; high = high }) else Err m)

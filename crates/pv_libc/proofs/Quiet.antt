@@ -7,7 +7,7 @@ use Rattle.pv_num.specs.Kinds.{bits_of}
 use Rattle.pv_inst.specs.declared.values.Tried.{Tried}
 use Rattle.pv_inst.specs.declared.values.Miss.{Miss}
 use Rattle.pv_inst.specs.declared.values.Test.TheVariants.{Live, Range, Block}
-use Rattle.pv_inst.specs.Use.{use_answer}
+use Rattle.pv_inst.specs.Use.{use_answer, test_number}
 use Rattle.pv_object.specs.declared.values.Pointer.{Pointer}
 use Rattle.pv_object.specs.declared.values.Scalar.TheVariants as scalar
 use Rattle.pv_object.specs.declared.values.Asker.{Asker}
@@ -94,8 +94,9 @@ told_quiet S h = All-append IsQuiet S.notes (map Exposed S.memory.table.pending)
 -- reads
 reached_quiet : (by : Asker) (write : Bool) (g : Given) (n : ℕ) (S : Now) → IsQuiet g.stopped → AreQuiet S.notes → Quiet (reached by write g n S)
 reached_quiet by write g n S q h =
-    let found = use_answer S.memory.table g.pointer.prov (Range g.pointer.address n) in
-    quiet_about g.stopped (reached_by by write g n S (reach S.memory.table g.pointer n 1 write by)) q (All-append IsQuiet S.notes (used found 2) h (used_quiet found 2))
+    let t = Range g.pointer.address n in
+    let found = use_answer S.memory.table g.pointer.prov t in
+    quiet_about g.stopped (reached_by by write g n S (reach S.memory.table g.pointer n 1 write by)) q (All-append IsQuiet S.notes (used found (test_number t)) h (used_quiet found (test_number t)))
 
 character_quiet : (g : Given) (a : ℕ) (S : Now) → IsQuiet g.stopped → AreQuiet S.notes → Quiet (character_in g a S)
 character_quiet g a S q h =
@@ -178,7 +179,7 @@ address_quiet note None S q h = h
 address_quiet note (Some p) S q h =
     let found = use_answer S.memory.table p.prov Live in
     let got = to_int S.memory.table p ULong in
-    quiet_about note (address_by (record { pointer = p; stopped = note }) S got) q (told_quiet (noted (used found 1) (in_table S got.1)) (All-append IsQuiet S.notes (used found 1) h (used_quiet found 1)))
+    quiet_about note (address_by (record { pointer = p; stopped = note }) S got) q (told_quiet (noted (used found (test_number Live)) (in_table S got.1)) (All-append IsQuiet S.notes (used found (test_number Live)) h (used_quiet found (test_number Live))))
 
 converted_quiet : (k : Conversion) (x : Offered) (S : Now) → IsQuiet x.stopped → AreQuiet S.notes → Quiet (converted k x S)
 converted_quiet (conversion.Number long how) x S q h = number_quiet (number_text how) (number_of long how x.arg.shape x.arg.value) S h
@@ -227,5 +228,6 @@ printed_quiet (c ∷ cs) at S q h =
 -- an allocation that is given back
 pub block_quiet : (c : Clause) (g : Given) (S : Now) → IsQuiet g.stopped → AreQuiet S.notes → Quiet (block c g S)
 block_quiet c g S q h =
-    let found = use_answer S.memory.table g.pointer.prov (Block g.pointer.address) in
-    quiet_about g.stopped (block_by c g S found) q (All-append IsQuiet S.notes (used found 3) h (used_quiet found 3))
+    let t = Block g.pointer.address in
+    let found = use_answer S.memory.table g.pointer.prov t in
+    quiet_about g.stopped (block_by c g S found) q (All-append IsQuiet S.notes (used found (test_number t)) h (used_quiet found (test_number t)))

@@ -15,7 +15,7 @@ use Rattle.pv_inst.specs.declared.values.Miss.{Miss}
 use Rattle.pv_inst.specs.declared.values.Miss.TheVariants as miss
 use Rattle.pv_inst.specs.Table.{instance_at}
 use Rattle.pv_inst.specs.Infos.{info_of}
-use Rattle.pv_inst.specs.Use.{use_answer, settled}
+use Rattle.pv_inst.specs.Use.{use_answer, settled, test_number}
 use Rattle.pv_object.specs.declared.values.Pointer.{Pointer}
 use Rattle.pv_object.specs.declared.values.Value.{Value}
 use Rattle.pv_object.specs.declared.values.Value.TheVariants as value
@@ -102,7 +102,7 @@ block_answer c M p (Err m) = Err (block_stop c m)
 abbrev pub block_by : Clause → Given → Now → Result Tried Miss → Did ℕ
 block_by c g S found = record {
   answer = block_answer c S.memory g.pointer found;
-  after = noted (used found 3) (in_table S (settled S.memory.table g.pointer.prov found));
+  after = noted (used found (test_number (Block g.pointer.address))) (in_table S (settled S.memory.table g.pointer.prov found));
 }
 
 -- 7.22.3.3p2, 7.22.3.5p3: the allocation that a pointer to its first byte means

@@ -11,7 +11,7 @@ use Rattle.pv_inst.specs.declared.values.Tried.{Tried}
 use Rattle.pv_inst.specs.declared.values.Test.TheVariants.{Live}
 use Rattle.pv_inst.specs.Table.{Table, instance_at}
 use Rattle.pv_inst.specs.Infos.{info_of}
-use Rattle.pv_inst.specs.Use.{use_answer}
+use Rattle.pv_inst.specs.Use.{use_answer, test_number}
 use Rattle.pv_shadow.specs.declared.byte.Byte.{Byte}
 use Rattle.pv_shadow.specs.Bytes.{read}
 use Rattle.pv_object.specs.declared.values.Pointer.{Pointer}
@@ -58,7 +58,7 @@ text_of_address p (Err stop) = Err stop
 abbrev pub address_by : Given → Now → Result (ℤ × Tried) Stop × Table → Did (List ℕ)
 address_by g S got = record {
   answer = text_of_address g.pointer got.0;
-  after = told (noted (used (use_answer S.memory.table g.pointer.prov Live) 1) (in_table S got.1));
+  after = told (noted (used (use_answer S.memory.table g.pointer.prov Live) (test_number Live)) (in_table S got.1));
 }
 
 -- 7.21.6.1p8, `p`: an address, if the argument fits

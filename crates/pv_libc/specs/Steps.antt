@@ -4,7 +4,7 @@ use Rattle.pv_inst.specs.declared.values.Tried.{Tried}
 use Rattle.pv_inst.specs.declared.values.Miss.{Miss}
 use Rattle.pv_inst.specs.declared.values.Test.TheVariants.{Range}
 use Rattle.pv_inst.specs.Table.{Table}
-use Rattle.pv_inst.specs.Use.{use_answer}
+use Rattle.pv_inst.specs.Use.{use_answer, test_number}
 use Rattle.pv_object.specs.declared.values.Reach.{Reach}
 use Rattle.pv_object.specs.declared.values.Stop.{Stop}
 use Rattle.pv_object.specs.declared.values.Asker.{Asker}
@@ -81,10 +81,9 @@ told S = record {
 
 -- 7.24.1p2, 6.5.3.2p4: the checks of an access to n bytes, and the use of the pointer that they make
 abbrev pub reached_by : Asker → (write : Bool) → Given → (n : ℕ) → Now → Result Reach Stop × Table → Did Reach
-reached_by by write g n S got = record {
-  answer = got.0;
-  after = noted (used (use_answer S.memory.table g.pointer.prov (Range g.pointer.address n)) 2) (in_table S got.1);
-}
+reached_by by write g n S got =
+    let t = Range g.pointer.address n in
+    record { answer = got.0; after = noted (used (use_answer S.memory.table g.pointer.prov t) (test_number t)) (in_table S got.1) }
 
 -- 7.24.1p2, 7.1.4p1: an access through this pointer, on behalf of who asks
 abbrev pub reached : Asker → (write : Bool) → Given → (n : ℕ) → Now → Did Reach

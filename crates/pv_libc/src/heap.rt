@@ -194,7 +194,7 @@ fn block_noted(
 {
     let p = given.pointer;
     let test = Test::Block { address: p.address };
-    if note_use(memory, notes, p.prov, test, 3).is_err() {
+    if note_use(memory, notes, p.prov, test).is_err() {
         return Err(Stop::NoMemory);
     }
     match block(memory, clause, p) {

@@ -1,7 +1,7 @@
 // What is noted of a call: uses of names that stood for two, exposures, and the pointer whose check stops it.
 ghost use Rattle.std.specs.Prelude.{◌≡◌, ◌++◌, OnOk, IfOk};
 ghost use Rattle.pv_inst.specs.Table.{IsMadeIn};
-ghost use Rattle.pv_inst.specs.Use.{use_answer};
+ghost use Rattle.pv_inst.specs.Use.{test_number, use_answer};
 ghost use Rattle.pv_object.specs.Reaching.{IsReach};
 ghost use Rattle.pv_object.specs.Later.{IsLater};
 ghost use Rattle.pv_libc.specs.Steps.{used, told, reached, with_notes};
@@ -19,10 +19,9 @@ pub(crate) fn note_use(
     notes: &mut Vec<Note>,
     p: Prov,
     test: Test,
-    number: u8,
 ) -> Result<(), NoMemory>
     requires { IsMadeIn memory.now.table p }
-    ensures { OnOk result (notes.new.items ≡ notes.old.items ++ used (use_answer memory.now.table p test) number) }
+    ensures { OnOk result (notes.new.items ≡ notes.old.items ++ used (use_answer memory.now.table p test) (test_number test)) }
 {
     let Prov::Pair(k) = p else {
         return Ok(());
@@ -40,7 +39,7 @@ pub(crate) fn note_use(
     };
     match notes.push(Note::Used {
         tried,
-        test: number,
+        test: test.number(),
     }) {
         Ok(()) => Ok(()),
         Err(_) => Err(NoMemory),
@@ -80,7 +79,7 @@ pub(crate) fn reached(
         address: p.address,
         size: n,
     };
-    if note_use(memory, notes, p.prov, test, 2).is_err() {
+    if note_use(memory, notes, p.prov, test).is_err() {
         return Err(Stop::NoMemory);
     }
     match memory.reach(p, n, 1, write, by) {

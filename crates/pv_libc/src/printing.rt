@@ -144,7 +144,7 @@ fn address_done(
     ensures later { IsLater memory.old.table memory.new.table }
 {
     let p = given.pointer;
-    if note_use(memory, notes, p.prov, Test::Live, 1).is_err() {
+    if note_use(memory, notes, p.prov, Test::Live).is_err() {
         return Err(Stop::NoMemory);
     }
     let number = memory.to_int(p, IntKind::ULong);

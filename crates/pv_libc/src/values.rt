@@ -56,7 +56,7 @@ pub enum Note {
     Used {
         /// What the use found.
         tried: Tried,
-        /// The test: 1 live, 2 range, 3 block, 4 same.
+        /// The number of its test: see `pv_inst::Test::number`.
         test: u8,
     },
     /// The call stops by the check of a pointer.

@@ -11,6 +11,6 @@ mod seats;
 mod watch;
 
 pub use error::NoMemory;
-pub use event::{Event, What};
+pub use event::{BLOCK_TEST, CODE_TEST, Event, LIVE_TEST, RANGE_TEST, SAME_TEST, What};
 pub use hall::Hall;
 pub use watch::{Attend, Watch};

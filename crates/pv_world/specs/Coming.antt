@@ -79,7 +79,3 @@ abbrev pub CameMade : (name : ℕ) → Result (Unit {0}) CreateError → World �
 CameMade name (Ok u) w es s = s ≡ Gave Nothing w es
 CameMade name (Err refusal.NoMemory) w es s = Unit {0}
 CameMade name (Err e) w es s = s ≡ Ended (Halts (Refused name e)) w es
-
--- the candidate is an allocation that begins there (7.22.3.3p2)
-abbrev pub block_test : ℕ
-block_test = 3

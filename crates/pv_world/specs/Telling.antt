@@ -20,6 +20,7 @@ use Rattle.pv_world.specs.declared.failing.Blame.{Blame}
 use Rattle.pv_watch.specs.declared.event.What.{What}
 use Rattle.pv_watch.specs.declared.event.What.TheVariants as what
 use Rattle.pv_fault.specs.declared.verdict.Verdict.{Verdict}
+pub use Rattle.pv_watch.specs.Lines.{live_test, range_test, same_test, code_test}
 use Rattle.pv_world.specs.Worlds.{Wrong, ByVerdict, Halts}
 
 -- what an operation tells: its events (the memory model), and the bytes that it prints (7.21.6.3)
@@ -34,22 +35,6 @@ quiet = record { events = []; bytes = [] }
 -- these events are told, and nothing is printed
 abbrev pub telling : List What → Told
 telling es = record { events = es; bytes = [] }
-
--- the numbers of the tests of a use (the memory model): the candidate is live (6.2.4p2)
-abbrev pub live_test : ℕ
-live_test = 1
-
--- a range lies in the candidate (6.5.6p8, 6.5.3.2p4)
-abbrev pub range_test : ℕ
-range_test = 2
-
--- the candidate is one of the other operand too (6.5.8p5, 6.5.6p9)
-abbrev pub same_test : ℕ
-same_test = 4
-
--- the candidate is a function that begins there (6.5.2.2p1)
-abbrev pub code_test : ℕ
-code_test = 5
 
 -- the memory model: a use that found survivors is told of where its name stood for two before it, a pair of candidates
 abbrev pub used : (test : ℕ) → Tried → List What

@@ -24,7 +24,6 @@ ghost use Rattle.pv_world.specs.Coming.{Came, Did, seen, worth_of, IsMadeWorth};
 use crate::failing::{Blame, blame_of, fail, stopped};
 use crate::got::{Failure, Got, Shape};
 use crate::loads::{blame_of_bytes, blame_since, blame_within};
-use crate::moving::RANGE_TEST;
 use crate::operands::missing;
 use crate::uses::tell_use;
 use crate::world::World;
@@ -93,7 +92,7 @@ impl World {
             address: p.address,
             size: n,
         };
-        let Ok(()) = tell_use(told, &self.memory, p.prov, test, RANGE_TEST) else {
+        let Ok(()) = tell_use(told, &self.memory, p.prov, test) else {
             return Err(Failure::NoMemory);
         };
         match self.memory.reach(p, n, align, write, Asker::Access) {

@@ -9,14 +9,14 @@ ghost use Rattle.pv_world.specs.Coming.{Did, worth_of, IsMadeWorth};
 
 use crate::failing::{blame_of, fail, stopped};
 use crate::got::{Failure, Got};
-use crate::operands::{LIVE_TEST, pointer_of, truth_value, unplain};
+use crate::operands::{pointer_of, truth_value, unplain};
 use crate::subtracting::tell_both;
 use crate::telling::tell_used;
 use crate::uses::tell_live_use;
 use crate::world::World;
 use pv_num::{BinOp, IntKind};
 use pv_object::{Pointer, Value};
-use pv_watch::What;
+use pv_watch::{LIVE_TEST, What};
 
 /// 1 where two addresses stand in this order, and else 0.
 fn compared(op: BinOp, p: u64, q: u64) -> i128

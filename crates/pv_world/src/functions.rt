@@ -13,7 +13,7 @@ ghost use Rattle.pv_world.specs.Coming.{CameMade, seen, worth_of, wrong_for, IsM
 use crate::failing::{blame_of, fail, stopped};
 use crate::got::{Cause, Failure, Got};
 use crate::objects::own;
-use crate::operands::{CODE_TEST, pointer_of, unplain};
+use crate::operands::{pointer_of, unplain};
 use crate::telling::{tell_made, tell_used};
 use crate::world::World;
 use pv_fault::{Clause, Fault, Reason, Verdict};
@@ -21,7 +21,7 @@ use pv_inst::{CreateError, Kind};
 use pv_object::Pointer;
 use pv_prov::NoMemory;
 use pv_script::Names;
-use pv_watch::What;
+use pv_watch::{CODE_TEST, What};
 
 /// The function is not one of the type that is called (6.3.2.3p8).
 pub fn unlike() -> Cause

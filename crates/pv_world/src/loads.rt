@@ -19,7 +19,6 @@ ghost use Rattle.pv_world.specs.Coming.{Came, worth_of, IsMadeWorth};
 
 use crate::failing::{Blame, blame_of, stopped};
 use crate::got::{Failure, Got, Shape};
-use crate::operands::LIVE_TEST;
 use crate::telling::{tell_pairs, tell_used};
 use crate::world::World;
 use pv_fault::Verdict;
@@ -27,7 +26,7 @@ use pv_inst::Tried;
 use pv_object::{Memory, Pointer, Scalar, Stop};
 use pv_prov::{NoMemory, Prov, same_name};
 use pv_shadow::{Byte, whole_name};
-use pv_watch::What;
+use pv_watch::{LIVE_TEST, What};
 
 /// Whom a load of these bytes blames by its live test.
 pub(crate) fn blame_of_bytes(memory: &Memory, bytes: &[Byte]) -> Option<Blame>

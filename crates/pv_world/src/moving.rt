@@ -15,10 +15,7 @@ use crate::telling::tell_used;
 use crate::world::World;
 use pv_object::{Pointer, Value};
 use pv_prov::NoMemory;
-use pv_watch::What;
-
-/// The number of the test of a range.
-pub(crate) const RANGE_TEST: u8 = 2;
+use pv_watch::{RANGE_TEST, What};
 
 /// How far so many elements of this size are.
 fn distance(minus: bool, size: u64, n: i128) -> i128

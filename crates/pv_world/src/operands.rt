@@ -11,12 +11,6 @@ use pv_fault::{Clause, Fault, Reason, Verdict};
 use pv_object::{Pointer, Value};
 use pv_prov::Prov;
 
-/// The number of the test of a live candidate.
-pub(crate) const LIVE_TEST: u8 = 1;
-
-/// The number of the test of a function that begins at the address.
-pub(crate) const CODE_TEST: u8 = 5;
-
 /// Why a value can't be operated on: it is missing (6.9.1p12), or it was never set (6.3.2.1p2).
 pub(crate) fn unplain(v: &Got) -> Option<Cause>
     ensures { option_map wrong_for result ≡ unplain (worth_of v.now) }

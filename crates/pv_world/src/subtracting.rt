@@ -15,10 +15,7 @@ use crate::world::World;
 use pv_inst::Tried;
 use pv_object::{Pointer, Value};
 use pv_prov::NoMemory;
-use pv_watch::What;
-
-/// The number of the test of two operands.
-const SAME_TEST: u8 = 4;
+use pv_watch::{SAME_TEST, What};
 
 /// What two operands settled to, the left one's use first.
 pub(crate) fn tell_both(told: &mut Vec<What>, left: Tried, right: Tried) -> Result<(), NoMemory>

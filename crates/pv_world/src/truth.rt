@@ -9,13 +9,13 @@ ghost use Rattle.pv_world.specs.Coming.{Did, worth_of, IsMadeWorth};
 
 use crate::failing::{blame_of, fail, stopped};
 use crate::got::{Cause, Failure, Got};
-use crate::operands::{LIVE_TEST, missing};
+use crate::operands::missing;
 use crate::telling::tell_used;
 use crate::world::World;
 use pv_fault::Verdict;
 use pv_object::{Pointer, Value};
 use pv_prov::NoMemory;
-use pv_watch::What;
+use pv_watch::{LIVE_TEST, What};
 
 impl World {
     /// A value compared with 0 (6.5.13 to 6.5.15, 6.8.4, 6.8.5).

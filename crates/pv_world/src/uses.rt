@@ -1,10 +1,9 @@
 // Uses of names, told before the operation that makes them: they stay told where a later check of it ends the run.
 ghost use Rattle.std.specs.Prelude.{◌≡◌, ◌++◌, OnOk};
 ghost use Rattle.pv_inst.specs.Table.{IsMadeIn};
-ghost use Rattle.pv_inst.specs.Use.{use_answer};
+ghost use Rattle.pv_inst.specs.Use.{test_number, use_answer};
 ghost use Rattle.pv_world.specs.Telling.{uses, live_use};
 
-use crate::operands::LIVE_TEST;
 use crate::telling::tell;
 use pv_inst::Test;
 use pv_object::{Memory, Pointer};
@@ -19,10 +18,9 @@ pub(crate) fn tell_use(
     memory: &Memory,
     p: Prov,
     test: Test,
-    number: u8,
 ) -> Result<(), NoMemory>
     requires { IsMadeIn memory.now.table p }
-    ensures { OnOk result (told.new.items ≡ told.old.items ++ uses number (use_answer memory.now.table p test)) }
+    ensures { OnOk result (told.new.items ≡ told.old.items ++ uses (test_number test) (use_answer memory.now.table p test)) }
 {
     let Prov::Pair(pair) = p else {
         return Ok(());
@@ -37,7 +35,7 @@ pub(crate) fn tell_use(
         told,
         What::Tried {
             pair,
-            test: number,
+            test: test.number(),
             low,
             high,
         },
@@ -53,5 +51,5 @@ pub(crate) fn tell_live_use(
     requires { IsMadeIn memory.now.table p.prov }
     ensures { OnOk result (told.new.items ≡ told.old.items ++ live_use memory.now.table p) }
 {
-    tell_use(told, memory, p.prov, Test::Live, LIVE_TEST)
+    tell_use(told, memory, p.prov, Test::Live)
 }
