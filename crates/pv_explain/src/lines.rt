@@ -9,7 +9,7 @@ ghost use Rattle.pv_explain.specs.Told.{survivor};
 
 use crate::known::Known;
 use pv_print::address;
-use pv_watch::{Event, NoMemory, What};
+use pv_watch::{BLOCK_TEST, CODE_TEST, Event, LIVE_TEST, NoMemory, RANGE_TEST, SAME_TEST, What};
 use std::alloc::Global;
 
 /// The word of a test.
@@ -17,11 +17,11 @@ fn test_word(test: u8) -> &'static [u8]
     ensures { result.now ≡ test_text test }
 {
     match test {
-        1 => b"live",
-        2 => b"range",
-        3 => b"block",
-        4 => b"same",
-        5 => b"code",
+        LIVE_TEST => b"live",
+        RANGE_TEST => b"range",
+        BLOCK_TEST => b"block",
+        SAME_TEST => b"same",
+        CODE_TEST => b"code",
         _ => b"?",
     }
 }

@@ -1,6 +1,7 @@
 -- Bridges from the code's state, in which names go by numbers, to the state that lines leave: what it tests and changes.
 use Rattle.std.specs.Prelude.{◌≡◌, ℕ, ◌+◌, ◌-◌, ◌^◌, Bool, true, false, ◌&&◌, ◌||◌, ◌==◌, not, nat_lt, nat_le, List, [], ◌∷◌, ◌++◌, length, Option, Some, None, if◌then◌else◌, slice_set, slice_get, option_and_then, position, sum_by}
 use Rattle.std.specs.List.{list_all, list_any}
+use Rattle.pv_watch.specs.Lines.{live_test, range_test, block_test, same_test, code_test}
 use Rattle.pv_journal.specs.declared.line.Key.{Key}
 use Rattle.pv_journal.specs.declared.held.Held.{Held}
 use Rattle.pv_journal.specs.declared.bonds.Bond.{Bond}
@@ -108,10 +109,10 @@ with_pair xs bs pair address low high = if pair == length bs + 1 && may_pair xs 
 abbrev pub leaves : (a b : Bool) → (heap : Bool) → (test : ℕ) → (low high : Bool) → Bool
 leaves a b heap test low high =
     (not low || a) && ((not high || b) && (
-    if test == 1 then (low || not a) && (high || not b)
-    else if test == 3 then not (low && high) && heap
-    else if test == 5 then not (low && high)
-    else test == 2 || test == 4))
+    if test == live_test then (low || not a) && (high || not b)
+    else if test == block_test then not (low && high) && heap
+    else if test == code_test then not (low && high)
+    else test == range_test || test == same_test))
 
 abbrev pub kept_by : Bond → Bool × Bool → Bond
 kept_by b kept = record b { keeps_low = kept.0; keeps_high = kept.1 }

@@ -3,6 +3,7 @@ use Rattle.std.specs.Prelude.{◌≡◌, ℕ, ◌+◌, ◌-◌, ◌^◌, Bool, t
 use Rattle.std.specs.List.{list_any, list_all}
 use Rattle.std.specs.Str.{bytes_eq}
 use Rattle.pv_script.specs.Words.{is_name}
+use Rattle.pv_watch.specs.Lines.{live_test, range_test, block_test, same_test, code_test}
 use Rattle.pv_journal.specs.Journals.{Id, Fact, Made, Ended, Exposed, Paired, Used, Fault, Row, rows_text, journal_text, last_text, row_text}
 
 -- the memory model: a storage instance that was made (6.2.4p2): its address, its size, whether it lives and whether it is exposed
@@ -93,17 +94,16 @@ abbrev pub left_of : Bond → Id → Option Id → Option (Bool × Bool)
 left_of b first None = if same_id first b.low then Some (true, false) else if same_id first b.high then Some (false, true) else None
 left_of b first (Some second) = if same_id first b.low && same_id second b.high then Some (true, true) else None
 
--- the memory model: a test leaves those that live (6.2.4p2): all of them for test 1; one for test 5, and for test 3 one that is an allocation's
--- (7.22.3)
+-- the memory model: a test leaves those that live (6.2.4p2): all of them where it is that alone; one function (6.5.2.2p1), or one allocation (7.22.3)
 abbrev pub may_leave : List Held → Bond → (test : ℕ) → (low high : Bool) → Bool
 may_leave xs b test low high =
     let low_lives = is_live (held_at xs b.low) in
     let high_lives = is_live (held_at xs b.high) in
     (not low || low_lives) && ((not high || high_lives) && (
-    if test == 1 then (low || not low_lives) && (high || not high_lives)
-    else if test == 3 then not (low && high) && bytes_eq (if low then b.low.name else b.high.name) (codes "@heap")
-    else if test == 5 then not (low && high)
-    else test == 2 || test == 4))
+    if test == live_test then (low || not low_lives) && (high || not high_lives)
+    else if test == block_test then not (low && high) && bytes_eq (if low then b.low.name else b.high.name) (codes "@heap")
+    else if test == code_test then not (low && high)
+    else test == range_test || test == same_test))
 
 -- the memory model: the state where the instance at a place became x
 abbrev pub with_held : State → ℕ → Held → State

@@ -5,6 +5,7 @@ use Rattle.std.specs.Str.{bytes_eq}
 use Rattle.std.specs.Char.{digit_value}
 use Rattle.std.specs.Fmt.{decimal}
 use Rattle.pv_print.specs.Texts.{address_text}
+use Rattle.pv_watch.specs.Lines.{live_test, range_test, block_test, same_test, code_test}
 use Rattle.pv_journal.specs.Journals.{Id, Fact, Made, Ended, Exposed, Paired, Used, Fault, Row, last_text}
 use Rattle.pv_journal.specs.Obeying.{State, at_first, after}
 
@@ -60,11 +61,11 @@ id_behind word text = option_and_then id_in (behind word text)
 -- docs/FORMATS.md, Journals (the memory model): a test, by its word
 abbrev pub test_in : List ℕ → Option ℕ
 test_in text =
-    if bytes_eq text (codes "test=live") then Some 1
-    else if bytes_eq text (codes "test=range") then Some 2
-    else if bytes_eq text (codes "test=block") then Some 3
-    else if bytes_eq text (codes "test=same") then Some 4
-    else if bytes_eq text (codes "test=code") then Some 5 else None
+    if bytes_eq text (codes "test=live") then Some live_test
+    else if bytes_eq text (codes "test=range") then Some range_test
+    else if bytes_eq text (codes "test=block") then Some block_test
+    else if bytes_eq text (codes "test=same") then Some same_test
+    else if bytes_eq text (codes "test=code") then Some code_test else None
 
 -- docs/FORMATS.md, Journals (the memory model): one instance or two
 abbrev pub ids_of : List (List ℕ) → Option (Id × Option Id)

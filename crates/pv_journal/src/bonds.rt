@@ -6,6 +6,7 @@ ghost use Rattle.pv_journal.specs.Standing.{IsBondKnown, HasText, is_heap};
 use crate::held::{Held, Instances, same_key};
 use crate::line::Key;
 use pv_script::{Names, NoMemory};
+use pv_watch::{BLOCK_TEST, CODE_TEST, LIVE_TEST, RANGE_TEST, SAME_TEST};
 use std::alloc::Global;
 use std::marker::Model;
 
@@ -113,10 +114,10 @@ fn leaves(live: (bool, bool), heap: bool, test: u8, low: bool, high: bool) -> bo
         return false;
     }
     match test {
-        1 => (low || !live.0) && (high || !live.1),
-        3 => !(low && high) && heap,
-        5 => !(low && high),
-        2 | 4 => true,
+        LIVE_TEST => (low || !live.0) && (high || !live.1),
+        BLOCK_TEST => !(low && high) && heap,
+        CODE_TEST => !(low && high),
+        RANGE_TEST | SAME_TEST => true,
         _ => false,
     }
 }

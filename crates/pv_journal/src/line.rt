@@ -34,8 +34,8 @@ pub enum Said {
         low: Key,
         high: Key,
     },
-    /// A pointer of a pair is used: which test was made (1 for `live`, 2 `range`, 3 `block`, 4 `same`, 5 `code`), and
-    /// which candidates passed it, one or two.
+    /// A pointer of a pair is used: the number of the test that was made (`LIVE_TEST` of `pv_watch`, and those beside it),
+    /// and which candidates passed it, one or two.
     Used {
         pair: u64,
         test: u8,

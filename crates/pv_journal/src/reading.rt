@@ -7,6 +7,7 @@ ghost use Rattle.pv_journal.specs.Reading as reading;
 
 use crate::words::{address_in, behind, decimal_in, marks};
 use pv_script::{NoMemory, pieces};
+use pv_watch::{BLOCK_TEST, CODE_TEST, LIVE_TEST, RANGE_TEST, SAME_TEST};
 use std::alloc::Global;
 
 /// What an instance is called by: the text of its name, and which of this name it is.
@@ -110,15 +111,15 @@ fn test_in(text: &[u8]) -> Option<u8>
     ensures { result ≡ reading.test_in text.now }
 {
     if text == b"test=live".as_slice() {
-        Some(1)
+        Some(LIVE_TEST)
     } else if text == b"test=range".as_slice() {
-        Some(2)
+        Some(RANGE_TEST)
     } else if text == b"test=block".as_slice() {
-        Some(3)
+        Some(BLOCK_TEST)
     } else if text == b"test=same".as_slice() {
-        Some(4)
+        Some(SAME_TEST)
     } else if text == b"test=code".as_slice() {
-        Some(5)
+        Some(CODE_TEST)
     } else {
         None
     }
