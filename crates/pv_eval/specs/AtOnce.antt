@@ -88,6 +88,12 @@ pub record TestedNext (u : Stored) (n : NodeId) (t : Bool) (old new : Moment) : 
   pub has : EvaluatedNext u n worth old new
   pub tests : (b : Setting) (line : ℕ) (out : List ℕ) (es : List Marked) → act b line (Tests worth) (state_of new out es) ≡ Gives (truth_int t) (state_of new out es)
 
+-- 6.8.5p4: the controlling expression of a loop has a value that compares so with 0
+pub record TestedNow (u : Stored) (n : NodeId) (t : Bool) (old new : Moment) : Type 0 where
+  pub worth : Worth
+  pub has : Evaluated u n worth old new
+  pub tests : (b : Setting) (line : ℕ) (out : List ℕ) (es : List Marked) → act b line (Tests worth) (state_of new out es) ≡ Gives (truth_int t) (state_of new out es)
+
 -- 6.8.6.4p3: the expression of a `return` has a value, behind the statement's turn, that is converted as if by assignment, and handed on so
 pub record HandedNext (u : Stored) (n : NodeId) (v : Worth) (old new : Moment) : Type 0 where
   pub worth : Worth

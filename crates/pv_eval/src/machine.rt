@@ -20,7 +20,7 @@ ghost use Rattle.pv_eval.specs.MachineSteps.{IsBegun, IsTaken, IsAnswered, IsOpe
 ghost use Rattle.pv_eval.specs.Pieces.{handed_at, needed_of};
 ghost use Rattle.pv_eval.specs.Progress.{StepsMachine, MadeAnywhere};
 ghost use Rattle.pv_eval.specs.Codes.{AreCodes};
-ghost use Rattle.pv_eval.specs.AtOnce.{EvaluatedFirst, ContinuesFirst, CutFirst, EvaluatedNext, CutNext, TestedNext, HandedNext};
+ghost use Rattle.pv_eval.specs.AtOnce.{EvaluatedFirst, ContinuesFirst, CutFirst, EvaluatedNext, CutNext, TestedNext, HandedNext, Evaluated, Cut, TestedNow};
 
 use crate::converting::{hand_on, need};
 use crate::failure::Failure;
@@ -269,6 +269,47 @@ impl Machine {
         ensures stays { KeepsSetting self.old.moment self.new.moment }
     {
         self.moment.decide_next(unit, plan, n, bound)
+    }
+
+    /// A full expression at once, which is not started, as `whole_next`, without a statement's turn. `None` where that is not possible:
+    /// then nothing has changed.
+    pub fn whole_now(&mut self, unit: &TypedUnit, plan: &Plan, n: NodeId, bound: u64) -> Option<Got>
+        requires codes { AreCodes unit.now plan.now }
+        requires runnable { IsRunnable unit.now }
+        requires there { IsExpression unit.now n }
+        ensures some { IfSome result (λ v. Evaluated unit.now n (worth_of v) self.old.moment self.new.moment) }
+        ensures cut { IfSome result (λ v. Cut unit.now n self.old.moment self.new.moment) }
+        ensures more { IfSome result (λ v. self.old.moment.taken < self.new.moment.taken) }
+        ensures within { IfSome result (λ v. self.new.moment.taken ≤ bound) }
+        ensures none { IfNone result (self.new ≡ self.old) }
+        ensures started { self.new.started ≡ self.old.started }
+        ensures stays { KeepsSetting self.old.moment self.new.moment }
+    {
+        self.moment.whole(unit, plan, n, bound)
+    }
+
+    /// The controlling expression of a loop at once, which is not started: whether it compares unequal to 0 (C17 6.8.5p4), as
+    /// `decide_next`, without a statement's turn. `None` where that is not possible: then nothing has changed.
+    pub fn decide_now(
+        &mut self,
+        unit: &TypedUnit,
+        plan: &Plan,
+        n: NodeId,
+        bound: u64,
+    ) -> Option<bool>
+        requires codes { AreCodes unit.now plan.now }
+        requires runnable { IsRunnable unit.now }
+        requires there { IsExpression unit.now n }
+        requires room { self.old.moment.taken < bound }
+        ensures some { IfSome result (λ t. TestedNow unit.now n t self.old.moment self.new.moment) }
+        ensures cut { IfSome result (λ t. Cut unit.now n self.old.moment self.new.moment) }
+        ensures more { IfSome result (λ t. self.old.moment.taken < self.new.moment.taken) }
+        ensures within { IfSome result (λ t. self.new.moment.taken ≤ bound) }
+        ensures none { IfNone result (self.new ≡ self.old) }
+        ensures started { self.new.started ≡ self.old.started }
+        ensures stays { KeepsSetting self.old.moment self.new.moment }
+    {
+        self.moment.decide_now(unit, plan, n, bound)
     }
 
     /// A statement's turn, and the expression of a `return` at once, which is not started: its value, converted as if by assignment

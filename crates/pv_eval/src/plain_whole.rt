@@ -8,7 +8,7 @@ ghost use Rattle.pv_world.specs.Coming.{worth_of};
 ghost use Rattle.pv_eval.specs.Runnable.{IsRunnable};
 ghost use Rattle.pv_eval.specs.Plainly.{Performs, whole_turns, found_worth};
 ghost use Rattle.pv_eval.specs.Codes.{AreCodes};
-ghost use Rattle.pv_eval.specs.AtOnce.{Evaluated, Cut, EvaluatedNext, CutNext, TestedNext, HandedNext, EvaluatedAmong, CutAmong};
+ghost use Rattle.pv_eval.specs.AtOnce.{Evaluated, Cut, EvaluatedNext, CutNext, TestedNow, TestedNext, HandedNext, EvaluatedAmong, CutAmong};
 
 use crate::codes::Code;
 use crate::moment::Moment;
@@ -231,6 +231,39 @@ impl Moment {
         self.taken += 1;
         self.taken += turns;
         Some(t)
+    }
+
+    /// Compares the controlling expression of a loop with 0 at once (C17 6.8.5p4), as `decide_next` does that of a statement, without a
+    /// turn of its own. `None` where that is not possible: then nothing has changed.
+    pub(crate) fn decide_now(
+        &mut self,
+        unit: &TypedUnit,
+        plan: &Plan,
+        n: NodeId,
+        bound: u64,
+    ) -> Option<bool>
+        requires codes { AreCodes unit.now plan.now }
+        requires runnable { IsRunnable unit.now }
+        requires there { IsExpression unit.now n }
+        requires room { self.old.taken < bound }
+        ensures some { IfSome result (λ t. TestedNow unit.now n t self.old self.new) }
+        ensures cut { IfSome result (λ t. Cut unit.now n self.old self.new) }
+        ensures more { IfSome result (λ t. self.old.taken < self.new.taken) }
+        ensures within { IfSome result (λ t. self.new.taken ≤ bound) }
+        ensures none { IfNone result (self.new ≡ self.old) }
+        ensures kept { self.new ≡ record self.old { taken = self.new.taken } }
+    {
+        let k = plain_turns(unit, n)?;
+        if k == 0 {
+            return None;
+        }
+        if k > bound - self.taken {
+            return None;
+        }
+        let v = value(self.alloc, unit, plan, &self.world, n)?;
+        let yes = is_true(&self.world, v)?;
+        self.taken += k;
+        Some(yes)
     }
 
     /// Takes a statement's turn, and evaluates the expression of a `return` at once, converted as if by assignment (C17 6.8.6.4p3),

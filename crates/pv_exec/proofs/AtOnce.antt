@@ -30,12 +30,12 @@ use Rattle.pv_exec.specs.Entering.{entered}
 use Rattle.pv_exec.specs.Flows.{Falls, full, nothing_done}
 use Rattle.pv_exec.specs.Tasks.{Reached, Left, Valued, left}
 use Rattle.pv_exec.specs.Calls.{below}
-use Rattle.pv_exec.specs.Works.{does, due, others, after_work, Standing}
+use Rattle.pv_exec.specs.Works.{does, due, asked, others, after_work, Standing}
 use Rattle.pv_exec.specs.Fits.{Runs, DoingFits, TasksStand}
 use Rattle.pv_eval.specs.Plainly.{GivesValue}
 use Rattle.pv_eval.specs.AtOnce.{EvaluatedFirst, ContinuesFirst, CutFirst, ticked, EvaluatedNext, CutNext}
 use Rattle.pv_exec.specs.Turning.{UntilDueLed, AdvancedLed, AtOnceLed, CutBefore, advanced_by}
-use Rattle.pv_exec.proofs.Bounds.{holds-out, has-stores}
+use Rattle.pv_exec.proofs.Bounds.{holds-out, holds-asked, has-stores}
 use Rattle.pv_exec.proofs.Turns.{keeps-setting}
 use Rattle.pv_exec.proofs.Pieces.{turned}
 
@@ -123,6 +123,12 @@ pub cut-turn : (u : Stored) (d : Doing) (ts : List Task) (old new : Machine) →
 cut-turn u d ts old new one fits t = λ b out es hs hl all low high g.
     let met : old.moment.taken ≡ b.bound = omega (arith, t, low, high) in
     subst (λ (n : ℕ). all ≡ Stops Turns (state_of (record old.moment { taken = n }) out es)) met (holds-out b u all ts old.started d (state_of old.moment out es) one (has-stores b u old.started d hs.unit fits) (omega (arith, met)) g)
+
+-- one turn at most, behind operations that take none
+pub cut-few : (u : Stored) (d : Doing) (ts : List Task) (old new : Machine) → asked old.started d ≡ 1 → DoingFits u old.started d → new.moment.taken ≤ old.moment.taken + 1 → CutBefore u d ts old new
+cut-few u d ts old new one fits t = λ b out es hs hl all low high g.
+    let met : old.moment.taken ≡ b.bound = omega (arith, t, low, high) in
+    subst (λ (n : ℕ). all ≡ Stops Turns (state_of (record old.moment { taken = n }) out es)) met (holds-asked b u all ts old.started d (state_of old.moment out es) one (has-stores b u old.started d hs.unit fits) fits (omega (arith, met)) g)
 
 pub cut-none : (u : Stored) (d : Doing) (ts : List Task) (m : Machine) → CutBefore u d ts m m
 cut-none u d ts m = λ b out es hs hl all low high g. absurd (omega (arith, low, high))

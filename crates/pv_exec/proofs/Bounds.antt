@@ -1,9 +1,9 @@
 -- Where the bound is met, what is due stops.
-use Rattle.std.proofs.Common.{◌≡◌, ℕ, ◌≤◌, List, [], ◌∷◌, refl, sym, ap, ◌∙◌, arith}
-use Rattle.std.specs.Prelude.{Bool, true, false, drop, length, nat_lt, if◌then◌else◌}
+use Rattle.std.proofs.Common.{◌≡◌, ℕ, zero, suc, ◌+◌, ◌<◌, ◌≤◌, List, [], ◌∷◌, Some, None, refl, sym, ap, ◌∙◌, arith}
+use Rattle.std.specs.Prelude.{Bool, Option, true, false, is_some, drop, length, nat_lt, if◌then◌else◌}
 use Rattle.std.proofs.lemmas.List.{length-drop}
 use Rattle.std.proofs.lemmas.Bool.{le-ltb}
-use Rattle.pv_typed.specs.TypedTree.{TypedTree, Node, Constant, Object, Function, String, Call, CallPointer, LibraryCall, Member, MemberOfValue, Arrow, Increment, Address, Unary, Not, Sizeof, Cast, Arithmetic, PointerSum, PointerDifference, PointerOrder, PointerEquality, LogicalAnd, LogicalOr, Conditional, Assign, CompoundAssign, PointerAssign, Comma, Subscript, Indirection, Read, ArrayPointer, Convert, type_of}
+use Rattle.pv_typed.specs.TypedTree.{TypedTree, Node, Constant, Object, Function, String, Call, CallPointer, LibraryCall, Member, MemberOfValue, Arrow, Increment, Address, Unary, Not, Sizeof, Cast, Arithmetic, PointerSum, PointerDifference, PointerOrder, PointerEquality, LogicalAnd, LogicalOr, Conditional, Assign, CompoundAssign, PointerAssign, Comma, Subscript, Indirection, Read, ArrayPointer, Convert, type_of, line_of}
 use Rattle.pv_typed.specs.TypedStatement.{TypedStatement, Block, Declare, Expression, Empty, If, IfElse, Switch, Case, Default, While, DoWhile, For, ForDeclaration, Continue, Break, Return}
 use Rattle.pv_typed.specs.TypedUnits.{WholeUnit, Store, StoredValue, ValueOf, TextOf, object_at}
 use Rattle.pv_typed.specs.Tables.{Stored, whole}
@@ -11,13 +11,14 @@ use Rattle.pv_typed.specs.NodeTrees.{expression_at, statement_at}
 use Rattle.pv_seq.specs.Sequencing.{Access, Open, opened, beside}
 use Rattle.pv_seq.specs.Rivals.{top, below as opens_below}
 use Rattle.pv_world.specs.Worlds.{Worth}
+use Rattle.pv_world.specs.Worths.{is_true}
 use Rattle.pv_eval.specs.declared.frames.Now.{Now}
 use Rattle.pv_eval.specs.declared.frames.Now.TheVariants as now
 use Rattle.pv_eval.specs.States.{Setting, State, Turns, Res, Gives, Stops, then_do}
 use Rattle.pv_eval.specs.Sequenced.{Given, with_given, work, operand, done}
 use Rattle.pv_eval.specs.Steps.{Calling, reading}
 use Rattle.pv_eval.specs.Evaluation.{ev}
-use Rattle.pv_eval.specs.Operations.{Moves, Follows}
+use Rattle.pv_eval.specs.Operations.{Moves, Follows, Tests, act}
 use Rattle.pv_eval.specs.TypeForms.{lvalue, element_size}
 use Rattle.pv_types.specs.Sorts.{is_void as is_none, is_pointer}
 use Rattle.pv_eval.specs.Stack.{rest}
@@ -27,12 +28,13 @@ use Rattle.pv_eval.specs.Machines.{Started, left_of, is_due_at}
 use Rattle.pv_exec.specs.declared.task.Task.{Task}
 use Rattle.pv_exec.specs.declared.task.Doing.{Doing}
 use Rattle.pv_exec.specs.declared.task.Doing.TheVariants as doing
-use Rattle.pv_exec.specs.Flows.{Falls, Below, stores_value}
+use Rattle.pv_exec.specs.Flows.{Flow, Falls, Below, stores_value, stepped, if_tested}
 use Rattle.pv_exec.specs.Lists.{store_all}
 use Rattle.pv_exec.specs.Execution.{ex}
 use Rattle.pv_exec.specs.Calls.{below}
+use Rattle.pv_exec.specs.Parts.{Loop, loop_of, rounded}
 use Rattle.pv_exec.specs.Tasks.{Reached, Valued, left}
-use Rattle.pv_exec.specs.Works.{does, due, after_work, Holds}
+use Rattle.pv_exec.specs.Works.{does, due, asked, after_work, Holds}
 use Rattle.pv_exec.specs.Fits.{DoingFits}
 use Rattle.pv_exec.proofs.Pieces.{turned}
 
@@ -131,6 +133,9 @@ HasStores b (doing.Enter n) = Unit {0}
 HasStores b (doing.Jump n l i) = Unit {0}
 HasStores b (doing.Statements l i) = Unit {0}
 HasStores b (doing.Within n) = Unit {0}
+HasStores b (doing.Again x p) = Unit {0}
+HasStores b (doing.Round p) = Unit {0}
+HasStores b (doing.Body p) = Unit {0}
 HasStores b doing.Absent = Unit {0}
 HasStores b (doing.Left fl) = Unit {0}
 HasStores b doing.Evaluate = Unit {0}
@@ -146,6 +151,9 @@ does-out b u k es (doing.Enter n) s e h le = ap left (ex-out b (below b k) (stat
 does-out b u k es (doing.Jump n l i) s e h le = ap left (no-tick b s _ le)
 does-out b u k es (doing.Statements l i) s e h le = absurd (omega (arith, e))
 does-out b u k es (doing.Within n) s e h le = absurd (omega (arith, e))
+does-out b u k es (doing.Again x p) s e h le = absurd (omega (arith, e))
+does-out b u k es (doing.Round p) s e h le = absurd (omega (arith, e))
+does-out b u k es (doing.Body p) s e h le = absurd (omega (arith, e))
 does-out b u k es (doing.Store o i) s e h le = ap (λ (m : Res Worth). left (then_do m (λ v s. Gives Falls s))) (stores-out b (below b k).call o (drop i (object_at b.unit o).inits) s h le)
 does-out b u k es doing.Absent s e h le = ap left (no-tick b s _ le)
 does-out b u k es (doing.Left fl) s e h le = absurd (omega (arith, e))
@@ -161,7 +169,44 @@ has-stores b u es (doing.Enter n) e h = tt
 has-stores b u es (doing.Jump n l i) e h = tt
 has-stores b u es (doing.Statements l i) e h = tt
 has-stores b u es (doing.Within n) e h = tt
+has-stores b u es (doing.Again x p) e h = tt
+has-stores b u es (doing.Round p) e h = tt
+has-stores b u es (doing.Body p) e h = tt
 has-stores b u es (doing.Left fl) e h = tt
 has-stores b u es doing.Absent e h = tt
 has-stores b u es doing.Evaluate e h = tt
 has-stores b u es doing.Evaluated e h = tt
+
+-- an expression of a loop that is there
+step-out : (b : Setting) (call : Calling) (o : Option TypedTree) (go : State → Res Flow) (s : State) → is_some o ≡ true → b.bound ≤ s.taken → stepped b call o go s ≡ Stops Turns s
+step-out b call None go s h le = absurd (cc)
+step-out b call (Some x) go s h le = ap (λ (m : Res Given). then_do (then_do m (λ g s. Gives g.value s)) (λ v s. go s)) (ev-out b call x [] s le)
+
+test-out : (b : Setting) (call : Calling) (o : Option TypedTree) (go : State → Res Flow) (s : State) → is_some o ≡ true → b.bound ≤ s.taken → if_tested b call o go s ≡ Stops Turns s
+test-out b call None go s h le = absurd (cc)
+test-out b call (Some x) go s h le =
+    ap (λ (m : Res Given). then_do (then_do (then_do m (λ g s. Gives g.value s)) (λ v s. act b (line_of x) (Tests v) s)) (λ v s. if is_true v then go s else Gives Falls s)) (ev-out b call x [] s le)
+
+round-out : (b : Setting) (k : ℕ) (l : Loop) (s : State) → is_some l.condition ≡ true → b.bound < s.taken + k → s.taken ≤ b.bound → b.bound ≤ s.taken → (below b k).again l.condition l.step l.body s ≡ Stops Turns s
+unfolding below
+round-out b zero l s h lt most le = absurd (omega (arith, lt, most))
+round-out b (suc k) l s h lt most le = test-out b (below b k).call l.condition (λ s. then_do (ex b (below b k) l.body s) (rounded b (below b k) l)) s h le
+
+-- the same of what is asked for before it is started
+does-asked : (b : Setting) (u : Stored) (k : ℕ) (es : List Started) (d : Doing) (s : State) → asked es d ≡ 1 → HasStores b d → DoingFits u es d → b.bound < s.taken + k + due es d → s.taken ≤ b.bound → b.bound ≤ s.taken → does b u k es d s ≡ Stops Turns s
+unfolding does
+does-asked b u k es (doing.Enter n) s e h f lt most le = does-out b u k es (doing.Enter n) s refl h le
+does-asked b u k es (doing.Jump n l i) s e h f lt most le = does-out b u k es (doing.Jump n l i) s refl h le
+does-asked b u k es (doing.Statements l i) s e h f lt most le = absurd (omega (arith, e))
+does-asked b u k es (doing.Within n) s e h f lt most le = absurd (omega (arith, e))
+does-asked b u k es (doing.Again x p) s e h f lt most le = ap left (step-out b (below b k).call (loop_of (statement_at u p.statement)).step ((below b k).again (loop_of (statement_at u p.statement)).condition (loop_of (statement_at u p.statement)).step (loop_of (statement_at u p.statement)).body) s (ap is_some f.step) le)
+does-asked b u k es (doing.Round p) s e h f lt most le = ap left (round-out b k (loop_of (statement_at u p.statement)) s (ap is_some f.condition) (omega (arith, lt)) most le)
+does-asked b u k es (doing.Body p) s e h f lt most le = absurd (omega (arith, e))
+does-asked b u k es (doing.Store o i) s e h f lt most le = does-out b u k es (doing.Store o i) s refl h le
+does-asked b u k es doing.Absent s e h f lt most le = does-out b u k es doing.Absent s refl h le
+does-asked b u k es (doing.Left fl) s e h f lt most le = absurd (omega (arith, e))
+does-asked b u k es doing.Evaluate s e h f lt most le = does-out b u k es doing.Evaluate s e h le
+does-asked b u k es doing.Evaluated s e h f lt most le = absurd (omega (arith, e))
+
+pub holds-asked : (b : Setting) (u : Stored) (all : Res Reached) (ts : List Task) (es : List Started) (d : Doing) (s : State) → asked es d ≡ 1 → HasStores b d → DoingFits u es d → b.bound ≤ s.taken → Holds b u all ts es d s → all ≡ Stops Turns s
+holds-asked b u all ts es d s e h f le g = g.law ∙ ap (λ (m : Res Reached). then_do m (rest (after_work b u) g.works)) (does-asked b u g.level es d s e h f g.room g.most le)

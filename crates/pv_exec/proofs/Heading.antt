@@ -23,7 +23,7 @@ use Rattle.pv_exec.specs.Flows.{Flow, Falls, Returns, Below}
 use Rattle.pv_exec.specs.Labels.{target_of}
 use Rattle.pv_exec.specs.Execution.{ex}
 use Rattle.pv_exec.specs.Calls.{below, value_by}
-use Rattle.pv_exec.specs.Parts.{Loop, loop_of, rounds, rounded, tested, line_of_condition, DoLoop, do_of, rounded_do, tested_do, Choice, choice_of, other_side, chosen, Selection, selection_of, selected}
+use Rattle.pv_exec.specs.Parts.{Loop, loop_of, rounds, stepped_on, rounded, tested, line_of_condition, DoLoop, do_of, rounded_do, tested_do, Choice, choice_of, other_side, chosen, Selection, selection_of, selected}
 use Rattle.pv_exec.specs.Tasks.{Reached, Left, Valued, left, statements_from, returned, returned_of, stored_value, stored, declarations_of, within, after_flow, after_value, takes_value, after_task}
 use Rattle.pv_exec.specs.Works.{flow_of, does}
 use Rattle.pv_exec.proofs.Executed.{Alike, falling, going, switching, unless-way, end-way, scoped-way, testing-way, stepped-way, round-way, stores-way, ex-closed, exs-closed, exs_at-closed, even-closed}
@@ -54,6 +54,9 @@ module _ (b : Setting) (n : ℕ) (sides : Option (List Bool)) {R : Relation} (w 
 
   rounded-closed : (l : Loop) (fl : Flow) → R k k Flow (rounded b z l fl) (rounded c z' l fl)
   rounded-closed l fl = going b n sides w fl (stepped-way b n sides w k z z' alike l.step (alike.again l.condition l.step l.body))
+
+  again-closed : (l : Loop) → R k k Flow (stepped_on b z l) (stepped_on c z' l)
+  again-closed l = stepped-way b n sides w k z z' alike l.step (alike.again l.condition l.step l.body)
 
   tested-closed : (l : Loop) (v : Worth) → R k k Flow (tested b z l v) (tested c z' l v)
   tested-closed l v = w.seq (w.acts (line_of_condition l.condition) (Tests v) tt) (λ v. choice b n sides w (is_true v) (w.seq (executed l.body) (λ fl. rounded-closed l fl)) (w.gives Falls))
@@ -146,6 +149,9 @@ module _ (b : Setting) (n : ℕ) (sides : Option (List Bool)) {R : Relation} (w 
   does-closed es (doing.Jump m l i) = reaching (w.less (w.ticks (scoped-way b n sides w (declared_of (statement_at u m)) (exs-closed b n sides w k z z' alike (statements_from u l i)))))
   does-closed es (doing.Statements l i) = reaching (exs-closed b n sides w k z z' alike (statements_from u l i))
   does-closed es (doing.Within m) = reaching (within-closed (declarations_of (statement_at u m)) (loop_of (statement_at u m)))
+  does-closed es (doing.Again x p) = reaching (again-closed (loop_of (statement_at u p.statement)))
+  does-closed es (doing.Round p) = reaching (alike.again (loop_of (statement_at u p.statement)).condition (loop_of (statement_at u p.statement)).step (loop_of (statement_at u p.statement)).body)
+  does-closed es (doing.Body p) = reaching (w.seq (executed (loop_of (statement_at u p.statement)).body) (λ fl. rounded-closed (loop_of (statement_at u p.statement)) fl))
   does-closed es (doing.Store o i) = reaching (w.seq (stores-way b n sides w k z z' alike o (drop i (object_at b.unit o).inits)) (λ v. w.gives Falls))
   does-closed es doing.Absent = reaching (w.less (w.ticks (w.gives Falls)))
   does-closed es (doing.Left fl) = w.gives (Left (flow_of fl))

@@ -25,6 +25,7 @@ pub mod Bounds
 pub mod Turns
 pub mod AtOnce
 pub mod Choices
+pub mod Rounding
 pub mod Readying
 pub mod Mains
 pub mod Outside

@@ -1,10 +1,11 @@
 -- What the operations of loops lead to.
 use Rattle.std.proofs.Common.{◌≡◌, ℕ, ◌+◌, ◌<◌, ◌≤◌, List, [], ◌∷◌, Some, None, zero, suc, refl, sym, ap, ◌∙◌, subst, arith, true, false}
-use Rattle.std.specs.Prelude.{Bool, Result, Err, if◌then◌else◌}
+use Rattle.std.specs.Prelude.{Bool, Option, Result, Err, IfSome, if◌then◌else◌}
 use Rattle.pv_tree.specs.declared.nodes.NodeId.{NodeId}
 use Rattle.pv_typed.specs.TypedTree.{line_of}
-use Rattle.pv_typed.specs.Tables.{Stored}
-use Rattle.pv_typed.specs.NodeTrees.{expression_at, statement_at}
+use Rattle.pv_typed.specs.Nodes.{optional_in}
+use Rattle.pv_typed.specs.Tables.{Stored, nodes}
+use Rattle.pv_typed.specs.NodeTrees.{expression_at, statement_at, IsExpression}
 use Rattle.pv_eval.specs.Evaluation.{ev}
 use Rattle.pv_eval.specs.Machines.{left_of, due_turns, is_due_at, after_first, Started}
 use Rattle.pv_eval.specs.MachineSteps.{IsBegun}
@@ -22,6 +23,7 @@ use Rattle.pv_eval.specs.declared.failure.Failure.TheVariants as failure
 use Rattle.pv_eval.specs.declared.frames.Now.TheVariants as now
 use Rattle.pv_eval.specs.Ahead.{ahead}
 use Rattle.pv_exec.specs.declared.task.Flow.TheVariants as code_flow
+use Rattle.pv_exec.specs.declared.parts.RoundParts.{RoundParts}
 use Rattle.pv_exec.specs.declared.task.Task.{Task}
 use Rattle.pv_exec.specs.declared.task.Task.TheVariants as task
 use Rattle.pv_exec.specs.declared.task.Doing.{Doing}
@@ -32,6 +34,9 @@ use Rattle.pv_exec.specs.Tasks.{takes_value, Reached, Valued, left, after_value,
 use Rattle.pv_exec.specs.Parts.{loop_of, rounds, tested, rounded, stepped_on, Loop, line_of_condition}
 use Rattle.pv_exec.specs.Works.{others, passed, does, due, is_call}
 use Rattle.pv_exec.specs.Leading.{Leads, LeadsOr}
+use Rattle.pv_exec.specs.Read.{IsRound, behind_body}
+use Rattle.pv_exec.specs.Fits.{WayFits}
+use Rattle.pv_exec.specs.Quickness.{Quick}
 use Rattle.pv_exec.proofs.Pieces.{lifted, lifted-twice, pushed}
 
 pub leads-do : (b : Setting) (u : Stored) (k : ℕ) (all : Res Reached) (es : List Started) (d : Doing) (s : State) → b.bound < s.taken + k + due es d → all ≡ does b u k es d s → (stand : List Started) → others es d ≡ stand → Leads b u all stand (way.Do d) es s
@@ -104,7 +109,7 @@ step-some b u k n x s e =
     ap (λ q. left (stepped b w.call q (w.again l.condition l.step l.body) s)) e
     ∙ lifted (full b w.call (expression_at u x) s) (λ v s. w.again l.condition l.step l.body s)
 
-tested-is : (b : Setting) (w : Below) (l : Loop) (line : ℕ) (v : Worth) (s : State) (r : Res Worth) → line ≡ line_of_condition l.condition → act b line (Tests v) s ≡ r → tested b w l v s ≡ then_do r (λ v s. if is_true v then then_do (ex b w l.body s) (rounded b w l) else Gives Falls s)
+pub tested-is : (b : Setting) (w : Below) (l : Loop) (line : ℕ) (v : Worth) (s : State) (r : Res Worth) → line ≡ line_of_condition l.condition → act b line (Tests v) s ≡ r → tested b w l v s ≡ then_do r (λ v s. if is_true v then then_do (ex b w l.body s) (rounded b w l) else Gives Falls s)
 tested-is b w l line v s r e h =
     let G = λ (v : Worth) (s : State). if is_true v then then_do (ex b w l.body s) (rounded b w l) else Gives Falls s in
     ap (λ n. then_do (act b n (Tests v) s) G) (sym e) ∙ ap (λ m. then_do m G) h
@@ -128,3 +133,44 @@ tested-false b u k line n es v s s' lt e h =
 pub tested-stops : (b : Setting) (u : Stored) (k line : ℕ) (n : NodeId) (stand es : List Started) (v : Worth) (e : Failure) (s s' : State) → line ≡ line_of_condition (loop_of (statement_at u n)).condition → Tested (act b line (Tests v) s) (Err e) s' → LeadsOr b u (left (tested b (below b k) (loop_of (statement_at u n)) v s)) stand (Err e) es s'
 tested-stops b u k line n stand es v failure.NoMemory s s' is h = tt
 tested-stops b u k line n stand es v (failure.Stop y m) s s' is h = ap left (tested-is b (below b k) (loop_of (statement_at u n)) line v s _ is h)
+
+-- what is asked for before it is started
+pub round-goes : (b : Setting) (u : Stored) (k : ℕ) (p : RoundParts) (es : List Started) (s : State) → b.bound < s.taken + k → Leads b u (left ((below b k).again (loop_of (statement_at u p.statement)).condition (loop_of (statement_at u p.statement)).step (loop_of (statement_at u p.statement)).body s)) es (way.Do (doing.Round p)) es s
+unfolding does
+round-goes b u k p es s lt = leads-do b u k _ es (doing.Round p) s (omega (arith, lt)) refl es refl
+
+pub behind-goes : (b : Setting) (u : Stored) (k : ℕ) (o : Option NodeId) (p : RoundParts) (es : List Started) (s : State) → b.bound < s.taken + k → (loop_of (statement_at u p.statement)).step ≡ optional_in (nodes u) o → Leads b u (left (stepped_on b (below b k) (loop_of (statement_at u p.statement)) s)) es (way.Do (behind_body o p)) es s
+unfolding does
+behind-goes b u k None p es s lt e =
+    let l = loop_of (statement_at u p.statement) in
+    let w = below b k in
+    leads-do b u k _ es (doing.Round p) s (omega (arith, lt)) (ap (λ q. left (stepped b w.call q (w.again l.condition l.step l.body) s)) e) es refl
+behind-goes b u k (Some x) p es s lt e = leads-do b u k _ es (doing.Again x p) s (omega (arith, lt)) refl es refl
+
+pub behind-fits : (u : Stored) (es : List Started) (o : Option NodeId) (p : RoundParts) → IsRound u p → (loop_of (statement_at u p.statement)).step ≡ optional_in (nodes u) o → IfSome o (IsExpression u) → WayFits u es es (way.Do (behind_body o p))
+behind-fits u es None p r e h = (r, refl)
+behind-fits u es (Some x) p r e h = (record { round = r; step = e; has_step = h }, refl)
+
+pub behind-quick : (es : List Started) (o : Option NodeId) (p : RoundParts) → Quick es (way.Do (behind_body o p))
+behind-quick es None p = tt
+behind-quick es (Some x) p = tt
+
+-- once it is started
+pub again-does : (b : Setting) (u : Stored) (k : ℕ) (x : NodeId) (p : RoundParts) (old es : List Started) (r : Result Way Failure) (s : State) → LeadsOr b u (left (stepped_on b (below b k) (loop_of (statement_at u p.statement)) s)) old r es s → LeadsOr b u (does b u k old (doing.Again x p) s) old r es s
+unfolding does
+again-does b u k x p old es r s h = h
+
+pub round-does : (b : Setting) (u : Stored) (k : ℕ) (p : RoundParts) (old es : List Started) (r : Result Way Failure) (s : State) → LeadsOr b u (left ((below b k).again (loop_of (statement_at u p.statement)).condition (loop_of (statement_at u p.statement)).step (loop_of (statement_at u p.statement)).body s)) old r es s → LeadsOr b u (does b u k old (doing.Round p) s) old r es s
+unfolding does
+round-does b u k p old es r s h = h
+
+-- the body, whose condition holds
+pub body-leads : (b : Setting) (u : Stored) (k : ℕ) (p : RoundParts) (es : List Started) (s : State) → b.bound < s.taken + k → (loop_of (statement_at u p.statement)).body ≡ statement_at u p.body → Leads b u (does b u k es (doing.Body p) s) es (way.With (task.Rounded p.statement) (doing.Enter p.body)) es s
+unfolding does after_flow
+body-leads b u k p es s lt is =
+    let l = loop_of (statement_at u p.statement) in
+    let w = below b k in
+    leads-with b u k _ es es (task.Rounded p.statement) (doing.Enter p.body) s (omega (arith, lt))
+    (lifted (ex b w l.body s) (rounded b w l)
+    ∙ pushed (ex b w l.body s) (after_task b u k es (task.Rounded p.statement))
+    ∙ ap (λ x. then_do (left (ex b w x s)) (after_task b u k es (task.Rounded p.statement))) is) refl

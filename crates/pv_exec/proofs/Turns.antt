@@ -1,5 +1,5 @@
 -- Parts of a run between turns.
-use Rattle.std.proofs.Common.{◌≡◌, ℕ, ◌+◌, ◌<◌, ◌≤◌, List, sym, ap, ◌∙◌, arith}
+use Rattle.std.proofs.Common.{◌≡◌, ℕ, ◌+◌, ◌<◌, ◌≤◌, List, refl, sym, ap, ◌∙◌, arith}
 use Rattle.std.specs.Prelude.{Bool, true, false, Result, Ok, Err, OnOk, length, if◌then◌else◌}
 use Rattle.pv_typed.specs.Tables.{Stored}
 use Rattle.pv_eval.specs.declared.failure.Failure.{Failure}
@@ -14,10 +14,11 @@ use Rattle.pv_exec.specs.declared.turning.Advanced.{Advanced}
 use Rattle.pv_exec.specs.declared.turning.Advanced.TheVariants as advance
 use Rattle.pv_exec.specs.declared.task.Task.{Task}
 use Rattle.pv_exec.specs.declared.task.Doing.{Doing}
-use Rattle.pv_exec.specs.Works.{due}
+use Rattle.pv_exec.specs.declared.task.Doing.TheVariants as doing
+use Rattle.pv_exec.specs.Works.{due, asked}
 use Rattle.pv_exec.specs.Fits.{AfterRuns}
 use Rattle.pv_exec.specs.Leading.{OnceLed}
-use Rattle.pv_exec.specs.Turning.{UntilDueLed, DueAfter, AdvancedLed, AdvancedRuns, AdvancedPace, advanced_by}
+use Rattle.pv_exec.specs.Turning.{UntilDueLed, AskedAfter, AdvancedLed, AdvancedRuns, AdvancedPace, advanced_by}
 
 pub keeps-setting : (b : Setting) (u : Stored) (m n : Moment) → KeepsSetting m n → IsSetting b u m → IsSetting b u n
 keeps-setting b u m n h i = record { unit = i.unit; types = i.types; sides = i.sides ∙ sym h.sides }
@@ -46,7 +47,7 @@ once-led u n d (Ok after.Valued) ts ts' old new lt t h = λ b out es hs hl all q
 once-led u n d (Err (failure.Stop y line)) ts ts' old new lt t h = λ b out es hs hl all q g. h b out es hs hl all (λ one. omega (arith, lt, q)) g
 once-led u n d (Err failure.NoMemory) ts ts' old new lt t h = tt
 
-pub until-due-runs : (u : Stored) (ts : List Task) (es : List Started) (r : Result After Failure) → AfterRuns u ts es r → OnOk r (Fit u es) → DueAfter es r → AdvancedRuns u ts es (advanced_by r)
+pub until-due-runs : (u : Stored) (ts : List Task) (es : List Started) (r : Result After Failure) → AfterRuns u ts es r → OnOk r (Fit u es) → AskedAfter es r → AdvancedRuns u ts es (advanced_by r)
 until-due-runs u ts es (Ok (after.On d)) h f e = (h, f, e)
 until-due-runs u ts es (Ok (after.Ended fl)) h f e = tt
 until-due-runs u ts es (Ok after.Valued) h f e = tt
@@ -57,3 +58,53 @@ pub pace-of : (n k k' : ℕ) (a : Advanced) → k < k' → k' ≤ n → Advanced
 pace-of n k k' (advance.On d) lt le = (lt, le)
 pace-of n k k' (advance.Last l) lt le = tt
 pace-of n k k' advance.NoMemory lt le = tt
+
+-- what isn't asked for is not due, and what is due is asked for
+pub unasked-undue : (es : List Started) (d : Doing) → asked es d ≡ 0 → due es d ≡ 0
+unasked-undue es (doing.Enter n) e = absurd (omega (arith, e))
+unasked-undue es (doing.Jump n l i) e = absurd (omega (arith, e))
+unasked-undue es (doing.Statements l i) e = refl
+unasked-undue es (doing.Within n) e = refl
+unasked-undue es (doing.Again x p) e = absurd (omega (arith, e))
+unasked-undue es (doing.Round p) e = absurd (omega (arith, e))
+unasked-undue es (doing.Body p) e = refl
+unasked-undue es (doing.Store o i) e = absurd (omega (arith, e))
+unasked-undue es doing.Absent e = absurd (omega (arith, e))
+unasked-undue es (doing.Left fl) e = refl
+unasked-undue es doing.Evaluate e = e
+unasked-undue es doing.Evaluated e = refl
+
+pub due-asked : (es : List Started) (d : Doing) → due es d ≡ 1 → asked es d ≡ 1
+due-asked es (doing.Enter n) e = refl
+due-asked es (doing.Jump n l i) e = refl
+due-asked es (doing.Statements l i) e = absurd (omega (arith, e))
+due-asked es (doing.Within n) e = absurd (omega (arith, e))
+due-asked es (doing.Again x p) e = absurd (omega (arith, e))
+due-asked es (doing.Round p) e = absurd (omega (arith, e))
+due-asked es (doing.Body p) e = absurd (omega (arith, e))
+due-asked es (doing.Store o i) e = refl
+due-asked es doing.Absent e = refl
+due-asked es (doing.Left fl) e = absurd (omega (arith, e))
+due-asked es doing.Evaluate e = e
+due-asked es doing.Evaluated e = absurd (omega (arith, e))
+
+-- the operations that come before the next turn, and that turn
+pub ahead-led : (u : Stored) (n : ℕ) (d e : Doing) (a : Advanced) (ts tm ts' : List Task) (old mid new : Machine) → KeepsSetting old.moment mid.moment → UntilDueLed u d (Ok (after.On e)) ts tm old mid → AdvancedLed u n e a tm ts' mid new → AdvancedLed u n d a ts ts' old new
+ahead-led u n d e (advance.On f) ts tm ts' old mid new k o h = λ b out es hs hl all q g. h b out es (keeps-setting b u old.moment mid.moment k hs) (k.total (length out) hl) all q (o b out es hs hl all g)
+ahead-led u n d e (advance.Last l) ts tm ts' old mid new k o h = λ b out es hs hl all q g. h b out es (keeps-setting b u old.moment mid.moment k hs) (k.total (length out) hl) all q (o b out es hs hl all g)
+ahead-led u n d e advance.NoMemory ts tm ts' old mid new k o h = tt
+
+pub until-last : (u : Stored) (n : ℕ) (d : Doing) (r : Result After Failure) (ts ts' : List Task) (old new : Machine) → UntilDueLed u d r ts ts' old new → AdvancedLed u n d (advanced_by r) ts ts' old new
+until-last u n d (Ok (after.On e)) ts ts' old new o = λ b out es hs hl all q g. o b out es hs hl all g
+until-last u n d (Ok (after.Ended fl)) ts ts' old new o = λ b out es hs hl all q g. o b out es hs hl all g
+until-last u n d (Ok after.Valued) ts ts' old new o = λ b out es hs hl all q g. o b out es hs hl all g
+until-last u n d (Err (failure.Stop y line)) ts ts' old new o = λ b out es hs hl all q g. o b out es hs hl all g
+until-last u n d (Err failure.NoMemory) ts ts' old new o = tt
+
+pub failed-runs : (u : Stored) (ts : List Task) (es : List Started) (e : Failure) → AdvancedRuns u ts es (advanced_by (Err e))
+failed-runs u ts es (failure.Stop y line) = tt
+failed-runs u ts es failure.NoMemory = tt
+
+pub failed-pace : (n k k' : ℕ) (e : Failure) → AdvancedPace n k k' (advanced_by (Err e))
+failed-pace n k k' (failure.Stop y line) = tt
+failed-pace n k k' failure.NoMemory = tt

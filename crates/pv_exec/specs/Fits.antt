@@ -17,6 +17,7 @@ use Rattle.pv_exec.specs.declared.task.Doing.{Doing}
 use Rattle.pv_exec.specs.declared.task.Doing.TheVariants as doing
 use Rattle.pv_exec.specs.declared.task.Way.{Way}
 use Rattle.pv_exec.specs.declared.task.Way.TheVariants as way
+use Rattle.pv_exec.specs.Read.{IsRound, IsStep}
 use Rattle.pv_exec.specs.Works.{others, passed}
 
 -- 6.8.2p1: a list of statements of the unit
@@ -56,6 +57,9 @@ DoingFits u es (doing.Enter n) = IsStatement u n
 DoingFits u es (doing.Jump n l i) = IsScope u n × HasList u l
 DoingFits u es (doing.Statements l i) = HasList u l
 DoingFits u es (doing.Within n) = IsStatement u n
+DoingFits u es (doing.Again x p) = IsStep u x p
+DoingFits u es (doing.Round p) = IsRound u p
+DoingFits u es (doing.Body p) = IsRound u p
 DoingFits u es (doing.Store o i) = HasStore u o i
 DoingFits u es doing.Absent = Unit {0}
 DoingFits u es (doing.Left fl) = Unit {0}

@@ -1,5 +1,5 @@
 -- Parts of statements as the code has them, by the numbers of their nodes: bridges to the typed statements (C17 6.8).
-use Rattle.std.specs.Prelude.{None, Some, List, Bool, true, false}
+use Rattle.std.specs.Prelude.{◌≡◌, None, Some, List, Bool, true, false}
 use Rattle.std.specs.declared.option.Option.{Option}
 use Rattle.pv_tree.specs.declared.nodes.NodeId.{NodeId}
 use Rattle.pv_tree.specs.declared.nodes.ListId.{ListId}
@@ -7,13 +7,14 @@ use Rattle.pv_typed.specs.TypedStatement.{TypedStatement, Statements}
 use Rattle.pv_typed.specs.Trees.{declared_of}
 use Rattle.pv_typed.specs.Nodes.{Tree, expression_in, statement_in, statements_in, list_in}
 use Rattle.pv_typed.specs.Tables.{Stored}
-use Rattle.pv_typed.specs.NodeTrees.{IsExpression, IsStatement}
+use Rattle.pv_typed.specs.NodeTrees.{expression_at, statement_at, IsExpression, IsStatement}
 use Rattle.pv_exec.specs.declared.parts.DoParts.{DoParts}
 use Rattle.pv_exec.specs.declared.parts.ChoiceParts.{ChoiceParts}
+use Rattle.pv_exec.specs.declared.parts.RoundParts.{RoundParts}
 use Rattle.pv_exec.specs.declared.task.Doing.{Doing}
 use Rattle.pv_exec.specs.declared.task.Doing.TheVariants as doing
 use Rattle.pv_exec.specs.declared.task.Flow.TheVariants as flow
-use Rattle.pv_exec.specs.Parts.{DoLoop, Choice, Items}
+use Rattle.pv_exec.specs.Parts.{loop_of, DoLoop, Choice, Items}
 
 -- 6.8.5.2: a `do` by the numbers of its parts
 abbrev pub do_in : List Tree → DoParts → DoLoop
@@ -56,6 +57,30 @@ other_side_of (Some y) = doing.Enter y
 abbrev pub side_of : ChoiceParts → Bool → Doing
 side_of p true = doing.Enter p.body
 side_of p false = other_side_of p.other
+
+-- 6.8.5.1, 6.8.5.3: the condition and the body of a loop are those of its statement, and are there
+pub record IsRound (u : Stored) (p : RoundParts) : Type 0 where
+  pub there : IsStatement u p.statement
+  pub condition : (loop_of (statement_at u p.statement)).condition ≡ Some (expression_at u p.condition)
+  pub has_condition : IsExpression u p.condition
+  pub body : (loop_of (statement_at u p.statement)).body ≡ statement_at u p.body
+  pub has_body : IsStatement u p.body
+
+-- 6.8.5.3p1: so is its last expression
+pub record IsStep (u : Stored) (x : NodeId) (p : RoundParts) : Type 0 where
+  pub round : IsRound u p
+  pub step : (loop_of (statement_at u p.statement)).step ≡ Some (expression_at u x)
+  pub has_step : IsExpression u x
+
+-- 6.8.5p4: what is done once the condition of a loop compares so with 0
+abbrev pub round_side : RoundParts → Bool → Doing
+round_side p true = doing.Body p
+round_side p false = doing.Left flow.Falls
+
+-- 6.8.5.3p1: what is done behind the body of a loop that goes on
+abbrev pub behind_body : Option NodeId → RoundParts → Doing
+behind_body None p = doing.Round p
+behind_body (Some x) p = doing.Again x p
 
 -- 6.8.2p1: the statements of a list
 abbrev pub list_read : List Tree → List (List NodeId) → Option ListId → Option Statements

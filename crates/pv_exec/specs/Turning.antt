@@ -17,7 +17,7 @@ use Rattle.pv_exec.specs.declared.turning.Advanced.TheVariants as advance
 use Rattle.pv_exec.specs.declared.task.Task.{Task}
 use Rattle.pv_exec.specs.declared.task.Doing.{Doing}
 use Rattle.pv_exec.specs.Tasks.{Reached, Left, Valued}
-use Rattle.pv_exec.specs.Works.{flow_of, due, others, Holds}
+use Rattle.pv_exec.specs.Works.{flow_of, due, asked, others, Holds}
 use Rattle.pv_exec.specs.Leading.{HoldsAfter}
 use Rattle.pv_exec.specs.Fits.{Runs, DoingFits}
 
@@ -33,6 +33,13 @@ DueAfter es (Ok (after.On d)) = due es d ≡ 1
 DueAfter es (Ok (after.Ended fl)) = Unit {0}
 DueAfter es (Ok after.Valued) = Unit {0}
 DueAfter es (Err e) = Unit {0}
+
+-- the same, or an expression of a loop was not started
+abbrev pub AskedAfter : List Started → Result After Failure → Type 0
+AskedAfter es (Ok (after.On d)) = asked es d ≡ 1
+AskedAfter es (Ok (after.Ended fl)) = Unit {0}
+AskedAfter es (Ok after.Valued) = Unit {0}
+AskedAfter es (Err e) = Unit {0}
 
 -- what an operation came to, as the loop over turns has it
 abbrev pub advanced_by : Result After Failure → Advanced
@@ -59,9 +66,9 @@ AdvancedLed u n d (advance.Last l) ts ts' old new =
     Holds b u all ts old.started d (state_of old.moment out es) → LastIs all l new.started (state_of new.moment out es))
 AdvancedLed u n d advance.NoMemory ts ts' old new = Unit {0}
 
--- where the run goes on, what waits names what is there (6.8), and another turn is due
+-- where the run goes on, what waits names what is there (6.8), and another turn is due, or an expression of a loop was not started
 abbrev pub AdvancedRuns : Stored → List Task → List Started → Advanced → Type 0
-AdvancedRuns u ts es (advance.On d) = Runs u ts es d × Fit u es × (due es d ≡ 1)
+AdvancedRuns u ts es (advance.On d) = Runs u ts es d × Fit u es × (asked es d ≡ 1)
 AdvancedRuns u ts es (advance.Last l) = Unit {0}
 AdvancedRuns u ts es advance.NoMemory = Unit {0}
 

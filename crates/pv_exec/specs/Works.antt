@@ -20,7 +20,7 @@ use Rattle.pv_exec.specs.declared.task.Task.TheVariants as task
 use Rattle.pv_exec.specs.declared.task.Doing.{Doing}
 use Rattle.pv_exec.specs.declared.task.Doing.TheVariants as doing
 use Rattle.pv_exec.specs.Tasks.{Reached, Left, Valued, left, statements_from, within, declarations_of, after_task}
-use Rattle.pv_exec.specs.Parts.{loop_of}
+use Rattle.pv_exec.specs.Parts.{loop_of, stepped_on, rounded}
 
 -- 6.8.6: how a statement was left, as the definition has it
 abbrev pub flow_of : Flow → execution.Flow
@@ -35,6 +35,9 @@ does b u k es (doing.Enter n) s = left (ex b (below b k) (statement_at u n) s)
 does b u k es (doing.Jump n l i) s = left (tick b s (λ s. scoped b (declared_of (statement_at u n)) (λ s. exs b (below b k) (statements_from u l i) s) s))
 does b u k es (doing.Statements l i) s = left (exs b (below b k) (statements_from u l i) s)
 does b u k es (doing.Within n) s = left (within b (below b k) (declarations_of (statement_at u n)) (loop_of (statement_at u n)) s)
+does b u k es (doing.Again x p) s = left (stepped_on b (below b k) (loop_of (statement_at u p.statement)) s)
+does b u k es (doing.Round p) s = left ((below b k).again (loop_of (statement_at u p.statement)).condition (loop_of (statement_at u p.statement)).step (loop_of (statement_at u p.statement)).body s)
+does b u k es (doing.Body p) s = left (then_do (ex b (below b k) (loop_of (statement_at u p.statement)).body s) (rounded b (below b k) (loop_of (statement_at u p.statement))))
 does b u k es (doing.Store o i) s = left (then_do (store_all b (below b k).call o (drop i (object_at b.unit o).inits) s) (λ v s. Gives execution.Falls s))
 does b u k es doing.Absent s = left (tick b s (λ s. Gives execution.Falls s))
 does b u k es (doing.Left fl) s = Gives (Left (flow_of fl)) s
@@ -47,11 +50,29 @@ due es (doing.Enter n) = 1
 due es (doing.Jump n l i) = 1
 due es (doing.Statements l i) = 0
 due es (doing.Within n) = 0
+due es (doing.Again x p) = 0
+due es (doing.Round p) = 0
+due es (doing.Body p) = 0
 due es (doing.Store o i) = 1
 due es doing.Absent = 1
 due es (doing.Left fl) = 0
 due es doing.Evaluate = due_turns es
 due es doing.Evaluated = 0
+
+-- one where a turn is due, or an expression of a loop (6.8.5p4) that was not started
+abbrev pub asked : List Started → Doing → ℕ
+asked es (doing.Enter n) = 1
+asked es (doing.Jump n l i) = 1
+asked es (doing.Statements l i) = 0
+asked es (doing.Within n) = 0
+asked es (doing.Again x p) = 1
+asked es (doing.Round p) = 1
+asked es (doing.Body p) = 0
+asked es (doing.Store o i) = 1
+asked es doing.Absent = 1
+asked es (doing.Left fl) = 0
+asked es doing.Evaluate = due_turns es
+asked es doing.Evaluated = 0
 
 -- 6.5.2.2: the expressions that wait for calls
 abbrev pub others : List Started → Doing → List Started
@@ -61,6 +82,9 @@ others es (doing.Enter n) = es
 others es (doing.Jump n l i) = es
 others es (doing.Statements l i) = es
 others es (doing.Within n) = es
+others es (doing.Again x p) = es
+others es (doing.Round p) = es
+others es (doing.Body p) = es
 others es (doing.Store o i) = es
 others es doing.Absent = es
 others es (doing.Left fl) = es

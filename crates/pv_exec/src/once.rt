@@ -16,6 +16,7 @@ use crate::enter::enter;
 use crate::going::go_on;
 use crate::lists::{next_statement, within};
 use crate::resuming::{resume_flow, resume_value};
+use crate::rounds::{begin_again, begin_body, round_goes_on};
 use crate::stores::store;
 use crate::switches::jump;
 use crate::task::{Doing, Flow, Task, Way};
@@ -93,6 +94,9 @@ fn operate(unit: &TypedUnit, doing: Doing, machine: &mut Machine) -> Result<Way,
         Doing::Jump(n, l, i) => jump(unit, n, l, i, machine),
         Doing::Statements(l, i) => next_statement(unit, l, i, machine),
         Doing::Within(n) => within(unit, n, machine),
+        Doing::Again(_, parts) => round_goes_on(unit, parts.statement, machine),
+        Doing::Round(parts) => begin_again(unit, parts.statement, machine),
+        Doing::Body(parts) => begin_body(unit, parts, machine),
         Doing::Store(o, i) => store(unit, o, i, machine),
         Doing::Absent => pass_body(unit, machine),
         Doing::Evaluate => go_on(unit, machine),

@@ -19,6 +19,14 @@ pub struct DoParts {
     pub body: NodeId,
 }
 
+/// A loop whose condition comes first (C17 6.8.5.1, 6.8.5.3): its statement, its condition and its body.
+#[derive(Clone, Copy)]
+pub struct RoundParts {
+    pub statement: NodeId,
+    pub condition: NodeId,
+    pub body: NodeId,
+}
+
 /// The parts of an `if`.
 #[derive(Clone, Copy)]
 pub struct ChoiceParts {

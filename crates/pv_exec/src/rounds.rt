@@ -12,17 +12,34 @@ ghost use Rattle.pv_exec.specs.Calls.{below};
 ghost use Rattle.pv_exec.specs.Tasks.{left};
 ghost use Rattle.pv_exec.specs.Parts.{loop_of, rounded, stepped_on, line_of_condition};
 ghost use Rattle.pv_exec.specs.Works.{flow_of};
-ghost use Rattle.pv_exec.specs.Leading.{LeadsOr, Led, tested_at};
-ghost use Rattle.pv_exec.specs.Quickness.{QuickOr};
+ghost use Rattle.pv_exec.specs.Leading.{LeadsOr, Led, DoingLed, tested_at};
+ghost use Rattle.pv_exec.specs.Quickness.{QuickOr, EndsOr};
+ghost use Rattle.pv_exec.specs.Read.{IsRound, round_side, behind_body};
 ghost use Rattle.pv_exec.specs.Fits.{WayFitsOr};
 
+use crate::parts::RoundParts;
 use crate::statements::{begin_round, evaluate, loop_parts};
 use crate::task::{Doing, Flow, Task, Way};
 use pv_eval::{Failure, Machine};
 use pv_tree::NodeId;
 use pv_typed::TypedUnit;
 
-/// A further round, one level lower.
+/// A further round, one level lower: its condition is started.
+pub fn begin_again(unit: &TypedUnit, n: NodeId, machine: &mut Machine) -> Result<Way, Failure>
+    requires there { IsStatement unit.now n }
+    requires fit { Fit unit.now machine.old.started }
+    ensures led { (b : Setting) (k : ℕ) (s : State) → s.taken ≤ b.bound → b.bound < s.taken + k →
+        LeadsOr b unit.now (left ((below b k).again (loop_of (statement_at unit.now n)).condition (loop_of (statement_at unit.now n)).step (loop_of (statement_at unit.now n)).body s)) machine.old.started result machine.new.started s }
+    ensures moment { machine.new.moment ≡ machine.old.moment }
+    ensures fit { OnOk result (Fit unit.now machine.new.started) }
+    ensures ways { WayFitsOr unit.now machine.old.started machine.new.started result }
+    ensures quick { QuickOr machine.new.started result }
+    ensures ends { EndsOr machine.new.started result }
+{
+    begin_round(unit, n, machine)
+}
+
+/// A further round, one level lower: its condition, if it has one, is asked for before it is started.
 pub fn round_again(unit: &TypedUnit, n: NodeId, machine: &mut Machine) -> Result<Way, Failure>
     requires there { IsStatement unit.now n }
     requires fit { Fit unit.now machine.old.started }
@@ -33,11 +50,67 @@ pub fn round_again(unit: &TypedUnit, n: NodeId, machine: &mut Machine) -> Result
     ensures ways { WayFitsOr unit.now machine.old.started machine.new.started result }
     ensures quick { QuickOr machine.new.started result }
 {
-    begin_round(unit, n, machine)
+    let parts = loop_parts(unit, n);
+    match parts.condition {
+        None => begin_again(unit, n, machine),
+        Some(condition) => Ok(Way::Do(Doing::Round(RoundParts {
+            statement: n,
+            condition,
+            body: parts.body,
+        }))),
+    }
 }
 
-/// After the body: the last expression, and a further round.
+/// The body of a loop begins.
+pub fn begin_body(
+    unit: &TypedUnit,
+    parts: RoundParts,
+    machine: &mut Machine,
+) -> Result<Way, Failure>
+    requires fits { IsRound unit.now parts }
+    requires fit { Fit unit.now machine.old.started }
+    ensures led { DoingLed unit.now (Doing.Body parts) result machine.old machine.new }
+    ensures moment { machine.new.moment ≡ machine.old.moment }
+    ensures fit { OnOk result (Fit unit.now machine.new.started) }
+    ensures ways { WayFitsOr unit.now machine.old.started machine.new.started result }
+    ensures ends { EndsOr machine.new.started result }
+{
+    Ok(Way::With(
+        Task::Rounded(parts.statement),
+        Doing::Enter(parts.body),
+    ))
+}
+
+/// After the body: the last expression is started, and a further round.
 pub fn round_goes_on(unit: &TypedUnit, n: NodeId, machine: &mut Machine) -> Result<Way, Failure>
+    requires there { IsStatement unit.now n }
+    requires fit { Fit unit.now machine.old.started }
+    ensures led { (b : Setting) (k : ℕ) (s : State) → s.taken ≤ b.bound → b.bound < s.taken + k → LeadsOr b unit.now (left (stepped_on b (below b k) (loop_of (statement_at unit.now n)) s)) machine.old.started result machine.new.started s }
+    ensures moment { machine.new.moment ≡ machine.old.moment }
+    ensures fit { OnOk result (Fit unit.now machine.new.started) }
+    ensures ways { WayFitsOr unit.now machine.old.started machine.new.started result }
+    ensures quick { QuickOr machine.new.started result }
+    ensures ends { EndsOr machine.new.started result }
+{
+    let parts = loop_parts(unit, n);
+    match parts.step {
+        None => begin_again(unit, n, machine),
+        Some(x) => evaluate(machine, Task::Stepped(n), x),
+    }
+}
+
+// Behind the body of a loop with a condition: its last expression, if there is one, or a further round.
+fn behind_body(step: Option<NodeId>, parts: RoundParts) -> Doing
+    ensures { result ≡ behind_body step parts }
+{
+    match step {
+        None => Doing::Round(parts),
+        Some(x) => Doing::Again(x, parts),
+    }
+}
+
+/// After the body: the last expression and the condition are asked for before they are started.
+pub fn go_round(unit: &TypedUnit, n: NodeId, machine: &mut Machine) -> Result<Way, Failure>
     requires there { IsStatement unit.now n }
     requires fit { Fit unit.now machine.old.started }
     ensures led { (b : Setting) (k : ℕ) (s : State) → s.taken ≤ b.bound → b.bound < s.taken + k → LeadsOr b unit.now (left (stepped_on b (below b k) (loop_of (statement_at unit.now n)) s)) machine.old.started result machine.new.started s }
@@ -47,9 +120,27 @@ pub fn round_goes_on(unit: &TypedUnit, n: NodeId, machine: &mut Machine) -> Resu
     ensures quick { QuickOr machine.new.started result }
 {
     let parts = loop_parts(unit, n);
-    match parts.step {
-        None => round_again(unit, n, machine),
-        Some(x) => evaluate(machine, Task::Stepped(n), x),
+    match parts.condition {
+        None => round_goes_on(unit, n, machine),
+        Some(condition) => {
+            let round = RoundParts {
+                statement: n,
+                condition,
+                body: parts.body,
+            };
+            Ok(Way::Do(behind_body(parts.step, round)))
+        }
+    }
+}
+
+/// What is done once the condition of a loop has its value (C17 6.8.5p4).
+pub fn round_side(parts: RoundParts, yes: bool) -> Doing
+    ensures { result ≡ round_side parts yes }
+{
+    if yes {
+        Doing::Body(parts)
+    } else {
+        Doing::Left(Flow::Falls)
     }
 }
 
@@ -70,8 +161,8 @@ pub fn after_body(
     ensures quick { QuickOr machine.new.started result }
 {
     match flow {
-        Flow::Falls => round_goes_on(unit, n, machine),
-        Flow::Continues => round_goes_on(unit, n, machine),
+        Flow::Falls => go_round(unit, n, machine),
+        Flow::Continues => go_round(unit, n, machine),
         Flow::Breaks => Ok(Way::Do(Doing::Left(Flow::Falls))),
         Flow::Returns(v) => Ok(Way::Do(Doing::Left(Flow::Returns(v)))),
     }

@@ -7,7 +7,7 @@ ghost use Rattle.pv_eval.specs.Runnable.{IsRunnable};
 ghost use Rattle.pv_eval.specs.Codes.{AreCodes};
 ghost use Rattle.pv_exec.specs.Answering.{outlet};
 ghost use Rattle.pv_exec.specs.Fits.{Runs};
-ghost use Rattle.pv_exec.specs.Works.{due};
+ghost use Rattle.pv_exec.specs.Works.{asked};
 ghost use Rattle.pv_exec.specs.Streaming.{failing, DeliveryCause};
 ghost use Rattle.pv_exec.specs.Running.{StatementsLed, EndLed, PieceLed, IsCalm, main_called, whole_run, ended_by, failed};
 
@@ -60,7 +60,7 @@ fn run_statements<O: Sink>(
     requires bound { bound ≤ 10 ^ 8 }
     requires runs { Runs unit.now [] machine.old.started doing }
     requires fit { Fit unit.now machine.old.started }
-    requires due { due machine.old.started doing ≡ 1 }
+    requires asked { asked machine.old.started doing ≡ 1 }
     requires fresh { machine.old.moment.taken ≡ 0 }
     ensures ended { StatementsLed unit.now (outlet (O.written out.old) hall.old its_kind its_wants seen) (outlet (O.written out.new) hall.new its_kind its_wants seen) bound doing result machine.old machine.new }
     ensures cause { DeliveryCause (failing result) (O.faults out.old) (O.faults out.new) }

@@ -12,7 +12,7 @@ ghost use Rattle.pv_exec.specs.Parts.{loop_of, rounds};
 ghost use Rattle.pv_exec.specs.Works.{is_call};
 ghost use Rattle.pv_exec.specs.Leading.{LeadsOr};
 ghost use Rattle.pv_exec.specs.Fits.{TaskFits, WayFitsOr};
-ghost use Rattle.pv_exec.specs.Quickness.{QuickOr};
+ghost use Rattle.pv_exec.specs.Quickness.{QuickOr, EndsOr};
 
 use crate::task::{Doing, Task, Way};
 use pv_eval::{Failure, Machine};
@@ -39,6 +39,7 @@ pub fn evaluate(machine: &mut Machine, task: Task, e: NodeId) -> Result<Way, Fai
     ensures fit { (u : Stored) → IsExpression u e → Fit u machine.old.started → OnOk result (Fit u machine.new.started) }
     ensures ways { (u : Stored) → TaskFits u task → WayFitsOr u machine.old.started machine.new.started result }
     ensures quick { QuickOr machine.new.started result }
+    ensures ends { EndsOr machine.new.started result }
 {
     match machine.start(e) {
         Ok(()) => Ok(Way::With(task, Doing::Evaluate)),
@@ -115,6 +116,7 @@ pub fn begin_round(unit: &TypedUnit, n: NodeId, machine: &mut Machine) -> Result
     ensures fit { OnOk result (Fit unit.now machine.new.started) }
     ensures ways { WayFitsOr unit.now machine.old.started machine.new.started result }
     ensures quick { QuickOr machine.new.started result }
+    ensures ends { EndsOr machine.new.started result }
 {
     let parts = loop_parts(unit, n);
     match parts.condition {

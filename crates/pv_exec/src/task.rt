@@ -1,4 +1,5 @@
 // What waits for the end of a statement or for the value of an expression, and what is done now.
+use crate::parts::RoundParts;
 use pv_eval::Kept;
 use pv_tree::{ListId, NodeId};
 
@@ -52,6 +53,10 @@ pub enum Doing {
     Statements(ListId, usize),
     /// What stands within a `for` with a declaration.
     Within(NodeId),
+    /// A loop from its last expression on, which is this one, in a further round, and from its body on.
+    Again(NodeId, RoundParts),
+    Round(RoundParts),
+    Body(RoundParts),
     Store(u32, usize),
     /// The body of a function that has none.
     Absent,

@@ -9,14 +9,15 @@ ghost use Rattle.pv_eval.specs.MachineSteps.{Fit, KeepsSetting};
 ghost use Rattle.pv_eval.specs.Runnable.{IsRunnable};
 ghost use Rattle.pv_eval.specs.Codes.{AreCodes};
 ghost use Rattle.pv_exec.specs.Parts.{choice_of, items_of};
-ghost use Rattle.pv_exec.specs.Read.{choice_in, ChoiceFits, items_read};
+ghost use Rattle.pv_exec.specs.Read.{choice_in, ChoiceFits, IsRound, IsStep, items_read};
 ghost use Rattle.pv_exec.specs.Tasks.{returned_of};
-ghost use Rattle.pv_exec.specs.Works.{due};
+ghost use Rattle.pv_exec.specs.Works.{due, asked};
 ghost use Rattle.pv_exec.specs.Fits.{HasList, Runs, DoingFits, AfterRuns};
-ghost use Rattle.pv_exec.specs.Turning.{UntilDueLed, advanced_by, AdvancedLed, CutBefore, ComesAtOnce, DueAfter, AdvancedRuns, AdvancedPace};
+ghost use Rattle.pv_exec.specs.Turning.{UntilDueLed, advanced_by, AdvancedLed, CutBefore, ComesAtOnce, DueAfter, AskedAfter, AdvancedRuns, AdvancedPace};
 
 use crate::once::{After, once};
-use crate::parts::ChoiceParts;
+use crate::parts::{ChoiceParts, RoundParts};
+use crate::rounds::round_side;
 use crate::task::{Doing, Flow, Task};
 use crate::values::side;
 use pv_eval::{Failure, Machine, Plan};
@@ -55,6 +56,29 @@ fn is_due(doing: &Doing, machine: &Machine) -> bool
         Doing::Evaluate => machine.due(),
         Doing::Statements(_, _) => false,
         Doing::Within(_) => false,
+        Doing::Again(_, _) => false,
+        Doing::Round(_) => false,
+        Doing::Body(_) => false,
+        Doing::Left(_) => false,
+        Doing::Evaluated => false,
+    }
+}
+
+// Whether a turn is due, or an expression of a loop was not started.
+fn is_asked(doing: &Doing, machine: &Machine) -> bool
+    ensures { asked machine.now.started doing.now ≡ (if result then 1 else 0) }
+{
+    match doing {
+        Doing::Enter(_) => true,
+        Doing::Jump(_, _, _) => true,
+        Doing::Again(_, _) => true,
+        Doing::Round(_) => true,
+        Doing::Store(_, _) => true,
+        Doing::Absent => true,
+        Doing::Evaluate => machine.due(),
+        Doing::Statements(_, _) => false,
+        Doing::Within(_) => false,
+        Doing::Body(_) => false,
         Doing::Left(_) => false,
         Doing::Evaluated => false,
     }
@@ -79,6 +103,35 @@ fn until_due(
 {
     let mut doing = doing;
     'operations: while !is_due(&doing, machine) {
+        match once(unit, tasks, doing, machine) {
+            Ok(After::On(next)) => doing = next,
+            Ok(After::Ended(flow)) => return Ok(After::Ended(flow)),
+            Ok(After::Valued) => return Ok(After::Valued),
+            Err(e) => return Err(e),
+        }
+    }
+    Ok(After::On(doing))
+}
+
+// Operations until a turn is due, or an expression of a loop is reached that was not started.
+fn until_asked(
+    unit: &TypedUnit,
+    tasks: &mut Vec<Task>,
+    doing: Doing,
+    machine: &mut Machine,
+) -> Result<After, Failure>
+    requires runnable { IsRunnable unit.now }
+    requires runs { Runs unit.now tasks.old.items machine.old.started doing }
+    requires fit { Fit unit.now machine.old.started }
+    ensures holds { UntilDueLed unit.now doing result tasks.old.items tasks.new.items machine.old machine.new }
+    ensures setting { KeepsSetting machine.old.moment machine.new.moment }
+    ensures taken { machine.new.moment.taken ≡ machine.old.moment.taken }
+    ensures fit { OnOk result (Fit unit.now machine.new.started) }
+    ensures runs { AfterRuns unit.now tasks.new.items machine.new.started result }
+    ensures asked { AskedAfter machine.new.started result }
+{
+    let mut doing = doing;
+    'operations: while !is_asked(&doing, machine) {
         match once(unit, tasks, doing, machine) {
             Ok(After::On(next)) => doing = next,
             Ok(After::Ended(flow)) => return Ok(After::Ended(flow)),
@@ -225,6 +278,50 @@ fn return_at_once(
     }
 }
 
+// The last expression of a loop at once (C17 6.8.5.3p1).
+fn step_at_once(
+    unit: &TypedUnit,
+    plan: &Plan,
+    x: NodeId,
+    parts: RoundParts,
+    bound: u64,
+    machine: &mut Machine,
+) -> Option<Doing>
+    requires codes { AreCodes unit.now plan.now }
+    requires runnable { IsRunnable unit.now }
+    requires fits { IsStep unit.now x parts }
+    requires fit { Fit unit.now machine.old.started }
+    ensures some { IfSome result (λ e. ComesAtOnce unit.now bound (Doing.Again x parts) e machine.old machine.new) }
+    ensures none { IfNone result (machine.new ≡ machine.old) }
+    ensures fit { Fit unit.now machine.new.started }
+    ensures setting { KeepsSetting machine.old.moment machine.new.moment }
+{
+    machine.whole_now(unit, plan, x, bound)?;
+    Some(Doing::Round(parts))
+}
+
+// The condition of a loop at once, in a further round (C17 6.8.5p4).
+fn round_at_once(
+    unit: &TypedUnit,
+    plan: &Plan,
+    parts: RoundParts,
+    bound: u64,
+    machine: &mut Machine,
+) -> Option<Doing>
+    requires codes { AreCodes unit.now plan.now }
+    requires runnable { IsRunnable unit.now }
+    requires fits { IsRound unit.now parts }
+    requires room { machine.old.moment.taken < bound }
+    requires fit { Fit unit.now machine.old.started }
+    ensures some { IfSome result (λ e. ComesAtOnce unit.now bound (Doing.Round parts) e machine.old machine.new) }
+    ensures none { IfNone result (machine.new ≡ machine.old) }
+    ensures fit { Fit unit.now machine.new.started }
+    ensures setting { KeepsSetting machine.old.moment machine.new.moment }
+{
+    let yes = machine.decide_now(unit, plan, parts.condition, bound)?;
+    Some(round_side(parts, yes))
+}
+
 // Whether a block has no objects of its own.
 fn is_without_objects(unit: &TypedUnit, n: NodeId) -> bool
     requires there { IsStatement unit.now n }
@@ -327,6 +424,8 @@ fn at_once(
     match doing {
         Doing::Evaluate => expression_at_once(unit, plan, bound, machine),
         Doing::Enter(n) => statement_at_once(unit, plan, *n, bound, machine),
+        Doing::Again(x, parts) => step_at_once(unit, plan, *x, *parts, bound, machine),
+        Doing::Round(parts) => round_at_once(unit, plan, *parts, bound, machine),
         _ => None,
     }
 }
@@ -351,16 +450,43 @@ fn turn(
     ensures taken { machine.new.moment.taken ≡ machine.old.moment.taken + 1 }
 {
     match once(unit, tasks, doing, machine) {
-        Ok(After::On(next)) => next_of(until_due(unit, tasks, next, machine)),
+        Ok(After::On(next)) => next_of(until_asked(unit, tasks, next, machine)),
         Ok(After::Ended(flow)) => Advanced::Last(Last::Left(flow)),
         Ok(After::Valued) => Advanced::Last(Last::Valued),
         Err(e) => next_of(Err(e)),
     }
 }
 
+// The operations that come before the next turn, that turn, and the operations behind it.
+fn turn_ahead(
+    unit: &TypedUnit,
+    tasks: &mut Vec<Task>,
+    doing: Doing,
+    bound: u64,
+    machine: &mut Machine,
+) -> Advanced
+    requires runnable { IsRunnable unit.now }
+    requires bound { bound ≤ 10 ^ 8 }
+    requires runs { Runs unit.now tasks.old.items machine.old.started doing }
+    requires fit { Fit unit.now machine.old.started }
+    requires room { machine.old.moment.taken < bound }
+    ensures holds { AdvancedLed unit.now bound doing result tasks.old.items tasks.new.items machine.old machine.new }
+    ensures setting { KeepsSetting machine.old.moment machine.new.moment }
+    ensures runs { AdvancedRuns unit.now tasks.new.items machine.new.started result }
+    ensures few { machine.new.moment.taken ≤ machine.old.moment.taken + 1 }
+    ensures pace { AdvancedPace bound machine.old.moment.taken machine.new.moment.taken result }
+{
+    match until_due(unit, tasks, doing, machine) {
+        Ok(After::On(next)) => turn(unit, tasks, next, bound, machine),
+        Ok(After::Ended(flow)) => Advanced::Last(Last::Left(flow)),
+        Ok(After::Valued) => Advanced::Last(Last::Valued),
+        Err(failure) => next_of(Err(failure)),
+    }
+}
+
 /// The turn that is due, unless the bound is met, and the operations that come before the next one; or all the turns at once of
-/// an expression that is due, of an expression statement, of the condition of an `if` or of a `return`, where nothing stops it, or that
-/// of a block without objects.
+/// an expression that is due, of an expression statement, of the condition of an `if` or of a `return`, of the last expression or the
+/// condition of a loop, where nothing stops it, or that of a block without objects.
 pub fn advance(
     unit: &TypedUnit,
     plan: &Plan,
@@ -374,7 +500,7 @@ pub fn advance(
     requires bound { bound ≤ 10 ^ 8 }
     requires runs { Runs unit.now tasks.old.items machine.old.started doing }
     requires fit { Fit unit.now machine.old.started }
-    requires due { due machine.old.started doing ≡ 1 }
+    requires asked { asked machine.old.started doing ≡ 1 }
     ensures holds { AdvancedLed unit.now bound doing result tasks.old.items tasks.new.items machine.old machine.new }
     ensures setting { KeepsSetting machine.old.moment machine.new.moment }
     ensures runs { AdvancedRuns unit.now tasks.new.items machine.new.started result }
@@ -385,7 +511,7 @@ pub fn advance(
         return Advanced::Last(Last::Turns);
     }
     match at_once(unit, plan, &doing, bound, machine) {
-        Some(next) => next_of(until_due(unit, tasks, next, machine)),
-        None => turn(unit, tasks, doing, bound, machine),
+        Some(next) => next_of(until_asked(unit, tasks, next, machine)),
+        None => turn_ahead(unit, tasks, doing, bound, machine),
     }
 }

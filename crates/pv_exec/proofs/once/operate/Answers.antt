@@ -6,6 +6,9 @@ use Rattle.pv_exec.specs.declared.task.Way.TheVariants as way
 use Rattle.pv_exec.specs.Works.{does}
 use Rattle.pv_exec.proofs.ByTask.{doing-doing}
 use Rattle.pv_exec.proofs.Leaving.{left-again, value-again}
+use Rattle.pv_exec.proofs.Enters.{at-world}
+use Rattle.pv_exec.proofs.Loops.{again-does, round-does}
+use Rattle.pv_exec.proofs.Rounding.{again-fits, round-fits, body-fits}
 use Rattle.pv_exec.proofs.once.operate.Goals as goal
 
 pub returns-in-Enter-clause-led : goal.returns-in-Enter-clause-led
@@ -20,6 +23,36 @@ returns-in-Statements-clause-led c = doing-doing c.args.unit.now c.args.doing (d
 
 pub returns-in-Within-clause-led : goal.returns-in-Within-clause-led
 returns-in-Within-clause-led c = doing-doing c.args.unit.now c.args.doing (doing.Within c.in-Within.n) c.within.result c.args.machine.now c.within.new.machine c.in-Within.is c.within.ensures.led
+
+pub round_goes_on-requires-clause-there : goal.round_goes_on-requires-clause-there
+round_goes_on-requires-clause-there c = (again-fits c.args.unit.now c.args.machine.now.started _ c.in-Again.parts c.args.doing c.in-Again.is c.requires.fits).round.there
+
+pub returns-in-Again-clause-led : goal.returns-in-Again-clause-led
+returns-in-Again-clause-led c = doing-doing c.args.unit.now c.args.doing (doing.Again c.in-Again.field-0 c.in-Again.parts) c.round_goes_on.result c.args.machine.now c.round_goes_on.new.machine c.in-Again.is (λ b out es hs hl k le tu lt.
+    let u = c.args.unit.now in
+    let old = c.args.machine.now in
+    let new = c.round_goes_on.new.machine in
+    let s = state_of old.moment out es in
+    at-world b u (does b u k old.started (doing.Again c.in-Again.field-0 c.in-Again.parts) s) old.started new.started c.round_goes_on.result old.moment new.moment out es c.round_goes_on.ensures.moment
+    (again-does b u k c.in-Again.field-0 c.in-Again.parts old.started new.started c.round_goes_on.result s (c.round_goes_on.ensures.led b k s le (omega (arith, lt)))))
+
+pub begin_again-requires-clause-there : goal.begin_again-requires-clause-there
+begin_again-requires-clause-there c = (round-fits c.args.unit.now c.args.machine.now.started c.in-Round.parts c.args.doing c.in-Round.is c.requires.fits).there
+
+pub returns-in-Round-clause-led : goal.returns-in-Round-clause-led
+returns-in-Round-clause-led c = doing-doing c.args.unit.now c.args.doing (doing.Round c.in-Round.parts) c.begin_again.result c.args.machine.now c.begin_again.new.machine c.in-Round.is (λ b out es hs hl k le tu lt.
+    let u = c.args.unit.now in
+    let old = c.args.machine.now in
+    let new = c.begin_again.new.machine in
+    let s = state_of old.moment out es in
+    at-world b u (does b u k old.started (doing.Round c.in-Round.parts) s) old.started new.started c.begin_again.result old.moment new.moment out es c.begin_again.ensures.moment
+    (round-does b u k c.in-Round.parts old.started new.started c.begin_again.result s (c.begin_again.ensures.led b k s le (omega (arith, lt)))))
+
+pub begin_body-requires-clause-fits : goal.begin_body-requires-clause-fits
+begin_body-requires-clause-fits c = body-fits c.args.unit.now c.args.machine.now.started c.in-Body.parts c.args.doing c.in-Body.is c.requires.fits
+
+pub returns-in-Body-clause-led : goal.returns-in-Body-clause-led
+returns-in-Body-clause-led c = doing-doing c.args.unit.now c.args.doing (doing.Body c.in-Body.parts) c.begin_body.result c.args.machine.now c.begin_body.new.machine c.in-Body.is c.begin_body.ensures.led
 
 pub returns-in-Store-clause-led : goal.returns-in-Store-clause-led
 returns-in-Store-clause-led c = doing-doing c.args.unit.now c.args.doing (doing.Store c.in-Store.o c.in-Store.i) c.store.result c.args.machine.now c.store.new.machine c.in-Store.is c.store.ensures.led

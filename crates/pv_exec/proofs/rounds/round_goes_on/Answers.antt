@@ -8,7 +8,7 @@ use Rattle.pv_exec.proofs.rounds.round_goes_on.Goals as goal
 pub returns-in-None-clause-led : goal.returns-in-None-clause-led
 returns-in-None-clause-led c = λ b k s le lt.
     let u = c.args.unit.now in
-    step-none b u k c.args.n s c.args.machine.now.started c.round_again.new.machine.started c.round_again.result (ap (λ (l : Loop). l.step) c.loop_parts-parts.ensures.value ∙ ap (optional_in (nodes u)) c.in-None.is) (c.round_again.ensures.led b k s le lt)
+    step-none b u k c.args.n s c.args.machine.now.started c.begin_again.new.machine.started c.begin_again.result (ap (λ (l : Loop). l.step) c.loop_parts-parts.ensures.value ∙ ap (optional_in (nodes u)) c.in-None.is) (c.begin_again.ensures.led b k s le lt)
 
 pub returns-in-Some-clause-led : goal.returns-in-Some-clause-led
 returns-in-Some-clause-led c = λ b k s le lt.

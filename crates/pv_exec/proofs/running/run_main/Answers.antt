@@ -2,6 +2,7 @@ use Rattle.std.proofs.Common.{◌∙◌, ap, sym}
 use Rattle.pv_typed.specs.TypedUnits.{TypedFunction}
 use Rattle.pv_exec.specs.Running.{ended_by, main_called}
 use Rattle.pv_exec.proofs.Mains.{runs-first}
+use Rattle.pv_exec.proofs.Turns.{due-asked}
 use Rattle.pv_exec.proofs.MainPieces.{piece-left, piece-valued, piece-turns, piece-stops, piece-fails, piece-unbegun, piece-as, led-as, cause-calm}
 use Rattle.pv_exec.proofs.running.run_main.Goals as goal
 
@@ -61,8 +62,8 @@ returns-in-Err-run_statements-clause-ended g c =
 pub returns-in-Ok-Left-clause-cause : goal.returns-in-Ok-Left-clause-cause
 returns-in-Ok-Left-clause-cause g c = cause-calm c.end_main.result _ _ c.end_main.ensures.calm c.in-Ok-Left.ensures.cause
 
-pub run_statements-requires-clause-due : goal.run_statements-requires-clause-due
-run_statements-requires-clause-due g c = c.body_of.ensures.does.counts c.begin_function.new.machine.started
+pub run_statements-requires-clause-asked : goal.run_statements-requires-clause-asked
+run_statements-requires-clause-asked g c = due-asked c.begin_function.new.machine.started c.body_of.result (c.body_of.ensures.does.counts c.begin_function.new.machine.started)
 
 pub run_statements-requires-clause-fresh : goal.run_statements-requires-clause-fresh
 run_statements-requires-clause-fresh g c = c.in-Ok.ensures.stays.taken ∙ c.requires.fresh

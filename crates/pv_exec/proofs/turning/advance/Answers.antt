@@ -1,22 +1,21 @@
-use Rattle.std.proofs.Common.{◌≡◌, ◌+◌, ◌<◌, sym, subst, arith}
+use Rattle.std.proofs.Common.{◌+◌, ◌<◌, ◌≤◌, sym, subst, arith}
 use Rattle.pv_eval.specs.Moments.{state_of}
 use Rattle.pv_eval.specs.Machines.{Machine}
 use Rattle.pv_eval.specs.MachineSteps.{KeepsSetting}
 use Rattle.pv_exec.specs.declared.turning.Advanced.{Advanced}
-use Rattle.pv_exec.specs.Works.{due}
 use Rattle.pv_exec.specs.Fits.{Runs}
-use Rattle.pv_exec.specs.Turning.{AdvancedLed, AdvancedRuns}
-use Rattle.pv_exec.proofs.Bounds.{holds-out, has-stores}
+use Rattle.pv_exec.specs.Turning.{AdvancedLed, AdvancedRuns, AdvancedPace}
+use Rattle.pv_exec.proofs.Bounds.{holds-asked, has-stores}
 use Rattle.pv_exec.proofs.Pieces.{keeps-both}
 use Rattle.pv_exec.proofs.Turns.{until-due-runs, pace-of}
-use Rattle.pv_exec.proofs.AtOnce.{at-once-until-due, cut-until-due, cut-turn, cut-none, runs-at-once}
+use Rattle.pv_exec.proofs.AtOnce.{at-once-until-due, cut-until-due, cut-few, cut-none, runs-at-once}
 use Rattle.pv_exec.proofs.turning.advance.Goals as goal
 
 pub returns-then-turns-bound-clause-holds : goal.returns-then-turns-bound-clause-holds
 returns-then-turns-bound-clause-holds c = λ b out es hs hl all e h.
     let u = c.args.unit.now in
     let old = c.args.machine.now in
-    holds-out b u all c.args.tasks.now.items old.started c.args.doing (state_of old.moment out es) c.requires.due (has-stores b u old.started c.args.doing hs.unit c.requires.runs.doing_fits) (omega (arith, e, c.if-turns-bound.true, c.turns.ensures)) h
+    holds-asked b u all c.args.tasks.now.items old.started c.args.doing (state_of old.moment out es) c.requires.asked (has-stores b u old.started c.args.doing hs.unit c.requires.runs.doing_fits) c.requires.runs.doing_fits (omega (arith, e, c.if-turns-bound.true, c.turns.ensures)) h
 
 pub returns-then-turns-bound-clause-cut : goal.returns-then-turns-bound-clause-cut
 returns-then-turns-bound-clause-cut c = cut-none c.args.unit.now c.args.doing c.args.tasks.now.items c.args.machine.now
@@ -27,8 +26,8 @@ at_once-requires-clause-fits c = c.requires.runs.doing_fits
 pub at_once-requires-clause-room : goal.at_once-requires-clause-room
 at_once-requires-clause-room c = omega (arith, c.if-turns-bound.false, c.turns.ensures)
 
-pub until_due-requires-clause-runs : goal.until_due-requires-clause-runs
-until_due-requires-clause-runs c =
+pub until_asked-requires-clause-runs : goal.until_asked-requires-clause-runs
+until_asked-requires-clause-runs c =
     let old = c.args.machine.now.started in
     let e = c.in-Some.next in
     runs-at-once c.args.unit.now c.args.tasks.now.items old c.at_once.new.machine.started c.args.doing e c.requires.runs c.in-Some.ensures.some.waiting c.in-Some.ensures.some.fits
@@ -40,67 +39,56 @@ returns-in-Some-clause-holds c =
     let d = c.args.doing in
     let e = c.in-Some.next in
     let ts = c.args.tasks.now.items in
-    let ts' = c.until_due.new.tasks.items in
+    let ts' = c.until_asked.new.tasks.items in
     let old = c.args.machine.now in
     let mid = c.at_once.new.machine in
-    let new = c.until_due.new.machine in
+    let new = c.until_asked.new.machine in
     let comes = c.in-Some.ensures.some in
     subst (λ (a : Advanced). AdvancedLed u n d a ts ts' old new) (sym c.next_of.ensures)
-    (at-once-until-due u n d e c.until_due.result ts ts' old mid new comes.within c.until_due.ensures.taken c.at_once.ensures.setting (comes.led ts) c.until_due.ensures.holds)
+    (at-once-until-due u n d e c.until_asked.result ts ts' old mid new comes.within c.until_asked.ensures.taken c.at_once.ensures.setting (comes.led ts) c.until_asked.ensures.holds)
 
 pub returns-in-Some-clause-setting : goal.returns-in-Some-clause-setting
-returns-in-Some-clause-setting c = keeps-both c.args.machine.now.moment c.at_once.new.machine.moment c.until_due.new.machine.moment c.at_once.ensures.setting c.until_due.ensures.setting
+returns-in-Some-clause-setting c = keeps-both c.args.machine.now.moment c.at_once.new.machine.moment c.until_asked.new.machine.moment c.at_once.ensures.setting c.until_asked.ensures.setting
 
 pub returns-in-Some-clause-runs : goal.returns-in-Some-clause-runs
 returns-in-Some-clause-runs c =
-    let new = c.until_due.new.machine in
-    subst (λ (a : Advanced). AdvancedRuns c.args.unit.now c.until_due.new.tasks.items new.started a) (sym c.next_of.ensures)
-    (until-due-runs c.args.unit.now c.until_due.new.tasks.items new.started c.until_due.result c.until_due.ensures.runs c.until_due.ensures.fit c.until_due.ensures.due)
+    let new = c.until_asked.new.machine in
+    subst (λ (a : Advanced). AdvancedRuns c.args.unit.now c.until_asked.new.tasks.items new.started a) (sym c.next_of.ensures)
+    (until-due-runs c.args.unit.now c.until_asked.new.tasks.items new.started c.until_asked.result c.until_asked.ensures.runs c.until_asked.ensures.fit c.until_asked.ensures.asked)
 
 pub returns-in-Some-clause-cut : goal.returns-in-Some-clause-cut
 returns-in-Some-clause-cut c =
     let ts = c.args.tasks.now.items in
-    cut-until-due c.args.unit.now c.args.doing ts c.args.machine.now c.at_once.new.machine c.until_due.new.machine c.until_due.ensures.taken (c.in-Some.ensures.some.cut ts)
+    cut-until-due c.args.unit.now c.args.doing ts c.args.machine.now c.at_once.new.machine c.until_asked.new.machine c.until_asked.ensures.taken (c.in-Some.ensures.some.cut ts)
 
 pub returns-in-Some-clause-pace : goal.returns-in-Some-clause-pace
 returns-in-Some-clause-pace c =
     let more = c.in-Some.ensures.some.more in
     let within = c.in-Some.ensures.some.within in
-    pace-of c.args.bound c.args.machine.now.moment.taken c.until_due.new.machine.moment.taken c.next_of.result (omega (arith, c.until_due.ensures.taken, more)) (omega (arith, c.until_due.ensures.taken, within))
+    pace-of c.args.bound c.args.machine.now.moment.taken c.until_asked.new.machine.moment.taken c.next_of.result (omega (arith, c.until_asked.ensures.taken, more)) (omega (arith, c.until_asked.ensures.taken, within))
 
-pub turn-requires-clause-runs : goal.turn-requires-clause-runs
-turn-requires-clause-runs c = subst (λ (q : Machine). Runs c.args.unit.now c.args.tasks.now.items q.started c.args.doing) (sym c.in-None.ensures.none) c.requires.runs
+pub turn_ahead-requires-clause-runs : goal.turn_ahead-requires-clause-runs
+turn_ahead-requires-clause-runs c = subst (λ (q : Machine). Runs c.args.unit.now c.args.tasks.now.items q.started c.args.doing) (sym c.in-None.ensures.none) c.requires.runs
 
-pub turn-requires-clause-due : goal.turn-requires-clause-due
-turn-requires-clause-due c = subst (λ (q : Machine). due q.started c.args.doing ≡ 1) (sym c.in-None.ensures.none) c.requires.due
-
-pub turn-requires-clause-room : goal.turn-requires-clause-room
-turn-requires-clause-room c =
+pub turn_ahead-requires-clause-room : goal.turn_ahead-requires-clause-room
+turn_ahead-requires-clause-room c =
     let room : c.args.machine.now.moment.taken < c.args.bound = omega (arith, c.if-turns-bound.false, c.turns.ensures) in
     subst (λ (q : Machine). q.moment.taken < c.args.bound) (sym c.in-None.ensures.none) room
 
 pub returns-in-None-clause-holds : goal.returns-in-None-clause-holds
 returns-in-None-clause-holds c =
-    subst (λ (q : Machine). AdvancedLed c.args.unit.now c.args.bound c.args.doing c.turn.result c.args.tasks.now.items c.turn.new.tasks.items q c.turn.new.machine) c.in-None.ensures.none c.turn.ensures.holds
+    subst (λ (q : Machine). AdvancedLed c.args.unit.now c.args.bound c.args.doing c.turn_ahead.result c.args.tasks.now.items c.turn_ahead.new.tasks.items q c.turn_ahead.new.machine) c.in-None.ensures.none c.turn_ahead.ensures.holds
 
 pub returns-in-None-clause-setting : goal.returns-in-None-clause-setting
-returns-in-None-clause-setting c = subst (λ (q : Machine). KeepsSetting q.moment c.turn.new.machine.moment) c.in-None.ensures.none c.turn.ensures.setting
+returns-in-None-clause-setting c = subst (λ (q : Machine). KeepsSetting q.moment c.turn_ahead.new.machine.moment) c.in-None.ensures.none c.turn_ahead.ensures.setting
 
 pub returns-in-None-clause-cut : goal.returns-in-None-clause-cut
 returns-in-None-clause-cut c =
-    let u = c.args.unit.now in
-    let d = c.args.doing in
-    let ts = c.args.tasks.now.items in
     let old = c.args.machine.now in
-    let mid = c.at_once.new.machine in
-    let new = c.turn.new.machine in
-    let same : mid ≡ old = c.in-None.ensures.none in
-    let one : new.moment.taken ≡ old.moment.taken + 1 = subst (λ (q : Machine). new.moment.taken ≡ q.moment.taken + 1) same c.turn.ensures.taken in
-    cut-turn u d ts old new c.requires.due c.requires.runs.doing_fits one
+    let new = c.turn_ahead.new.machine in
+    let few : new.moment.taken ≤ old.moment.taken + 1 = subst (λ (q : Machine). new.moment.taken ≤ q.moment.taken + 1) c.in-None.ensures.none c.turn_ahead.ensures.few in
+    cut-few c.args.unit.now c.args.doing c.args.tasks.now.items old new c.requires.asked c.requires.runs.doing_fits few
 
 pub returns-in-None-clause-pace : goal.returns-in-None-clause-pace
 returns-in-None-clause-pace c =
-    let old = c.args.machine.now in
-    let new = c.turn.new.machine in
-    let one : new.moment.taken ≡ old.moment.taken + 1 = subst (λ (q : Machine). new.moment.taken ≡ q.moment.taken + 1) c.in-None.ensures.none c.turn.ensures.taken in
-    pace-of c.args.bound old.moment.taken new.moment.taken c.turn.result (omega (arith, one)) (omega (arith, one, c.if-turns-bound.false, c.turns.ensures))
+    subst (λ (q : Machine). AdvancedPace c.args.bound q.moment.taken c.turn_ahead.new.machine.moment.taken c.turn_ahead.result) c.in-None.ensures.none c.turn_ahead.ensures.pace

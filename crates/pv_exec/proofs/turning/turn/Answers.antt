@@ -15,25 +15,25 @@ returns-in-Ok-On-clause-holds c =
     let d = c.args.doing in
     let ts = c.args.tasks.now.items in
     let tm = c.once.new.tasks.items in
-    let ts' = c.until_due.new.tasks.items in
+    let ts' = c.until_asked.new.tasks.items in
     let old = c.args.machine.now in
     let mid = c.once.new.machine in
-    let new = c.until_due.new.machine in
+    let new = c.until_asked.new.machine in
     subst (λ (a : Advanced). AdvancedLed u n d a ts ts' old new) (sym c.next_of.ensures)
-    (until-due-led u n d c.in-Ok-On.next c.until_due.result ts tm ts' old mid new c.requires.room c.once.ensures.taken c.until_due.ensures.taken c.once.ensures.setting
-    (subst (λ (x : After). OnceLed u d (Ok x) ts tm old mid) c.in-Ok-On.field-0-is c.in-Ok-On.ensures.holds) c.until_due.ensures.holds)
+    (until-due-led u n d c.in-Ok-On.next c.until_asked.result ts tm ts' old mid new c.requires.room c.once.ensures.taken c.until_asked.ensures.taken c.once.ensures.setting
+    (subst (λ (x : After). OnceLed u d (Ok x) ts tm old mid) c.in-Ok-On.field-0-is c.in-Ok-On.ensures.holds) c.until_asked.ensures.holds)
 
 pub returns-in-Ok-On-clause-setting : goal.returns-in-Ok-On-clause-setting
-returns-in-Ok-On-clause-setting c = keeps-both c.args.machine.now.moment c.once.new.machine.moment c.until_due.new.machine.moment c.once.ensures.setting c.until_due.ensures.setting
+returns-in-Ok-On-clause-setting c = keeps-both c.args.machine.now.moment c.once.new.machine.moment c.until_asked.new.machine.moment c.once.ensures.setting c.until_asked.ensures.setting
 
 pub returns-in-Ok-On-clause-runs : goal.returns-in-Ok-On-clause-runs
 returns-in-Ok-On-clause-runs c =
-    let new = c.until_due.new.machine in
-    subst (λ (a : Advanced). AdvancedRuns c.args.unit.now c.until_due.new.tasks.items new.started a) (sym c.next_of.ensures)
-    (until-due-runs c.args.unit.now c.until_due.new.tasks.items new.started c.until_due.result c.until_due.ensures.runs c.until_due.ensures.fit c.until_due.ensures.due)
+    let new = c.until_asked.new.machine in
+    subst (λ (a : Advanced). AdvancedRuns c.args.unit.now c.until_asked.new.tasks.items new.started a) (sym c.next_of.ensures)
+    (until-due-runs c.args.unit.now c.until_asked.new.tasks.items new.started c.until_asked.result c.until_asked.ensures.runs c.until_asked.ensures.fit c.until_asked.ensures.asked)
 
 pub returns-in-Ok-On-clause-taken : goal.returns-in-Ok-On-clause-taken
-returns-in-Ok-On-clause-taken c = omega (arith, c.until_due.ensures.taken, c.once.ensures.taken, c.requires.due)
+returns-in-Ok-On-clause-taken c = omega (arith, c.until_asked.ensures.taken, c.once.ensures.taken, c.requires.due)
 
 pub returns-in-Ok-Ended-clause-holds : goal.returns-in-Ok-Ended-clause-holds
 returns-in-Ok-Ended-clause-holds c =
