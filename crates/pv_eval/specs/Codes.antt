@@ -20,6 +20,7 @@ use Rattle.pv_world.specs.Worlds.{Worth, World}
 use Rattle.pv_world.specs.Worths.{int}
 use Rattle.pv_eval.specs.declared.codes.Operand.{Operand}
 use Rattle.pv_eval.specs.declared.codes.IntegerPlace.{IntegerPlace}
+use Rattle.pv_eval.specs.declared.codes.PointerPlace.{PointerPlace}
 use Rattle.pv_eval.specs.declared.codes.Code.{Code}
 use Rattle.pv_eval.specs.declared.codes.Code.TheVariants as code
 use Rattle.pv_eval.specs.TypeForms.{shape_of, kind_of}
@@ -113,7 +114,22 @@ pub record IsIntegerPlace (u : Stored) (p : IntegerPlace) : Type 0 where
   pub integer : tree u.known p.t.0 ≡ IntTy p.kind
   pub own : IfSome p.own (λ o. IsOwnType u o p.t)
 
--- 6.5.16.1p2: what is known of a node that assigns to such a place
+-- 6.3.2.1p1: the same of a place of a pointer type without qualifiers
+pub record IsPointerPlace (u : Stored) (p : PointerPlace) : Type 0 where
+  pub there : IsExpression u p.node
+  pub known : p.t.0 < length u.known.terms
+  pub same : tree u.known p.t.0 ≡ type_of (expression_at u p.node)
+  pub pointer : points (tree u.known p.t.0) ≡ true
+  pub own : IfSome p.own (λ o. IsOwnType u o p.t)
+
+-- 6.5.16.1p2: what is known of a node that assigns to such a place what needs no conversion
+pub record IsPointerAssignmentOf (u : Stored) (n : NodeId) (p : PointerPlace) (d : NodeId) : Type 0 where
+  pub form : form_of (expression_at u n) ≡ form_by u (typed.Assign p.node d)
+  pub place : IsPointerPlace u p
+  pub right : IsExpression u d
+  pub same : (v : Worth) → IsConverted (expression_at u d) v v
+
+-- 6.5.16.1p2: what is known of a node that assigns to a place of an integer type
 pub record IsAssignmentOf (u : Stored) (n : NodeId) (p : IntegerPlace) (right : Operand) : Type 0 where
   pub d : NodeId
   pub form : form_of (expression_at u n) ≡ form_by u (typed.Assign p.node d)
@@ -151,6 +167,7 @@ IsCode u n (code.Arithmetic op k left right) = IsArithmetic u n op k left right
 IsCode u n (code.Element a d size) = IsElementOf u n a d size
 IsCode u n (code.Sum sign a d size) = IsSumOf u n sign a d size
 IsCode u n (code.Assign p right) = IsAssignmentOf u n p right
+IsCode u n (code.AssignPointer p d) = IsPointerAssignmentOf u n p d
 IsCode u n (code.Increment p o back) = IsIncrementOf u n p o back
 IsCode u n (code.Compound p right op at back) = IsCompoundOf u n p right op at back
 

@@ -10,7 +10,7 @@ ghost use Rattle.pv_typed.specs.TypedUnits.{object_at};
 ghost use Rattle.pv_typed.specs.Tables.{whole};
 ghost use Rattle.pv_typed.specs.NodeTrees.{expression_at, IsExpression};
 ghost use Rattle.pv_eval.specs.Plainly.{form_by};
-ghost use Rattle.pv_eval.specs.Codes.{IsCode, IsIntegerPlace, IsObjectOf, IsOperandCode, IsRounded};
+ghost use Rattle.pv_eval.specs.Codes.{IsCode, IsIntegerPlace, IsPointerPlace, IsObjectOf, IsOperandCode, IsRounded};
 
 use crate::plain_places::pointed_size;
 use crate::types::{is_none, kind, pointee, shape};
@@ -35,6 +35,14 @@ pub(crate) struct IntegerPlace {
     pub(crate) node: NodeId,
     pub(crate) t: TypeId,
     pub(crate) kind: IntKind,
+    pub(crate) own: Option<u32>,
+}
+
+/// A place of a pointer type without qualifiers: as `IntegerPlace`.
+#[derive(Clone, Copy)]
+pub(crate) struct PointerPlace {
+    pub(crate) node: NodeId,
+    pub(crate) t: TypeId,
     pub(crate) own: Option<u32>,
 }
 
@@ -68,6 +76,8 @@ pub(crate) enum Code {
     Sum(Sign, NodeId, NodeId, u64),
     /// An integer assigned to a place (6.5.16.1p2).
     Assign(IntegerPlace, Operand),
+    /// What a node gives, which is no conversion, assigned to a place of a pointer type (6.5.16.1p2).
+    AssignPointer(PointerPlace, NodeId),
     /// 1 added to the integer at a place, or taken off it, in this kind (6.5.2.4p2, 6.5.3.1p2).
     Increment(IntegerPlace, IncrementOperator, IntKind),
     /// An operator, which works in the first kind, on the integer at a place, and its result converted to the second (6.5.16.2p3).
@@ -226,6 +236,21 @@ fn integer_place(unit: &TypedUnit, a: NodeId) -> Option<IntegerPlace>
     })
 }
 
+/// The place of a pointer type without qualifiers that a node designates.
+fn pointer_place(unit: &TypedUnit, a: NodeId) -> Option<PointerPlace>
+    requires known { AreKnown unit.now }
+    requires there { IsExpression unit.now a }
+    ensures place { IfSome result (IsPointerPlace unit.now) }
+    ensures node { IfSome result (λ p. p.node ≡ a) }
+{
+    let t = unit.type_of(a);
+    let Term::Pointer(_) = unit.types().view(t) else {
+        return None;
+    };
+    let own = own_object(unit, a, t);
+    Some(PointerPlace { node: a, t, own })
+}
+
 /// A node that assigns an integer to a place.
 fn assignment_code(unit: &TypedUnit, n: NodeId, a: NodeId, d: NodeId) -> Option<Code>
     requires known { AreKnown unit.now }
@@ -238,6 +263,36 @@ fn assignment_code(unit: &TypedUnit, n: NodeId, a: NodeId, d: NodeId) -> Option<
     let place = integer_place(unit, a)?;
     let right = operand_code(unit, d)?;
     Some(Code::Assign(place, right))
+}
+
+/// A node that assigns what is no conversion to a place of a pointer type.
+fn pointer_assignment_code(unit: &TypedUnit, n: NodeId, a: NodeId, d: NodeId) -> Option<Code>
+    requires known { AreKnown unit.now }
+    requires left { IsExpression unit.now a }
+    requires right { IsExpression unit.now d }
+    requires form { form_of (expression_at unit.now n) ≡ form_by unit.now (Row.Assign a d) }
+    ensures { IfSome result (IsCode unit.now n) }
+{
+    let place = pointer_place(unit, a)?;
+    match unit.node(d) {
+        Typed::Convert(_) => None,
+        _ => Some(Code::AssignPointer(place, d)),
+    }
+}
+
+/// A node that assigns an integer or a pointer to a place.
+fn assigned_code(unit: &TypedUnit, n: NodeId, a: NodeId, d: NodeId) -> Option<Code>
+    requires known { AreKnown unit.now }
+    requires left { IsExpression unit.now a }
+    requires right { IsExpression unit.now d }
+    requires second { d.0 < n.0 }
+    requires form { form_of (expression_at unit.now n) ≡ form_by unit.now (Row.Assign a d) }
+    ensures { IfSome result (IsCode unit.now n) }
+{
+    match assignment_code(unit, n, a, d) {
+        Some(code) => Some(code),
+        None => pointer_assignment_code(unit, n, a, d),
+    }
 }
 
 /// A node with `++` or `--` of an integer at a place.
@@ -315,7 +370,7 @@ fn form_code(unit: &TypedUnit, n: NodeId, x: Typed) -> Option<Code>
         Typed::Arithmetic(op, a, d) => arithmetic_code(unit, n, op, a, d),
         Typed::Subscript(a, d) => element_code(unit, n, a, d),
         Typed::PointerSum(sign, a, d) => sum_code(unit, n, sign, a, d),
-        Typed::Assign(a, d) => assignment_code(unit, n, a, d),
+        Typed::Assign(a, d) => assigned_code(unit, n, a, d),
         Typed::Increment(o, a) => increment_code(unit, n, o, a),
         Typed::CompoundAssign(op, at, a, d) => compound_code(unit, n, op, at, a, d),
         _ => None,

@@ -13,10 +13,10 @@ ghost use Rattle.pv_world.specs.Coming.{worth_of};
 ghost use Rattle.pv_eval.specs.TypeForms.{shape_of};
 ghost use Rattle.pv_eval.specs.Sizes.{IsComplete};
 ghost use Rattle.pv_eval.specs.declared.codes.Code.{Code as Known};
-ghost use Rattle.pv_eval.specs.Codes.{IsCode, IsIntegerPlace, AreCodes};
+ghost use Rattle.pv_eval.specs.Codes.{IsCode, IsIntegerPlace, IsPointerPlace, AreCodes};
 ghost use Rattle.pv_eval.specs.Plainly.{Performs, StoresAt, IsOwnType, found_worth, pointer_at};
 
-use crate::codes::{IntegerPlace, Operand};
+use crate::codes::{IntegerPlace, Operand, PointerPlace};
 use crate::permission::permits_own_access;
 use crate::plain::{Found, Spot};
 use crate::plain_coded::{rounded, value};
@@ -24,7 +24,7 @@ use crate::plain_conversions::converted_value;
 use crate::plain_reads::reached;
 use crate::plan::Plan;
 use crate::suiting::can_write;
-use crate::types::{AccessedType, accessed, accessed_integer, number};
+use crate::types::{AccessedType, accessed, accessed_integer, accessed_pointer, number};
 use pv_object::{Pointer, Value};
 use pv_prov::Prov;
 use pv_tree::NodeId;
@@ -161,6 +161,55 @@ pub(crate) fn stored_integer(
         return false;
     };
     store(alloc, unit, world, x.own, at, p, v)
+}
+
+/// The value is stored at a place of a pointer type, as `assigned`, by what is known of it.
+fn stored_pointer(
+    alloc: Global,
+    unit: &TypedUnit,
+    world: &mut World,
+    x: PointerPlace,
+    place: Found,
+    v: Found,
+) -> bool
+    requires known { AreKnown unit.now }
+    requires there { IsPointerPlace unit.now x }
+    ensures stored { result ≡ true → StoresAt unit.now world.old (type_of (expression_at unit.now x.node)) (pointer_of (found_worth place)) (found_worth v) world.new }
+    ensures place { result ≡ true → found_worth place ≡ pointer (pointer_of (found_worth place)) }
+    ensures same { result ≡ false → world.new ≡ world.old }
+{
+    let Found::Place(p) = place else {
+        return false;
+    };
+    let Some(at) = accessed_pointer(unit.types(), x.t) else {
+        return false;
+    };
+    store(alloc, unit, world, x.own, at, p, v)
+}
+
+/// The assignment of what needs no conversion to a place of a pointer type, as `assign`, by what is known of its node.
+pub(crate) fn assign_pointer(
+    alloc: Global,
+    unit: &TypedUnit,
+    plan: &Plan,
+    world: &mut World,
+    n: NodeId,
+    x: PointerPlace,
+    d: NodeId,
+) -> Option<Found>
+    requires codes { AreCodes unit.now plan.now }
+    requires known { AreKnown unit.now }
+    requires code { IsCode unit.now n (Known.AssignPointer x d) }
+    ensures some { IfSome result (λ v. Performs unit.now world.old world.new (expression_at unit.now n) (found_worth v)) }
+    ensures none { IfNone result (world.new ≡ world.old) }
+{
+    let place = value(alloc, unit, plan, world, x.node)?;
+    let v = value(alloc, unit, plan, world, d)?;
+    if stored_pointer(alloc, unit, world, x, place, v) {
+        Some(v)
+    } else {
+        None
+    }
 }
 
 /// The assignment of an integer, as `assign`, by what is known of its node.

@@ -16,7 +16,7 @@ use crate::plain::Found;
 use crate::plain_coded::{value, value_by};
 use crate::plain_comparisons::is_true;
 use crate::plain_conversions::converted_value;
-use crate::plain_stores::{assign, assign_integer, got};
+use crate::plain_stores::{assign, assign_integer, assign_pointer, got};
 use crate::plain_updates::{
     compound_assign, compound_integer, increment, increment_integer, pointer_assign,
 };
@@ -117,6 +117,7 @@ fn perform(
     let code = plan.code(n);
     match code {
         Code::Assign(x, right) => assign_integer(alloc, unit, plan, world, n, x, right),
+        Code::AssignPointer(x, d) => assign_pointer(alloc, unit, plan, world, n, x, d),
         Code::Increment(x, o, back) => increment_integer(alloc, unit, plan, world, n, x, o, back),
         Code::Compound(x, right, op, at, back) => compound_integer(
             alloc, unit, plan, world, n, x, right, op, at, back,

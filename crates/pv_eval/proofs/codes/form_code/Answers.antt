@@ -129,17 +129,17 @@ sum_code-requires-clause-second c = (two_before c.args.unit.now c.args.n c.in-Po
 pub sum_code-requires-clause-form : goal.sum_code-requires-clause-form
 sum_code-requires-clause-form c = c.requires.form ∙ ap (form_by c.args.unit.now) c.in-PointerSum.is
 
-pub assignment_code-requires-clause-left : goal.assignment_code-requires-clause-left
-assignment_code-requires-clause-left c = (two_before c.args.unit.now c.args.n c.in-Assign.a c.in-Assign.d c.args.x c.requires.there c.requires.operands (ap operands c.in-Assign.is)).0.0
+pub assigned_code-requires-clause-left : goal.assigned_code-requires-clause-left
+assigned_code-requires-clause-left c = (two_before c.args.unit.now c.args.n c.in-Assign.a c.in-Assign.d c.args.x c.requires.there c.requires.operands (ap operands c.in-Assign.is)).0.0
 
-pub assignment_code-requires-clause-right : goal.assignment_code-requires-clause-right
-assignment_code-requires-clause-right c = (two_before c.args.unit.now c.args.n c.in-Assign.a c.in-Assign.d c.args.x c.requires.there c.requires.operands (ap operands c.in-Assign.is)).1.0
+pub assigned_code-requires-clause-right : goal.assigned_code-requires-clause-right
+assigned_code-requires-clause-right c = (two_before c.args.unit.now c.args.n c.in-Assign.a c.in-Assign.d c.args.x c.requires.there c.requires.operands (ap operands c.in-Assign.is)).1.0
 
-pub assignment_code-requires-clause-second : goal.assignment_code-requires-clause-second
-assignment_code-requires-clause-second c = (two_before c.args.unit.now c.args.n c.in-Assign.a c.in-Assign.d c.args.x c.requires.there c.requires.operands (ap operands c.in-Assign.is)).1.1
+pub assigned_code-requires-clause-second : goal.assigned_code-requires-clause-second
+assigned_code-requires-clause-second c = (two_before c.args.unit.now c.args.n c.in-Assign.a c.in-Assign.d c.args.x c.requires.there c.requires.operands (ap operands c.in-Assign.is)).1.1
 
-pub assignment_code-requires-clause-form : goal.assignment_code-requires-clause-form
-assignment_code-requires-clause-form c = c.requires.form ∙ ap (form_by c.args.unit.now) c.in-Assign.is
+pub assigned_code-requires-clause-form : goal.assigned_code-requires-clause-form
+assigned_code-requires-clause-form c = c.requires.form ∙ ap (form_by c.args.unit.now) c.in-Assign.is
 
 pub compound_code-requires-clause-left : goal.compound_code-requires-clause-left
 compound_code-requires-clause-left c = (two_before c.args.unit.now c.args.n c.in-CompoundAssign.a c.in-CompoundAssign.d c.args.x c.requires.there c.requires.operands (ap operands c.in-CompoundAssign.is)).0.0

@@ -10,3 +10,6 @@ increment_integer-requires-clause-code c = subst (IsCode c.args.unit.now c.args.
 
 pub compound_integer-requires-clause-code : goal.compound_integer-requires-clause-code
 compound_integer-requires-clause-code c = subst (IsCode c.args.unit.now c.args.n) (sym c.code-code.ensures ∙ c.in-Compound.is) (c.requires.codes c.args.n c.requires.there)
+
+pub assign_pointer-requires-clause-code : goal.assign_pointer-requires-clause-code
+assign_pointer-requires-clause-code c = subst (IsCode c.args.unit.now c.args.n) (sym c.code-code.ensures ∙ c.in-AssignPointer.is) (c.requires.codes c.args.n c.requires.there)
