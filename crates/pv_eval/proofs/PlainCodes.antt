@@ -32,11 +32,12 @@ use Rattle.pv_eval.specs.Conversions.{how_to}
 use Rattle.pv_eval.specs.Suiting.{is_small}
 use Rattle.pv_eval.specs.States.{Setting, State, Gives}
 use Rattle.pv_eval.specs.Steps.{converted, is_minus}
+use Rattle.pv_eval.specs.Ahead.{first_operand_of}
 use Rattle.pv_eval.specs.Operations.{Converts, Moves, Selects}
 use Rattle.pv_eval.specs.Plainly.{Yields, YieldsNoting, AlwaysGives, GivesAt, GivesNoting, IsConverted, form_by, turned, found_worth}
-use Rattle.pv_eval.specs.Codes.{IsCode, AreCodes, IsOperandBy, IsOperandCode, IsArithmetic, IsReadOf, IsObjectOf, IsElementOf, IsSumOf, IsSameAs, IsPartOf, IsBefore, RoundsTo, RoundsBy, CalculatesBy}
+use Rattle.pv_eval.specs.Codes.{IsCode, AreCodes, IsOperandBy, IsOperandCode, IsArithmetic, IsReadOf, IsObjectOf, IsElementOf, IsGivenBy, IsSumOf, IsSameAs, IsPartOf, IsBefore, RoundsTo, RoundsBy, CalculatesBy}
 use Rattle.pv_eval.proofs.PlainSteps.{some_map, alone_some, reading_some, both_some, noted_with, noted_both}
-use Rattle.pv_eval.proofs.PlainNumbers.{constant_some, object_some, convert_given, converted_at, rounded_some, gives_calculated}
+use Rattle.pv_eval.proofs.PlainNumbers.{constant_some, object_some, array_given, convert_given, converted_at, rounded_some, gives_calculated}
 use Rattle.pv_eval.proofs.PlainPlaces.{subscript_some, summed_some}
 
 -- what holds in any case
@@ -219,8 +220,19 @@ module _ (u : Stored) (w : World) where
         noted_both u w n (typed.Arithmetic op is.a is.d) is.form is.a is.d (found_worth x) (found_worth y) (found_worth z) refl refl l.0 m.0
         (gives_calculated u w (type_of (expression_at u n)) op is.a is.d k (found_worth x) (found_worth y) c.x c.y (found_worth z) l.1 m.1 is.kind c.gives)) h
 
-    pub element_coded : {noting : Bool} {js ks ls : List Access} (a d : NodeId) (size : ℕ) (first second : Found) (r : Option Found) → IsElementOf u n a d size → YieldsNoting u w (expression_at u a) (found_worth first) noting js ks → YieldsNoting u w (expression_at u d) (found_worth second) noting ks ls
+    pub element_coded : {noting : Bool} {js ks ls : List Access} (m d : NodeId) (size : ℕ) (first second : Found) (r : Option Found) → IsElementOf u n m d size → YieldsNoting u w (expression_at u m) (found_worth first) noting js ks → YieldsNoting u w (expression_at u d) (found_worth second) noting ks ls
         → IfSome r (λ v. GivesAt w (λ b. Moves false true size (found_worth first) (found_worth second)) (found_worth v)) → IfSome r (λ v. YieldsNoting u w (expression_at u n) (found_worth v) noting js ls)
-    element_coded {noting} {js} {ks} {ls} a d size first second r is y z h =
-        both_some u w n (typed.Subscript a d) is.form a d first second r refl refl y z
-        (subscript_some u w a d size (found_worth first) (found_worth second) is.pointer (type_of (expression_at u n)) r is.is h)
+    element_coded {noting} {js} {ks} {ls} m d size first second r is y z h =
+        both_some u w n (typed.Subscript is.a d) is.form is.a d first second r refl refl (is.given.gives w first noting js ks y) z
+        (subscript_some u w is.a d size (found_worth first) (found_worth second) is.pointer (type_of (expression_at u n)) r is.is h)
+
+-- what an operand gives is given by itself, and by the array to whose first element it points
+pub given_itself : (u : Stored) (a : NodeId) → IsExpression u a → IsGivenBy u a a
+given_itself u a there = record { there = there; least = omega arith; gives = λ w v noting js ks y. y }
+
+pub given_array : (u : Stored) (a b : NodeId) (x : Typed) → IsExpression u a → HasOperands u.rows u.lists a.0 x → form_of (expression_at u a) ≡ form_by u x → x ≡ typed.ArrayPointer b → IsGivenBy u a b
+given_array u a b x there h form is =
+    let before = one_before u a b x there h (ap operands is) in
+    let same : IsSameAs u a b =
+    record { node = x; form = form; operand = ap first_operand_of is; before = before; gives = λ w v. array_given u w (type_of (expression_at u a)) x b (found_worth v) is } in
+    record { there = before.0; least = omega (arith, before.1); gives = λ w v noting js ks y. same_coded u w a noting js ks b (Some v) same y }

@@ -15,6 +15,7 @@ use Rattle.pv_typed.specs.TypedTree.{type_of, form_of, Convert}
 use Rattle.pv_typed.specs.TypedUnits.{object_at}
 use Rattle.pv_typed.specs.Tables.{Stored, whole}
 use Rattle.pv_typed.specs.NodeTrees.{expression_at, IsExpression}
+use Rattle.pv_seq.specs.Sequencing.{Access}
 use Rattle.pv_world.specs.declared.got.Shape.TheVariants as shape
 use Rattle.pv_world.specs.Worlds.{Worth, World}
 use Rattle.pv_world.specs.Worths.{int}
@@ -30,7 +31,7 @@ use Rattle.pv_eval.specs.Suiting.{is_small}
 use Rattle.pv_eval.specs.declared.plain.Found.{Found}
 use Rattle.pv_eval.specs.Operations.{Calculates, Selects}
 use Rattle.pv_eval.specs.Ahead.{first_operand_of}
-use Rattle.pv_eval.specs.Plainly.{AlwaysGives, GivesAt, GivesWith, IsConverted, IsOwnType, form_by, found_worth}
+use Rattle.pv_eval.specs.Plainly.{YieldsNoting, AlwaysGives, GivesAt, GivesWith, IsConverted, IsOwnType, form_by, found_worth}
 
 -- 6.3.1.3: a conversion between integer types, to this kind
 pub record IsRounded (from to : Ty) (k : IntKind) : Type 0 where
@@ -72,10 +73,18 @@ pub record IsReadOf (u : Stored) (n a : NodeId) (t : TypeId) : Type 0 where
 abbrev pub IsObjectOf : Stored → NodeId → (object : ℕ) → (lasting : Bool) → Type 0
 IsObjectOf u n o lasting = (form_of (expression_at u n) ≡ form_by u (typed.Object o)) × ((object_at (whole u) o).lasting ≡ lasting)
 
+-- 6.3.2.1p3: what an operand gives is what this node gives: the operand itself, or the array to whose first element it points
+pub record IsGivenBy (u : Stored) (a m : NodeId) : Type 0 where
+  pub there : IsExpression u m
+  pub least : m.0 ≤ a.0
+  pub gives : (w : World) (v : Found) (noting : Bool) (js ks : List Access) → YieldsNoting u w (expression_at u m) (found_worth v) noting js ks → YieldsNoting u w (expression_at u a) (found_worth v) noting js ks
+
 -- 6.5.2.1p2: what is known of a node that designates an element
-pub record IsElementOf (u : Stored) (n a d : NodeId) (size : ℕ) : Type 0 where
+pub record IsElementOf (u : Stored) (n m d : NodeId) (size : ℕ) : Type 0 where
+  pub a : NodeId
   pub form : form_of (expression_at u n) ≡ form_by u (typed.Subscript a d)
   pub first : IsBefore u n a
+  pub given : IsGivenBy u a m
   pub second : IsBefore u n d
   pub pointer : is_pointer (type_of (expression_at u a)) ≡ true
   pub is : size ≡ element_in u.known (type_of (expression_at u a))

@@ -10,7 +10,7 @@ ghost use Rattle.pv_typed.specs.TypedUnits.{object_at};
 ghost use Rattle.pv_typed.specs.Tables.{whole};
 ghost use Rattle.pv_typed.specs.NodeTrees.{expression_at, IsExpression};
 ghost use Rattle.pv_eval.specs.Plainly.{form_by};
-ghost use Rattle.pv_eval.specs.Codes.{IsCode, IsIntegerPlace, IsPointerPlace, IsObjectOf, IsOperandCode, IsRounded};
+ghost use Rattle.pv_eval.specs.Codes.{IsCode, IsIntegerPlace, IsPointerPlace, IsGivenBy, IsObjectOf, IsOperandCode, IsRounded};
 
 use crate::plain_places::pointed_size;
 use crate::types::{is_none, kind, pointee, shape};
@@ -70,7 +70,7 @@ pub(crate) enum Code {
     OwnPointer(NodeId, TypeId, u32, bool),
     /// An operator on two integers, which works in the kind (6.5.5 to 6.5.12).
     Arithmetic(BinOp, IntKind, Operand, Operand),
-    /// The element of so many bytes that the second operand counts from the first one on (6.5.2.1p2).
+    /// The element of so many bytes that the second operand counts from the place on that the first one gives (6.5.2.1p2).
     Element(NodeId, NodeId, u64),
     /// A pointer moved by an integer, of elements of so many bytes (6.5.6p8).
     Sum(Sign, NodeId, NodeId, u64),
@@ -177,6 +177,18 @@ fn arithmetic_code(unit: &TypedUnit, n: NodeId, op: BinOp, a: NodeId, d: NodeId)
     Some(Code::Arithmetic(op, kind, left, right))
 }
 
+/// The node that gives what an operand gives: the array, where the operand is the pointer to its first element (C17 6.3.2.1p3), or the
+/// operand itself.
+fn given_by(unit: &TypedUnit, a: NodeId) -> NodeId
+    requires { IsExpression unit.now a }
+    ensures { IsGivenBy unit.now a result }
+{
+    match unit.node(a) {
+        Typed::ArrayPointer(array) => array,
+        _ => a,
+    }
+}
+
 /// A node that designates an element.
 fn element_code(unit: &TypedUnit, n: NodeId, a: NodeId, d: NodeId) -> Option<Code>
     requires left { IsExpression unit.now a }
@@ -187,7 +199,7 @@ fn element_code(unit: &TypedUnit, n: NodeId, a: NodeId, d: NodeId) -> Option<Cod
     ensures { IfSome result (IsCode unit.now n) }
 {
     let size = pointed_size(unit, unit.type_of(a))?;
-    Some(Code::Element(a, d, size))
+    Some(Code::Element(given_by(unit, a), d, size))
 }
 
 /// A node that moves a pointer by an integer.

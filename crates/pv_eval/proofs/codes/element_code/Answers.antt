@@ -5,8 +5,10 @@ use Rattle.pv_eval.proofs.codes.element_code.Goals as goal
 
 pub returns : goal.returns
 returns c = record {
+  a = c.args.a;
   form = c.requires.form;
   first = (c.requires.left, c.requires.first);
+  given = c.given_by.ensures;
   second = (c.requires.right, c.requires.second);
   pointer = ap is_pointer (sym c.type_of.ensures.tree) ∙ c.in_ok-size.ensures.pointer;
   is = c.in_ok-size.ensures.size ∙ ap (element_in c.args.unit.now.known) c.type_of.ensures.tree;

@@ -110,8 +110,7 @@ composed-returns-in_ok-second-in-Arithmetic t c =
 pub composed-value_by-requires-in-Element : goal.composed-value_by-requires-in-Element
 composed-value_by-requires-in-Element t c =
     let is = subst (IsCode c.args.unit.now c.args.n) c.in-Element.is c.requires.code in
-    let before = is.first in
-    (omega (arith, c.decreases, before.1), (c.requires.known, (c.requires.codes, before.0)))
+    (omega (arith, c.decreases, is.first.1, is.given.least), (c.requires.known, (c.requires.codes, is.given.there)))
 
 pub composed-value_by-requires-in-Element-2 : goal.composed-value_by-requires-in-Element-2
 composed-value_by-requires-in-Element-2 t c =
