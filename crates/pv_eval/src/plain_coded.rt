@@ -151,16 +151,16 @@ fn composed(
     plan: &Plan,
     world: &World,
     n: NodeId,
-    code: Code,
     noting: bool,
     notes: &mut Vec<Access>,
 ) -> Option<Found>
     requires known { AreKnown unit.now }
     requires codes { AreCodes unit.now plan.now }
     requires there { IsExpression unit.now n }
-    requires code { IsCode unit.now n code }
     ensures { IfSome result (λ v. YieldsNoting unit.now world.now (expression_at unit.now n) (found_worth v) noting notes.old.items notes.new.items) }
 {
+    // What is known is asked for once more, and not handed on: then no more of it is read than what its form has.
+    let code = plan.code(n);
     match code {
         Code::Same(a) => value_by(alloc, unit, plan, world, a, noting, notes),
         Code::Part(a, offset) => {
@@ -306,7 +306,7 @@ pub(crate) fn value_by(
         Code::OwnPointer(a, t, o, lasting) => own_pointer(
             alloc, unit, world, n, a, t, o, lasting, noting, notes,
         ),
-        _ => composed(alloc, unit, plan, world, n, code, noting, notes),
+        _ => composed(alloc, unit, plan, world, n, noting, notes),
     }
 }
 
