@@ -124,8 +124,10 @@ def test_texts(room):
             yield f"{name}: refused", False
         except BadEdit:
             yield f"{name}: refused", True
-    rounds = rounds_of({it: asked[it][0] for it in ("low", "low_again", "high", "even", "odd")}, functions)
+    rounds = rounds_of({it: asked[it][0] for it in ("low", "low_again", "high", "even", "odd")}, functions, 24)
     yield "no function and no cycle twice in a round", rounds == [["low", "high", "even"], ["low_again", "odd"]]
+    few = rounds_of({it: asked[it][0] for it in ("low", "high", "even")}, functions, 2)
+    yield "no more than so many in a round", few == [["low", "high"], ["even"]]
 
 
 def test_reading(room):
@@ -160,7 +162,7 @@ def answers_in(tool, room, files, is_together, seconds=60):
     checks.seconds = seconds
     if os.path.exists(f"{room}/asked"):
         os.remove(f"{room}/asked")
-    answers = dict(tool.answers_of(tool.Room(room, "c", room, checks), list(files.values()), is_together))
+    answers = dict(tool.answers_of(tool.Room(room, "c", room, checks), list(files.values()), is_together, 24))
     return {name: answers[file].kind for name, file in files.items()}
 
 
@@ -189,7 +191,7 @@ def test_ends(tool, room):
     checks = tool.Checks(1)
     threading.Timer(0.5, checks.end).start()
     try:
-        list(tool.answers_of(tool.Room(room, "c", room, checks), [files["high"]], True))
+        list(tool.answers_of(tool.Room(room, "c", room, checks), [files["high"]], True, 24))
         yield "interrupted", False
     except tool.CutOff:
         yield "interrupted", not checks.running

@@ -143,13 +143,14 @@ def asked_of(edit, folder, functions):
     return names, is_alone
 
 
-def rounds_of(asked, functions):
-    """Parts edits, by the functions that tell of each, into rounds, in none of which a function or a cycle of calls is changed twice."""
+def rounds_of(asked, functions, most):
+    """Parts edits, by the functions that tell of each, into rounds of at most so many, in none of which a function or a cycle of calls is
+    changed twice."""
     rounds = []
     for edit, names in asked.items():
         proofs = {functions[name].proof for name in names}
         for round_, taken in rounds:
-            if not proofs & taken:
+            if len(round_) < most and not proofs & taken:
                 break
         else:
             round_, taken = [], set()
