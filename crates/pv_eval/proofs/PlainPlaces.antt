@@ -9,8 +9,7 @@ use Rattle.pv_inst.specs.declared.values.Info.{Info}
 use Rattle.pv_inst.specs.declared.values.Kind.{Kind}
 use Rattle.pv_inst.specs.Table.{Table, instance_at}
 use Rattle.pv_inst.specs.Infos.{info_of}
-use Rattle.pv_inst.specs.Use.{is_function}
-use Rattle.pv_inst.specs.UseParts.{holds}
+use Rattle.pv_inst.specs.Use.{is_function, holds}
 use Rattle.pv_object.specs.declared.values.Pointer.{Pointer}
 use Rattle.pv_object.specs.Access.{fault}
 use Rattle.pv_object.specs.Operations.{moved_to, move_under}

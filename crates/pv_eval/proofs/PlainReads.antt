@@ -18,8 +18,7 @@ use Rattle.pv_inst.specs.declared.values.Test.TheVariants.{Live, Range}
 use Rattle.pv_inst.specs.declared.values.Miss.TheVariants.{Ended}
 use Rattle.pv_inst.specs.Table.{Table, instance_at}
 use Rattle.pv_inst.specs.Infos.{info_of}
-use Rattle.pv_inst.specs.Use.{passes, any_survives, miss_of, use_answer, untried}
-use Rattle.pv_inst.specs.UseParts.{holds}
+use Rattle.pv_inst.specs.Use.{passes, any_survives, miss_of, use_answer, untried, holds}
 use Rattle.pv_inst.specs.SameParts.{made_passes}
 use Rattle.pv_shadow.specs.declared.byte.Byte.{Byte}
 use Rattle.pv_shadow.specs.Bytes.{read}

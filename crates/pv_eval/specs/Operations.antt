@@ -1,7 +1,6 @@
 -- The operations of a run (C17 6.3, 6.5, 6.7.9, 7), and what each does.
-use Rattle.std.specs.Prelude.{ℕ, nat_le, Bool, true, ◌&&◌, List, ◌∷◌, Option, None, drop, if◌then◌else◌, pos}
+use Rattle.std.specs.Prelude.{ℕ, nat_le, Bool, true, ◌&&◌, List, ◌∷◌, Option, None, drop, if◌then◌else◌}
 use Rattle.std.specs.FinMap as map
-use Rattle.pv_fault.specs.declared.faults.Clause.TheVariants as clause
 use Rattle.pv_num.specs.declared.kinds.IntKind.{IntKind}
 use Rattle.pv_num.specs.declared.operators.BinOp.{BinOp}
 use Rattle.pv_num.specs.declared.operators.UnOp.{UnOp}
@@ -31,8 +30,8 @@ use Rattle.pv_types.specs.Ty.{Ty}
 use Rattle.pv_eval.specs.Library.{asks}
 use Rattle.pv_eval.specs.Suiting.{knows_worth, is_small, is_integer, is_promoted, is_operand, is_size, is_stored, has_part, knows_value}
 use Rattle.std.specs.List.{list_all}
-use Rattle.pv_object.specs.Operations.{move_under}
 use Rattle.pv_world.specs.Accesses.{takes_bytes}
+use Rattle.pv_object.specs.Operations.{select}
 
 -- an operation of a run (6.3, 6.5, 6.7.9, 7), with its operands
 pub data Op : Type 0 where
@@ -111,7 +110,7 @@ works b (Subtracts size v x) = subtracts size v x
 works b (Orders op v x) = orders op v x
 works b (Equals negated v x) = equals negated v x
 works b (Follows nothing v) = follows_to nothing v
-works b (Selects offset v) = λ w. present v w (λ v. moved_by w (pointer_of v) (move_under clause.Indirection w.memory.table (pointer_of v) (pos offset)))
+works b (Selects offset v) = λ w. present v w (λ v. moved_by w (pointer_of v) (select w.memory.table (pointer_of v) offset))
 works b (Finds t v) = finds (may_call b t) v
 works b (TakesPart offset l v) = takes_bytes offset l.size l.shape v
 works b (Reads l place rivals) = reads b l place rivals

@@ -13,11 +13,9 @@ use Rattle.pv_inst.specs.declared.values.Test.TheVariants.{Range}
 use Rattle.pv_inst.specs.declared.values.Tried.{Tried}
 use Rattle.pv_inst.specs.declared.values.Miss.{Miss}
 use Rattle.pv_inst.specs.Table.{Table, instance_at, IsNumber, IsMadeIn}
-use Rattle.pv_inst.specs.Use.{passes, survives, any_survives, judged, if_two, use_answer}
-use Rattle.pv_inst.specs.UseParts.{holds}
+use Rattle.pv_inst.specs.Use.{passes, survives, any_survives, judged, if_two, use_answer, holds}
 use Rattle.pv_inst.specs.SameParts.{made_passes}
-use Rattle.pv_inst.specs.Finding.{reaches, begins, number_of, both_found, name_by, table_by, name_at, after_name}
-use Rattle.pv_inst.specs.FindingParts.{fitting}
+use Rattle.pv_inst.specs.Finding.{reaches, begins, number_of, both_found, name_by, table_by, name_at, after_name, fitting}
 use Rattle.pv_inst.proofs.Rows.{IsRow}
 use Rattle.pv_inst.proofs.Fitting.{and_left, and_right, reach_of}
 use Rattle.pv_inst.proofs.Index.{number_row}

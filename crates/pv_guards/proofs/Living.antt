@@ -24,10 +24,9 @@ use Rattle.pv_inst.specs.Table.{Table, instance_at, with_instance, live_bytes, c
 use Rattle.pv_inst.specs.Use.{use_answer, settled, is_heap, is_function}
 use Rattle.pv_inst.specs.TwoPointers.{after_same}
 use Rattle.pv_inst.specs.Exposure.{expose}
-use Rattle.pv_inst.specs.Finding.{both_found, number_of, reaches, begins, table_by, after_name, name_at}
-use Rattle.pv_inst.specs.FindingParts.{fitting}
-use Rattle.pv_inst.specs.Placing.{Request, place, place_said, place_at, unless_overlap, counted, with_fresh}
-use Rattle.pv_inst.specs.PlacingParts.{rounded, first_overlap, fresh}
+use Rattle.pv_inst.specs.Finding.{both_found, number_of, reaches, begins, table_by, after_name, name_at, fitting}
+use Rattle.pv_inst.specs.Placing.{Request, place, place_said, place_at, unless_overlap, counted, with_fresh, first_overlap}
+use Rattle.pv_inst.specs.PlacingParts.{rounded, fresh}
 use Rattle.pv_inst.specs.Ending.{ended}
 use Rattle.pv_inst.specs.EndingParts.{ending, over}
 use Rattle.pv_inst.proofs.Rows.{IsRow, row_found}

@@ -30,8 +30,7 @@ use Rattle.pv_object.specs.declared.values.Stop.{Stop}
 use Rattle.pv_object.specs.declared.values.Value.{Value as ScalarValue}
 use Rattle.pv_object.specs.declared.values.Value.TheVariants.{Int as IntValue, Unset, Pointer as PointerValue}
 use Rattle.pv_object.specs.Loading.{Loaded, value_of as load_of}
-use Rattle.pv_object.specs.Operations.{truth, recast, to_int, to_int_after, exposed_to, together, order, equal}
-use Rattle.pv_object.specs.OperationParts.{shift, select}
+use Rattle.pv_object.specs.Operations.{truth, recast, to_int, to_int_after, exposed_to, together, order, equal, shift, select}
 use Rattle.pv_typed.specs.Known.{Each}
 use Rattle.pv_typed.specs.TypedUnits.{layouts}
 use Rattle.pv_watch.specs.declared.event.What.{What}

@@ -9,8 +9,7 @@ use Rattle.std.proofs.lemmas.List.Sums.{position_or_len_is}
 use Rattle.std.proofs.lemmas.List.Quantifiers.{position-Some}
 use Rattle.pv_prov.specs.declared.names.Stands.{Stands}
 use Rattle.pv_inst.specs.declared.values.Instance.{Instance}
-use Rattle.pv_inst.specs.Finding.{reaches, begins, number_of, both_found}
-use Rattle.pv_inst.specs.FindingParts.{fitting}
+use Rattle.pv_inst.specs.Finding.{reaches, begins, number_of, both_found, fitting}
 use Rattle.pv_inst.specs.Kept.{fits, AreAll}
 use Rattle.pv_inst.specs.WellFormed.{Apart, Disjoint, IsPlaced}
 use Rattle.pv_inst.proofs.Rows.{IsRow, row_found}

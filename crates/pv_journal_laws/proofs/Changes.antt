@@ -17,8 +17,7 @@ use Rattle.pv_inst.specs.Exposure.{expose, expose_one, exposing}
 use Rattle.pv_inst.specs.ExposureParts.{shown}
 use Rattle.pv_inst.specs.Ending.{ended}
 use Rattle.pv_inst.specs.EndingParts.{ending, over}
-use Rattle.pv_inst.specs.Finding.{after_name, table_by, both_found, number_of as first_number, reaches, begins}
-use Rattle.pv_inst.specs.FindingParts.{fitting}
+use Rattle.pv_inst.specs.Finding.{after_name, table_by, both_found, number_of as first_number, reaches, begins, fitting}
 use Rattle.pv_inst.proofs.Rows.{row_found}
 use Rattle.pv_watch.specs.declared.event.What.{What}
 use Rattle.pv_watch.specs.declared.event.What.TheVariants as what

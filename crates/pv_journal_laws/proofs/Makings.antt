@@ -16,10 +16,9 @@ use Rattle.pv_prov.specs.Names.{nobody, added}
 use Rattle.pv_inst.specs.declared.values.Instance.{Instance}
 use Rattle.pv_inst.specs.Table.{Table, instance_at, live_bytes, count_of}
 use Rattle.pv_inst.specs.Infos.{base_of}
-use Rattle.pv_inst.specs.Placing.{Request, with_fresh}
-use Rattle.pv_inst.specs.PlacingParts.{first_overlap, fresh}
-use Rattle.pv_inst.specs.Finding.{reaches, begins, number_of, both_found, table_by, after_name}
-use Rattle.pv_inst.specs.FindingParts.{fitting}
+use Rattle.pv_inst.specs.Placing.{Request, with_fresh, first_overlap}
+use Rattle.pv_inst.specs.PlacingParts.{fresh}
+use Rattle.pv_inst.specs.Finding.{reaches, begins, number_of, both_found, table_by, after_name, fitting}
 use Rattle.pv_inst.specs.WellFormed.{HasMet, IsPlaced, Apart}
 use Rattle.pv_inst.proofs.Meetings.{met_found}
 use Rattle.pv_world.specs.Telling.{pairings, each_paired, made}

@@ -12,8 +12,8 @@ use Rattle.pv_inst.specs.declared.values.CreateError.{CreateError}
 use Rattle.pv_inst.specs.declared.values.CreateError.TheVariants.{Range, Misaligned, Denied, Storage}
 use Rattle.pv_inst.specs.Table.{Table, instance_at, live_bytes, count_of}
 use Rattle.pv_inst.specs.Use.{is_heap}
-use Rattle.pv_inst.specs.Placing.{Request, place, place_said, place_at, unless_overlap, with_fresh, counted}
-use Rattle.pv_inst.specs.PlacingParts.{rounded, first_overlap, fresh}
+use Rattle.pv_inst.specs.Placing.{Request, place, place_said, place_at, unless_overlap, with_fresh, counted, first_overlap}
+use Rattle.pv_inst.specs.PlacingParts.{rounded, fresh}
 use Rattle.pv_object.specs.Memory.{Mem}
 use Rattle.pv_object.specs.Creating.{created, made as made_in}
 use Rattle.pv_object.proofs.Born.{slice_last, at_next}

@@ -16,7 +16,7 @@ use Rattle.pv_prov.specs.declared.pairs.Twin.{Twin}
 use Rattle.pv_inst.specs.declared.values.Instance.{Instance}
 use Rattle.pv_inst.specs.Table.{Table, instance_at, with_instance, live_bytes, count_of}
 use Rattle.pv_inst.specs.TableParts.{live_size as size_live}
-use Rattle.pv_inst.specs.PlacingParts.{first_overlap}
+use Rattle.pv_inst.specs.Placing.{first_overlap}
 use Rattle.pv_inst.specs.Infos.{base_of}
 use Rattle.pv_inst.proofs.Rows.{IsRow, row_found}
 use Rattle.pv_inst.proofs.Apartness.{none_nearest}

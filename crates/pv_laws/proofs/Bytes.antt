@@ -7,8 +7,7 @@ use Rattle.pv_prov.specs.Names.{nobody, kept}
 use Rattle.pv_inst.specs.declared.values.CreateError.{CreateError}
 use Rattle.pv_inst.specs.Answers.{IsLive}
 use Rattle.pv_inst.specs.Ending.{ended}
-use Rattle.pv_inst.specs.Finding.{reaches, begins, number_of, both_found, table_by, after_name}
-use Rattle.pv_inst.specs.FindingParts.{fitting}
+use Rattle.pv_inst.specs.Finding.{reaches, begins, number_of, both_found, table_by, after_name, fitting}
 use Rattle.pv_inst.specs.Placing.{Request, place}
 use Rattle.pv_inst.specs.Table.{Table}
 use Rattle.pv_inst.specs.Use.{use_answer}

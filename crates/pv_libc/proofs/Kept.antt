@@ -9,8 +9,8 @@ use Rattle.pv_inst.specs.declared.values.Instance.{Instance}
 use Rattle.pv_inst.specs.declared.values.CreateError.{CreateError}
 use Rattle.pv_inst.specs.Table.{Table, live_bytes, count_of}
 use Rattle.pv_inst.specs.Answers.{IsLive}
-use Rattle.pv_inst.specs.Placing.{Request, place, place_said, place_at, unless_overlap}
-use Rattle.pv_inst.specs.PlacingParts.{rounded, first_overlap}
+use Rattle.pv_inst.specs.Placing.{Request, place, place_said, place_at, unless_overlap, first_overlap}
+use Rattle.pv_inst.specs.PlacingParts.{rounded}
 use Rattle.pv_object.specs.Memory.{Mem}
 use Rattle.pv_object.specs.Creating.{made, created}
 

@@ -2,7 +2,7 @@
 use Rattle.std.specs.Prelude.{pos, ◌+ℤ◌, ℕ, ℤ, ◌&&◌, None, Bool, ◌==◌, Option, not, if◌then◌else◌, Result}
 use Rattle.std.specs.Ordering.{nat_cmp}
 use Rattle.std.specs.declared.cmp.Ordering.{Ordering}
-use Rattle.pv_object.specs.Operations.{as_address, ended_stop, same_stop, code_by, move_under}
+use Rattle.pv_object.specs.Operations.{as_address, ended_stop, same_stop, code_by}
 use Rattle.pv_object.specs.Access.{readonly_stop, range_stop, fault}
 use Rattle.pv_object.specs.declared.values.Stop.{Stop}
 use Rattle.pv_object.specs.declared.values.Pointer.{Pointer}
@@ -65,11 +65,3 @@ live_answer p r = result_map_both (λ tried. (value.Pointer p, tried)) (λ _. fa
 -- 6.5.2.2p1, 6.2.4p2: the test for a function at the pointer's address
 abbrev pub code_at : Table → Pointer → Result Tried Miss → Result (ℕ × Tried) Stop × Table
 code_at T p r = (code_by (stands T.pairs p.prov) r, settled T p.prov r)
-
--- 6.5.6p8: so many bytes on
-abbrev pub shift : Table → Pointer → ℤ → Result (Pointer × Tried) Stop × Table
-shift T p by = move_under clause.AdditionOfPointers T p by
-
--- 6.5.2.3p4, 6.5.3.2p4: a member, so many bytes from the start
-abbrev pub select : Table → Pointer → ℕ → Result (Pointer × Tried) Stop × Table
-select T p offset = move_under clause.Indirection T p (pos offset)

@@ -25,8 +25,7 @@ use Rattle.pv_object.specs.Memory.{Mem}
 use Rattle.pv_object.specs.Access.{reach}
 use Rattle.pv_object.specs.Creating.{created}
 use Rattle.pv_object.specs.Loading.{Loaded}
-use Rattle.pv_object.specs.Operations.{truth, to_ptr, recast, to_int, code, together, order, equal}
-use Rattle.pv_object.specs.OperationParts.{shift, select}
+use Rattle.pv_object.specs.Operations.{truth, to_ptr, recast, to_int, code, together, order, equal, shift, select}
 use Rattle.pv_watch.specs.declared.event.What.{What}
 use Rattle.pv_world.specs.declared.got.Shape.{Shape}
 use Rattle.pv_world.specs.declared.got.Shape.TheVariants as shape

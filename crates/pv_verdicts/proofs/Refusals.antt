@@ -12,8 +12,8 @@ use Rattle.pv_inst.specs.declared.values.CreateError.{CreateError}
 use Rattle.pv_inst.specs.declared.values.CreateError.TheVariants as refusal
 use Rattle.pv_inst.specs.Table.{Table, live_bytes, count_of}
 use Rattle.pv_inst.specs.Use.{is_heap}
-use Rattle.pv_inst.specs.Placing.{Request, place, place_said, place_at, unless_overlap}
-use Rattle.pv_inst.specs.PlacingParts.{rounded, first_overlap}
+use Rattle.pv_inst.specs.Placing.{Request, place, place_said, place_at, unless_overlap, first_overlap}
+use Rattle.pv_inst.specs.PlacingParts.{rounded}
 use Rattle.pv_object.specs.declared.values.Asker.TheVariants.{Text}
 use Rattle.pv_object.specs.declared.values.Stop.{Stop}
 use Rattle.pv_object.specs.declared.values.Stop.TheVariants as stop

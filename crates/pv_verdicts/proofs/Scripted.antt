@@ -17,8 +17,8 @@ use Rattle.pv_inst.specs.TwoPointers.{same_miss, same_state, same_left, same_rig
 use Rattle.pv_inst.specs.Exposure.{exposing, expose_one, expose}
 use Rattle.pv_inst.specs.EndingParts.{ending}
 use Rattle.pv_inst.specs.Finding.{found_at, table_by}
-use Rattle.pv_inst.specs.Placing.{Request, place, place_said, place_at, unless_overlap}
-use Rattle.pv_inst.specs.PlacingParts.{rounded, first_overlap}
+use Rattle.pv_inst.specs.Placing.{Request, place, place_said, place_at, unless_overlap, first_overlap}
+use Rattle.pv_inst.specs.PlacingParts.{rounded}
 use Rattle.pv_exec.proofs.Memory.Ways.{Changes, OfTables, of-tables}
 
 -- the second table has the script of the first one

@@ -1,13 +1,13 @@
 -- A bridge: what functions answer that do a part of what Pointers says.
 use Rattle.pv_fault.specs.declared.faults.Reason.TheVariants.{Uneven, WrongType}
-use Rattle.pv_fault.specs.declared.faults.Clause.TheVariants.{SubtractionOfPointers, PointerToFunction, Indirection}
+use Rattle.pv_fault.specs.declared.faults.Clause.TheVariants.{SubtractionOfPointers, PointerToFunction}
 use Rattle.pv_world.specs.Worths.{undefined, present, pointer_of}
 use Rattle.pv_world.specs.Worlds.{Wrong, World, Worth}
 use Rattle.pv_world.specs.Pointers.{between_by, moved_by}
 use Rattle.pv_world.specs.Doing.{Done, Answers}
 use Rattle.pv_world.specs.Telling.{quiet}
-use Rattle.std.specs.Prelude.{ℕ, pos}
-use Rattle.pv_object.specs.Operations.{together, move_under}
+use Rattle.std.specs.Prelude.{ℕ}
+use Rattle.pv_object.specs.Operations.{together, select}
 use Rattle.pv_object.specs.declared.values.Pointer.{Pointer}
 
 -- 6.5.6p9: a difference that is not whole
@@ -28,4 +28,4 @@ follows v w = present v w (λ v. Answers v w quiet)
 
 -- 6.5.2.3: null and the empty name are those of the pointer; the range is that of no bytes at the member's address
 abbrev pub selects : (offset : ℕ) → Worth → World → Done
-selects offset v w = present v w (λ v. moved_by w (pointer_of v) (move_under Indirection w.memory.table (pointer_of v) (pos offset)))
+selects offset v w = present v w (λ v. moved_by w (pointer_of v) (select w.memory.table (pointer_of v) offset))

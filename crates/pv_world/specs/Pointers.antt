@@ -6,14 +6,14 @@ use Rattle.pv_num.specs.declared.kinds.IntKind.TheVariants.{Int as IntOfInt}
 use Rattle.pv_num.specs.declared.operators.BinOp.{BinOp}
 use Rattle.pv_num.specs.declared.operators.BinOp.TheVariants.{Lt, Gt, Le, Ge}
 use Rattle.pv_num.specs.declared.operators.ArithmeticFault.{ArithmeticFault}
-use Rattle.pv_fault.specs.declared.faults.Clause.TheVariants.{SubtractionOfPointers, PointerToFunction, AdditionOfPointers}
+use Rattle.pv_fault.specs.declared.faults.Clause.TheVariants.{SubtractionOfPointers, PointerToFunction}
 use Rattle.pv_fault.specs.declared.faults.Reason.TheVariants.{Uneven, WrongType}
 use Rattle.pv_num.specs.Arithmetic.{binary_of}
 use Rattle.pv_inst.specs.declared.values.Tried.{Tried}
 use Rattle.pv_inst.specs.Table.{Table}
 use Rattle.pv_object.specs.declared.values.Pointer.{Pointer}
 use Rattle.pv_object.specs.declared.values.Stop.{Stop}
-use Rattle.pv_object.specs.Operations.{together, order, equal, move_under, code}
+use Rattle.pv_object.specs.Operations.{together, order, equal, code, shift}
 use Rattle.pv_world.specs.Worlds.{Worth, World, with_table}
 use Rattle.pv_watch.specs.declared.event.What.{What}
 use Rattle.pv_world.specs.Telling.{quiet, telling, used, live_use, both_used, live_test, range_test, code_test}
@@ -33,7 +33,7 @@ distance true size n = neg_ℤ (n *ℤ pos size)
 
 -- 6.5.6p8: the pointer so many elements further on, or back
 abbrev pub moves_pointer : (minus : Bool) → (size : ℕ) → Worth → Worth → World → Done
-moves_pointer minus size p n w = moved_by w (pointer_of p) (move_under AdditionOfPointers w.memory.table (pointer_of p) (distance minus size (int_of n)))
+moves_pointer minus size p n w = moved_by w (pointer_of p) (shift w.memory.table (pointer_of p) (distance minus size (int_of n)))
 
 -- 6.5.6p8: one operand is the pointer, the other one the integer
 abbrev pub moves : (minus pointer_first : Bool) → (size : ℕ) → Worth → Worth → World → Done

@@ -2,7 +2,7 @@
 ghost use Rattle.std.specs.Prelude.{◌≡◌, ◌≤◌, ◌<◌, ◌^◌, ℤ, pos, neg_ℤ, ◌≤ℤ◌, Ok, IfOk};
 ghost use Rattle.pv_inst.specs.Table.{IsMadeIn};
 ghost use Rattle.pv_object.specs.Later.{IsLater};
-ghost use Rattle.pv_object.specs.OperationParts.{shift, select};
+ghost use Rattle.pv_object.specs.Operations.{shift, select};
 ghost use Rattle.pv_world.specs.Preconditions.{IsSmall};
 ghost use Rattle.pv_world.specs.Pointers.{distance, moves, moved_by};
 ghost use Rattle.pv_world.specs.PointerParts.{follows, selects};

@@ -12,8 +12,7 @@ use Rattle.pv_prov.specs.Names.{nobody, added}
 use Rattle.pv_inst.specs.declared.values.Instance.{Instance}
 use Rattle.pv_inst.specs.declared.values.Kind.TheVariants.{Heap}
 use Rattle.pv_inst.specs.Table.{Table, instance_at}
-use Rattle.pv_inst.specs.Finding.{reaches, begins, number_of, both_found, table_by, after_name}
-use Rattle.pv_inst.specs.FindingParts.{fitting}
+use Rattle.pv_inst.specs.Finding.{reaches, begins, number_of, both_found, table_by, after_name, fitting}
 use Rattle.pv_inst.specs.WellFormed.{Apart, Disjoint, Meet, AreMet}
 use Rattle.pv_inst.proofs.Meetings.{met_added}
 use Rattle.pv_exec.proofs.Memory.Rows.{Leads, led-itself, pairs-led, added-settle}

@@ -14,7 +14,7 @@ use Rattle.pv_prov.specs.Made.{Stands_low, Stands_high}
 use Rattle.pv_inst.specs.declared.values.Instance.{Instance}
 use Rattle.pv_inst.specs.Table.{Table, instance_at, with_instance, live_bytes}
 use Rattle.pv_inst.specs.TableParts.{live_size}
-use Rattle.pv_inst.specs.PlacingParts.{first_overlap}
+use Rattle.pv_inst.specs.Placing.{first_overlap}
 use Rattle.pv_inst.specs.WellFormed.{Apart, HasMet}
 use Rattle.pv_inst.proofs.Rows.{IsRow}
 use Rattle.pv_inst.proofs.Together.{slice_get-set_here, slice_get-set_other}

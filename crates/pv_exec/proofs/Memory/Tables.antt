@@ -22,8 +22,8 @@ use Rattle.pv_inst.specs.Exposure.{expose, expose_one, exposing}
 use Rattle.pv_inst.specs.ExposureParts.{shown}
 use Rattle.pv_inst.specs.declared.values.CreateError.{CreateError}
 use Rattle.pv_inst.specs.declared.values.CreateError.TheVariants.{Range, Misaligned}
-use Rattle.pv_inst.specs.Placing.{Request, place, place_said, place_at, unless_overlap}
-use Rattle.pv_inst.specs.PlacingParts.{rounded, first_overlap, fresh}
+use Rattle.pv_inst.specs.Placing.{Request, place, place_said, place_at, unless_overlap, first_overlap}
+use Rattle.pv_inst.specs.PlacingParts.{rounded, fresh}
 use Rattle.pv_inst.specs.Ending.{ended}
 use Rattle.pv_inst.specs.EndingParts.{ending, over}
 use Rattle.pv_inst.proofs.Rows.{row_found}

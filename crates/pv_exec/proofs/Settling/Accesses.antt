@@ -12,8 +12,8 @@ use Rattle.pv_inst.specs.declared.values.Miss.{Miss}
 use Rattle.pv_inst.specs.Table.{Table, instance_at, live_bytes, count_of}
 use Rattle.pv_inst.specs.Use.{use_answer}
 use Rattle.pv_inst.specs.EndingParts.{ending}
-use Rattle.pv_inst.specs.Placing.{Request, place, place_said, place_at, unless_overlap}
-use Rattle.pv_inst.specs.PlacingParts.{rounded, first_overlap}
+use Rattle.pv_inst.specs.Placing.{Request, place, place_said, place_at, unless_overlap, first_overlap}
+use Rattle.pv_inst.specs.PlacingParts.{rounded}
 use Rattle.pv_fault.specs.declared.faults.Clause.{Clause}
 use Rattle.pv_object.specs.declared.values.Pointer.{Pointer}
 use Rattle.pv_object.specs.declared.values.Reach.{Reach}

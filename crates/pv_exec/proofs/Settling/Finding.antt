@@ -18,8 +18,7 @@ use Rattle.pv_inst.specs.declared.values.Miss.TheVariants.{Ended}
 use Rattle.pv_inst.specs.Table.{Table, instance_at}
 use Rattle.pv_inst.specs.Use.{survives, any_survives, judged, if_two, use_answer, settled}
 use Rattle.pv_inst.specs.SameParts.{made_passes}
-use Rattle.pv_inst.specs.Finding.{reaches, begins, number_of, both_found, found_at, name_by, table_by, name_at, after_name}
-use Rattle.pv_inst.specs.FindingParts.{fitting}
+use Rattle.pv_inst.specs.Finding.{reaches, begins, number_of, both_found, found_at, name_by, table_by, name_at, after_name, fitting}
 use Rattle.pv_exec.proofs.Settling.Sides.{on_table, Allows, Covers, Nearly, nearly, length-sides, added-on, added-allows, added-nearly}
 
 -- the same name, and the table with the same pair

@@ -18,8 +18,7 @@ use Rattle.pv_object.specs.declared.values.Stop.{Stop}
 use Rattle.pv_object.specs.declared.values.Value.{Value}
 use Rattle.pv_object.specs.declared.values.Value.TheVariants.{Int as IntValue, Unset, Pointer as PointerValue}
 use Rattle.pv_object.specs.Loading.{Loaded}
-use Rattle.pv_object.specs.Operations.{truth, to_ptr, recast, to_int, together, order, equal}
-use Rattle.pv_object.specs.OperationParts.{shift, select}
+use Rattle.pv_object.specs.Operations.{truth, to_ptr, recast, to_int, together, order, equal, shift, select}
 use Rattle.pv_watch.specs.declared.event.What.{What}
 use Rattle.pv_world.specs.declared.got.Shape.{Shape}
 use Rattle.pv_world.specs.declared.got.Shape.TheVariants as shape
