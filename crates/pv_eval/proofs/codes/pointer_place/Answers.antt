@@ -2,7 +2,8 @@ use Rattle.std.proofs.Common.{◌≡◌, ℕ, ◌<◌, true, length, refl, sym, 
 use Rattle.pv_types.specs.Known.{Known, tree}
 use Rattle.pv_typed.specs.TypedUnits.{object_at}
 use Rattle.pv_typed.specs.Tables.{whole}
-use Rattle.pv_eval.specs.Sizes.{points, is_bare_scalar}
+use Rattle.pv_types.specs.Sorts.{is_scalar_in}
+use Rattle.pv_eval.specs.Sizes.{points}
 use Rattle.pv_eval.specs.Plainly.{IsOwnType}
 use Rattle.pv_eval.proofs.PlainSteps.{some_map}
 use Rattle.pv_eval.proofs.codes.pointer_place.Goals as goal
@@ -14,7 +15,7 @@ pub returns-clause-place : goal.returns-clause-place
 returns-clause-place c =
     let u = c.args.unit.now in
     let t = c.type_of-t.result in
-    let scalar : is_bare_scalar (tree u.known t.0) ≡ true = subst (λ (m : Known). is_bare_scalar (tree m t.0) ≡ true) c.types.ensures (ap is_bare_scalar c.in-Pointer.ensures.tree) in
+    let scalar : is_scalar_in (tree u.known t.0) ≡ true = subst (λ (m : Known). is_scalar_in (tree m t.0) ≡ true) c.types.ensures (ap is_scalar_in c.in-Pointer.ensures.tree) in
     record {
       there = c.requires.there;
       known = c.type_of-t.ensures.known c.requires.known;
