@@ -70,8 +70,7 @@ fills b o v w = where_possible (can_fill b o w) w (object.fills_object o (object
 
 -- 6.7.9p11, 6.9.1p10: an object that lives, with room for a value that is one of the type
 abbrev pub can_put : Setting → ℕ → (offset : ℕ) → Lvalue → Worth → World → Bool
-can_put b o offset l v w =
-    is_size l.size && ((is_stored l.shape l.size v && knows_worth w.memory.table v) && has_room w (instance_for b o w) offset l.size)
+can_put b o offset l v w = is_size l.size && ((is_stored l.shape l.size v && knows_worth w.memory.table v) && has_room w (instance_for b o w) offset l.size)
 
 -- 6.7.9p11, p13, 6.9.1p10: a store of an initialiser, or of a parameter, which checks nothing
 abbrev pub puts : Setting → ℕ → (offset : ℕ) → Lvalue → Worth → World → Done

@@ -70,8 +70,7 @@ malloc size S = next (requested size S) allocated
 -- 7.22.3.2p2, p3: a pointer to the allocation, whose bytes are 0, or a null pointer
 abbrev pub cleared : Result ℕ Reply → Now → Did Reply
 cleared (Err r) S = done r S
-cleared (Ok i) S =
-    done (pointer_to S.memory i) (in_memory S (option_map_or (λ (x : Info). filled S.memory x.base x.size 0) (told_of S.memory i) S.memory))
+cleared (Ok i) S = done (pointer_to S.memory i) (in_memory S (option_map_or (λ (x : Info). filled S.memory x.base x.size 0) (told_of S.memory i) S.memory))
 
 -- 7.22.3.2p2: the product is exact
 abbrev pub calloc : ℕ → ℕ → Now → Did Reply
@@ -125,8 +124,7 @@ both _ _ N = N
 -- 7.22.3.5p2, p4: a pointer to the new allocation, and the old one ends; or a null pointer, and the old one stays
 abbrev pub moved : ℕ → Result ℕ Reply → Now → Did Reply
 moved i (Err r) S = done r S
-moved i (Ok j) S =
-    done (pointer_to S.memory j) (noted (Ended i ∷ []) (in_memory S (without (both (told_of S.memory i) (told_of S.memory j) S.memory) i)))
+moved i (Ok j) S = done (pointer_to S.memory j) (noted (Ended i ∷ []) (in_memory S (without (both (told_of S.memory i) (told_of S.memory j) S.memory) i)))
 
 -- 7.22.3.5p3, p4: the request is made while the old allocation is live; where none is had, it stays. For no byte it stays, too
 abbrev pub resized : ℕ → ℕ → Now → Did Reply

@@ -96,8 +96,7 @@ abbrev mutual
 
   -- 6.8.1p1: one of them; its statements may have labels
   pub switch_item : Around → IntKind → Tree → After Body → Option (After Body)
-  switch_item w k (OfDeclaration d) x =
-      block_declaration d x.state >>= λ y. give (Some (record x.value { items = x.value.items ++ reached y.value })) y.state
+  switch_item w k (OfDeclaration d) x = block_declaration d x.state >>= λ y. give (Some (record x.value { items = x.value.items ++ reached y.value })) y.state
   switch_item w k (OfStatement (Labelled line labels b)) x = do
     l ← typed_labels k x.value.labels labels x.state
     y ← typed_statement w b l.state
