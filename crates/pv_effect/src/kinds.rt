@@ -13,13 +13,9 @@ pub(crate) fn is_character(types: &Types, t: TypeId) -> bool
     requires { t.0 < length types.now.terms }
     ensures { result ≡ is_character (tree types.now t.0) }
 {
-    let mut at = t;
-    loop {
-        match types.view(at) {
-            Term::Int(kind) => return is_character_kind(kind),
-            Term::Const(inner) => at = inner,
-            _ => return false,
-        }
+    match types.view(bare(types, t)) {
+        Term::Int(kind) => is_character_kind(kind),
+        _ => false,
     }
 }
 
@@ -28,13 +24,9 @@ pub(crate) fn is_composite(types: &Types, t: TypeId) -> bool
     requires { t.0 < length types.now.terms }
     ensures { result ≡ is_composite (tree types.now t.0) }
 {
-    let mut at = t;
-    loop {
-        match types.view(at) {
-            Term::Struct(_) | Term::Union(_) => return true,
-            Term::Const(inner) => at = inner,
-            _ => return false,
-        }
+    match types.view(bare(types, t)) {
+        Term::Struct(_) | Term::Union(_) => true,
+        _ => false,
     }
 }
 
