@@ -48,6 +48,7 @@ pub fn evaluate(machine: &mut Machine, task: Task, e: NodeId) -> Result<Way, Fai
 }
 
 /// The parts of a loop; of another statement, parts that nothing looks at.
+#[inline(always)]
 pub fn loop_parts(unit: &TypedUnit, n: NodeId) -> Parts
     requires there { IsStatement unit.now n }
     ensures value { loop_of (statement_at unit.now n) ≡ record { condition = optional_in (nodes unit.now) result.condition; step = optional_in (nodes unit.now) result.step; body = statement_at unit.now result.body } }

@@ -56,6 +56,7 @@ impl TypedUnit {
     ///
     /// An expression is plain where each of its nodes has a form without side effect (C17 5.1.2.3p2) and without call,
     /// all of whose operands are evaluated.
+    #[inline(always)]
     pub fn plain_turns(&self, n: NodeId) -> Option<u16>
         requires { IsExpression self.now n }
         ensures { result ≡ plain_turns (expression_at self.now n) }
