@@ -79,6 +79,7 @@ fn read_integer(
 }
 
 /// The pointer at the place that the operand of a node gave; with the object that the operand designates, where that is known.
+#[inline(always)]
 fn read_pointer(
     alloc: Global,
     unit: &TypedUnit,

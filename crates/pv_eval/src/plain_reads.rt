@@ -144,6 +144,7 @@ fn is_told(world: &World) -> bool
 
 /// The integer of this kind at a place, if nothing keeps it from being read; with the object that the lvalue designates, where that is
 /// known.
+#[inline(always)]
 pub(crate) fn load(
     alloc: Global,
     unit: &TypedUnit,
@@ -225,6 +226,7 @@ fn pointed(world: &World, p: Pointer) -> Option<Found>
 
 /// The pointer at a place, if it was stored whole, is null or points into a live instance, and nothing keeps it from being read; with
 /// the object that the lvalue designates, where that is known.
+#[inline(always)]
 pub(crate) fn load_pointer(
     alloc: Global,
     unit: &TypedUnit,

@@ -217,6 +217,7 @@ fn is_of(t: Scalar, v: Value) -> bool
 }
 
 /// Whether a value can be stored in so many bytes.
+#[inline(always)]
 fn is_stored(shape: Shape, size: u64, v: &Got) -> bool
     ensures { result ≡ is_stored shape size (worth_of v.now) }
 {
@@ -237,6 +238,7 @@ fn is_stored(shape: Shape, size: u64, v: &Got) -> bool
 }
 
 /// Whether a value can be stored at a place of so many bytes.
+#[inline(always)]
 #[tactic(auto, using(crate::proofs::Guards::stored_is))]
 pub(crate) fn can_write(world: &World, shape: Shape, size: u64, place: &Got, v: &Got) -> bool
     ensures value { result ≡ (is_stored shape size (worth_of v.now) && (knows_worth world.now.memory.table (worth_of place.now) && knows_worth world.now.memory.table (worth_of v.now))) }
