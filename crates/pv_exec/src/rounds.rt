@@ -1,5 +1,5 @@
 // Further rounds of loops whose condition comes first.
-ghost use Rattle.std.specs.Prelude.{◌≡◌, ℕ, ◌+◌, ◌<◌, ◌≤◌, OnOk, IfSome, true};
+ghost use Rattle.std.specs.Prelude.{◌≡◌, ℕ, ◌+◌, ◌<◌, ◌≤◌, OnOk, Some, IfSome, true};
 ghost use Rattle.pv_typed.specs.Tables.{nodes};
 ghost use Rattle.pv_typed.specs.NodeTrees.{statement_at, IsExpression, IsStatement};
 ghost use Rattle.pv_typed.specs.Nodes.{optional_in};
@@ -39,7 +39,21 @@ pub fn begin_again(unit: &TypedUnit, n: NodeId, machine: &mut Machine) -> Result
     begin_round(unit, n, machine)
 }
 
-/// A further round, one level lower: its condition, if it has one, is asked for before it is started.
+// The condition of a loop, if it has one that is plain: of another one the operands are asked for once it is started.
+fn plain_condition(unit: &TypedUnit, condition: Option<NodeId>) -> Option<NodeId>
+    requires { IfSome condition (IsExpression unit.now) }
+    ensures { IfSome result (λ c. condition ≡ Some c) }
+{
+    match condition {
+        None => None,
+        Some(c) => {
+            let _ = unit.plain_turns(c)?;
+            Some(c)
+        }
+    }
+}
+
+/// A further round, one level lower: its condition, if that is plain, is asked for before it is started.
 pub fn round_again(unit: &TypedUnit, n: NodeId, machine: &mut Machine) -> Result<Way, Failure>
     requires there { IsStatement unit.now n }
     requires fit { Fit unit.now machine.old.started }
@@ -51,7 +65,7 @@ pub fn round_again(unit: &TypedUnit, n: NodeId, machine: &mut Machine) -> Result
     ensures quick { QuickOr machine.new.started result }
 {
     let parts = loop_parts(unit, n);
-    match parts.condition {
+    match plain_condition(unit, parts.condition) {
         None => begin_again(unit, n, machine),
         Some(condition) => Ok(Way::Do(Doing::Round(RoundParts {
             statement: n,
@@ -109,7 +123,7 @@ fn behind_body(step: Option<NodeId>, parts: RoundParts) -> Doing
     }
 }
 
-/// After the body: the last expression and the condition are asked for before they are started.
+/// After the body: the last expression and the condition, if that is plain, are asked for before they are started.
 pub fn go_round(unit: &TypedUnit, n: NodeId, machine: &mut Machine) -> Result<Way, Failure>
     requires there { IsStatement unit.now n }
     requires fit { Fit unit.now machine.old.started }
@@ -120,7 +134,7 @@ pub fn go_round(unit: &TypedUnit, n: NodeId, machine: &mut Machine) -> Result<Wa
     ensures quick { QuickOr machine.new.started result }
 {
     let parts = loop_parts(unit, n);
-    match parts.condition {
+    match plain_condition(unit, parts.condition) {
         None => round_goes_on(unit, n, machine),
         Some(condition) => {
             let round = RoundParts {

@@ -30,7 +30,7 @@ returns-in-Some-clause-ways c =
     let is = c.loop_parts-parts.ensures in
     let p : RoundParts = record { statement = c.args.n; condition = c.in-Some.condition; body = parts.body } in
     subst (λ (d : Doing). WayFits u es es (way.Do d)) (sym c.behind_body.ensures)
-    (behind-fits u es parts.step p (is-round u c.args.n parts c.in-Some.condition c.requires.there is.value is.condition is.body c.in-Some.is) (ap (λ (l : Loop). l.step) is.value) is.step)
+    (behind-fits u es parts.step p (is-round u c.args.n parts c.in-Some.condition c.requires.there is.value is.condition is.body c.in-Some.ensures) (ap (λ (l : Loop). l.step) is.value) is.step)
 
 pub returns-in-Some-clause-quick : goal.returns-in-Some-clause-quick
 returns-in-Some-clause-quick c =

@@ -10,4 +10,4 @@ returns-in-Some-clause-led c = λ b k s le lt.
 pub returns-in-Some-clause-ways : goal.returns-in-Some-clause-ways
 returns-in-Some-clause-ways c =
     let is = c.loop_parts-parts.ensures in
-    (is-round c.args.unit.now c.args.n c.loop_parts-parts.result c.in-Some.condition c.requires.there is.value is.condition is.body c.in-Some.is, refl)
+    (is-round c.args.unit.now c.args.n c.loop_parts-parts.result c.in-Some.condition c.requires.there is.value is.condition is.body c.in-Some.ensures, refl)
