@@ -139,6 +139,7 @@ fn kept_value(alloc: Global, v: Found) -> Option<Kept>
 impl Moment {
     /// Evaluates a full expression at once, where it is plain but for a store at its root, where nothing stops it, and
     /// where its turns are within the bound. `None` where that is not so: then nothing has changed.
+    #[inline(always)]
     pub(crate) fn whole(
         &mut self,
         unit: &TypedUnit,
@@ -173,6 +174,7 @@ impl Moment {
 
     /// Takes a statement's turn, and evaluates its full expression at once, as `whole` does. `None` where that is not so: then
     /// no turn was taken, and nothing has changed.
+    #[inline(always)]
     pub(crate) fn whole_next(
         &mut self,
         unit: &TypedUnit,
