@@ -1,15 +1,18 @@
 -- Reads of integers that pass all their checks, and leave the world as it is.
-use Rattle.std.proofs.Common.{◌≡◌, ℕ, ◌+◌, ◌++◌, ◌-◌, ◌%◌, ◌≤◌, Bool, true, false, List, [], ◌∷◌, length, refl, sym, ap, ◌∙◌, arith, subst, Some, None}
+use Rattle.std.proofs.Common.{◌≡◌, ℕ, zero, suc, ◌+◌, ◌++◌, ◌-◌, ◌%◌, ◌≤◌, ◌≤ℤ◌, Bool, true, false, List, [], ◌∷◌, length, refl, sym, ap, ◌∙◌, arith, subst, Some, None}
 use Rattle.std.specs.Prelude.{ℤ, pos, not, is_some, ◌||◌, ◌&&◌, ◌==◌, nat_le, Option, IfSome, if◌then◌else◌, Result, Ok, Err}
 use Rattle.std.specs.List.{list_any}
 use Rattle.std.proofs.lemmas.Bool.{le-leb}
+use Rattle.std.proofs.lemmas.Bool.Decides.{nat_tests}
+use Rattle.std.proofs.lemmas.Int.{ints}
 use Rattle.std.proofs.lemmas.List.{drop_all}
 use Rattle.pv_num.specs.declared.kinds.IntKind.{IntKind}
+use Rattle.pv_num.specs.declared.kinds.IntKind.TheVariants.{Bool as BoolKind, Char}
 use Rattle.pv_fault.specs.declared.faults.Clause.TheVariants as clause
 use Rattle.pv_fault.specs.declared.faults.Clause.TheVariants.{EffectiveTypes, Sequencing}
 use Rattle.pv_fault.specs.declared.faults.Reason.TheVariants as reason
 use Rattle.pv_fault.specs.declared.faults.Reason.TheVariants.{WrongType, Unsequenced}
-use Rattle.pv_num.specs.Kinds.{convert_of}
+use Rattle.pv_num.specs.Kinds.{greatest, convert_of}
 use Rattle.pv_prov.specs.declared.names.Prov.TheVariants.{Inst}
 use Rattle.pv_prov.specs.Names.{alone}
 use Rattle.pv_inst.specs.declared.values.Info.{Info}
@@ -203,6 +206,13 @@ module _ (u : Stored) (w : World) (t : Ty) (k : IntKind) (p : Pointer) (at : Rea
       ∙ ap (λ c. if c then Fails (undefined Sequencing Unsequenced) (Some p.prov) w quiet else worth_in w bytes_there l.shape (Some at.address) (Some p.prov) quiet) (no_clash (access_to l p false) rs refl hr)
       ∙ ap (λ (s : Shape). worth_in w bytes_there s (Some at.address) (Some p.prov) quiet) form
       ∙ scalar_given w bytes_there k p m z is trap value all
+
+-- a member of a kind stays what it is
+pub member_stays : (k : IntKind) (n : ℕ) → pos n ≤ℤ greatest k → convert_of k (pos n) ≡ pos n
+member_stays BoolKind zero h = refl
+member_stays BoolKind (suc n) h = grind (arith, ints)
+member_stays Char n h = grind (arith, ints, nat_tests)
+member_stays _ n h = grind (arith, ints, nat_tests)
 
 pub read_some : (u : Stored) (w : World) (t : Ty) (k : IntKind) (p : Pointer) (spot : Reach) (size align m : ℕ) (z : ℤ) (r : Option Found) → shape_of t ≡ shape.Int k → fits_lvalue u t ≡ true
     → size ≡ (lvalue (setting_of u) t).size → align ≡ (lvalue (setting_of u) t).align → HasReached w.memory.table p size align false spot → permits (setting_of u) w (lvalue (setting_of u) t) spot false ≡ true

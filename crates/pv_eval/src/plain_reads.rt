@@ -1,5 +1,6 @@
 // Integers and pointers that plain expressions read (C17 6.3.2.1p2).
-ghost use Rattle.std.specs.Prelude.{◌≡◌, ◌≤◌, true, ◌&&◌, IfSome, is_some, [], Ok};
+ghost use Rattle.std.specs.Prelude.{◌≡◌, ◌≤◌, true, ◌&&◌, IfSome, is_some, [], Ok, pos};
+ghost use Rattle.pv_num.specs.Kinds.{greatest, convert_of};
 ghost use Rattle.pv_prov.specs.declared.names.Prov.TheVariants.{Inst};
 ghost use Rattle.pv_inst.specs.declared.values.Test.TheVariants.{Live};
 ghost use Rattle.pv_inst.specs.Use.{is_function, use_answer};
@@ -12,7 +13,7 @@ ghost use Rattle.pv_object.specs.Loading.{is_trap};
 ghost use Rattle.pv_typed.specs.Known.{AreKnown};
 ghost use Rattle.pv_typed.specs.TypedTree.{type_of};
 ghost use Rattle.pv_typed.specs.NodeTrees.{expression_at, IsExpression};
-ghost use Rattle.pv_world.specs.Worths.{pointer, pointer_of};
+ghost use Rattle.pv_world.specs.Worths.{int, pointer, pointer_of};
 ghost use Rattle.pv_world.specs.declared.got.Shape.{Shape as Form};
 ghost use Rattle.pv_eval.specs.TypeForms.{shape_of};
 ghost use Rattle.pv_eval.specs.Sizes.{IsComplete};
@@ -24,7 +25,7 @@ use crate::codes::IntegerPlace;
 use crate::dividing::is_multiple;
 use crate::permission::permits_own_access;
 use crate::plain::{Found, Spot};
-use crate::plain_numbers::integer;
+use crate::plain_numbers::{integer, natural};
 use crate::types::{AccessedType, accessed, accessed_integer};
 use pv_inst::{Kind, Tried};
 use pv_num::{IntKind, convert};
@@ -135,6 +136,33 @@ fn number_at(world: &World, at: &Reach, n: u64) -> Option<u64>
     world.memory().number(at, n)
 }
 
+/// The greatest member of the kind (C17 6.2.5p2, p5, p9).
+fn greatest(kind: IntKind) -> u64
+    ensures { pos result ≡ greatest kind }
+{
+    match kind {
+        IntKind::Bool => 1,
+        IntKind::Char | IntKind::SChar => 0x7f,
+        IntKind::UChar => 0xff,
+        IntKind::Short => 0x7fff,
+        IntKind::UShort => 0xffff,
+        IntKind::Int => 0x7fff_ffff,
+        IntKind::UInt => 0xffff_ffff,
+        IntKind::Long | IntKind::LLong => 0x7fff_ffff_ffff_ffff,
+        IntKind::ULong | IntKind::ULLong => 0xffff_ffff_ffff_ffff,
+    }
+}
+
+/// The value of this kind whose bits are this number (C17 6.2.6.2p2). Most are members of the kind, and no conversion changes them.
+fn valued(kind: IntKind, number: u64) -> Option<Found>
+    ensures { IfSome result (λ v. found_worth v ≡ int (convert_of kind (pos number))) }
+{
+    if number <= greatest(kind) {
+        return natural(number);
+    }
+    integer(convert(kind, i128::from(number)))
+}
+
 /// Whether each instance that became exposed was told of.
 fn is_told(world: &World) -> bool
     ensures { result ≡ true → world.now.memory.table.pending ≡ [] }
@@ -177,7 +205,7 @@ pub(crate) fn load(
     if traps(kind, number) {
         return None;
     }
-    integer(convert(kind, i128::from(number)))
+    valued(kind, number)
 }
 
 /// Whether an instance is live.
