@@ -1,10 +1,13 @@
 -- Operations on integers that give a value, tell nothing and leave the world as it is.
-use Rattle.std.proofs.Common.{◌≡◌, ℕ, ◌++◌, Bool, true, false, List, [], refl, sym, ap, ◌∙◌, arith, subst, Some, None, append-nil}
+use Rattle.std.proofs.Common.{◌≡◌, ℕ, zero, suc, ◌++◌, Bool, true, false, List, [], refl, sym, ap, ◌∙◌, arith, subst, Some, None, append-nil}
 use Rattle.std.proofs.lemmas.Bool.{le-ltb}
-use Rattle.std.specs.Prelude.{ℤ, pos, ◌&&◌, Option, IfSome, nat_lt, slice_get, if◌then◌else◌, Ok}
+use Rattle.std.proofs.lemmas.Bool.Decides.{nat_tests}
+use Rattle.std.proofs.lemmas.Int.{ints}
+use Rattle.std.specs.Prelude.{ℤ, pos, negsuc, ◌&&◌, Option, IfSome, nat_lt, slice_get, if◌then◌else◌, Ok}
 use Rattle.pv_num.specs.declared.kinds.IntKind.{IntKind}
+use Rattle.pv_num.specs.declared.kinds.IntKind.TheVariants.{Bool as BoolKind, Char}
 use Rattle.pv_num.specs.declared.operators.BinOp.{BinOp}
-use Rattle.pv_num.specs.Kinds.{fits_of, convert_of, is_character_kind}
+use Rattle.pv_num.specs.Kinds.{Fits, fits_of, convert_of, is_character_kind}
 use Rattle.pv_num.specs.declared.operators.UnOp.{UnOp}
 use Rattle.pv_num.specs.Arithmetic.{binary_of, unary_of}
 use Rattle.pv_tree.specs.declared.nodes.NodeId.{NodeId}
@@ -77,6 +80,14 @@ calculated_some op k x y z (Some q) e f g h i = λ b w.
     ap (λ c. if c then calculates op k (int x) (int y) w else Fails missing_value None w quiet) (both_of (is_promoted k && fits_of k x) (is_operand op k y) (both_of (is_promoted k) (fits_of k x) e f) g)
     ∙ ap (computed w) h
     ∙ ap (λ (n : ℤ). Answers (int n) w quiet) (sym i)
+
+-- no conversion changes a member of the kind
+pub member_kept : (k : IntKind) (z : ℤ) → Fits k z → convert_of k z ≡ z
+member_kept BoolKind (pos zero) h = refl
+member_kept BoolKind (pos (suc n)) h = grind (arith, ints)
+member_kept BoolKind (negsuc n) h = grind (arith, ints)
+member_kept Char z h = grind (arith, ints, nat_tests)
+member_kept _ z h = grind (arith, ints, nat_tests)
 
 -- a conversion between integer types
 module _ (x : ℤ) (small : is_small (int x) ≡ true) (b : Setting) (w : World) where

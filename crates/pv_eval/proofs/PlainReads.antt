@@ -1,9 +1,8 @@
 -- Reads of integers that pass all their checks, and leave the world as it is.
-use Rattle.std.proofs.Common.{◌≡◌, ℕ, zero, suc, ◌+◌, ◌++◌, ◌-◌, ◌%◌, ◌≤◌, ◌≤ℤ◌, Bool, true, false, List, [], ◌∷◌, length, refl, sym, ap, ◌∙◌, arith, subst, Some, None}
+use Rattle.std.proofs.Common.{◌≡◌, ℕ, ◌+◌, ◌++◌, ◌-◌, ◌%◌, ◌≤◌, ◌≤ℤ◌, Bool, true, false, List, [], ◌∷◌, length, refl, sym, ap, ◌∙◌, arith, subst, Some, None}
 use Rattle.std.specs.Prelude.{ℤ, pos, not, is_some, ◌||◌, ◌&&◌, ◌==◌, nat_le, Option, IfSome, if◌then◌else◌, Result, Ok, Err}
 use Rattle.std.specs.List.{list_any}
 use Rattle.std.proofs.lemmas.Bool.{le-leb}
-use Rattle.std.proofs.lemmas.Bool.Decides.{nat_tests}
 use Rattle.std.proofs.lemmas.Int.{ints}
 use Rattle.std.proofs.lemmas.List.{drop_all}
 use Rattle.pv_num.specs.declared.kinds.IntKind.{IntKind}
@@ -12,7 +11,7 @@ use Rattle.pv_fault.specs.declared.faults.Clause.TheVariants as clause
 use Rattle.pv_fault.specs.declared.faults.Clause.TheVariants.{EffectiveTypes, Sequencing}
 use Rattle.pv_fault.specs.declared.faults.Reason.TheVariants as reason
 use Rattle.pv_fault.specs.declared.faults.Reason.TheVariants.{WrongType, Unsequenced}
-use Rattle.pv_num.specs.Kinds.{greatest, convert_of}
+use Rattle.pv_num.specs.Kinds.{least, greatest, convert_of}
 use Rattle.pv_prov.specs.declared.names.Prov.TheVariants.{Inst}
 use Rattle.pv_prov.specs.Names.{alone}
 use Rattle.pv_inst.specs.declared.values.Info.{Info}
@@ -64,7 +63,7 @@ use Rattle.pv_inst.proofs.Rows.{row_found}
 use Rattle.pv_eval.proofs.Guards.{both_of}
 use Rattle.pv_eval.proofs.Through.{fits_lvalue, right_false}
 use Rattle.pv_eval.proofs.PlainSteps.{reads_both}
-use Rattle.pv_eval.proofs.PlainNumbers.{act_gives}
+use Rattle.pv_eval.proofs.PlainNumbers.{act_gives, member_kept}
 
 -- what is told of a live instance
 abbrev pub told : Instance → Info
@@ -207,12 +206,14 @@ module _ (u : Stored) (w : World) (t : Ty) (k : IntKind) (p : Pointer) (at : Rea
       ∙ ap (λ (s : Shape). worth_in w bytes_there s (Some at.address) (Some p.prov) quiet) form
       ∙ scalar_given w bytes_there k p m z is trap value all
 
--- a member of a kind stays what it is
+-- a number that is no greater than the members of a kind is one
+least_below : (k : IntKind) (n : ℕ) → least k ≤ℤ pos n
+least_below BoolKind n = grind (arith, ints)
+least_below Char n = grind (arith, ints)
+least_below _ n = grind (arith, ints)
+
 pub member_stays : (k : IntKind) (n : ℕ) → pos n ≤ℤ greatest k → convert_of k (pos n) ≡ pos n
-member_stays BoolKind zero h = refl
-member_stays BoolKind (suc n) h = grind (arith, ints)
-member_stays Char n h = grind (arith, ints, nat_tests)
-member_stays _ n h = grind (arith, ints, nat_tests)
+member_stays k n h = member_kept k (pos n) (least_below k n, h)
 
 pub read_some : (u : Stored) (w : World) (t : Ty) (k : IntKind) (p : Pointer) (spot : Reach) (size align m : ℕ) (z : ℤ) (r : Option Found) → shape_of t ≡ shape.Int k → fits_lvalue u t ≡ true
     → size ≡ (lvalue (setting_of u) t).size → align ≡ (lvalue (setting_of u) t).align → HasReached w.memory.table p size align false spot → permits (setting_of u) w (lvalue (setting_of u) t) spot false ≡ true

@@ -21,7 +21,7 @@ use crate::plain_reads::{load, load_pointer};
 use crate::plan::Plan;
 use crate::types::{accessed_integer, accessed_pointer};
 use crate::values::minus;
-use pv_num::{BinOp, IntKind, convert};
+use pv_num::{BinOp, IntKind, convert, fits};
 use pv_seq::Access;
 use pv_tree::NodeId;
 use pv_typed::TypedUnit;
@@ -106,7 +106,7 @@ fn read_pointer(
     noted(v, p.address, x.l.size, noting, notes)
 }
 
-/// A number that was found, converted from an integer type to this kind (C17 6.3.1.2, 6.3.1.3).
+/// A number that was found, converted from an integer type to this kind (C17 6.3.1.2, 6.3.1.3). Most are members of the kind.
 fn rounded_number(kind: IntKind, v: Found) -> Option<Found>
     ensures { IfSome result (λ z. RoundsTo kind (found_worth v) (found_worth z)) }
 {
@@ -114,7 +114,11 @@ fn rounded_number(kind: IntKind, v: Found) -> Option<Found>
     if !is_small(x) {
         return None;
     }
-    integer(convert(kind, i128::from(x)))
+    let n = i128::from(x);
+    if fits(kind, n) {
+        return Some(v);
+    }
+    integer(convert(kind, n))
 }
 
 /// What an operand gave, converted as is known of it.

@@ -186,7 +186,7 @@ pub(crate) fn operated(op: BinOp, kind: IntKind, v: Found, w: Found) -> Option<F
     }
 }
 
-/// A number that was found, converted to a kind (C17 6.3.1.2, 6.3.1.3).
+/// A number that was found, converted to a kind (C17 6.3.1.2, 6.3.1.3). Most are members of the kind.
 pub(crate) fn kept(kind: IntKind, v: Found) -> Option<Found>
     ensures { IfSome result (λ z. AlwaysGives (λ b. Converts (Rounds kind) (found_worth v)) (found_worth z)) }
 {
@@ -194,5 +194,9 @@ pub(crate) fn kept(kind: IntKind, v: Found) -> Option<Found>
     if !is_small(x) {
         return None;
     }
-    integer(convert(kind, i128::from(x)))
+    let n = i128::from(x);
+    if fits(kind, n) {
+        return Some(v);
+    }
+    integer(convert(kind, n))
 }
