@@ -3,13 +3,14 @@ use Rattle.std.proofs.Common.{◌≡◌, ℕ, zero, suc, ◌++◌, Bool, true, f
 use Rattle.std.proofs.lemmas.Bool.{le-ltb}
 use Rattle.std.proofs.lemmas.Bool.Decides.{nat_tests}
 use Rattle.std.proofs.lemmas.Int.{ints}
-use Rattle.std.specs.Prelude.{ℤ, pos, negsuc, ◌&&◌, Option, IfSome, nat_lt, slice_get, if◌then◌else◌, Ok}
+use Rattle.std.specs.Prelude.{ℤ, pos, negsuc, ◌&&◌, Option, IfSome, nat_lt, slice_get, if◌then◌else◌, SomeIff, Ok, Err}
 use Rattle.pv_num.specs.declared.kinds.IntKind.{IntKind}
 use Rattle.pv_num.specs.declared.kinds.IntKind.TheVariants.{Bool as BoolKind, Char}
 use Rattle.pv_num.specs.declared.operators.BinOp.{BinOp}
-use Rattle.pv_num.specs.Kinds.{Fits, fits_of, convert_of, is_character_kind}
+use Rattle.pv_num.specs.Kinds.{Fits, fits_of, bits_of, is_signed, convert_of, is_character_kind}
+use Rattle.pv_num.specs.declared.operators.ArithmeticFault.TheVariants.{Overflow}
 use Rattle.pv_num.specs.declared.operators.UnOp.{UnOp}
-use Rattle.pv_num.specs.Arithmetic.{binary_of, unary_of}
+use Rattle.pv_num.specs.Arithmetic.{exact_of, binary_of, unary_of}
 use Rattle.pv_tree.specs.declared.nodes.NodeId.{NodeId}
 use Rattle.pv_types.specs.Ty.{Ty}
 use Rattle.pv_typed.specs.declared.nodes.Typed.{Typed}
@@ -71,6 +72,16 @@ pub operated_some : (op : BinOp) (k : IntKind) (v w : Found) (x y left right : �
     → AlwaysGives (λ b. Calculates op k (found_worth v) (found_worth w)) z
 operated_some op k v w x y left right z ev ew e f h =
     subst (λ q. AlwaysGives (λ b. Calculates op k q (found_worth w)) z) (sym ev) (subst (λ q. AlwaysGives (λ b. Calculates op k (int left) q) z) (sym ew) (calculates_same op k x y left right z e f h))
+
+-- an exact number is what an operator gives of two numbers, if it is a member of a kind that has a sign
+pub joined_some : (op o : BinOp) (x y n : ℤ) (r : Option ℤ) (P : Type 0) → op ≡ o → ((k : IntKind) → binary_of o k x y ≡ exact_of k n) → SomeIff r P n → IfSome r (λ z. (k : IntKind) → binary_of op k x y ≡ exact_of k z)
+joined_some op o x y n None P is e h = tt
+joined_some op o x y n (Some z) P is e h = λ k. ap (λ q. binary_of q k x y) is ∙ e k ∙ ap (exact_of k) (sym h.1)
+
+pub exactly_member : (k : IntKind) (n : ℤ) → is_signed k ≡ true → fits_of k n ≡ true → exact_of k n ≡ Ok n
+exactly_member k n signed fits =
+    ap (λ (b : Bool). if b then (if fits_of k n then Ok n else Err Overflow) else Ok (pos (bits_of k n))) signed
+    ∙ ap (λ (b : Bool). if b then Ok n else Err Overflow) fits
 
 -- what is calculated of two operands that fit
 pub calculated_some : (op : BinOp) (k : IntKind) (x y z : ℤ) (r : Option ℤ) → is_promoted k ≡ true → fits_of k x ≡ true → is_operand op k y ≡ true → binary_of op k x y ≡ Ok z → IfSome r (λ q. q ≡ z)

@@ -1,5 +1,7 @@
 // Integers of plain expressions (C17 6.3, 6.5.3.3, 6.5.5 to 6.5.12), where they are numbers of 64 bits with a sign.
-ghost use Rattle.std.specs.Prelude.{◌≡◌, pos, Bool, IfSome};
+ghost use Rattle.std.specs.Prelude.{◌≡◌, pos, Bool, true, IsTrue, IfSome, Ok};
+ghost use Rattle.pv_num.specs.Kinds.{is_signed};
+ghost use Rattle.pv_num.specs.Arithmetic.{binary_of, exact_of};
 ghost use Rattle.pv_types.specs.Ty.{Ty};
 ghost use Rattle.pv_types.specs.Known.{tree};
 ghost use Rattle.pv_typed.specs.declared.nodes.Typed.{Typed as Row};
@@ -101,6 +103,44 @@ pub(crate) fn converted(unit: &TypedUnit, a: NodeId, v: Found) -> Option<i64>
     }
 }
 
+/// The exact sum, difference or product of two numbers (C17 6.5.5, 6.5.6), where it has 64 bits with a sign.
+fn exact(op: BinOp, x: i64, y: i64) -> Option<i64>
+    ensures { IfSome result (λ z. (k : IntKind) → binary_of op k x y ≡ exact_of k z) }
+{
+    match op {
+        BinOp::Add => x.checked_add(y),
+        BinOp::Sub => x.checked_sub(y),
+        BinOp::Mul => x.checked_mul(y),
+        _ => None,
+    }
+}
+
+/// Whether the kind is `int` or `long`, in which most operators work, and which have a sign (C17 6.2.5p4).
+fn is_int_or_long(kind: IntKind) -> bool
+    ensures { IsTrue result → is_signed kind ≡ true }
+{
+    match kind {
+        IntKind::Int => true,
+        IntKind::Long => true,
+        _ => false,
+    }
+}
+
+/// The sum, the difference or the product of two numbers, where it is a member of the kind (C17 6.5p5).
+fn joined(op: BinOp, kind: IntKind, x: i64, y: i64) -> Option<i64>
+    ensures { IfSome result (λ z. binary_of op kind x y ≡ Ok z) }
+{
+    if !is_int_or_long(kind) {
+        return None;
+    }
+    let z = exact(op, x, y)?;
+    let wide = i128::from(z);
+    if !fits(kind, wide) {
+        return None;
+    }
+    Some(z)
+}
+
 /// An operator on two integers.
 fn calculated(op: BinOp, kind: IntKind, x: i64, y: i64) -> Option<i64>
     ensures { IfSome result (λ z. AlwaysGives (λ b. Calculates op kind (int x) (int y)) (int z)) }
@@ -115,6 +155,9 @@ fn calculated(op: BinOp, kind: IntKind, x: i64, y: i64) -> Option<i64>
     }
     if !is_operand(op, kind, right) {
         return None;
+    }
+    if let Some(z) = joined(op, kind, x, y) {
+        return Some(z);
     }
     match binary(op, kind, left, right) {
         Ok(z) => small(z),
