@@ -1,4 +1,4 @@
-pub mod Bits
+pub mod Bitwise
 pub mod Congruence
 pub mod Members
 pub mod Products

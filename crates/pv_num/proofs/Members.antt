@@ -14,7 +14,7 @@ use Rattle.pv_num.specs.declared.operators.BinOp.{BinOp}
 use Rattle.pv_num.specs.declared.operators.BinOp.TheVariants.{Add, Sub, Mul, Div, Rem, Shl, Shr, And, Or, Xor, Lt, Gt, Le, Ge, Eq, Ne}
 use Rattle.pv_num.specs.declared.operators.UnOp.{UnOp}
 use Rattle.pv_num.specs.declared.operators.UnOp.TheVariants.{Plus, Minus, Flip}
-use Rattle.pv_num.proofs.Bits.{and_fits, or_fits, xor_fits}
+use Rattle.pv_num.proofs.Bitwise.{and_fits, or_fits, xor_fits}
 use Rattle.pv_num.specs.Arithmetic.{IsPromoted, is_zero, is_count, times_power, one_if, yielded_kind, exact_of, quotient_of, remainder_of, bitwise_of, shift_left_of, shift_right_of, binary_of, unary_of}
 
 fits_tested : (k : IntKind) (n : ℤ) → fits_of k n ≡ true → Fits k n

@@ -385,21 +385,21 @@ fn shift_right(kind: IntKind, a: i128, b: i128) -> Result<i128, ArithmeticFault>
     Ok(halved(a, b))
 }
 
-#[tactic(auto, using(crate::proofs::Bits::and_fits))]
+#[tactic(auto, using(crate::proofs::Bitwise::and_fits))]
 fn and(kind: IntKind, a: i128, b: i128) -> i128
     ensures { result ≡ bitwise_of bit_and kind a b }
 {
     from_bits(kind, bits(kind, a) & bits(kind, b))
 }
 
-#[tactic(auto, using(crate::proofs::Bits::or_fits))]
+#[tactic(auto, using(crate::proofs::Bitwise::or_fits))]
 fn or(kind: IntKind, a: i128, b: i128) -> i128
     ensures { result ≡ bitwise_of bit_or kind a b }
 {
     from_bits(kind, bits(kind, a) | bits(kind, b))
 }
 
-#[tactic(auto, using(crate::proofs::Bits::xor_fits))]
+#[tactic(auto, using(crate::proofs::Bitwise::xor_fits))]
 fn exclusive_or(kind: IntKind, a: i128, b: i128) -> i128
     ensures { result ≡ bitwise_of bit_xor kind a b }
 {
