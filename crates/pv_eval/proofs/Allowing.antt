@@ -82,7 +82,7 @@ pub pointer_bare : (m : Known) (w : ℕ) (t : Ty) → tree m w ≡ PointerTo t �
 pointer_bare m w t form = ap bare form ∙ sym form
 
 -- a type is compatible with itself
-compatible-self : (t : Ty) → are_compatible t t ≡ true
+pub compatible-self : (t : Ty) → are_compatible t t ≡ true
 unfolding are_compatible
 compatible-self t = search alike_self
 
@@ -100,7 +100,7 @@ whole_pointer u o offset w t zero same form =
     (subst (λ (s : Ty). P s 0 s) (sym form) (own-pointer b t)))
 
 -- an element of an array of integers, at that type
-agrees-itself : (k : IntKind) → agrees (IntTy k) (IntTy k) ≡ true
+pub agrees-itself : (k : IntKind) → agrees (IntTy k) (IntTy k) ≡ true
 unfolding are_compatible
 agrees-itself kind.Bool = refl
 agrees-itself kind.Char = refl
@@ -115,11 +115,11 @@ agrees-itself kind.ULong = refl
 agrees-itself kind.LLong = refl
 agrees-itself kind.ULLong = refl
 
-no-whole : (h g : Bool) → ((h && false) || g) ≡ g
+pub no-whole : (h g : Bool) → ((h && false) || g) ≡ g
 no-whole true g = refl
 no-whole false g = refl
 
-true-or : (c x : Bool) → x ≡ true → (if c then true else x) ≡ true
+pub true-or : (c x : Bool) → x ≡ true → (if c then true else x) ≡ true
 true-or true x e = refl
 true-or false x e = e
 

@@ -14,6 +14,7 @@ pub mod Guards
 pub mod Chosen
 pub mod Settings
 pub mod Allowing
+pub mod MemberPlaces
 pub mod OwnMarks
 pub mod Rivals
 pub mod Through

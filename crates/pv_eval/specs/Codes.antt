@@ -1,5 +1,5 @@
 -- A bridge: what is known of the nodes of a unit before a run (C17 6.5), and that it is so.
-use Rattle.std.specs.Prelude.{◌≡◌, ◌<◌, ◌≤◌, ◌^◌, ℕ, ℤ, Bool, true, List, Option, None, Some, IfSome, length, slice_index_or}
+use Rattle.std.specs.Prelude.{◌≡◌, ◌<◌, ◌≤◌, ◌^◌, ℕ, ℤ, Bool, true, List, Option, None, Some, length, slice_index_or}
 use Rattle.pv_num.specs.declared.kinds.IntKind.{IntKind}
 use Rattle.pv_num.specs.declared.operators.BinOp.{BinOp}
 use Rattle.pv_num.specs.Kinds.{convert_of}
@@ -32,6 +32,7 @@ use Rattle.pv_eval.specs.declared.plain.Found.{Found}
 use Rattle.pv_eval.specs.Operations.{Calculates, Selects}
 use Rattle.pv_eval.specs.Ahead.{first_operand_of}
 use Rattle.pv_eval.specs.Plainly.{YieldsNoting, AlwaysGives, GivesAt, GivesWith, IsConverted, IsOwnType, form_by, found_worth}
+use Rattle.pv_eval.specs.Designated.{IsDesignated}
 
 -- 6.3.1.3: a conversion between integer types, to this kind
 pub record IsRounded (from to : Ty) (k : IntKind) : Type 0 where
@@ -121,7 +122,7 @@ pub record IsIntegerPlace (u : Stored) (p : IntegerPlace) : Type 0 where
   pub known : p.t.0 < length u.known.terms
   pub same : tree u.known p.t.0 ≡ type_of (expression_at u p.node)
   pub integer : tree u.known p.t.0 ≡ IntTy p.kind
-  pub own : IfSome p.own (λ o. IsOwnType u o p.t)
+  pub own : IsDesignated u p.own p.t
 
 -- 6.3.2.1p1: the same of a place of a pointer type without qualifiers
 pub record IsPointerPlace (u : Stored) (p : PointerPlace) : Type 0 where
@@ -129,7 +130,7 @@ pub record IsPointerPlace (u : Stored) (p : PointerPlace) : Type 0 where
   pub known : p.t.0 < length u.known.terms
   pub same : tree u.known p.t.0 ≡ type_of (expression_at u p.node)
   pub pointer : points (tree u.known p.t.0) ≡ true
-  pub own : IfSome p.own (λ o. IsOwnType u o p.t)
+  pub own : IsDesignated u p.own p.t
 
 -- 6.5.16.1p2: what is known of a node that assigns to such a place what needs no conversion
 pub record IsPointerAssignmentOf (u : Stored) (n : NodeId) (p : PointerPlace) (d : NodeId) : Type 0 where
@@ -168,10 +169,10 @@ IsCode u n (code.Number k) = form_of (expression_at u n) ≡ form_by u (typed.Co
 IsCode u n (code.Object o lasting) = IsObjectOf u n o lasting
 IsCode u n (code.Same a) = IsSameAs u n a
 IsCode u n (code.Part a offset) = IsPartOf u n a offset
-IsCode u n (code.Integer a t k) = IsReadOf u n a t × (tree u.known t.0 ≡ IntTy k)
+IsCode u n (code.Integer a t k own) = IsReadOf u n a t × (tree u.known t.0 ≡ IntTy k) × IsDesignated u own t
 IsCode u n (code.OwnInteger a t k o lasting) = IsReadOf u n a t × (tree u.known t.0 ≡ IntTy k) × IsOwnType u o t × IsObjectOf u a o lasting
 IsCode u n (code.OwnPointer a t o lasting) = IsReadOf u n a t × (points (tree u.known t.0) ≡ true) × IsOwnType u o t × IsObjectOf u a o lasting
-IsCode u n (code.Pointer a t) = IsReadOf u n a t × (points (tree u.known t.0) ≡ true)
+IsCode u n (code.Pointer a t own) = IsReadOf u n a t × (points (tree u.known t.0) ≡ true) × IsDesignated u own t
 IsCode u n (code.Arithmetic op k left right) = IsArithmetic u n op k left right
 IsCode u n (code.Element a d size) = IsElementOf u n a d size
 IsCode u n (code.Sum sign a d size) = IsSumOf u n sign a d size

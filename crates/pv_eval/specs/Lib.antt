@@ -39,4 +39,5 @@ pub mod Machines
 pub mod MachineSteps
 pub mod Progress
 pub mod Plainly
+pub mod Designated
 pub mod AtOnce

@@ -1,6 +1,7 @@
 // What is known of an expression's node before a run, so that nothing of its types is looked up when it is evaluated.
-ghost use Rattle.std.specs.Prelude.{◌≡◌, ◌<◌, IfSome, IsTrue, length};
+ghost use Rattle.std.specs.Prelude.{◌≡◌, ◌<◌, true, IfSome, IsTrue, length};
 ghost use Rattle.pv_types.specs.Known.{tree};
+ghost use Rattle.pv_types.specs.Sorts.{is_scalar_in};
 ghost use Rattle.pv_typed.specs.declared.nodes.Typed.{Typed as Row};
 ghost use Rattle.pv_typed.specs.Formed.{NamesIn};
 ghost use Rattle.pv_typed.specs.Known.{AreKnown};
@@ -10,8 +11,10 @@ ghost use Rattle.pv_typed.specs.TypedUnits.{object_at};
 ghost use Rattle.pv_typed.specs.Tables.{whole};
 ghost use Rattle.pv_typed.specs.NodeTrees.{expression_at, IsExpression};
 ghost use Rattle.pv_eval.specs.Plainly.{form_by};
+ghost use Rattle.pv_eval.specs.Designated.{IsDesignated};
 ghost use Rattle.pv_eval.specs.Codes.{IsCode, IsIntegerPlace, IsPointerPlace, IsGivenBy, IsObjectOf, IsOperandCode, IsRounded};
 
+use crate::members::{Designated, in_structure};
 use crate::plain_places::pointed_size;
 use crate::types::{is_none, kind, pointee, shape};
 use pv_num::{BinOp, IntKind};
@@ -28,14 +31,14 @@ pub(crate) struct Operand {
     pub(crate) to: Option<IntKind>,
 }
 
-/// A place of an integer type without qualifiers: the node that designates it, the type and its kind, and the object that the node
-/// designates, where that was declared with this type (C17 6.3.2.1p1).
+/// A place of an integer type without qualifiers: the node that designates it, the type and its kind, and what is known of what the
+/// node designates (C17 6.3.2.1p1).
 #[derive(Clone, Copy)]
 pub(crate) struct IntegerPlace {
     pub(crate) node: NodeId,
     pub(crate) t: TypeId,
     pub(crate) kind: IntKind,
-    pub(crate) own: Option<u32>,
+    pub(crate) own: Designated,
 }
 
 /// A place of a pointer type without qualifiers: as `IntegerPlace`.
@@ -43,7 +46,7 @@ pub(crate) struct IntegerPlace {
 pub(crate) struct PointerPlace {
     pub(crate) node: NodeId,
     pub(crate) t: TypeId,
-    pub(crate) own: Option<u32>,
+    pub(crate) own: Designated,
 }
 
 /// What is known of an expression's node.
@@ -60,12 +63,12 @@ pub(crate) enum Code {
     Same(NodeId),
     /// The member that begins so many bytes from the operand's place (6.5.2.3p3, p4).
     Part(NodeId, u64),
-    /// The integer of this type and kind at the operand's place (6.3.2.1p2).
-    Integer(NodeId, TypeId, IntKind),
+    /// The integer of this type and kind at the operand's place, with what is known of what the operand designates (6.3.2.1p2).
+    Integer(NodeId, TypeId, IntKind, Designated),
     /// The same where the operand is the object of this number, which was declared with this type, with whether its storage is static.
     OwnInteger(NodeId, TypeId, IntKind, u32, bool),
-    /// The pointer of this type at the operand's place (6.3.2.1p2).
-    Pointer(NodeId, TypeId),
+    /// The pointer of this type at the operand's place, with what is known of what the operand designates (6.3.2.1p2).
+    Pointer(NodeId, TypeId, Designated),
     /// The same where the operand is the object of this number, which was declared with this type, with whether its storage is static.
     OwnPointer(NodeId, TypeId, u32, bool),
     /// An operator on two integers, which works in the kind (6.5.5 to 6.5.12).
@@ -119,14 +122,15 @@ fn read_code(unit: &TypedUnit, n: NodeId, a: NodeId) -> Code
     ensures { IsCode unit.now n result }
 {
     let t = unit.type_of(a);
+    let own = in_structure(unit, a, t);
     match unit.types().view(t) {
         Term::Int(kind) => match named_object(unit, a, t) {
             Some((o, lasting)) => Code::OwnInteger(a, t, kind, o, lasting),
-            None => Code::Integer(a, t, kind),
+            None => Code::Integer(a, t, kind, own),
         },
         Term::Pointer(_) => match named_object(unit, a, t) {
             Some((o, lasting)) => Code::OwnPointer(a, t, o, lasting),
-            None => Code::Pointer(a, t),
+            None => Code::Pointer(a, t, own),
         },
         _ => Code::Unknown,
     }
@@ -228,6 +232,18 @@ fn own_object(unit: &TypedUnit, a: NodeId, t: TypeId) -> Option<u32>
     Some(o)
 }
 
+/// What is known of what a node of this scalar type designates.
+fn designated(unit: &TypedUnit, a: NodeId, t: TypeId) -> Designated
+    requires there { IsExpression unit.now a }
+    requires scalar { is_scalar_in (tree unit.now.known t.0) ≡ true }
+    ensures { IsDesignated unit.now result t }
+{
+    match own_object(unit, a, t) {
+        Some(o) => Designated::Object(o),
+        None => in_structure(unit, a, t),
+    }
+}
+
 /// The place of an integer type without qualifiers that a node designates.
 fn integer_place(unit: &TypedUnit, a: NodeId) -> Option<IntegerPlace>
     requires known { AreKnown unit.now }
@@ -239,7 +255,7 @@ fn integer_place(unit: &TypedUnit, a: NodeId) -> Option<IntegerPlace>
     let Term::Int(kind) = unit.types().view(t) else {
         return None;
     };
-    let own = own_object(unit, a, t);
+    let own = designated(unit, a, t);
     Some(IntegerPlace {
         node: a,
         t,
@@ -259,7 +275,7 @@ fn pointer_place(unit: &TypedUnit, a: NodeId) -> Option<PointerPlace>
     let Term::Pointer(_) = unit.types().view(t) else {
         return None;
     };
-    let own = own_object(unit, a, t);
+    let own = designated(unit, a, t);
     Some(PointerPlace { node: a, t, own })
 }
 

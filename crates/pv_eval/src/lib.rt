@@ -22,6 +22,7 @@ mod library;
 mod lifetimes;
 mod machine;
 mod marked;
+mod members;
 mod moment;
 mod objects;
 mod operands;

@@ -1,5 +1,5 @@
 // Which accesses the effective type of an object permits (C17 6.5p6, 6.5p7).
-ghost use Rattle.std.specs.Prelude.{◌≡◌, ◌≤◌, ◌<◌, ◌^◌, true, length, IsTrue, IfOk, IfSome, map};
+ghost use Rattle.std.specs.Prelude.{◌≡◌, ◌≤◌, ◌<◌, ◌^◌, Bool, true, Some, length, IsTrue, IfOk, IfSome, map};
 ghost use Rattle.std.specs.Option.{option_map};
 ghost use Rattle.pv_types.specs.Known.{tree, env};
 ghost use Rattle.pv_types.specs.Formed.{IsBuilt};
@@ -16,9 +16,11 @@ ghost use Rattle.pv_eval.specs.TypeForms.{lvalue};
 ghost use Rattle.pv_eval.specs.Sizes.{setting_of, size_in, IsComplete};
 ghost use Rattle.pv_eval.specs.Permission.{permits_object, type_by, permits_in, permits};
 ghost use Rattle.pv_eval.specs.PermissionParts.{marks_of};
-ghost use Rattle.pv_eval.specs.Plainly.{IsObject, IsOwnType, is_declared};
+ghost use Rattle.pv_eval.specs.Plainly.{IsObject, is_declared};
+ghost use Rattle.pv_eval.specs.Designated.{StandsAt, StandsInElement, IsMemberPlace, IsDesignated};
 
 use crate::dividing::{is_multiple, quotient};
+use crate::members::{Designated, MemberPlace};
 use crate::types::{Complete, bytes_of, is_character, layer, measured_by_layers};
 use pv_effect::{permits_declared, permits_marks};
 use pv_inst::Kind;
@@ -297,29 +299,127 @@ fn is_object(world: &World, o: u32, at: &Reach, kind: Kind) -> bool
     at.offset == 0
 }
 
-/// Whether an access through an lvalue of the type is permitted, as `permits_in` tells it, where the object may be known that the lvalue
-/// designates, with this type: then no type is looked up.
+/// Whether such a scalar of the member begins at the offset in the structure.
+fn stands_at(p: MemberPlace, offset: u64, width: u64) -> bool
+    requires { 1 ≤ width }
+    ensures { IsTrue result → StandsAt p offset width }
+{
+    let start = p.start as u64;
+    if offset < start {
+        return false;
+    }
+    let past = offset - start;
+    let length = p.length as u64;
+    if past >= length {
+        return false;
+    }
+    is_multiple(past, width)
+}
+
+/// The same of an array of so many of the structures. Larger ones are left to the search for a part.
+fn stands_in_element(p: MemberPlace, n: u64, offset: u64, width: u64) -> bool
+    requires some { 1 ≤ width }
+    requires size { 1 ≤ p.size }
+    ensures { IsTrue result → StandsInElement p n offset width }
+{
+    let size = p.size as u64;
+    if n > 0x10_0000 {
+        return false;
+    }
+    if size > 0x1000 {
+        return false;
+    }
+    if offset / size >= n {
+        return false;
+    }
+    stands_at(p, offset % size, width)
+}
+
+/// Whether an object is the structure of a member or an array of such structures, and has such a scalar of the member at the offset.
+fn is_in_object(unit: &TypedUnit, o: u32, p: MemberPlace, offset: u64, l: Complete) -> bool
+    requires complete { IsComplete unit.now.known l }
+    requires place { IsMemberPlace unit.now.known p l.t }
+    ensures { IsTrue result → permits_object (setting_of unit.now) (type_by (setting_of unit.now) (Some o)) offset (tree unit.now.known l.t.0) ≡ true }
+{
+    if o >= unit.objects() {
+        return false;
+    }
+    let whole = unit.object(o).t;
+    if whole.0 == p.whole.0 {
+        return stands_at(p, offset, l.size);
+    }
+    let Term::Array(element, Some(n)) = layer(unit.types(), whole) else {
+        return false;
+    };
+    if element.0 != p.whole.0 {
+        return false;
+    }
+    stands_in_element(p, n, offset, l.size)
+}
+
+/// Whether what was reached is such a scalar of a member, in an object that is known to have it there.
+fn is_at_member(
+    unit: &TypedUnit,
+    world: &World,
+    p: MemberPlace,
+    at: &Reach,
+    kind: Kind,
+    l: Complete,
+) -> bool
+    requires complete { IsComplete unit.now.known l }
+    requires place { IsMemberPlace unit.now.known p l.t }
+    ensures { (write : Bool) → IsTrue result → permits_in (setting_of unit.now) world.now (lvalue (setting_of unit.now) (tree unit.now.known l.t.0)) at.now write kind ≡ true }
+{
+    if !is_declared(kind) {
+        return false;
+    }
+    let Some(o) = world.owner(at.inst) else {
+        return false;
+    };
+    is_in_object(unit, o, p, at.offset, l)
+}
+
+/// Whether what was reached is what the lvalue is known to designate: then an access through it is permitted.
+#[inline(always)]
+fn is_designated(
+    unit: &TypedUnit,
+    world: &World,
+    own: Designated,
+    at: &Reach,
+    kind: Kind,
+    l: Complete,
+) -> bool
+    requires own { IsDesignated unit.now own l.t }
+    requires complete { IsComplete unit.now.known l }
+    ensures { (write : Bool) → IsTrue result → permits_in (setting_of unit.now) world.now (lvalue (setting_of unit.now) (tree unit.now.known l.t.0)) at.now write kind ≡ true }
+{
+    match own {
+        Designated::Unknown => false,
+        Designated::Object(o) => is_object(world, o, at, kind),
+        Designated::Member(p) => is_at_member(unit, world, p, at, kind, l),
+    }
+}
+
+/// Whether an access through an lvalue of the type is permitted, as `permits_in` tells it, where something may be known of what the
+/// lvalue designates: then no part of a type is searched for.
 #[inline(always)]
 pub(crate) fn permits_own_access(
     alloc: Global,
     unit: &TypedUnit,
     world: &World,
-    own: Option<u32>,
+    own: Designated,
     at: &Reach,
     kind: Kind,
     l: Complete,
     write: bool,
 ) -> Result<bool, NoMemory>
     requires known { AreKnown unit.now }
-    requires own { IfSome own (λ o. IsOwnType unit.now o l.t) }
+    requires own { IsDesignated unit.now own l.t }
     requires complete { IsComplete unit.now.known l }
     requires reached { IsReach world.now.memory.table at.now l.size }
     ensures { IfOk result (λ p. p ≡ permits_in (setting_of unit.now) world.now (lvalue (setting_of unit.now) (tree unit.now.known l.t.0)) at.now write kind) }
 {
-    let Some(o) = own else {
-        return permits_in(alloc, unit, world, at, kind, l, write);
-    };
-    if is_object(world, o, at, kind) {
+    if is_designated(unit, world, own, at, kind, l) {
         return Ok(true);
     }
     permits_in(alloc, unit, world, at, kind, l, write)

@@ -8,11 +8,13 @@ ghost use Rattle.pv_typed.specs.Known.{AreKnown};
 ghost use Rattle.pv_typed.specs.TypedTree.{type_of};
 ghost use Rattle.pv_typed.specs.NodeTrees.{expression_at, IsExpression};
 ghost use Rattle.pv_eval.specs.Sizes.{points};
-ghost use Rattle.pv_eval.specs.Plainly.{Yields, YieldsNoting, GivesNoting, IsOwnType, found_worth};
+ghost use Rattle.pv_eval.specs.Plainly.{Yields, YieldsNoting, GivesNoting, found_worth};
+ghost use Rattle.pv_eval.specs.Designated.{IsDesignated};
 ghost use Rattle.pv_eval.specs.declared.codes.Code.{Code as Known};
 ghost use Rattle.pv_eval.specs.Codes.{IsCode, AreCodes, RoundsTo, RoundsBy, CalculatesBy};
 
 use crate::codes::Code;
+use crate::members::Designated;
 use crate::operands::{first_operand, second_operand};
 use crate::plain::{Found, alone, with_both, with_one};
 use crate::plain_numbers::{integer, is_small, number, operated};
@@ -49,13 +51,13 @@ fn noted(v: Found, place: u64, length: u64, noting: bool, notes: &mut Vec<Access
     }
 }
 
-/// The integer at the place that the operand of a node gave; with the object that the operand designates, where that is known.
+/// The integer at the place that the operand of a node gave; with what is known of what the operand designates.
 #[inline(always)]
 fn read_integer(
     alloc: Global,
     unit: &TypedUnit,
     world: &World,
-    own: Option<u32>,
+    own: Designated,
     a: NodeId,
     t: TypeId,
     kind: IntKind,
@@ -67,7 +69,7 @@ fn read_integer(
     requires number { t.0 < length unit.now.known.terms }
     requires same { tree unit.now.known t.0 ≡ type_of (expression_at unit.now a) }
     requires integer { tree unit.now.known t.0 ≡ IntTy kind }
-    requires own { IfSome own (λ o. IsOwnType unit.now o t) }
+    requires own { IsDesignated unit.now own t }
     ensures { (s : Ty) → IfSome result (λ v. GivesNoting unit.now world.now s (Row.Read a) (found_worth place) (found_worth v) noting notes.old.items notes.new.items) }
 {
     let Found::Place(p) = place else {
@@ -78,13 +80,13 @@ fn read_integer(
     noted(v, p.address, x.l.size, noting, notes)
 }
 
-/// The pointer at the place that the operand of a node gave; with the object that the operand designates, where that is known.
+/// The pointer at the place that the operand of a node gave; with what is known of what the operand designates.
 #[inline(always)]
 fn read_pointer(
     alloc: Global,
     unit: &TypedUnit,
     world: &World,
-    own: Option<u32>,
+    own: Designated,
     a: NodeId,
     t: TypeId,
     place: Found,
@@ -95,7 +97,7 @@ fn read_pointer(
     requires number { t.0 < length unit.now.known.terms }
     requires same { tree unit.now.known t.0 ≡ type_of (expression_at unit.now a) }
     requires pointer { points (tree unit.now.known t.0) ≡ true }
-    requires own { IfSome own (λ o. IsOwnType unit.now o t) }
+    requires own { IsDesignated unit.now own t }
     ensures { (s : Ty) → IfSome result (λ v. GivesNoting unit.now world.now s (Row.Read a) (found_worth place) (found_worth v) noting notes.old.items notes.new.items) }
 {
     let Found::Place(p) = place else {
@@ -172,13 +174,13 @@ fn composed(
             let place = value_by(alloc, unit, plan, world, a, noting, notes)?;
             part(world, place, offset)
         }
-        Code::Integer(a, t, kind) => {
+        Code::Integer(a, t, kind, own) => {
             let place = value_by(alloc, unit, plan, world, a, noting, notes)?;
-            read_integer(alloc, unit, world, None, a, t, kind, place, noting, notes)
+            read_integer(alloc, unit, world, own, a, t, kind, place, noting, notes)
         }
-        Code::Pointer(a, t) => {
+        Code::Pointer(a, t, own) => {
             let place = value_by(alloc, unit, plan, world, a, noting, notes)?;
-            read_pointer(alloc, unit, world, None, a, t, place, noting, notes)
+            read_pointer(alloc, unit, world, own, a, t, place, noting, notes)
         }
         Code::Arithmetic(op, kind, left, right) => {
             let first = value_by(alloc, unit, plan, world, left.node, noting, notes)?;
@@ -250,7 +252,7 @@ fn own_integer(
         alloc,
         unit,
         world,
-        Some(o),
+        Designated::Object(o),
         a,
         t,
         kind,
@@ -278,7 +280,8 @@ fn own_pointer(
     ensures { IfSome result (λ v. YieldsNoting unit.now world.now (expression_at unit.now n) (found_worth v) noting notes.old.items notes.new.items) }
 {
     let place = object(world, o, lasting)?;
-    read_pointer(alloc, unit, world, Some(o), a, t, place, noting, notes)
+    let own = Designated::Object(o);
+    read_pointer(alloc, unit, world, own, a, t, place, noting, notes)
 }
 
 /// What a plain expression gives from this world, by what is known of its nodes, where nothing stops it, and where that is a

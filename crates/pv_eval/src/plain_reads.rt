@@ -19,10 +19,12 @@ ghost use Rattle.pv_eval.specs.TypeForms.{shape_of};
 ghost use Rattle.pv_eval.specs.Sizes.{IsComplete};
 ghost use Rattle.pv_eval.specs.Suiting.{knows};
 ghost use Rattle.pv_eval.specs.Codes.{IsIntegerPlace};
-ghost use Rattle.pv_eval.specs.Plainly.{ReadsFrom, HasReached, IsLooked, IsPlainNumber, HasKind, IsOwnType, alone_tried, found_worth, pointer_at};
+ghost use Rattle.pv_eval.specs.Designated.{IsDesignated};
+ghost use Rattle.pv_eval.specs.Plainly.{ReadsFrom, HasReached, IsLooked, IsPlainNumber, HasKind, alone_tried, found_worth, pointer_at};
 
 use crate::codes::IntegerPlace;
 use crate::dividing::is_multiple;
+use crate::members::Designated;
 use crate::permission::permits_own_access;
 use crate::plain::{Found, Spot};
 use crate::plain_numbers::{integer, natural};
@@ -170,20 +172,19 @@ fn is_told(world: &World) -> bool
     world.memory().is_told()
 }
 
-/// The integer of this kind at a place, if nothing keeps it from being read; with the object that the lvalue designates, where that is
-/// known.
+/// The integer of this kind at a place, if nothing keeps it from being read; with what is known of what the lvalue designates.
 #[inline(always)]
 pub(crate) fn load(
     alloc: Global,
     unit: &TypedUnit,
     world: &World,
-    own: Option<u32>,
+    own: Designated,
     x: AccessedType,
     kind: IntKind,
     p: Spot,
 ) -> Option<Found>
     requires known { AreKnown unit.now }
-    requires own { IfSome own (λ o. IsOwnType unit.now o x.l.t) }
+    requires own { IsDesignated unit.now own x.l.t }
     requires complete { IsComplete unit.now.known x.l }
     requires align { x.align ≡ (layout_in (env unit.now.known) (tree unit.now.known x.l.t.0)).align }
     requires some { 1 ≤ x.align }
@@ -253,18 +254,18 @@ fn pointed(world: &World, p: Pointer) -> Option<Found>
 }
 
 /// The pointer at a place, if it was stored whole, is null or points into a live instance, and nothing keeps it from being read; with
-/// the object that the lvalue designates, where that is known.
+/// what is known of what the lvalue designates.
 #[inline(always)]
 pub(crate) fn load_pointer(
     alloc: Global,
     unit: &TypedUnit,
     world: &World,
-    own: Option<u32>,
+    own: Designated,
     x: AccessedType,
     p: Spot,
 ) -> Option<Found>
     requires known { AreKnown unit.now }
-    requires own { IfSome own (λ o. IsOwnType unit.now o x.l.t) }
+    requires own { IsDesignated unit.now own x.l.t }
     requires complete { IsComplete unit.now.known x.l }
     requires align { x.align ≡ (layout_in (env unit.now.known) (tree unit.now.known x.l.t.0)).align }
     requires some { 1 ≤ x.align }
@@ -304,8 +305,8 @@ pub(crate) fn read_at(
     };
     let x = accessed(unit.types(), unit.type_of(a))?;
     match x.form {
-        Shape::Int(kind) => load(alloc, unit, world, None, x, kind, p),
-        Shape::Pointer => load_pointer(alloc, unit, world, None, x, p),
+        Shape::Int(kind) => load(alloc, unit, world, Designated::Unknown, x, kind, p),
+        Shape::Pointer => load_pointer(alloc, unit, world, Designated::Unknown, x, p),
         Shape::Whole => None,
     }
 }

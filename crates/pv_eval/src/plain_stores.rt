@@ -14,9 +14,11 @@ ghost use Rattle.pv_eval.specs.TypeForms.{shape_of};
 ghost use Rattle.pv_eval.specs.Sizes.{IsComplete};
 ghost use Rattle.pv_eval.specs.declared.codes.Code.{Code as Known};
 ghost use Rattle.pv_eval.specs.Codes.{IsCode, IsIntegerPlace, IsPointerPlace, AreCodes};
-ghost use Rattle.pv_eval.specs.Plainly.{Performs, StoresAt, IsOwnType, found_worth, pointer_at};
+ghost use Rattle.pv_eval.specs.Plainly.{Performs, StoresAt, found_worth, pointer_at};
+ghost use Rattle.pv_eval.specs.Designated.{IsDesignated};
 
 use crate::codes::{IntegerPlace, Operand, PointerPlace};
+use crate::members::Designated;
 use crate::permission::permits_own_access;
 use crate::plain::{Found, Spot};
 use crate::plain_coded::{rounded, value};
@@ -49,19 +51,18 @@ pub(crate) fn got(v: Found) -> Got
     }
 }
 
-/// The value is stored at a place, if nothing keeps it from being stored (C17 6.5.16p3); with the object that the lvalue designates,
-/// where that is known.
+/// The value is stored at a place, if nothing keeps it from being stored (C17 6.5.16p3); with what is known of what the lvalue designates.
 fn store(
     alloc: Global,
     unit: &TypedUnit,
     world: &mut World,
-    own: Option<u32>,
+    own: Designated,
     x: AccessedType,
     p: Spot,
     v: Found,
 ) -> bool
     requires known { AreKnown unit.now }
-    requires own { IfSome own (λ o. IsOwnType unit.now o x.l.t) }
+    requires own { IsDesignated unit.now own x.l.t }
     requires complete { IsComplete unit.now.known x.l }
     requires align { x.align ≡ (layout_in (env unit.now.known) (tree unit.now.known x.l.t.0)).align }
     requires some { 1 ≤ x.align }
@@ -107,7 +108,7 @@ pub(crate) fn assigned(
     let Some(x) = accessed(unit.types(), unit.type_of(a)) else {
         return false;
     };
-    store(alloc, unit, world, None, x, p, v)
+    store(alloc, unit, world, Designated::Unknown, x, p, v)
 }
 
 /// The assignment of a plain expression's value to a plain lvalue (C17 6.5.16.1), as a full expression; `None` where it is not

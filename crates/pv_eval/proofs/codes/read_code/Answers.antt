@@ -20,6 +20,7 @@ pub returns-in-None : goal.returns-in-None
 returns-in-None c = (
   record { form = c.requires.form; operand = (c.requires.there, c.requires.less); known = c.type_of-t.ensures.known c.requires.known; same = c.type_of-t.ensures.tree },
   subst (λ (m : Known). tree m c.type_of-t.result.0 ≡ IntTy c.in-Int.kind) c.types.ensures c.in-Int.ensures.tree,
+  c.in_structure-own.ensures,
 )
 
 pub returns-in-Some-named_object : goal.returns-in-Some-named_object
@@ -34,4 +35,5 @@ pub returns-in-None-named_object : goal.returns-in-None-named_object
 returns-in-None-named_object c = (
   record { form = c.requires.form; operand = (c.requires.there, c.requires.less); known = c.type_of-t.ensures.known c.requires.known; same = c.type_of-t.ensures.tree },
   subst (λ (m : Known). points (tree m c.type_of-t.result.0) ≡ true) c.types.ensures (ap points c.in-Pointer.ensures.tree),
+  c.in_structure-own.ensures,
 )

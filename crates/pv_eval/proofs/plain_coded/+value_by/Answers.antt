@@ -64,6 +64,9 @@ composed-read_integer-requires-clause-same t c = (subst (IsCode c.args.unit.now 
 pub composed-read_integer-requires-clause-integer : goal.composed-read_integer-requires-clause-integer
 composed-read_integer-requires-clause-integer t c = (subst (IsCode c.args.unit.now c.args.n) (sym c.code-code.ensures ∙ c.in-Integer.is) (c.requires.codes c.args.n c.requires.there)).1
 
+pub composed-read_integer-requires-clause-own : goal.composed-read_integer-requires-clause-own
+composed-read_integer-requires-clause-own t c = (subst (IsCode c.args.unit.now c.args.n) (sym c.code-code.ensures ∙ c.in-Integer.is) (c.requires.codes c.args.n c.requires.there)).2
+
 pub composed-returns-in_ok-place-in-Integer : goal.composed-returns-in_ok-place-in-Integer
 composed-returns-in_ok-place-in-Integer t c =
     let is = subst (IsCode c.args.unit.now c.args.n) (sym c.code-code.ensures ∙ c.in-Integer.is) (c.requires.codes c.args.n c.requires.there) in
@@ -83,6 +86,9 @@ composed-read_pointer-requires-clause-same t c = (subst (IsCode c.args.unit.now 
 
 pub composed-read_pointer-requires-clause-pointer : goal.composed-read_pointer-requires-clause-pointer
 composed-read_pointer-requires-clause-pointer t c = (subst (IsCode c.args.unit.now c.args.n) (sym c.code-code.ensures ∙ c.in-Pointer.is) (c.requires.codes c.args.n c.requires.there)).1
+
+pub composed-read_pointer-requires-clause-own : goal.composed-read_pointer-requires-clause-own
+composed-read_pointer-requires-clause-own t c = (subst (IsCode c.args.unit.now c.args.n) (sym c.code-code.ensures ∙ c.in-Pointer.is) (c.requires.codes c.args.n c.requires.there)).2
 
 pub composed-returns-in_ok-place-in-Pointer : goal.composed-returns-in_ok-place-in-Pointer
 composed-returns-in_ok-place-in-Pointer t c =

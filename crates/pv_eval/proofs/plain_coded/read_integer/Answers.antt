@@ -8,7 +8,8 @@ use Rattle.pv_typed.specs.declared.nodes.Typed.TheVariants.{Read}
 use Rattle.pv_eval.specs.declared.plain.Found.{Found}
 use Rattle.pv_eval.specs.TypeForms.{shape_of}
 use Rattle.pv_eval.specs.Sizes.{IsComplete, size_in}
-use Rattle.pv_eval.specs.Plainly.{GivesNoting, ReadsFrom, IsOwnType, found_worth, pointer_at}
+use Rattle.pv_eval.specs.Plainly.{GivesNoting, ReadsFrom, found_worth, pointer_at}
+use Rattle.pv_eval.specs.Designated.{IsDesignated}
 use Rattle.pv_eval.proofs.PlainReads.{noting_given}
 use Rattle.pv_eval.proofs.plain_coded.read_integer.Goals as goal
 
@@ -19,7 +20,7 @@ pub accessed_integer-requires-clause-integer : goal.accessed_integer-requires-cl
 accessed_integer-requires-clause-integer c = subst (λ (m : Known). tree m c.args.t.0 ≡ IntTy c.args.kind) (sym c.types.ensures) c.requires.integer
 
 pub load-requires-clause-own : goal.load-requires-clause-own
-load-requires-clause-own c = subst (λ (q : TypeId). IfSome c.args.own (λ o. IsOwnType c.args.unit.now o q)) (sym c.in_ok-x.ensures.same) c.requires.own
+load-requires-clause-own c = subst (λ (q : TypeId). IsDesignated c.args.unit.now c.args.own q) (sym c.in_ok-x.ensures.same) c.requires.own
 
 pub load-requires-clause-complete : goal.load-requires-clause-complete
 load-requires-clause-complete c = subst (λ (m : Known). IsComplete m c.in_ok-x.x.l) c.types.ensures c.in_ok-x.ensures.complete

@@ -8,7 +8,8 @@ use Rattle.pv_typed.specs.declared.nodes.Typed.TheVariants.{Read}
 use Rattle.pv_eval.specs.declared.plain.Found.{Found}
 use Rattle.pv_eval.specs.TypeForms.{shape_of}
 use Rattle.pv_eval.specs.Sizes.{IsComplete, size_in, points}
-use Rattle.pv_eval.specs.Plainly.{GivesNoting, ReadsFrom, IsOwnType, found_worth, pointer_at}
+use Rattle.pv_eval.specs.Plainly.{GivesNoting, ReadsFrom, found_worth, pointer_at}
+use Rattle.pv_eval.specs.Designated.{IsDesignated}
 use Rattle.pv_eval.proofs.PlainCodes.{pointer_shape}
 use Rattle.pv_eval.proofs.PlainReads.{noting_given}
 use Rattle.pv_eval.proofs.plain_coded.read_pointer.Goals as goal
@@ -20,7 +21,7 @@ pub accessed_pointer-requires-clause-pointer : goal.accessed_pointer-requires-cl
 accessed_pointer-requires-clause-pointer c = subst (λ (m : Known). points (tree m c.args.t.0) ≡ true) (sym c.types.ensures) c.requires.pointer
 
 pub load_pointer-requires-clause-own : goal.load_pointer-requires-clause-own
-load_pointer-requires-clause-own c = subst (λ (q : TypeId). IfSome c.args.own (λ o. IsOwnType c.args.unit.now o q)) (sym c.in_ok-x.ensures.same) c.requires.own
+load_pointer-requires-clause-own c = subst (λ (q : TypeId). IsDesignated c.args.unit.now c.args.own q) (sym c.in_ok-x.ensures.same) c.requires.own
 
 pub load_pointer-requires-clause-complete : goal.load_pointer-requires-clause-complete
 load_pointer-requires-clause-complete c = subst (λ (m : Known). IsComplete m c.in_ok-x.x.l) c.types.ensures c.in_ok-x.ensures.complete

@@ -10,7 +10,8 @@ use Rattle.pv_world.specs.Worths.{pointer_of}
 use Rattle.pv_eval.specs.declared.plain.Found.{Found}
 use Rattle.pv_eval.specs.TypeForms.{shape_of}
 use Rattle.pv_eval.specs.Sizes.{IsComplete}
-use Rattle.pv_eval.specs.Plainly.{ReadsFrom, IsOwnType, found_worth, pointer_at}
+use Rattle.pv_eval.specs.Plainly.{ReadsFrom, found_worth, pointer_at}
+use Rattle.pv_eval.specs.Designated.{IsDesignated}
 use Rattle.pv_eval.proofs.plain_reads.loaded_integer.Goals as goal
 
 pub accessed_integer-requires-clause-known : goal.accessed_integer-requires-clause-known
@@ -20,7 +21,7 @@ pub accessed_integer-requires-clause-integer : goal.accessed_integer-requires-cl
 accessed_integer-requires-clause-integer c = subst (λ (m : Known). tree m c.args.x.t.0 ≡ IntTy c.args.x.kind) (sym c.types.ensures) c.requires.there.integer
 
 pub load-requires-clause-own : goal.load-requires-clause-own
-load-requires-clause-own c = subst (λ (q : TypeId). IfSome c.args.x.own (λ o. IsOwnType c.args.unit.now o q)) (sym c.in_ok-at.ensures.same) c.requires.there.own
+load-requires-clause-own c = subst (λ (q : TypeId). IsDesignated c.args.unit.now c.args.x.own q) (sym c.in_ok-at.ensures.same) c.requires.there.own
 
 pub load-requires-clause-complete : goal.load-requires-clause-complete
 load-requires-clause-complete c = subst (λ (m : Known). IsComplete m c.in_ok-at.at.l) c.types.ensures c.in_ok-at.ensures.complete

@@ -1,5 +1,4 @@
 use Rattle.std.proofs.Common.{◌≡◌, ◌<◌, length, refl, sym, ap, ◌∙◌, subst}
-use Rattle.std.specs.Prelude.{IfSome}
 use Rattle.pv_types.specs.declared.terms.TypeId.{TypeId}
 use Rattle.pv_types.specs.Ty.{Ty, IntTy}
 use Rattle.pv_types.specs.Known.{Known, tree, env}
@@ -10,7 +9,8 @@ use Rattle.pv_world.specs.Worths.{pointer, pointer_of}
 use Rattle.pv_eval.specs.declared.plain.Found.{Found}
 use Rattle.pv_eval.specs.TypeForms.{shape_of}
 use Rattle.pv_eval.specs.Sizes.{IsComplete}
-use Rattle.pv_eval.specs.Plainly.{StoresAt, IsOwnType, found_worth, pointer_at}
+use Rattle.pv_eval.specs.Plainly.{StoresAt, found_worth, pointer_at}
+use Rattle.pv_eval.specs.Designated.{IsDesignated}
 use Rattle.pv_eval.proofs.plain_stores.stored_integer.Goals as goal
 
 pub accessed_integer-requires-clause-known : goal.accessed_integer-requires-clause-known
@@ -20,7 +20,7 @@ pub accessed_integer-requires-clause-integer : goal.accessed_integer-requires-cl
 accessed_integer-requires-clause-integer c = subst (λ (m : Known). tree m c.args.x.t.0 ≡ IntTy c.args.x.kind) (sym c.types.ensures) c.requires.there.integer
 
 pub store-requires-clause-own : goal.store-requires-clause-own
-store-requires-clause-own c = subst (λ (q : TypeId). IfSome c.args.x.own (λ o. IsOwnType c.args.unit.now o q)) (sym c.in-Some.ensures.same) c.requires.there.own
+store-requires-clause-own c = subst (λ (q : TypeId). IsDesignated c.args.unit.now c.args.x.own q) (sym c.in-Some.ensures.same) c.requires.there.own
 
 pub store-requires-clause-complete : goal.store-requires-clause-complete
 store-requires-clause-complete c = subst (λ (m : Known). IsComplete m c.in-Some.at.l) c.types.ensures c.in-Some.ensures.complete
