@@ -484,6 +484,32 @@ fn turn_ahead(
     }
 }
 
+// The turn that is due, or the one that comes next, and the operations behind it.
+fn turn_on(
+    unit: &TypedUnit,
+    tasks: &mut Vec<Task>,
+    doing: Doing,
+    bound: u64,
+    machine: &mut Machine,
+) -> Advanced
+    requires runnable { IsRunnable unit.now }
+    requires bound { bound ≤ 10 ^ 8 }
+    requires runs { Runs unit.now tasks.old.items machine.old.started doing }
+    requires fit { Fit unit.now machine.old.started }
+    requires room { machine.old.moment.taken < bound }
+    ensures holds { AdvancedLed unit.now bound doing result tasks.old.items tasks.new.items machine.old machine.new }
+    ensures setting { KeepsSetting machine.old.moment machine.new.moment }
+    ensures runs { AdvancedRuns unit.now tasks.new.items machine.new.started result }
+    ensures few { machine.new.moment.taken ≤ machine.old.moment.taken + 1 }
+    ensures pace { AdvancedPace bound machine.old.moment.taken machine.new.moment.taken result }
+{
+    if is_due(&doing, machine) {
+        turn(unit, tasks, doing, bound, machine)
+    } else {
+        turn_ahead(unit, tasks, doing, bound, machine)
+    }
+}
+
 /// The turn that is due, unless the bound is met, and the operations that come before the next one; or all the turns at once of
 /// an expression that is due, of an expression statement, of the condition of an `if` or of a `return`, of the last expression or the
 /// condition of a loop, where nothing stops it, or that of a block without objects.
@@ -512,6 +538,6 @@ pub fn advance(
     }
     match at_once(unit, plan, &doing, bound, machine) {
         Some(next) => next_of(until_asked(unit, tasks, next, machine)),
-        None => turn_ahead(unit, tasks, doing, bound, machine),
+        None => turn_on(unit, tasks, doing, bound, machine),
     }
 }

@@ -67,28 +67,28 @@ returns-in-Some-clause-pace c =
     let within = c.in-Some.ensures.some.within in
     pace-of c.args.bound c.args.machine.now.moment.taken c.until_asked.new.machine.moment.taken c.next_of.result (omega (arith, c.until_asked.ensures.taken, more)) (omega (arith, c.until_asked.ensures.taken, within))
 
-pub turn_ahead-requires-clause-runs : goal.turn_ahead-requires-clause-runs
-turn_ahead-requires-clause-runs c = subst (λ (q : Machine). Runs c.args.unit.now c.args.tasks.now.items q.started c.args.doing) (sym c.in-None.ensures.none) c.requires.runs
+pub turn_on-requires-clause-runs : goal.turn_on-requires-clause-runs
+turn_on-requires-clause-runs c = subst (λ (q : Machine). Runs c.args.unit.now c.args.tasks.now.items q.started c.args.doing) (sym c.in-None.ensures.none) c.requires.runs
 
-pub turn_ahead-requires-clause-room : goal.turn_ahead-requires-clause-room
-turn_ahead-requires-clause-room c =
+pub turn_on-requires-clause-room : goal.turn_on-requires-clause-room
+turn_on-requires-clause-room c =
     let room : c.args.machine.now.moment.taken < c.args.bound = omega (arith, c.if-turns-bound.false, c.turns.ensures) in
     subst (λ (q : Machine). q.moment.taken < c.args.bound) (sym c.in-None.ensures.none) room
 
 pub returns-in-None-clause-holds : goal.returns-in-None-clause-holds
 returns-in-None-clause-holds c =
-    subst (λ (q : Machine). AdvancedLed c.args.unit.now c.args.bound c.args.doing c.turn_ahead.result c.args.tasks.now.items c.turn_ahead.new.tasks.items q c.turn_ahead.new.machine) c.in-None.ensures.none c.turn_ahead.ensures.holds
+    subst (λ (q : Machine). AdvancedLed c.args.unit.now c.args.bound c.args.doing c.turn_on.result c.args.tasks.now.items c.turn_on.new.tasks.items q c.turn_on.new.machine) c.in-None.ensures.none c.turn_on.ensures.holds
 
 pub returns-in-None-clause-setting : goal.returns-in-None-clause-setting
-returns-in-None-clause-setting c = subst (λ (q : Machine). KeepsSetting q.moment c.turn_ahead.new.machine.moment) c.in-None.ensures.none c.turn_ahead.ensures.setting
+returns-in-None-clause-setting c = subst (λ (q : Machine). KeepsSetting q.moment c.turn_on.new.machine.moment) c.in-None.ensures.none c.turn_on.ensures.setting
 
 pub returns-in-None-clause-cut : goal.returns-in-None-clause-cut
 returns-in-None-clause-cut c =
     let old = c.args.machine.now in
-    let new = c.turn_ahead.new.machine in
-    let few : new.moment.taken ≤ old.moment.taken + 1 = subst (λ (q : Machine). new.moment.taken ≤ q.moment.taken + 1) c.in-None.ensures.none c.turn_ahead.ensures.few in
+    let new = c.turn_on.new.machine in
+    let few : new.moment.taken ≤ old.moment.taken + 1 = subst (λ (q : Machine). new.moment.taken ≤ q.moment.taken + 1) c.in-None.ensures.none c.turn_on.ensures.few in
     cut-few c.args.unit.now c.args.doing c.args.tasks.now.items old new c.requires.asked c.requires.runs.doing_fits few
 
 pub returns-in-None-clause-pace : goal.returns-in-None-clause-pace
 returns-in-None-clause-pace c =
-    subst (λ (q : Machine). AdvancedPace c.args.bound q.moment.taken c.turn_ahead.new.machine.moment.taken c.turn_ahead.result) c.in-None.ensures.none c.turn_ahead.ensures.pace
+    subst (λ (q : Machine). AdvancedPace c.args.bound q.moment.taken c.turn_on.new.machine.moment.taken c.turn_on.result) c.in-None.ensures.none c.turn_on.ensures.pace
