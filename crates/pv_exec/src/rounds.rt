@@ -89,10 +89,7 @@ pub fn begin_body(
     ensures ways { WayFitsOr unit.now machine.old.started machine.new.started result }
     ensures ends { EndsOr machine.new.started result }
 {
-    Ok(Way::With(
-        Task::Rounded(parts.statement),
-        Doing::Enter(parts.body),
-    ))
+    Ok(Way::With(Task::Rounded(parts.statement), Doing::Enter(parts.body)))
 }
 
 /// After the body: the last expression is started, and a further round.

@@ -32,7 +32,9 @@ fn a_function_is_found_by_its_place(rt: HostRuntime) {
     let mut told = Vec::new(rt.alloc());
     make(&rt, &mut world, &names, &mut told);
     find(&rt, &mut world, &mut told);
-    assert!(&rt; matches!(unlike(), Cause::Ends(Verdict::Undefined(fault)) if fault.reason == Reason::WrongType));
+    assert!(&rt;
+        matches!(unlike(), Cause::Ends(Verdict::Undefined(fault)) if fault.reason == Reason::WrongType)
+    );
 }
 
 /// That instance 1 was made, and that a use of pair 5 left its low candidate.

@@ -35,7 +35,9 @@ fn look_at_one(rt: &impl Abort, memory: &mut Memory) {
 fn look_for_a_function(rt: &impl Abort, memory: &mut Memory) {
     known(rt, memory, FIRST);
     let answer = memory.code(FIRST);
-    assert!(rt; matches!(answer, Err(Stop::Ends(Verdict::Undefined(fault))) if fault.reason == Reason::Outside));
+    assert!(rt;
+        matches!(answer, Err(Stop::Ends(Verdict::Undefined(fault))) if fault.reason == Reason::Outside)
+    );
 }
 
 /// Two pointers are compared.

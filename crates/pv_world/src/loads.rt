@@ -76,9 +76,8 @@ fn stop_blame(
     match shape {
         Shape::Pointer => match stop {
             Stop::Ends(Verdict::Undefined(_)) => loaded,
-            Stop::Ends(Verdict::Indeterminate)
-            | Stop::Ends(Verdict::Undecided)
-            | Stop::NoMemory => accessed,
+            Stop::Ends(Verdict::Indeterminate) | Stop::Ends(Verdict::Undecided) | Stop::NoMemory =>
+                accessed,
         },
         Shape::Int(_) | Shape::Whole => accessed,
     }
