@@ -1,6 +1,7 @@
 -- Labels that are looked for in a list.
-use Rattle.std.proofs.Common.{◌≡◌, ℕ, [], ◌∷◌, None, refl, sym, ap, ◌∙◌}
+use Rattle.std.proofs.Common.{◌≡◌, ℕ, ℤ, [], ◌∷◌, None, Some, IfSome, refl, sym, ap, ◌∙◌}
 use Rattle.std.specs.Prelude.{Bool, true, false, ◌||◌, drop, if◌then◌else◌}
+use Rattle.std.specs.declared.option.Option.{Option}
 use Rattle.pv_tree.specs.declared.nodes.NodeId.{NodeId}
 use Rattle.pv_tree.specs.declared.nodes.ListId.{ListId}
 use Rattle.pv_typed.specs.TypedStatement.{TypedStatement, Block, Declare, Expression, Empty, If, IfElse, Switch, Case, Default, While, DoWhile, For, ForDeclaration, Continue, Break, Return, Statements, MoreStatements}
@@ -9,11 +10,12 @@ use Rattle.pv_typed.specs.Tables.{Stored, nodes}
 use Rattle.pv_typed.specs.NodeTrees.{list_at, statement_at}
 use Rattle.pv_eval.specs.States.{Setting, State, then_do}
 use Rattle.pv_exec.specs.Flows.{Below, falls}
-use Rattle.pv_exec.specs.Labels.{Target, ToCase, ToDefault, ToNone, is_target}
+use Rattle.pv_exec.specs.Labels.{Target, ToCase, ToDefault, ToNone, is_target, target_of}
+use Rattle.pv_exec.specs.LabelParts.{some_case, some_default}
 use Rattle.pv_exec.specs.Execution.{ex, exs, exs_at}
 use Rattle.pv_exec.specs.Tasks.{statements_from}
 use Rattle.pv_exec.specs.Items.{declared_in}
-use Rattle.pv_exec.specs.Switches.{some_target}
+use Rattle.pv_exec.specs.Switches.{some_target, is_none_target, Finds, Reaches}
 use Rattle.pv_exec.proofs.Listing.{plain-first}
 
 some-first : (at : Target) (x : TypedStatement) (xs : Statements) → some_target at (MoreStatements x xs) ≡ (is_target at x || some_target at xs)
@@ -71,3 +73,13 @@ at-yes b w u l at i j n s e h =
     ∙ ap (λ (q : Bool). if q then then_do (ex b w (statement_at u n) s) (λ fl s. falls fl (λ s. exs b w (statements_from u l j) s) s) else exs_at b w at (statements_from u l j) s) h
     ∙ sym (plain-first b w (statement_at u n) (statements_from u l j) s (plain-target at (statement_at u n) h))
     ∙ sym (ap (λ ns. exs b w (statements_in (nodes u) ns) s) e)
+
+-- 6.8.4.2p5: without a `case` of the value, what is found is what a `default` gives
+to-default : (u : Stored) (l : ListId) (v : ℤ) → some_case v (statements_from u l 0) ≡ false → target_of v (statements_from u l 0) ≡ (if some_default (statements_from u l 0) then ToDefault else ToNone)
+to-default u l v h = ap (λ (c : Bool). if c then ToCase v else (if some_default (statements_from u l 0) then ToDefault else ToNone)) h
+
+pub reaches-default : (u : Stored) (l : ListId) (v : ℤ) (r : Option ℕ) → some_case v (statements_from u l 0) ≡ false → (r ≡ None → some_default (statements_from u l 0) ≡ false) → IfSome r (Finds u l ToDefault) → Reaches u l v r
+reaches-default u l v None h n f = to-default u l v h ∙ ap (λ (d : Bool). if d then ToDefault else ToNone) (n refl)
+reaches-default u l v (Some i) h n f =
+    let e : target_of v (statements_from u l 0) ≡ ToDefault = to-default u l v h ∙ ap (λ (d : Bool). if d then ToDefault else ToNone) f.some in
+    (ap is_none_target e, λ b w s. ap (λ t. exs_at b w t (statements_from u l 0) s) e ∙ f.from b w s)
