@@ -11,9 +11,9 @@ use Rattle.std.specs.declared.option.Option.{Option}
 use Rattle.pv_typed.specs.declared.values.Const.{Const}
 use Rattle.pv_typed.specs.Addresses.{constant_of}
 use Rattle.pv_typed.specs.TypedTree.{TypedTree}
-use Rattle.pv_typed.specs.TypedUnits.{Store, StoredValue, ValueOf}
-use Rattle.pv_eval.specs.TypeForms.{lvalue}
-use Rattle.pv_eval.specs.Operations.{Puts, act}
+use Rattle.pv_typed.specs.TypedUnits.{Store, StoredValue, ValueOf, TextOf}
+use Rattle.pv_eval.specs.TypeForms.{lvalue, size_of}
+use Rattle.pv_eval.specs.Operations.{Puts, PutsText, act}
 use Rattle.pv_eval.specs.Constants.{constant_worth}
 use Rattle.pv_exec.specs.Preparing.{prepare, store_constant, store_static}
 use Rattle.pv_exec.specs.Lists.{make_statics, make_literals, make_functions, initialize_statics}
@@ -44,6 +44,12 @@ static-constant b o x y e c w r s s' is what const worth h =
     ∙ ap (λ (q : StoredValue). store_static b o y q s) what
     ∙ ap (λ (q : Option Const). store_constant b o y q s) const
     ∙ ap (λ (w : Worth). act b y.line (Puts o y.offset (lvalue b y.t) w) s) (sym worth)) h
+
+-- a static store of a string's characters
+pub static-text : (b : Setting) (o : ℕ) (x y : Store) (l : ℕ) (r : Result (Unit {0}) Failure) (s s' : State) → x ≡ y → y.what ≡ TextOf l → Made (act b y.line (PutsText o y.offset (size_of b y.t) l) s) r s' → Made (store_static b o x x.what s) r s'
+static-text b o x y l r s s' is what h =
+    made-is (act b y.line (PutsText o y.offset (size_of b y.t) l) s) (store_static b o x x.what s) r s'
+    (ap (λ (z : Store). store_static b o z z.what s) is ∙ ap (λ (q : StoredValue). store_static b o y q s) what) h
 
 -- what comes behind the literals, and behind the static objects
 abbrev behind-literals : Setting → Worth → State → Res Worth
