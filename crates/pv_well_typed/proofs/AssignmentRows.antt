@@ -23,7 +23,7 @@ use Rattle.pv_check.specs.AssignmentParts.{assigned_to, simple_of, arithmetic_ki
 use Rattle.pv_guards.specs.Typed.{MayBeRight}
 use Rattle.pv_well_typed.specs.Proper.{IsValueOrVoid, IsProper}
 use Rattle.pv_well_typed.specs.Later.{IsFinished, Extends}
-use Rattle.pv_well_typed.proofs.Types.{bare-same, kind-type, integer-type, value-or-void, sized-later, proper-unqualified, some-complete}
+use Rattle.pv_well_typed.proofs.Types.{kind-type, integer-type, value-or-void, sized-later, proper-unqualified, some-complete}
 use Rattle.pv_well_typed.proofs.Operands.{IsExpression, IsOperand, has-value, has-type, integer-converted, as-made}
 use Rattle.pv_well_typed.proofs.Conversions.{assigned-row}
 use Rattle.pv_well_typed.proofs.Promotions.{promoted-wide, common-wide}
@@ -64,7 +64,7 @@ module _ (E : Type 0) (v : WholeUnit) (os : List ℕ) (done : IsFinished v) (es 
       by (Some c) p e =
           let q = assigned-row E v os (type_of a) b g c p in
           as-made (IsExpression E v os) (written line (unqualified (type_of a)) (Assign a c)) x (record {
-            typed = λ i. (h.typed i, m.place, q.converted.typed i, has-type E v os (unqualified (type_of a)) c q.converted, bare-same (type_of a), sized-later v done es more (type_of a) h.proper m.complete, q.value);
+            typed = λ i. (h.typed i, m.place, q.converted.typed i, has-type E v os (unqualified (type_of a)) c q.converted, refl, sized-later v done es more (type_of a) h.proper m.complete, q.value);
             proper = proper-unqualified v (type_of a) h.proper;
             valued = λ n. (refl, value-or-void (unqualified (type_of a)) q.value);
           }) e
@@ -76,7 +76,7 @@ module _ (E : Type 0) (v : WholeUnit) (os : List ℕ) (done : IsFinished v) (es 
       let c = integer-converted E v os l r b g (kind-type (type_of b) l g.plain q) in
       let is : unqualified (type_of a) ≡ IntTy j = kind-inside (unqualified (type_of a)) j p in
       as-made (IsExpression E v os) (written line (unqualified (type_of a)) (CompoundAssign op k a (converted (IntTy r) b))) x (record {
-        typed = λ i. (j, r, h.typed i, m.place, c.typed i, has-type E v os (IntTy r) (converted (IntTy r) b) c, is, bare-same (type_of a), w, z, sized-later v done es more (type_of a) h.proper m.complete);
+        typed = λ i. (j, r, h.typed i, m.place, c.typed i, has-type E v os (IntTy r) (converted (IntTy r) b) c, is, refl, w, z, sized-later v done es more (type_of a) h.proper m.complete);
         proper = proper-unqualified v (type_of a) h.proper;
         valued = λ n. (refl, subst IsValueOrVoid (sym is) tt);
       }) e
@@ -120,7 +120,7 @@ module _ (E : Type 0) (v : WholeUnit) (os : List ℕ) (done : IsFinished v) (es 
           has-value E v os b g,
           integer-type (type_of b) g.plain (some-kind (kind_of (type_of b)) k r),
           is,
-          bare-same (type_of a),
+          refl,
           sized-later v done es more t proper found.1,
           sized-later v done es more (type_of a) h.proper m.complete,
         );

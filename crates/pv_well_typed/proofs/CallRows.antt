@@ -11,11 +11,11 @@ use Rattle.pv_types.specs.Sorts.{pointed_by, is_void, bare as unqualified}
 use Rattle.pv_check.specs.Values.{written, promoted_value, assigned}
 use Rattle.pv_check.specs.Calls.{further, passed, may_pass, called, call_at, call_to}
 use Rattle.pv_check.specs.CallParts.{more, library_call, program_call, pointed_call, call_through, call_of}
-use Rattle.pv_guards.specs.Typed.{HasType, IsValueType, AreLike, IsSignature, HasBody, ArePassed}
+use Rattle.pv_guards.specs.Typed.{IsValueType, AreLike, IsSignature, HasBody, ArePassed}
 use Rattle.pv_well_typed.specs.Proper.{IsProper}
 use Rattle.pv_well_typed.specs.Later.{library_of}
 use Rattle.pv_well_typed.specs.ProperStates.{IsLibraryType, HasFunctionType}
-use Rattle.pv_well_typed.proofs.Types.{bare-same, pointed-type, not-void}
+use Rattle.pv_well_typed.proofs.Types.{pointed-type, not-void}
 use Rattle.pv_well_typed.proofs.Operands.{IsExpression, IsOperand, IsConverted, has-value-as, has-type, promoted-row, as-made, some-same}
 use Rattle.pv_well_typed.proofs.Conversions.{assigned-row}
 
@@ -67,8 +67,8 @@ module _ (E : Type 0) (v : WholeUnit) (os : List ℕ) where
       let q = assigned-row E v os t a h.0 m.first m.one in
       subst (λ ys. ArePassed v os (MoreTys t ts) variadic (arguments_of ys)) m.is (
         q.converted.typed i,
-        subst (λ w. HasType m.first w) (bare-same t) (has-type E v os (unqualified t) m.first q.converted),
-        subst IsValueType (bare-same t) q.value,
+        has-type E v os (unqualified t) m.first q.converted,
+        q.value,
         passed-row ts variadic rest h.1 m.rest m.others i,
       )
 

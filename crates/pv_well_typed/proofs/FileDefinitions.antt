@@ -41,7 +41,7 @@ use Rattle.pv_well_typed.proofs.SourceCharacters.{StatementCharacters, TreesChar
 use Rattle.pv_well_typed.specs.Later.{IsFinished, Later}
 use Rattle.pv_well_typed.specs.Proper.{IsValueOrVoid, IsProper}
 use Rattle.pv_well_typed.specs.ProperStates.{IsFixed, HasFunctionType, IsScope, IsProperState, IsVisible, AreVisible}
-use Rattle.pv_well_typed.proofs.Types.{bare-same, complete-later, small, held-value}
+use Rattle.pv_well_typed.proofs.Types.{complete-later, small, held-value}
 use Rattle.pv_well_typed.proofs.Operands.{some-same}
 use Rattle.pv_well_typed.proofs.UnaryRows.{both-true}
 use Rattle.pv_well_typed.proofs.UnitChanges.{Signs, same-signs, set-same, like-then, like-back, with-function-later}
@@ -474,7 +474,7 @@ parameters-are v done apart s t (p ∷ ps) (MoreTys w ts) q d m k l =
               named = apart o;
             },
             subst (AreLike w) (sym type) (like-then w (bare p.t) p.t (like-back (bare p.t) w l.0) (unqualified-like p.t)),
-            subst (λ x. IsValueType (bare x)) (sym type) (subst IsValueType (bare-same p.t) (held-value v (layouts v) p.t q.0 c m.0.held)),
+            subst (λ x. IsValueType (bare x)) (sym type) (held-value v (layouts v) p.t q.0 c m.0.held),
           ),
           rest,
         )

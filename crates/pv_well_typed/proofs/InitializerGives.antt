@@ -35,14 +35,14 @@ use Rattle.pv_unit.specs.Parts.{part_at, is_text, text_layer, sized, can_be_init
 use Rattle.pv_unit.specs.Rules.{After}
 use Rattle.pv_unit.specs.ValueRules.{lifted, lowered, filling_text, values, initialized}
 use Rattle.pv_guards.proofs.Numbers.{both}
-use Rattle.pv_guards.specs.Typed.{IsIn, HasType, IsValueType}
+use Rattle.pv_guards.specs.Typed.{IsIn, IsValueType}
 use Rattle.pv_guards.specs.TypedStatements.{IsInitializer, IsConstant, IsConstantOf}
 use Rattle.pv_well_typed.specs.Characters.{HasCharacters}
 use Rattle.pv_well_typed.proofs.SourceCharacters.{InitializerCharacters, TreesCharacters}
 use Rattle.pv_well_typed.specs.Later.{IsFinished, Later}
 use Rattle.pv_well_typed.specs.Proper.{IsValueOrVoid, IsProper}
 use Rattle.pv_well_typed.specs.ProperStates.{IsProperState, IsVisible, AreVisible}
-use Rattle.pv_well_typed.proofs.Types.{plain-bare, bare-same, complete-later, layout-later}
+use Rattle.pv_well_typed.proofs.Types.{plain-bare, complete-later, layout-later}
 use Rattle.pv_well_typed.proofs.Operands.{IsOperand, has-type, some-same}
 use Rattle.pv_well_typed.proofs.Conversions.{IsAssigned, assigned-row}
 use Rattle.pv_well_typed.proofs.Changes.{literal-later}
@@ -214,7 +214,7 @@ module _ (v : WholeUnit) (done : IsFinished v) where
   IsAssignedTo p os e = IsAssigned U v os (bare p.t) e
 
   assigned-initializer : (os : List ℕ) (t : Ty) (e : TypedTree) → IsAssigned U v os t e → IsInitializer v os t (ValueOf e)
-  assigned-initializer os t e h = (h.converted.typed tt, subst (HasType e) (bare-same t) (has-type U v os (bare t) e h.converted), subst IsValueType (bare-same t) h.value)
+  assigned-initializer os t e h = (h.converted.typed tt, has-type U v os (bare t) e h.converted, h.value)
 
   allowed-constant : (s : State) (e : TypedTree) (lasting : Bool) → allowed values lasting s e ≡ true → lasting ≡ true → (c : Const) × (constant_of s.unit e ≡ Some c)
   unfolding values
@@ -228,7 +228,7 @@ module _ (v : WholeUnit) (done : IsFinished v) where
   assigned-constant : (s z : State) (os : List ℕ) (t : Ty) (e : TypedTree) (c : Const) → Later z v → Grown v z → IsAssigned U v os t e → constant_of z.unit e ≡ Some c → IsConstant v t (ValueOf e)
   assigned-constant s z os t e c l g h q =
       let kept = constant_kept z.unit v (later-completes v z l g) e c q in
-      let is : type_of e ≡ bare t = h.converted.is ∙ bare-same t in
+      let is : type_of e ≡ bare t = h.converted.is in
       let good = constant-good v os done e c (subst IsValueType (sym h.converted.is) h.value) (h.converted.typed tt) kept in
       (c, kept, good.0, subst (λ u. IsConstantOf c u) is good.1)
 

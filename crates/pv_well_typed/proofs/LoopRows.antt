@@ -15,13 +15,12 @@ use Rattle.pv_check.specs.Values.{assigned}
 use Rattle.pv_unit.specs.Statements.{leaving, valued, condition, optional, returned, declared_by, declared_in}
 use Rattle.pv_unit.specs.StatementParts.{value_returned}
 use Rattle.pv_unit.specs.Made.{do_made, for_made, round_made, expression_of, expression_made}
-use Rattle.pv_guards.specs.Typed.{AreLike, IsIn, HasType}
+use Rattle.pv_guards.specs.Typed.{AreLike, IsIn}
 use Rattle.pv_guards.specs.TypedStatements.{MayBeCondition, MayBeTyped, IsCondition, IsTypedStatement}
 use Rattle.pv_well_typed.specs.Characters.{HasCharacters}
 use Rattle.pv_well_typed.proofs.SourceCharacters.{OptionalCharacters}
 use Rattle.pv_well_typed.specs.Later.{IsFinished}
 use Rattle.pv_well_typed.specs.ProperStates.{AreVisible}
-use Rattle.pv_well_typed.proofs.Types.{bare-same}
 use Rattle.pv_well_typed.proofs.Operands.{IsOperand, has-type}
 use Rattle.pv_well_typed.proofs.Conversions.{assigned-row}
 use Rattle.pv_well_typed.proofs.Moving.{Outer, Moves, Gives, gives-none, gives-here, gives-then, gives-if, gives-unless, gives-weaker, left-scopes}
@@ -110,7 +109,7 @@ module _ (v : WholeUnit) (done : IsFinished v) where
             typed = λ kept os here avoid.
                 let k = p.1 os here in
                 let c = assigned-row U v os q a.value k.0 e z in
-                ((q, c.converted.typed tt, subst (λ w. HasType e w) (bare-same q) (has-type U v os (unqualified q) e c.converted), like.like), k.1);
+                ((q, c.converted.typed tt, has-type U v os (unqualified q) e c.converted, like.like), k.1);
           }) y i)
 
   pub returned-gives : (q r : Ty) → Returns q r → (line : ℕ) (o : OptionalTree) → OptionalCharacters o → (s : State) → Gives ⊥ v [] U s (StatementIn v r s) (returned q line o s)

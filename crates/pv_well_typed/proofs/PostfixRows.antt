@@ -18,7 +18,7 @@ use Rattle.pv_guards.specs.Typed.{IsSized, IsValueType, MayStep}
 use Rattle.pv_well_typed.specs.Proper.{IsValueOrVoid, IsProper}
 use Rattle.pv_well_typed.specs.Later.{IsFinished, Extends}
 use Rattle.pv_well_typed.specs.ProperStates.{IsCompleted}
-use Rattle.pv_well_typed.proofs.Types.{bare-same, integer-type, pointed-type, held-value, value-or-void, sized-later, layout-later, no-function, proper-unqualified, proper-qualified-if, ToComplete}
+use Rattle.pv_well_typed.proofs.Types.{integer-type, pointed-type, held-value, value-or-void, sized-later, layout-later, no-function, proper-unqualified, proper-qualified-if, ToComplete}
 use Rattle.pv_well_typed.proofs.Operands.{IsExpression, IsOperand, has-value, has-value-as, as-made}
 use Rattle.pv_well_typed.proofs.UnaryRows.{both-true}
 use Rattle.pv_well_typed.proofs.BinaryRows.{complete-at}
@@ -112,7 +112,7 @@ module _ (E : Type 0) (v : WholeUnit) (os : List ℕ) (done : IsFinished v) (es 
           let both = both-true (is_modifiable es a) (may_step es (type_of a)) q in
           let m = modified es a both.0 in
           as-made (IsExpression E v os) (written line (unqualified (type_of a)) (Increment op a)) x (record {
-            typed = λ i. (h.typed i, m.place, bare-same (type_of a), step-kind (type_of a) h.proper both.1, sized-later v done es more (type_of a) h.proper m.complete);
+            typed = λ i. (h.typed i, m.place, refl, step-kind (type_of a) h.proper both.1, sized-later v done es more (type_of a) h.proper m.complete);
             proper = proper-unqualified v (type_of a) h.proper;
             valued = λ n. (refl, value-or-void (unqualified (type_of a)) (held-value v es (type_of a) h.proper m.complete m.single));
           }) e

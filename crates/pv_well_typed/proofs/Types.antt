@@ -19,17 +19,6 @@ use Rattle.pv_guards.specs.Typed.{IsSized, IsValueType, IsScalarType, IsIntegerT
 use Rattle.pv_well_typed.specs.Proper.{IsValueOrVoid, IsSmallArray, IsProper}
 use Rattle.pv_well_typed.specs.Later.{IsFinished, Extends}
 
--- 6.2.5p26: the bare version of a type, in the words of both crates
-pub bare-same : (t : Ty) → bare t ≡ bare t
-bare-same VoidTy = refl
-bare-same (IntTy k) = refl
-bare-same (PointerTo t) = refl
-bare-same (ArrayOf t n) = refl
-bare-same (StructTag n) = refl
-bare-same (UnionTag n) = refl
-bare-same (FunctionTy t ts c) = refl
-bare-same (ConstOf t) = bare-same t
-
 pub proper-unqualified : (v : WholeUnit) (t : Ty) → IsProper v t → IsProper v (bare t)
 proper-unqualified v VoidTy h = tt
 proper-unqualified v (IntTy k) h = tt
@@ -52,7 +41,7 @@ plain-unqualified (FunctionTy t ts c) h = absurd h
 plain-unqualified (ConstOf t) h = absurd h
 
 pub plain-bare : (t : Ty) → IsValueOrVoid t → bare t ≡ t
-plain-bare t h = sym (bare-same t) ∙ plain-unqualified t h
+plain-bare t h = plain-unqualified t h
 
 -- what a value's type is, it is one of these
 pub value-or-void : (t : Ty) → IsValueType t → IsValueOrVoid t
