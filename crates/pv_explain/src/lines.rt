@@ -2,7 +2,8 @@
 ghost use Rattle.std.specs.Prelude.{◌≡◌, ◌++◌, [], if◌then◌else◌, Some, OnOk, codes};
 ghost use Rattle.std.specs.Fmt.{decimal};
 ghost use Rattle.pv_print.specs.Texts.{address_text};
-ghost use Rattle.pv_watch.specs.Lines.{named, instance_text, survivors, survivors_of, first_told, making_of_pair, test_text, field, what_text};
+ghost use Rattle.pv_prov.specs.TestNumbers.{test_text};
+ghost use Rattle.pv_watch.specs.Lines.{named, instance_text, survivors, survivors_of, first_told, making_of_pair, field, what_text};
 ghost use Rattle.pv_watch.specs.LineParts.{event_line};
 ghost use Rattle.pv_watch.specs.declared.event.What.TheVariants.{Made, Pair, Tried};
 ghost use Rattle.pv_explain.specs.Told.{survivor};

@@ -5,7 +5,7 @@ use Rattle.std.specs.Option.{option_and_then, option_map}
 use Rattle.std.specs.Fmt.{decimal}
 use Rattle.pv_print.specs.Texts.{address_text}
 use Rattle.pv_script.specs.Words.{is_name}
-use Rattle.pv_watch.specs.Lines.{test_text}
+use Rattle.pv_prov.specs.TestNumbers.{test_text}
 use Rattle.pv_journal.specs.Journals.{Id, Fact, Made, Ended, Exposed, Paired, Used, Fault, Row, id_text, left_text, fact_words, row_text}
 use Rattle.pv_journal.specs.Reading.{number_behind, address_behind, id_of, id_in, id_behind, test_in, ids_of, ids_behind, at_turn, said_by, said}
 use Rattle.pv_journal.proofs.Numbers.{decimal_is_read, address_is_read}

@@ -6,7 +6,7 @@ use Rattle.std.specs.Str.{bytes_eq}
 use Rattle.std.specs.Fmt.{decimal}
 use Rattle.std.specs.List.{slice_split, join_with_byte}
 use Rattle.pv_print.specs.Texts.{address_text}
-use Rattle.pv_watch.specs.Lines.{test_text}
+use Rattle.pv_prov.specs.TestNumbers.{test_text}
 use Rattle.pv_journal.specs.Journals.{Id, Fact, Made, Ended, Exposed, Paired, Used, Fault, Row, id_text, left_text, fact_words, row_text}
 use Rattle.pv_journal.specs.Reading.{decimal_in, behind, number_behind, address_behind, id_in, id_behind, test_in, ids_of, ids_behind, at_turn, said_in_2, said_in_3, said_in_5, said_in_6, said_by, said}
 use Rattle.pv_journal.proofs.Numbers.{decimal_was_read}

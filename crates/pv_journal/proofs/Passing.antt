@@ -10,7 +10,7 @@ use Rattle.std.specs.List.{slice_get, slice_set}
 use Rattle.std.specs.Option.{option_and_then}
 use Rattle.std.specs.Str.{bytes_eq}
 use Rattle.pv_script.specs.Words.{is_name}
-use Rattle.pv_watch.specs.Lines.{test_text}
+use Rattle.pv_prov.specs.TestNumbers.{test_text}
 use Rattle.pv_journal.specs.Journals.{Id, Fact, Made, Ended, Exposed, Paired, Used, Fault, Row}
 use Rattle.pv_journal.specs.Obeying.{Held, Bond, State, at_first, same_id, place_of, held_at, is_open, ends_at, begins_at, is_id, left_of, may_leave, may_make, may_pair, with_held, keeping, end_at, expose_at, at_held, after_fact, after}
 use Rattle.pv_journal.specs.Reading.{test_in}

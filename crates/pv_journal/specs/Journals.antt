@@ -3,7 +3,7 @@ use Rattle.std.specs.Prelude.{ℕ, List, [], ◌∷◌, ◌++◌, length, codes,
 use Rattle.std.specs.List.{join_with_byte}
 use Rattle.std.specs.Fmt.{decimal}
 use Rattle.pv_print.specs.Texts.{address_text}
-use Rattle.pv_watch.specs.Lines.{test_text}
+use Rattle.pv_prov.specs.TestNumbers.{test_text}
 
 -- the memory model: what a storage instance (6.2.4p1) is called by, the text of its name and which of this name it is
 pub record Id : Type 0 where

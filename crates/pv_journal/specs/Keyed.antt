@@ -1,7 +1,7 @@
 -- Bridges from the code's state, in which names go by numbers, to the state that lines leave: what it tests and changes.
 use Rattle.std.specs.Prelude.{◌≡◌, ℕ, ◌+◌, ◌-◌, ◌^◌, Bool, true, false, ◌&&◌, ◌||◌, ◌==◌, not, nat_lt, nat_le, List, [], ◌∷◌, ◌++◌, length, Option, Some, None, if◌then◌else◌, slice_set, slice_get, option_and_then, position, sum_by}
 use Rattle.std.specs.List.{list_all, list_any}
-use Rattle.pv_watch.specs.Lines.{live_test, range_test, block_test, same_test, code_test}
+use Rattle.pv_prov.specs.TestNumbers.{live_test, range_test, block_test, same_test, code_test}
 use Rattle.pv_journal.specs.declared.line.Key.{Key}
 use Rattle.pv_journal.specs.declared.held.Held.{Held}
 use Rattle.pv_journal.specs.declared.bonds.Bond.{Bond}

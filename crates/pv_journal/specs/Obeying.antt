@@ -3,7 +3,7 @@ use Rattle.std.specs.Prelude.{◌≡◌, ℕ, ◌+◌, ◌-◌, ◌^◌, Bool, t
 use Rattle.std.specs.List.{list_any, list_all}
 use Rattle.std.specs.Str.{bytes_eq}
 use Rattle.pv_script.specs.Words.{is_name}
-use Rattle.pv_watch.specs.Lines.{live_test, range_test, block_test, same_test, code_test}
+use Rattle.pv_prov.specs.TestNumbers.{live_test, range_test, block_test, same_test, code_test}
 use Rattle.pv_journal.specs.Journals.{Id, Fact, Made, Ended, Exposed, Paired, Used, Fault, Row, rows_text, journal_text, last_text, row_text}
 
 -- the memory model: a storage instance that was made (6.2.4p2): its address, its size, whether it lives and whether it is exposed

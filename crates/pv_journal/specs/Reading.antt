@@ -5,7 +5,7 @@ use Rattle.std.specs.Str.{bytes_eq}
 use Rattle.std.specs.Char.{digit_value}
 use Rattle.std.specs.Fmt.{decimal}
 use Rattle.pv_print.specs.Texts.{address_text}
-use Rattle.pv_watch.specs.Lines.{live_test, range_test, block_test, same_test, code_test}
+use Rattle.pv_prov.specs.TestNumbers.{live_test, range_test, block_test, same_test, code_test}
 use Rattle.pv_journal.specs.Journals.{Id, Fact, Made, Ended, Exposed, Paired, Used, Fault, Row, last_text}
 use Rattle.pv_journal.specs.Obeying.{State, at_first, after}
 

@@ -5,8 +5,8 @@ ghost use Rattle.pv_journal.specs.Standing.{IsBondKnown, HasText, is_heap};
 
 use crate::held::{Held, Instances, same_key};
 use crate::line::Key;
+use pv_prov::{BLOCK_TEST, CODE_TEST, LIVE_TEST, RANGE_TEST, SAME_TEST};
 use pv_script::{Names, NoMemory};
-use pv_watch::{BLOCK_TEST, CODE_TEST, LIVE_TEST, RANGE_TEST, SAME_TEST};
 use std::alloc::Global;
 use std::marker::Model;
 

@@ -34,7 +34,7 @@ pub enum Said {
         low: Key,
         high: Key,
     },
-    /// A pointer of a pair is used: the number of the test that was made (`LIVE_TEST` of `pv_watch`, and those beside it),
+    /// A pointer of a pair is used: the number of the test that was made (`LIVE_TEST` of `pv_prov`, and those beside it),
     /// and which candidates passed it, one or two.
     Used {
         pair: u64,

@@ -6,8 +6,8 @@ ghost use Rattle.pv_journal.specs.Views.{id_of, fact_of, row_of, ids_of};
 ghost use Rattle.pv_journal.specs.Reading as reading;
 
 use crate::words::{address_in, behind, decimal_in, marks};
+use pv_prov::{BLOCK_TEST, CODE_TEST, LIVE_TEST, RANGE_TEST, SAME_TEST};
 use pv_script::{NoMemory, pieces};
-use pv_watch::{BLOCK_TEST, CODE_TEST, LIVE_TEST, RANGE_TEST, SAME_TEST};
 use std::alloc::Global;
 
 /// What an instance is called by: the text of its name, and which of this name it is.

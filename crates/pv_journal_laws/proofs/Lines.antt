@@ -4,7 +4,8 @@ use Rattle.std.specs.Fmt.{decimal}
 use Rattle.pv_print.specs.Texts.{address_text}
 use Rattle.pv_watch.specs.declared.event.Event.{Event}
 use Rattle.pv_watch.specs.declared.event.What.TheVariants as what
-use Rattle.pv_watch.specs.Lines.{first_told, making_of_pair, instance_text, survivors_of, test_text, field, what_text}
+use Rattle.pv_prov.specs.TestNumbers.{test_text}
+use Rattle.pv_watch.specs.Lines.{first_told, making_of_pair, instance_text, survivors_of, field, what_text}
 use Rattle.pv_journal.specs.Journals.{Id, Made, Ended, Exposed, Paired, Used, Fault, id_text, left_text, row_text}
 
 -- what is told makes known who an instance is, and whose a pair is

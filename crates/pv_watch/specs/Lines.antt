@@ -3,6 +3,7 @@ use Rattle.std.specs.Prelude.{ℕ, Bool, true, false, List, [], ◌∷◌, ◌++
 use Rattle.std.specs.Option.{option_or}
 use Rattle.std.specs.Fmt.{decimal}
 use Rattle.pv_print.specs.Texts.{address_text}
+use Rattle.pv_prov.specs.TestNumbers.{test_text}
 use Rattle.pv_script.specs.Names.{name_at}
 use Rattle.pv_watch.specs.declared.event.Event.{Event}
 use Rattle.pv_watch.specs.declared.event.What.{What}
@@ -44,32 +45,6 @@ survivors l h false false = []
 abbrev pub survivors_of : List Event → List (List ℕ) → Option (ℕ × ℕ) → (low high : Bool) → List ℕ
 survivors_of seen names None low high = survivors (codes "?") (codes "?") low high
 survivors_of seen names (Some p) low high = survivors (instance_text seen names p.0) (instance_text seen names p.1) low high
-
--- the memory model: the numbers that events give of the tests of a use: the candidate is live (6.2.4p2)
-abbrev pub live_test : ℕ
-live_test = 1
-
--- a range lies in the candidate (6.5.6p8, 6.5.3.2p4)
-abbrev pub range_test : ℕ
-range_test = 2
-
--- the candidate is an allocation that begins there (7.22.3.3p2)
-abbrev pub block_test : ℕ
-block_test = 3
-
--- the candidate is one of the other operand too (6.5.8p5, 6.5.6p9)
-abbrev pub same_test : ℕ
-same_test = 4
-
--- the candidate is a function that begins there (6.5.2.2p1)
-abbrev pub code_test : ℕ
-code_test = 5
-
--- the memory model: a use's test, by its number
-abbrev pub test_text : ℕ → List ℕ
-test_text n =
-    if n == live_test then codes "live" else if n == range_test then codes "range" else if n == block_test then codes "block"
-    else if n == same_test then codes "same" else if n == code_test then codes "code" else codes "?"
 
 -- a word and its text (docs/FORMATS.md, What watchers say; memory model)
 abbrev pub field : List ℕ → List ℕ → List ℕ

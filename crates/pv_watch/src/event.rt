@@ -37,7 +37,8 @@ pub enum What {
         low: u64,
         high: u64,
     },
-    /// A pointer whose pair still had both candidates was used, by one of the tests below; `low` and `high` say who passed.
+    /// A pointer whose pair still had both candidates was used, by the test of this number (`LIVE_TEST` of `pv_prov`, and those
+    /// beside it); `low` and `high` say who passed.
     Tried {
         pair: u64,
         test: u8,
@@ -52,18 +53,3 @@ pub enum What {
         pair: Option<u64>,
     },
 }
-
-/// The number of the test that the instance is alive (C17 6.2.4p2).
-pub const LIVE_TEST: u8 = 1;
-
-/// The number of the test that the addresses lie in the instance (6.5.6p8).
-pub const RANGE_TEST: u8 = 2;
-
-/// The number of the test that the instance is a block of the heap that begins there (7.22.3.3p2).
-pub const BLOCK_TEST: u8 = 3;
-
-/// The number of the test that both pointers are to the instance (6.5.8p5).
-pub const SAME_TEST: u8 = 4;
-
-/// The number of the test that the instance is a function that begins there (6.5.2.2p1).
-pub const CODE_TEST: u8 = 5;

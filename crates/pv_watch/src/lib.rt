@@ -11,6 +11,7 @@ mod seats;
 mod watch;
 
 pub use error::NoMemory;
-pub use event::{BLOCK_TEST, CODE_TEST, Event, LIVE_TEST, RANGE_TEST, SAME_TEST, What};
+pub use event::{Event, What};
 pub use hall::Hall;
+pub use pv_prov::{BLOCK_TEST, CODE_TEST, LIVE_TEST, RANGE_TEST, SAME_TEST};
 pub use watch::{Attend, Watch};

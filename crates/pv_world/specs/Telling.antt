@@ -20,7 +20,7 @@ use Rattle.pv_world.specs.declared.failing.Blame.{Blame}
 use Rattle.pv_watch.specs.declared.event.What.{What}
 use Rattle.pv_watch.specs.declared.event.What.TheVariants as what
 use Rattle.pv_fault.specs.declared.verdict.Verdict.{Verdict}
-pub use Rattle.pv_watch.specs.Lines.{live_test, range_test, same_test, code_test}
+pub use Rattle.pv_prov.specs.TestNumbers.{live_test, range_test, same_test, code_test}
 use Rattle.pv_world.specs.Worlds.{Wrong, ByVerdict, Halts}
 
 -- what an operation tells: its events (the memory model), and the bytes that it prints (7.21.6.3)
