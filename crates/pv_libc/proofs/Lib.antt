@@ -7,4 +7,4 @@ pub mod Quiet
 pub mod Reaches
 pub mod Running
 pub mod Steps
-pub mod Surviving
+pub mod Used

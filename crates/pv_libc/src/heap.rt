@@ -11,16 +11,17 @@ ghost use Rattle.pv_object.specs.Creating.{without};
 ghost use Rattle.pv_libc.specs.declared.values.Note.TheVariants.{Ended};
 ghost use Rattle.pv_object.specs.Access.{chosen};
 ghost use Rattle.pv_libc.specs.Steps.{with_notes};
-ghost use Rattle.pv_libc.specs.Answers.{OrNoMemory};
+ghost use Rattle.pv_libc.specs.Answers.{OrNoMemory, worth};
+ghost use Rattle.pv_object.specs.Answers.{without_use, tried_in, survivors};
 ghost use Rattle.pv_libc.specs.Heap.{told_of, block_stop, block_answer, pointer_to, requested, block, malloc, calloc, free, realloc, resized, both};
 ghost use Rattle.pv_libc.specs.Blocks.{filled};
 
 use crate::blocks::fill;
-use crate::notes::note_use;
+use crate::notes::{note_use, stopped_after};
 use crate::values::{Given, Note, Reply};
 use pv_fault::{Clause, Reason};
 use pv_inst::{CreateError, Info, Kind, Miss, Test, Tried};
-use pv_object::{Memory, Pointer, Reach, Stop, Value, undefined};
+use pv_object::{Memory, Pointer, Reach, Stop, Stopped, UNTRIED, Value, undefined};
 use pv_prov::{NoMemory, Prov, Stands};
 use pv_script::Names;
 
@@ -32,13 +33,6 @@ const NULL: Value = Value::Pointer(Pointer {
 
 /// The number of the name `@heap`.
 const HEAP: u32 = 1;
-
-/// What a use finds that tests nothing.
-const UNTRIED: Tried = Tried {
-    pair: None,
-    low: false,
-    high: false,
-};
 
 /// A pointer to the first byte of an allocation.
 fn pointer_to(memory: &Memory, i: u64) -> Reply
@@ -160,28 +154,36 @@ fn chosen(stands: Stands, tried: Tried) -> Option<u64>
 
 /// The allocation that a pointer to its first byte means.
 #[tactic(auto, using(crate::proofs::Reaches::told_live))]
-fn block(memory: &mut Memory, clause: Clause, p: Pointer) -> Result<u64, Stop>
+fn block(memory: &mut Memory, clause: Clause, p: Pointer) -> Result<(u64, Tried), Stopped>
     requires { IsMadeIn memory.old.table p.prov }
-    ensures answer { result ≡ block_answer clause memory.old p (use_answer memory.old.table p.prov (Block p.address)) }
+    ensures answer { worth (λ r. r.0) (without_use result) ≡ block_answer clause memory.old p (use_answer memory.old.table p.prov (Block p.address)) }
+    ensures tried { tried_in (λ r. r.1) result ≡ survivors (use_answer memory.old.table p.prov (Block p.address)) }
     ensures state { memory.new ≡ with_table memory.old (settled memory.old.table p.prov (use_answer memory.old.table p.prov (Block p.address))) }
-    ensures live { IfOk result (λ i. IsLive memory.new.table.instances i) }
+    ensures live { IfOk result (λ r. IsLive memory.new.table.instances r.0) }
 {
     let stands = memory.instances().stands(p.prov);
     let tried = match memory.block(p) {
         Ok(tried) => tried,
-        Err(miss) => return Err(block_stop(clause, miss)),
+        Err(miss) => {
+            let stop = block_stop(clause, miss);
+            return Err(Stopped {
+                stop,
+                tried: UNTRIED,
+            });
+        }
     };
+    let stop = undefined(clause, Reason::Block);
     let Some(i) = chosen(stands, tried) else {
-        return Err(undefined(clause, Reason::Block));
+        return Err(Stopped { stop, tried });
     };
     match memory.instances().info(i) {
-        Some(_) => Ok(i),
-        None => Err(undefined(clause, Reason::Block)),
+        Some(_) => Ok((i, tried)),
+        None => Err(Stopped { stop, tried }),
     }
 }
 
-/// The same, with its note.
-#[tactic(auto, using(crate::proofs::Steps::or_is))]
+/// The same, with the note of its use.
+#[tactic(auto, using(crate::proofs::Steps::or_is, crate::proofs::Used::noted_next))]
 fn block_noted(
     memory: &mut Memory,
     notes: &mut Vec<Note>,
@@ -194,15 +196,12 @@ fn block_noted(
 {
     let p = given.pointer;
     let test = Test::Block { address: p.address };
-    if note_use(memory, notes, p.prov, test).is_err() {
-        return Err(Stop::NoMemory);
-    }
     match block(memory, clause, p) {
-        Ok(i) => Ok(i),
-        Err(stop) => match notes.push(given.stopped) {
-            Ok(()) => Err(stop),
-            Err(_) => Err(Stop::NoMemory),
+        Ok((i, tried)) => match note_use(notes, test, tried) {
+            Ok(()) => Ok(i),
+            Err(NoMemory) => Err(Stop::NoMemory),
         },
+        Err(stopped) => Err(stopped_after(notes, test, stopped, given.stopped)),
     }
 }
 

@@ -1,48 +1,43 @@
 // What is noted of a call: uses of names that stood for two, exposures, and the pointer whose check stops it.
-ghost use Rattle.std.specs.Prelude.{◌≡◌, ◌++◌, OnOk, IfOk};
+ghost use Rattle.std.specs.Prelude.{◌≡◌, ◌∷◌, [], ◌++◌, Ok, OnOk, IfOk};
 ghost use Rattle.pv_inst.specs.Table.{IsMadeIn};
-ghost use Rattle.pv_inst.specs.Use.{test_number, use_answer};
+ghost use Rattle.pv_inst.specs.Use.{test_number};
 ghost use Rattle.pv_object.specs.Reaching.{IsReach};
 ghost use Rattle.pv_object.specs.Later.{IsLater};
 ghost use Rattle.pv_libc.specs.Steps.{used, told, reached, with_notes};
-ghost use Rattle.pv_libc.specs.Answers.{OrNoMemory};
+ghost use Rattle.pv_libc.specs.Answers.{OrNoMemory, StopsSo};
 
 use crate::values::{Given, Note};
 use pv_inst::{Test, Tried};
-use pv_object::{Asker, Memory, Reach, Stop};
-use pv_prov::{NoMemory, Prov};
+use pv_object::{Asker, Memory, Reach, Stop, Stopped};
+use pv_prov::NoMemory;
 
-/// Notes a use of a name that stands for two, before it is made. A use that finds none is not noted.
-#[tactic(auto, using(crate::proofs::Surviving::unpaired))]
-pub(crate) fn note_use(
-    memory: &Memory,
-    notes: &mut Vec<Note>,
-    p: Prov,
-    test: Test,
-) -> Result<(), NoMemory>
-    requires { IsMadeIn memory.now.table p }
-    ensures { OnOk result (notes.new.items ≡ notes.old.items ++ used (use_answer memory.now.table p test) (test_number test)) }
+/// Notes what a use by this test found, where its name stood for two.
+pub(crate) fn note_use(notes: &mut Vec<Note>, test: Test, tried: Tried) -> Result<(), NoMemory>
+    ensures { OnOk result (notes.new.items ≡ notes.old.items ++ used (Ok tried) (test_number test)) }
 {
-    let Prov::Pair(k) = p else {
-        return Ok(());
-    };
-    let stands = memory.instances().stands(p);
-    let low = memory.instances().survives(stands.low, test);
-    let high = memory.instances().survives(stands.high, test);
-    if !(low || high) || stands.low.is_none() || stands.high.is_none() {
+    if tried.pair.is_none() {
         return Ok(());
     }
-    let tried = Tried {
-        pair: Some(k),
-        low,
-        high,
-    };
     match notes.push(Note::Used {
         tried,
         test: test.number(),
     }) {
         Ok(()) => Ok(()),
         Err(_) => Err(NoMemory),
+    }
+}
+
+/// The call stops: what the use before found by this test is noted, and last this.
+pub(crate) fn stopped_after(notes: &mut Vec<Note>, test: Test, by: Stopped, last: Note) -> Stop
+    ensures { StopsSo result notes.new.items by.stop (notes.old.items ++ used (Ok by.tried) (test_number test) ++ last ∷ []) }
+{
+    if note_use(notes, test, by.tried).is_err() {
+        return Stop::NoMemory;
+    }
+    match notes.push(last) {
+        Ok(()) => by.stop,
+        Err(_) => Stop::NoMemory,
     }
 }
 
@@ -60,7 +55,7 @@ pub(crate) fn note_exposed(memory: &mut Memory, notes: &mut Vec<Note>) -> Result
 }
 
 /// The checks of an access to `n` bytes.
-#[tactic(auto, using(crate::proofs::Steps::or_is))]
+#[tactic(auto, using(crate::proofs::Steps::or_is, crate::proofs::Used::noted_next))]
 pub(crate) fn reached(
     memory: &mut Memory,
     notes: &mut Vec<Note>,
@@ -79,14 +74,11 @@ pub(crate) fn reached(
         address: p.address,
         size: n,
     };
-    if note_use(memory, notes, p.prov, test).is_err() {
-        return Err(Stop::NoMemory);
-    }
     match memory.reach(p, n, 1, write, by) {
-        Ok(at) => Ok(at),
-        Err(stop) => match notes.push(given.stopped) {
-            Ok(()) => Err(stop),
-            Err(_) => Err(Stop::NoMemory),
+        Ok(at) => match note_use(notes, test, at.tried) {
+            Ok(()) => Ok(at),
+            Err(NoMemory) => Err(Stop::NoMemory),
         },
+        Err(stopped) => Err(stopped_after(notes, test, stopped, given.stopped)),
     }
 }

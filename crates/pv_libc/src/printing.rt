@@ -4,7 +4,7 @@ ghost use Rattle.pv_num.specs.Kinds.{bits_of};
 ghost use Rattle.pv_num.specs.declared.kinds.IntKind.TheVariants as kind;
 ghost use Rattle.pv_inst.specs.Table.{IsMadeIn};
 ghost use Rattle.pv_object.specs.Later.{IsLater};
-ghost use Rattle.pv_object.specs.Answers.{IsMadeValue};
+ghost use Rattle.pv_object.specs.Answers.{IsMadeValue, tried_in};
 ghost use Rattle.pv_libc.specs.Steps.{with_notes};
 ghost use Rattle.pv_libc.specs.Answers.{OrNoMemory, worth};
 ghost use Rattle.pv_libc.specs.Arguments.{number_text, pointer_text, written_kind, number_of, string_of, address_of};
@@ -18,9 +18,9 @@ use crate::heap::whole;
 use crate::notes::{note_exposed, note_use};
 use crate::values::{Arg, Given, Note, Offered, Shape};
 use pv_fault::{Clause, Reason};
-use pv_inst::Test;
+use pv_inst::{Test, Tried};
 use pv_num::{IntKind, fits};
-use pv_object::{Asker, Memory, Pointer, Stop, Value, undefined};
+use pv_object::{Asker, Memory, Pointer, Stop, Stopped, Value, undefined};
 use pv_print::{address, hex, number};
 use pv_prov::{NoMemory, Prov};
 use pv_shadow::Byte;
@@ -131,6 +131,16 @@ fn address_of(x: Arg) -> Option<Pointer>
     }
 }
 
+/// What the live test of a pointer found that is a number now, or is none.
+fn tried_of(number: Result<(i128, Tried), Stopped>) -> Tried
+    ensures { result ≡ tried_in (λ r. r.1) number }
+{
+    match number {
+        Ok((_, tried)) => tried,
+        Err(stopped) => stopped.tried,
+    }
+}
+
 /// What `%p` prints, after the live test and the exposure.
 #[tactic(auto, using(pv_object::proofs::Later::later_both, pv_object::proofs::Later::later_itself))]
 fn address_done(
@@ -144,10 +154,10 @@ fn address_done(
     ensures later { IsLater memory.old.table memory.new.table }
 {
     let p = given.pointer;
-    if note_use(memory, notes, p.prov, Test::Live).is_err() {
+    let number = memory.to_int(p, IntKind::ULong);
+    if note_use(notes, Test::Live, tried_of(number)).is_err() {
         return Err(Stop::NoMemory);
     }
-    let number = memory.to_int(p, IntKind::ULong);
     if note_exposed(memory, notes).is_err() {
         return Err(Stop::NoMemory);
     }
@@ -156,8 +166,8 @@ fn address_done(
             Ok(text) => Ok(text),
             Err(NoMemory) => Err(Stop::NoMemory),
         },
-        Err(stop) => match notes.push(given.stopped) {
-            Ok(()) => Err(stop),
+        Err(stopped) => match notes.push(given.stopped) {
+            Ok(()) => Err(stopped.stop),
             Err(_) => Err(Stop::NoMemory),
         },
     }

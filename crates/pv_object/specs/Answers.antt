@@ -11,8 +11,11 @@ use Rattle.pv_inst.specs.declared.values.CreateError.{CreateError}
 use Rattle.pv_inst.specs.declared.values.CreateError.TheVariants.{NoMemory}
 use Rattle.pv_inst.specs.declared.values.Instance.{Instance}
 use Rattle.pv_inst.specs.declared.values.Tried.{Tried}
+use Rattle.pv_inst.specs.declared.values.Miss.{Miss}
+use Rattle.pv_inst.specs.Use.{untried}
 use Rattle.pv_object.specs.Memory.{Mem}
 use Rattle.pv_object.specs.declared.values.Stop.{Stop}
+use Rattle.pv_object.specs.declared.values.Stopped.{Stopped}
 use Rattle.pv_object.specs.Access.{fault}
 use Rattle.pv_object.specs.declared.values.Pointer.{Pointer}
 use Rattle.pv_object.specs.Operations.{together}
@@ -58,3 +61,18 @@ abbrev pub IsMadeValue : Table → Value → Type 0
 IsMadeValue T (value.Pointer p) = IsMadeIn T p.prov
 IsMadeValue T (value.Int n) = Unit {0}
 IsMadeValue T value.Unset = Unit {0}
+
+-- the memory model: an answer, or why there is none, without what a use found by then
+abbrev pub without_use : {A : Type 0} → Result A Stopped → Result A Stop
+without_use (Ok a) = Ok a
+without_use (Err s) = Err s.stop
+
+-- the memory model: what the use of a name found, on success and on a stop alike
+abbrev pub tried_in : {A : Type 0} → (A → Tried) → Result A Stopped → Tried
+tried_in f (Ok a) = f a
+tried_in f (Err s) = s.tried
+
+-- the memory model: the survivors of a use, none where it has none
+abbrev pub survivors : Result Tried Miss → Tried
+survivors (Ok tried) = tried
+survivors (Err m) = untried

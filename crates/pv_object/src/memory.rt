@@ -16,7 +16,7 @@ ghost use Rattle.pv_object.specs.Memory.{Mem, with_table, empty_memory};
 ghost use Rattle.pv_object.specs.Reaching.{IsReach};
 ghost use Rattle.pv_object.specs.Later.{IsLater};
 ghost use Rattle.pv_object.specs.Values.{IsOf};
-ghost use Rattle.pv_object.specs.Answers.{IsMadeValue, stored, OrSpent, HasSize};
+ghost use Rattle.pv_object.specs.Answers.{IsMadeValue, stored, OrSpent, HasSize, without_use, tried_in, survivors};
 ghost use Rattle.pv_object.specs.Encoding.{size_of, encode};
 ghost use Rattle.pv_object.specs.Access.{reach};
 ghost use Rattle.pv_object.specs.Loading.{value_of, load, exposed_by, tested, integer_of, pointer_of};
@@ -27,9 +27,9 @@ ghost use Rattle.pv_shadow.specs.Whole.{pointed, little_endian, number_in};
 ghost use Rattle.pv_object.specs.declared.values.Scalar.{Scalar as Form};
 ghost use Rattle.pv_object.specs.declared.values.Value.{Value as Stored};
 
-use crate::checks::{Wish, checked_in, chosen, clause_of, range_stop, undefined};
+use crate::checks::{Wish, behind, checked_in, chosen, clause_of, range_stop, undefined, unused};
 use crate::encoding;
-use crate::values::{Asker, Pointer, Reach, Scalar, Stop, Value};
+use crate::values::{Asker, Pointer, Reach, Scalar, Stop, Stopped, UNTRIED, Value};
 use pv_fault::{Clause, Reason, Verdict};
 use pv_inst::{CreateError, Instances, Kind, Miss, Test, Tried};
 use pv_num::{IntKind, convert, is_character_kind};
@@ -38,13 +38,6 @@ use pv_script::{Names, Script};
 use pv_shadow::{BLANK, Byte, Bytes, whole_name};
 use std::alloc::Global;
 use std::marker::Model;
-
-/// What a use finds that tests nothing.
-const UNTRIED: Tried = Tried {
-    pair: None,
-    low: false,
-    high: false,
-};
 
 /// The storage instances of a run and the bytes of the live ones, seen as `Mem`.
 #[derive(Drop)]
@@ -250,7 +243,7 @@ impl Memory {
     /// candidate is live (6.2.4p2), the bytes lie in a live candidate, the address is a multiple of `align`, and what
     /// is written to is no literal (6.4.5p7) and not const-qualified (6.7.3p6).
     #[inline(always)]
-    #[tactic(auto, using(crate::proofs::Later::later_itself, crate::proofs::Later::later_both))]
+    #[tactic(auto, using(crate::proofs::Later::later_itself, crate::proofs::Later::later_both, crate::proofs::Survivors::null_untried, crate::proofs::Survivors::empty_untried))]
     pub fn reach(
         &mut self,
         p: Pointer,
@@ -258,20 +251,21 @@ impl Memory {
         align: u64,
         write: bool,
         by: Asker,
-    ) -> Result<Reach, Stop>
+    ) -> Result<Reach, Stopped>
         requires made { IsMadeIn self.old.table p.prov }
         requires aligned { 1 ≤ align }
-        ensures answer { result ≡ (reach self.old.table p n align write by).0 }
+        ensures answer { without_use result ≡ (reach self.old.table p n align write by).0 }
+        ensures tried { tried_in (λ r. r.tried) result ≡ survivors (use_answer self.old.table p.prov (Test.Range p.address n)) }
         ensures state { self.new ≡ with_table self.old (reach self.old.table p n align write by).1 }
         ensures later { IsLater self.old.table self.new.table }
         ensures within { IfOk result (λ r. IsReach self.new.table r n) }
     {
         let clause = clause_of(by);
         if p.is_null() {
-            return Err(undefined(clause, Reason::Null));
+            return Err(unused(undefined(clause, Reason::Null)));
         }
         if p.prov.is_empty() {
-            return Err(undefined(clause, Reason::Empty));
+            return Err(unused(undefined(clause, Reason::Empty)));
         }
         let stands = self.table.stands(p.prov);
         let test = Test::Range {
@@ -280,10 +274,11 @@ impl Memory {
         };
         let tried = match self.narrow(p.prov, test) {
             Ok(tried) => tried,
-            Err(miss) => return Err(range_stop(clause, miss)),
+            Err(miss) => return Err(unused(range_stop(clause, miss))),
         };
         let Some(i) = chosen(stands, tried) else {
-            return Err(undefined(clause, Reason::Outside));
+            let stop = undefined(clause, Reason::Outside);
+            return Err(Stopped { stop, tried });
         };
         let wish = Wish {
             clause,
@@ -292,7 +287,7 @@ impl Memory {
             align,
             write,
         };
-        checked_in(i, wish, tried, self.table.info(i))
+        behind(tried, checked_in(i, wish, tried, self.table.info(i)))
     }
 
     /// The value at a place that was reached. All bytes stay.

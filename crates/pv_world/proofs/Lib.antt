@@ -4,7 +4,7 @@ pub mod Bindings
 pub mod Makings
 pub mod Laters
 pub mod Literals
-pub mod Surviving
+pub mod Used
 pub mod Differences
 pub mod Rooms
 pub mod LoadSteps

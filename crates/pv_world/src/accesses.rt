@@ -21,17 +21,16 @@ ghost use Rattle.pv_world.specs.Preconditions.{HasSizeOf, HasPart, IsStored};
 ghost use Rattle.pv_world.specs.Loads.{ReadsOn};
 ghost use Rattle.pv_world.specs.Coming.{Came, Did, seen, worth_of, IsMadeWorth};
 
-use crate::failing::{Blame, blame_of, fail, stopped};
+use crate::failing::{Blame, blame_of, fail, stopped_after};
 use crate::got::{Failure, Got, Shape};
 use crate::loads::{blame_of_bytes, blame_since, blame_within};
 use crate::operands::missing;
-use crate::uses::tell_use;
+use crate::telling::tell_used;
 use crate::world::World;
-use pv_inst::Test;
 use pv_num::IntKind;
 use pv_object::{Asker, Pointer, Reach, Scalar};
 use pv_shadow::{BLANK, Byte};
-use pv_watch::What;
+use pv_watch::{RANGE_TEST, What};
 
 /// The address where a structure or union was read, if by an lvalue.
 pub fn origin_of(v: &Got) -> Option<u64>
@@ -67,7 +66,7 @@ impl World {
     /// The checks of an access to `n` bytes (6.5.3.2p4, 6.2.4p2, 6.4.5p7, 6.7.3p6), with the use of the pointer for their
     /// range, which stays told where a later check ends the run.
     #[inline(always)]
-    #[tactic(auto, using(crate::proofs::Reaching::reach_goes, crate::proofs::Reaching::reach_stops, crate::proofs::Reaching::reach_settled, crate::proofs::Laters::later_itself))]
+    #[tactic(auto, using(crate::proofs::Reaching::reach_goes, crate::proofs::Reaching::reach_stops, crate::proofs::Reaching::reach_settled, crate::proofs::Used::told_next, crate::proofs::Used::fault_next, crate::proofs::Laters::later_itself))]
     pub fn reach(
         &mut self,
         p: Pointer,
@@ -88,16 +87,12 @@ impl World {
         ensures memory { self.new ≡ record self.old { memory = self.new.memory } }
     {
         let blame = blame_of(&self.memory, p.prov);
-        let test = Test::Range {
-            address: p.address,
-            size: n,
-        };
-        let Ok(()) = tell_use(told, &self.memory, p.prov, test) else {
-            return Err(Failure::NoMemory);
-        };
         match self.memory.reach(p, n, align, write, Asker::Access) {
-            Ok(at) => Ok(at),
-            Err(stop) => Err(stopped(told, stop, Some(blame))),
+            Ok(at) => match tell_used(told, RANGE_TEST, at.tried) {
+                Ok(()) => Ok(at),
+                Err(_) => Err(Failure::NoMemory),
+            },
+            Err(by) => Err(stopped_after(told, RANGE_TEST, by, blame)),
         }
     }
 

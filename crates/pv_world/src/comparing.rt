@@ -7,16 +7,14 @@ ghost use Rattle.pv_object.specs.Operations.{order, equal};
 ghost use Rattle.pv_world.specs.Pointers.{orders, ordered_by, is_order, equals, equal_by};
 ghost use Rattle.pv_world.specs.Coming.{Did, worth_of, IsMadeWorth};
 
-use crate::failing::{blame_of, fail, stopped};
+use crate::failing::{blame_of, fail, stopped, stopped_after};
 use crate::got::{Failure, Got};
 use crate::operands::{pointer_of, truth_value, unplain};
 use crate::subtracting::tell_both;
-use crate::telling::tell_used;
-use crate::uses::tell_live_use;
 use crate::world::World;
 use pv_num::{BinOp, IntKind};
 use pv_object::{Pointer, Value};
-use pv_watch::{LIVE_TEST, What};
+use pv_watch::{LIVE_TEST, SAME_TEST, What};
 
 /// 1 where two addresses stand in this order, and else 0.
 fn compared(op: BinOp, p: u64, q: u64) -> i128
@@ -60,7 +58,7 @@ impl World {
     }
 
     // The live test of each, the left one first, and the addresses compared.
-    #[tactic(auto, using(crate::proofs::Comings::came_fails, crate::proofs::Laters::later_itself, crate::proofs::Laters::made_later))]
+    #[tactic(auto, using(crate::proofs::Used::equal_gave, crate::proofs::Used::equal_stops, crate::proofs::Laters::later_itself, crate::proofs::Laters::made_later))]
     fn equal_pointers(
         &mut self,
         negated: bool,
@@ -76,15 +74,12 @@ impl World {
         ensures made { IfOk result (λ g. IsMadeWorth self.new.memory.table (worth_of g)) }
     {
         let blame = blame_of(&self.memory, p.prov);
-        let Ok(()) = tell_live_use(told, &self.memory, p) else {
-            return Err(Failure::NoMemory);
-        };
         match self.memory.equal(p, q) {
-            Ok((answer, _, right)) => match tell_used(told, LIVE_TEST, right) {
+            Ok((answer, left, right)) => match tell_both(told, LIVE_TEST, left, right) {
                 Ok(()) => Ok(truth_value(if negated { !answer } else { answer })),
                 Err(_) => Err(Failure::NoMemory),
             },
-            Err(stop) => Err(stopped(told, stop, Some(blame))),
+            Err(by) => Err(stopped_after(told, LIVE_TEST, by, blame)),
         }
     }
 
@@ -133,7 +128,7 @@ impl World {
     {
         let blame = blame_of(&self.memory, p.prov);
         match self.memory.order(p, q) {
-            Ok((_, left, right)) => match tell_both(told, left, right) {
+            Ok((_, left, right)) => match tell_both(told, SAME_TEST, left, right) {
                 Ok(()) => Ok(Got::Scalar(Value::Int(compared(op, p.address, q.address)))),
                 Err(_) => Err(Failure::NoMemory),
             },

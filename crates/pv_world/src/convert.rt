@@ -9,14 +9,14 @@ ghost use Rattle.pv_world.specs.Preconditions.{IsSmall};
 ghost use Rattle.pv_world.specs.Conversions.{converts, recast_by, passes};
 ghost use Rattle.pv_world.specs.Coming.{Did, worth_of, IsMadeWorth};
 
-use crate::failing::{blame_of, fail, stopped};
+use crate::failing::{blame_of, fail, stopped_after};
 use crate::got::{Failure, Got, How};
 use crate::operands::{int_of, missing, pointer_of, truth_value, unplain};
-use crate::uses::tell_live_use;
+use crate::telling::tell_used;
 use crate::world::World;
 use pv_num::{IntKind, convert};
 use pv_object::{Pointer, Value};
-use pv_watch::What;
+use pv_watch::{LIVE_TEST, What};
 
 impl World {
     /// A conversion (6.3).
@@ -95,7 +95,7 @@ impl World {
     }
 
     // The live test, and the alignment.
-    #[tactic(auto, using(crate::proofs::Comings::came_fails, crate::proofs::Laters::later_itself, crate::proofs::Laters::later_both, crate::proofs::Laters::made_later))]
+    #[tactic(auto, using(crate::proofs::Used::recast_gave, crate::proofs::Used::recast_stops, crate::proofs::Laters::later_itself, crate::proofs::Laters::later_both, crate::proofs::Laters::made_later))]
     fn recast_pointer(
         &mut self,
         align: u64,
@@ -110,12 +110,12 @@ impl World {
         ensures made { IfOk result (λ g. IsMadeWorth self.new.memory.table (worth_of g)) }
     {
         let blame = blame_of(&self.memory, p.prov);
-        let Ok(()) = tell_live_use(told, &self.memory, p) else {
-            return Err(Failure::NoMemory);
-        };
         match self.memory.recast(p, align) {
-            Ok(_) => Ok(Got::Scalar(Value::Pointer(p))),
-            Err(stop) => Err(stopped(told, stop, Some(blame))),
+            Ok(tried) => match tell_used(told, LIVE_TEST, tried) {
+                Ok(()) => Ok(Got::Scalar(Value::Pointer(p))),
+                Err(_) => Err(Failure::NoMemory),
+            },
+            Err(by) => Err(stopped_after(told, LIVE_TEST, by, blame)),
         }
     }
 }

@@ -23,7 +23,6 @@ mod stores;
 mod subtracting;
 mod telling;
 mod truth;
-mod uses;
 mod world;
 
 pub use accesses::{mark_of, origin_of};

@@ -9,16 +9,15 @@ ghost use Rattle.pv_world.specs.Worths.{unplain, int_of, pointer_of};
 ghost use Rattle.pv_world.specs.Conversions.{converts, number_by, pointed};
 ghost use Rattle.pv_world.specs.Coming.{Did, worth_of, IsMadeWorth};
 
-use crate::failing::{blame_of, fail, stopped};
+use crate::failing::{blame_of, fail, stopped_after};
 use crate::got::{Failure, Got, How};
 use crate::operands::{int_of, pointer_of, unplain};
-use crate::telling::{tell_exposed, tell_pairs};
-use crate::uses::tell_live_use;
+use crate::telling::{tell_exposed, tell_pairs, tell_used};
 use crate::world::World;
 use pv_num::IntKind;
 use pv_object::{Pointer, Value};
 use pv_prov::NoMemory;
-use pv_watch::What;
+use pv_watch::{LIVE_TEST, What};
 
 impl World {
     // A pointer to an integer type (6.3.2.3p6).
@@ -42,7 +41,7 @@ impl World {
     }
 
     // The live test, whether the address fits, and the exposure.
-    #[tactic(auto, using(crate::proofs::Comings::came_fails, crate::proofs::Laters::later_itself, crate::proofs::Laters::later_both, crate::proofs::Laters::made_later))]
+    #[tactic(auto, using(crate::proofs::Used::number_gave, crate::proofs::Used::number_stops, crate::proofs::Laters::later_itself, crate::proofs::Laters::later_both, crate::proofs::Laters::made_later))]
     fn number_of(&mut self, k: IntKind, p: Pointer, told: &mut Vec<What>) -> Result<Got, Failure>
         requires { IsMadeIn self.old.memory.table p.prov }
         ensures did { Did worth_of (λ w. number_by w p (to_int w.memory.table p k)) result self.old self.new told.old.items told.new.items }
@@ -51,15 +50,16 @@ impl World {
         ensures made { IfOk result (λ g. IsMadeWorth self.new.memory.table (worth_of g)) }
     {
         let blame = blame_of(&self.memory, p.prov);
-        let Ok(()) = tell_live_use(told, &self.memory, p) else {
+        let (n, tried) = match self.memory.to_int(p, k) {
+            Ok(number) => number,
+            Err(by) => return Err(stopped_after(told, LIVE_TEST, by, blame)),
+        };
+        let Ok(()) = tell_used(told, LIVE_TEST, tried) else {
             return Err(Failure::NoMemory);
         };
-        match self.memory.to_int(p, k) {
-            Ok((n, _)) => match self.tell_exposures(told) {
-                Ok(()) => Ok(Got::Scalar(Value::Int(n))),
-                Err(_) => Err(Failure::NoMemory),
-            },
-            Err(stop) => Err(stopped(told, stop, Some(blame))),
+        match self.tell_exposures(told) {
+            Ok(()) => Ok(Got::Scalar(Value::Int(n))),
+            Err(_) => Err(Failure::NoMemory),
         }
     }
 

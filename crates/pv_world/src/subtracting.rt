@@ -2,7 +2,7 @@
 ghost use Rattle.std.specs.Prelude.{◌≡◌, ◌≤◌, ◌++◌, ◌-ℤ◌, pos, OnOk, IfOk};
 ghost use Rattle.pv_inst.specs.Table.{IsMadeIn};
 ghost use Rattle.pv_object.specs.Later.{IsLater};
-ghost use Rattle.pv_world.specs.Telling.{both_used};
+ghost use Rattle.pv_world.specs.Telling.{used};
 ghost use Rattle.pv_world.specs.Pointers.{subtracts, in_elements};
 ghost use Rattle.pv_world.specs.PointerParts.{between};
 ghost use Rattle.pv_world.specs.Coming.{Did, worth_of, IsMadeWorth};
@@ -17,12 +17,17 @@ use pv_object::{Pointer, Value};
 use pv_prov::NoMemory;
 use pv_watch::{SAME_TEST, What};
 
-/// What two operands settled to, the left one's use first.
-pub(crate) fn tell_both(told: &mut Vec<What>, left: Tried, right: Tried) -> Result<(), NoMemory>
-    ensures { OnOk result (told.new.items ≡ told.old.items ++ both_used left right) }
+/// Tells the uses of two operands by the test with this number, the left one's first.
+pub(crate) fn tell_both(
+    told: &mut Vec<What>,
+    test: u8,
+    left: Tried,
+    right: Tried,
+) -> Result<(), NoMemory>
+    ensures { OnOk result (told.new.items ≡ told.old.items ++ (used test left ++ used test right)) }
 {
-    match tell_used(told, SAME_TEST, left) {
-        Ok(()) => tell_used(told, SAME_TEST, right),
+    match tell_used(told, test, left) {
+        Ok(()) => tell_used(told, test, right),
         Err(NoMemory) => Err(NoMemory),
     }
 }
@@ -91,7 +96,7 @@ impl World {
             Ok(difference) => difference,
             Err(stop) => return Err(stopped(told, stop, Some(blame))),
         };
-        let Ok(()) = tell_both(told, left, right) else {
+        let Ok(()) = tell_both(told, SAME_TEST, left, right) else {
             return Err(Failure::NoMemory);
         };
         match elements_between(p.address, q.address, size) {

@@ -18,6 +18,7 @@ pub fn tell(told: &mut Vec<What>, what: What) -> Result<(), NoMemory>
 }
 
 /// Tells a use by the test with this number, where its name stood for two.
+#[inline(always)]
 pub fn tell_used(told: &mut Vec<What>, test: u8, tried: Tried) -> Result<(), NoMemory>
     ensures { OnOk result (told.new.items ≡ told.old.items ++ used test tried) }
 {
