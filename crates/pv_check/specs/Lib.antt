@@ -1,5 +1,7 @@
 pub mod Kinds
 pub mod KindParts
+pub mod IntegerConstants
+pub mod IntegerConstantParts
 pub mod Qualified
 pub mod Sorts
 pub mod SortParts

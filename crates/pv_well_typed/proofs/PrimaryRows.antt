@@ -12,8 +12,8 @@ use Rattle.pv_typed.proofs.Each.{each_right}
 use Rattle.pv_typed.specs.TypedTree.{TypedTree, Constant, Object, Function}
 use Rattle.pv_typed.specs.TypedUnits.{WholeUnit, TypedObject, Literal, object_at, function_at, literal_at}
 use Rattle.pv_typed.specs.UnitParts.{no_object, no_literal}
-use Rattle.pv_check.specs.Kinds.{may_have, first_kind, kind_of_constant}
-use Rattle.pv_check.specs.KindParts.{kinds_of_constants}
+use Rattle.pv_check.specs.IntegerConstants.{may_have, first_kind, kind_of_constant}
+use Rattle.pv_check.specs.IntegerConstantParts.{kinds_of_constants}
 use Rattle.pv_check.specs.Primary.{with_use, integer_of}
 use Rattle.pv_check.specs.PrimaryParts.{used_function, constant_of_kind, character_of}
 use Rattle.pv_check.specs.StringLiterals.{text_of}
