@@ -20,7 +20,7 @@ use Rattle.pv_typed.specs.TypedTree.{is_function}
 use Rattle.pv_check.specs.Derivations.{declared_name}
 use Rattle.pv_check.specs.declared.scopes.Entry.{Entry}
 use Rattle.pv_unit.specs.Redeclarations.{new_object}
-use Rattle.pv_unit.specs.Initialized.{Given}
+use Rattle.pv_unit.specs.Initializers.{Given}
 use Rattle.pv_unit.specs.Blocks.{Reached as WholeReached, reached, is_present, with_initializer, block_object, block_declarator, block_storage, block_alone}
 use Rattle.pv_unit.specs.Declarations.{DeclaredType as WholeType, type_declared, specified_by, tags_alone, bound_in, has_list}
 use Rattle.pv_unit.specs.DeclaredIn.{state_on}

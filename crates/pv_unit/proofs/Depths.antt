@@ -21,7 +21,7 @@ use Rattle.pv_unit.specs.BlockParts.{block_declared}
 use Rattle.pv_unit.specs.Declarations.{DeclaredType, only_tag, tags_alone, specified_by, type_declared}
 use Rattle.pv_unit.specs.DeclarationParts.{declares_something, with_unsized, has_unsized}
 use Rattle.pv_unit.specs.Redeclarations.{new_object}
-use Rattle.pv_unit.specs.Initialized.{Given}
+use Rattle.pv_unit.specs.Initializers.{Given}
 use Rattle.pv_unit.specs.ValueRules.{initialized, with_given}
 use Rattle.pv_unit.proofs.GivenDepths.{initialized_leaves}
 use Rattle.pv_unit.proofs.Values.{none_leaves, some_leaves, give_leaves, then_leaves, value_then}

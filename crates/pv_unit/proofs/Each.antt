@@ -19,8 +19,7 @@ use Rattle.pv_check.proofs.Opening.{same_goes, then_goes}
 use Rattle.pv_unit.specs.declared.parts.Subobject.{Subobject}
 use Rattle.pv_unit.specs.Rules.{Rules, After}
 use Rattle.pv_unit.specs.Parts.{part_at}
-use Rattle.pv_unit.specs.Initializers.{Shape, Stores, joined, formed, shape_of}
-use Rattle.pv_unit.specs.Initialized.{initialized, each_initialized}
+use Rattle.pv_unit.specs.Initializers.{Shape, Stores, joined, formed, shape_of, initialized, each_initialized}
 use Rattle.pv_unit.specs.RuleParts.{each_of}
 use Rattle.pv_unit.specs.Stores.{AreStores, Fills, behind, stores_if, stores_in}
 use Rattle.pv_unit.specs.Subobjects.{part_of, HasSpace, IsPart}

@@ -14,11 +14,9 @@ use Rattle.pv_check.specs.Typing.{types}
 use Rattle.pv_check.proofs.Leaving.{Leaves}
 use Rattle.pv_unit.specs.Rules.{Rules, After}
 use Rattle.pv_unit.specs.Parts.{part_at, can_be_initialized}
-use Rattle.pv_unit.specs.Initializers.{Stores, Shape, Fill, Single, Zero, Each, Wrong, shape_of, formed, filled_type, characters, single, valued, joined}
-use Rattle.pv_unit.specs.InitializerParts.{allowed, as_constant, unqualified, zero_leaf}
-use Rattle.pv_unit.specs.Initialized as init
-use Rattle.pv_unit.specs.Initialized.{Given, each_initialized, initialized_object, given, whole}
-use Rattle.pv_unit.specs.InitializedParts.{is_braced}
+use Rattle.pv_unit.specs.Initializers.{Stores, Shape, Fill, Single, Zero, Each, Wrong, shape_of, formed, filled_type, characters, single, valued, joined, Given, each_initialized, initialized_object, given, whole}
+use Rattle.pv_unit.specs.InitializerParts.{allowed, as_constant, unqualified, zero_leaf, is_braced}
+use Rattle.pv_unit.specs.Initializers as init
 use Rattle.pv_unit.specs.ValueRules.{values, lifted, lowered, initialized}
 use Rattle.pv_unit.proofs.Values.{value_leaves}
 

@@ -28,9 +28,8 @@ use Rattle.pv_check.proofs.Literals.{goes_same_types}
 use Rattle.pv_check.proofs.Opening.{open_goes, same_goes, scopes_stay, state_stays, then_goes}
 use Rattle.pv_unit.specs.declared.giving.Completion.{Completion}
 use Rattle.pv_unit.specs.Giving.{given_if, given_in, with_stores}
-use Rattle.pv_unit.specs.Initializers.{Stores}
-use Rattle.pv_unit.specs.Initialized.{Given, given, initialized, initialized_object, whole}
-use Rattle.pv_unit.specs.InitializedParts.{is_braced}
+use Rattle.pv_unit.specs.Initializers.{Stores, Given, given, initialized, initialized_object, whole}
+use Rattle.pv_unit.specs.InitializerParts.{is_braced}
 use Rattle.pv_unit.specs.Parts.{can_be_initialized, sized}
 use Rattle.pv_unit.specs.Rules.{After}
 use Rattle.pv_unit.specs.Stores.{AreStores, Fills, IsStore, behind, stores_if, stores_in}

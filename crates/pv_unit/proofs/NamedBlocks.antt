@@ -20,7 +20,7 @@ use Rattle.pv_unit.specs.BlockParts.{block_declared}
 use Rattle.pv_unit.specs.Declarations.{DeclaredType, only_tag, tags_alone, specified_by, type_declared}
 use Rattle.pv_unit.specs.DeclarationParts.{declares_something, with_unsized, has_unsized}
 use Rattle.pv_unit.specs.Redeclarations.{new_object}
-use Rattle.pv_unit.specs.Initialized.{Given}
+use Rattle.pv_unit.specs.Initializers.{Given}
 use Rattle.pv_unit.specs.ValueRules.{initialized, with_given}
 use Rattle.pv_unit.proofs.Named.{AreNamed, object_added, object_changed, Keeps, specifiers_keep, steps_keep, none_keeps, some_keeps, give_keeps, then_keeps, value_then}
 use Rattle.pv_unit.proofs.NamedGiven.{initialized_keeps}

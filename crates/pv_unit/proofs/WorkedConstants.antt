@@ -9,7 +9,7 @@ use Rattle.pv_types.specs.Compatible.{are_compatible}
 use Rattle.pv_check.specs.Words.{type_of_words}
 use Rattle.pv_typed.specs.TypedUnits.{WholeUnit, StoredValue, ValueOf, TextOf, literal_at, object_at, function_at}
 use Rattle.pv_library.specs.LibraryNames.{library_named}
-use Rattle.pv_unit.specs.Initialized.{initialized_object}
+use Rattle.pv_unit.specs.Initializers.{initialized_object}
 use Rattle.pv_unit.specs.ValueRules.{values}
 use Rattle.pv_typed.specs.declared.values.Const.{Const}
 use Rattle.pv_typed.specs.declared.values.Const.TheVariants as const

@@ -12,7 +12,7 @@ use Rattle.pv_check.specs.State.{State, Scope, no_scope, env, left}
 use Rattle.pv_typed.specs.Constants.{and_then}
 use Rattle.pv_library.specs.LibraryNames.{library_named}
 use Rattle.pv_unit.specs.Redeclarations.{UnitState}
-use Rattle.pv_unit.specs.Initialized.{initialized_object}
+use Rattle.pv_unit.specs.Initializers.{initialized_object}
 use Rattle.pv_unit.specs.ValueRules.{values}
 use Rattle.pv_unit.specs.Declarations.{file_declaration}
 use Rattle.pv_unit.specs.Blocks.{block_declaration}

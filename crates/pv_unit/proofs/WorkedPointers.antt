@@ -14,7 +14,7 @@ use Rattle.pv_typed.specs.Constants.{and_then}
 use Rattle.pv_check.specs.Words.{type_of_words}
 use Rattle.pv_library.specs.LibraryNames.{library_named}
 use Rattle.pv_unit.specs.Redeclarations.{UnitState}
-use Rattle.pv_unit.specs.Initialized.{initialized_object}
+use Rattle.pv_unit.specs.Initializers.{initialized_object}
 use Rattle.pv_unit.specs.ValueRules.{values}
 use Rattle.pv_unit.specs.Units.{typed_first, unresolved, finished}
 use Rattle.pv_unit.proofs.WorkedAnswers.{nothing}

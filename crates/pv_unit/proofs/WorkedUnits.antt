@@ -9,7 +9,7 @@ use Rattle.pv_types.specs.Layouts.{layouts_of}
 use Rattle.pv_types.specs.Compatible.{are_compatible}
 use Rattle.pv_check.specs.Words.{type_of_words}
 use Rattle.pv_library.specs.LibraryNames.{library_named}
-use Rattle.pv_unit.specs.Initialized.{initialized_object}
+use Rattle.pv_unit.specs.Initializers.{initialized_object}
 use Rattle.pv_unit.specs.ValueRules.{values}
 use Rattle.pv_unit.proofs.WorkedAnswers.{Look, Answer, Refused, Named, Mainless, Accepted, judged_by, nothing}
 

@@ -9,7 +9,7 @@ use Rattle.pv_check.specs.Raw.{Raw}
 use Rattle.pv_check.specs.Open.{state_of}
 use Rattle.pv_check.specs.State.{State}
 use Rattle.pv_unit.specs.declared.giving.Completion.{Completion}
-use Rattle.pv_unit.specs.Initialized.{Given as WholeGiven}
+use Rattle.pv_unit.specs.Initializers.{Given as WholeGiven}
 use Rattle.pv_unit.specs.Rules.{After}
 use Rattle.pv_unit.specs.Stores.{stores_in}
 

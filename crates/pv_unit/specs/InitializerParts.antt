@@ -1,10 +1,10 @@
 -- A bridge: what functions answer that do a part of what Initializers says.
 use Rattle.pv_types.specs.Ty.{Ty}
 use Rattle.pv_types.specs.Layouts.{Part, Completed}
-use Rattle.pv_unit.specs.Initializers.{Single, Shape, filling, is_zero, Stores, one, single}
+use Rattle.pv_unit.specs.Initializers.{Single, Shape, filling, is_zero, shape_of, Stores, one, single, is_braces, is_filling}
 use Rattle.pv_unit.specs.Parts.{is_text, part_at, first_leaf, aggregate_layer}
 use Rattle.pv_unit.specs.Rules.{Rules, After}
-use Rattle.pv_tree.specs.Syntax.{ExpressionTree}
+use Rattle.pv_tree.specs.Syntax.{ExpressionTree, InitializerTree}
 use Rattle.std.specs.Prelude.{List, ◌&&◌, Bool, not, ◌||◌, None, ℕ, if◌then◌else◌, Some, Option, option_and_then, unwrap_or, false}
 use Rattle.pv_typed.specs.TypedTree.{TypedTree}
 use Rattle.pv_typed.specs.TypedUnits.{ValueOf}
@@ -46,3 +46,7 @@ zero_leaf done p = option_and_then (first_leaf done) (part_at done p 0)
 -- 6.7.9p20, p21: the first scalar of the first part gets the zero of `{0}`
 abbrev pub zero : {S : Type 0} → Rules S → (lasting : Bool) → Part → ExpressionTree → S → Option (After S Stores)
 zero r lasting p a s = option_and_then (λ leaf. single r lasting leaf a s) (option_and_then (first_leaf (r.completed s)) (part_at (r.completed s) p 0))
+
+-- 6.7.9p14, p16, p21: a list in braces, or string literals that fill an array
+abbrev pub is_braced : List Completed → Part → InitializerTree → Bool
+is_braced done p i = is_braces i || is_filling (shape_of done p i)

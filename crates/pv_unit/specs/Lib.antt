@@ -16,8 +16,6 @@ pub mod Functions
 pub mod FunctionParts
 pub mod Heads
 pub mod Identifiers
-pub mod Initialized
-pub mod InitializedParts
 pub mod Initializers
 pub mod InitializerParts
 pub mod MainType

@@ -14,8 +14,7 @@ use Rattle.pv_check.specs.declared.specifiers.Storage.TheVariants as storage
 use Rattle.pv_check.specs.Composite.{composite}
 use Rattle.pv_unit.specs.Redeclarations.{with_object_type, with_function_type}
 use Rattle.pv_unit.specs.Rules.{Rules, After}
-use Rattle.pv_unit.specs.Initializers.{Stores}
-use Rattle.pv_unit.specs.Initialized.{each_initialized, initialized as part_initialized}
+use Rattle.pv_unit.specs.Initializers.{Stores, each_initialized, initialized as part_initialized}
 use Rattle.pv_unit.specs.ValueRules.{values, initialized, with_given}
 
 -- 6.7.2.3p7: `struct n ;` or `union n ;`, which is about the innermost scope

@@ -1,6 +1,6 @@
 -- A bridge: what functions answer that do a part of what ValueRules says.
 use Rattle.std.specs.Prelude.{Option, Bool}
-use Rattle.pv_unit.specs.Initialized.{Given, initialized_object}
+use Rattle.pv_unit.specs.Initializers.{Given, initialized_object}
 use Rattle.pv_unit.specs.Rules.{After}
 use Rattle.pv_unit.specs.ValueRules.{values}
 use Rattle.pv_tree.specs.Syntax.{InitializerTree}

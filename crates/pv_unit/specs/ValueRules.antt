@@ -12,7 +12,7 @@ use Rattle.pv_check.specs.Rows.{operand}
 use Rattle.pv_check.specs.Values.{assigned}
 use Rattle.pv_check.specs.StringLiterals.{bytes_of_text}
 use Rattle.pv_unit.specs.Rules.{Rules, After, StringLiteral}
-use Rattle.pv_unit.specs.Initialized.{Given, initialized_object}
+use Rattle.pv_unit.specs.Initializers.{Given, initialized_object}
 
 -- an answer of the typing of expressions (6.5) as one of initializers (6.7.9)
 abbrev pub lifted : {A : Type 0} → Option (check.After A) → Option (After State A)

@@ -25,7 +25,7 @@ use Rattle.pv_unit.specs.Statements.{reached as declares, declared_in}
 use Rattle.pv_typed.specs.TypedStatement.{statements_of}
 use Rattle.pv_guards.specs.TypedStatements as guards
 use Rattle.pv_unit.specs.Redeclarations.{unit_name, new_object}
-use Rattle.pv_unit.specs.Initialized.{Given}
+use Rattle.pv_unit.specs.Initializers.{Given}
 use Rattle.pv_unit.specs.Parts.{sized}
 use Rattle.pv_typed.specs.Addresses.{size_in}
 use Rattle.pv_typed.specs.AddressParts.{or_zero}

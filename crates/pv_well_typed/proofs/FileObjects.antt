@@ -24,10 +24,9 @@ use Rattle.pv_unit.specs.MainType.{main_type}
 use Rattle.pv_unit.specs.Redeclarations.{Entity, UnitState, unit_name, is_entity, marked, is_initialized, entity, with_object_type, new_object, with_new_object, object_again, object_declared}
 use Rattle.pv_unit.specs.Declarations.{typedef_again, typedef_found, typedef_declared, noted, object_initialized}
 use Rattle.pv_unit.specs.DeclarationParts.{object_noted, plain_object}
-use Rattle.pv_unit.specs.Initialized as init
-use Rattle.pv_unit.specs.Initialized.{Given, initialized_object, given, whole}
-use Rattle.pv_unit.specs.InitializedParts.{is_braced}
-use Rattle.pv_unit.specs.Initializers.{Stores}
+use Rattle.pv_unit.specs.Initializers as init
+use Rattle.pv_unit.specs.InitializerParts.{is_braced}
+use Rattle.pv_unit.specs.Initializers.{Stores, Given, initialized_object, given, whole}
 use Rattle.pv_unit.specs.Rules as rules
 use Rattle.pv_unit.specs.Parts.{sized, can_be_initialized}
 use Rattle.pv_unit.specs.ValueRules.{lowered, values, initialized, with_given}

@@ -24,13 +24,10 @@ use Rattle.pv_check.specs.State.{State, Scope, Meaning, ObjectName, FunctionName
 use Rattle.pv_check.specs.State as check
 use Rattle.pv_check.specs.Typing.{types}
 use Rattle.pv_check.specs.Values.{assigned}
-use Rattle.pv_unit.specs.Initialized as init
-use Rattle.pv_unit.specs.Initialized.{Given, each_initialized, initialized_object, given, whole}
-use Rattle.pv_unit.specs.InitializedParts.{is_braced}
-use Rattle.pv_unit.specs.Initializers as stores
+use Rattle.pv_unit.specs.Initializers as init
 use Rattle.pv_unit.specs.InitializerParts as parts
-use Rattle.pv_unit.specs.Initializers.{Stores, Shape, Fill, Single, Zero, Wrong, filling, single_shape, list_shape, only, shape_of, one, valued, single, has_room, filled_type, characters, filled_with, formed, joined}
-use Rattle.pv_unit.specs.InitializerParts.{or_shape, expression_shape, begins_deep, allowed, as_constant, zero_leaf}
+use Rattle.pv_unit.specs.Initializers.{Stores, Shape, Fill, Single, Zero, Wrong, filling, single_shape, list_shape, only, shape_of, one, valued, single, has_room, filled_type, characters, filled_with, formed, joined, Given, each_initialized, initialized_object, given, whole}
+use Rattle.pv_unit.specs.InitializerParts.{or_shape, expression_shape, begins_deep, allowed, as_constant, zero_leaf, is_braced}
 use Rattle.pv_unit.specs.Parts.{part_at, is_text, text_layer, sized, can_be_initialized}
 use Rattle.pv_unit.specs.Rules.{After}
 use Rattle.pv_unit.specs.ValueRules.{lifted, lowered, filling_text, values, initialized}
@@ -337,16 +334,16 @@ module _ (v : WholeUnit) (done : IsFinished v) where
   for-filling p true _ x e h = h
   for-filling p false a x e h = h
 
-  for-choice : (p : Part) (b c : Bool) (a : ExpressionTree) → IsFor p (if b then Single a else if c then Zero a else stores.Each)
+  for-choice : (p : Part) (b c : Bool) (a : ExpressionTree) → IsFor p (if b then Single a else if c then Zero a else init.Each)
   for-choice p true c a = tt
   for-choice p false true a = tt
   for-choice p false false a = tt
 
   for-list : (p : Part) (ds : List Completed) (o : Option ExpressionTree) → IsFor p (list_shape ds p o)
-  for-list p ds (Some a) = for-filling p (is_text p.t) a (if is_scalar p.t then Single a else if begins_deep ds p a then Zero a else stores.Each) refl (for-choice p (is_scalar p.t) (begins_deep ds p a) a)
+  for-list p ds (Some a) = for-filling p (is_text p.t) a (if is_scalar p.t then Single a else if begins_deep ds p a then Zero a else init.Each) refl (for-choice p (is_scalar p.t) (begins_deep ds p a) a)
   for-list p ds None = by (is_scalar p.t)
     where
-      by : (b : Bool) → IsFor p (if b then Wrong else stores.Each)
+      by : (b : Bool) → IsFor p (if b then Wrong else init.Each)
       by true = tt
       by false = tt
 
@@ -365,16 +362,16 @@ module _ (v : WholeUnit) (done : IsFinished v) where
   filling-characters true _ x h = h
   filling-characters false a x h = h
 
-  choice-characters : (b c : Bool) (a : ExpressionTree) → HasCharacters a → ShapeCharacters (if b then Single a else if c then Zero a else stores.Each)
+  choice-characters : (b c : Bool) (a : ExpressionTree) → HasCharacters a → ShapeCharacters (if b then Single a else if c then Zero a else init.Each)
   choice-characters true c a h = h
   choice-characters false true a h = h
   choice-characters false false a h = tt
 
   list-characters : (p : Part) (ds : List Completed) (o : Option ExpressionTree) → ((a : ExpressionTree) → o ≡ Some a → HasCharacters a) → ShapeCharacters (list_shape ds p o)
-  list-characters p ds (Some a) h = filling-characters (is_text p.t) a (if is_scalar p.t then Single a else if begins_deep ds p a then Zero a else stores.Each) (choice-characters (is_scalar p.t) (begins_deep ds p a) a (h a refl))
+  list-characters p ds (Some a) h = filling-characters (is_text p.t) a (if is_scalar p.t then Single a else if begins_deep ds p a then Zero a else init.Each) (choice-characters (is_scalar p.t) (begins_deep ds p a) a (h a refl))
   list-characters p ds None h = by (is_scalar p.t)
     where
-      by : (b : Bool) → ShapeCharacters (if b then Wrong else stores.Each)
+      by : (b : Bool) → ShapeCharacters (if b then Wrong else init.Each)
       by true = tt
       by false = tt
 
@@ -459,7 +456,7 @@ module _ (v : WholeUnit) (done : IsFinished v) where
   formed-gives lasting p s each h (Single a) f c ev =
       gives-weaker U U (IsProper v p.t) (MayFill p s) v [] s (OneIn lasting p s) (StoredIn lasting p s) (lowered (single values lasting p a s)) (λ i. i) (λ q. q.0) (λ a q. q.0) (single-gives lasting p a s c ev)
   formed-gives lasting p s each h (Zero a) f c ev = zero-gives lasting p a s c ev
-  formed-gives lasting p s each h stores.Each f c ev = h
+  formed-gives lasting p s each h init.Each f c ev = h
   formed-gives lasting p s each h Wrong f c ev = gives-none U v [] (MayFill p s) s (StoredIn lasting p s)
 
   -- ---- lists in braces (6.7.9p16 to p19)

@@ -16,7 +16,7 @@ use Rattle.pv_library.specs.LibraryNames.{library_named}
 use Rattle.pv_check.specs.Composite.{composite, composites}
 use Rattle.pv_check.specs.State.{State, ObjectName}
 use Rattle.pv_unit.specs.Redeclarations.{with_function, with_function_type, unit_name, new_object, new_function}
-use Rattle.pv_unit.specs.Initialized.{Given}
+use Rattle.pv_unit.specs.Initializers.{Given}
 use Rattle.pv_unit.specs.ValueRules.{with_given}
 use Rattle.pv_guards.specs.Typed.{AreLike, AreAllLike, IsSignature}
 use Rattle.pv_well_typed.specs.Proper.{IsProper}

@@ -6,7 +6,7 @@ use Rattle.pv_typed.specs.TypedUnits.{TypedObject, object_at}
 use Rattle.pv_check.specs.Open.{state_of}
 use Rattle.pv_check.proofs.Opening.{then_goes}
 use Rattle.pv_unit.specs.Giving.{given_if, given_in}
-use Rattle.pv_unit.specs.Initialized.{initialized_object}
+use Rattle.pv_unit.specs.Initializers.{initialized_object}
 use Rattle.pv_unit.specs.Stores.{FillsIf}
 use Rattle.pv_unit.specs.ValueRules.{values, with_given}
 use Rattle.pv_unit.proofs.GivenRows.{giving_done}

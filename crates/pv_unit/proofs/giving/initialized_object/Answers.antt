@@ -4,8 +4,8 @@ use Rattle.pv_types.specs.Known.{env, tree}
 use Rattle.pv_types.specs.Formed.{completions}
 use Rattle.pv_types.specs.Ty.{Ty}
 use Rattle.pv_check.specs.Open.{state_of}
-use Rattle.pv_unit.specs.Initialized.{initialized, whole}
-use Rattle.pv_unit.specs.InitializedParts.{is_braced}
+use Rattle.pv_unit.specs.Initializers.{initialized, whole}
+use Rattle.pv_unit.specs.InitializerParts.{is_braced}
 use Rattle.pv_unit.specs.Parts.{can_be_initialized, sized}
 use Rattle.pv_unit.specs.Stores.{FillsIf, behind, stores_if, stores_in}
 use Rattle.pv_unit.specs.ValueRules.{values}

@@ -4,8 +4,7 @@ use Rattle.pv_tree.specs.TreeLines.{tree_line}
 use Rattle.pv_tree.specs.Tables.{tree_at, initializer_at, expression_at as expression_of_node, is_initializer}
 use Rattle.pv_types.specs.Formed.{completions}
 use Rattle.pv_check.specs.Open.{state_of}
-use Rattle.pv_unit.specs.Initializers.{Each, Zero, shape_of}
-use Rattle.pv_unit.specs.Initialized.{initialized}
+use Rattle.pv_unit.specs.Initializers.{Each, Zero, shape_of, initialized}
 use Rattle.pv_unit.specs.Parts.{part_at}
 use Rattle.pv_unit.specs.Stores.{FillsIf, behind, stores_if, stores_in}
 use Rattle.pv_unit.specs.Subobjects.{part_of}
