@@ -5,7 +5,8 @@ use Rattle.pv_typed.specs.Tables.{Stored, whole}
 use Rattle.pv_check.specs.declared.scopes.Entry.TheVariants as entry
 use Rattle.pv_check.specs.Open.{state_of, IsOpen}
 use Rattle.pv_check.specs.Raw.{Raw, raw_innermost, with_name}
-use Rattle.pv_check.specs.State.{State, After, ConstantOf, give, declare, bind, find}
+use Rattle.pv_check.specs.State.{State, After, ConstantOf, give}
+use Rattle.pv_check.specs.Scopes.{declare, bind, find}
 use Rattle.pv_typed.specs.Constants.{and_then}
 use Rattle.pv_check.specs.Tags.{may_enumerate, enumerated}
 use Rattle.pv_check.proofs.ParameterRows.{has_name, state_named}

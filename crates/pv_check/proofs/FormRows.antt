@@ -15,7 +15,8 @@ use Rattle.pv_check.specs.Derivations.{ByArray, Steps as WholeSteps, with_step, 
 use Rattle.pv_check.specs.Forms.{form_steps, pointed}
 use Rattle.pv_check.specs.Open.{Goes}
 use Rattle.pv_check.specs.RowParts.{by_array, by_function}
-use Rattle.pv_check.specs.State.{State, After, entered}
+use Rattle.pv_check.specs.State.{State, After}
+use Rattle.pv_check.specs.Scopes.{entered}
 use Rattle.pv_typed.specs.Constants.{and_then}
 use Rattle.pv_check.specs.Typing.{steps, optional_steps, array_size, parameters}
 use Rattle.pv_check.proofs.DeclaratorRows.{given, shown_kept, shown_more}

@@ -12,7 +12,8 @@ use Rattle.pv_typed.specs.TypedTree.{TypedTree}
 use Rattle.pv_typed.specs.Tables.{Stored}
 use Rattle.pv_check.specs.Open.{state_of}
 use Rattle.pv_check.specs.Raw.{Raw, scope_shown, scopes_shown}
-use Rattle.pv_check.specs.State.{State, After, env, Meaning, ObjectName, FunctionName, TypedefOf, ConstantOf, TagMeaning, CompositeTag, EnumerationTag, OpenEnumeration, give, look, look_tag, find, innermost, entered, bind, bind_tag}
+use Rattle.pv_check.specs.State.{State, After, env, Meaning, ObjectName, FunctionName, TypedefOf, ConstantOf, TagMeaning, CompositeTag, EnumerationTag, OpenEnumeration, give}
+use Rattle.pv_check.specs.Scopes.{look, look_tag, find, innermost, entered, bind, bind_tag}
 use Rattle.pv_typed.specs.Constants.{and_then}
 use Rattle.pv_check.specs.Specifiers.{Seen}
 use Rattle.pv_check.specs.Tags.{with_member, tag_named, composite_named, enumeration_named, opened, opened_named, is_open, completed, with_done, filed_with, opened_enumeration, closed_enumeration, enumerated, is_union_word, new_tag}

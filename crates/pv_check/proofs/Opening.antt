@@ -13,9 +13,10 @@ use Rattle.pv_check.specs.declared.scopes.Entry.TheVariants as entry
 use Rattle.pv_check.specs.declared.scopes.TagEntry.{TagEntry}
 use Rattle.pv_check.specs.declared.scopes.TagEntry.TheVariants as tag
 use Rattle.pv_check.specs.Growing.{Lengthens, Grows}
-use Rattle.pv_check.specs.State.{TypedefOf, CompositeTag, find, look_by, innermost, with_innermost, bind_tag}
+use Rattle.pv_check.specs.State.{TypedefOf, CompositeTag}
+use Rattle.pv_check.specs.Scopes.{find, look_by, innermost, with_innermost, bind_tag}
 use Rattle.std.specs.Option.{option_or}
-use Rattle.pv_check.specs.StateParts.{bound}
+use Rattle.pv_check.specs.ScopeParts.{bound}
 use Rattle.pv_check.specs.Raw.{Raw, RawScope, no_raw, raw_innermost, raw_names, raw_tags, with_tag, with_name, name_shown, tag_shown, scope_shown, scopes_shown, meaning_in, tag_meaning, used_of}
 use Rattle.pv_check.proofs.Keeping.{grown_typed, whole_typed}
 use Rattle.pv_check.proofs.Showing.{tag_bound_shown}

@@ -23,7 +23,8 @@ use Rattle.pv_check.specs.Derivations.{Parameter as WholeParameter, Signature as
 use Rattle.pv_check.specs.Open.{state_of, IsOpen, Goes, EntryKnown, ScopeKnown}
 use Rattle.pv_check.specs.Raw.{Raw, RawScope, raw_of, raw_innermost, with_name, used_of, scope_shown, scopes_shown, meaning_in, meaning_if}
 use Rattle.pv_check.specs.RowParts.{by_function}
-use Rattle.pv_check.specs.State.{State, After, Scope, ObjectName, give, bind, find, innermost, left, with_scopes}
+use Rattle.pv_check.specs.State.{State, After, Scope, ObjectName, give}
+use Rattle.pv_check.specs.Scopes.{bind, find, innermost, left, with_scopes}
 use Rattle.pv_typed.specs.Constants.{and_then}
 use Rattle.pv_check.specs.Stepping.{steps_in, AreSteps}
 use Rattle.pv_check.proofs.Opening.{open_name, state_stays, scope_stays, shown_stays}

@@ -13,7 +13,8 @@ use Rattle.pv_check.proofs.Showing.{look_shown}
 use Rattle.pv_check.specs.Seeing.{seen_in, seen_if}
 use Rattle.pv_check.specs.SeenAfter.{after_seen}
 use Rattle.pv_check.specs.Specifiers.{with_type, typedef_of}
-use Rattle.pv_check.specs.State.{After, give, look, look_by}
+use Rattle.pv_check.specs.State.{After, give}
+use Rattle.pv_check.specs.Scopes.{look, look_by}
 use Rattle.pv_typed.specs.Constants.{and_then}
 
 pub after_gives : (texts : List (List ℕ)) (u : Bool) (s : Raw) (m : Stored) (o : Option Seen) → after_seen texts u s m o ≡ give (seen_if m.known o) (state_of texts u s m)

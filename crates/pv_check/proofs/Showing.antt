@@ -5,9 +5,10 @@ use Rattle.std.specs.Prelude.{if◌then◌else◌, slice_index_or}
 use Rattle.pv_types.specs.Known.{Known}
 use Rattle.pv_check.specs.declared.scopes.Entry.{Entry}
 use Rattle.pv_check.specs.declared.scopes.TagEntry.{TagEntry}
-use Rattle.pv_check.specs.State.{Scope, find, look_by, look, look_tag, innermost, no_scope, with_innermost}
+use Rattle.pv_check.specs.State.{Scope}
+use Rattle.pv_check.specs.Scopes.{find, look_by, look, look_tag, innermost, no_scope, with_innermost}
 use Rattle.std.specs.Option.{option_or}
-use Rattle.pv_check.specs.StateParts.{bound}
+use Rattle.pv_check.specs.ScopeParts.{bound}
 use Rattle.pv_check.specs.Raw.{Raw, RawScope, no_raw, raw_innermost, raw_names, raw_tags, with_name, with_tag, meaning_in, tag_meaning, name_shown, tag_shown, scope_shown, scopes_shown, meaning_if, tag_meaning_if}
 
 -- ---- one map

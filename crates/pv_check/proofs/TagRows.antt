@@ -12,7 +12,8 @@ use Rattle.pv_check.specs.declared.scopes.TagEntry.{TagEntry}
 use Rattle.pv_check.specs.declared.scopes.TagEntry.TheVariants as tag
 use Rattle.pv_check.specs.Raw.{Raw, raw_innermost, tag_meaning_if, with_tag, used_of}
 use Rattle.pv_check.proofs.Showing.{inner_tag_shown}
-use Rattle.pv_check.specs.State.{State, After, CompositeTag, bind_tag, find, innermost}
+use Rattle.pv_check.specs.State.{State, After, CompositeTag}
+use Rattle.pv_check.specs.Scopes.{bind_tag, find, innermost}
 use Rattle.pv_check.specs.Open.{state_of, IsOpen, Goes, HasTag, TagKnown}
 use Rattle.pv_check.specs.Tags.{new_tag, declared_new}
 use Rattle.pv_check.specs.TagParts.{composite_type}

@@ -9,7 +9,8 @@ use Rattle.pv_check.specs.Qualified.{with_const}
 use Rattle.pv_check.specs.Sorts.{is_array}
 use Rattle.pv_types.specs.Sorts.{is_void_in, is_void, bare}
 use Rattle.pv_typed.specs.TypedTree.{is_function}
-use Rattle.pv_check.specs.State.{State, After, Scope, ObjectName, give, env, innermost, declare, left, is_file_scope}
+use Rattle.pv_check.specs.State.{State, After, Scope, ObjectName, give, env}
+use Rattle.pv_check.specs.Scopes.{innermost, declare, left, is_file_scope}
 use Rattle.pv_typed.specs.Constants.{and_then}
 use Rattle.pv_check.specs.PrintfFormats.{is_printf}
 

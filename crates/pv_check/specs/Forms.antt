@@ -6,7 +6,8 @@ use Rattle.pv_check.specs.declared.forms.Form.{Form}
 use Rattle.pv_check.specs.declared.forms.Form.TheVariants as form
 use Rattle.pv_check.specs.Derivations.{Steps, ByPointer, no_steps, with_step}
 use Rattle.pv_check.specs.RowParts.{by_array, by_function}
-use Rattle.pv_check.specs.State.{State, After, entered, give}
+use Rattle.pv_check.specs.State.{State, After, give}
+use Rattle.pv_check.specs.Scopes.{entered}
 use Rattle.pv_typed.specs.Constants.{and_then}
 use Rattle.pv_check.specs.Typing.{steps, optional_steps, array_size, parameters}
 

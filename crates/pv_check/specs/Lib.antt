@@ -11,7 +11,8 @@ pub mod Composite
 pub mod Values
 pub mod ValueParts
 pub mod State
-pub mod StateParts
+pub mod Scopes
+pub mod ScopeParts
 pub mod Texts
 pub mod Words
 pub mod WordParts

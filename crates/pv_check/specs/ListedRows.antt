@@ -21,7 +21,8 @@ use Rattle.pv_check.specs.MembersRead.{members_shown}
 use Rattle.pv_check.specs.Raw.{Raw}
 use Rattle.pv_check.specs.Rows.{member_of}
 use Rattle.pv_check.specs.Specifiers.{Seen, with_type, typedef_of}
-use Rattle.pv_check.specs.State.{State, After, give, look, look_tag}
+use Rattle.pv_check.specs.State.{State, After, give}
+use Rattle.pv_check.specs.Scopes.{look, look_tag}
 use Rattle.pv_typed.specs.Constants.{and_then}
 use Rattle.pv_check.specs.Tags.{opened, completed, opened_enumeration, closed_enumeration, composite_named, enumeration_named}
 use Rattle.pv_check.specs.TagParts.{some_members}

@@ -11,7 +11,8 @@ use Rattle.pv_check.specs.Arms.{first_operand, row_of_two}
 use Rattle.pv_check.specs.Derivations.{Steps}
 use Rattle.pv_check.specs.Rows.{operand, unevaluated, callee, Callee, called_by}
 use Rattle.pv_check.specs.RowParts.{sizeof_named, measured, cast, conditional, call, by_function}
-use Rattle.pv_check.specs.State.{State, After, entered}
+use Rattle.pv_check.specs.State.{State, After}
+use Rattle.pv_check.specs.Scopes.{entered}
 use Rattle.pv_typed.specs.Constants.{and_then}
 use Rattle.pv_check.specs.Typing.{types, type_named, arguments, parameters}
 

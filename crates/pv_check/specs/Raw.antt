@@ -11,7 +11,7 @@ use Rattle.pv_check.specs.declared.scopes.Named.{Named}
 use Rattle.pv_check.specs.declared.scopes.Named.TheVariants as named
 use Rattle.pv_check.specs.declared.scopes.Scope.{Scope as KeptScope}
 use Rattle.pv_check.specs.State.{Scope, Meaning, ObjectName, FunctionName, TypedefOf, ConstantOf, TagMeaning, CompositeTag, EnumerationTag, OpenEnumeration, Used, UsedObject, UsedFunction, PointedFunction}
-use Rattle.pv_check.specs.StateParts.{bound}
+use Rattle.pv_check.specs.ScopeParts.{bound}
 
 -- a scope (6.2.1p4), as it is kept: what names and tags designate is kept by numbers of tables
 pub record RawScope : Type 0 where

@@ -8,7 +8,8 @@ use Rattle.pv_token.specs.declared.words.Word.{Word}
 use Rattle.pv_token.specs.declared.words.Word.TheVariants as word
 use Rattle.pv_types.specs.Ty.{Ty, IntTy}
 use Rattle.pv_types.specs.Layouts.{Named, look, layout_in, is_complete_in, tag_type}
-use Rattle.pv_check.specs.State.{State, After, ConstantOf, TagMeaning, CompositeTag, EnumerationTag, OpenEnumeration, give, env, innermost, find, look_tag, bind_tag, declare, is_file_scope}
+use Rattle.pv_check.specs.State.{State, After, ConstantOf, TagMeaning, CompositeTag, EnumerationTag, OpenEnumeration, give, env}
+use Rattle.pv_check.specs.Scopes.{innermost, find, look_tag, bind_tag, declare, is_file_scope}
 use Rattle.pv_typed.specs.Constants.{and_then}
 use Rattle.pv_typed.specs.Mains.{named_main}
 use Rattle.std.specs.List.{list_all}

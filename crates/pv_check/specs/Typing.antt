@@ -8,7 +8,8 @@ use Rattle.pv_types.specs.Layouts.{Named}
 use Rattle.pv_tree.specs.Syntax.{ExpressionTree, Name, Number, Character, Text, Paren, Index, Call, Member, Arrow, PostIncrement, PostDecrement, PreIncrement, PreDecrement, Unary, SizeofExpr, SizeofType, Cast, Binary, Conditional, Assign, Comma, ArgumentTrees, NoArguments, Argument, DeclarationTree, MemberDeclaration, Enumerator, Parameter, TypeName, DeclaratorTree, DeclaredName, ParenDeclarator, Pointer, Array, FunctionDeclarator, AbstractParen, AbstractPointer, AbstractArray, AbstractFunction, SpecifierTree, Keyword, Composite, Enumeration, Tag, TypedefName, OfExpression, OfDeclaration, OfDeclarator, OfSpecifier, Tree, Trees, NoTrees, Then, OptionalTree, Absent, Present}
 use Rattle.pv_typed.specs.declared.nodes.IncrementOperator.TheVariants as step
 use Rattle.pv_typed.specs.TypedTree.{TypedTree, type_of, Constant}
-use Rattle.pv_check.specs.State.{State, After, ◌>>=◌, give, look, entered, env}
+use Rattle.pv_check.specs.State.{State, After, ◌>>=◌, give, env}
+use Rattle.pv_check.specs.Scopes.{look, entered}
 use Rattle.pv_typed.specs.Constants.{and_then}
 use Rattle.pv_check.specs.Specifiers.{Seen, with_keyword, with_type, typedef_of, nothing_seen}
 use Rattle.pv_check.specs.Tags.{is_union_word, tag_named, opened, completed, opened_enumeration, closed_enumeration, enumerated}

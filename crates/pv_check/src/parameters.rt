@@ -13,7 +13,7 @@ ghost use Rattle.pv_check.specs.Growing.{AreSized, Grows, IsType, type_if};
 ghost use Rattle.pv_check.specs.Open.{state_of, IsOpen, Goes};
 ghost use Rattle.pv_check.specs.Raw.{Raw};
 ghost use Rattle.pv_check.specs.RowParts.{parameter_of, by_function};
-ghost use Rattle.pv_check.specs.State.{entered};
+ghost use Rattle.pv_check.specs.Scopes.{entered};
 ghost use Rattle.pv_typed.specs.Constants.{and_then};
 ghost use Rattle.pv_check.specs.declared.derivations.Step.TheVariants.{Function};
 ghost use Rattle.pv_check.specs.Stepping.{AreSteps, steps_in};

@@ -4,7 +4,8 @@ ghost use Rattle.pv_tree.specs.Tables.{Forest, Is, HasList, is_specifier, is_dec
 ghost use Rattle.pv_tree.specs.Children.{HasSpecChildren};
 ghost use Rattle.pv_check.specs.ListedRows.{listed, list_of, is_unlisted, is_no_keyword, with_composite_tag, with_enumeration_tag, with_typedef_name};
 ghost use Rattle.pv_check.specs.Specifiers.{Seen as WhatIsSeen, typedef_of, with_type};
-ghost use Rattle.pv_check.specs.State.{State, give, look, look_tag};
+ghost use Rattle.pv_check.specs.State.{State, give};
+ghost use Rattle.pv_check.specs.Scopes.{look, look_tag};
 ghost use Rattle.pv_typed.specs.Constants.{and_then};
 ghost use Rattle.pv_tree.specs.Nodes.{specifier_of};
 ghost use Rattle.pv_tree.specs.Syntax.{Keyword};

@@ -11,7 +11,7 @@ ghost use Rattle.pv_typed.specs.Entries.{with_heading};
 ghost use Rattle.pv_check.specs.Growing.{AreSized, is_sized, IsType};
 ghost use Rattle.pv_check.specs.Raw.{Raw, tag_meaning_if};
 ghost use Rattle.pv_check.specs.Open.{state_of, IsOpen, Goes, HasTag, TagKnown, after_type, after_number};
-ghost use Rattle.pv_check.specs.State.{look_tag};
+ghost use Rattle.pv_check.specs.Scopes.{look_tag};
 ghost use Rattle.pv_check.specs.Tags.{declared_new, composite_named, enumeration_named, is_open, opened_named, opened};
 
 use crate::interning::interned;

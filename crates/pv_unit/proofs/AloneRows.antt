@@ -9,7 +9,8 @@ use Rattle.pv_typed.specs.Tables.{Stored}
 use Rattle.pv_check.specs.Raw.{Raw}
 use Rattle.pv_check.specs.Open.{state_of}
 use Rattle.pv_check.specs.Specifiers.{Specified as WhatIsSpecified}
-use Rattle.pv_check.specs.State.{After, innermost}
+use Rattle.pv_check.specs.State.{After}
+use Rattle.pv_check.specs.Scopes.{innermost}
 use Rattle.pv_typed.specs.Constants.{and_then}
 use Rattle.pv_unit.specs.declared.entities.Outer.{Outer}
 use Rattle.pv_unit.specs.Redeclarations.{UnitState}

@@ -14,7 +14,7 @@ use Rattle.pv_typed.specs.NodeTrees.{list_at, statement_at, IsStatement}
 use Rattle.pv_typed.specs.TypedStatement.{TypedStatement, Statements, MoreStatements, Declare, For, ForDeclaration, statements_of}
 use Rattle.pv_types.specs.Known.{Known}
 use Rattle.pv_check.specs.Raw.{Raw, RawScope, scope_shown, scopes_shown}
-use Rattle.pv_check.specs.State.{left}
+use Rattle.pv_check.specs.Scopes.{left}
 use Rattle.pv_check.specs.Open.{state_of, Goes}
 use Rattle.pv_unit.specs.declared.blocks.Reached.{Reached}
 use Rattle.pv_unit.specs.Reaching.{reached_of, AreReached}

@@ -14,7 +14,8 @@ use Rattle.pv_types.specs.Known.{Known}
 use Rattle.pv_check.specs.Raw.{Raw, meaning_if}
 use Rattle.pv_check.specs.Open.{state_of}
 use Rattle.pv_check.specs.Specifiers.{Specified as WhatIsSpecified}
-use Rattle.pv_check.specs.State.{State, After, give, env, innermost, find}
+use Rattle.pv_check.specs.State.{State, After, give, env}
+use Rattle.pv_check.specs.Scopes.{innermost, find}
 use Rattle.pv_typed.specs.Constants.{and_then}
 use Rattle.pv_typed.specs.TypedTree.{is_function}
 use Rattle.pv_check.specs.Derivations.{declared_name}

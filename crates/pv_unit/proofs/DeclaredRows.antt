@@ -22,7 +22,8 @@ use Rattle.pv_check.specs.Stepping.{step_in, steps_in}
 use Rattle.pv_check.specs.declared.derivations.Step.{Step}
 use Rattle.pv_check.specs.declared.derivations.Step.TheVariants as step
 use Rattle.pv_check.specs.State as state
-use Rattle.pv_check.specs.State.{State, After, Scope, Meaning, TagMeaning, give, innermost}
+use Rattle.pv_check.specs.State.{State, After, Scope, Meaning, TagMeaning, give}
+use Rattle.pv_check.specs.Scopes.{innermost}
 use Rattle.pv_typed.specs.Constants.{and_then}
 use Rattle.pv_check.specs.Raw.{Raw, raw_innermost, name_shown, tag_shown, scope_shown}
 use Rattle.pv_check.specs.Typing.{specifiers, steps}

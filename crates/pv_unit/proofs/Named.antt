@@ -13,7 +13,8 @@ use Rattle.pv_typed.specs.TypedTree.{TypedTree}
 use Rattle.pv_typed.specs.TypedUnits.{WholeUnit, TypedObject, TypedFunction, object_at, function_at}
 use Rattle.pv_typed.specs.UnitParts.{no_object, no_function}
 use Rattle.pv_typed.proofs.Each.{each_append}
-use Rattle.pv_check.specs.State.{State, After, env, Meaning, ObjectName, FunctionName, TypedefOf, ConstantOf, TagMeaning, CompositeTag, EnumerationTag, OpenEnumeration, give, look, look_tag, find, innermost, entered, bind, bind_tag}
+use Rattle.pv_check.specs.State.{State, After, env, Meaning, ObjectName, FunctionName, TypedefOf, ConstantOf, TagMeaning, CompositeTag, EnumerationTag, OpenEnumeration, give}
+use Rattle.pv_check.specs.Scopes.{look, look_tag, find, innermost, entered, bind, bind_tag}
 use Rattle.pv_typed.specs.Constants.{and_then}
 use Rattle.pv_check.specs.Specifiers.{Seen}
 use Rattle.pv_check.specs.Tags.{with_member, tag_named, composite_named, enumeration_named, opened, opened_named, is_open, completed, with_done, filed_with, opened_enumeration, closed_enumeration, enumerated, is_union_word}

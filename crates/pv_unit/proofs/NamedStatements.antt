@@ -6,7 +6,8 @@ use Rattle.pv_types.specs.Ty.{Ty}
 use Rattle.pv_typed.specs.TypedTree.{TypedTree, type_of}
 use Rattle.pv_typed.specs.TypedStatement.{TypedStatement}
 use Rattle.pv_typed.specs.Constants.{integer}
-use Rattle.pv_check.specs.State.{State, After, entered, left}
+use Rattle.pv_check.specs.State.{State, After}
+use Rattle.pv_check.specs.Scopes.{entered, left}
 use Rattle.pv_types.specs.Sorts.{kind_of, is_scalar, is_void}
 use Rattle.pv_check.specs.Typing.{types}
 use Rattle.pv_check.specs.Values.{assigned, promoted_value}

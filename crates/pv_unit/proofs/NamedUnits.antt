@@ -13,7 +13,8 @@ use Rattle.pv_typed.specs.Tables.{Stored, whole, nodes, object_in, function_in}
 use Rattle.pv_typed.specs.TypedStatement.{TypedStatement}
 use Rattle.pv_typed.specs.TypedUnits.{WholeUnit, TypedObject, TypedFunction, object_at, function_at}
 use Rattle.pv_typed.specs.Mains.{literal_text, heap_text, named_main}
-use Rattle.pv_check.specs.State.{State, After, Meaning, ObjectName, FunctionName, TypedefOf, env, find, innermost, left}
+use Rattle.pv_check.specs.State.{State, After, Meaning, ObjectName, FunctionName, TypedefOf, env}
+use Rattle.pv_check.specs.Scopes.{find, innermost, left}
 use Rattle.pv_typed.specs.Constants.{and_then}
 use Rattle.pv_check.specs.declared.specifiers.Storage.{Storage}
 use Rattle.pv_check.specs.declared.specifiers.Storage.TheVariants as storage

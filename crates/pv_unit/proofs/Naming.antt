@@ -11,8 +11,8 @@ use Rattle.pv_typed.specs.TypedUnits.{TypedObject, TypedFunction, object_at, fun
 use Rattle.pv_typed.specs.Entries.{with_object, with_object_at, with_function, with_function_at}
 use Rattle.pv_check.specs.declared.scopes.Entry.{Entry}
 use Rattle.pv_check.specs.declared.scopes.Entry.TheVariants as entry
-use Rattle.pv_check.specs.State.{find, innermost, with_innermost, bind}
-use Rattle.pv_check.specs.StateParts.{bound}
+use Rattle.pv_check.specs.Scopes.{find, innermost, with_innermost, bind}
+use Rattle.pv_check.specs.ScopeParts.{bound}
 use Rattle.pv_check.specs.Raw.{Raw, no_raw, with_name, raw_innermost, meaning_in, used_of}
 use Rattle.pv_check.specs.Open.{state_of, EntryKnown, ScopeKnown, IsOpen, Goes}
 use Rattle.pv_typed.specs.Known.{Each}

@@ -10,7 +10,8 @@ use Rattle.pv_typed.specs.Tables.{Stored}
 use Rattle.pv_typed.specs.NodeTrees.{expression_at, statement_at, IsExpression}
 use Rattle.pv_check.specs.Raw.{Raw}
 use Rattle.pv_check.specs.Open.{state_of, IsOpen, Goes}
-use Rattle.pv_check.specs.State.{State, After, entered, left}
+use Rattle.pv_check.specs.State.{State, After}
+use Rattle.pv_check.specs.Scopes.{entered, left}
 use Rattle.pv_typed.specs.Constants.{and_then}
 use Rattle.pv_check.proofs.Opening.{then_goes}
 use Rattle.pv_unit.specs.declared.plain.Place.{Place}

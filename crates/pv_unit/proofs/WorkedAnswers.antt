@@ -6,7 +6,7 @@ use Rattle.pv_typed.specs.TypedTree.{TypedTree, line_of}
 use Rattle.pv_typed.specs.TypedStatement.{TypedStatement, Statements, NoStatements, MoreStatements}
 use Rattle.pv_typed.specs.TypedStatement as typed
 use Rattle.pv_typed.specs.TypedUnits.{WholeUnit, TypedObject, TypedFunction, Store, StoredValue, ValueOf, TextOf, literal_at, object_at, layouts}
-use Rattle.pv_check.specs.State.{no_scope}
+use Rattle.pv_check.specs.Scopes.{no_scope}
 use Rattle.pv_unit.specs.Redeclarations.{UnitState}
 use Rattle.pv_unit.specs.Definitions.{may_end}
 use Rattle.pv_unit.specs.Functions.{typed_external}

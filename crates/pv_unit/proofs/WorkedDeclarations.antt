@@ -8,7 +8,8 @@ use Rattle.pv_types.specs.Layouts.{Entry, layout_in, is_complete_in, layouts_of}
 use Rattle.pv_types.specs.Compatible.{are_compatible}
 use Rattle.pv_check.specs.Words.{type_of_words}
 use Rattle.pv_typed.specs.TypedUnits.{TypedObject}
-use Rattle.pv_check.specs.State.{State, Scope, no_scope, env, left}
+use Rattle.pv_check.specs.State.{State, Scope, env}
+use Rattle.pv_check.specs.Scopes.{no_scope, left}
 use Rattle.pv_typed.specs.Constants.{and_then}
 use Rattle.pv_library.specs.LibraryNames.{library_named}
 use Rattle.pv_unit.specs.Redeclarations.{UnitState}

@@ -7,7 +7,8 @@ use Rattle.pv_types.specs.Layouts.{is_complete_in}
 use Rattle.pv_tree.specs.Syntax.{DeclarationTree, Declaration, InitDeclarator, DeclaratorTree, Tree, OfDeclaration, OfInitializer, Trees, NoTrees, Then, OptionalTree, Absent, Present}
 use Rattle.pv_typed.specs.TypedUnits.{object_at}
 use Rattle.pv_typed.specs.TypedTree.{is_function}
-use Rattle.pv_check.specs.State.{State, After, ◌>>=◌, give, env, innermost, find}
+use Rattle.pv_check.specs.State.{State, After, ◌>>=◌, give, env}
+use Rattle.pv_check.specs.Scopes.{innermost, find}
 use Rattle.pv_check.specs.declared.specifiers.Storage.{Storage}
 use Rattle.pv_check.specs.declared.specifiers.Storage.TheVariants as storage
 use Rattle.pv_check.specs.Tags.{tag_alone}

@@ -12,7 +12,8 @@ use Rattle.pv_typed.specs.TypedStatement.{TypedStatement}
 use Rattle.pv_check.specs.declared.parameters.Signature.{Signature}
 use Rattle.pv_check.specs.Declarators.{signature_shown}
 use Rattle.pv_check.specs.Raw.{Raw}
-use Rattle.pv_check.specs.State.{After, left}
+use Rattle.pv_check.specs.State.{After}
+use Rattle.pv_check.specs.Scopes.{left}
 use Rattle.pv_unit.specs.declared.entities.Outer.{Outer}
 use Rattle.pv_unit.specs.declared.heads.Defined.{Defined}
 use Rattle.pv_unit.specs.declared.functions.FunctionParts.{FunctionParts}

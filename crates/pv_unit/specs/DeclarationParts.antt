@@ -1,7 +1,8 @@
 -- A bridge: what functions answer that do a part of what Declarations says.
 use Rattle.pv_unit.specs.Declarations.{bound_in, has_list, DeclaredType, noted, is_extern, file_declarators, specified_by, is_unsized}
 use Rattle.pv_unit.specs.Redeclarations.{UnitState, function_declared, object_declared}
-use Rattle.pv_check.specs.State.{innermost, State, ◌>>=◌}
+use Rattle.pv_check.specs.State.{State, ◌>>=◌}
+use Rattle.pv_check.specs.Scopes.{innermost}
 use Rattle.pv_typed.specs.Constants.{and_then}
 use Rattle.pv_check.specs.declared.specifiers.Storage.{Storage}
 use Rattle.pv_check.specs.Derivations.{Derivation}

@@ -6,7 +6,8 @@ use Rattle.pv_types.specs.Ty.{Ty}
 use Rattle.pv_tree.specs.Syntax.{DeclarationTree, Declaration, InitDeclarator, DeclaratorTree, Composite, Tag, SpecifierTree, InitializerTree, Tree, OfDeclaration, OfSpecifier, OfInitializer, Trees, NoTrees, Then, OptionalTree, Absent, Present}
 use Rattle.pv_typed.specs.TypedUnits.{object_at}
 use Rattle.pv_typed.specs.TypedTree.{is_function}
-use Rattle.pv_check.specs.State.{State, After, ◌>>=◌, Scope, Meaning, TypedefOf, give, env, innermost, find, bind}
+use Rattle.pv_check.specs.State.{State, After, ◌>>=◌, Scope, Meaning, TypedefOf, give, env}
+use Rattle.pv_check.specs.Scopes.{innermost, find, bind}
 use Rattle.pv_typed.specs.Constants.{and_then}
 use Rattle.pv_check.specs.declared.specifiers.Storage.{Storage}
 use Rattle.pv_check.specs.declared.specifiers.Storage.TheVariants as storage

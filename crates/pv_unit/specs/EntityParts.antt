@@ -3,7 +3,7 @@ use Rattle.pv_types.specs.Ty.{Ty}
 use Rattle.pv_types.specs.Compatible.{are_compatible}
 use Rattle.pv_unit.specs.Redeclarations.{function_again, UnitState}
 use Rattle.pv_library.specs.LibraryTypes.{prototype}
-use Rattle.pv_check.specs.State.{find, innermost}
+use Rattle.pv_check.specs.Scopes.{find, innermost}
 use Rattle.std.specs.declared.option.Option.{Option}
 use Rattle.std.specs.Prelude.{ℕ, Bool, true}
 use Rattle.pv_library.specs.declared.library.Library.{Library}

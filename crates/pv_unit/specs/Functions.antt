@@ -5,7 +5,8 @@ use Rattle.pv_typed.specs.TypedStatement.{TypedStatement}
 use Rattle.pv_typed.specs.TypedUnits.{function_at}
 use Rattle.pv_typed.specs.Adding.{with_param}
 use Rattle.pv_check.specs.Derivations.{Parameter}
-use Rattle.pv_check.specs.State.{State, Scope, After, left}
+use Rattle.pv_check.specs.State.{State, Scope, After}
+use Rattle.pv_check.specs.Scopes.{left}
 use Rattle.pv_typed.specs.Constants.{and_then}
 use Rattle.pv_unit.specs.Declarations.{file_declaration}
 use Rattle.pv_unit.specs.Definitions.{Head, head}

@@ -1,7 +1,7 @@
 -- A bridge: where an object or a function of file scope stands among all, and what stands there.
 use Rattle.std.specs.Prelude.{◌≡◌, ℕ, suc, nat_eq, Bool, true, false, ◌||◌, if◌then◌else◌, List, [], ◌∷◌, Option, Some, None, set, slice_index_or}
 use Rattle.std.specs.Option.{option_map}
-use Rattle.pv_check.specs.State.{find}
+use Rattle.pv_check.specs.Scopes.{find}
 use Rattle.pv_unit.specs.Redeclarations.{Entity, is_entity}
 
 -- the place of the first one of this kind and number, among objects and functions of file scope (6.9p1)

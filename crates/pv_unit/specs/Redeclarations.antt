@@ -6,7 +6,8 @@ use Rattle.pv_types.specs.Ty.{Ty, FunctionTy}
 use Rattle.pv_types.specs.Compatible.{are_compatible}
 use Rattle.pv_typed.specs.Mains.{named_main}
 use Rattle.pv_typed.specs.TypedUnits.{TypedFunction, object_at, function_at}
-use Rattle.pv_check.specs.State.{State, Meaning, ObjectName, FunctionName, innermost, find, bind}
+use Rattle.pv_check.specs.State.{State, Meaning, ObjectName, FunctionName}
+use Rattle.pv_check.specs.Scopes.{innermost, find, bind}
 use Rattle.pv_check.specs.Composite.{composite}
 use Rattle.pv_library.specs.LibraryNames.{library_named}
 use Rattle.pv_check.specs.PrintfFormats.{is_printf}

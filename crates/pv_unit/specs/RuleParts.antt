@@ -6,7 +6,8 @@ use Rattle.pv_types.specs.Ty.{Ty}
 use Rattle.pv_types.specs.Compatible.{are_compatible}
 use Rattle.pv_types.specs.Layouts.{Part}
 use Rattle.pv_typed.specs.TypedUnits.{object_at, function_at}
-use Rattle.pv_check.specs.State.{State, innermost, find}
+use Rattle.pv_check.specs.State.{State}
+use Rattle.pv_check.specs.Scopes.{innermost, find}
 use Rattle.pv_typed.specs.Constants.{and_then}
 use Rattle.pv_check.specs.Tags.{composite_named}
 use Rattle.pv_check.specs.declared.specifiers.Storage.{Storage}

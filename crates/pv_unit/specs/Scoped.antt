@@ -4,7 +4,8 @@ use Rattle.pv_num.specs.declared.kinds.IntKind.{IntKind}
 use Rattle.pv_tree.specs.Syntax.{ExpressionTree, StatementTree, Block, If, IfElse, While, DoWhile, For, ForDeclaration, Switch, SwitchBlock, Labelled, OptionalTree}
 use Rattle.pv_typed.specs.TypedTree.{TypedTree}
 use Rattle.pv_typed.specs.TypedStatement.{TypedStatement}
-use Rattle.pv_check.specs.State.{State, After, give, entered}
+use Rattle.pv_check.specs.State.{State, After, give}
+use Rattle.pv_check.specs.Scopes.{entered}
 use Rattle.pv_typed.specs.Constants.{and_then}
 use Rattle.pv_unit.specs.Blocks.{block_declaration}
 use Rattle.pv_unit.specs.Statements.{Around, in_loop, leaving, valued, condition, optional, Label, typed_labels, under, Switched, switched}

@@ -3,7 +3,8 @@ use Rattle.pv_unit.specs.Statements.{Around, Label, CaseLabel, Switched, is_labe
 use Rattle.std.specs.Prelude.{true, None, Some, if◌then◌else◌, Option, [], ◌∷◌, List, ◌++◌, ℕ, Bool, ◌&&◌, length, ◌==◌}
 use Rattle.std.specs.List.{list_any, list_all}
 use Rattle.pv_types.specs.Sorts.{kind_of, is_scalar, is_void}
-use Rattle.pv_check.specs.State.{After, give, State, innermost, Meaning}
+use Rattle.pv_check.specs.State.{After, give, State, Meaning}
+use Rattle.pv_check.specs.Scopes.{innermost}
 use Rattle.pv_check.specs.Values.{assigned, promoted_value}
 use Rattle.pv_typed.specs.TypedTree.{TypedTree, type_of}
 use Rattle.pv_typed.specs.Constants.{integer, and_then}

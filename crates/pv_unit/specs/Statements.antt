@@ -9,7 +9,8 @@ use Rattle.pv_typed.specs.TypedTree.{TypedTree, type_of}
 use Rattle.pv_typed.specs.TypedStatement.{TypedStatement, Block, ForDeclaration, Declare, Return, Case as CaseOf, Default as DefaultOf, statements_of}
 use Rattle.pv_typed.specs.TypedUnits.{object_at}
 use Rattle.pv_typed.specs.Constants.{integer, and_then}
-use Rattle.pv_check.specs.State.{State, After, Meaning, ObjectName, give, left}
+use Rattle.pv_check.specs.State.{State, After, Meaning, ObjectName, give}
+use Rattle.pv_check.specs.Scopes.{left}
 use Rattle.pv_types.specs.Sorts.{kind_of, is_scalar, is_void}
 use Rattle.pv_check.specs.Typing.{types}
 use Rattle.pv_check.specs.Rows.{operand}

@@ -5,7 +5,8 @@ use Rattle.pv_num.specs.declared.kinds.IntKind.{IntKind}
 use Rattle.pv_tree.specs.Syntax.{StatementTree, Block, ExpressionStatement, If, IfElse, While, DoWhile, For, ForDeclaration, Switch, SwitchBlock, Labelled, Break, Continue, Return, Tree, OfDeclaration, OfStatement, Trees, NoTrees, Then}
 use Rattle.pv_typed.specs.TypedStatement.{TypedStatement}
 use Rattle.pv_typed.specs.TypedStatement as typed
-use Rattle.pv_check.specs.State.{State, After, ◌>>=◌, give, entered, innermost, Meaning}
+use Rattle.pv_check.specs.State.{State, After, ◌>>=◌, give, Meaning}
+use Rattle.pv_check.specs.Scopes.{entered, innermost}
 use Rattle.pv_unit.specs.Blocks.{Reached, block_declaration}
 use Rattle.pv_unit.specs.Statements.{Around, in_loop, leaving, valued, condition, optional, Label, typed_labels, under, returned, switched, reached, block_of, round_of, is_automatic}
 use Rattle.std.specs.Option.{option_map_or}

@@ -5,7 +5,8 @@ use Rattle.pv_tree.specs.Syntax.{DeclarationTree}
 use Rattle.pv_typed.specs.Mains.{literal_text, heap_text, named_main}
 use Rattle.pv_typed.specs.TypedUnits.{WholeUnit, TypedObject, TypedFunction, name_at}
 use Rattle.pv_library.specs.LibraryNames.{library_named}
-use Rattle.pv_check.specs.State.{State, Used, UsedObject, UsedFunction, PointedFunction, no_scope}
+use Rattle.pv_check.specs.State.{State, Used, UsedObject, UsedFunction, PointedFunction}
+use Rattle.pv_check.specs.Scopes.{no_scope}
 use Rattle.pv_typed.specs.Constants.{and_then}
 use Rattle.pv_unit.specs.Definitions.{may_end, is_defined}
 use Rattle.pv_unit.specs.Redeclarations.{Entity, UnitState, unit_name}

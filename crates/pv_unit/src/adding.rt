@@ -8,7 +8,7 @@ ghost use Rattle.pv_typed.specs.Tables.{nodes};
 ghost use Rattle.pv_typed.specs.NodeTrees.{list_at, statement_at, IsStatement};
 ghost use Rattle.pv_typed.specs.TypedStatement.{Declare};
 ghost use Rattle.pv_check.specs.Open.{state_of, IsOpen};
-ghost use Rattle.pv_check.specs.State.{entered, left};
+ghost use Rattle.pv_check.specs.Scopes.{entered, left};
 ghost use Rattle.pv_unit.specs.Reaching.{AreReached, reached_of};
 ghost use Rattle.pv_unit.specs.Stated.{optional_list, statements_in, optional_in, items_if, IsOptional, AreStatements, StatementsOn, Moves, MovesOn, items_in};
 ghost use Rattle.pv_unit.specs.Statements.{reached, declared_by, declared_in, block_of, round_of};

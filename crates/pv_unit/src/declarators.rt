@@ -7,7 +7,7 @@ ghost use Rattle.pv_check.specs.Stepping.{step_in, steps_in};
 ghost use Rattle.pv_check.specs.Raw.{raw_innermost};
 ghost use Rattle.pv_check.specs.Open.{state_of, IsOpen, Goes};
 ghost use Rattle.pv_check.specs.Tags.{tag_alone};
-ghost use Rattle.pv_check.specs.State.{innermost};
+ghost use Rattle.pv_check.specs.Scopes.{innermost};
 ghost use Rattle.pv_unit.specs.Declarations.{is_unsized, is_listed, has_list, only_tag, specified_by, type_declared, bound_in};
 ghost use Rattle.pv_unit.specs.DeclarationParts.{has_unsized};
 ghost use Rattle.pv_unit.specs.RuleParts.{composite_alone};

@@ -7,7 +7,7 @@ ghost use Rattle.pv_typed.specs.Tables.{whole};
 ghost use Rattle.pv_check.specs.Raw.{raw_innermost, meaning_if};
 ghost use Rattle.pv_check.specs.Open.{IsOpen, Goes, EntryKnown};
 ghost use Rattle.pv_typed.specs.TypedTree.{is_function};
-ghost use Rattle.pv_check.specs.State.{find};
+ghost use Rattle.pv_check.specs.Scopes.{find};
 ghost use Rattle.pv_typed.specs.Mains.{named_main};
 ghost use Rattle.pv_unit.specs.MainType.{main_type};
 ghost use Rattle.pv_unit.specs.Redeclarations.{unit_name, with_new_object, with_new_function, may_have, object_again, object_declared, function_again, function_declared};

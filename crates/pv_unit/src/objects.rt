@@ -8,7 +8,8 @@ ghost use Rattle.pv_check.specs.Composite.{composite};
 ghost use Rattle.pv_check.specs.Open.{state_of, after_nothing, IsOpen, Goes, EntryKnown};
 ghost use Rattle.pv_check.specs.Growing.{type_if};
 ghost use Rattle.pv_check.specs.Raw.{raw_innermost, meaning_if, with_name};
-ghost use Rattle.pv_check.specs.State.{find, innermost, TypedefOf, bind};
+ghost use Rattle.pv_check.specs.State.{TypedefOf};
+ghost use Rattle.pv_check.specs.Scopes.{find, innermost, bind};
 ghost use Rattle.pv_unit.specs.Redeclarations.{new_object, new_function, with_object_type, with_function_type};
 ghost use Rattle.pv_unit.specs.RuleParts.{object_composed, function_composed};
 

@@ -13,7 +13,8 @@ use Rattle.pv_typed.specs.UnitParts.{no_object}
 use Rattle.pv_check.specs.Derivations.{declared_name, derived}
 use Rattle.pv_typed.specs.TypedTree.{is_function}
 use Rattle.pv_check.specs.Specifiers.{Specified, specified}
-use Rattle.pv_check.specs.State.{State, After, ObjectName, give, env, innermost, find, is_file_scope}
+use Rattle.pv_check.specs.State.{State, After, ObjectName, give, env}
+use Rattle.pv_check.specs.Scopes.{innermost, find, is_file_scope}
 use Rattle.pv_typed.specs.Constants.{and_then}
 use Rattle.pv_check.specs.Tags.{composite_named, tag_alone}
 use Rattle.pv_check.specs.Typing.{specifiers, steps}

@@ -2,7 +2,8 @@
 use Rattle.std.proofs.Common.{◌≡◌, ℕ, ◌<◌, Option, Some, None, length, refl, subst}
 use Rattle.pv_tree.specs.Syntax.{ExpressionTree, Name, Number, Character, Text, Paren, Index, Call, Member, Arrow, PostIncrement, PostDecrement, PreIncrement, PreDecrement, Unary, SizeofExpr, SizeofType, Cast, Binary, Conditional, Assign, Comma}
 use Rattle.pv_check.specs.Rows.{function_in, callee}
-use Rattle.pv_check.specs.State.{State, Meaning, ObjectName, FunctionName, TypedefOf, ConstantOf, look}
+use Rattle.pv_check.specs.State.{State, Meaning, ObjectName, FunctionName, TypedefOf, ConstantOf}
+use Rattle.pv_check.specs.Scopes.{look}
 use Rattle.pv_well_typed.proofs.Operands.{some-same}
 
 -- 6.5.2.2p1: a function that is called by its name

@@ -15,8 +15,9 @@ use Rattle.pv_typed.specs.TypedUnits.{WholeUnit, TypedObject, Literal, layouts}
 use Rattle.pv_typed.specs.UnitParts.{no_literal, no_object}
 use Rattle.pv_check.specs.Primary.{with_use}
 use Rattle.pv_check.specs.StringLiterals.{text_of}
-use Rattle.pv_check.specs.State.{State, Scope, no_scope, Meaning, TagMeaning, Used, find, look, look_tag, look_by, innermost, bind, bind_tag, entered}
-use Rattle.pv_check.specs.StateParts.{bound, names_in, tags_in}
+use Rattle.pv_check.specs.State.{State, Scope, Meaning, TagMeaning, Used}
+use Rattle.pv_check.specs.Scopes.{no_scope, find, look, look_tag, look_by, innermost, bind, bind_tag, entered}
+use Rattle.pv_check.specs.ScopeParts.{bound, names_in, tags_in}
 use Rattle.std.specs.Option.{option_or}
 use Rattle.pv_guards.specs.Typed.{IsIn}
 use Rattle.pv_well_typed.specs.Proper.{IsProper}

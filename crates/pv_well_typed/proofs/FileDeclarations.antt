@@ -9,7 +9,8 @@ use Rattle.pv_typed.specs.TypedUnits.{WholeUnit}
 use Rattle.pv_check.specs.Derivations.{declared_name, derived}
 use Rattle.pv_typed.specs.TypedTree.{is_function}
 use Rattle.pv_check.specs.Specifiers.{Specified, specified}
-use Rattle.pv_check.specs.State.{State, After, give, env, innermost, find}
+use Rattle.pv_check.specs.State.{State, After, give, env}
+use Rattle.pv_check.specs.Scopes.{innermost, find}
 use Rattle.pv_typed.specs.Constants.{and_then}
 use Rattle.pv_check.specs.Tags.{composite_named, tag_alone}
 use Rattle.pv_check.specs.Typing.{specifiers, steps}

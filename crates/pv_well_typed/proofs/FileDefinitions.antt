@@ -21,7 +21,8 @@ use Rattle.pv_library.specs.LibraryNames.{library_named}
 use Rattle.pv_check.specs.Sorts.{is_array}
 use Rattle.pv_typed.specs.TypedTree.{is_function}
 use Rattle.pv_check.specs.Specifiers.{Specified}
-use Rattle.pv_check.specs.State.{State, After, Scope, Meaning, innermost, env, left}
+use Rattle.pv_check.specs.State.{State, After, Scope, Meaning, env}
+use Rattle.pv_check.specs.Scopes.{innermost, left}
 use Rattle.pv_typed.specs.Constants.{and_then}
 use Rattle.pv_check.specs.Typing.{steps}
 use Rattle.pv_unit.specs.Declarations.{specified_by, noted}

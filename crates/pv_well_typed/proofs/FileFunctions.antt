@@ -15,8 +15,9 @@ use Rattle.pv_typed.specs.UnitParts.{no_function}
 use Rattle.pv_check.specs.Composite.{composite}
 use Rattle.pv_library.specs.LibraryNames.{library_named}
 use Rattle.pv_typed.specs.TypedTree.{is_function}
-use Rattle.pv_check.specs.State.{State, Scope, no_scope, Meaning, ObjectName, FunctionName, TypedefOf, ConstantOf, Used, UsedObject, UsedFunction, PointedFunction, innermost, find}
-use Rattle.pv_check.specs.StateParts.{bound}
+use Rattle.pv_check.specs.State.{State, Scope, Meaning, ObjectName, FunctionName, TypedefOf, ConstantOf, Used, UsedObject, UsedFunction, PointedFunction}
+use Rattle.pv_check.specs.Scopes.{no_scope, innermost, find}
+use Rattle.pv_check.specs.ScopeParts.{bound}
 use Rattle.pv_unit.specs.Redeclarations.{Entity, UnitState, unit_name, is_initialized, entity, with_function, with_function_type, new_function, with_new_function, function_again, may_have, function_declared}
 use Rattle.pv_unit.specs.EntityParts.{function_found}
 use Rattle.pv_unit.specs.Declarations.{noted}

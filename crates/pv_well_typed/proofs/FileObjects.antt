@@ -17,7 +17,8 @@ use Rattle.pv_typed.specs.UnitParts.{no_object}
 use Rattle.pv_check.specs.Composite.{composite}
 use Rattle.pv_types.specs.SameTypes.{same_type as same}
 use Rattle.pv_typed.specs.TypedTree.{is_function}
-use Rattle.pv_check.specs.State.{State, After, Scope, Meaning, ObjectName, FunctionName, TypedefOf, ConstantOf, innermost, find, bind, env}
+use Rattle.pv_check.specs.State.{State, After, Scope, Meaning, ObjectName, FunctionName, TypedefOf, ConstantOf, env}
+use Rattle.pv_check.specs.Scopes.{innermost, find, bind}
 use Rattle.pv_typed.specs.Constants.{and_then}
 use Rattle.pv_typed.specs.Mains.{named_main}
 use Rattle.pv_unit.specs.MainType.{main_type}

@@ -12,8 +12,9 @@ use Rattle.pv_typed.proofs.Each.{each_weaker}
 use Rattle.pv_typed.specs.TypedUnits.{WholeUnit, TypedObject, TypedFunction, layouts, object_at, function_at}
 use Rattle.pv_typed.specs.UnitParts.{no_function}
 use Rattle.pv_typed.specs.TypedTree.{is_function}
-use Rattle.pv_check.specs.State.{State, Scope, Meaning, ObjectName, FunctionName, TypedefOf, ConstantOf, find, innermost}
-use Rattle.pv_check.specs.StateParts.{bound}
+use Rattle.pv_check.specs.State.{State, Scope, Meaning, ObjectName, FunctionName, TypedefOf, ConstantOf}
+use Rattle.pv_check.specs.Scopes.{find, innermost}
+use Rattle.pv_check.specs.ScopeParts.{bound}
 use Rattle.pv_unit.specs.Redeclarations.{Entity, UnitState, unit_name, is_entity, is_initialized, marked}
 use Rattle.pv_guards.specs.Typed.{IsIn}
 use Rattle.pv_guards.specs.TypedStatements.{IsDefinition}

@@ -9,7 +9,8 @@ use Rattle.pv_typed.specs.TypedStatement as typed
 use Rattle.pv_typed.specs.TypedStatement.{TypedStatement, statements_of}
 use Rattle.pv_typed.specs.TypedUnits.{WholeUnit}
 use Rattle.pv_types.specs.Sorts.{is_void, bare as unqualified}
-use Rattle.pv_check.specs.State.{State, After, give, entered, left}
+use Rattle.pv_check.specs.State.{State, After, give}
+use Rattle.pv_check.specs.Scopes.{entered, left}
 use Rattle.pv_typed.specs.Constants.{and_then}
 use Rattle.pv_check.specs.Values.{assigned}
 use Rattle.pv_unit.specs.Statements.{leaving, valued, condition, optional, returned, declared_by, declared_in}

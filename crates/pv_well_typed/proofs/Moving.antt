@@ -13,7 +13,8 @@ use Rattle.pv_typed.specs.TypedUnits.{WholeUnit, TypedObject, TypedFunction, Lit
 use Rattle.pv_typed.specs.UnitParts.{no_function, no_literal}
 use Rattle.pv_library.specs.LibraryNames.{library_named}
 use Rattle.pv_check.specs.Rows.{operand, integer_value}
-use Rattle.pv_check.specs.State.{State, Used, UsedObject, UsedFunction, PointedFunction, Meaning, ObjectName, FunctionName, TypedefOf, ConstantOf, After, Scope, no_scope, give, env, find, innermost, entered, left}
+use Rattle.pv_check.specs.State.{State, Used, UsedObject, UsedFunction, PointedFunction, Meaning, ObjectName, FunctionName, TypedefOf, ConstantOf, After, Scope, give, env}
+use Rattle.pv_check.specs.Scopes.{no_scope, find, innermost, entered, left}
 use Rattle.pv_typed.specs.Constants.{and_then, integer}
 use Rattle.pv_check.specs.Values.{value_of}
 use Rattle.pv_eval.specs.Objects.{heap_name}

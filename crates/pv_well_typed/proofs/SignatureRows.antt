@@ -16,7 +16,8 @@ use Rattle.pv_check.specs.Sorts.{is_array}
 use Rattle.pv_types.specs.Sorts.{is_void_in}
 use Rattle.pv_check.specs.Specifiers.{specified}
 use Rattle.pv_check.specs.SpecifierParts.{without_storage}
-use Rattle.pv_check.specs.State.{State, After, Scope, no_scope, Meaning, ObjectName, give, innermost, find, bind, entered, left, env}
+use Rattle.pv_check.specs.State.{State, After, Scope, Meaning, ObjectName, give, env}
+use Rattle.pv_check.specs.Scopes.{no_scope, innermost, find, bind, entered, left}
 use Rattle.pv_typed.specs.Constants.{and_then}
 use Rattle.pv_check.specs.Typing.{specifiers, steps, optional_steps, array_size, parameters, parameter_in}
 use Rattle.pv_guards.specs.Typed.{IsIn}

@@ -7,7 +7,8 @@ use Rattle.pv_types.specs.Ty.{Ty}
 use Rattle.pv_typed.specs.TypedStatement as typed
 use Rattle.pv_typed.specs.TypedStatement.{TypedStatement}
 use Rattle.pv_typed.specs.TypedUnits.{WholeUnit, object_at}
-use Rattle.pv_check.specs.State.{State, After, give, entered, left}
+use Rattle.pv_check.specs.State.{State, After, give}
+use Rattle.pv_check.specs.Scopes.{entered, left}
 use Rattle.pv_typed.specs.Constants.{and_then}
 use Rattle.pv_unit.specs.Blocks.{Reached, block_declaration}
 use Rattle.pv_unit.specs.Statements.{Around, in_loop, Label, typed_labels, under, reached, leaving, block_of}

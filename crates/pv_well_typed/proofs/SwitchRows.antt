@@ -9,7 +9,8 @@ use Rattle.pv_typed.specs.TypedStatement as typed
 use Rattle.pv_typed.specs.TypedStatement.{TypedStatement, Statements, Block, Switch}
 use Rattle.pv_typed.specs.TypedTree.{TypedTree}
 use Rattle.pv_typed.specs.TypedUnits.{WholeUnit}
-use Rattle.pv_check.specs.State.{State, After, give, entered, left}
+use Rattle.pv_check.specs.State.{State, After, give}
+use Rattle.pv_check.specs.Scopes.{entered, left}
 use Rattle.pv_unit.specs.Statements.{Label, CaseLabel, DefaultLabel, typed_label, label_in, typed_labels, under, Switched, switched, valued, leaving, declared_by, declared_in, block_of}
 use Rattle.pv_unit.specs.StatementParts.{stands, labelled, case_label}
 use Rattle.pv_unit.specs.TypedStatements.{Body}

@@ -13,8 +13,9 @@ use Rattle.pv_types.specs.Ty.{Ty, IntTy}
 use Rattle.pv_types.proofs.LayoutLaws.{layouts-push}
 use Rattle.pv_typed.specs.Known.{Each}
 use Rattle.pv_typed.specs.TypedUnits.{WholeUnit}
-use Rattle.pv_check.specs.State.{State, After, Scope, no_scope, Meaning, ConstantOf, TagMeaning, CompositeTag, EnumerationTag, OpenEnumeration, give, env, innermost, find, look_tag, bind, bind_tag, is_file_scope}
-use Rattle.pv_check.specs.StateParts.{bound}
+use Rattle.pv_check.specs.State.{State, After, Scope, Meaning, ConstantOf, TagMeaning, CompositeTag, EnumerationTag, OpenEnumeration, give, env}
+use Rattle.pv_check.specs.Scopes.{no_scope, innermost, find, look_tag, bind, bind_tag, is_file_scope}
+use Rattle.pv_check.specs.ScopeParts.{bound}
 use Rattle.pv_typed.specs.Constants.{and_then}
 use Rattle.pv_check.specs.Tags.{declared_new, composite_named, enumeration_named, tag_named, is_open, opened_named, opened, filed_with, with_done, completed, opened_enumeration, closed_enumeration, may_enumerate, enumerated}
 use Rattle.pv_check.specs.TagParts.{some_members, is_small}

@@ -26,9 +26,10 @@ use Rattle.pv_check.specs.Rows.{operand, integer_value, unevaluated, after_sizeo
 use Rattle.pv_check.specs.RowParts.{known_size, by_pointer, by_array, named_type, parameter_of, with_argument, cast, with_callee, pointed_callee, by_function}
 use Rattle.pv_check.specs.Specifiers.{Seen, with_keyword, with_type, typedef_of, specified, nothing_seen}
 use Rattle.pv_check.specs.SpecifierParts.{without_storage}
-use Rattle.pv_check.specs.State.{State, After, Scope, no_scope, Meaning, ObjectName, FunctionName, TypedefOf, ConstantOf, Used, UsedObject, UsedFunction, give, env, look, find, innermost, bind, entered, left, is_file_scope}
+use Rattle.pv_check.specs.State.{State, After, Scope, Meaning, ObjectName, FunctionName, TypedefOf, ConstantOf, Used, UsedObject, UsedFunction, give, env}
+use Rattle.pv_check.specs.Scopes.{no_scope, look, find, innermost, bind, entered, left, is_file_scope}
 use Rattle.pv_typed.specs.Constants.{and_then}
-use Rattle.pv_check.specs.StateParts.{names_in}
+use Rattle.pv_check.specs.ScopeParts.{names_in}
 use Rattle.pv_check.specs.Tags.{is_union_word, with_member, completed, opened, closed_enumeration, tag_named, enumerated}
 use Rattle.pv_check.specs.TagParts.{is_new_member, some_members}
 use Rattle.pv_check.specs.Typing.{types, arguments, type_named, specifiers, specifier_in, specifier, members, member_in, member_declarators, member_declarator, enumerators, enumerator_in, enumerator_value, steps, optional_steps, array_size, parameters, parameter_in}

@@ -1,7 +1,7 @@
 use Rattle.std.proofs.Common.{◌≡◌, None, false, sym, ap, ◌∙◌}
 use Rattle.std.specs.Prelude.{if◌then◌else◌}
 use Rattle.pv_types.specs.Known.{tree}
-use Rattle.pv_check.specs.State.{find, innermost}
+use Rattle.pv_check.specs.Scopes.{find, innermost}
 use Rattle.pv_typed.specs.Mains.{named_main}
 use Rattle.pv_unit.specs.Redeclarations.{unit_name, object_again}
 use Rattle.pv_unit.specs.Outside.{unit_state}

@@ -6,7 +6,7 @@ use Rattle.pv_tree.specs.Tables.{tree_at, trees_of, trees_at, expression_at as e
 use Rattle.pv_typed.specs.NodeTrees.{expression_at, statement_at, IsExpression, IsStatement}
 use Rattle.pv_typed.specs.TypedStatement as typed
 use Rattle.pv_check.specs.Open.{state_of}
-use Rattle.pv_check.specs.State.{entered}
+use Rattle.pv_check.specs.Scopes.{entered}
 use Rattle.pv_check.proofs.Descending.{has_at, optional_within}
 use Rattle.pv_unit.specs.Statements.{condition, switched, typed_labels, under, block_of}
 use Rattle.pv_unit.specs.StatementParts.{in_switch}

@@ -1,6 +1,7 @@
--- A bridge: what functions answer that do a part of what State says.
+-- A bridge: what functions answer that do a part of what Scopes says.
 use Rattle.std.specs.Prelude.{List, ℕ, nat_eq, None, Option, Some, if◌then◌else◌, is_some}
-use Rattle.pv_check.specs.State.{Meaning, Scope, TagMeaning, State, bind_tag, find, innermost}
+use Rattle.pv_check.specs.State.{Meaning, Scope, TagMeaning, State}
+use Rattle.pv_check.specs.Scopes.{bind_tag, find, innermost}
 use Rattle.indexmap.specs.IndexMap.{insert_entry}
 
 -- 6.2.3p1: the name space of identifiers
