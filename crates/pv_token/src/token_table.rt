@@ -156,6 +156,19 @@ impl Tokens {
         }
     }
 
+    /// No tokens, with room for so many, so that a table whose greatest length is known is not moved as it grows. The only
+    /// error is want of memory.
+    pub fn with_room(alloc: Global, count: usize) -> Result<Tokens, NoMemory>
+        ensures { IfOk result (λ t. t ≡ record { tokens = []; names = []; texts = [] }) }
+    {
+        Ok(Tokens {
+            tokens: Vec::with_capacity(alloc, count)?,
+            values: Vec::new(alloc),
+            names: IndexSet::new(alloc),
+            texts: Vec::new(alloc),
+        })
+    }
+
     /// Keeps a token, and the name or the string literal that it stands for. The only error is want of memory, which
     /// changes nothing.
     #[inline(always)]

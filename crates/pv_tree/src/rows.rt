@@ -1,5 +1,5 @@
 //! The rows of the table of nodes.
-ghost use Rattle.std.specs.Prelude.{◌≡◌, ◌<◌, ◌^◌, ◌++◌, ◌∷◌, [], length, OnOk, OnErr};
+ghost use Rattle.std.specs.Prelude.{◌≡◌, ◌<◌, ◌^◌, ◌++◌, ◌∷◌, [], length, IfOk, OnOk, OnErr};
 ghost use Rattle.pv_tree.specs.Short.{row_at};
 
 use crate::nodes::Node;
@@ -56,6 +56,16 @@ impl Rows {
             short: Vec::new(alloc),
             whole: Vec::new(alloc),
         }
+    }
+
+    /// No rows, with room for so many. The only error is want of memory.
+    pub fn with_room(alloc: Global, count: usize) -> Result<Rows, NoMemory>
+        ensures { IfOk result (λ r. r ≡ []) }
+    {
+        Ok(Rows {
+            short: Vec::with_capacity(alloc, count)?,
+            whole: Vec::new(alloc),
+        })
     }
 
     /// How many there are.

@@ -51,6 +51,19 @@ impl Unit {
         }
     }
 
+    /// A unit without nodes, with room for so many, so that a table whose length is nearly known is not moved as it grows.
+    /// The only error is want of memory.
+    #[tactic(auto, unfolding(crate::specs::Rows::trees_of_rows))]
+    pub fn with_room(alloc: Global, count: usize) -> Result<Unit, NoMemory>
+        ensures { IfOk result (λ u. u ≡ no_tables) }
+    {
+        Ok(Unit {
+            rows: Rows::with_room(alloc, count)?,
+            lists: Lists::new(alloc),
+            externals: Vec::new(alloc),
+        })
+    }
+
     /// Keeps a list of nodes, and gives its number.
     #[inline(always)]
     pub fn add_list(&mut self, l: &[NodeId]) -> Result<ListId, NoMemory>
