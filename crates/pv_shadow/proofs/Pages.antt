@@ -69,10 +69,10 @@ other_page q k h = ⊎_elim (λ l. inl l) (λ l. ⊎_elim (λ r. absurd (h (omeg
 pub same_or_not : (k j : ℕ) → (k ≡ j) ⊎ (k ≢ j)
 same_or_not k j = ⊎_elim (λ h. inr (λ e. omega arith)) (λ h. ⊎_elim (λ l. inr (λ e. omega arith)) (λ l. inl (omega arith)) (cases_lt j k)) (cases_lt k j)
 
-eq_true : (q k : ℕ) → q ≡ k → is_at (nat_cmp q) k ≡ true
+pub eq_true : (q k : ℕ) → q ≡ k → is_at (nat_cmp q) k ≡ true
 eq_true q k h = unsigned_tied q k ∙ (let t : eqb q k ≡ true = grind (arith, nat_tests) in t)
 
-eq_false : (q k : ℕ) → q ≢ k → is_at (nat_cmp q) k ≡ false
+pub eq_false : (q k : ℕ) → q ≢ k → is_at (nat_cmp q) k ≡ false
 eq_false q k h = unsigned_tied q k ∙ (let t : eqb q k ≡ false = grind (arith, nat_tests) in t)
 
 -- what stands at an address is what its page has there

@@ -5,6 +5,7 @@ use Rattle.std.proofs.lemmas.List.{length-map}
 use Rattle.pv_shadow.specs.declared.byte.Byte.{Byte}
 use Rattle.pv_shadow.specs.Pages.{stored}
 use Rattle.pv_shadow.specs.Whole.{plain, little_endian}
+use Rattle.pv_shadow.specs.Buckets.{paged}
 use Rattle.pv_shadow.proofs.Pages.{slot_of, no_page, changed_at, written_slots}
 use Rattle.pv_shadow.proofs.Numbers.{plain_long}
 use Rattle.pv_shadow.proofs.bytes.Bytes.put_number.Goals as goal
@@ -13,7 +14,7 @@ pub unreachable-requires : goal.unreachable-requires
 unreachable-requires c =
     let P : Option Byte → Type 0 = λ o. IsSome o in
     let e : fin.get c.args.self.now (c.args.a + 0) ≡ None = rw (← c.self.view_is)
-    (no_page c.self.inside.pages.entries c.args.a 0 c.page_of.result c.page_of.ensures c.in-None.ensures.value (omega arith)) in
+    (no_page (paged c.self.inside.pages) c.args.a 0 c.page_of.result c.page_of.ensures c.in-None.ensures.value (omega arith)) in
     false≢true (subst P e (c.requires.there 0 (omega arith)))
 
 pub returns : goal.returns
@@ -22,7 +23,7 @@ returns c =
     let bytes : List Byte = plain c.args.mark 0 (little_endian c.args.n c.args.number) in
     let some : List (Option Byte) = map (λ (b : Byte). Some b) bytes in
     let few : length some ≡ c.args.n = length-map bytes (λ (b : Byte). Some b) ∙ plain_long c.args.mark 0 c.args.n c.args.number in
-    rw (← c.self.view_is) (changed_at c.self.inside.pages.entries (c.get_mut.follows.lender c.put_number.new.self).entries c.args.a some c.in-Some.page.now c.put_number.new.self
+    rw (← c.self.view_is) (changed_at (paged c.self.inside.pages) (paged (c.get_mut.follows.lender c.put_number.new.self)) c.args.a some c.in-Some.page.now c.put_number.new.self
     c.page_of.result c.place_of-in-Some.result (omega (arith, few)) c.put_number.ensures.width c.page_of.ensures c.place_of-in-Some.ensures.place c.put_number.ensures.slots
-    (λ j. ap (λ o. slot_of o j) (sym c.in-Some.ensures.value)) ((c.get_mut.follows.holds c.put_number.new.self).3 there).0
-    ∙ written_slots (stored c.self.inside.pages.entries) c.args.a bytes)
+    (λ j. ap (λ o. slot_of o j) (sym c.in-Some.ensures.value)) (c.get_mut.follows.holds c.put_number.new.self there)
+    ∙ written_slots (stored (paged c.self.inside.pages)) c.args.a bytes)
