@@ -1,15 +1,13 @@
 -- A bridge: what operations on instances ask for and answer.
-use Rattle.std.specs.Prelude.{ℕ, List, IsTrue, IsSomeAnd, ◌≡◌, Result, Err, true, ◌⊎◌, is_some}
+use Rattle.std.specs.Prelude.{ℕ, List, IsTrue, IsSomeAnd, ◌≡◌, Result, Err, true, ◌⊎◌}
 use Rattle.pv_prov.specs.declared.names.Prov.{Prov}
 use Rattle.pv_prov.specs.declared.names.Prov.TheVariants.{Empty, Inst, Pair}
 use Rattle.pv_prov.specs.Made.{Stands_low, Stands_high}
-use Rattle.pv_prov.specs.declared.names.Stands.{Stands}
 use Rattle.pv_inst.specs.declared.values.Instance.{Instance}
 use Rattle.pv_inst.specs.Table.{instance_at, Table}
 use Rattle.pv_inst.specs.declared.values.CreateError.{CreateError}
 use Rattle.pv_inst.specs.declared.values.CreateError.TheVariants.{NoMemory}
 use Rattle.pv_inst.specs.declared.values.Tried.{Tried}
-use Rattle.pv_inst.specs.Use.{two_of}
 
 -- 6.2.4p2: the number is that of a live instance
 abbrev pub IsLive : List Instance → ℕ → Type 0
@@ -25,7 +23,3 @@ abbrev pub CanKeep : Table → Prov → Tried → Type 0
 CanKeep T (Pair k) tried = ((tried.low ≡ true) ⊎ (tried.high ≡ true)) × (tried.low ≡ true → Stands_low T.pairs k) × (tried.high ≡ true → Stands_high T.pairs k)
 CanKeep T (Inst i) tried = Unit {0}
 CanKeep T Empty tried = Unit {0}
-
--- the memory model: what a use found, where it had survivors: told by what its name stood for before it, and stands for after it
-abbrev pub tried_by : Prov → (before after : Stands) → Tried
-tried_by p before after = record { pair = two_of p before; low = is_some after.low; high = is_some after.high }

@@ -2,7 +2,7 @@
 ghost use Rattle.pv_inst.specs.Table.{IsMadeIn};
 
 use crate::scripts::{names, neighbours};
-use pv_inst::{Instances, Kind, Miss, Test};
+use pv_inst::{Instances, Kind, Miss, Test, Tried};
 use pv_prov::{Pairs, Prov, Stands, same_name};
 use pv_script::Names;
 use std::alloc::Global;
@@ -70,19 +70,10 @@ fn tell(rt: &impl Abort, table: &Instances) {
     assert!(rt; table.base(2) == 0x20008);
 }
 
-/// Which tests the second object would pass, where nothing is used, and nothing waits to be told.
+/// Nothing waits to be told.
 fn ask(rt: &impl Abort, table: &Instances) {
-    let within = Test::Range {
-        address: 0x2000c,
-        size: 4,
-    };
-    let beyond = Test::Range {
-        address: 0x2000c,
-        size: 8,
-    };
     table.well_formed();
-    assert!(rt; table.survives(Some(2), within) && !table.survives(Some(2), beyond));
-    assert!(rt; table.is_told() && !table.survives(None, Test::Live));
+    assert!(rt; table.is_told());
 }
 
 /// The name that a number finds where both objects were exposed: a new pair, which is known.
@@ -103,7 +94,6 @@ fn find(rt: &impl Abort, table: &mut Instances) -> Prov {
 /// A use within the second object settles a pair.
 fn settle_by_use(rt: &impl Abort, table: &mut Instances, p: Prov) {
     known(rt, table, p);
-    let before = table.stands(p);
     let tried = table.narrow(
         p,
         Test::Range {
@@ -112,7 +102,14 @@ fn settle_by_use(rt: &impl Abort, table: &mut Instances, p: Prov) {
         },
     );
     known(rt, table, p);
-    assert!(rt; tried == Ok(table.tried_since(p, before)));
+    assert!(rt;
+        tried
+            == Ok(Tried {
+                pair: Some(1),
+                low: false,
+                high: true
+            })
+    );
     assert!(rt;
         table.stands(p)
             == Stands {
