@@ -120,7 +120,7 @@ pub fn tokens(alloc: Global, bytes: &[u8]) -> Result<Tokens, LexError>
     ensures known { IfOk result KnowsAll }
     ensures count { IfOk result (λ t. length t.tokens ≤ length bytes.now) }
 {
-    let mut out = Tokens::new(alloc);
+    let mut out = Tokens::with_room(alloc, bytes.len())?;
     cut(alloc, bytes, &mut out)?;
     Ok(out)
 }
