@@ -7,6 +7,7 @@ from typing import Iterator, NamedTuple
 # The calls whose contracts are the promises of the programs. A law is a public function without a body's work.
 TOPS = {
     "pv_serve": ("serve", "serve_calmly"),
+    "pv_explain": ("new",),
     "pvwhere": ("locate", "locate_calmly"),
     "pv_suite": ("suite", "suite_calmly"),
     "pv_replay": ("replay", "replay_calmly"),

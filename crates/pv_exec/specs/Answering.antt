@@ -6,6 +6,7 @@ use Rattle.pv_script.specs.Outside.{Rose, Gains}
 use Rattle.pv_typed.specs.Tables.{Stored}
 use Rattle.pv_watch.specs.declared.event.Event.{Event}
 use Rattle.pv_watch.specs.declared.hall.Hall.{Hall}
+use Rattle.pv_watch.specs.Seen.{Kind}
 use Rattle.pv_watch.specs.Slots.{Slot, Told}
 use Rattle.pv_world.specs.Worlds.{Worth}
 use Rattle.pv_eval.specs.declared.marked.Marked.{Marked}
@@ -45,7 +46,7 @@ pub record RanAt (o : Outcome) (m : Moment) (ran : Ran) : Type 0 where
   pub sides : ran.sides ≡ map side_of (map is_high_pair m.world.memory.table.pairs)
 
 -- what the outside has (5.1.2.3p6), by what the sink tells and by its hall
-abbrev pub outlet : {X : Type 0} {P : X → Type 0} → Option (List ℕ) → Hall X P → ((x : X) × P x → ℕ) → ((x : X) × P x → ℕ) → ((x : X) × P x → List Event) → Outlet
+abbrev pub outlet : {X : Type 0} {P : X → Type 0} → Option (List ℕ) → Hall X P → ((x : X) × P x → Kind) → ((x : X) × P x → ℕ) → ((x : X) × P x → List Event) → Outlet
 outlet sink h kind wants seen = record { sink = sink; hall = hall_slots h kind wants seen }
 
 -- 5.1.2.3p6: those who watch were told of the run, or of a first part of it where a write failed

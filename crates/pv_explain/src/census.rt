@@ -1,7 +1,7 @@
 //! How many events of each kind there were.
 ghost use Rattle.std.specs.Prelude.{◌≡◌, ◌<◌, ◌++◌, [], IfOk, OnOk};
 ghost use Rattle.pv_watch.specs.Slots.{watcher, Present};
-ghost use Rattle.pv_watch.specs.Texts.{place_of, counted, count_line, census_text};
+ghost use Rattle.pv_explain.specs.Texts.{place_of, counted, count_line, census_text, census_kind};
 
 use crate::log::Log;
 use pv_script::Names;
@@ -27,7 +27,7 @@ impl Census {
     /// One that wants to see so many events. It has seen none, and takes no memory.
     pub fn new(alloc: Global, wants: u64) -> Census
         requires { 0 < wants }
-        ensures { watcher ⟦<Census as Watch>⟧.its_kind ⟦<Census as Watch>⟧.its_wants ⟦<Census as Watch>⟧.seen result ≡ Present 2 wants [] }
+        ensures { watcher ⟦<Census as Watch>⟧.its_kind ⟦<Census as Watch>⟧.its_wants ⟦<Census as Watch>⟧.seen result ≡ Present census_kind wants [] }
     {
         Census {
             log: Log::new(alloc, wants),
@@ -38,7 +38,7 @@ impl Census {
 impl Watch for Census {
     ghost seen = { λ w. w.seen };
 
-    ghost its_kind = { λ w. 2 };
+    ghost its_kind = { λ w. census_kind };
 
     ghost its_wants = { λ w. w.wants };
 

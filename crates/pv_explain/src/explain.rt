@@ -2,7 +2,7 @@
 ghost use Rattle.std.specs.Prelude.{◌≡◌, ◌<◌, [], not, if◌then◌else◌, IfOk, false};
 ghost use Rattle.pv_watch.specs.Lines.{first_told, event_lines};
 ghost use Rattle.pv_watch.specs.Slots.{watcher, Present};
-ghost use Rattle.pv_watch.specs.Texts.{is_that, is_suspect, suspects_of, concerns, is_fault, concerning, explain_text};
+ghost use Rattle.pv_explain.specs.Texts.{is_that, is_suspect, suspects_of, concerns, is_fault, concerning, explain_text, story_kind};
 
 use crate::known::Known;
 use crate::log::Log;
@@ -32,7 +32,7 @@ impl Explain {
     /// One that wants to see so many events. It has seen none, and takes no memory.
     pub fn new(alloc: Global, wants: u64) -> Explain
         requires { 0 < wants }
-        ensures { watcher ⟦<Explain as Watch>⟧.its_kind ⟦<Explain as Watch>⟧.its_wants ⟦<Explain as Watch>⟧.seen result ≡ Present 1 wants [] }
+        ensures { watcher ⟦<Explain as Watch>⟧.its_kind ⟦<Explain as Watch>⟧.its_wants ⟦<Explain as Watch>⟧.seen result ≡ Present story_kind wants [] }
     {
         Explain {
             log: Log::new(alloc, wants),
@@ -43,7 +43,7 @@ impl Explain {
 impl Watch for Explain {
     ghost seen = { λ w. w.seen };
 
-    ghost its_kind = { λ w. 1 };
+    ghost its_kind = { λ w. story_kind };
 
     ghost its_wants = { λ w. w.wants };
 
@@ -75,7 +75,7 @@ struct Suspects {
 }
 
 impl Model for Suspects {
-    ghost use Rattle.pv_watch.specs.Texts.{Suspects as Those};
+    ghost use Rattle.pv_explain.specs.Texts.{Suspects as Those};
 
     ghost Value = { Those };
 

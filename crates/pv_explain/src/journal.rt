@@ -3,6 +3,7 @@ ghost use Rattle.std.specs.Prelude.{◌≡◌, ◌<◌, ◌++◌, [], length, If
 ghost use Rattle.pv_watch.specs.Slots.{watcher, Present};
 ghost use Rattle.pv_watch.specs.Lines.{event_lines};
 ghost use Rattle.pv_watch.specs.TextParts.{last_line};
+ghost use Rattle.pv_explain.specs.Texts.{journal_kind};
 
 use crate::known::Known;
 use crate::log::Log;
@@ -30,7 +31,7 @@ impl Journal {
     /// One that wants to see so many events. It has seen none, and takes no memory.
     pub fn new(alloc: Global, wants: u64) -> Journal
         requires { 0 < wants }
-        ensures { watcher ⟦<Journal as Watch>⟧.its_kind ⟦<Journal as Watch>⟧.its_wants ⟦<Journal as Watch>⟧.seen result ≡ Present 4 wants [] }
+        ensures { watcher ⟦<Journal as Watch>⟧.its_kind ⟦<Journal as Watch>⟧.its_wants ⟦<Journal as Watch>⟧.seen result ≡ Present journal_kind wants [] }
     {
         Journal {
             log: Log::new(alloc, wants),
@@ -41,7 +42,7 @@ impl Journal {
 impl Watch for Journal {
     ghost seen = { λ w. w.seen };
 
-    ghost its_kind = { λ w. 4 };
+    ghost its_kind = { λ w. journal_kind };
 
     ghost its_wants = { λ w. w.wants };
 

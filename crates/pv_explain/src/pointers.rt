@@ -1,7 +1,7 @@
 //! The lives of ambiguous pointers.
 ghost use Rattle.std.specs.Prelude.{◌≡◌, ◌<◌, [], IfOk};
 ghost use Rattle.pv_watch.specs.Slots.{watcher, Present};
-ghost use Rattle.pv_watch.specs.Texts.{is_of_pair, pointers_text};
+ghost use Rattle.pv_explain.specs.Texts.{is_of_pair, pointers_text, pointers_kind};
 
 use crate::known::Known;
 use crate::log::Log;
@@ -29,7 +29,7 @@ impl Pointers {
     /// One that wants to see so many events. It has seen none, and takes no memory.
     pub fn new(alloc: Global, wants: u64) -> Pointers
         requires { 0 < wants }
-        ensures { watcher ⟦<Pointers as Watch>⟧.its_kind ⟦<Pointers as Watch>⟧.its_wants ⟦<Pointers as Watch>⟧.seen result ≡ Present 3 wants [] }
+        ensures { watcher ⟦<Pointers as Watch>⟧.its_kind ⟦<Pointers as Watch>⟧.its_wants ⟦<Pointers as Watch>⟧.seen result ≡ Present pointers_kind wants [] }
     {
         Pointers {
             log: Log::new(alloc, wants),
@@ -40,7 +40,7 @@ impl Pointers {
 impl Watch for Pointers {
     ghost seen = { λ w. w.seen };
 
-    ghost its_kind = { λ w. 3 };
+    ghost its_kind = { λ w. pointers_kind };
 
     ghost its_wants = { λ w. w.wants };
 

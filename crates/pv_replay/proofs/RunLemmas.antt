@@ -2,6 +2,7 @@
 use Rattle.std.proofs.Common.{◌≡◌, ℕ, ◌<◌, true, List, [], ◌∷◌, map, refl, sym, ap, subst, arith}
 use Rattle.std.specs.Prelude.{None, Result, Ok, Err, IfOk}
 use Rattle.pv_watch.specs.Slots.{Present, Told, SayAll}
+use Rattle.pv_explain.specs.Texts.{journal_kind}
 use Rattle.pv_exec.specs.Answering.{end_of}
 use Rattle.pv_exec.specs.Outlets.{event_of}
 use Rattle.pv_exec.specs.declared.program.Ran.{Ran}
@@ -20,20 +21,20 @@ use Rattle.pv_serve.specs.declared.telling.Reply as code
 use Rattle.pv_serve.specs.Replies.{Reply}
 use Rattle.pv_serve.specs.Replying.{reply_view}
 use Rattle.pv_serve.proofs.RunLemmas.{run_ends}
-use Rattle.pv_serve.proofs.WatchingLemmas.{journal_told}
+use Rattle.pv_serve.proofs.WatchingLemmas.{one_told}
 use Rattle.pv_replay.specs.Answers.{IsWritten, Obeyed, most_events}
 use Rattle.pv_replay.specs.Obeying.{IsRunJournal}
 use Rattle.pv_replay.specs.declared.error.NoMemory.{NoMemory}
 use Rattle.pv_replay.specs.Answering.{IsRunReply}
 use Rattle.pv_replay.proofs.ObeyLemmas.{run_obeys}
 
-run_journal : (source script : List ℕ) (bound : ℕ) (out : Sunk) (hall : Halls) (ran : Ran) (names : List (List ℕ)) (text : List ℕ) → hall.old ≡ Present 4 65536 [] ∷ []
+run_journal : (source script : List ℕ) (bound : ℕ) (out : Sunk) (hall : Halls) (ran : Ran) (names : List (List ℕ)) (text : List ℕ) → hall.old ≡ Present journal_kind 65536 [] ∷ []
     → SomeRunBy source script bound true None (IsRan out hall ran names) → SayAll names hall.new text → IsRunJournal source script bound text
 run_journal source script bound out hall ran names text first is says =
     let events = map event_of (end_of is.run).events in
     let ending = ending_of ran names (record { output = (end_of is.run).output; events = events }) in
     let heard = subst (λ (ns : List (List ℕ)). Told hall.old events ns hall.new) (sym is.holds.named) is.holds.told in
-    let told = journal_told 65536 events names hall.old hall.new text (omega arith) first heard says in
+    let told = one_told journal_kind 65536 events names hall.old hall.new text (omega arith) first heard says in
     let lines = run_obeys source is.job.unit is.job.lines bound most_events is.run names is.runs is.job.comes is.fit is.holds.words is.holds.named in
     let obey = subst (λ (bytes : List ℕ). IsJournal lines.0 bytes) (sym told) lines.1 in
     record {
@@ -61,7 +62,7 @@ journal_reply source script bound text j = record {
 }
 
 -- the journal of the run that was made
-pub ran_reply : (source script : List ℕ) (bound : ℕ) (out : Sunk) (hall : Halls) (j : Judgement) (ran : Ran) (names : List (List ℕ)) (most : ℕ) (text : List ℕ) → hall.old ≡ Present 4 65536 [] ∷ []
+pub ran_reply : (source script : List ℕ) (bound : ℕ) (out : Sunk) (hall : Halls) (j : Judgement) (ran : Ran) (names : List (List ℕ)) (most : ℕ) (text : List ℕ) → hall.old ≡ Present journal_kind 65536 [] ∷ []
     → j ≡ judgement.Ran ran names most → IsOutcome source script bound true None out hall j → SayAll names hall.new text → IsRunReply source script bound (record { status = 0; text = text })
 ran_reply source script bound out hall j ran names most text first e is says =
     let made = subst (λ (k : Judgement). IsOutcome source script bound true None out hall k) e is in

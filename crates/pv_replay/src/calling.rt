@@ -2,6 +2,7 @@
 ghost use Rattle.std.specs.Prelude.{◌≡◌, ◌⊎◌, ◌≤◌, ◌∷◌, [], ℕ, List, Some, IsNone};
 ghost use Rattle.pv_script.specs.Calm.{calm_held, calm_written};
 ghost use Rattle.pv_watch.specs.Slots.{Present};
+ghost use Rattle.pv_explain.specs.Texts.{journal_kind};
 ghost use Rattle.pv_exec.specs.Outlets.{hall_slots};
 ghost use Rattle.pv_serve.specs.ReadWords.{IsBound};
 ghost use Rattle.pv_serve.specs.Words.{texts};
@@ -39,7 +40,7 @@ pub fn replay<F: Files, R: Sink>(
     report: &mut R,
     hall: &mut Hall,
 ) -> u8
-    requires hall { hall_slots hall.old its_kind its_wants seen ≡ Present 4 65536 [] ∷ [] }
+    requires hall { hall_slots hall.old its_kind its_wants seen ≡ Present journal_kind 65536 [] ∷ [] }
     ensures answered { let call : ReplyCall = record {
       words = texts words.now;
       held = F.held files.old;
@@ -72,7 +73,7 @@ fn write_journal<F: Files, R: Sink>(
     hall: &mut Hall,
 ) -> u8
     requires bound { IsBound run.turns }
-    requires hall { hall_slots hall.old its_kind its_wants seen ≡ Present 4 65536 [] ∷ [] }
+    requires hall { hall_slots hall.old its_kind its_wants seen ≡ Present journal_kind 65536 [] ∷ [] }
     ensures served { JobServed (Write (run_job run.entry)) (F.held files.old) (F.faults files.old) (F.faults files.new)
         (sunk R.written R.faults report.old report.new) result }
     ensures files_same { (n : List ℕ) → F.held files.new n ≡ F.held files.old n }
@@ -93,7 +94,7 @@ fn write_text<R: Sink>(
     hall: &mut Hall,
 ) -> u8
     requires bound { IsBound turns }
-    requires hall { hall_slots hall.old its_kind its_wants seen ≡ Present 4 65536 [] ∷ [] }
+    requires hall { hall_slots hall.old its_kind its_wants seen ≡ Present journal_kind 65536 [] ∷ [] }
     ensures { TextServed (IsRunReply text.now.source.items text.now.script.items turns)
         (sunk R.written R.faults report.old report.new) result }
 {
@@ -134,7 +135,7 @@ pub fn replay_calmly(
     report: &mut CalmSink,
     hall: &mut Hall,
 ) -> u8
-    requires hall { hall_slots hall.old its_kind its_wants seen ≡ Present 4 65536 [] ∷ [] }
+    requires hall { hall_slots hall.old its_kind its_wants seen ≡ Present journal_kind 65536 [] ∷ [] }
     ensures { let call : ReplyCall = record {
       words = texts words.now;
       held = λ n. Some (calm_held files.old n);

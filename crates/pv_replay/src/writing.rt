@@ -1,6 +1,7 @@
 //! The journal of a source's run.
 ghost use Rattle.std.specs.Prelude.{◌≡◌, ◌∷◌, [], IfOk};
 ghost use Rattle.pv_watch.specs.Slots.{Present};
+ghost use Rattle.pv_explain.specs.Texts.{journal_kind};
 ghost use Rattle.pv_exec.specs.Outlets.{hall_slots};
 ghost use Rattle.pv_serve.specs.ReadWords.{IsBound};
 ghost use Rattle.pv_serve.specs.Judging.{Shown, verdict_of};
@@ -25,7 +26,7 @@ pub fn journal_of(
     hall: &mut Hall,
 ) -> Result<Reply, NoMemory>
     requires bound { IsBound turns }
-    requires hall { hall_slots hall.old its_kind its_wants seen ≡ Present 4 65536 [] ∷ [] }
+    requires hall { hall_slots hall.old its_kind its_wants seen ≡ Present journal_kind 65536 [] ∷ [] }
     ensures written { IfOk result (λ a. IsRunReply text.now.source.items text.now.script.items turns (reply_view a)) }
     ensures own { IfOk result (λ a. IsOwn a.status) }
 {

@@ -1,34 +1,14 @@
 -- What watchers say who come to a run having seen nothing.
-use Rattle.std.proofs.Common.{◌≡◌, ◌≢◌, ℕ, ◌+◌, ◌<◌, ◌≤◌, List, [], ◌∷◌, ◌++◌, take, length, Bool, true, false, refl, sym, ap, ◌∙◌, subst, arith, inl, inr, append_assoc}
-use Rattle.std.specs.Prelude.{Option, Some, None, IfSome, IsTrue, is_some, unwrap_or, ◌==◌, ◌⊎◌}
+use Rattle.std.proofs.Common.{◌≡◌, ℕ, ◌+◌, ◌<◌, List, [], ◌∷◌, ◌++◌, take, length, Bool, true, false, refl, sym, ap, ◌∙◌, subst, arith, append_assoc}
+use Rattle.std.specs.Prelude.{Some, ◌==◌}
 use Rattle.std.specs.List.{AllZip}
-use Rattle.std.proofs.lemmas.Bool.{cases_eq}
 use Rattle.std.proofs.lemmas.Bool.Decides.{nat_tests}
 use Rattle.std.proofs.lemmas.List.{take_all, length-append, append-nil}
 use Rattle.pv_watch.specs.declared.event.Event.{Event}
-use Rattle.pv_watch.specs.Texts.{text_of, journal_text}
-use Rattle.pv_watch.specs.Seen.{IsText}
+use Rattle.pv_watch.specs.Seen.{Kind}
 use Rattle.pv_watch.specs.Slots.{Slot, Present, Left, Stays, After, Told, Says, SayAll}
 use Rattle.pv_serve.specs.Verdicts.{Course}
 use Rattle.pv_serve.specs.Watching.{AreFresh, AreTold, IsReport, story_of, stories}
-
--- ---- the text of a kind that is specified
-
-has_text : (kind wants : ℕ) (seen : List Event) (names : List (List ℕ)) → 0 < kind → kind ≤ 4 → (kind ≡ 1) ⊎ (kind ≢ 1) → (kind ≡ 2) ⊎ (kind ≢ 2) → (kind ≡ 3) ⊎ (kind ≢ 3)
-    → IsTrue (is_some (text_of kind wants seen names))
-has_text kind wants seen names some few (inl e) b d = subst (λ (k : ℕ). IsTrue (is_some (text_of k wants seen names))) (sym e) refl
-has_text kind wants seen names some few (inr not1) (inl e) d = subst (λ (k : ℕ). IsTrue (is_some (text_of k wants seen names))) (sym e) refl
-has_text kind wants seen names some few (inr not1) (inr not2) (inl e) = subst (λ (k : ℕ). IsTrue (is_some (text_of k wants seen names))) (sym e) refl
-has_text kind wants seen names some few (inr not1) (inr not2) (inr not3) =
-    let e : kind ≡ 4 = omega (arith, not1, not2, not3) in
-    subst (λ (k : ℕ). IsTrue (is_some (text_of k wants seen names))) (sym e) refl
-
-if_has : (o : Option (List ℕ)) (t : List ℕ) → IsTrue (is_some o) → IfSome o (λ u. t ≡ u) → t ≡ unwrap_or o []
-if_has None t some h = absurd cc
-if_has (Some u) t some h = h
-
-text_is : (kind wants : ℕ) (seen : List Event) (names : List (List ℕ)) (t : List ℕ) → 0 < kind → kind ≤ 4 → IsText kind wants seen names t → t ≡ unwrap_or (text_of kind wants seen names) []
-text_is kind wants seen names t some few h = if_has (text_of kind wants seen names) t (has_text kind wants seen names some few (cases_eq kind 1) (cases_eq kind 2) (cases_eq kind 3)) h
 
 -- ---- one watcher
 
@@ -36,9 +16,9 @@ abbrev ToldOne : List (List ℕ) → Slot → List Event → Slot → Type 0
 ToldOne names slot [] now = now ≡ slot
 ToldOne names slot (e ∷ es) now = (next : Slot) × After e names slot next × ToldOne names next es now
 
-left_stays : (names : List (List ℕ)) (kind : ℕ) (text : List ℕ) (events : List Event) (now : Slot) → ToldOne names (Left kind text) events now → now ≡ Left kind text
-left_stays names kind text [] now h = h
-left_stays names kind text (e ∷ es) now h = left_stays names kind text es now (subst (λ (s : Slot). ToldOne names s es now) h.1 h.2)
+left_stays : (names : List (List ℕ)) (number : ℕ) (text : List ℕ) (events : List Event) (now : Slot) → ToldOne names (Left number text) events now → now ≡ Left number text
+left_stays names number text [] now h = h
+left_stays names number text (e ∷ es) now h = left_stays names number text es now (subst (λ (s : Slot). ToldOne names s es now) h.1 h.2)
 
 take_front : (n : ℕ) (xs ys : List Event) → length xs ≡ n → take n (xs ++ ys) ≡ xs
 take_front n [] ys e = subst (λ (k : ℕ). take k ys ≡ []) e refl
@@ -50,34 +30,33 @@ less n m w e lt ne = grind (arith, nat_tests)
 same_number : (m w : ℕ) → (m == w) ≡ true → m ≡ w
 same_number m w e = grind (arith, nat_tests)
 
-abbrev Tells : (kind wants : ℕ) → List Event → List (List ℕ) → List ℕ → Type 0
-Tells kind wants events names t = t ≡ unwrap_or (text_of kind wants (take wants events) names) []
+abbrev Tells : Kind → (wants : ℕ) → List Event → List (List ℕ) → List ℕ → Type 0
+Tells kind wants events names t = t ≡ kind.text wants (take wants events) names
 
-tells_by : (kind wants : ℕ) (seen events : List Event) (names : List (List ℕ)) (t : List ℕ) → take wants events ≡ seen → t ≡ unwrap_or (text_of kind wants seen names) [] → Tells kind wants events names t
-tells_by kind wants seen events names t e h = subst (λ (xs : List Event). t ≡ unwrap_or (text_of kind wants xs names) []) (sym e) h
+tells_by : (kind : Kind) (wants : ℕ) (seen events : List Event) (names : List (List ℕ)) (t : List ℕ) → take wants events ≡ seen → t ≡ kind.text wants seen names → Tells kind wants events names t
+tells_by kind wants seen events names t e h = subst (λ (xs : List Event). t ≡ kind.text wants xs names) (sym e) h
 
 -- it has seen one event more, and goes on or has left
-tells_next : (b : Bool) (kind wants : ℕ) (seen : List Event) (e : Event) (es : List Event) (names : List (List ℕ)) (next now : Slot) (t : List ℕ) → 0 < kind → kind ≤ 4
+tells_next : (b : Bool) (kind : Kind) (wants : ℕ) (seen : List Event) (e : Event) (es : List Event) (names : List (List ℕ)) (next now : Slot) (t : List ℕ)
     → length seen < wants → (length (seen ++ e ∷ []) == wants) ≡ b → Stays b kind wants (seen ++ e ∷ []) names next → ToldOne names next es now → Says names now t
     → ((more : List Event) → length more < wants → ToldOne names (Present kind wants more) es now → Tells kind wants (more ++ es) names t)
     → Tells kind wants ((seen ++ e ∷ []) ++ es) names t
-tells_next true kind wants seen e es names (Present k w s) now t some few room is h told says go = absurd h
-tells_next true kind wants seen e es names (Left k text) now t some few room is h told says go =
-    let same : t ≡ text = subst (λ (s : Slot). Says names s t) (left_stays names k text es now told) says in
-    tells_by kind wants (seen ++ e ∷ []) ((seen ++ e ∷ []) ++ es) names t (take_front wants (seen ++ e ∷ []) es (same_number (length (seen ++ e ∷ [])) wants is))
-    (same ∙ text_is kind wants (seen ++ e ∷ []) names text some few h.1)
-tells_next false kind wants seen e es names next now t some few room is h told says go =
+tells_next true kind wants seen e es names (Present k w s) now t room is h told says go = absurd h
+tells_next true kind wants seen e es names (Left number text) now t room is h told says go =
+    let same : t ≡ text = subst (λ (s : Slot). Says names s t) (left_stays names number text es now told) says in
+    tells_by kind wants (seen ++ e ∷ []) ((seen ++ e ∷ []) ++ es) names t (take_front wants (seen ++ e ∷ []) es (same_number (length (seen ++ e ∷ [])) wants is)) (same ∙ h.1)
+tells_next false kind wants seen e es names next now t room is h told says go =
     go (seen ++ e ∷ []) (less (length seen) (length (seen ++ e ∷ [])) wants (length-append seen (e ∷ [])) room is) (subst (λ (s : Slot). ToldOne names s es now) h told)
 
-tells_one : (kind wants : ℕ) (seen events : List Event) (names : List (List ℕ)) (now : Slot) (t : List ℕ) → 0 < kind → kind ≤ 4 → length seen < wants
+tells_one : (kind : Kind) (wants : ℕ) (seen events : List Event) (names : List (List ℕ)) (now : Slot) (t : List ℕ) → length seen < wants
     → ToldOne names (Present kind wants seen) events now → Says names now t → Tells kind wants (seen ++ events) names t
-tells_one kind wants seen [] names now t some few room told says =
+tells_one kind wants seen [] names now t room told says =
     tells_by kind wants seen (seen ++ []) names t (take_all wants (seen ++ []) (omega (arith, room, length-append {A = Event} seen [])) ∙ append-nil seen)
-    (text_is kind wants seen names t some few (subst (λ (s : Slot). Says names s t) told says))
-tells_one kind wants seen (e ∷ es) names now t some few room told says =
+    (subst (λ (s : Slot). Says names s t) told says)
+tells_one kind wants seen (e ∷ es) names now t room told says =
     subst (λ (xs : List Event). Tells kind wants xs names t) (append_assoc seen (e ∷ []) es)
-    (tells_next (length (seen ++ e ∷ []) == wants) kind wants seen e es names told.0 now t some few room refl told.1 told.2 says
-    (λ more room' told'. tells_one kind wants more es names now t some few room' told' says))
+    (tells_next (length (seen ++ e ∷ []) == wants) kind wants seen e es names told.0 now t room refl told.1 told.2 says
+    (λ more room' told'. tells_one kind wants more es names now t room' told' says))
 
 -- ---- all of them
 
@@ -109,20 +88,20 @@ none_told names (e ∷ es) new h = none_told names es new (subst (λ (ss : List 
 
 all_tell : (c : Course) (kept new : List Slot) (text : List ℕ) → AreFresh kept → Told kept c.events c.names new → SayAll c.names new text → text ≡ stories c kept
 all_tell c [] new text fresh told says = subst (λ (ss : List Slot). SayAll c.names ss text) (none_told c.names c.events new told) says
-all_tell c ((Left kind left) ∷ xs) new text fresh told says = absurd fresh
+all_tell c ((Left number left) ∷ xs) new text fresh told says = absurd fresh
 all_tell c ((Present kind wants seen) ∷ xs) new text fresh told says =
     let p = parted c.names (Present kind wants seen) xs c.events new told in
     let s = subst (λ (ss : List Slot). SayAll c.names ss text) p.is says in
     let one = subst (λ (es : List Event). ToldOne c.names (Present kind wants es) c.events p.y) fresh.0 p.one in
-    let first = tells_one kind wants [] c.events c.names p.y s.0 fresh.2 fresh.3 fresh.1 one s.3 in
-    s.2 ∙ ap (λ (bytes : List ℕ). bytes ++ s.1) first ∙ ap (λ (bytes : List ℕ). story_of c (Present kind wants seen) ++ bytes) (all_tell c xs p.ys s.1 fresh.4 p.rest s.4)
+    let first = tells_one kind wants [] c.events c.names p.y s.0 fresh.1 one s.3 in
+    s.2 ∙ ap (λ (bytes : List ℕ). bytes ++ s.1) first ∙ ap (λ (bytes : List ℕ). story_of c (Present kind wants seen) ++ bytes) (all_tell c xs p.ys s.1 fresh.2 p.rest s.4)
 
 pub watchers_tell : (kept new : List Slot) (c : Course) (line text : List ℕ) → AreFresh kept → AreTold (Some c) kept new → IsReport (Some c) new line text → text ≡ line ++ stories c kept
 watchers_tell kept new c line text fresh told report = report.2 ∙ ap (λ (bytes : List ℕ). line ++ bytes) (all_tell c kept new report.0 fresh told report.1)
 
--- one that keeps a journal, and nobody else
-pub journal_told : (wants : ℕ) (events : List Event) (names : List (List ℕ)) (old new : List Slot) (text : List ℕ) → 0 < wants → old ≡ Present 4 wants [] ∷ [] → Told old events names new
-    → SayAll names new text → text ≡ journal_text (take wants events) names
-journal_told wants events names old new text some first told says =
-    all_tell (record { events = events; names = names }) (Present 4 wants [] ∷ []) new text (refl, some, omega arith, omega arith, tt)
-    (subst (λ (ss : List Slot). Told ss events names new) first told) says ∙ append-nil (journal_text (take wants events) names)
+-- one watcher, and nobody else
+pub one_told : (kind : Kind) (wants : ℕ) (events : List Event) (names : List (List ℕ)) (old new : List Slot) (text : List ℕ) → 0 < wants → old ≡ Present kind wants [] ∷ [] → Told old events names new
+    → SayAll names new text → text ≡ kind.text wants (take wants events) names
+one_told kind wants events names old new text some first told says =
+    all_tell (record { events = events; names = names }) (Present kind wants [] ∷ []) new text (refl, some, tt)
+    (subst (λ (ss : List Slot). Told ss events names new) first told) says ∙ append-nil (kind.text wants (take wants events) names)

@@ -42,11 +42,11 @@ sides_of (Generated n) = None
 abbrev pub nobody : Watched
 nobody = record { explain = false; census = false; pointers = false }
 
--- docs/FORMATS.md, What watchers say (the memory model): a kind of watcher, where it is wanted
-abbrev pub if_wanted : Bool → (kind : ℕ) → List ℕ
-if_wanted wanted kind = if wanted then kind ∷ [] else []
+-- docs/FORMATS.md, What watchers say (the memory model): the number of a kind of watcher, where it is wanted
+abbrev pub if_wanted : Bool → (number : ℕ) → List ℕ
+if_wanted wanted number = if wanted then number ∷ [] else []
 
--- docs/FORMATS.md: the kinds of watchers: 1 tells the story of a fault, 2 counts events, 3 tells the life of each pair (the memory model)
+-- docs/FORMATS.md: the numbers of the kinds of watchers: 1 tells the story of a fault, 2 counts events, 3 tells the life of each pair (the memory model)
 abbrev pub kinds_of : Watched → List ℕ
 kinds_of w = if_wanted w.explain 1 ++ if_wanted w.census 2 ++ if_wanted w.pointers 3
 

@@ -4,6 +4,7 @@ use Rattle.std.specs.Prelude.{ℕ, List, Option, Any}
 use Rattle.pv_script.specs.Outside.{Rose, Gains, GainsPrefix}
 use Rattle.pv_watch.specs.declared.event.Event.{Event}
 use Rattle.pv_watch.specs.declared.hall.Hall.{Hall}
+use Rattle.pv_watch.specs.Seen.{Kind}
 use Rattle.pv_watch.specs.Slots.{Slot}
 use Rattle.pv_exec.specs.Outlets.{hall_slots}
 
@@ -40,5 +41,5 @@ pub record Halls : Type 0 where
   pub new : List Slot
 
 -- docs/FORMATS.md, What watchers say (the memory model): the same, by what a hall's watchers say of their kind, of how many events they want, and of those that they have seen
-abbrev pub halls : {X : Type 0} {P : X → Type 0} → (old new : Hall X P) → ((x : X) × P x → ℕ) → ((x : X) × P x → ℕ) → ((x : X) × P x → List Event) → Halls
+abbrev pub halls : {X : Type 0} {P : X → Type 0} → (old new : Hall X P) → ((x : X) × P x → Kind) → ((x : X) × P x → ℕ) → ((x : X) × P x → List Event) → Halls
 halls old new kind wants seen = record { old = hall_slots old kind wants seen; new = hall_slots new kind wants seen }

@@ -1,7 +1,6 @@
 -- What those who watch are told in a call of the program, and what they say behind the first line of its report.
-use Rattle.std.specs.Prelude.{◌≡◌, ◌<◌, ◌≤◌, ℕ, List, [], ◌∷◌, ◌++◌, take, Option, Some, None, unwrap_or}
+use Rattle.std.specs.Prelude.{◌≡◌, ◌<◌, ℕ, List, [], ◌∷◌, ◌++◌, take, Option, Some, None}
 use Rattle.std.specs.List.{filter, flat_map}
-use Rattle.pv_watch.specs.Texts.{text_of}
 use Rattle.pv_watch.specs.Slots.{Slot, Present, Left, Told, SayAll, is_kept}
 use Rattle.pv_serve.specs.Jobs.{Job, kinds_of, watched_of}
 use Rattle.pv_serve.specs.Verdicts.{Course}
@@ -23,16 +22,16 @@ IsReport (Some c) hall line text = (story : List ℕ) × SayAll c.names hall sto
 
 -- ---- a law: what watchers say who come to a run having seen nothing
 
--- docs/FORMATS.md, What watchers say (the memory model): such watchers, each of a kind whose text is specified; each wants an event at least
+-- docs/FORMATS.md, What watchers say (the memory model): such watchers, each of which wants an event at least
 abbrev pub AreFresh : List Slot → Type 0
 AreFresh [] = Unit {0}
-AreFresh ((Left kind text) ∷ slots) = ⊥
-AreFresh ((Present kind wants seen) ∷ slots) = (seen ≡ []) × (0 < wants) × (0 < kind) × (kind ≤ 4) × AreFresh slots
+AreFresh ((Left number text) ∷ slots) = ⊥
+AreFresh ((Present kind wants seen) ∷ slots) = (seen ≡ []) × (0 < wants) × AreFresh slots
 
 -- docs/FORMATS.md, What watchers say (the memory model): the text of a watcher's kind over the first events, as many as it wants, or all where there are fewer
 abbrev pub story_of : Course → Slot → List ℕ
-story_of c (Present kind wants seen) = unwrap_or (text_of kind wants (take wants c.events) c.names) []
-story_of c (Left kind text) = text
+story_of c (Present kind wants seen) = kind.text wants (take wants c.events) c.names
+story_of c (Left number text) = text
 
 -- docs/FORMATS.md, What watchers say (the memory model): the texts of all in the order of the hall
 abbrev pub stories : Course → List Slot → List ℕ

@@ -9,6 +9,7 @@ use Rattle.pv_watch.specs.LineParts.{event_line}
 use Rattle.pv_watch.specs.Texts.{journal_text}
 use Rattle.pv_watch.specs.TextParts.{last_line}
 use Rattle.pv_watch.specs.Slots.{Present, Told, SayAll}
+use Rattle.pv_explain.specs.Texts.{journal_kind}
 use Rattle.pv_script.specs.Lines.{ScriptLine}
 use Rattle.pv_typed.specs.Known.{Each}
 use Rattle.pv_typed.specs.Tables.{whole}
@@ -40,7 +41,7 @@ use Rattle.pv_serve.specs.Replies.{Reply}
 use Rattle.pv_serve.specs.Replying.{IsOwn, reply_view}
 use Rattle.pv_serve.proofs.OutcomeLemmas.{judged_of}
 use Rattle.pv_serve.proofs.RepliesLemmas.{small, large}
-use Rattle.pv_serve.proofs.WatchingLemmas.{journal_told}
+use Rattle.pv_serve.proofs.WatchingLemmas.{one_told}
 use Rattle.pv_journal.specs.Journals.{Row}
 use Rattle.pv_journal.specs.Obeying.{IsJournal}
 use Rattle.pv_shown.specs.declared.reading.Command.{Command}
@@ -91,25 +92,25 @@ run_obeys source unit lines run names runs comes fit words named =
     (subst (λ (r : Res Worth). TellsAJournal (take 18446744073709551615 (map event_of (end_of r).events)) u.names) (sym runs.is) told)
 
 pub ran_journal : (source script : List ℕ) (out : Sunk) (hall : Halls) (j : Judgement) (ran : Ran) (names : List (List ℕ)) (most : ℕ) (text journal : List ℕ)
-    → journal ≡ text → hall.old ≡ Present 4 18446744073709551615 [] ∷ [] → j ≡ judgement.Ran ran names most → IsOutcome source script 1000000 true None out hall j → SayAll names hall.new text
+    → journal ≡ text → hall.old ≡ Present journal_kind 18446744073709551615 [] ∷ [] → j ≡ judgement.Ran ran names most → IsOutcome source script 1000000 true None out hall j → SayAll names hall.new text
     → (rows : List Row) × IsJournal rows journal
 ran_journal source script out hall j ran names most text journal whole first same is says =
     let r = (subst (λ (k : Judgement). IsOutcome source script 1000000 true None out hall k) same is).1 in
     let events = map event_of (end_of r.run).events in
     let heard = subst (λ (ns : List (List ℕ)). Told hall.old events ns hall.new) (sym r.holds.named) r.holds.told in
-    let told = journal_told 18446744073709551615 events names hall.old hall.new text (omega arith) first heard says in
+    let told = one_told journal_kind 18446744073709551615 events names hall.old hall.new text (omega arith) first heard says in
     let lines = run_obeys source r.job.unit r.job.lines r.run names r.runs r.job.comes r.fit r.holds.words r.holds.named in
     (lines.0, subst (λ (bytes : List ℕ). IsJournal lines.0 bytes) (sym (whole ∙ told)) lines.1)
 
 run_shown : (source script : List ℕ) (cs : List Command) (out : Sunk) (hall : Halls) (ran : Ran) (names : List (List ℕ)) (most : ℕ) (journal line : List ℕ) (a : Reply)
-    → hall.old ≡ Present 4 18446744073709551615 [] ∷ [] → IsOutcome source script 1000000 true None out hall (judgement.Ran ran names most) → SayAll names hall.new journal → length journal < 2 ^ 64
+    → hall.old ≡ Present journal_kind 18446744073709551615 [] ∷ [] → IsOutcome source script 1000000 true None out hall (judgement.Ran ran names most) → SayAll names hall.new journal → length journal < 2 ^ 64
     → ((shown : Shown) → line ≡ report_line (verdict_of (judgement.Ran ran names most) shown))
     → (rows : List Row) × IsJournal rows journal × (a ≡ record { status = 0; text = report_of (run_of ran.turns ran.outcome line rows) cs }) → IsLookedAt source script cs a
 run_shown source script cs out hall ran names most journal line a first is says few told shown =
     let j = judged_of source script 1000000 true out hall (judgement.Ran ran names most) is in
     let events = j.shown.events in
     let whole : journal ≡ journal_text events names =
-    all_told events names journal (journal_told 18446744073709551615 events names hall.old hall.new journal (omega arith) first j.told says) few in
+    all_told events names journal (one_told journal_kind 18446744073709551615 events names hall.old hall.new journal (omega arith) first j.told says) few in
     record {
       verdict = verdict.Ended (ending_of ran names j.shown) most;
       judged = j.judged;
@@ -122,7 +123,7 @@ run_shown source script cs out hall ran names most journal line a first is says 
 
 -- what is shown of the run that was made
 pub ran_shown : (source script : List ℕ) (cs : List Command) (out : Sunk) (hall : Halls) (j : Judgement) (ran : Ran) (names : List (List ℕ)) (most : ℕ) (text told journal line : List ℕ) (r : Result code.Reply NoMemory)
-    → journal ≡ text → line ≡ told → hall.old ≡ Present 4 18446744073709551615 [] ∷ [] → j ≡ judgement.Ran ran names most → IsOutcome source script 1000000 true None out hall j
+    → journal ≡ text → line ≡ told → hall.old ≡ Present journal_kind 18446744073709551615 [] ∷ [] → j ≡ judgement.Ran ran names most → IsOutcome source script 1000000 true None out hall j
     → SayAll names hall.new text → length journal < 2 ^ 64 → ((shown : Shown) → told ≡ report_line (verdict_of j shown))
     → IfOk r (λ a. (rows : List Row) × IsJournal rows journal × (reply_view a ≡ record { status = 0; text = report_of (run_of ran.turns ran.outcome line rows) cs }))
     → IfOk r (λ a. IsLookedAt source script cs (reply_view a))

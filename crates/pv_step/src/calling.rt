@@ -2,6 +2,7 @@
 ghost use Rattle.std.specs.Prelude.{◌≡◌, ◌⊎◌, ◌∷◌, [], ℕ, List, Some, IsNone};
 ghost use Rattle.pv_script.specs.Calm.{calm_held, calm_written};
 ghost use Rattle.pv_watch.specs.Slots.{Present};
+ghost use Rattle.pv_explain.specs.Texts.{journal_kind};
 ghost use Rattle.pv_exec.specs.Outlets.{hall_slots};
 ghost use Rattle.pv_serve.specs.Words.{texts};
 ghost use Rattle.pv_serve.specs.Outside.{sunk};
@@ -36,7 +37,7 @@ pub fn step<F: Files, R: Sink>(
     report: &mut R,
     hall: &mut Hall,
 ) -> u8
-    requires hall { hall_slots hall.old its_kind its_wants seen ≡ Present 4 18446744073709551615 [] ∷ [] }
+    requires hall { hall_slots hall.old its_kind its_wants seen ≡ Present journal_kind 18446744073709551615 [] ∷ [] }
     ensures answered { let call : ReplyCall = record {
       words = texts words.now;
       held = F.held files.old;
@@ -64,7 +65,7 @@ fn step_files<F: Files, R: Sink>(
     report: &mut R,
     hall: &mut Hall,
 ) -> u8
-    requires hall { hall_slots hall.old its_kind its_wants seen ≡ Present 4 18446744073709551615 [] ∷ [] }
+    requires hall { hall_slots hall.old its_kind its_wants seen ≡ Present journal_kind 18446744073709551615 [] ∷ [] }
     ensures served { JobServed (asked_job asked.entry) (F.held files.old) (F.faults files.old) (F.faults files.new)
         (sunk R.written R.faults report.old report.new) result }
     ensures files_same { (n : List ℕ) → F.held files.new n ≡ F.held files.old n }
@@ -78,7 +79,7 @@ fn step_files<F: Files, R: Sink>(
 
 // Answers what was read.
 fn step_text<R: Sink>(alloc: Global, text: &StepText, report: &mut R, hall: &mut Hall) -> u8
-    requires hall { hall_slots hall.old its_kind its_wants seen ≡ Present 4 18446744073709551615 [] ∷ [] }
+    requires hall { hall_slots hall.old its_kind its_wants seen ≡ Present journal_kind 18446744073709551615 [] ∷ [] }
     ensures { TextServed text.now (sunk R.written R.faults report.old report.new) result }
 {
     match answer(alloc, text, hall) {
@@ -95,7 +96,7 @@ pub fn step_calmly(
     report: &mut CalmSink,
     hall: &mut Hall,
 ) -> u8
-    requires hall { hall_slots hall.old its_kind its_wants seen ≡ Present 4 18446744073709551615 [] ∷ [] }
+    requires hall { hall_slots hall.old its_kind its_wants seen ≡ Present journal_kind 18446744073709551615 [] ∷ [] }
     ensures { let call : ReplyCall = record {
       words = texts words.now;
       held = λ n. Some (calm_held files.old n);

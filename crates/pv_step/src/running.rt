@@ -1,6 +1,7 @@
 //! What commands show of a source's run.
 ghost use Rattle.std.specs.Prelude.{◌≡◌, ◌<◌, ◌∷◌, ◌^◌, [], length, List, IfOk, OnOk};
 ghost use Rattle.pv_watch.specs.Slots.{Present};
+ghost use Rattle.pv_explain.specs.Texts.{journal_kind};
 ghost use Rattle.pv_exec.specs.Outlets.{hall_slots};
 ghost use Rattle.pv_serve.specs.Replying.{reply_view, IsOwn};
 ghost use Rattle.pv_journal.specs.Journals.{Row};
@@ -30,7 +31,7 @@ const REFUSED: u8 = 19;
 
 /// The answer to a source with its script and a file of commands. The only error is want of memory.
 pub fn answer(alloc: Global, text: &StepText, hall: &mut Hall) -> Result<Reply, NoMemory>
-    requires { hall_slots hall.old its_kind its_wants seen ≡ Present 4 18446744073709551615 [] ∷ [] }
+    requires { hall_slots hall.old its_kind its_wants seen ≡ Present journal_kind 18446744073709551615 [] ∷ [] }
     ensures stepped { IfOk result (λ a. IsStepped text.now.source.items text.now.script.items text.now.commands.items (reply_view a)) }
     ensures own { IfOk result (λ a. IsOwn a.status) }
 {
@@ -70,7 +71,7 @@ fn look(
     commands: &[Command],
     hall: &mut Hall,
 ) -> Result<Reply, NoMemory>
-    requires { hall_slots hall.old its_kind its_wants seen ≡ Present 4 18446744073709551615 [] ∷ [] }
+    requires { hall_slots hall.old its_kind its_wants seen ≡ Present journal_kind 18446744073709551615 [] ∷ [] }
     ensures looked { IfOk result (λ a. IsLookedAt text.now.source.items text.now.script.items commands.now (reply_view a)) }
     ensures own { IfOk result (λ a. IsOwn a.status) }
 {

@@ -8,7 +8,7 @@ use Rattle.pv_fault.specs.declared.verdict.Verdict.TheVariants.{Undecided}
 use Rattle.std.specs.Fmt.{decimal}
 use Rattle.pv_print.specs.Texts.{address_text}
 use Rattle.pv_watch.specs.Lines.{line}
-use Rattle.pv_watch.specs.Texts.{text_of}
+use Rattle.pv_watch.specs.Texts.{journal_text}
 
 abbrev event : ℕ → What → Event
 event turn what = record { turn = turn; what = what }
@@ -23,86 +23,20 @@ lines (l ∷ ls) = line l ++ lines ls
 abbrev all_seen : List Event
 all_seen = event 1 (Made 1 0 1 4096 4) ∷ event 2 (Made 2 1 1 4100 4) ∷ event 3 (Exposed 1) ∷ event 3 (Exposed 2) ∷ event 4 (Pair 1 4100 1 2) ∷ event 5 (Tried 1 1 true true) ∷ event 6 (Tried 1 2 true false) ∷ event 7 (Ended 2) ∷ event 8 (Fault Undecided (Some 1) None (Some 1)) ∷ []
 
-all_explained_cut : text_of 1 9 all_seen texts ≡ Some ((lines (((codes "create " ++ (codes "x#" ++ decimal 1)) ++ (codes " turn=" ++ (decimal 1)) ++ (codes " base=" ++ (address_text 4096)) ++ (codes " size=" ++ (decimal 4))) ∷ ((codes "expose " ++ (codes "x#" ++ decimal 1)) ++ (codes " turn=" ++ (decimal 3))) ∷ ((codes "pair " ++ (decimal 1)) ++ (codes " turn=" ++ (decimal 4)) ++ (codes " address=" ++ (address_text 4100)) ++ (codes " low=" ++ (codes "x#" ++ decimal 1)) ++ (codes " high=" ++ (codes "y#" ++ decimal 1))) ∷ ((codes "use " ++ (decimal 1)) ++ (codes " turn=" ++ (decimal 5)) ++ (codes " test=" ++ (codes "live")) ++ (codes " left=" ++ ((codes "x#" ++ decimal 1) ++ codes "," ++ (codes "y#" ++ decimal 1)))) ∷ ((codes "use " ++ (decimal 1)) ++ (codes " turn=" ++ (decimal 6)) ++ (codes " test=" ++ (codes "range")) ++ (codes " left=" ++ (codes "x#" ++ decimal 1))) ∷ (codes "fault" ++ (codes " turn=" ++ (decimal 8))) ∷ [])) ++ line (codes "cut"))
-all_explained_cut = refl
-
-all_explained : text_of 1 100 all_seen texts ≡ Some ((lines (((codes "create " ++ (codes "x#" ++ decimal 1)) ++ (codes " turn=" ++ (decimal 1)) ++ (codes " base=" ++ (address_text 4096)) ++ (codes " size=" ++ (decimal 4))) ∷ ((codes "expose " ++ (codes "x#" ++ decimal 1)) ++ (codes " turn=" ++ (decimal 3))) ∷ ((codes "pair " ++ (decimal 1)) ++ (codes " turn=" ++ (decimal 4)) ++ (codes " address=" ++ (address_text 4100)) ++ (codes " low=" ++ (codes "x#" ++ decimal 1)) ++ (codes " high=" ++ (codes "y#" ++ decimal 1))) ∷ ((codes "use " ++ (decimal 1)) ++ (codes " turn=" ++ (decimal 5)) ++ (codes " test=" ++ (codes "live")) ++ (codes " left=" ++ ((codes "x#" ++ decimal 1) ++ codes "," ++ (codes "y#" ++ decimal 1)))) ∷ ((codes "use " ++ (decimal 1)) ++ (codes " turn=" ++ (decimal 6)) ++ (codes " test=" ++ (codes "range")) ++ (codes " left=" ++ (codes "x#" ++ decimal 1))) ∷ (codes "fault" ++ (codes " turn=" ++ (decimal 8))) ∷ [])) ++ [])
-all_explained = refl
-
-all_counted_cut : text_of 2 9 all_seen texts ≡ Some ((line (codes "create " ++ decimal 2) ++ line (codes "end " ++ decimal 1) ++ line (codes "expose " ++ decimal 2) ++ line (codes "pair " ++ decimal 1) ++ line (codes "use " ++ decimal 2) ++ line (codes "fault " ++ decimal 1)) ++ line (codes "cut"))
-all_counted_cut = refl
-
-all_counted : text_of 2 100 all_seen texts ≡ Some ((line (codes "create " ++ decimal 2) ++ line (codes "end " ++ decimal 1) ++ line (codes "expose " ++ decimal 2) ++ line (codes "pair " ++ decimal 1) ++ line (codes "use " ++ decimal 2) ++ line (codes "fault " ++ decimal 1)) ++ [])
-all_counted = refl
-
-all_followed_cut : text_of 3 9 all_seen texts ≡ Some ((lines (((codes "pair " ++ (decimal 1)) ++ (codes " turn=" ++ (decimal 4)) ++ (codes " address=" ++ (address_text 4100)) ++ (codes " low=" ++ (codes "x#" ++ decimal 1)) ++ (codes " high=" ++ (codes "y#" ++ decimal 1))) ∷ ((codes "use " ++ (decimal 1)) ++ (codes " turn=" ++ (decimal 5)) ++ (codes " test=" ++ (codes "live")) ++ (codes " left=" ++ ((codes "x#" ++ decimal 1) ++ codes "," ++ (codes "y#" ++ decimal 1)))) ∷ ((codes "use " ++ (decimal 1)) ++ (codes " turn=" ++ (decimal 6)) ++ (codes " test=" ++ (codes "range")) ++ (codes " left=" ++ (codes "x#" ++ decimal 1))) ∷ [])) ++ line (codes "cut"))
-all_followed_cut = refl
-
-all_followed : text_of 3 100 all_seen texts ≡ Some ((lines (((codes "pair " ++ (decimal 1)) ++ (codes " turn=" ++ (decimal 4)) ++ (codes " address=" ++ (address_text 4100)) ++ (codes " low=" ++ (codes "x#" ++ decimal 1)) ++ (codes " high=" ++ (codes "y#" ++ decimal 1))) ∷ ((codes "use " ++ (decimal 1)) ++ (codes " turn=" ++ (decimal 5)) ++ (codes " test=" ++ (codes "live")) ++ (codes " left=" ++ ((codes "x#" ++ decimal 1) ++ codes "," ++ (codes "y#" ++ decimal 1)))) ∷ ((codes "use " ++ (decimal 1)) ++ (codes " turn=" ++ (decimal 6)) ++ (codes " test=" ++ (codes "range")) ++ (codes " left=" ++ (codes "x#" ++ decimal 1))) ∷ [])) ++ [])
-all_followed = refl
-
-all_journaled_cut : text_of 4 9 all_seen texts ≡ Some (lines (((codes "create " ++ (codes "x#" ++ decimal 1)) ++ (codes " turn=" ++ (decimal 1)) ++ (codes " base=" ++ (address_text 4096)) ++ (codes " size=" ++ (decimal 4))) ∷ ((codes "create " ++ (codes "y#" ++ decimal 1)) ++ (codes " turn=" ++ (decimal 2)) ++ (codes " base=" ++ (address_text 4100)) ++ (codes " size=" ++ (decimal 4))) ∷ ((codes "expose " ++ (codes "x#" ++ decimal 1)) ++ (codes " turn=" ++ (decimal 3))) ∷ ((codes "expose " ++ (codes "y#" ++ decimal 1)) ++ (codes " turn=" ++ (decimal 3))) ∷ ((codes "pair " ++ (decimal 1)) ++ (codes " turn=" ++ (decimal 4)) ++ (codes " address=" ++ (address_text 4100)) ++ (codes " low=" ++ (codes "x#" ++ decimal 1)) ++ (codes " high=" ++ (codes "y#" ++ decimal 1))) ∷ ((codes "use " ++ (decimal 1)) ++ (codes " turn=" ++ (decimal 5)) ++ (codes " test=" ++ (codes "live")) ++ (codes " left=" ++ ((codes "x#" ++ decimal 1) ++ codes "," ++ (codes "y#" ++ decimal 1)))) ∷ ((codes "use " ++ (decimal 1)) ++ (codes " turn=" ++ (decimal 6)) ++ (codes " test=" ++ (codes "range")) ++ (codes " left=" ++ (codes "x#" ++ decimal 1))) ∷ ((codes "end " ++ (codes "y#" ++ decimal 1)) ++ (codes " turn=" ++ (decimal 7))) ∷ (codes "fault" ++ (codes " turn=" ++ (decimal 8))) ∷ []) ++ line (codes "events " ++ decimal 9))
-all_journaled_cut = refl
-
-all_journaled : text_of 4 100 all_seen texts ≡ Some (lines (((codes "create " ++ (codes "x#" ++ decimal 1)) ++ (codes " turn=" ++ (decimal 1)) ++ (codes " base=" ++ (address_text 4096)) ++ (codes " size=" ++ (decimal 4))) ∷ ((codes "create " ++ (codes "y#" ++ decimal 1)) ++ (codes " turn=" ++ (decimal 2)) ++ (codes " base=" ++ (address_text 4100)) ++ (codes " size=" ++ (decimal 4))) ∷ ((codes "expose " ++ (codes "x#" ++ decimal 1)) ++ (codes " turn=" ++ (decimal 3))) ∷ ((codes "expose " ++ (codes "y#" ++ decimal 1)) ++ (codes " turn=" ++ (decimal 3))) ∷ ((codes "pair " ++ (decimal 1)) ++ (codes " turn=" ++ (decimal 4)) ++ (codes " address=" ++ (address_text 4100)) ++ (codes " low=" ++ (codes "x#" ++ decimal 1)) ++ (codes " high=" ++ (codes "y#" ++ decimal 1))) ∷ ((codes "use " ++ (decimal 1)) ++ (codes " turn=" ++ (decimal 5)) ++ (codes " test=" ++ (codes "live")) ++ (codes " left=" ++ ((codes "x#" ++ decimal 1) ++ codes "," ++ (codes "y#" ++ decimal 1)))) ∷ ((codes "use " ++ (decimal 1)) ++ (codes " turn=" ++ (decimal 6)) ++ (codes " test=" ++ (codes "range")) ++ (codes " left=" ++ (codes "x#" ++ decimal 1))) ∷ ((codes "end " ++ (codes "y#" ++ decimal 1)) ++ (codes " turn=" ++ (decimal 7))) ∷ (codes "fault" ++ (codes " turn=" ++ (decimal 8))) ∷ []) ++ line (codes "events " ++ decimal 9))
+all_journaled : journal_text all_seen texts ≡ (lines (((codes "create " ++ (codes "x#" ++ decimal 1)) ++ (codes " turn=" ++ (decimal 1)) ++ (codes " base=" ++ (address_text 4096)) ++ (codes " size=" ++ (decimal 4))) ∷ ((codes "create " ++ (codes "y#" ++ decimal 1)) ++ (codes " turn=" ++ (decimal 2)) ++ (codes " base=" ++ (address_text 4100)) ++ (codes " size=" ++ (decimal 4))) ∷ ((codes "expose " ++ (codes "x#" ++ decimal 1)) ++ (codes " turn=" ++ (decimal 3))) ∷ ((codes "expose " ++ (codes "y#" ++ decimal 1)) ++ (codes " turn=" ++ (decimal 3))) ∷ ((codes "pair " ++ (decimal 1)) ++ (codes " turn=" ++ (decimal 4)) ++ (codes " address=" ++ (address_text 4100)) ++ (codes " low=" ++ (codes "x#" ++ decimal 1)) ++ (codes " high=" ++ (codes "y#" ++ decimal 1))) ∷ ((codes "use " ++ (decimal 1)) ++ (codes " turn=" ++ (decimal 5)) ++ (codes " test=" ++ (codes "live")) ++ (codes " left=" ++ ((codes "x#" ++ decimal 1) ++ codes "," ++ (codes "y#" ++ decimal 1)))) ∷ ((codes "use " ++ (decimal 1)) ++ (codes " turn=" ++ (decimal 6)) ++ (codes " test=" ++ (codes "range")) ++ (codes " left=" ++ (codes "x#" ++ decimal 1))) ∷ ((codes "end " ++ (codes "y#" ++ decimal 1)) ++ (codes " turn=" ++ (decimal 7))) ∷ (codes "fault" ++ (codes " turn=" ++ (decimal 8))) ∷ []) ++ line (codes "events " ++ decimal 9))
 all_journaled = refl
 
 abbrev unknown_seen : List Event
 unknown_seen = event 1 (Made 1 5 1 0 1) ∷ event 2 (Ended 9) ∷ event 3 (Tried 4 9 true true) ∷ event 4 (Pair 1 0 9 1) ∷ event 5 (Made 1 0 2 16 8) ∷ event 6 (Exposed 1) ∷ event 7 (Tried 1 4 false false) ∷ []
 
-unknown_explained_cut : text_of 1 7 unknown_seen texts ≡ Some ((lines ((codes "no fault") ∷ [])) ++ line (codes "cut"))
-unknown_explained_cut = refl
-
-unknown_explained : text_of 1 100 unknown_seen texts ≡ Some ((lines ((codes "no fault") ∷ [])) ++ [])
-unknown_explained = refl
-
-unknown_counted_cut : text_of 2 7 unknown_seen texts ≡ Some ((line (codes "create " ++ decimal 2) ++ line (codes "end " ++ decimal 1) ++ line (codes "expose " ++ decimal 1) ++ line (codes "pair " ++ decimal 1) ++ line (codes "use " ++ decimal 2) ++ line (codes "fault " ++ decimal 0)) ++ line (codes "cut"))
-unknown_counted_cut = refl
-
-unknown_counted : text_of 2 100 unknown_seen texts ≡ Some ((line (codes "create " ++ decimal 2) ++ line (codes "end " ++ decimal 1) ++ line (codes "expose " ++ decimal 1) ++ line (codes "pair " ++ decimal 1) ++ line (codes "use " ++ decimal 2) ++ line (codes "fault " ++ decimal 0)) ++ [])
-unknown_counted = refl
-
-unknown_followed_cut : text_of 3 7 unknown_seen texts ≡ Some ((lines (((codes "use " ++ (decimal 4)) ++ (codes " turn=" ++ (decimal 3)) ++ (codes " test=" ++ (codes "?")) ++ (codes " left=" ++ ((codes "?") ++ codes "," ++ (codes "?")))) ∷ ((codes "pair " ++ (decimal 1)) ++ (codes " turn=" ++ (decimal 4)) ++ (codes " address=" ++ (codes "(nil)")) ++ (codes " low=" ++ (codes "?")) ++ (codes " high=" ++ (codes "?"))) ∷ ((codes "use " ++ (decimal 1)) ++ (codes " turn=" ++ (decimal 7)) ++ (codes " test=" ++ (codes "same")) ++ (codes " left=" ++ (codes ""))) ∷ [])) ++ line (codes "cut"))
-unknown_followed_cut = refl
-
-unknown_followed : text_of 3 100 unknown_seen texts ≡ Some ((lines (((codes "use " ++ (decimal 4)) ++ (codes " turn=" ++ (decimal 3)) ++ (codes " test=" ++ (codes "?")) ++ (codes " left=" ++ ((codes "?") ++ codes "," ++ (codes "?")))) ∷ ((codes "pair " ++ (decimal 1)) ++ (codes " turn=" ++ (decimal 4)) ++ (codes " address=" ++ (codes "(nil)")) ++ (codes " low=" ++ (codes "?")) ++ (codes " high=" ++ (codes "?"))) ∷ ((codes "use " ++ (decimal 1)) ++ (codes " turn=" ++ (decimal 7)) ++ (codes " test=" ++ (codes "same")) ++ (codes " left=" ++ (codes ""))) ∷ [])) ++ [])
-unknown_followed = refl
-
-unknown_journaled : text_of 4 100 unknown_seen texts ≡ Some (lines (((codes "create " ++ (codes "?")) ++ (codes " turn=" ++ (decimal 1)) ++ (codes " base=" ++ (codes "(nil)")) ++ (codes " size=" ++ (decimal 1))) ∷ ((codes "end " ++ (codes "?")) ++ (codes " turn=" ++ (decimal 2))) ∷ ((codes "use " ++ (decimal 4)) ++ (codes " turn=" ++ (decimal 3)) ++ (codes " test=" ++ (codes "?")) ++ (codes " left=" ++ ((codes "?") ++ codes "," ++ (codes "?")))) ∷ ((codes "pair " ++ (decimal 1)) ++ (codes " turn=" ++ (decimal 4)) ++ (codes " address=" ++ (codes "(nil)")) ++ (codes " low=" ++ (codes "?")) ++ (codes " high=" ++ (codes "?"))) ∷ ((codes "create " ++ (codes "?")) ++ (codes " turn=" ++ (decimal 5)) ++ (codes " base=" ++ (address_text 16)) ++ (codes " size=" ++ (decimal 8))) ∷ ((codes "expose " ++ (codes "?")) ++ (codes " turn=" ++ (decimal 6))) ∷ ((codes "use " ++ (decimal 1)) ++ (codes " turn=" ++ (decimal 7)) ++ (codes " test=" ++ (codes "same")) ++ (codes " left=" ++ (codes ""))) ∷ []) ++ line (codes "events " ++ decimal 7))
+unknown_journaled : journal_text unknown_seen texts ≡ (lines (((codes "create " ++ (codes "?")) ++ (codes " turn=" ++ (decimal 1)) ++ (codes " base=" ++ (codes "(nil)")) ++ (codes " size=" ++ (decimal 1))) ∷ ((codes "end " ++ (codes "?")) ++ (codes " turn=" ++ (decimal 2))) ∷ ((codes "use " ++ (decimal 4)) ++ (codes " turn=" ++ (decimal 3)) ++ (codes " test=" ++ (codes "?")) ++ (codes " left=" ++ ((codes "?") ++ codes "," ++ (codes "?")))) ∷ ((codes "pair " ++ (decimal 1)) ++ (codes " turn=" ++ (decimal 4)) ++ (codes " address=" ++ (codes "(nil)")) ++ (codes " low=" ++ (codes "?")) ++ (codes " high=" ++ (codes "?"))) ∷ ((codes "create " ++ (codes "?")) ++ (codes " turn=" ++ (decimal 5)) ++ (codes " base=" ++ (address_text 16)) ++ (codes " size=" ++ (decimal 8))) ∷ ((codes "expose " ++ (codes "?")) ++ (codes " turn=" ++ (decimal 6))) ∷ ((codes "use " ++ (decimal 1)) ++ (codes " turn=" ++ (decimal 7)) ++ (codes " test=" ++ (codes "same")) ++ (codes " left=" ++ (codes ""))) ∷ []) ++ line (codes "events " ++ decimal 7))
 unknown_journaled = refl
 
 abbrev faults_seen : List Event
 faults_seen = event 1 (Made 1 0 1 4096 4) ∷ event 2 (Fault Undecided None None None) ∷ event 3 (Fault Undecided (Some 1) None None) ∷ event 4 (Ended 1) ∷ []
 
-faults_explained_cut : text_of 1 4 faults_seen texts ≡ Some ((lines ((codes "fault" ++ (codes " turn=" ++ (decimal 2))) ∷ [])) ++ line (codes "cut"))
-faults_explained_cut = refl
-
-faults_explained : text_of 1 100 faults_seen texts ≡ Some ((lines ((codes "fault" ++ (codes " turn=" ++ (decimal 2))) ∷ [])) ++ [])
-faults_explained = refl
-
-faults_counted_cut : text_of 2 4 faults_seen texts ≡ Some ((line (codes "create " ++ decimal 1) ++ line (codes "end " ++ decimal 1) ++ line (codes "expose " ++ decimal 0) ++ line (codes "pair " ++ decimal 0) ++ line (codes "use " ++ decimal 0) ++ line (codes "fault " ++ decimal 2)) ++ line (codes "cut"))
-faults_counted_cut = refl
-
-faults_counted : text_of 2 100 faults_seen texts ≡ Some ((line (codes "create " ++ decimal 1) ++ line (codes "end " ++ decimal 1) ++ line (codes "expose " ++ decimal 0) ++ line (codes "pair " ++ decimal 0) ++ line (codes "use " ++ decimal 0) ++ line (codes "fault " ++ decimal 2)) ++ [])
-faults_counted = refl
-
-faults_followed_cut : text_of 3 4 faults_seen texts ≡ Some (([]) ++ line (codes "cut"))
-faults_followed_cut = refl
-
-faults_followed : text_of 3 100 faults_seen texts ≡ Some (([]) ++ [])
-faults_followed = refl
-
 abbrev none_seen : List Event
 none_seen = []
 
-none_explained : text_of 1 100 none_seen texts ≡ Some ((lines ((codes "no fault") ∷ [])) ++ [])
-none_explained = refl
-
-none_counted : text_of 2 100 none_seen texts ≡ Some ((line (codes "create " ++ decimal 0) ++ line (codes "end " ++ decimal 0) ++ line (codes "expose " ++ decimal 0) ++ line (codes "pair " ++ decimal 0) ++ line (codes "use " ++ decimal 0) ++ line (codes "fault " ++ decimal 0)) ++ [])
-none_counted = refl
-
-none_followed : text_of 3 100 none_seen texts ≡ Some (([]) ++ [])
-none_followed = refl
-
-none_journaled : text_of 4 100 none_seen texts ≡ Some (lines ([]) ++ line (codes "events " ++ decimal 0))
+none_journaled : journal_text none_seen texts ≡ (lines ([]) ++ line (codes "events " ++ decimal 0))
 none_journaled = refl

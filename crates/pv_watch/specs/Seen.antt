@@ -1,8 +1,13 @@
--- What a watcher has seen, and what it says of it.
-use Rattle.std.specs.Prelude.{◌≡◌, ℕ, List, IfSome}
+-- What a watcher is, and what it says of what it has seen.
+use Rattle.std.specs.Prelude.{◌≡◌, ℕ, List}
 use Rattle.pv_watch.specs.declared.event.Event.{Event}
-use Rattle.pv_watch.specs.Texts.{text_of}
 
--- the kind's text, where it has one (docs/FORMATS.md, What watchers say; memory model)
-abbrev pub IsText : (kind wants : ℕ) → List Event → List (List ℕ) → List ℕ → Type 0
-IsText kind wants seen names text = IfSome (text_of kind wants seen names) (λ t. text ≡ t)
+-- a kind of watcher: its number, by which it is asked for, and its text, by how many events it wants, those that it has seen, and the texts of names
+-- (docs/FORMATS.md, What watchers say; memory model)
+pub record Kind : Type 0 where
+  pub number : ℕ
+  pub text : (wants : ℕ) → List Event → List (List ℕ) → List ℕ
+
+-- the kind's text (docs/FORMATS.md, What watchers say; memory model)
+abbrev pub IsText : Kind → (wants : ℕ) → List Event → List (List ℕ) → List ℕ → Type 0
+IsText kind wants seen names text = text ≡ kind.text wants seen names

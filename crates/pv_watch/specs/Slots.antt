@@ -4,32 +4,32 @@ use Rattle.std.specs.List.{list_any, AllZip}
 use Rattle.pv_watch.specs.declared.event.Event.{Event}
 use Rattle.pv_watch.specs.declared.seats.Seat.{Seat}
 use Rattle.pv_watch.specs.declared.seats.Seat.TheVariants.{In, Out}
-use Rattle.pv_watch.specs.Seen.{IsText}
+use Rattle.pv_watch.specs.Seen.{Kind, IsText}
 
 -- a watcher of a run's events (the memory model) that is present, or the text of one that has left
 pub data Slot : Type 0 where
-  Present : (kind wants : ℕ) (seen : List Event) → Slot
-  Left : (kind : ℕ) (text : List ℕ) → Slot
+  Present : (kind : Kind) (wants : ℕ) (seen : List Event) → Slot
+  Left : (number : ℕ) (text : List ℕ) → Slot
 
--- the kind of a slot's watcher (docs/FORMATS.md, What watchers say; memory model)
-abbrev pub kind_of : Slot → ℕ
-kind_of (Present kind wants seen) = kind
-kind_of (Left kind text) = kind
+-- the number of the kind of a slot's watcher (docs/FORMATS.md, What watchers say; memory model)
+abbrev pub kind_number : Slot → ℕ
+kind_number (Present kind wants seen) = kind.number
+kind_number (Left number text) = number
 
--- the slot's kind is one of these (docs/FORMATS.md, What watchers say; memory model)
+-- the number of the slot's kind is one of these (docs/FORMATS.md, What watchers say; memory model)
 abbrev pub is_kept : List ℕ → Slot → Bool
-is_kept kinds s = list_any (λ k. k == kind_of s) kinds
+is_kept kinds s = list_any (λ k. k == kind_number s) kinds
 
 -- a watcher that has seen as many events as it wants has left its text (docs/FORMATS.md, What watchers say; memory model)
-abbrev pub Stays : Bool → (kind wants : ℕ) → List Event → List (List ℕ) → Slot → Type 0
+abbrev pub Stays : Bool → Kind → (wants : ℕ) → List Event → List (List ℕ) → Slot → Type 0
 Stays true kind wants seen names (Present k w s) = ⊥
-Stays true kind wants seen names (Left k text) = (k ≡ kind) × IsText kind wants seen names text
+Stays true kind wants seen names (Left number text) = (number ≡ kind.number) × IsText kind wants seen names text
 Stays false kind wants seen names s = s ≡ Present kind wants seen
 
 -- one event of the memory model more
 abbrev pub After : Event → List (List ℕ) → Slot → Slot → Type 0
 After event names (Present kind wants seen) new = Stays (length (seen ++ event ∷ []) == wants) kind wants (seen ++ event ∷ []) names new
-After event names (Left kind text) new = new ≡ Left kind text
+After event names (Left number text) new = new ≡ Left number text
 
 -- these events of the memory model in order
 abbrev pub Told : List Slot → List Event → List (List ℕ) → List Slot → Type 0
@@ -39,7 +39,7 @@ Told old (event ∷ events) names new = (next : List Slot) × AllZip (After even
 -- the text of a slot (docs/FORMATS.md, What watchers say; memory model)
 abbrev pub Says : List (List ℕ) → Slot → List ℕ → Type 0
 Says names (Present kind wants seen) text = IsText kind wants seen names text
-Says names (Left kind text) said = said ≡ text
+Says names (Left number text) said = said ≡ text
 
 -- the texts of all slots in order (docs/FORMATS.md, What watchers say; memory model)
 abbrev pub SayAll : List (List ℕ) → List Slot → List ℕ → Type 0
@@ -47,13 +47,13 @@ SayAll names [] text = text ≡ []
 SayAll names (s ∷ others) text = (first : List ℕ) × (rest : List ℕ) × (text ≡ first ++ rest) × Says names s first × SayAll names others rest
 
 -- a watcher of a run's events (memory model), by what the trait says of it
-abbrev pub watcher : {W : Type 0} → (W → ℕ) → (W → ℕ) → (W → List Event) → W → Slot
+abbrev pub watcher : {W : Type 0} → (W → Kind) → (W → ℕ) → (W → List Event) → W → Slot
 watcher kind wants seen w = Present (kind w) (wants w) (seen w)
 
 -- the slot of a seat, which has a watcher or the text of one that has left (docs/FORMATS.md, What watchers say; memory model)
 abbrev pub slot : {W : Type 0} → (W → Slot) → Seat W → Slot
 slot view (In w) = view w
-slot view (Out kind text) = Left kind text.items
+slot view (Out number text) = Left number text.items
 
 -- the slots of all seats, in order (docs/FORMATS.md, What watchers say; memory model)
 abbrev pub slots : {W : Type 0} → (W → Slot) → List (Seat W) → List Slot

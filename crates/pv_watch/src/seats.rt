@@ -1,7 +1,7 @@
 //! The seats of a hall.
 ghost use Rattle.std.specs.Prelude.{◌≡◌, map, IfOk, OnOk};
 ghost use Rattle.std.specs.List.{filter, AllZip};
-ghost use Rattle.pv_watch.specs.Slots.{slot, slots, watcher, After, Says, SayAll, kind_of, is_kept};
+ghost use Rattle.pv_watch.specs.Slots.{slot, slots, watcher, After, Says, SayAll, kind_number, is_kept};
 ghost use Rattle.pv_watch.specs.Adding.{Adds};
 
 use crate::error::NoMemory;
@@ -32,7 +32,7 @@ pub(crate) fn seated<W: Watch>(alloc: Global, watchers: Vec<W>) -> Result<Vec<Se
 }
 
 fn kind_at<W: Watch>(seat: &Seat<W>) -> u8
-    ensures { result ≡ kind_of (slot (watcher W.its_kind W.its_wants W.seen) seat.now) }
+    ensures { result ≡ kind_number (slot (watcher W.its_kind W.its_wants W.seen) seat.now) }
 {
     match seat {
         Seat::In(watcher) => watcher.kind(),

@@ -17,25 +17,25 @@ pub enum Attend {
     NoMemory,
 }
 
-/// A watcher: it means the list of the events that it has seen, its kind, and how many it wants to see.
+/// A watcher: it means the list of the events that it has seen, its kind, which says its text, and how many it wants to see.
 pub trait Watch: Drop {
     ghost use Rattle.std.specs.Prelude.{ℕ, List};
     ghost use Rattle.pv_watch.specs.declared.event.Event.{Event};
-    ghost use Rattle.pv_watch.specs.Seen.{IsText};
+    ghost use Rattle.pv_watch.specs.Seen.{Kind, IsText};
     ghost use Rattle.pv_watch.specs.Adding.{Sees};
 
     /// The events that it has seen, in order.
     ghost seen: { Self → List Event };
 
-    ghost its_kind: { Self → ℕ };
+    /// Its kind: the number by which it is asked for, and its text, by what it has seen.
+    ghost its_kind: { Self → Kind };
 
     /// How many events it wants to see.
     ghost its_wants: { Self → ℕ };
 
-    /// Which kind of watcher it is: 1 explains a fault, 2 counts events, 3 follows pairs, 4 keeps a journal of them all; the texts of
-    /// other kinds are their own.
+    /// The number of its kind.
     fn kind(&self) -> u8
-        ensures { result ≡ its_kind self.now };
+        ensures { result ≡ (its_kind self.now).number };
 
     /// How many events it wants to see.
     fn wants(&self) -> u64

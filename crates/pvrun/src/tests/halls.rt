@@ -1,4 +1,6 @@
 //! Halls that the program itself doesn't make.
+ghost use Rattle.std.specs.Prelude.{codes};
+
 use super::{expect, text, words_of};
 use pv_explain::{Census, Explain, Pointers};
 use pv_script::{MemFiles, MemSink, Names};
@@ -17,7 +19,7 @@ struct Stranger {
 impl Watch for Stranger {
     ghost seen = { λ w. ⟦<Census as Watch>⟧.seen w.inner };
 
-    ghost its_kind = { λ w. 9 };
+    ghost its_kind = { λ w. record { number = 9; text = λ wants seen names. codes "a stranger\n" } };
 
     ghost its_wants = { λ w. ⟦<Census as Watch>⟧.its_wants w.inner };
 
