@@ -1,7 +1,6 @@
 -- Rows of suites, as the definitions compute them.
 use Rattle.std.proofs.Common.{◌≡◌, false, [], ◌∷◌, ◌++◌, codes, Some, None, Ok, Err, refl}
 use Rattle.std.specs.Fmt.{decimal}
-use Rattle.pv_fault.specs.declared.faults.Clause.TheVariants as clause
 use Rattle.pv_cases.specs.declared.list.ListError.TheVariants as error
 use Rattle.pv_cases.specs.Cases.{cases_of, bound_in}
 use Rattle.pv_cases.specs.Suites.{told_of, all_clauses, suite_text, suite_status, line_feed, list_line, long_line}
@@ -51,7 +50,7 @@ unfolding all_clauses
 passing = refl
 
 failing : suite_text (told_of 1 (record { line = codes "turns bound=3"; output = None }) (record { line = codes "exit\n"; output = []; clause = None })
-    ∷ told_of 2 (record { line = codes "x"; output = None }) (record { line = codes "undefined\n"; output = []; clause = Some clause.LeftShifts }) ∷ [])
+    ∷ told_of 2 (record { line = codes "x"; output = None }) (record { line = codes "undefined\n"; output = []; clause = Some (codes "6.5.7p4") }) ∷ [])
     ≡ (((codes "fail " ++ decimal 1 ++ codes " line " ++ codes "exit\n") ++ ((codes "fail " ++ decimal 2 ++ codes " line " ++ codes "undefined\n") ++ []))
     ++ ((codes "clause 6.5.7p4 cases=" ++ decimal 1 ++ line_feed) ++ []))
     ++ (codes "suite cases=" ++ decimal 2 ++ codes " passed=" ++ decimal 0 ++ line_feed)

@@ -4,9 +4,6 @@ use Rattle.std.specs.Prelude.{ℕ, Bool, true, false, ◌&&◌, ◌==◌, nat_eq
 use Rattle.std.specs.List.{flat_map, common_prefix_len}
 use Rattle.std.specs.Str.{bytes_eq}
 use Rattle.std.specs.Fmt.{decimal}
-use Rattle.pv_fault.specs.declared.faults.Clause.{Clause}
-use Rattle.pv_fault.specs.declared.faults.Clause.TheVariants as clause
-use Rattle.pv_fault.specs.FaultTexts.{clause_text}
 use Rattle.pv_cases.specs.declared.list.ListError.{ListError}
 use Rattle.pv_cases.specs.declared.list.ListError.TheVariants as error
 
@@ -19,7 +16,7 @@ line_feed = 10 ∷ []
 pub record Gave : Type 0 where
   pub line : List ℕ
   pub output : List ℕ
-  pub clause : Option Clause
+  pub clause : Option (List ℕ)
 
 -- docs/FORMATS.md, Suites: what is expected of a case: the line (5.1.2.3), without its line feed, and what is printed (5.1.2.3p6), where a file says it
 pub record Wanted : Type 0 where
@@ -67,7 +64,7 @@ case_line n w g =
 pub record CaseTold : Type 0 where
   pub line : List ℕ
   pub passed : Bool
-  pub clause : Option Clause
+  pub clause : Option (List ℕ)
 
 -- docs/FORMATS.md, Suites: what is told of case number n (5.1.2.3)
 abbrev pub told_of : (n : ℕ) → Wanted → Gave → CaseTold
@@ -75,31 +72,30 @@ told_of n w g = record { line = case_line n w g; passed = passes w g; clause = g
 
 -- ---- a suite
 
--- 3.4.3: the clauses of undefined behaviour, in the order of the standard
-unfoldable pub all_clauses : List Clause
+-- 3.4.3: the paragraphs of undefined behaviour, in the order of the standard
+unfoldable pub all_clauses : List (List ℕ)
 all_clauses =
-    clause.Lifetimes ∷ clause.Traps ∷ clause.PointerToInteger ∷ clause.PointerToPointer ∷ clause.PointerToFunction ∷ clause.StringLiterals ∷ clause.Sequencing
-    ∷ clause.Exceptions ∷ clause.EffectiveTypes ∷ clause.Indirection ∷ clause.ZeroDivisors ∷ clause.Quotients ∷ clause.AdditionOfPointers
-    ∷ clause.SubtractionOfPointers ∷ clause.ShiftCounts ∷ clause.LeftShifts ∷ clause.OrderOfPointers ∷ clause.OverlappingAssignment ∷ clause.ConstObjects
-    ∷ clause.MissingValues ∷ clause.LibraryArguments ∷ clause.Formats ∷ clause.Freeing ∷ clause.Reallocating ∷ clause.StringFunctions
-    ∷ clause.MemcpyOverlap ∷ clause.StrcpyOverlap ∷ []
+    codes "6.2.4p2" ∷ codes "6.2.6.1p5" ∷ codes "6.3.2.3p6" ∷ codes "6.3.2.3p7" ∷ codes "6.3.2.3p8" ∷ codes "6.4.5p7" ∷ codes "6.5p2" ∷ codes "6.5p5"
+    ∷ codes "6.5p7" ∷ codes "6.5.3.2p4" ∷ codes "6.5.5p5" ∷ codes "6.5.5p6" ∷ codes "6.5.6p8" ∷ codes "6.5.6p9" ∷ codes "6.5.7p3" ∷ codes "6.5.7p4"
+    ∷ codes "6.5.8p5" ∷ codes "6.5.16.1p3" ∷ codes "6.7.3p6" ∷ codes "6.9.1p12" ∷ codes "7.1.4p1" ∷ codes "7.21.6.1p9" ∷ codes "7.22.3.3p2"
+    ∷ codes "7.22.3.5p3" ∷ codes "7.24.1p2" ∷ codes "7.24.2.1p2" ∷ codes "7.24.2.3p2" ∷ []
 
 -- 3.4.3: it is this clause, by its text
-abbrev pub is_clause : Clause → Option Clause → Bool
+abbrev pub is_clause : List ℕ → Option (List ℕ) → Bool
 is_clause c None = false
-is_clause c (Some d) = bytes_eq (clause_text c) (clause_text d)
+is_clause c (Some d) = bytes_eq c d
 
 -- docs/FORMATS.md, Suites: of how many cases the line names the clause (3.4.3)
-abbrev pub cases_by : Clause → List CaseTold → ℕ
+abbrev pub cases_by : List ℕ → List CaseTold → ℕ
 cases_by c ts = count_by (λ (t : CaseTold). is_clause c t.clause) ts
 
 -- docs/FORMATS.md, Suites: the line of a clause (3.4.3) that so many cases name, where any does
-abbrev pub clause_line : Clause → (count : ℕ) → List ℕ
-clause_line c n = if n == 0 then [] else codes "clause " ++ clause_text c ++ codes " cases=" ++ decimal n ++ line_feed
+abbrev pub clause_line : List ℕ → (count : ℕ) → List ℕ
+clause_line c n = if n == 0 then [] else codes "clause " ++ c ++ codes " cases=" ++ decimal n ++ line_feed
 
 -- docs/FORMATS.md, Suites: the lines of those of these clauses (3.4.3) that are named
-abbrev pub clause_lines : List Clause → List CaseTold → List ℕ
-clause_lines cs ts = flat_map (λ (c : Clause). clause_line c (cases_by c ts)) cs
+abbrev pub clause_lines : List (List ℕ) → List CaseTold → List ℕ
+clause_lines cs ts = flat_map (λ (c : List ℕ). clause_line c (cases_by c ts)) cs
 
 -- docs/FORMATS.md, Suites: the lines of all cases (5.1.2.3), in their order
 abbrev pub case_lines : List CaseTold → List ℕ

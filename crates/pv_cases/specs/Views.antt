@@ -34,11 +34,11 @@ wanted_view w = record { line = w.line.now; output = option_map (λ s. s.now) w.
 
 -- docs/FORMATS.md, Suites: what a case came to
 abbrev pub gave_view : Got → Gave
-gave_view g = record { line = g.line.now; output = g.output.now; clause = g.clause }
+gave_view g = record { line = g.line.now; output = g.output.now; clause = option_map (λ s. s.now) g.clause }
 
 -- docs/FORMATS.md, Suites: what is told of a case
 abbrev pub told_view : Told → CaseTold
-told_view t = record { line = t.line.items; passed = t.passed; clause = t.clause }
+told_view t = record { line = t.line.items; passed = t.passed; clause = option_map (λ s. s.now) t.clause }
 
 -- docs/FORMATS.md, Suites: it is what the list says; or there was no memory
 abbrev pub OrNoMemory : {A B : Type 0} → (A → B) → Result A ListError → Result B ListError → Type 0

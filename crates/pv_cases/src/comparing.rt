@@ -4,7 +4,6 @@ ghost use Rattle.std.specs.List.{common_prefix_len};
 ghost use Rattle.pv_cases.specs.Suites as specified;
 ghost use Rattle.pv_cases.specs.Views.{wanted_view, gave_view, told_view};
 
-use pv_fault::Clause;
 use pv_script::NoMemory;
 use std::alloc::Global;
 
@@ -25,7 +24,7 @@ pub struct Got<'a> {
     /// What it printed.
     pub output: &'a [u8],
     /// The clause that the line names, where the end has no defined behaviour (C17 3.4.3).
-    pub clause: Option<Clause>,
+    pub clause: Option<&'static str>,
 }
 
 /// What is told of a case.
@@ -36,7 +35,7 @@ pub struct Told {
     /// Whether it passed: it ended and printed as it was to.
     pub passed: bool,
     /// The clause by which its end is undefined, if it is.
-    pub clause: Option<Clause>,
+    pub clause: Option<&'static str>,
 }
 
 /// Compares what the case of this number, from 1, came to with what is expected of it. The only error is want of memory.

@@ -2,7 +2,6 @@
 use pv_cases::{
     Case, Expected, Got, ListError, Told, cases, compare, long_output, refusal, report, status,
 };
-use pv_fault::Clause;
 use std::alloc::Global;
 use std::process::Abort;
 
@@ -51,7 +50,7 @@ fn compared(rt: &impl Abort, alloc: Global, number: u64, expected: &[u8], line: 
     let got = Got {
         line,
         output: b"ac",
-        clause: Some(Clause::Lifetimes),
+        clause: Some("6.2.4p2"),
     };
     compare(alloc, number, wanted, got).expect(rt, "no memory")
 }

@@ -1,7 +1,6 @@
 -- What one case comes to.
 use Rattle.std.proofs.Common.{◌≡◌, ℕ, ◌+◌, true, false, List, [], take, sym, ap, ◌∙◌, subst}
 use Rattle.std.specs.Prelude.{Option, Some, None}
-use Rattle.pv_fault.specs.declared.faults.Clause.{Clause}
 use Rattle.pv_script.specs.Outside.{Gains}
 use Rattle.pv_serve.specs.declared.words.Task.TheVariants as task
 use Rattle.pv_serve.specs.declared.judging.Judgement.{Judgement}
@@ -27,7 +26,7 @@ gained out bytes output empty now wrote =
     (subst (λ (n : Option (List ℕ)). Gains (Some []) n bytes) now (subst (λ (o : Option (List ℕ)). Gains o out.new bytes) empty wrote)).adds
 
 -- the line, the output and the clause of what `judge` answers are those of a verdict
-pub comes_by : (source script : List ℕ) (bound : ℕ) (out : Sunk) (hall : Halls) (j : Judgement) (line output : List ℕ) (clause : Option Clause) → out.old ≡ Some [] → out.new ≡ Some output
+pub comes_by : (source script : List ℕ) (bound : ℕ) (out : Sunk) (hall : Halls) (j : Judgement) (line output : List ℕ) (clause : Option (List ℕ)) → out.old ≡ Some [] → out.new ≡ Some output
     → IsOutcome source script bound true None out hall j → ((shown : Shown) → line ≡ report_line (verdict_of j shown)) → ((shown : Shown) → clause ≡ clause_of (verdict_of j shown))
     → CaseComes source script bound (record { line = line; output = output; clause = clause })
 comes_by source script bound out hall j line output clause empty now is told broken =
@@ -47,7 +46,7 @@ pub of_bytes : (a b x y : List ℕ) (bound : ℕ) (gave : Gave) → a ≡ x → 
 of_bytes a b x y bound gave e f comes = subst (λ (s : List ℕ). CaseComes s y bound gave) e (subst (λ (t : List ℕ). CaseComes a t bound gave) f comes)
 
 -- what is told is told of what the slices hold
-pub compared : (n : ℕ) (line : List ℕ) (o p : Option (List ℕ)) (a b x y : List ℕ) (k : Option Clause) (t : CaseTold)
+pub compared : (n : ℕ) (line : List ℕ) (o p : Option (List ℕ)) (a b x y : List ℕ) (k : Option (List ℕ)) (t : CaseTold)
     → t ≡ told_of n (record { line = line; output = o }) (record { line = a; output = x; clause = k }) → o ≡ p → a ≡ b → x ≡ y
     → t ≡ told_of n (record { line = line; output = p }) (record { line = b; output = y; clause = k })
 compared n line o p a b x y k t is e f h = is ∙ (λ i. told_of n (record { line = line; output = e i }) (record { line = f i; output = h i; clause = k }))

@@ -3,6 +3,7 @@ use Rattle.std.proofs.Common.{◌≡◌, ℕ, true, false, List, [], ◌∷◌, 
 use Rattle.std.specs.Prelude.{Option, Some, None, Ok, Err, if◌then◌else◌}
 use Rattle.std.specs.Str.{bytes_eq}
 use Rattle.pv_fault.specs.declared.faults.Fault.{Fault}
+use Rattle.pv_fault.specs.FaultTexts.{clause_text}
 use Rattle.pv_fault.specs.declared.verdict.Verdict.TheVariants as verdicts
 use Rattle.pv_exec.specs.declared.outcome.Outcome.TheVariants as outcome
 use Rattle.pv_cases.specs.declared.list.ListError.TheVariants as error
@@ -58,5 +59,5 @@ refusals = (refl, refl, refl)
 
 -- ---- clauses (worked: broken_by)
 
-clauses : (fault : Fault) (line : ℕ) → (broken_by (outcome.Ends (verdicts.Undefined fault) line) ≡ Some fault.clause) × (broken_by outcome.Turns ≡ None) × (broken_by (outcome.Ends verdicts.Indeterminate line) ≡ None)
+clauses : (fault : Fault) (line : ℕ) → (broken_by (outcome.Ends (verdicts.Undefined fault) line) ≡ Some (clause_text fault.clause)) × (broken_by outcome.Turns ≡ None) × (broken_by (outcome.Ends verdicts.Indeterminate line) ≡ None)
 clauses fault line = (refl, refl, refl)

@@ -36,7 +36,7 @@ IsRead held read = IfSome held (λ (g : Given). AreRead g read)
 
 -- what the code says of how a case ended
 abbrev pub ended_view : Ended → Gave
-ended_view e = record { line = e.line.items; output = mem_written e.output; clause = e.clause }
+ended_view e = record { line = e.line.items; output = mem_written e.output; clause = option_map (λ c. c.now) e.clause }
 
 -- what is told of case number n of which this is wanted, by what its run came to
 pub record IsTold (n : ℕ) (c : SuiteCase) (g : Given) (t : CaseTold) : Type 0 where

@@ -1,6 +1,6 @@
 -- The reply that a list of cases must get.
 use Rattle.std.specs.Prelude.{◌≡◌, ℕ, ◌+◌, Bool, true, false, List, [], ◌∷◌, length, nat_lt, Option, Some, None, Result, Ok, Err, IfSome, option_map}
-use Rattle.pv_fault.specs.declared.faults.Clause.{Clause}
+use Rattle.pv_fault.specs.FaultTexts.{clause_text}
 use Rattle.pv_fault.specs.declared.verdict.Verdict.TheVariants as verdicts
 use Rattle.pv_exec.specs.declared.outcome.Outcome.{Outcome}
 use Rattle.pv_exec.specs.declared.outcome.Outcome.TheVariants as outcome
@@ -45,13 +45,13 @@ abbrev pub is_long : Option (List ℕ) → Bool
 is_long None = false
 is_long (Some output) = nat_lt output_limit (length output)
 
--- 3.4.3: the clause that the end of a run breaks, if it has no defined behaviour
-abbrev pub broken_by : Outcome → Option Clause
-broken_by (outcome.Ends (verdicts.Undefined fault) line) = Some fault.clause
+-- 3.4.3: the text of the clause that the end of a run breaks, if it has no defined behaviour
+abbrev pub broken_by : Outcome → Option (List ℕ)
+broken_by (outcome.Ends (verdicts.Undefined fault) line) = Some (clause_text fault.clause)
 broken_by _ = None
 
 -- 3.4.3: the clause that the run with this verdict breaks, if it has no defined behaviour
-abbrev pub clause_of : Verdict → Option Clause
+abbrev pub clause_of : Verdict → Option (List ℕ)
 clause_of (Ended e bound) = broken_by e.outcome
 clause_of (Settled e bound listed) = broken_by e.outcome
 clause_of _ = None

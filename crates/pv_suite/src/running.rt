@@ -12,7 +12,7 @@ use crate::error::NoMemory;
 use crate::files::CaseText;
 use pv_cases::{Case, Expected, Got, Told, compare};
 use pv_exec::Outcome;
-use pv_fault::{Clause, Verdict};
+use pv_fault::Verdict;
 use pv_script::MemSink;
 use pv_serve::{Judgement, judge, line};
 use pv_watch::Hall;
@@ -23,7 +23,7 @@ use std::alloc::Global;
 pub struct Ended {
     pub line: Vec<u8>,
     pub output: MemSink,
-    pub clause: Option<Clause>,
+    pub clause: Option<&'static str>,
 }
 
 /// Runs a case by what was read of its files, and compares. The only error is want of memory.
@@ -96,8 +96,8 @@ fn run_source(alloc: Global, source: &[u8], script: &[u8], bound: u64) -> Result
 }
 
 // The clause by which an end is undefined, if it is.
-fn clause_of(judgement: &Judgement) -> Option<Clause>
-    ensures { (shown : Shown) → result ≡ specified.clause_of (verdict_of judgement.now shown) }
+fn clause_of(judgement: &Judgement) -> Option<&'static str>
+    ensures { (shown : Shown) → option_map (λ c. c.now) result ≡ specified.clause_of (verdict_of judgement.now shown) }
 {
     match judgement {
         Judgement::Ran { ran, .. } => clause_at(ran.outcome),
@@ -108,13 +108,13 @@ fn clause_of(judgement: &Judgement) -> Option<Clause>
     }
 }
 
-fn clause_at(outcome: Outcome) -> Option<Clause>
-    ensures { result ≡ broken_by outcome }
+fn clause_at(outcome: Outcome) -> Option<&'static str>
+    ensures { option_map (λ c. c.now) result ≡ broken_by outcome }
 {
     match outcome {
         Outcome::Exit { .. } => None,
         Outcome::Ends { verdict, .. } => match verdict {
-            Verdict::Undefined(fault) => Some(fault.clause),
+            Verdict::Undefined(fault) => Some(fault.clause.text()),
             Verdict::Indeterminate | Verdict::Undecided => None,
         },
         Outcome::Placement { .. } => None,
