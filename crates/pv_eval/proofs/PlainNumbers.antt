@@ -3,14 +3,16 @@ use Rattle.std.proofs.Common.{◌≡◌, ℕ, zero, suc, ◌++◌, Bool, true, f
 use Rattle.std.proofs.lemmas.Bool.{le-ltb}
 use Rattle.std.proofs.lemmas.Bool.Decides.{nat_tests}
 use Rattle.std.proofs.lemmas.Int.{ints}
-use Rattle.std.specs.Prelude.{ℤ, pos, negsuc, ◌&&◌, Option, IfSome, nat_lt, slice_get, if◌then◌else◌, SomeIff, Ok, Err}
+use Rattle.std.specs.Prelude.{ℤ, pos, negsuc, int_div, int_rem, ◌&&◌, Option, IfSome, nat_lt, slice_get, if◌then◌else◌, SomeIff, Result, Ok, Err}
 use Rattle.pv_num.specs.declared.kinds.IntKind.{IntKind}
 use Rattle.pv_num.specs.declared.kinds.IntKind.TheVariants.{Bool as BoolKind, Char}
 use Rattle.pv_num.specs.declared.operators.BinOp.{BinOp}
 use Rattle.pv_num.specs.Kinds.{Fits, fits_of, bits_of, is_signed, convert_of, is_character_kind}
-use Rattle.pv_num.specs.declared.operators.ArithmeticFault.TheVariants.{Overflow}
+use Rattle.pv_num.specs.declared.operators.ArithmeticFault.{ArithmeticFault}
+use Rattle.pv_num.specs.declared.operators.ArithmeticFault.TheVariants.{Overflow, ZeroDivisor, Quotient}
+use Rattle.pv_num.specs.declared.operators.BinOp.TheVariants.{Div, Rem}
 use Rattle.pv_num.specs.declared.operators.UnOp.{UnOp}
-use Rattle.pv_num.specs.Arithmetic.{exact_of, binary_of, unary_of}
+use Rattle.pv_num.specs.Arithmetic.{is_zero, exact_of, binary_of, unary_of}
 use Rattle.pv_tree.specs.declared.nodes.NodeId.{NodeId}
 use Rattle.pv_types.specs.Ty.{Ty}
 use Rattle.pv_typed.specs.declared.nodes.Typed.{Typed}
@@ -77,6 +79,29 @@ operated_some op k v w x y left right z ev ew e f h =
 pub joined_some : (op o : BinOp) (x y n : ℤ) (r : Option ℤ) (P : Type 0) → op ≡ o → ((k : IntKind) → binary_of o k x y ≡ exact_of k n) → SomeIff r P n → IfSome r (λ z. (k : IntKind) → binary_of op k x y ≡ exact_of k z)
 joined_some op o x y n None P is e h = tt
 joined_some op o x y n (Some z) P is e h = λ k. ap (λ q. binary_of q k x y) is ∙ e k ∙ ap (exact_of k) (sym h.1)
+
+-- a result that reports an overflow is the number that an operator gives
+pub some_exact : (a : Result ℤ ArithmeticFault) (r : Option ℤ) (P : Type 0) (n : ℤ) → a ≡ Ok n → SomeIff r P n → IfSome r (λ z. a ≡ Ok z)
+some_exact a None P n e h = tt
+some_exact a (Some z) P n e h = e ∙ ap Ok (sym h.1)
+
+-- a quotient that is a member of a kind, and what it leaves, by a divisor that is not zero
+module _ (op : BinOp) (k : IntKind) (x y : ℤ) (nonzero : is_zero y ≡ false) (fits : fits_of k (int_div x y) ≡ true) where
+  pub quotient_is : op ≡ Div → binary_of op k x y ≡ Ok (int_div x y)
+  quotient_is is =
+      ap (λ q. binary_of q k x y) is
+      ∙ ap (λ (b : Bool). if b then Err ZeroDivisor else (if fits_of k (int_div x y) then Ok (int_div x y) else Err Quotient)) nonzero
+      ∙ ap (λ (b : Bool). if b then Ok (int_div x y) else Err Quotient) fits
+
+  pub remainder_is : op ≡ Rem → binary_of op k x y ≡ Ok (int_rem x y)
+  remainder_is is =
+      ap (λ q. binary_of q k x y) is
+      ∙ ap (λ (b : Bool). if b then Err ZeroDivisor else (if fits_of k (int_div x y) then Ok (int_rem x y) else Err Quotient)) nonzero
+      ∙ ap (λ (b : Bool). if b then Ok (int_rem x y) else Err Quotient) fits
+
+-- a comparison of two numbers, under other names of them
+pub compared_is : (op o : BinOp) (k : IntKind) (x y a b : ℤ) → op ≡ o → a ≡ x → b ≡ y → binary_of op k x y ≡ binary_of o k a b
+compared_is op o k x y a b is left right = ap (λ q. binary_of q k x y) is ∙ ap (λ (m : ℤ). binary_of o k m y) (sym left) ∙ ap (binary_of o k a) (sym right)
 
 pub exactly_member : (k : IntKind) (n : ℤ) → is_signed k ≡ true → fits_of k n ≡ true → exact_of k n ≡ Ok n
 exactly_member k n signed fits =

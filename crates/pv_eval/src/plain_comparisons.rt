@@ -95,7 +95,7 @@ fn is_null(world: &World, v: Found) -> Option<Found>
 }
 
 /// Whether a number is 0.
-fn is_zero(x: i64) -> bool
+pub(crate) fn is_zero(x: i64) -> bool
     ensures { result ≡ int_eq x (pos 0) }
 {
     x == 0

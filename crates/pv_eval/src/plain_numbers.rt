@@ -1,7 +1,7 @@
 // Integers of plain expressions (C17 6.3, 6.5.3.3, 6.5.5 to 6.5.12), where they are numbers of 64 bits with a sign.
 ghost use Rattle.std.specs.Prelude.{◌≡◌, pos, Bool, true, IsTrue, IfSome, Ok};
 ghost use Rattle.pv_num.specs.Kinds.{is_signed};
-ghost use Rattle.pv_num.specs.Arithmetic.{binary_of, exact_of};
+ghost use Rattle.pv_num.specs.Arithmetic.{binary_of, exact_of, one_if};
 ghost use Rattle.pv_types.specs.Ty.{Ty};
 ghost use Rattle.pv_types.specs.Known.{tree};
 ghost use Rattle.pv_typed.specs.declared.nodes.Typed.{Typed as Row};
@@ -16,6 +16,7 @@ ghost use Rattle.pv_eval.specs.Operations.{Calculates, CalculatesOne, Converts};
 ghost use Rattle.pv_eval.specs.Plainly.{IsConverted, AlwaysGives, GivesWith, GivesWithBoth, found_worth};
 
 use crate::plain::Found;
+use crate::plain_comparisons::is_zero;
 use crate::suiting::{is_operand, is_promoted};
 use crate::types::{kind, shape};
 use pv_num::{BinOp, IntKind, UnOp, binary, convert, fits};
@@ -126,19 +127,83 @@ fn is_int_or_long(kind: IntKind) -> bool
     }
 }
 
-/// The sum, the difference or the product of two numbers, where it is a member of the kind (C17 6.5p5).
+/// The sum, the difference or the product of two numbers, where it is a member of the kind, which has a sign (C17 6.5p5).
 fn joined(op: BinOp, kind: IntKind, x: i64, y: i64) -> Option<i64>
+    requires { is_signed kind ≡ true }
     ensures { IfSome result (λ z. binary_of op kind x y ≡ Ok z) }
 {
-    if !is_int_or_long(kind) {
-        return None;
-    }
     let z = exact(op, x, y)?;
     let wide = i128::from(z);
     if !fits(kind, wide) {
         return None;
     }
     Some(z)
+}
+
+/// The quotient of two numbers toward zero, or what it leaves, where the quotient is a member of the kind (C17 6.5.5p5, p6).
+fn divided(op: BinOp, kind: IntKind, x: i64, y: i64) -> Option<i64>
+    ensures { IfSome result (λ z. binary_of op kind x y ≡ Ok z) }
+{
+    if is_zero(y) {
+        return None;
+    }
+    let quotient = x.checked_div(y)?;
+    let whole = i128::from(quotient);
+    if !fits(kind, whole) {
+        return None;
+    }
+    match op {
+        BinOp::Div => Some(quotient),
+        BinOp::Rem => x.checked_rem(y),
+        _ => None,
+    }
+}
+
+/// What an ordering of two numbers says (C17 6.5.8p6).
+fn compared(op: BinOp, x: i64, y: i64) -> Option<bool>
+    ensures { IfSome result (λ b. (k : IntKind) → binary_of op k x y ≡ Ok (one_if b)) }
+{
+    let left = i128::from(x);
+    let right = i128::from(y);
+    match op {
+        BinOp::Lt => Some(left < right),
+        BinOp::Gt => Some(left > right),
+        BinOp::Le => Some(left <= right),
+        BinOp::Ge => Some(left >= right),
+        _ => None,
+    }
+}
+
+/// What an ordering yields (C17 6.5.8p6).
+fn one_if(holds: bool) -> i64
+    ensures { result ≡ one_if holds }
+{
+    if holds { 1 } else { 0 }
+}
+
+/// The same as a number.
+fn order(op: BinOp, kind: IntKind, x: i64, y: i64) -> Option<i64>
+    ensures { IfSome result (λ z. binary_of op kind x y ≡ Ok z) }
+{
+    let holds = compared(op, x, y)?;
+    Some(one_if(holds))
+}
+
+/// An operator on two numbers, in 64 bits, where what it gives has them; of most kinds and operators nothing is said.
+fn in_64_bits(op: BinOp, kind: IntKind, x: i64, y: i64) -> Option<i64>
+    ensures { IfSome result (λ z. binary_of op kind x y ≡ Ok z) }
+{
+    if !is_int_or_long(kind) {
+        return None;
+    }
+    match op {
+        BinOp::Add => joined(op, kind, x, y),
+        BinOp::Sub => joined(op, kind, x, y),
+        BinOp::Mul => joined(op, kind, x, y),
+        BinOp::Div => divided(op, kind, x, y),
+        BinOp::Rem => divided(op, kind, x, y),
+        _ => order(op, kind, x, y),
+    }
 }
 
 /// An operator on two integers.
@@ -156,7 +221,7 @@ fn calculated(op: BinOp, kind: IntKind, x: i64, y: i64) -> Option<i64>
     if !is_operand(op, kind, right) {
         return None;
     }
-    if let Some(z) = joined(op, kind, x, y) {
+    if let Some(z) = in_64_bits(op, kind, x, y) {
         return Some(z);
     }
     match binary(op, kind, left, right) {

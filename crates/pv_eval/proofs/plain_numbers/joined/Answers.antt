@@ -1,4 +1,4 @@
-use Rattle.std.proofs.Common.{◌≡◌, FitsSigned, rules, sym, ap, ◌∙◌, subst, ℤ, Ok, to_z, of_z, w64}
+use Rattle.std.proofs.Common.{◌≡◌, FitsSigned, rules, sym, ap, ◌∙◌, ℤ, Ok, to_z, of_z, w64}
 use Rattle.std.specs.Int.{w128}
 use Rattle.std.proofs.lemmas.Int.{to_z-of_z}
 use Rattle.pv_num.specs.Kinds.{fits_of}
@@ -20,5 +20,5 @@ returns c =
     let sz : to_z w64 (of_z w64 z) ≡ z = to_z-of_z w64 z fz in
     let n : to_z w128 (of_z w128 c.from-wide.result) ≡ z = to_z-of_z w128 c.from-wide.result f ∙ c.from-wide.ensures ∙ sz in
     ap (λ (m : ℤ). binary_of op k m y) (sym sx) ∙ ap (binary_of op k (to_z w64 (of_z w64 x))) (sym sy) ∙ c.in_ok-z.ensures k
-    ∙ exactly_member k z (c.is_int_or_long.ensures c.if-not-is_int_or_long.false) (ap (fits_of k) (sym n) ∙ sym c.fits.ensures.value ∙ c.if-not-fits.false)
+    ∙ exactly_member k z c.requires (ap (fits_of k) (sym n) ∙ sym c.fits.ensures.value ∙ c.if-not-fits.false)
     ∙ ap Ok (sym sz)
