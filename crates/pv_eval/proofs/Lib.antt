@@ -36,5 +36,6 @@ pub mod PlainConversions
 pub mod PlainComparisons
 pub mod PlainStores
 pub mod PlainUpdates
+pub mod PlainCalls
 pub mod Wholes
 pub mod Handed

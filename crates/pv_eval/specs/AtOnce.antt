@@ -2,14 +2,16 @@
 -- the turns that were taken.
 use Rattle.std.specs.Prelude.{◌≡◌, ℕ, ◌+◌, ◌<◌, ◌≤◌, Bool, List, []}
 use Rattle.pv_tree.specs.declared.nodes.NodeId.{NodeId}
+use Rattle.pv_typed.specs.TypedTree.{line_of}
 use Rattle.pv_typed.specs.Tables.{Stored}
 use Rattle.pv_typed.specs.NodeTrees.{expression_at}
-use Rattle.pv_seq.specs.Sequencing.{Access}
+use Rattle.pv_seq.specs.Sequencing.{Access, sequence_point}
 use Rattle.pv_seq.specs.Frames.{AllRead}
 use Rattle.pv_world.specs.Worlds.{Worth}
 use Rattle.pv_world.specs.Worths.{truth_int}
 use Rattle.pv_eval.specs.declared.marked.Marked.{Marked}
-use Rattle.pv_eval.specs.States.{Setting, Gives, Stops, Turns}
+use Rattle.pv_eval.specs.States.{Setting, Gives, Stops, Turns, then_do}
+use Rattle.pv_eval.specs.Sequenced.{done}
 use Rattle.pv_eval.specs.Operations.{Tests, act}
 use Rattle.pv_eval.specs.Steps.{Calling}
 use Rattle.pv_eval.specs.Evaluation.{ev}
@@ -17,7 +19,7 @@ use Rattle.pv_eval.specs.Moments.{Moment, Always, state_of}
 use Rattle.pv_eval.specs.Pieces.{handed_at}
 use Rattle.pv_eval.specs.Ahead.{ahead}
 use Rattle.pv_eval.specs.Machines.{Machine, Started, left_of, value_at, ended}
-use Rattle.pv_eval.specs.Plainly.{GivesValue}
+use Rattle.pv_eval.specs.Plainly.{has_read, GivesValue}
 
 -- 6.8p4: the full expression has this value
 abbrev pub Evaluated : Stored → NodeId → Worth → (old new : Moment) → Type 0
@@ -59,6 +61,12 @@ EvaluatedAmong u n v all old new =
 abbrev pub CutAmong : Stored → NodeId → (old new : Moment) → Type 0
 CutAmong u n old new =
     Always u old (λ b out es. (call : Calling) (fs : List Access) → AllRead fs → old.taken ≤ b.bound → b.bound < new.taken → ev b call (expression_at u n) fs (state_of old out es) ≡ Stops Turns (state_of (record old { taken = b.bound }) out es))
+
+-- 6.5.2.2p10: a call of this function comes to be made with these arguments, against accesses that only read, by these reads of its own
+abbrev pub CallsAmong : Stored → NodeId → (function : ℕ) → List Worth → List Access → (old new : Moment) → Type 0
+CallsAmong u n f got all old new =
+    Always u old (λ b out es. (call : Calling) (fs : List Access) → AllRead fs → new.taken ≤ b.bound
+    → ev b call (expression_at u n) fs (state_of old out es) ≡ then_do (call f got (line_of (expression_at u n)) (state_of new out es)) (done (sequence_point (has_read fs all))))
 
 -- an expression that was started goes on so
 abbrev pub GoesOn : Stored → (was now : Started) → (old new : Moment) → Type 0

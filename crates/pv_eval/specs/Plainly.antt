@@ -8,7 +8,7 @@ use Rattle.pv_types.specs.Known.{tree}
 use Rattle.pv_prov.specs.declared.names.Prov.TheVariants.{Inst}
 use Rattle.pv_typed.specs.declared.nodes.Typed.{Typed}
 use Rattle.pv_typed.specs.declared.nodes.IncrementOperator.{IncrementOperator}
-use Rattle.pv_typed.specs.TypedTree.{TypedTree, Node, Form, Assign, CompoundAssign, PointerAssign, Increment}
+use Rattle.pv_typed.specs.TypedTree.{TypedTree, Node, Form, Arguments, Assign, CompoundAssign, PointerAssign, Increment, line_of}
 use Rattle.pv_typed.specs.TypedUnits.{object_at}
 use Rattle.pv_typed.specs.Nodes.{form_in}
 use Rattle.pv_typed.specs.Tables.{Stored, whole, nodes}
@@ -52,8 +52,8 @@ use Rattle.pv_types.specs.Sorts.{is_scalar_in}
 use Rattle.pv_eval.specs.Suiting.{knows}
 use Rattle.pv_eval.specs.Operations.{Op, Converts, Reads, Writes, does, act}
 use Rattle.pv_eval.specs.Sequenced.{Given, done}
-use Rattle.pv_eval.specs.Steps.{Calling, takes, converted, combining, stepping}
-use Rattle.pv_eval.specs.Evaluation.{ev, ev_form}
+use Rattle.pv_eval.specs.Steps.{Calling, takes, converted, handed, combining, stepping}
+use Rattle.pv_eval.specs.Evaluation.{ev, ev_form, ev_call}
 use Rattle.pv_eval.specs.Frames.{first_after, second_after}
 use Rattle.pv_eval.specs.Ahead.{first_operand_of, second_operand_of}
 
@@ -267,3 +267,21 @@ pub record HasMoved (c : Clause) (T : Table) (p : Pointer) (by : ℤ) (q : Point
 -- 6.2.6.1p4: bytes that are this number, and have no names, so that nothing is exposed by reading them (the memory model)
 abbrev pub IsPlainNumber : List Byte → ℕ → Type 0
 IsPlainNumber bytes n = (number_in bytes ≡ Some n) × ((T : Table) → exposed_by T bytes ≡ T)
+
+-- 6.5.2.2p7: an argument yields a value, behind so many turns and up to so many, which is converted to this one and is there (6.9.1p12), and what it
+-- reads was noted behind these accesses
+pub record HandsNoting (u : Stored) (w : World) (x : TypedTree) (before behind : ℕ) (v : Worth) (was now : List Access) : Type 0 where
+  pub worth : Worth
+  pub yields : Yields u w x worth
+  pub are : behind ≡ before + yields.turns
+  pub noted : now ≡ was ++ yields.accesses
+  pub hands : (b : Setting) (out : List ℕ) (es : List Marked) (n : ℕ) → handed b x worth (turned w out es n) ≡ Gives v (turned w out es n)
+
+-- 6.5.2.2p10: a call, behind so many turns and up to so many, comes to those of its arguments that are left, beside the values of the others, by
+-- these reads alone; and under each bound that is met before that, the run stops there
+pub record ComesToArguments (u : Stored) (w : World) (x : TypedTree) (f : ℕ) (got : List Worth) (remaining : Arguments) (all : List Access) (before behind : ℕ) : Type 0 where
+  pub only : AreReads all
+  pub gives : (call : Calling) (bound : ℕ) (sides : Option (List Bool)) (zap : Bool) (fs : List Access) (out : List ℕ) (es : List Marked) → AreReads fs → behind ≤ bound
+      → ev (setting_by u bound sides zap) call x fs (turned w out es before) ≡ ev_call (setting_by u bound sides zap) call (line_of x) f got remaining (has_read fs all) (turned w out es behind)
+  pub stops : (call : Calling) (bound : ℕ) (sides : Option (List Bool)) (zap : Bool) (fs : List Access) (out : List ℕ) (es : List Marked) → AreReads fs → before ≤ bound → bound < behind
+      → ev (setting_by u bound sides zap) call x fs (turned w out es before) ≡ Stops Turns (turned w out es bound)

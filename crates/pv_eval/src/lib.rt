@@ -29,6 +29,7 @@ mod operands;
 mod operations;
 mod permission;
 mod plain;
+mod plain_calls;
 mod plain_coded;
 mod plain_comparisons;
 mod plain_conversions;

@@ -15,7 +15,7 @@ ghost use Rattle.pv_eval.specs.States.{Gives};
 ghost use Rattle.pv_eval.specs.TypeForms.{lvalue, size_of};
 ghost use Rattle.pv_eval.specs.Operations.{Tests, BeginsBody, EndsBody, Makes, MakesLiteral, MakesFunction, Ends, Fills, Puts, PutsText, act};
 ghost use Rattle.pv_eval.specs.Moments.{sides_of, state_of, Always, Came, Tested, Made, Needed, IsMemory, Stays};
-ghost use Rattle.pv_eval.specs.Machines.{first_machine, ended, is_due, is_going, is_ended, is_asked, asked_arguments, asked_line, due_turns, after_first};
+ghost use Rattle.pv_eval.specs.Machines.{first_machine, ended, is_due, is_going, is_ended, is_asked, asked_function, asked_arguments, asked_line, due_turns, after_first};
 ghost use Rattle.pv_eval.specs.MachineSteps.{IsBegun, IsTaken, IsAnswered, IsOpen, Fit, WentTo, KeepsSetting};
 ghost use Rattle.pv_eval.specs.Pieces.{handed_at, needed_of};
 ghost use Rattle.pv_eval.specs.Progress.{StepsMachine, MadeAnywhere};
@@ -221,6 +221,29 @@ impl Machine {
         }
     }
 
+    /// The call of a function of the program that is due in the innermost expression, with all its arguments at once, where these are plain,
+    /// all accesses of the expression so far read, nothing stops them, and their turns are within the bound. Then it is handed up, as `callee`
+    /// says; its turns were taken, nothing was printed, and nothing happened that is told. False where that is not so: then nothing has changed.
+    pub fn call(&mut self, unit: &TypedUnit, plan: &Plan, bound: u64) -> bool
+        requires codes { AreCodes unit.now plan.now }
+        requires runnable { IsRunnable unit.now }
+        requires fit { Fit unit.now self.old.started }
+        ensures goes { result ≡ true → ContinuesFirst unit.now self.old self.new }
+        ensures cut { result ≡ true → CutFirst unit.now self.old self.new }
+        ensures more { result ≡ true → self.old.moment.taken < self.new.moment.taken }
+        ensures within { result ≡ true → self.new.moment.taken ≤ bound }
+        ensures called { result ≡ true → is_asked self.new.started ≡ true }
+        ensures others { after_first self.new.started ≡ after_first self.old.started }
+        ensures fit { Fit unit.now self.new.started }
+        ensures same { result ≡ false → self.new ≡ self.old }
+        ensures stays { KeepsSetting self.old.moment self.new.moment }
+    {
+        match self.started.front_mut() {
+            Some(e) => e.call(unit, plan, bound, &mut self.moment, &mut self.notes),
+            None => false,
+        }
+    }
+
     /// A statement's turn, and its full expression at once, which is not started: where it is plain but for a store at its
     /// root, where nothing stops it, and where its turns are within the bound. Its value is given, its turns were taken,
     /// nothing was printed, and nothing happened that is told. `None` where that is not so: then nothing has changed.
@@ -420,6 +443,16 @@ impl Machine {
     {
         match self.started.front() {
             Some(e) => e.line(),
+            None => 0,
+        }
+    }
+
+    /// The function of the call that is handed up.
+    pub fn callee(&self) -> u32
+        ensures { result ≡ asked_function self.now.started }
+    {
+        match self.started.front() {
+            Some(e) => e.callee(),
             None => 0,
         }
     }

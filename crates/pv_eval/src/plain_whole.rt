@@ -29,7 +29,7 @@ use pv_world::{Got, World};
 use std::alloc::Global;
 
 /// How many turns a plain expression takes.
-fn plain_turns(unit: &TypedUnit, n: NodeId) -> Option<u64>
+pub(crate) fn plain_turns(unit: &TypedUnit, n: NodeId) -> Option<u64>
     requires { IsExpression unit.now n }
     ensures { IfSome result (λ k. turns_of (expression_at unit.now n) ≡ Some k) }
 {

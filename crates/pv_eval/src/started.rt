@@ -8,7 +8,7 @@ ghost use Rattle.pv_world.specs.Coming.{worth_of};
 ghost use Rattle.pv_eval.specs.Runnable.{IsRunnable};
 ghost use Rattle.pv_eval.specs.Moments.{IsMemory};
 ghost use Rattle.pv_eval.specs.Ahead.{Matched};
-ghost use Rattle.pv_eval.specs.Machines.{Started as Expression, value_at, is_due_at, is_value, is_call_at, turns_at, arguments_at, line_at};
+ghost use Rattle.pv_eval.specs.Machines.{Started as Expression, value_at, is_due_at, is_value, is_call_at, turns_at, function_asked, arguments_at, line_at};
 ghost use Rattle.pv_eval.specs.MachineSteps.{StartedFits, WentTo, step_at, KeepsSetting};
 ghost use Rattle.pv_eval.specs.Progress.{StepsExpression};
 ghost use Rattle.pv_eval.specs.Codes.{AreCodes};
@@ -21,7 +21,7 @@ use crate::plan::Plan;
 use crate::running;
 use pv_seq::{Access, Journal, NoMemory};
 use pv_tree::NodeId;
-use pv_typed::TypedUnit;
+use pv_typed::{Typed, TypedUnit};
 use pv_world::Got;
 use std::alloc::Global;
 use std::marker::Model;
@@ -268,6 +268,75 @@ impl Started {
         true
     }
 
+    /// The node that is due is a call of this function with these arguments, in this line, by these reads of its own, and is handed up.
+    /// `NoMemory` changes nothing.
+    fn has_asked(
+        &mut self,
+        f: u32,
+        arguments: Vec<Got>,
+        line: u32,
+        noted: &[Access],
+    ) -> Result<(), NoMemory>
+        requires matched { Matched self.old.frames self.old.opens }
+        requires reads { AllRead noted.now }
+        ensures frames { self.new.frames ≡ self.old.frames }
+        ensures opens { OnOk result (self.new.opens ≡ with_reads noted.now (top self.old.opens) ∷ below self.old.opens) }
+        ensures place { OnOk result (self.new.place ≡ Now.Asked f arguments line) }
+        ensures fits { (u : Stored) → StartedFits u self.old → f < length u.functions → OnOk result (StartedFits u self.new) }
+        ensures unchanged { OnErr result (self.new ≡ self.old) }
+    {
+        self.untouched = false;
+        self.held.journal.note_reads(noted)?;
+        self.place = Now::Asked(f, arguments, line);
+        Ok(())
+    }
+
+    /// The call of a function of the program that is due, with all its arguments at once, where these are plain, all accesses so far read,
+    /// nothing stops them, and their turns are within the bound: it is handed up then. False where that is not so: then nothing has changed.
+    pub(crate) fn call(
+        &mut self,
+        unit: &TypedUnit,
+        plan: &Plan,
+        bound: u64,
+        moment: &mut Moment,
+        notes: &mut Vec<Access>,
+    ) -> bool
+        requires codes { AreCodes unit.now plan.now }
+        requires runnable { IsRunnable unit.now }
+        requires fits { StartedFits unit.now self.old }
+        ensures goes { result ≡ true → GoesOn unit.now self.old self.new moment.old moment.new }
+        ensures cut { result ≡ true → CutWhole unit.now self.old moment.old moment.new }
+        ensures more { result ≡ true → moment.old.taken < moment.new.taken }
+        ensures within { result ≡ true → moment.new.taken ≤ bound }
+        ensures called { result ≡ true → is_call_at self.new.place ≡ true }
+        ensures fits { StartedFits unit.now self.new }
+        ensures same { result ≡ false → self.new ≡ self.old }
+        ensures unmoved { result ≡ false → moment.new ≡ moment.old }
+        ensures setting { KeepsSetting moment.old moment.new }
+    {
+        if self.slow {
+            return false;
+        }
+        let Now::Due(n) = self.place else {
+            return false;
+        };
+        let Typed::Call(f, l) = unit.node(n) else {
+            return false;
+        };
+        if !self.only_reads() {
+            return false;
+        }
+        let Some((got, taken)) = moment.call_arguments(unit, plan, n, f, l, bound, notes) else {
+            return false;
+        };
+        match self.has_asked(f, got, unit.line_of(n), notes.as_slice()) {
+            Ok(()) => {}
+            Err(_) => return false,
+        }
+        moment.take_up_to(taken);
+        true
+    }
+
     /// Whether a turn is due next.
     pub(crate) fn due(&self) -> bool
         ensures { result ≡ is_due_at self.now.place }
@@ -284,6 +353,16 @@ impl Started {
     {
         match &self.place {
             Now::Asked(_, _, line) => *line,
+            _ => 0,
+        }
+    }
+
+    /// The function of the call that it waits for.
+    pub(crate) fn callee(&self) -> u32
+        ensures { result ≡ function_asked self.now.place }
+    {
+        match &self.place {
+            Now::Asked(f, _, _) => *f,
             _ => 0,
         }
     }
