@@ -1,11 +1,12 @@
 -- A bridge: what is asked of abstract bytes, and the number or the pointer that they are.
-use Rattle.std.specs.Prelude.{ℕ, ◌+◌, ◌<◌, IsSome, ◌≡◌, Bool, true, false, ◌&&◌, ◌==◌, None, Some, List, [], ◌∷◌, Option, if◌then◌else◌}
+use Rattle.std.specs.Prelude.{ℕ, ◌+◌, ◌<◌, IsSome, IsSomeAnd, ◌≡◌, Bool, true, false, ◌&&◌, ◌==◌, None, Some, List, [], ◌∷◌, Option, if◌then◌else◌}
 use Rattle.std.specs.FinMap.{get}
 use Rattle.std.specs.Option.{option_map, option_and_then}
 use Rattle.pv_prov.specs.declared.names.Prov.{Prov}
 use Rattle.pv_prov.specs.Names.{is_empty}
 use Rattle.pv_shadow.specs.Bytes.{Store}
 use Rattle.pv_shadow.specs.declared.byte.Byte.{Byte}
+use Rattle.pv_shadow.specs.Packed.{digit_at, IsNameless}
 use Rattle.pv_shadow.specs.Whole.{number_in, whole_name}
 
 -- the memory model: every address from a on, n of them, has a byte
@@ -28,6 +29,10 @@ are_nameless (b ∷ bs) = is_empty b.prov && are_nameless bs
 -- 6.2.6.1p4, the memory model: the number that bytes are, the least significant first, if each has a value and none has a name
 abbrev pub nameless_number : List Byte → Option ℕ
 nameless_number bytes = if are_nameless bytes then number_in bytes else None
+
+-- 6.2.6.1p4, the memory model: the n bytes from a on have the digits of this number as their values, the least significant first, and none has a name
+abbrev pub HasDigits : Store → (a n : ℕ) → ℕ → Type 0
+HasDigits m a n k = (j : ℕ) → j < n → IsSomeAnd (get m (a + j)) (IsNameless (digit_at k j))
 
 -- 6.5p6: the mark is that of byte j of a store of this type
 abbrev pub has_mark : Option (ℕ × ℕ) → (stored j : ℕ) → Bool
