@@ -11,7 +11,7 @@ ghost use Rattle.pv_inst.specs.Answers.{IsLive};
 ghost use Rattle.pv_inst.specs.Exposure.{expose};
 ghost use Rattle.pv_inst.specs.Finding.{name_at, after_name};
 ghost use Rattle.pv_shadow.specs.Bytes.{read};
-ghost use Rattle.pv_shadow.specs.Readings.{HasBytes, nameless_number, are_marked};
+ghost use Rattle.pv_shadow.specs.Readings.{HasBytes, nameless_number, HasDigits, are_marked};
 ghost use Rattle.pv_object.specs.Memory.{Mem, with_table, empty_memory};
 ghost use Rattle.pv_object.specs.Reaching.{IsReach};
 ghost use Rattle.pv_object.specs.Later.{IsLater};
@@ -361,6 +361,17 @@ impl Memory {
     {
         self.table.well_formed();
         self.bytes.number(at.address, n)
+    }
+
+    /// A number whose digits to the base 256 are the values of the n bytes from an address on, the least significant first,
+    /// where none of them has a name, so that nothing is exposed by reading them. No byte is handed over, and no access is
+    /// checked; `None` says nothing.
+    #[inline(always)]
+    pub fn digits(&self, a: u64, n: u64) -> Option<u64>
+        requires { n ≤ 8 }
+        ensures { IfSome result (HasDigits self.now.bytes a n) }
+    {
+        self.bytes.digits(a, n)
     }
 
     /// Whether the n bytes at a place that was reached have the marks of one store of the type with this number (6.5p6).
