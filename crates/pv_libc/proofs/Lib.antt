@@ -1,3 +1,4 @@
+pub mod Ahead
 pub mod Differing
 pub mod Filling
 pub mod Kept

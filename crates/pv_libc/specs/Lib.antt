@@ -1,6 +1,7 @@
 pub mod Answers
 pub mod Steps
 pub mod Characters
+pub mod Ahead
 pub mod Blocks
 pub mod Heap
 pub mod HeapParts

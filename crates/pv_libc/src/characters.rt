@@ -7,6 +7,7 @@ ghost use Rattle.pv_libc.specs.Steps.{further, with_notes};
 ghost use Rattle.pv_libc.specs.Answers.{OrNoMemory, worth};
 ghost use Rattle.pv_libc.specs.Characters.{character_in, character_at, most, string_at};
 
+use crate::known::plain_string;
 use crate::notes::{note_exposed, reached};
 use crate::values::{Given, Note};
 use pv_fault::{Reason, Verdict};
@@ -52,7 +53,7 @@ pub(crate) fn character_in(
 }
 
 /// The pointer so many bytes further on.
-fn further(given: Given, i: u64) -> Given
+pub(crate) fn further(given: Given, i: u64) -> Given
     ensures { result ≡ further given i }
 {
     Given {
@@ -84,8 +85,28 @@ pub(crate) fn character_at(
 }
 
 /// The characters of a string before its first 0.
-#[tactic(auto, using(pv_object::proofs::Later::made_later, pv_object::proofs::Later::later_both, pv_object::proofs::Later::later_itself))]
+#[tactic(auto, using(pv_object::proofs::Later::later_itself))]
 pub(crate) fn string_at(
+    alloc: Global,
+    memory: &mut Memory,
+    notes: &mut Vec<Note>,
+    by: Asker,
+    given: Given,
+) -> Result<Vec<u8>, Stop>
+    requires { IsMadeIn memory.old.table given.pointer.prov }
+    ensures answer { OrNoMemory (worth (λ v. v.items) result) (with_notes memory.new notes.new.items) (string_at by given (with_notes memory.old notes.old.items)) }
+    ensures later { IsLater memory.old.table memory.new.table }
+    ensures few { IfOk result (λ v. length v.items < most) }
+{
+    match plain_string(alloc, memory, given) {
+        Some(text) => Ok(text),
+        None => string_singly(alloc, memory, notes, by, given),
+    }
+}
+
+/// The same, checked and read one by one.
+#[tactic(auto, using(pv_object::proofs::Later::made_later, pv_object::proofs::Later::later_both, pv_object::proofs::Later::later_itself))]
+fn string_singly(
     alloc: Global,
     memory: &mut Memory,
     notes: &mut Vec<Note>,

@@ -7,6 +7,7 @@ mod calls;
 mod characters;
 mod formats;
 mod heap;
+mod known;
 mod notes;
 mod printing;
 mod strings;

@@ -11,6 +11,7 @@ ghost use Rattle.pv_libc.specs.StringParts.{strcmp};
 
 use crate::blocks::{put, share};
 use crate::characters::{character_at, most, string_at};
+use crate::known::plain_comparison;
 use crate::notes::reached;
 use crate::values::{Given, Note, Reply};
 use pv_fault::{Clause, Reason};
@@ -49,8 +50,25 @@ pub(crate) fn strlen(
 }
 
 /// `strcmp` (7.24.4.2).
-#[tactic(auto, using(pv_object::proofs::Later::made_later))]
 pub(crate) fn strcmp(
+    memory: &mut Memory,
+    notes: &mut Vec<Note>,
+    p: Given,
+    q: Given,
+) -> Result<Reply, Stop>
+    requires left { IsMadeIn memory.old.table p.pointer.prov }
+    requires right { IsMadeIn memory.old.table q.pointer.prov }
+    ensures { OrNoMemory result (with_notes memory.new notes.new.items) (strcmp p q (with_notes memory.old notes.old.items)) }
+{
+    match plain_comparison(memory, p, q) {
+        Some(reply) => Ok(reply),
+        None => strcmp_singly(memory, notes, p, q),
+    }
+}
+
+/// The same, character by character.
+#[tactic(auto, using(pv_object::proofs::Later::made_later))]
+fn strcmp_singly(
     memory: &mut Memory,
     notes: &mut Vec<Note>,
     p: Given,

@@ -3,7 +3,7 @@ use Rattle.pv_inst.specs.Table.{IsMadeIn}
 use Rattle.pv_libc.specs.Steps.{with_notes}
 use Rattle.pv_libc.specs.Characters.{most}
 use Rattle.pv_libc.specs.Strings.{compared_from}
-use Rattle.pv_libc.proofs.strings.strcmp.Given as goal
+use Rattle.pv_libc.proofs.strings.strcmp_singly.Given as goal
 
 -- what is left of the strings does what the whole does
 abbrev pub invariant-loop-i : goal.invariant-loop-i

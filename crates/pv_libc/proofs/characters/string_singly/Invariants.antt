@@ -3,7 +3,7 @@ use Rattle.pv_inst.specs.Table.{IsMadeIn}
 use Rattle.pv_object.specs.Later.{IsLater}
 use Rattle.pv_libc.specs.Steps.{with_notes}
 use Rattle.pv_libc.specs.Characters.{most, string_from}
-use Rattle.pv_libc.proofs.characters.string_at.Given as goal
+use Rattle.pv_libc.proofs.characters.string_singly.Given as goal
 
 -- what is left of the string, behind the characters read, does what the whole does
 abbrev pub invariant-loop-i : goal.invariant-loop-i

@@ -1,0 +1,189 @@
+// Characters that are read many at once: those in the one live object that a pointer's name is, whose bytes have values and
+// no names, so that reading each leaves all as it was. `None` says nothing, and nothing has happened: then they are read one by one.
+ghost use Rattle.std.specs.Prelude.{◌≡◌, [], ◌+◌, ◌-◌, ◌/◌, ◌%◌, ◌<◌, ◌≤◌, ◌^◌, IfSome};
+ghost use Rattle.pv_inst.specs.Use.{is_function};
+ghost use Rattle.pv_shadow.specs.Readings.{HasDigits};
+ghost use Rattle.pv_libc.specs.Ahead.{HasRoom, GivesAt, IsPlainString, ArePlain, ComparesPlainly};
+
+use crate::characters::{further, most};
+use crate::strings::sign_of;
+use crate::values::{Given, Reply};
+use pv_inst::Kind;
+use pv_object::{Memory, Pointer, Value};
+use pv_prov::Prov;
+use std::alloc::Global;
+
+/// Characters that are known ahead: so many digits of a number to the base 256, the least significant first.
+#[derive(Clone, Copy)]
+struct Digits {
+    number: u64,
+    count: u64,
+}
+
+/// No character is known ahead.
+const UNKNOWN: Digits = Digits {
+    number: 0,
+    count: 0,
+};
+
+/// The first of the characters that are known.
+fn first(known: Digits) -> u8
+    ensures { result ≡ known.number % 256 }
+{
+    (known.number % 256) as u8
+}
+
+/// All but the first.
+fn rest(known: Digits) -> Digits
+    requires { 1 ≤ known.count }
+    ensures { result ≡ record { number = known.number / 256; count = known.count - 1 } }
+{
+    Digits {
+        number: known.number / 256,
+        count: known.count - 1,
+    }
+}
+
+/// The characters from an address on: those that are known, or else as many of the next `left` as come before a multiple of 8.
+fn known_from(memory: &Memory, a: u64, left: u64, known: Digits) -> Option<Digits>
+    requires some { 1 ≤ left }
+    requires known { HasDigits memory.now.bytes a known.count known.number }
+    ensures some { IfSome result (λ r. 1 ≤ r.count) }
+    ensures known { IfSome result (λ r. HasDigits memory.now.bytes a r.count r.number) }
+{
+    if 0 < known.count {
+        return Some(known);
+    }
+    let count = left.min(8 - a % 8);
+    let number = memory.digits(a, count)?;
+    Some(Digits { number, count })
+}
+
+/// Whether an instance is a function, which has no bytes that are read.
+fn is_function(kind: Kind) -> bool
+    ensures { result ≡ is_function kind }
+{
+    match kind {
+        Kind::Function => true,
+        Kind::Declared { .. } | Kind::Literal | Kind::Heap => false,
+    }
+}
+
+/// How many bytes lie from a pointer on in the one live object that its name is.
+fn room(memory: &Memory, p: Pointer) -> Option<u64>
+    ensures { IfSome result (HasRoom memory.now.table p) }
+{
+    let Prov::Inst(number) = p.prov else {
+        return None;
+    };
+    let table = memory.instances();
+    table.well_formed();
+    let x = table.info(number)?;
+    if is_function(x.kind) {
+        return None;
+    }
+    if p.address < x.base {
+        return None;
+    }
+    let offset = p.address - x.base;
+    if offset > x.size {
+        return None;
+    }
+    Some(most().min(x.size - offset))
+}
+
+/// A character, and what is known of those behind it.
+#[derive(Clone, Copy)]
+struct Next {
+    character: u8,
+    behind: Digits,
+}
+
+/// The character so many bytes further on.
+fn step(memory: &Memory, given: Given, i: u64, few: u64, known: Digits) -> Option<Next>
+    requires told { memory.now.table.pending ≡ [] }
+    requires room { HasRoom memory.now.table given.pointer few }
+    requires here { i < few }
+    requires known { HasDigits memory.now.bytes (given.pointer.address + i) known.count known.number }
+    ensures character { IfSome result (λ r. GivesAt memory.now given i r.character) }
+    ensures behind { IfSome result (λ r. HasDigits memory.now.bytes (given.pointer.address + (i + 1)) r.behind.count r.behind.number) }
+{
+    let at = further(given, i);
+    let here = known_from(memory, at.pointer.address, few - i, known)?;
+    Some(Next {
+        character: first(here),
+        behind: rest(here),
+    })
+}
+
+/// The characters of a string before its first 0 (7.1.1p1).
+pub(crate) fn plain_string(alloc: Global, memory: &Memory, given: Given) -> Option<Vec<u8>>
+    ensures { IfSome result (λ v. IsPlainString memory.now given v.items) }
+{
+    if !memory.is_told() {
+        return None;
+    }
+    let few = room(memory, given.pointer)?;
+    let mut read = Vec::new(alloc);
+    let mut known = UNKNOWN;
+    for i in 0..few {
+        let next = step(memory, given, i, few, known)?;
+        let c = next.character;
+        if c == 0 {
+            return Some(read);
+        }
+        if read.push(c).is_err() {
+            return None;
+        }
+        known = next.behind;
+    }
+    None
+}
+
+/// So many characters in a row from an address on.
+pub(crate) fn plain_characters(alloc: Global, memory: &Memory, a: u64, n: u64) -> Option<Vec<u8>>
+    requires { a + n ≤ 2 ^ 47 }
+    ensures { IfSome result (λ v. ArePlain memory.now a n v.items) }
+{
+    if !memory.is_told() {
+        return None;
+    }
+    let mut read = Vec::new(alloc);
+    let mut known = UNKNOWN;
+    for i in 0..n {
+        let here = known_from(memory, a + i, n - i, known)?;
+        if read.push(first(here)).is_err() {
+            return None;
+        }
+        known = rest(here);
+    }
+    Some(read)
+}
+
+/// What a comparison of two strings replies (7.24.4.2).
+pub(crate) fn plain_comparison(memory: &Memory, p: Given, q: Given) -> Option<Reply>
+    ensures { IfSome result (ComparesPlainly memory.now p q) }
+{
+    if !memory.is_told() {
+        return None;
+    }
+    let left_room = room(memory, p.pointer)?;
+    let right_room = room(memory, q.pointer)?;
+    let mut left = UNKNOWN;
+    let mut right = UNKNOWN;
+    for i in 0..left_room.min(right_room) {
+        let one = step(memory, p, i, left_room, left)?;
+        let other = step(memory, q, i, right_room, right)?;
+        let a = one.character;
+        let b = other.character;
+        if a != b {
+            return Some(sign_of(a, b));
+        }
+        if a == 0 {
+            return Some(Reply::Value(Value::Int(0)));
+        }
+        left = one.behind;
+        right = other.behind;
+    }
+    None
+}
