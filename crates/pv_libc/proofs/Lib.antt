@@ -4,6 +4,7 @@ pub mod Filling
 pub mod Kept
 pub mod Makings
 pub mod Offering
+pub mod Putting
 pub mod Quiet
 pub mod Reaches
 pub mod Running

@@ -1,5 +1,5 @@
 // Functions on ranges of bytes (7.24.2.1, 7.24.2.2, 7.24.4.1, 7.24.6.1).
-ghost use Rattle.std.specs.Prelude.{◌≡◌, ◌+◌, [], ◌∷◌, ◌++◌, map, length};
+ghost use Rattle.std.specs.Prelude.{◌≡◌, ◌+◌, [], ◌∷◌, ◌≤◌, ◌++◌, map, length};
 ghost use Rattle.pv_inst.specs.Table.{IsMadeIn};
 ghost use Rattle.pv_object.specs.Reaching.{IsReach};
 ghost use Rattle.pv_object.specs.Later.{IsLater};
@@ -119,15 +119,32 @@ pub(crate) fn memset(
     }
 }
 
+/// Makes the bytes at a place that was reached those of eight characters at most.
+#[tactic(auto, using(crate::proofs::Putting::row_made))]
+fn put_few(memory: &mut Memory, at: &Reach, text: &[u8])
+    requires few { length text.now ≤ 8 }
+    requires reached { IsReach memory.old.table at.now (length text.now) }
+    ensures { memory.new ≡ with_bytes memory.old at.now.address (map plain_byte text.now) }
+{
+    let mut bytes = [plain_byte(0); 8];
+    for i in 0..text.len() {
+        bytes[i] = plain_byte(text[i]);
+    }
+    memory.write_bytes(at, &bytes[..text.len()]);
+}
+
 /// Makes the bytes at a place that was reached those of a string, and a 0 behind it.
 #[tactic(auto, using(crate::proofs::Reaches::reach_within))]
 pub(crate) fn put(memory: &mut Memory, at: &Reach, text: &[u8])
     requires { IsReach memory.old.table at.now (length text.now + 1) }
     ensures { memory.new ≡ with_bytes memory.old at.now.address (map plain_byte (text.now ++ 0 ∷ [])) }
 {
-    for i in 0..text.len() {
+    let mut i = 0;
+    while i < text.len() {
+        let few = (text.len() - i).min(8);
         let place = within(memory, at, i as u64);
-        memory.write_bytes(&place, &[plain_byte(text[i])]);
+        put_few(memory, &place, &text[i..i + few]);
+        i += few;
     }
     let place = within(memory, at, text.len() as u64);
     memory.write_bytes(&place, &[plain_byte(0)]);

@@ -1,0 +1,10 @@
+use Rattle.std.proofs.Common.{◌≡◌, map, take, length}
+use Rattle.pv_libc.specs.Blocks.{plain_byte}
+use Rattle.pv_libc.proofs.blocks.put_few.Given as goal
+
+-- the row so far
+abbrev pub invariant-loop-i : goal.invariant-loop-i
+invariant-loop-i l = record {
+  eight : length l.bytes ≡ 8;
+  so_far : take l.i l.bytes ≡ map plain_byte (take l.i l.text);
+}
