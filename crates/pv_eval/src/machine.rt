@@ -50,6 +50,8 @@ pub struct Machine {
     spare: Vec<Stacks>,
     /// For what an operand reads that is evaluated at once.
     notes: Vec<Access>,
+    /// For the arguments of a call that are evaluated at once.
+    arguments: Vec<Got>,
 }
 
 impl Model for Machine {
@@ -86,6 +88,7 @@ impl Machine {
                 started: VecDeque::new(alloc),
                 spare: Vec::new(alloc),
                 notes: Vec::new(alloc),
+                arguments: Vec::new(alloc),
             }),
             Err(e) => Err(e),
         }
@@ -239,7 +242,14 @@ impl Machine {
         ensures stays { KeepsSetting self.old.moment self.new.moment }
     {
         match self.started.front_mut() {
-            Some(e) => e.call(unit, plan, bound, &mut self.moment, &mut self.notes),
+            Some(e) => e.call(
+                unit,
+                plan,
+                bound,
+                &mut self.moment,
+                &mut self.notes,
+                &mut self.arguments,
+            ),
             None => false,
         }
     }
@@ -427,6 +437,13 @@ impl Machine {
             Some(e) => Ok(e.arguments(self.alloc)),
             None => unreachable!(),
         }
+    }
+
+    /// The list of a call's arguments, which are no longer needed, is kept for its memory.
+    pub fn give_back(&mut self, arguments: Vec<Got>)
+        ensures { self.new ≡ self.old }
+    {
+        self.arguments = arguments;
     }
 
     /// A value behind a pointer.

@@ -25,6 +25,16 @@ use pv_typed::TypedUnit;
 use pv_world::{Got, World};
 use std::alloc::Global;
 
+/// The list that is kept for the arguments of a call, empty.
+#[inline(always)]
+fn lent(kept: &mut Vec<Got>, alloc: Global) -> Vec<Got>
+    ensures { result.items ≡ [] }
+{
+    let mut values = std::mem::replace(kept, Vec::new(alloc));
+    values.clear();
+    values
+}
+
 /// The value of an argument, converted as if by assignment (C17 6.5.2.2p7), where it is plain, nothing stops it, and its turns are within the bound
 /// behind so many that were taken; and how many are taken then. What it reads is noted.
 fn argument(
@@ -66,6 +76,7 @@ fn arguments(
     taken: u64,
     bound: u64,
     notes: &mut Vec<Access>,
+    kept: &mut Vec<Got>,
 ) -> Option<(Vec<Got>, u64)>
     requires codes { AreCodes unit.now plan.now }
     requires known { AreKnown unit.now }
@@ -79,7 +90,7 @@ fn arguments(
     ensures within { IfSome result (λ r. r.1 ≤ bound) }
 {
     let children = unit.children(l);
-    let mut values = Vec::new(alloc);
+    let mut values = lent(kept, alloc);
     let mut at = taken + 1;
     let mut i = 0;
     'each: while i < children.len() {
@@ -99,7 +110,7 @@ fn arguments(
 impl Moment {
     /// The values of the arguments of a call of this function, converted as if by assignment (C17 6.5.2.2p7), against nodes that only read, and how
     /// many turns are taken once they are there, that of the call among them: where they are plain, nothing stops them, and these turns are within
-    /// the bound. What they read stands in the notes.
+    /// the bound. What they read stands in the notes; the list that is kept is taken for them.
     pub(crate) fn call_arguments(
         &self,
         unit: &TypedUnit,
@@ -109,6 +120,7 @@ impl Moment {
         l: ListId,
         bound: u64,
         notes: &mut Vec<Access>,
+        kept: &mut Vec<Got>,
     ) -> Option<(Vec<Got>, u64)>
         requires codes { AreCodes unit.now plan.now }
         requires runnable { IsRunnable unit.now }
@@ -136,6 +148,7 @@ impl Moment {
             self.taken,
             bound,
             notes,
+            kept,
         )
     }
 

@@ -300,6 +300,7 @@ impl Started {
         bound: u64,
         moment: &mut Moment,
         notes: &mut Vec<Access>,
+        kept: &mut Vec<Got>,
     ) -> bool
         requires codes { AreCodes unit.now plan.now }
         requires runnable { IsRunnable unit.now }
@@ -326,7 +327,8 @@ impl Started {
         if !self.only_reads() {
             return false;
         }
-        let Some((got, taken)) = moment.call_arguments(unit, plan, n, f, l, bound, notes) else {
+        let Some((got, taken)) = moment.call_arguments(unit, plan, n, f, l, bound, notes, kept)
+        else {
             return false;
         };
         match self.has_asked(f, got, unit.line_of(n), notes.as_slice()) {

@@ -1,4 +1,4 @@
-use Rattle.std.proofs.Common.{◌≡◌, ◌++◌, ◌∷◌, [], arith, rules, length}
+use Rattle.std.proofs.Common.{◌≡◌, ◌++◌, ◌∷◌, [], arith, length}
 use Rattle.std.specs.Prelude.{map}
 use Rattle.std.proofs.lemmas.Grind.{common_steps}
 use Rattle.pv_typed.specs.NodeTrees.{expression_at}
@@ -11,9 +11,8 @@ pub each-init : goal.each-init
 each-init c =
     let u = c.args.unit.now in
     let ids = c.children-children.result.now in
-    let empty : c.new-values.result.items ≡ [] = search rules in
     record {
-      comes = first_argument u c.args.world.now c.args.f ids c.args.n c.args.l c.new-values.result.items c.args.notes.now.items c.args.taken c.children-children.ensures c.requires.form empty c.requires.quiet;
+      comes = first_argument u c.args.world.now c.args.f ids c.args.n c.args.l c.lent-values.result.items c.args.notes.now.items c.args.taken c.children-children.ensures c.requires.form c.lent-values.ensures c.requires.quiet;
       more = omega arith;
       within = omega (arith, c.requires.room);
     }
