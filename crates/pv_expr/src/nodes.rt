@@ -1,5 +1,5 @@
 //! The finished trees of a unit, and new ones made of them.
-ghost use Rattle.std.specs.Prelude.{◌≡◌, ◌≤◌, All, length, Some, nat_eq};
+ghost use Rattle.std.specs.Prelude.{◌≡◌, ◌≤◌, ◌<◌, true, false, All, length, Some, nat_eq};
 ghost use Rattle.indexmap.specs.IndexSet.{contains};
 ghost use Rattle.pv_tree.specs.Children.{HasExprChildren};
 ghost use Rattle.pv_tree.specs.Depths.{expression_depth, declaration_depth};
@@ -54,6 +54,21 @@ pub(crate) fn rank_of(unit: &Unit, n: NodeId) -> u8
     ensures { result ≡ rank (expression_at unit.now.forest n) }
 {
     rank(unit.expr(n))
+}
+
+/// Whether a tree that nothing went on from yet is looser than a level. It is a cast or tighter, so that its node is looked
+/// at for the tightest levels alone.
+#[inline(always)]
+pub(crate) fn is_looser(unit: &Unit, n: NodeId, level: u8) -> bool
+    requires node { Is unit.now is_expression n }
+    requires cast { 14 ≤ rank (expression_at unit.now.forest n) }
+    ensures looser { result ≡ true → rank (expression_at unit.now.forest n) < level }
+    ensures tight { result ≡ false → level ≤ rank (expression_at unit.now.forest n) }
+{
+    if level <= 14 {
+        return false;
+    }
+    rank_of(unit, n) < level
 }
 
 /// The depth of an expression.

@@ -5,7 +5,7 @@ ghost use Rattle.pv_expr_forms.specs.Reader.{read, head, grown, longer, asked, c
 ghost use Rattle.pv_expr_forms.specs.Sources.{known_names, IsReady, ReadsFrom};
 
 use crate::nodes::{
-    call, combined, enclosed, follow_at, found, leaf, line_of, operand_level, rank_of, suffixed,
+    call, combined, enclosed, follow_at, found, is_looser, leaf, line_of, operand_level, suffixed,
 };
 use crate::openings::{opening_at, type_closed};
 use pv_expr_forms::{
@@ -34,7 +34,7 @@ pub(crate) fn read_tree<R: TypeReader>(
     match read_head(source, at, below, into)? {
         None => Ok(None),
         Some((first, next)) => {
-            if rank_of(into, first) < level {
+            if is_looser(into, first, level) {
                 return Ok(None);
             }
             grow(source, next, first, level, below, into)

@@ -12,6 +12,7 @@ use Rattle.pv_expr_forms.proofs.Readings.{nothing, head_end, head_first, measure
 use Rattle.pv_expr_forms.proofs.Operands.{call_is, asked_none, asked_nothing, asked_done}
 use Rattle.pv_expr_forms.proofs.Steps.{grown_on, longer_goes}
 use Rattle.pv_expr.proofs.Opens.{opening_kept, enclosed_nothing, enclosed_done}
+use Rattle.pv_expr.proofs.Tight.{head_tight}
 use Rattle.pv_expr.proofs.Goes.{suffix_is, operand_none, operand_done, operand_asks}
 use Rattle.pv_expr.proofs.reading.+reading.Goals as goal
 
@@ -256,23 +257,28 @@ read_tree-returns-in-None g t c = record {
       nothing _ _ _ (deeper_none _ _ _ _ _ (got_none c.read_head.new.into c.args.source.now.tokens.now.tokens _ _ c.in_ok-read_head.ensures.answer c.in-None.is) ∙ read_some _ c.args.depth _ _ (omega arith));
 }
 
-pub read_tree-rank_of-requires : goal.read_tree-rank_of-requires
-read_tree-rank_of-requires g t c = (got c.read_head.new.into c.args.source.now.tokens.now.tokens c.in_ok-read_head.field-0 _ c.in-Some.first c.in-Some.next c.in_ok-read_head.ensures.answer c.in-Some.is).1
+pub read_tree-is_looser-requires-clause-node : goal.read_tree-is_looser-requires-clause-node
+read_tree-is_looser-requires-clause-node g t c = (got c.read_head.new.into c.args.source.now.tokens.now.tokens c.in_ok-read_head.field-0 _ c.in-Some.first c.in-Some.next c.in_ok-read_head.ensures.answer c.in-Some.is).1
 
-pub read_tree-returns-then-rank_of-level : goal.read_tree-returns-then-rank_of-level
-read_tree-returns-then-rank_of-level g t c = record {
+pub read_tree-is_looser-requires-clause-cast : goal.read_tree-is_looser-requires-clause-cast
+read_tree-is_looser-requires-clause-cast g t c =
+    let h = got c.read_head.new.into c.args.source.now.tokens.now.tokens c.in_ok-read_head.field-0 _ c.in-Some.first c.in-Some.next c.in_ok-read_head.ensures.answer c.in-Some.is in
+    head_tight _ _ _ _ _ _ (sym h.0)
+
+pub read_tree-returns-then-is_looser : goal.read_tree-returns-then-is_looser
+read_tree-returns-then-is_looser g t c = record {
   keeps = c.read_head.ensures.keeps;
   answer =
       let h = got c.read_head.new.into c.args.source.now.tokens.now.tokens c.in_ok-read_head.field-0 _ c.in-Some.first c.in-Some.next c.in_ok-read_head.ensures.answer c.in-Some.is in
-      nothing _ _ _ (deeper_low _ _ _ _ _ _ _ h.0 (omega arith) ∙ read_some _ c.args.depth _ _ (omega arith));
+      nothing _ _ _ (deeper_low _ _ _ _ _ _ _ h.0 (c.is_looser.ensures.looser c.if-is_looser.true) ∙ read_some _ c.args.depth _ _ (omega arith));
 }
 
-pub read_tree-returns-else-rank_of-level : goal.read_tree-returns-else-rank_of-level
-read_tree-returns-else-rank_of-level g t c = record {
+pub read_tree-returns-else-is_looser : goal.read_tree-returns-else-is_looser
+read_tree-returns-else-is_looser g t c = record {
   keeps = extends_then c.args.into.now c.read_head.new.into c.grow.new.into c.read_head.ensures.keeps c.grow.ensures.keeps;
   answer =
       let h = got c.read_head.new.into c.args.source.now.tokens.now.tokens c.in_ok-read_head.field-0 _ c.in-Some.first c.in-Some.next c.in_ok-read_head.ensures.answer c.in-Some.is in
-      moved _ _ _ _ _ (grown_in c.args.source.now.typedefs.now (g.R.TypeReader.types c.args.source.now.reader.now) c.args.into.now c.read_head.new.into c.args.source.now.tokens.now.tokens c.requires.tied c.read_head.ensures.keeps _ _ _ _ ∙ deeper_on _ _ _ _ _ _ _ h.0 (omega arith) ∙ read_some _ c.args.depth _ _ (omega arith)) c.grow.ensures.answer;
+      moved _ _ _ _ _ (grown_in c.args.source.now.typedefs.now (g.R.TypeReader.types c.args.source.now.reader.now) c.args.into.now c.read_head.new.into c.args.source.now.tokens.now.tokens c.requires.tied c.read_head.ensures.keeps _ _ _ _ ∙ deeper_on _ _ _ _ _ _ _ h.0 (c.is_looser.ensures.tight c.if-is_looser.false) ∙ read_some _ c.args.depth _ _ (omega arith)) c.grow.ensures.answer;
 }
 
 pub read_tree-grow-requires : goal.read_tree-grow-requires
