@@ -17,7 +17,7 @@ use crate::lists::ParameterLists;
 use crate::sparse::Sparse;
 use indexmap::IndexSet;
 use pv_decl_forms::DEPTH_LIMIT;
-use pv_expr_forms::{Source, begins_type, is_open, peek};
+use pv_expr_forms::{Source, begins_type, is_close, is_open, peek};
 use pv_token::{Mark, NoMemory, TokenKind, Tokens};
 use pv_tree::{NodeId, TypeReader, Unit};
 use std::alloc::Global;
@@ -155,6 +155,21 @@ fn closes_soon(t: &Tokens, at: u32) -> bool
     false
 }
 
+// Whether a list of parameters may be long at a place where a type name may begin, or may not. It isn't where the type name
+// that is found there is one token before a `)`, as in most casts.
+fn may_be_long(t: &Tokens, at: u32, opens: bool, found: Option<(NodeId, u32)>) -> bool {
+    let Some((_, end)) = found else {
+        return opens;
+    };
+    if end != at.saturating_add(1) {
+        return opens;
+    }
+    if end >= t.len() {
+        return opens;
+    }
+    opens && !is_close(t.at(end).kind)
+}
+
 // The list of parameters at a place, as an abstract declarator, if a type name may begin there behind a `(`, and the list
 // may be long.
 fn list_entry(
@@ -231,7 +246,8 @@ pub fn type_names(
         let opens = opens_type(t, at, types);
         let found = entry(t, at, opens, types, &names, &lists, into)?;
         names.push(found)?;
-        let list = list_entry(t, at, opens, types, &names, &lists, into)?;
+        let asked = may_be_long(t, at, opens, found);
+        let list = list_entry(t, at, asked, types, &names, &lists, into)?;
         lists.note(at, list)?;
     }
     Ok(names)
