@@ -5,4 +5,5 @@ pub mod Held
 pub mod Looping
 pub mod Valued
 pub mod Sparsed
+pub mod WordNodes
 pub mod Words

@@ -11,8 +11,8 @@ use Rattle.pv_tree.specs.declared.nodes.NodeId.{NodeId}
 use Rattle.pv_tree.specs.Grammar.{line_here}
 use Rattle.pv_tree.specs.Places.{Specifiers, AbstractDeclarators, is_plain_word}
 use Rattle.pv_tree.specs.Spells.{Names}
-use Rattle.pv_tree.specs.Syntax.{TypeName, Tree, Trees, NoTrees}
-use Rattle.pv_tree.specs.Tables.{Tables, tree_at, trees_of, is_declarator, is_specifier, Extends}
+use Rattle.pv_tree.specs.Syntax.{TypeName, Tree, OfDeclaration, Trees, NoTrees, Absent}
+use Rattle.pv_tree.specs.Tables.{Tables, tree_at, trees_of, is_declaration, is_declarator, is_specifier, Is, Extends}
 use Rattle.pv_tree.specs.TypeNames.{TypeMap}
 use Rattle.pv_tree.proofs.Kept.{extends_same}
 use Rattle.pv_expr_forms.specs.Known.{names_in}
@@ -33,6 +33,7 @@ use Rattle.pv_decl_forms.proofs.Loops.{no_parts}
 use Rattle.pv_decl_forms.proofs.Outer.{type_name_none_by, type_name_some_by}
 use Rattle.pv_decl_forms.proofs.Rounds.{declarator_by, no_declarator}
 use Rattle.pv_decl.proofs.Looping.{row_done, row_turn}
+use Rattle.pv_decl.proofs.WordNodes.{piece_same}
 
 -- ---- a `)` begins neither a specifier nor a declarator
 
@@ -122,3 +123,19 @@ module _ {S : Type 0} (lists : ℕ → Option (Option (NodeId × ℕ))) (typedef
         ap (λ (l : ℕ). made_of (TypeName l) (trees_of v.forest (spec ∷ [])) (optional (drop end tokens) (seen v.forest tokens None))) (ap line_here (sym here))
         ∙ type_name_some_by names depth (drop at tokens) v tokens (spec ∷ []) end alone refl v (extends_same v) None
         (nothing v is_declarator tokens (readers names depth AbstractDeclarators (drop end tokens)) (no_abstract names depth (drop end tokens) still))
+
+-- ---- a type name of one word that is a node already
+
+pub word_again : {S : Type 0} (lists : ℕ → Option (Option (NodeId × ℕ))) (typedefs : IndexSet ℕ S) (types : TypeMap) (u : Tables) (tokens : List Token) (given : AreGiven lists typedefs types u tokens)
+    (at next : ℕ) (place : at ≤ length tokens) (t : Token) (here : drop at tokens ≡ t ∷ drop next tokens) (plain : tag_word_of t.kind ≡ None) (closed : is_some (after is_close (drop next tokens)) ≡ true)
+    (behind : next ≤ length tokens) (depth : ℕ) (name spec : NodeId) → Is u is_declaration name → Is u is_specifier spec
+    → plain_of (contains nat_eq typedefs) t.line t.kind (drop next tokens) ≡ Some (tree_at u.forest spec, drop next tokens)
+    → tree_at u.forest name ≡ OfDeclaration (TypeName t.line (trees_of u.forest (spec ∷ [])) Absent)
+    → Answers u is_declaration tokens (Some (name, next)) (type_name (names_in typedefs types u tokens) depth (drop at tokens))
+word_again lists typedefs types u tokens given at next place t here plain closed behind depth name spec named specified word tree =
+    let a : Answers u is_specifier tokens (Some (spec, next)) (plain_of (contains nat_eq typedefs) t.line t.kind (drop next tokens)) = record { is = sym word; there = (specified, behind) } in
+    record {
+      is = piece_same (tree_at u.forest name) (OfDeclaration (TypeName t.line (trees_of u.forest (spec ∷ [])) Absent)) (drop next tokens) tree
+          ∙ word_some lists typedefs types u u tokens given (extends_same u) at next place t here plain closed (Some (spec, next)) a depth spec next refl;
+      there = (named, behind);
+    }
