@@ -28,6 +28,14 @@ impl Before {
             _ => Before::Other,
         }
     }
+
+    /// The same where so many braces are open: within braces it is not asked for, so that no token is looked at there.
+    fn behind(self, kind: TokenKind, braces: u32) -> Before {
+        if braces > 0 {
+            return Before::Other;
+        }
+        self.then(kind)
+    }
 }
 
 /// What is known of an external declaration behind its first tokens.
@@ -59,7 +67,7 @@ impl Scan {
         ensures inner { result ≡ false → is_semicolon kind ≡ true → 0 < self.old.braces }
     {
         let before = self.before;
-        self.before = before.then(kind);
+        self.before = before.behind(kind, self.braces);
         match kind {
             TokenKind::Mark(Mark::OpenBrace) => {
                 self.in_body = self.in_body
