@@ -73,7 +73,9 @@ pub fn unit(alloc: Global, t: &Tokens) -> Result<Unit, SynError>
     // Where it is refused, none do, and no more than so many spell the first tokens.
     ensures syntax { (whole : ℕ) → result ≡ Err (SynError.Syntax whole) → ((ds : List DeclarationTree) → SpellUnit t.now.tokens ds → ⊥) × IsWhole t.now.tokens whole }
 {
-    let mut unit = Unit::new(alloc);
+    // Few tokens come to more than one node.
+    let count = t.len() as usize;
+    let mut unit = Unit::with_room(alloc, 2 * count)?;
     // The typedef names are let go before an error is passed on.
     let read = read_all(alloc, t, &mut IndexSet::new(alloc), &mut unit);
     let end = read?;
