@@ -86,6 +86,27 @@ operand-led u ts old new h more same = λ b out es hs hl all q g.
       most = q;
     }
 
+-- a call is due in it, and its arguments are there
+does-called : (b : Setting) (u : Stored) (k f : ℕ) (es fs : List Started) (s s' : State) → left_of b (below b k).call u es s ≡ left_of b (below b k).call u fs s' → does b u k es doing.Evaluate s ≡ does b u k fs (doing.Call f) s'
+unfolding does
+does-called b u k f es fs s s' h = ap (λ (m : Res Given). then_do m (λ g s. Gives (Valued g.value) s)) h
+
+pub call-led : (u : Stored) (f : ℕ) (ts : List Task) (old new : Machine) → ContinuesFirst u old new → old.moment.taken < new.moment.taken → after_first new.started ≡ after_first old.started → AtOnceLed u doing.Evaluate (doing.Call f) ts old new
+call-led u f ts old new h more same = λ b out es hs hl all q g.
+    let s = state_of old.moment out es in
+    let s' = state_of new.moment out es in
+    let one : due_turns old.started ≤ 1 = one-most (is_due old.started) in
+    record {
+      works = g.works;
+      level = g.level;
+      same = g.same;
+      standing = subst (λ (xs : List Started). Standing g.works xs) (sym same) g.standing;
+      law = g.law ∙ ap (λ (m : Res Reached). then_do m (rest (after_work b u) g.works)) (does-called b u g.level f old.started new.started s s' (h b out es hs hl (below b g.level).call q));
+      rooms = All-weaker (λ w. b.bound < s.taken + w.level + due old.started doing.Evaluate) (λ w. b.bound < s'.taken + w.level + due new.started (doing.Call f)) (λ w lt. omega (arith, lt, one, more)) g.works g.rooms;
+      room = omega (arith, g.room, one, more);
+      most = q;
+    }
+
 -- an expression that has its value needs no call
 pub ended-goes : (es : List Started) → is_ended es ≡ true → is_going es ≡ true
 ended-goes [] h = absurd cc

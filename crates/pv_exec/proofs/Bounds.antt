@@ -138,6 +138,7 @@ HasStores b (doing.Round p) = Unit {0}
 HasStores b (doing.Body p) = Unit {0}
 HasStores b doing.Absent = Unit {0}
 HasStores b (doing.Left fl) = Unit {0}
+HasStores b (doing.Call f) = Unit {0}
 HasStores b doing.Evaluate = Unit {0}
 HasStores b doing.Evaluated = Unit {0}
 
@@ -157,6 +158,7 @@ does-out b u k es (doing.Body p) s e h le = absurd (omega (arith, e))
 does-out b u k es (doing.Store o i) s e h le = ap (λ (m : Res Worth). left (then_do m (λ v s. Gives Falls s))) (stores-out b (below b k).call o (drop i (object_at b.unit o).inits) s h le)
 does-out b u k es doing.Absent s e h le = ap left (no-tick b s _ le)
 does-out b u k es (doing.Left fl) s e h le = absurd (omega (arith, e))
+does-out b u k es (doing.Call f) s e h le = absurd (omega (arith, e))
 does-out b u k es doing.Evaluate s e h le = ap (λ (m : Res Given). then_do m (λ g s. Gives (Valued g.value) s)) (left-out b (below b k).call u es s e le)
 does-out b u k es doing.Evaluated s e h le = absurd (omega (arith, e))
 
@@ -174,6 +176,7 @@ has-stores b u es (doing.Round p) e h = tt
 has-stores b u es (doing.Body p) e h = tt
 has-stores b u es (doing.Left fl) e h = tt
 has-stores b u es doing.Absent e h = tt
+has-stores b u es (doing.Call f) e h = tt
 has-stores b u es doing.Evaluate e h = tt
 has-stores b u es doing.Evaluated e h = tt
 
@@ -205,6 +208,7 @@ does-asked b u k es (doing.Body p) s e h f lt most le = absurd (omega (arith, e)
 does-asked b u k es (doing.Store o i) s e h f lt most le = does-out b u k es (doing.Store o i) s refl h le
 does-asked b u k es doing.Absent s e h f lt most le = does-out b u k es doing.Absent s refl h le
 does-asked b u k es (doing.Left fl) s e h f lt most le = absurd (omega (arith, e))
+does-asked b u k es (doing.Call g) s e h f lt most le = absurd (omega (arith, e))
 does-asked b u k es doing.Evaluate s e h f lt most le = does-out b u k es doing.Evaluate s e h le
 does-asked b u k es doing.Evaluated s e h f lt most le = absurd (omega (arith, e))
 

@@ -1,6 +1,6 @@
 -- A call: its body runs one level lower, and its end answers.
 use Rattle.std.proofs.Common.{◌≡◌, ℕ, ◌+◌, ◌<◌, ◌≤◌, List, [], ◌∷◌, Some, None, zero, suc, refl, sym, ap, ◌∙◌, subst, arith, true}
-use Rattle.std.specs.Prelude.{Result, Err, length}
+use Rattle.std.specs.Prelude.{Result, Err, length, map}
 use Rattle.std.specs.declared.option.Option.{Option}
 use Rattle.pv_tree.specs.declared.nodes.NodeId.{NodeId}
 use Rattle.pv_typed.specs.TypedStatement.{TypedStatement}
@@ -10,6 +10,7 @@ use Rattle.pv_typed.specs.TypedUnits.{WholeUnit, function_at}
 use Rattle.pv_typed.specs.Tables.{Stored, whole}
 use Rattle.pv_typed.specs.NodeTrees.{statement_at}
 use Rattle.pv_world.specs.Worlds.{Worth, Nothing}
+use Rattle.pv_world.specs.Coming.{worth_of}
 use Rattle.pv_seq.specs.Sequencing.{Open, sequence_point}
 use Rattle.pv_seq.specs.Rivals.{top, below as opens_below}
 use Rattle.pv_eval.specs.declared.failure.Failure.{Failure}
@@ -23,9 +24,9 @@ use Rattle.pv_eval.specs.Steps.{Calling}
 use Rattle.pv_eval.specs.Operations.{BeginsBody, EndsBody, act}
 use Rattle.pv_eval.specs.Stack.{rest}
 use Rattle.pv_eval.specs.Frames.{after}
-use Rattle.pv_eval.specs.Ahead.{now_does, stack}
-use Rattle.pv_eval.specs.Machines.{Started, answered_of, left_of, after_first, asked_arguments, asked_line, value_at, is_value}
-use Rattle.pv_eval.specs.MachineSteps.{IsTaken, IsAnswered}
+use Rattle.pv_eval.specs.Ahead.{NowFits, ahead, now_does, stack}
+use Rattle.pv_eval.specs.Machines.{Started, answered_of, left_of, after_first, function_asked, arguments_at, line_at, asked_function, asked_arguments, asked_line, value_at, is_value, is_call_at, is_asked}
+use Rattle.pv_eval.specs.MachineSteps.{Fit, StartedFits, IsTaken, IsAnswered}
 use Rattle.pv_exec.specs.declared.task.Doing.{Doing}
 use Rattle.pv_exec.specs.declared.task.Task.TheVariants as task
 use Rattle.pv_exec.specs.declared.task.Doing.TheVariants as doing
@@ -34,6 +35,7 @@ use Rattle.pv_exec.specs.Flows.{Flow}
 use Rattle.pv_exec.specs.Blocks.{end_all}
 use Rattle.pv_exec.specs.Calls.{below, take_params, runs_body, value_by}
 use Rattle.pv_exec.specs.Tasks.{Valued, left, after_flow, after_task}
+use Rattle.pv_exec.specs.Fits.{DoingFits}
 use Rattle.pv_exec.specs.Works.{does, due}
 use Rattle.pv_exec.specs.Leading.{Leads, LeadsOr}
 use Rattle.pv_exec.specs.Called.{begun, BodyIs, calls}
@@ -164,3 +166,33 @@ call-made b u f line args old m mid out es r s2 is l a same h =
     (subst (λ (n : ℕ). Made (begun b n (function_at b.unit f) (asked_arguments old) (state_of mid out es)) r s2) l
     (subst (λ (vs : List Worth). Made (begun b line (function_at b.unit f) vs (state_of mid out es)) r s2) a
     (subst (λ (q : WholeUnit). Made (begun b line (function_at q f) args (state_of mid out es)) r s2) (sym is) h)))
+
+-- an expression that hands a call up: the call is what comes next
+at-asked : (b : Setting) (call : Calling) (u : Stored) (fs : List Frame) (js : List Open) (p : Now) (s : State) → is_call_at p ≡ true
+    → ahead b call u fs js p s ≡ then_do (call (function_asked p) (arguments_at p) (line_at p) s) (λ v s. then_do (done (sequence_point (top js)) v s) (rest (after b call u) (stack fs (opens_below js))))
+at-asked b call u fs js (now.Due n) s h = absurd cc
+at-asked b call u fs js (now.Value v) s h = absurd cc
+at-asked b call u fs js (now.Asked f args line) s h = sym (then-then (call f (map worth_of args.items) line s) (done (sequence_point (top js))) (rest (after b call u) (stack fs (opens_below js))))
+
+asked-calls : (b : Setting) (call : Calling) (u : Stored) (es : List Started) (s : State) → is_asked es ≡ true → left_of b call u es s ≡ then_do (call (asked_function es) (asked_arguments es) (asked_line es) s) (answered_of b call u es)
+asked-calls b call u [] s h = absurd cc
+asked-calls b call u (e ∷ es) s h = at-asked b call u e.frames e.opens e.place s h
+
+pub call-does : (b : Setting) (u : Stored) (k f : ℕ) (es : List Started) (s : State) → is_asked es ≡ true → asked_function es ≡ f → does b u k es (doing.Call f) s ≡ calls b u k f es s
+unfolding does
+call-does b u k f es s h e =
+    ap (λ (m : Res Given). then_do m (λ g s. Gives (Valued g.value) s))
+    (asked-calls b (below b k).call u es s h ∙ ap (λ (g : ℕ). then_do ((below b k).call g (asked_arguments es) (asked_line es) s) (answered_of b (below b k).call u es)) e)
+
+-- it names a function that is there
+pub call-fits : (u : Stored) (es : List Started) (f : ℕ) (d : Doing) → d ≡ doing.Call f → DoingFits u es d → (is_asked es ≡ true) × (asked_function es ≡ f) × (f < length u.functions)
+call-fits u es f d e h = subst (λ (z : Doing). DoingFits u es z) e h
+
+place-there : (u : Stored) (p : Now) (js : List Open) → is_call_at p ≡ true → NowFits u p js → function_asked p < length u.functions
+place-there u (now.Due n) js h k = absurd cc
+place-there u (now.Value v) js h k = absurd cc
+place-there u (now.Asked f args line) js h k = k
+
+pub asked-there : (u : Stored) (es : List Started) → is_asked es ≡ true → Fit u es → asked_function es < length u.functions
+asked-there u [] h k = absurd cc
+asked-there u (e ∷ es) h k = let fits : StartedFits u e = k.0 in place-there u e.place e.opens h fits.place

@@ -54,6 +54,7 @@ zero-ops es (doing.Body p) k e = absurd (omega (arith, e))
 zero-ops es (doing.Store o i) k e = refl
 zero-ops es doing.Absent k e = refl
 zero-ops es (doing.Left fl) k e = absurd (omega (arith, e))
+zero-ops es (doing.Call f) k e = absurd (omega (arith, e))
 zero-ops es doing.Evaluate k e = ap (λ n. if nat_eq n 0 then 4 * k + 4 else 0) e
 zero-ops es doing.Evaluated k e = absurd (omega (arith, e))
 
@@ -74,6 +75,7 @@ quick-ops es (way.Do (doing.Statements l i)) k h = omega (arith)
 quick-ops es (way.Do (doing.Store o i)) k h = omega (arith)
 quick-ops es (way.Do doing.Absent) k h = omega (arith)
 quick-ops es (way.Do (doing.Left fl)) k h = omega (arith)
+quick-ops es (way.Do (doing.Call f)) k h = omega (arith)
 quick-ops es (way.Do doing.Evaluate) k h = let x = evaluate-ops es k in omega (arith, x)
 quick-ops es (way.Do doing.Evaluated) k h = omega (arith)
 quick-ops es (way.With t d) k h = let x = zero-ops es d (k + 1) h in omega (arith, x)
@@ -89,6 +91,7 @@ ends-now-ops es (doing.Body p) k h = absurd h
 ends-now-ops es (doing.Store o i) k h = omega (arith)
 ends-now-ops es doing.Absent k h = omega (arith)
 ends-now-ops es (doing.Left fl) k h = omega (arith)
+ends-now-ops es (doing.Call f) k h = absurd h
 ends-now-ops es doing.Evaluate k h = let x = zero-ops es doing.Evaluate k h in omega (arith, x)
 ends-now-ops es doing.Evaluated k h = omega (arith)
 
@@ -108,6 +111,7 @@ within-ops es (way.With t (doing.Body p)) k h = absurd h
 within-ops es (way.With t (doing.Store o i)) k h = absurd h
 within-ops es (way.With t doing.Absent) k h = absurd h
 within-ops es (way.With t (doing.Left fl)) k h = absurd h
+within-ops es (way.With t (doing.Call f)) k h = absurd h
 within-ops es (way.With t doing.Evaluate) k h = absurd h
 within-ops es (way.With t doing.Evaluated) k h = absurd h
 
@@ -122,6 +126,7 @@ pace-ops old es (doing.Body p) w k g z h = ends-ops es w k h
 pace-ops old es (doing.Store o i) w k g z h = absurd (omega (arith, z))
 pace-ops old es doing.Absent w k g z h = absurd (omega (arith, z))
 pace-ops old es (doing.Left fl) w k g z h = absurd (cc)
+pace-ops old es (doing.Call f) w k g z h = ends-ops es w k h
 pace-ops old es doing.Evaluate w k g z h =
     let x = ends-ops es w k h in
     let y : doing_ops old doing.Evaluate k ≡ 4 * k + 4 = ap (λ n. if nat_eq n 0 then 4 * k + 4 else 0) z in
@@ -165,6 +170,7 @@ goes-by (doing.Round p) l e = refl
 goes-by (doing.Body p) l e = refl
 goes-by (doing.Store o i) l e = refl
 goes-by doing.Absent l e = refl
+goes-by (doing.Call f) l e = refl
 goes-by doing.Evaluate l e = refl
 goes-by (doing.Left fl) l e = absurd (l fl refl)
 goes-by doing.Evaluated l e = absurd (e refl)

@@ -155,5 +155,6 @@ module _ (b : Setting) (n : ℕ) (sides : Option (List Bool)) {R : Relation} (w 
   does-closed es (doing.Store o i) = reaching (w.seq (stores-way b n sides w k z z' alike o (drop i (object_at b.unit o).inits)) (λ v. w.gives Falls))
   does-closed es doing.Absent = reaching (w.less (w.ticks (w.gives Falls)))
   does-closed es (doing.Left fl) = w.gives (Left (flow_of fl))
+  does-closed es (doing.Call f) = w.seq (left-closed b n sides w k z.call z'.call alike.call (stop k) u es) (λ g. w.gives (Valued g.value))
   does-closed es doing.Evaluate = w.seq (left-closed b n sides w k z.call z'.call alike.call (stop k) u es) (λ g. w.gives (Valued g.value))
   does-closed es doing.Evaluated = w.gives (Valued (ended es))

@@ -36,6 +36,7 @@ ends-quick es (way.Do (doing.Body p)) e = tt
 ends-quick es (way.Do (doing.Store o i)) e = tt
 ends-quick es (way.Do doing.Absent) e = tt
 ends-quick es (way.Do (doing.Left fl)) e = tt
+ends-quick es (way.Do (doing.Call f)) e = tt
 ends-quick es (way.Do doing.Evaluate) e = tt
 ends-quick es (way.Do doing.Evaluated) e = tt
 ends-quick es (way.With t d) e = e

@@ -71,6 +71,7 @@ unasked-undue es (doing.Body p) e = refl
 unasked-undue es (doing.Store o i) e = absurd (omega (arith, e))
 unasked-undue es doing.Absent e = absurd (omega (arith, e))
 unasked-undue es (doing.Left fl) e = refl
+unasked-undue es (doing.Call f) e = refl
 unasked-undue es doing.Evaluate e = e
 unasked-undue es doing.Evaluated e = refl
 
@@ -85,6 +86,7 @@ due-asked es (doing.Body p) e = absurd (omega (arith, e))
 due-asked es (doing.Store o i) e = refl
 due-asked es doing.Absent e = refl
 due-asked es (doing.Left fl) e = absurd (omega (arith, e))
+due-asked es (doing.Call f) e = absurd (omega (arith, e))
 due-asked es doing.Evaluate e = e
 due-asked es doing.Evaluated e = absurd (omega (arith, e))
 

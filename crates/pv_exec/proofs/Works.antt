@@ -142,6 +142,7 @@ due-two b es (doing.Body p) s le h = omega (arith, le)
 due-two b es (doing.Store o i) s le h = let x = h refl in omega (arith, x)
 due-two b es doing.Absent s le h = let x = h refl in omega (arith, x)
 due-two b es (doing.Left fl) s le h = omega (arith, le)
+due-two b es (doing.Call f) s le h = omega (arith, le)
 due-two b es doing.Evaluate s le h = by-bool (is_due es) (λ e. h (ap (λ (q : Bool). if q then 1 else 0) e)) where
   by-bool : (q : Bool) → (q ≡ true → s.taken < b.bound) → s.taken + (if q then 1 else 0) ≤ b.bound
   by-bool true g = let x = g refl in omega (arith, x)

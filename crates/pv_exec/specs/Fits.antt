@@ -8,7 +8,7 @@ use Rattle.pv_typed.specs.TypedUnits.{object_at}
 use Rattle.pv_typed.specs.Tables.{Stored, whole}
 use Rattle.pv_typed.specs.NodeTrees.{IsStatement, statement_at}
 use Rattle.pv_eval.specs.declared.failure.Failure.{Failure}
-use Rattle.pv_eval.specs.Machines.{Started, is_going, is_ended}
+use Rattle.pv_eval.specs.Machines.{Started, is_going, is_asked, is_ended, asked_function}
 use Rattle.pv_exec.specs.declared.once.After.{After}
 use Rattle.pv_exec.specs.declared.once.After.TheVariants as after
 use Rattle.pv_exec.specs.declared.task.Task.{Task}
@@ -51,7 +51,7 @@ TaskFits u (task.Returning n) = IsStatement u n
 TaskFits u (task.Storing o i) = HasStore u o i
 TaskFits u (task.InCall f line) = f < length u.functions
 
--- what is done now names what is there (6.8), and an expression (6.8p4) that goes on or has ended is there
+-- what is done now names what is there (6.8), and an expression (6.8p4) that goes on, hands a call up (6.5.2.2) or has ended is there
 abbrev pub DoingFits : Stored → List Started → Doing → Type 0
 DoingFits u es (doing.Enter n) = IsStatement u n
 DoingFits u es (doing.Jump n l i) = IsScope u n × HasList u l
@@ -63,6 +63,7 @@ DoingFits u es (doing.Body p) = IsRound u p
 DoingFits u es (doing.Store o i) = HasStore u o i
 DoingFits u es doing.Absent = Unit {0}
 DoingFits u es (doing.Left fl) = Unit {0}
+DoingFits u es (doing.Call f) = (is_asked es ≡ true) × (asked_function es ≡ f) × (f < length u.functions)
 DoingFits u es doing.Evaluate = is_going es ≡ true
 DoingFits u es doing.Evaluated = is_ended es ≡ true
 

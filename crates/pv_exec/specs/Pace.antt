@@ -21,6 +21,7 @@ goes_on (doing.Round p) = true
 goes_on (doing.Body p) = true
 goes_on (doing.Store o i) = true
 goes_on doing.Absent = true
+goes_on (doing.Call f) = true
 goes_on doing.Evaluate = true
 goes_on (doing.Left fl) = false
 goes_on doing.Evaluated = false
@@ -37,6 +38,7 @@ doing_ops es (doing.Body p) k = 4 * k + 2
 doing_ops es (doing.Store o i) k = 0
 doing_ops es doing.Absent k = 0
 doing_ops es (doing.Left fl) k = 4 * k + 1
+doing_ops es (doing.Call f) k = 4 * k + 2
 doing_ops es doing.Evaluate k = if nat_eq (due_turns es) 0 then 4 * k + 4 else 0
 doing_ops es doing.Evaluated k = 4 * k + 1
 

@@ -20,6 +20,7 @@ Quick es (way.Do (doing.Body p)) = Unit {0}
 Quick es (way.Do (doing.Store o i)) = Unit {0}
 Quick es (way.Do doing.Absent) = Unit {0}
 Quick es (way.Do (doing.Left fl)) = Unit {0}
+Quick es (way.Do (doing.Call f)) = Unit {0}
 Quick es (way.Do doing.Evaluate) = Unit {0}
 Quick es (way.Do doing.Evaluated) = Unit {0}
 Quick es (way.With t d) = due es d ≡ 1
@@ -41,6 +42,7 @@ EndsNow es (doing.Body p) = ⊥
 EndsNow es (doing.Store o i) = Unit {0}
 EndsNow es doing.Absent = Unit {0}
 EndsNow es (doing.Left fl) = Unit {0}
+EndsNow es (doing.Call f) = ⊥
 EndsNow es doing.Evaluate = due_turns es ≡ 1
 EndsNow es doing.Evaluated = Unit {0}
 
@@ -69,6 +71,7 @@ WithinOr es (Err e) = Unit {0}
 abbrev pub PaceOr : (old : List Started) → Doing → List Started → Result Way Failure → Type 0
 PaceOr old (doing.Statements l i) es r = EndsOr es r
 PaceOr old (doing.Within n) es r = WithinOr es r
+PaceOr old (doing.Call f) es r = EndsOr es r
 PaceOr old doing.Evaluate es r = EndsOr es r
 PaceOr old (doing.Again x p) es r = EndsOr es r
 PaceOr old (doing.Round p) es r = EndsOr es r

@@ -41,6 +41,7 @@ does b u k es (doing.Body p) s = left (then_do (ex b (below b k) (loop_of (state
 does b u k es (doing.Store o i) s = left (then_do (store_all b (below b k).call o (drop i (object_at b.unit o).inits) s) (λ v s. Gives execution.Falls s))
 does b u k es doing.Absent s = left (tick b s (λ s. Gives execution.Falls s))
 does b u k es (doing.Left fl) s = Gives (Left (flow_of fl)) s
+does b u k es (doing.Call f) s = then_do (left_of b (below b k).call u es s) (λ g s. Gives (Valued g.value) s)
 does b u k es doing.Evaluate s = then_do (left_of b (below b k).call u es s) (λ g s. Gives (Valued g.value) s)
 does b u k es doing.Evaluated s = Gives (Valued (ended es)) s
 
@@ -56,6 +57,7 @@ due es (doing.Body p) = 0
 due es (doing.Store o i) = 1
 due es doing.Absent = 1
 due es (doing.Left fl) = 0
+due es (doing.Call f) = 0
 due es doing.Evaluate = due_turns es
 due es doing.Evaluated = 0
 
@@ -71,11 +73,13 @@ asked es (doing.Body p) = 0
 asked es (doing.Store o i) = 1
 asked es doing.Absent = 1
 asked es (doing.Left fl) = 0
+asked es (doing.Call f) = 0
 asked es doing.Evaluate = due_turns es
 asked es doing.Evaluated = 0
 
 -- 6.5.2.2: the expressions that wait for calls
 abbrev pub others : List Started → Doing → List Started
+others es (doing.Call f) = after_first es
 others es doing.Evaluate = after_first es
 others es doing.Evaluated = after_first es
 others es (doing.Enter n) = es

@@ -12,6 +12,7 @@ ghost use Rattle.pv_exec.specs.Fits.{TaskFits, TasksStand, DoingFits, WayFits, W
 ghost use Rattle.pv_exec.specs.Quickness.{PaceOr};
 ghost use Rattle.pv_eval.specs.Machines.{Started};
 
+use crate::calls::call;
 use crate::enter::enter;
 use crate::going::go_on;
 use crate::lists::{next_statement, within};
@@ -99,6 +100,7 @@ fn operate(unit: &TypedUnit, doing: Doing, machine: &mut Machine) -> Result<Way,
         Doing::Body(parts) => begin_body(unit, parts, machine),
         Doing::Store(o, i) => store(unit, o, i, machine),
         Doing::Absent => pass_body(unit, machine),
+        Doing::Call(f) => call(unit, f, machine),
         Doing::Evaluate => go_on(unit, machine),
         Doing::Left(flow) => Ok(Way::Do(Doing::Left(flow))),
         Doing::Evaluated => Ok(Way::Do(Doing::Evaluated)),

@@ -61,6 +61,8 @@ pub enum Doing {
     /// The body of a function that has none.
     Absent,
     Left(Flow),
+    /// The call of this function that the innermost expression hands up.
+    Call(u32),
     /// The innermost expression goes on, or has ended.
     Evaluate,
     Evaluated,

@@ -60,6 +60,7 @@ fn is_due(doing: &Doing, machine: &Machine) -> bool
         Doing::Round(_) => false,
         Doing::Body(_) => false,
         Doing::Left(_) => false,
+        Doing::Call(_) => false,
         Doing::Evaluated => false,
     }
 }
@@ -80,6 +81,7 @@ fn is_asked(doing: &Doing, machine: &Machine) -> bool
         Doing::Within(_) => false,
         Doing::Body(_) => false,
         Doing::Left(_) => false,
+        Doing::Call(_) => false,
         Doing::Evaluated => false,
     }
 }
@@ -155,7 +157,24 @@ fn next_of(after: Result<After, Failure>) -> Advanced
     }
 }
 
-// The operand that is due in the innermost expression at once.
+// The call that is due in the innermost expression, at once with its arguments (C17 6.5.2.2p10).
+fn call_at_once(unit: &TypedUnit, plan: &Plan, bound: u64, machine: &mut Machine) -> Option<Doing>
+    requires codes { AreCodes unit.now plan.now }
+    requires runnable { IsRunnable unit.now }
+    requires fit { Fit unit.now machine.old.started }
+    ensures some { IfSome result (λ e. ComesAtOnce unit.now bound Doing.Evaluate e machine.old machine.new) }
+    ensures none { IfNone result (machine.new ≡ machine.old) }
+    ensures fit { Fit unit.now machine.new.started }
+    ensures setting { KeepsSetting machine.old.moment machine.new.moment }
+{
+    if machine.call(unit, plan, bound) {
+        Some(Doing::Call(machine.callee()))
+    } else {
+        None
+    }
+}
+
+// The operand that is due in the innermost expression at once, or the call that is due, with its arguments.
 fn operand_at_once(
     unit: &TypedUnit,
     plan: &Plan,
@@ -173,11 +192,11 @@ fn operand_at_once(
     if machine.operand(unit, plan, bound) {
         Some(Doing::Evaluate)
     } else {
-        None
+        call_at_once(unit, plan, bound, machine)
     }
 }
 
-// The whole of the innermost expression at once, where it was just begun, or the operand that is due.
+// The whole of the innermost expression at once, where it was just begun, or the operand or the call that is due.
 fn expression_at_once(
     unit: &TypedUnit,
     plan: &Plan,
@@ -511,8 +530,8 @@ fn turn_on(
 }
 
 /// The turn that is due, unless the bound is met, and the operations that come before the next one; or all the turns at once of
-/// an expression that is due, of an expression statement, of the condition of an `if` or of a `return`, of the last expression or the
-/// condition of a loop, where nothing stops it, or that of a block without objects.
+/// an expression that is due, of a call that is due and its arguments, of an expression statement, of the condition of an `if` or of a
+/// `return`, of the last expression or the condition of a loop, where nothing stops it, or that of a block without objects.
 pub fn advance(
     unit: &TypedUnit,
     plan: &Plan,

@@ -1,11 +1,16 @@
-use Rattle.std.proofs.Common.{refl, arith}
+use Rattle.std.proofs.Common.{refl, sym, subst, arith}
+use Rattle.pv_eval.specs.States.{Res}
 use Rattle.pv_eval.specs.Moments.{state_of}
+use Rattle.pv_eval.specs.Machines.{after_first}
 use Rattle.pv_exec.specs.declared.task.Doing.TheVariants as doing
 use Rattle.std.proofs.Common.{Ok}
 use Rattle.pv_exec.specs.declared.task.Way.TheVariants as way
+use Rattle.pv_exec.specs.Tasks.{Reached}
 use Rattle.pv_exec.specs.Works.{does}
+use Rattle.pv_exec.specs.Leading.{LeadsOr}
 use Rattle.pv_exec.proofs.ByTask.{doing-doing}
 use Rattle.pv_exec.proofs.Leaving.{left-again, value-again}
+use Rattle.pv_exec.proofs.Calling.{call-does, call-fits}
 use Rattle.pv_exec.proofs.Enters.{at-world}
 use Rattle.pv_exec.proofs.Loops.{again-does, round-does}
 use Rattle.pv_exec.proofs.Rounding.{again-fits, round-fits, body-fits}
@@ -59,6 +64,23 @@ returns-in-Store-clause-led c = doing-doing c.args.unit.now c.args.doing (doing.
 
 pub returns-in-Absent-clause-led : goal.returns-in-Absent-clause-led
 returns-in-Absent-clause-led c = doing-doing c.args.unit.now c.args.doing doing.Absent c.pass_body.result c.args.machine.now c.pass_body.new.machine c.in-Absent.is c.pass_body.ensures.led
+
+pub call-requires-clause-asked : goal.call-requires-clause-asked
+call-requires-clause-asked c = (call-fits c.args.unit.now c.args.machine.now.started c.in-Call.f c.args.doing c.in-Call.is c.requires.fits).0
+
+pub call-requires-clause-there : goal.call-requires-clause-there
+call-requires-clause-there c = (call-fits c.args.unit.now c.args.machine.now.started c.in-Call.f c.args.doing c.in-Call.is c.requires.fits).2
+
+pub returns-in-Call-clause-led : goal.returns-in-Call-clause-led
+returns-in-Call-clause-led c = doing-doing c.args.unit.now c.args.doing (doing.Call c.in-Call.f) c.call.result c.args.machine.now c.call.new.machine c.in-Call.is (λ b out es hs hl k le tu lt.
+    let u = c.args.unit.now in
+    let f = c.in-Call.f in
+    let old = c.args.machine.now in
+    let new = c.call.new.machine in
+    let s = state_of old.moment out es in
+    let fits = call-fits u old.started f c.args.doing c.in-Call.is c.requires.fits in
+    subst (λ (m : Res Reached). LeadsOr b u m (after_first old.started) c.call.result new.started (state_of new.moment out es)) (sym (call-does b u k f old.started s fits.0 fits.1))
+    (c.call.ensures.led b out es hs hl k le (omega (arith, lt))))
 
 pub returns-in-Evaluate-clause-led : goal.returns-in-Evaluate-clause-led
 returns-in-Evaluate-clause-led c = doing-doing c.args.unit.now c.args.doing doing.Evaluate c.go_on.result c.args.machine.now c.go_on.new.machine c.in-Evaluate.is c.go_on.ensures.led
