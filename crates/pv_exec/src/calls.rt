@@ -118,7 +118,10 @@ pub fn call(unit: &TypedUnit, f: u32, machine: &mut Machine) -> Result<Way, Fail
     let line = machine.line();
     match machine.arguments() {
         Ok(arguments) => match begin_function(unit, f, line, arguments.as_slice(), machine) {
-            Ok(()) => Ok(Way::With(Task::InCall(f, line), body_of(unit, f))),
+            Ok(()) => {
+                machine.give_back(arguments);
+                Ok(Way::With(Task::InCall(f, line), body_of(unit, f)))
+            }
             Err(e) => Err(e),
         },
         Err(e) => Err(e),
