@@ -1,6 +1,6 @@
 -- How the statements of a run begin and end.
 use Rattle.std.proofs.Common.{◌≡◌, ℕ, ◌+◌, ◌<◌, List, [], ◌∷◌, ◌++◌, append-nil, Some, None, refl, sym, ap, ◌∙◌, subst, arith, true, false}
-use Rattle.std.specs.Prelude.{Bool, Err, length, suc, if◌then◌else◌, is_some, IsTrue}
+use Rattle.std.specs.Prelude.{Bool, Result, Err, length, suc, if◌then◌else◌, is_some, IsTrue}
 use Rattle.std.specs.Option.{option_map}
 use Rattle.std.proofs.lemmas.List.{length-map}
 use Rattle.std.specs.declared.option.Option.{Option}
@@ -18,6 +18,8 @@ use Rattle.pv_eval.specs.Moments.{Moment, state_of, Made}
 use Rattle.pv_exec.specs.declared.task.Flow.{Flow}
 use Rattle.pv_exec.specs.declared.task.Doing.{Doing}
 use Rattle.pv_exec.specs.declared.running.Ended.{Ended}
+use Rattle.pv_exec.specs.declared.running.Broken.{Broken}
+use Rattle.pv_exec.specs.declared.running.Broken.TheVariants as broken
 use Rattle.pv_exec.specs.Flows as execution
 use Rattle.pv_exec.specs.Blocks.{end_all}
 use Rattle.pv_exec.specs.Calls.{below, take_params, runs_body, call_body, value_by}
@@ -27,7 +29,7 @@ use Rattle.pv_exec.specs.Run.{call_main}
 use Rattle.pv_exec.specs.Tasks.{Reached, Left, Valued, left}
 use Rattle.pv_exec.specs.Works.{flow_of, does, Holds}
 use Rattle.pv_exec.specs.Fits.{Runs}
-use Rattle.pv_exec.specs.Running.{EndedIs, ends_call, ended_by, main_called, whole_run}
+use Rattle.pv_exec.specs.Running.{EndedIs, ends_call, main_called, whole_run}
 use Rattle.pv_exec.specs.Streaming.{Begins}
 use Rattle.pv_exec.proofs.Growing.{Growing, grew-refl, seq-grows, acted-grows}
 use Rattle.pv_exec.proofs.Adding.{main-grows, run-grows, ends-grow}
@@ -57,11 +59,11 @@ then-gives : {A : Type 0} (m : Res A) → m ≡ then_do m (λ a s. Gives a s)
 then-gives (Gives a s) = refl
 then-gives (Stops y s) = refl
 
-pub ended-is : (q r : Res Worth) (x : Ended) (m : Moment) (out : List ℕ) (es : List Marked) → r ≡ q → EndedIs q x m out es → EndedIs r x m out es
+pub ended-is : (q r : Res Worth) (x : Result Ended Broken) (m : Moment) (out : List ℕ) (es : List Marked) → r ≡ q → EndedIs q x m out es → EndedIs r x m out es
 ended-is q r x m out es e h = subst (λ (z : Res Worth). EndedIs z x m out es) (sym e) h
 
 -- where nothing has left the run
-pub ended-nothing : (r : Res Worth) (x : Ended) (m : Moment) (out : List ℕ) (es : List Marked) → EndedIs r x m out es → EndedIs r x m (out ++ []) (es ++ [])
+pub ended-nothing : (r : Res Worth) (x : Result Ended Broken) (m : Moment) (out : List ℕ) (es : List Marked) → EndedIs r x m out es → EndedIs r x m (out ++ []) (es ++ [])
 ended-nothing r x m out es h =
     subst (λ (o : List ℕ). EndedIs r x m o (es ++ [])) (sym (append-nil out)) (subst (λ (e : List Marked). EndedIs r x m out e) (sym (append-nil es)) h)
 
@@ -126,7 +128,7 @@ main-begins b u f line s s1 is l h =
     let F = function_at b.unit f in
     main-split b f F.line s ∙ ap (λ (r : Res Worth). then_do r (λ x s. then_do (runs_body b (below b b.bound) F.body s) (left_by b f F.line))) (begun-here b u f line s is l ∙ h)
 
-pub main-not-begun : (b : Setting) (u : Stored) (f line : ℕ) (m m1 : Moment) (out : List ℕ) (es : List Marked) (e : Failure) → b.unit ≡ whole u → line ≡ (function_at b.unit f).line → Made (begun b line (function_at (whole u) f) [] (state_of m out es)) (Err e) (state_of m1 out es) → EndedIs (main_called f b (state_of m out es)) (ended_by e) m1 out es
+pub main-not-begun : (b : Setting) (u : Stored) (f line : ℕ) (m m1 : Moment) (out : List ℕ) (es : List Marked) (e : Failure) → b.unit ≡ whole u → line ≡ (function_at b.unit f).line → Made (begun b line (function_at (whole u) f) [] (state_of m out es)) (Err e) (state_of m1 out es) → EndedIs (main_called f b (state_of m out es)) (Err (broken.Operation e)) m1 out es
 main-not-begun b u f line m m1 out es failure.NoMemory is l h = begins-all out es m (end_of (main_called f b (state_of m out es))) (main-grows b f (state_of m out es))
 main-not-begun b u f line m m1 out es (failure.Stop y n) is l h =
     let F = function_at b.unit f in
@@ -170,6 +172,6 @@ pub unit-ends : (b : Setting) (f : ℕ) (s s1 : State) → prepare b s ≡ Gives
 unit-ends b f s s1 h e =
     ap (λ (r : Res Worth). then_do r (λ v s. call_main b (main_of b.unit) s)) h ∙ ap (λ (o : Option ℕ). call_main b o s1) e
 
-pub unit-stops : (b : Setting) (e : Failure) (m m1 : Moment) (out : List ℕ) (es : List Marked) → Made (prepare b (state_of m out es)) (Err e) (state_of m1 out es) → EndedIs (whole_run b (state_of m out es)) (ended_by e) m1 out es
+pub unit-stops : (b : Setting) (e : Failure) (m m1 : Moment) (out : List ℕ) (es : List Marked) → Made (prepare b (state_of m out es)) (Err e) (state_of m1 out es) → EndedIs (whole_run b (state_of m out es)) (Err (broken.Operation e)) m1 out es
 unit-stops b (failure.Stop y line) m m1 out es h = ap (λ (r : Res Worth). then_do r (λ v s. call_main b (main_of b.unit) s)) h
 unit-stops b failure.NoMemory m m1 out es h = begins-all out es m (end_of (whole_run b (state_of m out es))) (run-grows b (state_of m out es))

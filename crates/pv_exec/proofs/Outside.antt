@@ -19,6 +19,9 @@ use Rattle.pv_eval.specs.Machines.{Machine, first_machine}
 use Rattle.pv_exec.specs.declared.outcome.Outcome.{Outcome}
 use Rattle.pv_exec.specs.declared.running.Ended.{Ended}
 use Rattle.pv_exec.specs.declared.running.Ended.TheVariants as ended
+use Rattle.pv_exec.specs.declared.running.Broken.{Broken}
+use Rattle.pv_exec.specs.declared.running.Broken.TheVariants as broken
+use Rattle.pv_eval.specs.declared.failure.Failure.TheVariants as failure
 use Rattle.pv_exec.specs.Run.{setting_of, run_of, outcome_of, sides_at}
 use Rattle.pv_exec.specs.declared.delivering.Undelivered.TheVariants as undelivered
 use Rattle.pv_exec.specs.declared.program.RunError.TheVariants as error
@@ -136,13 +139,14 @@ pub record Over (r : Res Worth) (o : Outcome) (s : State) : Type 0 where
   pub outcome : outcome_of r ≡ Some o
   pub end : end_of r ≡ s
 
-pub over : (r : Res Worth) (x : Ended) (o : Outcome) (m : Moment) (out : List ℕ) (es : List Marked) → outcome_by x ≡ Some o → EndedIs r x m out es → Over r o (state_of m out es)
-over r (ended.Value v) o m out es e h = record { outcome = ap outcome_of h ∙ e; end = ap end_of h }
-over r ended.Turns o m out es e h = record { outcome = ap outcome_of h ∙ e; end = ap end_of h }
-over r (ended.Stop y line) o m out es e h = record { outcome = ap outcome_of h ∙ e; end = ap end_of h }
-over r (ended.Failed y) o m out es e h = absurd (cc)
+pub over : (r : Res Worth) (x : Result Ended Broken) (o : Outcome) (m : Moment) (out : List ℕ) (es : List Marked) → outcome_by x ≡ Some o → EndedIs r x m out es → Over r o (state_of m out es)
+over r (Ok (ended.Value v)) o m out es e h = record { outcome = ap outcome_of h ∙ e; end = ap end_of h }
+over r (Ok ended.Turns) o m out es e h = record { outcome = ap outcome_of h ∙ e; end = ap end_of h }
+over r (Err (broken.Operation (failure.Stop y line))) o m out es e h = record { outcome = ap outcome_of h ∙ e; end = ap end_of h }
+over r (Err (broken.Operation failure.NoMemory)) o m out es e h = absurd (cc)
+over r (Err (broken.Delivery y)) o m out es e h = absurd (cc)
 
-pub run-over : {o o' : Outlet} (u : Stored) (n : ℕ) (sides : Option (List Bool)) (zap : Bool) (script : List ScriptLine) (old new : Machine) (x : Ended) → old ≡ first_machine script sides zap → (led : PieceLed u o o' n whole_run x old new) → EndedIs (run_of (setting_of u n sides zap) script) x new.moment led.bytes led.events
+pub run-over : {o o' : Outlet} (u : Stored) (n : ℕ) (sides : Option (List Bool)) (zap : Bool) (script : List ScriptLine) (old new : Machine) (x : Result Ended Broken) → old ≡ first_machine script sides zap → (led : PieceLed u o o' n whole_run x old new) → EndedIs (run_of (setting_of u n sides zap) script) x new.moment led.bytes led.events
 unfolding run_of
 run-over u n sides zap script old new x is led =
     let b = setting_of u n sides zap in
@@ -151,11 +155,11 @@ run-over u n sides zap script old new x is led =
     subst (λ (s : State). EndedIs (whole_run b s) x new.moment led.bytes led.events) (ap (λ (m : Machine). state_of m.moment [] []) is) (led.led b [] [] set follows refl)
 
 -- a run with an outcome was not lost
-pub streams-over : (x : Ended) (o : Outcome) (a b : Outlet) (names : List (List ℕ)) (out : List ℕ) (es : List Marked) → outcome_by x ≡ Some o → Streams (failed x) a b names out es → Streams None a b names out es
-streams-over (ended.Value v) o a b names out es e h = h
-streams-over ended.Turns o a b names out es e h = h
-streams-over (ended.Stop y line) o a b names out es e h = h
-streams-over (ended.Failed y) o a b names out es e h = absurd (cc)
+pub streams-over : (x : Result Ended Broken) (o : Outcome) (a b : Outlet) (names : List (List ℕ)) (out : List ℕ) (es : List Marked) → outcome_by x ≡ Some o → Streams (failed x) a b names out es → Streams None a b names out es
+streams-over (Ok x) o a b names out es e h = h
+streams-over (Err (broken.Operation (failure.Stop y line))) o a b names out es e h = h
+streams-over (Err (broken.Operation failure.NoMemory)) o a b names out es e h = absurd (cc)
+streams-over (Err (broken.Delivery y)) o a b names out es e h = absurd (cc)
 
 -- what is answered of it
 pub ran-as : (R : Res Worth) (o : Outcome) (m : Moment) (out : List ℕ) (es : List Marked) (r : Result Ran RunError) → Over R o (state_of m out es) → IfOk r (RanAt o m) → IfOk r (RanAs R)
@@ -222,24 +226,24 @@ begins-at R m out es e = record {
   events = sym (ap (λ (s : State). s.events) e);
 }
 
-abbrev lost : Ended → Result Ran RunError
+abbrev lost : Result Ended Broken → Result Ran RunError
 lost x = Err (error_by x)
 
-lost-begins : (R : Res Worth) (x : Ended) (m : Moment) (out : List ℕ) (es : List Marked) → EndedIs R x m out es → Begins out es (end_of R)
-lost-begins R (ended.Value v) m out es h = begins-at R m out es (ap end_of h)
-lost-begins R ended.Turns m out es h = begins-at R m out es (ap end_of h)
-lost-begins R (ended.Stop y line) m out es h = begins-at R m out es (ap end_of h)
-lost-begins R (ended.Failed e) m out es h = h
+lost-begins : (R : Res Worth) (x : Result Ended Broken) (m : Moment) (out : List ℕ) (es : List Marked) → EndedIs R x m out es → Begins out es (end_of R)
+lost-begins R (Ok (ended.Value v)) m out es h = begins-at R m out es (ap end_of h)
+lost-begins R (Ok ended.Turns) m out es h = begins-at R m out es (ap end_of h)
+lost-begins R (Err (broken.Operation (failure.Stop y line))) m out es h = begins-at R m out es (ap end_of h)
+lost-begins R (Err (broken.Operation failure.NoMemory)) m out es h = h
+lost-begins R (Err (broken.Delivery e)) m out es h = h
 
-pub lost-part : (R : Res Worth) (x : Ended) (m : Moment) (out : List ℕ) (es : List Marked) (names : List (List ℕ)) (a b : Outlet) → EndedIs R x m out es → Streams (failed x) a b names out es → GainsPrefix a.sink b.sink (end_of R).output
+pub lost-part : (R : Res Worth) (x : Result Ended Broken) (m : Moment) (out : List ℕ) (es : List Marked) (names : List (List ℕ)) (a b : Outlet) → EndedIs R x m out es → Streams (failed x) a b names out es → GainsPrefix a.sink b.sink (end_of R).output
 lost-part R x m out es names a b h k = let q = lost-begins R x m out es h in record { part = out; rest = q.unwritten; whole = q.output; gains = k.gains }
 
-lost-told-by : (R : Res Worth) (x : Ended) (out : List ℕ) (es : List Marked) (names : List (List ℕ)) (a b : Outlet) → Begins out es (end_of R) → Streams (failed x) a b names out es → ToldOr (lost x) a b (end_of R) names
-lost-told-by R (ended.Value v) out es names a b q k = tt
-lost-told-by R ended.Turns out es names a b q k = tt
-lost-told-by R (ended.Stop y line) out es names a b q k = tt
-lost-told-by R (ended.Failed undelivered.NoMemory) out es names a b q k = tt
-lost-told-by R (ended.Failed undelivered.WriteFault) out es names a b q k = record {
+lost-told-by : (R : Res Worth) (x : Result Ended Broken) (out : List ℕ) (es : List Marked) (names : List (List ℕ)) (a b : Outlet) → Begins out es (end_of R) → Streams (failed x) a b names out es → ToldOr (lost x) a b (end_of R) names
+lost-told-by R (Ok x) out es names a b q k = tt
+lost-told-by R (Err (broken.Operation e)) out es names a b q k = tt
+lost-told-by R (Err (broken.Delivery undelivered.NoMemory)) out es names a b q k = tt
+lost-told-by R (Err (broken.Delivery undelivered.WriteFault)) out es names a b q k = record {
   written = out;
   unwritten = q.unwritten;
   output = q.output;
@@ -252,7 +256,7 @@ lost-told-by R (ended.Failed undelivered.WriteFault) out es names a b q k = reco
   words = k.words;
 }
 
-pub lost-told : (R : Res Worth) (x : Ended) (m : Moment) (out : List ℕ) (es : List Marked) (names : List (List ℕ)) (a b : Outlet) → EndedIs R x m out es → Streams (failed x) a b names out es → ToldOr (lost x) a b (end_of R) names
+pub lost-told : (R : Res Worth) (x : Result Ended Broken) (m : Moment) (out : List ℕ) (es : List Marked) (names : List (List ℕ)) (a b : Outlet) → EndedIs R x m out es → Streams (failed x) a b names out es → ToldOr (lost x) a b (end_of R) names
 lost-told R x m out es names a b h k = lost-told-by R x out es names a b (lost-begins R x m out es h) k
 
 -- the stages of the run
@@ -271,7 +275,7 @@ staged-run u n sides zap script old is = record {
   behind = behind-stage u sides zap script;
 }
 
-pub run-stands : {o o' : Outlet} (u : Stored) (n : ℕ) (sides : Option (List Bool)) (zap : Bool) (script : List ScriptLine) (old new : Machine) (x : Ended) → old ≡ first_machine script sides zap → (led : PieceLed u o o' n whole_run x old new) → StandsOr (failed x) (stage_of u sides zap script) new.moment.taken led.bytes led.events
+pub run-stands : {o o' : Outlet} (u : Stored) (n : ℕ) (sides : Option (List Bool)) (zap : Bool) (script : List ScriptLine) (old new : Machine) (x : Result Ended Broken) → old ≡ first_machine script sides zap → (led : PieceLed u o o' n whole_run x old new) → StandsOr (failed x) (stage_of u sides zap script) new.moment.taken led.bytes led.events
 run-stands u n sides zap script old new x is led =
     let b = setting_of u n sides zap in
     let set : IsSetting b u old.moment = record { unit = refl; types = refl; sides = sym (ap (λ (m : Machine). m.moment.sides) is) } in
@@ -279,11 +283,11 @@ run-stands u n sides zap script old new x is led =
     led.stands b (stage_of u sides zap script) set follows (staged-run u n sides zap script old is)
 
 -- a run with an outcome took all its turns
-pub stands-over : (x : Ended) (o : Outcome) (stage : ℕ → State) (k : ℕ) (out : List ℕ) (es : List Marked) → outcome_by x ≡ Some o → StandsOr (failed x) stage k out es → StandsLast stage k out es
-stands-over (ended.Value v) o stage k out es e h = h
-stands-over ended.Turns o stage k out es e h = h
-stands-over (ended.Stop y line) o stage k out es e h = h
-stands-over (ended.Failed y) o stage k out es e h = absurd (cc)
+pub stands-over : (x : Result Ended Broken) (o : Outcome) (stage : ℕ → State) (k : ℕ) (out : List ℕ) (es : List Marked) → outcome_by x ≡ Some o → StandsOr (failed x) stage k out es → StandsLast stage k out es
+stands-over (Ok x) o stage k out es e h = h
+stands-over (Err (broken.Operation (failure.Stop y line))) o stage k out es e h = h
+stands-over (Err (broken.Operation failure.NoMemory)) o stage k out es e h = absurd (cc)
+stands-over (Err (broken.Delivery y)) o stage k out es e h = absurd (cc)
 
 -- how far it was let out where what was left could not be written
 pub streamed-end : (R : Res Worth) (o : Outcome) (m : Moment) (out : List ℕ) (es : List Marked) (names : List (List ℕ)) (r : Result Ran RunError) (stage : ℕ → State) (a b c : Outlet) → Over R o (state_of m out es) → StandsLast stage m.taken out es → Streams None a b names out es → OnErr r (GainsPrefix b.sink c.sink m.printed) → RestTold r b.hall c.hall (map event_of m.waiting) names → StreamedOr r a c stage (end_of R).taken names
@@ -298,12 +302,11 @@ streamed-end R o m out es names (Err error.WriteFault) stage a b c v s h p k = r
 streamed-end R o m out es names (Err error.NoMemory) stage a b c v s h p k = tt
 
 -- where it went no further
-pub streamed-lost : (R : Res Worth) (x : Ended) (k : ℕ) (out : List ℕ) (es : List Marked) (names : List (List ℕ)) (stage : ℕ → State) (a b : Outlet) → StandsOr (failed x) stage k out es → Streams (failed x) a b names out es → StreamedOr (lost x) a b stage (end_of R).taken names
-streamed-lost R (ended.Value v) k out es names stage a b s h = tt
-streamed-lost R ended.Turns k out es names stage a b s h = tt
-streamed-lost R (ended.Stop y line) k out es names stage a b s h = tt
-streamed-lost R (ended.Failed undelivered.NoMemory) k out es names stage a b s h = tt
-streamed-lost R (ended.Failed undelivered.WriteFault) k out es names stage a b s h = record { written = out; gains = h.gains; events = es; told = h.told; let_out = s (end_of R).taken }
+pub streamed-lost : (R : Res Worth) (x : Result Ended Broken) (k : ℕ) (out : List ℕ) (es : List Marked) (names : List (List ℕ)) (stage : ℕ → State) (a b : Outlet) → StandsOr (failed x) stage k out es → Streams (failed x) a b names out es → StreamedOr (lost x) a b stage (end_of R).taken names
+streamed-lost R (Ok x) k out es names stage a b s h = tt
+streamed-lost R (Err (broken.Operation e)) k out es names stage a b s h = tt
+streamed-lost R (Err (broken.Delivery undelivered.NoMemory)) k out es names stage a b s h = tt
+streamed-lost R (Err (broken.Delivery undelivered.WriteFault)) k out es names stage a b s h = record { written = out; gains = h.gains; events = es; told = h.told; let_out = s (end_of R).taken }
 
 -- the numbers of all its events
 pub words-end : (R : Res Worth) (o : Outcome) (m : Moment) (out : List ℕ) (es : List Marked) (r : Result Ran RunError) → Over R o (state_of m out es) → Each FitsWords es → OnOk r (Each FitsWords m.waiting) → OnOk r (Each FitsWords (end_of R).events)

@@ -16,8 +16,11 @@ use Rattle.pv_eval.specs.States.{Setting, State, Res, end_of}
 use Rattle.pv_eval.specs.Moments.{Moment, IsSetting, Follows, Always, state_of}
 use Rattle.pv_eval.specs.Machines.{Machine, Started}
 use Rattle.pv_eval.specs.MachineSteps.{Fit, KeepsSetting}
+use Rattle.pv_eval.specs.declared.failure.Failure.{Failure}
+use Rattle.pv_eval.specs.declared.failure.Failure.TheVariants as failure
 use Rattle.pv_exec.specs.declared.delivering.Undelivered.{Undelivered}
 use Rattle.pv_exec.specs.declared.delivering.Undelivered.TheVariants as undelivered
+use Rattle.pv_exec.specs.declared.running.Broken.TheVariants as broken
 use Rattle.pv_exec.specs.declared.turning.Last.{Last}
 use Rattle.pv_exec.specs.declared.turning.Advanced.TheVariants as advance
 use Rattle.pv_exec.specs.declared.task.Task.{Task}
@@ -249,7 +252,7 @@ stages-cut u n w k d0 d ts old m m' h cut b stage hs hl st j low high =
     (λ all g. cut c h.bytes h.events (setting-apart c u h.bytes old.moment m.moment h.keeps hc) (total-apart [] h.bytes old.moment m.moment h.keeps hl) all low high (h.held c [] [] hc hl all low g))
 
 -- turns of the run
-pub streaming-on : {o o' : Outlet} (u : Stored) (n w : ℕ) (d0 d e : Doing) (ts ts' : List Task) (old m m' : Machine) → Streaming u o o' n w (suc m.moment.taken) d0 d ts old m → AdvancedLed u n d (advance.On e) ts ts' m m' → CutBefore u d ts m m' → KeepsSetting m.moment m'.moment → m.moment.taken < m'.moment.taken → m'.moment.taken ≤ n → Streaming u o o' n w m'.moment.taken d0 e ts' old m'
+pub streaming-on : {o o' : Outlet} (u : Stored) (n w : ℕ) (d0 d e : Doing) (ts ts' : List Task) (old m m' : Machine) → Streaming u o o' n w (suc m.moment.taken) d0 d ts old m → AdvancedLed u n d (Ok (advance.On e)) ts ts' m m' → CutBefore u d ts m m' → KeepsSetting m.moment m'.moment → m.moment.taken < m'.moment.taken → m'.moment.taken ≤ n → Streaming u o o' n w m'.moment.taken d0 e ts' old m'
 streaming-on u n w d0 d e ts ts' old m m' h led cut k more le =
     record {
       bytes = h.bytes;
@@ -324,7 +327,7 @@ pub asked-delivered : {o o' : Outlet} {names : List (List ℕ)} {w w' : ℕ} (d 
 asked-delivered d m m' k h = ap (λ (q : Machine). asked q.started d) k.same ∙ h
 
 -- how the statements ended
-pub led-last : {o o' : Outlet} (u : Stored) (n w : ℕ) (d0 d : Doing) (l : Last) (ts ts' : List Task) (old m m' : Machine) → Streaming u o o' n w (suc m.moment.taken) d0 d ts old m → AdvancedLed u n d (advance.Last l) ts ts' m m' → CutBefore u d ts m m' → KeepsSetting m.moment m'.moment → StatementsLed u o o' n d0 (Ok l) old m'
+pub led-last : {o o' : Outlet} (u : Stored) (n w : ℕ) (d0 d : Doing) (l : Last) (ts ts' : List Task) (old m m' : Machine) → Streaming u o o' n w (suc m.moment.taken) d0 d ts old m → AdvancedLed u n d (Ok (advance.Last l)) ts ts' m m' → CutBefore u d ts m m' → KeepsSetting m.moment m'.moment → StatementsLed u o o' n d0 (Ok l) old m'
 led-last u n w d0 d l ts ts' old m m' h led cut k = record {
   bytes = h.bytes;
   events = h.events;
@@ -335,9 +338,18 @@ led-last u n w d0 d l ts ts' old m m' h led cut k = record {
       stands-last stage m.moment.taken m'.moment.taken h.bytes h.events m.moment _ refl (stages-cut u n w (suc m.moment.taken) d0 d ts old m m' h cut b stage hs hl st) (h.stands b stage hs hl st);
 }
 
--- where memory ran out
-pub led-lost : {o o' : Outlet} (u : Stored) (n w k : ℕ) (d0 d : Doing) (ts : List Task) (old m m' : Machine) → Streaming u o o' n w k d0 d ts old m → StatementsLed u o o' n d0 (Err undelivered.NoMemory) old m'
-led-lost u n w k d0 d ts old m m' h = record {
+-- where an operation ended the run, or memory ran out
+pub led-broken : {o o' : Outlet} (u : Stored) (n w : ℕ) (d0 d : Doing) (e : Failure) (ts ts' : List Task) (old m m' : Machine) → Streaming u o o' n w (suc m.moment.taken) d0 d ts old m → AdvancedLed u n d (Err e) ts ts' m m' → CutBefore u d ts m m' → StatementsLed u o o' n d0 (Err (broken.Operation e)) old m'
+led-broken u n w d0 d (failure.Stop y line) ts ts' old m m' h led cut = record {
+  bytes = h.bytes;
+  events = h.events;
+  streams = h.streams;
+  keeps = tt;
+  led = λ b out es hs hl all q g. led b (out ++ h.bytes) (es ++ h.events) (setting-apart b u h.bytes old.moment m.moment h.keeps hs) (total-apart out h.bytes old.moment m.moment h.keeps hl) all q (h.held b out es hs hl all (omega (arith, q, h.within)) g);
+  stands = λ b stage hs hl st.
+      stands-last stage m.moment.taken m'.moment.taken h.bytes h.events m.moment _ refl (stages-cut u n w (suc m.moment.taken) d0 d ts old m m' h cut b stage hs hl st) (h.stands b stage hs hl st);
+}
+led-broken u n w d0 d failure.NoMemory ts ts' old m m' h led cut = record {
   bytes = h.bytes;
   events = h.events;
   streams = streams-fail (Some undelivered.NoMemory) h.streams;
@@ -373,7 +385,7 @@ stands-part o o1 o2 u n w w' d0 d ts old m m' undelivered.WriteFault runs one h 
     λ last. let-out-block stage m.moment.taken last h.bytes m.moment.printed h.events o1.sink o2.sink (h.stands b stage hs hl st) x.0
     (ap (λ (s : State). s.output) (stage-here u n w m.moment.taken d0 d ts old m runs one h b stage hs hl st))
 
-pub led-undelivered : (o o1 o2 : Outlet) (u : Stored) (n w w' : ℕ) (d0 d : Doing) (ts : List Task) (old m m' : Machine) (e : Undelivered) → Runs u ts m.started d → asked m.started d ≡ 1 → Streaming u o o1 n w m.moment.taken d0 d ts old m → DeliveredOr (Some e) o1 o2 u.names w w' m m' → StatementsLed u o o2 n d0 (Err e) old m'
+pub led-undelivered : (o o1 o2 : Outlet) (u : Stored) (n w w' : ℕ) (d0 d : Doing) (ts : List Task) (old m m' : Machine) (e : Undelivered) → Runs u ts m.started d → asked m.started d ≡ 1 → Streaming u o o1 n w m.moment.taken d0 d ts old m → DeliveredOr (Some e) o1 o2 u.names w w' m m' → StatementsLed u o o2 n d0 (Err (broken.Delivery e)) old m'
 led-undelivered o o1 o2 u n w w' d0 d ts old m m' e runs one h k =
     let p = part-of o1 o2 e u.names w w' m m' k in
     record {

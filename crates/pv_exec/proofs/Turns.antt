@@ -54,10 +54,10 @@ until-due-runs u ts es (Ok after.Valued) h f e = tt
 until-due-runs u ts es (Err (failure.Stop y line)) h f e = tt
 until-due-runs u ts es (Err failure.NoMemory) h f e = tt
 
-pub pace-of : (n k k' : ℕ) (a : Advanced) → k < k' → k' ≤ n → AdvancedPace n k k' a
-pace-of n k k' (advance.On d) lt le = (lt, le)
-pace-of n k k' (advance.Last l) lt le = tt
-pace-of n k k' advance.NoMemory lt le = tt
+pub pace-of : (n k k' : ℕ) (a : Result Advanced Failure) → k < k' → k' ≤ n → AdvancedPace n k k' a
+pace-of n k k' (Ok (advance.On d)) lt le = (lt, le)
+pace-of n k k' (Ok (advance.Last l)) lt le = tt
+pace-of n k k' (Err e) lt le = tt
 
 -- what isn't asked for is not due, and what is due is asked for
 pub unasked-undue : (es : List Started) (d : Doing) → asked es d ≡ 0 → due es d ≡ 0
@@ -91,10 +91,11 @@ due-asked es doing.Evaluate e = e
 due-asked es doing.Evaluated e = absurd (omega (arith, e))
 
 -- the operations that come before the next turn, and that turn
-pub ahead-led : (u : Stored) (n : ℕ) (d e : Doing) (a : Advanced) (ts tm ts' : List Task) (old mid new : Machine) → KeepsSetting old.moment mid.moment → UntilDueLed u d (Ok (after.On e)) ts tm old mid → AdvancedLed u n e a tm ts' mid new → AdvancedLed u n d a ts ts' old new
-ahead-led u n d e (advance.On f) ts tm ts' old mid new k o h = λ b out es hs hl all q g. h b out es (keeps-setting b u old.moment mid.moment k hs) (k.total (length out) hl) all q (o b out es hs hl all g)
-ahead-led u n d e (advance.Last l) ts tm ts' old mid new k o h = λ b out es hs hl all q g. h b out es (keeps-setting b u old.moment mid.moment k hs) (k.total (length out) hl) all q (o b out es hs hl all g)
-ahead-led u n d e advance.NoMemory ts tm ts' old mid new k o h = tt
+pub ahead-led : (u : Stored) (n : ℕ) (d e : Doing) (a : Result Advanced Failure) (ts tm ts' : List Task) (old mid new : Machine) → KeepsSetting old.moment mid.moment → UntilDueLed u d (Ok (after.On e)) ts tm old mid → AdvancedLed u n e a tm ts' mid new → AdvancedLed u n d a ts ts' old new
+ahead-led u n d e (Ok (advance.On f)) ts tm ts' old mid new k o h = λ b out es hs hl all q g. h b out es (keeps-setting b u old.moment mid.moment k hs) (k.total (length out) hl) all q (o b out es hs hl all g)
+ahead-led u n d e (Ok (advance.Last l)) ts tm ts' old mid new k o h = λ b out es hs hl all q g. h b out es (keeps-setting b u old.moment mid.moment k hs) (k.total (length out) hl) all q (o b out es hs hl all g)
+ahead-led u n d e (Err (failure.Stop y line)) ts tm ts' old mid new k o h = λ b out es hs hl all q g. h b out es (keeps-setting b u old.moment mid.moment k hs) (k.total (length out) hl) all q (o b out es hs hl all g)
+ahead-led u n d e (Err failure.NoMemory) ts tm ts' old mid new k o h = tt
 
 pub until-last : (u : Stored) (n : ℕ) (d : Doing) (r : Result After Failure) (ts ts' : List Task) (old new : Machine) → UntilDueLed u d r ts ts' old new → AdvancedLed u n d (advanced_by r) ts ts' old new
 until-last u n d (Ok (after.On e)) ts ts' old new o = λ b out es hs hl all q g. o b out es hs hl all g
@@ -102,11 +103,3 @@ until-last u n d (Ok (after.Ended fl)) ts ts' old new o = λ b out es hs hl all 
 until-last u n d (Ok after.Valued) ts ts' old new o = λ b out es hs hl all q g. o b out es hs hl all g
 until-last u n d (Err (failure.Stop y line)) ts ts' old new o = λ b out es hs hl all q g. o b out es hs hl all g
 until-last u n d (Err failure.NoMemory) ts ts' old new o = tt
-
-pub failed-runs : (u : Stored) (ts : List Task) (es : List Started) (e : Failure) → AdvancedRuns u ts es (advanced_by (Err e))
-failed-runs u ts es (failure.Stop y line) = tt
-failed-runs u ts es failure.NoMemory = tt
-
-pub failed-pace : (n k k' : ℕ) (e : Failure) → AdvancedPace n k k' (advanced_by (Err e))
-failed-pace n k k' (failure.Stop y line) = tt
-failed-pace n k k' failure.NoMemory = tt

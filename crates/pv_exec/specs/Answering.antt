@@ -22,7 +22,8 @@ use Rattle.pv_exec.specs.declared.outcome.Outcome.{Outcome}
 use Rattle.pv_exec.specs.declared.delivering.Undelivered.{Undelivered}
 use Rattle.pv_exec.specs.declared.delivering.Undelivered.TheVariants as undelivered
 use Rattle.pv_exec.specs.declared.running.Ended.{Ended}
-use Rattle.pv_exec.specs.declared.running.Ended.TheVariants as ended
+use Rattle.pv_exec.specs.declared.running.Broken.{Broken}
+use Rattle.pv_exec.specs.declared.running.Broken.TheVariants as broken
 use Rattle.pv_exec.specs.Run.{setting_of, run_of, outcome_of, sides_at}
 use Rattle.pv_exec.specs.Outlets.{Outlet, event_of, hall_slots, ToldPart}
 use Rattle.pv_exec.specs.Stages.{LetOut}
@@ -81,11 +82,10 @@ error_of undelivered.NoMemory = error.NoMemory
 error_of undelivered.WriteFault = error.WriteFault
 
 -- the same of a run that has no outcome (5.1.2.2.3p1)
-abbrev pub error_by : Ended → RunError
-error_by (ended.Failed e) = error_of e
-error_by (ended.Value v) = error.NoMemory
-error_by ended.Turns = error.NoMemory
-error_by (ended.Stop y line) = error.NoMemory
+abbrev pub error_by : Result Ended Broken → RunError
+error_by (Ok x) = error.NoMemory
+error_by (Err (broken.Operation e)) = error.NoMemory
+error_by (Err (broken.Delivery e)) = error_of e
 
 -- 5.1.2.2.3p1: the state in which the run of a unit ends
 abbrev pub end_at : Stored → (bound : ℕ) → Option (List Bool) → (zap : Bool) → List ScriptLine → State

@@ -42,41 +42,42 @@ AskedAfter es (Ok after.Valued) = Unit {0}
 AskedAfter es (Err e) = Unit {0}
 
 -- what an operation came to, as the loop over turns has it
-abbrev pub advanced_by : Result After Failure → Advanced
-advanced_by (Ok (after.On d)) = advance.On d
-advanced_by (Ok (after.Ended fl)) = advance.Last (last.Left fl)
-advanced_by (Ok after.Valued) = advance.Last last.Valued
-advanced_by (Err (failure.Stop y line)) = advance.Last (last.Stop y line)
-advanced_by (Err failure.NoMemory) = advance.NoMemory
+abbrev pub advanced_by : Result After Failure → Result Advanced Failure
+advanced_by (Ok (after.On d)) = Ok (advance.On d)
+advanced_by (Ok (after.Ended fl)) = Ok (advance.Last (last.Left fl))
+advanced_by (Ok after.Valued) = Ok (advance.Last last.Valued)
+advanced_by (Err e) = Err e
 
 -- how the whole that was asked for ended
 abbrev pub LastIs : Res Reached → Last → List Started → State → Type 0
 LastIs all (last.Left fl) es s = all ≡ Gives (Left (flow_of fl)) s
 LastIs all last.Valued es s = all ≡ Gives (Valued (ended es)) s
 LastIs all last.Turns es s = all ≡ Stops Turns s
-LastIs all (last.Stop y line) es s = all ≡ Stops (Stopped (wrong_for y) line) s
 
 -- what a turn leads to: where the run goes on, under whatever bound allows the turn, else where this is the bound
-abbrev pub AdvancedLed : Stored → (bound : ℕ) → Doing → Advanced → (before behind : List Task) → Machine → Machine → Type 0
-AdvancedLed u n d (advance.On e) ts ts' old new =
+abbrev pub AdvancedLed : Stored → (bound : ℕ) → Doing → Result Advanced Failure → (before behind : List Task) → Machine → Machine → Type 0
+AdvancedLed u n d (Ok (advance.On e)) ts ts' old new =
     Always u old.moment (λ b out es. (all : Res Reached) → new.moment.taken ≤ b.bound →
     Holds b u all ts old.started d (state_of old.moment out es) → Holds b u all ts' new.started e (state_of new.moment out es))
-AdvancedLed u n d (advance.Last l) ts ts' old new =
+AdvancedLed u n d (Ok (advance.Last l)) ts ts' old new =
     Always u old.moment (λ b out es. (all : Res Reached) → b.bound ≡ n →
     Holds b u all ts old.started d (state_of old.moment out es) → LastIs all l new.started (state_of new.moment out es))
-AdvancedLed u n d advance.NoMemory ts ts' old new = Unit {0}
+AdvancedLed u n d (Err (failure.Stop y line)) ts ts' old new =
+    Always u old.moment (λ b out es. (all : Res Reached) → b.bound ≡ n →
+    Holds b u all ts old.started d (state_of old.moment out es) → all ≡ Stops (Stopped (wrong_for y) line) (state_of new.moment out es))
+AdvancedLed u n d (Err failure.NoMemory) ts ts' old new = Unit {0}
 
 -- where the run goes on, what waits names what is there (6.8), and another turn is due, or an expression of a loop was not started
-abbrev pub AdvancedRuns : Stored → List Task → List Started → Advanced → Type 0
-AdvancedRuns u ts es (advance.On d) = Runs u ts es d × Fit u es × (asked es d ≡ 1)
-AdvancedRuns u ts es (advance.Last l) = Unit {0}
-AdvancedRuns u ts es advance.NoMemory = Unit {0}
+abbrev pub AdvancedRuns : Stored → List Task → List Started → Result Advanced Failure → Type 0
+AdvancedRuns u ts es (Ok (advance.On d)) = Runs u ts es d × Fit u es × (asked es d ≡ 1)
+AdvancedRuns u ts es (Ok (advance.Last l)) = Unit {0}
+AdvancedRuns u ts es (Err e) = Unit {0}
 
 -- where the run goes on, turns were taken, within the bound
-abbrev pub AdvancedPace : (bound before behind : ℕ) → Advanced → Type 0
-AdvancedPace n k k' (advance.On d) = (k < k') × (k' ≤ n)
-AdvancedPace n k k' (advance.Last l) = Unit {0}
-AdvancedPace n k k' advance.NoMemory = Unit {0}
+abbrev pub AdvancedPace : (bound before behind : ℕ) → Result Advanced Failure → Type 0
+AdvancedPace n k k' (Ok (advance.On d)) = (k < k') × (k' ≤ n)
+AdvancedPace n k k' (Ok (advance.Last l)) = Unit {0}
+AdvancedPace n k k' (Err e) = Unit {0}
 
 -- 6.8p4: what is due came to this, with all its turns
 abbrev pub AtOnceLed : Stored → (before behind : Doing) → List Task → Machine → Machine → Type 0

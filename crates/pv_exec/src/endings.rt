@@ -6,7 +6,8 @@ ghost use Rattle.pv_exec.specs.Run.{status_of, refused, stopped};
 ghost use Rattle.pv_exec.specs.Ending.{outcome_by};
 
 use crate::outcome::Outcome;
-use crate::running::Ended;
+use crate::running::{Broken, Ended};
+use pv_eval::Failure;
 use pv_fault::Reason;
 use pv_inst::CreateError;
 use pv_num::{IntKind, fits};
@@ -78,13 +79,14 @@ fn stopped(cause: Cause, line: u32) -> Option<Outcome>
 }
 
 /// The outcome of a run that ended so; nothing where it could not go on.
-pub fn outcome_by(ended: &Ended) -> Option<Outcome>
+pub fn outcome_by(ended: &Result<Ended, Broken>) -> Option<Outcome>
     ensures { result ≡ outcome_by ended.now }
 {
     match ended {
-        Ended::Value(v) => Some(Outcome::Exit { status: status(v) }),
-        Ended::Turns => Some(Outcome::Turns),
-        Ended::Stop(cause, line) => stopped(*cause, *line),
-        Ended::Failed(_) => None,
+        Ok(Ended::Value(v)) => Some(Outcome::Exit { status: status(v) }),
+        Ok(Ended::Turns) => Some(Outcome::Turns),
+        Err(Broken::Operation(Failure::Stop(cause, line))) => stopped(*cause, *line),
+        Err(Broken::Operation(Failure::NoMemory)) => None,
+        Err(Broken::Delivery(_)) => None,
     }
 }

@@ -17,7 +17,7 @@ use crate::endings::outcome_by;
 use crate::given::given_highs;
 use crate::laws::no_empty_tag;
 use crate::outcome::Outcome;
-use crate::running::{Ended, run_unit};
+use crate::running::{Broken, Ended, run_unit};
 use crate::sides::{Side, Sides, sides_of};
 use pv_eval::{Machine, Plan};
 use pv_script::{Script, Sink};
@@ -58,12 +58,13 @@ fn error_of(e: Undelivered) -> RunError
 }
 
 // The same, of a run that has no outcome.
-fn error_by(ended: &Ended) -> RunError
+fn error_by(ended: &Result<Ended, Broken>) -> RunError
     ensures { result ≡ error_by ended.now }
 {
     match ended {
-        Ended::Failed(e) => error_of(*e),
-        _ => RunError::NoMemory,
+        Ok(_) => RunError::NoMemory,
+        Err(Broken::Operation(_)) => RunError::NoMemory,
+        Err(Broken::Delivery(e)) => error_of(*e),
     }
 }
 

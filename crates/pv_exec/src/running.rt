@@ -8,8 +8,8 @@ ghost use Rattle.pv_eval.specs.Codes.{AreCodes};
 ghost use Rattle.pv_exec.specs.Answering.{outlet};
 ghost use Rattle.pv_exec.specs.Fits.{Runs};
 ghost use Rattle.pv_exec.specs.Works.{asked};
-ghost use Rattle.pv_exec.specs.Streaming.{failing, DeliveryCause};
-ghost use Rattle.pv_exec.specs.Running.{StatementsLed, EndLed, PieceLed, IsCalm, main_called, whole_run, ended_by, failed};
+ghost use Rattle.pv_exec.specs.Streaming.{DeliveryCause};
+ghost use Rattle.pv_exec.specs.Running.{StatementsLed, EndLed, PieceLed, IsCalm, main_called, whole_run, failed};
 
 use crate::blocks::end_each;
 use crate::calls::{begin_function, body_of};
@@ -22,26 +22,25 @@ use pv_eval::{Failure, Machine, Plan};
 use pv_script::Sink;
 use pv_typed::TypedUnit;
 use pv_watch::{Hall, Watch};
-use pv_world::{Cause, Got};
+use pv_world::Got;
 use std::alloc::Global;
 
-/// How a run ended: by the value of `main`, or before; or it could not go on.
+/// How a run came to its end.
 #[derive(Drop)]
 pub enum Ended {
+    /// `main` returned this value.
     Value(Got),
+    /// As many turns as allowed were taken.
     Turns,
-    Stop(Cause, u32),
-    Failed(Undelivered),
 }
 
-// A run that ended before it had a value.
-fn ended_by(e: Failure) -> Ended
-    ensures { result ≡ ended_by e }
-{
-    match e {
-        Failure::Stop(cause, line) => Ended::Stop(cause, line),
-        Failure::NoMemory => Ended::Failed(Undelivered::NoMemory),
-    }
+/// Why a run was broken off.
+#[derive(Clone, Copy)]
+pub enum Broken {
+    /// An operation ended it, or found no memory.
+    Operation(Failure),
+    /// What it prints and tells could not be delivered.
+    Delivery(Undelivered),
 }
 
 // Statements, until no task waits. What they print and tell is delivered before each turn.
@@ -54,7 +53,7 @@ fn run_statements<O: Sink>(
     machine: &mut Machine,
     out: &mut O,
     hall: &mut Hall,
-) -> Result<Last, Undelivered>
+) -> Result<Last, Broken>
     requires codes { AreCodes unit.now plan.now }
     requires runnable { IsRunnable unit.now }
     requires bound { bound ≤ 10 ^ 8 }
@@ -63,7 +62,7 @@ fn run_statements<O: Sink>(
     requires asked { asked machine.old.started doing ≡ 1 }
     requires fresh { machine.old.moment.taken ≡ 0 }
     ensures ended { StatementsLed unit.now (outlet (O.written out.old) hall.old its_kind its_wants seen) (outlet (O.written out.new) hall.new its_kind its_wants seen) bound doing result machine.old machine.new }
-    ensures cause { DeliveryCause (failing result) (O.faults out.old) (O.faults out.new) }
+    ensures cause { DeliveryCause (failed result) (O.faults out.old) (O.faults out.new) }
 {
     let mut tasks = Vec::new(alloc);
     let mut doing = doing;
@@ -71,18 +70,18 @@ fn run_statements<O: Sink>(
     'statements: loop {
         match deliver(unit, machine, &mut written, out, hall) {
             Ok(()) => {}
-            Err(e) => return Err(e),
+            Err(e) => return Err(Broken::Delivery(e)),
         }
         match advance(unit, plan, &mut tasks, doing, bound, machine) {
-            Advanced::On(next) => doing = next,
-            Advanced::Last(last) => return Ok(last),
-            Advanced::NoMemory => return Err(Undelivered::NoMemory),
+            Ok(Advanced::On(next)) => doing = next,
+            Ok(Advanced::Last(last)) => return Ok(last),
+            Err(e) => return Err(Broken::Operation(e)),
         }
     }
 }
 
 // The body of `main` was left: its parameters end, and it has its value.
-fn end_main(unit: &TypedUnit, f: u32, flow: Flow, machine: &mut Machine) -> Ended
+fn end_main(unit: &TypedUnit, f: u32, flow: Flow, machine: &mut Machine) -> Result<Ended, Broken>
     requires runnable { IsRunnable unit.now }
     requires there { f < length unit.now.functions }
     ensures ended { EndLed unit.now f flow result machine.old machine.new }
@@ -91,10 +90,10 @@ fn end_main(unit: &TypedUnit, f: u32, flow: Flow, machine: &mut Machine) -> Ende
 {
     let ended = end_each(unit, unit.params_of(f), machine);
     if ended.is_err() {
-        return Ended::Failed(Undelivered::NoMemory);
+        return Err(Broken::Operation(Failure::NoMemory));
     }
     machine.end_body();
-    Ended::Value(value_by(unit, f, flow))
+    Ok(Ended::Value(value_by(unit, f, flow)))
 }
 
 // The call of `main` (C17 5.1.2.2.1).
@@ -107,7 +106,7 @@ fn run_main<O: Sink>(
     machine: &mut Machine,
     out: &mut O,
     hall: &mut Hall,
-) -> Ended
+) -> Result<Ended, Broken>
     requires codes { AreCodes unit.now plan.now }
     requires runnable { IsRunnable unit.now }
     requires bound { bound ≤ 10 ^ 8 }
@@ -119,7 +118,7 @@ fn run_main<O: Sink>(
 {
     match begin_function(unit, f, unit.function(f).line, &[], machine) {
         Ok(()) => {}
-        Err(e) => return ended_by(e),
+        Err(e) => return Err(Broken::Operation(e)),
     }
     match run_statements(
         alloc,
@@ -133,10 +132,9 @@ fn run_main<O: Sink>(
     ) {
         Ok(Last::Left(flow)) => end_main(unit, f, flow, machine),
         // No statement ends with the value of an expression.
-        Ok(Last::Valued) => Ended::Turns,
-        Ok(Last::Turns) => Ended::Turns,
-        Ok(Last::Stop(cause, line)) => Ended::Stop(cause, line),
-        Err(e) => Ended::Failed(e),
+        Ok(Last::Valued) => Ok(Ended::Turns),
+        Ok(Last::Turns) => Ok(Ended::Turns),
+        Err(e) => Err(e),
     }
 }
 
@@ -149,7 +147,7 @@ pub fn run_unit<O: Sink>(
     machine: &mut Machine,
     out: &mut O,
     hall: &mut Hall,
-) -> Ended
+) -> Result<Ended, Broken>
     requires codes { AreCodes unit.now plan.now }
     requires runnable { IsRunnable unit.now }
     requires main { IsTrue (is_some (main_of (whole unit.now))) }
@@ -161,6 +159,6 @@ pub fn run_unit<O: Sink>(
 {
     match prepare(unit, machine) {
         Ok(()) => run_main(alloc, unit, plan, unit.main(), bound, machine, out, hall),
-        Err(e) => ended_by(e),
+        Err(e) => Err(Broken::Operation(e)),
     }
 }

@@ -23,7 +23,6 @@ use crate::values::side;
 use pv_eval::{Failure, Machine, Plan};
 use pv_tree::{ListId, NodeId};
 use pv_typed::{TypedStmt, TypedUnit};
-use pv_world::Cause;
 
 /// How the statements of a run ended.
 #[derive(Drop)]
@@ -33,7 +32,6 @@ pub enum Last {
     Valued,
     /// As many turns as allowed were taken, and another is due.
     Turns,
-    Stop(Cause, u32),
 }
 
 /// What a part of a run comes to.
@@ -41,7 +39,6 @@ pub enum Last {
 pub enum Advanced {
     On(Doing),
     Last(Last),
-    NoMemory,
 }
 
 // Whether a turn is due.
@@ -145,15 +142,14 @@ fn until_asked(
 }
 
 // What an operation came to.
-fn next_of(after: Result<After, Failure>) -> Advanced
+fn next_of(after: Result<After, Failure>) -> Result<Advanced, Failure>
     ensures { result ≡ advanced_by after }
 {
     match after {
-        Ok(After::On(doing)) => Advanced::On(doing),
-        Ok(After::Ended(flow)) => Advanced::Last(Last::Left(flow)),
-        Ok(After::Valued) => Advanced::Last(Last::Valued),
-        Err(Failure::Stop(cause, line)) => Advanced::Last(Last::Stop(cause, line)),
-        Err(Failure::NoMemory) => Advanced::NoMemory,
+        Ok(After::On(doing)) => Ok(Advanced::On(doing)),
+        Ok(After::Ended(flow)) => Ok(Advanced::Last(Last::Left(flow))),
+        Ok(After::Valued) => Ok(Advanced::Last(Last::Valued)),
+        Err(stopped) => Err(stopped),
     }
 }
 
@@ -456,7 +452,7 @@ fn turn(
     doing: Doing,
     bound: u64,
     machine: &mut Machine,
-) -> Advanced
+) -> Result<Advanced, Failure>
     requires runnable { IsRunnable unit.now }
     requires bound { bound ≤ 10 ^ 8 }
     requires runs { Runs unit.now tasks.old.items machine.old.started doing }
@@ -470,9 +466,9 @@ fn turn(
 {
     match once(unit, tasks, doing, machine) {
         Ok(After::On(next)) => next_of(until_asked(unit, tasks, next, machine)),
-        Ok(After::Ended(flow)) => Advanced::Last(Last::Left(flow)),
-        Ok(After::Valued) => Advanced::Last(Last::Valued),
-        Err(e) => next_of(Err(e)),
+        Ok(After::Ended(flow)) => Ok(Advanced::Last(Last::Left(flow))),
+        Ok(After::Valued) => Ok(Advanced::Last(Last::Valued)),
+        Err(e) => Err(e),
     }
 }
 
@@ -483,7 +479,7 @@ fn turn_ahead(
     doing: Doing,
     bound: u64,
     machine: &mut Machine,
-) -> Advanced
+) -> Result<Advanced, Failure>
     requires runnable { IsRunnable unit.now }
     requires bound { bound ≤ 10 ^ 8 }
     requires runs { Runs unit.now tasks.old.items machine.old.started doing }
@@ -497,9 +493,9 @@ fn turn_ahead(
 {
     match until_due(unit, tasks, doing, machine) {
         Ok(After::On(next)) => turn(unit, tasks, next, bound, machine),
-        Ok(After::Ended(flow)) => Advanced::Last(Last::Left(flow)),
-        Ok(After::Valued) => Advanced::Last(Last::Valued),
-        Err(failure) => next_of(Err(failure)),
+        Ok(After::Ended(flow)) => Ok(Advanced::Last(Last::Left(flow))),
+        Ok(After::Valued) => Ok(Advanced::Last(Last::Valued)),
+        Err(failure) => Err(failure),
     }
 }
 
@@ -510,7 +506,7 @@ fn turn_on(
     doing: Doing,
     bound: u64,
     machine: &mut Machine,
-) -> Advanced
+) -> Result<Advanced, Failure>
     requires runnable { IsRunnable unit.now }
     requires bound { bound ≤ 10 ^ 8 }
     requires runs { Runs unit.now tasks.old.items machine.old.started doing }
@@ -539,7 +535,7 @@ pub fn advance(
     doing: Doing,
     bound: u64,
     machine: &mut Machine,
-) -> Advanced
+) -> Result<Advanced, Failure>
     requires codes { AreCodes unit.now plan.now }
     requires runnable { IsRunnable unit.now }
     requires bound { bound ≤ 10 ^ 8 }
@@ -553,7 +549,7 @@ pub fn advance(
     ensures pace { AdvancedPace bound machine.old.moment.taken machine.new.moment.taken result }
 {
     if machine.turns() >= bound {
-        return Advanced::Last(Last::Turns);
+        return Ok(Advanced::Last(Last::Turns));
     }
     match at_once(unit, plan, &doing, bound, machine) {
         Some(next) => next_of(until_asked(unit, tasks, next, machine)),

@@ -1,9 +1,8 @@
 use Rattle.std.proofs.Common.{◌∙◌, ap, sym}
 use Rattle.pv_typed.specs.TypedUnits.{TypedFunction}
-use Rattle.pv_exec.specs.Running.{ended_by, main_called}
 use Rattle.pv_exec.proofs.Mains.{runs-first}
 use Rattle.pv_exec.proofs.Turns.{due-asked}
-use Rattle.pv_exec.proofs.MainPieces.{piece-left, piece-valued, piece-turns, piece-stops, piece-fails, piece-unbegun, piece-as, led-as, cause-calm}
+use Rattle.pv_exec.proofs.MainPieces.{piece-left, piece-valued, piece-turns, piece-broken, piece-unbegun, led-as, cause-same, cause-calm}
 use Rattle.pv_exec.proofs.running.run_main.Goals as goal
 
 pub run_statements-requires-clause-runs : goal.run_statements-requires-clause-runs
@@ -12,8 +11,10 @@ run_statements-requires-clause-runs g c = runs-first c.args.unit.now c.args.f c.
 pub returns-in-Err-clause-ended : goal.returns-in-Err-clause-ended
 returns-in-Err-clause-ended g c =
     let line = sym (ap (λ (x : TypedFunction). x.line) c.function.ensures.function) in
-    piece-as c.args.unit.now c.args.bound (main_called c.args.f) (ended_by c.in-Err.e) c.ended_by.result c.args.machine.now c.begin_function.new.machine c.ended_by.ensures
-    (piece-unbegun _ c.args.unit.now c.args.bound c.args.f c.function.result.line c.args.machine.now c.begin_function.new.machine c.in-Err.e c.in-Err.ensures.made line (c.in-Err.ensures.stays.taken ∙ c.requires.fresh))
+    piece-unbegun _ c.args.unit.now c.args.bound c.args.f c.function.result.line c.args.machine.now c.begin_function.new.machine c.in-Err.e c.in-Err.ensures.made line (c.in-Err.ensures.stays.taken ∙ c.requires.fresh)
+
+pub returns-in-Err-clause-cause : goal.returns-in-Err-clause-cause
+returns-in-Err-clause-cause g c = cause-same c.in-Err.e _
 
 pub returns-in-Ok-Left-clause-ended : goal.returns-in-Ok-Left-clause-ended
 returns-in-Ok-Left-clause-ended g c =
@@ -42,21 +43,12 @@ returns-in-Ok-Turns-clause-ended g c =
     piece-turns _ _ u c.args.bound c.args.f c.function.result.line c.body_of.result c.args.machine.now m1 m2 c.in-Ok.ensures.made line c.in-Ok.ensures.stays c.requires.fresh (c.in-Ok.ensures.started ∙ c.requires.none) c.body_of.ensures.does
     (led-as u c.args.bound c.body_of.result _ _ m1 m2 c.in-Ok-Turns.field-0-is c.in-Ok-Turns.ensures.ended)
 
-pub returns-in-Ok-Stop-clause-ended : goal.returns-in-Ok-Stop-clause-ended
-returns-in-Ok-Stop-clause-ended g c =
-    let u = c.args.unit.now in
-    let m1 = c.begin_function.new.machine in
-    let m2 = c.run_statements.new.machine in
-    let line = sym (ap (λ (x : TypedFunction). x.line) c.function.ensures.function) in
-    piece-stops _ _ u c.args.bound c.args.f c.function.result.line c.body_of.result c.args.machine.now m1 m2 c.in-Ok.ensures.made line c.in-Ok.ensures.stays c.requires.fresh (c.in-Ok.ensures.started ∙ c.requires.none) c.body_of.ensures.does
-    c.in-Ok-Stop.cause c.in-Ok-Stop.line (led-as u c.args.bound c.body_of.result _ _ m1 m2 c.in-Ok-Stop.field-0-is c.in-Ok-Stop.ensures.ended)
-
 pub returns-in-Err-run_statements-clause-ended : goal.returns-in-Err-run_statements-clause-ended
 returns-in-Err-run_statements-clause-ended g c =
     let m1 = c.begin_function.new.machine in
     let m2 = c.run_statements.new.machine in
     let line = sym (ap (λ (x : TypedFunction). x.line) c.function.ensures.function) in
-    piece-fails _ _ c.args.unit.now c.args.bound c.args.f c.function.result.line c.body_of.result c.args.machine.now m1 m2 c.in-Ok.ensures.made line c.in-Ok.ensures.stays c.requires.fresh (c.in-Ok.ensures.started ∙ c.requires.none) c.body_of.ensures.does
+    piece-broken _ _ c.args.unit.now c.args.bound c.args.f c.function.result.line c.body_of.result c.args.machine.now m1 m2 c.in-Ok.ensures.made line c.in-Ok.ensures.stays c.requires.fresh (c.in-Ok.ensures.started ∙ c.requires.none) c.body_of.ensures.does
     c.in-Err-run_statements.e c.in-Err-run_statements.ensures.ended
 
 pub returns-in-Ok-Left-clause-cause : goal.returns-in-Ok-Left-clause-cause

@@ -1,7 +1,9 @@
-use Rattle.std.proofs.Common.{◌≡◌, ap, arith}
-use Rattle.std.specs.Prelude.{suc}
+use Rattle.std.proofs.Common.{◌≡◌, ap, subst, Ok, arith}
 use Rattle.pv_eval.specs.Machines.{Machine}
-use Rattle.pv_exec.proofs.Streaming.{streaming-first, runs-first-of-all, streaming-on, streaming-delivered, fit-delivered, runs-delivered, asked-delivered, led-last, led-lost, led-undelivered}
+use Rattle.pv_exec.specs.declared.turning.Advanced.{Advanced}
+use Rattle.pv_exec.specs.Turning.{AdvancedLed, AdvancedRuns, AdvancedPace}
+use Rattle.pv_exec.proofs.Streaming.{streaming-first, runs-first-of-all, streaming-on, streaming-delivered, fit-delivered, runs-delivered, asked-delivered, led-last, led-broken, led-undelivered}
+use Rattle.pv_exec.proofs.MainPieces.{cause-operation}
 use Rattle.pv_exec.proofs.running.run_statements.Goals as goal
 
 pub statements-init : goal.statements-init
@@ -31,38 +33,49 @@ statements-preserved g c =
     let m3 = c.advance.new.machine in
     let inv = c.statements.invariant in
     let out = streaming-delivered u c.args.bound c.statements.written c.deliver.new.written m1.moment.taken c.args.doing c.statements.doing c.statements.tasks.items m0 m1 m2 inv.runs inv.asked inv.streamed c.in-Ok.ensures.delivered in
+    let on = c.in-Ok-On.field-0-is in
+    let holds = subst (λ (a : Advanced). AdvancedLed u c.args.bound c.statements.doing (Ok a) c.statements.tasks.items c.advance.new.tasks.items m2 m3) on c.in-Ok-On.ensures.holds in
+    let runs = subst (λ (a : Advanced). AdvancedRuns u c.advance.new.tasks.items m3.started (Ok a)) on c.in-Ok-On.ensures.runs in
+    let pace = subst (λ (a : Advanced). AdvancedPace c.args.bound m2.moment.taken m3.moment.taken (Ok a)) on c.in-Ok-On.ensures.pace in
     record {
-      streamed = streaming-on u c.args.bound c.deliver.new.written c.args.doing c.statements.doing c.in-On.next c.statements.tasks.items c.advance.new.tasks.items m0 m2 m3 out c.in-On.ensures.holds c.advance.ensures.cut c.advance.ensures.setting c.in-On.ensures.pace.0 c.in-On.ensures.pace.1;
+      streamed = streaming-on u c.args.bound c.deliver.new.written c.args.doing c.statements.doing c.in-Ok-On.next c.statements.tasks.items c.advance.new.tasks.items m0 m2 m3 out holds c.advance.ensures.cut c.advance.ensures.setting pace.0 pace.1;
       later = omega (arith, inv.later, c.deliver.ensures.cause.later);
-      fit = c.in-On.ensures.runs.1;
-      runs = c.in-On.ensures.runs.0;
-      asked = c.in-On.ensures.runs.2;
+      fit = runs.1;
+      runs = runs.0;
+      asked = runs.2;
     }
 
 pub statements-smaller : goal.statements-smaller
 statements-smaller g c =
     let same : c.deliver.new.machine.moment.taken ≡ c.statements.machine.moment.taken = ap (λ (q : Machine). q.moment.taken) c.in-Ok.ensures.delivered.same in
-    omega (arith, same, c.in-On.ensures.pace.0, c.in-On.ensures.pace.1)
+    let pace = subst (λ (a : Advanced). AdvancedPace c.args.bound c.deliver.new.machine.moment.taken c.advance.new.machine.moment.taken (Ok a)) c.in-Ok-On.field-0-is c.in-Ok-On.ensures.pace in
+    omega (arith, same, pace.0, pace.1)
 
-pub returns-in-Last-clause-ended : goal.returns-in-Last-clause-ended
-returns-in-Last-clause-ended g c =
+pub returns-in-Ok-Last-clause-ended : goal.returns-in-Ok-Last-clause-ended
+returns-in-Ok-Last-clause-ended g c =
+    let u = c.args.unit.now in
+    let m0 = c.args.machine.now in
+    let m1 = c.statements.machine in
+    let m2 = c.deliver.new.machine in
+    let m3 = c.advance.new.machine in
+    let inv = c.statements.invariant in
+    let out = streaming-delivered u c.args.bound c.statements.written c.deliver.new.written m1.moment.taken c.args.doing c.statements.doing c.statements.tasks.items m0 m1 m2 inv.runs inv.asked inv.streamed c.in-Ok.ensures.delivered in
+    let holds = subst (λ (a : Advanced). AdvancedLed u c.args.bound c.statements.doing (Ok a) c.statements.tasks.items c.advance.new.tasks.items m2 m3) c.in-Ok-Last.field-0-is c.in-Ok-Last.ensures.holds in
+    led-last u c.args.bound c.deliver.new.written c.args.doing c.statements.doing c.in-Ok-Last.last c.statements.tasks.items c.advance.new.tasks.items m0 m2 m3 out holds c.advance.ensures.cut c.advance.ensures.setting
+
+pub returns-in-Err-advance-clause-ended : goal.returns-in-Err-advance-clause-ended
+returns-in-Err-advance-clause-ended g c =
     let u = c.args.unit.now in
     let m0 = c.args.machine.now in
     let m1 = c.statements.machine in
     let m2 = c.deliver.new.machine in
     let inv = c.statements.invariant in
     let out = streaming-delivered u c.args.bound c.statements.written c.deliver.new.written m1.moment.taken c.args.doing c.statements.doing c.statements.tasks.items m0 m1 m2 inv.runs inv.asked inv.streamed c.in-Ok.ensures.delivered in
-    led-last u c.args.bound c.deliver.new.written c.args.doing c.statements.doing c.in-Last.last c.statements.tasks.items c.advance.new.tasks.items m0 m2 c.advance.new.machine out c.in-Last.ensures.holds c.advance.ensures.cut c.advance.ensures.setting
+    led-broken u c.args.bound c.deliver.new.written c.args.doing c.statements.doing c.in-Err-advance.e c.statements.tasks.items c.advance.new.tasks.items m0 m2 c.advance.new.machine out c.in-Err-advance.ensures.holds c.advance.ensures.cut
 
-pub returns-in-NoMemory-clause-ended : goal.returns-in-NoMemory-clause-ended
-returns-in-NoMemory-clause-ended g c =
-    let u = c.args.unit.now in
-    let m0 = c.args.machine.now in
-    let m1 = c.statements.machine in
-    let m2 = c.deliver.new.machine in
-    let inv = c.statements.invariant in
-    let out = streaming-delivered u c.args.bound c.statements.written c.deliver.new.written m1.moment.taken c.args.doing c.statements.doing c.statements.tasks.items m0 m1 m2 inv.runs inv.asked inv.streamed c.in-Ok.ensures.delivered in
-    led-lost u c.args.bound c.deliver.new.written (suc m2.moment.taken) c.args.doing c.statements.doing c.statements.tasks.items m0 m2 c.advance.new.machine out
+pub returns-in-Err-advance-clause-cause : goal.returns-in-Err-advance-clause-cause
+returns-in-Err-advance-clause-cause g c =
+    cause-operation c.in-Err-advance.e (g.O.Sink.faults c.args.out.now) (g.O.Sink.faults c.deliver.new.out) (omega (arith, c.statements.invariant.later, c.deliver.ensures.cause.later))
 
 pub returns-in-Err-clause-ended : goal.returns-in-Err-clause-ended
 returns-in-Err-clause-ended g c =

@@ -1,7 +1,6 @@
 use Rattle.std.proofs.Common.{◌∙◌}
-use Rattle.pv_exec.specs.Running.{ended_by, whole_run}
 use Rattle.pv_exec.proofs.Mains.{main-in}
-use Rattle.pv_exec.proofs.MainPieces.{piece-whole, piece-unprepared, piece-as}
+use Rattle.pv_exec.proofs.MainPieces.{piece-whole, piece-unprepared, cause-same}
 use Rattle.pv_exec.proofs.running.run_unit.Goals as goal
 
 pub run_main-requires-clause-there : goal.run_main-requires-clause-there
@@ -12,5 +11,7 @@ returns-in-Ok-clause-ended g c = piece-whole c.args.unit.now c.args.bound c.main
 
 pub returns-in-Err-clause-ended : goal.returns-in-Err-clause-ended
 returns-in-Err-clause-ended g c =
-    piece-as c.args.unit.now c.args.bound whole_run (ended_by c.in-Err.e) c.ended_by.result c.args.machine.now c.prepare.new.machine c.ended_by.ensures
-    (piece-unprepared _ c.args.unit.now c.args.bound c.args.machine.now c.prepare.new.machine c.in-Err.e c.in-Err.ensures.made (c.in-Err.ensures.stays.taken ∙ c.requires.fresh))
+    piece-unprepared _ c.args.unit.now c.args.bound c.args.machine.now c.prepare.new.machine c.in-Err.e c.in-Err.ensures.made (c.in-Err.ensures.stays.taken ∙ c.requires.fresh)
+
+pub returns-in-Err-clause-cause : goal.returns-in-Err-clause-cause
+returns-in-Err-clause-cause g c = cause-same c.in-Err.e _

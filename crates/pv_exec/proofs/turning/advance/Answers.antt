@@ -1,4 +1,5 @@
-use Rattle.std.proofs.Common.{◌+◌, ◌<◌, ◌≤◌, sym, subst, arith}
+use Rattle.std.proofs.Common.{◌≡◌, ◌+◌, ◌<◌, ◌≤◌, Result, sym, subst, arith}
+use Rattle.pv_eval.specs.declared.failure.Failure.{Failure}
 use Rattle.pv_eval.specs.Moments.{state_of}
 use Rattle.pv_eval.specs.Machines.{Machine}
 use Rattle.pv_eval.specs.MachineSteps.{KeepsSetting}
@@ -44,7 +45,7 @@ returns-in-Some-clause-holds c =
     let mid = c.at_once.new.machine in
     let new = c.until_asked.new.machine in
     let comes = c.in-Some.ensures.some in
-    subst (λ (a : Advanced). AdvancedLed u n d a ts ts' old new) (sym c.next_of.ensures)
+    subst (λ (a : Result Advanced Failure). AdvancedLed u n d a ts ts' old new) (sym c.next_of.ensures)
     (at-once-until-due u n d e c.until_asked.result ts ts' old mid new comes.within c.until_asked.ensures.taken c.at_once.ensures.setting (comes.led ts) c.until_asked.ensures.holds)
 
 pub returns-in-Some-clause-setting : goal.returns-in-Some-clause-setting
@@ -53,7 +54,7 @@ returns-in-Some-clause-setting c = keeps-both c.args.machine.now.moment c.at_onc
 pub returns-in-Some-clause-runs : goal.returns-in-Some-clause-runs
 returns-in-Some-clause-runs c =
     let new = c.until_asked.new.machine in
-    subst (λ (a : Advanced). AdvancedRuns c.args.unit.now c.until_asked.new.tasks.items new.started a) (sym c.next_of.ensures)
+    subst (λ (a : Result Advanced Failure). AdvancedRuns c.args.unit.now c.until_asked.new.tasks.items new.started a) (sym c.next_of.ensures)
     (until-due-runs c.args.unit.now c.until_asked.new.tasks.items new.started c.until_asked.result c.until_asked.ensures.runs c.until_asked.ensures.fit c.until_asked.ensures.asked)
 
 pub returns-in-Some-clause-cut : goal.returns-in-Some-clause-cut

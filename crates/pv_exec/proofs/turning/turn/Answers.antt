@@ -1,4 +1,5 @@
-use Rattle.std.proofs.Common.{sym, subst, arith, Ok, Err}
+use Rattle.std.proofs.Common.{sym, subst, arith, Result, Ok, Err}
+use Rattle.pv_eval.specs.declared.failure.Failure.{Failure}
 use Rattle.pv_exec.specs.declared.once.After.{After}
 use Rattle.pv_exec.specs.declared.once.After.TheVariants as after
 use Rattle.pv_exec.specs.declared.turning.Advanced.{Advanced}
@@ -19,7 +20,7 @@ returns-in-Ok-On-clause-holds c =
     let old = c.args.machine.now in
     let mid = c.once.new.machine in
     let new = c.until_asked.new.machine in
-    subst (λ (a : Advanced). AdvancedLed u n d a ts ts' old new) (sym c.next_of.ensures)
+    subst (λ (a : Result Advanced Failure). AdvancedLed u n d a ts ts' old new) (sym c.next_of.ensures)
     (until-due-led u n d c.in-Ok-On.next c.until_asked.result ts tm ts' old mid new c.requires.room c.once.ensures.taken c.until_asked.ensures.taken c.once.ensures.setting
     (subst (λ (x : After). OnceLed u d (Ok x) ts tm old mid) c.in-Ok-On.field-0-is c.in-Ok-On.ensures.holds) c.until_asked.ensures.holds)
 
@@ -29,7 +30,7 @@ returns-in-Ok-On-clause-setting c = keeps-both c.args.machine.now.moment c.once.
 pub returns-in-Ok-On-clause-runs : goal.returns-in-Ok-On-clause-runs
 returns-in-Ok-On-clause-runs c =
     let new = c.until_asked.new.machine in
-    subst (λ (a : Advanced). AdvancedRuns c.args.unit.now c.until_asked.new.tasks.items new.started a) (sym c.next_of.ensures)
+    subst (λ (a : Result Advanced Failure). AdvancedRuns c.args.unit.now c.until_asked.new.tasks.items new.started a) (sym c.next_of.ensures)
     (until-due-runs c.args.unit.now c.until_asked.new.tasks.items new.started c.until_asked.result c.until_asked.ensures.runs c.until_asked.ensures.fit c.until_asked.ensures.asked)
 
 pub returns-in-Ok-On-clause-taken : goal.returns-in-Ok-On-clause-taken
@@ -65,5 +66,4 @@ returns-in-Err-clause-holds c =
     let ts' = c.once.new.tasks.items in
     let old = c.args.machine.now in
     let new = c.once.new.machine in
-    subst (λ (a : Advanced). AdvancedLed u c.args.bound d a ts ts' old new) (sym c.next_of-in-Err.ensures)
-    (once-led u c.args.bound d (Err c.in-Err.e) ts ts' old new c.requires.room c.once.ensures.taken c.in-Err.ensures.holds)
+    once-led u c.args.bound d (Err c.in-Err.e) ts ts' old new c.requires.room c.once.ensures.taken c.in-Err.ensures.holds

@@ -1,10 +1,9 @@
-use Rattle.std.proofs.Common.{sym, subst, arith, Ok, Err}
+use Rattle.std.proofs.Common.{subst, arith, Ok, Err}
 use Rattle.pv_exec.specs.declared.once.After.{After}
 use Rattle.pv_exec.specs.declared.once.After.TheVariants as after
-use Rattle.pv_exec.specs.declared.turning.Advanced.{Advanced}
-use Rattle.pv_exec.specs.Turning.{UntilDueLed, DueAfter, AdvancedLed, AdvancedRuns, AdvancedPace}
+use Rattle.pv_exec.specs.Turning.{UntilDueLed, DueAfter}
 use Rattle.pv_exec.proofs.Pieces.{keeps-both}
-use Rattle.pv_exec.proofs.Turns.{ahead-led, until-last, failed-runs, failed-pace, pace-of}
+use Rattle.pv_exec.proofs.Turns.{ahead-led, until-last, pace-of}
 use Rattle.pv_exec.proofs.turning.turn_ahead.Goals as goal
 
 pub turn-requires-clause-room : goal.turn-requires-clause-room
@@ -69,13 +68,7 @@ returns-in-Err-clause-holds c =
     let ts' = c.until_due.new.tasks.items in
     let old = c.args.machine.now in
     let new = c.until_due.new.machine in
-    subst (λ (a : Advanced). AdvancedLed u c.args.bound d a ts ts' old new) (sym c.next_of.ensures) (until-last u c.args.bound d (Err c.in-Err.failure) ts ts' old new c.in-Err.ensures.holds)
-
-pub returns-in-Err-clause-runs : goal.returns-in-Err-clause-runs
-returns-in-Err-clause-runs c = subst (λ (a : Advanced). AdvancedRuns c.args.unit.now c.until_due.new.tasks.items c.until_due.new.machine.started a) (sym c.next_of.ensures) (failed-runs c.args.unit.now c.until_due.new.tasks.items c.until_due.new.machine.started c.in-Err.failure)
+    until-last u c.args.bound d (Err c.in-Err.failure) ts ts' old new c.in-Err.ensures.holds
 
 pub returns-in-Err-clause-few : goal.returns-in-Err-clause-few
 returns-in-Err-clause-few c = omega (arith, c.until_due.ensures.taken)
-
-pub returns-in-Err-clause-pace : goal.returns-in-Err-clause-pace
-returns-in-Err-clause-pace c = subst (λ (a : Advanced). AdvancedPace c.args.bound c.args.machine.now.moment.taken c.until_due.new.machine.moment.taken a) (sym c.next_of.ensures) (failed-pace c.args.bound c.args.machine.now.moment.taken c.until_due.new.machine.moment.taken c.in-Err.failure)
