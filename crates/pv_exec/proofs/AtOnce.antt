@@ -34,7 +34,7 @@ use Rattle.pv_exec.specs.Works.{does, due, asked, others, after_work, Standing}
 use Rattle.pv_exec.specs.Fits.{Runs, DoingFits, TasksStand}
 use Rattle.pv_eval.specs.Plainly.{GivesValue}
 use Rattle.pv_eval.specs.AtOnce.{EvaluatedFirst, ContinuesFirst, CutFirst, ticked, EvaluatedNext, CutNext}
-use Rattle.pv_exec.specs.Turning.{UntilDueLed, AdvancedLed, AtOnceLed, CutBefore, advanced_by}
+use Rattle.pv_exec.specs.Turning.{UntilDueLed, AdvancedLed, AtOnceLed, CutBefore}
 use Rattle.pv_exec.proofs.Bounds.{holds-out, holds-asked, has-stores}
 use Rattle.pv_exec.proofs.Turns.{keeps-setting}
 use Rattle.pv_exec.proofs.Pieces.{turned}
@@ -129,10 +129,9 @@ at-once-cut u ts old new h = λ b out es hs hl all low high g.
 
 -- and the operations that come before the next turn
 pub at-once-until-due : (u : Stored) (n : ℕ) (d e : Doing) (r : Result After Failure) (ts ts' : List Task) (old mid new : Machine) → mid.moment.taken ≤ n → new.moment.taken ≡ mid.moment.taken → KeepsSetting old.moment mid.moment → AtOnceLed u d e ts old mid
-    → UntilDueLed u e r ts ts' mid new → AdvancedLed u n d (advanced_by r) ts ts' old new
+    → UntilDueLed u e r ts ts' mid new → AdvancedLed u n d r ts ts' old new
 at-once-until-due u n d e (Ok (after.On f)) ts ts' old mid new le t k o h = λ b out es hs hl all q g. h b out es (keeps-setting b u old.moment mid.moment k hs) (k.total (length out) hl) all (o b out es hs hl all (omega (arith, t, q)) g)
-at-once-until-due u n d e (Ok (after.Ended fl)) ts ts' old mid new le t k o h = λ b out es hs hl all q g. h b out es (keeps-setting b u old.moment mid.moment k hs) (k.total (length out) hl) all (o b out es hs hl all (omega (arith, le, q)) g)
-at-once-until-due u n d e (Ok after.Valued) ts ts' old mid new le t k o h = λ b out es hs hl all q g. h b out es (keeps-setting b u old.moment mid.moment k hs) (k.total (length out) hl) all (o b out es hs hl all (omega (arith, le, q)) g)
+at-once-until-due u n d e (Ok (after.Last l)) ts ts' old mid new le t k o h = λ b out es hs hl all q g. h b out es (keeps-setting b u old.moment mid.moment k hs) (k.total (length out) hl) all (o b out es hs hl all (omega (arith, le, q)) g)
 at-once-until-due u n d e (Err (failure.Stop y line)) ts ts' old mid new le t k o h = λ b out es hs hl all q g. h b out es (keeps-setting b u old.moment mid.moment k hs) (k.total (length out) hl) all (o b out es hs hl all (omega (arith, le, q)) g)
 at-once-until-due u n d e (Err failure.NoMemory) ts ts' old mid new le t k o h = tt
 

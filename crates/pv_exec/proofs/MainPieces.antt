@@ -15,8 +15,8 @@ use Rattle.pv_exec.specs.declared.running.Ended.{Ended}
 use Rattle.pv_exec.specs.declared.running.Ended.TheVariants as ending
 use Rattle.pv_exec.specs.declared.running.Broken.{Broken}
 use Rattle.pv_exec.specs.declared.running.Broken.TheVariants as broken
-use Rattle.pv_exec.specs.declared.turning.Last.{Last}
-use Rattle.pv_exec.specs.declared.turning.Last.TheVariants as last
+use Rattle.pv_exec.specs.declared.once.Last.{Last}
+use Rattle.pv_exec.specs.declared.once.Last.TheVariants as last
 use Rattle.pv_exec.specs.declared.task.Doing.{Doing}
 use Rattle.pv_exec.specs.declared.task.Flow.{Flow}
 use Rattle.pv_exec.specs.Calls.{below, runs_body}

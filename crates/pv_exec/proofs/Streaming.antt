@@ -21,8 +21,8 @@ use Rattle.pv_eval.specs.declared.failure.Failure.TheVariants as failure
 use Rattle.pv_exec.specs.declared.delivering.Undelivered.{Undelivered}
 use Rattle.pv_exec.specs.declared.delivering.Undelivered.TheVariants as undelivered
 use Rattle.pv_exec.specs.declared.running.Broken.TheVariants as broken
-use Rattle.pv_exec.specs.declared.turning.Last.{Last}
-use Rattle.pv_exec.specs.declared.turning.Advanced.TheVariants as advance
+use Rattle.pv_exec.specs.declared.once.Last.{Last}
+use Rattle.pv_exec.specs.declared.once.After.TheVariants as after
 use Rattle.pv_exec.specs.declared.task.Task.{Task}
 use Rattle.pv_exec.specs.declared.task.Doing.{Doing}
 use Rattle.pv_exec.specs.Tasks.{Reached}
@@ -252,7 +252,7 @@ stages-cut u n w k d0 d ts old m m' h cut b stage hs hl st j low high =
     (λ all g. cut c h.bytes h.events (setting-apart c u h.bytes old.moment m.moment h.keeps hc) (total-apart [] h.bytes old.moment m.moment h.keeps hl) all low high (h.held c [] [] hc hl all low g))
 
 -- turns of the run
-pub streaming-on : {o o' : Outlet} (u : Stored) (n w : ℕ) (d0 d e : Doing) (ts ts' : List Task) (old m m' : Machine) → Streaming u o o' n w (suc m.moment.taken) d0 d ts old m → AdvancedLed u n d (Ok (advance.On e)) ts ts' m m' → CutBefore u d ts m m' → KeepsSetting m.moment m'.moment → m.moment.taken < m'.moment.taken → m'.moment.taken ≤ n → Streaming u o o' n w m'.moment.taken d0 e ts' old m'
+pub streaming-on : {o o' : Outlet} (u : Stored) (n w : ℕ) (d0 d e : Doing) (ts ts' : List Task) (old m m' : Machine) → Streaming u o o' n w (suc m.moment.taken) d0 d ts old m → AdvancedLed u n d (Ok (after.On e)) ts ts' m m' → CutBefore u d ts m m' → KeepsSetting m.moment m'.moment → m.moment.taken < m'.moment.taken → m'.moment.taken ≤ n → Streaming u o o' n w m'.moment.taken d0 e ts' old m'
 streaming-on u n w d0 d e ts ts' old m m' h led cut k more le =
     record {
       bytes = h.bytes;
@@ -327,7 +327,7 @@ pub asked-delivered : {o o' : Outlet} {names : List (List ℕ)} {w w' : ℕ} (d 
 asked-delivered d m m' k h = ap (λ (q : Machine). asked q.started d) k.same ∙ h
 
 -- how the statements ended
-pub led-last : {o o' : Outlet} (u : Stored) (n w : ℕ) (d0 d : Doing) (l : Last) (ts ts' : List Task) (old m m' : Machine) → Streaming u o o' n w (suc m.moment.taken) d0 d ts old m → AdvancedLed u n d (Ok (advance.Last l)) ts ts' m m' → CutBefore u d ts m m' → KeepsSetting m.moment m'.moment → StatementsLed u o o' n d0 (Ok l) old m'
+pub led-last : {o o' : Outlet} (u : Stored) (n w : ℕ) (d0 d : Doing) (l : Last) (ts ts' : List Task) (old m m' : Machine) → Streaming u o o' n w (suc m.moment.taken) d0 d ts old m → AdvancedLed u n d (Ok (after.Last l)) ts ts' m m' → CutBefore u d ts m m' → KeepsSetting m.moment m'.moment → StatementsLed u o o' n d0 (Ok l) old m'
 led-last u n w d0 d l ts ts' old m m' h led cut k = record {
   bytes = h.bytes;
   events = h.events;

@@ -10,15 +10,13 @@ use Rattle.pv_eval.specs.Machines.{Machine, Started}
 use Rattle.pv_eval.specs.MachineSteps.{Fit, KeepsSetting}
 use Rattle.pv_exec.specs.declared.once.After.{After}
 use Rattle.pv_exec.specs.declared.once.After.TheVariants as after
-use Rattle.pv_exec.specs.declared.turning.Advanced.{Advanced}
-use Rattle.pv_exec.specs.declared.turning.Advanced.TheVariants as advance
 use Rattle.pv_exec.specs.declared.task.Task.{Task}
 use Rattle.pv_exec.specs.declared.task.Doing.{Doing}
 use Rattle.pv_exec.specs.declared.task.Doing.TheVariants as doing
 use Rattle.pv_exec.specs.Works.{due, asked}
 use Rattle.pv_exec.specs.Fits.{AfterRuns}
 use Rattle.pv_exec.specs.Leading.{OnceLed}
-use Rattle.pv_exec.specs.Turning.{UntilDueLed, AskedAfter, AdvancedLed, AdvancedRuns, AdvancedPace, advanced_by}
+use Rattle.pv_exec.specs.Turning.{UntilDueLed, AskedAfter, AdvancedLed, AdvancedRuns, AdvancedPace}
 
 pub keeps-setting : (b : Setting) (u : Stored) (m n : Moment) → KeepsSetting m n → IsSetting b u m → IsSetting b u n
 keeps-setting b u m n h i = record { unit = i.unit; types = i.types; sides = i.sides ∙ sym h.sides }
@@ -33,30 +31,26 @@ pub not-due : {A : Type 0} (n : ℕ) → n ≡ 0 → n ≡ 1 → A
 not-due n z e = absurd (omega (arith, z, e))
 
 -- a turn, and the operations that come before the next one
-pub until-due-led : (u : Stored) (n : ℕ) (d e : Doing) (r : Result After Failure) (ts tm ts' : List Task) (old mid new : Machine) → old.moment.taken < n → mid.moment.taken ≡ old.moment.taken + due old.started d → new.moment.taken ≡ mid.moment.taken → KeepsSetting old.moment mid.moment → OnceLed u d (Ok (after.On e)) ts tm old mid → UntilDueLed u e r tm ts' mid new → AdvancedLed u n d (advanced_by r) ts ts' old new
+pub until-due-led : (u : Stored) (n : ℕ) (d e : Doing) (r : Result After Failure) (ts tm ts' : List Task) (old mid new : Machine) → old.moment.taken < n → mid.moment.taken ≡ old.moment.taken + due old.started d → new.moment.taken ≡ mid.moment.taken → KeepsSetting old.moment mid.moment → OnceLed u d (Ok (after.On e)) ts tm old mid → UntilDueLed u e r tm ts' mid new → AdvancedLed u n d r ts ts' old new
 until-due-led u n d e (Ok (after.On f)) ts tm ts' old mid new lt t t' k o h = λ b out es hs hl all q g. h b out es (keeps-setting b u old.moment mid.moment k hs) (k.total (length out) hl) all (o b out es hs hl all (λ one. omega (arith, t, t', one, q)) g)
-until-due-led u n d e (Ok (after.Ended fl)) ts tm ts' old mid new lt t t' k o h = λ b out es hs hl all q g. h b out es (keeps-setting b u old.moment mid.moment k hs) (k.total (length out) hl) all (o b out es hs hl all (λ one. omega (arith, lt, q)) g)
-until-due-led u n d e (Ok after.Valued) ts tm ts' old mid new lt t t' k o h = λ b out es hs hl all q g. h b out es (keeps-setting b u old.moment mid.moment k hs) (k.total (length out) hl) all (o b out es hs hl all (λ one. omega (arith, lt, q)) g)
+until-due-led u n d e (Ok (after.Last l)) ts tm ts' old mid new lt t t' k o h = λ b out es hs hl all q g. h b out es (keeps-setting b u old.moment mid.moment k hs) (k.total (length out) hl) all (o b out es hs hl all (λ one. omega (arith, lt, q)) g)
 until-due-led u n d e (Err (failure.Stop y line)) ts tm ts' old mid new lt t t' k o h = λ b out es hs hl all q g. h b out es (keeps-setting b u old.moment mid.moment k hs) (k.total (length out) hl) all (o b out es hs hl all (λ one. omega (arith, lt, q)) g)
 until-due-led u n d e (Err failure.NoMemory) ts tm ts' old mid new lt t t' k o h = tt
 
-pub once-led : (u : Stored) (n : ℕ) (d : Doing) (r : Result After Failure) (ts ts' : List Task) (old new : Machine) → old.moment.taken < n → new.moment.taken ≡ old.moment.taken + due old.started d → OnceLed u d r ts ts' old new → AdvancedLed u n d (advanced_by r) ts ts' old new
+pub once-led : (u : Stored) (n : ℕ) (d : Doing) (r : Result After Failure) (ts ts' : List Task) (old new : Machine) → old.moment.taken < n → new.moment.taken ≡ old.moment.taken + due old.started d → OnceLed u d r ts ts' old new → AdvancedLed u n d r ts ts' old new
 once-led u n d (Ok (after.On e)) ts ts' old new lt t h = λ b out es hs hl all q g. h b out es hs hl all (λ one. omega (arith, t, one, q)) g
-once-led u n d (Ok (after.Ended fl)) ts ts' old new lt t h = λ b out es hs hl all q g. h b out es hs hl all (λ one. omega (arith, lt, q)) g
-once-led u n d (Ok after.Valued) ts ts' old new lt t h = λ b out es hs hl all q g. h b out es hs hl all (λ one. omega (arith, lt, q)) g
+once-led u n d (Ok (after.Last l)) ts ts' old new lt t h = λ b out es hs hl all q g. h b out es hs hl all (λ one. omega (arith, lt, q)) g
 once-led u n d (Err (failure.Stop y line)) ts ts' old new lt t h = λ b out es hs hl all q g. h b out es hs hl all (λ one. omega (arith, lt, q)) g
 once-led u n d (Err failure.NoMemory) ts ts' old new lt t h = tt
 
-pub until-due-runs : (u : Stored) (ts : List Task) (es : List Started) (r : Result After Failure) → AfterRuns u ts es r → OnOk r (Fit u es) → AskedAfter es r → AdvancedRuns u ts es (advanced_by r)
+pub until-due-runs : (u : Stored) (ts : List Task) (es : List Started) (r : Result After Failure) → AfterRuns u ts es r → OnOk r (Fit u es) → AskedAfter es r → AdvancedRuns u ts es r
 until-due-runs u ts es (Ok (after.On d)) h f e = (h, f, e)
-until-due-runs u ts es (Ok (after.Ended fl)) h f e = tt
-until-due-runs u ts es (Ok after.Valued) h f e = tt
-until-due-runs u ts es (Err (failure.Stop y line)) h f e = tt
-until-due-runs u ts es (Err failure.NoMemory) h f e = tt
+until-due-runs u ts es (Ok (after.Last l)) h f e = tt
+until-due-runs u ts es (Err y) h f e = tt
 
-pub pace-of : (n k k' : ℕ) (a : Result Advanced Failure) → k < k' → k' ≤ n → AdvancedPace n k k' a
-pace-of n k k' (Ok (advance.On d)) lt le = (lt, le)
-pace-of n k k' (Ok (advance.Last l)) lt le = tt
+pub pace-of : (n k k' : ℕ) (a : Result After Failure) → k < k' → k' ≤ n → AdvancedPace n k k' a
+pace-of n k k' (Ok (after.On d)) lt le = (lt, le)
+pace-of n k k' (Ok (after.Last l)) lt le = tt
 pace-of n k k' (Err e) lt le = tt
 
 -- what isn't asked for is not due, and what is due is asked for
@@ -91,15 +85,14 @@ due-asked es doing.Evaluate e = e
 due-asked es doing.Evaluated e = absurd (omega (arith, e))
 
 -- the operations that come before the next turn, and that turn
-pub ahead-led : (u : Stored) (n : ℕ) (d e : Doing) (a : Result Advanced Failure) (ts tm ts' : List Task) (old mid new : Machine) → KeepsSetting old.moment mid.moment → UntilDueLed u d (Ok (after.On e)) ts tm old mid → AdvancedLed u n e a tm ts' mid new → AdvancedLed u n d a ts ts' old new
-ahead-led u n d e (Ok (advance.On f)) ts tm ts' old mid new k o h = λ b out es hs hl all q g. h b out es (keeps-setting b u old.moment mid.moment k hs) (k.total (length out) hl) all q (o b out es hs hl all g)
-ahead-led u n d e (Ok (advance.Last l)) ts tm ts' old mid new k o h = λ b out es hs hl all q g. h b out es (keeps-setting b u old.moment mid.moment k hs) (k.total (length out) hl) all q (o b out es hs hl all g)
+pub ahead-led : (u : Stored) (n : ℕ) (d e : Doing) (a : Result After Failure) (ts tm ts' : List Task) (old mid new : Machine) → KeepsSetting old.moment mid.moment → UntilDueLed u d (Ok (after.On e)) ts tm old mid → AdvancedLed u n e a tm ts' mid new → AdvancedLed u n d a ts ts' old new
+ahead-led u n d e (Ok (after.On f)) ts tm ts' old mid new k o h = λ b out es hs hl all q g. h b out es (keeps-setting b u old.moment mid.moment k hs) (k.total (length out) hl) all q (o b out es hs hl all g)
+ahead-led u n d e (Ok (after.Last l)) ts tm ts' old mid new k o h = λ b out es hs hl all q g. h b out es (keeps-setting b u old.moment mid.moment k hs) (k.total (length out) hl) all q (o b out es hs hl all g)
 ahead-led u n d e (Err (failure.Stop y line)) ts tm ts' old mid new k o h = λ b out es hs hl all q g. h b out es (keeps-setting b u old.moment mid.moment k hs) (k.total (length out) hl) all q (o b out es hs hl all g)
 ahead-led u n d e (Err failure.NoMemory) ts tm ts' old mid new k o h = tt
 
-pub until-last : (u : Stored) (n : ℕ) (d : Doing) (r : Result After Failure) (ts ts' : List Task) (old new : Machine) → UntilDueLed u d r ts ts' old new → AdvancedLed u n d (advanced_by r) ts ts' old new
+pub until-last : (u : Stored) (n : ℕ) (d : Doing) (r : Result After Failure) (ts ts' : List Task) (old new : Machine) → UntilDueLed u d r ts ts' old new → AdvancedLed u n d r ts ts' old new
 until-last u n d (Ok (after.On e)) ts ts' old new o = λ b out es hs hl all q g. o b out es hs hl all g
-until-last u n d (Ok (after.Ended fl)) ts ts' old new o = λ b out es hs hl all q g. o b out es hs hl all g
-until-last u n d (Ok after.Valued) ts ts' old new o = λ b out es hs hl all q g. o b out es hs hl all g
+until-last u n d (Ok (after.Last l)) ts ts' old new o = λ b out es hs hl all q g. o b out es hs hl all g
 until-last u n d (Err (failure.Stop y line)) ts ts' old new o = λ b out es hs hl all q g. o b out es hs hl all g
 until-last u n d (Err failure.NoMemory) ts ts' old new o = tt

@@ -115,6 +115,5 @@ RunsOr u tasks es (Err e) = Unit {0}
 -- the same after an operation, where the run goes on
 abbrev pub AfterRuns : Stored → List Task → List Started → Result After Failure → Type 0
 AfterRuns u tasks es (Ok (after.On d)) = Runs u tasks es d
-AfterRuns u tasks es (Ok (after.Ended fl)) = Unit {0}
-AfterRuns u tasks es (Ok after.Valued) = Unit {0}
+AfterRuns u tasks es (Ok (after.Last l)) = Unit {0}
 AfterRuns u tasks es (Err e) = Unit {0}

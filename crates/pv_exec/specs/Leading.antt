@@ -8,12 +8,14 @@ use Rattle.pv_world.specs.Worlds.{Worth}
 use Rattle.pv_world.specs.Coming.{wrong_for}
 use Rattle.pv_eval.specs.declared.failure.Failure.{Failure}
 use Rattle.pv_eval.specs.declared.failure.Failure.TheVariants as failure
-use Rattle.pv_eval.specs.States.{Setting, State, Stopped, Res, Gives, Stops, then_do}
+use Rattle.pv_eval.specs.States.{Setting, State, Stopped, Res, Gives, Stops, then_do, Turns}
 use Rattle.pv_eval.specs.Moments.{Always, state_of}
 use Rattle.pv_eval.specs.Machines.{Machine, Started, ended, after_first}
 use Rattle.pv_eval.specs.Stack.{rest}
 use Rattle.pv_exec.specs.declared.once.After.{After}
 use Rattle.pv_exec.specs.declared.once.After.TheVariants as after
+use Rattle.pv_exec.specs.declared.once.Last.{Last}
+use Rattle.pv_exec.specs.declared.once.Last.TheVariants as last
 use Rattle.pv_exec.specs.declared.task.Flow.{Flow}
 use Rattle.pv_exec.specs.declared.task.Task.{Task}
 use Rattle.pv_exec.specs.declared.task.Doing.{Doing}
@@ -86,11 +88,16 @@ EnterLed u n r old new =
     Always u old.moment (λ b out es. (k : ℕ) → old.moment.taken < b.bound → b.bound < old.moment.taken + k + 1 →
     LeadsOr b u (left (ex b (below b k) (statement_at u n) (state_of old.moment out es))) old.started r new.started (state_of new.moment out es))
 
+-- how the whole that was asked for ended
+abbrev pub LastIs : Res Reached → Last → List Started → State → Type 0
+LastIs all (last.Left fl) es s = all ≡ Gives (Left (flow_of fl)) s
+LastIs all last.Valued es s = all ≡ Gives (Valued (ended es)) s
+LastIs all last.Turns es s = all ≡ Stops Turns s
+
 -- what is to come after an operation: the rest, or how a statement was left (6.8p2), or an expression's value (6.8p4)
 abbrev pub HoldsAfter : Setting → Stored → Res Reached → Result After Failure → List Task → List Started → State → Type 0
 HoldsAfter b u all (Ok (after.On d)) tasks es s = Holds b u all tasks es d s
-HoldsAfter b u all (Ok (after.Ended fl)) tasks es s = all ≡ Gives (Left (flow_of fl)) s
-HoldsAfter b u all (Ok after.Valued) tasks es s = all ≡ Gives (Valued (ended es)) s
+HoldsAfter b u all (Ok (after.Last l)) tasks es s = LastIs all l es s
 HoldsAfter b u all (Err (failure.Stop y line)) tasks es s = all ≡ Stops (Stopped (wrong_for y) line) s
 HoldsAfter b u all (Err failure.NoMemory) tasks es s = Unit {0}
 

@@ -57,6 +57,5 @@ FollowedPace es (Err x) k (Err e) j = Unit {0}
 -- fewer operations are left
 abbrev pub AfterPace : (before : ℕ) → Result After Failure → List Task → List Started → Type 0
 AfterPace n (Ok (after.On d)) tasks es = doing_ops es d (length tasks) < n
-AfterPace n (Ok (after.Ended fl)) tasks es = Unit {0}
-AfterPace n (Ok after.Valued) tasks es = Unit {0}
+AfterPace n (Ok (after.Last l)) tasks es = Unit {0}
 AfterPace n (Err e) tasks es = Unit {0}

@@ -18,7 +18,7 @@ use Rattle.pv_exec.specs.declared.running.Ended.{Ended}
 use Rattle.pv_exec.specs.declared.running.Ended.TheVariants as ended
 use Rattle.pv_exec.specs.declared.running.Broken.{Broken}
 use Rattle.pv_exec.specs.declared.running.Broken.TheVariants as broken
-use Rattle.pv_exec.specs.declared.turning.Last.{Last}
+use Rattle.pv_exec.specs.declared.once.Last.{Last}
 use Rattle.pv_exec.specs.declared.task.Doing.{Doing}
 use Rattle.pv_exec.specs.declared.task.Flow.{Flow}
 use Rattle.pv_exec.specs.Blocks.{end_all}
@@ -27,7 +27,7 @@ use Rattle.pv_exec.specs.Preparing.{prepare}
 use Rattle.pv_exec.specs.Run.{call_main}
 use Rattle.pv_exec.specs.Tasks.{Reached}
 use Rattle.pv_exec.specs.Works.{flow_of, Holds}
-use Rattle.pv_exec.specs.Turning.{LastIs}
+use Rattle.pv_exec.specs.Leading.{LastIs}
 use Rattle.pv_exec.specs.Streaming.{Streams, Begins}
 use Rattle.pv_exec.specs.Outlets.{Outlet}
 use Rattle.pv_exec.specs.Stages.{bounded, IsStaged, StandsOr}

@@ -4,21 +4,17 @@ use Rattle.pv_typed.specs.Tables.{Stored}
 use Rattle.pv_world.specs.Coming.{wrong_for}
 use Rattle.pv_eval.specs.declared.failure.Failure.{Failure}
 use Rattle.pv_eval.specs.declared.failure.Failure.TheVariants as failure
-use Rattle.pv_eval.specs.States.{State, Turns, Stopped, Res, Gives, Stops}
+use Rattle.pv_eval.specs.States.{Turns, Stopped, Res, Stops}
 use Rattle.pv_eval.specs.Moments.{Always, state_of}
-use Rattle.pv_eval.specs.Machines.{Machine, Started, ended}
+use Rattle.pv_eval.specs.Machines.{Machine, Started}
 use Rattle.pv_eval.specs.MachineSteps.{Fit}
 use Rattle.pv_exec.specs.declared.once.After.{After}
 use Rattle.pv_exec.specs.declared.once.After.TheVariants as after
-use Rattle.pv_exec.specs.declared.turning.Last.{Last}
-use Rattle.pv_exec.specs.declared.turning.Last.TheVariants as last
-use Rattle.pv_exec.specs.declared.turning.Advanced.{Advanced}
-use Rattle.pv_exec.specs.declared.turning.Advanced.TheVariants as advance
 use Rattle.pv_exec.specs.declared.task.Task.{Task}
 use Rattle.pv_exec.specs.declared.task.Doing.{Doing}
-use Rattle.pv_exec.specs.Tasks.{Reached, Left, Valued}
-use Rattle.pv_exec.specs.Works.{flow_of, due, asked, others, Holds}
-use Rattle.pv_exec.specs.Leading.{HoldsAfter}
+use Rattle.pv_exec.specs.Tasks.{Reached}
+use Rattle.pv_exec.specs.Works.{due, asked, others, Holds}
+use Rattle.pv_exec.specs.Leading.{HoldsAfter, LastIs}
 use Rattle.pv_exec.specs.Fits.{Runs, DoingFits}
 
 -- what operations that take no turn lead to
@@ -30,36 +26,21 @@ UntilDueLed u d r ts ts' old new =
 -- a turn is due
 abbrev pub DueAfter : List Started → Result After Failure → Type 0
 DueAfter es (Ok (after.On d)) = due es d ≡ 1
-DueAfter es (Ok (after.Ended fl)) = Unit {0}
-DueAfter es (Ok after.Valued) = Unit {0}
+DueAfter es (Ok (after.Last l)) = Unit {0}
 DueAfter es (Err e) = Unit {0}
 
 -- the same, or an expression of a loop was not started
 abbrev pub AskedAfter : List Started → Result After Failure → Type 0
 AskedAfter es (Ok (after.On d)) = asked es d ≡ 1
-AskedAfter es (Ok (after.Ended fl)) = Unit {0}
-AskedAfter es (Ok after.Valued) = Unit {0}
+AskedAfter es (Ok (after.Last l)) = Unit {0}
 AskedAfter es (Err e) = Unit {0}
 
--- what an operation came to, as the loop over turns has it
-abbrev pub advanced_by : Result After Failure → Result Advanced Failure
-advanced_by (Ok (after.On d)) = Ok (advance.On d)
-advanced_by (Ok (after.Ended fl)) = Ok (advance.Last (last.Left fl))
-advanced_by (Ok after.Valued) = Ok (advance.Last last.Valued)
-advanced_by (Err e) = Err e
-
--- how the whole that was asked for ended
-abbrev pub LastIs : Res Reached → Last → List Started → State → Type 0
-LastIs all (last.Left fl) es s = all ≡ Gives (Left (flow_of fl)) s
-LastIs all last.Valued es s = all ≡ Gives (Valued (ended es)) s
-LastIs all last.Turns es s = all ≡ Stops Turns s
-
 -- what a turn leads to: where the run goes on, under whatever bound allows the turn, else where this is the bound
-abbrev pub AdvancedLed : Stored → (bound : ℕ) → Doing → Result Advanced Failure → (before behind : List Task) → Machine → Machine → Type 0
-AdvancedLed u n d (Ok (advance.On e)) ts ts' old new =
+abbrev pub AdvancedLed : Stored → (bound : ℕ) → Doing → Result After Failure → (before behind : List Task) → Machine → Machine → Type 0
+AdvancedLed u n d (Ok (after.On e)) ts ts' old new =
     Always u old.moment (λ b out es. (all : Res Reached) → new.moment.taken ≤ b.bound →
     Holds b u all ts old.started d (state_of old.moment out es) → Holds b u all ts' new.started e (state_of new.moment out es))
-AdvancedLed u n d (Ok (advance.Last l)) ts ts' old new =
+AdvancedLed u n d (Ok (after.Last l)) ts ts' old new =
     Always u old.moment (λ b out es. (all : Res Reached) → b.bound ≡ n →
     Holds b u all ts old.started d (state_of old.moment out es) → LastIs all l new.started (state_of new.moment out es))
 AdvancedLed u n d (Err (failure.Stop y line)) ts ts' old new =
@@ -68,15 +49,15 @@ AdvancedLed u n d (Err (failure.Stop y line)) ts ts' old new =
 AdvancedLed u n d (Err failure.NoMemory) ts ts' old new = Unit {0}
 
 -- where the run goes on, what waits names what is there (6.8), and another turn is due, or an expression of a loop was not started
-abbrev pub AdvancedRuns : Stored → List Task → List Started → Result Advanced Failure → Type 0
-AdvancedRuns u ts es (Ok (advance.On d)) = Runs u ts es d × Fit u es × (asked es d ≡ 1)
-AdvancedRuns u ts es (Ok (advance.Last l)) = Unit {0}
+abbrev pub AdvancedRuns : Stored → List Task → List Started → Result After Failure → Type 0
+AdvancedRuns u ts es (Ok (after.On d)) = Runs u ts es d × Fit u es × (asked es d ≡ 1)
+AdvancedRuns u ts es (Ok (after.Last l)) = Unit {0}
 AdvancedRuns u ts es (Err e) = Unit {0}
 
 -- where the run goes on, turns were taken, within the bound
-abbrev pub AdvancedPace : (bound before behind : ℕ) → Result Advanced Failure → Type 0
-AdvancedPace n k k' (Ok (advance.On d)) = (k < k') × (k' ≤ n)
-AdvancedPace n k k' (Ok (advance.Last l)) = Unit {0}
+abbrev pub AdvancedPace : (bound before behind : ℕ) → Result After Failure → Type 0
+AdvancedPace n k k' (Ok (after.On d)) = (k < k') × (k' ≤ n)
+AdvancedPace n k k' (Ok (after.Last l)) = Unit {0}
 AdvancedPace n k k' (Err e) = Unit {0}
 
 -- 6.8p4: what is due came to this, with all its turns

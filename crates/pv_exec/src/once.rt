@@ -24,13 +24,22 @@ use crate::task::{Doing, Flow, Task, Way};
 use pv_eval::{Failure, Machine};
 use pv_typed::TypedUnit;
 
-/// What is done after an operation.
+/// How the statements of a run ended.
+#[derive(Drop)]
+pub enum Last {
+    /// No task waits for this end of a statement.
+    Left(Flow),
+    /// No task waits for the value of the innermost expression.
+    Valued,
+    /// As many turns as allowed were taken, and another is due.
+    Turns,
+}
+
+/// What comes after an operation, or after a turn.
 #[derive(Drop)]
 pub enum After {
     On(Doing),
-    /// No task waits for this end of a statement, or for the value of the innermost expression.
-    Ended(Flow),
-    Valued,
+    Last(Last),
 }
 
 // Follows the way of an operation.
@@ -125,7 +134,7 @@ fn leave(
     ensures pace { due machine.old.started (Doing.Left flow) ≡ 0 → AfterPace (doing_ops machine.old.started (Doing.Left flow) (length tasks.old.items)) result tasks.new.items machine.new.started }
 {
     match tasks.pop() {
-        None => Ok(After::Ended(flow)),
+        None => Ok(After::Last(Last::Left(flow))),
         Some(task) => {
             let way = resume_flow(unit, task, flow, machine);
             match follow(tasks, way) {
@@ -152,7 +161,7 @@ fn take_value(
     ensures pace { due machine.old.started Doing.Evaluated ≡ 0 → AfterPace (doing_ops machine.old.started Doing.Evaluated (length tasks.old.items)) result tasks.new.items machine.new.started }
 {
     match tasks.pop() {
-        None => Ok(After::Valued),
+        None => Ok(After::Last(Last::Valued)),
         Some(task) => {
             let way = resume_value(unit, task, machine);
             match follow(tasks, way) {

@@ -15,9 +15,10 @@ use crate::blocks::end_each;
 use crate::calls::{begin_function, body_of};
 use crate::delivering::{Undelivered, deliver};
 use crate::functions::value_by;
+use crate::once::{After, Last};
 use crate::preparing::prepare;
 use crate::task::{Doing, Flow};
-use crate::turning::{Advanced, Last, advance};
+use crate::turning::advance;
 use pv_eval::{Failure, Machine, Plan};
 use pv_script::Sink;
 use pv_typed::TypedUnit;
@@ -73,8 +74,8 @@ fn run_statements<O: Sink>(
             Err(e) => return Err(Broken::Delivery(e)),
         }
         match advance(unit, plan, &mut tasks, doing, bound, machine) {
-            Ok(Advanced::On(next)) => doing = next,
-            Ok(Advanced::Last(last)) => return Ok(last),
+            Ok(After::On(next)) => doing = next,
+            Ok(After::Last(last)) => return Ok(last),
             Err(e) => return Err(Broken::Operation(e)),
         }
     }

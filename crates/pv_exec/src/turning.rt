@@ -13,9 +13,9 @@ ghost use Rattle.pv_exec.specs.Read.{choice_in, ChoiceFits, IsRound, IsStep, ite
 ghost use Rattle.pv_exec.specs.Tasks.{returned_of};
 ghost use Rattle.pv_exec.specs.Works.{due, asked};
 ghost use Rattle.pv_exec.specs.Fits.{HasList, Runs, DoingFits, AfterRuns};
-ghost use Rattle.pv_exec.specs.Turning.{UntilDueLed, advanced_by, AdvancedLed, CutBefore, ComesAtOnce, DueAfter, AskedAfter, AdvancedRuns, AdvancedPace};
+ghost use Rattle.pv_exec.specs.Turning.{UntilDueLed, AdvancedLed, CutBefore, ComesAtOnce, DueAfter, AskedAfter, AdvancedRuns, AdvancedPace};
 
-use crate::once::{After, once};
+use crate::once::{After, Last, once};
 use crate::parts::{ChoiceParts, RoundParts};
 use crate::rounds::round_side;
 use crate::task::{Doing, Flow, Task};
@@ -23,23 +23,6 @@ use crate::values::side;
 use pv_eval::{Failure, Machine, Plan};
 use pv_tree::{ListId, NodeId};
 use pv_typed::{TypedStmt, TypedUnit};
-
-/// How the statements of a run ended.
-#[derive(Drop)]
-pub enum Last {
-    Left(Flow),
-    /// No task waits for the value of the innermost expression.
-    Valued,
-    /// As many turns as allowed were taken, and another is due.
-    Turns,
-}
-
-/// What a part of a run comes to.
-#[derive(Drop)]
-pub enum Advanced {
-    On(Doing),
-    Last(Last),
-}
 
 // Whether a turn is due.
 fn is_due(doing: &Doing, machine: &Machine) -> bool
@@ -104,8 +87,7 @@ fn until_due(
     'operations: while !is_due(&doing, machine) {
         match once(unit, tasks, doing, machine) {
             Ok(After::On(next)) => doing = next,
-            Ok(After::Ended(flow)) => return Ok(After::Ended(flow)),
-            Ok(After::Valued) => return Ok(After::Valued),
+            Ok(After::Last(last)) => return Ok(After::Last(last)),
             Err(e) => return Err(e),
         }
     }
@@ -133,24 +115,11 @@ fn until_asked(
     'operations: while !is_asked(&doing, machine) {
         match once(unit, tasks, doing, machine) {
             Ok(After::On(next)) => doing = next,
-            Ok(After::Ended(flow)) => return Ok(After::Ended(flow)),
-            Ok(After::Valued) => return Ok(After::Valued),
+            Ok(After::Last(last)) => return Ok(After::Last(last)),
             Err(e) => return Err(e),
         }
     }
     Ok(After::On(doing))
-}
-
-// What an operation came to.
-fn next_of(after: Result<After, Failure>) -> Result<Advanced, Failure>
-    ensures { result ≡ advanced_by after }
-{
-    match after {
-        Ok(After::On(doing)) => Ok(Advanced::On(doing)),
-        Ok(After::Ended(flow)) => Ok(Advanced::Last(Last::Left(flow))),
-        Ok(After::Valued) => Ok(Advanced::Last(Last::Valued)),
-        Err(stopped) => Err(stopped),
-    }
 }
 
 // The call that is due in the innermost expression, at once with its arguments (C17 6.5.2.2p10).
@@ -452,7 +421,7 @@ fn turn(
     doing: Doing,
     bound: u64,
     machine: &mut Machine,
-) -> Result<Advanced, Failure>
+) -> Result<After, Failure>
     requires runnable { IsRunnable unit.now }
     requires bound { bound ≤ 10 ^ 8 }
     requires runs { Runs unit.now tasks.old.items machine.old.started doing }
@@ -465,9 +434,8 @@ fn turn(
     ensures taken { machine.new.moment.taken ≡ machine.old.moment.taken + 1 }
 {
     match once(unit, tasks, doing, machine) {
-        Ok(After::On(next)) => next_of(until_asked(unit, tasks, next, machine)),
-        Ok(After::Ended(flow)) => Ok(Advanced::Last(Last::Left(flow))),
-        Ok(After::Valued) => Ok(Advanced::Last(Last::Valued)),
+        Ok(After::On(next)) => until_asked(unit, tasks, next, machine),
+        Ok(After::Last(last)) => Ok(After::Last(last)),
         Err(e) => Err(e),
     }
 }
@@ -479,7 +447,7 @@ fn turn_ahead(
     doing: Doing,
     bound: u64,
     machine: &mut Machine,
-) -> Result<Advanced, Failure>
+) -> Result<After, Failure>
     requires runnable { IsRunnable unit.now }
     requires bound { bound ≤ 10 ^ 8 }
     requires runs { Runs unit.now tasks.old.items machine.old.started doing }
@@ -493,8 +461,7 @@ fn turn_ahead(
 {
     match until_due(unit, tasks, doing, machine) {
         Ok(After::On(next)) => turn(unit, tasks, next, bound, machine),
-        Ok(After::Ended(flow)) => Ok(Advanced::Last(Last::Left(flow))),
-        Ok(After::Valued) => Ok(Advanced::Last(Last::Valued)),
+        Ok(After::Last(last)) => Ok(After::Last(last)),
         Err(failure) => Err(failure),
     }
 }
@@ -506,7 +473,7 @@ fn turn_on(
     doing: Doing,
     bound: u64,
     machine: &mut Machine,
-) -> Result<Advanced, Failure>
+) -> Result<After, Failure>
     requires runnable { IsRunnable unit.now }
     requires bound { bound ≤ 10 ^ 8 }
     requires runs { Runs unit.now tasks.old.items machine.old.started doing }
@@ -535,7 +502,7 @@ pub fn advance(
     doing: Doing,
     bound: u64,
     machine: &mut Machine,
-) -> Result<Advanced, Failure>
+) -> Result<After, Failure>
     requires codes { AreCodes unit.now plan.now }
     requires runnable { IsRunnable unit.now }
     requires bound { bound ≤ 10 ^ 8 }
@@ -549,10 +516,10 @@ pub fn advance(
     ensures pace { AdvancedPace bound machine.old.moment.taken machine.new.moment.taken result }
 {
     if machine.turns() >= bound {
-        return Ok(Advanced::Last(Last::Turns));
+        return Ok(After::Last(Last::Turns));
     }
     match at_once(unit, plan, &doing, bound, machine) {
-        Some(next) => next_of(until_asked(unit, tasks, next, machine)),
+        Some(next) => until_asked(unit, tasks, next, machine),
         None => turn_on(unit, tasks, doing, bound, machine),
     }
 }

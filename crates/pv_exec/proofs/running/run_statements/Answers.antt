@@ -1,6 +1,6 @@
 use Rattle.std.proofs.Common.{◌≡◌, ap, subst, Ok, arith}
 use Rattle.pv_eval.specs.Machines.{Machine}
-use Rattle.pv_exec.specs.declared.turning.Advanced.{Advanced}
+use Rattle.pv_exec.specs.declared.once.After.{After}
 use Rattle.pv_exec.specs.Turning.{AdvancedLed, AdvancedRuns, AdvancedPace}
 use Rattle.pv_exec.proofs.Streaming.{streaming-first, runs-first-of-all, streaming-on, streaming-delivered, fit-delivered, runs-delivered, asked-delivered, led-last, led-broken, led-undelivered}
 use Rattle.pv_exec.proofs.MainPieces.{cause-operation}
@@ -34,9 +34,9 @@ statements-preserved g c =
     let inv = c.statements.invariant in
     let out = streaming-delivered u c.args.bound c.statements.written c.deliver.new.written m1.moment.taken c.args.doing c.statements.doing c.statements.tasks.items m0 m1 m2 inv.runs inv.asked inv.streamed c.in-Ok.ensures.delivered in
     let on = c.in-Ok-On.field-0-is in
-    let holds = subst (λ (a : Advanced). AdvancedLed u c.args.bound c.statements.doing (Ok a) c.statements.tasks.items c.advance.new.tasks.items m2 m3) on c.in-Ok-On.ensures.holds in
-    let runs = subst (λ (a : Advanced). AdvancedRuns u c.advance.new.tasks.items m3.started (Ok a)) on c.in-Ok-On.ensures.runs in
-    let pace = subst (λ (a : Advanced). AdvancedPace c.args.bound m2.moment.taken m3.moment.taken (Ok a)) on c.in-Ok-On.ensures.pace in
+    let holds = subst (λ (a : After). AdvancedLed u c.args.bound c.statements.doing (Ok a) c.statements.tasks.items c.advance.new.tasks.items m2 m3) on c.in-Ok-On.ensures.holds in
+    let runs = subst (λ (a : After). AdvancedRuns u c.advance.new.tasks.items m3.started (Ok a)) on c.in-Ok-On.ensures.runs in
+    let pace = subst (λ (a : After). AdvancedPace c.args.bound m2.moment.taken m3.moment.taken (Ok a)) on c.in-Ok-On.ensures.pace in
     record {
       streamed = streaming-on u c.args.bound c.deliver.new.written c.args.doing c.statements.doing c.in-Ok-On.next c.statements.tasks.items c.advance.new.tasks.items m0 m2 m3 out holds c.advance.ensures.cut c.advance.ensures.setting pace.0 pace.1;
       later = omega (arith, inv.later, c.deliver.ensures.cause.later);
@@ -48,7 +48,7 @@ statements-preserved g c =
 pub statements-smaller : goal.statements-smaller
 statements-smaller g c =
     let same : c.deliver.new.machine.moment.taken ≡ c.statements.machine.moment.taken = ap (λ (q : Machine). q.moment.taken) c.in-Ok.ensures.delivered.same in
-    let pace = subst (λ (a : Advanced). AdvancedPace c.args.bound c.deliver.new.machine.moment.taken c.advance.new.machine.moment.taken (Ok a)) c.in-Ok-On.field-0-is c.in-Ok-On.ensures.pace in
+    let pace = subst (λ (a : After). AdvancedPace c.args.bound c.deliver.new.machine.moment.taken c.advance.new.machine.moment.taken (Ok a)) c.in-Ok-On.field-0-is c.in-Ok-On.ensures.pace in
     omega (arith, same, pace.0, pace.1)
 
 pub returns-in-Ok-Last-clause-ended : goal.returns-in-Ok-Last-clause-ended
@@ -60,7 +60,7 @@ returns-in-Ok-Last-clause-ended g c =
     let m3 = c.advance.new.machine in
     let inv = c.statements.invariant in
     let out = streaming-delivered u c.args.bound c.statements.written c.deliver.new.written m1.moment.taken c.args.doing c.statements.doing c.statements.tasks.items m0 m1 m2 inv.runs inv.asked inv.streamed c.in-Ok.ensures.delivered in
-    let holds = subst (λ (a : Advanced). AdvancedLed u c.args.bound c.statements.doing (Ok a) c.statements.tasks.items c.advance.new.tasks.items m2 m3) c.in-Ok-Last.field-0-is c.in-Ok-Last.ensures.holds in
+    let holds = subst (λ (a : After). AdvancedLed u c.args.bound c.statements.doing (Ok a) c.statements.tasks.items c.advance.new.tasks.items m2 m3) c.in-Ok-Last.field-0-is c.in-Ok-Last.ensures.holds in
     led-last u c.args.bound c.deliver.new.written c.args.doing c.statements.doing c.in-Ok-Last.last c.statements.tasks.items c.advance.new.tasks.items m0 m2 m3 out holds c.advance.ensures.cut c.advance.ensures.setting
 
 pub returns-in-Err-advance-clause-ended : goal.returns-in-Err-advance-clause-ended

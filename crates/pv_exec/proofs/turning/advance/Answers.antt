@@ -1,11 +1,9 @@
-use Rattle.std.proofs.Common.{◌≡◌, ◌+◌, ◌<◌, ◌≤◌, Result, sym, subst, arith}
-use Rattle.pv_eval.specs.declared.failure.Failure.{Failure}
+use Rattle.std.proofs.Common.{◌+◌, ◌<◌, ◌≤◌, sym, subst, arith}
 use Rattle.pv_eval.specs.Moments.{state_of}
 use Rattle.pv_eval.specs.Machines.{Machine}
 use Rattle.pv_eval.specs.MachineSteps.{KeepsSetting}
-use Rattle.pv_exec.specs.declared.turning.Advanced.{Advanced}
 use Rattle.pv_exec.specs.Fits.{Runs}
-use Rattle.pv_exec.specs.Turning.{AdvancedLed, AdvancedRuns, AdvancedPace}
+use Rattle.pv_exec.specs.Turning.{AdvancedLed, AdvancedPace}
 use Rattle.pv_exec.proofs.Bounds.{holds-asked, has-stores}
 use Rattle.pv_exec.proofs.Pieces.{keeps-both}
 use Rattle.pv_exec.proofs.Turns.{until-due-runs, pace-of}
@@ -45,8 +43,7 @@ returns-in-Some-clause-holds c =
     let mid = c.at_once.new.machine in
     let new = c.until_asked.new.machine in
     let comes = c.in-Some.ensures.some in
-    subst (λ (a : Result Advanced Failure). AdvancedLed u n d a ts ts' old new) (sym c.next_of.ensures)
-    (at-once-until-due u n d e c.until_asked.result ts ts' old mid new comes.within c.until_asked.ensures.taken c.at_once.ensures.setting (comes.led ts) c.until_asked.ensures.holds)
+    at-once-until-due u n d e c.until_asked.result ts ts' old mid new comes.within c.until_asked.ensures.taken c.at_once.ensures.setting (comes.led ts) c.until_asked.ensures.holds
 
 pub returns-in-Some-clause-setting : goal.returns-in-Some-clause-setting
 returns-in-Some-clause-setting c = keeps-both c.args.machine.now.moment c.at_once.new.machine.moment c.until_asked.new.machine.moment c.at_once.ensures.setting c.until_asked.ensures.setting
@@ -54,8 +51,7 @@ returns-in-Some-clause-setting c = keeps-both c.args.machine.now.moment c.at_onc
 pub returns-in-Some-clause-runs : goal.returns-in-Some-clause-runs
 returns-in-Some-clause-runs c =
     let new = c.until_asked.new.machine in
-    subst (λ (a : Result Advanced Failure). AdvancedRuns c.args.unit.now c.until_asked.new.tasks.items new.started a) (sym c.next_of.ensures)
-    (until-due-runs c.args.unit.now c.until_asked.new.tasks.items new.started c.until_asked.result c.until_asked.ensures.runs c.until_asked.ensures.fit c.until_asked.ensures.asked)
+    until-due-runs c.args.unit.now c.until_asked.new.tasks.items new.started c.until_asked.result c.until_asked.ensures.runs c.until_asked.ensures.fit c.until_asked.ensures.asked
 
 pub returns-in-Some-clause-cut : goal.returns-in-Some-clause-cut
 returns-in-Some-clause-cut c =
@@ -66,7 +62,7 @@ pub returns-in-Some-clause-pace : goal.returns-in-Some-clause-pace
 returns-in-Some-clause-pace c =
     let more = c.in-Some.ensures.some.more in
     let within = c.in-Some.ensures.some.within in
-    pace-of c.args.bound c.args.machine.now.moment.taken c.until_asked.new.machine.moment.taken c.next_of.result (omega (arith, c.until_asked.ensures.taken, more)) (omega (arith, c.until_asked.ensures.taken, within))
+    pace-of c.args.bound c.args.machine.now.moment.taken c.until_asked.new.machine.moment.taken c.until_asked.result (omega (arith, c.until_asked.ensures.taken, more)) (omega (arith, c.until_asked.ensures.taken, within))
 
 pub turn_on-requires-clause-runs : goal.turn_on-requires-clause-runs
 turn_on-requires-clause-runs c = subst (λ (q : Machine). Runs c.args.unit.now c.args.tasks.now.items q.started c.args.doing) (sym c.in-None.ensures.none) c.requires.runs

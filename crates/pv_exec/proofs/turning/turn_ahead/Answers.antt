@@ -34,31 +34,18 @@ returns-in-Ok-On-clause-few c = omega (arith, c.until_due.ensures.taken, c.turn.
 pub returns-in-Ok-On-clause-pace : goal.returns-in-Ok-On-clause-pace
 returns-in-Ok-On-clause-pace c = pace-of c.args.bound c.args.machine.now.moment.taken c.turn.new.machine.moment.taken c.turn.result (omega (arith, c.until_due.ensures.taken, c.turn.ensures.taken)) (omega (arith, c.until_due.ensures.taken, c.turn.ensures.taken, c.requires.room))
 
-pub returns-in-Ok-Ended-clause-holds : goal.returns-in-Ok-Ended-clause-holds
-returns-in-Ok-Ended-clause-holds c =
+pub returns-in-Ok-Last-clause-holds : goal.returns-in-Ok-Last-clause-holds
+returns-in-Ok-Last-clause-holds c =
     let u = c.args.unit.now in
     let d = c.args.doing in
     let ts = c.args.tasks.now.items in
     let ts' = c.until_due.new.tasks.items in
     let old = c.args.machine.now in
     let new = c.until_due.new.machine in
-    until-last u c.args.bound d (Ok (after.Ended c.in-Ok-Ended.flow)) ts ts' old new (subst (λ (x : After). UntilDueLed u d (Ok x) ts ts' old new) c.in-Ok-Ended.field-0-is c.in-Ok-Ended.ensures.holds)
+    until-last u c.args.bound d (Ok (after.Last c.in-Ok-Last.last)) ts ts' old new (subst (λ (x : After). UntilDueLed u d (Ok x) ts ts' old new) c.in-Ok-Last.field-0-is c.in-Ok-Last.ensures.holds)
 
-pub returns-in-Ok-Ended-clause-few : goal.returns-in-Ok-Ended-clause-few
-returns-in-Ok-Ended-clause-few c = omega (arith, c.until_due.ensures.taken)
-
-pub returns-in-Ok-Valued-clause-holds : goal.returns-in-Ok-Valued-clause-holds
-returns-in-Ok-Valued-clause-holds c =
-    let u = c.args.unit.now in
-    let d = c.args.doing in
-    let ts = c.args.tasks.now.items in
-    let ts' = c.until_due.new.tasks.items in
-    let old = c.args.machine.now in
-    let new = c.until_due.new.machine in
-    until-last u c.args.bound d (Ok after.Valued) ts ts' old new (subst (λ (x : After). UntilDueLed u d (Ok x) ts ts' old new) c.in-Ok-Valued.field-0-is c.in-Ok-Valued.ensures.holds)
-
-pub returns-in-Ok-Valued-clause-few : goal.returns-in-Ok-Valued-clause-few
-returns-in-Ok-Valued-clause-few c = omega (arith, c.until_due.ensures.taken)
+pub returns-in-Ok-Last-clause-few : goal.returns-in-Ok-Last-clause-few
+returns-in-Ok-Last-clause-few c = omega (arith, c.until_due.ensures.taken)
 
 pub returns-in-Err-clause-holds : goal.returns-in-Err-clause-holds
 returns-in-Err-clause-holds c =

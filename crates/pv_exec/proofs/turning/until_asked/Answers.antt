@@ -41,8 +41,8 @@ returns-in-Err-clause-holds c = λ b out es hs hl all h.
 pub returns-in-Err-clause-setting : goal.returns-in-Err-clause-setting
 returns-in-Err-clause-setting c = keeps-both c.args.machine.now.moment c.operations.machine.moment c.once.new.machine.moment c.operations.invariant.setting c.once.ensures.setting
 
-pub returns-in-Ok-Ended-clause-holds : goal.returns-in-Ok-Ended-clause-holds
-returns-in-Ok-Ended-clause-holds c = λ b out es hs hl all h.
+pub returns-in-Ok-Last-clause-holds : goal.returns-in-Ok-Last-clause-holds
+returns-in-Ok-Last-clause-holds c = λ b out es hs hl all h.
     let u = c.args.unit.now in
     let m0 = c.args.machine.now in
     let m1 = c.operations.machine in
@@ -50,26 +50,11 @@ returns-in-Ok-Ended-clause-holds c = λ b out es hs hl all h.
     let inv = c.operations.invariant in
     let f : c.is_asked.result ≡ false = search rules in
     let z = unasked-undue m1.started c.operations.doing (undue (asked m1.started c.operations.doing) c.is_asked.result c.is_asked.ensures f) in
-    subst (λ (x : After). HoldsAfter b u all (Ok x) c.once.new.tasks.items m2.started (state_of m2.moment out es)) c.in-Ok-Ended.field-0-is
-    (c.in-Ok-Ended.ensures.holds b out es (keeps-setting b u m0.moment m1.moment inv.setting hs) (inv.setting.total (length out) hl) all (not-due _ z) (inv.held b out es hs hl all h))
+    subst (λ (x : After). HoldsAfter b u all (Ok x) c.once.new.tasks.items m2.started (state_of m2.moment out es)) c.in-Ok-Last.field-0-is
+    (c.in-Ok-Last.ensures.holds b out es (keeps-setting b u m0.moment m1.moment inv.setting hs) (inv.setting.total (length out) hl) all (not-due _ z) (inv.held b out es hs hl all h))
 
-pub returns-in-Ok-Ended-clause-setting : goal.returns-in-Ok-Ended-clause-setting
-returns-in-Ok-Ended-clause-setting c = keeps-both c.args.machine.now.moment c.operations.machine.moment c.once.new.machine.moment c.operations.invariant.setting c.once.ensures.setting
-
-pub returns-in-Ok-Valued-clause-holds : goal.returns-in-Ok-Valued-clause-holds
-returns-in-Ok-Valued-clause-holds c = λ b out es hs hl all h.
-    let u = c.args.unit.now in
-    let m0 = c.args.machine.now in
-    let m1 = c.operations.machine in
-    let m2 = c.once.new.machine in
-    let inv = c.operations.invariant in
-    let f : c.is_asked.result ≡ false = search rules in
-    let z = unasked-undue m1.started c.operations.doing (undue (asked m1.started c.operations.doing) c.is_asked.result c.is_asked.ensures f) in
-    subst (λ (x : After). HoldsAfter b u all (Ok x) c.once.new.tasks.items m2.started (state_of m2.moment out es)) c.in-Ok-Valued.field-0-is
-    (c.in-Ok-Valued.ensures.holds b out es (keeps-setting b u m0.moment m1.moment inv.setting hs) (inv.setting.total (length out) hl) all (not-due _ z) (inv.held b out es hs hl all h))
-
-pub returns-in-Ok-Valued-clause-setting : goal.returns-in-Ok-Valued-clause-setting
-returns-in-Ok-Valued-clause-setting c = keeps-both c.args.machine.now.moment c.operations.machine.moment c.once.new.machine.moment c.operations.invariant.setting c.once.ensures.setting
+pub returns-in-Ok-Last-clause-setting : goal.returns-in-Ok-Last-clause-setting
+returns-in-Ok-Last-clause-setting c = keeps-both c.args.machine.now.moment c.operations.machine.moment c.once.new.machine.moment c.operations.invariant.setting c.once.ensures.setting
 
 pub once-requires-clause-turn : goal.once-requires-clause-turn
 once-requires-clause-turn c =
