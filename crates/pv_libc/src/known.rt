@@ -44,7 +44,8 @@ fn rest(known: Digits) -> Digits
     }
 }
 
-/// The characters from an address on: those that are known, or else as many of the next `left` as come before a multiple of 8.
+/// The characters from an address on: those that are known, or else as many of the next `left` as come before a multiple of 8,
+/// or the next one alone.
 fn known_from(memory: &Memory, a: u64, left: u64, known: Digits) -> Option<Digits>
     requires some { 1 ≤ left }
     requires known { HasDigits memory.now.bytes a known.count known.number }
@@ -55,8 +56,12 @@ fn known_from(memory: &Memory, a: u64, left: u64, known: Digits) -> Option<Digit
         return Some(known);
     }
     let count = left.min(8 - a % 8);
-    let number = memory.digits(a, count)?;
-    Some(Digits { number, count })
+    if let Some(number) = memory.digits(a, count) {
+        return Some(Digits { number, count });
+    }
+    // What stands behind the end of a string may have no value.
+    let number = memory.digits(a, 1)?;
+    Some(Digits { number, count: 1 })
 }
 
 /// Whether an instance is a function, which has no bytes that are read.
