@@ -25,7 +25,7 @@ use Rattle.pv_eval.specs.Operations.{BeginsBody, EndsBody, act}
 use Rattle.pv_eval.specs.Stack.{rest}
 use Rattle.pv_eval.specs.Frames.{after}
 use Rattle.pv_eval.specs.Ahead.{NowFits, ahead, now_does, stack}
-use Rattle.pv_eval.specs.Machines.{Started, answered_of, left_of, after_first, function_asked, arguments_at, line_at, asked_function, asked_arguments, asked_line, value_at, is_value, is_call_at, is_asked}
+use Rattle.pv_eval.specs.Machines.{Started, answered_of, left_of, after_first, function_asked, arguments_at, line_at, asked_function, asked_arguments, asked_line, value_at, turns_at, due_turns, is_value, is_call_at, is_asked, is_ended}
 use Rattle.pv_eval.specs.MachineSteps.{Fit, StartedFits, IsTaken, IsAnswered}
 use Rattle.pv_exec.specs.declared.task.Doing.{Doing}
 use Rattle.pv_exec.specs.declared.task.Task.TheVariants as task
@@ -128,6 +128,21 @@ pub answered-rest : (v : Worth) (new old : List Started) → IsAnswered v new ol
 answered-rest v [] old h = absurd h
 answered-rest v (e ∷ es) [] h = absurd h
 answered-rest v (e ∷ es) (f ∷ fs) h = h.4
+
+pub answered-ended : (v : Worth) (new old : List Started) → IsAnswered v new old → is_ended new ≡ true
+answered-ended v [] old h = absurd h
+answered-ended v (e ∷ es) [] h = absurd h
+answered-ended v (e ∷ es) (f ∷ fs) h = h.3
+
+-- no turn is due in an expression that has ended
+value-undue : (p : Now) → is_value p ≡ true → turns_at p ≡ 0
+value-undue (now.Due n) h = absurd cc
+value-undue (now.Value v) h = refl
+value-undue (now.Asked f args line) h = refl
+
+pub ended-no-turns : (es : List Started) → is_ended es ≡ true → due_turns es ≡ 0
+ended-no-turns [] h = refl
+ended-no-turns (e ∷ es) h = value-undue e.place h
 
 pub call-ends : (b : Setting) (u : Stored) (k f line : ℕ) (fl : Flow) (v : Worth) (old new : List Started) (s s1 s2 : State) → b.bound < s2.taken + k → end_all b (function_at b.unit f).params s ≡ Gives Nothing s1 → act b line EndsBody s1 ≡ Gives Nothing s2 → v ≡ value_by b (function_at b.unit f) fl → IsAnswered v new old → Leads b u (after_flow b u k old (task.InCall f line) fl s) (after_first old) (way.Do doing.Evaluate) new s2
 unfolding after_flow does

@@ -9,12 +9,16 @@ use Rattle.pv_eval.specs.TypeForms.{lvalue}
 use Rattle.pv_eval.specs.Operations.{Makes, Puts, BeginsBody, act}
 use Rattle.pv_eval.specs.Moments.{Always, state_of}
 use Rattle.pv_eval.specs.Machines.{Machine, Started, asked_arguments, asked_line, answered_of, after_first}
+use Rattle.pv_exec.specs.declared.task.Flow.{Flow}
+use Rattle.pv_exec.specs.declared.task.Task.TheVariants as task
 use Rattle.pv_exec.specs.declared.task.Doing.{Doing}
+use Rattle.pv_exec.specs.declared.task.Doing.TheVariants as doing
 use Rattle.pv_exec.specs.declared.task.Way.{Way}
+use Rattle.pv_exec.specs.declared.task.Way.TheVariants as way
 use Rattle.pv_exec.specs.Calls.{below, take_params, runs_body}
-use Rattle.pv_exec.specs.Tasks.{Reached, Valued, left}
-use Rattle.pv_exec.specs.Works.{does, others, due}
-use Rattle.pv_exec.specs.Leading.{LeadsOr}
+use Rattle.pv_exec.specs.Tasks.{Reached, Valued, left, after_flow}
+use Rattle.pv_exec.specs.Works.{flow_of, does, others, due}
+use Rattle.pv_exec.specs.Leading.{Leads, LeadsOr}
 use Rattle.pv_exec.specs.Fits.{DoingFits}
 
 -- 6.9.1p10: one parameter is made and gets its argument
@@ -41,3 +45,9 @@ abbrev pub CallLed : Stored → (function : ℕ) → Result Way Failure → Mach
 CallLed u f r old new =
     Always u old.moment (λ b out es. (k : ℕ) → old.moment.taken ≤ b.bound → b.bound < old.moment.taken + k →
     LeadsOr b u (calls b u k f old.started (state_of old.moment out es)) (after_first old.started) r new.started (state_of new.moment out es))
+
+-- 6.8.6.4p3, 6.9.1p12: a call whose body was left so: its expression goes on with its value
+abbrev pub CallEnded : Stored → (function line : ℕ) → Flow → Machine → Machine → Type 0
+CallEnded u f line fl old new =
+    Always u old.moment (λ b out es. (k : ℕ) → old.moment.taken ≤ b.bound → b.bound < old.moment.taken + k →
+    Leads b u (after_flow b u k old.started (task.InCall f line) (flow_of fl) (state_of old.moment out es)) (after_first old.started) (way.Do doing.Evaluate) new.started (state_of new.moment out es))

@@ -6,16 +6,17 @@ ghost use Rattle.pv_world.specs.Coming.{worth_of};
 ghost use Rattle.pv_eval.specs.Moments.{Always, Stays, state_of};
 ghost use Rattle.pv_eval.specs.MachineSteps.{Fit};
 ghost use Rattle.pv_eval.specs.Moments.{Made};
-ghost use Rattle.pv_eval.specs.Machines.{is_asked, after_first};
+ghost use Rattle.pv_eval.specs.Machines.{is_asked, is_ended, after_first};
 ghost use Rattle.pv_eval.specs.Runnable.{IsRunnable};
 ghost use Rattle.pv_exec.specs.Calls.{take_params};
 ghost use Rattle.pv_exec.specs.Leading.{FlowLed};
 ghost use Rattle.pv_exec.specs.Fits.{WayFitsOr};
 ghost use Rattle.pv_exec.specs.Quickness.{QuickOr, EndsOr};
-ghost use Rattle.pv_exec.specs.Called.{takes_one, begun, BodyIs, CallLed};
+ghost use Rattle.pv_exec.specs.Called.{takes_one, begun, BodyIs, CallLed, CallEnded};
 
 use crate::blocks::end_each;
 use crate::functions::value_by;
+use crate::going::go_on;
 use crate::task::{Doing, Flow, Task, Way};
 use pv_eval::{Failure, Machine};
 use pv_typed::TypedUnit;
@@ -128,7 +129,34 @@ pub fn call(unit: &TypedUnit, f: u32, machine: &mut Machine) -> Result<Way, Fail
     }
 }
 
-/// The body of a function was left: its parameters end, and the call has its value.
+// The body of a function was left: its parameters end, and the call has its value.
+fn end_call(
+    unit: &TypedUnit,
+    f: u32,
+    line: u32,
+    flow: Flow,
+    machine: &mut Machine,
+) -> Result<(), Failure>
+    requires runnable { IsRunnable unit.now }
+    requires there { f < length unit.now.functions }
+    requires waits { 0 < length machine.old.started }
+    requires fit { Fit unit.now machine.old.started }
+    ensures led { OnOk result (CallEnded unit.now f line flow machine.old machine.new) }
+    ensures ended { OnOk result (is_ended machine.new.started ≡ true) }
+    ensures others { OnOk result (after_first machine.new.started ≡ after_first machine.old.started) }
+    ensures stays { Stays machine.old.moment machine.new.moment }
+    ensures fit { OnOk result (Fit unit.now machine.new.started) }
+{
+    let ended = end_each(unit, unit.params_of(f), machine);
+    if ended.is_err() {
+        return Err(Failure::NoMemory);
+    }
+    machine.end_body();
+    machine.answer(value_by(unit, f, flow));
+    Ok(())
+}
+
+/// The body of a function was left: its parameters end, the call has its value, and its expression goes on.
 pub fn after_call(
     unit: &TypedUnit,
     f: u32,
@@ -146,11 +174,8 @@ pub fn after_call(
     ensures ways { WayFitsOr unit.now (after_first machine.old.started) machine.new.started result }
     ensures quick { QuickOr machine.new.started result }
 {
-    let ended = end_each(unit, unit.params_of(f), machine);
-    if ended.is_err() {
-        return Err(Failure::NoMemory);
+    match end_call(unit, f, line, flow, machine) {
+        Ok(()) => go_on(unit, machine),
+        Err(_) => Err(Failure::NoMemory),
     }
-    machine.end_body();
-    machine.answer(value_by(unit, f, flow));
-    Ok(Way::Do(Doing::Evaluate))
 }

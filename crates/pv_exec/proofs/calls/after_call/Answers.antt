@@ -1,49 +1,54 @@
-use Rattle.std.proofs.Common.{List, length, ◌∙◌, ◌<◌, ap, sym, subst, arith}
-use Rattle.pv_typed.specs.TypedUnits.{WholeUnit, function_at}
-use Rattle.pv_world.specs.Coming.{worth_of}
-use Rattle.pv_eval.specs.Moments.{Moment, Stays, state_of}
-use Rattle.pv_eval.specs.Machines.{Started}
-use Rattle.pv_eval.specs.MachineSteps.{IsAnswered, Fit}
-use Rattle.pv_exec.specs.Blocks.{end_all}
+use Rattle.std.proofs.Common.{◌≡◌, ◌∙◌, List, ap, subst, arith}
+use Rattle.std.specs.Prelude.{Bool, if◌then◌else◌}
+use Rattle.pv_eval.specs.Moments.{state_of}
+use Rattle.pv_eval.specs.Machines.{Started, due_turns, after_first}
+use Rattle.pv_exec.specs.declared.task.Task.TheVariants as task
+use Rattle.pv_exec.specs.declared.task.Doing.TheVariants as doing
+use Rattle.pv_exec.specs.Tasks.{after_flow}
 use Rattle.pv_exec.specs.Works.{flow_of}
-use Rattle.pv_exec.proofs.Pieces.{setting-stays, before-stays, stays_both, made-ok}
-use Rattle.pv_exec.proofs.Calling.{call-ends}
-use Rattle.pv_exec.proofs.Leaving.{at-moment, open-there}
+use Rattle.pv_exec.specs.Fits.{WayFitsOr}
+use Rattle.pv_exec.proofs.AtOnce.{ended-goes}
+use Rattle.pv_exec.proofs.Calling.{ended-no-turns}
+use Rattle.pv_exec.proofs.Onward.{leads-then, ends-quick-or}
+use Rattle.pv_exec.proofs.Pieces.{setting-stays, before-stays}
 use Rattle.pv_exec.proofs.calls.after_call.Goals as goal
 
-pub answer-requires : goal.answer-requires
-answer-requires c =
-    let e = sym (c.end_body.ensures.started ∙ c.end_each-ended.ensures.started) in
-    open-there c.args.unit.now c.end_body.new.self.started (subst (λ (x : List Started). Fit c.args.unit.now x) e c.requires.fit) (subst (λ (x : List Started). 0 < length x) e c.requires.waits)
+pub go_on-requires-clause-going : goal.go_on-requires-clause-going
+go_on-requires-clause-going c = ended-goes c.end_call.new.machine.started c.in-Ok.ensures.ended
 
-pub returns-clause-led : goal.returns-clause-led
-returns-clause-led c = λ b out es hs hl k le lt.
+pub go_on-requires-clause-turn : goal.go_on-requires-clause-turn
+go_on-requires-clause-turn c = λ t.
+    let es = c.end_call.new.machine.started in
+    let one : due_turns es ≡ 1 = ap (λ (q : Bool). if q then 1 else 0) t in
+    absurd (omega (arith, ended-no-turns es c.in-Ok.ensures.ended, one))
+
+pub returns-in-Ok-clause-led : goal.returns-in-Ok-clause-led
+returns-in-Ok-clause-led c = λ b out es hs hl k le lt.
     let u = c.args.unit.now in
-    let f = c.args.f in
     let old = c.args.machine.now in
-    let m1 = c.end_each-ended.new.machine in
-    let m2 = c.end_body.new.self in
-    let m3 = c.answer.new.self in
-    let st1 = c.end_each-ended.ensures.stays in
-    let st2 = c.end_body.ensures.stays in
+    let mid = c.end_call.new.machine in
+    let new = c.go_on.new.machine in
+    let st = c.end_call.ensures.stays in
     let s = state_of old.moment out es in
-    let s1 = state_of m1.moment out es in
-    let s2 = state_of m2.moment out es in
-    let hs1 = setting-stays b u old.moment m1.moment st1 hs in
-    let hl1 = before-stays old.moment m1.moment out st1 hl in
-    let params = ap (λ (q : WholeUnit). end_all b (function_at q f).params s) hs.unit ∙ ap (λ xs. end_all b xs s) (sym c.params_of.ensures.params) in
-    let h1 = params ∙ made-ok c.end_each-ended.result (end_all b c.params_of.result.now s) s1 (sym c.is_err.ensures.value ∙ c.if-is_err.false) (c.end_each-ended.ensures.made b out es hs hl) in
-    let h2 = c.end_body.ensures.made u b out es hs1 hl1 c.args.line in
-    let v = c.value_by.ensures b hs.unit in
-    let a = subst (λ (x : List Started). IsAnswered (worth_of c.value_by.result) m3.started x) (c.end_body.ensures.started ∙ c.end_each-ended.ensures.started) c.answer.ensures.started in
-    at-moment b u _ _ m3.started _ m2.moment m3.moment out es c.answer.ensures.moment
-    (call-ends b u k f c.args.line (flow_of c.args.flow) (worth_of c.value_by.result) old.started m3.started s s1 s2 (omega (arith, lt, st1.taken, st2.taken)) h1 h2 v a)
+    let s' = state_of mid.moment out es in
+    let s'' = state_of new.moment out es in
+    let none = ended-no-turns mid.started c.in-Ok.ensures.ended in
+    leads-then b u (after_flow b u k old.started (task.InCall c.args.f c.args.line) (flow_of c.args.flow) s) (after_first old.started) mid.started new.started doing.Evaluate c.go_on.result s' s'' (c.in-Ok.ensures.led b out es hs hl k le lt)
+    (λ j room. c.go_on.ensures.led b out es (setting-stays b u old.moment mid.moment st hs) (before-stays old.moment mid.moment out st hl) j (omega (arith, le, st.taken)) (λ one. absurd (omega (arith, none, one))) room)
 
-pub returns-clause-stays : goal.returns-clause-stays
-returns-clause-stays c =
-    let m1 = c.end_each-ended.new.machine.moment in
-    let m2 = c.end_body.new.self.moment in
-    subst (λ (x : Moment). Stays c.args.machine.now.moment x) (sym c.answer.ensures.moment) (stays_both c.args.machine.now.moment m1 m2 c.end_each-ended.ensures.stays c.end_body.ensures.stays)
+pub returns-in-Ok-clause-stays : goal.returns-in-Ok-clause-stays
+returns-in-Ok-clause-stays c =
+    let st = c.end_call.ensures.stays in
+    let go = c.go_on.ensures.setting in
+    let none = ended-no-turns c.end_call.new.machine.started c.in-Ok.ensures.ended in
+    record {
+      total = λ t f. go.total t (st.total t f);
+      taken = omega (arith, c.go_on.ensures.taken, none, st.taken);
+      sides = go.sides ∙ st.sides;
+    }
 
-pub returns-clause-fit : goal.returns-clause-fit
-returns-clause-fit c = c.answer.ensures.fit c.args.unit.now (subst (λ (x : List Started). Fit c.args.unit.now x) (sym (c.end_body.ensures.started ∙ c.end_each-ended.ensures.started)) c.requires.fit)
+pub returns-in-Ok-clause-ways : goal.returns-in-Ok-clause-ways
+returns-in-Ok-clause-ways c = subst (λ (xs : List Started). WayFitsOr c.args.unit.now xs c.go_on.new.machine.started c.go_on.result) c.in-Ok.ensures.others c.go_on.ensures.ways
+
+pub returns-in-Ok-clause-quick : goal.returns-in-Ok-clause-quick
+returns-in-Ok-clause-quick c = ends-quick-or c.go_on.new.machine.started c.go_on.result c.go_on.ensures.quick
