@@ -4,6 +4,7 @@ ghost use Rattle.pv_tree.specs.Syntax.{is_external};
 ghost use Rattle.pv_tree.specs.Tables.{Is, is_declaration, is_expression};
 
 use pv_tree::{Decl, Declarator, Expr, Init, NoTypes, NodeId, Spec, Stmt, TypeReader, Unit};
+use std::alloc::Global;
 
 /// `'\0'`.
 fn zero(unit: &mut Unit) -> Option<NodeId>
@@ -98,8 +99,17 @@ fn keeps_an_external_declaration(unit: &mut Unit) -> bool {
     }
 }
 
+/// `'\0'` in a table that has room for one node.
+fn keeps_in_room(alloc: Global) -> bool {
+    let Ok(mut unit) = Unit::with_room(alloc, 1) else {
+        return false;
+    };
+    keeps_an_expression(&mut unit)
+}
+
 #[test]
 fn nodes_are_kept(rt: HostRuntime) {
+    assert!(&rt; keeps_in_room(rt.alloc()));
     let mut unit = Unit::new(rt.alloc());
     assert!(&rt; keeps_an_expression(&mut unit));
     assert!(&rt; keeps_an_initializer(&mut unit));

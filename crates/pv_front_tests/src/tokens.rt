@@ -76,8 +76,17 @@ fn keeps_a_name(alloc: Global, t: &mut Tokens) -> bool
     matches!(first.kind, TokenKind::Name(0)) && first.start == 3 && t.names_len() == 1
 }
 
+/// The same in a table that has room for two.
+fn keeps_a_name_in_room(alloc: Global) -> bool {
+    let Ok(mut t) = Tokens::with_room(alloc, 2) else {
+        return false;
+    };
+    keeps_a_name(alloc, &mut t)
+}
+
 #[test]
 fn a_token_is_kept(rt: HostRuntime) {
     let mut t = Tokens::new(rt.alloc());
     assert!(&rt; keeps_a_name(rt.alloc(), &mut t));
+    assert!(&rt; keeps_a_name_in_room(rt.alloc()));
 }
