@@ -21,8 +21,8 @@ impl Watch for Counting {
     ghost seen = { λ s. s.seen.items };
 
     ghost its_kind = { λ s. record {
-        number = s.kind;
-        text = λ wants seen names. decimal (length seen) ++ codes " " ++ decimal (length names) ++ codes "\n"
+      number = s.kind;
+      text = λ wants seen names. decimal (length seen) ++ codes " " ++ decimal (length names) ++ codes "\n";
     } };
 
     ghost its_wants = { λ s. s.wants };
