@@ -2,6 +2,7 @@
 ghost use Rattle.std.specs.Prelude.{◌≡◌, ◌++◌, OnOk};
 ghost use Rattle.pv_eval.specs.Acting.{stamped, is_use_of, without_use};
 
+use pv_prov::NoMemory;
 use pv_watch::{Event, What};
 
 /// An event, and how many bytes were printed when it came.
@@ -10,10 +11,6 @@ pub struct Marked {
     pub event: Event,
     pub mark: u64,
 }
-
-/// No memory was found.
-#[derive(Clone, Copy)]
-pub(crate) struct NoMemory;
 
 /// What was told is noted, each with this turn and mark.
 #[inline(always)]

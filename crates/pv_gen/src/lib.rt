@@ -4,8 +4,7 @@
 //! that, and each integer is looked up among all that are: so the program is what large runs are measured with.
 #![tactic(auto)]
 
-mod error;
 mod texts;
 
-pub use error::NoMemory;
+pub use std::alloc::AllocError as NoMemory;
 pub use texts::source;

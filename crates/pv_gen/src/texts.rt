@@ -4,7 +4,7 @@ ghost use Rattle.std.specs.List.{flat_map, range_with_len};
 ghost use Rattle.std.specs.String.{string_bytes};
 ghost use Rattle.pv_gen.specs.Source.{object_line, use_line, source_text};
 
-use crate::error::NoMemory;
+use crate::NoMemory;
 use std::alloc::Global;
 
 /// The text of the program with `n` objects, each of which is exposed once by a cast of its address (C17 6.3.2.3p6).

@@ -6,7 +6,7 @@ use Rattle.pv_journal.specs.Journals.{Row}
 use Rattle.pv_journal.specs.Obeying.{IsJournal, IsBad}
 use Rattle.pv_journal.specs.declared.line.Line.{Line}
 use Rattle.pv_journal.specs.Lines.{row_under, rows_under}
-use Rattle.pv_replay.specs.declared.error.NoMemory.{NoMemory}
+use Rattle.std.specs.declared.alloc.AllocError.{AllocError}
 use Rattle.pv_serve.specs.declared.telling.Reply as declared
 use Rattle.pv_serve.specs.Replies.{Reply}
 use Rattle.pv_serve.specs.Replying.{reply_view}
@@ -32,13 +32,13 @@ one_answer lines line apart bytes a b (Broken n few bad is) (Obeyed rows few' jo
 one_answer lines line apart bytes a b (Broken n few bad is) (Broken m few' bad' is') = is ∙ ap rejected (line bytes n m (short (length bytes) few) bad bad') ∙ sym is'
 
 -- what is told of a journal: as many rows as lines
-pub obeyed : (bytes : List ℕ) (names : List (List ℕ)) (lines : List Line) (n : ℕ) (r : Result declared.Reply NoMemory) → length bytes ≤ 16777216 → IsJournal (rows_under names lines) bytes → n ≡ length lines
+pub obeyed : (bytes : List ℕ) (names : List (List ℕ)) (lines : List Line) (n : ℕ) (r : Result declared.Reply AllocError) → length bytes ≤ 16777216 → IsJournal (rows_under names lines) bytes → n ≡ length lines
     → IfOk r (λ a. reply_view a ≡ accepted n) → IfOk r (λ a. IsChecked bytes (reply_view a))
 obeyed bytes names lines n (Err e) few is count told = tt
 obeyed bytes names lines n (Ok a) few is count told = Obeyed (rows_under names lines) few is (told ∙ ap accepted (count ∙ sym (length-map lines (row_under names))))
 
 -- what is told of a text with this wrong line
-pub broken : (bytes : List ℕ) (line : ℕ) (r : Result declared.Reply NoMemory) → length bytes ≤ 16777216 → IsBad bytes line
+pub broken : (bytes : List ℕ) (line : ℕ) (r : Result declared.Reply AllocError) → length bytes ≤ 16777216 → IsBad bytes line
     → IfOk r (λ a. reply_view a ≡ rejected line) → IfOk r (λ a. IsChecked bytes (reply_view a))
 broken bytes line (Err e) few bad told = tt
 broken bytes line (Ok a) few bad told = Broken line few bad told

@@ -24,7 +24,7 @@ use Rattle.pv_serve.proofs.RunLemmas.{run_ends}
 use Rattle.pv_serve.proofs.WatchingLemmas.{one_told}
 use Rattle.pv_replay.specs.Answers.{IsWritten, Obeyed, most_events}
 use Rattle.pv_replay.specs.Obeying.{IsRunJournal}
-use Rattle.pv_replay.specs.declared.error.NoMemory.{NoMemory}
+use Rattle.std.specs.declared.alloc.AllocError.{AllocError}
 use Rattle.pv_replay.specs.Answering.{IsRunReply}
 use Rattle.pv_replay.proofs.ObeyLemmas.{run_obeys}
 
@@ -95,7 +95,7 @@ refusal_reply source script bound out hall (judgement.Script why) a not is told 
     let t = told nothing_shown in
     refused_with source script bound 9 a (record { verdict = verdict.Script why; judged = is.0.judged (task.Run bound true) None; is = t }) (ap (λ (b : Reply). b.status) t) (omega arith)
 
-pub refusal_told : (source script : List ℕ) (bound : ℕ) (out : Sunk) (hall : Halls) (j : Judgement) (r : Result code.Reply NoMemory)
+pub refusal_told : (source script : List ℕ) (bound : ℕ) (out : Sunk) (hall : Halls) (j : Judgement) (r : Result code.Reply AllocError)
     → ((ran : Ran) (names : List (List ℕ)) (most : ℕ) → j ≡ judgement.Ran ran names most → ⊥) → IsOutcome source script bound true None out hall j
     → ((shown : Shown) → IfOk r (λ a. reply_view a ≡ record { status = status_of (verdict_of j shown); text = report_line (verdict_of j shown) }))
     → IfOk r (λ a. IsRunReply source script bound (reply_view a))

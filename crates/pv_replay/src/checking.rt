@@ -5,10 +5,9 @@ ghost use Rattle.pv_serve.specs.Replying.{reply_view, IsOwn};
 ghost use Rattle.pv_replay.specs.Answers as specified;
 ghost use Rattle.pv_replay.specs.Answers.{IsChecked};
 
-use crate::error::NoMemory;
 use pv_journal::{JournalError, check};
 use pv_script::Names;
-use pv_serve::Reply;
+use pv_serve::{NoMemory, Reply};
 use std::alloc::Global;
 
 /// The most bytes that a journal may have.

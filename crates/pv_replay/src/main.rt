@@ -5,16 +5,14 @@
 
 mod calling;
 mod checking;
-mod error;
 mod words;
 mod writing;
 
 pub use calling::{replay, replay_calmly};
 pub use checking::one_answer;
-use error::NoMemory;
 use pv_explain::Journal;
 use pv_script::{DiskFiles, Printed, Sink};
-use pv_serve::NO_MEMORY;
+use pv_serve::{NO_MEMORY, NoMemory};
 use pv_watch::{Hall, Watch};
 use std::alloc::Global;
 use std::process::ExitCode;

@@ -9,8 +9,7 @@ ghost use Rattle.pv_serve.specs.Report.{report_line, status_of};
 ghost use Rattle.pv_serve.specs.Replying.{reply_view, IsOwn};
 ghost use Rattle.pv_replay.specs.Answering.{IsRunReply};
 
-use crate::error::NoMemory;
-use pv_serve::{JobText, Judgement, Nowhere, Reply, judge, line, status};
+use pv_serve::{JobText, Judgement, NoMemory, Nowhere, Reply, judge, line, status};
 use pv_watch::{Hall, Watch};
 use std::alloc::Global;
 

@@ -4,8 +4,8 @@ ghost use Rattle.std.specs.Option.{option_map};
 ghost use Rattle.pv_script.specs.Numbered.{numbered};
 ghost use Rattle.pv_script.specs.Indexed.{found};
 
+use crate::NoMemory;
 use crate::names::Names;
-use crate::outside::NoMemory;
 use crate::script::Line;
 use std::alloc::Global;
 use std::collections::BTreeMap;

@@ -3,7 +3,7 @@ ghost use Rattle.std.specs.Prelude.{◌≡◌, ◌==◌, map, IfOk};
 ghost use Rattle.std.specs.List.{slice_split};
 ghost use Rattle.pv_script.specs.Scripts.{says_nothing};
 
-use crate::outside::NoMemory;
+use crate::NoMemory;
 use std::alloc::Global;
 
 /// What stands between the marks, in order: the lines of a text, or the words of a line.

@@ -5,8 +5,8 @@ ghost use Rattle.pv_seq.specs.Frames.{row};
 ghost use Rattle.pv_seq.specs.Marks.{NoneMarked};
 ghost use Rattle.pv_seq.specs.Found.{is_narrow, no_access, IsFound, AreFound, NoneClash, Stands};
 
+use crate::NoMemory;
 use crate::access::{Access, clash};
-use crate::error::NoMemory;
 use crate::marks::{are_touched, mark, unmark};
 use std::alloc::Global;
 use std::collections::BTreeSet;

@@ -2,7 +2,7 @@
 ghost use Rattle.std.specs.Prelude.{◌≡◌, ◌≤◌, ◌<◌, ◌+◌, ◌^◌, ℕ, true, false, OnOk};
 ghost use Rattle.pv_seq.specs.Marks.{marked, AllMarked, NoneMarked, KeepsMarks};
 
-use crate::error::NoMemory;
+use crate::NoMemory;
 use std::collections::BTreeSet;
 
 /// Marks the bytes of the access with this number.

@@ -11,7 +11,7 @@ use Rattle.pv_exec.specs.declared.program.Ran.{Ran}
 use Rattle.pv_serve.specs.declared.words.Task.{Task}
 use Rattle.pv_serve.specs.declared.judging.Judgement.{Judgement}
 use Rattle.pv_serve.specs.declared.judging.Judgement.TheVariants as judgement
-use Rattle.pv_serve.specs.declared.error.NoMemory.{NoMemory}
+use Rattle.std.specs.declared.alloc.AllocError.{AllocError}
 use Rattle.pv_serve.specs.Verdicts.{Verdict, Course, course_of}
 use Rattle.pv_serve.specs.VerdictParts.{BeganOutput}
 use Rattle.pv_serve.specs.Jobs.{Job, FileJob, Files, Generated, files_of, task_of, sides_of, watched_of, kinds_of}
@@ -77,7 +77,7 @@ quiet_report j k slots text e none line = λ shown.
     (sym (ap (λ (i : Judgement). course_of (verdict_of i shown)) e ∙ none shown)) (line shown)
 
 -- of a run it has the texts of those who watched behind the line
-pub run_report : (j : Judgement) (ran : Ran) (names : List (List ℕ)) (bound : ℕ) (slots : List Slot) (line : List ℕ) (r : Result (Vec ℕ Global) NoMemory)
+pub run_report : (j : Judgement) (ran : Ran) (names : List (List ℕ)) (bound : ℕ) (slots : List Slot) (line : List ℕ) (r : Result (Vec ℕ Global) AllocError)
     → j ≡ judgement.Ran ran names bound → ((shown : Shown) → line ≡ report_line (verdict_of j shown))
     → IfOk r (λ v. HasStory names slots line v.items) → IfOk r (λ v. IsReportOn j slots v.items)
 run_report j ran names bound slots line (Err x) e is told = tt

@@ -8,7 +8,6 @@
 
 mod checking;
 mod discarding;
-mod error;
 mod judging;
 mod loading;
 mod reading;
@@ -22,8 +21,8 @@ mod words;
 
 pub use checking::{Refused, SOURCE_LIMIT, check};
 pub use discarding::Nowhere;
-pub use error::NoMemory;
 pub use judging::{Judgement, judge};
+pub use pv_types::NoMemory;
 pub use reading::{JobText, SCRIPT_LIMIT, read_job, read_script};
 pub use report::{line, status};
 pub use serving::{serve, serve_calmly};

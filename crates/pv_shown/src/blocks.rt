@@ -3,7 +3,7 @@
 ghost use Rattle.std.specs.Prelude.{◌≡◌, max, take, drop, IfOk};
 ghost use Rattle.pv_shown.specs.Recorded.{AreEnds, EndsBy};
 
-use crate::error::NoMemory;
+use crate::NoMemory;
 use crate::past::Life;
 use std::alloc::Global;
 

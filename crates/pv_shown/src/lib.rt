@@ -5,7 +5,6 @@
 #![tactic(auto)]
 
 mod blocks;
-mod error;
 mod moving;
 mod past;
 mod reading;
@@ -14,7 +13,7 @@ mod texts;
 mod walking;
 mod words;
 
-pub use error::NoMemory;
 pub use moving::Ran;
+pub use pv_script::NoMemory;
 pub use reading::{COMMANDS_LIMIT, Command, CommandError, commands, refusal};
 pub use walking::report;

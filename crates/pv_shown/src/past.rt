@@ -7,8 +7,8 @@ ghost use Rattle.pv_journal.specs.Obeying.{same_id, Obeys};
 ghost use Rattle.pv_shown.specs.Recorded as recorded;
 ghost use Rattle.pv_shown.specs.Recorded.{is_of, Changes, Uses, Notes, Tells, AreEnds, made_at, tied_at};
 
+use crate::NoMemory;
 use crate::blocks::ends_of;
-use crate::error::NoMemory;
 use pv_journal::{Key, Line, Said};
 use pv_script::Names;
 use std::alloc::Global;

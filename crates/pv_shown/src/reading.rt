@@ -4,7 +4,7 @@ ghost use Rattle.std.specs.Io.BufRead.{strip_last};
 ghost use Rattle.pv_shown.specs.Commands as specified;
 ghost use Rattle.pv_shown.specs.Views.{OrNoMemory};
 
-use crate::error::NoMemory;
+use crate::NoMemory;
 use crate::words::command_in;
 use pv_script::pieces;
 use std::alloc::Global;

@@ -10,8 +10,8 @@ ghost use Rattle.pv_shown.specs.Shown as specified;
 ghost use Rattle.pv_shown.specs.Recorded as recorded;
 ghost use Rattle.pv_shown.specs.Recorded.{AreEnds, EndsBy, held_then, helds_then, bond_then, bonds_then};
 
+use crate::NoMemory;
 use crate::blocks::first_block;
-use crate::error::NoMemory;
 use crate::past::{Life, Past, Tie};
 use crate::texts::{add_address, add_count, add_id, add_number};
 use pv_script::Names;

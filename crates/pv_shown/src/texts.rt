@@ -6,7 +6,7 @@ ghost use Rattle.pv_journal.specs.Journals.{id_text};
 ghost use Rattle.pv_journal.specs.Lines.{id_under};
 ghost use Rattle.pv_shown.specs.Shown as specified;
 
-use crate::error::NoMemory;
+use crate::NoMemory;
 use crate::past::text_of;
 use pv_journal::Key;
 use pv_print::address;

@@ -7,7 +7,7 @@ ghost use Rattle.pv_shown.specs.Shown as specified;
 ghost use Rattle.pv_shown.specs.Recorded.{AreEnds, Tells};
 ghost use Rattle.pv_shown.specs.Views.{run_view};
 
-use crate::error::NoMemory;
+use crate::NoMemory;
 use crate::moving::{Ran, moved, runs_on};
 use crate::past::{Past, past_of};
 use crate::reading::Command;

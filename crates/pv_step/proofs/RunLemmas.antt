@@ -50,7 +50,7 @@ use Rattle.pv_shown.specs.declared.reading.CommandError.TheVariants as error
 use Rattle.pv_shown.specs.Commands.{last_position}
 use Rattle.pv_shown.specs.Shown.{report_of}
 use Rattle.pv_shown.specs.Views.{OrNoMemory}
-use Rattle.pv_step.specs.declared.error.NoMemory.{NoMemory}
+use Rattle.std.specs.declared.alloc.AllocError.{AllocError}
 use Rattle.pv_step.specs.Answers.{IsLookedAt, IsBy, refused_by, run_of}
 
 -- ---- a journal has no more events than bytes
@@ -122,7 +122,7 @@ run_shown source script cs out hall ran names most journal line a first is says 
     }
 
 -- what is shown of the run that was made
-pub ran_shown : (source script : List ℕ) (cs : List Command) (out : Sunk) (hall : Halls) (j : Judgement) (ran : Ran) (names : List (List ℕ)) (most : ℕ) (text told journal line : List ℕ) (r : Result code.Reply NoMemory)
+pub ran_shown : (source script : List ℕ) (cs : List Command) (out : Sunk) (hall : Halls) (j : Judgement) (ran : Ran) (names : List (List ℕ)) (most : ℕ) (text told journal line : List ℕ) (r : Result code.Reply AllocError)
     → journal ≡ text → line ≡ told → hall.old ≡ Present journal_kind 18446744073709551615 [] ∷ [] → j ≡ judgement.Ran ran names most → IsOutcome source script 1000000 true None out hall j
     → SayAll names hall.new text → length journal < 2 ^ 64 → ((shown : Shown) → told ≡ report_line (verdict_of j shown))
     → IfOk r (λ a. (rows : List Row) × IsJournal rows journal × (reply_view a ≡ record { status = 0; text = report_of (run_of ran.turns ran.outcome line rows) cs }))
@@ -159,19 +159,19 @@ own_shown (Ok a) h = small a.status (omega (arith, h))
 
 -- ---- by the commands
 
-pub by_commands : (source script : List ℕ) (cs : List Command) (w : Result (List Command) CommandError) (r : Result code.Reply NoMemory) → Ok cs ≡ w → IfOk r (λ a. IsLookedAt source script cs (reply_view a))
+pub by_commands : (source script : List ℕ) (cs : List Command) (w : Result (List Command) CommandError) (r : Result code.Reply AllocError) → Ok cs ≡ w → IfOk r (λ a. IsLookedAt source script cs (reply_view a))
     → IfOk r (λ a. IsBy source script w (reply_view a))
 by_commands source script cs w r e h = subst (λ (v : Result (List Command) CommandError). IfOk r (λ a. IsBy source script v (reply_view a))) e h
 
-refused_so : (source script : List ℕ) (e : CommandError) (w : Result (List Command) CommandError) (r : Result code.Reply NoMemory) → Err e ≡ w → IfOk r (λ a. reply_view a ≡ refused_by e)
+refused_so : (source script : List ℕ) (e : CommandError) (w : Result (List Command) CommandError) (r : Result code.Reply AllocError) → Err e ≡ w → IfOk r (λ a. reply_view a ≡ refused_by e)
     → IfOk r (λ a. IsBy source script w (reply_view a))
 refused_so source script e w r same told = subst (λ (v : Result (List Command) CommandError). IfOk r (λ a. IsBy source script v (reply_view a))) same told
 
-none_told : (source script : List ℕ) (w : Result (List Command) CommandError) (r : Result code.Reply NoMemory) → OnOk r ⊥ → IfOk r (λ a. IsBy source script w (reply_view a))
+none_told : (source script : List ℕ) (w : Result (List Command) CommandError) (r : Result code.Reply AllocError) → OnOk r ⊥ → IfOk r (λ a. IsBy source script w (reply_view a))
 none_told source script w (Err e) h = tt
 none_told source script w (Ok a) h = absurd h
 
-pub by_refusal : {A : Type 0} (source script : List ℕ) (e : CommandError) (w : Result (List Command) CommandError) (r : Result code.Reply NoMemory) (f : A → List Command) → OrNoMemory f (Err e) w
+pub by_refusal : {A : Type 0} (source script : List ℕ) (e : CommandError) (w : Result (List Command) CommandError) (r : Result code.Reply AllocError) (f : A → List Command) → OrNoMemory f (Err e) w
     → IfOk r (λ a. reply_view a ≡ refused_by e) → (e ≡ error.NoMemory → OnOk r ⊥) → IfOk r (λ a. IsBy source script w (reply_view a))
 by_refusal source script error.Size w r f same told memory = refused_so source script error.Size w r same told
 by_refusal source script (error.BadLine n) w r f same told memory = refused_so source script (error.BadLine n) w r same told

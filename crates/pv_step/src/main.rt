@@ -4,18 +4,16 @@
 #![tactic(auto)]
 
 mod calling;
-mod error;
 mod positions;
 mod reading;
 mod running;
 mod words;
 
 pub use calling::{step, step_calmly};
-use error::NoMemory;
 pub use positions::positions_are_bounds;
 use pv_explain::Journal;
 use pv_script::{DiskFiles, Printed, Sink};
-use pv_serve::NO_MEMORY;
+use pv_serve::{NO_MEMORY, NoMemory};
 use pv_watch::{Hall, Watch};
 use std::alloc::Global;
 use std::process::ExitCode;

@@ -10,12 +10,11 @@ ghost use Rattle.pv_shown.specs.Shown.{report_of};
 ghost use Rattle.pv_step.specs.Answers as specified;
 ghost use Rattle.pv_step.specs.Answers.{IsStepped, IsLookedAt, run_of, refused_by};
 
-use crate::error::NoMemory;
 use crate::reading::StepText;
 use pv_exec::{Outcome, Ran};
 use pv_journal::{JournalError, check, one_verdict};
 use pv_script::Names;
-use pv_serve::{Judgement, Nowhere, Reply, judge, line, status};
+use pv_serve::{Judgement, NoMemory, Nowhere, Reply, judge, line, status};
 use pv_shown::{Command, CommandError, commands, refusal, report};
 use pv_watch::{Hall, Watch};
 use std::alloc::Global;

@@ -1,7 +1,7 @@
-use crate::error::NoMemory;
 use crate::{WANTS, step_calmly, watched};
 use pv_explain::Journal;
 use pv_script::{CalmFiles, CalmSink, MemFiles, MemSink};
+use pv_serve::NoMemory;
 use pv_watch::{Hall, Watch};
 use std::alloc::Global;
 use std::process::Abort;

@@ -9,11 +9,11 @@ ghost use Rattle.pv_suite.specs.Answers.{AllTold, LongOutput, IsListReply, refus
 ghost use Rattle.pv_suite.specs.Causes.{case_files, list_files};
 ghost use Rattle.pv_suite.specs.Answering.{walked_view};
 
-use crate::error::{NoMemory, Unanswered};
+use crate::error::Unanswered;
 use crate::walking::{Walked, walk};
 use pv_cases::{Case, ListError, Told, cases, long_output, refusal, report, status};
 use pv_script::Files;
-use pv_serve::Reply;
+use pv_serve::{NoMemory, Reply};
 use std::alloc::Global;
 
 // The status of a list that is refused.

@@ -12,9 +12,8 @@ mod walking;
 mod words;
 
 pub use calling::{suite, suite_calmly};
-use error::NoMemory;
 use pv_script::{DiskFiles, Printed};
-use pv_serve::NO_MEMORY;
+use pv_serve::{NO_MEMORY, NoMemory};
 use std::alloc::Global;
 use std::process::ExitCode;
 use std::rt::{Env, Files};

@@ -8,13 +8,12 @@ ghost use Rattle.pv_suite.specs.Answers as specified;
 ghost use Rattle.pv_suite.specs.Answers.{CaseComes, broken_by, wanted_of};
 ghost use Rattle.pv_suite.specs.Answering.{text_view, ended_view};
 
-use crate::error::NoMemory;
 use crate::files::CaseText;
 use pv_cases::{Case, Expected, Got, Told, compare};
 use pv_exec::Outcome;
 use pv_fault::Verdict;
 use pv_script::MemSink;
-use pv_serve::{Judgement, judge, line};
+use pv_serve::{Judgement, NoMemory, judge, line};
 use pv_watch::Hall;
 use std::alloc::Global;
 

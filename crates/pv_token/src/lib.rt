@@ -3,15 +3,14 @@
 //! The lexer fills the table; what stands above it reads the table, and needs nothing of the lexer.
 #![tactic(auto)]
 
-mod error;
 mod kinds;
 mod marks;
 mod short;
 mod token_table;
 mod words;
 
-pub use error::NoMemory;
 pub use kinds::Kind;
 pub use marks::Mark;
+pub use std::alloc::AllocError as NoMemory;
 pub use token_table::{Token, TokenKind, Tokens};
 pub use words::Word;

@@ -7,7 +7,7 @@ ghost use Rattle.pv_token.specs.Table.{Table};
 ghost use Rattle.pv_token.specs.TableParts.{with_name};
 ghost use Rattle.pv_token.specs.Kept.{HasRoom, Adds, Keeps};
 
-use crate::error::NoMemory;
+use crate::NoMemory;
 use crate::kinds::Kind;
 use crate::marks::Mark;
 use crate::short::{ShortToken, kind_of, short_kind};

@@ -3,7 +3,8 @@ ghost use Rattle.std.specs.Prelude.{◌≡◌, ◌<◌, IsTrue, Some, length};
 ghost use Rattle.pv_types.specs.Formed.{members_in, NamesDiffer};
 ghost use Rattle.pv_types.specs.Numbers.{number_of};
 
-use crate::terms::{Member, NoMemory};
+use crate::NoMemory;
+use crate::terms::Member;
 use crate::types::Types;
 use indexmap::IndexMap;
 

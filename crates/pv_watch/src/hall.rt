@@ -4,7 +4,7 @@ ghost use Rattle.std.specs.List.{filter, AllZip};
 ghost use Rattle.pv_watch.specs.Slots.{watcher, After, SayAll, is_kept};
 ghost use Rattle.pv_watch.specs.Halls.{slots_in};
 
-use crate::error::NoMemory;
+use crate::NoMemory;
 use crate::event::Event;
 use crate::seats::{Seat, keep_kinds, seated, tell_each, texts_of};
 use crate::watch::Watch;

@@ -4,14 +4,13 @@
 //! text; a hall keeps watchers in their order, and the texts of those that have seen enough.
 #![tactic(auto)]
 
-mod error;
 mod event;
 mod hall;
 mod seats;
 mod watch;
 
-pub use error::NoMemory;
 pub use event::{Event, What};
 pub use hall::Hall;
 pub use pv_prov::{BLOCK_TEST, CODE_TEST, LIVE_TEST, RANGE_TEST, SAME_TEST};
+pub use pv_script::NoMemory;
 pub use watch::{Attend, Watch};

@@ -4,7 +4,7 @@ ghost use Rattle.std.specs.List.{filter, AllZip};
 ghost use Rattle.pv_watch.specs.Slots.{slot, slots, watcher, After, Says, SayAll, kind_number, is_kept};
 ghost use Rattle.pv_watch.specs.Adding.{Adds};
 
-use crate::error::NoMemory;
+use crate::NoMemory;
 use crate::event::Event;
 use crate::watch::{Attend, Watch};
 use pv_script::Names;

@@ -1,7 +1,7 @@
 //! Who watches a run.
 ghost use Rattle.std.specs.Prelude.{◌≡◌, ◌<◌, IfOk};
 
-use crate::error::NoMemory;
+use crate::NoMemory;
 use crate::event::Event;
 use pv_script::Names;
 use std::alloc::Global;

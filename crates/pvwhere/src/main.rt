@@ -3,17 +3,15 @@
 //! `main` makes the real files and the real output, and calls [`locate`], which does all the rest.
 #![tactic(auto)]
 
-mod error;
 mod locating;
 mod places;
 mod telling;
 mod words;
 
-use error::NoMemory;
 pub use locating::{locate, locate_calmly};
 pub use places::one_place;
 use pv_script::{DiskFiles, Printed};
-use pv_serve::NO_MEMORY;
+use pv_serve::{NO_MEMORY, NoMemory};
 use std::alloc::Global;
 use std::process::ExitCode;
 use std::rt::{Env, Files};

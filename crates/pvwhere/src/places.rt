@@ -8,9 +8,8 @@ ghost use Rattle.pvwhere.specs.Places as specified;
 ghost use Rattle.pvwhere.specs.Places.{IsPlace, IsRefused, StandsBehind, IsFirstNamed, SomePlace};
 ghost use Rattle.pvwhere.specs.Answering.{BeginsWith};
 
-use crate::error::NoMemory;
 use pv_lex::{LexError, TokenKind, Tokens, tokens};
-use pv_serve::Refused;
+use pv_serve::{NoMemory, Refused};
 use pv_stmt::begins;
 use pv_unit::CheckError;
 use std::alloc::Global;

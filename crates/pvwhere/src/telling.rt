@@ -7,10 +7,9 @@ ghost use Rattle.pv_serve.specs.Replies.{Reply};
 ghost use Rattle.pvwhere.specs.Answers.{Gets, word_of};
 ghost use Rattle.pvwhere.specs.Answering.{told_by};
 
-use crate::error::NoMemory;
 use crate::places::{first_bytes, place};
 use pv_lex::LexError;
-use pv_serve::{Refused, check};
+use pv_serve::{NoMemory, Refused, check};
 use pv_unit::CheckError;
 use pv_where::lines;
 use std::alloc::Global;

@@ -1,6 +1,6 @@
-use crate::error::NoMemory;
 use crate::{locate, locate_calmly};
 use pv_script::{CalmFiles, CalmSink, MemFiles, MemSink};
+use pv_serve::NoMemory;
 use std::alloc::Global;
 use std::process::Abort;
 use std::test::*;
