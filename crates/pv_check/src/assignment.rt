@@ -12,12 +12,12 @@ ghost use Rattle.pv_check.specs.ValueParts.{assigned_with};
 ghost use Rattle.pv_check.specs.Assignment.{compound_at, arithmetic_assign, shift_assign, comma_of};
 ghost use Rattle.pv_check.specs.AssignmentParts.{pointer_assign, assigned_to};
 
-use crate::kinds::{common, promoted};
+use crate::kinds::common;
 use crate::sorts::{
     are_alike, complete_pointed_by, has_void, is_const, kind_of, same, unqualified,
 };
 use crate::values::{add, converted, to_kind};
-use pv_num::{BinOp, IntKind};
+use pv_num::{BinOp, IntKind, promoted};
 use pv_tree::NodeId;
 use pv_typed::{Sign, Typed, TypedUnit};
 use pv_types::{NoMemory, Term, TypeId, Types};

@@ -17,10 +17,9 @@ ghost use Rattle.pv_typed.specs.Known.{AreKnown};
 ghost use Rattle.pv_check.specs.Values.{implied, read_at, value_of, converted, promoted_value};
 
 use crate::interning::interned;
-use crate::kinds::promoted;
 use crate::qualified::qualified;
 use crate::sorts::{is_void, same, unqualified};
-use pv_num::IntKind;
+use pv_num::{IntKind, promoted};
 use pv_tree::NodeId;
 use pv_typed::{Typed, TypedUnit};
 use pv_types::{NoMemory, Term, TypeId, Types};

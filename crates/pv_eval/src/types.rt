@@ -1,6 +1,6 @@
 // What operations ask of a type (C17 6.2.5, 6.3, 6.5.3.4). A number that is that of no type is as `void`.
 ghost use Rattle.std.specs.Prelude.{◌≡◌, ◌≤◌, ◌<◌, ◌^◌, ◌/◌, ◌&&◌, true, length, IsTrue, IfSome, IfNone, is_some};
-ghost use Rattle.pv_num.specs.Kinds.{width, promoted};
+ghost use Rattle.pv_num.specs.Kinds.{width};
 ghost use Rattle.pv_types.specs.Ty.{VoidTy, IntTy};
 ghost use Rattle.pv_types.specs.Layouts.{up_to, is_complete_in, layout_in};
 ghost use Rattle.pv_types.specs.Known.{tree, trees, env, tree_in};
@@ -388,16 +388,5 @@ fn alignment(types: &Types, t: TypeId) -> u64
     match pointee(types, t) {
         Some(to) => align_of(types, to),
         None => 1,
-    }
-}
-
-/// What the integer promotions make of a kind (C17 6.3.1.1p2).
-pub(crate) fn promoted(kind: IntKind) -> IntKind
-    ensures { result ≡ promoted kind }
-{
-    match kind {
-        IntKind::Bool | IntKind::Char | IntKind::SChar | IntKind::UChar => IntKind::Int,
-        IntKind::Short | IntKind::UShort => IntKind::Int,
-        _ => kind,
     }
 }

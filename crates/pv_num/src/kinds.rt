@@ -1,6 +1,6 @@
 // Integer kinds: what fits them, and conversion to them.
 ghost use Rattle.std.specs.Prelude.{◌≡◌, ◌↔◌, ◌<◌, pos, IsTrue};
-ghost use Rattle.pv_num.specs.Kinds.{least, greatest, Fits, fits_of, convert_of, modulus_of, is_signed, width, bits_of, from_bits_of, is_character_kind};
+ghost use Rattle.pv_num.specs.Kinds.{least, greatest, Fits, fits_of, convert_of, modulus_of, is_signed, width, promoted, bits_of, from_bits_of, is_character_kind};
 ghost use Rattle.pv_num.specs.Operands.{IsConversion, IsConvertible};
 
 /// An integer type of the target (6.2.5), without its qualifiers.
@@ -42,9 +42,9 @@ pub fn is_character_kind(kind: IntKind) -> bool
     matches!(kind, IntKind::Char | IntKind::SChar | IntKind::UChar)
 }
 
-/// The number of bits of the kind.
-pub(crate) fn bit_count(kind: IntKind) -> i128
-    ensures { result ≡ pos (width kind) }
+/// The number of bits of the kind (6.2.6.2p6).
+pub fn width(kind: IntKind) -> u32
+    ensures { result ≡ width kind }
 {
     match kind {
         IntKind::Bool | IntKind::Char | IntKind::SChar | IntKind::UChar => 8,
@@ -67,8 +67,8 @@ fn modulus(kind: IntKind) -> i128
     }
 }
 
-/// Whether the kind has negative members.
-pub(crate) fn is_signed(kind: IntKind) -> bool
+/// Whether the kind has negative members (6.2.5p4, p15).
+pub fn is_signed(kind: IntKind) -> bool
     ensures { result ≡ is_signed kind }
 {
     match kind {
@@ -84,6 +84,17 @@ pub(crate) fn is_signed(kind: IntKind) -> bool
         | IntKind::UInt
         | IntKind::ULong
         | IntKind::ULLong => false,
+    }
+}
+
+/// The kind that an integer is promoted to (6.3.1.1p2).
+pub fn promoted(kind: IntKind) -> IntKind
+    ensures { result ≡ promoted kind }
+{
+    match kind {
+        IntKind::Bool | IntKind::Char | IntKind::SChar | IntKind::UChar => IntKind::Int,
+        IntKind::Short | IntKind::UShort => IntKind::Int,
+        _ => kind,
     }
 }
 

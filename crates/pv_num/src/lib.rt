@@ -6,5 +6,5 @@
 mod kinds;
 mod operators;
 
-pub use kinds::{IntKind, bits, convert, fits, is_character_kind};
+pub use kinds::{IntKind, bits, convert, fits, is_character_kind, is_signed, promoted, width};
 pub use operators::{ArithmeticFault, BinOp, UnOp, binary, unary};

@@ -5,7 +5,7 @@ ghost use Rattle.pv_num.specs.Kinds.{Fits, fits_of, modulus_of, width, bits_of};
 ghost use Rattle.pv_num.specs.Operands.{IsConvertible, IsOperand};
 ghost use Rattle.pv_num.specs.Arithmetic.{IsPromoted, binary_of, unary_of, exact_of, quotient_of, remainder_of, shift_left_of, shift_right_of, bitwise_of, complement_of, one_if, yielded_kind, is_zero, is_count};
 
-use crate::kinds::{IntKind, bit_count, bits, fits, from_bits, is_signed, low_bits};
+use crate::kinds::{IntKind, bits, fits, from_bits, is_signed, low_bits, width};
 
 /// The binary operators on integers (6.5.5 to 6.5.12).
 #[derive(Clone, Copy, Debug)]
@@ -335,7 +335,7 @@ fn divide_for_remainder(kind: IntKind, a: i128, b: i128) -> Result<i128, Arithme
 fn may_shift(kind: IntKind, by: i128) -> bool
     ensures { result ≡ is_count kind by }
 {
-    0 <= by && by < bit_count(kind)
+    0 <= by && by < i128::from(width(kind))
 }
 
 fn shift_left(kind: IntKind, a: i128, b: i128) -> Result<i128, ArithmeticFault>
