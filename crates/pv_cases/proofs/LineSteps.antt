@@ -7,7 +7,8 @@ use Rattle.std.proofs.lemmas.List.Sums.{count_by-le-length}
 use Rattle.std.specs.List.{slice_split}
 use Rattle.pv_cases.specs.declared.list.ListError.{ListError}
 use Rattle.pv_cases.specs.declared.list.ListError.TheVariants as error
-use Rattle.pv_cases.specs.Cases.{SuiteCase, after_line, after_lines, and_then, cases_of}
+use Rattle.pv_script.specs.Scripts.{and_then}
+use Rattle.pv_cases.specs.Cases.{SuiteCase, after_line, after_lines, cases_of}
 use Rattle.pv_cases.specs.Views.{OrNoMemory}
 
 -- the first line that is left, and then the others

@@ -3,8 +3,8 @@
 use Rattle.std.specs.Prelude.{ℕ, ◌+◌, Bool, ◌&&◌, ◌==◌, nat_lt, nat_le, List, [], ◌∷◌, ◌++◌, length, take, drop, position, codes, Option, Some, None, Result, Ok, Err, if◌then◌else◌, option_map, option_and_then}
 use Rattle.std.specs.List.{slice_split, list_all}
 use Rattle.std.specs.Str.{bytes_eq}
-use Rattle.pv_script.specs.Words.{begins_with_zero, digits_from}
-use Rattle.pv_script.specs.Scripts.{says_nothing}
+use Rattle.pv_script.specs.Words.{number_to}
+use Rattle.pv_script.specs.Scripts.{says_nothing, and_then}
 use Rattle.pv_cases.specs.declared.list.ListError.{ListError}
 use Rattle.pv_cases.specs.declared.list.ListError.TheVariants as error
 
@@ -31,14 +31,9 @@ named text = if bytes_eq text (codes "-") then None else Some text
 abbrev pub most_turns : ℕ
 most_turns = 100000000
 
--- docs/FORMATS.md, Words (5.1.2.3p1): a number of turns, from 1
-abbrev pub in_turns : Option ℕ → Option ℕ
-in_turns None = None
-in_turns (Some n) = if nat_le 1 n && nat_le n most_turns then Some n else None
-
--- docs/FORMATS.md, Words: a bound, as `--turns` has it: decimal digits without a leading zero (6.4.4.1p1)
+-- docs/FORMATS.md, Words: a bound, as `--turns` has it: decimal digits without a leading zero (6.4.4.1p1), from 1
 abbrev pub bound_in : List ℕ → Option ℕ
-bound_in text = if begins_with_zero text then None else in_turns (digits_from 0 text)
+bound_in text = number_to most_turns text
 
 -- ---- lines
 
@@ -86,11 +81,6 @@ after_case (Some c) n earlier = Ok (earlier ++ c ∷ [])
 -- docs/FORMATS.md, Suites: a line that is empty or begins with `#` says nothing, any other one is a case (5.1.2.3)
 abbrev pub after_line : (n : ℕ) (line : List ℕ) → (earlier : List SuiteCase) → Result (List SuiteCase) ListError
 after_line n line earlier = if says_nothing line then Ok earlier else after_case (case_in line) n earlier
-
--- docs/FORMATS.md, Suites: what goes on where each line so far had a reading (5.1.2.3)
-abbrev pub and_then : Result (List SuiteCase) ListError → (List SuiteCase → Result (List SuiteCase) ListError) → Result (List SuiteCase) ListError
-and_then (Err e) f = Err e
-and_then (Ok cs) f = f cs
 
 -- docs/FORMATS.md, Suites: line by line, from number n on, to the first that has no reading (5.1.2.3)
 abbrev pub after_lines : (n : ℕ) → List (List ℕ) → (earlier : List SuiteCase) → Result (List SuiteCase) ListError

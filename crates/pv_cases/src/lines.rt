@@ -1,11 +1,10 @@
 // The words of a line of a list.
 ghost use Rattle.std.specs.Prelude.{◌≡◌, ◌<◌, ◌≤◌, ◌&&◌, true, false, nat_le, length, position, None, Some, IfSome, MatchOption, option_map};
 ghost use Rattle.std.specs.List.{list_all};
-ghost use Rattle.pv_script.specs.Words.{digits_from, is_digit};
 ghost use Rattle.pv_cases.specs.Cases as specified;
 ghost use Rattle.pv_cases.specs.Views.{cut_view};
 
-use pv_script::begins_with_zero;
+use pv_script::number_to;
 use std::str;
 
 // The largest bound on a case's turns.
@@ -77,36 +76,5 @@ pub(crate) fn bound_in(text: &[u8]) -> Option<u64>
     ensures value { result ≡ specified.bound_in text.now }
     ensures range { IfSome result (λ n. (0 < n) × (n ≤ 100000000)) }
 {
-    if begins_with_zero(text) {
-        return None;
-    }
-    turns_in(text)
-}
-
-// The number of decimal digits, if it is a bound.
-fn turns_in(text: &[u8]) -> Option<u64>
-    ensures value { result ≡ specified.in_turns (digits_from 0 text.now) }
-    ensures range { IfSome result (λ n. (0 < n) × (n ≤ 100000000)) }
-{
-    let mut number: u64 = 0;
-    for i in 0..text.len() {
-        if !is_digit(text[i]) {
-            return None;
-        }
-        if MOST_TURNS < number {
-            return None;
-        }
-        number = number * 10 + u64::from(text[i] - b'0');
-    }
-    if 1 <= number && number <= MOST_TURNS {
-        Some(number)
-    } else {
-        None
-    }
-}
-
-fn is_digit(c: u8) -> bool
-    ensures { result ≡ is_digit c }
-{
-    b'0' <= c && c <= b'9'
+    number_to(text, MOST_TURNS)
 }

@@ -5,5 +5,4 @@ pub mod Recording
 pub mod Walks
 pub mod Parting
 pub mod Turns
-pub mod WordSteps
 pub mod LineSteps

@@ -9,7 +9,8 @@ use Rattle.std.specs.Io.BufRead.{strip_last, ends_with_byte}
 use Rattle.pv_shown.specs.declared.reading.Command.{Command}
 use Rattle.pv_shown.specs.declared.reading.CommandError.{CommandError}
 use Rattle.pv_shown.specs.declared.reading.CommandError.TheVariants as error
-use Rattle.pv_shown.specs.Commands.{after_line, after_lines, and_then, lines_of, commands_of}
+use Rattle.pv_script.specs.Scripts.{and_then}
+use Rattle.pv_shown.specs.Commands.{after_line, after_lines, lines_of, commands_of}
 use Rattle.pv_shown.specs.Views.{OrNoMemory}
 
 -- the first line that is left, and then the others

@@ -1,11 +1,12 @@
 -- The commands of a file, line by line, or its first line that is none. C17 says how a program runs (5.1.2.3): docs/FORMATS.md, Commands, has the
 -- rules for looking at its run.
-use Rattle.std.specs.Prelude.{ℕ, ◌+◌, Bool, ◌&&◌, ◌==◌, nat_lt, nat_le, List, [], ◌∷◌, ◌++◌, length, take, drop, position, codes, Option, Some, None, Result, Ok, Err, if◌then◌else◌, option_map}
+use Rattle.std.specs.Prelude.{ℕ, ◌+◌, Bool, ◌==◌, nat_lt, List, [], ◌∷◌, ◌++◌, length, take, drop, position, codes, Option, Some, None, Result, Ok, Err, if◌then◌else◌, option_map}
 use Rattle.std.specs.List.{slice_split}
 use Rattle.std.specs.Io.BufRead.{strip_last}
 use Rattle.std.specs.Str.{bytes_eq}
 use Rattle.std.specs.Fmt.{decimal}
-use Rattle.pv_script.specs.Words.{begins_with_zero, digits_from, address_in}
+use Rattle.pv_script.specs.Scripts.{and_then}
+use Rattle.pv_script.specs.Words.{number_to, address_in}
 use Rattle.pv_shown.specs.declared.reading.Command.{Command}
 use Rattle.pv_shown.specs.declared.reading.Command.TheVariants as command
 use Rattle.pv_shown.specs.declared.reading.CommandError.{CommandError}
@@ -17,14 +18,9 @@ use Rattle.pv_shown.specs.declared.reading.CommandError.TheVariants as error
 abbrev pub last_position : ℕ
 last_position = 1000000
 
--- docs/FORMATS.md, Commands (5.1.2.3p1): a number of turns, from 1
-abbrev pub in_turns : Option ℕ → Option ℕ
-in_turns None = None
-in_turns (Some n) = if nat_le 1 n && nat_le n last_position then Some n else None
-
--- docs/FORMATS.md, Commands: decimal digits without a leading zero (6.4.4.1p1)
+-- docs/FORMATS.md, Commands: a number of turns (5.1.2.3p1): decimal digits without a leading zero (6.4.4.1p1), from 1
 abbrev pub number_in : List ℕ → Option ℕ
-number_in text = if begins_with_zero text then None else in_turns (digits_from 0 text)
+number_in text = number_to last_position text
 
 -- ---- lines
 
@@ -72,11 +68,6 @@ after_command (Some c) n earlier = Ok (earlier ++ c ∷ [])
 -- docs/FORMATS.md, Commands: the commands so far, and that of this line, which is number n (5.1.2.3)
 abbrev pub after_line : (n : ℕ) (line : List ℕ) → (earlier : List Command) → Result (List Command) CommandError
 after_line n line earlier = after_command (command_in line) n earlier
-
--- docs/FORMATS.md, Commands: what goes on where each line so far was a command (5.1.2.3)
-abbrev pub and_then : Result (List Command) CommandError → (List Command → Result (List Command) CommandError) → Result (List Command) CommandError
-and_then (Err e) f = Err e
-and_then (Ok cs) f = f cs
 
 -- docs/FORMATS.md, Commands: line by line, from number n on, to the first that is no command (5.1.2.3)
 abbrev pub after_lines : (n : ℕ) → List (List ℕ) → (earlier : List Command) → Result (List Command) CommandError

@@ -1,10 +1,9 @@
 // The words of a command.
 ghost use Rattle.std.specs.Prelude.{◌≡◌, ◌<◌, ◌≤◌, length, position, IfSome};
-ghost use Rattle.pv_script.specs.Words.{digits_from, is_digit};
 ghost use Rattle.pv_shown.specs.Commands as specified;
 
 use crate::reading::Command;
-use pv_script::{address_in, begins_with_zero};
+use pv_script::{address_in, number_to};
 
 // The last position.
 pub(crate) const LAST_POSITION: u64 = 1_000_000;
@@ -62,35 +61,5 @@ fn two_words(word: &[u8], rest: &[u8]) -> Option<Command>
 fn number_in(text: &[u8]) -> Option<u64>
     ensures { result ≡ specified.number_in text.now }
 {
-    if begins_with_zero(text) {
-        return None;
-    }
-    turns_in(text)
-}
-
-// The number of decimal digits, if it is one of turns.
-fn turns_in(text: &[u8]) -> Option<u64>
-    ensures { result ≡ specified.in_turns (digits_from 0 text.now) }
-{
-    let mut number: u64 = 0;
-    for i in 0..text.len() {
-        if !is_digit(text[i]) {
-            return None;
-        }
-        if LAST_POSITION < number {
-            return None;
-        }
-        number = number * 10 + u64::from(text[i] - b'0');
-    }
-    if 1 <= number && number <= LAST_POSITION {
-        Some(number)
-    } else {
-        None
-    }
-}
-
-fn is_digit(c: u8) -> bool
-    ensures { result ≡ is_digit c }
-{
-    b'0' <= c && c <= b'9'
+    number_to(text, LAST_POSITION)
 }
