@@ -21,7 +21,7 @@ ghost use Rattle.pv_eval.specs.Designated.{StandsAt, StandsInElement, IsMemberPl
 
 use crate::dividing::{is_multiple, quotient};
 use crate::members::{Designated, MemberPlace};
-use crate::types::{Complete, bytes_of, is_character, layer, measured_by_layers};
+use crate::types::{Complete, is_character, layer, measured_by_layers};
 use pv_effect::{permits_declared, permits_marks};
 use pv_inst::Kind;
 use pv_layout::bare;
@@ -29,7 +29,7 @@ use pv_object::Reach;
 use pv_prov::NoMemory;
 use pv_shadow::Byte;
 use pv_typed::TypedUnit;
-use pv_types::{Term, TypeId};
+use pv_types::{Term, TypeId, bytes_of};
 use pv_world::World;
 use std::alloc::Global;
 

@@ -1,6 +1,5 @@
 // What operations ask of a type (C17 6.2.5, 6.3, 6.5.3.4). A number that is that of no type is as `void`.
 ghost use Rattle.std.specs.Prelude.{◌≡◌, ◌≤◌, ◌<◌, ◌^◌, ◌/◌, ◌&&◌, true, length, IsTrue, IfSome, IfNone, is_some};
-ghost use Rattle.pv_num.specs.Kinds.{width};
 ghost use Rattle.pv_types.specs.Ty.{VoidTy, IntTy};
 ghost use Rattle.pv_types.specs.Layouts.{up_to, is_complete_in, layout_in};
 ghost use Rattle.pv_types.specs.Known.{tree, trees, env, tree_in};
@@ -14,7 +13,7 @@ ghost use Rattle.pv_eval.specs.Sizes.{size_in, number_in, alignment_in, how_in, 
 
 use pv_layout::{bare, measure};
 use pv_num::{IntKind, is_character_kind};
-use pv_types::{Term, TypeId, Types};
+use pv_types::{Term, TypeId, Types, bytes_of};
 use pv_world::{How, Shape};
 
 /// The outermost layer of a type.
@@ -215,20 +214,6 @@ fn align_by_layers(types: &Types, t: TypeId) -> u64
         types.extent(t).align
     } else {
         1
-    }
-}
-
-/// How many bytes an integer of this kind takes, which is its alignment too (C17 6.2.6.1, 6.2.8).
-pub(crate) fn bytes_of(kind: IntKind) -> u64
-    ensures size { result ≡ width kind / 8 }
-    ensures some { 1 ≤ result }
-    ensures few { result ≤ 8 }
-{
-    match kind {
-        IntKind::Bool | IntKind::Char | IntKind::SChar | IntKind::UChar => 1,
-        IntKind::Short | IntKind::UShort => 2,
-        IntKind::Int | IntKind::UInt => 4,
-        IntKind::Long | IntKind::ULong | IntKind::LLong | IntKind::ULLong => 8,
     }
 }
 
