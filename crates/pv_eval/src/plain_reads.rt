@@ -3,7 +3,7 @@ ghost use Rattle.std.specs.Prelude.{◌≡◌, ◌≤◌, true, ◌&&◌, IfSome
 ghost use Rattle.pv_num.specs.Kinds.{greatest, convert_of};
 ghost use Rattle.pv_prov.specs.declared.names.Prov.TheVariants.{Inst};
 ghost use Rattle.pv_inst.specs.declared.values.Test.TheVariants.{Live};
-ghost use Rattle.pv_inst.specs.Use.{is_function, use_answer};
+ghost use Rattle.pv_inst.specs.Use.{use_answer};
 ghost use Rattle.pv_types.specs.Known.{tree, env};
 ghost use Rattle.pv_types.specs.Layouts.{layout_in};
 ghost use Rattle.pv_shadow.specs.Bytes.{read};
@@ -50,16 +50,6 @@ const ALONE: Tried = Tried {
 pub(crate) struct Target {
     pub(crate) reach: Reach,
     pub(crate) kind: Kind,
-}
-
-/// Whether an instance is a function, which is never read.
-fn is_function(kind: Kind) -> bool
-    ensures { result ≡ is_function kind }
-{
-    match kind {
-        Kind::Function => true,
-        Kind::Declared { .. } | Kind::Literal | Kind::Heap => false,
-    }
 }
 
 /// Whether a number is no value of the type (C17 6.2.6.1p5).
@@ -111,7 +101,7 @@ pub(crate) fn reached(world: &World, p: Spot, n: u64, align: u64, write: bool) -
     if !is_multiple(p.address, align) {
         return None;
     }
-    if is_function(x.kind) {
+    if x.kind.is_function() {
         return None;
     }
     if is_stopped(write, x.kind) {

@@ -1,14 +1,12 @@
 // Characters that are read many at once: those in the one live object that a pointer's name is, whose bytes have values and
 // no names, so that reading each leaves all as it was. `None` says nothing, and nothing has happened: then they are read one by one.
 ghost use Rattle.std.specs.Prelude.{◌≡◌, [], ◌+◌, ◌-◌, ◌/◌, ◌%◌, ◌<◌, ◌≤◌, ◌^◌, IfSome};
-ghost use Rattle.pv_inst.specs.Use.{is_function};
 ghost use Rattle.pv_shadow.specs.Readings.{HasDigits};
 ghost use Rattle.pv_libc.specs.Ahead.{HasRoom, GivesAt, IsPlainString, ArePlain, ComparesPlainly};
 
 use crate::characters::{further, most};
 use crate::strings::sign_of;
 use crate::values::{Given, Reply};
-use pv_inst::Kind;
 use pv_object::{Memory, Pointer, Value};
 use pv_prov::Prov;
 use std::alloc::Global;
@@ -64,16 +62,6 @@ fn known_from(memory: &Memory, a: u64, left: u64, known: Digits) -> Option<Digit
     Some(Digits { number, count: 1 })
 }
 
-/// Whether an instance is a function, which has no bytes that are read.
-fn is_function(kind: Kind) -> bool
-    ensures { result ≡ is_function kind }
-{
-    match kind {
-        Kind::Function => true,
-        Kind::Declared { .. } | Kind::Literal | Kind::Heap => false,
-    }
-}
-
 /// How many bytes lie from a pointer on in the one live object that its name is.
 fn room(memory: &Memory, p: Pointer) -> Option<u64>
     ensures { IfSome result (HasRoom memory.now.table p) }
@@ -84,7 +72,7 @@ fn room(memory: &Memory, p: Pointer) -> Option<u64>
     let table = memory.instances();
     table.well_formed();
     let x = table.info(number)?;
-    if is_function(x.kind) {
+    if x.kind.is_function() {
         return None;
     }
     if p.address < x.base {
