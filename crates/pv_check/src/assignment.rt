@@ -13,10 +13,9 @@ ghost use Rattle.pv_check.specs.Assignment.{compound_at, arithmetic_assign, shif
 ghost use Rattle.pv_check.specs.AssignmentParts.{pointer_assign, assigned_to};
 
 use crate::kinds::common;
-use crate::sorts::{
-    are_alike, complete_pointed_by, has_void, is_const, kind_of, same, unqualified,
-};
+use crate::sorts::{are_alike, complete_pointed_by, has_void, is_const, kind_of, same};
 use crate::values::{add, converted, to_kind};
+use pv_layout::bare;
 use pv_num::{BinOp, IntKind, promoted};
 use pv_tree::NodeId;
 use pv_typed::{Sign, Typed, TypedUnit};
@@ -67,7 +66,7 @@ pub fn assigned_as(
     ensures typed { IfOk result (λ r. expression_if into.new r ≡ assigned_with null (tree into.old.known t.0) (expression_at into.old a)) }
     ensures kept { OnOk result (Kept into.old into.new) }
 {
-    let plain = unqualified(into.types(), t);
+    let plain = bare(into.types(), t);
     let from = into.type_of(a);
     if !may_assign(into.types(), plain, from, null) {
         return Ok(None);
@@ -90,7 +89,7 @@ pub(crate) fn assign_to(
     ensures typed { IfOk result (λ r. expression_if into.new r ≡ assigned_to line (expression_at into.old a) (Some (expression_at into.old b))) }
     ensures kept { OnOk result (Kept into.old into.new) }
 {
-    let t = unqualified(into.types(), into.type_of(a));
+    let t = bare(into.types(), into.type_of(a));
     let r = add(into, Typed::Assign(a, b), t, line, true)?;
     Ok(Some(r))
 }
@@ -112,7 +111,7 @@ fn compound_at(
     ensures typed { IfOk result (λ r. expression_if into.new r ≡ compound_at line op (expression_at into.old a) (expression_at into.old b) kind right) }
     ensures kept { OnOk result (Kept into.old into.new) }
 {
-    let t = unqualified(into.types(), into.type_of(a));
+    let t = bare(into.types(), into.type_of(a));
     let Ok(value) = to_kind(into, right, b) else {
         return Err(NoMemory);
     };
@@ -201,7 +200,7 @@ pub(crate) fn pointer_assign(
     if kind_of(into.types(), into.type_of(b)).is_none() {
         return Ok(None);
     }
-    let plain = unqualified(into.types(), t);
+    let plain = bare(into.types(), t);
     let r = add(into, Typed::PointerAssign(sign, a, b), plain, line, true)?;
     Ok(Some(r))
 }

@@ -15,8 +15,9 @@ use crate::composite_types::composite;
 use crate::interning::interned;
 use crate::kinds::common;
 use crate::qualified::qualified;
-use crate::sorts::{has_void, is_const, is_scalar, same, unqualified};
+use crate::sorts::{has_void, is_const, is_scalar, same};
 use crate::values::{add, converted};
+use pv_layout::bare;
 use pv_tree::NodeId;
 use pv_typed::{Typed, TypedUnit, is_null_constant};
 use pv_types::{NoMemory, Term, TypeId, Types};
@@ -70,8 +71,8 @@ fn merged(
     ensures grows { OnOk result (Grows types.old types.new) }
 {
     let constant = is_const(types, t) || is_const(types, u);
-    let left = unqualified(types, t);
-    let right = unqualified(types, u);
+    let left = bare(types, t);
+    let right = bare(types, u);
     if types.compatible(left, right) {
         let Ok(both) = composite(alloc, types, left, right) else {
             return Err(NoMemory);

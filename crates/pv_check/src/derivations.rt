@@ -11,8 +11,8 @@ ghost use Rattle.pv_check.specs.Stepping.{step_in, IsStep, AreSteps, steps_in};
 
 use crate::interning::interned;
 use crate::qualified::with_const;
-use crate::sorts::{is_array, is_function, unqualified};
-use pv_layout::size;
+use crate::sorts::{is_array, is_function};
+use pv_layout::{bare, size};
 use pv_types::{NoMemory, Term, TypeId, Types};
 
 /// One step from the name outwards (C17 6.7.6p4).
@@ -99,7 +99,7 @@ fn function_of(
     if is_array(types, t) {
         return Ok(None);
     }
-    let result = unqualified(types, t);
+    let result = bare(types, t);
     let r = interned(
         types,
         Term::Function {

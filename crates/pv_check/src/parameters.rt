@@ -22,7 +22,8 @@ use crate::declarators::{Steps, with_step};
 use crate::derivations::{Step, derived};
 use crate::interning::interned;
 use crate::scopes::{Entry, Scope, Scopes};
-use crate::sorts::{is_void, unqualified};
+use crate::sorts::is_void;
+use pv_layout::bare;
 use pv_typed::{Object, TypedUnit};
 use pv_types::{NoMemory, Term, TypeId, Types};
 use std::alloc::Global;
@@ -262,7 +263,7 @@ fn unqualified_types(
     let mut list = Vec::new(alloc);
     let mut i = 0;
     while i < ps.len() {
-        let t = unqualified(types, ps[i].t);
+        let t = bare(types, ps[i].t);
         list.push(t)?;
         i += 1;
     }

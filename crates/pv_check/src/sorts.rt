@@ -6,33 +6,21 @@ ghost use Rattle.pv_types.specs.Layouts.{is_complete_in};
 ghost use Rattle.pv_types.specs.SameTypes.{same_type};
 ghost use Rattle.pv_types.specs.Qualifiers.{is_const};
 ghost use Rattle.pv_check.specs.Sorts.{is_array, points_to_function, is_void_beside, has_void, complete_pointed_by, are_alike};
-ghost use Rattle.pv_types.specs.Sorts.{kind_of, pointed_by, is_scalar, is_void, bare, is_composite};
+ghost use Rattle.pv_types.specs.Sorts.{kind_of, pointed_by, is_scalar, is_void, is_composite};
 ghost use Rattle.pv_typed.specs.TypedTree.{is_function};
 ghost use Rattle.pv_check.specs.SortParts.{is_truth};
 ghost use Rattle.pv_check.specs.Shown.{type_if};
 
+use pv_layout::bare;
 use pv_num::IntKind;
 use pv_types::{Term, TypeId, Types};
-
-/// The type without the qualifiers around it (C17 6.2.5p26).
-pub(crate) fn unqualified(types: &Types, t: TypeId) -> TypeId
-    requires { t.0 < length types.now.terms }
-    ensures known { result.0 < length types.now.terms }
-    ensures tree { tree types.now result.0 ≡ bare (tree types.now t.0) }
-{
-    let mut at = t;
-    while let Term::Const(inner) = types.view(at) {
-        at = inner;
-    }
-    at
-}
 
 /// The kind of an integer type (C17 6.2.5p17).
 pub fn kind_of(types: &Types, t: TypeId) -> Option<IntKind>
     requires { t.0 < length types.now.terms }
     ensures { result ≡ kind_of (tree types.now t.0) }
 {
-    match types.view(unqualified(types, t)) {
+    match types.view(bare(types, t)) {
         Term::Int(kind) => Some(kind),
         _ => None,
     }
@@ -43,7 +31,7 @@ pub(crate) fn is_integer(types: &Types, t: TypeId) -> bool
     requires { t.0 < length types.now.terms }
     ensures { result ≡ is_some (kind_of (tree types.now t.0)) }
 {
-    match types.view(unqualified(types, t)) {
+    match types.view(bare(types, t)) {
         Term::Int(_) => true,
         _ => false,
     }
@@ -55,7 +43,7 @@ pub(crate) fn pointed_by(types: &Types, t: TypeId) -> Option<TypeId>
     ensures tree { type_if types.now result ≡ pointed_by (tree types.now t.0) }
     ensures known { IfSome result (λ u. u.0 < length types.now.terms) }
 {
-    match types.view(unqualified(types, t)) {
+    match types.view(bare(types, t)) {
         Term::Pointer(to) => Some(to),
         _ => None,
     }
@@ -80,7 +68,7 @@ pub fn is_scalar(types: &Types, t: TypeId) -> bool
     requires { t.0 < length types.now.terms }
     ensures { result ≡ is_scalar (tree types.now t.0) }
 {
-    match types.view(unqualified(types, t)) {
+    match types.view(bare(types, t)) {
         Term::Int(_) | Term::Pointer(_) => true,
         _ => false,
     }
@@ -91,7 +79,7 @@ pub fn is_void(types: &Types, t: TypeId) -> bool
     requires { t.0 < length types.now.terms }
     ensures { result ≡ is_void (tree types.now t.0) }
 {
-    match types.view(unqualified(types, t)) {
+    match types.view(bare(types, t)) {
         Term::Void => true,
         _ => false,
     }
@@ -102,7 +90,7 @@ pub(crate) fn is_composite(types: &Types, t: TypeId) -> bool
     requires { t.0 < length types.now.terms }
     ensures { result ≡ is_composite (tree types.now t.0) }
 {
-    match types.view(unqualified(types, t)) {
+    match types.view(bare(types, t)) {
         Term::Struct(_) | Term::Union(_) => true,
         _ => false,
     }
@@ -136,7 +124,7 @@ pub(crate) fn are_alike(types: &Types, t: TypeId, u: TypeId) -> bool
     requires right { u.0 < length types.now.terms }
     ensures { result ≡ are_alike (tree types.now t.0) (tree types.now u.0) }
 {
-    types.compatible(unqualified(types, t), unqualified(types, u))
+    types.compatible(bare(types, t), bare(types, u))
 }
 
 /// Whether the two are one type.

@@ -18,7 +18,8 @@ ghost use Rattle.pv_check.specs.Values.{implied, read_at, value_of, converted, p
 
 use crate::interning::interned;
 use crate::qualified::qualified;
-use crate::sorts::{is_void, same, unqualified};
+use crate::sorts::{is_void, same};
+use pv_layout::bare;
 use pv_num::{IntKind, promoted};
 use pv_tree::NodeId;
 use pv_typed::{Typed, TypedUnit};
@@ -126,7 +127,7 @@ fn read(into: &mut TypedUnit, n: NodeId) -> Result<Option<NodeId>, NoMemory>
     if !into.types().is_complete(t) {
         return Ok(None);
     }
-    let plain = unqualified(into.types(), t);
+    let plain = bare(into.types(), t);
     let Ok(r) = add(into, Typed::Read(n), plain, line, false) else {
         return Err(NoMemory);
     };

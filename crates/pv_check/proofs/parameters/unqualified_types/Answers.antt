@@ -9,6 +9,6 @@ loop-i-preserved c =
     let lt : c.loop-i.i < length c.args.ps.now = c.loop-i-test.true in
     let m = c.args.types.now in (
       omega (arith, lt),
-      subst (AllBelow (length m.terms)) (sym c.in_ok-push.ensures.items) (below_push (length m.terms) c.loop-i.list.items c.unqualified-t.result c.loop-i.invariant.1 (search rules)),
-      ap (tys_in (trees m)) c.in_ok-push.ensures.items ∙ list_more m c.loop-i.list.items c.unqualified-t.result c.args.ps.now c.loop-i.i _ lt c.unqualified-t.ensures.tree c.loop-i.invariant.2,
+      subst (AllBelow (length m.terms)) (sym c.in_ok-push.ensures.items) (below_push (length m.terms) c.loop-i.list.items c.bare-t.result c.loop-i.invariant.1 (search rules)),
+      ap (tys_in (trees m)) c.in_ok-push.ensures.items ∙ list_more m c.loop-i.list.items c.bare-t.result c.args.ps.now c.loop-i.i _ lt c.bare-t.ensures.tree c.loop-i.invariant.2,
     )
