@@ -14,24 +14,10 @@ ghost use Rattle.pv_world.specs.Coming.{Did, no_worth};
 use crate::got::Failure;
 use crate::world::World;
 use pv_inst::Tried;
-use pv_num::IntKind;
-use pv_object::{Reach, Scalar, Value};
+use pv_object::{Reach, Scalar, Value, size_of};
 use pv_prov::Prov;
 use pv_shadow::Byte;
 use pv_watch::What;
-
-/// The size of a scalar in bytes.
-fn scalar_size(t: Scalar) -> u64
-    ensures { result ≡ size_of t }
-{
-    match t {
-        Scalar::Int(IntKind::Bool | IntKind::Char | IntKind::SChar | IntKind::UChar) => 1,
-        Scalar::Int(IntKind::Short | IntKind::UShort) => 2,
-        Scalar::Int(IntKind::Int | IntKind::UInt) => 4,
-        Scalar::Int(IntKind::Long | IntKind::ULong | IntKind::LLong | IntKind::ULLong) => 8,
-        Scalar::Pointer => 8,
-    }
-}
 
 impl World {
     /// Every byte of an object becomes this value, or has none (6.7.9p10, p19, p21). Nothing is checked.
@@ -125,7 +111,7 @@ impl World {
         ensures { self.new ≡ put_at self.old (base_in self.old (instance_of self.old object lasting) + offset) (encode t v.now mark) }
     {
         let i = self.instance(object, lasting);
-        let at = self.place_in(i, offset, scalar_size(t));
+        let at = self.place_in(i, offset, size_of(t) as u64);
         self.memory.store(&at, t, v, mark);
     }
 }
