@@ -156,7 +156,7 @@ fn closes_soon(t: &Tokens, at: u32) -> bool
 }
 
 // Whether a list of parameters may be long at a place where a type name may begin, or may not. It isn't where the type name
-// that is found there is one token before a `)`, as in most casts.
+// that is found there is one token before a `)`, as in most casts. (A hint: no promise rests on it.)
 fn may_be_long(t: &Tokens, at: u32, opens: bool, found: Option<(NodeId, u32)>) -> bool {
     let Some((_, end)) = found else {
         return opens;

@@ -1,4 +1,5 @@
--- How the code keeps its pages: page k in bucket k % 256, or in a map if that was taken. A bridge: what is promised is said of the map that the pages are (6.2.6.1p2).
+-- A bridge: how the code keeps its pages: page k in bucket k % 256, or in a map if that was taken. What is promised is said of the map that the
+-- pages are (6.2.6.1p2).
 use Rattle.std.specs.Prelude.{◌≡◌, ℕ, ◌+◌, ◌%◌, ◌==◌, List, [], ◌∷◌, Option, Some, None, IsSome, if◌then◌else◌, cond, slice_index_or}
 use Rattle.std.specs.Ordering.{nat_cmp}
 use Rattle.std.specs.Map.{lookup}

@@ -73,7 +73,7 @@ pub fn unit(alloc: Global, t: &Tokens) -> Result<Unit, SynError>
     // Where it is refused, none do, and no more than so many spell the first tokens.
     ensures syntax { (whole : ℕ) → result ≡ Err (SynError.Syntax whole) → ((ds : List DeclarationTree) → SpellUnit t.now.tokens ds → ⊥) × IsWhole t.now.tokens whole }
 {
-    // Few tokens come to more than one node.
+    // Most tokens come to a node at most, and few to two.
     let count = t.len() as usize;
     let mut unit = Unit::with_room(alloc, 2 * count)?;
     // The typedef names are let go before an error is passed on.

@@ -29,7 +29,8 @@ impl Before {
         }
     }
 
-    /// The same where so many braces are open: within braces it is not asked for, so that no token is looked at there.
+    /// What stands before the next token, behind one of a kind, where so many braces are open: within braces it is not
+    /// asked for, so that no token is looked at there. (A hint: no promise rests on it.)
     fn behind(self, kind: TokenKind, braces: u32) -> Before {
         if braces > 0 {
             return Before::Other;
