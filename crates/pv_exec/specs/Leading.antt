@@ -88,7 +88,7 @@ EnterLed u n r old new =
     Always u old.moment (λ b out es. (k : ℕ) → old.moment.taken < b.bound → b.bound < old.moment.taken + k + 1 →
     LeadsOr b u (left (ex b (below b k) (statement_at u n) (state_of old.moment out es))) old.started r new.started (state_of new.moment out es))
 
--- how the whole that was asked for ended
+-- how the whole that was asked for ended (6.8p2)
 abbrev pub LastIs : Res Reached → Last → List Started → State → Type 0
 LastIs all (last.Left fl) es s = all ≡ Gives (Left (flow_of fl)) s
 LastIs all last.Valued es s = all ≡ Gives (Valued (ended es)) s

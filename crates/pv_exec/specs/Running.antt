@@ -55,7 +55,7 @@ BrokenIs r (broken.Operation (failure.Stop y line)) m out es = r ≡ Stops (Stop
 BrokenIs r (broken.Operation failure.NoMemory) m out es = Begins out es (end_of r)
 BrokenIs r (broken.Delivery e) m out es = Begins out es (end_of r)
 
--- how the whole that was asked for ended
+-- how the whole that was asked for ended, or what broke it off (6.8p2)
 abbrev pub LastOr : Res Reached → Result Last Broken → Machine → List ℕ → List Marked → Type 0
 LastOr all (Ok l) m out es = LastIs all l m.started (state_of m.moment out es)
 LastOr all (Err e) m out es = BrokenIs all e m.moment out es

@@ -85,7 +85,9 @@ pub fn within(unit: &TypedUnit, n: NodeId, machine: &mut Machine) -> Result<Way,
 /// What comes next in a list of statements, with the place behind it.
 #[derive(Clone, Copy)]
 pub enum Item {
+    /// There is none: the list has ended.
     End,
+    /// A statement, and the place behind it.
     Statement(NodeId, usize),
     /// A declaration with stores.
     Stores(u32, usize),

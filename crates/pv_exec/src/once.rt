@@ -38,7 +38,9 @@ pub enum Last {
 /// What comes after an operation, or after a turn.
 #[derive(Drop)]
 pub enum After {
+    /// This is done next.
     On(Doing),
+    /// Nothing is done next: so the statements ended.
     Last(Last),
 }
 

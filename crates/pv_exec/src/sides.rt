@@ -7,10 +7,12 @@ use pv_eval::Machine;
 use std::alloc::Global;
 use std::marker::Model;
 
-/// A side of a pair: its low candidate, which ends at the pair's address, or its high one, which begins there.
+/// A side of a pair of candidates, of which one ends at the pair's address and one begins there.
 #[derive(Clone, Copy, Debug, PartialEq, Eq)]
 pub enum Side {
+    /// The candidate that ends at the pair's address.
     Low,
+    /// The candidate that begins there.
     High,
 }
 

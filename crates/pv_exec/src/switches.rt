@@ -33,15 +33,20 @@ pub struct SwitchParts {
 /// A label that is looked for.
 #[derive(Clone, Copy)]
 pub enum Label {
+    /// The `case` of this value (C17 6.8.4.2p5).
     Value(i128),
+    /// `default`.
     Default,
 }
 
 /// What a statement is, behind a label.
 #[derive(Clone, Copy)]
 pub enum Labelled {
+    /// A `case` of this value, and the statement behind it (C17 6.8.1p1).
     Case(i128, NodeId),
+    /// A `default`, and the statement behind it.
     Default(NodeId),
+    /// A statement without such a label.
     Plain,
 }
 

@@ -19,7 +19,7 @@ abbrev pub worth : {A B : Type 0} → (A → B) → Result A Stop → Result B S
 worth f (Ok a) = Ok (f a)
 worth f (Err stop) = Err stop
 
--- the call stops so, and these are its notes; or no memory was had, and nothing is said
+-- the memory model: the call stops so, and these are its notes; or no memory was had, and nothing is said
 abbrev pub StopsSo : Stop → List Note → (stop : Stop) → (notes : List Note) → Type 0
 StopsSo NoMemory ns stop wanted = Unit {0}
 StopsSo y ns stop wanted = (y ≡ stop) × (ns ≡ wanted)
